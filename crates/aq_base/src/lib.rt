@@ -1,0 +1,17 @@
+//! Lists, decimals, and the outside: stores of files and sinks for bytes.
+#![tactic(auto)]
+
+mod lists;
+mod memory_files;
+mod memory_sink;
+mod std_store;
+mod store;
+
+pub use lists::{List, Memory};
+pub use memory_files::MemFiles;
+pub use memory_sink::MemSink;
+pub use std_store::{StdFiles, StdSink};
+pub use store::{Files, LoadRefusal, Sink, StoreRefusal};
+
+/// A list of bytes.
+pub type Bytes = List<u8>;

@@ -1,0 +1,10 @@
+//! Rectangles, shapes and layouts, in database units of one nanometre.
+#![tactic(auto)]
+
+mod layout;
+mod rectangle;
+mod shapes;
+
+pub use layout::{Element, Layout, Structure};
+pub use rectangle::{Rect, touches};
+pub use shapes::{Flat, Label, Shape};

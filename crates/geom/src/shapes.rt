@@ -1,0 +1,27 @@
+// Shapes and labels by themselves, as an extractor sees them.
+use crate::rectangle::Rect;
+use aq_base::{Bytes, List};
+
+/// A rectangle on a layer.
+#[derive(Clone, Copy, Debug, PartialEq, Eq)]
+pub struct Shape {
+    pub layer: u16,
+    pub datatype: u16,
+    pub rect: Rect,
+}
+
+/// A text at a point of a layer.
+#[derive(Clone, Debug, Drop, PartialEq)]
+pub struct Label {
+    pub layer: u16,
+    pub x: i64,
+    pub y: i64,
+    pub text: Bytes,
+}
+
+/// The shapes and labels of a layout without references, in element order: together fewer than 2^32.
+#[derive(Clone, Debug, Drop, PartialEq)]
+pub struct Flat {
+    pub shapes: List<Shape>,
+    pub labels: List<Label>,
+}
