@@ -1,0 +1,2 @@
+//! Netlists in the Berkeley Logic Interchange Format.
+#![tactic(auto)]

@@ -1,0 +1,2 @@
+//! Cell libraries: their numbers, their laws and their text.
+#![tactic(auto)]

@@ -1,0 +1,2 @@
+//! The four-phase pulse machine.
+#![tactic(auto)]

@@ -1,0 +1,2 @@
+//! The circuit of a layout, extracted from its shapes.
+#![tactic(auto)]
