@@ -1,1 +1,3 @@
 pub mod Rectangle
+pub mod FlatForm
+pub mod FirstChip

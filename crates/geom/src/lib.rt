@@ -1,10 +1,12 @@
 //! Rectangles, shapes and layouts, in database units of one nanometre.
 #![tactic(auto)]
 
+mod laws;
 mod layout;
 mod rectangle;
 mod shapes;
 
+pub use laws::first_chip_flat;
 pub use layout::{Element, Layout, Structure};
 pub use rectangle::{Rect, touches};
 pub use shapes::{Flat, Label, Shape};
