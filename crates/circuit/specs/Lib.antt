@@ -1,0 +1,3 @@
+pub mod CellKinds
+pub mod Function
+pub mod Ranked
