@@ -5,3 +5,11 @@ pub mod NetLaws
 pub mod Rows
 pub mod Pins
 pub mod Labels
+pub mod ExcitationLines
+pub mod Reports
+pub mod ExcitationRule
+pub mod CircuitRules
+pub mod Limits
+pub mod GeometryRules
+pub mod LengthRule
+pub mod Rules

@@ -1,0 +1,90 @@
+-- Excitation lines: each leads from its start over the rows of its layer, by bars over rows and links at the chip's sides. Cells are excited in four phases by two such lines, as in AQFP logic of Takeuchi and others.
+use Rattle.std.specs.Prelude.{◌≡◌, ◌≢◌, ℕ, ◌==◌, ◌&&◌, ◌||◌, not, Bool, true, List, [], ◌∷◌, slice_get, Some, if◌then◌else◌}
+use Rattle.geom.specs.declared.shapes.Shape.{Shape}
+use Rattle.geom.specs.Rectangle.{Rectangle, share_point}
+use Rattle.layout_rules.specs.declared.layers.TheConstants.{EVEN_LINE, BAR, START}
+use Rattle.layout_rules.specs.Layers.{is_line}
+
+-- two parts of one line, or of lines on one layer, share a point
+abbrev pub meet : Shape → Shape → Bool
+meet a b = is_line a && a.layer == b.layer && share_point a.rect b.rect
+
+-- the second of these numbers is a contact of the first: another shape, which meets it
+pub record Contact (shapes : List Shape) (i j : ℕ) : Type 0 where
+  pub apart : i ≢ j
+  pub first : Shape
+  pub second : Shape
+  pub first_is : slice_get shapes i ≡ Some first
+  pub second_is : slice_get shapes j ≡ Some second
+  pub meet_so : meet first second ≡ true
+
+-- the shape of this number is a bar, a link or a start, by its datatype
+pub record IsPart (shapes : List Shape) (datatype i : ℕ) : Type 0 where
+  pub shape : Shape
+  pub shape_is : slice_get shapes i ≡ Some shape
+  pub line_so : is_line shape ≡ true
+  pub datatype_is : shape.datatype ≡ datatype
+
+-- a chain leads from a start by contacts to its first number
+abbrev pub IsChain : List Shape → List ℕ → Type 0
+IsChain shapes [] = ⊥
+IsChain shapes (a ∷ []) = IsPart shapes START a
+IsChain shapes (b ∷ a ∷ rest) = Contact shapes a b × IsChain shapes (a ∷ rest)
+
+-- no number comes again straight after the next one
+abbrev pub NeverTurnsBack : List ℕ → Type 0
+NeverTurnsBack [] = Unit {0}
+NeverTurnsBack (a ∷ []) = Unit {0}
+NeverTurnsBack (b ∷ a ∷ []) = Unit {0}
+NeverTurnsBack (b ∷ a ∷ c ∷ rest) = (b ≢ c) × NeverTurnsBack (a ∷ c ∷ rest)
+
+-- the shape is joined to a start by contacts
+pub record IsReached (shapes : List Shape) (i : ℕ) : Type 0 where
+  pub rest : List ℕ
+  pub chain : IsChain shapes (i ∷ rest)
+
+-- on the way from the start shape a is the one before shape b
+pub record Before (shapes : List Shape) (a b : ℕ) : Type 0 where
+  pub rest : List ℕ
+  pub chain : IsChain shapes (b ∷ a ∷ rest)
+  pub onward : NeverTurnsBack (b ∷ a ∷ rest)
+
+abbrev pub left_edge : Rectangle → Rectangle
+left_edge r = record { x0 = r.x0; y0 = r.y0; x1 = r.x0; y1 = r.y1 }
+
+abbrev pub right_edge : Rectangle → Rectangle
+right_edge r = record { x0 = r.x1; y0 = r.y0; x1 = r.x1; y1 = r.y1 }
+
+-- the shape shares a point with the bar's left edge, or with its right one
+abbrev pub at_left : Shape → Shape → Bool
+at_left s bar = share_point s.rect (left_edge bar.rect)
+
+abbrev pub at_right : Shape → Shape → Bool
+at_right s bar = share_point s.rect (right_edge bar.rect)
+
+abbrev pub at_left_only : Shape → Shape → Bool
+at_left_only s bar = at_left s bar && not (at_right s bar)
+
+abbrev pub at_right_only : Shape → Shape → Bool
+at_right_only s bar = at_right s bar && not (at_left s bar)
+
+-- the line comes to the bar at one side
+abbrev pub enters : Shape → Shape → Bool
+enters before bar = at_left_only before bar || at_right_only before bar
+
+-- and goes on at the other
+abbrev pub leaves : Shape → Shape → Shape → Bool
+leaves before bar after = (if at_left before bar then at_right_only after bar else at_left_only after bar)
+
+-- the phase of a bar, by its layer and by its direction, which is to the right where the line comes to its left edge
+abbrev pub phase_of : Shape → Shape → ℕ
+phase_of before bar = (if bar.layer == EVEN_LINE then (if at_left before bar then 0 else 2) else (if at_left before bar then 1 else 3))
+
+-- b is a bar of this phase
+pub record HasPhase (shapes : List Shape) (b phase : ℕ) : Type 0 where
+  pub is_bar : IsPart shapes BAR b
+  pub before : ℕ
+  pub before_shape : Shape
+  pub before_shape_is : slice_get shapes before ≡ Some before_shape
+  pub is_before : Before shapes before b
+  pub phase_is : phase_of before_shape is_bar.shape ≡ phase

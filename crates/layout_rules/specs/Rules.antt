@@ -1,0 +1,54 @@
+-- The eleven rules of a chip, in the order in which they are tried, and the first that is broken.
+use Rattle.std.specs.Prelude.{ℕ, ◌<◌}
+use Rattle.geom.specs.declared.shapes.Flat.{Flat}
+use Rattle.layout_rules.specs.declared.rule.Rule.{Rule}
+use Rattle.layout_rules.specs.declared.rule.Rule.TheVariants.{E1, E2, E3, E4, E5, E6, G1, G2, G3, G4, G5}
+use Rattle.layout_rules.specs.Limits.{Limits}
+use Rattle.layout_rules.specs.Reports.{ReportsNone, IsFirstReport}
+use Rattle.layout_rules.specs.CircuitRules.{CellsBroken, NetsBroken, RowsBroken, LabelsBroken}
+use Rattle.layout_rules.specs.ExcitationRule.{ExcitationBroken}
+use Rattle.layout_rules.specs.GeometryRules.{SizesBroken, SpacingBroken, EnclosureBroken, CoverBroken, FramesBroken}
+use Rattle.layout_rules.specs.LengthRule.{LengthsBroken}
+
+-- the rule reports these numbers
+abbrev pub Broken : Rule → Flat → Limits → ℕ → ℕ → Type 0
+Broken E1 flat limits = CellsBroken flat.shapes
+Broken E2 flat limits = ExcitationBroken flat.shapes
+Broken E3 flat limits = NetsBroken flat
+Broken E4 flat limits = RowsBroken flat
+Broken E5 flat limits = LengthsBroken limits flat.shapes
+Broken E6 flat limits = LabelsBroken flat
+Broken G1 flat limits = SizesBroken limits flat.shapes
+Broken G2 flat limits = SpacingBroken limits flat.shapes
+Broken G3 flat limits = EnclosureBroken limits flat.shapes
+Broken G4 flat limits = CoverBroken flat.shapes
+Broken G5 flat limits = FramesBroken flat.shapes
+
+abbrev pub Keeps : Rule → Flat → Limits → Type 0
+Keeps rule flat limits = ReportsNone (Broken rule flat limits)
+
+abbrev pub KeepsRules : Flat → Limits → Type 0
+KeepsRules flat limits = (rule : Rule) → Keeps rule flat limits
+
+-- the place of a rule in the order in which they are tried
+abbrev pub place : Rule → ℕ
+place E1 = 0
+place E2 = 1
+place E3 = 2
+place E4 = 3
+place E6 = 4
+place G1 = 5
+place G2 = 6
+place G3 = 7
+place G4 = 8
+place G5 = 9
+place E5 = 10
+
+-- the first five are the rules of the circuit, and need no limits
+abbrev pub first_of_geometry : ℕ
+first_of_geometry = 5
+
+-- the first rule that is broken, with the first numbers that it reports
+pub record FirstBroken (flat : Flat) (limits : Limits) (rule : Rule) (a b : ℕ) : Type 0 where
+  pub report : IsFirstReport (Broken rule flat limits) a b
+  pub kept_before : (other : Rule) → place other < place rule → Keeps other flat limits
