@@ -3,6 +3,7 @@ pub mod Touch
 pub mod Nets
 pub mod NetLaws
 pub mod Rows
+pub mod RowLaws
 pub mod Pins
 pub mod Labels
 pub mod ExcitationLines
@@ -13,3 +14,4 @@ pub mod Limits
 pub mod GeometryRules
 pub mod LengthRule
 pub mod Rules
+pub mod RuleLaws
