@@ -11,6 +11,7 @@ pub mod Reports
 pub mod ExcitationRule
 pub mod CircuitRules
 pub mod Limits
+pub mod FirstLimits
 pub mod GeometryRules
 pub mod LengthRule
 pub mod Rules

@@ -2,6 +2,7 @@
 use Rattle.std.proofs.Common.{◌≡◌, ℕ, ◌<◌, ◌≤◌, Bool, true, false, ◌&&◌, ◌||◌, List, [], ◌∷◌, length, refl, sym, ap, subst, ◌∙◌, arith}
 use Rattle.std.specs.Prelude.{slice_index, int_le}
 use Rattle.std.proofs.lemmas.Option.{slice_get_within}
+use Rattle.std.proofs.lemmas.Grind.{same_number_lists}
 use Rattle.geom.specs.declared.shapes.Shape.{Shape}
 use Rattle.geom.specs.Rectangle.{Rectangle, share_x, share_y, share_point}
 use Rattle.layout_rules.specs.Layers.{is_lower, is_upper, is_via}
@@ -106,3 +107,7 @@ same_nets shapes nets others are these i h =
     let p : slice_index nets i ≤ slice_index others i = are.least i (slice_index others i) h (these.joined i h) in
     let q : slice_index others i ≤ slice_index nets i = these.least i (slice_index nets i) h (are.joined i h) in
     omega arith
+
+pub AreNets-once : (shapes : List Shape) (nets others : List ℕ) → AreNets shapes nets → AreNets shapes others → nets ≡ others
+AreNets-once shapes nets others are these =
+    same_number_lists nets others (are.long ∙ sym these.long) (λ k h. same_nets shapes nets others are these k (subst (λ (n : ℕ). k < n) are.long h))
