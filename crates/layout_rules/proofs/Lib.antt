@@ -1,3 +1,5 @@
 mod Places
 mod FirstGeometry
 mod FirstCells
+mod FirstNets
+mod FirstWires

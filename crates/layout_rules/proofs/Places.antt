@@ -61,7 +61,7 @@ at_one P n [] h all = absurd h
 at_one P n (k ∷ ks) (inl e) all = subst P (sym e) all.0
 at_one P n (k ∷ ks) (inr h) all = at_one P n ks h all.1
 
-any_at : {X : Type 0} (test : X → Bool) (xs : List X) (n : ℕ) (x : X) → slice_get xs n ≡ Some x → test x ≡ true → list_any test xs ≡ true
+pub any_at : {X : Type 0} (test : X → Bool) (xs : List X) (n : ℕ) (x : X) → slice_get xs n ≡ Some x → test x ≡ true → list_any test xs ≡ true
 any_at test [] n x p e = absurd cc
 any_at test (y ∷ ys) zero x p e = or_left (test y) (list_any test ys) (ap test (same_Some y x p) ∙ e)
 any_at test (y ∷ ys) (suc n) x p e = or_right (test y) (list_any test ys) (any_at test ys n x p e)
