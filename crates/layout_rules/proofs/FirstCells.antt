@@ -1,5 +1,5 @@
 -- The first chip's frames are cells that stand apart, and its pins lie in them.
-use Rattle.std.proofs.Common.{◌≡◌, ℕ, ◌<◌, ◌&&◌, Bool, true, List, [], ◌∷◌, Some, refl, sym, ap, subst, ◌∙◌, arith, eqb, eq-eqb, inl, inr}
+use Rattle.std.proofs.Common.{◌≡◌, ℕ, ◌<◌, ◌&&◌, Bool, true, List, [], ◌∷◌, Some, refl, sym, ap, subst, ◌∙◌, arith, eq-eqb, inl, inr}
 use Rattle.std.specs.Prelude.{slice_get, ◌==◌}
 use Rattle.std.proofs.lemmas.Bool.{and_from}
 use Rattle.std.proofs.lemmas.Option.{same_Some}
@@ -8,8 +8,8 @@ use Rattle.geom.specs.FirstChip.{first_flat}
 use Rattle.circuit.specs.declared.cell_kind.CellKind.TheVariants.{Buffer}
 use Rattle.layout_rules.specs.declared.layers.TheConstants.{INPUT_PIN, OUTPUT_PIN}
 use Rattle.layout_rules.specs.Layers.{is_frame, is_pin}
-use Rattle.layout_rules.specs.Pins.{lies_in, LiesIn, IsPinOf}
-use Rattle.layout_rules.specs.Reports.{ReportsNone, Passes, PassTogether}
+use Rattle.layout_rules.specs.Pins.{lies_in, IsPinOf}
+use Rattle.layout_rules.specs.Reports.{ReportsNone, PassTogether}
 use Rattle.layout_rules.specs.CircuitRules.{HasPins, IsCell, LiesInOneFrame, IsNoCell, IsStrayPin, CellsBroken}
 use Rattle.layout_rules.specs.GeometryRules.{collide, FramesBroken}
 use Rattle.layout_rules.proofs.Places.{places, IsOneOf, one_of, place_at, place_of, at_one, first_place, second_place}

@@ -1,12 +1,10 @@
 -- The first chip keeps the rules of geometry.
-use Rattle.std.proofs.Common.{◌≡◌, ℕ, ◌<◌, true, false, [], ◌∷◌, refl, arith}
-use Rattle.geom.specs.declared.shapes.Shape.{Shape}
+use Rattle.std.proofs.Common.{refl}
 use Rattle.geom.specs.FirstChip.{first_flat}
-use Rattle.layout_rules.specs.Layers.{is_frame}
-use Rattle.layout_rules.specs.Reports.{ReportsNone, Passes, PassTogether}
-use Rattle.layout_rules.specs.GeometryRules.{is_too_small, SizesBroken, are_too_close, SpacingBroken, is_bare, EnclosureBroken, trespasses, CoverBroken, collide, FramesBroken}
+use Rattle.layout_rules.specs.Reports.{ReportsNone}
+use Rattle.layout_rules.specs.GeometryRules.{is_too_small, SizesBroken, are_too_close, SpacingBroken, is_bare, EnclosureBroken, trespasses, CoverBroken}
 use Rattle.layout_rules.specs.FirstLimits.{first_limits}
-use Rattle.layout_rules.proofs.Places.{places, IsOneOf, place_of, no_partner}
+use Rattle.layout_rules.proofs.Places.{place_of, no_partner}
 
 pub sizes_kept : ReportsNone (SizesBroken first_limits first_flat.shapes)
 unfolding first_flat

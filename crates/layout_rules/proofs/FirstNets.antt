@@ -1,15 +1,15 @@
 -- The nets of the first chip: one wire from the lower cell's output to the upper cell's input, and each other shape by itself.
-use Rattle.std.proofs.Common.{◌≡◌, ℕ, zero, suc, ◌<◌, ◌≤◌, ◌&&◌, Bool, true, false, List, [], ◌∷◌, length, Some, refl, sym, ap, subst, ◌∙◌, arith, eqb, inl, inr}
+use Rattle.std.proofs.Common.{◌≡◌, ℕ, ◌<◌, ◌≤◌, ◌&&◌, Bool, true, false, List, [], ◌∷◌, length, Some, refl, subst, arith, inl, inr}
 use Rattle.std.specs.Prelude.{slice_get, slice_index, zip, ◌==◌, not, pos}
 use Rattle.std.specs.List.{list_any}
 use Rattle.std.proofs.lemmas.Bool.{eqb-true, not-false, and_cases, both_ways, false_from_ne_true}
 use Rattle.std.proofs.lemmas.Option.{slice_get-get_or}
 use Rattle.geom.specs.declared.shapes.Shape.{Shape}
 use Rattle.geom.specs.FirstChip.{first_flat, drawn}
-use Rattle.layout_rules.specs.Touch.{touch, Touching, IsPath, Joined}
-use Rattle.layout_rules.specs.Nets.{AreNets, Certifies}
+use Rattle.layout_rules.specs.Touch.{touch, Touching, Joined}
+use Rattle.layout_rules.specs.Nets.{AreNets}
 use Rattle.layout_rules.specs.NetLaws.{AreNets-certified}
-use Rattle.layout_rules.proofs.Places.{places, IsOneOf, place_at, AtEach, at_one, any_at, zip_at}
+use Rattle.layout_rules.proofs.Places.{places, IsOneOf, place_at, at_one, any_at, zip_at}
 
 abbrev pub first_nets : List ℕ
 first_nets = 0 ∷ 1 ∷ 2 ∷ 3 ∷ 4 ∷ 2 ∷ 2 ∷ 2 ∷ 2 ∷ 2 ∷ 10 ∷ 2 ∷ 12 ∷ 13 ∷ 14 ∷ []

@@ -1,21 +1,20 @@
 -- The first chip's nets lead from one output to one input, up by one row, and are short.
-use Rattle.std.proofs.Common.{◌≡◌, ◌≢◌, ℕ, suc, ◌<◌, ◌≤◌, ◌&&◌, Bool, true, false, List, [], ◌∷◌, length, Some, refl, sym, ap, subst, ◌∙◌, arith, eqb, eq-eqb, inl, inr}
+use Rattle.std.proofs.Common.{◌≡◌, ℕ, suc, ◌<◌, ◌&&◌, Bool, true, false, List, [], ◌∷◌, Some, refl, sym, ap, subst, ◌∙◌, arith, eq-eqb, inl, inr}
 use Rattle.std.specs.Prelude.{slice_get, slice_index, zip, ◌==◌}
-use Rattle.std.proofs.lemmas.Bool.{and_from, both_ways}
+use Rattle.std.proofs.lemmas.Bool.{and_from}
 use Rattle.std.proofs.lemmas.Option.{same_Some, slice_get_within}
 use Rattle.geom.specs.declared.shapes.Shape.{Shape}
 use Rattle.geom.specs.FirstChip.{first_flat}
 use Rattle.layout_rules.specs.declared.layers.TheConstants.{INPUT_PIN, OUTPUT_PIN}
 use Rattle.layout_rules.specs.Layers.{is_pin, is_metal}
 use Rattle.layout_rules.specs.Touch.{Joined}
-use Rattle.layout_rules.specs.Nets.{AreNets}
-use Rattle.layout_rules.specs.NetLaws.{one_number, AreNets-once, Joined-back}
+use Rattle.layout_rules.specs.NetLaws.{one_number, AreNets-once}
 use Rattle.layout_rules.specs.Rows.{row_of}
 use Rattle.layout_rules.specs.Pins.{lies_in, LiesIn}
 use Rattle.layout_rules.specs.Labels.{is_labelled}
 use Rattle.layout_rules.specs.Reports.{ReportsNone, Passes, PassTogether}
 use Rattle.layout_rules.specs.CircuitRules.{HasRival, IsInput, IsSource, IsUndriven, IsDriven, NetsBroken, RowsBroken}
-use Rattle.layout_rules.specs.LengthRule.{IsTooLong, net_length, LengthsBroken}
+use Rattle.layout_rules.specs.LengthRule.{net_length, LengthsBroken}
 use Rattle.layout_rules.specs.FirstLimits.{first_limits}
 use Rattle.layout_rules.proofs.Places.{places, IsOneOf, one_of, place_at, place_of, at_one, second_place, zip_at}
 use Rattle.layout_rules.proofs.FirstNets.{first_nets, first_nets_are, wire_joined}

@@ -1,5 +1,7 @@
 mod Places
-mod FirstGeometry
 mod FirstCells
+mod FirstGeometry
 mod FirstNets
 mod FirstWires
+mod FirstLabels
+mod FirstLines

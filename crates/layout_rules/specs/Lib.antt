@@ -7,6 +7,7 @@ pub mod RowLaws
 pub mod Pins
 pub mod Labels
 pub mod ExcitationLines
+pub mod LineLaws
 pub mod Reports
 pub mod ExcitationRule
 pub mod CircuitRules
