@@ -18,7 +18,7 @@ use Rattle.layout_rules.proofs.Places.{places, IsOneOf, one_of, place_at, place_
 abbrev is_part : ℕ → Shape → Bool
 is_part datatype s = is_line s && s.datatype == datatype
 
-part_place : (shapes : List Shape) (datatype i : ℕ) → IsPart shapes datatype i → IsOneOf i (places (is_part datatype) shapes)
+pub part_place : (shapes : List Shape) (datatype i : ℕ) → IsPart shapes datatype i → IsOneOf i (places (is_part datatype) shapes)
 part_place shapes datatype i part = place_at (is_part datatype) shapes i part.shape part.shape_is (and_from (is_line part.shape) (part.shape.datatype == datatype) part.line_so (eq-eqb part.shape.datatype datatype part.datatype_is))
 
 -- the number has this shape alone, and so one datatype

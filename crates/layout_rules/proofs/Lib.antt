@@ -5,3 +5,5 @@ mod FirstNets
 mod FirstWires
 mod FirstLabels
 mod FirstLines
+mod OtherChips
+mod FirstChipKeeps

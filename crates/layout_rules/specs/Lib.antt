@@ -13,6 +13,7 @@ pub mod ExcitationRule
 pub mod CircuitRules
 pub mod Limits
 pub mod FirstLimits
+pub mod FirstChips
 pub mod GeometryRules
 pub mod LengthRule
 pub mod Rules

@@ -1,6 +1,7 @@
-//! Definitions of touch, nets, rows and the eleven rules of a layout.
+//! Definitions of touch, nets, rows and the eleven rules of a layout, and their laws.
 #![tactic(auto)]
 
+pub mod laws;
 pub mod layers;
 mod rule;
 

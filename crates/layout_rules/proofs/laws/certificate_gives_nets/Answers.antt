@@ -1,0 +1,5 @@
+use Rattle.layout_rules.specs.NetLaws.{AreNets-certified}
+use Rattle.layout_rules.proofs.laws.certificate_gives_nets.Goals as goal
+
+pub returns : goal.returns
+returns c = AreNets-certified
