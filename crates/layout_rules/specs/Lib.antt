@@ -9,8 +9,10 @@ pub mod Labels
 pub mod ExcitationLines
 pub mod LineLaws
 pub mod Reports
+pub mod ReportLaws
 pub mod ExcitationRule
 pub mod CircuitRules
+pub mod RuleNames
 pub mod Limits
 pub mod FirstLimits
 pub mod FirstChips

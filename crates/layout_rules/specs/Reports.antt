@@ -6,6 +6,10 @@ use Rattle.geom.specs.declared.shapes.Shape.{Shape}
 abbrev pub ReportsNone : (ℕ → ℕ → Type 0) → Type 0
 ReportsNone report = (a b : ℕ) → report a b → ⊥
 
+-- nothing is reported with this first number
+abbrev pub ReportsNoneAt : (ℕ → ℕ → Type 0) → ℕ → Type 0
+ReportsNoneAt report a = (b : ℕ) → report a b → ⊥
+
 -- a fault of one number, which is reported twice
 abbrev pub Alone : (ℕ → Type 0) → ℕ → ℕ → Type 0
 Alone fault a b = fault a × (b ≡ a)
@@ -16,12 +20,17 @@ Afterwards first second a b = first a b ⊎ (ReportsNone first × second a b)
 
 -- at each first number, the second is tried where the first reports nothing there
 abbrev pub Otherwise : (ℕ → ℕ → Type 0) → (ℕ → ℕ → Type 0) → ℕ → ℕ → Type 0
-Otherwise first second a b = first a b ⊎ (((c : ℕ) → first a c → ⊥) × second a b)
+Otherwise first second a b = first a b ⊎ (ReportsNoneAt first a × second a b)
 
 -- of all that is reported, these numbers are the first
 pub record IsFirstReport (report : ℕ → ℕ → Type 0) (a b : ℕ) : Type 0 where
   pub reported : report a b
   pub least : (c d : ℕ) → report c d → (a < c) ⊎ ((a ≡ c) × (b ≤ d))
+
+-- of all that is reported with this first number, this second one is the least
+pub record IsFirstAt (report : ℕ → ℕ → Type 0) (a b : ℕ) : Type 0 where
+  pub reported : report a b
+  pub least : (d : ℕ) → report a d → b ≤ d
 
 -- the shape of this number passes the test
 pub record Passes (test : Shape → Bool) (shapes : List Shape) (n : ℕ) : Type 0 where

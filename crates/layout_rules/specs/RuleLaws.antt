@@ -1,12 +1,12 @@
 -- The first broken rule and its report are one, and whoever keeps all rules has none.
 use Rattle.std.proofs.Common.{◌≡◌, ℕ, zero, suc, ◌<◌, ◌≤◌, ◌⊎◌, refl, sym, ap, ◌∙◌, subst, arith, inl, inr}
-use Rattle.std.proofs.lemmas.Bool.{cases_order}
+use Rattle.std.proofs.lemmas.Bool.{cases_order, cases_lt}
 use Rattle.geom.specs.declared.shapes.Flat.{Flat}
 use Rattle.layout_rules.specs.declared.rule.Rule.{Rule}
 use Rattle.layout_rules.specs.declared.rule.Rule.TheVariants.{E1, E2, E3, E4, E5, E6, G1, G2, G3, G4, G5}
 use Rattle.layout_rules.specs.Limits.{Limits}
 use Rattle.layout_rules.specs.Reports.{IsFirstReport}
-use Rattle.layout_rules.specs.Rules.{Broken, KeepsRules, place, FirstBroken}
+use Rattle.layout_rules.specs.Rules.{Broken, Keeps, KeepsRules, place, first_of_geometry, KeepsCircuitRules, KeepsGeometryRules, FirstBroken, FirstBrokenOfGeometry}
 
 rule_at : ℕ → Rule
 rule_at zero = E1
@@ -69,3 +69,58 @@ FirstBroken-once flat limits rule other a b c d one two = elim (cases_order (pla
 -- where all rules are kept, none is the first that is broken
 pub KeepsRules-none : (flat : Flat) (limits : Limits) (rule : Rule) (a b : ℕ) → KeepsRules flat limits → FirstBroken flat limits rule a b → ⊥
 KeepsRules-none flat limits rule a b kept first = kept rule a b first.report.reported
+
+-- the rules with a place below n are kept
+abbrev pub KeepsBelow : ℕ → Flat → Limits → Type 0
+KeepsBelow n flat limits = (rule : Rule) → place rule < n → Keeps rule flat limits
+
+pub KeepsBelow-none : (flat : Flat) (limits : Limits) → KeepsBelow 0 flat limits
+KeepsBelow-none flat limits rule h = absurd (omega arith)
+
+-- one rule more
+pub KeepsBelow-more : (flat : Flat) (limits : Limits) (n : ℕ) (rule : Rule) → place rule ≡ n → KeepsBelow n flat limits → Keeps rule flat limits → KeepsBelow (suc n) flat limits
+KeepsBelow-more flat limits n rule e below kept other h = elim (cases_order (place other) n) [
+    inl same ↦ subst (λ (r : Rule). Keeps r flat limits) (same_place rule other (e ∙ sym same)) kept
+  | inr ne ↦ elim ne [ inl less ↦ below other less | inr more ↦ absurd (omega arith) ]
+  ]
+
+place-below : (rule : Rule) → place rule < 11
+place-below E1 = omega arith
+place-below E2 = omega arith
+place-below E3 = omega arith
+place-below E4 = omega arith
+place-below E5 = omega arith
+place-below E6 = omega arith
+place-below G1 = omega arith
+place-below G2 = omega arith
+place-below G3 = omega arith
+place-below G4 = omega arith
+place-below G5 = omega arith
+
+pub KeepsRules-below : (flat : Flat) (limits : Limits) → KeepsBelow 11 flat limits → KeepsRules flat limits
+KeepsRules-below flat limits below rule = below rule (place-below rule)
+
+-- all rules are those of the circuit and those of geometry
+pub KeepsRules-both : (flat : Flat) (limits : Limits) → KeepsCircuitRules flat limits → KeepsGeometryRules flat limits → KeepsRules flat limits
+KeepsRules-both flat limits circuit geometry rule = elim (cases_lt (place rule) first_of_geometry) [ inl less ↦ circuit rule less | inr more ↦ geometry rule more ]
+
+-- what the rules of geometry report first is the first report, where the circuit's rules are kept
+pub FirstBroken-from_geometry : (flat : Flat) (limits : Limits) (rule : Rule) (a b : ℕ) → KeepsCircuitRules flat limits → FirstBrokenOfGeometry flat limits rule a b → FirstBroken flat limits rule a b
+FirstBroken-from_geometry flat limits rule a b circuit first = record {
+  report = first.report;
+  kept_before = λ other h. elim (cases_lt (place other) first_of_geometry) [ inl less ↦ circuit other less | inr more ↦ first.kept_before other more h ];
+}
+
+-- the circuit's rules don't read the limits
+pub Keeps-any_limits : (flat : Flat) (limits others : Limits) (rule : Rule) → place rule < first_of_geometry → Keeps rule flat limits → Keeps rule flat others
+Keeps-any_limits flat limits others E1 h kept = kept
+Keeps-any_limits flat limits others E2 h kept = kept
+Keeps-any_limits flat limits others E3 h kept = kept
+Keeps-any_limits flat limits others E4 h kept = kept
+Keeps-any_limits flat limits others E5 h kept = absurd (omega arith)
+Keeps-any_limits flat limits others E6 h kept = kept
+Keeps-any_limits flat limits others G1 h kept = absurd (omega arith)
+Keeps-any_limits flat limits others G2 h kept = absurd (omega arith)
+Keeps-any_limits flat limits others G3 h kept = absurd (omega arith)
+Keeps-any_limits flat limits others G4 h kept = absurd (omega arith)
+Keeps-any_limits flat limits others G5 h kept = absurd (omega arith)

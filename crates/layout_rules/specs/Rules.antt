@@ -1,5 +1,5 @@
 -- The eleven rules of a chip, in the order in which they are tried, and the first that is broken.
-use Rattle.std.specs.Prelude.{ℕ, ◌<◌}
+use Rattle.std.specs.Prelude.{ℕ, ◌<◌, ◌≤◌}
 use Rattle.geom.specs.declared.shapes.Flat.{Flat}
 use Rattle.layout_rules.specs.declared.rule.Rule.{Rule}
 use Rattle.layout_rules.specs.declared.rule.Rule.TheVariants.{E1, E2, E3, E4, E5, E6, G1, G2, G3, G4, G5}
@@ -44,11 +44,23 @@ place G4 = 8
 place G5 = 9
 place E5 = 10
 
--- the first five are the rules of the circuit, and need no limits
+-- the first five make a circuit and need no limits; the others are of geometry
 abbrev pub first_of_geometry : ℕ
 first_of_geometry = 5
+
+abbrev pub KeepsCircuitRules : Flat → Limits → Type 0
+KeepsCircuitRules flat limits = (rule : Rule) → place rule < first_of_geometry → Keeps rule flat limits
+
+abbrev pub KeepsGeometryRules : Flat → Limits → Type 0
+KeepsGeometryRules flat limits = (rule : Rule) → first_of_geometry ≤ place rule → Keeps rule flat limits
 
 -- the first rule that is broken, with the first numbers that it reports
 pub record FirstBroken (flat : Flat) (limits : Limits) (rule : Rule) (a b : ℕ) : Type 0 where
   pub report : IsFirstReport (Broken rule flat limits) a b
   pub kept_before : (other : Rule) → place other < place rule → Keeps other flat limits
+
+-- the first broken one of the rules of geometry, whatever the others are
+pub record FirstBrokenOfGeometry (flat : Flat) (limits : Limits) (rule : Rule) (a b : ℕ) : Type 0 where
+  pub of_geometry : first_of_geometry ≤ place rule
+  pub report : IsFirstReport (Broken rule flat limits) a b
+  pub kept_before : (other : Rule) → first_of_geometry ≤ place other → place other < place rule → Keeps other flat limits

@@ -1,18 +1,71 @@
 // The names of the rules.
+ghost use Rattle.std.specs.Prelude.{◌≡◌, codes};
+ghost use Rattle.layout_rules.specs.RuleNames.{name_of};
 
 /// The eleven rules: `E` for what makes a circuit, `G` for geometry. They are tried in the order
 /// E1, E2, E3, E4, E6, G1, G2, G3, G4, G5, E5.
 #[derive(Clone, Copy, Debug, PartialEq, Eq)]
 pub enum Rule {
+    /// Each frame is that of a cell, and each pin lies in one.
     E1,
+    /// The excitation lines wind from row to row and excite each in its phase.
     E2,
+    /// Each net leads from one output pin to one input pin.
     E3,
+    /// Each wire leads up by one row.
     E4,
+    /// The metal of each net is short enough.
     E5,
+    /// The labels mark the chip's inputs and outputs, and number them.
     E6,
+    /// Metal, vias and pins are large enough.
     G1,
+    /// Shapes that don't touch keep their distance.
     G2,
+    /// Metal encloses each via.
     G3,
+    /// Over cells lies no metal but at pins.
     G4,
+    /// Cells stand beside each other in rows.
     G5,
+}
+
+impl Rule {
+    /// The name of the rule in two letters, as `E1`.
+    pub fn name(self) -> &'static [u8]
+        ensures { result.now ≡ name_of self }
+    {
+        match self {
+            Rule::E1 => b"E1",
+            Rule::E2 => b"E2",
+            Rule::E3 => b"E3",
+            Rule::E4 => b"E4",
+            Rule::E5 => b"E5",
+            Rule::E6 => b"E6",
+            Rule::G1 => b"G1",
+            Rule::G2 => b"G2",
+            Rule::G3 => b"G3",
+            Rule::G4 => b"G4",
+            Rule::G5 => b"G5",
+        }
+    }
+}
+
+#[cfg(test)]
+mod tests {
+    use super::*;
+    use crate::laws::*;
+
+    #[test]
+    fn names(rt: HostRuntime) {
+        assert_eq!(rt; Rule::E1.name(), b"E1".as_slice());
+        assert_eq!(rt; Rule::E5.name(), b"E5".as_slice());
+        assert_eq!(rt; Rule::G3.name(), b"G3".as_slice());
+        first_chip_keeps_rules();
+        moved_via_breaks_enclosure();
+        no_start_breaks_excitation();
+        first_broken_once();
+        certificate_gives_nets();
+        rising_edges_are_rows();
+    }
 }
