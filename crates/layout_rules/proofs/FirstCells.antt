@@ -34,8 +34,10 @@ has_one_pin shapes f layer k frame pin frame_is pin_is lies of_layer of_number a
   where
     zero_of : (i : ℕ) → i < 1 → 0 ≡ i
     zero_of i h = omega arith
+
     at_k : (i p : ℕ) → IsPinOf shapes f layer i p → p ≡ k
     at_k i p a = one_of (subst (IsOneOf p) alone (pin_place shapes f layer i p frame frame_is a))
+
     number_of : (i p : ℕ) → IsPinOf shapes f layer i p → 0 ≡ i
     number_of i p a =
         let at : slice_get shapes k ≡ Some a.pin = subst (λ (n : ℕ). slice_get shapes n ≡ Some a.pin) (at_k i p a) a.pin_is in

@@ -125,9 +125,9 @@ module _ (shapes : List Shape) (start bar : ℕ) (s t : Shape) (apart : start �
   -- nothing comes before the bar but the start, and nothing after it
   pub bar_crossed : enters s t ≡ true → IsNotCrossed shapes bar → ⊥
   bar_crossed enters_so h = elim h.wrong [
-      inl e ↦ both_ways (enters s t) (sym (entered h) ∙ e) enters_so
+    | inl e ↦ both_ways (enters s t) (sym (entered h) ∙ e) enters_so
     | inr l ↦ l.onward (contact_of_bar l.after l.contact ∙ sym (from_start h))
-    ]
+  ]
 
   abbrev pub bar_phase : (phase : ℕ) → phase_of s t ≡ phase → HasPhase shapes bar phase
   bar_phase phase e = record { is_bar = bar_part; before = start; before_shape = s; before_shape_is = s_is; is_before = bar_before; phase_is = e }

@@ -80,10 +80,10 @@ agree_each i j t =
     let a : slice_get numbered i ≡ Some (t.first, slice_index first_nets i) = zip_at first_flat.shapes first_nets i t.first long_so t.first_is in
     let b : slice_get numbered j ≡ Some (t.second, slice_index first_nets j) = zip_at first_flat.shapes first_nets j t.second long_so t.second_is in
     let no : disagree (t.first, slice_index first_nets i) (t.second, slice_index first_nets j) ≡ false = false_from_ne_true _ (λ yes.
-        subst (IsOneOf i) none_disagree (place_at (λ x. list_any (disagree x) numbered) numbered i (t.first, slice_index first_nets i) a (any_at (disagree (t.first, slice_index first_nets i)) numbered j (t.second, slice_index first_nets j) b yes))) in
+    subst (IsOneOf i) none_disagree (place_at (λ x. list_any (disagree x) numbered) numbered i (t.first, slice_index first_nets i) a (any_at (disagree (t.first, slice_index first_nets i)) numbered j (t.second, slice_index first_nets j) b yes))) in
     elim (and_cases (touch t.first t.second) (not (slice_index first_nets i == slice_index first_nets j)) no) [
-      inl apart ↦ absurd (both_ways (touch t.first t.second) apart t.touch_so)
-    | inr same ↦ eqb-true (slice_index first_nets i) (slice_index first_nets j) (not-false (slice_index first_nets i == slice_index first_nets j) same)
+      | inl apart ↦ absurd (both_ways (touch t.first t.second) apart t.touch_so)
+      | inr same ↦ eqb-true (slice_index first_nets i) (slice_index first_nets j) (not-false (slice_index first_nets i == slice_index first_nets j) same)
     ]
 
 pub first_nets_are : AreNets first_flat.shapes first_nets

@@ -28,8 +28,8 @@ joined_place : (a b layer : ℕ) (s t : Shape) → slice_get first_flat.shapes a
 joined_place a b layer s t p q of_layer joined =
     let one : slice_index first_nets b ≡ slice_index first_nets a = sym (one_number first_flat.shapes first_nets first_nets_are a b (slice_get_within first_flat.shapes a s p) joined) in
     place_at (in_net layer (slice_index first_nets a)) (zip first_flat.shapes first_nets) b (t, slice_index first_nets b)
-        (zip_at first_flat.shapes first_nets b t first_nets_are.long q)
-        (and_from (t.layer == layer) (slice_index first_nets b == slice_index first_nets a) (eq-eqb t.layer layer of_layer) (eq-eqb (slice_index first_nets b) (slice_index first_nets a) one))
+    (zip_at first_flat.shapes first_nets b t first_nets_are.long q)
+    (and_from (t.layer == layer) (slice_index first_nets b == slice_index first_nets a) (eq-eqb t.layer layer of_layer) (eq-eqb (slice_index first_nets b) (slice_index first_nets a) one))
 
 no_rival : (k b : ℕ) (s : Shape) → slice_get first_flat.shapes k ≡ Some s → places (in_net s.layer (slice_index first_nets k)) (zip first_flat.shapes first_nets) ≡ k ∷ [] → HasRival first_flat.shapes k b → ⊥
 no_rival k b s p alone rival =

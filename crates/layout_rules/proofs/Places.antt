@@ -34,6 +34,7 @@ place_from test k (y ∷ ys) (suc n) x p e = by_test (place_from test (suc k) ys
   where
     next : suc k + n ≡ k + suc n
     next = omega arith
+
     by_test : IsOneOf (suc k + n) (places_from test (suc k) ys) → (b : Bool) → test y ≡ b → IsOneOf (k + suc n) (places_from test k (y ∷ ys))
     by_test less true h = subst (IsOneOf (k + suc n)) (sym (from_yes test k y ys h)) (inr (subst (λ (m : ℕ). IsOneOf m (places_from test (suc k) ys)) next less))
     by_test less false h = subst (IsOneOf (k + suc n)) (sym (from_no test k y ys h)) (subst (λ (m : ℕ). IsOneOf m (places_from test (suc k) ys)) next less)

@@ -8,9 +8,9 @@ pub IsFirstReport-at : (report : ℕ → ℕ → Type 0) (a b : ℕ) → IsFirst
 IsFirstReport-at report a b here before = record {
   reported = here.reported;
   least = λ c d h. elim (cases_order a c) [
-      inl e ↦ inr (e, here.least d (subst (λ (n : ℕ). report n d) (sym e) h))
+    | inl e ↦ inr (e, here.least d (subst (λ (n : ℕ). report n d) (sym e) h))
     | inr ne ↦ elim ne [ inl less ↦ inl less | inr more ↦ absurd (before c more d h) ]
-    ];
+  ];
 }
 
 -- a fault of one number

@@ -125,6 +125,7 @@ has-lower_edges (s ∷ ss) y = by_test (has-lower_edges ss y) (is_frame s) refl 
     by_edge : (b : Bool) → has_edge ss s.rect.y0 ≡ true → int_eq s.rect.y0 y ≡ b → has_edge ss y ≡ (b || has_edge ss y)
     by_edge true known e = subst (λ (v : ℤ). has_edge ss v ≡ true) (eq_same s.rect.y0 y e) known
     by_edge false known e = refl
+
     by_test : has y (lower_edges ss) ≡ has_edge ss y → (b : Bool) → is_frame s ≡ b → (c : Bool) → has_edge ss s.rect.y0 ≡ c → has y (lower_edges (s ∷ ss)) ≡ has_edge (s ∷ ss) y
     by_test less true frame true known =
         ap (has y) (edges_known s ss (rw (frame, known) refl)) ∙ (less ∙ (by_edge (int_eq s.rect.y0 y) known refl ∙ sym (ap (λ (b : Bool). (b && int_eq s.rect.y0 y) || has_edge ss y) frame)))
@@ -173,7 +174,7 @@ count-rising [] rises r y p = absurd cc
 count-rising (e ∷ edges) rises zero y p =
     let same : e ≡ y = same_Some e y p in
     subst (λ (v : ℤ). count_by (λ x. int_lt x v) (e ∷ edges) ≡ 0) same
-        (count-cons (λ x. int_lt x e) e edges ∙ rw (lt_irrefl e, none_below e edges (λ j z q. rises 0 (suc j) e z refl q (omega arith))) refl)
+    (count-cons (λ x. int_lt x e) e edges ∙ rw (lt_irrefl e, none_below e edges (λ j z q. rises 0 (suc j) e z refl q (omega arith))) refl)
 count-rising (e ∷ edges) rises (suc r) y p =
     let below : int_lt e y ≡ true = rises 0 (suc r) e y refl p (omega arith) in
     let less : count_by (λ x. int_lt x y) edges ≡ r = count-rising edges (Rises-tail e edges rises) r y p in
@@ -188,24 +189,24 @@ has_at (e ∷ edges) (suc r) y p = or_right (int_eq e y) (has y edges) (has_at e
 place_of : (edges : List ℤ) (y : ℤ) → has y edges ≡ true → (r : ℕ) × (slice_get edges r ≡ Some y)
 place_of [] y h = absurd (both_ways (has y []) refl h)
 place_of (e ∷ edges) y h = elim (or_cases (int_eq e y) (has y edges) h) [
-    inl here ↦ (0, ap Some (eq_same e y here))
+  | inl here ↦ (0, ap Some (eq_same e y here))
   | inr later ↦ let rest : (r : ℕ) × (slice_get edges r ≡ Some y) = place_of edges y later in (suc rest.0, rest.1)
-  ]
+]
 
 has_edge_at : (shapes : List Shape) (f : ℕ) (frame : Shape) → slice_get shapes f ≡ Some frame → is_frame frame ≡ true → has_edge shapes frame.rect.y0 ≡ true
 has_edge_at [] f frame p e = absurd cc
 has_edge_at (s ∷ ss) zero frame p e =
     let same : s ≡ frame = same_Some s frame p in
     or_left (is_frame s && int_eq s.rect.y0 frame.rect.y0) (has_edge ss frame.rect.y0)
-        (and_from (is_frame s) (int_eq s.rect.y0 frame.rect.y0) (ap is_frame same ∙ e) (ap (λ (v : Shape). int_eq v.rect.y0 frame.rect.y0) same ∙ eq_refl frame.rect.y0))
+    (and_from (is_frame s) (int_eq s.rect.y0 frame.rect.y0) (ap is_frame same ∙ e) (ap (λ (v : Shape). int_eq v.rect.y0 frame.rect.y0) same ∙ eq_refl frame.rect.y0))
 has_edge_at (s ∷ ss) (suc f) frame p e = or_right (is_frame s && int_eq s.rect.y0 frame.rect.y0) (has_edge ss frame.rect.y0) (has_edge_at ss f frame p e)
 
 frame_with_edge : (shapes : List Shape) (y : ℤ) → has_edge shapes y ≡ true → (f : ℕ) × (frame : Shape) × (slice_get shapes f ≡ Some frame) × (is_frame frame ≡ true) × (frame.rect.y0 ≡ y)
 frame_with_edge [] y h = absurd (both_ways (has_edge [] y) refl h)
 frame_with_edge (s ∷ ss) y h = elim (or_cases (is_frame s && int_eq s.rect.y0 y) (has_edge ss y) h) [
-    inl here ↦ let both : (is_frame s ≡ true) × (int_eq s.rect.y0 y ≡ true) = and_parts (is_frame s) (int_eq s.rect.y0 y) here in (0, s, refl, both.0, eq_same s.rect.y0 y both.1)
+  | inl here ↦ let both : (is_frame s ≡ true) × (int_eq s.rect.y0 y ≡ true) = and_parts (is_frame s) (int_eq s.rect.y0 y) here in (0, s, refl, both.0, eq_same s.rect.y0 y both.1)
   | inr later ↦ let rest : (f : ℕ) × (frame : Shape) × (slice_get ss f ≡ Some frame) × (is_frame frame ≡ true) × (frame.rect.y0 ≡ y) = frame_with_edge ss y later in (suc rest.0, rest.1, rest.2, rest.3, rest.4)
-  ]
+]
 
 -- the edges that a certificate lists are those of the frames
 has-certified : (shapes : List Shape) (edges : List ℤ) → AreRows shapes edges → (z : ℤ) → has z (lower_edges shapes) ≡ has z edges
@@ -218,12 +219,12 @@ has-certified shapes edges rows z = by_test (has_edge shapes z) refl (has z edge
         let f : (f : ℕ) × (frame : Shape) × (slice_get shapes f ≡ Some frame) × (is_frame frame ≡ true) × (frame.rect.y0 ≡ z) = frame_with_edge shapes z p in
         let r : (r : ℕ) × (slice_get edges r ≡ Some f.1.rect.y0) = rows.each f.0 f.1 f.2 f.3 in
         both_ways (has z edges) q (subst (λ (v : ℤ). has v edges ≡ true) f.4 (has_at edges r.0 f.1.rect.y0 r.1))
-    )
+        )
     by_test false p true q = absurd (
         let r : (r : ℕ) × (slice_get edges r ≡ Some z) = place_of edges z q in
         let f : (f : ℕ) × (frame : Shape) × (slice_get shapes f ≡ Some frame) × (is_frame frame ≡ true) × (frame.rect.y0 ≡ z) = rows.only r.0 z r.1 in
         both_ways (has_edge shapes z) p (subst (λ (v : ℤ). has_edge shapes v ≡ true) f.4 (has_edge_at shapes f.0 f.1 f.2 f.3))
-    )
+        )
 
 -- the row of a frame is the place of its lower edge among the rising edges
 pub row_of-certified : (shapes : List Shape) (edges : List ℤ) → AreRows shapes edges → (r : ℕ) (y : ℤ) → slice_get edges r ≡ Some y → row_of shapes y ≡ r

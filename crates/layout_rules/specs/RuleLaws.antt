@@ -55,16 +55,16 @@ pub record IsOneReport (rule other : Rule) (a b c d : ℕ) : Type 0 where
 
 pub FirstBroken-once : (flat : Flat) (limits : Limits) (rule other : Rule) (a b c d : ℕ) → FirstBroken flat limits rule a b → FirstBroken flat limits other c d → IsOneReport rule other a b c d
 FirstBroken-once flat limits rule other a b c d one two = elim (cases_order (place rule) (place other)) [
-    inl e ↦
+  | inl e ↦
       let same : rule ≡ other = same_place rule other e in
       let report : IsFirstReport (Broken rule flat limits) c d = subst (λ (r : Rule). IsFirstReport (Broken r flat limits) c d) (sym same) two.report in
       let numbers : (a ≡ c) × (b ≡ d) = same_report one.report report in
       record { one_rule = same; one_first = numbers.0; one_second = numbers.1 }
   | inr ne ↦ elim ne [
-      inl h ↦ absurd (two.kept_before rule h a b one.report.reported)
+    | inl h ↦ absurd (two.kept_before rule h a b one.report.reported)
     | inr h ↦ absurd (one.kept_before other h c d two.report.reported)
-    ]
   ]
+]
 
 -- where all rules are kept, none is the first that is broken
 pub KeepsRules-none : (flat : Flat) (limits : Limits) (rule : Rule) (a b : ℕ) → KeepsRules flat limits → FirstBroken flat limits rule a b → ⊥
@@ -80,9 +80,9 @@ KeepsBelow-none flat limits rule h = absurd (omega arith)
 -- one rule more
 pub KeepsBelow-more : (flat : Flat) (limits : Limits) (n : ℕ) (rule : Rule) → place rule ≡ n → KeepsBelow n flat limits → Keeps rule flat limits → KeepsBelow (suc n) flat limits
 KeepsBelow-more flat limits n rule e below kept other h = elim (cases_order (place other) n) [
-    inl same ↦ subst (λ (r : Rule). Keeps r flat limits) (same_place rule other (e ∙ sym same)) kept
+  | inl same ↦ subst (λ (r : Rule). Keeps r flat limits) (same_place rule other (e ∙ sym same)) kept
   | inr ne ↦ elim ne [ inl less ↦ below other less | inr more ↦ absurd (omega arith) ]
-  ]
+]
 
 place-below : (rule : Rule) → place rule < 11
 place-below E1 = omega arith

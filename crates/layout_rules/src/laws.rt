@@ -16,36 +16,30 @@ ghost use Rattle.layout_rules.specs.RuleLaws.{IsOneReport};
 /// The first chip keeps all eleven rules.
 pub fn first_chip_keeps_rules()
     ensures { KeepsRules first_flat first_limits }
-{
-}
+{}
 
 /// With its first via moved by a nanometre it breaks G3 at that via.
 pub fn moved_via_breaks_enclosure()
     ensures { IsFirstReport (Broken Rule.G3 with_moved_via first_limits) 8 8 }
-{
-}
+{}
 
 /// Without the starts of its lines it breaks E2 at the least shape of the line over the even rows.
 pub fn no_start_breaks_excitation()
     ensures { IsFirstReport (Broken Rule.E2 without_starts first_limits) 3 3 }
-{
-}
+{}
 
 /// A layout has one first broken rule at most, and it reports one pair of numbers.
 pub fn first_broken_once()
     ensures { (flat : Flat) (limits : Limits) (rule other : Rule) (a b c d : ℕ) → FirstBroken flat limits rule a b → FirstBroken flat limits other c d → IsOneReport rule other a b c d }
-{
-}
+{}
 
 /// Numbers that touching shapes share, each a shape of the net and none above its own, are the least of the nets.
 pub fn certificate_gives_nets()
     ensures { (shapes : List Shape) (nets : List ℕ) → Certifies shapes nets → AreNets shapes nets }
-{
-}
+{}
 
 /// The place of a frame's lower edge among the rising lower edges is its row, and there are as many rows as edges.
 pub fn rising_edges_are_rows()
     ensures row { (shapes : List Shape) (edges : List ℤ) (r : ℕ) (y : ℤ) → AreRows shapes edges → slice_get edges r ≡ Some y → row_of shapes y ≡ r }
     ensures count { (shapes : List Shape) (edges : List ℤ) → AreRows shapes edges → row_count shapes ≡ length edges }
-{
-}
+{}
