@@ -9,7 +9,8 @@ use Rattle.geom.specs.FirstChip.{first_flat, drawn}
 use Rattle.layout_rules.specs.Touch.{touch, Touching, Joined}
 use Rattle.layout_rules.specs.Nets.{AreNets}
 use Rattle.layout_rules.specs.NetLaws.{AreNets-certified}
-use Rattle.layout_rules.proofs.Places.{places, IsOneOf, place_at, at_one, any_at, zip_at}
+use Rattle.layout_rules.proofs.Places.{places, IsOneOf, place_at, at_one, zip_at}
+use Rattle.layout_rules.specs.PlaceLaws.{list_any-at}
 
 abbrev pub first_nets : List ℕ
 first_nets = 0 ∷ 1 ∷ 2 ∷ 3 ∷ 4 ∷ 2 ∷ 2 ∷ 2 ∷ 2 ∷ 2 ∷ 10 ∷ 2 ∷ 12 ∷ 13 ∷ 14 ∷ []
@@ -80,7 +81,7 @@ agree_each i j t =
     let a : slice_get numbered i ≡ Some (t.first, slice_index first_nets i) = zip_at first_flat.shapes first_nets i t.first long_so t.first_is in
     let b : slice_get numbered j ≡ Some (t.second, slice_index first_nets j) = zip_at first_flat.shapes first_nets j t.second long_so t.second_is in
     let no : disagree (t.first, slice_index first_nets i) (t.second, slice_index first_nets j) ≡ false = false_from_ne_true _ (λ yes.
-    subst (IsOneOf i) none_disagree (place_at (λ x. list_any (disagree x) numbered) numbered i (t.first, slice_index first_nets i) a (any_at (disagree (t.first, slice_index first_nets i)) numbered j (t.second, slice_index first_nets j) b yes))) in
+    subst (IsOneOf i) none_disagree (place_at (λ x. list_any (disagree x) numbered) numbered i (t.first, slice_index first_nets i) a (list_any-at (disagree (t.first, slice_index first_nets i)) numbered j (t.second, slice_index first_nets j) b yes))) in
     elim (and_cases (touch t.first t.second) (not (slice_index first_nets i == slice_index first_nets j)) no) [
       | inl apart ↦ absurd (both_ways (touch t.first t.second) apart t.touch_so)
       | inr same ↦ eqb-true (slice_index first_nets i) (slice_index first_nets j) (not-false (slice_index first_nets i == slice_index first_nets j) same)

@@ -2,9 +2,9 @@
 use Rattle.std.proofs.Common.{◌≡◌, ℕ, zero, suc, ◌+◌, ◌⊎◌, Bool, true, false, List, [], ◌∷◌, length, Some, refl, sym, ap, subst, ◌∙◌, arith, inl, inr}
 use Rattle.std.specs.Prelude.{slice_get, slice_index, zip}
 use Rattle.std.specs.List.{list_any}
-use Rattle.std.proofs.lemmas.Bool.{or_left, or_right}
 use Rattle.std.proofs.lemmas.Option.{same_Some}
 use Rattle.geom.specs.declared.shapes.Shape.{Shape}
+use Rattle.layout_rules.specs.PlaceLaws.{list_any-at}
 use Rattle.layout_rules.specs.Reports.{Passes, PassTogether}
 
 -- the places from k on
@@ -62,15 +62,10 @@ at_one P n [] h all = absurd h
 at_one P n (k ∷ ks) (inl e) all = subst P (sym e) all.0
 at_one P n (k ∷ ks) (inr h) all = at_one P n ks h all.1
 
-pub any_at : {X : Type 0} (test : X → Bool) (xs : List X) (n : ℕ) (x : X) → slice_get xs n ≡ Some x → test x ≡ true → list_any test xs ≡ true
-any_at test [] n x p e = absurd cc
-any_at test (y ∷ ys) zero x p e = or_left (test y) (list_any test ys) (ap test (same_Some y x p) ∙ e)
-any_at test (y ∷ ys) (suc n) x p e = or_right (test y) (list_any test ys) (any_at test ys n x p e)
-
 -- no shape has a partner
 pub no_partner : (test : Shape → Shape → Bool) (shapes : List Shape) → places (λ s. list_any (test s) shapes) shapes ≡ [] → (a b : ℕ) → PassTogether test shapes a b → ⊥
 no_partner test shapes none a b pair =
-    let some : IsOneOf a (places (λ s. list_any (test s) shapes) shapes) = place_at (λ s. list_any (test s) shapes) shapes a pair.first pair.first_is (any_at (test pair.first) shapes b pair.second pair.second_is pair.passes_so) in
+    let some : IsOneOf a (places (λ s. list_any (test s) shapes) shapes) = place_at (λ s. list_any (test s) shapes) shapes a pair.first pair.first_is (list_any-at (test pair.first) shapes b pair.second pair.second_is pair.passes_so) in
     subst (IsOneOf a) none some
 
 -- a pair of a shape and its number stands at its place in the zipped list
@@ -82,7 +77,7 @@ zip_at (t ∷ ts) (m ∷ nets) (suc n) s long p = zip_at ts nets n s (let k : su
 
 -- the first of two that pass together, and the second beside a known first
 pub first_place : (test : Shape → Shape → Bool) (shapes : List Shape) (a b : ℕ) → PassTogether test shapes a b → IsOneOf a (places (λ s. list_any (test s) shapes) shapes)
-first_place test shapes a b pair = place_at (λ s. list_any (test s) shapes) shapes a pair.first pair.first_is (any_at (test pair.first) shapes b pair.second pair.second_is pair.passes_so)
+first_place test shapes a b pair = place_at (λ s. list_any (test s) shapes) shapes a pair.first pair.first_is (list_any-at (test pair.first) shapes b pair.second pair.second_is pair.passes_so)
 
 pub second_place : (test : Shape → Shape → Bool) (shapes : List Shape) (a b : ℕ) (s : Shape) → slice_get shapes a ≡ Some s → PassTogether test shapes a b → IsOneOf b (places (test s) shapes)
 second_place test shapes a b s p pair =

@@ -6,8 +6,10 @@ pub mod Rows
 pub mod RowLaws
 pub mod Pins
 pub mod Labels
+pub mod LabelLaws
 pub mod ExcitationLines
 pub mod LineLaws
+pub mod PlaceLaws
 pub mod Reports
 pub mod ReportLaws
 pub mod ExcitationRule
