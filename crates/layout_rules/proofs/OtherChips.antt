@@ -5,7 +5,7 @@ use Rattle.geom.specs.declared.shapes.Shape.{Shape}
 use Rattle.geom.specs.FirstChip.{first_flat}
 use Rattle.layout_rules.specs.declared.layers.TheConstants.{EVEN_LINE, START}
 use Rattle.layout_rules.specs.FirstLimits.{first_limits}
-use Rattle.layout_rules.specs.FirstChips.{with_moved_via, without_starts}
+use Rattle.layout_rules.specs.FaultyChips.{with_moved_via, without_starts}
 use Rattle.layout_rules.specs.Reports.{IsFirstReport, Passes}
 use Rattle.layout_rules.specs.GeometryRules.{is_bare, EnclosureBroken}
 use Rattle.layout_rules.specs.ExcitationRule.{is_no_part, HasOneStart, LacksOneStart, ExcitationBroken}

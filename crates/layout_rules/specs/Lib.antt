@@ -17,7 +17,7 @@ pub mod CircuitRules
 pub mod RuleNames
 pub mod Limits
 pub mod FirstLimits
-pub mod FirstChips
+pub mod FaultyChips
 pub mod GeometryRules
 pub mod LengthRule
 pub mod Rules

@@ -8,7 +8,7 @@ ghost use Rattle.layout_rules.specs.Nets.{AreNets, Certifies};
 ghost use Rattle.layout_rules.specs.Rows.{AreRows, row_of, row_count};
 ghost use Rattle.layout_rules.specs.Limits.{Limits};
 ghost use Rattle.layout_rules.specs.FirstLimits.{first_limits};
-ghost use Rattle.layout_rules.specs.FirstChips.{with_moved_via, without_starts};
+ghost use Rattle.layout_rules.specs.FaultyChips.{with_moved_via, without_starts};
 ghost use Rattle.layout_rules.specs.Reports.{IsFirstReport};
 ghost use Rattle.layout_rules.specs.Rules.{Broken, KeepsRules, FirstBroken};
 ghost use Rattle.layout_rules.specs.RuleLaws.{IsOneReport};
