@@ -1,0 +1,47 @@
+// The signals of lines, and the numbers of names.
+ghost use Rattle.std.specs.Prelude.{◌≡◌, ◌<◌, ◌^◌, ◌++◌, map, length, IfOk, [], true};
+ghost use Rattle.std.specs.List.{list_all};
+ghost use Rattle.std.specs.Str.{bytes_eq};
+ghost use Rattle.indexmap.specs.IndexSet.{insert_all};
+ghost use Rattle.blif_read.specs.Parts.{number, signals, is_defined};
+ghost use Rattle.blif_read.specs.Seen.{seen, texts};
+
+use crate::lines::LogicalLine;
+use crate::names::{Index, insert_each, number};
+use crate::statements::{defined_in, inputs_in};
+use aq_base::{List, Memory};
+use indexmap::IndexSet;
+use std::alloc::Global;
+
+/// The names of the inputs, and then those of the defined signals.
+pub fn signals<'a>(alloc: Global, lines: &[LogicalLine<'a>]) -> Result<Index<'a>, Memory>
+    ensures { IfOk result (λ index. texts index.keys ≡ insert_all bytes_eq [] (signals (map seen lines.now))) }
+{
+    let mut index = IndexSet::new(alloc);
+    'inputs: for line in lines {
+        insert_each(&mut index, inputs_in(line))?;
+    }
+    'defined: for line in lines {
+        insert_each(&mut index, defined_in(line))?;
+    }
+    Ok(index)
+}
+
+/// Adds the numbers of names, and answers whether each has one.
+pub fn push_numbers(
+    index: &Index<'_>,
+    tokens: &[&[u8]],
+    numbers: &mut List<u32>,
+) -> Result<bool, Memory>
+    requires { length index.now.keys < 2 ^ 32 }
+    ensures all { IfOk result (λ all. all ≡ list_all (is_defined (texts index.now.keys)) (texts tokens.now)) }
+    ensures numbers { IfOk result (λ all. all ≡ true → numbers.new ≡ numbers.old ++ map (number (texts index.now.keys)) (texts tokens.now)) }
+{
+    for token in tokens {
+        match number(index, token) {
+            Some(place) => numbers.push(place as u32)?,
+            None => return Ok(false),
+        }
+    }
+    Ok(true)
+}
