@@ -7,16 +7,12 @@ use Rattle.blif_read.specs.Lines.{Line, is_blank, is_token, tokens_of, cut, has_
 use Rattle.blif_read.specs.Statements.{word, arguments, is_row, front_of, last_of, inputs_in, outputs_in, defined_in}
 use Rattle.blif_read.specs.Parts.{signals, number, plane, definition, definition_at, definitions, rows_before_others, netlist_of}
 use Rattle.blif_read.specs.Netlist.{cube_size, def_size, size_of}
-use Rattle.blif_read.specs.Size.{bytes_of, token_bytes}
+use Rattle.blif_read.specs.Size.{bytes_of, token_bytes, IsCut, AreCut}
+use Rattle.blif_read.proofs.TextSize.{text_bytes}
 use Rattle.blif_read.specs.declared.words.Word.{Word}
 use Rattle.blif_read.specs.declared.words.Word.TheVariants.{Model, Inputs, Outputs, Names, End, Passed, Other, Row}
 use Rattle.blif_read.specs.declared.netlist.Def.{Def}
 use Rattle.blif_read.specs.declared.netlist.Cube.{Cube}
-
--- a line has tokens, and no token is empty
-pub record IsCut (line : Line) : Type 0 where
-  pub tokens : 0 < length line.tokens
-  pub filled : AllByRecursion (λ t. 0 < length t) line.tokens
 
 filled : (parts : List (List ℕ)) → AllByRecursion (λ t. 0 < length t) (filter is_token parts)
 filled [] = tt
@@ -59,9 +55,9 @@ rows_size lines = sum_by cube_size (map plane (rows_before_others lines))
 -- what one line adds: at most its bytes, and the size of the rows behind it
 line_counts : (w : Word) (args tokens : List (List ℕ)) (rows : List (List (List ℕ))) (def : Def) → length args + 1 ≤ token_bytes tokens → cube_size (plane tokens) ≤ token_bytes tokens → def_size def ≡ length (front_of args) + sum_by cube_size (map plane rows)
     → length (elim w as (λ (x : Word). List (List ℕ)) [ Inputs ↦ args | _ ↦ [] ]) + length (elim w as (λ (x : Word). List (List ℕ)) [ Names ↦ last_of args | _ ↦ [] ])
-        + length (elim w as (λ (x : Word). List (List ℕ)) [ Outputs ↦ args | _ ↦ [] ]) + min 1 (length (elim w as (λ (x : Word). List (List ℕ)) [ Outputs ↦ args | _ ↦ [] ]))
-        + sum_by def_size (elim w as (λ (x : Word). List Def) [ Names ↦ def ∷ [] | _ ↦ [] ]) + sum_by cube_size (map plane (cond (is_row w) (tokens ∷ rows) []))
-        ≤ token_bytes tokens + sum_by cube_size (map plane rows)
+    + length (elim w as (λ (x : Word). List (List ℕ)) [ Outputs ↦ args | _ ↦ [] ]) + min 1 (length (elim w as (λ (x : Word). List (List ℕ)) [ Outputs ↦ args | _ ↦ [] ]))
+    + sum_by def_size (elim w as (λ (x : Word). List Def) [ Names ↦ def ∷ [] | _ ↦ [] ]) + sum_by cube_size (map plane (cond (is_row w) (tokens ∷ rows) []))
+    ≤ token_bytes tokens + sum_by cube_size (map plane rows)
 line_counts Model args tokens rows def a r d = omega arith
 line_counts Inputs args tokens rows def a r d = omega arith
 line_counts Outputs args tokens rows def a r d = omega arith
@@ -93,5 +89,5 @@ few_signals lines c =
     let h = counts (signals lines) lines c in
     omega (arith, length-append (flat_map inputs_in lines) (flat_map defined_in lines))
 
-pub text_is_cut : (text : List ℕ) → AllByRecursion IsCut (logical_lines text)
-text_is_cut text = each_is_cut (joined 1 (map without_comment (physical_lines text)))
+pub text_is_cut : (text : List ℕ) → AreCut (length text) (logical_lines text)
+text_is_cut text = record { each = each_is_cut (joined 1 (map without_comment (physical_lines text))); fits = text_bytes text }

@@ -4,10 +4,11 @@ use Rattle.std.specs.List.{AllByRecursion, list_any}
 use Rattle.std.specs.Str.{bytes_eq}
 use Rattle.std.proofs.Common.{refl, sym, ap, ◌∙◌, arith, inl, inr, subst, get_or}
 use Rattle.std.proofs.lemmas.Bool.{ltb-true, ltb-false, le-ltb, lt-ltb, cases_lt}
+use Rattle.std.proofs.lemmas.List.{length-map}
 use Rattle.std.proofs.lemmas.Option.{slice_get-get_or}
 use Rattle.blif_read.specs.Parts.{NetView, operands, operands_at}
 use Rattle.blif_read.specs.Equations.{takes, matches, value_of, Fits, IsAnswer}
-use Rattle.blif_read.specs.Ranked.{IsRanked, Solves, some_solution}
+use Rattle.circuit.specs.Ranked.{IsRanked, Solves, some_solution}
 use Rattle.blif_read.specs.Netlist.{IsRankedBy, HasNoCycle, IsDef, IsNetlist}
 use Rattle.blif_read.specs.declared.netlist.Def.{Def}
 use Rattle.blif_read.specs.declared.netlist.Cube.{Cube}
@@ -34,7 +35,7 @@ by_on true a b e = e
 by_on false a b e = ap not e
 
 -- a cover reads the inputs of its definition alone
-value_same : (def : Def) (v w : ℕ → Bool) → AllByRecursion (λ s. v s ≡ w s) def.inputs → value_of def v ≡ value_of def w
+pub value_same : (def : Def) (v w : ℕ → Bool) → AllByRecursion (λ s. v s ≡ w s) def.inputs → value_of def v ≡ value_of def w
 value_same def v w h = by_on def.on _ _ (some_matches_same def.cubes def.inputs v w h)
 
 cover_same : (o : Option Def) (v w : ℕ → Bool) → AllByRecursion (λ s. v s ≡ w s) (operands_at o) → cover_equation o v ≡ cover_equation o w
@@ -53,7 +54,7 @@ pub is_ranked : (net : NetView) (word : List Bool) (rank : ℕ → ℕ) → IsRa
 is_ranked net word rank r c v w same = equation_same (nat_lt c net.inputs) (slice_index_or word c false) (slice_get net.defs (c - net.inputs)) v w (lower_same rank v w c same (operands net.inputs net.defs c) (r.lower c))
 
 -- what solves the equations fits the word
-solution_fits : (net : NetView) (word : List Bool) (v : ℕ → Bool) → Solves (equation net word) v → Fits net word v
+solution_fits : (net : NetView) (word : List Bool) (v : ℕ → Bool) → Solves (equation net word) v → Fits net.inputs net.defs word v
 solution_fits net word v s = record {
   bits = λ i lt. s i ∙ (let k : nat_lt i net.inputs ≡ true = lt-ltb i net.inputs lt in rw k refl);
   covers = λ j def is. s (net.inputs + j) ∙ (let k : nat_lt (net.inputs + j) net.inputs ≡ false = le-ltb (net.inputs + j) net.inputs (omega arith) in
@@ -78,7 +79,7 @@ both : (P Q : ℕ → Type 0) (R : ℕ → Type 0) (xs : List ℕ) → ((x : ℕ
 both P Q R [] f p q = tt
 both P Q R (x ∷ xs) f p q = (f x p.0 q.0, both P Q R xs f p.1 q.1)
 
-same_values : (net : NetView) (word : List Bool) (ok : IsNetlist net) (v w : ℕ → Bool) → Fits net word v → Fits net word w → (n s : ℕ) → ok.no_cycle.rank s < n → s < length net.names → v s ≡ w s
+same_values : (net : NetView) (word : List Bool) (ok : IsNetlist net) (v w : ℕ → Bool) → Fits net.inputs net.defs word v → Fits net.inputs net.defs word w → (n s : ℕ) → ok.no_cycle.rank s < n → s < length net.names → v s ≡ w s
 same_values net word ok v w fv fw zero s lt at = absurd (omega arith)
 same_values net word ok v w fv fw (suc n) s lt at = elim (cases_lt s net.inputs) [
   | inl small ↦ fv.bits s small ∙ sym (fw.bits s small)
@@ -102,3 +103,6 @@ same_shown net v w same (o ∷ os) all = ap (λ b. b ∷ map v os) (same o all.0
 
 pub one_answer : (net : NetView) (word a b : List Bool) → IsNetlist net → IsAnswer net word a → IsAnswer net word b → a ≡ b
 one_answer net word a b ok p q = p.shown ∙ same_shown net p.values q.values (λ s at. same_values net word ok p.values q.values p.fit q.fit (suc (ok.no_cycle.rank s)) s (omega arith) at) net.outputs ok.each_output ∙ sym q.shown
+
+pub answer_length : (net : NetView) (word answer : List Bool) → IsAnswer net word answer → length answer ≡ length net.outputs
+answer_length net word answer a = ap length a.shown ∙ length-map net.outputs a.values

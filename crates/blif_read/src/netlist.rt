@@ -1,8 +1,11 @@
 // Netlists and faults.
 ghost use Rattle.std.specs.Prelude.{◌≡◌, ◌<◌, ◌^◌, ℕ, List, length, Some, None, slice_get, IfOk};
 
+use crate::build::Parts;
+use crate::names::Names;
+use crate::values::{shown, values};
 use aq_base::{Bytes, List, Memory};
-use indexmap::IndexSet;
+use circuit::{Answers, Word};
 use std::alloc::Global;
 use std::marker::Model;
 
@@ -48,7 +51,7 @@ pub struct Def {
 #[derive(Drop)]
 pub struct Netlist {
     inputs: u32,
-    names: IndexSet<Bytes>,
+    names: Names,
     defs: List<Def>,
     outputs: List<u32>,
 
@@ -72,7 +75,34 @@ impl Model for Netlist {
 
 ghost use Rattle.blif_read.specs.Netlist.{IsNetlist};
 
+impl From<Memory> for BlifRefusal {
+    ghost use Rattle.blif_read.specs.declared.netlist.BlifRefusal.TheVariants.{Memory as NoMemory};
+
+    ghost from_gives = { λ _ refusal. refusal ≡ NoMemory };
+
+    fn from(_: Memory) -> Self {
+        BlifRefusal::Memory
+    }
+}
+
 impl Netlist {
+    ghost use Rattle.blif_read.specs.Walked.{IsOrder};
+
+    /// The netlist of these parts, with an order in which each signal stands after those that it is computed from.
+    pub(crate) fn new(inputs: u32, names: Names, parts: Parts, order: Vec<u32>) -> Self
+        requires facts { IsNetlist (record { inputs = inputs; names = names.keys; defs = parts.defs; outputs = parts.outputs }) }
+        requires order { IsOrder inputs parts.defs order.items }
+        ensures { result ≡ record { inputs = inputs; names = names.keys; defs = parts.defs; outputs = parts.outputs } }
+    {
+        Netlist {
+            inputs,
+            names,
+            defs: parts.defs,
+            outputs: parts.outputs,
+            order: List::from_vec(order),
+        }
+    }
+
     /// The netlist keeps its facts.
     pub fn known(&self)
         ensures { IsNetlist self.now }
@@ -103,5 +133,46 @@ impl Netlist {
         ensures { result.now ≡ self.now.outputs }
     {
         &self.outputs
+    }
+}
+
+impl Answers for Netlist {
+    ghost use Rattle.std.specs.Prelude.{length};
+    ghost use Rattle.blif_read.specs.Equations.{IsAnswer};
+    ghost use Rattle.blif_read.specs.Netlist.{IsNetlist};
+    ghost use Rattle.blif_read.specs.OneAnswer.{some_answer, one_answer, answer_length};
+
+    ghost inputs = { λ n. n.inputs };
+
+    ghost outputs = { λ n. length n.outputs };
+
+    ghost meaning = { IsAnswer };
+
+    ghost valid = { IsNetlist };
+
+    ghost some = { λ n x known long. some_answer n x known };
+
+    ghost only = { λ n x y z known long a b. one_answer n x y z known a b };
+
+    ghost whole = { λ n x y known long a. answer_length n x y a };
+
+    fn input_count(&self) -> u32 {
+        self.inputs
+    }
+
+    fn output_count(&self) -> u32 {
+        self.outputs.len() as u32
+    }
+
+    fn answer(&self, alloc: Global, word: &Word) -> Result<Word, Memory> {
+        let defs = self.defs.as_slice();
+        let values = values(
+            alloc,
+            self.inputs,
+            defs,
+            self.order.as_slice(),
+            word.as_slice(),
+        )?;
+        shown(alloc, self.outputs.as_slice(), &values)
     }
 }
