@@ -1,3 +1,4 @@
 pub mod Rectangle
 pub mod FlatForm
+pub mod Writable
 pub mod FirstChip

@@ -4,7 +4,7 @@ ghost use Rattle.geom.specs.FlatForm.{flat_of};
 ghost use Rattle.geom.specs.FirstChip.{first_layout, first_flat};
 
 /// The shapes and labels of the first chip, a buffer in each of two rows.
-#[tactic(auto, unfolding(crate::specs::FlatForm::flat_of, crate::specs::FirstChip::first_layout, crate::specs::FirstChip::first_buffer, crate::specs::FirstChip::first_top, crate::specs::FirstChip::first_flat))]
+#[tactic(auto, using(crate::specs::FirstChip::first_flat_form))]
 pub fn first_chip_flat()
     ensures { flat_of first_layout ≡ first_flat }
 {}

@@ -2,11 +2,14 @@
 use crate::shapes::{Label, Shape};
 use aq_base::{Bytes, List};
 
-/// An element of a structure: a boundary that is a rectangle, a reference to a structure at a point, or a text.
+/// An element of a structure. Coordinates are in database units of one nanometre.
 #[derive(Clone, Debug, Drop, PartialEq)]
 pub enum Element {
+    /// A boundary that is a rectangle.
     Box(Shape),
+    /// A reference: what the structure of this number holds, moved by the point.
     Place { structure: u32, x: i64, y: i64 },
+    /// A text.
     Text(Label),
 }
 
@@ -17,7 +20,7 @@ pub struct Structure {
     pub elements: List<Element>,
 }
 
-/// The structures of a stream in order, and the number of the one that no other refers to.
+/// The structures of a stream in order, and the number of the top, which no structure refers to. Structures are numbered from 0.
 #[derive(Clone, Debug, Drop, PartialEq)]
 pub struct Layout {
     pub structures: List<Structure>,

@@ -8,5 +8,5 @@ mod shapes;
 
 pub use laws::first_chip_flat;
 pub use layout::{Element, Layout, Structure};
-pub use rectangle::{Rect, touches};
+pub use rectangle::{Rect, gap_x, gap_y, touches};
 pub use shapes::{Flat, Label, Shape};

@@ -1,6 +1,6 @@
 // Rectangles with sides along the axes.
-ghost use Rattle.std.specs.Prelude.{◌≡◌, ◌&&◌, int_le};
-ghost use Rattle.geom.specs.Rectangle.{share_x, share_y, share_point};
+ghost use Rattle.std.specs.Prelude.{◌≡◌, ◌-ℤ◌, ◌↔◌, IsTrue, int_le};
+ghost use Rattle.geom.specs.Rectangle.{share_x, share_y, share_point, SharePoint, positive_part, gap_x, gap_y};
 
 use std::marker::Model;
 
@@ -25,6 +25,17 @@ impl Model for Rect {
     ghost inverse = { λ v. record { x0 = v.x0; y0 = v.y0; x1 = v.x1; y1 = v.y1 } };
 }
 
+impl Rect {
+    ghost use Rattle.geom.specs.Rectangle.{IsProper};
+
+    /// What every rectangle keeps: it has a positive width and a positive height. It does nothing else.
+    pub fn known(&self)
+        ensures { IsProper self.now }
+    {
+        let _ = &self.x0;
+    }
+}
+
 fn at_most(a: i64, b: i64) -> bool
     ensures { result ≡ int_le a b }
 {
@@ -45,7 +56,83 @@ fn touches_in_y(a: &Rect, b: &Rect) -> bool
 
 /// Whether the two share a point, edges and corners counted.
 pub fn touches(a: &Rect, b: &Rect) -> bool
-    ensures { result ≡ share_point a.now b.now }
+    ensures test { result ≡ share_point a.now b.now }
+    ensures meaning { IsTrue result ↔ SharePoint a.now b.now }
 {
+    a.known();
+    b.known();
     touches_in_x(a, b) && touches_in_y(a, b)
+}
+
+/// How far the first number is above the second, and 0 where it isn't.
+fn excess(high: i64, low: i64) -> u64
+    ensures { result ≡ positive_part (high -ℤ low) }
+{
+    if low < high { high.abs_diff(low) } else { 0 }
+}
+
+/// How far apart the two are in x, in nanometres: 0 where some line along y meets both.
+pub fn gap_x(a: &Rect, b: &Rect) -> u64
+    ensures { result ≡ gap_x a.now b.now }
+{
+    excess(a.x0, b.x1).max(excess(b.x0, a.x1))
+}
+
+/// How far apart the two are in y, in nanometres: 0 where some line along x meets both.
+pub fn gap_y(a: &Rect, b: &Rect) -> u64
+    ensures { result ≡ gap_y a.now b.now }
+{
+    excess(a.y0, b.y1).max(excess(b.y0, a.y1))
+}
+
+#[cfg(test)]
+mod tests {
+    use super::*;
+
+    fn at(x: i32, y: i32) -> Rect {
+        let (x0, y0) = (i64::from(x), i64::from(y));
+        Rect {
+            x0,
+            y0,
+            x1: x0 + 10,
+            y1: y0 + 20,
+        }
+    }
+
+    #[test]
+    fn neighbours_of_a_rectangle(rt: HostRuntime) {
+        let first = at(0, 0);
+        let others = [
+            (at(5, 5), true, 0, 0),
+            (at(10, 20), true, 0, 0),
+            (at(11, 0), false, 1, 0),
+            (at(-13, -20), false, 3, 0),
+            (at(0, 27), false, 0, 7),
+            (at(-2_000, 1_000), false, 1_990, 980),
+        ];
+        for (other, share, x, y) in others {
+            assert_eq!(rt; touches(&first, &other), share);
+            assert_eq!(rt; gap_x(&first, &other), x);
+            assert_eq!(rt; gap_y(&other, &first), y);
+        }
+    }
+
+    #[test]
+    fn the_widest_gap(rt: HostRuntime) {
+        let low = Rect {
+            x0: i64::MIN,
+            y0: i64::MIN,
+            x1: i64::MIN + 1,
+            y1: i64::MIN + 1,
+        };
+        let high = Rect {
+            x0: i64::MAX - 1,
+            y0: i64::MAX - 1,
+            x1: i64::MAX,
+            y1: i64::MAX,
+        };
+        assert_eq!(rt; gap_x(&low, &high), u64::MAX - 2);
+        assert_eq!(rt; gap_y(&high, &low), u64::MAX - 2);
+        assert!(rt; !touches(&low, &high));
+    }
 }
