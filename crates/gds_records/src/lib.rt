@@ -1,2 +1,8 @@
 //! Records of the GDSII Stream Format: which bytes are a stream, and the bytes of a layout.
 #![tactic(auto)]
+
+mod fault;
+mod laws;
+
+pub use fault::StreamKind;
+pub use laws::{fault_is_found, found_is_fault, no_fault_is_stream, one_of_both, steps_tell_scan, stream_is_found, tree_is_writable, written_is_read};

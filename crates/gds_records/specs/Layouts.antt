@@ -1,0 +1,43 @@
+-- A stream, and its layout.
+use Rattle.std.specs.Prelude.{◌≡◌, ℕ, ◌+◌, ◌<◌, ◌^◌, ◌%◌, ◌==◌, ◌&&◌, List, [], ◌∷◌, ◌++◌, Bool, true, length, None}
+use Rattle.std.specs.List.{flat_map}
+use Rattle.geom.specs.declared.layout.Layout.{Layout}
+use Rattle.gds_records.specs.Language.{Speaks}
+use Rattle.gds_records.specs.Stream.{Record, spelled, kinds, stream, structures_of}
+use Rattle.gds_records.specs.Table.{has_form, has_length, known}
+use Rattle.gds_records.specs.Values.{value_fault}
+use Rattle.gds_records.specs.Whole.{whole_fault, top_of}
+
+-- as the table and the values have it, after the records before
+pub record IsGood (before : List Record) (r : Record) : Type 0 where
+  pub short : 4 + length r.content < 2 ^ 16
+  pub even : (4 + length r.content) % 2 ≡ 0
+  pub is_known : known r.kind ≡ true
+  pub form : has_form r.kind r.form ≡ true
+  pub long : has_length r.kind (4 + length r.content) ≡ true
+  pub value : value_fault before r ≡ None
+
+abbrev pub AreGood : List Record → List Record → Type 0
+AreGood before [] = Unit {0}
+AreGood before (r ∷ rs) = IsGood before r × AreGood (before ++ r ∷ []) rs
+
+abbrev pub are_zero : List ℕ → Bool
+are_zero [] = true
+are_zero (b ∷ bs) = b == 0 && are_zero bs
+
+abbrev pub layout_of : List Record → Layout
+layout_of rs = record { structures = structures_of rs; top = top_of rs }
+
+-- whole records that are a sentence, each with its length, codes and values, and then zeros
+pub record IsRead (bytes : List ℕ) (records : List Record) (rest : List ℕ) : Type 0 where
+  pub whole : bytes ≡ flat_map spelled records ++ rest
+  pub grammar : Speaks stream (kinds records)
+  pub good : AreGood [] records
+
+pub record IsStream (bytes : List ℕ) (layout : Layout) : Type 0 where
+  pub records : List Record
+  pub rest : List ℕ
+  pub read : IsRead bytes records rest
+  pub zeros : are_zero rest ≡ true
+  pub conditions : whole_fault records ≡ None
+  pub says : layout ≡ layout_of records

@@ -1,0 +1,79 @@
+-- The values that a record must have, after the records before it.
+use Rattle.std.specs.Prelude.{ℕ, ◌+◌, ◌*◌, ◌==◌, ◌&&◌, ◌||◌, not, nat_lt, List, [], ◌∷◌, Bool, true, false, length, take, drop, slice_index, Option, Some, None}
+use Rattle.std.specs.Int.{w32, from_be_bytes}
+use Rattle.gds_records.specs.declared.fault.StreamKind.{StreamKind}
+use Rattle.gds_records.specs.declared.fault.StreamKind.TheVariants.{Value, Unsupported, NotRectangle}
+use Rattle.gds_records.specs.Stream.{Record, trimmed, same}
+
+-- BOUNDARY, SREF or TEXT, whichever came last
+abbrev pub opener : ℕ → List Record → ℕ
+opener last [] = last
+opener last (r ∷ rs) = elim (r.kind == 0x08 || r.kind == 0x0A || r.kind == 0x0C) [ true ↦ opener r.kind rs | false ↦ opener last rs ]
+
+abbrev pub is_structure_name : List ℕ → List Record → Bool
+is_structure_name name [] = false
+is_structure_name name (r ∷ rs) = r.kind == 0x06 && same name (trimmed r.content) || is_structure_name name rs
+
+abbrev pub holds_zero : List ℕ → Bool
+holds_zero [] = false
+holds_zero (b ∷ bs) = b == 0 || holds_zero bs
+
+abbrev pub is_text : List ℕ → Bool
+is_text content = not (holds_zero (trimmed content))
+
+abbrev pub is_name : List ℕ → Bool
+is_name content = not (length (trimmed content) == 0) && is_text content
+
+abbrev pub value_of : ℕ → List ℕ → ℕ
+value_of so_far [] = so_far
+value_of so_far (b ∷ bs) = value_of (so_far * 256 + b) bs
+
+-- one nanometre
+abbrev pub is_nanometre : List ℕ → Bool
+is_nanometre content = slice_index content 8 == 0x39 && not (nat_lt (value_of 0 (drop 9 content)) 0x44B82FA0000000) && nat_lt (value_of 0 (drop 9 content)) 0x44B82FA1000000
+
+abbrev pub at : List ℕ → ℕ → ℕ
+at xy i = from_be_bytes w32 (take 4 (drop (4 * i) xy))
+
+-- points i and j have one x, or one y
+abbrev pub one_x : List ℕ → ℕ → ℕ → Bool
+one_x xy i j = at xy (2 * i) == at xy (2 * j)
+
+abbrev pub one_y : List ℕ → ℕ → ℕ → Bool
+one_y xy i j = at xy (2 * i + 1) == at xy (2 * j + 1)
+
+abbrev pub is_rectangle : List ℕ → Bool
+is_rectangle xy =
+    length xy == 40 && one_x xy 0 4 && one_y xy 0 4 && not (one_x xy 0 2) && not (one_y xy 0 2)
+    && (one_y xy 0 1 && one_x xy 1 2 && one_y xy 2 3 && one_x xy 3 0 || one_x xy 0 1 && one_y xy 1 2 && one_x xy 2 3 && one_y xy 3 0)
+
+-- whether a structure already has the name is said apart
+abbrev pub has_value : Bool → Record → Bool
+has_value taken r =
+    elim (r.kind == 0x02 || r.kind == 0x19) [
+      | true ↦ is_text r.content
+      | false ↦ elim (r.kind == 0x03) [
+        | true ↦ is_nanometre r.content
+        | false ↦ elim (r.kind == 0x06) [
+          | true ↦ is_name r.content && not taken
+          | false ↦ elim (r.kind == 0x12) [
+            | true ↦ is_name r.content
+            | false ↦ elim (r.kind == 0x10) [ true ↦ length r.content == 8 | false ↦ true ]
+          ]
+        ]
+      ]
+    ]
+
+-- the first of the last three steps that applies
+abbrev pub value_fault_in : ℕ → Bool → Record → Option StreamKind
+value_fault_in element taken r =
+    elim (r.kind == 0x1A && element == 0x0A) [
+      | true ↦ elim (value_of 0 r.content == 0) [ true ↦ None | false ↦ Some Unsupported ]
+      | false ↦ elim (r.kind == 0x10 && element == 0x08) [
+        | true ↦ elim (is_rectangle r.content) [ true ↦ None | false ↦ Some NotRectangle ]
+        | false ↦ elim (has_value taken r) [ true ↦ None | false ↦ Some Value ]
+      ]
+    ]
+
+abbrev pub value_fault : List Record → Record → Option StreamKind
+value_fault before r = value_fault_in (opener 0 before) (is_structure_name (trimmed r.content) before) r

@@ -1,0 +1,88 @@
+-- The conditions on the whole stream.
+use Rattle.std.specs.Prelude.{ℕ, suc, ◌+◌, ◌==◌, ◌&&◌, ◌||◌, not, List, [], ◌∷◌, ◌++◌, Bool, true, false, length, Option, Some, None}
+use Rattle.gds_records.specs.declared.fault.StreamKind.{StreamKind}
+use Rattle.gds_records.specs.declared.fault.StreamKind.TheVariants.{Unsupported, UnknownName, NoTop, SeveralTops}
+use Rattle.gds_records.specs.Stream.{Record, trimmed, field, same}
+
+-- a name and the place of its SNAME record
+pub record Use : Type 0 where
+  pub place : ℕ
+  pub name : List ℕ
+
+-- a structure: the place of its BGNSTR record, its name, and what it references
+pub record Outline : Type 0 where
+  pub place : ℕ
+  pub name : List ℕ
+  pub uses : List Use
+
+-- the references up to ENDSTR
+abbrev pub uses_from : ℕ → List Record → List Use
+uses_from o [] = []
+uses_from o (r ∷ rs) = elim (r.kind == 0x07) [
+  | true ↦ []
+  | false ↦ elim (r.kind == 0x12) [
+    | true ↦ record { place = o; name = trimmed r.content } ∷ uses_from (o + (4 + length r.content)) rs
+    | false ↦ uses_from (o + (4 + length r.content)) rs
+  ]
+]
+
+abbrev pub outlines : ℕ → List Record → List Outline
+outlines o [] = []
+outlines o (r ∷ rs) = elim (r.kind == 0x05) [
+  | true ↦ record { place = o; name = trimmed (field 0x06 rs); uses = uses_from (o + (4 + length r.content)) rs } ∷ outlines (o + (4 + length r.content)) rs
+  | false ↦ outlines (o + (4 + length r.content)) rs
+]
+
+-- the place of ENDLIB
+abbrev pub last_place : ℕ → List Record → ℕ
+last_place o [] = o
+last_place o (r ∷ rs) = elim (r.kind == 0x04) [ true ↦ o | false ↦ last_place (o + (4 + length r.content)) rs ]
+
+abbrev pub is_defined : List ℕ → List Outline → Bool
+is_defined name [] = false
+is_defined name (s ∷ ss) = same name s.name || is_defined name ss
+
+abbrev pub is_used : List ℕ → List Use → Bool
+is_used name [] = false
+is_used name (u ∷ us) = same name u.name || is_used name us
+
+abbrev pub all_uses : List Outline → List Use
+all_uses [] = []
+all_uses (s ∷ ss) = s.uses ++ all_uses ss
+
+abbrev pub unknown : List Use → List Outline → Option ℕ
+unknown [] ss = None
+unknown (u ∷ us) ss = elim (is_defined u.name ss) [ true ↦ unknown us ss | false ↦ Some u.place ]
+
+abbrev pub deep : List Use → List Outline → Option ℕ
+deep us [] = None
+deep us (s ∷ ss) = elim (is_used s.name us && not (length s.uses == 0)) [ true ↦ Some s.place | false ↦ deep us ss ]
+
+-- the structures that none references, by number and place
+abbrev pub tops : ℕ → List Use → List Outline → List (ℕ × ℕ)
+tops n us [] = []
+tops n us (s ∷ ss) = elim (is_used s.name us) [ true ↦ tops (suc n) us ss | false ↦ (n, s.place) ∷ tops (suc n) us ss ]
+
+abbrev pub top_in : List (ℕ × ℕ) → ℕ
+top_in [] = 0
+top_in (t ∷ ts) = t.0
+
+abbrev pub top_fault : ℕ → List (ℕ × ℕ) → Option (ℕ × StreamKind)
+top_fault o [] = Some (o, NoTop)
+top_fault o (t ∷ []) = None
+top_fault o (t ∷ s ∷ ts) = Some (s.1, SeveralTops)
+
+abbrev pub outlines_fault : ℕ → List Use → List Outline → Option (ℕ × StreamKind)
+outlines_fault o us ss = elim (unknown us ss) [
+  | Some p ↦ Some (p, UnknownName)
+  | None ↦ elim (deep us ss) [
+    | Some p ↦ Some (p, Unsupported)
+    | None ↦ top_fault o (tops 0 us ss)
+  ]
+]
+
+abbrev pub whole_fault : List Record → Option (ℕ × StreamKind)
+whole_fault rs = outlines_fault (last_place 0 rs) (all_uses (outlines 0 rs)) (outlines 0 rs)
+
+abbrev pub top_of : List Record → ℕ
+top_of rs = top_in (tops 0 (all_uses (outlines 0 rs)) (outlines 0 rs))
