@@ -8,9 +8,11 @@ use Rattle.geom.specs.declared.layout.Element.TheVariants.{Box, Place, Text}
 use Rattle.geom.specs.declared.layout.Structure.{Structure}
 use Rattle.gds_records.specs.declared.fault.StreamKind.{StreamKind}
 use Rattle.gds_records.specs.declared.fault.StreamKind.TheVariants.{UnknownName, Unsupported}
-use Rattle.gds_records.specs.Stream.{Record, rec, trimmed, same}
+use Rattle.gds_records.specs.Records.{Record, record_with, trimmed, same}
 use Rattle.gds_records.specs.Whole.{Use, Outline, uses_from, outlines, last_place, is_defined, is_used, all_uses, unknown, deep, tops, top_in, top_fault, outlines_fault, whole_fault, top_of}
-use Rattle.gds_records.specs.Writer.{padded, dates, element_records, structure_spelling, names_in, records_of, IsText, IsWritableStructure, element_uses, outline, layout_outlines}
+use Rattle.geom.specs.Writable.{names_in}
+use Rattle.gds_records.specs.Writing.{padded, dates, element_records, structure_records, records_of}
+use Rattle.gds_records.proofs.Premises.{IsText, IsWritableStructure, element_uses, outline, layout_outlines}
 use Rattle.gds_records.proofs.WrittenRead.{trimmed-padded, names_back, all_texts, flat_more, structure_more}
 
 -- ---- without places
@@ -100,13 +102,13 @@ fault_bare o us ss e =
 cons_use : (n m : List ℕ) (us vs : List Use) → n ≡ m → us ≡ vs → record { place = 0; name = n } ∷ us ≡ record { place = 0; name = m } ∷ vs
 cons_use n m us vs a b = rw (a, b) refl
 
-element_uses_so : (names : List (List ℕ)) → AllByRecursion IsText names → (es : List Element) (o : ℕ) (rest : List Record) → map bare_use (uses_from o (flat_map (element_records names) es ++ (rec 0x07 0 [] ∷ rest))) ≡ element_uses names es
+element_uses_so : (names : List (List ℕ)) → AllByRecursion IsText names → (es : List Element) (o : ℕ) (rest : List Record) → map bare_use (uses_from o (flat_map (element_records names) es ++ (record_with 0x07 0 [] ∷ rest))) ≡ element_uses names es
 element_uses_so names texts [] o rest = refl
-element_uses_so names texts (Box s ∷ es) o rest = ap (λ (x : List Record). map bare_use (uses_from o x)) (flat_more names (Box s) es (rec 0x07 0 [] ∷ rest)) ∙ element_uses_so names texts es _ rest
+element_uses_so names texts (Box s ∷ es) o rest = ap (λ (x : List Record). map bare_use (uses_from o x)) (flat_more names (Box s) es (record_with 0x07 0 [] ∷ rest)) ∙ element_uses_so names texts es _ rest
 element_uses_so names texts (Place n x y ∷ es) o rest =
-    ap (λ (x : List Record). map bare_use (uses_from o x)) (flat_more names (Place n x y) es (rec 0x07 0 [] ∷ rest))
+    ap (λ (x : List Record). map bare_use (uses_from o x)) (flat_more names (Place n x y) es (record_with 0x07 0 [] ∷ rest))
     ∙ cons_use (trimmed (padded (slice_index_or names n []))) (slice_index_or names n []) _ (element_uses names es) (trimmed-padded (slice_index_or names n []) (names_back names texts n)) (element_uses_so names texts es _ rest)
-element_uses_so names texts (Text l ∷ es) o rest = ap (λ (x : List Record). map bare_use (uses_from o x)) (flat_more names (Text l) es (rec 0x07 0 [] ∷ rest)) ∙ element_uses_so names texts es _ rest
+element_uses_so names texts (Text l ∷ es) o rest = ap (λ (x : List Record). map bare_use (uses_from o x)) (flat_more names (Text l) es (record_with 0x07 0 [] ∷ rest)) ∙ element_uses_so names texts es _ rest
 
 record Skipped (o : ℕ) (whole rest : List Record) : Type 0 where
   place : ℕ
@@ -117,26 +119,26 @@ skip_element names (Box s) o rest = record { place = _; same_outlines = refl }
 skip_element names (Place n x y) o rest = record { place = _; same_outlines = refl }
 skip_element names (Text l) o rest = record { place = _; same_outlines = refl }
 
-skip_elements : (names : List (List ℕ)) (es : List Element) (o : ℕ) (rest : List Record) → Skipped o (flat_map (element_records names) es ++ (rec 0x07 0 [] ∷ rest)) rest
+skip_elements : (names : List (List ℕ)) (es : List Element) (o : ℕ) (rest : List Record) → Skipped o (flat_map (element_records names) es ++ (record_with 0x07 0 [] ∷ rest)) rest
 skip_elements names [] o rest = record { place = _; same_outlines = refl }
 skip_elements names (e ∷ es) o rest =
-    let a = skip_element names e o (flat_map (element_records names) es ++ (rec 0x07 0 [] ∷ rest)) in
+    let a = skip_element names e o (flat_map (element_records names) es ++ (record_with 0x07 0 [] ∷ rest)) in
     let b = skip_elements names es a.place rest in
-    record { place = b.place; same_outlines = ap (λ (x : List Record). outlines o x) (flat_more names e es (rec 0x07 0 [] ∷ rest)) ∙ a.same_outlines ∙ b.same_outlines }
+    record { place = b.place; same_outlines = ap (λ (x : List Record). outlines o x) (flat_more names e es (record_with 0x07 0 [] ∷ rest)) ∙ a.same_outlines ∙ b.same_outlines }
 
 cons_outline : (n m : List ℕ) (us vs : List Use) (ss tt' : List Outline) → n ≡ m → us ≡ vs → ss ≡ tt' → record { place = 0; name = n; uses = us } ∷ ss ≡ record { place = 0; name = m; uses = vs } ∷ tt'
 cons_outline n m us vs ss tt' a b c = rw (a, b, c) refl
 
-structures_so : (names : List (List ℕ)) → AllByRecursion IsText names → (ss : List Structure) → AllByRecursion (IsWritableStructure names) ss → (o : ℕ) → map bare (outlines o (flat_map (structure_spelling names) ss ++ rec 0x04 0 [] ∷ [])) ≡ map (outline names) ss
+structures_so : (names : List (List ℕ)) → AllByRecursion IsText names → (ss : List Structure) → AllByRecursion (IsWritableStructure names) ss → (o : ℕ) → map bare (outlines o (flat_map (structure_records names) ss ++ record_with 0x04 0 [] ∷ [])) ≡ map (outline names) ss
 structures_so names texts [] all o = refl
 structures_so names texts (s ∷ ss) all o =
-    let rest = flat_map (structure_spelling names) ss ++ rec 0x04 0 [] ∷ [] in
+    let rest = flat_map (structure_records names) ss ++ record_with 0x04 0 [] ∷ [] in
     let p = o + 28 + (4 + length (padded s.name)) in
     let k = skip_elements names s.elements p rest in
-    ap (λ (x : List Record). map bare (outlines o x)) (structure_more names s ss (rec 0x04 0 [] ∷ []))
-    ∙ ap (λ (x : List Record). map bare (outlines o (rec 0x05 2 (dates ++ dates) ∷ rec 0x06 6 (padded s.name) ∷ x))) (append_assoc (flat_map (element_records names) s.elements) (rec 0x07 0 [] ∷ []) rest)
-    ∙ cons_outline (trimmed (padded s.name)) s.name (map bare_use (uses_from p (flat_map (element_records names) s.elements ++ (rec 0x07 0 [] ∷ rest)))) (element_uses names s.elements)
-    (map bare (outlines p (flat_map (element_records names) s.elements ++ (rec 0x07 0 [] ∷ rest)))) (map (outline names) ss)
+    ap (λ (x : List Record). map bare (outlines o x)) (structure_more names s ss (record_with 0x04 0 [] ∷ []))
+    ∙ ap (λ (x : List Record). map bare (outlines o (record_with 0x05 2 (dates) ∷ record_with 0x06 6 (padded s.name) ∷ x))) (append_assoc (flat_map (element_records names) s.elements) (record_with 0x07 0 [] ∷ []) rest)
+    ∙ cons_outline (trimmed (padded s.name)) s.name (map bare_use (uses_from p (flat_map (element_records names) s.elements ++ (record_with 0x07 0 [] ∷ rest)))) (element_uses names s.elements)
+    (map bare (outlines p (flat_map (element_records names) s.elements ++ (record_with 0x07 0 [] ∷ rest)))) (map (outline names) ss)
     (trimmed-padded s.name all.0.0) (element_uses_so names texts s.elements p rest)
     (ap (λ (x : List Outline). map bare x) k.same_outlines ∙ structures_so names texts ss all.1 k.place)
 

@@ -6,13 +6,14 @@ use Rattle.std.proofs.lemmas.List.Concat.{flat_map-append, flat_map-cons}
 use Rattle.std.proofs.lemmas.Bool.{eqb-true}
 use Rattle.geom.specs.declared.layout.Layout.{Layout}
 use Rattle.gds_records.specs.Language.{Speaks}
-use Rattle.gds_records.specs.Stream.{Record, spelled, kinds, stream}
+use Rattle.gds_records.specs.Records.{Record, spelled, kinds}
+use Rattle.gds_records.specs.Grammar.{stream}
 use Rattle.gds_records.specs.declared.fault.StreamKind.{StreamKind}
 use Rattle.gds_records.specs.declared.fault.StreamKind.TheVariants.{Order, Value}
 use Rattle.gds_records.specs.Values.{value_fault}
 use Rattle.gds_records.specs.Whole.{whole_fault}
-use Rattle.gds_records.specs.Layouts.{IsGood, AreGood, are_zero, IsRead, IsStream, layout_of}
-use Rattle.gds_records.specs.Faults.{length_of, kind_of, here_record, own_fault, IsFaultHere, own, order, value, IsRecordFault, IsFaultAt, at_record, at_end, zeros_before}
+use Rattle.gds_records.specs.Stream.{IsGood, AreGood, are_zero, IsRead, IsStream, layout_of}
+use Rattle.gds_records.specs.Faults.{length_of, kind_of, here_record, own_fault, IsFaultHere, own, order, value, IsRecordFault, StreamFault, at_record, at_end, zeros_before}
 use Rattle.gds_records.specs.Scan.{IsBytes, may_follow, fault_of, fault_here, Scanned, Faulty, Whole, Unfinished, scan, fault_in, records_in, first_fault, layout_in}
 use Rattle.gds_records.proofs.Sentences as sentences
 use Rattle.gds_records.proofs.Records.{Sound, parts_of, respelled, here_good, record_back, rest_back, spelled_length, own_none}
@@ -160,12 +161,12 @@ no_fault bytes fits e = no_fault_so bytes (scan (suc (length bytes)) [] bytes) (
 some_is : (a c : ℕ × StreamKind) → Some a ≡ Some c → a ≡ c
 some_is a c e = cc
 
-found_so : (bytes : List ℕ) (s : Scanned) (o : ℕ) (k : StreamKind) → Outcome bytes s → fault_in s ≡ Some (o, k) → IsFaultAt bytes o k
+found_so : (bytes : List ℕ) (s : Scanned) (o : ℕ) (k : StreamKind) → Outcome bytes s → fault_in s ≡ Some (o, k) → StreamFault bytes o k
 found_so bytes (Faulty p q) o k h e = at_record (subst (λ (x : ℕ × StreamKind). IsRecordFault bytes x.0 x.1) (some_is (p, q) (o, k) e) h)
 found_so bytes (Whole rs rest) o k h e = at_end (record { records = rs; rest = rest; read = h; fault = e })
 found_so bytes Unfinished o k h e = absurd h
 
-pub found : (bytes : List ℕ) (o : ℕ) (k : StreamKind) → IsBytes bytes → first_fault bytes ≡ Some (o, k) → IsFaultAt bytes o k
+pub found : (bytes : List ℕ) (o : ℕ) (k : StreamKind) → IsBytes bytes → first_fault bytes ≡ Some (o, k) → StreamFault bytes o k
 found bytes o k fits e = found_so bytes (scan (suc (length bytes)) [] bytes) o k (scanned bytes fits) e
 
 -- ---- and that it finds what there is
@@ -302,6 +303,6 @@ record_fault bytes o k f =
     let v = over f.before (suc (length bytes)) [] f.here f.next f.more f.good f.goes_on (omega (arith, ap (λ (x : List ℕ). length x) f.whole)) in
     ap (λ (x : List ℕ). scan (suc (length bytes)) [] x) f.whole ∙ v.same ∙ scan_fault v.fuel f.before f.here k (here_so f.before f.here k f.fault) ∙ ap (λ (x : ℕ). Faulty x k) (sym f.place)
 
-pub fault_found : (bytes : List ℕ) (o : ℕ) (k : StreamKind) → IsFaultAt bytes o k → first_fault bytes ≡ Some (o, k)
+pub fault_found : (bytes : List ℕ) (o : ℕ) (k : StreamKind) → StreamFault bytes o k → first_fault bytes ≡ Some (o, k)
 fault_found bytes o k (at_record f) = ap (λ (x : Scanned). fault_in x) (record_fault bytes o k f)
 fault_found bytes o k (at_end f) = ap (λ (x : Scanned). fault_in x) (read_all bytes f.records f.rest f.read) ∙ f.fault

@@ -2,9 +2,11 @@ pub mod Derive
 pub mod Sentences
 pub mod Records
 pub mod Found
+pub mod Premises
 pub mod WrittenRead
 pub mod Written
 pub mod Conditions
 pub mod WrittenStream
 pub mod Told
 pub mod Tree
+pub mod FromWritable

@@ -7,10 +7,10 @@ use Rattle.std.proofs.Math.Seq.{take-append_seam, drop-append_seam}
 use Rattle.std.proofs.lemmas.Bool.{ltb-false, eqb-true}
 use Rattle.std.proofs.lemmas.Bool.Decides.{nat_tests}
 use Rattle.std.proofs.lemmas.Nat.{be_bytes_2, from_be_bytes-to_be_bytes_2}
-use Rattle.gds_records.specs.Stream.{Record, rec, spelled}
+use Rattle.gds_records.specs.Records.{Record, record_with, spelled}
 use Rattle.gds_records.specs.Table.{known, has_form, has_length}
 use Rattle.gds_records.specs.Values.{value_fault}
-use Rattle.gds_records.specs.Layouts.{IsGood}
+use Rattle.gds_records.specs.Stream.{IsGood}
 use Rattle.gds_records.specs.Faults.{length_of, kind_of, form_of, here_record, own_fault, first_of_six}
 use Rattle.gds_records.specs.Scan.{IsBytes}
 
@@ -127,7 +127,7 @@ content_back h l k f c b n e = let q : n ≡ plus4 (length c) = omega arith in a
 after_back : (h l k f : ℕ) (c b : List ℕ) (n : ℕ) → n ≡ 4 + length c → drop n (h ∷ l ∷ k ∷ f ∷ c ++ b) ≡ b
 after_back h l k f c b n e = let q : n ≡ plus4 (length c) = omega arith in ap (λ (i : ℕ). drop i (h ∷ l ∷ k ∷ f ∷ c ++ b)) q ∙ drop-append_seam c b
 
-same_record : (r : Record) (c : List ℕ) → c ≡ r.content → rec r.kind r.form c ≡ r
+same_record : (r : Record) (c : List ℕ) → c ≡ r.content → record_with r.kind r.form c ≡ r
 same_record r c e = rw e refl
 
 pub record_back : (r : Record) (b : List ℕ) → 4 + length r.content < 2 ^ 16 → here_record (spelled r ++ b) ≡ r

@@ -4,7 +4,8 @@ use Rattle.std.specs.Prelude.{not}
 use Rattle.std.proofs.lemmas.Bool.{eqb-true}
 use Rattle.std.proofs.lemmas.Bool.Decides.{nat_tests}
 use Rattle.gds_records.specs.Language.{Language, Nothing, Empty, One, Then, Either, Many, Speaks, Repeats, none, more}
-use Rattle.gds_records.specs.Stream.{Record, kinds, stream}
+use Rattle.gds_records.specs.Records.{Record, kinds}
+use Rattle.gds_records.specs.Grammar.{stream}
 use Rattle.gds_records.specs.Derivative.{after, after_all}
 use Rattle.gds_records.specs.Scan.{alive, may_follow}
 use Rattle.gds_records.proofs.Derive.{all_complete, goes_on}

@@ -5,7 +5,8 @@ use Rattle.std.proofs.lemmas.List.{map-append, length-append}
 use Rattle.gds_records.specs.declared.fault.StreamKind.{StreamKind}
 use Rattle.gds_records.specs.Language.{Language}
 use Rattle.gds_records.specs.Derivative.{after, after_all}
-use Rattle.gds_records.specs.Stream.{Record, spelled, kinds, stream, trimmed, same}
+use Rattle.gds_records.specs.Records.{Record, spelled, kinds, trimmed, same}
+use Rattle.gds_records.specs.Grammar.{stream}
 use Rattle.gds_records.specs.Values.{opener, is_structure_name, value_fault_in, value_fault}
 use Rattle.gds_records.specs.Faults.{own_fault, kind_of, length_of, here_record}
 use Rattle.gds_records.specs.Scan.{alive, may_follow, fault_of, fault_here, Scanned, Faulty, Whole, scan}

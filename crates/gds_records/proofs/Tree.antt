@@ -7,9 +7,10 @@ use Rattle.geom.specs.declared.layout.Element.{Element}
 use Rattle.geom.specs.declared.layout.Element.TheVariants.{Box, Place, Text}
 use Rattle.geom.specs.declared.layout.Structure.{Structure}
 use Rattle.geom.specs.declared.layout.Layout.{Layout}
-use Rattle.gds_records.specs.Stream.{same}
+use Rattle.gds_records.specs.Records.{same}
 use Rattle.gds_records.specs.Whole.{Use, Outline, is_defined, is_used, all_uses, unknown, deep, tops, top_in, top_fault}
-use Rattle.gds_records.specs.Writer.{names_in, IsWritableElement, IsWritableStructure, element_uses, outline, layout_outlines, places_in, is_placed, holds_place, AreFlat, unplaced, IsTree, IsWritable}
+use Rattle.geom.specs.Writable.{names_in, refers_to, is_referenced, holds_reference}
+use Rattle.gds_records.proofs.Premises.{IsWritableElement, IsWritableStructure, element_uses, outline, layout_outlines, AreFlat, unreferenced, IsTree, IsOutlined}
 use Rattle.gds_records.proofs.WrittenRead.{names_length}
 use Rattle.gds_records.proofs.Written.{Distinct, distinct_so, eqb_suc, eqb_same}
 use Rattle.gds_records.proofs.Conditions.{whole_of, number_of}
@@ -23,7 +24,7 @@ eqb_sucs a b = grind (arith, nat_tests)
 pick : (t : Bool) (s : Bool) → t ≡ true → s ≡ true → (elim t as (λ (b : Bool). Bool) [ true ↦ s | false ↦ false ]) ≡ true
 pick t s e f = rw (e, f) refl
 
-same_refl : (x : List ℕ) → same x x ≡ true
+pub same_refl : (x : List ℕ) → same x x ≡ true
 same_refl [] = refl
 same_refl (a ∷ x) = pick (eqb a a) (same x x) (eqb_same a) (same_refl x)
 
@@ -59,22 +60,22 @@ or_same : (a b c d : Bool) → a ≡ b → c ≡ d → (a || c) ≡ (b || d)
 or_same a b c d e f = rw (e, f) refl
 
 module _ (names : List (List ℕ)) (d : Distinct names) where
-  element_used : (i : ℕ) → i < length names → (es : List Element) → AllByRecursion (IsWritableElement names) es → is_used (slice_index_or names i []) (element_uses names es) ≡ places_in i es
+  element_used : (i : ℕ) → i < length names → (es : List Element) → AllByRecursion (IsWritableElement names) es → is_used (slice_index_or names i []) (element_uses names es) ≡ refers_to i es
   element_used i h [] all = refl
   element_used i h (Box s ∷ es) all = element_used i h es all.1
   element_used i h (Place n x y ∷ es) all =
-      or_same (same (slice_index_or names i []) (slice_index_or names n [])) (eqb n i) (is_used (slice_index_or names i []) (element_uses names es)) (places_in i es)
+      or_same (same (slice_index_or names i []) (slice_index_or names n [])) (eqb n i) (is_used (slice_index_or names i []) (element_uses names es)) (refers_to i es)
       (same_number names d i n h all.0.0) (element_used i h es all.1)
   element_used i h (Text l ∷ es) all = element_used i h es all.1
 
-  used_placed : (i : ℕ) → i < length names → (ss : List Structure) → AllByRecursion (IsWritableStructure names) ss → is_used (slice_index_or names i []) (all_uses (map (outline names) ss)) ≡ is_placed i ss
+  used_placed : (i : ℕ) → i < length names → (ss : List Structure) → AllByRecursion (IsWritableStructure names) ss → is_used (slice_index_or names i []) (all_uses (map (outline names) ss)) ≡ is_referenced i ss
   used_placed i h [] all = refl
   used_placed i h (s ∷ ss) all =
       used_append (slice_index_or names i []) (element_uses names s.elements) (all_uses (map (outline names) ss))
-      ∙ or_same (is_used (slice_index_or names i []) (element_uses names s.elements)) (places_in i s.elements) (is_used (slice_index_or names i []) (all_uses (map (outline names) ss))) (is_placed i ss)
+      ∙ or_same (is_used (slice_index_or names i []) (element_uses names s.elements)) (refers_to i s.elements) (is_used (slice_index_or names i []) (all_uses (map (outline names) ss))) (is_referenced i ss)
       (element_used i h s.elements all.0.1) (used_placed i h ss all.1)
 
-holds_so : (names : List (List ℕ)) (es : List Element) → not (eqb (length (element_uses names es)) 0) ≡ holds_place es
+holds_so : (names : List (List ℕ)) (es : List Element) → not (eqb (length (element_uses names es)) 0) ≡ holds_reference es
 holds_so names [] = refl
 holds_so names (Box s ∷ es) = holds_so names es
 holds_so names (Place n x y ∷ es) = ap (λ (x : Bool). not x) (eqb_suc (length (element_uses names es)))
@@ -102,10 +103,10 @@ module _ (names : List (List ℕ)) (us : List Use) (placed : ℕ → Bool) (used
   deep_step true false a b o more e f g m = rw (e, f) m
   deep_step false h a b o more e f g m = rw e m
 
-  deep_none : (k : ℕ) (all ss : List Structure) → ((i : ℕ) → placed i ≡ is_placed i all) → Stand names k ss → AreFlat k all ss → deep us (map (outline names) ss) ≡ None
+  deep_none : (k : ℕ) (all ss : List Structure) → ((i : ℕ) → placed i ≡ is_referenced i all) → Stand names k ss → AreFlat k all ss → deep us (map (outline names) ss) ≡ None
   deep_none k all [] same_placed st flat = refl
   deep_none k all (s ∷ ss) same_placed st flat =
-      deep_step (is_placed k all) (holds_place s.elements) (is_used s.name us) (not (eqb (length (element_uses names s.elements)) 0)) 0 (deep us (map (outline names) ss))
+      deep_step (is_referenced k all) (holds_reference s.elements) (is_used s.name us) (not (eqb (length (element_uses names s.elements)) 0)) 0 (deep us (map (outline names) ss))
       (used_here k s ss st ∙ same_placed k) (holds_so names s.elements) flat.0 (deep_none (suc k) all ss same_placed (stand_more k s ss st) flat.1)
 
   top_step : (k : ℕ) (a b : Bool) (more : List (ℕ × ℕ)) (rest : List ℕ) → a ≡ b → map number_of more ≡ rest
@@ -115,10 +116,10 @@ module _ (names : List (List ℕ)) (us : List Use) (placed : ℕ → Bool) (used
   top_step k true false more rest e f = absurd cc
   top_step k false true more rest e f = absurd cc
 
-  tops_are : (k : ℕ) (all ss : List Structure) → ((i : ℕ) → placed i ≡ is_placed i all) → Stand names k ss → map number_of (tops k us (map (outline names) ss)) ≡ unplaced k all ss
+  tops_are : (k : ℕ) (all ss : List Structure) → ((i : ℕ) → placed i ≡ is_referenced i all) → Stand names k ss → map number_of (tops k us (map (outline names) ss)) ≡ unreferenced k all ss
   tops_are k all [] same_placed st = refl
   tops_are k all (s ∷ ss) same_placed st =
-      top_step k (is_used s.name us) (is_placed k all) (tops (suc k) us (map (outline names) ss)) (unplaced (suc k) all ss) (used_here k s ss st ∙ same_placed k) (tops_are (suc k) all ss same_placed (stand_more k s ss st))
+      top_step k (is_used s.name us) (is_referenced k all) (tops (suc k) us (map (outline names) ss)) (unreferenced (suc k) all ss) (used_here k s ss st ∙ same_placed k) (tops_are (suc k) all ss same_placed (stand_more k s ss st))
 
 -- ---- what is placed is a structure
 
@@ -153,21 +154,21 @@ one_number o [] n e = absurd cc
 one_number o (t ∷ []) n e = (refl, cc)
 one_number o (t ∷ s ∷ ts) n e = absurd cc
 
-pub tree_is_writable : (layout : Layout) → IsTree layout → IsWritable layout
-tree_is_writable layout is =
+pub tree_is_outlined : (layout : Layout) → IsTree layout → IsOutlined layout
+tree_is_outlined layout is =
     let l : length (names_in layout.structures) ≡ length layout.structures = names_length layout.structures in
     let d = distinct_so (names_in layout.structures) (λ n h. is.distinct n (omega arith)) in
     let us = all_uses (layout_outlines layout.structures) in
     let used = λ (i : ℕ) (h : i < length (names_in layout.structures)). used_placed (names_in layout.structures) d i h layout.structures is.each in
     let st : Stand (names_in layout.structures) 0 layout.structures = λ i h. (let z : 0 + i ≡ i = omega arith in ap (λ (j : ℕ). slice_index_or (names_in layout.structures) j []) z, omega arith) in
     let t = one_number 0 (tops 0 us (layout_outlines layout.structures)) layout.top
-    (tops_are (names_in layout.structures) us (λ i. is_placed i layout.structures) used 0 layout.structures layout.structures (λ i. refl) st ∙ is.alone) in
+    (tops_are (names_in layout.structures) us (λ i. is_referenced i layout.structures) used 0 layout.structures layout.structures (λ i. refl) st ∙ is.alone) in
     record {
       each = is.each;
       distinct = is.distinct;
       conditions = whole_of (unknown us (layout_outlines layout.structures)) (deep us (layout_outlines layout.structures)) (top_fault 0 (tops 0 us (layout_outlines layout.structures)))
           (all_known (names_in layout.structures) (layout_outlines layout.structures) (λ n h. defined (names_in layout.structures) layout.structures n (omega arith)) layout.structures is.each)
-          (deep_none (names_in layout.structures) us (λ i. is_placed i layout.structures) used 0 layout.structures layout.structures (λ i. refl) st is.flat)
+          (deep_none (names_in layout.structures) us (λ i. is_referenced i layout.structures) used 0 layout.structures layout.structures (λ i. refl) st is.flat)
           t.0;
       top = t.1;
     }

@@ -13,10 +13,13 @@ use Rattle.geom.specs.declared.layout.Element.TheVariants.{Box, Place, Text}
 use Rattle.geom.specs.declared.layout.Structure.{Structure}
 use Rattle.gds_records.specs.declared.fault.StreamKind.{StreamKind}
 use Rattle.gds_records.specs.declared.fault.StreamKind.TheVariants.{Value, NotRectangle}
-use Rattle.gds_records.specs.Stream.{Record, rec, trimmed, same, place_of}
+use Rattle.gds_records.specs.Records.{Record, record_with, trimmed, same}
+use Rattle.gds_records.specs.Drawing.{place_of}
 use Rattle.gds_records.specs.Values.{opener, is_structure_name, holds_zero, is_text, is_name, is_rectangle}
-use Rattle.gds_records.specs.Layouts.{IsGood, AreGood}
-use Rattle.gds_records.specs.Writer.{be16, be32, padded, point, corners, element_records, dates, structure_spelling, names_in, units, records_of, IsText, IsShort, IsBox, IsWritableElement, IsWritableStructure}
+use Rattle.gds_records.specs.Stream.{IsGood, AreGood}
+use Rattle.geom.specs.Writable.{names_in}
+use Rattle.gds_records.specs.Writing.{two_bytes, four_bytes, padded, point, corners, element_records, dates, structure_records, units, records_of}
+use Rattle.gds_records.proofs.Premises.{IsText, IsShort, IsBox, IsWritableElement, IsWritableStructure}
 use Rattle.gds_records.proofs.WrittenRead.{trimmed-padded, signed_back, names_back}
 
 good_append : (a b c : List Record) → AreGood a b → AreGood (a ++ b) c → AreGood a (b ++ c)
@@ -66,13 +69,13 @@ pass b e = rw e refl
 eqb_of : (n : ℕ) → n ≡ 0 → eqb n 0 ≡ true
 eqb_of n e = ap (λ (x : ℕ). eqb x 0) e
 
-text_good : (before : List Record) (t : List ℕ) → IsText t → IsShort t → IsGood before (rec 0x19 6 (padded t))
+text_good : (before : List Record) (t : List ℕ) → IsText t → IsShort t → IsGood before (record_with 0x19 6 (padded t))
 text_good before t all h = record { short = padded_short t h; even = padded_even t; is_known = refl; form = refl; long = eqb_of _ (padded_even t); value = pass (is_text (padded t)) (text_so t all) }
 
-sname_good : (before : List Record) (t : List ℕ) → IsText t → IsShort t → 0 < length t → IsGood before (rec 0x12 6 (padded t))
+sname_good : (before : List Record) (t : List ℕ) → IsText t → IsShort t → 0 < length t → IsGood before (record_with 0x12 6 (padded t))
 sname_good before t all h some = record { short = padded_short t h; even = padded_even t; is_known = refl; form = refl; long = eqb_of _ (padded_even t); value = pass (is_name (padded t)) (name_so t all some) }
 
-name_good : (before : List Record) (t : List ℕ) → IsText t → IsShort t → 0 < length t → is_structure_name t before ≡ false → IsGood before (rec 0x06 6 (padded t))
+name_good : (before : List Record) (t : List ℕ) → IsText t → IsShort t → 0 < length t → is_structure_name t before ≡ false → IsGood before (record_with 0x06 6 (padded t))
 name_good before t all h some fresh = record {
   short = padded_short t h;
   even = padded_even t;
@@ -96,7 +99,7 @@ eqb_other a b h = cases (eqb a b) refl
     cases false e = refl
 
 number32 : ℤ → ℕ
-number32 z = from_be_bytes w32 (be32 z)
+number32 z = from_be_bytes w32 (four_bytes z)
 
 abbrev rectangle_test : ℕ → ℕ → ℕ → ℕ → Bool
 rectangle_test a b c d = eqb a a && eqb b b && not (eqb a c) && not (eqb b d) && (eqb b b && eqb c c && eqb d d && eqb a a || eqb a c && eqb b d && eqb c a && eqb d b)
@@ -104,11 +107,11 @@ rectangle_test a b c d = eqb a a && eqb b b && not (eqb a c) && not (eqb b d) &&
 test_true : (a b c d : ℕ) → (a ≡ c → ⊥) → (b ≡ d → ⊥) → rectangle_test a b c d ≡ true
 test_true a b c d p q = rw (eqb_same a, eqb_same b, eqb_same c, eqb_same d, eqb_other a c p, eqb_other b d q) refl
 
-apart : (x y : ℤ) → FitsSigned w32 x → FitsSigned w32 y → (x ≡ y → ⊥) → from_be_bytes w32 (be32 x) ≡ from_be_bytes w32 (be32 y) → ⊥
+apart : (x y : ℤ) → FitsSigned w32 x → FitsSigned w32 y → (x ≡ y → ⊥) → from_be_bytes w32 (four_bytes x) ≡ from_be_bytes w32 (four_bytes y) → ⊥
 apart x y fx fy h e = h (sym (signed_back x fx) ∙ ap (λ (n : ℕ). cast_signed w32 n) e ∙ signed_back y fy)
 
 corners_so : (r : Rectangle) → IsBox r → is_rectangle (corners r) ≡ true
-corners_so r is = test_true (from_be_bytes w32 (be32 r.x0)) (from_be_bytes w32 (be32 r.y0)) (from_be_bytes w32 (be32 r.x1)) (from_be_bytes w32 (be32 r.y1)) (apart r.x0 r.x1 is.x0 is.x1 is.not_thin) (apart r.y0 r.y1 is.y0 is.y1 is.not_flat)
+corners_so r is = test_true (from_be_bytes w32 (four_bytes r.x0)) (from_be_bytes w32 (four_bytes r.y0)) (from_be_bytes w32 (four_bytes r.x1)) (from_be_bytes w32 (four_bytes r.y1)) (apart r.x0 r.x1 is.x0 is.x1 is.not_thin) (apart r.y0 r.y1 is.y0 is.y1 is.not_flat)
 
 pub opener_last : (l : ℕ) (a : List Record) (r : Record) → opener l (a ++ r ∷ []) ≡ opener (opener l a) (r ∷ [])
 opener_last l [] r = refl
@@ -123,10 +126,10 @@ choose : (t b h : Bool) → (t ≡ true) × (b ≡ true) ⊎ (t ≡ false) × (h
 choose t b h (inl p) = rw (p.0, p.1) refl
 choose t b h (inr p) = rw (p.0, p.1) refl
 
-corners_good : (before : List Record) (r : Rectangle) → opener 0 before ≡ 8 → IsBox r → IsGood before (rec 0x10 3 (corners r))
+corners_good : (before : List Record) (r : Rectangle) → opener 0 before ≡ 8 → IsBox r → IsGood before (record_with 0x10 3 (corners r))
 corners_good before r o is = record { short = omega arith; even = refl; is_known = refl; form = refl; long = refl; value = choose (eqb (opener 0 before) 8) (is_rectangle (corners r)) false (inl (ap (λ (x : ℕ). eqb x 8) o, corners_so r is)) }
 
-point_good : (before : List Record) (x y : ℤ) → eqb (opener 0 before) 8 ≡ false → IsGood before (rec 0x10 3 (point x y))
+point_good : (before : List Record) (x y : ℤ) → eqb (opener 0 before) 8 ≡ false → IsGood before (record_with 0x10 3 (point x y))
 point_good before x y o = record { short = omega arith; even = refl; is_known = refl; form = refl; long = refl; value = choose (eqb (opener 0 before) 8) (is_rectangle (point x y)) true (inr (o, refl)) }
 
 -- ---- elements
@@ -146,31 +149,31 @@ any_some [] all n h = absurd (omega arith)
 any_some (t ∷ names) all zero h = all.0
 any_some (t ∷ names) all (suc n) h = any_some names all.1 n (omega arith)
 
-two_good : (before : List Record) (n : ℕ) → IsGood before (rec 0x0D 2 (be16 n))
+two_good : (before : List Record) (n : ℕ) → IsGood before (record_with 0x0D 2 (two_bytes n))
 two_good before n = record { short = omega arith; even = refl; is_known = refl; form = refl; long = refl; value = refl }
 
-datatype_good : (before : List Record) (n : ℕ) → IsGood before (rec 0x0E 2 (be16 n))
+datatype_good : (before : List Record) (n : ℕ) → IsGood before (record_with 0x0E 2 (two_bytes n))
 datatype_good before n = record { short = omega arith; even = refl; is_known = refl; form = refl; long = refl; value = refl }
 
-type_good : (before : List Record) → IsGood before (rec 0x16 2 (be16 0))
+type_good : (before : List Record) → IsGood before (record_with 0x16 2 (two_bytes 0))
 type_good before = record { short = omega arith; even = refl; is_known = refl; form = refl; long = refl; value = refl }
 
-end_good : (before : List Record) → IsGood before (rec 0x11 0 [])
+end_good : (before : List Record) → IsGood before (record_with 0x11 0 [])
 end_good before = record { short = omega arith; even = refl; is_known = refl; form = refl; long = refl; value = refl }
 
 element_good : (names : List (List ℕ)) → AreNames names → (before : List Record) (e : Element) → IsWritableElement names e → AreGood before (element_records names e)
 element_good names are before (Box s) is =
-    let a = rec 0x08 0 [] in let b = rec 0x0D 2 (be16 s.layer) in let c = rec 0x0E 2 (be16 s.datatype) in
+    let a = record_with 0x08 0 [] in let b = record_with 0x0D 2 (two_bytes s.layer) in let c = record_with 0x0E 2 (two_bytes s.datatype) in
     let o : opener 0 (((before ++ a ∷ []) ++ b ∷ []) ++ c ∷ []) ≡ 8 = opener_last 0 ((before ++ a ∷ []) ++ b ∷ []) c ∙ opener_last 0 (before ++ a ∷ []) b ∙ opener_last 0 before a in
     (record { short = omega arith; even = refl; is_known = refl; form = refl; long = refl; value = refl }, (two_good _ s.layer, (datatype_good _ s.datatype, (corners_good _ s.rect o is.2, (end_good _, tt)))))
 element_good names are before (Place n x y) is =
-    let a = rec 0x0A 0 [] in let b = rec 0x12 6 (padded (slice_index_or names n [])) in
+    let a = record_with 0x0A 0 [] in let b = record_with 0x12 6 (padded (slice_index_or names n [])) in
     let o : opener 0 ((before ++ a ∷ []) ++ b ∷ []) ≡ 10 = opener_last 0 (before ++ a ∷ []) b ∙ opener_last 0 before a in (
       record { short = omega arith; even = refl; is_known = refl; form = refl; long = refl; value = refl },
       (sname_good _ (slice_index_or names n []) (names_back names are.texts n) (any_short names are.short n) (any_some names are.some n is.0), (point_good _ x y (ap (λ (z : ℕ). eqb z 8) o), (end_good _, tt))),
     )
 element_good names are before (Text l) is =
-    let a = rec 0x0C 0 [] in let b = rec 0x0D 2 (be16 l.layer) in let c = rec 0x16 2 (be16 0) in
+    let a = record_with 0x0C 0 [] in let b = record_with 0x0D 2 (two_bytes l.layer) in let c = record_with 0x16 2 (two_bytes 0) in
     let o : opener 0 (((before ++ a ∷ []) ++ b ∷ []) ++ c ∷ []) ≡ 12 = opener_last 0 ((before ++ a ∷ []) ++ b ∷ []) c ∙ opener_last 0 (before ++ a ∷ []) b ∙ opener_last 0 before a in (
       record { short = omega arith; even = refl; is_known = refl; form = refl; long = refl; value = refl },
       (two_good _ l.layer, (type_good _, (point_good _ l.x l.y (ap (λ (z : ℕ). eqb z 8) o), (text_good _ l.text is.3 is.4, (end_good _, tt))))),
@@ -207,19 +210,19 @@ no_names : (t : List ℕ) (names : List (List ℕ)) (es : List Element) → is_s
 no_names t names [] = refl
 no_names t names (e ∷ es) = ap (λ (x : List Record). is_structure_name t x) (flat_map-cons (element_records names) e es) ∙ name_append t (element_records names e) (flat_map (element_records names) es) (no_name t names e) (no_names t names es)
 
-one_name : (t : List ℕ) (names : List (List ℕ)) (s : Structure) → IsText s.name → same t s.name ≡ false → is_structure_name t (structure_spelling names s) ≡ false
+one_name : (t : List ℕ) (names : List (List ℕ)) (s : Structure) → IsText s.name → same t s.name ≡ false → is_structure_name t (structure_records names s) ≡ false
 one_name t names s all e =
-    false_or (same t (trimmed (padded s.name))) (is_structure_name t (flat_map (element_records names) s.elements ++ rec 0x07 0 [] ∷ []))
+    false_or (same t (trimmed (padded s.name))) (is_structure_name t (flat_map (element_records names) s.elements ++ record_with 0x07 0 [] ∷ []))
     (ap (λ (x : List ℕ). same t x) (trimmed-padded s.name all) ∙ e)
-    (name_append t (flat_map (element_records names) s.elements) (rec 0x07 0 [] ∷ []) (no_names t names s.elements) refl)
+    (name_append t (flat_map (element_records names) s.elements) (record_with 0x07 0 [] ∷ []) (no_names t names s.elements) refl)
 
-structure_good : (names : List (List ℕ)) → AreNames names → (before : List Record) (s : Structure) → IsWritableStructure names s → is_structure_name s.name before ≡ false → AreGood before (structure_spelling names s)
+structure_good : (names : List (List ℕ)) → AreNames names → (before : List Record) (s : Structure) → IsWritableStructure names s → is_structure_name s.name before ≡ false → AreGood before (structure_records names s)
 structure_good names are before s is fresh =
-    let a = rec 0x05 2 (dates ++ dates) in let b = rec 0x06 6 (padded s.name) in (
+    let a = record_with 0x05 2 (dates) in let b = record_with 0x06 6 (padded s.name) in (
       record { short = omega arith; even = refl; is_known = refl; form = refl; long = refl; value = refl },
       (
         name_good (before ++ a ∷ []) s.name is.0 is.2 is.3 (name_append s.name before (a ∷ []) fresh refl),
-        good_append ((before ++ a ∷ []) ++ b ∷ []) (flat_map (element_records names) s.elements) (rec 0x07 0 [] ∷ [])
+        good_append ((before ++ a ∷ []) ++ b ∷ []) (flat_map (element_records names) s.elements) (record_with 0x07 0 [] ∷ [])
             (elements_good names are ((before ++ a ∷ []) ++ b ∷ []) s.elements is.1)
             (record { short = omega arith; even = refl; is_known = refl; form = refl; long = refl; value = refl }, tt),
       ),
@@ -230,19 +233,19 @@ Distinct [] = Unit {0}
 Distinct (x ∷ xs) = ((n : ℕ) → n < length xs → same (slice_index_or xs n []) x ≡ false) × Distinct xs
 
 structures_good : (names : List (List ℕ)) → AreNames names → (before : List Record) (ss : List Structure) → AllByRecursion (IsWritableStructure names) ss → Distinct (names_in ss)
-    → ((n : ℕ) → n < length (names_in ss) → is_structure_name (slice_index_or (names_in ss) n []) before ≡ false) → AreGood before (flat_map (structure_spelling names) ss)
+    → ((n : ℕ) → n < length (names_in ss) → is_structure_name (slice_index_or (names_in ss) n []) before ≡ false) → AreGood before (flat_map (structure_records names) ss)
 structures_good names are before [] all d fresh = tt
 structures_good names are before (s ∷ ss) all d fresh =
-    subst (λ (x : List Record). AreGood before x) (sym (flat_map-cons (structure_spelling names) s ss))
-    (good_append before (structure_spelling names s) (flat_map (structure_spelling names) ss)
+    subst (λ (x : List Record). AreGood before x) (sym (flat_map-cons (structure_records names) s ss))
+    (good_append before (structure_records names s) (flat_map (structure_records names) ss)
     (structure_good names are before s all.0 (fresh 0 (omega arith)))
-    (structures_good names are (before ++ structure_spelling names s) ss all.1 d.1
-    (λ n h. name_append (slice_index_or (names_in ss) n []) before (structure_spelling names s) (fresh (suc n) (omega arith)) (one_name (slice_index_or (names_in ss) n []) names s all.0.0 (d.0 n h)))))
+    (structures_good names are (before ++ structure_records names s) ss all.1 d.1
+    (λ n h. name_append (slice_index_or (names_in ss) n []) before (structure_records names s) (fresh (suc n) (omega arith)) (one_name (slice_index_or (names_in ss) n []) names s all.0.0 (d.0 n h)))))
 
 header : List Record
-header = rec 0x00 2 (be16 600) ∷ rec 0x01 2 (dates ++ dates) ∷ rec 0x02 6 (65 ∷ 81 ∷ 70 ∷ 80 ∷ []) ∷ rec 0x03 5 units ∷ []
+header = record_with 0x00 2 (two_bytes 600) ∷ record_with 0x01 2 (dates) ∷ record_with 0x02 6 (65 ∷ 81 ∷ 70 ∷ 80 ∷ []) ∷ record_with 0x03 5 units ∷ []
 
-header_good : AreGood [] (rec 0x00 2 (be16 600) ∷ rec 0x01 2 (dates ++ dates) ∷ rec 0x02 6 (65 ∷ 81 ∷ 70 ∷ 80 ∷ []) ∷ rec 0x03 5 units ∷ [])
+header_good : AreGood [] (record_with 0x00 2 (two_bytes 600) ∷ record_with 0x01 2 (dates) ∷ record_with 0x02 6 (65 ∷ 81 ∷ 70 ∷ 80 ∷ []) ∷ record_with 0x03 5 units ∷ [])
 header_good = (
   record { short = omega arith; even = refl; is_known = refl; form = refl; long = refl; value = refl },
   (
@@ -271,8 +274,8 @@ names_are names (s ∷ ss) all = let r = names_are names ss all.1 in record { te
 
 pub written_good : (ss : List Structure) → AllByRecursion (IsWritableStructure (names_in ss)) ss → Distinct (names_in ss) → AreGood [] (records_of ss)
 written_good ss all d =
-    let h = rec 0x00 2 (be16 600) ∷ rec 0x01 2 (dates ++ dates) ∷ rec 0x02 6 (65 ∷ 81 ∷ 70 ∷ 80 ∷ []) ∷ rec 0x03 5 units ∷ [] in
-    good_append [] h (flat_map (structure_spelling (names_in ss)) ss ++ rec 0x04 0 [] ∷ []) header_good
-    (good_append h (flat_map (structure_spelling (names_in ss)) ss) (rec 0x04 0 [] ∷ [])
+    let h = record_with 0x00 2 (two_bytes 600) ∷ record_with 0x01 2 (dates) ∷ record_with 0x02 6 (65 ∷ 81 ∷ 70 ∷ 80 ∷ []) ∷ record_with 0x03 5 units ∷ [] in
+    good_append [] h (flat_map (structure_records (names_in ss)) ss ++ record_with 0x04 0 [] ∷ []) header_good
+    (good_append h (flat_map (structure_records (names_in ss)) ss) (record_with 0x04 0 [] ∷ [])
     (structures_good (names_in ss) (names_are (names_in ss) ss all) h ss all d (λ n l. refl))
     (record { short = omega arith; even = refl; is_known = refl; form = refl; long = refl; value = refl }, tt))

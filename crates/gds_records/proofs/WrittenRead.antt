@@ -15,8 +15,12 @@ use Rattle.geom.specs.declared.layout.Element.{Element}
 use Rattle.geom.specs.declared.layout.Element.TheVariants.{Box, Place, Text}
 use Rattle.geom.specs.declared.layout.Structure.{Structure}
 use Rattle.gds_records.specs.Language.{Language, One, Then, Many, Speaks, none, more}
-use Rattle.gds_records.specs.Stream.{Record, rec, kinds, ◌>>◌, maybe, text, element, structure, stream, parts, field, from, number, coordinate, trimmed, lesser, greater, box_of, place_of, element_of, structure_of, structure_records, names_of, structures_of}
-use Rattle.gds_records.specs.Writer.{be16, be32, padded, corners, element_records, dates, structure_spelling, names_in, records_of, IsText, IsBox, IsWritableElement, IsWritableStructure}
+use Rattle.gds_records.specs.Records.{Record, record_with, kinds, number, trimmed}
+use Rattle.gds_records.specs.Grammar.{◌>>◌, maybe, text, element, structure, stream}
+use Rattle.gds_records.specs.Drawing.{parts, field, from, coordinate, lesser, greater, box_of, place_of, element_of, structure_of, structure_parts, names_of, structures_of}
+use Rattle.geom.specs.Writable.{names_in}
+use Rattle.gds_records.specs.Writing.{two_bytes, four_bytes, padded, corners, element_records, dates, structure_records, records_of}
+use Rattle.gds_records.proofs.Premises.{IsText, IsBox, IsWritableElement, IsWritableStructure}
 use Rattle.gds_records.proofs.Derive.{all_sound, goes_on}
 
 -- ---- fields
@@ -33,10 +37,10 @@ pad_is_nothing false = refl
 pub trimmed-padded : (text : List ℕ) → IsText text → trimmed (padded text) ≡ text
 trimmed-padded text all = trimmed-front text (cond (eqb (length text % 2) 0) [] (0 ∷ [])) all (pad_is_nothing (eqb (length text % 2) 0))
 
-pub number_back : (n : ℕ) → n < 2 ^ 16 → number (be16 n) ≡ n
+pub number_back : (n : ℕ) → n < 2 ^ 16 → number (two_bytes n) ≡ n
 number_back n h = from_be_bytes-to_be_bytes_2 n h
 
-pub signed_back : (z : ℤ) → FitsSigned w32 z → cast_signed w32 (from_be_bytes w32 (be32 z)) ≡ z
+pub signed_back : (z : ℤ) → FitsSigned w32 z → cast_signed w32 (from_be_bytes w32 (four_bytes z)) ≡ z
 signed_back z fits = ap (λ (n : ℕ). cast_signed w32 n) (from_be_bytes-to_be_bytes_4 (cast_unsigned w32 z) (omega (arith, Fits-of_z fits))) ∙ to_z-of_z w32 z fits
 
 lesser_is : (a b : ℤ) (t : Bool) → int_le a b ≡ t → t ≡ true → lesser a b ≡ a
@@ -91,7 +95,7 @@ module _ (names : List (List ℕ)) (texts : AllByRecursion IsText names) (distin
 -- ---- parts
 
 end : List Record
-end = rec 0x07 0 [] ∷ []
+end = record_with 0x07 0 [] ∷ []
 
 parts_one : (names : List (List ℕ)) (e : Element) (rest : List Record) → parts 0x11 [] (element_records names e ++ rest) ≡ element_records names e ∷ parts 0x11 [] rest
 parts_one names (Box s) rest = refl
@@ -101,10 +105,10 @@ parts_one names (Text l) rest = refl
 pub flat_more : (names : List (List ℕ)) (e : Element) (es : List Element) (rest : List Record) → flat_map (element_records names) (e ∷ es) ++ rest ≡ element_records names e ++ (flat_map (element_records names) es ++ rest)
 flat_more names e es rest = ap (λ (x : List Record). x ++ rest) (flat_map-cons (element_records names) e es) ∙ append_assoc (element_records names e) (flat_map (element_records names) es) rest
 
-parts_elements : (names : List (List ℕ)) (es : List Element) → parts 0x11 [] (flat_map (element_records names) es ++ rec 0x07 0 [] ∷ []) ≡ map (element_records names) es
+parts_elements : (names : List (List ℕ)) (es : List Element) → parts 0x11 [] (flat_map (element_records names) es ++ record_with 0x07 0 [] ∷ []) ≡ map (element_records names) es
 parts_elements names [] = refl
 parts_elements names (e ∷ es) =
-    ap (λ (x : List Record). parts 0x11 [] x) (flat_more names e es (rec 0x07 0 [] ∷ [])) ∙ parts_one names e (flat_map (element_records names) es ++ rec 0x07 0 [] ∷ [])
+    ap (λ (x : List Record). parts 0x11 [] x) (flat_more names e es (record_with 0x07 0 [] ∷ [])) ∙ parts_one names e (flat_map (element_records names) es ++ record_with 0x07 0 [] ∷ [])
     ∙ ap (λ (x : List (List Record)). element_records names e ∷ x) (parts_elements names es)
 
 scan_one : (names : List (List ℕ)) (e : Element) (front rest : List Record) → parts 0x07 front (element_records names e ++ rest) ≡ parts 0x07 (front ++ element_records names e) rest
@@ -112,40 +116,40 @@ scan_one names (Box s) front rest = ap (λ (x : List Record). parts 0x07 x rest)
 scan_one names (Place n x y) front rest = ap (λ (x : List Record). parts 0x07 x rest) (simp append_assoc)
 scan_one names (Text l) front rest = ap (λ (x : List Record). parts 0x07 x rest) (simp append_assoc)
 
-scan : (names : List (List ℕ)) (es : List Element) (front rest : List Record) → parts 0x07 front (flat_map (element_records names) es ++ (rec 0x07 0 [] ∷ rest)) ≡ (front ++ (flat_map (element_records names) es ++ rec 0x07 0 [] ∷ [])) ∷ parts 0x07 [] rest
+scan : (names : List (List ℕ)) (es : List Element) (front rest : List Record) → parts 0x07 front (flat_map (element_records names) es ++ (record_with 0x07 0 [] ∷ rest)) ≡ (front ++ (flat_map (element_records names) es ++ record_with 0x07 0 [] ∷ [])) ∷ parts 0x07 [] rest
 scan names [] front rest = refl
 scan names (e ∷ es) front rest =
-    ap (λ (x : List Record). parts 0x07 front x) (flat_more names e es (rec 0x07 0 [] ∷ rest)) ∙ scan_one names e front (flat_map (element_records names) es ++ (rec 0x07 0 [] ∷ rest))
+    ap (λ (x : List Record). parts 0x07 front x) (flat_more names e es (record_with 0x07 0 [] ∷ rest)) ∙ scan_one names e front (flat_map (element_records names) es ++ (record_with 0x07 0 [] ∷ rest))
     ∙ scan names es (front ++ element_records names e) rest
-    ∙ ap (λ (x : List Record). x ∷ parts 0x07 [] rest) (append_assoc front (element_records names e) (flat_map (element_records names) es ++ rec 0x07 0 [] ∷ []) ∙ ap (λ (x : List Record). front ++ x) (sym (flat_more names e es (rec 0x07 0 [] ∷ []))))
+    ∙ ap (λ (x : List Record). x ∷ parts 0x07 [] rest) (append_assoc front (element_records names e) (flat_map (element_records names) es ++ record_with 0x07 0 [] ∷ []) ∙ ap (λ (x : List Record). front ++ x) (sym (flat_more names e es (record_with 0x07 0 [] ∷ []))))
 
-pub structure_more : (names : List (List ℕ)) (s : Structure) (ss : List Structure) (rest : List Record) → flat_map (structure_spelling names) (s ∷ ss) ++ rest ≡ structure_spelling names s ++ (flat_map (structure_spelling names) ss ++ rest)
-structure_more names s ss rest = ap (λ (x : List Record). x ++ rest) (flat_map-cons (structure_spelling names) s ss) ∙ append_assoc (structure_spelling names s) (flat_map (structure_spelling names) ss) rest
+pub structure_more : (names : List (List ℕ)) (s : Structure) (ss : List Structure) (rest : List Record) → flat_map (structure_records names) (s ∷ ss) ++ rest ≡ structure_records names s ++ (flat_map (structure_records names) ss ++ rest)
+structure_more names s ss rest = ap (λ (x : List Record). x ++ rest) (flat_map-cons (structure_records names) s ss) ∙ append_assoc (structure_records names s) (flat_map (structure_records names) ss) rest
 
-parts_structure : (names : List (List ℕ)) (s : Structure) (rest : List Record) → parts 0x07 [] (structure_spelling names s ++ rest) ≡ structure_spelling names s ∷ parts 0x07 [] rest
+parts_structure : (names : List (List ℕ)) (s : Structure) (rest : List Record) → parts 0x07 [] (structure_records names s ++ rest) ≡ structure_records names s ∷ parts 0x07 [] rest
 parts_structure names s rest =
-    ap (λ (x : List Record). parts 0x07 (rec 0x05 2 (dates ++ dates) ∷ rec 0x06 6 (padded s.name) ∷ []) x) (append_assoc (flat_map (element_records names) s.elements) (rec 0x07 0 [] ∷ []) rest)
-    ∙ scan names s.elements (rec 0x05 2 (dates ++ dates) ∷ rec 0x06 6 (padded s.name) ∷ []) rest
+    ap (λ (x : List Record). parts 0x07 (record_with 0x05 2 (dates) ∷ record_with 0x06 6 (padded s.name) ∷ []) x) (append_assoc (flat_map (element_records names) s.elements) (record_with 0x07 0 [] ∷ []) rest)
+    ∙ scan names s.elements (record_with 0x05 2 (dates) ∷ record_with 0x06 6 (padded s.name) ∷ []) rest
 
 last : List Record
-last = rec 0x04 0 [] ∷ []
+last = record_with 0x04 0 [] ∷ []
 
-parts_structures : (names : List (List ℕ)) (ss : List Structure) → parts 0x07 [] (flat_map (structure_spelling names) ss ++ rec 0x04 0 [] ∷ []) ≡ map (structure_spelling names) ss
+parts_structures : (names : List (List ℕ)) (ss : List Structure) → parts 0x07 [] (flat_map (structure_records names) ss ++ record_with 0x04 0 [] ∷ []) ≡ map (structure_records names) ss
 parts_structures names [] = refl
 parts_structures names (s ∷ ss) =
-    ap (λ (x : List Record). parts 0x07 [] x) (structure_more names s ss (rec 0x04 0 [] ∷ [])) ∙ parts_structure names s (flat_map (structure_spelling names) ss ++ rec 0x04 0 [] ∷ [])
-    ∙ ap (λ (x : List (List Record)). structure_spelling names s ∷ x) (parts_structures names ss)
+    ap (λ (x : List Record). parts 0x07 [] x) (structure_more names s ss (record_with 0x04 0 [] ∷ [])) ∙ parts_structure names s (flat_map (structure_records names) ss ++ record_with 0x04 0 [] ∷ [])
+    ∙ ap (λ (x : List (List Record)). structure_records names s ∷ x) (parts_structures names ss)
 
-from_structures : (names : List (List ℕ)) (ss : List Structure) → parts 0x07 [] (from 0x05 (flat_map (structure_spelling names) ss ++ rec 0x04 0 [] ∷ [])) ≡ map (structure_spelling names) ss
+from_structures : (names : List (List ℕ)) (ss : List Structure) → parts 0x07 [] (from 0x05 (flat_map (structure_records names) ss ++ record_with 0x04 0 [] ∷ [])) ≡ map (structure_records names) ss
 from_structures names [] = refl
 from_structures names (s ∷ ss) =
-    ap (λ (x : List Record). parts 0x07 [] (from 0x05 x)) (structure_more names s ss (rec 0x04 0 [] ∷ []))
-    ∙ ap (λ (x : List Record). parts 0x07 [] x) (sym (structure_more names s ss (rec 0x04 0 [] ∷ []))) ∙ parts_structures names (s ∷ ss)
+    ap (λ (x : List Record). parts 0x07 [] (from 0x05 x)) (structure_more names s ss (record_with 0x04 0 [] ∷ []))
+    ∙ ap (λ (x : List Record). parts 0x07 [] x) (sym (structure_more names s ss (record_with 0x04 0 [] ∷ []))) ∙ parts_structures names (s ∷ ss)
 
-records_back : (ss : List Structure) → structure_records (records_of ss) ≡ map (structure_spelling (names_in ss)) ss
+records_back : (ss : List Structure) → structure_parts (records_of ss) ≡ map (structure_records (names_in ss)) ss
 records_back ss = from_structures (names_in ss) ss
 
-names_read : (names : List (List ℕ)) (ss : List Structure) → AllByRecursion (IsWritableStructure names) ss → map (λ part. trimmed (field 0x06 part)) (map (structure_spelling names) ss) ≡ names_in ss
+names_read : (names : List (List ℕ)) (ss : List Structure) → AllByRecursion (IsWritableStructure names) ss → map (λ part. trimmed (field 0x06 part)) (map (structure_records names) ss) ≡ names_in ss
 names_read names [] all = refl
 names_read names (s ∷ ss) all = rw (trimmed-padded s.name all.0.0, names_read names ss all.1) refl
 
@@ -157,17 +161,17 @@ made_structure : (n : List ℕ) (es : List Element) (s : Structure) → n ≡ s.
 made_structure n es s a b = rw (a, b) refl
 
 module _ (names : List (List ℕ)) (texts : AllByRecursion IsText names) (distinct : (n : ℕ) → n < length names → place_of (slice_index_or names n []) names ≡ n) where
-  structure_back : (s : Structure) → IsWritableStructure names s → structure_of names (structure_spelling names s) ≡ s
+  structure_back : (s : Structure) → IsWritableStructure names s → structure_of names (structure_records names s) ≡ s
   structure_back s is = made_structure _ _ s (trimmed-padded s.name is.0) (ap (λ (x : List (List Record)). map (element_of names) x) (parts_elements names s.elements) ∙ elements_back names texts distinct s.elements is.1)
 
-  structures_back : (ss : List Structure) → AllByRecursion (IsWritableStructure names) ss → map (structure_of names) (map (structure_spelling names) ss) ≡ ss
+  structures_back : (ss : List Structure) → AllByRecursion (IsWritableStructure names) ss → map (structure_of names) (map (structure_records names) ss) ≡ ss
   structures_back [] all = refl
   structures_back (s ∷ ss) all = rw (structure_back s all.0, structures_back ss all.1) refl
 
 pub says_back : (ss : List Structure) → AllByRecursion (IsWritableStructure (names_in ss)) ss → ((n : ℕ) → n < length (names_in ss) → place_of (slice_index_or (names_in ss) n []) (names_in ss) ≡ n) → structures_of (records_of ss) ≡ ss
 says_back ss all distinct =
     let names : names_of (records_of ss) ≡ names_in ss = ap (λ (x : List (List Record)). map (λ part. trimmed (field 0x06 part)) x) (records_back ss) ∙ names_read (names_in ss) ss all in
-    ap (λ (x : List (List ℕ)). map (structure_of x) (structure_records (records_of ss))) names ∙ ap (λ (x : List (List Record)). map (structure_of (names_in ss)) x) (records_back ss)
+    ap (λ (x : List (List ℕ)). map (structure_of x) (structure_parts (records_of ss))) names ∙ ap (λ (x : List (List Record)). map (structure_of (names_in ss)) x) (records_back ss)
     ∙ structures_back (names_in ss) (all_texts (names_in ss) ss all) distinct ss all
 
 -- ---- the grammar
@@ -191,10 +195,10 @@ many_more a f each (x ∷ xs) =
 abbrev body : Language
 body = Many element >> One 0x07
 
-structure_speaks : (names : List (List ℕ)) (s : Structure) → Speaks structure (kinds (structure_spelling names s))
+structure_speaks : (names : List (List ℕ)) (s : Structure) → Speaks structure (kinds (structure_records names s))
 structure_speaks names s =
-    let rest = kinds (flat_map (element_records names) s.elements ++ rec 0x07 0 [] ∷ []) in
-    let b : Speaks body rest = (kinds (flat_map (element_records names) s.elements), 0x07 ∷ [], map-append (λ r. r.kind) (flat_map (element_records names) s.elements) (rec 0x07 0 [] ∷ []), many_more element (element_records names) (element_speaks names) s.elements, refl) in
+    let rest = kinds (flat_map (element_records names) s.elements ++ record_with 0x07 0 [] ∷ []) in
+    let b : Speaks body rest = (kinds (flat_map (element_records names) s.elements), 0x07 ∷ [], map-append (λ r. r.kind) (flat_map (element_records names) s.elements) (record_with 0x07 0 [] ∷ []), many_more element (element_records names) (element_speaks names) s.elements, refl) in
     then_one 0x05 (One 0x06 >> body) (0x06 ∷ rest) (then_one 0x06 body rest b)
 
 abbrev after_units : Language
@@ -202,8 +206,8 @@ after_units = Many structure >> One 0x04
 
 pub stream_speaks : (ss : List Structure) → Speaks stream (kinds (records_of ss))
 stream_speaks ss =
-    let rest = kinds (flat_map (structure_spelling (names_in ss)) ss ++ rec 0x04 0 [] ∷ []) in
-    let b : Speaks after_units rest = (kinds (flat_map (structure_spelling (names_in ss)) ss), 0x04 ∷ [], map-append (λ r. r.kind) (flat_map (structure_spelling (names_in ss)) ss) (rec 0x04 0 [] ∷ []), many_more structure (structure_spelling (names_in ss)) (structure_speaks (names_in ss)) ss, refl) in
+    let rest = kinds (flat_map (structure_records (names_in ss)) ss ++ record_with 0x04 0 [] ∷ []) in
+    let b : Speaks after_units rest = (kinds (flat_map (structure_records (names_in ss)) ss), 0x04 ∷ [], map-append (λ r. r.kind) (flat_map (structure_records (names_in ss)) ss) (record_with 0x04 0 [] ∷ []), many_more structure (structure_records (names_in ss)) (structure_speaks (names_in ss)) ss, refl) in
     goes_on (0x00 ∷ 0x01 ∷ 0x02 ∷ 0x03 ∷ []) rest stream b
 
 pub names_length : (ss : List Structure) → length (names_in ss) ≡ length ss

@@ -3,10 +3,12 @@ use Rattle.std.proofs.Common.{◌≡◌, ℕ, ◌<◌, List, [], length, refl, s
 use Rattle.std.proofs.lemmas.List.{append-nil}
 use Rattle.geom.specs.declared.layout.Structure.{Structure}
 use Rattle.geom.specs.declared.layout.Layout.{Layout}
-use Rattle.gds_records.specs.Stream.{structures_of}
+use Rattle.gds_records.specs.Drawing.{structures_of}
 use Rattle.gds_records.specs.Whole.{top_of}
-use Rattle.gds_records.specs.Layouts.{IsStream}
-use Rattle.gds_records.specs.Writer.{records_of, bytes_of, names_in, IsWritable}
+use Rattle.gds_records.specs.Stream.{IsStream}
+use Rattle.geom.specs.Writable.{names_in}
+use Rattle.gds_records.specs.Writing.{records_of, bytes_of}
+use Rattle.gds_records.proofs.Premises.{IsOutlined}
 use Rattle.gds_records.proofs.WrittenRead.{says_back, stream_speaks, names_length}
 use Rattle.gds_records.proofs.Written.{written_good, distinct_so}
 use Rattle.gds_records.proofs.Conditions.{conditions_so, top_so}
@@ -14,7 +16,8 @@ use Rattle.gds_records.proofs.Conditions.{conditions_so, top_so}
 made : (l : Layout) (ss : List Structure) (t : ℕ) → l.structures ≡ ss → l.top ≡ t → l ≡ record { structures = ss; top = t }
 made l ss t a b = rw (← a, ← b) refl
 
-pub written_is_stream : (layout : Layout) → IsWritable layout → IsStream (bytes_of layout) layout
+pub written_is_stream : (layout : Layout) → IsOutlined layout → IsStream (bytes_of layout) layout
+unfolding bytes_of
 written_is_stream layout is =
     let ss = layout.structures in
     let d : (n : ℕ) → n < length (names_in layout.structures) → _ = λ n h. is.distinct n (omega (arith, names_length layout.structures)) in

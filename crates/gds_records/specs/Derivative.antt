@@ -1,7 +1,8 @@
--- What may follow a kind.
+-- What may follow a record type in a language: its derivative (Brzozowski, Derivatives of Regular Expressions, 1964).
 use Rattle.std.specs.Prelude.{ℕ, List, [], ◌∷◌, Bool, true, false, eqb, ◌&&◌, ◌||◌}
 use Rattle.gds_records.specs.Language.{Language, Nothing, Empty, One, Then, Either, Many}
 
+-- whether the empty word is among the words
 abbrev pub speaks_nothing : Language → Bool
 speaks_nothing Nothing = false
 speaks_nothing Empty = true
@@ -19,6 +20,7 @@ then (Then a c) b = Then (Then a c) b
 then (Either a c) b = Then (Either a c) b
 then (Many a) b = Then (Many a) b
 
+-- a or b, where a has words, and where b is nothing a alone
 abbrev pub join : Language → Language → Language
 join a Nothing = a
 join a Empty = Either a Empty
@@ -27,6 +29,7 @@ join a (Then b c) = Either a (Then b c)
 join a (Either b c) = Either a (Either b c)
 join a (Many b) = Either a (Many b)
 
+-- a or b, where nothing adds nothing
 abbrev pub either : Language → Language → Language
 either Nothing b = b
 either Empty b = join Empty b
@@ -35,6 +38,7 @@ either (Then a c) b = join (Then a c) b
 either (Either a c) b = join (Either a c) b
 either (Many a) b = join (Many a) b
 
+-- the words that follow this kind
 abbrev pub after : ℕ → Language → Language
 after k Nothing = Nothing
 after k Empty = Nothing

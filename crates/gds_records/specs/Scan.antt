@@ -1,19 +1,22 @@
--- The first fault, record by record.
-use Rattle.std.specs.Prelude.{ℕ, zero, suc, ◌<◌, List, [], ◌∷◌, ◌++◌, Bool, true, false, eqb, ◌&&◌, ◌||◌, drop, length, slice_index, Option, Some, None}
+-- The first fault, found record by record.
+use Rattle.std.specs.Prelude.{ℕ, zero, suc, ◌<◌, List, [], ◌∷◌, ◌++◌, Bool, true, false, ◌==◌, ◌&&◌, ◌||◌, drop, length, slice_index, Option, Some, None}
 use Rattle.std.specs.List.{flat_map}
 use Rattle.geom.specs.declared.layout.Layout.{Layout}
 use Rattle.gds_records.specs.declared.fault.StreamKind.{StreamKind}
 use Rattle.gds_records.specs.declared.fault.StreamKind.TheVariants.{Order}
 use Rattle.gds_records.specs.Language.{Language, Nothing, Empty, One, Then, Either, Many}
 use Rattle.gds_records.specs.Derivative.{after, after_all}
-use Rattle.gds_records.specs.Stream.{Record, spelled, kinds, stream}
+use Rattle.gds_records.specs.Codes.{ENDLIB}
+use Rattle.gds_records.specs.Records.{Record, spelled, kinds}
+use Rattle.gds_records.specs.Grammar.{stream}
 use Rattle.gds_records.specs.Values.{value_fault}
-use Rattle.gds_records.specs.Layouts.{layout_of}
+use Rattle.gds_records.specs.Stream.{layout_of}
 use Rattle.gds_records.specs.Faults.{own_fault, kind_of, length_of, here_record, end_fault}
 
 abbrev pub IsBytes : List ℕ → Type 0
 IsBytes bytes = (i : ℕ) → slice_index bytes i < 256
 
+-- whether a language has a word
 abbrev pub alive : Language → Bool
 alive Nothing = false
 alive Empty = true
@@ -43,7 +46,7 @@ abbrev pub scan : ℕ → List Record → List ℕ → Scanned
 scan zero before b = Unfinished
 scan (suc n) before b = elim (fault_here before b) [
   | Some k ↦ Faulty (length (flat_map spelled before)) k
-  | None ↦ elim (eqb (kind_of b) 4) [
+  | None ↦ elim (kind_of b == ENDLIB) [
     | true ↦ Whole (before ++ here_record b ∷ []) (drop (length_of b) b)
     | false ↦ scan n (before ++ here_record b ∷ []) (drop (length_of b) b)
   ]

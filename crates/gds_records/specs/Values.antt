@@ -1,37 +1,43 @@
--- The values that a record must have, after the records before it.
+-- The values that a record must have, after the records before it (GDSII Stream Format manual; that a database unit is one
+-- nanometre, that boundaries are rectangles and that references are not turned is this project's own profile).
 use Rattle.std.specs.Prelude.{ℕ, ◌+◌, ◌*◌, ◌==◌, ◌&&◌, ◌||◌, not, nat_lt, List, [], ◌∷◌, Bool, true, false, length, take, drop, slice_index, Option, Some, None}
 use Rattle.std.specs.Int.{w32, from_be_bytes}
 use Rattle.gds_records.specs.declared.fault.StreamKind.{StreamKind}
 use Rattle.gds_records.specs.declared.fault.StreamKind.TheVariants.{Value, Unsupported, NotRectangle}
-use Rattle.gds_records.specs.Stream.{Record, trimmed, same}
+use Rattle.gds_records.specs.Codes.{LIBNAME, UNITS, STRNAME, BOUNDARY, SREF, TEXT, XY, SNAME, STRING, STRANS}
+use Rattle.gds_records.specs.Records.{Record, trimmed, same}
 
 -- BOUNDARY, SREF or TEXT, whichever came last
 abbrev pub opener : ℕ → List Record → ℕ
 opener last [] = last
-opener last (r ∷ rs) = elim (r.kind == 0x08 || r.kind == 0x0A || r.kind == 0x0C) [ true ↦ opener r.kind rs | false ↦ opener last rs ]
+opener last (r ∷ rs) = elim (r.kind == BOUNDARY || r.kind == SREF || r.kind == TEXT) [ true ↦ opener r.kind rs | false ↦ opener last rs ]
 
+-- a structure before has this name
 abbrev pub is_structure_name : List ℕ → List Record → Bool
 is_structure_name name [] = false
-is_structure_name name (r ∷ rs) = r.kind == 0x06 && same name (trimmed r.content) || is_structure_name name rs
+is_structure_name name (r ∷ rs) = r.kind == STRNAME && same name (trimmed r.content) || is_structure_name name rs
 
 abbrev pub holds_zero : List ℕ → Bool
 holds_zero [] = false
 holds_zero (b ∷ bs) = b == 0 || holds_zero bs
 
+-- a text holds no zero byte before its last other byte
 abbrev pub is_text : List ℕ → Bool
 is_text content = not (holds_zero (trimmed content))
 
 abbrev pub is_name : List ℕ → Bool
 is_name content = not (length (trimmed content) == 0) && is_text content
 
+-- the number in these bytes, without sign
 abbrev pub value_of : ℕ → List ℕ → ℕ
 value_of so_far [] = so_far
 value_of so_far (b ∷ bs) = value_of (so_far * 256 + b) bs
 
--- one nanometre
+-- the second real of UNITS is one nanometre in metres, with room for rounding
 abbrev pub is_nanometre : List ℕ → Bool
 is_nanometre content = slice_index content 8 == 0x39 && not (nat_lt (value_of 0 (drop 9 content)) 0x44B82FA0000000) && nat_lt (value_of 0 (drop 9 content)) 0x44B82FA1000000
 
+-- coordinate i of an XY, as its bits
 abbrev pub at : List ℕ → ℕ → ℕ
 at xy i = from_be_bytes w32 (take 4 (drop (4 * i) xy))
 
@@ -42,34 +48,35 @@ one_x xy i j = at xy (2 * i) == at xy (2 * j)
 abbrev pub one_y : List ℕ → ℕ → ℕ → Bool
 one_y xy i j = at xy (2 * i + 1) == at xy (2 * j + 1)
 
+-- five points, the last the first; the first and the third differ in x and in y; and the four go round along y and x in turn
 abbrev pub is_rectangle : List ℕ → Bool
 is_rectangle xy =
     length xy == 40 && one_x xy 0 4 && one_y xy 0 4 && not (one_x xy 0 2) && not (one_y xy 0 2)
     && (one_y xy 0 1 && one_x xy 1 2 && one_y xy 2 3 && one_x xy 3 0 || one_x xy 0 1 && one_y xy 1 2 && one_x xy 2 3 && one_y xy 3 0)
 
--- whether a structure already has the name is said apart
+-- the values of records but a reference's STRANS and a boundary's XY; a structure's name may not be taken
 abbrev pub has_value : Bool → Record → Bool
 has_value taken r =
-    elim (r.kind == 0x02 || r.kind == 0x19) [
+    elim (r.kind == LIBNAME || r.kind == STRING) [
       | true ↦ is_text r.content
-      | false ↦ elim (r.kind == 0x03) [
+      | false ↦ elim (r.kind == UNITS) [
         | true ↦ is_nanometre r.content
-        | false ↦ elim (r.kind == 0x06) [
+        | false ↦ elim (r.kind == STRNAME) [
           | true ↦ is_name r.content && not taken
-          | false ↦ elim (r.kind == 0x12) [
+          | false ↦ elim (r.kind == SNAME) [
             | true ↦ is_name r.content
-            | false ↦ elim (r.kind == 0x10) [ true ↦ length r.content == 8 | false ↦ true ]
+            | false ↦ elim (r.kind == XY) [ true ↦ length r.content == 8 | false ↦ true ]
           ]
         ]
       ]
     ]
 
--- the first of the last three steps that applies
+-- what is wrong with a record's value in an element that this record opened
 abbrev pub value_fault_in : ℕ → Bool → Record → Option StreamKind
 value_fault_in element taken r =
-    elim (r.kind == 0x1A && element == 0x0A) [
+    elim (r.kind == STRANS && element == SREF) [
       | true ↦ elim (value_of 0 r.content == 0) [ true ↦ None | false ↦ Some Unsupported ]
-      | false ↦ elim (r.kind == 0x10 && element == 0x08) [
+      | false ↦ elim (r.kind == XY && element == BOUNDARY) [
         | true ↦ elim (is_rectangle r.content) [ true ↦ None | false ↦ Some NotRectangle ]
         | false ↦ elim (has_value taken r) [ true ↦ None | false ↦ Some Value ]
       ]

@@ -1,8 +1,11 @@
--- The conditions on the whole stream.
+-- The conditions on the whole stream: each reference names a structure, what is referenced references nothing, and one structure,
+-- the top, is referenced by none (this project's own profile of the GDSII Stream Format).
 use Rattle.std.specs.Prelude.{ℕ, suc, ◌+◌, ◌==◌, ◌&&◌, ◌||◌, not, List, [], ◌∷◌, ◌++◌, Bool, true, false, length, Option, Some, None}
 use Rattle.gds_records.specs.declared.fault.StreamKind.{StreamKind}
 use Rattle.gds_records.specs.declared.fault.StreamKind.TheVariants.{Unsupported, UnknownName, NoTop, SeveralTops}
-use Rattle.gds_records.specs.Stream.{Record, trimmed, field, same}
+use Rattle.gds_records.specs.Codes.{ENDLIB, BGNSTR, STRNAME, ENDSTR, SNAME}
+use Rattle.gds_records.specs.Records.{Record, trimmed, same}
+use Rattle.gds_records.specs.Drawing.{field}
 
 -- a name and the place of its SNAME record
 pub record Use : Type 0 where
@@ -15,28 +18,29 @@ pub record Outline : Type 0 where
   pub name : List ℕ
   pub uses : List Use
 
--- the references up to ENDSTR
+-- the references up to ENDSTR, in records that begin at place o
 abbrev pub uses_from : ℕ → List Record → List Use
 uses_from o [] = []
-uses_from o (r ∷ rs) = elim (r.kind == 0x07) [
+uses_from o (r ∷ rs) = elim (r.kind == ENDSTR) [
   | true ↦ []
-  | false ↦ elim (r.kind == 0x12) [
+  | false ↦ elim (r.kind == SNAME) [
     | true ↦ record { place = o; name = trimmed r.content } ∷ uses_from (o + (4 + length r.content)) rs
     | false ↦ uses_from (o + (4 + length r.content)) rs
   ]
 ]
 
+-- the structures in records that begin at place o
 abbrev pub outlines : ℕ → List Record → List Outline
 outlines o [] = []
-outlines o (r ∷ rs) = elim (r.kind == 0x05) [
-  | true ↦ record { place = o; name = trimmed (field 0x06 rs); uses = uses_from (o + (4 + length r.content)) rs } ∷ outlines (o + (4 + length r.content)) rs
+outlines o (r ∷ rs) = elim (r.kind == BGNSTR) [
+  | true ↦ record { place = o; name = trimmed (field STRNAME rs); uses = uses_from (o + (4 + length r.content)) rs } ∷ outlines (o + (4 + length r.content)) rs
   | false ↦ outlines (o + (4 + length r.content)) rs
 ]
 
 -- the place of ENDLIB
 abbrev pub last_place : ℕ → List Record → ℕ
 last_place o [] = o
-last_place o (r ∷ rs) = elim (r.kind == 0x04) [ true ↦ o | false ↦ last_place (o + (4 + length r.content)) rs ]
+last_place o (r ∷ rs) = elim (r.kind == ENDLIB) [ true ↦ o | false ↦ last_place (o + (4 + length r.content)) rs ]
 
 abbrev pub is_defined : List ℕ → List Outline → Bool
 is_defined name [] = false
@@ -50,10 +54,12 @@ abbrev pub all_uses : List Outline → List Use
 all_uses [] = []
 all_uses (s ∷ ss) = s.uses ++ all_uses ss
 
+-- the place of the first reference that names no structure
 abbrev pub unknown : List Use → List Outline → Option ℕ
 unknown [] ss = None
 unknown (u ∷ us) ss = elim (is_defined u.name ss) [ true ↦ unknown us ss | false ↦ Some u.place ]
 
+-- the place of the first structure that is referenced and references
 abbrev pub deep : List Use → List Outline → Option ℕ
 deep us [] = None
 deep us (s ∷ ss) = elim (is_used s.name us && not (length s.uses == 0)) [ true ↦ Some s.place | false ↦ deep us ss ]
@@ -67,6 +73,7 @@ abbrev pub top_in : List (ℕ × ℕ) → ℕ
 top_in [] = 0
 top_in (t ∷ ts) = t.0
 
+-- o is the place of ENDLIB
 abbrev pub top_fault : ℕ → List (ℕ × ℕ) → Option (ℕ × StreamKind)
 top_fault o [] = Some (o, NoTop)
 top_fault o (t ∷ []) = None
@@ -81,8 +88,10 @@ outlines_fault o us ss = elim (unknown us ss) [
   ]
 ]
 
+-- the first fault of the whole, in the order of the conditions
 abbrev pub whole_fault : List Record → Option (ℕ × StreamKind)
 whole_fault rs = outlines_fault (last_place 0 rs) (all_uses (outlines 0 rs)) (outlines 0 rs)
 
+-- the number of the first structure that none references
 abbrev pub top_of : List Record → ℕ
 top_of rs = top_in (tops 0 (all_uses (outlines 0 rs)) (outlines 0 rs))

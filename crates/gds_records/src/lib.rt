@@ -5,4 +5,7 @@ mod fault;
 mod laws;
 
 pub use fault::StreamKind;
-pub use laws::{fault_is_found, found_is_fault, no_fault_is_stream, one_of_both, steps_tell_scan, stream_is_found, tree_is_writable, written_is_read};
+pub use laws::{
+    fault_is_found, found_is_fault, no_fault_is_stream, one_layout, one_of_both, steps_tell_scan,
+    stream_is_found, written_is_read,
+};

@@ -1,0 +1,40 @@
+-- The grammar of streams, over record types (GDSII Stream Format manual, the syntax of a stream; here for libraries of
+-- boundaries, references and texts).
+use Rattle.gds_records.specs.Language.{Language, Empty, One, Then, Either, Many}
+use Rattle.gds_records.specs.Codes.{HEADER, BGNLIB, LIBNAME, UNITS, ENDLIB, BGNSTR, STRNAME, ENDSTR, BOUNDARY, SREF, TEXT, LAYER, DATATYPE, WIDTH, XY, ENDEL, SNAME, TEXTTYPE, PRESENTATION, STRING, STRANS, MAG, ANGLE, REFLIBS, FONTS, PATHTYPE, GENERATIONS, ATTRTABLE, ELFLAGS, PROPATTR, PROPVALUE, PLEX}
+
+infixr 5 ◌>>◌
+abbrev pub ◌>>◌ : Language → Language → Language
+a >> b = Then a b
+
+abbrev pub maybe : Language → Language
+maybe a = Either a Empty
+
+-- an element's end: properties, and ENDEL
+abbrev pub tail : Language
+tail = Many (One PROPATTR >> One PROPVALUE) >> One ENDEL
+
+-- what may stand behind an element's first record
+abbrev pub flags : Language
+flags = maybe (One ELFLAGS) >> maybe (One PLEX)
+
+abbrev pub boundary : Language
+boundary = One BOUNDARY >> flags >> One LAYER >> One DATATYPE >> One XY >> tail
+
+abbrev pub reference : Language
+reference = One SREF >> flags >> One SNAME >> maybe (One STRANS) >> One XY >> tail
+
+abbrev pub turned : Language
+turned = maybe (One STRANS >> maybe (One MAG) >> maybe (One ANGLE))
+
+abbrev pub text : Language
+text = One TEXT >> flags >> One LAYER >> One TEXTTYPE >> maybe (One PRESENTATION) >> maybe (One PATHTYPE) >> maybe (One WIDTH) >> turned >> One XY >> One STRING >> tail
+
+abbrev pub element : Language
+element = Either boundary (Either reference text)
+
+abbrev pub structure : Language
+structure = One BGNSTR >> One STRNAME >> Many element >> One ENDSTR
+
+abbrev pub stream : Language
+stream = One HEADER >> One BGNLIB >> One LIBNAME >> maybe (One REFLIBS) >> maybe (One FONTS) >> maybe (One ATTRTABLE) >> maybe (One GENERATIONS) >> One UNITS >> Many structure >> One ENDLIB
