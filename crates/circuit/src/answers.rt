@@ -34,13 +34,16 @@ pub trait Answers {
         ensures { IfOk result (λ answer. meaning self.now word.now answer) };
 
     /// Each word has an answer.
-    ghost some: { (s : Self) (x : List Bool) → valid s → length x ≡ inputs s → (y : List Bool) × meaning s x y };
+    ghost some: { (s : Self) (x : List Bool)
+        → valid s → length x ≡ inputs s → (y : List Bool) × meaning s x y };
 
     /// No word has two answers.
-    ghost only: { (s : Self) (x y z : List Bool) → valid s → length x ≡ inputs s → meaning s x y → meaning s x z → y ≡ z };
+    ghost only: { (s : Self) (x y z : List Bool)
+        → valid s → length x ≡ inputs s → meaning s x y → meaning s x z → y ≡ z };
 
     /// An answer has a value for each output.
-    ghost whole: { (s : Self) (x y : List Bool) → valid s → length x ≡ inputs s → meaning s x y → length y ≡ outputs s };
+    ghost whole: { (s : Self) (x y : List Bool)
+        → valid s → length x ≡ inputs s → meaning s x y → length y ≡ outputs s };
 }
 
 /// The circuit's answer to a word of as many values as it has inputs. It is refused for want of memory alone.

@@ -1,0 +1,6 @@
+pub mod Fluxes
+pub mod Events
+pub mod Ticks
+pub mod Runs
+pub mod Shows
+pub mod Settled
