@@ -25,6 +25,7 @@ impl<T: Drop> From<AllocFailed<T>> for Memory {
     }
 }
 
+/// A list that grows at its end, in memory of its own.
 #[derive(Debug, Drop)]
 pub struct List<T> {
     items: Vec<T>,
@@ -39,6 +40,7 @@ impl<T> Model for List<T> {
 }
 
 impl<T> List<T> {
+    /// The empty list, which takes no memory.
     pub fn new(alloc: Global) -> Self
         ensures { result ≡ [] }
     {
@@ -47,6 +49,7 @@ impl<T> List<T> {
         }
     }
 
+    /// Adds the item at the end. Without memory the list stays as it is, and the item is dropped.
     pub fn push(&mut self, item: T) -> Result<(), Memory>
     where
         T: Drop,
@@ -57,12 +60,14 @@ impl<T> List<T> {
         Ok(())
     }
 
+    /// How many items the list has.
     pub fn len(&self) -> usize
         ensures { result ≡ length self.now }
     {
         self.items.len()
     }
 
+    /// The item at an index, counted from 0, which is below the length.
     pub fn get(&self, index: usize) -> &T
         requires { index < length self.now }
         ensures { slice_get self.now index ≡ Some result.now }
@@ -70,6 +75,7 @@ impl<T> List<T> {
         &self.items[index]
     }
 
+    /// Puts an item at an index, which is below the length, in place of the one that is there.
     pub fn set(&mut self, index: usize, item: T)
     where
         T: Drop,
@@ -79,18 +85,21 @@ impl<T> List<T> {
         self.items[index] = item;
     }
 
+    /// The list of these items. No memory is taken.
     pub fn from_vec(items: Vec<T>) -> Self
         ensures { result ≡ items.items }
     {
         List { items }
     }
 
+    /// The items as a `Vec`. No memory is taken.
     pub fn into_vec(self) -> Vec<T>
         ensures { result.items ≡ self }
     {
         self.items
     }
 
+    /// The items in order.
     pub fn as_slice(&self) -> &[T]
         ensures { result.now ≡ self.now }
     {
@@ -129,5 +138,27 @@ impl<T: Hash> Hash for List<T> {
 
     fn hash<H: Hasher>(&self, state: &mut H) {
         self.items.hash(state);
+    }
+}
+
+#[cfg(test)]
+mod tests {
+    use super::*;
+    use std::test::Fail;
+
+    #[test]
+    fn keeps_its_items(rt: HostRuntime) -> Result<(), Fail> {
+        let mut list: List<u8> = List::new(rt.alloc());
+        assert_eq!(rt; list.len(), 0);
+        list.push(3)?;
+        list.push(5)?;
+        assert_eq!(rt; list.len(), 2);
+        assert_eq!(rt; *list.get(0), 3);
+        list.set(0, 4);
+        assert_eq!(rt; list.as_slice(), [4, 5].as_slice());
+        let copy = list.clone()?;
+        assert_eq!(rt; copy, list);
+        assert_eq!(rt; List::from_vec(copy.into_vec()).len(), 2);
+        Ok(())
     }
 }
