@@ -10,3 +10,4 @@ pub mod WrittenStream
 pub mod Told
 pub mod Tree
 pub mod FromWritable
+pub mod FirstStream

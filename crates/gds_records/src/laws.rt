@@ -2,12 +2,14 @@
 ghost use Rattle.std.specs.Prelude.{◌≡◌, List, ℕ, Option, Some, None, []};
 ghost use Rattle.geom.specs.declared.layout.Layout.{Layout};
 ghost use Rattle.geom.specs.Writable.{IsWritable};
+ghost use Rattle.geom.specs.FirstChip.{first_layout};
 ghost use Rattle.gds_records.specs.Stream.{IsStream};
 ghost use Rattle.gds_records.specs.Faults.{StreamFault, IsStreamOrFaulty};
 ghost use Rattle.gds_records.specs.Writing.{bytes_of};
 ghost use Rattle.gds_records.specs.Scan.{first_fault, layout_in, IsBytes, scan};
 ghost use Rattle.gds_records.specs.Steps.{steps, told};
 ghost use Rattle.gds_records.specs.Grammar.{stream};
+ghost use Rattle.gds_records.specs.FirstChip.{first_bytes};
 ghost use Rattle.gds_records.specs.declared.fault.StreamKind.{StreamKind};
 
 /// Where the scan finds no fault, the bytes are a stream.
@@ -52,3 +54,13 @@ pub fn one_of_both()
     ensures one { (bytes : List ℕ) (layout : Layout) (offset : ℕ) (kind : StreamKind) → IsStream bytes layout → StreamFault bytes offset kind → ⊥ }
     ensures fault { (bytes : List ℕ) (offset other : ℕ) (kind second : StreamKind) → StreamFault bytes offset kind → StreamFault bytes other second → (offset ≡ other) × (kind ≡ second) }
 {}
+
+/// The first chip, a buffer in each of two rows: the bytes of its layout, of which they are a stream.
+#[tactic(auto, using(crate::proofs::FirstStream::first_written))]
+pub fn first_chip_is_stream()
+    ensures bytes { bytes_of first_layout ≡ first_bytes }
+    ensures stream { IsStream first_bytes first_layout }
+{
+    written_is_read();
+    geom::first_chip_is_writable();
+}

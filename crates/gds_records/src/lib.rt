@@ -6,6 +6,6 @@ mod laws;
 
 pub use fault::StreamKind;
 pub use laws::{
-    fault_is_found, found_is_fault, no_fault_is_stream, one_layout, one_of_both, steps_tell_scan,
+    fault_is_found, first_chip_is_stream, found_is_fault, no_fault_is_stream, one_layout, one_of_both, steps_tell_scan,
     stream_is_found, written_is_read,
 };

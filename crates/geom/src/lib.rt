@@ -6,7 +6,7 @@ mod layout;
 mod rectangle;
 mod shapes;
 
-pub use laws::first_chip_flat;
+pub use laws::{first_chip_flat, first_chip_is_writable};
 pub use layout::{Element, Layout, Structure};
 pub use rectangle::{Rect, gap_x, gap_y, touches};
 pub use shapes::{Flat, Label, Shape};
