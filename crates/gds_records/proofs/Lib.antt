@@ -11,3 +11,4 @@ pub mod Told
 pub mod Tree
 pub mod FromWritable
 pub mod FirstStream
+pub mod Appends

@@ -24,9 +24,13 @@ padded text = text ++ (if length text % 2 == 0 then [] else (0 ∷ []))
 abbrev pub point : ℤ → ℤ → List ℕ
 point x y = four_bytes x ++ four_bytes y
 
--- from the lower left corner through the lower right one, and back to it
+-- corners in turn, by the bits of their coordinates: from the lower left one through the lower right one, and back to it
+abbrev pub corner_bits : ℕ → ℕ → ℕ → ℕ → List ℕ
+corner_bits x0 y0 x1 y1 =
+    to_be_bytes w32 x0 ++ to_be_bytes w32 y0 ++ to_be_bytes w32 x1 ++ to_be_bytes w32 y0 ++ to_be_bytes w32 x1 ++ to_be_bytes w32 y1 ++ to_be_bytes w32 x0 ++ to_be_bytes w32 y1 ++ to_be_bytes w32 x0 ++ to_be_bytes w32 y0
+
 abbrev pub corners : Rectangle → List ℕ
-corners r = point r.x0 r.y0 ++ point r.x1 r.y0 ++ point r.x1 r.y1 ++ point r.x0 r.y1 ++ point r.x0 r.y0
+corners r = corner_bits (cast_unsigned w32 r.x0) (cast_unsigned w32 r.y0) (cast_unsigned w32 r.x1) (cast_unsigned w32 r.y1)
 
 abbrev pub element_records : List (List ℕ) → Element → List Record
 element_records names (Box s) =
@@ -70,13 +74,17 @@ units = 0x3E ∷ 0x41 ∷ 0x89 ∷ 0x37 ∷ 0x4B ∷ 0xC6 ∷ 0xA7 ∷ 0xF0 ∷ 
 abbrev pub library_name : List ℕ
 library_name = 65 ∷ 81 ∷ 70 ∷ 80 ∷ []
 
-abbrev pub records_of : List Structure → List Record
-records_of ss =
+-- what stands before the structures
+abbrev pub library_head : List Record
+library_head =
     record_with HEADER TWO_BYTE_INTEGER (two_bytes 600)
     ∷ record_with BGNLIB TWO_BYTE_INTEGER dates
     ∷ record_with LIBNAME ASCII_STRING library_name
     ∷ record_with UNITS EIGHT_BYTE_REAL units
-    ∷ flat_map (structure_records (names_in ss)) ss ++ record_with ENDLIB NO_DATA [] ∷ []
+    ∷ []
+
+abbrev pub records_of : List Structure → List Record
+records_of ss = library_head ++ flat_map (structure_records (names_in ss)) ss ++ record_with ENDLIB NO_DATA [] ∷ []
 
 unfoldable pub bytes_of : Layout → List ℕ
 bytes_of layout = flat_map spelled (records_of layout.structures)

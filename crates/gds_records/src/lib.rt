@@ -1,8 +1,10 @@
 //! Records of the GDSII Stream Format: which bytes are a stream, and the bytes of a layout.
 #![tactic(auto)]
 
+mod codes;
 mod fault;
 mod laws;
+mod spelling;
 
 pub use fault::StreamKind;
 pub use laws::{
