@@ -1,8 +1,10 @@
 //! The four-phase pulse machine.
 #![tactic(auto)]
 
+mod first_chip;
 mod flux;
 mod laws;
 
+pub use first_chip::first_chip_shows;
 pub use flux::Flux;
 pub use laws::{every_order, settled_is_lawful};

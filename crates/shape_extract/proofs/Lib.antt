@@ -1,1 +1,5 @@
 mod Valuations
+mod Each
+mod FirstNets
+mod FirstCells
+mod FirstFacts

@@ -1,2 +1,5 @@
 pub mod Circuits
 pub mod Answers
+pub mod Frames
+pub mod Extraction
+pub mod FirstCircuit

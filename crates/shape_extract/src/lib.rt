@@ -4,9 +4,11 @@
 mod answers;
 mod cells;
 mod extraction;
+mod first_chip;
 
 pub use answers::one_answer;
 pub use cells::{ExCell, Feed};
 pub use extraction::{ExtractRefusal, Extracted};
+pub use first_chip::first_chip_extracted;
 pub use layout_rules::Rule;
 pub use rowed::Source;
