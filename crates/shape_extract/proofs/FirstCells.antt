@@ -20,7 +20,7 @@ use Rattle.shape_extract.specs.declared.cells.Feed.TheVariants.{Nothing}
 use Rattle.shape_extract.specs.declared.cells.ExCell.{ExCell}
 use Rattle.shape_extract.specs.Circuits.{feed_at}
 use Rattle.shape_extract.specs.Frames.{comes_before, HasPlace, AreFrames}
-use Rattle.shape_extract.specs.Extraction.{IsNamed, IsDrivenBy, IsFeedAt, IsExcited, IsCellFrom, IsOutputFrom, IsCircuitOf}
+use Rattle.shape_extract.specs.Extraction.{IsNamed, IsDrivenBy, IsFeedAt, IsInPhase, IsCellFrom, IsOutputFrom, IsCircuitOf}
 use Rattle.shape_extract.specs.FirstCircuit.{lower_buffer, upper_buffer, upper_output, first_nets, first_circuit}
 use Rattle.shape_extract.proofs.Each.{EachFrom, each_at}
 use Rattle.shape_extract.proofs.FirstNets.{first_nets_are}
@@ -114,7 +114,7 @@ pin_of f layer number p pin frame a b c d e = record { pin = pin; frame = frame;
 -- the bar b after the start a
 excited : (a b phase : ℕ) (start bar frame : Shape) → a ≢ b → slice_get first_flat.shapes a ≡ Some start → slice_get first_flat.shapes b ≡ Some bar
     → is_line start ≡ true → start.datatype ≡ START → is_line bar ≡ true → bar.datatype ≡ BAR → meet start bar ≡ true → phase_of start bar ≡ phase → overlap bar.rect frame.rect ≡ true
-    → IsExcited first_flat.shapes frame phase
+    → IsInPhase first_flat.shapes frame phase
 excited a b phase start bar frame apart at_a at_b start_line start_part bar_line bar_part meets phase_is over = record {
   number = b;
   bar = record {

@@ -52,7 +52,7 @@ pub record IsFeedAt (flat : Flat) (frames : List ℕ) (f i : ℕ) (feed : Feed) 
   pub feeds : FeedsPin flat frames number feed
 
 -- the bar that overlaps the frame has this phase
-pub record IsExcited (shapes : List Shape) (frame : Shape) (phase : ℕ) : Type 0 where
+pub record IsInPhase (shapes : List Shape) (frame : Shape) (phase : ℕ) : Type 0 where
   pub number : ℕ
   pub bar : HasPhase shapes number phase
   pub over : overlap bar.is_bar.shape.rect frame.rect ≡ true
@@ -63,7 +63,7 @@ pub record IsCellFrom (flat : Flat) (frames : List ℕ) (cell : ExCell) (f : ℕ
   pub frame_is : slice_get flat.shapes f ≡ Some frame
   pub kind_is : frame.datatype ≡ number_of cell.kind
   pub row_is : cell.row ≡ row_of flat.shapes frame.rect.y0
-  pub excited : IsExcited flat.shapes frame cell.phase
+  pub excited : IsInPhase flat.shapes frame cell.phase
   -- a feed for each input pin of the kind, and nothing past them
   pub feeds : (i : ℕ) → i < inputs_of cell.kind → IsFeedAt flat frames f i (feed_at cell i)
   pub no_more : (i : ℕ) → inputs_of cell.kind ≤ i → feed_at cell i ≡ Nothing

@@ -12,3 +12,6 @@ pub use extraction::{ExtractRefusal, Extracted};
 pub use first_chip::first_chip_extracted;
 pub use layout_rules::Rule;
 pub use rowed::Source;
+
+#[cfg(test)]
+mod tests;
