@@ -3,3 +3,7 @@ mod Each
 mod FirstNets
 mod FirstCells
 mod FirstFacts
+mod Kept
+mod OneLine
+mod OneOrder
+mod OneCircuit

@@ -5,6 +5,7 @@ mod answers;
 mod cells;
 mod extraction;
 mod first_chip;
+mod uniqueness;
 
 pub use answers::one_answer;
 pub use cells::{ExCell, Feed};
@@ -12,6 +13,7 @@ pub use extraction::{ExtractRefusal, Extracted};
 pub use first_chip::first_chip_extracted;
 pub use layout_rules::Rule;
 pub use rowed::Source;
+pub use uniqueness::one_circuit;
 
 #[cfg(test)]
 mod tests;

@@ -1,7 +1,6 @@
-use Rattle.std.proofs.Common.{rules, ◌≡◌, List, [], ◌∷◌, ◌++◌, sym, ap, subst, refl, ◌∙◌}
+use Rattle.std.proofs.Common.{rules, ◌≡◌, List, [], ◌∷◌, ◌++◌, ap, ◌∙◌}
 use Rattle.shape_extract.specs.declared.cells.ExCell.{ExCell}
 use Rattle.rowed.specs.declared.source.Source.{Source}
-use Rattle.shape_extract.specs.Circuits.{CircuitView, KeepsFacts}
 use Rattle.shape_extract.specs.FirstCircuit.{lower_buffer, upper_buffer, upper_output, first_nets, first_circuit}
 use Rattle.shape_extract.proofs.tests.two_buffers.Goals as goal
 

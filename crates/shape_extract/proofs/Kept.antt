@@ -1,0 +1,176 @@
+-- What the rules of cells, excitation lines and labels say where nothing breaks them.
+use Rattle.std.proofs.Common.{◌≡◌, ◌≢◌, ℕ, zero, suc, ◌+◌, ◌<◌, ◌≤◌, ◌⊎◌, inl, inr, Bool, true, false, ◌&&◌, ◌||◌, cond, List, [], ◌∷◌, length, Some, refl, sym, ap, subst, ◌∙◌, arith}
+use Rattle.std.specs.Prelude.{slice_get, slice_index, count_by, ◌==◌}
+use Rattle.std.specs.List.{list_any}
+use Rattle.std.proofs.lemmas.Bool.{cases_eq, cases_lt, and_parts, and_from, or_cases, eqb-true}
+use Rattle.std.proofs.lemmas.Bool.Decides.{nat_tests}
+use Rattle.std.proofs.lemmas.List.Sums.{sum_by-cons}
+use Rattle.std.proofs.lemmas.Option.{same_Some}
+use Rattle.geom.specs.declared.shapes.Shape.{Shape}
+use Rattle.geom.specs.declared.shapes.Label.{Label}
+use Rattle.geom.specs.declared.shapes.Flat.{Flat}
+use Rattle.layout_rules.specs.declared.layers.TheConstants.{INPUT_PIN, LABELS}
+use Rattle.layout_rules.specs.Layers.{is_frame, is_pin}
+use Rattle.layout_rules.specs.Reports.{ReportsNone, Alone, Afterwards, Passes}
+use Rattle.layout_rules.specs.Pins.{LiesIn, IsPinOf}
+use Rattle.layout_rules.specs.Labels.{marks, Marks, number_of_label}
+use Rattle.layout_rules.specs.CircuitRules.{IsNoCell, IsStrayPin, CellsBroken, is_port, is_port_label, IsLabelAt, IsNoPortLabel, IsUnlabelledPort, IsMisnumbered, LabelsBroken}
+use Rattle.shape_extract.specs.Extraction.{IsNamed}
+
+-- ---- how rules are tried
+
+pub first_kept : (first second : ℕ → ℕ → Type 0) → ReportsNone (Afterwards first second) → ReportsNone first
+first_kept first second h a b f = h a b (inl f)
+
+pub second_kept : (first second : ℕ → ℕ → Type 0) → ReportsNone (Afterwards first second) → ReportsNone second
+second_kept first second h a b s = h a b (inr (λ c d f. h c d (inl f), s))
+
+pub alone_kept : (fault : ℕ → Type 0) → ReportsNone (Alone fault) → (n : ℕ) → fault n → ⊥
+alone_kept fault h n f = h n n (f, refl)
+
+-- equal numbers are not to be told apart
+pub settled : (a b : ℕ) → ((a ≢ b) → ⊥) → a ≡ b
+settled a b h = elim (cases_eq a b) [ inl e ↦ e | inr ne ↦ absurd (h ne) ]
+
+pub settled_true : (b : Bool) → ((b ≡ false) → ⊥) → b ≡ true
+settled_true true h = refl
+settled_true false h = absurd (h refl)
+
+-- ---- items that pass a test
+
+count-cons : {X : Type 0} (test : X → Bool) (x : X) (xs : List X) → count_by test (x ∷ xs) ≡ cond (test x) 1 0 + count_by test xs
+count-cons test x xs = sum_by-cons (λ y. cond (test y) 1 0) x xs
+
+one_counted : {X : Type 0} (test : X → Bool) (xs : List X) (i : ℕ) (x : X) → slice_get xs i ≡ Some x → test x ≡ true → 1 ≤ count_by test xs
+one_counted test [] i x is t = absurd cc
+one_counted test (y ∷ xs) zero x is t =
+    let k : test y ≡ true = ap test (same_Some y x is) ∙ t in
+    omega (arith, count-cons test y xs ∙ ap (λ (b : Bool). cond b 1 0 + count_by test xs) k)
+one_counted test (y ∷ xs) (suc i) x is t = omega (arith, count-cons test y xs, one_counted test xs i x is t)
+
+-- where one item passes, there is one place of such items
+pub one_place : {X : Type 0} (test : X → Bool) (xs : List X) → count_by test xs ≡ 1 → (i j : ℕ) (x y : X) → slice_get xs i ≡ Some x → slice_get xs j ≡ Some y → test x ≡ true → test y ≡ true → i ≡ j
+one_place test [] one i j x y p q s t = absurd cc
+one_place test (z ∷ zs) one zero zero x y p q s t = refl
+one_place test (z ∷ zs) one zero (suc j) x y p q s t =
+    let k : test z ≡ true = ap test (same_Some z x p) ∙ s in
+    absurd (omega (arith, one, one_counted test zs j y q t, count-cons test z zs ∙ ap (λ (b : Bool). cond b 1 0 + count_by test zs) k))
+one_place test (z ∷ zs) one (suc i) zero x y p q s t =
+    let k : test z ≡ true = ap test (same_Some z y q) ∙ t in
+    absurd (omega (arith, one, one_counted test zs i x p s, count-cons test z zs ∙ ap (λ (b : Bool). cond b 1 0 + count_by test zs) k))
+one_place test (z ∷ zs) one (suc i) (suc j) x y p q s t = ap suc (by_test (λ e. one_place test zs e i j x y p q s t) (test z) refl)
+  where
+    by_test : (count_by test zs ≡ 1 → i ≡ j) → (b : Bool) → test z ≡ b → i ≡ j
+    by_test rest true k = absurd (omega (arith, one, one_counted test zs i x p s, count-cons test z zs ∙ ap (λ (b : Bool). cond b 1 0 + count_by test zs) k))
+    by_test rest false k = rest (omega (arith, one, count-cons test z zs ∙ ap (λ (b : Bool). cond b 1 0 + count_by test zs) k))
+
+pub any_at : {X : Type 0} (test : X → Bool) (xs : List X) (i : ℕ) (x : X) → slice_get xs i ≡ Some x → test x ≡ true → list_any test xs ≡ true
+any_at test [] i x is t = absurd cc
+any_at test (y ∷ xs) zero x is t = let k : test y ≡ true = ap test (same_Some y x is) ∙ t in ap (λ (b : Bool). b || list_any test xs) k
+any_at test (y ∷ xs) (suc i) x is t = by_test (test y) (any_at test xs i x is t)
+  where
+    by_test : (b : Bool) → list_any test xs ≡ true → (b || list_any test xs) ≡ true
+    by_test true e = refl
+    by_test false e = e
+
+-- a place where an item passes
+pub record PassesAt {X : Type 0} (test : X → Bool) (xs : List X) : Type 0 where
+  pub place : ℕ
+  pub item : X
+  pub item_is : slice_get xs place ≡ Some item
+  pub passes_so : test item ≡ true
+
+pub at_any : {X : Type 0} (test : X → Bool) (xs : List X) → list_any test xs ≡ true → PassesAt test xs
+at_any test [] e = absurd cc
+at_any test (x ∷ xs) e = elim (or_cases (test x) (list_any test xs) e) [
+  | inl here ↦ record { place = 0; item = x; item_is = refl; passes_so = here }
+  | inr later ↦ let rest = at_any test xs later in record { place = suc rest.place; item = rest.item; item_is = rest.item_is; passes_so = rest.passes_so }
+]
+
+-- ---- cells and their pins
+
+module _ (flat : Flat) (kept : ReportsNone (CellsBroken flat.shapes)) where
+  no_fault : (n : ℕ) → IsNoCell flat.shapes n ⊎ IsStrayPin flat.shapes n → ⊥
+  no_fault n fault = alone_kept (λ m. IsNoCell flat.shapes m ⊎ IsStrayPin flat.shapes m) (second_kept _ _ kept) n fault
+
+  frame_passes : (f layer i p : ℕ) → IsPinOf flat.shapes f layer i p → Passes is_frame flat.shapes f
+  frame_passes f layer i p is =
+      let both = and_parts (is_pin is.pin) (is_frame is.frame) (and_parts (is_pin is.pin && is_frame is.frame) _ is.lies_so).0 in
+      record { shape = is.frame; shape_is = is.frame_is; passes_so = both.1 }
+
+  -- a frame has one input pin, and one output pin, of each number
+  pub one_input : (f i p q : ℕ) → IsPinOf flat.shapes f INPUT_PIN i p → IsPinOf flat.shapes f INPUT_PIN i q → p ≡ q
+  one_input f i p q a b = settled p q (λ ne. no_fault f (inl (record { frame = frame_passes f INPUT_PIN i p a; not_so = λ cell. ne (cell.inputs.one i p q a b) })))
+
+  -- a pin lies in one frame
+  pub one_frame : (f g layer other i j p : ℕ) → IsPinOf flat.shapes f layer i p → IsPinOf flat.shapes g other j p → f ≡ g
+  one_frame f g layer other i j p a b =
+      let both = and_parts (is_pin a.pin) (is_frame a.frame) (and_parts (is_pin a.pin && is_frame a.frame) _ a.lies_so).0 in
+      let pin : Passes is_pin flat.shapes p = record { shape = a.pin; shape_is = a.pin_is; passes_so = both.0 } in
+      let in_f : LiesIn flat.shapes p f = record { pin = a.pin; frame = a.frame; pin_is = a.pin_is; frame_is = a.frame_is; lies_so = a.lies_so } in
+      let in_g : LiesIn flat.shapes p g = record { pin = b.pin; frame = b.frame; pin_is = b.pin_is; frame_is = b.frame_is; lies_so = b.lies_so } in
+      settled f g (λ ne. no_fault p (inr (record { pin = pin; not_so = λ one. ne (one.only f in_f ∙ sym (one.only g in_g)) })))
+
+-- ---- labels
+
+module _ (flat : Flat) (kept : ReportsNone (LabelsBroken flat)) where
+  later_kept : ReportsNone (Afterwards (Alone (IsUnlabelledPort flat)) (Alone (IsMisnumbered flat)))
+  later_kept = second_kept _ _ kept
+
+  abbrev label_at : (l p : ℕ) → (m : Marks flat l p) → IsLabelAt flat (length flat.shapes + l)
+  label_at l p m =
+      let layer = (and_parts (m.label.layer == LABELS) _ (and_parts (m.label.layer == LABELS && _) _ m.marks_so).0).0 in
+      record { place = l; label = m.label; label_is = m.label_is; of_layer = eqb-true m.label.layer LABELS layer; number_is = refl }
+
+  port_label : (l p : ℕ) (m : Marks flat l p) → is_port_label flat.shapes m.label ≡ true
+  port_label l p m = settled_true (is_port_label flat.shapes m.label) (λ e. alone_kept (IsNoPortLabel flat) (first_kept _ _ kept) (length flat.shapes + l) (record { at = label_at l p m; not_so = e }))
+
+  -- a label marks one pin
+  pub one_pin : (l p q : ℕ) (m : Marks flat l p) (n : Marks flat l q) → p ≡ q
+  one_pin l p q m n =
+      let same : m.label ≡ n.label = same_Some m.label n.label (sym m.label_is ∙ n.label_is) in
+      let count : count_by (marks m.label) flat.shapes ≡ 1 = eqb-true _ 1 (and_parts _ _ (and_parts _ _ (port_label l p m)).0).1 in
+      one_place (marks m.label) flat.shapes count p q m.pin n.pin m.pin_is n.pin_is m.marks_so (ap (λ (x : Label). marks x n.pin) same ∙ n.marks_so)
+
+  -- and a pin has one label
+  pub one_label : (k l p : ℕ) → Marks flat k p → Marks flat l p → k ≡ l
+  one_label k l p m n =
+      let same : m.pin ≡ n.pin = same_Some m.pin n.pin (sym m.pin_is ∙ n.pin_is) in
+      let port = at_any (λ pin. marks m.label pin && is_port flat.shapes pin) flat.shapes (and_parts _ _ (port_label k p m)).1 in
+      let both = and_parts (marks m.label port.item) (is_port flat.shapes port.item) port.passes_so in
+      let here : port.place ≡ p = one_pin k port.place p (record { label = m.label; pin = port.item; label_is = m.label_is; pin_is = port.item_is; marks_so = both.0 }) m in
+      let there : slice_get flat.shapes p ≡ Some port.item = subst (λ (i : ℕ). slice_get flat.shapes i ≡ Some port.item) here port.item_is in
+      let pin_is : port.item ≡ m.pin = same_Some port.item m.pin (sym there ∙ m.pin_is) in
+      let count : count_by (λ label. marks label port.item) flat.labels ≡ 1 =
+      settled _ 1 (λ ne. alone_kept (IsUnlabelledPort flat) (first_kept _ _ later_kept) p (record { port = record { shape = port.item; shape_is = there; passes_so = both.1 }; not_one = ne })) in
+      one_place (λ label. marks label port.item) flat.labels count k l m.label n.label m.label_is n.label_is
+      (ap (λ (x : Shape). marks m.label x) pin_is ∙ m.marks_so) (ap (λ (x : Shape). marks n.label x) (pin_is ∙ same) ∙ n.marks_so)
+
+  not_earlier : (letter i p q : ℕ) → (m : IsNamed flat letter i p) (n : IsNamed flat letter i q) → m.place < n.place → ⊥
+  not_earlier letter i p q m n lt =
+      let first : slice_index m.mark.label.text 0 ≡ letter = ap (λ (t : List ℕ). slice_index t 0) m.numbered.text_is in
+      let second : slice_index n.mark.label.text 0 ≡ letter = ap (λ (t : List ℕ). slice_index t 0) n.numbered.text_is in
+      let letters : (slice_index m.mark.label.text 0 == slice_index n.mark.label.text 0) ≡ true = (let e = first ∙ sym second in grind (arith, nat_tests)) in
+      let numbers : (number_of_label m.mark.label == number_of_label n.mark.label) ≡ true = (let e = m.numbered.number_is ∙ sym n.numbered.number_is in grind (arith, nat_tests)) in
+      let at = label_at n.place q n.mark in
+      let earlier = label_at m.place p m.mark in
+      alone_kept (IsMisnumbered flat) (second_kept _ _ later_kept) (length flat.shapes + n.place) (record {
+        at = at;
+        wrong = inr (record { earlier = m.place; other = m.mark.label; before = lt; other_is = m.mark.label_is; of_layer = earlier.of_layer; one_name = and_from _ _ letters numbers });
+      })
+
+  -- one pin has this letter and number
+  pub one_named : (letter i p q : ℕ) → IsNamed flat letter i p → IsNamed flat letter i q → p ≡ q
+  one_named letter i p q m n =
+      let same : m.place ≡ n.place = settled m.place n.place (λ ne. elim (cases_lt m.place n.place) [
+        | inl lt ↦ not_earlier letter i p q m n lt
+        | inr ge ↦ not_earlier letter i q p n m (omega arith)
+      ]) in
+      one_pin n.place p q (subst (λ (l : ℕ). Marks flat l p) same m.mark) n.mark
+
+  -- and a pin has one number
+  pub one_number_of : (letter i j p : ℕ) → IsNamed flat letter i p → IsNamed flat letter j p → i ≡ j
+  one_number_of letter i j p m n =
+      let same : m.place ≡ n.place = one_label m.place n.place p m.mark n.mark in
+      let label : m.mark.label ≡ n.mark.label = same_Some m.mark.label n.mark.label (sym m.mark.label_is ∙ ap (λ (l : ℕ). slice_get flat.labels l) same ∙ n.mark.label_is) in
+      sym m.numbered.number_is ∙ ap number_of_label label ∙ n.numbered.number_is
