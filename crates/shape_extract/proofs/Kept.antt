@@ -1,10 +1,8 @@
 -- What the rules of cells, excitation lines and labels say where nothing breaks them.
-use Rattle.std.proofs.Common.{◌≡◌, ◌≢◌, ℕ, zero, suc, ◌+◌, ◌<◌, ◌≤◌, ◌⊎◌, inl, inr, Bool, true, false, ◌&&◌, ◌||◌, cond, List, [], ◌∷◌, length, Some, refl, sym, ap, subst, ◌∙◌, arith}
+use Rattle.std.proofs.Common.{◌≡◌, ◌≢◌, ℕ, ◌+◌, ◌<◌, ◌⊎◌, inl, inr, Bool, true, false, ◌&&◌, List, length, Some, refl, sym, ap, subst, ◌∙◌, arith}
 use Rattle.std.specs.Prelude.{slice_get, slice_index, count_by, ◌==◌}
-use Rattle.std.specs.List.{list_any}
-use Rattle.std.proofs.lemmas.Bool.{cases_eq, cases_lt, and_parts, and_from, or_cases, eqb-true}
+use Rattle.std.proofs.lemmas.Bool.{cases_eq, cases_lt, and_parts, and_from, eqb-true}
 use Rattle.std.proofs.lemmas.Bool.Decides.{nat_tests}
-use Rattle.std.proofs.lemmas.List.Sums.{sum_by-cons}
 use Rattle.std.proofs.lemmas.Option.{same_Some}
 use Rattle.geom.specs.declared.shapes.Shape.{Shape}
 use Rattle.geom.specs.declared.shapes.Label.{Label}
@@ -12,6 +10,7 @@ use Rattle.geom.specs.declared.shapes.Flat.{Flat}
 use Rattle.layout_rules.specs.declared.layers.TheConstants.{INPUT_PIN, LABELS}
 use Rattle.layout_rules.specs.Layers.{is_frame, is_pin}
 use Rattle.layout_rules.specs.Reports.{ReportsNone, Alone, Afterwards, Passes}
+use Rattle.layout_rules.specs.PlaceLaws.{list_any-place, count_by-one}
 use Rattle.layout_rules.specs.Pins.{LiesIn, IsPinOf}
 use Rattle.layout_rules.specs.Labels.{marks, Marks, number_of_label}
 use Rattle.layout_rules.specs.CircuitRules.{IsNoCell, IsStrayPin, CellsBroken, is_port, is_port_label, IsLabelAt, IsNoPortLabel, IsUnlabelledPort, IsMisnumbered, LabelsBroken}
@@ -35,57 +34,6 @@ settled a b h = elim (cases_eq a b) [ inl e ↦ e | inr ne ↦ absurd (h ne) ]
 pub settled_true : (b : Bool) → ((b ≡ false) → ⊥) → b ≡ true
 settled_true true h = refl
 settled_true false h = absurd (h refl)
-
--- ---- items that pass a test
-
-count-cons : {X : Type 0} (test : X → Bool) (x : X) (xs : List X) → count_by test (x ∷ xs) ≡ cond (test x) 1 0 + count_by test xs
-count-cons test x xs = sum_by-cons (λ y. cond (test y) 1 0) x xs
-
-one_counted : {X : Type 0} (test : X → Bool) (xs : List X) (i : ℕ) (x : X) → slice_get xs i ≡ Some x → test x ≡ true → 1 ≤ count_by test xs
-one_counted test [] i x is t = absurd cc
-one_counted test (y ∷ xs) zero x is t =
-    let k : test y ≡ true = ap test (same_Some y x is) ∙ t in
-    omega (arith, count-cons test y xs ∙ ap (λ (b : Bool). cond b 1 0 + count_by test xs) k)
-one_counted test (y ∷ xs) (suc i) x is t = omega (arith, count-cons test y xs, one_counted test xs i x is t)
-
--- where one item passes, there is one place of such items
-pub one_place : {X : Type 0} (test : X → Bool) (xs : List X) → count_by test xs ≡ 1 → (i j : ℕ) (x y : X) → slice_get xs i ≡ Some x → slice_get xs j ≡ Some y → test x ≡ true → test y ≡ true → i ≡ j
-one_place test [] one i j x y p q s t = absurd cc
-one_place test (z ∷ zs) one zero zero x y p q s t = refl
-one_place test (z ∷ zs) one zero (suc j) x y p q s t =
-    let k : test z ≡ true = ap test (same_Some z x p) ∙ s in
-    absurd (omega (arith, one, one_counted test zs j y q t, count-cons test z zs ∙ ap (λ (b : Bool). cond b 1 0 + count_by test zs) k))
-one_place test (z ∷ zs) one (suc i) zero x y p q s t =
-    let k : test z ≡ true = ap test (same_Some z y q) ∙ t in
-    absurd (omega (arith, one, one_counted test zs i x p s, count-cons test z zs ∙ ap (λ (b : Bool). cond b 1 0 + count_by test zs) k))
-one_place test (z ∷ zs) one (suc i) (suc j) x y p q s t = ap suc (by_test (λ e. one_place test zs e i j x y p q s t) (test z) refl)
-  where
-    by_test : (count_by test zs ≡ 1 → i ≡ j) → (b : Bool) → test z ≡ b → i ≡ j
-    by_test rest true k = absurd (omega (arith, one, one_counted test zs i x p s, count-cons test z zs ∙ ap (λ (b : Bool). cond b 1 0 + count_by test zs) k))
-    by_test rest false k = rest (omega (arith, one, count-cons test z zs ∙ ap (λ (b : Bool). cond b 1 0 + count_by test zs) k))
-
-pub any_at : {X : Type 0} (test : X → Bool) (xs : List X) (i : ℕ) (x : X) → slice_get xs i ≡ Some x → test x ≡ true → list_any test xs ≡ true
-any_at test [] i x is t = absurd cc
-any_at test (y ∷ xs) zero x is t = let k : test y ≡ true = ap test (same_Some y x is) ∙ t in ap (λ (b : Bool). b || list_any test xs) k
-any_at test (y ∷ xs) (suc i) x is t = by_test (test y) (any_at test xs i x is t)
-  where
-    by_test : (b : Bool) → list_any test xs ≡ true → (b || list_any test xs) ≡ true
-    by_test true e = refl
-    by_test false e = e
-
--- a place where an item passes
-pub record PassesAt {X : Type 0} (test : X → Bool) (xs : List X) : Type 0 where
-  pub place : ℕ
-  pub item : X
-  pub item_is : slice_get xs place ≡ Some item
-  pub passes_so : test item ≡ true
-
-pub at_any : {X : Type 0} (test : X → Bool) (xs : List X) → list_any test xs ≡ true → PassesAt test xs
-at_any test [] e = absurd cc
-at_any test (x ∷ xs) e = elim (or_cases (test x) (list_any test xs) e) [
-  | inl here ↦ record { place = 0; item = x; item_is = refl; passes_so = here }
-  | inr later ↦ let rest = at_any test xs later in record { place = suc rest.place; item = rest.item; item_is = rest.item_is; passes_so = rest.passes_so }
-]
 
 -- ---- cells and their pins
 
@@ -130,21 +78,21 @@ module _ (flat : Flat) (kept : ReportsNone (LabelsBroken flat)) where
   one_pin l p q m n =
       let same : m.label ≡ n.label = same_Some m.label n.label (sym m.label_is ∙ n.label_is) in
       let count : count_by (marks m.label) flat.shapes ≡ 1 = eqb-true _ 1 (and_parts _ _ (and_parts _ _ (port_label l p m)).0).1 in
-      one_place (marks m.label) flat.shapes count p q m.pin n.pin m.pin_is n.pin_is m.marks_so (ap (λ (x : Label). marks x n.pin) same ∙ n.marks_so)
+      count_by-one (marks m.label) flat.shapes p q m.pin n.pin count m.pin_is m.marks_so n.pin_is (ap (λ (x : Label). marks x n.pin) same ∙ n.marks_so)
 
   -- and a pin has one label
   pub one_label : (k l p : ℕ) → Marks flat k p → Marks flat l p → k ≡ l
   one_label k l p m n =
       let same : m.pin ≡ n.pin = same_Some m.pin n.pin (sym m.pin_is ∙ n.pin_is) in
-      let port = at_any (λ pin. marks m.label pin && is_port flat.shapes pin) flat.shapes (and_parts _ _ (port_label k p m)).1 in
+      let port = list_any-place (λ pin. marks m.label pin && is_port flat.shapes pin) flat.shapes (and_parts _ _ (port_label k p m)).1 in
       let both = and_parts (marks m.label port.item) (is_port flat.shapes port.item) port.passes_so in
       let here : port.place ≡ p = one_pin k port.place p (record { label = m.label; pin = port.item; label_is = m.label_is; pin_is = port.item_is; marks_so = both.0 }) m in
       let there : slice_get flat.shapes p ≡ Some port.item = subst (λ (i : ℕ). slice_get flat.shapes i ≡ Some port.item) here port.item_is in
       let pin_is : port.item ≡ m.pin = same_Some port.item m.pin (sym there ∙ m.pin_is) in
       let count : count_by (λ label. marks label port.item) flat.labels ≡ 1 =
       settled _ 1 (λ ne. alone_kept (IsUnlabelledPort flat) (first_kept _ _ later_kept) p (record { port = record { shape = port.item; shape_is = there; passes_so = both.1 }; not_one = ne })) in
-      one_place (λ label. marks label port.item) flat.labels count k l m.label n.label m.label_is n.label_is
-      (ap (λ (x : Shape). marks m.label x) pin_is ∙ m.marks_so) (ap (λ (x : Shape). marks n.label x) (pin_is ∙ same) ∙ n.marks_so)
+      count_by-one (λ label. marks label port.item) flat.labels k l m.label n.label count m.label_is
+      (ap (λ (x : Shape). marks m.label x) pin_is ∙ m.marks_so) n.label_is (ap (λ (x : Shape). marks n.label x) (pin_is ∙ same) ∙ n.marks_so)
 
   not_earlier : (letter i p q : ℕ) → (m : IsNamed flat letter i p) (n : IsNamed flat letter i q) → m.place < n.place → ⊥
   not_earlier letter i p q m n lt =

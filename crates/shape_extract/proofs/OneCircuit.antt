@@ -3,7 +3,6 @@ use Rattle.std.proofs.Common.{◌≡◌, ℕ, suc, ◌+◌, ◌<◌, ◌≤◌, 
 use Rattle.std.specs.Prelude.{slice_get, slice_index_or}
 use Rattle.std.specs.List.{AllZip}
 use Rattle.std.proofs.lemmas.Bool.{cases_lt}
-use Rattle.std.proofs.lemmas.List.{ext_get_or}
 use Rattle.std.proofs.lemmas.Option.{same_Some}
 use Rattle.geom.specs.declared.shapes.Shape.{Shape}
 use Rattle.geom.specs.declared.shapes.Flat.{Flat}
@@ -12,7 +11,8 @@ use Rattle.circuit.specs.declared.cell_kind.CellKind.TheVariants.{Buffer, Invert
 use Rattle.circuit.specs.CellKinds.{number_of, inputs_of}
 use Rattle.layout_rules.specs.declared.layers.TheConstants.{OUTPUT_PIN}
 use Rattle.layout_rules.specs.Layers.{is_frame}
-use Rattle.layout_rules.specs.NetLaws.{same_nets}
+use Rattle.layout_rules.specs.NetLaws.{AreNets-once}
+use Rattle.layout_rules.specs.PlaceLaws.{list_any-at}
 use Rattle.layout_rules.specs.Rows.{row_of}
 use Rattle.layout_rules.specs.Reports.{ReportsNone}
 use Rattle.layout_rules.specs.Labels.{letter_i, letter_o, marks, is_labelled}
@@ -25,7 +25,7 @@ use Rattle.shape_extract.specs.declared.cells.ExCell.{ExCell}
 use Rattle.shape_extract.specs.Circuits.{CircuitView, feed_at}
 use Rattle.shape_extract.specs.Frames.{AreFrames}
 use Rattle.shape_extract.specs.Extraction.{IsNamed, IsOutputPin, IsDrivenBy, FeedsPin, IsFeedAt, IsInPhase, IsCellFrom, IsOutputFrom, IsCircuitOf}
-use Rattle.shape_extract.proofs.Kept.{any_at, one_input, one_frame, one_named, one_number_of}
+use Rattle.shape_extract.proofs.Kept.{one_input, one_frame, one_named, one_number_of}
 use Rattle.shape_extract.proofs.OneLine.{one_phase}
 use Rattle.shape_extract.proofs.OneOrder.{one_order, one_place}
 
@@ -100,7 +100,7 @@ module _ (flat : Flat) (cells_kept : ReportsNone (CellsBroken flat.shapes)) (lin
   no_label p letter n source driven named =
       let pin : named.mark.pin ≡ driven.input.pin = same_Some named.mark.pin driven.input.pin (sym named.mark.pin_is ∙ driven.input.pin_is) in
       let yes : is_labelled flat driven.input.pin ≡ true =
-      any_at (λ label. marks label driven.input.pin) flat.labels named.place named.mark.label named.mark.label_is (ap (λ (x : Shape). marks named.mark.label x) (sym pin) ∙ named.mark.marks_so) in
+      list_any-at (λ label. marks label driven.input.pin) flat.labels named.place named.mark.label named.mark.label_is (ap (λ (x : Shape). marks named.mark.label x) (sym pin) ∙ named.mark.marks_so) in
       let no = driven.input.labelled_so in
       cc
 
@@ -163,4 +163,4 @@ one_circuit flat cells_kept lines_kept labels_kept x y first second =
     (λ n s t p q. one_output flat cells_kept lines_kept labels_kept first.frames first.are_frames n s t (first.outputs n s p) (subst (λ (fs : List ℕ). IsOutputFrom flat fs n t) frames (second.outputs n t q))))
     (first.rows ∙ sym second.rows)
     (first.wires ∙ sym second.wires)
-    (ext_get_or 0 x.nets y.nets (first.nets.long ∙ sym second.nets.long) (λ i lt. same_nets flat.shapes x.nets y.nets first.nets second.nets i (omega (arith, first.nets.long))))
+    (AreNets-once flat.shapes x.nets y.nets first.nets second.nets)

@@ -1,14 +1,12 @@
 -- Under the rule of excitation lines a part of a line has one part before it, so that a frame has one phase.
-use Rattle.std.proofs.Common.{◌≡◌, ◌≢◌, ℕ, zero, suc, ◌+◌, ◌-◌, ◌<◌, ◌≤◌, ◌⊎◌, inl, inr, true, ◌&&◌, ◌||◌, List, [], ◌∷◌, length, get_or, Some, refl, sym, ap, subst, ◌∙◌, arith}
+use Rattle.std.proofs.Common.{◌≡◌, ◌≢◌, ℕ, zero, suc, ◌+◌, ◌-◌, ◌<◌, ◌≤◌, ◌⊎◌, inl, inr, true, ◌&&◌, List, [], ◌∷◌, length, get_or, Some, refl, sym, ap, subst, ◌∙◌, arith}
 use Rattle.std.specs.Prelude.{slice_get, ◌==◌, nat_lt}
 use Rattle.std.proofs.lemmas.Bool.{cases_eq, cases_lt, and_parts, and_from, or_cases, eqb-true, lt-ltb}
-use Rattle.std.proofs.lemmas.Bool.Decides.{nat_tests}
 use Rattle.std.proofs.lemmas.Option.{same_Some}
 use Rattle.geom.specs.declared.shapes.Shape.{Shape}
-use Rattle.geom.specs.Rectangle.{share_point}
 use Rattle.layout_rules.specs.declared.layers.TheConstants.{EVEN_LINE, ODD_LINE, BAR, LINK, START}
 use Rattle.layout_rules.specs.Layers.{is_frame, is_line}
-use Rattle.layout_rules.specs.NetLaws.{share_point_comm}
+use Rattle.layout_rules.specs.LineLaws.{Contact-back}
 use Rattle.layout_rules.specs.Reports.{ReportsNone, Alone, Afterwards, Passes}
 use Rattle.layout_rules.specs.ExcitationLines.{Contact, IsPart, IsChain, NeverTurnsBack, Before, phase_of, HasPhase}
 use Rattle.layout_rules.specs.ExcitationRule.{is_no_part, LacksOneStart, HasItsContacts, IsMisjoined, IsCutOff, IsNotCrossed, IsUnexcited, ExcitationBroken}
@@ -64,14 +62,6 @@ module _ (shapes : List Shape) (kept : ReportsNone (ExcitationBroken shapes)) wh
 
   contact_layer : (v a : ℕ) (c : Contact shapes v a) → c.first.layer ≡ c.second.layer
   contact_layer v a c = eqb-true c.first.layer c.second.layer (and_parts (is_line c.first) (c.first.layer == c.second.layer) (and_parts (is_line c.first && c.first.layer == c.second.layer) _ c.meet_so).0).1
-
-  contact_back : (v a : ℕ) → Contact shapes v a → Contact shapes a v
-  contact_back v a c =
-      let layer = contact_layer v a c in
-      let line : is_line c.second ≡ true = subst (λ (n : ℕ). (n == EVEN_LINE || n == ODD_LINE) ≡ true) layer (contact_line v a c) in
-      let same : (c.second.layer == c.first.layer) ≡ true = grind (arith, nat_tests) in
-      let share : share_point c.second.rect c.first.rect ≡ true = share_point_comm c.second.rect c.first.rect ∙ (and_parts (is_line c.first && c.first.layer == c.second.layer) _ c.meet_so).1 in
-      record { apart = λ e. c.apart (sym e); first = c.second; second = c.first; first_is = c.second_is; second_is = c.first_is; meet_so = and_from _ _ (and_from _ _ line same) share }
 
   its_contacts : (v a : ℕ) → Contact shapes v a → (HasItsContacts shapes v → ⊥) → ⊥
   its_contacts v a c not_so = alone_kept (IsMisjoined shapes) (first_kept _ _ after_starts) v (record { part = record { shape = c.first; shape_is = c.first_is; passes_so = contact_line v a c }; not_so = not_so })
@@ -156,19 +146,19 @@ module _ (shapes : List Shape) (kept : ReportsNone (ExcitationBroken shapes)) wh
 
     apart_more : (gap : ℕ) → Apart gap → (left i j : ℕ) → j ≡ i + suc (suc (suc gap)) → suc (j + left) ≡ length chain → at chain i ≡ at chain j → ⊥
     apart_more gap less zero i j e long same =
-        let from_i : Contact shapes (at chain i) (at chain (suc i)) = contact_back _ _ (chain_contact chain is i (omega arith)) in
+        let from_i : Contact shapes (at chain i) (at chain (suc i)) = Contact-back (chain_contact chain is i (omega arith)) in
         let from_j : Contact shapes (at chain j) (at chain (suc i)) = subst (λ (v : ℕ). Contact shapes v (at chain (suc i))) same from_i in
         let k : ℕ = suc i + suc gap in
         let next : suc k ≡ j = omega arith in
         let down : Contact shapes (at chain j) (at chain k) = subst (λ (m : ℕ). Contact shapes (at chain m) (at chain k)) next (chain_contact chain is k (omega arith)) in
         less (suc i) k refl (omega arith) (start_one (at chain j) (at chain (suc i)) (at chain k) (chain_start chain is j (omega arith)) from_j down)
     apart_more gap less (suc left) i j e long same =
-        let from_i : Contact shapes (at chain i) (at chain (suc i)) = contact_back _ _ (chain_contact chain is i (omega arith)) in
+        let from_i : Contact shapes (at chain i) (at chain (suc i)) = Contact-back (chain_contact chain is i (omega arith)) in
         let from_j : Contact shapes (at chain j) (at chain (suc i)) = subst (λ (v : ℕ). Contact shapes v (at chain (suc i))) same from_i in
         let k : ℕ = suc i + suc gap in
         let next : suc k ≡ j = omega arith in
         let down : Contact shapes (at chain j) (at chain k) = subst (λ (m : ℕ). Contact shapes (at chain m) (at chain k)) next (chain_contact chain is k (omega arith)) in
-        let up : Contact shapes (at chain j) (at chain (suc j)) = contact_back _ _ (chain_contact chain is j (omega arith)) in
+        let up : Contact shapes (at chain j) (at chain (suc j)) = Contact-back (chain_contact chain is j (omega arith)) in
         let no_turn : at chain k ≢ at chain (suc j) = subst (λ (m : ℕ). at chain k ≢ at chain (suc m)) next (turns chain onward k (omega arith)) in
         elim (cases_eq (at chain k) (at chain (suc i))) [
           | inl back ↦ less (suc i) k refl (omega arith) (sym back)
@@ -197,7 +187,7 @@ module _ (shapes : List Shape) (kept : ReportsNone (ExcitationBroken shapes)) wh
         let here : at chain (suc i) ≡ at other (suc j) = agree (suc p) (suc i) (suc j) (omega arith) (omega arith) in
         let there : at chain (suc (suc i)) ≡ at other (suc (suc j)) = agree p (suc (suc i)) (suc (suc j)) (omega arith) (omega arith) in
         two_contacts (at chain (suc i)) (at chain (suc (suc i))) (at chain i) (at other j)
-        (contact_back _ _ (chain_contact chain is (suc i) (omega arith))) (chain_contact chain is i (omega arith))
+        (Contact-back (chain_contact chain is (suc i) (omega arith))) (chain_contact chain is i (omega arith))
         (subst (λ (v : ℕ). Contact shapes v (at other j)) (sym here) (chain_contact other other_is j (omega arith)))
         (λ q. turns chain onward i (omega arith) (sym q)) (λ q. turns other other_onward j (omega arith) (sym q ∙ there))
 
