@@ -12,3 +12,4 @@ pub mod Tree
 pub mod FromWritable
 pub mod FirstStream
 pub mod Appends
+pub mod Flowing

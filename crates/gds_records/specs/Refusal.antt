@@ -1,0 +1,9 @@
+-- What a refused append makes of a stream's writing.
+use Rattle.aq_base.specs.declared.store.StoreRefusal.{StoreRefusal}
+use Rattle.aq_base.specs.declared.store.StoreRefusal.TheVariants as store
+use Rattle.gds_records.specs.declared.writer.WriteRefusal.{WriteRefusal}
+use Rattle.gds_records.specs.declared.writer.WriteRefusal.TheVariants.{Failed, Memory}
+
+abbrev pub refusal_of : StoreRefusal → WriteRefusal
+refusal_of store.Failed = Failed
+refusal_of store.Memory = Memory
