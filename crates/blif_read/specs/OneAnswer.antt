@@ -61,8 +61,11 @@ solution_fits net word v s = record {
       let m : net.inputs + j - net.inputs ≡ j = omega arith in rw (k, m) (ap (λ o. cover_equation o v) is));
 }
 
+pub some_valuation : (net : NetView) (word : List Bool) → IsNetlist net → (v : ℕ → Bool) × Fits net.inputs net.defs word v
+some_valuation net word ok = (_, solution_fits net word _ (some_solution ok.no_cycle.rank (equation net word) (is_ranked net word ok.no_cycle.rank ok.no_cycle.ranked)))
+
 pub some_answer : (net : NetView) (word : List Bool) → IsNetlist net → (answer : List Bool) × IsAnswer net word answer
-some_answer net word ok = (_, record { values = _; fit = solution_fits net word _ (some_solution ok.no_cycle.rank (equation net word) (is_ranked net word ok.no_cycle.rank ok.no_cycle.ranked)); shown = refl })
+some_answer net word ok = let some = some_valuation net word ok in (map some.0 net.outputs, record { values = some.0; fit = some.1; shown = refl })
 
 -- what two fitting valuations say of the signals is the same
 def_at : (P : Def → Type 0) (defs : List Def) (j : ℕ) (def : Def) → AllByRecursion P defs → slice_get defs j ≡ Some def → P def
@@ -97,12 +100,15 @@ same_values net word ok v w fv fw (suc n) s lt at = elim (cases_lt s net.inputs)
       ∙ sym (fw.covers (s - net.inputs) found.0 found.1) ∙ ap w back
 ]
 
+pub one_valuation : (net : NetView) (word : List Bool) (v w : ℕ → Bool) → IsNetlist net → Fits net.inputs net.defs word v → Fits net.inputs net.defs word w → (s : ℕ) → s < length net.names → v s ≡ w s
+one_valuation net word v w ok p q s at = same_values net word ok v w p q (suc (ok.no_cycle.rank s)) s (omega arith) at
+
 same_shown : (net : NetView) (v w : ℕ → Bool) → ((s : ℕ) → s < length net.names → v s ≡ w s) → (outputs : List ℕ) → AllByRecursion (λ s. s < length net.names) outputs → map v outputs ≡ map w outputs
 same_shown net v w same [] all = refl
 same_shown net v w same (o ∷ os) all = ap (λ b. b ∷ map v os) (same o all.0) ∙ ap (λ bs. w o ∷ bs) (same_shown net v w same os all.1)
 
 pub one_answer : (net : NetView) (word a b : List Bool) → IsNetlist net → IsAnswer net word a → IsAnswer net word b → a ≡ b
-one_answer net word a b ok p q = p.shown ∙ same_shown net p.values q.values (λ s at. same_values net word ok p.values q.values p.fit q.fit (suc (ok.no_cycle.rank s)) s (omega arith) at) net.outputs ok.each_output ∙ sym q.shown
+one_answer net word a b ok p q = p.shown ∙ same_shown net p.values q.values (one_valuation net word p.values q.values ok p.fit q.fit) net.outputs ok.each_output ∙ sym q.shown
 
 pub answer_length : (net : NetView) (word answer : List Bool) → IsAnswer net word answer → length answer ≡ length net.outputs
 answer_length net word answer a = ap length a.shown ∙ length-map net.outputs a.values

@@ -22,24 +22,24 @@ pub enum LineKind {
     NoOutputs,
 }
 
-#[derive(Debug, Drop)]
+#[derive(Clone, Debug, Drop, PartialEq)]
 pub enum BlifFault {
     Line { line: u64, kind: LineKind },
     Cycle { line: u64, signals: List<Bytes> },
 }
 
-#[derive(Debug, Drop)]
+#[derive(Debug, Drop, PartialEq)]
 pub enum BlifRefusal {
     Bad(BlifFault),
     Memory,
 }
 
-#[derive(Debug, Drop)]
+#[derive(Clone, Debug, Drop, PartialEq)]
 pub struct Cube {
     pub plane: Bytes,
 }
 
-#[derive(Debug, Drop)]
+#[derive(Clone, Debug, Drop, PartialEq)]
 pub struct Def {
     pub line: u64,
     pub inputs: List<u32>,
