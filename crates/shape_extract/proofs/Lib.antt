@@ -7,3 +7,4 @@ mod Kept
 mod OneLine
 mod OneOrder
 mod OneCircuit
+mod NetWalk

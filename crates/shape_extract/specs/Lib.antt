@@ -3,3 +3,4 @@ pub mod Answers
 pub mod Frames
 pub mod Extraction
 pub mod FirstCircuit
+pub mod Walk

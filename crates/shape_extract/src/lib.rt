@@ -5,6 +5,8 @@ mod answers;
 mod cells;
 mod extraction;
 mod first_chip;
+mod net_walk;
+mod touching;
 mod uniqueness;
 
 pub use answers::one_answer;
@@ -12,6 +14,7 @@ pub use cells::{ExCell, Feed};
 pub use extraction::{ExtractRefusal, Extracted};
 pub use first_chip::first_chip_extracted;
 pub use layout_rules::Rule;
+pub use net_walk::nets;
 pub use rowed::Source;
 pub use uniqueness::one_circuit;
 

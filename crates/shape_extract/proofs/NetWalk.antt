@@ -1,0 +1,268 @@
+-- What the walk over touching shapes keeps.
+use Rattle.std.proofs.Common.{◌≡◌, ◌≢◌, ℕ, suc, ◌+◌, ◌<◌, ◌≤◌, true, false, List, [], ◌∷◌, length, get_or, set, ◌++◌, Some, refl, sym, ap, subst, ◌∙◌, arith, inl, inr}
+use Rattle.std.specs.Prelude.{slice_index, sum}
+use Rattle.std.proofs.lemmas.List.{get_or-set_other, get_or-set_same, length-set}
+use Rattle.std.proofs.Math.ListN.{get_or-append, length-append}
+use Rattle.std.proofs.Math.Seq.{get_or-append_seam}
+use Rattle.std.proofs.lemmas.List.Sums.{sum_by-set}
+use Rattle.std.proofs.lemmas.Bool.{cases_eq, cases_lt}
+use Rattle.std.proofs.lemmas.Option.{slice_get_within, slice_get-get_or, get_or_from_slice_get}
+use Rattle.geom.specs.declared.shapes.Shape.{Shape}
+use Rattle.layout_rules.specs.Touch.{touch, Touching, Joined}
+use Rattle.layout_rules.specs.Nets.{AreNets}
+use Rattle.layout_rules.specs.NetLaws.{Touching-back, Touching-within, Joined-trans, Joined-touching, AreNets-certified}
+use Rattle.shape_extract.specs.Walk.{AreTouching, IsWalk, IsSpreadTo, IsDone, AreMarked, IsLowest}
+
+sum_lowered : (ls : List ℕ) (i v : ℕ) → i < length ls → v < slice_index ls i → sum (set ls i v) < sum ls
+sum_lowered ls i v lt less = omega (arith, sum_by-set (λ x. x) ls i v 0 lt)
+
+long_more : (order : List ℕ) (j : ℕ) → length (order ++ (j ∷ [])) ≡ suc (length order)
+long_more order j = omega (arith, length-append order (j ∷ []))
+
+old_place : (order : List ℕ) (j p : ℕ) → p < length order → slice_index (order ++ (j ∷ [])) p ≡ slice_index order p
+old_place order j p lt = get_or-append order (j ∷ []) 0 p lt
+
+new_place : (order : List ℕ) (j : ℕ) → slice_index (order ++ (j ∷ [])) (length order) ≡ j
+new_place order j = get_or-append_seam order j [] 0
+
+at_set : (ls : List ℕ) (j m k : ℕ) → k ≡ j → j < length ls → slice_index (set ls j m) k ≡ m
+at_set ls j m k e lt = ap (λ (x : ℕ). slice_index (set ls j m) x) e ∙ get_or-set_same ls j m 0 lt
+
+off_set : (ls : List ℕ) (j m k : ℕ) → k ≢ j → slice_index (set ls j m) k ≡ slice_index ls k
+off_set ls j m k ne = get_or-set_other ls j k m 0 ne
+
+-- one more shape is labelled
+pub walk_more : (shapes : List Shape) (labels order : List ℕ) (j m : ℕ) → IsWalk shapes labels order → j < length shapes → m < length shapes → m ≤ j → length shapes ≤ slice_index labels j → Joined shapes j m → IsWalk shapes (set labels j m) (order ++ (j ∷ []))
+walk_more shapes labels order j m w lj marked low free r =
+    let lj2 : j < length labels = omega (arith, w.long) in
+    record {
+      long = length-set labels j m ∙ w.long;
+      joined = λ k lk mk. elim (cases_eq k j) [
+        | inl e ↦
+            subst (λ (x : ℕ). Joined shapes k x) (sym (at_set labels j m k e lj2)) (subst (λ (x : ℕ). Joined shapes x m) (sym e) r)
+        | inr ne ↦ subst (λ (x : ℕ). Joined shapes k x) (sym (off_set labels j m k ne)) (w.joined k lk (omega (arith, off_set labels j m k ne)))
+      ];
+      lower = λ k lk mk. elim (cases_eq k j) [
+        | inl e ↦ omega (arith, at_set labels j m k e lj2)
+        | inr ne ↦ omega (arith, off_set labels j m k ne, w.lower k lk (omega (arith, off_set labels j m k ne)))
+      ];
+      ordered = λ k lk mk. elim (cases_eq k j) [
+        | inl e ↦ (length order, (omega (arith, long_more order j), new_place order j ∙ sym e))
+        | inr ne ↦
+            let p = w.ordered k lk (omega (arith, off_set labels j m k ne)) in
+            (p.0, (omega (arith, long_more order j, p.1.0), old_place order j p.0 p.1.0 ∙ p.1.1))
+      ];
+      within = λ p lp. elim (cases_lt p (length order)) [
+        | inl lt ↦ omega (arith, old_place order j p lt, w.within p lt)
+        | inr ge ↦ let e : p ≡ length order = omega (arith, long_more order j) in let f : slice_index (order ++ (j ∷ [])) p ≡ j = ap (λ (x : ℕ). slice_index (order ++ (j ∷ [])) x) e ∙ new_place order j in omega arith
+      ];
+      labelled = λ p lp. elim (cases_lt p (length order)) [
+        | inl lt ↦
+            let old = old_place order j p lt in
+            let was = w.labelled p lt in
+            let ne : slice_index order p ≢ j = λ e. absurd (let f : slice_index labels (slice_index order p) ≡ slice_index labels j = ap (λ (x : ℕ). slice_index labels x) e in omega arith) in
+            subst (λ (x : ℕ). slice_index (set labels j m) x < length shapes) (sym old) (omega (arith, off_set labels j m (slice_index order p) ne, was))
+        | inr ge ↦
+            let e : p ≡ length order = omega (arith, long_more order j) in
+            let f : slice_index (order ++ (j ∷ [])) p ≡ j = ap (λ (x : ℕ). slice_index (order ++ (j ∷ [])) x) e ∙ new_place order j in
+            omega (arith, at_set labels j m (slice_index (order ++ (j ∷ [])) p) f lj2)
+      ];
+    }
+
+pub spread_more : (shapes : List Shape) (numbers labels order new more : List ℕ) (from i : ℕ) → IsSpreadTo i shapes numbers labels order new more from
+    → IsLowest shapes labels (slice_index labels from) → from < length shapes → slice_index labels from < length shapes
+    → length shapes ≤ slice_index new (slice_index numbers i) → Touching shapes from (slice_index numbers i)
+    → IsSpreadTo (i + 1) shapes numbers labels order (set new (slice_index numbers i) (slice_index labels from)) (more ++ (slice_index numbers i ∷ [])) from
+spread_more shapes numbers labels order new more from i s below lf marked free t =
+    let j : ℕ = slice_index numbers i in
+    let m : ℕ = slice_index labels from in
+    let lj : j < length shapes = (Touching-within t).1 in
+    let low : m ≤ j = elim (cases_lt j m) [ inl lt ↦ absurd (omega (arith, below j lt, s.kept j (below j lt))) | inr ge ↦ ge ] in
+    let is_new : slice_index new from ≡ m = s.kept from marked in
+    let lj2 : j < length new = omega (arith, s.walk.long) in
+    let joined_so : Joined shapes j m = subst (λ (x : ℕ). Joined shapes j x) is_new (Joined-trans shapes j from (slice_index new from) (Joined-touching shapes j from (Touching-back t)) (s.walk.joined from lf (omega arith))) in
+    record {
+      walk = walk_more shapes new more j m s.walk lj marked low free joined_so;
+      kept = λ k lk. off_set new j m k (λ e. absurd (let f : slice_index new k ≡ slice_index new j = ap (λ (x : ℕ). slice_index new x) e in omega (arith, s.kept k lk))) ∙ s.kept k lk;
+      reached = λ p lp. elim (cases_eq (slice_index numbers p) j) [
+        | inl e ↦ omega (arith, at_set new j m (slice_index numbers p) e lj2)
+        | inr ne ↦ elim (cases_eq p i) [
+          | inl same ↦ absurd (ne (ap (λ (x : ℕ). slice_index numbers x) same))
+          | inr other ↦ omega (arith, off_set new j m (slice_index numbers p) ne, s.reached p (omega arith))
+        ]
+      ];
+      longer = omega (arith, long_more more j, s.longer);
+      prefix = λ p lp. old_place more j p (omega (arith, s.longer)) ∙ s.prefix p lp;
+      marked = λ p ge lp. elim (cases_lt p (length more)) [
+        | inl lt ↦
+            let ne : slice_index more p ≢ j = λ e. absurd (let f : slice_index new (slice_index more p) ≡ slice_index new j = ap (λ (x : ℕ). slice_index new x) e in omega (arith, s.walk.labelled p lt)) in
+            ap (λ (x : ℕ). slice_index (set new j m) x) (old_place more j p lt) ∙ off_set new j m (slice_index more p) ne ∙ s.marked p ge lt
+        | inr h ↦
+            let e : p ≡ length more = omega (arith, long_more more j) in
+            let f : slice_index (more ++ (j ∷ [])) p ≡ j = ap (λ (x : ℕ). slice_index (more ++ (j ∷ [])) x) e ∙ new_place more j in
+            at_set new j m (slice_index (more ++ (j ∷ [])) p) f lj2
+      ];
+      less = omega (arith, long_more more j, sum_lowered new j m lj2 (omega arith), s.less);
+    }
+
+pub spread_same : (shapes : List Shape) (numbers labels order new more : List ℕ) (from i : ℕ) → IsSpreadTo i shapes numbers labels order new more from
+    → slice_index new (slice_index numbers i) < length shapes → IsSpreadTo (i + 1) shapes numbers labels order new more from
+spread_same shapes numbers labels order new more from i s here = record {
+  walk = s.walk;
+  kept = s.kept;
+  reached = λ p lp. elim (cases_eq p i) [ inl e ↦ subst (λ (x : ℕ). slice_index new (slice_index numbers x) < length shapes) (sym e) here | inr ne ↦ s.reached p (omega arith) ];
+  longer = s.longer;
+  prefix = s.prefix;
+  marked = s.marked;
+  less = s.less;
+}
+
+-- the next of the order is done
+pub done_more : (shapes : List Shape) (labels order new more : List ℕ) (done m : ℕ) → IsWalk shapes labels order → IsDone shapes labels order done → AreMarked labels order done m → done < length order → (numbers : List ℕ) → AreTouching shapes (slice_index order done) numbers → IsSpreadTo (length numbers) shapes numbers labels order new more (slice_index order done) → IsDone shapes new more (done + 1)
+done_more shapes labels order new more done m w d marks ld numbers are s = λ p j lp touching.
+    let lp2 : p < length order = omega arith in
+    let same_place : slice_index more p ≡ slice_index order p = s.prefix p lp2 in
+    let t : Touching shapes (slice_index order p) j = subst (λ (x : ℕ). Touching shapes x j) same_place touching in
+    let lj : j < length shapes = slice_get_within shapes j t.second t.second_is in
+    let here : slice_index new (slice_index more p) ≡ slice_index labels (slice_index order p) = ap (λ (x : ℕ). slice_index new x) same_place ∙ s.kept (slice_index order p) (w.labelled p lp2) in
+    elim (cases_lt p done) [
+      | inl lt ↦
+          let e : slice_index labels j ≡ slice_index labels (slice_index order p) = d p j lt t in
+          s.kept j (omega (arith, w.labelled p lp2)) ∙ e ∙ sym here
+      | inr ge ↦
+          let e : p ≡ done = omega arith in
+          let u : Touching shapes (slice_index order done) j = subst (λ (x : ℕ). Touching shapes (slice_index order x) j) e t in
+          let mp : slice_index labels (slice_index order p) ≡ m = marks p ge lp2 in
+          let from_is : slice_index labels (slice_index order done) ≡ m = marks done (omega arith) ld in
+          let goal_is : slice_index new j ≡ m = elim (cases_lt (slice_index labels j) (length shapes)) [
+            | inl known ↦
+                let q = w.ordered j lj known in
+                elim (cases_lt q.0 done) [
+                  | inl before ↦
+                      let back : Touching shapes (slice_index order q.0) (slice_index order done) = subst (λ (x : ℕ). Touching shapes x (slice_index order done)) (sym q.1.1) (Touching-back u) in
+                      let f = d q.0 (slice_index order done) before back in
+                      let g : slice_index labels (slice_index order q.0) ≡ slice_index labels j = ap (λ (x : ℕ). slice_index labels x) q.1.1 in
+                      s.kept j known ∙ sym g ∙ sym f ∙ from_is
+                  | inr after ↦
+                      let g : slice_index labels (slice_index order q.0) ≡ slice_index labels j = ap (λ (x : ℕ). slice_index labels x) q.1.1 in
+                      s.kept j known ∙ sym g ∙ marks q.0 after q.1.0
+                ]
+            | inr free ↦
+                let n = are.complete j u in
+                let here : slice_index new j < length shapes = subst (λ (x : ℕ). slice_index new x < length shapes) n.1.1 (s.reached n.0 n.1.0) in
+                let q = s.walk.ordered j lj here in
+                let g : slice_index new (slice_index more q.0) ≡ slice_index new j = ap (λ (x : ℕ). slice_index new x) q.1.1 in
+                elim (cases_lt q.0 (length order)) [
+                  | inl before ↦ absurd (let f : slice_index labels (slice_index order q.0) ≡ slice_index labels j = ap (λ (x : ℕ). slice_index labels x) (sym (s.prefix q.0 before) ∙ q.1.1) in omega (arith, w.labelled q.0 before))
+                  | inr after ↦ sym g ∙ s.marked q.0 after q.1.0 ∙ from_is
+                ]
+          ] in
+          goal_is ∙ sym mp ∙ sym here
+    ]
+
+pub marks_more : (shapes : List Shape) (labels order new more : List ℕ) (done m : ℕ) → IsWalk shapes labels order → AreMarked labels order done m → done < length order → (numbers : List ℕ) → AreTouching shapes (slice_index order done) numbers → IsSpreadTo (length numbers) shapes numbers labels order new more (slice_index order done) → AreMarked new more (done + 1) m
+marks_more shapes labels order new more done m w marks ld numbers are s = λ p ge lp. elim (cases_lt p (length order)) [
+  | inl before ↦ ap (λ (x : ℕ). slice_index new x) (s.prefix p before) ∙ s.kept (slice_index order p) (w.labelled p before) ∙ marks p (omega arith) before
+  | inr after ↦ s.marked p after lp ∙ marks done (omega arith) ld
+]
+
+-- a walk that is done and has labelled each shape gives the nets
+pub nets_from_walk : (shapes : List Shape) (labels order : List ℕ) → IsWalk shapes labels order → IsDone shapes labels order (length order) → ((k : ℕ) → k < length shapes → slice_index labels k < length shapes) → AreNets shapes labels
+nets_from_walk shapes labels order w d all = AreNets-certified shapes labels (record {
+  long = w.long;
+  joined = λ i li. w.joined i li (all i li);
+  not_above = λ i li. w.lower i li (all i li);
+  agree = λ i j t.
+      let li : i < length shapes = (Touching-within t).0 in
+      let q = w.ordered i li (all i li) in
+      let f = d q.0 j q.1.0 (subst (λ (x : ℕ). Touching shapes x j) (sym q.1.1) t) in
+      let g : slice_index labels (slice_index order q.0) ≡ slice_index labels i = ap (λ (x : ℕ). slice_index labels x) q.1.1 in
+      sym g ∙ sym f;
+})
+
+-- a shape that is not reached begins a net
+pub root_done : (shapes : List Shape) (labels order : List ℕ) (i : ℕ) → IsWalk shapes labels order → IsDone shapes labels order (length order) → i < length shapes → length shapes ≤ slice_index labels i → IsDone shapes (set labels i i) (order ++ (i ∷ [])) (length order)
+root_done shapes labels order i w d li free = λ p j lp touching.
+    let t : Touching shapes (slice_index order p) j = subst (λ (x : ℕ). Touching shapes x j) (old_place order i p lp) touching in
+    let e : slice_index labels j ≡ slice_index labels (slice_index order p) = d p j lp t in
+    let known = w.labelled p lp in
+    let ne : j ≢ i = λ f. absurd (let g : slice_index labels j ≡ slice_index labels i = ap (λ (x : ℕ). slice_index labels x) f in omega arith) in
+    let ne2 : slice_index order p ≢ i = λ f. absurd (let g : slice_index labels (slice_index order p) ≡ slice_index labels i = ap (λ (x : ℕ). slice_index labels x) f in omega arith) in
+    off_set labels i i j ne ∙ e ∙ sym (off_set labels i i (slice_index order p) ne2) ∙ sym (ap (λ (x : ℕ). slice_index (set labels i i) x) (old_place order i p lp))
+
+pub root_marked : (labels order : List ℕ) (i : ℕ) → i < length labels → AreMarked (set labels i i) (order ++ (i ∷ [])) (length order) i
+root_marked labels order i li = λ p ge lp.
+    let e : p ≡ length order = omega (arith, long_more order i) in
+    let f : slice_index (order ++ (i ∷ [])) p ≡ i = ap (λ (x : ℕ). slice_index (order ++ (i ∷ [])) x) e ∙ new_place order i in
+    at_set labels i i (slice_index (order ++ (i ∷ [])) p) f li
+
+pub root_walk : (shapes : List Shape) (labels order : List ℕ) (i : ℕ) → IsWalk shapes labels order → i < length shapes → length shapes ≤ slice_index labels i → IsWalk shapes (set labels i i) (order ++ (i ∷ []))
+root_walk shapes labels order i w li free = walk_more shapes labels order i i w li li (omega arith) free ([], refl)
+
+pub root_kept : (n : ℕ) (labels : List ℕ) (i k : ℕ) → i < n → i < length labels → slice_index labels k < n → slice_index (set labels i i) k < n
+root_kept n labels i k ln li lk = elim (cases_eq k i) [ inl e ↦ omega (arith, at_set labels i i k e li) | inr ne ↦ omega (arith, off_set labels i i k ne) ]
+
+pub root_self : (labels : List ℕ) (i : ℕ) → i < length labels → slice_index (set labels i i) i ≡ i
+root_self labels i li = at_set labels i i i refl li
+
+-- no shape is labelled
+pub walk_none : (shapes : List Shape) (labels : List ℕ) → length labels ≡ length shapes → ((k : ℕ) → k < length shapes → slice_index labels k ≡ length shapes) → IsWalk shapes labels []
+walk_none shapes labels e all = record {
+  long = e;
+  joined = λ k lk mk. absurd (omega (arith, all k lk));
+  lower = λ k lk mk. absurd (omega (arith, all k lk));
+  ordered = λ k lk mk. absurd (omega (arith, all k lk));
+  within = λ p lp. absurd (omega arith);
+  labelled = λ p lp. absurd (omega arith);
+}
+
+-- of the shapes below n, these are those that touch shape `from`
+pub record AreTouchingBelow (n : ℕ) (shapes : List Shape) (from : ℕ) (numbers : List ℕ) : Type 0 where
+  pub each : (p : ℕ) → p < length numbers → Touching shapes from (slice_index numbers p)
+  pub complete : (j : ℕ) → j < n → Touching shapes from j → (p : ℕ) × ((p < length numbers) × (slice_index numbers p ≡ j))
+
+pub touching_none : (shapes : List Shape) (from : ℕ) → AreTouchingBelow 0 shapes from []
+touching_none shapes from = record { each = λ p lp. absurd (omega arith); complete = λ j lj t. absurd (omega arith) }
+
+pub touching_more : (shapes : List Shape) (from n : ℕ) (numbers : List ℕ) → AreTouchingBelow n shapes from numbers → Touching shapes from n → AreTouchingBelow (n + 1) shapes from (numbers ++ (n ∷ []))
+touching_more shapes from n numbers are t = record {
+  each = λ p lp. elim (cases_lt p (length numbers)) [
+    | inl lt ↦ subst (λ (x : ℕ). Touching shapes from x) (sym (old_place numbers n p lt)) (are.each p lt)
+    | inr ge ↦
+        let e : p ≡ length numbers = omega (arith, long_more numbers n) in
+        subst (λ (x : ℕ). Touching shapes from (slice_index (numbers ++ (n ∷ [])) x)) (sym e) (subst (λ (x : ℕ). Touching shapes from x) (sym (new_place numbers n)) t)
+  ];
+  complete = λ j lj touching. elim (cases_eq j n) [
+    | inl e ↦ (length numbers, (omega (arith, long_more numbers n), new_place numbers n ∙ sym e))
+    | inr ne ↦ let p = are.complete j (omega arith) touching in (p.0, (omega (arith, long_more numbers n, p.1.0), old_place numbers n p.0 p.1.0 ∙ p.1.1))
+  ];
+}
+
+pub touching_same : (shapes : List Shape) (from n : ℕ) (numbers : List ℕ) → AreTouchingBelow n shapes from numbers → (Touching shapes from n → ⊥) → AreTouchingBelow (n + 1) shapes from numbers
+touching_same shapes from n numbers are not_so = record {
+  each = are.each;
+  complete = λ j lj touching. elim (cases_eq j n) [
+    | inl e ↦ absurd (not_so (subst (λ (x : ℕ). Touching shapes from x) e touching))
+    | inr ne ↦ are.complete j (omega arith) touching
+  ];
+}
+
+-- all shapes are below their number
+pub touching_all : (shapes : List Shape) (from n : ℕ) (numbers : List ℕ) → length shapes ≤ n → AreTouchingBelow n shapes from numbers → AreTouching shapes from numbers
+touching_all shapes from n numbers all are = record { each = are.each; complete = λ j t. (let within : j < length shapes = (Touching-within t).1 in are.complete j (omega arith) t) }
+
+pub touching_at : (shapes : List Shape) (i j : ℕ) (s t : Shape) → i < length shapes → j < length shapes → s ≡ get_or shapes i s → t ≡ get_or shapes j t → touch s t ≡ true → Touching shapes i j
+touching_at shapes i j s t li lj is js e = record {
+  first = s;
+  second = t;
+  first_is = slice_get-get_or shapes i s li ∙ sym (ap Some is);
+  second_is = slice_get-get_or shapes j t lj ∙ sym (ap Some js);
+  touch_so = e;
+}
+
+pub not_touching : (shapes : List Shape) (i j : ℕ) (s t : Shape) → s ≡ get_or shapes i s → t ≡ get_or shapes j t → touch s t ≡ false → Touching shapes i j → ⊥
+not_touching shapes i j s t is js e touching =
+    let a : s ≡ touching.first = is ∙ get_or_from_slice_get shapes i touching.first s touching.first_is in
+    let b : t ≡ touching.second = js ∙ get_or_from_slice_get shapes j touching.second t touching.second_is in
+    let k : true ≡ false = sym touching.touch_so ∙ (sym (ap (λ (x : Shape). touch x touching.second) a) ∙ (sym (ap (λ (x : Shape). touch s x) b) ∙ e)) in
+    absurd cc
