@@ -1,3 +1,5 @@
 mod Due
 mod EveryOrder
 mod Settling
+mod InPlace
+mod Readings

@@ -157,19 +157,19 @@ some_tick circuit word time old =
 
 -- ---- and gives one state
 
-next_fluxes-length : (word : Option (List Bool)) (time : ℕ) (state : List Flux) (cells : List ExCell) (fluxes : List Flux) → length fluxes ≡ length cells → length (next_fluxes word time state cells fluxes) ≡ length cells
+pub next_fluxes-length : (word : Option (List Bool)) (time : ℕ) (state : List Flux) (cells : List ExCell) (fluxes : List Flux) → length fluxes ≡ length cells → length (next_fluxes word time state cells fluxes) ≡ length cells
 next_fluxes-length word time state [] fluxes e = refl
 next_fluxes-length word time state (cell ∷ cells) [] e = absurd cc
 next_fluxes-length word time state (cell ∷ cells) (flux ∷ fluxes) e = ap suc (next_fluxes-length word time state cells fluxes (omega arith))
 
-next_fluxes-at : (word : Option (List Bool)) (time : ℕ) (state : List Flux) (cells : List ExCell) (fluxes : List Flux) (c : ℕ) (cell : ExCell) → length fluxes ≡ length cells → slice_get cells c ≡ Some cell
+pub next_fluxes-at : (word : Option (List Bool)) (time : ℕ) (state : List Flux) (cells : List ExCell) (fluxes : List Flux) (c : ℕ) (cell : ExCell) → length fluxes ≡ length cells → slice_get cells c ≡ Some cell
     → get_or (next_fluxes word time state cells fluxes) c Off ≡ next_flux word time state cell (get_or fluxes c Off)
 next_fluxes-at word time state [] fluxes c cell e is = absurd cc
 next_fluxes-at word time state (x ∷ cells) [] c cell e is = absurd cc
 next_fluxes-at word time state (x ∷ cells) (flux ∷ fluxes) zero cell e is = ap (λ (y : ExCell). next_flux word time state y flux) (same_Some x cell is)
 next_fluxes-at word time state (x ∷ cells) (flux ∷ fluxes) (suc c) cell e is = next_fluxes-at word time state cells fluxes c cell (omega arith) is
 
-cell_at : (cells : List ExCell) (c : ℕ) → c < length cells → (cell : ExCell) × (slice_get cells c ≡ Some cell)
+pub cell_at : (cells : List ExCell) (c : ℕ) → c < length cells → (cell : ExCell) × (slice_get cells c ≡ Some cell)
 cell_at [] c lt = absurd (omega arith)
 cell_at (cell ∷ cells) zero lt = (cell, refl)
 cell_at (cell ∷ cells) (suc c) lt = cell_at cells c (omega arith)

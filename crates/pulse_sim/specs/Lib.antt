@@ -4,3 +4,5 @@ pub mod Ticks
 pub mod Runs
 pub mod Shows
 pub mod Settled
+pub mod Pulsing
+pub mod Steps
