@@ -7,4 +7,6 @@ mod Kept
 mod OneLine
 mod OneOrder
 mod OneCircuit
+mod Searching
+mod Marked
 mod NetWalk

@@ -3,4 +3,6 @@ pub mod Answers
 pub mod Frames
 pub mod Extraction
 pub mod FirstCircuit
+pub mod Cells
+pub mod Searches
 pub mod Walk

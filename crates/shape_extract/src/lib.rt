@@ -2,10 +2,12 @@
 #![tactic(auto)]
 
 mod answers;
+mod cell_rule;
 mod cells;
 mod extraction;
 mod first_chip;
 mod net_walk;
+mod search;
 mod touching;
 mod uniqueness;
 
