@@ -9,4 +9,5 @@ mod OneOrder
 mod OneCircuit
 mod Searching
 mod Marked
+mod NetPins
 mod NetWalk

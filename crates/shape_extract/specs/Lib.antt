@@ -5,4 +5,6 @@ pub mod Extraction
 pub mod FirstCircuit
 pub mod Cells
 pub mod Searches
+pub mod NetPins
+pub mod Faults
 pub mod Walk

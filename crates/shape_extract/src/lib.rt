@@ -6,6 +6,8 @@ mod cell_rule;
 mod cells;
 mod extraction;
 mod first_chip;
+mod labels;
+mod net_rule;
 mod net_walk;
 mod search;
 mod touching;

@@ -6,6 +6,7 @@ ghost use Rattle.layout_rules.specs.Touch.{conducts, touch};
 use geom::{Shape, touches};
 use layout_rules::layers::{INPUT_PIN, M1, M2, OUTPUT_PIN, VIA};
 
+/// Whether the shape is a pin.
 pub fn is_pin(s: &Shape) -> bool
     ensures { result ≡ is_pin s.now }
 {
