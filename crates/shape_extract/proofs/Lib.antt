@@ -10,4 +10,5 @@ mod OneCircuit
 mod Searching
 mod Marked
 mod NetPins
+mod RowEdges
 mod NetWalk

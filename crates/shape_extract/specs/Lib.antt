@@ -4,6 +4,7 @@ pub mod Frames
 pub mod Extraction
 pub mod FirstCircuit
 pub mod Cells
+pub mod Edges
 pub mod Searches
 pub mod NetPins
 pub mod Faults
