@@ -1,16 +1,18 @@
 -- What the walk over touching shapes keeps.
-use Rattle.std.proofs.Common.{◌≡◌, ◌≢◌, ℕ, suc, ◌+◌, ◌<◌, ◌≤◌, true, false, List, [], ◌∷◌, length, get_or, set, ◌++◌, Some, refl, sym, ap, subst, ◌∙◌, arith, inl, inr}
+use Rattle.std.proofs.Common.{◌≡◌, ◌≢◌, ℕ, suc, ◌+◌, ◌<◌, ◌≤◌, List, [], ◌∷◌, length, set, ◌++◌, refl, sym, ap, subst, ◌∙◌, arith, inl, inr}
 use Rattle.std.specs.Prelude.{slice_index, sum}
 use Rattle.std.proofs.lemmas.List.{get_or-set_other, get_or-set_same, length-set}
 use Rattle.std.proofs.Math.ListN.{get_or-append, length-append}
 use Rattle.std.proofs.Math.Seq.{get_or-append_seam}
 use Rattle.std.proofs.lemmas.List.Sums.{sum_by-set}
 use Rattle.std.proofs.lemmas.Bool.{cases_eq, cases_lt}
-use Rattle.std.proofs.lemmas.Option.{slice_get_within, slice_get-get_or, get_or_from_slice_get}
+use Rattle.std.proofs.lemmas.Option.{slice_get_within}
 use Rattle.geom.specs.declared.shapes.Shape.{Shape}
 use Rattle.layout_rules.specs.Touch.{touch, Touching, Joined}
+use Rattle.layout_rules.specs.Reports.{PassTogether}
 use Rattle.layout_rules.specs.Nets.{AreNets}
 use Rattle.layout_rules.specs.NetLaws.{Touching-back, Touching-within, Joined-trans, Joined-touching, AreNets-certified}
+use Rattle.shape_extract.specs.Searches.{AreThose}
 use Rattle.shape_extract.specs.Walk.{AreTouching, IsWalk, IsSpreadTo, IsDone, AreMarked, IsLowest}
 
 sum_lowered : (ls : List ℕ) (i v : ℕ) → i < length ls → v < slice_index ls i → sum (set ls i v) < sum ls
@@ -216,53 +218,9 @@ walk_none shapes labels e all = record {
   labelled = λ p lp. absurd (omega arith);
 }
 
--- of the shapes below n, these are those that touch shape `from`
-pub record AreTouchingBelow (n : ℕ) (shapes : List Shape) (from : ℕ) (numbers : List ℕ) : Type 0 where
-  pub each : (p : ℕ) → p < length numbers → Touching shapes from (slice_index numbers p)
-  pub complete : (j : ℕ) → j < n → Touching shapes from j → (p : ℕ) × ((p < length numbers) × (slice_index numbers p ≡ j))
-
-pub touching_none : (shapes : List Shape) (from : ℕ) → AreTouchingBelow 0 shapes from []
-touching_none shapes from = record { each = λ p lp. absurd (omega arith); complete = λ j lj t. absurd (omega arith) }
-
-pub touching_more : (shapes : List Shape) (from n : ℕ) (numbers : List ℕ) → AreTouchingBelow n shapes from numbers → Touching shapes from n → AreTouchingBelow (n + 1) shapes from (numbers ++ (n ∷ []))
-touching_more shapes from n numbers are t = record {
-  each = λ p lp. elim (cases_lt p (length numbers)) [
-    | inl lt ↦ subst (λ (x : ℕ). Touching shapes from x) (sym (old_place numbers n p lt)) (are.each p lt)
-    | inr ge ↦
-        let e : p ≡ length numbers = omega (arith, long_more numbers n) in
-        subst (λ (x : ℕ). Touching shapes from (slice_index (numbers ++ (n ∷ [])) x)) (sym e) (subst (λ (x : ℕ). Touching shapes from x) (sym (new_place numbers n)) t)
-  ];
-  complete = λ j lj touching. elim (cases_eq j n) [
-    | inl e ↦ (length numbers, (omega (arith, long_more numbers n), new_place numbers n ∙ sym e))
-    | inr ne ↦ let p = are.complete j (omega arith) touching in (p.0, (omega (arith, long_more numbers n, p.1.0), old_place numbers n p.0 p.1.0 ∙ p.1.1))
-  ];
+-- the shapes that pass the test of touch are those that touch
+pub touching_from : (shapes : List Shape) (from : ℕ) (numbers : List ℕ) → AreThose (PassTogether touch shapes from) numbers → AreTouching shapes from numbers
+touching_from shapes from numbers are = record {
+  each = λ p lp. (let both : PassTogether touch shapes from (slice_index numbers p) = are.each p lp in record { first = both.first; second = both.second; first_is = both.first_is; second_is = both.second_is; touch_so = both.passes_so });
+  complete = λ j t. are.complete j (record { first = t.first; second = t.second; first_is = t.first_is; second_is = t.second_is; passes_so = t.touch_so });
 }
-
-pub touching_same : (shapes : List Shape) (from n : ℕ) (numbers : List ℕ) → AreTouchingBelow n shapes from numbers → (Touching shapes from n → ⊥) → AreTouchingBelow (n + 1) shapes from numbers
-touching_same shapes from n numbers are not_so = record {
-  each = are.each;
-  complete = λ j lj touching. elim (cases_eq j n) [
-    | inl e ↦ absurd (not_so (subst (λ (x : ℕ). Touching shapes from x) e touching))
-    | inr ne ↦ are.complete j (omega arith) touching
-  ];
-}
-
--- all shapes are below their number
-pub touching_all : (shapes : List Shape) (from n : ℕ) (numbers : List ℕ) → length shapes ≤ n → AreTouchingBelow n shapes from numbers → AreTouching shapes from numbers
-touching_all shapes from n numbers all are = record { each = are.each; complete = λ j t. (let within : j < length shapes = (Touching-within t).1 in are.complete j (omega arith) t) }
-
-pub touching_at : (shapes : List Shape) (i j : ℕ) (s t : Shape) → i < length shapes → j < length shapes → s ≡ get_or shapes i s → t ≡ get_or shapes j t → touch s t ≡ true → Touching shapes i j
-touching_at shapes i j s t li lj is js e = record {
-  first = s;
-  second = t;
-  first_is = slice_get-get_or shapes i s li ∙ sym (ap Some is);
-  second_is = slice_get-get_or shapes j t lj ∙ sym (ap Some js);
-  touch_so = e;
-}
-
-pub not_touching : (shapes : List Shape) (i j : ℕ) (s t : Shape) → s ≡ get_or shapes i s → t ≡ get_or shapes j t → touch s t ≡ false → Touching shapes i j → ⊥
-not_touching shapes i j s t is js e touching =
-    let a : s ≡ touching.first = is ∙ get_or_from_slice_get shapes i touching.first s touching.first_is in
-    let b : t ≡ touching.second = js ∙ get_or_from_slice_get shapes j touching.second t touching.second_is in
-    let k : true ≡ false = sym touching.touch_so ∙ (sym (ap (λ (x : Shape). touch x touching.second) a) ∙ (sym (ap (λ (x : Shape). touch s x) b) ∙ e)) in
-    absurd cc

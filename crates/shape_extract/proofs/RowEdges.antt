@@ -1,11 +1,14 @@
 -- Lower edges, read, sorted and each kept once, are the rows.
 use Rattle.std.proofs.Common.{◌≡◌, ℕ, zero, suc, ◌+◌, ◌-◌, ◌<◌, ◌≤◌, ◌⊎◌, Bool, true, false, List, [], ◌∷◌, ◌++◌, length, get_or, Some, ℤ, refl, sym, ap, subst, ◌∙◌, arith, inl, inr}
 use Rattle.std.specs.Prelude.{slice_get, int_lt, IsSorted, IsPermutation, Contains}
-use Rattle.std.specs.Ordering.{int_cmp, is_lt}
-use Rattle.std.proofs.lemmas.Bool.{cases_eq, both_ways}
+use Rattle.std.specs.Ordering.{int_cmp, is_lt, ordering_index}
+use Rattle.std.specs.declared.cmp.Ordering.TheVariants.{Less, Equal, Greater}
+use Rattle.std.specs.List.{HoldsAt}
+use Rattle.std.specs.List.Sorted.{IsNonDecreasingBy, IsPartitionPoint}
+use Rattle.std.proofs.lemmas.Bool.{cases_eq, cases_lt, both_ways}
 use Rattle.std.proofs.lemmas.Int.{ints}
-use Rattle.std.proofs.lemmas.Cmp.{int_cmp_total}
-use Rattle.std.proofs.lemmas.List.Sorted.{ranks_by, sorted_far, IsPermutation-sym, Contains-permutation}
+use Rattle.std.proofs.lemmas.Cmp.{int_cmp_total, int_ranked}
+use Rattle.std.proofs.lemmas.List.Sorted.{ranks_by, sorted_far, searchable_from_sorted, IsPermutation-sym, Contains-permutation}
 use Rattle.std.proofs.lemmas.Option.{same_Some, slice_get_within, slice_get-get_or, get_or_from_slice_get}
 use Rattle.geom.specs.declared.shapes.Shape.{Shape}
 use Rattle.layout_rules.specs.Layers.{is_frame}
@@ -192,3 +195,34 @@ ends_said numbers y false d some says = λ ends.
 
 pub ends_empty : (numbers : List ℤ) (y : ℤ) → length numbers ≡ 0 → EndsWith numbers y → ⊥
 ends_empty numbers y none ends = omega (arith, ends.last)
+
+-- ---- the place of an edge among rising edges
+
+rises_at : (edges : List ℤ) → Rises edges → (i j : ℕ) (d : ℤ) → i < j → j < length edges → int_lt (get_or edges i d) (get_or edges j d) ≡ true
+rises_at edges rises i j d lt within = rises i j (get_or edges i d) (get_or edges j d) (slice_get-get_or edges i d (omega arith)) (slice_get-get_or edges j d within) lt
+
+less_is : (x y : ℤ) → int_lt x y ≡ true → is_lt (int_cmp y x) ≡ false
+less_is x y h = grind (arith, ints)
+
+-- rising edges are sorted
+pub sorted_from_rises : (edges : List ℤ) → Rises edges → IsSorted int_cmp edges
+sorted_from_rises edges rises k d _ lt = less_is (get_or edges k d) (get_or edges (k + 1) d) (rises_at edges rises k (k + 1) d (omega arith) lt)
+
+cmp_self : (y : ℤ) → int_cmp y y ≡ Equal
+cmp_self y = let no : int_lt y y ≡ false = grind (arith, ints) in rw no refl
+
+equal_same : (x y : ℤ) → int_cmp x y ≡ Equal → x ≡ y
+equal_same x y h = int_ranked x y Equal (sym h)
+
+pub row_found : (edges : List ℤ) (y : ℤ) (r : ℕ) → r < length edges → HoldsAt (λ z. int_cmp z y ≡ Equal) edges r → slice_get edges r ≡ Some y
+row_found edges y r lt at = slice_get-get_or edges r y lt ∙ ap Some (equal_same (get_or edges r y) y (at y))
+
+pub row_missed : (edges : List ℤ) (y : ℤ) (r : ℕ) → Rises edges → IsAmong edges y → (IsNonDecreasingBy (λ z. ordering_index (int_cmp z y)) edges → IsPartitionPoint (λ z. int_cmp z y ≡ Less) (λ z. int_cmp z y ≡ Greater) edges r) → ⊥
+row_missed edges y r rises among parts =
+    let both = parts (searchable_from_sorted int_cmp_total (λ z. z) edges y (sorted_from_rises edges rises)) in
+    let lt : among.0 < length edges = slice_get_within edges among.0 y among.1 in
+    let is : get_or edges among.0 y ≡ y = get_or_from_slice_get edges among.0 y y among.1 in
+    elim (cases_lt among.0 r) [
+      | inl below ↦ (let e : Less ≡ Equal = sym (both.0 among.0 y (omega arith) below) ∙ (ap (λ (z : ℤ). int_cmp z y) is ∙ cmp_self y) in absurd cc)
+      | inr above ↦ (let e : Greater ≡ Equal = sym (both.1 among.0 y above lt) ∙ (ap (λ (z : ℤ). int_cmp z y) is ∙ cmp_self y) in absurd cc)
+    ]

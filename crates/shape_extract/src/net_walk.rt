@@ -1,28 +1,34 @@
 // Nets, by a walk from each shape that is not reached yet.
 ghost use Rattle.std.specs.Prelude.{◌≡◌, ℕ, ◌+◌, ◌^◌, ◌<◌, ◌≤◌, length, IfOk, slice_index};
 ghost use Rattle.geom.specs.FlatForm.{flat_count};
+ghost use Rattle.layout_rules.specs.Touch.{touch};
 ghost use Rattle.layout_rules.specs.Nets.{AreNets};
 ghost use Rattle.shape_extract.specs.Walk.{AreTouching, IsWalk, IsSpreadTo, IsDone, AreMarked, IsLowest, IsGrown};
 
+use crate::search::{PairTest, list_partners};
 use crate::touching::touch;
 use aq_base::{List, Memory};
 use geom::{Flat, Shape};
 use std::alloc::Global;
 
-/// Lists exactly the shapes that touch the one of this number, by comparing it with each.
+/// Two shapes that conduct to each other and share a point.
+struct Touch;
+
+impl PairTest for Touch {
+    ghost passes = { λ s a b. touch a b };
+
+    fn passes(&self, a: &Shape, b: &Shape) -> bool {
+        touch(a, b)
+    }
+}
+
+/// Lists exactly the shapes that touch the one of this number.
 fn list_touching(shapes: &[Shape], from: u32, found: &mut Vec<u32>) -> Result<(), Memory>
     requires within { from < length shapes.now }
     requires few { length shapes.now < 2 ^ 32 }
     ensures { IfOk result (λ _. AreTouching shapes.now from found.new.items) }
 {
-    found.clear();
-    let shape = &shapes[from as usize];
-    for (number, other) in shapes.iter().enumerate() {
-        if touch(shape, other) {
-            found.push(number as u32)?;
-        }
-    }
-    Ok(())
+    list_partners(&Touch, shapes, from, found)
 }
 
 /// Labels those of these shapes that have no label yet as shape `from` is labelled, and adds them to the order.

@@ -1,9 +1,9 @@
 // Rows: the lower edges of the frames, each once and rising.
-ghost use Rattle.std.specs.Prelude.{◌≡◌, IfOk, IsSorted};
+ghost use Rattle.std.specs.Prelude.{◌≡◌, IfOk, IsSorted, Some, slice_get};
 ghost use Rattle.std.specs.Ordering.{int_cmp};
 ghost use Rattle.layout_rules.specs.Rows.{AreRows};
 ghost use Rattle.shape_extract.specs.Searches.{Says};
-ghost use Rattle.shape_extract.specs.Edges.{AreEdges, AreDistinct, EndsWith};
+ghost use Rattle.shape_extract.specs.Edges.{AreEdges, AreDistinct, EndsWith, IsAmong, Rises};
 
 use crate::cell_rule::is_frame;
 use aq_base::Memory;
@@ -66,4 +66,16 @@ pub fn rows(alloc: Global, shapes: &[Shape]) -> Result<Vec<i64>, Memory>
     let mut edges = frame_edges(alloc, shapes)?;
     edges.sort_unstable();
     distinct(alloc, edges.as_slice())
+}
+
+/// The row with this lower edge, which is one of the rising edges.
+pub fn row_at(edges: &[i64], y: i64) -> usize
+    requires rising { Rises edges.now }
+    requires among { IsAmong edges.now y }
+    ensures { slice_get edges.now result ≡ Some y }
+{
+    match edges.binary_search(&y) {
+        Ok(row) => row,
+        Err(row) => row,
+    }
 }
