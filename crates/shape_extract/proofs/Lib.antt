@@ -10,5 +10,6 @@ mod OneCircuit
 mod Searching
 mod Marked
 mod NetPins
+mod PinFrames
 mod RowEdges
 mod NetWalk

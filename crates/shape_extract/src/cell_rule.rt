@@ -56,9 +56,9 @@ fn lies_in(pin: &Shape, frame: &Shape) -> bool
 }
 
 /// A pin, and a frame in which it lies.
-pub struct LiesIn;
+pub struct PinInFrame;
 
-impl PairTest for LiesIn {
+impl PairTest for PinInFrame {
     ghost passes = { λ s pin frame. lies_in pin frame };
 
     fn passes(&self, a: &Shape, b: &Shape) -> bool {
@@ -171,7 +171,7 @@ fn lies_in_one_frame(shapes: &[Shape], p: u32, found: &mut Vec<u32>) -> Result<b
     requires within { p < length shapes.now }
     ensures { IfOk result (λ yes. Says yes (LiesInOneFrame shapes.now p)) }
 {
-    list_partners(&LiesIn, shapes, p, found)?;
+    list_partners(&PinInFrame, shapes, p, found)?;
     Ok(found.len() == 1)
 }
 

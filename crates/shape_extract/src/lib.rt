@@ -9,6 +9,7 @@ mod first_chip;
 mod labels;
 mod net_rule;
 mod net_walk;
+mod pin_frames;
 mod row_edges;
 mod search;
 mod touching;
