@@ -5,6 +5,7 @@ pub mod Extraction
 pub mod FirstCircuit
 pub mod Cells
 pub mod Edges
+pub mod PinRows
 pub mod Searches
 pub mod NetPins
 pub mod Faults

@@ -10,7 +10,8 @@ use aq_base::Memory;
 use geom::Shape;
 use std::alloc::Global;
 
-fn lower_edge(shape: &Shape) -> i64
+/// The lower edge of the shape.
+pub fn lower_edge(shape: &Shape) -> i64
     ensures { result ≡ shape.now.rect.y0 }
 {
     let rect = &shape.rect;
