@@ -1,5 +1,5 @@
 -- The head of the record at a place of some bytes.
-use Rattle.std.specs.Prelude.{◌≡◌, ℕ, ◌+◌, ◌<◌, ◌≤◌, List, length, drop}
+use Rattle.std.specs.Prelude.{◌≡◌, ℕ, ◌<◌, ◌≤◌, List, length, drop}
 use Rattle.gds_records.specs.declared.head.Head.{Head}
 use Rattle.gds_records.specs.declared.head.Head.TheVariants.{Short, Full}
 use Rattle.gds_records.specs.Faults.{length_of, kind_of, form_of}

@@ -11,7 +11,7 @@ mod writer;
 pub use fault::StreamKind;
 pub use head::{Head, record_head};
 pub use laws::{
-    fault_is_found, first_chip_is_stream, found_is_fault, no_fault_is_stream, one_layout, one_of_both, steps_tell_scan,
-    stream_is_found, written_is_read,
+    fault_is_found, first_chip_is_stream, found_is_fault, no_fault_is_stream, one_layout,
+    one_of_both, steps_tell_scan, stream_is_found, written_is_read,
 };
 pub use writer::{WriteRefusal, write_stream};

@@ -127,7 +127,11 @@ fn put_label(into: &mut Vec<u8>, label: &Label) -> Result<(), Memory>
 }
 
 /// An element of a structure among these.
-pub fn put_element(into: &mut Vec<u8>, structures: &[Structure], element: &Element) -> Result<(), Memory>
+pub fn put_element(
+    into: &mut Vec<u8>,
+    structures: &[Structure],
+    element: &Element,
+) -> Result<(), Memory>
     requires element { IsWritableElement (length structures.now) element.now }
     requires names { All (IsWritableStructure (length structures.now)) structures.now }
     ensures { OnOk result (Gains into.old.items into.new.items (flat_map spelled (element_records (names_in structures.now) element.now))) }

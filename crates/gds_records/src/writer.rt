@@ -116,7 +116,12 @@ fn append_pieces<F: Files>(files: &mut F, buffer: &mut Vec<u8>) -> Result<(), Wr
     Ok(())
 }
 
-fn write_element<F: Files>(element: &Element, structures: &[Structure], files: &mut F, buffer: &mut Vec<u8>) -> Result<(), WriteRefusal>
+fn write_element<F: Files>(
+    element: &Element,
+    structures: &[Structure],
+    files: &mut F,
+    buffer: &mut Vec<u8>,
+) -> Result<(), WriteRefusal>
     requires open { IsSome (F.opened files.old) }
     requires element { IsWritableElement (length structures.now) element.now }
     requires names { All (IsWritableStructure (length structures.now)) structures.now }
@@ -132,7 +137,12 @@ fn write_element<F: Files>(element: &Element, structures: &[Structure], files: &
     append_pieces(files, buffer)
 }
 
-fn write_elements<F: Files>(elements: &[Element], structures: &[Structure], files: &mut F, buffer: &mut Vec<u8>) -> Result<(), WriteRefusal>
+fn write_elements<F: Files>(
+    elements: &[Element],
+    structures: &[Structure],
+    files: &mut F,
+    buffer: &mut Vec<u8>,
+) -> Result<(), WriteRefusal>
     requires open { IsSome (F.opened files.old) }
     requires elements { All (IsWritableElement (length structures.now)) elements.now }
     requires names { All (IsWritableStructure (length structures.now)) structures.now }
@@ -150,7 +160,12 @@ fn write_elements<F: Files>(elements: &[Element], structures: &[Structure], file
     Ok(())
 }
 
-fn write_structure<F: Files>(structure: &Structure, structures: &[Structure], files: &mut F, buffer: &mut Vec<u8>) -> Result<(), WriteRefusal>
+fn write_structure<F: Files>(
+    structure: &Structure,
+    structures: &[Structure],
+    files: &mut F,
+    buffer: &mut Vec<u8>,
+) -> Result<(), WriteRefusal>
     requires open { IsSome (F.opened files.old) }
     requires structure { IsWritableStructure (length structures.now) structure.now }
     requires names { All (IsWritableStructure (length structures.now)) structures.now }
@@ -168,7 +183,11 @@ fn write_structure<F: Files>(structure: &Structure, structures: &[Structure], fi
     Ok(())
 }
 
-fn write_structures<F: Files>(structures: &[Structure], files: &mut F, buffer: &mut Vec<u8>) -> Result<(), WriteRefusal>
+fn write_structures<F: Files>(
+    structures: &[Structure],
+    files: &mut F,
+    buffer: &mut Vec<u8>,
+) -> Result<(), WriteRefusal>
     requires open { IsSome (F.opened files.old) }
     requires names { All (IsWritableStructure (length structures.now)) structures.now }
     ensures ok { OnOk result (Flows (F.told files.old) (F.told files.new) (F.opened files.old) buffer.old.items buffer.new.items (flat_map spelled (flat_map (structure_records (names_in structures.now)) structures.now))) }
@@ -185,7 +204,11 @@ fn write_structures<F: Files>(structures: &[Structure], files: &mut F, buffer: &
     Ok(())
 }
 
-fn write_library<F: Files>(layout: &Layout, files: &mut F, buffer: &mut Vec<u8>) -> Result<(), WriteRefusal>
+fn write_library<F: Files>(
+    layout: &Layout,
+    files: &mut F,
+    buffer: &mut Vec<u8>,
+) -> Result<(), WriteRefusal>
     requires open { IsSome (F.opened files.old) }
     requires layout { IsWritable layout.now }
     ensures ok { OnOk result (Flows (F.told files.old) (F.told files.new) (F.opened files.old) buffer.old.items buffer.new.items (bytes_of layout.now)) }
@@ -222,7 +245,11 @@ fn append_rest<F: Files>(files: &mut F, buffer: &mut Vec<u8>) -> Result<(), Writ
 
 /// Appends the one spelling of the layout to the open file, 65,536 bytes at a time, and what is left at the end.
 /// A refusal may have appended some first bytes of it. The file stays open, and no other changes.
-pub fn write_stream<F: Files>(alloc: Global, layout: &Layout, files: &mut F) -> Result<(), WriteRefusal>
+pub fn write_stream<F: Files>(
+    alloc: Global,
+    layout: &Layout,
+    files: &mut F,
+) -> Result<(), WriteRefusal>
     requires open { IsSome (F.opened files.old) }
     requires layout { IsWritable layout.now }
     ensures ok { OnOk result (F.told files.new ≡ told_grown (F.told files.old) (F.opened files.old) (bytes_of layout.now)) }

@@ -1,4 +1,3 @@
-use Rattle.std.proofs.Common.{rules}
 use Rattle.gds_records.proofs.Appends.{then}
 use Rattle.gds_records.proofs.spelling.put_corners.Goals as goal
 

@@ -1,4 +1,4 @@
-use Rattle.std.proofs.Common.{◌≡◌, ◌≤◌, List, [], length}
+use Rattle.std.proofs.Common.{◌≡◌, ◌≤◌, [], length}
 use Rattle.gds_records.specs.Flow.{Flows}
 use Rattle.gds_records.proofs.writer.append_pieces.Given as goal
 

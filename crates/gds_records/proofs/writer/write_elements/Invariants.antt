@@ -1,4 +1,4 @@
-use Rattle.std.proofs.Common.{◌≡◌, ◌≤◌, List, take}
+use Rattle.std.proofs.Common.{◌≡◌, ◌≤◌, take}
 use Rattle.std.specs.List.{flat_map}
 use Rattle.geom.specs.Writable.{names_in}
 use Rattle.gds_records.specs.Records.{spelled}
