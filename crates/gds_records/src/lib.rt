@@ -1,7 +1,7 @@
 //! Records of the GDSII Stream Format: which bytes are a stream, and the bytes of a layout.
 #![tactic(auto)]
 
-mod codes;
+pub mod codes;
 mod fault;
 mod head;
 mod laws;
