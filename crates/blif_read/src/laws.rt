@@ -10,19 +10,25 @@ ghost use Rattle.blif_read.specs.Walk.{first_cycle, IsCycle};
 
 /// Each text says a netlist or has a first fault: exactly one of the two, and exactly one netlist or fault.
 pub fn each_text()
-    ensures some { (text : List ℕ) → ((net : NetView) × Says text net) ⊎ ((fault : BlifFault) × Fault text fault) }
+    ensures some { (text : List ℕ) →
+        ((net : NetView) × Says text net) ⊎ ((fault : BlifFault) × Fault text fault) }
     ensures one_netlist { (text : List ℕ) (a b : NetView) → Says text a → Says text b → a ≡ b }
     ensures one_fault { (text : List ℕ) (a b : BlifFault) → Fault text a → Fault text b → a ≡ b }
-    ensures not_both { (text : List ℕ) (net : NetView) (fault : BlifFault) → Says text net → Fault text fault → ⊥ }
+    ensures not_both { (text : List ℕ) (net : NetView) (fault : BlifFault) →
+        Says text net → Fault text fault → ⊥ }
 {}
 
 /// A netlist has exactly one valuation of its signals that fits a word.
 pub fn each_word()
-    ensures some { (net : NetView) (word : List Bool) → IsNetlist net → (v : ℕ → Bool) × Fits net.inputs net.defs word v }
-    ensures only { (net : NetView) (word : List Bool) (v w : ℕ → Bool) → IsNetlist net → Fits net.inputs net.defs word v → Fits net.inputs net.defs word w → (s : ℕ) → s < length net.names → v s ≡ w s }
+    ensures some { (net : NetView) (word : List Bool) → IsNetlist net →
+        (v : ℕ → Bool) × Fits net.inputs net.defs word v }
+    ensures only { (net : NetView) (word : List Bool) (v w : ℕ → Bool) → IsNetlist net →
+        Fits net.inputs net.defs word v → Fits net.inputs net.defs word w →
+        (s : ℕ) → s < length net.names → v s ≡ w s }
 {}
 
 /// The first cycle is one: each signal is followed by an operand of its definition, and the last leads to the first.
 pub fn each_cycle()
-    ensures { (inputs : ℕ) (defs : List Def) (cycle : List ℕ) → first_cycle inputs defs ≡ Some cycle → IsCycle (operands inputs defs) cycle }
+    ensures { (inputs : ℕ) (defs : List Def) (cycle : List ℕ) →
+        first_cycle inputs defs ≡ Some cycle → IsCycle (operands inputs defs) cycle }
 {}

@@ -9,36 +9,54 @@ use circuit::{Answers, Word};
 use std::alloc::Global;
 use std::marker::Model;
 
+/// What is wrong with a line, or with a text that has no faulty line. Numbers of lines count from 1.
 #[derive(Clone, Copy, Debug, PartialEq, Eq)]
 pub enum LineKind {
+    /// A control byte, or `.names` without a signal.
     Token,
+    /// A statement that is not read, or any line but a first `.model` after `.end`.
     Unsupported,
+    /// A second `.model`.
     SecondModel,
+    /// A row of a cover with a wrong number of tokens, or a plane that does not fit.
     RowShape,
+    /// A row of a cover whose value is none, or not that of the first row.
     RowValue,
+    /// A row of a cover that follows no definition.
     RowAlone,
+    /// A name that becomes an input or is defined, and was one of these before.
     Duplicate,
+    /// A name that is used, and is neither an input nor defined.
     Undefined,
+    /// No output; the line is 0.
     NoOutputs,
 }
 
+/// The first fault of a text.
 #[derive(Clone, Debug, Drop, PartialEq)]
 pub enum BlifFault {
+    /// A fault of a line.
     Line { line: u64, kind: LineKind },
+    /// Signals that are each computed from the next, and the last from the first, with the line that defines the first.
     Cycle { line: u64, signals: List<Bytes> },
 }
 
+/// Why a text gives no netlist.
 #[derive(Debug, Drop, PartialEq)]
 pub enum BlifRefusal {
+    /// The text's first fault.
     Bad(BlifFault),
+    /// Want of memory.
     Memory,
 }
 
+/// A row of a cover: a byte `0`, `1` or `-` for each input of its definition.
 #[derive(Clone, Debug, Drop, PartialEq)]
 pub struct Cube {
     pub plane: Bytes,
 }
 
+/// The definition of a signal, from its line. Where `on` is set, the signal is true where a plane matches; else false there.
 #[derive(Clone, Debug, Drop, PartialEq)]
 pub struct Def {
     pub line: u64,
@@ -47,7 +65,8 @@ pub struct Def {
     pub cubes: List<Cube>,
 }
 
-/// A netlist: inputs, names, definitions and outputs. It keeps that no cycle is in it.
+/// A netlist. Signals are numbered: first the inputs, and then the defined ones, by definition. Its names differ,
+/// its planes fit their definitions, it has no cycle and some output, and all that it holds is fewer than 2^28.
 #[derive(Drop)]
 pub struct Netlist {
     inputs: u32,
@@ -92,7 +111,8 @@ impl Netlist {
     pub(crate) fn new(inputs: u32, names: Names, parts: Parts, order: Vec<u32>) -> Self
         requires facts { IsNetlist (record { inputs = inputs; names = names.keys; defs = parts.defs; outputs = parts.outputs }) }
         requires order { IsOrder inputs parts.defs order.items }
-        ensures { result ≡ record { inputs = inputs; names = names.keys; defs = parts.defs; outputs = parts.outputs } }
+        ensures { result
+            ≡ record { inputs = inputs; names = names.keys; defs = parts.defs; outputs = parts.outputs } }
     {
         Netlist {
             inputs,
@@ -110,12 +130,14 @@ impl Netlist {
         let _inputs = &self.inputs;
     }
 
+    /// How many signals there are.
     pub fn name_count(&self) -> u32
         ensures { result ≡ length self.now.names }
     {
         self.inputs + self.defs.len() as u32
     }
 
+    /// The name of a signal.
     pub fn name(&self, signal: u32) -> &Bytes
         requires { signal < length self.now.names }
         ensures { slice_get self.now.names signal ≡ Some result.now }
@@ -123,12 +145,14 @@ impl Netlist {
         self.names.get_index(signal as usize).unwrap()
     }
 
+    /// The definitions of the signals past the inputs.
     pub fn defs(&self) -> &List<Def>
         ensures { result.now ≡ self.now.defs }
     {
         &self.defs
     }
 
+    /// The signals of the outputs.
     pub fn outputs(&self) -> &List<u32>
         ensures { result.now ≡ self.now.outputs }
     {

@@ -15,7 +15,8 @@ use std::alloc::Global;
 
 /// The names of the inputs, and then those of the defined signals.
 pub fn signals<'a>(alloc: Global, lines: &[LogicalLine<'a>]) -> Result<Index<'a>, Memory>
-    ensures { IfOk result (λ index. texts index.keys ≡ insert_all bytes_eq [] (signals (map seen lines.now))) }
+    ensures { IfOk result (λ index. texts index.keys
+        ≡ insert_all bytes_eq [] (signals (map seen lines.now))) }
 {
     let mut index = IndexSet::new(alloc);
     'inputs: for line in lines {
@@ -34,8 +35,10 @@ pub fn push_numbers(
     numbers: &mut List<u32>,
 ) -> Result<bool, Memory>
     requires { length index.now.keys < 2 ^ 32 }
-    ensures all { IfOk result (λ all. all ≡ list_all (is_defined (texts index.now.keys)) (texts tokens.now)) }
-    ensures numbers { IfOk result (λ all. all ≡ true → numbers.new ≡ numbers.old ++ map (number (texts index.now.keys)) (texts tokens.now)) }
+    ensures all { IfOk result (λ all. all
+        ≡ list_all (is_defined (texts index.now.keys)) (texts tokens.now)) }
+    ensures numbers { IfOk result (λ all. all ≡ true → numbers.new
+        ≡ numbers.old ++ map (number (texts index.now.keys)) (texts tokens.now)) }
 {
     for token in tokens {
         match number(index, token) {

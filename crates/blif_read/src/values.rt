@@ -64,7 +64,8 @@ pub fn values(
     requires few { inputs + length defs.now < 2 ^ 32 }
     requires order { IsOrder inputs defs.now order.now }
     requires word { length word.now ≡ inputs }
-    ensures { IfOk result (λ values. (v : ℕ → Bool) → Fits inputs defs.now word.now v → (s : ℕ) → s < inputs + length defs.now → valuation values.items s ≡ v s) }
+    ensures { IfOk result (λ values. (v : ℕ → Bool) → Fits inputs defs.now word.now v → (s : ℕ) →
+        s < inputs + length defs.now → valuation values.items s ≡ v s) }
 {
     let mut values = vec![in alloc; false; inputs as usize + defs.len()]?;
     for (i, bit) in word.iter().enumerate() {
