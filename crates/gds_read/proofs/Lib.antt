@@ -1,2 +1,4 @@
 pub mod Trims
 pub mod Numbers
+pub mod Named
+pub mod Turns

@@ -1,8 +1,8 @@
 -- The record at the front of bytes, by the tests of the codes and of the length.
-use Rattle.std.specs.Prelude.{ℕ, ◌≤◌, List, length, Bool, true, false, Option, Some, None}
+use Rattle.std.specs.Prelude.{◌≡◌, ℕ, ◌≤◌, List, length, Bool, true, false, Option, Some, None}
 use Rattle.gds_records.specs.declared.fault.StreamKind.{StreamKind}
 use Rattle.gds_records.specs.declared.fault.StreamKind.TheVariants.{Length, Unsupported, DataType}
-use Rattle.gds_records.specs.Faults.{length_of, first_of_six}
+use Rattle.gds_records.specs.Faults.{length_of, kind_of, first_of_six}
 use Rattle.gds_records.specs.Table.{known, has_form, has_length}
 
 -- the last three of the faults that a record may have by itself
@@ -14,3 +14,4 @@ pub record IsWhole (bytes : List ℕ) : Type 0 where
   pub head : 4 ≤ length bytes
   pub least : 4 ≤ length_of bytes
   pub enough : length_of bytes ≤ length bytes
+  pub long : has_length (kind_of bytes) (length_of bytes) ≡ true

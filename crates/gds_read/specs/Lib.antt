@@ -1,2 +1,4 @@
 pub mod Places
 pub mod Fronts
+pub mod Texts
+pub mod Steps

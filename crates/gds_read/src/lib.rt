@@ -2,6 +2,8 @@
 #![tactic(auto)]
 
 mod front;
+mod names;
 mod place;
+mod scan;
 mod table;
 mod values;

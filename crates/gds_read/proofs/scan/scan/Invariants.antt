@@ -1,0 +1,17 @@
+use Rattle.std.proofs.Common.{◌≡◌, ℕ, ◌-◌, ◌<◌, ◌≤◌, length, drop}
+use Rattle.gds_records.specs.Steps.{steps}
+use Rattle.gds_read.specs.Places.{rest_of}
+use Rattle.gds_read.specs.Texts.{texts}
+use Rattle.gds_read.specs.Steps.{all_steps}
+use Rattle.gds_read.proofs.scan.scan.Given as goal
+
+abbrev pub invariant-records : goal.invariant-records
+invariant-records l = record {
+  within : l.at ≤ length l.bytes;
+  turns : ℕ;
+  enough : length l.bytes - l.at < turns;
+  same : all_steps l.bytes ≡ steps turns (rest_of l.place) l.element (texts l.names.keys) l.at (drop l.at l.bytes);
+}
+
+abbrev pub decreases-records : goal.decreases-records
+decreases-records l = length l.bytes - l.at
