@@ -1,5 +1,5 @@
 -- What a netlist counts, names, outputs, operands, rows and plane bytes, has each a byte of its own in the tokens of the lines.
-use Rattle.std.proofs.Common.{◌≡◌, ℕ, ◌+◌, ◌≤◌, ◌<◌, min, Bool, true, false, not, cond, List, [], ◌∷◌, ◌++◌, map, length, drop, refl, sym, ap, ◌∙◌, arith, length-append}
+use Rattle.std.proofs.Common.{◌≡◌, ℕ, ◌+◌, ◌≤◌, ◌<◌, min, Bool, true, false, cond, List, [], ◌∷◌, map, length, drop, refl, ap, arith, length-append}
 use Rattle.std.specs.List.{slice_split, filter, flat_map, sum_by, AllByRecursion}
 use Rattle.std.proofs.lemmas.List.{length-map}
 use Rattle.std.proofs.lemmas.List.Sums.{sum_by-cons, sum_by-append}
@@ -12,7 +12,6 @@ use Rattle.blif_read.proofs.TextSize.{text_bytes}
 use Rattle.blif_read.specs.declared.words.Word.{Word}
 use Rattle.blif_read.specs.declared.words.Word.TheVariants.{Model, Inputs, Outputs, Names, End, Passed, Other, Row}
 use Rattle.blif_read.specs.declared.netlist.Def.{Def}
-use Rattle.blif_read.specs.declared.netlist.Cube.{Cube}
 
 filled : (parts : List (List ℕ)) → AllByRecursion (λ t. 0 < length t) (filter is_token parts)
 filled [] = tt

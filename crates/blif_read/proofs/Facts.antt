@@ -1,5 +1,5 @@
 -- The netlist of lines without a fault keeps the facts of a netlist.
-use Rattle.std.proofs.Common.{◌≡◌, ℕ, zero, suc, ◌+◌, ◌-◌, ◌^◌, ◌≤◌, ◌<◌, ◌||◌, ◌&&◌, Bool, true, false, not, cond, List, [], ◌∷◌, ◌++◌, map, length, Option, Some, None, refl, sym, ap, ◌∙◌, subst, arith, length-append}
+use Rattle.std.proofs.Common.{◌≡◌, ℕ, zero, suc, ◌+◌, ◌-◌, ◌^◌, ◌≤◌, ◌<◌, ◌||◌, ◌&&◌, Bool, true, false, not, cond, List, [], ◌∷◌, map, length, Option, Some, None, refl, sym, ap, ◌∙◌, subst, arith, length-append}
 use Rattle.std.specs.List.{AllByRecursion, list_any, flat_map}
 use Rattle.std.specs.Prelude.{nat_lt, slice_get}
 use Rattle.std.proofs.lemmas.Bool.{le-ltb}
@@ -15,10 +15,6 @@ use Rattle.blif_read.specs.declared.before.Cover.{Cover}
 use Rattle.blif_read.specs.declared.words.Word.{Word}
 use Rattle.blif_read.specs.declared.words.Word.TheVariants.{Model, Inputs, Outputs, Names, End, Passed, Other, Row}
 use Rattle.blif_read.specs.declared.netlist.Def.{Def}
-use Rattle.blif_read.specs.declared.netlist.Cube.{Cube}
-use Rattle.blif_read.specs.declared.netlist.LineKind.{LineKind}
-use Rattle.blif_read.specs.declared.netlist.BlifFault.{BlifFault}
-use Rattle.blif_read.proofs.Closing.{all_map}
 use Rattle.blif_read.proofs.Counted.{netlist_size}
 use Rattle.blif_read.proofs.Distinct.{none_or, no_kind, signals_distinct}
 use Rattle.blif_read.proofs.Heights.{order_ranks}

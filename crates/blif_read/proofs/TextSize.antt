@@ -1,11 +1,11 @@
 -- The tokens of the logical lines of a text have no more bytes than the text.
-use Rattle.std.proofs.Common.{◌≡◌, ℕ, ◌+◌, ◌-◌, ◌≤◌, ◌<◌, min, Bool, true, false, not, cond, List, [], ◌∷◌, ◌++◌, map, length, take, Option, Some, None, refl, sym, ap, ◌∙◌, arith, length-append}
+use Rattle.std.proofs.Common.{◌≡◌, ℕ, ◌+◌, ◌-◌, ◌≤◌, Bool, true, false, cond, List, [], ◌∷◌, ◌++◌, map, length, take, Option, Some, None, refl, ap, arith, length-append}
 use Rattle.std.specs.Prelude.{◌==◌, slice_index}
-use Rattle.std.specs.List.{slice_split, onto_first, before_first, position_or_len, filter, sum_by, AllByRecursion}
+use Rattle.std.specs.List.{slice_split, onto_first, position_or_len, filter, sum_by}
 use Rattle.std.specs.Str.Lines.{strip_carriage_return}
 use Rattle.std.proofs.lemmas.List.{length-take}
 use Rattle.std.proofs.lemmas.List.Sums.{sum_by-cons}
-use Rattle.blif_read.specs.Lines.{Line, is_feed, is_blank, is_number_sign, is_backslash, is_empty, is_token, tokens_of, cut, has_tokens, stripped, physical_lines, without_comment, before_backslash, joined_to, before_lines, joined, logical_lines}
+use Rattle.blif_read.specs.Lines.{is_feed, is_blank, is_number_sign, is_backslash, is_token, cut, has_tokens, stripped, physical_lines, without_comment, before_backslash, joined_to, before_lines, joined, logical_lines}
 use Rattle.blif_read.specs.Size.{bytes_of, token_bytes}
 
 taken : (n : ℕ) (xs : List ℕ) → length (take n xs) ≤ length xs

@@ -1,4 +1,4 @@
-use Rattle.std.proofs.Common.{◌∙◌, sym, ap}
+use Rattle.std.proofs.Common.{◌∙◌, sym}
 use Rattle.std.specs.Str.{bytes_eq}
 use Rattle.blif_read.proofs.Tokens.{position_seen}
 use Rattle.blif_read.proofs.names.number.Goals as goal

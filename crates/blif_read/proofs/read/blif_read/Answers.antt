@@ -1,5 +1,4 @@
-use Rattle.std.proofs.Common.{◌≡◌, ◌∙◌, ap, map}
-use Rattle.blif_read.specs.Lines.{logical_lines}
+use Rattle.std.proofs.Common.{◌∙◌, ap, map}
 use Rattle.blif_read.specs.Seen.{seen}
 use Rattle.blif_read.proofs.Whole.{text_says, text_fails, text_cut}
 use Rattle.blif_read.proofs.read.blif_read.Goals as goal

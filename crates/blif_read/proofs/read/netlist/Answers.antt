@@ -1,5 +1,5 @@
-use Rattle.std.proofs.Common.{◌∙◌, map, arith, ap, length, ◌-◌, ◌+◌, ◌≡◌}
-use Rattle.blif_read.specs.Seen.{seen, texts}
+use Rattle.std.proofs.Common.{◌∙◌, map, arith, ap, length}
+use Rattle.blif_read.specs.Seen.{seen}
 use Rattle.blif_read.proofs.Whole.{at_ok, counted, few_names, view_is, operands_within, facts, no_fault, cycle_fails}
 use Rattle.blif_read.proofs.read.netlist.Goals as goal
 

@@ -1,4 +1,4 @@
-use Rattle.std.proofs.Common.{◌≡◌, map, drop, take, ◌++◌}
+use Rattle.std.proofs.Common.{◌≡◌, map, drop, ◌++◌}
 use Rattle.std.specs.List.{list_all}
 use Rattle.blif_read.specs.Parts.{number, is_defined}
 use Rattle.blif_read.specs.Seen.{texts}

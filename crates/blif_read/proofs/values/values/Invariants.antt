@@ -1,4 +1,4 @@
-use Rattle.std.proofs.Common.{◌≡◌, ℕ, ◌+◌, ◌<◌, true, false, Bool, take, reverse, length, get_or}
+use Rattle.std.proofs.Common.{◌≡◌, ℕ, ◌+◌, ◌<◌, true, Bool, take, reverse, length}
 use Rattle.blif_read.specs.Equations.{Fits, valuation}
 use Rattle.blif_read.specs.Marking.{known}
 use Rattle.blif_read.proofs.values.values.Given as goal

@@ -1,4 +1,3 @@
-use Rattle.std.proofs.Common.{sym}
 use Rattle.blif_read.proofs.Evaluated.{shown_answers}
 use Rattle.blif_read.proofs.netlist.NetlistAnswers.answer.Goals as goal
 
