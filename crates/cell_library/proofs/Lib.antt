@@ -1,0 +1,9 @@
+pub mod PinCounts
+pub mod KindLists
+pub mod Look
+pub mod Integers
+pub mod Keys
+pub mod Columns
+pub mod Given
+pub mod Judged
+pub mod Answered

@@ -1,0 +1,11 @@
+pub mod Kinds
+pub mod Library
+pub mod Drafts
+pub mod Reach
+pub mod Laws
+pub mod Numbers
+pub mod Documents
+pub mod Faults
+pub mod Says
+pub mod Stages
+pub mod LibraryA

@@ -1,2 +1,16 @@
 //! Cell libraries: their numbers, their laws and their text.
 #![tactic(auto)]
+
+mod bundled;
+mod document;
+mod draft;
+mod fault;
+mod kinds;
+mod laws;
+mod library;
+mod read;
+
+pub use bundled::library_a;
+pub use fault::{LibraryFault, LibraryRefusal};
+pub use library::Library;
+pub use read::read_library;
