@@ -7,3 +7,4 @@ pub mod Columns
 pub mod Given
 pub mod Judged
 pub mod Answered
+pub mod Sameness

@@ -9,6 +9,7 @@ mod kinds;
 mod laws;
 mod library;
 mod read;
+mod same;
 
 pub use bundled::library_a;
 pub use fault::{LibraryFault, LibraryRefusal};

@@ -6,6 +6,7 @@ ghost use Rattle.cell_library.specs.Reach.{reach_of};
 ghost use Rattle.cell_library.specs.Laws.{IsLibrary};
 
 use crate::draft::Draft;
+use crate::same::{same_numbers, same_pins};
 use circuit::CellKind;
 use std::marker::Model;
 
@@ -160,5 +161,14 @@ impl Library {
         self.draft
             .length_reach()
             .min(self.draft.numbers().capacity / 2)
+    }
+
+    /// Whether the two libraries have the same numbers and pins.
+    #[tactic(auto, using(crate::proofs::Sameness::same_libraries))]
+    pub fn is_same(&self, other: &Library) -> bool
+        ensures { IsTrue result ↔ (self.now ≡ other.now) }
+    {
+        same_numbers(self.draft.numbers(), other.draft.numbers())
+            && same_pins(&self.draft, &other.draft)
     }
 }
