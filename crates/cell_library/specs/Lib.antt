@@ -3,6 +3,7 @@ pub mod Library
 pub mod Drafts
 pub mod Reach
 pub mod Laws
+pub mod PinPlaces
 pub mod Numbers
 pub mod Documents
 pub mod Faults

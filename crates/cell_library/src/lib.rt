@@ -10,6 +10,8 @@ mod laws;
 mod library;
 mod read;
 mod same;
+#[cfg(test)]
+mod tests;
 
 pub use bundled::library_a;
 pub use fault::{LibraryFault, LibraryRefusal};

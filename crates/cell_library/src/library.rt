@@ -1,9 +1,10 @@
 // A library of cells, which keeps every law.
-ghost use Rattle.std.specs.Prelude.{◌≡◌, ◌<◌, ◌↔◌, IsTrue, length};
+ghost use Rattle.std.specs.Prelude.{◌≡◌, ◌<◌, ◌≤◌, ◌↔◌, IsTrue, length};
 ghost use Rattle.circuit.specs.CellKinds.{inputs_of, outputs_of};
 ghost use Rattle.cell_library.specs.Library.{LibraryView, IsGiven, input_column_of, output_column_of};
 ghost use Rattle.cell_library.specs.Reach.{reach_of};
 ghost use Rattle.cell_library.specs.Laws.{IsLibrary};
+ghost use Rattle.cell_library.specs.PinPlaces.{PlacesPins};
 
 use crate::draft::Draft;
 use crate::same::{same_numbers, same_pins};
@@ -36,9 +37,12 @@ impl Library {
         Library { draft }
     }
 
-    /// What every library keeps: the ranges of its numbers, the kinds that none leaves out, and the laws.
+    /// What every library keeps: the ranges of its numbers, the kinds that none leaves out, the laws, and by them the
+    /// places of the pins.
+    #[tactic(auto, using(crate::specs::PinPlaces::places_pins))]
     pub fn known(&self)
-        ensures { IsLibrary self.now }
+        ensures library { IsLibrary self.now }
+        ensures pins { PlacesPins self.now }
     {
         let _ = &self.draft;
     }
@@ -155,8 +159,10 @@ impl Library {
 
     /// The reach, in slots: a wire that moves fewer slots than this is within its limit, and no channel of such wires
     /// has more of them than tracks. It is at least 2.
+    #[tactic(auto, using(crate::proofs::PinCounts::reach_least))]
     pub fn reach(&self) -> u64
-        ensures { result ≡ reach_of self.now }
+        ensures value { result ≡ reach_of self.now }
+        ensures least { 2 ≤ result }
     {
         self.draft
             .length_reach()
