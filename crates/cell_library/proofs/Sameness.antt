@@ -1,5 +1,5 @@
 -- Libraries with the same numbers and pins are the same.
-use Rattle.std.proofs.Common.{ℕ, zero, suc, ◌-◌, ◌≡◌, ◌<◌, List, [], ◌∷◌, length, Option, Some, None, refl, ap, arith, sym, ◌∙◌}
+use Rattle.std.proofs.Common.{ℕ, zero, suc, ◌-◌, ◌≡◌, ◌<◌, List, [], ◌∷◌, length, Option, None, refl, ap, arith, sym, ◌∙◌}
 use Rattle.std.specs.Prelude.{slice_get, unwrap_or}
 use Rattle.circuit.specs.CellKinds.{number_of}
 use Rattle.circuit.specs.declared.cell_kind.CellKind.{CellKind}
