@@ -154,7 +154,17 @@ fn a_cell_too_wide(rt: HostRuntime) -> Result<(), Fail> {
 }
 
 #[test]
-fn library_a_and_its_text(rt: HostRuntime) -> Result<(), Fail> {
+fn the_text_of_library_a(rt: HostRuntime) -> Result<(), Fail> {
+    let library = library_a(rt.alloc()).or(Err("out of memory"))?;
+    let Ok(read) = read_library(rt.alloc(), LIBRARY_A.as_bytes()) else {
+        return Err("library A".into());
+    };
+    assert!(rt; read.is_same(&library));
+    Ok(())
+}
+
+#[test]
+fn numbers_of_libraries(rt: HostRuntime) -> Result<(), Fail> {
     let library = library_a(rt.alloc()).or(Err("out of memory"))?;
     assert_eq!(rt; library.wire(), 1_000);
     assert_eq!(rt; library.limit(), 180_000);
