@@ -2,3 +2,5 @@ pub mod Trims
 pub mod Numbers
 pub mod Named
 pub mod Turns
+pub mod Moving
+pub mod Flattens

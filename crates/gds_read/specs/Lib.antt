@@ -2,3 +2,4 @@ pub mod Places
 pub mod Fronts
 pub mod Texts
 pub mod Steps
+pub mod Flattening

@@ -1,0 +1,116 @@
+// The flat form of a layout.
+ghost use Rattle.std.specs.Prelude.{◌≡◌, ◌++◌, ◌∷◌, [], All, map, length, IfOk, OnOk, FitsSigned};
+ghost use Rattle.std.specs.Int.{w32};
+ghost use Rattle.geom.specs.Rectangle.{moved};
+ghost use Rattle.geom.specs.FlatForm.{moved_shape, moved_label, own_shapes, own_labels, flat_shapes, flat_labels, flat_of};
+ghost use Rattle.gds_read.specs.Flattening.{IsNarrow, IsMovable, IsPlaced, IsFlattenable};
+
+use aq_base::{Bytes, List, Memory};
+use geom::{Element, Flat, Label, Layout, Rect, Shape, Structure};
+use std::alloc::Global;
+
+// The vector by which a reference moves its structure.
+struct Offset {
+    x: i64,
+    y: i64,
+}
+
+fn moved(rect: &Rect, by: &Offset) -> Rect
+    requires rect { IsNarrow rect.now }
+    requires x { FitsSigned w32 by.now.x }
+    requires y { FitsSigned w32 by.now.y }
+    ensures { result ≡ moved by.now.x by.now.y rect.now }
+{
+    Rect {
+        x0: rect.x0 + by.x,
+        y0: rect.y0 + by.y,
+        x1: rect.x1 + by.x,
+        y1: rect.y1 + by.y,
+    }
+}
+
+fn moved_shape(shape: &Shape, by: &Offset) -> Shape
+    requires shape { IsNarrow shape.now.rect }
+    requires x { FitsSigned w32 by.now.x }
+    requires y { FitsSigned w32 by.now.y }
+    ensures { result ≡ moved_shape by.now.x by.now.y shape.now }
+{
+    Shape {
+        layer: shape.layer,
+        datatype: shape.datatype,
+        rect: moved(&shape.rect, by),
+    }
+}
+
+fn copy(alloc: Global, text: &Bytes) -> Result<Bytes, Memory>
+    ensures { IfOk result (λ t. t ≡ text.now) }
+{
+    let mut bytes = Vec::new(alloc);
+    bytes.extend_from_slice(text.as_slice())?;
+    Ok(List::from_vec(bytes))
+}
+
+fn moved_label(alloc: Global, label: &Label, by: &Offset) -> Result<Label, Memory>
+    requires label_x { FitsSigned w32 label.now.x }
+    requires label_y { FitsSigned w32 label.now.y }
+    requires x { FitsSigned w32 by.now.x }
+    requires y { FitsSigned w32 by.now.y }
+    ensures { IfOk result (λ l. l ≡ moved_label by.now.x by.now.y label.now) }
+{
+    let text = copy(alloc, &label.text)?;
+    Ok(Label {
+        layer: label.layer,
+        x: label.x + by.x,
+        y: label.y + by.y,
+        text,
+    })
+}
+
+fn same_label(alloc: Global, label: &Label) -> Result<Label, Memory>
+    ensures { IfOk result (λ l. l ≡ label.now) }
+{
+    let text = copy(alloc, &label.text)?;
+    Ok(Label {
+        layer: label.layer,
+        x: label.x,
+        y: label.y,
+        text,
+    })
+}
+
+// The shapes and labels so far.
+struct Flattened {
+    shapes: List<Shape>,
+    labels: List<Label>,
+}
+
+// Adds the shape or the label of an element, moved; a reference adds nothing.
+fn add_moved(alloc: Global, element: &Element, by: &Offset, flat: &mut Flattened) -> Result<(), Memory>
+    requires element { IsMovable element.now }
+    requires x { FitsSigned w32 by.now.x }
+    requires y { FitsSigned w32 by.now.y }
+    ensures shapes { OnOk result (flat.new.shapes ≡ flat.old.shapes ++ map (moved_shape by.now.x by.now.y) (own_shapes (element.now ∷ []))) }
+    ensures labels { OnOk result (flat.new.labels ≡ flat.old.labels ++ map (moved_label by.now.x by.now.y) (own_labels (element.now ∷ []))) }
+{
+    match element {
+        Element::Box(shape) => flat.shapes.push(moved_shape(shape, by)),
+        Element::Place { .. } => Ok(()),
+        Element::Text(label) => {
+            let label = moved_label(alloc, label, by)?;
+            flat.labels.push(label)
+        }
+    }
+}
+
+fn add_all_moved(alloc: Global, elements: &[Element], by: &Offset, flat: &mut Flattened) -> Result<(), Memory>
+    requires elements { All IsMovable elements.now }
+    requires x { FitsSigned w32 by.now.x }
+    requires y { FitsSigned w32 by.now.y }
+    ensures shapes { OnOk result (flat.new.shapes ≡ flat.old.shapes ++ map (moved_shape by.now.x by.now.y) (own_shapes elements.now)) }
+    ensures labels { OnOk result (flat.new.labels ≡ flat.old.labels ++ map (moved_label by.now.x by.now.y) (own_labels elements.now)) }
+{
+    for element in elements {
+        add_moved(alloc, element, by, flat)?;
+    }
+    Ok(())
+}
