@@ -1,13 +1,15 @@
 -- Shapes and labels, one element after another.
-use Rattle.std.proofs.Common.{◌≡◌, ℕ, ℤ, suc, ◌+◌, ◌<◌, List, [], ◌∷◌, ◌++◌, map, take, length, refl, sym, ap, ◌∙◌, append_assoc, append-nil, arith}
+use Rattle.std.proofs.Common.{◌≡◌, ℕ, ℤ, zero, suc, ◌+◌, ◌<◌, List, [], ◌∷◌, ◌++◌, map, take, length, refl, sym, ap, ◌∙◌, append_assoc, append-nil, arith}
 use Rattle.std.specs.Prelude.{slice_index_or}
 use Rattle.std.proofs.lemmas.List.{take_more, take_all, map-append}
-use Rattle.geom.specs.FlatForm.{moved_shape, moved_label, own_shapes, own_labels, elements_at, flat_shapes, flat_labels}
+use Rattle.geom.specs.FlatForm.{moved_shape, moved_label, own_shapes, own_labels, elements_at, flat_shapes, flat_labels, flat_of}
 use Rattle.geom.specs.declared.shapes.Shape.{Shape}
 use Rattle.geom.specs.declared.shapes.Label.{Label}
 use Rattle.geom.specs.declared.layout.Element.{Element}
 use Rattle.geom.specs.declared.layout.Element.TheVariants.{Box, Place, Text}
 use Rattle.geom.specs.declared.layout.Structure.{Structure}
+use Rattle.geom.specs.declared.layout.Layout.{Layout}
+use Rattle.geom.specs.declared.shapes.Flat.{Flat}
 
 own_shapes_append : (xs ys : List Element) → own_shapes (xs ++ ys) ≡ own_shapes xs ++ own_shapes ys
 own_shapes_append [] ys = refl
@@ -54,3 +56,17 @@ module _ (ss : List Structure) (xs : List Element) (i : ℕ) (e : Element) (h : 
 
   pub flat_labels_more : (now new : List Label) → now ≡ flat_labels ss (take i xs) → new ≡ now ++ flat_labels ss (e ∷ []) → new ≡ flat_labels ss (take (i + 1) xs)
   flat_labels_more now new a b = b ∙ ap (λ (t : List Label). t ++ flat_labels ss (e ∷ [])) a ∙ sym (flat_labels_append ss (take i xs) (e ∷ [])) ∙ ap (λ (t : List Element). flat_labels ss t) (sym (item xs i e h q))
+
+elements_there : (ss : List Structure) (n : ℕ) (s : Structure) → n < length ss → s ≡ slice_index_or ss n s → elements_at ss n ≡ s.elements
+elements_there [] n s h e = absurd (omega arith)
+elements_there (x ∷ ss) zero s h e = ap (λ (t : Structure). t.elements) (sym e)
+elements_there (x ∷ ss) (suc n) s h e = elements_there ss n s (omega arith) e
+
+pub flat_made : (layout : Layout) (ss : List Structure) (top : Structure) (es : List Element) (shapes : List Shape) (labels : List Label) → ss ≡ layout.structures → layout.top < length layout.structures → top ≡ slice_index_or ss layout.top top
+    → es ≡ top.elements → shapes ≡ flat_shapes ss es → labels ≡ flat_labels ss es → ◌≡◌ {A = Flat} (record { shapes = shapes; labels = labels }) (flat_of layout)
+unfolding flat_of
+flat_made layout ss top es shapes labels a h t e f g =
+    let n : layout.top < length ss = omega (arith, ap (λ (x : List Structure). length x) a) in
+    let w : es ≡ elements_at ss layout.top = e ∙ sym (elements_there ss layout.top top n t) in
+    (λ i. record { shapes = f i; labels = g i }) ∙ (λ i. record { shapes = flat_shapes ss (w i); labels = flat_labels ss (w i) })
+    ∙ (λ i. record { shapes = flat_shapes (a i) (elements_at (a i) layout.top); labels = flat_labels (a i) (elements_at (a i) layout.top) })

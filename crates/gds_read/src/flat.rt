@@ -1,8 +1,8 @@
 // The flat form of a layout.
-ghost use Rattle.std.specs.Prelude.{◌≡◌, ◌++◌, ◌∷◌, [], All, map, length, IfOk, OnOk, FitsSigned};
+ghost use Rattle.std.specs.Prelude.{◌≡◌, ◌++◌, ◌∷◌, ◌<◌, [], All, map, length, IfOk, OnOk, FitsSigned};
 ghost use Rattle.std.specs.Int.{w32};
 ghost use Rattle.geom.specs.Rectangle.{moved};
-ghost use Rattle.geom.specs.FlatForm.{moved_shape, moved_label, own_shapes, own_labels, flat_shapes, flat_labels, flat_of};
+ghost use Rattle.geom.specs.FlatForm.{moved_shape, moved_label, own_shapes, own_labels, elements_at, flat_shapes, flat_labels, flat_of};
 ghost use Rattle.gds_read.specs.Flattening.{IsNarrow, IsMovable, IsPlaced, IsFlattenable};
 
 use aq_base::{Bytes, List, Memory};
@@ -10,6 +10,7 @@ use geom::{Element, Flat, Label, Layout, Rect, Shape, Structure};
 use std::alloc::Global;
 
 // The vector by which a reference moves its structure.
+#[derive(Drop)]
 struct Offset {
     x: i64,
     y: i64,
@@ -79,6 +80,7 @@ fn same_label(alloc: Global, label: &Label) -> Result<Label, Memory>
 }
 
 // The shapes and labels so far.
+#[derive(Drop)]
 struct Flattened {
     shapes: List<Shape>,
     labels: List<Label>,
@@ -113,4 +115,67 @@ fn add_all_moved(alloc: Global, elements: &[Element], by: &Offset, flat: &mut Fl
         add_moved(alloc, element, by, flat)?;
     }
     Ok(())
+}
+
+fn add_reference(alloc: Global, structures: &[Structure], structure: u32, by: &Offset, flat: &mut Flattened) -> Result<(), Memory>
+    requires stands { structure < length structures.now }
+    requires structures { All (λ s. All IsMovable s.elements) structures.now }
+    requires x { FitsSigned w32 by.now.x }
+    requires y { FitsSigned w32 by.now.y }
+    ensures shapes { OnOk result (flat.new.shapes ≡ flat.old.shapes ++ map (moved_shape by.now.x by.now.y) (own_shapes (elements_at structures.now structure))) }
+    ensures labels { OnOk result (flat.new.labels ≡ flat.old.labels ++ map (moved_label by.now.x by.now.y) (own_labels (elements_at structures.now structure))) }
+{
+    let named = &structures[structure as usize];
+    add_all_moved(alloc, named.elements.as_slice(), by, flat)
+}
+
+// Adds an element's shape or label, or those of the structure that it refers to.
+fn add(alloc: Global, structures: &[Structure], element: &Element, flat: &mut Flattened) -> Result<(), Memory>
+    requires element { IsPlaced (length structures.now) element.now }
+    requires structures { All (λ s. All IsMovable s.elements) structures.now }
+    ensures shapes { OnOk result (flat.new.shapes ≡ flat.old.shapes ++ flat_shapes structures.now (element.now ∷ [])) }
+    ensures labels { OnOk result (flat.new.labels ≡ flat.old.labels ++ flat_labels structures.now (element.now ∷ [])) }
+{
+    match element {
+        Element::Box(shape) => flat.shapes.push(*shape),
+        Element::Place { structure, x, y } => {
+            let by = Offset { x: *x, y: *y };
+            add_reference(alloc, structures, *structure, &by, flat)
+        }
+        Element::Text(label) => {
+            let label = same_label(alloc, label)?;
+            flat.labels.push(label)
+        }
+    }
+}
+
+fn add_all(alloc: Global, structures: &[Structure], elements: &[Element], flat: &mut Flattened) -> Result<(), Memory>
+    requires elements { All (IsPlaced (length structures.now)) elements.now }
+    requires structures { All (λ s. All IsMovable s.elements) structures.now }
+    requires shapes { flat.old.shapes ≡ [] }
+    requires labels { flat.old.labels ≡ [] }
+    ensures shapes { OnOk result (flat.new.shapes ≡ flat_shapes structures.now elements.now) }
+    ensures labels { OnOk result (flat.new.labels ≡ flat_labels structures.now elements.now) }
+{
+    for element in elements {
+        add(alloc, structures, element, flat)?;
+    }
+    Ok(())
+}
+
+/// The flat form of a layout: the top structure's shapes and labels in the order of its elements, where a reference
+/// stands for the shapes and labels of its structure, moved by its point. Coordinates are in nanometres.
+pub fn flatten(alloc: Global, layout: &Layout) -> Result<Flat, Memory>
+    requires { IsFlattenable layout.now }
+    ensures { IfOk result (λ flat. flat ≡ flat_of layout.now) }
+{
+    let structures = layout.structures.as_slice();
+    let mut flat = Flattened {
+        shapes: List::new(alloc),
+        labels: List::new(alloc),
+    };
+    let top = &structures[layout.top as usize];
+    add_all(alloc, structures, top.elements.as_slice(), &mut flat)?;
+    let Flattened { shapes, labels } = flat;
+    Ok(Flat { shapes, labels })
 }

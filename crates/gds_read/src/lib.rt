@@ -8,3 +8,6 @@ mod place;
 mod scan;
 mod table;
 mod values;
+
+pub use flat::flatten;
+pub use gds_records::StreamKind;
