@@ -50,7 +50,7 @@ record Read (bytes : List ℕ) (before : List Record) (b : List ℕ) : Type 0 wh
   goes : Goes before
   fits : IsBytes b
 
-abbrev Outcome : List ℕ → Scanned → Type 0
+abbrev pub Outcome : List ℕ → Scanned → Type 0
 Outcome bytes (Faulty o k) = IsRecordFault bytes o k
 Outcome bytes (Whole rs rest) = IsRead bytes rs rest
 Outcome bytes Unfinished = ⊥

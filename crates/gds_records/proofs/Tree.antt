@@ -11,8 +11,8 @@ use Rattle.gds_records.specs.Records.{same}
 use Rattle.gds_records.specs.Whole.{Use, Outline, is_defined, is_used, all_uses, unknown, deep, tops, top_in, top_fault}
 use Rattle.geom.specs.Writable.{names_in, refers_to, is_referenced, holds_reference}
 use Rattle.gds_records.proofs.Premises.{IsWritableElement, IsWritableStructure, element_uses, outline, layout_outlines, AreFlat, unreferenced, IsTree, IsOutlined}
-use Rattle.gds_records.proofs.WrittenRead.{names_length}
-use Rattle.gds_records.proofs.Written.{Distinct, distinct_so, eqb_suc, eqb_same}
+use Rattle.gds_records.proofs.WrittenRead.{names_length, eqb_same}
+use Rattle.gds_records.proofs.Written.{Distinct, distinct_so, eqb_suc}
 use Rattle.gds_records.proofs.Conditions.{whole_of, number_of}
 
 eqb_sym : (a b : ℕ) → eqb a b ≡ eqb b a

@@ -20,7 +20,7 @@ use Rattle.gds_records.specs.Stream.{IsGood, AreGood}
 use Rattle.geom.specs.Writable.{names_in}
 use Rattle.gds_records.specs.Writing.{two_bytes, four_bytes, padded, point, corners, element_records, dates, structure_records, units, records_of}
 use Rattle.gds_records.proofs.Premises.{IsText, IsShort, IsBox, IsWritableElement, IsWritableStructure}
-use Rattle.gds_records.proofs.WrittenRead.{trimmed-padded, signed_back, names_back}
+use Rattle.gds_records.proofs.WrittenRead.{trimmed-padded, names_back, corners_so}
 
 good_append : (a b c : List Record) → AreGood a b → AreGood (a ++ b) c → AreGood a (b ++ c)
 good_append a [] c p q = subst (λ (x : List Record). AreGood x c) (append-nil a) q
@@ -87,31 +87,6 @@ name_good before t all h some fresh = record {
 }
 
 -- ---- points
-
-pub eqb_same : (k : ℕ) → eqb k k ≡ true
-eqb_same k = grind (arith, nat_tests)
-
-eqb_other : (a b : ℕ) → (a ≡ b → ⊥) → eqb a b ≡ false
-eqb_other a b h = cases (eqb a b) refl
-  where
-    cases : (t : Bool) → eqb a b ≡ t → t ≡ false
-    cases true e = absurd (h (eqb-true a b e))
-    cases false e = refl
-
-number32 : ℤ → ℕ
-number32 z = from_be_bytes w32 (four_bytes z)
-
-abbrev rectangle_test : ℕ → ℕ → ℕ → ℕ → Bool
-rectangle_test a b c d = eqb a a && eqb b b && not (eqb a c) && not (eqb b d) && (eqb b b && eqb c c && eqb d d && eqb a a || eqb a c && eqb b d && eqb c a && eqb d b)
-
-test_true : (a b c d : ℕ) → (a ≡ c → ⊥) → (b ≡ d → ⊥) → rectangle_test a b c d ≡ true
-test_true a b c d p q = rw (eqb_same a, eqb_same b, eqb_same c, eqb_same d, eqb_other a c p, eqb_other b d q) refl
-
-apart : (x y : ℤ) → FitsSigned w32 x → FitsSigned w32 y → (x ≡ y → ⊥) → from_be_bytes w32 (four_bytes x) ≡ from_be_bytes w32 (four_bytes y) → ⊥
-apart x y fx fy h e = h (sym (signed_back x fx) ∙ ap (λ (n : ℕ). cast_signed w32 n) e ∙ signed_back y fy)
-
-corners_so : (r : Rectangle) → IsBox r → is_rectangle (corners r) ≡ true
-corners_so r is = test_true (from_be_bytes w32 (four_bytes r.x0)) (from_be_bytes w32 (four_bytes r.y0)) (from_be_bytes w32 (four_bytes r.x1)) (from_be_bytes w32 (four_bytes r.y1)) (apart r.x0 r.x1 is.x0 is.x1 is.not_thin) (apart r.y0 r.y1 is.y0 is.y1 is.not_flat)
 
 pub opener_last : (l : ℕ) (a : List Record) (r : Record) → opener l (a ++ r ∷ []) ≡ opener (opener l a) (r ∷ [])
 opener_last l [] r = refl

@@ -1,10 +1,12 @@
 -- What is written is a stream of what was drawn.
-use Rattle.std.proofs.Common.{◌≡◌, ℕ, zero, suc, ◌%◌, ◌^◌, ◌<◌, List, [], ◌∷◌, ◌++◌, map, length, Bool, true, false, cond, eqb, refl, sym, ap, ◌∙◌, append_assoc, arith, inr}
-use Rattle.std.specs.Prelude.{slice_index_or, FitsSigned, ℤ, int_le}
+use Rattle.std.proofs.Common.{◌≡◌, ℕ, zero, suc, ◌%◌, ◌^◌, ◌<◌, List, [], ◌∷◌, ◌++◌, map, length, Bool, true, false, cond, eqb, ◌&&◌, ◌||◌, refl, sym, ap, ◌∙◌, append_assoc, arith, inr}
+use Rattle.std.specs.Prelude.{slice_index_or, FitsSigned, ℤ, int_le, not}
 use Rattle.std.specs.List.{flat_map, AllByRecursion}
 use Rattle.std.specs.Int.{w32, from_be_bytes, cast_signed, cast_unsigned}
 use Rattle.std.proofs.lemmas.List.{map-append}
 use Rattle.std.proofs.lemmas.List.Concat.{flat_map-cons}
+use Rattle.std.proofs.lemmas.Bool.{eqb-true}
+use Rattle.std.proofs.lemmas.Bool.Decides.{nat_tests}
 use Rattle.std.proofs.lemmas.Int.{to_z-of_z}
 use Rattle.std.proofs.Math.Facts.{Fits-of_z}
 use Rattle.std.proofs.lemmas.Nat.{from_be_bytes-to_be_bytes_2, from_be_bytes-to_be_bytes_4}
@@ -17,7 +19,8 @@ use Rattle.geom.specs.declared.layout.Structure.{Structure}
 use Rattle.gds_records.specs.Language.{Language, One, Then, Many, Speaks, none, more}
 use Rattle.gds_records.specs.Records.{Record, record_with, kinds, number, trimmed}
 use Rattle.gds_records.specs.Grammar.{◌>>◌, maybe, text, element, structure, stream}
-use Rattle.gds_records.specs.Drawing.{parts, field, from, coordinate, lesser, greater, box_of, place_of, element_of, structure_of, structure_parts, names_of, structures_of}
+use Rattle.gds_records.specs.Drawing.{starts, up_to, parts, name_of, coordinate, lesser, greater, box_of, place_of, element_of, structure_of, names_of, structures_of}
+use Rattle.gds_records.specs.Values.{is_rectangle}
 use Rattle.geom.specs.Writable.{names_in}
 use Rattle.gds_records.specs.Writing.{two_bytes, four_bytes, padded, corners, element_records, dates, structure_records, records_of}
 use Rattle.gds_records.proofs.Premises.{IsText, IsBox, IsWritableElement, IsWritableStructure}
@@ -66,6 +69,31 @@ box_back r is =
     made : (x0 y0 x1 y1 : ℤ) (q : Rectangle) → x0 ≡ q.x0 → y0 ≡ q.y0 → x1 ≡ q.x1 → y1 ≡ q.y1 → record { x0 = x0; y0 = y0; x1 = x1; y1 = y1 } ≡ q
     made x0 y0 x1 y1 q a b c d = rw (a, b, c, d) refl
 
+-- ---- corners are those of a rectangle
+
+pub eqb_same : (k : ℕ) → eqb k k ≡ true
+eqb_same k = grind (arith, nat_tests)
+
+eqb_other : (a b : ℕ) → (a ≡ b → ⊥) → eqb a b ≡ false
+eqb_other a b h = cases (eqb a b) refl
+  where
+    cases : (t : Bool) → eqb a b ≡ t → t ≡ false
+    cases true e = absurd (h (eqb-true a b e))
+    cases false e = refl
+
+abbrev rectangle_test : ℕ → ℕ → ℕ → ℕ → Bool
+rectangle_test a b c d = eqb a a && eqb b b && not (eqb a c) && not (eqb b d) && (eqb b b && eqb c c && eqb d d && eqb a a || eqb a c && eqb b d && eqb c a && eqb d b)
+
+test_true : (a b c d : ℕ) → (a ≡ c → ⊥) → (b ≡ d → ⊥) → rectangle_test a b c d ≡ true
+test_true a b c d p q = rw (eqb_same a, eqb_same b, eqb_same c, eqb_same d, eqb_other a c p, eqb_other b d q) refl
+
+apart : (x y : ℤ) → FitsSigned w32 x → FitsSigned w32 y → (x ≡ y → ⊥) → from_be_bytes w32 (four_bytes x) ≡ from_be_bytes w32 (four_bytes y) → ⊥
+apart x y fx fy h e = h (sym (signed_back x fx) ∙ ap (λ (n : ℕ). cast_signed w32 n) e ∙ signed_back y fy)
+
+pub corners_so : (r : Rectangle) → IsBox r → is_rectangle (corners r) ≡ true
+corners_so r is = test_true (from_be_bytes w32 (four_bytes r.x0)) (from_be_bytes w32 (four_bytes r.y0)) (from_be_bytes w32 (four_bytes r.x1)) (from_be_bytes w32 (four_bytes r.y1)) (apart r.x0 r.x1 is.x0 is.x1 is.not_thin) (apart r.y0 r.y1 is.y0 is.y1 is.not_flat)
+
+
 -- ---- elements
 
 pub names_back : (names : List (List ℕ)) → AllByRecursion IsText names → (n : ℕ) → IsText (slice_index_or names n [])
@@ -82,9 +110,12 @@ made_text l x y t s a b c d = rw (a, b, c, d) refl
 made_place : (n m : ℕ) (x y u v : ℤ) → n ≡ m → x ≡ u → y ≡ v → Place n x y ≡ Place m u v
 made_place n m x y u v a b c = rw (a, b, c) refl
 
+boxed : (t : Bool) (a b e : Element) → t ≡ true → a ≡ e → (elim t as (λ (x : Bool). Element) [ true ↦ a | false ↦ b ]) ≡ e
+boxed t a b e h f = rw h f
+
 module _ (names : List (List ℕ)) (texts : AllByRecursion IsText names) (distinct : (n : ℕ) → n < length names → place_of (slice_index_or names n []) names ≡ n) where
   element_back : (e : Element) → IsWritableElement names e → element_of names (element_records names e) ≡ e
-  element_back (Box s) is = made_box _ _ _ s (number_back s.layer is.0) (number_back s.datatype is.1) (box_back s.rect is.2)
+  element_back (Box s) is = boxed (is_rectangle (corners s.rect)) _ _ (Box s) (corners_so s.rect is.2) (made_box _ _ _ s (number_back s.layer is.0) (number_back s.datatype is.1) (box_back s.rect is.2))
   element_back (Place n x y) is = made_place _ _ _ _ _ _ (ap (λ (t : List ℕ). place_of t names) (trimmed-padded (slice_index_or names n []) (names_back names texts n)) ∙ distinct n is.0) (signed_back x is.1) (signed_back y is.2)
   element_back (Text l) is = made_text _ _ _ _ l (number_back l.layer is.0) (signed_back l.x is.1) (signed_back l.y is.2) (trimmed-padded l.text is.3)
 
@@ -94,9 +125,6 @@ module _ (names : List (List ℕ)) (texts : AllByRecursion IsText names) (distin
 
 -- ---- parts
 
-end : List Record
-end = record_with 0x07 0 [] ∷ []
-
 parts_one : (names : List (List ℕ)) (e : Element) (rest : List Record) → parts 0x11 [] (element_records names e ++ rest) ≡ element_records names e ∷ parts 0x11 [] rest
 parts_one names (Box s) rest = refl
 parts_one names (Place n x y) rest = refl
@@ -105,51 +133,64 @@ parts_one names (Text l) rest = refl
 pub flat_more : (names : List (List ℕ)) (e : Element) (es : List Element) (rest : List Record) → flat_map (element_records names) (e ∷ es) ++ rest ≡ element_records names e ++ (flat_map (element_records names) es ++ rest)
 flat_more names e es rest = ap (λ (x : List Record). x ++ rest) (flat_map-cons (element_records names) e es) ∙ append_assoc (element_records names e) (flat_map (element_records names) es) rest
 
-parts_elements : (names : List (List ℕ)) (es : List Element) → parts 0x11 [] (flat_map (element_records names) es ++ record_with 0x07 0 [] ∷ []) ≡ map (element_records names) es
+parts_elements : (names : List (List ℕ)) (es : List Element) → parts 0x11 [] (flat_map (element_records names) es) ≡ map (element_records names) es
 parts_elements names [] = refl
 parts_elements names (e ∷ es) =
-    ap (λ (x : List Record). parts 0x11 [] x) (flat_more names e es (record_with 0x07 0 [] ∷ [])) ∙ parts_one names e (flat_map (element_records names) es ++ record_with 0x07 0 [] ∷ [])
+    ap (λ (x : List Record). parts 0x11 [] x) (flat_map-cons (element_records names) e es) ∙ parts_one names e (flat_map (element_records names) es)
     ∙ ap (λ (x : List (List Record)). element_records names e ∷ x) (parts_elements names es)
 
-scan_one : (names : List (List ℕ)) (e : Element) (front rest : List Record) → parts 0x07 front (element_records names e ++ rest) ≡ parts 0x07 (front ++ element_records names e) rest
-scan_one names (Box s) front rest = ap (λ (x : List Record). parts 0x07 x rest) (simp append_assoc)
-scan_one names (Place n x y) front rest = ap (λ (x : List Record). parts 0x07 x rest) (simp append_assoc)
-scan_one names (Text l) front rest = ap (λ (x : List Record). parts 0x07 x rest) (simp append_assoc)
+up_to_one : (names : List (List ℕ)) (e : Element) (rest : List Record) → up_to 0x07 (element_records names e ++ rest) ≡ element_records names e ++ up_to 0x07 rest
+up_to_one names (Box s) rest = refl
+up_to_one names (Place n x y) rest = refl
+up_to_one names (Text l) rest = refl
 
-scan : (names : List (List ℕ)) (es : List Element) (front rest : List Record) → parts 0x07 front (flat_map (element_records names) es ++ (record_with 0x07 0 [] ∷ rest)) ≡ (front ++ (flat_map (element_records names) es ++ record_with 0x07 0 [] ∷ [])) ∷ parts 0x07 [] rest
-scan names [] front rest = refl
-scan names (e ∷ es) front rest =
-    ap (λ (x : List Record). parts 0x07 front x) (flat_more names e es (record_with 0x07 0 [] ∷ rest)) ∙ scan_one names e front (flat_map (element_records names) es ++ (record_with 0x07 0 [] ∷ rest))
-    ∙ scan names es (front ++ element_records names e) rest
-    ∙ ap (λ (x : List Record). x ∷ parts 0x07 [] rest) (append_assoc front (element_records names e) (flat_map (element_records names) es ++ record_with 0x07 0 [] ∷ []) ∙ ap (λ (x : List Record). front ++ x) (sym (flat_more names e es (record_with 0x07 0 [] ∷ []))))
+up_to_end : (names : List (List ℕ)) (es : List Element) (rest : List Record) → up_to 0x07 (flat_map (element_records names) es ++ (record_with 0x07 0 [] ∷ rest)) ≡ flat_map (element_records names) es
+up_to_end names [] rest = refl
+up_to_end names (e ∷ es) rest =
+    ap (λ (x : List Record). up_to 0x07 x) (flat_more names e es (record_with 0x07 0 [] ∷ rest)) ∙ up_to_one names e (flat_map (element_records names) es ++ (record_with 0x07 0 [] ∷ rest))
+    ∙ ap (λ (x : List Record). element_records names e ++ x) (up_to_end names es rest) ∙ sym (flat_map-cons (element_records names) e es)
+
+starts_one : (names : List (List ℕ)) (e : Element) (rest : List Record) → starts (element_records names e ++ rest) ≡ starts rest
+starts_one names (Box s) rest = refl
+starts_one names (Place n x y) rest = refl
+starts_one names (Text l) rest = refl
+
+starts_elements : (names : List (List ℕ)) (es : List Element) (rest : List Record) → starts (flat_map (element_records names) es ++ (record_with 0x07 0 [] ∷ rest)) ≡ starts rest
+starts_elements names [] rest = refl
+starts_elements names (e ∷ es) rest =
+    ap (λ (x : List Record). starts x) (flat_more names e es (record_with 0x07 0 [] ∷ rest)) ∙ starts_one names e (flat_map (element_records names) es ++ (record_with 0x07 0 [] ∷ rest)) ∙ starts_elements names es rest
 
 pub structure_more : (names : List (List ℕ)) (s : Structure) (ss : List Structure) (rest : List Record) → flat_map (structure_records names) (s ∷ ss) ++ rest ≡ structure_records names s ++ (flat_map (structure_records names) ss ++ rest)
 structure_more names s ss rest = ap (λ (x : List Record). x ++ rest) (flat_map-cons (structure_records names) s ss) ∙ append_assoc (structure_records names s) (flat_map (structure_records names) ss) rest
 
-parts_structure : (names : List (List ℕ)) (s : Structure) (rest : List Record) → parts 0x07 [] (structure_records names s ++ rest) ≡ structure_records names s ∷ parts 0x07 [] rest
-parts_structure names s rest =
-    ap (λ (x : List Record). parts 0x07 (record_with 0x05 2 (dates) ∷ record_with 0x06 6 (padded s.name) ∷ []) x) (append_assoc (flat_map (element_records names) s.elements) (record_with 0x07 0 [] ∷ []) rest)
-    ∙ scan names s.elements (record_with 0x05 2 (dates) ∷ record_with 0x06 6 (padded s.name) ∷ []) rest
+-- what follows the BGNSTR of a structure, and then of each
+tail_of : (names : List (List ℕ)) → Structure → List Record → List Record
+tail_of names s rest = record_with 0x06 6 (padded s.name) ∷ (flat_map (element_records names) s.elements ++ (record_with 0x07 0 [] ∷ rest))
 
-last : List Record
-last = record_with 0x04 0 [] ∷ []
+tails : (names : List (List ℕ)) → List Structure → List (List Record)
+unfolding tail_of
+tails names [] = []
+tails names (s ∷ ss) = tail_of names s (flat_map (structure_records names) ss ++ record_with 0x04 0 [] ∷ []) ∷ tails names ss
 
-parts_structures : (names : List (List ℕ)) (ss : List Structure) → parts 0x07 [] (flat_map (structure_records names) ss ++ record_with 0x04 0 [] ∷ []) ≡ map (structure_records names) ss
-parts_structures names [] = refl
-parts_structures names (s ∷ ss) =
-    ap (λ (x : List Record). parts 0x07 [] x) (structure_more names s ss (record_with 0x04 0 [] ∷ [])) ∙ parts_structure names s (flat_map (structure_records names) ss ++ record_with 0x04 0 [] ∷ [])
-    ∙ ap (λ (x : List (List Record)). structure_records names s ∷ x) (parts_structures names ss)
+starts_structure : (names : List (List ℕ)) (s : Structure) (rest : List Record) → starts (structure_records names s ++ rest) ≡ tail_of names s rest ∷ starts rest
+unfolding tail_of
+starts_structure names s rest =
+    let e : record_with 0x05 2 dates ∷ record_with 0x06 6 (padded s.name) ∷ flat_map (element_records names) s.elements ++ record_with 0x07 0 [] ∷ [] ++ rest ≡ record_with 0x05 2 dates ∷ tail_of names s rest
+        = ap (λ (x : List Record). record_with 0x05 2 dates ∷ record_with 0x06 6 (padded s.name) ∷ x) (append_assoc (flat_map (element_records names) s.elements) (record_with 0x07 0 [] ∷ []) rest) in
+    ap (λ (x : List Record). starts x) e ∙ ap (λ (x : List (List Record)). tail_of names s rest ∷ x) (starts_elements names s.elements rest)
 
-from_structures : (names : List (List ℕ)) (ss : List Structure) → parts 0x07 [] (from 0x05 (flat_map (structure_records names) ss ++ record_with 0x04 0 [] ∷ [])) ≡ map (structure_records names) ss
-from_structures names [] = refl
-from_structures names (s ∷ ss) =
-    ap (λ (x : List Record). parts 0x07 [] (from 0x05 x)) (structure_more names s ss (record_with 0x04 0 [] ∷ []))
-    ∙ ap (λ (x : List Record). parts 0x07 [] x) (sym (structure_more names s ss (record_with 0x04 0 [] ∷ []))) ∙ parts_structures names (s ∷ ss)
+starts_structures : (names : List (List ℕ)) (ss : List Structure) → starts (flat_map (structure_records names) ss ++ record_with 0x04 0 [] ∷ []) ≡ tails names ss
+unfolding tails
+starts_structures names [] = refl
+starts_structures names (s ∷ ss) =
+    ap (λ (x : List Record). starts x) (structure_more names s ss (record_with 0x04 0 [] ∷ [])) ∙ starts_structure names s (flat_map (structure_records names) ss ++ record_with 0x04 0 [] ∷ [])
+    ∙ ap (λ (x : List (List Record)). tail_of names s (flat_map (structure_records names) ss ++ record_with 0x04 0 [] ∷ []) ∷ x) (starts_structures names ss)
 
-records_back : (ss : List Structure) → structure_parts (records_of ss) ≡ map (structure_records (names_in ss)) ss
-records_back ss = from_structures (names_in ss) ss
+starts_back : (ss : List Structure) → starts (records_of ss) ≡ tails (names_in ss) ss
+starts_back ss = starts_structures (names_in ss) ss
 
-names_read : (names : List (List ℕ)) (ss : List Structure) → AllByRecursion (IsWritableStructure names) ss → map (λ part. trimmed (field 0x06 part)) (map (structure_records names) ss) ≡ names_in ss
+names_read : (names : List (List ℕ)) (ss : List Structure) → AllByRecursion (IsWritableStructure names) ss → map name_of (tails names ss) ≡ names_in ss
+unfolding tails tail_of
 names_read names [] all = refl
 names_read names (s ∷ ss) all = rw (trimmed-padded s.name all.0.0, names_read names ss all.1) refl
 
@@ -161,17 +202,21 @@ made_structure : (n : List ℕ) (es : List Element) (s : Structure) → n ≡ s.
 made_structure n es s a b = rw (a, b) refl
 
 module _ (names : List (List ℕ)) (texts : AllByRecursion IsText names) (distinct : (n : ℕ) → n < length names → place_of (slice_index_or names n []) names ≡ n) where
-  structure_back : (s : Structure) → IsWritableStructure names s → structure_of names (structure_records names s) ≡ s
-  structure_back s is = made_structure _ _ s (trimmed-padded s.name is.0) (ap (λ (x : List (List Record)). map (element_of names) x) (parts_elements names s.elements) ∙ elements_back names texts distinct s.elements is.1)
+  structure_back : (s : Structure) (rest : List Record) → IsWritableStructure names s → structure_of names (tail_of names s rest) ≡ s
+  unfolding tail_of
+  structure_back s rest is =
+      made_structure _ _ s (trimmed-padded s.name is.0)
+      (ap (λ (x : List Record). map (element_of names) (parts 0x11 [] x)) (up_to_end names s.elements rest) ∙ ap (λ (x : List (List Record)). map (element_of names) x) (parts_elements names s.elements) ∙ elements_back names texts distinct s.elements is.1)
 
-  structures_back : (ss : List Structure) → AllByRecursion (IsWritableStructure names) ss → map (structure_of names) (map (structure_records names) ss) ≡ ss
+  structures_back : (ss : List Structure) → AllByRecursion (IsWritableStructure names) ss → map (structure_of names) (tails names ss) ≡ ss
+  unfolding tails
   structures_back [] all = refl
-  structures_back (s ∷ ss) all = rw (structure_back s all.0, structures_back ss all.1) refl
+  structures_back (s ∷ ss) all = rw (structure_back s (flat_map (structure_records names) ss ++ record_with 0x04 0 [] ∷ []) all.0, structures_back ss all.1) refl
 
 pub says_back : (ss : List Structure) → AllByRecursion (IsWritableStructure (names_in ss)) ss → ((n : ℕ) → n < length (names_in ss) → place_of (slice_index_or (names_in ss) n []) (names_in ss) ≡ n) → structures_of (records_of ss) ≡ ss
 says_back ss all distinct =
-    let names : names_of (records_of ss) ≡ names_in ss = ap (λ (x : List (List Record)). map (λ part. trimmed (field 0x06 part)) x) (records_back ss) ∙ names_read (names_in ss) ss all in
-    ap (λ (x : List (List ℕ)). map (structure_of x) (structure_parts (records_of ss))) names ∙ ap (λ (x : List (List Record)). map (structure_of (names_in ss)) x) (records_back ss)
+    let names : names_of (records_of ss) ≡ names_in ss = ap (λ (x : List (List Record)). map name_of x) (starts_back ss) ∙ names_read (names_in ss) ss all in
+    ap (λ (x : List (List ℕ)). map (structure_of x) (starts (records_of ss))) names ∙ ap (λ (x : List (List Record)). map (structure_of (names_in ss)) x) (starts_back ss)
     ∙ structures_back (names_in ss) (all_texts (names_in ss) ss all) distinct ss all
 
 -- ---- the grammar

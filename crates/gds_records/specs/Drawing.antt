@@ -1,5 +1,5 @@
 -- What the records of a stream say: its structures in order, with their elements in order.
-use Rattle.std.specs.Prelude.{ℕ, suc, ◌*◌, ◌==◌, List, [], ◌∷◌, ◌++◌, Bool, true, false, map, take, drop, ℤ, int_le}
+use Rattle.std.specs.Prelude.{ℕ, suc, ◌*◌, ◌==◌, ◌&&◌, List, [], ◌∷◌, ◌++◌, Bool, true, false, map, take, drop, ℤ, int_le}
 use Rattle.std.specs.Int.{w32, from_be_bytes, cast_signed}
 use Rattle.geom.specs.Rectangle.{Rectangle}
 use Rattle.geom.specs.declared.layout.Element.{Element}
@@ -7,6 +7,17 @@ use Rattle.geom.specs.declared.layout.Element.TheVariants.{Box, Place, Text}
 use Rattle.geom.specs.declared.layout.Structure.{Structure}
 use Rattle.gds_records.specs.Codes.{BGNSTR, STRNAME, ENDSTR, BOUNDARY, SREF, LAYER, DATATYPE, XY, ENDEL, SNAME, STRING}
 use Rattle.gds_records.specs.Records.{Record, number, trimmed, same}
+use Rattle.gds_records.specs.Values.{is_rectangle}
+
+-- what follows each BGNSTR
+abbrev pub starts : List Record → List (List Record)
+starts [] = []
+starts (r ∷ rs) = elim (r.kind == BGNSTR) [ true ↦ rs ∷ starts rs | false ↦ starts rs ]
+
+-- the records before the first of this kind
+abbrev pub up_to : ℕ → List Record → List Record
+up_to kind [] = []
+up_to kind (r ∷ rs) = elim (r.kind == kind) [ true ↦ [] | false ↦ r ∷ up_to kind rs ]
 
 -- the parts of a list that end with a record of this kind; what is left behind the last is in none
 abbrev pub parts : ℕ → List Record → List Record → List (List Record)
@@ -21,11 +32,6 @@ field kind (r ∷ rs) = elim (r.kind == kind) [ true ↦ r.content | false ↦ f
 abbrev pub has : ℕ → List Record → Bool
 has kind [] = false
 has kind (r ∷ rs) = elim (r.kind == kind) [ true ↦ true | false ↦ has kind rs ]
-
--- from the first record of this kind on
-abbrev pub from : ℕ → List Record → List Record
-from kind [] = []
-from kind (r ∷ rs) = elim (r.kind == kind) [ true ↦ r ∷ rs | false ↦ from kind rs ]
 
 -- coordinate i of an XY, where x and y of each point take turns
 abbrev pub coordinate : List ℕ → ℕ → ℤ
@@ -51,9 +57,10 @@ abbrev pub place_of : List ℕ → List (List ℕ) → ℕ
 place_of name [] = 0
 place_of name (n ∷ ns) = elim (same name n) [ true ↦ 0 | false ↦ suc (place_of name ns) ]
 
--- the element that its records say, where the structures have these names
+-- the element that its records say, where the structures have these names; a boundary's XY is that of a rectangle in every
+-- stream
 abbrev pub element_of : List (List ℕ) → List Record → Element
-element_of names rs = elim (has BOUNDARY rs) [
+element_of names rs = elim (has BOUNDARY rs && is_rectangle (field XY rs)) [
   | true ↦ Box (record { layer = number (field LAYER rs); datatype = number (field DATATYPE rs); rect = box_of (field XY rs) })
   | false ↦ elim (has SREF rs) [
     | true ↦ Place (place_of (trimmed (field SNAME rs)) names) (coordinate (field XY rs) 0) (coordinate (field XY rs) 1)
@@ -61,19 +68,19 @@ element_of names rs = elim (has BOUNDARY rs) [
   ]
 ]
 
--- the records of each element of a structure
+-- the name of the structure whose BGNSTR these records follow
+abbrev pub name_of : List Record → List ℕ
+name_of rs = trimmed (field STRNAME rs)
+
+-- the records of each of its elements, which stand between STRNAME and ENDSTR
 abbrev pub element_parts : List Record → List (List Record)
-element_parts rs = parts ENDEL [] (drop 2 rs)
+element_parts rs = parts ENDEL [] (up_to ENDSTR (drop 1 rs))
 
 abbrev pub structure_of : List (List ℕ) → List Record → Structure
-structure_of names rs = record { name = trimmed (field STRNAME rs); elements = map (element_of names) (element_parts rs) }
-
--- the records of each structure
-abbrev pub structure_parts : List Record → List (List Record)
-structure_parts rs = parts ENDSTR [] (from BGNSTR rs)
+structure_of names rs = record { name = name_of rs; elements = map (element_of names) (element_parts rs) }
 
 abbrev pub names_of : List Record → List (List ℕ)
-names_of rs = map (λ part. trimmed (field STRNAME part)) (structure_parts rs)
+names_of rs = map name_of (starts rs)
 
 abbrev pub structures_of : List Record → List Structure
-structures_of rs = map (structure_of (names_of rs)) (structure_parts rs)
+structures_of rs = map (structure_of (names_of rs)) (starts rs)

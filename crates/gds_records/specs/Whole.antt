@@ -3,9 +3,9 @@
 use Rattle.std.specs.Prelude.{ℕ, suc, ◌+◌, ◌==◌, ◌&&◌, ◌||◌, not, List, [], ◌∷◌, ◌++◌, Bool, true, false, length, Option, Some, None}
 use Rattle.gds_records.specs.declared.fault.StreamKind.{StreamKind}
 use Rattle.gds_records.specs.declared.fault.StreamKind.TheVariants.{Unsupported, UnknownName, NoTop, SeveralTops}
-use Rattle.gds_records.specs.Codes.{ENDLIB, BGNSTR, STRNAME, ENDSTR, SNAME}
+use Rattle.gds_records.specs.Codes.{ENDLIB, BGNSTR, ENDSTR, SNAME}
 use Rattle.gds_records.specs.Records.{Record, trimmed, same}
-use Rattle.gds_records.specs.Drawing.{field}
+use Rattle.gds_records.specs.Drawing.{name_of}
 
 -- a name and the place of its SNAME record
 pub record Use : Type 0 where
@@ -33,7 +33,7 @@ uses_from o (r ∷ rs) = elim (r.kind == ENDSTR) [
 abbrev pub outlines : ℕ → List Record → List Outline
 outlines o [] = []
 outlines o (r ∷ rs) = elim (r.kind == BGNSTR) [
-  | true ↦ record { place = o; name = trimmed (field STRNAME rs); uses = uses_from (o + (4 + length r.content)) rs } ∷ outlines (o + (4 + length r.content)) rs
+  | true ↦ record { place = o; name = name_of rs; uses = uses_from (o + (4 + length r.content)) rs } ∷ outlines (o + (4 + length r.content)) rs
   | false ↦ outlines (o + (4 + length r.content)) rs
 ]
 

@@ -1,12 +1,13 @@
 // Laws of streams, for the crates above.
-ghost use Rattle.std.specs.Prelude.{◌≡◌, List, ℕ, Option, Some, None, []};
+ghost use Rattle.std.specs.Prelude.{◌≡◌, List, ℕ, suc, length, Option, Some, None, []};
 ghost use Rattle.geom.specs.declared.layout.Layout.{Layout};
 ghost use Rattle.geom.specs.Writable.{IsWritable};
 ghost use Rattle.geom.specs.FirstChip.{first_layout};
-ghost use Rattle.gds_records.specs.Stream.{IsStream};
+ghost use Rattle.gds_records.specs.Stream.{IsStream, IsRead};
+ghost use Rattle.gds_records.specs.Records.{Record};
 ghost use Rattle.gds_records.specs.Faults.{StreamFault, IsStreamOrFaulty};
 ghost use Rattle.gds_records.specs.Writing.{bytes_of};
-ghost use Rattle.gds_records.specs.Scan.{first_fault, layout_in, IsBytes, scan};
+ghost use Rattle.gds_records.specs.Scan.{first_fault, layout_in, IsBytes, scan, Whole};
 ghost use Rattle.gds_records.specs.Steps.{steps, told};
 ghost use Rattle.gds_records.specs.Grammar.{stream};
 ghost use Rattle.gds_records.specs.FirstChip.{first_bytes};
@@ -20,6 +21,11 @@ pub fn no_fault_is_stream()
 /// What the scan finds is the first fault.
 pub fn found_is_fault()
     ensures { (bytes : List ℕ) (offset : ℕ) (kind : StreamKind) → IsBytes bytes → first_fault bytes ≡ Some (offset, kind) → StreamFault bytes offset kind }
+{}
+
+/// Where the scan arrives at ENDLIB, the bytes are the records before it, a sentence of good records, and then a rest.
+pub fn whole_is_read()
+    ensures { (bytes : List ℕ) (records : List Record) (rest : List ℕ) → IsBytes bytes → scan (suc (length bytes)) [] bytes ≡ Whole records rest → IsRead bytes records rest }
 {}
 
 /// A stream has no fault, and its layout is the one that is found.
