@@ -4,3 +4,5 @@ pub mod Named
 pub mod Turns
 pub mod Moving
 pub mod Flattens
+pub mod Decoded
+pub mod Cursors

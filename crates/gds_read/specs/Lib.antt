@@ -3,3 +3,4 @@ pub mod Fronts
 pub mod Texts
 pub mod Steps
 pub mod Flattening
+pub mod Decoding

@@ -1,6 +1,7 @@
 //! The reader of streams, and the flat form of a layout.
 #![tactic(auto)]
 
+mod cursor;
 mod flat;
 mod front;
 mod names;

@@ -1,0 +1,67 @@
+// Records that are known to be whole, one after another.
+ghost use Rattle.std.specs.Prelude.{◌≡◌, ◌<◌, length, take, drop};
+ghost use Rattle.gds_records.specs.Faults.{here_record, kind_of, length_of};
+ghost use Rattle.gds_records.specs.Drawing.{field, has};
+ghost use Rattle.gds_read.specs.Decoding.{IsSpelled, Goes, records_in};
+
+use crate::front::record_length;
+
+/// The record type at the front.
+pub fn kind_at(bytes: &[u8]) -> u8
+    requires spelled { IsSpelled bytes.now }
+    requires some { 0 < length bytes.now }
+    ensures { result ≡ kind_of bytes.now }
+{
+    bytes[2]
+}
+
+/// What stands behind the record at the front.
+pub fn behind(bytes: &[u8]) -> &[u8]
+    requires spelled { IsSpelled bytes.now }
+    requires some { 0 < length bytes.now }
+    ensures { Goes bytes.now result.now }
+{
+    let (_, rest) = bytes.split_at(record_length(bytes));
+    rest
+}
+
+/// The data of the record at the front.
+pub fn data_at(bytes: &[u8]) -> &[u8]
+    requires spelled { IsSpelled bytes.now }
+    requires some { 0 < length bytes.now }
+    ensures { result.now ≡ (here_record bytes.now).content }
+{
+    let (record, _) = bytes.split_at(record_length(bytes));
+    let (_, data) = record.split_at(4);
+    data
+}
+
+/// The data of the first record of a type, or none.
+pub fn field(bytes: &[u8], kind: u8) -> &[u8]
+    requires { IsSpelled bytes.now }
+    ensures { result.now ≡ field kind (records_in bytes.now) }
+{
+    let mut rest = bytes;
+    'records: while !rest.is_empty() {
+        if kind_at(rest) == kind {
+            return data_at(rest);
+        }
+        rest = behind(rest);
+    }
+    &[]
+}
+
+/// Whether there is a record of a type.
+pub fn has(bytes: &[u8], kind: u8) -> bool
+    requires { IsSpelled bytes.now }
+    ensures { result ≡ has kind (records_in bytes.now) }
+{
+    let mut rest = bytes;
+    'records: while !rest.is_empty() {
+        if kind_at(rest) == kind {
+            return true;
+        }
+        rest = behind(rest);
+    }
+    false
+}
