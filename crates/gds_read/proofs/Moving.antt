@@ -1,7 +1,7 @@
 -- Sums of coordinates of four bytes.
-use Rattle.std.proofs.Common.{◌≡◌, ℕ, List, FitsSigned, ℤ, ◌+ℤ◌, ◌<ℤ◌, arith}
+use Rattle.std.proofs.Common.{◌≡◌, ℕ, List, FitsSigned, ℤ, ◌+ℤ◌, ◌<ℤ◌, ◌≤ℤ◌, arith}
 use Rattle.std.specs.Int.{w32, w64, cast_signed, cast_unsigned}
-use Rattle.std.proofs.lemmas.Int.{ints}
+use Rattle.std.proofs.lemmas.Int.{ints, by_lt_z}
 use Rattle.geom.specs.Rectangle.{Rectangle}
 use Rattle.geom.specs.declared.shapes.Label.{Label}
 
@@ -20,3 +20,6 @@ same_corners e f g h = λ i. record { x0 = e i; y0 = f i; x1 = g i; y1 = h i }
 
 pub same_place : {a b p q : ℤ} {t u : List ℕ} (layer : ℕ) → a ≡ p → b ≡ q → t ≡ u → ◌≡◌ {A = Label} (record { layer = layer; x = a; y = b; text = t }) (record { layer = layer; x = p; y = q; text = u })
 same_place layer e f g = λ i. record { layer = layer; x = e i; y = f i; text = g i }
+
+pub below_of : (a b : ℤ) → FitsSigned w64 a → FitsSigned w64 b → a ≤ℤ b → (a ≡ b → ⊥) → kept a <ℤ kept b
+below_of a b f g le ne = by_lt_z a b (λ h. omega (arith, ints)) (λ h. absurd (ne (omega (arith, ints))))

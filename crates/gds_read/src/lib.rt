@@ -2,6 +2,7 @@
 #![tactic(auto)]
 
 mod cursor;
+mod fields;
 mod flat;
 mod front;
 mod names;

@@ -1,0 +1,62 @@
+// Numbers and rectangles in the data of records.
+ghost use Rattle.std.specs.Prelude.{◌≡◌, ◌≢◌, ◌+◌, ◌*◌, ◌<◌, ◌<ℤ◌, true, slice_index};
+ghost use Rattle.std.specs.Int.{w32, cast_unsigned};
+ghost use Rattle.gds_records.specs.Records.{number};
+ghost use Rattle.gds_records.specs.Values.{at, is_rectangle};
+ghost use Rattle.gds_records.specs.Drawing.{coordinate, lesser, greater, box_of};
+
+use geom::Rect;
+
+// A byte of the data, and 0 behind its end.
+fn byte(content: &[u8], k: usize) -> u8
+    ensures { result ≡ slice_index content.now k }
+{
+    if k < content.len() { content[k] } else { 0 }
+}
+
+/// The number in the first two bytes.
+pub fn number(content: &[u8]) -> u16
+    ensures { result ≡ number content.now }
+{
+    u16::from_be_bytes([byte(content, 0), byte(content, 1)])
+}
+
+fn bits(xy: &[u8], i: usize) -> u32
+    requires { i < 1000 }
+    ensures { result ≡ at xy.now i }
+{
+    let k = 4 * i;
+    u32::from_be_bytes([byte(xy, k), byte(xy, k + 1), byte(xy, k + 2), byte(xy, k + 3)])
+}
+
+/// Coordinate number `i`, where x and y of each point take turns.
+pub fn coordinate(xy: &[u8], i: usize) -> i64
+    requires { i < 1000 }
+    ensures value { result ≡ coordinate xy.now i }
+    ensures back { cast_unsigned w32 result ≡ at xy.now i }
+{
+    i64::from(bits(xy, i).cast_signed())
+}
+
+// The two ends of a side, the lower first.
+fn ends(xy: &[u8], i: usize) -> (i64, i64)
+    requires small { i < 900 }
+    requires apart { at xy.now i ≢ at xy.now (i + 4) }
+    ensures low { result.0 ≡ lesser (coordinate xy.now i) (coordinate xy.now (i + 4)) }
+    ensures high { result.1 ≡ greater (coordinate xy.now i) (coordinate xy.now (i + 4)) }
+    ensures order { result.0 <ℤ result.1 }
+{
+    let first = coordinate(xy, i);
+    let third = coordinate(xy, i + 4);
+    if first <= third { (first, third) } else { (third, first) }
+}
+
+/// The rectangle of an XY that is one.
+pub fn rectangle(xy: &[u8]) -> Rect
+    requires { is_rectangle xy.now ≡ true }
+    ensures { result ≡ box_of xy.now }
+{
+    let (x0, x1) = ends(xy, 0);
+    let (y0, y1) = ends(xy, 1);
+    Rect { x0, y0, x1, y1 }
+}
