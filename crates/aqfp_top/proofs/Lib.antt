@@ -1,0 +1,10 @@
+pub mod Putting
+pub mod Designing
+pub mod EachFault
+pub mod Steps
+pub mod Runs
+pub mod OneFault
+pub mod Exact
+pub mod Sizes
+pub mod Headline
+pub mod FirstMade

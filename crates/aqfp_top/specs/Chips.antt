@@ -1,0 +1,29 @@
+-- What a build that ends well has made: the chip of NET's netlist under OUT, drawn by LIB's limits, and its counts on `out`.
+use Rattle.std.specs.Prelude.{◌≡◌, ℕ, List, length, Option, Some}
+use Rattle.aq_base.specs.Store.{Contents, with_file, gained}
+use Rattle.blif_read.specs.Parts.{NetView}
+use Rattle.blif_read.specs.Says as netlist
+use Rattle.blif_read.specs.Equations.{IsAnswer}
+use Rattle.cell_library.specs.Library.{LibraryView, limits_of}
+use Rattle.cell_library.specs.Says as library
+use Rattle.shape_extract.specs.Circuits.{CircuitView}
+use Rattle.aqfp_top.specs.Words.{word_at}
+use Rattle.aqfp_top.specs.Counts.{counts_line, delay_of}
+use Rattle.aqfp_top.specs.Realises.{Realises}
+
+-- The texts are those that NET and LIB held when the build began, though OUT may have the name of one of them.
+-- No other name than OUT has changed.
+pub record BuildsChip (held : Contents) (after : Option Contents) (words : List (List ℕ)) (printed_before printed_after : Option (List ℕ)) : Type 0 where
+  pub net : List ℕ
+  pub lib : List ℕ
+  pub net_held : held (word_at words 1) ≡ Some net
+  pub lib_held : held (word_at words 2) ≡ Some lib
+  pub equations : NetView
+  pub cells : LibraryView
+  pub net_says : netlist.Says net equations
+  pub lib_says : library.Says lib cells
+  pub bytes : List ℕ
+  pub stored : after ≡ Some (with_file held (word_at words 3) bytes)
+  pub circuit : CircuitView
+  pub realises : Realises bytes (limits_of cells) equations.inputs (length equations.outputs) (IsAnswer equations) circuit (delay_of circuit)
+  pub printed : printed_after ≡ gained printed_before (counts_line circuit)

@@ -1,0 +1,35 @@
+-- The counts of faults of the store and of `out` that an ending shows.
+use Rattle.std.specs.Prelude.{ℕ, ◌≡◌, List, Option, Some}
+use Rattle.aq_base.specs.Causes.{Rose}
+use Rattle.aqfp_top.specs.Words.{word_at}
+use Rattle.aqfp_top.specs.declared.fault.WriteCall.TheVariants.{Create, Append, Close, Out}
+use Rattle.aqfp_top.specs.declared.fault.Fault.{Fault}
+use Rattle.aqfp_top.specs.declared.fault.Fault.TheVariants.{ReadFault, WriteFault}
+
+-- the store's read, write and close faults, and the faults of `out`
+pub record Counts : Type 0 where
+  pub reads : ℕ
+  pub writes : ℕ
+  pub closes : ℕ
+  pub outs : ℕ
+
+-- the count of the fault rose
+abbrev pub HasFaults : Counts → Counts → Option Fault → Type 0
+HasFaults before after (Some (ReadFault place)) = Rose before.reads after.reads
+HasFaults before after (Some (WriteFault Create)) = Rose before.writes after.writes
+HasFaults before after (Some (WriteFault Append)) = Rose before.writes after.writes
+HasFaults before after (Some (WriteFault Close)) = Rose before.closes after.closes
+HasFaults before after (Some (WriteFault Out)) = Rose before.outs after.outs
+HasFaults before after _ = Unit {0}
+
+-- no fault rose
+pub record NoFaults (before after : Counts) : Type 0 where
+  pub reads : ¬ Rose before.reads after.reads
+  pub writes : ¬ Rose before.writes after.writes
+  pub closes : ¬ Rose before.closes after.closes
+  pub outs : ¬ Rose before.outs after.outs
+
+-- a failed load was of the name at the fault's place
+abbrev pub FailedLoad : Option (List ℕ) → List (List ℕ) → Option Fault → Type 0
+FailedLoad load_failed words (Some (ReadFault place)) = load_failed ≡ Some (word_at words place)
+FailedLoad load_failed words _ = Unit {0}

@@ -1,0 +1,12 @@
+pub mod Words
+pub mod Statuses
+pub mod Lines
+pub mod Pieces
+pub mod Loads
+pub mod Designs
+pub mod Build
+pub mod Counted
+pub mod Run
+pub mod Counts
+pub mod Realises
+pub mod Chips

@@ -1,0 +1,88 @@
+-- The line that each fault puts to `err`.
+use Rattle.std.specs.Prelude.{ℕ, suc, ◌≡◌, ◌<◌, ◌≤◌, take, length, List, [], ◌∷◌, ◌++◌, codes, Option, Some, None, ℤ, pos, negsuc}
+use Rattle.std.specs.List.{flat_map}
+use Rattle.std.specs.Fmt.{decimal}
+use Rattle.aq_base.specs.Store.{gained}
+use Rattle.circuit.specs.declared.cell_kind.CellKind.{CellKind}
+use Rattle.cell_library.specs.Kinds.{key_of}
+use Rattle.blif_read.specs.declared.netlist.LineKind.{LineKind}
+use Rattle.blif_read.specs.declared.netlist.LineKind.TheVariants.{Token, Unsupported, SecondModel, RowShape, RowValue, RowAlone, Duplicate, Undefined, NoOutputs}
+use Rattle.blif_read.specs.declared.netlist.BlifFault.{BlifFault}
+use Rattle.blif_read.specs.declared.netlist.BlifFault.TheVariants as blif
+use Rattle.cell_library.specs.declared.fault.LibraryFault.{LibraryFault}
+use Rattle.cell_library.specs.declared.fault.LibraryFault.TheVariants as library
+use Rattle.aqfp_top.specs.Words.{word_at}
+use Rattle.aqfp_top.specs.declared.fault.Fault.{Fault}
+use Rattle.aqfp_top.specs.declared.fault.Fault.TheVariants.{Usage, Absent, TooLong, ReadFault, WriteFault, BadBlif, BadLibrary, MissingCell, Unbuilt, Memory}
+
+-- the line about the file that a word names
+abbrev pub named : List (List ℕ) → ℕ → List ℕ → List ℕ
+named words place tail = codes "aqfp: " ++ word_at words place ++ tail
+
+-- what is wrong with a line of a netlist
+abbrev pub line_kind_text : LineKind → List ℕ
+line_kind_text Token = codes "token"
+line_kind_text Unsupported = codes "unsupported"
+line_kind_text SecondModel = codes "second model"
+line_kind_text RowShape = codes "row shape"
+line_kind_text RowValue = codes "row value"
+line_kind_text RowAlone = codes "row alone"
+line_kind_text Duplicate = codes "duplicate"
+line_kind_text Undefined = codes "undefined"
+line_kind_text NoOutputs = codes "no outputs"
+
+-- the signals, each after a blank
+abbrev pub signals_text : List (List ℕ) → List ℕ
+signals_text signals = flat_map (λ signal. 32 ∷ signal) signals
+
+abbrev pub netlist_line : BlifFault → List ℕ
+netlist_line (blif.Line line kind) = codes "aqfp: line " ++ decimal line ++ codes ": " ++ line_kind_text kind ++ codes "\n"
+netlist_line (blif.Cycle line signals) = codes "aqfp: line " ++ decimal line ++ codes ": cycle" ++ signals_text signals ++ codes "\n"
+
+-- an integer in decimal digits, after a minus sign where it is negative
+abbrev pub integer_text : ℤ → List ℕ
+integer_text (pos n) = decimal n
+integer_text (negsuc n) = codes "-" ++ decimal (suc n)
+
+abbrev pub missing_line : CellKind → List ℕ
+missing_line kind = codes "aqfp: library: missing " ++ key_of kind ++ codes "\n"
+
+abbrev pub library_line : LibraryFault → List ℕ
+library_line library.Text = codes "aqfp: library: text\n"
+library_line (library.Key key) = codes "aqfp: library: key " ++ key ++ codes "\n"
+library_line (library.Value key value) = codes "aqfp: library: " ++ key ++ codes " = " ++ integer_text value ++ codes "\n"
+library_line (library.Law number) = codes "aqfp: library: law " ++ decimal number ++ codes "\n"
+library_line (library.Missing kind) = missing_line kind
+
+-- the whole line of a fault
+abbrev pub line_of : List (List ℕ) → Fault → List ℕ
+line_of words Usage = codes "aqfp: usage: build NET LIB OUT, verify GDS LIB WORDS, trace GDS LIB WORDS, sample N\n"
+line_of words (Absent place) = named words place (codes ": absent\n")
+line_of words (TooLong place taken) = named words place (codes ": too long\n")
+line_of words (ReadFault place) = named words place (codes ": read failed\n")
+line_of words (WriteFault call) = codes "aqfp: write failed\n"
+line_of words (BadBlif fault) = netlist_line fault
+line_of words (BadLibrary fault) = library_line fault
+line_of words (MissingCell kind) = missing_line kind
+line_of words (Unbuilt place) = named words place (codes ": not built yet\n")
+line_of words Memory = codes "aqfp: out of memory\n"
+
+-- some first bytes of the text were put, and all of them unless the sink refused
+pub record Puts (before after : Option (List ℕ)) (text : List ℕ) (Refused : Type 0) : Type 0 where
+  pub count : ℕ
+  pub within : count ≤ length text
+  pub gain : after ≡ gained before (take count text)
+  pub whole : count < length text → Refused
+
+-- the place that a fault names is one of the words
+abbrev pub HasPlace : List (List ℕ) → Fault → Type 0
+HasPlace words (Absent place) = place < length words
+HasPlace words (TooLong place taken) = place < length words
+HasPlace words (ReadFault place) = place < length words
+HasPlace words (Unbuilt place) = place < length words
+HasPlace words _ = Unit {0}
+
+-- what `err` gains: nothing after a success, and otherwise the fault's line, unless the sink refuses
+abbrev pub Reports : Option (List ℕ) → Option (List ℕ) → List (List ℕ) → Option Fault → Type 0 → Type 0
+Reports before after words None Refused = after ≡ before
+Reports before after words (Some fault) Refused = Puts before after (line_of words fault) Refused

@@ -1,0 +1,16 @@
+-- The text of the pieces that a line is put in.
+use Rattle.std.specs.Prelude.{ℕ, List}
+use Rattle.std.specs.List.{flat_map}
+use Rattle.std.specs.Fmt.{decimal}
+use Rattle.aqfp_top.specs.Lines.{signals_text, integer_text}
+use Rattle.aqfp_top.specs.declared.pieces.Piece.{Piece}
+use Rattle.aqfp_top.specs.declared.pieces.Piece.TheVariants.{Text, Number, Integer, Signals}
+
+abbrev pub piece_text : Piece → List ℕ
+piece_text (Text text) = text.now
+piece_text (Number n) = decimal n
+piece_text (Integer n) = integer_text n
+piece_text (Signals signals) = signals_text signals.now
+
+abbrev pub pieces_text : List Piece → List ℕ
+pieces_text pieces = flat_map piece_text pieces

@@ -1,0 +1,17 @@
+-- The status of an ending, a number for each fault.
+use Rattle.std.specs.Prelude.{ℕ, Option, Some, None}
+use Rattle.aqfp_top.specs.declared.fault.Fault.{Fault}
+use Rattle.aqfp_top.specs.declared.fault.Fault.TheVariants.{Usage, Absent, TooLong, ReadFault, WriteFault, BadBlif, BadLibrary, MissingCell, Unbuilt, Memory}
+
+abbrev pub status_of : Option Fault → ℕ
+status_of None = 0
+status_of (Some Usage) = 1
+status_of (Some (Absent place)) = 2
+status_of (Some (TooLong place taken)) = 3
+status_of (Some (ReadFault place)) = 4
+status_of (Some (WriteFault call)) = 5
+status_of (Some (BadBlif fault)) = 6
+status_of (Some (BadLibrary fault)) = 7
+status_of (Some (MissingCell kind)) = 8
+status_of (Some Memory) = 14
+status_of (Some (Unbuilt place)) = 15

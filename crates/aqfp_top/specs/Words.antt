@@ -1,0 +1,40 @@
+-- The words of a command line: which forms they may have.
+use Rattle.std.specs.Prelude.{ℕ, ◌≡◌, ◌≤◌, ◌⊎◌, List, [], String, map, slice_get, codes, unwrap_or, length}
+use Rattle.std.specs.Fmt.{decimal}
+use Rattle.std.specs.String.{string_bytes}
+use Rattle.std.specs.declared.alloc.Global.{Global}
+use Rattle.aqfp_top.specs.declared.words.Form.{Form}
+use Rattle.aqfp_top.specs.declared.words.Form.TheVariants.{Build, Later, Wrong}
+
+-- the bytes of each word
+abbrev pub spelled : List (String Global) → List (List ℕ)
+spelled words = map string_bytes words
+
+-- the word at a place, counted from 0
+abbrev pub word_at : List (List ℕ) → ℕ → List ℕ
+word_at words place = unwrap_or (slice_get words place) []
+
+-- build NET LIB OUT
+abbrev pub IsBuild : List (List ℕ) → Type 0
+IsBuild words = (length words ≡ 4) × (word_at words 0 ≡ codes "build")
+
+-- the text writes a number of bits that a sample may have
+pub record IsSampleSize (text : List ℕ) : Type 0 where
+  pub bits : ℕ
+  pub spelled_so : text ≡ decimal bits
+  pub some : 1 ≤ bits
+  pub few : bits ≤ 64
+
+-- verify GDS LIB WORDS, trace GDS LIB WORDS, or sample N
+abbrev pub IsLater : List (List ℕ) → Type 0
+IsLater words = ((length words ≡ 4) × ((word_at words 0 ≡ codes "verify") ⊎ (word_at words 0 ≡ codes "trace")))
+    ⊎ ((length words ≡ 2) × (word_at words 0 ≡ codes "sample") × IsSampleSize (word_at words 1))
+
+abbrev pub HasForm : List (List ℕ) → Type 0
+HasForm words = IsBuild words ⊎ IsLater words
+
+-- the words have this form
+abbrev pub IsOfForm : List (List ℕ) → Form → Type 0
+IsOfForm words Build = IsBuild words
+IsOfForm words Later = IsLater words
+IsOfForm words Wrong = ¬ HasForm words

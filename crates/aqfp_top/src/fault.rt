@@ -1,0 +1,66 @@
+// What a command may answer in place of doing its work.
+ghost use Rattle.std.specs.Prelude.{◌≡◌, Some};
+
+use blif_read::BlifFault;
+use cell_library::LibraryFault;
+use circuit::CellKind;
+
+/// The call that a store or a sink refused.
+#[derive(Clone, Copy, Debug, PartialEq, Eq)]
+pub enum WriteCall {
+    /// Making the file.
+    Create,
+    /// Writing to the file.
+    Append,
+    /// Closing the file.
+    Close,
+    /// Printing to `out`.
+    Out,
+}
+
+/// Why a command did not do its work. A `word` is a place among the words, counted from 0.
+#[derive(Debug, Drop)]
+pub enum Fault {
+    /// The words have none of the forms.
+    Usage,
+    /// No file has the name that stands at this place.
+    Absent { word: u32 },
+    /// The file is longer than its limit; so many bytes of it were seen.
+    TooLong { word: u32, taken: u64 },
+    /// The file could not be read.
+    ReadFault { word: u32 },
+    /// The store or `out` refused to write.
+    WriteFault { call: WriteCall },
+    /// The netlist's text says no netlist.
+    BadBlif { fault: BlifFault },
+    /// The library's text says no library.
+    BadLibrary { fault: LibraryFault },
+    /// The library lacks a kind of cell that each library has.
+    MissingCell { kind: CellKind },
+    /// The work is not built yet for what stands at this place.
+    Unbuilt { word: u32 },
+    /// Want of memory.
+    Memory,
+}
+
+impl Fault {
+    ghost use Rattle.aqfp_top.specs.Statuses.{status_of};
+
+    /// The status that the program ends with.
+    pub fn status(&self) -> u8
+        ensures { result ≡ status_of (Some self.now) }
+    {
+        match self {
+            Fault::Usage => 1,
+            Fault::Absent { .. } => 2,
+            Fault::TooLong { .. } => 3,
+            Fault::ReadFault { .. } => 4,
+            Fault::WriteFault { .. } => 5,
+            Fault::BadBlif { .. } => 6,
+            Fault::BadLibrary { .. } => 7,
+            Fault::MissingCell { .. } => 8,
+            Fault::Memory => 14,
+            Fault::Unbuilt { .. } => 15,
+        }
+    }
+}

@@ -1,0 +1,166 @@
+// The line that a fault puts to `err`.
+ghost use Rattle.std.specs.Prelude.{◌≡◌, ◌<◌, ◌⊎◌, ◌++◌, ℕ, length, Some};
+ghost use Rattle.aq_base.specs.Causes.{Rose};
+ghost use Rattle.aqfp_top.specs.Words.{spelled};
+ghost use Rattle.aqfp_top.specs.Lines.{line_of, netlist_line, library_line, missing_line, line_kind_text, named as named_line, Puts, HasPlace};
+ghost use Rattle.cell_library.specs.Kinds.{key_of as kind_key};
+ghost use Rattle.aqfp_top.specs.Pieces.{pieces_text};
+
+use crate::fault::Fault;
+use crate::pieces::{Piece, put_pieces};
+use crate::words::word;
+use aq_base::Sink;
+use blif_read::{BlifFault, LineKind};
+use cell_library::LibraryFault;
+use circuit::CellKind;
+
+fn line_kind(kind: &LineKind) -> &[u8]
+    ensures { result.now ≡ line_kind_text kind.now }
+{
+    match kind {
+        LineKind::Token => b"token",
+        LineKind::Unsupported => b"unsupported",
+        LineKind::SecondModel => b"second model",
+        LineKind::RowShape => b"row shape",
+        LineKind::RowValue => b"row value",
+        LineKind::RowAlone => b"row alone",
+        LineKind::Duplicate => b"duplicate",
+        LineKind::Undefined => b"undefined",
+        LineKind::NoOutputs => b"no outputs",
+    }
+}
+
+fn key_of(kind: &CellKind) -> &[u8]
+    ensures { result.now ≡ kind_key kind.now }
+{
+    match kind {
+        CellKind::Buffer => b"buffer",
+        CellKind::Inverter => b"inverter",
+        CellKind::Zero => b"zero",
+        CellKind::One => b"one",
+        CellKind::Split2 => b"split2",
+        CellKind::Split3 => b"split3",
+        CellKind::Majority => b"majority",
+    }
+}
+
+// A text that is the same for each fault of its kind; it is lent as long as the fault is.
+fn text<'a, F>(_fault: &'a F, all: &'a [u8]) -> [Piece<'a>; 5]
+    ensures { pieces_text result ≡ all.now }
+{
+    [
+        Piece::Text(all),
+        Piece::Text(b""),
+        Piece::Text(b""),
+        Piece::Text(b""),
+        Piece::Text(b""),
+    ]
+}
+
+fn named<'a>(words: &'a [String], place: u32, tail: &'a [u8]) -> [Piece<'a>; 5]
+    requires { place < length words.now }
+    ensures { pieces_text result ≡ named_line (spelled words.now) place tail.now }
+{
+    [
+        Piece::Text(b"aqfp: "),
+        Piece::Text(word(words, place as usize).as_bytes()),
+        Piece::Text(tail),
+        Piece::Text(b""),
+        Piece::Text(b""),
+    ]
+}
+
+fn netlist_pieces(fault: &BlifFault) -> [Piece<'_>; 5]
+    ensures { pieces_text result ≡ netlist_line fault.now }
+{
+    match fault {
+        BlifFault::Line { line, kind } => [
+            Piece::Text(b"aqfp: line "),
+            Piece::Number(*line),
+            Piece::Text(b": "),
+            Piece::Text(line_kind(kind)),
+            Piece::Text(b"\n"),
+        ],
+        BlifFault::Cycle { line, signals } => [
+            Piece::Text(b"aqfp: line "),
+            Piece::Number(*line),
+            Piece::Text(b": cycle"),
+            Piece::Signals(signals),
+            Piece::Text(b"\n"),
+        ],
+    }
+}
+
+fn missing_pieces(kind: &CellKind) -> [Piece<'_>; 5]
+    ensures { pieces_text result ≡ missing_line kind.now }
+{
+    [
+        Piece::Text(b"aqfp: library: missing "),
+        Piece::Text(key_of(kind)),
+        Piece::Text(b"\n"),
+        Piece::Text(b""),
+        Piece::Text(b""),
+    ]
+}
+
+fn library_pieces(fault: &LibraryFault) -> [Piece<'_>; 5]
+    ensures { pieces_text result ≡ library_line fault.now }
+{
+    match fault {
+        LibraryFault::Text => text(fault, b"aqfp: library: text\n"),
+        LibraryFault::Key { key } => [
+            Piece::Text(b"aqfp: library: key "),
+            Piece::Text(key.as_slice()),
+            Piece::Text(b"\n"),
+            Piece::Text(b""),
+            Piece::Text(b""),
+        ],
+        LibraryFault::Value { key, value } => [
+            Piece::Text(b"aqfp: library: "),
+            Piece::Text(key.as_slice()),
+            Piece::Text(b" = "),
+            Piece::Integer(*value),
+            Piece::Text(b"\n"),
+        ],
+        LibraryFault::Law { number } => [
+            Piece::Text(b"aqfp: library: law "),
+            Piece::Number(u64::from(*number)),
+            Piece::Text(b"\n"),
+            Piece::Text(b""),
+            Piece::Text(b""),
+        ],
+        LibraryFault::Missing { kind } => missing_pieces(kind),
+    }
+}
+
+// The pieces of a fault's line.
+fn pieces_of<'a>(words: &'a [String], fault: &'a Fault) -> [Piece<'a>; 5]
+    requires { HasPlace (spelled words.now) fault.now }
+    ensures { pieces_text result ≡ line_of (spelled words.now) fault.now }
+{
+    match fault {
+        Fault::Usage => text(
+            fault,
+            b"aqfp: usage: build NET LIB OUT, verify GDS LIB WORDS, trace GDS LIB WORDS, sample N\n",
+        ),
+        Fault::Absent { word } => named(words, *word, b": absent\n"),
+        Fault::TooLong { word, .. } => named(words, *word, b": too long\n"),
+        Fault::ReadFault { word } => named(words, *word, b": read failed\n"),
+        Fault::WriteFault { .. } => text(fault, b"aqfp: write failed\n"),
+        Fault::BadBlif { fault } => netlist_pieces(fault),
+        Fault::BadLibrary { fault } => library_pieces(fault),
+        Fault::MissingCell { kind } => missing_pieces(kind),
+        Fault::Unbuilt { word } => named(words, *word, b": not built yet\n"),
+        Fault::Memory => text(fault, b"aqfp: out of memory\n"),
+    }
+}
+
+/// Puts the line of the fault, as far as the sink takes it; it takes no memory.
+pub fn say<E: Sink>(words: &[String], fault: &Fault, err: &mut E)
+    requires { HasPlace (spelled words.now) fault.now }
+    ensures { Puts (E.written err.old) (E.written err.new) (line_of (spelled words.now) fault.now)
+        (Rose (E.faults err.old) (E.faults err.new) ⊎ Rose (E.refused err.old) (E.refused err.new)) }
+{
+    let pieces = pieces_of(words, fault);
+    let _ = put_pieces(err, &pieces);
+}
