@@ -2,10 +2,10 @@
 use Rattle.std.proofs.Common.{ℕ, List}
 use Rattle.blif_read.specs.Parts.{NetView}
 use Rattle.blif_read.specs.Says as netlist
-use Rattle.aqfp_top.specs.Designs.{IsNetlistFault, IsLibraryFault, IsWrongOrMemory, SaysNetlist}
+use Rattle.aqfp_top.specs.Designs.{IsNetlistFault, IsLibraryFault, IsWrongOrMemory}
 use Rattle.cell_library.specs.declared.fault.LibraryFault.TheVariants.{Text, Key, Value, Law, Missing}
 use Rattle.aqfp_top.specs.declared.fault.Fault.{Fault}
-use Rattle.aqfp_top.specs.declared.fault.Fault.TheVariants.{Usage, Absent, TooLong, ReadFault, WriteFault, BadBlif, BadLibrary, MissingCell, Unbuilt, Memory}
+use Rattle.aqfp_top.specs.declared.fault.Fault.TheVariants.{BadBlif, BadLibrary, MissingCell, Memory}
 
 pub netlist_is_wrong : (net lib : List ℕ) (fault : Fault) → IsNetlistFault net fault → IsWrongOrMemory net lib fault
 netlist_is_wrong net lib (BadBlif fault) bad = bad

@@ -1,11 +1,11 @@
 -- The faults of each step of a build: what holds of each of its kinds holds of every fault of the step.
-use Rattle.std.proofs.Common.{ℕ, zero, suc, ◌≡◌, ◌<◌, List, Result, Ok, Err, IfErr, sym, subst}
+use Rattle.std.proofs.Common.{ℕ, zero, suc, ◌<◌, List, Result, Ok, Err, IfErr, sym, subst}
 use Rattle.aqfp_top.specs.Loads.{IsLoadFault}
 use Rattle.aqfp_top.specs.Designs.{IsWrongOrMemory}
 use Rattle.aqfp_top.specs.Build.{IsFaultOfLoads, IsStoreFault, IsOutOrMemory}
 use Rattle.aqfp_top.specs.declared.fault.WriteCall.TheVariants.{Create, Append, Close, Out}
 use Rattle.aqfp_top.specs.declared.fault.Fault.{Fault}
-use Rattle.aqfp_top.specs.declared.fault.Fault.TheVariants.{Usage, Absent, TooLong, ReadFault, WriteFault, BadBlif, BadLibrary, MissingCell, Unbuilt, Memory}
+use Rattle.aqfp_top.specs.declared.fault.Fault.TheVariants.{Absent, TooLong, ReadFault, WriteFault, BadBlif, BadLibrary, MissingCell, Unbuilt, Memory}
 
 -- a load
 pub each_load : (P : Fault → Type 0) (place limit : ℕ) → P (Absent place) → ((taken : ℕ) → limit < taken → P (TooLong place taken)) → P (ReadFault place) → P Memory →

@@ -1,6 +1,5 @@
 -- Where a fault is due it comes: a cause licenses one fault.
-use Rattle.std.proofs.Common.{ℕ, zero, suc, ◌≡◌, ◌<◌, ◌≤◌, ◌⊎◌, List, length, Option, Some, None, IsSomeAnd, refl, sym, subst, ap, inl, inr, arith, get_or, ◌∙◌}
-use Rattle.aq_base.specs.Causes.{Rose}
+use Rattle.std.proofs.Common.{ℕ, zero, suc, ◌≡◌, ◌<◌, ◌≤◌, List, length, Option, Some, None, IsSomeAnd, refl, sym, subst, ap, inl, inr, arith, get_or, ◌∙◌}
 use Rattle.aq_base.specs.Store.{Contents}
 use Rattle.aqfp_top.specs.Words.{IsBuild, IsLater, word_at, HasForm}
 use Rattle.aqfp_top.specs.Counted.{Counts, HasFaults, NoFaults}

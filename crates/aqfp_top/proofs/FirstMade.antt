@@ -1,9 +1,8 @@
 -- What is made of equal parts is equal.
-use Rattle.std.proofs.Common.{ℕ, ◌≡◌, List, [], ◌∷◌, pos}
+use Rattle.std.proofs.Common.{ℕ, ◌≡◌, List, ◌∷◌}
 use Rattle.geom.specs.declared.layout.Element.{Element}
 use Rattle.geom.specs.declared.layout.Structure.{Structure}
 use Rattle.geom.specs.declared.layout.Layout.{Layout}
-use Rattle.geom.specs.FirstChip.{first_buffer, first_top, first_layout}
 
 pub both : {X : Type 0} {x y : X} {xs ys : List X} → x ≡ y → xs ≡ ys → x ∷ xs ≡ y ∷ ys
 both p q = λ i. p i ∷ q i

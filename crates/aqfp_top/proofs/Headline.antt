@@ -1,11 +1,9 @@
 -- A build that ends well has made the chip of its netlist.
-use Rattle.std.proofs.Common.{ℕ, zero, suc, ◌≡◌, ◌<◌, ◌≤◌, Bool, true, false, List, [], ◌∷◌, length, map, Option, Some, None, refl, sym, ap, subst, ◌∙◌, arith, All}
-use Rattle.std.specs.Prelude.{slice_index_or}
+use Rattle.std.proofs.Common.{ℕ, suc, ◌≡◌, ◌<◌, Bool, List, [], ◌∷◌, length, map, Option, Some, None, refl, sym, ap, subst, ◌∙◌, arith, All}
 use Rattle.std.proofs.lemmas.Fmt.{decimal_digit}
 use Rattle.std.specs.List.{AllZip}
 use Rattle.aq_base.specs.Store.{Contents, with_file, gained}
 use Rattle.geom.specs.FirstChip.{first_layout, first_flat, first_flat_form}
-use Rattle.geom.specs.FlatForm.{flat_of}
 use Rattle.gds_records.specs.Stream.{IsStream}
 use Rattle.gds_records.specs.FirstChip.{first_bytes}
 use Rattle.layout_rules.specs.Rules.{KeepsRules}
@@ -25,7 +23,7 @@ use Rattle.aqfp_top.specs.Run.{RunCause}
 use Rattle.aqfp_top.specs.Chips.{BuildsChip}
 use Rattle.aqfp_top.specs.Counts.{counts_line, delay_of}
 use Rattle.aqfp_top.specs.Designs.{IsWire}
-use Rattle.aqfp_top.specs.Realises.{Realises, AnswersAll}
+use Rattle.aqfp_top.specs.Realises.{Realises}
 use Rattle.aqfp_top.specs.declared.constants.TheConstants.{COUNTS}
 
 -- the counts of the first chip

@@ -14,7 +14,7 @@ use Rattle.circuit.specs.declared.cell_kind.CellKind.{CellKind}
 use Rattle.blif_read.specs.declared.netlist.BlifFault.{BlifFault}
 use Rattle.aqfp_top.specs.Designs.{IsWire, IsServed, IsWrong, SaysNetlist, SaysWire, SaysOtherNetlist, SaysLibrary, SaysOtherLibrary, IsCellFault}
 use Rattle.aqfp_top.specs.declared.fault.Fault.{Fault}
-use Rattle.aqfp_top.specs.declared.fault.Fault.TheVariants.{Usage, Absent, TooLong, ReadFault, WriteFault, BadBlif, BadLibrary, MissingCell, Unbuilt, Memory}
+use Rattle.aqfp_top.specs.declared.fault.Fault.TheVariants.{BadBlif, BadLibrary, MissingCell, Unbuilt}
 
 same_some : {X : Type 0} (a b : X) (x : Option X) → x ≡ Some a → x ≡ Some b → a ≡ b
 same_some a b x p q = cc

@@ -1,5 +1,5 @@
 -- Digits and signals, as they are put.
-use Rattle.std.proofs.Common.{ℕ, suc, ◌⊎◌, inl, inr, Result, Ok, Err, OnOk, OnErr, IsErrOf, ◌≡◌, ◌<◌, ◌≤◌, ◌+◌, List, [], ◌∷◌, ◌++◌, length, get_or, take, drop, Option, refl, sym, ap, ◌∙◌, arith, append_assoc, append-nil, add-one}
+use Rattle.std.proofs.Common.{ℕ, suc, ◌⊎◌, inl, inr, Result, Ok, Err, OnOk, OnErr, IsErrOf, ◌≡◌, ◌<◌, ◌+◌, List, [], ◌∷◌, ◌++◌, length, get_or, take, drop, Option, refl, sym, ap, ◌∙◌, arith, append-nil}
 use Rattle.std.specs.List.{flat_map}
 use Rattle.std.proofs.lemmas.Fmt.{decimal_digit, decimal_step}
 use Rattle.std.proofs.lemmas.List.{take-append-drop, take_more}

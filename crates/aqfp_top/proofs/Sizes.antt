@@ -1,5 +1,5 @@
 -- The sizes of samples.
-use Rattle.std.proofs.Common.{ℕ, ◌≡◌, ◌<◌, ◌≤◌, ◌^◌, List, Option, Some, None, IfSome, arith}
+use Rattle.std.proofs.Common.{ℕ, ◌≡◌, ◌<◌, ◌≤◌, ◌^◌, List, Option, Some, arith}
 use Rattle.std.specs.Fmt.{decimal}
 use Rattle.aqfp_top.specs.Words.{IsSampleSize}
 

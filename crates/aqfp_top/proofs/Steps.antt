@@ -1,5 +1,5 @@
 -- From the clauses of a step to those of the whole build.
-use Rattle.std.proofs.Common.{ℕ, zero, suc, ◌≡◌, ◌<◌, ◌≤◌, List, length, Option, Some, None, Result, Ok, Err, IfOk, IfErr, Vec, refl, sym, ap, subst, inl, inr, arith, IsSomeAnd, append-nil}
+use Rattle.std.proofs.Common.{ℕ, ◌≡◌, ◌<◌, ◌≤◌, List, length, Option, Some, None, Result, Ok, Err, IfOk, IfErr, Vec, refl, sym, ap, subst, inl, inr, arith, IsSomeAnd, append-nil}
 use Rattle.std.specs.Result.{result_err}
 use Rattle.std.specs.declared.alloc.Global.{Global}
 use Rattle.std.proofs.Math.Seq.{take-length}
@@ -9,13 +9,13 @@ use Rattle.aqfp_top.specs.Words.{word_at}
 use Rattle.aqfp_top.specs.Lines.{HasPlace}
 use Rattle.aqfp_top.specs.Loads.{ToldLoadsWord, LoadsWord, IsLoadFault}
 use Rattle.aqfp_top.specs.Counted.{Counts, HasFaults, FailedLoad}
-use Rattle.aqfp_top.specs.Designs.{IsServed, IsWrong, IsWrongOrMemory, SaysKept}
-use Rattle.aqfp_top.specs.Build.{IsStoreFault, IsOutOrMemory, IsBuildFault, ToldBuildCause, BuildCause, BuildStands, BuildPrints, StandsStored, StoreCause, ToldTexts, ToldKept, HasTexts, IsReadOf, IsReached, IsLoadable, IsFaultOfLoads}
+use Rattle.aqfp_top.specs.Designs.{IsServed, IsWrongOrMemory, SaysKept}
+use Rattle.aqfp_top.specs.Build.{IsStoreFault, IsOutOrMemory, IsBuildFault, ToldBuildCause, BuildCause, BuildStands, BuildPrints, StandsStored, StoreCause, ToldTexts, ToldKept, IsReadOf, IsLoadable, IsFaultOfLoads}
 use Rattle.gds_records.specs.FirstChip.{first_bytes}
 use Rattle.aqfp_top.specs.declared.constants.TheConstants.{COUNTS}
-use Rattle.aqfp_top.specs.declared.fault.WriteCall.TheVariants.{Create, Append, Close, Out}
+use Rattle.aqfp_top.specs.declared.fault.WriteCall.TheVariants.{Out}
 use Rattle.aqfp_top.specs.declared.fault.Fault.{Fault}
-use Rattle.aqfp_top.specs.declared.fault.Fault.TheVariants.{Usage, Absent, TooLong, ReadFault, WriteFault, BadBlif, BadLibrary, MissingCell, Unbuilt, Memory}
+use Rattle.aqfp_top.specs.declared.fault.Fault.TheVariants.{ReadFault, WriteFault, BadBlif, BadLibrary, MissingCell, Unbuilt, Memory}
 use Rattle.aqfp_top.proofs.EachFault.{each_load, each_of_loads, each_wrong, each_store, each_out}
 
 -- Loading.

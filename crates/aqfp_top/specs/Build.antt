@@ -8,7 +8,7 @@ use Rattle.gds_records.specs.FirstChip.{first_bytes}
 use Rattle.aqfp_top.specs.declared.constants.TheConstants.{COUNTS}
 use Rattle.aqfp_top.specs.declared.fault.WriteCall.TheVariants.{Create, Append, Close, Out}
 use Rattle.aqfp_top.specs.declared.fault.Fault.{Fault}
-use Rattle.aqfp_top.specs.declared.fault.Fault.TheVariants.{Usage, Absent, TooLong, ReadFault, WriteFault, BadBlif, BadLibrary, MissingCell, Unbuilt, Memory}
+use Rattle.aqfp_top.specs.declared.fault.Fault.TheVariants.{Usage, Absent, TooLong, ReadFault, WriteFault, Unbuilt, Memory}
 
 -- the greatest number of bytes of the file at a place: NET stands at 1, LIB at 2
 abbrev pub limit_of : ℕ → ℕ

@@ -1,5 +1,5 @@
 -- The line that each fault puts to `err`.
-use Rattle.std.specs.Prelude.{ℕ, suc, ◌≡◌, ◌<◌, ◌≤◌, take, length, List, [], ◌∷◌, ◌++◌, codes, Option, Some, None, ℤ, pos, negsuc}
+use Rattle.std.specs.Prelude.{ℕ, suc, ◌≡◌, ◌<◌, ◌≤◌, take, length, List, ◌∷◌, ◌++◌, codes, Option, Some, None, ℤ, pos, negsuc}
 use Rattle.std.specs.List.{flat_map}
 use Rattle.std.specs.Fmt.{decimal}
 use Rattle.aq_base.specs.Store.{gained}

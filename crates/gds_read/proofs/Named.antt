@@ -1,5 +1,5 @@
 -- Names among parts of the bytes.
-use Rattle.std.proofs.Common.{◌≡◌, ◌≢◌, ℕ, List, [], ◌∷◌, ◌++◌, map, Bool, true, false, cond, eqb, ◌||◌, Bor, refl, sym, ap, ◌∙◌, arith}
+use Rattle.std.proofs.Common.{◌≡◌, ℕ, List, [], ◌∷◌, ◌++◌, map, Bool, true, false, cond, eqb, ◌||◌, Bor, refl, sym, ap, ◌∙◌, arith}
 use Rattle.std.specs.List.{list_any}
 use Rattle.std.specs.Str.{bytes_eq}
 use Rattle.indexmap.specs.IndexSet.{insert_key}
@@ -9,7 +9,6 @@ use Rattle.std.proofs.lemmas.Slice.Eq.{bytes_eq-Decides}
 use Rattle.std.proofs.lemmas.Bool.Decides.{same_from_decides, nat_tests}
 use Rattle.gds_records.specs.Records.{same}
 use Rattle.gds_records.specs.Steps.{is_listed}
-use Rattle.gds_read.specs.Texts.{texts}
 
 any_seen : (p : List ℕ → Bool) (parts : List (Bor (List ℕ))) → list_any p (map (λ t. t.now) parts) ≡ list_any (λ t. p t.now) parts
 any_seen p [] = refl

@@ -61,6 +61,7 @@ none_append (x ∷ xs) b e h = let p = parts (eqb x 0) (holds_zero xs) e in both
     parts : (s t : Bool) → (s || t) ≡ false → (s ≡ false) × (t ≡ false)
     parts true t e = absurd cc
     parts false t e = (refl, e)
+
     both : (s t : Bool) → s ≡ false → t ≡ false → (s || t) ≡ false
     both true t e f = absurd cc
     both false t e f = f

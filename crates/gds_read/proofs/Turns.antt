@@ -145,7 +145,7 @@ fresh_name : (l : Language) (element : ℕ) (names : List (List ℕ)) (b : List 
 fresh_name l element names b e k =
     let v = none_value (own_fault b) (alive (after (kind_of b) l)) (value_fault_in element (is_listed (trimmed (here_record b).content) names) (here_record b)) e in
     let w : value_fault_in element (is_listed (trimmed (here_record b).content) names) (record_with 6 (form_of b) (here_record b).content) ≡ None
-        = ap (λ (x : ℕ). value_fault_in element (is_listed (trimmed (here_record b).content) names) (record_with x (form_of b) (here_record b).content)) (sym k) ∙ v in
+    = ap (λ (x : ℕ). value_fault_in element (is_listed (trimmed (here_record b).content) names) (record_with x (form_of b) (here_record b).content)) (sym k) ∙ v in
     name_value element (is_listed (trimmed (here_record b).content) names) (form_of b) (here_record b).content w
 
 with_name : (z : Bool) (names : List (List ℕ)) (t : List ℕ) → z ≡ true → (elim z as (λ (x : Bool). List (List ℕ)) [ true ↦ names ++ t ∷ [] | false ↦ names ]) ≡ names ++ t ∷ []

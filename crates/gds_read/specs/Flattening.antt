@@ -6,7 +6,6 @@ use Rattle.geom.specs.FlatForm.{elements_at, flat_of, flat_count}
 use Rattle.geom.specs.Writable.{is_referenced, holds_reference}
 use Rattle.geom.specs.declared.layout.Element.{Element}
 use Rattle.geom.specs.declared.layout.Element.TheVariants.{Box, Place, Text}
-use Rattle.geom.specs.declared.layout.Structure.{Structure}
 use Rattle.geom.specs.declared.layout.Layout.{Layout}
 
 -- corners of four bytes

@@ -1,7 +1,6 @@
 -- The record at the front of bytes, by the tests of the codes and of the length.
-use Rattle.std.specs.Prelude.{◌≡◌, ℕ, ◌≤◌, List, length, Bool, true, false, Option, Some, None}
+use Rattle.std.specs.Prelude.{◌≡◌, ℕ, ◌≤◌, List, length, true, false, Option}
 use Rattle.gds_records.specs.declared.fault.StreamKind.{StreamKind}
-use Rattle.gds_records.specs.declared.fault.StreamKind.TheVariants.{Length, Unsupported, DataType}
 use Rattle.gds_records.specs.Faults.{length_of, kind_of, first_of_six}
 use Rattle.gds_records.specs.Table.{known, has_form, has_length}
 

@@ -1,6 +1,5 @@
 -- One step of a reader of records.
 use Rattle.std.specs.Prelude.{◌≡◌, ℕ, suc, List, [], length, drop, None}
-use Rattle.gds_records.specs.declared.fault.StreamKind.{StreamKind}
 use Rattle.gds_records.specs.Language.{Language}
 use Rattle.gds_records.specs.Derivative.{after}
 use Rattle.gds_records.specs.Grammar.{stream}

@@ -26,7 +26,12 @@ fn bits(xy: &[u8], i: usize) -> u32
     ensures { result ≡ at xy.now i }
 {
     let k = 4 * i;
-    u32::from_be_bytes([byte(xy, k), byte(xy, k + 1), byte(xy, k + 2), byte(xy, k + 3)])
+    u32::from_be_bytes([
+        byte(xy, k),
+        byte(xy, k + 1),
+        byte(xy, k + 2),
+        byte(xy, k + 3),
+    ])
 }
 
 /// Coordinate number `i`, where x and y of each point take turns.
@@ -48,7 +53,11 @@ fn ends(xy: &[u8], i: usize) -> (i64, i64)
 {
     let first = coordinate(xy, i);
     let third = coordinate(xy, i + 4);
-    if first <= third { (first, third) } else { (third, first) }
+    if first <= third {
+        (first, third)
+    } else {
+        (third, first)
+    }
 }
 
 /// The rectangle of an XY that is one.

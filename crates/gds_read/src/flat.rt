@@ -87,7 +87,12 @@ struct Flattened {
 }
 
 // Adds the shape or the label of an element, moved; a reference adds nothing.
-fn add_moved(alloc: Global, element: &Element, by: &Offset, flat: &mut Flattened) -> Result<(), Memory>
+fn add_moved(
+    alloc: Global,
+    element: &Element,
+    by: &Offset,
+    flat: &mut Flattened,
+) -> Result<(), Memory>
     requires element { IsMovable element.now }
     requires x { FitsSigned w32 by.now.x }
     requires y { FitsSigned w32 by.now.y }
@@ -104,7 +109,12 @@ fn add_moved(alloc: Global, element: &Element, by: &Offset, flat: &mut Flattened
     }
 }
 
-fn add_all_moved(alloc: Global, elements: &[Element], by: &Offset, flat: &mut Flattened) -> Result<(), Memory>
+fn add_all_moved(
+    alloc: Global,
+    elements: &[Element],
+    by: &Offset,
+    flat: &mut Flattened,
+) -> Result<(), Memory>
     requires elements { All IsMovable elements.now }
     requires x { FitsSigned w32 by.now.x }
     requires y { FitsSigned w32 by.now.y }
@@ -117,7 +127,13 @@ fn add_all_moved(alloc: Global, elements: &[Element], by: &Offset, flat: &mut Fl
     Ok(())
 }
 
-fn add_reference(alloc: Global, structures: &[Structure], structure: u32, by: &Offset, flat: &mut Flattened) -> Result<(), Memory>
+fn add_reference(
+    alloc: Global,
+    structures: &[Structure],
+    structure: u32,
+    by: &Offset,
+    flat: &mut Flattened,
+) -> Result<(), Memory>
     requires stands { structure < length structures.now }
     requires structures { All (λ s. All IsMovable s.elements) structures.now }
     requires x { FitsSigned w32 by.now.x }
@@ -130,7 +146,12 @@ fn add_reference(alloc: Global, structures: &[Structure], structure: u32, by: &O
 }
 
 // Adds an element's shape or label, or those of the structure that it refers to.
-fn add(alloc: Global, structures: &[Structure], element: &Element, flat: &mut Flattened) -> Result<(), Memory>
+fn add(
+    alloc: Global,
+    structures: &[Structure],
+    element: &Element,
+    flat: &mut Flattened,
+) -> Result<(), Memory>
     requires element { IsPlaced (length structures.now) element.now }
     requires structures { All (λ s. All IsMovable s.elements) structures.now }
     ensures shapes { OnOk result (flat.new.shapes ≡ flat.old.shapes ++ flat_shapes structures.now (element.now ∷ [])) }
@@ -149,7 +170,12 @@ fn add(alloc: Global, structures: &[Structure], element: &Element, flat: &mut Fl
     }
 }
 
-fn add_all(alloc: Global, structures: &[Structure], elements: &[Element], flat: &mut Flattened) -> Result<(), Memory>
+fn add_all(
+    alloc: Global,
+    structures: &[Structure],
+    elements: &[Element],
+    flat: &mut Flattened,
+) -> Result<(), Memory>
     requires elements { All (IsPlaced (length structures.now)) elements.now }
     requires structures { All (λ s. All IsMovable s.elements) structures.now }
     requires shapes { flat.old.shapes ≡ [] }

@@ -148,12 +148,24 @@ pub fn value_fault(element: u8, taken: bool, kind: u8, content: &[u8]) -> Option
     ensures { result ≡ value_fault_in element taken (record_with kind 0 content.now) }
 {
     if kind == STRANS && element == SREF {
-        return if is_zero(content) { None } else { Some(StreamKind::Unsupported) };
+        return if is_zero(content) {
+            None
+        } else {
+            Some(StreamKind::Unsupported)
+        };
     }
     if kind == XY && element == BOUNDARY {
-        return if is_rectangle(content) { None } else { Some(StreamKind::NotRectangle) };
+        return if is_rectangle(content) {
+            None
+        } else {
+            Some(StreamKind::NotRectangle)
+        };
     }
-    if is_value(taken, kind, content) { None } else { Some(StreamKind::Value) }
+    if is_value(taken, kind, content) {
+        None
+    } else {
+        Some(StreamKind::Value)
+    }
 }
 
 fn is_value(taken: bool, kind: u8, content: &[u8]) -> bool

@@ -1,7 +1,7 @@
 use Rattle.std.proofs.Common.{ap, subst, ◌∙◌}
 use Rattle.gds_records.specs.Writing.{bytes_of}
 use Rattle.aq_base.specs.Store.{told_with}
-use Rattle.aqfp_top.specs.Words.{spelled, word_at}
+use Rattle.aqfp_top.specs.Words.{spelled}
 use Rattle.aqfp_top.specs.Designs.{SaysKept}
 use Rattle.aqfp_top.proofs.Steps.{out_stands, out_counts, told_kept, holds_on_ok}
 use Rattle.aqfp_top.proofs.build.build.Goals as goal

@@ -1,7 +1,5 @@
-use Rattle.std.proofs.Common.{◌∷◌, ◌≡◌, ◌<◌, ◌++◌, length, get_or, rules, arith}
+use Rattle.std.proofs.Common.{◌∷◌, ◌≡◌, ◌<◌, length, get_or, rules}
 use Rattle.std.proofs.lemmas.Result.{err_from_is_err_and}
-use Rattle.std.proofs.lemmas.Grind.{common_steps}
-use Rattle.std.specs.List.{flat_map}
 use Rattle.aqfp_top.proofs.Putting.{prefix_of_items}
 use Rattle.aqfp_top.proofs.pieces.put_signals.Goals as goal
 

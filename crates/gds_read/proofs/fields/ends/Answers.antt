@@ -10,5 +10,5 @@ returns-then-first-third-clause-order c =
     let b : FitsSigned w64 c.coordinate-third.result = search rules in
     let le : c.coordinate-first.result ≤ℤ c.coordinate-third.result = omega (arith, ints, c.if-first-third.true) in
     let ne : c.coordinate-first.result ≡ c.coordinate-third.result → ⊥
-        = λ e. c.requires.apart (sym c.coordinate-first.ensures.back ∙ ap (λ (z : ℤ). cast_unsigned w32 z) e ∙ c.coordinate-third.ensures.back) in
+    = λ e. c.requires.apart (sym c.coordinate-first.ensures.back ∙ ap (λ (z : ℤ). cast_unsigned w32 z) e ∙ c.coordinate-third.ensures.back) in
     below_of c.coordinate-first.result c.coordinate-third.result a b le ne

@@ -1,4 +1,4 @@
-use Rattle.std.proofs.Common.{◌≡◌, List, ◌++◌, map, take}
+use Rattle.std.proofs.Common.{◌≡◌, ◌++◌, map, take}
 use Rattle.geom.specs.FlatForm.{moved_shape, moved_label, own_shapes, own_labels}
 use Rattle.gds_read.proofs.flat.add_all_moved.Given as goal
 

@@ -1,6 +1,5 @@
-use Rattle.std.proofs.Common.{◌≡◌, FitsSigned, ℤ, ◌+ℤ◌, subst, sym, ap, ◌∙◌, arith}
-use Rattle.std.specs.Int.{w32, w64}
-use Rattle.std.proofs.lemmas.Int.{ints, to_z-of_z}
+use Rattle.std.proofs.Common.{FitsSigned, subst, sym, ap, ◌∙◌}
+use Rattle.std.specs.Int.{w32}
 use Rattle.geom.specs.Rectangle.{Rectangle, moved}
 use Rattle.gds_read.proofs.Moving.{sum_is, moved_below, same_corners}
 use Rattle.gds_read.proofs.flat.moved.Goals as goal

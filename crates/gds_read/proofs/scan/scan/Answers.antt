@@ -1,4 +1,4 @@
-use Rattle.std.proofs.Common.{◌≡◌, ℕ, suc, ◌+◌, ◌-◌, ◌<◌, ◌≤◌, List, [], length, sym, ap, ◌∙◌, arith}
+use Rattle.std.proofs.Common.{ℕ, suc, ◌-◌, List, length, sym, ap, ◌∙◌, arith}
 use Rattle.gds_records.specs.Grammar.{stream}
 use Rattle.gds_records.specs.Records.{trimmed}
 use Rattle.gds_records.specs.Steps.{steps}
@@ -33,7 +33,7 @@ pub records-preserved : goal.records-preserved
 records-preserved c =
     let i = c.records.invariant in
     let f = fits_here _ i.turns (rest_of c.records.place) c.records.element (texts c.records.names.keys) c.records.at c.args.bytes.now _ c.split_at.ensures.back i.enough i.same
-        (rest_of c.in-Ok.next) c.record_length-at.result c.in-Ok.ensures.ok i.within c.record_length-at.ensures in
+    (rest_of c.in-Ok.next) c.record_length-at.result c.in-Ok.ensures.ok i.within c.record_length-at.ensures in
     record {
       within = f.0;
       turns = i.turns - 1;
@@ -43,8 +43,8 @@ records-preserved c =
           c.opener_after-element.ensures
           (elim c.if-kind-eq-STRNAME.branch [
             | then-kind-eq-STRNAME+in_ok-add w ↦ rw w.names-is
-              (named (rest_of c.records.place) c.records.element (texts c.records.names.keys) _ c.split_at.result.1.now w.trimmed.result.now c.in-Ok.ensures.ok.sound w.if-kind-eq-STRNAME.true
-              (w.trimmed.ensures ∙ ap (λ (t : List ℕ). trimmed t) w.content.ensures) w.in_ok-add.ensures)
+                (named (rest_of c.records.place) c.records.element (texts c.records.names.keys) _ c.split_at.result.1.now w.trimmed.result.now c.in-Ok.ensures.ok.sound w.if-kind-eq-STRNAME.true
+                (w.trimmed.ensures ∙ ap (λ (t : List ℕ). trimmed t) w.content.ensures) w.in_ok-add.ensures)
             | else-kind-eq-STRNAME w ↦ rw w.names-is (unnamed (texts c.records.names.keys) c.split_at.result.1.now w.if-kind-eq-STRNAME.false)
           ]);
     }

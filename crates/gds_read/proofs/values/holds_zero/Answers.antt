@@ -1,4 +1,4 @@
-use Rattle.std.proofs.Common.{sym, refl, arith}
+use Rattle.std.proofs.Common.{sym, arith}
 use Rattle.gds_read.proofs.Trims.{found_zero, none_more, none_whole}
 use Rattle.gds_read.proofs.values.holds_zero.Goals as goal
 
