@@ -93,7 +93,6 @@ apart x y fx fy h e = h (sym (signed_back x fx) ∙ ap (λ (n : ℕ). cast_signe
 pub corners_so : (r : Rectangle) → IsBox r → is_rectangle (corners r) ≡ true
 corners_so r is = test_true (from_be_bytes w32 (four_bytes r.x0)) (from_be_bytes w32 (four_bytes r.y0)) (from_be_bytes w32 (four_bytes r.x1)) (from_be_bytes w32 (four_bytes r.y1)) (apart r.x0 r.x1 is.x0 is.x1 is.not_thin) (apart r.y0 r.y1 is.y0 is.y1 is.not_flat)
 
-
 -- ---- elements
 
 pub names_back : (names : List (List ℕ)) → AllByRecursion IsText names → (n : ℕ) → IsText (slice_index_or names n [])
@@ -176,7 +175,7 @@ starts_structure : (names : List (List ℕ)) (s : Structure) (rest : List Record
 unfolding tail_of
 starts_structure names s rest =
     let e : record_with 0x05 2 dates ∷ record_with 0x06 6 (padded s.name) ∷ flat_map (element_records names) s.elements ++ record_with 0x07 0 [] ∷ [] ++ rest ≡ record_with 0x05 2 dates ∷ tail_of names s rest
-        = ap (λ (x : List Record). record_with 0x05 2 dates ∷ record_with 0x06 6 (padded s.name) ∷ x) (append_assoc (flat_map (element_records names) s.elements) (record_with 0x07 0 [] ∷ []) rest) in
+    = ap (λ (x : List Record). record_with 0x05 2 dates ∷ record_with 0x06 6 (padded s.name) ∷ x) (append_assoc (flat_map (element_records names) s.elements) (record_with 0x07 0 [] ∷ []) rest) in
     ap (λ (x : List Record). starts x) e ∙ ap (λ (x : List (List Record)). tail_of names s rest ∷ x) (starts_elements names s.elements rest)
 
 starts_structures : (names : List (List ℕ)) (ss : List Structure) → starts (flat_map (structure_records names) ss ++ record_with 0x04 0 [] ∷ []) ≡ tails names ss
