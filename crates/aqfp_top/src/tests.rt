@@ -63,20 +63,23 @@ fn texts(alloc: Global, words: &[&str]) -> Result<Vec<String>, AllocError> {
 fn a_wire_is_built(rt: HostRuntime) -> Result<(), Fail> {
     let alloc = rt.alloc();
     // OUT may have the name of NET.
-    for out_name in ["out", "net"] {
+    for (line, out_name) in [("build net lib out", "out"), ("build net lib net", "net")] {
         let mut files = MemFiles::new(alloc);
         files.add("net", WIRE)?;
         files.add("lib", LIBRARY_A.as_bytes())?;
         let mut out = MemSink::new(alloc);
         let mut err = MemSink::new(alloc);
-        let words = texts(alloc, &["build", "net", "lib", out_name])?;
+        let mut words = Vec::new(alloc);
+        for word in line.split_whitespace() {
+            words.push(word.to_string(alloc)?)?;
+        }
         let ending = aqfp_run(alloc, &words, &mut files, &mut out, &mut err);
-        assert_eq!(rt; ending.status, 0);
-        assert_eq!(rt; files.bytes(out_name), Some(STREAM.as_slice()));
-        assert_eq!(rt; files.bytes("lib"), Some(LIBRARY_A.as_bytes()));
-        assert_eq!(rt; files.calls(), 5);
-        assert_eq!(rt; out.bytes(), COUNTS);
-        assert_eq!(rt; err.bytes(), b"".as_slice());
+        assert_eq!(rt; ending.status, 0, "{line}");
+        assert_eq!(rt; files.bytes(out_name), Some(STREAM.as_slice()), "{line}");
+        assert_eq!(rt; files.bytes("lib"), Some(LIBRARY_A.as_bytes()), "{line}");
+        assert_eq!(rt; files.calls(), 5, "{line}");
+        assert_eq!(rt; out.bytes(), COUNTS, "{line}");
+        assert_eq!(rt; err.bytes(), b"".as_slice(), "{line}");
     }
     Ok(())
 }
