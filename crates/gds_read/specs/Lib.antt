@@ -4,3 +4,4 @@ pub mod Texts
 pub mod Steps
 pub mod Flattening
 pub mod Decoding
+pub mod Reading
