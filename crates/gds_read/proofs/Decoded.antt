@@ -12,7 +12,7 @@ use Rattle.gds_read.specs.Decoding.{IsShort, IsSpelled, decode, records_in, Goes
 abbrev plus4 : ℕ → ℕ
 plus4 m = suc (suc (suc (suc m)))
 
-length_spelled : (r : Record) (b : List ℕ) → IsShort r → length_of (spelled r ++ b) ≡ 4 + length r.content
+pub length_spelled : (r : Record) (b : List ℕ) → IsShort r → length_of (spelled r ++ b) ≡ 4 + length r.content
 length_spelled r b h = from_be_bytes-to_be_bytes_2 (4 + length r.content) h
 
 content_back : (h l k f : ℕ) (c b : List ℕ) (n : ℕ) → n ≡ 4 + length c → drop 4 (take n (h ∷ l ∷ k ∷ f ∷ c ++ b)) ≡ c
@@ -30,7 +30,7 @@ record_back r b h = same_record r _ (content_back _ _ r.kind r.form r.content b 
 pub rest_back : (r : Record) (b : List ℕ) → IsShort r → drop (length_of (spelled r ++ b)) (spelled r ++ b) ≡ b
 rest_back r b h = after_back _ _ r.kind r.form r.content b (length_of (spelled r ++ b)) (length_spelled r b h)
 
-spelled_length : (r : Record) → length (spelled r) ≡ 4 + length r.content
+pub spelled_length : (r : Record) → length (spelled r) ≡ 4 + length r.content
 spelled_length r = omega arith
 
 -- one step of decoding, at bytes that aren't none

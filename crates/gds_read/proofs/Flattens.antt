@@ -11,25 +11,25 @@ use Rattle.geom.specs.declared.layout.Structure.{Structure}
 use Rattle.geom.specs.declared.layout.Layout.{Layout}
 use Rattle.geom.specs.declared.shapes.Flat.{Flat}
 
-own_shapes_append : (xs ys : List Element) → own_shapes (xs ++ ys) ≡ own_shapes xs ++ own_shapes ys
+pub own_shapes_append : (xs ys : List Element) → own_shapes (xs ++ ys) ≡ own_shapes xs ++ own_shapes ys
 own_shapes_append [] ys = refl
 own_shapes_append (Box s ∷ xs) ys = ap (λ (t : List Shape). s ∷ t) (own_shapes_append xs ys)
 own_shapes_append (Place n x y ∷ xs) ys = own_shapes_append xs ys
 own_shapes_append (Text l ∷ xs) ys = own_shapes_append xs ys
 
-own_labels_append : (xs ys : List Element) → own_labels (xs ++ ys) ≡ own_labels xs ++ own_labels ys
+pub own_labels_append : (xs ys : List Element) → own_labels (xs ++ ys) ≡ own_labels xs ++ own_labels ys
 own_labels_append [] ys = refl
 own_labels_append (Box s ∷ xs) ys = own_labels_append xs ys
 own_labels_append (Place n x y ∷ xs) ys = own_labels_append xs ys
 own_labels_append (Text l ∷ xs) ys = ap (λ (t : List Label). l ∷ t) (own_labels_append xs ys)
 
-flat_shapes_append : (ss : List Structure) (xs ys : List Element) → flat_shapes ss (xs ++ ys) ≡ flat_shapes ss xs ++ flat_shapes ss ys
+pub flat_shapes_append : (ss : List Structure) (xs ys : List Element) → flat_shapes ss (xs ++ ys) ≡ flat_shapes ss xs ++ flat_shapes ss ys
 flat_shapes_append ss [] ys = refl
 flat_shapes_append ss (Box s ∷ xs) ys = ap (λ (t : List Shape). s ∷ t) (flat_shapes_append ss xs ys)
 flat_shapes_append ss (Place n x y ∷ xs) ys = ap (λ (t : List Shape). map (moved_shape x y) (own_shapes (elements_at ss n)) ++ t) (flat_shapes_append ss xs ys) ∙ sym (append_assoc (map (moved_shape x y) (own_shapes (elements_at ss n))) (flat_shapes ss xs) (flat_shapes ss ys))
 flat_shapes_append ss (Text l ∷ xs) ys = flat_shapes_append ss xs ys
 
-flat_labels_append : (ss : List Structure) (xs ys : List Element) → flat_labels ss (xs ++ ys) ≡ flat_labels ss xs ++ flat_labels ss ys
+pub flat_labels_append : (ss : List Structure) (xs ys : List Element) → flat_labels ss (xs ++ ys) ≡ flat_labels ss xs ++ flat_labels ss ys
 flat_labels_append ss [] ys = refl
 flat_labels_append ss (Box s ∷ xs) ys = flat_labels_append ss xs ys
 flat_labels_append ss (Place n x y ∷ xs) ys = ap (λ (t : List Label). map (moved_label x y) (own_labels (elements_at ss n)) ++ t) (flat_labels_append ss xs ys) ∙ sym (append_assoc (map (moved_label x y) (own_labels (elements_at ss n))) (flat_labels ss xs) (flat_labels ss ys))
@@ -57,7 +57,7 @@ module _ (ss : List Structure) (xs : List Element) (i : ℕ) (e : Element) (h : 
   pub flat_labels_more : (now new : List Label) → now ≡ flat_labels ss (take i xs) → new ≡ now ++ flat_labels ss (e ∷ []) → new ≡ flat_labels ss (take (i + 1) xs)
   flat_labels_more now new a b = b ∙ ap (λ (t : List Label). t ++ flat_labels ss (e ∷ [])) a ∙ sym (flat_labels_append ss (take i xs) (e ∷ [])) ∙ ap (λ (t : List Element). flat_labels ss t) (sym (item xs i e h q))
 
-elements_there : (ss : List Structure) (n : ℕ) (s : Structure) → n < length ss → s ≡ slice_index_or ss n s → elements_at ss n ≡ s.elements
+pub elements_there : (ss : List Structure) (n : ℕ) (s : Structure) → n < length ss → s ≡ slice_index_or ss n s → elements_at ss n ≡ s.elements
 elements_there [] n s h e = absurd (omega arith)
 elements_there (x ∷ ss) zero s h e = ap (λ (t : Structure). t.elements) (sym e)
 elements_there (x ∷ ss) (suc n) s h e = elements_there ss n s (omega arith) e

@@ -23,3 +23,6 @@ same_place layer e f g = λ i. record { layer = layer; x = e i; y = f i; text = 
 
 pub below_of : (a b : ℤ) → FitsSigned w64 a → FitsSigned w64 b → a ≤ℤ b → (a ≡ b → ⊥) → kept a <ℤ kept b
 below_of a b f g le ne = by_lt_z a b (λ h. omega (arith, ints)) (λ h. absurd (ne (omega (arith, ints))))
+
+pub kept_is : (a : ℤ) → FitsSigned w64 a → kept a ≡ a
+kept_is a f = omega (arith, ints)

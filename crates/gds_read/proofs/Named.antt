@@ -54,3 +54,12 @@ listed_any t (n ∷ ns) = (λ i. same_bytes_eq t n i || listed_any t ns i)
 
 pub listed : (t : List ℕ) (keys : List (Bor (List ℕ))) → is_listed t (map (λ k. k.now) keys) ≡ list_any (λ k. bytes_eq t k.now) keys
 listed t keys = listed_any t (map (λ k. k.now) keys) ∙ any_seen (bytes_eq t) keys
+
+pub same_back : (x y : List ℕ) → same x y ≡ bytes_eq y x
+same_back x y = same_from_decides (same x y) (bytes_eq y x) (λ e. sym (same_is x y e), λ e. same_of x y (sym e)) (bytes_eq-Decides y x)
+
+pub same_texts : (x y : List ℕ) → same x y ≡ true → x ≡ y
+same_texts x y e = same_is x y e
+
+pub bytes_same : (x y : List ℕ) → bytes_eq x y ≡ true → x ≡ y
+bytes_same x y e = same_is x y (same_bytes_eq x y ∙ e)

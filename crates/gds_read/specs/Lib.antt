@@ -5,3 +5,8 @@ pub mod Steps
 pub mod Flattening
 pub mod Decoding
 pub mod Reading
+pub mod Outlining
+pub mod Numbering
+pub mod Tops
+pub mod Sizes
+pub mod Bodies

@@ -5,8 +5,8 @@ use Rattle.geom.specs.FlatForm.{flat_of, flat_count}
 use Rattle.gds_records.specs.Stream.{IsStream}
 use Rattle.gds_records.specs.Faults.{StreamFault}
 use Rattle.gds_read.specs.Flattening.{IsFlattenable}
-use Rattle.gds_read.specs.declared.read.StreamRefusal.{StreamRefusal}
-use Rattle.gds_read.specs.declared.read.StreamRefusal.TheVariants.{Bad, TooManyShapes, Memory}
+use Rattle.gds_read.specs.declared.refusal.StreamRefusal.{StreamRefusal}
+use Rattle.gds_read.specs.declared.refusal.StreamRefusal.TheVariants.{Bad, TooManyShapes, Memory}
 
 -- the bytes are a stream of this layout, whose flat form is of a size that is taken
 pub record IsReadAs (bytes : List ℕ) (layout : Layout) : Type 0 where

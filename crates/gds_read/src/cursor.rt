@@ -1,10 +1,12 @@
 // Records that are known to be whole, one after another.
-ghost use Rattle.std.specs.Prelude.{◌≡◌, ◌<◌, length, take, drop};
+ghost use Rattle.std.specs.Prelude.{◌≡◌, ◌+◌, ◌<◌, ◌≤◌, length, take, drop};
 ghost use Rattle.gds_records.specs.Faults.{here_record, kind_of, length_of};
 ghost use Rattle.gds_records.specs.Drawing.{field, has};
+ghost use Rattle.gds_records.specs.Whole.{last_place};
 ghost use Rattle.gds_read.specs.Decoding.{IsSpelled, Goes, records_in};
 
 use crate::front::record_length;
+use gds_records::codes::ENDLIB;
 
 /// The record type at the front.
 pub fn kind_at(bytes: &[u8]) -> u8
@@ -13,6 +15,17 @@ pub fn kind_at(bytes: &[u8]) -> u8
     ensures { result ≡ kind_of bytes.now }
 {
     bytes[2]
+}
+
+/// The length of the record at the front.
+pub fn length_at(bytes: &[u8]) -> usize
+    requires spelled { IsSpelled bytes.now }
+    requires some { 0 < length bytes.now }
+    ensures value { result ≡ 4 + length (here_record bytes.now).content }
+    ensures within { result ≤ length bytes.now }
+    ensures head { result ≡ length_of bytes.now }
+{
+    record_length(bytes)
 }
 
 /// What stands behind the record at the front.
@@ -64,4 +77,21 @@ pub fn has(bytes: &[u8], kind: u8) -> bool
         rest = behind(rest);
     }
     false
+}
+
+/// The place of ENDLIB.
+pub fn end_at(bytes: &[u8]) -> usize
+    requires { IsSpelled bytes.now }
+    ensures { result ≡ last_place 0 (records_in bytes.now) }
+{
+    let mut at = 0;
+    let mut rest = bytes;
+    'records: while !rest.is_empty() {
+        if kind_at(rest) == ENDLIB {
+            return at;
+        }
+        at += length_at(rest);
+        rest = behind(rest);
+    }
+    at
 }

@@ -1,17 +1,26 @@
 //! The reader of streams, and the flat form of a layout.
 #![tactic(auto)]
 
+mod conditions;
 mod cursor;
+mod element;
+mod ending;
 mod fields;
 mod flat;
 mod front;
 mod names;
+mod numbers;
+mod outline;
 mod place;
 mod read;
+mod refusal;
 mod scan;
+mod size;
+mod structures;
 mod table;
 mod values;
 
 pub use flat::flatten;
 pub use gds_records::StreamKind;
-pub use read::{StreamRefusal, read_stream};
+pub use read::read_stream;
+pub use refusal::StreamRefusal;

@@ -1,5 +1,5 @@
 use Rattle.std.proofs.Common.{◌∙◌}
-use Rattle.gds_read.proofs.Numbers.{flag_value}
+use Rattle.gds_read.proofs.FewBytes.{flag_value}
 use Rattle.gds_read.proofs.values.flag_bits.Goals as goal
 
 pub returns : goal.returns

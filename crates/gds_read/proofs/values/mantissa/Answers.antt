@@ -1,5 +1,5 @@
 use Rattle.std.proofs.Common.{◌∙◌}
-use Rattle.gds_read.proofs.Numbers.{mantissa_value}
+use Rattle.gds_read.proofs.FewBytes.{mantissa_value}
 use Rattle.gds_read.proofs.values.mantissa.Goals as goal
 
 pub returns : goal.returns

@@ -1,0 +1,140 @@
+-- What the steps of a reader tell of the scan of records.
+use Rattle.std.proofs.Common.{◌≡◌, ℕ, suc, ◌+◌, ◌<◌, ◌≤◌, List, [], ◌∷◌, ◌++◌, map, take, drop, length, Bool, true, false, eqb, Option, Some, None, refl, sym, ap, subst, ◌∙◌, arith}
+use Rattle.std.specs.List.{flat_map, AllByRecursion}
+use Rattle.std.proofs.lemmas.List.{take_at, length-map}
+use Rattle.geom.specs.declared.layout.Layout.{Layout}
+use Rattle.geom.specs.declared.layout.Structure.{Structure}
+use Rattle.gds_records.specs.declared.fault.StreamKind.{StreamKind}
+use Rattle.gds_records.specs.declared.fault.StreamKind.TheVariants.{Value}
+use Rattle.gds_records.specs.Grammar.{stream}
+use Rattle.gds_records.specs.Records.{Record, spelled}
+use Rattle.gds_records.specs.Drawing.{starts, name_of, names_of, structure_of, structures_of}
+use Rattle.gds_records.specs.Whole.{Use, Outline, is_used, all_uses, outlines, tops, top_in, top_fault, top_of, last_place, whole_fault}
+use Rattle.gds_records.specs.Stream.{AreGood, are_zero, layout_of, IsRead, IsStream}
+use Rattle.gds_records.specs.Faults.{StreamFault, at_end, zeros_before}
+use Rattle.gds_records.specs.Scan.{Scanned, Faulty, Whole, Unfinished, scan, fault_in, first_fault}
+use Rattle.gds_records.specs.Steps.{Stopped, Ended, steps, told}
+use Rattle.gds_read.specs.declared.outline.NamedOutline.{NamedOutline}
+use Rattle.gds_read.specs.Outlining.{outline_of, names_in}
+use Rattle.gds_read.specs.Decoding.{IsShort, IsSpelled, records_in}
+use Rattle.gds_read.specs.Bodies.{IsBody}
+use Rattle.gds_read.specs.Steps.{all_steps}
+use Rattle.gds_read.proofs.Decoded.{records_are}
+
+faulty_of : (s : Scanned) (o : ℕ) (k : StreamKind) → told s ≡ Stopped o k → s ≡ Faulty o k
+faulty_of (Faulty p j) o k e = cc
+faulty_of (Whole rs rest) o k e = absurd cc
+faulty_of Unfinished o k e = absurd cc
+
+record IsWhole (s : Scanned) (o : ℕ) (rest : List ℕ) : Type 0 where
+  records : List Record
+  whole : s ≡ Whole records rest
+  place : o ≡ length (flat_map spelled records)
+
+whole_of : (s : Scanned) (o : ℕ) (rest : List ℕ) → told s ≡ Ended o rest → IsWhole s o rest
+whole_of (Faulty p j) o rest e = absurd cc
+whole_of (Whole rs more) o rest e = let q : more ≡ rest = cc in record { records = rs; whole = ap (λ (x : List ℕ). Whole rs x) q; place = cc }
+whole_of Unfinished o rest e = absurd cc
+
+module _ (bytes : List ℕ) (law : steps (suc (length bytes)) stream 0 [] 0 bytes ≡ told (scan (suc (length bytes)) [] bytes)) where
+  pub stopped_at : (o : ℕ) (k : StreamKind) → all_steps bytes ≡ Stopped o k → first_fault bytes ≡ Some (o, k)
+  unfolding all_steps
+  stopped_at o k e = ap (λ (s : Scanned). fault_in s) (faulty_of (scan (suc (length bytes)) [] bytes) o k (sym law ∙ e))
+
+  ended_at : (o : ℕ) (rest : List ℕ) → all_steps bytes ≡ Ended o rest → IsWhole (scan (suc (length bytes)) [] bytes) o rest
+  unfolding all_steps
+  ended_at o rest e = whole_of (scan (suc (length bytes)) [] bytes) o rest (sym law ∙ e)
+
+  nonzero_end : (t : Bool) (f : Option (ℕ × StreamKind)) (p : ℕ × StreamKind) → t ≡ false → (elim t as (λ (x : Bool). Option (ℕ × StreamKind)) [ false ↦ Some p | true ↦ f ]) ≡ Some p
+  nonzero_end true f p e = absurd cc
+  nonzero_end false f p e = refl
+
+  pub other_at : (o : ℕ) (rest : List ℕ) (place : ℕ) → all_steps bytes ≡ Ended o rest → are_zero rest ≡ false → place ≡ zeros_before rest → first_fault bytes ≡ Some (o + place, Value)
+  other_at o rest place e z p =
+      let w = ended_at o rest e in
+      ap (λ (s : Scanned). fault_in s) w.whole ∙ nonzero_end (are_zero rest) (whole_fault w.records) (length (flat_map spelled w.records) + zeros_before rest, Value) z
+      ∙ ap (λ (x : ℕ). Some (x + zeros_before rest, Value)) (sym w.place) ∙ ap (λ (x : ℕ). Some (o + x, Value)) (sym p)
+
+  good_short : (before rs : List Record) → AreGood before rs → AllByRecursion IsShort rs
+  good_short before [] g = tt
+  good_short before (r ∷ rs) g = (g.0.short, good_short (before ++ r ∷ []) rs g.1)
+
+  pub body_of : (o : ℕ) → o ≤ length bytes → all_steps bytes ≡ Ended o (drop o bytes) → are_zero (drop o bytes) ≡ true
+      → ((rs : List Record) (rest : List ℕ) → scan (suc (length bytes)) [] bytes ≡ Whole rs rest → IsRead bytes rs rest) → IsBody bytes o
+  body_of o h e z read =
+      let w = ended_at o (drop o bytes) e in
+      let r = read w.records (drop o bytes) w.whole in
+      let t : take o bytes ≡ flat_map spelled w.records = ap (λ (x : List ℕ). take o x) r.whole ∙ take_at (flat_map spelled w.records) (drop o bytes) o (sym w.place) in
+      let s : IsSpelled (take o bytes) = record { records = w.records; whole = t; short = good_short [] w.records r.good } in
+      record {
+        within = h;
+        whole = s;
+        read = subst (λ (x : List Record). IsRead bytes x (drop o bytes)) (sym (records_are (take o bytes) s)) r;
+        zeros = z;
+      }
+
+-- ---- the whole stream
+
+fault_at_end : (t : Bool) (f : Option (ℕ × StreamKind)) (p q : ℕ × StreamKind) → t ≡ true → f ≡ Some q → (elim t as (λ (x : Bool). Option (ℕ × StreamKind)) [ false ↦ Some p | true ↦ f ]) ≡ Some q
+fault_at_end true f p q e g = g
+fault_at_end false f p q e g = absurd cc
+
+pub faulty_whole : (bytes : List ℕ) (end offset : ℕ) (kind : StreamKind) → IsBody bytes end → whole_fault (records_in (take end bytes)) ≡ Some (offset, kind) → StreamFault bytes offset kind
+faulty_whole bytes end offset kind b e =
+    at_end (record {
+      records = records_in (take end bytes);
+      rest = drop end bytes;
+      read = b.read;
+      fault = fault_at_end (are_zero (drop end bytes)) (whole_fault (records_in (take end bytes))) (length (flat_map spelled (records_in (take end bytes))) + zeros_before (drop end bytes), Value) (offset, kind) b.zeros e;
+    })
+
+pub a_stream : (bytes : List ℕ) (end : ℕ) (layout : Layout) → IsBody bytes end → layout ≡ layout_of (records_in (take end bytes)) → whole_fault (records_in (take end bytes)) ≡ None → IsStream bytes layout
+a_stream bytes end layout b e n = record { records = records_in (take end bytes); rest = drop end bytes; read = b.read; zeros = b.zeros; conditions = n; says = e }
+
+-- ---- the layout
+
+pub names_same : (o : ℕ) (rs : List Record) → map (λ s. s.name) (outlines o rs) ≡ names_of rs
+names_same o [] = refl
+names_same o (r ∷ rs) = turn (eqb r.kind 5) (outlines (o + (4 + length r.content)) rs) (starts rs) _ (names_same (o + (4 + length r.content)) rs)
+  where
+    turn : (z : Bool) (ss : List Outline) (ps : List (List Record)) (us : List Use) → map (λ s. s.name) ss ≡ map name_of ps
+        → map (λ s. s.name) (elim z as (λ (x : Bool). List Outline) [ true ↦ record { place = o; name = name_of rs; uses = us } ∷ ss | false ↦ ss ]) ≡ map name_of (elim z as (λ (x : Bool). List (List Record)) [ true ↦ rs ∷ ps | false ↦ ps ])
+    turn true ss ps us e = ap (λ (x : List (List ℕ)). name_of rs ∷ x) e
+    turn false ss ps us e = e
+
+pub layout_made : (rs : List Record) (found seen : List NamedOutline) (structures : List Structure) (top made : ℕ) → map outline_of found ≡ outlines 0 rs → seen ≡ found
+    → structures ≡ map (structure_of (names_in seen)) (starts rs) → made ≡ top_of rs → top ≡ made → ◌≡◌ {A = Layout} (record { structures = structures; top = top }) (layout_of rs)
+layout_made rs found seen structures top made e s m t q =
+    let names : names_in seen ≡ names_of rs = ap (λ (x : List NamedOutline). names_in x) s ∙ ap (λ (x : List Outline). map (λ o. o.name) x) e ∙ names_same 0 rs in
+    let w : structures ≡ structures_of rs = m ∙ ap (λ (x : List (List ℕ)). map (structure_of x) (starts rs)) names in
+    let u : top ≡ top_of rs = q ∙ t in
+    λ i. record { structures = w i; top = u i }
+
+tops_low : (n : ℕ) (us : List Use) (ss : List Outline) (t : ℕ × ℕ) (ts : List (ℕ × ℕ)) → tops n us ss ≡ t ∷ ts → t.0 < n + length ss
+tops_low n us [] t ts e = absurd cc
+tops_low n us (s ∷ ss) t ts e = turn (is_used s.name us) (tops (suc n) us ss) (λ f. tops_low (suc n) us ss t ts f) e
+  where
+    turn : (z : Bool) (more : List (ℕ × ℕ)) → (more ≡ t ∷ ts → t.0 < suc n + length ss) → (elim z as (λ (x : Bool). List (ℕ × ℕ)) [ true ↦ more | false ↦ (n, s.place) ∷ more ]) ≡ t ∷ ts → t.0 < n + suc (length ss)
+    turn true more f g = let h : t.0 < suc n + length ss = f g in omega arith
+    turn false more f g = let w : n ≡ t.0 = ap (λ (x : List (ℕ × ℕ)). top_in x) g in omega arith
+
+top_low : (o : ℕ) (us : List Use) (ss : List Outline) (ts : List (ℕ × ℕ)) → tops 0 us ss ≡ ts → top_fault o ts ≡ None → top_in ts < length ss
+top_low o us ss [] e f = absurd cc
+top_low o us ss (t ∷ []) e f = omega (arith, tops_low 0 us ss t [] e)
+top_low o us ss (t ∷ s ∷ ts) e f = absurd cc
+
+pub parts_none : (u d : Option ℕ) (t : Option (ℕ × StreamKind)) (f g : ℕ → ℕ × StreamKind) → (elim u as (λ (x : Option ℕ). Option (ℕ × StreamKind)) [ Some p ↦ Some (f p) | None ↦ elim d as (λ (x : Option ℕ). Option (ℕ × StreamKind)) [ Some p ↦ Some (g p) | None ↦ t ] ]) ≡ None
+    → (u ≡ None) × (d ≡ None) × (t ≡ None)
+parts_none (Some p) d t f g e = absurd cc
+parts_none None (Some p) t f g e = absurd cc
+parts_none None None t f g e = (refl, refl, e)
+
+outlines_length : (o : ℕ) (rs : List Record) → length (outlines o rs) ≡ length (structures_of rs)
+outlines_length o rs =
+    sym (length-map (outlines o rs) (λ s. s.name)) ∙ ap (λ (x : List (List ℕ)). length x) (names_same o rs) ∙ length-map (starts rs) name_of ∙ sym (length-map (starts rs) (structure_of (names_of rs)))
+
+pub top_stands : (rs : List Record) → whole_fault rs ≡ None → top_of rs < length (structures_of rs)
+top_stands rs e =
+    let p = parts_none _ _ (top_fault (last_place 0 rs) (tops 0 (all_uses (outlines 0 rs)) (outlines 0 rs))) _ _ e in
+    let h = top_low (last_place 0 rs) (all_uses (outlines 0 rs)) (outlines 0 rs) (tops 0 (all_uses (outlines 0 rs)) (outlines 0 rs)) refl p.2 in
+    omega (arith, h, outlines_length 0 rs)

@@ -1,0 +1,268 @@
+-- The conditions on the whole stream, structure by structure.
+use Rattle.std.proofs.Common.{◌≡◌, ℕ, suc, ◌+◌, ◌<◌, List, [], ◌∷◌, ◌++◌, map, take, drop, length, Bool, true, false, cond, eqb, ◌&&◌, ◌||◌, Option, Some, None, Bor, refl, sym, ap, ◌∙◌, arith, append_assoc}
+use Rattle.std.specs.Prelude.{not, is_some, is_none, slice_index_or}
+use Rattle.std.specs.List.{list_any}
+use Rattle.std.specs.Str.{bytes_eq}
+use Rattle.indexmap.specs.IndexSet.{insert_key}
+use Rattle.std.proofs.lemmas.List.{map-append, append-nil}
+use Rattle.gds_records.specs.declared.fault.StreamKind.{StreamKind}
+use Rattle.gds_records.specs.declared.fault.StreamKind.TheVariants.{UnknownName, Unsupported, NoTop, SeveralTops}
+use Rattle.gds_records.specs.Records.{Record, same}
+use Rattle.gds_records.specs.Steps.{is_listed}
+use Rattle.gds_records.specs.Whole.{Use, Outline, is_used, all_uses, outlines, last_place, deep, tops, top_in, top_fault, outlines_fault, whole_fault, top_of}
+use Rattle.gds_read.specs.declared.outline.NamedUse.{NamedUse}
+use Rattle.gds_read.specs.declared.outline.NamedOutline.{NamedOutline}
+use Rattle.gds_read.specs.declared.conditions.Tops.{Tops}
+use Rattle.gds_read.specs.declared.conditions.Tops.TheVariants.{Nothing, One, Several}
+use Rattle.gds_read.specs.Outlining.{use_of, outline_of}
+use Rattle.gds_read.specs.Numbering.{AreUsed, number_in, IsNumbering, unnumbered}
+use Rattle.gds_read.specs.Tops.{told_tops, further_tops}
+use Rattle.gds_read.proofs.Named.{listed_any, same_texts}
+use Rattle.gds_read.proofs.Numbering.{unknown_so}
+use Rattle.gds_read.proofs.Items.{next_item, one_more}
+
+-- ---- names that are used
+
+or_assoc : (a b c : Bool) → ((a || b) || c) ≡ (a || (b || c))
+or_assoc true b c = refl
+or_assoc false b c = refl
+
+or_false : (a : Bool) → (a || false) ≡ a
+or_false true = refl
+or_false false = refl
+
+listed_append : (t : List ℕ) (xs : List (List ℕ)) (n : List ℕ) → is_listed t (xs ++ n ∷ []) ≡ (is_listed t xs || same t n)
+listed_append t [] n = or_false (same t n)
+listed_append t (x ∷ xs) n = ap (λ (b : Bool). same t x || b) (listed_append t xs n) ∙ sym (or_assoc (same t x) (is_listed t xs) (same t n))
+
+listed_insert : (t : List ℕ) (keys : List (List ℕ)) (n : List ℕ) → is_listed t (insert_key bytes_eq keys n) ≡ (is_listed t keys || same t n)
+listed_insert t keys n = turn (list_any (bytes_eq n) keys) refl
+  where
+    there : (s : Bool) → same t n ≡ s → is_listed n keys ≡ true → is_listed t keys ≡ (is_listed t keys || s)
+    there true e l = let q : is_listed t keys ≡ true = ap (λ (x : List ℕ). is_listed x keys) (same_texts t n e) ∙ l in rw q refl
+    there false e l = sym (or_false (is_listed t keys))
+
+    turn : (b : Bool) → list_any (bytes_eq n) keys ≡ b → is_listed t (cond b keys (keys ++ n ∷ [])) ≡ (is_listed t keys || same t n)
+    turn true e = there (same t n) refl (listed_any n keys ∙ e)
+    turn false e = listed_append t keys n
+
+pub used_append : (t : List ℕ) (a b : List Use) → is_used t (a ++ b) ≡ (is_used t a || is_used t b)
+used_append t [] b = refl
+used_append t (u ∷ a) b = ap (λ (x : Bool). same t u.name || x) (used_append t a b) ∙ sym (or_assoc (same t u.name) (is_used t a) (is_used t b))
+
+pub uses_more : (t : List ℕ) (us : List NamedUse) (i : ℕ) (u : NamedUse) (first old new : List (List ℕ)) → i < length us → u ≡ slice_index_or us i u
+    → is_listed t old ≡ (is_listed t first || is_used t (map use_of (take i us))) → new ≡ insert_key bytes_eq old u.name.now
+    → is_listed t new ≡ (is_listed t first || is_used t (map use_of (take (i + 1) us)))
+uses_more t us i u first old new h q e add =
+    ap (λ (x : List (List ℕ)). is_listed t x) add ∙ listed_insert t old u.name.now ∙ ap (λ (b : Bool). b || same t u.name.now) e
+    ∙ or_assoc (is_listed t first) (is_used t (map use_of (take i us))) (same t u.name.now)
+    ∙ ap (λ (b : Bool). is_listed t first || (is_used t (map use_of (take i us)) || b)) (sym (or_false (same t u.name.now)))
+    ∙ ap (λ (b : Bool). is_listed t first || b) (sym (used_append t (map use_of (take i us)) (use_of u ∷ [])))
+    ∙ ap (λ (x : List Use). is_listed t first || is_used t x) (sym (map-append use_of (take i us) (u ∷ [])) ∙ ap (λ (x : List NamedUse). map use_of x) (sym (one_more us i u h q)))
+
+all_append : (a : List Outline) (s : Outline) → all_uses (a ++ s ∷ []) ≡ all_uses a ++ s.uses
+all_append [] s = append-nil s.uses
+all_append (x ∷ a) s = ap (λ (y : List Use). x.uses ++ y) (all_append a s) ∙ sym (append_assoc x.uses (all_uses a) s.uses)
+
+pub used_more : (ss : List NamedOutline) (i : ℕ) (s : NamedOutline) (old new : List (List ℕ)) → i < length ss → s ≡ slice_index_or ss i s
+    → AreUsed old (all_uses (map outline_of (take i ss))) → ((t : List ℕ) → is_listed t new ≡ (is_listed t old || is_used t (map use_of s.uses)))
+    → AreUsed new (all_uses (map outline_of (take (i + 1) ss)))
+used_more ss i s old new h q used add t =
+    add t ∙ ap (λ (b : Bool). b || is_used t (map use_of s.uses)) (used t) ∙ sym (used_append t (all_uses (map outline_of (take i ss))) (map use_of s.uses))
+    ∙ ap (λ (x : List Use). is_used t x) (sym (all_append (map outline_of (take i ss)) (outline_of s)))
+    ∙ ap (λ (x : List Outline). is_used t (all_uses x)) (sym (map-append outline_of (take i ss) (s ∷ [])) ∙ ap (λ (x : List NamedOutline). map outline_of x) (sym (one_more ss i s h q)))
+
+-- ---- the first unknown name
+
+module _ (f : List ℕ → Option ℕ) where
+  here_none : (o r : Option ℕ) (p : ℕ) → is_none o ≡ true → (elim o as (λ (x : Option ℕ). Option ℕ) [ Some n ↦ r | None ↦ Some p ]) ≡ Some p
+  here_none (Some n) r p e = absurd cc
+  here_none None r p e = refl
+
+  here_some : (o r : Option ℕ) (p : ℕ) → is_none o ≡ false → (elim o as (λ (x : Option ℕ). Option ℕ) [ Some n ↦ r | None ↦ Some p ]) ≡ r
+  here_some (Some n) r p e = refl
+  here_some None r p e = absurd cc
+
+  pub unknown_here : (us : List NamedUse) (i : ℕ) (u : NamedUse) (o total : Option ℕ) → i < length us → u ≡ slice_index_or us i u → unnumbered f (map use_of (drop i us)) ≡ total
+      → o ≡ f u.name.now → is_none o ≡ true → Some u.place ≡ total
+  unknown_here us i u o total h q e w n =
+      sym (here_none (f u.name.now) (unnumbered f (map use_of (drop (i + 1) us))) u.place (ap (λ (x : Option ℕ). is_none x) (sym w) ∙ n))
+      ∙ ap (λ (x : List NamedUse). unnumbered f (map use_of x)) (sym (next_item us i u h q)) ∙ e
+
+  pub unknown_next : (us : List NamedUse) (i : ℕ) (u : NamedUse) (o total : Option ℕ) → i < length us → u ≡ slice_index_or us i u → unnumbered f (map use_of (drop i us)) ≡ total
+      → o ≡ f u.name.now → is_none o ≡ false → unnumbered f (map use_of (drop (i + 1) us)) ≡ total
+  unknown_next us i u o total h q e w n =
+      sym (here_some (f u.name.now) (unnumbered f (map use_of (drop (i + 1) us))) u.place (ap (λ (x : Option ℕ). is_none x) (sym w) ∙ n))
+      ∙ ap (λ (x : List NamedUse). unnumbered f (map use_of x)) (sym (next_item us i u h q)) ∙ e
+
+  abbrev first_of : Option ℕ → Option ℕ → Option ℕ
+  first_of (Some p) r = Some p
+  first_of None r = r
+
+  unnumbered_append : (a b : List Use) → unnumbered f (a ++ b) ≡ first_of (unnumbered f a) (unnumbered f b)
+  unnumbered_append [] b = refl
+  unnumbered_append (u ∷ a) b = turn (f u.name) (unnumbered_append a b)
+    where
+      turn : (o : Option ℕ) → unnumbered f (a ++ b) ≡ first_of (unnumbered f a) (unnumbered f b)
+          → (elim o as (λ (x : Option ℕ). Option ℕ) [ Some n ↦ unnumbered f (a ++ b) | None ↦ Some u.place ]) ≡ first_of (elim o as (λ (x : Option ℕ). Option ℕ) [ Some n ↦ unnumbered f a | None ↦ Some u.place ]) (unnumbered f b)
+      turn (Some n) e = e
+      turn None e = refl
+
+  split_first : (ss : List NamedOutline) (i : ℕ) (s : NamedOutline) → i < length ss → s ≡ slice_index_or ss i s
+      → unnumbered f (all_uses (map outline_of (drop i ss))) ≡ first_of (unnumbered f (map use_of s.uses)) (unnumbered f (all_uses (map outline_of (drop (i + 1) ss))))
+  split_first ss i s h q =
+      ap (λ (x : List NamedOutline). unnumbered f (all_uses (map outline_of x))) (next_item ss i s h q) ∙ unnumbered_append (map use_of s.uses) (all_uses (map outline_of (drop (i + 1) ss)))
+
+  pub unknown_there : (ss : List NamedOutline) (i : ℕ) (s : NamedOutline) (p : ℕ) (total : Option ℕ) → i < length ss → s ≡ slice_index_or ss i s → unnumbered f (all_uses (map outline_of (drop i ss))) ≡ total
+      → Some p ≡ unnumbered f (map use_of s.uses) → Some p ≡ total
+  unknown_there ss i s p total h q e w =
+      ap (λ (x : Option ℕ). first_of x (unnumbered f (all_uses (map outline_of (drop (i + 1) ss))))) w ∙ sym (split_first ss i s h q) ∙ e
+
+  pub unknown_later : (ss : List NamedOutline) (i : ℕ) (s : NamedOutline) (total : Option ℕ) → i < length ss → s ≡ slice_index_or ss i s → unnumbered f (all_uses (map outline_of (drop i ss))) ≡ total
+      → None ≡ unnumbered f (map use_of s.uses) → unnumbered f (all_uses (map outline_of (drop (i + 1) ss))) ≡ total
+  unknown_later ss i s total h q e w =
+      ap (λ (x : Option ℕ). first_of x (unnumbered f (all_uses (map outline_of (drop (i + 1) ss))))) w ∙ sym (split_first ss i s h q) ∙ e
+
+-- ---- the first that is too deep, and the tops
+
+module _ (used : List (List ℕ)) (us : List Use) (are : AreUsed used us) (ss : List NamedOutline) (i : ℕ) (s : NamedOutline) (h : i < length ss) (q : s ≡ slice_index_or ss i s) where
+  deep_turn : (b : Bool) (r : Option ℕ) → (elim b as (λ (x : Bool). Option ℕ) [ true ↦ Some s.place | false ↦ r ]) ≡ (elim b as (λ (x : Bool). Option ℕ) [ true ↦ Some s.place | false ↦ r ])
+  deep_turn b r = refl
+
+  deep_is : (b : Bool) (r : Option ℕ) → b ≡ true → (elim b as (λ (x : Bool). Option ℕ) [ true ↦ Some s.place | false ↦ r ]) ≡ Some s.place
+  deep_is true r e = refl
+  deep_is false r e = absurd cc
+
+  deep_not : (b : Bool) (r : Option ℕ) → b ≡ false → (elim b as (λ (x : Bool). Option ℕ) [ true ↦ Some s.place | false ↦ r ]) ≡ r
+  deep_not true r e = absurd cc
+  deep_not false r e = refl
+
+  length_uses : length (map use_of s.uses) ≡ length s.uses
+  length_uses = length_map s.uses
+    where
+      length_map : (xs : List NamedUse) → length (map use_of xs) ≡ length xs
+      length_map [] = refl
+      length_map (x ∷ xs) = ap (λ (n : ℕ). suc n) (length_map xs)
+
+  test_is : (is_used s.name.now us && not (eqb (length (map use_of s.uses)) 0)) ≡ (is_listed s.name.now used && not (eqb (length s.uses) 0))
+  test_is = ap (λ (b : Bool). b && not (eqb (length (map use_of s.uses)) 0)) (sym (are s.name.now)) ∙ ap (λ (n : ℕ). is_listed s.name.now used && not (eqb n 0)) length_uses
+
+  pub deep_here : (b : Bool) (total : Option ℕ) → deep us (map outline_of (drop i ss)) ≡ total → b ≡ (is_listed s.name.now used && not (eqb (length s.uses) 0)) → b ≡ true → Some s.place ≡ total
+  deep_here b total e w t =
+      sym (deep_is (is_used s.name.now us && not (eqb (length (map use_of s.uses)) 0)) (deep us (map outline_of (drop (i + 1) ss))) (test_is ∙ sym w ∙ t))
+      ∙ ap (λ (x : List NamedOutline). deep us (map outline_of x)) (sym (next_item ss i s h q)) ∙ e
+
+  pub deep_next : (b : Bool) (total : Option ℕ) → deep us (map outline_of (drop i ss)) ≡ total → b ≡ (is_listed s.name.now used && not (eqb (length s.uses) 0)) → b ≡ false → deep us (map outline_of (drop (i + 1) ss)) ≡ total
+  deep_next b total e w t =
+      sym (deep_not (is_used s.name.now us && not (eqb (length (map use_of s.uses)) 0)) (deep us (map outline_of (drop (i + 1) ss))) (test_is ∙ sym w ∙ t))
+      ∙ ap (λ (x : List NamedOutline). deep us (map outline_of x)) (sym (next_item ss i s h q)) ∙ e
+
+  tops_is : (b : Bool) (r : List (ℕ × ℕ)) (n : ℕ) → b ≡ false → (elim b as (λ (x : Bool). List (ℕ × ℕ)) [ true ↦ r | false ↦ (n, s.place) ∷ r ]) ≡ (n, s.place) ∷ r
+  tops_is true r n e = absurd cc
+  tops_is false r n e = refl
+
+  tops_not : (b : Bool) (r : List (ℕ × ℕ)) (n : ℕ) → b ≡ true → (elim b as (λ (x : Bool). List (ℕ × ℕ)) [ true ↦ r | false ↦ (n, s.place) ∷ r ]) ≡ r
+  tops_not true r n e = refl
+  tops_not false r n e = absurd cc
+
+  next_number : suc i ≡ i + 1
+  next_number = omega arith
+
+  tops_here : (b : Bool) → b ≡ is_listed s.name.now used → b ≡ false → tops i us (map outline_of (drop i ss)) ≡ (i, s.place) ∷ tops (i + 1) us (map outline_of (drop (i + 1) ss))
+  tops_here b w t =
+      ap (λ (x : List NamedOutline). tops i us (map outline_of x)) (next_item ss i s h q)
+      ∙ tops_is (is_used s.name.now us) (tops (suc i) us (map outline_of (drop (i + 1) ss))) i (sym (are s.name.now) ∙ sym w ∙ t)
+      ∙ ap (λ (k : ℕ). (i, s.place) ∷ tops k us (map outline_of (drop (i + 1) ss))) next_number
+
+  pub tops_skip : (first : Option ℕ) (total : Tops) (b : Bool) → further_tops first (tops i us (map outline_of (drop i ss))) ≡ total → b ≡ is_listed s.name.now used → b ≡ true
+      → further_tops first (tops (i + 1) us (map outline_of (drop (i + 1) ss))) ≡ total
+  tops_skip first total b e w t =
+      ap (λ (x : List (ℕ × ℕ)). further_tops first x)
+      (ap (λ (k : ℕ). tops k us (map outline_of (drop (i + 1) ss))) (sym next_number)
+      ∙ sym (tops_not (is_used s.name.now us) (tops (suc i) us (map outline_of (drop (i + 1) ss))) i (sym (are s.name.now) ∙ sym w ∙ t))
+      ∙ ap (λ (x : List NamedOutline). tops i us (map outline_of x)) (sym (next_item ss i s h q)))
+      ∙ e
+
+  pub tops_first : (first : Option ℕ) (total : Tops) (b : Bool) → further_tops first (tops i us (map outline_of (drop i ss))) ≡ total → b ≡ is_listed s.name.now used → b ≡ false → is_some first ≡ false
+      → further_tops (Some i) (tops (i + 1) us (map outline_of (drop (i + 1) ss))) ≡ total
+  tops_first (Some n) total b e w t z = absurd cc
+  tops_first None total b e w t z = start (tops (i + 1) us (map outline_of (drop (i + 1) ss))) ∙ ap (λ (x : List (ℕ × ℕ)). told_tops x) (sym (tops_here b w t)) ∙ e
+    where
+      start : (ts : List (ℕ × ℕ)) → further_tops (Some i) ts ≡ told_tops ((i, s.place) ∷ ts)
+      start [] = refl
+      start (t ∷ ts) = refl
+
+  pub tops_second : (first : Option ℕ) (total : Tops) (b : Bool) → further_tops first (tops i us (map outline_of (drop i ss))) ≡ total → b ≡ is_listed s.name.now used → b ≡ false → is_some first ≡ true → Several s.place ≡ total
+  tops_second (Some n) total b e w t z = ap (λ (x : List (ℕ × ℕ)). further_tops (Some n) x) (sym (tops_here b w t)) ∙ e
+  tops_second None total b e w t z = absurd cc
+
+-- ---- all three
+
+abbrev judged : Option ℕ → Option ℕ → Option (ℕ × StreamKind) → Option (ℕ × StreamKind)
+judged u d t = elim u as (λ (x : Option ℕ). Option (ℕ × StreamKind)) [ Some p ↦ Some (p, UnknownName) | None ↦ elim d as (λ (x : Option ℕ). Option (ℕ × StreamKind)) [ Some p ↦ Some (p, Unsupported) | None ↦ t ] ]
+
+judged_unknown : (u d : Option ℕ) (t : Option (ℕ × StreamKind)) (p : ℕ) → u ≡ Some p → judged u d t ≡ Some (p, UnknownName)
+judged_unknown (Some q) d t p e = let w : q ≡ p = cc in rw w refl
+judged_unknown None d t p e = absurd cc
+
+judged_deep : (u d : Option ℕ) (t : Option (ℕ × StreamKind)) (p : ℕ) → u ≡ None → d ≡ Some p → judged u d t ≡ Some (p, Unsupported)
+judged_deep (Some q) d t p e f = absurd cc
+judged_deep None (Some q) t p e f = let w : q ≡ p = cc in rw w refl
+judged_deep None None t p e f = absurd cc
+
+judged_top : (u d : Option ℕ) (t : Option (ℕ × StreamKind)) → u ≡ None → d ≡ None → judged u d t ≡ t
+judged_top (Some q) d t e f = absurd cc
+judged_top None (Some q) t e f = absurd cc
+judged_top None None t e f = refl
+
+pub not_some : (o : Option ℕ) → ((p : ℕ) → o ≡ Some p → ⊥) → o ≡ None
+not_some (Some p) h = absurd (h p refl)
+not_some None h = refl
+
+top_none : (o : ℕ) (ts : List (ℕ × ℕ)) (n : ℕ) → One n ≡ told_tops ts → (top_fault o ts ≡ None) × (n ≡ top_in ts)
+top_none o [] n e = absurd cc
+top_none o (t ∷ []) n e = (refl, cc)
+top_none o (t ∷ s ∷ ts) n e = absurd cc
+
+top_several : (o : ℕ) (ts : List (ℕ × ℕ)) (p : ℕ) → Several p ≡ told_tops ts → top_fault o ts ≡ Some (p, SeveralTops)
+top_several o [] p e = absurd cc
+top_several o (t ∷ []) p e = absurd cc
+top_several o (t ∷ s ∷ ts) p e = let w : s.1 ≡ p = cc in rw w refl
+
+top_nothing : (o : ℕ) (ts : List (ℕ × ℕ)) → Nothing ≡ told_tops ts → top_fault o ts ≡ Some (o, NoTop)
+top_nothing o [] e = refl
+top_nothing o (t ∷ []) e = absurd cc
+top_nothing o (t ∷ s ∷ ts) e = absurd cc
+
+-- what the three searches answer over the outlines of records
+module _ (rs : List Record) (structures : List NamedOutline) (entries : List (Bor (List ℕ) × ℕ)) (same : map outline_of structures ≡ outlines 0 rs)
+    (numbers : IsNumbering entries (map (λ s. s.name) (map outline_of structures))) where
+  abbrev us : List Use
+  us = all_uses (map outline_of structures)
+
+  fault_is : whole_fault rs ≡ judged (unnumbered (number_in entries) us) (deep us (map outline_of structures)) (top_fault (last_place 0 rs) (tops 0 us (map outline_of structures)))
+  fault_is =
+      ap (λ (x : List Outline). outlines_fault (last_place 0 rs) (all_uses x) x) (sym same)
+      ∙ ap (λ (x : Option ℕ). judged x (deep us (map outline_of structures)) (top_fault (last_place 0 rs) (tops 0 us (map outline_of structures)))) (unknown_so (number_in entries) (map outline_of structures) numbers us)
+
+  pub fault_unknown : (p : ℕ) → Some p ≡ unnumbered (number_in entries) us → whole_fault rs ≡ Some (p, UnknownName)
+  fault_unknown p e = fault_is ∙ judged_unknown (unnumbered (number_in entries) us) (deep us (map outline_of structures)) (top_fault (last_place 0 rs) (tops 0 us (map outline_of structures))) p (sym e)
+
+  pub fault_deep : (o : Option ℕ) (p : ℕ) → o ≡ unnumbered (number_in entries) us → ((q : ℕ) → o ≡ Some q → ⊥) → Some p ≡ deep us (map outline_of structures) → whole_fault rs ≡ Some (p, Unsupported)
+  fault_deep o p e n f = fault_is ∙ judged_deep (unnumbered (number_in entries) us) (deep us (map outline_of structures)) (top_fault (last_place 0 rs) (tops 0 us (map outline_of structures))) p (sym e ∙ not_some o n) (sym f)
+
+  module _ (o d : Option ℕ) (e : o ≡ unnumbered (number_in entries) us) (n : (q : ℕ) → o ≡ Some q → ⊥) (f : d ≡ deep us (map outline_of structures)) (m : (q : ℕ) → d ≡ Some q → ⊥) where
+    fault_top : whole_fault rs ≡ top_fault (last_place 0 rs) (tops 0 us (map outline_of structures))
+    fault_top = fault_is ∙ judged_top (unnumbered (number_in entries) us) (deep us (map outline_of structures)) (top_fault (last_place 0 rs) (tops 0 us (map outline_of structures))) (sym e ∙ not_some o n) (sym f ∙ not_some d m)
+
+    pub no_fault : (top : ℕ) → One top ≡ told_tops (tops 0 us (map outline_of structures)) → whole_fault rs ≡ None
+    no_fault top t = fault_top ∙ (top_none (last_place 0 rs) (tops 0 us (map outline_of structures)) top t).0
+
+    pub second_top : (p : ℕ) → Several p ≡ told_tops (tops 0 us (map outline_of structures)) → whole_fault rs ≡ Some (p, SeveralTops)
+    second_top p t = fault_top ∙ top_several (last_place 0 rs) (tops 0 us (map outline_of structures)) p t
+
+    pub no_top : (p : ℕ) → p ≡ last_place 0 rs → Nothing ≡ told_tops (tops 0 us (map outline_of structures)) → whole_fault rs ≡ Some (p, NoTop)
+    no_top p q t = fault_top ∙ top_nothing (last_place 0 rs) (tops 0 us (map outline_of structures)) t ∙ ap (λ (x : ℕ). Some (x, NoTop)) (sym q)
+
+  pub top_is : (top : ℕ) → One top ≡ told_tops (tops 0 us (map outline_of structures)) → top ≡ top_of rs
+  top_is top t = (top_none (last_place 0 rs) (tops 0 us (map outline_of structures)) top t).1 ∙ ap (λ (x : List Outline). top_in (tops 0 (all_uses x) x)) same

@@ -1,0 +1,7 @@
+use Rattle.std.proofs.Common.{◌≡◌, map, drop}
+use Rattle.gds_read.specs.Numbering.{number_in, unnumbered}
+use Rattle.gds_read.specs.Outlining.{use_of}
+use Rattle.gds_read.proofs.conditions.unknown_in.Given as goal
+
+abbrev pub invariant-loop-item : goal.invariant-loop-item
+invariant-loop-item l = unnumbered (number_in l.numbers.entries) (map use_of (drop l.item-index l.uses)) ≡ unnumbered (number_in l.numbers.entries) (map use_of l.uses)

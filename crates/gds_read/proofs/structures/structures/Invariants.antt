@@ -1,0 +1,14 @@
+use Rattle.std.proofs.Common.{◌≡◌, ◌++◌, map, length}
+use Rattle.gds_records.specs.Drawing.{structure_of, starts}
+use Rattle.gds_read.specs.Decoding.{IsSpelled, records_in}
+use Rattle.gds_read.specs.Outlining.{names_in}
+use Rattle.gds_read.proofs.structures.structures.Given as goal
+
+abbrev pub invariant-records : goal.invariant-records
+invariant-records l = record {
+  whole : IsSpelled l.rest;
+  same : l.found ++ map (structure_of (names_in l.outlines)) (starts (records_in l.rest)) ≡ map (structure_of (names_in l.outlines)) (starts (records_in l.bytes));
+}
+
+abbrev pub decreases-records : goal.decreases-records
+decreases-records l = length l.rest

@@ -1,0 +1,29 @@
+-- The records of a stream, as a front part of its bytes.
+use Rattle.std.specs.Prelude.{◌≡◌, ℕ, ◌<◌, ◌≤◌, List, take, drop, length, true, Some}
+use Rattle.geom.specs.declared.layout.Layout.{Layout}
+use Rattle.geom.specs.FlatForm.{flat_of, flat_count}
+use Rattle.gds_records.specs.Records.{Record}
+use Rattle.gds_records.specs.Whole.{whole_fault}
+use Rattle.gds_records.specs.Stream.{IsRead, are_zero}
+use Rattle.gds_read.specs.Decoding.{IsSpelled, records_in}
+use Rattle.gds_read.specs.declared.refusal.StreamRefusal.{StreamRefusal}
+use Rattle.gds_read.specs.declared.refusal.StreamRefusal.TheVariants.{Bad, TooManyShapes, Memory}
+
+-- so many bytes are a sentence of good records, and zeros follow
+pub record IsBody (bytes : List ℕ) (end : ℕ) : Type 0 where
+  pub within : end ≤ length bytes
+  pub whole : IsSpelled (take end bytes)
+  pub read : IsRead bytes (records_in (take end bytes)) (drop end bytes)
+  pub zeros : are_zero (drop end bytes) ≡ true
+
+-- why records make no layout: a fault of the whole stream, or want of memory
+abbrev pub IsWholeRefusal : List Record → StreamRefusal → Type 0
+IsWholeRefusal rs (Bad offset kind) = whole_fault rs ≡ Some (offset, kind)
+IsWholeRefusal rs (TooManyShapes count) = ⊥
+IsWholeRefusal rs Memory = Unit {0}
+
+-- why a layout is not taken: its size, or want of memory
+abbrev pub IsOversize : Layout → StreamRefusal → Type 0
+IsOversize layout (Bad offset kind) = ⊥
+IsOversize layout (TooManyShapes count) = (count ≡ flat_count (flat_of layout)) × (8000000 < count)
+IsOversize layout Memory = Unit {0}

@@ -1,0 +1,51 @@
+// Numbers of structures, by their names.
+ghost use Rattle.std.specs.Prelude.{◌≡◌, ℕ, List, map, IfOk, OnOk};
+ghost use Rattle.std.specs.Str.{bytes_eq};
+ghost use Rattle.gds_read.specs.Outlining.{outline_of};
+ghost use Rattle.gds_read.specs.Numbering.{number_in, number_or, IsNumbering};
+
+use crate::outline::NamedOutline;
+use aq_base::Memory;
+use indexmap::IndexMap;
+use std::alloc::Global;
+
+/// The number of each name: of structures of one name, that of the first.
+pub type Numbers<'a> = IndexMap<&'a [u8], u32>;
+
+/// A number of structures, of which there is no memory for more than 2^32 - 1.
+pub fn small_number(number: usize) -> Result<u32, Memory>
+    ensures { IfOk result (λ small. small ≡ number) }
+{
+    u32::try_from(number).map_err(|_| Memory)
+}
+
+/// The number of a name.
+pub fn number_of(numbers: &Numbers<'_>, name: &[u8]) -> Option<u32>
+    ensures { result ≡ number_in numbers.now.entries name.now }
+{
+    numbers.get(&name).copied()
+}
+
+// Gives a name its number, unless it has one.
+fn add<'a>(numbers: &mut Numbers<'a>, name: &'a [u8], number: u32) -> Result<(), Memory>
+    ensures { OnOk result ((t : List ℕ) → number_in numbers.new.entries t
+        ≡ number_or (number_in numbers.old.entries t) (bytes_eq name.now t) number) }
+{
+    if number_of(numbers, name).is_some() {
+        return Ok(());
+    }
+    numbers.insert(name, number)?;
+    Ok(())
+}
+
+/// The numbers of structures by their names.
+pub fn numbers<'a>(alloc: Global, outlines: &[NamedOutline<'a>]) -> Result<Numbers<'a>, Memory>
+    ensures { IfOk result (λ numbers. IsNumbering numbers.entries (map (λ s. s.name) (map outline_of outlines.now))) }
+{
+    let mut numbers = IndexMap::new(alloc);
+    for (number, outline) in outlines.iter().enumerate() {
+        let number = small_number(number)?;
+        add(&mut numbers, outline.name, number)?;
+    }
+    Ok(numbers)
+}
