@@ -268,13 +268,15 @@ record Peeled (b : Language) (rs : List Record) : Type 0 where
   others : Speaks b (kinds rest)
   same_starts : starts rs ≡ starts rest
 
-peel : (a b : Language) (rs : List Record) → mentions 5 a ≡ false → Speaks (Then a b) (kinds rs) → Peeled b rs
-peel a b rs e h =
-    let s = split rs h.0 h.1 h.2 in
+-- the records behind a part with no BGNSTR
+peel : (a b : Language) (rs : List Record) → mentions 5 a ≡ false → Peeled (Then a b) rs → Peeled b rs
+peel a b rs e p =
+    let h = p.others in
+    let s = split p.rest h.0 h.1 h.2 in
     record {
       rest = s.ys;
       others = subst (λ (x : List ℕ). Speaks b x) (sym s.rests) h.4;
-      same_starts = ap (λ (x : List Record). starts x) s.whole ∙ starts_none s.xs s.ys (ap (λ (x : List ℕ). has_kind 5 x) s.fronts ∙ lacks 5 a h.0 e h.3);
+      same_starts = p.same_starts ∙ ap (λ (x : List Record). starts x) s.whole ∙ starts_none s.xs s.ys (ap (λ (x : List ℕ). has_kind 5 x) s.fronts ∙ lacks 5 a h.0 e h.3);
     }
 
 -- what is left of a sentence's grammar, piece by piece
@@ -299,19 +301,22 @@ from_libraries = Then (maybe (One 0x1F)) from_fonts
 abbrev from_name : Language
 from_name = Then (One 2) from_libraries
 
+body_shaped : (rs : List Record) → Peeled body rs → AllByRecursion IsShaped (starts rs)
+body_shaped rs p =
+    let h = p.others in
+    let s = split p.rest h.0 h.1 h.2 in
+    let none_left : starts s.ys ≡ [] = ap (λ (x : List Record). starts x) (sym (append-nil s.ys)) ∙ starts_none s.ys [] (ap (λ (x : List ℕ). has_kind 5 x) (s.rests ∙ h.4)) in
+    let all = structures_shaped h.0 h.3 s.xs s.ys s.fronts (subst (λ (x : List (List Record)). AllByRecursion IsShaped x) (sym none_left) tt) in
+    subst (λ (x : List (List Record)). AllByRecursion IsShaped x) (sym (p.same_starts ∙ ap (λ (x : List Record). starts x) s.whole)) all
+
 pub sentence_shaped : (rs : List Record) → Speaks stream (kinds rs) → AllByRecursion IsShaped (starts rs)
 sentence_shaped rs h =
-    let a = peel (One 0) (Then (One 1) from_name) rs refl h in
-    let b = peel (One 1) from_name a.rest refl a.others in
-    let c = peel (One 2) from_libraries b.rest refl b.others in
-    let d = peel (maybe (One 0x1F)) from_fonts c.rest refl c.others in
-    let e = peel (maybe (One 0x20)) from_table d.rest refl d.others in
-    let f = peel (maybe (One 0x23)) from_generations e.rest refl e.others in
-    let g = peel (maybe (One 0x22)) from_units f.rest refl f.others in
-    let i = peel (One 3) body g.rest refl g.others in
-    let last = i.others in
-    let s = split i.rest last.0 last.1 last.2 in
-    let none_left : starts s.ys ≡ [] = ap (λ (x : List Record). starts x) (sym (append-nil s.ys)) ∙ starts_none s.ys [] (ap (λ (x : List ℕ). has_kind 5 x) (s.rests ∙ last.4)) in
-    let all = structures_shaped last.0 last.3 s.xs s.ys s.fronts (subst (λ (x : List (List Record)). AllByRecursion IsShaped x) (sym none_left) tt) in
-    subst (λ (x : List (List Record)). AllByRecursion IsShaped x)
-    (sym (a.same_starts ∙ b.same_starts ∙ c.same_starts ∙ d.same_starts ∙ e.same_starts ∙ f.same_starts ∙ g.same_starts ∙ i.same_starts ∙ ap (λ (x : List Record). starts x) s.whole)) all
+    body_shaped rs
+    (peel (One 3) body rs refl
+    (peel (maybe (One 0x22)) from_units rs refl
+    (peel (maybe (One 0x23)) from_generations rs refl
+    (peel (maybe (One 0x20)) from_table rs refl
+    (peel (maybe (One 0x1F)) from_fonts rs refl
+    (peel (One 2) from_libraries rs refl
+    (peel (One 1) from_name rs refl
+    (peel (One 0) (Then (One 1) from_name) rs refl (record { rest = rs; others = h; same_starts = refl })))))))))

@@ -18,6 +18,8 @@ mod scan;
 mod size;
 mod structures;
 mod table;
+#[cfg(test)]
+mod tests;
 mod values;
 
 pub use flat::flatten;
