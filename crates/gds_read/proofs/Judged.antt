@@ -126,9 +126,6 @@ module _ (f : List ℕ → Option ℕ) where
 -- ---- the first that is too deep, and the tops
 
 module _ (used : List (List ℕ)) (us : List Use) (are : AreUsed used us) (ss : List NamedOutline) (i : ℕ) (s : NamedOutline) (h : i < length ss) (q : s ≡ slice_index_or ss i s) where
-  deep_turn : (b : Bool) (r : Option ℕ) → (elim b as (λ (x : Bool). Option ℕ) [ true ↦ Some s.place | false ↦ r ]) ≡ (elim b as (λ (x : Bool). Option ℕ) [ true ↦ Some s.place | false ↦ r ])
-  deep_turn b r = refl
-
   deep_is : (b : Bool) (r : Option ℕ) → b ≡ true → (elim b as (λ (x : Bool). Option ℕ) [ true ↦ Some s.place | false ↦ r ]) ≡ Some s.place
   deep_is true r e = refl
   deep_is false r e = absurd cc

@@ -17,3 +17,4 @@ pub mod Ends
 pub mod Words
 pub mod Shaped
 pub mod Placed
+pub mod Exact

@@ -8,6 +8,7 @@ mod ending;
 mod fields;
 mod flat;
 mod front;
+mod laws;
 mod names;
 mod numbers;
 mod outline;
@@ -24,5 +25,6 @@ mod values;
 
 pub use flat::flatten;
 pub use gds_records::StreamKind;
+pub use laws::reading_is_exact;
 pub use read::read_stream;
 pub use refusal::StreamRefusal;
