@@ -1,5 +1,5 @@
 -- One turn of a reader of records.
-use Rattle.std.proofs.Common.{◌≡◌, ◌≢◌, ℕ, zero, suc, ◌+◌, ◌-◌, ◌<◌, ◌≤◌, List, [], ◌∷◌, ◌++◌, take, drop, length, cond, ◌&&◌, not, Option, Some, None, Bool, true, false, eqb, refl, sym, ap, ◌∙◌, arith}
+use Rattle.std.proofs.Common.{◌≡◌, ◌≢◌, ℕ, zero, suc, ◌+◌, ◌-◌, ◌<◌, ◌≤◌, List, [], ◌∷◌, ◌++◌, take, drop, length, cond, ◌&&◌, ◌||◌, not, Option, Some, None, Bool, true, false, eqb, refl, sym, ap, ◌∙◌, arith}
 use Rattle.std.specs.List.{list_any}
 use Rattle.std.specs.Str.{bytes_eq}
 use Rattle.indexmap.specs.IndexSet.{insert_key}
@@ -7,12 +7,12 @@ use Rattle.std.proofs.lemmas.List.{length-drop, length-take}
 use Rattle.std.proofs.Math.Seq.{drop-drop}
 use Rattle.std.proofs.lemmas.Bool.Decides.{nat_tests}
 use Rattle.gds_records.specs.declared.fault.StreamKind.{StreamKind}
-use Rattle.gds_records.specs.declared.fault.StreamKind.TheVariants.{Order, Value}
+use Rattle.gds_records.specs.declared.fault.StreamKind.TheVariants.{Order, Value, Unsupported, NotRectangle}
 use Rattle.gds_records.specs.Language.{Language, Nothing}
 use Rattle.gds_records.specs.Derivative.{after}
 use Rattle.gds_records.specs.Records.{record_with, trimmed}
 use Rattle.gds_records.specs.Table.{has_length}
-use Rattle.gds_records.specs.Values.{opener, value_fault_in, is_name}
+use Rattle.gds_records.specs.Values.{opener, value_of, is_text, is_name, is_nanometre, is_rectangle, value_fault_in}
 use Rattle.gds_records.specs.Faults.{own_fault, kind_of, form_of, length_of, here_record}
 use Rattle.gds_records.specs.Scan.{alive, fault_of}
 use Rattle.gds_records.specs.Steps.{is_listed, names_with, step_fault, Told, Stopped, Ended, steps}
@@ -27,6 +27,25 @@ pub data_long : (b held : List ℕ) → IsWhole b → held ≡ drop 4 (take (len
 data_long b held w e =
     let n : 4 + length held ≡ length_of b = omega (arith, ap (λ (x : List ℕ). length x) e, length-drop 4 (take (length_of b) b), length-take (length_of b) b, w.least, w.enough) in
     ap (λ (k : ℕ). has_length (kind_of b) k) n ∙ w.long
+
+-- only a structure's name may be taken
+pub untaken : (element : ℕ) (s t : Bool) (kind form : ℕ) (held : List ℕ) → kind ≢ 6 → value_fault_in element s (record_with kind form held) ≡ value_fault_in element t (record_with kind form held)
+untaken element s t kind form held h =
+    let z : eqb kind 6 ≡ false = grind (arith, nat_tests) in
+    ap (λ (v : Bool). elim (eqb kind 0x1A && eqb element 0x0A) as (λ (x : Bool). Option StreamKind) [
+      | true ↦ elim (eqb (value_of 0 held) 0) as (λ (x : Bool). Option StreamKind) [ true ↦ None | false ↦ Some Unsupported ]
+      | false ↦ elim (eqb kind 0x10 && eqb element 0x08) as (λ (x : Bool). Option StreamKind) [
+        | true ↦ elim (is_rectangle held) as (λ (x : Bool). Option StreamKind) [ true ↦ None | false ↦ Some NotRectangle ]
+        | false ↦ elim v as (λ (x : Bool). Option StreamKind) [ true ↦ None | false ↦ Some Value ]
+      ]
+    ]) (ap (λ (v : Bool). elim (eqb kind 0x02 || eqb kind 0x19) as (λ (x : Bool). Bool) [ true ↦ is_text held | false ↦ elim (eqb kind 0x03) as (λ (x : Bool). Bool) [ true ↦ is_nanometre held | false ↦ v ] ])
+    (same_choice (eqb kind 6) z))
+  where
+    same_choice : (z : Bool) → z ≡ false
+        → (elim z as (λ (x : Bool). Bool) [ true ↦ is_name held && not s | false ↦ elim (eqb kind 0x12) as (λ (x : Bool). Bool) [ true ↦ is_name held | false ↦ elim (eqb kind 0x10) as (λ (x : Bool). Bool) [ true ↦ eqb (length held) 8 | false ↦ true ] ] ])
+        ≡ (elim z as (λ (x : Bool). Bool) [ true ↦ is_name held && not t | false ↦ elim (eqb kind 0x12) as (λ (x : Bool). Bool) [ true ↦ is_name held | false ↦ elim (eqb kind 0x10) as (λ (x : Bool). Bool) [ true ↦ eqb (length held) 8 | false ↦ true ] ] ])
+    same_choice true e = absurd cc
+    same_choice false e = refl
 
 pub place_alive : (p : Place) → alive (rest_of p) ≡ true
 place_alive places.Start = refl

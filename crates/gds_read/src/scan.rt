@@ -51,6 +51,9 @@ fn value_here(element: u8, names: &Names<'_>, bytes: &[u8]) -> Option<StreamKind
     ensures { result ≡ value_fault_in element (is_listed (trimmed (here_record bytes.now).content) (texts names.now.keys)) (here_record bytes.now) }
 {
     let data = content(bytes);
+    if bytes[2] != STRNAME {
+        return value_fault(element, false, bytes[2], data);
+    }
     let taken = is_taken(names, trimmed(data));
     value_fault(element, taken, bytes[2], data)
 }
