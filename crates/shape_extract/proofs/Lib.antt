@@ -11,5 +11,6 @@ mod Searching
 mod Marked
 mod NetPins
 mod PinFrames
+mod RowPins
 mod RowEdges
 mod NetWalk

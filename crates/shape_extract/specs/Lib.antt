@@ -6,6 +6,7 @@ pub mod FirstCircuit
 pub mod Cells
 pub mod Edges
 pub mod PinRows
+pub mod RowFaults
 pub mod Searches
 pub mod NetPins
 pub mod Faults
