@@ -12,5 +12,10 @@ mod Marked
 mod NetPins
 mod PinFrames
 mod RowPins
+mod LabelTexts
+mod Passing
+mod PortPins
+mod LabelNumbers
+mod LabelParts
 mod RowEdges
 mod NetWalk

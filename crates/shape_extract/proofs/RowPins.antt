@@ -1,10 +1,10 @@
 -- The rows of all pins, and what the rule of rows reports of an input pin.
-use Rattle.std.proofs.Common.{◌≡◌, ◌≢◌, ℕ, suc, ◌+◌, ◌<◌, ◌≤◌, Bool, true, false, List, [], ◌∷◌, ◌++◌, length, Option, Some, None, refl, sym, ap, subst, ◌∙◌, arith, inl, inr}
+use Rattle.std.proofs.Common.{◌≡◌, ◌≢◌, ℕ, suc, ◌+◌, ◌<◌, ◌≤◌, true, false, List, [], ◌∷◌, ◌++◌, length, Option, Some, None, refl, sym, ap, subst, ◌∙◌, arith, inl, inr}
 use Rattle.std.specs.Prelude.{slice_get, slice_index}
 use Rattle.std.proofs.Math.ListN.{get_or-append, length-append}
 use Rattle.std.proofs.Math.Seq.{get_or-append_seam}
 use Rattle.std.proofs.lemmas.Option.{same_Some, slice_get_within}
-use Rattle.std.proofs.lemmas.Bool.{cases_eq, cases_lt, both_ways, eqb-true}
+use Rattle.std.proofs.lemmas.Bool.{cases_eq, cases_lt, both_ways}
 use Rattle.geom.specs.declared.shapes.Shape.{Shape}
 use Rattle.geom.specs.declared.shapes.Flat.{Flat}
 use Rattle.layout_rules.specs.declared.layers.TheConstants.{INPUT_PIN, OUTPUT_PIN}
@@ -13,7 +13,7 @@ use Rattle.layout_rules.specs.Labels.{is_labelled}
 use Rattle.layout_rules.specs.Pins.{LiesIn}
 use Rattle.layout_rules.specs.Rows.{row_of}
 use Rattle.layout_rules.specs.Reports.{ReportsNone, Passes}
-use Rattle.layout_rules.specs.CircuitRules.{IsNoCell, IsStrayPin, CellsBroken, IsInput, IsSource, RowsBroken}
+use Rattle.layout_rules.specs.CircuitRules.{IsNoCell, IsStrayPin, CellsBroken, RowsBroken}
 use Rattle.shape_extract.specs.Searches.{FindsAt, AreThose}
 use Rattle.shape_extract.specs.NetPins.{IsPinIn}
 use Rattle.shape_extract.specs.PinRows.{IsRowOf}

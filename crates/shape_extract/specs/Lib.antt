@@ -7,6 +7,10 @@ pub mod Cells
 pub mod Edges
 pub mod PinRows
 pub mod RowFaults
+pub mod Ports
+pub mod Passing
+pub mod LabelFaults
+pub mod LabelNames
 pub mod Searches
 pub mod NetPins
 pub mod Faults

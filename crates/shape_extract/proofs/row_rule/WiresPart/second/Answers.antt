@@ -1,4 +1,4 @@
-use Rattle.std.proofs.Common.{◌≡◌, ◌<◌, ◌∙◌, sym, ap, Some, true, false, length}
+use Rattle.std.proofs.Common.{◌≡◌, ◌<◌, ◌∙◌, sym, Some, false, length}
 use Rattle.std.specs.Prelude.{slice_get}
 use Rattle.layout_rules.specs.declared.layers.TheConstants.{OUTPUT_PIN}
 use Rattle.layout_rules.specs.Labels.{is_labelled}
