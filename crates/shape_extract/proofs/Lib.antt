@@ -1,5 +1,5 @@
-mod Valuations
 mod Each
+mod Evaluated
 mod FirstNets
 mod FirstCells
 mod FirstFacts

@@ -1,5 +1,7 @@
 pub mod Circuits
 pub mod Answers
+pub mod Valuations
+pub mod Evaluation
 pub mod Frames
 pub mod Extraction
 pub mod FirstCircuit

@@ -4,6 +4,7 @@
 mod answers;
 mod cell_rule;
 mod cells;
+mod evaluation;
 mod extraction;
 mod first_chip;
 mod label_numbers;

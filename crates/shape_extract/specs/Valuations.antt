@@ -1,6 +1,7 @@
 -- The equations of an extracted circuit are ranked by rows, so that each word has exactly one answer.
-use Rattle.std.specs.Prelude.{◌≡◌, ℕ, suc, ◌<◌, Bool, false, List, [], ◌∷◌, Option, Some, None, slice_get}
+use Rattle.std.specs.Prelude.{◌≡◌, ℕ, suc, ◌<◌, Bool, false, List, [], ◌∷◌, Option, Some, None, length, slice_get}
 use Rattle.std.proofs.Common.{refl, sym, ap, ◌∙◌, subst, arith}
+use Rattle.std.proofs.lemmas.List.{length-map}
 use Rattle.circuit.specs.Function.{value_of}
 use Rattle.circuit.specs.Ranked.{IsRanked, Solves, solution, some_solution, one_solution}
 use Rattle.rowed.specs.declared.source.Source.{Source}
@@ -105,3 +106,7 @@ module _ (circuit : CircuitView) (ok : KeepsFacts circuit) (word : List Bool) wh
   unfolding Named
   only_answer first second one two =
       one.answer_is ∙ same_values one.value two.value one.fits two.fits circuit.outputs ok.outputs ∙ sym two.answer_is
+
+-- an answer has a value for each output
+pub answer_length : (circuit : CircuitView) (word answer : List Bool) → IsAnswer circuit word answer → length answer ≡ length circuit.outputs
+answer_length circuit word answer is = ap length is.answer_is ∙ length-map circuit.outputs (λ (source : Source). is.value source.cell)
