@@ -19,3 +19,15 @@ mod LabelNumbers
 mod LabelParts
 mod RowEdges
 mod NetWalk
+mod FiveRules
+mod CornerLists
+mod FramePlaces
+mod Taken
+mod KeptPins
+mod Entries
+mod KeptFacts
+mod NetDrivers
+mod PinMarks
+mod CellFeeds
+mod CellLists
+mod OutputLists

@@ -48,7 +48,7 @@ module _ (shapes : List Shape) (kept : ReportsNone (ExcitationBroken shapes)) wh
   after_starts : ReportsNone (Afterwards (Alone (IsMisjoined shapes)) (Afterwards (Alone (IsCutOff shapes)) (Afterwards (Alone (IsNotCrossed shapes)) (Alone (IsUnexcited shapes)))))
   after_starts = second_kept _ _ after_even
 
-  excited_each : (f : ℕ) → IsUnexcited shapes f → ⊥
+  pub excited_each : (f : ℕ) → IsUnexcited shapes f → ⊥
   excited_each = alone_kept (IsUnexcited shapes) (second_kept _ _ (second_kept _ _ (second_kept _ _ after_starts)))
 
   is_part : (i : ℕ) (s : Shape) → slice_get shapes i ≡ Some s → is_line s ≡ true → s.datatype ≤ 2

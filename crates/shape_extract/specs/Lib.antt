@@ -17,3 +17,9 @@ pub mod Searches
 pub mod NetPins
 pub mod Faults
 pub mod Walk
+pub mod Extracts
+pub mod Corners
+pub mod PinNames
+pub mod Drivers
+pub mod Tables
+pub mod OutputPins

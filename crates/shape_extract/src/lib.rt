@@ -2,11 +2,17 @@
 #![tactic(auto)]
 
 mod answers;
+mod cell_feeds;
+mod cell_list;
 mod cell_rule;
 mod cells;
+mod drivers;
 mod evaluation;
+mod extracting;
 mod extraction;
+mod first_broken;
 mod first_chip;
+mod frames;
 mod label_numbers;
 mod label_rule;
 mod label_texts;
@@ -14,17 +20,21 @@ mod labels;
 mod marking;
 mod net_rule;
 mod net_walk;
+mod outputs;
 mod pin_frames;
+mod pin_names;
 mod pin_rows;
 mod ports;
 mod row_edges;
 mod row_rule;
 mod search;
+mod stubs;
 mod touching;
 mod uniqueness;
 
 pub use answers::one_answer;
 pub use cells::{ExCell, Feed};
+pub use extracting::extract;
 pub use extraction::{ExtractRefusal, Extracted};
 pub use first_chip::first_chip_extracted;
 pub use layout_rules::Rule;
