@@ -7,9 +7,17 @@ mod Kept
 mod OneLine
 mod OneOrder
 mod OneCircuit
+mod LineContacts
+mod JoinedParts
+mod LineStarts
 mod Searching
 mod Marked
 mod NetPins
 mod PinFrames
 mod RowEdges
 mod NetWalk
+mod LineRoutes
+mod LineReach
+mod BarSides
+mod ExcitedEach
+mod LineTurns

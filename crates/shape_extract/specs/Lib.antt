@@ -10,3 +10,6 @@ pub mod Searches
 pub mod NetPins
 pub mod Faults
 pub mod Walk
+pub mod LineParts
+pub mod Lines
+pub mod LineWalk
