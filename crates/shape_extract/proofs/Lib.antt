@@ -7,6 +7,9 @@ mod Kept
 mod OneLine
 mod OneOrder
 mod OneCircuit
+mod LineContacts
+mod JoinedParts
+mod LineStarts
 mod Searching
 mod Marked
 mod NetPins
@@ -31,3 +34,8 @@ mod PinMarks
 mod CellFeeds
 mod CellLists
 mod OutputLists
+mod LineRoutes
+mod LineReach
+mod BarSides
+mod ExcitedEach
+mod LineTurns

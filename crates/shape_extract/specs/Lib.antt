@@ -23,3 +23,6 @@ pub mod PinNames
 pub mod Drivers
 pub mod Tables
 pub mod OutputPins
+pub mod LineParts
+pub mod Lines
+pub mod LineWalk

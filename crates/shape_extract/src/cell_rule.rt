@@ -43,7 +43,7 @@ fn is_within_in_y(inner: &Rect, outer: &Rect) -> bool
 }
 
 /// Whether the first lies within the second, edges counted.
-fn is_within(inner: &Rect, outer: &Rect) -> bool
+pub fn is_within(inner: &Rect, outer: &Rect) -> bool
     ensures { result ≡ within inner.now outer.now }
 {
     is_within_in_x(inner, outer) && is_within_in_y(inner, outer)
