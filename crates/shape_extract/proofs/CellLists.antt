@@ -1,5 +1,5 @@
 -- The cells of a circuit, made frame by frame.
-use Rattle.std.proofs.Common.{◌≡◌, ◌≢◌, ℕ, zero, suc, ◌+◌, ◌<◌, ◌≤◌, ◌^◌, inl, inr, Bool, true, false, ◌&&◌, List, [], ◌∷◌, ◌++◌, length, get_or, Some, ℤ, refl, sym, ap, subst, ◌∙◌, arith}
+use Rattle.std.proofs.Common.{◌≡◌, ◌≢◌, ℕ, zero, suc, ◌+◌, ◌<◌, ◌≤◌, ◌^◌, ◌%◌, inl, inr, Bool, true, false, ◌&&◌, List, [], ◌∷◌, ◌++◌, length, get_or, Some, ℤ, refl, sym, ap, subst, ◌∙◌, arith}
 use Rattle.std.specs.Prelude.{slice_get, slice_index, not, count_by, int_lt}
 use Rattle.std.specs.List.{AllZip}
 use Rattle.std.proofs.Math.ListN.{length-append}
@@ -23,7 +23,9 @@ use Rattle.shape_extract.specs.Circuits.{feed_at}
 use Rattle.shape_extract.specs.Edges.{IsAmong}
 use Rattle.shape_extract.specs.Frames.{AreFrames}
 use Rattle.shape_extract.specs.Extraction.{IsFeedAt, IsInPhase, IsCellFrom}
-use Rattle.shape_extract.specs.Tables.{AreTables, ArePhases, IsFrameOf, IsFeedOfInput}
+use Rattle.shape_extract.specs.Tables.{AreTables, IsFrameOf, IsFeedOfInput}
+use Rattle.shape_extract.specs.Lines.{IsExcitedAt}
+use Rattle.shape_extract.proofs.ExcitedEach.{excited_in_phase}
 use Rattle.shape_extract.proofs.Kept.{no_fault}
 use Rattle.shape_extract.proofs.RowEdges.{push_cases}
 
@@ -88,7 +90,7 @@ abbrev cell_from : CellKind → ℕ → ℕ → Feed → Feed → Feed → ExCel
 cell_from kind row phase a b d = record { kind = kind; row = row; phase = phase; feed0 = a; feed1 = b; feed2 = d }
 
 module _ (flat : Flat) (frames : List ℕ) (kind : CellKind) (f : ℕ) (of : IsFrameOf flat.shapes kind f) (row phase : ℕ) (a b d : Feed)
-    (row_is : (t : Shape) → slice_get flat.shapes f ≡ Some t → row ≡ row_of flat.shapes t.rect.y0) (excited : IsInPhase flat.shapes of.frame phase)
+    (row_is : (t : Shape) → slice_get flat.shapes f ≡ Some t → row ≡ row_of flat.shapes t.rect.y0) (phase_is : phase ≡ row % 4) (excited : IsExcitedAt flat.shapes f)
     (fed0 : IsFeedOfInput flat frames kind f 0 a) (fed1 : IsFeedOfInput flat frames kind f 1 b) (fed2 : IsFeedOfInput flat frames kind f 2 d) where
   fed_at : (i : ℕ) → i < inputs_of kind → IsFeedAt flat frames f i (feed_at (cell_from kind row phase a b d) i)
   fed_at zero lt = fed0.within lt
@@ -102,8 +104,13 @@ module _ (flat : Flat) (frames : List ℕ) (kind : CellKind) (f : ℕ) (of : IsF
   past_at (suc (suc zero)) ge = fed2.past ge
   past_at (suc (suc (suc i))) ge = refl
 
+  in_phase : IsInPhase flat.shapes of.frame phase
+  in_phase =
+      let e : row_of flat.shapes of.frame.rect.y0 % 4 ≡ phase = ap (λ (r : ℕ). r % 4) (sym (row_is of.frame of.frame_is)) ∙ sym phase_is in
+      subst (IsInPhase flat.shapes of.frame) e (excited_in_phase flat.shapes of.frame (excited of.frame of.frame_is of.frame_so))
+
   pub cell_made : IsCellFrom flat frames (cell_from kind row phase a b d) f
-  cell_made = record { frame = of.frame; frame_is = of.frame_is; kind_is = of.kind_is; row_is = row_is of.frame of.frame_is; excited = excited; feeds = fed_at; no_more = past_at }
+  cell_made = record { frame = of.frame; frame_is = of.frame_is; kind_is = of.kind_is; row_is = row_is of.frame of.frame_is; excited = in_phase; feeds = fed_at; no_more = past_at }
 
 -- ---- all cells
 

@@ -1,5 +1,5 @@
 -- The five rules of circuits in turn: the first broken one, or all kept.
-use Rattle.std.proofs.Common.{◌≡◌, ℕ, suc, ◌<◌, Option, Some, None, refl, sym, ap, subst, ◌∙◌, arith}
+use Rattle.std.proofs.Common.{◌≡◌, ℕ, suc, ◌<◌, List, Option, Some, None, refl, sym, ap, subst, ◌∙◌, arith}
 use Rattle.geom.specs.declared.shapes.Flat.{Flat}
 use Rattle.layout_rules.specs.declared.rule.Rule.{Rule}
 use Rattle.layout_rules.specs.declared.rule.Rule.TheVariants.{E1, E2, E3, E4, E5, E6, G1, G2, G3, G4, G5}
@@ -9,6 +9,8 @@ use Rattle.layout_rules.specs.Rules.{Broken, Keeps, place, first_of_geometry, Ke
 use Rattle.layout_rules.specs.RuleLaws.{KeepsBelow, KeepsBelow-none, KeepsBelow-more}
 use Rattle.shape_extract.specs.declared.search.Report.{Report}
 use Rattle.shape_extract.specs.declared.first_broken.BrokenRule.{BrokenRule}
+use Rattle.geom.specs.declared.shapes.Shape.{Shape}
+use Rattle.shape_extract.specs.Lines.{IsExcitedAt, ExcitesFrames}
 use Rattle.shape_extract.specs.Searches.{Finds}
 use Rattle.shape_extract.specs.Extracts.{BreaksCircuit, KeepsFive, FindsRule}
 
@@ -30,6 +32,11 @@ all_kept flat five limits G5 h = absurd (omega arith)
 pub found_none : (report : ℕ → ℕ → Type 0) (found : Option Report) → Finds report found → ((r : Report) → found ≡ Some r → ⊥) → ReportsNone report
 found_none report None finds none = finds
 found_none report (Some r) finds none = absurd (none r refl)
+
+-- where nothing is found, all frames are excited
+pub excites_none : (shapes : List Shape) (found : Option Report) → ExcitesFrames shapes found → ((r : Report) → found ≡ Some r → ⊥) → (f : ℕ) → IsExcitedAt shapes f
+excites_none shapes None excites none = excites
+excites_none shapes (Some r) excites none = absurd (none r refl)
 
 abbrev told : Rule → Report → BrokenRule
 told rule r = record { rule = rule; first = r.first; second = r.second }

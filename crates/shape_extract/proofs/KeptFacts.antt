@@ -56,7 +56,7 @@ beside R (x ∷ xs) [] all k lt = absurd all
 beside R (x ∷ xs) (y ∷ ys) all zero lt = record { left = x; right = y; left_is = refl; right_is = refl; holds = all.0 }
 beside R (x ∷ xs) (y ∷ ys) all (suc k) lt = (let b = beside R xs ys all.1 k (omega arith) in record { left = b.left; right = b.right; left_is = b.left_is; right_is = b.right_is; holds = b.holds })
 
-zip_long : {A B : Type 0} (R : A → B → Type 0) (xs : List A) (ys : List B) → AllZip R xs ys → length xs ≡ length ys
+pub zip_long : {A B : Type 0} (R : A → B → Type 0) (xs : List A) (ys : List B) → AllZip R xs ys → length xs ≡ length ys
 zip_long R [] [] all = refl
 zip_long R [] (y ∷ ys) all = absurd all
 zip_long R (x ∷ xs) [] all = absurd all

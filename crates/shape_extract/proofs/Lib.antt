@@ -39,3 +39,4 @@ mod LineReach
 mod BarSides
 mod ExcitedEach
 mod LineTurns
+mod Assembled

@@ -1,5 +1,5 @@
 -- The outputs of a circuit, written pin by pin.
-use Rattle.std.proofs.Common.{◌≡◌, ◌≢◌, ℕ, suc, ◌+◌, ◌<◌, ◌≤◌, inl, inr, List, [], ◌∷◌, length, Some, refl, sym, ap, subst, ◌∙◌, arith}
+use Rattle.std.proofs.Common.{◌≡◌, ◌≢◌, ℕ, suc, ◌+◌, ◌<◌, ◌≤◌, inl, inr, List, [], ◌∷◌, length, Option, Some, None, refl, sym, ap, subst, ◌∙◌, arith}
 use Rattle.std.specs.Prelude.{slice_get, slice_set}
 use Rattle.std.proofs.Math.ListN.{length-set}
 use Rattle.std.proofs.lemmas.Bool.{cases_eq}
@@ -13,8 +13,8 @@ use Rattle.layout_rules.specs.Reports.{ReportsNone}
 use Rattle.layout_rules.specs.CircuitRules.{LabelsBroken}
 use Rattle.rowed.specs.declared.source.Source.{Source}
 use Rattle.shape_extract.specs.Extraction.{IsNamed, IsOutputPin, IsOutputFrom}
-use Rattle.shape_extract.specs.OutputPins.{AreOutputs}
-use Rattle.shape_extract.specs.PinNames.{IsOn, IsNameOf}
+use Rattle.shape_extract.specs.OutputPins.{ShowsOutput, AreOutputs}
+use Rattle.shape_extract.specs.PinNames.{IsOn, Names}
 use Rattle.shape_extract.proofs.Entries.{named_exit}
 use Rattle.shape_extract.proofs.FramePlaces.{read_same, read_other}
 use Rattle.shape_extract.proofs.Kept.{one_named, one_number_of}
@@ -42,6 +42,10 @@ off_layer flat kept q s is off n named = off (ap (λ (x : Shape). x.layer) (same
 
 pub none_named : (flat : Flat) (q : ℕ) → ((l : ℕ) → Marks flat l q → ⊥) → (n : ℕ) → IsNamed flat letter_o n q → ⊥
 none_named flat q none n named = none named.place named.mark
+
+pub shows_from : (flat : Flat) (q : ℕ) (found : Option ℕ) → IsOn flat OUTPUT_PIN q → Names flat q found → ShowsOutput flat q found
+shows_from flat q None on names = none_named flat q names
+shows_from flat q (Some n) on names = names.output on
 
 module _ (flat : Flat) (frames : List ℕ) (kept : ReportsNone (LabelsBroken flat)) (k : ℕ) (outputs : List Source) (below : OutputsBelow k flat frames outputs) where
   pub outputs_more : (m : ℕ) (source : Source) → IsNamed flat letter_o m k → IsOutputPin flat frames source k → OutputsBelow (k + 1) flat frames (slice_set outputs m source)

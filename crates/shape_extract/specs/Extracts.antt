@@ -11,6 +11,7 @@ use Rattle.shape_extract.specs.declared.extraction.ExtractRefusal.{ExtractRefusa
 use Rattle.shape_extract.specs.declared.extraction.ExtractRefusal.TheVariants.{Broken, Memory}
 use Rattle.shape_extract.specs.declared.first_broken.BrokenRule.{BrokenRule}
 use Rattle.shape_extract.specs.Circuits.{CircuitView}
+use Rattle.shape_extract.specs.Lines.{IsExcitedAt}
 use Rattle.shape_extract.specs.Extraction.{IsCircuitOf}
 
 -- the layout keeps the rules of circuits, whatever the limits are, and this is its circuit
@@ -28,13 +29,14 @@ abbrev pub IfBroken : ExtractRefusal → (Rule → ℕ → ℕ → Type 0) → T
 IfBroken (Broken rule first second) P = P rule first second
 IfBroken Memory P = Unit {0}
 
--- nothing breaks the rules of circuits, which read no limits
+-- nothing breaks the rules of circuits, which read no limits; so each frame is excited in the phase of its row
 pub record KeepsFive (flat : Flat) : Type 0 where
   pub cells : ReportsNone (CellsBroken flat.shapes)
   pub lines : ReportsNone (ExcitationBroken flat.shapes)
   pub nets : ReportsNone (NetsBroken flat)
   pub rows : ReportsNone (RowsBroken flat)
   pub labels : ReportsNone (LabelsBroken flat)
+  pub excited : (f : ℕ) → IsExcitedAt flat.shapes f
 
 -- the first broken rule of circuits, or none where all are kept
 abbrev pub FindsRule : Flat → Option BrokenRule → Type 0

@@ -26,3 +26,4 @@ pub mod OutputPins
 pub mod LineParts
 pub mod Lines
 pub mod LineWalk
+pub mod Parts

@@ -13,7 +13,7 @@ use Rattle.shape_extract.specs.Frames.{AreFrames}
 use Rattle.shape_extract.specs.Corners.{ArePlaces}
 use Rattle.shape_extract.specs.Drivers.{AreDrivers}
 use Rattle.shape_extract.specs.Extracts.{KeepsFive}
-use Rattle.shape_extract.specs.Extraction.{IsFeedAt, IsInPhase}
+use Rattle.shape_extract.specs.Extraction.{IsFeedAt}
 
 pub record AreTables (flat : Flat) (nets frames places drivers : List ℕ) : Type 0 where
   pub few : flat_count flat < 2 ^ 32
@@ -23,11 +23,6 @@ pub record AreTables (flat : Flat) (nets frames places drivers : List ℕ) : Typ
   pub fewer : length frames ≤ length flat.shapes
   pub places_are : ArePlaces frames places
   pub drivers_are : AreDrivers flat.shapes nets drivers
-
--- a phase for each frame, which is that of the bar over it
-pub record ArePhases (shapes : List Shape) (phases : List ℕ) : Type 0 where
-  pub long : length phases ≡ length shapes
-  pub each : (f : ℕ) (frame : Shape) → slice_get shapes f ≡ Some frame → is_frame frame ≡ true → IsInPhase shapes frame (slice_index phases f)
 
 -- f is the frame of a cell of this kind
 pub record IsFrameOf (shapes : List Shape) (kind : CellKind) (f : ℕ) : Type 0 where

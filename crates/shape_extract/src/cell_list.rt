@@ -6,7 +6,7 @@ ghost use Rattle.layout_rules.specs.Rows.{AreRows, row_of};
 ghost use Rattle.layout_rules.specs.Reports.{Passes};
 ghost use Rattle.layout_rules.specs.Layers.{is_frame};
 ghost use Rattle.shape_extract.specs.Extraction.{IsCellFrom};
-ghost use Rattle.shape_extract.specs.Tables.{AreTables, ArePhases, IsFrameOf};
+ghost use Rattle.shape_extract.specs.Tables.{AreTables, IsFrameOf};
 
 use crate::cell_feeds::{Tables, feed_at};
 use crate::cell_rule::{HoldsPin, kind_numbered};
@@ -41,31 +41,30 @@ fn row_of(tables: &Tables<'_>, edges: &[i64], f: u32) -> u32
     row_at(edges, lower_edge(frame)) as u32
 }
 
-/// The cell with this frame. The lists are for use within.
+/// The cell with this frame, which is excited in the phase of its row. The lists are for use within.
 fn cell_of(
     tables: &Tables<'_>,
     edges: &[i64],
-    phases: &[u16],
     f: u32,
     pins: &mut Vec<u32>,
     found: &mut Vec<u32>,
 ) -> Result<ExCell, Memory>
     requires tables { AreTables tables.now.flat.now tables.now.nets.now tables.now.frames.now tables.now.places.now tables.now.drivers.now }
     requires rows { AreRows tables.now.flat.now.shapes edges.now }
-    requires phases { ArePhases tables.now.flat.now.shapes phases.now }
     requires frame { Passes is_frame tables.now.flat.now.shapes f }
     ensures { IfOk result (λ cell. IsCellFrom tables.now.flat.now tables.now.frames.now cell f) }
 {
     let shapes = tables.flat.shapes.as_slice();
     let kind = kind_of(tables, f);
+    let row = row_of(tables, edges, f);
     list_partners(&HoldsPin, shapes, f, pins)?;
     let feed0 = feed_at(tables, pins.as_slice(), kind, f, 0, found)?;
     let feed1 = feed_at(tables, pins.as_slice(), kind, f, 1, found)?;
     let feed2 = feed_at(tables, pins.as_slice(), kind, f, 2, found)?;
     Ok(ExCell {
         kind,
-        row: row_of(tables, edges, f),
-        phase: phases[f as usize],
+        row,
+        phase: (row % 4) as u16,
         feed0,
         feed1,
         feed2,
@@ -77,11 +76,9 @@ pub fn cells_of(
     alloc: Global,
     tables: &Tables<'_>,
     edges: &[i64],
-    phases: &[u16],
 ) -> Result<List<ExCell>, Memory>
     requires tables { AreTables tables.now.flat.now tables.now.nets.now tables.now.frames.now tables.now.places.now tables.now.drivers.now }
     requires rows { AreRows tables.now.flat.now.shapes edges.now }
-    requires phases { ArePhases tables.now.flat.now.shapes phases.now }
     ensures { IfOk result (λ cells. AllZip (IsCellFrom tables.now.flat.now tables.now.frames.now) cells tables.now.frames.now) }
 {
     let mut pins = Vec::new(alloc);
@@ -89,7 +86,7 @@ pub fn cells_of(
     let mut cells = Vec::new(alloc);
     for frame in tables.frames {
         cells.push(cell_of(
-            tables, edges, phases, *frame, &mut pins, &mut found,
+            tables, edges, *frame, &mut pins, &mut found,
         )?)?;
     }
     Ok(List::from_vec(cells))

@@ -1,13 +1,18 @@
-// The five rules of circuits in turn.
+// The rules of circuits in turn.
 ghost use Rattle.std.specs.Prelude.{◌≡◌, ◌^◌, ◌<◌, IfOk};
 ghost use Rattle.geom.specs.FlatForm.{flat_count};
+ghost use Rattle.layout_rules.specs.CircuitRules.{CellsBroken};
 ghost use Rattle.layout_rules.specs.Nets.{AreNets};
+ghost use Rattle.layout_rules.specs.Reports.{ReportsNone};
+ghost use Rattle.layout_rules.specs.Rows.{AreRows};
 ghost use Rattle.shape_extract.specs.Extracts.{FindsRule};
+ghost use Rattle.shape_extract.specs.RowFaults.{ArePinRows};
 
-use crate::cell_rule::find_cells;
+use crate::excitation_rule::find_excitation;
+use crate::label_rule::find_labels;
 use crate::net_rule::find_nets;
+use crate::row_rule::find_rows;
 use crate::search::Report;
-use crate::stubs::{find_excitation, find_labels, find_rows};
 use aq_base::Memory;
 use geom::Flat;
 use layout_rules::Rule;
@@ -21,7 +26,8 @@ pub struct BrokenRule {
     pub second: u32,
 }
 
-fn broken(rule: Rule, report: Report) -> BrokenRule
+/// The report of this rule.
+pub fn broken(rule: Rule, report: Report) -> BrokenRule
     ensures { result ≡ record { rule = rule; first = report.first; second = report.second } }
 {
     BrokenRule {
@@ -31,26 +37,31 @@ fn broken(rule: Rule, report: Report) -> BrokenRule
     }
 }
 
-/// The first rule of circuits that is broken.
-pub fn first_broken(alloc: Global, flat: &Flat, nets: &[u32]) -> Result<Option<BrokenRule>, Memory>
+/// The first rule of circuits that is broken, where the rule of cells is kept.
+pub fn first_broken(
+    alloc: Global,
+    flat: &Flat,
+    nets: &[u32],
+    edges: &[i64],
+    rows: &[usize],
+) -> Result<Option<BrokenRule>, Memory>
     requires few { flat_count flat.now < 2 ^ 32 }
     requires nets { AreNets flat.now.shapes nets.now }
+    requires edges { AreRows flat.now.shapes edges.now }
+    requires rows { ArePinRows flat.now.shapes rows.now }
+    requires kept { ReportsNone (CellsBroken flat.now.shapes) }
     ensures { IfOk result (FindsRule flat.now) }
 {
-    let shapes = flat.shapes.as_slice();
-    if let Some(report) = find_cells(alloc, shapes)? {
-        return Ok(Some(broken(Rule::E1, report)));
-    }
-    if let Some(report) = find_excitation(alloc, shapes)? {
+    if let Some(report) = find_excitation(alloc, flat.shapes.as_slice())? {
         return Ok(Some(broken(Rule::E2, report)));
     }
     if let Some(report) = find_nets(alloc, flat, nets)? {
         return Ok(Some(broken(Rule::E3, report)));
     }
-    if let Some(report) = find_rows(alloc, flat, nets)? {
+    if let Some(report) = find_rows(alloc, flat, nets, rows)? {
         return Ok(Some(broken(Rule::E4, report)));
     }
-    if let Some(report) = find_labels(alloc, flat)? {
+    if let Some(report) = find_labels(alloc, flat, edges, rows)? {
         return Ok(Some(broken(Rule::E6, report)));
     }
     Ok(None)

@@ -2,6 +2,7 @@
 #![tactic(auto)]
 
 mod answers;
+mod assembly;
 mod cell_feeds;
 mod cell_list;
 mod cell_rule;
@@ -35,7 +36,6 @@ mod reached_parts;
 mod row_edges;
 mod row_rule;
 mod search;
-mod stubs;
 mod touching;
 mod uniqueness;
 

@@ -1,6 +1,5 @@
-use Rattle.std.proofs.Common.{◌<◌, length, arith}
+use Rattle.std.proofs.Common.{refl}
 use Rattle.layout_rules.specs.Reports.{PassTogether}
-use Rattle.std.proofs.lemmas.Option.{slice_get_within}
 use Rattle.shape_extract.specs.Cells.{holds_pin}
 use Rattle.shape_extract.specs.Searches.{AreThose}
 use Rattle.shape_extract.proofs.CellLists.{cell_made}
@@ -21,11 +20,7 @@ feed_at-requires-3-clause-pins c =
     let are : AreThose (PassTogether holds_pin c.args.tables.now.flat.now.shapes c.args.f) c.list_partners.new.found.items = rw c.as_slice-shapes.ensures at c.in_ok-list_partners.ensures in
     rw c.as_slice-3.ensures.value are
 
-pub bounds-phases-f : goal.bounds-phases-f
-bounds-phases-f c = (let within : c.args.f < length c.args.tables.now.flat.now.shapes = slice_get_within _ _ _ c.requires.frame.shape_is in omega (arith, c.requires.phases.long))
-
 pub returns : goal.returns
 returns c =
-    cell_made c.args.tables.now.flat.now c.args.tables.now.frames.now c.kind_of-kind.result c.args.f c.kind_of-kind.ensures c.row_of.result _ _ _ _ c.row_of.ensures
-    (c.requires.phases.each c.args.f c.kind_of-kind.ensures.frame c.kind_of-kind.ensures.frame_is c.kind_of-kind.ensures.frame_so)
+    cell_made c.args.tables.now.flat.now c.args.tables.now.frames.now c.kind_of-kind.result c.args.f c.kind_of-kind.ensures c.row_of-row.result _ _ _ _ c.row_of-row.ensures refl (c.requires.tables.five.excited c.args.f)
     c.in_ok-feed0.ensures c.in_ok-feed1.ensures c.in_ok-feed2.ensures
