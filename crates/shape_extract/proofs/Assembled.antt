@@ -1,5 +1,5 @@
 -- A circuit from its parts.
-use Rattle.std.proofs.Common.{◌≡◌, ℕ, ◌<◌, ◌≤◌, ◌^◌, List, length, ℤ, sym, ◌∙◌, arith}
+use Rattle.std.proofs.Common.{◌≡◌, ℕ, ◌<◌, ◌≤◌, ◌^◌, List, length, ℤ, sym, arith}
 use Rattle.std.specs.Prelude.{count_by}
 use Rattle.geom.specs.declared.shapes.Flat.{Flat}
 use Rattle.geom.specs.FlatForm.{flat_count}

@@ -1,9 +1,8 @@
 -- The feeds of cells, read from tables.
-use Rattle.std.proofs.Common.{◌≡◌, ◌≢◌, ℕ, suc, ◌+◌, ◌<◌, ◌≤◌, inl, inr, Bool, true, false, ◌&&◌, List, [], ◌∷◌, length, get_or, Some, refl, sym, ap, subst, ◌∙◌, arith, eq-eqb}
+use Rattle.std.proofs.Common.{◌≡◌, ℕ, ◌+◌, ◌<◌, ◌≤◌, inl, inr, Bool, true, false, ◌&&◌, List, length, Some, refl, sym, ap, ◌∙◌, arith, eq-eqb}
 use Rattle.std.specs.Prelude.{slice_get, slice_index, ◌==◌}
-use Rattle.std.specs.List.{list_any}
-use Rattle.std.proofs.lemmas.Bool.{cases_eq, cases_lt, and_parts, and_from, both_ways, eqb-true, or_left, or_right}
-use Rattle.std.proofs.lemmas.Option.{same_Some, slice_get_within, slice_get-get_or, get_or_from_slice_get}
+use Rattle.std.proofs.lemmas.Bool.{cases_eq, and_parts, and_from, both_ways, eqb-true, or_left, or_right}
+use Rattle.std.proofs.lemmas.Option.{same_Some, slice_get_within, get_or_from_slice_get}
 use Rattle.geom.specs.declared.shapes.Shape.{Shape}
 use Rattle.geom.specs.declared.shapes.Flat.{Flat}
 use Rattle.circuit.specs.declared.cell_kind.CellKind.{CellKind}
@@ -12,15 +11,15 @@ use Rattle.layout_rules.specs.declared.layers.TheConstants.{INPUT_PIN, OUTPUT_PI
 use Rattle.layout_rules.specs.Layers.{is_frame, is_pin}
 use Rattle.layout_rules.specs.Reports.{Passes, PassTogether}
 use Rattle.layout_rules.specs.PlaceLaws.{list_any-place}
-use Rattle.layout_rules.specs.Pins.{lies_in, LiesIn, IsPinOf}
-use Rattle.layout_rules.specs.Labels.{letter_i, marks, Marks, is_labelled}
+use Rattle.layout_rules.specs.Pins.{LiesIn, IsPinOf}
+use Rattle.layout_rules.specs.Labels.{marks, Marks, is_labelled}
 use Rattle.layout_rules.specs.CircuitRules.{IsInput}
 use Rattle.rowed.specs.declared.source.Source.{Source}
 use Rattle.shape_extract.specs.declared.cells.Feed.{Feed}
 use Rattle.shape_extract.specs.declared.cells.Feed.TheVariants.{Nothing, Pin}
 use Rattle.shape_extract.specs.Cells.{holds_pin, is_marked}
 use Rattle.shape_extract.specs.Drivers.{IsOnlySource}
-use Rattle.shape_extract.specs.Extraction.{IsOutputPin, IsDrivenBy, FeedsPin, IsFeedAt}
+use Rattle.shape_extract.specs.Extraction.{IsOutputPin, FeedsPin}
 use Rattle.shape_extract.specs.PinNames.{IsOn}
 use Rattle.shape_extract.specs.Searches.{AreThose}
 use Rattle.shape_extract.specs.Tables.{AreTables, IsFrameOf, IsFeedOfInput}

@@ -1,11 +1,10 @@
 -- The cells of a circuit, made frame by frame.
-use Rattle.std.proofs.Common.{◌≡◌, ◌≢◌, ℕ, zero, suc, ◌+◌, ◌<◌, ◌≤◌, ◌^◌, ◌%◌, inl, inr, Bool, true, false, ◌&&◌, List, [], ◌∷◌, ◌++◌, length, get_or, Some, ℤ, refl, sym, ap, subst, ◌∙◌, arith}
-use Rattle.std.specs.Prelude.{slice_get, slice_index, not, count_by, int_lt}
+use Rattle.std.proofs.Common.{◌≡◌, ℕ, zero, suc, ◌+◌, ◌<◌, ◌≤◌, ◌%◌, inl, inr, Bool, true, false, ◌&&◌, List, [], ◌∷◌, ◌++◌, length, Some, ℤ, refl, sym, ap, subst, ◌∙◌, arith}
+use Rattle.std.specs.Prelude.{slice_get, slice_index, not, int_lt}
 use Rattle.std.specs.List.{AllZip}
 use Rattle.std.proofs.Math.ListN.{length-append}
-use Rattle.std.proofs.lemmas.Bool.{cases_eq, cases_lt, both_ways}
 use Rattle.std.proofs.lemmas.List.Sums.{count_by-le-length}
-use Rattle.std.proofs.lemmas.Option.{same_Some, slice_get_within, slice_get-get_or, get_or_from_slice_get}
+use Rattle.std.proofs.lemmas.Option.{same_Some, slice_get-get_or, get_or_from_slice_get}
 use Rattle.geom.specs.declared.shapes.Shape.{Shape}
 use Rattle.geom.specs.declared.shapes.Flat.{Flat}
 use Rattle.circuit.specs.declared.cell_kind.CellKind.{CellKind}
@@ -13,7 +12,7 @@ use Rattle.circuit.specs.declared.cell_kind.CellKind.TheVariants.{Buffer, Invert
 use Rattle.circuit.specs.CellKinds.{number_of, inputs_of}
 use Rattle.layout_rules.specs.Layers.{is_frame}
 use Rattle.layout_rules.specs.Reports.{ReportsNone, Passes}
-use Rattle.layout_rules.specs.Rows.{has_edge, lower_edges, row_of, row_count, AreRows}
+use Rattle.layout_rules.specs.Rows.{has_edge, lower_edges, row_of, AreRows}
 use Rattle.layout_rules.specs.RowLaws.{row_of-certified}
 use Rattle.layout_rules.specs.CircuitRules.{CellsBroken}
 use Rattle.shape_extract.specs.declared.cells.Feed.{Feed}
@@ -23,7 +22,7 @@ use Rattle.shape_extract.specs.Circuits.{feed_at}
 use Rattle.shape_extract.specs.Edges.{IsAmong}
 use Rattle.shape_extract.specs.Frames.{AreFrames}
 use Rattle.shape_extract.specs.Extraction.{IsFeedAt, IsInPhase, IsCellFrom}
-use Rattle.shape_extract.specs.Tables.{AreTables, IsFrameOf, IsFeedOfInput}
+use Rattle.shape_extract.specs.Tables.{IsFrameOf, IsFeedOfInput}
 use Rattle.shape_extract.specs.Lines.{IsExcitedAt}
 use Rattle.shape_extract.proofs.ExcitedEach.{excited_in_phase}
 use Rattle.shape_extract.proofs.Kept.{no_fault}

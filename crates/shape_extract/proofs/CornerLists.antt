@@ -1,6 +1,6 @@
 -- The corners of the frames, read, sorted and numbered, are the frames in the order of cells.
-use Rattle.std.proofs.Common.{◌≡◌, ◌≢◌, ℕ, zero, suc, ◌+◌, ◌<◌, ◌≤◌, ◌⊎◌, inl, inr, Bool, true, false, List, [], ◌∷◌, ◌++◌, length, get_or, Option, Some, None, option_map, refl, sym, ap, subst, ◌∙◌, arith, eq-eqb, ℤ}
-use Rattle.std.specs.Prelude.{slice_get, map, count_by, ◌==◌, ◌&&◌, ◌||◌, nat_lt, int_lt, IsPermutation, IsSorted, Contains}
+use Rattle.std.proofs.Common.{◌≡◌, ◌≢◌, ℕ, suc, ◌+◌, ◌<◌, ◌≤◌, inl, inr, Bool, true, false, List, [], ◌∷◌, ◌++◌, length, get_or, Option, Some, None, option_map, refl, sym, ap, subst, ◌∙◌, arith, eq-eqb, ℤ}
+use Rattle.std.specs.Prelude.{slice_get, count_by, ◌==◌, ◌&&◌, ◌||◌, nat_lt, int_lt, IsPermutation, IsSorted, Contains}
 use Rattle.std.specs.declared.cmp.Ordering.{Ordering}
 use Rattle.std.specs.Ordering.{int_cmp, nat_cmp, int_eq, is_lt, ordering_then}
 use Rattle.std.specs.Cmp.{IsTotalOrder}

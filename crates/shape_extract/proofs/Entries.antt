@@ -1,5 +1,5 @@
 -- Each number below how many ports of a side there are names one of these ports.
-use Rattle.std.proofs.Common.{◌≡◌, ℕ, suc, ◌<◌, inl, inr, Bool, true, false, ◌&&◌, List, [], ◌∷◌, Some, refl, sym, ap, subst, ◌∙◌, arith}
+use Rattle.std.proofs.Common.{◌≡◌, ℕ, suc, ◌<◌, inl, inr, Bool, true, false, List, [], ◌∷◌, Some, refl, sym, ap, subst, ◌∙◌}
 use Rattle.std.specs.Prelude.{slice_get, ◌==◌}
 use Rattle.std.specs.List.{list_any}
 use Rattle.std.proofs.lemmas.Bool.{and_parts, or_cases, or_left, or_right, both_ways, eqb-true}
@@ -8,14 +8,14 @@ use Rattle.geom.specs.declared.shapes.Label.{Label}
 use Rattle.geom.specs.declared.shapes.Flat.{Flat}
 use Rattle.layout_rules.specs.declared.layers.TheConstants.{INPUT_PIN, OUTPUT_PIN}
 use Rattle.layout_rules.specs.Reports.{ReportsNone}
-use Rattle.layout_rules.specs.PlaceLaws.{PassesAt, list_any-at}
+use Rattle.layout_rules.specs.PlaceLaws.{list_any-at}
 use Rattle.layout_rules.specs.Pins.{stands_in, is_entry, is_exit, entry_count, exit_count}
 use Rattle.layout_rules.specs.Labels.{letter_i, letter_o, marks, Marks, number_of_label}
 use Rattle.layout_rules.specs.CircuitRules.{LabelsBroken}
 use Rattle.shape_extract.specs.Extraction.{IsNamed}
 use Rattle.shape_extract.proofs.Kept.{one_named}
 use Rattle.shape_extract.proofs.KeptPins.{input_named, output_named, entry_number, exit_number, label_of_port}
-use Rattle.shape_extract.proofs.Taken.{HasNumber, HaveOwn, taken}
+use Rattle.shape_extract.proofs.Taken.{taken}
 
 -- the number of the first label that marks the pin
 abbrev first_number : List Label → Shape → ℕ

@@ -1,40 +1,36 @@
 -- The circuit of a layout that keeps the rules of circuits keeps the facts of extracted circuits.
-use Rattle.std.proofs.Common.{◌≡◌, ◌≢◌, ◌↔◌, ℕ, zero, suc, ◌+◌, ◌-◌, ◌%◌, ◌^◌, ◌<◌, ◌≤◌, ◌⊎◌, inl, inr, Bool, true, false, ◌&&◌, ◌||◌, List, [], ◌∷◌, length, get_or, Some, ℤ, refl, sym, ap, subst, ◌∙◌, arith, eq-eqb}
+use Rattle.std.proofs.Common.{◌≡◌, ◌≢◌, ℕ, zero, suc, ◌+◌, ◌-◌, ◌%◌, ◌^◌, ◌<◌, ◌≤◌, inl, inr, true, ◌&&◌, List, [], ◌∷◌, length, get_or, Some, ℤ, refl, sym, ap, subst, ◌∙◌, arith, eq-eqb}
 use Rattle.std.specs.Prelude.{slice_get, count_by, ◌==◌, int_lt}
 use Rattle.std.specs.Ordering.{int_eq}
-use Rattle.std.specs.List.{AllZip, list_any}
+use Rattle.std.specs.List.{AllZip}
 use Rattle.std.specs.List.Sorted.{IsNonDecreasingBy}
-use Rattle.std.proofs.lemmas.Bool.{cases_eq, cases_lt, and_parts, and_from, or_cases, or_left, or_right, both_ways, eqb-true}
+use Rattle.std.proofs.lemmas.Bool.{cases_eq, cases_lt, and_parts, and_from, or_cases, or_left, or_right}
 use Rattle.std.proofs.lemmas.List.Sums.{count_by-le-length}
 use Rattle.std.proofs.lemmas.Option.{same_Some, slice_get_within, slice_get-get_or}
 use Rattle.geom.specs.declared.shapes.Shape.{Shape}
-use Rattle.geom.specs.declared.shapes.Label.{Label}
 use Rattle.geom.specs.declared.shapes.Flat.{Flat}
 use Rattle.circuit.specs.declared.cell_kind.CellKind.{CellKind}
-use Rattle.circuit.specs.CellKinds.{number_of, inputs_of, outputs_of}
+use Rattle.circuit.specs.CellKinds.{inputs_of, outputs_of}
 use Rattle.layout_rules.specs.declared.layers.TheConstants.{INPUT_PIN, OUTPUT_PIN}
 use Rattle.layout_rules.specs.Layers.{is_frame, is_pin}
 use Rattle.layout_rules.specs.NetLaws.{Joined-trans, Joined-back}
 use Rattle.layout_rules.specs.Touch.{Joined}
-use Rattle.layout_rules.specs.Reports.{ReportsNone, Alone, Otherwise, Passes}
-use Rattle.layout_rules.specs.PlaceLaws.{list_any-at}
 use Rattle.layout_rules.specs.Rows.{row_of, row_count, AreRows}
 use Rattle.layout_rules.specs.RowLaws.{row_of-certified, row_count-certified}
-use Rattle.layout_rules.specs.Pins.{lies_in, LiesIn, IsPinOf, stands_in, is_entry, is_exit, entry_count, exit_count}
-use Rattle.layout_rules.specs.Labels.{letter_i, letter_o, marks, Marks, is_labelled, number_of_label}
-use Rattle.layout_rules.specs.CircuitRules.{HasNoFrame, CellsBroken, HasRival, NetsBroken, RowsBroken, is_port}
-use Rattle.layout_rules.specs.ExcitationRule.{IsExcited}
+use Rattle.layout_rules.specs.Pins.{lies_in, LiesIn, IsPinOf, stands_in, is_entry, is_exit, exit_count}
+use Rattle.layout_rules.specs.Labels.{letter_i, letter_o, number_of_label}
+use Rattle.layout_rules.specs.CircuitRules.{HasNoFrame}
 use Rattle.rowed.specs.declared.source.Source.{Source}
 use Rattle.shape_extract.specs.declared.cells.Feed.{Feed}
 use Rattle.shape_extract.specs.declared.cells.Feed.TheVariants.{Nothing, Pin, Label as Word}
 use Rattle.shape_extract.specs.declared.cells.ExCell.{ExCell}
 use Rattle.shape_extract.specs.Circuits.{CircuitView, IsCellAt, feed_at, IsFed, IsOutputBelow, IsFeedOf, IsCellOf, HasCell, IsTaken, IsShown, KeepsFacts}
-use Rattle.shape_extract.specs.Frames.{comes_before, HasPlace, AreFrames}
-use Rattle.shape_extract.specs.Extraction.{IsNamed, IsOutputPin, IsDrivenBy, FeedsPin, IsFeedAt, IsInPhase, IsCellFrom, IsOutputFrom, IsCircuitOf}
+use Rattle.shape_extract.specs.Frames.{comes_before}
+use Rattle.shape_extract.specs.Extraction.{IsNamed, IsOutputPin, IsDrivenBy, FeedsPin, IsFeedAt, IsCellFrom, IsCircuitOf}
 use Rattle.shape_extract.specs.Extracts.{KeepsFive}
 use Rattle.shape_extract.proofs.Each.{item_at}
-use Rattle.shape_extract.proofs.Kept.{first_kept, settled, alone_kept, one_input, one_frame, one_named, one_number_of}
-use Rattle.shape_extract.proofs.KeptPins.{input_number, output_number, one_output, some_output, input_named, output_named, named_input, entry_number, exit_number, entry_named, exit_named, label_of_port, frame_in_row, row_stands}
+use Rattle.shape_extract.proofs.Kept.{first_kept, settled, one_input, one_frame, one_named, one_number_of}
+use Rattle.shape_extract.proofs.KeptPins.{input_number, output_number, one_output, some_output, output_named, named_input, entry_number, exit_number, entry_named, exit_named, label_of_port, frame_in_row, row_stands}
 use Rattle.shape_extract.proofs.OneLine.{one_phase, excited_each}
 use Rattle.shape_extract.proofs.OneOrder.{one_place}
 use Rattle.shape_extract.proofs.OneCircuit.{one_source, no_label}
@@ -266,11 +262,12 @@ module _ (flat : Flat) (five : KeepsFive flat) (edges : List ℤ) (rows : AreRow
     row_is = row_below c at;
     phase_is = phase_of_row c at;
     feeds = λ i. (
-        λ none. elim (cases_lt i (inputs_of at.cell.kind)) [
-          | inl lt ↦ absurd (no_feed c i at (feed_at at.cell i) none (at.from.feeds i lt))
-          | inr ge ↦ ge
-        ],
-        λ ge. at.from.no_more i ge);
+      λ none. elim (cases_lt i (inputs_of at.cell.kind)) [
+        | inl lt ↦ absurd (no_feed c i at (feed_at at.cell i) none (at.from.feeds i lt))
+        | inr ge ↦ ge
+      ],
+      λ ge. at.from.no_more i ge,
+    );
     each_feed = λ i. elim (cases_lt i (inputs_of at.cell.kind)) [
       | inl lt ↦ feed_of c i at (feed_at at.cell i) (at.from.feeds i lt)
       | inr ge ↦ subst (IsFeedOf circuit at.cell.row) (sym (at.from.no_more i ge)) tt

@@ -1,5 +1,5 @@
 -- The outputs of a circuit, written pin by pin.
-use Rattle.std.proofs.Common.{◌≡◌, ◌≢◌, ℕ, suc, ◌+◌, ◌<◌, ◌≤◌, inl, inr, List, [], ◌∷◌, length, Option, Some, None, refl, sym, ap, subst, ◌∙◌, arith}
+use Rattle.std.proofs.Common.{◌≡◌, ◌≢◌, ℕ, ◌+◌, ◌<◌, ◌≤◌, inl, inr, List, length, Option, Some, None, sym, ap, subst, ◌∙◌, arith}
 use Rattle.std.specs.Prelude.{slice_get, slice_set}
 use Rattle.std.proofs.Math.ListN.{length-set}
 use Rattle.std.proofs.lemmas.Bool.{cases_eq}
@@ -12,7 +12,7 @@ use Rattle.layout_rules.specs.Pins.{exit_count}
 use Rattle.layout_rules.specs.Reports.{ReportsNone}
 use Rattle.layout_rules.specs.CircuitRules.{LabelsBroken}
 use Rattle.rowed.specs.declared.source.Source.{Source}
-use Rattle.shape_extract.specs.Extraction.{IsNamed, IsOutputPin, IsOutputFrom}
+use Rattle.shape_extract.specs.Extraction.{IsNamed, IsOutputPin}
 use Rattle.shape_extract.specs.OutputPins.{ShowsOutput, AreOutputs}
 use Rattle.shape_extract.specs.PinNames.{IsOn, Names}
 use Rattle.shape_extract.proofs.Entries.{named_exit}

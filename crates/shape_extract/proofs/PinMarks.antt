@@ -1,21 +1,16 @@
 -- The label of a pin, looked for label by label.
-use Rattle.std.proofs.Common.{◌≡◌, ◌≢◌, ℕ, suc, ◌+◌, ◌<◌, ◌≤◌, ◌^◌, inl, inr, Bool, true, false, List, [], ◌∷◌, length, get_or, Some, refl, sym, ap, subst, ◌∙◌, arith}
-use Rattle.std.specs.Prelude.{slice_get, count_by}
-use Rattle.std.proofs.lemmas.Bool.{cases_eq, cases_lt, both_ways}
-use Rattle.std.proofs.lemmas.List.Sums.{count_by-le-length}
+use Rattle.std.proofs.Common.{◌≡◌, ℕ, ◌+◌, ◌<◌, ◌≤◌, ◌^◌, inl, inr, true, false, List, length, Some, sym, ap, ◌∙◌, arith}
+use Rattle.std.specs.Prelude.{slice_get}
+use Rattle.std.proofs.lemmas.Bool.{cases_eq, both_ways}
 use Rattle.std.proofs.lemmas.Option.{same_Some, slice_get_within}
 use Rattle.geom.specs.declared.shapes.Shape.{Shape}
 use Rattle.geom.specs.declared.shapes.Label.{Label}
 use Rattle.geom.specs.declared.shapes.Flat.{Flat}
-use Rattle.layout_rules.specs.declared.layers.TheConstants.{INPUT_PIN, OUTPUT_PIN}
-use Rattle.layout_rules.specs.Layers.{is_pin}
-use Rattle.layout_rules.specs.Pins.{is_entry, is_exit, entry_count, exit_count}
-use Rattle.layout_rules.specs.Labels.{letter_i, letter_o, marks, Marks, is_decimal, tail, number_of_label}
-use Rattle.layout_rules.specs.Reports.{ReportsNone, Passes}
+use Rattle.layout_rules.specs.Labels.{marks, Marks, is_decimal, tail, number_of_label}
+use Rattle.layout_rules.specs.Reports.{ReportsNone}
 use Rattle.layout_rules.specs.CircuitRules.{LabelsBroken}
-use Rattle.shape_extract.specs.Extraction.{IsNamed}
-use Rattle.shape_extract.specs.PinNames.{IsOn, IsNameOf, Names}
-use Rattle.shape_extract.proofs.KeptPins.{decimal_marked, input_named, output_named, entry_number, exit_number, label_bound}
+use Rattle.shape_extract.specs.PinNames.{IsNameOf}
+use Rattle.shape_extract.proofs.KeptPins.{decimal_marked, input_named, output_named, label_bound}
 
 -- none of the first labels marks the pin
 abbrev pub NoneMarks : List Label → Shape → ℕ → Type 0

@@ -1,5 +1,5 @@
 -- Items that pass a test and have different numbers, all below how many pass, take each of these numbers.
-use Rattle.std.proofs.Common.{◌≡◌, ℕ, zero, suc, ◌+◌, ◌<◌, ◌≤◌, ◌⊎◌, inl, inr, Bool, true, false, cond, List, [], ◌∷◌, length, Some, eqb, refl, sym, ap, subst, ◌∙◌, arith}
+use Rattle.std.proofs.Common.{◌≡◌, ℕ, suc, ◌+◌, ◌<◌, ◌≤◌, inl, inr, Bool, true, false, cond, List, [], ◌∷◌, length, Some, eqb, refl, sym, ap, subst, ◌∙◌, arith}
 use Rattle.std.specs.Prelude.{slice_get, count_by}
 use Rattle.std.specs.List.{list_any, IsDistinct, AllByRecursion}
 use Rattle.std.proofs.lemmas.Bool.{or_cases, or_left, or_right, both_ways, false_from_ne_true, eqb-true}
@@ -58,9 +58,9 @@ module _ {X : Type 0} (test : X → Bool) (number : X → ℕ) where
   apart_from : (n : ℕ) (ms : List ℕ) → (list_any (eqb n) ms ≡ true → ⊥) → AllByRecursion (λ m. eqb n m ≡ false) ms
   apart_from n [] none = tt
   apart_from n (m ∷ ms) none = (
-      false_from_ne_true (eqb n m) (λ e. none (or_left (eqb n m) (list_any (eqb n) ms) e)),
-      apart_from n ms (λ e. none (or_right (eqb n m) (list_any (eqb n) ms) e))
-      )
+    false_from_ne_true (eqb n m) (λ e. none (or_left (eqb n m) (list_any (eqb n) ms) e)),
+    apart_from n ms (λ e. none (or_right (eqb n m) (list_any (eqb n) ms) e)),
+  )
 
   rest_own : (x : X) (xs : List X) → HaveOwn test number (x ∷ xs) → HaveOwn test number xs
   rest_own x xs own i j y z p t q u e = (let s : suc i ≡ suc j = own (suc i) (suc j) y z p t q u e in omega arith)
@@ -72,11 +72,12 @@ module _ {X : Type 0} (test : X → Bool) (number : X → ℕ) where
     where
       by_test : IsDistinct eqb (numbers_in test number xs) → (b : Bool) → test x ≡ b → IsDistinct eqb (numbers_in test number (x ∷ xs))
       by_test less true e = subst (IsDistinct eqb) (sym (numbers_yes x xs e)) (
-          apart_from (number x) (numbers_in test number xs) (λ k.
-          let has = numbers_at xs (number x) k in
-          let z : suc has.place ≡ 0 = own (suc has.place) 0 has.item x has.item_is has.passes_so refl e has.number_is in
-          omega arith),
-          less)
+        apart_from (number x) (numbers_in test number xs) (λ k.
+            let has = numbers_at xs (number x) k in
+            let z : suc has.place ≡ 0 = own (suc has.place) 0 has.item x has.item_is has.passes_so refl e has.number_is in
+            omega arith),
+        less,
+      )
       by_test less false e = subst (IsDistinct eqb) (sym (numbers_no x xs e)) less
 
   -- each number is taken

@@ -72,11 +72,7 @@ fn cell_of(
 }
 
 /// The cells in the order of their frames.
-pub fn cells_of(
-    alloc: Global,
-    tables: &Tables<'_>,
-    edges: &[i64],
-) -> Result<List<ExCell>, Memory>
+pub fn cells_of(alloc: Global, tables: &Tables<'_>, edges: &[i64]) -> Result<List<ExCell>, Memory>
     requires tables { AreTables tables.now.flat.now tables.now.nets.now tables.now.frames.now tables.now.places.now tables.now.drivers.now }
     requires rows { AreRows tables.now.flat.now.shapes edges.now }
     ensures { IfOk result (λ cells. AllZip (IsCellFrom tables.now.flat.now tables.now.frames.now) cells tables.now.frames.now) }
@@ -85,9 +81,7 @@ pub fn cells_of(
     let mut found = Vec::new(alloc);
     let mut cells = Vec::new(alloc);
     for frame in tables.frames {
-        cells.push(cell_of(
-            tables, edges, *frame, &mut pins, &mut found,
-        )?)?;
+        cells.push(cell_of(tables, edges, *frame, &mut pins, &mut found)?)?;
     }
     Ok(List::from_vec(cells))
 }

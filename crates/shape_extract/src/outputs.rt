@@ -32,11 +32,7 @@ fn output_shown(flat: &Flat, q: u32) -> Option<u32>
 }
 
 /// For each output of the circuit the output of a cell that shows it.
-pub fn outputs_of(
-    alloc: Global,
-    tables: &Tables<'_>,
-    count: usize,
-) -> Result<List<Source>, Memory>
+pub fn outputs_of(alloc: Global, tables: &Tables<'_>, count: usize) -> Result<List<Source>, Memory>
     requires tables { AreTables tables.now.flat.now tables.now.nets.now tables.now.frames.now tables.now.places.now tables.now.drivers.now }
     requires count { count ≡ exit_count tables.now.flat.now.shapes }
     ensures { IfOk result (AreOutputs tables.now.flat.now tables.now.frames.now) }

@@ -1,13 +1,7 @@
-use Rattle.std.proofs.Common.{◌≡◌, ◌∙◌, ℕ, ◌≤◌, ◌-◌, sym, ap, subst, List, length}
+use Rattle.std.proofs.Common.{◌≡◌, ◌∙◌, ℕ, ◌-◌, sym, ap, List}
 use Rattle.std.specs.Prelude.{count_by}
-use Rattle.std.specs.List.{AllZip}
-use Rattle.layout_rules.specs.Rows.{row_count}
 use Rattle.layout_rules.specs.RowLaws.{row_count-certified}
-use Rattle.layout_rules.specs.Pins.{entry_count, exit_count}
 use Rattle.shape_extract.specs.declared.ports.Port.{Port}
-use Rattle.shape_extract.specs.Extraction.{IsCellFrom}
-use Rattle.shape_extract.specs.Frames.{AreFrames}
-use Rattle.shape_extract.specs.OutputPins.{AreOutputs}
 use Rattle.shape_extract.specs.Ports.{enters, leaves, ports_of}
 use Rattle.shape_extract.proofs.PortPins.{entries_counted, exits_counted}
 use Rattle.shape_extract.proofs.assembly.parts_of.Goals as goal

@@ -1,6 +1,5 @@
-use Rattle.std.proofs.Common.{◌≡◌, ◌<◌, length, Some, ℕ}
-use Rattle.std.specs.Prelude.{slice_get, slice_index}
-use Rattle.rowed.specs.declared.source.Source.{Source}
+use Rattle.std.proofs.Common.{◌≡◌, ◌<◌, length, Some}
+use Rattle.std.specs.Prelude.{slice_get}
 use Rattle.layout_rules.specs.Pins.{LiesIn}
 use Rattle.shape_extract.proofs.Marked.{got_at}
 use Rattle.shape_extract.proofs.CellFeeds.{on_within, place_there, source_from}

@@ -1,4 +1,4 @@
-use Rattle.std.proofs.Common.{◌≡◌, arith, length}
+use Rattle.std.proofs.Common.{arith}
 use Rattle.shape_extract.proofs.CellLists.{cells_more, cells_all}
 use Rattle.shape_extract.proofs.cell_list.cells_of.Goals as goal
 

@@ -1,6 +1,6 @@
-use Rattle.std.proofs.Common.{◌≡◌, arith}
+use Rattle.std.proofs.Common.{arith}
 use Rattle.layout_rules.specs.declared.rule.Rule.TheVariants.{E1}
-use Rattle.shape_extract.specs.Extracts.{KeepsFive, BreaksCircuit}
+use Rattle.shape_extract.specs.Extracts.{KeepsFive}
 use Rattle.shape_extract.proofs.FiveRules.{all_kept, none_found, breaks, found_none, none_below}
 use Rattle.shape_extract.proofs.extracting.extract.Goals as goal
 

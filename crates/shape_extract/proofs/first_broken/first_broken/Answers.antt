@@ -1,4 +1,4 @@
-use Rattle.std.proofs.Common.{◌≡◌, ℕ, arith}
+use Rattle.std.proofs.Common.{ℕ, arith}
 use Rattle.layout_rules.specs.declared.rule.Rule.TheVariants.{E2, E3, E4, E6}
 use Rattle.layout_rules.specs.Reports.{ReportsNone}
 use Rattle.layout_rules.specs.CircuitRules.{NetsBroken, RowsBroken, LabelsBroken}

@@ -1,8 +1,8 @@
-use Rattle.std.proofs.Common.{◌≡◌, ◌∙◌, sym, ap, List, [], ◌∷◌, ◌++◌}
+use Rattle.std.proofs.Common.{◌≡◌, ◌∙◌, sym, ap, [], ◌∷◌, ◌++◌}
 use Rattle.shape_extract.specs.declared.frames.Corner.{Corner}
 use Rattle.shape_extract.specs.Corners.{corner_of}
 use Rattle.shape_extract.proofs.Marked.{got_at}
-use Rattle.shape_extract.proofs.CornerLists.{corners_none, corners_more, corners_same, corners_all}
+use Rattle.shape_extract.proofs.CornerLists.{corners_more, corners_same, corners_all}
 use Rattle.shape_extract.proofs.frames.corners.Goals as goal
 use Rattle.shape_extract.proofs.frames.corners.Goals.{then-is_frame+in_ok-push, else-is_frame}
 

@@ -1,4 +1,4 @@
-use Rattle.std.proofs.Common.{◌≡◌, ◌∙◌, sym, ap, arith}
+use Rattle.std.proofs.Common.{arith}
 use Rattle.shape_extract.proofs.FramePlaces.{frame_within, places_more, places_all}
 use Rattle.shape_extract.proofs.frames.places_of.Goals as goal
 

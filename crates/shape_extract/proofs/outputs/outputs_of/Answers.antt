@@ -1,4 +1,4 @@
-use Rattle.std.proofs.Common.{◌≡◌, ◌≤◌, ◌∙◌, length, arith, rules}
+use Rattle.std.proofs.Common.{◌≡◌, ◌≤◌, length, arith, rules}
 use Rattle.layout_rules.specs.Pins.{exit_count}
 use Rattle.shape_extract.proofs.KeptPins.{exit_number}
 use Rattle.shape_extract.proofs.OutputLists.{outputs_none, named_on, outputs_more, outputs_same, outputs_all}

@@ -1,8 +1,6 @@
-use Rattle.std.proofs.Common.{◌≡◌, ◌∙◌, ◌<◌, ◌^◌, sym, true, false, arith, length, Some, refl}
+use Rattle.std.proofs.Common.{◌≡◌, ◌∙◌, ◌<◌, ◌^◌, sym, arith, length, Some, refl}
 use Rattle.std.specs.Prelude.{slice_get}
 use Rattle.std.proofs.lemmas.Option.{slice_get_within, slice_get_read}
-use Rattle.layout_rules.specs.Labels.{marks}
-use Rattle.shape_extract.specs.PinNames.{IsNameOf}
 use Rattle.shape_extract.proofs.Marked.{got_at}
 use Rattle.shape_extract.proofs.PinMarks.{none_more, none_marks, decimal_so, below_so, name_so}
 use Rattle.shape_extract.proofs.pin_names.name_of.Goals as goal
