@@ -1,6 +1,6 @@
 -- The values of the first cells, and one more.
-use Rattle.std.proofs.Common.{◌≡◌, ℕ, zero, suc, ◌+◌, ◌<◌, ◌≤◌, Bool, true, false, List, [], ◌∷◌, ◌++◌, length, get_or, Some, refl, sym, ap, subst, ◌∙◌, arith, inl, inr}
-use Rattle.std.specs.Prelude.{slice_get, slice_index_or}
+use Rattle.std.proofs.Common.{◌≡◌, ℕ, ◌+◌, ◌<◌, ◌≤◌, Bool, false, List, [], ◌∷◌, ◌++◌, length, get_or, Some, refl, sym, ap, subst, ◌∙◌, arith, inl, inr}
+use Rattle.std.specs.Prelude.{slice_get}
 use Rattle.std.specs.List.Sorted.{IsNonDecreasingBy}
 use Rattle.std.proofs.Math.ListN.{get_or-append, length-append}
 use Rattle.std.proofs.Math.Seq.{get_or-append_seam}
@@ -10,7 +10,7 @@ use Rattle.circuit.specs.Function.{value_of}
 use Rattle.shape_extract.specs.declared.cells.Feed.{Feed}
 use Rattle.shape_extract.specs.declared.cells.Feed.TheVariants.{Nothing, Pin, Label}
 use Rattle.shape_extract.specs.declared.cells.ExCell.{ExCell}
-use Rattle.shape_extract.specs.Circuits.{CircuitView, IsCellAt, feed_at, IsFeedOf, IsOutputBelow, KeepsFacts}
+use Rattle.shape_extract.specs.Circuits.{CircuitView, feed_at, IsFeedOf, IsOutputBelow, KeepsFacts}
 use Rattle.shape_extract.specs.Answers.{feed_value, cell_value, values_at, IsAnswer}
 use Rattle.shape_extract.specs.Evaluation.{valuation, AreFedBefore, AreValues}
 

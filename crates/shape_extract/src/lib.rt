@@ -33,4 +33,6 @@ pub use rowed::Source;
 pub use uniqueness::one_circuit;
 
 #[cfg(test)]
+mod rule_tests;
+#[cfg(test)]
 mod tests;
