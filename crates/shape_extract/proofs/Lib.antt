@@ -10,6 +10,7 @@ mod OneCircuit
 mod Searching
 mod Marked
 mod NetPins
+mod NetChains
 mod PinFrames
 mod RowPins
 mod LabelTexts

@@ -15,5 +15,6 @@ pub mod LabelFaults
 pub mod LabelNames
 pub mod Searches
 pub mod NetPins
+pub mod NetChains
 pub mod Faults
 pub mod Walk

@@ -12,6 +12,7 @@ mod label_rule;
 mod label_texts;
 mod labels;
 mod marking;
+mod net_chains;
 mod net_rule;
 mod net_walk;
 mod pin_frames;
