@@ -13,6 +13,7 @@ mod LineStarts
 mod Searching
 mod Marked
 mod NetPins
+mod NetChains
 mod PinFrames
 mod RowPins
 mod LabelTexts

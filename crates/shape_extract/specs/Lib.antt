@@ -15,6 +15,7 @@ pub mod LabelFaults
 pub mod LabelNames
 pub mod Searches
 pub mod NetPins
+pub mod NetChains
 pub mod Faults
 pub mod Walk
 pub mod Extracts

@@ -25,6 +25,7 @@ mod labels;
 mod line_parts;
 mod line_walk;
 mod marking;
+mod net_chains;
 mod net_rule;
 mod net_walk;
 mod outputs;
@@ -49,5 +50,7 @@ pub use net_walk::nets;
 pub use rowed::Source;
 pub use uniqueness::one_circuit;
 
+#[cfg(test)]
+mod rule_tests;
 #[cfg(test)]
 mod tests;

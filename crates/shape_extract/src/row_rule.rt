@@ -4,10 +4,11 @@ ghost use Rattle.layout_rules.specs.Nets.{AreNets};
 ghost use Rattle.layout_rules.specs.Reports.{ReportsNone};
 ghost use Rattle.layout_rules.specs.CircuitRules.{CellsBroken, RowsBroken};
 ghost use Rattle.shape_extract.specs.Searches.{Says, Finds};
+ghost use Rattle.shape_extract.specs.NetChains.{AreChains};
 ghost use Rattle.shape_extract.specs.RowFaults.{ArePinRows, AreRowed, FindsAstray};
 
 use crate::labels::is_labelled;
-use crate::net_rule::list_in_net;
+use crate::net_chains::{chains, list_in_net};
 use crate::search::{Part, Report, first_of};
 use aq_base::Memory;
 use geom::Flat;
@@ -39,6 +40,7 @@ fn first_astray(rows: &[usize], numbers: &[u32], row: usize) -> Option<u32>
 struct Wires<'a> {
     flat: &'a Flat,
     nets: &'a [u32],
+    next: &'a [u32],
     rows: &'a [usize],
 }
 
@@ -47,7 +49,7 @@ impl<'a> Part for Wires<'a> {
     ghost use Rattle.layout_rules.specs.Reports.{ReportsNone};
     ghost use Rattle.layout_rules.specs.CircuitRules.{CellsBroken, RowsBroken};
 
-    ghost valid = { λ s. (length s.flat.now.shapes < 2 ^ 32) × AreNets s.flat.now.shapes s.nets.now × ArePinRows s.flat.now.shapes s.rows.now × ReportsNone (CellsBroken s.flat.now.shapes) };
+    ghost valid = { λ s. (length s.flat.now.shapes < 2 ^ 32) × AreNets s.flat.now.shapes s.nets.now × ArePinRows s.flat.now.shapes s.rows.now × ReportsNone (CellsBroken s.flat.now.shapes) × AreChains s.nets.now s.next.now };
 
     ghost count = { λ s. length s.flat.now.shapes };
 
@@ -63,7 +65,7 @@ impl<'a> Part for Wires<'a> {
         if shape.layer != INPUT_PIN || is_labelled(self.flat.labels.as_slice(), shape) {
             return Ok(None);
         }
-        list_in_net(shapes, self.nets, OUTPUT_PIN, a, found)?;
+        list_in_net(shapes, self.nets, self.next, OUTPUT_PIN, a, found)?;
         let astray = first_astray(self.rows, found.as_slice(), self.rows[a as usize]);
         Ok(astray)
     }
@@ -84,5 +86,14 @@ pub fn find_rows(
     requires kept { ReportsNone (CellsBroken flat.now.shapes) }
     ensures { IfOk result (Finds (RowsBroken flat.now)) }
 {
-    first_of(alloc, &Wires { flat, nets, rows })
+    let next = chains(alloc, nets)?;
+    first_of(
+        alloc,
+        &Wires {
+            flat,
+            nets,
+            next: &next,
+            rows,
+        },
+    )
 }
