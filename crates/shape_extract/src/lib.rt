@@ -32,4 +32,6 @@ pub use rowed::Source;
 pub use uniqueness::one_circuit;
 
 #[cfg(test)]
+mod line_tests;
+#[cfg(test)]
 mod tests;
