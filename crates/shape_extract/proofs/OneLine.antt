@@ -11,31 +11,27 @@ use Rattle.layout_rules.specs.Reports.{ReportsNone, Alone, Afterwards, Passes}
 use Rattle.layout_rules.specs.ExcitationLines.{Contact, IsPart, IsChain, NeverTurnsBack, Before, phase_of, HasPhase}
 use Rattle.layout_rules.specs.ExcitationRule.{is_no_part, LacksOneStart, HasItsContacts, IsMisjoined, IsCutOff, IsNotCrossed, IsUnexcited, ExcitationBroken}
 use Rattle.shape_extract.specs.Extraction.{IsInPhase}
+use Rattle.shape_extract.specs.LineParts.{IsLeastOn}
 use Rattle.shape_extract.specs.Lines.{AreLaidOut}
 use Rattle.shape_extract.proofs.Kept.{first_kept, second_kept, alone_kept, settled}
 
--- the first shape of a layer
-record IsFirstOn (layer : ℕ) (shapes : List Shape) : Type 0 where
-  pub place : ℕ
-  pub shape : Shape
-  pub shape_is : slice_get shapes place ≡ Some shape
-  pub of_layer : shape.layer ≡ layer
-  pub least : (c : ℕ) (s : Shape) → slice_get shapes c ≡ Some s → s.layer ≡ layer → place ≤ c
-
-first_on : (layer : ℕ) (shapes : List Shape) (i : ℕ) (s : Shape) → slice_get shapes i ≡ Some s → s.layer ≡ layer → IsFirstOn layer shapes
+-- a layer that has a shape has a least one
+first_on : (layer : ℕ) (shapes : List Shape) (i : ℕ) (s : Shape) → slice_get shapes i ≡ Some s → s.layer ≡ layer → (a : ℕ) × IsLeastOn shapes layer a
 first_on layer [] i s is on = absurd cc
-first_on layer (t ∷ ts) zero s is on = record { place = 0; shape = t; shape_is = refl; of_layer = ap (λ (x : Shape). x.layer) (same_Some t s is) ∙ on; least = λ c x q r. omega arith }
+first_on layer (t ∷ ts) zero s is on = (0, record { shape = t; shape_is = refl; of_layer = ap (λ (x : Shape). x.layer) (same_Some t s is) ∙ on; least = λ c x q r. omega arith })
 first_on layer (t ∷ ts) (suc i) s is on = by_layer (first_on layer ts i s is on) (cases_eq t.layer layer)
   where
-    by_layer : IsFirstOn layer ts → (t.layer ≡ layer) ⊎ (t.layer ≢ layer) → IsFirstOn layer (t ∷ ts)
-    by_layer rest (inl e) = record { place = 0; shape = t; shape_is = refl; of_layer = e; least = λ c x q r. omega arith }
-    by_layer rest (inr ne) = record {
-      place = suc rest.place;
-      shape = rest.shape;
-      shape_is = rest.shape_is;
-      of_layer = rest.of_layer;
-      least = elim [ zero ↦ λ x q r. absurd (ne (ap (λ (y : Shape). y.layer) (same_Some t x q) ∙ r)) | suc c ↦ λ x q r. let h = rest.least c x q r in omega arith ];
-    }
+    by_layer : (a : ℕ) × IsLeastOn ts layer a → (t.layer ≡ layer) ⊎ (t.layer ≢ layer) → (a : ℕ) × IsLeastOn (t ∷ ts) layer a
+    by_layer rest (inl e) = (0, record { shape = t; shape_is = refl; of_layer = e; least = λ c x q r. omega arith })
+    by_layer rest (inr ne) = (
+      suc rest.0,
+      record {
+        shape = rest.1.shape;
+        shape_is = rest.1.shape_is;
+        of_layer = rest.1.of_layer;
+        least = elim [ zero ↦ λ x q r. absurd (ne (ap (λ (y : Shape). y.layer) (same_Some t x q) ∙ r)) | suc c ↦ λ x q r. let h = rest.1.least c x q r in omega arith ];
+      },
+    )
 
 -- ---- the parts of the rule
 
@@ -95,11 +91,11 @@ module _ (shapes : List Shape) (lines : AreLaidOut shapes) where
       lacks : (layer : ℕ) → p.shape.layer ≡ layer → s ≢ t → ((n : ℕ) → LacksOneStart shapes layer n → ⊥) → ⊥
       lacks layer on ne none =
           let first = first_on layer shapes s p.shape p.shape_is on in
-          none first.place (record {
-            shape = first.shape;
-            shape_is = first.shape_is;
-            of_layer = first.of_layer;
-            least = first.least;
+          none first.0 (record {
+            shape = first.1.shape;
+            shape_is = first.1.shape_is;
+            of_layer = first.1.of_layer;
+            least = first.1.least;
             not_one = λ one. ne (one.only s (record { start = p; of_layer = on }) ∙ sym (one.only t (record { start = q; of_layer = sym same ∙ on })));
           })
 

@@ -1,8 +1,8 @@
 -- Excitation lines as they are searched: laid out, then walked from their starts, as one traces a path; and the frames that they excite.
 use Rattle.std.specs.Prelude.{◌≡◌, ℕ, ◌<◌, ◌%◌, ◌⊎◌, ◌&&◌, Bool, true, false, List, length, slice_get, slice_index, Option, Some, None}
 use Rattle.geom.specs.declared.shapes.Shape.{Shape}
-use Rattle.layout_rules.specs.declared.layers.TheConstants.{EVEN_LINE, ODD_LINE, START}
 use Rattle.geom.specs.Rectangle.{overlap, within}
+use Rattle.layout_rules.specs.declared.layers.TheConstants.{EVEN_LINE, ODD_LINE, START}
 use Rattle.layout_rules.specs.Layers.{is_frame, is_line}
 use Rattle.layout_rules.specs.Rows.{row_of}
 use Rattle.layout_rules.specs.Reports.{ReportsNone, Alone, Passes}
@@ -40,11 +40,11 @@ pub record Excites (shapes : List Shape) (b : ℕ) (frame : Shape) : Type 0 wher
   pub phase : HasPhase shapes b (row_of shapes frame.rect.y0 % 4)
   pub contains : within frame.rect phase.is_bar.shape.rect ≡ true
 
--- each frame of this number is excited
+-- the shape of this number, if it is a frame, is excited
 abbrev pub IsExcitedAt : List Shape → ℕ → Type 0
 IsExcitedAt shapes f = (frame : Shape) → slice_get shapes f ≡ Some frame → is_frame frame ≡ true → IsExcited shapes frame
 
--- the answer says that the shape is a frame that is not excited, or else that it is excited if it is a frame
+-- the answer says that the shape of this number is a frame that is not excited; or else that it is excited, if it is a frame
 abbrev pub Judges : List Shape → ℕ → Bool → Type 0
 Judges shapes f true = IsUnexcited shapes f
 Judges shapes f false = IsExcitedAt shapes f

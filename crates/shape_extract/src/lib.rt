@@ -51,6 +51,8 @@ pub use rowed::Source;
 pub use uniqueness::one_circuit;
 
 #[cfg(test)]
+mod line_tests;
+#[cfg(test)]
 mod rule_tests;
 #[cfg(test)]
 mod tests;
