@@ -1,15 +1,8 @@
 // The first chip with something changed, and what is told of it. All is in steps of a hundred nanometres.
 ghost use Rattle.std.specs.Prelude.{◌+◌, ◌<◌, length};
 
-use crate::Rule;
-use crate::cell_rule::find_cells;
-use crate::label_rule::find_labels;
-use crate::net_rule::find_nets;
-use crate::net_walk::nets;
-use crate::pin_rows::pin_rows;
-use crate::row_edges::rows;
-use crate::row_rule::find_rows;
-use crate::search::Report;
+use crate::tests::two_buffers;
+use crate::{ExtractRefusal, Rule, extract};
 use aq_base::{List, Memory};
 use geom::{Flat, Label, Rect, Shape};
 use layout_rules::layers::{
@@ -105,27 +98,23 @@ fn chip(alloc: Global, changes: &[(usize, Drawn)], labels: &[Named]) -> Result<F
     })
 }
 
-/// The first rule but that of excitation lines that is broken, and its report.
-fn first_broken(alloc: Global, flat: &Flat) -> Result<Option<(Rule, Report)>, Memory>
+/// What breaks, and the numbers that are told.
+type Told = Option<(Rule, u32, u32)>;
+
+fn told_of(alloc: Global, flat: &Flat) -> Result<Told, Memory>
     requires { length flat.now.shapes + length flat.now.labels < 1000 }
 {
-    let shapes = flat.shapes.as_slice();
-    if let Some(report) = find_cells(alloc, shapes)? {
-        return Ok(Some((Rule::E1, report)));
+    match extract(alloc, flat) {
+        Ok(_) => Ok(None),
+        Err(
+            ExtractRefusal::Broken {
+                rule,
+                first,
+                second,
+            },
+        ) => Ok(Some((rule, first, second))),
+        Err(ExtractRefusal::Memory) => Err(Memory),
     }
-    let nets = nets(alloc, flat)?;
-    if let Some(report) = find_nets(alloc, flat, nets.as_slice())? {
-        return Ok(Some((Rule::E3, report)));
-    }
-    let edges = rows(alloc, shapes)?;
-    let rows = pin_rows(alloc, shapes, edges.as_slice())?;
-    if let Some(report) = find_rows(alloc, flat, nets.as_slice(), rows.as_slice())? {
-        return Ok(Some((Rule::E4, report)));
-    }
-    if let Some(report) = find_labels(alloc, flat, edges.as_slice(), rows.as_slice())? {
-        return Ok(Some((Rule::E6, report)));
-    }
-    Ok(None)
 }
 
 /// What is told of the first chip with these changes and labels.
@@ -134,13 +123,10 @@ fn told(
     rt: &impl Abort,
     changes: &[(usize, Drawn)],
     labels: &[Named],
-) -> Result<Option<(Rule, u32, u32)>, Memory> {
+) -> Result<Told, Memory> {
     let flat = chip(alloc, changes, labels)?;
     assert!(rt; flat.shapes.len() < 100 && flat.labels.len() < 100);
-    match first_broken(alloc, &flat)? {
-        None => Ok(None),
-        Some((rule, report)) => Ok(Some((rule, report.first, report.second))),
-    }
+    told_of(alloc, &flat)
 }
 
 const INPUT: Named = Named(30, 5, b"I0");
@@ -155,7 +141,12 @@ const SPLITTER: [(usize, Drawn); 2] = [
 
 #[test]
 fn the_first_chip_keeps_the_rules(rt: HostRuntime) -> Result<(), Fail> {
-    assert_eq!(rt; told(rt.alloc(), &rt, &[], &[INPUT, OUTPUT])?, None);
+    let flat = chip(rt.alloc(), &[], &[INPUT, OUTPUT])?;
+    assert!(rt; flat.shapes.len() < 100 && flat.labels.len() < 100);
+    match extract(rt.alloc(), &flat) {
+        Ok(circuit) => assert!(rt; circuit == two_buffers(rt.alloc())?),
+        Err(_) => assert!(rt; false, "no circuit"),
+    }
     let outputs = [INPUT, OUTPUT, Named(70, 235, b"O1")];
     assert_eq!(rt; told(rt.alloc(), &rt, &SPLITTER, &outputs)?, None);
     Ok(())
@@ -167,14 +158,7 @@ fn cells_that_are_none(rt: HostRuntime) -> Result<(), Fail> {
         shapes: List::new(rt.alloc()),
         labels: List::new(rt.alloc()),
     };
-    let no_frame = Some((
-        Rule::E1,
-        Report {
-            first: 0,
-            second: 0,
-        },
-    ));
-    assert_eq!(rt; first_broken(rt.alloc(), &empty)?, no_frame);
+    assert_eq!(rt; told_of(rt.alloc(), &empty)?, Some((Rule::E1, 0, 0)));
     let cases = [
         // a frame of no kind, of a kind with more outputs, and with an output of another number
         ((10, Drawn(FRAME, 8, [0, 140, 80, 240])), 10),

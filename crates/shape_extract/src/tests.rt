@@ -25,7 +25,7 @@ fn buffer(row: u32, feed: Feed) -> ExCell
     }
 }
 
-fn two_buffers(alloc: Global) -> Result<Extracted, Memory> {
+pub fn two_buffers(alloc: Global) -> Result<Extracted, Memory> {
     first_chip_extracted();
     let mut cells = List::new(alloc);
     cells.push(buffer(0, Feed::Label(0)))?;
