@@ -38,7 +38,7 @@ settled_true false h = absurd (h refl)
 -- ---- cells and their pins
 
 module _ (flat : Flat) (kept : ReportsNone (CellsBroken flat.shapes)) where
-  no_fault : (n : ℕ) → IsNoCell flat.shapes n ⊎ IsStrayPin flat.shapes n → ⊥
+  pub no_fault : (n : ℕ) → IsNoCell flat.shapes n ⊎ IsStrayPin flat.shapes n → ⊥
   no_fault n fault = alone_kept (λ m. IsNoCell flat.shapes m ⊎ IsStrayPin flat.shapes m) (second_kept _ _ kept) n fault
 
   frame_passes : (f layer i p : ℕ) → IsPinOf flat.shapes f layer i p → Passes is_frame flat.shapes f
@@ -62,15 +62,15 @@ module _ (flat : Flat) (kept : ReportsNone (CellsBroken flat.shapes)) where
 -- ---- labels
 
 module _ (flat : Flat) (kept : ReportsNone (LabelsBroken flat)) where
-  later_kept : ReportsNone (Afterwards (Alone (IsUnlabelledPort flat)) (Alone (IsMisnumbered flat)))
+  pub later_kept : ReportsNone (Afterwards (Alone (IsUnlabelledPort flat)) (Alone (IsMisnumbered flat)))
   later_kept = second_kept _ _ kept
 
-  abbrev label_at : (l p : ℕ) → (m : Marks flat l p) → IsLabelAt flat (length flat.shapes + l)
+  abbrev pub label_at : (l p : ℕ) → (m : Marks flat l p) → IsLabelAt flat (length flat.shapes + l)
   label_at l p m =
       let layer = (and_parts (m.label.layer == LABELS) _ (and_parts (m.label.layer == LABELS && _) _ m.marks_so).0).0 in
       record { place = l; label = m.label; label_is = m.label_is; of_layer = eqb-true m.label.layer LABELS layer; number_is = refl }
 
-  port_label : (l p : ℕ) (m : Marks flat l p) → is_port_label flat.shapes m.label ≡ true
+  pub port_label : (l p : ℕ) (m : Marks flat l p) → is_port_label flat.shapes m.label ≡ true
   port_label l p m = settled_true (is_port_label flat.shapes m.label) (λ e. alone_kept (IsNoPortLabel flat) (first_kept _ _ kept) (length flat.shapes + l) (record { at = label_at l p m; not_so = e }))
 
   -- a label marks one pin

@@ -30,7 +30,7 @@ module _ (shapes : List Shape) (layer datatype : ℕ) (numbers : List ℕ) (i : 
 
 -- ---- the numbers that pass a test
 
-place_of_count : {X : Type 0} (test : X → Bool) (xs : List X) (n : ℕ) → count_by test xs ≡ suc n → PassesAt test xs
+pub place_of_count : {X : Type 0} (test : X → Bool) (xs : List X) (n : ℕ) → count_by test xs ≡ suc n → PassesAt test xs
 place_of_count test [] n e = absurd cc
 place_of_count test (x ∷ xs) n e = by_test (λ less. place_of_count test xs n less) (test x) refl
   where

@@ -1,8 +1,8 @@
 -- Pins in the net of a shape, and what the rule of nets reports.
-use Rattle.std.proofs.Common.{◌≡◌, ◌≢◌, ℕ, ◌+◌, ◌<◌, Bool, true, false, List, length, Option, Some, None, sym, ap, subst, ◌∙◌, arith, inl, inr, eq-eqb}
-use Rattle.std.specs.Prelude.{slice_get, slice_index, ◌==◌}
+use Rattle.std.proofs.Common.{◌≡◌, ◌≢◌, ℕ, ◌+◌, ◌<◌, Bool, true, false, List, length, Option, Some, None, sym, ap, subst, ◌∙◌, arith, inl, inr}
+use Rattle.std.specs.Prelude.{slice_get, slice_index}
 use Rattle.std.proofs.lemmas.Option.{same_Some}
-use Rattle.std.proofs.lemmas.Bool.{cases_eq, cases_lt, both_ways, ne_eqb}
+use Rattle.std.proofs.lemmas.Bool.{cases_eq, cases_lt, both_ways}
 use Rattle.geom.specs.declared.shapes.Shape.{Shape}
 use Rattle.geom.specs.declared.shapes.Flat.{Flat}
 use Rattle.layout_rules.specs.declared.layers.TheConstants.{INPUT_PIN, OUTPUT_PIN}
@@ -13,7 +13,7 @@ use Rattle.layout_rules.specs.Labels.{is_labelled}
 use Rattle.layout_rules.specs.Reports.{Alone, Otherwise}
 use Rattle.layout_rules.specs.ReportLaws.{Alone-first, Alone-none, Otherwise-first, Otherwise-second, Otherwise-none}
 use Rattle.layout_rules.specs.CircuitRules.{HasRival, IsInput, IsSource, IsUndriven, IsDriven}
-use Rattle.shape_extract.specs.Searches.{Says, FindsAt, AreThose}
+use Rattle.shape_extract.specs.Searches.{FindsAt, AreThose}
 use Rattle.shape_extract.specs.NetPins.{IsPinIn, FindsOther, FindsFirst, lone_number}
 
 pub pin_in_yes : (shapes : List Shape) (nets : List ℕ) (layer a b : ℕ) (s : Shape) → AreNets shapes nets → a < length shapes → b < length shapes → slice_get shapes b ≡ Some s → s.layer ≡ layer → slice_index nets a ≡ slice_index nets b → IsPinIn shapes layer a b
@@ -135,12 +135,6 @@ otherwise_next first second a None none finds = Otherwise-none first second a no
 otherwise_next first second a (Some b) none finds = Otherwise-second first second a b none finds
 
 -- ---- what a search in a net answers
-
-pub pin_in_said : (shapes : List Shape) (nets : List ℕ) (layer a b : ℕ) (s : Shape) → AreNets shapes nets → a < length shapes → b < length shapes → slice_get shapes b ≡ Some s → s.layer ≡ layer → Says (slice_index nets a == slice_index nets b) (IsPinIn shapes layer a b)
-pin_in_said shapes nets layer a b s are la lb got of = elim (cases_eq (slice_index nets a) (slice_index nets b)) [
-  | inl e ↦ subst (λ (x : Bool). Says x (IsPinIn shapes layer a b)) (sym (eq-eqb (slice_index nets a) (slice_index nets b) e)) (pin_in_yes shapes nets layer a b s are la lb got of e)
-  | inr ne ↦ subst (λ (x : Bool). Says x (IsPinIn shapes layer a b)) (sym (ne_eqb (slice_index nets a) (slice_index nets b) ne)) (λ pin. ne (pin_in_net shapes nets layer a b are la pin))
-]
 
 pub labelled_source : (flat : Flat) (a : ℕ) (here : Shape) (found : List ℕ) (r : Option ℕ) → slice_get flat.shapes a ≡ Some here → here.layer ≡ INPUT_PIN → AreThose (IsPinIn flat.shapes OUTPUT_PIN a) found → is_labelled flat here ≡ true → FindsFirst found r
     → FindsAt (Otherwise (Alone (IsUndriven flat)) (IsDriven flat)) a r

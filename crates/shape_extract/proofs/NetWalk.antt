@@ -15,22 +15,22 @@ use Rattle.layout_rules.specs.NetLaws.{Touching-back, Touching-within, Joined-tr
 use Rattle.shape_extract.specs.Searches.{AreThose}
 use Rattle.shape_extract.specs.Walk.{AreTouching, IsWalk, IsSpreadTo, IsDone, AreMarked, IsLowest}
 
-sum_lowered : (ls : List ℕ) (i v : ℕ) → i < length ls → v < slice_index ls i → sum (set ls i v) < sum ls
+pub sum_lowered : (ls : List ℕ) (i v : ℕ) → i < length ls → v < slice_index ls i → sum (set ls i v) < sum ls
 sum_lowered ls i v lt less = omega (arith, sum_by-set (λ x. x) ls i v 0 lt)
 
-long_more : (order : List ℕ) (j : ℕ) → length (order ++ (j ∷ [])) ≡ suc (length order)
+pub long_more : (order : List ℕ) (j : ℕ) → length (order ++ (j ∷ [])) ≡ suc (length order)
 long_more order j = omega (arith, length-append order (j ∷ []))
 
-old_place : (order : List ℕ) (j p : ℕ) → p < length order → slice_index (order ++ (j ∷ [])) p ≡ slice_index order p
+pub old_place : (order : List ℕ) (j p : ℕ) → p < length order → slice_index (order ++ (j ∷ [])) p ≡ slice_index order p
 old_place order j p lt = get_or-append order (j ∷ []) 0 p lt
 
-new_place : (order : List ℕ) (j : ℕ) → slice_index (order ++ (j ∷ [])) (length order) ≡ j
+pub new_place : (order : List ℕ) (j : ℕ) → slice_index (order ++ (j ∷ [])) (length order) ≡ j
 new_place order j = get_or-append_seam order j [] 0
 
-at_set : (ls : List ℕ) (j m k : ℕ) → k ≡ j → j < length ls → slice_index (set ls j m) k ≡ m
+pub at_set : (ls : List ℕ) (j m k : ℕ) → k ≡ j → j < length ls → slice_index (set ls j m) k ≡ m
 at_set ls j m k e lt = ap (λ (x : ℕ). slice_index (set ls j m) x) e ∙ get_or-set_same ls j m 0 lt
 
-off_set : (ls : List ℕ) (j m k : ℕ) → k ≢ j → slice_index (set ls j m) k ≡ slice_index ls k
+pub off_set : (ls : List ℕ) (j m k : ℕ) → k ≢ j → slice_index (set ls j m) k ≡ slice_index ls k
 off_set ls j m k ne = get_or-set_other ls j k m 0 ne
 
 -- one more shape is labelled

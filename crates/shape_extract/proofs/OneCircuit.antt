@@ -44,7 +44,7 @@ kind_back Split2 = refl
 kind_back Split3 = refl
 kind_back Majority = refl
 
-one_kind : (k l : CellKind) → number_of k ≡ number_of l → k ≡ l
+pub one_kind : (k l : CellKind) → number_of k ≡ number_of l → k ≡ l
 one_kind k l e = sym (kind_back k) ∙ ap kind_of e ∙ kind_back l
 
 abbrev cell_from : CellKind → ℕ → ℕ → Feed → Feed → Feed → ExCell
@@ -87,7 +87,7 @@ same_list (x ∷ xs) (y ∷ ys) e h = ap (λ (v : Source). v ∷ xs) (h 0 x y re
 
 module _ (flat : Flat) (cells_kept : ReportsNone (CellsBroken flat.shapes)) (lines_kept : ReportsNone (ExcitationBroken flat.shapes)) (labels_kept : ReportsNone (LabelsBroken flat))
     (frames : List ℕ) (are : AreFrames flat.shapes frames) where
-  one_source : (s t : Source) (p q : ℕ) → p ≡ q → IsOutputPin flat frames s p → IsOutputPin flat frames t q → s ≡ t
+  pub one_source : (s t : Source) (p q : ℕ) → p ≡ q → IsOutputPin flat frames s p → IsOutputPin flat frames t q → s ≡ t
   one_source s t p q e first other =
       let second : IsOutputPin flat frames t p = subst (IsOutputPin flat frames t) (sym e) other in
       let frame : first.frame ≡ second.frame = one_frame flat cells_kept first.frame second.frame OUTPUT_PIN OUTPUT_PIN s.output t.output p first.pin second.pin in
@@ -96,7 +96,7 @@ module _ (flat : Flat) (cells_kept : ReportsNone (CellsBroken flat.shapes)) (lin
       (one_place flat.shapes frames are s.cell t.cell second.frame (first.frame_is ∙ ap Some frame) second.frame_is)
       (sym first.pin.of_number ∙ ap (λ (x : Shape). x.datatype) pin ∙ second.pin.of_number)
 
-  no_label : (p letter n : ℕ) (source : Source) → IsDrivenBy flat frames source p → IsNamed flat letter n p → ⊥
+  pub no_label : (p letter n : ℕ) (source : Source) → IsDrivenBy flat frames source p → IsNamed flat letter n p → ⊥
   no_label p letter n source driven named =
       let pin : named.mark.pin ≡ driven.input.pin = same_Some named.mark.pin driven.input.pin (sym named.mark.pin_is ∙ driven.input.pin_is) in
       let yes : is_labelled flat driven.input.pin ≡ true =

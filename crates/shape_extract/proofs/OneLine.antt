@@ -11,49 +11,34 @@ use Rattle.layout_rules.specs.Reports.{ReportsNone, Alone, Afterwards, Passes}
 use Rattle.layout_rules.specs.ExcitationLines.{Contact, IsPart, IsChain, NeverTurnsBack, Before, phase_of, HasPhase}
 use Rattle.layout_rules.specs.ExcitationRule.{is_no_part, LacksOneStart, HasItsContacts, IsMisjoined, IsCutOff, IsNotCrossed, IsUnexcited, ExcitationBroken}
 use Rattle.shape_extract.specs.Extraction.{IsInPhase}
+use Rattle.shape_extract.specs.LineParts.{IsLeastOn}
+use Rattle.shape_extract.specs.Lines.{AreLaidOut}
 use Rattle.shape_extract.proofs.Kept.{first_kept, second_kept, alone_kept, settled}
 
--- the first shape of a layer
-record IsFirstOn (layer : ℕ) (shapes : List Shape) : Type 0 where
-  pub place : ℕ
-  pub shape : Shape
-  pub shape_is : slice_get shapes place ≡ Some shape
-  pub of_layer : shape.layer ≡ layer
-  pub least : (c : ℕ) (s : Shape) → slice_get shapes c ≡ Some s → s.layer ≡ layer → place ≤ c
-
-first_on : (layer : ℕ) (shapes : List Shape) (i : ℕ) (s : Shape) → slice_get shapes i ≡ Some s → s.layer ≡ layer → IsFirstOn layer shapes
+-- a layer that has a shape has a least one
+first_on : (layer : ℕ) (shapes : List Shape) (i : ℕ) (s : Shape) → slice_get shapes i ≡ Some s → s.layer ≡ layer → (a : ℕ) × IsLeastOn shapes layer a
 first_on layer [] i s is on = absurd cc
-first_on layer (t ∷ ts) zero s is on = record { place = 0; shape = t; shape_is = refl; of_layer = ap (λ (x : Shape). x.layer) (same_Some t s is) ∙ on; least = λ c x q r. omega arith }
+first_on layer (t ∷ ts) zero s is on = (0, record { shape = t; shape_is = refl; of_layer = ap (λ (x : Shape). x.layer) (same_Some t s is) ∙ on; least = λ c x q r. omega arith })
 first_on layer (t ∷ ts) (suc i) s is on = by_layer (first_on layer ts i s is on) (cases_eq t.layer layer)
   where
-    by_layer : IsFirstOn layer ts → (t.layer ≡ layer) ⊎ (t.layer ≢ layer) → IsFirstOn layer (t ∷ ts)
-    by_layer rest (inl e) = record { place = 0; shape = t; shape_is = refl; of_layer = e; least = λ c x q r. omega arith }
-    by_layer rest (inr ne) = record {
-      place = suc rest.place;
-      shape = rest.shape;
-      shape_is = rest.shape_is;
-      of_layer = rest.of_layer;
-      least = elim [ zero ↦ λ x q r. absurd (ne (ap (λ (y : Shape). y.layer) (same_Some t x q) ∙ r)) | suc c ↦ λ x q r. let h = rest.least c x q r in omega arith ];
-    }
+    by_layer : (a : ℕ) × IsLeastOn ts layer a → (t.layer ≡ layer) ⊎ (t.layer ≢ layer) → (a : ℕ) × IsLeastOn (t ∷ ts) layer a
+    by_layer rest (inl e) = (0, record { shape = t; shape_is = refl; of_layer = e; least = λ c x q r. omega arith })
+    by_layer rest (inr ne) = (
+      suc rest.0,
+      record {
+        shape = rest.1.shape;
+        shape_is = rest.1.shape_is;
+        of_layer = rest.1.of_layer;
+        least = elim [ zero ↦ λ x q r. absurd (ne (ap (λ (y : Shape). y.layer) (same_Some t x q) ∙ r)) | suc c ↦ λ x q r. let h = rest.1.least c x q r in omega arith ];
+      },
+    )
 
 -- ---- the parts of the rule
 
-module _ (shapes : List Shape) (kept : ReportsNone (ExcitationBroken shapes)) where
-  after_parts : ReportsNone (Afterwards (Alone (LacksOneStart shapes EVEN_LINE)) (Afterwards (Alone (LacksOneStart shapes ODD_LINE)) (Afterwards (Alone (IsMisjoined shapes)) (Afterwards (Alone (IsCutOff shapes)) (Afterwards (Alone (IsNotCrossed shapes)) (Alone (IsUnexcited shapes)))))))
-  after_parts = second_kept _ _ kept
-
-  after_even : ReportsNone (Afterwards (Alone (LacksOneStart shapes ODD_LINE)) (Afterwards (Alone (IsMisjoined shapes)) (Afterwards (Alone (IsCutOff shapes)) (Afterwards (Alone (IsNotCrossed shapes)) (Alone (IsUnexcited shapes))))))
-  after_even = second_kept _ _ after_parts
-
-  after_starts : ReportsNone (Afterwards (Alone (IsMisjoined shapes)) (Afterwards (Alone (IsCutOff shapes)) (Afterwards (Alone (IsNotCrossed shapes)) (Alone (IsUnexcited shapes)))))
-  after_starts = second_kept _ _ after_even
-
-  excited_each : (f : ℕ) → IsUnexcited shapes f → ⊥
-  excited_each = alone_kept (IsUnexcited shapes) (second_kept _ _ (second_kept _ _ (second_kept _ _ after_starts)))
-
+module _ (shapes : List Shape) (lines : AreLaidOut shapes) where
   is_part : (i : ℕ) (s : Shape) → slice_get shapes i ≡ Some s → is_line s ≡ true → s.datatype ≤ 2
   is_part i s is line = elim (cases_lt 2 s.datatype) [
-    | inl lt ↦ absurd (alone_kept (Passes is_no_part shapes) (first_kept _ _ kept) i (record { shape = s; shape_is = is; passes_so = and_from (is_line s) (nat_lt START s.datatype) line (lt-ltb 2 s.datatype lt) }))
+    | inl lt ↦ absurd (alone_kept (Passes is_no_part shapes) lines.parts i (record { shape = s; shape_is = is; passes_so = and_from (is_line s) (nat_lt START s.datatype) line (lt-ltb 2 s.datatype lt) }))
     | inr le ↦ le
   ]
 
@@ -64,7 +49,7 @@ module _ (shapes : List Shape) (kept : ReportsNone (ExcitationBroken shapes)) wh
   contact_layer v a c = eqb-true c.first.layer c.second.layer (and_parts (is_line c.first) (c.first.layer == c.second.layer) (and_parts (is_line c.first && c.first.layer == c.second.layer) _ c.meet_so).0).1
 
   its_contacts : (v a : ℕ) → Contact shapes v a → (HasItsContacts shapes v → ⊥) → ⊥
-  its_contacts v a c not_so = alone_kept (IsMisjoined shapes) (first_kept _ _ after_starts) v (record { part = record { shape = c.first; shape_is = c.first_is; passes_so = contact_line v a c }; not_so = not_so })
+  its_contacts v a c not_so = alone_kept (IsMisjoined shapes) lines.contacts v (record { part = record { shape = c.first; shape_is = c.first_is; passes_so = contact_line v a c }; not_so = not_so })
 
   part_of : (v a datatype : ℕ) (c : Contact shapes v a) → c.first.datatype ≡ datatype → IsPart shapes datatype v
   part_of v a datatype c e = record { shape = c.first; shape_is = c.first_is; line_so = contact_line v a c; datatype_is = e }
@@ -99,18 +84,18 @@ module _ (shapes : List Shape) (kept : ReportsNone (ExcitationBroken shapes)) wh
   one_start : (s t : ℕ) (p : IsPart shapes START s) (q : IsPart shapes START t) → p.shape.layer ≡ q.shape.layer → s ≡ t
   one_start s t p q same = settled s t (λ ne.
       elim (or_cases (p.shape.layer == EVEN_LINE) (p.shape.layer == ODD_LINE) p.line_so) [
-        | inl even ↦ lacks EVEN_LINE (eqb-true p.shape.layer EVEN_LINE even) ne (alone_kept (LacksOneStart shapes EVEN_LINE) (first_kept _ _ after_parts))
-        | inr odd ↦ lacks ODD_LINE (eqb-true p.shape.layer ODD_LINE odd) ne (alone_kept (LacksOneStart shapes ODD_LINE) (first_kept _ _ after_even))
+        | inl even ↦ lacks EVEN_LINE (eqb-true p.shape.layer EVEN_LINE even) ne (alone_kept (LacksOneStart shapes EVEN_LINE) lines.even)
+        | inr odd ↦ lacks ODD_LINE (eqb-true p.shape.layer ODD_LINE odd) ne (alone_kept (LacksOneStart shapes ODD_LINE) lines.odd)
       ])
     where
       lacks : (layer : ℕ) → p.shape.layer ≡ layer → s ≢ t → ((n : ℕ) → LacksOneStart shapes layer n → ⊥) → ⊥
       lacks layer on ne none =
           let first = first_on layer shapes s p.shape p.shape_is on in
-          none first.place (record {
-            shape = first.shape;
-            shape_is = first.shape_is;
-            of_layer = first.of_layer;
-            least = first.least;
+          none first.0 (record {
+            shape = first.1.shape;
+            shape_is = first.1.shape_is;
+            of_layer = first.1.of_layer;
+            least = first.1.least;
             not_one = λ one. ne (one.only s (record { start = p; of_layer = on }) ∙ sym (one.only t (record { start = q; of_layer = sym same ∙ on })));
           })
 
@@ -236,6 +221,22 @@ module _ (shapes : List Shape) (kept : ReportsNone (ExcitationBroken shapes)) wh
       let bar : first.is_bar.shape ≡ second.is_bar.shape = same_Some first.is_bar.shape second.is_bar.shape (sym first.is_bar.shape_is ∙ second.is_bar.shape_is) in
       sym first.phase_is ∙ ap (λ (x : Shape). phase_of x first.is_bar.shape) shape ∙ ap (λ (x : Shape). phase_of second.before_shape x) bar ∙ second.phase_is
 
+module _ (shapes : List Shape) (kept : ReportsNone (ExcitationBroken shapes)) where
+  after_parts : ReportsNone (Afterwards (Alone (LacksOneStart shapes EVEN_LINE)) (Afterwards (Alone (LacksOneStart shapes ODD_LINE)) (Afterwards (Alone (IsMisjoined shapes)) (Afterwards (Alone (IsCutOff shapes)) (Afterwards (Alone (IsNotCrossed shapes)) (Alone (IsUnexcited shapes)))))))
+  after_parts = second_kept _ _ kept
+
+  after_even : ReportsNone (Afterwards (Alone (LacksOneStart shapes ODD_LINE)) (Afterwards (Alone (IsMisjoined shapes)) (Afterwards (Alone (IsCutOff shapes)) (Afterwards (Alone (IsNotCrossed shapes)) (Alone (IsUnexcited shapes))))))
+  after_even = second_kept _ _ after_parts
+
+  after_starts : ReportsNone (Afterwards (Alone (IsMisjoined shapes)) (Afterwards (Alone (IsCutOff shapes)) (Afterwards (Alone (IsNotCrossed shapes)) (Alone (IsUnexcited shapes)))))
+  after_starts = second_kept _ _ after_even
+
+  pub excited_each : (f : ℕ) → IsUnexcited shapes f → ⊥
+  excited_each = alone_kept (IsUnexcited shapes) (second_kept _ _ (second_kept _ _ (second_kept _ _ after_starts)))
+
+  laid_out : AreLaidOut shapes
+  laid_out = record { parts = first_kept _ _ kept; even = first_kept _ _ after_parts; odd = first_kept _ _ after_even; contacts = first_kept _ _ after_starts }
+
   -- a frame has one phase
   pub one_phase : (f : ℕ) (frame : Shape) (p q : ℕ) → slice_get shapes f ≡ Some frame → is_frame frame ≡ true → IsInPhase shapes frame p → IsInPhase shapes frame q → p ≡ q
   one_phase f frame p q frame_is passes first second =
@@ -245,4 +246,4 @@ module _ (shapes : List Shape) (kept : ReportsNone (ExcitationBroken shapes)) wh
             excited.only first.number first.bar.is_bar.shape first.bar.is_bar.shape_is first.bar.is_bar.line_so first.over
             ∙ sym (excited.only second.number second.bar.is_bar.shape second.bar.is_bar.shape_is second.bar.is_bar.line_so second.over));
       })) in
-      one_phase_of second.number p q (subst (λ (n : ℕ). HasPhase shapes n p) bars first.bar) second.bar
+      one_phase_of shapes laid_out second.number p q (subst (λ (n : ℕ). HasPhase shapes n p) bars first.bar) second.bar

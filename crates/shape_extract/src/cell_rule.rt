@@ -43,7 +43,7 @@ fn is_within_in_y(inner: &Rect, outer: &Rect) -> bool
 }
 
 /// Whether the first lies within the second, edges counted.
-fn is_within(inner: &Rect, outer: &Rect) -> bool
+pub fn is_within(inner: &Rect, outer: &Rect) -> bool
     ensures { result ≡ within inner.now outer.now }
 {
     is_within_in_x(inner, outer) && is_within_in_y(inner, outer)
@@ -93,7 +93,8 @@ pub fn kind_numbered(number: u16) -> Option<CellKind>
     }
 }
 
-fn is_marked(s: &Shape, layer: u16, datatype: u32) -> bool
+/// Whether the shape is on the layer and has the datatype.
+pub fn is_marked(s: &Shape, layer: u16, datatype: u32) -> bool
     ensures { result ≡ is_marked layer datatype s.now }
 {
     s.layer == layer && u32::from(s.datatype) == datatype

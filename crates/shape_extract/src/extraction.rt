@@ -1,6 +1,6 @@
 // The circuit of a layout, and why there may be none.
 use crate::cells::ExCell;
-use aq_base::List;
+use aq_base::{List, Memory};
 use layout_rules::Rule;
 use rowed::Source;
 use std::marker::Model;
@@ -52,4 +52,15 @@ pub enum ExtractRefusal {
     Broken { rule: Rule, first: u32, second: u32 },
     /// Want of memory.
     Memory,
+}
+
+impl From<Memory> for ExtractRefusal {
+    ghost use Rattle.std.specs.Prelude.{◌≡◌};
+    ghost use Rattle.shape_extract.specs.declared.extraction.ExtractRefusal.TheVariants.{Memory as NoMemory};
+
+    ghost from_gives = { λ _ refusal. refusal ≡ NoMemory };
+
+    fn from(_: Memory) -> Self {
+        ExtractRefusal::Memory
+    }
 }

@@ -13,7 +13,8 @@ fn at_most(a: i64, b: i64) -> bool
     a <= b
 }
 
-fn holds_in_x(rect: &Rect, x: i64) -> bool
+/// Whether x lies between the left and the right side of the rectangle, sides counted.
+pub fn holds_in_x(rect: &Rect, x: i64) -> bool
     ensures { result ≡ (int_le rect.now.x0 x && int_le x rect.now.x1) }
 {
     at_most(rect.x0, x) && at_most(x, rect.x1)

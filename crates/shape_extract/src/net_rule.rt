@@ -3,52 +3,18 @@ ghost use Rattle.std.specs.Prelude.{◌≡◌, ◌^◌, ◌<◌, ℕ, IfOk, leng
 ghost use Rattle.layout_rules.specs.Nets.{AreNets};
 ghost use Rattle.layout_rules.specs.Reports.{Alone, Otherwise};
 ghost use Rattle.layout_rules.specs.CircuitRules.{HasRival, IsUndriven, IsDriven, NetsBroken};
-ghost use Rattle.shape_extract.specs.Searches.{Says, Finds, FindsAt, AreThose};
-ghost use Rattle.shape_extract.specs.NetPins.{IsPinIn, FindsOther, FindsFirst, lone_number};
+ghost use Rattle.shape_extract.specs.Searches.{Finds, FindsAt};
+ghost use Rattle.shape_extract.specs.NetChains.{AreChains};
+ghost use Rattle.shape_extract.specs.NetPins.{FindsOther, FindsFirst, lone_number};
 
 use crate::labels::is_labelled;
+use crate::net_chains::{chains, list_in_net};
 use crate::search::{Part, Report, first_of};
 use crate::touching::is_pin;
 use aq_base::Memory;
 use geom::{Flat, Shape};
 use layout_rules::layers::{INPUT_PIN, OUTPUT_PIN};
 use std::alloc::Global;
-
-/// Whether the second shape is on the layer and in the net of the first.
-fn is_pin_in(shapes: &[Shape], nets: &[u32], layer: u16, a: u32, b: u32) -> bool
-    requires nets { AreNets shapes.now nets.now }
-    requires first { a < length shapes.now }
-    requires second { b < length shapes.now }
-    ensures { Says result (IsPinIn shapes.now layer a b) }
-{
-    let pin = &shapes[b as usize];
-    if pin.layer != layer {
-        return false;
-    }
-    nets[a as usize] == nets[b as usize]
-}
-
-/// Lists the shapes of a layer in the net of a shape, by trying each.
-pub fn list_in_net(
-    shapes: &[Shape],
-    nets: &[u32],
-    layer: u16,
-    a: u32,
-    found: &mut Vec<u32>,
-) -> Result<(), Memory>
-    requires nets { AreNets shapes.now nets.now }
-    requires few { length shapes.now < 2 ^ 32 }
-    requires within { a < length shapes.now }
-    ensures { IfOk result (λ _. AreThose (IsPinIn shapes.now layer a) found.new.items) }
-{
-    found.clear();
-    for b in 0..shapes.len() as u32 {
-        if is_pin_in(shapes, nets, layer, a, b) {
-            found.push(b)?;
-        }
-    }
-    Ok(())
-}
 
 /// The first of these numbers that is another than a.
 fn first_other(numbers: &[u32], a: u32) -> Option<u32>
@@ -77,10 +43,12 @@ pub fn first_number(numbers: &[u32]) -> Option<u32>
 fn rival(
     shapes: &[Shape],
     nets: &[u32],
+    next: &[u32],
     a: u32,
     found: &mut Vec<u32>,
 ) -> Result<Option<u32>, Memory>
     requires nets { AreNets shapes.now nets.now }
+    requires chains { AreChains nets.now next.now }
     requires few { length shapes.now < 2 ^ 32 }
     requires within { a < length shapes.now }
     ensures { IfOk result (FindsAt (HasRival shapes.now) a) }
@@ -89,7 +57,7 @@ fn rival(
     if !is_pin(shape) {
         return Ok(None);
     }
-    list_in_net(shapes, nets, shape.layer, a, found)?;
+    list_in_net(shapes, nets, next, shape.layer, a, found)?;
     let other = first_other(found.as_slice(), a);
     Ok(other)
 }
@@ -98,10 +66,12 @@ fn rival(
 fn source_fault(
     flat: &Flat,
     nets: &[u32],
+    next: &[u32],
     a: u32,
     found: &mut Vec<u32>,
 ) -> Result<Option<u32>, Memory>
     requires nets { AreNets flat.now.shapes nets.now }
+    requires chains { AreChains nets.now next.now }
     requires few { length flat.now.shapes < 2 ^ 32 }
     requires within { a < length flat.now.shapes }
     ensures { IfOk result (FindsAt (Otherwise (Alone (IsUndriven flat.now)) (IsDriven flat.now)) a) }
@@ -111,7 +81,7 @@ fn source_fault(
     if shape.layer != INPUT_PIN {
         return Ok(None);
     }
-    list_in_net(shapes, nets, OUTPUT_PIN, a, found)?;
+    list_in_net(shapes, nets, next, OUTPUT_PIN, a, found)?;
     let source = first_number(found.as_slice());
     if is_labelled(flat.labels.as_slice(), shape) {
         return Ok(source);
@@ -135,12 +105,13 @@ fn lone(other: Option<u32>, a: u32) -> Option<u32>
 struct Pins<'a> {
     flat: &'a Flat,
     nets: &'a [u32],
+    next: &'a [u32],
 }
 
 impl<'a> Part for Pins<'a> {
     ghost use Rattle.shape_extract.specs.Faults.{nets_within};
 
-    ghost valid = { λ s. (length s.flat.now.shapes < 2 ^ 32) × AreNets s.flat.now.shapes s.nets.now };
+    ghost valid = { λ s. (length s.flat.now.shapes < 2 ^ 32) × AreNets s.flat.now.shapes s.nets.now × AreChains s.nets.now s.next.now };
 
     ghost count = { λ s. length s.flat.now.shapes };
 
@@ -151,11 +122,11 @@ impl<'a> Part for Pins<'a> {
     }
 
     fn second(&self, a: u32, found: &mut Vec<u32>) -> Result<Option<u32>, Memory> {
-        let other = rival(self.flat.shapes.as_slice(), self.nets, a, found)?;
+        let other = rival(self.flat.shapes.as_slice(), self.nets, self.next, a, found)?;
         if let Some(b) = other {
             return Ok(Some(b));
         }
-        source_fault(self.flat, self.nets, a, found)
+        source_fault(self.flat, self.nets, self.next, a, found)
     }
 
     ghost within = { λ s a b valid h. nets_within s.flat.now a b h };
@@ -167,5 +138,13 @@ pub fn find_nets(alloc: Global, flat: &Flat, nets: &[u32]) -> Result<Option<Repo
     requires few { length flat.now.shapes < 2 ^ 32 }
     ensures { IfOk result (Finds (NetsBroken flat.now)) }
 {
-    first_of(alloc, &Pins { flat, nets })
+    let next = chains(alloc, nets)?;
+    first_of(
+        alloc,
+        &Pins {
+            flat,
+            nets,
+            next: &next,
+        },
+    )
 }

@@ -5,7 +5,7 @@ ghost use Rattle.shape_extract.specs.declared.cells.Feed.TheVariants.{Nothing};
 
 use crate::{ExCell, Extracted, Feed, Source, first_chip_extracted, nets, one_answer};
 use aq_base::{List, Memory};
-use circuit::CellKind;
+use circuit::{Answers, CellKind, answer_word};
 use geom::{Flat, Rect, Shape};
 use layout_rules::layers::{INPUT_PIN, M1, M2, OUTPUT_PIN, VIA};
 use std::alloc::Global;
@@ -25,7 +25,7 @@ fn buffer(row: u32, feed: Feed) -> ExCell
     }
 }
 
-fn two_buffers(alloc: Global) -> Result<Extracted, Memory> {
+pub fn two_buffers(alloc: Global) -> Result<Extracted, Memory> {
     first_chip_extracted();
     let mut cells = List::new(alloc);
     cells.push(buffer(0, Feed::Label(0)))?;
@@ -50,6 +50,12 @@ fn first_chip(rt: HostRuntime) -> Result<(), Fail> {
     circuit.known();
     let copy = circuit.clone()?;
     assert!(rt; circuit == copy);
+    let mut word = List::new(rt.alloc());
+    word.push(true)?;
+    assert_eq!(rt; circuit.input_count(), 1);
+    assert_eq!(rt; circuit.output_count(), 1);
+    let answer = answer_word(rt.alloc(), &circuit, &word)?;
+    assert_eq!(rt; answer.as_slice(), [true].as_slice());
     Ok(())
 }
 

@@ -1,4 +1,4 @@
-use Rattle.shape_extract.proofs.Valuations.{some_answer, only_answer}
+use Rattle.shape_extract.specs.Valuations.{some_answer, only_answer}
 use Rattle.shape_extract.proofs.answers.one_answer.Goals as goal
 
 pub returns-clause-some : goal.returns-clause-some

@@ -1,0 +1,94 @@
+-- Numbers of the items of a list that pass a test, and how many pass.
+use Rattle.std.proofs.Common.{◌≡◌, ℕ, suc, ◌+◌, ◌<◌, Bool, true, false, cond, ◌&&◌, List, [], ◌∷◌, length, get_or, Some, refl, sym, ap, subst, ◌∙◌, arith, inl, inr, eq-eqb}
+use Rattle.std.specs.Prelude.{slice_get, slice_index, count_by, ◌==◌}
+use Rattle.std.specs.List.{list_any}
+use Rattle.std.proofs.lemmas.Bool.{cases_eq, cases_lt, both_ways, and_from, and_parts, ne_eqb, false_from_ne_true}
+use Rattle.std.proofs.lemmas.List.Sums.{sum_by-cons}
+use Rattle.std.proofs.lemmas.Option.{same_Some, slice_get_within, slice_get-get_or, get_or_from_slice_get}
+use Rattle.layout_rules.specs.PlaceLaws.{PassesAt, list_any-at, list_any-place, count_by-once, count_by-one}
+use Rattle.shape_extract.specs.Searches.{Says, AreThose}
+use Rattle.shape_extract.specs.Passing.{PassesIn}
+
+pub read_at : {X : Type 0} (xs : List X) (n : ℕ) (x : X) → n < length xs → x ≡ get_or xs n x → slice_get xs n ≡ Some x
+read_at xs n x lt is = slice_get-get_or xs n x lt ∙ sym (ap Some is)
+
+pub passes_here : {X : Type 0} (test : X → Bool) (xs : List X) (n : ℕ) (x : X) → n < length xs → x ≡ get_or xs n x → test x ≡ true → PassesIn test xs n
+passes_here test xs n x lt is e = record { item = x; item_is = read_at xs n x lt is; passes_so = e }
+
+pub fails_here : {X : Type 0} (test : X → Bool) (xs : List X) (n : ℕ) (x : X) → x ≡ get_or xs n x → test x ≡ false → PassesIn test xs n → ⊥
+fails_here test xs n x is e pass =
+    let same : x ≡ pass.item = is ∙ get_or_from_slice_get xs n pass.item x pass.item_is in
+    both_ways (test x) e (ap test same ∙ pass.passes_so)
+
+pub passes_within : {X : Type 0} (test : X → Bool) (xs : List X) (n : ℕ) → PassesIn test xs n → n < length xs
+passes_within test xs n pass = slice_get_within xs n pass.item pass.item_is
+
+some_passes : {X : Type 0} (test : X → Bool) (xs : List X) (n : ℕ) → count_by test xs ≡ suc n → PassesAt test xs
+some_passes test [] n e = absurd cc
+some_passes test (x ∷ xs) n e = by_test (λ less. some_passes test xs n less) (test x) refl
+  where
+    by_test : (count_by test xs ≡ suc n → PassesAt test xs) → (b : Bool) → test x ≡ b → PassesAt test (x ∷ xs)
+    by_test later true h = record { place = 0; item = x; item_is = refl; passes_so = h }
+    by_test later false h =
+        let whole : count_by test (x ∷ xs) ≡ cond (test x) 1 0 + count_by test xs = sum_by-cons (λ y. cond (test y) 1 0) x xs in
+        let none : cond {A = ℕ} (test x) 1 0 ≡ 0 = ap (λ (v : Bool). cond {A = ℕ} v 1 0) h in
+        let rest : PassesAt test xs = later (omega arith) in
+        record { place = suc rest.place; item = rest.item; item_is = rest.item_is; passes_so = rest.passes_so }
+
+module _ {X : Type 0} (test : X → Bool) (xs : List X) (found : List ℕ) (are : AreThose (PassesIn test xs) found) where
+  -- where one number is found, one item passes
+  pub counted_one : length found ≡ 1 → count_by test xs ≡ 1
+  counted_one one =
+      let first : PassesIn test xs (slice_index found 0) = are.each 0 (omega arith) in
+      count_by-once test xs (slice_index found 0) first.item first.item_is first.passes_so (λ n y at e. (
+      let k = are.complete n (record { item = y; item_is = at; passes_so = e }) in
+      let zero_place : k.0 ≡ 0 = omega (arith, k.1.0) in
+      sym k.1.1 ∙ ap (slice_index found) zero_place
+      ))
+
+  -- and where one item passes, one number is found
+  pub found_one : count_by test xs ≡ 1 → length found ≡ 1
+  found_one one =
+      let some : PassesAt test xs = some_passes test xs 0 one in
+      let k = are.complete some.place (record { item = some.item; item_is = some.item_is; passes_so = some.passes_so }) in
+      elim (cases_lt 1 (length found)) [
+        | inl two ↦
+            let a : PassesIn test xs (slice_index found 0) = are.each 0 (omega arith) in
+            let b : PassesIn test xs (slice_index found 1) = are.each 1 two in
+            let same : slice_index found 0 ≡ slice_index found 1 = count_by-one test xs (slice_index found 0) (slice_index found 1) a.item b.item one a.item_is a.passes_so b.item_is b.passes_so in
+            let less : slice_index found 0 < slice_index found 1 = are.rising 0 1 (omega arith) two in
+            absurd (omega arith)
+        | inr most ↦ omega (arith, k.1.0)
+      ]
+
+  -- the one item that passes is the only one that another test may pass with it
+  pub any_of_one : (other : X → Bool) (n : ℕ) (x : X) → length found ≡ 1 → slice_index found 0 ≡ n → slice_get xs n ≡ Some x → list_any (λ y. test y && other y) xs ≡ other x
+  any_of_one other n x one is got = by_test (other x) refl
+    where
+      first : PassesIn test xs n
+      first = subst (PassesIn test xs) is (are.each 0 (omega arith))
+
+      passes : test x ≡ true
+      passes = ap test (same_Some x first.item (sym got ∙ first.item_is)) ∙ first.passes_so
+
+      by_test : (b : Bool) → other x ≡ b → list_any (λ y. test y && other y) xs ≡ other x
+      by_test true e = list_any-at (λ y. test y && other y) xs n x got (and_from (test x) (other x) passes e) ∙ sym e
+      by_test false e = false_from_ne_true (list_any (λ y. test y && other y) xs) (λ any. (
+          let at : PassesAt (λ y. test y && other y) xs = list_any-place (λ y. test y && other y) xs any in
+          let both : (test at.item ≡ true) × (other at.item ≡ true) = and_parts (test at.item) (other at.item) at.passes_so in
+          let k = are.complete at.place (record { item = at.item; item_is = at.item_is; passes_so = both.0 }) in
+          let zero_place : k.0 ≡ 0 = omega (arith, k.1.0) in
+          let place : n ≡ at.place = sym is ∙ (sym (ap (slice_index found) zero_place) ∙ k.1.1) in
+          let same : x ≡ at.item = same_Some x at.item (sym got ∙ (ap (slice_get xs) place ∙ at.item_is)) in
+          both_ways (other x) e (ap other same ∙ both.1)
+          )) ∙ sym e
+
+pub one_said : {X : Type 0} (test : X → Bool) (xs : List X) (found : List ℕ) → AreThose (PassesIn test xs) found → (answer : Bool) → Says answer (length found ≡ 1) → Says answer (count_by test xs ≡ 1)
+one_said test xs found are true one = counted_one test xs found are one
+one_said test xs found are false more = λ one. more (found_one test xs found are one)
+
+pub says_one : (n : ℕ) → Says (n == 1) (n ≡ 1)
+says_one n = elim (cases_eq n 1) [
+  | inl e ↦ subst (λ (b : Bool). Says b (n ≡ 1)) (sym (eq-eqb n 1 e)) e
+  | inr ne ↦ subst (λ (b : Bool). Says b (n ≡ 1)) (sym (ne_eqb n 1 ne)) ne
+]

@@ -1,0 +1,62 @@
+// The rule of excitation lines.
+ghost use Rattle.std.specs.Prelude.{◌^◌, ◌<◌, IfOk, length};
+ghost use Rattle.layout_rules.specs.Reports.{Alone, Afterwards};
+ghost use Rattle.layout_rules.specs.ExcitationRule.{IsCutOff, IsNotCrossed, IsUnexcited, ExcitationBroken};
+ghost use Rattle.shape_extract.specs.Searches.{Finds};
+ghost use Rattle.shape_extract.specs.Lines.{AreLaidOut, ExcitesFrames};
+
+use crate::crossed_bars::find_uncrossed;
+use crate::excited_frames::find_unexcited;
+use crate::line_parts::{find_misjoined, find_start_fault, find_unknown_part};
+use crate::line_walk::walk_lines;
+use crate::reached_parts::find_cut_off;
+use crate::row_edges::rows;
+use crate::search::Report;
+use aq_base::Memory;
+use geom::Shape;
+use layout_rules::layers::{EVEN_LINE, ODD_LINE};
+use std::alloc::Global;
+
+/// The first report of the parts of the rule that follow the lines from their starts.
+fn find_along_lines(alloc: Global, shapes: &[Shape]) -> Result<Option<Report>, Memory>
+    requires few { length shapes.now < 2 ^ 32 }
+    requires lines { AreLaidOut shapes.now }
+    ensures finds { IfOk result (Finds (Afterwards (Alone (IsCutOff shapes.now)) (Afterwards (Alone (IsNotCrossed shapes.now)) (Alone (IsUnexcited shapes.now))))) }
+    ensures excited { IfOk result (ExcitesFrames shapes.now) }
+{
+    let before = walk_lines(alloc, shapes)?;
+    let cut_off = find_cut_off(alloc, shapes, before.as_slice())?;
+    if let Some(report) = cut_off {
+        return Ok(Some(report));
+    }
+    let uncrossed = find_uncrossed(alloc, shapes, before.as_slice())?;
+    if let Some(report) = uncrossed {
+        return Ok(Some(report));
+    }
+    let edges = rows(alloc, shapes)?;
+    find_unexcited(alloc, shapes, before.as_slice(), edges.as_slice())
+}
+
+/// The first report of the rule of excitation lines. Where there is none, each frame lies under one bar alone, which
+/// contains it and has the phase of its row.
+pub fn find_excitation(alloc: Global, shapes: &[Shape]) -> Result<Option<Report>, Memory>
+    requires { length shapes.now < 2 ^ 32 }
+    ensures finds { IfOk result (Finds (ExcitationBroken shapes.now)) }
+    ensures excited { IfOk result (ExcitesFrames shapes.now) }
+{
+    let unknown = find_unknown_part(alloc, shapes)?;
+    if let Some(report) = unknown {
+        return Ok(Some(report));
+    }
+    if let Some(report) = find_start_fault(shapes, EVEN_LINE) {
+        return Ok(Some(report));
+    }
+    if let Some(report) = find_start_fault(shapes, ODD_LINE) {
+        return Ok(Some(report));
+    }
+    let misjoined = find_misjoined(alloc, shapes)?;
+    if let Some(report) = misjoined {
+        return Ok(Some(report));
+    }
+    find_along_lines(alloc, shapes)
+}

@@ -1,0 +1,49 @@
+// Extraction: the circuit of a layout, or the first rule of circuits that is broken.
+ghost use Rattle.std.specs.Prelude.{◌≡◌, ◌^◌, ◌<◌, IfOk, IfErr};
+ghost use Rattle.geom.specs.FlatForm.{flat_count};
+ghost use Rattle.shape_extract.specs.declared.extraction.ExtractRefusal.TheVariants.{Broken};
+ghost use Rattle.shape_extract.specs.Extracts.{Extracts, BreaksCircuit, IfBroken};
+
+use crate::assembly::circuit_of;
+use crate::cell_rule::find_cells;
+use crate::extraction::{ExtractRefusal, Extracted};
+use crate::first_broken::{BrokenRule, broken, first_broken};
+use crate::net_walk::nets;
+use crate::pin_rows::pin_rows;
+use crate::row_edges::rows;
+use geom::Flat;
+use layout_rules::Rule;
+use std::alloc::Global;
+
+fn refusal(found: BrokenRule) -> ExtractRefusal
+    ensures { result ≡ Broken found.rule found.first found.second }
+{
+    ExtractRefusal::Broken {
+        rule: found.rule,
+        first: found.first,
+        second: found.second,
+    }
+}
+
+/// The circuit that the shapes and labels of a layout make, where nothing breaks the rules of circuits; else the first
+/// of these rules that is broken, with the numbers that it reports. It is refused otherwise for want of memory alone.
+pub fn extract(alloc: Global, flat: &Flat) -> Result<Extracted, ExtractRefusal>
+    requires { flat_count flat.now < 2 ^ 32 }
+    ensures circuit { IfOk result (Extracts flat.now) }
+    ensures broken { IfErr result (λ refusal. IfBroken refusal (BreaksCircuit flat.now)) }
+{
+    let shapes = flat.shapes.as_slice();
+    if let Some(report) = find_cells(alloc, shapes)? {
+        return Err(refusal(broken(Rule::E1, report)));
+    }
+    let nets = nets(alloc, flat)?;
+    let edges = rows(alloc, shapes)?;
+    let edges = edges.as_slice();
+    let rows = pin_rows(alloc, shapes, edges)?;
+    let rows = rows.as_slice();
+    if let Some(found) = first_broken(alloc, flat, nets.as_slice(), edges, rows)? {
+        return Err(refusal(found));
+    }
+    let circuit = circuit_of(alloc, flat, nets, edges, rows)?;
+    Ok(circuit)
+}

@@ -1,0 +1,69 @@
+// The outputs of a circuit, and its wires, where the rules of circuits are kept.
+ghost use Rattle.std.specs.Prelude.{◌≡◌, ◌^◌, ◌<◌, IfOk, count_by, length};
+ghost use Rattle.geom.specs.FlatForm.{flat_count};
+ghost use Rattle.layout_rules.specs.CircuitRules.{LabelsBroken};
+ghost use Rattle.layout_rules.specs.Pins.{exit_count};
+ghost use Rattle.layout_rules.specs.Reports.{ReportsNone};
+ghost use Rattle.shape_extract.specs.Extraction.{is_wired};
+ghost use Rattle.shape_extract.specs.OutputPins.{ShowsOutput, AreOutputs};
+ghost use Rattle.shape_extract.specs.Tables.{AreTables};
+
+use crate::cell_feeds::{Tables, source_of};
+use crate::labels::is_labelled;
+use crate::pin_names::name_of;
+use aq_base::{List, Memory};
+use geom::{Flat, Shape};
+use layout_rules::layers::{INPUT_PIN, OUTPUT_PIN};
+use rowed::Source;
+use std::alloc::Global;
+
+/// The number of the output that the pin shows; nothing where it shows none.
+fn output_shown(flat: &Flat, q: u32) -> Option<u32>
+    requires few { flat_count flat.now < 2 ^ 32 }
+    requires kept { ReportsNone (LabelsBroken flat.now) }
+    requires within { q < length flat.now.shapes }
+    ensures { ShowsOutput flat.now q result }
+{
+    let shape = &flat.shapes.as_slice()[q as usize];
+    if shape.layer != OUTPUT_PIN {
+        return None;
+    }
+    name_of(flat, q)
+}
+
+/// For each output of the circuit the output of a cell that shows it.
+pub fn outputs_of(alloc: Global, tables: &Tables<'_>, count: usize) -> Result<List<Source>, Memory>
+    requires tables { AreTables tables.now.flat.now tables.now.nets.now tables.now.frames.now tables.now.places.now tables.now.drivers.now }
+    requires count { count ≡ exit_count tables.now.flat.now.shapes }
+    ensures { IfOk result (AreOutputs tables.now.flat.now tables.now.frames.now) }
+{
+    let mut found = Vec::new(alloc);
+    let mut outputs = vec![in alloc; Source { cell: 0, output: 0 }; count]?;
+    for q in 0..tables.flat.shapes.len() as u32 {
+        if let Some(number) = output_shown(tables.flat, q) {
+            let source = source_of(tables, q, &mut found)?;
+            outputs[number as usize] = source;
+        }
+    }
+    Ok(List::from_vec(outputs))
+}
+
+/// Whether the shape is an input pin that another cell is to feed.
+fn is_wired(flat: &Flat, pin: &Shape) -> bool
+    ensures { result ≡ is_wired flat.now pin.now }
+{
+    pin.layer == INPUT_PIN && !is_labelled(flat.labels.as_slice(), pin)
+}
+
+/// How many input pins of cells other cells feed.
+pub fn wire_count(flat: &Flat) -> u64
+    ensures { result ≡ count_by (is_wired flat.now) flat.now.shapes }
+{
+    let wires = flat
+        .shapes
+        .as_slice()
+        .iter()
+        .filter(|pin| is_wired(flat, pin))
+        .count();
+    wires as u64
+}
