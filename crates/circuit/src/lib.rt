@@ -1,13 +1,19 @@
-//! Words, cell kinds, and what answers words.
+//! Words, cell kinds, gates, what answers words, and what makes one circuit of another.
 #![tactic(auto)]
 
 mod answers;
 mod cell_kind;
+mod gate;
+mod pass;
+mod plain_net;
 mod ranked;
 
 pub use answers::{Answers, answer_word};
 use aq_base::List;
 pub use cell_kind::CellKind;
+pub use gate::Gate;
+pub use pass::{Pass, Then, ThenRefusal};
+pub use plain_net::PlainNet;
 pub use ranked::ranked_equations;
 
 /// A list of truth values: the first is that of input or output 0.

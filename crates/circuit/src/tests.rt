@@ -1,7 +1,7 @@
 // The table of kinds, and a circuit of two crossed wires.
 ghost use Rattle.std.specs.Prelude.{IfOk, ◌≡◌, reverse};
 
-use crate::{Answers, CellKind, Word, answer_word};
+use crate::{Answers, CellKind, Gate, Pass, PlainNet, Then, ThenRefusal, Word, answer_word};
 use aq_base::{List, Memory};
 use std::alloc::Global;
 use std::test::Fail;
@@ -26,6 +26,7 @@ fn kinds(rt: HostRuntime) -> Result<(), Fail> {
     Ok(())
 }
 
+#[derive(Drop)]
 struct Crossed;
 
 impl Answers for Crossed {
@@ -70,5 +71,100 @@ fn crossed_wires(rt: HostRuntime) -> Result<(), Fail> {
     assert_eq!(rt; Crossed.output_count(), 2);
     let answer = answer_word(rt.alloc(), &Crossed, &word)?;
     assert_eq!(rt; answer.as_slice(), [false, true].as_slice());
+    Ok(())
+}
+
+// The exclusive or of two inputs: their `or`, and not their `and`.
+fn exclusive_or(alloc: Global) -> Result<PlainNet, Memory>
+    ensures { IfOk result (λ net. net.inputs ≡ 2) }
+{
+    let gates = [
+        Gate::Input(0),
+        Gate::Input(1),
+        Gate::Zero,
+        Gate::One,
+        Gate::Maj(0, 3, 1),
+        Gate::Maj(0, 2, 1),
+        Gate::Inv(5),
+        Gate::Maj(4, 2, 6),
+    ];
+    Ok(PlainNet {
+        inputs: 2,
+        gates: List::from_vec(Vec::from_array(alloc, gates)?),
+        outputs: List::from_vec(Vec::from_array(alloc, [7, 0])?),
+    })
+}
+
+#[test]
+fn gates_answer(rt: HostRuntime) -> Result<(), Fail> {
+    let net = exclusive_or(rt.alloc())?;
+    assert_eq!(rt; (net.input_count(), net.output_count()), (2, 2));
+    for (first, second) in [(false, false), (true, false), (false, true), (true, true)] {
+        let word = List::from_vec(Vec::from_array(rt.alloc(), [first, second])?);
+        let answer = answer_word(rt.alloc(), &net, &word)?;
+        assert_eq!(rt; answer.as_slice(), [first != second, first].as_slice());
+    }
+    Ok(())
+}
+
+// Gives the crossed wires again, or refuses.
+#[derive(Drop)]
+struct Again {
+    refuses: bool,
+}
+
+impl Pass<Crossed> for Again {
+    ghost use Rattle.std.specs.Prelude.{◌≡◌, reverse, refl};
+    ghost use Rattle.circuit.specs.SameAnswers.{SameAnswers};
+
+    type Out = Crossed;
+
+    type Refusal = Memory;
+
+    ghost may_give = { λ s a o. Unit {0} };
+
+    ghost may_meet = { λ s a r. Unit {0} };
+
+    ghost is_memory = { λ r. ⊥ };
+
+    ghost keeps = { λ s a o given. record {
+      same_inputs = refl;
+      same_outputs = refl;
+      there = λ x y long answer. answer;
+      back = λ x y long answer. answer;
+    } };
+
+    fn run(&self, _alloc: Global, _from: &Crossed) -> Result<Crossed, Memory> {
+        if self.refuses {
+            Err(Memory)
+        } else {
+            Ok(Crossed)
+        }
+    }
+}
+
+#[test]
+fn one_pass_after_another(rt: HostRuntime) -> Result<(), Fail> {
+    for (first, second) in [(false, false), (false, true), (true, false), (true, true)] {
+        let both = Then {
+            first: Again { refuses: first },
+            second: Again { refuses: second },
+        };
+        let which = match both.run(rt.alloc(), &Crossed) {
+            Ok(_) => 0,
+            Err(ThenRefusal::First(_)) => 1,
+            Err(ThenRefusal::Second(_)) => 2,
+        };
+        assert_eq!(rt;
+            which,
+            if first {
+                1
+            } else if second {
+                2
+            } else {
+                0
+            }
+        );
+    }
     Ok(())
 }

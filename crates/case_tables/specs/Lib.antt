@@ -1,0 +1,6 @@
+pub mod RecipeView
+pub mod Recipes
+pub mod Formulas
+pub mod Tables
+pub mod Entries
+pub mod Truths

@@ -1,0 +1,8 @@
+-- What clauses see of a recipe: its steps, and the operand that is the result.
+use Rattle.std.specs.Prelude.{List}
+use Rattle.case_tables.specs.declared.recipe.Operand.{Operand}
+use Rattle.case_tables.specs.declared.recipe.Step.{Step}
+
+pub record RecipeView : Type 0 where
+  pub steps : List Step
+  pub out : Operand

@@ -1,0 +1,71 @@
+-- The walks from the outputs, one after the other: what is left makes the whole.
+use Rattle.std.specs.Prelude.{◌≡◌, ℕ, zero, suc, ◌+◌, ◌<◌, ◌≤◌, ◌^◌, List, [], ◌∷◌, map, length, drop, Option, Some, None, slice_index_or}
+use Rattle.std.specs.List.{fold}
+use Rattle.std.proofs.Common.{refl, sym, ap, ◌∙◌, subst, arith, get_or, drop-cons, add-one}
+use Rattle.std.proofs.lemmas.List.{drop_all}
+use Rattle.blif_read.specs.Parts.{NetView}
+use Rattle.blif_read.specs.Netlist.{IsNetlist, size_of, def_size}
+use Rattle.circuit.specs.PlainNets.{PlainView, IsPlainNet}
+use Rattle.maj_mapping.specs.Below.{AllBelow}
+use Rattle.maj_mapping.specs.MakerView.{MakerView}
+use Rattle.maj_mapping.specs.Plan.{Mapping, visit, start, first_gates, first_map, mapped, map_net, gate_or, gate_at, signals}
+use Rattle.maj_mapping.specs.Ordered.{IsOrdered, ordered}
+use Rattle.maj_mapping.specs.Law.{start_right}
+use Rattle.maj_mapping.specs.Keeps.{is_plain}
+use Rattle.maj_mapping.specs.Walk.{deep, walk, mapping, IsStanding}
+
+pub record Mapped (net : NetView) (outputs : List ℕ) (maker : MakerView) (gate_of : List (Option ℕ)) (k : ℕ) : Type 0 where
+  pub left : fold (visit net (deep net)) (mapping maker gate_of) (drop k outputs) ≡ mapped net
+  pub standing : IsStanding net maker gate_of
+
+pub begins : (net : NetView) → IsOrdered net → (outputs : List ℕ) (n defs : ℕ) (maker : MakerView) (gate_of : List (Option ℕ)) → outputs ≡ net.outputs → n ≡ net.inputs → defs ≡ length net.defs
+    → maker ≡ record { inputs = n; gates = first_gates n } → gate_of ≡ first_map n defs → Mapped net outputs maker gate_of 0
+unfolding mapped start
+begins net ok outputs n defs maker gate_of o e d m g =
+    let s = start_right net in
+    let maker_is : maker ≡ record { inputs = net.inputs; gates = first_gates net.inputs } = m ∙ ap (λ i. record { inputs = i; gates = first_gates i }) e in
+    let map_is : gate_of ≡ first_map net.inputs (length net.defs) = g ∙ rw (e, d) refl in
+    let first : MakerView = record { inputs = net.inputs; gates = first_gates net.inputs } in
+    let standing : IsStanding net first (first_map net.inputs (length net.defs)) = record {
+      same = refl;
+      good = s.good;
+      sized = s.size;
+      inputs_mapped = λ i lt free. no_gate _ _ (s.inputs_mapped i lt).1 free;
+      inside = s.inside;
+    } in
+    record {
+      left = rw (o, maker_is, map_is) refl;
+      standing = subst (λ t. IsStanding net t gate_of) (sym maker_is) (subst (IsStanding net first) (sym map_is) standing);
+    }
+  where
+    no_gate : (o : Option ℕ) (g : ℕ) → o ≡ Some g → o ≡ None → ⊥
+    no_gate None g e h = absurd (let z : None ≡ Some g = e in cc)
+    no_gate (Some k) g e h = absurd (let z : Some k ≡ None = h in cc)
+
+pub output_below : (net : NetView) → IsOrdered net → (outputs : List ℕ) (k : ℕ) → outputs ≡ net.outputs → k < length outputs → get_or outputs k 0 < signals net
+output_below net ok outputs k o lt = go outputs k lt (subst (AllBelow (signals net)) (sym o) ok.shown)
+  where
+    go : (xs : List ℕ) (k : ℕ) → k < length xs → AllBelow (signals net) xs → get_or xs k 0 < signals net
+    go [] k lt h = absurd (omega arith)
+    go (x ∷ xs) zero lt h = h.0
+    go (x ∷ xs) (suc k) lt h = go xs k (omega arith) h.1
+
+pub one_output : (net : NetView) (outputs : List ℕ) (maker after : MakerView) (gate_of next : List (Option ℕ)) (k : ℕ) → k < length outputs → Mapped net outputs maker gate_of k
+    → mapping after next ≡ walk net (mapping maker gate_of) (get_or outputs k 0) → IsStanding net after next → Mapped net outputs after next (k + 1)
+one_output net outputs maker after gate_of next k lt m walked standing =
+    let rest : drop k outputs ≡ get_or outputs k 0 ∷ drop (k + 1) outputs = drop-cons outputs k 0 lt ∙ ap (λ j. get_or outputs k 0 ∷ drop j outputs) (sym (add-one k)) in
+    record {
+      left = ap (λ (t : Mapping). fold (visit net (deep net)) t (drop (k + 1) outputs)) walked ∙ ap (fold (visit net (deep net)) (mapping maker gate_of)) (sym rest) ∙ m.left;
+      standing = standing;
+    }
+
+pub all_outputs : (net : NetView) (outputs : List ℕ) (maker : MakerView) (gate_of given : List (Option ℕ)) (k n : ℕ) (shown signals : List ℕ) (gates : List _) → Mapped net outputs maker gate_of k → length outputs ≤ k
+    → n ≡ net.inputs → given ≡ gate_of → signals ≡ net.outputs → shown ≡ map (gate_or given) signals → gates ≡ maker.gates
+    → record { inputs = n; gates = gates; outputs = shown } ≡ map_net net
+unfolding map_net
+all_outputs net outputs maker gate_of given k n shown signals gates m past e g o s h =
+    let done : mapping maker gate_of ≡ mapped net = ap (fold (visit net (deep net)) (mapping maker gate_of)) (sym (drop_all k outputs past)) ∙ m.left in
+    rw (e, h, s, g, o, ← done) refl
+
+pub made_plain : (net : NetView) (made : PlainView) → IsNetlist net → made ≡ map_net net → length made.gates < 2 ^ 32 → IsPlainNet made
+made_plain net made ok is few = subst IsPlainNet (sym is) (is_plain net ok (subst (λ (o : PlainView). length o.gates < 2 ^ 32) is few))

@@ -1,0 +1,33 @@
+use Rattle.std.proofs.Common.{◌≡◌, ℕ, subst, OnOk, IfOk}
+use Rattle.maj_mapping.specs.MakerView.{with_gates}
+use Rattle.maj_mapping.specs.Operations.{Made, inv}
+use Rattle.maj_mapping.proofs.Cubing.{AnyMade, any_made, any_inside, by_cubes_on, by_cubes_off}
+use Rattle.maj_mapping.proofs.cubes.by_cubes.Goals as goal
+
+pub returns-then-def-clause-gates : goal.returns-then-def-clause-gates
+returns-then-def-clause-gates c =
+    let m = any_made c.args.maker.now _ _ c.args.inputs.now _ _ c.args.def.now _ _ c.as_slice.ensures c.in_ok-cubes.ensures.gates c.in_ok-cubes.ensures.all c.deref.ensures.value c.in_ok-any.ensures.gates c.in_ok-any.ensures.at in
+    (by_cubes_on _ _ _ _ _ c.if-def.true m).0
+
+pub returns-then-def-clause-at : goal.returns-then-def-clause-at
+returns-then-def-clause-at c =
+    let m = any_made c.args.maker.now _ _ c.args.inputs.now _ _ c.args.def.now _ _ c.as_slice.ensures c.in_ok-cubes.ensures.gates c.in_ok-cubes.ensures.all c.deref.ensures.value c.in_ok-any.ensures.gates c.in_ok-any.ensures.at in
+    (by_cubes_on _ _ _ _ _ c.if-def.true m).1
+
+pub inv-requires : goal.inv-requires
+inv-requires c =
+    let m = any_made c.args.maker.now _ _ c.args.inputs.now _ _ c.args.def.now _ _ c.as_slice.ensures c.in_ok-cubes.ensures.gates c.in_ok-cubes.ensures.all c.deref.ensures.value c.in_ok-any.ensures.gates c.in_ok-any.ensures.at in
+    any_inside _ _ _ _ _ c.requires.good c.requires.planes c.requires.below m
+
+pub returns-clause-gates : goal.returns-clause-gates
+returns-clause-gates c =
+    let m = any_made c.args.maker.now _ _ c.args.inputs.now _ _ c.args.def.now _ _ c.as_slice.ensures c.in_ok-cubes.ensures.gates c.in_ok-cubes.ensures.all c.deref.ensures.value c.in_ok-any.ensures.gates c.in_ok-any.ensures.at in
+    let w = by_cubes_off _ _ _ _ _ c.if-def.false m in
+    subst (λ (g : Made). OnOk c.inv.result (c.inv.new.self ≡ with_gates c.args.maker.now g.gates)) w.0
+    (subst (λ (i : ℕ). OnOk c.inv.result (c.inv.new.self ≡ record { inputs = i; gates = (inv c.fold.new.self.inputs c.fold.new.self.gates c.in_ok-any.any).gates })) w.1 c.inv.ensures.gates)
+
+pub returns-clause-at : goal.returns-clause-at
+returns-clause-at c =
+    let m = any_made c.args.maker.now _ _ c.args.inputs.now _ _ c.args.def.now _ _ c.as_slice.ensures c.in_ok-cubes.ensures.gates c.in_ok-cubes.ensures.all c.deref.ensures.value c.in_ok-any.ensures.gates c.in_ok-any.ensures.at in
+    let w = by_cubes_off _ _ _ _ _ c.if-def.false m in
+    subst (λ (g : Made). IfOk c.inv.result (λ r. r ≡ g.at)) w.0 c.inv.ensures.at

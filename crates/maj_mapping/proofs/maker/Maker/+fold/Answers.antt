@@ -1,0 +1,17 @@
+use Rattle.std.proofs.Common.{◌≡◌, ℕ, arith, subst, OnOk, IfOk, refl}
+use Rattle.maj_mapping.specs.MakerView.{with_gates}
+use Rattle.maj_mapping.specs.Operations.{Made}
+use Rattle.maj_mapping.specs.Covers.{join}
+use Rattle.maj_mapping.proofs.Halving.{fold_whole}
+use Rattle.maj_mapping.proofs.maker.Maker.+fold.Goals as goal
+
+pub returns-clause-gates : goal.returns-clause-gates
+returns-clause-gates t c =
+    let w = fold_whole c.args.which c.args.self.now _ _ _ c.args.operands.now _ _ _ _ (omega arith) refl c.split_at.ensures.front c.split_at.ensures.back c.in_ok-first.ensures.gates c.in_ok-first.ensures.at c.in_ok-second.ensures.gates c.in_ok-second.ensures.at in
+    subst (λ (g : Made). OnOk c.join.result (c.join.new.self ≡ with_gates c.args.self.now g.gates)) w.0
+    (subst (λ (i : ℕ). OnOk c.join.result (c.join.new.self ≡ record { inputs = i; gates = (join c.args.which c.fold-2.new.self.inputs c.fold-2.new.self.gates c.in_ok-first.first c.in_ok-second.second).gates })) w.1 c.join.ensures.gates)
+
+pub returns-clause-at : goal.returns-clause-at
+returns-clause-at t c =
+    let w = fold_whole c.args.which c.args.self.now _ _ _ c.args.operands.now _ _ _ _ (omega arith) refl c.split_at.ensures.front c.split_at.ensures.back c.in_ok-first.ensures.gates c.in_ok-first.ensures.at c.in_ok-second.ensures.gates c.in_ok-second.ensures.at in
+    subst (λ (g : Made). IfOk c.join.result (λ r. r ≡ g.at)) w.0 c.join.ensures.at

@@ -1,0 +1,16 @@
+pub mod Operations
+pub mod Values
+pub mod Covers
+pub mod Plan
+pub mod MakerView
+pub mod Maker
+pub mod Grown
+pub mod Below
+pub mod Ordered
+pub mod Right
+pub mod RightAll
+pub mod CoverRight
+pub mod DefineRight
+pub mod Law
+pub mod Walk
+pub mod Keeps
