@@ -68,7 +68,7 @@ tree_filled b r at (c ∷ cs) f lt some all fed h =
     subst (λ t. Filled t (tree b (suc r) one cs).rows) z
     (tree_filled b (suc r) one cs f (omega arith) (omega arith) all.1 (subst (λ n. Fed b n cs f) (sym count) fed.1) (tree_row_filled b r at.rows at.signals c (omega arith) some h))
 
-over_positive : (b : ℕ) → IsBase b → (c : ℕ) → 0 < c → 0 < over c b
+pub over_positive : (b : ℕ) → IsBase b → (c : ℕ) → 0 < c → 0 < over c b
 over_positive b (inl e) c lt = subst (λ k. 0 < over c k) (sym e) (two c lt)
   where
     two : (c : ℕ) → 0 < c → 0 < over c 2

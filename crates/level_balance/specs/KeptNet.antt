@@ -104,10 +104,10 @@ module _ (f : Frame) (all : List Gate) (outs : List ℕ) (facts : PlanFacts f al
   m = length outs
 
   -- how many rows there are
-  start_rows : length start.rows ≡ suc f.last
+  pub start_rows : length start.rows ≡ suc f.last
   start_rows = length-replicate {A = List RowCell} (suc f.last) []
 
-  gone_rows : length gone.rows ≡ suc f.last
+  pub gone_rows : length gone.rows ≡ suc f.last
   gone_rows = gates_hold f all (λ i at. length at.rows ≡ suc f.last) (λ i g at here c s. lay_gate_rows f i g at ∙ s) (λ i at c s. s) 0 start all refl start_rows
 
   pub final_rows : length final ≡ suc f.last
@@ -340,7 +340,7 @@ plan_facts net three known =
       some_rows = some_rows net three;
     }
 
-frame_inputs : (net : PlainView) (three : Bool) → (frame net three).inputs ≡ net.inputs
+pub frame_inputs : (net : PlainView) (three : Bool) → (frame net three).inputs ≡ net.inputs
 unfolding frame
 frame_inputs net three = refl
 

@@ -25,3 +25,5 @@ pub mod Totals
 pub mod Kept
 pub mod KeptNet
 pub mod SameAnswers
+pub mod Counts
+pub mod Counted

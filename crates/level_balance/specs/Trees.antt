@@ -10,11 +10,11 @@ abbrev pub IsBase : ℕ → Type 0
 IsBase b = (b ≡ 2) ⊎ (b ≡ 3)
 
 -- n times b to the power t
-reach : ℕ → ℕ → ℕ → ℕ
+unfoldable pub reach : ℕ → ℕ → ℕ → ℕ
 reach b zero n = n
 reach b (suc t) n = reach b t (n * b)
 
-reach_times : (b t n : ℕ) → reach b t (n * b) ≡ reach b t n * b
+pub reach_times : (b t n : ℕ) → reach b t (n * b) ≡ reach b t n * b
 unfolding reach
 reach_times b zero n = refl
 reach_times b (suc t) n = reach_times b t (n * b)
@@ -23,7 +23,7 @@ mul_le : (s x y : ℕ) → x ≤ y → s * x ≤ s * y
 mul_le zero x y le = omega arith
 mul_le (suc s) x y le = omega (arith, mul_le s x y le)
 
-depth_enough : (b : ℕ) → 2 ≤ b → (k f size : ℕ) → 1 ≤ size → f ≤ size + k → f ≤ reach b (depth_from k b f size) size
+pub depth_enough : (b : ℕ) → 2 ≤ b → (k f size : ℕ) → 1 ≤ size → f ≤ size + k → f ≤ reach b (depth_from k b f size) size
 unfolding reach
 depth_enough b two zero f size some le = omega arith
 depth_enough b two (suc k) f size some le = go (leb f size) refl (depth_enough b two k f (size * b))
@@ -38,7 +38,7 @@ over_2 c m le = (omega arith, omega arith)
 over_3 : (c m : ℕ) → c ≤ m * 3 → (over c 3 ≤ m) × (c ≤ 3 * over c 3)
 over_3 c m le = (omega arith, omega arith)
 
-over_base : (b : ℕ) → IsBase b → (c m : ℕ) → c ≤ m * b → (over c b ≤ m) × (c ≤ b * over c b)
+pub over_base : (b : ℕ) → IsBase b → (c m : ℕ) → c ≤ m * b → (over c b ≤ m) × (c ≤ b * over c b)
 over_base b (inl e) c m le = subst (λ k. c ≤ m * k → (over c k ≤ m) × (c ≤ k * over c k)) (sym e) (over_2 c m) le
 over_base b (inr e) c m le = subst (λ k. c ≤ m * k → (over c k ≤ m) × (c ≤ k * over c k)) (sym e) (over_3 c m) le
 
@@ -57,7 +57,7 @@ fed_sizes b base (suc t) c n later f le h =
     let o = over_base b base c (reach b t n) (subst (λ k. c ≤ k) (reach_times b t n) le) in
     fed_sizes b base t (over c b) n (c ∷ later) f o.0 (o.1, h)
 
-base_two : (b : ℕ) → IsBase b → 2 ≤ b
+pub base_two : (b : ℕ) → IsBase b → 2 ≤ b
 base_two b (inl e) = omega arith
 base_two b (inr e) = omega arith
 

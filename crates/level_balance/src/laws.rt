@@ -6,6 +6,7 @@ ghost use Rattle.circuit.specs.declared.cell_kind.CellKind.TheVariants as kinds;
 ghost use Rattle.rowed.specs.RowNets.{IsRowNet, IsAnswer};
 ghost use Rattle.level_balance.specs.Plan.{level_net};
 ghost use Rattle.level_balance.specs.Totals.{cells_in};
+ghost use Rattle.level_balance.specs.Counts.{cell_count};
 ghost use Rattle.level_balance.specs.Examples.{sizes, row_kinds, exclusive_or, three_outputs};
 
 /// The plan of a net of gates is a net in rows, unless it has cells without number.
@@ -19,6 +20,12 @@ pub fn plan_answers()
     ensures { (net : PlainView) (three : Bool) → IsPlainNet net → IsRowNet (level_net net three)
         → SameAnswers net.inputs (level_net net three).inputs (length net.outputs) (level_net net three).outputs
         (IsGatesAnswer net) (IsAnswer (level_net net three)) }
+{}
+
+/// The number of the plan's cells, from the levels and the uses alone.
+pub fn plan_count()
+    ensures { (net : PlainView) (three : Bool) → IsPlainNet net
+        → cells_in (level_net net three).rows ≡ cell_count net three }
 {}
 
 /// The rows of the exclusive or of two inputs, and of three outputs that show one input, with splitters of three and

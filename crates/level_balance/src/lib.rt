@@ -3,4 +3,4 @@
 
 mod laws;
 
-pub use laws::{plan_answers, plan_keeps, worked_rows};
+pub use laws::{plan_answers, plan_count, plan_keeps, worked_rows};
