@@ -1,0 +1,4 @@
+pub mod RowCells
+pub mod RowNets
+pub mod RowByRow
+pub mod RowAnswers

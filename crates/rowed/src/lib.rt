@@ -1,6 +1,11 @@
 //! Rows of cells, their places and the wires between them.
 #![tactic(auto)]
 
+mod row_answers;
+mod row_cell;
+mod row_net;
 mod source;
 
+pub use row_cell::RowCell;
+pub use row_net::RowNet;
 pub use source::Source;

@@ -1,0 +1,6 @@
+//! Levels, splitter trees and balancing buffers: what rows a net of gates becomes, and why they answer as it does.
+#![tactic(auto)]
+
+mod laws;
+
+pub use laws::{plan_answers, plan_count, plan_keeps, worked_rows};
