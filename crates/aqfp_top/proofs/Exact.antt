@@ -1,43 +1,56 @@
 -- Where a fault is due it comes: a cause licenses one fault.
-use Rattle.std.proofs.Common.{ℕ, zero, suc, ◌≡◌, ◌<◌, ◌≤◌, List, length, Option, Some, None, IsSomeAnd, refl, sym, subst, ap, inl, inr, arith, get_or, ◌∙◌}
+use Rattle.std.proofs.Common.{ℕ, zero, suc, ◌≡◌, ◌<◌, ◌≤◌, ◌⊎◌, List, length, Option, Some, None, IsSomeAnd, refl, sym, subst, ap, inl, inr, arith, get_or, ◌∙◌}
 use Rattle.aq_base.specs.Store.{Contents}
-use Rattle.aqfp_top.specs.Words.{IsBuild, IsLater, word_at, HasForm}
+use Rattle.aqfp_top.specs.Words.{IsBuild, IsCheck, IsLater, word_at, HasForm}
 use Rattle.aqfp_top.specs.Counted.{Counts, HasFaults, NoFaults}
 use Rattle.aqfp_top.specs.Designs.{IsServed, IsWrong}
-use Rattle.aqfp_top.specs.Run.{RunCause, ComesOrYields, ComesTooLong, IsDoneOrMemory}
+use Rattle.aqfp_top.specs.Run.{RunCause, Reaches, FindsTooLong, FindsWrong, FindsAllWell, ComesOrYields, ComesTooLong, IsDoneOrMemory}
+use Rattle.aqfp_top.specs.Checks.{ToldCheckCause, CheckCause}
+use Rattle.aqfp_top.specs.Checks as check
+use Rattle.aqfp_top.proofs.ExactChecks as checks
 use Rattle.aqfp_top.specs.Build.{ToldBuildCause, BuildCause, HasTexts, IsReached, IsLoadable, IsTooLong, limit_of}
+use Rattle.aqfp_top.proofs.Files.{gone_not_there, long_not_short, held_short}
+use Rattle.aqfp_top.proofs.Forms.{build_not_later, check_not_later, build_not_check}
 use Rattle.aqfp_top.proofs.OneFault.{same_wrong, not_served}
 use Rattle.aqfp_top.specs.declared.fault.WriteCall.{WriteCall}
 use Rattle.aqfp_top.specs.declared.fault.WriteCall.TheVariants.{Create, Append, Close, Out}
 use Rattle.aqfp_top.specs.declared.fault.Fault.{Fault}
-use Rattle.aqfp_top.specs.declared.fault.Fault.TheVariants.{Usage, Absent, TooLong, ReadFault, WriteFault, BadBlif, BadLibrary, MissingCell, Unbuilt, Memory}
-
-build_not_later : (words : List (List ℕ)) → IsBuild words → IsLater words → ⊥
-build_not_later words form (inl (len, inl verify)) = let first : ◌≡◌ {A = ℕ} 118 98 = ap (λ xs. get_or xs 0 0) (sym verify ∙ form.1) in omega arith
-build_not_later words form (inl (len, inr trace)) = let first : ◌≡◌ {A = ℕ} 116 98 = ap (λ xs. get_or xs 0 0) (sym trace ∙ form.1) in omega arith
-build_not_later words form (inr (len, sample, size)) = omega arith
+use Rattle.aqfp_top.specs.declared.fault.Fault.TheVariants.{Usage, Absent, TooLong, ReadFault, WriteFault, BadBlif, BadLibrary, MissingCell, TooLarge, BadStream, RuleBroken, BadWords, Unbuilt, Memory}
 
 -- what holds for each cause of a run holds of its ending
 each_run : (P : Option Fault → Type 0) (told : Option Contents) (words : List (List ℕ)) → (¬ HasForm words → P (Some Usage)) → (IsLater words → P (Some (Unbuilt 0))) →
-    ((fault : Option Fault) → IsBuild words → ToldBuildCause told words fault → P fault) → (fault : Option Fault) → RunCause told words fault → P fault
-each_run P told words usage later other None cause = other None cause.0 cause.1
+    ((fault : Option Fault) → (IsBuild words × ToldBuildCause told words fault) ⊎ (IsCheck words × ToldCheckCause told words fault) → P fault) → (fault : Option Fault) → RunCause told words fault → P fault
+each_run P told words usage later other None cause = other None cause
 each_run P told words usage later other (Some Usage) cause = usage cause
 each_run P told words usage later other (Some (Unbuilt zero)) cause = later cause
-each_run P told words usage later other (Some (Unbuilt (suc place))) cause = other (Some (Unbuilt (suc place))) cause.0 cause.1
-each_run P told words usage later other (Some (Absent place)) cause = other (Some (Absent place)) cause.0 cause.1
-each_run P told words usage later other (Some (TooLong place taken)) cause = other (Some (TooLong place taken)) cause.0 cause.1
-each_run P told words usage later other (Some (ReadFault place)) cause = other (Some (ReadFault place)) cause.0 cause.1
-each_run P told words usage later other (Some (WriteFault call)) cause = other (Some (WriteFault call)) cause.0 cause.1
-each_run P told words usage later other (Some (BadBlif fault)) cause = other (Some (BadBlif fault)) cause.0 cause.1
-each_run P told words usage later other (Some (BadLibrary fault)) cause = other (Some (BadLibrary fault)) cause.0 cause.1
-each_run P told words usage later other (Some (MissingCell kind)) cause = other (Some (MissingCell kind)) cause.0 cause.1
-each_run P told words usage later other (Some Memory) cause = other (Some Memory) cause.0 cause.1
+each_run P told words usage later other (Some (Unbuilt (suc place))) cause = other (Some (Unbuilt (suc place))) cause
+each_run P told words usage later other (Some (Absent place)) cause = other (Some (Absent place)) cause
+each_run P told words usage later other (Some (TooLong place taken)) cause = other (Some (TooLong place taken)) cause
+each_run P told words usage later other (Some (ReadFault place)) cause = other (Some (ReadFault place)) cause
+each_run P told words usage later other (Some (WriteFault call)) cause = other (Some (WriteFault call)) cause
+each_run P told words usage later other (Some (BadBlif fault)) cause = other (Some (BadBlif fault)) cause
+each_run P told words usage later other (Some (BadLibrary fault)) cause = other (Some (BadLibrary fault)) cause
+each_run P told words usage later other (Some (MissingCell kind)) cause = other (Some (MissingCell kind)) cause
+each_run P told words usage later other (Some (TooLarge what count)) cause = other (Some (TooLarge what count)) cause
+each_run P told words usage later other (Some (BadStream offset kind)) cause = other (Some (BadStream offset kind)) cause
+each_run P told words usage later other (Some (RuleBroken rule first second)) cause = other (Some (RuleBroken rule first second)) cause
+each_run P told words usage later other (Some (BadWords line)) cause = other (Some (BadWords line)) cause
+each_run P told words usage later other (Some Memory) cause = other (Some Memory) cause
+
+-- a command's words have a form, and are no words of a command that is to come
+has_form : {A B : Type 0} (words : List (List ℕ)) → (IsBuild words × A) ⊎ (IsCheck words × B) → HasForm words
+has_form words (inl build) = inl build.0
+has_form words (inr check) = inr (inl check.0)
+
+not_later : {A B : Type 0} (words : List (List ℕ)) → (IsBuild words × A) ⊎ (IsCheck words × B) → IsLater words → ⊥
+not_later words (inl build) later = build_not_later words build.0 later
+not_later words (inr check) later = check_not_later words check.0 later
 
 pub usage_due : (told : Option Contents) (words : List (List ℕ)) (fault : Option Fault) → RunCause told words fault → ¬ HasForm words → fault ≡ Some Usage
-usage_due told words fault cause none = each_run (λ f. f ≡ Some Usage) told words (λ no. refl) (λ later. absurd (none (inr later))) (λ f build c. absurd (none (inl build))) fault cause
+usage_due told words fault cause none = each_run (λ f. f ≡ Some Usage) told words (λ no. refl) (λ later. absurd (none (inr (inr later)))) (λ f c. absurd (none (has_form words c))) fault cause
 
 pub later_due : (told : Option Contents) (words : List (List ℕ)) (fault : Option Fault) → RunCause told words fault → IsLater words → fault ≡ Some (Unbuilt 0)
-later_due told words fault cause later = each_run (λ f. f ≡ Some (Unbuilt 0)) told words (λ no. absurd (no (inr later))) (λ l. refl) (λ f build c. absurd (build_not_later words build later)) fault cause
+later_due told words fault cause later = each_run (λ f. f ≡ Some (Unbuilt 0)) told words (λ no. absurd (no (inr (inr later)))) (λ l. refl) (λ f c. absurd (not_later words c later)) fault cause
 
 -- what holds for each cause of a build of a told store holds of its ending
 each_cause : (P : Option Fault → Type 0) (files : Contents) (words : List (List ℕ)) →
@@ -57,26 +70,31 @@ each_cause P files words done written wrong absent long failed memory (Some Usag
 each_cause P files words done written wrong absent long failed memory (Some (BadBlif fault)) cause = wrong (BadBlif fault) cause
 each_cause P files words done written wrong absent long failed memory (Some (BadLibrary fault)) cause = wrong (BadLibrary fault) cause
 each_cause P files words done written wrong absent long failed memory (Some (MissingCell kind)) cause = wrong (MissingCell kind) cause
+each_cause P files words done written wrong absent long failed memory (Some (TooLarge what count)) cause = wrong (TooLarge what count) cause
+each_cause P files words done written wrong absent long failed memory (Some (BadStream offset kind)) cause = wrong (BadStream offset kind) cause
+each_cause P files words done written wrong absent long failed memory (Some (RuleBroken rule first second)) cause = wrong (RuleBroken rule first second) cause
+each_cause P files words done written wrong absent long failed memory (Some (BadWords line)) cause = wrong (BadWords line) cause
 each_cause P files words done written wrong absent long failed memory (Some (Unbuilt place)) cause = wrong (Unbuilt place) cause
 
--- the same of a run whose words are those of a build
+by_build : (P : Option Fault → Type 0) (files : Contents) (words : List (List ℕ)) → IsBuild words → ((fault : Option Fault) → BuildCause files words fault → P fault) → (fault : Option Fault) →
+    (IsBuild words × BuildCause files words fault) ⊎ (IsCheck words × CheckCause files words fault) → P fault
+by_build P files words build holds fault (inl c) = holds fault c.1
+by_build P files words build holds fault (inr c) = absurd (build_not_check words build c.0)
+
+by_check : (P : Option Fault → Type 0) (files : Contents) (words : List (List ℕ)) → IsCheck words → ((fault : Option Fault) → CheckCause files words fault → P fault) → (fault : Option Fault) →
+    (IsBuild words × BuildCause files words fault) ⊎ (IsCheck words × CheckCause files words fault) → P fault
+by_check P files words check holds fault (inl c) = absurd (build_not_check words c.0 check)
+by_check P files words check holds fault (inr c) = holds fault c.1
+
+-- the same of a run whose words are those of a check
+check_ends : (P : Option Fault → Type 0) (files : Contents) (words : List (List ℕ)) → IsCheck words → ((fault : Option Fault) → CheckCause files words fault → P fault) →
+    (fault : Option Fault) → RunCause (Some files) words fault → P fault
+check_ends P files words check holds fault cause = each_run P (Some files) words (λ none. absurd (none (inr (inl check)))) (λ later. absurd (check_not_later words check later)) (λ f c. by_check P files words check holds f c) fault cause
+
+-- and of one whose words are those of a build
 build_ends : (P : Option Fault → Type 0) (files : Contents) (words : List (List ℕ)) → IsBuild words → ((fault : Option Fault) → BuildCause files words fault → P fault) →
     (fault : Option Fault) → RunCause (Some files) words fault → P fault
-build_ends P files words build holds fault cause = each_run P (Some files) words (λ none. absurd (none (inl build))) (λ later. absurd (build_not_later words build later)) (λ f b c. holds f c) fault cause
-
--- a file isn't both there and not there, nor both within its limit and past it
-
-gone_not_there : (P : List ℕ → Type 0) (file : Option (List ℕ)) → file ≡ None → IsSomeAnd file P → ⊥
-gone_not_there P None gone there = there
-gone_not_there P (Some bytes) gone there = cc
-
-long_not_short : (limit : ℕ) (file : Option (List ℕ)) → IsSomeAnd file (λ bytes. limit < length bytes) → IsSomeAnd file (λ bytes. length bytes ≤ limit) → ⊥
-long_not_short limit None long short = long
-long_not_short limit (Some bytes) long short = omega arith
-
-held_short : (limit : ℕ) (file : Option (List ℕ)) (bytes : List ℕ) → file ≡ Some bytes → length bytes ≤ limit → IsSomeAnd file (λ bytes. length bytes ≤ limit)
-held_short limit None bytes held fits = absurd cc
-held_short limit (Some x) bytes held fits = let same : x ≡ bytes = cc in subst (λ b. length b ≤ limit) (sym same) fits
+build_ends P files words build holds fault cause = each_run P (Some files) words (λ none. absurd (none (inl build))) (λ later. absurd (build_not_later words build later)) (λ f c. by_build P files words build holds f c) fault cause
 
 -- where both texts are there each load does its work
 loadable : (P : List ℕ → List ℕ → Type 0) (files : Contents) (words : List (List ℕ)) → HasTexts files words P → (place : ℕ) → IsReached files words place → IsLoadable files words place
@@ -104,9 +122,9 @@ gone_not_loadable files words place gone there = gone_not_there _ (files (word_a
 long_not_loadable : (files : Contents) (words : List (List ℕ)) (place : ℕ) → IsTooLong files words place → ¬ IsLoadable files words place
 long_not_loadable files words place long there = long_not_short (limit_of place) (files (word_at words place)) long there
 
-pub absent_due : (files : Contents) (words : List (List ℕ)) (place : ℕ) (fault : Option Fault) → RunCause (Some files) words fault → IsBuild words →
+absent_built : (files : Contents) (words : List (List ℕ)) (place : ℕ) (fault : Option Fault) → RunCause (Some files) words fault → IsBuild words →
     IsReached files words place → files (word_at words place) ≡ None → ComesOrYields (Absent place) fault
-absent_due files words place fault cause build reached gone =
+absent_built files words place fault cause build reached gone =
     let stops : ¬ IsLoadable files words place = gone_not_loadable files words place gone in
     build_ends (ComesOrYields (Absent place)) files words build (each_cause (ComesOrYields (Absent place)) files words
     (λ texts. absurd (stops (loadable _ files words texts place reached)))
@@ -116,9 +134,9 @@ absent_due files words place fault cause build reached gone =
     (λ p taken r long. absurd (gone_not_there _ (files (word_at words place)) gone (subst (λ n. IsTooLong files words n) (same_place files words p place r reached (long_not_loadable files words p long) stops) long)))
     (λ p. tt) tt) fault cause
 
-pub too_long_due : (files : Contents) (words : List (List ℕ)) (place : ℕ) (fault : Option Fault) → RunCause (Some files) words fault → IsBuild words →
+too_long_built : (files : Contents) (words : List (List ℕ)) (place : ℕ) (fault : Option Fault) → RunCause (Some files) words fault → IsBuild words →
     IsReached files words place → IsTooLong files words place → ComesTooLong place fault
-too_long_due files words place fault cause build reached long =
+too_long_built files words place fault cause build reached long =
     let stops : ¬ IsLoadable files words place = long_not_loadable files words place long in
     build_ends (ComesTooLong place) files words build (each_cause (ComesTooLong place) files words
     (λ texts. stops (loadable _ files words texts place reached))
@@ -138,6 +156,10 @@ comes (WriteFault call) = refl
 comes (BadBlif fault) = refl
 comes (BadLibrary fault) = refl
 comes (MissingCell kind) = refl
+comes (TooLarge what count) = refl
+comes (BadStream offset kind) = refl
+comes (RuleBroken rule first second) = refl
+comes (BadWords line) = refl
 comes (Unbuilt place) = refl
 comes Memory = tt
 
@@ -148,9 +170,9 @@ both P Q files words p q =
     let lib : p.lib ≡ q.lib = let a = p.lib_held in let b = q.lib_held in cc in
     (q.net, q.lib, subst (λ n. P n q.lib) net (subst (λ l. P p.net l) lib p.holds), q.holds)
 
-pub wrong_due : (files : Contents) (words : List (List ℕ)) (due : Fault) (fault : Option Fault) → RunCause (Some files) words fault → IsBuild words →
+wrong_built : (files : Contents) (words : List (List ℕ)) (due : Fault) (fault : Option Fault) → RunCause (Some files) words fault → IsBuild words →
     HasTexts files words (λ net lib. IsWrong net lib due) → ComesOrYields due fault
-wrong_due files words due fault cause build texts =
+wrong_built files words due fault cause build texts =
     build_ends (ComesOrYields due) files words build (each_cause (ComesOrYields due) files words
     (λ served. let t = both IsServed (λ net lib. IsWrong net lib due) files words served texts in absurd (not_served t.0 t.1 due t.2 t.3))
     (λ call served. let t = both IsServed (λ net lib. IsWrong net lib due) files words served texts in absurd (not_served t.0 t.1 due t.2 t.3))
@@ -165,9 +187,9 @@ written_rose before after Append none rose = none.writes rose
 written_rose before after Close none rose = none.closes rose
 written_rose before after Out none rose = none.outs rose
 
-pub complete_due : (files : Contents) (words : List (List ℕ)) (before after : Counts) (fault : Option Fault) → RunCause (Some files) words fault → IsBuild words →
+complete_built : (files : Contents) (words : List (List ℕ)) (before after : Counts) (fault : Option Fault) → RunCause (Some files) words fault → IsBuild words →
     HasTexts files words IsServed → HasFaults before after fault → NoFaults before after → IsDoneOrMemory fault
-complete_due files words before after fault cause build texts rose none =
+complete_built files words before after fault cause build texts rose none =
     build_ends (λ f. HasFaults before after f → IsDoneOrMemory f) files words build (each_cause (λ f. HasFaults before after f → IsDoneOrMemory f) files words
     (λ served r. tt)
     (λ call served r. written_rose before after call none r)
@@ -175,5 +197,27 @@ complete_due files words before after fault cause build texts rose none =
     (λ p r g c. gone_not_loadable files words p g (loadable _ files words texts p r))
     (λ p taken r l c. long_not_loadable files words p l (loadable _ files words texts p r))
     (λ p r. none.reads r) (λ r. tt)) fault cause rose
+
+-- Of both commands.
+
+pub absent_due : (files : Contents) (words : List (List ℕ)) (place : ℕ) (fault : Option Fault) → RunCause (Some files) words fault → Reaches files words place → files (word_at words place) ≡ None → ComesOrYields (Absent place) fault
+absent_due files words place fault cause (inl build) gone = absent_built files words place fault cause build.0 build.1 gone
+absent_due files words place fault cause (inr check) gone = check_ends (ComesOrYields (Absent place)) files words check.0 (λ f c. checks.absent_due files words place f c check.1 gone) fault cause
+
+pub too_long_due : (files : Contents) (words : List (List ℕ)) (place : ℕ) (fault : Option Fault) → RunCause (Some files) words fault → FindsTooLong files words place → ComesTooLong place fault
+too_long_due files words place fault cause (inl build) = too_long_built files words place fault cause build.0 build.1 build.2
+too_long_due files words place fault cause (inr check) = check_ends (ComesTooLong place) files words check.0 (λ f c. checks.too_long_due files words place f c check.1 check.2) fault cause
+
+module _ (same_wrong : (gds lib text : List ℕ) (due fault : Fault) → check.IsWrong gds lib text due → check.IsWrong gds lib text fault → fault ≡ due)
+    (not_wrong : (gds lib text : List ℕ) (fault : Fault) → check.SaysSound gds lib text → check.IsWrong gds lib text fault → ⊥) where
+
+  pub wrong_due : (files : Contents) (words : List (List ℕ)) (due : Fault) (fault : Option Fault) → RunCause (Some files) words fault → FindsWrong files words due → ComesOrYields due fault
+  wrong_due files words due fault cause (inl build) = wrong_built files words due fault cause build.0 build.1
+  wrong_due files words due fault cause (inr check) = check_ends (ComesOrYields due) files words check.0 (λ f c. checks.wrong_due same_wrong not_wrong comes files words due f c check.1) fault cause
+
+  pub complete_due : (files : Contents) (words : List (List ℕ)) (before after : Counts) (fault : Option Fault) → RunCause (Some files) words fault → FindsAllWell files words → HasFaults before after fault → NoFaults before after → IsDoneOrMemory fault
+  complete_due files words before after fault cause (inl build) rose none = complete_built files words before after fault cause build.0 build.1 rose none
+  complete_due files words before after fault cause (inr check) rose none =
+      check_ends (λ f. HasFaults before after f → IsDoneOrMemory f) files words check.0 (λ f c r. checks.complete_due same_wrong not_wrong comes files words before after f c check.1 r none) fault cause rose
 
 pub ruleset forms = (usage_due, later_due)

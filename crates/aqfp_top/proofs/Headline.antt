@@ -1,5 +1,5 @@
 -- A build that ends well has made the chip of its netlist.
-use Rattle.std.proofs.Common.{ℕ, suc, ◌≡◌, ◌<◌, Bool, List, [], ◌∷◌, length, map, Option, Some, None, refl, sym, ap, subst, ◌∙◌, arith, All}
+use Rattle.std.proofs.Common.{ℕ, suc, ◌≡◌, ◌<◌, Bool, List, [], ◌∷◌, length, map, Option, Some, None, refl, sym, ap, subst, ◌∙◌, arith, All, inl, inr}
 use Rattle.std.proofs.lemmas.Fmt.{decimal_digit}
 use Rattle.std.specs.List.{AllZip}
 use Rattle.aq_base.specs.Store.{Contents, with_file, gained}
@@ -17,18 +17,19 @@ use Rattle.blif_read.specs.OneAnswer.{some_answer}
 use Rattle.blif_read.specs.Says as netlist
 use Rattle.blif_read.specs.Equations.{IsAnswer}
 use Rattle.cell_library.specs.LibraryA.{library_a_view}
-use Rattle.aqfp_top.specs.Words.{word_at}
-use Rattle.aqfp_top.specs.Build.{BuildStands, BuildPrints, ToldKept}
-use Rattle.aqfp_top.specs.Run.{RunCause}
+use Rattle.aqfp_top.specs.Words.{word_at, IsBuild}
+use Rattle.aqfp_top.specs.Build.{HasTexts, ToldKept}
+use Rattle.aqfp_top.specs.Run.{RunCause, RunStands, RunPrints}
+use Rattle.aqfp_top.proofs.Forms.{build_not_check}
 use Rattle.aqfp_top.specs.Chips.{BuildsChip}
-use Rattle.aqfp_top.specs.Counts.{counts_line, delay_of}
-use Rattle.aqfp_top.specs.Designs.{IsWire}
+use Rattle.chip_texts.specs.Counts.{counts_line, delay_of}
+use Rattle.aqfp_top.specs.Designs.{IsWire, IsServed}
 use Rattle.aqfp_top.specs.Realises.{Realises}
 use Rattle.aqfp_top.specs.declared.constants.TheConstants.{COUNTS}
 
 -- the counts of the first chip
 pub first_counts : counts_line first_circuit ≡ COUNTS.now
-unfolding first_circuit
+unfolding first_circuit counts_line
 first_counts = rw (decimal_digit 2 (omega arith), decimal_digit 1 (omega arith)) refl
 
 -- a wire's answer to a word of one value is the word
@@ -64,14 +65,19 @@ first_realises stream rules extracted shows net keeps wire = record {
   };
 }
 
+-- a build that ends well found a wire and library A
+built_texts : (files : Contents) (words : List (List ℕ)) → IsBuild words → RunCause (Some files) words None → HasTexts files words IsServed
+built_texts files words form (inl build) = build.1
+built_texts files words form (inr check) = absurd (build_not_check words form check.0)
+
 -- what a build that ends well has made
 pub chip_built : (told after : Option Contents) (held : Contents) (words : List (List ℕ)) (printed printed' : Option (List ℕ)) →
     ((net : NetView) → IsNetlist net → IsWire net → Realises first_bytes first_limits net.inputs (length net.outputs) (IsAnswer net) first_circuit (delay_of first_circuit)) →
-    told ≡ Some held → RunCause told words None → ToldKept told words → BuildStands told after (word_at words 3) None → BuildPrints printed printed' None →
+    told ≡ Some held → IsBuild words → RunCause told words None → ToldKept told words → RunStands told after words None → RunPrints told words printed printed' None →
     BuildsChip held after words printed printed'
-chip_built None after held words printed printed' realises is cause kept stands prints = absurd cc
-chip_built (Some files) after held words printed printed' realises is cause kept stands prints =
-    let texts = cause.1 in
+chip_built None after held words printed printed' realises is form cause kept stands prints = absurd cc
+chip_built (Some files) after held words printed printed' realises is form cause kept stands prints =
+    let texts : HasTexts files words IsServed = built_texts files words form cause in
     let same : files ≡ held = cc in
     let net : kept.net ≡ texts.net = let a = kept.net_held in let b = texts.net_held in cc in
     let wire = texts.holds.netlist_text in
@@ -87,8 +93,8 @@ chip_built (Some files) after held words printed printed' realises is cause kept
       net_says = wire.says;
       lib_says = texts.holds.library_text;
       bytes = first_bytes;
-      stored = subst (λ f. after ≡ Some (with_file f (word_at words 3) first_bytes)) same stands;
+      stored = subst (λ f. after ≡ Some (with_file f (word_at words 3) first_bytes)) same (stands.build form);
       circuit = first_circuit;
       realises = realises wire.net (subst IsNetlist one kept.holds.keeps) wire.wire;
-      printed = prints ∙ ap (gained printed) (sym first_counts);
+      printed = prints.build form ∙ ap (gained printed) (sym first_counts);
     }

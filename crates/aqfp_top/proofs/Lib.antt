@@ -2,9 +2,17 @@ pub mod Putting
 pub mod Designing
 pub mod EachFault
 pub mod Steps
+pub mod Forms
 pub mod Runs
 pub mod OneFault
+pub mod OneCheck
+pub mod Files
+pub mod ExactChecks
 pub mod Exact
 pub mod Sizes
 pub mod Headline
+pub mod Showing
 pub mod FirstMade
+pub mod Judging
+pub mod CheckSteps
+pub mod CheckEnds

@@ -91,7 +91,7 @@ by_text P text refused found (Value key value) bad = found (Value key value) bad
 by_text P text refused found (Law number) bad = found (Law number) bad
 by_text P text refused found (Missing kind) bad = found (Missing kind) bad
 
-same_library : (a b : LibraryFault) (lib : List ℕ) → IsCellFault lib a → IsCellFault lib b → a ≡ b
+pub same_library : (a b : LibraryFault) (lib : List ℕ) → IsCellFault lib a → IsCellFault lib b → a ≡ b
 same_library a b lib p q = by_text (λ a. a ≡ b) lib
     (λ refused. by_text (λ b. Text ≡ b) lib (λ r. refl) (λ c found. absurd (refused_document lib found.table refused found.document)) b q)
     (λ a found. by_text (λ b. a ≡ b) lib (λ r. absurd (refused_document lib found.table r found.document)) (λ c other. same_found lib a c found other) b q)
@@ -106,7 +106,7 @@ says_faultless text a bad good =
       | inr x ↦ x.breaks.broken (subst (λ l. Holds x.breaks.law l) good.says.values (good.says.laws x.breaks.law))
     ]
 
-library_either : (text : List ℕ) (fault : LibraryFault) → IsCellFault text fault → SaysLibrary text → ⊥
+pub library_either : (text : List ℕ) (fault : LibraryFault) → IsCellFault text fault → SaysLibrary text → ⊥
 library_either text fault bad good = by_text (λ a. ⊥) text (λ refused. refused_document text good.says.table refused good.says.document) (λ a found. says_faultless text a found good) fault bad
 
 -- a text says one library

@@ -8,7 +8,7 @@ use Rattle.cell_library.specs.Library.{LibraryView, limits_of}
 use Rattle.cell_library.specs.Says as library
 use Rattle.shape_extract.specs.Circuits.{CircuitView}
 use Rattle.aqfp_top.specs.Words.{word_at}
-use Rattle.aqfp_top.specs.Counts.{counts_line, delay_of}
+use Rattle.chip_texts.specs.Counts.{counts_line, delay_of}
 use Rattle.aqfp_top.specs.Realises.{Realises}
 
 -- The texts are those that NET and LIB held when the build began, though OUT may have the name of one of them.

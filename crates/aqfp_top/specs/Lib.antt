@@ -4,9 +4,11 @@ pub mod Lines
 pub mod Pieces
 pub mod Loads
 pub mod Designs
+pub mod Judged
+pub mod Checks
 pub mod Build
 pub mod Counted
 pub mod Run
-pub mod Counts
 pub mod Realises
 pub mod Chips
+pub mod Verified

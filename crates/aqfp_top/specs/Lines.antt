@@ -11,9 +11,14 @@ use Rattle.blif_read.specs.declared.netlist.BlifFault.{BlifFault}
 use Rattle.blif_read.specs.declared.netlist.BlifFault.TheVariants as blif
 use Rattle.cell_library.specs.declared.fault.LibraryFault.{LibraryFault}
 use Rattle.cell_library.specs.declared.fault.LibraryFault.TheVariants as library
+use Rattle.gds_records.specs.declared.fault.StreamKind.{StreamKind}
+use Rattle.gds_records.specs.declared.fault.StreamKind.TheVariants as stream
+use Rattle.layout_rules.specs.RuleNames.{name_of}
+use Rattle.aqfp_top.specs.declared.fault.Large.{Large}
+use Rattle.aqfp_top.specs.declared.fault.Large.TheVariants.{Shapes}
 use Rattle.aqfp_top.specs.Words.{word_at}
 use Rattle.aqfp_top.specs.declared.fault.Fault.{Fault}
-use Rattle.aqfp_top.specs.declared.fault.Fault.TheVariants.{Usage, Absent, TooLong, ReadFault, WriteFault, BadBlif, BadLibrary, MissingCell, Unbuilt, Memory}
+use Rattle.aqfp_top.specs.declared.fault.Fault.TheVariants.{Usage, Absent, TooLong, ReadFault, WriteFault, BadBlif, BadLibrary, MissingCell, TooLarge, BadStream, RuleBroken, BadWords, Unbuilt, Memory}
 
 -- the line about the file that a word names
 abbrev pub named : List (List ℕ) → ℕ → List ℕ → List ℕ
@@ -54,6 +59,27 @@ library_line (library.Value key value) = codes "aqfp: library: " ++ key ++ codes
 library_line (library.Law number) = codes "aqfp: library: law " ++ decimal number ++ codes "\n"
 library_line (library.Missing kind) = missing_line kind
 
+-- of what there is too much
+abbrev pub large_text : Large → List ℕ
+large_text Shapes = codes "shapes"
+
+-- what is wrong with a stream
+abbrev pub stream_kind_text : StreamKind → List ℕ
+stream_kind_text stream.Truncated = codes "truncated"
+stream_kind_text stream.Length = codes "length"
+stream_kind_text stream.Order = codes "order"
+stream_kind_text stream.DataType = codes "data type"
+stream_kind_text stream.Value = codes "value"
+stream_kind_text stream.Unsupported = codes "unsupported"
+stream_kind_text stream.UnknownName = codes "unknown name"
+stream_kind_text stream.NotRectangle = codes "not a rectangle"
+stream_kind_text stream.SeveralTops = codes "several tops"
+stream_kind_text stream.NoTop = codes "no top"
+
+-- two numbers, with a blank between them
+abbrev pub pair_text : ℕ → ℕ → List ℕ
+pair_text first second = decimal first ++ 32 ∷ decimal second
+
 -- the whole line of a fault
 abbrev pub line_of : List (List ℕ) → Fault → List ℕ
 line_of words Usage = codes "aqfp: usage: build NET LIB OUT, verify GDS LIB WORDS, trace GDS LIB WORDS, sample N\n"
@@ -64,6 +90,10 @@ line_of words (WriteFault call) = codes "aqfp: write failed\n"
 line_of words (BadBlif fault) = netlist_line fault
 line_of words (BadLibrary fault) = library_line fault
 line_of words (MissingCell kind) = missing_line kind
+line_of words (TooLarge what count) = codes "aqfp: too large: " ++ decimal count ++ codes " " ++ large_text what ++ codes "\n"
+line_of words (BadStream offset kind) = codes "aqfp: stream: byte " ++ decimal offset ++ codes ": " ++ stream_kind_text kind ++ codes "\n"
+line_of words (RuleBroken rule first second) = codes "aqfp: rule " ++ name_of rule ++ codes ": shapes " ++ pair_text first second ++ codes "\n"
+line_of words (BadWords line) = codes "aqfp: words: line " ++ decimal line ++ codes "\n"
 line_of words (Unbuilt place) = named words place (codes ": not built yet\n")
 line_of words Memory = codes "aqfp: out of memory\n"
 

@@ -2,14 +2,15 @@
 use Rattle.std.specs.Prelude.{ℕ, List}
 use Rattle.std.specs.List.{flat_map}
 use Rattle.std.specs.Fmt.{decimal}
-use Rattle.aqfp_top.specs.Lines.{signals_text, integer_text}
+use Rattle.aqfp_top.specs.Lines.{signals_text, integer_text, pair_text}
 use Rattle.aqfp_top.specs.declared.pieces.Piece.{Piece}
-use Rattle.aqfp_top.specs.declared.pieces.Piece.TheVariants.{Text, Number, Integer, Signals}
+use Rattle.aqfp_top.specs.declared.pieces.Piece.TheVariants.{Text, Number, Integer, Signals, Pair}
 
 abbrev pub piece_text : Piece → List ℕ
 piece_text (Text text) = text.now
 piece_text (Number n) = decimal n
 piece_text (Integer n) = integer_text n
+piece_text (Pair first second) = pair_text first second
 piece_text (Signals signals) = signals_text signals.now
 
 abbrev pub pieces_text : List Piece → List ℕ

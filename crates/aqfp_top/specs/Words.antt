@@ -4,7 +4,7 @@ use Rattle.std.specs.Fmt.{decimal}
 use Rattle.std.specs.String.{string_bytes}
 use Rattle.std.specs.declared.alloc.Global.{Global}
 use Rattle.aqfp_top.specs.declared.words.Form.{Form}
-use Rattle.aqfp_top.specs.declared.words.Form.TheVariants.{Build, Later, Wrong}
+use Rattle.aqfp_top.specs.declared.words.Form.TheVariants.{Build, Verify, Trace, Later, Wrong}
 
 -- the bytes of each word
 abbrev pub spelled : List (String Global) → List (List ℕ)
@@ -25,16 +25,29 @@ pub record IsSampleSize (text : List ℕ) : Type 0 where
   pub some : 1 ≤ bits
   pub few : bits ≤ 64
 
--- verify GDS LIB WORDS, trace GDS LIB WORDS, or sample N
+-- verify GDS LIB WORDS
+abbrev pub IsVerify : List (List ℕ) → Type 0
+IsVerify words = (length words ≡ 4) × (word_at words 0 ≡ codes "verify")
+
+-- trace GDS LIB WORDS
+abbrev pub IsTrace : List (List ℕ) → Type 0
+IsTrace words = (length words ≡ 4) × (word_at words 0 ≡ codes "trace")
+
+-- one of the two commands that check a chip
+abbrev pub IsCheck : List (List ℕ) → Type 0
+IsCheck words = IsVerify words ⊎ IsTrace words
+
+-- sample N, which is to come
 abbrev pub IsLater : List (List ℕ) → Type 0
-IsLater words = ((length words ≡ 4) × ((word_at words 0 ≡ codes "verify") ⊎ (word_at words 0 ≡ codes "trace")))
-    ⊎ ((length words ≡ 2) × (word_at words 0 ≡ codes "sample") × IsSampleSize (word_at words 1))
+IsLater words = (length words ≡ 2) × (word_at words 0 ≡ codes "sample") × IsSampleSize (word_at words 1)
 
 abbrev pub HasForm : List (List ℕ) → Type 0
-HasForm words = IsBuild words ⊎ IsLater words
+HasForm words = IsBuild words ⊎ (IsCheck words ⊎ IsLater words)
 
 -- the words have this form
 abbrev pub IsOfForm : List (List ℕ) → Form → Type 0
 IsOfForm words Build = IsBuild words
+IsOfForm words Verify = IsVerify words
+IsOfForm words Trace = IsTrace words
 IsOfForm words Later = IsLater words
 IsOfForm words Wrong = ¬ HasForm words

@@ -29,7 +29,8 @@ fn read_netlist(alloc: Global, text: &[u8]) -> Result<Netlist, Fault>
     }
 }
 
-fn read_cells(alloc: Global, text: &[u8]) -> Result<Library, Fault>
+/// The library that the text says.
+pub fn read_cells(alloc: Global, text: &[u8]) -> Result<Library, Fault>
     requires { length text.now ≤ 2 ^ 28 }
     ensures ok { IfOk result (λ cells. library.Says text.now cells) }
     ensures bad { IfErr result (IsLibraryFault text.now) }

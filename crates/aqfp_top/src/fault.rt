@@ -4,6 +4,8 @@ ghost use Rattle.std.specs.Prelude.{◌≡◌, Some};
 use blif_read::BlifFault;
 use cell_library::LibraryFault;
 use circuit::CellKind;
+use gds_records::StreamKind;
+use layout_rules::Rule;
 
 /// The call that a store or a sink refused.
 #[derive(Clone, Copy, Debug, PartialEq, Eq)]
@@ -16,6 +18,13 @@ pub enum WriteCall {
     Close,
     /// Printing to `out`.
     Out,
+}
+
+/// The thing of which there are too many.
+#[derive(Clone, Copy, Debug, PartialEq, Eq)]
+pub enum Large {
+    /// The shapes and labels of a layout's flat form.
+    Shapes,
 }
 
 /// Why a command did not do its work. A `word` is a place among the words, counted from 0.
@@ -37,6 +46,14 @@ pub enum Fault {
     BadLibrary { fault: LibraryFault },
     /// The library lacks a kind of cell that each library has.
     MissingCell { kind: CellKind },
+    /// There are more than the limit of the thing: so many.
+    TooLarge { what: Large, count: u64 },
+    /// The layout's bytes are no stream: the first fault, and its place among the bytes, counted from 0.
+    BadStream { offset: u64, kind: StreamKind },
+    /// The shapes break a rule: the first that is broken, and the numbers of shapes that it reports.
+    RuleBroken { rule: Rule, first: u32, second: u32 },
+    /// The line of this number, counted from 1, is no word for the circuit.
+    BadWords { line: u64 },
     /// The work is not built yet for what stands at this place.
     Unbuilt { word: u32 },
     /// Want of memory.
@@ -59,6 +76,10 @@ impl Fault {
             Fault::BadBlif { .. } => 6,
             Fault::BadLibrary { .. } => 7,
             Fault::MissingCell { .. } => 8,
+            Fault::TooLarge { .. } => 10,
+            Fault::BadStream { .. } => 11,
+            Fault::RuleBroken { .. } => 12,
+            Fault::BadWords { .. } => 13,
             Fault::Memory => 14,
             Fault::Unbuilt { .. } => 15,
         }

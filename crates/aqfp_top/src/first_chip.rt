@@ -5,7 +5,7 @@ ghost use Rattle.blif_read.specs.Netlist.{IsNetlist};
 ghost use Rattle.blif_read.specs.Equations.{IsAnswer};
 ghost use Rattle.layout_rules.specs.FirstLimits.{first_limits};
 ghost use Rattle.shape_extract.specs.FirstCircuit.{first_circuit};
-ghost use Rattle.aqfp_top.specs.Counts.{delay_of};
+ghost use Rattle.chip_texts.specs.Counts.{delay_of};
 ghost use Rattle.aqfp_top.specs.Designs.{IsWire};
 ghost use Rattle.aqfp_top.specs.Realises.{Realises};
 ghost use Rattle.gds_records.specs.FirstChip.{first_bytes};

@@ -2,12 +2,14 @@
 #![tactic(auto)]
 
 mod build;
+mod check;
 mod constants;
 mod design;
 mod fault;
 mod first_chip;
 mod first_layout;
 mod load;
+mod one_fault;
 mod pieces;
 mod report;
 mod run;
@@ -15,8 +17,9 @@ mod store;
 mod words;
 
 pub use constants::COUNTS;
-pub use fault::{Fault, WriteCall};
+pub use fault::{Fault, Large, WriteCall};
 pub use first_chip::first_chip_realises;
+pub use one_fault::checks_find_one_fault;
 pub use run::{Ending, aqfp_run};
 
 #[cfg(test)]

@@ -4,7 +4,7 @@ ghost use Rattle.std.specs.Fmt.{decimal};
 ghost use Rattle.std.specs.List.{flat_map};
 ghost use Rattle.aq_base.specs.Causes.{Rose, HasCause};
 ghost use Rattle.aq_base.specs.Store.{gained, GainsPrefix};
-ghost use Rattle.aqfp_top.specs.Lines.{signals_text, integer_text};
+ghost use Rattle.aqfp_top.specs.Lines.{signals_text, integer_text, pair_text};
 ghost use Rattle.aqfp_top.specs.Pieces.{piece_text, pieces_text};
 
 use aq_base::{Bytes, List, Sink, StoreRefusal};
@@ -18,6 +18,8 @@ pub enum Piece<'a> {
     Number(u64),
     /// A number in decimal digits, after a minus sign where it is negative.
     Integer(i64),
+    /// Two numbers, with a blank between them.
+    Pair(u32, u32),
     /// Signals, each after a blank.
     Signals(&'a List<Bytes>),
 }
@@ -50,6 +52,30 @@ fn put_integer<S: Sink>(sink: &mut S, n: i64) -> Result<(), StoreRefusal>
     }
     sink.put(b"-")?;
     put_decimal(sink, n.unsigned_abs())
+}
+
+// Puts a number, after a blank.
+#[tactic(auto, using(crate::proofs::Putting::signals))]
+fn put_after_blank<S: Sink>(sink: &mut S, number: u32) -> Result<(), StoreRefusal>
+    ensures added { OnOk result (S.written sink.new ≡ gained (S.written sink.old) (32 ∷ decimal number)) }
+    ensures prefix { OnErr result (GainsPrefix (S.written sink.old) (S.written sink.new) (32 ∷ decimal number)) }
+    ensures faults { HasCause (S.faults sink.old) (S.faults sink.new) (IsErrOf result StoreRefusal.Failed) }
+    ensures refused { HasCause (S.refused sink.old) (S.refused sink.new) (IsErrOf result StoreRefusal.Memory) }
+{
+    sink.put(b" ")?;
+    put_decimal(sink, u64::from(number))
+}
+
+// Puts two numbers, with a blank between them.
+#[tactic(auto, using(crate::proofs::Putting::digits))]
+fn put_pair<S: Sink>(sink: &mut S, first: u32, second: u32) -> Result<(), StoreRefusal>
+    ensures added { OnOk result (S.written sink.new ≡ gained (S.written sink.old) (pair_text first second)) }
+    ensures prefix { OnErr result (GainsPrefix (S.written sink.old) (S.written sink.new) (pair_text first second)) }
+    ensures faults { HasCause (S.faults sink.old) (S.faults sink.new) (IsErrOf result StoreRefusal.Failed) }
+    ensures refused { HasCause (S.refused sink.old) (S.refused sink.new) (IsErrOf result StoreRefusal.Memory) }
+{
+    put_decimal(sink, u64::from(first))?;
+    put_after_blank(sink, second)
 }
 
 // Puts a signal, after a blank.
@@ -89,6 +115,7 @@ fn put_piece<S: Sink>(sink: &mut S, piece: &Piece<'_>) -> Result<(), StoreRefusa
         Piece::Text(text) => sink.put(text),
         Piece::Number(number) => put_decimal(sink, *number),
         Piece::Integer(integer) => put_integer(sink, *integer),
+        Piece::Pair(first, second) => put_pair(sink, *first, *second),
         Piece::Signals(signals) => put_signals(sink, signals),
     }
 }

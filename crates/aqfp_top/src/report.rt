@@ -2,17 +2,20 @@
 ghost use Rattle.std.specs.Prelude.{◌≡◌, ◌<◌, ◌⊎◌, ◌++◌, ℕ, length, Some};
 ghost use Rattle.aq_base.specs.Causes.{Rose};
 ghost use Rattle.aqfp_top.specs.Words.{spelled};
-ghost use Rattle.aqfp_top.specs.Lines.{line_of, netlist_line, library_line, missing_line, line_kind_text, named as named_line, Puts, HasPlace};
+ghost use Rattle.aqfp_top.specs.Lines.{line_of, netlist_line, library_line, missing_line, line_kind_text, large_text, stream_kind_text, named as named_line, Puts, HasPlace};
 ghost use Rattle.cell_library.specs.Kinds.{key_of as kind_key};
+ghost use Rattle.layout_rules.specs.RuleNames.{name_of};
 ghost use Rattle.aqfp_top.specs.Pieces.{pieces_text};
 
-use crate::fault::Fault;
+use crate::fault::{Fault, Large};
 use crate::pieces::{Piece, put_pieces};
 use crate::words::word;
 use aq_base::Sink;
 use blif_read::{BlifFault, LineKind};
 use cell_library::LibraryFault;
 use circuit::CellKind;
+use gds_records::StreamKind;
+use layout_rules::Rule;
 
 fn line_kind(kind: &LineKind) -> &[u8]
     ensures { result.now ≡ line_kind_text kind.now }
@@ -41,6 +44,38 @@ fn key_of(kind: &CellKind) -> &[u8]
         CellKind::Split2 => b"split2",
         CellKind::Split3 => b"split3",
         CellKind::Majority => b"majority",
+    }
+}
+
+// The name of a rule, lent as long as the rule is.
+fn rule_name(rule: &Rule) -> &[u8]
+    ensures { result.now ≡ name_of rule.now }
+{
+    rule.name()
+}
+
+fn large(what: &Large) -> &[u8]
+    ensures { result.now ≡ large_text what.now }
+{
+    match what {
+        Large::Shapes => b"shapes",
+    }
+}
+
+fn stream_kind(kind: &StreamKind) -> &[u8]
+    ensures { result.now ≡ stream_kind_text kind.now }
+{
+    match kind {
+        StreamKind::Truncated => b"truncated",
+        StreamKind::Length => b"length",
+        StreamKind::Order => b"order",
+        StreamKind::DataType => b"data type",
+        StreamKind::Value => b"value",
+        StreamKind::Unsupported => b"unsupported",
+        StreamKind::UnknownName => b"unknown name",
+        StreamKind::NotRectangle => b"not a rectangle",
+        StreamKind::SeveralTops => b"several tops",
+        StreamKind::NoTop => b"no top",
     }
 }
 
@@ -150,6 +185,38 @@ fn pieces_of<'a>(words: &'a [String], fault: &'a Fault) -> [Piece<'a>; 5]
         Fault::BadBlif { fault } => netlist_pieces(fault),
         Fault::BadLibrary { fault } => library_pieces(fault),
         Fault::MissingCell { kind } => missing_pieces(kind),
+        Fault::TooLarge { what, count } => [
+            Piece::Text(b"aqfp: too large: "),
+            Piece::Number(*count),
+            Piece::Text(b" "),
+            Piece::Text(large(what)),
+            Piece::Text(b"\n"),
+        ],
+        Fault::BadStream { offset, kind } => [
+            Piece::Text(b"aqfp: stream: byte "),
+            Piece::Number(*offset),
+            Piece::Text(b": "),
+            Piece::Text(stream_kind(kind)),
+            Piece::Text(b"\n"),
+        ],
+        Fault::RuleBroken {
+            rule,
+            first,
+            second,
+        } => [
+            Piece::Text(b"aqfp: rule "),
+            Piece::Text(rule_name(rule)),
+            Piece::Text(b": shapes "),
+            Piece::Pair(*first, *second),
+            Piece::Text(b"\n"),
+        ],
+        Fault::BadWords { line } => [
+            Piece::Text(b"aqfp: words: line "),
+            Piece::Number(*line),
+            Piece::Text(b"\n"),
+            Piece::Text(b""),
+            Piece::Text(b""),
+        ],
         Fault::Unbuilt { word } => named(words, *word, b": not built yet\n"),
         Fault::Memory => text(fault, b"aqfp: out of memory\n"),
     }

@@ -3,22 +3,25 @@ ghost use Rattle.std.specs.Prelude.{◌≡◌, ◌⊎◌, Some, None, IsSome, If
 ghost use Rattle.std.specs.Result.{result_err};
 ghost use Rattle.aq_base.specs.Causes.{Rose};
 ghost use Rattle.aq_base.specs.Store.{Contents};
-ghost use Rattle.aqfp_top.specs.Words.{spelled, word_at, IsBuild, IsLater, HasForm};
+ghost use Rattle.aqfp_top.specs.Words.{spelled, word_at, IsBuild, IsVerify, IsTrace, IsLater, HasForm};
 ghost use Rattle.aqfp_top.specs.Statuses.{status_of};
 ghost use Rattle.aqfp_top.specs.Lines.{Reports, HasPlace};
 ghost use Rattle.aqfp_top.specs.Counted.{HasFaults, FailedLoad, NoFaults};
-ghost use Rattle.aqfp_top.specs.Designs.{IsWrong, IsServed};
-ghost use Rattle.aqfp_top.specs.Build.{BuildStands, BuildPrints, IsReached, IsTooLong, HasTexts, ToldKept};
+ghost use Rattle.aqfp_top.specs.Build.{ToldKept};
 ghost use Rattle.aqfp_top.specs.Chips.{BuildsChip};
-ghost use Rattle.aqfp_top.specs.Run.{RunCause, ComesOrYields, ComesTooLong, IsDoneOrMemory};
+ghost use Rattle.aqfp_top.specs.Verified.{VerifiesChip, TracesChip};
+ghost use Rattle.aqfp_top.specs.Run.{RunCause, RunStands, RunPrints, Reaches, FindsTooLong, FindsWrong, FindsAllWell, ComesOrYields, ComesTooLong, IsDoneOrMemory};
 ghost use Rattle.aqfp_top.specs.declared.fault.Fault.{Fault};
 
 use crate::build::build;
+use crate::check::{Printing, check};
 use crate::fault::Fault;
 use crate::first_chip::first_chip_realises;
+use crate::one_fault::checks_find_one_fault;
 use crate::report::say;
 use crate::words::{Form, form_of};
 use aq_base::{Files, Sink};
+use chip_texts::answers_are_shown;
 use std::alloc::Global;
 
 /// How a run ended: the status of the program, and the fault where the status is not 0.
@@ -37,17 +40,19 @@ fn work<F: Files, O: Sink>(
 ) -> Result<(), Fault>
     requires { F.opened files.old ≡ None }
     ensures cause { RunCause (F.told files.old) (spelled words.now) (result_err result) }
-    ensures stands { BuildStands (F.told files.old) (F.told files.new) (word_at (spelled words.now) 3) (result_err result) }
-    ensures prints { BuildPrints (O.written out.old) (O.written out.new) (result_err result) }
+    ensures stands { RunStands (F.told files.old) (F.told files.new) (spelled words.now) (result_err result) }
+    ensures prints { RunPrints (F.told files.old) (spelled words.now) (O.written out.old) (O.written out.new) (result_err result) }
     ensures faults { HasFaults (record { reads = F.read_faults files.old; writes = F.write_faults files.old; closes = F.close_faults files.old; outs = O.faults out.old })
         (record { reads = F.read_faults files.new; writes = F.write_faults files.new; closes = F.close_faults files.new; outs = O.faults out.new }) (result_err result) }
     ensures failed { IsSome (F.told files.old) → FailedLoad (F.load_failed files.new) (spelled words.now) (result_err result) }
-    ensures kept { IfOk result (λ _. ToldKept (F.told files.old) (spelled words.now)) }
+    ensures kept { IfOk result (λ _. IsBuild (spelled words.now) → ToldKept (F.told files.old) (spelled words.now)) }
     ensures places { IfErr result (HasPlace (spelled words.now)) }
     ensures shut { F.opened files.new ≡ None }
 {
     match form_of(words) {
         Form::Build => build(alloc, words, files, out),
+        Form::Verify => check(alloc, Printing::Answers, words, files, out),
+        Form::Trace => check(alloc, Printing::Fluxes, words, files, out),
         Form::Later => Err(Fault::Unbuilt { word: 0 }),
         Form::Wrong => Err(Fault::Usage),
     }
@@ -75,13 +80,13 @@ pub fn aqfp_run<F: Files, O: Sink, E: Sink>(
     // The first thing that is wrong is the fault that comes.
     ensures usage { ¬ HasForm (spelled words.now) → result.fault ≡ Some Fault.Usage }
     ensures later { IsLater (spelled words.now) → result.fault ≡ Some (Fault.Unbuilt 0) }
-    ensures absent { (held : Contents) (place : ℕ) → F.told files.old ≡ Some held → IsBuild (spelled words.now)
-        → IsReached held (spelled words.now) place → held (word_at (spelled words.now) place) ≡ None → ComesOrYields (Fault.Absent place) result.fault }
-    ensures too_long { (held : Contents) (place : ℕ) → F.told files.old ≡ Some held → IsBuild (spelled words.now)
-        → IsReached held (spelled words.now) place → IsTooLong held (spelled words.now) place → ComesTooLong place result.fault }
-    ensures wrong { (held : Contents) (due : Fault) → F.told files.old ≡ Some held → IsBuild (spelled words.now)
-        → HasTexts held (spelled words.now) (λ net lib. IsWrong net lib due) → ComesOrYields due result.fault }
-    ensures complete { (held : Contents) → F.told files.old ≡ Some held → IsBuild (spelled words.now) → HasTexts held (spelled words.now) IsServed
+    ensures absent { (held : Contents) (place : ℕ) → F.told files.old ≡ Some held
+        → Reaches held (spelled words.now) place → held (word_at (spelled words.now) place) ≡ None → ComesOrYields (Fault.Absent place) result.fault }
+    ensures too_long { (held : Contents) (place : ℕ) → F.told files.old ≡ Some held
+        → FindsTooLong held (spelled words.now) place → ComesTooLong place result.fault }
+    ensures wrong { (held : Contents) (due : Fault) → F.told files.old ≡ Some held
+        → FindsWrong held (spelled words.now) due → ComesOrYields due result.fault }
+    ensures complete { (held : Contents) → F.told files.old ≡ Some held → FindsAllWell held (spelled words.now)
         → NoFaults (record { reads = F.read_faults files.old; writes = F.write_faults files.old; closes = F.close_faults files.old; outs = O.faults out.old })
         (record { reads = F.read_faults files.new; writes = F.write_faults files.new; closes = F.close_faults files.new; outs = O.faults out.new })
         → IsDoneOrMemory result.fault }
@@ -90,14 +95,22 @@ pub fn aqfp_run<F: Files, O: Sink, E: Sink>(
     ensures chip { (held : Contents) → F.told files.old ≡ Some held → IsBuild (spelled words.now) → result.fault ≡ None
         → BuildsChip held (F.told files.new) (spelled words.now) (O.written out.old) (O.written out.new) }
 
+    // What a check that ends well has shown: the answers to the words, whatever the order of switching, or the fluxes.
+    ensures verified { (held : Contents) → F.told files.old ≡ Some held → IsVerify (spelled words.now) → result.fault ≡ None
+        → VerifiesChip held (spelled words.now) (O.written out.old) (O.written out.new) }
+    ensures traced { (held : Contents) → F.told files.old ≡ Some held → IsTrace (spelled words.now) → result.fault ≡ None
+        → TracesChip held (spelled words.now) (O.written out.old) (O.written out.new) }
+
     // What is left.
-    ensures stands { BuildStands (F.told files.old) (F.told files.new) (word_at (spelled words.now) 3) result.fault }
-    ensures prints { BuildPrints (O.written out.old) (O.written out.new) result.fault }
+    ensures stands { RunStands (F.told files.old) (F.told files.new) (spelled words.now) result.fault }
+    ensures prints { RunPrints (F.told files.old) (spelled words.now) (O.written out.old) (O.written out.new) result.fault }
     ensures shut { F.opened files.new ≡ None }
     ensures reports { Reports (E.written err.old) (E.written err.new) (spelled words.now) result.fault
         (Rose (E.faults err.old) (E.faults err.new) ⊎ Rose (E.refused err.old) (E.refused err.new)) }
 {
     first_chip_realises();
+    checks_find_one_fault();
+    answers_are_shown();
     match work(alloc, words, files, out) {
         Ok(()) => Ending {
             status: 0,

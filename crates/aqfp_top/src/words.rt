@@ -9,7 +9,11 @@ use aq_base::read_decimal;
 pub enum Form {
     /// `build NET LIB OUT`.
     Build,
-    /// A command that is to come: `verify GDS LIB WORDS`, `trace GDS LIB WORDS` or `sample N`.
+    /// `verify GDS LIB WORDS`.
+    Verify,
+    /// `trace GDS LIB WORDS`.
+    Trace,
+    /// A command that is to come: `sample N`.
     Later,
     /// None of the forms.
     Wrong,
@@ -49,8 +53,11 @@ pub fn form_of(words: &[String]) -> Form
         if is_word(words, 0, "build") {
             return Form::Build;
         }
-        if is_word(words, 0, "verify") || is_word(words, 0, "trace") {
-            return Form::Later;
+        if is_word(words, 0, "verify") {
+            return Form::Verify;
+        }
+        if is_word(words, 0, "trace") {
+            return Form::Trace;
         }
         return Form::Wrong;
     }

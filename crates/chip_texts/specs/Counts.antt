@@ -7,7 +7,7 @@ use Rattle.shape_extract.specs.Circuits.{CircuitView}
 abbrev pub delay_of : CircuitView → ℕ
 delay_of circuit = circuit.rows - 1
 
-abbrev pub counts_line : CircuitView → List ℕ
+unfoldable pub counts_line : CircuitView → List ℕ
 counts_line circuit =
     codes "rows " ++ decimal circuit.rows
     ++ codes " cells " ++ decimal (length circuit.cells)

@@ -1,0 +1,52 @@
+-- What a verify or a trace that ends well has shown of the chip under GDS.
+use Rattle.std.specs.Prelude.{◌≡◌, ℕ, Bool, List, Option, Some}
+use Rattle.aq_base.specs.Store.{Contents, gained}
+use Rattle.geom.specs.declared.layout.Layout.{Layout}
+use Rattle.geom.specs.FlatForm.{flat_of}
+use Rattle.gds_records.specs.Stream.{IsStream}
+use Rattle.cell_library.specs.Library.{LibraryView}
+use Rattle.cell_library.specs.Says as library
+use Rattle.layout_rules.specs.Limits.{Limits}
+use Rattle.layout_rules.specs.Rules.{KeepsCircuitRules}
+use Rattle.shape_extract.specs.Circuits.{CircuitView}
+use Rattle.shape_extract.specs.Extraction.{IsCircuitOf}
+use Rattle.pulse_sim.specs.Shows.{Shows}
+use Rattle.chip_texts.specs.Counts.{delay_of}
+use Rattle.chip_texts.specs.WordsText.{words_of, SaysWords}
+use Rattle.chip_texts.specs.WordLines.{answers_text}
+use Rattle.chip_texts.specs.FluxLines.{trace_text}
+use Rattle.aqfp_top.specs.Words.{word_at}
+
+-- The bytes under GDS are a stream, those under LIB say a library, the layout's shapes keep the rules of circuits and
+-- make this circuit, and the lines under WORDS are these words for it.
+pub record ChecksChip (held : Contents) (words : List (List ℕ)) (circuit : CircuitView) (given : List (List Bool)) : Type 0 where
+  pub gds : List ℕ
+  pub lib : List ℕ
+  pub text : List ℕ
+  pub gds_held : held (word_at words 1) ≡ Some gds
+  pub lib_held : held (word_at words 2) ≡ Some lib
+  pub text_held : held (word_at words 3) ≡ Some text
+  pub layout : Layout
+  pub stream : IsStream gds layout
+  pub cells : LibraryView
+  pub lib_says : library.Says lib cells
+  pub rules : (limits : Limits) → KeepsCircuitRules (flat_of layout) limits
+  pub extracted : IsCircuitOf (flat_of layout) circuit
+  pub text_says : SaysWords circuit.inputs text
+  pub given_is : given ≡ words_of text
+
+-- The chip's counts were printed, and for each word the answer that the circuit shows in every order of switching.
+pub record VerifiesChip (held : Contents) (words : List (List ℕ)) (before after : Option (List ℕ)) : Type 0 where
+  pub circuit : CircuitView
+  pub given : List (List Bool)
+  pub checks : ChecksChip held words circuit given
+  pub answers : List (List Bool)
+  pub shows : Shows circuit (delay_of circuit) given answers
+  pub printed : after ≡ gained before (answers_text circuit answers)
+
+-- The chip's counts were printed, and the flux of each cell at each time of the settled run.
+pub record TracesChip (held : Contents) (words : List (List ℕ)) (before after : Option (List ℕ)) : Type 0 where
+  pub circuit : CircuitView
+  pub given : List (List Bool)
+  pub checks : ChecksChip held words circuit given
+  pub printed : after ≡ gained before (trace_text circuit given)

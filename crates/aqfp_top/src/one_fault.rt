@@ -1,0 +1,19 @@
+// The first thing that is wrong with a chip's texts is one.
+ghost use Rattle.std.specs.Prelude.{◌≡◌, ℕ, List};
+ghost use Rattle.aqfp_top.specs.Checks.{IsWrong, SaysSound};
+ghost use Rattle.aqfp_top.specs.declared.fault.Fault.{Fault};
+
+use gds_records::{one_layout, one_of_both};
+use layout_rules::laws::first_broken_once;
+use shape_extract::one_circuit;
+
+/// Of a stream, a library and words at most one thing is the first that is wrong, and nothing where all is well.
+pub fn checks_find_one_fault()
+    ensures one { (gds lib text : List ℕ) (due fault : Fault) → IsWrong gds lib text due → IsWrong gds lib text fault → fault ≡ due }
+    ensures none { (gds lib text : List ℕ) (fault : Fault) → SaysSound gds lib text → IsWrong gds lib text fault → ⊥ }
+{
+    one_layout();
+    one_of_both();
+    first_broken_once();
+    one_circuit();
+}

@@ -1,0 +1,6 @@
+pub mod Cuts
+pub mod Reading
+pub mod Pages
+pub mod Answering
+pub mod Shown
+pub mod Tracing

@@ -1,0 +1,7 @@
+pub mod WordsText
+pub mod Counts
+pub mod WordLines
+pub mod FluxLines
+pub mod Printing
+pub mod Running
+pub mod RowStarts

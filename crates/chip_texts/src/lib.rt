@@ -1,0 +1,19 @@
+//! The texts of `verify` and `trace`: words are read, and a circuit's counts, answers and fluxes are printed.
+#![tactic(auto)]
+
+mod answers;
+mod counts;
+mod fluxes;
+mod laws;
+mod lines;
+mod page;
+mod run;
+mod words;
+
+pub use answers::print_answers;
+pub use fluxes::print_fluxes;
+pub use laws::answers_are_shown;
+pub use words::{BadLine, GivenWords, read_words};
+
+#[cfg(test)]
+mod tests;
