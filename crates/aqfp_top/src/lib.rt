@@ -23,4 +23,6 @@ pub use one_fault::checks_find_one_fault;
 pub use run::{Ending, aqfp_run};
 
 #[cfg(test)]
+mod check_tests;
+#[cfg(test)]
 mod tests;

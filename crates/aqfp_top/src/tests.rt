@@ -5,7 +5,7 @@ use std::alloc::{AllocError, Global};
 use std::test::Fail;
 
 // The stream of the first chip, as the manual's records spell it.
-const STREAM: [u8; 1046] = [
+pub const STREAM: [u8; 1046] = [
     0, 6, 0, 2, 2, 88, 0, 28, 1, 2, 7, 178, 0, 1, 0, 1, 0, 0, 0, 0, 0, 0, 7, 178, 0, 1, 0, 1, 0, 0,
     0, 0, 0, 0, 0, 8, 2, 6, 65, 81, 70, 80, 0, 20, 3, 5, 62, 65, 137, 55, 75, 198, 167, 240, 57,
     68, 184, 47, 160, 155, 90, 84, 0, 28, 5, 2, 7, 178, 0, 1, 0, 1, 0, 0, 0, 0, 0, 0, 7, 178, 0, 1,
@@ -48,10 +48,10 @@ const STREAM: [u8; 1046] = [
 
 const WIRE: &[u8] = b".model wire\n.inputs a\n.outputs a\n.end\n";
 
-const LIBRARY_A: &str =
+pub const LIBRARY_A: &str =
     "wire = 1000\nspace = 1000\nvia = 600\nenclose = 200\npin = 1000\nheight = 10000\npitch = 2000\ncolumns = 4\ncapacity = 28\nlimit = 180000\n[buffer]\ninputs = [1]\noutputs = [2]\n[inverter]\ninputs = [1]\noutputs = [2]\n[zero]\ninputs = []\noutputs = [2]\n[one]\ninputs = []\noutputs = [2]\n[split2]\ninputs = [1]\noutputs = [2, 6]\n[split3]\ninputs = [1]\noutputs = [2, 6, 10]\n[majority]\ninputs = [1, 5, 9]\noutputs = [2]\n";
 
-fn texts(alloc: Global, words: &[&str]) -> Result<Vec<String>, AllocError> {
+pub fn texts(alloc: Global, words: &[&str]) -> Result<Vec<String>, AllocError> {
     let mut all = Vec::new(alloc);
     for word in words {
         all.push(String::from_str(alloc, word)?)?;
@@ -97,11 +97,7 @@ fn what_is_wrong_is_told(rt: HostRuntime) -> Result<(), Fail> {
         ("build x", 1, usage),
         ("build wire a.toml out more", 1, usage),
         ("sample 64", 15, "aqfp: sample: not built yet\n"),
-        (
-            "verify wire a.toml words",
-            15,
-            "aqfp: verify: not built yet\n",
-        ),
+        ("verify wire a.toml", 1, usage),
         ("build nothing a.toml out", 2, "aqfp: nothing: absent\n"),
         ("build wire nothing out", 2, "aqfp: nothing: absent\n"),
         ("build cycle a.toml out", 6, "aqfp: line 4: cycle y q r\n"),
