@@ -53,6 +53,7 @@ fn within_size(alloc: Global, layout: Layout) -> Result<Layout, StreamRefusal>
 
 /// The layout whose stream the bytes are, or why they are not read. Bytes that are a stream have one layout, and all
 /// others a first fault; want of memory apart, a stream is read exactly where its flat form is of a size that is taken.
+/// Coordinates are in nanometres; the offset of a fault counts bytes from 0.
 pub fn read_stream(alloc: Global, bytes: &[u8]) -> Result<Layout, StreamRefusal>
     ensures ok { IfOk result (λ layout. IsReadAs bytes.now layout) }
     ensures err { IfErr result (λ refusal. IsRefusedFor bytes.now refusal) }

@@ -19,7 +19,7 @@ impl StreamRefusal {
     ghost use Rattle.gds_read.specs.declared.refusal.StreamRefusal.{StreamRefusal};
 
     /// A fault at a place.
-    pub fn bad(offset: usize, kind: StreamKind) -> Self
+    pub(crate) fn bad(offset: usize, kind: StreamKind) -> Self
         ensures { result ≡ StreamRefusal.Bad offset kind }
     {
         StreamRefusal::Bad {
