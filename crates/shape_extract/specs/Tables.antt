@@ -7,6 +7,7 @@ use Rattle.circuit.specs.declared.cell_kind.CellKind.{CellKind}
 use Rattle.circuit.specs.CellKinds.{number_of, inputs_of}
 use Rattle.layout_rules.specs.Layers.{is_frame}
 use Rattle.layout_rules.specs.Nets.{AreNets}
+use Rattle.shape_extract.specs.declared.cell_feeds.Tables.{Tables}
 use Rattle.shape_extract.specs.declared.cells.Feed.{Feed}
 use Rattle.shape_extract.specs.declared.cells.Feed.TheVariants.{Nothing}
 use Rattle.shape_extract.specs.Frames.{AreFrames}
@@ -23,6 +24,9 @@ pub record AreTables (flat : Flat) (nets frames places drivers : List ℕ) : Typ
   pub fewer : length frames ≤ length flat.shapes
   pub places_are : ArePlaces frames places
   pub drivers_are : AreDrivers flat.shapes nets drivers
+
+abbrev pub AreReady : Tables → Type 0
+AreReady tables = AreTables tables.flat.now tables.nets.now tables.frames.now tables.places.now tables.drivers.now
 
 -- f is the frame of a cell of this kind
 pub record IsFrameOf (shapes : List Shape) (kind : CellKind) (f : ℕ) : Type 0 where

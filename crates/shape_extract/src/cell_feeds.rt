@@ -8,7 +8,7 @@ ghost use Rattle.shape_extract.specs.Cells.{holds_pin};
 ghost use Rattle.shape_extract.specs.Extraction.{IsOutputPin, FeedsPin};
 ghost use Rattle.shape_extract.specs.PinNames.{IsOn};
 ghost use Rattle.shape_extract.specs.Searches.{AreThose};
-ghost use Rattle.shape_extract.specs.Tables.{AreTables, IsFrameOf, IsFeedOfInput};
+ghost use Rattle.shape_extract.specs.Tables.{AreReady, IsFrameOf, IsFeedOfInput};
 
 use crate::cell_rule::is_marked;
 use crate::cells::Feed;
@@ -34,7 +34,7 @@ pub struct Tables<'a> {
 
 /// The output of a cell that an output pin is.
 pub fn source_of(tables: &Tables<'_>, q: u32, found: &mut Vec<u32>) -> Result<Source, Memory>
-    requires tables { AreTables tables.now.flat.now tables.now.nets.now tables.now.frames.now tables.now.places.now tables.now.drivers.now }
+    requires tables { AreReady tables.now }
     requires output { IsOn tables.now.flat.now OUTPUT_PIN q }
     ensures { IfOk result (λ source. IsOutputPin tables.now.flat.now tables.now.frames.now source q) }
 {
@@ -49,7 +49,7 @@ pub fn source_of(tables: &Tables<'_>, q: u32, found: &mut Vec<u32>) -> Result<So
 
 /// What feeds an input pin: the circuit's input that its label names, or else the output pin in its net.
 fn feed_of(tables: &Tables<'_>, p: u32, found: &mut Vec<u32>) -> Result<Feed, Memory>
-    requires tables { AreTables tables.now.flat.now tables.now.nets.now tables.now.frames.now tables.now.places.now tables.now.drivers.now }
+    requires tables { AreReady tables.now }
     requires input { IsOn tables.now.flat.now INPUT_PIN p }
     ensures { IfOk result (FeedsPin tables.now.flat.now tables.now.frames.now p) }
 {
@@ -66,7 +66,7 @@ fn feed_of(tables: &Tables<'_>, p: u32, found: &mut Vec<u32>) -> Result<Feed, Me
 
 /// The input pin of this number among the pins of a cell.
 fn input_pin(tables: &Tables<'_>, pins: &[u32], kind: CellKind, f: u32, number: u32) -> u32
-    requires tables { AreTables tables.now.flat.now tables.now.nets.now tables.now.frames.now tables.now.places.now tables.now.drivers.now }
+    requires tables { AreReady tables.now }
     requires frame { IsFrameOf tables.now.flat.now.shapes kind f }
     requires pins { AreThose (PassTogether holds_pin tables.now.flat.now.shapes f) pins.now }
     requires number { number < inputs_of kind }
@@ -91,7 +91,7 @@ pub fn feed_at(
     number: u32,
     found: &mut Vec<u32>,
 ) -> Result<Feed, Memory>
-    requires tables { AreTables tables.now.flat.now tables.now.nets.now tables.now.frames.now tables.now.places.now tables.now.drivers.now }
+    requires tables { AreReady tables.now }
     requires frame { IsFrameOf tables.now.flat.now.shapes kind f }
     requires pins { AreThose (PassTogether holds_pin tables.now.flat.now.shapes f) pins.now }
     ensures { IfOk result (IsFeedOfInput tables.now.flat.now tables.now.frames.now kind f number) }

@@ -6,7 +6,7 @@ ghost use Rattle.layout_rules.specs.Rows.{AreRows, row_of};
 ghost use Rattle.layout_rules.specs.Reports.{Passes};
 ghost use Rattle.layout_rules.specs.Layers.{is_frame};
 ghost use Rattle.shape_extract.specs.Extraction.{IsCellFrom};
-ghost use Rattle.shape_extract.specs.Tables.{AreTables, IsFrameOf};
+ghost use Rattle.shape_extract.specs.Tables.{AreReady, IsFrameOf};
 
 use crate::cell_feeds::{Tables, feed_at};
 use crate::cell_rule::{HoldsPin, kind_numbered};
@@ -19,7 +19,7 @@ use std::alloc::Global;
 
 /// The kind of the cell with this frame.
 fn kind_of(tables: &Tables<'_>, f: u32) -> CellKind
-    requires tables { AreTables tables.now.flat.now tables.now.nets.now tables.now.frames.now tables.now.places.now tables.now.drivers.now }
+    requires tables { AreReady tables.now }
     requires frame { Passes is_frame tables.now.flat.now.shapes f }
     ensures { IsFrameOf tables.now.flat.now.shapes result f }
 {
@@ -49,7 +49,7 @@ fn cell_of(
     pins: &mut Vec<u32>,
     found: &mut Vec<u32>,
 ) -> Result<ExCell, Memory>
-    requires tables { AreTables tables.now.flat.now tables.now.nets.now tables.now.frames.now tables.now.places.now tables.now.drivers.now }
+    requires tables { AreReady tables.now }
     requires rows { AreRows tables.now.flat.now.shapes edges.now }
     requires frame { Passes is_frame tables.now.flat.now.shapes f }
     ensures { IfOk result (λ cell. IsCellFrom tables.now.flat.now tables.now.frames.now cell f) }
@@ -73,7 +73,7 @@ fn cell_of(
 
 /// The cells in the order of their frames.
 pub fn cells_of(alloc: Global, tables: &Tables<'_>, edges: &[i64]) -> Result<List<ExCell>, Memory>
-    requires tables { AreTables tables.now.flat.now tables.now.nets.now tables.now.frames.now tables.now.places.now tables.now.drivers.now }
+    requires tables { AreReady tables.now }
     requires rows { AreRows tables.now.flat.now.shapes edges.now }
     ensures { IfOk result (λ cells. AllZip (IsCellFrom tables.now.flat.now tables.now.frames.now) cells tables.now.frames.now) }
 {

@@ -12,7 +12,7 @@ use std::alloc::Global;
 use std::test::Fail;
 
 /// A rectangle by its lower left corner, its width and its height.
-fn drawn(layer: u16, datatype: u16, left: i32, low: i32, wide: u16, high: u16) -> Shape
+pub fn drawn(layer: u16, datatype: u16, left: i32, low: i32, wide: u16, high: u16) -> Shape
     requires wide { 0 < wide }
     requires high { 0 < high }
 {
@@ -30,7 +30,7 @@ fn drawn(layer: u16, datatype: u16, left: i32, low: i32, wide: u16, high: u16) -
 }
 
 /// The shapes of the first chip: numbers 3 and 4 are the line over its even row, and 13 and 14 the one over its odd row.
-fn first_shapes() -> [Shape; 15] {
+pub fn first_shapes() -> [Shape; 15] {
     [
         drawn(FRAME, 1, 0, 0, 8_000, 10_000),
         drawn(INPUT_PIN, 0, 2_500, 0, 1_000, 1_000),

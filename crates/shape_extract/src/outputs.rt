@@ -6,7 +6,7 @@ ghost use Rattle.layout_rules.specs.Pins.{exit_count};
 ghost use Rattle.layout_rules.specs.Reports.{ReportsNone};
 ghost use Rattle.shape_extract.specs.Extraction.{is_wired};
 ghost use Rattle.shape_extract.specs.OutputPins.{ShowsOutput, AreOutputs};
-ghost use Rattle.shape_extract.specs.Tables.{AreTables};
+ghost use Rattle.shape_extract.specs.Tables.{AreReady};
 
 use crate::cell_feeds::{Tables, source_of};
 use crate::labels::is_labelled;
@@ -33,7 +33,7 @@ fn output_shown(flat: &Flat, q: u32) -> Option<u32>
 
 /// For each output of the circuit the output of a cell that shows it.
 pub fn outputs_of(alloc: Global, tables: &Tables<'_>, count: usize) -> Result<List<Source>, Memory>
-    requires tables { AreTables tables.now.flat.now tables.now.nets.now tables.now.frames.now tables.now.places.now tables.now.drivers.now }
+    requires tables { AreReady tables.now }
     requires count { count ≡ exit_count tables.now.flat.now.shapes }
     ensures { IfOk result (AreOutputs tables.now.flat.now tables.now.frames.now) }
 {
