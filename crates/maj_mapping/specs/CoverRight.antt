@@ -14,7 +14,7 @@ use Rattle.circuit.specs.Gates.{Fits}
 use Rattle.circuit.specs.PlainNets.{AreGates}
 use Rattle.maj_mapping.specs.Values.{literal_takes, takes_all, some_takes, cover, HasPlanes}
 use Rattle.maj_mapping.specs.Operations.{Made, MadeAll, keep, inv, and, or, halves}
-use Rattle.maj_mapping.specs.Covers.{first, literals, and_all, or_all, cube_made, cubes_made, by_cubes}
+use Rattle.maj_mapping.specs.Covers.{is_literal, literal_count, cube_literals, first, literals, and_all, or_all, cube_made, cubes_made, by_cubes}
 use Rattle.maj_mapping.specs.Right.{Right, past_constants, at_zero, at_one, right_keep, and_is_right, or_is_right, inv_is_right}
 use Rattle.maj_mapping.specs.RightAll.{RightAll}
 use Rattle.maj_mapping.specs.Below.{AllBelow, below_more, below_append, below_take, below_drop, below_at}
@@ -83,13 +83,6 @@ or_join n = record {
 }
 
 -- literals
-abbrev pub is_literal : ℕ → Bool
-is_literal b = eqb b 49 || eqb b 48
-
-abbrev pub literal_count : List ℕ → ℕ
-literal_count [] = 0
-literal_count (b ∷ bs) = cond (is_literal b) 1 0 + literal_count bs
-
 -- the values of the literals of a plane
 abbrev pub literal_values : List ℕ → List Bool → List Bool
 literal_values [] xs = []
@@ -174,10 +167,6 @@ cube_is_right n gs ok xs bs plane below =
       earlier = λ word v fits. l.all.earlier word v (r.earlier word v fits);
       value = λ word v fits. r.value word v fits ∙ ap (joined (λ a b. a && b) true) (l.all.values word v (r.earlier word v fits)) ∙ literals_match bs (map v xs) plane;
     }
-
-abbrev pub cube_literals : List Cube → ℕ
-cube_literals [] = 0
-cube_literals (c ∷ cs) = literal_count c.plane + cube_literals cs
 
 abbrev pub cube_values : List Cube → List Bool → List Bool
 cube_values [] xs = []

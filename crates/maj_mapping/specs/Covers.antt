@@ -1,5 +1,5 @@
 -- The gates of one definition: by the recipe of its truth number, or by its cubes.
-use Rattle.std.specs.Prelude.{ℕ, zero, suc, ◌+◌, Bool, true, false, cond, eqb, List, [], ◌∷◌, length}
+use Rattle.std.specs.Prelude.{ℕ, zero, suc, ◌+◌, ◌||◌, Bool, true, false, cond, eqb, List, [], ◌∷◌, length}
 use Rattle.circuit.specs.declared.gate.Gate.{Gate}
 use Rattle.maj_mapping.specs.declared.maker.Join.{Join}
 use Rattle.maj_mapping.specs.declared.maker.Join.TheVariants.{And, Or}
@@ -85,3 +85,15 @@ define n gs (x ∷ []) d = run n gs (names n x n n) (two_recipe (number (values2
 define n gs (x ∷ y ∷ []) d = run n gs (names n x y n) (two_recipe (number (values2 (λ a b. cover d (a ∷ b ∷ [])))))
 define n gs (x ∷ y ∷ z ∷ []) d = run n gs (names n x y z) (three_recipe (number (values3 (λ a b c. cover d (a ∷ b ∷ c ∷ [])))))
 define n gs (x ∷ y ∷ z ∷ w ∷ xs) d = by_cubes n gs (x ∷ y ∷ z ∷ w ∷ xs) d
+
+-- how many literals planes have
+abbrev pub is_literal : ℕ → Bool
+is_literal b = eqb b 49 || eqb b 48
+
+abbrev pub literal_count : List ℕ → ℕ
+literal_count [] = 0
+literal_count (b ∷ bs) = cond (is_literal b) 1 0 + literal_count bs
+
+abbrev pub cube_literals : List Cube → ℕ
+cube_literals [] = 0
+cube_literals (c ∷ cs) = literal_count c.plane + cube_literals cs

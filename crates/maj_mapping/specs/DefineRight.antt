@@ -13,10 +13,10 @@ use Rattle.case_tables.specs.Tables.{two_recipe, three_recipe}
 use Rattle.case_tables.specs.Entries.{two_entry, three_entry}
 use Rattle.case_tables.specs.Truths.{two_value, three_value, below_16, below_256}
 use Rattle.maj_mapping.specs.Operations.{Made, keep, run}
-use Rattle.maj_mapping.specs.Covers.{names, by_cubes, define}
+use Rattle.maj_mapping.specs.Covers.{names, by_cubes, define, cube_literals}
 use Rattle.maj_mapping.specs.Right.{Right, past_constants, at_zero, at_one, right_keep}
 use Rattle.maj_mapping.specs.RightAll.{right_same, run_is_right}
-use Rattle.maj_mapping.specs.CoverRight.{cube_literals, cubes_are_cover}
+use Rattle.maj_mapping.specs.CoverRight.{cubes_are_cover}
 use Rattle.maj_mapping.specs.Below.{AllBelow}
 
 -- twice the literals, the rows, and ten

@@ -1,0 +1,16 @@
+// Laws of the mapping.
+ghost use Rattle.std.specs.Prelude.{ℕ, List, length, ◌+◌, ◌*◌, ◌≤◌};
+ghost use Rattle.circuit.specs.declared.gate.Gate.{Gate};
+ghost use Rattle.circuit.specs.PlainNets.{AreGates};
+ghost use Rattle.blif_read.specs.declared.netlist.Def.{Def};
+ghost use Rattle.maj_mapping.specs.Below.{AllBelow};
+ghost use Rattle.maj_mapping.specs.Values.{HasPlanes};
+ghost use Rattle.maj_mapping.specs.Covers.{define, cube_literals};
+
+/// A definition adds at most twice as many gates as its cubes have bytes `0` and `1`, one for each row, and ten.
+pub fn few_gates_each()
+    ensures { (inputs : ℕ) (gates : List Gate) (operands : List ℕ) (def : Def)
+        → AreGates inputs gates → AllBelow (length gates) operands → HasPlanes def.cubes
+        → length (define inputs gates operands def).gates
+        ≤ length gates + (2 * cube_literals def.cubes + length def.cubes + 10) }
+{}
