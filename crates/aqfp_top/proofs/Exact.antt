@@ -210,7 +210,6 @@ too_long_due files words place fault cause (inr check) = check_ends (ComesTooLon
 
 module _ (same_wrong : (gds lib text : List ℕ) (due fault : Fault) → check.IsWrong gds lib text due → check.IsWrong gds lib text fault → fault ≡ due)
     (not_wrong : (gds lib text : List ℕ) (fault : Fault) → check.SaysSound gds lib text → check.IsWrong gds lib text fault → ⊥) where
-
   pub wrong_due : (files : Contents) (words : List (List ℕ)) (due : Fault) (fault : Option Fault) → RunCause (Some files) words fault → FindsWrong files words due → ComesOrYields due fault
   wrong_due files words due fault cause (inl build) = wrong_built files words due fault cause build.0 build.1
   wrong_due files words due fault cause (inr check) = check_ends (ComesOrYields due) files words check.0 (λ f c. checks.wrong_due same_wrong not_wrong comes files words due f c check.1) fault cause

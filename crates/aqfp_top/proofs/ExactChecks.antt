@@ -109,7 +109,6 @@ both P Q files words p q =
 module _ (same_wrong : (gds lib text : List ℕ) (due fault : Fault) → IsWrong gds lib text due → IsWrong gds lib text fault → fault ≡ due)
     (not_wrong : (gds lib text : List ℕ) (fault : Fault) → SaysSound gds lib text → IsWrong gds lib text fault → ⊥)
     (comes : (due : Fault) → ComesOrYields due (Some due)) where
-
   pub wrong_due : (files : Contents) (words : List (List ℕ)) (due : Fault) (fault : Option Fault) → CheckCause files words fault → HasTexts files words (λ gds lib text. IsWrong gds lib text due) → ComesOrYields due fault
   wrong_due files words due fault cause texts = each_cause (ComesOrYields due) files words
       (λ well. let t = both SaysSound (λ gds lib text. IsWrong gds lib text due) files words well texts in absurd (not_wrong t.gds t.lib t.text due t.first t.second))

@@ -83,7 +83,6 @@ module _ (one_layout : (bytes : List ℕ) (layout other : Layout) → IsStream b
     (one_fault : (bytes : List ℕ) (offset other : ℕ) (kind second : StreamKind) → StreamFault bytes offset kind → StreamFault bytes other second → (offset ≡ other) × (kind ≡ second))
     (broken_once : (flat : Flat) (limits : Limits) (rule other : Rule) (a b c d : ℕ) → FirstBroken flat limits rule a b → FirstBroken flat limits other c d → IsOneReport rule other a b c d)
     (one_circuit : (flat : Flat) (limits : Limits) (first second : CircuitView) → Keeps E1 flat limits → Keeps E2 flat limits → Keeps E6 flat limits → IsCircuitOf flat first → IsCircuitOf flat second → first ≡ second) where
-
   not_large : (gds : List ℕ) (count : ℕ) (layout : Layout) → IsTooLarge gds count → IsReadAs gds layout → ⊥
   not_large gds count layout large read =
       let same : large.layout ≡ layout = one_layout gds large.layout layout large.stream read.stream in

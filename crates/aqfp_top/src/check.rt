@@ -106,11 +106,13 @@ fn circuit_of(
     };
     match extract(alloc, &flat) {
         Ok(circuit) => Ok(circuit),
-        Err(ExtractRefusal::Broken {
-            rule,
-            first,
-            second,
-        }) => Err(Fault::RuleBroken {
+        Err(
+            ExtractRefusal::Broken {
+                rule,
+                first,
+                second,
+            },
+        ) => Err(Fault::RuleBroken {
             rule,
             first,
             second,

@@ -50,13 +50,13 @@ below_next row cell cells first below c x lt at = below (suc c) x (omega arith) 
 in_row_next : (row : ℕ) (cell : ExCell) (cells : List ExCell) (first next : ℕ) → AreInRow (cell ∷ cells) row (suc first) (suc next) → AreInRow cells row first next
 in_row_next row cell cells first next within c x le lt at = within (suc c) x (omega arith) (omega arith) at
 
-in_row_rest : (row : ℕ) (cell : ExCell) (cells : List ExCell) (next : ℕ) → AreInRow (cell ∷ cells) row 0 (suc next) → AreInRow cells row 0 next
+in_row_rest : (row : ℕ) (cell : ExCell) (cells : List ExCell) (next : ℕ) → AreInRow (cell ∷ cells) row zero (suc next) → AreInRow cells row zero next
 in_row_rest row cell cells next within c x le lt at = within (suc c) x (omega arith) (omega arith) at
 
 above_next : (row : ℕ) (cell : ExCell) (cells : List ExCell) (next : ℕ) → AreAbove (cell ∷ cells) row (suc next) → AreAbove cells row next
 above_next row cell cells next above c x le at = above (suc c) x (omega arith) at
 
-above_rest : (row : ℕ) (cell : ExCell) (cells : List ExCell) → AreAbove (cell ∷ cells) row 0 → AreAbove cells row 0
+above_rest : (row : ℕ) (cell : ExCell) (cells : List ExCell) → AreAbove (cell ∷ cells) row zero → AreAbove cells row zero
 above_rest row cell cells above c x le at = above (suc c) x (omega arith) at
 
 -- the signs of a row are those of the fluxes from its first cell up to the next row's

@@ -38,6 +38,7 @@ impl<'a> Model for Run<'a> {
     ghost invariant = { λ s. IsRunning s.text.now s.rest.now s.word s.is_given s.pulses };
 }
 
+/// A word of so many values, all false.
 pub fn blank_word(alloc: Global, width: u32) -> Result<Word, Memory>
     ensures { IfOk result (λ word. length word ≡ width) }
 {
