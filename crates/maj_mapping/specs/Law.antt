@@ -101,10 +101,10 @@ leave_right net m s d planes ok above lt is h =
     )
 
 -- a walk that is right for signals of a rank below k
-abbrev WalksBelow : (net : NetView) → (ℕ → ℕ) → ℕ → (Mapping → ℕ → Mapping) → Type 0
+abbrev pub WalksBelow : (net : NetView) → (ℕ → ℕ) → ℕ → (Mapping → ℕ → Mapping) → Type 0
 WalksBelow net rank k walk = (m : Mapping) (s : ℕ) → Sound net m → s < signals net → rank s < k → After net m (walk m s) × IsMapped (walk m s) s
 
-fold_right : (net : NetView) (rank : ℕ → ℕ) (k : ℕ) (walk : Mapping → ℕ → Mapping) → WalksBelow net rank k walk → (m : Mapping) (ss : List ℕ) → Sound net m → AllBelow (signals net) ss → RanksBelow rank k ss
+pub fold_right : (net : NetView) (rank : ℕ → ℕ) (k : ℕ) (walk : Mapping → ℕ → Mapping) → WalksBelow net rank k walk → (m : Mapping) (ss : List ℕ) → Sound net m → AllBelow (signals net) ss → RanksBelow rank k ss
     → After net m (fold walk m ss) × AllMapped (fold walk m ss) ss
 fold_right net rank k walk h m [] ok below ranks = (after_same net m ok, tt)
 fold_right net rank k walk h m (s ∷ ss) ok below ranks =
@@ -112,11 +112,11 @@ fold_right net rank k walk h m (s ∷ ss) ok below ranks =
     let rest = fold_right net rank k walk h (walk m s) ss one.0.sound below.1 ranks.1 in
     (after_then net m _ _ one.0 rest.0, (rest.0.kept s one.1, rest.1))
 
-ranks_more : (rank : ℕ → ℕ) (k l : ℕ) (ss : List ℕ) → k ≤ l → RanksBelow rank k ss → RanksBelow rank l ss
+pub ranks_more : (rank : ℕ → ℕ) (k l : ℕ) (ss : List ℕ) → k ≤ l → RanksBelow rank k ss → RanksBelow rank l ss
 ranks_more rank k l [] le h = tt
 ranks_more rank k l (s ∷ ss) le h = (omega (arith, h.0), ranks_more rank k l ss le h.1)
 
-def_of_some : (net : NetView) (s : ℕ) → net.inputs ≤ s → s < signals net → (d : Def) × (def_of net s ≡ Some d)
+pub def_of_some : (net : NetView) (s : ℕ) → net.inputs ≤ s → s < signals net → (d : Def) × (def_of net s ≡ Some d)
 def_of_some net s le lt = elim (slice_get_cases net.defs (s - net.inputs)).1 [ inl h ↦ (h.0, def_of_is net s le ∙ h.2) | inr h ↦ absurd (omega (arith, h.0)) ]
 
 visit_case : (net : NetView) (ok : IsOrdered net) (k : ℕ) → WalksBelow net ok.rank k (visit net k) → (m : Mapping) (s : ℕ) → Sound net m → s < signals net → ok.rank s < suc k → (o : Option ℕ) → gate_at m.gate_of s ≡ o
@@ -169,7 +169,7 @@ names_length : (i k : ℕ) → length (input_names i k) ≡ k
 names_length i zero = refl
 names_length i (suc k) = ap suc (names_length (suc i) k)
 
-gates_length : (i k : ℕ) → length (input_gates i k) ≡ k
+pub gates_length : (i k : ℕ) → length (input_gates i k) ≡ k
 gates_length i zero = refl
 gates_length i (suc k) = ap suc (gates_length (suc i) k)
 
@@ -207,7 +207,7 @@ start_right net = record {
       ap v k.1 ∙ is ∙ ap (λ i. slice_index_or word i false) (let z : 0 + s ≡ s = omega arith in z) ∙ sym (solves.bits s k.0);
 }
 
-low_ranks : (net : NetView) (ok : IsOrdered net) (ss : List ℕ) → AllBelow (signals net) ss → RanksBelow ok.rank (suc (signals net)) ss
+pub low_ranks : (net : NetView) (ok : IsOrdered net) (ss : List ℕ) → AllBelow (signals net) ss → RanksBelow ok.rank (suc (signals net)) ss
 low_ranks net ok [] h = tt
 low_ranks net ok (s ∷ ss) h = (let k = ok.low s in omega arith, low_ranks net ok ss h.1)
 

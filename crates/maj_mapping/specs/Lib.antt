@@ -14,3 +14,4 @@ pub mod DefineRight
 pub mod Law
 pub mod Walk
 pub mod Keeps
+pub mod Few

@@ -1,11 +1,14 @@
 // Laws of the mapping.
-ghost use Rattle.std.specs.Prelude.{ℕ, List, length, ◌+◌, ◌*◌, ◌≤◌};
+ghost use Rattle.std.specs.Prelude.{ℕ, List, length, ◌+◌, ◌*◌, ◌≤◌, ◌<◌, ◌^◌};
 ghost use Rattle.circuit.specs.declared.gate.Gate.{Gate};
 ghost use Rattle.circuit.specs.PlainNets.{AreGates};
 ghost use Rattle.blif_read.specs.declared.netlist.Def.{Def};
+ghost use Rattle.blif_read.specs.Netlist.{IsNetlist};
+ghost use Rattle.blif_read.specs.Parts.{NetView};
 ghost use Rattle.maj_mapping.specs.Below.{AllBelow};
 ghost use Rattle.maj_mapping.specs.Values.{HasPlanes};
 ghost use Rattle.maj_mapping.specs.Covers.{define, cube_literals};
+ghost use Rattle.maj_mapping.specs.Plan.{map_net};
 
 /// A definition adds at most twice as many gates as its cubes have bytes `0` and `1`, one for each row, and ten.
 pub fn few_gates_each()
@@ -13,4 +16,9 @@ pub fn few_gates_each()
         → AreGates inputs gates → AllBelow (length gates) operands → HasPlanes def.cubes
         → length (define inputs gates operands def).gates
         ≤ length gates + (2 * cube_literals def.cubes + length def.cubes + 10) }
+{}
+
+/// The net of a netlist has fewer than 2^32 gates.
+pub fn few_gates()
+    ensures { (net : NetView) → IsNetlist net → length (map_net net).gates < 2 ^ 32 }
 {}
