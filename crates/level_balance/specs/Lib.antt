@@ -27,3 +27,5 @@ pub mod KeptNet
 pub mod SameAnswers
 pub mod Counts
 pub mod Counted
+pub mod Chained
+pub mod Steps

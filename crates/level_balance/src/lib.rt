@@ -1,6 +1,10 @@
 //! Levels, splitter trees and balancing buffers: what rows a net of gates becomes, and why they answer as it does.
 #![tactic(auto)]
 
+mod heights;
 mod laws;
+mod links;
+mod rows;
+mod uses;
 
 pub use laws::{plan_answers, plan_count, plan_keeps, worked_rows};
