@@ -28,4 +28,5 @@ pub mod SameAnswers
 pub mod Counts
 pub mod Counted
 pub mod Chained
+pub mod Arrays
 pub mod Steps

@@ -1,7 +1,10 @@
 // Laying cells into rows that grow.
-ghost use Rattle.std.specs.Prelude.{◌≡◌, ℕ, ◌<◌, ◌≤◌, ◌+◌, ◌++◌, ◌∷◌, [], length, None, Some, OnOk, IfOk, slice_index_or};
+ghost use Rattle.std.specs.Prelude.{◌≡◌, ℕ, ◌<◌, ◌≤◌, ◌+◌, ◌++◌, ◌∷◌, [], length, None, Some, OnOk, IfOk, slice_index_or, slice_set};
+ghost use Rattle.level_balance.specs.Plan.{constant_kind, sources};
+ghost use Rattle.level_balance.specs.Arrays.{lead_one, lead_walk};
 ghost use Rattle.level_balance.specs.Laying.{put, next, chain, cell, source, giving, outputs_from, tree_row, tree};
 
+use crate::uses::is_constant;
 use aq_base::{List, Memory};
 use circuit::CellKind;
 use rowed::{RowCell, Source};
@@ -144,4 +147,111 @@ pub(crate) fn tree(
         at = sum(at, 1)?;
     }
     Ok(signals)
+}
+
+fn constant_kind(inputs: u32, gate: u32) -> CellKind
+    ensures { result ≡ constant_kind inputs gate }
+{
+    if gate == inputs {
+        CellKind::Zero
+    } else {
+        CellKind::One
+    }
+}
+
+/// The source of one operand, whose use has this number: a constant gets a cell of its own.
+fn source_of(
+    rows: &mut Vec<List<RowCell>>,
+    inputs: u32,
+    row: usize,
+    ends: &[Source],
+    number: usize,
+    gate: u32,
+) -> Result<Source, Memory>
+    ensures rows { OnOk result (rows.new.items ≡ (sources inputs row ends.now rows.old.items number (gate ∷ [])).rows) }
+    ensures source { IfOk result (λ s. s ∷ [] ≡ (sources inputs row ends.now rows.old.items number (gate ∷ [])).signals) }
+{
+    if is_constant(inputs, gate) {
+        let at = put(rows, row, cell(constant_kind(inputs, gate), &[]))?;
+        Ok(Source {
+            cell: at,
+            output: 0,
+        })
+    } else {
+        Ok(ends.get(number).copied().unwrap_or(Source { cell: 0, output: 0 }))
+    }
+}
+
+/// The sources of operands, whose uses are numbered from `first` on.
+pub(crate) fn sources(
+    alloc: Global,
+    rows: &mut Vec<List<RowCell>>,
+    inputs: u32,
+    row: usize,
+    ends: &[Source],
+    first: usize,
+    gates: &[u32],
+) -> Result<Vec<Source>, Memory>
+    ensures rows { OnOk result (rows.new.items ≡ (sources inputs row ends.now rows.old.items first gates.now).rows) }
+    ensures sources { IfOk result (λ taken. taken.items ≡ (sources inputs row ends.now rows.old.items first gates.now).signals) }
+{
+    let mut taken = Vec::new(alloc);
+    let mut number = first;
+    for gate in gates {
+        let source = source_of(rows, inputs, row, ends, number, *gate)?;
+        taken.push(source)?;
+        number = sum(number, 1)?;
+    }
+    Ok(taken)
+}
+
+fn set_end(ends: &mut Vec<Source>, number: usize, end: Source)
+    ensures { ends.new.items ≡ slice_set ends.old.items number end }
+{
+    if number < ends.len() {
+        ends[number] = end;
+    }
+}
+
+/// Leads a leaf of a tree to the use of this number, unless the chain of uses has ended; the number of the next use.
+fn lead_one(
+    rows: &mut Vec<List<RowCell>>,
+    ends: &mut Vec<Source>,
+    user_rows: &[usize],
+    next: &[usize],
+    number: usize,
+    leaf: usize,
+    signal: Source,
+) -> Result<usize, Memory>
+    ensures { IfOk result (λ number'. record { rows = rows.new.items; ends = ends.new.items; number = number' }
+        ≡ lead_one user_rows.now next.now leaf (record { rows = rows.old.items; ends = ends.old.items; number = number }) signal) }
+{
+    if number >= next.len() {
+        return Ok(number);
+    }
+    let user = user_rows.get(number).copied().unwrap_or(0);
+    let count = user.saturating_sub(1).saturating_sub(leaf);
+    let end = chain(rows, count, sum(leaf, 1)?, signal)?;
+    set_end(ends, number, end);
+    Ok(next[number])
+}
+
+/// Leads each leaf of a tree to a use of its gate, along the chain of its uses.
+pub(crate) fn lead(
+    rows: &mut Vec<List<RowCell>>,
+    ends: &mut Vec<Source>,
+    user_rows: &[usize],
+    next: &[usize],
+    first: usize,
+    leaf: usize,
+    leaves: &[Source],
+) -> Result<usize, Memory>
+    ensures { IfOk result (λ number. record { rows = rows.new.items; ends = ends.new.items; number = number }
+        ≡ lead_walk user_rows.now next.now leaf (record { rows = rows.old.items; ends = ends.old.items; number = first }) leaves.now) }
+{
+    let mut number = first;
+    for signal in leaves {
+        number = lead_one(rows, ends, user_rows, next, number, leaf, *signal)?;
+    }
+    Ok(number)
 }
