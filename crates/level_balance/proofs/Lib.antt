@@ -1,3 +1,5 @@
 pub mod Used
 pub mod Laid
 pub mod TreeDepths
+pub mod Linked
+pub mod GateLaid

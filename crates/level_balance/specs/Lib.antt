@@ -30,3 +30,4 @@ pub mod Counted
 pub mod Chained
 pub mod Arrays
 pub mod Steps
+pub mod Outlines

@@ -3,6 +3,7 @@
 
 mod heights;
 mod laws;
+mod laying;
 mod links;
 mod rows;
 mod uses;

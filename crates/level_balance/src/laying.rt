@@ -1,0 +1,93 @@
+// The cells of gates and outputs, in their order.
+ghost use Rattle.std.specs.Prelude.{◌≡◌, ℕ, ◌<◌, ◌≤◌, ◌+◌, [], length, IfOk, slice_index_or};
+ghost use Rattle.level_balance.specs.Chained.{AreLinks};
+ghost use Rattle.level_balance.specs.Outlines.{frame_of};
+ghost use Rattle.level_balance.specs.Plan.{gate_cell, lay_gate};
+
+use crate::heights::{depth, tree_sizes};
+use crate::links::Links;
+use crate::rows::{cell, lead, put, sources, sum, tree};
+use crate::uses::push_operands;
+use aq_base::{List, Memory};
+use circuit::{CellKind, Gate};
+use rowed::{RowCell, Source};
+use std::alloc::Global;
+
+/// What is known of a plan before a cell is made.
+#[derive(Drop)]
+pub(crate) struct Outline {
+    pub(crate) inputs: u32,
+    pub(crate) base: usize,
+    pub(crate) marks: Vec<bool>,
+    pub(crate) uses: Vec<u32>,
+    pub(crate) levels: Vec<usize>,
+    pub(crate) last: usize,
+    pub(crate) user_rows: Vec<usize>,
+    pub(crate) links: Links,
+}
+
+/// The cell of a gate with these sources.
+fn own_cell(gate: Gate, sources: &[Source]) -> RowCell
+    ensures { result ≡ gate_cell gate sources.now }
+{
+    match gate {
+        Gate::Input(input) => RowCell {
+            kind: CellKind::Buffer,
+            source0: None,
+            source1: None,
+            source2: None,
+            input: Some(input),
+            output: None,
+        },
+        Gate::Zero => cell(CellKind::Zero, sources),
+        Gate::One => cell(CellKind::One, sources),
+        Gate::Buf(_) => cell(CellKind::Buffer, sources),
+        Gate::Inv(_) => cell(CellKind::Inverter, sources),
+        Gate::Maj(_, _, _) => cell(CellKind::Majority, sources),
+    }
+}
+
+/// Lays the cells of a gate that counts; the number of the next use.
+fn lay_gate(
+    alloc: Global,
+    rows: &mut Vec<List<RowCell>>,
+    ends: &mut Vec<Source>,
+    outline: &Outline,
+    place: usize,
+    gate: Gate,
+    use_at: usize,
+) -> Result<usize, Memory>
+    requires low { 2 ≤ outline.now.base }
+    requires high { outline.now.base ≤ 3 }
+    requires place { place < length outline.now.links.first.items }
+    requires links { AreLinks outline.now.links.first.items outline.now.links.next.items outline.now.links.fans.items
+        (length outline.now.links.first.items) outline.now.uses.items }
+    ensures { IfOk result (λ next_use. record { rows = rows.new.items; ends = ends.new.items; use_at = next_use }
+        ≡ lay_gate (frame_of outline.now) place gate (record { rows = rows.old.items; ends = ends.old.items; use_at = use_at })) }
+{
+    let level = outline.levels.get(place).copied().unwrap_or(0);
+    let mut operands = Vec::new(alloc);
+    push_operands(&mut operands, gate)?;
+    let taken = sources(
+        alloc,
+        rows,
+        outline.inputs,
+        level.saturating_sub(1),
+        ends,
+        use_at,
+        &operands,
+    )?;
+    let own = put(rows, level, own_cell(gate, &taken))?;
+    let fan = outline.links.fans[place];
+    let height = depth(outline.base, fan)?;
+    let sizes = tree_sizes(alloc, outline.base, height, fan)?;
+    let root = Source {
+        cell: own,
+        output: 0,
+    };
+    let leaves = tree(alloc, rows, outline.base, sum(level, 1)?, root, &sizes)?;
+    let first = outline.links.first[place];
+    let leaf = sum(level, height)?;
+    let _stop = lead(rows, ends, &outline.user_rows, &outline.links.next, first, leaf, &leaves)?;
+    sum(use_at, operands.len())
+}
