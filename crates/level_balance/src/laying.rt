@@ -1,5 +1,6 @@
 // The cells of gates and outputs, in their order.
-ghost use Rattle.std.specs.Prelude.{◌≡◌, ℕ, ◌<◌, ◌≤◌, ◌+◌, [], length, IfOk, slice_index_or};
+ghost use Rattle.std.specs.Prelude.{◌≡◌, ℕ, ◌<◌, ◌≤◌, ◌+◌, [], length, IfOk, OnOk, slice_index_or};
+ghost use Rattle.level_balance.specs.Uses.{operands};
 ghost use Rattle.level_balance.specs.Chained.{AreLinks};
 ghost use Rattle.level_balance.specs.Outlines.{frame_of};
 ghost use Rattle.level_balance.specs.Plan.{gate_cell, lay_gate};
@@ -62,8 +63,11 @@ fn lay_gate(
     requires place { place < length outline.now.links.first.items }
     requires links { AreLinks outline.now.links.first.items outline.now.links.next.items outline.now.links.fans.items
         (length outline.now.links.first.items) outline.now.uses.items }
-    ensures { IfOk result (λ next_use. record { rows = rows.new.items; ends = ends.new.items; use_at = next_use }
-        ≡ lay_gate (frame_of outline.now) place gate (record { rows = rows.old.items; ends = ends.old.items; use_at = use_at })) }
+    ensures rows { OnOk result (rows.new.items ≡ (lay_gate (frame_of outline.now) place gate
+        (record { rows = rows.old.items; ends = ends.old.items; use_at = use_at })).rows) }
+    ensures ends { OnOk result (ends.new.items ≡ (lay_gate (frame_of outline.now) place gate
+        (record { rows = rows.old.items; ends = ends.old.items; use_at = use_at })).ends) }
+    ensures next_use { IfOk result (λ next_use. next_use ≡ use_at + length (operands gate)) }
 {
     let level = outline.levels.get(place).copied().unwrap_or(0);
     let mut operands = Vec::new(alloc);
@@ -88,6 +92,15 @@ fn lay_gate(
     let leaves = tree(alloc, rows, outline.base, sum(level, 1)?, root, &sizes)?;
     let first = outline.links.first[place];
     let leaf = sum(level, height)?;
-    let _stop = lead(rows, ends, &outline.user_rows, &outline.links.next, first, leaf, &leaves)?;
-    sum(use_at, operands.len())
+    lead(
+        rows,
+        ends,
+        &outline.user_rows,
+        &outline.links.next,
+        first,
+        leaf,
+        &leaves,
+    )?;
+    let next_use = sum(use_at, operands.len())?;
+    Ok(next_use)
 }

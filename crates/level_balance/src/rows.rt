@@ -245,13 +245,15 @@ pub(crate) fn lead(
     first: usize,
     leaf: usize,
     leaves: &[Source],
-) -> Result<usize, Memory>
-    ensures { IfOk result (λ number. record { rows = rows.new.items; ends = ends.new.items; number = number }
-        ≡ lead_walk user_rows.now next.now leaf (record { rows = rows.old.items; ends = ends.old.items; number = first }) leaves.now) }
+) -> Result<(), Memory>
+    ensures rows { OnOk result (rows.new.items ≡
+        (lead_walk user_rows.now next.now leaf (record { rows = rows.old.items; ends = ends.old.items; number = first }) leaves.now).rows) }
+    ensures ends { OnOk result (ends.new.items ≡
+        (lead_walk user_rows.now next.now leaf (record { rows = rows.old.items; ends = ends.old.items; number = first }) leaves.now).ends) }
 {
     let mut number = first;
     for signal in leaves {
         number = lead_one(rows, ends, user_rows, next, number, leaf, *signal)?;
     }
-    Ok(number)
+    Ok(())
 }
