@@ -138,3 +138,7 @@ module _ (f : Frame) (i : ℕ) (g : Gate) (rows0 : List (List RowCell)) (ends0 :
   pub laid_ends : (ends4 : List Source) → ends4 ≡ (lead_walk urs nx leaf (record { rows = rows3; ends = ends0; number = first }) leaves').ends
       → ends4 ≡ (lay_gate f i g (record { rows = rows0; ends = ends0; use_at = use_at })).ends
   laid_ends ends4 e = e ∙ ap (λ (v : Led). v.ends) walk_at ∙ (walk_is f nx (l + t) top.rows ends0 top.signals (uses_of i 0 f.uses) first s.chain).1
+
+pub chain_read : (next nx : List ℕ) (stop at at' : ℕ) (qs : List ℕ) → nx ≡ next → length next ≡ stop → at' ≡ at → Chained next stop at qs → Chained nx (length nx) at' qs
+chain_read next nx stop at at' qs read size here h =
+    subst (λ k. Chained nx (length nx) k qs) (sym here) (subst (λ k. Chained nx k at qs) (sym (ap length read ∙ size)) (subst (λ k. Chained k stop at qs) (sym read) h))
