@@ -3,3 +3,5 @@ pub mod Laid
 pub mod TreeDepths
 pub mod Linked
 pub mod GateLaid
+pub mod AllLaid
+pub mod Outlined

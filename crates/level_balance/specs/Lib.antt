@@ -31,3 +31,4 @@ pub mod Chained
 pub mod Arrays
 pub mod Steps
 pub mod Outlines
+pub mod Turns

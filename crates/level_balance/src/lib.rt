@@ -5,6 +5,7 @@ mod heights;
 mod laws;
 mod laying;
 mod links;
+mod outline;
 mod rows;
 mod uses;
 

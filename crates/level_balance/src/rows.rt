@@ -160,7 +160,7 @@ fn constant_kind(inputs: u32, gate: u32) -> CellKind
 }
 
 /// The source of one operand, whose use has this number: a constant gets a cell of its own.
-fn source_of(
+pub(crate) fn source_of(
     rows: &mut Vec<List<RowCell>>,
     inputs: u32,
     row: usize,
