@@ -1,11 +1,11 @@
 -- One turn of the walks that lay gates and outputs.
-use Rattle.std.specs.Prelude.{◌≡◌, ℕ, suc, pred, Bool, true, false, List, [], ◌∷◌, slice_index_or}
+use Rattle.std.specs.Prelude.{◌≡◌, ℕ, suc, pred, Bool, true, false, List, [], ◌∷◌, length, replicate, slice_index_or}
 use Rattle.circuit.specs.declared.gate.Gate.{Gate}
 use Rattle.rowed.specs.declared.source.Source.{Source}
 use Rattle.rowed.specs.declared.row_cell.RowCell.{RowCell}
 use Rattle.level_balance.specs.Uses.{counts}
 use Rattle.level_balance.specs.Laying.{put, source, output_cell}
-use Rattle.level_balance.specs.Plan.{Frame, Laid, sources, lay_gate}
+use Rattle.level_balance.specs.Plan.{Frame, Laid, sources, lay_gate, lay_gates, lay_outputs}
 
 -- the cells of a gate, if it counts
 abbrev pub lay_one : Frame → ℕ → Gate → Laid → Laid
@@ -22,3 +22,9 @@ pub record LaidIs (rows : List (List RowCell)) (ends : List Source) (use_at : �
   pub rows_are : rows ≡ at.rows
   pub ends_are : ends ≡ at.ends
   pub use_at_is : use_at ≡ at.use_at
+
+-- all rows of a plan
+abbrev pub laid_by : Frame → List Gate → List ℕ → List (List RowCell)
+laid_by f gates outs =
+    let none : Laid = record { rows = replicate (suc f.last) []; ends = replicate (length f.uses) (source 0 0); use_at = 0 } in
+    (lay_outputs f 0 (lay_gates f 0 none gates) outs).rows
