@@ -1,6 +1,7 @@
 //! Levels, splitter trees and balancing buffers: what rows a net of gates becomes, and why they answer as it does.
 #![tactic(auto)]
 
+mod count;
 mod heights;
 mod laws;
 mod laying;

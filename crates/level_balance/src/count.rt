@@ -1,0 +1,110 @@
+// The number of cells, before one is made.
+ghost use Rattle.std.specs.Prelude.{◌≡◌, ◌<◌, ◌≤◌, ◌+◌, length, IfOk};
+ghost use Rattle.level_balance.specs.Uses.{operands};
+ghost use Rattle.level_balance.specs.Arrays.{lead_count, lead_next, lead_sum};
+ghost use Rattle.level_balance.specs.Counts.{constants_in, tree_cells};
+ghost use Rattle.level_balance.specs.Steps.{capped, one_more_constant};
+
+use crate::rows::sum;
+use crate::uses::is_constant;
+use aq_base::Memory;
+use circuit::Gate;
+
+/// One more where the gate is a constant.
+fn one_more_constant(inputs: u32, gate: u32, count: usize) -> Result<usize, Memory>
+    ensures { IfOk result (λ more. more ≡ one_more_constant inputs gate count) }
+{
+    if is_constant(inputs, gate) {
+        sum(count, 1)
+    } else {
+        Ok(count)
+    }
+}
+
+/// How many operands of a gate are constants.
+fn operand_constants(inputs: u32, gate: Gate) -> Result<usize, Memory>
+    ensures { IfOk result (λ count. count ≡ constants_in inputs (operands gate)) }
+{
+    match gate {
+        Gate::Input(_) | Gate::Zero | Gate::One => Ok(0),
+        Gate::Buf(x) | Gate::Inv(x) => one_more_constant(inputs, x, 0),
+        Gate::Maj(x, y, z) => {
+            let count = one_more_constant(inputs, z, 0)?;
+            let count = one_more_constant(inputs, y, count)?;
+            one_more_constant(inputs, x, count)
+        }
+    }
+}
+
+/// How many of these outputs are constants.
+fn output_constants(inputs: u32, outputs: &[u32]) -> Result<usize, Memory>
+    ensures { IfOk result (λ count. count ≡ constants_in inputs outputs.now) }
+{
+    let mut count = 0;
+    let mut left = outputs.len();
+    while left > 0 {
+        left -= 1;
+        count = one_more_constant(inputs, outputs[left], count)?;
+    }
+    Ok(count)
+}
+
+/// The cells of a splitter tree of so many rows; `usize::MAX` where there are more.
+fn tree_total(base: usize, rows: usize, fan: usize) -> Result<usize, Memory>
+    requires { 2 ≤ base }
+    ensures { IfOk result (λ total. total ≡ capped (tree_cells base rows fan)) }
+{
+    let mut total: usize = 0;
+    let mut signals = fan;
+    let mut left = rows;
+    while left > 0 {
+        left -= 1;
+        signals = (sum(signals, base)? - 1) / base;
+        total = total.saturating_add(signals);
+    }
+    Ok(total)
+}
+
+/// The buffers to the use of this number; none where the chain of uses has ended.
+fn lead_count(user_rows: &[usize], next: &[usize], leaf: usize, number: usize) -> usize
+    ensures { result ≡ lead_count user_rows.now next.now leaf number }
+{
+    if number < next.len() {
+        let user = user_rows.get(number).copied().unwrap_or(0);
+        user.saturating_sub(1).saturating_sub(leaf)
+    } else {
+        0
+    }
+}
+
+/// The number of the use after this one; the same number where the chain of uses has ended.
+fn lead_next(next: &[usize], number: usize) -> usize
+    ensures { result ≡ lead_next next.now number }
+{
+    if number < next.len() {
+        next[number]
+    } else {
+        number
+    }
+}
+
+/// The buffers to so many uses along a chain; `usize::MAX` where there are more.
+fn lead_total(
+    user_rows: &[usize],
+    next: &[usize],
+    leaf: usize,
+    first: usize,
+    fan: usize,
+) -> usize
+    ensures { result ≡ capped (lead_sum user_rows.now next.now leaf first fan) }
+{
+    let mut total: usize = 0;
+    let mut number = first;
+    let mut left = fan;
+    while left > 0 {
+        left -= 1;
+        total = total.saturating_add(lead_count(user_rows, next, leaf, number));
+        number = lead_next(next, number);
+    }
+    total
+}
