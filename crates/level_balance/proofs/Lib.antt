@@ -5,3 +5,4 @@ pub mod Linked
 pub mod GateLaid
 pub mod AllLaid
 pub mod Outlined
+pub mod Counting
