@@ -1,5 +1,5 @@
 -- The loops that count: a sum that stops at the greatest number.
-use Rattle.std.proofs.Common.{◌≡◌, ℕ, zero, suc, ◌+◌, ◌-◌, ◌*◌, ◌/◌, ◌<◌, ◌≤◌, ◌^◌, min, List, refl, sym, ap, ◌∙◌, arith}
+use Rattle.std.proofs.Common.{◌≡◌, ℕ, zero, suc, ◌+◌, ◌-◌, ◌/◌, ◌<◌, ◌^◌, min, List, ap, ◌∙◌, arith}
 use Rattle.level_balance.specs.Levels.{over}
 use Rattle.level_balance.specs.Counts.{tree_cells}
 use Rattle.level_balance.specs.Arrays.{lead_count, lead_next, lead_sum}

@@ -1,5 +1,5 @@
 -- The loop that links uses from the last one down.
-use Rattle.std.proofs.Common.{◌≡◌, ◌≢◌, ◌⊎◌, ℕ, zero, suc, ◌+◌, ◌-◌, ◌<◌, ◌≤◌, Bool, true, false, eqb, List, [], ◌∷◌, length, drop, set, replicate, get_or, refl, sym, ap, ◌∙◌, subst, arith, inl, inr, drop-cons}
+use Rattle.std.proofs.Common.{◌≡◌, ◌≢◌, ℕ, zero, suc, ◌+◌, ◌-◌, ◌<◌, ◌≤◌, List, [], ◌∷◌, length, drop, set, replicate, get_or, refl, sym, ap, ◌∙◌, subst, arith, inl, inr, drop-cons}
 use Rattle.std.specs.List.{AllByRecursion}
 use Rattle.std.proofs.lemmas.Bool.{cases_eq, eq-eqb, ne_eqb}
 use Rattle.std.proofs.lemmas.List.{length-set, get_or-set_same, get_or-set_other, length-replicate}
@@ -45,13 +45,14 @@ link_turn first next fans first' next' fans' gates us q g lt is low fe ne ae h =
             let to : get_or next' q stop ≡ v = ap (λ (t : List ℕ). get_or t q stop) ne ∙ get_or-set_same next q v stop (omega arith) in
             let old : Chained next stop v (uses_of k (suc q) rest) = subst (λ t. Chained next stop (get_or first t 0) (uses_of k (suc q) rest)) (sym same) (h.chains k below) in
             let new : Chained next' stop (get_or next' q stop) (uses_of k (suc q) rest) =
-              subst (λ t. Chained next' stop t (uses_of k (suc q) rest)) (sym to) (subst (λ t. Chained t stop v (uses_of k (suc q) rest)) (sym ne) (chained_set next stop v q v (uses_of k (suc q) rest) (later_uses k q rest) old)) in
+            subst (λ t. Chained next' stop t (uses_of k (suc q) rest)) (sym to) (subst (λ t. Chained t stop v (uses_of k (suc q) rest)) (sym ne) (chained_set next stop v q v (uses_of k (suc q) rest) (later_uses k q rest) old)) in
             subst (λ t. Chained next' stop (get_or first' k 0) t) (sym (ap (uses_of k q) list ∙ uses_same k q g rest same)) (at, lt, new))
         | inr other ↦
             (let at : get_or first' k 0 ≡ get_or first k 0 = ap (λ (t : List ℕ). get_or t k 0) fe ∙ get_or-set_other first g k q 0 (λ e. other (sym e)) in
             let new : Chained next' stop (get_or first k 0) (uses_of k (suc q) rest) =
-              subst (λ t. Chained t stop (get_or first k 0) (uses_of k (suc q) rest)) (sym ne) (chained_set next stop (get_or first k 0) q v (uses_of k (suc q) rest) (later_uses k q rest) (h.chains k below)) in
-            subst (λ t. Chained next' stop (get_or first' k 0) t) (sym (ap (uses_of k q) list ∙ uses_other k q g rest other)) (subst (λ t. Chained next' stop t (uses_of k (suc q) rest)) (sym at) new)) ];
+            subst (λ t. Chained t stop (get_or first k 0) (uses_of k (suc q) rest)) (sym ne) (chained_set next stop (get_or first k 0) q v (uses_of k (suc q) rest) (later_uses k q rest) (h.chains k below)) in
+            subst (λ t. Chained next' stop (get_or first' k 0) t) (sym (ap (uses_of k q) list ∙ uses_other k q g rest other)) (subst (λ t. Chained next' stop t (uses_of k (suc q) rest)) (sym at) new))
+      ];
       counts = λ k below. elim (cases_eq g k) [
         | inl same ↦
             (let e : get_or fans' k 0 ≡ get_or fans g 0 + 1 = ap (λ (t : List ℕ). get_or t k 0) ae ∙ ap (λ (t : ℕ). get_or (set fans g (get_or fans g 0 + 1)) t 0) (sym same) ∙ get_or-set_same fans g (get_or fans g 0 + 1) 0 (omega arith) in
@@ -61,7 +62,8 @@ link_turn first next fans first' next' fans' gates us q g lt is low fe ne ae h =
         | inr other ↦
             (let e : get_or fans' k 0 ≡ get_or fans k 0 = ap (λ (t : List ℕ). get_or t k 0) ae ∙ get_or-set_other fans g k (get_or fans g 0 + 1) 0 (λ e. other (sym e)) in
             let c = h.counts k below in
-            let z = ap length (ap (uses_of k q) list ∙ uses_other k q g rest other) in omega arith) ];
+            let z = ap length (ap (uses_of k q) list ∙ uses_other k q g rest other) in omega arith)
+      ];
     }
 
 none_after : (us : List ℕ) → drop (length us) us ≡ []

@@ -1,5 +1,5 @@
 -- One turn of the walks that lay gates and outputs.
-use Rattle.std.specs.Prelude.{◌≡◌, ℕ, suc, pred, Bool, true, false, List, [], ◌∷◌, length, replicate, slice_index_or}
+use Rattle.std.specs.Prelude.{◌≡◌, ℕ, suc, pred, true, false, List, [], ◌∷◌, length, replicate, slice_index_or}
 use Rattle.circuit.specs.declared.gate.Gate.{Gate}
 use Rattle.rowed.specs.declared.source.Source.{Source}
 use Rattle.rowed.specs.declared.row_cell.RowCell.{RowCell}

@@ -89,13 +89,7 @@ fn lead_next(next: &[usize], number: usize) -> usize
 }
 
 /// The buffers to so many uses along a chain; `usize::MAX` where there are more.
-fn lead_total(
-    user_rows: &[usize],
-    next: &[usize],
-    leaf: usize,
-    first: usize,
-    fan: usize,
-) -> usize
+fn lead_total(user_rows: &[usize], next: &[usize], leaf: usize, first: usize, fan: usize) -> usize
     ensures { result ≡ capped (lead_sum user_rows.now next.now leaf first fan) }
 {
     let mut total: usize = 0;
