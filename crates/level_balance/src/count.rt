@@ -2,9 +2,13 @@
 ghost use Rattle.std.specs.Prelude.{◌≡◌, ◌<◌, ◌≤◌, ◌+◌, length, IfOk};
 ghost use Rattle.level_balance.specs.Uses.{operands};
 ghost use Rattle.level_balance.specs.Arrays.{lead_count, lead_next, lead_sum};
-ghost use Rattle.level_balance.specs.Counts.{constants_in, tree_cells};
+ghost use Rattle.level_balance.specs.Chained.{AreLinks};
+ghost use Rattle.level_balance.specs.Counts.{constants_in, gate_cells, tree_cells};
+ghost use Rattle.level_balance.specs.Outlines.{frame_of};
 ghost use Rattle.level_balance.specs.Steps.{capped, one_more_constant};
 
+use crate::heights::depth;
+use crate::laying::Outline;
 use crate::rows::sum;
 use crate::uses::is_constant;
 use aq_base::Memory;
@@ -101,4 +105,23 @@ fn lead_total(user_rows: &[usize], next: &[usize], leaf: usize, first: usize, fa
         number = lead_next(next, number);
     }
     total
+}
+
+/// The cells of a gate that counts; `usize::MAX` where there are more.
+fn gate_total(outline: &Outline, place: usize, gate: Gate) -> Result<usize, Memory>
+    requires low { 2 ≤ outline.now.base }
+    requires place { place < length outline.now.links.first.items }
+    requires links { AreLinks outline.now.links.first.items outline.now.links.next.items outline.now.links.fans.items
+        (length outline.now.links.first.items) outline.now.uses.items }
+    ensures { IfOk result (λ total. total ≡ capped (gate_cells (frame_of outline.now) place gate)) }
+{
+    let level = outline.levels.get(place).copied().unwrap_or(0);
+    let fan = outline.links.fans[place];
+    let height = depth(outline.base, fan)?;
+    let own = sum(operand_constants(outline.inputs, gate)?, 1)?;
+    let tree = tree_total(outline.base, height, fan)?;
+    let leaf = sum(level, height)?;
+    let first = outline.links.first[place];
+    let buffers = lead_total(&outline.user_rows, &outline.links.next, leaf, first, fan);
+    Ok(own.saturating_add(tree).saturating_add(buffers))
 }
