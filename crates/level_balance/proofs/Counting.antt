@@ -1,12 +1,13 @@
 -- The loops that count: a sum that stops at the greatest number.
-use Rattle.std.proofs.Common.{◌≡◌, ℕ, zero, suc, ◌+◌, ◌-◌, ◌*◌, ◌/◌, ◌<◌, ◌≤◌, ◌^◌, min, List, [], ◌∷◌, length, get_or, refl, sym, ap, ◌∙◌, arith}
+use Rattle.std.proofs.Common.{◌≡◌, ℕ, zero, suc, ◌+◌, ◌-◌, ◌*◌, ◌/◌, ◌<◌, ◌≤◌, ◌^◌, min, Bool, true, false, List, [], ◌∷◌, length, drop, get_or, refl, sym, ap, ◌∙◌, arith, drop-cons, add-one}
 use Rattle.std.proofs.lemmas.Bool.{lt-ltb}
 use Rattle.circuit.specs.declared.gate.Gate.{Gate}
-use Rattle.level_balance.specs.Uses.{operands, uses_of, use_count}
+use Rattle.level_balance.specs.Uses.{operands, counts, uses_of, use_count}
 use Rattle.level_balance.specs.Plan.{Frame}
+use Rattle.level_balance.specs.Turns.{total_with}
 use Rattle.level_balance.specs.Chained.{Chained}
 use Rattle.level_balance.specs.Levels.{depth, over}
-use Rattle.level_balance.specs.Counts.{constants_in, tree_cells, lead_cells, gate_cells}
+use Rattle.level_balance.specs.Counts.{constants_in, tree_cells, lead_cells, gate_cells, gates_cells}
 use Rattle.level_balance.specs.Arrays.{lead_count, lead_next, lead_sum}
 use Rattle.level_balance.specs.Steps.{capped}
 
@@ -66,3 +67,17 @@ gate_counted_is f i g level fan height constants own tree leaf first buffers par
     ∙ ap (λ (k : ℕ). capped (k + tree_cells f.base height fan + lead_sum urs nx leaf first fan)) (oe ∙ ap (λ (k : ℕ). k + 1) ce)
     ∙ ap (λ (k : ℕ). capped (constants_in f.inputs (operands g) + 1 + k + lead_sum urs nx leaf first fan)) trees
     ∙ ap (λ (k : ℕ). capped (constants_in f.inputs (operands g) + 1 + tree_cells f.base T U + k)) sums
+
+pub gates_turn : (f : Frame) (i : ℕ) (gates : List Gate) (d : Gate) (total total' goal : ℕ) → i < length gates → total < 2 ^ 64 → total' ≡ total_with f i (get_or gates i d) total
+    → capped (total + gates_cells f i (drop i gates)) ≡ goal → (total' < 2 ^ 64) × (capped (total' + gates_cells f (i + 1) (drop (i + 1) gates)) ≡ goal)
+gates_turn f i gates d total total' goal lt small e h =
+    let g = get_or gates i d in
+    let rest = drop (suc i) gates in
+    let r = go (counts f.inputs f.marks i) e (ap (λ (k : List Gate). capped (total + gates_cells f i k)) (sym (drop-cons gates i d lt)) ∙ h) in
+    (r.0, ap (λ (k : ℕ). capped (total' + gates_cells f k (drop k gates))) (add-one i) ∙ r.1)
+  where
+    go : (b : Bool) → total' ≡ (elim b as (λ (t : Bool). ℕ) [ true ↦ min (total + capped (gate_cells f i (get_or gates i d))) (2 ^ 64 - 1) | false ↦ total ])
+      → capped (total + (elim b as (λ (t : Bool). ℕ) [ true ↦ gate_cells f i (get_or gates i d) + gates_cells f (suc i) (drop (suc i) gates) | false ↦ gates_cells f (suc i) (drop (suc i) gates) ])) ≡ goal
+      → (total' < 2 ^ 64) × (capped (total' + gates_cells f (suc i) (drop (suc i) gates)) ≡ goal)
+    go true e h = (omega arith, omega arith)
+    go false e h = (omega arith, omega arith)

@@ -3,14 +3,15 @@ ghost use Rattle.std.specs.Prelude.{◌≡◌, ◌<◌, ◌≤◌, ◌+◌, leng
 ghost use Rattle.level_balance.specs.Uses.{operands};
 ghost use Rattle.level_balance.specs.Arrays.{lead_count, lead_next, lead_sum};
 ghost use Rattle.level_balance.specs.Chained.{AreLinks};
-ghost use Rattle.level_balance.specs.Counts.{constants_in, gate_cells, tree_cells};
+ghost use Rattle.level_balance.specs.Counts.{constants_in, gate_cells, gates_cells, tree_cells};
 ghost use Rattle.level_balance.specs.Outlines.{frame_of};
+ghost use Rattle.level_balance.specs.Turns.{total_with};
 ghost use Rattle.level_balance.specs.Steps.{capped, one_more_constant};
 
 use crate::heights::depth;
 use crate::laying::Outline;
 use crate::rows::sum;
-use crate::uses::is_constant;
+use crate::uses::{counts, is_constant};
 use aq_base::Memory;
 use circuit::Gate;
 
@@ -124,4 +125,53 @@ fn gate_total(outline: &Outline, place: usize, gate: Gate) -> Result<usize, Memo
     let first = outline.links.first[place];
     let buffers = lead_total(&outline.user_rows, &outline.links.next, leaf, first, fan);
     Ok(own.saturating_add(tree).saturating_add(buffers))
+}
+
+/// A total and the cells of a gate, if it counts.
+fn with_gate(outline: &Outline, place: usize, gate: Gate, total: usize) -> Result<usize, Memory>
+    requires low { 2 ≤ outline.now.base }
+    requires place { place < length outline.now.links.first.items }
+    requires links { AreLinks outline.now.links.first.items outline.now.links.next.items outline.now.links.fans.items
+        (length outline.now.links.first.items) outline.now.uses.items }
+    ensures { IfOk result (λ more. more ≡ total_with (frame_of outline.now) place gate total) }
+{
+    if counts(outline.inputs, &outline.marks, place) {
+        let cells = gate_total(outline, place, gate)?;
+        Ok(total.saturating_add(cells))
+    } else {
+        Ok(total)
+    }
+}
+
+/// The cells of all gates; `usize::MAX` where there are more.
+fn gates_total(outline: &Outline, gates: &[Gate]) -> Result<usize, Memory>
+    requires low { 2 ≤ outline.now.base }
+    requires gates { length gates.now ≡ length outline.now.links.first.items }
+    requires links { AreLinks outline.now.links.first.items outline.now.links.next.items outline.now.links.fans.items
+        (length outline.now.links.first.items) outline.now.uses.items }
+    ensures { IfOk result (λ total. total ≡ capped (gates_cells (frame_of outline.now) 0 gates.now)) }
+{
+    let mut total = 0;
+    for (place, gate) in gates.iter().enumerate() {
+        total = with_gate(outline, place, *gate, total)?;
+    }
+    Ok(total)
+}
+
+/// The cells of the plan; `usize::MAX` where there are more.
+pub(crate) fn cell_total(
+    outline: &Outline,
+    gates: &[Gate],
+    outputs: &[u32],
+) -> Result<usize, Memory>
+    requires low { 2 ≤ outline.now.base }
+    requires gates { length gates.now ≡ length outline.now.links.first.items }
+    requires links { AreLinks outline.now.links.first.items outline.now.links.next.items outline.now.links.fans.items
+        (length outline.now.links.first.items) outline.now.uses.items }
+    ensures { IfOk result (λ total. total ≡ capped (gates_cells (frame_of outline.now) 0 gates.now
+        + constants_in outline.now.inputs outputs.now + length outputs.now)) }
+{
+    let gates = gates_total(outline, gates)?;
+    let constants = output_constants(outline.inputs, outputs)?;
+    Ok(gates.saturating_add(constants).saturating_add(outputs.len()))
 }
