@@ -61,8 +61,8 @@ gate_counted_is f i g level fan height constants own tree leaf first buffers par
     let trees : tree_cells f.base height fan ≡ tree_cells f.base T U = ap (λ (k : ℕ). tree_cells f.base k fan) hh ∙ ap (tree_cells f.base T) fe in
     let at : leaf ≡ L + T = lfe ∙ ap (λ (k : ℕ). k + height) le ∙ ap (λ (k : ℕ). L + k) hh in
     let sums : lead_sum urs nx leaf first fan ≡ lead_cells f (L + T) (uses_of i 0 f.uses) =
-      ap (λ (k : List ℕ). lead_sum k nx leaf first fan) ue ∙ ap (λ (k : ℕ). lead_sum f.user_rows nx leaf first k) fe ∙ ap (λ (k : ℕ). lead_sum f.user_rows nx k first U) at
-      ∙ sum_is f nx (L + T) first (uses_of i 0 f.uses) ch in
+    ap (λ (k : List ℕ). lead_sum k nx leaf first fan) ue ∙ ap (λ (k : ℕ). lead_sum f.user_rows nx leaf first k) fe ∙ ap (λ (k : ℕ). lead_sum f.user_rows nx k first U) at
+    ∙ sum_is f nx (L + T) first (uses_of i 0 f.uses) ch in
     capped_three own tree buffers (tree_cells f.base height fan) (lead_sum urs nx leaf first fan) total te be (ae ∙ ap (λ (k : ℕ). min (k + buffers) (2 ^ 64 - 1)) pe)
     ∙ ap (λ (k : ℕ). capped (k + tree_cells f.base height fan + lead_sum urs nx leaf first fan)) (oe ∙ ap (λ (k : ℕ). k + 1) ce)
     ∙ ap (λ (k : ℕ). capped (constants_in f.inputs (operands g) + 1 + k + lead_sum urs nx leaf first fan)) trees
@@ -77,7 +77,7 @@ gates_turn f i gates d total total' goal lt small e h =
     (r.0, ap (λ (k : ℕ). capped (total' + gates_cells f k (drop k gates))) (add-one i) ∙ r.1)
   where
     go : (b : Bool) → total' ≡ (elim b as (λ (t : Bool). ℕ) [ true ↦ min (total + capped (gate_cells f i (get_or gates i d))) (2 ^ 64 - 1) | false ↦ total ])
-      → capped (total + (elim b as (λ (t : Bool). ℕ) [ true ↦ gate_cells f i (get_or gates i d) + gates_cells f (suc i) (drop (suc i) gates) | false ↦ gates_cells f (suc i) (drop (suc i) gates) ])) ≡ goal
-      → (total' < 2 ^ 64) × (capped (total' + gates_cells f (suc i) (drop (suc i) gates)) ≡ goal)
+        → capped (total + (elim b as (λ (t : Bool). ℕ) [ true ↦ gate_cells f i (get_or gates i d) + gates_cells f (suc i) (drop (suc i) gates) | false ↦ gates_cells f (suc i) (drop (suc i) gates) ])) ≡ goal
+        → (total' < 2 ^ 64) × (capped (total' + gates_cells f (suc i) (drop (suc i) gates)) ≡ goal)
     go true e h = (omega arith, omega arith)
     go false e h = (omega arith, omega arith)
