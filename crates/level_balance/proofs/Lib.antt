@@ -6,3 +6,5 @@ pub mod GateLaid
 pub mod AllLaid
 pub mod Outlined
 pub mod Counting
+pub mod Based
+pub mod Levelled

@@ -32,3 +32,4 @@ pub mod Arrays
 pub mod Steps
 pub mod Outlines
 pub mod Turns
+pub mod Passes

@@ -7,7 +7,9 @@ mod laws;
 mod laying;
 mod links;
 mod outline;
+mod pass;
 mod rows;
 mod uses;
 
 pub use laws::{plan_answers, plan_count, plan_keeps, worked_rows};
+pub use pass::{LevelPass, LevelRefusal};
