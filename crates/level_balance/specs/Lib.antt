@@ -33,3 +33,4 @@ pub mod Steps
 pub mod Outlines
 pub mod Turns
 pub mod Passes
+pub mod Narrow
