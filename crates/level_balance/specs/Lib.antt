@@ -27,3 +27,10 @@ pub mod KeptNet
 pub mod SameAnswers
 pub mod Counts
 pub mod Counted
+pub mod Chained
+pub mod Arrays
+pub mod Steps
+pub mod Outlines
+pub mod Turns
+pub mod Passes
+pub mod Narrow

@@ -1,0 +1,49 @@
+-- What is counted and laid from an outline is the plan's.
+use Rattle.std.proofs.Common.{◌≡◌, ℕ, ◌+◌, ◌<◌, ◌≤◌, Bool, List, length, ap, ◌∙◌, sym, subst, arith}
+use Rattle.circuit.specs.PlainNets.{PlainView, IsPlainNet}
+use Rattle.rowed.specs.declared.row_cell.RowCell.{RowCell}
+use Rattle.rowed.specs.RowNets.{RowView, IsRowNet}
+use Rattle.level_balance.specs.Plan.{Frame, frame, laid, level_net}
+use Rattle.level_balance.specs.Turns.{laid_by}
+use Rattle.level_balance.specs.Counts.{constants_in, gates_cells, cell_count}
+use Rattle.level_balance.specs.Counted.{plan_count}
+use Rattle.level_balance.specs.KeptNet.{frame_inputs, plan_is_row_net}
+use Rattle.level_balance.specs.Steps.{capped}
+use Rattle.level_balance.specs.Passes.{IsLevelled}
+
+-- the count from the outline is that of the plan
+pub total_is : (net : PlainView) (three : Bool) (f : Frame) (cells : ℕ) → f ≡ frame net three
+    → cells ≡ capped (gates_cells f 0 net.gates + constants_in f.inputs net.outputs + length net.outputs) → cells ≡ capped (cell_count net three)
+unfolding cell_count
+total_is net three f cells e is =
+    is ∙ ap (λ (g : Frame). capped (gates_cells g 0 net.gates + constants_in g.inputs net.outputs + length net.outputs)) e
+    ∙ ap (λ (n : ℕ). capped (gates_cells (frame net three) 0 net.gates + constants_in n net.outputs + length net.outputs)) (frame_inputs net three)
+
+pub many : (cells count : ℕ) → 2000000 < cells → cells ≡ capped count → 2000000 < count
+many cells count lt is = omega arith
+
+pub few : (cells count : ℕ) → cells ≤ 2000000 → cells ≡ capped count → count ≤ 2000000
+few cells count le is = omega arith
+
+rows_are : (net : PlainView) (three : Bool) (f : Frame) (rows : List (List RowCell)) → f ≡ frame net three → rows ≡ laid_by f net.gates net.outputs → rows ≡ (level_net net three).rows
+unfolding level_net laid
+rows_are net three f rows e is = is ∙ ap (λ (g : Frame). laid_by g net.gates net.outputs) e
+
+plan_is : (net : PlainView) (three : Bool) (rows : List (List RowCell)) → rows ≡ (level_net net three).rows
+    → (let made : RowView = record { inputs = net.inputs; outputs = length net.outputs; rows = rows } in made ≡ level_net net three)
+unfolding level_net
+plan_is net three rows e = ap (λ (r : List (List RowCell)). let made : RowView = record { inputs = net.inputs; outputs = length net.outputs; rows = r } in made) e
+
+-- the rows that are laid from the outline are the plan's, where they are few
+pub levelled : (net : PlainView) (three : Bool) (f : Frame) (cells : ℕ) (rows : List (List RowCell)) → IsPlainNet net → f ≡ frame net three
+    → cells ≡ capped (gates_cells f 0 net.gates + constants_in f.inputs net.outputs + length net.outputs) → cells ≤ 2000000 → rows ≡ laid_by f net.gates net.outputs
+    → IsLevelled net three (record { inputs = net.inputs; outputs = length net.outputs; rows = rows })
+levelled net three f cells rows known e total le laid_is =
+    let small = few cells (cell_count net three) le (total_is net three f cells e total) in
+    let plan = plan_is net three rows (rows_are net three f rows e laid_is) in
+    record {
+      net_keeps = known;
+      rows_keep = subst IsRowNet (sym plan) (plan_is_row_net net three known (let k = plan_count net three known in omega arith));
+      is_plan = plan;
+      few_cells = small;
+    }
