@@ -29,7 +29,7 @@ make gs g = record { gates = gs ++ g ∷ []; at = length gs }
 abbrev pub side : ℕ → ℕ → Side
 side n x = elim (eqb x n) [ true ↦ IsZero | false ↦ elim (eqb x (n + 1)) [ true ↦ IsOne | false ↦ Neither ] ]
 
--- the first gate from place i on that inverts x
+-- the gate inverts x
 abbrev pub inverts : ℕ → Gate → Bool
 inverts x (Inv y) = eqb x y
 inverts x (Input i) = false
@@ -38,6 +38,7 @@ inverts x One = false
 inverts x (Buf y) = false
 inverts x (Maj y z w) = false
 
+-- the first gate, from place i on, that inverts x
 abbrev pub inverter_from : ℕ → ℕ → List Gate → Option ℕ
 inverter_from x i [] = None
 inverter_from x i (g ∷ gs) = elim (inverts x g) [ true ↦ Some i | false ↦ inverter_from x (suc i) gs ]

@@ -157,6 +157,7 @@ impl Maker {
         }
     }
 
+    /// The gate that is true where both gates are: one that is there, or a new majority with Zero.
     pub fn and(&mut self, x: u32, y: u32) -> Result<u32, Memory>
         ensures gates { OnOk result (self.new ≡ with_gates self.old (and self.old.inputs self.old.gates x y).gates) }
         ensures at { IfOk result (λ r. r ≡ (and self.old.inputs self.old.gates x y).at) }
@@ -176,6 +177,7 @@ impl Maker {
         }
     }
 
+    /// The gate that is true where one of the gates is: one that is there, or a new majority with One.
     pub fn or(&mut self, x: u32, y: u32) -> Result<u32, Memory>
         ensures gates { OnOk result (self.new ≡ with_gates self.old (or self.old.inputs self.old.gates x y).gates) }
         ensures at { IfOk result (λ r. r ≡ (or self.old.inputs self.old.gates x y).at) }

@@ -29,6 +29,7 @@ impl Model for Tables {
 }
 
 impl Tables {
+    /// The tables of all truth numbers of two and of three inputs; they are refused for want of memory alone.
     pub fn new(alloc: Global) -> Result<Self, Memory> {
         let two = two_inputs(alloc)?;
         let three = three_inputs(alloc)?;
