@@ -5,7 +5,9 @@ mod row_answers;
 mod row_cell;
 mod row_net;
 mod source;
+mod wire;
 
 pub use row_cell::RowCell;
 pub use row_net::RowNet;
 pub use source::Source;
+pub use wire::Wire;
