@@ -7,3 +7,4 @@ pub mod PlacedNets
 pub mod Channels
 pub mod Sorting
 pub mod SortingLaws
+pub mod Numbers
