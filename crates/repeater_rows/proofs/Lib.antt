@@ -1,0 +1,2 @@
+pub mod Funs
+pub mod Reading

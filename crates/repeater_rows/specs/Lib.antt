@@ -2,3 +2,4 @@ pub mod Destinations
 pub mod Rounds
 pub mod Repeaters
 pub mod Passes
+pub mod Reading

@@ -2,5 +2,6 @@
 #![tactic(auto)]
 
 mod pass;
+mod pins;
 
 pub use pass::{RepeatPass, RepeatRefusal};
