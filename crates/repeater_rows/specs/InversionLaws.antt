@@ -2,6 +2,7 @@
 use Rattle.std.proofs.Common.{◌≡◌, ℕ, zero, suc, ◌+◌, ◌≤◌, Bool, true, false, leb, ltb, List, [], ◌∷◌, ◌++◌, take, drop, refl, sym, ap, ◌∙◌, inl, inr, arith}
 use Rattle.std.specs.List.{AllByRecursion}
 use Rattle.std.proofs.lemmas.Bool.{cases_lt, lt-ltb, le-ltb, le-leb, lt-leb}
+use Rattle.std.proofs.lemmas.List.{take-append-drop}
 use Rattle.rowed.specs.Sorting.{put_by, NotFalling, passing}
 use Rattle.rowed.specs.SortingLaws.{passing-cons, by_key_passing, by_key_in_order, same_in_order, by_key_same_key}
 use Rattle.rowed.specs.Numbers.{Same}
@@ -59,19 +60,13 @@ in_order_from_none (x ∷ xs) e = (omega arith, up_from x xs (from_none_below x 
 pub in_order_same : (xs : List ℕ) → inversions xs ≡ 0 → in_order xs ≡ xs
 in_order_same xs e = same_in_order (λ n. n) 0 0 (in_order xs) xs (by_key_in_order (λ n. n) xs) (in_order_from_none xs e) (λ n. by_key_same_key (λ n. n) n xs)
 
-pub split_at : (n : ℕ) (xs : List ℕ) → take n xs ++ drop n xs ≡ xs
-split_at zero [] = refl
-split_at zero (x ∷ xs) = refl
-split_at (suc n) [] = refl
-split_at (suc n) (x ∷ xs) = ap (λ (l : List ℕ). x ∷ l) (split_at n xs)
-
 pub windows_same : (e n : ℕ) (xs : List ℕ) → Same (windows e n xs) xs
 windows_same e zero xs p = refl
 windows_same e (suc n) xs p =
     passing-append p (in_order (take e xs)) (windows e n (drop e xs))
     ∙ (let a : passing p (in_order (take e xs)) ≡ passing p (take e xs) = by_key_passing p (λ n. n) (take e xs) in
     let b = windows_same e n (drop e xs) p in
-    let c : passing p (take e xs) + passing p (drop e xs) ≡ passing p xs = sym (passing-append p (take e xs) (drop e xs)) ∙ ap (λ (l : List ℕ). passing p l) (split_at e xs) in
+    let c : passing p (take e xs) + passing p (drop e xs) ≡ passing p xs = sym (passing-append p (take e xs) (drop e xs)) ∙ ap (λ (l : List ℕ). passing p l) (take-append-drop e xs) in
     omega (arith, a, b, c))
 
 pub windows_lower : (e n : ℕ) (xs : List ℕ) → inversions (windows e n xs) + inside e n xs ≡ inversions xs
@@ -80,7 +75,7 @@ windows_lower e (suc n) xs =
     let here : inversions (in_order (take e xs)) ≡ 0 = none_in_order 0 (in_order (take e xs)) (by_key_in_order (λ n. n) (take e xs)) in
     let a = inversions-append (in_order (take e xs)) (windows e n (drop e xs)) in
     let b : across (in_order (take e xs)) (windows e n (drop e xs)) ≡ across (take e xs) (drop e xs) = across-in_order (take e xs) (windows e n (drop e xs)) ∙ across-same (take e xs) (windows e n (drop e xs)) (drop e xs) (windows_same e n (drop e xs)) in
-    let c : inversions xs ≡ inversions (take e xs) + across (take e xs) (drop e xs) + inversions (drop e xs) = sym (ap inversions (split_at e xs)) ∙ inversions-append (take e xs) (drop e xs) in
+    let c : inversions xs ≡ inversions (take e xs) + across (take e xs) (drop e xs) + inversions (drop e xs) = sym (ap inversions (take-append-drop e xs)) ∙ inversions-append (take e xs) (drop e xs) in
     omega (arith, here, a, b, c, windows_lower e n (drop e xs))
 
 pub windows_stay : (e n : ℕ) (xs : List ℕ) → inside e n xs ≡ 0 → windows e n xs ≡ xs
@@ -88,4 +83,4 @@ windows_stay e zero xs none = refl
 windows_stay e (suc n) xs none =
     let a : in_order (take e xs) ≡ take e xs = in_order_same (take e xs) (omega (arith, none)) in
     let b : windows e n (drop e xs) ≡ drop e xs = windows_stay e n (drop e xs) (omega (arith, none)) in
-    rw (a, b) (split_at e xs)
+    rw (a, b) (take-append-drop e xs)

@@ -6,3 +6,5 @@ pub mod Inversions
 pub mod InversionLaws
 pub mod RoundsLaws
 pub mod OrderLaws
+pub mod Local
+pub mod LocalLaws

@@ -130,14 +130,35 @@ all_pass (x ∷ xs) = ap suc (all_pass xs)
 pub destinations_length : (ws : List Link) (s : ℕ) → length (destinations ws s) ≡ s
 destinations_length ws s = completed_length (map (end_from ws) (numbers 0 s)) (filter (λ d. not (is_end ws d)) (numbers 0 s)) ∙ length-map (numbers 0 s) (end_from ws) ∙ length_numbers 0 s
 
-pub destinations_order : (ws : List Link) (s : ℕ) → IsChannel ws s → IsOrder (destinations ws s)
-destinations_order ws s ch = λ p.
-    let as_many : nones os ≡ length spare = omega (arith, nones_count (end_from ws) (numbers 0 s), all_pass (somes os), somes_passing (λ n. true) (end_from ws) (numbers 0 s), begins (λ n. true) ws s ch.from_apart ch.from_below, spare_passing (λ n. true) (is_end ws) (numbers 0 s), finishes (λ n. true) ws s ch.to_apart ch.to_below, all_pass spare, all_pass (numbers 0 s)) in
-    let sum : passing p (destinations ws s) ≡ passing p (numbers 0 s) = omega (arith, completed_passing p os spare as_many, somes_passing p (end_from ws) (numbers 0 s), begins p ws s ch.from_apart ch.from_below, spare_passing p (is_end ws) (numbers 0 s), finishes p ws s ch.to_apart ch.to_below) in
-    sum ∙ ap (λ (n : ℕ). passing p (numbers 0 n)) (sym (destinations_length ws s))
-  where
-    os : List (Option ℕ)
-    os = map (end_from ws) (numbers 0 s)
+-- as many slots begin no wire as end none
+pub as_many_spare : (ws : List Link) (slots : ℕ) → IsChannel ws slots
+    → nones (map (end_from ws) (numbers 0 slots)) ≡ length (filter (λ (d : ℕ). not (is_end ws d)) (numbers 0 slots))
+as_many_spare ws slots known =
+    let begun = map (end_from ws) (numbers 0 slots) in
+    let spare = filter (λ (d : ℕ). not (is_end ws d)) (numbers 0 slots) in
+    let yes = λ (d : ℕ). true in
+    omega (
+      arith,
+      nones_count (end_from ws) (numbers 0 slots),
+      all_pass (somes begun),
+      somes_passing yes (end_from ws) (numbers 0 slots),
+      begins yes ws slots known.from_apart known.from_below,
+      spare_passing yes (is_end ws) (numbers 0 slots),
+      finishes yes ws slots known.to_apart known.to_below,
+      all_pass spare,
+      all_pass (numbers 0 slots),
+    )
 
-    spare : List ℕ
-    spare = filter (λ d. not (is_end ws d)) (numbers 0 s)
+pub destinations_order : (ws : List Link) (slots : ℕ) → IsChannel ws slots → IsOrder (destinations ws slots)
+destinations_order ws slots known = λ p.
+    let begun = map (end_from ws) (numbers 0 slots) in
+    let spare = filter (λ (d : ℕ). not (is_end ws d)) (numbers 0 slots) in
+    let sum : passing p (destinations ws slots) ≡ passing p (numbers 0 slots) = omega (
+      arith,
+      completed_passing p begun spare (as_many_spare ws slots known),
+      somes_passing p (end_from ws) (numbers 0 slots),
+      begins p ws slots known.from_apart known.from_below,
+      spare_passing p (is_end ws) (numbers 0 slots),
+      finishes p ws slots known.to_apart known.to_below,
+    ) in
+    sum ∙ ap (λ (n : ℕ). passing p (numbers 0 n)) (sym (destinations_length ws slots))

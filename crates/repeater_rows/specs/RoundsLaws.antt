@@ -2,7 +2,7 @@
 -- the number of slots.
 use Rattle.std.proofs.Common.{◌≡◌, ℕ, zero, suc, ◌+◌, ◌-◌, ◌*◌, ◌/◌, ◌<◌, ◌≤◌, Bool, true, false, cond, not, ◌&&◌, ◌||◌, ltb, eqb, List, [], ◌∷◌, ◌++◌, length, take, drop, get_or, refl, sym, ap, ◌∙◌, subst, ◌⊎◌, inl, inr, arith, length-drop}
 use Rattle.std.proofs.lemmas.Bool.{cases_lt, cases_eq, le-ltb, eqb-true}
-use Rattle.std.proofs.lemmas.List.{get_or-take, get_or-drop, length-take}
+use Rattle.std.proofs.lemmas.List.{get_or-take, get_or-drop, length-take, take-append-drop}
 use Rattle.std.proofs.lemmas.Nat.{same_from_place, mul-le}
 use Rattle.std.proofs.Math.Nat.{suc-mul, mul-suc}
 use Rattle.rowed.specs.Sorting.{NotFalling, passing, of_key}
@@ -11,7 +11,7 @@ use Rattle.rowed.specs.Numbers.{numbers, Same, IsOrder}
 use Rattle.rowed.specs.Channels.{move}
 use Rattle.repeater_rows.specs.Rounds.{AreOrders, in_order, windows, round, is_far, window_size, rounds, all_rounds, AreRounds}
 use Rattle.repeater_rows.specs.Inversions.{below, inversions, across, inside}
-use Rattle.repeater_rows.specs.InversionLaws.{inversions-append, across-same, passing-append, split_at, windows_same, windows_lower, windows_stay, in_order_from_none, none_in_order, in_order_same}
+use Rattle.repeater_rows.specs.InversionLaws.{inversions-append, across-same, passing-append, windows_same, windows_lower, windows_stay, in_order_from_none, none_in_order, in_order_same}
 
 -- neighbours in order, and the whole list in order
 rises : (b : ℕ) (xs : List ℕ) → NotFalling (λ n. n) b xs → (i : ℕ) → suc i < length xs → get_or xs i 0 ≤ get_or xs (suc i) 0
@@ -93,7 +93,7 @@ round_same e true xs = windows_same e (length xs) xs
 round_same e false xs = λ p.
     let a = passing-append p (take (e / 2) xs) (windows e (length xs) (drop (e / 2) xs)) in
     let b = windows_same e (length xs) (drop (e / 2) xs) p in
-    let c : passing p (take (e / 2) xs) + passing p (drop (e / 2) xs) ≡ passing p xs = sym (passing-append p (take (e / 2) xs) (drop (e / 2) xs)) ∙ ap (λ (l : List ℕ). passing p l) (split_at (e / 2) xs) in
+    let c : passing p (take (e / 2) xs) + passing p (drop (e / 2) xs) ≡ passing p xs = sym (passing-append p (take (e / 2) xs) (drop (e / 2) xs)) ∙ ap (λ (l : List ℕ). passing p l) (take-append-drop (e / 2) xs) in
     omega (arith, a, b, c)
 
 pub round_lower : (e : ℕ) (odd : Bool) (xs : List ℕ) → inversions (round e odd xs) + removed e odd xs ≡ inversions xs
@@ -103,12 +103,12 @@ round_lower e false xs =
     let back = drop (e / 2) xs in
     let a = inversions-append front (windows e (length xs) back) in
     let b : across front (windows e (length xs) back) ≡ across front back = across-same front (windows e (length xs) back) back (windows_same e (length xs) back) in
-    let c : inversions xs ≡ inversions front + across front back + inversions back = sym (ap inversions (split_at (e / 2) xs)) ∙ inversions-append front back in
+    let c : inversions xs ≡ inversions front + across front back + inversions back = sym (ap inversions (take-append-drop (e / 2) xs)) ∙ inversions-append front back in
     omega (arith, a, b, c, windows_lower e (length xs) back)
 
 round_stays : (e : ℕ) (odd : Bool) (xs : List ℕ) → removed e odd xs ≡ 0 → round e odd xs ≡ xs
 round_stays e true xs none = windows_stay e (length xs) xs none
-round_stays e false xs none = ap (λ (l : List ℕ). take (e / 2) xs ++ l) (windows_stay e (length xs) (drop (e / 2) xs) none) ∙ split_at (e / 2) xs
+round_stays e false xs none = ap (λ (l : List ℕ). take (e / 2) xs ++ l) (windows_stay e (length xs) (drop (e / 2) xs) none) ∙ take-append-drop (e / 2) xs
 
 -- a round of each kind that removes nothing
 in_order_from_rounds : (e : ℕ) (odd : Bool) (xs : List ℕ) → e ≡ e / 2 + e / 2 → 0 < e / 2 → removed e odd xs ≡ 0 → removed e (not odd) xs ≡ 0 → inversions xs ≡ 0
