@@ -3,3 +3,9 @@ pub mod Rounds
 pub mod Repeaters
 pub mod Passes
 pub mod Reading
+pub mod Inversions
+pub mod InversionLaws
+pub mod RoundsLaws
+pub mod OrderLaws
+pub mod Local
+pub mod LocalLaws

@@ -1,6 +1,7 @@
 //! Rows of buffers that shorten the wires of placed nets.
 #![tactic(auto)]
 
+pub mod laws;
 mod pass;
 mod pins;
 
