@@ -1,2 +1,3 @@
 pub mod Funs
 pub mod Reading
+pub mod Windows

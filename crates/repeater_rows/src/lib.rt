@@ -2,6 +2,7 @@
 #![tactic(auto)]
 
 pub mod laws;
+mod channel;
 mod pass;
 mod pins;
 
