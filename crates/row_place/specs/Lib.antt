@@ -9,3 +9,4 @@ pub mod PlanKeeps
 pub mod PlanAnswers
 pub mod PlanSpans
 pub mod PlanLaws
+pub mod Examples
