@@ -10,3 +10,4 @@ pub mod PlanAnswers
 pub mod PlanSpans
 pub mod PlanLaws
 pub mod Examples
+pub mod PlanGiven
