@@ -1,6 +1,7 @@
 //! Places for the cells of a net in rows: an order of each row, packed from slot 0.
 #![tactic(auto)]
 
+pub mod laws;
 mod pass;
 
 pub use pass::{PlacePass, PlaceRefusal};
