@@ -1,3 +1,4 @@
 pub mod Funs
 pub mod Reading
-pub mod Windows
+pub mod WindowOrder
+pub mod LookSteps

@@ -46,17 +46,17 @@ pub entered : (slots : ℕ) (lower : List ℕ) (slot from : ℕ) (s : Source) (w
 entered slots lower slot from s ws ends wired sources known is =
     let w : Link = record { from = source_slot lower s; to = slot; source = s } in
     record {
-  each_end = ap (λ (l : List (Option ℕ)). slice_set l from (Some slot)) known.each_end
-      ∙ ap (λ (k : ℕ). slice_set (map (end_from ws) (numbers 0 slots)) k (Some slot)) is
-      ∙ ap (λ (x : Option ℕ). slice_set (map (end_from ws) (numbers 0 slots)) w.from x) (sym (rw (eq-eqb w.from w.from refl) refl))
-      ∙ set_value (end_from ws) (end_from (w ∷ ws)) 0 slots w.from w.from (omega arith) (λ m ne. rw (ne_eqb w.from m (λ q. ne (sym q))) refl);
-  each_wired = ap (λ (l : List Bool). slice_set l w.to true) known.each_wired
-      ∙ ap (λ (x : Bool). slice_set (map (is_end ws) (numbers 0 slots)) w.to x) (sym (rw (eq-eqb w.to w.to refl) refl))
-      ∙ set_value (is_end ws) (is_end (w ∷ ws)) 0 slots w.to w.to (omega arith) (λ m ne. rw (ne_eqb w.to m (λ q. ne (sym q))) refl);
-  each_source = ap (λ (l : List Source). slice_set l w.to w.source) known.each_source
-      ∙ ap (λ (x : Source). slice_set (map (source_to ws) (numbers 0 slots)) w.to x) (sym (rw (eq-eqb w.to w.to refl) refl))
-      ∙ set_value (source_to ws) (source_to (w ∷ ws)) 0 slots w.to w.to (omega arith) (λ m ne. rw (ne_eqb w.to m (λ q. ne (sym q))) refl);
-}
+      each_end = ap (λ (l : List (Option ℕ)). slice_set l from (Some slot)) known.each_end
+          ∙ ap (λ (k : ℕ). slice_set (map (end_from ws) (numbers 0 slots)) k (Some slot)) is
+          ∙ ap (λ (x : Option ℕ). slice_set (map (end_from ws) (numbers 0 slots)) w.from x) (sym (rw (eq-eqb w.from w.from refl) refl))
+          ∙ set_value (end_from ws) (end_from (w ∷ ws)) 0 slots w.from w.from (omega arith) (λ m ne. rw (ne_eqb w.from m (λ q. ne (sym q))) refl);
+      each_wired = ap (λ (l : List Bool). slice_set l w.to true) known.each_wired
+          ∙ ap (λ (x : Bool). slice_set (map (is_end ws) (numbers 0 slots)) w.to x) (sym (rw (eq-eqb w.to w.to refl) refl))
+          ∙ set_value (is_end ws) (is_end (w ∷ ws)) 0 slots w.to w.to (omega arith) (λ m ne. rw (ne_eqb w.to m (λ q. ne (sym q))) refl);
+      each_source = ap (λ (l : List Source). slice_set l w.to w.source) known.each_source
+          ∙ ap (λ (x : Source). slice_set (map (source_to ws) (numbers 0 slots)) w.to x) (sym (rw (eq-eqb w.to w.to refl) refl))
+          ∙ set_value (source_to ws) (source_to (w ∷ ws)) 0 slots w.to w.to (omega arith) (λ m ne. rw (ne_eqb w.to m (λ q. ne (sym q))) refl);
+    }
 
 -- a row's span, from its last cell to its first
 pub no_span : (cells : List RowCell) (slots : List ℕ) (n : ℕ) → n ≡ min (length cells) (length slots) → 0 ≡ span_of (drop n cells) (drop n slots)

@@ -3,6 +3,7 @@ pub mod Rounds
 pub mod Repeaters
 pub mod Passes
 pub mod Reading
+pub mod Looking
 pub mod Inversions
 pub mod InversionLaws
 pub mod RoundsLaws

@@ -42,7 +42,7 @@ fn completed(alloc: Global, ends: &[Option<u32>], spare: &[u32]) -> Result<Vec<u
 }
 
 /// Whether a wire ends at a slot.
-fn is_wired(wired: &[bool], slot: u32) -> bool
+pub(crate) fn is_wired(wired: &[bool], slot: u32) -> bool
     ensures { result ≡ valuation wired.now slot }
 {
     wired.get(slot as usize).copied().unwrap_or(false)

@@ -3,13 +3,20 @@ use Rattle.std.proofs.Common.{◌≡◌, ℕ, zero, suc, ◌+◌, ◌-◌, ◌*�
 use Rattle.std.specs.List.{filter, AllByRecursion}
 use Rattle.std.proofs.lemmas.List.{take-append-drop, length-append, length-drop, length-take, drop-drop}
 use Rattle.std.proofs.lemmas.List.Elements.{filter-append}
-use Rattle.std.proofs.Math.Seq.{take-append_seam, drop-append_seam, drop-append-add, take-add}
+use Rattle.std.proofs.Math.Seq.{take-append_seam, drop-append_seam, drop-cons}
 use Rattle.std.proofs.Math.Nat.{suc-mul, div-add-mod, mul_comm}
+use Rattle.std.specs.List.Sorted.{IsPermutation, IsSorted}
+use Rattle.std.specs.Ordering.{nat_cmp}
+use Rattle.std.proofs.lemmas.List.Sums.{length-filter}
+use Rattle.std.proofs.lemmas.List.Sorted.{sum_by-IsPermutation}
 use Rattle.rowed.specs.Sorting.{NotFalling, passing, by_key}
-use Rattle.rowed.specs.SortingLaws.{by_key_is, by_key_passing, by_key_length, passing-yes, passing-no}
+use Rattle.rowed.specs.Numbers.{Same}
+use Rattle.rowed.specs.SortingLaws.{by_key_is, by_key_passing, by_key_length, by_key_in_order, by_key_same_key, same_in_order, not_falling_from_sort, passing-yes, passing-no}
 use Rattle.repeater_rows.specs.Rounds.{in_order, windows}
 use Rattle.repeater_rows.specs.Repeaters.{carrier_slots}
 use Rattle.repeater_rows.specs.Local.{unwired, UnwiredRise}
+use Rattle.repeater_rows.specs.RoundsLaws.{same_of_key}
+use Rattle.repeater_rows.specs.Looking.{sorted_at}
 
 -- lists cut at a length
 pub cut_front : {X : Type 0} (n : ℕ) (xs ys : List X) → length xs ≡ n → take n (xs ++ ys) ≡ xs
@@ -146,12 +153,12 @@ first_carrier wired b (x ∷ xs) some = go (wired x) refl (first_carrier wired (
         let k = rw q at some in
         let h = rest k in
         record {
-      place = suc h.place;
-      is_there = rw q (omega (arith, h.is_there));
-      within = omega (arith, h.within);
-      before = (q, h.before);
-      wired_there = h.wired_there;
-    }
+          place = suc h.place;
+          is_there = rw q (omega (arith, h.is_there));
+          within = omega (arith, h.within);
+          before = (q, h.before);
+          wired_there = h.wired_there;
+        }
 
 -- destinations without a wire
 none_filter : (wired : ℕ → Bool) (xs : List ℕ) → NoneWired wired xs → unwired wired xs ≡ xs
@@ -183,3 +190,49 @@ some_passing wired (x ∷ xs) (suc i) lt q = go (wired x) refl (some_passing wir
     go : (t : Bool) → wired x ≡ t → 0 < passing wired xs → 0 < passing wired (x ∷ xs)
     go true r h = omega (arith, passing-yes wired x xs r)
     go false r h = omega (arith, passing-no wired x xs r, h)
+
+-- what std's sort of a window gives
+same_of_permutation : (xs ys : List ℕ) → IsPermutation xs ys → Same ys xs
+same_of_permutation xs ys moved p = length-filter p ys ∙ sum_by-IsPermutation (λ (x : ℕ). cond (p x) 1 0) xs ys moved ∙ sym (length-filter p xs)
+
+sort_gives : (xs ys : List ℕ) → IsPermutation xs ys → IsSorted nat_cmp ys → ys ≡ in_order xs
+sort_gives xs ys moved sorted =
+    same_in_order (λ (x : ℕ). x) 0 0 ys (in_order xs) (not_falling_from_sort (λ (x : ℕ). x) ys sorted) (by_key_in_order (λ (x : ℕ). x) xs)
+    (λ n. same_of_key ys xs (same_of_permutation xs ys moved) n ∙ sym (by_key_same_key (λ (x : ℕ). x) n xs))
+
+pub sorted_by_code : (left right : ℕ) (to part : List ℕ) → IsPermutation (take (right - left) (drop left to)) part → IsSorted nat_cmp part
+    → take left to ++ (part ++ drop (right - left) (drop left to)) ≡ sorted_at left right to
+sorted_by_code left right to part moved sorted =
+    ap (λ (l : List ℕ). take left to ++ (l ++ drop (right - left) (drop left to))) (sort_gives (take (right - left) (drop left to)) part moved sorted)
+
+-- the carriers of a part of the slots, from its first one on
+part_next : (slot next right : ℕ) (to : List ℕ) → next ≡ slot + 1 → slot < right → right ≤ length to
+    → take (right - slot) (drop slot to) ≡ get_or to slot 0 ∷ take (right - next) (drop next to)
+part_next slot next right to e lt le =
+    let more : right - slot ≡ suc (right - next) = omega arith in
+    let here : drop slot to ≡ get_or to slot 0 ∷ drop next to = drop-cons to slot 0 (omega arith) ∙ ap (λ (n : ℕ). get_or to slot 0 ∷ drop n to) (let q : suc slot ≡ next = omega arith in q) in
+    ap (λ (n : ℕ). take n (drop slot to)) more ∙ ap (take (suc (right - next))) here
+
+pub note_wired : (wired : ℕ → Bool) (slot next right : ℕ) (to slots slots' whole : List ℕ) → next ≡ slot + 1 → slot < right → right ≤ length to
+    → slots ++ carrier_slots wired slot (take (right - slot) (drop slot to)) ≡ whole → wired (get_or to slot 0) ≡ true → slots' ≡ slots ++ (slot ∷ [])
+    → slots' ++ carrier_slots wired next (take (right - next) (drop next to)) ≡ whole
+note_wired wired slot next right to slots slots' whole e lt le so test is =
+    let n : next ≡ suc slot = omega arith in
+    let rest = take (right - next) (drop next to) in
+    let cell : carrier_slots wired slot (get_or to slot 0 ∷ rest) ≡ slot ∷ carrier_slots wired (suc slot) rest = rw test refl in
+    ap (λ (l : List ℕ). l ++ carrier_slots wired next rest) is ∙ append_assoc slots (slot ∷ []) (carrier_slots wired next rest)
+    ∙ ap (λ (k : ℕ). slots ++ (slot ∷ carrier_slots wired k rest)) n
+    ∙ ap (λ (l : List ℕ). slots ++ l) (sym cell)
+    ∙ ap (λ (l : List ℕ). slots ++ carrier_slots wired slot l) (sym (part_next slot next right to e lt le)) ∙ so
+
+pub note_unwired : (wired : ℕ → Bool) (slot next right : ℕ) (to slots slots' whole : List ℕ) → next ≡ slot + 1 → slot < right → right ≤ length to
+    → slots ++ carrier_slots wired slot (take (right - slot) (drop slot to)) ≡ whole → wired (get_or to slot 0) ≡ false → slots' ≡ slots
+    → slots' ++ carrier_slots wired next (take (right - next) (drop next to)) ≡ whole
+note_unwired wired slot next right to slots slots' whole e lt le so test is =
+    let n : next ≡ suc slot = omega arith in
+    let rest = take (right - next) (drop next to) in
+    let cell : carrier_slots wired slot (get_or to slot 0 ∷ rest) ≡ carrier_slots wired (suc slot) rest = rw test refl in
+    ap (λ (l : List ℕ). l ++ carrier_slots wired next rest) is
+    ∙ ap (λ (k : ℕ). slots ++ carrier_slots wired k rest) n
+    ∙ ap (λ (l : List ℕ). slots ++ l) (sym cell)
+    ∙ ap (λ (l : List ℕ). slots ++ carrier_slots wired slot l) (sym (part_next slot next right to e lt le)) ∙ so
