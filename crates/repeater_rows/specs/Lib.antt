@@ -8,3 +8,8 @@ pub mod RoundsLaws
 pub mod OrderLaws
 pub mod Local
 pub mod LocalLaws
+pub mod RowsAbove
+pub mod RowsAboveLaws
+pub mod PinLaws
+pub mod ChannelLaws
+pub mod PlaceLaws
