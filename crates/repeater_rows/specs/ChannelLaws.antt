@@ -1,9 +1,9 @@
 -- Laws of channels: the wires between two rows of a placed net are those of a channel, and each destination with a wire
 -- has its own source in the lower row.
-use Rattle.std.specs.Prelude.{◌≡◌, ℕ, suc, ◌+◌, ◌<◌, ◌≤◌, min, max, Bool, true, false, List, [], ◌∷◌, slice_get, slice_index_or, Option, Some, None, is_some}
-use Rattle.std.proofs.Common.{refl, sym, ap, ◌∙◌, subst, arith, inl, inr, eqb, ltb}
+use Rattle.std.specs.Prelude.{◌≡◌, ℕ, suc, ◌+◌, ◌<◌, ◌≤◌, min, Bool, true, List, [], ◌∷◌, slice_get, slice_index_or, Option, Some, None, is_some}
+use Rattle.std.proofs.Common.{refl, sym, ap, ◌∙◌, arith, ltb}
 use Rattle.std.specs.List.{AllByRecursion}
-use Rattle.std.proofs.lemmas.Bool.{cases_eq, eq-eqb, ne_eqb, ltb-true}
+use Rattle.std.proofs.lemmas.Bool.{ltb-true}
 use Rattle.circuit.specs.CellKinds.{inputs_of, outputs_of, slots_of}
 use Rattle.circuit.specs.declared.cell_kind.CellKind.{CellKind}
 use Rattle.circuit.specs.declared.cell_kind.CellKind.TheVariants.{Buffer, Inverter, Zero, One, Split2, Split3, Majority}
@@ -11,14 +11,13 @@ use Rattle.rowed.specs.declared.source.Source.{Source}
 use Rattle.rowed.specs.declared.row_cell.RowCell.{RowCell}
 use Rattle.rowed.specs.RowCells.{source_at}
 use Rattle.rowed.specs.RowNets.{outputs_at, fed_at}
-use Rattle.rowed.specs.Slots.{AreSeated, span_of}
+use Rattle.rowed.specs.Slots.{AreSeated}
 use Rattle.rowed.specs.PlacedNets.{PlacedRow}
-use Rattle.rowed.specs.Channels.{Link, source_slot, pin_link, links, channel_links, channel_slots}
+use Rattle.rowed.specs.Channels.{Link, pin_link, links, channel_links, channel_slots}
 use Rattle.rowed.specs.Sorting.{EachPair}
-use Rattle.repeater_rows.specs.Destinations.{is_end, IsChannel}
-use Rattle.repeater_rows.specs.Repeaters.{source_to}
-use Rattle.repeater_rows.specs.RowsAbove.{FeedsOne, CellAbove, RowAbove}
-use Rattle.repeater_rows.specs.PinLaws.{wire_to, IsPin, pins_all, are_pins, all_pins, seated_length, seated_apart, within_span}
+use Rattle.repeater_rows.specs.Destinations.{IsChannel}
+use Rattle.repeater_rows.specs.RowsAbove.{CellAbove, RowAbove}
+use Rattle.repeater_rows.specs.PinLaws.{IsPin, pins_all, are_pins, seated_apart, within_span}
 
 -- a cell has room for its pins
 pub inputs_fit : (kind : CellKind) → inputs_of kind ≤ slots_of kind
@@ -74,9 +73,9 @@ cell_apart : (lower : List ℕ) (slot : ℕ) (cell : RowCell) (more : List Link)
 cell_apart lower slot cell more fits from apart =
     let room = slots_of cell.kind in
     let two = pin_apart lower (suc (suc slot)) (slot + min 2 room) (slot + min 3 room) cell.source2 more (omega arith)
-        (λ s is. (omega (arith, fits 2 s is), omega (arith, fits 2 s is))) (from_less (slot + min 3 room) (slot + room) more (omega arith) from) apart in
+    (λ s is. (omega (arith, fits 2 s is), omega (arith, fits 2 s is))) (from_less (slot + min 3 room) (slot + room) more (omega arith) from) apart in
     let one = pin_apart lower (suc slot) (slot + min 1 room) (slot + min 2 room) cell.source1 (pin_link lower (suc (suc slot)) cell.source2 more) (omega arith)
-        (λ s is. (omega (arith, fits 1 s is), omega (arith, fits 1 s is))) two.0 two.1 in
+    (λ s is. (omega (arith, fits 1 s is), omega (arith, fits 1 s is))) two.0 two.1 in
     pin_apart lower slot slot (slot + min 1 room) cell.source0 (pin_link lower (suc slot) cell.source1 (pin_link lower (suc (suc slot)) cell.source2 more)) (omega arith)
     (λ s is. (omega arith, omega (arith, fits 0 s is))) one.0 one.1
 
@@ -117,10 +116,10 @@ module _ (outputs : ℕ) (last : Bool) (lower upper : PlacedRow) (seated_lower :
   pin_before w pin = (above.stands pin.number pin.cell pin.here).before pin.pin w.source pin.fed
 
   -- pins with one source are one pin
-  pins_same : (v w : Link) → IsPin lower.slots upper.cells upper.slots v → IsPin lower.slots upper.cells upper.slots w → v.source ≡ w.source → v.to ≡ w.to
+  pub pins_same : (v w : Link) → IsPin lower.slots upper.cells upper.slots v → IsPin lower.slots upper.cells upper.slots w → v.source ≡ w.source → v.to ≡ w.to
   pins_same v w a b e =
       let one = above.feeds_one a.number b.number a.pin b.pin w.source (ap (λ (o : Option RowCell). fed_at o a.pin) a.here ∙ a.fed ∙ ap (λ (s : Source). Some s) e)
-          (ap (λ (o : Option RowCell). fed_at o b.pin) b.here ∙ b.fed) in
+      (ap (λ (o : Option RowCell). fed_at o b.pin) b.here ∙ b.fed) in
       a.to_is ∙ ap (λ (c : ℕ). slice_index_or upper.slots c 0 + a.pin) one.0 ∙ ap (λ (i : ℕ). slice_index_or upper.slots b.number 0 + i) one.1 ∙ sym b.to_is
 
   sources_apart : (v w : Link) → IsPin lower.slots upper.cells upper.slots v → IsPin lower.slots upper.cells upper.slots w → v.from ≡ w.from → v.to ≡ w.to
@@ -128,7 +127,7 @@ module _ (outputs : ℕ) (last : Bool) (lower upper : PlacedRow) (seated_lower :
       let there = outputs_there (slice_get lower.cells v.source.cell) v.source.output (pin_before v a) in
       let there' = outputs_there (slice_get lower.cells w.source.cell) w.source.output (pin_before w b) in
       let one = seated_apart 0 lower.cells lower.slots seated_lower v.source.cell w.source.cell v.source.output w.source.output there.0 there'.0 there.1 there'.1
-          there.2 there'.2 (sym a.from_is ∙ e ∙ b.from_is) in
+      there.2 there'.2 (sym a.from_is ∙ e ∙ b.from_is) in
       pins_same v w a b (same_source v.source w.source one.0 one.1)
 
   pub channel_known : IsChannel (channel_links lower upper) (channel_slots lower upper)
@@ -136,7 +135,7 @@ module _ (outputs : ℕ) (last : Bool) (lower upper : PlacedRow) (seated_lower :
       let ws = channel_links lower upper in
       let pins = are_pins lower.slots upper.cells upper.slots in
       let fits = λ (c i : ℕ) (cell : RowCell) (s : Source) (here : slice_get upper.cells c ≡ Some cell) (is : source_at cell i ≡ Some s).
-          fed_pin_fits outputs last lower.cells cell (above.stands c cell here) i s is in
+      fed_pin_fits outputs last lower.cells cell (above.stands c cell here) i s is in
       let apart = (links_apart lower.slots 0 upper.cells upper.slots seated fits).1 in
       record {
         from_apart = pairs_also (λ (v : Link) (w : Link). v.to ≡ w.to → ⊥) (λ (v : Link) (w : Link). v.from ≡ w.from → ⊥) (IsPin lower.slots upper.cells upper.slots)

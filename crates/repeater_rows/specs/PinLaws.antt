@@ -1,7 +1,7 @@
 -- Laws of pins and slots: each fed pin of a row is a wire and each wire is one, and cells that share no slot share no
 -- pin's slot.
-use Rattle.std.specs.Prelude.{◌≡◌, ℕ, zero, suc, ◌+◌, ◌<◌, ◌≤◌, min, max, Bool, true, List, [], ◌∷◌, length, slice_get, slice_index_or, Option, Some, None}
-use Rattle.std.proofs.Common.{refl, sym, ap, ◌∙◌, subst, arith, inl, inr}
+use Rattle.std.specs.Prelude.{◌≡◌, ℕ, zero, suc, ◌+◌, ◌<◌, ◌≤◌, List, [], ◌∷◌, length, slice_get, slice_index_or, Option, Some, None}
+use Rattle.std.proofs.Common.{refl, ap, ◌∙◌, subst, arith, inl, inr}
 use Rattle.std.specs.List.{AllByRecursion}
 use Rattle.std.proofs.lemmas.Bool.{cases_lt}
 use Rattle.std.proofs.lemmas.Option.{none-some, same_Some}
@@ -11,7 +11,6 @@ use Rattle.rowed.specs.declared.row_cell.RowCell.{RowCell}
 use Rattle.rowed.specs.RowCells.{source_at}
 use Rattle.rowed.specs.Slots.{AreSeated, span_of, slot_limit}
 use Rattle.rowed.specs.Channels.{Link, source_slot, pin_link, links}
-use Rattle.rowed.specs.Sorting.{EachPair}
 
 -- the wire to a slot from a source
 abbrev pub wire_to : List ℕ → ℕ → Source → Link
@@ -50,14 +49,14 @@ pins_all P lower (cell ∷ cells) (slot ∷ slots) each =
 
 pub are_pins : (lower : List ℕ) (cells : List RowCell) (slots : List ℕ) → AllByRecursion (IsPin lower cells slots) (links lower cells slots)
 are_pins lower cells slots = pins_all (IsPin lower cells slots) lower cells slots (λ c i cell s here is. record {
-      number = c;
-      pin = i;
-      cell = cell;
-      here = here;
-      fed = is;
-      from_is = refl;
-      to_is = refl;
-    })
+  number = c;
+  pin = i;
+  cell = cell;
+  here = here;
+  fed = is;
+  from_is = refl;
+  to_is = refl;
+})
 
 -- what holds of each wire holds of each fed pin
 pin_first : (P : Link → Type 0) (lower : List ℕ) (slot : ℕ) (o : Option Source) (more : List Link) (s : Source)

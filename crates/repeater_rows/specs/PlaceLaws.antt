@@ -1,7 +1,6 @@
 -- Laws of places: where a destination stands among others, how far a round moves it, and where its buffer stands.
 use Rattle.std.specs.Prelude.{◌≡◌, ℕ, zero, suc, ◌+◌, ◌-◌, ◌/◌, ◌<◌, ◌≤◌, Bool, true, false, ◌&&◌, List, [], ◌∷◌, ◌++◌, length, take, drop, slice_get, Some}
 use Rattle.std.proofs.Common.{refl, sym, ap, ◌∙◌, inl, inr, arith, eqb, ltb, get_or}
-use Rattle.std.specs.List.{filter}
 use Rattle.std.proofs.lemmas.Bool.{cases_lt, cases_eq, eq-eqb, ne_eqb, eqb-true, ltb-false, or_parts}
 use Rattle.std.proofs.lemmas.List.{length-take, take-append-drop}
 use Rattle.std.proofs.lemmas.Option.{none-some, same_Some, get_or_from_slice_get}
@@ -68,7 +67,7 @@ round_move e false d xs =
     ]
 
 -- what is near stands near
-near_at : (reach : ℕ) (wired : ℕ → Bool) (b : ℕ) (to : List ℕ) → is_far reach wired b to ≡ false → (d : ℕ) → wired d ≡ true → 0 < times d to → move (b + place_of to d) d ≤ reach - 1
+pub near_at : (reach : ℕ) (wired : ℕ → Bool) (b : ℕ) (to : List ℕ) → is_far reach wired b to ≡ false → (d : ℕ) → wired d ≡ true → 0 < times d to → move (b + place_of to d) d ≤ reach - 1
 near_at reach wired b [] near d w lt = absurd (omega (arith, lt))
 near_at reach wired b (x ∷ to) near d w lt =
     let parts = or_parts (wired x && ltb (reach - 1) (move b x)) (is_far reach wired (suc b) to) near in

@@ -1,13 +1,13 @@
 -- Laws of placed nets row by row: the facts of a placed net are those of its rows, in turn.
-use Rattle.std.specs.Prelude.{◌≡◌, ℕ, zero, suc, pred, ◌+◌, ◌-◌, ◌<◌, ◌≤◌, ◌^◌, ◌==◌, Bool, true, false, List, [], ◌∷◌, length, map, slice_get, Option, Some, None, is_some}
-use Rattle.std.proofs.Common.{refl, sym, ap, ◌∙◌, subst, arith, eqb, inl, inr}
+use Rattle.std.specs.Prelude.{◌≡◌, ℕ, zero, suc, pred, ◌-◌, ◌<◌, ◌^◌, ◌==◌, Bool, false, List, [], ◌∷◌, length, map, Some, is_some}
+use Rattle.std.proofs.Common.{refl, sym, ap, ◌∙◌, subst, arith, inl, inr}
 use Rattle.std.specs.List.{AllByRecursion}
 use Rattle.std.proofs.lemmas.Bool.{cases_eq, eq-eqb, ne_eqb, eqb-true}
 use Rattle.std.proofs.lemmas.List.{length-map}
 use Rattle.std.proofs.lemmas.Option.{none-some}
 use Rattle.rowed.specs.declared.source.Source.{Source}
 use Rattle.rowed.specs.declared.row_cell.RowCell.{RowCell}
-use Rattle.rowed.specs.RowNets.{RowView, row_at, cell_at, output_at, input_at, fed_at, last_of, EachFeedsOne, ExactlyOne, MayStand, IsRowNet}
+use Rattle.rowed.specs.RowNets.{RowView, row_at, cell_at, output_at, fed_at, last_of, EachFeedsOne, ExactlyOne, MayStand, IsRowNet}
 use Rattle.rowed.specs.Slots.{AreSeated, EachSeated}
 use Rattle.rowed.specs.PlacedNets.{PlacedRow, PlacedView, IsPlaced, paired, placed_rows, placed_of}
 use Rattle.repeater_rows.specs.RowsAbove.{FirstCell, FirstRow, CellAbove, RowAbove, no_more, PlacedAbove}
