@@ -18,3 +18,4 @@ pub mod ShortLaws
 pub mod Sources
 pub mod WireLaws
 pub mod AddedLaws
+pub mod KeptLaws
