@@ -10,7 +10,7 @@ use Rattle.circuit.specs.CellKinds.{slots_of}
 use Rattle.rowed.specs.declared.source.Source.{Source}
 use Rattle.rowed.specs.declared.row_cell.RowCell.{RowCell}
 use Rattle.rowed.specs.RowCells.{source_at}
-use Rattle.rowed.specs.RowNets.{outputs_at, fed_at, output_at, ExactlyOne}
+use Rattle.rowed.specs.RowNets.{outputs_at, fed_at, output_at}
 use Rattle.rowed.specs.Slots.{AreSeated, slot_limit}
 use Rattle.rowed.specs.PlacedNets.{PlacedRow}
 use Rattle.rowed.specs.Numbers.{place_of, IsOrder}

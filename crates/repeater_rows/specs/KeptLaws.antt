@@ -1,21 +1,20 @@
 -- Laws of the plan of repeaters: its rows are those of a placed net.
-use Rattle.std.specs.Prelude.{◌≡◌, ℕ, suc, ◌+◌, ◌<◌, ◌≤◌, ◌^◌, Bool, true, false, not, ◌&&◌, ◌||◌, nat_le, nat_lt, cond, List, [], ◌∷◌, ◌++◌, length, map, max, slice_get, slice_index_or, Option, Some, None}
-use Rattle.std.proofs.Common.{refl, sym, ap, ◌∙◌, subst, arith, leb}
+use Rattle.std.specs.Prelude.{◌≡◌, ℕ, suc, ◌+◌, ◌<◌, ◌≤◌, ◌^◌, Bool, true, false, not, nat_le, List, [], ◌∷◌, ◌++◌, length, slice_get, slice_index_or, Some, None}
+use Rattle.std.proofs.Common.{refl, sym, ap, ◌∙◌, subst, arith}
 use Rattle.std.specs.List.{AllByRecursion}
 use Rattle.std.proofs.lemmas.Bool.{leb-true}
 use Rattle.std.proofs.lemmas.Option.{none-some}
 use Rattle.rowed.specs.declared.source.Source.{Source}
 use Rattle.rowed.specs.declared.row_cell.RowCell.{RowCell}
 use Rattle.rowed.specs.RowCells.{source_at}
-use Rattle.rowed.specs.Slots.{AreSeated, span_of, slot_limit}
+use Rattle.rowed.specs.Slots.{AreSeated, slot_limit}
 use Rattle.rowed.specs.PlacedNets.{PlacedRow, PlacedView, IsPlaced, placed_rows, placed_of}
-use Rattle.rowed.specs.Channels.{Link, channel_links, channel_slots, move}
+use Rattle.rowed.specs.Channels.{channel_links, channel_slots}
 use Rattle.rowed.specs.Numbers.{IsOrder}
 use Rattle.rowed.specs.Sorting.{passing}
-use Rattle.rowed.specs.SortingLaws.{passing-cons}
-use Rattle.repeater_rows.specs.Destinations.{is_end, destinations, IsChannel}
+use Rattle.repeater_rows.specs.Destinations.{is_end, destinations}
 use Rattle.repeater_rows.specs.Rounds.{AreRounds, round, window_size, is_far}
-use Rattle.repeater_rows.specs.Repeaters.{source_to, carried, added, source_above, added_rows, last_source, cells_from, channel_rounds, rows_above, repeated_rows, repeated}
+use Rattle.repeater_rows.specs.Repeaters.{source_to, added, source_above, added_rows, last_source, cells_from, channel_rounds, rows_above, repeated_rows, repeated}
 use Rattle.repeater_rows.specs.Passes.{cell_limit, cells_past}
 use Rattle.repeater_rows.specs.RowsAbove.{RowAbove, no_more, PlacedAbove}
 use Rattle.repeater_rows.specs.Sources.{HaveSources}
@@ -54,7 +53,7 @@ module _ (reach : ℕ) (wired : ℕ → Bool) (slots : ℕ) (within : (d : ℕ) 
       let upper' : PlacedRow = record { cells = cells_from source upper.cells upper.slots; slots = upper.slots } in (
         moved_seated source 0 upper.cells upper.slots seated,
         subst (λ (last : Bool). RowAbove outputs last lower.cells upper'.cells) (sym same)
-        (upper_above outputs (no_more more) first upper seated above wired each_wired source lower.cells sources),
+            (upper_above outputs (no_more more) first upper seated above wired each_wired source lower.cells sources),
         same_below outputs upper upper' after (moved_outputs source upper.cells upper.slots) rest,
       )
   channel_above (to ∷ tos) turn lower before source are full order sources =
@@ -65,9 +64,9 @@ module _ (reach : ℕ) (wired : ℕ → Bool) (slots : ℕ) (within : (d : ℕ) 
       let upper' : PlacedRow = record { cells = cells_from (last_source wired (source_above wired to) tos) upper.cells upper.slots; slots = upper.slots } in (
         added_seated wired source 0 0 to (omega arith) (omega (arith, full', limit)),
         subst (λ (last : Bool). RowAbove outputs last lower.cells (added wired source to).cells) (sym (more_after wired (source_above wired to) tos upper' after))
-        (added_above wired source lower.cells sources to order' outputs (omega (arith, as_many, some_wired reach wired 0 before are.0))),
+            (added_above wired source lower.cells sources to order' outputs (omega (arith, as_many, some_wired reach wired 0 before are.0))),
         channel_above tos (not turn) (added wired source to) to (source_above wired to) are.2 full' order'
-        (sources_next wired source lower.cells sources to order' (λ d w. omega (arith, within d w, full'))),
+            (sources_next wired source lower.cells sources to order' (λ d w. omega (arith, within d w, full'))),
       )
 
 same_more : (reach : ℕ) (lower : PlacedRow) (rows : List PlacedRow) → no_more (rows_above reach lower rows) ≡ no_more rows
@@ -107,7 +106,7 @@ few_rows before (row ∷ rows) past some le = go (nat_le (before + length row.ce
   where
     go : (t : Bool) → nat_le (before + length row.cells) cell_limit ≡ t
         → ((before + length row.cells ≤ cell_limit) → cells_past (before + length row.cells) rows ≡ None
-            → (before + length row.cells + length rows ≤ cell_limit) × AllByRecursion (λ (r : PlacedRow). length r.cells < 2 ^ 32) rows)
+        → (before + length row.cells + length rows ≤ cell_limit) × AllByRecursion (λ (r : PlacedRow). length r.cells < 2 ^ 32) rows)
         → (before + length (row ∷ rows) ≤ cell_limit) × AllByRecursion (λ (r : PlacedRow). length r.cells < 2 ^ 32) (row ∷ rows)
     go true q more =
         let within : before + length row.cells ≤ cell_limit = leb-true (before + length row.cells) cell_limit q in

@@ -19,3 +19,4 @@ pub mod Sources
 pub mod WireLaws
 pub mod AddedLaws
 pub mod KeptLaws
+pub mod AnswerLaws
