@@ -10,3 +10,15 @@ pub mod RoundsLaws
 pub mod OrderLaws
 pub mod Local
 pub mod LocalLaws
+pub mod RowsAbove
+pub mod RowsAboveLaws
+pub mod PinLaws
+pub mod ChannelLaws
+pub mod PlaceLaws
+pub mod Short
+pub mod ShortLaws
+pub mod Sources
+pub mod WireLaws
+pub mod AddedLaws
+pub mod KeptLaws
+pub mod AnswerLaws
