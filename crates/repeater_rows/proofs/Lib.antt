@@ -2,3 +2,5 @@ pub mod Funs
 pub mod Reading
 pub mod WindowOrder
 pub mod LookSteps
+pub mod Opened
+pub mod ChannelSteps

@@ -4,6 +4,7 @@ pub mod Repeaters
 pub mod Passes
 pub mod Reading
 pub mod Looking
+pub mod Opening
 pub mod Inversions
 pub mod InversionLaws
 pub mod RoundsLaws

@@ -1,84 +1,144 @@
 // A channel while rows of buffers are added to it.
-ghost use Rattle.std.specs.Prelude.{◌≡◌, ℕ, ◌+◌, ◌-◌, ◌<◌, ◌^◌, length, List, Bool, IfOk, nat_lt};
+ghost use Rattle.std.specs.Prelude.{◌≡◌, ℕ, ◌<◌, ◌≤◌, Bool, true, length, IfOk, OnOk, map};
+ghost use Rattle.std.specs.List.{All};
 ghost use Rattle.circuit.specs.Gates.{valuation};
-ghost use Rattle.rowed.specs.Channels.{move};
-ghost use Rattle.repeater_rows.specs.Destinations.{completed};
-ghost use Rattle.repeater_rows.specs.Rounds.{is_far};
-ghost use Rattle.repeater_rows.specs.Repeaters.{carrier_slots};
-ghost use Rattle.repeater_rows.specs.Reading.{spare_from, far_among};
+ghost use Rattle.rowed.specs.Slots.{slot_limit};
+ghost use Rattle.rowed.specs.Channels.{channel_links, channel_slots};
+ghost use Rattle.rowed.specs.PlacedNets.{PlacedRow};
+ghost use Rattle.repeater_rows.specs.Destinations.{destinations, is_end};
+ghost use Rattle.repeater_rows.specs.Rounds.{is_far, round, window_size};
+ghost use Rattle.repeater_rows.specs.Repeaters.{source_to, added, source_above, cells_from};
+ghost use Rattle.repeater_rows.specs.Reading.{source_in};
+ghost use Rattle.repeater_rows.specs.Opening.{AreNeighbours, AreDestinations};
 
-use aq_base::Memory;
+use crate::cells::{buffers, cell_from, raise};
+use crate::destinations::{any_far, carried, carriers, completed, spare_slots};
+use crate::pins::{read, span};
+use crate::windows::put_in_order;
+use aq_base::{List, Memory};
+use rowed::{RowCell, Source};
 use std::alloc::Global;
 
-/// The slots where no wire ends, rising.
-fn spare_slots(alloc: Global, wired: &[bool]) -> Result<Vec<u32>, Memory>
-    requires { length wired.now < 2 ^ 32 }
-    ensures { IfOk result (λ spare. spare.items ≡ spare_from 0 wired.now) }
+/// What is known of the wires of a channel in its present lower row. A wire is told by the slot where it ends.
+#[derive(Drop)]
+pub(crate) struct Channel {
+    /// Whether a wire ends at a slot of the upper row.
+    pub(crate) wired: Vec<bool>,
+    /// The source of the wire that ends at a slot.
+    pub(crate) sources: Vec<Source>,
+    /// The destination of each slot.
+    pub(crate) to: Vec<u32>,
+    /// The slots where the destinations of wires stand, rising.
+    pub(crate) carriers: Vec<u32>,
+}
+
+/// The channel between two neighbouring rows.
+pub(crate) fn open(
+    alloc: Global,
+    lower: &[RowCell],
+    lower_slots: &[u32],
+    upper: &[RowCell],
+    upper_slots: &[u32],
+) -> Result<Channel, Memory>
+    requires { AreNeighbours (record { cells = lower.now; slots = lower_slots.now }) (record { cells = upper.now; slots = upper_slots.now }) }
+    ensures known { IfOk result (λ channel.
+        let below : PlacedRow = record { cells = lower.now; slots = lower_slots.now } in
+        let above : PlacedRow = record { cells = upper.now; slots = upper_slots.now } in
+        AreDestinations (valuation channel.wired.items) (channel_slots below above) channel.to.items channel.carriers.items) }
+    ensures to { IfOk result (λ channel.
+        let below : PlacedRow = record { cells = lower.now; slots = lower_slots.now } in
+        let above : PlacedRow = record { cells = upper.now; slots = upper_slots.now } in
+        channel.to.items ≡ destinations (channel_links below above) (channel_slots below above)) }
+    ensures wired { IfOk result (λ channel.
+        let below : PlacedRow = record { cells = lower.now; slots = lower_slots.now } in
+        let above : PlacedRow = record { cells = upper.now; slots = upper_slots.now } in
+        valuation channel.wired.items ≡ is_end (channel_links below above)) }
+    ensures sources { IfOk result (λ channel.
+        let below : PlacedRow = record { cells = lower.now; slots = lower_slots.now } in
+        let above : PlacedRow = record { cells = upper.now; slots = upper_slots.now } in
+        source_in channel.sources.items ≡ source_to (channel_links below above)) }
 {
-    let mut spare = Vec::new(alloc);
-    for (slot, wired) in wired.iter().enumerate() {
-        if !*wired {
-            spare.push(slot as u32)?;
-        }
+    let slots = span(lower, lower_slots).max(span(upper, upper_slots));
+    let pins = read(alloc, lower_slots, upper, upper_slots, slots)?;
+    let spare = spare_slots(alloc, &pins.wired)?;
+    let to = completed(alloc, &pins.ends, &spare)?;
+    let carriers = carriers(alloc, &pins.wired, &to)?;
+    Ok(Channel {
+        wired: pins.wired,
+        sources: pins.sources,
+        to,
+        carriers,
+    })
+}
+
+impl Channel {
+    /// Whether some wire moves more than `reach - 1` slots.
+    pub(crate) fn is_far(&self, reach: u64) -> bool
+        requires { (slots : ℕ) × AreDestinations (valuation self.now.wired.items) slots self.now.to.items self.now.carriers.items }
+        ensures { result ≡ is_far reach (valuation self.now.wired.items) 0 self.now.to.items }
+    {
+        any_far(&self.to, &self.carriers, reach)
     }
-    Ok(spare)
-}
 
-/// The destination of each slot: where its wire ends, or else the next spare slot.
-fn completed(alloc: Global, ends: &[Option<u32>], spare: &[u32]) -> Result<Vec<u32>, Memory>
-    ensures { IfOk result (λ to. to.items ≡ completed ends.now spare.now) }
-{
-    let mut to = Vec::with_capacity(alloc, ends.len())?;
-    let mut used = 0;
-    for end in ends {
-        if let Some(slot) = end {
-            to.push(*slot)?;
-        } else {
-            to.push(spare.get(used).copied().unwrap_or(0))?;
-            used += 1;
-        }
+    /// Does a round; `first` says whether its windows begin at slot 0.
+    pub(crate) fn round(&mut self, alloc: Global, reach: u64, first: bool) -> Result<(), Memory>
+        requires reach { 2 ≤ reach }
+        requires known { (slots : ℕ) × AreDestinations (valuation self.old.wired.items) slots self.old.to.items self.old.carriers.items }
+        ensures known { OnOk result ((slots : ℕ) → AreDestinations (valuation self.old.wired.items) slots self.old.to.items self.old.carriers.items
+            → AreDestinations (valuation self.old.wired.items) slots self.new.to.items self.new.carriers.items) }
+        ensures round { OnOk result (self.new.to.items ≡ round (window_size reach) first self.old.to.items) }
+        ensures wired { self.new.wired ≡ self.old.wired }
+        ensures sources { self.new.sources ≡ self.old.sources }
+    {
+        let size = (reach - reach % 2) as usize;
+        let start = if first { 0 } else { size / 2 };
+        let carriers = put_in_order(
+            alloc,
+            &self.wired,
+            &mut self.to,
+            &self.carriers,
+            size,
+            start,
+        )?;
+        self.carriers = carriers;
+        Ok(())
     }
-    Ok(to)
-}
 
-/// Whether a wire ends at a slot.
-pub(crate) fn is_wired(wired: &[bool], slot: u32) -> bool
-    ensures { result ≡ valuation wired.now slot }
-{
-    wired.get(slot as usize).copied().unwrap_or(false)
-}
-
-/// The slots where destinations of wires stand, rising.
-fn carriers(alloc: Global, wired: &[bool], to: &[u32]) -> Result<Vec<u32>, Memory>
-    requires { length to.now < 2 ^ 32 }
-    ensures { IfOk result (λ slots. slots.items ≡ carrier_slots (valuation wired.now) 0 to.now) }
-{
-    let mut slots = Vec::new(alloc);
-    for (slot, destination) in to.iter().enumerate() {
-        if is_wired(wired, *destination) {
-            slots.push(slot as u32)?;
-        }
+    /// A row of buffers, one for each wire, which are its sources from then on: the cells and their slots.
+    pub(crate) fn add_row(&mut self, alloc: Global) -> Result<(List<RowCell>, List<u32>), Memory>
+        requires { (slots : ℕ) × AreDestinations (valuation self.old.wired.items) slots self.old.to.items self.old.carriers.items }
+        ensures cells { IfOk result (λ row. row.0 ≡ (added (valuation self.old.wired.items) (source_in self.old.sources.items) self.old.to.items).cells) }
+        ensures slots { IfOk result (λ row. row.1 ≡ (added (valuation self.old.wired.items) (source_in self.old.sources.items) self.old.to.items).slots) }
+        ensures sources { OnOk result ((d : ℕ) → valuation self.old.wired.items d ≡ true → d < length self.old.sources.items
+            → source_in self.new.sources.items d ≡ source_above (valuation self.old.wired.items) self.old.to.items d) }
+        ensures long { length self.new.sources.items ≡ length self.old.sources.items }
+        ensures same { self.new ≡ record self.old { sources = self.new.sources } }
+    {
+        let destinations = carried(alloc, &self.to, &self.carriers)?;
+        let cells = buffers(alloc, &self.sources, &destinations)?;
+        let slots = self.carriers.clone()?;
+        raise(&mut self.sources, &destinations);
+        Ok((List::from_vec(cells), List::from_vec(slots)))
     }
-    Ok(slots)
-}
 
-/// Whether a wire from a slot to its destination moves more than `most` slots.
-fn moves_past(slot: u32, destination: u32, most: u64) -> bool
-    ensures { result ≡ nat_lt most (move slot destination) }
-{
-    let moved = slot.abs_diff(destination);
-    most < moved as u64
-}
-
-/// Whether the wire of some carrier moves more than `most` slots.
-fn any_far(to: &[u32], carriers: &[u32], reach: u64) -> bool
-    ensures { result ≡ far_among reach to.now carriers.now }
-{
-    for slot in carriers {
-        let destination = to.get(*slot as usize).copied().unwrap_or(0);
-        if moves_past(*slot, destination, reach.saturating_sub(1)) {
-            return true;
+    /// The upper row with its wires from the present sources.
+    pub(crate) fn feed(
+        &self,
+        alloc: Global,
+        cells: &[RowCell],
+        slots: &[u32],
+    ) -> Result<List<RowCell>, Memory>
+        requires { All (λ slot. slot < slot_limit) slots.now }
+        ensures { IfOk result (λ row. row ≡ cells_from (source_in self.now.sources.items) cells.now slots.now) }
+    {
+        let mut row = Vec::with_capacity(alloc, cells.len())?;
+        for (place, cell) in cells.iter().enumerate() {
+            let fed = match slots.get(place) {
+                Some(slot) => cell_from(&self.sources, *slot, cell),
+                None => *cell,
+            };
+            row.push(fed)?;
         }
+        Ok(List::from_vec(row))
     }
-    false
 }

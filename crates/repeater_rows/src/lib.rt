@@ -1,7 +1,9 @@
 //! Rows of buffers that shorten the wires of placed nets.
 #![tactic(auto)]
 
+mod cells;
 mod channel;
+mod destinations;
 pub mod laws;
 mod pass;
 mod pins;
