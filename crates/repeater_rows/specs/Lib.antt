@@ -20,3 +20,6 @@ pub mod WireLaws
 pub mod AddedLaws
 pub mod KeptLaws
 pub mod AnswerLaws
+pub mod Inserted
+pub mod InsertedLaws
+pub mod Examples
