@@ -85,7 +85,11 @@ span_anew source (cell ∷ cells) (slot ∷ slots) = ap (λ (n : ℕ). max (slot
 
 channel_narrow : (width slots : ℕ) (wired : ℕ → Bool) (source : ℕ → Source) (tos : List (List ℕ)) (upper : PlacedRow) (after : List PlacedRow)
     → slots ≤ width → AreOrders slots tos → span_of upper.cells upper.slots ≤ width → AreNarrow width after
-    → AreNarrow width (added_rows wired source tos ++ (record { cells = cells_from (last_source wired source tos) upper.cells upper.slots; slots = upper.slots } ∷ after))
+    → AreNarrow width (added_rows wired source tos ++ (record {
+      cells =
+          cells_from (last_source wired source tos) upper.cells upper.slots;
+      slots = upper.slots;
+    } ∷ after))
 channel_narrow width slots wired source [] upper after le orders span rest = (omega (arith, span_anew source upper.cells upper.slots), rest)
 channel_narrow width slots wired source (to ∷ tos) upper after le orders span rest =
     (omega (arith, added_span wired source 0 to, orders.0.0), channel_narrow width slots wired (source_above wired to) tos upper after le orders.1 span rest)
