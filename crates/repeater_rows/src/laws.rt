@@ -80,7 +80,8 @@ pub fn repeaters_narrow()
 
 /// Forty wires that turn round, at a reach of 14: five rows of forty buffers are added, and then no wire moves more than
 /// 13 slots. A wire that moves 13 slots has no repeater, and one that moves 14 slots has one, in slot 13. The three wires
-/// of `b and a`, which turn round, at the least reach: two rows are added.
+/// of `b and a`, which turn round, at the least reach: two rows are added. Four wires in eight slots, at a reach of 4: two
+/// rows, the slots without a wire among the others.
 pub fn worked_rows()
     ensures turned { examples.sizes (repeated examples.turned 14) ≡ replicate 7 40 }
     ensures turned_cells { sum (examples.sizes (repeated examples.turned 14)) ≡ 280 }
@@ -95,5 +96,8 @@ pub fn worked_rows()
     ensures and_rounds { channel_rounds 2 examples.and_inputs examples.and_gate
         ≡ (1 ∷ 2 ∷ 0 ∷ []) ∷ (1 ∷ 0 ∷ 2 ∷ []) ∷ [] }
     ensures and_sizes { examples.sizes (repeated examples.and_net 2) ≡ 3 ∷ 3 ∷ 3 ∷ 1 ∷ 1 ∷ [] }
+    ensures four_start { destinations examples.four_wires 8 ≡ 7 ∷ 5 ∷ 1 ∷ 3 ∷ 4 ∷ 6 ∷ 0 ∷ 2 ∷ [] }
+    ensures four_rounds { all_rounds 4 (is_end examples.four_wires) (destinations examples.four_wires 8)
+        ≡ (1 ∷ 3 ∷ 5 ∷ 7 ∷ 0 ∷ 2 ∷ 4 ∷ 6 ∷ []) ∷ (1 ∷ 3 ∷ 0 ∷ 2 ∷ 5 ∷ 7 ∷ 4 ∷ 6 ∷ []) ∷ [] }
     ensures and_within { repeated examples.and_net 14 ≡ examples.and_net }
 {}
