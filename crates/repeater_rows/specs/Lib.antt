@@ -23,3 +23,4 @@ pub mod AnswerLaws
 pub mod Inserted
 pub mod InsertedLaws
 pub mod Examples
+pub mod NeighbourLaws
