@@ -205,7 +205,8 @@ moved_output source (cell ∷ cells) [] c = refl
 moved_output source (cell ∷ cells) (slot ∷ slots) zero = refl
 moved_output source (cell ∷ cells) (slot ∷ slots) (suc c) = moved_output source cells slots c
 
-pub moved_seated : (source : ℕ → Source) (b : ℕ) (cells : List RowCell) (slots : List ℕ) → AreSeated b cells slots → AreSeated b (cells_from source cells slots) slots
+pub moved_seated : (source : ℕ → Source) (b : ℕ) (cells : List RowCell) (slots : List ℕ) → AreSeated b cells slots
+    → AreSeated b (cells_from source cells slots) slots
 moved_seated source b [] [] seated = tt
 moved_seated source b [] (slot ∷ slots) seated = absurd seated
 moved_seated source b (cell ∷ cells) [] seated = absurd seated

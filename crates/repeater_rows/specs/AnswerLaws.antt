@@ -97,15 +97,21 @@ all_stand wired slots within (to ∷ tos) orders = (
 module _ (word : List Bool) (wired : ℕ → Bool) (value : ℕ → Bool) (upper : PlacedRow) (after : List PlacedRow) (values : List Bool)
     (kept : (source : ℕ → Source) (top : List Bool) → HaveValues wired source (valuation top) value
     → map (cell_value word (valuation top)) (cells_from source upper.cells upper.slots) ≡ values) where
-  channel_values : (tos : List (List ℕ)) (source : ℕ → Source) (below : List Bool) → AllByRecursion (Stand wired) tos → HaveValues wired source (valuation below) value
-      → last_values word below (cells_of (added_rows wired source tos ++ (record { cells = cells_from (last_source wired source tos) upper.cells upper.slots; slots = upper.slots } ∷ after)))
+  channel_values : (tos : List (List ℕ)) (source : ℕ → Source) (below : List Bool) → AllByRecursion (Stand wired) tos
+      → HaveValues wired source (valuation below) value
+      → last_values word below (cells_of (added_rows wired source tos ++ (record {
+        cells =
+            cells_from (last_source wired source tos) upper.cells upper.slots;
+        slots = upper.slots;
+      } ∷ after)))
       ≡ last_values word values (cells_of after)
   channel_values [] source below stand have = ap (λ (vs : List Bool). last_values word vs (cells_of after)) (kept source below have)
   channel_values (to ∷ tos) source below stand have =
       channel_values tos (source_above wired to) (map (cell_value word (valuation below)) (added wired source to).cells) stand.1
       (values_next word (valuation below) wired source value to have stand.0)
 
-rows_values : (reach outputs : ℕ) (word below : List Bool) (lower : PlacedRow) (rows : List PlacedRow) → AreSeated 0 lower.cells lower.slots → PlacedAbove outputs lower rows
+rows_values : (reach outputs : ℕ) (word below : List Bool) (lower : PlacedRow) (rows : List PlacedRow) → AreSeated 0 lower.cells lower.slots
+    → PlacedAbove outputs lower rows
     → last_values word below (cells_of (rows_above reach lower rows)) ≡ last_values word below (cells_of rows)
 rows_values reach outputs word below lower [] seated known = refl
 rows_values reach outputs word below lower (upper ∷ rows) seated known =
@@ -161,12 +167,14 @@ abbrev shown_by : (ℕ → Bool) → ℕ → List (Option ℕ) → List Bool →
 shown_by values c [] answer = answer
 shown_by values c (o ∷ os) answer = shown_by values (suc c) os (with_value o (values c) answer)
 
-shown_is : (values : ℕ → Bool) (c : ℕ) (cells : List RowCell) (answer : List Bool) → shown_from values c cells answer ≡ shown_by values c (shown_outputs cells) answer
+shown_is : (values : ℕ → Bool) (c : ℕ) (cells : List RowCell) (answer : List Bool)
+    → shown_from values c cells answer ≡ shown_by values c (shown_outputs cells) answer
 shown_is values c [] answer = refl
 shown_is values c (cell ∷ cells) answer = shown_is values (suc c) cells (with_value cell.output (values c) answer)
 
 -- the plan evaluates to the word of the net
-pub rows_word : (reach inputs outputs : ℕ) (word : List Bool) (row : PlacedRow) (rows : List PlacedRow) → AreSeated 0 row.cells row.slots → PlacedAbove outputs row rows
+pub rows_word : (reach inputs outputs : ℕ) (word : List Bool) (row : PlacedRow) (rows : List PlacedRow) → AreSeated 0 row.cells row.slots
+    → PlacedAbove outputs row rows
     → evaluated_word (placed_of inputs outputs (repeated_rows reach (row ∷ rows))).net word ≡ evaluated_word (placed_of inputs outputs (row ∷ rows)).net word
 unfolding evaluated_word
 rows_word reach inputs outputs word row rows seated known =
@@ -206,9 +214,13 @@ repeaters_answer p reach known kept =
       same_inputs = refl;
       same_outputs = refl;
       there = λ x y long answer.
-          let same : evaluated_word out.net x ≡ y = repeaters_word p reach x known ∙ one_answer p.net x (evaluated_word p.net x) y known.net_keeps (evaluated_answer p.net x known.net_keeps) answer in
+          let same : evaluated_word out.net x ≡ y =
+          repeaters_word p reach x known
+          ∙ one_answer p.net x (evaluated_word p.net x) y known.net_keeps (evaluated_answer p.net x known.net_keeps) answer in
           subst (IsAnswer out.net x) same (evaluated_answer out.net x kept.net_keeps);
       back = λ x y long answer.
-          let same : evaluated_word p.net x ≡ y = sym (repeaters_word p reach x known) ∙ one_answer out.net x (evaluated_word out.net x) y kept.net_keeps (evaluated_answer out.net x kept.net_keeps) answer in
+          let same : evaluated_word p.net x ≡ y =
+          sym (repeaters_word p reach x known)
+          ∙ one_answer out.net x (evaluated_word out.net x) y kept.net_keeps (evaluated_answer out.net x kept.net_keeps) answer in
           subst (IsAnswer p.net x) same (evaluated_answer p.net x known.net_keeps);
     }

@@ -66,7 +66,8 @@ windows_same e (suc n) xs p =
     passing-append p (in_order (take e xs)) (windows e n (drop e xs))
     ∙ (let a : passing p (in_order (take e xs)) ≡ passing p (take e xs) = by_key_passing p (λ n. n) (take e xs) in
     let b = windows_same e n (drop e xs) p in
-    let c : passing p (take e xs) + passing p (drop e xs) ≡ passing p xs = sym (passing-append p (take e xs) (drop e xs)) ∙ ap (λ (l : List ℕ). passing p l) (take-append-drop e xs) in
+    let c : passing p (take e xs) + passing p (drop e xs) ≡ passing p xs =
+    sym (passing-append p (take e xs) (drop e xs)) ∙ ap (λ (l : List ℕ). passing p l) (take-append-drop e xs) in
     omega (arith, a, b, c))
 
 pub windows_lower : (e n : ℕ) (xs : List ℕ) → inversions (windows e n xs) + inside e n xs ≡ inversions xs
@@ -74,8 +75,11 @@ windows_lower e zero xs = omega arith
 windows_lower e (suc n) xs =
     let here : inversions (in_order (take e xs)) ≡ 0 = none_in_order 0 (in_order (take e xs)) (by_key_in_order (λ n. n) (take e xs)) in
     let a = inversions-append (in_order (take e xs)) (windows e n (drop e xs)) in
-    let b : across (in_order (take e xs)) (windows e n (drop e xs)) ≡ across (take e xs) (drop e xs) = across-in_order (take e xs) (windows e n (drop e xs)) ∙ across-same (take e xs) (windows e n (drop e xs)) (drop e xs) (windows_same e n (drop e xs)) in
-    let c : inversions xs ≡ inversions (take e xs) + across (take e xs) (drop e xs) + inversions (drop e xs) = sym (ap inversions (take-append-drop e xs)) ∙ inversions-append (take e xs) (drop e xs) in
+    let b : across (in_order (take e xs)) (windows e n (drop e xs)) ≡ across (take e xs) (drop e xs) =
+    across-in_order (take e xs) (windows e n (drop e xs))
+    ∙ across-same (take e xs) (windows e n (drop e xs)) (drop e xs) (windows_same e n (drop e xs)) in
+    let c : inversions xs ≡ inversions (take e xs) + across (take e xs) (drop e xs) + inversions (drop e xs) =
+    sym (ap inversions (take-append-drop e xs)) ∙ inversions-append (take e xs) (drop e xs) in
     omega (arith, here, a, b, c, windows_lower e n (drop e xs))
 
 pub windows_stay : (e n : ℕ) (xs : List ℕ) → inside e n xs ≡ 0 → windows e n xs ≡ xs

@@ -48,7 +48,11 @@ module _ (reach : ℕ) (wired : ℕ → Bool) (slots : ℕ) (within : (d : ℕ) 
     (rest : PlacedAbove outputs upper after) where
   channel_above : (tos : List (List ℕ)) (turn : Bool) (lower : PlacedRow) (before : List ℕ) (source : ℕ → Source) → AreRounds reach wired turn before tos
       → length before ≡ slots → IsOrder before → HaveSources wired source lower.cells
-      → PlacedAbove outputs lower (added_rows wired source tos ++ (record { cells = cells_from (last_source wired source tos) upper.cells upper.slots; slots = upper.slots } ∷ after))
+      → PlacedAbove outputs lower (added_rows wired source tos ++ (record {
+        cells =
+            cells_from (last_source wired source tos) upper.cells upper.slots;
+        slots = upper.slots;
+      } ∷ after))
   channel_above [] turn lower before source are full order sources =
       let upper' : PlacedRow = record { cells = cells_from source upper.cells upper.slots; slots = upper.slots } in (
         moved_seated source 0 upper.cells upper.slots seated,
@@ -95,14 +99,17 @@ rows_kept reach outputs two lower (upper ∷ rows) seated known =
     (sources_first outputs (no_more rows) lower upper seated known.0 known.1)
 
 -- rows that are not empty are no more than their cells
-some_cells : (outputs : ℕ) (lower : PlacedRow) (rows : List PlacedRow) → PlacedAbove outputs lower rows → AllByRecursion (λ (row : PlacedRow). 0 < length row.cells) rows
+some_cells : (outputs : ℕ) (lower : PlacedRow) (rows : List PlacedRow) → PlacedAbove outputs lower rows
+    → AllByRecursion (λ (row : PlacedRow). 0 < length row.cells) rows
 some_cells outputs lower [] known = tt
 some_cells outputs lower (upper ∷ rows) known = (known.1.some, some_cells outputs upper rows known.2)
 
-pub few_rows : (before : ℕ) (rows : List PlacedRow) → cells_past before rows ≡ None → AllByRecursion (λ (row : PlacedRow). 0 < length row.cells) rows → before ≤ cell_limit
+pub few_rows : (before : ℕ) (rows : List PlacedRow) → cells_past before rows ≡ None → AllByRecursion (λ (row : PlacedRow). 0 < length row.cells) rows
+    → before ≤ cell_limit
     → (before + length rows ≤ cell_limit) × AllByRecursion (λ (row : PlacedRow). length row.cells < 2 ^ 32) rows
 few_rows before [] past some le = (omega arith, tt)
-few_rows before (row ∷ rows) past some le = go (nat_le (before + length row.cells) cell_limit) refl (λ within none. few_rows (before + length row.cells) rows none some.1 within)
+few_rows before (row ∷ rows) past some le =
+    go (nat_le (before + length row.cells) cell_limit) refl (λ within none. few_rows (before + length row.cells) rows none some.1 within)
   where
     go : (t : Bool) → nat_le (before + length row.cells) cell_limit ≡ t
         → ((before + length row.cells ≤ cell_limit) → cells_past (before + length row.cells) rows ≡ None
@@ -125,7 +132,8 @@ repeaters_keep p reach known two few = go (placed_rows p) (subst IsPlaced (place
     go (row ∷ rows) kept few =
         let facts = placed_facts p.net.inputs p.net.outputs row rows kept in
         let above = rows_kept reach p.net.outputs two row rows facts.1 facts.2 in
-        let some : AllByRecursion (λ (r : PlacedRow). 0 < length r.cells) (repeated_rows reach (row ∷ rows)) = (facts.0.some, some_cells p.net.outputs row (rows_above reach row rows) above) in
+        let some : AllByRecursion (λ (r : PlacedRow). 0 < length r.cells) (repeated_rows reach (row ∷ rows)) =
+        (facts.0.some, some_cells p.net.outputs row (rows_above reach row rows) above) in
         let less = few_rows 0 (repeated_rows reach (row ∷ rows)) few some (omega arith) in
         placed_from p.net.inputs p.net.outputs row (rows_above reach row rows) facts.0 facts.1 above (more rows facts.3) (omega (arith, less.0)) less.1
       where

@@ -23,3 +23,7 @@ pub mod WireLaws
 pub mod AddedLaws
 pub mod KeptLaws
 pub mod AnswerLaws
+pub mod Inserted
+pub mod InsertedLaws
+pub mod Examples
+pub mod NeighbourLaws

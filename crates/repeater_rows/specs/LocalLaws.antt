@@ -105,12 +105,14 @@ all_from_places P (x ∷ xs) each = (each 0 (omega arith), all_from_places P xs 
 -- the same, where the slots are told one by one
 pub slots_in_order : (wired : ℕ → Bool) (to : List ℕ) (from count : ℕ) → UnwiredRise wired to
     → ((i : ℕ) → from ≤ i → i < from + count → i < length to → wired (get_or to i 0) ≡ false) → in_order (take count (drop from to)) ≡ take count (drop from to)
-slots_in_order wired to from count rise none = part_in_order wired to from count rise (all_from_places (λ (d : ℕ). not (wired d) ≡ true) (take count (drop from to)) each)
+slots_in_order wired to from count rise none =
+    part_in_order wired to from count rise (all_from_places (λ (d : ℕ). not (wired d) ≡ true) (take count (drop from to)) each)
   where
     each : (i : ℕ) → i < length (take count (drop from to)) → not (wired (get_or (take count (drop from to)) i 0)) ≡ true
     each i lt =
         let long : length (take count (drop from to)) ≡ min count (length to - from) = length-take count (drop from to) ∙ ap (min count) (length-drop from to) in
-        let here : get_or (take count (drop from to)) i 0 ≡ get_or to (from + i) 0 = get_or-take count (drop from to) i 0 (omega (arith, long)) ∙ get_or-drop from to i 0 in
+        let here : get_or (take count (drop from to)) i 0 ≡ get_or to (from + i) 0 =
+        get_or-take count (drop from to) i 0 (omega (arith, long)) ∙ get_or-drop from to i 0 in
         ap (λ (d : ℕ). not (wired d)) here ∙ ap not (none (from + i) (omega arith) (omega (arith, long)) (omega (arith, long)))
 
 -- the spare destinations of a channel rise

@@ -57,7 +57,7 @@ windows_move e (suc n) d xs =
           omega (arith, whole, long, a, b, windows_move e n d (drop e xs))
     ]
 
-pub round_move : (e : ℕ) (odd : Bool) (d : ℕ) (xs : List ℕ) → move (place_of xs d) (place_of (round e odd xs) d) ≤ e - 1
+pub round_move : (e : ℕ) (turn : Bool) (d : ℕ) (xs : List ℕ) → move (place_of xs d) (place_of (round e turn xs) d) ≤ e - 1
 round_move e true d xs = windows_move e (length xs) d xs
 round_move e false d xs =
     let whole : place_of xs d ≡ place_of (take (e / 2) xs ++ drop (e / 2) xs) d = ap (λ (l : List ℕ). place_of l d) (sym (take-append-drop (e / 2) xs)) in
@@ -67,7 +67,8 @@ round_move e false d xs =
     ]
 
 -- what is near stands near
-pub near_at : (reach : ℕ) (wired : ℕ → Bool) (b : ℕ) (to : List ℕ) → is_far reach wired b to ≡ false → (d : ℕ) → wired d ≡ true → 0 < times d to → move (b + place_of to d) d ≤ reach - 1
+pub near_at : (reach : ℕ) (wired : ℕ → Bool) (b : ℕ) (to : List ℕ) → is_far reach wired b to ≡ false → (d : ℕ) → wired d ≡ true → 0 < times d to
+    → move (b + place_of to d) d ≤ reach - 1
 near_at reach wired b [] near d w lt = absurd (omega (arith, lt))
 near_at reach wired b (x ∷ to) near d w lt =
     let parts = or_parts (wired x && ltb (reach - 1) (move b x)) (is_far reach wired (suc b) to) near in
@@ -84,11 +85,14 @@ near_at reach wired b (x ∷ to) near d w lt =
     ]
 
 -- the slot of a buffer is where its destination stands
-pub carried_place : (wired : ℕ → Bool) (b : ℕ) (to : List ℕ) (d : ℕ) → wired d ≡ true → 0 < times d to → get_or (carrier_slots wired b to) (place_of (carried wired to) d) 0 ≡ b + place_of to d
+pub carried_place : (wired : ℕ → Bool) (b : ℕ) (to : List ℕ) (d : ℕ) → wired d ≡ true → 0 < times d to
+    → get_or (carrier_slots wired b to) (place_of (carried wired to) d) 0 ≡ b + place_of to d
 carried_place wired b [] d w lt = absurd (omega (arith, lt))
 carried_place wired b (x ∷ to) d w lt = go (wired x) refl (eqb x d) refl (carried_place wired (suc b) to d w)
   where
-    go : (t : Bool) → wired x ≡ t → (u : Bool) → eqb x d ≡ u → (0 < times d to → get_or (carrier_slots wired (suc b) to) (place_of (carried wired to) d) 0 ≡ suc b + place_of to d) → get_or (carrier_slots wired b (x ∷ to)) (place_of (carried wired (x ∷ to)) d) 0 ≡ b + place_of (x ∷ to) d
+    go : (t : Bool) → wired x ≡ t → (u : Bool) → eqb x d ≡ u
+        → (0 < times d to → get_or (carrier_slots wired (suc b) to) (place_of (carried wired to) d) 0 ≡ suc b + place_of to d)
+        → get_or (carrier_slots wired b (x ∷ to)) (place_of (carried wired (x ∷ to)) d) 0 ≡ b + place_of (x ∷ to) d
     go true q true p rest = rw (q, p) (omega arith)
     go true q false p rest = let h = rw p at lt in rw (q, p) (omega (arith, rest h))
     go false q true p rest = absurd (let e : x ≡ d = eqb-true x d p in let k : false ≡ true = sym q ∙ ap wired e ∙ w in cc)
@@ -117,7 +121,8 @@ times_numbers d b (suc n) = elim (cases_eq b d) [
   where
     past : (d b n : ℕ) → d < b → times d (numbers b n) ≡ 0
     past d b zero lt = refl
-    past d b (suc n) lt = passing-no (λ (x : ℕ). eqb x d) b (numbers (suc b) n) (ne_eqb b d (λ e. absurd (omega (arith, e, lt)))) ∙ past d (suc b) n (omega (arith, lt))
+    past d b (suc n) lt =
+        passing-no (λ (x : ℕ). eqb x d) b (numbers (suc b) n) (ne_eqb b d (λ e. absurd (omega (arith, e, lt)))) ∙ past d (suc b) n (omega (arith, lt))
 
 pub once_each : (to : List ℕ) (d : ℕ) → IsOrder to → times d to ≤ 1
 once_each to d order = omega (arith, order (λ (x : ℕ). eqb x d), times_numbers d 0 (length to))
@@ -159,7 +164,8 @@ pub carried_wired : (wired : ℕ → Bool) (to : List ℕ) (c d : ℕ) → slice
 carried_wired wired [] c d is = absurd (none-some d is)
 carried_wired wired (x ∷ to) c d is = go (wired x) refl c is (λ n. carried_wired wired to n d)
   where
-    go : (t : Bool) → wired x ≡ t → (c : ℕ) → slice_get (carried wired (x ∷ to)) c ≡ Some d → ((n : ℕ) → slice_get (carried wired to) n ≡ Some d → wired d ≡ true) → wired d ≡ true
+    go : (t : Bool) → wired x ≡ t → (c : ℕ) → slice_get (carried wired (x ∷ to)) c ≡ Some d
+        → ((n : ℕ) → slice_get (carried wired to) n ≡ Some d → wired d ≡ true) → wired d ≡ true
     go false q c is rest = rest c (rw q at is)
     go true q zero is rest = let h = rw q at is in sym (ap wired (same_Some x d h)) ∙ q
     go true q (suc c) is rest = rest c (rw q at is)

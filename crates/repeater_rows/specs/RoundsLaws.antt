@@ -20,12 +20,14 @@ rises b (x ∷ []) up i lt = absurd (omega arith)
 rises b (x ∷ (y ∷ ys)) up zero lt = up.1.0
 rises b (x ∷ (y ∷ ys)) up (suc i) lt = rises x (y ∷ ys) up.1 i (omega arith)
 
-from_rises : (xs : List ℕ) (b : ℕ) → (0 < length xs → b ≤ get_or xs 0 0) → ((i : ℕ) → suc i < length xs → get_or xs i 0 ≤ get_or xs (suc i) 0) → NotFalling (λ n. n) b xs
+from_rises : (xs : List ℕ) (b : ℕ) → (0 < length xs → b ≤ get_or xs 0 0) → ((i : ℕ) → suc i < length xs → get_or xs i 0 ≤ get_or xs (suc i) 0)
+    → NotFalling (λ n. n) b xs
 from_rises [] b first each = tt
 from_rises (x ∷ xs) b first each = (first (omega arith), from_rises xs x (λ some. each 0 (omega arith)) (λ i lt. each (suc i) (omega arith)))
 
 -- where all windows are in order, neighbours are, but at the windows' edges
-within_windows : (e n : ℕ) (xs : List ℕ) → 0 < e → inside e n xs ≡ 0 → length xs ≤ n * e → (i : ℕ) → suc i < length xs → (get_or xs i 0 ≤ get_or xs (suc i) 0) ⊎ ((k : ℕ) × (suc i ≡ k * e))
+within_windows : (e n : ℕ) (xs : List ℕ) → 0 < e → inside e n xs ≡ 0 → length xs ≤ n * e → (i : ℕ) → suc i < length xs
+    → (get_or xs i 0 ≤ get_or xs (suc i) 0) ⊎ ((k : ℕ) × (suc i ≡ k * e))
 within_windows e zero xs some none all i lt = absurd (omega arith)
 within_windows e (suc n) xs some none all i lt = elim (cases_lt (suc i) e) [
   | inl small ↦
@@ -53,7 +55,8 @@ within_windows e (suc n) xs some none all i lt = elim (cases_lt (suc i) e) [
 ]
 
 -- the edges of the one round lie within the windows of the other
-in_order_from_both : (h n m : ℕ) (xs : List ℕ) → 0 < h → inside (h + h) n xs ≡ 0 → length xs ≤ n * (h + h) → inside (h + h) m (drop h xs) ≡ 0 → length xs ≤ m * (h + h) → inversions xs ≡ 0
+in_order_from_both : (h n m : ℕ) (xs : List ℕ) → 0 < h → inside (h + h) n xs ≡ 0 → length xs ≤ n * (h + h) → inside (h + h) m (drop h xs) ≡ 0
+    → length xs ≤ m * (h + h) → inversions xs ≡ 0
 in_order_from_both h n m xs some none all none' all' = none_in_order 0 xs (from_rises xs 0 (λ _. omega arith) each)
   where
     each : (i : ℕ) → suc i < length xs → get_or xs i 0 ≤ get_or xs (suc i) 0
@@ -88,31 +91,33 @@ abbrev pub removed : ℕ → Bool → List ℕ → ℕ
 removed e true xs = inside e (length xs) xs
 removed e false xs = inside e (length xs) (drop (e / 2) xs)
 
-pub round_same : (e : ℕ) (odd : Bool) (xs : List ℕ) → Same (round e odd xs) xs
+pub round_same : (e : ℕ) (turn : Bool) (xs : List ℕ) → Same (round e turn xs) xs
 round_same e true xs = windows_same e (length xs) xs
 round_same e false xs = λ p.
     let a = passing-append p (take (e / 2) xs) (windows e (length xs) (drop (e / 2) xs)) in
     let b = windows_same e (length xs) (drop (e / 2) xs) p in
-    let c : passing p (take (e / 2) xs) + passing p (drop (e / 2) xs) ≡ passing p xs = sym (passing-append p (take (e / 2) xs) (drop (e / 2) xs)) ∙ ap (λ (l : List ℕ). passing p l) (take-append-drop (e / 2) xs) in
+    let c : passing p (take (e / 2) xs) + passing p (drop (e / 2) xs) ≡ passing p xs =
+    sym (passing-append p (take (e / 2) xs) (drop (e / 2) xs)) ∙ ap (λ (l : List ℕ). passing p l) (take-append-drop (e / 2) xs) in
     omega (arith, a, b, c)
 
-pub round_lower : (e : ℕ) (odd : Bool) (xs : List ℕ) → inversions (round e odd xs) + removed e odd xs ≡ inversions xs
+pub round_lower : (e : ℕ) (turn : Bool) (xs : List ℕ) → inversions (round e turn xs) + removed e turn xs ≡ inversions xs
 round_lower e true xs = windows_lower e (length xs) xs
 round_lower e false xs =
     let front = take (e / 2) xs in
     let back = drop (e / 2) xs in
     let a = inversions-append front (windows e (length xs) back) in
     let b : across front (windows e (length xs) back) ≡ across front back = across-same front (windows e (length xs) back) back (windows_same e (length xs) back) in
-    let c : inversions xs ≡ inversions front + across front back + inversions back = sym (ap inversions (take-append-drop (e / 2) xs)) ∙ inversions-append front back in
+    let c : inversions xs ≡ inversions front + across front back + inversions back =
+    sym (ap inversions (take-append-drop (e / 2) xs)) ∙ inversions-append front back in
     omega (arith, a, b, c, windows_lower e (length xs) back)
 
-round_stays : (e : ℕ) (odd : Bool) (xs : List ℕ) → removed e odd xs ≡ 0 → round e odd xs ≡ xs
+round_stays : (e : ℕ) (turn : Bool) (xs : List ℕ) → removed e turn xs ≡ 0 → round e turn xs ≡ xs
 round_stays e true xs none = windows_stay e (length xs) xs none
 round_stays e false xs none = ap (λ (l : List ℕ). take (e / 2) xs ++ l) (windows_stay e (length xs) (drop (e / 2) xs) none) ∙ take-append-drop (e / 2) xs
 
 -- a round of each kind that removes nothing
-in_order_from_rounds : (e : ℕ) (odd : Bool) (xs : List ℕ) → e ≡ e / 2 + e / 2 → 0 < e / 2 → removed e odd xs ≡ 0 → removed e (not odd) xs ≡ 0 → inversions xs ≡ 0
-in_order_from_rounds e odd xs even some a b = go odd a b
+in_order_from_rounds : (e : ℕ) (turn : Bool) (xs : List ℕ) → e ≡ e / 2 + e / 2 → 0 < e / 2 → removed e turn xs ≡ 0 → removed e (not turn) xs ≡ 0 → inversions xs ≡ 0
+in_order_from_rounds e turn xs even some a b = go turn a b
   where
     fits : length xs ≤ length xs * (e / 2 + e / 2)
     fits = omega (arith, mul-le (length xs) 1 (length xs) (e / 2 + e / 2) (omega arith) (omega arith))
@@ -122,19 +127,20 @@ in_order_from_rounds e odd xs even some a b = go odd a b
         (subst (λ (d : ℕ). inside d (length xs) xs ≡ 0) even p) fits
         (subst (λ (d : ℕ). inside d (length xs) (drop (e / 2) xs) ≡ 0) even q) fits
 
-    go : (odd : Bool) → removed e odd xs ≡ 0 → removed e (not odd) xs ≡ 0 → inversions xs ≡ 0
+    go : (turn : Bool) → removed e turn xs ≡ 0 → removed e (not turn) xs ≡ 0 → inversions xs ≡ 0
     go true p q = both p q
     go false p q = both q p
 
 -- in a pair of consecutive rounds some pair of destinations comes into order, or all are in order
-pub two_rounds : (e : ℕ) (odd : Bool) (xs : List ℕ) → e ≡ e / 2 + e / 2 → 0 < e / 2 → (inversions xs ≡ 0) ⊎ (inversions (round e (not odd) (round e odd xs)) < inversions xs)
-two_rounds e odd xs even some = elim (cases_eq (removed e odd xs) 0) [
-  | inr ne ↦ inr (omega (arith, ne, round_lower e odd xs, round_lower e (not odd) (round e odd xs)))
+pub two_rounds : (e : ℕ) (turn : Bool) (xs : List ℕ) → e ≡ e / 2 + e / 2 → 0 < e / 2
+    → (inversions xs ≡ 0) ⊎ (inversions (round e (not turn) (round e turn xs)) < inversions xs)
+two_rounds e turn xs even some = elim (cases_eq (removed e turn xs) 0) [
+  | inr ne ↦ inr (omega (arith, ne, round_lower e turn xs, round_lower e (not turn) (round e turn xs)))
   | inl first ↦
-      let stays = round_stays e odd xs first in
-      elim (cases_eq (removed e (not odd) (round e odd xs)) 0) [
-        | inr ne ↦ inr (omega (arith, ne, round_lower e odd xs, round_lower e (not odd) (round e odd xs)))
-        | inl second ↦ inl (in_order_from_rounds e odd xs even some first (subst (λ (l : List ℕ). removed e (not odd) l ≡ 0) stays second))
+      let stays = round_stays e turn xs first in
+      elim (cases_eq (removed e (not turn) (round e turn xs)) 0) [
+        | inr ne ↦ inr (omega (arith, ne, round_lower e turn xs, round_lower e (not turn) (round e turn xs)))
+        | inl second ↦ inl (in_order_from_rounds e turn xs even some first (subst (λ (l : List ℕ). removed e (not turn) l ≡ 0) stays second))
       ]
 ]
 
@@ -147,7 +153,8 @@ unfolding copies
 of_key_copies n [] = refl
 of_key_copies n (x ∷ xs) = go (eqb n x) refl (of_key_copies n xs)
   where
-    go : (b : Bool) → eqb n x ≡ b → of_key (λ x. x) n xs ≡ copies (passing (λ x. eqb n x) xs) n → of_key (λ x. x) n (x ∷ xs) ≡ copies (passing (λ x. eqb n x) (x ∷ xs)) n
+    go : (b : Bool) → eqb n x ≡ b → of_key (λ x. x) n xs ≡ copies (passing (λ x. eqb n x) xs) n
+        → of_key (λ x. x) n (x ∷ xs) ≡ copies (passing (λ x. eqb n x) (x ∷ xs)) n
     go true q r = let s : n ≡ x = eqb-true n x q in rw (q, sym s) (ap (λ (l : List ℕ). n ∷ l) r)
     go false q r = rw q r
 
@@ -184,46 +191,57 @@ length_same xs ys same = sym (all xs) ∙ same (λ n. true) ∙ all ys
     all [] = refl
     all (z ∷ zs) = ap suc (all zs)
 
-pub round_order : (e : ℕ) (odd : Bool) (to : List ℕ) → IsOrder to → IsOrder (round e odd to)
-round_order e odd to order = λ p. round_same e odd to p ∙ order p ∙ ap (λ (n : ℕ). passing p (numbers 0 n)) (sym (length_same (round e odd to) to (round_same e odd to)))
+pub round_order : (e : ℕ) (turn : Bool) (to : List ℕ) → IsOrder to → IsOrder (round e turn to)
+round_order e turn to order =
+    λ p. round_same e turn to p ∙ order p ∙ ap (λ (n : ℕ). passing p (numbers 0 n)) (sym (length_same (round e turn to) to (round_same e turn to)))
 
-rounds-stop : (reach : ℕ) (wired : ℕ → Bool) (most : ℕ) (odd : Bool) (to : List ℕ) → is_far reach wired 0 to ≡ false → rounds reach wired (suc most) odd to ≡ []
-rounds-stop reach wired most odd to near = rw (near, rounds) refl
+rounds-stop : (reach : ℕ) (wired : ℕ → Bool) (most : ℕ) (turn : Bool) (to : List ℕ) → is_far reach wired 0 to ≡ false → rounds reach wired (suc most) turn to ≡ []
+rounds-stop reach wired most turn to near = rw (near, rounds) refl
 
-rounds-go : (reach : ℕ) (wired : ℕ → Bool) (most : ℕ) (odd : Bool) (to : List ℕ) → is_far reach wired 0 to ≡ true → rounds reach wired (suc most) odd to ≡ round (window_size reach) odd to ∷ rounds reach wired most (not odd) (round (window_size reach) odd to)
-rounds-go reach wired most odd to far = rw (far, rounds) refl
+rounds-go : (reach : ℕ) (wired : ℕ → Bool) (most : ℕ) (turn : Bool) (to : List ℕ) → is_far reach wired 0 to ≡ true
+    → rounds reach wired (suc most) turn to ≡ round (window_size reach) turn to ∷ rounds reach wired most (not turn) (round (window_size reach) turn to)
+rounds-go reach wired most turn to far = rw (far, rounds) refl
 
-rounds_none : (reach : ℕ) (wired : ℕ → Bool) (most : ℕ) (odd : Bool) (to : List ℕ) → is_far reach wired 0 to ≡ false → AreRounds reach wired odd to (rounds reach wired most odd to)
-rounds_none reach wired zero odd to near = near
-rounds_none reach wired (suc most) odd to near = subst (AreRounds reach wired odd to) (sym (rounds-stop reach wired most odd to near)) near
+rounds_none : (reach : ℕ) (wired : ℕ → Bool) (most : ℕ) (turn : Bool) (to : List ℕ) → is_far reach wired 0 to ≡ false
+    → AreRounds reach wired turn to (rounds reach wired most turn to)
+rounds_none reach wired zero turn to near = near
+rounds_none reach wired (suc most) turn to near = subst (AreRounds reach wired turn to) (sym (rounds-stop reach wired most turn to near)) near
 
-rounds_more : (reach : ℕ) (wired : ℕ → Bool) (most : ℕ) (odd : Bool) (to : List ℕ) → is_far reach wired 0 to ≡ true → AreRounds reach wired (not odd) (round (window_size reach) odd to) (rounds reach wired most (not odd) (round (window_size reach) odd to)) → AreRounds reach wired odd to (rounds reach wired (suc most) odd to)
-rounds_more reach wired most odd to far rest = subst (AreRounds reach wired odd to) (sym (rounds-go reach wired most odd to far)) (far, refl, rest)
+rounds_more : (reach : ℕ) (wired : ℕ → Bool) (most : ℕ) (turn : Bool) (to : List ℕ) → is_far reach wired 0 to ≡ true
+    → AreRounds reach wired (not turn) (round (window_size reach) turn to) (rounds reach wired most (not turn) (round (window_size reach) turn to))
+    → AreRounds reach wired turn to (rounds reach wired (suc most) turn to)
+rounds_more reach wired most turn to far rest = subst (AreRounds reach wired turn to) (sym (rounds-go reach wired most turn to far)) (far, refl, rest)
 
 pub window_even : (reach : ℕ) → 2 ≤ reach → (window_size reach ≡ window_size reach / 2 + window_size reach / 2) × (0 < window_size reach / 2)
 window_even reach le = (omega arith, omega arith)
 
-pub rounds_end : (reach : ℕ) (wired : ℕ → Bool) → 2 ≤ reach → (most : ℕ) (odd : Bool) (to : List ℕ) → IsOrder to → inversions to + inversions to ≤ most → AreRounds reach wired odd to (rounds reach wired most odd to)
-rounds_end reach wired two zero odd to order few = rounds_none reach wired zero odd to (near_in_order reach wired to order (omega (arith, few)))
-rounds_end reach wired two (suc zero) odd to order few = rounds_none reach wired (suc zero) odd to (near_in_order reach wired to order (omega (arith, few)))
-rounds_end reach wired two (suc (suc most)) odd to order few =
+pub rounds_end : (reach : ℕ) (wired : ℕ → Bool) → 2 ≤ reach → (most : ℕ) (turn : Bool) (to : List ℕ) → IsOrder to
+    → inversions to + inversions to ≤ most → AreRounds reach wired turn to (rounds reach wired most turn to)
+rounds_end reach wired two zero turn to order few = rounds_none reach wired zero turn to (near_in_order reach wired to order (omega (arith, few)))
+rounds_end reach wired two (suc zero) turn to order few = rounds_none reach wired (suc zero) turn to (near_in_order reach wired to order (omega (arith, few)))
+rounds_end reach wired two (suc (suc most)) turn to order few =
     let e = window_size reach in
-    let next = round e odd to in
-    let after = round e (not odd) next in
-    elim (two_rounds e odd to (window_even reach two).0 (window_even reach two).1) [
-      | inl none ↦ rounds_none reach wired (suc (suc most)) odd to (near_in_order reach wired to order none)
+    let next = round e turn to in
+    let after = round e (not turn) next in
+    elim (two_rounds e turn to (window_even reach two).0 (window_even reach two).1) [
+      | inl none ↦ rounds_none reach wired (suc (suc most)) turn to (near_in_order reach wired to order none)
       | inr less ↦
-          let rest = rounds_end reach wired two most (not (not odd)) after (round_order e (not odd) next (round_order e odd to order)) (omega (arith, less, few)) in
+          let rest =
+          rounds_end reach wired two most (not (not turn)) after (round_order e (not turn) next (round_order e turn to order)) (omega (arith, less, few)) in
           go (is_far reach wired 0 to) refl (go_next (is_far reach wired 0 next) refl rest)
     ]
   where
-    go_next : (b : Bool) → is_far reach wired 0 (round (window_size reach) odd to) ≡ b → AreRounds reach wired (not (not odd)) (round (window_size reach) (not odd) (round (window_size reach) odd to)) (rounds reach wired most (not (not odd)) (round (window_size reach) (not odd) (round (window_size reach) odd to))) → AreRounds reach wired (not odd) (round (window_size reach) odd to) (rounds reach wired (suc most) (not odd) (round (window_size reach) odd to))
-    go_next true far rest = rounds_more reach wired most (not odd) (round (window_size reach) odd to) far rest
-    go_next false near rest = rounds_none reach wired (suc most) (not odd) (round (window_size reach) odd to) near
+    go_next : (b : Bool) → is_far reach wired 0 (round (window_size reach) turn to) ≡ b
+        → AreRounds reach wired (not (not turn)) (round (window_size reach) (not turn) (round (window_size reach) turn to)) (rounds reach wired most (not (not turn)) (round (window_size reach) (not turn) (round (window_size reach) turn to)))
+        → AreRounds reach wired (not turn) (round (window_size reach) turn to) (rounds reach wired (suc most) (not turn) (round (window_size reach) turn to))
+    go_next true far rest = rounds_more reach wired most (not turn) (round (window_size reach) turn to) far rest
+    go_next false near rest = rounds_none reach wired (suc most) (not turn) (round (window_size reach) turn to) near
 
-    go : (b : Bool) → is_far reach wired 0 to ≡ b → AreRounds reach wired (not odd) (round (window_size reach) odd to) (rounds reach wired (suc most) (not odd) (round (window_size reach) odd to)) → AreRounds reach wired odd to (rounds reach wired (suc (suc most)) odd to)
-    go true far rest = rounds_more reach wired (suc most) odd to far rest
-    go false near rest = rounds_none reach wired (suc (suc most)) odd to near
+    go : (b : Bool) → is_far reach wired 0 to ≡ b
+        → AreRounds reach wired (not turn) (round (window_size reach) turn to) (rounds reach wired (suc most) (not turn) (round (window_size reach) turn to))
+        → AreRounds reach wired turn to (rounds reach wired (suc (suc most)) turn to)
+    go true far rest = rounds_more reach wired (suc most) turn to far rest
+    go false near rest = rounds_none reach wired (suc (suc most)) turn to near
 
 -- fewer inversions than half the square
 few_inversions : (xs : List ℕ) → inversions xs + inversions xs ≤ length xs * length xs
@@ -242,24 +260,26 @@ few_inversions (x ∷ xs) = omega (arith, below_short x xs, few_inversions xs, s
 pub all_rounds_end : (reach : ℕ) (wired : ℕ → Bool) (to : List ℕ) → 2 ≤ reach → IsOrder to → AreRounds reach wired true to (all_rounds reach wired to)
 all_rounds_end reach wired to two order = rounds_end reach wired two (length to * length to) true to order (few_inversions to)
 
-rounds_few : (reach : ℕ) (wired : ℕ → Bool) (most : ℕ) (odd : Bool) (to : List ℕ) → length (rounds reach wired most odd to) ≤ most
-rounds_few reach wired zero odd to = omega arith
-rounds_few reach wired (suc most) odd to = go (is_far reach wired 0 to) refl (rounds_few reach wired most (not odd) (round (window_size reach) odd to))
+rounds_few : (reach : ℕ) (wired : ℕ → Bool) (most : ℕ) (turn : Bool) (to : List ℕ) → length (rounds reach wired most turn to) ≤ most
+rounds_few reach wired zero turn to = omega arith
+rounds_few reach wired (suc most) turn to = go (is_far reach wired 0 to) refl (rounds_few reach wired most (not turn) (round (window_size reach) turn to))
   where
-    go : (b : Bool) → is_far reach wired 0 to ≡ b → length (rounds reach wired most (not odd) (round (window_size reach) odd to)) ≤ most → length (rounds reach wired (suc most) odd to) ≤ suc most
-    go true q le = omega (arith, le, ap length (rounds-go reach wired most odd to q))
-    go false q le = omega (arith, ap length (rounds-stop reach wired most odd to q))
+    go : (b : Bool) → is_far reach wired 0 to ≡ b → length (rounds reach wired most (not turn) (round (window_size reach) turn to)) ≤ most
+        → length (rounds reach wired (suc most) turn to) ≤ suc most
+    go true q le = omega (arith, le, ap length (rounds-go reach wired most turn to q))
+    go false q le = omega (arith, ap length (rounds-stop reach wired most turn to q))
 
 pub all_rounds_few : (reach : ℕ) (wired : ℕ → Bool) (to : List ℕ) → length (all_rounds reach wired to) ≤ length to * length to
 all_rounds_few reach wired to = rounds_few reach wired (length to * length to) true to
 
-pub rounds_alike : (reach : ℕ) (wired : ℕ → Bool) (odd : Bool) (to : List ℕ) (a b : List (List ℕ)) → AreRounds reach wired odd to a → AreRounds reach wired odd to b → a ≡ b
-rounds_alike reach wired odd to [] [] p q = refl
-rounds_alike reach wired odd to [] (y ∷ ys) p q = absurd (let h = q.0 in cc)
-rounds_alike reach wired odd to (x ∷ xs) [] p q = absurd (let h = p.0 in cc)
-rounds_alike reach wired odd to (x ∷ xs) (y ∷ ys) p q =
+pub rounds_alike : (reach : ℕ) (wired : ℕ → Bool) (turn : Bool) (to : List ℕ) (a b : List (List ℕ)) → AreRounds reach wired turn to a
+    → AreRounds reach wired turn to b → a ≡ b
+rounds_alike reach wired turn to [] [] p q = refl
+rounds_alike reach wired turn to [] (y ∷ ys) p q = absurd (let h = q.0 in cc)
+rounds_alike reach wired turn to (x ∷ xs) [] p q = absurd (let h = p.0 in cc)
+rounds_alike reach wired turn to (x ∷ xs) (y ∷ ys) p q =
     let e : y ≡ x = q.1 ∙ sym p.1 in
-    let r : xs ≡ ys = rounds_alike reach wired (not odd) x xs ys p.2 (subst (λ (l : List ℕ). AreRounds reach wired (not odd) l ys) e q.2) in
+    let r : xs ≡ ys = rounds_alike reach wired (not turn) x xs ys p.2 (subst (λ (l : List ℕ). AreRounds reach wired (not turn) l ys) e q.2) in
     cc
 
 -- every two rounds on end

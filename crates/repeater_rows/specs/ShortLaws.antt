@@ -118,7 +118,11 @@ module _ (reach : ℕ) (ws : List Link) (slots : ℕ) (known : IsChannel ws slot
     (long : length upper.slots ≡ length upper.cells) (first : List ℕ) (same : ws ≡ links first upper.cells upper.slots) (rest : EachShort reach upper more) where
   channel_short : (tos : List (List ℕ)) (turn : Bool) (lower : PlacedRow) (before : List ℕ) (source : ℕ → Source) → AreRounds reach (is_end ws) turn before tos
       → length before ≡ slots → IsOrder before → StandAt (is_end ws) source lower.slots before
-      → EachShort reach lower (added_rows (is_end ws) source tos ++ (record { cells = cells_from (last_source (is_end ws) source tos) upper.cells upper.slots; slots = upper.slots } ∷ more))
+      → EachShort reach lower (added_rows (is_end ws) source tos ++ (record {
+        cells =
+            cells_from (last_source (is_end ws) source tos) upper.cells upper.slots;
+        slots = upper.slots;
+      } ∷ more))
   channel_short [] turn lower before source are full order stands =
       let has : (d : ℕ) → is_end ws d ≡ true → 0 < times d before = λ d w. stands_in before d order (omega (arith, wired_below ws slots d known.to_below w, full)) in
       let near = near_ends reach ws lower.slots source before stands are has ws (found ws known.to_apart) in
