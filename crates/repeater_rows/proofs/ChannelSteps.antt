@@ -1,10 +1,11 @@
 -- The steps of a channel: is a wire far, a round, a row of buffers.
-use Rattle.std.proofs.Common.{◌≡◌, ℕ, zero, suc, ◌+◌, ◌-◌, ◌/◌, ◌%◌, ◌<◌, ◌≤◌, ◌^◌, Bool, true, false, cond, nat_lt, ◌&&◌, ◌||◌, List, [], ◌∷◌, ◌++◌, length, map, take, drop, get_or, slice_set, refl, sym, ap, ◌∙◌, subst, inl, inr, arith}
+use Rattle.std.proofs.Common.{◌≡◌, ℕ, zero, suc, ◌+◌, ◌-◌, ◌/◌, ◌%◌, ◌<◌, ◌≤◌, ◌^◌, Bool, true, false, cond, nat_lt, ◌&&◌, ◌||◌, List, [], ◌∷◌, ◌++◌, length, map, take, drop, get_or, slice_set, refl, sym, ap, ◌∙◌, subst, inl, inr, arith, append_assoc, Option, Some, None, slice_get}
 use Rattle.std.specs.List.{filter}
 use Rattle.std.proofs.lemmas.List.{length-drop, length-set}
 use Rattle.std.proofs.lemmas.Bool.{cases_eq, eq-eqb, ne_eqb}
 use Rattle.std.proofs.Math.Seq.{take-append_seam}
 use Rattle.rowed.specs.declared.source.Source.{Source}
+use Rattle.rowed.specs.declared.row_cell.RowCell.{RowCell}
 use Rattle.rowed.specs.Slots.{slot_limit}
 use Rattle.rowed.specs.Channels.{move}
 use Rattle.rowed.specs.Numbers.{place_of, IsOrder}
@@ -13,10 +14,10 @@ use Rattle.repeater_rows.specs.RoundsLaws.{round_order, round_same, length_same,
 use Rattle.repeater_rows.specs.Local.{UnwiredRise}
 use Rattle.repeater_rows.specs.LocalLaws.{round_rise}
 use Rattle.repeater_rows.specs.PlaceLaws.{times, carried_has, stands_in}
-use Rattle.repeater_rows.specs.Repeaters.{no_source, carrier_slots, carried, source_above}
+use Rattle.repeater_rows.specs.Repeaters.{no_source, carrier_slots, carried, source_above, cell_from, cells_from}
 use Rattle.repeater_rows.specs.Reading.{far_among, source_in}
 use Rattle.repeater_rows.specs.Looking.{ordered_from}
-use Rattle.repeater_rows.specs.Opening.{AreDestinations, raised}
+use Rattle.repeater_rows.specs.Opening.{AreDestinations, raised, at_slot}
 use Rattle.repeater_rows.proofs.WindowOrder.{windows_enough, carriers_count}
 
 -- these are the destinations from a slot on
@@ -101,10 +102,6 @@ round_known reach slots first wired to carriers to' carriers' is carry known =
 pub window_some : (reach : ℕ) → 2 ≤ reach → 0 < reach - reach % 2
 window_some reach le = omega arith
 
-pub start_is : (reach start : ℕ) (first : Bool) → (first ≡ true → start ≡ 0) → (first ≡ false → start ≡ (reach - reach % 2) / 2) → start ≡ cond first 0 (window_size reach / 2)
-start_is reach start true a b = a refl
-start_is reach start false a b = b refl
-
 -- a slice of a whole vector, written back
 pub written_back : (n : ℕ) (xs ys : List ℕ) → length xs ≡ length ys → n ≡ length ys → take n (xs ++ drop (length xs) ys) ≡ xs
 written_back n xs ys same e = ap (λ (k : ℕ). take k (xs ++ drop (length xs) ys)) (e ∙ sym same) ∙ take-append_seam xs (drop (length xs) ys)
@@ -151,3 +148,43 @@ raised_above slots wired to carriers destinations sources sources' known is so d
     let some : 0 < times d (carried wired to) = omega (arith, carried_has wired to d here) in
     ap (λ (s : List Source). source_in s d) (so ∙ ap (λ (ds : List ℕ). raised 0 ds sources) (carried_is slots wired to carriers destinations known is))
     ∙ raised_at 0 (carried wired to) sources d lt some ∙ ap source_cell (omega arith)
+
+-- one cell of the upper row after another
+drop_0 : {X : Type 0} (xs : List X) → drop 0 xs ≡ xs
+drop_0 [] = refl
+drop_0 (x ∷ xs) = refl
+
+drop_nil : {X : Type 0} (n : ℕ) → drop {A = X} n [] ≡ []
+drop_nil zero = refl
+drop_nil (suc n) = refl
+
+plain_cells : (f : ℕ → Source) (cells : List RowCell) → cells_from f cells [] ≡ cells
+plain_cells f [] = refl
+plain_cells f (x ∷ cells) = refl
+
+first_cell : (f : ℕ → Source) (cells : List RowCell) (slots : List ℕ) (place next : ℕ) (d cell fed : RowCell) → next ≡ place + 1 → place < length cells
+    → cell ≡ get_or cells place d → fed ≡ at_slot f (slice_get slots place) cell
+    → cells_from f (drop place cells) (drop place slots) ≡ fed ∷ cells_from f (drop next cells) (drop next slots)
+first_cell f [] slots place next d cell fed e lt here is = absurd (omega arith)
+first_cell f (x ∷ cells) slots place zero d cell fed e lt here is = absurd (omega arith)
+first_cell f (x ∷ cells) slots zero (suc (suc next)) d cell fed e lt here is = absurd (omega arith)
+first_cell f (x ∷ cells) [] zero (suc zero) d cell fed e lt here is =
+    ap (λ (c : RowCell). c ∷ cells) (sym here ∙ sym is)
+    ∙ ap (λ (l : List RowCell). fed ∷ l) (sym (plain_cells f (drop 0 cells) ∙ drop_0 cells))
+first_cell f (x ∷ cells) (s ∷ slots) zero (suc zero) d cell fed e lt here is =
+    ap (λ (c : RowCell). c ∷ cells_from f cells slots) (ap (cell_from f s) (sym here) ∙ sym is)
+    ∙ ap (λ (l : List RowCell). fed ∷ cells_from f l slots) (sym (drop_0 cells))
+    ∙ ap (λ (l : List ℕ). fed ∷ cells_from f (drop 0 cells) l) (sym (drop_0 slots))
+first_cell f (x ∷ cells) [] (suc place) (suc next) d cell fed e lt here is =
+    ap (cells_from f (drop place cells)) (sym (drop_nil place))
+    ∙ first_cell f cells [] place next d cell fed (omega arith) (omega arith) here is
+    ∙ ap (λ (l : List ℕ). fed ∷ cells_from f (drop next cells) l) (drop_nil next)
+first_cell f (x ∷ cells) (s ∷ slots) (suc place) (suc next) d cell fed e lt here is = first_cell f cells slots place next d cell fed (omega arith) (omega arith) here is
+
+pub feed_step : (f : ℕ → Source) (cells row row' whole : List RowCell) (slots : List ℕ) (place next : ℕ) (d cell fed : RowCell) → next ≡ place + 1 → place < length cells
+    → cell ≡ get_or cells place d → fed ≡ at_slot f (slice_get slots place) cell → row ++ cells_from f (drop place cells) (drop place slots) ≡ whole
+    → row' ≡ row ++ (fed ∷ []) → row' ++ cells_from f (drop next cells) (drop next slots) ≡ whole
+feed_step f cells row row' whole slots place next d cell fed e lt here is so now =
+    ap (λ (l : List RowCell). l ++ cells_from f (drop next cells) (drop next slots)) now
+    ∙ append_assoc row (fed ∷ []) (cells_from f (drop next cells) (drop next slots))
+    ∙ ap (λ (l : List RowCell). row ++ l) (sym (first_cell f cells slots place next d cell fed e lt here is)) ∙ so

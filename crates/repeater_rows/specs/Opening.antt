@@ -1,13 +1,14 @@
 -- Steps of the code that adds rows to a channel: what it keeps of the wires in the present lower row.
-use Rattle.std.specs.Prelude.{◌≡◌, ℕ, zero, suc, ◌<◌, ◌≤◌, Bool, true, List, [], ◌∷◌, length, slice_set}
+use Rattle.std.specs.Prelude.{◌≡◌, ℕ, zero, suc, ◌<◌, ◌≤◌, Bool, true, List, [], ◌∷◌, Option, Some, None, length, slice_set}
 use Rattle.std.specs.List.{All}
 use Rattle.rowed.specs.declared.source.Source.{Source}
+use Rattle.rowed.specs.declared.row_cell.RowCell.{RowCell}
 use Rattle.rowed.specs.Slots.{slot_limit}
 use Rattle.rowed.specs.PlacedNets.{PlacedRow}
 use Rattle.rowed.specs.Channels.{channel_links, channel_slots}
 use Rattle.rowed.specs.Numbers.{IsOrder}
 use Rattle.repeater_rows.specs.Destinations.{IsChannel}
-use Rattle.repeater_rows.specs.Repeaters.{carrier_slots}
+use Rattle.repeater_rows.specs.Repeaters.{carrier_slots, cell_from}
 use Rattle.repeater_rows.specs.Local.{UnwiredRise}
 
 -- two neighbouring rows of a placed net
@@ -29,3 +30,8 @@ pub record AreDestinations (wired : ℕ → Bool) (slots : ℕ) (to carriers : L
 abbrev pub raised : ℕ → List ℕ → List Source → List Source
 raised n [] sources = sources
 raised n (d ∷ ds) sources = slice_set (raised (suc n) ds sources) d (record { cell = n; output = 0 })
+
+-- a cell of the upper row with its wires from these sources, by the slot where it stands
+abbrev pub at_slot : (ℕ → Source) → Option ℕ → RowCell → RowCell
+at_slot source None cell = cell
+at_slot source (Some slot) cell = cell_from source slot cell

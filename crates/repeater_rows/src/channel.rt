@@ -1,5 +1,5 @@
 // A channel while rows of buffers are added to it.
-ghost use Rattle.std.specs.Prelude.{◌≡◌, ℕ, ◌<◌, ◌≤◌, Bool, true, length, IfOk, OnOk, map};
+ghost use Rattle.std.specs.Prelude.{◌≡◌, ℕ, ◌<◌, ◌≤◌, ◌/◌, Bool, true, length, cond, slice_get, IfOk, OnOk, map};
 ghost use Rattle.std.specs.List.{All};
 ghost use Rattle.circuit.specs.Gates.{valuation};
 ghost use Rattle.rowed.specs.Slots.{slot_limit};
@@ -9,10 +9,10 @@ ghost use Rattle.repeater_rows.specs.Destinations.{destinations, is_end};
 ghost use Rattle.repeater_rows.specs.Rounds.{is_far, round, window_size};
 ghost use Rattle.repeater_rows.specs.Repeaters.{source_to, added, source_above, cells_from};
 ghost use Rattle.repeater_rows.specs.Reading.{source_in};
-ghost use Rattle.repeater_rows.specs.Opening.{AreNeighbours, AreDestinations};
+ghost use Rattle.repeater_rows.specs.Opening.{AreNeighbours, AreDestinations, at_slot};
 
 use crate::cells::{buffers, cell_from, raise};
-use crate::destinations::{any_far, carried, carriers, completed, spare_slots};
+use crate::destinations::{any_far, carried, carriers, completed, copy_of, spare_slots};
 use crate::pins::{read, span};
 use crate::windows::put_in_order;
 use aq_base::{List, Memory};
@@ -71,6 +71,24 @@ pub(crate) fn open(
     })
 }
 
+/// The slot where the first window of a round begins.
+fn first_window(size: usize, first: bool) -> usize
+    ensures { result ≡ cond first 0 (size / 2) }
+{
+    if first { 0 } else { size / 2 }
+}
+
+/// The cell at a place of the upper row, with its wires from these sources.
+fn fed_cell(sources: &[Source], slots: &[u32], place: usize, cell: &RowCell) -> RowCell
+    requires { All (λ slot. slot < slot_limit) slots.now }
+    ensures { result ≡ at_slot (source_in sources.now) (slice_get slots.now place) cell.now }
+{
+    match slots.get(place) {
+        Some(slot) => cell_from(sources, *slot, cell),
+        None => *cell,
+    }
+}
+
 impl Channel {
     /// Whether some wire moves more than `reach - 1` slots.
     pub(crate) fn is_far(&self, reach: u64) -> bool
@@ -91,14 +109,13 @@ impl Channel {
         ensures sources { self.new.sources ≡ self.old.sources }
     {
         let size = (reach - reach % 2) as usize;
-        let start = if first { 0 } else { size / 2 };
         let carriers = put_in_order(
             alloc,
             &self.wired,
             &mut self.to,
             &self.carriers,
             size,
-            start,
+            first_window(size, first),
         )?;
         self.carriers = carriers;
         Ok(())
@@ -116,7 +133,7 @@ impl Channel {
     {
         let destinations = carried(alloc, &self.to, &self.carriers)?;
         let cells = buffers(alloc, &self.sources, &destinations)?;
-        let slots = self.carriers.clone()?;
+        let slots = copy_of(alloc, &self.carriers)?;
         raise(&mut self.sources, &destinations);
         Ok((List::from_vec(cells), List::from_vec(slots)))
     }
@@ -133,11 +150,7 @@ impl Channel {
     {
         let mut row = Vec::with_capacity(alloc, cells.len())?;
         for (place, cell) in cells.iter().enumerate() {
-            let fed = match slots.get(place) {
-                Some(slot) => cell_from(&self.sources, *slot, cell),
-                None => *cell,
-            };
-            row.push(fed)?;
+            row.push(fed_cell(&self.sources, slots, place, cell))?;
         }
         Ok(List::from_vec(row))
     }

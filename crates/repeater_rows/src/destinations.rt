@@ -93,3 +93,12 @@ pub(crate) fn carried(alloc: Global, to: &[u32], carriers: &[u32]) -> Result<Vec
     Ok(destinations)
 }
 
+
+/// The same slots once more.
+pub(crate) fn copy_of(alloc: Global, slots: &[u32]) -> Result<Vec<u32>, Memory>
+    ensures { IfOk result (λ copy. copy.items ≡ slots.now) }
+{
+    let mut copy = Vec::with_capacity(alloc, slots.len())?;
+    copy.extend_from_slice(slots)?;
+    Ok(copy)
+}
