@@ -4,3 +4,4 @@ pub mod WindowOrder
 pub mod LookSteps
 pub mod Opened
 pub mod ChannelSteps
+pub mod Counting

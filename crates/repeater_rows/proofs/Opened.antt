@@ -106,3 +106,6 @@ module _ (lower upper : PlacedRow) (near : AreNeighbours lower upper) (n : ℕ) 
   to_fits spare to s t =
       let few = near.few_slots in
       omega (arith, ap length (to_is spare to s t), destinations_length (channel_links lower upper) (channel_slots lower upper))
+
+  pub sources_length : length sources ≡ channel_slots lower upper
+  sources_length = ap length read.each_source ∙ length-map (numbers 0 n) (source_to (channel_links lower upper)) ∙ length-numbers 0 n ∙ is

@@ -5,6 +5,8 @@ pub mod Passes
 pub mod Reading
 pub mod Looking
 pub mod Opening
+pub mod Sizes
+pub mod Counts
 pub mod Inversions
 pub mod InversionLaws
 pub mod RoundsLaws

@@ -57,6 +57,10 @@ pub(crate) fn open(
         let below : PlacedRow = record { cells = lower.now; slots = lower_slots.now } in
         let above : PlacedRow = record { cells = upper.now; slots = upper_slots.now } in
         source_in channel.sources.items ≡ source_to (channel_links below above)) }
+    ensures long { IfOk result (λ channel.
+        let below : PlacedRow = record { cells = lower.now; slots = lower_slots.now } in
+        let above : PlacedRow = record { cells = upper.now; slots = upper_slots.now } in
+        length channel.sources.items ≡ channel_slots below above) }
 {
     let slots = span(lower, lower_slots).max(span(upper, upper_slots));
     let pins = read(alloc, lower_slots, upper, upper_slots, slots)?;

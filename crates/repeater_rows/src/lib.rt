@@ -3,6 +3,7 @@
 
 mod cells;
 mod channel;
+mod count;
 mod destinations;
 pub mod laws;
 mod pass;

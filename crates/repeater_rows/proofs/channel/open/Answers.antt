@@ -1,7 +1,7 @@
 use Rattle.std.proofs.Common.{◌≡◌, ℕ, ap, ◌∙◌, arith, rules, max, length, sym}
 use Rattle.rowed.specs.PlacedNets.{PlacedRow}
 use Rattle.rowed.specs.Channels.{channel_slots}
-use Rattle.repeater_rows.proofs.Opened.{slots_fit, wired_length, ends_length, wired_is, sources_are, to_is, opened, to_fits}
+use Rattle.repeater_rows.proofs.Opened.{slots_fit, wired_length, ends_length, wired_is, sources_are, to_is, opened, to_fits, sources_length}
 use Rattle.repeater_rows.proofs.channel.open.Goals as goal
 
 pub spare_slots-requires : goal.spare_slots-requires
@@ -26,3 +26,6 @@ returns-clause-to c = to_is _ _ c.requires c.max-slots.result (search rules) _ _
 
 pub returns-clause-known : goal.returns-clause-known
 returns-clause-known c = opened _ _ c.requires c.max-slots.result (search rules) _ _ _ c.in_ok-pins.ensures c.in_ok-spare.spare.items c.in_ok-to.to.items c.in_ok-carriers.carriers.items (search rules) (search rules) (search rules)
+
+pub returns-clause-long : goal.returns-clause-long
+returns-clause-long c = sources_length _ _ c.requires c.max-slots.result (search rules) _ _ _ c.in_ok-pins.ensures
