@@ -1,9 +1,13 @@
 -- Steps of the code that goes through the rounds of a channel: those that are left.
-use Rattle.std.specs.Prelude.{◌≡◌, ℕ, ◌+◌, ◌-◌, ◌*◌, ◌≤◌, Bool, List, ◌++◌, length}
+use Rattle.std.specs.Prelude.{◌≡◌, ℕ, suc, ◌+◌, ◌-◌, ◌*◌, ◌≤◌, Bool, List, [], ◌∷◌, ◌++◌, length, drop, slice_index_or}
+use Rattle.rowed.specs.PlacedNets.{PlacedRow}
+use Rattle.rowed.specs.Channels.{channel_links}
+use Rattle.repeater_rows.specs.Destinations.{is_end}
+use Rattle.repeater_rows.specs.Repeaters.{channel_rounds, rows_above, repeated_rows}
 use Rattle.repeater_rows.specs.Rounds.{rounds, all_rounds}
 use Rattle.repeater_rows.specs.Passes.{cell_limit}
 use Rattle.repeater_rows.specs.Opening.{AreDestinations}
-use Rattle.repeater_rows.specs.Sizes.{past, widths}
+use Rattle.repeater_rows.specs.Sizes.{past, sizes_of, widths}
 
 -- the rounds that are left after so many
 abbrev pub rounds_left : ℕ → (ℕ → Bool) → ℕ → Bool → List ℕ → List (List ℕ)
@@ -16,3 +20,23 @@ pub record AreCounted (reach : ℕ) (wired : ℕ → Bool) (from : List ℕ) (be
   pub few : cells ≤ cell_limit
   pub count : rows + length (rounds_left reach wired done first to) ≡ length (all_rounds reach wired from)
   pub on : (more : List ℕ) → past before (widths wired (all_rounds reach wired from) ++ more) ≡ past cells (widths wired (rounds_left reach wired done first to) ++ more)
+
+-- a row that is not there
+abbrev pub no_row : PlacedRow
+no_row = record { cells = []; slots = [] }
+
+-- row k with its slots
+abbrev pub row_in : List PlacedRow → ℕ → PlacedRow
+row_in rows k = slice_index_or rows k no_row
+
+-- the sizes of the rows that come above row k up to the next one, that one included
+abbrev pub channel_sizes : ℕ → PlacedRow → PlacedRow → List ℕ
+channel_sizes reach lower upper =
+    widths (is_end (channel_links lower upper)) (channel_rounds reach lower upper) ++ (length upper.cells ∷ [])
+
+-- what is counted when the rows up to row k of the net are
+pub record AreCountedTo (reach : ℕ) (net : List PlacedRow) (k rows cells : ℕ) : Type 0 where
+  pub some : rows ≤ cells
+  pub few : cells ≤ cell_limit
+  pub count : rows + length (rows_above reach (row_in net k) (drop (suc k) net)) ≡ length (repeated_rows reach net)
+  pub on : past 0 (sizes_of (repeated_rows reach net)) ≡ past cells (sizes_of (rows_above reach (row_in net k) (drop (suc k) net)))

@@ -1,10 +1,11 @@
 // A channel while rows of buffers are added to it.
-ghost use Rattle.std.specs.Prelude.{◌≡◌, ℕ, ◌<◌, ◌≤◌, ◌/◌, Bool, true, length, cond, slice_get, IfOk, OnOk, map};
+ghost use Rattle.std.specs.Prelude.{◌≡◌, ℕ, ◌<◌, ◌≤◌, ◌+◌, ◌/◌, Bool, true, length, cond, slice_get, IfOk, OnOk, map};
 ghost use Rattle.std.specs.List.{All};
 ghost use Rattle.circuit.specs.Gates.{valuation};
 ghost use Rattle.rowed.specs.Slots.{slot_limit};
 ghost use Rattle.rowed.specs.Channels.{channel_links, channel_slots};
-ghost use Rattle.rowed.specs.PlacedNets.{PlacedRow};
+ghost use Rattle.rowed.specs.PlacedNets.{PlacedRow, IsPlaced};
+ghost use Rattle.repeater_rows.specs.NeighbourLaws.{row_of};
 ghost use Rattle.repeater_rows.specs.Destinations.{destinations, is_end};
 ghost use Rattle.repeater_rows.specs.Rounds.{is_far, round, window_size};
 ghost use Rattle.repeater_rows.specs.Repeaters.{source_to, added, source_above, cells_from};
@@ -16,7 +17,7 @@ use crate::destinations::{any_far, carried, carriers, completed, copy_of, spare_
 use crate::pins::{read, span};
 use crate::windows::put_in_order;
 use aq_base::{List, Memory};
-use rowed::{RowCell, Source};
+use rowed::{Placed, RowCell, Source};
 use std::alloc::Global;
 
 /// What is known of the wires of a channel in its present lower row. A wire is told by the slot where it ends.
@@ -73,6 +74,33 @@ pub(crate) fn open(
         to,
         carriers,
     })
+}
+
+/// The channel above row `number` of a placed net.
+pub(crate) fn open_at(alloc: Global, net: &Placed, number: usize) -> Result<Channel, Memory>
+    requires known { IsPlaced net.now }
+    requires number { number + 1 < length net.now.net.rows }
+    ensures known { IfOk result (λ channel. AreDestinations (valuation channel.wired.items)
+        (channel_slots (row_of net.now number) (row_of net.now (number + 1))) channel.to.items channel.carriers.items) }
+    ensures to { IfOk result (λ channel. channel.to.items ≡ destinations
+        (channel_links (row_of net.now number) (row_of net.now (number + 1)))
+        (channel_slots (row_of net.now number) (row_of net.now (number + 1)))) }
+    ensures wired { IfOk result (λ channel.
+        valuation channel.wired.items ≡ is_end (channel_links (row_of net.now number) (row_of net.now (number + 1)))) }
+    ensures sources { IfOk result (λ channel.
+        source_in channel.sources.items ≡ source_to (channel_links (row_of net.now number) (row_of net.now (number + 1)))) }
+    ensures long { IfOk result (λ channel.
+        length channel.sources.items ≡ channel_slots (row_of net.now number) (row_of net.now (number + 1))) }
+{
+    let rows = net.net.rows.as_slice();
+    let slots = net.slots.as_slice();
+    open(
+        alloc,
+        rows[number].as_slice(),
+        slots[number].as_slice(),
+        rows[number + 1].as_slice(),
+        slots[number + 1].as_slice(),
+    )
 }
 
 /// The slot where the first window of a round begins.

@@ -1,13 +1,18 @@
 // How many rows and cells there will be, before one is made.
-ghost use Rattle.std.specs.Prelude.{◌≡◌, ℕ, ◌+◌, ◌*◌, ◌<◌, ◌≤◌, ◌^◌, ◌∷◌, [], Bool, true, length, IfOk, IfErr};
+ghost use Rattle.std.specs.Prelude.{◌≡◌, ℕ, ◌+◌, ◌*◌, ◌<◌, ◌≤◌, ◌^◌, ◌∷◌, [], Bool, true, None, length, IfOk, IfErr};
 ghost use Rattle.circuit.specs.Gates.{valuation};
+ghost use Rattle.rowed.specs.PlacedNets.{IsPlaced, placed_rows};
 ghost use Rattle.repeater_rows.specs.Rounds.{all_rounds};
-ghost use Rattle.repeater_rows.specs.Passes.{cell_limit};
+ghost use Rattle.repeater_rows.specs.Repeaters.{repeated_rows};
+ghost use Rattle.repeater_rows.specs.NeighbourLaws.{row_of};
+ghost use Rattle.repeater_rows.specs.Counts.{channel_sizes};
+ghost use Rattle.repeater_rows.specs.Passes.{cell_limit, cells_past};
 ghost use Rattle.repeater_rows.specs.Opening.{AreDestinations};
-ghost use Rattle.repeater_rows.specs.Sizes.{AreWithin, ArePast, widths};
+ghost use Rattle.repeater_rows.specs.Sizes.{AreWithin, ArePast, IsPastLimit, widths};
 
-use crate::channel::Channel;
+use crate::channel::{Channel, open_at};
 use crate::pass::RepeatRefusal;
+use rowed::Placed;
 use std::alloc::Global;
 
 /// How many cells the rows may have.
@@ -71,4 +76,47 @@ fn count_rounds(
         first = !first;
     }
     Ok(count)
+}
+
+/// Counts the rows above row `number`, up to the next one of the net, that one included.
+fn count_channel(
+    alloc: Global,
+    net: &Placed,
+    reach: u64,
+    number: usize,
+    before: usize,
+) -> Result<Count, RepeatRefusal>
+    requires reach { 2 ≤ reach }
+    requires known { IsPlaced net.now }
+    requires number { number + 1 < length net.now.net.rows }
+    requires few { before ≤ cell_limit }
+    ensures ok { IfOk result (λ count. AreWithin before
+        (channel_sizes reach (row_of net.now number) (row_of net.now (number + 1))) count.rows count.cells) }
+    ensures err { IfErr result (λ refusal. ArePast before
+        (channel_sizes reach (row_of net.now number) (row_of net.now (number + 1))) refusal) }
+{
+    let mut channel = open_at(alloc, net, number)?;
+    let added = count_rounds(alloc, &mut channel, reach, before)?;
+    let upper = net.net.rows.get(number + 1);
+    count_row(added, upper.len())
+}
+
+/// How many rows there will be, all with at most 2,000,000 cells.
+pub(crate) fn count_rows(alloc: Global, net: &Placed, reach: u64) -> Result<usize, RepeatRefusal>
+    requires reach { 2 ≤ reach }
+    requires known { IsPlaced net.now }
+    ensures rows { IfOk result (λ rows. rows ≡ length (repeated_rows reach (placed_rows net.now))) }
+    ensures few { IfOk result (λ rows. cells_past 0 (repeated_rows reach (placed_rows net.now)) ≡ None) }
+    ensures err { IfErr result (λ refusal. IsPastLimit reach (placed_rows net.now) refusal) }
+{
+    let none = Count { rows: 0, cells: 0 };
+    let mut count = count_row(none, net.net.rows.get(0).len())?;
+    for number in 1..net.net.rows.len() {
+        let more = count_channel(alloc, net, reach, number - 1, count.cells)?;
+        count = Count {
+            rows: count.rows + more.rows,
+            cells: more.cells,
+        };
+    }
+    Ok(count.rows)
 }

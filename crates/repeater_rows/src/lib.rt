@@ -8,6 +8,7 @@ mod destinations;
 pub mod laws;
 mod pass;
 mod pins;
+mod rows;
 mod windows;
 
 pub use pass::{RepeatPass, RepeatRefusal};
