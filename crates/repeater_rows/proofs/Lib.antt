@@ -5,3 +5,5 @@ pub mod LookSteps
 pub mod Opened
 pub mod ChannelSteps
 pub mod Counting
+pub mod Neighbours
+pub mod CountingRows
