@@ -1,0 +1,5 @@
+pub mod Density
+pub mod TracksApart
+pub mod Free
+pub mod Assigning
+pub mod Routed

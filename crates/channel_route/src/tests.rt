@@ -1,0 +1,1 @@
+// Channels worked by hand.
