@@ -2,5 +2,9 @@ pub mod RowCells
 pub mod RowNets
 pub mod RowByRow
 pub mod RowAnswers
+pub mod Slots
+pub mod PlacedNets
+pub mod Channels
 pub mod Sorting
 pub mod SortingLaws
+pub mod Numbers

@@ -1,0 +1,4 @@
+pub mod Destinations
+pub mod Rounds
+pub mod Repeaters
+pub mod Passes

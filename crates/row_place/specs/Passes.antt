@@ -1,0 +1,23 @@
+-- What the pass of places gives, and which nets it refuses.
+use Rattle.std.specs.Prelude.{◌≡◌, ℕ, ◌<◌, ◌≤◌, ◌*◌}
+use Rattle.rowed.specs.RowNets.{RowView, IsRowNet}
+use Rattle.rowed.specs.PlacedNets.{PlacedView, IsPlaced}
+use Rattle.row_place.specs.Places.{place, widest}
+use Rattle.row_place.specs.declared.pass.PlaceRefusal.{PlaceRefusal}
+use Rattle.row_place.specs.declared.pass.PlaceRefusal.TheVariants.{TooWide, Memory}
+
+-- how wide a row may be, in nanometres
+abbrev pub width_limit : ℕ
+width_limit = 2000000000
+
+-- this is the plan of the net's places, and no row is too wide for slots of this width in nanometres
+pub record ArePlaces (net : RowView) (width : ℕ) (placed : PlacedView) : Type 0 where
+  pub net_keeps : IsRowNet net
+  pub placed_keeps : IsPlaced placed
+  pub is_plan : placed ≡ place net
+  pub within : widest net.rows * width ≤ width_limit
+
+-- some row is too wide, and the refusal says the greatest span
+abbrev pub IsTooWide : RowView → ℕ → PlaceRefusal → Type 0
+IsTooWide net width (TooWide span) = (width_limit < widest net.rows * width) × (span ≡ widest net.rows)
+IsTooWide net width Memory = ⊥
