@@ -11,6 +11,7 @@ use Rattle.channel_route.specs.Numbered.{low_of}
 use Rattle.channel_route.specs.Crossing.{low, high, crosses, crossing, IsOver}
 use Rattle.channel_route.specs.Tracks.{lowest_free, ends_after, tracks, last_ends, last_column}
 use Rattle.channel_route.specs.Assigned.{wires_of, HaveTracks, AreAssigned}
+use Rattle.channel_route.proofs.Minima.{lowest_le}
 use Rattle.channel_route.proofs.Density.{held, one, held-after, crossing-cons, crossing-before, after-adds, most_held}
 
 pub record Assigning (ones : List Numbered) (capacity i : ℕ) (track ends : List ℕ) (column : ℕ) : Type 0 where
@@ -120,14 +121,6 @@ pub more_kept : (ones : List Numbered) (capacity i used : ℕ) (track ends ends'
 more_kept ones capacity i used track ends ends' column column' taken low' high' d apart below lt a l h t e u other c =
     let k : eqb taken (length ends) ≡ false = ne_eqb taken (length ends) (λ q. other (q ∙ sym u)) in
     more_at ones capacity i track ends ends' column column' taken low' high' d apart below lt a l h t e (λ q. absurd (other (q ∙ sym u))) (rw k c)
-
-lowest_le : (l : ℕ) (es : List ℕ) → lowest_free l es ≤ length es
-lowest_le l [] = omega arith
-lowest_le l (e ∷ es) = go (ltb e l) refl (lowest_le l es)
-  where
-    go : (b : Bool) → ltb e l ≡ b → lowest_free l es ≤ length es → lowest_free l (e ∷ es) ≤ length (e ∷ es)
-    go true q r = rw q (omega arith)
-    go false q r = rw q (omega (arith, r))
 
 pub taken_small : (ones : List Numbered) (capacity i : ℕ) (track ends : List ℕ) (column taken l : ℕ) → length ones < 2 ^ 32 → i < length ones → Assigning ones capacity i track ends column → taken ≡ lowest_free l ends → taken < 2 ^ 32
 taken_small ones capacity i track ends column taken l few lt a t = omega (arith, t, lowest_le l ends, a.few)

@@ -1,5 +1,8 @@
 pub mod Density
 pub mod TracksApart
+pub mod Minima
+pub mod Raising
+pub mod Descent
 pub mod Free
 pub mod Assigning
 pub mod Routed

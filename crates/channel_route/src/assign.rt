@@ -39,7 +39,7 @@ pub(crate) fn assign(alloc: Global, ones: &[Numbered], capacity: u32) -> Result<
     for one in ones {
         let low = lower_end(&one.wire);
         let used = ends.len();
-        let taken = ends.take(low, higher_end(&one.wire))?;
+        let taken = ends.take(alloc, low, higher_end(&one.wire))?;
         if taken == used {
             if used == capacity as usize {
                 return Ok(Assigned::Full { column: low });

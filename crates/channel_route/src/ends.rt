@@ -1,63 +1,45 @@
 // The tracks of a channel while its wires are placed.
-ghost use Rattle.std.specs.Prelude.{◌≡◌, ℕ, length, List, IfOk, []};
+ghost use Rattle.std.specs.Prelude.{◌≡◌, length, IfOk, OnOk, []};
 ghost use Rattle.channel_route.specs.Tracks.{lowest_free, ends_after};
+ghost use Rattle.channel_route.specs.Levels.{AreLevels, lowest_level};
 
-use aq_base::Memory;
+use crate::levels::{entry_count, first_below, put_entry};
+use aq_base::{List, Memory};
 use std::alloc::Global;
-use std::marker::Model;
 
-/// For each track the column where its last wire ends.
+/// For each track the column where its last wire ends, in the lowest of levels of minima.
 #[derive(Debug, Drop)]
 pub(crate) struct Ends {
-    ends: Vec<u32>,
-}
-
-impl Model for Ends {
-    ghost Value = { List ℕ };
-
-    ghost view = { λ e. e.ends.items };
+    levels: Vec<List<u32>>,
 }
 
 impl Ends {
     /// No track so far.
     pub fn new(alloc: Global) -> Self
-        ensures { result ≡ [] }
+        ensures { result.levels.items ≡ [] }
     {
         Ends {
-            ends: Vec::new(alloc),
+            levels: Vec::new(alloc),
         }
     }
 
     /// How many tracks there are.
     pub fn len(&self) -> usize
-        ensures { result ≡ length self.now }
+        ensures { result ≡ length (lowest_level self.now.levels.items) }
     {
-        self.ends.len()
+        entry_count(&self.levels)
     }
 
-    /// The lowest track whose last wire ends below a column, or the number of tracks where there is none.
-    fn free(&self, column: u32) -> usize
-        ensures { result ≡ lowest_free column self.now }
+    /// Gives the lowest free track, which may be a new one, to a wire from column `low` to column `high`. Without
+    /// memory nothing is said of the levels.
+    pub fn take(&mut self, alloc: Global, low: u32, high: u32) -> Result<usize, Memory>
+        requires { AreLevels self.old.levels.items }
+        ensures levels { OnOk result (AreLevels self.new.levels.items) }
+        ensures track { IfOk result (λ track. track ≡ lowest_free low (lowest_level self.old.levels.items)) }
+        ensures ends { OnOk result (lowest_level self.new.levels.items ≡ ends_after low high (lowest_level self.old.levels.items)) }
     {
-        for (track, end) in self.ends.iter().enumerate() {
-            if *end < column {
-                return track;
-            }
-        }
-        self.ends.len()
-    }
-
-    /// Gives the lowest free track, which may be a new one, to a wire from column `low` to column `high`.
-    pub fn take(&mut self, low: u32, high: u32) -> Result<usize, Memory>
-        ensures track { IfOk result (λ track. track ≡ lowest_free low self.old) }
-        ensures ends { IfOk result (λ track. self.new ≡ ends_after low high self.old) }
-    {
-        let track = self.free(low);
-        if track < self.ends.len() {
-            self.ends[track] = high;
-        } else {
-            self.ends.push(high)?;
-        }
+        let track = first_below(&self.levels, low);
+        put_entry(alloc, &mut self.levels, track, high)?;
         Ok(track)
     }
 }

@@ -5,6 +5,7 @@ mod assign;
 mod channel;
 mod ends;
 mod laws;
+mod levels;
 mod order;
 
 pub use channel::{RouteRefusal, Tracks, route};
