@@ -77,10 +77,10 @@ raising_more old now i v k at' least d r lt =
     let parts = above x (drop (k + 1) now) at' up (raising_fits old now i v k at' least d r lt) in
     record {
       same = ap (λ (ls : List (List ℕ)). ls ++ raised (drop (k + 1) (set now k y)) (at' / 2) m) (take_more_set now k y lt)
-      ∙ ap (λ (ls : List (List ℕ)). (take k now ++ y ∷ []) ++ raised ls (at' / 2) m) later
-      ∙ append_assoc (take k now) (y ∷ []) (raised (drop (k + 1) now) (at' / 2) m)
-      ∙ ap (λ (ls : List (List ℕ)). take k now ++ raised ls at' least) (sym split)
-      ∙ r.same;
+          ∙ ap (λ (ls : List (List ℕ)). (take k now ++ y ∷ []) ++ raised ls (at' / 2) m) later
+          ∙ append_assoc (take k now) (y ∷ []) (raised (drop (k + 1) now) (at' / 2) m)
+          ∙ ap (λ (ls : List (List ℕ)). take k now ++ raised ls at' least) (sym split)
+          ∙ r.same;
       last = ap (λ (ls : List (List ℕ)). last_least ls (at' / 2) m) later ∙ ap (λ (ls : List (List ℕ)). last_least ls at' least) (sym split) ∙ r.last;
       rest = subst AreLevels (sym later) parts.0;
       fits = subst (λ (ls : List (List ℕ)). at' / 2 ≤ length (lowest_level ls)) (sym later) parts.1;
