@@ -127,16 +127,18 @@ own_rank ws apart i j d li lj e =
 -- the tracks that the plan gives are what tracks are to be
 pub route_is : (ws : List Wire) → EndsApart ws → AreTracks ws (route_of ws) (tracks_used ws) (column_of ws)
 route_is ws apart = record {
-  one_each = length-map ws (λ w. get_or (tracks [] (by_key low ws)) (rank ws w) 0);
-  below_used = λ i lt. within i lt;
-  distinct = λ x i j d li lj ne c c' same. elim (cases_lt (rank ws (get_or ws i d)) (rank ws (get_or ws j d))) [
-    | inl lt ↦ crossing_both x (get_or ws i d) (get_or ws j d) c c' (later i j d li lj lt same)
-    | inr ge ↦ elim (cases_lt (rank ws (get_or ws j d)) (rank ws (get_or ws i d))) [
-      | inl lt ↦ crossing_both x (get_or ws j d) (get_or ws i d) c' c (later j i d lj li lt (sym same))
-      | inr le ↦ ne (own_rank ws apart i j d li lj (omega arith))
-    ]
-  ];
-  fewest = record {
+  apart = record {
+    one_each = length-map ws (λ w. get_or (tracks [] (by_key low ws)) (rank ws w) 0);
+    below_used = λ i lt. within i lt;
+    distinct = λ x i j d li lj ne c c' same. elim (cases_lt (rank ws (get_or ws i d)) (rank ws (get_or ws j d))) [
+      | inl lt ↦ crossing_both x (get_or ws i d) (get_or ws j d) c c' (later i j d li lj lt same)
+      | inr ge ↦ elim (cases_lt (rank ws (get_or ws j d)) (rank ws (get_or ws i d))) [
+        | inl lt ↦ crossing_both x (get_or ws j d) (get_or ws i d) c' c (later j i d lj li lt (sym same))
+        | inr le ↦ ne (own_rank ws apart i j d li lj (omega arith))
+      ]
+    ];
+  };
+  density = record {
     reached = sym (by_key_passing (crosses (column_of ws)) low ws) ∙ best.reached;
     most = λ x. omega (arith, best.most x, by_key_passing (crosses x) low ws);
   };

@@ -14,6 +14,7 @@ wires_of ones = map (λ one. one.wire) ones
 abbrev pub HaveTracks : List Numbered → List ℕ → ℕ → Type 0
 HaveTracks ones track n = (k : ℕ) (d : Numbered) → k < n → slice_index_or track (slice_index_or ones k d).number 0 ≡ slice_index_or (tracks [] (wires_of ones)) k 0
 
+-- each wire has its track, and there is room for all tracks
 pub record AreAssigned (ones : List Numbered) (capacity : ℕ) (track : List ℕ) (used column : ℕ) : Type 0 where
   pub one_each : length track ≡ length ones
   pub placed : HaveTracks ones track (length ones)
@@ -21,6 +22,7 @@ pub record AreAssigned (ones : List Numbered) (capacity : ℕ) (track : List ℕ
   pub column_is : column ≡ last_column [] 0 (wires_of ones)
   pub within : used ≤ capacity
 
-abbrev pub Says : List Numbered → ℕ → Assigned → Type 0
-Says ones capacity (Done track used column) = AreAssigned ones capacity track.items used column
-Says ones capacity (Full column) = IsOver (wires_of ones) capacity column
+-- or there is none left for a wire, where too many cross a column
+abbrev pub IsAssigned : List Numbered → ℕ → Assigned → Type 0
+IsAssigned ones capacity (Done track used column) = AreAssigned ones capacity track.items used column
+IsAssigned ones capacity (Full column) = IsOver (wires_of ones) capacity column

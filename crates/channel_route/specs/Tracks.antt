@@ -47,11 +47,14 @@ rank ws w = length (filter (λ v. nat_lt (low v) (low w)) ws)
 abbrev pub route_of : List Wire → List ℕ
 route_of ws = map (λ w. slice_index_or (tracks [] (by_key low ws)) (rank ws w) 0) ws
 
--- what tracks are to be: wires that cross one column have different ones, and as many wires as there are tracks cross
--- the column, so that no assignment uses fewer
-pub record AreTracks (ws : List Wire) (track : List ℕ) (used column : ℕ) : Type 0 where
+-- each wire has a track below `used`, and wires that cross one column have different ones
+pub record AreApart (ws : List Wire) (track : List ℕ) (used : ℕ) : Type 0 where
   pub one_each : length track ≡ length ws
   pub below_used : (i : ℕ) → i < length ws → slice_index_or track i 0 < used
   pub distinct : (x i j : ℕ) (d : Wire) → i < length ws → j < length ws → (i ≡ j → ⊥) → crosses x (slice_index_or ws i d) ≡ true → crosses x (slice_index_or ws j d) ≡ true
       → slice_index_or track i 0 ≡ slice_index_or track j 0 → ⊥
-  pub fewest : IsDensity ws used column
+
+-- and as many wires as there are tracks cross the column
+pub record AreTracks (ws : List Wire) (track : List ℕ) (used column : ℕ) : Type 0 where
+  pub apart : AreApart ws track used
+  pub density : IsDensity ws used column

@@ -3,7 +3,7 @@ ghost use Rattle.std.specs.Prelude.{◌≡◌, ℕ, ◌^◌, ◌<◌, length, If
 ghost use Rattle.std.specs.List.{All};
 ghost use Rattle.rowed.specs.Sorting.{EachPair, Rising};
 ghost use Rattle.channel_route.specs.Numbered.{low_of};
-ghost use Rattle.channel_route.specs.Assigned.{Says};
+ghost use Rattle.channel_route.specs.Assigned.{IsAssigned};
 
 use crate::ends::Ends;
 use crate::order::{Numbered, higher_end, lower_end};
@@ -31,7 +31,7 @@ pub(crate) fn assign(alloc: Global, ones: &[Numbered], capacity: u32) -> Result<
     requires rising { Rising low_of 0 ones.now }
     requires numbers { All (λ one. one.number < length ones.now) ones.now }
     requires distinct { EachPair (λ v w. v.number ≡ w.number → ⊥) ones.now }
-    ensures { IfOk result (λ a. Says ones.now capacity a) }
+    ensures { IfOk result (λ a. IsAssigned ones.now capacity a) }
 {
     let mut track = vec![in alloc; 0u32; ones.len()]?;
     let mut ends = Ends::new(alloc);

@@ -68,7 +68,7 @@ pub fn route(alloc: Global, wires: &[Wire], capacity: u32) -> Result<Tracks, Rou
     requires few { length wires.now < 2 ^ 32 }
     requires apart { EndsApart wires.now }
     ensures plan { IfOk result (λ tracks. IsPlan wires.now tracks) }
-    ensures fewest { IfOk result (λ tracks. AreTracks wires.now tracks.track tracks.used tracks.column) }
+    ensures tracks { IfOk result (λ tracks. AreTracks wires.now tracks.track tracks.used tracks.column) }
     ensures within { IfOk result (λ tracks. tracks.used ≤ capacity) }
 
     // Ok only where no column is crossed by more wires than there is room for, and Full only where one is.

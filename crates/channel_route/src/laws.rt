@@ -4,13 +4,15 @@ ghost use Rattle.std.specs.List.{AllByRecursion};
 ghost use Rattle.rowed.specs.declared.wire.Wire.{Wire};
 ghost use Rattle.channel_route.specs.Crossing.{crossing, EndsApart, IsOver, numbers_crossing};
 ghost use Rattle.channel_route.specs.ShortWires.{FromApart, IsShort};
-ghost use Rattle.channel_route.specs.Tracks.{route_of, tracks_used, column_of, AreTracks};
+ghost use Rattle.channel_route.specs.Tracks.{route_of, tracks_used, column_of, AreApart, AreTracks};
 ghost use Rattle.channel_route.specs.Examples.{three};
 
-/// The tracks of the plan are distinct where wires cross one column, and no fewer would do.
+/// The tracks of the plan are distinct where wires cross one column, and tracks that are need no fewer.
 pub fn tracks_are_fewest()
-    ensures { (ws : List Wire) → EndsApart ws
+    ensures plan { (ws : List Wire) → EndsApart ws
         → AreTracks ws (route_of ws) (tracks_used ws) (column_of ws) }
+    ensures fewest { (ws : List Wire) (track : List ℕ) (used : ℕ) → EndsApart ws
+        → AreApart ws track used → tracks_used ws ≤ used }
 {}
 
 /// Where every wire moves at most reach - 1 slots and begins in a slot of its own, no column is crossed by more than

@@ -1,8 +1,7 @@
 // Wires by rising lower end column.
 ghost use Rattle.std.specs.Prelude.{◌≡◌, ◌^◌, ◌<◌, length, IfOk};
-ghost use Rattle.rowed.specs.Sorting.{by_key};
 ghost use Rattle.channel_route.specs.Crossing.{low, high};
-ghost use Rattle.channel_route.specs.Numbered.{numbered, low_of};
+ghost use Rattle.channel_route.specs.Numbered.{ordered};
 
 use aq_base::Memory;
 use rowed::Wire;
@@ -32,7 +31,7 @@ pub(crate) fn higher_end(wire: &Wire) -> u32
 /// The wires by rising lower end column, each with its number.
 pub(crate) fn by_lower_end(alloc: Global, wires: &[Wire]) -> Result<Vec<Numbered>, Memory>
     requires { length wires.now < 2 ^ 32 }
-    ensures { IfOk result (λ sorted. sorted.items ≡ by_key low_of (numbered 0 wires.now)) }
+    ensures { IfOk result (λ sorted. sorted.items ≡ ordered wires.now) }
 {
     let mut sorted = Vec::with_capacity(alloc, wires.len())?;
     for (number, wire) in wires.iter().enumerate() {

@@ -1,4 +1,4 @@
-use Rattle.channel_route.proofs.Routed.{over_yes, over_no}
+use Rattle.channel_route.proofs.Crossed.{over_yes, over_no}
 use Rattle.std.proofs.Common.{◌∙◌, ap, Vec, Global, ℕ}
 use Rattle.channel_route.proofs.channel.numbers_over.Goals as goal
 use Rattle.channel_route.proofs.channel.numbers_over.Goals.{then-reaches+in_ok-push, else-reaches}

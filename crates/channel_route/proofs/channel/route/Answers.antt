@@ -17,8 +17,8 @@ assign-requires-clause-distinct c = asked_apart c.args.wires.now _ _ c.in_ok-one
 pub returns-in-Done-clause-plan : goal.returns-in-Done-clause-plan
 returns-in-Done-clause-plan c = rw c.from_vec.ensures (plan_kept c.args.wires.now _ _ _ _ _ _ c.requires.apart c.in_ok-ones.ensures c.deref.ensures.value (rw c.in-Done.is at c.in_ok-track.ensures))
 
-pub returns-in-Done-clause-fewest : goal.returns-in-Done-clause-fewest
-returns-in-Done-clause-fewest c = rw c.from_vec.ensures (tracks_kept c.args.wires.now _ _ _ _ _ _ c.requires.apart c.in_ok-ones.ensures c.deref.ensures.value (rw c.in-Done.is at c.in_ok-track.ensures))
+pub returns-in-Done-clause-tracks : goal.returns-in-Done-clause-tracks
+returns-in-Done-clause-tracks c = rw c.from_vec.ensures (tracks_kept c.args.wires.now _ _ _ _ _ _ c.requires.apart c.in_ok-ones.ensures c.deref.ensures.value (rw c.in-Done.is at c.in_ok-track.ensures))
 
 pub returns-in-Done-clause-room : goal.returns-in-Done-clause-room
 returns-in-Done-clause-room c = room_kept c.args.wires.now _ _ _ _ _ _ c.requires.apart c.in_ok-ones.ensures c.deref.ensures.value (rw c.in-Done.is at c.in_ok-track.ensures)

@@ -1,4 +1,4 @@
-use Rattle.std.proofs.Common.{◌∙◌, arith, sym}
+use Rattle.std.proofs.Common.{◌∙◌, arith}
 use Rattle.channel_route.proofs.Minima.{put_set, put_push}
 use Rattle.channel_route.proofs.levels.put.Goals as goal
 use Rattle.channel_route.proofs.levels.put.Goals.{then-at-len, else-at-len+in_ok-push}
