@@ -48,11 +48,11 @@ begins_near reach columns x w c s =
       | inl up ↦
           let l = slot_least w.from_slot columns w.from_column x s.from_within (omega arith) in
           let m = slot_most w.to_slot columns w.to_column x s.to_within (omega arith) in
-          (omega (arith, l, m, s.short_up), omega (arith, l))
+          (omega (arith, l, m, s.short), omega (arith, l))
       | inr down ↦
           let l = slot_least w.to_slot columns w.to_column x s.to_within (omega arith) in
           let m = slot_most w.from_slot columns w.from_column x s.from_within (omega arith) in
-          (omega (arith, m), omega (arith, l, m, s.short_down))
+          (omega (arith, m), omega (arith, l, m, s.short))
     ]
 
 -- where every wire moves at most reach - 1 slots, no column is crossed by more than 2 * reach - 1 wires

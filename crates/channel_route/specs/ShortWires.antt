@@ -1,6 +1,7 @@
 -- Wires that move few slots, each from a slot of its own.
-use Rattle.std.specs.Prelude.{◌≡◌, ℕ, suc, ◌+◌, ◌-◌, ◌*◌, ◌<◌, ◌≤◌, List}
+use Rattle.std.specs.Prelude.{◌≡◌, ℕ, suc, ◌-◌, ◌*◌, ◌<◌, ◌≤◌, List}
 use Rattle.rowed.specs.Sorting.{EachPair}
+use Rattle.rowed.specs.Channels.{move}
 use Rattle.rowed.specs.declared.wire.Wire.{Wire}
 
 -- a column of a slot, where each slot has so many columns
@@ -12,8 +13,7 @@ pub record Within (columns slot column : ℕ) : Type 0 where
 pub record IsShort (reach columns : ℕ) (w : Wire) : Type 0 where
   pub from_within : Within columns w.from_slot w.from_column
   pub to_within : Within columns w.to_slot w.to_column
-  pub short_up : w.to_slot ≤ w.from_slot + (reach - 1)
-  pub short_down : w.from_slot ≤ w.to_slot + (reach - 1)
+  pub short : move w.from_slot w.to_slot ≤ reach - 1
 
 -- no two wires begin in one slot
 abbrev pub FromApart : List Wire → Type 0
