@@ -1,0 +1,6 @@
+mod Inverted
+mod KeyedCells
+mod KeysFound
+mod Laid
+mod Ordered
+mod Spanned

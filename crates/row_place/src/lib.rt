@@ -1,6 +1,11 @@
 //! Places for the cells of a net in rows: an order of each row, packed from slot 0.
 #![tactic(auto)]
 
+mod below;
+mod keys;
+mod order;
 mod pass;
+mod rows;
+mod spans;
 
 pub use pass::{PlacePass, PlaceRefusal};
