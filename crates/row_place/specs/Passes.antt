@@ -1,8 +1,11 @@
 -- What the pass of places gives, and which nets it refuses.
 use Rattle.std.specs.Prelude.{◌≡◌, ℕ, ◌<◌, ◌≤◌, ◌*◌}
-use Rattle.rowed.specs.RowNets.{RowView, IsRowNet}
+use Rattle.std.proofs.Common.{sym, subst}
+use Rattle.circuit.specs.SameAnswers.{SameAnswers}
+use Rattle.rowed.specs.RowNets.{RowView, IsRowNet, IsAnswer}
 use Rattle.rowed.specs.PlacedNets.{PlacedView, IsPlaced}
 use Rattle.row_place.specs.Places.{place, widest}
+use Rattle.row_place.specs.PlanLaws.{places_answer}
 use Rattle.row_place.specs.declared.pass.PlaceRefusal.{PlaceRefusal}
 use Rattle.row_place.specs.declared.pass.PlaceRefusal.TheVariants.{TooWide, Memory}
 
@@ -21,3 +24,10 @@ pub record ArePlaces (net : RowView) (width : ℕ) (placed : PlacedView) : Type 
 abbrev pub IsTooWide : RowView → ℕ → PlaceRefusal → Type 0
 IsTooWide net width (TooWide span) = (width_limit < widest net.rows * width) × (span ≡ widest net.rows)
 IsTooWide net width Memory = ⊥
+
+-- the law of the pass
+pub keeps : (net : RowView) (width : ℕ) (placed : PlacedView) → ArePlaces net width placed
+    → SameAnswers net.inputs placed.net.inputs net.outputs placed.net.outputs (IsAnswer net) (IsAnswer placed.net)
+keeps net width placed given =
+    subst (λ (p : PlacedView). SameAnswers net.inputs p.net.inputs net.outputs p.net.outputs (IsAnswer net) (IsAnswer p.net)) (sym given.is_plan)
+    (places_answer net given.net_keeps)

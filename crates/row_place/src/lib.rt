@@ -3,6 +3,7 @@
 
 mod below;
 mod keys;
+pub mod laws;
 mod order;
 mod pass;
 mod rows;

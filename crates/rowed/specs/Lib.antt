@@ -8,3 +8,4 @@ pub mod Channels
 pub mod Sorting
 pub mod SortingLaws
 pub mod Numbers
+pub mod NumbersLaws
