@@ -11,6 +11,7 @@ use Rattle.rowed.specs.Numbers.{numbers}
 use Rattle.rowed.specs.Slots.{slot_limit}
 use Rattle.row_place.specs.Keys.{key}
 use Rattle.row_place.specs.Places.{picked, and_cell, slots_in}
+use Rattle.row_place.specs.PlanSpans.{picked_all}
 use Rattle.row_place.specs.Arrays.{moved_cell}
 use Rattle.row_place.proofs.Inverted.{numbers_length, numbers_below}
 
@@ -48,16 +49,10 @@ slots_by_key : (row : List RowCell) (f : ℕ → ℕ) (xs : List ℕ) → slots_
 slots_by_key row f [] = refl
 slots_by_key row f (x ∷ xs) = slots_put row f x (by_key f xs) ∙ omega (arith, slots_by_key row f xs, slots_and (slice_get row x) (picked row xs), slots_and (slice_get row x) (picked row (by_key f xs)))
 
-picked_from : (all row : List RowCell) (n : ℕ) → ((i : ℕ) → slice_get all (n + i) ≡ slice_get row i) → picked all (numbers n (length row)) ≡ row
-picked_from all [] n same = refl
-picked_from all (cell ∷ cells) n same =
-    let here : slice_get all n ≡ Some cell = ap (slice_get all) (omega arith) ∙ same 0 in
-    rw here (ap (λ (l : List RowCell). cell ∷ l) (picked_from all cells (suc n) (λ i. ap (slice_get all) (omega arith) ∙ same (suc i))))
-
 -- a row takes as many slots in any order
 pub slots_kept : (places : List ℕ) (row cells : List RowCell) (f : ℕ → ℕ) (order : List ℕ) → order ≡ by_key f (numbers 0 (length row)) → cells ≡ map (moved_cell places) (picked row order) → slots_in row ≤ slot_limit → slots_in cells ≤ slot_limit
 slots_kept places row cells f order sorted is within =
     let same : slots_in cells ≡ slots_in row =
     ap slots_in is ∙ slots_moved places (picked row order) ∙ ap (λ (l : List ℕ). slots_in (picked row l)) sorted ∙ slots_by_key row f (numbers 0 (length row))
-    ∙ ap slots_in (picked_from row row 0 (λ i. ap (slice_get row) (omega arith))) in
+    ∙ ap slots_in (picked_all row) in
     omega (arith, same, within)

@@ -1,8 +1,9 @@
 -- The plan by arrays: a placed row is told by the new numbers of its cells, listed by their old ones, and by its slots.
-use Rattle.std.specs.Prelude.{◌≡◌, ℕ, ◌+◌, ◌/◌, List, length, slice_index_or, Option, Some, None, map, cond, ◌&&◌, slice_set}
+use Rattle.std.specs.Prelude.{◌≡◌, ℕ, ◌+◌, ◌-◌, ◌/◌, List, [], length, slice_index_or, Option, Some, None, map, cond, ◌&&◌, slice_set}
 use Rattle.std.specs.Option.{option_or}
 use Rattle.rowed.specs.declared.source.Source.{Source}
 use Rattle.rowed.specs.declared.row_cell.RowCell.{RowCell}
+use Rattle.rowed.specs.PlacedNets.{PlacedRow}
 use Rattle.rowed.specs.Channels.{source_slot}
 use Rattle.rowed.specs.Sorting.{by_key}
 use Rattle.row_place.specs.Keys.{Partners, partners_of, signal_at, key}
@@ -54,3 +55,14 @@ told_at found cell key = slice_set found cell (option_or (slice_index_or found c
 -- the order of a row
 abbrev pub order_in : List ℕ → List ℕ → List RowCell → List RowCell → List ℕ
 order_in places slots row next = by_key (key (slot_in places slots) row next) (numbers 0 (length row))
+
+-- the cells of placed rows, and their slots
+abbrev pub cells_of : List PlacedRow → List (List RowCell)
+cells_of rows = map (λ (row : PlacedRow). row.cells) rows
+
+abbrev pub slots_of : List PlacedRow → List (List ℕ)
+slots_of rows = map (λ (row : PlacedRow). row.slots) rows
+
+-- the last of some lists; the empty list, where there is none
+abbrev pub last_row : List (List ℕ) → List ℕ
+last_row rows = slice_index_or rows (length rows - 1) []

@@ -6,6 +6,7 @@ mod keys;
 pub mod laws;
 mod order;
 mod pass;
+mod plan;
 mod rows;
 mod spans;
 
