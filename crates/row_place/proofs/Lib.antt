@@ -6,3 +6,4 @@ mod Laid
 mod Ordered
 mod Placing
 mod Spanned
+mod TestedNets
