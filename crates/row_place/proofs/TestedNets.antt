@@ -75,10 +75,10 @@ output_of cell = cell.output
 
 abbrev cell_tests : RowView → ℕ → List RowCell → ℕ → RowCell → List Bool
 cell_tests net r row c cell =
-  pin_test net r row c 0 cell.kind cell.source0 ∷ (pin_test net r row c 1 cell.kind cell.source1 ∷ (pin_test net r row c 2 cell.kind cell.source2 ∷ (
-  same (is_some cell.input) (is_input r cell.kind) ∷ (number_test net.inputs (cell_of input_of 0 row) c cell.input ∷ (
-  same (is_some cell.output) (eqb (suc r) (length net.rows)) ∷ (number_test net.outputs (cell_of output_of 0 row) c cell.output ∷ (
-  kind_test (eqb (suc r) (length net.rows)) cell.kind ∷ [])))))))
+    pin_test net r row c 0 cell.kind cell.source0 ∷ (pin_test net r row c 1 cell.kind cell.source1 ∷ (pin_test net r row c 2 cell.kind cell.source2 ∷ (
+    same (is_some cell.input) (is_input r cell.kind) ∷ (number_test net.inputs (cell_of input_of 0 row) c cell.input ∷ (
+    same (is_some cell.output) (eqb (suc r) (length net.rows)) ∷ (number_test net.outputs (cell_of output_of 0 row) c cell.output ∷ (
+    kind_test (eqb (suc r) (length net.rows)) cell.kind ∷ [])))))))
 
 abbrev cell_test : RowView → ℕ → List RowCell → ℕ → RowCell → Bool
 cell_test net r row c cell = every (cell_tests net r row c cell)
@@ -91,9 +91,9 @@ row_test net r row = every (row_tests net r row)
 
 abbrev net_tests : RowView → List Bool
 net_tests net =
-  ltb 1 (length net.rows) ∷ (ltb (length net.rows) (2 ^ 32) ∷ (each (row_test net) 0 net.rows ∷ (
-  each_below (λ i. is_number i (input_at (cell_at net.rows 0 (cell_of input_of 0 (row_at net.rows 0) i)))) net.inputs ∷ (
-  each_below (λ i. is_number i (output_at (cell_at net.rows (last_of net.rows) (cell_of output_of 0 (row_at net.rows (last_of net.rows)) i)))) net.outputs ∷ []))))
+    ltb 1 (length net.rows) ∷ (ltb (length net.rows) (2 ^ 32) ∷ (each (row_test net) 0 net.rows ∷ (
+    each_below (λ i. is_number i (input_at (cell_at net.rows 0 (cell_of input_of 0 (row_at net.rows 0) i)))) net.inputs ∷ (
+    each_below (λ i. is_number i (output_at (cell_at net.rows (last_of net.rows) (cell_of output_of 0 (row_at net.rows (last_of net.rows)) i)))) net.outputs ∷ []))))
 
 abbrev pub is_row_net : RowView → Bool
 is_row_net net = every (net_tests net)
@@ -244,25 +244,25 @@ row_net_from_test net t = record {
   none_empty = λ r lt. ltb-true 0 (length (row_at net.rows r)) (every_at (row_tests net r (row_at net.rows r)) (row_tested net t r lt) 0);
   stands = stands net t;
   feeds_one = λ r c d i j s e f.
-    let p = pinned net t r c i s e in
-    let q = pinned net t r d j s f in
-    (omega (arith, p.0, q.0, p.1, q.1), omega (arith, p.0, q.0, p.1, q.1));
+      let p = pinned net t r c i s e in
+      let q = pinned net t r d j s f in
+      (omega (arith, p.0, q.0, p.1, q.1), omega (arith, p.0, q.0, p.1, q.1));
   each_input = λ i lt. record {
     which = cell_of input_of 0 (row_at net.rows 0) i;
     there = is_number-true i _ (below_at _ net.inputs (every_at (net_tests net) t 3) i lt);
     only = λ c e.
-      let there = input_cell (cell_at net.rows 0 c) i e in
-      sym (number_tested net.inputs (cell_of input_of 0 (row_at net.rows 0)) c there.0.input (every_at (cell_tests net 0 (row_at net.rows 0) c there.0) (cell_tested net t 0 c there.0 there.1) 4) i there.2).1;
+        let there = input_cell (cell_at net.rows 0 c) i e in
+        sym (number_tested net.inputs (cell_of input_of 0 (row_at net.rows 0)) c there.0.input (every_at (cell_tests net 0 (row_at net.rows 0) c there.0) (cell_tested net t 0 c there.0 there.1) 4) i there.2).1;
   };
   each_output = λ i lt.
-    let last = last_of net.rows in
-    record {
-      which = cell_of output_of 0 (row_at net.rows last) i;
-      there = is_number-true i _ (below_at _ net.outputs (every_at (net_tests net) t 4) i lt);
-      only = λ c e.
-        let there = output_cell (cell_at net.rows last c) i e in
-        sym (number_tested net.outputs (cell_of output_of 0 (row_at net.rows last)) c there.0.output (every_at (cell_tests net last (row_at net.rows last) c there.0) (cell_tested net t last c there.0 there.1) 6) i there.2).1;
-    };
+      let last = last_of net.rows in
+      record {
+        which = cell_of output_of 0 (row_at net.rows last) i;
+        there = is_number-true i _ (below_at _ net.outputs (every_at (net_tests net) t 4) i lt);
+        only = λ c e.
+            let there = output_cell (cell_at net.rows last c) i e in
+            sym (number_tested net.outputs (cell_of output_of 0 (row_at net.rows last)) c there.0.output (every_at (cell_tests net last (row_at net.rows last) c there.0) (cell_tested net t last c there.0 there.1) 6) i there.2).1;
+      };
   few_rows = ltb-true (length net.rows) (2 ^ 32) (every_at (net_tests net) t 1);
   few_cells = λ r. elim (cases_lt r (length net.rows)) [
     | inl lt ↦ ltb-true (length (row_at net.rows r)) (2 ^ 32) (every_at (row_tests net r (row_at net.rows r)) (row_tested net t r lt) 1)

@@ -9,5 +9,7 @@ mod pass;
 mod plan;
 mod rows;
 mod spans;
+#[cfg(test)]
+mod tests;
 
 pub use pass::{PlacePass, PlaceRefusal};
