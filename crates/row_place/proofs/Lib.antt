@@ -1,0 +1,9 @@
+mod AllRows
+mod Inverted
+mod KeyedCells
+mod KeysFound
+mod Laid
+mod Ordered
+mod Placing
+mod Spanned
+mod TestedNets
