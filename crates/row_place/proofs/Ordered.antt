@@ -1,19 +1,21 @@
--- Lemmas on the order of a row: it is that of the plan, it has each cell, and it keeps the span.
-use Rattle.std.proofs.Common.{◌≡◌, ℕ, zero, suc, ◌+◌, ◌<◌, ◌≤◌, List, [], ◌∷◌, ◌++◌, Option, Some, None, Bool, true, false, length, map, get_or, refl, sym, ◌∙◌, ap, subst, arith, leb}
+-- Lemmas on the order of a row: it is that of the plan, it has each cell, it keeps the span, and cells are picked by it.
+use Rattle.std.proofs.Common.{◌≡◌, ℕ, suc, ◌+◌, ◌<◌, ◌≤◌, List, [], ◌∷◌, ◌++◌, Option, Some, None, Bool, true, false, length, drop, map, get_or, add-one, drop-cons, append_assoc, refl, sym, ◌∙◌, ap, subst, arith, leb}
 use Rattle.std.proofs.Math.Path.{fun_ext}
 use Rattle.std.specs.Prelude.{slice_get}
 use Rattle.std.specs.List.{AllByRecursion}
+use Rattle.std.proofs.lemmas.Option.{slice_get-get_or}
 use Rattle.rowed.specs.declared.source.Source.{Source}
 use Rattle.rowed.specs.declared.row_cell.RowCell.{RowCell}
 use Rattle.rowed.specs.Sorting.{by_key, put_by}
-use Rattle.rowed.specs.SortingLaws.{by_key_length, by_key_all}
+use Rattle.rowed.specs.SortingLaws.{by_key_all}
 use Rattle.rowed.specs.Numbers.{numbers}
+use Rattle.rowed.specs.NumbersLaws.{length-by_key_numbers}
 use Rattle.rowed.specs.Slots.{slot_limit}
 use Rattle.row_place.specs.Keys.{key}
 use Rattle.row_place.specs.Places.{picked, and_cell, slots_in}
 use Rattle.row_place.specs.PlanSpans.{picked_all}
 use Rattle.row_place.specs.Arrays.{moved_cell}
-use Rattle.row_place.proofs.Inverted.{numbers_length, numbers_below}
+use Rattle.row_place.proofs.Inverted.{numbers_below}
 
 -- sorting by the list of keys is sorting by the plan's keys
 pub order_is_plan : (slot : Source → ℕ) (row next : List RowCell) (keys read order : List ℕ) → length keys ≡ length row → ((c : ℕ) → get_or keys c 0 ≡ key slot row next c) → read ≡ keys
@@ -26,7 +28,7 @@ pub order_within : (f : ℕ → ℕ) (n : ℕ) (order : List ℕ) → order ≡ 
 order_within f n order e = subst (AllByRecursion (λ c. c < n)) (sym e) (by_key_all (λ c. c < n) f (numbers 0 n) (numbers_below 0 n n (omega arith)))
 
 pub order_length : (f : ℕ → ℕ) (n : ℕ) (order : List ℕ) → order ≡ by_key f (numbers 0 n) → length order ≡ n
-order_length f n order e = ap length e ∙ by_key_length f (numbers 0 n) ∙ numbers_length 0 n
+order_length f n order e = ap length e ∙ length-by_key_numbers f n
 
 slots_moved : (places : List ℕ) (cells : List RowCell) → slots_in (map (moved_cell places) cells) ≡ slots_in cells
 slots_moved places [] = refl
@@ -56,3 +58,11 @@ slots_kept places row cells f order sorted is within =
     ap slots_in is ∙ slots_moved places (picked row order) ∙ ap (λ (l : List ℕ). slots_in (picked row l)) sorted ∙ slots_by_key row f (numbers 0 (length row))
     ∙ ap slots_in (picked_all row) in
     omega (arith, same, within)
+
+-- one more cell is picked
+pub cell_picked : (f : RowCell → RowCell) (row : List RowCell) (order : List ℕ) (i d : ℕ) (e : RowCell) (made made' : List RowCell) → i < length order → get_or order i d < length row → made' ≡ made ++ f (get_or row (get_or order i d) e) ∷ []
+    → made ++ map f (picked row (drop i order)) ≡ map f (picked row order) → made' ++ map f (picked row (drop (i + 1) order)) ≡ map f (picked row order)
+cell_picked f row order i d e made made' lt within write so =
+    let there : slice_get row (get_or order i d) ≡ Some (get_or row (get_or order i d) e) = slice_get-get_or row (get_or order i d) e within in
+    let here : drop i order ≡ get_or order i d ∷ drop (suc i) order = drop-cons order i d lt in
+    rw (write, add-one, append_assoc) (rw (here, there) at so)

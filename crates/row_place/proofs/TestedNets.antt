@@ -9,7 +9,7 @@ use Rattle.circuit.specs.declared.cell_kind.CellKind.TheVariants.{Buffer, Invert
 use Rattle.rowed.specs.declared.source.Source.{Source}
 use Rattle.rowed.specs.declared.row_cell.RowCell.{RowCell}
 use Rattle.rowed.specs.RowCells.{source_at}
-use Rattle.rowed.specs.RowNets.{RowView, IsRowNet, MayStand, IsBefore, ExactlyOne, row_at, cell_at, outputs_at, fed_at, input_at, output_at, is_input, pins_at, last_of}
+use Rattle.rowed.specs.RowNets.{RowView, IsRowNet, MayStand, IsBefore, row_at, cell_at, outputs_at, fed_at, input_at, output_at, is_input, pins_at, last_of}
 
 abbrev same : Bool → Bool → Bool
 same true b = b
