@@ -5,4 +5,3 @@ mod KeysFound
 mod Ordered
 mod Placing
 mod Spanned
-mod TestedNets
