@@ -1,0 +1,7 @@
+mod AllRows
+mod Inverted
+mod KeyedCells
+mod KeysFound
+mod Ordered
+mod Placing
+mod Spanned

@@ -1,6 +1,7 @@
 pub mod Keys
 pub mod Places
 pub mod Passes
+pub mod Arrays
 pub mod Orders
 pub mod Spans
 pub mod PlanRows

@@ -9,3 +9,4 @@ pub mod Sorting
 pub mod SortingLaws
 pub mod Numbers
 pub mod NumbersLaws
+pub mod TestedNets

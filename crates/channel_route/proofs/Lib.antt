@@ -1,0 +1,10 @@
+pub mod Density
+pub mod TracksApart
+pub mod Fewest
+pub mod Minima
+pub mod Raising
+pub mod Descent
+pub mod Ordered
+pub mod Assigning
+pub mod Routed
+pub mod Crossed

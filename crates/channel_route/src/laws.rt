@@ -1,0 +1,40 @@
+// The laws of the plan of tracks.
+ghost use Rattle.std.specs.Prelude.{◌≡◌, ℕ, ◌-◌, ◌*◌, ◌/◌, ◌≤◌, [], ◌∷◌, List, length};
+ghost use Rattle.std.specs.List.{AllByRecursion};
+ghost use Rattle.rowed.specs.declared.wire.Wire.{Wire};
+ghost use Rattle.channel_route.specs.Crossing.{crossing, EndsApart, IsOver, numbers_crossing};
+ghost use Rattle.channel_route.specs.ShortWires.{FromApart, IsShort};
+ghost use Rattle.channel_route.specs.Tracks.{route_of, tracks_used, column_of, AreApart, AreTracks};
+ghost use Rattle.channel_route.specs.Examples.{three};
+
+/// The tracks of the plan are distinct where wires cross one column, and tracks that are need no fewer.
+pub fn tracks_are_fewest()
+    ensures plan { (ws : List Wire) → EndsApart ws
+        → AreTracks ws (route_of ws) (tracks_used ws) (column_of ws) }
+    ensures fewest { (ws : List Wire) (track : List ℕ) (used : ℕ) → EndsApart ws
+        → AreApart ws track used → tracks_used ws ≤ used }
+{}
+
+/// Where every wire moves at most reach - 1 slots and begins in a slot of its own, no column is crossed by more than
+/// 2 * reach - 1 wires.
+pub fn few_cross()
+    ensures { (reach columns : ℕ) (ws : List Wire) → 1 ≤ reach
+        → AllByRecursion (IsShort reach columns) ws → FromApart ws
+        → (x : ℕ) → length (crossing x ws) ≤ 2 * reach - 1 }
+{}
+
+/// So a channel of such wires is never full, where the reach is at most half its capacity, rounded down.
+pub fn never_full()
+    ensures { (reach columns capacity : ℕ) (ws : List Wire) → 1 ≤ reach → reach ≤ capacity / 2
+        → AllByRecursion (IsShort reach columns) ws → FromApart ws
+        → (x : ℕ) → IsOver ws capacity x → ⊥ }
+{}
+
+/// Three wires of one channel, which all cross columns 5 and 6.
+pub fn three_wires()
+    ensures tracks { route_of three ≡ 1 ∷ 2 ∷ 0 ∷ [] }
+    ensures used { tracks_used three ≡ 3 }
+    ensures column { column_of three ≡ 5 }
+    ensures over { IsOver three 2 5 }
+    ensures wires { numbers_crossing 5 0 three ≡ 0 ∷ 1 ∷ 2 ∷ [] }
+{}

@@ -1,0 +1,241 @@
+// Nets whose places are worked by hand, and rows that are as wide as may be.
+ghost use Rattle.std.specs.Prelude.{◌≡◌, ◌≤◌, ◌∷◌, [], IfOk};
+ghost use Rattle.circuit.specs.declared.cell_kind.CellKind.TheVariants as kinds;
+ghost use Rattle.row_place.specs.Examples as examples;
+
+use crate::{PlacePass, PlaceRefusal};
+use aq_base::{List, Memory};
+use circuit::{CellKind, Pass};
+use rowed::{Placed, RowCell, RowNet, Source};
+use std::alloc::Global;
+use std::test::Fail;
+
+fn constant(kind: CellKind) -> RowCell
+    ensures { result ≡ examples.constant kind }
+{
+    RowCell {
+        kind,
+        source0: None,
+        source1: None,
+        source2: None,
+        input: None,
+        output: None,
+    }
+}
+
+fn input(number: u32) -> RowCell
+    ensures { result ≡ examples.input number }
+{
+    RowCell {
+        input: Some(number),
+        ..constant(CellKind::Buffer)
+    }
+}
+
+fn first(cell: u32) -> Source
+    ensures { result ≡ examples.first cell }
+{
+    Source { cell, output: 0 }
+}
+
+fn second(cell: u32) -> Source
+    ensures { result ≡ examples.second cell }
+{
+    Source { cell, output: 1 }
+}
+
+fn fed(kind: CellKind, source: Source) -> RowCell
+    ensures { result ≡ examples.fed kind source }
+{
+    RowCell {
+        source0: Some(source),
+        ..constant(kind)
+    }
+}
+
+fn output(number: u32, source: Source) -> RowCell
+    ensures { result ≡ examples.output number source }
+{
+    RowCell {
+        output: Some(number),
+        ..fed(CellKind::Buffer, source)
+    }
+}
+
+fn majority(a: u32, b: u32, c: u32) -> RowCell
+    ensures { result ≡ examples.majority a b c }
+{
+    RowCell {
+        source1: Some(first(b)),
+        source2: Some(first(c)),
+        ..fed(CellKind::Majority, first(a))
+    }
+}
+
+fn row<const N: usize>(alloc: Global, cells: [RowCell; N]) -> Result<List<RowCell>, Memory>
+    ensures { IfOk result (λ row. row ≡ cells.entry) }
+{
+    Ok(List::from_vec(Vec::from_array(alloc, cells)?))
+}
+
+// The rows of `a and b`.
+fn and_rows(alloc: Global) -> Result<Vec<List<RowCell>>, Memory>
+    ensures { IfOk result (λ rows. rows.items ≡ (examples.input 0 ∷ examples.input 1 ∷ examples.constant kinds.Zero ∷ [])
+        ∷ (examples.majority 0 2 1 ∷ []) ∷ (examples.output 0 (examples.first 0) ∷ []) ∷ []) }
+{
+    let inputs = row(alloc, [input(0), input(1), constant(CellKind::Zero)])?;
+    let middle = row(alloc, [majority(0, 2, 1)])?;
+    let outputs = row(alloc, [output(0, first(0))])?;
+    Ok(Vec::from_array(alloc, [inputs, middle, outputs])?)
+}
+
+fn and_net(alloc: Global) -> Result<RowNet, Memory>
+    ensures { IfOk result (λ net. net ≡ examples.and_net) }
+{
+    let rows = and_rows(alloc)?;
+    Ok(RowNet {
+        inputs: 2,
+        outputs: 1,
+        rows: List::from_vec(rows),
+    })
+}
+
+// Two constants of the key of input 0, which input 1 goes past.
+fn tied_rows(alloc: Global) -> Result<Vec<List<RowCell>>, Memory>
+    ensures { IfOk result (λ rows. rows.items ≡
+        (examples.input 0 ∷ examples.input 1 ∷ examples.constant kinds.Zero ∷ examples.constant kinds.One ∷ [])
+        ∷ (examples.majority 1 2 3 ∷ examples.fed kinds.Buffer (examples.first 0) ∷ [])
+        ∷ (examples.output 0 (examples.first 0) ∷ examples.output 1 (examples.first 1) ∷ []) ∷ []) }
+{
+    let zero = constant(CellKind::Zero);
+    let one = constant(CellKind::One);
+    let inputs = row(alloc, [input(0), input(1), zero, one])?;
+    let buffer = fed(CellKind::Buffer, first(0));
+    let middle = row(alloc, [majority(1, 2, 3), buffer])?;
+    let outputs = row(alloc, [output(0, first(0)), output(1, first(1))])?;
+    Ok(Vec::from_array(alloc, [inputs, middle, outputs])?)
+}
+
+fn tied_net(alloc: Global) -> Result<RowNet, Memory>
+    ensures { IfOk result (λ net. net ≡ examples.tied_net) }
+{
+    let rows = tied_rows(alloc)?;
+    Ok(RowNet {
+        inputs: 2,
+        outputs: 2,
+        rows: List::from_vec(rows),
+    })
+}
+
+// A splitter and a buffer whose wires cross, and users of the splitter's outputs that cross too.
+fn split_rows(alloc: Global) -> Result<Vec<List<RowCell>>, Memory>
+    ensures { IfOk result (λ rows. rows.items ≡ (examples.input 0 ∷ examples.input 1 ∷ [])
+        ∷ (examples.fed kinds.Split2 (examples.first 1) ∷ examples.fed kinds.Buffer (examples.first 0) ∷ [])
+        ∷ (examples.output 0 (examples.second 0) ∷ examples.output 1 (examples.first 0)
+        ∷ examples.output 2 (examples.first 1) ∷ []) ∷ []) }
+{
+    let inputs = row(alloc, [input(0), input(1)])?;
+    let splitter = fed(CellKind::Split2, first(1));
+    let buffer = fed(CellKind::Buffer, first(0));
+    let middle = row(alloc, [splitter, buffer])?;
+    let outputs = row(
+        alloc,
+        [
+            output(0, second(0)),
+            output(1, first(0)),
+            output(2, first(1)),
+        ],
+    )?;
+    Ok(Vec::from_array(alloc, [inputs, middle, outputs])?)
+}
+
+fn split_net(alloc: Global) -> Result<RowNet, Memory>
+    ensures { IfOk result (λ net. net ≡ examples.split_net) }
+{
+    let rows = split_rows(alloc)?;
+    Ok(RowNet {
+        inputs: 2,
+        outputs: 3,
+        rows: List::from_vec(rows),
+    })
+}
+
+// The places for slots of one nanometre.
+fn placed(alloc: Global, net: &RowNet) -> Result<Placed, Memory> {
+    match (PlacePass { slot_width: 1 }).run(alloc, net) {
+        Ok(placed) => Ok(placed),
+        Err(_) => Err(Memory),
+    }
+}
+
+// Whether row r has these cells in these slots.
+fn has_row(placed: &Placed, r: usize, cells: &[RowCell], slots: &[u32]) -> bool {
+    let (Some(row), Some(at)) = (
+        placed.net.rows.as_slice().get(r),
+        placed.slots.as_slice().get(r),
+    ) else {
+        return false;
+    };
+    row.as_slice() == cells && at.as_slice() == slots
+}
+
+#[test]
+fn constant_goes_between_its_partners(rt: HostRuntime) -> Result<(), Fail> {
+    let net = and_net(rt.alloc())?;
+    let placed = placed(rt.alloc(), &net)?;
+    let inputs = [input(0), constant(CellKind::Zero), input(1)];
+    assert!(rt; has_row(&placed, 0, &inputs, &[0, 1, 2]));
+    assert!(rt; has_row(&placed, 1, &[majority(0, 1, 2)], &[0]));
+    assert!(rt; has_row(&placed, 2, &[output(0, first(0))], &[0]));
+    Ok(())
+}
+
+#[test]
+fn cells_of_one_key_keep_their_order(rt: HostRuntime) -> Result<(), Fail> {
+    let net = tied_net(rt.alloc())?;
+    let placed = placed(rt.alloc(), &net)?;
+    let zero = constant(CellKind::Zero);
+    let one = constant(CellKind::One);
+    assert!(rt; has_row(&placed, 0, &[input(0), zero, one, input(1)], &[0, 1, 2, 3]));
+    let middle = [fed(CellKind::Buffer, first(0)), majority(3, 1, 2)];
+    assert!(rt; has_row(&placed, 1, &middle, &[0, 1]));
+    let outputs = [output(1, first(0)), output(0, first(1))];
+    assert!(rt; has_row(&placed, 2, &outputs, &[0, 1]));
+    Ok(())
+}
+
+#[test]
+fn wires_of_splitters_do_not_cross(rt: HostRuntime) -> Result<(), Fail> {
+    let net = split_net(rt.alloc())?;
+    let placed = placed(rt.alloc(), &net)?;
+    assert!(rt; has_row(&placed, 0, &[input(0), input(1)], &[0, 1]));
+    let middle = [
+        fed(CellKind::Buffer, first(0)),
+        fed(CellKind::Split2, first(1)),
+    ];
+    assert!(rt; has_row(&placed, 1, &middle, &[0, 1]));
+    let outputs = [
+        output(2, first(0)),
+        output(1, first(1)),
+        output(0, second(1)),
+    ];
+    assert!(rt; has_row(&placed, 2, &outputs, &[0, 1, 2]));
+    Ok(())
+}
+
+// Why a net is refused, where its slots have this width; want of memory where it isn't.
+fn refused(alloc: Global, net: &RowNet, slot_width: u64) -> Result<(), PlaceRefusal>
+    requires { 1 ≤ slot_width }
+{
+    let _placed = (PlacePass { slot_width }).run(alloc, net)?;
+    Ok(())
+}
+
+#[test]
+fn rows_are_as_wide_as_may_be(rt: HostRuntime) -> Result<(), Fail> {
+    let net = tied_net(rt.alloc())?;
+    assert!(rt; refused(rt.alloc(), &net, 500_000_000).is_ok());
+    assert!(rt; refused(rt.alloc(), &net, 500_000_001) == Err(PlaceRefusal::TooWide { span: 4 }));
+    assert!(rt; refused(rt.alloc(), &net, u64::MAX) == Err(PlaceRefusal::TooWide { span: 4 }));
+    Ok(())
+}
