@@ -1,5 +1,5 @@
 -- The rows of a placed net with its repeaters, counted channel by channel.
-use Rattle.std.proofs.Common.{◌≡◌, ℕ, zero, suc, ◌+◌, ◌<◌, ◌≤◌, ◌^◌, Bool, true, false, cond, nat_le, List, [], ◌∷◌, ◌++◌, Option, Some, None, length, map, drop, get_or, slice_get, refl, sym, ap, ◌∙◌, subst, arith, append_assoc, length-append}
+use Rattle.std.proofs.Common.{◌≡◌, ℕ, zero, suc, ◌+◌, ◌<◌, ◌≤◌, ◌^◌, Bool, true, false, cond, nat_le, List, [], ◌∷◌, ◌++◌, Option, Some, None, length, map, drop, get_or, slice_get, refl, sym, ap, ◌∙◌, subst, arith, append_assoc, length-append, Result, Ok, Err, IfOk, IfErr}
 use Rattle.std.proofs.lemmas.List.{length-map}
 use Rattle.circuit.specs.Gates.{valuation}
 use Rattle.rowed.specs.declared.source.Source.{Source}
@@ -191,3 +191,21 @@ past_in_first reach p size (TooManyCells n) known s past_it =
     ∙ past_it (sizes_of (rows_above reach (row_of p 0) (drop 1 (placed_rows p))))
 past_in_first reach p size (TooTall n) known s past_it = past_it
 past_in_first reach p size Memory known s past_it = tt
+
+-- no row is empty, and none has too many cells
+pub row_size : (p : PlacedView) (k : ℕ) (cells : List RowCell) → IsPlaced p → k < length p.net.rows → cells ≡ (row_of p k).cells
+    → (0 < length cells) × (length cells < 2 ^ 32) × (length cells ≡ length (row_of p k).cells)
+row_size p k cells known lt c =
+    let some = known.net_keeps.none_empty k lt in
+    let few = known.net_keeps.few_cells k in
+    let is : length cells ≡ length (row_of p k).cells = ap length c in
+    (omega (arith, some, is), omega (arith, few, is), is)
+
+-- what follows of an answer or a refusal
+pub ok_so : {T E : Type 0} (P Q : T → Type 0) (r : Result T E) → ((t : T) → P t → Q t) → IfOk r P → IfOk r Q
+ok_so P Q (Ok t) so h = so t h
+ok_so P Q (Err e) so h = tt
+
+pub err_so : {T E : Type 0} (P Q : E → Type 0) (r : Result T E) → ((e : E) → P e → Q e) → IfErr r P → IfErr r Q
+err_so P Q (Ok t) so h = tt
+err_so P Q (Err e) so h = so e h

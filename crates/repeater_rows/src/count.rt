@@ -10,7 +10,7 @@ ghost use Rattle.repeater_rows.specs.Passes.{cell_limit, cells_past};
 ghost use Rattle.repeater_rows.specs.Opening.{AreDestinations};
 ghost use Rattle.repeater_rows.specs.Sizes.{AreWithin, ArePast, IsPastLimit, widths};
 
-use crate::channel::{Channel, open_at};
+use crate::channel::{Channel, cells_at, open_at};
 use crate::pass::RepeatRefusal;
 use rowed::Placed;
 use std::alloc::Global;
@@ -97,8 +97,7 @@ fn count_channel(
 {
     let mut channel = open_at(alloc, net, number)?;
     let added = count_rounds(alloc, &mut channel, reach, before)?;
-    let upper = net.net.rows.get(number + 1);
-    count_row(added, upper.len())
+    count_row(added, cells_at(net, number + 1).len())
 }
 
 /// How many rows there will be, all with at most 2,000,000 cells.
@@ -110,7 +109,7 @@ pub(crate) fn count_rows(alloc: Global, net: &Placed, reach: u64) -> Result<usiz
     ensures err { IfErr result (λ refusal. IsPastLimit reach (placed_rows net.now) refusal) }
 {
     let none = Count { rows: 0, cells: 0 };
-    let mut count = count_row(none, net.net.rows.get(0).len())?;
+    let mut count = count_row(none, cells_at(net, 0).len())?;
     for number in 1..net.net.rows.len() {
         let more = count_channel(alloc, net, reach, number - 1, count.cells)?;
         count = Count {
