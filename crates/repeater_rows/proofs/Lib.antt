@@ -7,3 +7,4 @@ pub mod ChannelSteps
 pub mod Counting
 pub mod Neighbours
 pub mod CountingRows
+pub mod Given

@@ -106,6 +106,7 @@ pub(crate) fn count_rows(alloc: Global, net: &Placed, reach: u64) -> Result<usiz
     requires known { IsPlaced net.now }
     ensures rows { IfOk result (λ rows. rows ≡ length (repeated_rows reach (placed_rows net.now))) }
     ensures few { IfOk result (λ rows. cells_past 0 (repeated_rows reach (placed_rows net.now)) ≡ None) }
+    ensures within { IfOk result (λ rows. rows ≤ cell_limit) }
     ensures err { IfErr result (λ refusal. IsPastLimit reach (placed_rows net.now) refusal) }
 {
     let none = Count { rows: 0, cells: 0 };
