@@ -5,3 +5,4 @@ pub mod LookSteps
 pub mod Opened
 pub mod ChannelSteps
 pub mod Counting
+pub mod Making
