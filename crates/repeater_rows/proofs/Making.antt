@@ -1,5 +1,5 @@
 -- The rows of the plan, made one after another.
-use Rattle.std.proofs.Common.{◌≡◌, ℕ, zero, suc, ◌+◌, ◌-◌, ◌*◌, ◌<◌, ◌≤◌, Bool, true, false, not, List, [], ◌∷◌, ◌++◌, length, map, drop, get_or, drop-cons, refl, sym, ap, ◌∙◌, arith}
+use Rattle.std.proofs.Common.{◌≡◌, ℕ, zero, suc, ◌+◌, ◌-◌, ◌*◌, ◌<◌, ◌≤◌, Bool, true, false, not, List, [], ◌∷◌, ◌++◌, length, map, drop, get_or, drop-cons, refl, sym, ap, ◌∙◌, subst, append_assoc, arith}
 use Rattle.std.proofs.lemmas.List.{append-nil}
 use Rattle.rowed.specs.declared.source.Source.{Source}
 use Rattle.rowed.specs.declared.row_cell.RowCell.{RowCell}
@@ -7,7 +7,7 @@ use Rattle.rowed.specs.RowNets.{row_at}
 use Rattle.rowed.specs.Slots.{EachSeated}
 use Rattle.rowed.specs.PlacedNets.{PlacedRow, PlacedView, IsPlaced, paired, placed_rows}
 use Rattle.repeater_rows.specs.Rounds.{is_far, round, rounds, all_rounds, window_size}
-use Rattle.repeater_rows.specs.Repeaters.{buffer_from, carried, carrier_slots, source_above, added_rows, last_source}
+use Rattle.repeater_rows.specs.Repeaters.{buffer_from, carried, carrier_slots, added, source_above, added_rows, last_source}
 use Rattle.repeater_rows.specs.RowsAboveLaws.{cells_of, slots_in}
 use Rattle.repeater_rows.specs.NeighbourLaws.{row_of}
 use Rattle.repeater_rows.specs.Opening.{AreDestinations}
@@ -108,3 +108,65 @@ module _ (reach slots : ℕ) (wired : ℕ → Bool) (all_cells : List (List RowC
       let square : length to * length to ≡ count * count = ap (λ (k : ℕ). k * k) l in
       let zero_left : length to * length to - done ≡ 0 = omega (arith, square, le) in
       made_all (ap (λ (k : ℕ). rounds reach wired k first to) zero_left)
+
+-- one round more
+left_next : (reach slots done next count : ℕ) (wired : ℕ → Bool) (first : Bool) (to to' : List ℕ) → length to ≡ slots → length to' ≡ slots → count ≡ slots
+    → done < count * count → next ≡ done + 1 → is_far reach wired 0 to ≡ true → to' ≡ round (window_size reach) first to
+    → rounds_left reach wired done first to ≡ to' ∷ rounds_left reach wired next (not first) to'
+left_next reach slots done next count wired first to to' long long' is lt e far round_is =
+    let square : length to * length to ≡ count * count = ap (λ (k : ℕ). k * k) (long ∙ sym is) in
+    let square' : length to' * length to' ≡ count * count = ap (λ (k : ℕ). k * k) (long' ∙ sym is) in
+    let fuel : length to * length to - done ≡ suc (length to' * length to' - next) = omega (arith, square, square', lt, e) in
+    ap (λ (k : ℕ). rounds reach wired k first to) fuel
+    ∙ rounds_go reach wired (length to' * length to' - next) first to far
+    ∙ ap (λ (t : List ℕ). t ∷ rounds reach wired (length to' * length to' - next) (not first) t) (sym round_is)
+
+pub made_step : (reach slots : ℕ) (wired : ℕ → Bool) (all_cells : List (List RowCell)) (all_slots : List (List ℕ)) (last : ℕ → Source)
+    (done next count : ℕ) (first : Bool) (source source' : ℕ → Source) (to carriers to' carriers' : List ℕ) (cells cells' : List (List RowCell)) (row_slots row_slots' : List (List ℕ))
+    (row : List RowCell) (seats : List ℕ) → AreMade reach slots wired all_cells all_slots last done first source to carriers cells row_slots
+    → count ≡ slots → done < count * count → next ≡ done + 1 → is_far reach wired 0 to ≡ true → to' ≡ round (window_size reach) first to
+    → AreDestinations wired slots to' carriers' → row ≡ (added wired source to').cells → seats ≡ (added wired source to').slots
+    → SameSources wired source' (source_above wired to') → cells' ≡ cells ++ (row ∷ []) → row_slots' ≡ row_slots ++ (seats ∷ [])
+    → AreMade reach slots wired all_cells all_slots last next (not first) source' to' carriers' cells' row_slots'
+made_step reach slots wired all_cells all_slots last done next count first source source' to carriers to' carriers' cells cells' row_slots row_slots'
+    row seats made is lt e far round_is known row_is seats_is above more more_seats =
+    let left = rounds_left reach wired next (not first) to' in
+    let tos : rounds_left reach wired done first to ≡ to' ∷ left =
+        left_next reach slots done next count wired first to to' made.known.long known.long is lt e far round_is in
+    let after : added_rows wired source (rounds_left reach wired done first to) ≡ added wired source to' ∷ added_rows wired source' left =
+        ap (added_rows wired source) tos ∙ ap (λ (rows : List PlacedRow). added wired source to' ∷ rows) (sym (same_added wired source' (source_above wired to') above left)) in
+    record {
+  known = known;
+  rows = ap (λ (l : List (List RowCell)). l ++ cells_of (added_rows wired source' left)) more
+      ∙ append_assoc cells (row ∷ []) (cells_of (added_rows wired source' left))
+      ∙ ap (λ (r : List RowCell). cells ++ (r ∷ cells_of (added_rows wired source' left))) row_is
+      ∙ ap (λ (rows : List PlacedRow). cells ++ cells_of rows) (sym after) ∙ made.rows;
+  seats = ap (λ (l : List (List ℕ)). l ++ slots_in (added_rows wired source' left)) more_seats
+      ∙ append_assoc row_slots (seats ∷ []) (slots_in (added_rows wired source' left))
+      ∙ ap (λ (r : List ℕ). row_slots ++ (r ∷ slots_in (added_rows wired source' left))) seats_is
+      ∙ ap (λ (rows : List PlacedRow). row_slots ++ slots_in rows) (sym after) ∙ made.seats;
+  sources = λ d w. same_last wired source' (source_above wired to') above left d w
+      ∙ ap (λ (l : List (List ℕ)). last_source wired source l d) (sym tos) ∙ made.sources d w;
+}
+
+-- what a channel's steps keep, where it has the same wires
+pub known_too : (f g : ℕ → Bool) (n : ℕ) (to carriers : List ℕ) → f ≡ g → AreDestinations g n to carriers → AreDestinations f n to carriers
+known_too f g n to carriers same known = subst (λ (h : ℕ → Bool). AreDestinations h n to carriers) (sym same) known
+
+pub row_same : (w wired : ℕ → Bool) (f source : ℕ → Source) (to : List ℕ) → w ≡ wired → f ≡ source → added w f to ≡ added wired source to
+row_same w wired f source to wires sources =
+    ap (λ (h : ℕ → Bool). added h f to) wires ∙ ap (λ (s : ℕ → Source). added wired s to) sources
+
+pub above_same : (n m : ℕ) (w wired : ℕ → Bool) (f : ℕ → Source) (to carriers : List ℕ) → w ≡ wired → AreDestinations wired n to carriers → m ≡ n
+    → ((d : ℕ) → w d ≡ true → d < m → f d ≡ source_above w to d) → SameSources wired f (source_above wired to)
+above_same n m w wired f to carriers wires known long above d here =
+    above d (ap (λ (h : ℕ → Bool). h d) wires ∙ here) (omega (arith, known.below d here))
+    ∙ ap (λ (h : ℕ → Bool). source_above h to d) wires
+
+pub made_too : (reach slots : ℕ) (wired : ℕ → Bool) (all_cells : List (List RowCell)) (all_slots : List (List ℕ)) (last : ℕ → Source)
+    (done : ℕ) (first : Bool) (source : ℕ → Source) (to carriers to' carriers' : List ℕ) (cells : List (List RowCell)) (row_slots : List (List ℕ))
+    → to' ≡ to → carriers' ≡ carriers → AreMade reach slots wired all_cells all_slots last done first source to carriers cells row_slots
+    → AreMade reach slots wired all_cells all_slots last done first source to' carriers' cells row_slots
+made_too reach slots wired all_cells all_slots last done first source to carriers to' carriers' cells row_slots e e' made =
+    subst (λ (l : List ℕ). AreMade reach slots wired all_cells all_slots last done first source l carriers' cells row_slots) (sym e)
+    (subst (λ (l : List ℕ). AreMade reach slots wired all_cells all_slots last done first source to l cells row_slots) (sym e') made)
