@@ -6,3 +6,5 @@ pub mod Opened
 pub mod ChannelSteps
 pub mod Counting
 pub mod Making
+pub mod Neighbours
+pub mod CountingRows

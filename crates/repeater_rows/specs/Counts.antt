@@ -21,22 +21,7 @@ pub record AreCounted (reach : ℕ) (wired : ℕ → Bool) (from : List ℕ) (be
   pub count : rows + length (rounds_left reach wired done first to) ≡ length (all_rounds reach wired from)
   pub on : (more : List ℕ) → past before (widths wired (all_rounds reach wired from) ++ more) ≡ past cells (widths wired (rounds_left reach wired done first to) ++ more)
 
--- a row that is not there
-abbrev pub no_row : PlacedRow
-no_row = record { cells = []; slots = [] }
-
--- row k with its slots
-abbrev pub row_in : List PlacedRow → ℕ → PlacedRow
-row_in rows k = slice_index_or rows k no_row
-
 -- the sizes of the rows that come above row k up to the next one, that one included
 abbrev pub channel_sizes : ℕ → PlacedRow → PlacedRow → List ℕ
 channel_sizes reach lower upper =
     widths (is_end (channel_links lower upper)) (channel_rounds reach lower upper) ++ (length upper.cells ∷ [])
-
--- what is counted when the rows up to row k of the net are
-pub record AreCountedTo (reach : ℕ) (net : List PlacedRow) (k rows cells : ℕ) : Type 0 where
-  pub some : rows ≤ cells
-  pub few : cells ≤ cell_limit
-  pub count : rows + length (rows_above reach (row_in net k) (drop (suc k) net)) ≡ length (repeated_rows reach net)
-  pub on : past 0 (sizes_of (repeated_rows reach net)) ≡ past cells (sizes_of (rows_above reach (row_in net k) (drop (suc k) net)))

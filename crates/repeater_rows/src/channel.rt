@@ -76,6 +76,23 @@ pub(crate) fn open(
     })
 }
 
+/// The cells of row `number` of a placed net.
+pub(crate) fn cells_at(net: &Placed, number: usize) -> &[RowCell]
+    requires { number < length net.now.net.rows }
+    ensures { result.now ≡ (row_of net.now number).cells }
+{
+    net.net.rows.get(number).as_slice()
+}
+
+/// The slots of row `number` of a placed net.
+pub(crate) fn slots_at(net: &Placed, number: usize) -> &[u32]
+    requires known { IsPlaced net.now }
+    requires number { number < length net.now.net.rows }
+    ensures { result.now ≡ (row_of net.now number).slots }
+{
+    net.slots.get(number).as_slice()
+}
+
 /// The channel above row `number` of a placed net.
 pub(crate) fn open_at(alloc: Global, net: &Placed, number: usize) -> Result<Channel, Memory>
     requires known { IsPlaced net.now }
@@ -92,14 +109,12 @@ pub(crate) fn open_at(alloc: Global, net: &Placed, number: usize) -> Result<Chan
     ensures long { IfOk result (λ channel.
         length channel.sources.items ≡ channel_slots (row_of net.now number) (row_of net.now (number + 1))) }
 {
-    let rows = net.net.rows.as_slice();
-    let slots = net.slots.as_slice();
     open(
         alloc,
-        rows[number].as_slice(),
-        slots[number].as_slice(),
-        rows[number + 1].as_slice(),
-        slots[number + 1].as_slice(),
+        cells_at(net, number),
+        slots_at(net, number),
+        cells_at(net, number + 1),
+        slots_at(net, number + 1),
     )
 }
 
