@@ -1,15 +1,20 @@
 -- The rows of the plan, made one after another.
-use Rattle.std.proofs.Common.{◌≡◌, ℕ, zero, suc, ◌+◌, ◌-◌, ◌*◌, ◌<◌, ◌≤◌, Bool, true, false, not, List, [], ◌∷◌, ◌++◌, length, map, drop, get_or, drop-cons, refl, sym, ap, ◌∙◌, subst, append_assoc, arith}
-use Rattle.std.proofs.lemmas.List.{append-nil}
+use Rattle.std.proofs.Common.{◌≡◌, ℕ, zero, suc, ◌+◌, ◌-◌, ◌*◌, ◌<◌, ◌≤◌, ◌==◌, Bool, true, false, not, ◌||◌, List, [], ◌∷◌, ◌++◌, length, map, drop, get_or, drop-cons, Option, Some, None, refl, sym, ap, ◌∙◌, subst, append_assoc, arith}
+use Rattle.std.specs.List.{All}
+use Rattle.std.proofs.lemmas.Bool.{eq-eqb}
+use Rattle.std.proofs.lemmas.List.{append-nil, map-append}
+use Rattle.std.proofs.lemmas.List.Elements.{All-from_recursion}
 use Rattle.rowed.specs.declared.source.Source.{Source}
 use Rattle.rowed.specs.declared.row_cell.RowCell.{RowCell}
 use Rattle.rowed.specs.RowNets.{row_at}
-use Rattle.rowed.specs.Slots.{EachSeated}
+use Rattle.rowed.specs.Slots.{EachSeated, slot_limit}
 use Rattle.rowed.specs.PlacedNets.{PlacedRow, PlacedView, IsPlaced, paired, placed_rows}
+use Rattle.rowed.specs.Channels.{Link, pin_link, links, channel_links, channel_slots}
+use Rattle.repeater_rows.specs.Destinations.{is_end, destinations}
 use Rattle.repeater_rows.specs.Rounds.{is_far, round, rounds, all_rounds, window_size}
-use Rattle.repeater_rows.specs.Repeaters.{buffer_from, carried, carrier_slots, added, source_above, added_rows, last_source}
+use Rattle.repeater_rows.specs.Repeaters.{buffer_from, carried, carrier_slots, added, source_to, source_above, added_rows, last_source, fed_from, cell_from, cells_from, channel_rounds, channel_rows}
 use Rattle.repeater_rows.specs.RowsAboveLaws.{cells_of, slots_in}
-use Rattle.repeater_rows.specs.NeighbourLaws.{row_of}
+use Rattle.repeater_rows.specs.NeighbourLaws.{row_of, seated_at, slots_below}
 use Rattle.repeater_rows.specs.Opening.{AreDestinations}
 use Rattle.repeater_rows.specs.Counts.{rounds_left}
 use Rattle.repeater_rows.specs.Makes.{SameSources, AreMade}
@@ -170,3 +175,103 @@ pub made_too : (reach slots : ℕ) (wired : ℕ → Bool) (all_cells : List (Lis
 made_too reach slots wired all_cells all_slots last done first source to carriers to' carriers' cells row_slots e e' made =
     subst (λ (l : List ℕ). AreMade reach slots wired all_cells all_slots last done first source l carriers' cells row_slots) (sym e)
     (subst (λ (l : List ℕ). AreMade reach slots wired all_cells all_slots last done first source to l cells row_slots) (sym e') made)
+
+-- the upper row depends on the sources of its wires
+end_more : (lower : List ℕ) (slot : ℕ) (o : Option Source) (more : List Link) (d : ℕ) → is_end more d ≡ true → is_end (pin_link lower slot o more) d ≡ true
+end_more lower slot None more d e = e
+end_more lower slot (Some s) more d e = go (slot == d)
+  where
+    go : (b : Bool) → (b || is_end more d) ≡ true
+    go true = refl
+    go false = e
+
+end_here : (lower : List ℕ) (slot : ℕ) (s : Source) (more : List Link) → is_end (pin_link lower slot (Some s) more) slot ≡ true
+end_here lower slot s more = let here : (slot == slot) ≡ true = eq-eqb slot slot refl in rw here refl
+
+same_pin : (lower : List ℕ) (slot : ℕ) (o : Option Source) (more : List Link) (f g : ℕ → Source) → SameSources (is_end (pin_link lower slot o more)) f g
+    → fed_from f slot o ≡ fed_from g slot o
+same_pin lower slot None more f g same = refl
+same_pin lower slot (Some s) more f g same = ap (λ (s : Source). Some s) (same slot (end_here lower slot s more))
+
+same_rest : (lower : List ℕ) (slot : ℕ) (o : Option Source) (more : List Link) (f g : ℕ → Source) → SameSources (is_end (pin_link lower slot o more)) f g
+    → SameSources (is_end more) f g
+same_rest lower slot o more f g same d e = same d (end_more lower slot o more d e)
+
+pub same_cells : (lower : List ℕ) (f g : ℕ → Source) (cells : List RowCell) (slots : List ℕ) → SameSources (is_end (links lower cells slots)) f g
+    → cells_from f cells slots ≡ cells_from g cells slots
+same_cells lower f g [] slots same = refl
+same_cells lower f g (cell ∷ cells) [] same = refl
+same_cells lower f g (cell ∷ cells) (slot ∷ slots) same =
+    let rest = links lower cells slots in
+    let third = pin_link lower (suc (suc slot)) cell.source2 rest in
+    let second = pin_link lower (suc slot) cell.source1 third in
+    let same1 : SameSources (is_end second) f g = same_rest lower slot cell.source0 second f g same in
+    let same2 : SameSources (is_end third) f g = same_rest lower (suc slot) cell.source1 third f g same1 in
+    let more = same_cells lower f g cells slots (same_rest lower (suc (suc slot)) cell.source2 rest f g same2) in
+    ap (λ (o : Option Source). record cell { source0 = o; source1 = fed_from f (suc slot) cell.source1; source2 = fed_from f (suc (suc slot)) cell.source2 } ∷ cells_from f cells slots)
+        (same_pin lower slot cell.source0 second f g same)
+    ∙ ap (λ (o : Option Source). record cell { source0 = fed_from g slot cell.source0; source1 = o; source2 = fed_from f (suc (suc slot)) cell.source2 } ∷ cells_from f cells slots)
+        (same_pin lower (suc slot) cell.source1 third f g same1)
+    ∙ ap (λ (o : Option Source). record cell { source0 = fed_from g slot cell.source0; source1 = fed_from g (suc slot) cell.source1; source2 = o } ∷ cells_from f cells slots)
+        (same_pin lower (suc (suc slot)) cell.source2 rest f g same2)
+    ∙ ap (λ (l : List RowCell). cell_from g slot cell ∷ l) more
+
+-- the rows of a channel, from what the code knows of it
+module _ (reach : ℕ) (lower upper : PlacedRow) (w : ℕ → Bool) (source : ℕ → Source) (to : List ℕ)
+    (wires : w ≡ is_end (channel_links lower upper)) (sources : source ≡ source_to (channel_links lower upper))
+    (start : to ≡ destinations (channel_links lower upper) (channel_slots lower upper)) where
+  tos_are : all_rounds reach w to ≡ channel_rounds reach lower upper
+  tos_are = ap (λ (h : ℕ → Bool). all_rounds reach h to) wires ∙ ap (λ (l : List ℕ). all_rounds reach (is_end (channel_links lower upper)) l) start
+
+  plan_is : added_rows w source (all_rounds reach w to) ≡ added_rows (is_end (channel_links lower upper)) (source_to (channel_links lower upper)) (channel_rounds reach lower upper)
+  plan_is = ap (λ (l : List (List ℕ)). added_rows w source l) tos_are
+      ∙ ap (λ (h : ℕ → Bool). added_rows h source (channel_rounds reach lower upper)) wires
+      ∙ ap (λ (s : ℕ → Source). added_rows (is_end (channel_links lower upper)) s (channel_rounds reach lower upper)) sources
+
+  last_is : last_source w source (all_rounds reach w to) ≡ last_source (is_end (channel_links lower upper)) (source_to (channel_links lower upper)) (channel_rounds reach lower upper)
+  last_is = ap (λ (l : List (List ℕ)). last_source w source l) tos_are
+      ∙ ap (λ (h : ℕ → Bool). last_source h source (channel_rounds reach lower upper)) wires
+      ∙ ap (λ (s : ℕ → Source). last_source (is_end (channel_links lower upper)) s (channel_rounds reach lower upper)) sources
+
+  pub channel_cells : (f : ℕ → Source) (cells : List RowCell) (slots : List ℕ) (fed : List RowCell) (rows rows' rows'' : List (List RowCell))
+      → rows' ≡ rows ++ cells_of (added_rows w source (all_rounds reach w to)) → SameSources w f (last_source w source (all_rounds reach w to))
+      → cells ≡ upper.cells → slots ≡ upper.slots → fed ≡ cells_from f cells slots → rows'' ≡ rows' ++ (fed ∷ [])
+      → rows'' ≡ rows ++ cells_of (channel_rows lower upper (channel_rounds reach lower upper) [])
+  channel_cells f cells slots fed rows rows' rows'' made same cells_is slots_is is more =
+      let ws = channel_links lower upper in
+      let tos = channel_rounds reach lower upper in
+      let last = last_source (is_end ws) (source_to ws) tos in
+      let agree : SameSources (is_end ws) f last = λ d e. same d (ap (λ (h : ℕ → Bool). h d) wires ∙ e) ∙ ap (λ (h : ℕ → Source). h d) last_is in
+      let fed_is : fed ≡ cells_from last upper.cells upper.slots =
+          is ∙ ap (λ (l : List RowCell). cells_from f l slots) cells_is ∙ ap (λ (l : List ℕ). cells_from f upper.cells l) slots_is
+          ∙ same_cells lower.slots f last upper.cells upper.slots agree in
+      let plan = added_rows (is_end ws) (source_to ws) tos in
+      more ∙ ap (λ (l : List (List RowCell)). l ++ (fed ∷ [])) made
+      ∙ ap (λ (rows' : List PlacedRow). (rows ++ cells_of rows') ++ (fed ∷ [])) plan_is
+      ∙ ap (λ (row : List RowCell). (rows ++ cells_of plan) ++ (row ∷ [])) fed_is
+      ∙ append_assoc rows (cells_of plan) (cells_from last upper.cells upper.slots ∷ [])
+      ∙ ap (λ (l : List (List RowCell)). rows ++ l) (sym (map-append (λ (row : PlacedRow). row.cells) plan (record { cells = cells_from last upper.cells upper.slots; slots = upper.slots } ∷ [])))
+
+  pub channel_seats : (slots slots' : List ℕ) (rows rows' rows'' : List (List ℕ)) → rows' ≡ rows ++ slots_in (added_rows w source (all_rounds reach w to))
+      → slots ≡ upper.slots → slots' ≡ slots → rows'' ≡ rows' ++ (slots' ∷ [])
+      → rows'' ≡ rows ++ slots_in (channel_rows lower upper (channel_rounds reach lower upper) [])
+  channel_seats slots slots' rows rows' rows'' made slots_is is more =
+      let ws = channel_links lower upper in
+      let tos = channel_rounds reach lower upper in
+      let last = last_source (is_end ws) (source_to ws) tos in
+      let plan = added_rows (is_end ws) (source_to ws) tos in
+      more ∙ ap (λ (l : List (List ℕ)). l ++ (slots' ∷ [])) made
+      ∙ ap (λ (rows' : List PlacedRow). (rows ++ slots_in rows') ++ (slots' ∷ [])) plan_is
+      ∙ ap (λ (row : List ℕ). (rows ++ slots_in plan) ++ (row ∷ [])) (is ∙ slots_is)
+      ∙ append_assoc rows (slots_in plan) (upper.slots ∷ [])
+      ∙ ap (λ (l : List (List ℕ)). rows ++ l) (sym (map-append (λ (row : PlacedRow). row.slots) plan (record { cells = cells_from last upper.cells upper.slots; slots = upper.slots } ∷ [])))
+
+-- the channel is open
+pub known_from : (n m : ℕ) (w : ℕ → Bool) (to carriers : List ℕ) → AreDestinations w n to carriers → m ≡ n → AreDestinations w m to carriers
+known_from n m w to carriers known e = subst (λ (k : ℕ). AreDestinations w k to carriers) (sym e) known
+
+pub slots_fit_at : (p : PlacedView) (k : ℕ) (slots : List ℕ) → IsPlaced p → k < length p.net.rows → slots ≡ (row_of p k).slots → All (λ (slot : ℕ). slot < slot_limit) slots
+slots_fit_at p k slots known lt is =
+    subst (λ (l : List ℕ). All (λ (slot : ℕ). slot < slot_limit) l) (sym is)
+    (All-from_recursion (λ (slot : ℕ). slot < slot_limit) (row_of p k).slots
+    (slots_below 0 (row_of p k).cells (row_of p k).slots (seated_at p.net.rows p.slots known.seated k lt)))
