@@ -5,6 +5,7 @@ pub mod LookSteps
 pub mod Opened
 pub mod ChannelSteps
 pub mod Counting
+pub mod Making
 pub mod Neighbours
 pub mod CountingRows
 pub mod Given

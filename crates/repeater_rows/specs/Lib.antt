@@ -29,3 +29,4 @@ pub mod Inserted
 pub mod InsertedLaws
 pub mod Examples
 pub mod NeighbourLaws
+pub mod Makes

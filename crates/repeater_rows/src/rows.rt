@@ -8,7 +8,7 @@ ghost use Rattle.repeater_rows.specs.Reading.{source_in};
 ghost use Rattle.repeater_rows.specs.NeighbourLaws.{row_of};
 ghost use Rattle.repeater_rows.specs.Opening.{AreDestinations};
 
-use crate::channel::{Channel, open_at};
+use crate::channel::{Channel, cells_at, open_at, slots_at};
 use aq_base::{List, Memory};
 use rowed::{Placed, RowCell};
 use std::alloc::Global;
@@ -69,18 +69,17 @@ fn add_channel(
 {
     let mut channel = open_at(alloc, net, number)?;
     add_rounds(alloc, &mut channel, reach, rows, slots)?;
-    let upper = net.net.rows.get(number + 1);
-    let upper_slots = net.slots.get(number + 1);
-    rows.push(channel.feed(alloc, upper.as_slice(), upper_slots.as_slice())?)?;
+    let upper = cells_at(net, number + 1);
+    let upper_slots = slots_at(net, number + 1);
+    rows.push(channel.feed(alloc, upper, upper_slots)?)?;
     slots.push(copied(alloc, upper_slots)?)?;
     Ok(())
 }
 
 /// The same items once more.
-fn copied<T: Copy>(alloc: Global, items: &List<T>) -> Result<List<T>, Memory>
+fn copied<T: Copy>(alloc: Global, items: &[T]) -> Result<List<T>, Memory>
     ensures { IfOk result (λ copy. copy ≡ items.now) }
 {
-    let items = items.as_slice();
     let mut copy = Vec::with_capacity(alloc, items.len())?;
     copy.extend_from_slice(items)?;
     Ok(List::from_vec(copy))
@@ -102,8 +101,8 @@ pub(crate) fn repeat_rows(alloc: Global, net: &Placed, reach: u64) -> Result<Row
 {
     let mut cells = Vec::new(alloc);
     let mut slots = Vec::new(alloc);
-    cells.push(copied(alloc, net.net.rows.get(0))?)?;
-    slots.push(copied(alloc, net.slots.get(0))?)?;
+    cells.push(copied(alloc, cells_at(net, 0))?)?;
+    slots.push(copied(alloc, slots_at(net, 0))?)?;
     for number in 1..net.net.rows.len() {
         add_channel(alloc, net, reach, number - 1, &mut cells, &mut slots)?;
     }
