@@ -66,12 +66,12 @@ counted_first reach slots wired to carriers before few known =
     let n : length to * length to - 0 ≡ length to * length to = omega arith in
     let all : rounds_left reach wired 0 true to ≡ all_rounds reach wired to = ap (λ (k : ℕ). rounds reach wired k true to) n in
     record {
-  known = subst (λ (k : ℕ). AreDestinations wired k to carriers) (sym known.long) known;
-  some = omega arith;
-  few = few;
-  count = omega (arith, ap length all);
-  on = λ more. ap (λ (tos : List (List ℕ)). past before (widths wired tos ++ more)) (sym all);
-}
+      known = subst (λ (k : ℕ). AreDestinations wired k to carriers) (sym known.long) known;
+      some = omega arith;
+      few = few;
+      count = omega (arith, ap length all);
+      on = λ more. ap (λ (tos : List (List ℕ)). past before (widths wired tos ++ more)) (sym all);
+    }
 
 -- after the last
 within_from : (reach : ℕ) (wired : ℕ → Bool) (from : List ℕ) (before done : ℕ) (first : Bool) (to carriers : List ℕ) (rows cells : ℕ)

@@ -141,13 +141,13 @@ pub up_to_first : (reach : ℕ) (p : PlacedView) (size rows cells : ℕ) → IsP
 up_to_first reach p size rows cells known s e within =
     let split : repeated_rows reach (placed_rows p) ≡ row_of p 0 ∷ rows_above reach (row_of p 0) (drop 1 (placed_rows p)) = ap (repeated_rows reach) (first_rows p known) in
     record {
-  some = omega (arith, within.some, e);
-  few = within.few;
-  count = omega (arith, ap length split, e);
-  on = ap (λ (l : List PlacedRow). past 0 (sizes_of l)) split
-      ∙ ap (λ (k : ℕ). past 0 (k ∷ sizes_of (rows_above reach (row_of p 0) (drop 1 (placed_rows p))))) (sym s)
-      ∙ within.on (sizes_of (rows_above reach (row_of p 0) (drop 1 (placed_rows p))));
-}
+      some = omega (arith, within.some, e);
+      few = within.few;
+      count = omega (arith, ap length split, e);
+      on = ap (λ (l : List PlacedRow). past 0 (sizes_of l)) split
+          ∙ ap (λ (k : ℕ). past 0 (k ∷ sizes_of (rows_above reach (row_of p 0) (drop 1 (placed_rows p))))) (sym s)
+          ∙ within.on (sizes_of (rows_above reach (row_of p 0) (drop 1 (placed_rows p))));
+    }
 
 module _ (reach : ℕ) (p : PlacedView) (known : IsPlaced p) (k next after rows cells : ℕ) (upto : AreUpTo reach p k next rows cells) (e : after ≡ next + 1) (lt : next < length p.net.rows) where
   split_next : sizes_of (rows_above reach (row_of p k) (drop next (placed_rows p)))
@@ -161,9 +161,13 @@ module _ (reach : ℕ) (p : PlacedView) (known : IsPlaced p) (k next after rows 
   up_to_next more rows' cells' within count =
       let rest = sizes_of (rows_above reach (row_of p next) (drop after (placed_rows p))) in
       let long : length (rows_above reach (row_of p k) (drop next (placed_rows p))) ≡ more + length (rows_above reach (row_of p next) (drop after (placed_rows p))) =
-          sym (length-map (rows_above reach (row_of p k) (drop next (placed_rows p))) (λ (row : PlacedRow). length row.cells)) ∙ ap length split_next
-          ∙ omega (arith, length-append (channel_sizes reach (row_of p k) (row_of p next)) rest, within.count,
-          length-map (rows_above reach (row_of p next) (drop after (placed_rows p))) (λ (row : PlacedRow). length row.cells)) in
+      sym (length-map (rows_above reach (row_of p k) (drop next (placed_rows p))) (λ (row : PlacedRow). length row.cells)) ∙ ap length split_next
+      ∙ omega (
+        arith,
+        length-append (channel_sizes reach (row_of p k) (row_of p next)) rest,
+        within.count,
+        length-map (rows_above reach (row_of p next) (drop after (placed_rows p))) (λ (row : PlacedRow). length row.cells),
+      ) in
       record {
         some = omega (arith, upto.some, within.some, count);
         few = within.few;

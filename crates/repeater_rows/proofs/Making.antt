@@ -76,16 +76,16 @@ rounds_go reach wired most first to far = rw (far, rounds) refl
 pub made_first : (reach slots : ℕ) (wired : ℕ → Bool) (source : ℕ → Source) (to carriers : List ℕ) (cells : List (List RowCell)) (row_slots : List (List ℕ))
     → AreDestinations wired slots to carriers
     → AreMade reach slots wired (cells ++ cells_of (added_rows wired source (all_rounds reach wired to))) (row_slots ++ slots_in (added_rows wired source (all_rounds reach wired to)))
-        (last_source wired source (all_rounds reach wired to)) 0 true source to carriers cells row_slots
+    (last_source wired source (all_rounds reach wired to)) 0 true source to carriers cells row_slots
 made_first reach slots wired source to carriers cells row_slots known =
     let n : length to * length to - 0 ≡ length to * length to = omega arith in
     let all : rounds_left reach wired 0 true to ≡ all_rounds reach wired to = ap (λ (k : ℕ). rounds reach wired k true to) n in
     record {
-  known = known;
-  rows = ap (λ (tos : List (List ℕ)). cells ++ cells_of (added_rows wired source tos)) all;
-  seats = ap (λ (tos : List (List ℕ)). row_slots ++ slots_in (added_rows wired source tos)) all;
-  sources = λ d w. ap (λ (tos : List (List ℕ)). last_source wired source tos d) all;
-}
+      known = known;
+      rows = ap (λ (tos : List (List ℕ)). cells ++ cells_of (added_rows wired source tos)) all;
+      seats = ap (λ (tos : List (List ℕ)). row_slots ++ slots_in (added_rows wired source tos)) all;
+      sources = λ d w. ap (λ (tos : List (List ℕ)). last_source wired source tos d) all;
+    }
 
 -- after the last
 module _ (reach slots : ℕ) (wired : ℕ → Bool) (all_cells : List (List RowCell)) (all_slots : List (List ℕ)) (last : ℕ → Source)
@@ -137,22 +137,22 @@ made_step reach slots wired all_cells all_slots last done next count first sourc
     row seats made is lt e far round_is known row_is seats_is above more more_seats =
     let left = rounds_left reach wired next (not first) to' in
     let tos : rounds_left reach wired done first to ≡ to' ∷ left =
-        left_next reach slots done next count wired first to to' made.known.long known.long is lt e far round_is in
+    left_next reach slots done next count wired first to to' made.known.long known.long is lt e far round_is in
     let after : added_rows wired source (rounds_left reach wired done first to) ≡ added wired source to' ∷ added_rows wired source' left =
-        ap (added_rows wired source) tos ∙ ap (λ (rows : List PlacedRow). added wired source to' ∷ rows) (sym (same_added wired source' (source_above wired to') above left)) in
+    ap (added_rows wired source) tos ∙ ap (λ (rows : List PlacedRow). added wired source to' ∷ rows) (sym (same_added wired source' (source_above wired to') above left)) in
     record {
-  known = known;
-  rows = ap (λ (l : List (List RowCell)). l ++ cells_of (added_rows wired source' left)) more
-      ∙ append_assoc cells (row ∷ []) (cells_of (added_rows wired source' left))
-      ∙ ap (λ (r : List RowCell). cells ++ (r ∷ cells_of (added_rows wired source' left))) row_is
-      ∙ ap (λ (rows : List PlacedRow). cells ++ cells_of rows) (sym after) ∙ made.rows;
-  seats = ap (λ (l : List (List ℕ)). l ++ slots_in (added_rows wired source' left)) more_seats
-      ∙ append_assoc row_slots (seats ∷ []) (slots_in (added_rows wired source' left))
-      ∙ ap (λ (r : List ℕ). row_slots ++ (r ∷ slots_in (added_rows wired source' left))) seats_is
-      ∙ ap (λ (rows : List PlacedRow). row_slots ++ slots_in rows) (sym after) ∙ made.seats;
-  sources = λ d w. same_last wired source' (source_above wired to') above left d w
-      ∙ ap (λ (l : List (List ℕ)). last_source wired source l d) (sym tos) ∙ made.sources d w;
-}
+      known = known;
+      rows = ap (λ (l : List (List RowCell)). l ++ cells_of (added_rows wired source' left)) more
+          ∙ append_assoc cells (row ∷ []) (cells_of (added_rows wired source' left))
+          ∙ ap (λ (r : List RowCell). cells ++ (r ∷ cells_of (added_rows wired source' left))) row_is
+          ∙ ap (λ (rows : List PlacedRow). cells ++ cells_of rows) (sym after) ∙ made.rows;
+      seats = ap (λ (l : List (List ℕ)). l ++ slots_in (added_rows wired source' left)) more_seats
+          ∙ append_assoc row_slots (seats ∷ []) (slots_in (added_rows wired source' left))
+          ∙ ap (λ (r : List ℕ). row_slots ++ (r ∷ slots_in (added_rows wired source' left))) seats_is
+          ∙ ap (λ (rows : List PlacedRow). row_slots ++ slots_in rows) (sym after) ∙ made.seats;
+      sources = λ d w. same_last wired source' (source_above wired to') above left d w
+          ∙ ap (λ (l : List (List ℕ)). last_source wired source l d) (sym tos) ∙ made.sources d w;
+    }
 
 -- what a channel's steps keep, where it has the same wires
 pub known_too : (f g : ℕ → Bool) (n : ℕ) (to carriers : List ℕ) → f ≡ g → AreDestinations g n to carriers → AreDestinations f n to carriers
@@ -209,11 +209,11 @@ same_cells lower f g (cell ∷ cells) (slot ∷ slots) same =
     let same2 : SameSources (is_end third) f g = same_rest lower (suc slot) cell.source1 third f g same1 in
     let more = same_cells lower f g cells slots (same_rest lower (suc (suc slot)) cell.source2 rest f g same2) in
     ap (λ (o : Option Source). record cell { source0 = o; source1 = fed_from f (suc slot) cell.source1; source2 = fed_from f (suc (suc slot)) cell.source2 } ∷ cells_from f cells slots)
-        (same_pin lower slot cell.source0 second f g same)
+    (same_pin lower slot cell.source0 second f g same)
     ∙ ap (λ (o : Option Source). record cell { source0 = fed_from g slot cell.source0; source1 = o; source2 = fed_from f (suc (suc slot)) cell.source2 } ∷ cells_from f cells slots)
-        (same_pin lower (suc slot) cell.source1 third f g same1)
+    (same_pin lower (suc slot) cell.source1 third f g same1)
     ∙ ap (λ (o : Option Source). record cell { source0 = fed_from g slot cell.source0; source1 = fed_from g (suc slot) cell.source1; source2 = o } ∷ cells_from f cells slots)
-        (same_pin lower (suc (suc slot)) cell.source2 rest f g same2)
+    (same_pin lower (suc (suc slot)) cell.source2 rest f g same2)
     ∙ ap (λ (l : List RowCell). cell_from g slot cell ∷ l) more
 
 -- the rows of a channel, from what the code knows of it
@@ -243,8 +243,8 @@ module _ (reach : ℕ) (lower upper : PlacedRow) (w : ℕ → Bool) (source : �
       let last = last_source (is_end ws) (source_to ws) tos in
       let agree : SameSources (is_end ws) f last = λ d e. same d (ap (λ (h : ℕ → Bool). h d) wires ∙ e) ∙ ap (λ (h : ℕ → Source). h d) last_is in
       let fed_is : fed ≡ cells_from last upper.cells upper.slots =
-          is ∙ ap (λ (l : List RowCell). cells_from f l slots) cells_is ∙ ap (λ (l : List ℕ). cells_from f upper.cells l) slots_is
-          ∙ same_cells lower.slots f last upper.cells upper.slots agree in
+      is ∙ ap (λ (l : List RowCell). cells_from f l slots) cells_is ∙ ap (λ (l : List ℕ). cells_from f upper.cells l) slots_is
+      ∙ same_cells lower.slots f last upper.cells upper.slots agree in
       let plan = added_rows (is_end ws) (source_to ws) tos in
       more ∙ ap (λ (l : List (List RowCell)). l ++ (fed ∷ [])) made
       ∙ ap (λ (rows' : List PlacedRow). (rows ++ cells_of rows') ++ (fed ∷ [])) plan_is

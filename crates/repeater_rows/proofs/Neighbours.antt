@@ -17,11 +17,11 @@ are_neighbours p k zero e known lt = absurd (omega arith)
 are_neighbours p k (suc n) e known lt =
     let same : n ≡ k = omega arith in
     subst (λ (j : ℕ). AreNeighbours (row_of p j) (row_of p (suc n))) same (record {
-  channel = channel_at p known n lt;
-  few_slots = channel_fits p known n lt;
-  pins_fit = All-from_recursion (λ (slot : ℕ). slot < slot_limit) (row_of p (suc n)).slots
-      (slots_below 0 (row_of p (suc n)).cells (row_of p (suc n)).slots (seated_at p.net.rows p.slots known.seated (suc n) lt));
-})
+      channel = channel_at p known n lt;
+      few_slots = channel_fits p known n lt;
+      pins_fit = All-from_recursion (λ (slot : ℕ). slot < slot_limit) (row_of p (suc n)).slots
+          (slots_below 0 (row_of p (suc n)).cells (row_of p (suc n)).slots (seated_at p.net.rows p.slots known.seated (suc n) lt));
+    })
 
 pub as_many_slots : (rows : List (List RowCell)) (slots : List (List ℕ)) → EachSeated rows slots → length slots ≡ length rows
 as_many_slots [] [] seated = refl

@@ -8,7 +8,7 @@ use Rattle.repeater_rows.proofs.count.count_channel.Goals as goal
 pub returns-in_err-added-clause-err : goal.returns-in_err-added-clause-err
 returns-in_err-added-clause-err c =
     let all = channel_past_first c.args.reach (row_of c.args.net.now c.args.number) (row_of c.args.net.now (c.args.number + 1)) _ _ c.args.before c.in_err-added.field-0.0
-        c.in_ok-channel.ensures.wired c.in_ok-channel.ensures.to c.in_err-added.ensures.err in
+    c.in_ok-channel.ensures.wired c.in_ok-channel.ensures.to c.in_err-added.ensures.err in
     search (rules, all)
 
 pub count_row-requires-clause-some : goal.count_row-requires-clause-some

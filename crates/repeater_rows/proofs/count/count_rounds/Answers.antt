@@ -18,7 +18,7 @@ count_row-requires-clause-some c =
     let same = same_array _ _ c.loop.invariant.wired in
     let known = known_same _ _ _ _ _ _ _ same c.in_ok-round.ensures.known c.loop.invariant.counted.known in
     let some = width_some c.args.reach _ _ c.loop.first c.loop.channel.to.items c.round.new.self.to.items c.round.new.self.carriers.items
-        (far_same c.args.reach _ _ _ _ true same c.is_far.ensures c.if-not-is_far.false) c.in_ok-round.ensures.round known in
+    (far_same c.args.reach _ _ _ _ true same c.is_far.ensures c.if-not-is_far.false) c.in_ok-round.ensures.round known in
     omega arith
 
 pub count_row-requires-clause-size : goal.count_row-requires-clause-size
@@ -46,5 +46,5 @@ returns-in_err-count-clause-err c =
     let known = known_same _ _ _ _ _ _ _ same c.in_ok-round.ensures.known c.loop.invariant.counted.known in
     let far = far_same c.args.reach _ _ _ _ true same c.is_far.ensures c.if-not-is_far.false in
     let all = past_step c.args.reach _ _ c.args.before c.loop.counter _ c.len-slots.result c.loop.first _ _ _ _ _ _ c.loop.invariant.counted c.loop.invariant.slots c.loop-test.true refl far
-        c.in_ok-round.ensures.round known c.len.result _ (search rules) c.in_err-count.ensures.err in
+    c.in_ok-round.ensures.round known c.len.result _ (search rules) c.in_err-count.ensures.err in
     search (rules, all)

@@ -37,10 +37,11 @@ round-requires-clause-known c = (length c.args.channel.now.sources.items, known_
 
 pub add_row-requires : goal.add_row-requires
 add_row-requires c =
-    let same = same_array _ _ c.loop.invariant.wired in
-    (length c.args.channel.now.sources.items,
-        known_too _ _ _ _ _ (same_array _ _ (c.in_ok-round.ensures.wired ∙ c.loop.invariant.wired))
-        (known_same _ _ _ _ _ _ _ same c.in_ok-round.ensures.known c.loop.invariant.made.known))
+    let same = same_array _ _ c.loop.invariant.wired in (
+      length c.args.channel.now.sources.items,
+      known_too _ _ _ _ _ (same_array _ _ (c.in_ok-round.ensures.wired ∙ c.loop.invariant.wired))
+          (known_same _ _ _ _ _ _ _ same c.in_ok-round.ensures.known c.loop.invariant.made.known),
+    )
 
 pub loop-preserved : goal.loop-preserved
 loop-preserved c =
