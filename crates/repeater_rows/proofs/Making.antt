@@ -2,7 +2,7 @@
 use Rattle.std.proofs.Common.{◌≡◌, ℕ, zero, suc, ◌+◌, ◌-◌, ◌*◌, ◌<◌, ◌≤◌, ◌==◌, Bool, true, false, not, ◌||◌, List, [], ◌∷◌, ◌++◌, length, map, drop, get_or, drop-cons, Option, Some, None, refl, sym, ap, ◌∙◌, subst, append_assoc, arith}
 use Rattle.std.specs.List.{All}
 use Rattle.std.proofs.lemmas.Bool.{eq-eqb}
-use Rattle.std.proofs.lemmas.List.{append-nil, map-append}
+use Rattle.std.proofs.lemmas.List.{append-nil, map-append, drop_all}
 use Rattle.std.proofs.lemmas.List.Elements.{All-from_recursion}
 use Rattle.rowed.specs.declared.source.Source.{Source}
 use Rattle.rowed.specs.declared.row_cell.RowCell.{RowCell}
@@ -12,12 +12,12 @@ use Rattle.rowed.specs.PlacedNets.{PlacedRow, PlacedView, IsPlaced, paired, plac
 use Rattle.rowed.specs.Channels.{Link, pin_link, links, channel_links, channel_slots}
 use Rattle.repeater_rows.specs.Destinations.{is_end, destinations}
 use Rattle.repeater_rows.specs.Rounds.{is_far, round, rounds, all_rounds, window_size}
-use Rattle.repeater_rows.specs.Repeaters.{buffer_from, carried, carrier_slots, added, source_to, source_above, added_rows, last_source, fed_from, cell_from, cells_from, channel_rounds, channel_rows}
+use Rattle.repeater_rows.specs.Repeaters.{buffer_from, carried, carrier_slots, added, source_to, source_above, added_rows, last_source, fed_from, cell_from, cells_from, channel_rounds, channel_rows, rows_above, repeated_rows}
 use Rattle.repeater_rows.specs.RowsAboveLaws.{cells_of, slots_in}
 use Rattle.repeater_rows.specs.NeighbourLaws.{row_of, seated_at, slots_below}
 use Rattle.repeater_rows.specs.Opening.{AreDestinations}
 use Rattle.repeater_rows.specs.Counts.{rounds_left}
-use Rattle.repeater_rows.specs.Makes.{SameSources, AreMade}
+use Rattle.repeater_rows.specs.Makes.{SameSources, AreMade, rows_left, AreMadeTo}
 
 -- the rows of a placed net, by number
 paired_at : (rows : List (List RowCell)) (slots : List (List ℕ)) → EachSeated rows slots → (k : ℕ) (none : PlacedRow) → k < length rows
@@ -275,3 +275,73 @@ slots_fit_at p k slots known lt is =
     subst (λ (l : List ℕ). All (λ (slot : ℕ). slot < slot_limit) l) (sym is)
     (All-from_recursion (λ (slot : ℕ). slot < slot_limit) (row_of p k).slots
     (slots_below 0 (row_of p k).cells (row_of p k).slots (seated_at p.net.rows p.slots known.seated k lt)))
+
+-- one channel after another
+channel_more : (lower upper : PlacedRow) (tos : List (List ℕ)) (more : List PlacedRow) → channel_rows lower upper tos more ≡ channel_rows lower upper tos [] ++ more
+channel_more lower upper tos more =
+    let ws = channel_links lower upper in
+    sym (append_assoc (added_rows (is_end ws) (source_to ws) tos)
+    (record { cells = cells_from (last_source (is_end ws) (source_to ws) tos) upper.cells upper.slots; slots = upper.slots } ∷ []) more)
+
+pub made_from : (reach : ℕ) (net : PlacedView) (cells row : List RowCell) (slots seats : List ℕ) (rows rows' : List (List RowCell)) (row_slots row_slots' : List (List ℕ))
+    → IsPlaced net → row ≡ cells → cells ≡ (row_of net 0).cells → seats ≡ slots → slots ≡ (row_of net 0).slots
+    → rows ≡ [] → rows' ≡ rows ++ (row ∷ []) → row_slots ≡ [] → row_slots' ≡ row_slots ++ (seats ∷ []) → AreMadeTo reach net 1 rows' row_slots'
+made_from reach net cells row slots seats rows rows' row_slots row_slots' known row_is cells_is seats_is slots_is none more none_slots more_slots =
+    let all : row_of net 0 ∷ drop 1 (placed_rows net) ≡ placed_rows net =
+        sym (rows_from net known 0 (omega (arith, known.net_keeps.two_rows))) ∙ drop_none (placed_rows net) in
+    record {
+  some = omega arith;
+  rows = ap (λ (l : List (List RowCell)). l ++ cells_of (rows_left reach net 1)) (more ∙ ap (λ (l : List (List RowCell)). l ++ (row ∷ [])) none)
+      ∙ ap (λ (r : List RowCell). r ∷ cells_of (rows_left reach net 1)) (row_is ∙ cells_is)
+      ∙ ap (λ (rows : List PlacedRow). cells_of (repeated_rows reach rows)) all;
+  seats = ap (λ (l : List (List ℕ)). l ++ slots_in (rows_left reach net 1)) (more_slots ∙ ap (λ (l : List (List ℕ)). l ++ (seats ∷ [])) none_slots)
+      ∙ ap (λ (r : List ℕ). r ∷ slots_in (rows_left reach net 1)) (seats_is ∙ slots_is)
+      ∙ ap (λ (rows : List PlacedRow). slots_in (repeated_rows reach rows)) all;
+}
+  where
+    drop_none : (rows : List PlacedRow) → drop 0 rows ≡ rows
+    drop_none [] = refl
+    drop_none (row ∷ rows) = refl
+
+pub made_channel : (reach : ℕ) (net : PlacedView) (k lower upper next : ℕ) (rows rows' : List (List RowCell)) (row_slots row_slots' : List (List ℕ))
+    → IsPlaced net → k < length net.net.rows → lower ≡ k - 1 → upper ≡ lower + 1 → next ≡ k + 1 → AreMadeTo reach net k rows row_slots
+    → rows' ≡ rows ++ cells_of (channel_rows (row_of net lower) (row_of net upper) (channel_rounds reach (row_of net lower) (row_of net upper)) [])
+    → row_slots' ≡ row_slots ++ slots_in (channel_rows (row_of net lower) (row_of net upper) (channel_rounds reach (row_of net lower) (row_of net upper)) [])
+    → AreMadeTo reach net next rows' row_slots'
+made_channel reach net k lower upper next rows rows' row_slots row_slots' known lt below above e made more more_slots =
+    let some = made.some in
+    let upper_is : upper ≡ k = omega arith in
+    let last_is : next - 1 ≡ k = omega arith in
+    let next_is : next ≡ suc k = omega arith in
+    let here : PlacedRow = row_of net k in
+    let channel = λ (i j : ℕ). channel_rows (row_of net i) (row_of net j) (channel_rounds reach (row_of net i) (row_of net j)) [] in
+    let left : rows_left reach net k ≡ channel lower upper ++ rows_left reach net next =
+        ap (rows_above reach (row_of net (k - 1))) (rows_from net known k lt)
+        ∙ channel_more (row_of net (k - 1)) here (channel_rounds reach (row_of net (k - 1)) here) (rows_above reach here (drop (suc k) (placed_rows net)))
+        ∙ ap (λ (i : ℕ). channel i k ++ rows_above reach here (drop (suc k) (placed_rows net))) (sym below)
+        ∙ ap (λ (i : ℕ). channel lower i ++ rows_above reach here (drop (suc k) (placed_rows net))) (sym upper_is)
+        ∙ ap (λ (i : ℕ). channel lower upper ++ rows_above reach (row_of net i) (drop (suc k) (placed_rows net))) (sym last_is)
+        ∙ ap (λ (i : ℕ). channel lower upper ++ rows_above reach (row_of net (next - 1)) (drop i (placed_rows net))) (sym next_is) in
+    record {
+  some = omega arith;
+  rows = ap (λ (l : List (List RowCell)). l ++ cells_of (rows_left reach net next)) more
+      ∙ append_assoc rows (cells_of (channel lower upper)) (cells_of (rows_left reach net next))
+      ∙ ap (λ (l : List (List RowCell)). rows ++ l) (sym (map-append (λ (row : PlacedRow). row.cells) (channel lower upper) (rows_left reach net next)))
+      ∙ ap (λ (l : List PlacedRow). rows ++ cells_of l) (sym left) ∙ made.rows;
+  seats = ap (λ (l : List (List ℕ)). l ++ slots_in (rows_left reach net next)) more_slots
+      ∙ append_assoc row_slots (slots_in (channel lower upper)) (slots_in (rows_left reach net next))
+      ∙ ap (λ (l : List (List ℕ)). row_slots ++ l) (sym (map-append (λ (row : PlacedRow). row.slots) (channel lower upper) (rows_left reach net next)))
+      ∙ ap (λ (l : List PlacedRow). row_slots ++ slots_in l) (sym left) ∙ made.seats;
+}
+
+-- all channels
+module _ (reach : ℕ) (net : PlacedView) (k : ℕ) (rows : List (List RowCell)) (row_slots : List (List ℕ)) (known : IsPlaced net) (made : AreMadeTo reach net k rows row_slots)
+    (le : length net.net.rows ≤ k) where
+  no_rows_left : rows_left reach net k ≡ []
+  no_rows_left = ap (rows_above reach (row_of net (k - 1))) (drop_all k (placed_rows net) (omega (arith, placed_long net known, le)))
+
+  pub all_cells : rows ≡ cells_of (repeated_rows reach (placed_rows net))
+  all_cells = sym (append-nil rows) ∙ ap (λ (l : List PlacedRow). rows ++ cells_of l) (sym no_rows_left) ∙ made.rows
+
+  pub all_seats : row_slots ≡ slots_in (repeated_rows reach (placed_rows net))
+  all_seats = sym (append-nil row_slots) ∙ ap (λ (l : List PlacedRow). row_slots ++ slots_in l) (sym no_rows_left) ∙ made.seats
