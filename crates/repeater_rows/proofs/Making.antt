@@ -32,14 +32,14 @@ paired_long [] slots seated = refl
 paired_long (row ∷ rows) [] seated = absurd seated
 paired_long (row ∷ rows) (s ∷ slots) seated = ap suc (paired_long rows slots seated.1)
 
-pub placed_long : (p : PlacedView) → IsPlaced p → length (placed_rows p) ≡ length p.net.rows
+placed_long : (p : PlacedView) → IsPlaced p → length (placed_rows p) ≡ length p.net.rows
 placed_long p known = paired_long p.net.rows p.slots known.seated
 
-pub placed_at : (p : PlacedView) → IsPlaced p → (k : ℕ) (none : PlacedRow) → k < length p.net.rows → get_or (placed_rows p) k none ≡ row_of p k
+placed_at : (p : PlacedView) → IsPlaced p → (k : ℕ) (none : PlacedRow) → k < length p.net.rows → get_or (placed_rows p) k none ≡ row_of p k
 placed_at p known k none lt = paired_at p.net.rows p.slots known.seated k none lt
 
 -- row k and the rows above it
-pub rows_from : (p : PlacedView) → IsPlaced p → (k : ℕ) → k < length p.net.rows → drop k (placed_rows p) ≡ row_of p k ∷ drop (suc k) (placed_rows p)
+rows_from : (p : PlacedView) → IsPlaced p → (k : ℕ) → k < length p.net.rows → drop k (placed_rows p) ≡ row_of p k ∷ drop (suc k) (placed_rows p)
 rows_from p known k lt =
     drop-cons (placed_rows p) k (row_of p k) (omega (arith, placed_long p known))
     ∙ ap (λ (row : PlacedRow). row ∷ drop (suc k) (placed_rows p)) (placed_at p known k (row_of p k) lt)
@@ -55,12 +55,12 @@ same_buffers wired f g same (d ∷ to) = go (wired d) refl (same_buffers wired f
     go true q rest = rw q (ap (λ (s : Source). buffer_from s ∷ map (λ (d : ℕ). buffer_from (f d)) (carried wired to)) (same d q) ∙ ap (λ (l : List RowCell). buffer_from (g d) ∷ l) rest)
     go false q rest = rw q rest
 
-pub same_added : (wired : ℕ → Bool) (f g : ℕ → Source) → SameSources wired f g → (tos : List (List ℕ)) → added_rows wired f tos ≡ added_rows wired g tos
+same_added : (wired : ℕ → Bool) (f g : ℕ → Source) → SameSources wired f g → (tos : List (List ℕ)) → added_rows wired f tos ≡ added_rows wired g tos
 same_added wired f g same [] = refl
 same_added wired f g same (to ∷ tos) =
     ap (λ (l : List RowCell). record { cells = l; slots = carrier_slots wired 0 to } ∷ added_rows wired (source_above wired to) tos) (same_buffers wired f g same to)
 
-pub same_last : (wired : ℕ → Bool) (f g : ℕ → Source) → SameSources wired f g → (tos : List (List ℕ)) → SameSources wired (last_source wired f tos) (last_source wired g tos)
+same_last : (wired : ℕ → Bool) (f g : ℕ → Source) → SameSources wired f g → (tos : List (List ℕ)) → SameSources wired (last_source wired f tos) (last_source wired g tos)
 same_last wired f g same [] d w = same d w
 same_last wired f g same (to ∷ tos) d w = refl
 
@@ -197,7 +197,7 @@ same_rest : (lower : List ℕ) (slot : ℕ) (o : Option Source) (more : List Lin
     → SameSources (is_end more) f g
 same_rest lower slot o more f g same d e = same d (end_more lower slot o more d e)
 
-pub same_cells : (lower : List ℕ) (f g : ℕ → Source) (cells : List RowCell) (slots : List ℕ) → SameSources (is_end (links lower cells slots)) f g
+same_cells : (lower : List ℕ) (f g : ℕ → Source) (cells : List RowCell) (slots : List ℕ) → SameSources (is_end (links lower cells slots)) f g
     → cells_from f cells slots ≡ cells_from g cells slots
 same_cells lower f g [] slots same = refl
 same_cells lower f g (cell ∷ cells) [] same = refl
@@ -288,16 +288,16 @@ pub made_from : (reach : ℕ) (net : PlacedView) (cells row : List RowCell) (slo
     → rows ≡ [] → rows' ≡ rows ++ (row ∷ []) → row_slots ≡ [] → row_slots' ≡ row_slots ++ (seats ∷ []) → AreMadeTo reach net 1 rows' row_slots'
 made_from reach net cells row slots seats rows rows' row_slots row_slots' known row_is cells_is seats_is slots_is none more none_slots more_slots =
     let all : row_of net 0 ∷ drop 1 (placed_rows net) ≡ placed_rows net =
-        sym (rows_from net known 0 (omega (arith, known.net_keeps.two_rows))) ∙ drop_none (placed_rows net) in
+    sym (rows_from net known 0 (omega (arith, known.net_keeps.two_rows))) ∙ drop_none (placed_rows net) in
     record {
-  some = omega arith;
-  rows = ap (λ (l : List (List RowCell)). l ++ cells_of (rows_left reach net 1)) (more ∙ ap (λ (l : List (List RowCell)). l ++ (row ∷ [])) none)
-      ∙ ap (λ (r : List RowCell). r ∷ cells_of (rows_left reach net 1)) (row_is ∙ cells_is)
-      ∙ ap (λ (rows : List PlacedRow). cells_of (repeated_rows reach rows)) all;
-  seats = ap (λ (l : List (List ℕ)). l ++ slots_in (rows_left reach net 1)) (more_slots ∙ ap (λ (l : List (List ℕ)). l ++ (seats ∷ [])) none_slots)
-      ∙ ap (λ (r : List ℕ). r ∷ slots_in (rows_left reach net 1)) (seats_is ∙ slots_is)
-      ∙ ap (λ (rows : List PlacedRow). slots_in (repeated_rows reach rows)) all;
-}
+      some = omega arith;
+      rows = ap (λ (l : List (List RowCell)). l ++ cells_of (rows_left reach net 1)) (more ∙ ap (λ (l : List (List RowCell)). l ++ (row ∷ [])) none)
+          ∙ ap (λ (r : List RowCell). r ∷ cells_of (rows_left reach net 1)) (row_is ∙ cells_is)
+          ∙ ap (λ (rows : List PlacedRow). cells_of (repeated_rows reach rows)) all;
+      seats = ap (λ (l : List (List ℕ)). l ++ slots_in (rows_left reach net 1)) (more_slots ∙ ap (λ (l : List (List ℕ)). l ++ (seats ∷ [])) none_slots)
+          ∙ ap (λ (r : List ℕ). r ∷ slots_in (rows_left reach net 1)) (seats_is ∙ slots_is)
+          ∙ ap (λ (rows : List PlacedRow). slots_in (repeated_rows reach rows)) all;
+    }
   where
     drop_none : (rows : List PlacedRow) → drop 0 rows ≡ rows
     drop_none [] = refl
@@ -316,23 +316,23 @@ made_channel reach net k lower upper next rows rows' row_slots row_slots' known 
     let here : PlacedRow = row_of net k in
     let channel = λ (i j : ℕ). channel_rows (row_of net i) (row_of net j) (channel_rounds reach (row_of net i) (row_of net j)) [] in
     let left : rows_left reach net k ≡ channel lower upper ++ rows_left reach net next =
-        ap (rows_above reach (row_of net (k - 1))) (rows_from net known k lt)
-        ∙ channel_more (row_of net (k - 1)) here (channel_rounds reach (row_of net (k - 1)) here) (rows_above reach here (drop (suc k) (placed_rows net)))
-        ∙ ap (λ (i : ℕ). channel i k ++ rows_above reach here (drop (suc k) (placed_rows net))) (sym below)
-        ∙ ap (λ (i : ℕ). channel lower i ++ rows_above reach here (drop (suc k) (placed_rows net))) (sym upper_is)
-        ∙ ap (λ (i : ℕ). channel lower upper ++ rows_above reach (row_of net i) (drop (suc k) (placed_rows net))) (sym last_is)
-        ∙ ap (λ (i : ℕ). channel lower upper ++ rows_above reach (row_of net (next - 1)) (drop i (placed_rows net))) (sym next_is) in
+    ap (rows_above reach (row_of net (k - 1))) (rows_from net known k lt)
+    ∙ channel_more (row_of net (k - 1)) here (channel_rounds reach (row_of net (k - 1)) here) (rows_above reach here (drop (suc k) (placed_rows net)))
+    ∙ ap (λ (i : ℕ). channel i k ++ rows_above reach here (drop (suc k) (placed_rows net))) (sym below)
+    ∙ ap (λ (i : ℕ). channel lower i ++ rows_above reach here (drop (suc k) (placed_rows net))) (sym upper_is)
+    ∙ ap (λ (i : ℕ). channel lower upper ++ rows_above reach (row_of net i) (drop (suc k) (placed_rows net))) (sym last_is)
+    ∙ ap (λ (i : ℕ). channel lower upper ++ rows_above reach (row_of net (next - 1)) (drop i (placed_rows net))) (sym next_is) in
     record {
-  some = omega arith;
-  rows = ap (λ (l : List (List RowCell)). l ++ cells_of (rows_left reach net next)) more
-      ∙ append_assoc rows (cells_of (channel lower upper)) (cells_of (rows_left reach net next))
-      ∙ ap (λ (l : List (List RowCell)). rows ++ l) (sym (map-append (λ (row : PlacedRow). row.cells) (channel lower upper) (rows_left reach net next)))
-      ∙ ap (λ (l : List PlacedRow). rows ++ cells_of l) (sym left) ∙ made.rows;
-  seats = ap (λ (l : List (List ℕ)). l ++ slots_in (rows_left reach net next)) more_slots
-      ∙ append_assoc row_slots (slots_in (channel lower upper)) (slots_in (rows_left reach net next))
-      ∙ ap (λ (l : List (List ℕ)). row_slots ++ l) (sym (map-append (λ (row : PlacedRow). row.slots) (channel lower upper) (rows_left reach net next)))
-      ∙ ap (λ (l : List PlacedRow). row_slots ++ slots_in l) (sym left) ∙ made.seats;
-}
+      some = omega arith;
+      rows = ap (λ (l : List (List RowCell)). l ++ cells_of (rows_left reach net next)) more
+          ∙ append_assoc rows (cells_of (channel lower upper)) (cells_of (rows_left reach net next))
+          ∙ ap (λ (l : List (List RowCell)). rows ++ l) (sym (map-append (λ (row : PlacedRow). row.cells) (channel lower upper) (rows_left reach net next)))
+          ∙ ap (λ (l : List PlacedRow). rows ++ cells_of l) (sym left) ∙ made.rows;
+      seats = ap (λ (l : List (List ℕ)). l ++ slots_in (rows_left reach net next)) more_slots
+          ∙ append_assoc row_slots (slots_in (channel lower upper)) (slots_in (rows_left reach net next))
+          ∙ ap (λ (l : List (List ℕ)). row_slots ++ l) (sym (map-append (λ (row : PlacedRow). row.slots) (channel lower upper) (rows_left reach net next)))
+          ∙ ap (λ (l : List PlacedRow). row_slots ++ slots_in l) (sym left) ∙ made.seats;
+    }
 
 -- all channels
 module _ (reach : ℕ) (net : PlacedView) (k : ℕ) (rows : List (List RowCell)) (row_slots : List (List ℕ)) (known : IsPlaced net) (made : AreMadeTo reach net k rows row_slots)
