@@ -1,9 +1,8 @@
 -- The rows that are made are the plan's.
-use Rattle.std.proofs.Common.{◌≡◌, ℕ, ◌≤◌, List, None, length, map, refl, sym, ap, ◌∙◌, subst}
+use Rattle.std.proofs.Common.{◌≡◌, ℕ, ◌≤◌, List, None, length, map, sym, ap, ◌∙◌, subst}
 use Rattle.std.proofs.lemmas.List.{length-map}
 use Rattle.rowed.specs.declared.row_cell.RowCell.{RowCell}
-use Rattle.rowed.specs.RowNets.{RowView}
-use Rattle.rowed.specs.PlacedNets.{PlacedRow, PlacedView, IsPlaced, placed_rows, placed_of}
+use Rattle.rowed.specs.PlacedNets.{PlacedRow, PlacedView, IsPlaced, placed_rows}
 use Rattle.repeater_rows.specs.Repeaters.{repeated, repeated_rows}
 use Rattle.repeater_rows.specs.RowsAboveLaws.{placed_rows_of}
 use Rattle.repeater_rows.specs.KeptLaws.{repeaters_keep}
