@@ -37,7 +37,7 @@ picked_past cell row b (suc n) = ap (and_cell (slice_get row b)) (picked_past ce
 
 pub picked_all : (row : List RowCell) → picked row (numbers 0 (length row)) ≡ row
 picked_all [] = refl
-picked_all (cell ∷ row) = ap (λ (cells : List RowCell). cell ∷ cells) (picked_past cell row 0 (length row) ∙ picked_all row)
+picked_all (cell ∷ row) = ap (λ (cells : List RowCell). cell ∷ cells) (picked_past cell the first row (length row) ∙ picked_all row)
 
 -- in any order they take as many slots
 slots_first : (o : Option RowCell) (xs ys : List RowCell) → slots_in xs ≡ slots_in ys → slots_in (and_cell o xs) ≡ slots_in (and_cell o ys)
