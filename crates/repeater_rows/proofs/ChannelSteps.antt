@@ -1,16 +1,15 @@
 -- The steps of a channel: is a wire far, a round, a row of buffers.
-use Rattle.std.proofs.Common.{◌≡◌, ℕ, zero, suc, ◌+◌, ◌-◌, ◌/◌, ◌%◌, ◌<◌, ◌≤◌, ◌^◌, Bool, true, false, cond, nat_lt, ◌&&◌, ◌||◌, List, [], ◌∷◌, ◌++◌, length, map, take, drop, get_or, slice_set, refl, sym, ap, ◌∙◌, subst, inl, inr, arith, append_assoc, Option, Some, None, slice_get}
+use Rattle.std.proofs.Common.{◌≡◌, ℕ, zero, suc, ◌+◌, ◌-◌, ◌/◌, ◌%◌, ◌<◌, ◌≤◌, ◌^◌, Bool, true, false, cond, nat_lt, ◌||◌, List, [], ◌∷◌, ◌++◌, length, map, take, drop, get_or, slice_set, refl, sym, ap, ◌∙◌, subst, inl, inr, arith, append_assoc, slice_get}
 use Rattle.std.specs.List.{filter}
 use Rattle.std.proofs.lemmas.List.{length-drop, length-set}
 use Rattle.std.proofs.lemmas.Bool.{cases_eq, eq-eqb, ne_eqb}
 use Rattle.std.proofs.Math.Seq.{take-append_seam}
 use Rattle.rowed.specs.declared.source.Source.{Source}
 use Rattle.rowed.specs.declared.row_cell.RowCell.{RowCell}
-use Rattle.rowed.specs.Slots.{slot_limit}
 use Rattle.rowed.specs.Channels.{move}
 use Rattle.rowed.specs.Numbers.{place_of, IsOrder}
 use Rattle.repeater_rows.specs.Rounds.{is_far, round, windows, window_size}
-use Rattle.repeater_rows.specs.RoundsLaws.{round_order, round_same, length_same, window_even}
+use Rattle.repeater_rows.specs.RoundsLaws.{round_order, round_same, length_same}
 use Rattle.repeater_rows.specs.Local.{UnwiredRise}
 use Rattle.repeater_rows.specs.LocalLaws.{round_rise}
 use Rattle.repeater_rows.specs.PlaceLaws.{times, carried_has, stands_in}
@@ -18,7 +17,8 @@ use Rattle.repeater_rows.specs.Repeaters.{no_source, carrier_slots, carried, sou
 use Rattle.repeater_rows.specs.Reading.{far_among, source_in}
 use Rattle.repeater_rows.specs.Looking.{ordered_from}
 use Rattle.repeater_rows.specs.Opening.{AreDestinations, raised, at_slot}
-use Rattle.repeater_rows.proofs.WindowOrder.{windows_enough, carriers_count}
+use Rattle.repeater_rows.proofs.WindowOrder.{windows_enough}
+use Rattle.repeater_rows.proofs.Lists.{drop_0}
 
 -- these are the destinations from a slot on
 abbrev pub From : List ℕ → ℕ → List ℕ → Type 0
@@ -59,7 +59,7 @@ pub carried_is : (slots : ℕ) (wired : ℕ → Bool) (to carriers destinations 
     → destinations ≡ map (λ (slot : ℕ). get_or to slot 0) carriers → destinations ≡ carried wired to
 carried_is slots wired to carriers destinations known is = is ∙ ap (map (λ (slot : ℕ). get_or to slot 0)) known.carry ∙ carried_from wired to 0 to (all_from to)
 
-few_pass : (p : ℕ → Bool) (xs : List ℕ) → length (filter p xs) ≤ length xs
+pub few_pass : (p : ℕ → Bool) (xs : List ℕ) → length (filter p xs) ≤ length xs
 few_pass p [] = omega arith
 few_pass p (x ∷ xs) = go (p x) refl (few_pass p xs)
   where
@@ -150,10 +150,6 @@ raised_above slots wired to carriers destinations sources sources' known is so d
     ∙ raised_at 0 (carried wired to) sources d lt some ∙ ap source_cell (omega arith)
 
 -- one cell of the upper row after another
-drop_0 : {X : Type 0} (xs : List X) → drop 0 xs ≡ xs
-drop_0 [] = refl
-drop_0 (x ∷ xs) = refl
-
 drop_nil : {X : Type 0} (n : ℕ) → drop {A = X} n [] ≡ []
 drop_nil zero = refl
 drop_nil (suc n) = refl

@@ -1,10 +1,8 @@
 -- The rounds of a channel, counted one after another.
-use Rattle.std.proofs.Common.{◌≡◌, ℕ, zero, suc, ◌+◌, ◌-◌, ◌*◌, ◌<◌, ◌≤◌, ◌^◌, Bool, true, false, not, nat_lt, ◌&&◌, ◌||◌, List, [], ◌∷◌, ◌++◌, length, map, Some, refl, sym, ap, ◌∙◌, subst, arith, Vec}
+use Rattle.std.proofs.Common.{◌≡◌, ℕ, suc, ◌+◌, ◌-◌, ◌*◌, ◌<◌, ◌≤◌, ◌^◌, Bool, true, false, not, nat_lt, ◌&&◌, ◌||◌, List, [], ◌∷◌, ◌++◌, length, refl, sym, ap, ◌∙◌, subst, arith, Vec}
 use Rattle.std.specs.Global.{Global}
 use Rattle.circuit.specs.Gates.{valuation}
-use Rattle.std.specs.List.{filter}
 use Rattle.std.proofs.lemmas.List.{length-map}
-use Rattle.rowed.specs.Slots.{slot_limit}
 use Rattle.rowed.specs.Channels.{move}
 use Rattle.rowed.specs.Sorting.{passing}
 use Rattle.rowed.specs.SortingLaws.{passing-yes, passing-no}
@@ -18,14 +16,8 @@ use Rattle.repeater_rows.specs.Counts.{rounds_left, AreCounted}
 use Rattle.repeater_rows.specs.declared.pass.RepeatRefusal.{RepeatRefusal}
 use Rattle.repeater_rows.specs.declared.pass.RepeatRefusal.TheVariants.{TooManyCells, TooTall, Memory}
 use Rattle.repeater_rows.proofs.WindowOrder.{carriers_count}
-
-rounds_stop : (reach : ℕ) (wired : ℕ → Bool) (most : ℕ) (first : Bool) (to : List ℕ) → is_far reach wired 0 to ≡ false → rounds reach wired most first to ≡ []
-rounds_stop reach wired zero first to near = refl
-rounds_stop reach wired (suc most) first to near = rw (near, rounds) refl
-
-rounds_go : (reach : ℕ) (wired : ℕ → Bool) (most : ℕ) (first : Bool) (to : List ℕ) → is_far reach wired 0 to ≡ true
-    → rounds reach wired (suc most) first to ≡ round (window_size reach) first to ∷ rounds reach wired most (not first) (round (window_size reach) first to)
-rounds_go reach wired most first to far = rw (far, rounds) refl
+use Rattle.repeater_rows.proofs.RoundsLeft.{rounds_stop, left_next}
+use Rattle.repeater_rows.proofs.ChannelSteps.{few_pass}
 
 -- where some wire is far, there is a wire
 far_some : (reach : ℕ) (wired : ℕ → Bool) (slot : ℕ) (to : List ℕ) → is_far reach wired slot to ≡ true → 0 < passing wired to
@@ -44,14 +36,6 @@ pub width_some : (reach slots : ℕ) (wired : ℕ → Bool) (first : Bool) (to t
     → AreDestinations wired slots to' carriers' → 0 < length carriers'
 width_some reach slots wired first to to' carriers' far is known =
     omega (arith, width_is wired to' carriers' known.carry, far_some reach wired 0 to far, ap (passing wired) is, round_same (window_size reach) first to wired)
-
-few_pass : (p : ℕ → Bool) (xs : List ℕ) → length (filter p xs) ≤ length xs
-few_pass p [] = omega arith
-few_pass p (x ∷ xs) = go (p x) refl (few_pass p xs)
-  where
-    go : (t : Bool) → p x ≡ t → length (filter p xs) ≤ length xs → length (filter p (x ∷ xs)) ≤ length (x ∷ xs)
-    go true q le = rw q (omega (arith, le))
-    go false q le = rw q (omega (arith, le))
 
 pub width_fits : (slots : ℕ) (wired : ℕ → Bool) (to carriers : List ℕ) → AreDestinations wired slots to carriers → length carriers < 2 ^ 32
 width_fits slots wired to carriers known =
@@ -104,15 +88,7 @@ module _ (reach : ℕ) (wired : ℕ → Bool) (from : List ℕ) (before done nex
     (counted : AreCounted reach wired from before done first to carriers rows cells) (is : slots ≡ length from) (lt : done < slots * slots) (e : next ≡ done + 1)
     (far : is_far reach wired 0 to ≡ true) (round_is : to' ≡ round (window_size reach) first to) (known : AreDestinations wired (length from) to' carriers') where
   left_is : rounds_left reach wired done first to ≡ to' ∷ rounds_left reach wired next (not first) to'
-  left_is =
-      let l : length to ≡ slots = counted.known.long ∙ sym is in
-      let l' : length to' ≡ slots = known.long ∙ sym is in
-      let square : length to * length to ≡ slots * slots = ap (λ (k : ℕ). k * k) l in
-      let square' : length to' * length to' ≡ slots * slots = ap (λ (k : ℕ). k * k) l' in
-      let fuel : length to * length to - done ≡ suc (length to' * length to' - next) = omega (arith, square, square', lt, e) in
-      ap (λ (k : ℕ). rounds reach wired k first to) fuel
-      ∙ rounds_go reach wired (length to' * length to' - next) first to far
-      ∙ ap (λ (t : List ℕ). t ∷ rounds reach wired (length to' * length to' - next) (not first) t) (sym round_is)
+  left_is = left_next reach (length from) done next slots wired first to to' counted.known.long known.long is lt e far round_is
 
   on_next : (more : List ℕ) → past before (widths wired (all_rounds reach wired from) ++ more)
       ≡ past cells ((length carriers' ∷ []) ++ (widths wired (rounds_left reach wired next (not first) to') ++ more))

@@ -1,15 +1,13 @@
 -- The rows of a placed net with its repeaters, counted channel by channel.
-use Rattle.std.proofs.Common.{◌≡◌, ℕ, zero, suc, ◌+◌, ◌<◌, ◌≤◌, ◌^◌, Bool, true, false, cond, nat_le, List, [], ◌∷◌, ◌++◌, Option, Some, None, length, map, drop, get_or, slice_get, refl, sym, ap, ◌∙◌, subst, arith, append_assoc, length-append, Result, Ok, Err, IfOk, IfErr}
+use Rattle.std.proofs.Common.{◌≡◌, ℕ, ◌+◌, ◌<◌, ◌≤◌, ◌^◌, Bool, cond, nat_le, List, [], ◌∷◌, ◌++◌, Option, Some, None, length, drop, refl, sym, ap, ◌∙◌, subst, arith, append_assoc, length-append, Result, Ok, Err, IfOk, IfErr}
 use Rattle.std.proofs.lemmas.List.{length-map}
-use Rattle.circuit.specs.Gates.{valuation}
 use Rattle.rowed.specs.declared.source.Source.{Source}
 use Rattle.rowed.specs.declared.row_cell.RowCell.{RowCell}
-use Rattle.rowed.specs.Slots.{EachSeated}
-use Rattle.rowed.specs.PlacedNets.{PlacedRow, PlacedView, IsPlaced, paired, placed_rows}
+use Rattle.rowed.specs.PlacedNets.{PlacedRow, PlacedView, IsPlaced, placed_rows}
 use Rattle.rowed.specs.Channels.{channel_links, channel_slots}
 use Rattle.repeater_rows.specs.Destinations.{destinations, is_end}
 use Rattle.repeater_rows.specs.Rounds.{all_rounds}
-use Rattle.repeater_rows.specs.Repeaters.{added_rows, added, carried, source_above, source_to, last_source, cells_from, channel_rounds, rows_above, repeated_rows}
+use Rattle.repeater_rows.specs.Repeaters.{added_rows, carried, source_above, source_to, last_source, cells_from, channel_rounds, rows_above, repeated_rows}
 use Rattle.repeater_rows.specs.AddedLaws.{moved_length}
 use Rattle.repeater_rows.specs.NeighbourLaws.{row_of}
 use Rattle.repeater_rows.specs.Passes.{cell_limit, cells_past}
@@ -17,6 +15,8 @@ use Rattle.repeater_rows.specs.Sizes.{past, sizes_of, widths, AreWithin, ArePast
 use Rattle.repeater_rows.specs.Counts.{channel_sizes}
 use Rattle.repeater_rows.specs.declared.pass.RepeatRefusal.{RepeatRefusal}
 use Rattle.repeater_rows.specs.declared.pass.RepeatRefusal.TheVariants.{TooManyCells, TooTall, Memory}
+use Rattle.repeater_rows.proofs.Lists.{drop_0}
+use Rattle.repeater_rows.proofs.Neighbours.{rows_from, rows_end}
 
 -- the cells of rows, by their sizes alone
 pub past_is : (before : ℕ) (rows : List PlacedRow) → cells_past before rows ≡ past before (sizes_of rows)
@@ -98,28 +98,6 @@ channel_past_first reach lower upper wired to before refusal w t a =
     subst (λ (l : List ℕ). ArePast before l refusal) (channel_widths reach lower upper wired to (length upper.cells) w t refl)
     (past_first before (widths wired (all_rounds reach wired to)) (length upper.cells ∷ []) refusal a)
 
--- the rows of a placed net, one after another
-pub rows_from : (rows : List (List RowCell)) (slots : List (List ℕ)) → EachSeated rows slots → (k n : ℕ) → n ≡ k + 1 → k < length rows
-    → drop k (paired rows slots) ≡ record { cells = get_or rows k []; slots = get_or slots k [] } ∷ drop n (paired rows slots)
-rows_from [] slots seated k n e lt = absurd (omega arith)
-rows_from (row ∷ rows) [] seated k n e lt = absurd seated
-rows_from (row ∷ rows) (s ∷ slots) seated k zero e lt = absurd (omega arith)
-rows_from (row ∷ rows) (s ∷ slots) seated zero (suc (suc n)) e lt = absurd (omega arith)
-rows_from (row ∷ rows) (s ∷ slots) seated zero (suc zero) e lt = ap (λ (l : List PlacedRow). record { cells = row; slots = s } ∷ l) (sym (drop_0 (paired rows slots)))
-  where
-    drop_0 : (xs : List PlacedRow) → drop 0 xs ≡ xs
-    drop_0 [] = refl
-    drop_0 (x ∷ xs) = refl
-rows_from (row ∷ rows) (s ∷ slots) seated (suc k) (suc n) e lt = rows_from rows slots seated.1 k n (omega arith) (omega arith)
-
-pub rows_end : (rows : List (List RowCell)) (slots : List (List ℕ)) (k : ℕ) → length rows ≤ k → drop k (paired rows slots) ≡ []
-rows_end [] slots zero le = refl
-rows_end [] slots (suc k) le = refl
-rows_end (row ∷ rows) [] zero le = refl
-rows_end (row ∷ rows) [] (suc k) le = refl
-rows_end (row ∷ rows) (s ∷ slots) zero le = absurd (omega arith)
-rows_end (row ∷ rows) (s ∷ slots) (suc k) le = rows_end rows slots k (omega arith)
-
 -- what is counted up to row k, the rows above it being those from row `next` on
 pub record AreUpTo (reach : ℕ) (p : PlacedView) (k next rows cells : ℕ) : Type 0 where
   pub some : rows ≤ cells
@@ -130,11 +108,7 @@ pub record AreUpTo (reach : ℕ) (p : PlacedView) (k next rows cells : ℕ) : Ty
 first_rows : (p : PlacedView) → IsPlaced p → placed_rows p ≡ row_of p 0 ∷ drop 1 (placed_rows p)
 first_rows p known =
     let two = known.net_keeps.two_rows in
-    sym (whole (placed_rows p)) ∙ rows_from p.net.rows p.slots known.seated 0 1 (omega arith) (omega arith)
-  where
-    whole : (xs : List PlacedRow) → drop 0 xs ≡ xs
-    whole [] = refl
-    whole (x ∷ xs) = refl
+    sym (drop_0 (placed_rows p)) ∙ rows_from p known 0 1 (omega arith) (omega arith)
 
 pub up_to_first : (reach : ℕ) (p : PlacedView) (size rows cells : ℕ) → IsPlaced p → size ≡ length (row_of p 0).cells → rows ≡ 0 + 1 → AreWithin 0 (size ∷ []) 1 cells
     → AreUpTo reach p 0 1 rows cells
@@ -153,7 +127,7 @@ module _ (reach : ℕ) (p : PlacedView) (known : IsPlaced p) (k next after rows 
   split_next : sizes_of (rows_above reach (row_of p k) (drop next (placed_rows p)))
       ≡ channel_sizes reach (row_of p k) (row_of p next) ++ sizes_of (rows_above reach (row_of p next) (drop after (placed_rows p)))
   split_next =
-      ap (λ (l : List PlacedRow). sizes_of (rows_above reach (row_of p k) l)) (rows_from p.net.rows p.slots known.seated next after e lt)
+      ap (λ (l : List PlacedRow). sizes_of (rows_above reach (row_of p k) l)) (rows_from p known next after e lt)
       ∙ sizes_above reach (row_of p k) (row_of p next) (drop after (placed_rows p))
 
   pub up_to_next : (more rows' cells' : ℕ) → AreWithin cells (channel_sizes reach (row_of p k) (row_of p next)) more cells' → rows' ≡ rows + more

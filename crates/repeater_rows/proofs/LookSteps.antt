@@ -1,7 +1,6 @@
 -- One window of a round is put in order, the next one that holds a wire.
-use Rattle.std.proofs.Common.{◌≡◌, ℕ, zero, suc, ◌+◌, ◌-◌, ◌*◌, ◌/◌, ◌%◌, ◌^◌, ◌<◌, ◌≤◌, min, Bool, true, false, List, [], ◌∷◌, ◌++◌, length, take, drop, get_or, refl, sym, ap, ◌∙◌, subst, arith, append_assoc}
+use Rattle.std.proofs.Common.{◌≡◌, ℕ, zero, suc, ◌+◌, ◌-◌, ◌*◌, ◌/◌, ◌%◌, ◌^◌, ◌<◌, ◌≤◌, min, Bool, true, List, [], ◌∷◌, ◌++◌, length, take, drop, get_or, refl, sym, ap, ◌∙◌, subst, arith, append_assoc}
 use Rattle.std.proofs.lemmas.List.{take-append-drop, length-append, length-drop, length-take, drop-drop, get_or-drop, get_or-take}
-use Rattle.std.proofs.Math.Seq.{take-add}
 use Rattle.std.proofs.Math.Nat.{div-add-mod, mul_comm}
 use Rattle.rowed.specs.Sorting.{passing}
 use Rattle.rowed.specs.SortingLaws.{by_key_passing, by_key_length}
@@ -10,10 +9,7 @@ use Rattle.repeater_rows.specs.Repeaters.{carrier_slots}
 use Rattle.repeater_rows.specs.Local.{UnwiredRise}
 use Rattle.repeater_rows.specs.Looking.{sorted_at, ordered_from, IsLooked}
 use Rattle.repeater_rows.proofs.WindowOrder.{cut_front, cut_back, windows_skip, windows_first, windows_up, carriers_append, carriers_count, carriers_none, none_carried, NoneWired, FirstAt, first_carrier, none_before, some_passing, rise_up, rise_front, rise_back}
-
-drop_0 : {X : Type 0} (xs : List X) → drop 0 xs ≡ xs
-drop_0 [] = refl
-drop_0 (x ∷ xs) = refl
+use Rattle.repeater_rows.proofs.Lists.{drop_0}
 
 -- the carrier of the next window
 pub next_carrier : (wired : ℕ → Bool) (size : ℕ) (whole carriers : List ℕ) (done : ℕ) (to slots : List ℕ)

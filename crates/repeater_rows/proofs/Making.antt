@@ -1,48 +1,24 @@
 -- The rows of the plan, made one after another.
-use Rattle.std.proofs.Common.{◌≡◌, ℕ, zero, suc, ◌+◌, ◌-◌, ◌*◌, ◌<◌, ◌≤◌, ◌==◌, Bool, true, false, not, ◌||◌, List, [], ◌∷◌, ◌++◌, length, map, drop, get_or, drop-cons, Option, Some, None, refl, sym, ap, ◌∙◌, subst, append_assoc, arith}
+use Rattle.std.proofs.Common.{◌≡◌, ℕ, suc, ◌+◌, ◌-◌, ◌*◌, ◌<◌, ◌≤◌, ◌==◌, Bool, true, false, not, ◌||◌, List, [], ◌∷◌, ◌++◌, length, map, drop, Option, Some, None, refl, sym, ap, ◌∙◌, subst, append_assoc, arith}
 use Rattle.std.specs.List.{All}
 use Rattle.std.proofs.lemmas.Bool.{eq-eqb}
-use Rattle.std.proofs.lemmas.List.{append-nil, map-append}
+use Rattle.std.proofs.lemmas.List.{append-nil, map-append, drop_all}
 use Rattle.std.proofs.lemmas.List.Elements.{All-from_recursion}
 use Rattle.rowed.specs.declared.source.Source.{Source}
 use Rattle.rowed.specs.declared.row_cell.RowCell.{RowCell}
-use Rattle.rowed.specs.RowNets.{row_at}
-use Rattle.rowed.specs.Slots.{EachSeated, slot_limit}
-use Rattle.rowed.specs.PlacedNets.{PlacedRow, PlacedView, IsPlaced, paired, placed_rows}
+use Rattle.rowed.specs.Slots.{slot_limit}
+use Rattle.rowed.specs.PlacedNets.{PlacedRow, PlacedView, IsPlaced, placed_rows}
 use Rattle.rowed.specs.Channels.{Link, pin_link, links, channel_links, channel_slots}
 use Rattle.repeater_rows.specs.Destinations.{is_end, destinations}
 use Rattle.repeater_rows.specs.Rounds.{is_far, round, rounds, all_rounds, window_size}
-use Rattle.repeater_rows.specs.Repeaters.{buffer_from, carried, carrier_slots, added, source_to, source_above, added_rows, last_source, fed_from, cell_from, cells_from, channel_rounds, channel_rows}
+use Rattle.repeater_rows.specs.Repeaters.{buffer_from, carried, carrier_slots, added, source_to, source_above, added_rows, last_source, fed_from, cell_from, cells_from, channel_rounds, channel_rows, rows_above, repeated_rows}
 use Rattle.repeater_rows.specs.RowsAboveLaws.{cells_of, slots_in}
 use Rattle.repeater_rows.specs.NeighbourLaws.{row_of, seated_at, slots_below}
 use Rattle.repeater_rows.specs.Opening.{AreDestinations}
 use Rattle.repeater_rows.specs.Counts.{rounds_left}
-use Rattle.repeater_rows.specs.Makes.{SameSources, AreMade}
-
--- the rows of a placed net, by number
-paired_at : (rows : List (List RowCell)) (slots : List (List ℕ)) → EachSeated rows slots → (k : ℕ) (none : PlacedRow) → k < length rows
-    → get_or (paired rows slots) k none ≡ record { cells = row_at rows k; slots = get_or slots k [] }
-paired_at [] slots seated k none lt = absurd (omega arith)
-paired_at (row ∷ rows) [] seated k none lt = absurd seated
-paired_at (row ∷ rows) (s ∷ slots) seated zero none lt = refl
-paired_at (row ∷ rows) (s ∷ slots) seated (suc k) none lt = paired_at rows slots seated.1 k none (omega arith)
-
-paired_long : (rows : List (List RowCell)) (slots : List (List ℕ)) → EachSeated rows slots → length (paired rows slots) ≡ length rows
-paired_long [] slots seated = refl
-paired_long (row ∷ rows) [] seated = absurd seated
-paired_long (row ∷ rows) (s ∷ slots) seated = ap suc (paired_long rows slots seated.1)
-
-pub placed_long : (p : PlacedView) → IsPlaced p → length (placed_rows p) ≡ length p.net.rows
-placed_long p known = paired_long p.net.rows p.slots known.seated
-
-pub placed_at : (p : PlacedView) → IsPlaced p → (k : ℕ) (none : PlacedRow) → k < length p.net.rows → get_or (placed_rows p) k none ≡ row_of p k
-placed_at p known k none lt = paired_at p.net.rows p.slots known.seated k none lt
-
--- row k and the rows above it
-pub rows_from : (p : PlacedView) → IsPlaced p → (k : ℕ) → k < length p.net.rows → drop k (placed_rows p) ≡ row_of p k ∷ drop (suc k) (placed_rows p)
-rows_from p known k lt =
-    drop-cons (placed_rows p) k (row_of p k) (omega (arith, placed_long p known))
-    ∙ ap (λ (row : PlacedRow). row ∷ drop (suc k) (placed_rows p)) (placed_at p known k (row_of p k) lt)
+use Rattle.repeater_rows.specs.Makes.{SameSources, AreMade, rows_left, AreMadeTo}
+use Rattle.repeater_rows.proofs.RoundsLeft.{rounds_stop, left_next}
+use Rattle.repeater_rows.proofs.Neighbours.{rows_from, placed_long}
 
 -- a row depends on the sources of its wires
 same_buffers : (wired : ℕ → Bool) (f g : ℕ → Source) → SameSources wired f g → (to : List ℕ)
@@ -55,22 +31,14 @@ same_buffers wired f g same (d ∷ to) = go (wired d) refl (same_buffers wired f
     go true q rest = rw q (ap (λ (s : Source). buffer_from s ∷ map (λ (d : ℕ). buffer_from (f d)) (carried wired to)) (same d q) ∙ ap (λ (l : List RowCell). buffer_from (g d) ∷ l) rest)
     go false q rest = rw q rest
 
-pub same_added : (wired : ℕ → Bool) (f g : ℕ → Source) → SameSources wired f g → (tos : List (List ℕ)) → added_rows wired f tos ≡ added_rows wired g tos
+same_added : (wired : ℕ → Bool) (f g : ℕ → Source) → SameSources wired f g → (tos : List (List ℕ)) → added_rows wired f tos ≡ added_rows wired g tos
 same_added wired f g same [] = refl
 same_added wired f g same (to ∷ tos) =
     ap (λ (l : List RowCell). record { cells = l; slots = carrier_slots wired 0 to } ∷ added_rows wired (source_above wired to) tos) (same_buffers wired f g same to)
 
-pub same_last : (wired : ℕ → Bool) (f g : ℕ → Source) → SameSources wired f g → (tos : List (List ℕ)) → SameSources wired (last_source wired f tos) (last_source wired g tos)
+same_last : (wired : ℕ → Bool) (f g : ℕ → Source) → SameSources wired f g → (tos : List (List ℕ)) → SameSources wired (last_source wired f tos) (last_source wired g tos)
 same_last wired f g same [] d w = same d w
 same_last wired f g same (to ∷ tos) d w = refl
-
-rounds_stop : (reach : ℕ) (wired : ℕ → Bool) (most : ℕ) (first : Bool) (to : List ℕ) → is_far reach wired 0 to ≡ false → rounds reach wired most first to ≡ []
-rounds_stop reach wired zero first to near = refl
-rounds_stop reach wired (suc most) first to near = rw (near, rounds) refl
-
-rounds_go : (reach : ℕ) (wired : ℕ → Bool) (most : ℕ) (first : Bool) (to : List ℕ) → is_far reach wired 0 to ≡ true
-    → rounds reach wired (suc most) first to ≡ round (window_size reach) first to ∷ rounds reach wired most (not first) (round (window_size reach) first to)
-rounds_go reach wired most first to far = rw (far, rounds) refl
 
 -- before the first round
 pub made_first : (reach slots : ℕ) (wired : ℕ → Bool) (source : ℕ → Source) (to carriers : List ℕ) (cells : List (List RowCell)) (row_slots : List (List ℕ))
@@ -115,17 +83,6 @@ module _ (reach slots : ℕ) (wired : ℕ → Bool) (all_cells : List (List RowC
       made_all (ap (λ (k : ℕ). rounds reach wired k first to) zero_left)
 
 -- one round more
-left_next : (reach slots done next count : ℕ) (wired : ℕ → Bool) (first : Bool) (to to' : List ℕ) → length to ≡ slots → length to' ≡ slots → count ≡ slots
-    → done < count * count → next ≡ done + 1 → is_far reach wired 0 to ≡ true → to' ≡ round (window_size reach) first to
-    → rounds_left reach wired done first to ≡ to' ∷ rounds_left reach wired next (not first) to'
-left_next reach slots done next count wired first to to' long long' is lt e far round_is =
-    let square : length to * length to ≡ count * count = ap (λ (k : ℕ). k * k) (long ∙ sym is) in
-    let square' : length to' * length to' ≡ count * count = ap (λ (k : ℕ). k * k) (long' ∙ sym is) in
-    let fuel : length to * length to - done ≡ suc (length to' * length to' - next) = omega (arith, square, square', lt, e) in
-    ap (λ (k : ℕ). rounds reach wired k first to) fuel
-    ∙ rounds_go reach wired (length to' * length to' - next) first to far
-    ∙ ap (λ (t : List ℕ). t ∷ rounds reach wired (length to' * length to' - next) (not first) t) (sym round_is)
-
 pub made_step : (reach slots : ℕ) (wired : ℕ → Bool) (all_cells : List (List RowCell)) (all_slots : List (List ℕ)) (last : ℕ → Source)
     (done next count : ℕ) (first : Bool) (source source' : ℕ → Source) (to carriers to' carriers' : List ℕ) (cells cells' : List (List RowCell)) (row_slots row_slots' : List (List ℕ))
     (row : List RowCell) (seats : List ℕ) → AreMade reach slots wired all_cells all_slots last done first source to carriers cells row_slots
@@ -197,7 +154,7 @@ same_rest : (lower : List ℕ) (slot : ℕ) (o : Option Source) (more : List Lin
     → SameSources (is_end more) f g
 same_rest lower slot o more f g same d e = same d (end_more lower slot o more d e)
 
-pub same_cells : (lower : List ℕ) (f g : ℕ → Source) (cells : List RowCell) (slots : List ℕ) → SameSources (is_end (links lower cells slots)) f g
+same_cells : (lower : List ℕ) (f g : ℕ → Source) (cells : List RowCell) (slots : List ℕ) → SameSources (is_end (links lower cells slots)) f g
     → cells_from f cells slots ≡ cells_from g cells slots
 same_cells lower f g [] slots same = refl
 same_cells lower f g (cell ∷ cells) [] same = refl
@@ -275,3 +232,73 @@ slots_fit_at p k slots known lt is =
     subst (λ (l : List ℕ). All (λ (slot : ℕ). slot < slot_limit) l) (sym is)
     (All-from_recursion (λ (slot : ℕ). slot < slot_limit) (row_of p k).slots
     (slots_below 0 (row_of p k).cells (row_of p k).slots (seated_at p.net.rows p.slots known.seated k lt)))
+
+-- one channel after another
+channel_more : (lower upper : PlacedRow) (tos : List (List ℕ)) (more : List PlacedRow) → channel_rows lower upper tos more ≡ channel_rows lower upper tos [] ++ more
+channel_more lower upper tos more =
+    let ws = channel_links lower upper in
+    sym (append_assoc (added_rows (is_end ws) (source_to ws) tos)
+    (record { cells = cells_from (last_source (is_end ws) (source_to ws) tos) upper.cells upper.slots; slots = upper.slots } ∷ []) more)
+
+pub made_from : (reach : ℕ) (net : PlacedView) (cells row : List RowCell) (slots seats : List ℕ) (rows rows' : List (List RowCell)) (row_slots row_slots' : List (List ℕ))
+    → IsPlaced net → row ≡ cells → cells ≡ (row_of net 0).cells → seats ≡ slots → slots ≡ (row_of net 0).slots
+    → rows ≡ [] → rows' ≡ rows ++ (row ∷ []) → row_slots ≡ [] → row_slots' ≡ row_slots ++ (seats ∷ []) → AreMadeTo reach net 1 rows' row_slots'
+made_from reach net cells row slots seats rows rows' row_slots row_slots' known row_is cells_is seats_is slots_is none more none_slots more_slots =
+    let all : row_of net 0 ∷ drop 1 (placed_rows net) ≡ placed_rows net =
+    sym (rows_from net known 0 1 (omega arith) (omega (arith, known.net_keeps.two_rows))) ∙ drop_none (placed_rows net) in
+    record {
+      some = omega arith;
+      rows = ap (λ (l : List (List RowCell)). l ++ cells_of (rows_left reach net 1)) (more ∙ ap (λ (l : List (List RowCell)). l ++ (row ∷ [])) none)
+          ∙ ap (λ (r : List RowCell). r ∷ cells_of (rows_left reach net 1)) (row_is ∙ cells_is)
+          ∙ ap (λ (rows : List PlacedRow). cells_of (repeated_rows reach rows)) all;
+      seats = ap (λ (l : List (List ℕ)). l ++ slots_in (rows_left reach net 1)) (more_slots ∙ ap (λ (l : List (List ℕ)). l ++ (seats ∷ [])) none_slots)
+          ∙ ap (λ (r : List ℕ). r ∷ slots_in (rows_left reach net 1)) (seats_is ∙ slots_is)
+          ∙ ap (λ (rows : List PlacedRow). slots_in (repeated_rows reach rows)) all;
+    }
+  where
+    drop_none : (rows : List PlacedRow) → drop 0 rows ≡ rows
+    drop_none [] = refl
+    drop_none (row ∷ rows) = refl
+
+pub made_channel : (reach : ℕ) (net : PlacedView) (k lower upper next : ℕ) (rows rows' : List (List RowCell)) (row_slots row_slots' : List (List ℕ))
+    → IsPlaced net → k < length net.net.rows → lower ≡ k - 1 → upper ≡ lower + 1 → next ≡ k + 1 → AreMadeTo reach net k rows row_slots
+    → rows' ≡ rows ++ cells_of (channel_rows (row_of net lower) (row_of net upper) (channel_rounds reach (row_of net lower) (row_of net upper)) [])
+    → row_slots' ≡ row_slots ++ slots_in (channel_rows (row_of net lower) (row_of net upper) (channel_rounds reach (row_of net lower) (row_of net upper)) [])
+    → AreMadeTo reach net next rows' row_slots'
+made_channel reach net k lower upper next rows rows' row_slots row_slots' known lt below above e made more more_slots =
+    let some = made.some in
+    let upper_is : upper ≡ k = omega arith in
+    let last_is : next - 1 ≡ k = omega arith in
+    let next_is : next ≡ suc k = omega arith in
+    let here : PlacedRow = row_of net k in
+    let channel = λ (i j : ℕ). channel_rows (row_of net i) (row_of net j) (channel_rounds reach (row_of net i) (row_of net j)) [] in
+    let left : rows_left reach net k ≡ channel lower upper ++ rows_left reach net next =
+    ap (rows_above reach (row_of net (k - 1))) (rows_from net known k (suc k) (omega arith) lt)
+    ∙ channel_more (row_of net (k - 1)) here (channel_rounds reach (row_of net (k - 1)) here) (rows_above reach here (drop (suc k) (placed_rows net)))
+    ∙ ap (λ (i : ℕ). channel i k ++ rows_above reach here (drop (suc k) (placed_rows net))) (sym below)
+    ∙ ap (λ (i : ℕ). channel lower i ++ rows_above reach here (drop (suc k) (placed_rows net))) (sym upper_is)
+    ∙ ap (λ (i : ℕ). channel lower upper ++ rows_above reach (row_of net i) (drop (suc k) (placed_rows net))) (sym last_is)
+    ∙ ap (λ (i : ℕ). channel lower upper ++ rows_above reach (row_of net (next - 1)) (drop i (placed_rows net))) (sym next_is) in
+    record {
+      some = omega arith;
+      rows = ap (λ (l : List (List RowCell)). l ++ cells_of (rows_left reach net next)) more
+          ∙ append_assoc rows (cells_of (channel lower upper)) (cells_of (rows_left reach net next))
+          ∙ ap (λ (l : List (List RowCell)). rows ++ l) (sym (map-append (λ (row : PlacedRow). row.cells) (channel lower upper) (rows_left reach net next)))
+          ∙ ap (λ (l : List PlacedRow). rows ++ cells_of l) (sym left) ∙ made.rows;
+      seats = ap (λ (l : List (List ℕ)). l ++ slots_in (rows_left reach net next)) more_slots
+          ∙ append_assoc row_slots (slots_in (channel lower upper)) (slots_in (rows_left reach net next))
+          ∙ ap (λ (l : List (List ℕ)). row_slots ++ l) (sym (map-append (λ (row : PlacedRow). row.slots) (channel lower upper) (rows_left reach net next)))
+          ∙ ap (λ (l : List PlacedRow). row_slots ++ slots_in l) (sym left) ∙ made.seats;
+    }
+
+-- all channels
+module _ (reach : ℕ) (net : PlacedView) (k : ℕ) (rows : List (List RowCell)) (row_slots : List (List ℕ)) (known : IsPlaced net) (made : AreMadeTo reach net k rows row_slots)
+    (le : length net.net.rows ≤ k) where
+  no_rows_left : rows_left reach net k ≡ []
+  no_rows_left = ap (rows_above reach (row_of net (k - 1))) (drop_all k (placed_rows net) (omega (arith, placed_long net known, le)))
+
+  pub all_cells : rows ≡ cells_of (repeated_rows reach (placed_rows net))
+  all_cells = sym (append-nil rows) ∙ ap (λ (l : List PlacedRow). rows ++ cells_of l) (sym no_rows_left) ∙ made.rows
+
+  pub all_seats : row_slots ≡ slots_in (repeated_rows reach (placed_rows net))
+  all_seats = sym (append-nil row_slots) ∙ ap (λ (l : List PlacedRow). row_slots ++ slots_in l) (sym no_rows_left) ∙ made.seats

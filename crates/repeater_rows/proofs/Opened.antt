@@ -1,16 +1,15 @@
 -- A channel as the code opens it: its arrays say what its wires do.
-use Rattle.std.proofs.Common.{◌≡◌, ℕ, zero, suc, ◌+◌, ◌<◌, ◌≤◌, ◌^◌, max, Bool, true, false, cond, not, eqb, ◌||◌, List, [], ◌∷◌, Option, Some, None, length, map, get_or, refl, sym, ap, ◌∙◌, subst, inl, inr, arith}
+use Rattle.std.proofs.Common.{◌≡◌, ℕ, zero, suc, ◌+◌, ◌<◌, ◌≤◌, ◌^◌, Bool, true, false, not, eqb, List, [], ◌∷◌, Option, length, map, get_or, refl, sym, ap, ◌∙◌, subst, inl, inr, arith}
 use Rattle.std.specs.List.{filter, AllByRecursion}
-use Rattle.std.proofs.lemmas.List.{length-map, get_or-map, get_or_default}
+use Rattle.std.proofs.lemmas.List.{length-map}
 use Rattle.std.proofs.lemmas.Bool.{cases_lt, ne_eqb}
 use Rattle.circuit.specs.Gates.{valuation}
 use Rattle.rowed.specs.declared.source.Source.{Source}
-use Rattle.rowed.specs.Slots.{slot_limit, span_of}
 use Rattle.rowed.specs.PlacedNets.{PlacedRow}
-use Rattle.rowed.specs.Channels.{Link, links, channel_links, channel_slots}
+use Rattle.rowed.specs.Channels.{Link, channel_links, channel_slots}
 use Rattle.rowed.specs.Numbers.{numbers, IsOrder}
 use Rattle.rowed.specs.NumbersLaws.{length-numbers}
-use Rattle.repeater_rows.specs.Destinations.{destinations, end_from, is_end, completed, IsChannel}
+use Rattle.repeater_rows.specs.Destinations.{destinations, end_from, is_end, completed}
 use Rattle.repeater_rows.specs.Repeaters.{no_source, source_to, carrier_slots}
 use Rattle.repeater_rows.specs.Local.{UnwiredRise}
 use Rattle.repeater_rows.specs.LocalLaws.{destinations_rise}
@@ -18,7 +17,7 @@ use Rattle.repeater_rows.specs.OrderLaws.{destinations_length, destinations_orde
 use Rattle.repeater_rows.specs.WireLaws.{wired_below}
 use Rattle.repeater_rows.specs.Reading.{AreOf, spare_from, source_in}
 use Rattle.repeater_rows.specs.Opening.{AreNeighbours, AreDestinations}
-use Rattle.repeater_rows.proofs.Funs.{same_functions}
+use Rattle.repeater_rows.proofs.Lists.{same_functions}
 
 -- an array of a function's values, and what it says past its end
 value_at : {A : Type 0} (f : ℕ → A) (b n d : ℕ) (past : A) → d < n → get_or (map f (numbers b n)) d past ≡ f (b + d)

@@ -1,17 +1,17 @@
 -- Windows put in order one after another, those without a wire left out.
-use Rattle.std.proofs.Common.{◌≡◌, ℕ, zero, suc, ◌+◌, ◌-◌, ◌*◌, ◌/◌, ◌%◌, ◌<◌, ◌≤◌, min, Bool, true, false, cond, not, List, [], ◌∷◌, ◌++◌, length, take, drop, get_or, refl, sym, ap, ◌∙◌, subst, arith, append_assoc}
-use Rattle.std.specs.List.{filter, AllByRecursion}
-use Rattle.std.proofs.lemmas.List.{take-append-drop, length-append, length-drop, length-take, drop-drop}
+use Rattle.std.proofs.Common.{◌≡◌, ℕ, zero, suc, ◌+◌, ◌-◌, ◌*◌, ◌<◌, ◌≤◌, Bool, true, false, cond, not, List, [], ◌∷◌, ◌++◌, length, take, drop, get_or, refl, sym, ap, ◌∙◌, subst, arith, append_assoc}
+use Rattle.std.specs.List.{AllByRecursion}
+use Rattle.std.proofs.lemmas.List.{take-append-drop, length-drop, length-take}
 use Rattle.std.proofs.lemmas.List.Elements.{filter-append}
 use Rattle.std.proofs.Math.Seq.{take-append_seam, drop-append_seam, drop-cons}
-use Rattle.std.proofs.Math.Nat.{suc-mul, div-add-mod, mul_comm}
+use Rattle.std.proofs.Math.Nat.{suc-mul}
 use Rattle.std.specs.List.Sorted.{IsPermutation, IsSorted}
 use Rattle.std.specs.Ordering.{nat_cmp}
 use Rattle.std.proofs.lemmas.List.Sums.{length-filter}
 use Rattle.std.proofs.lemmas.List.Sorted.{sum_by-IsPermutation}
-use Rattle.rowed.specs.Sorting.{NotFalling, passing, by_key}
+use Rattle.rowed.specs.Sorting.{NotFalling, passing}
 use Rattle.rowed.specs.Numbers.{Same}
-use Rattle.rowed.specs.SortingLaws.{by_key_is, by_key_passing, by_key_length, by_key_in_order, by_key_same_key, same_in_order, not_falling_from_sort, passing-yes, passing-no}
+use Rattle.rowed.specs.SortingLaws.{by_key_is, by_key_in_order, by_key_same_key, same_in_order, not_falling_from_sort, passing-yes, passing-no}
 use Rattle.repeater_rows.specs.Rounds.{in_order, windows}
 use Rattle.repeater_rows.specs.Repeaters.{carrier_slots}
 use Rattle.repeater_rows.specs.Local.{unwired, UnwiredRise}

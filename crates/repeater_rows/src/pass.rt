@@ -7,7 +7,7 @@ ghost use Rattle.repeater_rows.specs.Passes.{AreRepeated, IsTooLarge, cell_limit
 use crate::count::count_rows;
 use crate::rows::repeat_rows;
 use aq_base::{List, Memory};
-use circuit::Pass;
+use circuit::{Answers, Pass};
 use rowed::{Placed, RowNet};
 use std::alloc::Global;
 
@@ -67,8 +67,8 @@ fn repeat_net(
     let made = repeat_rows(alloc, net, reach)?;
     Ok(Placed {
         net: RowNet {
-            inputs: net.net.inputs,
-            outputs: net.net.outputs,
+            inputs: net.input_count(),
+            outputs: net.output_count(),
             rows: List::from_vec(made.cells),
         },
         slots: List::from_vec(made.slots),

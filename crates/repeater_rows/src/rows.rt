@@ -1,5 +1,5 @@
 // The rows of the plan.
-ghost use Rattle.std.specs.Prelude.{◌≡◌, ℕ, ◌+◌, ◌<◌, ◌≤◌, ◌++◌, [], Bool, true, length, map, IfOk, OnOk};
+ghost use Rattle.std.specs.Prelude.{◌≡◌, ℕ, ◌+◌, ◌<◌, ◌≤◌, ◌++◌, [], true, length, map, IfOk, OnOk};
 ghost use Rattle.circuit.specs.Gates.{valuation};
 ghost use Rattle.rowed.specs.PlacedNets.{PlacedRow, IsPlaced, placed_rows};
 ghost use Rattle.repeater_rows.specs.Rounds.{all_rounds};

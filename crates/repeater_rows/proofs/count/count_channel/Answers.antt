@@ -1,6 +1,4 @@
 use Rattle.std.proofs.Common.{rules, ◌+◌}
-use Rattle.repeater_rows.specs.Sizes.{AreWithin, ArePast}
-use Rattle.repeater_rows.specs.Counts.{channel_sizes}
 use Rattle.repeater_rows.specs.NeighbourLaws.{row_of}
 use Rattle.repeater_rows.proofs.CountingRows.{channel_within, channel_past_last, channel_past_first, row_size, ok_so, err_so}
 use Rattle.repeater_rows.proofs.count.count_channel.Goals as goal

@@ -1,4 +1,4 @@
-use Rattle.std.proofs.Common.{rules, arith, refl, ◌≡◌, ◌<◌, ◌≤◌, ◌+◌, ◌-◌, ℕ, length, subst, sym}
+use Rattle.std.proofs.Common.{rules, arith, refl, ◌≡◌, ◌<◌, ◌+◌, ◌-◌, ℕ, length, subst}
 use Rattle.repeater_rows.specs.Sizes.{AreWithin, ArePast}
 use Rattle.repeater_rows.specs.Counts.{channel_sizes}
 use Rattle.repeater_rows.specs.NeighbourLaws.{row_of}
