@@ -68,8 +68,12 @@ fn output(number: u32, source: Source) -> RowCell
 }
 
 fn majority(a: u32, b: u32, c: u32) -> RowCell
-    ensures { result ≡ record examples.zero_cell { kind = kinds.Majority; source0 = Some (examples.from_cell a);
-        source1 = Some (examples.from_cell b); source2 = Some (examples.from_cell c) } }
+    ensures { result ≡ record examples.zero_cell {
+      kind = kinds.Majority;
+      source0 = Some (examples.from_cell a);
+      source1 = Some (examples.from_cell b);
+      source2 = Some (examples.from_cell c);
+    } }
 {
     RowCell {
         kind: CellKind::Majority,
@@ -87,12 +91,7 @@ fn list<T: Copy, const N: usize>(alloc: Global, items: [T; N]) -> Result<List<T>
 }
 
 // The net of these rows and slots.
-fn placed(
-    inputs: u32,
-    outputs: u32,
-    rows: Vec<List<RowCell>>,
-    slots: Vec<List<u32>>,
-) -> Placed
+fn placed(inputs: u32, outputs: u32, rows: Vec<List<RowCell>>, slots: Vec<List<u32>>) -> Placed
     requires { IsPlaced (record { net = record { inputs = inputs; outputs = outputs; rows = rows.items }; slots = slots.items }) }
 {
     Placed {
@@ -142,7 +141,10 @@ fn forty(alloc: Global) -> Result<Vec<u32>, Memory>
 fn inputs(alloc: Global, numbers: &[u32]) -> Result<List<RowCell>, Memory>
     ensures { IfOk result (λ row. row ≡ map (λ (i : ℕ). examples.input i) numbers.now) }
 {
-    let row = numbers.iter().map(|i| input(*i)).collect(alloc)?;
+    let mut row = Vec::new(alloc);
+    for i in numbers {
+        row.push(input(*i))?;
+    }
     Ok(List::from_vec(row))
 }
 
@@ -150,10 +152,10 @@ fn inputs(alloc: Global, numbers: &[u32]) -> Result<List<RowCell>, Memory>
 fn outputs(alloc: Global, numbers: &[u32]) -> Result<List<RowCell>, Memory>
     ensures { IfOk result (λ row. row ≡ map (λ (i : ℕ). examples.output (39 - i) i) numbers.now) }
 {
-    let row = numbers
-        .iter()
-        .map(|i| output(*i, first(39u32.saturating_sub(*i))))
-        .collect(alloc)?;
+    let mut row = Vec::new(alloc);
+    for i in numbers {
+        row.push(output(*i, first(39u32.saturating_sub(*i))))?;
+    }
     Ok(List::from_vec(row))
 }
 
@@ -276,16 +278,17 @@ fn split_net(alloc: Global) -> Result<Placed, Memory> {
     Ok(placed(1, 2, rows, slots))
 }
 
-// The net with its repeaters.
-fn repeated(alloc: Global, net: &Placed, reach: u64) -> Result<Placed, RepeatRefusal>
-    requires { 2 ≤ reach }
-{
+// The net with its repeaters, at a reach of at least 2.
+fn repeated(alloc: Global, net: &Placed, reach: u64) -> Result<Placed, Memory> {
     let pass = RepeatPass {
-        reach,
+        reach: reach.max(2),
         height: 10_000,
         channel: 58_000,
     };
-    pass.run(alloc, net)
+    match pass.run(alloc, net) {
+        Ok(out) => Ok(out),
+        Err(_) => Err(Memory),
+    }
 }
 
 // Whether row r has these cells in these slots.
@@ -299,17 +302,16 @@ fn has_row(placed: &Placed, r: usize, cells: &[RowCell], slots: &[u32]) -> bool 
     row.as_slice() == cells && at.as_slice() == slots
 }
 
-// Whether the wire of a net from one slot to another has repeaters in these slots and no other rows.
+// Whether the repeaters of one wire, from one slot to another, stand in these slots.
 fn has_repeaters(net: &Placed, from: u16, between: &[u32], to: u16) -> bool {
     let mut right = has_row(net, 0, &[input(0)], &[u32::from(from)]);
-    let mut r = 1;
+    let mut rows = 1usize;
     for slot in between {
-        right = right && has_row(net, r, &[buffer(first(0))], &[*slot]);
-        r = r.saturating_add(1);
+        right = right && has_row(net, rows, &[buffer(first(0))], &[*slot]);
+        rows = rows.saturating_add(1);
     }
-    right
-        && has_row(net, r, &[output(0, first(0))], &[u32::from(to)])
-        && net.net.rows.len() == r.saturating_add(1)
+    let above = has_row(net, rows, &[output(0, first(0))], &[u32::from(to)]);
+    right && above && net.net.rows.len() == rows.saturating_add(1)
 }
 
 // How far the farthest wire moves that goes to the first pin of a cell of a row, from a row with these slots.
@@ -334,4 +336,169 @@ fn farthest(net: &Placed) -> u32 {
         below = slots.as_slice();
     }
     most
+}
+
+// Whether there are so many rows, each of so many cells.
+fn has_sizes(net: &Placed, rows: usize, cells: usize) -> bool {
+    let each = net.net.rows.as_slice();
+    each.len() == rows && each.iter().all(|row| row.len() == cells)
+}
+
+#[test]
+fn forty_wires_that_turn_round(rt: HostRuntime) -> Result<(), Fail> {
+    let net = turned(rt.alloc())?;
+    let out = repeated(rt.alloc(), &net, 14)?;
+    assert!(rt; has_sizes(&out, 7, 40));
+    assert_eq!(rt; farthest(&net), 39);
+    assert_eq!(rt; farthest(&out), 13);
+    Ok(())
+}
+
+#[test]
+fn one_wire(rt: HostRuntime) -> Result<(), Fail> {
+    let wires: [(u64, u16, &[u32], u16); 17] = [
+        (14, 0, &[], 13),
+        (14, 0, &[13], 14),
+        (14, 13, &[], 0),
+        (14, 14, &[14, 7], 0),
+        (2, 1, &[], 1),
+        (2, 0, &[], 1),
+        (2, 0, &[1], 2),
+        (2, 2, &[2, 1], 0),
+        (3, 0, &[], 2),
+        (3, 0, &[1], 3),
+        (4, 0, &[3, 5, 7], 9),
+        (4, 9, &[8, 6, 4, 2], 0),
+        (5, 0, &[], 4),
+        (5, 0, &[3], 5),
+        (5, 4, &[], 0),
+        (5, 5, &[4], 0),
+        (u64::MAX, u16::MAX, &[], 0),
+    ];
+    for (reach, from, between, to) in wires {
+        let net = wire(rt.alloc(), from, to)?;
+        let out = repeated(rt.alloc(), &net, reach)?;
+        assert!(rt;
+            has_repeaters(&out, from, between, to),
+            "reach {reach}, {from} to {to}"
+        );
+    }
+    Ok(())
+}
+
+#[test]
+fn wires_of_an_and(rt: HostRuntime) -> Result<(), Fail> {
+    let net = and_net(rt.alloc())?;
+    let out = repeated(rt.alloc(), &net, 2)?;
+    let slots = [0, 1, 2];
+    let first_row = [buffer(first(1)), buffer(first(0)), buffer(first(2))];
+    let second_row = [buffer(first(0)), buffer(first(2)), buffer(first(1))];
+    assert!(rt; has_row(&out, 0, &[input(0), zero(), input(1)], &slots));
+    assert!(rt; has_row(&out, 1, &first_row, &slots));
+    assert!(rt; has_row(&out, 2, &second_row, &slots));
+    assert!(rt; has_row(&out, 3, &[majority(1, 0, 2)], &[0]));
+    assert!(rt; has_row(&out, 4, &[output(0, first(0))], &[0]));
+    assert_eq!(rt; out.net.rows.len(), 5);
+    Ok(())
+}
+
+// The destinations are 7, 5, (1), (3), (4), (6), 0, 2, then (1), (3), 5, 7, 0, 2, (4), (6), and then (1), (3), 0, 2, 5,
+// 7, (4), (6), those without a wire in parentheses.
+#[test]
+fn slots_between_wires(rt: HostRuntime) -> Result<(), Fail> {
+    let net = four_wires(rt.alloc())?;
+    let out = repeated(rt.alloc(), &net, 4)?;
+    let slots = [2, 3, 4, 5];
+    let one = buffer(first(0));
+    let two = buffer(first(1));
+    let three = buffer(first(2));
+    let four = buffer(first(3));
+    assert!(rt; has_row(&out, 1, &[two, one, three, four], &slots));
+    assert!(rt; has_row(&out, 2, &[three, four, one, two], &slots));
+    let above = [
+        output(0, first(0)),
+        output(1, first(1)),
+        output(2, first(2)),
+        output(3, first(3)),
+    ];
+    assert!(rt; has_row(&out, 3, &above, &[0, 2, 5, 7]));
+    assert_eq!(rt; out.net.rows.len(), 4);
+    Ok(())
+}
+
+#[test]
+fn wires_of_a_splitter(rt: HostRuntime) -> Result<(), Fail> {
+    let net = split_net(rt.alloc())?;
+    let out = repeated(rt.alloc(), &net, 2)?;
+    assert!(rt; has_row(&out, 1, &[splitter()], &[0]));
+    assert!(rt; has_row(&out, 2, &[buffer(second(0)), buffer(first(0))], &[0, 1]));
+    assert!(rt;
+        has_row(
+            &out,
+            3,
+            &[output(0, first(0)), output(1, first(1))],
+            &[0, 2]
+        )
+    );
+    assert_eq!(rt; out.net.rows.len(), 4);
+    Ok(())
+}
+
+// The number of rows with which the net is too tall at a reach of 14; 0 if it isn't, and 1 for another refusal.
+fn too_tall(alloc: Global, net: &Placed, height: u64, channel: u64) -> u64 {
+    let pass = RepeatPass {
+        reach: 14,
+        height,
+        channel,
+    };
+    match pass.run(alloc, net) {
+        Ok(_) => 0,
+        Err(RepeatRefusal::TooTall { rows }) => rows,
+        Err(_) => 1,
+    }
+}
+
+#[test]
+fn two_rows_are_as_tall_as_may_be(rt: HostRuntime) -> Result<(), Fail> {
+    let net = wire(rt.alloc(), 0, 13)?;
+    for (height, channel, rows) in [
+        (0, 0, 0),
+        (1_000_000_000, 147_483_647, 0),
+        (1_000_000_000, 147_483_648, 2),
+        (0, 2_147_483_647, 0),
+        (0, 2_147_483_648, 2),
+        (1_073_741_823, 1, 0),
+        (1_073_741_823, 2, 2),
+        (1_073_741_824, 0, 2),
+        (u64::MAX, 0, 2),
+        (0, u64::MAX, 2),
+        (u64::MAX, u64::MAX, 2),
+    ] {
+        assert_eq!(rt;
+            too_tall(rt.alloc(), &net, height, channel),
+            rows,
+            "at {height}, {channel}"
+        );
+    }
+    Ok(())
+}
+
+#[test]
+fn rows_of_repeaters_count(rt: HostRuntime) -> Result<(), Fail> {
+    let net = wire(rt.alloc(), 0, 14)?;
+    for (height, channel, rows) in [
+        (700_000_001, 23_741_822, 0),
+        (700_000_001, 23_741_823, 3),
+        (700_000_002, 23_741_822, 3),
+        (0, 1_073_741_823, 0),
+        (0, 1_073_741_824, 3),
+        (u64::MAX, u64::MAX, 3),
+    ] {
+        assert_eq!(rt;
+            too_tall(rt.alloc(), &net, height, channel),
+            rows,
+            "at {height}, {channel}"
+        );
+    }
+    Ok(())
 }

@@ -16,6 +16,7 @@ net = record {
 }
 
 pub placed-requires : goal.placed-requires
+unfolding net
 placed-requires c =
     subst (λ (rows : List (List RowCell)). IsPlaced (record { net = record { inputs = 4; outputs = 4; rows = rows }; slots = c.in_ok-slots.slots.items }))
     (sym c.in_ok-rows.ensures)

@@ -1,4 +1,4 @@
-use Rattle.std.proofs.Common.{refl, sym, ap, subst, ◌∙◌, List, ◌∷◌, [], ℕ, tt}
+use Rattle.std.proofs.Common.{refl, sym, ap, subst, ◌∙◌, List, ◌∷◌, [], ℕ, arith}
 use Rattle.rowed.specs.declared.row_cell.RowCell.{RowCell}
 use Rattle.rowed.specs.RowNets.{RowView}
 use Rattle.rowed.specs.PlacedNets.{IsPlaced, PlacedView}
@@ -13,6 +13,7 @@ net : RowView
 net = record { inputs = 1; outputs = 1; rows = rows }
 
 pub placed-requires : goal.placed-requires
+unfolding net rows
 placed-requires c =
     subst (λ (rs : List (List RowCell)). IsPlaced (record { net = record { inputs = 1; outputs = 1; rows = rs }; slots = c.in_ok-slots.slots.items }))
     (sym c.in_ok-rows.ensures)
