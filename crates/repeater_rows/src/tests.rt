@@ -1,5 +1,5 @@
 // Nets whose repeaters are worked by hand, and nets that are as tall as may be.
-ghost use Rattle.std.specs.Prelude.{◌≡◌, ◌-◌, ◌≤◌, ◌∷◌, [], ℕ, IfOk, map};
+ghost use Rattle.std.specs.Prelude.{◌≡◌, ◌-◌, ◌∷◌, [], ℕ, IfOk, map};
 ghost use Rattle.circuit.specs.declared.cell_kind.CellKind.TheVariants as kinds;
 ghost use Rattle.rowed.specs.Numbers.{numbers};
 ghost use Rattle.rowed.specs.PlacedNets.{IsPlaced};

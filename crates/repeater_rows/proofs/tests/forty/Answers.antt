@@ -1,4 +1,4 @@
-use Rattle.std.proofs.Common.{◌≡◌, ◌+◌, ◌++◌, ◌∷◌, [], List, ℕ, zero, suc, refl, sym, ap, ◌∙◌, arith}
+use Rattle.std.proofs.Common.{◌≡◌, ◌+◌, ◌++◌, ◌∷◌, [], List, ℕ, zero, suc, sym, ap, ◌∙◌, arith}
 use Rattle.rowed.specs.Numbers.{numbers}
 use Rattle.repeater_rows.proofs.tests.forty.Goals as goal
 
