@@ -9,6 +9,8 @@ mod laws;
 mod pass;
 mod pins;
 mod rows;
+#[cfg(test)]
+mod tests;
 mod windows;
 
 pub use laws::{
