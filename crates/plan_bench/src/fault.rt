@@ -1,0 +1,48 @@
+// Why a netlist was not laid out.
+use aq_base::{LoadRefusal, Memory};
+use blif_read::BlifFault;
+use cell_library::LibraryFault;
+use level_balance::LevelRefusal;
+use row_place::PlaceRefusal;
+use std::alloc::{AllocError, AllocFailed};
+use std::io;
+use thiserror::Error;
+
+/// Why a netlist was not laid out.
+#[derive(Debug, Drop, Error)]
+pub enum Fault {
+    #[error("usage: plan_bench, or plan_bench NET LIB")]
+    Usage,
+    #[error("{name}: {refusal}")]
+    File { name: String, refusal: LoadRefusal },
+    #[error("netlist: {0:?}")]
+    Netlist(BlifFault),
+    #[error("library: {0:?}")]
+    Library(LibraryFault),
+    #[error("level: {0:?}")]
+    Level(#[from] LevelRefusal),
+    #[error("place: {0:?}")]
+    Place(#[from] PlaceRefusal),
+    #[error("{0}")]
+    System(#[from] io::Error),
+    #[error("out of memory")]
+    Memory,
+}
+
+impl From<Memory> for Fault {
+    fn from(_: Memory) -> Self {
+        Fault::Memory
+    }
+}
+
+impl From<AllocError> for Fault {
+    fn from(_: AllocError) -> Self {
+        Fault::Memory
+    }
+}
+
+impl<T: Drop> From<AllocFailed<T>> for Fault {
+    fn from(_: AllocFailed<T>) -> Self {
+        Fault::Memory
+    }
+}
