@@ -1,0 +1,12 @@
+pub mod Lists
+pub mod Reading
+pub mod WindowOrder
+pub mod LookSteps
+pub mod Opened
+pub mod ChannelSteps
+pub mod RoundsLeft
+pub mod Counting
+pub mod Neighbours
+pub mod CountingRows
+pub mod Making
+pub mod Given

@@ -1,7 +1,11 @@
 -- What the pass of repeaters gives, and which nets it refuses.
 use Rattle.std.specs.Prelude.{◌≡◌, ℕ, ◌+◌, ◌-◌, ◌*◌, ◌<◌, ◌≤◌, List, [], ◌∷◌, length, Option, Some, None, cond, nat_le}
+use Rattle.std.proofs.Common.{sym, subst}
+use Rattle.circuit.specs.SameAnswers.{SameAnswers}
+use Rattle.rowed.specs.RowNets.{IsAnswer}
 use Rattle.rowed.specs.PlacedNets.{PlacedRow, PlacedView, IsPlaced, placed_rows}
 use Rattle.repeater_rows.specs.Repeaters.{repeated, repeated_rows}
+use Rattle.repeater_rows.specs.AnswerLaws.{repeaters_answer}
 use Rattle.repeater_rows.specs.declared.pass.RepeatRefusal.{RepeatRefusal}
 use Rattle.repeater_rows.specs.declared.pass.RepeatRefusal.TheVariants.{TooManyCells, TooTall, Memory}
 
@@ -37,3 +41,10 @@ IsTooLarge p reach height channel (TooTall rows) =
     × (height_limit < height_of height channel rows)
     × (rows ≡ length (repeated_rows reach (placed_rows p)))
 IsTooLarge p reach height channel Memory = ⊥
+
+-- the law of the pass
+pub keeps : (p : PlacedView) (reach height channel : ℕ) (out : PlacedView) → AreRepeated p reach height channel out
+    → SameAnswers p.net.inputs out.net.inputs p.net.outputs out.net.outputs (IsAnswer p.net) (IsAnswer out.net)
+keeps p reach height channel out given =
+    subst (λ (q : PlacedView). SameAnswers p.net.inputs q.net.inputs p.net.outputs q.net.outputs (IsAnswer p.net) (IsAnswer q.net)) (sym given.is_plan)
+    (repeaters_answer p reach given.net_keeps (subst IsPlaced given.is_plan given.out_keeps))

@@ -3,7 +3,7 @@
 
 mod below;
 mod keys;
-pub mod laws;
+mod laws;
 mod order;
 mod pass;
 mod plan;
@@ -12,4 +12,5 @@ mod spans;
 #[cfg(test)]
 mod tests;
 
+pub use laws::{places_answer, places_keep, places_rows, places_span, worked_places};
 pub use pass::{PlacePass, PlaceRefusal};
