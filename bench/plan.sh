@@ -1,7 +1,7 @@
 #!/bin/sh
-# How the times of the passes that lay a netlist out grow with the netlist: four shapes of netlists, each at half and at
-# whole size. Prints what each pass gave, its time in milliseconds, and the ratio, the whole against the half. A refused
-# pass has its line too, and its reason after it; no pass comes after it.
+# How the times of the passes that lay a netlist out grow with it: four shapes of netlists, at half and at whole size.
+# Prints for each pass what it gave and its time in milliseconds, the time at half the size, the ratio of the two, and
+# the ratio of what it gave, as of cells. A refusal has its line too, with the reason below; no pass comes after it.
 set -u
 here=$(cd -P "$(dirname "$0")/.." && pwd)
 program=$here/crates/plan_bench/out/plan_bench
@@ -45,10 +45,10 @@ rows() {
     awk -v n="$1" 'BEGIN { for (i = 0; i < n; i++) print "1-0-1-0- 1" }'
 }
 
-# Library A, and the same with wires of at most two slots.
+# Library A; for the last input with four tracks to a channel, so that a wire moves one slot and the rows stay low.
 library() {
     case $1 in
-        last_input) sed 's/^limit = .*/limit = 78000/' "$here/libraries/a.toml" ;;
+        last_input) sed 's/^capacity = .*/capacity = 4/' "$here/libraries/a.toml" ;;
         *) cat "$here/libraries/a.toml" ;;
     esac
 }
@@ -71,13 +71,19 @@ while read -r shape half whole; do
     measure "$shape" "$half" >"$work/half"
     measure "$shape" "$whole" >"$work/whole"
     awk -v shape="$shape" -v half="$half" -v whole="$whole" '
-        NR == FNR { before[$1] = $NF; next }
-        { ratio = before[$1] > 0 ? sprintf("%.2f", $NF / before[$1]) : "-"
-          printf "%s %s: %s; at %s: %s ms, ratio %s\n", shape, whole, $0, half, before[$1], ratio }' "$work/half" "$work/whole"
+        NR == FNR { time[$1] = $NF; count[$1] = $(NF - 2); next }
+        {
+            grown = count[$1] > 0 && $(NF - 2) > 0 ? sprintf("%.2f", $(NF - 2) / count[$1]) : "-"
+            slower = time[$1] > 0 ? sprintf("%.2f", $NF / time[$1]) : "-"
+            printf "%s %s: %s, at %s %s, ratio %s", shape, whole, $0, half, time[$1], slower
+            printf ", of what it gave %s\n", grown
+        }' "$work/half" "$work/whole"
     sed 's/^/    /' "$work/err"
 done <<SIZES
 chain 500000 1000000
 last_input 50000 100000
 adder 32 64
-rows 100 200
+adder 128 256
+rows 200 400
+rows 17500 35000
 SIZES

@@ -1,6 +1,6 @@
 -- The rows of a net have fewer than 2^64 cells together.
-use Rattle.std.proofs.Common.{◌≡◌, ℕ, ◌+◌, ◌*◌, ◌<◌, ◌≤◌, ◌^◌, List, [], length, arith, get_or, mul-le-mul_right}
-use Rattle.std.specs.List.{All, sum_by}
+use Rattle.std.proofs.Common.{ℕ, ◌*◌, ◌<◌, ◌≤◌, ◌^◌, List, [], length, arith, get_or}
+use Rattle.std.specs.List.{sum_by}
 use Rattle.std.proofs.lemmas.List.Elements.{All-from_get_or}
 use Rattle.std.proofs.lemmas.List.Sums.{sum_by-le}
 use Rattle.rowed.specs.declared.row_cell.RowCell.{RowCell}

@@ -1,6 +1,6 @@
 // The passes that lay a netlist out, each with a line about what it gave.
-ghost use Rattle.std.specs.Prelude.{◌≡◌, IfOk};
-ghost use Rattle.cell_library.specs.Reach.{slot_width_of};
+ghost use Rattle.std.specs.Prelude.{◌≡◌, ◌+◌, ◌*◌, IfOk};
+ghost use Rattle.cell_library.specs.Reach.{slot_width_of, reach_of};
 
 use crate::fault::Fault;
 use crate::size::Measured;
@@ -9,6 +9,7 @@ use cell_library::Library;
 use circuit::{Answers, Pass};
 use level_balance::LevelPass;
 use maj_mapping::MapPass;
+use repeater_rows::RepeatPass;
 use row_place::PlacePass;
 use std::fmt::Display;
 use std::io;
@@ -25,6 +26,21 @@ fn placing(cells: &Library) -> PlacePass
     }
 }
 
+/// The pass of repeaters for these cells. A channel is highest with wires on all tracks.
+#[tactic(auto, using(crate::proofs::CellSizes::channels))]
+fn repeating(cells: &Library) -> RepeatPass
+    ensures reach { result.reach ≡ reach_of cells.now }
+    ensures height { result.height ≡ cells.now.height }
+    ensures channel { result.channel ≡ (cells.now.capacity + 1) * cells.now.pitch }
+{
+    cells.known();
+    RepeatPass {
+        reach: cells.reach(),
+        height: cells.height(),
+        channel: (cells.capacity() + 1) * cells.pitch(),
+    }
+}
+
 /// Runs passes, and prints a line for each: its name, how much it gave and, where that is asked for, its time.
 #[derive(Drop)]
 pub struct Bench<'a, R> {
@@ -35,8 +51,9 @@ pub struct Bench<'a, R> {
 impl<R: AllocGlobal + Clock + Print> Bench<'_, R> {
     fn print(&self, name: &str, answer: &impl Display, took: Duration) -> io::Result<()> {
         if self.shows_time {
-            let milliseconds = took.as_millis();
-            println!(self.rt; "{name} {answer} ms {milliseconds}")
+            let whole = took.as_millis();
+            let thousandths = took.as_micros() % 1_000;
+            println!(self.rt; "{name} {answer} ms {whole}.{thousandths:03}")
         } else {
             println!(self.rt; "{name} {answer}")
         }
@@ -70,7 +87,8 @@ impl<R: AllocGlobal + Clock + Print> Bench<'_, R> {
         let mapping = MapPass::new(self.rt.alloc())?;
         let gates = self.run("map", &mapping, net)?;
         let rows = self.run("level", &LevelPass { three }, &gates)?;
-        let _placed = self.run("place", &placing(cells), &rows)?;
+        let placed = self.run("place", &placing(cells), &rows)?;
+        let _chip = self.run("repeat", &repeating(cells), &placed)?;
         Ok(())
     }
 }

@@ -3,6 +3,7 @@ use aq_base::{LoadRefusal, Memory};
 use blif_read::BlifFault;
 use cell_library::LibraryFault;
 use level_balance::LevelRefusal;
+use repeater_rows::RepeatRefusal;
 use row_place::PlaceRefusal;
 use std::alloc::{AllocError, AllocFailed};
 use std::io;
@@ -23,6 +24,8 @@ pub enum Fault {
     Level(#[from] LevelRefusal),
     #[error("place: {0:?}")]
     Place(#[from] PlaceRefusal),
+    #[error("repeat: {0:?}")]
+    Repeat(#[from] RepeatRefusal),
     #[error("{0}")]
     System(#[from] io::Error),
     #[error("out of memory")]
