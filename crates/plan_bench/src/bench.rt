@@ -21,9 +21,8 @@ fn placing(cells: &Library) -> PlacePass
     ensures { result.slot_width ≡ slot_width_of cells.now }
 {
     cells.known();
-    PlacePass {
-        slot_width: cells.columns() * cells.pitch(),
-    }
+    let slot_width = cells.columns() * cells.pitch();
+    PlacePass { slot_width }
 }
 
 /// The pass of repeaters for these cells. A channel is highest with wires on all tracks.
@@ -50,13 +49,11 @@ pub struct Bench<'a, R> {
 
 impl<R: AllocGlobal + Clock + Print> Bench<'_, R> {
     fn print(&self, name: &str, answer: &impl Display, took: Duration) -> io::Result<()> {
-        if self.shows_time {
-            let whole = took.as_millis();
-            let thousandths = took.as_micros() % 1_000;
-            println!(self.rt; "{name} {answer} ms {whole}.{thousandths:03}")
-        } else {
-            println!(self.rt; "{name} {answer}")
+        if !self.shows_time {
+            return println!(self.rt; "{name} {answer}");
         }
+        let (whole, rest) = (took.as_millis(), took.as_micros() % 1_000);
+        println!(self.rt; "{name} {answer} ms {whole}.{rest:03}")
     }
 
     /// What the pass gives. A refusal has its line too.
@@ -69,23 +66,17 @@ impl<R: AllocGlobal + Clock + Print> Bench<'_, R> {
         let start = Instant::now(self.rt)?;
         let answer = pass.run(self.rt.alloc(), from);
         let took = start.elapsed(self.rt)?;
-        match answer {
-            Ok(out) => {
-                self.print(name, &out.size(), took)?;
-                Ok(out)
-            }
-            Err(refusal) => {
-                self.print(name, &"refused", took)?;
-                Err(Fault::from(refusal))
-            }
+        match &answer {
+            Ok(out) => self.print(name, &out.size(), took)?,
+            Err(_) => self.print(name, &"refused", took)?,
         }
+        Ok(answer?)
     }
 
     /// Lays the netlist out with the cells.
     pub fn lay_out(&self, net: &Netlist, cells: &Library) -> Result<(), Fault> {
         let three = cells.has_three();
-        let mapping = MapPass::new(self.rt.alloc())?;
-        let gates = self.run("map", &mapping, net)?;
+        let gates = self.run("map", &MapPass::new(self.rt.alloc())?, net)?;
         let rows = self.run("level", &LevelPass { three }, &gates)?;
         let placed = self.run("place", &placing(cells), &rows)?;
         let _chip = self.run("repeat", &repeating(cells), &placed)?;

@@ -1,11 +1,9 @@
-// Why a netlist was not laid out.
 use aq_base::{LoadRefusal, Memory};
-use blif_read::BlifFault;
-use cell_library::LibraryFault;
+use blif_read::BlifRefusal;
+use cell_library::LibraryRefusal;
 use level_balance::LevelRefusal;
 use repeater_rows::RepeatRefusal;
 use row_place::PlaceRefusal;
-use std::alloc::{AllocError, AllocFailed};
 use std::io;
 use thiserror::Error;
 
@@ -17,9 +15,9 @@ pub enum Fault {
     #[error("{name}: {refusal}")]
     File { name: String, refusal: LoadRefusal },
     #[error("netlist: {0:?}")]
-    Netlist(BlifFault),
+    Netlist(#[from] BlifRefusal),
     #[error("library: {0:?}")]
-    Library(LibraryFault),
+    Library(#[from] LibraryRefusal),
     #[error("level: {0:?}")]
     Level(#[from] LevelRefusal),
     #[error("place: {0:?}")]
@@ -29,23 +27,5 @@ pub enum Fault {
     #[error("{0}")]
     System(#[from] io::Error),
     #[error("out of memory")]
-    Memory,
-}
-
-impl From<Memory> for Fault {
-    fn from(_: Memory) -> Self {
-        Fault::Memory
-    }
-}
-
-impl From<AllocError> for Fault {
-    fn from(_: AllocError) -> Self {
-        Fault::Memory
-    }
-}
-
-impl<T: Drop> From<AllocFailed<T>> for Fault {
-    fn from(_: AllocFailed<T>) -> Self {
-        Fault::Memory
-    }
+    Memory(#[from] Memory),
 }

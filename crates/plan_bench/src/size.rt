@@ -1,12 +1,12 @@
 // How much a pass gave.
-ghost use Rattle.std.specs.Prelude.{◌≡◌, length, sum};
+ghost use Rattle.std.specs.Prelude.{◌≡◌};
 
 use circuit::PlainNet;
 use rowed::{Placed, RowNet};
 use std::fmt;
 
-/// How much a pass gave.
-#[derive(Clone, Copy, Debug, PartialEq, Eq)]
+/// Gates, or rows of cells.
+#[derive(Clone, Copy)]
 pub enum Size {
     Gates(usize),
     Rows { rows: usize, cells: usize },
