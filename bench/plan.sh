@@ -71,9 +71,9 @@ while read -r shape half whole; do
     measure "$shape" "$half" >"$work/half"
     measure "$shape" "$whole" >"$work/whole"
     awk -v shape="$shape" -v half="$half" -v whole="$whole" '
-        NR == FNR { time[$1] = $NF; count[$1] = $(NF - 2); next }
+        NR == FNR { time[$1] = $NF; count[$1] = $(NF - 2) + 0; next }
         {
-            grown = count[$1] > 0 && $(NF - 2) > 0 ? sprintf("%.2f", $(NF - 2) / count[$1]) : "-"
+            grown = count[$1] > 0 && $(NF - 2) + 0 > 0 ? sprintf("%.2f", $(NF - 2) / count[$1]) : "-"
             slower = time[$1] > 0 ? sprintf("%.2f", $NF / time[$1]) : "-"
             printf "%s %s: %s, at %s %s, ratio %s", shape, whole, $0, half, time[$1], slower
             printf ", of what it gave %s\n", grown
