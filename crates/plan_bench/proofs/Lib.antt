@@ -1,0 +1,2 @@
+mod CellSizes
+mod FewCells
