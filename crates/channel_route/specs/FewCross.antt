@@ -62,6 +62,9 @@ few_cross reach columns ws some short apart x =
     let near' = kept_all (crosses x) (IsShort reach columns) (λ w. w.from_slot < x / columns + reach) (λ w c s. omega (arith, (begins_near reach columns x w c s).1)) ws short in
     omega (arith, distinct_fit (λ w. w.from_slot) (x / columns - (reach - 1)) (x / columns + reach) (crossing x ws) (kept_pairs (crosses x) (λ v w. v.from_slot ≡ w.from_slot → ⊥) ws apart) near near' (omega arith))
 
--- so no column is crossed by more wires than the capacity, where the reach is at most half of it
+-- so fewer wires than the capacity cross each column, where the reach is at most half of it, and none is over it
+pub below_capacity : (reach columns capacity : ℕ) (ws : List Wire) → 1 ≤ reach → reach ≤ capacity / 2 → AllByRecursion (IsShort reach columns) ws → FromApart ws → (x : ℕ) → length (crossing x ws) < capacity
+below_capacity reach columns capacity ws some half short apart x = omega (arith, half, few_cross reach columns ws some short apart x)
+
 pub never_over : (reach columns capacity : ℕ) (ws : List Wire) → 1 ≤ reach → reach ≤ capacity / 2 → AllByRecursion (IsShort reach columns) ws → FromApart ws → (x : ℕ) → IsOver ws capacity x → ⊥
-never_over reach columns capacity ws some half short apart x over = absurd (omega (arith, half, over.over, few_cross reach columns ws some short apart x))
+never_over reach columns capacity ws some half short apart x over = absurd (omega (arith, over.over, below_capacity reach columns capacity ws some half short apart x))

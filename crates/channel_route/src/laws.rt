@@ -1,5 +1,5 @@
 // The laws of the plan of tracks.
-ghost use Rattle.std.specs.Prelude.{◌≡◌, ℕ, ◌-◌, ◌*◌, ◌/◌, ◌≤◌, [], ◌∷◌, List, length};
+ghost use Rattle.std.specs.Prelude.{◌≡◌, ℕ, ◌-◌, ◌*◌, ◌/◌, ◌<◌, ◌≤◌, [], ◌∷◌, List, length};
 ghost use Rattle.std.specs.List.{AllByRecursion};
 ghost use Rattle.rowed.specs.declared.wire.Wire.{Wire};
 ghost use Rattle.channel_route.specs.Crossing.{crossing, EndsApart, IsOver, numbers_crossing};
@@ -23,9 +23,13 @@ pub fn few_cross()
         → (x : ℕ) → length (crossing x ws) ≤ 2 * reach - 1 }
 {}
 
-/// So a channel of such wires is never full, where the reach is at most half its capacity, rounded down.
+/// So fewer wires than its capacity cross each column of a channel of such wires, where the reach is at most half the
+/// capacity, rounded down, as that of every library is; and the channel is never full.
 pub fn never_full()
-    ensures { (reach columns capacity : ℕ) (ws : List Wire) → 1 ≤ reach → reach ≤ capacity / 2
+    ensures below { (reach columns capacity : ℕ) (ws : List Wire) → 1 ≤ reach → reach ≤ capacity / 2
+        → AllByRecursion (IsShort reach columns) ws → FromApart ws
+        → (x : ℕ) → length (crossing x ws) < capacity }
+    ensures full { (reach columns capacity : ℕ) (ws : List Wire) → 1 ≤ reach → reach ≤ capacity / 2
         → AllByRecursion (IsShort reach columns) ws → FromApart ws
         → (x : ℕ) → IsOver ws capacity x → ⊥ }
 {}

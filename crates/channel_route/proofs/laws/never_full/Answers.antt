@@ -1,5 +1,8 @@
-use Rattle.channel_route.specs.FewCross.{never_over}
+use Rattle.channel_route.specs.FewCross.{below_capacity, never_over}
 use Rattle.channel_route.proofs.laws.never_full.Goals as goal
 
-pub returns : goal.returns
-returns c = never_over
+pub returns-clause-below : goal.returns-clause-below
+returns-clause-below c = below_capacity
+
+pub returns-clause-full : goal.returns-clause-full
+returns-clause-full c = never_over
