@@ -1,2 +1,3 @@
 pub mod Sharing
 pub mod FirstWritable
+pub mod Filing

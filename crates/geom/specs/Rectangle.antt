@@ -1,5 +1,5 @@
 -- Rectangles with sides along the axes, in database units of one nanometre.
-use Rattle.std.specs.Prelude.{ℕ, Bool, max, ℤ, pos, negsuc, ◌<ℤ◌, ◌≤ℤ◌, ◌+ℤ◌, ◌-ℤ◌, int_le, int_lt, ◌&&◌}
+use Rattle.std.specs.Prelude.{◌≡◌, ℕ, List, slice_get, Some, Bool, max, ℤ, pos, negsuc, ◌<ℤ◌, ◌≤ℤ◌, ◌+ℤ◌, ◌-ℤ◌, int_le, int_lt, ◌&&◌}
 
 -- what a contract sees of a rectangle: its lower left corner and its upper right corner
 pub record Rectangle : Type 0 where
@@ -12,6 +12,9 @@ pub record Rectangle : Type 0 where
 pub record IsProper (r : Rectangle) : Type 0 where
   pub wide : r.x0 <ℤ r.x1
   pub high : r.y0 <ℤ r.y1
+
+abbrev pub AreProper : List Rectangle → Type 0
+AreProper rects = (n : ℕ) (r : Rectangle) → slice_get rects n ≡ Some r → IsProper r
 
 -- the point lies in the rectangle, edges and corners counted
 pub record HoldsPoint (r : Rectangle) (x y : ℤ) : Type 0 where

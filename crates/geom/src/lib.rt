@@ -1,12 +1,14 @@
 //! Rectangles, shapes and layouts, in database units of one nanometre.
 #![tactic(auto)]
 
+mod index;
 mod laws;
 mod layout;
 mod rectangle;
 mod shapes;
 
+pub use index::{Buckets, file_shapes};
 pub use laws::{first_chip_flat, first_chip_is_writable};
 pub use layout::{Element, Layout, Structure};
-pub use rectangle::{Rect, gap_x, gap_y, touches};
+pub use rectangle::{Rect, gap_x, gap_y, height, touches, width};
 pub use shapes::{Flat, Label, Shape};

@@ -1,6 +1,6 @@
 // Rectangles with sides along the axes.
 ghost use Rattle.std.specs.Prelude.{◌≡◌, ◌-ℤ◌, ◌↔◌, IsTrue, int_le};
-ghost use Rattle.geom.specs.Rectangle.{share_x, share_y, share_point, SharePoint, positive_part, gap_x, gap_y};
+ghost use Rattle.geom.specs.Rectangle.{share_x, share_y, share_point, SharePoint, positive_part, width, height, gap_x, gap_y};
 
 use std::marker::Model;
 
@@ -65,10 +65,24 @@ pub fn touches(a: &Rect, b: &Rect) -> bool
 }
 
 /// How far the first number is above the second, and 0 where it isn't.
-fn excess(high: i64, low: i64) -> u64
+pub(crate) fn excess(high: i64, low: i64) -> u64
     ensures { result ≡ positive_part (high -ℤ low) }
 {
     if low < high { high.abs_diff(low) } else { 0 }
+}
+
+/// The width of the rectangle.
+pub fn width(r: &Rect) -> u64
+    ensures { result ≡ width r.now }
+{
+    excess(r.x1, r.x0)
+}
+
+/// The height of the rectangle.
+pub fn height(r: &Rect) -> u64
+    ensures { result ≡ height r.now }
+{
+    excess(r.y1, r.y0)
 }
 
 /// How far apart the two are in x, in nanometres: 0 where some line along y meets both.

@@ -1,0 +1,36 @@
+use Rattle.std.proofs.Common.{◌≡◌, ◌<◌, length, Some, rules, arith}
+use Rattle.std.specs.Prelude.{slice_get}
+use Rattle.std.proofs.lemmas.List.Sorted.{IsNonDecreasingBy-from_sort_by_key, Contains-permutation, All-permutation}
+use Rattle.std.proofs.lemmas.Option.{slice_get_within}
+use Rattle.geom.specs.Code.Filed.{IsEntryOf}
+use Rattle.geom.specs.declared.index.entries.Entry.{Entry}
+use Rattle.geom.proofs.Filing.{read_at, filed_more, refiled}
+use Rattle.geom.proofs.index.entries.entries.Goals as goal
+
+pub loop-number-preserved : goal.loop-number-preserved
+loop-number-preserved c =
+    let got : slice_get c.args.rects.now c.loop-number.number ≡ Some c.index-rects-number.result = read_at c.args.rects.now c.loop-number.number c.index-rects-number.result c.loop-number-test.true c.index-rects-number.is in
+    let grid_is : slice_get c.args.grids.now c.grid_for.result ≡ Some c.index-grids-grid_for.result = read_at c.args.grids.now c.grid_for.result c.index-grids-grid_for.result c.grid_for.ensures.within c.index-grids-grid_for.is in
+    let of_it : IsEntryOf c.index-grids-grid_for.result c.index-rects-number.result c.loop-number.number (record { cell = c.cell_of.result; number = c.loop-number.number }) = record {
+      reaches = c.grid_for.ensures.reaches _ grid_is;
+      cell_is = c.cell_of.ensures.value;
+      number_is = search rules;
+    } in
+    rw c.in_ok-push.ensures.items (filed_more _ _ _ _ _ _ _ _ got grid_is of_it c.cell_of.ensures.within c.known.ensures c.loop-number.invariant)
+
+pub returns-clause-filed : goal.returns-clause-filed
+returns-clause-filed c n r got =
+    let lt : n < length c.args.rects.now = slice_get_within _ n r got in
+    refiled _ _ _ _ _ (λ e h. Contains-permutation _ _ e c.sort_unstable_by_key.ensures.permutation h) (c.loop-number.invariant.filed n r (omega arith) got)
+
+pub returns-clause-numbers : goal.returns-clause-numbers
+returns-clause-numbers c = All-permutation (λ (e : Entry). e.number < length c.args.rects.now) _ _ c.sort_unstable_by_key.ensures.permutation c.loop-number.invariant.numbers
+
+pub returns-clause-rising : goal.returns-clause-rising
+returns-clause-rising c = IsNonDecreasingBy-from_sort_by_key (λ (e : Entry). e.cell) _ c.sort_unstable_by_key.ensures.sorted (λ a r q k. search rules)
+
+pub returns-clause-cells : goal.returns-clause-cells
+returns-clause-cells c last ends = All-permutation (λ (e : Entry). e.cell < last) _ _ c.sort_unstable_by_key.ensures.permutation (c.loop-number.invariant.cells last ends)
+
+pub returns-clause-proper : goal.returns-clause-proper
+returns-clause-proper c n r got = (let lt : n < length c.args.rects.now = slice_get_within _ n r got in c.loop-number.invariant.proper n r (omega arith) got)

@@ -1,0 +1,4 @@
+-- Words of the index alone: its grids, its entries, and where it looks.
+pub mod Grids
+pub mod Filed
+pub mod Windows

@@ -1,0 +1,26 @@
+-- Which rectangles of a list are near one: no further from it than a margin, in x and in y.
+use Rattle.std.specs.Prelude.{◌≡◌, ℕ, ◌≤◌, List, map, slice_get, Some, All, Contains}
+use Rattle.std.specs.List.Sorted.{IsStrictlyIncreasing}
+use Rattle.geom.specs.Rectangle.{Rectangle, gap_x, gap_y}
+use Rattle.geom.specs.declared.shapes.Shape.{Shape}
+
+-- the rectangles of shapes, in their order
+abbrev pub rects_of : List Shape → List Rectangle
+rects_of shapes = map (λ s. s.rect) shapes
+
+-- the gap between the two is at most the margin, in x and in y
+pub record IsClose (rect other : Rectangle) (margin : ℕ) : Type 0 where
+  pub in_x : gap_x rect other ≤ margin
+  pub in_y : gap_y rect other ≤ margin
+
+-- the rectangle of this number is close
+pub record IsNear (rects : List Rectangle) (rect : Rectangle) (margin n : ℕ) : Type 0 where
+  pub other : Rectangle
+  pub other_is : slice_get rects n ≡ Some other
+  pub close : IsClose rect other margin
+
+-- the numbers are those of all near ones, rising
+pub record AreNear (rects : List Rectangle) (rect : Rectangle) (margin : ℕ) (numbers : List ℕ) : Type 0 where
+  pub each : All (IsNear rects rect margin) numbers
+  pub complete : (n : ℕ) → IsNear rects rect margin n → Contains numbers n
+  pub rising : IsStrictlyIncreasing numbers

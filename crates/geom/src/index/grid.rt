@@ -1,0 +1,167 @@
+// Grids: the lower left corners of rectangles of like size stand in the cells of one.
+ghost use Rattle.std.specs.Prelude.{◌≡◌, ℕ, ◌+◌, ◌<◌, ◌≤◌, ◌^◌, ◌↔◌, ◌-ℤ◌, IsTrue};
+
+use crate::rectangle::{Rect, excess};
+
+/// The most columns, and the most rows, that a grid has.
+pub const MOST_LINES: u64 = 65_536;
+
+/// Cells in columns and rows, numbered row by row from the first on; all lengths are in nanometres. Corners to the left
+/// of the grid count to its first column, those to the right to its last; so do those below and above to its rows.
+#[derive(Clone, Copy, Debug, PartialEq, Eq)]
+pub struct Grid {
+    /// The number of its first cell.
+    pub first: usize,
+    pub columns: usize,
+    pub rows: usize,
+    /// The left edge of the first column.
+    pub left: i64,
+    /// The lower edge of the first row.
+    pub bottom: i64,
+    /// A cell is as wide as 2 to this power.
+    pub shift_x: u32,
+    /// A cell is as high as 2 to this power.
+    pub shift_y: u32,
+    /// The width of the widest rectangle, and the height of the highest, that may stand in it.
+    pub reach_x: u64,
+    pub reach_y: u64,
+
+    ghost some_columns: { 0 < columns },
+    ghost some_rows: { 0 < rows },
+    ghost few_columns: { columns ≤ 2 ^ 16 },
+    ghost few_rows: { rows ≤ 2 ^ 16 },
+    ghost few_before: { first ≤ 2 ^ 40 },
+    ghost short_x: { shift_x < 64 },
+    ghost short_y: { shift_y < 64 },
+}
+
+/// Columns from the left one to the right one, and rows from the low one to the high one.
+#[derive(Clone, Copy)]
+pub struct Window {
+    pub left: usize,
+    pub right: usize,
+    pub low: usize,
+    pub high: usize,
+}
+
+impl Grid {
+    ghost use Rattle.geom.specs.Rectangle.{positive_part};
+    ghost use Rattle.geom.specs.Code.Grids.{column_at, row_at, cell_in, cell_of, end_of, Reaches};
+    ghost use Rattle.geom.specs.Code.Windows.{IsWindow};
+
+    /// The column that is this far right of the left edge.
+    pub fn column_at(&self, offset: u64) -> usize
+        ensures value { result ≡ column_at self.now offset }
+        ensures within { result < self.now.columns }
+    {
+        let column = (offset >> self.shift_x) as usize;
+        column.min(self.columns - 1)
+    }
+
+    /// The row that is this far above the lower edge.
+    pub fn row_at(&self, offset: u64) -> usize
+        ensures value { result ≡ row_at self.now offset }
+        ensures within { result < self.now.rows }
+    {
+        let row = (offset >> self.shift_y) as usize;
+        row.min(self.rows - 1)
+    }
+
+    /// How far the coordinate is right of the left edge.
+    pub fn right_of(&self, x: i64) -> u64
+        ensures { result ≡ positive_part (x -ℤ self.now.left) }
+    {
+        excess(x, self.left)
+    }
+
+    /// How far the coordinate is above the lower edge.
+    pub fn above(&self, y: i64) -> u64
+        ensures { result ≡ positive_part (y -ℤ self.now.bottom) }
+    {
+        excess(y, self.bottom)
+    }
+
+    /// The number of the cell in this row and column.
+    pub fn cell_in(&self, row: usize, column: usize) -> usize
+        requires row { row < self.now.rows }
+        requires column { column < self.now.columns }
+        ensures value { result ≡ cell_in self.now row column }
+        ensures within { result < end_of self.now }
+    {
+        self.first + row * self.columns + column
+    }
+
+    /// The number of the cell that the rectangle's lower left corner stands in.
+    pub fn cell_of(&self, rect: &Rect) -> usize
+        ensures value { result ≡ cell_of self.now rect.now }
+        ensures within { result < end_of self.now }
+    {
+        let row = self.row_at(self.above(rect.y0));
+        let column = self.column_at(self.right_of(rect.x0));
+        self.cell_in(row, column)
+    }
+
+    /// Whether a rectangle of this width and height may stand in the grid.
+    pub fn reaches(&self, wide: u64, high: u64) -> bool
+        ensures { IsTrue result ↔ Reaches self.now wide high }
+    {
+        wide <= self.reach_x && high <= self.reach_y
+    }
+
+    /// The number after that of the last cell.
+    pub fn end(&self) -> usize
+        ensures { result ≡ end_of self.now }
+    {
+        self.first + self.rows * self.columns
+    }
+
+    /// The first column in which a corner can be from which this offset is no further than the margin and the reach.
+    fn first_column(&self, offset: u64, margin: u64) -> usize
+        ensures within { result < self.now.columns }
+        ensures first { (at : ℕ) → offset ≤ at + (margin + self.now.reach_x) → result ≤ column_at self.now at }
+    {
+        self.column_at(offset.saturating_sub(margin.saturating_add(self.reach_x)))
+    }
+
+    /// The last column in which a corner can be that is no further than the margin from this offset.
+    fn last_column(&self, offset: u64, margin: u64) -> usize
+        ensures within { result < self.now.columns }
+        ensures last { (at : ℕ) → at ≤ offset + margin → column_at self.now at ≤ result }
+    {
+        match offset.checked_add(margin) {
+            Some(furthest) => self.column_at(furthest),
+            None => self.columns - 1,
+        }
+    }
+
+    /// The first row in which a corner can be from which this offset is no further than the margin and the reach.
+    fn first_row(&self, offset: u64, margin: u64) -> usize
+        ensures within { result < self.now.rows }
+        ensures first { (at : ℕ) → offset ≤ at + (margin + self.now.reach_y) → result ≤ row_at self.now at }
+    {
+        self.row_at(offset.saturating_sub(margin.saturating_add(self.reach_y)))
+    }
+
+    /// The last row in which a corner can be that is no further than the margin from this offset.
+    fn last_row(&self, offset: u64, margin: u64) -> usize
+        ensures within { result < self.now.rows }
+        ensures last { (at : ℕ) → at ≤ offset + margin → row_at self.now at ≤ result }
+    {
+        match offset.checked_add(margin) {
+            Some(furthest) => self.row_at(furthest),
+            None => self.rows - 1,
+        }
+    }
+
+    /// Where the corners of those of its rectangles can be that are no further from this one than the margin.
+    pub fn window(&self, rect: &Rect, margin: u64) -> Window
+        ensures { IsWindow self.now rect.now margin result }
+    {
+        Window {
+            left: self.first_column(self.right_of(rect.x0), margin),
+            right: self.last_column(self.right_of(rect.x1), margin),
+            low: self.first_row(self.above(rect.y0), margin),
+            high: self.last_row(self.above(rect.y1), margin),
+        }
+    }
+}

@@ -1,0 +1,10 @@
+// An index over rectangles: which of a list are near one.
+mod buckets;
+mod entries;
+mod grid;
+mod survey;
+
+pub use buckets::{Buckets, file_shapes};
+
+#[cfg(test)]
+mod tests;
