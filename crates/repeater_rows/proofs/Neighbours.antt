@@ -5,7 +5,8 @@ use Rattle.std.proofs.lemmas.Option.{get_or_from_slice_get}
 use Rattle.rowed.specs.declared.row_cell.RowCell.{RowCell}
 use Rattle.rowed.specs.Slots.{EachSeated, slot_limit}
 use Rattle.rowed.specs.PlacedNets.{PlacedRow, PlacedView, IsPlaced, paired, placed_rows}
-use Rattle.repeater_rows.specs.NeighbourLaws.{row_of, seated_at, channel_at, channel_fits, slots_below}
+use Rattle.rowed.specs.PlacedNets.{row_of}
+use Rattle.repeater_rows.specs.NeighbourLaws.{seated_at, channel_at, channel_fits, slots_below}
 use Rattle.repeater_rows.specs.Opening.{AreNeighbours}
 use Rattle.repeater_rows.proofs.Lists.{drop_0}
 

@@ -18,7 +18,6 @@ pub mod RowsAboveLaws
 pub mod PinLaws
 pub mod ChannelLaws
 pub mod PlaceLaws
-pub mod Short
 pub mod ShortLaws
 pub mod Sources
 pub mod WireLaws

@@ -5,7 +5,7 @@ use Rattle.rowed.specs.declared.row_cell.RowCell.{RowCell}
 use Rattle.rowed.specs.PlacedNets.{PlacedRow, PlacedView, placed_rows}
 use Rattle.repeater_rows.specs.Repeaters.{added_rows, last_source, rows_above, repeated_rows}
 use Rattle.repeater_rows.specs.RowsAboveLaws.{cells_of, slots_in}
-use Rattle.repeater_rows.specs.NeighbourLaws.{row_of}
+use Rattle.rowed.specs.PlacedNets.{row_of}
 use Rattle.repeater_rows.specs.Opening.{AreDestinations}
 use Rattle.repeater_rows.specs.Counts.{rounds_left}
 

@@ -8,16 +8,12 @@ use Rattle.circuit.specs.declared.cell_kind.CellKind.TheVariants.{Buffer, Invert
 use Rattle.rowed.specs.declared.row_cell.RowCell.{RowCell}
 use Rattle.rowed.specs.RowNets.{row_at}
 use Rattle.rowed.specs.Slots.{AreSeated, EachSeated, slot_limit}
-use Rattle.rowed.specs.PlacedNets.{PlacedRow, PlacedView, IsPlaced}
+use Rattle.rowed.specs.PlacedNets.{PlacedView, IsPlaced, row_of}
 use Rattle.rowed.specs.Channels.{channel_links, channel_slots}
 use Rattle.repeater_rows.specs.Destinations.{IsChannel}
 use Rattle.repeater_rows.specs.RowsAboveLaws.{row_above}
 use Rattle.repeater_rows.specs.PinLaws.{span_limit}
 use Rattle.repeater_rows.specs.ChannelLaws.{channel_known}
-
--- row k with its slots
-abbrev pub row_of : PlacedView → ℕ → PlacedRow
-row_of p k = record { cells = row_at p.net.rows k; slots = slice_index_or p.slots k [] }
 
 pub seated_at : (rows : List (List RowCell)) (slots : List (List ℕ)) → EachSeated rows slots → (k : ℕ) → k < length rows
     → AreSeated 0 (row_at rows k) (slice_index_or slots k [])

@@ -4,6 +4,7 @@ use Rattle.std.proofs.Common.{sym, subst}
 use Rattle.circuit.specs.SameAnswers.{SameAnswers}
 use Rattle.rowed.specs.RowNets.{IsAnswer}
 use Rattle.rowed.specs.PlacedNets.{PlacedRow, PlacedView, IsPlaced, placed_rows}
+pub use Rattle.rowed.specs.Extent.{height_limit}
 use Rattle.repeater_rows.specs.Repeaters.{repeated, repeated_rows}
 use Rattle.repeater_rows.specs.AnswerLaws.{repeaters_answer}
 use Rattle.repeater_rows.specs.declared.pass.RepeatRefusal.{RepeatRefusal}
@@ -11,10 +12,6 @@ use Rattle.repeater_rows.specs.declared.pass.RepeatRefusal.TheVariants.{TooManyC
 
 abbrev pub cell_limit : ℕ
 cell_limit = 2000000
-
--- how high the rows and their channels may be, in nanometres
-abbrev pub height_limit : ℕ
-height_limit = 2147483647
 
 -- the cells up to the end of the first row that passes the limit, so many standing in the rows before
 abbrev pub cells_past : ℕ → List PlacedRow → Option ℕ

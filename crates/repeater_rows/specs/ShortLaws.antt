@@ -11,7 +11,7 @@ use Rattle.rowed.specs.Channels.{Link, source_slot, pin_link, links, move, chann
 use Rattle.repeater_rows.specs.Destinations.{end_from, is_end, destinations, IsChannel}
 use Rattle.repeater_rows.specs.Rounds.{AreRounds, round, window_size, is_far}
 use Rattle.repeater_rows.specs.Repeaters.{source_to, buffer_from, carried, carrier_slots, added, source_above, added_rows, last_source, fed_from, cells_from, channel_rounds, rows_above, repeated_rows, repeated}
-use Rattle.repeater_rows.specs.Short.{EachShort, AreShort}
+use Rattle.rowed.specs.Short.{EachShort, AreShort}
 use Rattle.repeater_rows.specs.Sources.{StandAt}
 use Rattle.repeater_rows.specs.RowsAbove.{PlacedAbove, no_more}
 use Rattle.repeater_rows.specs.RowsAboveLaws.{placed_rows_of, placed_again, placed_facts}

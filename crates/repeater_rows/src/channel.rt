@@ -5,7 +5,7 @@ ghost use Rattle.circuit.specs.Gates.{valuation};
 ghost use Rattle.rowed.specs.Slots.{slot_limit};
 ghost use Rattle.rowed.specs.Channels.{channel_links, channel_slots};
 ghost use Rattle.rowed.specs.PlacedNets.{PlacedRow, IsPlaced};
-ghost use Rattle.repeater_rows.specs.NeighbourLaws.{row_of};
+ghost use Rattle.rowed.specs.PlacedNets.{row_of};
 ghost use Rattle.repeater_rows.specs.Destinations.{destinations, is_end};
 ghost use Rattle.repeater_rows.specs.Rounds.{is_far, round, window_size};
 ghost use Rattle.repeater_rows.specs.Repeaters.{source_to, added, source_above, cells_from};

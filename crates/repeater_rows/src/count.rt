@@ -4,7 +4,7 @@ ghost use Rattle.circuit.specs.Gates.{valuation};
 ghost use Rattle.rowed.specs.PlacedNets.{IsPlaced, placed_rows};
 ghost use Rattle.repeater_rows.specs.Rounds.{all_rounds};
 ghost use Rattle.repeater_rows.specs.Repeaters.{repeated_rows};
-ghost use Rattle.repeater_rows.specs.NeighbourLaws.{row_of};
+ghost use Rattle.rowed.specs.PlacedNets.{row_of};
 ghost use Rattle.repeater_rows.specs.Counts.{channel_sizes};
 ghost use Rattle.repeater_rows.specs.Passes.{cell_limit, cells_past};
 ghost use Rattle.repeater_rows.specs.Opening.{AreDestinations};

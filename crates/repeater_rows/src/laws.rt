@@ -12,7 +12,7 @@ ghost use Rattle.repeater_rows.specs.Repeaters.{channel_rounds, repeated_rows, r
 ghost use Rattle.repeater_rows.specs.Passes.{cells_past};
 ghost use Rattle.repeater_rows.specs.Inversions.{inversions};
 ghost use Rattle.repeater_rows.specs.Local.{UnwiredRise};
-ghost use Rattle.repeater_rows.specs.Short.{AreShort};
+ghost use Rattle.rowed.specs.Short.{AreShort};
 ghost use Rattle.repeater_rows.specs.Inserted.{AreInserted, AreNarrow};
 ghost use Rattle.repeater_rows.specs.Examples as examples;
 

@@ -5,7 +5,7 @@ ghost use Rattle.rowed.specs.PlacedNets.{PlacedRow, IsPlaced, placed_rows};
 ghost use Rattle.repeater_rows.specs.Rounds.{all_rounds};
 ghost use Rattle.repeater_rows.specs.Repeaters.{added_rows, last_source, channel_rounds, channel_rows, repeated_rows};
 ghost use Rattle.repeater_rows.specs.Reading.{source_in};
-ghost use Rattle.repeater_rows.specs.NeighbourLaws.{row_of};
+ghost use Rattle.rowed.specs.PlacedNets.{row_of};
 ghost use Rattle.repeater_rows.specs.Opening.{AreDestinations};
 
 use crate::channel::{Channel, cells_at, open_at, slots_at};

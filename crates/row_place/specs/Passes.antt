@@ -4,14 +4,11 @@ use Rattle.std.proofs.Common.{sym, subst}
 use Rattle.circuit.specs.SameAnswers.{SameAnswers}
 use Rattle.rowed.specs.RowNets.{RowView, IsRowNet, IsAnswer}
 use Rattle.rowed.specs.PlacedNets.{PlacedView, IsPlaced}
+pub use Rattle.rowed.specs.Extent.{width_limit}
 use Rattle.row_place.specs.Places.{place, widest}
 use Rattle.row_place.specs.PlanLaws.{places_answer}
 use Rattle.row_place.specs.declared.pass.PlaceRefusal.{PlaceRefusal}
 use Rattle.row_place.specs.declared.pass.PlaceRefusal.TheVariants.{TooWide, Memory}
-
--- how wide a row may be, in nanometres
-abbrev pub width_limit : ℕ
-width_limit = 2000000000
 
 -- this is the plan of the net's places, and no row is too wide for slots of this width in nanometres
 pub record ArePlaces (net : RowView) (width : ℕ) (placed : PlacedView) : Type 0 where

@@ -5,6 +5,8 @@ pub mod RowAnswers
 pub mod Slots
 pub mod PlacedNets
 pub mod Channels
+pub mod Short
+pub mod Extent
 pub mod Sorting
 pub mod SortingLaws
 pub mod Numbers

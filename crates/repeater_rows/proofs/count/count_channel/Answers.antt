@@ -1,5 +1,5 @@
 use Rattle.std.proofs.Common.{rules, ◌+◌}
-use Rattle.repeater_rows.specs.NeighbourLaws.{row_of}
+use Rattle.rowed.specs.PlacedNets.{row_of}
 use Rattle.repeater_rows.proofs.CountingRows.{channel_within, channel_past_last, channel_past_first, row_size, ok_so, err_so}
 use Rattle.repeater_rows.proofs.count.count_channel.Goals as goal
 
