@@ -1,0 +1,243 @@
+-- The tags of a placed net stand once, and keep wires and cells whole.
+use Rattle.std.proofs.Common.{◌≡◌, ◌≢◌, ℕ, ◌+◌, refl, sym, ap, ◌∙◌, arith, inl, inr, List, [], ◌∷◌, ◌++◌, map, length}
+use Rattle.std.specs.Prelude.{slice_get}
+use Rattle.std.specs.List.{flat_map}
+use Rattle.std.proofs.lemmas.Option.{same_Some}
+use Rattle.cell_library.specs.Library.{LibraryView}
+use Rattle.layout_make.specs.Lawful.{IsLawful}
+use Rattle.circuit.specs.declared.cell_kind.CellKind.{CellKind}
+use Rattle.circuit.specs.CellKinds.{inputs_of, outputs_of}
+use Rattle.layout_make.specs.Sheet.{Tag, Frame, InPin, OutPin, Lead, Bar, Rise, Fall, Across, FromVia, ToVia}
+use Rattle.rowed.specs.PlacedNets.{PlacedView}
+use Rattle.layout_make.specs.Spots.{Spot, spots, Packed, AreGiven, IsReady}
+use Rattle.rowed.specs.declared.wire.Wire.{Wire}
+use Rattle.rowed.specs.Numbers.{numbers}
+use Rattle.layout_make.specs.Channel.{channel}
+use Rattle.layout_make.specs.Tags.{spot_tags, wire_tags, line_tags, row_tags, tags}
+use Rattle.layout_make.proofs.Member.{In, in_head, not_in_nil, in_append, in_map, in_flat_map, Once, once_nil}
+use Rattle.layout_make.proofs.Member.{once_cons, once_append, once_flat_map, once_map, once_count, all_in}
+use Rattle.layout_make.specs.Channel.{in_column, out_column}
+use Rattle.layout_make.proofs.ChannelWires.{PinsApart, channel_pairs, from_tells, in_tells, out_tells, slot_tells}
+use Rattle.layout_make.proofs.PinCounts.{slots_some}
+use Rattle.layout_make.proofs.Origins.{CellPart, TheFrame, AnInput, AnOutput, WirePart, TheRise, TheFall, TheAcross}
+use Rattle.layout_make.proofs.Origins.{TheFromVia, TheToVia, RowPart, OfCell, TheLead, TheBar, OfWire, cell_part}
+use Rattle.layout_make.proofs.Origins.{wire_part, row_part}
+
+-- spots of one row in one slot are one
+spot_tells : (xs : List Spot) (x z : Spot) → Packed 0 xs → (a : In x xs) → (b : In z xs) → x.slot ≡ z.slot
+    → (a.0 ≡ b.0) × (x ≡ z)
+spot_tells xs x z p a b e =
+    let k = slot_tells xs a.0 b.0 0 0 x z p a.1 b.1 (slots_some x.cell.kind) (slots_some z.cell.kind)
+    (let m : x.slot + 0 ≡ z.slot + 0 = omega arith in m) in
+    (k.0, same_Some _ _ (sym a.1 ∙ ap (λ (n : ℕ). slice_get xs n) k.0 ∙ b.1))
+
+once_spots : (xs : List Spot) → Packed 0 xs → Once xs
+once_spots xs p i j x a b = (spot_tells xs x x p (i, a) (j, b) refl).0
+
+-- which row, and whether of a cell, a line or a wire
+row_of : Tag → ℕ
+row_of (Frame r slot k) = r
+row_of (InPin r c i) = r
+row_of (OutPin r c i) = r
+row_of (Lead r) = r
+row_of (Bar r) = r
+row_of (Rise r c) = r
+row_of (Fall r c) = r
+row_of (Across r c) = r
+row_of (FromVia r c) = r
+row_of (ToVia r c) = r
+
+part_of : Tag → ℕ
+part_of (Frame r slot k) = 0
+part_of (InPin r c i) = 0
+part_of (OutPin r c i) = 0
+part_of (Lead r) = 1
+part_of (Bar r) = 2
+part_of (Rise r c) = 3
+part_of (Fall r c) = 3
+part_of (Across r c) = 3
+part_of (FromVia r c) = 3
+part_of (ToVia r c) = 3
+
+from_of : Tag → ℕ
+from_of (Rise r c) = c
+from_of (Fall r c) = c
+from_of (Across r c) = c
+from_of (FromVia r c) = c
+from_of (ToVia r c) = c
+from_of t = 0
+
+cell_row : (l : LibraryView) (r : ℕ) (x : Spot) (t : Tag) → CellPart l r x t → (row_of t ≡ r) × (part_of t ≡ 0)
+unfolding row_of part_of
+cell_row l r x t (TheFrame e) = (ap row_of e, ap part_of e)
+cell_row l r x t (AnInput i lt e) = (ap row_of e, ap part_of e)
+cell_row l r x t (AnOutput o lt e) = (ap row_of e, ap part_of e)
+
+wire_row : (r c : ℕ) (t : Tag) → WirePart r c t → (row_of t ≡ r) × (part_of t ≡ 3) × (from_of t ≡ c)
+unfolding row_of part_of from_of
+wire_row r c t (TheRise e) = (ap row_of e, ap part_of e, ap from_of e)
+wire_row r c t (TheFall e) = (ap row_of e, ap part_of e, ap from_of e)
+wire_row r c t (TheAcross e) = (ap row_of e, ap part_of e, ap from_of e)
+wire_row r c t (TheFromVia e) = (ap row_of e, ap part_of e, ap from_of e)
+wire_row r c t (TheToVia e) = (ap row_of e, ap part_of e, ap from_of e)
+
+row_row : (p : PlacedView) (l : LibraryView) (r : ℕ) (t : Tag) → RowPart p l r t → row_of t ≡ r
+unfolding row_of
+row_row p l r t (OfCell x h part) = (cell_row l r x t part).0
+row_row p l r t (TheLead e) = ap row_of e
+row_row p l r t (TheBar e) = ap row_of e
+row_row p l r t (OfWire w h part) = (wire_row r w.from_column t part).0
+
+-- the tags of one cell
+once_cell : (l : LibraryView) (r : ℕ) (x : Spot) → Once (spot_tags l r x)
+once_cell l r x =
+    let ins = map (λ i. InPin r (in_column l x i) i) (numbers 0 (inputs_of x.cell.kind)) in
+    let outs = map (λ o. OutPin r (out_column l x o) o) (numbers 0 (outputs_of x.cell.kind)) in
+    once_cons (Frame r x.slot x.cell.kind) (ins ++ outs)
+    (λ h. elim (in_append (Frame r x.slot x.cell.kind) ins outs h) [
+      | inl k ↦ let m = in_map (λ i. InPin r (in_column l x i) i) (Frame r x.slot x.cell.kind)
+          (numbers 0 (inputs_of x.cell.kind)) k in absurd (let e = m.2 in cc)
+      | inr k ↦ let m = in_map (λ o. OutPin r (out_column l x o) o) (Frame r x.slot x.cell.kind)
+          (numbers 0 (outputs_of x.cell.kind)) k in absurd (let e = m.2 in cc)
+    ])
+    (once_append ins outs
+    (once_map (λ i. InPin r (in_column l x i) i) (numbers 0 (inputs_of x.cell.kind))
+    (λ i j e. input_number r (in_column l x i) i (in_column l x j) j e) (once_count 0 (inputs_of x.cell.kind)))
+    (once_map (λ o. OutPin r (out_column l x o) o) (numbers 0 (outputs_of x.cell.kind))
+    (λ i j e. output_number r (out_column l x i) i (out_column l x j) j e) (once_count 0 (outputs_of x.cell.kind)))
+    (λ t h k.
+    let m = in_map (λ i. InPin r (in_column l x i) i) t (numbers 0 (inputs_of x.cell.kind)) h in
+    let n = in_map (λ o. OutPin r (out_column l x o) o) t (numbers 0 (outputs_of x.cell.kind)) k in
+    not_both r (in_column l x m.0) m.0 (out_column l x n.0) n.0 (sym m.2 ∙ n.2)))
+  where
+    input_number : (r c i d j : ℕ) → InPin r c i ≡ InPin r d j → i ≡ j
+    input_number r c i d j e = cc
+
+    output_number : (r c i d j : ℕ) → OutPin r c i ≡ OutPin r d j → i ≡ j
+    output_number r c i d j e = cc
+
+    not_both : (r c i d j : ℕ) → InPin r c i ≡ OutPin r d j → ⊥
+    not_both r c i d j e = cc
+
+same_spot : (l : LibraryView) → IsLawful l → (r : ℕ) (xs : List Spot) → AreGiven l xs → (x z : Spot) (t : Tag)
+    → Packed 0 xs → In x xs → In z xs → CellPart l r x t → CellPart l r z t → x ≡ z
+same_spot l laws r xs given x z t p hx hz (TheFrame e) (TheFrame f) =
+    let k = frames r x.slot x.cell.kind z.slot z.cell.kind (sym e ∙ f) in (spot_tells xs x z p hx hz k).1
+  where
+    frames : (r a : ℕ) (k : CellKind) (b : ℕ) (m : CellKind) → Frame r a k ≡ Frame r b m → a ≡ b
+    frames r a k b m e = cc
+same_spot l laws r xs given x z t p hx hz (TheFrame e) (AnInput i lt f) =
+    absurd (let k : Frame r x.slot x.cell.kind ≡ InPin r (in_column l z i) i = sym e ∙ f in cc)
+same_spot l laws r xs given x z t p hx hz (TheFrame e) (AnOutput i lt f) =
+    absurd (let k : Frame r x.slot x.cell.kind ≡ OutPin r (out_column l z i) i = sym e ∙ f in cc)
+same_spot l laws r xs given x z t p hx hz (AnInput i lt e) (TheFrame f) =
+    absurd (let k : InPin r (in_column l x i) i ≡ Frame r z.slot z.cell.kind = sym e ∙ f in cc)
+same_spot l laws r xs given x z t p hx hz (AnInput i lt e) (AnInput j lt' f) =
+    let k = columns r (in_column l x i) i (in_column l z j) j (sym e ∙ f) in
+    let m = in_tells l laws xs given hx.0 hz.0 i j x z p hx.1 hz.1 lt lt' k in
+    same_Some _ _ (sym hx.1 ∙ ap (λ (n : ℕ). slice_get xs n) m.0 ∙ hz.1)
+  where
+    columns : (r c i d j : ℕ) → InPin r c i ≡ InPin r d j → c ≡ d
+    columns r c i d j e = cc
+same_spot l laws r xs given x z t p hx hz (AnInput i lt e) (AnOutput j lt' f) =
+    absurd (let k : InPin r (in_column l x i) i ≡ OutPin r (out_column l z j) j = sym e ∙ f in cc)
+same_spot l laws r xs given x z t p hx hz (AnOutput i lt e) (TheFrame f) =
+    absurd (let k : OutPin r (out_column l x i) i ≡ Frame r z.slot z.cell.kind = sym e ∙ f in cc)
+same_spot l laws r xs given x z t p hx hz (AnOutput i lt e) (AnInput j lt' f) =
+    absurd (let k : OutPin r (out_column l x i) i ≡ InPin r (in_column l z j) j = sym e ∙ f in cc)
+same_spot l laws r xs given x z t p hx hz (AnOutput i lt e) (AnOutput j lt' f) =
+    let k = columns r (out_column l x i) i (out_column l z j) j (sym e ∙ f) in
+    let m = out_tells l laws xs given hx.0 hz.0 i j x z p hx.1 hz.1 lt lt' k in
+    same_Some _ _ (sym hx.1 ∙ ap (λ (n : ℕ). slice_get xs n) m.0 ∙ hz.1)
+  where
+    columns : (r c i d j : ℕ) → OutPin r c i ≡ OutPin r d j → c ≡ d
+    columns r c i d j e = cc
+
+once_cells : (l : LibraryView) → IsLawful l → (r : ℕ) (xs : List Spot) → AreGiven l xs → Packed 0 xs
+    → Once (flat_map (spot_tags l r) xs)
+once_cells l laws r xs given p = once_flat_map (spot_tags l r) xs (once_spots xs p) (λ x h. once_cell l r x)
+    (λ x z t hx hz a b. same_spot l laws r xs given x z t p hx hz (cell_part l r x t a) (cell_part l r z t b))
+
+-- the wires of a channel stand once
+
+pub once_pairs : (ws : List Wire) → PinsApart ws → Once ws
+once_pairs [] apart = once_nil
+once_pairs (w ∷ ws) apart = once_cons w ws (λ h. all_in (λ (v : Wire). w.to_slot ≡ v.to_slot → ⊥) w ws apart.0 h refl)
+    (once_pairs ws apart.1)
+
+pub once_channel : (p : PlacedView) (l : LibraryView) → IsReady p l → (r : ℕ) → Once (channel p l r)
+once_channel p l is r = once_pairs (channel p l r) (channel_pairs p l is r)
+
+once_wire : (r : ℕ) (w : Wire) → Once (wire_tags r w)
+once_wire r w = five (Rise r w.from_column) (Fall r w.from_column) (Across r w.from_column) (FromVia r w.from_column)
+    (ToVia r w.from_column) (λ e. cc) (λ e. cc) (λ e. cc) (λ e. cc) (λ e. cc) (λ e. cc) (λ e. cc) (λ e. cc) (λ e. cc)
+    (λ e. cc)
+  where
+    five : (a b c d e : Tag) → a ≢ b → a ≢ c → a ≢ d → a ≢ e → b ≢ c → b ≢ d → b ≢ e → c ≢ d → c ≢ e → d ≢ e
+        → Once (a ∷ b ∷ c ∷ d ∷ e ∷ [])
+    five a b c d e ab ac ad ae bc bd be cd ce de = once_cons a (b ∷ c ∷ d ∷ e ∷ [])
+        (λ h. elim (in_head a b (c ∷ d ∷ e ∷ []) h) [
+          | inl x ↦ ab x
+          | inr h ↦ elim (in_head a c (d ∷ e ∷ []) h) [
+            | inl x ↦ ac x
+            | inr h ↦ elim (in_head a d (e ∷ []) h)
+                [ inl x ↦ ad x | inr h ↦ elim (in_head a e [] h) [ inl x ↦ ae x | inr h ↦ not_in_nil a h ] ]
+          ]
+        ])
+        (once_cons b (c ∷ d ∷ e ∷ [])
+        (λ h. elim (in_head b c (d ∷ e ∷ []) h) [
+          | inl x ↦ bc x
+          | inr h ↦ elim (in_head b d (e ∷ []) h)
+              [ inl x ↦ bd x | inr h ↦ elim (in_head b e [] h) [ inl x ↦ be x | inr h ↦ not_in_nil b h ] ]
+        ])
+        (once_cons c (d ∷ e ∷ [])
+        (λ h. elim (in_head c d (e ∷ []) h)
+        [ inl x ↦ cd x | inr h ↦ elim (in_head c e [] h) [ inl x ↦ ce x | inr h ↦ not_in_nil c h ] ])
+        (once_cons d (e ∷ []) (λ h. elim (in_head d e [] h) [ inl x ↦ de x | inr h ↦ not_in_nil d h ])
+        (once_cons e [] (not_in_nil e) once_nil))))
+
+once_wires : (p : PlacedView) (l : LibraryView) → IsReady p l → IsLawful l → (r : ℕ)
+    → Once (flat_map (wire_tags r) (channel p l r))
+once_wires p l is laws r = once_flat_map (wire_tags r) (channel p l r) (once_channel p l is r) (λ w h. once_wire r w)
+    (λ w v t hw hv a b.
+    let x = (wire_row r w.from_column t (wire_part r w t a)).2 in
+    let y = (wire_row r v.from_column t (wire_part r v t b)).2 in
+    let f : w.from_column ≡ v.from_column = sym x ∙ y in
+    from_tells p l is laws r w v hw hv f)
+
+lead_part : (r : ℕ) → part_of (Lead r) ≡ 1
+unfolding part_of
+lead_part r = refl
+
+bar_part : (r : ℕ) → part_of (Bar r) ≡ 2
+unfolding part_of
+bar_part r = refl
+
+once_row : (p : PlacedView) (l : LibraryView) → IsReady p l → IsLawful l → (r : ℕ) → Once (row_tags p l r)
+once_row p l is laws r =
+    let wires = flat_map (wire_tags r) (channel p l r) in
+    let wire_three : (t : Tag) → In t wires
+    → part_of t ≡ 3 = λ t h. (let m = in_flat_map (wire_tags r) t (channel p l r) h in
+    (wire_row r m.0.from_column t (wire_part r m.0 t m.2)).1) in
+    once_append (flat_map (spot_tags l r) (spots p r)) (line_tags r ++ wires)
+    (once_cells l laws r (spots p r) (is.given r) (is.packed r))
+    (once_cons (Lead r) (Bar r ∷ wires)
+    (λ h. elim (in_head (Lead r) (Bar r) wires h)
+    [ inl e ↦ absurd cc | inr k ↦ absurd (let a = wire_three (Lead r) k in let b = lead_part r in omega arith) ])
+    (once_cons (Bar r) wires (λ k. absurd (let a = wire_three (Bar r) k in let b = bar_part r in omega arith))
+    (once_wires p l is laws r)))
+    (λ t h k.
+    let m = in_flat_map (spot_tags l r) t (spots p r) h in
+    let a : part_of t ≡ 0 = (cell_row l r m.0 t (cell_part l r m.0 t m.2)).1 in
+    elim (in_head t (Lead r) (Bar r ∷ wires) k) [
+      | inl e ↦ absurd (let b : part_of t ≡ 1 = ap part_of e ∙ lead_part r in omega arith)
+      | inr k ↦ elim (in_head t (Bar r) wires k) [
+        | inl e ↦ absurd (let b : part_of t ≡ 2 = ap part_of e ∙ bar_part r in omega arith)
+        | inr k ↦ absurd (let b = wire_three t k in omega arith)
+      ]
+    ])
+
+pub once_tags : (p : PlacedView) (l : LibraryView) → IsReady p l → IsLawful l → Once (tags p l)
+once_tags p l is laws = once_flat_map (row_tags p l) (numbers 0 (length p.net.rows)) (once_count 0 (length p.net.rows))
+    (λ r h. once_row p l is laws r) (λ r q t hr hq a b. sym (row_row p l r t (row_part p l r t a))
+    ∙ row_row p l q t (row_part p l q t b))

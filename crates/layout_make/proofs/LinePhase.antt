@@ -1,0 +1,156 @@
+-- Rule E2 (e), (f): the edges of bars, directions and phases, and the one bar of each frame.
+use Rattle.std.proofs.Common.{◌≡◌, ℕ, ◌+◌, ◌-◌, ◌*◌, ◌%◌, ◌<◌, ◌≤◌, Bool, true, false, not, ◌&&◌, refl, ap, ◌∙◌, arith}
+use Rattle.std.proofs.Common.{◌⊎◌, inl, inr, if◌then◌else◌}
+use Rattle.std.specs.Prelude.{pos, neg_ℤ, int_le, int_lt, nat_lt}
+use Rattle.std.proofs.lemmas.Bool.{cases_order, cases_lt}
+use Rattle.std.proofs.lemmas.Bool.Decides.{nat_tests}
+use Rattle.circuit.specs.CellKinds.{slots_of}
+use Rattle.geom.specs.Rectangle.{meet_y, share_point, share_x, share_y, overlap, within}
+use Rattle.layout_make.specs.Sheet.{Sheet, Frame, Lead, Bar, Flank, LeftOf, Over, RightOf, turns_right, lead_flank}
+use Rattle.layout_make.specs.Sheet.{lead_first, line_rect, place_of, shape_of, lower_edge}
+use Rattle.layout_make.specs.Nets.{Fits, IsRouted}
+use Rattle.layout_rules.specs.ExcitationLines.{left_edge, right_edge}
+use Rattle.layout_make.specs.Lines.{phase_of}
+use Rattle.layout_make.proofs.Columns.{next_edge, edges_apart}
+use Rattle.layout_make.proofs.LineShapes.{spans_share, below_zero, bar_lead, is_le}
+use Rattle.layout_make.proofs.Comparing.{four, lt_of}
+
+abbrev is_left : Flank → Bool
+is_left LeftOf = true
+is_left f = false
+
+abbrev is_right : Flank → Bool
+is_right RightOf = true
+is_right f = false
+
+-- the spans of a bar's lead meet
+spans_meet : (s : Sheet) → IsRouted s → (q r : ℕ) → (q ≡ r) ⊎ (q ≡ r + 2)
+    → share_y (place_of s (Lead q)) (place_of s (Bar r)) ≡ true
+spans_meet s is q r l = let k = bar_lead q r l in spans_share s is.laws (lead_flank q) Over (lead_first q) q r r
+    ∙ both (is_le (lead_first q) r k.0) (is_le r q k.1)
+  where
+    both : {a b : Bool} → a ≡ true → b ≡ true → (a && b) ≡ true
+    both {a} {b} e f = ap (λ (x : Bool). x && b) e ∙ f
+
+left_of : (s : Sheet) → 1 ≤ s.right → (b : Bool) (f : Flank) → f ≡ (if b then RightOf else LeftOf) → (a c d e : ℕ)
+    → (share_x (line_rect s f a c) (left_edge (line_rect s Over d e)) ≡ not b)
+    × (share_x (line_rect s f a c) (right_edge (line_rect s Over d e)) ≡ b)
+left_of s some b f h a c d e = go b f h
+  where
+    plain : (w : ℕ) (x : Bool) → 1 ≤ w → (x && int_le (pos w) (pos 0)) ≡ false
+    plain w x some = grind (arith, nat_tests)
+
+    right : (w p : ℕ) → 1 ≤ w → ((int_le (pos w) (pos 0) && int_le (pos 0) (pos (w + p))) ≡ false)
+        × ((int_le (pos w) (pos w) && int_le (pos w) (pos (w + p))) ≡ true)
+    right w p some = (grind (arith, nat_tests), grind (arith, nat_tests))
+
+    left : (p : ℕ) → (int_le (neg_ℤ (pos p)) (pos 0) && int_le (pos 0) (pos 0)) ≡ true
+    left p = let k = below_zero p in cc
+
+    go : (b : Bool) (f : Flank) → f ≡ (if b then RightOf else LeftOf)
+        → (share_x (line_rect s f a c) (left_edge (line_rect s Over d e)) ≡ not b)
+        × (share_x (line_rect s f a c) (right_edge (line_rect s Over d e)) ≡ b)
+    go true RightOf h = right s.right (2 * s.library.pitch) some
+    go false LeftOf h =
+        (left (2 * s.library.pitch), plain s.right (int_le (neg_ℤ (pos (2 * s.library.pitch))) (pos s.right)) some)
+    go true LeftOf h = absurd cc
+    go true Over h = absurd cc
+    go false RightOf h = absurd cc
+    go false Over h = absurd cc
+
+-- a lead shares a point with the edge of a bar on its own flank alone
+pub lead_edges : (s : Sheet) → IsRouted s → (q r : ℕ) → (q ≡ r) ⊎ (q ≡ r + 2)
+    → (share_point (place_of s (Lead q)) (left_edge (place_of s (Bar r))) ≡ not (turns_right q))
+    × (share_point (place_of s (Lead q)) (right_edge (place_of s (Bar r))) ≡ turns_right q)
+lead_edges s is q r l =
+    let x = left_of s is.right_some (turns_right q) (lead_flank q) refl (lead_first q) q r r in
+    let y = spans_meet s is q r l in (
+      ap (λ (b : Bool). b && share_y (place_of s (Lead q)) (place_of s (Bar r))) x.0
+          ∙ ap (λ (b : Bool). not (turns_right q) && b) y ∙ and_true (not (turns_right q)),
+      ap (λ (b : Bool). b && share_y (place_of s (Lead q)) (place_of s (Bar r))) x.1
+          ∙ ap (λ (b : Bool). turns_right q && b) y ∙ and_true (turns_right q),
+    )
+  where
+    and_true : (b : Bool) → (b && true) ≡ b
+    and_true true = refl
+    and_true false = refl
+
+-- the next link leaves at the other edge
+pub turns_back : (r : ℕ) → turns_right (r + 2) ≡ not (turns_right r)
+turns_back r =
+    plain (r % 4) ((r + 2) % 4)
+    (elim (cases_lt 1 (r % 4)) [ inl lt ↦ inr (lt, omega arith) | inr le ↦ inl (le, omega arith) ])
+  where
+    plain : (a b : ℕ) → ((a ≤ 1) × (1 < b)) ⊎ ((1 < a) × (b ≤ 1)) → nat_lt 1 b ≡ not (nat_lt 1 a)
+    plain a b (inl h) = grind (arith, nat_tests)
+    plain a b (inr h) = grind (arith, nat_tests)
+
+-- the phase of a bar is its row mod 4
+pub bar_phase : (s : Sheet) → IsRouted s → (r : ℕ) → phase_of (shape_of s (Lead r)) (shape_of s (Bar r)) ≡ r % 4
+bar_phase s is r = ap (λ (b : Bool). if b then (14 + r % 2) - 14 else (14 + r % 2) - 12)
+    (lead_edges s is r r (inl refl)).0 ∙ plain r
+  where
+    one : (r : ℕ) (b : Bool) → nat_lt 1 (r % 4) ≡ b → (if not b then (14 + r % 2) - 14 else (14 + r % 2) - 12) ≡ r % 4
+    one r true e = let k : 1 < r % 4 = from_test (r % 4) e in omega arith
+      where
+        from_test : (n : ℕ) → nat_lt 1 n ≡ true → 1 < n
+        from_test n e = grind (arith, nat_tests)
+    one r false e = let k : r % 4 ≤ 1 = from_test (r % 4) e in omega arith
+      where
+        from_test : (n : ℕ) → nat_lt 1 n ≡ false → n ≤ 1
+        from_test n e = grind (arith, nat_tests)
+
+    plain : (r : ℕ) → (if not (turns_right r) then (14 + r % 2) - 14 else (14 + r % 2) - 12) ≡ r % 4
+    plain r = one r (turns_right r) refl
+
+-- E2 (f): a bar overlaps the frames of its own row alone, and contains them; a lead overlaps none
+
+pub bar_frame : (s : Sheet) → IsRouted s → (r q slot : ℕ) (k : _)
+    → overlap (place_of s (Bar r)) (place_of s (Frame q slot k)) ≡ true → r ≡ q
+bar_frame s is r q slot k e =
+    let h = four (int_lt (pos 0) (pos ((slot + slots_of k) * (s.library.columns * s.library.pitch))))
+    (int_lt (pos (slot * (s.library.columns * s.library.pitch))) (pos s.right))
+    (int_lt (pos (lower_edge s r)) (pos (lower_edge s q + s.library.height)))
+    (int_lt (pos (lower_edge s q)) (pos (lower_edge s r + s.library.height))) e in
+    let a = lt_of (lower_edge s r) (lower_edge s q + s.library.height) h.2 in
+    let b = lt_of (lower_edge s q) (lower_edge s r + s.library.height) h.3 in
+    elim (cases_order r q) [
+      | inl same ↦ same
+      | inr o ↦ elim o [
+        | inl lt ↦ absurd (let x = edges_apart s.library s.used r q lt in let y = next_edge s.library s.used r in
+            omega arith)
+        | inr lt ↦ absurd (let x = edges_apart s.library s.used q r lt in let y = next_edge s.library s.used q in
+            omega arith)
+      ]
+    ]
+
+pub frame_in_bar : (s : Sheet) → (r slot : ℕ) (k : _) → Fits s (Frame r slot k)
+    → within (place_of s (Frame r slot k)) (place_of s (Bar r)) ≡ true
+frame_in_bar s r slot k fits = plain (slot * (s.library.columns * s.library.pitch))
+    ((slot + slots_of k) * (s.library.columns * s.library.pitch)) s.right (lower_edge s r)
+    (lower_edge s r + s.library.height) fits.1
+  where
+    plain : (a b w l h : ℕ) → b ≤ w
+        → (int_le (pos 0) (pos a) && int_le (pos b) (pos w) && (int_le (pos l) (pos l) && int_le (pos h) (pos h))) ≡
+        true
+    plain a b w l h le = grind (arith, nat_tests)
+
+pub lead_frame : (s : Sheet) → (r q slot : ℕ) (k : _) → Fits s (Frame q slot k)
+    → overlap (place_of s (Lead r)) (place_of s (Frame q slot k)) ≡ false
+lead_frame s r q slot k fits = go (turns_right r)
+  where
+    right : (w b : ℕ) (x y : Bool) → b ≤ w → (int_lt (pos w) (pos b) && x && y) ≡ false
+    right w b x y le = grind (arith, nat_tests)
+
+    left : (a : ℕ) (x y : Bool) → (x && int_lt (pos a) (pos 0) && y) ≡ false
+    left a x y = grind (arith, nat_tests)
+
+    go : (b : Bool) → overlap (line_rect s (if b then RightOf else LeftOf) (lead_first r) r)
+        (place_of s (Frame q slot k)) ≡ false
+    go true = right s.right ((slot + slots_of k) * (s.library.columns * s.library.pitch))
+        (int_lt (pos (slot * (s.library.columns * s.library.pitch))) (pos (s.right + 2 * s.library.pitch)))
+        (meet_y (line_rect s RightOf (lead_first r) r) (place_of s (Frame q slot k))) fits.1
+    go false = left (slot * (s.library.columns * s.library.pitch))
+        (int_lt (neg_ℤ (pos (2 * s.library.pitch)))
+        (pos ((slot + slots_of k) * (s.library.columns * s.library.pitch))))
+        (meet_y (line_rect s LeftOf (lead_first r) r) (place_of s (Frame q slot k)))

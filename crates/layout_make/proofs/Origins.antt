@@ -1,0 +1,175 @@
+-- Where each tag of a drawing comes from, and that each shape has its tag.
+use Rattle.std.proofs.Common.{◌≡◌, ℕ, zero, suc, ◌<◌, refl, sym, subst, inl, inr, ◌∷◌, ◌++◌, map, length}
+use Rattle.std.specs.List.{flat_map}
+use Rattle.std.proofs.lemmas.Option.{same_Some}
+use Rattle.cell_library.specs.Library.{LibraryView}
+use Rattle.layout_make.specs.Lawful.{IsLawful}
+use Rattle.circuit.specs.CellKinds.{inputs_of, outputs_of}
+use Rattle.layout_make.specs.Sheet.{Tag, Frame, InPin, OutPin, Lead, Bar, Rise, Fall, Across, FromVia, ToVia}
+use Rattle.layout_make.specs.Nets.{IsWire, Fits, At, Stands}
+use Rattle.rowed.specs.PlacedNets.{PlacedView}
+use Rattle.layout_make.specs.Spots.{Spot, spots, IsReady}
+use Rattle.rowed.specs.declared.wire.Wire.{Wire}
+use Rattle.rowed.specs.Numbers.{numbers}
+use Rattle.layout_make.specs.Channel.{channel}
+use Rattle.layout_make.specs.Tags.{sheet, spot_tags, wire_tags, line_tags, row_tags, tags}
+use Rattle.layout_make.proofs.Member.{In, in_head, in_append, in_left, in_right, in_map, map_in, in_flat_map}
+use Rattle.layout_make.proofs.Member.{flat_map_in, in_upto, upto_in}
+use Rattle.layout_make.specs.Channel.{in_column, out_column}
+use Rattle.layout_make.proofs.Sound.{wire_is, frame_fits, in_odd, out_even}
+
+-- what a cell draws
+pub data CellPart (l : LibraryView) (r : ℕ) (x : Spot) (t : Tag) : Type 0 where
+  TheFrame : t ≡ Frame r x.slot x.cell.kind → CellPart l r x t
+  AnInput : (i : ℕ) → i < inputs_of x.cell.kind → t ≡ InPin r (in_column l x i) i → CellPart l r x t
+  AnOutput : (o : ℕ) → o < outputs_of x.cell.kind → t ≡ OutPin r (out_column l x o) o → CellPart l r x t
+
+-- what a wire draws
+pub data WirePart (r c : ℕ) (t : Tag) : Type 0 where
+  TheRise : t ≡ Rise r c → WirePart r c t
+  TheFall : t ≡ Fall r c → WirePart r c t
+  TheAcross : t ≡ Across r c → WirePart r c t
+  TheFromVia : t ≡ FromVia r c → WirePart r c t
+  TheToVia : t ≡ ToVia r c → WirePart r c t
+
+pub data RowPart (p : PlacedView) (l : LibraryView) (r : ℕ) (t : Tag) : Type 0 where
+  OfCell : (x : Spot) → In x (spots p r) → CellPart l r x t → RowPart p l r t
+  TheLead : t ≡ Lead r → RowPart p l r t
+  TheBar : t ≡ Bar r → RowPart p l r t
+  OfWire : (w : Wire) → In w (channel p l r) → WirePart r w.from_column t → RowPart p l r t
+
+pub cell_part : (l : LibraryView) (r : ℕ) (x : Spot) (t : Tag) → In t (spot_tags l r x) → CellPart l r x t
+cell_part l r x t h =
+    elim (in_head t (Frame r x.slot x.cell.kind)
+    (map (λ i. InPin r (in_column l x i) i) (numbers 0 (inputs_of x.cell.kind))
+    ++ map (λ o. OutPin r (out_column l x o) o) (numbers 0 (outputs_of x.cell.kind))) h) [
+      | inl e ↦ TheFrame e
+      | inr k ↦ elim (in_append t (map (λ i. InPin r (in_column l x i) i) (numbers 0 (inputs_of x.cell.kind)))
+          (map (λ o. OutPin r (out_column l x o) o) (numbers 0 (outputs_of x.cell.kind))) k) [
+            | inl m ↦ let n = in_map (λ i. InPin r (in_column l x i) i) t (numbers 0 (inputs_of x.cell.kind)) m in
+                AnInput n.0 (in_upto (inputs_of x.cell.kind) n.0 n.1) n.2
+            | inr m ↦ let n = in_map (λ o. OutPin r (out_column l x o) o) t (numbers 0 (outputs_of x.cell.kind)) m in
+                AnOutput n.0 (in_upto (outputs_of x.cell.kind) n.0 n.1) n.2
+          ]
+    ]
+
+pub wire_part : (r : ℕ) (w : Wire) (t : Tag) → In t (wire_tags r w) → WirePart r w.from_column t
+wire_part r w t (zero, e) = TheRise (sym (same_Some _ _ e))
+wire_part r w t (suc zero, e) = TheFall (sym (same_Some _ _ e))
+wire_part r w t (suc (suc zero), e) = TheAcross (sym (same_Some _ _ e))
+wire_part r w t (suc (suc (suc zero)), e) = TheFromVia (sym (same_Some _ _ e))
+wire_part r w t (suc (suc (suc (suc zero))), e) = TheToVia (sym (same_Some _ _ e))
+wire_part r w t (suc (suc (suc (suc (suc i)))), e) = absurd cc
+
+pub row_part : (p : PlacedView) (l : LibraryView) (r : ℕ) (t : Tag) → In t (row_tags p l r) → RowPart p l r t
+row_part p l r t h =
+    elim (in_append t (flat_map (spot_tags l r) (spots p r))
+    (line_tags r ++ flat_map (wire_tags r) (channel p l r)) h) [
+      | inl k ↦ let m = in_flat_map (spot_tags l r) t (spots p r) k in OfCell m.0 m.1 (cell_part l r m.0 t m.2)
+      | inr k ↦ elim (in_head t (Lead r) (Bar r ∷ flat_map (wire_tags r) (channel p l r)) k) [
+        | inl e ↦ TheLead e
+        | inr m ↦ elim (in_head t (Bar r) (flat_map (wire_tags r) (channel p l r)) m) [
+          | inl e ↦ TheBar e
+          | inr n ↦ let o = in_flat_map (wire_tags r) t (channel p l r) n in OfWire o.0 o.1 (wire_part r o.0 t o.2)
+        ]
+      ]
+    ]
+
+pub tag_part : (p : PlacedView) (l : LibraryView) (t : Tag) → In t (tags p l) → (r : ℕ) × (r < length p.net.rows)
+    × RowPart p l r t
+tag_part p l t h = let m = in_flat_map (row_tags p l) t (numbers 0 (length p.net.rows)) h in
+    (m.0, in_upto (length p.net.rows) m.0 m.1, row_part p l m.0 t m.2)
+
+-- the other way
+
+row_stands : (p : PlacedView) (l : LibraryView) (r : ℕ) (t : Tag) → r < length p.net.rows → In t (row_tags p l r)
+    → Stands (tags p l) t
+row_stands p l r t lt h = flat_map_in (row_tags p l) r t (numbers 0 (length p.net.rows))
+    (upto_in (length p.net.rows) r lt) h
+
+pub lead_stands : (p : PlacedView) (l : LibraryView) (r : ℕ) → r < length p.net.rows → Stands (tags p l) (Lead r)
+lead_stands p l r lt =
+    row_stands p l r (Lead r) lt
+    (in_right (Lead r) (flat_map (spot_tags l r) (spots p r)) (line_tags r ++ flat_map (wire_tags r) (channel p l r))
+    (0, refl))
+
+pub bar_stands : (p : PlacedView) (l : LibraryView) (r : ℕ) → r < length p.net.rows → Stands (tags p l) (Bar r)
+bar_stands p l r lt =
+    row_stands p l r (Bar r) lt
+    (in_right (Bar r) (flat_map (spot_tags l r) (spots p r)) (line_tags r ++ flat_map (wire_tags r) (channel p l r))
+    (1, refl))
+
+pub wire_stands : (p : PlacedView) (l : LibraryView) (r : ℕ) (w : Wire) (t : Tag) → r < length p.net.rows
+    → In w (channel p l r) → In t (wire_tags r w) → Stands (tags p l) t
+wire_stands p l r w t lt h k =
+    row_stands p l r t lt
+    (in_right t (flat_map (spot_tags l r) (spots p r)) (line_tags r ++ flat_map (wire_tags r) (channel p l r))
+    (in_right t (line_tags r) (flat_map (wire_tags r) (channel p l r))
+    (flat_map_in (wire_tags r) w t (channel p l r) h k)))
+
+cell_stands : (p : PlacedView) (l : LibraryView) (r : ℕ) (x : Spot) (t : Tag) → r < length p.net.rows
+    → In x (spots p r) → In t (spot_tags l r x) → Stands (tags p l) t
+cell_stands p l r x t lt h k =
+    row_stands p l r t lt
+    (in_left t (flat_map (spot_tags l r) (spots p r)) (line_tags r ++ flat_map (wire_tags r) (channel p l r))
+    (flat_map_in (spot_tags l r) x t (spots p r) h k))
+
+pub frame_stands : (p : PlacedView) (l : LibraryView) (r : ℕ) (x : Spot) → r < length p.net.rows → In x (spots p r)
+    → Stands (tags p l) (Frame r x.slot x.cell.kind)
+frame_stands p l r x lt h = cell_stands p l r x (Frame r x.slot x.cell.kind) lt h (0, refl)
+
+pub input_stands : (p : PlacedView) (l : LibraryView) (r : ℕ) (x : Spot) (i : ℕ) → r < length p.net.rows
+    → In x (spots p r) → i < inputs_of x.cell.kind → Stands (tags p l) (InPin r (in_column l x i) i)
+input_stands p l r x i lt h li =
+    let k = in_left (InPin r (in_column l x i) i)
+    (map (λ i. InPin r (in_column l x i) i) (numbers 0 (inputs_of x.cell.kind)))
+    (map (λ o. OutPin r (out_column l x o) o) (numbers 0 (outputs_of x.cell.kind)))
+    (map_in (λ i. InPin r (in_column l x i) i) i (numbers 0 (inputs_of x.cell.kind))
+    (upto_in (inputs_of x.cell.kind) i li)) in
+    cell_stands p l r x (InPin r (in_column l x i) i) lt h (suc k.0, k.1)
+
+pub output_stands : (p : PlacedView) (l : LibraryView) (r : ℕ) (x : Spot) (o : ℕ) → r < length p.net.rows
+    → In x (spots p r) → o < outputs_of x.cell.kind → Stands (tags p l) (OutPin r (out_column l x o) o)
+output_stands p l r x o lt h lo =
+    let k = in_right (OutPin r (out_column l x o) o)
+    (map (λ i. InPin r (in_column l x i) i) (numbers 0 (inputs_of x.cell.kind)))
+    (map (λ o. OutPin r (out_column l x o) o) (numbers 0 (outputs_of x.cell.kind)))
+    (map_in (λ o. OutPin r (out_column l x o) o) o (numbers 0 (outputs_of x.cell.kind))
+    (upto_in (outputs_of x.cell.kind) o lo)) in
+    cell_stands p l r x (OutPin r (out_column l x o) o) lt h (suc k.0, k.1)
+
+-- each tag fits its sheet
+
+sheet_library : (p : PlacedView) (l : LibraryView) → (sheet p l).library ≡ l
+unfolding sheet
+sheet_library p l = refl
+
+cell_fits : (p : PlacedView) (l : LibraryView) → IsReady p l → IsLawful l → (r : ℕ) (x : Spot) (t : Tag)
+    → r < length p.net.rows → In x (spots p r) → CellPart l r x t → Fits (sheet p l) t
+unfolding sheet
+cell_fits p l is laws r x t lt h (TheFrame e) =
+    subst (Fits (sheet p l)) (sym e) (lt, frame_fits p l r x h, is.given r h.0 x h.1)
+cell_fits p l is laws r x t lt h (AnInput i li e) =
+    subst (Fits (sheet p l)) (sym e) (in_odd p l is laws r h.0 x i h.1 li)
+cell_fits p l is laws r x t lt h (AnOutput o lo e) =
+    subst (Fits (sheet p l)) (sym e) (out_even p l is laws r h.0 x o h.1 lo)
+
+wire_fits : (p : PlacedView) (l : LibraryView) (r c : ℕ) (t : Tag) → IsWire (sheet p l) r c → WirePart r c t
+    → Fits (sheet p l) t
+wire_fits p l r c t w (TheRise e) = subst (Fits (sheet p l)) (sym e) w
+wire_fits p l r c t w (TheFall e) = subst (Fits (sheet p l)) (sym e) w
+wire_fits p l r c t w (TheAcross e) = subst (Fits (sheet p l)) (sym e) w
+wire_fits p l r c t w (TheFromVia e) = subst (Fits (sheet p l)) (sym e) w
+wire_fits p l r c t w (TheToVia e) = subst (Fits (sheet p l)) (sym e) w
+
+part_fits : (p : PlacedView) (l : LibraryView) → IsReady p l → IsLawful l → (r : ℕ) (t : Tag) → r < length p.net.rows
+    → RowPart p l r t → Fits (sheet p l) t
+unfolding sheet
+part_fits p l is laws r t lt (OfCell x h part) = cell_fits p l is laws r x t lt h part
+part_fits p l is laws r t lt (TheLead e) = subst (Fits (sheet p l)) (sym e) lt
+part_fits p l is laws r t lt (TheBar e) = subst (Fits (sheet p l)) (sym e) lt
+part_fits p l is laws r t lt (OfWire w h part) = wire_fits p l r w.from_column t (wire_is p l is laws r w h).0 part
+
+pub all_fit : (p : PlacedView) (l : LibraryView) → IsReady p l → IsLawful l → (i : ℕ) (t : Tag) → At (tags p l) i t
+    → Fits (sheet p l) t
+all_fit p l is laws i t at = let m = tag_part p l t (i, at) in part_fits p l is laws m.0 t m.1 m.2

@@ -1,0 +1,75 @@
+use Rattle.std.proofs.Common.{◌≡◌, ◌∙◌, ap, sym, length, arith}
+use Rattle.layout_make.specs.Sheet.{lower_edge, lead_first}
+use Rattle.layout_make.specs.Tags.{sheet}
+use Rattle.layout_make.proofs.Heights.{stands_low}
+use Rattle.layout_make.proofs.Ready.{lawful, may_ready}
+use Rattle.layout_make.proofs.RowCode.{long_row}
+use Rattle.layout_make.proofs.RowsDrawn.{so_far, edge_here, first_own, first_before}
+use Rattle.layout_make.proofs.TopDrawn.{two_below, right_some, so_wired, so_last}
+use Rattle.layout_make.proofs.drawing.row_elements.Goals as goal
+use Rattle.layout_make.proofs.drawing.row_elements.Goals.{then-number-lt2, else-number-lt2}
+use Rattle.layout_make.proofs.drawing.row_elements.Goals.{then-number-count+in_ok-edge, else-number-count}
+
+pub loop-number-init : goal.loop-number-init
+loop-number-init c = so_far c.args.placed.now c.args.library.now _ c.in_ok-elements.ensures.items
+
+pub push_row-requires-clause-long : goal.push_row-requires-clause-long
+push_row-requires-clause-long c =
+    ap length c.of-row.ensures.slots ∙ long_row c.args.placed.now.net.rows c.args.placed.now.slots _
+    c.known.ensures.seated ∙ sym (ap length c.of-row.ensures.cells)
+
+pub push_row-requires-clause-some : goal.push_row-requires-clause-some
+push_row-requires-clause-some c =
+    omega (
+      arith,
+      c.right_end-right.ensures,
+      right_some c.args.placed.now c.args.library.now
+          (may_ready c.args.placed.now c.args.library.now c.tracks_are_fewest.ensures.plan c.requires.may)
+          (lawful c.args.library.now c.known-2.ensures.library),
+    )
+
+pub push_row-requires-clause-first : goal.push_row-requires-clause-first
+push_row-requires-clause-first c = elim c.if-number-lt2.branch [
+  | then-number-lt2 w ↦ omega (arith, w.first-is)
+  | else-number-lt2 w ↦ omega (
+    arith,
+    w.first-is,
+    two_below c.args.placed.now c.args.library.now c.loop-number.number _
+        _ _ _ c.loop-number.invariant (omega (arith, c.loop-number-test.true, c.row_count-count.ensures)),
+  )
+]
+
+pub push_row-requires-clause-edge : goal.push_row-requires-clause-edge
+push_row-requires-clause-edge c =
+    omega (
+      arith,
+      edge_here c.args.placed.now c.args.library.now c.loop-number.number _ _ _ _ c.loop-number.invariant
+          (omega (arith, c.loop-number-test.true, c.row_count-count.ensures)),
+      stands_low c.args.placed.now
+          c.args.library.now c.tracks_are_fewest.ensures.plan c.requires.may c.loop-number.number
+          (omega (arith, c.loop-number-test.true, c.row_count-count.ensures)),
+    )
+
+pub loop-number-preserved : goal.loop-number-preserved
+loop-number-preserved c =
+    let first : c.if-number-lt2.first ≡ lower_edge (sheet c.args.placed.now c.args.library.now)
+    (lead_first c.loop-number.number) = elim c.if-number-lt2.branch [
+      | then-number-lt2 w ↦ w.first-is ∙ first_own c.args.placed.now c.args.library.now c.loop-number.number _ _ _ _
+          c.loop-number.invariant (omega (arith, c.loop-number-test.true, c.row_count-count.ensures))
+          w.if-number-lt2.true
+      | else-number-lt2 w ↦ w.first-is ∙ first_before c.args.placed.now c.args.library.now c.loop-number.number _ _ _ _
+          c.loop-number.invariant (omega (arith, w.if-number-lt2.false))
+    ] in
+    elim c.if-number-count.branch [
+      | then-number-count+in_ok-edge w ↦ so_wired c.args.placed.now c.args.library.now c.loop-number.number _ _ _ _ _ _
+          _ _ _ _ _ _ c.loop-number.invariant (omega (arith, w.if-number-count.true, c.row_count-count.ensures))
+          c.requires.kinds c.right_end-right.ensures c.of-row.ensures.cells c.of-row.ensures.slots first
+          c.in_ok-push_row.ensures
+          (ap (λ (v : _). v.items) w.elements-is ∙ w.in_ok-edge.ensures.elements)
+          (w.edge-is ∙ w.in_ok-edge.ensures.next)
+      | else-number-count w ↦ so_last c.args.placed.now c.args.library.now c.loop-number.number _ _ _ _ _ _ _ _ _ _ _ _
+          c.loop-number.invariant (omega (arith, c.loop-number-test.true, c.row_count-count.ensures))
+          (omega (arith, w.if-number-count.false, c.row_count-count.ensures)) c.requires.kinds
+          c.right_end-right.ensures c.of-row.ensures.cells c.of-row.ensures.slots first c.in_ok-push_row.ensures
+          (ap (λ (v : _). v.items) w.elements-is) w.edge-is
+    ]

@@ -1,0 +1,90 @@
+use Rattle.std.proofs.Common.{ℕ, ◌/◌, ◌∙◌, ap, sym, length, arith, []}
+use Rattle.std.specs.Prelude.{slice_index_or}
+use Rattle.rowed.specs.RowNets.{row_at}
+use Rattle.circuit.specs.declared.cell_kind.CellKind.TheVariants.{Buffer}
+use Rattle.layout_make.specs.declared.marks.Ports.TheVariants.{Inputs, Outputs}
+use Rattle.layout_make.specs.Draw.{last_row}
+use Rattle.layout_make.proofs.Heights.{stands_low}
+use Rattle.layout_make.proofs.Ready.{lawful, last_suc}
+use Rattle.layout_make.proofs.RowCode.{long_row}
+use Rattle.layout_make.proofs.TopDrawn.{labels_fit, top_is, last_at}
+use Rattle.layout_make.proofs.drawing.top_elements.Goals as goal
+
+pub input_column-column-requires-clause-given : goal.input_column-column-requires-clause-given
+input_column-column-requires-clause-given c = c.known-2.ensures.library.given Buffer (λ e. cc)
+
+pub push_labels-requires-clause-long : goal.push_labels-requires-clause-long
+push_labels-requires-clause-long c = ap length c.of-bottom.ensures.slots
+    ∙ long_row c.args.placed.now.net.rows c.args.placed.now.slots _ c.known.ensures.seated
+    ∙ sym (ap length c.of-bottom.ensures.cells)
+
+pub push_labels-requires-clause-fits : goal.push_labels-requires-clause-fits
+push_labels-requires-clause-fits c =
+    labels_fit c.args.placed.now c.args.library.now c.tracks_are_fewest.ensures.plan c.requires.may 0 Inputs _ _ _
+    c.of-bottom.ensures.cells c.of-bottom.ensures.slots
+    (omega (
+      arith,
+      c.input_column-column.ensures,
+      (lawful c.args.library.now c.known-2.ensures.library).input_most
+          Buffer 0 (c.known-2.ensures.library.given Buffer (λ e. cc)) (omega arith),
+    ))
+
+pub output_column-column-requires-clause-given : goal.output_column-column-requires-clause-given
+output_column-column-requires-clause-given c = c.known-2.ensures.library.given Buffer (λ e. cc)
+
+pub overflow_add-edge : goal.overflow_add-edge
+overflow_add-edge c =
+    omega (
+      arith,
+      c.in_ok-elements.ensures.edge,
+      c.height.ensures,
+      stands_low c.args.placed.now c.args.library.now
+          c.tracks_are_fewest.ensures.plan c.requires.may (last_row c.args.placed.now)
+          (omega (arith, last_suc c.args.placed.now (omega (arith, c.known.ensures.net_keeps.two_rows)))),
+    )
+
+pub push_labels-requires-2-clause-long : goal.push_labels-requires-2-clause-long
+push_labels-requires-2-clause-long c = ap length c.of-top.ensures.slots
+    ∙ long_row c.args.placed.now.net.rows c.args.placed.now.slots _ c.known.ensures.seated
+    ∙ sym (ap length c.of-top.ensures.cells)
+
+pub push_labels-requires-2-clause-y : goal.push_labels-requires-2-clause-y
+push_labels-requires-2-clause-y c =
+    omega (
+      arith,
+      c.saturating_sub-y.ensures,
+      c.in_ok-elements.ensures.edge,
+      c.height.ensures,
+      stands_low
+          c.args.placed.now c.args.library.now c.tracks_are_fewest.ensures.plan c.requires.may
+          (last_row c.args.placed.now)
+          (omega (arith, last_suc c.args.placed.now (omega (arith, c.known.ensures.net_keeps.two_rows)))),
+    )
+
+pub push_labels-requires-2-clause-fits : goal.push_labels-requires-2-clause-fits
+push_labels-requires-2-clause-fits c =
+    labels_fit c.args.placed.now c.args.library.now c.tracks_are_fewest.ensures.plan c.requires.may
+    (last_row c.args.placed.now) Outputs _ _ _
+    (c.of-top.ensures.cells ∙ ap (row_at c.args.placed.now.net.rows)
+    (last_at c.args.placed.now _ c.known.ensures c.row_count-last.ensures))
+    (c.of-top.ensures.slots ∙ ap (λ (n : ℕ). slice_index_or c.args.placed.now.slots n [])
+    (last_at c.args.placed.now _ c.known.ensures c.row_count-last.ensures))
+    (omega (
+      arith,
+      c.output_column-column.ensures,
+      (lawful c.args.library.now c.known-2.ensures.library).output_most
+          Buffer 0 (c.known-2.ensures.library.given Buffer (λ e. cc)) (omega arith),
+    ))
+
+pub returns : goal.returns
+returns c =
+    top_is c.args.placed.now c.args.library.now c.in_ok-elements.elements.items c.push_labels.new.elements.items
+    c.push_labels-2.new.elements.items _ _ _ _ _ _ (c.pin.result / 2) c.saturating_sub-y.result _ _
+    c.in_ok-elements.ensures.elements c.of-bottom.ensures.cells c.of-bottom.ensures.slots
+    (c.of-top.ensures.cells ∙ ap (row_at c.args.placed.now.net.rows)
+    (last_at c.args.placed.now _ c.known.ensures c.row_count-last.ensures))
+    (c.of-top.ensures.slots ∙ ap (λ (n : ℕ). slice_index_or c.args.placed.now.slots n [])
+    (last_at c.args.placed.now _ c.known.ensures c.row_count-last.ensures)) c.input_column-column.ensures
+    c.output_column-column.ensures (ap (λ (n : ℕ). n / 2) c.pin.ensures)
+    (search (c.saturating_sub-y.ensures, c.in_ok-elements.ensures.edge, c.height.ensures, c.pin-2.ensures))
+    c.input_count.ensures c.output_count.ensures c.in_ok-push_labels.ensures c.in_ok-push_labels-2.ensures

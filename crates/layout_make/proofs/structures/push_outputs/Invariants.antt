@@ -1,0 +1,7 @@
+use Rattle.std.proofs.Common.{◌≡◌, ◌++◌, map}
+use Rattle.rowed.specs.Numbers.{numbers}
+use Rattle.layout_make.specs.Code.Boxes.{out_box}
+use Rattle.layout_make.proofs.structures.push_outputs.Given as goal
+
+abbrev pub invariant-loop-pin : goal.invariant-loop-pin
+invariant-loop-pin l = l.elements.items ≡ l.fn.elements.items ++ map (out_box l.library l.kind) (numbers 0 l.pin)
