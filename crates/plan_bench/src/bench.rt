@@ -1,44 +1,20 @@
-// The passes that lay a netlist out, each with a line about what it gave.
-ghost use Rattle.std.specs.Prelude.{◌≡◌, ◌+◌, ◌*◌, IfOk};
-ghost use Rattle.cell_library.specs.Reach.{slot_width_of, reach_of};
+// The passes that lay a netlist out and its drawing, each with a line about what it gave.
+ghost use Rattle.std.specs.Prelude.{◌≡◌, IfOk};
+ghost use Rattle.layout_make.specs.Draw.{draw as drawn};
+ghost use Rattle.layout_make.specs.MayDraw.{MayDraw};
 
 use crate::fault::Fault;
 use crate::size::Measured;
 use blif_read::Netlist;
 use cell_library::Library;
+use chip_plan::chip_plan;
 use circuit::{Answers, Pass};
-use level_balance::LevelPass;
-use maj_mapping::MapPass;
-use repeater_rows::RepeatPass;
-use row_place::PlacePass;
+use geom::Layout;
+use layout_make::draw;
+use rowed::Placed;
 use std::fmt::Display;
 use std::io;
 use std::time::{Clock, Duration, Instant};
-
-/// The pass of places for these cells.
-#[tactic(auto, using(crate::proofs::CellSizes::widths))]
-fn placing(cells: &Library) -> PlacePass
-    ensures { result.slot_width ≡ slot_width_of cells.now }
-{
-    cells.known();
-    let slot_width = cells.columns() * cells.pitch();
-    PlacePass { slot_width }
-}
-
-/// The pass of repeaters for these cells. A channel is highest with wires on all tracks.
-#[tactic(auto, using(crate::proofs::CellSizes::channels))]
-fn repeating(cells: &Library) -> RepeatPass
-    ensures reach { result.reach ≡ reach_of cells.now }
-    ensures height { result.height ≡ cells.now.height }
-    ensures channel { result.channel ≡ (cells.now.capacity + 1) * cells.now.pitch }
-{
-    cells.known();
-    RepeatPass {
-        reach: cells.reach(),
-        height: cells.height(),
-        channel: (cells.capacity() + 1) * cells.pitch(),
-    }
-}
 
 /// Runs passes, and prints a line for each: its name, how much it gave and, where that is asked for, its time.
 #[derive(Drop)]
@@ -56,6 +32,19 @@ impl<R: AllocGlobal + Clock + Print> Bench<'_, R> {
         println!(self.rt; "{name} {answer} ms {whole}.{rest:03}")
     }
 
+    /// Prints the line of a step: how much it gave, or that it was refused.
+    fn print_step<T: Measured, E>(
+        &self,
+        name: &str,
+        answer: &Result<T, E>,
+        took: Duration,
+    ) -> io::Result<()> {
+        match answer {
+            Ok(out) => self.print(name, &out.size(), took),
+            Err(_) => self.print(name, &"refused", took),
+        }
+    }
+
     /// What the pass gives. A refusal has its line too.
     fn run<A: Answers, P: Pass<A>>(&self, name: &str, pass: &P, from: &A) -> Result<P::Out, Fault>
     where
@@ -66,20 +55,31 @@ impl<R: AllocGlobal + Clock + Print> Bench<'_, R> {
         let start = Instant::now(self.rt)?;
         let answer = pass.run(self.rt.alloc(), from);
         let took = start.elapsed(self.rt)?;
-        match &answer {
-            Ok(out) => self.print(name, &out.size(), took)?,
-            Err(_) => self.print(name, &"refused", took)?,
-        }
+        self.print_step(name, &answer, took)?;
         Ok(answer?)
     }
 
-    /// Lays the netlist out with the cells.
+    /// The drawing of the chip. A refusal has its line too.
+    fn draw(&self, chip: &Placed, cells: &Library) -> Result<Layout, Fault>
+        requires { MayDraw chip.now cells.now }
+        ensures { IfOk result (λ layout. layout ≡ drawn chip.now cells.now) }
+    {
+        let start = Instant::now(self.rt)?;
+        let answer = draw(self.rt.alloc(), chip, cells);
+        let took = start.elapsed(self.rt)?;
+        self.print_step("draw", &answer, took)?;
+        Ok(answer?)
+    }
+
+    /// Lays the netlist out with the cells, and draws the chip.
     pub fn lay_out(&self, net: &Netlist, cells: &Library) -> Result<(), Fault> {
-        let three = cells.has_three();
-        let gates = self.run("map", &MapPass::new(self.rt.alloc())?, net)?;
-        let rows = self.run("level", &LevelPass { three }, &gates)?;
-        let placed = self.run("place", &placing(cells), &rows)?;
-        let _chip = self.run("repeat", &repeating(cells), &placed)?;
+        cells.known();
+        let plan = chip_plan(self.rt.alloc(), cells)?;
+        let gates = self.run("map", &plan.first.first.first, net)?;
+        let rows = self.run("level", &plan.first.first.second, &gates)?;
+        let placed = self.run("place", &plan.first.second, &rows)?;
+        let chip = self.run("repeat", &plan.second, &placed)?;
+        let _layout = self.draw(&chip, cells)?;
         Ok(())
     }
 }

@@ -1,13 +1,14 @@
 use aq_base::{LoadRefusal, Memory};
 use blif_read::BlifRefusal;
 use cell_library::LibraryRefusal;
+use layout_make::DrawRefusal;
 use level_balance::LevelRefusal;
 use repeater_rows::RepeatRefusal;
 use row_place::PlaceRefusal;
 use std::io;
 use thiserror::Error;
 
-/// Why a netlist was not laid out.
+/// Why a netlist was not laid out and drawn.
 #[derive(Debug, Drop, Error)]
 pub enum Fault {
     #[error("usage: plan_bench, or plan_bench NET LIB")]
@@ -24,6 +25,8 @@ pub enum Fault {
     Place(#[from] PlaceRefusal),
     #[error("repeat: {0:?}")]
     Repeat(#[from] RepeatRefusal),
+    #[error("draw: {0:?}")]
+    Draw(#[from] DrawRefusal),
     #[error("{0}")]
     System(#[from] io::Error),
     #[error("out of memory")]

@@ -1,15 +1,17 @@
-// How much a pass gave.
+// How much a pass or a drawing gave.
 ghost use Rattle.std.specs.Prelude.{◌≡◌};
 
 use circuit::PlainNet;
+use geom::Layout;
 use rowed::{Placed, RowNet};
 use std::fmt;
 
-/// Gates, or rows of cells.
+/// Gates, rows of cells, or elements of a drawing.
 #[derive(Clone, Copy)]
 pub enum Size {
     Gates(usize),
     Rows { rows: usize, cells: usize },
+    Elements(usize),
 }
 
 impl fmt::Display for Size {
@@ -17,6 +19,7 @@ impl fmt::Display for Size {
         match self {
             Size::Gates(gates) => write!(f, "gates {gates}"),
             Size::Rows { rows, cells } => write!(f, "rows {rows} cells {cells}"),
+            Size::Elements(elements) => write!(f, "elements {elements}"),
         }
     }
 }
@@ -63,5 +66,18 @@ impl Measured for Placed {
 
     fn size(&self) -> Size {
         self.net.size()
+    }
+}
+
+impl Measured for Layout {
+    ghost use Rattle.plan_bench.specs.Sizes.{layout_size};
+
+    ghost size = { layout_size };
+
+    fn size(&self) -> Size {
+        match self.structures.as_slice().get(self.top as usize) {
+            Some(top) => Size::Elements(top.elements.len()),
+            None => Size::Elements(0),
+        }
     }
 }

@@ -1,0 +1,6 @@
+pub mod CellSizes
+pub mod KeptKinds
+pub mod ChipLaws
+pub mod Exact
+pub mod Decided
+pub mod Given

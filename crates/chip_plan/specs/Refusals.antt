@@ -1,0 +1,62 @@
+-- Which netlists have no chip with a library, each limit before those that are tested after it.
+use Rattle.std.specs.Prelude.{◌≡◌, ℕ, ◌<◌, ◌≤◌, ◌⊎◌, length, Some, None}
+use Rattle.blif_read.specs.Parts.{NetView}
+use Rattle.aq_base.specs.declared.lists.Memory.{Memory as NoMemory}
+use Rattle.circuit.specs.declared.pass.ThenRefusal.{ThenRefusal}
+use Rattle.circuit.specs.declared.pass.ThenRefusal.TheVariants.{First, Second}
+use Rattle.rowed.specs.PlacedNets.{placed_rows}
+use Rattle.level_balance.specs.Steps.{capped}
+use Rattle.level_balance.specs.declared.pass.LevelRefusal.{LevelRefusal}
+use Rattle.level_balance.specs.declared.pass.LevelRefusal.TheVariants as levels
+use Rattle.row_place.specs.Places.{widest}
+use Rattle.rowed.specs.Extent.{width_limit, height_limit}
+use Rattle.row_place.specs.declared.pass.PlaceRefusal.{PlaceRefusal}
+use Rattle.row_place.specs.declared.pass.PlaceRefusal.TheVariants as places
+use Rattle.repeater_rows.specs.Passes.{cells_past}
+use Rattle.repeater_rows.specs.declared.pass.RepeatRefusal.{RepeatRefusal}
+use Rattle.repeater_rows.specs.declared.pass.RepeatRefusal.TheVariants as repeats
+use Rattle.cell_library.specs.Library.{LibraryView}
+use Rattle.chip_plan.specs.Plans.{rows_of, chip_of, cells_before, width_of, rows_height}
+use Rattle.chip_plan.specs.declared.refusal.PlanRefusal.{PlanRefusal}
+use Rattle.chip_plan.specs.declared.refusal.PlanRefusal.TheVariants.{Slots, Rows, Cells, Memory}
+
+-- the refusals of the passes, as one
+abbrev pub of_levels : LevelRefusal → PlanRefusal
+of_levels (levels.TooManyCells cells) = Cells cells
+of_levels levels.Memory = Memory
+
+abbrev pub of_places : PlaceRefusal → PlanRefusal
+of_places (places.TooWide span) = Slots span
+of_places places.Memory = Memory
+
+abbrev pub of_repeats : RepeatRefusal → PlanRefusal
+of_repeats (repeats.TooManyCells cells) = Cells cells
+of_repeats (repeats.TooTall rows) = Rows rows
+of_repeats repeats.Memory = Memory
+
+abbrev pub refusal_of : ThenRefusal (ThenRefusal (ThenRefusal NoMemory LevelRefusal) PlaceRefusal) RepeatRefusal
+    → PlanRefusal
+refusal_of (First (First (First refusal))) = Memory
+refusal_of (First (First (Second refusal))) = of_levels refusal
+refusal_of (First (Second refusal)) = of_places refusal
+refusal_of (Second refusal) = of_repeats refusal
+
+-- the rows have too many cells before they get repeaters, or else keep the width and have too many with them
+abbrev pub HasManyBefore : LibraryView → NetView → ℕ → Type 0
+HasManyBefore l net cells = (2000000 < cells_before l net) × (cells ≡ capped (cells_before l net))
+
+abbrev pub HasMany : LibraryView → NetView → ℕ → Type 0
+HasMany l net cells =
+    (cells_before l net ≤ 2000000) × (width_of l net ≤ width_limit)
+    × (cells_past 0 (placed_rows (chip_of l net)) ≡ Some cells)
+
+-- what the passes refuse, and with which number
+abbrev pub Refuses : LibraryView → NetView → PlanRefusal → Type 0
+Refuses l net (Cells cells) = HasManyBefore l net cells ⊎ HasMany l net cells
+Refuses l net (Slots span) =
+    (cells_before l net ≤ 2000000) × (width_limit < width_of l net) × (span ≡ widest (rows_of l net).rows)
+Refuses l net (Rows rows) =
+    (cells_before l net ≤ 2000000) × (width_of l net ≤ width_limit)
+    × (cells_past 0 (placed_rows (chip_of l net)) ≡ None)
+    × (height_limit < rows_height l rows) × (rows ≡ length (chip_of l net).net.rows)
+Refuses l net Memory = Unit {0}
