@@ -7,3 +7,6 @@ mod FirstLabels
 mod FirstLines
 mod OtherChips
 mod FirstChipKeeps
+pub mod NetsExist
+pub mod Insertion
+pub mod RowsExist

@@ -22,3 +22,4 @@ pub mod GeometryRules
 pub mod LengthRule
 pub mod Rules
 pub mod RuleLaws
+pub mod EveryNets

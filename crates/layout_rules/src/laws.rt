@@ -8,6 +8,7 @@ ghost use Rattle.layout_rules.specs.Nets.{AreNets, Certifies};
 ghost use Rattle.layout_rules.specs.Rows.{AreRows, row_of, row_count};
 ghost use Rattle.layout_rules.specs.Limits.{Limits};
 ghost use Rattle.layout_rules.specs.FirstLimits.{first_limits};
+ghost use Rattle.layout_rules.specs.EveryNets.{HaveNets};
 ghost use Rattle.layout_rules.specs.FaultyChips.{with_moved_via, without_starts};
 ghost use Rattle.layout_rules.specs.Reports.{IsFirstReport};
 ghost use Rattle.layout_rules.specs.Rules.{Broken, KeepsRules, FirstBroken};
@@ -26,6 +27,11 @@ pub fn moved_via_breaks_enclosure()
 /// Without the starts of its lines it breaks E2 at the least shape of the line over the even rows.
 pub fn no_start_breaks_excitation()
     ensures { IsFirstReport (Broken Rule.E2 without_starts first_limits) 3 3 }
+{}
+
+/// Each list of shapes has its nets.
+pub fn every_layout_has_nets()
+    ensures { (shapes : List Shape) → HaveNets shapes }
 {}
 
 /// A layout has one first broken rule at most, and it reports one pair of numbers.

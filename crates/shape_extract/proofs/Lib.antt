@@ -41,3 +41,9 @@ mod BarSides
 mod ExcitedEach
 mod LineTurns
 mod Assembled
+mod Partners
+mod MarkTable
+mod PinFrameLists
+mod FramesExist
+mod CircuitExists
+pub mod SameShapes

@@ -1,11 +1,11 @@
 -- What the walk over touching shapes keeps.
-use Rattle.std.proofs.Common.{◌≡◌, ◌≢◌, ℕ, suc, ◌+◌, ◌<◌, ◌≤◌, List, [], ◌∷◌, length, set, ◌++◌, refl, sym, ap, subst, ◌∙◌, arith, inl, inr}
-use Rattle.std.specs.Prelude.{slice_index, sum}
-use Rattle.std.proofs.lemmas.List.{get_or-set_other, get_or-set_same, length-set}
+use Rattle.std.proofs.Common.{◌≡◌, ◌≢◌, ℕ, suc, ◌+◌, ◌<◌, ◌≤◌, Bool, true, false, List, [], ◌∷◌, Some, length, get_or, replicate, set, ◌++◌, refl, sym, ap, subst, ◌∙◌, arith, inl, inr}
+use Rattle.std.specs.Prelude.{slice_get, slice_index, slice_set, sum}
+use Rattle.std.proofs.lemmas.List.{get_or-set_other, get_or-set_same, length-set, get_or-replicate, get_or_default, length-replicate}
 use Rattle.std.proofs.Math.ListN.{get_or-append, length-append}
 use Rattle.std.proofs.Math.Seq.{get_or-append_seam}
 use Rattle.std.proofs.lemmas.List.Sums.{sum_by-set}
-use Rattle.std.proofs.lemmas.Bool.{cases_eq, cases_lt}
+use Rattle.std.proofs.lemmas.Bool.{cases_eq, cases_lt, both_ways}
 use Rattle.std.proofs.lemmas.Option.{slice_get_within}
 use Rattle.geom.specs.declared.shapes.Shape.{Shape}
 use Rattle.layout_rules.specs.Touch.{touch, Touching, Joined}
@@ -13,7 +13,7 @@ use Rattle.layout_rules.specs.Reports.{PassTogether}
 use Rattle.layout_rules.specs.Nets.{AreNets}
 use Rattle.layout_rules.specs.NetLaws.{Touching-back, Touching-within, Joined-trans, Joined-touching, AreNets-certified}
 use Rattle.shape_extract.specs.Searches.{AreThose}
-use Rattle.shape_extract.specs.Walk.{AreTouching, IsWalk, IsSpreadTo, IsDone, AreMarked, IsLowest}
+use Rattle.shape_extract.specs.Walk.{AreTouching, IsWalk, IsSpreadTo, IsDone, AreMarked, IsLowest, is_settled, AreSettled, SettlesAlike, IsReached}
 
 pub sum_lowered : (ls : List ℕ) (i v : ℕ) → i < length ls → v < slice_index ls i → sum (set ls i v) < sum ls
 sum_lowered ls i v lt less = omega (arith, sum_by-set (λ x. x) ls i v 0 lt)
@@ -119,9 +119,77 @@ spread_same shapes numbers labels order new more from i s here = record {
   less = s.less;
 }
 
+-- ---- equal shapes
+
+module _ (shapes : List Shape) (labels order new more : List ℕ) (from : ℕ) (settled : List Bool) where
+  -- an equal shape has been spread from
+  pub reached_before : IsWalk shapes labels order → AreSettled shapes labels settled → is_settled settled from ≡ true → IsReached shapes labels order labels order from
+  reached_before w are e = record {
+    walk = w;
+    kept = λ k lk. refl;
+    all_reached = λ j t. are.reached from j e t;
+    longer = omega arith;
+    prefix = λ p lp. refl;
+    marked = λ p ge lp. absurd (omega arith);
+    less = omega arith;
+  }
+
+  pub reached_now : (numbers : List ℕ) → AreTouching shapes from numbers → IsSpreadTo (length numbers) shapes numbers labels order new more from → IsReached shapes labels order new more from
+  reached_now numbers are s = record {
+    walk = s.walk;
+    kept = s.kept;
+    all_reached = λ j t. (let n = are.complete j t in subst (λ (x : ℕ). slice_index new x < length shapes) n.1.1 (s.reached n.0 n.1.0));
+    longer = s.longer;
+    prefix = s.prefix;
+    marked = s.marked;
+    less = s.less;
+  }
+
+  -- what touches an equal shape touches this one
+  pub settled_now : (s : Shape) (later : List Bool) → slice_get shapes from ≡ Some s → AreSettled shapes labels settled → IsReached shapes labels order new more from → SettlesAlike shapes s settled later → AreSettled shapes new later
+  settled_now s later got are r alike = record {
+    long = alike.long ∙ are.long;
+    reached = λ d j e t. elim (alike.alike d e) [
+      | inl before ↦ (let lt : slice_index labels j < length shapes = are.reached d j before t in omega (arith, r.kept j lt))
+      | inr same ↦ r.all_reached j (record { first = t.first; second = t.second; first_is = got ∙ (sym same ∙ t.first_is); second_is = t.second_is; touch_so = t.touch_so })
+    ];
+  }
+
+-- one more shape is settled
+pub alike_more : (shapes : List Shape) (s t : Shape) (settled now : List Bool) (i : ℕ) → SettlesAlike shapes s settled now → slice_get shapes i ≡ Some t → t ≡ s → SettlesAlike shapes s settled (slice_set now i true)
+alike_more shapes s t settled now i are got same = record {
+  long = length-set now i true ∙ are.long;
+  alike = λ d e. elim (cases_eq d i) [
+    | inl here ↦ inr (ap (slice_get shapes) here ∙ (got ∙ ap Some same))
+    | inr ne ↦ are.alike d (sym (get_or-set_other now i d true false ne) ∙ e)
+  ];
+}
+
+pub alike_none : (shapes : List Shape) (s : Shape) (settled : List Bool) → SettlesAlike shapes s settled settled
+alike_none shapes s settled = record { long = refl; alike = λ d e. inl e }
+
+pub settled_read : (settled : List Bool) (d : ℕ) (b : Bool) → d < length settled → b ≡ get_or settled d b → b ≡ true → is_settled settled d ≡ true
+settled_read settled d b lt is e = get_or_default settled d false b lt ∙ (sym is ∙ e)
+
+-- nothing is settled
+pub settled_none : (n : ℕ) (shapes : List Shape) (labels : List ℕ) (settled : List Bool) → settled ≡ replicate n false → n ≡ length shapes → AreSettled shapes labels settled
+settled_none n shapes labels settled e long = record {
+  long = ap length e ∙ (length-replicate n false ∙ long);
+  reached = λ d j so t. (
+      let lt : d < length shapes = (Touching-within t).0 in
+      absurd (both_ways (is_settled settled d) (ap (λ (ss : List Bool). is_settled ss d) e ∙ get_or-replicate n d false false (omega arith)) so)
+      );
+}
+
+-- what is labelled stays so
+pub settled_kept : (shapes : List Shape) (labels new : List ℕ) (settled : List Bool) → ((k : ℕ) → slice_index labels k < length shapes → slice_index new k < length shapes) → AreSettled shapes labels settled → AreSettled shapes new settled
+settled_kept shapes labels new settled still are = record { long = are.long; reached = λ d j e t. still j (are.reached d j e t) }
+
+-- ---- the order
+
 -- the next of the order is done
-pub done_more : (shapes : List Shape) (labels order new more : List ℕ) (done m : ℕ) → IsWalk shapes labels order → IsDone shapes labels order done → AreMarked labels order done m → done < length order → (numbers : List ℕ) → AreTouching shapes (slice_index order done) numbers → IsSpreadTo (length numbers) shapes numbers labels order new more (slice_index order done) → IsDone shapes new more (done + 1)
-done_more shapes labels order new more done m w d marks ld numbers are s = λ p j lp touching.
+pub done_more : (shapes : List Shape) (labels order new more : List ℕ) (done m : ℕ) → IsWalk shapes labels order → IsDone shapes labels order done → AreMarked labels order done m → done < length order → IsReached shapes labels order new more (slice_index order done) → IsDone shapes new more (done + 1)
+done_more shapes labels order new more done m w d marks ld s = λ p j lp touching.
     let lp2 : p < length order = omega arith in
     let same_place : slice_index more p ≡ slice_index order p = s.prefix p lp2 in
     let t : Touching shapes (slice_index order p) j = subst (λ (x : ℕ). Touching shapes x j) same_place touching in
@@ -150,8 +218,7 @@ done_more shapes labels order new more done m w d marks ld numbers are s = λ p 
                       s.kept j known ∙ sym g ∙ marks q.0 after q.1.0
                 ]
             | inr free ↦
-                let n = are.complete j u in
-                let here : slice_index new j < length shapes = subst (λ (x : ℕ). slice_index new x < length shapes) n.1.1 (s.reached n.0 n.1.0) in
+                let here : slice_index new j < length shapes = s.all_reached j u in
                 let q = s.walk.ordered j lj here in
                 let g : slice_index new (slice_index more q.0) ≡ slice_index new j = ap (λ (x : ℕ). slice_index new x) q.1.1 in
                 elim (cases_lt q.0 (length order)) [
@@ -162,8 +229,8 @@ done_more shapes labels order new more done m w d marks ld numbers are s = λ p 
           goal_is ∙ sym mp ∙ sym here
     ]
 
-pub marks_more : (shapes : List Shape) (labels order new more : List ℕ) (done m : ℕ) → IsWalk shapes labels order → AreMarked labels order done m → done < length order → (numbers : List ℕ) → AreTouching shapes (slice_index order done) numbers → IsSpreadTo (length numbers) shapes numbers labels order new more (slice_index order done) → AreMarked new more (done + 1) m
-marks_more shapes labels order new more done m w marks ld numbers are s = λ p ge lp. elim (cases_lt p (length order)) [
+pub marks_more : (shapes : List Shape) (labels order new more : List ℕ) (done m : ℕ) → IsWalk shapes labels order → AreMarked labels order done m → done < length order → IsReached shapes labels order new more (slice_index order done) → AreMarked new more (done + 1) m
+marks_more shapes labels order new more done m w marks ld s = λ p ge lp. elim (cases_lt p (length order)) [
   | inl before ↦ ap (λ (x : ℕ). slice_index new x) (s.prefix p before) ∙ s.kept (slice_index order p) (w.labelled p before) ∙ marks p (omega arith) before
   | inr after ↦ s.marked p after lp ∙ marks done (omega arith) ld
 ]

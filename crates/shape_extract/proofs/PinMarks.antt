@@ -1,31 +1,41 @@
--- The label of a pin, looked for label by label.
-use Rattle.std.proofs.Common.{◌≡◌, ℕ, ◌+◌, ◌<◌, ◌≤◌, ◌^◌, inl, inr, true, false, List, length, Some, sym, ap, ◌∙◌, arith}
+-- The label of a pin, read from the table of labels.
+use Rattle.std.proofs.Common.{◌≡◌, ℕ, ◌<◌, ◌^◌, true, List, length, get_or, Some, None, sym, ap, ◌∙◌}
 use Rattle.std.specs.Prelude.{slice_get}
-use Rattle.std.proofs.lemmas.Bool.{cases_eq, both_ways}
 use Rattle.std.proofs.lemmas.Option.{same_Some, slice_get_within}
 use Rattle.geom.specs.declared.shapes.Shape.{Shape}
 use Rattle.geom.specs.declared.shapes.Label.{Label}
 use Rattle.geom.specs.declared.shapes.Flat.{Flat}
 use Rattle.layout_rules.specs.Labels.{marks, Marks, is_decimal, tail, number_of_label}
-use Rattle.layout_rules.specs.Reports.{ReportsNone}
+use Rattle.layout_rules.specs.Layers.{is_pin}
+use Rattle.layout_rules.specs.Reports.{ReportsNone, Passes}
 use Rattle.layout_rules.specs.CircuitRules.{LabelsBroken}
+use Rattle.shape_extract.specs.Code.Marking.{AreMarks, label_in}
+use Rattle.shape_extract.specs.Passing.{PassesIn}
 use Rattle.shape_extract.specs.PinNames.{IsNameOf}
+use Rattle.shape_extract.specs.declared.mark_table.Mark.{Mark}
+use Rattle.shape_extract.specs.declared.mark_table.Mark.TheVariants.{Unmarked}
+use Rattle.shape_extract.proofs.MarkTable.{mark_of, label_at, none_at}
 use Rattle.shape_extract.proofs.KeptPins.{decimal_marked, input_named, output_named, label_bound}
 
--- none of the first labels marks the pin
-abbrev pub NoneMarks : List Label → Shape → ℕ → Type 0
-NoneMarks labels pin n = (l : ℕ) (label : Label) → l < n → slice_get labels l ≡ Some label → marks label pin ≡ true → ⊥
+-- ---- what the table of labels says of a pin
 
-pub none_more : (labels : List Label) (pin : Shape) (n : ℕ) (here : Label) → NoneMarks labels pin n → slice_get labels n ≡ Some here → marks here pin ≡ false → NoneMarks labels pin (n + 1)
-none_more labels pin n here none got off l label lt is so = elim (cases_eq l n) [
-  | inl e ↦ both_ways (marks here pin) off (ap (λ (x : Label). marks x pin) (same_Some here label (sym got ∙ (ap (slice_get labels) (sym e) ∙ is))) ∙ so)
-  | inr ne ↦ none l label (omega arith) is so
-]
+module _ (flat : Flat) (marking : List Mark) (are : AreMarks flat.shapes flat.labels marking) (p : ℕ) (pin : Passes is_pin flat.shapes p) where
+  module _ (l : ℕ) (e : label_in (get_or marking p Unmarked) ≡ Some l) where
+    here : PassesIn (λ label. marks label pin.shape) flat.labels l
+    here = label_at flat.labels pin.shape (get_or marking p Unmarked) l (mark_of flat marking are p pin.shape pin.shape_is) e
 
-pub none_marks : (flat : Flat) (p n : ℕ) (pin : Shape) → slice_get flat.shapes p ≡ Some pin → length flat.labels ≤ n → NoneMarks flat.labels pin n → (l : ℕ) → Marks flat l p → ⊥
-none_marks flat p n pin is all none l m =
-    let lt : l < length flat.labels = slice_get_within flat.labels l m.label m.label_is in
-    none l m.label (omega arith) m.label_is (ap (marks m.label) (same_Some pin m.pin (sym is ∙ m.pin_is)) ∙ m.marks_so)
+    pub label_there : l < length flat.labels
+    unfolding here
+    label_there = slice_get_within flat.labels l here.item here.item_is
+
+    pub label_marks : (label : Label) → slice_get flat.labels l ≡ Some label → marks label pin.shape ≡ true
+    unfolding here
+    label_marks label is = ap (λ (x : Label). marks x pin.shape) (same_Some label here.item (sym is ∙ here.item_is)) ∙ here.passes_so
+
+  pub no_label : label_in (get_or marking p Unmarked) ≡ None → (l : ℕ) → Marks flat l p → ⊥
+  no_label e l m = none_at flat.labels pin.shape (get_or marking p Unmarked) (mark_of flat marking are p pin.shape pin.shape_is) e l m.label m.label_is (ap (marks m.label) (same_Some pin.shape m.pin (sym pin.shape_is ∙ m.pin_is)) ∙ m.marks_so)
+
+-- ---- what a label on a pin says
 
 module _ (flat : Flat) (kept : ReportsNone (LabelsBroken flat)) (p l : ℕ) (pin : Shape) (label : Label) (pin_is : slice_get flat.shapes p ≡ Some pin) (label_is : slice_get flat.labels l ≡ Some label) (so : marks label pin ≡ true) where
   mark : Marks flat l p

@@ -28,3 +28,5 @@ pub mod LineParts
 pub mod Lines
 pub mod LineWalk
 pub mod Parts
+pub mod Sharing
+pub mod Code

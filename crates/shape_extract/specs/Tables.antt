@@ -10,6 +10,8 @@ use Rattle.layout_rules.specs.Nets.{AreNets}
 use Rattle.shape_extract.specs.declared.cell_feeds.Tables.{Tables}
 use Rattle.shape_extract.specs.declared.cells.Feed.{Feed}
 use Rattle.shape_extract.specs.declared.cells.Feed.TheVariants.{Nothing}
+use Rattle.shape_extract.specs.Code.Marking.{AreMarks}
+use Rattle.shape_extract.specs.Code.FramesOfPins.{ArePinFrames}
 use Rattle.shape_extract.specs.Frames.{AreFrames}
 use Rattle.shape_extract.specs.Corners.{ArePlaces}
 use Rattle.shape_extract.specs.Drivers.{AreDrivers}
@@ -27,6 +29,11 @@ pub record AreTables (flat : Flat) (nets frames places drivers : List ℕ) : Typ
 
 abbrev pub AreReady : Tables → Type 0
 AreReady tables = AreTables tables.flat.now tables.nets.now tables.frames.now tables.places.now tables.drivers.now
+
+-- which labels mark each pin, and the frame of each pin
+pub record AreKnownPins (tables : Tables) : Type 0 where
+  pub marks : AreMarks tables.flat.now.shapes tables.flat.now.labels tables.marking.now
+  pub frames : ArePinFrames tables.flat.now.shapes tables.pin_frames.now
 
 -- f is the frame of a cell of this kind
 pub record IsFrameOf (shapes : List Shape) (kind : CellKind) (f : ℕ) : Type 0 where

@@ -1,5 +1,5 @@
 -- The walk that finds nets: a label for each shape, where a number of no shape means none yet, and the labelled shapes in the order in which they were labelled. It is the search by connected components of circuit extractors.
-use Rattle.std.specs.Prelude.{◌≡◌, ℕ, ◌+◌, ◌*◌, ◌<◌, ◌≤◌, List, length, slice_index, sum}
+use Rattle.std.specs.Prelude.{◌≡◌, ℕ, ◌+◌, ◌*◌, ◌<◌, ◌≤◌, ◌⊎◌, Bool, true, false, List, length, Some, slice_get, slice_index, slice_index_or, sum}
 use Rattle.geom.specs.declared.shapes.Shape.{Shape}
 use Rattle.layout_rules.specs.Touch.{Touching, Joined}
 
@@ -38,6 +38,30 @@ AreMarked labels order done mark = (p : ℕ) → done ≤ p → p < length order
 -- no shape below the label lacks one
 abbrev pub IsLowest : List Shape → List ℕ → ℕ → Type 0
 IsLowest shapes labels mark = (k : ℕ) → k < mark → slice_index labels k < length shapes
+
+-- the shape of this number is equal to one that has been spread from
+abbrev pub is_settled : List Bool → ℕ → Bool
+is_settled settled d = slice_index_or settled d false
+
+-- all that touches a settled shape is labelled
+pub record AreSettled (shapes : List Shape) (labels : List ℕ) (settled : List Bool) : Type 0 where
+  pub long : length settled ≡ length shapes
+  pub reached : (d j : ℕ) → is_settled settled d ≡ true → Touching shapes d j → slice_index labels j < length shapes
+
+-- only shapes that are equal to this one are settled anew
+pub record SettlesAlike (shapes : List Shape) (s : Shape) (settled new : List Bool) : Type 0 where
+  pub long : length new ≡ length settled
+  pub alike : (d : ℕ) → is_settled new d ≡ true → (is_settled settled d ≡ true) ⊎ (slice_get shapes d ≡ Some s)
+
+-- all that touches shape `from` is labelled, new ones as that shape is
+pub record IsReached (shapes : List Shape) (labels order new more : List ℕ) (from : ℕ) : Type 0 where
+  pub walk : IsWalk shapes new more
+  pub kept : (k : ℕ) → slice_index labels k < length shapes → slice_index new k ≡ slice_index labels k
+  pub all_reached : (j : ℕ) → Touching shapes from j → slice_index new j < length shapes
+  pub longer : length order ≤ length more
+  pub prefix : (p : ℕ) → p < length order → slice_index more p ≡ slice_index order p
+  pub marked : (p : ℕ) → length order ≤ p → p < length more → slice_index new (slice_index more p) ≡ slice_index labels from
+  pub less : 2 * sum new + length more ≤ 2 * sum labels + length order
 
 -- the walk is done, and what was labelled is still
 pub record IsGrown (shapes : List Shape) (labels new order : List ℕ) : Type 0 where

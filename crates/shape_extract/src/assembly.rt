@@ -1,9 +1,12 @@
 // The circuit of a layout, put together from its cells and ports, where the rules of circuits are kept.
 ghost use Rattle.std.specs.Prelude.{◌≡◌, ◌^◌, ◌<◌, IfOk};
+ghost use Rattle.geom.specs.Near.{rects_of};
 ghost use Rattle.geom.specs.FlatForm.{flat_count};
 ghost use Rattle.layout_rules.specs.Nets.{AreNets};
 ghost use Rattle.layout_rules.specs.Rows.{AreRows};
 ghost use Rattle.shape_extract.specs.Extraction.{IsCircuitOf};
+ghost use Rattle.shape_extract.specs.Code.FramesOfPins.{ArePinFrames};
+ghost use Rattle.shape_extract.specs.Code.Marking.{AreMarks};
 ghost use Rattle.shape_extract.specs.Extracts.{KeepsFive};
 ghost use Rattle.shape_extract.specs.Parts.{AreParts};
 ghost use Rattle.shape_extract.specs.RowFaults.{ArePinRows};
@@ -14,10 +17,11 @@ use crate::cells::ExCell;
 use crate::drivers::drivers;
 use crate::extraction::Extracted;
 use crate::frames::{ordered_frames, places_of};
+use crate::mark_table::Mark;
 use crate::outputs::{outputs_of, wire_count};
 use crate::ports::{count_entries, count_exits, ports};
 use aq_base::{List, Memory};
-use geom::Flat;
+use geom::{Buckets, Flat};
 use rowed::Source;
 use std::alloc::Global;
 
@@ -32,13 +36,19 @@ pub struct CircuitParts {
 fn parts_of(
     alloc: Global,
     flat: &Flat,
+    marking: &[Mark],
+    index: &Buckets,
     nets: &[u32],
     edges: &[i64],
+    pin_frames: &[u32],
     rows: &[usize],
 ) -> Result<CircuitParts, Memory>
     requires few { flat_count flat.now < 2 ^ 32 }
+    requires filed { index.now ≡ rects_of flat.now.shapes }
     requires nets { AreNets flat.now.shapes nets.now }
+    requires marking { AreMarks flat.now.shapes flat.now.labels marking.now }
     requires edges { AreRows flat.now.shapes edges.now }
+    requires pin_frames { ArePinFrames flat.now.shapes pin_frames.now }
     requires rows { ArePinRows flat.now.shapes rows.now }
     requires kept { KeepsFive flat.now }
     ensures { IfOk result (λ parts. AreParts flat.now parts.cells parts.inputs parts.outputs) }
@@ -49,10 +59,13 @@ fn parts_of(
     let drivers = drivers(alloc, flat, nets)?;
     let tables = Tables {
         flat,
+        index,
         nets,
         frames: frames.as_slice(),
         places: places.as_slice(),
         drivers: drivers.as_slice(),
+        marking,
+        pin_frames,
     };
     let ports = ports(alloc, shapes, rows, edges.len().saturating_sub(1))?;
     let cells = cells_of(alloc, &tables, edges)?;
@@ -68,19 +81,34 @@ fn parts_of(
 pub fn circuit_of(
     alloc: Global,
     flat: &Flat,
+    marking: &[Mark],
+    index: &Buckets,
     nets: List<u32>,
     edges: &[i64],
+    pin_frames: &[u32],
     rows: &[usize],
 ) -> Result<Extracted, Memory>
     requires few { flat_count flat.now < 2 ^ 32 }
+    requires filed { index.now ≡ rects_of flat.now.shapes }
     requires nets { AreNets flat.now.shapes nets }
+    requires marking { AreMarks flat.now.shapes flat.now.labels marking.now }
     requires edges { AreRows flat.now.shapes edges.now }
+    requires pin_frames { ArePinFrames flat.now.shapes pin_frames.now }
     requires rows { ArePinRows flat.now.shapes rows.now }
     requires kept { KeepsFive flat.now }
     ensures { IfOk result (IsCircuitOf flat.now) }
 {
-    let parts = parts_of(alloc, flat, nets.as_slice(), edges, rows)?;
-    let wires = wire_count(flat);
+    let parts = parts_of(
+        alloc,
+        flat,
+        marking,
+        index,
+        nets.as_slice(),
+        edges,
+        pin_frames,
+        rows,
+    )?;
+    let wires = wire_count(flat, marking);
     let CircuitParts {
         cells,
         inputs,

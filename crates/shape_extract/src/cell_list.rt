@@ -2,11 +2,12 @@
 ghost use Rattle.std.specs.Prelude.{◌≡◌, ◌<◌, ◌^◌, IfOk, length, slice_get, Some};
 ghost use Rattle.std.specs.List.{AllZip};
 ghost use Rattle.geom.specs.declared.shapes.Shape.{Shape};
+ghost use Rattle.geom.specs.Near.{rects_of};
 ghost use Rattle.layout_rules.specs.Rows.{AreRows, row_of};
 ghost use Rattle.layout_rules.specs.Reports.{Passes};
 ghost use Rattle.layout_rules.specs.Layers.{is_frame};
 ghost use Rattle.shape_extract.specs.Extraction.{IsCellFrom};
-ghost use Rattle.shape_extract.specs.Tables.{AreReady, IsFrameOf};
+ghost use Rattle.shape_extract.specs.Tables.{AreReady, AreKnownPins, IsFrameOf};
 
 use crate::cell_feeds::{Tables, feed_at};
 use crate::cell_rule::{HoldsPin, kind_numbered};
@@ -41,15 +42,16 @@ fn row_of(tables: &Tables<'_>, edges: &[i64], f: u32) -> u32
     row_at(edges, lower_edge(frame)) as u32
 }
 
-/// The cell with this frame, which is excited in the phase of its row. The lists are for use within.
+/// The cell with this frame, which is excited in the phase of its row. The list is for use within.
 fn cell_of(
     tables: &Tables<'_>,
     edges: &[i64],
     f: u32,
     pins: &mut Vec<u32>,
-    found: &mut Vec<u32>,
 ) -> Result<ExCell, Memory>
     requires tables { AreReady tables.now }
+    requires known { AreKnownPins tables.now }
+    requires filed { tables.now.index.now ≡ rects_of tables.now.flat.now.shapes }
     requires rows { AreRows tables.now.flat.now.shapes edges.now }
     requires frame { Passes is_frame tables.now.flat.now.shapes f }
     ensures { IfOk result (λ cell. IsCellFrom tables.now.flat.now tables.now.frames.now cell f) }
@@ -57,10 +59,10 @@ fn cell_of(
     let shapes = tables.flat.shapes.as_slice();
     let kind = kind_of(tables, f);
     let row = row_of(tables, edges, f);
-    list_partners(&HoldsPin, shapes, f, pins)?;
-    let feed0 = feed_at(tables, pins.as_slice(), kind, f, 0, found)?;
-    let feed1 = feed_at(tables, pins.as_slice(), kind, f, 1, found)?;
-    let feed2 = feed_at(tables, pins.as_slice(), kind, f, 2, found)?;
+    list_partners(&HoldsPin, shapes, tables.index, f, pins)?;
+    let feed0 = feed_at(tables, pins.as_slice(), kind, f, 0);
+    let feed1 = feed_at(tables, pins.as_slice(), kind, f, 1);
+    let feed2 = feed_at(tables, pins.as_slice(), kind, f, 2);
     Ok(ExCell {
         kind,
         row,
@@ -74,14 +76,15 @@ fn cell_of(
 /// The cells in the order of their frames.
 pub fn cells_of(alloc: Global, tables: &Tables<'_>, edges: &[i64]) -> Result<List<ExCell>, Memory>
     requires tables { AreReady tables.now }
+    requires known { AreKnownPins tables.now }
+    requires filed { tables.now.index.now ≡ rects_of tables.now.flat.now.shapes }
     requires rows { AreRows tables.now.flat.now.shapes edges.now }
     ensures { IfOk result (λ cells. AllZip (IsCellFrom tables.now.flat.now tables.now.frames.now) cells tables.now.frames.now) }
 {
     let mut pins = Vec::new(alloc);
-    let mut found = Vec::new(alloc);
     let mut cells = Vec::new(alloc);
     for frame in tables.frames {
-        cells.push(cell_of(tables, edges, *frame, &mut pins, &mut found)?)?;
+        cells.push(cell_of(tables, edges, *frame, &mut pins)?)?;
     }
     Ok(List::from_vec(cells))
 }

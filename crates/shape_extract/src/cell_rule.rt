@@ -1,5 +1,6 @@
 // The rule of cells: each frame is that of a cell of some kind, and each pin lies in one frame.
 ghost use Rattle.std.specs.Prelude.{◌≡◌, ◌⊎◌, ◌&&◌, ◌^◌, ◌<◌, ℕ, Bool, length, count_by, int_le, IfOk, slice_get, slice_index, Some};
+ghost use Rattle.geom.specs.Near.{rects_of};
 ghost use Rattle.geom.specs.declared.shapes.Shape.{Shape};
 ghost use Rattle.geom.specs.Rectangle.{within};
 ghost use Rattle.layout_rules.specs.Layers.{is_frame, is_pin};
@@ -13,7 +14,7 @@ use crate::search::{PairTest, Part, Report, first_of, list_partners};
 use crate::touching::is_pin;
 use aq_base::Memory;
 use circuit::CellKind;
-use geom::{Rect, Shape};
+use geom::{Buckets, Rect, Shape};
 use layout_rules::layers::{FRAME, INPUT_PIN, OUTPUT_PIN};
 use std::alloc::Global;
 
@@ -59,22 +60,34 @@ fn lies_in(pin: &Shape, frame: &Shape) -> bool
 pub struct PinInFrame;
 
 impl PairTest for PinInFrame {
+    ghost use Rattle.shape_extract.specs.Sharing.{pin_close};
+
     ghost passes = { λ s pin frame. lies_in pin frame };
+
+    ghost reach = { λ s. 0 };
 
     fn passes(&self, a: &Shape, b: &Shape) -> bool {
         lies_in(a, b)
     }
+
+    ghost close = { λ s a b p q h. pin_close a b p h };
 }
 
 /// A frame, and a pin that lies in it.
 pub struct HoldsPin;
 
 impl PairTest for HoldsPin {
+    ghost use Rattle.shape_extract.specs.Sharing.{frame_close};
+
     ghost passes = { λ s frame pin. holds_pin frame pin };
+
+    ghost reach = { λ s. 0 };
 
     fn passes(&self, a: &Shape, b: &Shape) -> bool {
         lies_in(b, a)
     }
+
+    ghost close = { λ s a b p q h. frame_close a b q h };
 }
 
 /// The kind that a frame's datatype names.
@@ -150,7 +163,8 @@ fn are_numbered(shapes: &[Shape], numbers: &[u32], layer: u16, n: u32) -> bool
 }
 
 /// Whether the frame of this number is that of a cell.
-fn is_cell(shapes: &[Shape], f: u32, found: &mut Vec<u32>) -> Result<bool, Memory>
+fn is_cell(shapes: &[Shape], index: &Buckets, f: u32, found: &mut Vec<u32>) -> Result<bool, Memory>
+    requires filed { index.now ≡ rects_of shapes.now }
     requires few { length shapes.now < 2 ^ 32 }
     requires within { f < length shapes.now }
     ensures { IfOk result (λ yes. (frame : Shape) → slice_get shapes.now f ≡ Some frame → Says yes (IsCell shapes.now f frame)) }
@@ -158,7 +172,7 @@ fn is_cell(shapes: &[Shape], f: u32, found: &mut Vec<u32>) -> Result<bool, Memor
     let Some(kind) = kind_numbered(shapes[f as usize].datatype) else {
         return Ok(false);
     };
-    list_partners(&HoldsPin, shapes, f, found)?;
+    list_partners(&HoldsPin, shapes, index, f, found)?;
     let pins = found.as_slice();
     Ok(
         are_numbered(shapes, pins, INPUT_PIN, kind.inputs())
@@ -167,28 +181,40 @@ fn is_cell(shapes: &[Shape], f: u32, found: &mut Vec<u32>) -> Result<bool, Memor
 }
 
 /// Whether the pin of this number lies in one frame and in no second one.
-fn lies_in_one_frame(shapes: &[Shape], p: u32, found: &mut Vec<u32>) -> Result<bool, Memory>
+fn lies_in_one_frame(
+    shapes: &[Shape],
+    index: &Buckets,
+    p: u32,
+    found: &mut Vec<u32>,
+) -> Result<bool, Memory>
+    requires filed { index.now ≡ rects_of shapes.now }
     requires few { length shapes.now < 2 ^ 32 }
     requires within { p < length shapes.now }
     ensures { IfOk result (λ yes. Says yes (LiesInOneFrame shapes.now p)) }
 {
-    list_partners(&PinInFrame, shapes, p, found)?;
+    list_partners(&PinInFrame, shapes, index, p, found)?;
     Ok(found.len() == 1)
 }
 
 /// Whether the shape of this number is a frame that is no cell's, or a pin that doesn't lie in one frame.
-fn is_at_fault(shapes: &[Shape], n: u32, found: &mut Vec<u32>) -> Result<bool, Memory>
+fn is_at_fault(
+    shapes: &[Shape],
+    index: &Buckets,
+    n: u32,
+    found: &mut Vec<u32>,
+) -> Result<bool, Memory>
+    requires filed { index.now ≡ rects_of shapes.now }
     requires few { length shapes.now < 2 ^ 32 }
     requires within { n < length shapes.now }
     ensures { IfOk result (λ yes. Says yes (IsNoCell shapes.now n ⊎ IsStrayPin shapes.now n)) }
 {
     let shape = &shapes[n as usize];
     if is_frame(shape) {
-        let cell = is_cell(shapes, n, found)?;
+        let cell = is_cell(shapes, index, n, found)?;
         return Ok(!cell);
     }
     if is_pin(shape) {
-        let one = lies_in_one_frame(shapes, n, found)?;
+        let one = lies_in_one_frame(shapes, index, n, found)?;
         return Ok(!one);
     }
     Ok(false)
@@ -198,12 +224,13 @@ fn is_at_fault(shapes: &[Shape], n: u32, found: &mut Vec<u32>) -> Result<bool, M
 #[derive(Drop)]
 struct Cells<'a> {
     shapes: &'a [Shape],
+    index: &'a Buckets,
 }
 
 impl<'a> Part for Cells<'a> {
     ghost use Rattle.shape_extract.specs.Cells.{fault_within};
 
-    ghost valid = { λ s. length s.shapes.now < 2 ^ 32 };
+    ghost valid = { λ s. (length s.shapes.now < 2 ^ 32) × (s.index.now ≡ rects_of s.shapes.now) };
 
     ghost count = { λ s. length s.shapes.now };
 
@@ -214,7 +241,7 @@ impl<'a> Part for Cells<'a> {
     }
 
     fn second(&self, a: u32, found: &mut Vec<u32>) -> Result<Option<u32>, Memory> {
-        if is_at_fault(self.shapes, a, found)? {
+        if is_at_fault(self.shapes, self.index, a, found)? {
             return Ok(Some(a));
         }
         Ok(None)
@@ -236,8 +263,13 @@ fn has_frame(shapes: &[Shape]) -> bool
 }
 
 /// The first report of the rule of cells.
-pub fn find_cells(alloc: Global, shapes: &[Shape]) -> Result<Option<Report>, Memory>
-    requires { length shapes.now < 2 ^ 32 }
+pub fn find_cells(
+    alloc: Global,
+    shapes: &[Shape],
+    index: &Buckets,
+) -> Result<Option<Report>, Memory>
+    requires few { length shapes.now < 2 ^ 32 }
+    requires filed { index.now ≡ rects_of shapes.now }
     ensures { IfOk result (Finds (CellsBroken shapes.now)) }
 {
     if !has_frame(shapes) {
@@ -246,5 +278,5 @@ pub fn find_cells(alloc: Global, shapes: &[Shape]) -> Result<Option<Report>, Mem
             second: 0,
         }));
     }
-    first_of(alloc, &Cells { shapes })
+    first_of(alloc, &Cells { shapes, index })
 }

@@ -1,5 +1,6 @@
 // Bars and how their line runs along them, from one side to the other.
 ghost use Rattle.std.specs.Prelude.{◌≡◌, ◌^◌, ◌<◌, IfOk, length};
+ghost use Rattle.geom.specs.Near.{rects_of};
 ghost use Rattle.geom.specs.Rectangle.{share_y};
 ghost use Rattle.layout_rules.specs.Reports.{Alone};
 ghost use Rattle.layout_rules.specs.ExcitationLines.{Contact, at_left, at_right, at_left_only, at_right_only, enters, leaves};
@@ -12,7 +13,7 @@ use crate::labels::holds_in_x;
 use crate::reached_parts::is_reached;
 use crate::search::{Part, Report, first_of};
 use aq_base::Memory;
-use geom::{Rect, Shape};
+use geom::{Buckets, Rect, Shape};
 use layout_rules::layers::BAR;
 use std::alloc::Global;
 
@@ -89,10 +90,12 @@ fn goes_on_wrongly(shapes: &[Shape], contacts: &[u32], a: u32, b: u32) -> bool
 /// Whether the shape of this number is a bar that its line doesn't run along from one side to the other.
 fn is_not_crossed(
     shapes: &[Shape],
+    index: &Buckets,
     before: &[u32],
     b: u32,
     found: &mut Vec<u32>,
 ) -> Result<bool, Memory>
+    requires filed { index.now ≡ rects_of shapes.now }
     requires few { length shapes.now < 2 ^ 32 }
     requires within { b < length shapes.now }
     requires lines { AreLaidOut shapes.now }
@@ -109,7 +112,7 @@ fn is_not_crossed(
     if !enters(&shapes[a as usize], &shapes[b as usize]) {
         return Ok(true);
     }
-    list_contacts(shapes, b, found)?;
+    list_contacts(shapes, index, b, found)?;
     let wrong = goes_on_wrongly(shapes, found.as_slice(), a, b);
     Ok(wrong)
 }
@@ -118,13 +121,14 @@ fn is_not_crossed(
 #[derive(Drop)]
 struct UncrossedBars<'a> {
     shapes: &'a [Shape],
+    index: &'a Buckets,
     before: &'a [u32],
 }
 
 impl<'a> Part for UncrossedBars<'a> {
     ghost use Rattle.std.proofs.lemmas.Option.{slice_get_within};
 
-    ghost valid = { λ s. (length s.shapes.now < 2 ^ 32) × (AreLaidOut s.shapes.now × AreWalked s.shapes.now s.before.now) };
+    ghost valid = { λ s. (length s.shapes.now < 2 ^ 32) × (AreLaidOut s.shapes.now × AreWalked s.shapes.now s.before.now) × (s.index.now ≡ rects_of s.shapes.now) };
 
     ghost count = { λ s. length s.shapes.now };
 
@@ -135,7 +139,7 @@ impl<'a> Part for UncrossedBars<'a> {
     }
 
     fn second(&self, a: u32, found: &mut Vec<u32>) -> Result<Option<u32>, Memory> {
-        if is_not_crossed(self.shapes, self.before, a, found)? {
+        if is_not_crossed(self.shapes, self.index, self.before, a, found)? {
             return Ok(Some(a));
         }
         Ok(None)
@@ -148,12 +152,21 @@ impl<'a> Part for UncrossedBars<'a> {
 pub fn find_uncrossed(
     alloc: Global,
     shapes: &[Shape],
+    index: &Buckets,
     before: &[u32],
 ) -> Result<Option<Report>, Memory>
+    requires filed { index.now ≡ rects_of shapes.now }
     requires few { length shapes.now < 2 ^ 32 }
     requires lines { AreLaidOut shapes.now }
     requires walked { AreWalked shapes.now before.now }
     ensures { IfOk result (Finds (Alone (IsNotCrossed shapes.now))) }
 {
-    first_of(alloc, &UncrossedBars { shapes, before })
+    first_of(
+        alloc,
+        &UncrossedBars {
+            shapes,
+            index,
+            before,
+        },
+    )
 }

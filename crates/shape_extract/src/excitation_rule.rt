@@ -1,5 +1,6 @@
 // The rule of excitation lines.
-ghost use Rattle.std.specs.Prelude.{◌^◌, ◌<◌, IfOk, length};
+ghost use Rattle.std.specs.Prelude.{◌≡◌, ◌^◌, ◌<◌, IfOk, length};
+ghost use Rattle.geom.specs.Near.{rects_of};
 ghost use Rattle.layout_rules.specs.Reports.{Alone, Afterwards};
 ghost use Rattle.layout_rules.specs.ExcitationRule.{IsCutOff, IsNotCrossed, IsUnexcited, ExcitationBroken};
 ghost use Rattle.shape_extract.specs.Searches.{Finds};
@@ -13,34 +14,44 @@ use crate::reached_parts::find_cut_off;
 use crate::row_edges::rows;
 use crate::search::Report;
 use aq_base::Memory;
-use geom::Shape;
+use geom::{Buckets, Shape};
 use layout_rules::layers::{EVEN_LINE, ODD_LINE};
 use std::alloc::Global;
 
 /// The first report of the parts of the rule that follow the lines from their starts.
-fn find_along_lines(alloc: Global, shapes: &[Shape]) -> Result<Option<Report>, Memory>
+fn find_along_lines(
+    alloc: Global,
+    shapes: &[Shape],
+    index: &Buckets,
+) -> Result<Option<Report>, Memory>
+    requires filed { index.now ≡ rects_of shapes.now }
     requires few { length shapes.now < 2 ^ 32 }
     requires lines { AreLaidOut shapes.now }
     ensures finds { IfOk result (Finds (Afterwards (Alone (IsCutOff shapes.now)) (Afterwards (Alone (IsNotCrossed shapes.now)) (Alone (IsUnexcited shapes.now))))) }
     ensures excited { IfOk result (ExcitesFrames shapes.now) }
 {
-    let before = walk_lines(alloc, shapes)?;
+    let before = walk_lines(alloc, shapes, index)?;
     let cut_off = find_cut_off(alloc, shapes, before.as_slice())?;
     if let Some(report) = cut_off {
         return Ok(Some(report));
     }
-    let uncrossed = find_uncrossed(alloc, shapes, before.as_slice())?;
+    let uncrossed = find_uncrossed(alloc, shapes, index, before.as_slice())?;
     if let Some(report) = uncrossed {
         return Ok(Some(report));
     }
     let edges = rows(alloc, shapes)?;
-    find_unexcited(alloc, shapes, before.as_slice(), edges.as_slice())
+    find_unexcited(alloc, shapes, index, before.as_slice(), edges.as_slice())
 }
 
 /// The first report of the rule of excitation lines. Where there is none, each frame lies under one bar alone, which
 /// contains it and has the phase of its row.
-pub fn find_excitation(alloc: Global, shapes: &[Shape]) -> Result<Option<Report>, Memory>
-    requires { length shapes.now < 2 ^ 32 }
+pub fn find_excitation(
+    alloc: Global,
+    shapes: &[Shape],
+    index: &Buckets,
+) -> Result<Option<Report>, Memory>
+    requires few { length shapes.now < 2 ^ 32 }
+    requires filed { index.now ≡ rects_of shapes.now }
     ensures finds { IfOk result (Finds (ExcitationBroken shapes.now)) }
     ensures excited { IfOk result (ExcitesFrames shapes.now) }
 {
@@ -54,9 +65,9 @@ pub fn find_excitation(alloc: Global, shapes: &[Shape]) -> Result<Option<Report>
     if let Some(report) = find_start_fault(shapes, ODD_LINE) {
         return Ok(Some(report));
     }
-    let misjoined = find_misjoined(alloc, shapes)?;
+    let misjoined = find_misjoined(alloc, shapes, index)?;
     if let Some(report) = misjoined {
         return Ok(Some(report));
     }
-    find_along_lines(alloc, shapes)
+    find_along_lines(alloc, shapes, index)
 }

@@ -1,5 +1,6 @@
 // Frames and the bars over them.
 ghost use Rattle.std.specs.Prelude.{◌≡◌, ◌&&◌, ◌^◌, ◌<◌, true, Some, IfOk, length, slice_get, int_lt};
+ghost use Rattle.geom.specs.Near.{rects_of};
 ghost use Rattle.geom.specs.Rectangle.{meet_x, meet_y, overlap};
 ghost use Rattle.geom.specs.declared.shapes.Shape.{Shape};
 ghost use Rattle.layout_rules.specs.Layers.{is_frame};
@@ -18,7 +19,7 @@ use crate::reached_parts::is_reached;
 use crate::row_edges::{lower_edge, row_at};
 use crate::search::{PairTest, Report, list_partners};
 use aq_base::Memory;
-use geom::{Rect, Shape};
+use geom::{Buckets, Rect, Shape};
 use layout_rules::layers::{BAR, EVEN_LINE};
 use std::alloc::Global;
 
@@ -41,7 +42,7 @@ fn overlaps_in_y(a: &Rect, b: &Rect) -> bool
 }
 
 /// Whether some point is inside both.
-fn overlaps(a: &Rect, b: &Rect) -> bool
+pub fn overlaps(a: &Rect, b: &Rect) -> bool
     ensures { result ≡ overlap a.now b.now }
 {
     overlaps_in_x(a, b) && overlaps_in_y(a, b)
@@ -51,11 +52,17 @@ fn overlaps(a: &Rect, b: &Rect) -> bool
 struct LiesOver;
 
 impl PairTest for LiesOver {
+    ghost use Rattle.shape_extract.specs.Sharing.{over_close};
+
     ghost passes = { λ s frame part. lies_over frame part };
+
+    ghost reach = { λ s. 0 };
 
     fn passes(&self, a: &Shape, b: &Shape) -> bool {
         is_line(b) && overlaps(&b.rect, &a.rect)
     }
+
+    ghost close = { λ s a b p q h. over_close a b h };
 }
 
 /// The phase of a bar to which the line comes from this shape.
@@ -94,11 +101,13 @@ fn excites(shapes: &[Shape], before: &[u32], edges: &[i64], b: u32, frame: &Shap
 /// Whether one bar alone lies over the frame of this number, contains it and has the phase of its row.
 fn is_excited(
     shapes: &[Shape],
+    index: &Buckets,
     before: &[u32],
     edges: &[i64],
     f: u32,
     found: &mut Vec<u32>,
 ) -> Result<bool, Memory>
+    requires filed { index.now ≡ rects_of shapes.now }
     requires few { length shapes.now < 2 ^ 32 }
     requires lines { AreLaidOut shapes.now }
     requires walked { AreWalked shapes.now before.now }
@@ -107,7 +116,7 @@ fn is_excited(
     requires within { f < length shapes.now }
     ensures { IfOk result (λ yes. (frame : Shape) → slice_get shapes.now f ≡ Some frame → Says yes (IsExcited shapes.now frame)) }
 {
-    list_partners(&LiesOver, shapes, f, found)?;
+    list_partners(&LiesOver, shapes, index, f, found)?;
     if found.len() != 1 {
         return Ok(false);
     }
@@ -117,11 +126,13 @@ fn is_excited(
 /// Whether the shape of this number is a frame that is not excited.
 fn is_unexcited(
     shapes: &[Shape],
+    index: &Buckets,
     before: &[u32],
     edges: &[i64],
     f: u32,
     found: &mut Vec<u32>,
 ) -> Result<bool, Memory>
+    requires filed { index.now ≡ rects_of shapes.now }
     requires few { length shapes.now < 2 ^ 32 }
     requires lines { AreLaidOut shapes.now }
     requires walked { AreWalked shapes.now before.now }
@@ -132,7 +143,7 @@ fn is_unexcited(
     if !is_frame(&shapes[f as usize]) {
         return Ok(false);
     }
-    let excited = is_excited(shapes, before, edges, f, found)?;
+    let excited = is_excited(shapes, index, before, edges, f, found)?;
     Ok(!excited)
 }
 
@@ -141,9 +152,11 @@ fn is_unexcited(
 pub fn find_unexcited(
     alloc: Global,
     shapes: &[Shape],
+    index: &Buckets,
     before: &[u32],
     edges: &[i64],
 ) -> Result<Option<Report>, Memory>
+    requires filed { index.now ≡ rects_of shapes.now }
     requires few { length shapes.now < 2 ^ 32 }
     requires lines { AreLaidOut shapes.now }
     requires walked { AreWalked shapes.now before.now }
@@ -153,7 +166,7 @@ pub fn find_unexcited(
 {
     let mut found = Vec::new(alloc);
     for f in 0..shapes.len() as u32 {
-        if is_unexcited(shapes, before, edges, f, &mut found)? {
+        if is_unexcited(shapes, index, before, edges, f, &mut found)? {
             return Ok(Some(Report {
                 first: f,
                 second: f,

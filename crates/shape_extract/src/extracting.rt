@@ -8,10 +8,12 @@ use crate::assembly::circuit_of;
 use crate::cell_rule::find_cells;
 use crate::extraction::{ExtractRefusal, Extracted};
 use crate::first_broken::{BrokenRule, broken, first_broken};
-use crate::net_walk::nets;
+use crate::mark_table::mark_table;
+use crate::net_walk::nets_by;
+use crate::pin_frames::pin_frames;
 use crate::pin_rows::pin_rows;
 use crate::row_edges::rows;
-use geom::Flat;
+use geom::{Flat, file_shapes};
 use layout_rules::Rule;
 use std::alloc::Global;
 
@@ -33,17 +35,22 @@ pub fn extract(alloc: Global, flat: &Flat) -> Result<Extracted, ExtractRefusal>
     ensures broken { IfErr result (λ refusal. IfBroken refusal (BreaksCircuit flat.now)) }
 {
     let shapes = flat.shapes.as_slice();
-    if let Some(report) = find_cells(alloc, shapes)? {
+    let index = file_shapes(alloc, &flat.shapes)?;
+    if let Some(report) = find_cells(alloc, shapes, &index)? {
         return Err(refusal(broken(Rule::E1, report)));
     }
-    let nets = nets(alloc, flat)?;
+    let nets = nets_by(alloc, flat, &index)?;
     let edges = rows(alloc, shapes)?;
     let edges = edges.as_slice();
-    let rows = pin_rows(alloc, shapes, edges)?;
+    let frames = pin_frames(alloc, shapes, &index)?;
+    let frames = frames.as_slice();
+    let rows = pin_rows(alloc, shapes, frames, edges)?;
     let rows = rows.as_slice();
-    if let Some(found) = first_broken(alloc, flat, nets.as_slice(), edges, rows)? {
+    let marking = mark_table(alloc, flat, &index)?;
+    let marking = marking.as_slice();
+    if let Some(found) = first_broken(alloc, flat, marking, &index, nets.as_slice(), edges, rows)? {
         return Err(refusal(found));
     }
-    let circuit = circuit_of(alloc, flat, nets, edges, rows)?;
+    let circuit = circuit_of(alloc, flat, marking, &index, nets, edges, frames, rows)?;
     Ok(circuit)
 }

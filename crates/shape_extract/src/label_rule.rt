@@ -1,39 +1,44 @@
 // The rule of labels: each label marks one port, each port has one label, and the labels of a letter are numbered.
 ghost use Rattle.std.specs.Prelude.{◌≡◌, ◌≢◌, ◌+◌, ◌^◌, ◌<◌, ℕ, IfOk, length, count_by, slice_get, Some};
 ghost use Rattle.geom.specs.declared.shapes.Shape.{Shape};
+ghost use Rattle.geom.specs.Near.{rects_of};
 ghost use Rattle.layout_rules.specs.Labels.{marks};
 ghost use Rattle.layout_rules.specs.Reports.{Alone, ReportsNone};
 ghost use Rattle.layout_rules.specs.Rows.{AreRows};
 ghost use Rattle.layout_rules.specs.CircuitRules.{is_port_label, IsNoPortLabel, IsUnlabelledPort, CellsBroken, LabelsBroken};
 ghost use Rattle.shape_extract.specs.Searches.{Says, Finds};
+ghost use Rattle.shape_extract.specs.Code.Marking.{AreMarks};
 ghost use Rattle.shape_extract.specs.RowFaults.{ArePinRows};
 ghost use Rattle.shape_extract.specs.Ports.{ports_of};
 
 use crate::label_numbers::find_misnumbered;
 use crate::label_texts::is_numbered;
-use crate::marking::{list_marked, list_marking};
+use crate::mark_table::Mark;
+use crate::marking::list_marked;
 use crate::ports::{Port, ports};
 use crate::search::{Part, Report, first_of};
 use aq_base::Memory;
-use geom::{Flat, Label, Shape};
+use geom::{Buckets, Flat, Label, Shape};
 use layout_rules::layers::LABELS;
 use std::alloc::Global;
 
 /// Whether the label has a letter and a number, and marks one pin, which is a port.
 fn is_port_label(
     shapes: &[Shape],
+    index: &Buckets,
     ports: &[Port],
     label: &Label,
     found: &mut Vec<u32>,
 ) -> Result<bool, Memory>
     requires few { length shapes.now < 2 ^ 32 }
+    requires filed { index.now ≡ rects_of shapes.now }
     requires ports { ports.now ≡ ports_of shapes.now }
     ensures { IfOk result (λ yes. yes ≡ is_port_label shapes.now label.now) }
 {
     if !is_numbered(label) {
         return Ok(false);
     }
-    list_marked(shapes, label, found)?;
+    list_marked(shapes, index, label, found)?;
     match found.as_slice() {
         [pin] => Ok(ports[*pin as usize].crosses()),
         _ => Ok(false),
@@ -44,6 +49,7 @@ fn is_port_label(
 #[derive(Drop)]
 struct PortLabels<'a> {
     flat: &'a Flat,
+    index: &'a Buckets,
     ports: &'a [Port],
 }
 
@@ -51,7 +57,7 @@ impl<'a> Part for PortLabels<'a> {
     ghost use Rattle.layout_rules.specs.CircuitRules.{IsNoPortLabel};
     ghost use Rattle.shape_extract.specs.LabelFaults.{no_port_label_within};
 
-    ghost valid = { λ s. (length s.flat.now.shapes + length s.flat.now.labels < 2 ^ 32) × (s.ports.now ≡ ports_of s.flat.now.shapes) };
+    ghost valid = { λ s. (length s.flat.now.shapes + length s.flat.now.labels < 2 ^ 32) × (s.ports.now ≡ ports_of s.flat.now.shapes) × (s.index.now ≡ rects_of s.flat.now.shapes) };
 
     ghost count = { λ s. length s.flat.now.shapes + length s.flat.now.labels };
 
@@ -67,7 +73,7 @@ impl<'a> Part for PortLabels<'a> {
             return Ok(None);
         }
         let label = &self.flat.labels.as_slice()[a as usize - shapes.len()];
-        if label.layer != LABELS || is_port_label(shapes, self.ports, label, found)? {
+        if label.layer != LABELS || is_port_label(shapes, self.index, self.ports, label, found)? {
             return Ok(None);
         }
         Ok(Some(a))
@@ -76,19 +82,11 @@ impl<'a> Part for PortLabels<'a> {
     ghost within = { λ s a b valid h. no_port_label_within s.flat.now a h.0 };
 }
 
-/// Whether one label marks the port.
-fn has_one_label(labels: &[Label], port: &Shape, found: &mut Vec<u32>) -> Result<bool, Memory>
-    requires { length labels.now < 2 ^ 32 }
-    ensures { IfOk result (λ yes. Says yes (count_by (λ label. marks label port.now) labels.now ≡ 1)) }
-{
-    list_marking(labels, port, found)?;
-    Ok(found.len() == 1)
-}
-
 /// Ports with no label or several.
 #[derive(Drop)]
 struct LabelledPorts<'a> {
     flat: &'a Flat,
+    marking: &'a [Mark],
     ports: &'a [Port],
 }
 
@@ -96,7 +94,7 @@ impl<'a> Part for LabelledPorts<'a> {
     ghost use Rattle.layout_rules.specs.CircuitRules.{IsUnlabelledPort};
     ghost use Rattle.shape_extract.specs.LabelFaults.{unlabelled_port_within};
 
-    ghost valid = { λ s. (length s.flat.now.shapes + length s.flat.now.labels < 2 ^ 32) × (s.ports.now ≡ ports_of s.flat.now.shapes) };
+    ghost valid = { λ s. (length s.flat.now.shapes + length s.flat.now.labels < 2 ^ 32) × (s.ports.now ≡ ports_of s.flat.now.shapes) × AreMarks s.flat.now.shapes s.flat.now.labels s.marking.now };
 
     ghost count = { λ s. length s.flat.now.shapes };
 
@@ -106,12 +104,11 @@ impl<'a> Part for LabelledPorts<'a> {
         self.flat.shapes.len() as u32
     }
 
-    fn second(&self, a: u32, found: &mut Vec<u32>) -> Result<Option<u32>, Memory> {
-        let shape = &self.flat.shapes.as_slice()[a as usize];
+    fn second(&self, a: u32, _found: &mut Vec<u32>) -> Result<Option<u32>, Memory> {
         if !self.ports[a as usize].crosses() {
             return Ok(None);
         }
-        if has_one_label(self.flat.labels.as_slice(), shape, found)? {
+        if self.marking[a as usize].has_one() {
             return Ok(None);
         }
         Ok(Some(a))
@@ -124,10 +121,14 @@ impl<'a> Part for LabelledPorts<'a> {
 pub fn find_labels(
     alloc: Global,
     flat: &Flat,
+    marking: &[Mark],
+    index: &Buckets,
     edges: &[i64],
     rows: &[usize],
 ) -> Result<Option<Report>, Memory>
     requires few { length flat.now.shapes + length flat.now.labels < 2 ^ 32 }
+    requires marking { AreMarks flat.now.shapes flat.now.labels marking.now }
+    requires filed { index.now ≡ rects_of flat.now.shapes }
     requires edges { AreRows flat.now.shapes edges.now }
     requires rows { ArePinRows flat.now.shapes rows.now }
     requires kept { ReportsNone (CellsBroken flat.now.shapes) }
@@ -136,10 +137,17 @@ pub fn find_labels(
     let last = edges.len().saturating_sub(1);
     let ports = ports(alloc, flat.shapes.as_slice(), rows, last)?;
     let ports = ports.as_slice();
-    if let Some(label) = first_of(alloc, &PortLabels { flat, ports })? {
+    if let Some(label) = first_of(alloc, &PortLabels { flat, index, ports })? {
         return Ok(Some(label));
     }
-    if let Some(port) = first_of(alloc, &LabelledPorts { flat, ports })? {
+    if let Some(port) = first_of(
+        alloc,
+        &LabelledPorts {
+            flat,
+            marking,
+            ports,
+        },
+    )? {
         return Ok(Some(port));
     }
     find_misnumbered(alloc, flat, ports)

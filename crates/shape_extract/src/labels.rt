@@ -1,6 +1,5 @@
 // Labels and the pins that they mark.
 ghost use Rattle.std.specs.Prelude.{◌≡◌, ◌&&◌, int_le, length, slice_index};
-ghost use Rattle.std.specs.List.{list_any};
 ghost use Rattle.geom.specs.Rectangle.{holds_point};
 ghost use Rattle.layout_rules.specs.Labels.{marked_layer, marks};
 
@@ -58,16 +57,4 @@ pub fn marks(label: &Label, pin: &Shape) -> bool
     label.layer == LABELS
         && pin.layer == marked_layer(label)
         && holds_point(&pin.rect, label.x, label.y)
-}
-
-/// Whether some label marks the pin.
-pub fn is_labelled(labels: &[Label], pin: &Shape) -> bool
-    ensures { result ≡ list_any (λ label. marks label pin.now) labels.now }
-{
-    for label in labels {
-        if marks(label, pin) {
-            return true;
-        }
-    }
-    false
 }

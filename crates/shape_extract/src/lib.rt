@@ -18,12 +18,14 @@ mod extraction;
 mod first_broken;
 mod first_chip;
 mod frames;
+mod kept_laws;
 mod label_numbers;
 mod label_rule;
 mod label_texts;
 mod labels;
 mod line_parts;
 mod line_walk;
+mod mark_table;
 mod marking;
 mod net_chains;
 mod net_rule;
@@ -41,13 +43,18 @@ mod touching;
 mod uniqueness;
 
 pub use answers::one_answer;
+pub use cell_rule::{is_frame, is_within};
 pub use cells::{ExCell, Feed};
+pub use excited_frames::overlaps;
 pub use extracting::extract;
 pub use extraction::{ExtractRefusal, Extracted};
 pub use first_chip::first_chip_extracted;
+pub use kept_laws::{extracted_keeps, some_circuit};
 pub use layout_rules::Rule;
 pub use net_walk::nets;
 pub use rowed::Source;
+pub use search::{PairTest, Part, Report, first_of, list_close_partners, list_partners};
+pub use touching::{is_lower, is_pin, is_upper, is_via};
 pub use uniqueness::one_circuit;
 
 #[cfg(test)]

@@ -1,5 +1,6 @@
 // The parts of excitation lines: bars, links and starts, one start for each layer, and the contacts of each part.
 ghost use Rattle.std.specs.Prelude.{◌≡◌, ◌&&◌, ◌==◌, ◌^◌, ◌<◌, ℕ, IfOk, length, count_by, slice_index};
+ghost use Rattle.geom.specs.Near.{rects_of};
 ghost use Rattle.layout_rules.specs.Layers.{is_line};
 ghost use Rattle.layout_rules.specs.Reports.{Alone, Passes};
 ghost use Rattle.layout_rules.specs.ExcitationLines.{Contact};
@@ -10,7 +11,7 @@ ghost use Rattle.shape_extract.specs.LineParts.{AreBars, AreNoBars, IsOneBar, Ar
 use crate::contacts::{is_line, is_part, list_contacts};
 use crate::search::{Part, Report, first_of};
 use aq_base::Memory;
-use geom::Shape;
+use geom::{Buckets, Shape};
 use layout_rules::layers::{BAR, LINK, START};
 use std::alloc::Global;
 
@@ -169,7 +170,13 @@ fn has_its_contacts(shapes: &[Shape], n: u32, contacts: &[u32]) -> bool
 }
 
 /// Whether the shape is a part of a line that has other contacts than it is to have.
-fn is_misjoined(shapes: &[Shape], n: u32, found: &mut Vec<u32>) -> Result<bool, Memory>
+fn is_misjoined(
+    shapes: &[Shape],
+    index: &Buckets,
+    n: u32,
+    found: &mut Vec<u32>,
+) -> Result<bool, Memory>
+    requires filed { index.now ≡ rects_of shapes.now }
     requires few { length shapes.now < 2 ^ 32 }
     requires within { n < length shapes.now }
     ensures { IfOk result (λ yes. Says yes (IsMisjoined shapes.now n)) }
@@ -177,7 +184,7 @@ fn is_misjoined(shapes: &[Shape], n: u32, found: &mut Vec<u32>) -> Result<bool, 
     if !is_line(&shapes[n as usize]) {
         return Ok(false);
     }
-    list_contacts(shapes, n, found)?;
+    list_contacts(shapes, index, n, found)?;
     let joined = has_its_contacts(shapes, n, found.as_slice());
     Ok(!joined)
 }
@@ -186,12 +193,13 @@ fn is_misjoined(shapes: &[Shape], n: u32, found: &mut Vec<u32>) -> Result<bool, 
 #[derive(Drop)]
 struct MisjoinedParts<'a> {
     shapes: &'a [Shape],
+    index: &'a Buckets,
 }
 
 impl<'a> Part for MisjoinedParts<'a> {
     ghost use Rattle.std.proofs.lemmas.Option.{slice_get_within};
 
-    ghost valid = { λ s. length s.shapes.now < 2 ^ 32 };
+    ghost valid = { λ s. (length s.shapes.now < 2 ^ 32) × (s.index.now ≡ rects_of s.shapes.now) };
 
     ghost count = { λ s. length s.shapes.now };
 
@@ -202,7 +210,7 @@ impl<'a> Part for MisjoinedParts<'a> {
     }
 
     fn second(&self, a: u32, found: &mut Vec<u32>) -> Result<Option<u32>, Memory> {
-        if is_misjoined(self.shapes, a, found)? {
+        if is_misjoined(self.shapes, self.index, a, found)? {
             return Ok(Some(a));
         }
         Ok(None)
@@ -212,9 +220,14 @@ impl<'a> Part for MisjoinedParts<'a> {
 }
 
 /// The first part of a line with other contacts than it is to have.
-pub fn find_misjoined(alloc: Global, shapes: &[Shape]) -> Result<Option<Report>, Memory>
-    requires { length shapes.now < 2 ^ 32 }
+pub fn find_misjoined(
+    alloc: Global,
+    shapes: &[Shape],
+    index: &Buckets,
+) -> Result<Option<Report>, Memory>
+    requires few { length shapes.now < 2 ^ 32 }
+    requires filed { index.now ≡ rects_of shapes.now }
     ensures { IfOk result (Finds (Alone (IsMisjoined shapes.now))) }
 {
-    first_of(alloc, &MisjoinedParts { shapes })
+    first_of(alloc, &MisjoinedParts { shapes, index })
 }

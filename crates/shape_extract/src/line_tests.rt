@@ -3,8 +3,8 @@ ghost use Rattle.std.specs.Prelude.{◌<◌};
 
 use crate::excitation_rule::find_excitation;
 use crate::search::Report;
-use aq_base::Memory;
-use geom::{Rect, Shape};
+use aq_base::{List, Memory};
+use geom::{Rect, Shape, file_shapes};
 use layout_rules::layers::{
     BAR, EVEN_LINE, FRAME, INPUT_PIN, LINK, M1, M2, ODD_LINE, OUTPUT_PIN, START, VIA,
 };
@@ -58,7 +58,9 @@ fn reported(alloc: Global, changes: &[(usize, Shape)]) -> Result<Option<Report>,
             shapes[*n] = *shape;
         }
     }
-    find_excitation(alloc, &shapes)
+    let shapes = List::from_vec(Vec::from_slice(alloc, &shapes)?);
+    let index = file_shapes(alloc, &shapes)?;
+    find_excitation(alloc, shapes.as_slice(), &index)
 }
 
 /// The report of one shape.

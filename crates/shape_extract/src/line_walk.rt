@@ -1,5 +1,6 @@
 // The walk along the excitation lines from their starts.
 ghost use Rattle.std.specs.Prelude.{◌≡◌, ◌^◌, ◌<◌, ℕ, IfOk, length, slice_index};
+ghost use Rattle.geom.specs.Near.{rects_of};
 ghost use Rattle.layout_rules.specs.ExcitationLines.{Contact};
 ghost use Rattle.shape_extract.specs.Searches.{AreThose};
 ghost use Rattle.shape_extract.specs.Lines.{AreWalked};
@@ -7,7 +8,7 @@ ghost use Rattle.shape_extract.specs.LineWalk.{IsLineWalk, IsSpreadAlong, IsBegu
 
 use crate::contacts::{is_part, list_contacts};
 use aq_base::Memory;
-use geom::Shape;
+use geom::{Buckets, Shape};
 use layout_rules::layers::START;
 use std::alloc::Global;
 
@@ -56,9 +57,11 @@ fn spread(
 fn follow(
     alloc: Global,
     shapes: &[Shape],
+    index: &Buckets,
     before: &mut [u32],
     order: &mut Vec<u32>,
 ) -> Result<(), Memory>
+    requires filed { index.now ≡ rects_of shapes.now }
     requires few { length shapes.now < 2 ^ 32 }
     requires begun { IsBegun shapes.now before.old order.old.items }
     ensures { IfOk result (λ _. AreWalked shapes.now before.new) }
@@ -67,7 +70,7 @@ fn follow(
     let mut done = 0;
     while done < order.len() {
         let from = order[done];
-        list_contacts(shapes, from, &mut found)?;
+        list_contacts(shapes, index, from, &mut found)?;
         spread(shapes, found.as_slice(), before, order, from)?;
         done += 1;
     }
@@ -76,14 +79,15 @@ fn follow(
 
 /// Walks along the lines: for each shape that is reached from a start the one before it, a start being its own, and
 /// the number of shapes for each other one.
-pub fn walk_lines(alloc: Global, shapes: &[Shape]) -> Result<Vec<u32>, Memory>
-    requires { length shapes.now < 2 ^ 32 }
+pub fn walk_lines(alloc: Global, shapes: &[Shape], index: &Buckets) -> Result<Vec<u32>, Memory>
+    requires few { length shapes.now < 2 ^ 32 }
+    requires filed { index.now ≡ rects_of shapes.now }
     ensures { IfOk result (λ before. AreWalked shapes.now before.items) }
 {
     let none = shapes.len() as u32;
     let mut before = vec![in alloc; none; shapes.len()]?;
     let mut order = Vec::new(alloc);
     begin(shapes, &mut before, &mut order)?;
-    follow(alloc, shapes, &mut before, &mut order)?;
+    follow(alloc, shapes, index, &mut before, &mut order)?;
     Ok(before)
 }

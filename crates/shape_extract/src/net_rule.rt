@@ -5,9 +5,10 @@ ghost use Rattle.layout_rules.specs.Reports.{Alone, Otherwise};
 ghost use Rattle.layout_rules.specs.CircuitRules.{HasRival, IsUndriven, IsDriven, NetsBroken};
 ghost use Rattle.shape_extract.specs.Searches.{Finds, FindsAt};
 ghost use Rattle.shape_extract.specs.NetChains.{AreChains};
+ghost use Rattle.shape_extract.specs.Code.Marking.{AreMarks};
 ghost use Rattle.shape_extract.specs.NetPins.{FindsOther, FindsFirst, lone_number};
 
-use crate::labels::is_labelled;
+use crate::mark_table::Mark;
 use crate::net_chains::{chains, list_in_net};
 use crate::search::{Part, Report, first_of};
 use crate::touching::is_pin;
@@ -65,6 +66,7 @@ fn rival(
 /// What is wrong with the source of an input pin: none without a label, or one with a label.
 fn source_fault(
     flat: &Flat,
+    marking: &[Mark],
     nets: &[u32],
     next: &[u32],
     a: u32,
@@ -73,6 +75,7 @@ fn source_fault(
     requires nets { AreNets flat.now.shapes nets.now }
     requires chains { AreChains nets.now next.now }
     requires few { length flat.now.shapes < 2 ^ 32 }
+    requires marking { AreMarks flat.now.shapes flat.now.labels marking.now }
     requires within { a < length flat.now.shapes }
     ensures { IfOk result (FindsAt (Otherwise (Alone (IsUndriven flat.now)) (IsDriven flat.now)) a) }
 {
@@ -83,7 +86,7 @@ fn source_fault(
     }
     list_in_net(shapes, nets, next, OUTPUT_PIN, a, found)?;
     let source = first_number(found.as_slice());
-    if is_labelled(flat.labels.as_slice(), shape) {
+    if marking[a as usize].has_label() {
         return Ok(source);
     }
     let fault = lone(source, a);
@@ -104,6 +107,7 @@ fn lone(other: Option<u32>, a: u32) -> Option<u32>
 #[derive(Drop)]
 struct Pins<'a> {
     flat: &'a Flat,
+    marking: &'a [Mark],
     nets: &'a [u32],
     next: &'a [u32],
 }
@@ -111,7 +115,7 @@ struct Pins<'a> {
 impl<'a> Part for Pins<'a> {
     ghost use Rattle.shape_extract.specs.Faults.{nets_within};
 
-    ghost valid = { λ s. (length s.flat.now.shapes < 2 ^ 32) × AreNets s.flat.now.shapes s.nets.now × AreChains s.nets.now s.next.now };
+    ghost valid = { λ s. (length s.flat.now.shapes < 2 ^ 32) × AreNets s.flat.now.shapes s.nets.now × AreChains s.nets.now s.next.now × AreMarks s.flat.now.shapes s.flat.now.labels s.marking.now };
 
     ghost count = { λ s. length s.flat.now.shapes };
 
@@ -126,14 +130,20 @@ impl<'a> Part for Pins<'a> {
         if let Some(b) = other {
             return Ok(Some(b));
         }
-        source_fault(self.flat, self.nets, self.next, a, found)
+        source_fault(self.flat, self.marking, self.nets, self.next, a, found)
     }
 
     ghost within = { λ s a b valid h. nets_within s.flat.now a b h };
 }
 
 /// The first report of the rule of nets.
-pub fn find_nets(alloc: Global, flat: &Flat, nets: &[u32]) -> Result<Option<Report>, Memory>
+pub fn find_nets(
+    alloc: Global,
+    flat: &Flat,
+    marking: &[Mark],
+    nets: &[u32],
+) -> Result<Option<Report>, Memory>
+    requires marking { AreMarks flat.now.shapes flat.now.labels marking.now }
     requires nets { AreNets flat.now.shapes nets.now }
     requires few { length flat.now.shapes < 2 ^ 32 }
     ensures { IfOk result (Finds (NetsBroken flat.now)) }
@@ -143,6 +153,7 @@ pub fn find_nets(alloc: Global, flat: &Flat, nets: &[u32]) -> Result<Option<Repo
         alloc,
         &Pins {
             flat,
+            marking,
             nets,
             next: &next,
         },

@@ -1,43 +1,63 @@
-// Pins and the frames of their cells, where the rule of cells is kept.
+// The frames of pins, where the rule of cells is kept.
 ghost use Rattle.std.specs.Prelude.{◌≡◌, ◌^◌, ◌<◌, ℕ, IfOk, true, length, slice_get, Some};
+ghost use Rattle.geom.specs.Near.{rects_of};
 ghost use Rattle.geom.specs.declared.shapes.Shape.{Shape};
 ghost use Rattle.layout_rules.specs.Layers.{is_pin};
 ghost use Rattle.layout_rules.specs.Pins.{LiesIn};
 ghost use Rattle.layout_rules.specs.Reports.{ReportsNone, Passes};
-ghost use Rattle.layout_rules.specs.Rows.{AreRows};
 ghost use Rattle.layout_rules.specs.CircuitRules.{CellsBroken};
-ghost use Rattle.shape_extract.specs.PinRows.{IsRowOf};
+ghost use Rattle.shape_extract.specs.Code.FramesOfPins.{ArePinFrames};
 
 use crate::cell_rule::PinInFrame;
-use crate::row_edges::{lower_edge, row_at};
 use crate::search::list_partners;
+use crate::touching::is_pin;
 use aq_base::Memory;
-use geom::Shape;
+use geom::{Buckets, Shape};
+use std::alloc::Global;
 
 /// The one frame in which a pin lies.
-pub fn frame_of(shapes: &[Shape], p: u32, found: &mut Vec<u32>) -> Result<u32, Memory>
+fn frame_of(shapes: &[Shape], index: &Buckets, p: u32, found: &mut Vec<u32>) -> Result<u32, Memory>
+    requires filed { index.now ≡ rects_of shapes.now }
     requires few { length shapes.now < 2 ^ 32 }
     requires kept { ReportsNone (CellsBroken shapes.now) }
     requires pin { Passes is_pin shapes.now p }
     ensures { IfOk result (λ f. LiesIn shapes.now p f) }
 {
-    list_partners(&PinInFrame, shapes, p, found)?;
+    list_partners(&PinInFrame, shapes, index, p, found)?;
     Ok(found[0])
 }
 
-/// The row of the one frame in which a pin lies.
-pub fn row_of_pin(
+/// The frame of a pin, and 0 for another shape.
+fn frame_or_zero(
     shapes: &[Shape],
-    edges: &[i64],
+    index: &Buckets,
     p: u32,
     found: &mut Vec<u32>,
-) -> Result<usize, Memory>
+) -> Result<u32, Memory>
+    requires filed { index.now ≡ rects_of shapes.now }
     requires few { length shapes.now < 2 ^ 32 }
-    requires rows { AreRows shapes.now edges.now }
     requires kept { ReportsNone (CellsBroken shapes.now) }
-    requires pin { Passes is_pin shapes.now p }
-    ensures { IfOk result (λ r. IsRowOf shapes.now p r) }
+    requires within { p < length shapes.now }
+    ensures { IfOk result (λ f. Passes is_pin shapes.now p → LiesIn shapes.now p f) }
 {
-    let f = frame_of(shapes, p, found)?;
-    Ok(row_at(edges, lower_edge(&shapes[f as usize])))
+    if !is_pin(&shapes[p as usize]) {
+        return Ok(0);
+    }
+    frame_of(shapes, index, p, found)
+}
+
+/// For each shape a number, which for a pin is that of the frame in which it lies. It is refused for want of memory
+/// alone.
+pub fn pin_frames(alloc: Global, shapes: &[Shape], index: &Buckets) -> Result<Vec<u32>, Memory>
+    requires filed { index.now ≡ rects_of shapes.now }
+    requires few { length shapes.now < 2 ^ 32 }
+    requires kept { ReportsNone (CellsBroken shapes.now) }
+    ensures { IfOk result (λ frames. ArePinFrames shapes.now frames.items) }
+{
+    let mut found = Vec::new(alloc);
+    let mut frames = Vec::new(alloc);
+    for p in 0..shapes.len() as u32 {
+        frames.push(frame_or_zero(shapes, index, p, &mut found)?)?;
+    }
+    Ok(frames)
 }

@@ -5,10 +5,11 @@ ghost use Rattle.layout_rules.specs.Labels.{is_decimal, tail, number_of_label};
 ghost use Rattle.layout_rules.specs.Layers.{is_pin};
 ghost use Rattle.layout_rules.specs.CircuitRules.{LabelsBroken};
 ghost use Rattle.layout_rules.specs.Reports.{Passes, ReportsNone};
+ghost use Rattle.shape_extract.specs.Code.Marking.{AreMarks};
 ghost use Rattle.shape_extract.specs.PinNames.{Names};
 
 use crate::label_texts::number_of;
-use crate::labels::marks;
+use crate::mark_table::Mark;
 use geom::{Flat, Label};
 
 /// The number of a label that has one below 2^32.
@@ -24,17 +25,15 @@ fn number_below(label: &Label) -> u32
 }
 
 /// The number by which a label names the pin, where the rule of labels is kept; nothing where no label marks it.
-pub fn name_of(flat: &Flat, p: u32) -> Option<u32>
+pub fn name_of(flat: &Flat, marking: &[Mark], p: u32) -> Option<u32>
+    requires marking { AreMarks flat.now.shapes flat.now.labels marking.now }
     requires few { flat_count flat.now < 2 ^ 32 }
     requires kept { ReportsNone (LabelsBroken flat.now) }
     requires pin { Passes is_pin flat.now.shapes p }
     ensures { Names flat.now p result }
 {
-    let pin = &flat.shapes.as_slice()[p as usize];
-    for label in flat.labels.as_slice() {
-        if marks(label, pin) {
-            return Some(number_below(label));
-        }
+    match marking[p as usize].label() {
+        Some(label) => Some(number_below(&flat.labels.as_slice()[label as usize])),
+        None => None,
     }
-    None
 }

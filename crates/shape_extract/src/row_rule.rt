@@ -4,10 +4,11 @@ ghost use Rattle.layout_rules.specs.Nets.{AreNets};
 ghost use Rattle.layout_rules.specs.Reports.{ReportsNone};
 ghost use Rattle.layout_rules.specs.CircuitRules.{CellsBroken, RowsBroken};
 ghost use Rattle.shape_extract.specs.Searches.{Says, Finds};
+ghost use Rattle.shape_extract.specs.Code.Marking.{AreMarks};
 ghost use Rattle.shape_extract.specs.NetChains.{AreChains};
 ghost use Rattle.shape_extract.specs.RowFaults.{ArePinRows, AreRowed, FindsAstray};
 
-use crate::labels::is_labelled;
+use crate::mark_table::Mark;
 use crate::net_chains::{chains, list_in_net};
 use crate::search::{Part, Report, first_of};
 use aq_base::Memory;
@@ -39,6 +40,7 @@ fn first_astray(rows: &[usize], numbers: &[u32], row: usize) -> Option<u32>
 #[derive(Drop)]
 struct Wires<'a> {
     flat: &'a Flat,
+    marking: &'a [Mark],
     nets: &'a [u32],
     next: &'a [u32],
     rows: &'a [usize],
@@ -49,7 +51,7 @@ impl<'a> Part for Wires<'a> {
     ghost use Rattle.layout_rules.specs.Reports.{ReportsNone};
     ghost use Rattle.layout_rules.specs.CircuitRules.{CellsBroken, RowsBroken};
 
-    ghost valid = { λ s. (length s.flat.now.shapes < 2 ^ 32) × AreNets s.flat.now.shapes s.nets.now × ArePinRows s.flat.now.shapes s.rows.now × ReportsNone (CellsBroken s.flat.now.shapes) × AreChains s.nets.now s.next.now };
+    ghost valid = { λ s. (length s.flat.now.shapes < 2 ^ 32) × AreNets s.flat.now.shapes s.nets.now × ArePinRows s.flat.now.shapes s.rows.now × ReportsNone (CellsBroken s.flat.now.shapes) × AreChains s.nets.now s.next.now × AreMarks s.flat.now.shapes s.flat.now.labels s.marking.now };
 
     ghost count = { λ s. length s.flat.now.shapes };
 
@@ -62,7 +64,7 @@ impl<'a> Part for Wires<'a> {
     fn second(&self, a: u32, found: &mut Vec<u32>) -> Result<Option<u32>, Memory> {
         let shapes = self.flat.shapes.as_slice();
         let shape = &shapes[a as usize];
-        if shape.layer != INPUT_PIN || is_labelled(self.flat.labels.as_slice(), shape) {
+        if shape.layer != INPUT_PIN || self.marking[a as usize].has_label() {
             return Ok(None);
         }
         list_in_net(shapes, self.nets, self.next, OUTPUT_PIN, a, found)?;
@@ -77,10 +79,12 @@ impl<'a> Part for Wires<'a> {
 pub fn find_rows(
     alloc: Global,
     flat: &Flat,
+    marking: &[Mark],
     nets: &[u32],
     rows: &[usize],
 ) -> Result<Option<Report>, Memory>
     requires few { length flat.now.shapes < 2 ^ 32 }
+    requires marking { AreMarks flat.now.shapes flat.now.labels marking.now }
     requires nets { AreNets flat.now.shapes nets.now }
     requires rows { ArePinRows flat.now.shapes rows.now }
     requires kept { ReportsNone (CellsBroken flat.now.shapes) }
@@ -91,6 +95,7 @@ pub fn find_rows(
         alloc,
         &Wires {
             flat,
+            marking,
             nets,
             next: &next,
             rows,

@@ -2,6 +2,7 @@
 ghost use Rattle.std.specs.Prelude.{◌≡◌};
 ghost use Rattle.layout_rules.specs.Layers.{is_pin, is_via, is_lower, is_upper};
 ghost use Rattle.layout_rules.specs.Touch.{conducts, touch};
+ghost use Rattle.shape_extract.specs.Sharing.{is_conductor};
 
 use geom::{Shape, touches};
 use layout_rules::layers::{INPUT_PIN, M1, M2, OUTPUT_PIN, VIA};
@@ -13,22 +14,32 @@ pub fn is_pin(s: &Shape) -> bool
     s.layer == INPUT_PIN || s.layer == OUTPUT_PIN
 }
 
-fn is_via(s: &Shape) -> bool
+/// Whether the shape is a via.
+pub fn is_via(s: &Shape) -> bool
     ensures { result ≡ is_via s.now }
 {
     s.layer == VIA
 }
 
-fn is_lower(s: &Shape) -> bool
+/// Whether the shape lies in the plane of the lower metal.
+pub fn is_lower(s: &Shape) -> bool
     ensures { result ≡ is_lower s.now }
 {
     s.layer == M1 || is_pin(s)
 }
 
-fn is_upper(s: &Shape) -> bool
+/// Whether the shape lies in the plane of the upper metal.
+pub fn is_upper(s: &Shape) -> bool
     ensures { result ≡ is_upper s.now }
 {
     s.layer == M2
+}
+
+/// Whether the shape is of a layer that conducts.
+pub fn is_conductor(s: &Shape) -> bool
+    ensures { result ≡ is_conductor s.now }
+{
+    is_lower(s) || is_via(s) || is_upper(s)
 }
 
 fn conducts(a: &Shape, b: &Shape) -> bool

@@ -9,4 +9,4 @@ driver_of-driver-requires-clause-input c = plain_input c.args.tables.now.flat.no
 pub returns : goal.returns
 returns c =
     let input : IsInput c.args.tables.now.flat.now false c.args.p = plain_input c.args.tables.now.flat.now c.args.p c.requires.input c.in_default.ensures in
-    driven_from _ _ _ _ _ c.requires.tables c.args.p c.driver_of-driver.result c.in_ok-source.source input c.driver_of-driver.ensures c.in_ok-source.ensures
+    driven_from _ _ _ _ _ c.requires.tables c.args.p c.driver_of-driver.result c.source_of-source.result input c.driver_of-driver.ensures c.source_of-source.ensures

@@ -1,17 +1,18 @@
-use Rattle.std.proofs.Common.{◌≡◌, [], ◌∷◌, ◌++◌, sym, ◌∙◌}
-use Rattle.layout_rules.specs.Labels.{marks}
-use Rattle.shape_extract.proofs.Searching.{those_more, those_same, those_all}
-use Rattle.shape_extract.proofs.Passing.{passes_here, fails_here, passes_within}
+use Rattle.std.proofs.Common.{◌≡◌, List, subst, rules, w64, to_z, of_z}
+use Rattle.std.proofs.lemmas.Int.{to_z-of_z}
+use Rattle.geom.specs.Rectangle.{Rectangle}
+use Rattle.geom.specs.Near.{rects_of, AreNear}
+use Rattle.shape_extract.proofs.Partners.{marked_are, near_within}
 use Rattle.shape_extract.proofs.marking.list_marked.Goals as goal
-use Rattle.shape_extract.proofs.marking.list_marked.Goals.{then-marks+in_ok-push, else-marks}
 
-pub loop-p-preserved : goal.loop-p-preserved
-loop-p-preserved c = elim c.if-marks.branch [
-  | then-marks+in_ok-push w ↦
-      let longer : w.push.new.self.items ≡ c.loop-p.found.items ++ (c.loop-p.p ∷ []) = w.in_ok-push.ensures.items in
-      rw (w.found-is, longer) (those_more _ _ _ c.loop-p.invariant (passes_here (marks c.args.label.now) c.args.shapes.now _ _ c.loop-p-test.true c.index-shapes-p.is (sym c.marks.ensures ∙ w.if-marks.true)))
-  | else-marks w ↦ rw w.found-is (those_same _ _ _ c.loop-p.invariant (fails_here (marks c.args.label.now) c.args.shapes.now _ _ c.index-shapes-p.is (sym c.marks.ensures ∙ w.if-marks.false)))
-]
+pub keep_marked-requires : goal.keep_marked-requires
+keep_marked-requires c =
+    let are : AreNear (rects_of c.args.shapes.now) c.rect_at-here.result 0 c.list_near.new.found.items = subst (λ (rects : List Rectangle). AreNear rects c.rect_at-here.result 0 c.list_near.new.found.items) c.requires.filed c.in_ok-list_near.ensures in
+    near_within _ _ _ _ are
 
 pub returns : goal.returns
-returns c = those_all _ _ _ _ c.loop-p.invariant c.loop-p-test.false (λ n h. passes_within (marks c.args.label.now) c.args.shapes.now n h)
+returns c =
+    let are : AreNear (rects_of c.args.shapes.now) c.rect_at-here.result 0 c.list_near.new.found.items = subst (λ (rects : List Rectangle). AreNear rects c.rect_at-here.result 0 c.list_near.new.found.items) c.requires.filed c.in_ok-list_near.ensures in
+    let x : to_z w64 (of_z w64 c.args.label.now.x) ≡ c.args.label.now.x = search (rules, to_z-of_z) in
+    let y : to_z w64 (of_z w64 c.args.label.now.y) ≡ c.args.label.now.y = search (rules, to_z-of_z) in
+    marked_are c.args.shapes.now c.args.label.now c.rect_at-here.result c.list_near.new.found.items _ (rw (x, y) at c.rect_at-here.ensures) are c.keep_marked.ensures

@@ -3,7 +3,7 @@ use Rattle.layout_rules.specs.Pins.{exit_count}
 use Rattle.shape_extract.proofs.KeptPins.{exit_number}
 use Rattle.shape_extract.proofs.OutputLists.{outputs_none, named_on, outputs_more, outputs_same, outputs_all}
 use Rattle.shape_extract.proofs.outputs.outputs_of.Goals as goal
-use Rattle.shape_extract.proofs.outputs.outputs_of.Goals.{in-Some+in_ok-source, in_default}
+use Rattle.shape_extract.proofs.outputs.outputs_of.Goals.{in-Some, in_default}
 
 pub loop-q-init : goal.loop-q-init
 loop-q-init c =
@@ -18,7 +18,7 @@ index_mut-requires c = omega (arith, c.loop-q.invariant.long, exit_number c.args
 
 pub loop-q-preserved : goal.loop-q-preserved
 loop-q-preserved c = elim c.match-output_shown.branch [
-  | in-Some+in_ok-source w ↦ rw w.outputs-is (outputs_more _ _ c.requires.tables.five.labels _ _ c.loop-q.invariant w.in-Some.number w.in_ok-source.source w.in-Some.ensures w.in_ok-source.ensures)
+  | in-Some w ↦ rw w.outputs-is (outputs_more _ _ c.requires.tables.five.labels _ _ c.loop-q.invariant w.in-Some.number w.source_of.result w.in-Some.ensures w.source_of.ensures)
   | in_default w ↦ rw w.outputs-is (outputs_same _ _ c.requires.tables.five.labels _ _ c.loop-q.invariant w.in_default.ensures)
 ]
 

@@ -1,39 +1,33 @@
-use Rattle.std.proofs.Common.{◌≡◌, ◌∙◌, ◌<◌, ◌^◌, sym, arith, length, Some, refl}
+use Rattle.std.proofs.Common.{◌≡◌, ◌∙◌, ◌<◌, ◌^◌, sym, arith, length, Some}
 use Rattle.std.specs.Prelude.{slice_get}
-use Rattle.std.proofs.lemmas.Option.{slice_get_within, slice_get_read}
-use Rattle.shape_extract.proofs.Marked.{got_at}
-use Rattle.shape_extract.proofs.PinMarks.{none_more, none_marks, decimal_so, below_so, name_so}
+use Rattle.shape_extract.proofs.Passing.{read_at}
+use Rattle.shape_extract.proofs.PinMarks.{label_there, label_marks, no_label, decimal_so, below_so, name_so}
 use Rattle.shape_extract.proofs.pin_names.name_of.Goals as goal
+
+pub bounds-as_slice-label : goal.bounds-as_slice-label
+bounds-as_slice-label c = rw c.as_slice.ensures (label_there c.args.flat.now c.args.marking.now c.requires.marking c.args.p c.requires.pin c.in-Some.label (sym c.label.ensures ∙ c.in-Some.is))
 
 pub number_below-requires-clause-decimal : goal.number_below-requires-clause-decimal
 number_below-requires-clause-decimal c =
-    let within : c.args.p < length c.as_slice.result.now = rw c.as_slice.ensures (slice_get_within _ _ _ c.requires.pin.shape_is) in
-    let pin : slice_get c.args.flat.now.shapes c.args.p ≡ Some c.index-as_slice-p.result = rw c.as_slice.ensures at (got_at c.as_slice.result.now _ _ within c.index-as_slice-p.is) in
-    let label : slice_get c.args.flat.now.labels c.loop-label.label-index ≡ Some c.label-item.result = rw c.as_slice-label-items.ensures at (slice_get_read c.as_slice-label-items.result.now _ _ _ refl c.loop-label-test.true c.label-item.is) in
-    decimal_so c.args.flat.now c.requires.kept c.args.p c.loop-label.label-index c.index-as_slice-p.result c.label-item.result pin label (sym c.marks.ensures ∙ c.if-marks.true)
+    let e = sym c.label.ensures ∙ c.in-Some.is in
+    let within : c.in-Some.label < length c.as_slice.result.now = rw c.as_slice.ensures (label_there c.args.flat.now c.args.marking.now c.requires.marking c.args.p c.requires.pin c.in-Some.label e) in
+    let label : slice_get c.args.flat.now.labels c.in-Some.label ≡ Some c.index-as_slice-label.result = rw c.as_slice.ensures at (read_at c.as_slice.result.now _ _ within c.index-as_slice-label.is) in
+    decimal_so c.args.flat.now c.requires.kept c.args.p c.in-Some.label c.requires.pin.shape c.index-as_slice-label.result c.requires.pin.shape_is label (label_marks c.args.flat.now c.args.marking.now c.requires.marking c.args.p c.requires.pin c.in-Some.label e _ label)
 
 pub number_below-requires-clause-below : goal.number_below-requires-clause-below
 number_below-requires-clause-below c =
-    let within : c.args.p < length c.as_slice.result.now = rw c.as_slice.ensures (slice_get_within _ _ _ c.requires.pin.shape_is) in
-    let pin : slice_get c.args.flat.now.shapes c.args.p ≡ Some c.index-as_slice-p.result = rw c.as_slice.ensures at (got_at c.as_slice.result.now _ _ within c.index-as_slice-p.is) in
-    let label : slice_get c.args.flat.now.labels c.loop-label.label-index ≡ Some c.label-item.result = rw c.as_slice-label-items.ensures at (slice_get_read c.as_slice-label-items.result.now _ _ _ refl c.loop-label-test.true c.label-item.is) in
+    let e = sym c.label.ensures ∙ c.in-Some.is in
+    let within : c.in-Some.label < length c.as_slice.result.now = rw c.as_slice.ensures (label_there c.args.flat.now c.args.marking.now c.requires.marking c.args.p c.requires.pin c.in-Some.label e) in
+    let label : slice_get c.args.flat.now.labels c.in-Some.label ≡ Some c.index-as_slice-label.result = rw c.as_slice.ensures at (read_at c.as_slice.result.now _ _ within c.index-as_slice-label.is) in
     let few : length c.args.flat.now.shapes < 2 ^ 32 = omega (arith, c.requires.few) in
-    below_so c.args.flat.now c.requires.kept c.args.p c.loop-label.label-index c.index-as_slice-p.result c.label-item.result pin label (sym c.marks.ensures ∙ c.if-marks.true) few
+    below_so c.args.flat.now c.requires.kept c.args.p c.in-Some.label c.requires.pin.shape c.index-as_slice-label.result c.requires.pin.shape_is label (label_marks c.args.flat.now c.args.marking.now c.requires.marking c.args.p c.requires.pin c.in-Some.label e _ label) few
 
-pub returns-then-marks : goal.returns-then-marks
-returns-then-marks c =
-    let within : c.args.p < length c.as_slice.result.now = rw c.as_slice.ensures (slice_get_within _ _ _ c.requires.pin.shape_is) in
-    let pin : slice_get c.args.flat.now.shapes c.args.p ≡ Some c.index-as_slice-p.result = rw c.as_slice.ensures at (got_at c.as_slice.result.now _ _ within c.index-as_slice-p.is) in
-    let label : slice_get c.args.flat.now.labels c.loop-label.label-index ≡ Some c.label-item.result = rw c.as_slice-label-items.ensures at (slice_get_read c.as_slice-label-items.result.now _ _ _ refl c.loop-label-test.true c.label-item.is) in
-    rw c.number_below.ensures (name_so c.args.flat.now c.requires.kept c.args.p c.loop-label.label-index c.index-as_slice-p.result c.label-item.result pin label (sym c.marks.ensures ∙ c.if-marks.true))
+pub returns-in-Some : goal.returns-in-Some
+returns-in-Some c =
+    let e = sym c.label.ensures ∙ c.in-Some.is in
+    let within : c.in-Some.label < length c.as_slice.result.now = rw c.as_slice.ensures (label_there c.args.flat.now c.args.marking.now c.requires.marking c.args.p c.requires.pin c.in-Some.label e) in
+    let label : slice_get c.args.flat.now.labels c.in-Some.label ≡ Some c.index-as_slice-label.result = rw c.as_slice.ensures at (read_at c.as_slice.result.now _ _ within c.index-as_slice-label.is) in
+    rw c.number_below.ensures (name_so c.args.flat.now c.requires.kept c.args.p c.in-Some.label c.requires.pin.shape c.index-as_slice-label.result c.requires.pin.shape_is label (label_marks c.args.flat.now c.args.marking.now c.requires.marking c.args.p c.requires.pin c.in-Some.label e _ label))
 
-pub loop-label-preserved : goal.loop-label-preserved
-loop-label-preserved c =
-    let label : slice_get c.args.flat.now.labels c.loop-label.label-index ≡ Some c.label-item.result = rw c.as_slice-label-items.ensures at (slice_get_read c.as_slice-label-items.result.now _ _ _ refl c.loop-label-test.true c.label-item.is) in
-    none_more c.args.flat.now.labels c.index-as_slice-p.result c.loop-label.label-index c.label-item.result c.loop-label.invariant label (sym c.marks.ensures ∙ c.if-marks.false)
-
-pub returns : goal.returns
-returns c =
-    let within : c.args.p < length c.as_slice.result.now = rw c.as_slice.ensures (slice_get_within _ _ _ c.requires.pin.shape_is) in
-    let pin : slice_get c.args.flat.now.shapes c.args.p ≡ Some c.index-as_slice-p.result = rw c.as_slice.ensures at (got_at c.as_slice.result.now _ _ within c.index-as_slice-p.is) in
-    none_marks c.args.flat.now c.args.p c.loop-label.label-index c.index-as_slice-p.result pin (rw c.as_slice-label-items.ensures at c.loop-label-test.false) c.loop-label.invariant
+pub returns-in-None : goal.returns-in-None
+returns-in-None c = no_label c.args.flat.now c.args.marking.now c.requires.marking c.args.p c.requires.pin (sym c.label.ensures ∙ c.in-None.is)

@@ -1,0 +1,3 @@
+-- Words of private contracts and of loops.
+pub mod Marking
+pub mod FramesOfPins
