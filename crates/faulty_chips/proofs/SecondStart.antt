@@ -1,0 +1,60 @@
+-- A line with two starts.
+use Rattle.std.proofs.Common.{◌≡◌, ℕ, ◌≤◌, [], ◌∷◌, refl, arith, Some, eq-eqb}
+use Rattle.std.specs.Prelude.{slice_get, ◌==◌}
+use Rattle.geom.specs.FirstChip.{first_flat}
+use Rattle.geom.specs.declared.shapes.Shape.{Shape}
+use Rattle.layout_rules.specs.declared.layers.TheConstants.{EVEN_LINE}
+use Rattle.layout_rules.specs.declared.rule.Rule.TheVariants.{E2}
+use Rattle.layout_rules.specs.FirstLimits.{first_limits}
+use Rattle.layout_rules.specs.Reports.{Passes, Alone, IsFirstReport}
+use Rattle.layout_rules.specs.ReportLaws.{Afterwards-first, Afterwards-second}
+use Rattle.layout_rules.specs.ExcitationRule.{is_no_part, IsStartOn, HasOneStart, LacksOneStart, ExcitationBroken}
+use Rattle.layout_rules.specs.Rules.{FirstBroken}
+use Rattle.layout_rules.specs.RuleLaws.{KeepsBelow}
+use Rattle.faulty_chips.specs.LineChips.{with_second_start}
+use Rattle.faulty_chips.proofs.Places.{IsOneOf, place_at, place_of, at_one}
+use Rattle.faulty_chips.proofs.Cells.{cells_kept}
+use Rattle.faulty_chips.proofs.Order.{keeps_cells, alone_first}
+
+before : KeepsBelow 1 with_second_start first_limits
+unfolding with_second_start first_flat
+before = keeps_cells with_second_start first_limits (cells_kept with_second_start.shapes refl refl refl)
+
+no_other_part : (n : ℕ) → Passes is_no_part with_second_start.shapes n → ⊥
+unfolding with_second_start first_flat
+no_other_part n h = place_of is_no_part with_second_start.shapes n h
+
+on_even_line : (n : ℕ) (s : Shape) → slice_get with_second_start.shapes n ≡ Some s → s.layer ≡ EVEN_LINE → IsOneOf n (3 ∷ 4 ∷ 15 ∷ [])
+unfolding with_second_start first_flat
+on_even_line n s p of_layer = place_at (λ s. s.layer == EVEN_LINE) with_second_start.shapes n s p (eq-eqb s.layer EVEN_LINE of_layer)
+
+not_below : (n : ℕ) (s : Shape) → slice_get with_second_start.shapes n ≡ Some s → s.layer ≡ EVEN_LINE → 3 ≤ n
+not_below n s p of_layer = at_one (λ k. 3 ≤ k) n (3 ∷ 4 ∷ 15 ∷ []) (on_even_line n s p of_layer) ((omega arith, (omega arith, (omega arith, tt))))
+
+first_start : IsStartOn with_second_start.shapes EVEN_LINE 3
+unfolding with_second_start first_flat
+first_start = record { start = record { shape = _; shape_is = refl; line_so = refl; datatype_is = refl }; of_layer = refl }
+
+second_start : IsStartOn with_second_start.shapes EVEN_LINE 15
+unfolding with_second_start first_flat
+second_start = record { start = record { shape = _; shape_is = refl; line_so = refl; datatype_is = refl }; of_layer = refl }
+
+not_one : HasOneStart with_second_start.shapes EVEN_LINE → ⊥
+not_one h = let one : 3 ≡ h.number = h.only 3 first_start in let other : 15 ≡ h.number = h.only 15 second_start in omega arith
+
+broken : LacksOneStart with_second_start.shapes EVEN_LINE 3
+unfolding with_second_start first_flat
+broken = record { shape = _; shape_is = refl; of_layer = refl; least = not_below; not_one = not_one }
+
+-- the least shape of the layer is one
+only : (n : ℕ) → LacksOneStart with_second_start.shapes EVEN_LINE n → n ≡ 3
+only n h =
+    let above : 3 ≤ n = not_below n h.shape h.shape_is h.of_layer in
+    let below : n ≤ 3 = h.least 3 broken.shape broken.shape_is broken.of_layer in
+    omega arith
+
+first_report : IsFirstReport (ExcitationBroken with_second_start.shapes) 3 3
+first_report = Afterwards-second (Alone (Passes is_no_part with_second_start.shapes)) _ 3 3 (λ a b h. no_other_part a h.0) (Afterwards-first (Alone (LacksOneStart with_second_start.shapes EVEN_LINE)) _ 3 3 (alone_first (LacksOneStart with_second_start.shapes EVEN_LINE) 3 broken only))
+
+pub two_starts : FirstBroken with_second_start first_limits E2 3 3
+two_starts = record { report = first_report; kept_before = before }

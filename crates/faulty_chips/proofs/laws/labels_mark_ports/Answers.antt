@@ -1,0 +1,17 @@
+use Rattle.faulty_chips.proofs.BadLabel.{bad_label}
+use Rattle.faulty_chips.proofs.BareOutput.{bare_output}
+use Rattle.faulty_chips.proofs.PastLabel.{past_label}
+use Rattle.faulty_chips.proofs.RepeatedLabel.{repeated_label}
+use Rattle.faulty_chips.proofs.laws.labels_mark_ports.Goals as goal
+
+pub returns-clause-text : goal.returns-clause-text
+returns-clause-text c = bad_label
+
+pub returns-clause-bare : goal.returns-clause-bare
+returns-clause-bare c = bare_output
+
+pub returns-clause-past : goal.returns-clause-past
+returns-clause-past c = past_label
+
+pub returns-clause-repeated : goal.returns-clause-repeated
+returns-clause-repeated c = repeated_label

@@ -1,0 +1,13 @@
+use Rattle.faulty_chips.proofs.CloseMetal.{close_metal}
+use Rattle.faulty_chips.proofs.NearlySpacedMetal.{nearly_spaced_metal}
+use Rattle.faulty_chips.proofs.SpacedMetal.{spaced_metal}
+use Rattle.faulty_chips.proofs.laws.metal_keeps_its_distance.Goals as goal
+
+pub returns-clause-close : goal.returns-clause-close
+returns-clause-close c = close_metal
+
+pub returns-clause-nearly : goal.returns-clause-nearly
+returns-clause-nearly c = nearly_spaced_metal
+
+pub returns-clause-apart : goal.returns-clause-apart
+returns-clause-apart c = spaced_metal

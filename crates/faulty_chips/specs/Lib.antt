@@ -1,0 +1,4 @@
+pub mod Changes
+pub mod GeometryChips
+pub mod CircuitChips
+pub mod LineChips

@@ -1,0 +1,6 @@
+mod Geometry
+mod Covering
+mod Lengthy
+mod Colliding
+mod InOrder
+mod Repeating

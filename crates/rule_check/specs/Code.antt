@@ -1,0 +1,9 @@
+-- Words of private contracts and of loops.
+pub mod Seen
+pub mod Close
+pub mod Above
+pub mod Cover
+pub mod Lengths
+pub mod Bands
+pub mod FiledRows
+pub mod Runs

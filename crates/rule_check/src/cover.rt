@@ -1,0 +1,163 @@
+// The rule of cover: over cells lies no metal but at pins.
+ghost use Rattle.std.specs.Prelude.{◌≡◌, ◌<◌, ◌^◌, ◌&&◌, int_le, length, IfOk};
+ghost use Rattle.std.specs.Int.{int_max, int_min};
+ghost use Rattle.geom.specs.Near.{rects_of};
+ghost use Rattle.geom.specs.Rectangle.{within};
+ghost use Rattle.layout_rules.specs.GeometryRules.{common, CoverBroken};
+ghost use Rattle.shape_extract.specs.Searches.{Finds, FindsAt};
+ghost use Rattle.rule_check.specs.Code.Cover.{is_at_pin_of, AreWithin, any_at, may_trespass, trespasses_by, FindsTrespass};
+
+use crate::runs::first_of_runs;
+use aq_base::Memory;
+use geom::{Buckets, Rect, Shape};
+use layout_rules::layers::M1;
+use shape_extract::{Part, Report, is_frame, is_pin, is_upper, is_via, is_within, overlaps};
+use std::alloc::Global;
+
+/// Whether the first number is at most the greater of the others.
+fn is_below_one(low: i64, a: i64, b: i64) -> bool
+    ensures { result ≡ int_le low (int_max a b) }
+{
+    low <= a || low <= b
+}
+
+/// Whether the lesser of the first two numbers is at most the third.
+fn is_one_below(a: i64, b: i64, high: i64) -> bool
+    ensures { result ≡ int_le (int_min a b) high }
+{
+    a <= high || b <= high
+}
+
+fn holds_common_in_x(a: &Rect, b: &Rect, outer: &Rect) -> bool
+    ensures { result ≡ (int_le outer.now.x0 (int_max a.now.x0 b.now.x0) && int_le (int_min a.now.x1 b.now.x1) outer.now.x1) }
+{
+    is_below_one(outer.x0, a.x0, b.x0) && is_one_below(a.x1, b.x1, outer.x1)
+}
+
+fn holds_common_in_y(a: &Rect, b: &Rect, outer: &Rect) -> bool
+    ensures { result ≡ (int_le outer.now.y0 (int_max a.now.y0 b.now.y0) && int_le (int_min a.now.y1 b.now.y1) outer.now.y1) }
+{
+    is_below_one(outer.y0, a.y0, b.y0) && is_one_below(a.y1, b.y1, outer.y1)
+}
+
+/// Whether what the first two have in common lies within the third.
+fn holds_common(a: &Rect, b: &Rect, outer: &Rect) -> bool
+    ensures { result ≡ within (common a.now b.now) outer.now }
+{
+    holds_common_in_x(a, b, outer) && holds_common_in_y(a, b, outer)
+}
+
+/// Whether the shape is a pin of the frame that holds all that the metal has in common with the frame.
+fn is_at_pin_of(metal: &Shape, frame: &Shape, pin: &Shape) -> bool
+    ensures { result ≡ is_at_pin_of metal.now frame.now pin.now }
+{
+    is_pin(pin)
+        && is_frame(frame)
+        && is_within(&pin.rect, &frame.rect)
+        && holds_common(&metal.rect, &frame.rect, &pin.rect)
+}
+
+/// Whether one of these shapes is a pin of the frame that holds all that the metal has in common with the frame.
+fn has_pin(shapes: &[Shape], numbers: &[u32], metal: &Shape, frame: &Shape) -> bool
+    requires { AreWithin shapes.now numbers.now }
+    ensures { result ≡ any_at (is_at_pin_of metal.now frame.now) shapes.now numbers.now }
+{
+    for number in numbers {
+        if is_at_pin_of(metal, frame, &shapes[*number as usize]) {
+            return true;
+        }
+    }
+    false
+}
+
+/// Whether the shape trespasses on the frame, by what is near the shape.
+fn trespasses(shapes: &[Shape], near: &[u32], s: &Shape, frame: &Shape) -> bool
+    requires { AreWithin shapes.now near.now }
+    ensures { result ≡ trespasses_by shapes.now near.now s.now frame.now }
+{
+    is_frame(frame)
+        && overlaps(&s.rect, &frame.rect)
+        && (is_via(s) || is_upper(s) || (s.layer == M1 && !has_pin(shapes, near, s, frame)))
+}
+
+/// The first of the near shapes on which this one trespasses.
+fn first_trespass(shapes: &[Shape], near: &[u32], s: &Shape) -> Option<u32>
+    requires { AreWithin shapes.now near.now }
+    ensures { FindsTrespass shapes.now near.now s.now result }
+{
+    for number in near {
+        if trespasses(shapes, near, s, &shapes[*number as usize]) {
+            return Some(*number);
+        }
+    }
+    None
+}
+
+/// Whether the shape is of a layer that may trespass.
+fn may_trespass(s: &Shape) -> bool
+    ensures { result ≡ may_trespass s.now }
+{
+    is_via(s) || is_upper(s) || s.layer == M1
+}
+
+/// The first frame on which the shape of this number trespasses.
+fn find_trespass(
+    shapes: &[Shape],
+    index: &Buckets,
+    a: u32,
+    found: &mut Vec<u32>,
+) -> Result<Option<u32>, Memory>
+    requires few { length shapes.now < 2 ^ 32 }
+    requires filed { index.now ≡ rects_of shapes.now }
+    requires within { a < length shapes.now }
+    ensures { IfOk result (FindsAt (CoverBroken shapes.now) a) }
+{
+    let s = &shapes[a as usize];
+    if !may_trespass(s) {
+        return Ok(None);
+    }
+    index.known();
+    index.list_near(&s.rect, 0, found)?;
+    let frame = first_trespass(shapes, found.as_slice(), s);
+    Ok(frame)
+}
+
+/// Metal and vias over cells.
+#[derive(Drop)]
+struct Cover<'a> {
+    shapes: &'a [Shape],
+    index: &'a Buckets,
+}
+
+impl<'a> Part for Cover<'a> {
+    ghost use Rattle.std.proofs.lemmas.Option.{slice_get_within};
+
+    ghost valid = { λ s. (length s.shapes.now < 2 ^ 32) × (s.index.now ≡ rects_of s.shapes.now) };
+
+    ghost count = { λ s. length s.shapes.now };
+
+    ghost reported = { λ s. CoverBroken s.shapes.now };
+
+    fn count(&self) -> u32 {
+        self.shapes.len() as u32
+    }
+
+    fn second(&self, a: u32, found: &mut Vec<u32>) -> Result<Option<u32>, Memory> {
+        find_trespass(self.shapes, self.index, a, found)
+    }
+
+    ghost within = { λ s a b valid h. slice_get_within s.shapes.now a h.first h.first_is };
+}
+
+/// The first metal or via over a cell.
+pub fn find_cover(
+    alloc: Global,
+    shapes: &[Shape],
+    index: &Buckets,
+) -> Result<Option<Report>, Memory>
+    requires few { length shapes.now < 2 ^ 32 }
+    requires filed { index.now ≡ rects_of shapes.now }
+    ensures { IfOk result (Finds (CoverBroken shapes.now)) }
+{
+    first_of_runs(alloc, &Cover { shapes, index }, shapes)
+}

@@ -1,0 +1,158 @@
+// The rule of enclosure: a shape of each metal reaches past every via.
+ghost use Rattle.std.specs.Prelude.{◌≡◌, ◌<◌, ◌^◌, ◌&&◌, ◌-ℤ◌, ◌+ℤ◌, Some, pos, int_le, length, slice_get, IfOk};
+ghost use Rattle.geom.specs.declared.shapes.Shape.{Shape};
+ghost use Rattle.geom.specs.Near.{rects_of};
+ghost use Rattle.geom.specs.Rectangle.{within, grown};
+ghost use Rattle.layout_rules.specs.GeometryRules.{is_covered, EnclosureBroken};
+ghost use Rattle.shape_extract.specs.Searches.{Finds};
+ghost use Rattle.rule_check.specs.Code.Seen.{limits_seen};
+ghost use Rattle.rule_check.specs.Code.Close.{encloses, is_bare_by};
+
+use crate::limits::Limits;
+use crate::runs::first_of_runs;
+use aq_base::Memory;
+use geom::{Buckets, Rect, Shape};
+use layout_rules::layers::{M1, M2};
+use shape_extract::{PairTest, Part, Report, is_via, list_partners};
+use std::alloc::Global;
+
+/// Whether the first is below the second by the margin at least.
+fn is_below_by(margin: u64, low: i64, high: i64) -> bool
+    ensures down { result ≡ int_le low (high -ℤ pos margin) }
+    ensures up { result ≡ int_le (low +ℤ pos margin) high }
+{
+    low <= high && high.abs_diff(low) >= margin
+}
+
+fn is_within_in_x(margin: u64, inner: &Rect, outer: &Rect) -> bool
+    ensures { result ≡ (int_le outer.now.x0 (inner.now.x0 -ℤ pos margin) && int_le (inner.now.x1 +ℤ pos margin) outer.now.x1) }
+{
+    is_below_by(margin, outer.x0, inner.x0) && is_below_by(margin, inner.x1, outer.x1)
+}
+
+fn is_within_in_y(margin: u64, inner: &Rect, outer: &Rect) -> bool
+    ensures { result ≡ (int_le outer.now.y0 (inner.now.y0 -ℤ pos margin) && int_le (inner.now.y1 +ℤ pos margin) outer.now.y1) }
+{
+    is_below_by(margin, outer.y0, inner.y0) && is_below_by(margin, inner.y1, outer.y1)
+}
+
+/// Whether the first, grown by the margin, lies within the second.
+fn is_within_by(margin: u64, inner: &Rect, outer: &Rect) -> bool
+    ensures { result ≡ within (grown margin inner.now) outer.now }
+{
+    is_within_in_x(margin, inner, outer) && is_within_in_y(margin, inner, outer)
+}
+
+/// A shape, and one of a layer that reaches past it by this margin on all sides.
+#[derive(Drop)]
+struct Encloses {
+    layer: u16,
+    margin: u64,
+}
+
+impl PairTest for Encloses {
+    ghost use Rattle.rule_check.specs.Code.Close.{encloses_close};
+
+    ghost passes = { λ t a b. encloses t.layer t.margin a b };
+
+    ghost reach = { λ t. 0 };
+
+    fn passes(&self, a: &Shape, b: &Shape) -> bool {
+        b.layer == self.layer && is_within_by(self.margin, &a.rect, &b.rect)
+    }
+
+    ghost close = { λ t a b p q h. encloses_close t.layer t.margin a b p h };
+}
+
+/// Whether a shape of the layer reaches past that of this number by the margin.
+fn is_covered(
+    shapes: &[Shape],
+    index: &Buckets,
+    layer: u16,
+    margin: u64,
+    v: u32,
+    found: &mut Vec<u32>,
+) -> Result<bool, Memory>
+    requires few { length shapes.now < 2 ^ 32 }
+    requires filed { index.now ≡ rects_of shapes.now }
+    requires within { v < length shapes.now }
+    ensures { IfOk result (λ yes. (s : Shape) → slice_get shapes.now v ≡ Some s → yes ≡ is_covered shapes.now layer (grown margin s.rect)) }
+{
+    list_partners(&Encloses { layer, margin }, shapes, index, v, found)?;
+    let covers = found.as_slice();
+    Ok(!covers.is_empty())
+}
+
+/// Whether the shape of this number is a via whose margin is not within one shape of each metal.
+fn is_bare(
+    shapes: &[Shape],
+    index: &Buckets,
+    enclose: u64,
+    v: u32,
+    found: &mut Vec<u32>,
+) -> Result<bool, Memory>
+    requires few { length shapes.now < 2 ^ 32 }
+    requires filed { index.now ≡ rects_of shapes.now }
+    requires within { v < length shapes.now }
+    ensures { IfOk result (λ yes. (s : Shape) → slice_get shapes.now v ≡ Some s → yes ≡ is_bare_by enclose shapes.now s) }
+{
+    if !is_via(&shapes[v as usize]) {
+        return Ok(false);
+    }
+    let lower = is_covered(shapes, index, M1, enclose, v, found)?;
+    let upper = is_covered(shapes, index, M2, enclose, v, found)?;
+    Ok(!(lower && upper))
+}
+
+/// Vias that metal does not enclose.
+#[derive(Drop)]
+struct Enclosure<'a> {
+    shapes: &'a [Shape],
+    index: &'a Buckets,
+    limits: &'a Limits,
+}
+
+impl<'a> Part for Enclosure<'a> {
+    ghost use Rattle.std.proofs.lemmas.Option.{slice_get_within};
+
+    ghost valid = { λ s. (length s.shapes.now < 2 ^ 32) × (s.index.now ≡ rects_of s.shapes.now) };
+
+    ghost count = { λ s. length s.shapes.now };
+
+    ghost reported = { λ s. EnclosureBroken (limits_seen s.limits.now) s.shapes.now };
+
+    fn count(&self) -> u32 {
+        self.shapes.len() as u32
+    }
+
+    fn second(&self, a: u32, found: &mut Vec<u32>) -> Result<Option<u32>, Memory> {
+        if is_bare(self.shapes, self.index, self.limits.enclose, a, found)? {
+            return Ok(Some(a));
+        }
+        Ok(None)
+    }
+
+    ghost within = { λ s a b valid h. slice_get_within s.shapes.now a h.0.shape h.0.shape_is };
+}
+
+/// The first via that metal does not enclose.
+pub fn find_bare(
+    alloc: Global,
+    shapes: &[Shape],
+    index: &Buckets,
+    limits: &Limits,
+) -> Result<Option<Report>, Memory>
+    requires few { length shapes.now < 2 ^ 32 }
+    requires filed { index.now ≡ rects_of shapes.now }
+    ensures { IfOk result (Finds (EnclosureBroken (limits_seen limits.now) shapes.now)) }
+{
+    first_of_runs(
+        alloc,
+        &Enclosure {
+            shapes,
+            index,
+            limits,
+        },
+        shapes,
+    )
+}

@@ -1,0 +1,17 @@
+//! The rules of geometry, and the rule of lengths.
+#![tactic(auto)]
+
+mod checking;
+mod cover;
+mod enclosure;
+mod frames;
+mod lengths;
+mod limits;
+mod runs;
+mod sizes;
+mod spacing;
+
+pub use checking::{CheckRefusal, check};
+
+#[cfg(test)]
+mod tests;
