@@ -3,3 +3,5 @@ mod EveryOrder
 mod Settling
 mod InPlace
 mod Readings
+mod Stepped
+mod ShownOnce

@@ -6,3 +6,4 @@ pub mod Shows
 pub mod Settled
 pub mod Pulsing
 pub mod Steps
+pub mod Stepping

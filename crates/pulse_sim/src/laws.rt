@@ -1,5 +1,6 @@
 // Laws of the pulse machine.
-ghost use Rattle.std.specs.Prelude.{◌≡◌, ℕ, suc, ◌+◌, ◌-◌, ◌*◌, ◌%◌, ◌<◌, ◌≤◌, List, Bool, Option, Some, length, slice_get, slice_index_or, All, Contains};
+ghost use Rattle.std.specs.Prelude.{◌≡◌, ℕ, suc, ◌+◌, ◌-◌, ◌*◌, ◌%◌, ◌<◌, ◌≤◌, List, Bool, Option, Some, All, Contains};
+ghost use Rattle.std.specs.Prelude.{length, slice_get, slice_index_or};
 ghost use Rattle.std.specs.List.{AllZip};
 ghost use Rattle.shape_extract.specs.declared.cells.ExCell.{ExCell};
 ghost use Rattle.shape_extract.specs.declared.cells.Feed.TheVariants.{Pin};
@@ -13,6 +14,7 @@ ghost use Rattle.pulse_sim.specs.Ticks.{due_from, Ticks};
 ghost use Rattle.pulse_sim.specs.Runs.{IsLegalRun, IsSettledRun};
 ghost use Rattle.pulse_sim.specs.Settled.{settled_tick, settled_run};
 ghost use Rattle.pulse_sim.specs.Shows.{Shows};
+ghost use Rattle.pulse_sim.specs.Stepping.{AreGiven, state_after};
 
 /// Whatever the order of the events within each tick, an extracted circuit shows the answer to each word of its
 /// input count one tick later for each row but the lowest. Behind it stands that each row has the values of a word
@@ -57,4 +59,21 @@ pub fn settled_is_lawful()
     ensures only { (circuit : CircuitView) (words : List (List Bool)) (n : ℕ) (run : ℕ → List Flux)
         → KeepsFacts circuit → IsSettledRun circuit words n run
         → (t : ℕ) → t ≤ n → run t ≡ settled_run circuit words t }
+{}
+
+/// A circuit shows one list of answers at most to a list of words, since it has a run of every length.
+pub fn shown_once()
+    ensures { (circuit : CircuitView) (d : ℕ) (words answers others : List (List Bool)) → KeepsFacts circuit
+        → Shows circuit d words answers → Shows circuit d words others → answers ≡ others }
+{}
+
+/// The states of a simulation after any steps are those of the machine: each step is a tick with the word that it was
+/// given, and where each was given the word that is present at its time, the states make a legal run under the words.
+pub fn stepping_is_legal()
+    ensures ticks { (circuit : CircuitView) (steps : List (Option (List Bool))) (t : ℕ) (word : Option (List Bool))
+        → KeepsFacts circuit → slice_get steps t ≡ Some word
+        → Ticks EitherSign circuit word t (state_after circuit steps t) (state_after circuit steps (suc t)) }
+    ensures legal { (circuit : CircuitView) (words : List (List Bool)) (steps : List (Option (List Bool)))
+        → KeepsFacts circuit → AreGiven words steps
+        → IsLegalRun circuit words (length steps) (state_after circuit steps) }
 {}

@@ -9,7 +9,7 @@ mod ticks;
 
 pub use first_chip::first_chip_shows;
 pub use flux::Flux;
-pub use laws::{every_order, settled_is_lawful};
+pub use laws::{every_order, settled_is_lawful, shown_once, stepping_is_legal};
 pub use pulses::Pulses;
 
 #[cfg(test)]
