@@ -1,0 +1,10 @@
+pub mod FrameNumbers
+pub mod RowByRow
+pub mod CircuitAnswers
+pub mod CircuitDrawn
+pub mod DrawnKeeps
+pub mod RealisesAs
+pub mod Counts
+pub mod Bytes
+pub mod Wires
+pub mod Realised

@@ -1,0 +1,3 @@
+pub mod DrawnCircuit
+pub mod Realises
+pub mod RealisesNet
