@@ -1,8 +1,6 @@
 -- Printing answers one after another.
 use Rattle.std.proofs.Common.{◌≡◌, ℕ, zero, suc, ◌+◌, ◌*◌, ◌-◌, ◌≤◌, Bool, List, [], ◌∷◌, ◌++◌, length, Option, refl, sym, ap, subst, ◌∙◌, arith, append_assoc, append-nil, add-one, Result, Ok, Err, OnOk}
 use Rattle.std.specs.List.{flat_map}
-use Rattle.std.specs.Prelude.{slice_index_or}
-use Rattle.std.proofs.lemmas.List.{length-map}
 use Rattle.std.proofs.lemmas.List.Concat.{flat_map-append}
 use Rattle.aq_base.specs.Store.{gained, GainsPrefix}
 use Rattle.aq_base.specs.declared.store.StoreRefusal.{StoreRefusal}
@@ -10,11 +8,6 @@ use Rattle.aq_base.proofs.Gains.{prefix_of_first}
 use Rattle.shape_extract.specs.Circuits.{CircuitView}
 use Rattle.chip_texts.specs.Counts.{counts_line, delay_of}
 use Rattle.chip_texts.specs.WordLines.{word_line, values_at, first_answers, answers_to, answers_text}
-use Rattle.pulse_sim.specs.declared.flux.Flux.TheVariants.{Off}
-use Rattle.pulse_sim.specs.Settled.{settled_run}
-use Rattle.pulse_sim.specs.Pulsing.{is_plus}
-use Rattle.pulse_sim.specs.Shows.{fluxes_at}
-use Rattle.chip_texts.specs.Running.{Running}
 use Rattle.chip_texts.specs.Printing.{IsPrinted, PutsPage}
 use Rattle.chip_texts.proofs.Pages.{nothing_printed, all_put}
 
@@ -57,25 +50,9 @@ pub begins_with_counts : (old : Option (List ℕ)) (page : List ℕ) (circuit : 
 unfolding answers_text
 begins_with_counts old page circuit words made = nothing_printed old page (counts_line circuit ++ []) (append-nil (counts_line circuit) ∙ sym made)
 
--- what is read out is the answer that is due
-pub answer_due : (circuit : CircuitView) (words : List (List Bool)) (run now : Running) (k delay time : ℕ) (answer : List Bool) → run.circuit ≡ circuit → run.words ≡ words →
-    now ≡ record { circuit = run.circuit; words = run.words; time = time } → time ≡ 4 * k + delay + 1 → delay ≡ delay_of circuit →
-    ((last : ℕ) → now.time ≡ last + 1 → answer ≡ values_at now.circuit now.words last) → answer ≡ values_at circuit words (4 * k + delay_of circuit)
-answer_due circuit words run now k delay time answer one all ticked due late read =
-    let at : now.time ≡ (4 * k + delay) + 1 = ap (λ r. r.time) ticked ∙ due in
-    let same_circuit : now.circuit ≡ circuit = ap (λ r. r.circuit) ticked ∙ one in
-    let same_words : now.words ≡ words = ap (λ r. r.words) ticked ∙ all in
-    read (4 * k + delay) at ∙ (ap (λ c. values_at c now.words (4 * k + delay)) same_circuit ∙ (ap (λ w. values_at circuit w (4 * k + delay)) same_words ∙ ap (λ d. values_at circuit words (4 * k + d)) late))
-
 -- the last page is put
 pub all_answered : (circuit : CircuitView) (words : List (List Bool)) (before old now : Option (List ℕ)) (page left : List ℕ) (k : ℕ) (result : Result (Unit {0}) StoreRefusal) → k ≡ length words →
     IsPrinted before old page (answers_text circuit (first_answers circuit words k)) → OnOk result (PutsPage old now page left) → OnOk result (left ≡ []) → OnOk result (now ≡ gained before (answers_text circuit (answers_to circuit words)))
 all_answered circuit words before old now page left k (Ok x) end printed put empty =
     all_put before now (answers_text circuit (answers_to circuit words)) (subst (λ n. IsPrinted before now [] (answers_text circuit (first_answers circuit words n))) end (subst (λ l. IsPrinted before now l (answers_text circuit (first_answers circuit words k))) empty (put before (answers_text circuit (first_answers circuit words k)) printed)))
 all_answered circuit words before old now page left k (Err e) end printed put empty = tt
-
--- an answer has a value for each output
-pub answer_long : (circuit : CircuitView) (words : List (List Bool)) (time : ℕ) (answer : List Bool) → answer ≡ values_at circuit words time → length answer ≡ length circuit.outputs
-answer_long circuit words time answer shown =
-    let fluxes = settled_run circuit words (suc time) in
-    ap length shown ∙ (length-map (fluxes_at circuit.outputs fluxes) is_plus ∙ length-map circuit.outputs (λ source. slice_index_or fluxes source.cell Off))

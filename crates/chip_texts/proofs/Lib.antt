@@ -4,3 +4,4 @@ pub mod Pages
 pub mod Answering
 pub mod Shown
 pub mod Tracing
+mod NextWords

@@ -6,9 +6,7 @@ use Rattle.std.proofs.lemmas.List.{drop-drop, length-drop, take_all, take_more, 
 use Rattle.std.proofs.lemmas.List.Elements.{All-append, All-drop, All-map}
 use Rattle.std.proofs.lemmas.Bool.Decides.{nat_tests}
 use Rattle.std.proofs.lemmas.Option.{slice_get-get_or, slice_get-map, slice_get_past}
-use Rattle.pulse_sim.specs.Pulsing.{Pulsing, is_plus, values_shown}
-use Rattle.pulse_sim.specs.Shows.{fluxes_at}
-use Rattle.chip_texts.specs.WordLines.{values_at}
+use Rattle.pulse_sim.specs.Pulsing.{Pulsing}
 use Rattle.pulse_sim.specs.Settled.{settled_run, settled_tick}
 use Rattle.chip_texts.specs.Running.{entered, present_word, IsWaiting, IsFed, IsRunning}
 use Rattle.chip_texts.specs.WordsText.{is_one, is_word, word_of, words_of, SaysWords, IsBadLine}
@@ -107,7 +105,7 @@ one_enters text rest line after word new is_given time width e cut copied long w
       present = slice_get-map word_of (lines text) (time / 4) ∙ (ap (option_map word_of) (get_step (time / 4) (lines text) line (lines after) here) ∙ ap (λ w. Some w) (sym copied));
     }
 
-lengths_of : (width : ℕ) (all : List (List ℕ)) → All (λ w. length w ≡ width) (map word_of all) → All (λ line. length line ≡ width) all
+pub lengths_of : (width : ℕ) (all : List (List ℕ)) → All (λ w. length w ≡ width) (map word_of all) → All (λ line. length line ≡ width) all
 lengths_of width all wide k d lt =
     sym (length-map (get_or all k d) is_one) ∙ (ap length (sym (get_or-map word_of all k d (word_of d) lt)) ∙ wide k (word_of d) (rw (length-map all word_of) lt))
 
@@ -151,7 +149,3 @@ copied_more line into new place within long so_far made =
     rw made (take_more_set into place b (rw long within)
     ∙ (ap (λ xs. xs ++ b ∷ []) so_far
     ∙ sym (take_more (word_of line) place b (rw (length-map line is_one) within) ∙ ap (λ y. take place (word_of line) ++ y ∷ []) (get_or-map is_one line place 0 b within))))
-
--- what stands at the outputs after the tick of the last time
-pub shown_last : (pulses : Pulsing) (words : List (List Bool)) (last : ℕ) → pulses.time ≡ last + 1 → pulses.fluxes ≡ settled_run pulses.circuit words pulses.time → values_shown pulses ≡ values_at pulses.circuit words last
-shown_last pulses words last at settled = ap (λ fluxes. map is_plus (fluxes_at pulses.circuit.outputs fluxes)) (settled ∙ ap (settled_run pulses.circuit words) (at ∙ add-one last))

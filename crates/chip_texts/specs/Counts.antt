@@ -7,9 +7,13 @@ use Rattle.shape_extract.specs.Circuits.{CircuitView}
 abbrev pub delay_of : CircuitView → ℕ
 delay_of circuit = circuit.rows - 1
 
+-- the line of so many rows, cells and wires
+abbrev pub counts_text : ℕ → ℕ → ℕ → List ℕ
+counts_text rows cells wires =
+    codes "rows " ++ decimal rows
+    ++ codes " cells " ++ decimal cells
+    ++ codes " wires " ++ decimal wires
+    ++ codes " delay " ++ decimal (rows - 1) ++ codes "\n"
+
 unfoldable pub counts_line : CircuitView → List ℕ
-counts_line circuit =
-    codes "rows " ++ decimal circuit.rows
-    ++ codes " cells " ++ decimal (length circuit.cells)
-    ++ codes " wires " ++ decimal circuit.wires
-    ++ codes " delay " ++ decimal (delay_of circuit) ++ codes "\n"
+counts_line circuit = counts_text circuit.rows (length circuit.cells) circuit.wires

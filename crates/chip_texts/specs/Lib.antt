@@ -5,3 +5,4 @@ pub mod FluxLines
 pub mod Printing
 pub mod Running
 pub mod RowStarts
+pub mod Code

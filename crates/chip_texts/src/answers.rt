@@ -1,18 +1,22 @@
 // The answers of a circuit to words, line by line.
-ghost use Rattle.std.specs.Prelude.{◌≡◌, ◌++◌, All, length, map, IfOk, OnOk, OnErr, IsErrOf};
+ghost use Rattle.std.specs.Prelude.{◌≡◌, ◌++◌, ◌<◌, ℕ, List, All, length, drop, IfOk, OnOk, OnErr, IsErrOf};
 ghost use Rattle.aq_base.specs.Causes.{HasCause};
 ghost use Rattle.aq_base.specs.Store.{gained, GainsPrefix};
 ghost use Rattle.chip_texts.specs.Counts.{counts_line};
+ghost use Rattle.std.specs.Str.Lines.{lines};
+ghost use Rattle.chip_texts.specs.Code.NextWords.{IsNextOf};
 ghost use Rattle.chip_texts.specs.WordLines.{digit_of, word_line, answers_to, answers_text};
 ghost use Rattle.chip_texts.specs.Printing.{PrintsLine, RefusesLine};
 
 use crate::counts::add_counts;
+use crate::laws::answers_are_shown;
+use crate::lines::first_line;
 use crate::page::{put_full_page, put_page};
-use crate::run::{Run, blank_word};
-use crate::words::GivenWords;
+use crate::run::blank_word;
+use crate::words::{GivenWords, copy_word};
 use aq_base::{Memory, Sink, StoreRefusal};
-use circuit::Word;
-use shape_extract::Extracted;
+use circuit::{Answers, Word};
+use shape_extract::{Extracted, one_answer};
 use std::alloc::Global;
 
 fn digit_of(value: bool) -> u8
@@ -22,7 +26,7 @@ fn digit_of(value: bool) -> u8
 }
 
 /// Adds the line of a word to the page.
-fn add_word(word: &Word, page: &mut Vec<u8>) -> Result<(), Memory>
+pub fn add_word(word: &Word, page: &mut Vec<u8>) -> Result<(), Memory>
     ensures { OnOk result (page.new.items ≡ page.old.items ++ word_line word.now) }
 {
     for value in word.as_slice() {
@@ -44,34 +48,37 @@ fn print_word<O: Sink>(word: &Word, page: &mut Vec<u8>, out: &mut O) -> Result<(
     }
 }
 
-/// What printing answers needs: a page that begins with the counts line, the run, and a word for the outputs.
+/// What printing answers needs: a page that begins with the counts line, and room for a word.
 #[derive(Drop)]
-struct Answering<'a> {
+struct Answering {
     page: Vec<u8>,
-    run: Run<'a>,
-    answer: Word,
+    word: Word,
 }
 
-fn begin<'a>(
-    alloc: Global,
-    circuit: &Extracted,
-    words: &GivenWords<'a>,
-) -> Result<Answering<'a>, Memory>
-    requires { All (λ word. length word ≡ circuit.now.inputs) words.now }
+fn begin(alloc: Global, circuit: &Extracted) -> Result<Answering, Memory>
     ensures page { IfOk result (λ a. a.page.items ≡ counts_line circuit.now) }
-    ensures run { IfOk result (λ a. a.run ≡ record { circuit = circuit.now; words = words.now; time = 0 }) }
-    ensures answer { IfOk result (λ a. length a.answer ≡ length circuit.now.outputs) }
+    ensures word { IfOk result (λ a. length a.word ≡ circuit.now.inputs) }
 {
-    circuit.known();
     let mut page = Vec::new(alloc);
     add_counts(alloc, circuit, &mut page)?;
-    let run = Run::new(alloc, circuit, words)?;
-    let answer = blank_word(alloc, circuit.outputs.len() as u32)?;
-    Ok(Answering { page, run, answer })
+    let word = blank_word(alloc, circuit.inputs)?;
+    Ok(Answering { page, word })
 }
 
-/// Prints the counts line of a circuit, and for each word the answer that the circuit's settled run shows. The words have
-/// a value for each input. On a refusal some first bytes of that text were put.
+/// Puts the word of the first line into a word of as many values, and answers what follows the line.
+fn next_word<'a>(rest: &'a [u8], word: &mut Word) -> &'a [u8]
+    requires some { 0 < length rest.now }
+    requires wide { All (λ line. length line ≡ length word.old) (lines rest.now) }
+    ensures { (text : List ℕ) (k : ℕ) → lines rest.now ≡ drop k (lines text) → IsNextOf text k result.now word.new }
+{
+    let (line, after) = first_line(rest);
+    copy_word(line, word);
+    after
+}
+
+/// Prints the counts line of a circuit, and for each word the answer that the circuit's settled run shows: every run shows
+/// the answer of the circuit's functions, so these are evaluated. The words have a value for each input. On a refusal some
+/// first bytes of that text were put.
 pub fn print_answers<O: Sink>(
     alloc: Global,
     circuit: &Extracted,
@@ -84,18 +91,18 @@ pub fn print_answers<O: Sink>(
     ensures faults { HasCause (O.faults out.old) (O.faults out.new) (IsErrOf result StoreRefusal.Failed) }
 {
     circuit.known();
-    let Ok(answering) = begin(alloc, circuit, words) else {
+    answers_are_shown();
+    one_answer();
+    let Ok(answering) = begin(alloc, circuit) else {
         return Err(StoreRefusal::Memory);
     };
-    let Answering {
-        mut page,
-        mut run,
-        mut answer,
-    } = answering;
-    let delay = u64::from(circuit.rows - 1);
+    let Answering { mut page, mut word } = answering;
+    let mut rest = words.text();
     for k in 0..words.count() {
-        run.tick_until(4 * k + delay + 1);
-        run.read_out(&mut answer);
+        rest = next_word(rest, &mut word);
+        let Ok(answer) = circuit.answer(alloc, &word) else {
+            return Err(StoreRefusal::Memory);
+        };
         print_word(&answer, &mut page, out)?;
     }
     put_page(out, &mut page)

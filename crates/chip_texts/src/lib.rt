@@ -10,7 +10,7 @@ mod page;
 mod run;
 mod words;
 
-pub use answers::print_answers;
+pub use answers::{add_word, print_answers};
 pub use fluxes::print_fluxes;
 pub use laws::answers_are_shown;
 pub use words::{BadLine, GivenWords, read_words};

@@ -2,7 +2,6 @@
 ghost use Rattle.std.specs.Prelude.{◌≡◌, ◌+◌, ◌^◌, ◌<◌, ◌≤◌, ℕ, All, IfOk, List, length, slice_get, Some};
 ghost use Rattle.std.specs.Str.Lines.{lines};
 ghost use Rattle.pulse_sim.specs.Settled.{settled_run, settled_tick};
-ghost use Rattle.chip_texts.specs.WordLines.{values_at};
 ghost use Rattle.chip_texts.specs.Running.{present_word, IsWaiting, IsFed};
 
 use crate::lines::first_line;
@@ -97,13 +96,6 @@ impl<'a> Run<'a> {
         })
     }
 
-    /// How many ticks have been.
-    pub fn time(&self) -> u64
-        ensures { result ≡ self.now.time }
-    {
-        self.pulses.time()
-    }
-
     /// The next tick, with the word of its time; the time is below 2^60.
     pub fn tick(&mut self)
         requires { self.old.time < 2 ^ 60 }
@@ -114,26 +106,6 @@ impl<'a> Run<'a> {
         self.rest = rest;
         self.is_given = is_given;
         give(&mut self.pulses, &self.word, is_given);
-    }
-
-    /// All ticks until so many have been.
-    pub fn tick_until(&mut self, time: u64)
-        requires later { self.old.time ≤ time }
-        requires few { time < 2 ^ 60 }
-        ensures { self.new ≡ record { circuit = self.old.circuit; words = self.old.words; time = time } }
-    {
-        while self.time() < time {
-            self.tick();
-        }
-    }
-
-    /// Puts the values that stand at the outputs into a word of as many values.
-    pub fn read_out(&self, into: &mut Word)
-        requires long { length into.old ≡ length self.now.circuit.outputs }
-        requires begun { 0 < self.now.time }
-        ensures { (last : _) → self.now.time ≡ last + 1 → into.new ≡ values_at self.now.circuit self.now.words last }
-    {
-        self.pulses.read_out(into);
     }
 
     /// The flux of a cell, by its number in the circuit.

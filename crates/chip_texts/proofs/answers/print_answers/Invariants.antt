@@ -1,5 +1,5 @@
-use Rattle.std.proofs.Common.{◌≡◌, ◌≤◌, ◌+◌, ◌*◌, length}
-use Rattle.chip_texts.specs.Counts.{delay_of}
+use Rattle.std.proofs.Common.{◌≡◌, ◌≤◌, length, drop}
+use Rattle.std.specs.Str.Lines.{lines}
 use Rattle.chip_texts.specs.WordLines.{answers_text, first_answers}
 use Rattle.chip_texts.specs.Printing.{IsPrinted}
 use Rattle.chip_texts.proofs.answers.print_answers.Given as goal
@@ -8,8 +8,6 @@ abbrev pub invariant-loop-k : goal.invariant-loop-k
 invariant-loop-k g l = record {
   printed : IsPrinted (g.O.Sink.written l.initial.out) (g.O.Sink.written l.out) l.page.items (answers_text l.circuit (first_answers l.circuit l.words l.k));
   faults : g.O.Sink.faults l.initial.out ≤ g.O.Sink.faults l.out;
-  circuit : l.run.circuit ≡ l.circuit;
-  words : l.run.words ≡ l.words;
-  not_past : l.run.time ≤ 4 * l.k + delay_of l.circuit + 1;
-  long : length l.answer ≡ length l.circuit.outputs;
+  to_come : lines l.rest ≡ drop l.k (lines l.initial.rest);
+  long : length l.word ≡ l.circuit.inputs;
 }

@@ -1,0 +1,2 @@
+-- Words of private contracts and of loops.
+pub mod NextWords

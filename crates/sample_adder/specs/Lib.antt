@@ -1,0 +1,3 @@
+pub mod Adder
+pub mod EightWords
+pub mod SampleText

@@ -1,0 +1,87 @@
+// The text of the sample.
+ghost use Rattle.std.specs.Prelude.{◌≡◌, ◌++◌, ◌≤◌, IfOk, OnOk, OnErr, IsErrOf};
+ghost use Rattle.std.specs.List.{flat_map};
+ghost use Rattle.aq_base.specs.Causes.{HasCause};
+ghost use Rattle.aq_base.specs.Store.{gained, GainsPrefix};
+ghost use Rattle.chip_texts.specs.WordLines.{word_line};
+ghost use Rattle.sample_adder.specs.SampleText.{sample_line, sample_text};
+
+use aq_base::{List, Memory, Sink, StoreRefusal};
+use chip_texts::add_word;
+use circuit::Word;
+use std::alloc::Global;
+
+/// Adds the line of the counts.
+#[tactic(auto, using(std::proofs::Common::append_assoc), unfolding(crate::specs::SampleText::sample_line))]
+fn add_counts(
+    alloc: Global,
+    bits: u32,
+    rows: u64,
+    cells: u64,
+    wires: u64,
+    text: &mut Vec<u8>,
+) -> Result<(), Memory>
+    requires { 1 ≤ rows }
+    ensures { OnOk result (text.new.items ≡ text.old.items ++ sample_line bits rows cells wires) }
+{
+    let delay = rows - 1;
+    let counts = format!(in alloc; "rows {rows} cells {cells} wires {wires} delay {delay}\n")?;
+    let head = format!(in alloc; "bits {bits} ")?;
+    text.extend_from_slice(head.as_bytes())?;
+    text.extend_from_slice(counts.as_bytes())?;
+    Ok(())
+}
+
+/// Adds a line for each answer.
+#[tactic(auto, using(std::proofs::Common::append_assoc))]
+fn add_answers(answers: &List<Word>, text: &mut Vec<u8>) -> Result<(), Memory>
+    ensures { OnOk result (text.new.items ≡ text.old.items ++ flat_map word_line answers.now) }
+{
+    for answer in answers.as_slice() {
+        add_word(answer, text)?;
+    }
+    Ok(())
+}
+
+#[tactic(auto, unfolding(crate::specs::SampleText::sample_text))]
+fn text_of(
+    alloc: Global,
+    bits: u32,
+    rows: u64,
+    cells: u64,
+    wires: u64,
+    answers: &List<Word>,
+) -> Result<Vec<u8>, Memory>
+    requires { 1 ≤ rows }
+    ensures { IfOk result (λ text. text.items ≡ sample_text bits rows cells wires answers.now) }
+{
+    let mut text = Vec::new(alloc);
+    add_counts(alloc, bits, rows, cells, wires, &mut text)?;
+    add_answers(answers, &mut text)?;
+    Ok(text)
+}
+
+/// Prints the text of the sample for so many bits: the counts of its chip, which has at least one row, and a line for
+/// each answer. On a refusal some first bytes of that text were put.
+#[tactic(auto, using(chip_texts::proofs::Pages::gains_none))]
+pub fn print_sample<O: Sink>(
+    alloc: Global,
+    bits: u32,
+    rows: u64,
+    cells: u64,
+    wires: u64,
+    answers: &List<Word>,
+    out: &mut O,
+) -> Result<(), StoreRefusal>
+    requires { 1 ≤ rows }
+    ensures added { OnOk result (O.written out.new
+        ≡ gained (O.written out.old) (sample_text bits rows cells wires answers.now)) }
+    ensures prefix { OnErr result (GainsPrefix (O.written out.old) (O.written out.new)
+        (sample_text bits rows cells wires answers.now)) }
+    ensures faults { HasCause (O.faults out.old) (O.faults out.new) (IsErrOf result StoreRefusal.Failed) }
+{
+    match text_of(alloc, bits, rows, cells, wires, answers) {
+        Ok(text) => out.put(text.as_slice()),
+        Err(Memory) => Err(StoreRefusal::Memory),
+    }
+}
