@@ -1,24 +1,30 @@
 // The texts of `--help` and `--version`.
 
 /// What the program is, its commands, its files and its statuses.
-pub const HELP: &[u8] = b"aqfp - physical design of adiabatic quantum-flux-parametron (AQFP) chips
+pub const HELP: &str = "aqfp - physical design of adiabatic quantum-flux-parametron (AQFP) chips
 
 usage: aqfp build NET LIB OUT
+       aqfp verify GDS LIB WORDS
+       aqfp trace GDS LIB WORDS
        aqfp --help
        aqfp --version
 
 build   reads the netlist NET with the cells of the library LIB, stores the
-        layout under OUT and prints the counts of its rows, cells and wires and
-        its delay in phases. OUT may have the name of NET or LIB.
+        layout of its chip under OUT and prints the counts of its rows, cells
+        and wires and its delay in phases. OUT may have the name of NET or LIB.
+verify  reads the layout GDS, tries the eleven rules of layouts with the numbers
+        of the library LIB, and prints the counts and, for each word of WORDS,
+        the answer that the chip's pulses show.
+trace   the same, but prints the flux of each cell at each time.
 
 NET     a combinational netlist in the Berkeley Logic Interchange Format (BLIF),
         at most 16777216 bytes
 LIB     a cell library in TOML, at most 1048576 bytes
 OUT     a layout in the GDSII Stream Format, in database units of 1 nm
+GDS     such a layout, at most 268435456 bytes
+WORDS   lines with a 0 or 1 for each input, at most 16777216 bytes
 
-So far a netlist is built that has one input, which is its only output, with the
-cells of libraries/a.toml; others are read, checked and refused as `not built yet`.
-Later come: verify GDS LIB WORDS, trace GDS LIB WORDS, sample N.
+To come: sample N.
 
 status  0  done
         1  the words are none of the commands
@@ -29,10 +35,14 @@ status  0  done
         6  the netlist has a fault
         7  the library has a fault
         8  the library lacks a kind of cell
+       10  the chip has too many slots, rows, cells, elements or shapes
+       11  the layout's bytes are no stream that is read
+       12  the layout breaks a rule
+       13  a line of WORDS is no word for the chip
        14  out of memory
        15  not built yet
 A status above 0 comes with one line on standard error.
 ";
 
 /// The program's name and version.
-pub const VERSION: &[u8] = b"aqfp 0.1.0\n";
+pub const VERSION: &str = "aqfp 0.1.0\n";

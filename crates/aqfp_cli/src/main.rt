@@ -53,13 +53,16 @@ fn main(rt: HostRuntime) -> ExitCode {
     };
     let mut out = StdSink::new(rt.stdout());
     if is_alone(&words, "--help") {
-        return print(&mut out, help::HELP);
+        return print(&mut out, help::HELP.as_bytes());
     }
     if is_alone(&words, "--version") {
-        return print(&mut out, help::VERSION);
+        return print(&mut out, help::VERSION.as_bytes());
     }
     let mut err = StdSink::new(rt.stderr());
     let mut files = StdFiles::new(alloc, rt);
     let ending = aqfp_run(alloc, &words, &mut files, &mut out, &mut err);
     ExitCode::from(ending.status)
 }
+
+#[cfg(test)]
+mod tests;

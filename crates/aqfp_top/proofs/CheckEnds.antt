@@ -1,21 +1,22 @@
 -- How each step may end a check.
 use Rattle.std.proofs.Common.{ℕ, ◌≡◌, ◌≤◌, ◌⊎◌, Bool, List, length, Option, Some, None, Result, Ok, Err, IfErr, OnOk, OnErr, All, refl, sym, subst, inl, inr, arith}
 use Rattle.std.specs.Result.{result_err}
+use Rattle.aq_base.specs.Causes.{Rose}
 use Rattle.aq_base.specs.Store.{Contents, gained, GainsPrefix}
 use Rattle.shape_extract.specs.Circuits.{CircuitView, KeepsFacts}
 use Rattle.chip_texts.specs.WordsText.{words_of}
 use Rattle.aqfp_top.specs.Words.{word_at}
-use Rattle.aqfp_top.specs.Lines.{HasPlace}
 use Rattle.aqfp_top.specs.Counted.{Counts, HasFaults, FailedLoad}
-use Rattle.aqfp_top.specs.Build.{IsFaultOfLoads, IsOutOrMemory}
-use Rattle.aqfp_top.specs.Checks.{CheckCause, ToldCheckCause, ToldTexts, HasTexts, IsSound, SaysSound, IsWrong, IsWrongOrMemory, CheckPrints, IsPrintedOf, IsCheckFault, text_of}
+use Rattle.aqfp_top.specs.Code.Building.{IsFaultOfLoads, IsOutOrMemory, IsReadOf}
+use Rattle.aqfp_top.specs.Code.Checking.{IsWrongOrMemory}
+use Rattle.aqfp_top.specs.Checks.{CheckCause, ToldCheckCause, ToldTexts, HasTexts, IsSound, SaysSound, IsWrong, CheckPrints, IsPrintedOf, IsCheckFault, limit_of, text_of}
 use Rattle.aqfp_top.specs.declared.check.Printing.{Printing}
 use Rattle.aqfp_top.specs.declared.fault.Large.TheVariants.{Shapes}
 use Rattle.aqfp_top.specs.declared.fault.WriteCall.TheVariants.{Out}
 use Rattle.aqfp_top.specs.declared.fault.Fault.{Fault}
 use Rattle.aqfp_top.specs.declared.fault.Fault.TheVariants.{WriteFault, BadLibrary, MissingCell, TooLarge, BadStream, RuleBroken, BadWords, Memory}
 use Rattle.aqfp_top.proofs.EachFault.{each_of_loads, each_out}
-use Rattle.aqfp_top.proofs.Steps.{loads_count, out_counts, out_failed, out_place}
+use Rattle.aqfp_top.proofs.Steps.{print_counts}
 
 -- what holds of each kind of thing that may be wrong with the texts holds of whatever is wrong
 each_wrong : (P : Fault → Type 0) (gds lib text : List ℕ) → ((offset : ℕ) (kind : _) → P (BadStream offset kind)) → ((count : ℕ) → P (TooLarge Shapes count)) → ((fault : _) → P (BadLibrary fault)) → ((kind : _) → P (MissingCell kind)) →
@@ -31,19 +32,21 @@ each_wrong P gds lib text stream large library missing rules words memory _ wron
 
 -- Where a load ends a check nothing is printed.
 
-pub loads_check : (fault : Fault) → IsFaultOfLoads fault → IsCheckFault fault
-loads_check fault only = each_of_loads IsCheckFault (λ p. tt) (λ p t. tt) (λ p. tt) tt fault only
+pub loads_check : (fault : Fault) → IsFaultOfLoads 3 limit_of fault → IsCheckFault fault
+loads_check fault only = each_of_loads IsCheckFault 3 limit_of (λ p l. l) (λ p t l more. (l, more)) (λ p l. l) tt fault only
 
-pub loads_check_print : (printing : Printing) (told : Option Contents) (words : List (List ℕ)) (held : Option (List ℕ)) (fault : Fault) → IsFaultOfLoads fault → CheckPrints printing told words held held (Some fault)
-loads_check_print printing told words held fault only = each_of_loads (λ f. CheckPrints printing told words held held (Some f)) (λ p. refl) (λ p t. refl) (λ p. refl) (inl refl) fault only
+pub loads_count : (before after : Counts) (fault : Fault) → IsFaultOfLoads 3 limit_of fault → IsReadOf (Rose before.reads after.reads) fault → HasFaults before after (Some fault)
+loads_count before after fault only =
+    each_of_loads (λ f. IsReadOf (Rose before.reads after.reads) f → HasFaults before after (Some f)) 3 limit_of (λ p l r. tt) (λ p t l more r. tt) (λ p l r. r) (λ r. tt) fault only
+
+pub loads_check_print : (printing : Printing) (told : Option Contents) (words : List (List ℕ)) (held : Option (List ℕ)) (fault : Fault) → IsFaultOfLoads 3 limit_of fault → CheckPrints printing told words held held (Some fault)
+loads_check_print printing told words held fault only =
+    each_of_loads (λ f. CheckPrints printing told words held held (Some f)) 3 limit_of (λ p l. refl) (λ p t l more. refl) (λ p l. refl) (inl refl) fault only
 
 -- Where the texts end a check nothing is printed.
 
 pub unsound_is_check : (gds lib text : List ℕ) (fault : Fault) → IsWrongOrMemory gds lib text fault → IsCheckFault fault
 unsound_is_check gds lib text fault wrong = each_wrong IsCheckFault gds lib text (λ o k. tt) (λ n. tt) (λ f. tt) (λ k. tt) (λ r a b. tt) (λ l. tt) tt fault wrong
-
-pub unsound_place : (words : List (List ℕ)) (gds lib text : List ℕ) (fault : Fault) → IsWrongOrMemory gds lib text fault → HasPlace words fault
-unsound_place words gds lib text fault wrong = each_wrong (HasPlace words) gds lib text (λ o k. tt) (λ n. tt) (λ f. tt) (λ k. tt) (λ r a b. tt) (λ l. tt) tt fault wrong
 
 pub unsound_counts : (before after : Counts) (gds lib text : List ℕ) (fault : Fault) → IsWrongOrMemory gds lib text fault → HasFaults before after (Some fault)
 unsound_counts before after gds lib text fault wrong = each_wrong (λ f. HasFaults before after (Some f)) gds lib text (λ o k. tt) (λ n. tt) (λ f. tt) (λ k. tt) (λ r a b. tt) (λ l. tt) tt fault wrong
@@ -123,4 +126,7 @@ out_check_prints printing told words before after gds lib text circuit given res
       printed = subst (λ words. Printed (text_of printing circuit words)) same printed;
     }
 
-pub ruleset ends = (loads_check, loads_count, loads_check_print, unsound_is_check, unsound_place, unsound_counts, unsound_failed, unsound_prints, told_unsound, told_sound, out_is_check, out_check_prints, out_counts, out_failed, out_place)
+pub print_failed : (name : Option (List ℕ)) (words : List (List ℕ)) (result : Result (Unit {0}) Fault) → IfErr result IsOutOrMemory → FailedLoad name words (result_err result)
+print_failed name words result only = each_out (λ r. FailedLoad name words (result_err r)) tt tt tt result only
+
+pub ruleset ends = (loads_check, loads_count, loads_check_print, unsound_is_check, unsound_counts, unsound_failed, unsound_prints, told_unsound, told_sound, out_is_check, out_check_prints, print_counts, print_failed)

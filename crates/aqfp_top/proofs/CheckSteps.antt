@@ -5,13 +5,11 @@ use Rattle.std.specs.declared.alloc.Global.{Global}
 use Rattle.aq_base.specs.Causes.{Rose}
 use Rattle.aq_base.specs.Store.{Contents, gained, GainsPrefix}
 use Rattle.aqfp_top.specs.Words.{word_at}
-use Rattle.aqfp_top.specs.Lines.{HasPlace}
 use Rattle.aqfp_top.specs.Loads.{ToldLoadsWord, LoadsWord, IsLoadFault}
-use Rattle.aqfp_top.specs.Build.{IsFaultOfLoads}
 use Rattle.aqfp_top.specs.Checks.{CheckCause, ToldCheckCause, ToldTexts, IsLoadable}
 use Rattle.aqfp_top.specs.declared.fault.Fault.{Fault}
 use Rattle.aqfp_top.proofs.EachFault.{each_load}
-use Rattle.aqfp_top.proofs.Steps.{load_place, load_is_one, load_rose, load_failed}
+use Rattle.aqfp_top.proofs.Steps.{load_is_one, load_rose, load_failed}
 
 -- a file that is held and fits is there
 held_fits : (P : List ℕ → Type 0) (file : Option (List ℕ)) (bytes : List ℕ) → file ≡ Some bytes → P bytes → IsSomeAnd file P
@@ -55,4 +53,4 @@ pub told_all : (told : Option Contents) (words : List (List ℕ)) (gds lib text 
 told_all None words gds lib text first second third = tt
 told_all (Some files) words gds lib text first second third = (first.0, second.0, third.0)
 
-pub ruleset loads = (load_place, load_is_one, load_rose, load_failed, told_gds, told_lib, told_words, told_all)
+pub ruleset loads = (load_is_one, load_rose, load_failed, told_gds, told_lib, told_words, told_all)

@@ -11,7 +11,6 @@ use Rattle.aqfp_top.proofs.ExactChecks as checks
 use Rattle.aqfp_top.specs.Build.{ToldBuildCause, BuildCause, HasTexts, IsReached, IsLoadable, IsTooLong, limit_of}
 use Rattle.aqfp_top.proofs.Files.{gone_not_there, long_not_short, held_short}
 use Rattle.aqfp_top.proofs.Forms.{build_not_later, check_not_later, build_not_check}
-use Rattle.aqfp_top.proofs.OneFault.{same_wrong, not_served}
 use Rattle.aqfp_top.specs.declared.fault.WriteCall.{WriteCall}
 use Rattle.aqfp_top.specs.declared.fault.WriteCall.TheVariants.{Create, Append, Close, Out}
 use Rattle.aqfp_top.specs.declared.fault.Fault.{Fault}
@@ -170,33 +169,35 @@ both P Q files words p q =
     let lib : p.lib ≡ q.lib = let a = p.lib_held in let b = q.lib_held in cc in
     (q.net, q.lib, subst (λ n. P n q.lib) net (subst (λ l. P p.net l) lib p.holds), q.holds)
 
-wrong_built : (files : Contents) (words : List (List ℕ)) (due : Fault) (fault : Option Fault) → RunCause (Some files) words fault → IsBuild words →
-    HasTexts files words (λ net lib. IsWrong net lib due) → ComesOrYields due fault
-wrong_built files words due fault cause build texts =
-    build_ends (ComesOrYields due) files words build (each_cause (ComesOrYields due) files words
-    (λ served. let t = both IsServed (λ net lib. IsWrong net lib due) files words served texts in absurd (not_served t.0 t.1 due t.2 t.3))
-    (λ call served. let t = both IsServed (λ net lib. IsWrong net lib due) files words served texts in absurd (not_served t.0 t.1 due t.2 t.3))
-    (λ f wrong. let t = both (λ net lib. IsWrong net lib f) (λ net lib. IsWrong net lib due) files words wrong texts in subst (λ g. ComesOrYields due (Some g)) (same_wrong t.0 t.1 due f t.3 t.2) (comes due))
-    (λ p r g. absurd (gone_not_loadable files words p g (loadable _ files words texts p r)))
-    (λ p taken r l. absurd (long_not_loadable files words p l (loadable _ files words texts p r)))
-    (λ p. tt) tt) fault cause
-
 written_rose : (before after : Counts) (call : WriteCall) → NoFaults before after → HasFaults before after (Some (WriteFault call)) → ⊥
 written_rose before after Create none rose = none.writes rose
 written_rose before after Append none rose = none.writes rose
 written_rose before after Close none rose = none.closes rose
 written_rose before after Out none rose = none.outs rose
 
-complete_built : (files : Contents) (words : List (List ℕ)) (before after : Counts) (fault : Option Fault) → RunCause (Some files) words fault → IsBuild words →
-    HasTexts files words IsServed → HasFaults before after fault → NoFaults before after → IsDoneOrMemory fault
-complete_built files words before after fault cause build texts rose none =
-    build_ends (λ f. HasFaults before after f → IsDoneOrMemory f) files words build (each_cause (λ f. HasFaults before after f → IsDoneOrMemory f) files words
-    (λ served r. tt)
-    (λ call served r. written_rose before after call none r)
-    (λ f wrong r. let t = both IsServed (λ net lib. IsWrong net lib f) files words texts wrong in absurd (not_served t.0 t.1 f t.2 t.3))
-    (λ p r g c. gone_not_loadable files words p g (loadable _ files words texts p r))
-    (λ p taken r l c. long_not_loadable files words p l (loadable _ files words texts p r))
-    (λ p r. none.reads r) (λ r. tt)) fault cause rose
+module _ (same_built : (net lib : List ℕ) (f g : Fault) → IsWrong net lib f → IsWrong net lib g → f ≡ g)
+    (not_served : (net lib : List ℕ) (f : Fault) → IsServed net lib → IsWrong net lib f → ⊥) where
+  wrong_built : (files : Contents) (words : List (List ℕ)) (due : Fault) (fault : Option Fault) → RunCause (Some files) words fault → IsBuild words →
+      HasTexts files words (λ net lib. IsWrong net lib due) → ComesOrYields due fault
+  wrong_built files words due fault cause build texts =
+      build_ends (ComesOrYields due) files words build (each_cause (ComesOrYields due) files words
+      (λ served. let t = both IsServed (λ net lib. IsWrong net lib due) files words served texts in absurd (not_served t.0 t.1 due t.2 t.3))
+      (λ call served. let t = both IsServed (λ net lib. IsWrong net lib due) files words served texts in absurd (not_served t.0 t.1 due t.2 t.3))
+      (λ f wrong. let t = both (λ net lib. IsWrong net lib f) (λ net lib. IsWrong net lib due) files words wrong texts in subst (λ g. ComesOrYields due (Some g)) (same_built t.0 t.1 due f t.3 t.2) (comes due))
+      (λ p r g. absurd (gone_not_loadable files words p g (loadable _ files words texts p r)))
+      (λ p taken r l. absurd (long_not_loadable files words p l (loadable _ files words texts p r)))
+      (λ p. tt) tt) fault cause
+
+  complete_built : (files : Contents) (words : List (List ℕ)) (before after : Counts) (fault : Option Fault) → RunCause (Some files) words fault → IsBuild words →
+      HasTexts files words IsServed → HasFaults before after fault → NoFaults before after → IsDoneOrMemory fault
+  complete_built files words before after fault cause build texts rose none =
+      build_ends (λ f. HasFaults before after f → IsDoneOrMemory f) files words build (each_cause (λ f. HasFaults before after f → IsDoneOrMemory f) files words
+      (λ served r. tt)
+      (λ call served r. written_rose before after call none r)
+      (λ f wrong r. let t = both IsServed (λ net lib. IsWrong net lib f) files words texts wrong in absurd (not_served t.0 t.1 f t.2 t.3))
+      (λ p r g c. gone_not_loadable files words p g (loadable _ files words texts p r))
+      (λ p taken r l c. long_not_loadable files words p l (loadable _ files words texts p r))
+      (λ p r. none.reads r) (λ r. tt)) fault cause rose
 
 -- Of both commands.
 
@@ -208,14 +209,16 @@ pub too_long_due : (files : Contents) (words : List (List ℕ)) (place : ℕ) (f
 too_long_due files words place fault cause (inl build) = too_long_built files words place fault cause build.0 build.1 build.2
 too_long_due files words place fault cause (inr check) = check_ends (ComesTooLong place) files words check.0 (λ f c. checks.too_long_due files words place f c check.1 check.2) fault cause
 
-module _ (same_wrong : (gds lib text : List ℕ) (due fault : Fault) → check.IsWrong gds lib text due → check.IsWrong gds lib text fault → fault ≡ due)
+module _ (same_built : (net lib : List ℕ) (f g : Fault) → IsWrong net lib f → IsWrong net lib g → f ≡ g)
+    (not_served : (net lib : List ℕ) (f : Fault) → IsServed net lib → IsWrong net lib f → ⊥)
+    (same_wrong : (gds lib text : List ℕ) (due fault : Fault) → check.IsWrong gds lib text due → check.IsWrong gds lib text fault → fault ≡ due)
     (not_wrong : (gds lib text : List ℕ) (fault : Fault) → check.SaysSound gds lib text → check.IsWrong gds lib text fault → ⊥) where
   pub wrong_due : (files : Contents) (words : List (List ℕ)) (due : Fault) (fault : Option Fault) → RunCause (Some files) words fault → FindsWrong files words due → ComesOrYields due fault
-  wrong_due files words due fault cause (inl build) = wrong_built files words due fault cause build.0 build.1
+  wrong_due files words due fault cause (inl build) = wrong_built same_built not_served files words due fault cause build.0 build.1
   wrong_due files words due fault cause (inr check) = check_ends (ComesOrYields due) files words check.0 (λ f c. checks.wrong_due same_wrong not_wrong comes files words due f c check.1) fault cause
 
   pub complete_due : (files : Contents) (words : List (List ℕ)) (before after : Counts) (fault : Option Fault) → RunCause (Some files) words fault → FindsAllWell files words → HasFaults before after fault → NoFaults before after → IsDoneOrMemory fault
-  complete_due files words before after fault cause (inl build) rose none = complete_built files words before after fault cause build.0 build.1 rose none
+  complete_due files words before after fault cause (inl build) rose none = complete_built same_built not_served files words before after fault cause build.0 build.1 rose none
   complete_due files words before after fault cause (inr check) rose none =
       check_ends (λ f. HasFaults before after f → IsDoneOrMemory f) files words check.0 (λ f c r. checks.complete_due same_wrong not_wrong comes files words before after f c check.1 r none) fault cause rose
 

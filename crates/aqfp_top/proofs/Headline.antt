@@ -1,100 +1,77 @@
 -- A build that ends well has made the chip of its netlist.
-use Rattle.std.proofs.Common.{ℕ, suc, ◌≡◌, ◌<◌, Bool, List, [], ◌∷◌, length, map, Option, Some, None, refl, sym, ap, subst, ◌∙◌, arith, All, inl, inr}
-use Rattle.std.proofs.lemmas.Fmt.{decimal_digit}
-use Rattle.std.specs.List.{AllZip}
-use Rattle.aq_base.specs.Store.{Contents, with_file, gained}
-use Rattle.geom.specs.FirstChip.{first_layout, first_flat, first_flat_form}
-use Rattle.gds_records.specs.Stream.{IsStream}
-use Rattle.gds_records.specs.FirstChip.{first_bytes}
-use Rattle.layout_rules.specs.Rules.{KeepsRules}
-use Rattle.layout_rules.specs.FirstLimits.{first_limits}
-use Rattle.shape_extract.specs.Extraction.{IsCircuitOf}
-use Rattle.shape_extract.specs.FirstCircuit.{first_circuit}
-use Rattle.pulse_sim.specs.Shows.{Shows}
+use Rattle.std.proofs.Common.{ℕ, ◌≡◌, ◌-◌, ◌≤◌, List, length, Option, Some, None, refl, sym, ap, subst, ◌∙◌}
+use Rattle.aq_base.specs.Store.{Contents, told_with, with_file, gained}
+use Rattle.circuit.specs.SameAnswers.{SameAnswers}
 use Rattle.blif_read.specs.Parts.{NetView}
 use Rattle.blif_read.specs.Netlist.{IsNetlist}
-use Rattle.blif_read.specs.OneAnswer.{some_answer}
-use Rattle.blif_read.specs.Says as netlist
-use Rattle.blif_read.specs.Equations.{IsAnswer}
-use Rattle.cell_library.specs.LibraryA.{library_a_view}
-use Rattle.aqfp_top.specs.Words.{word_at, IsBuild}
-use Rattle.aqfp_top.specs.Build.{HasTexts, ToldKept}
-use Rattle.aqfp_top.specs.Run.{RunCause, RunStands, RunPrints}
-use Rattle.aqfp_top.proofs.Forms.{build_not_check}
+use Rattle.blif_read.specs.Equations.{IsAnswer as IsNetAnswer}
+use Rattle.rowed.specs.PlacedNets.{PlacedView}
+use Rattle.rowed.specs.RowNets.{IsAnswer}
+use Rattle.cell_library.specs.Library.{LibraryView, limits_of}
+use Rattle.cell_library.specs.Laws.{IsLibrary}
+use Rattle.gds_records.specs.Writing.{bytes_of}
+use Rattle.shape_extract.specs.Circuits.{CircuitView}
+use Rattle.layout_make.specs.Draw.{draw}
+use Rattle.layout_make.specs.MayDraw.{MayDraw}
+use Rattle.layout_make.specs.Size.{cells_in, wires_in, element_number, element_limit}
+use Rattle.chip_plan.specs.Plans.{IsWithin, chip_of}
+use Rattle.chip_texts.specs.Counts.{counts_line, counts_text, delay_of}
+use Rattle.drawn_chip.specs.Realises.{Realises}
+use Rattle.drawn_chip.specs.RealisesNet.{RealisesNet}
+use Rattle.drawn_chip.proofs.RealisesAs.{realises_as}
+use Rattle.aqfp_top.specs.Words.{word_at}
+use Rattle.aqfp_top.specs.Designs.{KeepsLimits, placed_counts, stream_of, counts_of}
+use Rattle.aqfp_top.specs.Build.{IsBuilt, IsDone, ToldTexts}
 use Rattle.aqfp_top.specs.Chips.{BuildsChip}
-use Rattle.chip_texts.specs.Counts.{counts_line, delay_of}
-use Rattle.aqfp_top.specs.Designs.{IsWire, IsServed}
-use Rattle.aqfp_top.specs.Realises.{Realises}
-use Rattle.aqfp_top.specs.declared.constants.TheConstants.{COUNTS}
 
--- the counts of the first chip
-pub first_counts : counts_line first_circuit ≡ COUNTS.now
-unfolding first_circuit counts_line
-first_counts = rw (decimal_digit 2 (omega arith), decimal_digit 1 (omega arith)) refl
+-- a circuit with a net's counts has the net's counts line
+same_line : (circuit : CircuitView) (rows cells wires : ℕ) → circuit.rows ≡ rows → length circuit.cells ≡ cells → circuit.wires ≡ wires → counts_line circuit ≡ counts_text rows cells wires
+unfolding counts_line
+same_line circuit rows cells wires r c w = λ i. counts_text (r i) (c i) (w i)
 
--- a wire's answer to a word of one value is the word
-wire_answer : (net : NetView) (word answer : List Bool) → IsWire net → length word ≡ 1 → IsAnswer net word answer → answer ≡ word
-wire_answer net [] answer wire one is = absurd (omega arith)
-wire_answer net (b ∷ []) answer wire one is = is.shown ∙ (ap (map is.values) wire.one_output ∙ ap (λ v. v ∷ []) (is.fit.bits 0 (subst (λ n. 0 < n) (sym wire.one_input) (omega arith))))
-wire_answer net (b ∷ c ∷ word) answer wire one is = absurd (omega arith)
+stream_is : (net : NetView) (l : LibraryView) → stream_of net l ≡ bytes_of (draw (chip_of l net) l)
+unfolding stream_of
+stream_is net l = refl
 
--- so the words are their own answers
-own_answers : (net : NetView) → IsNetlist net → IsWire net → (words : List (List Bool)) → All (λ word. length word ≡ net.inputs) words → AllZip (IsAnswer net) words words
-own_answers net keeps wire [] wide = tt
-own_answers net keeps wire (word ∷ words) wide =
-    let answer = some_answer net word keeps in
-    let one : length word ≡ 1 = wide 0 [] (omega arith) ∙ wire.one_input in
-    (subst (IsAnswer net word) (wire_answer net word answer.0 wire one answer.1) answer.1, own_answers net keeps wire words (λ k d h. wide (suc k) d (omega arith)))
+counts_are : (net : NetView) (l : LibraryView) → counts_of net l ≡ placed_counts (chip_of l net)
+unfolding counts_of
+counts_are net l = refl
 
--- the stream is that of the first chip, which shows every word
-pub first_realises : IsStream first_bytes first_layout → KeepsRules first_flat first_limits → IsCircuitOf first_flat first_circuit →
-    ((words : List (List Bool)) → All (λ word. length word ≡ 1) words → Shows first_circuit 1 words words) →
-    (net : NetView) → IsNetlist net → IsWire net → Realises first_bytes first_limits net.inputs (length net.outputs) (IsAnswer net) first_circuit (delay_of first_circuit)
-unfolding first_circuit
-first_realises stream rules extracted shows net keeps wire = record {
-  layout = first_layout;
-  stream = stream;
-  rules = subst (λ flat. KeepsRules flat first_limits) (sym first_flat_form) rules;
-  extracted = subst (λ flat. IsCircuitOf flat first_circuit) (sym first_flat_form) extracted;
-  input_count = sym wire.one_input;
-  output_count = sym (ap length wire.one_output);
-  answers_all = λ words wide. record {
-    replies = words;
-    are_answers = own_answers net keeps wire words wide;
-    shows = shows words (λ k d h. wide k d h ∙ wire.one_input);
-  };
-}
+-- what holds of the two texts of a told store
+held_texts : (told : Option Contents) (held : Contents) (words : List (List ℕ)) (net lib : List ℕ) → told ≡ Some held → ToldTexts told words net lib → ToldTexts (Some held) words net lib
+held_texts told held words net lib is texts = subst (λ t. ToldTexts t words net lib) is texts
 
--- a build that ends well found a wire and library A
-built_texts : (files : Contents) (words : List (List ℕ)) → IsBuild words → RunCause (Some files) words None → HasTexts files words IsServed
-built_texts files words form (inl build) = build.1
-built_texts files words form (inr check) = absurd (build_not_check words form check.0)
-
--- what a build that ends well has made
-pub chip_built : (told after : Option Contents) (held : Contents) (words : List (List ℕ)) (printed printed' : Option (List ℕ)) →
-    ((net : NetView) → IsNetlist net → IsWire net → Realises first_bytes first_limits net.inputs (length net.outputs) (IsAnswer net) first_circuit (delay_of first_circuit)) →
-    told ≡ Some held → IsBuild words → RunCause told words None → ToldKept told words → RunStands told after words None → RunPrints told words printed printed' None →
-    BuildsChip held after words printed printed'
-chip_built None after held words printed printed' realises is form cause kept stands prints = absurd cc
-chip_built (Some files) after held words printed printed' realises is form cause kept stands prints =
-    let texts : HasTexts files words IsServed = built_texts files words form cause in
-    let same : files ≡ held = cc in
-    let net : kept.net ≡ texts.net = let a = kept.net_held in let b = texts.net_held in cc in
-    let wire = texts.holds.netlist_text in
-    let says : netlist.Says texts.net kept.holds.net = subst (λ t. netlist.Says t kept.holds.net) net kept.holds.says in
-    let one : kept.holds.net ≡ wire.net = says.parts ∙ sym wire.says.parts in
-    record {
-      net = texts.net;
-      lib = texts.lib;
-      net_held = subst (λ f. f (word_at words 1) ≡ Some texts.net) same texts.net_held;
-      lib_held = subst (λ f. f (word_at words 2) ≡ Some texts.lib) same texts.lib_held;
-      equations = wire.net;
-      cells = library_a_view;
-      net_says = wire.says;
-      lib_says = texts.holds.library_text;
-      bytes = first_bytes;
-      stored = subst (λ f. after ≡ Some (with_file f (word_at words 3) first_bytes)) same (stands.build form);
-      circuit = first_circuit;
-      realises = realises wire.net (subst IsNetlist one kept.holds.keeps) wire.wire;
-      printed = prints.build form ∙ ap (gained printed) (sym first_counts);
-    }
+module _ (draws : (l : LibraryView) (net : NetView) → IsLibrary l → IsNetlist net → IsWithin l net → MayDraw (chip_of l net) l)
+    (answers : (l : LibraryView) (net : NetView) → IsLibrary l → IsNetlist net → IsWithin l net
+    → SameAnswers net.inputs (chip_of l net).net.inputs (length net.outputs) (chip_of l net).net.outputs (IsNetAnswer net) (IsAnswer (chip_of l net).net))
+    (realised : (p : PlacedView) (l : LibraryView) → MayDraw p l → element_number p ≤ element_limit → RealisesNet p l) where
+  -- what a build that ends well has made
+  pub chip_built : (told after : Option Contents) (held : Contents) (words : List (List ℕ)) (printed printed' : Option (List ℕ))
+      → told ≡ Some held → IsBuilt told words (IsDone told after words printed printed') → BuildsChip held after words printed printed'
+  chip_built told after held words printed printed' is built =
+      let net = built.equations in
+      let l = built.cells in
+      let done = built.holds in
+      let texts = held_texts told held words built.net built.lib is built.held in
+      let chip = realised (chip_of l net) l (draws l net done.lawful done.keeps built.limits.within) built.limits.small in
+      record {
+        net = built.net;
+        lib = built.lib;
+        net_held = texts.0;
+        lib_held = texts.1;
+        equations = net;
+        cells = l;
+        net_says = built.says.net_says;
+        net_keeps = done.keeps;
+        lib_says = built.says.lib_says;
+        bytes = bytes_of (draw (chip_of l net) l);
+        bytes_are = sym (stream_is net l);
+        short = chip.short;
+        small = chip.small;
+        stored = done.stored ∙ (ap (λ t. told_with t (word_at words 3) (stream_of net l)) is ∙ ap (λ b. Some (with_file held (word_at words 3) b)) (stream_is net l));
+        circuit = chip.circuit;
+        circuit_keeps = chip.keeps;
+        realises = realises_as net.inputs (chip_of l net).net.inputs (length net.outputs) (chip_of l net).net.outputs (IsNetAnswer net) (IsAnswer (chip_of l net).net)
+            (answers l net done.lawful done.keeps built.limits.within) (bytes_of (draw (chip_of l net) l)) (limits_of l) chip.circuit (delay_of chip.circuit) chip.realises;
+        printed = done.printed ∙ ap (gained printed) (counts_are net l ∙ sym (same_line chip.circuit _ _ _ chip.rows chip.cells chip.wires));
+      }

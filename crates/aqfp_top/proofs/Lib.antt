@@ -12,7 +12,6 @@ pub mod Exact
 pub mod Sizes
 pub mod Headline
 pub mod Showing
-pub mod FirstMade
 pub mod Judging
 pub mod CheckSteps
 pub mod CheckEnds

@@ -17,19 +17,18 @@ use Rattle.circuit.specs.declared.cell_kind.CellKind.{CellKind}
 use Rattle.layout_rules.specs.declared.rule.Rule.{Rule}
 use Rattle.layout_rules.specs.declared.rule.Rule.TheVariants.{E1, E2, E6}
 use Rattle.layout_rules.specs.Limits.{Limits}
-use Rattle.layout_rules.specs.FirstLimits.{first_limits}
-use Rattle.layout_rules.specs.Rules.{Keeps, FirstBroken}
+use Rattle.cell_library.specs.Library.{LibraryView, limits_of}
+use Rattle.layout_rules.specs.Rules.{Keeps, KeepsRules, FirstBroken}
 use Rattle.layout_rules.specs.RuleLaws.{IsOneReport}
 use Rattle.shape_extract.specs.Circuits.{CircuitView}
 use Rattle.shape_extract.specs.Extraction.{IsCircuitOf}
-use Rattle.shape_extract.specs.Extracts.{Extracts, BreaksCircuit}
 use Rattle.chip_texts.specs.WordsText.{is_word, SaysWords, IsBadLine}
 use Rattle.aqfp_top.specs.Designs.{SaysLibrary, IsCellFault}
 use Rattle.aqfp_top.specs.Checks.{IsWrong, SaysLayout, IsUnruly, MakesCircuit, IsMisworded, SaysSound}
 use Rattle.aqfp_top.specs.declared.fault.Large.TheVariants.{Shapes}
 use Rattle.aqfp_top.specs.declared.fault.Fault.{Fault}
 use Rattle.aqfp_top.specs.declared.fault.Fault.TheVariants.{BadLibrary, MissingCell, TooLarge, BadStream, RuleBroken, BadWords}
-use Rattle.aqfp_top.proofs.OneFault.{same_library, library_either}
+use Rattle.aqfp_top.proofs.OneFault.{same_library, same_said, library_either}
 
 -- what holds for each reason holds of whatever is wrong
 each_reason : (P : Fault → Type 0) (gds lib text : List ℕ) →
@@ -96,22 +95,26 @@ module _ (one_layout : (bytes : List ℕ) (layout other : Layout) → IsStream b
 
   not_unruly : (gds lib : List ℕ) (rule : Rule) (a b : ℕ) (circuit : CircuitView) → IsUnruly gds lib rule a b → MakesCircuit gds lib circuit → ⊥
   not_unruly gds lib rule a b circuit unruly makes =
-      let same : unruly.layout ≡ makes.layout = one_layout gds unruly.layout makes.layout unruly.read.stream makes.read.stream in
-      let broken : BreaksCircuit (flat_of makes.layout) rule a b = subst (λ l. BreaksCircuit (flat_of l) rule a b) same unruly.broken in
-      makes.extracts.kept first_limits rule broken.of_circuit a b (broken.first first_limits).report.reported
+      let layout : unruly.layout ≡ makes.layout = one_layout gds unruly.layout makes.layout unruly.read.stream makes.read.stream in
+      let cells : unruly.library.view ≡ makes.library.view = same_said lib unruly.library.view makes.library.view unruly.library.says makes.library.says in
+      let broken : FirstBroken (flat_of makes.layout) (limits_of makes.library.view) rule a b =
+      subst (λ c. FirstBroken (flat_of makes.layout) (limits_of c) rule a b) cells (subst (λ l. FirstBroken (flat_of l) (limits_of unruly.library.view) rule a b) layout unruly.broken) in
+      makes.rules rule a b broken.report.reported
 
   same_rule : (gds lib : List ℕ) (r s : Rule) (a b c d : ℕ) → IsUnruly gds lib r a b → IsUnruly gds lib s c d → ◌≡◌ {A = Fault} (RuleBroken r a b) (RuleBroken s c d)
   same_rule gds lib r s a b c d p q =
-      let same : p.layout ≡ q.layout = one_layout gds p.layout q.layout p.read.stream q.read.stream in
-      let broken : BreaksCircuit (flat_of q.layout) r a b = subst (λ l. BreaksCircuit (flat_of l) r a b) same p.broken in
-      let one = broken_once (flat_of q.layout) first_limits r s a b c d (broken.first first_limits) (q.broken.first first_limits) in
+      let layout : p.layout ≡ q.layout = one_layout gds p.layout q.layout p.read.stream q.read.stream in
+      let cells : p.library.view ≡ q.library.view = same_said lib p.library.view q.library.view p.library.says q.library.says in
+      let broken : FirstBroken (flat_of q.layout) (limits_of q.library.view) r a b =
+      subst (λ v. FirstBroken (flat_of q.layout) (limits_of v) r a b) cells (subst (λ l. FirstBroken (flat_of l) (limits_of p.library.view) r a b) layout p.broken) in
+      let one = broken_once (flat_of q.layout) (limits_of q.library.view) r s a b c d broken q.broken in
       λ i. RuleBroken (one.one_rule i) (one.one_first i) (one.one_second i)
 
   same_circuit : (gds lib : List ℕ) (first second : CircuitView) → MakesCircuit gds lib first → MakesCircuit gds lib second → first ≡ second
   same_circuit gds lib first second p q =
       let same : p.layout ≡ q.layout = one_layout gds p.layout q.layout p.read.stream q.read.stream in
-      let extracts : Extracts (flat_of q.layout) first = subst (λ l. Extracts (flat_of l) first) same p.extracts in
-      one_circuit (flat_of q.layout) first_limits first second (q.extracts.kept first_limits E1 (omega arith)) (q.extracts.kept first_limits E2 (omega arith)) (q.extracts.kept first_limits E6 (omega arith)) extracts.circuit_is q.extracts.circuit_is
+      let circuit_is : IsCircuitOf (flat_of q.layout) first = subst (λ l. IsCircuitOf (flat_of l) first) same p.circuit_is in
+      one_circuit (flat_of q.layout) (limits_of q.library.view) first second (q.rules E1) (q.rules E2) (q.rules E6) circuit_is q.circuit_is
 
   pub sound_not_wrong : (gds lib text : List ℕ) (fault : Fault) → SaysSound gds lib text → IsWrong gds lib text fault → ⊥
   sound_not_wrong gds lib text fault well wrong =

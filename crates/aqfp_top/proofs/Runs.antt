@@ -1,15 +1,22 @@
 -- From the clauses of each command to those of a run.
-use Rattle.std.proofs.Common.{ℕ, zero, suc, ◌≡◌, ◌⊎◌, List, Option, Some, Result, Ok, Err, IfErr, inl, inr, refl, subst}
+use Rattle.std.proofs.Common.{ℕ, zero, suc, ◌≡◌, ◌<◌, ◌≤◌, ◌⊎◌, List, length, arith, Option, Some, Result, Ok, Err, IfErr, inl, inr, refl, subst}
 use Rattle.std.specs.Result.{result_err}
 use Rattle.aq_base.specs.Store.{Contents}
-use Rattle.aqfp_top.specs.Words.{word_at, IsBuild, IsVerify, IsTrace, IsCheck, IsLater, HasForm}
-use Rattle.aqfp_top.specs.Run.{RunCause, RunStands, RunPrints}
+use Rattle.aqfp_top.specs.Words.{IsBuild, IsVerify, IsTrace, IsCheck, IsLater, HasForm}
+use Rattle.aqfp_top.specs.Run.{RunCause, RunsOnly, RunStands, RunPrints}
+use Rattle.aqfp_top.specs.Lines.{HasPlace}
 use Rattle.aqfp_top.specs.Build.{ToldBuildCause, IsBuildFault, BuildStands, BuildPrints}
 use Rattle.aqfp_top.specs.Checks.{ToldCheckCause, IsCheckFault, CheckPrints}
 use Rattle.aqfp_top.specs.declared.check.Printing.TheVariants.{Answers, Fluxes}
 use Rattle.aqfp_top.specs.declared.fault.Fault.{Fault}
 use Rattle.aqfp_top.specs.declared.fault.Fault.TheVariants.{Usage, Absent, TooLong, ReadFault, WriteFault, BadBlif, BadLibrary, MissingCell, TooLarge, BadStream, RuleBroken, BadWords, Unbuilt, Memory}
 use Rattle.aqfp_top.proofs.Forms.{build_not_later, check_not_later, build_not_check, build_not_verify, build_not_trace, verify_not_trace}
+
+below_four : (words : List (List ℕ)) (place : ℕ) → length words ≡ 4 → place ≤ 2 → place < length words
+below_four words place four most = omega arith
+
+below_five : (words : List (List ℕ)) (place : ℕ) → length words ≡ 4 → place ≤ 3 → place < length words
+below_five words place four most = omega arith
 
 -- the cause of a command's fault is one of the run's
 work_cause : (told : Option Contents) (words : List (List ℕ)) (fault : Fault) → (fault ≡ Usage → ⊥) → (fault ≡ Unbuilt 0 → ⊥) →
@@ -55,7 +62,7 @@ trace_cause told words result form only cause = check_cause told words result (i
 
 -- what stands
 
-pub build_leaves : (before after : Option Contents) (words : List (List ℕ)) (fault : Option Fault) → IsBuild words → BuildStands before after (word_at words 3) fault → RunStands before after words fault
+pub build_leaves : (before after : Option Contents) (words : List (List ℕ)) (fault : Option Fault) → IsBuild words → BuildStands before after words fault → RunStands before after words fault
 build_leaves before after words fault form stands = record { build = λ b. stands; otherwise = λ none. absurd (none form) }
 
 pub verify_leaves : (before after : Option Contents) (words : List (List ℕ)) (fault : Option Fault) → IsVerify words → after ≡ before → RunStands before after words fault
@@ -76,7 +83,7 @@ other_form : {P : Type 0} (words : List (List ℕ)) → HasForm words → ¬ IsL
 other_form words form later (inl none) = absurd (none form)
 other_form words form later (inr is) = absurd (later is)
 
-pub build_prints : (told : Option Contents) (words : List (List ℕ)) (before after : Option (List ℕ)) (fault : Option Fault) → IsBuild words → BuildPrints before after fault → RunPrints told words before after fault
+pub build_prints : (told : Option Contents) (words : List (List ℕ)) (before after : Option (List ℕ)) (fault : Option Fault) → IsBuild words → BuildPrints told words before after fault → RunPrints told words before after fault
 build_prints told words before after fault form prints = record {
   build = λ b. prints;
   verify = λ v. absurd (build_not_verify words form v);
@@ -116,4 +123,70 @@ usage_prints told words held fault form = record {
   otherwise = λ o. refl;
 }
 
-pub ruleset runs = (build_cause, verify_cause, trace_cause, build_leaves, verify_leaves, trace_leaves, later_leaves, usage_leaves, build_prints, verify_prints, trace_prints, later_prints, usage_prints)
+-- the faults of each form
+
+pub build_only : (words : List (List ℕ)) (result : Result (Unit {0}) Fault) → IsBuild words → IfErr result IsBuildFault → IfErr result (RunsOnly words)
+build_only words (Ok x) form only = tt
+build_only words (Err fault) form only = record {
+  build = λ b. only;
+  check = λ c. absurd (build_not_check words form c);
+  later = λ l. absurd (build_not_later words form l);
+  otherwise = λ none. absurd (none (inl form));
+}
+
+check_only : (words : List (List ℕ)) (result : Result (Unit {0}) Fault) → IsCheck words → IfErr result IsCheckFault → IfErr result (RunsOnly words)
+check_only words (Ok x) form only = tt
+check_only words (Err fault) form only = record {
+  build = λ b. absurd (build_not_check words b form);
+  check = λ c. only;
+  later = λ l. absurd (check_not_later words form l);
+  otherwise = λ none. absurd (none (inr (inl form)));
+}
+
+pub verify_only : (words : List (List ℕ)) (result : Result (Unit {0}) Fault) → IsVerify words → IfErr result IsCheckFault → IfErr result (RunsOnly words)
+verify_only words result form only = check_only words result (inl form) only
+
+pub trace_only : (words : List (List ℕ)) (result : Result (Unit {0}) Fault) → IsTrace words → IfErr result IsCheckFault → IfErr result (RunsOnly words)
+trace_only words result form only = check_only words result (inr form) only
+
+pub later_only : (words : List (List ℕ)) → IsLater words → RunsOnly words (Unbuilt 0)
+later_only words form = record {
+  build = λ b. absurd (build_not_later words b form);
+  check = λ c. absurd (check_not_later words c form);
+  later = λ l. refl;
+  otherwise = λ none. absurd (none (inr (inr form)));
+}
+
+pub usage_only : (words : List (List ℕ)) → ¬ HasForm words → RunsOnly words Usage
+usage_only words none = record {
+  build = λ b. absurd (none (inl b));
+  check = λ c. absurd (none (inr (inl c)));
+  later = λ l. absurd (none (inr (inr l)));
+  otherwise = λ n. refl;
+}
+
+-- the places that faults name
+
+pub build_places : (words : List (List ℕ)) (result : Result (Unit {0}) Fault) → IsBuild words → IfErr result IsBuildFault → IfErr result (HasPlace words)
+build_places words (Ok x) form only = tt
+build_places words (Err (Absent place)) form only = below_four words place form.0 only.1
+build_places words (Err (TooLong place taken)) form only = below_four words place form.0 only.0.1
+build_places words (Err (ReadFault place)) form only = below_four words place form.0 only.1
+build_places words (Err (Unbuilt place)) form only = absurd only
+build_places words (Err _) form only = tt
+
+check_places : (words : List (List ℕ)) (result : Result (Unit {0}) Fault) → length words ≡ 4 → IfErr result IsCheckFault → IfErr result (HasPlace words)
+check_places words (Ok x) four only = tt
+check_places words (Err (Absent place)) four only = below_five words place four only.1
+check_places words (Err (TooLong place taken)) four only = below_five words place four only.0.1
+check_places words (Err (ReadFault place)) four only = below_five words place four only.1
+check_places words (Err (Unbuilt place)) four only = absurd only
+check_places words (Err _) four only = tt
+
+pub verify_places : (words : List (List ℕ)) (result : Result (Unit {0}) Fault) → IsVerify words → IfErr result IsCheckFault → IfErr result (HasPlace words)
+verify_places words result form only = check_places words result form.0 only
+
+pub trace_places : (words : List (List ℕ)) (result : Result (Unit {0}) Fault) → IsTrace words → IfErr result IsCheckFault → IfErr result (HasPlace words)
+trace_places words result form only = check_places words result form.0 only
+
+pub ruleset runs = (build_only, verify_only, trace_only, later_only, usage_only, build_places, verify_places, trace_places, build_cause, verify_cause, trace_cause, build_leaves, verify_leaves, trace_leaves, later_leaves, usage_leaves, build_prints, verify_prints, trace_prints, later_prints, usage_prints)

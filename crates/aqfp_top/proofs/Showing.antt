@@ -27,8 +27,8 @@ checks_chip held words gds lib text circuit told sound =
       stream = makes.read.stream;
       cells = makes.library.view;
       lib_says = makes.library.says;
-      rules = makes.extracts.kept;
-      extracted = makes.extracts.circuit_is;
+      rules = makes.rules;
+      extracted = makes.circuit_is;
       text_says = sound.says;
       given_is = refl;
     }

@@ -1,4 +1,5 @@
--- What verify and trace may answer, in the order of their work: the files, the stream, its size, the library, the rules, the words.
+-- What verify and trace may answer, in the order of their work: the files, the stream, its size, the library, the
+-- rules, the words.
 use Rattle.std.specs.Prelude.{ℕ, zero, suc, ◌≡◌, ◌⊎◌, ◌<◌, ◌≤◌, Bool, All, List, length, Option, Some, None, IsSomeAnd}
 use Rattle.aq_base.specs.Store.{Contents, gained, GainsPrefix}
 use Rattle.geom.specs.declared.layout.Layout.{Layout}
@@ -6,14 +7,17 @@ use Rattle.geom.specs.FlatForm.{flat_of}
 use Rattle.gds_records.specs.Faults.{StreamFault}
 use Rattle.gds_read.specs.Reading.{IsReadAs, IsTooLarge}
 use Rattle.layout_rules.specs.declared.rule.Rule.{Rule}
+use Rattle.layout_rules.specs.Rules.{KeepsRules, FirstBroken}
+use Rattle.cell_library.specs.Library.{limits_of}
 use Rattle.cell_library.specs.declared.fault.LibraryFault.TheVariants.{Missing}
 use Rattle.shape_extract.specs.Circuits.{CircuitView, KeepsFacts}
-use Rattle.shape_extract.specs.Extracts.{Extracts, BreaksCircuit}
+use Rattle.shape_extract.specs.Extraction.{IsCircuitOf}
 use Rattle.chip_texts.specs.WordsText.{words_of, SaysWords, IsBadLine}
 use Rattle.chip_texts.specs.WordLines.{answers_to, answers_text}
 use Rattle.chip_texts.specs.FluxLines.{trace_text}
 use Rattle.aqfp_top.specs.Words.{word_at}
 use Rattle.aqfp_top.specs.Designs.{SaysLibrary, IsCellFault}
+use Rattle.aqfp_top.specs.Build.{IsLoadPlace}
 use Rattle.aqfp_top.specs.declared.check.Printing.{Printing}
 use Rattle.aqfp_top.specs.declared.check.Printing.TheVariants.{Answers, Fluxes}
 use Rattle.aqfp_top.specs.declared.fault.Large.TheVariants.{Shapes}
@@ -43,7 +47,8 @@ IsReached files words (suc (suc (suc zero))) = IsLoadable files words 1 × IsLoa
 IsReached files words _ = ⊥
 
 -- the three files are there within their limits, and this holds of their bytes
-pub record HasTexts (files : Contents) (words : List (List ℕ)) (Holds : List ℕ → List ℕ → List ℕ → Type 0) : Type 0 where
+pub record HasTexts (files : Contents) (words : List (List ℕ))
+    (Holds : List ℕ → List ℕ → List ℕ → Type 0) : Type 0 where
   pub gds : List ℕ
   pub lib : List ℕ
   pub text : List ℕ
@@ -60,19 +65,20 @@ pub record SaysLayout (gds : List ℕ) : Type 0 where
   pub layout : Layout
   pub read : IsReadAs gds layout
 
--- the layout's shapes break a rule of circuits: this one first
+-- the layout's shapes break a rule with the numbers of the library: this one first
 pub record IsUnruly (gds lib : List ℕ) (rule : Rule) (first second : ℕ) : Type 0 where
   pub layout : Layout
   pub read : IsReadAs gds layout
   pub library : SaysLibrary lib
-  pub broken : BreaksCircuit (flat_of layout) rule first second
+  pub broken : FirstBroken (flat_of layout) (limits_of library.view) rule first second
 
--- the layout's shapes make this circuit, under a library that is one
+-- the layout's shapes keep all rules with the numbers of the library, and make this circuit
 pub record MakesCircuit (gds lib : List ℕ) (circuit : CircuitView) : Type 0 where
   pub layout : Layout
   pub read : IsReadAs gds layout
   pub library : SaysLibrary lib
-  pub extracts : Extracts (flat_of layout) circuit
+  pub rules : KeepsRules (flat_of layout) (limits_of library.view)
+  pub circuit_is : IsCircuitOf (flat_of layout) circuit
 
 -- the first line of the words that is no word for the circuit
 pub record IsMisworded (gds lib text : List ℕ) (line : ℕ) : Type 0 where
@@ -100,15 +106,12 @@ IsWrong gds lib text (RuleBroken rule first second) = IsUnruly gds lib rule firs
 IsWrong gds lib text (BadWords line) = IsMisworded gds lib text line
 IsWrong gds lib text _ = ⊥
 
-abbrev pub IsWrongOrMemory : List ℕ → List ℕ → List ℕ → Fault → Type 0
-IsWrongOrMemory gds lib text Memory = Unit {0}
-IsWrongOrMemory gds lib text fault = IsWrong gds lib text fault
-
 -- why a check of a told store ended as it did
 abbrev pub CheckCause : Contents → List (List ℕ) → Option Fault → Type 0
 CheckCause files words None = HasTexts files words SaysSound
 CheckCause files words (Some (Absent place)) = IsReached files words place × (files (word_at words place) ≡ None)
-CheckCause files words (Some (TooLong place taken)) = IsReached files words place × IsTooLong files words place × (limit_of place < taken)
+CheckCause files words (Some (TooLong place taken)) =
+    IsReached files words place × IsTooLong files words place × (limit_of place < taken)
 CheckCause files words (Some (ReadFault place)) = IsReached files words place
 CheckCause files words (Some (WriteFault call)) = (call ≡ Out) × HasTexts files words SaysSound
 CheckCause files words (Some Memory) = Unit {0}
@@ -120,7 +123,8 @@ ToldCheckCause None words fault = Unit {0}
 
 -- these are the bytes of the three files, where the store is told
 abbrev pub ToldTexts : Option Contents → List (List ℕ) → List ℕ → List ℕ → List ℕ → Type 0
-ToldTexts (Some files) words gds lib text = (files (word_at words 1) ≡ Some gds) × (files (word_at words 2) ≡ Some lib) × (files (word_at words 3) ≡ Some text)
+ToldTexts (Some files) words gds lib text =
+    (files (word_at words 1) ≡ Some gds) × (files (word_at words 2) ≡ Some lib) × (files (word_at words 3) ≡ Some text)
 ToldTexts None words gds lib text = Unit {0}
 
 -- what is printed of a circuit and words: its answers, or its fluxes
@@ -129,7 +133,8 @@ text_of Answers circuit words = answers_text circuit (answers_to circuit words)
 text_of Fluxes circuit words = trace_text circuit words
 
 -- the text of a sound chip and its words was printed so far
-pub record IsPrintedOf (printing : Printing) (told : Option Contents) (words : List (List ℕ)) (Printed : List ℕ → Type 0) : Type 0 where
+pub record IsPrintedOf (printing : Printing) (told : Option Contents) (words : List (List ℕ))
+    (Printed : List ℕ → Type 0) : Type 0 where
   pub gds : List ℕ
   pub lib : List ℕ
   pub text : List ℕ
@@ -141,21 +146,24 @@ pub record IsPrintedOf (printing : Printing) (told : Option Contents) (words : L
   pub printed : Printed (text_of printing circuit (words_of text))
 
 -- what `out` gains: the whole text, or some first bytes of it where the fault is its own or want of memory
-abbrev pub CheckPrints : Printing → Option Contents → List (List ℕ) → Option (List ℕ) → Option (List ℕ) → Option Fault → Type 0
+abbrev pub CheckPrints : Printing → Option Contents → List (List ℕ) → Option (List ℕ) → Option (List ℕ)
+    → Option Fault → Type 0
 CheckPrints printing told words before after None = IsPrintedOf printing told words (λ text. after ≡ gained before text)
-CheckPrints printing told words before after (Some (WriteFault call)) = IsPrintedOf printing told words (GainsPrefix before after)
-CheckPrints printing told words before after (Some Memory) = (after ≡ before) ⊎ IsPrintedOf printing told words (GainsPrefix before after)
+CheckPrints printing told words before after (Some (WriteFault call)) =
+    IsPrintedOf printing told words (GainsPrefix before after)
+CheckPrints printing told words before after (Some Memory) =
+    (after ≡ before) ⊎ IsPrintedOf printing told words (GainsPrefix before after)
 CheckPrints printing told words before after (Some fault) = after ≡ before
 
 -- the faults of a check: none of words, of a netlist, of what is not built yet, nor of writing but to `out`
 abbrev pub IsCheckFault : Fault → Type 0
-IsCheckFault (Absent place) = Unit {0}
-IsCheckFault (TooLong place taken) = Unit {0}
-IsCheckFault (ReadFault place) = Unit {0}
+IsCheckFault (Absent place) = IsLoadPlace 3 place
+IsCheckFault (TooLong place taken) = IsLoadPlace 3 place × (limit_of place < taken)
+IsCheckFault (ReadFault place) = IsLoadPlace 3 place
 IsCheckFault (WriteFault call) = call ≡ Out
 IsCheckFault (BadLibrary fault) = Unit {0}
 IsCheckFault (MissingCell kind) = Unit {0}
-IsCheckFault (TooLarge what count) = Unit {0}
+IsCheckFault (TooLarge Shapes count) = Unit {0}
 IsCheckFault (BadStream offset kind) = Unit {0}
 IsCheckFault (RuleBroken rule first second) = Unit {0}
 IsCheckFault (BadWords line) = Unit {0}

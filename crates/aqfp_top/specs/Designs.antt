@@ -1,20 +1,24 @@
--- What a build makes of the texts of a netlist and of a library: the first thing that is wrong with them, or that they are built.
-use Rattle.std.specs.Prelude.{ℕ, zero, suc, ◌≡◌, List, [], ◌∷◌}
+-- What a build makes of the texts of a netlist and of a library: their chip, or the first thing that is wrong with
+-- them.
+use Rattle.std.specs.Prelude.{ℕ, ◌≡◌, ◌<◌, ◌≤◌, List, length}
 use Rattle.blif_read.specs.Parts.{NetView}
-use Rattle.blif_read.specs.Netlist.{IsNetlist}
 use Rattle.blif_read.specs.Says as netlist
+use Rattle.rowed.specs.PlacedNets.{PlacedView}
 use Rattle.cell_library.specs.Says as library
 use Rattle.cell_library.specs.Library.{LibraryView}
-use Rattle.cell_library.specs.LibraryA.{library_a_view}
 use Rattle.cell_library.specs.declared.fault.LibraryFault.{LibraryFault}
 use Rattle.cell_library.specs.declared.fault.LibraryFault.TheVariants.{Text, Missing}
+use Rattle.gds_records.specs.Writing.{bytes_of}
+use Rattle.chip_texts.specs.Counts.{counts_text}
+use Rattle.layout_make.specs.Draw.{draw}
+use Rattle.layout_make.specs.Size.{cells_in, wires_in, element_number, element_limit}
+use Rattle.chip_plan.specs.Plans.{IsWithin, chip_of}
+use Rattle.chip_plan.specs.Refusals.{Refuses}
+use Rattle.chip_plan.specs.declared.refusal.PlanRefusal.TheVariants as plan
+use Rattle.aqfp_top.specs.declared.fault.Large.{Large}
+use Rattle.aqfp_top.specs.declared.fault.Large.TheVariants.{Slots, Rows, Cells, Elements, Shapes}
 use Rattle.aqfp_top.specs.declared.fault.Fault.{Fault}
-use Rattle.aqfp_top.specs.declared.fault.Fault.TheVariants.{BadBlif, BadLibrary, MissingCell, Unbuilt, Memory}
-
--- one input, which is the only output
-pub record IsWire (net : NetView) : Type 0 where
-  pub one_input : net.inputs ≡ 1
-  pub one_output : net.outputs ≡ 0 ∷ []
+use Rattle.aqfp_top.specs.declared.fault.Fault.TheVariants.{BadBlif, BadLibrary, MissingCell, TooLarge}
 
 -- the text says some netlist
 pub record SaysNetlist (text : List ℕ) : Type 0 where
@@ -26,64 +30,64 @@ pub record SaysLibrary (text : List ℕ) : Type 0 where
   pub view : LibraryView
   pub says : library.Says text view
 
--- the netlist is not one of those that are built yet
-pub record SaysOtherNetlist (text : List ℕ) : Type 0 where
-  pub net : NetView
-  pub says : netlist.Says text net
-  pub other : ¬ IsWire net
+-- the texts say this netlist and this library
+pub record SaysDesign (net lib : List ℕ) (equations : NetView) (cells : LibraryView) : Type 0 where
+  pub net_says : netlist.Says net equations
+  pub lib_says : library.Says lib cells
 
-pub record SaysWire (text : List ℕ) : Type 0 where
-  pub net : NetView
-  pub says : netlist.Says text net
-  pub wire : IsWire net
+-- the texts say a netlist and a library of which this holds
+pub record HasDesign (net lib : List ℕ) (Holds : NetView → LibraryView → Type 0) : Type 0 where
+  pub equations : NetView
+  pub cells : LibraryView
+  pub says : SaysDesign net lib equations cells
+  pub holds : Holds equations cells
 
--- the library is not the one that is built with yet
-pub record SaysOtherLibrary (text : List ℕ) : Type 0 where
-  pub view : LibraryView
-  pub says : library.Says text view
-  pub other : ¬ (view ≡ library_a_view)
+-- the chip of the netlist keeps all limits
+pub record KeepsLimits (equations : NetView) (cells : LibraryView) : Type 0 where
+  pub within : IsWithin cells equations
+  pub small : element_number (chip_of cells equations) ≤ element_limit
 
--- the texts say a wire and library A
-pub record IsServed (net lib : List ℕ) : Type 0 where
-  pub netlist_text : SaysWire net
-  pub library_text : library.Says lib library_a_view
+-- the stream of the chip of the netlist: its plan, drawn and spelled
+unfoldable pub stream_of : NetView → LibraryView → List ℕ
+stream_of equations cells = bytes_of (draw (chip_of cells equations) cells)
+
+-- the counts line of a chip
+abbrev pub placed_counts : PlacedView → List ℕ
+placed_counts chip = counts_text (length chip.net.rows) (cells_in chip.net.rows) (wires_in chip.net.rows)
+
+-- the counts line of the chip of the netlist
+unfoldable pub counts_of : NetView → LibraryView → List ℕ
+counts_of equations cells = placed_counts (chip_of cells equations)
+
+-- the texts say a netlist and a library, and the chip of the one with the other keeps all limits
+abbrev pub IsServed : List ℕ → List ℕ → Type 0
+IsServed net lib = HasDesign net lib KeepsLimits
+
+-- the plan is within its limits, and its drawing would have too many elements: so many
+pub record HasManyElements (equations : NetView) (cells : LibraryView) (count : ℕ) : Type 0 where
+  pub within : IsWithin cells equations
+  pub count_is : count ≡ element_number (chip_of cells equations)
+  pub above : element_limit < count
+
+-- of what the chip of the netlist has too much, and how much: the first limit that it passes, in the order of the work
+abbrev pub HasTooMuch : NetView → LibraryView → Large → ℕ → Type 0
+HasTooMuch equations cells Slots count = Refuses cells equations (plan.Slots count)
+HasTooMuch equations cells Rows count = Refuses cells equations (plan.Rows count)
+HasTooMuch equations cells Cells count = Refuses cells equations (plan.Cells count)
+HasTooMuch equations cells Elements count = HasManyElements equations cells count
+HasTooMuch equations cells Shapes count = ⊥
 
 -- the first fault of a library's text: it is no TOML document, or its table or its laws have this fault
 abbrev pub IsCellFault : List ℕ → LibraryFault → Type 0
 IsCellFault text Text = library.IsRefused text
 IsCellFault text fault = library.HasFault text fault
 
--- The fault is the first thing that is wrong with the texts of a netlist and of a library:
--- the netlist's own fault, then the library's, then that they are not built yet.
+-- The fault is the first thing that is wrong with the texts of a netlist and of a library: the netlist's own fault,
+-- then the library's, then the first limit that their chip passes.
 abbrev pub IsWrong : List ℕ → List ℕ → Fault → Type 0
 IsWrong net lib (BadBlif fault) = netlist.Fault net fault
 IsWrong net lib (BadLibrary (Missing kind)) = ⊥
 IsWrong net lib (BadLibrary fault) = SaysNetlist net × IsCellFault lib fault
 IsWrong net lib (MissingCell kind) = SaysNetlist net × IsCellFault lib (Missing kind)
-IsWrong net lib (Unbuilt (suc zero)) = SaysOtherNetlist net × SaysLibrary lib
-IsWrong net lib (Unbuilt (suc (suc zero))) = SaysWire net × SaysOtherLibrary lib
+IsWrong net lib (TooLarge what count) = HasDesign net lib (λ equations cells. HasTooMuch equations cells what count)
 IsWrong net lib _ = ⊥
-
-abbrev pub IsWrongOrMemory : List ℕ → List ℕ → Fault → Type 0
-IsWrongOrMemory net lib Memory = Unit {0}
-IsWrongOrMemory net lib fault = IsWrong net lib fault
-
--- the faults of reading a netlist
-abbrev pub IsNetlistFault : List ℕ → Fault → Type 0
-IsNetlistFault text (BadBlif fault) = netlist.Fault text fault
-IsNetlistFault text Memory = Unit {0}
-IsNetlistFault text _ = ⊥
-
--- the faults of reading a library
-abbrev pub IsLibraryFault : List ℕ → Fault → Type 0
-IsLibraryFault text (BadLibrary (Missing kind)) = ⊥
-IsLibraryFault text (BadLibrary fault) = IsCellFault text fault
-IsLibraryFault text (MissingCell kind) = IsCellFault text (Missing kind)
-IsLibraryFault text Memory = Unit {0}
-IsLibraryFault text _ = ⊥
-
--- the text says a netlist that keeps what every netlist keeps
-pub record SaysKept (text : List ℕ) : Type 0 where
-  pub net : NetView
-  pub says : netlist.Says text net
-  pub keeps : IsNetlist net

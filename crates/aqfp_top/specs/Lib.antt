@@ -4,11 +4,10 @@ pub mod Lines
 pub mod Pieces
 pub mod Loads
 pub mod Designs
-pub mod Judged
 pub mod Checks
 pub mod Build
 pub mod Counted
 pub mod Run
-pub mod Realises
 pub mod Chips
 pub mod Verified
+pub mod Code

@@ -15,7 +15,7 @@ use Rattle.gds_records.specs.declared.fault.StreamKind.{StreamKind}
 use Rattle.gds_records.specs.declared.fault.StreamKind.TheVariants as stream
 use Rattle.layout_rules.specs.RuleNames.{name_of}
 use Rattle.aqfp_top.specs.declared.fault.Large.{Large}
-use Rattle.aqfp_top.specs.declared.fault.Large.TheVariants.{Shapes}
+use Rattle.aqfp_top.specs.declared.fault.Large.TheVariants.{Slots, Rows, Cells, Elements, Shapes}
 use Rattle.aqfp_top.specs.Words.{word_at}
 use Rattle.aqfp_top.specs.declared.fault.Fault.{Fault}
 use Rattle.aqfp_top.specs.declared.fault.Fault.TheVariants.{Usage, Absent, TooLong, ReadFault, WriteFault, BadBlif, BadLibrary, MissingCell, TooLarge, BadStream, RuleBroken, BadWords, Unbuilt, Memory}
@@ -41,8 +41,10 @@ abbrev pub signals_text : List (List ℕ) → List ℕ
 signals_text signals = flat_map (λ signal. 32 ∷ signal) signals
 
 abbrev pub netlist_line : BlifFault → List ℕ
-netlist_line (blif.Line line kind) = codes "aqfp: line " ++ decimal line ++ codes ": " ++ line_kind_text kind ++ codes "\n"
-netlist_line (blif.Cycle line signals) = codes "aqfp: line " ++ decimal line ++ codes ": cycle" ++ signals_text signals ++ codes "\n"
+netlist_line (blif.Line line kind) =
+    codes "aqfp: line " ++ decimal line ++ codes ": " ++ line_kind_text kind ++ codes "\n"
+netlist_line (blif.Cycle line signals) =
+    codes "aqfp: line " ++ decimal line ++ codes ": cycle" ++ signals_text signals ++ codes "\n"
 
 -- an integer in decimal digits, after a minus sign where it is negative
 abbrev pub integer_text : ℤ → List ℕ
@@ -55,12 +57,17 @@ missing_line kind = codes "aqfp: library: missing " ++ key_of kind ++ codes "\n"
 abbrev pub library_line : LibraryFault → List ℕ
 library_line library.Text = codes "aqfp: library: text\n"
 library_line (library.Key key) = codes "aqfp: library: key " ++ key ++ codes "\n"
-library_line (library.Value key value) = codes "aqfp: library: " ++ key ++ codes " = " ++ integer_text value ++ codes "\n"
+library_line (library.Value key value) =
+    codes "aqfp: library: " ++ key ++ codes " = " ++ integer_text value ++ codes "\n"
 library_line (library.Law number) = codes "aqfp: library: law " ++ decimal number ++ codes "\n"
 library_line (library.Missing kind) = missing_line kind
 
 -- of what there is too much
 abbrev pub large_text : Large → List ℕ
+large_text Slots = codes "slots"
+large_text Rows = codes "rows"
+large_text Cells = codes "cells"
+large_text Elements = codes "elements"
 large_text Shapes = codes "shapes"
 
 -- what is wrong with a stream
@@ -90,9 +97,12 @@ line_of words (WriteFault call) = codes "aqfp: write failed\n"
 line_of words (BadBlif fault) = netlist_line fault
 line_of words (BadLibrary fault) = library_line fault
 line_of words (MissingCell kind) = missing_line kind
-line_of words (TooLarge what count) = codes "aqfp: too large: " ++ decimal count ++ codes " " ++ large_text what ++ codes "\n"
-line_of words (BadStream offset kind) = codes "aqfp: stream: byte " ++ decimal offset ++ codes ": " ++ stream_kind_text kind ++ codes "\n"
-line_of words (RuleBroken rule first second) = codes "aqfp: rule " ++ name_of rule ++ codes ": shapes " ++ pair_text first second ++ codes "\n"
+line_of words (TooLarge what count) =
+    codes "aqfp: too large: " ++ decimal count ++ codes " " ++ large_text what ++ codes "\n"
+line_of words (BadStream offset kind) =
+    codes "aqfp: stream: byte " ++ decimal offset ++ codes ": " ++ stream_kind_text kind ++ codes "\n"
+line_of words (RuleBroken rule first second) =
+    codes "aqfp: rule " ++ name_of rule ++ codes ": shapes " ++ pair_text first second ++ codes "\n"
 line_of words (BadWords line) = codes "aqfp: words: line " ++ decimal line ++ codes "\n"
 line_of words (Unbuilt place) = named words place (codes ": not built yet\n")
 line_of words Memory = codes "aqfp: out of memory\n"

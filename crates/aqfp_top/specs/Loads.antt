@@ -8,9 +8,11 @@ use Rattle.aqfp_top.specs.declared.fault.Fault.TheVariants.{Absent, TooLong, Rea
 
 -- a load of the file that a word names answers this
 abbrev pub LoadsWord : Contents → List (List ℕ) → ℕ → ℕ → Result (Vec ℕ Global) Fault → Type 0
-LoadsWord files words place limit (Ok bytes) = (files (word_at words place) ≡ Some bytes.items) × (length bytes.items ≤ limit)
+LoadsWord files words place limit (Ok bytes) =
+    (files (word_at words place) ≡ Some bytes.items) × (length bytes.items ≤ limit)
 LoadsWord files words place limit (Err (Absent word)) = (word ≡ place) × (files (word_at words place) ≡ None)
-LoadsWord files words place limit (Err (TooLong word taken)) = (word ≡ place) × IsSomeAnd (files (word_at words place)) (λ bytes. limit < length bytes)
+LoadsWord files words place limit (Err (TooLong word taken)) =
+    (word ≡ place) × IsSomeAnd (files (word_at words place)) (λ bytes. limit < length bytes)
 LoadsWord files words place limit (Err (ReadFault word)) = word ≡ place
 LoadsWord files words place limit (Err Memory) = Unit {0}
 LoadsWord files words place limit (Err _) = ⊥

@@ -4,10 +4,9 @@ use Rattle.aq_base.specs.Store.{Contents, gained}
 use Rattle.geom.specs.declared.layout.Layout.{Layout}
 use Rattle.geom.specs.FlatForm.{flat_of}
 use Rattle.gds_records.specs.Stream.{IsStream}
-use Rattle.cell_library.specs.Library.{LibraryView}
+use Rattle.cell_library.specs.Library.{LibraryView, limits_of}
 use Rattle.cell_library.specs.Says as library
-use Rattle.layout_rules.specs.Limits.{Limits}
-use Rattle.layout_rules.specs.Rules.{KeepsCircuitRules}
+use Rattle.layout_rules.specs.Rules.{KeepsRules}
 use Rattle.shape_extract.specs.Circuits.{CircuitView}
 use Rattle.shape_extract.specs.Extraction.{IsCircuitOf}
 use Rattle.pulse_sim.specs.Shows.{Shows}
@@ -17,9 +16,10 @@ use Rattle.chip_texts.specs.WordLines.{answers_text}
 use Rattle.chip_texts.specs.FluxLines.{trace_text}
 use Rattle.aqfp_top.specs.Words.{word_at}
 
--- The bytes under GDS are a stream, those under LIB say a library, the layout's shapes keep the rules of circuits and
--- make this circuit, and the lines under WORDS are these words for it.
-pub record ChecksChip (held : Contents) (words : List (List ℕ)) (circuit : CircuitView) (given : List (List Bool)) : Type 0 where
+-- The bytes under GDS are a stream, those under LIB say a library, the layout's shapes keep all rules with its
+-- numbers and make this circuit, and the lines under WORDS are these words for it.
+pub record ChecksChip (held : Contents) (words : List (List ℕ)) (circuit : CircuitView)
+    (given : List (List Bool)) : Type 0 where
   pub gds : List ℕ
   pub lib : List ℕ
   pub text : List ℕ
@@ -30,7 +30,7 @@ pub record ChecksChip (held : Contents) (words : List (List ℕ)) (circuit : Cir
   pub stream : IsStream gds layout
   pub cells : LibraryView
   pub lib_says : library.Says lib cells
-  pub rules : (limits : Limits) → KeepsCircuitRules (flat_of layout) limits
+  pub rules : KeepsRules (flat_of layout) (limits_of cells)
   pub extracted : IsCircuitOf (flat_of layout) circuit
   pub text_says : SaysWords circuit.inputs text
   pub given_is : given ≡ words_of text

@@ -1,19 +1,20 @@
 // `build NET LIB OUT`.
-ghost use Rattle.std.specs.Prelude.{◌≡◌, ◌≤◌, Some, None, length, IsErrOf, IsSome, IfOk, IfErr};
+ghost use Rattle.std.specs.Prelude.{◌≡◌, ◌≤◌, Some, None, length, IsSome, IfOk, IfErr};
 ghost use Rattle.std.specs.Result.{result_err};
 ghost use Rattle.aq_base.specs.Causes.{Rose};
+ghost use Rattle.geom.specs.Writable.{IsWritable};
 ghost use Rattle.aqfp_top.specs.Words.{spelled, word_at};
-ghost use Rattle.aqfp_top.specs.Lines.{HasPlace};
 ghost use Rattle.aqfp_top.specs.Counted.{HasFaults, FailedLoad};
-ghost use Rattle.aqfp_top.specs.Build.{ToldBuildCause, ToldTexts, ToldKept, IsReadOf, IsFaultOfLoads, BuildStands, BuildPrints, IsOutOrMemory, IsBuildFault};
+ghost use Rattle.aqfp_top.specs.Build.{ToldBuildCause, ToldTexts, IsBuilt, IsDone, BuildStands, BuildPrints, IsBuildFault, limit_of};
+ghost use Rattle.aqfp_top.specs.Code.Building.{IsReadOf, IsFaultOfLoads, IsMakeFault, IsMade};
 
-use crate::constants::COUNTS;
-use crate::design::design;
-use crate::fault::{Fault, WriteCall};
+use crate::counts::put_counts;
+use crate::design::Chip;
+use crate::fault::Fault;
 use crate::load::load_word;
 use crate::store::store;
 use crate::words::word;
-use aq_base::{Files, Sink, StoreRefusal};
+use aq_base::{Files, Sink};
 use std::alloc::Global;
 
 /// The greatest length of a netlist's file, in bytes.
@@ -36,11 +37,9 @@ fn load_texts<F: Files>(alloc: Global, files: &mut F, words: &[String]) -> Resul
     ensures net_fits { IfOk result (λ t. length t.net.items ≤ 16777216) }
     ensures lib_fits { IfOk result (λ t. length t.lib.items ≤ 1048576) }
     ensures cause { IfErr result (λ fault. ToldBuildCause (F.told files.old) (spelled words.now) (Some fault)) }
-    ensures only { IfErr result IsFaultOfLoads }
-    ensures places { IfErr result (HasPlace (spelled words.now)) }
+    ensures only { IfErr result (IsFaultOfLoads 2 limit_of) }
     ensures told { F.told files.new ≡ F.told files.old }
     ensures name { F.opened files.new ≡ F.opened files.old }
-    ensures reads { F.read_faults files.old ≤ F.read_faults files.new }
     ensures writes { F.write_faults files.new ≡ F.write_faults files.old }
     ensures closes { F.close_faults files.new ≡ F.close_faults files.old }
     ensures rose { IfErr result (IsReadOf (Rose (F.read_faults files.old) (F.read_faults files.new))) }
@@ -51,18 +50,23 @@ fn load_texts<F: Files>(alloc: Global, files: &mut F, words: &[String]) -> Resul
     Ok(Texts { net, lib })
 }
 
-fn put_counts<O: Sink>(out: &mut O) -> Result<(), Fault>
-    ensures prints { BuildPrints (O.written out.old) (O.written out.new) (result_err result) }
-    ensures cause { IsErrOf result (Fault.WriteFault WriteCall.Out) → Rose (O.faults out.old) (O.faults out.new) }
-    ensures only { IfErr result IsOutOrMemory }
+// The chip of the texts of NET and LIB.
+#[tactic(auto, using(crate::proofs::Steps::makes))]
+fn make<F: Files>(alloc: Global, files: &mut F, words: &[String]) -> Result<Chip, Fault>
+    requires { length words.now ≡ 4 }
+    ensures made { IfOk result (IsMade (F.told files.old) (spelled words.now)) }
+    ensures writable { IfOk result (λ chip. IsWritable chip.layout) }
+    ensures cause { IfErr result (λ fault. ToldBuildCause (F.told files.old) (spelled words.now) (Some fault)) }
+    ensures only { IfErr result IsMakeFault }
+    ensures told { F.told files.new ≡ F.told files.old }
+    ensures name { F.opened files.new ≡ F.opened files.old }
+    ensures writes { F.write_faults files.new ≡ F.write_faults files.old }
+    ensures closes { F.close_faults files.new ≡ F.close_faults files.old }
+    ensures rose { IfErr result (IsReadOf (Rose (F.read_faults files.old) (F.read_faults files.new))) }
+    ensures failed { IfErr result (λ fault. IsSome (F.told files.old) → FailedLoad (F.load_failed files.new) (spelled words.now) (Some fault)) }
 {
-    match out.put(COUNTS) {
-        Ok(()) => Ok(()),
-        Err(StoreRefusal::Failed) => Err(Fault::WriteFault {
-            call: WriteCall::Out,
-        }),
-        Err(StoreRefusal::Memory) => Err(Fault::Memory),
-    }
+    let texts = load_texts(alloc, files, words)?;
+    Chip::from_texts(alloc, &texts.net, &texts.lib)
 }
 
 /// Makes the chip of the netlist with the cells of the library, stores it under OUT and prints its counts.
@@ -76,18 +80,16 @@ pub fn build<F: Files, O: Sink>(
     requires form { length words.now ≡ 4 }
     requires shut { F.opened files.old ≡ None }
     ensures cause { ToldBuildCause (F.told files.old) (spelled words.now) (result_err result) }
-    ensures stands { BuildStands (F.told files.old) (F.told files.new) (word_at (spelled words.now) 3) (result_err result) }
-    ensures prints { BuildPrints (O.written out.old) (O.written out.new) (result_err result) }
+    ensures stands { BuildStands (F.told files.old) (F.told files.new) (spelled words.now) (result_err result) }
+    ensures prints { BuildPrints (F.told files.old) (spelled words.now) (O.written out.old) (O.written out.new) (result_err result) }
     ensures faults { HasFaults (record { reads = F.read_faults files.old; writes = F.write_faults files.old; closes = F.close_faults files.old; outs = O.faults out.old })
         (record { reads = F.read_faults files.new; writes = F.write_faults files.new; closes = F.close_faults files.new; outs = O.faults out.new }) (result_err result) }
-    ensures kept { IfOk result (λ _. ToldKept (F.told files.old) (spelled words.now)) }
+    ensures done { IfOk result (λ _. IsBuilt (F.told files.old) (spelled words.now) (IsDone (F.told files.old) (F.told files.new) (spelled words.now) (O.written out.old) (O.written out.new))) }
     ensures failed { IsSome (F.told files.old) → FailedLoad (F.load_failed files.new) (spelled words.now) (result_err result) }
     ensures only { IfErr result IsBuildFault }
-    ensures places { IfErr result (HasPlace (spelled words.now)) }
     ensures shut { F.opened files.new ≡ None }
 {
-    let texts = load_texts(alloc, files, words)?;
-    let layout = design(alloc, &texts.net, &texts.lib)?;
-    store(alloc, files, word(words, 3), &layout)?;
-    put_counts(out)
+    let chip = make(alloc, files, words)?;
+    store(alloc, files, word(words, 3), &chip.layout)?;
+    put_counts(&chip.counts, out)
 }

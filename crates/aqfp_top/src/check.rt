@@ -7,21 +7,21 @@ ghost use Rattle.gds_read.specs.Reading.{IsReadAs};
 ghost use Rattle.cell_library.specs.Says as library;
 ghost use Rattle.chip_texts.specs.WordsText.{words_of};
 ghost use Rattle.aqfp_top.specs.Words.{spelled, word_at};
-ghost use Rattle.aqfp_top.specs.Lines.{HasPlace};
 ghost use Rattle.aqfp_top.specs.Counted.{HasFaults, FailedLoad};
-ghost use Rattle.aqfp_top.specs.Build.{IsReadOf, IsFaultOfLoads, IsOutOrMemory};
-ghost use Rattle.aqfp_top.specs.Judged.{IsLayoutFault};
-ghost use Rattle.aqfp_top.specs.Checks.{ToldCheckCause, ToldTexts, IsSound, MakesCircuit, IsWrongOrMemory, CheckPrints, IsCheckFault, text_of};
+ghost use Rattle.aqfp_top.specs.Code.Building.{IsReadOf, IsFaultOfLoads, IsOutOrMemory};
+ghost use Rattle.aqfp_top.specs.Code.Checking.{IsLayoutFault, IsWrongOrMemory};
+ghost use Rattle.aqfp_top.specs.Checks.{ToldCheckCause, ToldTexts, IsSound, MakesCircuit, CheckPrints, IsCheckFault, limit_of, text_of};
 
 use crate::design::read_cells;
 use crate::fault::{Fault, Large, WriteCall};
+use crate::judge::{check_geometry, extracted};
 use crate::load::load_word;
 use aq_base::{Files, Memory, Sink, StoreRefusal};
 use cell_library::Library;
 use chip_texts::{GivenWords, print_answers, print_fluxes, read_words};
 use gds_read::{StreamRefusal, flatten, read_stream};
 use geom::Layout;
-use shape_extract::{ExtractRefusal, Extracted, extract};
+use shape_extract::Extracted;
 use std::alloc::Global;
 
 /// The greatest length of a layout's file, in bytes.
@@ -58,8 +58,7 @@ fn load_texts<F: Files>(alloc: Global, files: &mut F, words: &[String]) -> Resul
     ensures lib_fits { IfOk result (λ t. length t.lib.items ≤ 1048576) }
     ensures words_fit { IfOk result (λ t. length t.words.items ≤ 16777216) }
     ensures cause { IfErr result (λ fault. ToldCheckCause (F.told files.old) (spelled words.now) (Some fault)) }
-    ensures only { IfErr result IsFaultOfLoads }
-    ensures places { IfErr result (HasPlace (spelled words.now)) }
+    ensures only { IfErr result (IsFaultOfLoads 3 limit_of) }
     ensures told { F.told files.new ≡ F.told files.old }
     ensures name { F.opened files.new ≡ F.opened files.old }
     ensures rose { IfErr result (IsReadOf (Rose (F.read_faults files.old) (F.read_faults files.new))) }
@@ -104,21 +103,9 @@ fn circuit_of(
     let Ok(flat) = flatten(alloc, layout) else {
         return Err(Fault::Memory);
     };
-    match extract(alloc, &flat) {
-        Ok(circuit) => Ok(circuit),
-        Err(
-            ExtractRefusal::Broken {
-                rule,
-                first,
-                second,
-            },
-        ) => Err(Fault::RuleBroken {
-            rule,
-            first,
-            second,
-        }),
-        Err(ExtractRefusal::Memory) => Err(Fault::Memory),
-    }
+    let circuit = extracted(alloc, &flat)?;
+    check_geometry(alloc, &flat, &circuit, cells)?;
+    Ok(circuit)
 }
 
 // The circuit that the layout's shapes make, under a library that is one; or the first thing that is wrong with the two.
@@ -196,7 +183,6 @@ pub fn check<F: Files, O: Sink>(
         (record { reads = F.read_faults files.new; writes = F.write_faults files.new; closes = F.close_faults files.new; outs = O.faults out.new }) (result_err result) }
     ensures failed { IsSome (F.told files.old) → FailedLoad (F.load_failed files.new) (spelled words.now) (result_err result) }
     ensures only { IfErr result IsCheckFault }
-    ensures places { IfErr result (HasPlace (spelled words.now)) }
     ensures told { F.told files.new ≡ F.told files.old }
     ensures name { F.opened files.new ≡ F.opened files.old }
 {

@@ -1,10 +1,7 @@
 // Checks of the first chip over a store in memory: what is printed and refused.
-ghost use Rattle.std.specs.Prelude.{◌≡◌, IfOk, None};
-ghost use Rattle.aq_base.specs.MemoryStore.{store_of};
-
 use crate::aqfp_run;
-use crate::tests::{LIBRARY_A, STREAM, texts};
-use aq_base::{MemFiles, MemSink, Memory};
+use crate::fixtures::{LIBRARY_A, Outcome, STREAM, ran, store, words_in};
+use aq_base::{MemFiles, MemSink};
 use std::alloc::{AllocError, Global};
 use std::test::Fail;
 
@@ -21,97 +18,109 @@ fn without_starts(alloc: Global) -> Result<Vec<u8>, AllocError> {
     Ok(bytes)
 }
 
-fn store(alloc: Global) -> Result<MemFiles, Memory>
-    ensures { IfOk result (λ files. (store_of files).opened ≡ None) }
-{
-    let mut files = MemFiles::new(alloc);
-    files.add("chip", STREAM.as_slice())?;
-    files.add("cut", &STREAM[..1003])?;
-    files.add("lines", without_starts(alloc)?.as_slice())?;
-    files.add("a.toml", LIBRARY_A.as_bytes())?;
-    files.add("empty", b"")?;
-    files.add("both", b"0\n1\n")?;
-    files.add("one", b"1\n")?;
-    files.add("unended", b"1\r\n0")?;
-    files.add("bad", b"0\nx\n")?;
-    files.add("short", b"0\n\n1\n")?;
-    Ok(files)
+// The first chip with its first via moved by a nanometre.
+fn with_via_moved(alloc: Global) -> Result<Vec<u8>, AllocError> {
+    let mut bytes = Vec::new(alloc);
+    for (place, byte) in STREAM.iter().enumerate() {
+        let moved = matches!(place, 701 | 709 | 717 | 725 | 733);
+        bytes.push(if moved { byte.wrapping_add(1) } else { *byte })?;
+    }
+    Ok(bytes)
+}
+
+// A store of this stream, library A and these words.
+fn checked(alloc: Global, gds: &[u8], words: &str, line: &str) -> Result<Outcome, Fail> {
+    let mut files = store(alloc, "", LIBRARY_A, words)?;
+    files.add("chip", gds)?;
+    Ok(ran(alloc, files, line)?)
 }
 
 #[test]
 fn chips_are_checked(rt: HostRuntime) -> Result<(), Fail> {
     let alloc = rt.alloc();
-    let counts = "rows 2 cells 2 wires 1 delay 1\n";
     let cases = [
-        ("verify chip a.toml both", 0, "0\n1\n", ""),
-        ("verify chip a.toml empty", 0, "", ""),
-        ("verify chip a.toml unended", 0, "1\n0\n", ""),
+        ("verify chip lib words", "0\n1\n", 0, "0\n1\n", ""),
+        ("verify chip lib words", "", 0, "", ""),
+        ("verify chip lib words", "1\r\n0", 0, "1\n0\n", ""),
         (
-            "trace chip a.toml one",
+            "trace chip lib words",
+            "1\n",
             0,
             "0 0 +\n0 1 .\n1 0 +\n1 1 +\n",
             "",
         ),
-        ("trace chip a.toml empty", 0, "", ""),
+        ("trace chip lib words", "", 0, "", ""),
         (
-            "verify cut a.toml both",
-            11,
+            "verify chip lib words",
+            "0\nx\n",
+            13,
             "",
-            "aqfp: stream: byte 1000: truncated\n",
+            "aqfp: words: line 2\n",
         ),
         (
-            "trace lines a.toml both",
-            12,
+            "trace chip lib words",
+            "0\n\n1\n",
+            13,
             "",
-            "aqfp: rule E2: shapes 3 3\n",
+            "aqfp: words: line 2\n",
         ),
-        ("verify chip a.toml bad", 13, "", "aqfp: words: line 2\n"),
-        ("trace chip a.toml short", 13, "", "aqfp: words: line 2\n"),
-        ("verify chip empty bad", 7, "", "aqfp: library: key wire\n"),
-        ("verify cut empty none", 2, "", "aqfp: none: absent\n"),
+        (
+            "verify chip net words",
+            "0\nx\n",
+            7,
+            "",
+            "aqfp: library: key wire\n",
+        ),
+        ("verify chip lib none", "", 2, "", "aqfp: none: absent\n"),
     ];
-    for (line, status, lines, told) in cases {
-        let mut files = store(alloc)?;
-        let mut out = MemSink::new(alloc);
-        let mut err = MemSink::new(alloc);
-        let mut words = Vec::new(alloc);
-        for word in line.split_whitespace() {
-            words.push(word.to_string(alloc)?)?;
-        }
-        let ending = aqfp_run(alloc, &words, &mut files, &mut out, &mut err);
-        assert_eq!(rt; ending.status, status, "{told}");
-        assert_eq!(rt; err.bytes(), told.as_bytes(), "{told}");
-        let head = if status == 0 { counts } else { "" };
+    for (line, words, status, lines, told) in cases {
+        let ran = checked(alloc, STREAM.as_slice(), words, line)?;
+        assert_eq!(rt; ran.status, status, "{told}");
+        assert_eq!(rt; ran.err.bytes(), told.as_bytes(), "{told}");
+        let head = if status == 0 {
+            "rows 2 cells 2 wires 1 delay 1\n"
+        } else {
+            ""
+        };
         let text = format!(in alloc; "{head}{lines}")?;
-        assert_eq!(rt; out.bytes(), text.as_bytes(), "{lines}");
+        assert_eq!(rt; ran.out.bytes(), text.as_bytes(), "{lines}");
     }
     Ok(())
 }
 
 #[test]
-fn a_load_of_a_check_may_fail(rt: HostRuntime) -> Result<(), Fail> {
+fn streams_are_judged(rt: HostRuntime) -> Result<(), Fail> {
     let alloc = rt.alloc();
-    let mut files = store(alloc)?;
-    files.fail_at(2, 0)?;
-    let mut out = MemSink::new(alloc);
-    let mut err = MemSink::new(alloc);
-    let words = texts(alloc, &["verify", "chip", "a.toml", "both"])?;
-    let ending = aqfp_run(alloc, &words, &mut files, &mut out, &mut err);
-    assert_eq!(rt; ending.status, 4);
-    assert_eq!(rt; err.bytes(), b"aqfp: both: read failed\n".as_slice());
+    let cut = checked(alloc, &STREAM[..1003], "", "verify chip lib words")?;
+    assert_eq!(rt; cut.status, 11);
+    assert_eq!(rt;
+        cut.err.bytes(),
+        b"aqfp: stream: byte 1000: truncated\n".as_slice()
+    );
+    let lines = without_starts(alloc)?;
+    let dark = checked(alloc, lines.as_slice(), "", "trace chip lib words")?;
+    assert_eq!(rt; dark.status, 12);
+    assert_eq!(rt; dark.err.bytes(), b"aqfp: rule E2: shapes 3 3\n".as_slice());
+    let moved = with_via_moved(alloc)?;
+    let bare = checked(alloc, moved.as_slice(), "", "verify chip lib words")?;
+    assert_eq!(rt; bare.status, 12);
+    assert_eq!(rt; bare.err.bytes(), b"aqfp: rule G3: shapes 8 8\n".as_slice());
     Ok(())
 }
 
 #[test]
 fn out_may_fail(rt: HostRuntime) -> Result<(), Fail> {
     let alloc = rt.alloc();
-    let mut files = store(alloc)?;
+    let mut files: MemFiles = store(alloc, "", LIBRARY_A, "0\n1\n")?;
+    files.add("chip", STREAM.as_slice())?;
+    let words = words_in(alloc, "verify chip lib words")?;
     let mut out = MemSink::new(alloc);
     out.fail_at(0, 4)?;
     let mut err = MemSink::new(alloc);
-    let words = texts(alloc, &["verify", "chip", "a.toml", "both"])?;
+    err.fail_at(0, 2)?;
     let ending = aqfp_run(alloc, &words, &mut files, &mut out, &mut err);
     assert_eq!(rt; ending.status, 5);
     assert_eq!(rt; out.bytes(), b"rows".as_slice());
+    assert_eq!(rt; err.bytes(), b"aq".as_slice());
     Ok(())
 }

@@ -1,21 +1,30 @@
-// From the texts of a netlist and of a library to what is built.
-ghost use Rattle.std.specs.Prelude.{◌≡◌, ◌↔◌, ◌≤◌, ◌^◌, IsTrue, length, IfOk, IfErr};
+// From the texts of a netlist and of a library to the chip that is built.
+ghost use Rattle.std.specs.Prelude.{◌≡◌, ◌≤◌, ◌^◌, length, OnOk, IfOk, IfErr};
 ghost use Rattle.blif_read.specs.Says as netlist;
 ghost use Rattle.cell_library.specs.Says as library;
-ghost use Rattle.cell_library.specs.LibraryA.{library_a_view};
 ghost use Rattle.geom.specs.Writable.{IsWritable};
-ghost use Rattle.gds_records.specs.Writing.{bytes_of};
-ghost use Rattle.gds_records.specs.FirstChip.{first_bytes};
-ghost use Rattle.aqfp_top.specs.Designs.{IsWire, IsServed, IsWrongOrMemory, IsNetlistFault, IsLibraryFault, SaysKept};
+ghost use Rattle.layout_make.specs.Draw.{draw as drawing};
+ghost use Rattle.layout_make.specs.MayDraw.{MayDraw};
+ghost use Rattle.layout_make.specs.Size.{element_number, element_limit};
+ghost use Rattle.chip_plan.specs.Plans.{IsWithin, chip_of};
+ghost use Rattle.aqfp_top.specs.Code.Designing.{IsNetlistFault, IsLibraryFault, IsPlanFault};
 
-use crate::fault::Fault;
-use crate::first_layout::layout_of_wire;
-use aq_base::Memory;
+use crate::counts::{ChipCounts, counts_of};
+use crate::fault::{Fault, Large};
 use blif_read::{BlifRefusal, Netlist, blif_read};
-use cell_library::{Library, LibraryFault, LibraryRefusal, library_a, read_library};
-use circuit::Answers;
+use cell_library::{Library, LibraryFault, LibraryRefusal, read_library};
+use chip_plan::{PlanRefusal, plan_chip};
 use geom::Layout;
+use layout_make::{DrawRefusal, draw};
+use rowed::Placed;
 use std::alloc::Global;
+
+/// A chip that is to be stored.
+#[derive(Drop)]
+pub struct Chip {
+    pub layout: Layout,
+    pub counts: ChipCounts,
+}
 
 fn read_netlist(alloc: Global, text: &[u8]) -> Result<Netlist, Fault>
     requires { length text.now ≤ 2 ^ 28 }
@@ -45,45 +54,81 @@ pub fn read_cells(alloc: Global, text: &[u8]) -> Result<Library, Fault>
     }
 }
 
-fn is_wire(net: &Netlist) -> bool
-    ensures { IsTrue result ↔ IsWire net.now }
+fn too_large(what: Large, count: u64) -> Fault
+    ensures { result ≡ Fault.TooLarge what count }
 {
-    net.input_count() == 1 && net.outputs().as_slice() == [0u32].as_slice()
+    Fault::TooLarge { what, count }
 }
 
-fn is_library_a(alloc: Global, cells: &Library) -> Result<bool, Fault>
-    ensures ok { IfOk result (λ same. IsTrue same ↔ (cells.now ≡ library_a_view)) }
-    ensures bad { IfErr result (λ fault. fault ≡ Fault.Memory) }
+// The rows of the netlist's chip.
+fn plan(alloc: Global, cells: &Library, net: &Netlist) -> Result<Placed, Fault>
+    ensures chip { IfOk result (λ chip. chip ≡ chip_of cells.now net.now) }
+    ensures within { OnOk result (IsWithin cells.now net.now) }
+    ensures draws { IfOk result (λ chip. MayDraw chip cells.now) }
+    ensures bad { IfErr result (IsPlanFault net.now cells.now) }
 {
-    match library_a(alloc) {
-        Ok(served) => Ok(cells.is_same(&served)),
-        Err(Memory) => Err(Fault::Memory),
+    match plan_chip(alloc, cells, net) {
+        Ok(chip) => Ok(chip),
+        Err(PlanRefusal::Slots { span }) => Err(too_large(Large::Slots, span)),
+        Err(PlanRefusal::Rows { rows }) => Err(too_large(Large::Rows, rows)),
+        Err(PlanRefusal::Cells { cells }) => Err(too_large(Large::Cells, cells)),
+        Err(PlanRefusal::Memory) => Err(Fault::Memory),
     }
 }
 
-/// The layout of the netlist and the library that the texts say, a wire and library A, and otherwise what is wrong
-/// with them first.
-#[tactic(auto, using(crate::proofs::Designing::designs))]
-pub fn design(alloc: Global, net: &[u8], lib: &[u8]) -> Result<Layout, Fault>
-    requires net { length net.now ≤ 2 ^ 28 }
-    requires lib { length lib.now ≤ 2 ^ 28 }
-    ensures ok { IfOk result (λ _. IsServed net.now lib.now) }
-    ensures kept { IfOk result (λ _. SaysKept net.now) }
+// The layout of the netlist's chip.
+#[tactic(auto, using(crate::proofs::Designing::limits))]
+fn lay_out(alloc: Global, _net: &Netlist, cells: &Library, chip: &Placed) -> Result<Layout, Fault>
+    requires chip { chip.now ≡ chip_of cells.now _net.now }
+    requires within { IsWithin cells.now _net.now }
+    requires draws { MayDraw chip.now cells.now }
+    ensures drawn { IfOk result (λ layout. layout ≡ drawing chip.now cells.now) }
     ensures writable { IfOk result IsWritable }
-    ensures bytes { IfOk result (λ layout. bytes_of layout ≡ first_bytes) }
-    ensures bad { IfErr result (IsWrongOrMemory net.now lib.now) }
+    ensures small { OnOk result (element_number chip.now ≤ element_limit) }
+    ensures bad { IfErr result (IsPlanFault _net.now cells.now) }
 {
-    let net = read_netlist(alloc, net)?;
-    net.known();
-    let cells = read_cells(alloc, lib)?;
-    if !is_wire(&net) {
-        return Err(Fault::Unbuilt { word: 1 });
-    }
-    if !is_library_a(alloc, &cells)? {
-        return Err(Fault::Unbuilt { word: 2 });
-    }
-    match layout_of_wire(alloc) {
+    match draw(alloc, chip, cells) {
         Ok(layout) => Ok(layout),
-        Err(Memory) => Err(Fault::Memory),
+        Err(DrawRefusal::TooManyElements { count }) => Err(too_large(Large::Elements, count)),
+        Err(DrawRefusal::Memory) => Err(Fault::Memory),
+    }
+}
+
+impl Chip {
+    ghost use Rattle.std.specs.Prelude.{◌≤◌, ◌^◌, length, OnOk, IfOk, IfErr};
+    ghost use Rattle.geom.specs.Writable.{IsWritable};
+    ghost use Rattle.aqfp_top.specs.Designs.{KeepsLimits};
+    ghost use Rattle.aqfp_top.specs.Code.Designing.{IsWrongOrMemory, IsPlanFault, IsChipOf, MakesChip};
+
+    /// The chip of the netlist with the cells of the library, and otherwise the first limit that it passes.
+    #[tactic(auto, using(crate::proofs::Designing::limits))]
+    pub fn of_net(alloc: Global, net: &Netlist, cells: &Library) -> Result<Chip, Fault>
+        ensures made { IfOk result (IsChipOf net.now cells.now) }
+        ensures limits { OnOk result (KeepsLimits net.now cells.now) }
+        ensures writable { IfOk result (λ chip. IsWritable chip.layout) }
+        ensures bad { IfErr result (IsPlanFault net.now cells.now) }
+    {
+        net.known();
+        cells.known();
+        let placed = plan(alloc, cells, net)?;
+        let layout = lay_out(alloc, net, cells, &placed)?;
+        let counts = counts_of(&placed);
+        Ok(Chip { layout, counts })
+    }
+
+    /// The chip of the netlist with the cells of the library that the texts say, and otherwise what is wrong with them
+    /// first.
+    #[tactic(auto, using(crate::proofs::Designing::designs))]
+    pub fn from_texts(alloc: Global, net: &[u8], lib: &[u8]) -> Result<Chip, Fault>
+        requires net { length net.now ≤ 2 ^ 28 }
+        requires lib { length lib.now ≤ 2 ^ 28 }
+        ensures made { IfOk result (MakesChip net.now lib.now) }
+        ensures writable { IfOk result (λ chip. IsWritable chip.layout) }
+        ensures bad { IfErr result (IsWrongOrMemory net.now lib.now) }
+    {
+        let net = read_netlist(alloc, net)?;
+        let cells = read_cells(alloc, lib)?;
+        let chip = Chip::of_net(alloc, &net, &cells)?;
+        Ok(chip)
     }
 }

@@ -23,7 +23,15 @@ pub enum WriteCall {
 /// The thing of which there are too many.
 #[derive(Clone, Copy, Debug, PartialEq, Eq)]
 pub enum Large {
-    /// The shapes and labels of a layout's flat form.
+    /// The slots of the widest row, whose width passes 2,000,000,000 nanometres.
+    Slots,
+    /// The rows, which with full channels pass a height of 2,147,483,647 nanometres.
+    Rows,
+    /// The cells, of which there are more than 2,000,000 before repeaters, or with them.
+    Cells,
+    /// The elements of the top structure of a layout, of which there are more than 2,000,000.
+    Elements,
+    /// The shapes and labels of a layout's flat form, of which there are more than 8,000,000.
     Shapes,
 }
 

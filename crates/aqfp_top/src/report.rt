@@ -58,6 +58,10 @@ fn large(what: &Large) -> &[u8]
     ensures { result.now ≡ large_text what.now }
 {
     match what {
+        Large::Slots => b"slots",
+        Large::Rows => b"rows",
+        Large::Cells => b"cells",
+        Large::Elements => b"elements",
         Large::Shapes => b"shapes",
     }
 }

@@ -1,5 +1,5 @@
 // The top call.
-ghost use Rattle.std.specs.Prelude.{◌≡◌, ◌⊎◌, Some, None, IsSome, IfOk, IfErr, List, ℕ};
+ghost use Rattle.std.specs.Prelude.{◌≡◌, ◌⊎◌, Some, None, IsSome, IfSome, IfOk, IfErr, List, ℕ};
 ghost use Rattle.std.specs.Result.{result_err};
 ghost use Rattle.aq_base.specs.Causes.{Rose};
 ghost use Rattle.aq_base.specs.Store.{Contents};
@@ -7,21 +7,22 @@ ghost use Rattle.aqfp_top.specs.Words.{spelled, word_at, IsBuild, IsVerify, IsTr
 ghost use Rattle.aqfp_top.specs.Statuses.{status_of};
 ghost use Rattle.aqfp_top.specs.Lines.{Reports, HasPlace};
 ghost use Rattle.aqfp_top.specs.Counted.{HasFaults, FailedLoad, NoFaults};
-ghost use Rattle.aqfp_top.specs.Build.{ToldKept};
+ghost use Rattle.aqfp_top.specs.Build.{IsBuilt, IsDone};
 ghost use Rattle.aqfp_top.specs.Chips.{BuildsChip};
 ghost use Rattle.aqfp_top.specs.Verified.{VerifiesChip, TracesChip};
-ghost use Rattle.aqfp_top.specs.Run.{RunCause, RunStands, RunPrints, Reaches, FindsTooLong, FindsWrong, FindsAllWell, ComesOrYields, ComesTooLong, IsDoneOrMemory};
+ghost use Rattle.aqfp_top.specs.Run.{RunCause, RunsOnly, RunStands, RunPrints, Reaches, FindsTooLong, FindsWrong, FindsAllWell, ComesOrYields, ComesTooLong, IsDoneOrMemory};
 ghost use Rattle.aqfp_top.specs.declared.fault.Fault.{Fault};
 
 use crate::build::build;
 use crate::check::{Printing, check};
 use crate::fault::Fault;
-use crate::first_chip::first_chip_realises;
-use crate::one_fault::checks_find_one_fault;
+use crate::one_fault::{builds_find_one_fault, checks_find_one_fault};
 use crate::report::say;
 use crate::words::{Form, form_of};
 use aq_base::{Files, Sink};
+use chip_plan::plan_laws;
 use chip_texts::answers_are_shown;
+use drawn_chip::drawn_chip_realises;
 use std::alloc::Global;
 
 /// How a run ended: the status of the program, and the fault where the status is not 0.
@@ -45,7 +46,8 @@ fn work<F: Files, O: Sink>(
     ensures faults { HasFaults (record { reads = F.read_faults files.old; writes = F.write_faults files.old; closes = F.close_faults files.old; outs = O.faults out.old })
         (record { reads = F.read_faults files.new; writes = F.write_faults files.new; closes = F.close_faults files.new; outs = O.faults out.new }) (result_err result) }
     ensures failed { IsSome (F.told files.old) → FailedLoad (F.load_failed files.new) (spelled words.now) (result_err result) }
-    ensures kept { IfOk result (λ _. IsBuild (spelled words.now) → ToldKept (F.told files.old) (spelled words.now)) }
+    ensures done { IfOk result (λ _. IsBuild (spelled words.now) → IsBuilt (F.told files.old) (spelled words.now) (IsDone (F.told files.old) (F.told files.new) (spelled words.now) (O.written out.old) (O.written out.new))) }
+    ensures only { IfErr result (RunsOnly (spelled words.now)) }
     ensures places { IfErr result (HasPlace (spelled words.now)) }
     ensures shut { F.opened files.new ≡ None }
 {
@@ -76,6 +78,9 @@ pub fn aqfp_run<F: Files, O: Sink, E: Sink>(
     ensures faults { HasFaults (record { reads = F.read_faults files.old; writes = F.write_faults files.old; closes = F.close_faults files.old; outs = O.faults out.old })
         (record { reads = F.read_faults files.new; writes = F.write_faults files.new; closes = F.close_faults files.new; outs = O.faults out.new }) result.fault }
     ensures failed { IsSome (F.told files.old) → FailedLoad (F.load_failed files.new) (spelled words.now) result.fault }
+
+    // Which faults a command may answer, whatever the store tells.
+    ensures only { IfSome result.fault (RunsOnly (spelled words.now)) }
 
     // The first thing that is wrong is the fault that comes.
     ensures usage { ¬ HasForm (spelled words.now) → result.fault ≡ Some Fault.Usage }
@@ -108,7 +113,9 @@ pub fn aqfp_run<F: Files, O: Sink, E: Sink>(
     ensures reports { Reports (E.written err.old) (E.written err.new) (spelled words.now) result.fault
         (Rose (E.faults err.old) (E.faults err.new) ⊎ Rose (E.refused err.old) (E.refused err.new)) }
 {
-    first_chip_realises();
+    plan_laws();
+    drawn_chip_realises();
+    builds_find_one_fault();
     checks_find_one_fault();
     answers_are_shown();
     match work(alloc, words, files, out) {

@@ -2,7 +2,7 @@
 ghost use Rattle.std.specs.Prelude.{◌≡◌, ◌≤◌, None, IfErr};
 ghost use Rattle.geom.specs.Writable.{IsWritable};
 ghost use Rattle.gds_records.specs.Writing.{bytes_of};
-ghost use Rattle.aqfp_top.specs.Build.{StandsStored, StoreCause, IsStoreFault};
+ghost use Rattle.aqfp_top.specs.Code.Building.{StandsStored, StoreCause, IsStoreFault};
 
 use crate::fault::{Fault, WriteCall};
 use aq_base::{Files, StoreRefusal};

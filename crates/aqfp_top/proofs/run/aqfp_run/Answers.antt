@@ -16,7 +16,7 @@ returns-in-Ok-clause-too_long g c = λ held place told long.
 
 pub returns-in-Ok-clause-wrong : goal.returns-in-Ok-clause-wrong
 returns-in-Ok-clause-wrong g c = λ held due told wrong.
-    wrong_due c.checks_find_one_fault.ensures.one c.checks_find_one_fault.ensures.none held (spelled c.args.words.now) due None
+    wrong_due c.builds_find_one_fault.ensures.one c.builds_find_one_fault.ensures.none c.checks_find_one_fault.ensures.one c.checks_find_one_fault.ensures.none held (spelled c.args.words.now) due None
     (subst (λ contents. RunCause contents (spelled c.args.words.now) None) told c.in-Ok.ensures.cause) wrong
 
 pub returns-in-Ok-clause-complete : goal.returns-in-Ok-clause-complete
@@ -24,7 +24,7 @@ returns-in-Ok-clause-complete g c = λ held told well none. tt
 
 pub returns-in-Ok-clause-chip : goal.returns-in-Ok-clause-chip
 returns-in-Ok-clause-chip g c = λ held told form done.
-    chip_built _ _ held (spelled c.args.words.now) _ _ c.first_chip_realises.ensures told form c.in-Ok.ensures.cause (c.in-Ok.ensures.kept form) c.in-Ok.ensures.stands c.in-Ok.ensures.prints
+    chip_built c.plan_laws.ensures.draws c.plan_laws.ensures.answers c.drawn_chip_realises.ensures.chip _ _ held (spelled c.args.words.now) _ _ told (c.in-Ok.ensures.done form)
 
 pub returns-in-Ok-clause-verified : goal.returns-in-Ok-clause-verified
 returns-in-Ok-clause-verified g c = λ held told form done. chip_verified _ held (spelled c.args.words.now) _ _ c.answers_are_shown.ensures.shown told form c.in-Ok.ensures.prints
@@ -42,10 +42,10 @@ returns-in-Err-clause-too_long g c = λ held place told long.
 
 pub returns-in-Err-clause-wrong : goal.returns-in-Err-clause-wrong
 returns-in-Err-clause-wrong g c = λ held due told wrong.
-    wrong_due c.checks_find_one_fault.ensures.one c.checks_find_one_fault.ensures.none held (spelled c.args.words.now) due (Some c.in-Err.fault)
+    wrong_due c.builds_find_one_fault.ensures.one c.builds_find_one_fault.ensures.none c.checks_find_one_fault.ensures.one c.checks_find_one_fault.ensures.none held (spelled c.args.words.now) due (Some c.in-Err.fault)
     (subst (λ contents. RunCause contents (spelled c.args.words.now) (Some c.in-Err.fault)) told c.in-Err.ensures.cause) wrong
 
 pub returns-in-Err-clause-complete : goal.returns-in-Err-clause-complete
 returns-in-Err-clause-complete g c = λ held told well none.
-    complete_due c.checks_find_one_fault.ensures.one c.checks_find_one_fault.ensures.none held (spelled c.args.words.now) _ _ (Some c.in-Err.fault)
+    complete_due c.builds_find_one_fault.ensures.one c.builds_find_one_fault.ensures.none c.checks_find_one_fault.ensures.one c.checks_find_one_fault.ensures.none held (spelled c.args.words.now) _ _ (Some c.in-Err.fault)
     (subst (λ contents. RunCause contents (spelled c.args.words.now) (Some c.in-Err.fault)) told c.in-Err.ensures.cause) well c.in-Err.ensures.faults none

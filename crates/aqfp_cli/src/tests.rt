@@ -1,0 +1,37 @@
+// What the help says.
+use crate::help::HELP;
+use std::test::Fail;
+
+#[test]
+fn help_has_each_command_and_each_status(rt: HostRuntime) -> Result<(), Fail> {
+    let commands = [
+        "build NET LIB OUT",
+        "verify GDS LIB WORDS",
+        "trace GDS LIB WORDS",
+        "sample N",
+    ];
+    for command in commands {
+        assert!(rt; HELP.contains(command), "{command}");
+    }
+    let statuses = [
+        "0  done",
+        "1  the words",
+        "2  a file is absent",
+        "3  a file is longer",
+        "4  a file could not be read",
+        "5  a file or standard output",
+        "6  the netlist",
+        "7  the library has",
+        "8  the library lacks",
+        "10  the chip",
+        "11  the layout's bytes",
+        "12  the layout breaks",
+        "13  a line of WORDS",
+        "14  out of memory",
+        "15  not built yet",
+    ];
+    for status in statuses {
+        assert!(rt; HELP.contains(status), "{status}");
+    }
+    Ok(())
+}

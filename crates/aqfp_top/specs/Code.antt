@@ -1,0 +1,4 @@
+-- The words of private contracts.
+pub mod Designing
+pub mod Building
+pub mod Checking

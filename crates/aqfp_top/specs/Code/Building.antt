@@ -1,0 +1,63 @@
+-- The words of the steps of a build: loading, making the chip, storing and printing.
+use Rattle.std.specs.Prelude.{ℕ, ◌≡◌, ◌⊎◌, ◌<◌, ◌≤◌, List, Option, Result, Ok, Err}
+use Rattle.aq_base.specs.Causes.{Rose}
+use Rattle.aq_base.specs.Store.{Contents, told_with, StoresPrefix}
+use Rattle.aqfp_top.specs.Build.{IsLoadPlace, IsBuildFault, IsBuilt}
+use Rattle.aqfp_top.specs.Code.Designing.{IsChipOf}
+use Rattle.aqfp_top.specs.declared.design.Chip.{Chip}
+use Rattle.aqfp_top.specs.declared.fault.WriteCall.TheVariants.{Create, Append, Close, Out}
+use Rattle.aqfp_top.specs.declared.fault.Fault.{Fault}
+use Rattle.aqfp_top.specs.declared.fault.Fault.TheVariants.{Absent, TooLong, ReadFault, WriteFault, Memory}
+
+-- what stands in the store after a file was to be stored under a name
+abbrev pub StandsStored : Option Contents → Option Contents → List ℕ → List ℕ → Result (Unit {0}) Fault → Type 0
+StandsStored before after name bytes (Ok _) = after ≡ told_with before name bytes
+StandsStored before after name bytes (Err (WriteFault Create)) = after ≡ before
+StandsStored before after name bytes (Err (WriteFault Append)) = StoresPrefix before after name bytes
+StandsStored before after name bytes (Err (WriteFault Close)) = after ≡ told_with before name bytes
+StandsStored before after name bytes (Err (WriteFault Out)) = ⊥
+StandsStored before after name bytes (Err Memory) = (after ≡ before) ⊎ StoresPrefix before after name bytes
+StandsStored before after name bytes (Err _) = ⊥
+
+-- the counts of write and close faults that a refused store shows
+abbrev pub StoreCause : ℕ → ℕ → ℕ → ℕ → Result (Unit {0}) Fault → Type 0
+StoreCause writes writes' closes closes' (Err (WriteFault Create)) = Rose writes writes'
+StoreCause writes writes' closes closes' (Err (WriteFault Append)) = Rose writes writes'
+StoreCause writes writes' closes closes' (Err (WriteFault Close)) = Rose closes closes'
+StoreCause writes writes' closes closes' _ = Unit {0}
+
+-- the faults of loads, of so many files within these limits
+abbrev pub IsFaultOfLoads : ℕ → (ℕ → ℕ) → Fault → Type 0
+IsFaultOfLoads count limits (Absent place) = IsLoadPlace count place
+IsFaultOfLoads count limits (TooLong place taken) = IsLoadPlace count place × (limits place < taken)
+IsFaultOfLoads count limits (ReadFault place) = IsLoadPlace count place
+IsFaultOfLoads count limits Memory = Unit {0}
+IsFaultOfLoads count limits _ = ⊥
+
+-- the faults of a build before anything is stored
+abbrev pub IsMakeFault : Fault → Type 0
+IsMakeFault (WriteFault call) = ⊥
+IsMakeFault fault = IsBuildFault fault
+
+-- the faults of printing
+abbrev pub IsOutOrMemory : Fault → Type 0
+IsOutOrMemory (WriteFault Out) = Unit {0}
+IsOutOrMemory Memory = Unit {0}
+IsOutOrMemory _ = ⊥
+
+-- the faults of storing a file
+abbrev pub IsStoreFault : Fault → Type 0
+IsStoreFault (WriteFault Create) = Unit {0}
+IsStoreFault (WriteFault Append) = Unit {0}
+IsStoreFault (WriteFault Close) = Unit {0}
+IsStoreFault Memory = Unit {0}
+IsStoreFault _ = ⊥
+
+-- a fault of a load that failed comes only where this holds
+abbrev pub IsReadOf : Type 0 → Fault → Type 0
+IsReadOf Risen (ReadFault place) = Risen
+IsReadOf Risen _ = Unit {0}
+
+-- the chip is that of the texts of NET and LIB
+abbrev pub IsMade : Option Contents → List (List ℕ) → Chip → Type 0
+IsMade told words chip = IsBuilt told words (λ equations cells. IsChipOf equations cells chip)

@@ -1,0 +1,63 @@
+// The counts of a chip, and their line.
+ghost use Rattle.std.specs.Prelude.{◌≡◌, ◌+◌, ◌<◌, ◌^◌, length, OnOk, OnErr, IsErrOf, IfErr};
+ghost use Rattle.aq_base.specs.Causes.{Rose};
+ghost use Rattle.aq_base.specs.Store.{gained, GainsPrefix};
+ghost use Rattle.layout_make.specs.Size.{cells_in, wires_in};
+ghost use Rattle.chip_texts.specs.Counts.{counts_text};
+ghost use Rattle.aqfp_top.specs.Code.Building.{IsOutOrMemory};
+
+use crate::fault::{Fault, WriteCall};
+use crate::pieces::{Piece, put_pieces};
+use aq_base::{Sink, StoreRefusal};
+use layout_make::{cell_number, row_count, wire_number};
+use rowed::Placed;
+
+/// How many rows, cells and wires a chip has.
+#[derive(Clone, Copy, Debug, PartialEq, Eq)]
+pub struct ChipCounts {
+    pub rows: u64,
+    pub cells: u64,
+    pub wires: u64,
+}
+
+/// The counts of a placed net.
+pub fn counts_of(placed: &Placed) -> ChipCounts
+    requires cells { cells_in placed.now.net.rows < 2 ^ 63 }
+    requires wires { wires_in placed.now.net.rows < 2 ^ 63 }
+    ensures rows { result.rows ≡ length placed.now.net.rows }
+    ensures cells { result.cells ≡ cells_in placed.now.net.rows }
+    ensures wires { result.wires ≡ wires_in placed.now.net.rows }
+{
+    ChipCounts {
+        rows: row_count(placed) as u64,
+        cells: cell_number(placed),
+        wires: wire_number(placed),
+    }
+}
+
+/// Puts the counts line.
+pub fn put_counts<O: Sink>(counts: &ChipCounts, out: &mut O) -> Result<(), Fault>
+    ensures added { OnOk result (O.written out.new ≡ gained (O.written out.old) (counts_text counts.now.rows counts.now.cells counts.now.wires)) }
+    ensures prefix { OnErr result (GainsPrefix (O.written out.old) (O.written out.new) (counts_text counts.now.rows counts.now.cells counts.now.wires)) }
+    ensures cause { IsErrOf result (Fault.WriteFault WriteCall.Out) → Rose (O.faults out.old) (O.faults out.new) }
+    ensures only { IfErr result IsOutOrMemory }
+{
+    let pieces = [
+        Piece::Text(b"rows "),
+        Piece::Number(counts.rows),
+        Piece::Text(b" cells "),
+        Piece::Number(counts.cells),
+        Piece::Text(b" wires "),
+        Piece::Number(counts.wires),
+        Piece::Text(b" delay "),
+        Piece::Number(counts.rows.saturating_sub(1)),
+        Piece::Text(b"\n"),
+    ];
+    match put_pieces(out, &pieces) {
+        Ok(()) => Ok(()),
+        Err(StoreRefusal::Failed) => Err(Fault::WriteFault {
+            call: WriteCall::Out,
+        }),
+        Err(StoreRefusal::Memory) => Err(Fault::Memory),
+    }
+}
