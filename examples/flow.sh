@@ -6,7 +6,8 @@
 # Each netlist of this folder is built with library A. Where NAME.v stands beside it and Yosys is installed, the netlist
 # is made anew from that, as FOLDER/NAME.blif. Where NAME.words and NAME.answers stand here, the chip is verified with the words, and
 # what it prints is compared with the answers. Where KLayout is installed, a picture of each chip is made. Prints a line
-# for each chip; the status is 1 where something failed. AQFP names another program than the launcher.
+# for each chip. Then the layouts under layouts/ are verified, and what is printed is compared with NAME.printed.
+# The status is 1 where something failed. AQFP names another program than the launcher.
 set -u
 here=$(cd -P "$(dirname "$0")" && pwd)
 top=$(dirname "$here")
@@ -52,6 +53,18 @@ make_chip() {
     echo "$name: $counts$checked"
 }
 
+# Verifies a layout that stands here, and compares what is printed, a refusal's line too.
+check_layout() {
+    name=$1
+    "$aqfp" verify "$here/layouts/$name.gds" "$library" "$here/layouts/$name.words" >"$folder/$name.printed" 2>&1
+    if cmp -s "$here/layouts/$name.printed" "$folder/$name.printed"; then
+        echo "$name: $(head -n 1 "$folder/$name.printed"), as it should be"
+    else
+        echo "$name: PRINTS OTHERWISE, in $folder/$name.printed"
+        failed=1
+    fi
+}
+
 command -v yosys >/dev/null || echo "flow: yosys is not installed: netlists are taken as they stand" >&2
 command -v klayout >/dev/null || echo "flow: klayout is not installed: no pictures are made" >&2
 for netlist in "$here"/*.blif; do
@@ -66,5 +79,8 @@ for netlist in "$here"/*.blif; do
         fi
     fi
     make_chip "$name" "$netlist"
+done
+for layout in "$here"/layouts/*.gds; do
+    check_layout "$(basename "$layout" .gds)"
 done
 exit $failed
