@@ -3,11 +3,13 @@
 #
 #   examples/flow.sh FOLDER
 #
-# Each netlist of this folder is built with library A. Where NAME.v stands beside it and Yosys is installed, the netlist
-# is made anew from that, as FOLDER/NAME.blif. Where NAME.words and NAME.answers stand here, the chip is verified with the words, and
-# what it prints is compared with the answers. Where KLayout is installed, a picture of each chip is made. Prints a line
-# for each chip. Then the layouts under layouts/ are verified, and what is printed is compared with NAME.printed.
-# The status is 1 where something failed. AQFP names another program than the launcher.
+# Each netlist NAME.blif of this folder is built with library A as FOLDER/NAME.gds, is verified with NAME.words, and what
+# is printed is compared with NAME.answers. Then the same is done with netlists that other tools make of it: NAME_yosys,
+# which Yosys makes of NAME.v, with gates of two inputs and choices, NAME_and, with and, or and not alone, NAME_lut, with
+# tables of three inputs; and NAME_abc, which ABC makes of NAME.blif. Where KLayout is installed, it checks each chip by
+# share/aqfp.drc and makes a picture of it. Last come the layouts under layouts/, a trace, and a netlist that is refused.
+# A tool that is not installed is named, and its part is left out.
+# Prints a line for each chip. The status is 1 where something failed. AQFP names another program than the launcher.
 set -u
 here=$(cd -P "$(dirname "$0")" && pwd)
 top=$(dirname "$here")
@@ -22,65 +24,96 @@ mkdir -p "$folder" || exit 2
 "$aqfp" --version >/dev/null || exit 1 # the launcher builds the program first, if need be
 failed=0
 
-# The gates of a Verilog module, by Yosys: covers of two inputs, and of three for choices between two signals.
-synthesise() {
-    yosys -q -p "read_verilog $1; synth -flatten -auto-top; abc -g AND,OR,XOR,ANDNOT,ORNOT,MUX; opt_clean -purge; write_blif $2"
+# Says that something is not as it should be.
+fail() {
+    echo "$*"
+    failed=1
 }
 
-# Builds one netlist, checks its answers where they are known, and makes its picture.
+# Whether a tool is there.
+have() { command -v "$1" >/dev/null; }
+
+# The gates of a Verilog module, by Yosys, with what its pass `abc` is told of gates.
+synthesise() {
+    yosys -q -p "read_verilog $1; synth -flatten -auto-top; abc $3; opt_clean -purge; write_blif $2"
+}
+
+# Whether KLayout finds nothing against the rules of geometry; a picture beside it.
+look_at() {
+    export QT_QPA_PLATFORM=offscreen
+    klayout -z -b -r "$top/share/picture.py" -rd gds="$1.gds" -rd png="$1.png" >/dev/null || return 1
+    klayout -z -b -r "$top/share/aqfp.drc" -rd gds="$1.gds" -rd library="$library" | grep -q '^sum 0$'
+}
+
+# Builds a netlist as FOLDER/CHIP.gds, and compares the chip's answers with those of an example.
 make_chip() {
-    name=$1
+    chip=$1
     netlist=$2
-    if ! counts=$("$aqfp" build "$netlist" "$library" "$folder/$name.gds" 2>&1); then
-        echo "$name: $counts"
-        failed=1
+    example=$3
+    if ! counts=$("$aqfp" build "$netlist" "$library" "$folder/$chip.gds" 2>&1); then
+        fail "$chip: $counts"
         return
     fi
-    checked=
-    if [ -f "$here/$name.answers" ]; then
-        "$aqfp" verify "$folder/$name.gds" "$library" "$here/$name.words" >"$folder/$name.printed" 2>&1
-        if { echo "$counts"; cat "$here/$name.answers"; } | cmp -s - "$folder/$name.printed"; then
-            checked=", answers as they should be"
-        else
-            checked=", OTHER ANSWERS, in $folder/$name.printed"
-            failed=1
-        fi
+    "$aqfp" verify "$folder/$chip.gds" "$library" "$here/$example.words" >"$folder/$chip.printed" 2>&1
+    if { echo "$counts"; cat "$here/$example.answers"; } | cmp -s - "$folder/$chip.printed"; then
+        echo "$chip: $counts, answers as they should be"
+    else
+        fail "$chip: $counts, OTHER ANSWERS, in $folder/$chip.printed"
     fi
-    if command -v klayout >/dev/null; then
-        QT_QPA_PLATFORM=offscreen klayout -z -b -r "$top/share/picture.py" -rd gds="$folder/$name.gds" \
-            -rd png="$folder/$name.png" >/dev/null || failed=1
+    if have klayout && ! look_at "$folder/$chip"; then
+        fail "$chip: KLAYOUT FINDS A BROKEN RULE, or failed"
     fi
-    echo "$name: $counts$checked"
 }
 
-# Verifies a layout that stands here, and compares what is printed, a refusal's line too.
-check_layout() {
+# A chip of the netlist that Yosys makes of an example's Verilog, by one choice of gates.
+make_synthesised() {
+    if synthesise "$here/$1.v" "$folder/$1_$2.blif" "$3"; then
+        make_chip "$1_$2" "$folder/$1_$2.blif" "$1"
+    else
+        fail "$1_$2: Yosys failed"
+    fi
+}
+
+# A chip of the netlist that ABC makes of an example's.
+make_by_abc() {
+    if berkeley-abc -q "read_blif $here/$1.blif; strash; write_blif $folder/$1_abc.blif" >/dev/null; then
+        make_chip "$1_abc" "$folder/$1_abc.blif" "$1"
+    else
+        fail "$1_abc: ABC failed"
+    fi
+}
+
+# Compares what a command of the program prints, a refusal's line too, with what a file says.
+compare() {
     name=$1
-    "$aqfp" verify "$here/layouts/$name.gds" "$library" "$here/layouts/$name.words" >"$folder/$name.printed" 2>&1
-    if cmp -s "$here/layouts/$name.printed" "$folder/$name.printed"; then
+    expected=$2
+    shift 2
+    "$aqfp" "$@" >"$folder/$name.printed" 2>&1
+    if cmp -s "$expected" "$folder/$name.printed"; then
         echo "$name: $(head -n 1 "$folder/$name.printed"), as it should be"
     else
-        echo "$name: PRINTS OTHERWISE, in $folder/$name.printed"
-        failed=1
+        fail "$name: PRINTS OTHERWISE, in $folder/$name.printed"
     fi
 }
 
-command -v yosys >/dev/null || echo "flow: yosys is not installed: netlists are taken as they stand" >&2
-command -v klayout >/dev/null || echo "flow: klayout is not installed: no pictures are made" >&2
+have yosys || echo "flow: yosys is not installed: no netlists are made of Verilog" >&2
+have berkeley-abc || echo "flow: berkeley-abc is not installed: no netlists are made by ABC" >&2
+have klayout || echo "flow: klayout is not installed: no pictures are made, and its rules are not tried" >&2
 for netlist in "$here"/*.blif; do
     name=$(basename "$netlist" .blif)
-    case $name in cycle) continue ;; esac
-    if [ -f "$here/$name.v" ] && command -v yosys >/dev/null; then
-        netlist=$folder/$name.blif
-        if ! synthesise "$here/$name.v" "$netlist"; then
-            echo "$name: Yosys failed"
-            failed=1
-            continue
-        fi
+    [ "$name" = cycle ] && continue
+    make_chip "$name" "$netlist" "$name"
+    if [ -f "$here/$name.v" ] && have yosys; then
+        make_synthesised "$name" yosys "-g AND,OR,XOR,ANDNOT,ORNOT,MUX"
+        make_synthesised "$name" and "-g AND,OR"
+        make_synthesised "$name" lut "-lut 3"
     fi
-    make_chip "$name" "$netlist"
+    if have berkeley-abc; then make_by_abc "$name"; fi
 done
 for layout in "$here"/layouts/*.gds; do
-    check_layout "$(basename "$layout" .gds)"
+    name=$(basename "$layout" .gds)
+    compare "$name" "$here/layouts/$name.printed" verify "$layout" "$library" "$here/layouts/$name.words"
 done
+compare trace "$here/wire.trace" trace "$folder/wire.gds" "$library" "$here/one.words"
+compare cycle "$here/cycle.printed" build "$here/cycle.blif" "$library" "$folder/cycle.gds"
 exit $failed
