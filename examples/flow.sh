@@ -108,7 +108,8 @@ for netlist in "$here"/*.blif; do
         make_synthesised "$name" and "-g AND,OR"
         make_synthesised "$name" lut "-lut 3"
     fi
-    if have berkeley-abc; then make_by_abc "$name"; fi
+    # ABC 1.01 ends by an assertion on a netlist without a definition.
+    if have berkeley-abc && grep -q '^\.names' "$netlist"; then make_by_abc "$name"; fi
 done
 for layout in "$here"/layouts/*.gds; do
     name=$(basename "$layout" .gds)
