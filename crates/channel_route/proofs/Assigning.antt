@@ -5,7 +5,7 @@ use Rattle.std.proofs.lemmas.Bool.{cases_lt, cases_eq, eq-eqb, ne_eqb, eqb-true,
 use Rattle.std.proofs.lemmas.List.{take_all, take_more, get_or-set_same, get_or-set_other, length-set, get_or_default}
 use Rattle.rowed.specs.declared.wire.Wire.{Wire}
 use Rattle.rowed.specs.Sorting.{Rising, EachPair}
-use Rattle.rowed.specs.SortingLaws.{pair_at, passing-cons}
+use Rattle.rowed.proofs.SortingLaws.{pair_at, passing-cons}
 use Rattle.channel_route.specs.declared.order.Numbered.{Numbered}
 use Rattle.channel_route.specs.Numbered.{low_of}
 use Rattle.channel_route.specs.Crossing.{low, high, crosses, crossing, IsOver}

@@ -6,7 +6,7 @@ use Rattle.std.specs.Ordering.{nat_cmp}
 use Rattle.std.proofs.lemmas.List.{get_or_default, take_all}
 use Rattle.rowed.specs.declared.wire.Wire.{Wire}
 use Rattle.rowed.specs.Sorting.{by_key, put_by, Rising, EachPair}
-use Rattle.rowed.specs.SortingLaws.{by_key_from_sort}
+use Rattle.rowed.proofs.SortingLaws.{by_key_from_sort}
 use Rattle.channel_route.specs.declared.order.Numbered.{Numbered}
 use Rattle.channel_route.specs.Numbered.{numbered, low_of, ordered}
 use Rattle.channel_route.specs.Crossing.{low}

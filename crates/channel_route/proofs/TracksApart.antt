@@ -5,7 +5,7 @@ use Rattle.std.proofs.lemmas.List.Elements.{All-from_recursion, recursion_from_A
 use Rattle.std.proofs.lemmas.Bool.{cases_lt, cases_eq, lt-ltb, le-ltb, leb-true, and_parts}
 use Rattle.rowed.specs.declared.wire.Wire.{Wire}
 use Rattle.rowed.specs.Sorting.{by_key, Rising, EachPair}
-use Rattle.rowed.specs.SortingLaws.{by_key_in_order, by_key_pairs, by_key_length, by_key_passing, all_by_key, rising_from, rising_at, rank_is_place, pair_at}
+use Rattle.rowed.proofs.SortingLaws.{by_key_in_order, by_key_pairs, by_key_length, by_key_passing, all_by_key, rising_from, rising_at, rank_is_place, pair_at}
 use Rattle.channel_route.specs.Crossing.{low, high, crosses, IsDensity, EndsApart, Apart}
 use Rattle.channel_route.specs.Tracks.{lowest_free, ends_after, tracks, last_ends, tracks_used, route_of, column_of, rank, AreTracks}
 use Rattle.std.proofs.lemmas.List.{get_or-map, length-map, get_or_default}

@@ -6,7 +6,7 @@ use Rattle.std.proofs.lemmas.Nat.{div_below}
 use Rattle.std.proofs.Math.Nat.{le-div_iff_mul-le}
 use Rattle.rowed.specs.declared.wire.Wire.{Wire}
 use Rattle.rowed.specs.Sorting.{EachPair}
-use Rattle.rowed.specs.SortingLaws.{distinct_fit}
+use Rattle.rowed.proofs.SortingLaws.{distinct_fit}
 use Rattle.channel_route.specs.Crossing.{low, high, crosses, crossing, IsOver}
 use Rattle.channel_route.specs.ShortWires.{Within, IsShort, FromApart}
 

@@ -16,21 +16,21 @@ use Rattle.rowed.specs.Extent.{widest as widest_span}
 use Rattle.maj_mapping.specs.Plan.{map_net}
 use Rattle.maj_mapping.specs.Few.{few_gates}
 use Rattle.maj_mapping.specs.Keeps.{is_plain, keeps as mapping_keeps}
-use Rattle.level_balance.specs.Counted.{plan_count}
-use Rattle.level_balance.specs.KeptNet.{plan_is_row_net}
-use Rattle.level_balance.specs.SameAnswers.{same_answers}
+use Rattle.level_balance.proofs.Counted.{plan_count}
+use Rattle.level_balance.proofs.KeptNet.{plan_is_row_net}
+use Rattle.level_balance.proofs.SameAnswers.{same_answers}
 use Rattle.row_place.specs.Places.{widest}
-use Rattle.row_place.specs.PlanGiven.{plan_given}
-use Rattle.row_place.specs.PlanLaws.{places_answer}
-use Rattle.row_place.specs.PlanSpans.{widest_is}
+use Rattle.row_place.proofs.PlanGiven.{plan_given}
+use Rattle.row_place.proofs.PlanLaws.{places_answer}
+use Rattle.row_place.proofs.PlanSpans.{widest_is}
 use Rattle.repeater_rows.specs.Repeaters.{repeated, repeated_rows}
-use Rattle.repeater_rows.specs.RowsAboveLaws.{placed_rows_of}
+use Rattle.repeater_rows.proofs.RowsAboveLaws.{placed_rows_of}
 use Rattle.repeater_rows.specs.Passes.{cells_past}
-use Rattle.repeater_rows.specs.KeptLaws.{repeaters_keep}
-use Rattle.repeater_rows.specs.AnswerLaws.{repeaters_answer}
+use Rattle.repeater_rows.proofs.KeptLaws.{repeaters_keep}
+use Rattle.repeater_rows.proofs.AnswerLaws.{repeaters_answer}
 use Rattle.repeater_rows.specs.Inserted.{AreNarrow}
-use Rattle.repeater_rows.specs.InsertedLaws.{repeaters_add, repeaters_narrow}
-use Rattle.repeater_rows.specs.ShortLaws.{repeaters_short}
+use Rattle.repeater_rows.proofs.InsertedLaws.{repeaters_add, repeaters_narrow}
+use Rattle.repeater_rows.proofs.ShortLaws.{repeaters_short}
 use Rattle.cell_library.specs.Library.{LibraryView, IsGiven}
 use Rattle.cell_library.specs.Laws.{IsLibrary}
 use Rattle.cell_library.proofs.PinCounts.{two_reach}

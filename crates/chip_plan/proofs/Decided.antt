@@ -4,7 +4,7 @@ use Rattle.std.proofs.Common.{refl, inl, inr}
 use Rattle.std.proofs.lemmas.Bool.{cases_lt}
 use Rattle.blif_read.specs.Parts.{NetView}
 use Rattle.rowed.specs.PlacedNets.{placed_rows}
-use Rattle.level_balance.specs.Steps.{capped}
+use Rattle.level_balance.specs.Counts.{capped}
 use Rattle.row_place.specs.Places.{widest}
 use Rattle.rowed.specs.Extent.{width_limit, height_limit}
 use Rattle.repeater_rows.specs.Passes.{cells_past}

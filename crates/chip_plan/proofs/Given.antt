@@ -12,8 +12,7 @@ use Rattle.rowed.specs.RowNets.{RowView}
 use Rattle.rowed.specs.PlacedNets.{PlacedView, placed_rows}
 use Rattle.maj_mapping.specs.Plan.{map_net}
 use Rattle.level_balance.specs.Plan.{level_net}
-use Rattle.level_balance.specs.Counts.{cell_count}
-use Rattle.level_balance.specs.Steps.{capped}
+use Rattle.level_balance.specs.Counts.{cell_count, capped}
 use Rattle.level_balance.specs.Passes as level
 use Rattle.level_balance.specs.declared.pass.LevelRefusal.{LevelRefusal}
 use Rattle.level_balance.specs.declared.pass.LevelRefusal.TheVariants as levels

@@ -5,7 +5,7 @@ use Rattle.aq_base.specs.declared.lists.Memory.{Memory as NoMemory}
 use Rattle.circuit.specs.declared.pass.ThenRefusal.{ThenRefusal}
 use Rattle.circuit.specs.declared.pass.ThenRefusal.TheVariants.{First, Second}
 use Rattle.rowed.specs.PlacedNets.{placed_rows}
-use Rattle.level_balance.specs.Steps.{capped}
+use Rattle.level_balance.specs.Counts.{capped}
 use Rattle.level_balance.specs.declared.pass.LevelRefusal.{LevelRefusal}
 use Rattle.level_balance.specs.declared.pass.LevelRefusal.TheVariants as levels
 use Rattle.row_place.specs.Places.{widest}

@@ -2,13 +2,12 @@
 use Rattle.std.proofs.Common.{◌≡◌, ℕ, ◌+◌, ◌<◌, ◌≤◌, Bool, List, length, ap, ◌∙◌, sym, subst, arith}
 use Rattle.circuit.specs.PlainNets.{PlainView, IsPlainNet}
 use Rattle.rowed.specs.declared.row_cell.RowCell.{RowCell}
-use Rattle.rowed.specs.RowNets.{RowView, IsRowNet}
+use Rattle.rowed.specs.RowNets.{RowView}
 use Rattle.level_balance.specs.Plan.{Frame, frame, laid, level_net}
-use Rattle.level_balance.specs.Turns.{laid_by}
-use Rattle.level_balance.specs.Counts.{constants_in, gates_cells, cell_count}
-use Rattle.level_balance.specs.Counted.{plan_count}
-use Rattle.level_balance.specs.KeptNet.{frame_inputs, plan_is_row_net}
-use Rattle.level_balance.specs.Steps.{capped}
+use Rattle.level_balance.specs.Code.Turns.{laid_by}
+use Rattle.level_balance.specs.Counts.{constants_in, gates_cells, cell_count, capped}
+use Rattle.level_balance.proofs.KeptNet.{frame_inputs}
+use Rattle.level_balance.proofs.PlanGiven.{plan_given}
 use Rattle.level_balance.specs.Passes.{IsLevelled}
 
 -- the count from the outline is that of the plan
@@ -41,9 +40,4 @@ pub levelled : (net : PlainView) (three : Bool) (f : Frame) (cells : ℕ) (rows 
 levelled net three f cells rows known e total le laid_is =
     let small = few cells (cell_count net three) le (total_is net three f cells e total) in
     let plan = plan_is net three rows (rows_are net three f rows e laid_is) in
-    record {
-      net_keeps = known;
-      rows_keep = subst IsRowNet (sym plan) (plan_is_row_net net three known (let k = plan_count net three known in omega arith));
-      is_plan = plan;
-      few_cells = small;
-    }
+    subst (IsLevelled net three) (sym plan) (plan_given net three known small)

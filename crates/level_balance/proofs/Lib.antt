@@ -1,10 +1,36 @@
-pub mod Used
-pub mod Laid
-pub mod TreeDepths
-pub mod Linked
-pub mod GateLaid
-pub mod AllLaid
-pub mod Outlined
-pub mod Counting
-pub mod Based
-pub mod Levelled
+mod Grown
+mod Carries
+mod LawOfGates
+mod Trees
+mod LawOfLaying
+mod Puts
+mod Law
+mod Marks
+mod Frames
+mod Tokens
+mod Putting
+mod Standing
+mod FirstAndLast
+mod Filled
+mod Plain
+mod Linear
+mod LinearGates
+mod FilledGates
+mod TotalLaws
+mod Kept
+pub mod KeptNet
+pub mod SameAnswers
+pub mod Counted
+pub mod Narrow
+mod PlanGiven
+mod Worked
+mod Used
+mod Laid
+mod TreeDepths
+mod Linked
+mod GateLaid
+mod AllLaid
+mod Outlined
+mod Counting
+mod Based
+mod Levelled

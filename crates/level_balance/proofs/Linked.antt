@@ -4,8 +4,8 @@ use Rattle.std.specs.List.{AllByRecursion}
 use Rattle.std.proofs.lemmas.Bool.{cases_eq, eq-eqb, ne_eqb}
 use Rattle.std.proofs.lemmas.List.{length-set, get_or-set_same, get_or-set_other, length-replicate}
 use Rattle.level_balance.specs.Uses.{uses_of}
-use Rattle.level_balance.specs.Chained.{Chained, AreLinksFrom}
-use Rattle.level_balance.specs.LawOfGates.{In, from_uses}
+use Rattle.level_balance.specs.Code.Chained.{Chained, AreLinksFrom}
+use Rattle.level_balance.proofs.LawOfGates.{In, from_uses}
 
 -- a chain of higher numbers is not changed by a lower one
 chained_set : (next : List ℕ) (stop at q v : ℕ) (qs : List ℕ) → ((p : ℕ) → In p qs → q < p) → Chained next stop at qs → Chained (set next q v) stop at qs

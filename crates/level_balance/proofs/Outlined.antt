@@ -8,11 +8,11 @@ use Rattle.circuit.specs.declared.gate.Gate.TheVariants as gates
 use Rattle.circuit.specs.PlainNets.{PlainView, is_constant, IsPlainNet}
 use Rattle.level_balance.specs.Uses.{operands, needed, counts, uses_from, uses, use_count}
 use Rattle.level_balance.specs.Levels.{depth, greatest, level_of, levels_from, levels, output_row, user_rows_from, user_rows}
-use Rattle.level_balance.specs.Arrays.{greatest_by, level_by, levels_by}
-use Rattle.level_balance.specs.Chained.{AreLinks}
+use Rattle.level_balance.specs.Code.Arrays.{greatest_by, level_by, levels_by}
+use Rattle.level_balance.specs.Code.Chained.{AreLinks}
 use Rattle.level_balance.specs.Plan.{Frame, frame}
-use Rattle.level_balance.specs.Marks.{AllIn}
-use Rattle.level_balance.specs.Plain.{is_plain}
+use Rattle.level_balance.proofs.Marks.{AllIn}
+use Rattle.level_balance.proofs.Plain.{is_plain}
 
 -- the numbers of uses agree at these gates
 abbrev FansAre : List ℕ → List ℕ → List ℕ → Type 0

@@ -1,31 +1,22 @@
 -- What the pass of levels gives, and which nets it refuses.
 use Rattle.std.specs.Prelude.{◌≡◌, ◌<◌, ◌≤◌, Bool, length}
-use Rattle.std.proofs.Common.{sym, subst}
 use Rattle.circuit.specs.PlainNets.{PlainView, IsPlainNet, IsAnswer as IsGatesAnswer}
 use Rattle.circuit.specs.SameAnswers.{SameAnswers}
 use Rattle.rowed.specs.RowNets.{RowView, IsRowNet, IsAnswer}
 use Rattle.level_balance.specs.Plan.{level_net}
-use Rattle.level_balance.specs.Counts.{cell_count}
-use Rattle.level_balance.specs.Steps.{capped}
-use Rattle.level_balance.specs.SameAnswers.{same_answers}
+use Rattle.level_balance.specs.Counts.{cell_count, capped}
 use Rattle.level_balance.specs.declared.pass.LevelRefusal.{LevelRefusal}
 use Rattle.level_balance.specs.declared.pass.LevelRefusal.TheVariants.{TooManyCells, Memory}
 
--- these are the rows of the net's plan, which has at most 2,000,000 cells
+-- these are the rows of the net's plan, which has at most 2,000,000 cells; they answer every word as the gates do
 pub record IsLevelled (net : PlainView) (three : Bool) (rows : RowView) : Type 0 where
   pub net_keeps : IsPlainNet net
   pub rows_keep : IsRowNet rows
   pub is_plan : rows ≡ level_net net three
   pub few_cells : cell_count net three ≤ 2000000
+  pub same : SameAnswers net.inputs rows.inputs (length net.outputs) rows.outputs (IsGatesAnswer net) (IsAnswer rows)
 
 -- the plan has more cells, and the refusal says how many; 2^64 - 1 where there are more
 abbrev pub IsTooLarge : PlainView → Bool → LevelRefusal → Type 0
 IsTooLarge net three (TooManyCells cells) = (2000000 < cell_count net three) × (cells ≡ capped (cell_count net three))
 IsTooLarge net three Memory = ⊥
-
--- the law of the pass
-pub keeps : (net : PlainView) (three : Bool) (rows : RowView) → IsLevelled net three rows
-    → SameAnswers net.inputs rows.inputs (length net.outputs) rows.outputs (IsGatesAnswer net) (IsAnswer rows)
-keeps net three rows given =
-    subst (λ (r : RowView). SameAnswers net.inputs r.inputs (length net.outputs) r.outputs (IsGatesAnswer net) (IsAnswer r)) (sym given.is_plan)
-    (same_answers net three given.net_keeps (subst IsRowNet given.is_plan given.rows_keep))

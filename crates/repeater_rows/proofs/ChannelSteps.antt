@@ -9,14 +9,14 @@ use Rattle.rowed.specs.declared.row_cell.RowCell.{RowCell}
 use Rattle.rowed.specs.Channels.{move}
 use Rattle.rowed.specs.Numbers.{place_of, IsOrder}
 use Rattle.repeater_rows.specs.Rounds.{is_far, round, windows, window_size}
-use Rattle.repeater_rows.specs.RoundsLaws.{round_order, round_same, length_same}
+use Rattle.repeater_rows.proofs.RoundsLaws.{round_order, round_same, length_same}
 use Rattle.repeater_rows.specs.Local.{UnwiredRise}
-use Rattle.repeater_rows.specs.LocalLaws.{round_rise}
-use Rattle.repeater_rows.specs.PlaceLaws.{times, carried_has, stands_in}
+use Rattle.repeater_rows.proofs.LocalLaws.{round_rise}
+use Rattle.repeater_rows.proofs.PlaceLaws.{times, carried_has, stands_in}
 use Rattle.repeater_rows.specs.Repeaters.{no_source, carrier_slots, carried, source_above, cell_from, cells_from}
-use Rattle.repeater_rows.specs.Reading.{far_among, source_in}
-use Rattle.repeater_rows.specs.Looking.{ordered_from}
-use Rattle.repeater_rows.specs.Opening.{AreDestinations, raised, at_slot}
+use Rattle.repeater_rows.specs.Code.Reading.{far_among, source_in}
+use Rattle.repeater_rows.specs.Code.Looking.{ordered_from}
+use Rattle.repeater_rows.specs.Code.Opening.{AreDestinations, raised, at_slot}
 use Rattle.repeater_rows.proofs.WindowOrder.{windows_enough}
 use Rattle.repeater_rows.proofs.Lists.{drop_0}
 

@@ -5,14 +5,14 @@ use Rattle.circuit.specs.Gates.{valuation}
 use Rattle.std.proofs.lemmas.List.{length-map}
 use Rattle.rowed.specs.Channels.{move}
 use Rattle.rowed.specs.Sorting.{passing}
-use Rattle.rowed.specs.SortingLaws.{passing-yes, passing-no}
+use Rattle.rowed.proofs.SortingLaws.{passing-yes, passing-no}
 use Rattle.repeater_rows.specs.Rounds.{is_far, round, rounds, all_rounds, window_size}
-use Rattle.repeater_rows.specs.RoundsLaws.{round_same}
+use Rattle.repeater_rows.proofs.RoundsLaws.{round_same}
 use Rattle.repeater_rows.specs.Repeaters.{carrier_slots, carried}
 use Rattle.repeater_rows.specs.Passes.{cell_limit}
-use Rattle.repeater_rows.specs.Opening.{AreDestinations}
-use Rattle.repeater_rows.specs.Sizes.{past, widths, AreWithin, ArePast}
-use Rattle.repeater_rows.specs.Counts.{rounds_left, AreCounted}
+use Rattle.repeater_rows.specs.Code.Opening.{AreDestinations}
+use Rattle.repeater_rows.specs.Code.Sizes.{past, widths, AreWithin, ArePast}
+use Rattle.repeater_rows.specs.Code.Counts.{rounds_left, AreCounted}
 use Rattle.repeater_rows.specs.declared.pass.RepeatRefusal.{RepeatRefusal}
 use Rattle.repeater_rows.specs.declared.pass.RepeatRefusal.TheVariants.{TooManyCells, TooTall, Memory}
 use Rattle.repeater_rows.proofs.WindowOrder.{carriers_count}

@@ -8,11 +8,11 @@ use Rattle.rowed.specs.Channels.{channel_links, channel_slots}
 use Rattle.repeater_rows.specs.Destinations.{destinations, is_end}
 use Rattle.repeater_rows.specs.Rounds.{all_rounds}
 use Rattle.repeater_rows.specs.Repeaters.{added_rows, carried, source_above, source_to, last_source, cells_from, channel_rounds, rows_above, repeated_rows}
-use Rattle.repeater_rows.specs.AddedLaws.{moved_length}
+use Rattle.repeater_rows.proofs.AddedLaws.{moved_length}
 use Rattle.rowed.specs.PlacedNets.{row_of}
 use Rattle.repeater_rows.specs.Passes.{cell_limit, cells_past}
-use Rattle.repeater_rows.specs.Sizes.{past, sizes_of, widths, AreWithin, ArePast, IsPastLimit}
-use Rattle.repeater_rows.specs.Counts.{channel_sizes}
+use Rattle.repeater_rows.specs.Code.Sizes.{past, sizes_of, widths, AreWithin, ArePast, IsPastLimit}
+use Rattle.repeater_rows.specs.Code.Counts.{channel_sizes}
 use Rattle.repeater_rows.specs.declared.pass.RepeatRefusal.{RepeatRefusal}
 use Rattle.repeater_rows.specs.declared.pass.RepeatRefusal.TheVariants.{TooManyCells, TooTall, Memory}
 use Rattle.repeater_rows.proofs.Lists.{drop_0}

@@ -1,12 +1,31 @@
-pub mod Lists
-pub mod Reading
-pub mod WindowOrder
-pub mod LookSteps
-pub mod Opened
-pub mod ChannelSteps
-pub mod RoundsLeft
-pub mod Counting
-pub mod Neighbours
-pub mod CountingRows
-pub mod Making
-pub mod Given
+mod InversionLaws
+mod RoundsLaws
+mod OrderLaws
+mod LocalLaws
+mod RowsAbove
+pub mod RowsAboveLaws
+mod PinLaws
+mod ChannelLaws
+mod PlaceLaws
+pub mod ShortLaws
+mod Sources
+mod WireLaws
+mod AddedLaws
+pub mod KeptLaws
+pub mod AnswerLaws
+pub mod InsertedLaws
+mod NeighbourLaws
+mod Makes
+mod Worked
+mod Lists
+mod Reading
+mod WindowOrder
+mod LookSteps
+mod Opened
+mod ChannelSteps
+mod RoundsLeft
+mod Counting
+mod Neighbours
+mod CountingRows
+mod Making
+mod Given

@@ -3,11 +3,11 @@ use Rattle.std.proofs.Common.{◌≡◌, ℕ, zero, suc, ◌+◌, ◌-◌, ◌*�
 use Rattle.std.proofs.lemmas.List.{take-append-drop, length-append, length-drop, length-take, drop-drop, get_or-drop, get_or-take}
 use Rattle.std.proofs.Math.Nat.{div-add-mod, mul_comm}
 use Rattle.rowed.specs.Sorting.{passing}
-use Rattle.rowed.specs.SortingLaws.{by_key_passing, by_key_length}
+use Rattle.rowed.proofs.SortingLaws.{by_key_passing, by_key_length}
 use Rattle.repeater_rows.specs.Rounds.{in_order, windows}
 use Rattle.repeater_rows.specs.Repeaters.{carrier_slots}
 use Rattle.repeater_rows.specs.Local.{UnwiredRise}
-use Rattle.repeater_rows.specs.Looking.{sorted_at, ordered_from, IsLooked}
+use Rattle.repeater_rows.specs.Code.Looking.{sorted_at, ordered_from, IsLooked}
 use Rattle.repeater_rows.proofs.WindowOrder.{cut_front, cut_back, windows_skip, windows_first, windows_up, carriers_append, carriers_count, carriers_none, none_carried, NoneWired, FirstAt, first_carrier, none_before, some_passing, rise_up, rise_front, rise_back}
 use Rattle.repeater_rows.proofs.Lists.{drop_0}
 

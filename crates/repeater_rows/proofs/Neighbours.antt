@@ -6,8 +6,8 @@ use Rattle.rowed.specs.declared.row_cell.RowCell.{RowCell}
 use Rattle.rowed.specs.Slots.{EachSeated, slot_limit}
 use Rattle.rowed.specs.PlacedNets.{PlacedRow, PlacedView, IsPlaced, paired, placed_rows}
 use Rattle.rowed.specs.PlacedNets.{row_of}
-use Rattle.repeater_rows.specs.NeighbourLaws.{seated_at, channel_at, channel_fits, slots_below}
-use Rattle.repeater_rows.specs.Opening.{AreNeighbours}
+use Rattle.repeater_rows.proofs.NeighbourLaws.{seated_at, channel_at, channel_fits, slots_below}
+use Rattle.repeater_rows.specs.Code.Opening.{AreNeighbours}
 use Rattle.repeater_rows.proofs.Lists.{drop_0}
 
 pub moved_two : (P : PlacedRow → PlacedRow → Type 0) (a b c d : PlacedRow) → a ≡ c → b ≡ d → P a b → P c d

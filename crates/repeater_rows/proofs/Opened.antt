@@ -8,15 +8,15 @@ use Rattle.rowed.specs.declared.source.Source.{Source}
 use Rattle.rowed.specs.PlacedNets.{PlacedRow}
 use Rattle.rowed.specs.Channels.{Link, channel_links, channel_slots}
 use Rattle.rowed.specs.Numbers.{numbers, IsOrder}
-use Rattle.rowed.specs.NumbersLaws.{length-numbers}
+use Rattle.rowed.proofs.NumbersLaws.{length-numbers}
 use Rattle.repeater_rows.specs.Destinations.{destinations, end_from, is_end, completed}
 use Rattle.repeater_rows.specs.Repeaters.{no_source, source_to, carrier_slots}
 use Rattle.repeater_rows.specs.Local.{UnwiredRise}
-use Rattle.repeater_rows.specs.LocalLaws.{destinations_rise}
-use Rattle.repeater_rows.specs.OrderLaws.{destinations_length, destinations_order}
-use Rattle.repeater_rows.specs.WireLaws.{wired_below}
-use Rattle.repeater_rows.specs.Reading.{AreOf, spare_from, source_in}
-use Rattle.repeater_rows.specs.Opening.{AreNeighbours, AreDestinations}
+use Rattle.repeater_rows.proofs.LocalLaws.{destinations_rise}
+use Rattle.repeater_rows.proofs.OrderLaws.{destinations_length, destinations_order}
+use Rattle.repeater_rows.proofs.WireLaws.{wired_below}
+use Rattle.repeater_rows.specs.Code.Reading.{AreOf, spare_from, source_in}
+use Rattle.repeater_rows.specs.Code.Opening.{AreNeighbours, AreDestinations}
 use Rattle.repeater_rows.proofs.Lists.{same_functions}
 
 -- an array of a function's values, and what it says past its end

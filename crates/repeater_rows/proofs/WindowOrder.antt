@@ -11,12 +11,12 @@ use Rattle.std.proofs.lemmas.List.Sums.{length-filter}
 use Rattle.std.proofs.lemmas.List.Sorted.{sum_by-IsPermutation}
 use Rattle.rowed.specs.Sorting.{NotFalling, passing}
 use Rattle.rowed.specs.Numbers.{Same}
-use Rattle.rowed.specs.SortingLaws.{by_key_is, by_key_in_order, by_key_same_key, same_in_order, not_falling_from_sort, passing-yes, passing-no}
+use Rattle.rowed.proofs.SortingLaws.{by_key_is, by_key_in_order, by_key_same_key, same_in_order, not_falling_from_sort, passing-yes, passing-no}
 use Rattle.repeater_rows.specs.Rounds.{in_order, windows}
 use Rattle.repeater_rows.specs.Repeaters.{carrier_slots}
 use Rattle.repeater_rows.specs.Local.{unwired, UnwiredRise}
-use Rattle.repeater_rows.specs.RoundsLaws.{same_of_key}
-use Rattle.repeater_rows.specs.Looking.{sorted_at}
+use Rattle.repeater_rows.proofs.RoundsLaws.{same_of_key}
+use Rattle.repeater_rows.specs.Code.Looking.{sorted_at}
 
 -- lists cut at a length
 pub cut_front : {X : Type 0} (n : ℕ) (xs ys : List X) → length xs ≡ n → take n (xs ++ ys) ≡ xs

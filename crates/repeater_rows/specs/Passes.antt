@@ -1,34 +1,36 @@
 -- What the pass of repeaters gives, and which nets it refuses.
 use Rattle.std.specs.Prelude.{◌≡◌, ℕ, ◌+◌, ◌-◌, ◌*◌, ◌<◌, ◌≤◌, List, [], ◌∷◌, length, Option, Some, None, cond, nat_le}
-use Rattle.std.proofs.Common.{sym, subst}
 use Rattle.circuit.specs.SameAnswers.{SameAnswers}
 use Rattle.rowed.specs.RowNets.{IsAnswer}
 use Rattle.rowed.specs.PlacedNets.{PlacedRow, PlacedView, IsPlaced, placed_rows}
 pub use Rattle.rowed.specs.Extent.{height_limit}
 use Rattle.repeater_rows.specs.Repeaters.{repeated, repeated_rows}
-use Rattle.repeater_rows.specs.AnswerLaws.{repeaters_answer}
 use Rattle.repeater_rows.specs.declared.pass.RepeatRefusal.{RepeatRefusal}
 use Rattle.repeater_rows.specs.declared.pass.RepeatRefusal.TheVariants.{TooManyCells, TooTall, Memory}
 
+-- how many cells a chip may have
 abbrev pub cell_limit : ℕ
 cell_limit = 2000000
 
 -- the cells up to the end of the first row that passes the limit, so many standing in the rows before
 abbrev pub cells_past : ℕ → List PlacedRow → Option ℕ
 cells_past before [] = None
-cells_past before (row ∷ rows) = let now = before + length row.cells in cond (nat_le now cell_limit) (cells_past now rows) (Some now)
+cells_past before (row ∷ rows) =
+    let now = before + length row.cells in
+    cond (nat_le now cell_limit) (cells_past now rows) (Some now)
 
 -- the height of rows that are each so high, and of channels that are each at most so high
 abbrev pub height_of : ℕ → ℕ → ℕ → ℕ
 height_of height channel rows = rows * height + (rows - 1) * channel
 
--- this is the plan of the net's repeaters, within both limits
+-- this is the plan of the net's repeaters, within both limits; it answers every word as the net does
 pub record AreRepeated (p : PlacedView) (reach height channel : ℕ) (out : PlacedView) : Type 0 where
   pub net_keeps : IsPlaced p
   pub out_keeps : IsPlaced out
   pub is_plan : out ≡ repeated p reach
   pub few_cells : cells_past 0 (placed_rows out) ≡ None
   pub not_tall : height_of height channel (length out.net.rows) ≤ height_limit
+  pub same : SameAnswers p.net.inputs out.net.inputs p.net.outputs out.net.outputs (IsAnswer p.net) (IsAnswer out.net)
 
 -- the plan has too many cells, or else is too tall, and the refusal has the number
 abbrev pub IsTooLarge : PlacedView → ℕ → ℕ → ℕ → RepeatRefusal → Type 0
@@ -38,10 +40,3 @@ IsTooLarge p reach height channel (TooTall rows) =
     × (height_limit < height_of height channel rows)
     × (rows ≡ length (repeated_rows reach (placed_rows p)))
 IsTooLarge p reach height channel Memory = ⊥
-
--- the law of the pass
-pub keeps : (p : PlacedView) (reach height channel : ℕ) (out : PlacedView) → AreRepeated p reach height channel out
-    → SameAnswers p.net.inputs out.net.inputs p.net.outputs out.net.outputs (IsAnswer p.net) (IsAnswer out.net)
-keeps p reach height channel out given =
-    subst (λ (q : PlacedView). SameAnswers p.net.inputs q.net.inputs p.net.outputs q.net.outputs (IsAnswer p.net) (IsAnswer q.net)) (sym given.is_plan)
-    (repeaters_answer p reach given.net_keeps (subst IsPlaced given.is_plan given.out_keeps))

@@ -9,8 +9,8 @@ ghost use Rattle.rowed.specs.PlacedNets.{row_of};
 ghost use Rattle.repeater_rows.specs.Destinations.{destinations, is_end};
 ghost use Rattle.repeater_rows.specs.Rounds.{is_far, round, window_size};
 ghost use Rattle.repeater_rows.specs.Repeaters.{source_to, added, source_above, cells_from};
-ghost use Rattle.repeater_rows.specs.Reading.{source_in};
-ghost use Rattle.repeater_rows.specs.Opening.{AreNeighbours, AreDestinations, at_slot};
+ghost use Rattle.repeater_rows.specs.Code.Reading.{source_in};
+ghost use Rattle.repeater_rows.specs.Code.Opening.{AreNeighbours, AreDestinations, at_slot};
 
 use crate::cells::{buffers, cell_from, raise};
 use crate::destinations::{any_far, carried, carriers, completed, copy_of, spare_slots};

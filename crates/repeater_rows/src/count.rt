@@ -5,10 +5,10 @@ ghost use Rattle.rowed.specs.PlacedNets.{IsPlaced, placed_rows};
 ghost use Rattle.repeater_rows.specs.Rounds.{all_rounds};
 ghost use Rattle.repeater_rows.specs.Repeaters.{repeated_rows};
 ghost use Rattle.rowed.specs.PlacedNets.{row_of};
-ghost use Rattle.repeater_rows.specs.Counts.{channel_sizes};
+ghost use Rattle.repeater_rows.specs.Code.Counts.{channel_sizes};
 ghost use Rattle.repeater_rows.specs.Passes.{cell_limit, cells_past};
-ghost use Rattle.repeater_rows.specs.Opening.{AreDestinations};
-ghost use Rattle.repeater_rows.specs.Sizes.{AreWithin, ArePast, IsPastLimit, widths};
+ghost use Rattle.repeater_rows.specs.Code.Opening.{AreDestinations};
+ghost use Rattle.repeater_rows.specs.Code.Sizes.{AreWithin, ArePast, IsPastLimit, widths};
 
 use crate::channel::{Channel, cells_at, open_at};
 use crate::pass::RepeatRefusal;

@@ -1,20 +1,21 @@
 // The laws of the plan of repeaters.
-ghost use Rattle.std.specs.Prelude.{◌≡◌, ℕ, ◌*◌, ◌≤◌, ◌<◌, ◌⊎◌, [], ◌∷◌, Bool, true, not, List, length, take, drop, replicate, None};
+ghost use Rattle.std.specs.Prelude.{◌≡◌, ℕ, ◌+◌, ◌*◌, ◌≤◌, ◌<◌, ◌⊎◌, [], ◌∷◌, Bool, true, not, List, length, take, drop, replicate, map, None};
 ghost use Rattle.std.specs.List.{AllByRecursion, sum};
 ghost use Rattle.circuit.specs.SameAnswers.{SameAnswers};
 ghost use Rattle.rowed.specs.RowNets.{IsAnswer};
-ghost use Rattle.rowed.specs.PlacedNets.{PlacedView, IsPlaced, placed_rows};
+ghost use Rattle.rowed.specs.PlacedNets.{PlacedView, IsPlaced, placed_rows, row_of};
 ghost use Rattle.rowed.specs.Channels.{Link, channel_links, channel_slots};
 ghost use Rattle.rowed.specs.Numbers.{IsOrder};
 ghost use Rattle.repeater_rows.specs.Destinations.{destinations, is_end, IsChannel};
 ghost use Rattle.repeater_rows.specs.Rounds.{AreRounds, AreOrders, all_rounds, round, window_size, in_order};
-ghost use Rattle.repeater_rows.specs.Repeaters.{channel_rounds, repeated_rows, repeated, buffer_from};
-ghost use Rattle.repeater_rows.specs.Passes.{cells_past};
+ghost use Rattle.repeater_rows.specs.Repeaters.{channel_rounds, repeated_rows, repeated, buffer_from, carrier_slots};
+ghost use Rattle.repeater_rows.specs.Passes.{AreRepeated, IsTooLarge, cells_past};
 ghost use Rattle.repeater_rows.specs.Inversions.{inversions};
 ghost use Rattle.repeater_rows.specs.Local.{UnwiredRise};
 ghost use Rattle.rowed.specs.Short.{AreShort};
 ghost use Rattle.repeater_rows.specs.Inserted.{AreInserted, AreNarrow};
 ghost use Rattle.repeater_rows.specs.Examples as examples;
+ghost use Rattle.repeater_rows.specs.declared.pass.RepeatRefusal.{RepeatRefusal};
 
 /// The destinations of a channel are an order of its slots.
 pub fn destinations_order()
@@ -36,6 +37,19 @@ pub fn rounds_end()
         ⊎ (inversions (round (window_size reach) (not first) (round (window_size reach) first to)) < inversions to) }
     ensures orders { (reach : ℕ) (wired : ℕ → Bool) (to : List ℕ) → IsOrder to
         → AreOrders (length to) (all_rounds reach wired to) }
+{}
+
+/// In a placed net the rounds of each channel end by themselves, after at most as many as the square of its slots, which
+/// begin one wire at most and end one at most.
+pub fn channels_end()
+    ensures channel { (p : PlacedView) (k : ℕ) → IsPlaced p → k + 1 < length p.net.rows
+        → IsChannel (channel_links (row_of p k) (row_of p (k + 1))) (channel_slots (row_of p k) (row_of p (k + 1))) }
+    ensures end { (p : PlacedView) (reach k : ℕ) → IsPlaced p → 2 ≤ reach → k + 1 < length p.net.rows
+        → AreRounds reach (is_end (channel_links (row_of p k) (row_of p (k + 1)))) true
+        (destinations (channel_links (row_of p k) (row_of p (k + 1))) (channel_slots (row_of p k) (row_of p (k + 1))))
+        (channel_rounds reach (row_of p k) (row_of p (k + 1))) }
+    ensures few { (p : PlacedView) (reach k : ℕ) → length (channel_rounds reach (row_of p k) (row_of p (k + 1)))
+        ≤ channel_slots (row_of p k) (row_of p (k + 1)) * channel_slots (row_of p k) (row_of p (k + 1)) }
 {}
 
 /// The destinations without a wire rise from slot to slot, in the destinations of a channel and after each round. So a
@@ -60,6 +74,13 @@ pub fn repeaters_answer()
     ensures { (p : PlacedView) (reach : ℕ) → IsPlaced p → IsPlaced (repeated p reach)
         → SameAnswers p.net.inputs (repeated p reach).net.inputs p.net.outputs (repeated p reach).net.outputs
         (IsAnswer p.net) (IsAnswer (repeated p reach).net) }
+{}
+
+/// The pass may give the plan of a placed net wherever it may refuse nothing but want of memory.
+pub fn repeaters_given()
+    ensures { (p : PlacedView) (reach height channel : ℕ) → IsPlaced p → 2 ≤ reach
+        → ((refusal : RepeatRefusal) → IsTooLarge p reach height channel refusal → ⊥)
+        → AreRepeated p reach height channel (repeated p reach) }
 {}
 
 /// Every wire of the plan moves fewer slots than the reach.
@@ -99,5 +120,8 @@ pub fn worked_rows()
     ensures four_start { destinations examples.four_wires 8 ≡ 7 ∷ 5 ∷ 1 ∷ 3 ∷ 4 ∷ 6 ∷ 0 ∷ 2 ∷ [] }
     ensures four_rounds { all_rounds 4 (is_end examples.four_wires) (destinations examples.four_wires 8)
         ≡ (1 ∷ 3 ∷ 5 ∷ 7 ∷ 0 ∷ 2 ∷ 4 ∷ 6 ∷ []) ∷ (1 ∷ 3 ∷ 0 ∷ 2 ∷ 5 ∷ 7 ∷ 4 ∷ 6 ∷ []) ∷ [] }
+    ensures four_carried { map (carrier_slots (is_end examples.four_wires) 0)
+        (all_rounds 4 (is_end examples.four_wires) (destinations examples.four_wires 8))
+        ≡ (2 ∷ 3 ∷ 4 ∷ 5 ∷ []) ∷ (2 ∷ 3 ∷ 4 ∷ 5 ∷ []) ∷ [] }
     ensures and_within { repeated examples.and_net 14 ≡ examples.and_net }
 {}

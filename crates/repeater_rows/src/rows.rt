@@ -4,9 +4,9 @@ ghost use Rattle.circuit.specs.Gates.{valuation};
 ghost use Rattle.rowed.specs.PlacedNets.{PlacedRow, IsPlaced, placed_rows};
 ghost use Rattle.repeater_rows.specs.Rounds.{all_rounds};
 ghost use Rattle.repeater_rows.specs.Repeaters.{added_rows, last_source, channel_rounds, channel_rows, repeated_rows};
-ghost use Rattle.repeater_rows.specs.Reading.{source_in};
+ghost use Rattle.repeater_rows.specs.Code.Reading.{source_in};
 ghost use Rattle.rowed.specs.PlacedNets.{row_of};
-ghost use Rattle.repeater_rows.specs.Opening.{AreDestinations};
+ghost use Rattle.repeater_rows.specs.Code.Opening.{AreDestinations};
 
 use crate::channel::{Channel, cells_at, open_at, slots_at};
 use aq_base::{List, Memory};

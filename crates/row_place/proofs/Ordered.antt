@@ -7,14 +7,14 @@ use Rattle.std.proofs.lemmas.Option.{slice_get-get_or}
 use Rattle.rowed.specs.declared.source.Source.{Source}
 use Rattle.rowed.specs.declared.row_cell.RowCell.{RowCell}
 use Rattle.rowed.specs.Sorting.{by_key, put_by}
-use Rattle.rowed.specs.SortingLaws.{by_key_all}
+use Rattle.rowed.proofs.SortingLaws.{by_key_all}
 use Rattle.rowed.specs.Numbers.{numbers}
-use Rattle.rowed.specs.NumbersLaws.{length-by_key_numbers}
+use Rattle.rowed.proofs.NumbersLaws.{length-by_key_numbers}
 use Rattle.rowed.specs.Slots.{slot_limit}
 use Rattle.row_place.specs.Keys.{key}
 use Rattle.row_place.specs.Places.{picked, and_cell, slots_in}
-use Rattle.row_place.specs.PlanSpans.{picked_all}
-use Rattle.row_place.specs.Arrays.{moved_cell}
+use Rattle.row_place.proofs.PlanSpans.{picked_all}
+use Rattle.row_place.specs.Code.Arrays.{moved_cell}
 use Rattle.row_place.proofs.Inverted.{numbers_below}
 
 -- sorting by the list of keys is sorting by the plan's keys

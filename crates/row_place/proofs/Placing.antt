@@ -7,9 +7,9 @@ use Rattle.rowed.specs.RowNets.{RowView, IsRowNet}
 use Rattle.rowed.specs.PlacedNets.{PlacedView}
 use Rattle.rowed.specs.Slots.{slot_limit}
 use Rattle.row_place.specs.Places.{place, place_rows, no_order, slots_in, widest}
-use Rattle.row_place.specs.Arrays.{cells_of, slots_of}
+use Rattle.row_place.specs.Code.Arrays.{cells_of, slots_of}
 use Rattle.row_place.specs.Passes.{width_limit, ArePlaces}
-use Rattle.row_place.specs.PlanGiven.{plan_given}
+use Rattle.row_place.proofs.PlanGiven.{plan_given}
 
 pub few_cells : (rows : List (List RowCell)) → ((r : ℕ) → length (get_or rows r []) < 2 ^ 32) → AllByRecursion (λ row. length row < 2 ^ 32) rows
 few_cells [] few = tt

@@ -1,14 +1,7 @@
 pub mod Keys
 pub mod Places
 pub mod Passes
-pub mod Arrays
 pub mod Orders
 pub mod Spans
-pub mod PlanRows
-pub mod Reordered
-pub mod PlanKeeps
-pub mod PlanAnswers
-pub mod PlanSpans
-pub mod PlanLaws
 pub mod Examples
-pub mod PlanGiven
+pub mod Code

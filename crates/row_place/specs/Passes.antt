@@ -1,30 +1,24 @@
 -- What the pass of places gives, and which nets it refuses.
 use Rattle.std.specs.Prelude.{◌≡◌, ℕ, ◌<◌, ◌≤◌, ◌*◌}
-use Rattle.std.proofs.Common.{sym, subst}
 use Rattle.circuit.specs.SameAnswers.{SameAnswers}
 use Rattle.rowed.specs.RowNets.{RowView, IsRowNet, IsAnswer}
 use Rattle.rowed.specs.PlacedNets.{PlacedView, IsPlaced}
 pub use Rattle.rowed.specs.Extent.{width_limit}
 use Rattle.row_place.specs.Places.{place, widest}
-use Rattle.row_place.specs.PlanLaws.{places_answer}
 use Rattle.row_place.specs.declared.pass.PlaceRefusal.{PlaceRefusal}
 use Rattle.row_place.specs.declared.pass.PlaceRefusal.TheVariants.{TooWide, Memory}
 
--- this is the plan of the net's places, and no row is too wide for slots of this width in nanometres
+-- this is the plan of the net's places, and no row is too wide for slots of this width in nanometres; it answers every
+-- word as the net does
 pub record ArePlaces (net : RowView) (width : ℕ) (placed : PlacedView) : Type 0 where
   pub net_keeps : IsRowNet net
   pub placed_keeps : IsPlaced placed
   pub is_plan : placed ≡ place net
   pub within : widest net.rows * width ≤ width_limit
+  pub same : SameAnswers net.inputs placed.net.inputs net.outputs placed.net.outputs
+      (IsAnswer net) (IsAnswer placed.net)
 
 -- some row is too wide, and the refusal says the greatest span
 abbrev pub IsTooWide : RowView → ℕ → PlaceRefusal → Type 0
 IsTooWide net width (TooWide span) = (width_limit < widest net.rows * width) × (span ≡ widest net.rows)
 IsTooWide net width Memory = ⊥
-
--- the law of the pass
-pub keeps : (net : RowView) (width : ℕ) (placed : PlacedView) → ArePlaces net width placed
-    → SameAnswers net.inputs placed.net.inputs net.outputs placed.net.outputs (IsAnswer net) (IsAnswer placed.net)
-keeps net width placed given =
-    subst (λ (p : PlacedView). SameAnswers net.inputs p.net.inputs net.outputs p.net.outputs (IsAnswer net) (IsAnswer p.net)) (sym given.is_plan)
-    (places_answer net given.net_keeps)

@@ -12,5 +12,5 @@ mod spans;
 #[cfg(test)]
 mod tests;
 
-pub use laws::{places_answer, places_keep, places_rows, places_span, worked_places};
+pub use laws::{places_answer, places_given, places_keep, places_rows, places_span, worked_places};
 pub use pass::{PlacePass, PlaceRefusal};

@@ -1,14 +1,10 @@
 pub mod RowCells
 pub mod RowNets
-pub mod RowByRow
-pub mod RowAnswers
 pub mod Slots
 pub mod PlacedNets
 pub mod Channels
 pub mod Short
 pub mod Extent
 pub mod Sorting
-pub mod SortingLaws
 pub mod Numbers
-pub mod NumbersLaws
-pub mod TestedNets
+pub mod Code

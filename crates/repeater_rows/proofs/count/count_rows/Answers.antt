@@ -1,6 +1,6 @@
 use Rattle.std.proofs.Common.{rules, arith, refl, ◌≡◌, ◌<◌, ◌+◌, ◌-◌, ℕ, length, subst}
-use Rattle.repeater_rows.specs.Sizes.{AreWithin, ArePast}
-use Rattle.repeater_rows.specs.Counts.{channel_sizes}
+use Rattle.repeater_rows.specs.Code.Sizes.{AreWithin, ArePast}
+use Rattle.repeater_rows.specs.Code.Counts.{channel_sizes}
 use Rattle.rowed.specs.PlacedNets.{row_of}
 use Rattle.repeater_rows.proofs.CountingRows.{AreUpTo, row_size, up_to_next, past_at, up_to_last, past_in_first}
 use Rattle.repeater_rows.proofs.count.count_rows.Goals as goal

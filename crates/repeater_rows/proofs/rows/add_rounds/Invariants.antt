@@ -2,9 +2,9 @@ use Rattle.std.proofs.Common.{◌≡◌, ◌++◌, length}
 use Rattle.circuit.specs.Gates.{valuation}
 use Rattle.repeater_rows.specs.Rounds.{all_rounds}
 use Rattle.repeater_rows.specs.Repeaters.{added_rows, last_source}
-use Rattle.repeater_rows.specs.Reading.{source_in}
-use Rattle.repeater_rows.specs.RowsAboveLaws.{cells_of, slots_in}
-use Rattle.repeater_rows.specs.Makes.{AreMade}
+use Rattle.repeater_rows.specs.Code.Reading.{source_in}
+use Rattle.repeater_rows.proofs.RowsAboveLaws.{cells_of, slots_in}
+use Rattle.repeater_rows.proofs.Makes.{AreMade}
 use Rattle.repeater_rows.proofs.rows.add_rounds.Given as goal
 
 abbrev pub invariant-loop : goal.invariant-loop

@@ -1,7 +1,7 @@
 use Rattle.std.proofs.Common.{refl, sym, subst, List, ◌∷◌, [], ℕ}
 use Rattle.rowed.specs.declared.row_cell.RowCell.{RowCell}
 use Rattle.rowed.specs.PlacedNets.{IsPlaced, PlacedView}
-use Rattle.rowed.specs.TestedNets.{placed_from_test}
+use Rattle.rowed.proofs.TestedNets.{placed_from_test}
 use Rattle.repeater_rows.specs.Examples.{input, output}
 use Rattle.repeater_rows.proofs.tests.four_wires.Goals as goal
 

@@ -1,7 +1,7 @@
 use Rattle.std.proofs.Common.{refl, sym, subst, List, ◌∷◌, [], ℕ}
 use Rattle.rowed.specs.declared.row_cell.RowCell.{RowCell}
 use Rattle.rowed.specs.PlacedNets.{IsPlaced, PlacedView}
-use Rattle.rowed.specs.TestedNets.{placed_from_test}
+use Rattle.rowed.proofs.TestedNets.{placed_from_test}
 use Rattle.std.specs.Prelude.{Some}
 use Rattle.circuit.specs.declared.cell_kind.CellKind.TheVariants.{Split2}
 use Rattle.repeater_rows.specs.Examples.{input, output, from_cell}

@@ -2,7 +2,7 @@ use Rattle.std.proofs.Common.{refl, sym, subst, List, ◌∷◌, [], ℕ, arith}
 use Rattle.rowed.specs.declared.row_cell.RowCell.{RowCell}
 use Rattle.rowed.specs.RowNets.{RowView}
 use Rattle.rowed.specs.PlacedNets.{IsPlaced}
-use Rattle.rowed.specs.TestedNets.{row_net_from_test}
+use Rattle.rowed.proofs.TestedNets.{row_net_from_test}
 use Rattle.repeater_rows.specs.Examples.{input, output}
 use Rattle.repeater_rows.proofs.tests.wire.Goals as goal
 

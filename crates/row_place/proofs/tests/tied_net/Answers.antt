@@ -2,7 +2,7 @@ use Rattle.std.proofs.Common.{refl, sym, ap, subst, ◌∙◌, List}
 use Rattle.rowed.specs.declared.row_cell.RowCell.{RowCell}
 use Rattle.rowed.specs.RowNets.{IsRowNet}
 use Rattle.row_place.specs.Examples.{tied_net}
-use Rattle.rowed.specs.TestedNets.{row_net_from_test}
+use Rattle.rowed.proofs.TestedNets.{row_net_from_test}
 use Rattle.row_place.proofs.tests.tied_net.Goals as goal
 
 pub invariant_of-result : goal.invariant_of-result
