@@ -11,8 +11,8 @@ use Rattle.layout_rules.specs.CircuitRules.{IsNoPortLabel}
 use Rattle.layout_rules.specs.Rules.{FirstBroken}
 use Rattle.layout_rules.specs.RuleLaws.{KeepsBelow}
 use Rattle.faulty_chips.specs.CircuitChips.{with_text}
-use Rattle.faulty_chips.proofs.Places.{places, one_of}
-use Rattle.faulty_chips.proofs.Lines.{line_of}
+use Rattle.layout_rules.proofs.Places.{places, one_of}
+use Rattle.layout_rules.proofs.Lines.{line_of}
 use Rattle.faulty_chips.proofs.FirstWire.{first_nets, first_paths}
 use Rattle.faulty_chips.proofs.Nets.{nets_from}
 use Rattle.faulty_chips.proofs.Wires.{is_misled}

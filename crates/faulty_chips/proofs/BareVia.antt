@@ -7,7 +7,7 @@ use Rattle.layout_rules.specs.Rules.{FirstBroken}
 use Rattle.layout_rules.specs.RuleLaws.{KeepsBelow}
 use Rattle.layout_rules.specs.GeometryRules.{is_bare}
 use Rattle.faulty_chips.specs.GeometryChips.{with_via_at}
-use Rattle.faulty_chips.proofs.Lines.{line_of}
+use Rattle.layout_rules.proofs.Lines.{line_of}
 use Rattle.faulty_chips.proofs.FirstWire.{first_nets, first_paths}
 use Rattle.faulty_chips.proofs.Nets.{nets_from}
 use Rattle.faulty_chips.proofs.Order.{IsCircuit, circuit_kept, passing_first, up_to_sizes, up_to_spacing}

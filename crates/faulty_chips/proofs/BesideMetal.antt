@@ -5,8 +5,8 @@ use Rattle.geom.specs.FirstChip.{first_flat}
 use Rattle.layout_rules.specs.FirstLimits.{first_limits}
 use Rattle.layout_rules.specs.Rules.{KeepsRules}
 use Rattle.faulty_chips.specs.GeometryChips.{with_metal_from}
-use Rattle.faulty_chips.proofs.Places.{places}
-use Rattle.faulty_chips.proofs.Lines.{line_of}
+use Rattle.layout_rules.proofs.Places.{places}
+use Rattle.layout_rules.proofs.Lines.{line_of}
 use Rattle.faulty_chips.proofs.FirstWire.{first_nets, first_paths}
 use Rattle.faulty_chips.proofs.Nets.{nets_from}
 use Rattle.faulty_chips.proofs.Wires.{is_long}

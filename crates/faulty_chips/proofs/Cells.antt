@@ -12,7 +12,7 @@ use Rattle.layout_rules.specs.PlaceLaws.{PassesAt, list_any-place, count_by-one}
 use Rattle.layout_rules.specs.Pins.{lies_in, IsPinOf}
 use Rattle.layout_rules.specs.Reports.{ReportsNone}
 use Rattle.layout_rules.specs.CircuitRules.{HasPins, IsCell, LiesInOneFrame, IsNoCell, IsStrayPin, CellsBroken}
-use Rattle.faulty_chips.proofs.Places.{places, IsOneOf, place_at}
+use Rattle.layout_rules.proofs.Places.{places, IsOneOf, place_at}
 
 -- a pin of this layer in the frame
 abbrev pub is_pin_in : Shape → ℕ → Shape → Bool

@@ -12,10 +12,10 @@ use Rattle.layout_rules.specs.LineLaws.{Contact-back}
 use Rattle.layout_rules.specs.ExcitationRule.{is_no_part, LacksOneStart, HasItsContacts, IsMisjoined, IsCutOff, ExcitationBroken}
 use Rattle.layout_rules.specs.Rules.{FirstBroken}
 use Rattle.layout_rules.specs.RuleLaws.{KeepsBelow}
+use Rattle.layout_rules.proofs.Places.{IsOneOf, place_of, at_one}
+use Rattle.layout_rules.proofs.Lines.{line_of, IsShortLine, part_place, one_start, contact, contact_place, other_part, start_joined, bar_joined, start_reached, bar_reached}
 use Rattle.faulty_chips.specs.LineChips.{with_cut_off_line}
-use Rattle.faulty_chips.proofs.Places.{IsOneOf, place_of, at_one}
 use Rattle.faulty_chips.proofs.Cells.{cells_kept}
-use Rattle.faulty_chips.proofs.Lines.{line_of, IsLine, part_place, one_start, contact, contact_place, other_part, start_joined, bar_joined, start_reached, bar_reached}
 use Rattle.faulty_chips.proofs.Order.{keeps_cells, least_first}
 
 before : KeepsBelow 1 with_cut_off_line first_limits
@@ -34,11 +34,11 @@ odd_start : (n : ℕ) → LacksOneStart with_cut_off_line.shapes ODD_LINE n → 
 unfolding with_cut_off_line first_flat
 odd_start n h = h.not_one (one_start with_cut_off_line.shapes ODD_LINE 13 _ refl refl refl refl refl)
 
-even : IsLine with_cut_off_line.shapes 3 4
+even : IsShortLine with_cut_off_line.shapes 3 4
 unfolding with_cut_off_line first_flat
 even = line_of _ _ refl refl refl refl refl refl refl refl refl refl
 
-odd : IsLine with_cut_off_line.shapes 13 14
+odd : IsShortLine with_cut_off_line.shapes 13 14
 unfolding with_cut_off_line first_flat
 odd = line_of _ _ refl refl refl refl refl refl refl refl refl refl
 

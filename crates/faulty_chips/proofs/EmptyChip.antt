@@ -9,7 +9,7 @@ use Rattle.layout_rules.specs.CircuitRules.{HasNoFrame, IsNoCell, IsStrayPin}
 use Rattle.layout_rules.specs.Rules.{FirstBroken}
 use Rattle.layout_rules.specs.RuleLaws.{KeepsBelow-none}
 use Rattle.faulty_chips.specs.CircuitChips.{empty_chip}
-use Rattle.faulty_chips.proofs.Places.{place_of}
+use Rattle.layout_rules.proofs.Places.{place_of}
 use Rattle.faulty_chips.proofs.Order.{pair_first}
 
 no_frames : (f : ℕ) → Passes is_frame empty_chip.shapes f → ⊥

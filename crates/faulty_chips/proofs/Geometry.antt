@@ -9,7 +9,7 @@ use Rattle.layout_rules.specs.Limits.{Limits}
 use Rattle.layout_rules.specs.Reports.{ReportsNone}
 use Rattle.layout_rules.specs.PlaceLaws.{list_any-at}
 use Rattle.layout_rules.specs.GeometryRules.{is_too_small, SizesBroken, are_too_close, SpacingBroken, is_bare, EnclosureBroken, trespasses, CoverBroken, collide, FramesBroken}
-use Rattle.faulty_chips.proofs.Places.{places, IsOneOf, place_of, no_partner}
+use Rattle.layout_rules.proofs.Places.{places, IsOneOf, place_of, no_partner}
 
 -- an item passes with a later one
 abbrev pub pairs : {X : Type 0} → (X → X → Bool) → List X → Bool

@@ -8,8 +8,8 @@ use Rattle.layout_rules.specs.Nets.{AreNets}
 use Rattle.layout_rules.specs.CircuitRules.{HasRival, IsUndriven, IsDriven, NetsBroken}
 use Rattle.layout_rules.specs.Rules.{FirstBroken}
 use Rattle.faulty_chips.specs.CircuitChips.{with_joined_inputs}
-use Rattle.faulty_chips.proofs.Places.{IsOneOf, one_of, at_one}
-use Rattle.faulty_chips.proofs.Lines.{line_of}
+use Rattle.layout_rules.proofs.Places.{IsOneOf, one_of, at_one}
+use Rattle.layout_rules.proofs.Lines.{line_of}
 use Rattle.faulty_chips.proofs.Nets.{nets_from, path_from}
 use Rattle.faulty_chips.proofs.Wires.{rival_place, rival_second, undriven_place, driven_place}
 use Rattle.faulty_chips.proofs.Order.{AreCells, up_to_lines}

@@ -8,8 +8,8 @@ use Rattle.layout_rules.specs.Nets.{AreNets}
 use Rattle.layout_rules.specs.CircuitRules.{HasRival, IsSource, IsUndriven, IsDriven, NetsBroken}
 use Rattle.layout_rules.specs.Rules.{FirstBroken}
 use Rattle.faulty_chips.specs.CircuitChips.{with_labelled_wire}
-use Rattle.faulty_chips.proofs.Places.{one_of}
-use Rattle.faulty_chips.proofs.Lines.{line_of}
+use Rattle.layout_rules.proofs.Places.{one_of}
+use Rattle.layout_rules.proofs.Lines.{line_of}
 use Rattle.faulty_chips.proofs.FirstWire.{first_nets, first_paths}
 use Rattle.faulty_chips.proofs.Nets.{nets_from, path_from}
 use Rattle.faulty_chips.proofs.Wires.{rival_place, undriven_place, driven_place, source_place}

@@ -9,7 +9,7 @@ use Rattle.layout_rules.specs.declared.layers.TheConstants.{LABELS}
 use Rattle.layout_rules.specs.Labels.{marks, number_of_label}
 use Rattle.layout_rules.specs.Reports.{ReportsNone}
 use Rattle.layout_rules.specs.CircuitRules.{is_port, is_port_label, port_count, have_one_name, IsNoPortLabel, IsUnlabelledPort, IsMisnumbered, LabelsBroken}
-use Rattle.faulty_chips.proofs.Places.{places, IsOneOf, place_at}
+use Rattle.layout_rules.proofs.Places.{places, IsOneOf, place_at}
 use Rattle.faulty_chips.proofs.Geometry.{pairs, pairs_at}
 
 abbrev pub is_no_port_label : Flat → Label → Bool

@@ -1,9 +1,7 @@
-mod Places
 mod Cells
 mod Nets
 mod Wires
 mod Geometry
-mod Lines
 mod Labels
 mod Order
 mod FirstWire

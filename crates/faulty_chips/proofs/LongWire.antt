@@ -10,8 +10,8 @@ use Rattle.layout_rules.specs.Rules.{FirstBroken, KeepsRules}
 use Rattle.layout_rules.specs.RuleLaws.{KeepsBelow}
 use Rattle.layout_rules.specs.LengthRule.{net_length, IsTooLong}
 use Rattle.faulty_chips.specs.GeometryChips.{with_limit}
-use Rattle.faulty_chips.proofs.Places.{places, IsOneOf, place_of, at_one}
-use Rattle.faulty_chips.proofs.Lines.{line_of}
+use Rattle.layout_rules.proofs.Places.{places, IsOneOf, place_of, at_one}
+use Rattle.layout_rules.proofs.Lines.{line_of}
 use Rattle.faulty_chips.proofs.FirstWire.{first_nets, first_paths}
 use Rattle.faulty_chips.proofs.Nets.{nets_from}
 use Rattle.faulty_chips.proofs.Wires.{is_long, long_place}

@@ -15,7 +15,7 @@ use Rattle.layout_rules.specs.CircuitRules.{IsCell, HasNoFrame, IsNoCell, IsStra
 use Rattle.layout_rules.specs.Rules.{FirstBroken}
 use Rattle.layout_rules.specs.RuleLaws.{KeepsBelow-none}
 use Rattle.faulty_chips.specs.CircuitChips.{without_input}
-use Rattle.faulty_chips.proofs.Places.{one_of}
+use Rattle.layout_rules.proofs.Places.{one_of}
 use Rattle.faulty_chips.proofs.Cells.{pin_place, no_cell_place, stray_place}
 use Rattle.faulty_chips.proofs.Order.{alone_first}
 

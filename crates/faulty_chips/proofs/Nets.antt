@@ -8,7 +8,7 @@ use Rattle.layout_rules.specs.Touch.{touch, Touching, IsPath, Joined}
 use Rattle.layout_rules.specs.Nets.{AreNets}
 use Rattle.layout_rules.specs.NetLaws.{AreNets-certified}
 use Rattle.layout_rules.specs.PlaceLaws.{list_any-at}
-use Rattle.faulty_chips.proofs.Places.{places, IsOneOf, place_at, zip_at}
+use Rattle.layout_rules.proofs.Places.{places, IsOneOf, place_at, zip_at}
 
 abbrev both_touch : Option Shape → Option Shape → Bool
 both_touch None b = false

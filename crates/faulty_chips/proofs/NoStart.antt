@@ -13,9 +13,9 @@ use Rattle.layout_rules.specs.Rules.{FirstBroken}
 use Rattle.layout_rules.specs.RuleLaws.{KeepsBelow}
 use Rattle.layout_rules.specs.FaultyChips.{without_starts}
 use Rattle.faulty_chips.specs.LineChips.{with_bars_on_one_layer}
-use Rattle.faulty_chips.proofs.Places.{IsOneOf, place_at, place_of, at_one}
+use Rattle.layout_rules.proofs.Places.{IsOneOf, place_at, place_of, at_one}
 use Rattle.faulty_chips.proofs.Cells.{cells_kept}
-use Rattle.faulty_chips.proofs.Lines.{part_place}
+use Rattle.layout_rules.proofs.Lines.{part_place}
 use Rattle.faulty_chips.proofs.Order.{keeps_cells, alone_first}
 
 before : KeepsBelow 1 with_bars_on_one_layer first_limits

@@ -15,9 +15,9 @@ use Rattle.layout_rules.specs.CircuitRules.{have_one_name}
 use Rattle.layout_rules.specs.Rules.{Keeps, KeepsRules}
 use Rattle.layout_rules.specs.RuleLaws.{KeepsBelow, KeepsBelow-none, KeepsBelow-more, KeepsRules-below}
 use Rattle.layout_rules.specs.GeometryRules.{is_too_small, are_too_close, is_bare, trespasses, collide}
-use Rattle.faulty_chips.proofs.Places.{places, IsOneOf, one_of, place_of, first_place, second_place}
+use Rattle.layout_rules.proofs.Places.{places, IsOneOf, one_of, place_of, first_place, second_place}
 use Rattle.faulty_chips.proofs.Cells.{is_odd_frame, is_stray, cells_kept}
-use Rattle.faulty_chips.proofs.Lines.{AreLines, is_unexcited, excitation_kept}
+use Rattle.layout_rules.proofs.Lines.{AreLines, is_unexcited, excitation_kept}
 use Rattle.faulty_chips.proofs.Wires.{has_rival, is_undriven, is_driven, is_misled, is_long, nets_kept, rows_kept, lengths_kept}
 use Rattle.faulty_chips.proofs.Labels.{is_no_port_label, is_bare_port, is_past, labels_kept}
 use Rattle.faulty_chips.proofs.Geometry.{pairs, sizes_kept, spacing_kept, enclosure_kept, cover_kept, frames_kept}

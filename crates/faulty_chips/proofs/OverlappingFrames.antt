@@ -8,8 +8,8 @@ use Rattle.layout_rules.specs.Rules.{FirstBroken}
 use Rattle.layout_rules.specs.RuleLaws.{KeepsBelow}
 use Rattle.layout_rules.specs.GeometryRules.{collide, FramesBroken}
 use Rattle.faulty_chips.specs.GeometryChips.{with_buffer_at}
-use Rattle.faulty_chips.proofs.Places.{IsOneOf, one_of, at_one, first_place, second_place}
-use Rattle.faulty_chips.proofs.Lines.{line_of}
+use Rattle.layout_rules.proofs.Places.{IsOneOf, one_of, at_one, first_place, second_place}
+use Rattle.layout_rules.proofs.Lines.{line_of}
 use Rattle.faulty_chips.proofs.FirstWire.{first_nets, first_paths}
 use Rattle.faulty_chips.proofs.Nets.{nets_from}
 use Rattle.faulty_chips.proofs.Order.{IsCircuit, circuit_kept, up_to_sizes, up_to_spacing, up_to_enclosure, up_to_cover, pair_first}

@@ -16,8 +16,8 @@ use Rattle.layout_rules.specs.Rules.{FirstBroken}
 use Rattle.layout_rules.specs.RuleLaws.{KeepsBelow}
 use Rattle.faulty_chips.specs.GeometryChips.{with_buffer_at}
 use Rattle.faulty_chips.specs.CircuitChips.{with_repeated_label}
-use Rattle.faulty_chips.proofs.Places.{places, place_at, at_one}
-use Rattle.faulty_chips.proofs.Lines.{line_of}
+use Rattle.layout_rules.proofs.Places.{places, place_at, at_one}
+use Rattle.layout_rules.proofs.Lines.{line_of}
 use Rattle.faulty_chips.proofs.FirstWire.{first_nets, first_paths}
 use Rattle.faulty_chips.proofs.Nets.{nets_from}
 use Rattle.faulty_chips.proofs.Wires.{is_misled}

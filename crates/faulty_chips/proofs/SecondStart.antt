@@ -12,7 +12,7 @@ use Rattle.layout_rules.specs.ExcitationRule.{is_no_part, IsStartOn, HasOneStart
 use Rattle.layout_rules.specs.Rules.{FirstBroken}
 use Rattle.layout_rules.specs.RuleLaws.{KeepsBelow}
 use Rattle.faulty_chips.specs.LineChips.{with_second_start}
-use Rattle.faulty_chips.proofs.Places.{IsOneOf, place_at, place_of, at_one}
+use Rattle.layout_rules.proofs.Places.{IsOneOf, place_at, place_of, at_one}
 use Rattle.faulty_chips.proofs.Cells.{cells_kept}
 use Rattle.faulty_chips.proofs.Order.{keeps_cells, alone_first}
 

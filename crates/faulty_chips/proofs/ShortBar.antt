@@ -11,13 +11,15 @@ use Rattle.layout_rules.specs.declared.rule.Rule.TheVariants.{E2}
 use Rattle.layout_rules.specs.FirstLimits.{first_limits}
 use Rattle.layout_rules.specs.Reports.{Passes, Alone, IsFirstReport}
 use Rattle.layout_rules.specs.ReportLaws.{Afterwards-second}
-use Rattle.layout_rules.specs.ExcitationRule.{is_no_part, LacksOneStart, IsMisjoined, IsCutOff, IsNotCrossed, IsExcited, IsUnexcited, ExcitationBroken}
+use Rattle.layout_rules.specs.ExcitationRule.{is_no_part, LacksOneStart, IsMisjoined, IsCutOff}
 use Rattle.layout_rules.specs.Rules.{FirstBroken}
 use Rattle.layout_rules.specs.RuleLaws.{KeepsBelow}
+use Rattle.layout_rules.specs.Code.ChainRule.{IsChainUncrossed, IsChainExcited, IsChainUnexcited, ChainsBroken}
+use Rattle.layout_rules.proofs.LinesAgree.{excitation_first}
+use Rattle.layout_rules.proofs.Places.{one_of}
+use Rattle.layout_rules.proofs.Lines.{line_of, AreLines, parts_kept, even_kept, odd_kept, joined_kept, reached_kept, crossed_kept, unexcited_place}
 use Rattle.faulty_chips.specs.LineChips.{with_short_bar}
-use Rattle.faulty_chips.proofs.Places.{one_of}
 use Rattle.faulty_chips.proofs.Cells.{cells_kept}
-use Rattle.faulty_chips.proofs.Lines.{line_of, AreLines, parts_kept, even_kept, odd_kept, joined_kept, reached_kept, crossed_kept, unexcited_place}
 use Rattle.faulty_chips.proofs.Order.{keeps_cells, alone_first}
 
 before : KeepsBelow 1 with_short_bar first_limits
@@ -39,26 +41,26 @@ lines = record {
   bars = refl;
 }
 
-all_crossed : (n : ℕ) → IsNotCrossed with_short_bar.shapes n → ⊥
+all_crossed : (n : ℕ) → IsChainUncrossed with_short_bar.shapes n → ⊥
 unfolding with_short_bar first_flat lines
 all_crossed n h = crossed_kept with_short_bar.shapes 3 4 13 14 lines refl refl n h
 
-not_excited : (frame bar : Shape) → slice_get with_short_bar.shapes 10 ≡ Some frame → slice_get with_short_bar.shapes 14 ≡ Some bar → within frame.rect bar.rect ≡ false → ((e : IsExcited with_short_bar.shapes frame) → 14 ≡ e.bar) → IsExcited with_short_bar.shapes frame → ⊥
+not_excited : (frame bar : Shape) → slice_get with_short_bar.shapes 10 ≡ Some frame → slice_get with_short_bar.shapes 14 ≡ Some bar → within frame.rect bar.rect ≡ false → ((e : IsChainExcited with_short_bar.shapes frame) → 14 ≡ e.bar) → IsChainExcited with_short_bar.shapes frame → ⊥
 not_excited frame bar p q outside alone e =
     let at : slice_get with_short_bar.shapes 14 ≡ Some e.phase.is_bar.shape = subst (λ (n : ℕ). slice_get with_short_bar.shapes n ≡ Some e.phase.is_bar.shape) (sym (alone e)) e.phase.is_bar.shape_is in
     let same : bar ≡ e.phase.is_bar.shape = same_Some bar e.phase.is_bar.shape (sym q ∙ at) in
     both_ways (within frame.rect bar.rect) outside (subst (λ (v : Shape). within frame.rect v.rect ≡ true) (sym same) e.contains)
 
-broken : IsUnexcited with_short_bar.shapes 10
+broken : IsChainUnexcited with_short_bar.shapes 10
 unfolding with_short_bar first_flat
 broken = record { frame = record { shape = _; shape_is = refl; passes_so = refl }; not_so = not_excited _ _ refl refl refl (λ e. e.only 14 _ refl refl refl) }
 
-only : (n : ℕ) → IsUnexcited with_short_bar.shapes n → n ≡ 10
+only : (n : ℕ) → IsChainUnexcited with_short_bar.shapes n → n ≡ 10
 unfolding with_short_bar first_flat lines
 only n h = one_of (unexcited_place with_short_bar.shapes 3 4 13 14 lines n h)
 
-first_report : IsFirstReport (ExcitationBroken with_short_bar.shapes) 10 10
-first_report = Afterwards-second (Alone (Passes is_no_part with_short_bar.shapes)) _ 10 10 (λ a b h. parts_kept with_short_bar.shapes 3 4 13 14 lines a h.0) (Afterwards-second (Alone (LacksOneStart with_short_bar.shapes EVEN_LINE)) _ 10 10 (λ a b h. even_kept with_short_bar.shapes 3 4 13 14 lines a h.0) (Afterwards-second (Alone (LacksOneStart with_short_bar.shapes ODD_LINE)) _ 10 10 (λ a b h. odd_kept with_short_bar.shapes 3 4 13 14 lines a h.0) (Afterwards-second (Alone (IsMisjoined with_short_bar.shapes)) _ 10 10 (λ a b h. joined_kept with_short_bar.shapes 3 4 13 14 lines a h.0) (Afterwards-second (Alone (IsCutOff with_short_bar.shapes)) _ 10 10 (λ a b h. reached_kept with_short_bar.shapes 3 4 13 14 lines a h.0) (Afterwards-second (Alone (IsNotCrossed with_short_bar.shapes)) _ 10 10 (λ a b h. all_crossed a h.0) (alone_first (IsUnexcited with_short_bar.shapes) 10 broken only))))))
+first_report : IsFirstReport (ChainsBroken with_short_bar.shapes) 10 10
+first_report = Afterwards-second (Alone (Passes is_no_part with_short_bar.shapes)) _ 10 10 (λ a b h. parts_kept with_short_bar.shapes 3 4 13 14 lines a h.0) (Afterwards-second (Alone (LacksOneStart with_short_bar.shapes EVEN_LINE)) _ 10 10 (λ a b h. even_kept with_short_bar.shapes 3 4 13 14 lines a h.0) (Afterwards-second (Alone (LacksOneStart with_short_bar.shapes ODD_LINE)) _ 10 10 (λ a b h. odd_kept with_short_bar.shapes 3 4 13 14 lines a h.0) (Afterwards-second (Alone (IsMisjoined with_short_bar.shapes)) _ 10 10 (λ a b h. joined_kept with_short_bar.shapes 3 4 13 14 lines a h.0) (Afterwards-second (Alone (IsCutOff with_short_bar.shapes)) _ 10 10 (λ a b h. reached_kept with_short_bar.shapes 3 4 13 14 lines a h.0) (Afterwards-second (Alone (IsChainUncrossed with_short_bar.shapes)) _ 10 10 (λ a b h. all_crossed a h.0) (alone_first (IsChainUnexcited with_short_bar.shapes) 10 broken only))))))
 
 pub short_bar : FirstBroken with_short_bar first_limits E2 10 10
-short_bar = record { report = first_report; kept_before = before }
+short_bar = record { report = excitation_first with_short_bar.shapes _ _ first_report; kept_before = before }

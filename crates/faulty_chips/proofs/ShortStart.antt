@@ -12,9 +12,9 @@ use Rattle.layout_rules.specs.ExcitationRule.{is_no_part, LacksOneStart, HasItsC
 use Rattle.layout_rules.specs.Rules.{FirstBroken}
 use Rattle.layout_rules.specs.RuleLaws.{KeepsBelow}
 use Rattle.faulty_chips.specs.LineChips.{with_short_start}
-use Rattle.faulty_chips.proofs.Places.{IsOneOf, one_of, place_of, at_one}
+use Rattle.layout_rules.proofs.Places.{IsOneOf, one_of, place_of, at_one}
 use Rattle.faulty_chips.proofs.Cells.{cells_kept}
-use Rattle.faulty_chips.proofs.Lines.{one_start, contact_place}
+use Rattle.layout_rules.proofs.Lines.{one_start, contact_place}
 use Rattle.faulty_chips.proofs.Order.{keeps_cells, least_first}
 
 before : KeepsBelow 1 with_short_start first_limits

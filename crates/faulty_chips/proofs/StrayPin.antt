@@ -10,7 +10,7 @@ use Rattle.layout_rules.specs.CircuitRules.{LiesInOneFrame, HasNoFrame, IsNoCell
 use Rattle.layout_rules.specs.Rules.{FirstBroken}
 use Rattle.layout_rules.specs.RuleLaws.{KeepsBelow-none}
 use Rattle.faulty_chips.specs.CircuitChips.{with_stray_pin}
-use Rattle.faulty_chips.proofs.Places.{one_of, second_place}
+use Rattle.layout_rules.proofs.Places.{one_of, second_place}
 use Rattle.faulty_chips.proofs.Cells.{no_cell_place, stray_place}
 use Rattle.faulty_chips.proofs.Order.{alone_first}
 

@@ -12,7 +12,7 @@ use Rattle.layout_rules.specs.CircuitRules.{HasNoFrame, IsNoCell, IsStrayPin}
 use Rattle.layout_rules.specs.Rules.{FirstBroken}
 use Rattle.layout_rules.specs.RuleLaws.{KeepsBelow-none}
 use Rattle.faulty_chips.specs.CircuitChips.{with_unknown_kind}
-use Rattle.faulty_chips.proofs.Places.{one_of}
+use Rattle.layout_rules.proofs.Places.{one_of}
 use Rattle.faulty_chips.proofs.Cells.{no_cell_place, stray_place}
 use Rattle.faulty_chips.proofs.Order.{alone_first}
 

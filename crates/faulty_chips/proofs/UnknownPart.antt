@@ -9,7 +9,7 @@ use Rattle.layout_rules.specs.ExcitationRule.{is_no_part, ExcitationBroken}
 use Rattle.layout_rules.specs.Rules.{FirstBroken}
 use Rattle.layout_rules.specs.RuleLaws.{KeepsBelow}
 use Rattle.faulty_chips.specs.LineChips.{with_unknown_part}
-use Rattle.faulty_chips.proofs.Places.{one_of, place_of}
+use Rattle.layout_rules.proofs.Places.{one_of, place_of}
 use Rattle.faulty_chips.proofs.Cells.{cells_kept}
 use Rattle.faulty_chips.proofs.Order.{keeps_cells, alone_first}
 

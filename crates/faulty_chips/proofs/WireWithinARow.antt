@@ -9,8 +9,8 @@ use Rattle.layout_rules.specs.CircuitRules.{IsSource, RowsBroken}
 use Rattle.layout_rules.specs.Rules.{FirstBroken}
 use Rattle.faulty_chips.specs.GeometryChips.{with_buffer_at}
 use Rattle.faulty_chips.specs.CircuitChips.{with_unlabelled_buffer, with_wire_within_a_row}
-use Rattle.faulty_chips.proofs.Places.{one_of}
-use Rattle.faulty_chips.proofs.Lines.{line_of}
+use Rattle.layout_rules.proofs.Places.{one_of}
+use Rattle.layout_rules.proofs.Lines.{line_of}
 use Rattle.faulty_chips.proofs.FirstWire.{first_nets, first_paths}
 use Rattle.faulty_chips.proofs.Nets.{nets_from, path_from}
 use Rattle.faulty_chips.proofs.Wires.{source_place, misled_place}

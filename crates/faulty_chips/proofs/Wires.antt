@@ -19,7 +19,7 @@ use Rattle.layout_rules.specs.Limits.{Limits}
 use Rattle.layout_rules.specs.Reports.{ReportsNone}
 use Rattle.layout_rules.specs.CircuitRules.{HasRival, IsInput, IsSource, IsUndriven, IsDriven, NetsBroken, RowsBroken}
 use Rattle.layout_rules.specs.LengthRule.{net_length, IsTooLong, LengthsBroken}
-use Rattle.faulty_chips.proofs.Places.{places, IsOneOf, place_at, zip_at}
+use Rattle.layout_rules.proofs.Places.{places, IsOneOf, place_at, zip_at}
 
 -- a shape of the layer in this net
 abbrev pub in_net : ℕ → ℕ → Shape × ℕ → Bool

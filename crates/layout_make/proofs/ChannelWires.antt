@@ -12,7 +12,7 @@ use Rattle.rowed.specs.declared.wire.Wire.{Wire}
 use Rattle.rowed.specs.RowCells.{source_at}
 use Rattle.rowed.specs.PlacedNets.{PlacedView}
 use Rattle.rowed.specs.Sorting.{EachPair, Rising}
-use Rattle.rowed.specs.SortingLaws.{by_key_all, all_by_key, by_key_pairs}
+use Rattle.rowed.proofs.SortingLaws.{by_key_all, all_by_key, by_key_pairs}
 use Rattle.cell_library.specs.Library.{LibraryView, input_column_of, output_column_of}
 use Rattle.layout_make.specs.Lawful.{IsLawful}
 use Rattle.layout_make.specs.Spots.{Spot, spots, Packed, AreGiven, IsInput, IsReady}

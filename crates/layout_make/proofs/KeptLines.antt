@@ -12,10 +12,13 @@ use Rattle.layout_rules.specs.Rows.{AreRows, row_of}
 use Rattle.layout_rules.specs.RowLaws.{row_of-certified}
 use Rattle.layout_rules.specs.Reports.{ReportsNone, Passes}
 use Rattle.layout_rules.specs.ReportLaws.{Afterwards-none}
-use Rattle.layout_rules.specs.ExcitationLines.{Contact, IsPart, IsChain, NeverTurnsBack, left_edge, right_edge, enters}
+use Rattle.layout_rules.specs.ExcitationLines.{Contact, IsPart, IsChain, left_edge, right_edge, enters}
 use Rattle.layout_rules.specs.ExcitationLines.{leaves, phase_of}
-use Rattle.layout_rules.specs.ExcitationRule.{is_no_part, LacksOneStart, IsMisjoined, IsCutOff, IsNotCrossed, IsExcited}
-use Rattle.layout_rules.specs.ExcitationRule.{IsUnexcited, ExcitationBroken}
+use Rattle.layout_rules.specs.ExcitationRule.{is_no_part, LacksOneStart, IsMisjoined, IsCutOff}
+use Rattle.layout_rules.specs.ExcitationRule.{IsExcited, ExcitationBroken}
+use Rattle.layout_rules.specs.Code.ChainRule.{ChainsBroken, IsChainUncrossed, IsChainExcited, IsChainUnexcited}
+use Rattle.layout_rules.specs.Code.LineChains.{NeverTurnsBack}
+use Rattle.layout_rules.proofs.LinesAgree.{excitation_none, laid_out, none_cut_off, path_excited}
 use Rattle.layout_make.specs.Layered.{is_line}
 use Rattle.layout_make.specs.Lines as lines
 
@@ -139,7 +142,7 @@ module _ (shapes : List Shape) (edges : List ℤ) (e2 : lines.E2 shapes edges) (
   reach_kept i h = let k = e2.joined i h.part.shape (h.part.shape_is, h.part.passes_so) in
       h.not_reached (record { rest = k.0; chain = chain shapes (i ∷ k.0) k.1 })
 
-  crossed_kept : (b : ℕ) → IsNotCrossed shapes b → ⊥
+  crossed_kept : (b : ℕ) → IsChainUncrossed shapes b → ⊥
   crossed_kept b h =
       let r = route shapes (b ∷ h.before ∷ h.is_before.rest) h.is_before.chain h.is_before.onward in
       let bar = h.bar.shape in
@@ -183,10 +186,10 @@ module _ (shapes : List Shape) (edges : List ℤ) (e2 : lines.E2 shapes edges) (
       go true n (inr e) = rw e refl
       go false n (inr e) = rw e refl
 
-  -- each frame is excited
-  pub frame_excited : (f : ℕ) (frame : Shape) → slice_get shapes f ≡ Some frame → is_frame frame ≡ true
-      → IsExcited shapes frame
-  frame_excited f frame is_f so =
+  -- a chain leads to the bar over each frame
+  frame_by_chain : (f : ℕ) (frame : Shape) → slice_get shapes f ≡ Some frame → is_frame frame ≡ true
+      → IsChainExcited shapes frame
+  frame_by_chain f frame is_f so =
       let layer = eqb-true frame.layer 20 so in
       let r = rows.each f frame is_f so in
       let row : row_of shapes frame.rect.y0 ≡ r.0 = row_of-certified shapes edges rows r.0 frame.rect.y0 r.1 in
@@ -201,7 +204,7 @@ module _ (shapes : List Shape) (edges : List ℤ) (e2 : lines.E2 shapes edges) (
           → ((i : ℕ) (a : Shape) → lines.IsLineAt shapes i a → overlap a.rect frame.rect ≡ true → i ≡ b)
           → ((a : ℕ) (rest : List ℕ) (lead : Shape) → lines.IsRoute shapes (b ∷ a ∷ rest)
           → slice_get shapes a ≡ Some lead → lines.phase_of lead bar ≡ r % 4)
-          → (rest : List ℕ) → lines.IsRoute shapes (b ∷ rest) → IsExcited shapes frame
+          → (rest : List ℕ) → lines.IsRoute shapes (b ∷ rest) → IsChainExcited shapes frame
       excited f frame r row b bar at zero_so over contains only phase [] is =
           absurd (let e : bar ≡ is.shape = same_Some _ _ (sym at.0 ∙ is.at) in
           let d : bar.datatype ≡ 2 = ap (λ (x : Shape). x.datatype) e ∙ is.used_so in omega arith)
@@ -233,17 +236,26 @@ module _ (shapes : List Shape) (edges : List ℤ) (e2 : lines.E2 shapes edges) (
           first a b [] r = (r.0.first, r.0.first_is)
           first a b (c ∷ rest) r = (r.0.first, r.0.first_is)
 
-  excited_kept : (f : ℕ) → IsUnexcited shapes f → ⊥
-  excited_kept f h = h.not_so (frame_excited f h.frame.shape h.frame.shape_is h.frame.passes_so)
+  excited_kept : (f : ℕ) → IsChainUnexcited shapes f → ⊥
+  excited_kept f h = h.not_so (frame_by_chain f h.frame.shape h.frame.shape_is h.frame.passes_so)
 
   alone : {P : ℕ → Type 0} → ((a : ℕ) → P a → ⊥) → (a b : ℕ) → P a × (b ≡ a) → ⊥
   alone none a b h = none a h.0
 
-  pub excitation_kept : ReportsNone (ExcitationBroken shapes)
-  excitation_kept =
+  chains_kept : ReportsNone (ChainsBroken shapes)
+  chains_kept =
       Afterwards-none _ _ (alone parts_kept)
       (Afterwards-none _ _ (alone (starts_kept 14 refl))
       (Afterwards-none _ _ (alone (starts_kept 15 refl))
       (Afterwards-none _ _ (alone contacts_kept)
       (Afterwards-none _ _ (alone reach_kept)
       (Afterwards-none _ _ (alone crossed_kept) (alone excited_kept))))))
+
+  pub excitation_kept : ReportsNone (ExcitationBroken shapes)
+  excitation_kept = excitation_none shapes chains_kept
+
+  -- each frame is excited
+  pub frame_excited : (f : ℕ) (frame : Shape) → slice_get shapes f ≡ Some frame → is_frame frame ≡ true
+      → IsExcited shapes frame
+  frame_excited f frame is_f so = path_excited shapes (laid_out shapes excitation_kept)
+      (none_cut_off shapes excitation_kept) frame (frame_by_chain f frame is_f so)

@@ -18,7 +18,7 @@ use Rattle.rowed.specs.Numbers.{numbers}
 use Rattle.rowed.specs.RowNets.{row_at}
 use Rattle.rowed.specs.Slots.{span_of}
 use Rattle.rowed.specs.PlacedNets.{PlacedView, IsPlaced, paired, placed_rows}
-use Rattle.rowed.specs.SortingLaws.{by_key_length}
+use Rattle.rowed.proofs.SortingLaws.{by_key_length}
 use Rattle.rowed.specs.declared.source.Source.{Source}
 use Rattle.channel_route.specs.Crossing.{crossing, IsOver}
 use Rattle.layout_rules.specs.declared.layers.TheConstants.{FRAME, INPUT_PIN, OUTPUT_PIN}

@@ -14,7 +14,7 @@ use Rattle.rowed.specs.declared.wire.Wire.{Wire}
 use Rattle.rowed.specs.declared.row_cell.RowCell.{RowCell}
 use Rattle.rowed.specs.RowNets.{row_at}
 use Rattle.rowed.specs.PlacedNets.{PlacedView, IsPlaced, placed_rows}
-use Rattle.rowed.specs.SortingLaws.{by_key_from_sort}
+use Rattle.rowed.proofs.SortingLaws.{by_key_from_sort}
 use Rattle.cell_library.specs.Library.{LibraryView}
 use Rattle.cell_library.specs.Laws.{IsLibrary}
 use Rattle.cell_library.specs.Reach.{slot_width_of}

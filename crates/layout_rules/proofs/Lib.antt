@@ -1,12 +1,27 @@
-mod Places
+pub mod Places
+pub mod Lines
 mod FirstCells
 mod FirstGeometry
 mod FirstNets
 mod FirstWires
 mod FirstLabels
-mod FirstLines
+pub mod FirstLines
 mod OtherChips
 mod FirstChipKeeps
 pub mod NetsExist
 pub mod Insertion
 pub mod RowsExist
+pub mod Deciding
+mod DecidedShapes
+mod Judging
+mod JudgedCells
+mod Reaching
+mod LineWays
+pub mod ChainsAgree
+mod JudgedLines
+pub mod LinePaths
+pub mod LinesAgree
+mod JudgedNets
+mod JudgedLabels
+mod JudgedGeometry
+mod VerdictsExist

@@ -10,7 +10,7 @@ use Rattle.layout_rules.specs.Reports.{IsFirstReport, Passes}
 use Rattle.layout_rules.specs.GeometryRules.{is_bare, EnclosureBroken}
 use Rattle.layout_rules.specs.ExcitationRule.{is_no_part, HasOneStart, LacksOneStart, ExcitationBroken}
 use Rattle.layout_rules.proofs.Places.{one_of, place_at, place_of}
-use Rattle.layout_rules.proofs.FirstLines.{part_place}
+use Rattle.layout_rules.proofs.Lines.{part_place}
 
 same_numbers : (a b c d : ℕ) → a ≡ c → b ≡ a → d ≡ c → (a < c) ⊎ ((a ≡ c) × (b ≤ d))
 same_numbers a b c d e f g = inr (e, omega arith)

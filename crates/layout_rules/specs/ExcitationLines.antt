@@ -1,9 +1,11 @@
 -- Excitation lines: each leads from its start over the rows of its layer, by bars over rows and links at the chip's sides. Cells are excited in four phases by two such lines, as in AQFP logic of Takeuchi and others.
-use Rattle.std.specs.Prelude.{◌≡◌, ◌≢◌, ℕ, ◌==◌, ◌&&◌, ◌||◌, not, Bool, true, List, [], ◌∷◌, slice_get, Some, if◌then◌else◌}
+use Rattle.std.specs.Prelude.{◌≡◌, ◌≢◌, ℕ, suc, ◌<◌, ◌==◌, ◌&&◌, ◌||◌, not, Bool, true, List, [], ◌∷◌, length}
+use Rattle.std.specs.Prelude.{slice_get, slice_index, Some, if◌then◌else◌}
 use Rattle.geom.specs.declared.shapes.Shape.{Shape}
 use Rattle.geom.specs.Rectangle.{Rectangle, share_point}
 use Rattle.layout_rules.specs.declared.layers.TheConstants.{EVEN_LINE, BAR, START}
 use Rattle.layout_rules.specs.Layers.{is_line}
+use Rattle.layout_rules.specs.Reports.{Passes}
 
 -- two parts of one line, or of lines on one layer, share a point
 abbrev pub meet : Shape → Shape → Bool
@@ -31,23 +33,38 @@ IsChain shapes [] = ⊥
 IsChain shapes (a ∷ []) = IsPart shapes START a
 IsChain shapes (b ∷ a ∷ rest) = Contact shapes a b × IsChain shapes (a ∷ rest)
 
--- no number comes again straight after the next one
-abbrev pub NeverTurnsBack : List ℕ → Type 0
-NeverTurnsBack [] = Unit {0}
-NeverTurnsBack (a ∷ []) = Unit {0}
-NeverTurnsBack (b ∷ a ∷ []) = Unit {0}
-NeverTurnsBack (b ∷ a ∷ c ∷ rest) = (b ≢ c) × NeverTurnsBack (a ∷ c ∷ rest)
-
 -- the shape is joined to a start by contacts
 pub record IsReached (shapes : List Shape) (i : ℕ) : Type 0 where
   pub rest : List ℕ
   pub chain : IsChain shapes (i ∷ rest)
 
--- on the way from the start shape a is the one before shape b
+-- a shape of this layer
+abbrev pub is_on : ℕ → Shape → Bool
+is_on layer s = s.layer == layer
+
+-- a layer is one path: it begins at a start, each next shape is a contact of the last, and each shape comes once
+pub record IsLine (shapes : List Shape) (layer : ℕ) (path : List ℕ) : Type 0 where
+  pub start : 0 < length path → IsPart shapes START (slice_index path 0)
+  pub next : (k : ℕ) → suc k < length path → Contact shapes (slice_index path k) (slice_index path (suc k))
+  pub within : (k : ℕ) → k < length path → Passes (is_on layer) shapes (slice_index path k)
+  pub all : (i : ℕ) → Passes (is_on layer) shapes i → (k : ℕ) × ((k < length path) × (slice_index path k ≡ i))
+  pub once : (j k : ℕ) → j < k → k < length path → slice_index path j ≢ slice_index path k
+
+-- some path is that of the layer, and no other
+pub record HasOneLine (shapes : List Shape) (layer : ℕ) : Type 0 where
+  pub path : List ℕ
+  pub line : IsLine shapes layer path
+  pub only : (other : List ℕ) → IsLine shapes layer other → other ≡ path
+
+-- shape a is the one before shape b on its line, and so b the one after a
 pub record Before (shapes : List Shape) (a b : ℕ) : Type 0 where
-  pub rest : List ℕ
-  pub chain : IsChain shapes (b ∷ a ∷ rest)
-  pub onward : NeverTurnsBack (b ∷ a ∷ rest)
+  pub layer : ℕ
+  pub path : List ℕ
+  pub line : IsLine shapes layer path
+  pub place : ℕ
+  pub within : suc place < length path
+  pub first_is : slice_index path place ≡ a
+  pub second_is : slice_index path (suc place) ≡ b
 
 abbrev pub left_edge : Rectangle → Rectangle
 left_edge r = record { x0 = r.x0; y0 = r.y0; x1 = r.x0; y1 = r.y1 }

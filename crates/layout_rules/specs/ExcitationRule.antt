@@ -5,7 +5,7 @@ use Rattle.geom.specs.Rectangle.{overlap, within}
 use Rattle.layout_rules.specs.declared.layers.TheConstants.{EVEN_LINE, ODD_LINE, BAR, LINK, START}
 use Rattle.layout_rules.specs.Layers.{is_line, is_frame}
 use Rattle.layout_rules.specs.Rows.{row_of}
-use Rattle.layout_rules.specs.Reports.{Alone, Afterwards, Passes}
+use Rattle.layout_rules.specs.Reports.{ReportsNone, Alone, Afterwards, Passes}
 use Rattle.layout_rules.specs.ExcitationLines.{Contact, IsPart, IsReached, Before, enters, leaves, HasPhase}
 
 -- a part of a line that is no bar, link or start
@@ -70,12 +70,20 @@ pub record IsCutOff (shapes : List Shape) (i : ℕ) : Type 0 where
   pub part : Passes is_line shapes i
   pub not_reached : IsReached shapes i → ⊥
 
+-- parts (a) to (c) report nothing: each part of a line has its contacts, and each layer with shapes has one start
+pub record AreLaidOut (shapes : List Shape) : Type 0 where
+  pub parts : ReportsNone (Alone (Passes is_no_part shapes))
+  pub even : ReportsNone (Alone (LacksOneStart shapes EVEN_LINE))
+  pub odd : ReportsNone (Alone (LacksOneStart shapes ODD_LINE))
+  pub contacts : ReportsNone (Alone (IsMisjoined shapes))
+
 -- after the bar comes a shape that is not at the other side alone
-pub record LeavesWrongly (shapes : List Shape) (b before : ℕ) (bar before_shape : Shape) : Type 0 where
+pub record LeavesWrongly (shapes : List Shape) (b : ℕ) (bar before_shape : Shape) : Type 0 where
   pub after : ℕ
-  pub contact : Contact shapes b after
-  pub onward : after ≢ before
-  pub wrong : leaves before_shape bar contact.second ≡ false
+  pub after_shape : Shape
+  pub after_shape_is : slice_get shapes after ≡ Some after_shape
+  pub is_after : Before shapes b after
+  pub wrong : leaves before_shape bar after_shape ≡ false
 
 -- a bar that the line doesn't run along from one side to the other
 pub record IsNotCrossed (shapes : List Shape) (b : ℕ) : Type 0 where
@@ -84,7 +92,7 @@ pub record IsNotCrossed (shapes : List Shape) (b : ℕ) : Type 0 where
   pub before_shape : Shape
   pub before_shape_is : slice_get shapes before ≡ Some before_shape
   pub is_before : Before shapes before b
-  pub wrong : (enters before_shape bar.shape ≡ false) ⊎ LeavesWrongly shapes b before bar.shape before_shape
+  pub wrong : (enters before_shape bar.shape ≡ false) ⊎ LeavesWrongly shapes b bar.shape before_shape
 
 -- one bar alone lies over the frame and contains it, and it has the phase of the frame's row
 pub record IsExcited (shapes : List Shape) (frame : Shape) : Type 0 where

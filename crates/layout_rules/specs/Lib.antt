@@ -13,6 +13,7 @@ pub mod PlaceLaws
 pub mod Reports
 pub mod ReportLaws
 pub mod ExcitationRule
+pub mod Code
 pub mod CircuitRules
 pub mod RuleNames
 pub mod Limits
@@ -23,3 +24,4 @@ pub mod LengthRule
 pub mod Rules
 pub mod RuleLaws
 pub mod EveryNets
+pub mod EveryVerdict

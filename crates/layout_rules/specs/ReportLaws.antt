@@ -51,3 +51,13 @@ Otherwise-second first second a b none found = record {
 
 pub Otherwise-none : (first second : ℕ → ℕ → Type 0) (a : ℕ) → ReportsNoneAt first a → ReportsNoneAt second a → ReportsNoneAt (Otherwise first second) a
 Otherwise-none first second a none other b h = elim h [ inl one ↦ none b one | inr rest ↦ other b rest.1 ]
+
+-- searches in turn that report nothing, and a fault of one number that none has
+pub first_kept : (first second : ℕ → ℕ → Type 0) → ReportsNone (Afterwards first second) → ReportsNone first
+first_kept first second h a b f = h a b (inl f)
+
+pub second_kept : (first second : ℕ → ℕ → Type 0) → ReportsNone (Afterwards first second) → ReportsNone second
+second_kept first second h a b s = h a b (inr (λ c d f. h c d (inl f), s))
+
+pub alone_kept : (fault : ℕ → Type 0) → ReportsNone (Alone fault) → (n : ℕ) → fault n → ⊥
+alone_kept fault h n f = h n n (f, refl)

@@ -1,5 +1,5 @@
 // Laws of the rules, which crates above cite by a call. The functions do nothing.
-ghost use Rattle.std.specs.Prelude.{◌≡◌, ℕ, ℤ, List, Some, length, slice_get};
+ghost use Rattle.std.specs.Prelude.{◌≡◌, ◌⊎◌, ℕ, ℤ, List, [], ◌∷◌, Some, length, slice_get};
 ghost use Rattle.geom.specs.declared.shapes.Shape.{Shape};
 ghost use Rattle.geom.specs.declared.shapes.Flat.{Flat};
 ghost use Rattle.geom.specs.FirstChip.{first_flat};
@@ -9,8 +9,12 @@ ghost use Rattle.layout_rules.specs.Rows.{AreRows, row_of, row_count};
 ghost use Rattle.layout_rules.specs.Limits.{Limits};
 ghost use Rattle.layout_rules.specs.FirstLimits.{first_limits};
 ghost use Rattle.layout_rules.specs.EveryNets.{HaveNets};
+ghost use Rattle.layout_rules.specs.EveryVerdict.{HasFirstBroken};
 ghost use Rattle.layout_rules.specs.FaultyChips.{with_moved_via, without_starts};
-ghost use Rattle.layout_rules.specs.Reports.{IsFirstReport};
+ghost use Rattle.layout_rules.specs.declared.layers.TheConstants.{EVEN_LINE, ODD_LINE};
+ghost use Rattle.layout_rules.specs.ExcitationLines.{IsLine, HasOneLine};
+ghost use Rattle.layout_rules.specs.ExcitationRule.{IsCutOff, AreLaidOut};
+ghost use Rattle.layout_rules.specs.Reports.{ReportsNone, Alone, IsFirstReport};
 ghost use Rattle.layout_rules.specs.Rules.{Broken, KeepsRules, FirstBroken};
 ghost use Rattle.layout_rules.specs.RuleLaws.{IsOneReport};
 
@@ -32,6 +36,23 @@ pub fn no_start_breaks_excitation()
 /// Each list of shapes has its nets.
 pub fn every_layout_has_nets()
     ensures { (shapes : List Shape) → HaveNets shapes }
+{}
+
+/// Each layout keeps all rules, or one of them is the first that it breaks.
+pub fn every_layout_has_a_verdict()
+    ensures { (flat : Flat) (limits : Limits) → KeepsRules flat limits ⊎ HasFirstBroken flat limits }
+{}
+
+/// The first chip's two lines are a start and a bar each, by these numbers.
+pub fn first_chip_has_lines()
+    ensures even { IsLine first_flat.shapes EVEN_LINE (3 ∷ 4 ∷ []) }
+    ensures odd { IsLine first_flat.shapes ODD_LINE (13 ∷ 14 ∷ []) }
+{}
+
+/// Where each part of a line has its contacts, each layer with shapes has one start, and chains lead to all of them, each
+/// layer of a line is one path.
+pub fn one_line()
+    ensures { (shapes : List Shape) (layer : ℕ) → AreLaidOut shapes → ReportsNone (Alone (IsCutOff shapes)) → (layer ≡ EVEN_LINE) ⊎ (layer ≡ ODD_LINE) → HasOneLine shapes layer }
 {}
 
 /// A layout has one first broken rule at most, and it reports one pair of numbers.

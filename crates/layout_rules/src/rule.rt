@@ -64,6 +64,9 @@ mod tests {
         first_chip_keeps_rules();
         moved_via_breaks_enclosure();
         no_start_breaks_excitation();
+        every_layout_has_a_verdict();
+        first_chip_has_lines();
+        one_line();
         first_broken_once();
         certificate_gives_nets();
         rising_edges_are_rows();

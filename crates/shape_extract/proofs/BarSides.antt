@@ -5,12 +5,14 @@ use Rattle.std.proofs.lemmas.Bool.{cases_eq, both_ways}
 use Rattle.std.proofs.lemmas.Option.{same_Some}
 use Rattle.geom.specs.declared.shapes.Shape.{Shape}
 use Rattle.layout_rules.specs.declared.layers.TheConstants.{BAR}
-use Rattle.layout_rules.specs.ExcitationLines.{Contact, IsPart, IsReached, Before, enters, leaves}
-use Rattle.layout_rules.specs.ExcitationRule.{LeavesWrongly, IsNotCrossed}
+use Rattle.layout_rules.specs.ExcitationLines.{Contact, IsPart, IsReached, enters, leaves}
+use Rattle.layout_rules.specs.ExcitationRule.{AreLaidOut}
+use Rattle.layout_rules.specs.Code.LineChains.{ChainBefore}
+use Rattle.layout_rules.specs.Code.ChainRule.{ChainLeavesWrongly, IsChainUncrossed}
+use Rattle.layout_rules.proofs.ChainsAgree.{one_before}
 use Rattle.shape_extract.specs.Searches.{Says, AreThose}
-use Rattle.shape_extract.specs.Lines.{AreLaidOut, AreWalked, GoesOnWrongly}
+use Rattle.shape_extract.specs.Lines.{AreWalked, GoesOnWrongly}
 use Rattle.shape_extract.proofs.LineReach.{Before-reached, bar_before}
-use Rattle.shape_extract.proofs.OneLine.{one_before}
 
 -- at the first contacts, other than the shape before, the line goes on at the other side alone
 abbrev pub GoWellBelow : List Shape → List ℕ → ℕ → Shape → Shape → ℕ → Type 0
@@ -54,20 +56,20 @@ module _ (shapes : List Shape) (contacts : List ℕ) (a b : ℕ) (are : AreThose
 -- ---- the answer for one shape
 
 module _ (shapes : List Shape) (before : List ℕ) (lines : AreLaidOut shapes) (w : AreWalked shapes before) (b : ℕ) (lt : b < length shapes) where
-  pub no_bar : (IsPart shapes BAR b → ⊥) → IsNotCrossed shapes b → ⊥
+  pub no_bar : (IsPart shapes BAR b → ⊥) → IsChainUncrossed shapes b → ⊥
   no_bar not_so fault = not_so fault.bar
 
-  pub not_come : (IsReached shapes b → ⊥) → IsNotCrossed shapes b → ⊥
+  pub not_come : (IsReached shapes b → ⊥) → IsChainUncrossed shapes b → ⊥
   not_come not_so fault = not_so (Before-reached shapes fault.before b fault.is_before)
 
   module _ (is : IsPart shapes BAR b) (reached : IsReached shapes b) (from bar : Shape) (from_is : slice_get shapes (slice_index before b) ≡ Some from) (bar_is : slice_get shapes b ≡ Some bar) where
-    comes : Before shapes (slice_index before b) b
+    comes : ChainBefore shapes (slice_index before b) b
     comes = bar_before shapes before w b lt is reached
 
     same_bar : (p : IsPart shapes BAR b) → bar ≡ p.shape
     same_bar p = same_Some bar p.shape (sym bar_is ∙ p.shape_is)
 
-    pub enters_wrongly : enters from bar ≡ false → IsNotCrossed shapes b
+    pub enters_wrongly : enters from bar ≡ false → IsChainUncrossed shapes b
     enters_wrongly wrong = record {
       bar = is;
       before = slice_index before b;
@@ -78,13 +80,13 @@ module _ (shapes : List Shape) (before : List ℕ) (lines : AreLaidOut shapes) (
     }
 
     -- the shape before is the one that the walk left
-    same_before : (fault : IsNotCrossed shapes b) → slice_index before b ≡ fault.before
+    same_before : (fault : IsChainUncrossed shapes b) → slice_index before b ≡ fault.before
     same_before fault = one_before shapes lines (slice_index before b) fault.before b comes fault.is_before
 
-    same_shape : (fault : IsNotCrossed shapes b) → from ≡ fault.before_shape
+    same_shape : (fault : IsChainUncrossed shapes b) → from ≡ fault.before_shape
     same_shape fault = same_Some from fault.before_shape (sym from_is ∙ (ap (slice_get shapes) (same_before fault) ∙ fault.before_shape_is))
 
-    pub crossed : enters from bar ≡ true → (answer : Bool) → Says answer (GoesOnWrongly shapes (slice_index before b) b) → Says answer (IsNotCrossed shapes b)
+    pub crossed : enters from bar ≡ true → (answer : Bool) → Says answer (GoesOnWrongly shapes (slice_index before b) b) → Says answer (IsChainUncrossed shapes b)
     crossed well true on =
         let bars : on.bar ≡ is.shape = same_Some on.bar is.shape (sym on.bar_is ∙ is.shape_is) in
         let froms : on.before ≡ from = same_Some on.before from (sym on.before_is ∙ from_is) in
@@ -94,7 +96,7 @@ module _ (shapes : List Shape) (before : List ℕ) (lines : AreLaidOut shapes) (
           before_shape = from;
           before_shape_is = from_is;
           is_before = comes;
-          wrong = inr (subst (λ (x : Shape). LeavesWrongly shapes b (slice_index before b) x from) bars (subst (λ (x : Shape). LeavesWrongly shapes b (slice_index before b) on.bar x) froms on.wrong));
+          wrong = inr (subst (λ (x : Shape). ChainLeavesWrongly shapes b (slice_index before b) x from) bars (subst (λ (x : Shape). ChainLeavesWrongly shapes b (slice_index before b) on.bar x) froms on.wrong));
         }
     crossed well false on = λ fault. elim fault.wrong [
       | inl wrong ↦ both_ways (enters fault.before_shape fault.bar.shape) wrong
@@ -104,6 +106,6 @@ module _ (shapes : List Shape) (before : List ℕ) (lines : AreLaidOut shapes) (
         bar_is = fault.bar.shape_is;
         before = fault.before_shape;
         before_is = ap (slice_get shapes) (same_before fault) ∙ fault.before_shape_is;
-        wrong = subst (λ (x : ℕ). LeavesWrongly shapes b x fault.bar.shape fault.before_shape) (sym (same_before fault)) wrong;
+        wrong = subst (λ (x : ℕ). ChainLeavesWrongly shapes b x fault.bar.shape fault.before_shape) (sym (same_before fault)) wrong;
       })
     ]

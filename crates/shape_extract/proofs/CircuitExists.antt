@@ -9,6 +9,7 @@ use Rattle.std.proofs.lemmas.Option.{same_Some, slice_get_within}
 use Rattle.circuit.specs.CellKinds.{number_of, inputs_of}
 use Rattle.circuit.specs.declared.cell_kind.CellKind.{CellKind}
 use Rattle.circuit.specs.declared.cell_kind.CellKind.TheVariants.{Buffer, Inverter, Zero, One, Split2, Split3, Majority}
+use Rattle.rowed.specs.declared.source.Source.{Source}
 use Rattle.geom.specs.declared.shapes.Flat.{Flat}
 use Rattle.geom.specs.declared.shapes.Shape.{Shape}
 use Rattle.layout_rules.specs.declared.layers.TheConstants.{INPUT_PIN, OUTPUT_PIN}
@@ -22,7 +23,7 @@ use Rattle.layout_rules.specs.PlaceLaws.{list_any-at, list_any-place}
 use Rattle.layout_rules.specs.Reports.{Passes}
 use Rattle.layout_rules.specs.Rows.{row_of, row_count}
 use Rattle.layout_rules.proofs.NetsExist.{some_nets}
-use Rattle.rowed.specs.declared.source.Source.{Source}
+use Rattle.layout_rules.proofs.Deciding.{settled}
 use Rattle.shape_extract.specs.Circuits.{CircuitView}
 use Rattle.shape_extract.specs.Extraction.{IsOutputPin, FeedsPin, IsCellFrom, IsOutputFrom}
 use Rattle.shape_extract.specs.Extraction.{is_wired, IsCircuitOf}
@@ -36,7 +37,7 @@ use Rattle.shape_extract.proofs.CellFeeds.{frame_lies, fed_within, fed_past}
 use Rattle.shape_extract.proofs.CellLists.{no_kind, kind_there, cell_made}
 use Rattle.shape_extract.proofs.Entries.{named_exit}
 use Rattle.shape_extract.proofs.FramesExist.{some_frames}
-use Rattle.shape_extract.proofs.Kept.{settled, no_fault}
+use Rattle.shape_extract.proofs.Kept.{no_fault}
 use Rattle.shape_extract.proofs.KeptPins.{some_input, input_named, named_output}
 
 -- ---- searches and lists

@@ -9,13 +9,15 @@ use Rattle.layout_rules.specs.declared.layers.TheConstants.{BAR}
 use Rattle.layout_rules.specs.Layers.{is_frame, is_line}
 use Rattle.layout_rules.specs.Rows.{row_of, AreRows}
 use Rattle.layout_rules.specs.Reports.{ReportsNone, IsFirstReport, Alone, Passes, PassTogether}
-use Rattle.layout_rules.specs.ExcitationLines.{IsPart, IsReached, Before, phase_of}
-use Rattle.layout_rules.specs.ExcitationRule.{IsExcited, IsUnexcited}
+use Rattle.layout_rules.specs.ExcitationLines.{IsPart, IsReached, phase_of}
+use Rattle.layout_rules.specs.ExcitationRule.{IsExcited, AreLaidOut}
+use Rattle.layout_rules.specs.Code.LineChains.{ChainBefore}
+use Rattle.layout_rules.specs.Code.ChainRule.{IsChainExcited, IsChainUnexcited}
+use Rattle.layout_rules.proofs.ChainsAgree.{one_before}
 use Rattle.shape_extract.specs.Searches.{Says, AreThose}
 use Rattle.shape_extract.specs.Extraction.{IsInPhase}
-use Rattle.shape_extract.specs.Lines.{AreLaidOut, AreWalked, lies_over, Excites, IsExcitedAt, Judges}
+use Rattle.shape_extract.specs.Lines.{AreWalked, lies_over, Excites, IsChainExcitedAt, Judges}
 use Rattle.shape_extract.proofs.LineReach.{Before-reached, bar_before}
-use Rattle.shape_extract.proofs.OneLine.{one_before}
 use Rattle.shape_extract.proofs.JoinedParts.{passes_here}
 
 -- the bar over an excited frame has the phase of the frame's row
@@ -32,7 +34,7 @@ module _ (shapes : List Shape) (before : List ℕ) (lines : AreLaidOut shapes) (
   not_come_excites not_so excites = not_so (Before-reached shapes excites.phase.before b excites.phase.is_before)
 
   module _ (is : IsPart shapes BAR b) (reached : IsReached shapes b) (from bar : Shape) (from_is : slice_get shapes (slice_index before b) ≡ Some from) (bar_is : slice_get shapes b ≡ Some bar) where
-    comes : Before shapes (slice_index before b) b
+    comes : ChainBefore shapes (slice_index before b) b
     comes = bar_before shapes before w b lt is reached
 
     same_bar : (p : IsPart shapes BAR b) → bar ≡ p.shape
@@ -76,7 +78,7 @@ module _ (shapes : List Shape) (f : ℕ) (over : List ℕ) (are : AreThose (Pass
       let second : both.second ≡ s = same_Some both.second s (sym both.second_is ∙ at) in
       and_parts (is_line s) (overlap s.rect frame.rect) (subst (λ (x : Shape). lies_over frame x ≡ true) second (subst (λ (x : Shape). lies_over x both.second ≡ true) first both.passes_so))
 
-  pub not_one_over : length over ≢ 1 → IsExcited shapes frame → ⊥
+  pub not_one_over : length over ≢ 1 → IsChainExcited shapes frame → ⊥
   not_one_over ne excited =
       let bar = excited.phase.is_bar in
       let k = over_at excited.bar bar.shape bar.shape_is bar.line_so excited.over in
@@ -89,7 +91,7 @@ module _ (shapes : List Shape) (f : ℕ) (over : List ℕ) (are : AreThose (Pass
         | inr few ↦ ne (omega (arith, k.1.0))
       ]
 
-  pub one_over : length over ≡ 1 → (b : ℕ) → slice_index over 0 ≡ b → (answer : Bool) → Says answer (Excites shapes b frame) → Says answer (IsExcited shapes frame)
+  pub one_over : length over ≡ 1 → (b : ℕ) → slice_index over 0 ≡ b → (answer : Bool) → Says answer (Excites shapes b frame) → Says answer (IsChainExcited shapes frame)
   one_over one b is true excites =
       let bar = excites.phase.is_bar in
       let there : slice_get shapes (slice_index over 0) ≡ Some bar.shape = ap (slice_get shapes) is ∙ bar.shape_is in
@@ -112,33 +114,33 @@ module _ (shapes : List Shape) (f : ℕ) (over : List ℕ) (are : AreThose (Pass
 -- ---- the answer for one shape
 
 module _ (shapes : List Shape) (f : ℕ) (here : Shape) (got : slice_get shapes f ≡ Some here) where
-  pub judged : is_frame here ≡ true → (excited : Bool) → ((frame : Shape) → slice_get shapes f ≡ Some frame → Says excited (IsExcited shapes frame)) → Judges shapes f (not excited)
+  pub judged : is_frame here ≡ true → (excited : Bool) → ((frame : Shape) → slice_get shapes f ≡ Some frame → Says excited (IsChainExcited shapes frame)) → Judges shapes f (not excited)
   judged frame true says = λ s at so. says s at
   judged frame false says = record { frame = record { shape = here; shape_is = got; passes_so = frame }; not_so = says here got }
 
   pub no_frame_judged : is_frame here ≡ false → Judges shapes f false
   no_frame_judged no_so s at so = absurd (both_ways (is_frame here) no_so (ap is_frame (same_Some here s (sym got ∙ at)) ∙ so))
 
-pub judged_true : (shapes : List Shape) (f : ℕ) (answer : Bool) → Judges shapes f answer → answer ≡ true → IsUnexcited shapes f
+pub judged_true : (shapes : List Shape) (f : ℕ) (answer : Bool) → Judges shapes f answer → answer ≡ true → IsChainUnexcited shapes f
 judged_true shapes f true judges e = judges
 judged_true shapes f false judges e = absurd cc
 
-pub judged_false : (shapes : List Shape) (f : ℕ) (answer : Bool) → Judges shapes f answer → answer ≡ false → IsExcitedAt shapes f
+pub judged_false : (shapes : List Shape) (f : ℕ) (answer : Bool) → Judges shapes f answer → answer ≡ false → IsChainExcitedAt shapes f
 judged_false shapes f true judges e = absurd cc
 judged_false shapes f false judges e = judges
 
 -- ---- all frames
 
-pub excited_next : (shapes : List Shape) (n : ℕ) → ((f : ℕ) → f < n → IsExcitedAt shapes f) → IsExcitedAt shapes n → (f : ℕ) → f < n + 1 → IsExcitedAt shapes f
-excited_next shapes n so_far here f lt = elim (cases_eq f n) [ inl e ↦ subst (IsExcitedAt shapes) (sym e) here | inr ne ↦ so_far f (omega arith) ]
+pub excited_next : (shapes : List Shape) (n : ℕ) → ((f : ℕ) → f < n → IsChainExcitedAt shapes f) → IsChainExcitedAt shapes n → (f : ℕ) → f < n + 1 → IsChainExcitedAt shapes f
+excited_next shapes n so_far here f lt = elim (cases_eq f n) [ inl e ↦ subst (IsChainExcitedAt shapes) (sym e) here | inr ne ↦ so_far f (omega arith) ]
 
-pub excited_all : (shapes : List Shape) (n : ℕ) → length shapes ≤ n → ((f : ℕ) → f < n → IsExcitedAt shapes f) → (f : ℕ) → IsExcitedAt shapes f
+pub excited_all : (shapes : List Shape) (n : ℕ) → length shapes ≤ n → ((f : ℕ) → f < n → IsChainExcitedAt shapes f) → (f : ℕ) → IsChainExcitedAt shapes f
 excited_all shapes n all so_far f frame at so = let lt : f < length shapes = slice_get_within shapes f frame at in so_far f (omega arith) frame at so
 
-pub excited_none : (shapes : List Shape) → ((f : ℕ) → IsExcitedAt shapes f) → ReportsNone (Alone (IsUnexcited shapes))
+pub excited_none : (shapes : List Shape) → ((f : ℕ) → IsChainExcitedAt shapes f) → ReportsNone (Alone (IsChainUnexcited shapes))
 excited_none shapes excited a b report = report.0.not_so (excited a report.0.frame.shape report.0.frame.shape_is report.0.frame.passes_so)
 
-pub unexcited_first : (shapes : List Shape) (n : ℕ) → ((f : ℕ) → f < n → IsExcitedAt shapes f) → IsUnexcited shapes n → IsFirstReport (Alone (IsUnexcited shapes)) n n
+pub unexcited_first : (shapes : List Shape) (n : ℕ) → ((f : ℕ) → f < n → IsChainExcitedAt shapes f) → IsChainUnexcited shapes n → IsFirstReport (Alone (IsChainUnexcited shapes)) n n
 unexcited_first shapes n before fault = record {
   reported = (fault, refl);
   least = λ c d report. elim (cases_lt c n) [

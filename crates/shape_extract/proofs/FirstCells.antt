@@ -2,11 +2,12 @@
 use Rattle.std.proofs.Common.{◌≡◌, ◌≢◌, ℕ, zero, suc, ◌<◌, ◌≤◌, true, false, List, [], ◌∷◌, Some, refl, sym, ap, subst, ◌∙◌, arith, eqb, eq-eqb}
 use Rattle.std.specs.Prelude.{slice_get, slice_index, pos}
 use Rattle.std.proofs.lemmas.Option.{same_Some}
+use Rattle.circuit.specs.CellKinds.{inputs_of}
+use Rattle.circuit.specs.declared.cell_kind.CellKind.TheVariants.{Buffer}
+use Rattle.rowed.specs.declared.source.Source.{Source}
 use Rattle.geom.specs.declared.shapes.Shape.{Shape}
 use Rattle.geom.specs.FirstChip.{drawn, first_flat}
 use Rattle.geom.specs.Rectangle.{overlap}
-use Rattle.circuit.specs.CellKinds.{inputs_of}
-use Rattle.circuit.specs.declared.cell_kind.CellKind.TheVariants.{Buffer}
 use Rattle.layout_rules.specs.declared.layers.TheConstants.{INPUT_PIN, OUTPUT_PIN, BAR, START}
 use Rattle.layout_rules.specs.Layers.{is_frame, is_line}
 use Rattle.layout_rules.specs.NetLaws.{one_number}
@@ -15,7 +16,9 @@ use Rattle.layout_rules.specs.Pins.{lies_in, IsPinOf}
 use Rattle.layout_rules.specs.Labels.{letter_i}
 use Rattle.layout_rules.specs.ExcitationLines.{meet, phase_of}
 use Rattle.layout_rules.specs.CircuitRules.{IsSource}
-use Rattle.rowed.specs.declared.source.Source.{Source}
+use Rattle.layout_rules.proofs.LinePaths.{path_from_chain}
+use Rattle.layout_rules.proofs.LinesAgree.{laid_out, none_cut_off}
+use Rattle.layout_rules.proofs.FirstLines.{excitation_kept as lines_kept}
 use Rattle.shape_extract.specs.declared.cells.Feed.TheVariants.{Nothing}
 use Rattle.shape_extract.specs.declared.cells.ExCell.{ExCell}
 use Rattle.shape_extract.specs.Circuits.{feed_at}
@@ -122,14 +125,14 @@ excited a b phase start bar frame apart at_a at_b start_line start_part bar_line
     before = a;
     before_shape = start;
     before_shape_is = at_a;
-    is_before = record {
+    is_before = path_from_chain first_flat.shapes (laid_out first_flat.shapes lines_kept) (none_cut_off first_flat.shapes lines_kept) a b (record {
       rest = [];
       chain = (
         record { apart = apart; first = start; second = bar; first_is = at_a; second_is = at_b; meet_so = meets },
         record { shape = start; shape_is = at_a; line_so = start_line; datatype_is = start_part },
       );
       onward = tt;
-    };
+    });
     phase_is = phase_is;
   };
   over = over;

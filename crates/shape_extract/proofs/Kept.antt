@@ -1,7 +1,7 @@
 -- What the rules of cells, excitation lines and labels say where nothing breaks them.
-use Rattle.std.proofs.Common.{◌≡◌, ◌≢◌, ℕ, ◌+◌, ◌<◌, ◌⊎◌, inl, inr, Bool, true, false, ◌&&◌, List, length, Some, refl, sym, ap, subst, ◌∙◌, arith}
+use Rattle.std.proofs.Common.{◌≡◌, ℕ, ◌+◌, ◌<◌, ◌⊎◌, inl, inr, Bool, true, false, ◌&&◌, List, length, Some, refl, sym, ap, subst, ◌∙◌, arith}
 use Rattle.std.specs.Prelude.{slice_get, slice_index, count_by, ◌==◌}
-use Rattle.std.proofs.lemmas.Bool.{cases_eq, cases_lt, and_parts, and_from, eqb-true}
+use Rattle.std.proofs.lemmas.Bool.{cases_lt, and_parts, and_from, eqb-true}
 use Rattle.std.proofs.lemmas.Bool.Decides.{nat_tests}
 use Rattle.std.proofs.lemmas.Option.{same_Some}
 use Rattle.geom.specs.declared.shapes.Shape.{Shape}
@@ -14,22 +14,9 @@ use Rattle.layout_rules.specs.PlaceLaws.{list_any-place, count_by-one}
 use Rattle.layout_rules.specs.Pins.{LiesIn, IsPinOf}
 use Rattle.layout_rules.specs.Labels.{marks, Marks, number_of_label}
 use Rattle.layout_rules.specs.CircuitRules.{IsNoCell, IsStrayPin, CellsBroken, is_port, is_port_label, IsLabelAt, IsNoPortLabel, IsUnlabelledPort, IsMisnumbered, LabelsBroken}
+use Rattle.layout_rules.specs.ReportLaws.{first_kept, second_kept, alone_kept}
+use Rattle.layout_rules.proofs.Deciding.{settled}
 use Rattle.shape_extract.specs.Extraction.{IsNamed}
-
--- ---- how rules are tried
-
-pub first_kept : (first second : ℕ → ℕ → Type 0) → ReportsNone (Afterwards first second) → ReportsNone first
-first_kept first second h a b f = h a b (inl f)
-
-pub second_kept : (first second : ℕ → ℕ → Type 0) → ReportsNone (Afterwards first second) → ReportsNone second
-second_kept first second h a b s = h a b (inr (λ c d f. h c d (inl f), s))
-
-pub alone_kept : (fault : ℕ → Type 0) → ReportsNone (Alone fault) → (n : ℕ) → fault n → ⊥
-alone_kept fault h n f = h n n (f, refl)
-
--- equal numbers are not to be told apart
-pub settled : (a b : ℕ) → ((a ≢ b) → ⊥) → a ≡ b
-settled a b h = elim (cases_eq a b) [ inl e ↦ e | inr ne ↦ absurd (h ne) ]
 
 pub settled_true : (b : Bool) → ((b ≡ false) → ⊥) → b ≡ true
 settled_true true h = refl

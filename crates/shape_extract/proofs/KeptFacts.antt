@@ -7,10 +7,11 @@ use Rattle.std.specs.List.Sorted.{IsNonDecreasingBy}
 use Rattle.std.proofs.lemmas.Bool.{cases_eq, cases_lt, and_parts, and_from, or_cases, or_left, or_right}
 use Rattle.std.proofs.lemmas.List.Sums.{count_by-le-length}
 use Rattle.std.proofs.lemmas.Option.{same_Some, slice_get_within, slice_get-get_or}
-use Rattle.geom.specs.declared.shapes.Shape.{Shape}
-use Rattle.geom.specs.declared.shapes.Flat.{Flat}
 use Rattle.circuit.specs.declared.cell_kind.CellKind.{CellKind}
 use Rattle.circuit.specs.CellKinds.{inputs_of, outputs_of}
+use Rattle.rowed.specs.declared.source.Source.{Source}
+use Rattle.geom.specs.declared.shapes.Shape.{Shape}
+use Rattle.geom.specs.declared.shapes.Flat.{Flat}
 use Rattle.layout_rules.specs.declared.layers.TheConstants.{INPUT_PIN, OUTPUT_PIN}
 use Rattle.layout_rules.specs.Layers.{is_frame, is_pin}
 use Rattle.layout_rules.specs.NetLaws.{Joined-trans, Joined-back}
@@ -20,7 +21,9 @@ use Rattle.layout_rules.specs.RowLaws.{row_of-certified, row_count-certified}
 use Rattle.layout_rules.specs.Pins.{lies_in, LiesIn, IsPinOf, stands_in, is_entry, is_exit, exit_count}
 use Rattle.layout_rules.specs.Labels.{letter_i, letter_o, number_of_label}
 use Rattle.layout_rules.specs.CircuitRules.{HasNoFrame}
-use Rattle.rowed.specs.declared.source.Source.{Source}
+use Rattle.layout_rules.specs.ReportLaws.{first_kept}
+use Rattle.layout_rules.proofs.Deciding.{settled}
+use Rattle.layout_rules.proofs.LinesAgree.{each_excited}
 use Rattle.shape_extract.specs.declared.cells.Feed.{Feed}
 use Rattle.shape_extract.specs.declared.cells.Feed.TheVariants.{Nothing, Pin, Label as Word}
 use Rattle.shape_extract.specs.declared.cells.ExCell.{ExCell}
@@ -29,9 +32,9 @@ use Rattle.shape_extract.specs.Frames.{comes_before}
 use Rattle.shape_extract.specs.Extraction.{IsNamed, IsOutputPin, IsDrivenBy, FeedsPin, IsFeedAt, IsCellFrom, IsCircuitOf}
 use Rattle.shape_extract.specs.Extracts.{KeepsFive}
 use Rattle.shape_extract.proofs.Each.{item_at}
-use Rattle.shape_extract.proofs.Kept.{first_kept, settled, one_input, one_frame, one_named, one_number_of}
+use Rattle.shape_extract.proofs.Kept.{one_input, one_frame, one_named, one_number_of}
 use Rattle.shape_extract.proofs.KeptPins.{input_number, output_number, one_output, some_output, output_named, named_input, entry_number, exit_number, entry_named, exit_named, label_of_port, frame_in_row, row_stands}
-use Rattle.shape_extract.proofs.OneLine.{one_phase, excited_each}
+use Rattle.shape_extract.proofs.OneLine.{one_phase}
 use Rattle.shape_extract.proofs.OneOrder.{one_place}
 use Rattle.shape_extract.proofs.OneCircuit.{one_source, no_label}
 use Rattle.shape_extract.proofs.Entries.{named_entry}
@@ -189,7 +192,7 @@ module _ (flat : Flat) (five : KeepsFive flat) (edges : List ℤ) (rows : AreRow
   phase_of_row : (c : ℕ) (at : CellAt c) → at.cell.phase ≡ at.cell.row % 4
   phase_of_row c at =
       let e : row_of flat.shapes at.from.frame.rect.y0 % 4 ≡ at.cell.row % 4 = ap (λ (r : ℕ). r % 4) (sym at.from.row_is) in
-      settled at.cell.phase (at.cell.row % 4) (λ ne. excited_each flat.shapes five.lines at.f (record {
+      settled at.cell.phase (at.cell.row % 4) (λ ne. each_excited flat.shapes five.lines at.f (record {
         frame = record { shape = at.from.frame; shape_is = at.from.frame_is; passes_so = at.frame_so };
         not_so = λ excited. ne (one_phase flat.shapes five.lines at.f at.from.frame at.cell.phase (row_of flat.shapes at.from.frame.rect.y0 % 4) at.from.frame_is at.frame_so at.from.excited (record { number = excited.bar; bar = excited.phase; over = excited.over }) ∙ e);
       }))

@@ -5,11 +5,11 @@ use Rattle.std.specs.List.{list_any}
 use Rattle.std.proofs.lemmas.Bool.{cases_lt, and_parts, and_from, or_cases, or_left, or_right, both_ways, ne_eqb, eqb-true}
 use Rattle.std.proofs.lemmas.List.Sums.{count_by-le-length}
 use Rattle.std.proofs.lemmas.Option.{same_Some}
+use Rattle.circuit.specs.declared.cell_kind.CellKind.{CellKind}
+use Rattle.circuit.specs.CellKinds.{number_of, inputs_of, outputs_of}
 use Rattle.geom.specs.declared.shapes.Shape.{Shape}
 use Rattle.geom.specs.declared.shapes.Label.{Label}
 use Rattle.geom.specs.declared.shapes.Flat.{Flat}
-use Rattle.circuit.specs.declared.cell_kind.CellKind.{CellKind}
-use Rattle.circuit.specs.CellKinds.{number_of, inputs_of, outputs_of}
 use Rattle.layout_rules.specs.declared.layers.TheConstants.{INPUT_PIN, OUTPUT_PIN, LABELS}
 use Rattle.layout_rules.specs.Layers.{is_frame, is_pin}
 use Rattle.layout_rules.specs.Reports.{ReportsNone}
@@ -18,8 +18,10 @@ use Rattle.layout_rules.specs.Rows.{row_of}
 use Rattle.layout_rules.specs.Pins.{lies_in, LiesIn, IsPinOf, stands_in, is_entry, is_exit, entry_count, exit_count}
 use Rattle.layout_rules.specs.Labels.{letter_i, letter_o, marked_layer, marks, Marks, tail, is_decimal, is_numbered, number_of_label}
 use Rattle.layout_rules.specs.CircuitRules.{IsCell, CellsBroken, is_port, port_count, IsUnlabelledPort, IsMisnumbered, LabelsBroken}
+use Rattle.layout_rules.specs.ReportLaws.{first_kept, second_kept, alone_kept}
+use Rattle.layout_rules.proofs.Deciding.{settled}
 use Rattle.shape_extract.specs.Extraction.{IsNamed}
-use Rattle.shape_extract.proofs.Kept.{first_kept, second_kept, alone_kept, settled, no_fault, later_kept, port_label, label_at, one_pin}
+use Rattle.shape_extract.proofs.Kept.{no_fault, later_kept, port_label, label_at, one_pin}
 use Rattle.shape_extract.proofs.OneCircuit.{one_kind}
 
 -- ---- the pins of a cell

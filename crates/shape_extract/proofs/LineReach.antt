@@ -6,15 +6,16 @@ use Rattle.std.proofs.lemmas.Option.{same_Some}
 use Rattle.geom.specs.declared.shapes.Shape.{Shape}
 use Rattle.layout_rules.specs.declared.layers.TheConstants.{BAR, START}
 use Rattle.layout_rules.specs.Layers.{is_line}
-use Rattle.layout_rules.specs.ExcitationLines.{IsPart, IsReached, Before}
+use Rattle.layout_rules.specs.ExcitationLines.{IsPart, IsReached}
 use Rattle.layout_rules.specs.ExcitationRule.{IsCutOff}
+use Rattle.layout_rules.specs.Code.LineChains.{ChainBefore}
 use Rattle.shape_extract.specs.Searches.{Says}
 use Rattle.shape_extract.specs.Lines.{AreWalked}
 
 not_below : (a b : ℕ) → b ≤ a → nat_lt a b ≡ false
 not_below a b h = grind arith
 
-pub Before-reached : (shapes : List Shape) (a b : ℕ) → Before shapes a b → IsReached shapes b
+pub Before-reached : (shapes : List Shape) (a b : ℕ) → ChainBefore shapes a b → IsReached shapes b
 Before-reached shapes a b before = record { rest = a ∷ before.rest; chain = before.chain }
 
 module _ (shapes : List Shape) (before : List ℕ) (w : AreWalked shapes before) (n : ℕ) (lt : n < length shapes) where
@@ -31,7 +32,7 @@ module _ (shapes : List Shape) (before : List ℕ) (w : AreWalked shapes before)
   ]
 
   -- a bar that is reached has the shape before it
-  pub bar_before : IsPart shapes BAR n → IsReached shapes n → Before shapes (slice_index before n) n
+  pub bar_before : IsPart shapes BAR n → IsReached shapes n → ChainBefore shapes (slice_index before n) n
   bar_before bar reached = elim (w.come n (w.all n reached) lt) [
     | inl start ↦ absurd (
         let same : bar.shape.datatype ≡ start.shape.datatype = ap (λ (s : Shape). s.datatype) (same_Some bar.shape start.shape (sym bar.shape_is ∙ start.shape_is)) in

@@ -6,7 +6,8 @@ use Rattle.std.proofs.lemmas.Bool.{cases_eq, cases_lt}
 use Rattle.std.proofs.lemmas.Option.{slice_get_within}
 use Rattle.geom.specs.declared.shapes.Shape.{Shape}
 use Rattle.layout_rules.specs.declared.layers.TheConstants.{START}
-use Rattle.layout_rules.specs.ExcitationLines.{Contact, IsPart, IsChain, NeverTurnsBack, Before}
+use Rattle.layout_rules.specs.ExcitationLines.{Contact, IsPart, IsChain}
+use Rattle.layout_rules.specs.Code.LineChains.{NeverTurnsBack, ChainBefore}
 use Rattle.shape_extract.specs.Searches.{AreThose}
 use Rattle.shape_extract.specs.Lines.{AreWalked}
 use Rattle.shape_extract.specs.LineWalk.{Follows, IsLineWalk, HasStarts, HasContacts, IsSpreadAlong, IsBegun}
@@ -204,7 +205,7 @@ module _ (shapes : List Shape) (before order : List ℕ) (w : IsLineWalk shapes 
     pub onward : NeverTurnsBack (slice_index order p ∷ rest)
     pub back : (c : ℕ) (more : List ℕ) → rest ≡ c ∷ more → (q : ℕ) × ((q < p) × (slice_index order q ≡ c))
 
-  before_from : (p : ℕ) → p < length order → (f : Follows shapes before order p) → Route f.earlier → Before shapes (slice_index order f.earlier) (slice_index order p)
+  before_from : (p : ℕ) → p < length order → (f : Follows shapes before order p) → Route f.earlier → ChainBefore shapes (slice_index order f.earlier) (slice_index order p)
   before_from p lp f r = record {
     rest = r.rest;
     chain = (f.contact, r.chain);
@@ -227,10 +228,10 @@ module _ (shapes : List Shape) (before order : List ℕ) (w : IsLineWalk shapes 
         }
   ]
 
-  come_from : (p : ℕ) → p < length order → IsPart shapes START (slice_index order p) ⊎ Before shapes (slice_index before (slice_index order p)) (slice_index order p)
+  come_from : (p : ℕ) → p < length order → IsPart shapes START (slice_index order p) ⊎ ChainBefore shapes (slice_index before (slice_index order p)) (slice_index order p)
   come_from p lp = elim (w.come p lp) [
     | inl start ↦ inl start
-    | inr f ↦ inr (subst (λ (x : ℕ). Before shapes x (slice_index order p)) f.number_is (before_from p lp f (route (suc f.earlier) f.earlier (omega arith) (omega (arith, f.is_earlier)))))
+    | inr f ↦ inr (subst (λ (x : ℕ). ChainBefore shapes x (slice_index order p)) f.number_is (before_from p lp f (route (suc f.earlier) f.earlier (omega arith) (omega (arith, f.is_earlier)))))
   ]
 
   -- what a chain leads to is reached
@@ -248,6 +249,6 @@ module _ (shapes : List Shape) (before order : List ℕ) (w : IsLineWalk shapes 
     all = λ i reached. chain_reached starts (λ p j lp k. contacts p j (omega arith) k) i reached.rest reached.chain;
     come = λ i known li. (
         let p = w.placed i li known in
-        subst (λ (x : ℕ). IsPart shapes START x ⊎ Before shapes (slice_index before x) x) p.1.1 (come_from p.0 p.1.0)
+        subst (λ (x : ℕ). IsPart shapes START x ⊎ ChainBefore shapes (slice_index before x) x) p.1.1 (come_from p.0 p.1.0)
         );
   }

@@ -1,5 +1,5 @@
 -- The table of labels, filled label by label.
-use Rattle.std.proofs.Common.{◌≡◌, ◌≢◌, ℕ, ◌+◌, ◌<◌, ◌≤◌, Bool, true, false, inl, inr, ◌&&◌, List, [], ◌++◌, length, get_or, take, drop, replicate, append-nil, Option, Some, None, refl, sym, ap, subst, ◌∙◌, arith}
+use Rattle.std.proofs.Common.{◌≡◌, ◌≢◌, ℕ, ◌+◌, ◌<◌, ◌≤◌, Bool, true, false, inl, inr, ◌&&◌, List, ◌++◌, length, get_or, take, drop, replicate, append-nil, Some, None, refl, sym, ap, subst, ◌∙◌, arith}
 use Rattle.std.specs.Prelude.{slice_get, slice_index, slice_set, count_by, not, ◌==◌}
 use Rattle.std.specs.List.{list_any}
 use Rattle.std.proofs.Math.ListN.{length-set}
@@ -16,7 +16,7 @@ use Rattle.layout_rules.specs.PlaceLaws.{PassesAt, list_any-at, list_any-place}
 use Rattle.shape_extract.specs.Extraction.{is_wired}
 use Rattle.shape_extract.specs.Passing.{PassesIn}
 use Rattle.shape_extract.specs.Searches.{Says, AreThose}
-use Rattle.shape_extract.specs.Code.Marking.{with_label, has_label, has_one, label_in, IsUnmarked, IsMarkOf, AreMarks, IsNoted}
+use Rattle.shape_extract.specs.Code.Marking.{with_label, has_label, has_one, label_in, IsMarkOf, AreMarks, IsNoted}
 use Rattle.shape_extract.specs.declared.mark_table.Mark.{Mark}
 use Rattle.shape_extract.specs.declared.mark_table.Mark.TheVariants.{Unmarked, Once, Often}
 use Rattle.shape_extract.proofs.Each.{item_at}

@@ -11,10 +11,10 @@ use Rattle.layout_rules.specs.Nets.{AreNets}
 use Rattle.layout_rules.specs.NetLaws.{Joined-within, one_number, one_net}
 use Rattle.layout_rules.specs.Reports.{ReportsNone}
 use Rattle.layout_rules.specs.CircuitRules.{IsInput, IsSource, NetsBroken}
+use Rattle.layout_rules.proofs.Deciding.{settled}
 use Rattle.shape_extract.specs.Drivers.{AreDrivers, IsOnlySource}
 use Rattle.shape_extract.proofs.Each.{item_at}
 use Rattle.shape_extract.proofs.FramePlaces.{read_same, read_other}
-use Rattle.shape_extract.proofs.Kept.{settled}
 
 -- the drivers among the first shapes are written
 pub record DriversBelow (n : ℕ) (shapes : List Shape) (nets drivers : List ℕ) : Type 0 where

@@ -146,27 +146,27 @@ module _ (shapes : List Shape) (labels order new more : List ℕ) (from : ℕ) (
   }
 
   -- what touches an equal shape touches this one
-  pub settled_now : (s : Shape) (later : List Bool) → slice_get shapes from ≡ Some s → AreSettled shapes labels settled → IsReached shapes labels order new more from → SettlesAlike shapes s settled later → AreSettled shapes new later
-  settled_now s later got are r alike = record {
+  pub settled_now : (later : List Bool) → AreSettled shapes labels settled → IsReached shapes labels order new more from → SettlesAlike shapes from settled later → AreSettled shapes new later
+  settled_now later are r alike = record {
     long = alike.long ∙ are.long;
     reached = λ d j e t. elim (alike.alike d e) [
       | inl before ↦ (let lt : slice_index labels j < length shapes = are.reached d j before t in omega (arith, r.kept j lt))
-      | inr same ↦ r.all_reached j (record { first = t.first; second = t.second; first_is = got ∙ (sym same ∙ t.first_is); second_is = t.second_is; touch_so = t.touch_so })
+      | inr same ↦ r.all_reached j (record { first = t.first; second = t.second; first_is = sym same ∙ t.first_is; second_is = t.second_is; touch_so = t.touch_so })
     ];
   }
 
 -- one more shape is settled
-pub alike_more : (shapes : List Shape) (s t : Shape) (settled now : List Bool) (i : ℕ) → SettlesAlike shapes s settled now → slice_get shapes i ≡ Some t → t ≡ s → SettlesAlike shapes s settled (slice_set now i true)
-alike_more shapes s t settled now i are got same = record {
+pub alike_more : (shapes : List Shape) (from : ℕ) (s t : Shape) (settled now : List Bool) (i : ℕ) → SettlesAlike shapes from settled now → slice_get shapes i ≡ Some t → slice_get shapes from ≡ Some s → t ≡ s → SettlesAlike shapes from settled (slice_set now i true)
+alike_more shapes from s t settled now i are got from_is same = record {
   long = length-set now i true ∙ are.long;
   alike = λ d e. elim (cases_eq d i) [
-    | inl here ↦ inr (ap (slice_get shapes) here ∙ (got ∙ ap Some same))
+    | inl here ↦ inr (ap (slice_get shapes) here ∙ (got ∙ (ap Some same ∙ sym from_is)))
     | inr ne ↦ are.alike d (sym (get_or-set_other now i d true false ne) ∙ e)
   ];
 }
 
-pub alike_none : (shapes : List Shape) (s : Shape) (settled : List Bool) → SettlesAlike shapes s settled settled
-alike_none shapes s settled = record { long = refl; alike = λ d e. inl e }
+pub alike_none : (shapes : List Shape) (from : ℕ) (settled : List Bool) → SettlesAlike shapes from settled settled
+alike_none shapes from settled = record { long = refl; alike = λ d e. inl e }
 
 pub settled_read : (settled : List Bool) (d : ℕ) (b : Bool) → d < length settled → b ≡ get_or settled d b → b ≡ true → is_settled settled d ≡ true
 settled_read settled d b lt is e = get_or_default settled d false b lt ∙ (sym is ∙ e)

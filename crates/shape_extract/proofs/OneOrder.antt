@@ -5,8 +5,8 @@ use Rattle.std.specs.Ordering.{int_eq}
 use Rattle.std.proofs.lemmas.Bool.{and_parts, or_cases, cases_lt}
 use Rattle.std.proofs.lemmas.Option.{same_Some}
 use Rattle.geom.specs.declared.shapes.Shape.{Shape}
+use Rattle.layout_rules.proofs.Deciding.{settled}
 use Rattle.shape_extract.specs.Frames.{comes_before, HasPlace, AreFrames}
-use Rattle.shape_extract.proofs.Kept.{settled}
 
 both_less : (x y : ℤ) → int_lt x y ≡ true → int_lt y x ≡ true → ⊥
 both_less x y a b = grind arith

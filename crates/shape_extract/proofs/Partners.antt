@@ -12,13 +12,13 @@ use Rattle.std.proofs.lemmas.List.Filters.{FiltersInPlace}
 use Rattle.std.proofs.lemmas.List.Kept.{AllPairs-from_increasing, IsStrictlyIncreasing-filter}
 use Rattle.std.proofs.lemmas.Option.{same_Some, slice_get_within, slice_get-map}
 use Rattle.geom.specs.Rectangle.{Rectangle, IsProper, AreProper, holds_point, share_x, share_y, share_point}
-use Rattle.geom.specs.Near.{rects_of, IsClose, IsNear, AreNear}
+use Rattle.geom.specs.Near.{rects_of, IsClose, AreNear}
 use Rattle.geom.specs.declared.shapes.Shape.{Shape}
 use Rattle.geom.specs.declared.shapes.Label.{Label}
 use Rattle.layout_rules.specs.declared.layers.TheConstants.{LABELS}
 use Rattle.layout_rules.specs.Labels.{marks, marked_layer}
 use Rattle.layout_rules.specs.Layers.{is_lower, is_upper, is_via}
-use Rattle.layout_rules.specs.Touch.{touch, Touching}
+use Rattle.layout_rules.specs.Touch.{touch}
 use Rattle.layout_rules.specs.Reports.{PassTogether}
 use Rattle.shape_extract.specs.Walk.{AreTouching}
 use Rattle.shape_extract.specs.Passing.{PassesIn}

@@ -3,6 +3,7 @@ use Rattle.std.proofs.Common.{◌≡◌, ℕ, ◌<◌, true, ◌&&◌, ℤ, List
 use Rattle.std.specs.Prelude.{slice_index, slice_get}
 use Rattle.std.proofs.lemmas.Bool.{cases_lt, and_parts}
 use Rattle.std.proofs.lemmas.Option.{same_Some}
+use Rattle.std.specs.Prelude.{◌⊎◌}
 use Rattle.geom.specs.Rectangle.{within}
 use Rattle.geom.specs.declared.shapes.Shape.{Shape}
 use Rattle.layout_rules.specs.Layers.{is_pin, is_frame}
@@ -11,11 +12,10 @@ use Rattle.layout_rules.specs.RowLaws.{row_of-certified}
 use Rattle.layout_rules.specs.Pins.{lies_in, LiesIn}
 use Rattle.layout_rules.specs.Reports.{ReportsNone, Passes, PassTogether}
 use Rattle.layout_rules.specs.CircuitRules.{IsNoCell, IsStrayPin, CellsBroken}
+use Rattle.layout_rules.specs.ReportLaws.{second_kept, alone_kept}
 use Rattle.shape_extract.specs.Searches.{AreThose}
 use Rattle.shape_extract.specs.Edges.{IsAmong}
 use Rattle.shape_extract.specs.PinRows.{IsRowOf}
-use Rattle.shape_extract.proofs.Kept.{second_kept, alone_kept}
-use Rattle.std.specs.Prelude.{◌⊎◌}
 
 module _ (shapes : List Shape) (p : ℕ) (kept : ReportsNone (CellsBroken shapes)) (pin : Passes is_pin shapes p) (frames : List ℕ) (are : AreThose (PassTogether lies_in shapes p) frames) where
   pub some_frame : 0 < length frames

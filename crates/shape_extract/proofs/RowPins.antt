@@ -5,6 +5,7 @@ use Rattle.std.proofs.Math.ListN.{get_or-append, length-append}
 use Rattle.std.proofs.Math.Seq.{get_or-append_seam}
 use Rattle.std.proofs.lemmas.Option.{same_Some, slice_get_within}
 use Rattle.std.proofs.lemmas.Bool.{cases_eq, cases_lt, both_ways}
+use Rattle.std.specs.Prelude.{◌⊎◌}
 use Rattle.geom.specs.declared.shapes.Shape.{Shape}
 use Rattle.geom.specs.declared.shapes.Flat.{Flat}
 use Rattle.layout_rules.specs.declared.layers.TheConstants.{INPUT_PIN, OUTPUT_PIN}
@@ -14,12 +15,12 @@ use Rattle.layout_rules.specs.Pins.{LiesIn}
 use Rattle.layout_rules.specs.Rows.{row_of}
 use Rattle.layout_rules.specs.Reports.{ReportsNone, Passes}
 use Rattle.layout_rules.specs.CircuitRules.{IsNoCell, IsStrayPin, CellsBroken, RowsBroken}
+use Rattle.layout_rules.specs.ReportLaws.{second_kept, alone_kept}
+use Rattle.layout_rules.proofs.Deciding.{settled}
 use Rattle.shape_extract.specs.Searches.{FindsAt, AreThose}
 use Rattle.shape_extract.specs.NetPins.{IsPinIn}
 use Rattle.shape_extract.specs.PinRows.{IsRowOf}
 use Rattle.shape_extract.specs.RowFaults.{ArePinRows, AreRowed, FindsAstray}
-use Rattle.shape_extract.proofs.Kept.{second_kept, alone_kept, settled}
-use Rattle.std.specs.Prelude.{◌⊎◌}
 
 -- ---- the rows of the first pins
 

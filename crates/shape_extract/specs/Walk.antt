@@ -1,5 +1,5 @@
 -- The walk that finds nets: a label for each shape, where a number of no shape means none yet, and the labelled shapes in the order in which they were labelled. It is the search by connected components of circuit extractors.
-use Rattle.std.specs.Prelude.{◌≡◌, ℕ, ◌+◌, ◌*◌, ◌<◌, ◌≤◌, ◌⊎◌, Bool, true, false, List, length, Some, slice_get, slice_index, slice_index_or, sum}
+use Rattle.std.specs.Prelude.{◌≡◌, ℕ, ◌+◌, ◌*◌, ◌<◌, ◌≤◌, ◌⊎◌, Bool, true, false, List, length, slice_get, slice_index, slice_index_or, sum}
 use Rattle.geom.specs.declared.shapes.Shape.{Shape}
 use Rattle.layout_rules.specs.Touch.{Touching, Joined}
 
@@ -48,10 +48,10 @@ pub record AreSettled (shapes : List Shape) (labels : List ℕ) (settled : List 
   pub long : length settled ≡ length shapes
   pub reached : (d j : ℕ) → is_settled settled d ≡ true → Touching shapes d j → slice_index labels j < length shapes
 
--- only shapes that are equal to this one are settled anew
-pub record SettlesAlike (shapes : List Shape) (s : Shape) (settled new : List Bool) : Type 0 where
+-- only shapes that are equal to shape `from` are settled anew
+pub record SettlesAlike (shapes : List Shape) (from : ℕ) (settled new : List Bool) : Type 0 where
   pub long : length new ≡ length settled
-  pub alike : (d : ℕ) → is_settled new d ≡ true → (is_settled settled d ≡ true) ⊎ (slice_get shapes d ≡ Some s)
+  pub alike : (d : ℕ) → is_settled new d ≡ true → (is_settled settled d ≡ true) ⊎ (slice_get shapes d ≡ slice_get shapes from)
 
 -- all that touches shape `from` is labelled, new ones as that shape is
 pub record IsReached (shapes : List Shape) (labels order new more : List ℕ) (from : ℕ) : Type 0 where

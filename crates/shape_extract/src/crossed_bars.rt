@@ -4,9 +4,10 @@ ghost use Rattle.geom.specs.Near.{rects_of};
 ghost use Rattle.geom.specs.Rectangle.{share_y};
 ghost use Rattle.layout_rules.specs.Reports.{Alone};
 ghost use Rattle.layout_rules.specs.ExcitationLines.{Contact, at_left, at_right, at_left_only, at_right_only, enters, leaves};
-ghost use Rattle.layout_rules.specs.ExcitationRule.{IsNotCrossed};
+ghost use Rattle.layout_rules.specs.ExcitationRule.{AreLaidOut};
+ghost use Rattle.layout_rules.specs.Code.ChainRule.{IsChainUncrossed};
 ghost use Rattle.shape_extract.specs.Searches.{Says, Finds, AreThose};
-ghost use Rattle.shape_extract.specs.Lines.{AreLaidOut, AreWalked, GoesOnWrongly};
+ghost use Rattle.shape_extract.specs.Lines.{AreWalked, GoesOnWrongly};
 
 use crate::contacts::{is_part, list_contacts};
 use crate::labels::holds_in_x;
@@ -100,7 +101,7 @@ fn is_not_crossed(
     requires within { b < length shapes.now }
     requires lines { AreLaidOut shapes.now }
     requires walked { AreWalked shapes.now before.now }
-    ensures { IfOk result (λ yes. Says yes (IsNotCrossed shapes.now b)) }
+    ensures { IfOk result (λ yes. Says yes (IsChainUncrossed shapes.now b)) }
 {
     if !is_part(shapes, BAR, b) {
         return Ok(false);
@@ -132,7 +133,7 @@ impl<'a> Part for UncrossedBars<'a> {
 
     ghost count = { λ s. length s.shapes.now };
 
-    ghost reported = { λ s. Alone (IsNotCrossed s.shapes.now) };
+    ghost reported = { λ s. Alone (IsChainUncrossed s.shapes.now) };
 
     fn count(&self) -> u32 {
         self.shapes.len() as u32
@@ -159,7 +160,7 @@ pub fn find_uncrossed(
     requires few { length shapes.now < 2 ^ 32 }
     requires lines { AreLaidOut shapes.now }
     requires walked { AreWalked shapes.now before.now }
-    ensures { IfOk result (Finds (Alone (IsNotCrossed shapes.now))) }
+    ensures { IfOk result (Finds (Alone (IsChainUncrossed shapes.now))) }
 {
     first_of(
         alloc,

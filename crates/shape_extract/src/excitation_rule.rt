@@ -2,9 +2,9 @@
 ghost use Rattle.std.specs.Prelude.{◌≡◌, ◌^◌, ◌<◌, IfOk, length};
 ghost use Rattle.geom.specs.Near.{rects_of};
 ghost use Rattle.layout_rules.specs.Reports.{Alone, Afterwards};
-ghost use Rattle.layout_rules.specs.ExcitationRule.{IsCutOff, IsNotCrossed, IsUnexcited, ExcitationBroken};
+ghost use Rattle.layout_rules.specs.ExcitationRule.{IsCutOff, IsNotCrossed, IsUnexcited, ExcitationBroken, AreLaidOut};
 ghost use Rattle.shape_extract.specs.Searches.{Finds};
-ghost use Rattle.shape_extract.specs.Lines.{AreLaidOut, ExcitesFrames};
+ghost use Rattle.shape_extract.specs.Lines.{ExcitesFrames};
 
 use crate::crossed_bars::find_uncrossed;
 use crate::excited_frames::find_unexcited;

@@ -7,10 +7,11 @@ ghost use Rattle.layout_rules.specs.Layers.{is_frame};
 ghost use Rattle.layout_rules.specs.Reports.{Alone, Passes};
 ghost use Rattle.layout_rules.specs.Rows.{AreRows};
 ghost use Rattle.layout_rules.specs.ExcitationLines.{phase_of};
-ghost use Rattle.layout_rules.specs.ExcitationRule.{IsExcited, IsUnexcited};
+ghost use Rattle.layout_rules.specs.ExcitationRule.{AreLaidOut};
+ghost use Rattle.layout_rules.specs.Code.ChainRule.{IsChainExcited, IsChainUnexcited};
 ghost use Rattle.shape_extract.specs.Searches.{Says, Finds};
 ghost use Rattle.shape_extract.specs.Edges.{IsAmong};
-ghost use Rattle.shape_extract.specs.Lines.{AreLaidOut, AreWalked, lies_over, Excites, Judges, ExcitesFrames};
+ghost use Rattle.shape_extract.specs.Lines.{AreWalked, lies_over, Excites, Judges, ChainsExciteFrames};
 
 use crate::cell_rule::{is_frame, is_within};
 use crate::contacts::{is_line, is_part};
@@ -114,7 +115,7 @@ fn is_excited(
     requires rows { AreRows shapes.now edges.now }
     requires frame { Passes is_frame shapes.now f }
     requires within { f < length shapes.now }
-    ensures { IfOk result (λ yes. (frame : Shape) → slice_get shapes.now f ≡ Some frame → Says yes (IsExcited shapes.now frame)) }
+    ensures { IfOk result (λ yes. (frame : Shape) → slice_get shapes.now f ≡ Some frame → Says yes (IsChainExcited shapes.now frame)) }
 {
     list_partners(&LiesOver, shapes, index, f, found)?;
     if found.len() != 1 {
@@ -161,8 +162,8 @@ pub fn find_unexcited(
     requires lines { AreLaidOut shapes.now }
     requires walked { AreWalked shapes.now before.now }
     requires rows { AreRows shapes.now edges.now }
-    ensures finds { IfOk result (Finds (Alone (IsUnexcited shapes.now))) }
-    ensures excited { IfOk result (ExcitesFrames shapes.now) }
+    ensures finds { IfOk result (Finds (Alone (IsChainUnexcited shapes.now))) }
+    ensures excited { IfOk result (ChainsExciteFrames shapes.now) }
 {
     let mut found = Vec::new(alloc);
     for f in 0..shapes.len() as u32 {

@@ -6,7 +6,7 @@ ghost use Rattle.layout_rules.specs.Touch.{touch};
 ghost use Rattle.layout_rules.specs.Nets.{AreNets};
 ghost use Rattle.shape_extract.specs.Walk.{AreTouching, IsWalk, IsSpreadTo, IsDone, AreMarked, IsLowest, IsGrown, AreSettled, SettlesAlike, IsReached};
 
-use crate::search::{PairTest, list_partners};
+use crate::search::{PairTest, keep_passing};
 use crate::touching::{is_conductor, touch};
 use aq_base::{List, Memory};
 use geom::{Buckets, Flat, Shape, file_shapes};
@@ -29,23 +29,52 @@ impl PairTest for Touch {
     ghost close = { λ s a b p q h. touch_close a b h };
 }
 
-/// Lists exactly the shapes that touch the one of this number.
+fn is_equal(a: &Shape, b: &Shape) -> bool
+    ensures { IsTrue result → a.now ≡ b.now }
+{
+    *a == *b
+}
+
+/// Settles those of these numbers whose shapes are equal to that of number `from`.
+fn settle(shapes: &[Shape], numbers: &[u32], from: u32, settled: &mut Vec<bool>)
+    requires at { from < length shapes.now }
+    requires within { (p : ℕ) → p < length numbers.now → slice_index numbers.now p < length shapes.now }
+    requires long { length settled.old.items ≡ length shapes.now }
+    ensures { SettlesAlike shapes.now from settled.old.items settled.new.items }
+{
+    let shape = &shapes[from as usize];
+    for number in numbers {
+        if is_equal(&shapes[*number as usize], shape) {
+            settled[*number as usize] = true;
+        }
+    }
+}
+
+/// Lists exactly the shapes that touch the one of this number, and settles those that are equal to it: what touches the
+/// one touches the other. Equal vias don't touch each other, so all that lie near are looked through.
 fn list_touching(
     shapes: &[Shape],
     index: &Buckets,
+    settled: &mut Vec<bool>,
     from: u32,
     found: &mut Vec<u32>,
 ) -> Result<(), Memory>
     requires filed { index.now ≡ rects_of shapes.now }
     requires within { from < length shapes.now }
-    requires few { length shapes.now < 2 ^ 32 }
-    ensures { IfOk result (λ _. AreTouching shapes.now from found.new.items) }
+    requires long { length settled.old.items ≡ length shapes.now }
+    ensures touching { IfOk result (λ _. AreTouching shapes.now from found.new.items) }
+    ensures alike { IfOk result (λ _. SettlesAlike shapes.now from settled.old.items settled.new.items) }
 {
-    if !is_conductor(&shapes[from as usize]) {
+    let shape = &shapes[from as usize];
+    if !is_conductor(shape) {
         found.clear();
         return Ok(());
     }
-    list_partners(&Touch, shapes, index, from, found)
+    index.known();
+    index.list_near(&shape.rect, 0, found)?;
+    settle(shapes, found.as_slice(), from, settled);
+    keep_passing(&Touch, shape, shapes, found);
+    Ok(())
 }
 
 /// Labels those of these shapes that have no label yet as shape `from` is labelled, and adds them to the order.
@@ -73,27 +102,8 @@ fn spread(
     Ok(())
 }
 
-fn is_equal(a: &Shape, b: &Shape) -> bool
-    ensures { IsTrue result → a.now ≡ b.now }
-{
-    *a == *b
-}
-
-/// Settles those of these numbers whose shapes are equal to this one.
-fn settle(shapes: &[Shape], numbers: &[u32], shape: &Shape, settled: &mut Vec<bool>)
-    requires within { (p : ℕ) → p < length numbers.now → slice_index numbers.now p < length shapes.now }
-    requires long { length settled.old.items ≡ length shapes.now }
-    ensures { SettlesAlike shapes.now shape.now settled.old.items settled.new.items }
-{
-    for number in numbers {
-        if is_equal(&shapes[*number as usize], shape) {
-            settled[*number as usize] = true;
-        }
-    }
-}
-
-/// Spreads from the shape of this number, unless an equal one has been spread from: what touches the one touches the
-/// other. So a heap of equal shapes is looked at once. The list is for use within.
+/// Spreads from the shape of this number, unless an equal one has been spread from: so a heap of equal shapes is looked at
+/// once. The list is for use within.
 fn reach(
     shapes: &[Shape],
     index: &Buckets,
@@ -116,9 +126,8 @@ fn reach(
     if settled[from as usize] {
         return Ok(());
     }
-    list_touching(shapes, index, from, found)?;
+    list_touching(shapes, index, settled, from, found)?;
     spread(shapes, found.as_slice(), labels, order, from)?;
-    settle(shapes, found.as_slice(), &shapes[from as usize], settled);
     Ok(())
 }
 

@@ -78,7 +78,7 @@ pub trait PairTest {
 }
 
 /// Keeps those of the numbers whose shapes pass the test together with the first.
-fn keep_passing<T: PairTest>(test: &T, first: &Shape, shapes: &[Shape], numbers: &mut Vec<u32>)
+pub fn keep_passing<T: PairTest>(test: &T, first: &Shape, shapes: &[Shape], numbers: &mut Vec<u32>)
     requires { All (λ n. n < length shapes.now) numbers.old.items }
     ensures { numbers.new.items ≡ filter (passes_with (T.passes test.now) first.now shapes.now) numbers.old.items }
 {

@@ -1,7 +1,7 @@
 use Rattle.std.proofs.Common.{refl, sym, subst, List, ℕ}
 use Rattle.rowed.specs.declared.row_cell.RowCell.{RowCell}
 use Rattle.rowed.specs.PlacedNets.{IsPlaced}
-use Rattle.rowed.specs.TestedNets.{placed_from_test}
+use Rattle.rowed.proofs.TestedNets.{placed_from_test}
 use Rattle.layout_make.specs.Chips.{third_placed}
 use Rattle.layout_make.proofs.tests.third.Goals as goal
 

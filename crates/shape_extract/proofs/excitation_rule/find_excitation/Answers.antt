@@ -1,8 +1,7 @@
 use Rattle.std.proofs.lemmas.Result.{IfOk-weaker}
 use Rattle.layout_rules.specs.Reports.{ReportsNone, IsFirstReport, Alone, Passes}
-use Rattle.layout_rules.specs.ExcitationRule.{is_no_part, IsMisjoined, ExcitationBroken}
+use Rattle.layout_rules.specs.ExcitationRule.{is_no_part, IsMisjoined, ExcitationBroken, AreLaidOut}
 use Rattle.shape_extract.specs.Searches.{Finds}
-use Rattle.shape_extract.specs.Lines.{AreLaidOut}
 use Rattle.shape_extract.proofs.LineTurns.{AlongLines, by_part, by_even, by_odd, by_contacts, by_lines}
 use Rattle.shape_extract.proofs.excitation_rule.find_excitation.Goals as goal
 

@@ -1,4 +1,4 @@
-use Rattle.std.proofs.Common.{◌≡◌, ◌∙◌, ap, arith, length, Some}
+use Rattle.std.proofs.Common.{◌≡◌, ap, arith, length, Some}
 use Rattle.std.specs.Prelude.{slice_get}
 use Rattle.layout_rules.specs.Labels.{marks}
 use Rattle.shape_extract.specs.Passing.{PassesIn}

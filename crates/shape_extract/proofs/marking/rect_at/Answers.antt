@@ -1,5 +1,4 @@
-use Rattle.std.proofs.Common.{◌≡◌, rules, true, w64, to_z, of_z}
-use Rattle.std.specs.Prelude.{int_le}
+use Rattle.std.proofs.Common.{◌≡◌, rules, w64, to_z, of_z}
 use Rattle.std.proofs.lemmas.Int.{to_z-of_z}
 use Rattle.shape_extract.proofs.Partners.{point_held}
 use Rattle.shape_extract.proofs.marking.rect_at.Goals as goal

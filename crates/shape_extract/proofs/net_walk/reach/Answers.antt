@@ -1,8 +1,5 @@
-use Rattle.std.proofs.Common.{◌≡◌, length, Some, arith}
-use Rattle.std.specs.Prelude.{slice_get}
-use Rattle.layout_rules.specs.NetLaws.{Touching-within}
+use Rattle.std.proofs.Common.{arith}
 use Rattle.shape_extract.specs.Walk.{AreTouching, IsReached}
-use Rattle.shape_extract.proofs.Passing.{read_at}
 use Rattle.shape_extract.proofs.NetWalk.{reached_before, reached_now, settled_now, settled_read}
 use Rattle.shape_extract.proofs.net_walk.reach.Goals as goal
 
@@ -15,21 +12,15 @@ returns-then-index-clause-reached c =
     (settled_read c.args.settled.now.items c.args.from c.index.result.now (omega (arith, c.requires.settled.long)) c.index.ensures c.if-index.true)
 
 pub spread-requires-clause-touching : goal.spread-requires-clause-touching
-spread-requires-clause-touching c = rw c.as_slice.ensures.value c.in_ok-list_touching.ensures
-
-pub settle-requires-clause-within : goal.settle-requires-clause-within
-settle-requires-clause-within c =
-    let are : AreTouching c.args.shapes.now c.args.from c.list_touching.new.found.items = c.in_ok-list_touching.ensures in
-    rw c.as_slice-2.ensures.value (λ p lt. (Touching-within (are.each p lt)).1)
+spread-requires-clause-touching c = rw c.as_slice.ensures.value c.in_ok-list_touching.ensures.touching
 
 pub returns-clause-reached : goal.returns-clause-reached
 returns-clause-reached c =
-    let are : AreTouching c.args.shapes.now c.args.from c.as_slice.result.now = rw c.as_slice.ensures.value c.in_ok-list_touching.ensures in
+    let are : AreTouching c.args.shapes.now c.args.from c.as_slice.result.now = rw c.as_slice.ensures.value c.in_ok-list_touching.ensures.touching in
     reached_now c.args.shapes.now c.args.labels.now c.args.order.now.items _ _ c.args.from c.args.settled.now.items c.as_slice.result.now are c.in_ok-spread.ensures
 
 pub returns-clause-settled : goal.returns-clause-settled
 returns-clause-settled c =
-    let are : AreTouching c.args.shapes.now c.args.from c.as_slice.result.now = rw c.as_slice.ensures.value c.in_ok-list_touching.ensures in
+    let are : AreTouching c.args.shapes.now c.args.from c.as_slice.result.now = rw c.as_slice.ensures.value c.in_ok-list_touching.ensures.touching in
     let reached : IsReached c.args.shapes.now c.args.labels.now c.args.order.now.items c.spread.new.labels c.spread.new.order.items c.args.from = reached_now c.args.shapes.now c.args.labels.now c.args.order.now.items c.spread.new.labels c.spread.new.order.items c.args.from c.args.settled.now.items c.as_slice.result.now are c.in_ok-spread.ensures in
-    settled_now c.args.shapes.now c.args.labels.now c.args.order.now.items c.spread.new.labels c.spread.new.order.items c.args.from c.args.settled.now.items c.index-shapes-from.result _
-    (read_at c.args.shapes.now _ _ c.requires.at c.index-shapes-from.is) c.requires.settled reached c.settle.ensures
+    settled_now c.args.shapes.now c.args.labels.now c.args.order.now.items c.spread.new.labels c.spread.new.order.items c.args.from c.args.settled.now.items _ c.requires.settled reached c.in_ok-list_touching.ensures.alike

@@ -18,6 +18,6 @@ pub loop-number-preserved : goal.loop-number-preserved
 loop-number-preserved c =
     let got : slice_get c.args.shapes.now (slice_index c.args.numbers.now c.loop-number.number-index) ≡ Some c.index-shapes-number.result = read_at c.args.shapes.now _ _ (c.requires.within c.loop-number.number-index c.loop-number-test.true) c.index-shapes-number.is in
     elim c.if-is_equal.branch [
-      | then-is_equal w ↦ rw w.settled-is (alike_more c.args.shapes.now c.args.shape.now c.index-shapes-number.result _ _ _ c.loop-number.invariant got (c.is_equal.ensures w.if-is_equal.true))
+      | then-is_equal w ↦ rw w.settled-is (alike_more c.args.shapes.now c.args.from c.index-shapes-from.result c.index-shapes-number.result _ _ _ c.loop-number.invariant got (read_at c.args.shapes.now _ _ c.requires.at c.index-shapes-from.is) (c.is_equal.ensures w.if-is_equal.true))
       | else-is_equal w ↦ rw w.settled-is c.loop-number.invariant
     ]

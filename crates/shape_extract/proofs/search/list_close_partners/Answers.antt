@@ -1,4 +1,4 @@
-use Rattle.std.proofs.Common.{◌≡◌, List, subst}
+use Rattle.std.proofs.Common.{List, subst}
 use Rattle.geom.specs.Rectangle.{Rectangle, AreProper}
 use Rattle.geom.specs.Near.{rects_of, AreNear}
 use Rattle.shape_extract.proofs.Passing.{read_at}

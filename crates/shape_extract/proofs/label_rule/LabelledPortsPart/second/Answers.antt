@@ -1,8 +1,5 @@
-use Rattle.std.proofs.Common.{◌≡◌, ◌<◌, ◌∙◌, sym, Some, length, true, false}
-use Rattle.std.specs.Prelude.{slice_get, count_by}
-use Rattle.layout_rules.specs.Labels.{marks}
+use Rattle.std.proofs.Common.{◌≡◌, ◌∙◌, sym, true, false}
 use Rattle.layout_rules.specs.CircuitRules.{is_port}
-use Rattle.shape_extract.specs.Searches.{Says}
 use Rattle.shape_extract.proofs.Each.{item_at}
 use Rattle.shape_extract.proofs.Searching.{said_true, said_false}
 use Rattle.shape_extract.proofs.MarkTable.{one_at}

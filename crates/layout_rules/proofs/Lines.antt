@@ -1,6 +1,6 @@
 -- When two lines, each of a start and one bar, excite the rows, computed.
-use Rattle.std.proofs.Common.{◌≡◌, ◌≢◌, ℕ, ◌&&◌, ◌||◌, Bool, true, false, List, [], ◌∷◌, Some, sym, ap, subst, ◌∙◌, arith, eq-eqb, inl, inr}
-use Rattle.std.specs.Prelude.{slice_get, ◌==◌, ◌%◌, not, count_by}
+use Rattle.std.proofs.Common.{◌≡◌, ◌≢◌, ℕ, length, ◌<◌, suc, zero, ◌&&◌, ◌||◌, Bool, true, false, List, [], ◌∷◌, Some, sym, ap, subst, ◌∙◌, arith, eq-eqb, inl, inr}
+use Rattle.std.specs.Prelude.{slice_get, slice_index, ◌==◌, ◌%◌, not, count_by}
 use Rattle.std.proofs.lemmas.Bool.{both_ways, and_from, and_parts, or_cases, eqb-true, false_from_ne_true, not_from_false}
 use Rattle.std.proofs.lemmas.Option.{same_Some}
 use Rattle.geom.specs.declared.shapes.Shape.{Shape}
@@ -8,12 +8,15 @@ use Rattle.geom.specs.Rectangle.{overlap, within}
 use Rattle.layout_rules.specs.declared.layers.TheConstants.{EVEN_LINE, ODD_LINE, BAR, LINK, START}
 use Rattle.layout_rules.specs.Layers.{is_line, is_frame}
 use Rattle.layout_rules.specs.Reports.{ReportsNone, Passes}
-use Rattle.layout_rules.specs.ExcitationLines.{meet, Contact, IsPart, IsReached, Before, enters, HasPhase, phase_of}
+use Rattle.layout_rules.specs.ExcitationLines.{meet, Contact, IsPart, IsReached, enters, phase_of, is_on, IsLine}
 use Rattle.layout_rules.specs.PlaceLaws.{count_by-one}
 use Rattle.layout_rules.specs.LineLaws.{Contact-back}
 use Rattle.layout_rules.specs.Rows.{row_of}
-use Rattle.layout_rules.specs.ExcitationRule.{is_no_part, HasOneStart, LacksOneStart, HasItsContacts, IsMisjoined, IsCutOff, IsNotCrossed, IsExcited, IsUnexcited, ExcitationBroken}
-use Rattle.faulty_chips.proofs.Places.{places, IsOneOf, one_of, place_at, place_of, at_one, second_place}
+use Rattle.layout_rules.specs.ExcitationRule.{is_no_part, HasOneStart, LacksOneStart, HasItsContacts, IsMisjoined, IsCutOff, ExcitationBroken}
+use Rattle.layout_rules.specs.Code.LineChains.{ChainBefore, HasChainPhase}
+use Rattle.layout_rules.specs.Code.ChainRule.{IsChainUncrossed, IsChainExcited, IsChainUnexcited, ChainsBroken}
+use Rattle.layout_rules.proofs.LinesAgree.{excitation_none}
+use Rattle.layout_rules.proofs.Places.{places, IsOneOf, one_of, place_at, place_of, at_one, second_place}
 
 abbrev pub is_part : ℕ → Shape → Bool
 is_part datatype s = is_line s && s.datatype == datatype
@@ -66,7 +69,7 @@ abbrev is_over : Shape → Shape → Bool
 is_over frame l = is_line l && overlap l.rect frame.rect
 
 -- a start with one bar behind it, and no other contacts
-pub record IsLine (shapes : List Shape) (start bar : ℕ) : Type 0 where
+pub record IsShortLine (shapes : List Shape) (start bar : ℕ) : Type 0 where
   pub s : Shape
   pub t : Shape
   pub s_is : slice_get shapes start ≡ Some s
@@ -82,7 +85,7 @@ pub record IsLine (shapes : List Shape) (start bar : ℕ) : Type 0 where
 
 -- such a line, by what is computed of its two shapes
 abbrev pub line_of : {shapes : List Shape} {start bar : ℕ} (s t : Shape) → slice_get shapes start ≡ Some s → slice_get shapes bar ≡ Some t → is_line s ≡ true → is_line t ≡ true → s.datatype ≡ START → t.datatype ≡ BAR
-    → meet s t ≡ true → meet t s ≡ true → places (meet s) shapes ≡ start ∷ bar ∷ [] → places (meet t) shapes ≡ start ∷ bar ∷ [] → IsLine shapes start bar
+    → meet s t ≡ true → meet t s ≡ true → places (meet s) shapes ≡ start ∷ bar ∷ [] → places (meet t) shapes ≡ start ∷ bar ∷ [] → IsShortLine shapes start bar
 line_of s t s_is t_is s_line t_line s_start t_bar there back of_start of_bar = record {
   s = s;
   t = t;
@@ -98,7 +101,7 @@ line_of s t s_is t_is s_line t_line s_start t_bar there back of_start of_bar = r
   of_bar = of_bar;
 }
 
-module _ (shapes : List Shape) (start bar : ℕ) (line : IsLine shapes start bar) where
+module _ (shapes : List Shape) (start bar : ℕ) (line : IsShortLine shapes start bar) where
   open line use {s, t, s_is, t_is, s_line, t_line, s_start, t_bar, there, back, of_start, of_bar}
 
   apart : start ≢ bar
@@ -148,13 +151,13 @@ module _ (shapes : List Shape) (start bar : ℕ) (line : IsLine shapes start bar
   pub bar_reached : IsReached shapes bar
   bar_reached = record { rest = start ∷ []; chain = (to_bar, start_part) }
 
-  pub bar_before : Before shapes start bar
+  pub bar_before : ChainBefore shapes start bar
   bar_before = record { rest = []; chain = (to_bar, start_part); onward = tt }
 
-  from_start : (h : IsNotCrossed shapes bar) → h.before ≡ start
+  from_start : (h : IsChainUncrossed shapes bar) → h.before ≡ start
   from_start h = contact_of_bar h.before (Contact-back h.is_before.chain.0)
 
-  entered : (h : IsNotCrossed shapes bar) → enters h.before_shape h.bar.shape ≡ enters s t
+  entered : (h : IsChainUncrossed shapes bar) → enters h.before_shape h.bar.shape ≡ enters s t
   entered h =
       let at : slice_get shapes start ≡ Some h.before_shape = subst (λ (n : ℕ). slice_get shapes n ≡ Some h.before_shape) (from_start h) h.before_shape_is in
       let one : h.before_shape ≡ s = sym (same_Some s h.before_shape (sym s_is ∙ at)) in
@@ -162,20 +165,20 @@ module _ (shapes : List Shape) (start bar : ℕ) (line : IsLine shapes start bar
       ap (λ (v : Shape). enters v h.bar.shape) one ∙ ap (λ (v : Shape). enters s v) two
 
   -- nothing comes before the bar but the start, and nothing after it
-  pub bar_crossed : enters s t ≡ true → IsNotCrossed shapes bar → ⊥
+  pub bar_crossed : enters s t ≡ true → IsChainUncrossed shapes bar → ⊥
   bar_crossed enters_so h = elim h.wrong [
     | inl e ↦ both_ways (enters s t) (sym (entered h) ∙ e) enters_so
     | inr l ↦ l.onward (contact_of_bar l.after l.contact ∙ sym (from_start h))
   ]
 
-  abbrev pub bar_phase : (phase : ℕ) → phase_of s t ≡ phase → HasPhase shapes bar phase
+  abbrev pub bar_phase : (phase : ℕ) → phase_of s t ≡ phase → HasChainPhase shapes bar phase
   bar_phase phase e = record { is_bar = bar_part; before = start; before_shape = s; before_shape_is = s_is; is_before = bar_before; phase_is = e }
 
   -- the bar alone lies over the frame, contains it, and has the phase of its row
   abbrev pub excites : Shape → Bool
   excites frame = (phase_of s t == row_of shapes frame.rect.y0 % 4 && overlap t.rect frame.rect) && (within frame.rect t.rect && count_by (is_over frame) shapes == 1)
 
-  pub excited : (frame : Shape) → excites frame ≡ true → IsExcited shapes frame
+  pub excited : (frame : Shape) → excites frame ≡ true → IsChainExcited shapes frame
   excited frame h =
       let both : ((phase_of s t == row_of shapes frame.rect.y0 % 4 && overlap t.rect frame.rect) ≡ true) × ((within frame.rect t.rect && count_by (is_over frame) shapes == 1) ≡ true) = and_parts (phase_of s t == row_of shapes frame.rect.y0 % 4 && overlap t.rect frame.rect) (within frame.rect t.rect && count_by (is_over frame) shapes == 1) h in
       let one : ((phase_of s t == row_of shapes frame.rect.y0 % 4) ≡ true) × (overlap t.rect frame.rect ≡ true) = and_parts (phase_of s t == row_of shapes frame.rect.y0 % 4) (overlap t.rect frame.rect) both.0 in
@@ -189,10 +192,35 @@ module _ (shapes : List Shape) (start bar : ℕ) (line : IsLine shapes start bar
         only = λ i l p part o. count_by-one (is_over frame) shapes i bar l t once p (and_from (is_line l) (overlap l.rect frame.rect) part o) t_is (and_from (is_line t) (overlap t.rect frame.rect) t_line one.1);
       }
 
+-- where a layer has these two shapes alone, they are its path
+pub line_of_two : (shapes : List Shape) (layer start bar : ℕ) (line : IsShortLine shapes start bar) → line.s.layer ≡ layer → line.t.layer ≡ layer → places (is_on layer) shapes ≡ start ∷ bar ∷ [] → IsLine shapes layer (start ∷ bar ∷ [])
+line_of_two shapes layer start bar line on also alone = record { start = λ lt. start_part shapes start bar line; next = next; within = within_so; all = all; once = once }
+  where
+    next : (k : ℕ) → suc k < length (start ∷ bar ∷ []) → Contact shapes (slice_index (start ∷ bar ∷ []) k) (slice_index (start ∷ bar ∷ []) (suc k))
+    next zero lt = to_bar shapes start bar line
+    next (suc k) lt = absurd (omega arith)
+
+    within_so : (k : ℕ) → k < length (start ∷ bar ∷ []) → Passes (is_on layer) shapes (slice_index (start ∷ bar ∷ []) k)
+    within_so zero lt = record { shape = line.s; shape_is = line.s_is; passes_so = eq-eqb line.s.layer layer on }
+    within_so (suc zero) lt = record { shape = line.t; shape_is = line.t_is; passes_so = eq-eqb line.t.layer layer also }
+    within_so (suc (suc k)) lt = absurd (omega arith)
+
+    all : (i : ℕ) → Passes (is_on layer) shapes i → (k : ℕ) × ((k < length (start ∷ bar ∷ [])) × (slice_index (start ∷ bar ∷ []) k ≡ i))
+    all i h = elim (subst (IsOneOf i) alone (place_of (is_on layer) shapes i h)) [
+      | inl e ↦ (0, (omega arith, sym e))
+      | inr rest ↦ (1, (omega arith, sym (one_of rest)))
+    ]
+
+    once : (j k : ℕ) → j < k → k < length (start ∷ bar ∷ []) → slice_index (start ∷ bar ∷ []) j ≢ slice_index (start ∷ bar ∷ []) k
+    once j zero lt within = absurd (omega arith)
+    once zero (suc zero) lt within = apart shapes start bar line
+    once (suc j) (suc zero) lt within = absurd (omega arith)
+    once j (suc (suc k)) lt within = absurd (omega arith)
+
 -- all that the rule of excitation reads of a chip with two such lines, a and b on layer 14, c and d on layer 15
 pub record AreLines (shapes : List Shape) (a b c d : ℕ) : Type 0 where
-  pub even : IsLine shapes a b
-  pub odd : IsLine shapes c d
+  pub even : IsShortLine shapes a b
+  pub odd : IsShortLine shapes c d
   pub no_others : places is_no_part shapes ≡ []
   pub even_start : places (is_start_on EVEN_LINE) shapes ≡ a ∷ []
   pub odd_start : places (is_start_on ODD_LINE) shapes ≡ c ∷ []
@@ -222,31 +250,34 @@ module _ (shapes : List Shape) (a b c d : ℕ) (are : AreLines shapes a b c d) w
   reached_kept n h = h.not_reached (at_one (IsReached shapes) n (a ∷ b ∷ c ∷ d ∷ []) (part_of n h.part)
       (start_reached shapes a b are.even, (bar_reached shapes a b are.even, (start_reached shapes c d are.odd, (bar_reached shapes c d are.odd, tt)))))
 
-  pub crossed_kept : enters are.even.s are.even.t ≡ true → enters are.odd.s are.odd.t ≡ true → (n : ℕ) → IsNotCrossed shapes n → ⊥
-  crossed_kept even odd n h = at_one (λ k. IsNotCrossed shapes k → ⊥) n (b ∷ d ∷ []) (subst (IsOneOf n) are.bars (part_place shapes BAR n h.bar))
+  pub crossed_kept : enters are.even.s are.even.t ≡ true → enters are.odd.s are.odd.t ≡ true → (n : ℕ) → IsChainUncrossed shapes n → ⊥
+  crossed_kept even odd n h = at_one (λ k. IsChainUncrossed shapes k → ⊥) n (b ∷ d ∷ []) (subst (IsOneOf n) are.bars (part_place shapes BAR n h.bar))
       (bar_crossed shapes a b are.even even, (bar_crossed shapes c d are.odd odd, tt)) h
 
   -- a frame that neither bar excites
   abbrev pub is_unexcited : Shape → Bool
   is_unexcited frame = is_frame frame && not (excites shapes a b are.even frame || excites shapes c d are.odd frame)
 
-  excited_by : (frame : Shape) → (excites shapes a b are.even frame || excites shapes c d are.odd frame) ≡ true → IsExcited shapes frame
+  excited_by : (frame : Shape) → (excites shapes a b are.even frame || excites shapes c d are.odd frame) ≡ true → IsChainExcited shapes frame
   excited_by frame h = elim (or_cases (excites shapes a b are.even frame) (excites shapes c d are.odd frame) h) [
     | inl even ↦ excited shapes a b are.even frame even
     | inr odd ↦ excited shapes c d are.odd frame odd
   ]
 
-  pub unexcited_place : (n : ℕ) → IsUnexcited shapes n → IsOneOf n (places is_unexcited shapes)
+  pub unexcited_place : (n : ℕ) → IsChainUnexcited shapes n → IsOneOf n (places is_unexcited shapes)
   unexcited_place n h =
       let frame : Shape = h.frame.shape in
       let no : (excites shapes a b are.even frame || excites shapes c d are.odd frame) ≡ false = false_from_ne_true (excites shapes a b are.even frame || excites shapes c d are.odd frame) (λ e. h.not_so (excited_by frame e)) in
       place_at is_unexcited shapes n frame h.frame.shape_is (and_from (is_frame frame) (not (excites shapes a b are.even frame || excites shapes c d are.odd frame)) h.frame.passes_so (not_from_false (excites shapes a b are.even frame || excites shapes c d are.odd frame) no))
 
+  chains_kept : enters are.even.s are.even.t ≡ true → enters are.odd.s are.odd.t ≡ true → places is_unexcited shapes ≡ [] → ReportsNone (ChainsBroken shapes)
+  chains_kept even odd none x y (inl h) = parts_kept x h.0
+  chains_kept even odd none x y (inr (n, inl h)) = even_kept x h.0
+  chains_kept even odd none x y (inr (n, inr (m, inl h))) = odd_kept x h.0
+  chains_kept even odd none x y (inr (n, inr (m, inr (l, inl h)))) = joined_kept x h.0
+  chains_kept even odd none x y (inr (n, inr (m, inr (l, inr (k, inl h))))) = reached_kept x h.0
+  chains_kept even odd none x y (inr (n, inr (m, inr (l, inr (k, inr (j, inl h)))))) = crossed_kept even odd x h.0
+  chains_kept even odd none x y (inr (n, inr (m, inr (l, inr (k, inr (j, inr (i, h))))))) = subst (IsOneOf x) none (unexcited_place x h.0)
+
   pub excitation_kept : enters are.even.s are.even.t ≡ true → enters are.odd.s are.odd.t ≡ true → places is_unexcited shapes ≡ [] → ReportsNone (ExcitationBroken shapes)
-  excitation_kept even odd none x y (inl h) = parts_kept x h.0
-  excitation_kept even odd none x y (inr (n, inl h)) = even_kept x h.0
-  excitation_kept even odd none x y (inr (n, inr (m, inl h))) = odd_kept x h.0
-  excitation_kept even odd none x y (inr (n, inr (m, inr (l, inl h)))) = joined_kept x h.0
-  excitation_kept even odd none x y (inr (n, inr (m, inr (l, inr (k, inl h))))) = reached_kept x h.0
-  excitation_kept even odd none x y (inr (n, inr (m, inr (l, inr (k, inr (j, inl h)))))) = crossed_kept even odd x h.0
-  excitation_kept even odd none x y (inr (n, inr (m, inr (l, inr (k, inr (j, inr (i, h))))))) = subst (IsOneOf x) none (unexcited_place x h.0)
+  excitation_kept even odd none = excitation_none shapes (chains_kept even odd none)
