@@ -4,8 +4,9 @@
 # First the chips of adders, with eight words each: shapes are counted by the stored bytes; prints megabytes, milliseconds,
 # megabytes of memory at most, memory over bytes, and the ratios to the adder of half the bits. Where KLayout is
 # installed, its time for the rules of geometry (share/aqfp.drc) on the same chip comes beside it.
-# Then hostile layouts: the chip of one wire with many shapes or labels added, in heaps or far away. For each its time
-# over that of as many shapes of an ordinary chip. Needs GNU time and python3.
+# Then hostile layouts: the chip of one wire with many shapes or labels added: heaps, crowds far away, bars as wide or as
+# high as the sheet, frames in one row, pins in a touching chain, sizes over nine orders. For each its time over that of
+# as many shapes of an ordinary chip: at most five is wanted, but for nested, where all overlap. Needs GNU time and python3.
 set -u
 here=$(cd -P "$(dirname "$0")/.." && pwd)
 program=${AQFP:-$here/crates/aqfp_cli/out/aqfp_cli}
@@ -40,7 +41,8 @@ END
 # The stored chip of a wire, and so many shapes or labels more, some by a structure that is referenced.
 hostile() {
     python3 - "$1" "$2" "$work/wire.gds" "$3" <<'END'
-import struct, sys
+import random, struct, sys
+random.seed(1)
 kind, count, source, target = sys.argv[1], int(sys.argv[2]), sys.argv[3], sys.argv[4]
 def record(code, data=b""): return struct.pack(">HH", 4 + len(data), code) + data
 def words(*numbers): return struct.pack(f">{len(numbers)}H", *numbers)
@@ -58,9 +60,17 @@ while at < len(data):
     if read[-1][2:4] == b"\x04\x00": break
 side = 447
 far = 500_000_000
+def sized():
+    x, y = random.randrange(-far, far), random.randrange(-far, far)
+    return x, y, x + int(10 ** random.uniform(0, 9)), y + int(10 ** random.uniform(0, 9)) // 1000 + 1
 shape = {
     "equal": lambda k: box(10, 0, 0, 0, 1000, 1000),
-    "vias": lambda k: box(11, 0, 0, 0, 600, 600),
+    "vias": lambda k: box(11, 0, 1000, 1000, 1600, 1600) if k > 1 else box(10 + 2 * k, 0, 0, 0, 2600, 2600),
+    "bars": lambda k: box(12, 0, -far, k * 2000, 0, k * 2000 + 1000) if k % 2 else box(10, 0, 0, k * 2000, 1000, k * 2000 + 1000),
+    "high": lambda k: box(12, 0, k * 2000, -far, k * 2000 + 1000, 0) if k % 2 else box(10, 0, -2000, k * 2000, -1000, k * 2000 + 1000),
+    "row": lambda k: box(20, 1, k * 2500, 0, k * 2500 + 1000, 1000),
+    "pins": lambda k: box(21, 0, k * 1000, 0, k * 1000 + 1000, 1000),
+    "sizes": lambda k: box(10, 0, *sized()),
     "nested": lambda k: box(10, 0, -k, -k, 1000 + k, 1000 + k),
     "corner": lambda k: box(10, 0, k % side * 2000, k // side * 2000, k % side * 2000 + 1000, k // side * 2000 + 1000),
     "frames": lambda k: box(20, 1, 0, 0, 8000, 10000),
@@ -131,8 +141,12 @@ frames 200000
 labels 200000
 corner 50000
 corner 200000
+vias 200000
+bars 100000
+high 100000
+row 200000
+pins 200000
+sizes 20000
 nested 1000
 nested 2000
-vias 2000
-vias 4000
 CASES

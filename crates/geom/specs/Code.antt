@@ -2,3 +2,4 @@
 pub mod Grids
 pub mod Filed
 pub mod Windows
+pub mod Bounds

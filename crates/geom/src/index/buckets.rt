@@ -1,11 +1,13 @@
 // The index: rectangles in the cells of grids, one grid for each kind of size, so that long and short ones don't meet.
-ghost use Rattle.std.specs.Prelude.{◌≡◌, ℕ, ◌<◌, ◌≤◌, ◌^◌, ◌↔◌, All, Contains, length, IfOk, IsTrue};
+ghost use Rattle.std.specs.Prelude.{◌≡◌, ℕ, ◌+◌, ◌<◌, ◌≤◌, ◌^◌, ◌↔◌, All, Contains, length, IfOk, IsTrue};
 ghost use Rattle.std.specs.List.Sorted.{IsStrictlyIncreasing};
 ghost use Rattle.geom.specs.Code.Grids.{end_of};
 ghost use Rattle.geom.specs.Rectangle.{AreProper};
 ghost use Rattle.geom.specs.Near.{rects_of, IsClose, IsNear, AreNear};
+ghost use Rattle.geom.specs.Code.Bounds.{AreBlocks, IsPassed};
 ghost use Rattle.geom.specs.Code.Filed.{NumbersBelow, AreStarts, ListsAmong, ListsIn, IsIndex};
 
+use crate::index::blocks::{BLOCK_SIZE, Block, blocks};
 use crate::index::entries::{Entry, entries, starts};
 use crate::index::grid::Grid;
 use crate::index::survey::{cell_count, grids_for};
@@ -23,18 +25,20 @@ pub struct Buckets {
     grids: Vec<Grid>,
     entries: Vec<Entry>,
     starts: Vec<u32>,
+    blocks: Vec<Block>,
 }
 
 impl Model for Buckets {
     ghost use Rattle.std.specs.Prelude.{List};
     ghost use Rattle.geom.specs.Rectangle.{Rectangle};
+    ghost use Rattle.geom.specs.Code.Bounds.{AreBlocks, IsPassed};
     ghost use Rattle.geom.specs.Code.Filed.{IsIndex};
 
     ghost Value = { List Rectangle };
 
     ghost view = { λ b. b.rects.items };
 
-    ghost invariant = { λ b. IsIndex b.rects.items b.grids.items b.entries.items b.starts.items };
+    ghost invariant = { λ b. IsIndex b.rects.items b.grids.items b.entries.items b.starts.items b.blocks.items };
 }
 
 /// The rectangles of the shapes, in their order.
@@ -54,12 +58,15 @@ fn file_rects(alloc: Global, rects: Vec<Rect>) -> Result<Buckets, Memory>
     let grids = grids_for(alloc, filed)?;
     let laid_out = grids.as_slice();
     let entries = entries(alloc, filed, laid_out)?;
-    let starts = starts(alloc, entries.as_slice(), cell_count(laid_out))?;
+    let sorted = entries.as_slice();
+    let starts = starts(alloc, sorted, cell_count(laid_out))?;
+    let blocks = blocks(alloc, filed, sorted)?;
     Ok(Buckets {
         rects,
         grids,
         entries,
         starts,
+        blocks,
     })
 }
 
@@ -80,10 +87,26 @@ fn is_close(rect: &Rect, other: &Rect, margin: u64) -> bool
     gap_x(rect, other) <= margin && gap_y(rect, other) <= margin
 }
 
+/// The place that a walk goes on from after this one: past a block that begins here, where its bounds are far away.
+fn place_after(blocks: &[Block], place: usize, rect: &Rect, margin: u64) -> usize
+    requires { place + 1 < 2 ^ 64 }
+    ensures later { place < result }
+    ensures passed { place + 1 < result → IsPassed blocks.now place result rect.now margin }
+{
+    if place % BLOCK_SIZE == 0 && place / BLOCK_SIZE < blocks.len() {
+        let block = &blocks[place / BLOCK_SIZE];
+        if !is_close(rect, &block.bounds, margin) {
+            return block.past.max(place + 1);
+        }
+    }
+    place + 1
+}
+
 /// Lists the near ones among the entries between two places.
 fn list_among(
     rects: &[Rect],
     entries: &[Entry],
+    blocks: &[Block],
     from: usize,
     to: usize,
     rect: &Rect,
@@ -92,12 +115,17 @@ fn list_among(
 ) -> Result<(), Memory>
     requires within { to ≤ length entries.now }
     requires numbers { NumbersBelow (length rects.now) entries.now }
+    requires blocks { AreBlocks rects.now entries.now blocks.now }
     ensures { IfOk result (λ _. ListsAmong rects.now entries.now from to rect.now margin found.old.items found.new.items) }
 {
-    for place in from..to {
+    let mut place = from;
+    while place < to {
         let number = entries[place].number;
         if is_close(rect, &rects[number as usize], margin) {
             found.push(number)?;
+            place += 1;
+        } else {
+            place = place_after(blocks, place, rect, margin);
         }
     }
     Ok(())
@@ -107,6 +135,7 @@ fn list_among(
 fn list_in(
     rects: &[Rect],
     entries: &[Entry],
+    blocks: &[Block],
     starts: &[u32],
     grid: &Grid,
     rect: &Rect,
@@ -114,6 +143,7 @@ fn list_in(
     found: &mut Vec<u32>,
 ) -> Result<(), Memory>
     requires numbers { NumbersBelow (length rects.now) entries.now }
+    requires blocks { AreBlocks rects.now entries.now blocks.now }
     requires starts { AreStarts entries.now starts.now }
     requires long { end_of grid.now < length starts.now }
     ensures { IfOk result (λ _. ListsIn rects.now entries.now grid.now rect.now margin found.old.items found.new.items) }
@@ -122,7 +152,7 @@ fn list_in(
     for row in window.low..window.high + 1 {
         let from = starts[grid.cell_in(row, window.left)] as usize;
         let to = starts[grid.cell_in(row, window.right) + 1] as usize;
-        list_among(rects, entries, from, to, rect, margin, found)?;
+        list_among(rects, entries, blocks, from, to, rect, margin, found)?;
     }
     Ok(())
 }
@@ -132,18 +162,19 @@ fn list_all(
     rects: &[Rect],
     grids: &[Grid],
     entries: &[Entry],
+    blocks: &[Block],
     starts: &[u32],
     rect: &Rect,
     margin: u64,
     found: &mut Vec<u32>,
 ) -> Result<(), Memory>
-    requires { IsIndex rects.now grids.now entries.now starts.now }
+    requires { IsIndex rects.now grids.now entries.now starts.now blocks.now }
     ensures sound { IfOk result (λ _. All (IsNear rects.now rect.now margin) found.new.items) }
     ensures complete { IfOk result (λ _. (n : ℕ) → IsNear rects.now rect.now margin n → Contains found.new.items n) }
 {
     found.clear();
     for grid in grids {
-        list_in(rects, entries, starts, grid, rect, margin, found)?;
+        list_in(rects, entries, blocks, starts, grid, rect, margin, found)?;
     }
     Ok(())
 }
@@ -183,6 +214,7 @@ impl Buckets {
             self.rects.as_slice(),
             self.grids.as_slice(),
             self.entries.as_slice(),
+            self.blocks.as_slice(),
             self.starts.as_slice(),
             rect,
             margin,

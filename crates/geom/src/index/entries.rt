@@ -3,7 +3,7 @@ ghost use Rattle.std.specs.Prelude.{◌≡◌, ◌+◌, ◌<◌, ◌≤◌, ◌^
 ghost use Rattle.geom.specs.declared.index.grid.Grid.{Grid};
 ghost use Rattle.geom.specs.Rectangle.{AreProper, width, height};
 ghost use Rattle.geom.specs.Code.Grids.{AreGrids, Reaches};
-ghost use Rattle.geom.specs.Code.Filed.{AreFiled, NumbersBelow, CellsBelow, AreRising, IsFilled, AreStarts};
+ghost use Rattle.geom.specs.Code.Filed.{AreFiled, NumbersBelow, CellsBelow, AreRising, IsFilled, AreStarts, key_of};
 
 use crate::index::grid::Grid;
 use crate::rectangle::{Rect, height, width};
@@ -14,7 +14,16 @@ use std::alloc::Global;
 #[derive(Clone, Copy, Debug, PartialEq, Eq)]
 pub struct Entry {
     pub cell: usize,
+    /// Where in the cell: entries near each other there have orders near each other, mostly.
+    pub order: u32,
     pub number: u32,
+}
+
+/// What entries are sorted by: the cell, and within it the order.
+fn key(entry: &Entry) -> u128
+    ensures { result ≡ key_of entry.now }
+{
+    entry.cell as u128 * 4_294_967_296 + u128::from(entry.order)
 }
 
 /// The place of the first grid in which the rectangle may stand.
@@ -34,7 +43,7 @@ fn grid_for(grids: &[Grid], rect: &Rect) -> usize
     last
 }
 
-/// An entry for each rectangle, by rising cell.
+/// An entry for each rectangle, by rising cell, and in a cell by rising order.
 pub fn entries(alloc: Global, rects: &[Rect], grids: &[Grid]) -> Result<Vec<Entry>, Memory>
     requires few { length rects.now < 2 ^ 32 }
     requires grids { AreGrids grids.now }
@@ -51,10 +60,11 @@ pub fn entries(alloc: Global, rects: &[Rect], grids: &[Grid]) -> Result<Vec<Entr
         let grid = &grids[grid_for(grids, rect)];
         entries.push(Entry {
             cell: grid.cell_of(rect),
+            order: grid.order_of(rect),
             number: number as u32,
         })?;
     }
-    entries.sort_unstable_by_key(|entry| entry.cell);
+    entries.sort_unstable_by_key(|entry| key(entry));
     Ok(entries)
 }
 

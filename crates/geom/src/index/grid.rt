@@ -3,8 +3,10 @@ ghost use Rattle.std.specs.Prelude.{◌≡◌, ℕ, ◌+◌, ◌<◌, ◌≤◌,
 
 use crate::rectangle::{Rect, excess};
 
-/// The most columns, and the most rows, that a grid has.
-pub const MOST_LINES: u64 = 65_536;
+/// The most columns that a grid has.
+pub const MOST_COLUMNS: u64 = 65_536;
+/// The most rows that a grid has: a query of a high rectangle goes to each of them.
+pub const MOST_ROWS: u64 = 2_048;
 
 /// Cells in columns and rows, numbered row by row from the first on; all lengths are in nanometres. Corners to the left
 /// of the grid count to its first column, those to the right to its last; so do those below and above to its rows.
@@ -42,6 +44,14 @@ pub struct Window {
     pub right: usize,
     pub low: usize,
     pub high: usize,
+}
+
+/// The number's lower 16 bits, each with a 0 above it.
+fn every_other_bit(number: u32) -> u32 {
+    let bytes = (number | number << 8) & 0x00FF_00FF;
+    let halves = (bytes | bytes << 4) & 0x0F0F_0F0F;
+    let pairs = (halves | halves << 2) & 0x3333_3333;
+    (pairs | pairs << 1) & 0x5555_5555
 }
 
 impl Grid {
@@ -99,6 +109,14 @@ impl Grid {
         let row = self.row_at(self.above(rect.y0));
         let column = self.column_at(self.right_of(rect.x0));
         self.cell_in(row, column)
+    }
+
+    /// A number for the place of the rectangle's lower left corner in its cell: the bits of how far right it lies and of
+    /// how far up, in turn (Morton's order). So rectangles with numbers from one to another lie together.
+    pub fn order_of(&self, rect: &Rect) -> u32 {
+        let right = self.right_of(rect.x0) >> self.shift_x.saturating_sub(16);
+        let above = self.above(rect.y0) >> self.shift_y.saturating_sub(16);
+        every_other_bit((right & 0xFFFF) as u32) | every_other_bit((above & 0xFFFF) as u32) << 1
     }
 
     /// Whether a rectangle of this width and height may stand in the grid.

@@ -1,4 +1,5 @@
 // An index over rectangles: which of a list are near one.
+mod blocks;
 mod buckets;
 mod entries;
 mod grid;

@@ -2,7 +2,7 @@
 ghost use Rattle.std.specs.Prelude.{◌≡◌, ◌+◌, ◌<◌, ◌≤◌, ◌^◌, All, IfOk};
 ghost use Rattle.geom.specs.Code.Grids.{AreGrids, end_of};
 
-use crate::index::grid::{Grid, MOST_LINES};
+use crate::index::grid::{Grid, MOST_COLUMNS, MOST_ROWS};
 use crate::rectangle::{Rect, height, width};
 use aq_base::Memory;
 use std::alloc::Global;
@@ -61,13 +61,21 @@ fn kind_of(rect: &Rect) -> usize
     3 * kind_of_side(width(rect)) + kind_of_side(height(rect))
 }
 
-/// How many lines of this width cover the spread, but no more than the most.
-fn line_count(spread: u64, shift: u32) -> u64
-    requires { shift < 64 }
+/// How many lines of this width cover the spread and one line more on either side, but no more than the most.
+fn line_count(spread: u64, shift: u32, most: u64) -> u64
+    requires shift { shift < 64 }
+    requires some { 3 ≤ most }
+    requires few { most ≤ 2 ^ 16 }
     ensures some { 0 < result }
     ensures few { result ≤ 2 ^ 16 }
 {
-    (spread >> shift).min(MOST_LINES - 1) + 1
+    (spread >> shift).min(most - 3) + 3
+}
+
+/// The edge of the first line, where the first line but one begins here: no corner stands in the first line, nor in the
+/// last, so a query beyond all of them reads nothing.
+fn edge_before(start: i64, shift: u32) -> i64 {
+    start.saturating_sub(1i64 << shift.min(62))
 }
 
 /// How many bits the number has.
@@ -79,10 +87,11 @@ fn bit_count(number: u64) -> u32
 
 /// The least width of lines, as a power of 2, that is above the length and for which the spread has no more lines than
 /// the most.
-fn shift_for(spread: u64, length: u64) -> u32
+fn shift_for(spread: u64, length: u64, most: u64) -> u32
+    requires { 0 < most }
     ensures { result < 64 }
 {
-    bit_count(length).max(bit_count(spread / MOST_LINES))
+    bit_count(length).max(bit_count(spread / most))
 }
 
 /// Lines over the spread, wider and higher than asked for until there are no more cells than the most.
@@ -92,18 +101,18 @@ fn lay_out(spread_x: u64, spread_y: u64, shift_x: u32, shift_y: u32, most_cells:
 {
     let mut shift_x = shift_x;
     let mut shift_y = shift_y;
-    let mut columns = line_count(spread_x, shift_x);
-    let mut rows = line_count(spread_y, shift_y);
+    let mut columns = line_count(spread_x, shift_x, MOST_COLUMNS);
+    let mut rows = line_count(spread_y, shift_y, MOST_ROWS);
     for _ in 0..32 {
         if columns * rows <= most_cells {
             break;
         }
         if columns > rows {
             shift_x = (shift_x + 1).min(63);
-            columns = line_count(spread_x, shift_x);
+            columns = line_count(spread_x, shift_x, MOST_COLUMNS);
         } else {
             shift_y = (shift_y + 1).min(63);
-            rows = line_count(spread_y, shift_y);
+            rows = line_count(spread_y, shift_y, MOST_ROWS);
         }
     }
     Lines {
@@ -141,7 +150,7 @@ impl Survey {
         }
     }
 
-    /// The grid for these rectangles, of at most four cells for each. Cells are wider than a quarter of the widest and
+    /// The grid for these rectangles, of some four cells for each at most. Cells are wider than a quarter of the widest and
     /// higher than the highest: the cells of a row that a query reads are one range, so narrow ones cost nothing.
     fn grid(&self, first: usize) -> Grid
         requires { first ≤ 2 ^ 40 }
@@ -152,16 +161,16 @@ impl Survey {
         let lines = lay_out(
             spread_x,
             spread_y,
-            shift_for(spread_x, self.widest / 4),
-            shift_for(spread_y, self.highest),
-            self.count.saturating_mul(4),
+            shift_for(spread_x, self.widest / 4, MOST_COLUMNS),
+            shift_for(spread_y, self.highest, MOST_ROWS),
+            self.count.saturating_mul(4).saturating_add(9),
         );
         Grid {
             first,
             columns: lines.columns as usize,
             rows: lines.rows as usize,
-            left: self.left,
-            bottom: self.bottom,
+            left: edge_before(self.left, lines.shift_x),
+            bottom: edge_before(self.bottom, lines.shift_y),
             shift_x: lines.shift_x,
             shift_y: lines.shift_y,
             reach_x: self.widest,

@@ -5,4 +5,4 @@ pub loop-grid-preserved : goal.loop-grid-preserved
 loop-grid-preserved c = grids_more _ _ _ _ _ _ _ _ _ (read_at _ _ _ c.loop-grid-test.true c.grid-item.is) c.loop-grid.invariant c.in_ok-list_in.ensures
 
 pub returns-clause-complete : goal.returns-clause-complete
-returns-clause-complete c = grids_all _ _ _ _ _ _ _ _ c.requires c.loop-grid-test.false c.loop-grid.invariant
+returns-clause-complete c = grids_all _ _ _ _ _ _ _ _ _ c.requires c.loop-grid-test.false c.loop-grid.invariant

@@ -1,22 +1,22 @@
-use Rattle.std.proofs.Common.{◌≡◌, ◌<◌, length, Some, rules, arith}
+use Rattle.std.proofs.Common.{◌≡◌, ◌<◌, ◌^◌, length, Some, rules, arith}
 use Rattle.std.specs.Prelude.{slice_get}
 use Rattle.std.proofs.lemmas.List.Sorted.{IsNonDecreasingBy-from_sort_by_key, Contains-permutation, All-permutation}
 use Rattle.std.proofs.lemmas.Option.{slice_get_within}
-use Rattle.geom.specs.Code.Filed.{IsEntryOf}
+use Rattle.geom.specs.Code.Filed.{IsEntryOf, key_of}
 use Rattle.geom.specs.declared.index.entries.Entry.{Entry}
-use Rattle.geom.proofs.Filing.{read_at, filed_more, refiled}
+use Rattle.geom.proofs.Filing.{read_at, filed_more, refiled, rising_cells}
 use Rattle.geom.proofs.index.entries.entries.Goals as goal
 
 pub loop-number-preserved : goal.loop-number-preserved
 loop-number-preserved c =
     let got : slice_get c.args.rects.now c.loop-number.number ≡ Some c.index-rects-number.result = read_at c.args.rects.now c.loop-number.number c.index-rects-number.result c.loop-number-test.true c.index-rects-number.is in
     let grid_is : slice_get c.args.grids.now c.grid_for.result ≡ Some c.index-grids-grid_for.result = read_at c.args.grids.now c.grid_for.result c.index-grids-grid_for.result c.grid_for.ensures.within c.index-grids-grid_for.is in
-    let of_it : IsEntryOf c.index-grids-grid_for.result c.index-rects-number.result c.loop-number.number (record { cell = c.cell_of.result; number = c.loop-number.number }) = record {
+    let of_it : IsEntryOf c.index-grids-grid_for.result c.index-rects-number.result c.loop-number.number (record { cell = c.cell_of.result; order = c.order_of.result; number = c.loop-number.number }) = record {
       reaches = c.grid_for.ensures.reaches _ grid_is;
       cell_is = c.cell_of.ensures.value;
       number_is = search rules;
     } in
-    rw c.in_ok-push.ensures.items (filed_more _ _ _ _ _ _ _ _ got grid_is of_it c.cell_of.ensures.within c.known.ensures c.loop-number.invariant)
+    rw c.in_ok-push.ensures.items (filed_more _ _ _ _ _ _ _ _ got grid_is of_it c.cell_of.ensures.within (omega arith) c.known.ensures c.loop-number.invariant)
 
 pub returns-clause-filed : goal.returns-clause-filed
 returns-clause-filed c n r got =
@@ -27,7 +27,9 @@ pub returns-clause-numbers : goal.returns-clause-numbers
 returns-clause-numbers c = All-permutation (λ (e : Entry). e.number < length c.args.rects.now) _ _ c.sort_unstable_by_key.ensures.permutation c.loop-number.invariant.numbers
 
 pub returns-clause-rising : goal.returns-clause-rising
-returns-clause-rising c = IsNonDecreasingBy-from_sort_by_key (λ (e : Entry). e.cell) _ c.sort_unstable_by_key.ensures.sorted (λ a r q k. search rules)
+returns-clause-rising c =
+    rising_cells _ (All-permutation (λ (e : Entry). e.order < 2 ^ 32) _ _ c.sort_unstable_by_key.ensures.permutation c.loop-number.invariant.orders)
+    (IsNonDecreasingBy-from_sort_by_key key_of _ c.sort_unstable_by_key.ensures.sorted (λ a r q k. search rules))
 
 pub returns-clause-cells : goal.returns-clause-cells
 returns-clause-cells c last ends = All-permutation (λ (e : Entry). e.cell < last) _ _ c.sort_unstable_by_key.ensures.permutation (c.loop-number.invariant.cells last ends)
