@@ -8,16 +8,14 @@ use Rattle.blif_read.specs.Lines.{Line, is_empty}
 use Rattle.blif_read.specs.Statements.{word, arguments, is_names, front_of, last_of, truth, inputs_in, outputs_in, defined_in}
 use Rattle.blif_read.specs.Parts.{signals, number, plane, says_zero, definition, definition_at, definitions, rows_before_others, netlist_of, operands, operands_at}
 use Rattle.blif_read.specs.Faults.{is_control, is_token_fault, has_shape, before_of, cover_after, with_row, kind_in, kind_of, duplicate_in, at_line, line_fault, outputs_fault, undefined_fault}
-use Rattle.blif_read.specs.Netlist.{IsPlane, IsDef, IsNetlist}
+use Rattle.blif_read.specs.Netlist.{HasNoCycle, IsPlane, IsDef, IsNetlist}
 use Rattle.blif_read.specs.Size.{AreCut}
-use Rattle.blif_read.specs.Walked.{IsOrder}
 use Rattle.blif_read.specs.declared.before.Cover.{Cover}
 use Rattle.blif_read.specs.declared.words.Word.{Word}
 use Rattle.blif_read.specs.declared.words.Word.TheVariants.{Model, Inputs, Outputs, Names, End, Passed, Other, Row}
 use Rattle.blif_read.specs.declared.netlist.Def.{Def}
 use Rattle.blif_read.proofs.Counted.{netlist_size}
 use Rattle.blif_read.proofs.Distinct.{none_or, no_kind, signals_distinct}
-use Rattle.blif_read.proofs.Heights.{order_ranks}
 use Rattle.blif_read.proofs.Shapes.{rows_fit, plane_fits}
 use Rattle.blif_read.proofs.Within.{IsWithinDef, all_join, definitions_within, outputs_within}
 
@@ -121,7 +119,7 @@ pub some_output : (lines : List Line) → outputs_fault lines ≡ None → 0 < l
 some_output lines e = some_there (flat_map outputs_in lines) (test_off (is_empty (flat_map outputs_in lines)) _ _ e)
 
 -- past the signals nothing is read
-nothing_past : (inputs : ℕ) (defs : List Def) (s : ℕ) → inputs + length defs ≤ s → operands inputs defs s ≡ []
+pub nothing_past : (inputs : ℕ) (defs : List Def) (s : ℕ) → inputs + length defs ≤ s → operands inputs defs s ≡ []
 nothing_past inputs defs s le = let k : nat_lt s inputs ≡ false = le-ltb s inputs (omega arith) in
     ap (λ b. cond b [] (operands_at (slice_get defs (s - inputs)))) k ∙ past defs (s - inputs) (omega arith)
   where
@@ -130,13 +128,14 @@ nothing_past inputs defs s le = let k : nat_lt s inputs ≡ false = le-ltb s inp
     past (def ∷ defs) zero le = absurd (omega arith)
     past (def ∷ defs) (suc j) le = past defs j (omega arith)
 
-pub netlist_facts : (lines : List Line) (order : List ℕ) → line_fault [] lines ≡ None → outputs_fault lines ≡ None → undefined_fault (signals lines) lines ≡ None → AreCut (2 ^ 28) lines → IsOrder (length (flat_map inputs_in lines)) (definitions (signals lines) lines) order → IsNetlist (netlist_of lines)
-netlist_facts lines order e o u c is = record {
+pub netlist_facts : (lines : List Line) → line_fault [] lines ≡ None → outputs_fault lines ≡ None → undefined_fault (signals lines) lines ≡ None → AreCut (2 ^ 28) lines →
+    HasNoCycle (length (flat_map inputs_in lines)) (definitions (signals lines) lines) → IsNetlist (netlist_of lines)
+netlist_facts lines e o u c acyclic = record {
   distinct = signals_distinct lines e;
   count = signals_count lines e;
   each_def = both_hold (length (signals lines)) (definitions (signals lines) lines) (definitions_within (signals lines) lines u) (covers (signals lines) [] lines e);
   each_output = outputs_within (signals lines) lines u;
   some_output = (let s = some_output lines o in omega (arith, length-map (flat_map outputs_in lines) (number (signals lines))));
-  no_cycle = order_ranks (length (flat_map inputs_in lines)) (definitions (signals lines) lines) order is (nothing_past (length (flat_map inputs_in lines)) (definitions (signals lines) lines));
+  no_cycle = acyclic;
   small = (let s = netlist_size lines c.each (some_output lines o) in let f = c.fits in omega arith);
 }

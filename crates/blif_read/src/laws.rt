@@ -1,5 +1,5 @@
 // Laws of what texts and netlists mean.
-ghost use Rattle.std.specs.Prelude.{◌≡◌, ◌<◌, ◌⊎◌, ℕ, Bool, List, Some, length};
+ghost use Rattle.std.specs.Prelude.{◌≡◌, ◌<◌, ◌≤◌, ◌^◌, ◌⊎◌, ℕ, Bool, List, Some, length};
 ghost use Rattle.blif_read.specs.declared.netlist.BlifFault.{BlifFault};
 ghost use Rattle.blif_read.specs.declared.netlist.Def.{Def};
 ghost use Rattle.blif_read.specs.Parts.{NetView, operands};
@@ -16,6 +16,11 @@ pub fn each_text()
     ensures one_fault { (text : List ℕ) (a b : BlifFault) → Fault text a → Fault text b → a ≡ b }
     ensures not_both { (text : List ℕ) (net : NetView) (fault : BlifFault) →
         Says text net → Fault text fault → ⊥ }
+{}
+
+/// A text of at most 2^28 bytes that says a netlist says one that keeps the facts of netlists.
+pub fn each_netlist()
+    ensures { (text : List ℕ) (net : NetView) → length text ≤ 2 ^ 28 → Says text net → IsNetlist net }
 {}
 
 /// A netlist has exactly one valuation of its signals that fits a word.

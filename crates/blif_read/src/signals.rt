@@ -11,14 +11,19 @@ use crate::names::{Index, insert_each, number};
 use crate::statements::{defined_in, inputs_in};
 use aq_base::{List, Memory};
 use indexmap::IndexSet;
+use name_hash::NameHash;
 use std::alloc::Global;
 
 /// The names of the inputs, and then those of the defined signals.
-pub fn signals<'a>(alloc: Global, lines: &[LogicalLine<'a>]) -> Result<Index<'a>, Memory>
+pub fn signals<'a>(
+    alloc: Global,
+    hash: NameHash,
+    lines: &[LogicalLine<'a>],
+) -> Result<Index<'a>, Memory>
     ensures { IfOk result (λ index. texts index.keys
         ≡ insert_all bytes_eq [] (signals (map seen lines.now))) }
 {
-    let mut index = IndexSet::new(alloc);
+    let mut index = IndexSet::with_hasher(alloc, hash);
     'inputs: for line in lines {
         insert_each(&mut index, inputs_in(line))?;
     }

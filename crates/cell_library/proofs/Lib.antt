@@ -5,6 +5,7 @@ pub mod Integers
 pub mod Keys
 pub mod Columns
 pub mod Given
+pub mod Ranges
 pub mod Judged
 pub mod Answered
 pub mod Sameness

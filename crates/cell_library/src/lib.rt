@@ -9,6 +9,7 @@ mod kinds;
 mod laws;
 mod library;
 mod read;
+mod said;
 mod same;
 #[cfg(test)]
 mod tests;
@@ -17,3 +18,4 @@ pub use bundled::library_a;
 pub use fault::{LibraryFault, LibraryRefusal};
 pub use library::Library;
 pub use read::read_library;
+pub use said::each_library;

@@ -9,6 +9,7 @@ use crate::refusal::StreamRefusal;
 use crate::scan::{Outcome, scan};
 use gds_records::{StreamKind, found_is_fault, steps_tell_scan, whole_is_read};
 use indexmap::IndexSet;
+use name_hash::NameHash;
 use std::alloc::Global;
 
 // The place of the first byte that is not zero.
@@ -27,14 +28,14 @@ fn first_other(bytes: &[u8]) -> Option<usize>
 }
 
 /// The place behind ENDLIB, where all records up to it are without fault and only zero bytes follow.
-pub fn end_of_records(alloc: Global, bytes: &[u8]) -> Result<usize, StreamRefusal>
+pub fn end_of_records(alloc: Global, hash: NameHash, bytes: &[u8]) -> Result<usize, StreamRefusal>
     ensures ok { IfOk result (λ end. IsBody bytes.now end) }
     ensures err { IfErr result (λ refusal. IsRefusedFor bytes.now refusal) }
 {
     found_is_fault();
     steps_tell_scan();
     whole_is_read();
-    let mut names = IndexSet::new(alloc);
+    let mut names = IndexSet::with_hasher(alloc, hash);
     match scan(bytes, &mut names)? {
         Outcome::Stopped { offset, kind } => Err(StreamRefusal::bad(offset, kind)),
         Outcome::Ended { offset } => {

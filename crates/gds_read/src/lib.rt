@@ -10,6 +10,7 @@ mod flat;
 mod front;
 mod laws;
 mod names;
+mod naming;
 mod numbers;
 mod outline;
 mod place;

@@ -11,10 +11,11 @@ ghost use Rattle.gds_read.specs.Texts.{texts};
 use crate::outline::{NamedOutline, NamedUse};
 use aq_base::Memory;
 use indexmap::IndexSet;
+use name_hash::NameHash;
 use std::alloc::Global;
 
-/// Names of structures, each once, in the order of the structures.
-pub type Names<'a> = IndexSet<&'a [u8]>;
+/// Names of structures, each once, in the order of the structures. The hash is keyed by all names of the stream.
+pub type Names<'a> = IndexSet<&'a [u8], NameHash>;
 
 /// Adds a name.
 pub fn add<'a>(names: &mut Names<'a>, name: &'a [u8]) -> Result<(), Memory>
@@ -44,10 +45,14 @@ fn add_uses<'a>(used: &mut Names<'a>, uses: &[NamedUse<'a>]) -> Result<(), Memor
 }
 
 /// The names that structures refer to, each once.
-pub fn used_names<'a>(alloc: Global, outlines: &[NamedOutline<'a>]) -> Result<Names<'a>, Memory>
+pub fn used_names<'a>(
+    alloc: Global,
+    hash: NameHash,
+    outlines: &[NamedOutline<'a>],
+) -> Result<Names<'a>, Memory>
     ensures { IfOk result (λ used. AreUsed (texts used.keys) (all_uses (map outline_of outlines.now))) }
 {
-    let mut used = IndexSet::new(alloc);
+    let mut used = IndexSet::with_hasher(alloc, hash);
     for outline in outlines {
         add_uses(&mut used, outline.uses.as_slice())?;
     }

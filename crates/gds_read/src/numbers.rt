@@ -7,10 +7,11 @@ ghost use Rattle.gds_read.specs.Numbering.{number_in, number_or, IsNumbering};
 use crate::outline::NamedOutline;
 use aq_base::Memory;
 use indexmap::IndexMap;
+use name_hash::NameHash;
 use std::alloc::Global;
 
-/// The number of each name: of structures of one name, that of the first.
-pub type Numbers<'a> = IndexMap<&'a [u8], u32>;
+/// The number of each name: of structures of one name, that of the first. The hash is keyed by all names of the stream.
+pub type Numbers<'a> = IndexMap<&'a [u8], u32, NameHash>;
 
 /// A number of structures, of which there is no memory for more than 2^32 - 1.
 pub fn small_number(number: usize) -> Result<u32, Memory>
@@ -39,10 +40,14 @@ fn add<'a>(numbers: &mut Numbers<'a>, name: &'a [u8], number: u32) -> Result<(),
 }
 
 /// The numbers of structures by their names.
-pub fn numbers<'a>(alloc: Global, outlines: &[NamedOutline<'a>]) -> Result<Numbers<'a>, Memory>
+pub fn numbers<'a>(
+    alloc: Global,
+    hash: NameHash,
+    outlines: &[NamedOutline<'a>],
+) -> Result<Numbers<'a>, Memory>
     ensures { IfOk result (λ numbers. IsNumbering numbers.entries (map (λ s. s.name) (map outline_of outlines.now))) }
 {
-    let mut numbers = IndexMap::new(alloc);
+    let mut numbers = IndexMap::with_hasher(alloc, hash);
     for (number, outline) in outlines.iter().enumerate() {
         let number = small_number(number)?;
         add(&mut numbers, outline.name, number)?;

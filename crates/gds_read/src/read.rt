@@ -10,27 +10,29 @@ ghost use Rattle.gds_read.specs.Reading.{IsReadAs, IsRefusedFor};
 use crate::conditions::top_or_fault;
 use crate::ending::end_of_records;
 use crate::names::used_names;
+use crate::naming::hash_of_names;
 use crate::numbers::{numbers, small_number};
 use crate::outline::outlines_in;
 use crate::refusal::StreamRefusal;
 use crate::size::size_of_flat;
 use crate::structures::structures;
 use geom::Layout;
+use name_hash::NameHash;
 use std::alloc::Global;
 
 /// How many shapes and labels a flat form may have.
 const MOST: u64 = 8_000_000;
 
 // The layout of the records of a stream, if they meet the conditions on the whole.
-fn layout_of(alloc: Global, bytes: &[u8]) -> Result<Layout, StreamRefusal>
+fn layout_of(alloc: Global, hash: NameHash, bytes: &[u8]) -> Result<Layout, StreamRefusal>
     requires { IsSpelled bytes.now }
     ensures layout { IfOk result (λ layout. layout ≡ layout_of (records_in bytes.now)) }
     ensures none { IfOk result (λ layout. whole_fault (records_in bytes.now) ≡ None) }
     ensures err { IfErr result (λ refusal. IsWholeRefusal (records_in bytes.now) refusal) }
 {
     let outlines = outlines_in(alloc, bytes)?;
-    let numbers = numbers(alloc, outlines.as_slice())?;
-    let used = used_names(alloc, outlines.as_slice())?;
+    let numbers = numbers(alloc, hash, outlines.as_slice())?;
+    let used = used_names(alloc, hash, outlines.as_slice())?;
     let top = top_or_fault(bytes, outlines.as_slice(), &numbers, &used)?;
     let structures = structures(alloc, outlines.as_slice(), &numbers, bytes)?;
     let top = small_number(top)?;
@@ -58,8 +60,9 @@ pub fn read_stream(alloc: Global, bytes: &[u8]) -> Result<Layout, StreamRefusal>
     ensures ok { IfOk result (λ layout. IsReadAs bytes.now layout) }
     ensures err { IfErr result (λ refusal. IsRefusedFor bytes.now refusal) }
 {
-    let end = end_of_records(alloc, bytes)?;
+    let hash = hash_of_names(bytes);
+    let end = end_of_records(alloc, hash, bytes)?;
     let (records, _) = bytes.split_at(end);
-    let layout = layout_of(alloc, records)?;
+    let layout = layout_of(alloc, hash, records)?;
     within_size(alloc, layout)
 }
