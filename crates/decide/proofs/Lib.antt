@@ -1,0 +1,15 @@
+pub mod Functions
+pub mod Canonical
+pub mod Naming
+pub mod Adding
+pub mod Choosing
+pub mod Remembering
+pub mod Stacking
+pub mod Turning
+pub mod Gating
+pub mod Searching
+pub mod Narrowed
+pub mod Comparing
+pub mod Valuing
+pub mod Counting
+pub mod Reordered

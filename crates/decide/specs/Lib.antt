@@ -1,0 +1,5 @@
+pub mod CellNets
+pub mod CellAnswers
+pub mod Subfunctions
+pub mod Verdicts
+pub mod Code

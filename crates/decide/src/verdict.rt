@@ -1,0 +1,155 @@
+// The comparison of two circuits, for all words.
+ghost use Rattle.std.specs.Prelude.{◌≡◌, ◌<◌, ◌^◌, length, IfOk, IfErr, IfSome};
+ghost use Rattle.circuit.specs.PlainNets.{PlainView};
+ghost use Rattle.decide.specs.CellNets.{circuit, IsCells};
+ghost use Rattle.decide.specs.Verdicts.{IsVerdict, IsRefusal};
+
+use crate::both::Both;
+use crate::gates::edge_of;
+use crate::order::{ranks, renumbered, undoes};
+use crate::walk::walked;
+use crate::{Cells, DecideRefusal};
+use aq_base::Memory;
+use circuit::{Gate, Word};
+use std::alloc::Global;
+
+/// What a comparison finds.
+#[derive(Debug, Drop)]
+pub enum Verdict {
+    /// Both circuits answer every word alike.
+    Equal,
+    /// `output` is the number, from 0, of the least output on which some word gives different values, and `word` the
+    /// least such word: input 0 decides first, and false comes before true.
+    Differ { output: u32, word: Word },
+}
+
+/// The comparison of two circuits of so many inputs, with these gates and outputs, in rising variable order.
+fn compare(
+    alloc: Global,
+    inputs: u32,
+    gates: &[Gate],
+    outputs: &[u32],
+    other_gates: &[Gate],
+    other_outputs: &[u32],
+) -> Result<Verdict, DecideRefusal>
+    requires first { IsCells (circuit inputs gates.now outputs.now) }
+    requires second { IsCells (circuit inputs other_gates.now other_outputs.now) }
+    requires outputs { length other_outputs.now ≡ length outputs.now }
+    ensures verdict { IfOk result
+        (IsVerdict (circuit inputs gates.now outputs.now) (circuit inputs other_gates.now other_outputs.now)) }
+    ensures refusal { IfErr result
+        (IsRefusal (circuit inputs gates.now outputs.now) (circuit inputs other_gates.now other_outputs.now)) }
+{
+    let both = Both::new(alloc, inputs, gates, other_gates)?;
+    match both.first_difference(outputs, other_outputs) {
+        None => Ok(Verdict::Equal),
+        Some(output) => {
+            let left = edge_of(&both.first, outputs[output]);
+            let right = edge_of(&both.second, other_outputs[output]);
+            let word = both.diagram.least_word(alloc, inputs, left, right)?;
+            Ok(Verdict::Differ {
+                output: output as u32,
+                word,
+            })
+        }
+    }
+}
+
+/// The comparison in the variable order in which each input stands at its rank, where the two undo each other and the
+/// diagram is large enough for it.
+fn compare_in(
+    alloc: Global,
+    order: &[u32],
+    rank: &[u32],
+    gates: &[Gate],
+    outputs: &[u32],
+    other_gates: &[Gate],
+    other_outputs: &[u32],
+) -> Result<Option<Verdict>, Memory>
+    requires few { length rank.now < 2 ^ 32 }
+    requires first { IsCells (circuit (length rank.now) gates.now outputs.now) }
+    requires second { IsCells (circuit (length rank.now) other_gates.now other_outputs.now) }
+    requires outputs { length other_outputs.now ≡ length outputs.now }
+    ensures { IfOk result (λ found. IfSome found
+        (IsVerdict (circuit (length rank.now) gates.now outputs.now)
+        (circuit (length rank.now) other_gates.now other_outputs.now))) }
+{
+    if !undoes(order, rank) || !undoes(rank, order) {
+        return Ok(None);
+    }
+    let again = renumbered(alloc, gates, rank)?;
+    let other = renumbered(alloc, other_gates, rank)?;
+    let mut both = match Both::new(alloc, rank.len() as u32, &again, &other) {
+        Ok(both) => both,
+        Err(_) => return Ok(None),
+    };
+    match both.first_difference(outputs, other_outputs) {
+        None => Ok(Some(Verdict::Equal)),
+        Some(output) => {
+            let left = edge_of(&both.first, outputs[output]);
+            let right = edge_of(&both.second, other_outputs[output]);
+            match both.diagram.least_word_in(alloc, rank, left, right) {
+                Ok(word) => Ok(Some(Verdict::Differ {
+                    output: output as u32,
+                    word,
+                })),
+                Err(_) => Ok(None),
+            }
+        }
+    }
+}
+
+/// The comparison in a variable order that is mostly a good one, and only where its diagram does not suffice in rising
+/// order, by which alone a refusal is justified.
+fn compare_twice(
+    alloc: Global,
+    inputs: u32,
+    gates: &[Gate],
+    outputs: &[u32],
+    other_gates: &[Gate],
+    other_outputs: &[u32],
+) -> Result<Verdict, DecideRefusal>
+    requires first { IsCells (circuit inputs gates.now outputs.now) }
+    requires second { IsCells (circuit inputs other_gates.now other_outputs.now) }
+    requires outputs { length other_outputs.now ≡ length outputs.now }
+    ensures verdict { IfOk result
+        (IsVerdict (circuit inputs gates.now outputs.now) (circuit inputs other_gates.now other_outputs.now)) }
+    ensures refusal { IfErr result
+        (IsRefusal (circuit inputs gates.now outputs.now) (circuit inputs other_gates.now other_outputs.now)) }
+{
+    let order = walked(alloc, inputs, gates, outputs)?;
+    let rank = ranks(alloc, inputs, &order)?;
+    let found = compare_in(
+        alloc,
+        &order,
+        &rank,
+        gates,
+        outputs,
+        other_gates,
+        other_outputs,
+    )?;
+    match found {
+        Some(verdict) => Ok(verdict),
+        None => compare(alloc, inputs, gates, outputs, other_gates, other_outputs),
+    }
+}
+
+/// Whether two circuits of the same counts answer every word alike, and where they do not, the least output on which
+/// some word gives different values, and the least such word. `TooMany` comes only where the two circuits have more
+/// than 1,000,000 subfunctions. `Memory` comes also where more than 2^25 majorities would have to be made in rising
+/// order, which bounds the time.
+pub fn decide(alloc: Global, a: &Cells, b: &Cells) -> Result<Verdict, DecideRefusal>
+    requires inputs { b.now.inputs ≡ a.now.inputs }
+    requires outputs { length b.now.outputs ≡ length a.now.outputs }
+    ensures verdict { IfOk result (IsVerdict a.now b.now) }
+    ensures refusal { IfErr result (IsRefusal a.now b.now) }
+{
+    compare_twice(
+        alloc,
+        a.inputs,
+        a.gates.as_slice(),
+        a.outputs.as_slice(),
+        b.gates.as_slice(),
+        b.outputs.as_slice(),
+    )
+}
