@@ -1,0 +1,12 @@
+pub mod Squares
+pub mod Rings
+pub mod Cuts
+pub mod Paths
+pub mod Figures
+pub mod Turns
+pub mod FlatForm
+pub mod Counts
+pub mod Conditions
+pub mod Bounds
+pub mod Order
+pub mod Code
