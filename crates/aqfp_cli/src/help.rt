@@ -6,6 +6,7 @@ pub const HELP: &str = "aqfp - physical design of adiabatic quantum-flux-paramet
 usage: aqfp build NET LIB OUT
        aqfp verify GDS LIB WORDS
        aqfp trace GDS LIB WORDS
+       aqfp sample N
        aqfp --help
        aqfp --version
 
@@ -16,6 +17,9 @@ verify  reads the layout GDS, tries the eleven rules of layouts with the numbers
         of the library LIB, and prints the counts and, for each word of WORDS,
         the answer that the chip's pulses show.
 trace   the same, but prints the flux of each cell at each time.
+sample  builds an adder of N bits, N from 1 to 64, with a library of its own,
+        prints N and the counts, and the adder's answers to eight words. It
+        reads and stores no file.
 
 NET     a combinational netlist in the Berkeley Logic Interchange Format (BLIF),
         at most 16777216 bytes
@@ -23,8 +27,6 @@ LIB     a cell library in TOML, at most 1048576 bytes
 OUT     a layout in the GDSII Stream Format, in database units of 1 nm
 GDS     such a layout, at most 268435456 bytes
 WORDS   lines with a 0 or 1 for each input, at most 16777216 bytes
-
-To come: sample N.
 
 status  0  done
         1  the words are none of the commands
@@ -40,7 +42,6 @@ status  0  done
        12  the layout breaks a rule
        13  a line of WORDS is no word for the chip
        14  out of memory
-       15  not built yet
 A status above 0 comes with one line on standard error.
 ";
 

@@ -28,7 +28,6 @@ fn help_has_each_command_and_each_status(rt: HostRuntime) -> Result<(), Fail> {
         "12  the layout breaks",
         "13  a line of WORDS",
         "14  out of memory",
-        "15  not built yet",
     ];
     for status in statuses {
         assert!(rt; HELP.contains(status), "{status}");

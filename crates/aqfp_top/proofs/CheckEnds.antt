@@ -1,107 +1,87 @@
 -- How each step may end a check.
-use Rattle.std.proofs.Common.{ℕ, ◌≡◌, ◌≤◌, ◌⊎◌, Bool, List, length, Option, Some, None, Result, Ok, Err, IfErr, OnOk, OnErr, All, refl, sym, subst, inl, inr, arith}
+use Rattle.std.proofs.Common.{ℕ, ◌≡◌, ◌≤◌, Bool, List, ◌∷◌, length, Option, Some, None, Result, IfErr, OnOk, OnErr, All, refl, sym, subst, inl, inr}
 use Rattle.std.specs.Result.{result_err}
 use Rattle.aq_base.specs.Causes.{Rose}
 use Rattle.aq_base.specs.Store.{Contents, gained, GainsPrefix}
 use Rattle.shape_extract.specs.Circuits.{CircuitView, KeepsFacts}
 use Rattle.chip_texts.specs.WordsText.{words_of}
-use Rattle.aqfp_top.specs.Words.{word_at}
 use Rattle.aqfp_top.specs.Counted.{Counts, HasFaults, FailedLoad}
-use Rattle.aqfp_top.specs.Code.Building.{IsFaultOfLoads, IsOutOrMemory, IsReadOf}
-use Rattle.aqfp_top.specs.Code.Checking.{IsWrongOrMemory}
-use Rattle.aqfp_top.specs.Checks.{CheckCause, ToldCheckCause, ToldTexts, HasTexts, IsSound, SaysSound, IsWrong, CheckPrints, IsPrintedOf, IsCheckFault, limit_of, text_of}
+use Rattle.aqfp_top.specs.Loads.{gds_limit, lib_limit, words_limit, check_loads}
+use Rattle.aqfp_top.specs.Stages.{IsFirst, Answers}
+use Rattle.aqfp_top.specs.Due.{bytes_at, judging_stages, check_stages}
+use Rattle.aqfp_top.specs.Faults.{IsCheckFault}
+use Rattle.aqfp_top.specs.Code.Loading.{IsFaultOfLoads}
+use Rattle.aqfp_top.specs.Code.Staging.{ToldAnswers}
+use Rattle.aqfp_top.specs.Code.Building.{IsOutOrMemory, IsReadOf}
+use Rattle.aqfp_top.specs.Code.Checking.{IsJudgingFault}
+use Rattle.aqfp_top.specs.Checks.{ToldTexts, IsSound, CheckPrints, IsPrintedOf, text_of}
 use Rattle.aqfp_top.specs.declared.check.Printing.{Printing}
-use Rattle.aqfp_top.specs.declared.fault.Large.TheVariants.{Shapes}
-use Rattle.aqfp_top.specs.declared.fault.WriteCall.TheVariants.{Out}
 use Rattle.aqfp_top.specs.declared.fault.Fault.{Fault}
-use Rattle.aqfp_top.specs.declared.fault.Fault.TheVariants.{WriteFault, BadLibrary, MissingCell, TooLarge, BadStream, RuleBroken, BadWords, Memory}
-use Rattle.aqfp_top.proofs.EachFault.{each_of_loads, each_out}
+use Rattle.aqfp_top.proofs.EachFault.{each_of_loads, each_judging, each_out}
+use Rattle.aqfp_top.proofs.Staging.{load_stage, past, file_loads, held_bytes}
+use Rattle.aqfp_top.proofs.CheckSteps.{texts_at}
 use Rattle.aqfp_top.proofs.Steps.{print_counts}
-
--- what holds of each kind of thing that may be wrong with the texts holds of whatever is wrong
-each_wrong : (P : Fault → Type 0) (gds lib text : List ℕ) → ((offset : ℕ) (kind : _) → P (BadStream offset kind)) → ((count : ℕ) → P (TooLarge Shapes count)) → ((fault : _) → P (BadLibrary fault)) → ((kind : _) → P (MissingCell kind)) →
-    ((rule : _) (first second : ℕ) → P (RuleBroken rule first second)) → ((line : ℕ) → P (BadWords line)) → P Memory → (fault : Fault) → IsWrongOrMemory gds lib text fault → P fault
-each_wrong P gds lib text stream large library missing rules words memory (BadStream offset kind) wrong = stream offset kind
-each_wrong P gds lib text stream large library missing rules words memory (TooLarge Shapes count) wrong = large count
-each_wrong P gds lib text stream large library missing rules words memory (BadLibrary fault) wrong = library fault
-each_wrong P gds lib text stream large library missing rules words memory (MissingCell kind) wrong = missing kind
-each_wrong P gds lib text stream large library missing rules words memory (RuleBroken rule first second) wrong = rules rule first second
-each_wrong P gds lib text stream large library missing rules words memory (BadWords line) wrong = words line
-each_wrong P gds lib text stream large library missing rules words memory Memory wrong = memory
-each_wrong P gds lib text stream large library missing rules words memory _ wrong = absurd wrong
 
 -- Where a load ends a check nothing is printed.
 
-pub loads_check : (fault : Fault) → IsFaultOfLoads 3 limit_of fault → IsCheckFault fault
-loads_check fault only = each_of_loads IsCheckFault 3 limit_of (λ p l. l) (λ p t l more. (l, more)) (λ p l. l) tt fault only
+pub loads_check : (fault : Fault) → IsFaultOfLoads check_loads fault → IsCheckFault fault
+loads_check fault only = each_of_loads IsCheckFault check_loads (λ p l. l) (λ p t l. l) (λ p l. l) tt fault only
 
-pub loads_count : (before after : Counts) (fault : Fault) → IsFaultOfLoads 3 limit_of fault → IsReadOf (Rose before.reads after.reads) fault → HasFaults before after (Some fault)
+pub loads_count : (before after : Counts) (fault : Fault) → IsFaultOfLoads check_loads fault → IsReadOf (Rose before.reads after.reads) fault → HasFaults before after (Some fault)
 loads_count before after fault only =
-    each_of_loads (λ f. IsReadOf (Rose before.reads after.reads) f → HasFaults before after (Some f)) 3 limit_of (λ p l r. tt) (λ p t l more r. tt) (λ p l r. r) (λ r. tt) fault only
+    each_of_loads (λ f. IsReadOf (Rose before.reads after.reads) f → HasFaults before after (Some f)) check_loads (λ p l r. tt) (λ p t l r. tt) (λ p l r. r) (λ r. tt) fault only
 
-pub loads_check_print : (printing : Printing) (told : Option Contents) (words : List (List ℕ)) (held : Option (List ℕ)) (fault : Fault) → IsFaultOfLoads 3 limit_of fault → CheckPrints printing told words held held (Some fault)
+pub loads_check_print : (printing : Printing) (told : Option Contents) (words : List (List ℕ)) (held : Option (List ℕ)) (fault : Fault) → IsFaultOfLoads check_loads fault → CheckPrints printing told words held held (Some fault)
 loads_check_print printing told words held fault only =
-    each_of_loads (λ f. CheckPrints printing told words held held (Some f)) 3 limit_of (λ p l. refl) (λ p t l more. refl) (λ p l. refl) (inl refl) fault only
+    each_of_loads (λ f. CheckPrints printing told words held held (Some f)) check_loads (λ p l. refl) (λ p t l. refl) (λ p l. refl) (inl refl) fault only
 
 -- Where the texts end a check nothing is printed.
 
-pub unsound_is_check : (gds lib text : List ℕ) (fault : Fault) → IsWrongOrMemory gds lib text fault → IsCheckFault fault
-unsound_is_check gds lib text fault wrong = each_wrong IsCheckFault gds lib text (λ o k. tt) (λ n. tt) (λ f. tt) (λ k. tt) (λ r a b. tt) (λ l. tt) tt fault wrong
+pub unsound_is_check : (fault : Fault) → IsJudgingFault fault → IsCheckFault fault
+unsound_is_check fault wrong = each_judging IsCheckFault (λ o k. tt) (λ n. tt) (λ f. tt) (λ k. tt) (λ r a b. tt) (λ l. tt) tt fault wrong
 
-pub unsound_counts : (before after : Counts) (gds lib text : List ℕ) (fault : Fault) → IsWrongOrMemory gds lib text fault → HasFaults before after (Some fault)
-unsound_counts before after gds lib text fault wrong = each_wrong (λ f. HasFaults before after (Some f)) gds lib text (λ o k. tt) (λ n. tt) (λ f. tt) (λ k. tt) (λ r a b. tt) (λ l. tt) tt fault wrong
+pub unsound_counts : (before after : Counts) (fault : Fault) → IsJudgingFault fault → HasFaults before after (Some fault)
+unsound_counts before after fault wrong = each_judging (λ f. HasFaults before after (Some f)) (λ o k. tt) (λ n. tt) (λ f. tt) (λ k. tt) (λ r a b. tt) (λ l. tt) tt fault wrong
 
-pub unsound_failed : (name : Option (List ℕ)) (words : List (List ℕ)) (gds lib text : List ℕ) (fault : Fault) → IsWrongOrMemory gds lib text fault → FailedLoad name words (Some fault)
-unsound_failed name words gds lib text fault wrong = each_wrong (λ f. FailedLoad name words (Some f)) gds lib text (λ o k. tt) (λ n. tt) (λ f. tt) (λ k. tt) (λ r a b. tt) (λ l. tt) tt fault wrong
+pub unsound_failed : (name : Option (List ℕ)) (words : List (List ℕ)) (fault : Fault) → IsJudgingFault fault → FailedLoad name words (Some fault)
+unsound_failed name words fault wrong = each_judging (λ f. FailedLoad name words (Some f)) (λ o k. tt) (λ n. tt) (λ f. tt) (λ k. tt) (λ r a b. tt) (λ l. tt) tt fault wrong
 
-pub unsound_prints : (printing : Printing) (told : Option Contents) (words : List (List ℕ)) (held : Option (List ℕ)) (gds lib text : List ℕ) (fault : Fault) → IsWrongOrMemory gds lib text fault → CheckPrints printing told words held held (Some fault)
-unsound_prints printing told words held gds lib text fault wrong =
-    each_wrong (λ f. CheckPrints printing told words held held (Some f)) gds lib text (λ o k. refl) (λ n. refl) (λ f. refl) (λ k. refl) (λ r a b. refl) (λ l. refl) (inl refl) fault wrong
+pub unsound_prints : (printing : Printing) (told : Option Contents) (words : List (List ℕ)) (held : Option (List ℕ)) (fault : Fault) → IsJudgingFault fault → CheckPrints printing told words held held (Some fault)
+unsound_prints printing told words held fault wrong =
+    each_judging (λ f. CheckPrints printing told words held held (Some f)) (λ o k. refl) (λ n. refl) (λ f. refl) (λ k. refl) (λ r a b. refl) (λ l. refl) (inl refl) fault wrong
 
--- the texts at the three places, of which this holds
-texts_with : (P : List ℕ → List ℕ → List ℕ → Type 0) (files : Contents) (words : List (List ℕ)) (gds lib text : List ℕ) → ToldTexts (Some files) words gds lib text →
-    length gds ≤ 268435456 → length lib ≤ 1048576 → length text ≤ 16777216 → P gds lib text → HasTexts files words P
-texts_with P files words gds lib text held a b c holds = record {
-  gds = gds;
-  lib = lib;
-  text = text;
-  gds_held = held.0;
-  lib_held = held.1;
-  text_held = held.2;
-  gds_fits = a;
-  lib_fits = b;
-  text_fits = c;
-  holds = holds;
-}
-
-unsound_cause : (files : Contents) (words : List (List ℕ)) (gds lib text : List ℕ) (fault : Fault) → ToldTexts (Some files) words gds lib text →
-    length gds ≤ 268435456 → length lib ≤ 1048576 → length text ≤ 16777216 → IsWrongOrMemory gds lib text fault → CheckCause files words (Some fault)
-unsound_cause files words gds lib text (BadStream offset kind) held a b c wrong = texts_with (λ g l t. IsWrong g l t (BadStream offset kind)) files words gds lib text held a b c wrong
-unsound_cause files words gds lib text (TooLarge what count) held a b c wrong = texts_with (λ g l t. IsWrong g l t (TooLarge what count)) files words gds lib text held a b c wrong
-unsound_cause files words gds lib text (BadLibrary fault) held a b c wrong = texts_with (λ g l t. IsWrong g l t (BadLibrary fault)) files words gds lib text held a b c wrong
-unsound_cause files words gds lib text (MissingCell kind) held a b c wrong = texts_with (λ g l t. IsWrong g l t (MissingCell kind)) files words gds lib text held a b c wrong
-unsound_cause files words gds lib text (RuleBroken rule first second) held a b c wrong = texts_with (λ g l t. IsWrong g l t (RuleBroken rule first second)) files words gds lib text held a b c wrong
-unsound_cause files words gds lib text (BadWords line) held a b c wrong = texts_with (λ g l t. IsWrong g l t (BadWords line)) files words gds lib text held a b c wrong
-unsound_cause files words gds lib text Memory held a b c wrong = tt
-unsound_cause files words gds lib text _ held a b c wrong = absurd wrong
+-- what the texts may answer the whole check may answer
+judging_answers : (files : Contents) (words : List (List ℕ)) (gds lib text : List ℕ) (answer : Option Fault) → ToldTexts (Some files) words gds lib text → length gds ≤ gds_limit → length lib ≤ lib_limit → length text ≤ words_limit
+    → Answers (judging_stages gds lib text) answer → Answers (check_stages files words) answer
+judging_answers files words gds lib text answer held a b c answers =
+    past (load_stage files words 1 gds_limit) (load_stage files words 2 lib_limit ∷ load_stage files words 3 words_limit ∷ texts_at files words) answer (file_loads files words 1 gds_limit gds held.0 a)
+    (past (load_stage files words 2 lib_limit) (load_stage files words 3 words_limit ∷ texts_at files words) answer (file_loads files words 2 lib_limit lib held.1 b)
+    (past (load_stage files words 3 words_limit) (texts_at files words) answer (file_loads files words 3 words_limit text held.2 c)
+    (subst (λ g. Answers (judging_stages g (bytes_at files words 2) (bytes_at files words 3)) answer) (sym (held_bytes files words 1 gds held.0))
+    (subst (λ l. Answers (judging_stages gds l (bytes_at files words 3)) answer) (sym (held_bytes files words 2 lib held.1))
+    (subst (λ t. Answers (judging_stages gds lib t) answer) (sym (held_bytes files words 3 text held.2)) answers)))))
 
 pub told_unsound : (told : Option Contents) (words : List (List ℕ)) (gds lib text : List ℕ) (fault : Fault) → ToldTexts told words gds lib text →
-    length gds ≤ 268435456 → length lib ≤ 1048576 → length text ≤ 16777216 → IsWrongOrMemory gds lib text fault → ToldCheckCause told words (Some fault)
+    length gds ≤ gds_limit → length lib ≤ lib_limit → length text ≤ words_limit → Answers (judging_stages gds lib text) (Some fault) → ToldAnswers check_stages told words (Some fault)
 told_unsound None words gds lib text fault held a b c wrong = tt
-told_unsound (Some files) words gds lib text fault held a b c wrong = unsound_cause files words gds lib text fault held a b c wrong
+told_unsound (Some files) words gds lib text fault held a b c wrong = judging_answers files words gds lib text (Some fault) held a b c wrong
 
 -- Where the texts are sound the check comes to printing.
 
-sound_cause : (files : Contents) (words : List (List ℕ)) (gds lib text : List ℕ) (circuit : CircuitView) (result : Result (Unit {0}) Fault) → ToldTexts (Some files) words gds lib text →
-    length gds ≤ 268435456 → length lib ≤ 1048576 → length text ≤ 16777216 → IsSound gds lib text circuit → IfErr result IsOutOrMemory → CheckCause files words (result_err result)
-sound_cause files words gds lib text circuit result held a b c sound only =
-    let texts : HasTexts files words SaysSound = texts_with SaysSound files words gds lib text held a b c (record { circuit = circuit; sound = sound }) in
-    each_out (λ r. CheckCause files words (result_err r)) texts (refl, texts) tt result only
+pub told_sound : (told : Option Contents) (words : List (List ℕ)) (gds lib text : List ℕ) (result : Result (Unit {0}) Fault) → ToldTexts told words gds lib text →
+    length gds ≤ gds_limit → length lib ≤ lib_limit → length text ≤ words_limit → IsFirst (judging_stages gds lib text) None → IfErr result IsOutOrMemory → ToldAnswers check_stages told words (result_err result)
+told_sound None words gds lib text result held a b c well only = tt
+told_sound (Some files) words gds lib text result held a b c well only =
+    let none : IsFirst (check_stages files words) None = judging_answers files words gds lib text None held a b c well in
+    each_out (λ r. Answers (check_stages files words) (result_err r)) none none tt result only
 
-pub told_sound : (told : Option Contents) (words : List (List ℕ)) (gds lib text : List ℕ) (circuit : CircuitView) (result : Result (Unit {0}) Fault) → ToldTexts told words gds lib text →
-    length gds ≤ 268435456 → length lib ≤ 1048576 → length text ≤ 16777216 → IsSound gds lib text circuit → IfErr result IsOutOrMemory → ToldCheckCause told words (result_err result)
-told_sound None words gds lib text circuit result held a b c sound only = tt
-told_sound (Some files) words gds lib text circuit result held a b c sound only = sound_cause files words gds lib text circuit result held a b c sound only
+-- the same of texts that are these
+pub texts_sound : (told : Option Contents) (words : List (List ℕ)) (gds lib text gds' lib' text' : List ℕ) (result : Result (Unit {0}) Fault) → ToldTexts told words gds lib text →
+    length gds ≤ gds_limit → length lib ≤ lib_limit → length text ≤ words_limit → gds' ≡ gds → lib' ≡ lib → text' ≡ text → IsFirst (judging_stages gds' lib' text') None → IfErr result IsOutOrMemory
+    → ToldAnswers check_stages told words (result_err result)
+texts_sound told words gds lib text gds' lib' text' result held a b c g l t well only =
+    told_sound told words gds lib text result held a b c
+    (subst (λ x. IsFirst (judging_stages x lib text) None) g (subst (λ x. IsFirst (judging_stages gds' x text) None) l (subst (λ x. IsFirst (judging_stages gds' lib' x) None) t well))) only
 
 pub out_is_check : (result : Result (Unit {0}) Fault) → IfErr result IsOutOrMemory → IfErr result IsCheckFault
 out_is_check result only = each_out (λ r. IfErr r IsCheckFault) tt refl tt result only

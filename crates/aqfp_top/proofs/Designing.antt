@@ -1,48 +1,86 @@
 -- From the clauses of the steps to those of a chip that is made of two texts.
-use Rattle.std.proofs.Common.{ℕ, ◌≡◌, ◌<◌, ◌≤◌, ◌^◌, List, length, subst, sym, ap, ◌∙◌, refl, arith}
+use Rattle.std.proofs.Common.{ℕ, ◌≡◌, ◌<◌, ◌≤◌, ◌^◌, List, [], ◌∷◌, length, Some, None, subst, ap, ◌∙◌, arith}
 use Rattle.blif_read.specs.Parts.{NetView}
 use Rattle.blif_read.specs.Netlist.{IsNetlist}
 use Rattle.blif_read.specs.Says as netlist
-use Rattle.rowed.specs.PlacedNets.{PlacedView}
+use Rattle.rowed.specs.PlacedNets.{PlacedView, IsPlaced}
 use Rattle.cell_library.specs.Library.{LibraryView}
 use Rattle.cell_library.specs.Laws.{IsLibrary}
 use Rattle.cell_library.specs.Says as library
-use Rattle.cell_library.specs.declared.fault.LibraryFault.TheVariants.{Text, Key, Value, Law, Missing}
 use Rattle.gds_records.specs.Writing.{bytes_of}
 use Rattle.layout_make.specs.Draw.{draw}
 use Rattle.layout_make.specs.Size.{cells_in, wires_in, element_number, element_limit}
 use Rattle.chip_plan.specs.Plans.{IsWithin, chip_of}
-use Rattle.aqfp_top.specs.Designs.{SaysDesign, KeepsLimits, HasManyElements, stream_of, counts_of}
-use Rattle.chip_texts.specs.Counts.{counts_text}
-use Rattle.aqfp_top.specs.Code.Designing.{IsNetlistFault, IsLibraryFault, IsPlanFault, IsWrongOrMemory, IsChipOf, MakesChip}
+use Rattle.aqfp_top.specs.Designs.{SaysDesign, KeepsLimits, HasManyElements, IsNetlistFault, IsCellsFault, IsPlanFault, stream_of}
+use Rattle.aqfp_top.specs.Stages as stage
+use Rattle.aqfp_top.specs.Stages.{Finds, FindsNone, IsFirst, Answers}
+use Rattle.aqfp_top.specs.Due.{design_stages}
+use Rattle.aqfp_top.specs.Code.Staging.{OrMemory}
+use Rattle.aqfp_top.specs.Code.Designing.{IsDesignFault, AreCountsOf, IsChipOf, MakesChip, PassesNone}
+use Rattle.aqfp_top.specs.declared.counts.ChipCounts.{ChipCounts}
+use Rattle.aqfp_top.specs.declared.fault.Large.TheVariants.{Slots, Rows, Cells, Elements, Shapes}
+use Rattle.aqfp_top.proofs.Staging.{past, found}
+use Rattle.aqfp_top.proofs.OneFault.{says_no_fault, says_no_cells_fault, same_said, one_netlist}
 use Rattle.aqfp_top.specs.declared.design.Chip.{Chip}
 use Rattle.aqfp_top.specs.declared.fault.Fault.{Fault}
 use Rattle.aqfp_top.specs.declared.fault.Fault.TheVariants.{BadBlif, BadLibrary, MissingCell, TooLarge, Memory}
 
-pub netlist_is_wrong : (net lib : List ℕ) (fault : Fault) → IsNetlistFault net fault → IsWrongOrMemory net lib fault
-netlist_is_wrong net lib (BadBlif fault) bad = bad
-netlist_is_wrong net lib Memory bad = tt
-netlist_is_wrong net lib _ bad = absurd bad
+-- the kinds of faults
 
-pub library_is_wrong : (net lib : List ℕ) (view : NetView) (fault : Fault) → netlist.Says net view → IsLibraryFault lib fault → IsWrongOrMemory net lib fault
-library_is_wrong net lib view (BadLibrary Text) says bad = (record { net = view; says = says }, bad)
-library_is_wrong net lib view (BadLibrary (Key key)) says bad = (record { net = view; says = says }, bad)
-library_is_wrong net lib view (BadLibrary (Value key value)) says bad = (record { net = view; says = says }, bad)
-library_is_wrong net lib view (BadLibrary (Law number)) says bad = (record { net = view; says = says }, bad)
-library_is_wrong net lib view (BadLibrary (Missing kind)) says bad = absurd bad
-library_is_wrong net lib view (MissingCell kind) says bad = (record { net = view; says = says }, bad)
-library_is_wrong net lib view Memory says bad = tt
-library_is_wrong net lib view _ says bad = absurd bad
+pub netlist_fault : (net : List ℕ) (fault : Fault) → OrMemory (IsNetlistFault net) fault → IsDesignFault fault
+netlist_fault net (BadBlif fault) bad = tt
+netlist_fault net Memory bad = tt
+netlist_fault net _ bad = absurd bad
+
+pub cells_fault : (lib : List ℕ) (fault : Fault) → OrMemory (IsCellsFault lib) fault → IsDesignFault fault
+cells_fault lib (BadLibrary fault) bad = tt
+cells_fault lib (MissingCell kind) bad = tt
+cells_fault lib Memory bad = tt
+cells_fault lib _ bad = absurd bad
+
+pub plan_fault : (equations : NetView) (cells : LibraryView) (fault : Fault) → OrMemory (IsPlanFault equations cells) fault → IsDesignFault fault
+plan_fault equations cells (TooLarge Slots count) bad = tt
+plan_fault equations cells (TooLarge Rows count) bad = tt
+plan_fault equations cells (TooLarge Cells count) bad = tt
+plan_fault equations cells (TooLarge Elements count) bad = tt
+plan_fault equations cells (TooLarge Shapes count) bad = absurd bad
+plan_fault equations cells Memory bad = tt
+plan_fault equations cells _ bad = absurd bad
+
+-- from the faults of the steps to what the stages answer
+
+pub netlist_answers : (net lib : List ℕ) (fault : Fault) → OrMemory (IsNetlistFault net) fault → Answers (design_stages net lib) (Some fault)
+netlist_answers net lib fault bad = found (stage.Netlist net) (stage.Cells lib ∷ stage.Plan net lib ∷ []) fault bad
+
+pub cells_answer : (net lib : List ℕ) (view : NetView) (fault : Fault) → netlist.Says net view → OrMemory (IsCellsFault lib) fault → Answers (design_stages net lib) (Some fault)
+cells_answer net lib view fault says bad = past (stage.Netlist net) (stage.Cells lib ∷ stage.Plan net lib ∷ []) (Some fault) (says_no_fault net view says) (found (stage.Cells lib) (stage.Plan net lib ∷ []) fault bad)
 
 says_design : (net lib : List ℕ) (equations : NetView) (cells : LibraryView) → netlist.Says net equations → library.Says lib cells → SaysDesign net lib equations cells
 says_design net lib equations cells net_says lib_says = record { net_says = net_says; lib_says = lib_says }
 
-pub plan_is_wrong : (net lib : List ℕ) (equations : NetView) (cells : LibraryView) (fault : Fault) → netlist.Says net equations → library.Says lib cells
-    → IsPlanFault equations cells fault → IsWrongOrMemory net lib fault
-plan_is_wrong net lib equations cells (TooLarge what count) n l bad =
+plan_finds : (net lib : List ℕ) (equations : NetView) (cells : LibraryView) (fault : Fault) → netlist.Says net equations → library.Says lib cells
+    → OrMemory (IsPlanFault equations cells) fault → OrMemory (Finds (stage.Plan net lib)) fault
+plan_finds net lib equations cells (TooLarge what count) n l bad =
     record { equations = equations; cells = cells; says = says_design net lib equations cells n l; holds = bad }
-plan_is_wrong net lib equations cells Memory n l bad = tt
-plan_is_wrong net lib equations cells _ n l bad = absurd bad
+plan_finds net lib equations cells Memory n l bad = tt
+plan_finds net lib equations cells _ n l bad = absurd bad
+
+pub plan_answers : (net lib : List ℕ) (equations : NetView) (cells : LibraryView) (fault : Fault) → netlist.Says net equations → library.Says lib cells
+    → OrMemory (IsPlanFault equations cells) fault → Answers (design_stages net lib) (Some fault)
+plan_answers net lib equations cells fault n l bad =
+    past (stage.Netlist net) (stage.Cells lib ∷ stage.Plan net lib ∷ []) (Some fault) (says_no_fault net equations n)
+    (past (stage.Cells lib) (stage.Plan net lib ∷ []) (Some fault) (says_no_cells_fault lib cells l)
+    (found (stage.Plan net lib) [] fault (plan_finds net lib equations cells fault n l bad)))
+
+-- where no limit is passed nothing is due
+plan_finds_none : (net lib : List ℕ) (equations : NetView) (cells : LibraryView) → netlist.Says net equations → library.Says lib cells → PassesNone equations cells → FindsNone (stage.Plan net lib)
+plan_finds_none net lib equations cells n l none fault bad =
+    none fault (subst (λ l. IsPlanFault equations l fault) (same_said lib bad.cells cells bad.says.lib_says l)
+    (subst (λ n. IsPlanFault n bad.cells fault) (one_netlist net bad.equations equations bad.says.net_says n) bad.holds))
+
+pub design_is_well : (net lib : List ℕ) (equations : NetView) (cells : LibraryView) → netlist.Says net equations → library.Says lib cells → PassesNone equations cells → IsFirst (design_stages net lib) None
+design_is_well net lib equations cells n l none =
+    (says_no_fault net equations n, (says_no_cells_fault lib cells l, (plan_finds_none net lib equations cells n l none, tt)))
 
 pub many_elements : (equations : NetView) (cells : LibraryView) (chip : PlacedView) (count : ℕ) → chip ≡ chip_of cells equations → IsWithin cells equations
     → count ≡ element_number chip → element_limit < count → HasManyElements equations cells count
@@ -55,23 +93,24 @@ few_cells chip small = omega arith
 pub few_wires : (chip : PlacedView) → element_number chip ≤ element_limit → wires_in chip.net.rows < 2 ^ 63
 few_wires chip small = omega arith
 
-same_counts : (rows rows' cells cells' wires wires' : ℕ) → rows ≡ rows' → cells ≡ cells' → wires ≡ wires' → counts_text rows cells wires ≡ counts_text rows' cells' wires'
-same_counts rows rows' cells cells' wires wires' r c w = λ i. counts_text (r i) (c i) (w i)
-
 pub keeps_limits : (equations : NetView) (cells : LibraryView) (placed : PlacedView) → placed ≡ chip_of cells equations → IsWithin cells equations → element_number placed ≤ element_limit
     → KeepsLimits equations cells
 keeps_limits equations cells placed is within small = record { within = within; small = subst (λ p. element_number p ≤ element_limit) is small }
 
 pub chip_is_of : (equations : NetView) (cells : LibraryView) (placed : PlacedView) (chip : Chip) → IsNetlist equations → IsLibrary cells → placed ≡ chip_of cells equations
-    → chip.layout ≡ draw placed cells → chip.counts.rows ≡ length placed.net.rows → chip.counts.cells ≡ cells_in placed.net.rows → chip.counts.wires ≡ wires_in placed.net.rows
-    → IsChipOf equations cells chip
-unfolding stream_of counts_of
-chip_is_of equations cells placed chip keeps lawful is drawn rows number wires = record {
+    → chip.layout ≡ draw placed cells → AreCountsOf placed chip.counts → IsChipOf equations cells chip
+unfolding stream_of
+chip_is_of equations cells placed chip keeps lawful is drawn counts = record {
   keeps = keeps;
   lawful = lawful;
   stream = ap bytes_of drawn ∙ ap (λ p. bytes_of (draw p cells)) is;
-  counts = same_counts _ _ _ _ _ _ (rows ∙ ap (λ p. length p.net.rows) is) (number ∙ ap (λ p. cells_in p.net.rows) is) (wires ∙ ap (λ p. wires_in p.net.rows) is);
+  counts = subst (λ p. AreCountsOf p chip.counts) is counts;
 }
+
+-- a placed net has some row
+pub some_row : (placed : PlacedView) (counts : ChipCounts) → IsPlaced placed → counts.rows ≡ length placed.net.rows → counts.cells ≡ cells_in placed.net.rows → counts.wires ≡ wires_in placed.net.rows → AreCountsOf placed counts
+some_row placed counts keeps rows cells wires =
+    let two = keeps.net_keeps.two_rows in record { rows = rows; cells = cells; wires = wires; some = omega (arith, two, rows) }
 
 pub ruleset limits = (many_elements, few_cells, few_wires, keeps_limits, chip_is_of)
 
@@ -85,4 +124,4 @@ chip_is_made net lib equations cells chip n l limits made = record {
   made = made;
 }
 
-pub ruleset designs = (netlist_is_wrong, library_is_wrong, plan_is_wrong, chip_is_made)
+pub ruleset designs = (netlist_fault, cells_fault, plan_fault, netlist_answers, cells_answer, plan_answers, design_is_well, chip_is_made)

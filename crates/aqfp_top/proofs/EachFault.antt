@@ -1,17 +1,18 @@
 -- The faults of each step of a command: what holds of each of its kinds holds of every fault of the step.
 use Rattle.std.proofs.Common.{ℕ, ◌<◌, List, Result, Ok, Err, IfErr, sym, subst}
-use Rattle.aqfp_top.specs.Loads.{IsLoadFault}
-use Rattle.aqfp_top.specs.Build.{IsLoadPlace, limit_of}
-use Rattle.aqfp_top.specs.Code.Designing.{IsWrongOrMemory}
-use Rattle.aqfp_top.specs.Code.Building.{IsFaultOfLoads, IsMakeFault, IsStoreFault, IsOutOrMemory}
+use Rattle.aqfp_top.specs.Loads.{Load, build_loads, IsLoaded, IsPast}
+use Rattle.aqfp_top.specs.Code.Designing.{IsDesignFault}
+use Rattle.aqfp_top.specs.Code.Checking.{IsJudgingFault}
+use Rattle.aqfp_top.specs.Code.Loading.{IsFaultOfLoad, IsFaultOfLoads}
+use Rattle.aqfp_top.specs.Code.Building.{IsMakeFault, IsStoreFault, IsOutOrMemory}
 use Rattle.aqfp_top.specs.declared.fault.WriteCall.TheVariants.{Create, Append, Close, Out}
 use Rattle.aqfp_top.specs.declared.fault.Large.TheVariants.{Slots, Rows, Cells, Elements, Shapes}
 use Rattle.aqfp_top.specs.declared.fault.Fault.{Fault}
-use Rattle.aqfp_top.specs.declared.fault.Fault.TheVariants.{Absent, TooLong, ReadFault, WriteFault, BadBlif, BadLibrary, MissingCell, TooLarge, Memory}
+use Rattle.aqfp_top.specs.declared.fault.Fault.TheVariants.{Absent, TooLong, ReadFault, WriteFault, BadBlif, BadLibrary, MissingCell, TooLarge, BadStream, RuleBroken, BadWords, Memory}
 
 -- a load
 pub each_load : (P : Fault → Type 0) (place limit : ℕ) → P (Absent place) → ((taken : ℕ) → limit < taken → P (TooLong place taken)) → P (ReadFault place) → P Memory →
-    (fault : Fault) → IsLoadFault place limit fault → P fault
+    (fault : Fault) → IsFaultOfLoad place limit fault → P fault
 each_load P place limit absent long failed memory (Absent word) only = subst (λ w. P (Absent w)) (sym only) absent
 each_load P place limit absent long failed memory (TooLong word taken) only = subst (λ w. P (TooLong w taken)) (sym only.0) (long taken only.1)
 each_load P place limit absent long failed memory (ReadFault word) only = subst (λ w. P (ReadFault w)) (sym only) failed
@@ -19,36 +20,48 @@ each_load P place limit absent long failed memory Memory only = memory
 each_load P place limit absent long failed memory _ only = absurd only
 
 -- some load
-pub each_of_loads : (P : Fault → Type 0) (number : ℕ) (limits : ℕ → ℕ) → ((place : ℕ) → IsLoadPlace number place → P (Absent place))
-    → ((place taken : ℕ) → IsLoadPlace number place → limits place < taken → P (TooLong place taken)) → ((place : ℕ) → IsLoadPlace number place → P (ReadFault place)) → P Memory
-    → (fault : Fault) → IsFaultOfLoads number limits fault → P fault
-each_of_loads P number limits absent long failed memory (Absent place) only = absent place only
-each_of_loads P number limits absent long failed memory (TooLong place taken) only = long place taken only.0 only.1
-each_of_loads P number limits absent long failed memory (ReadFault place) only = failed place only
-each_of_loads P number limits absent long failed memory Memory only = memory
-each_of_loads P number limits absent long failed memory _ only = absurd only
+pub each_of_loads : (P : Fault → Type 0) (loads : List Load) → ((place : ℕ) → IsLoaded loads place → P (Absent place))
+    → ((place taken : ℕ) → IsPast loads place taken → P (TooLong place taken)) → ((place : ℕ) → IsLoaded loads place → P (ReadFault place)) → P Memory
+    → (fault : Fault) → IsFaultOfLoads loads fault → P fault
+each_of_loads P loads absent long failed memory (Absent place) only = absent place only
+each_of_loads P loads absent long failed memory (TooLong place taken) only = long place taken only
+each_of_loads P loads absent long failed memory (ReadFault place) only = failed place only
+each_of_loads P loads absent long failed memory Memory only = memory
+each_of_loads P loads absent long failed memory _ only = absurd only
 
--- the texts
-pub each_wrong : (P : Fault → Type 0) (net lib : List ℕ) → ((fault : _) → P (BadBlif fault)) → ((fault : _) → P (BadLibrary fault)) → ((kind : _) → P (MissingCell kind)) →
+-- the texts of a netlist and of a library
+pub each_design : (P : Fault → Type 0) → ((fault : _) → P (BadBlif fault)) → ((fault : _) → P (BadLibrary fault)) → ((kind : _) → P (MissingCell kind)) →
     ((count : ℕ) → P (TooLarge Slots count)) → ((count : ℕ) → P (TooLarge Rows count)) → ((count : ℕ) → P (TooLarge Cells count)) → ((count : ℕ) → P (TooLarge Elements count)) → P Memory →
-    (fault : Fault) → IsWrongOrMemory net lib fault → P fault
-each_wrong P net lib blif library missing slots rows cells elements memory (BadBlif fault) wrong = blif fault
-each_wrong P net lib blif library missing slots rows cells elements memory (BadLibrary fault) wrong = library fault
-each_wrong P net lib blif library missing slots rows cells elements memory (MissingCell kind) wrong = missing kind
-each_wrong P net lib blif library missing slots rows cells elements memory (TooLarge Slots count) wrong = slots count
-each_wrong P net lib blif library missing slots rows cells elements memory (TooLarge Rows count) wrong = rows count
-each_wrong P net lib blif library missing slots rows cells elements memory (TooLarge Cells count) wrong = cells count
-each_wrong P net lib blif library missing slots rows cells elements memory (TooLarge Elements count) wrong = elements count
-each_wrong P net lib blif library missing slots rows cells elements memory (TooLarge Shapes count) wrong = absurd wrong.holds
-each_wrong P net lib blif library missing slots rows cells elements memory Memory wrong = memory
-each_wrong P net lib blif library missing slots rows cells elements memory _ wrong = absurd wrong
+    (fault : Fault) → IsDesignFault fault → P fault
+each_design P blif library missing slots rows cells elements memory (BadBlif fault) wrong = blif fault
+each_design P blif library missing slots rows cells elements memory (BadLibrary fault) wrong = library fault
+each_design P blif library missing slots rows cells elements memory (MissingCell kind) wrong = missing kind
+each_design P blif library missing slots rows cells elements memory (TooLarge Slots count) wrong = slots count
+each_design P blif library missing slots rows cells elements memory (TooLarge Rows count) wrong = rows count
+each_design P blif library missing slots rows cells elements memory (TooLarge Cells count) wrong = cells count
+each_design P blif library missing slots rows cells elements memory (TooLarge Elements count) wrong = elements count
+each_design P blif library missing slots rows cells elements memory (TooLarge Shapes count) wrong = absurd wrong
+each_design P blif library missing slots rows cells elements memory Memory wrong = memory
+each_design P blif library missing slots rows cells elements memory _ wrong = absurd wrong
+
+-- the texts of a layout, of a library and of words
+pub each_judging : (P : Fault → Type 0) → ((offset : ℕ) (kind : _) → P (BadStream offset kind)) → ((count : ℕ) → P (TooLarge Shapes count)) → ((fault : _) → P (BadLibrary fault)) → ((kind : _) → P (MissingCell kind)) →
+    ((rule : _) (first second : ℕ) → P (RuleBroken rule first second)) → ((line : ℕ) → P (BadWords line)) → P Memory → (fault : Fault) → IsJudgingFault fault → P fault
+each_judging P stream large library missing rules words memory (BadStream offset kind) wrong = stream offset kind
+each_judging P stream large library missing rules words memory (TooLarge Shapes count) wrong = large count
+each_judging P stream large library missing rules words memory (BadLibrary fault) wrong = library fault
+each_judging P stream large library missing rules words memory (MissingCell kind) wrong = missing kind
+each_judging P stream large library missing rules words memory (RuleBroken rule first second) wrong = rules rule first second
+each_judging P stream large library missing rules words memory (BadWords line) wrong = words line
+each_judging P stream large library missing rules words memory Memory wrong = memory
+each_judging P stream large library missing rules words memory _ wrong = absurd wrong
 
 -- all that comes before anything is stored
-pub each_made : (P : Fault → Type 0) → ((place : ℕ) → IsLoadPlace 2 place → P (Absent place)) → ((place taken : ℕ) → IsLoadPlace 2 place → limit_of place < taken → P (TooLong place taken)) →
-    ((place : ℕ) → IsLoadPlace 2 place → P (ReadFault place)) → ((fault : _) → P (BadBlif fault)) → ((fault : _) → P (BadLibrary fault)) → ((kind : _) → P (MissingCell kind)) →
+pub each_made : (P : Fault → Type 0) → ((place : ℕ) → IsLoaded build_loads place → P (Absent place)) → ((place taken : ℕ) → IsPast build_loads place taken → P (TooLong place taken)) →
+    ((place : ℕ) → IsLoaded build_loads place → P (ReadFault place)) → ((fault : _) → P (BadBlif fault)) → ((fault : _) → P (BadLibrary fault)) → ((kind : _) → P (MissingCell kind)) →
     ((count : ℕ) → P (TooLarge Slots count)) → ((count : ℕ) → P (TooLarge Rows count)) → ((count : ℕ) → P (TooLarge Cells count)) → ((count : ℕ) → P (TooLarge Elements count)) → P Memory → (fault : Fault) → IsMakeFault fault → P fault
 each_made P absent long failed blif library missing slots rows cells elements memory (Absent place) only = absent place only
-each_made P absent long failed blif library missing slots rows cells elements memory (TooLong place taken) only = long place taken only.0 only.1
+each_made P absent long failed blif library missing slots rows cells elements memory (TooLong place taken) only = long place taken only
 each_made P absent long failed blif library missing slots rows cells elements memory (ReadFault place) only = failed place only
 each_made P absent long failed blif library missing slots rows cells elements memory (BadBlif fault) only = blif fault
 each_made P absent long failed blif library missing slots rows cells elements memory (BadLibrary fault) only = library fault

@@ -1,5 +1,5 @@
 -- A build that ends well has made the chip of its netlist.
-use Rattle.std.proofs.Common.{ℕ, ◌≡◌, ◌-◌, ◌≤◌, List, length, Option, Some, None, refl, sym, ap, subst, ◌∙◌}
+use Rattle.std.proofs.Common.{ℕ, ◌≡◌, ◌≤◌, List, length, Option, Some, refl, sym, ap, subst, ◌∙◌}
 use Rattle.aq_base.specs.Store.{Contents, told_with, with_file, gained}
 use Rattle.circuit.specs.SameAnswers.{SameAnswers}
 use Rattle.blif_read.specs.Parts.{NetView}
@@ -13,14 +13,13 @@ use Rattle.gds_records.specs.Writing.{bytes_of}
 use Rattle.shape_extract.specs.Circuits.{CircuitView}
 use Rattle.layout_make.specs.Draw.{draw}
 use Rattle.layout_make.specs.MayDraw.{MayDraw}
-use Rattle.layout_make.specs.Size.{cells_in, wires_in, element_number, element_limit}
+use Rattle.layout_make.specs.Size.{element_number, element_limit}
 use Rattle.chip_plan.specs.Plans.{IsWithin, chip_of}
 use Rattle.chip_texts.specs.Counts.{counts_line, counts_text, delay_of}
-use Rattle.drawn_chip.specs.Realises.{Realises}
 use Rattle.drawn_chip.specs.RealisesNet.{RealisesNet}
 use Rattle.drawn_chip.proofs.RealisesAs.{realises_as}
 use Rattle.aqfp_top.specs.Words.{word_at}
-use Rattle.aqfp_top.specs.Designs.{KeepsLimits, placed_counts, stream_of, counts_of}
+use Rattle.aqfp_top.specs.Designs.{placed_counts, stream_of, counts_of}
 use Rattle.aqfp_top.specs.Build.{IsBuilt, IsDone, ToldTexts}
 use Rattle.aqfp_top.specs.Chips.{BuildsChip}
 

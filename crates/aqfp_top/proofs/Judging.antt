@@ -1,11 +1,15 @@
--- From the faults of the steps that judge a chip's texts to what is wrong with the texts.
-use Rattle.std.proofs.Common.{ℕ, ◌<◌, ◌≤◌, ◌^◌, List, Option, Some, sym, ap, subst, arith, ◌≡◌}
+-- From the faults of the steps that judge a chip's texts to what the stages answer.
+use Rattle.std.proofs.Common.{ℕ, List, [], ◌∷◌, Some, None, Result, Ok, Err, OnOk, subst, ◌≡◌}
 use Rattle.geom.specs.declared.layout.Layout.{Layout}
-use Rattle.geom.specs.FlatForm.{flat_of, flat_count}
-use Rattle.gds_read.specs.Reading.{IsReadAs}
+use Rattle.geom.specs.FlatForm.{flat_of}
+use Rattle.gds_records.specs.Stream.{IsStream}
+use Rattle.gds_records.specs.Faults.{StreamFault}
+use Rattle.gds_records.specs.declared.fault.StreamKind.{StreamKind}
+use Rattle.gds_read.specs.Reading.{IsReadAs, IsTooLarge, IsRefusedFor}
+use Rattle.gds_read.specs.declared.refusal.StreamRefusal.{StreamRefusal}
+use Rattle.gds_read.specs.declared.refusal.StreamRefusal.TheVariants.{TooManyShapes}
 use Rattle.cell_library.specs.Library.{LibraryView, limits_of}
 use Rattle.cell_library.specs.Says as library
-use Rattle.cell_library.specs.declared.fault.LibraryFault.TheVariants.{Text, Key, Value, Law, Missing}
 use Rattle.shape_extract.specs.Circuits.{CircuitView}
 use Rattle.layout_rules.specs.declared.rule.Rule.{Rule}
 use Rattle.layout_rules.specs.Limits.{Limits}
@@ -15,35 +19,42 @@ use Rattle.shape_extract.specs.Extraction.{IsCircuitOf}
 use Rattle.shape_extract.specs.Extracts.{Extracts, BreaksCircuit, IfBroken}
 use Rattle.shape_extract.specs.declared.extraction.ExtractRefusal.{ExtractRefusal}
 use Rattle.shape_extract.specs.declared.extraction.ExtractRefusal.TheVariants.{Broken}
-use Rattle.chip_texts.specs.WordsText.{SaysWords, IsBadLine}
-use Rattle.aqfp_top.specs.Code.Designing.{IsLibraryFault}
-use Rattle.aqfp_top.specs.Code.Checking.{IsWrongOrMemory, IsLayoutFault, IsRuleFault}
-use Rattle.aqfp_top.specs.Checks.{MakesCircuit, IsSound, IsMisworded, IsUnruly}
+use Rattle.chip_texts.specs.WordsText.{SaysWords}
+use Rattle.aqfp_top.specs.Designs.{IsCellsFault}
+use Rattle.aqfp_top.specs.Checks.{MakesCircuit, IsSound, IsUnruly, IsRuleFault}
+use Rattle.aqfp_top.specs.Stages as stage
+use Rattle.aqfp_top.specs.Stages.{Stage, FindsNone, IsFirst, Answers}
+use Rattle.aqfp_top.specs.Due.{judging_stages}
+use Rattle.aqfp_top.specs.Code.Staging.{OrMemory}
+use Rattle.aqfp_top.specs.Code.Checking.{IsBroken, IsJudgingFault, circuit_stages}
+use Rattle.aqfp_top.proofs.Staging.{past, found}
+use Rattle.aqfp_top.proofs.OneFault.{says_no_cells_fault}
+use Rattle.aqfp_top.proofs.OneCheck.{stream_none}
 use Rattle.aqfp_top.specs.declared.fault.Large.TheVariants.{Shapes}
 use Rattle.aqfp_top.specs.declared.fault.Fault.{Fault}
-use Rattle.aqfp_top.specs.declared.fault.Fault.TheVariants.{BadLibrary, MissingCell, TooLarge, BadStream, RuleBroken, BadWords, Memory}
+use Rattle.aqfp_top.specs.declared.fault.Fault.TheVariants.{BadLibrary, MissingCell, TooLarge, RuleBroken, Memory}
 
-below_few : (a b : ℕ) → a ≡ b → b ≤ 8000000 → a < 2 ^ 32
-below_few a b is few = omega arith
+-- Reading the layout.
 
-pub layout_is_wrong : (gds lib text : List ℕ) (fault : Fault) → IsLayoutFault gds fault → IsWrongOrMemory gds lib text fault
-layout_is_wrong gds lib text (BadStream offset kind) bad = bad
-layout_is_wrong gds lib text (TooLarge Shapes count) bad = bad
-layout_is_wrong gds lib text Memory bad = tt
-layout_is_wrong gds lib text _ bad = absurd bad
+pub too_large : (gds : List ℕ) (refusal : StreamRefusal) (count : ℕ) → refusal ≡ TooManyShapes count → IsRefusedFor gds refusal → IsTooLarge gds count
+too_large gds refusal count is refused = subst (IsRefusedFor gds) is refused
 
-pub memory_is_wrong : (gds lib text : List ℕ) (fault : Fault) → fault ≡ Memory → IsWrongOrMemory gds lib text fault
-memory_is_wrong gds lib text fault e = subst (IsWrongOrMemory gds lib text) (sym e) tt
+pub size_answers : ((bytes : List ℕ) (layout : Layout) (offset : ℕ) (kind : StreamKind) → IsStream bytes layout → StreamFault bytes offset kind → ⊥) →
+    (gds : List ℕ) (count : ℕ) → IsTooLarge gds count → (rest : List Stage) → Answers (stage.Stream gds ∷ stage.Size gds ∷ rest) (Some (TooLarge Shapes count))
+size_answers not_both gds count large rest =
+    past (stage.Stream gds) (stage.Size gds ∷ rest) (Some (TooLarge Shapes count)) (stream_none not_both gds large.layout large.stream) (found (stage.Size gds) rest (TooLarge Shapes count) large)
 
-pub cells_are_wrong : (gds lib text : List ℕ) (layout : Layout) (fault : Fault) → IsReadAs gds layout → IsLibraryFault lib fault → IsWrongOrMemory gds lib text fault
-cells_are_wrong gds lib text layout (BadLibrary Text) read bad = (record { layout = layout; read = read }, bad)
-cells_are_wrong gds lib text layout (BadLibrary (Key key)) read bad = (record { layout = layout; read = read }, bad)
-cells_are_wrong gds lib text layout (BadLibrary (Value key value)) read bad = (record { layout = layout; read = read }, bad)
-cells_are_wrong gds lib text layout (BadLibrary (Law number)) read bad = (record { layout = layout; read = read }, bad)
-cells_are_wrong gds lib text layout (BadLibrary (Missing kind)) read bad = absurd bad
-cells_are_wrong gds lib text layout (MissingCell kind) read bad = (record { layout = layout; read = read }, bad)
-cells_are_wrong gds lib text layout Memory read bad = tt
-cells_are_wrong gds lib text layout _ read bad = absurd bad
+-- the kinds of faults
+pub rule_fault : (gds lib : List ℕ) (fault : Fault) → OrMemory (IsRuleFault gds lib) fault → IsJudgingFault fault
+rule_fault gds lib (RuleBroken rule first second) bad = tt
+rule_fault gds lib Memory bad = tt
+rule_fault gds lib _ bad = absurd bad
+
+pub cells_fault : (lib : List ℕ) (fault : Fault) → OrMemory (IsCellsFault lib) fault → IsJudgingFault fault
+cells_fault lib (BadLibrary fault) bad = tt
+cells_fault lib (MissingCell kind) bad = tt
+cells_fault lib Memory bad = tt
+cells_fault lib _ bad = absurd bad
 
 -- the first broken rule of circuits is the first of all, whatever the numbers
 pub rule_broken : (flat : Flat) (refusal : ExtractRefusal) (rule : Rule) (first second : ℕ) → refusal ≡ Broken rule first second → IfBroken refusal (BreaksCircuit flat)
@@ -60,11 +71,11 @@ unruly gds lib layout view flat rule first second read says same bad = record {
   broken = subst (λ f. FirstBroken f (limits_of view) rule first second) same bad;
 }
 
-pub rule_is_wrong : (gds lib text : List ℕ) (layout : Layout) (view : LibraryView) (flat : Flat) (fault : Fault) → IsReadAs gds layout → library.Says lib view → flat ≡ flat_of layout
-    → IsRuleFault flat (limits_of view) fault → IsWrongOrMemory gds lib text fault
-rule_is_wrong gds lib text layout view flat (RuleBroken rule first second) read says same bad = unruly gds lib layout view flat rule first second read says same bad
-rule_is_wrong gds lib text layout view flat Memory read says same bad = tt
-rule_is_wrong gds lib text layout view flat _ read says same bad = absurd bad
+pub rule_is_wrong : (gds lib : List ℕ) (layout : Layout) (view : LibraryView) (flat : Flat) (fault : Fault) → IsReadAs gds layout → library.Says lib view → flat ≡ flat_of layout
+    → IsBroken flat (limits_of view) fault → OrMemory (IsRuleFault gds lib) fault
+rule_is_wrong gds lib layout view flat (RuleBroken rule first second) read says same bad = unruly gds lib layout view flat rule first second read says same bad
+rule_is_wrong gds lib layout view flat Memory read says same bad = tt
+rule_is_wrong gds lib layout view flat _ read says same bad = absurd bad
 
 pub circuit_is_made : (gds lib : List ℕ) (layout : Layout) (view : LibraryView) (flat : Flat) (circuit : CircuitView) → IsReadAs gds layout → library.Says lib view → flat ≡ flat_of layout
     → KeepsRules flat (limits_of view) → Extracts flat circuit → MakesCircuit gds lib circuit
@@ -76,17 +87,28 @@ circuit_is_made gds lib layout view flat circuit read says same rules extracts =
   circuit_is = subst (λ f. IsCircuitOf f circuit) same extracts.circuit_is;
 }
 
--- what is read has few shapes
-pub few_shapes : (gds : List ℕ) (layout : Layout) (flat : Flat) → IsReadAs gds layout → flat ≡ flat_of layout → flat_count flat < 2 ^ 32
-few_shapes gds layout flat read same =
-    let few : flat_count (flat_of layout) ≤ 8000000 = read.flattenable.within in
-    let is : flat_count flat ≡ flat_count (flat_of layout) = ap flat_count same in
-    below_few (flat_count flat) (flat_count (flat_of layout)) is few
+-- From the faults of the steps to what the stages answer.
 
-pub words_are_wrong : (gds lib text : List ℕ) (circuit : CircuitView) (line : ℕ) → MakesCircuit gds lib circuit → IsBadLine circuit.inputs text line → IsMisworded gds lib text line
-words_are_wrong gds lib text circuit line makes bad = record { circuit = circuit; makes = makes; bad = bad }
+pub layout_answers : (gds lib text : List ℕ) (fault : Fault) → ((rest : List Stage) → Answers (stage.Stream gds ∷ stage.Size gds ∷ rest) (Some fault)) → Answers (judging_stages gds lib text) (Some fault)
+layout_answers gds lib text fault bad = bad (stage.Cells lib ∷ stage.Rules gds lib ∷ stage.Words gds lib text ∷ [])
+
+pub cells_answer : (gds lib text : List ℕ) (fault : Fault) → FindsNone (stage.Stream gds) → FindsNone (stage.Size gds) → OrMemory (IsCellsFault lib) fault → Answers (judging_stages gds lib text) (Some fault)
+cells_answer gds lib text fault stream size bad =
+    past (stage.Stream gds) (stage.Size gds ∷ stage.Cells lib ∷ stage.Rules gds lib ∷ stage.Words gds lib text ∷ []) (Some fault) stream (past (stage.Size gds) (stage.Cells lib ∷ stage.Rules gds lib ∷ stage.Words gds lib text ∷ []) (Some fault) size (found (stage.Cells lib) (stage.Rules gds lib ∷ stage.Words gds lib text ∷ []) fault bad))
+
+pub rules_answer : (gds lib text : List ℕ) (view : LibraryView) (fault : Fault) → FindsNone (stage.Stream gds) → FindsNone (stage.Size gds) → library.Says lib view → OrMemory (IsRuleFault gds lib) fault → Answers (judging_stages gds lib text) (Some fault)
+rules_answer gds lib text view fault stream size says bad =
+    past (stage.Stream gds) (stage.Size gds ∷ stage.Cells lib ∷ stage.Rules gds lib ∷ stage.Words gds lib text ∷ []) (Some fault) stream (past (stage.Size gds) (stage.Cells lib ∷ stage.Rules gds lib ∷ stage.Words gds lib text ∷ []) (Some fault) size (past (stage.Cells lib) (stage.Rules gds lib ∷ stage.Words gds lib text ∷ []) (Some fault) (says_no_cells_fault lib view says)
+    (found (stage.Rules gds lib) (stage.Words gds lib text ∷ []) fault bad)))
+
+pub circuit_is_well : {A : Type 0} (gds lib : List ℕ) (view : LibraryView) (result : Result A Fault) → FindsNone (stage.Stream gds) → FindsNone (stage.Size gds) → library.Says lib view → OnOk result (FindsNone (stage.Rules gds lib)) → OnOk result (IsFirst (circuit_stages gds lib) None)
+circuit_is_well gds lib view (Ok x) stream size says rules = (stream, (size, (says_no_cells_fault lib view says, (rules, tt))))
+circuit_is_well gds lib view (Err fault) stream size says rules = tt
+
+pub words_are_well : (gds lib text : List ℕ) → IsFirst (circuit_stages gds lib) None → FindsNone (stage.Words gds lib text) → IsFirst (judging_stages gds lib text) None
+words_are_well gds lib text before none = (before.0, (before.1.0, (before.1.1.0, (before.1.1.1.0, (none, tt)))))
 
 pub is_sound : (gds lib text : List ℕ) (circuit : CircuitView) → MakesCircuit gds lib circuit → SaysWords circuit.inputs text → IsSound gds lib text circuit
 is_sound gds lib text circuit makes says = record { makes = makes; says = says }
 
-pub ruleset judges = (layout_is_wrong, memory_is_wrong, cells_are_wrong, few_shapes, words_are_wrong, is_sound)
+pub ruleset judges = (layout_answers, cells_answer, rules_answer, rule_fault, cells_fault)

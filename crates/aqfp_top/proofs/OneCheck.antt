@@ -1,5 +1,5 @@
--- Of a stream, a library and words at most one thing is the first that is wrong, and nothing where all is well.
-use Rattle.std.proofs.Common.{ℕ, suc, ◌≡◌, ◌<◌, ◌≤◌, ◌+◌, ◌⊎◌, inl, inr, arith, Bool, true, false, List, length, All, take, get_or, slice_get, Some, refl, sym, subst, ap, ◌∙◌}
+-- A stream, its size, its shapes and words have one fault each at most, and none where all is well.
+use Rattle.std.proofs.Common.{ℕ, ◌≡◌, ◌<◌, ◌≤◌, ◌+◌, inl, inr, arith, true, List, length, All, take, slice_get, Some, sym, subst, ap, ◌∙◌}
 use Rattle.std.proofs.lemmas.Bool.{cases_order}
 use Rattle.std.proofs.lemmas.List.{get_or-take, length-take}
 use Rattle.std.proofs.lemmas.Option.{get_or_from_slice_get, slice_get_within}
@@ -11,45 +11,38 @@ use Rattle.gds_records.specs.Stream.{IsStream}
 use Rattle.gds_records.specs.Faults.{StreamFault}
 use Rattle.gds_records.specs.declared.fault.StreamKind.{StreamKind}
 use Rattle.gds_read.specs.Reading.{IsReadAs, IsTooLarge}
-use Rattle.cell_library.specs.declared.fault.LibraryFault.{LibraryFault}
-use Rattle.cell_library.specs.declared.fault.LibraryFault.TheVariants.{Text, Key, Value, Law, Missing}
-use Rattle.circuit.specs.declared.cell_kind.CellKind.{CellKind}
 use Rattle.layout_rules.specs.declared.rule.Rule.{Rule}
 use Rattle.layout_rules.specs.declared.rule.Rule.TheVariants.{E1, E2, E6}
 use Rattle.layout_rules.specs.Limits.{Limits}
-use Rattle.cell_library.specs.Library.{LibraryView, limits_of}
-use Rattle.layout_rules.specs.Rules.{Keeps, KeepsRules, FirstBroken}
+use Rattle.cell_library.specs.Library.{limits_of}
+use Rattle.layout_rules.specs.Rules.{Keeps, FirstBroken}
 use Rattle.layout_rules.specs.RuleLaws.{IsOneReport}
 use Rattle.shape_extract.specs.Circuits.{CircuitView}
 use Rattle.shape_extract.specs.Extraction.{IsCircuitOf}
 use Rattle.chip_texts.specs.WordsText.{is_word, SaysWords, IsBadLine}
-use Rattle.aqfp_top.specs.Designs.{SaysLibrary, IsCellFault}
-use Rattle.aqfp_top.specs.Checks.{IsWrong, SaysLayout, IsUnruly, MakesCircuit, IsMisworded, SaysSound}
+use Rattle.aqfp_top.specs.Checks.{IsUnruly, MakesCircuit, IsMisworded, IsSound, IsStreamFault, IsSizeFault, IsRuleFault, IsWordsFault}
 use Rattle.aqfp_top.specs.declared.fault.Large.TheVariants.{Shapes}
 use Rattle.aqfp_top.specs.declared.fault.Fault.{Fault}
-use Rattle.aqfp_top.specs.declared.fault.Fault.TheVariants.{BadLibrary, MissingCell, TooLarge, BadStream, RuleBroken, BadWords}
-use Rattle.aqfp_top.proofs.OneFault.{same_library, same_said, library_either}
+use Rattle.aqfp_top.specs.declared.fault.Fault.TheVariants.{TooLarge, BadStream, RuleBroken, BadWords}
+use Rattle.aqfp_top.proofs.OneFault.{same_said}
 
--- what holds for each reason holds of whatever is wrong
-each_reason : (P : Fault → Type 0) (gds lib text : List ℕ) →
-    ((offset : ℕ) (kind : StreamKind) → StreamFault gds offset kind → P (BadStream offset kind)) →
-    ((count : ℕ) → IsTooLarge gds count → P (TooLarge Shapes count)) →
-    ((a : LibraryFault) → SaysLayout gds → IsCellFault lib a → ((k : CellKind) → a ≡ Missing k → ⊥) → P (BadLibrary a)) →
-    ((k : CellKind) → SaysLayout gds → IsCellFault lib (Missing k) → P (MissingCell k)) →
-    ((rule : Rule) (first second : ℕ) → IsUnruly gds lib rule first second → P (RuleBroken rule first second)) →
-    ((line : ℕ) → IsMisworded gds lib text line → P (BadWords line)) →
-    (fault : Fault) → IsWrong gds lib text fault → P fault
-each_reason P gds lib text stream large cells missing rules words (BadStream offset kind) wrong = stream offset kind wrong
-each_reason P gds lib text stream large cells missing rules words (TooLarge Shapes count) wrong = large count wrong
-each_reason P gds lib text stream large cells missing rules words (BadLibrary Text) wrong = cells Text wrong.0 wrong.1 (λ k e. cc)
-each_reason P gds lib text stream large cells missing rules words (BadLibrary (Key key)) wrong = cells (Key key) wrong.0 wrong.1 (λ k e. cc)
-each_reason P gds lib text stream large cells missing rules words (BadLibrary (Value key value)) wrong = cells (Value key value) wrong.0 wrong.1 (λ k e. cc)
-each_reason P gds lib text stream large cells missing rules words (BadLibrary (Law number)) wrong = cells (Law number) wrong.0 wrong.1 (λ k e. cc)
-each_reason P gds lib text stream large cells missing rules words (BadLibrary (Missing k)) wrong = absurd wrong
-each_reason P gds lib text stream large cells missing rules words (MissingCell k) wrong = missing k wrong.0 wrong.1
-each_reason P gds lib text stream large cells missing rules words (RuleBroken rule first second) wrong = rules rule first second wrong
-each_reason P gds lib text stream large cells missing rules words (BadWords line) wrong = words line wrong
-each_reason P gds lib text stream large cells missing rules words _ wrong = absurd wrong
+-- what holds of each fault of a stage holds of whatever it finds
+
+each_stream : (P : Fault → Type 0) (gds : List ℕ) → ((offset : ℕ) (kind : StreamKind) → StreamFault gds offset kind → P (BadStream offset kind)) → (fault : Fault) → IsStreamFault gds fault → P fault
+each_stream P gds stream (BadStream offset kind) bad = stream offset kind bad
+each_stream P gds stream _ bad = absurd bad
+
+each_size : (P : Fault → Type 0) (gds : List ℕ) → ((count : ℕ) → IsTooLarge gds count → P (TooLarge Shapes count)) → (fault : Fault) → IsSizeFault gds fault → P fault
+each_size P gds large (TooLarge Shapes count) bad = large count bad
+each_size P gds large _ bad = absurd bad
+
+each_rule : (P : Fault → Type 0) (gds lib : List ℕ) → ((rule : Rule) (first second : ℕ) → IsUnruly gds lib rule first second → P (RuleBroken rule first second)) → (fault : Fault) → IsRuleFault gds lib fault → P fault
+each_rule P gds lib rules (RuleBroken rule first second) bad = rules rule first second bad
+each_rule P gds lib rules _ bad = absurd bad
+
+each_words : (P : Fault → Type 0) (gds lib text : List ℕ) → ((line : ℕ) → IsMisworded gds lib text line → P (BadWords line)) → (fault : Fault) → IsWordsFault gds lib text fault → P fault
+each_words P gds lib text words (BadWords line) bad = words line bad
+each_words P gds lib text words _ bad = absurd bad
 
 -- a text with a bad line doesn't say words, and it has one first bad line
 
@@ -74,14 +67,20 @@ same_line width text a b p q = elim (cases_order p.index q.index) [
   ]
 ]
 
-same_missing : {k m : CellKind} → ◌≡◌ {A = LibraryFault} (Missing k) (Missing m) → k ≡ m
-same_missing e = cc
+-- The stream.
 
-module _ (one_layout : (bytes : List ℕ) (layout other : Layout) → IsStream bytes layout → IsStream bytes other → layout ≡ other)
-    (not_both : (bytes : List ℕ) (layout : Layout) (offset : ℕ) (kind : StreamKind) → IsStream bytes layout → StreamFault bytes offset kind → ⊥)
-    (one_fault : (bytes : List ℕ) (offset other : ℕ) (kind second : StreamKind) → StreamFault bytes offset kind → StreamFault bytes other second → (offset ≡ other) × (kind ≡ second))
-    (broken_once : (flat : Flat) (limits : Limits) (rule other : Rule) (a b c d : ℕ) → FirstBroken flat limits rule a b → FirstBroken flat limits other c d → IsOneReport rule other a b c d)
-    (one_circuit : (flat : Flat) (limits : Limits) (first second : CircuitView) → Keeps E1 flat limits → Keeps E2 flat limits → Keeps E6 flat limits → IsCircuitOf flat first → IsCircuitOf flat second → first ≡ second) where
+module _ (not_both : (bytes : List ℕ) (layout : Layout) (offset : ℕ) (kind : StreamKind) → IsStream bytes layout → StreamFault bytes offset kind → ⊥) where
+  pub stream_none : (gds : List ℕ) (layout : Layout) → IsStream gds layout → (fault : Fault) → ¬ IsStreamFault gds fault
+  stream_none gds layout stream fault bad = each_stream (λ f. ⊥) gds (λ o k x. not_both gds layout o k stream x) fault bad
+
+module _ (one_fault : (bytes : List ℕ) (offset other : ℕ) (kind second : StreamKind) → StreamFault bytes offset kind → StreamFault bytes other second → (offset ≡ other) × (kind ≡ second)) where
+  pub one_stream_fault : (gds : List ℕ) (f g : Fault) → IsStreamFault gds f → IsStreamFault gds g → f ≡ g
+  one_stream_fault gds f g p q = each_stream (λ f. f ≡ g) gds
+      (λ o k x. each_stream (λ g. BadStream o k ≡ g) gds (λ o' k' y. (let one = one_fault gds o o' k k' x y in λ i. BadStream (one.0 i) (one.1 i))) g q) f p
+
+-- Its size, and its rules.
+
+module _ (one_layout : (bytes : List ℕ) (layout other : Layout) → IsStream bytes layout → IsStream bytes other → layout ≡ other) where
   not_large : (gds : List ℕ) (count : ℕ) (layout : Layout) → IsTooLarge gds count → IsReadAs gds layout → ⊥
   not_large gds count layout large read =
       let same : large.layout ≡ layout = one_layout gds large.layout layout large.stream read.stream in
@@ -90,8 +89,14 @@ module _ (one_layout : (bytes : List ℕ) (layout other : Layout) → IsStream b
       let is : count ≡ flat_count (flat_of layout) = large.count_is ∙ ap (λ l. flat_count (flat_of l)) same in
       omega (arith, fits, above, is)
 
+  pub size_none : (gds : List ℕ) (layout : Layout) → IsReadAs gds layout → (fault : Fault) → ¬ IsSizeFault gds fault
+  size_none gds layout read fault bad = each_size (λ f. ⊥) gds (λ n x. not_large gds n layout x read) fault bad
+
   same_count : (gds : List ℕ) (a b : ℕ) → IsTooLarge gds a → IsTooLarge gds b → a ≡ b
   same_count gds a b p q = p.count_is ∙ (ap (λ l. flat_count (flat_of l)) (one_layout gds p.layout q.layout p.stream q.stream) ∙ sym q.count_is)
+
+  pub one_size_fault : (gds : List ℕ) (f g : Fault) → IsSizeFault gds f → IsSizeFault gds g → f ≡ g
+  one_size_fault gds f g p q = each_size (λ f. f ≡ g) gds (λ n x. each_size (λ g. TooLarge Shapes n ≡ g) gds (λ m y. ap (TooLarge Shapes) (same_count gds n m x y)) g q) f p
 
   not_unruly : (gds lib : List ℕ) (rule : Rule) (a b : ℕ) (circuit : CircuitView) → IsUnruly gds lib rule a b → MakesCircuit gds lib circuit → ⊥
   not_unruly gds lib rule a b circuit unruly makes =
@@ -101,87 +106,39 @@ module _ (one_layout : (bytes : List ℕ) (layout other : Layout) → IsStream b
       subst (λ c. FirstBroken (flat_of makes.layout) (limits_of c) rule a b) cells (subst (λ l. FirstBroken (flat_of l) (limits_of unruly.library.view) rule a b) layout unruly.broken) in
       makes.rules rule a b broken.report.reported
 
-  same_rule : (gds lib : List ℕ) (r s : Rule) (a b c d : ℕ) → IsUnruly gds lib r a b → IsUnruly gds lib s c d → ◌≡◌ {A = Fault} (RuleBroken r a b) (RuleBroken s c d)
-  same_rule gds lib r s a b c d p q =
-      let layout : p.layout ≡ q.layout = one_layout gds p.layout q.layout p.read.stream q.read.stream in
-      let cells : p.library.view ≡ q.library.view = same_said lib p.library.view q.library.view p.library.says q.library.says in
-      let broken : FirstBroken (flat_of q.layout) (limits_of q.library.view) r a b =
-      subst (λ v. FirstBroken (flat_of q.layout) (limits_of v) r a b) cells (subst (λ l. FirstBroken (flat_of l) (limits_of p.library.view) r a b) layout p.broken) in
-      let one = broken_once (flat_of q.layout) (limits_of q.library.view) r s a b c d broken q.broken in
-      λ i. RuleBroken (one.one_rule i) (one.one_first i) (one.one_second i)
+  pub rules_none : (gds lib : List ℕ) (circuit : CircuitView) → MakesCircuit gds lib circuit → (fault : Fault) → ¬ IsRuleFault gds lib fault
+  rules_none gds lib circuit makes fault bad = each_rule (λ f. ⊥) gds lib (λ r a b x. not_unruly gds lib r a b circuit x makes) fault bad
 
-  same_circuit : (gds lib : List ℕ) (first second : CircuitView) → MakesCircuit gds lib first → MakesCircuit gds lib second → first ≡ second
-  same_circuit gds lib first second p q =
-      let same : p.layout ≡ q.layout = one_layout gds p.layout q.layout p.read.stream q.read.stream in
-      let circuit_is : IsCircuitOf (flat_of q.layout) first = subst (λ l. IsCircuitOf (flat_of l) first) same p.circuit_is in
-      one_circuit (flat_of q.layout) (limits_of q.library.view) first second (q.rules E1) (q.rules E2) (q.rules E6) circuit_is q.circuit_is
+  module _ (broken_once : (flat : Flat) (limits : Limits) (rule other : Rule) (a b c d : ℕ) → FirstBroken flat limits rule a b → FirstBroken flat limits other c d → IsOneReport rule other a b c d) where
+    same_rule : (gds lib : List ℕ) (r s : Rule) (a b c d : ℕ) → IsUnruly gds lib r a b → IsUnruly gds lib s c d → ◌≡◌ {A = Fault} (RuleBroken r a b) (RuleBroken s c d)
+    same_rule gds lib r s a b c d p q =
+        let layout : p.layout ≡ q.layout = one_layout gds p.layout q.layout p.read.stream q.read.stream in
+        let cells : p.library.view ≡ q.library.view = same_said lib p.library.view q.library.view p.library.says q.library.says in
+        let broken : FirstBroken (flat_of q.layout) (limits_of q.library.view) r a b =
+        subst (λ v. FirstBroken (flat_of q.layout) (limits_of v) r a b) cells (subst (λ l. FirstBroken (flat_of l) (limits_of p.library.view) r a b) layout p.broken) in
+        let one = broken_once (flat_of q.layout) (limits_of q.library.view) r s a b c d broken q.broken in
+        λ i. RuleBroken (one.one_rule i) (one.one_first i) (one.one_second i)
 
-  pub sound_not_wrong : (gds lib text : List ℕ) (fault : Fault) → SaysSound gds lib text → IsWrong gds lib text fault → ⊥
-  sound_not_wrong gds lib text fault well wrong =
-      let makes = well.sound.makes in
-      each_reason (λ f. ⊥) gds lib text
-      (λ o k bad. not_both gds makes.layout o k makes.read.stream bad)
-      (λ n large. not_large gds n makes.layout large makes.read)
-      (λ a layout bad none. library_either lib a bad makes.library)
-      (λ k layout bad. library_either lib (Missing k) bad makes.library)
-      (λ r a b unruly. not_unruly gds lib r a b well.circuit unruly makes)
-      (λ l misworded. (let same : misworded.circuit ≡ well.circuit = same_circuit gds lib misworded.circuit well.circuit misworded.makes makes in
-      says_no_bad well.circuit.inputs text l well.sound.says (subst (λ c. IsBadLine c.inputs text l) same misworded.bad)))
-      fault wrong
+    pub one_rule_fault : (gds lib : List ℕ) (f g : Fault) → IsRuleFault gds lib f → IsRuleFault gds lib g → f ≡ g
+    one_rule_fault gds lib f g p q = each_rule (λ f. f ≡ g) gds lib (λ r a b x. each_rule (λ g. RuleBroken r a b ≡ g) gds lib (λ s c d y. same_rule gds lib r s a b c d x y) g q) f p
 
-  same_words : (gds lib text : List ℕ) (a b : ℕ) → IsMisworded gds lib text a → IsMisworded gds lib text b → a ≡ b
-  same_words gds lib text a b p q =
-      let same : p.circuit ≡ q.circuit = same_circuit gds lib p.circuit q.circuit p.makes q.makes in
-      same_line q.circuit.inputs text a b (subst (λ c. IsBadLine c.inputs text a) same p.bad) q.bad
+  module _ (one_circuit : (flat : Flat) (limits : Limits) (first second : CircuitView) → Keeps E1 flat limits → Keeps E2 flat limits → Keeps E6 flat limits → IsCircuitOf flat first → IsCircuitOf flat second → first ≡ second) where
+    same_circuit : (gds lib : List ℕ) (first second : CircuitView) → MakesCircuit gds lib first → MakesCircuit gds lib second → first ≡ second
+    same_circuit gds lib first second p q =
+        let same : p.layout ≡ q.layout = one_layout gds p.layout q.layout p.read.stream q.read.stream in
+        let circuit_is : IsCircuitOf (flat_of q.layout) first = subst (λ l. IsCircuitOf (flat_of l) first) same p.circuit_is in
+        one_circuit (flat_of q.layout) (limits_of q.library.view) first second (q.rules E1) (q.rules E2) (q.rules E6) circuit_is q.circuit_is
 
-  pub same_wrong : (gds lib text : List ℕ) (due fault : Fault) → IsWrong gds lib text due → IsWrong gds lib text fault → fault ≡ due
-  same_wrong gds lib text due fault p q = each_reason (λ d. fault ≡ d) gds lib text
-      (λ o k bad. each_reason (λ f. f ≡ BadStream o k) gds lib text
-      (λ o' k' other. (let one = one_fault gds o' o k' k other bad in λ i. BadStream (one.0 i) (one.1 i)))
-      (λ n large. absurd (not_both gds large.layout o k large.stream bad))
-      (λ a layout other none. absurd (not_both gds layout.layout o k layout.read.stream bad))
-      (λ m layout other. absurd (not_both gds layout.layout o k layout.read.stream bad))
-      (λ r a b unruly. absurd (not_both gds unruly.layout o k unruly.read.stream bad))
-      (λ l misworded. absurd (not_both gds misworded.makes.layout o k misworded.makes.read.stream bad))
-      fault q)
-      (λ n large. each_reason (λ f. f ≡ TooLarge Shapes n) gds lib text
-      (λ o k bad. absurd (not_both gds large.layout o k large.stream bad))
-      (λ m other. ap (TooLarge Shapes) (same_count gds m n other large))
-      (λ a layout other none. absurd (not_large gds n layout.layout large layout.read))
-      (λ m layout other. absurd (not_large gds n layout.layout large layout.read))
-      (λ r a b unruly. absurd (not_large gds n unruly.layout large unruly.read))
-      (λ l misworded. absurd (not_large gds n misworded.makes.layout large misworded.makes.read))
-      fault q)
-      (λ a layout bad none. each_reason (λ f. f ≡ BadLibrary a) gds lib text
-      (λ o k other. absurd (not_both gds layout.layout o k layout.read.stream other))
-      (λ n large. absurd (not_large gds n layout.layout large layout.read))
-      (λ b layout' other none'. ap BadLibrary (same_library b a lib other bad))
-      (λ k layout' other. absurd (none k (same_library a (Missing k) lib bad other)))
-      (λ r x y unruly. absurd (library_either lib a bad unruly.library))
-      (λ l misworded. absurd (library_either lib a bad misworded.makes.library))
-      fault q)
-      (λ k layout bad. each_reason (λ f. f ≡ MissingCell k) gds lib text
-      (λ o kind other. absurd (not_both gds layout.layout o kind layout.read.stream other))
-      (λ n large. absurd (not_large gds n layout.layout large layout.read))
-      (λ b layout' other none'. absurd (none' k (same_library b (Missing k) lib other bad)))
-      (λ m layout' other. ap MissingCell (same_missing (same_library (Missing m) (Missing k) lib other bad)))
-      (λ r x y unruly. absurd (library_either lib (Missing k) bad unruly.library))
-      (λ l misworded. absurd (library_either lib (Missing k) bad misworded.makes.library))
-      fault q)
-      (λ r x y unruly. each_reason (λ f. f ≡ RuleBroken r x y) gds lib text
-      (λ o k other. absurd (not_both gds unruly.layout o k unruly.read.stream other))
-      (λ n large. absurd (not_large gds n unruly.layout large unruly.read))
-      (λ b layout' other none'. absurd (library_either lib b other unruly.library))
-      (λ k layout' other. absurd (library_either lib (Missing k) other unruly.library))
-      (λ s v w other. same_rule gds lib s r v w x y other unruly)
-      (λ l misworded. absurd (not_unruly gds lib r x y misworded.circuit unruly misworded.makes))
-      fault q)
-      (λ l misworded. each_reason (λ f. f ≡ BadWords l) gds lib text
-      (λ o k other. absurd (not_both gds misworded.makes.layout o k misworded.makes.read.stream other))
-      (λ n large. absurd (not_large gds n misworded.makes.layout large misworded.makes.read))
-      (λ b layout' other none'. absurd (library_either lib b other misworded.makes.library))
-      (λ k layout' other. absurd (library_either lib (Missing k) other misworded.makes.library))
-      (λ s v w unruly. absurd (not_unruly gds lib s v w misworded.circuit unruly misworded.makes))
-      (λ m other. ap BadWords (same_words gds lib text m l other misworded))
-      fault q)
-      due p
+    pub words_none : (gds lib text : List ℕ) (circuit : CircuitView) → IsSound gds lib text circuit → (fault : Fault) → ¬ IsWordsFault gds lib text fault
+    words_none gds lib text circuit sound fault bad = each_words (λ f. ⊥) gds lib text
+        (λ l x. (let same : x.circuit ≡ circuit = same_circuit gds lib x.circuit circuit x.makes sound.makes in
+        says_no_bad circuit.inputs text l sound.says (subst (λ c. IsBadLine c.inputs text l) same x.bad)))
+        fault bad
+
+    same_words : (gds lib text : List ℕ) (a b : ℕ) → IsMisworded gds lib text a → IsMisworded gds lib text b → a ≡ b
+    same_words gds lib text a b p q =
+        let same : p.circuit ≡ q.circuit = same_circuit gds lib p.circuit q.circuit p.makes q.makes in
+        same_line q.circuit.inputs text a b (subst (λ c. IsBadLine c.inputs text a) same p.bad) q.bad
+
+    pub one_words_fault : (gds lib text : List ℕ) (f g : Fault) → IsWordsFault gds lib text f → IsWordsFault gds lib text g → f ≡ g
+    one_words_fault gds lib text f g p q = each_words (λ f. f ≡ g) gds lib text (λ a x. each_words (λ g. BadWords a ≡ g) gds lib text (λ b y. ap BadWords (same_words gds lib text a b x y)) g q) f p

@@ -1,4 +1,4 @@
--- Of the texts of a netlist and of a library at most one thing is the first that is wrong, and nothing where they are served.
+-- The texts of a netlist and of a library, and their plan, have one fault each at most, and none where all is well.
 use Rattle.std.proofs.Common.{ℕ, ◌≡◌, ◌≢◌, ◌<◌, ◌≤◌, ◌⊎◌, inl, inr, arith, List, Option, Some, None, refl, sym, subst, ap, ◌∙◌}
 use Rattle.blif_read.specs.Parts.{NetView}
 use Rattle.blif_read.specs.Says as netlist
@@ -17,7 +17,7 @@ use Rattle.chip_plan.specs.Plans.{IsWithin, chip_of}
 use Rattle.chip_plan.specs.Refusals.{Refuses}
 use Rattle.chip_plan.specs.declared.refusal.PlanRefusal.{PlanRefusal}
 use Rattle.chip_plan.specs.declared.refusal.PlanRefusal.TheVariants as plan
-use Rattle.aqfp_top.specs.Designs.{SaysNetlist, SaysLibrary, HasDesign, KeepsLimits, HasManyElements, HasTooMuch, IsServed, IsWrong, IsCellFault}
+use Rattle.aqfp_top.specs.Designs.{SaysNetlist, SaysLibrary, HasNetlist, HasDesign, KeepsLimits, HasManyElements, HasTooMuch, IsCellFault, IsNetlistFault, IsCellsFault, IsPlanFault}
 use Rattle.aqfp_top.specs.declared.fault.Large.{Large}
 use Rattle.aqfp_top.specs.declared.fault.Large.TheVariants.{Slots, Rows, Cells, Elements, Shapes}
 use Rattle.aqfp_top.specs.declared.fault.Fault.{Fault}
@@ -108,43 +108,51 @@ library_either text fault bad good = by_text (λ a. ⊥) text (λ refused. refus
 pub same_said : (text : List ℕ) (l m : LibraryView) → library.Says text l → library.Says text m → l ≡ m
 same_said text l m p q = p.values ∙ (ap library.library_of (one_table text p.table q.table p.document q.document) ∙ sym q.values)
 
--- what holds for each reason holds of whatever is wrong
-each_reason : (P : Fault → Type 0) (net lib : List ℕ) →
-    ((a : BlifFault) → netlist.Fault net a → P (BadBlif a)) →
-    ((a : LibraryFault) → SaysNetlist net → IsCellFault lib a → ((k : CellKind) → a ≡ Missing k → ⊥) → P (BadLibrary a)) →
-    ((k : CellKind) → SaysNetlist net → IsCellFault lib (Missing k) → P (MissingCell k)) →
-    ((what : Large) (count : ℕ) → HasDesign net lib (λ n l. HasTooMuch n l what count) → P (TooLarge what count)) →
-    (fault : Fault) → IsWrong net lib fault → P fault
-each_reason P net lib blif cells missing large (BadBlif a) wrong = blif a wrong
-each_reason P net lib blif cells missing large (BadLibrary Text) wrong = cells Text wrong.0 wrong.1 (λ k e. cc)
-each_reason P net lib blif cells missing large (BadLibrary (Key key)) wrong = cells (Key key) wrong.0 wrong.1 (λ k e. cc)
-each_reason P net lib blif cells missing large (BadLibrary (Value key value)) wrong = cells (Value key value) wrong.0 wrong.1 (λ k e. cc)
-each_reason P net lib blif cells missing large (BadLibrary (Law number)) wrong = cells (Law number) wrong.0 wrong.1 (λ k e. cc)
-each_reason P net lib blif cells missing large (BadLibrary (Missing k)) wrong = absurd wrong
-each_reason P net lib blif cells missing large (MissingCell k) wrong = missing k wrong.0 wrong.1
-each_reason P net lib blif cells missing large (TooLarge what count) wrong = large what count wrong
-each_reason P net lib blif cells missing large _ wrong = absurd wrong
+-- what holds of each fault of a stage holds of whatever it finds
 
--- a design says a netlist and a library
-design_net : (net lib : List ℕ) (P : NetView → LibraryView → Type 0) → HasDesign net lib P → SaysNetlist net
-design_net net lib P design = record { net = design.equations; says = design.says.net_says }
+each_netlist : (P : Fault → Type 0) (net : List ℕ) → ((a : BlifFault) → netlist.Fault net a → P (BadBlif a)) → (fault : Fault) → IsNetlistFault net fault → P fault
+each_netlist P net blif (BadBlif a) bad = blif a bad
+each_netlist P net blif _ bad = absurd bad
 
-design_lib : (net lib : List ℕ) (P : NetView → LibraryView → Type 0) → HasDesign net lib P → SaysLibrary lib
-design_lib net lib P design = record { view = design.cells; says = design.says.lib_says }
+each_cells : (P : Fault → Type 0) (lib : List ℕ) → ((a : LibraryFault) → IsCellFault lib a → ((k : CellKind) → a ≡ Missing k → ⊥) → P (BadLibrary a)) →
+    ((k : CellKind) → IsCellFault lib (Missing k) → P (MissingCell k)) → (fault : Fault) → IsCellsFault lib fault → P fault
+each_cells P lib cells missing (BadLibrary Text) bad = cells Text bad (λ k e. cc)
+each_cells P lib cells missing (BadLibrary (Key key)) bad = cells (Key key) bad (λ k e. cc)
+each_cells P lib cells missing (BadLibrary (Value key value)) bad = cells (Value key value) bad (λ k e. cc)
+each_cells P lib cells missing (BadLibrary (Law number)) bad = cells (Law number) bad (λ k e. cc)
+each_cells P lib cells missing (BadLibrary (Missing k)) bad = absurd bad
+each_cells P lib cells missing (MissingCell k) bad = missing k bad
+each_cells P lib cells missing _ bad = absurd bad
+
+each_plan : (P : Fault → Type 0) (n : NetView) (l : LibraryView) → ((what : Large) (count : ℕ) → HasTooMuch n l what count → P (TooLarge what count)) → (fault : Fault) → IsPlanFault n l fault → P fault
+each_plan P n l large (TooLarge what count) bad = large what count bad
+each_plan P n l large _ bad = absurd bad
+
+pub one_netlist_fault : (net : List ℕ) (f g : Fault) → IsNetlistFault net f → IsNetlistFault net g → f ≡ g
+one_netlist_fault net f g p q = each_netlist (λ f. f ≡ g) net (λ a x. each_netlist (λ g. BadBlif a ≡ g) net (λ b y. ap BadBlif (same_some a b _ x y)) g q) f p
+
+missing_same : (k m : CellKind) → ◌≡◌ {A = LibraryFault} (Missing k) (Missing m) → ◌≡◌ {A = Fault} (MissingCell k) (MissingCell m)
+missing_same k m e = let same : k ≡ m = cc in ap MissingCell same
+
+pub one_cells_fault : (lib : List ℕ) (f g : Fault) → IsCellsFault lib f → IsCellsFault lib g → f ≡ g
+one_cells_fault lib f g p q = each_cells (λ f. f ≡ g) lib
+    (λ a x none. each_cells (λ g. BadLibrary a ≡ g) lib (λ b y other. ap BadLibrary (same_library a b lib x y)) (λ k y. absurd (none k (same_library a (Missing k) lib x y))) g q)
+    (λ k x. each_cells (λ g. MissingCell k ≡ g) lib (λ b y none. absurd (none k (same_library b (Missing k) lib y x))) (λ m y. missing_same k m (same_library (Missing k) (Missing m) lib x y)) g q)
+    f p
+
+-- a text that says something has no fault
+
+pub says_no_fault : (net : List ℕ) (n : NetView) → netlist.Says net n → (fault : Fault) → ¬ IsNetlistFault net fault
+says_no_fault net n says fault bad = each_netlist (λ f. ⊥) net (λ a x. netlist_either net a x (record { net = n; says = says })) fault bad
+
+pub says_no_cells_fault : (lib : List ℕ) (l : LibraryView) → library.Says lib l → (fault : Fault) → ¬ IsCellsFault lib fault
+says_no_cells_fault lib l says fault bad =
+    let good : SaysLibrary lib = record { view = l; says = says } in
+    each_cells (λ f. ⊥) lib (λ a x none. library_either lib a x good) (λ k x. library_either lib (Missing k) x good) fault bad
 
 -- two designs of the same texts are of one netlist and one library
 pub one_netlist : (net : List ℕ) (n m : NetView) → netlist.Says net n → netlist.Says net m → n ≡ m
 one_netlist net n m p q = p.parts ∙ sym q.parts
-
-same_net : (net lib : List ℕ) (P Q : NetView → LibraryView → Type 0) (p : HasDesign net lib P) (q : HasDesign net lib Q) → q.equations ≡ p.equations
-same_net net lib P Q p q = one_netlist net q.equations p.equations q.says.net_says p.says.net_says
-
-same_lib : (net lib : List ℕ) (P Q : NetView → LibraryView → Type 0) (p : HasDesign net lib P) (q : HasDesign net lib Q) → q.cells ≡ p.cells
-same_lib net lib P Q p q = same_said lib q.cells p.cells q.says.lib_says p.says.lib_says
-
--- what holds of the second holds of the first's netlist and library
-of_first : (net lib : List ℕ) (P Q : NetView → LibraryView → Type 0) (p : HasDesign net lib P) (q : HasDesign net lib Q) → Q p.equations p.cells
-of_first net lib P Q p q = subst (λ l. Q p.equations l) (same_lib net lib P Q p q) (subst (λ n. Q n q.cells) (same_net net lib P Q p q) q.holds)
 
 -- the fault of a refusal of the plan
 abbrev of_plan : PlanRefusal → Fault
@@ -208,35 +216,19 @@ module _ (past : (l : LibraryView) (net : NetView) (refusal : PlanRefusal) → r
         )
   ]
 
-  pub same_wrong : (net lib : List ℕ) (f g : Fault) → IsWrong net lib f → IsWrong net lib g → f ≡ g
-  same_wrong net lib f g = each_reason (λ f. IsWrong net lib g → f ≡ g) net lib
-      (λ a bad. each_reason (λ g. BadBlif a ≡ g) net lib
-      (λ b p. ap BadBlif (same_some a b _ bad p))
-      (λ b good p other. absurd (netlist_either net a bad good))
-      (λ k good p. absurd (netlist_either net a bad good))
-      (λ what count p. absurd (netlist_either net a bad (design_net net lib _ p))) g)
-      (λ a says bad not_missing. each_reason (λ g. BadLibrary a ≡ g) net lib
-      (λ b p. absurd (netlist_either net b p says))
-      (λ b good p other. ap BadLibrary (same_library a b lib bad p))
-      (λ k good p. absurd (not_missing k (same_library a (Missing k) lib bad p)))
-      (λ what count p. absurd (library_either lib a bad (design_lib net lib _ p))) g)
-      (λ k says bad. each_reason (λ g. MissingCell k ≡ g) net lib
-      (λ b p. absurd (netlist_either net b p says))
-      (λ b good p other. absurd (other k (same_library b (Missing k) lib p bad)))
-      (λ j good p. let e : Missing k ≡ Missing j = same_library (Missing k) (Missing j) lib bad p in cc)
-      (λ what count p. absurd (library_either lib (Missing k) bad (design_lib net lib _ p))) g)
-      (λ what count large. each_reason (λ g. TooLarge what count ≡ g) net lib
-      (λ b p. absurd (netlist_either net b p (design_net net lib _ large)))
-      (λ b good p other. absurd (library_either lib b p (design_lib net lib _ large)))
-      (λ k good p. absurd (library_either lib (Missing k) p (design_lib net lib _ large)))
-      (λ other n p. same_large large.equations large.cells what other count n large.holds
-      (of_first net lib (λ e c. HasTooMuch e c what count) (λ e c. HasTooMuch e c other n) large p)) g)
-      f
+  one_limit : (n : NetView) (l : LibraryView) (f g : Fault) → IsPlanFault n l f → IsPlanFault n l g → f ≡ g
+  one_limit n l f g p q = each_plan (λ f. f ≡ g) n l (λ what a x. each_plan (λ g. TooLarge what a ≡ g) n l (λ other b y. same_large n l what other a b x y) g q) f p
 
-  pub not_served : (net lib : List ℕ) (f : Fault) → IsServed net lib → IsWrong net lib f → ⊥
-  not_served net lib f served = each_reason (λ f. ⊥) net lib
-      (λ a bad. netlist_either net a bad (design_net net lib _ served))
-      (λ a says bad other. library_either lib a bad (design_lib net lib _ served))
-      (λ k says bad. library_either lib (Missing k) bad (design_lib net lib _ served))
-      (λ what count p. not_large served.equations served.cells what count served.holds (of_first net lib KeepsLimits (λ e c. HasTooMuch e c what count) served p))
-      f
+  -- a plan that keeps its limits passes none
+  pub passes_none : (n : NetView) (l : LibraryView) → KeepsLimits n l → (fault : Fault) → ¬ IsPlanFault n l fault
+  passes_none n l keeps fault bad = each_plan (λ f. ⊥) n l (λ what count x. not_large n l what count keeps x) fault bad
+
+  pub one_plan_fault : (net lib : List ℕ) (f g : Fault) → HasDesign net lib (λ n l. IsPlanFault n l f) → HasDesign net lib (λ n l. IsPlanFault n l g) → f ≡ g
+  one_plan_fault net lib f g p q =
+      let n : q.equations ≡ p.equations = one_netlist net q.equations p.equations q.says.net_says p.says.net_says in
+      let l : q.cells ≡ p.cells = same_said lib q.cells p.cells q.says.lib_says p.says.lib_says in
+      one_limit p.equations p.cells f g p.holds (subst (λ l. IsPlanFault p.equations l g) l (subst (λ n. IsPlanFault n q.cells g) n q.holds))
+
+  pub one_own_plan_fault : (net : List ℕ) (l : LibraryView) (f g : Fault) → HasNetlist net (λ n. IsPlanFault n l f) → HasNetlist net (λ n. IsPlanFault n l g) → f ≡ g
+  one_own_plan_fault net l f g p q =
+      one_limit p.equations l f g p.holds (subst (λ n. IsPlanFault n l g) (one_netlist net q.equations p.equations q.says p.says) q.holds)

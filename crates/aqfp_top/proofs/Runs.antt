@@ -1,64 +1,45 @@
 -- From the clauses of each command to those of a run.
-use Rattle.std.proofs.Common.{ℕ, zero, suc, ◌≡◌, ◌<◌, ◌≤◌, ◌⊎◌, List, length, arith, Option, Some, Result, Ok, Err, IfErr, inl, inr, refl, subst}
-use Rattle.std.specs.Result.{result_err}
+use Rattle.std.proofs.Common.{ℕ, ◌≡◌, ◌<◌, ◌≤◌, List, length, arith, Option, Some, None, Result, Ok, Err, IfErr, inl, inr, refl, subst}
 use Rattle.aq_base.specs.Store.{Contents}
-use Rattle.aqfp_top.specs.Words.{IsBuild, IsVerify, IsTrace, IsCheck, IsLater, HasForm}
-use Rattle.aqfp_top.specs.Run.{RunCause, RunsOnly, RunStands, RunPrints}
+use Rattle.aqfp_top.specs.Words.{IsBuild, IsVerify, IsTrace, IsCheck, IsSampleOf, HasForm}
+use Rattle.aqfp_top.specs.Loads.{build_loads, check_loads, IsLoaded, IsPast}
+use Rattle.aqfp_top.specs.Stages.{Answers as StagesAnswer}
+use Rattle.aqfp_top.specs.Due.{MayAnswer, build_stages, check_stages, sample_stages}
+use Rattle.aqfp_top.specs.Faults.{IsBuildFault, IsCheckFault, IsSampleFault, RunsOnly}
+use Rattle.aqfp_top.specs.Run.{RunStands, RunPrints}
 use Rattle.aqfp_top.specs.Lines.{HasPlace}
-use Rattle.aqfp_top.specs.Build.{ToldBuildCause, IsBuildFault, BuildStands, BuildPrints}
-use Rattle.aqfp_top.specs.Checks.{ToldCheckCause, IsCheckFault, CheckPrints}
+use Rattle.aqfp_top.specs.Build.{BuildStands, BuildPrints}
+use Rattle.aqfp_top.specs.Checks.{CheckPrints}
+use Rattle.aqfp_top.specs.Samples.{SamplePrints}
+use Rattle.aqfp_top.specs.Code.Staging.{ToldAnswers, ToldMayAnswer}
+use Rattle.aqfp_top.specs.declared.words.Form.TheVariants.{Build, Verify, Trace, Sample, Wrong}
 use Rattle.aqfp_top.specs.declared.check.Printing.TheVariants.{Answers, Fluxes}
 use Rattle.aqfp_top.specs.declared.fault.Fault.{Fault}
-use Rattle.aqfp_top.specs.declared.fault.Fault.TheVariants.{Usage, Absent, TooLong, ReadFault, WriteFault, BadBlif, BadLibrary, MissingCell, TooLarge, BadStream, RuleBroken, BadWords, Unbuilt, Memory}
-use Rattle.aqfp_top.proofs.Forms.{build_not_later, check_not_later, build_not_check, build_not_verify, build_not_trace, verify_not_trace}
+use Rattle.aqfp_top.specs.declared.fault.Fault.TheVariants.{Usage, Absent, TooLong, ReadFault}
+use Rattle.aqfp_top.proofs.Sampling.{sample_failed}
+use Rattle.aqfp_top.proofs.Forms.{build_not_sample, verify_not_sample, trace_not_sample, check_not_sample, build_not_check, build_not_verify, build_not_trace, verify_not_trace, one_size}
 
-below_four : (words : List (List ℕ)) (place : ℕ) → length words ≡ 4 → place ≤ 2 → place < length words
-below_four words place four most = omega arith
+-- what a command may answer the words may lead to
 
-below_five : (words : List (List ℕ)) (place : ℕ) → length words ≡ 4 → place ≤ 3 → place < length words
-below_five words place four most = omega arith
+pub build_answers : (told : Option Contents) (words : List (List ℕ)) (answer : Option Fault) → IsBuild words → ToldAnswers build_stages told words answer → ToldMayAnswer told words answer
+build_answers None words answer form answers = tt
+build_answers (Some files) words answer form answers = record { form = Build; is_form = form; answers = answers }
 
--- the cause of a command's fault is one of the run's
-work_cause : (told : Option Contents) (words : List (List ℕ)) (fault : Fault) → (fault ≡ Usage → ⊥) → (fault ≡ Unbuilt 0 → ⊥) →
-    (IsBuild words × ToldBuildCause told words (Some fault)) ⊎ (IsCheck words × ToldCheckCause told words (Some fault)) → RunCause told words (Some fault)
-work_cause told words Usage usage later cause = absurd (usage refl)
-work_cause told words (Absent place) usage later cause = cause
-work_cause told words (TooLong place taken) usage later cause = cause
-work_cause told words (ReadFault place) usage later cause = cause
-work_cause told words (WriteFault call) usage later cause = cause
-work_cause told words (BadBlif fault) usage later cause = cause
-work_cause told words (BadLibrary fault) usage later cause = cause
-work_cause told words (MissingCell kind) usage later cause = cause
-work_cause told words (TooLarge what count) usage later cause = cause
-work_cause told words (BadStream offset kind) usage later cause = cause
-work_cause told words (RuleBroken rule first second) usage later cause = cause
-work_cause told words (BadWords line) usage later cause = cause
-work_cause told words (Unbuilt zero) usage later cause = absurd (later refl)
-work_cause told words (Unbuilt (suc place)) usage later cause = cause
-work_cause told words Memory usage later cause = cause
+pub verify_answers : (told : Option Contents) (words : List (List ℕ)) (answer : Option Fault) → IsVerify words → ToldAnswers check_stages told words answer → ToldMayAnswer told words answer
+verify_answers None words answer form answers = tt
+verify_answers (Some files) words answer form answers = record { form = Verify; is_form = form; answers = answers }
 
-built_fault : (fault : Fault) → IsBuildFault fault → fault ≡ Unbuilt 0 → ⊥
-built_fault fault only e = (subst IsBuildFault e only)
+pub trace_answers : (told : Option Contents) (words : List (List ℕ)) (answer : Option Fault) → IsTrace words → ToldAnswers check_stages told words answer → ToldMayAnswer told words answer
+trace_answers None words answer form answers = tt
+trace_answers (Some files) words answer form answers = record { form = Trace; is_form = form; answers = answers }
 
-check_no_usage : (fault : Fault) → IsCheckFault fault → fault ≡ Usage → ⊥
-check_no_usage fault only e = (subst IsCheckFault e only)
+pub sample_answers : (told : Option Contents) (words : List (List ℕ)) (bits : ℕ) (answer : Option Fault) → IsSampleOf words bits → StagesAnswer (sample_stages bits) answer → ToldMayAnswer told words answer
+sample_answers None words bits answer form answers = tt
+sample_answers (Some files) words bits answer form answers = record { form = Sample bits; is_form = form; answers = answers }
 
-check_built : (fault : Fault) → IsCheckFault fault → fault ≡ Unbuilt 0 → ⊥
-check_built fault only e = (subst IsCheckFault e only)
-
-pub build_cause : (told : Option Contents) (words : List (List ℕ)) (result : Result (Unit {0}) Fault) → IsBuild words → IfErr result IsBuildFault → ToldBuildCause told words (result_err result) → RunCause told words (result_err result)
-build_cause told words (Ok x) form only cause = inl (form, cause)
-build_cause told words (Err fault) form only cause = work_cause told words fault (λ e. subst IsBuildFault e only) (built_fault fault only) (inl (form, cause))
-
-check_cause : (told : Option Contents) (words : List (List ℕ)) (result : Result (Unit {0}) Fault) → IsCheck words → IfErr result IsCheckFault → ToldCheckCause told words (result_err result) → RunCause told words (result_err result)
-check_cause told words (Ok x) form only cause = inr (form, cause)
-check_cause told words (Err fault) form only cause = work_cause told words fault (check_no_usage fault only) (check_built fault only) (inr (form, cause))
-
-pub verify_cause : (told : Option Contents) (words : List (List ℕ)) (result : Result (Unit {0}) Fault) → IsVerify words → IfErr result IsCheckFault → ToldCheckCause told words (result_err result) → RunCause told words (result_err result)
-verify_cause told words result form only cause = check_cause told words result (inl form) only cause
-
-pub trace_cause : (told : Option Contents) (words : List (List ℕ)) (result : Result (Unit {0}) Fault) → IsTrace words → IfErr result IsCheckFault → ToldCheckCause told words (result_err result) → RunCause told words (result_err result)
-trace_cause told words result form only cause = check_cause told words result (inr form) only cause
+pub usage_answers : (told : Option Contents) (words : List (List ℕ)) → ¬ HasForm words → ToldMayAnswer told words (Some Usage)
+usage_answers None words form = tt
+usage_answers (Some files) words form = record { form = Wrong; is_form = form; answers = inl tt }
 
 -- what stands
 
@@ -71,24 +52,21 @@ verify_leaves before after words fault form same = record { build = λ b. absurd
 pub trace_leaves : (before after : Option Contents) (words : List (List ℕ)) (fault : Option Fault) → IsTrace words → after ≡ before → RunStands before after words fault
 trace_leaves before after words fault form same = record { build = λ b. absurd (build_not_trace words b form); otherwise = λ none. same }
 
-pub later_leaves : (held : Option Contents) (words : List (List ℕ)) (fault : Option Fault) → IsLater words → RunStands held held words fault
-later_leaves held words fault form = record { build = λ b. absurd (build_not_later words b form); otherwise = λ none. refl }
+pub sample_leaves : (held : Option Contents) (words : List (List ℕ)) (bits : ℕ) (fault : Option Fault) → IsSampleOf words bits → RunStands held held words fault
+sample_leaves held words bits fault form = record { build = λ b. absurd (build_not_sample words bits b form); otherwise = λ none. refl }
 
 pub usage_leaves : (held : Option Contents) (words : List (List ℕ)) (fault : Option Fault) → ¬ HasForm words → RunStands held held words fault
 usage_leaves held words fault form = record { build = λ b. absurd (form (inl b)); otherwise = λ none. refl }
 
 -- what is printed
 
-other_form : {P : Type 0} (words : List (List ℕ)) → HasForm words → ¬ IsLater words → ¬ HasForm words ⊎ IsLater words → P
-other_form words form later (inl none) = absurd (none form)
-other_form words form later (inr is) = absurd (later is)
-
 pub build_prints : (told : Option Contents) (words : List (List ℕ)) (before after : Option (List ℕ)) (fault : Option Fault) → IsBuild words → BuildPrints told words before after fault → RunPrints told words before after fault
 build_prints told words before after fault form prints = record {
   build = λ b. prints;
   verify = λ v. absurd (build_not_verify words form v);
   trace = λ t. absurd (build_not_trace words form t);
-  otherwise = λ o. other_form words (inl form) (λ l. build_not_later words form l) o;
+  sample = λ bits s. absurd (build_not_sample words bits form s);
+  otherwise = λ none. absurd (none (inl form));
 }
 
 pub verify_prints : (told : Option Contents) (words : List (List ℕ)) (before after : Option (List ℕ)) (fault : Option Fault) → IsVerify words → CheckPrints Answers told words before after fault → RunPrints told words before after fault
@@ -96,7 +74,8 @@ verify_prints told words before after fault form prints = record {
   build = λ b. absurd (build_not_verify words b form);
   verify = λ v. prints;
   trace = λ t. absurd (verify_not_trace words form t);
-  otherwise = λ o. other_form words (inr (inl (inl form))) (λ l. check_not_later words (inl form) l) o;
+  sample = λ bits s. absurd (verify_not_sample words bits form s);
+  otherwise = λ none. absurd (none (inr (inl (inl form))));
 }
 
 pub trace_prints : (told : Option Contents) (words : List (List ℕ)) (before after : Option (List ℕ)) (fault : Option Fault) → IsTrace words → CheckPrints Fluxes told words before after fault → RunPrints told words before after fault
@@ -104,15 +83,17 @@ trace_prints told words before after fault form prints = record {
   build = λ b. absurd (build_not_trace words b form);
   verify = λ v. absurd (verify_not_trace words v form);
   trace = λ t. prints;
-  otherwise = λ o. other_form words (inr (inl (inr form))) (λ l. check_not_later words (inr form) l) o;
+  sample = λ bits s. absurd (trace_not_sample words bits form s);
+  otherwise = λ none. absurd (none (inr (inl (inr form))));
 }
 
-pub later_prints : (told : Option Contents) (words : List (List ℕ)) (held : Option (List ℕ)) (fault : Option Fault) → IsLater words → RunPrints told words held held fault
-later_prints told words held fault form = record {
-  build = λ b. absurd (build_not_later words b form);
-  verify = λ v. absurd (check_not_later words (inl v) form);
-  trace = λ t. absurd (check_not_later words (inr t) form);
-  otherwise = λ o. refl;
+pub sample_prints : (told : Option Contents) (words : List (List ℕ)) (bits : ℕ) (before after : Option (List ℕ)) (fault : Option Fault) → IsSampleOf words bits → SamplePrints bits before after fault → RunPrints told words before after fault
+sample_prints told words bits before after fault form prints = record {
+  build = λ b. absurd (build_not_sample words bits b form);
+  verify = λ v. absurd (verify_not_sample words bits v form);
+  trace = λ t. absurd (trace_not_sample words bits t form);
+  sample = λ other s. subst (λ n. SamplePrints n before after fault) (one_size _ bits other form.size s.size) prints;
+  otherwise = λ none. absurd (none (inr (inr (record { bits = bits; of_bits = form }))));
 }
 
 pub usage_prints : (told : Option Contents) (words : List (List ℕ)) (held : Option (List ℕ)) (fault : Option Fault) → ¬ HasForm words → RunPrints told words held held fault
@@ -120,8 +101,54 @@ usage_prints told words held fault form = record {
   build = λ b. absurd (form (inl b));
   verify = λ v. absurd (form (inr (inl (inl v))));
   trace = λ t. absurd (form (inr (inl (inr t))));
-  otherwise = λ o. refl;
+  sample = λ bits s. absurd (form (inr (inr (record { bits = bits; of_bits = s }))));
+  otherwise = λ none. refl;
 }
+
+-- the places that faults name
+
+four_place : (words : List (List ℕ)) (place low : ℕ) → length words ≡ 4 → low ≤ 3 → place ≡ low → place < length words
+four_place words place low four most is = omega arith
+
+build_loaded : (words : List (List ℕ)) (place : ℕ) → length words ≡ 4 → IsLoaded build_loads place → place < length words
+build_loaded words place four (inl one) = four_place words place 1 four (omega arith) one
+build_loaded words place four (inr (inl two)) = four_place words place 2 four (omega arith) two
+build_loaded words place four (inr (inr none)) = absurd none
+
+build_past : (words : List (List ℕ)) (place taken : ℕ) → length words ≡ 4 → IsPast build_loads place taken → place < length words
+build_past words place taken four (inl one) = four_place words place 1 four (omega arith) one.0
+build_past words place taken four (inr (inl two)) = four_place words place 2 four (omega arith) two.0
+build_past words place taken four (inr (inr none)) = absurd none
+
+check_loaded : (words : List (List ℕ)) (place : ℕ) → length words ≡ 4 → IsLoaded check_loads place → place < length words
+check_loaded words place four (inl one) = four_place words place 1 four (omega arith) one
+check_loaded words place four (inr (inl two)) = four_place words place 2 four (omega arith) two
+check_loaded words place four (inr (inr (inl three))) = four_place words place 3 four (omega arith) three
+check_loaded words place four (inr (inr (inr none))) = absurd none
+
+check_past : (words : List (List ℕ)) (place taken : ℕ) → length words ≡ 4 → IsPast check_loads place taken → place < length words
+check_past words place taken four (inl one) = four_place words place 1 four (omega arith) one.0
+check_past words place taken four (inr (inl two)) = four_place words place 2 four (omega arith) two.0
+check_past words place taken four (inr (inr (inl three))) = four_place words place 3 four (omega arith) three.0
+check_past words place taken four (inr (inr (inr none))) = absurd none
+
+build_place : (words : List (List ℕ)) (fault : Fault) → length words ≡ 4 → IsBuildFault fault → HasPlace words fault
+build_place words (Absent place) four only = build_loaded words place four only
+build_place words (TooLong place taken) four only = build_past words place taken four only
+build_place words (ReadFault place) four only = build_loaded words place four only
+build_place words _ four only = tt
+
+check_place : (words : List (List ℕ)) (fault : Fault) → length words ≡ 4 → IsCheckFault fault → HasPlace words fault
+check_place words (Absent place) four only = check_loaded words place four only
+check_place words (TooLong place taken) four only = check_past words place taken four only
+check_place words (ReadFault place) four only = check_loaded words place four only
+check_place words _ four only = tt
+
+sample_place : (words : List (List ℕ)) (fault : Fault) → IsSampleFault fault → HasPlace words fault
+sample_place words (Absent place) only = absurd only
+sample_place words (TooLong place taken) only = absurd only
+sample_place words (ReadFault place) only = absurd only
+sample_place words _ only = tt
 
 -- the faults of each form
 
@@ -130,63 +157,88 @@ build_only words (Ok x) form only = tt
 build_only words (Err fault) form only = record {
   build = λ b. only;
   check = λ c. absurd (build_not_check words form c);
-  later = λ l. absurd (build_not_later words form l);
+  sample = λ s. absurd (build_not_sample words s.bits form s.of_bits);
   otherwise = λ none. absurd (none (inl form));
+  place = build_place words fault form.0 only;
 }
 
-check_only : (words : List (List ℕ)) (result : Result (Unit {0}) Fault) → IsCheck words → IfErr result IsCheckFault → IfErr result (RunsOnly words)
-check_only words (Ok x) form only = tt
-check_only words (Err fault) form only = record {
+check_only : (words : List (List ℕ)) (result : Result (Unit {0}) Fault) → length words ≡ 4 → IsCheck words → IfErr result IsCheckFault → IfErr result (RunsOnly words)
+check_only words (Ok x) four form only = tt
+check_only words (Err fault) four form only = record {
   build = λ b. absurd (build_not_check words b form);
   check = λ c. only;
-  later = λ l. absurd (check_not_later words form l);
+  sample = λ s. absurd (check_not_sample words s.bits form s.of_bits);
   otherwise = λ none. absurd (none (inr (inl form)));
+  place = check_place words fault four only;
 }
 
 pub verify_only : (words : List (List ℕ)) (result : Result (Unit {0}) Fault) → IsVerify words → IfErr result IsCheckFault → IfErr result (RunsOnly words)
-verify_only words result form only = check_only words result (inl form) only
+verify_only words result form only = check_only words result form.0 (inl form) only
 
 pub trace_only : (words : List (List ℕ)) (result : Result (Unit {0}) Fault) → IsTrace words → IfErr result IsCheckFault → IfErr result (RunsOnly words)
-trace_only words result form only = check_only words result (inr form) only
+trace_only words result form only = check_only words result form.0 (inr form) only
 
-pub later_only : (words : List (List ℕ)) → IsLater words → RunsOnly words (Unbuilt 0)
-later_only words form = record {
-  build = λ b. absurd (build_not_later words b form);
-  check = λ c. absurd (check_not_later words c form);
-  later = λ l. refl;
-  otherwise = λ none. absurd (none (inr (inr form)));
+pub sample_only : (words : List (List ℕ)) (bits : ℕ) (result : Result (Unit {0}) Fault) → IsSampleOf words bits → IfErr result IsSampleFault → IfErr result (RunsOnly words)
+sample_only words bits (Ok x) form only = tt
+sample_only words bits (Err fault) form only = record {
+  build = λ b. absurd (build_not_sample words bits b form);
+  check = λ c. absurd (check_not_sample words bits c form);
+  sample = λ s. only;
+  otherwise = λ none. absurd (none (inr (inr (record { bits = bits; of_bits = form }))));
+  place = sample_place words fault only;
 }
 
 pub usage_only : (words : List (List ℕ)) → ¬ HasForm words → RunsOnly words Usage
 usage_only words none = record {
   build = λ b. absurd (none (inl b));
   check = λ c. absurd (none (inr (inl c)));
-  later = λ l. absurd (none (inr (inr l)));
+  sample = λ s. absurd (none (inr (inr s)));
   otherwise = λ n. refl;
+  place = tt;
 }
 
--- the places that faults name
+-- words of a command have a form
 
-pub build_places : (words : List (List ℕ)) (result : Result (Unit {0}) Fault) → IsBuild words → IfErr result IsBuildFault → IfErr result (HasPlace words)
-build_places words (Ok x) form only = tt
-build_places words (Err (Absent place)) form only = below_four words place form.0 only.1
-build_places words (Err (TooLong place taken)) form only = below_four words place form.0 only.0.1
-build_places words (Err (ReadFault place)) form only = below_four words place form.0 only.1
-build_places words (Err (Unbuilt place)) form only = absurd only
-build_places words (Err _) form only = tt
+pub build_no_usage : (words : List (List ℕ)) (answer : Option Fault) → IsBuild words → ¬ HasForm words → answer ≡ Some Usage
+build_no_usage words answer form none = absurd (none (inl form))
 
-check_places : (words : List (List ℕ)) (result : Result (Unit {0}) Fault) → length words ≡ 4 → IfErr result IsCheckFault → IfErr result (HasPlace words)
-check_places words (Ok x) four only = tt
-check_places words (Err (Absent place)) four only = below_five words place four only.1
-check_places words (Err (TooLong place taken)) four only = below_five words place four only.0.1
-check_places words (Err (ReadFault place)) four only = below_five words place four only.1
-check_places words (Err (Unbuilt place)) four only = absurd only
-check_places words (Err _) four only = tt
+pub verify_no_usage : (words : List (List ℕ)) (answer : Option Fault) → IsVerify words → ¬ HasForm words → answer ≡ Some Usage
+verify_no_usage words answer form none = absurd (none (inr (inl (inl form))))
 
-pub verify_places : (words : List (List ℕ)) (result : Result (Unit {0}) Fault) → IsVerify words → IfErr result IsCheckFault → IfErr result (HasPlace words)
-verify_places words result form only = check_places words result form.0 only
+pub trace_no_usage : (words : List (List ℕ)) (answer : Option Fault) → IsTrace words → ¬ HasForm words → answer ≡ Some Usage
+trace_no_usage words answer form none = absurd (none (inr (inl (inr form))))
 
-pub trace_places : (words : List (List ℕ)) (result : Result (Unit {0}) Fault) → IsTrace words → IfErr result IsCheckFault → IfErr result (HasPlace words)
-trace_places words result form only = check_places words result form.0 only
+pub sample_no_usage : (words : List (List ℕ)) (bits : ℕ) (answer : Option Fault) → IsSampleOf words bits → ¬ HasForm words → answer ≡ Some Usage
+sample_no_usage words bits answer form none = absurd (none (inr (inr (record { bits = bits; of_bits = form }))))
 
-pub ruleset runs = (build_only, verify_only, trace_only, later_only, usage_only, build_places, verify_places, trace_places, build_cause, verify_cause, trace_cause, build_leaves, verify_leaves, trace_leaves, later_leaves, usage_leaves, build_prints, verify_prints, trace_prints, later_prints, usage_prints)
+pub ruleset runs = (
+  build_only,
+  verify_only,
+  trace_only,
+  sample_only,
+  sample_failed,
+  usage_only,
+  build_answers,
+  verify_answers,
+  trace_answers,
+  sample_answers,
+  usage_answers,
+  build_leaves,
+  verify_leaves,
+  trace_leaves,
+  sample_leaves,
+  usage_leaves,
+  build_prints,
+  verify_prints,
+  trace_prints,
+  sample_prints,
+  usage_prints,
+  build_no_usage,
+  verify_no_usage,
+  trace_no_usage,
+  sample_no_usage,
+)
+
+-- where the store is told
+pub told_due : (told : Option Contents) (words : List (List ℕ)) (answer : Option Fault) → ToldMayAnswer told words answer → (held : Contents) → told ≡ Some held → MayAnswer held words answer
+told_due told words answer may held is = subst (λ t. ToldMayAnswer t words answer) is may

@@ -1,13 +1,12 @@
 -- What a check that ends well has shown.
-use Rattle.std.proofs.Common.{ℕ, ◌≡◌, ◌⊎◌, Bool, List, length, Option, Some, None, All, refl, sym, subst, ap, ◌∙◌}
+use Rattle.std.proofs.Common.{ℕ, ◌≡◌, Bool, List, length, Option, Some, None, All, refl, subst}
 use Rattle.aq_base.specs.Store.{Contents, gained}
 use Rattle.shape_extract.specs.Circuits.{CircuitView, KeepsFacts}
 use Rattle.pulse_sim.specs.Shows.{Shows}
 use Rattle.chip_texts.specs.Counts.{delay_of}
 use Rattle.chip_texts.specs.WordsText.{words_of}
-use Rattle.chip_texts.specs.WordLines.{answers_to, answers_text}
-use Rattle.chip_texts.specs.FluxLines.{trace_text}
-use Rattle.aqfp_top.specs.Words.{word_at, IsVerify, IsTrace}
+use Rattle.chip_texts.specs.WordLines.{answers_to}
+use Rattle.aqfp_top.specs.Words.{IsVerify, IsTrace}
 use Rattle.aqfp_top.specs.Checks.{ToldTexts, IsPrintedOf, IsSound}
 use Rattle.aqfp_top.specs.Run.{RunPrints}
 use Rattle.aqfp_top.specs.Verified.{ChecksChip, VerifiesChip, TracesChip}

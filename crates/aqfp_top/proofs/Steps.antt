@@ -1,5 +1,5 @@
 -- From the clauses of a step to those of the whole build.
-use Rattle.std.proofs.Common.{ℕ, ◌≡◌, ◌<◌, ◌≤◌, List, length, take, Option, Some, None, Result, Ok, Err, IfErr, Vec, refl, sym, ap, subst, inl, inr, arith, IsSomeAnd, ◌∙◌}
+use Rattle.std.proofs.Common.{ℕ, ◌≡◌, ◌≤◌, List, ◌∷◌, length, Option, Some, None, Result, Ok, Err, IfOk, IfErr, OnOk, Vec, refl, sym, ap, subst, inl, inr, ◌∙◌}
 use Rattle.std.specs.Result.{result_err}
 use Rattle.std.specs.declared.alloc.Global.{Global}
 use Rattle.std.proofs.Math.Seq.{take-length}
@@ -9,97 +9,100 @@ use Rattle.blif_read.specs.Parts.{NetView}
 use Rattle.cell_library.specs.Library.{LibraryView}
 use Rattle.gds_records.specs.Writing.{bytes_of}
 use Rattle.aqfp_top.specs.Words.{word_at}
-use Rattle.aqfp_top.specs.Lines.{HasPlace}
-use Rattle.aqfp_top.specs.Loads.{ToldLoadsWord, LoadsWord, IsLoadFault}
+use Rattle.aqfp_top.specs.Loads.{Load, net_limit, lib_limit, build_loads}
+use Rattle.aqfp_top.specs.Code.Loading.{ToldLoadsWord, IsFaultOfLoad, IsFaultOfLoads}
+use Rattle.aqfp_top.specs.Stages.{Stage, IsFirst, Answers}
+use Rattle.aqfp_top.specs.Due.{bytes_at, design_stages, build_stages}
+use Rattle.aqfp_top.specs.Faults.{IsBuildFault}
+use Rattle.aqfp_top.specs.Code.Staging.{ToldAnswers}
+use Rattle.aqfp_top.proofs.Staging.{load_at, load_stage, past, load_found, load_past, file_loads, held_bytes}
 use Rattle.aqfp_top.specs.Counted.{Counts, HasFaults, FailedLoad}
-use Rattle.aqfp_top.specs.Designs.{IsServed, IsWrong, stream_of, counts_of}
+use Rattle.aqfp_top.specs.Designs.{stream_of, counts_of}
 use Rattle.chip_texts.specs.Counts.{counts_text}
-use Rattle.aqfp_top.specs.Build.{HasTexts, ToldBuildCause, BuildCause, BuildStands, BuildPrints, ToldTexts, IsLoadable, IsBuilt, IsDone, IsLoadPlace, IsBuildFault, limit_of}
-use Rattle.aqfp_top.specs.Code.Designing.{IsWrongOrMemory, IsChipOf, MakesChip}
-use Rattle.aqfp_top.specs.Code.Building.{IsStoreFault, IsOutOrMemory, IsMakeFault, IsMade, StandsStored, StoreCause, IsReadOf, IsFaultOfLoads}
+use Rattle.aqfp_top.specs.Build.{BuildStands, BuildPrints, ToldTexts, IsBuilt, IsDone}
+use Rattle.aqfp_top.specs.Code.Designing.{IsDesignFault, IsChipOf, MakesChip}
+use Rattle.aqfp_top.specs.Code.Building.{IsStoreFault, IsOutOrMemory, IsMakeFault, IsMade, StandsStored, StoreCause, IsReadOf}
 use Rattle.aqfp_top.specs.declared.design.Chip.{Chip}
-use Rattle.aqfp_top.specs.declared.fault.WriteCall.TheVariants.{Create, Append, Close, Out}
-use Rattle.aqfp_top.specs.declared.fault.Large.TheVariants.{Slots, Rows, Cells, Elements, Shapes}
+use Rattle.aqfp_top.specs.declared.fault.WriteCall.TheVariants.{Out}
 use Rattle.aqfp_top.specs.declared.fault.Fault.{Fault}
-use Rattle.aqfp_top.specs.declared.fault.Fault.TheVariants.{Absent, TooLong, ReadFault, WriteFault, BadBlif, BadLibrary, MissingCell, TooLarge, Memory}
-use Rattle.aqfp_top.proofs.EachFault.{each_load, each_of_loads, each_wrong, each_made, each_store, each_print, each_out}
+use Rattle.aqfp_top.specs.declared.fault.Fault.TheVariants.{ReadFault, WriteFault}
+use Rattle.aqfp_top.proofs.EachFault.{each_load, each_of_loads, each_design, each_made, each_store, each_print, each_out}
 
 -- Loading.
 
-pub load_is_one : (number : ℕ) (limits : ℕ → ℕ) (place limit : ℕ) (fault : Fault) → IsLoadFault place limit fault → 1 ≤ place → place ≤ number → limit ≡ limits place → IsFaultOfLoads number limits fault
-load_is_one number limits place limit fault only low high same =
-    each_load (IsFaultOfLoads number limits) place limit (low, high) (λ taken more. ((low, high), subst (λ n. n < taken) same more)) (low, high) tt fault only
+pub load_is_first : (limit : ℕ) (loads : List Load) (fault : Fault) → IsFaultOfLoad 1 limit fault → IsFaultOfLoads (load_at 1 limit ∷ loads) fault
+load_is_first limit loads fault only = each_load (IsFaultOfLoads (load_at 1 limit ∷ loads)) 1 limit (inl refl) (λ taken more. inl (refl, more)) (inl refl) tt fault only
 
-pub load_rose : (Risen : Type 0) (place limit : ℕ) (fault : Fault) → IsLoadFault place limit fault → (fault ≡ ReadFault place → Risen) → IsReadOf Risen fault
+pub load_is_second : (limit : ℕ) (first : Load) (loads : List Load) (fault : Fault) → IsFaultOfLoad 2 limit fault → IsFaultOfLoads (first ∷ load_at 2 limit ∷ loads) fault
+load_is_second limit first loads fault only = each_load (IsFaultOfLoads (first ∷ load_at 2 limit ∷ loads)) 2 limit (inr (inl refl)) (λ taken more. inr (inl (refl, more))) (inr (inl refl)) tt fault only
+
+pub load_is_third : (limit : ℕ) (first second : Load) (loads : List Load) (fault : Fault) → IsFaultOfLoad 3 limit fault → IsFaultOfLoads (first ∷ second ∷ load_at 3 limit ∷ loads) fault
+load_is_third limit first second loads fault only =
+    each_load (IsFaultOfLoads (first ∷ second ∷ load_at 3 limit ∷ loads)) 3 limit (inr (inr (inl refl))) (λ taken more. inr (inr (inl (refl, more)))) (inr (inr (inl refl))) tt fault only
+
+pub load_rose : (Risen : Type 0) (place limit : ℕ) (fault : Fault) → IsFaultOfLoad place limit fault → (fault ≡ ReadFault place → Risen) → IsReadOf Risen fault
 load_rose Risen place limit fault only = each_load (λ f. (f ≡ ReadFault place → Risen) → IsReadOf Risen f) place limit (λ rose. tt) (λ taken more rose. tt) (λ rose. rose refl) (λ rose. tt) fault only
 
-pub load_failed : (name : Option (List ℕ)) (words : List (List ℕ)) (place limit : ℕ) (fault : Fault) → IsLoadFault place limit fault →
+pub load_failed : (name : Option (List ℕ)) (words : List (List ℕ)) (place limit : ℕ) (fault : Fault) → IsFaultOfLoad place limit fault →
     (fault ≡ ReadFault place → name ≡ Some (word_at words place)) → FailedLoad name words (Some fault)
 load_failed name words place limit fault only = each_load (λ f. (f ≡ ReadFault place → name ≡ Some (word_at words place)) → FailedLoad name words (Some f)) place limit (λ n. tt) (λ taken more n. tt) (λ n. n refl) (λ n. tt) fault only
 
--- a file that is held and fits is there
-held_fits : (P : List ℕ → Type 0) (file : Option (List ℕ)) (bytes : List ℕ) → file ≡ Some bytes → P bytes → IsSomeAnd file P
-held_fits P None bytes e p = absurd cc
-held_fits P (Some x) bytes e p = let same : x ≡ bytes = cc in subst P (sym same) p
+-- the stages of the texts of the files
+abbrev texts_at : Contents → List (List ℕ) → List Stage
+texts_at files words = design_stages (bytes_at files words 1) (bytes_at files words 2)
 
-first_cause : (files : Contents) (words : List (List ℕ)) (fault : Fault) → IsLoadFault 1 16777216 fault → LoadsWord files words 1 16777216 (Err fault) → BuildCause files words (Some fault)
-first_cause files words fault only = each_load (λ f. LoadsWord files words 1 16777216 (Err f) → BuildCause files words (Some f)) 1 16777216
-    (λ loads. (tt, loads.1)) (λ taken more loads. (tt, loads.1, more)) (λ loads. tt) (λ loads. tt) fault only
-
-pub told_first : (told : Option Contents) (words : List (List ℕ)) (fault : Fault) → IsLoadFault 1 16777216 fault → ToldLoadsWord told words 1 16777216 (Err fault) → ToldBuildCause told words (Some fault)
+pub told_first : (told : Option Contents) (words : List (List ℕ)) (fault : Fault) → IsFaultOfLoad 1 net_limit fault → ToldLoadsWord told words 1 net_limit (Err fault) → ToldAnswers build_stages told words (Some fault)
 told_first None words fault only loads = tt
-told_first (Some files) words fault only loads = first_cause files words fault only loads
+told_first (Some files) words fault only loads = load_found files words 1 net_limit (load_stage files words 2 lib_limit ∷ texts_at files words) fault only loads
 
-second_cause : (files : Contents) (words : List (List ℕ)) (fault : Fault) → IsLoadable files words 1 → IsLoadFault 2 1048576 fault → LoadsWord files words 2 1048576 (Err fault) → BuildCause files words (Some fault)
-second_cause files words fault before only = each_load (λ f. LoadsWord files words 2 1048576 (Err f) → BuildCause files words (Some f)) 2 1048576
-    (λ loads. (before, loads.1)) (λ taken more loads. (before, loads.1, more)) (λ loads. before) (λ loads. tt) fault only
-
-pub told_second : (told : Option Contents) (words : List (List ℕ)) (net : Vec ℕ Global) (fault : Fault) → ToldLoadsWord told words 1 16777216 (Ok net) →
-    IsLoadFault 2 1048576 fault → ToldLoadsWord told words 2 1048576 (Err fault) → ToldBuildCause told words (Some fault)
+pub told_second : (told : Option Contents) (words : List (List ℕ)) (net : Vec ℕ Global) (fault : Fault) → ToldLoadsWord told words 1 net_limit (Ok net) →
+    IsFaultOfLoad 2 lib_limit fault → ToldLoadsWord told words 2 lib_limit (Err fault) → ToldAnswers build_stages told words (Some fault)
 told_second None words net fault first only loads = tt
-told_second (Some files) words net fault first only loads = second_cause files words fault (held_fits (λ bytes. length bytes ≤ 16777216) (files (word_at words 1)) net.items first.0 first.1) only loads
+told_second (Some files) words net fault first only loads =
+    past (load_stage files words 1 net_limit) (load_stage files words 2 lib_limit ∷ texts_at files words) (Some fault) (load_past files words 1 net_limit net first)
+    (load_found files words 2 lib_limit (texts_at files words) fault only loads)
 
-pub told_texts : (told : Option Contents) (words : List (List ℕ)) (net lib : Vec ℕ Global) → ToldLoadsWord told words 1 16777216 (Ok net) → ToldLoadsWord told words 2 1048576 (Ok lib) → ToldTexts told words net.items lib.items
+pub told_texts : (told : Option Contents) (words : List (List ℕ)) (net lib : Vec ℕ Global) → ToldLoadsWord told words 1 net_limit (Ok net) → ToldLoadsWord told words 2 lib_limit (Ok lib) → ToldTexts told words net.items lib.items
 told_texts None words net lib first second = tt
 told_texts (Some files) words net lib first second = (first.0, second.0)
 
-pub ruleset loads = (load_is_one, load_rose, load_failed, told_first, told_second, told_texts)
+pub ruleset loads = (load_is_first, load_is_second, load_rose, load_failed, told_first, told_second, told_texts)
 
 -- Making the chip of the texts.
 
-pub loads_make : (fault : Fault) → IsFaultOfLoads 2 limit_of fault → IsMakeFault fault
-loads_make fault only = each_of_loads IsMakeFault 2 limit_of (λ p l. l) (λ p t l more. (l, more)) (λ p l. l) tt fault only
+pub loads_make : (fault : Fault) → IsFaultOfLoads build_loads fault → IsMakeFault fault
+loads_make fault only = each_of_loads IsMakeFault build_loads (λ p l. l) (λ p t l. l) (λ p l. l) tt fault only
 
-pub wrong_make : (net lib : List ℕ) (fault : Fault) → IsWrongOrMemory net lib fault → IsMakeFault fault
-wrong_make net lib fault wrong = each_wrong IsMakeFault net lib (λ f. tt) (λ f. tt) (λ k. tt) (λ n. tt) (λ n. tt) (λ n. tt) (λ n. tt) tt fault wrong
+pub wrong_make : (fault : Fault) → IsDesignFault fault → IsMakeFault fault
+wrong_make fault wrong = each_design IsMakeFault (λ f. tt) (λ f. tt) (λ k. tt) (λ n. tt) (λ n. tt) (λ n. tt) (λ n. tt) tt fault wrong
 
-pub wrong_read : (Risen : Type 0) (net lib : List ℕ) (fault : Fault) → IsWrongOrMemory net lib fault → IsReadOf Risen fault
-wrong_read Risen net lib fault wrong = each_wrong (IsReadOf Risen) net lib (λ f. tt) (λ f. tt) (λ k. tt) (λ n. tt) (λ n. tt) (λ n. tt) (λ n. tt) tt fault wrong
+pub wrong_read : (Risen : Type 0) (fault : Fault) → IsDesignFault fault → IsReadOf Risen fault
+wrong_read Risen fault wrong = each_design (IsReadOf Risen) (λ f. tt) (λ f. tt) (λ k. tt) (λ n. tt) (λ n. tt) (λ n. tt) (λ n. tt) tt fault wrong
 
-pub wrong_failed : (name : Option (List ℕ)) (words : List (List ℕ)) (net lib : List ℕ) (fault : Fault) → IsWrongOrMemory net lib fault → FailedLoad name words (Some fault)
-wrong_failed name words net lib fault wrong =
-    each_wrong (λ f. FailedLoad name words (Some f)) net lib (λ f. tt) (λ f. tt) (λ k. tt) (λ n. tt) (λ n. tt) (λ n. tt) (λ n. tt) tt fault wrong
+pub wrong_failed : (name : Option (List ℕ)) (words : List (List ℕ)) (fault : Fault) → IsDesignFault fault → FailedLoad name words (Some fault)
+wrong_failed name words fault wrong =
+    each_design (λ f. FailedLoad name words (Some f)) (λ f. tt) (λ f. tt) (λ k. tt) (λ n. tt) (λ n. tt) (λ n. tt) (λ n. tt) tt fault wrong
 
--- the texts at the two places, of which this holds
-texts_with : (P : List ℕ → List ℕ → Type 0) (files : Contents) (words : List (List ℕ)) (net lib : List ℕ) → ToldTexts (Some files) words net lib →
-    length net ≤ 16777216 → length lib ≤ 1048576 → P net lib → HasTexts files words P
-texts_with P files words net lib held a b holds = record { net = net; lib = lib; net_held = held.0; lib_held = held.1; net_fits = a; lib_fits = b; holds = holds }
-
-wrong_cause : (files : Contents) (words : List (List ℕ)) (net lib : List ℕ) (fault : Fault) → ToldTexts (Some files) words net lib →
-    length net ≤ 16777216 → length lib ≤ 1048576 → IsWrongOrMemory net lib fault → BuildCause files words (Some fault)
-wrong_cause files words net lib (BadBlif fault) held a b wrong = texts_with (λ n l. IsWrong n l (BadBlif fault)) files words net lib held a b wrong
-wrong_cause files words net lib (BadLibrary fault) held a b wrong = texts_with (λ n l. IsWrong n l (BadLibrary fault)) files words net lib held a b wrong
-wrong_cause files words net lib (MissingCell kind) held a b wrong = texts_with (λ n l. IsWrong n l (MissingCell kind)) files words net lib held a b wrong
-wrong_cause files words net lib (TooLarge what count) held a b wrong = texts_with (λ n l. IsWrong n l (TooLarge what count)) files words net lib held a b wrong
-wrong_cause files words net lib Memory held a b wrong = tt
-wrong_cause files words net lib _ held a b wrong = absurd wrong
+-- what the texts may answer the whole build may answer
+design_answers : (files : Contents) (words : List (List ℕ)) (net lib : List ℕ) (answer : Option Fault) → ToldTexts (Some files) words net lib → length net ≤ net_limit → length lib ≤ lib_limit
+    → Answers (design_stages net lib) answer → Answers (build_stages files words) answer
+design_answers files words net lib answer held a b answers =
+    past (load_stage files words 1 net_limit) (load_stage files words 2 lib_limit ∷ texts_at files words) answer (file_loads files words 1 net_limit net held.0 a)
+    (past (load_stage files words 2 lib_limit) (texts_at files words) answer (file_loads files words 2 lib_limit lib held.1 b)
+    (subst (λ n. Answers (design_stages n (bytes_at files words 2)) answer) (sym (held_bytes files words 1 net held.0))
+    (subst (λ l. Answers (design_stages net l) answer) (sym (held_bytes files words 2 lib held.1)) answers)))
 
 pub told_wrong : (told : Option Contents) (words : List (List ℕ)) (net lib : List ℕ) (fault : Fault) → ToldTexts told words net lib →
-    length net ≤ 16777216 → length lib ≤ 1048576 → IsWrongOrMemory net lib fault → ToldBuildCause told words (Some fault)
+    length net ≤ net_limit → length lib ≤ lib_limit → Answers (design_stages net lib) (Some fault) → ToldAnswers build_stages told words (Some fault)
 told_wrong None words net lib fault held a b wrong = tt
-told_wrong (Some files) words net lib fault held a b wrong = wrong_cause files words net lib fault held a b wrong
+told_wrong (Some files) words net lib fault held a b wrong = design_answers files words net lib (Some fault) held a b wrong
 
-pub is_made : (told : Option Contents) (words : List (List ℕ)) (net lib : List ℕ) (chip : Chip) → ToldTexts told words net lib → length net ≤ 16777216 → length lib ≤ 1048576 → MakesChip net lib chip → IsMade told words chip
+pub told_well : (told : Option Contents) (words : List (List ℕ)) (net lib : List ℕ) → ToldTexts told words net lib →
+    length net ≤ net_limit → length lib ≤ lib_limit → IsFirst (design_stages net lib) None → ToldAnswers build_stages told words None
+told_well None words net lib held a b well = tt
+told_well (Some files) words net lib held a b well = design_answers files words net lib None held a b well
+
+pub is_made : (told : Option Contents) (words : List (List ℕ)) (net lib : List ℕ) (chip : Chip) → ToldTexts told words net lib → length net ≤ net_limit → length lib ≤ lib_limit → MakesChip net lib chip → IsMade told words chip
 is_made told words net lib chip held a b makes = record {
   net = net;
   lib = lib;
@@ -113,34 +116,35 @@ is_made told words net lib chip held a b makes = record {
   holds = makes.made;
 }
 
-pub ruleset makes = (loads_make, wrong_make, wrong_read, wrong_failed, told_wrong, is_made)
+-- the same of texts that are these
+pub texts_made : (told : Option Contents) (words : List (List ℕ)) (net lib net' lib' : List ℕ) (result : Result Chip Fault) → ToldTexts told words net lib → length net ≤ net_limit → length lib ≤ lib_limit
+    → net' ≡ net → lib' ≡ lib → IfOk result (MakesChip net' lib') → IfOk result (IsMade told words)
+texts_made told words net lib net' lib' (Ok chip) held a b n l makes = is_made told words net lib chip held a b (subst (λ m. MakesChip m lib chip) n (subst (λ k. MakesChip net' k chip) l makes))
+texts_made told words net lib net' lib' (Err fault) held a b n l makes = tt
+
+pub texts_well : (told : Option Contents) (words : List (List ℕ)) (net lib net' lib' : List ℕ) (result : Result Chip Fault) → ToldTexts told words net lib → length net ≤ net_limit → length lib ≤ lib_limit
+    → net' ≡ net → lib' ≡ lib → OnOk result (IsFirst (design_stages net' lib') None) → OnOk result (ToldAnswers build_stages told words None)
+texts_well told words net lib net' lib' (Ok chip) held a b n l well = told_well told words net lib held a b (subst (λ m. IsFirst (design_stages m lib) None) n (subst (λ k. IsFirst (design_stages net' k) None) l well))
+texts_well told words net lib net' lib' (Err fault) held a b n l well = tt
+
+pub ruleset makes = (loads_make, wrong_make, wrong_read, wrong_failed, told_wrong)
 
 -- Where a build ends before anything is stored, all stands as before.
 
 pub made_build : (fault : Fault) → IsMakeFault fault → IsBuildFault fault
-made_build fault only = each_made IsBuildFault (λ p l. l) (λ p t l more. (l, more)) (λ p l. l) (λ f. tt) (λ f. tt) (λ k. tt) (λ n. tt) (λ n. tt) (λ n. tt) (λ n. tt) tt fault only
+made_build fault only = each_made IsBuildFault (λ p l. l) (λ p t l. l) (λ p l. l) (λ f. tt) (λ f. tt) (λ k. tt) (λ n. tt) (λ n. tt) (λ n. tt) (λ n. tt) tt fault only
 
 pub made_counts : (before after : Counts) (fault : Fault) → IsMakeFault fault → IsReadOf (Rose before.reads after.reads) fault → HasFaults before after (Some fault)
 made_counts before after fault only =
-    each_made (λ f. IsReadOf (Rose before.reads after.reads) f → HasFaults before after (Some f)) (λ p l r. tt) (λ p t l more r. tt) (λ p l r. r) (λ f r. tt) (λ f r. tt) (λ k r. tt) (λ n r. tt) (λ n r. tt) (λ n r. tt) (λ n r. tt) (λ r. tt) fault only
+    each_made (λ f. IsReadOf (Rose before.reads after.reads) f → HasFaults before after (Some f)) (λ p l r. tt) (λ p t l r. tt) (λ p l r. r) (λ f r. tt) (λ f r. tt) (λ k r. tt) (λ n r. tt) (λ n r. tt) (λ n r. tt) (λ n r. tt) (λ r. tt) fault only
 
 pub made_stands : (before after : Option Contents) (words : List (List ℕ)) (fault : Fault) → IsMakeFault fault → after ≡ before → BuildStands before after words (Some fault)
 made_stands before after words fault only same =
-    each_made (λ f. BuildStands before after words (Some f)) (λ p l. same) (λ p t l more. same) (λ p l. same) (λ f. same) (λ f. same) (λ k. same) (λ n. same) (λ n. same) (λ n. same) (λ n. same) (inl same) fault only
+    each_made (λ f. BuildStands before after words (Some f)) (λ p l. same) (λ p t l. same) (λ p l. same) (λ f. same) (λ f. same) (λ k. same) (λ n. same) (λ n. same) (λ n. same) (λ n. same) (inl same) fault only
 
 pub made_prints : (told : Option Contents) (words : List (List ℕ)) (held : Option (List ℕ)) (fault : Fault) → IsMakeFault fault → BuildPrints told words held held (Some fault)
 made_prints told words held fault only =
-    each_made (λ f. BuildPrints told words held held (Some f)) (λ p l. refl) (λ p t l more. refl) (λ p l. refl) (λ f. refl) (λ f. refl) (λ k. refl) (λ n. refl) (λ n. refl) (λ n. refl) (λ n. refl) (inl refl) fault only
-
--- What was built has the cause of a build that ends well.
-
-built_cause : (Holds : NetView → LibraryView → Type 0) (files : Contents) (words : List (List ℕ)) → IsBuilt (Some files) words Holds → HasTexts files words IsServed
-built_cause Holds files words built = texts_with IsServed files words built.net built.lib built.held built.net_fits built.lib_fits
-    (record { equations = built.equations; cells = built.cells; says = built.says; holds = built.limits })
-
-pub told_built : (told : Option Contents) (words : List (List ℕ)) (chip : Chip) → IsMade told words chip → ToldBuildCause told words None
-told_built None words chip built = tt
-told_built (Some files) words chip built = built_cause (λ n l. IsChipOf n l chip) files words built
+    each_made (λ f. BuildPrints told words held held (Some f)) (λ p l. refl) (λ p t l. refl) (λ p l. refl) (λ f. refl) (λ f. refl) (λ k. refl) (λ n. refl) (λ n. refl) (λ n. refl) (λ n. refl) (inl refl) fault only
 
 -- what holds of the chip holds of what was built
 built_with : (P Q : NetView → LibraryView → Type 0) (told : Option Contents) (words : List (List ℕ)) → ((n : NetView) (l : LibraryView) → P n l → Q n l) → IsBuilt told words P → IsBuilt told words Q
@@ -159,11 +163,9 @@ built_with P Q told words map built = record {
 
 -- Storing.
 
-pub store_cause : (told : Option Contents) (words : List (List ℕ)) (chip : Chip) (fault : Fault) → IsMade told words chip → IsStoreFault fault → ToldBuildCause told words (Some fault)
-store_cause None words chip fault made only = tt
-store_cause (Some files) words chip fault made only =
-    let served = built_cause (λ n l. IsChipOf n l chip) files words made in
-    each_store (λ f. BuildCause files words (Some f)) served served served tt fault only
+pub store_answers : (told : Option Contents) (words : List (List ℕ)) (fault : Fault) → ToldAnswers build_stages told words None → IsStoreFault fault → ToldAnswers build_stages told words (Some fault)
+store_answers None words fault well only = tt
+store_answers (Some files) words fault well only = each_store (λ f. Answers (build_stages files words) (Some f)) well well well tt fault only
 
 stored : (told after : Option Contents) (words : List (List ℕ)) (chip : Chip) → IsMade told words chip → after ≡ told_with told (word_at words 3) (bytes_of chip.layout) →
     IsBuilt told words (λ n l. after ≡ told_with told (word_at words 3) (stream_of n l))
@@ -203,9 +205,14 @@ store_is_build fault only = each_store IsBuildFault tt tt tt tt fault only
 
 -- Printing.
 
-pub out_cause : (told : Option Contents) (words : List (List ℕ)) (chip : Chip) (fault : Fault) → IsMade told words chip → IsOutOrMemory fault → ToldBuildCause told words (Some fault)
-out_cause None words chip fault made only = tt
-out_cause (Some files) words chip fault made only = each_print (λ f. BuildCause files words (Some f)) (built_cause (λ n l. IsChipOf n l chip) files words made) tt fault only
+pub out_answers : (told : Option Contents) (words : List (List ℕ)) (fault : Fault) → ToldAnswers build_stages told words None → IsOutOrMemory fault → ToldAnswers build_stages told words (Some fault)
+out_answers None words fault well only = tt
+out_answers (Some files) words fault well only = each_print (λ f. Answers (build_stages files words) (Some f)) well tt fault only
+
+-- the counts line of a chip
+same_counts : (equations : NetView) (cells : LibraryView) (chip : Chip) → IsChipOf equations cells chip → counts_text chip.counts.rows chip.counts.cells chip.counts.wires ≡ counts_of equations cells
+unfolding counts_of
+same_counts equations cells chip made = λ i. counts_text (made.counts.rows i) (made.counts.cells i) (made.counts.wires i)
 
 -- the whole file is some first bytes of it
 whole_prefix : (told after : Option Contents) (name bytes : List ℕ) → after ≡ told_with told name bytes → StoresPrefix told after name bytes
@@ -225,7 +232,7 @@ out_stands told told' after words name chip fault made only same_told same_name 
 prints_some : (told : Option Contents) (words : List (List ℕ)) (chip : Chip) (before after : Option (List ℕ)) → IsMade told words chip
     → GainsPrefix before after (counts_text chip.counts.rows chip.counts.cells chip.counts.wires) → IsBuilt told words (λ n l. GainsPrefix before after (counts_of n l))
 prints_some told words chip before after made gains =
-    built_with (λ n l. IsChipOf n l chip) (λ n l. GainsPrefix before after (counts_of n l)) told words (λ n l h. subst (GainsPrefix before after) h.counts gains) made
+    built_with (λ n l. IsChipOf n l chip) (λ n l. GainsPrefix before after (counts_of n l)) told words (λ n l h. subst (GainsPrefix before after) (same_counts n l chip h) gains) made
 
 pub out_prints : (told : Option Contents) (words : List (List ℕ)) (chip : Chip) (before after : Option (List ℕ)) (fault : Fault) → IsMade told words chip → IsOutOrMemory fault
     → GainsPrefix before after (counts_text chip.counts.rows chip.counts.cells chip.counts.wires) → BuildPrints told words before after (Some fault)
@@ -253,7 +260,7 @@ pub is_done : (told told' after : Option Contents) (words : List (List ℕ)) (na
 is_done told told' after words name chip printed printed' made same_told same_name is prints =
     let at = at_word told told' after words name chip same_told same_name is in
     built_with (λ n l. IsChipOf n l chip) (IsDone told after words printed printed') told words
-    (λ n l h. record { keeps = h.keeps; lawful = h.lawful; stored = at ∙ ap (told_with told (word_at words 3)) h.stream; printed = prints ∙ ap (gained printed) h.counts }) made
+    (λ n l h. record { keeps = h.keeps; lawful = h.lawful; stored = at ∙ ap (told_with told (word_at words 3)) h.stream; printed = prints ∙ ap (gained printed) (same_counts n l chip h) }) made
 
 pub done_stands : (told told' after : Option Contents) (words : List (List ℕ)) (name : List ℕ) (chip : Chip) → IsMade told words chip → told' ≡ told → name ≡ word_at words 3
     → after ≡ told_with told' name (bytes_of chip.layout) → BuildStands told after words None
@@ -262,21 +269,20 @@ done_stands told told' after words name chip made same_told same_name is = store
 pub done_prints : (told : Option Contents) (words : List (List ℕ)) (chip : Chip) (printed printed' : Option (List ℕ)) → IsMade told words chip
     → printed' ≡ gained printed (counts_text chip.counts.rows chip.counts.cells chip.counts.wires) → BuildPrints told words printed printed' None
 done_prints told words chip printed printed' made prints =
-    built_with (λ n l. IsChipOf n l chip) (λ n l. printed' ≡ gained printed (counts_of n l)) told words (λ n l h. prints ∙ ap (gained printed) h.counts) made
+    built_with (λ n l. IsChipOf n l chip) (λ n l. printed' ≡ gained printed (counts_of n l)) told words (λ n l h. prints ∙ ap (gained printed) (same_counts n l chip h)) made
 
 pub ruleset steps = (
   made_build,
   made_counts,
   made_stands,
   made_prints,
-  told_built,
-  store_cause,
+  store_answers,
   store_stands,
   store_prints,
   store_counts,
   store_failed,
   store_is_build,
-  out_cause,
+  out_answers,
   out_stands,
   out_prints,
   out_counts,

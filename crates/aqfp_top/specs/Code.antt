@@ -1,4 +1,8 @@
 -- The words of private contracts.
+pub mod Pieces
+pub mod Loading
+pub mod Staging
 pub mod Designing
 pub mod Building
 pub mod Checking
+pub mod Sampling

@@ -1,5 +1,5 @@
--- What a build makes of the texts of a netlist and of a library: their chip, or the first thing that is wrong with
--- them.
+-- What a build makes of the texts of a netlist and of a library: their chip, or a fault of the one, of the other, or
+-- of the chip.
 use Rattle.std.specs.Prelude.{ℕ, ◌≡◌, ◌<◌, ◌≤◌, List, length}
 use Rattle.blif_read.specs.Parts.{NetView}
 use Rattle.blif_read.specs.Says as netlist
@@ -42,6 +42,12 @@ pub record HasDesign (net lib : List ℕ) (Holds : NetView → LibraryView → T
   pub says : SaysDesign net lib equations cells
   pub holds : Holds equations cells
 
+-- the text says a netlist of which this holds
+pub record HasNetlist (net : List ℕ) (Holds : NetView → Type 0) : Type 0 where
+  pub equations : NetView
+  pub says : netlist.Says net equations
+  pub holds : Holds equations
+
 -- the chip of the netlist keeps all limits
 pub record KeepsLimits (equations : NetView) (cells : LibraryView) : Type 0 where
   pub within : IsWithin cells equations
@@ -58,10 +64,6 @@ placed_counts chip = counts_text (length chip.net.rows) (cells_in chip.net.rows)
 -- the counts line of the chip of the netlist
 unfoldable pub counts_of : NetView → LibraryView → List ℕ
 counts_of equations cells = placed_counts (chip_of cells equations)
-
--- the texts say a netlist and a library, and the chip of the one with the other keeps all limits
-abbrev pub IsServed : List ℕ → List ℕ → Type 0
-IsServed net lib = HasDesign net lib KeepsLimits
 
 -- the plan is within its limits, and its drawing would have too many elements: so many
 pub record HasManyElements (equations : NetView) (cells : LibraryView) (count : ℕ) : Type 0 where
@@ -82,12 +84,19 @@ abbrev pub IsCellFault : List ℕ → LibraryFault → Type 0
 IsCellFault text Text = library.IsRefused text
 IsCellFault text fault = library.HasFault text fault
 
--- The fault is the first thing that is wrong with the texts of a netlist and of a library: the netlist's own fault,
--- then the library's, then the first limit that their chip passes.
-abbrev pub IsWrong : List ℕ → List ℕ → Fault → Type 0
-IsWrong net lib (BadBlif fault) = netlist.Fault net fault
-IsWrong net lib (BadLibrary (Missing kind)) = ⊥
-IsWrong net lib (BadLibrary fault) = SaysNetlist net × IsCellFault lib fault
-IsWrong net lib (MissingCell kind) = SaysNetlist net × IsCellFault lib (Missing kind)
-IsWrong net lib (TooLarge what count) = HasDesign net lib (λ equations cells. HasTooMuch equations cells what count)
-IsWrong net lib _ = ⊥
+-- a netlist's text has this fault
+abbrev pub IsNetlistFault : List ℕ → Fault → Type 0
+IsNetlistFault text (BadBlif fault) = netlist.Fault text fault
+IsNetlistFault text _ = ⊥
+
+-- a library's text has this fault; that a kind of cell is missing has a status of its own
+abbrev pub IsCellsFault : List ℕ → Fault → Type 0
+IsCellsFault text (BadLibrary (Missing kind)) = ⊥
+IsCellsFault text (BadLibrary fault) = IsCellFault text fault
+IsCellsFault text (MissingCell kind) = IsCellFault text (Missing kind)
+IsCellsFault text _ = ⊥
+
+-- the chip of the netlist has too much of something
+abbrev pub IsPlanFault : NetView → LibraryView → Fault → Type 0
+IsPlanFault equations cells (TooLarge what count) = HasTooMuch equations cells what count
+IsPlanFault equations cells _ = ⊥

@@ -18,7 +18,7 @@ use Rattle.aqfp_top.specs.declared.fault.Large.{Large}
 use Rattle.aqfp_top.specs.declared.fault.Large.TheVariants.{Slots, Rows, Cells, Elements, Shapes}
 use Rattle.aqfp_top.specs.Words.{word_at}
 use Rattle.aqfp_top.specs.declared.fault.Fault.{Fault}
-use Rattle.aqfp_top.specs.declared.fault.Fault.TheVariants.{Usage, Absent, TooLong, ReadFault, WriteFault, BadBlif, BadLibrary, MissingCell, TooLarge, BadStream, RuleBroken, BadWords, Unbuilt, Memory}
+use Rattle.aqfp_top.specs.declared.fault.Fault.TheVariants.{Usage, Absent, TooLong, ReadFault, WriteFault, BadBlif, BadLibrary, MissingCell, TooLarge, BadStream, RuleBroken, BadWords, Memory}
 
 -- the line about the file that a word names
 abbrev pub named : List (List ℕ) → ℕ → List ℕ → List ℕ
@@ -104,7 +104,6 @@ line_of words (BadStream offset kind) =
 line_of words (RuleBroken rule first second) =
     codes "aqfp: rule " ++ name_of rule ++ codes ": shapes " ++ pair_text first second ++ codes "\n"
 line_of words (BadWords line) = codes "aqfp: words: line " ++ decimal line ++ codes "\n"
-line_of words (Unbuilt place) = named words place (codes ": not built yet\n")
 line_of words Memory = codes "aqfp: out of memory\n"
 
 -- some first bytes of the text were put, and all of them unless the sink refused
@@ -119,7 +118,6 @@ abbrev pub HasPlace : List (List ℕ) → Fault → Type 0
 HasPlace words (Absent place) = place < length words
 HasPlace words (TooLong place taken) = place < length words
 HasPlace words (ReadFault place) = place < length words
-HasPlace words (Unbuilt place) = place < length words
 HasPlace words _ = Unit {0}
 
 -- what `err` gains: nothing after a success, and otherwise the fault's line, unless the sink refuses

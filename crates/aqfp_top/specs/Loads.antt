@@ -1,31 +1,38 @@
--- Loading the file that a word names.
-use Rattle.std.specs.Prelude.{ℕ, ◌≡◌, ◌<◌, ◌≤◌, List, length, Option, Some, None, Result, Ok, Err, Vec, IsSomeAnd}
-use Rattle.std.specs.declared.alloc.Global.{Global}
-use Rattle.aq_base.specs.Store.{Contents}
-use Rattle.aqfp_top.specs.Words.{word_at}
-use Rattle.aqfp_top.specs.declared.fault.Fault.{Fault}
-use Rattle.aqfp_top.specs.declared.fault.Fault.TheVariants.{Absent, TooLong, ReadFault, Memory}
+-- The files that the commands load: the places of their names among the words, and how many bytes they may have.
+use Rattle.std.specs.Prelude.{ℕ, ◌≡◌, ◌⊎◌, ◌<◌, List, [], ◌∷◌}
 
--- a load of the file that a word names answers this
-abbrev pub LoadsWord : Contents → List (List ℕ) → ℕ → ℕ → Result (Vec ℕ Global) Fault → Type 0
-LoadsWord files words place limit (Ok bytes) =
-    (files (word_at words place) ≡ Some bytes.items) × (length bytes.items ≤ limit)
-LoadsWord files words place limit (Err (Absent word)) = (word ≡ place) × (files (word_at words place) ≡ None)
-LoadsWord files words place limit (Err (TooLong word taken)) =
-    (word ≡ place) × IsSomeAnd (files (word_at words place)) (λ bytes. limit < length bytes)
-LoadsWord files words place limit (Err (ReadFault word)) = word ≡ place
-LoadsWord files words place limit (Err Memory) = Unit {0}
-LoadsWord files words place limit (Err _) = ⊥
+pub record Load : Type 0 where
+  pub place : ℕ
+  pub limit : ℕ
 
--- the same, where the store is told
-abbrev pub ToldLoadsWord : Option Contents → List (List ℕ) → ℕ → ℕ → Result (Vec ℕ Global) Fault → Type 0
-ToldLoadsWord (Some files) words place limit result = LoadsWord files words place limit result
-ToldLoadsWord None words place limit result = Unit {0}
+abbrev pub net_limit : ℕ
+net_limit = 16777216
 
--- the faults of a load of the word at a place; one for length saw more bytes than the limit
-abbrev pub IsLoadFault : ℕ → ℕ → Fault → Type 0
-IsLoadFault place limit (Absent word) = word ≡ place
-IsLoadFault place limit (TooLong word taken) = (word ≡ place) × (limit < taken)
-IsLoadFault place limit (ReadFault word) = word ≡ place
-IsLoadFault place limit Memory = Unit {0}
-IsLoadFault place limit _ = ⊥
+abbrev pub lib_limit : ℕ
+lib_limit = 1048576
+
+abbrev pub gds_limit : ℕ
+gds_limit = 268435456
+
+abbrev pub words_limit : ℕ
+words_limit = 16777216
+
+-- NET and LIB
+abbrev pub build_loads : List Load
+build_loads = record { place = 1; limit = net_limit } ∷ record { place = 2; limit = lib_limit } ∷ []
+
+-- GDS, LIB and WORDS
+abbrev pub check_loads : List Load
+check_loads =
+    record { place = 1; limit = gds_limit } ∷ record { place = 2; limit = lib_limit }
+    ∷ record { place = 3; limit = words_limit } ∷ []
+
+-- some load of these is of the file at this place
+abbrev pub IsLoaded : List Load → ℕ → Type 0
+IsLoaded [] place = ⊥
+IsLoaded (load ∷ loads) place = (place ≡ load.place) ⊎ IsLoaded loads place
+
+-- and its limit is below the number of bytes
+abbrev pub IsPast : List Load → ℕ → ℕ → Type 0
+IsPast [] place taken = ⊥
+IsPast (load ∷ loads) place taken = ((place ≡ load.place) × (load.limit < taken)) ⊎ IsPast loads place taken

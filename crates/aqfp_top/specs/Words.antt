@@ -4,7 +4,7 @@ use Rattle.std.specs.Fmt.{decimal}
 use Rattle.std.specs.String.{string_bytes}
 use Rattle.std.specs.declared.alloc.Global.{Global}
 use Rattle.aqfp_top.specs.declared.words.Form.{Form}
-use Rattle.aqfp_top.specs.declared.words.Form.TheVariants.{Build, Verify, Trace, Later, Wrong}
+use Rattle.aqfp_top.specs.declared.words.Form.TheVariants.{Build, Verify, Trace, Sample, Wrong}
 
 -- the bytes of each word
 abbrev pub spelled : List (String Global) → List (List ℕ)
@@ -18,13 +18,6 @@ word_at words place = unwrap_or (slice_get words place) []
 abbrev pub IsBuild : List (List ℕ) → Type 0
 IsBuild words = (length words ≡ 4) × (word_at words 0 ≡ codes "build")
 
--- the text writes a number of bits that a sample may have
-pub record IsSampleSize (text : List ℕ) : Type 0 where
-  pub bits : ℕ
-  pub spelled_so : text ≡ decimal bits
-  pub some : 1 ≤ bits
-  pub few : bits ≤ 64
-
 -- verify GDS LIB WORDS
 abbrev pub IsVerify : List (List ℕ) → Type 0
 IsVerify words = (length words ≡ 4) × (word_at words 0 ≡ codes "verify")
@@ -37,17 +30,30 @@ IsTrace words = (length words ≡ 4) × (word_at words 0 ≡ codes "trace")
 abbrev pub IsCheck : List (List ℕ) → Type 0
 IsCheck words = IsVerify words ⊎ IsTrace words
 
--- sample N, which is to come
-abbrev pub IsLater : List (List ℕ) → Type 0
-IsLater words = (length words ≡ 2) × (word_at words 0 ≡ codes "sample") × IsSampleSize (word_at words 1)
+-- the text writes this number of bits, which a sample may have
+pub record IsSampleSize (text : List ℕ) (bits : ℕ) : Type 0 where
+  pub spelled_so : text ≡ decimal bits
+  pub some : 1 ≤ bits
+  pub few : bits ≤ 64
+
+-- sample N, N being this number of bits
+pub record IsSampleOf (words : List (List ℕ)) (bits : ℕ) : Type 0 where
+  pub two : length words ≡ 2
+  pub named : word_at words 0 ≡ codes "sample"
+  pub size : IsSampleSize (word_at words 1) bits
+
+-- sample N
+pub record IsSample (words : List (List ℕ)) : Type 0 where
+  pub bits : ℕ
+  pub of_bits : IsSampleOf words bits
 
 abbrev pub HasForm : List (List ℕ) → Type 0
-HasForm words = IsBuild words ⊎ (IsCheck words ⊎ IsLater words)
+HasForm words = IsBuild words ⊎ (IsCheck words ⊎ IsSample words)
 
 -- the words have this form
 abbrev pub IsOfForm : List (List ℕ) → Form → Type 0
 IsOfForm words Build = IsBuild words
 IsOfForm words Verify = IsVerify words
 IsOfForm words Trace = IsTrace words
-IsOfForm words Later = IsLater words
+IsOfForm words (Sample bits) = IsSampleOf words bits
 IsOfForm words Wrong = ¬ HasForm words

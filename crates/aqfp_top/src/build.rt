@@ -1,27 +1,26 @@
 // `build NET LIB OUT`.
-ghost use Rattle.std.specs.Prelude.{◌≡◌, ◌≤◌, Some, None, length, IsSome, IfOk, IfErr};
+ghost use Rattle.std.specs.Prelude.{◌≡◌, ◌≤◌, Some, None, length, IsSome, IfOk, IfErr, OnOk};
 ghost use Rattle.std.specs.Result.{result_err};
 ghost use Rattle.aq_base.specs.Causes.{Rose};
 ghost use Rattle.geom.specs.Writable.{IsWritable};
 ghost use Rattle.aqfp_top.specs.Words.{spelled, word_at};
 ghost use Rattle.aqfp_top.specs.Counted.{HasFaults, FailedLoad};
-ghost use Rattle.aqfp_top.specs.Build.{ToldBuildCause, ToldTexts, IsBuilt, IsDone, BuildStands, BuildPrints, IsBuildFault, limit_of};
-ghost use Rattle.aqfp_top.specs.Code.Building.{IsReadOf, IsFaultOfLoads, IsMakeFault, IsMade};
+ghost use Rattle.aqfp_top.specs.Loads.{net_limit, lib_limit, build_loads};
+ghost use Rattle.aqfp_top.specs.Due.{build_stages};
+ghost use Rattle.aqfp_top.specs.Faults.{IsBuildFault};
+ghost use Rattle.aqfp_top.specs.Build.{ToldTexts, IsBuilt, IsDone, BuildStands, BuildPrints};
+ghost use Rattle.aqfp_top.specs.Code.Staging.{ToldAnswers};
+ghost use Rattle.aqfp_top.specs.Code.Loading.{IsFaultOfLoads};
+ghost use Rattle.aqfp_top.specs.Code.Building.{IsReadOf, IsMakeFault, IsMade};
 
 use crate::counts::put_counts;
 use crate::design::Chip;
 use crate::fault::Fault;
-use crate::load::load_word;
+use crate::load::{LIB_LIMIT, NET_LIMIT, load_word};
 use crate::store::store;
 use crate::words::word;
 use aq_base::{Files, Sink};
 use std::alloc::Global;
-
-/// The greatest length of a netlist's file, in bytes.
-const NET_LIMIT: u64 = 16_777_216;
-
-/// The greatest length of a library's file, in bytes.
-const LIB_LIMIT: u64 = 1_048_576;
 
 #[derive(Drop)]
 struct Texts {
@@ -34,10 +33,10 @@ struct Texts {
 fn load_texts<F: Files>(alloc: Global, files: &mut F, words: &[String]) -> Result<Texts, Fault>
     requires { length words.now ≡ 4 }
     ensures texts { IfOk result (λ t. ToldTexts (F.told files.old) (spelled words.now) t.net.items t.lib.items) }
-    ensures net_fits { IfOk result (λ t. length t.net.items ≤ 16777216) }
-    ensures lib_fits { IfOk result (λ t. length t.lib.items ≤ 1048576) }
-    ensures cause { IfErr result (λ fault. ToldBuildCause (F.told files.old) (spelled words.now) (Some fault)) }
-    ensures only { IfErr result (IsFaultOfLoads 2 limit_of) }
+    ensures net_fits { IfOk result (λ t. length t.net.items ≤ net_limit) }
+    ensures lib_fits { IfOk result (λ t. length t.lib.items ≤ lib_limit) }
+    ensures bad { IfErr result (λ fault. ToldAnswers build_stages (F.told files.old) (spelled words.now) (Some fault)) }
+    ensures only { IfErr result (IsFaultOfLoads build_loads) }
     ensures told { F.told files.new ≡ F.told files.old }
     ensures name { F.opened files.new ≡ F.opened files.old }
     ensures writes { F.write_faults files.new ≡ F.write_faults files.old }
@@ -56,7 +55,8 @@ fn make<F: Files>(alloc: Global, files: &mut F, words: &[String]) -> Result<Chip
     requires { length words.now ≡ 4 }
     ensures made { IfOk result (IsMade (F.told files.old) (spelled words.now)) }
     ensures writable { IfOk result (λ chip. IsWritable chip.layout) }
-    ensures cause { IfErr result (λ fault. ToldBuildCause (F.told files.old) (spelled words.now) (Some fault)) }
+    ensures well { OnOk result (ToldAnswers build_stages (F.told files.old) (spelled words.now) None) }
+    ensures bad { IfErr result (λ fault. ToldAnswers build_stages (F.told files.old) (spelled words.now) (Some fault)) }
     ensures only { IfErr result IsMakeFault }
     ensures told { F.told files.new ≡ F.told files.old }
     ensures name { F.opened files.new ≡ F.opened files.old }
@@ -79,7 +79,7 @@ pub fn build<F: Files, O: Sink>(
 ) -> Result<(), Fault>
     requires form { length words.now ≡ 4 }
     requires shut { F.opened files.old ≡ None }
-    ensures cause { ToldBuildCause (F.told files.old) (spelled words.now) (result_err result) }
+    ensures answer { ToldAnswers build_stages (F.told files.old) (spelled words.now) (result_err result) }
     ensures stands { BuildStands (F.told files.old) (F.told files.new) (spelled words.now) (result_err result) }
     ensures prints { BuildPrints (F.told files.old) (spelled words.now) (O.written out.old) (O.written out.new) (result_err result) }
     ensures faults { HasFaults (record { reads = F.read_faults files.old; writes = F.write_faults files.old; closes = F.close_faults files.old; outs = O.faults out.old })

@@ -5,6 +5,7 @@ ghost use Rattle.aq_base.specs.Store.{gained, GainsPrefix};
 ghost use Rattle.layout_make.specs.Size.{cells_in, wires_in};
 ghost use Rattle.chip_texts.specs.Counts.{counts_text};
 ghost use Rattle.aqfp_top.specs.Code.Building.{IsOutOrMemory};
+ghost use Rattle.aqfp_top.specs.Code.Designing.{AreCountsOf};
 
 use crate::fault::{Fault, WriteCall};
 use crate::pieces::{Piece, put_pieces};
@@ -21,13 +22,13 @@ pub struct ChipCounts {
 }
 
 /// The counts of a placed net.
+#[tactic(auto, using(crate::proofs::Designing::some_row))]
 pub fn counts_of(placed: &Placed) -> ChipCounts
     requires cells { cells_in placed.now.net.rows < 2 ^ 63 }
     requires wires { wires_in placed.now.net.rows < 2 ^ 63 }
-    ensures rows { result.rows ≡ length placed.now.net.rows }
-    ensures cells { result.cells ≡ cells_in placed.now.net.rows }
-    ensures wires { result.wires ≡ wires_in placed.now.net.rows }
+    ensures { AreCountsOf placed.now result }
 {
+    placed.known();
     ChipCounts {
         rows: row_count(placed) as u64,
         cells: cell_number(placed),

@@ -7,13 +7,14 @@ ghost use Rattle.layout_make.specs.Draw.{draw as drawing};
 ghost use Rattle.layout_make.specs.MayDraw.{MayDraw};
 ghost use Rattle.layout_make.specs.Size.{element_number, element_limit};
 ghost use Rattle.chip_plan.specs.Plans.{IsWithin, chip_of};
-ghost use Rattle.aqfp_top.specs.Code.Designing.{IsNetlistFault, IsLibraryFault, IsPlanFault};
+ghost use Rattle.aqfp_top.specs.Designs.{IsNetlistFault, IsCellsFault, IsPlanFault};
+ghost use Rattle.aqfp_top.specs.Code.Staging.{OrMemory};
 
 use crate::counts::{ChipCounts, counts_of};
 use crate::fault::{Fault, Large};
 use blif_read::{BlifRefusal, Netlist, blif_read};
 use cell_library::{Library, LibraryFault, LibraryRefusal, read_library};
-use chip_plan::{PlanRefusal, plan_chip};
+use chip_plan::{PlanRefusal, plan_chip, plan_laws};
 use geom::Layout;
 use layout_make::{DrawRefusal, draw};
 use rowed::Placed;
@@ -26,10 +27,11 @@ pub struct Chip {
     pub counts: ChipCounts,
 }
 
-fn read_netlist(alloc: Global, text: &[u8]) -> Result<Netlist, Fault>
+/// The netlist that the text says.
+pub fn read_netlist(alloc: Global, text: &[u8]) -> Result<Netlist, Fault>
     requires { length text.now ≤ 2 ^ 28 }
     ensures ok { IfOk result (λ net. netlist.Says text.now net) }
-    ensures bad { IfErr result (IsNetlistFault text.now) }
+    ensures bad { IfErr result (OrMemory (IsNetlistFault text.now)) }
 {
     match blif_read(alloc, text) {
         Ok(net) => Ok(net),
@@ -42,7 +44,7 @@ fn read_netlist(alloc: Global, text: &[u8]) -> Result<Netlist, Fault>
 pub fn read_cells(alloc: Global, text: &[u8]) -> Result<Library, Fault>
     requires { length text.now ≤ 2 ^ 28 }
     ensures ok { IfOk result (λ cells. library.Says text.now cells) }
-    ensures bad { IfErr result (IsLibraryFault text.now) }
+    ensures bad { IfErr result (OrMemory (IsCellsFault text.now)) }
 {
     match read_library(alloc, text) {
         Ok(cells) => Ok(cells),
@@ -65,7 +67,7 @@ fn plan(alloc: Global, cells: &Library, net: &Netlist) -> Result<Placed, Fault>
     ensures chip { IfOk result (λ chip. chip ≡ chip_of cells.now net.now) }
     ensures within { OnOk result (IsWithin cells.now net.now) }
     ensures draws { IfOk result (λ chip. MayDraw chip cells.now) }
-    ensures bad { IfErr result (IsPlanFault net.now cells.now) }
+    ensures bad { IfErr result (OrMemory (IsPlanFault net.now cells.now)) }
 {
     match plan_chip(alloc, cells, net) {
         Ok(chip) => Ok(chip),
@@ -85,7 +87,7 @@ fn lay_out(alloc: Global, _net: &Netlist, cells: &Library, chip: &Placed) -> Res
     ensures drawn { IfOk result (λ layout. layout ≡ drawing chip.now cells.now) }
     ensures writable { IfOk result IsWritable }
     ensures small { OnOk result (element_number chip.now ≤ element_limit) }
-    ensures bad { IfErr result (IsPlanFault _net.now cells.now) }
+    ensures bad { IfErr result (OrMemory (IsPlanFault _net.now cells.now)) }
 {
     match draw(alloc, chip, cells) {
         Ok(layout) => Ok(layout),
@@ -95,19 +97,24 @@ fn lay_out(alloc: Global, _net: &Netlist, cells: &Library, chip: &Placed) -> Res
 }
 
 impl Chip {
-    ghost use Rattle.std.specs.Prelude.{◌≤◌, ◌^◌, length, OnOk, IfOk, IfErr};
+    ghost use Rattle.std.specs.Prelude.{◌≤◌, ◌^◌, Some, None, length, OnOk, IfOk, IfErr};
     ghost use Rattle.geom.specs.Writable.{IsWritable};
-    ghost use Rattle.aqfp_top.specs.Designs.{KeepsLimits};
-    ghost use Rattle.aqfp_top.specs.Code.Designing.{IsWrongOrMemory, IsPlanFault, IsChipOf, MakesChip};
+    ghost use Rattle.aqfp_top.specs.Designs.{KeepsLimits, IsPlanFault};
+    ghost use Rattle.aqfp_top.specs.Stages.{IsFirst, Answers};
+    ghost use Rattle.aqfp_top.specs.Due.{design_stages};
+    ghost use Rattle.aqfp_top.specs.Code.Staging.{OrMemory};
+    ghost use Rattle.aqfp_top.specs.Code.Designing.{IsDesignFault, IsChipOf, MakesChip, PassesNone};
 
     /// The chip of the netlist with the cells of the library, and otherwise the first limit that it passes.
     #[tactic(auto, using(crate::proofs::Designing::limits))]
     pub fn of_net(alloc: Global, net: &Netlist, cells: &Library) -> Result<Chip, Fault>
         ensures made { IfOk result (IsChipOf net.now cells.now) }
         ensures limits { OnOk result (KeepsLimits net.now cells.now) }
+        ensures passes { OnOk result (PassesNone net.now cells.now) }
         ensures writable { IfOk result (λ chip. IsWritable chip.layout) }
-        ensures bad { IfErr result (IsPlanFault net.now cells.now) }
+        ensures bad { IfErr result (OrMemory (IsPlanFault net.now cells.now)) }
     {
+        plan_laws();
         net.known();
         cells.known();
         let placed = plan(alloc, cells, net)?;
@@ -124,7 +131,9 @@ impl Chip {
         requires lib { length lib.now ≤ 2 ^ 28 }
         ensures made { IfOk result (MakesChip net.now lib.now) }
         ensures writable { IfOk result (λ chip. IsWritable chip.layout) }
-        ensures bad { IfErr result (IsWrongOrMemory net.now lib.now) }
+        ensures well { OnOk result (IsFirst (design_stages net.now lib.now) None) }
+        ensures bad { IfErr result (λ fault. Answers (design_stages net.now lib.now) (Some fault)) }
+        ensures only { IfErr result IsDesignFault }
     {
         let net = read_netlist(alloc, net)?;
         let cells = read_cells(alloc, lib)?;

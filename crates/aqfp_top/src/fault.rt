@@ -62,8 +62,6 @@ pub enum Fault {
     RuleBroken { rule: Rule, first: u32, second: u32 },
     /// The line of this number, counted from 1, is no word for the circuit.
     BadWords { line: u64 },
-    /// The work is not built yet for what stands at this place.
-    Unbuilt { word: u32 },
     /// Want of memory.
     Memory,
 }
@@ -89,7 +87,6 @@ impl Fault {
             Fault::RuleBroken { .. } => 12,
             Fault::BadWords { .. } => 13,
             Fault::Memory => 14,
-            Fault::Unbuilt { .. } => 15,
         }
     }
 }

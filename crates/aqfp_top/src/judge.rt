@@ -5,7 +5,7 @@ ghost use Rattle.cell_library.specs.Library.{limits_of};
 ghost use Rattle.layout_rules.specs.Limits.{Limits};
 ghost use Rattle.layout_rules.specs.Rules.{KeepsRules};
 ghost use Rattle.shape_extract.specs.Extracts.{Extracts};
-ghost use Rattle.aqfp_top.specs.Code.Checking.{IsRuleFault};
+ghost use Rattle.aqfp_top.specs.Code.Checking.{IsBroken};
 
 use crate::fault::Fault;
 use cell_library::Library;
@@ -18,7 +18,7 @@ use std::alloc::Global;
 pub fn extracted(alloc: Global, flat: &Flat) -> Result<Extracted, Fault>
     requires { flat_count flat.now < 2 ^ 32 }
     ensures ok { IfOk result (Extracts flat.now) }
-    ensures bad { IfErr result (λ fault. (limits : Limits) → IsRuleFault flat.now limits fault) }
+    ensures bad { IfErr result (λ fault. (limits : Limits) → IsBroken flat.now limits fault) }
 {
     match extract(alloc, flat) {
         Ok(circuit) => Ok(circuit),
@@ -48,7 +48,7 @@ pub fn check_geometry(
     requires few { flat_count flat.now < 2 ^ 32 }
     requires circuit { Extracts flat.now circuit.now }
     ensures ok { OnOk result (KeepsRules flat.now (limits_of cells.now)) }
-    ensures bad { IfErr result (IsRuleFault flat.now (limits_of cells.now)) }
+    ensures bad { IfErr result (IsBroken flat.now (limits_of cells.now)) }
 {
     match check(alloc, flat, circuit, cells) {
         Ok(()) => Ok(()),

@@ -5,22 +5,27 @@ mod build;
 mod check;
 mod counts;
 mod design;
+mod due;
 mod fault;
+mod joined;
 mod judge;
 mod load;
-mod one_fault;
 mod pieces;
 mod report;
 mod run;
+mod sample;
 mod store;
 mod words;
 
+pub use due::one_answer_is_due;
 pub use fault::{Fault, Large, WriteCall};
-pub use one_fault::{builds_find_one_fault, checks_find_one_fault};
+pub use joined::built_is_verified;
 pub use run::{Ending, aqfp_run};
 
 #[cfg(test)]
 mod check_tests;
+#[cfg(test)]
+mod chip_tests;
 #[cfg(test)]
 mod fixtures;
 #[cfg(test)]

@@ -5,7 +5,7 @@ ghost use Rattle.std.specs.List.{flat_map};
 ghost use Rattle.aq_base.specs.Causes.{Rose, HasCause};
 ghost use Rattle.aq_base.specs.Store.{gained, GainsPrefix};
 ghost use Rattle.aqfp_top.specs.Lines.{signals_text, integer_text, pair_text};
-ghost use Rattle.aqfp_top.specs.Pieces.{piece_text, pieces_text};
+ghost use Rattle.aqfp_top.specs.Code.Pieces.{piece_text, pieces_text};
 
 use aq_base::{Bytes, List, Sink, StoreRefusal};
 

@@ -5,7 +5,7 @@ ghost use Rattle.aqfp_top.specs.Words.{spelled};
 ghost use Rattle.aqfp_top.specs.Lines.{line_of, netlist_line, library_line, missing_line, line_kind_text, large_text, stream_kind_text, named as named_line, Puts, HasPlace};
 ghost use Rattle.cell_library.specs.Kinds.{key_of as kind_key};
 ghost use Rattle.layout_rules.specs.RuleNames.{name_of};
-ghost use Rattle.aqfp_top.specs.Pieces.{pieces_text};
+ghost use Rattle.aqfp_top.specs.Code.Pieces.{pieces_text};
 
 use crate::fault::{Fault, Large};
 use crate::pieces::{Piece, put_pieces};
@@ -221,7 +221,6 @@ fn pieces_of<'a>(words: &'a [String], fault: &'a Fault) -> [Piece<'a>; 5]
             Piece::Text(b""),
             Piece::Text(b""),
         ],
-        Fault::Unbuilt { word } => named(words, *word, b": not built yet\n"),
         Fault::Memory => text(fault, b"aqfp: out of memory\n"),
     }
 }

@@ -3,21 +3,24 @@ ghost use Rattle.std.specs.Prelude.{◌≡◌, ◌⊎◌, Some, None, IsSome, If
 ghost use Rattle.std.specs.Result.{result_err};
 ghost use Rattle.aq_base.specs.Causes.{Rose};
 ghost use Rattle.aq_base.specs.Store.{Contents};
-ghost use Rattle.aqfp_top.specs.Words.{spelled, word_at, IsBuild, IsVerify, IsTrace, IsLater, HasForm};
+ghost use Rattle.aqfp_top.specs.Words.{spelled, word_at, IsBuild, IsVerify, IsTrace, HasForm};
 ghost use Rattle.aqfp_top.specs.Statuses.{status_of};
-ghost use Rattle.aqfp_top.specs.Lines.{Reports, HasPlace};
-ghost use Rattle.aqfp_top.specs.Counted.{HasFaults, FailedLoad, NoFaults};
+ghost use Rattle.aqfp_top.specs.Lines.{Reports};
+ghost use Rattle.aqfp_top.specs.Due.{MayAnswer};
+ghost use Rattle.aqfp_top.specs.Faults.{RunsOnly};
+ghost use Rattle.aqfp_top.specs.Counted.{HasFaults, FailedLoad};
 ghost use Rattle.aqfp_top.specs.Build.{IsBuilt, IsDone};
 ghost use Rattle.aqfp_top.specs.Chips.{BuildsChip};
 ghost use Rattle.aqfp_top.specs.Verified.{VerifiesChip, TracesChip};
-ghost use Rattle.aqfp_top.specs.Run.{RunCause, RunsOnly, RunStands, RunPrints, Reaches, FindsTooLong, FindsWrong, FindsAllWell, ComesOrYields, ComesTooLong, IsDoneOrMemory};
+ghost use Rattle.aqfp_top.specs.Run.{RunStands, RunPrints};
+ghost use Rattle.aqfp_top.specs.Code.Staging.{ToldMayAnswer};
 ghost use Rattle.aqfp_top.specs.declared.fault.Fault.{Fault};
 
 use crate::build::build;
 use crate::check::{Printing, check};
 use crate::fault::Fault;
-use crate::one_fault::{builds_find_one_fault, checks_find_one_fault};
 use crate::report::say;
+use crate::sample::sample;
 use crate::words::{Form, form_of};
 use aq_base::{Files, Sink};
 use chip_plan::plan_laws;
@@ -40,7 +43,8 @@ fn work<F: Files, O: Sink>(
     out: &mut O,
 ) -> Result<(), Fault>
     requires { F.opened files.old ≡ None }
-    ensures cause { RunCause (F.told files.old) (spelled words.now) (result_err result) }
+    ensures answer { ToldMayAnswer (F.told files.old) (spelled words.now) (result_err result) }
+    ensures usage { ¬ HasForm (spelled words.now) → result_err result ≡ Some Fault.Usage }
     ensures stands { RunStands (F.told files.old) (F.told files.new) (spelled words.now) (result_err result) }
     ensures prints { RunPrints (F.told files.old) (spelled words.now) (O.written out.old) (O.written out.new) (result_err result) }
     ensures faults { HasFaults (record { reads = F.read_faults files.old; writes = F.write_faults files.old; closes = F.close_faults files.old; outs = O.faults out.old })
@@ -48,20 +52,19 @@ fn work<F: Files, O: Sink>(
     ensures failed { IsSome (F.told files.old) → FailedLoad (F.load_failed files.new) (spelled words.now) (result_err result) }
     ensures done { IfOk result (λ _. IsBuild (spelled words.now) → IsBuilt (F.told files.old) (spelled words.now) (IsDone (F.told files.old) (F.told files.new) (spelled words.now) (O.written out.old) (O.written out.new))) }
     ensures only { IfErr result (RunsOnly (spelled words.now)) }
-    ensures places { IfErr result (HasPlace (spelled words.now)) }
     ensures shut { F.opened files.new ≡ None }
 {
     match form_of(words) {
         Form::Build => build(alloc, words, files, out),
         Form::Verify => check(alloc, Printing::Answers, words, files, out),
         Form::Trace => check(alloc, Printing::Fluxes, words, files, out),
-        Form::Later => Err(Fault::Unbuilt { word: 0 }),
+        Form::Sample { bits } => sample(alloc, bits, out),
         Form::Wrong => Err(Fault::Usage),
     }
 }
 
 /// Does what the words of a command line say.
-#[tactic(auto, using(crate::proofs::Exact::forms))]
+#[tactic(auto, using(crate::proofs::Runs::told_due))]
 pub fn aqfp_run<F: Files, O: Sink, E: Sink>(
     alloc: Global,
     words: &[String],
@@ -73,28 +76,17 @@ pub fn aqfp_run<F: Files, O: Sink, E: Sink>(
 
     ensures status { result.status ≡ status_of result.fault }
 
-    // What each ending shows: the words, what the told store held, the counts of faults.
-    ensures cause { RunCause (F.told files.old) (spelled words.now) result.fault }
+    // The answer is what is due, of which there is one (`one_answer_is_due`), or want of memory, or a failed load,
+    // write or close: a load that the work comes to, a write or close where nothing is due. The count of the failure
+    // rose, and the load is the last that failed.
+    ensures due { (held : Contents) → F.told files.old ≡ Some held → MayAnswer held (spelled words.now) result.fault }
     ensures faults { HasFaults (record { reads = F.read_faults files.old; writes = F.write_faults files.old; closes = F.close_faults files.old; outs = O.faults out.old })
         (record { reads = F.read_faults files.new; writes = F.write_faults files.new; closes = F.close_faults files.new; outs = O.faults out.new }) result.fault }
     ensures failed { IsSome (F.told files.old) → FailedLoad (F.load_failed files.new) (spelled words.now) result.fault }
 
-    // Which faults a command may answer, whatever the store tells.
+    // Which faults a command may answer, whatever the store tells; the usage where there is none.
     ensures only { IfSome result.fault (RunsOnly (spelled words.now)) }
-
-    // The first thing that is wrong is the fault that comes.
     ensures usage { ¬ HasForm (spelled words.now) → result.fault ≡ Some Fault.Usage }
-    ensures later { IsLater (spelled words.now) → result.fault ≡ Some (Fault.Unbuilt 0) }
-    ensures absent { (held : Contents) (place : ℕ) → F.told files.old ≡ Some held
-        → Reaches held (spelled words.now) place → held (word_at (spelled words.now) place) ≡ None → ComesOrYields (Fault.Absent place) result.fault }
-    ensures too_long { (held : Contents) (place : ℕ) → F.told files.old ≡ Some held
-        → FindsTooLong held (spelled words.now) place → ComesTooLong place result.fault }
-    ensures wrong { (held : Contents) (due : Fault) → F.told files.old ≡ Some held
-        → FindsWrong held (spelled words.now) due → ComesOrYields due result.fault }
-    ensures complete { (held : Contents) → F.told files.old ≡ Some held → FindsAllWell held (spelled words.now)
-        → NoFaults (record { reads = F.read_faults files.old; writes = F.write_faults files.old; closes = F.close_faults files.old; outs = O.faults out.old })
-        (record { reads = F.read_faults files.new; writes = F.write_faults files.new; closes = F.close_faults files.new; outs = O.faults out.new })
-        → IsDoneOrMemory result.fault }
 
     // What a build that ends well has made: the chip of its netlist, whatever the order of switching.
     ensures chip { (held : Contents) → F.told files.old ≡ Some held → IsBuild (spelled words.now) → result.fault ≡ None
@@ -115,8 +107,6 @@ pub fn aqfp_run<F: Files, O: Sink, E: Sink>(
 {
     plan_laws();
     drawn_chip_realises();
-    builds_find_one_fault();
-    checks_find_one_fault();
     answers_are_shown();
     match work(alloc, words, files, out) {
         Ok(()) => Ending {

@@ -153,6 +153,21 @@ fn libraries_differ(rt: HostRuntime) -> Result<(), Fail> {
     Ok(())
 }
 
+// An adder of one bit on eight words; the store is not asked.
+#[test]
+fn a_sample_is_printed(rt: HostRuntime) -> Result<(), Fail> {
+    let alloc = rt.alloc();
+    let ran = ran(alloc, store(alloc, WIRE, LIBRARY_A, "")?, "sample 1")?;
+    assert_eq!(rt; ran.status, 0);
+    assert_eq!(rt;
+        ran.out.bytes(),
+        b"bits 1 rows 6 cells 18 wires 20 delay 5\n01\n00\n10\n10\n10\n10\n00\n10\n".as_slice()
+    );
+    assert_eq!(rt; ran.err.bytes(), b"".as_slice());
+    assert_eq!(rt; ran.files.calls(), 0);
+    Ok(())
+}
+
 #[test]
 fn what_is_wrong_is_told(rt: HostRuntime) -> Result<(), Fail> {
     let alloc = rt.alloc();

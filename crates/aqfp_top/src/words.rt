@@ -1,5 +1,5 @@
 // The words of the command line.
-ghost use Rattle.std.specs.Prelude.{◌≡◌, ◌<◌, ◌↔◌, IsTrue, length};
+ghost use Rattle.std.specs.Prelude.{ℕ, ◌≡◌, ◌<◌, ◌↔◌, IsTrue, IfSome, None, length};
 ghost use Rattle.aqfp_top.specs.Words.{IsOfForm, IsSampleSize, spelled, word_at};
 
 use aq_base::read_decimal;
@@ -13,8 +13,8 @@ pub enum Form {
     Verify,
     /// `trace GDS LIB WORDS`.
     Trace,
-    /// A command that is to come: `sample N`.
-    Later,
+    /// `sample N`, N being the number of bits.
+    Sample { bits: u32 },
     /// None of the forms.
     Wrong,
 }
@@ -34,18 +34,26 @@ fn is_word(words: &[String], place: usize, text: &str) -> bool
     word(words, place) == text
 }
 
-// Whether the text writes a number of bits that a sample may have.
+// The number of bits of a sample that the text writes, from 1 to 64, if it writes one.
 #[tactic(auto, using(crate::proofs::Sizes::sizes))]
-fn is_sample_size(text: &str) -> bool
-    ensures { IsTrue result ↔ IsSampleSize text.now }
+fn sample_size(text: &str) -> Option<u32>
+    ensures some { IfSome result (IsSampleSize text.now) }
+    ensures none { result ≡ None → (bits : ℕ) → ¬ IsSampleSize text.now bits }
 {
     match read_decimal(text.as_bytes()) {
-        Some(bits) => 1 <= bits && bits <= 64,
-        None => false,
+        Some(bits) => {
+            if 1 <= bits && bits <= 64 {
+                Some(bits as u32)
+            } else {
+                None
+            }
+        }
+        None => None,
     }
 }
 
 /// Which form the words have.
+#[tactic(auto, using(crate::proofs::Sizes::forms))]
 pub fn form_of(words: &[String]) -> Form
     ensures { IsOfForm (spelled words.now) result }
 {
@@ -61,8 +69,10 @@ pub fn form_of(words: &[String]) -> Form
         }
         return Form::Wrong;
     }
-    if words.len() == 2 && is_word(words, 0, "sample") && is_sample_size(word(words, 1)) {
-        return Form::Later;
+    if words.len() == 2 && is_word(words, 0, "sample") {
+        if let Some(bits) = sample_size(word(words, 1)) {
+            return Form::Sample { bits };
+        }
     }
     Form::Wrong
 }

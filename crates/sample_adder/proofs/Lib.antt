@@ -1,0 +1,5 @@
+pub mod WholeLines
+pub mod Pieces
+pub mod AdderLines
+pub mod EightLaws
+pub mod AdderBytes

@@ -8,7 +8,7 @@ mod print;
 
 pub use adder::adder_text;
 pub use eight::sample_words;
-pub use laws::worked_sample;
+pub use laws::{sample_laws, worked_sample};
 pub use print::print_sample;
 
 #[cfg(test)]

@@ -1,13 +1,14 @@
 -- The words of the steps of a build: loading, making the chip, storing and printing.
-use Rattle.std.specs.Prelude.{ℕ, ◌≡◌, ◌⊎◌, ◌<◌, ◌≤◌, List, Option, Result, Ok, Err}
+use Rattle.std.specs.Prelude.{ℕ, ◌≡◌, ◌⊎◌, List, Option, Result, Ok, Err}
 use Rattle.aq_base.specs.Causes.{Rose}
 use Rattle.aq_base.specs.Store.{Contents, told_with, StoresPrefix}
-use Rattle.aqfp_top.specs.Build.{IsLoadPlace, IsBuildFault, IsBuilt}
+use Rattle.aqfp_top.specs.Build.{IsBuilt}
+use Rattle.aqfp_top.specs.Faults.{IsBuildFault}
 use Rattle.aqfp_top.specs.Code.Designing.{IsChipOf}
 use Rattle.aqfp_top.specs.declared.design.Chip.{Chip}
 use Rattle.aqfp_top.specs.declared.fault.WriteCall.TheVariants.{Create, Append, Close, Out}
 use Rattle.aqfp_top.specs.declared.fault.Fault.{Fault}
-use Rattle.aqfp_top.specs.declared.fault.Fault.TheVariants.{Absent, TooLong, ReadFault, WriteFault, Memory}
+use Rattle.aqfp_top.specs.declared.fault.Fault.TheVariants.{ReadFault, WriteFault, Memory}
 
 -- what stands in the store after a file was to be stored under a name
 abbrev pub StandsStored : Option Contents → Option Contents → List ℕ → List ℕ → Result (Unit {0}) Fault → Type 0
@@ -25,14 +26,6 @@ StoreCause writes writes' closes closes' (Err (WriteFault Create)) = Rose writes
 StoreCause writes writes' closes closes' (Err (WriteFault Append)) = Rose writes writes'
 StoreCause writes writes' closes closes' (Err (WriteFault Close)) = Rose closes closes'
 StoreCause writes writes' closes closes' _ = Unit {0}
-
--- the faults of loads, of so many files within these limits
-abbrev pub IsFaultOfLoads : ℕ → (ℕ → ℕ) → Fault → Type 0
-IsFaultOfLoads count limits (Absent place) = IsLoadPlace count place
-IsFaultOfLoads count limits (TooLong place taken) = IsLoadPlace count place × (limits place < taken)
-IsFaultOfLoads count limits (ReadFault place) = IsLoadPlace count place
-IsFaultOfLoads count limits Memory = Unit {0}
-IsFaultOfLoads count limits _ = ⊥
 
 -- the faults of a build before anything is stored
 abbrev pub IsMakeFault : Fault → Type 0

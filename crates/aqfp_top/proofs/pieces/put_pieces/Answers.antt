@@ -1,6 +1,6 @@
 use Rattle.std.proofs.Common.{◌≡◌, ◌<◌, length, get_or, rules}
 use Rattle.std.proofs.lemmas.Result.{err_from_is_err_and}
-use Rattle.aqfp_top.specs.Pieces.{piece_text}
+use Rattle.aqfp_top.specs.Code.Pieces.{piece_text}
 use Rattle.aqfp_top.proofs.Putting.{prefix_of_items}
 use Rattle.aqfp_top.proofs.pieces.put_pieces.Goals as goal
 

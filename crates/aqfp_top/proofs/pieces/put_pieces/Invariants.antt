@@ -1,7 +1,7 @@
 use Rattle.std.proofs.Common.{◌≡◌, ◌≤◌, take}
 use Rattle.std.specs.List.{flat_map}
 use Rattle.aq_base.specs.Store.{gained}
-use Rattle.aqfp_top.specs.Pieces.{piece_text}
+use Rattle.aqfp_top.specs.Code.Pieces.{piece_text}
 use Rattle.aqfp_top.proofs.pieces.put_pieces.Given as goal
 
 abbrev pub invariant-loop-piece : goal.invariant-loop-piece

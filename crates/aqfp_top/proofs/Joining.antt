@@ -1,0 +1,167 @@
+-- A chip that was built is read, judged and printed by a check.
+use Rattle.std.proofs.Common.{ℕ, ◌≡◌, ◌≤◌, ◌<◌, ◌++◌, Bool, List, length, sym, refl, subst, ap, ◌∙◌}
+use Rattle.std.specs.Prelude.{All}
+use Rattle.std.specs.List.{flat_map}
+use Rattle.geom.specs.declared.layout.Element.{Element}
+use Rattle.geom.specs.declared.layout.Element.TheVariants.{Box, Place, Text}
+use Rattle.geom.specs.declared.layout.Layout.{Layout}
+use Rattle.geom.specs.declared.shapes.Flat.{Flat}
+use Rattle.geom.specs.FlatForm.{flat_of, flat_count}
+use Rattle.geom.specs.Writable.{IsWritable, IsWritableElement}
+use Rattle.gds_records.specs.Stream.{IsStream}
+use Rattle.gds_records.specs.Writing.{bytes_of}
+use Rattle.gds_read.specs.Flattening.{IsPlaced, IsFlattenable}
+use Rattle.gds_read.specs.Reading.{IsReadAs}
+use Rattle.blif_read.specs.Parts.{NetView}
+use Rattle.blif_read.specs.Netlist.{IsNetlist}
+use Rattle.blif_read.specs.Equations.{IsAnswer as IsNetAnswer}
+use Rattle.rowed.specs.PlacedNets.{PlacedView}
+use Rattle.rowed.specs.RowNets.{IsAnswer}
+use Rattle.cell_library.specs.Library.{LibraryView, limits_of}
+use Rattle.cell_library.specs.Laws.{IsLibrary}
+use Rattle.cell_library.specs.Says as library
+use Rattle.layout_rules.specs.Limits.{Limits}
+use Rattle.layout_rules.specs.Rules.{Keeps}
+use Rattle.layout_rules.specs.declared.rule.Rule.TheVariants.{E1, E2, E6}
+use Rattle.shape_extract.specs.Circuits.{CircuitView, KeepsFacts}
+use Rattle.shape_extract.specs.Extraction.{IsCircuitOf}
+use Rattle.layout_make.specs.Draw.{draw}
+use Rattle.layout_make.specs.MayDraw.{MayDraw}
+use Rattle.layout_make.specs.Size.{element_number, element_limit}
+use Rattle.pulse_sim.specs.Shows.{Shows}
+use Rattle.chip_plan.specs.Laws.{AnswersAs}
+use Rattle.chip_plan.specs.Plans.{IsWithin, chip_of}
+use Rattle.chip_texts.specs.Counts.{counts_line, counts_text, delay_of}
+use Rattle.chip_texts.specs.WordLines.{word_line, answers_to, answers_text}
+use Rattle.chip_texts.specs.WordsText.{words_of, SaysWords}
+use Rattle.chip_texts.proofs.Reading.{words_wide}
+use Rattle.drawn_chip.specs.Realises.{Realises}
+use Rattle.drawn_chip.specs.RealisesNet.{RealisesNet, most_bytes}
+use Rattle.drawn_chip.proofs.RealisesAs.{realises_as}
+use Rattle.aqfp_top.specs.Designs.{KeepsLimits, stream_of, counts_of}
+use Rattle.aqfp_top.specs.Checks.{IsSound}
+use Rattle.aqfp_top.specs.Joined.{PrintsAsNet, VerifiesAsNet}
+
+-- what can be written can be read back, where it is of a size that is taken
+placed_element : (count : ℕ) (element : Element) → IsWritableElement count element → IsPlaced count element
+placed_element count (Box s) w = record { left = w.left; bottom = w.bottom; right = w.right; above = w.above }
+placed_element count (Place n x y) w = w
+placed_element count (Text l) w = (w.x, w.y)
+
+flattenable : (layout : Layout) → IsWritable layout → flat_count (flat_of layout) ≤ 8000000 → IsFlattenable layout
+flattenable layout w few = record {
+  top_stands = w.top_stands;
+  each = λ k d lt j e here. placed_element (length layout.structures) _ ((w.each k d lt).elements j e here);
+  shallow = w.shallow;
+  within = few;
+}
+
+-- the counts line of a circuit with the net's counts, before the lines of answers
+text_is : (circuit : CircuitView) (answers : List (List Bool)) →
+    answers_text circuit answers ≡ counts_line circuit ++ flat_map word_line answers
+unfolding answers_text
+text_is circuit answers = refl
+
+line_is : (net : NetView) (cells : LibraryView) (r : RealisesNet (chip_of cells net) cells) →
+    counts_line r.circuit ≡ counts_of net cells
+unfolding counts_line counts_of
+line_is net cells r = λ i. counts_text (r.rows i) (r.cells i) (r.wires i)
+
+-- the laws that the proof rests on
+pub record Laws : Type 0 where
+  pub draws : (l : LibraryView) (net : NetView) → IsLibrary l → IsNetlist net → IsWithin l net
+      → MayDraw (chip_of l net) l
+  pub answers : (l : LibraryView) (net : NetView) → IsLibrary l → IsNetlist net → IsWithin l net
+      → AnswersAs net (chip_of l net)
+  pub writable : (p : PlacedView) (l : LibraryView) → MayDraw p l → IsWritable (draw p l)
+  pub stream : (layout : Layout) → IsWritable layout → IsStream (bytes_of layout) layout
+  pub realised : (p : PlacedView) (l : LibraryView) → MayDraw p l → element_number p ≤ element_limit → RealisesNet p l
+  pub one_layout : (bytes : List ℕ) (layout other : Layout) → IsStream bytes layout → IsStream bytes other
+      → layout ≡ other
+  pub one_circuit : (flat : Flat) (limits : Limits) (first second : CircuitView)
+      → Keeps E1 flat limits → Keeps E2 flat limits → Keeps E6 flat limits
+      → IsCircuitOf flat first → IsCircuitOf flat second → first ≡ second
+  pub shown : (circuit : CircuitView) (words : List (List Bool))
+      → KeepsFacts circuit → All (λ word. length word ≡ circuit.inputs) words
+      → Shows circuit (delay_of circuit) words (answers_to circuit words)
+  pub shown_once : (circuit : CircuitView) (d : ℕ) (words answers others : List (List Bool)) → KeepsFacts circuit
+      → Shows circuit d words answers → Shows circuit d words others → answers ≡ others
+
+module _ (laws : Laws) (net : NetView) (cells : LibraryView) (lawful : IsLibrary cells) (keeps : IsNetlist net)
+    (limits : KeepsLimits net cells) where
+  abbrev may_draw : MayDraw (chip_of cells net) cells
+  may_draw = laws.draws cells net lawful keeps limits.within
+
+  abbrev made : RealisesNet (chip_of cells net) cells
+  made = laws.realised (chip_of cells net) cells may_draw limits.small
+
+  -- the stored bytes realise the netlist, and are a stream of the drawing alone
+  chip : Realises (stream_of net cells) (limits_of cells) net.inputs (length net.outputs) (IsNetAnswer net) made.circuit
+      (delay_of made.circuit)
+  unfolding stream_of
+  chip = realises_as net.inputs (chip_of cells net).net.inputs (length net.outputs) (chip_of cells net).net.outputs
+      (IsNetAnswer net) (IsAnswer (chip_of cells net).net) (laws.answers cells net lawful keeps limits.within)
+      (bytes_of (draw (chip_of cells net) cells)) (limits_of cells) made.circuit (delay_of made.circuit) made.realises
+
+  layout_is : (layout : Layout) → IsStream (stream_of net cells) layout → layout ≡ draw (chip_of cells net) cells
+  unfolding stream_of
+  layout_is layout stream =
+      laws.one_layout _ layout (draw (chip_of cells net) cells) stream (laws.stream _ (laws.writable _ _ may_draw))
+
+  few_bytes : length (stream_of net cells) < most_bytes
+  unfolding stream_of
+  few_bytes = made.short
+
+  read : IsReadAs (stream_of net cells) chip.layout
+  read = record {
+    stream = chip.stream;
+    flattenable = subst IsFlattenable (sym (layout_is chip.layout chip.stream))
+        (flattenable _ (laws.writable _ _ may_draw) made.small);
+  }
+
+  sound : (lib text : List ℕ) → library.Says lib cells → SaysWords net.inputs text →
+      IsSound (stream_of net cells) lib text made.circuit
+  sound lib text says words = record {
+    makes = record {
+      layout = chip.layout;
+      read = read;
+      library = record { view = cells; says = says };
+      rules = chip.rules;
+      circuit_is = chip.extracted;
+    };
+    says = subst (λ width. SaysWords width text) (sym chip.input_count) words;
+  }
+
+  -- no other circuit is found
+  found : (lib text : List ℕ) (circuit : CircuitView) → IsSound (stream_of net cells) lib text circuit →
+      circuit ≡ made.circuit
+  found lib text circuit s =
+      let same = laws.one_layout _ s.makes.layout chip.layout s.makes.read.stream chip.stream in
+      laws.one_circuit (flat_of chip.layout) (limits_of cells) circuit made.circuit (chip.rules E1) (chip.rules E2)
+      (chip.rules E6) (subst (λ layout. IsCircuitOf (flat_of layout) circuit) same s.makes.circuit_is) chip.extracted
+
+  -- what is printed of it are the netlist's answers
+  printed : (text : List ℕ) → SaysWords net.inputs text → PrintsAsNet net cells made.circuit (words_of text)
+  printed text says =
+      let words = words_of text in
+      let wide = words_wide net.inputs text says in
+      let all = chip.answers_all words wide in
+      let shown = laws.shown made.circuit words made.keeps (λ k d lt. wide k d lt ∙ sym chip.input_count) in
+      let same = laws.shown_once made.circuit (delay_of made.circuit) words _ _ made.keeps shown all.shows in
+      record {
+        answers = all.replies;
+        are_answers = all.are_answers;
+        printed = text_is made.circuit (answers_to made.circuit words)
+            ∙ ap (λ head. head ++ flat_map word_line (answers_to made.circuit words)) (line_is net cells made)
+            ∙ ap (λ answers. counts_of net cells ++ flat_map word_line answers) same;
+      }
+
+  pub verified : (lib text : List ℕ) → library.Says lib cells → SaysWords net.inputs text →
+      VerifiesAsNet net cells lib text
+  verified lib text says words = record {
+    short = few_bytes;
+    sound = record { circuit = made.circuit; sound = sound lib text says words };
+    prints = λ circuit s.
+        let is = found lib text circuit s in
+        subst (λ c. PrintsAsNet net cells c (words_of text)) (sym is) (printed text words);
+  }

@@ -1,0 +1,124 @@
+-- One answer is due, and it comes.
+use Rattle.std.proofs.Common.{ℕ, ◌≡◌, List, [], ◌∷◌, Option, Some, None, inl, inr, refl, sym, ap, subst, ◌∙◌}
+use Rattle.aq_base.specs.Store.{Contents}
+use Rattle.aqfp_top.specs.Words.{HasForm, IsOfForm}
+use Rattle.aqfp_top.specs.Loads.{Load}
+use Rattle.aqfp_top.specs.Stages.{Stage, Finds, FindsNone, IsFirst, IsLoadFault, IsFormFault, Answers}
+use Rattle.aqfp_top.specs.Due.{stages_of, Due, MayAnswer, untaken, IsSameAnswer, IsDueOrYields, IsDoneOrMemory}
+use Rattle.aqfp_top.specs.Counted.{Counts, HasFaults, NoFaults}
+use Rattle.aqfp_top.specs.declared.words.Form.{Form}
+use Rattle.aqfp_top.specs.declared.words.Form.TheVariants.{Build, Verify, Trace, Sample, Wrong}
+use Rattle.aqfp_top.specs.declared.fault.WriteCall.TheVariants.{Create, Append, Close, Out}
+use Rattle.aqfp_top.specs.declared.fault.Fault.{Fault}
+use Rattle.aqfp_top.specs.declared.fault.Fault.TheVariants.{Usage, Absent, TooLong, ReadFault, WriteFault, BadBlif, BadLibrary, MissingCell, TooLarge, BadStream, RuleBroken, BadWords, Memory}
+use Rattle.aqfp_top.proofs.Files.{gone_not_there}
+use Rattle.aqfp_top.proofs.Forms.{one_form}
+
+-- the form and a load have one fault each
+
+pub one_form_fault : (f g : Fault) → IsFormFault f → IsFormFault g → f ≡ g
+one_form_fault Usage Usage p q = refl
+one_form_fault Usage _ p q = absurd q
+one_form_fault _ g p q = absurd p
+
+pub one_load_fault : (load : Load) (file : Option (List ℕ)) (f g : Fault) → IsLoadFault load file f → IsLoadFault load file g → untaken f ≡ untaken g
+one_load_fault load file (Absent a) (Absent b) p q = ap Absent (p.0 ∙ sym q.0)
+one_load_fault load file (Absent a) (TooLong b taken) p q = absurd (gone_not_there _ file p.1 q.1)
+one_load_fault load file (Absent a) _ p q = absurd q
+one_load_fault load file (TooLong a taken) (Absent b) p q = absurd (gone_not_there _ file q.1 p.1)
+one_load_fault load file (TooLong a taken) (TooLong b other) p q = ap (λ place. TooLong place 0) (p.0 ∙ sym q.0)
+one_load_fault load file (TooLong a taken) _ p q = absurd q
+one_load_fault load file _ g p q = absurd p
+
+-- an answer that is none but for bytes that were seen is none
+none_is_none : (answer : Option Fault) → IsSameAnswer answer None → answer ≡ None
+none_is_none None same = refl
+none_is_none (Some fault) same = cc
+
+-- with nothing due and no fault of the outside the work is done, but for want of memory
+done : (before after : Counts) (answer : Option Fault) → IsDueOrYields None answer → HasFaults before after answer → NoFaults before after → IsDoneOrMemory answer
+done before after None comes rose none = tt
+done before after (Some Memory) comes rose none = tt
+done before after (Some (ReadFault place)) comes rose none = none.reads rose
+done before after (Some (WriteFault Create)) comes rose none = none.writes rose
+done before after (Some (WriteFault Append)) comes rose none = none.writes rose
+done before after (Some (WriteFault Close)) comes rose none = none.closes rose
+done before after (Some (WriteFault Out)) comes rose none = none.outs rose
+done before after (Some Usage) comes rose none = cc
+done before after (Some (Absent place)) comes rose none = cc
+done before after (Some (TooLong place taken)) comes rose none = cc
+done before after (Some (BadBlif fault)) comes rose none = cc
+done before after (Some (BadLibrary fault)) comes rose none = cc
+done before after (Some (MissingCell kind)) comes rose none = cc
+done before after (Some (TooLarge what count)) comes rose none = cc
+done before after (Some (BadStream offset kind)) comes rose none = cc
+done before after (Some (RuleBroken rule a b)) comes rose none = cc
+done before after (Some (BadWords line)) comes rose none = cc
+
+-- some answer is first, and so some answer is due
+
+first_after : (s : Stage) (stages : List Stage) (answer : Option Fault) → FindsNone s → IsFirst stages answer → IsFirst (s ∷ stages) answer
+first_after s stages None none first = (none, first)
+first_after s stages (Some fault) none first = inr (none, first)
+
+some_first : (stages : List Stage) → ((answer : Option Fault) → ¬ IsFirst stages answer) → ⊥
+some_first [] never = never None tt
+some_first (s ∷ stages) never =
+    let none : FindsNone s = λ fault found. never (Some fault) (inl found) in
+    some_first stages (λ answer first. never answer (first_after s stages answer none first))
+
+no_form : (words : List (List ℕ)) → ((form : Form) → ¬ IsOfForm words form) → ¬ HasForm words
+no_form words never (inl build) = never Build build
+no_form words never (inr (inl (inl verify))) = never Verify verify
+no_form words never (inr (inl (inr trace))) = never Trace trace
+no_form words never (inr (inr sample)) = never (Sample sample.bits) sample.of_bits
+
+pub some_due : (files : Contents) (words : List (List ℕ)) → ((answer : Option Fault) → ¬ Due files words answer) → ⊥
+some_due files words never =
+    let none : (form : Form) → ¬ IsOfForm words form = λ form is. some_first (stages_of form files words) (λ answer first. never answer (record { form = form; is_form = is; first = first })) in
+    none Wrong (no_form words none)
+
+-- where each stage finds one fault, one answer is first
+module _ (once : (stage : Stage) (f g : Fault) → Finds stage f → Finds stage g → untaken f ≡ untaken g) where
+  first_once : (stages : List Stage) (a b : Option Fault) → IsFirst stages a → IsFirst stages b → IsSameAnswer a b
+  first_once [] None None p q = refl
+  first_once [] None (Some g) p q = absurd q
+  first_once [] (Some f) b p q = absurd p
+  first_once (s ∷ stages) None None p q = refl
+  first_once (s ∷ stages) None (Some g) p (inl found) = absurd (p.0 g found)
+  first_once (s ∷ stages) None (Some g) p (inr q) = first_once stages None (Some g) p.1 q.1
+  first_once (s ∷ stages) (Some f) None (inl found) q = absurd (q.0 f found)
+  first_once (s ∷ stages) (Some f) None (inr p) q = first_once stages (Some f) None p.1 q.1
+  first_once (s ∷ stages) (Some f) (Some g) (inl x) (inl y) = ap Some (once s f g x y)
+  first_once (s ∷ stages) (Some f) (Some g) (inl x) (inr q) = absurd (q.0 f x)
+  first_once (s ∷ stages) (Some f) (Some g) (inr p) (inl y) = absurd (p.0 g y)
+  first_once (s ∷ stages) (Some f) (Some g) (inr p) (inr q) = first_once stages (Some f) (Some g) p.1 q.1
+
+  first_comes : (stages : List Stage) (due answer : Option Fault) → IsFirst stages due → Answers stages answer → IsDueOrYields due answer
+  first_comes stages due None p q = first_once stages None due q p
+  first_comes stages due (Some Usage) p q = first_once stages (Some Usage) due q p
+  first_comes stages due (Some (Absent place)) p q = first_once stages (Some (Absent place)) due q p
+  first_comes stages due (Some (TooLong place taken)) p q = first_once stages (Some (TooLong place taken)) due q p
+  first_comes stages due (Some (ReadFault place)) p q = tt
+  first_comes stages due (Some (WriteFault call)) p q = none_is_none due (first_once stages due None p q)
+  first_comes stages due (Some (BadBlif fault)) p q = first_once stages (Some (BadBlif fault)) due q p
+  first_comes stages due (Some (BadLibrary fault)) p q = first_once stages (Some (BadLibrary fault)) due q p
+  first_comes stages due (Some (MissingCell kind)) p q = first_once stages (Some (MissingCell kind)) due q p
+  first_comes stages due (Some (TooLarge what count)) p q = first_once stages (Some (TooLarge what count)) due q p
+  first_comes stages due (Some (BadStream offset kind)) p q = first_once stages (Some (BadStream offset kind)) due q p
+  first_comes stages due (Some (RuleBroken rule a b)) p q = first_once stages (Some (RuleBroken rule a b)) due q p
+  first_comes stages due (Some (BadWords line)) p q = first_once stages (Some (BadWords line)) due q p
+  first_comes stages due (Some Memory) p q = tt
+
+  pub due_once : (files : Contents) (words : List (List ℕ)) (one other : Option Fault) → Due files words one → Due files words other → IsSameAnswer one other
+  due_once files words one other p q =
+      first_once (stages_of p.form files words) one other p.first
+      (subst (λ form. IsFirst (stages_of form files words) other) (one_form words q.form p.form q.is_form p.is_form) q.first)
+
+  pub due_comes : (files : Contents) (words : List (List ℕ)) (due answer : Option Fault) → Due files words due → MayAnswer files words answer → IsDueOrYields due answer
+  due_comes files words due answer p q =
+      first_comes (stages_of p.form files words) due answer p.first
+      (subst (λ form. Answers (stages_of form files words) answer) (one_form words q.form p.form q.is_form p.is_form) q.answers)
+
+  pub due_complete : (files : Contents) (words : List (List ℕ)) (before after : Counts) (answer : Option Fault) → Due files words None → MayAnswer files words answer → HasFaults before after answer → NoFaults before after → IsDoneOrMemory answer
+  due_complete files words before after answer p q rose none = done before after answer (due_comes files words None answer p q) rose none

@@ -1,0 +1,45 @@
+-- Each stage finds one fault at most, but for how many bytes of a file that is too long were seen.
+use Rattle.std.proofs.Common.{ℕ, ◌≡◌, ◌≢◌, List, ap}
+use Rattle.blif_read.specs.Parts.{NetView}
+use Rattle.cell_library.specs.Library.{LibraryView}
+use Rattle.geom.specs.declared.shapes.Flat.{Flat}
+use Rattle.geom.specs.declared.layout.Layout.{Layout}
+use Rattle.gds_records.specs.Stream.{IsStream}
+use Rattle.gds_records.specs.Faults.{StreamFault}
+use Rattle.gds_records.specs.declared.fault.StreamKind.{StreamKind}
+use Rattle.layout_rules.specs.declared.rule.Rule.{Rule}
+use Rattle.layout_rules.specs.declared.rule.Rule.TheVariants.{E1, E2, E6}
+use Rattle.layout_rules.specs.Limits.{Limits}
+use Rattle.layout_rules.specs.Rules.{Keeps, FirstBroken}
+use Rattle.layout_rules.specs.RuleLaws.{IsOneReport}
+use Rattle.shape_extract.specs.Circuits.{CircuitView}
+use Rattle.shape_extract.specs.Extraction.{IsCircuitOf}
+use Rattle.chip_plan.specs.Plans.{IsWithin}
+use Rattle.chip_plan.specs.Refusals.{Refuses}
+use Rattle.chip_plan.specs.declared.refusal.PlanRefusal.{PlanRefusal}
+use Rattle.chip_plan.specs.declared.refusal.PlanRefusal.TheVariants as plan
+use Rattle.aqfp_top.specs.Stages as stage
+use Rattle.aqfp_top.specs.Stages.{Stage, Finds}
+use Rattle.aqfp_top.specs.Due.{untaken}
+use Rattle.aqfp_top.specs.declared.fault.Fault.{Fault}
+use Rattle.aqfp_top.proofs.OneDue.{one_form_fault, one_load_fault}
+use Rattle.aqfp_top.proofs.OneFault.{one_netlist_fault, one_cells_fault, one_plan_fault, one_own_plan_fault}
+use Rattle.aqfp_top.proofs.OneCheck.{one_stream_fault, one_size_fault, one_rule_fault, one_words_fault}
+
+module _ (past : (l : LibraryView) (net : NetView) (refusal : PlanRefusal) → refusal ≢ plan.Memory → Refuses l net refusal → IsWithin l net → ⊥)
+    (only : (l : LibraryView) (net : NetView) (one other : PlanRefusal) → one ≢ plan.Memory → other ≢ plan.Memory → Refuses l net one → Refuses l net other → one ≡ other)
+    (one_layout : (bytes : List ℕ) (layout other : Layout) → IsStream bytes layout → IsStream bytes other → layout ≡ other)
+    (one_fault : (bytes : List ℕ) (offset other : ℕ) (kind second : StreamKind) → StreamFault bytes offset kind → StreamFault bytes other second → (offset ≡ other) × (kind ≡ second))
+    (broken_once : (flat : Flat) (limits : Limits) (rule other : Rule) (a b c d : ℕ) → FirstBroken flat limits rule a b → FirstBroken flat limits other c d → IsOneReport rule other a b c d)
+    (one_circuit : (flat : Flat) (limits : Limits) (first second : CircuitView) → Keeps E1 flat limits → Keeps E2 flat limits → Keeps E6 flat limits → IsCircuitOf flat first → IsCircuitOf flat second → first ≡ second) where
+  pub once : (s : Stage) (f g : Fault) → Finds s f → Finds s g → untaken f ≡ untaken g
+  once stage.Form f g p q = ap untaken (one_form_fault f g p q)
+  once (stage.Loading load file) f g p q = one_load_fault load file f g p q
+  once (stage.Netlist net) f g p q = ap untaken (one_netlist_fault net f g p q)
+  once (stage.Cells lib) f g p q = ap untaken (one_cells_fault lib f g p q)
+  once (stage.Plan net lib) f g p q = ap untaken (one_plan_fault past only net lib f g p q)
+  once (stage.PlanWith net cells) f g p q = ap untaken (one_own_plan_fault past only net cells f g p q)
+  once (stage.Stream gds) f g p q = ap untaken (one_stream_fault one_fault gds f g p q)
+  once (stage.Size gds) f g p q = ap untaken (one_size_fault one_layout gds f g p q)
+  once (stage.Rules gds lib) f g p q = ap untaken (one_rule_fault one_layout broken_once gds lib f g p q)
+  once (stage.Words gds lib text) f g p q = ap untaken (one_words_fault one_layout one_circuit gds lib text f g p q)

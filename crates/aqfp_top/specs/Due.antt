@@ -1,0 +1,85 @@
+-- What is due for the words of a command line over the files of a store, and what may be answered.
+use Rattle.std.specs.Prelude.{ℕ, ◌≡◌, List, [], ◌∷◌, ◌++◌, map, Option, Some, None, option_map, unwrap_or}
+use Rattle.aq_base.specs.Store.{Contents}
+use Rattle.cell_library.specs.LibraryA.{library_a_view}
+use Rattle.sample_adder.specs.Adder.{adder}
+use Rattle.aqfp_top.specs.Words.{word_at, IsOfForm}
+use Rattle.aqfp_top.specs.Loads.{Load, build_loads, check_loads}
+use Rattle.aqfp_top.specs.Stages as stage
+use Rattle.aqfp_top.specs.Stages.{Stage, IsFirst}
+use Rattle.aqfp_top.specs.declared.words.Form.{Form}
+use Rattle.aqfp_top.specs.declared.words.Form.TheVariants.{Build, Verify, Trace, Sample, Wrong}
+use Rattle.aqfp_top.specs.declared.fault.Fault.{Fault}
+use Rattle.aqfp_top.specs.declared.fault.Fault.TheVariants.{TooLong, ReadFault, WriteFault, Memory}
+
+-- the file under the name at a place of the words, if there is one, and its bytes
+abbrev pub file_at : Contents → List (List ℕ) → ℕ → Option (List ℕ)
+file_at files words place = files (word_at words place)
+
+abbrev pub bytes_at : Contents → List (List ℕ) → ℕ → List ℕ
+bytes_at files words place = unwrap_or (file_at files words place) []
+
+-- loads, in turn
+abbrev pub loading : Contents → List (List ℕ) → List Load → List Stage
+loading files words loads = map (λ load. stage.Loading load (file_at files words load.place)) loads
+
+-- judging the texts of a netlist and of a library, and the texts of a chip, of a library and of words
+abbrev pub design_stages : List ℕ → List ℕ → List Stage
+design_stages net lib = stage.Netlist net ∷ stage.Cells lib ∷ stage.Plan net lib ∷ []
+
+abbrev pub judging_stages : List ℕ → List ℕ → List ℕ → List Stage
+judging_stages gds lib text =
+    stage.Stream gds ∷ stage.Size gds ∷ stage.Cells lib ∷ stage.Rules gds lib ∷ stage.Words gds lib text ∷ []
+
+-- the stages of the commands
+abbrev pub build_stages : Contents → List (List ℕ) → List Stage
+build_stages files words =
+    loading files words build_loads ++ design_stages (bytes_at files words 1) (bytes_at files words 2)
+
+abbrev pub check_stages : Contents → List (List ℕ) → List Stage
+check_stages files words = loading files words check_loads
+    ++ judging_stages (bytes_at files words 1) (bytes_at files words 2) (bytes_at files words 3)
+
+abbrev pub sample_stages : ℕ → List Stage
+sample_stages bits = stage.Netlist (adder bits) ∷ stage.PlanWith (adder bits) library_a_view ∷ []
+
+-- the stages of words of a form
+abbrev pub stages_of : Form → Contents → List (List ℕ) → List Stage
+stages_of Build files words = build_stages files words
+stages_of Verify files words = check_stages files words
+stages_of Trace files words = check_stages files words
+stages_of (Sample bits) files words = sample_stages bits
+stages_of Wrong files words = stage.Form ∷ []
+
+-- the answer is due: the fault that the first stage finds that finds one, and none where no stage does
+pub record Due (files : Contents) (words : List (List ℕ)) (answer : Option Fault) : Type 0 where
+  pub form : Form
+  pub is_form : IsOfForm words form
+  pub first : IsFirst (stages_of form files words) answer
+
+-- the answer is what the stages of the words may answer: what is due, or want of memory, or a fault of the outside
+pub record MayAnswer (files : Contents) (words : List (List ℕ)) (answer : Option Fault) : Type 0 where
+  pub form : Form
+  pub is_form : IsOfForm words form
+  pub answers : stage.Answers (stages_of form files words) answer
+
+-- a fault but for how many bytes of a file that is too long were seen
+abbrev pub untaken : Fault → Fault
+untaken (TooLong place taken) = TooLong place 0
+untaken fault = fault
+
+abbrev pub IsSameAnswer : Option Fault → Option Fault → Type 0
+IsSameAnswer one other = option_map untaken one ≡ option_map untaken other
+
+-- the answer is the one that is due, or yields to want of memory or to a fault of the outside
+abbrev pub IsDueOrYields : Option Fault → Option Fault → Type 0
+IsDueOrYields due (Some Memory) = Unit {0}
+IsDueOrYields due (Some (ReadFault place)) = Unit {0}
+IsDueOrYields due (Some (WriteFault call)) = due ≡ None
+IsDueOrYields due answer = IsSameAnswer answer due
+
+-- the work was done, but for want of memory
+abbrev pub IsDoneOrMemory : Option Fault → Type 0
+IsDoneOrMemory None = Unit {0}
+IsDoneOrMemory (Some Memory) = Unit {0}
+IsDoneOrMemory _ = ⊥

@@ -1,0 +1,55 @@
+-- Which faults the commands may answer, whatever the store tells.
+use Rattle.std.specs.Prelude.{ℕ, ◌≡◌, List}
+use Rattle.aqfp_top.specs.Loads.{build_loads, check_loads, IsLoaded, IsPast}
+use Rattle.aqfp_top.specs.Words.{IsBuild, IsCheck, IsSample, HasForm}
+use Rattle.aqfp_top.specs.Lines.{HasPlace}
+use Rattle.aqfp_top.specs.declared.fault.Large.TheVariants.{Shapes}
+use Rattle.aqfp_top.specs.declared.fault.WriteCall.TheVariants.{Out}
+use Rattle.aqfp_top.specs.declared.fault.Fault.{Fault}
+use Rattle.aqfp_top.specs.declared.fault.Fault.TheVariants.{Usage, Absent, TooLong, ReadFault, WriteFault, BadBlif, BadLibrary, MissingCell, TooLarge, BadStream, RuleBroken, BadWords, Memory}
+
+-- a build's: none of words, of a stream or of rules
+abbrev pub IsBuildFault : Fault → Type 0
+IsBuildFault (Absent place) = IsLoaded build_loads place
+IsBuildFault (TooLong place taken) = IsPast build_loads place taken
+IsBuildFault (ReadFault place) = IsLoaded build_loads place
+IsBuildFault (WriteFault call) = Unit {0}
+IsBuildFault (BadBlif fault) = Unit {0}
+IsBuildFault (BadLibrary fault) = Unit {0}
+IsBuildFault (MissingCell kind) = Unit {0}
+IsBuildFault (TooLarge Shapes count) = ⊥
+IsBuildFault (TooLarge what count) = Unit {0}
+IsBuildFault Memory = Unit {0}
+IsBuildFault _ = ⊥
+
+-- a check's: none of a netlist or of a plan, nor of writing but to `out`
+abbrev pub IsCheckFault : Fault → Type 0
+IsCheckFault (Absent place) = IsLoaded check_loads place
+IsCheckFault (TooLong place taken) = IsPast check_loads place taken
+IsCheckFault (ReadFault place) = IsLoaded check_loads place
+IsCheckFault (WriteFault call) = call ≡ Out
+IsCheckFault (BadLibrary fault) = Unit {0}
+IsCheckFault (MissingCell kind) = Unit {0}
+IsCheckFault (TooLarge Shapes count) = Unit {0}
+IsCheckFault (BadStream offset kind) = Unit {0}
+IsCheckFault (RuleBroken rule first second) = Unit {0}
+IsCheckFault (BadWords line) = Unit {0}
+IsCheckFault Memory = Unit {0}
+IsCheckFault _ = ⊥
+
+-- a sample's: none of a file, a library or words, nor of writing but to `out`
+abbrev pub IsSampleFault : Fault → Type 0
+IsSampleFault (WriteFault call) = call ≡ Out
+IsSampleFault (BadBlif fault) = Unit {0}
+IsSampleFault (TooLarge Shapes count) = ⊥
+IsSampleFault (TooLarge what count) = Unit {0}
+IsSampleFault Memory = Unit {0}
+IsSampleFault _ = ⊥
+
+-- the faults that words may lead to; the place that one names is one of the words
+pub record RunsOnly (words : List (List ℕ)) (fault : Fault) : Type 0 where
+  pub build : IsBuild words → IsBuildFault fault
+  pub check : IsCheck words → IsCheckFault fault
+  pub sample : IsSample words → IsSampleFault fault
+  pub otherwise : ¬ HasForm words → fault ≡ Usage
+  pub place : HasPlace words fault

@@ -1,0 +1,28 @@
+-- What `verify` finds and prints of a chip that `build` stored, with the library that it was built with.
+use Rattle.std.specs.Prelude.{◌≡◌, ℕ, ◌<◌, Bool, List, ◌++◌, length}
+use Rattle.std.specs.List.{AllZip, flat_map}
+use Rattle.blif_read.specs.Parts.{NetView}
+use Rattle.blif_read.specs.Equations.{IsAnswer}
+use Rattle.cell_library.specs.Library.{LibraryView}
+use Rattle.shape_extract.specs.Circuits.{CircuitView}
+use Rattle.chip_texts.specs.WordsText.{words_of}
+use Rattle.chip_texts.specs.WordLines.{word_line, answers_to, answers_text}
+use Rattle.drawn_chip.specs.RealisesNet.{most_bytes}
+use Rattle.aqfp_top.specs.Checks.{IsSound, SaysSound}
+use Rattle.aqfp_top.specs.Designs.{stream_of, counts_of}
+
+-- what is printed of the circuit and words: the counts line of the netlist's chip, and a line for the netlist's answer
+-- to each word
+pub record PrintsAsNet (net : NetView) (cells : LibraryView) (circuit : CircuitView) (words : List (List Bool))
+    : Type 0 where
+  pub answers : List (List Bool)
+  pub are_answers : AllZip (IsAnswer net) words answers
+  pub printed : answers_text circuit (answers_to circuit words) ≡ counts_of net cells ++ flat_map word_line answers
+
+-- The stored bytes are short enough to be read, nothing is wrong with them, the library's text and the words, and
+-- whatever circuit is found in them is printed as the netlist.
+pub record VerifiesAsNet (net : NetView) (cells : LibraryView) (lib text : List ℕ) : Type 0 where
+  pub short : length (stream_of net cells) < most_bytes
+  pub sound : SaysSound (stream_of net cells) lib text
+  pub prints : (circuit : CircuitView) → IsSound (stream_of net cells) lib text circuit
+      → PrintsAsNet net cells circuit (words_of text)

@@ -1,0 +1,75 @@
+-- The stages of the work of a command, which fault each finds, and which answer is due after them.
+use Rattle.std.specs.Prelude.{ℕ, ◌≡◌, ◌⊎◌, ◌<◌, List, [], ◌∷◌, length, Option, Some, None, IsSomeAnd}
+use Rattle.cell_library.specs.Library.{LibraryView}
+use Rattle.aqfp_top.specs.Loads.{Load}
+use Rattle.aqfp_top.specs.Designs.{HasNetlist, HasDesign, IsNetlistFault, IsCellsFault, IsPlanFault}
+use Rattle.aqfp_top.specs.Checks.{IsStreamFault, IsSizeFault, IsRuleFault, IsWordsFault}
+use Rattle.aqfp_top.specs.declared.fault.Fault.{Fault}
+use Rattle.aqfp_top.specs.declared.fault.Fault.TheVariants.{Usage, Absent, TooLong, ReadFault, WriteFault, Memory}
+
+-- A stage, and what it judges: the words, which have no form; a file, if there is one under its name; or texts, which
+-- are the bytes of files. A sample plans with a library that is known.
+pub data Stage : Type 0 where
+  Form : Stage
+  Loading : (load : Load) (file : Option (List ℕ)) → Stage
+  Netlist : (net : List ℕ) → Stage
+  Cells : (lib : List ℕ) → Stage
+  Plan : (net lib : List ℕ) → Stage
+  PlanWith : (net : List ℕ) (cells : LibraryView) → Stage
+  Stream : (gds : List ℕ) → Stage
+  Size : (gds : List ℕ) → Stage
+  Rules : (gds lib : List ℕ) → Stage
+  Words : (gds lib text : List ℕ) → Stage
+
+-- the words have no form
+abbrev pub IsFormFault : Fault → Type 0
+IsFormFault Usage = Unit {0}
+IsFormFault _ = ⊥
+
+-- the file is absent; or it is longer than its limit, of which more bytes were seen
+abbrev pub IsLoadFault : Load → Option (List ℕ) → Fault → Type 0
+IsLoadFault load file (Absent place) = (place ≡ load.place) × (file ≡ None)
+IsLoadFault load file (TooLong place taken) =
+    (place ≡ load.place) × IsSomeAnd file (λ bytes. load.limit < length bytes) × (load.limit < taken)
+IsLoadFault load file _ = ⊥
+
+-- the stage finds this fault
+abbrev pub Finds : Stage → Fault → Type 0
+Finds Form fault = IsFormFault fault
+Finds (Loading load file) fault = IsLoadFault load file fault
+Finds (Netlist net) fault = IsNetlistFault net fault
+Finds (Cells lib) fault = IsCellsFault lib fault
+Finds (Plan net lib) fault = HasDesign net lib (λ equations cells. IsPlanFault equations cells fault)
+Finds (PlanWith net cells) fault = HasNetlist net (λ equations. IsPlanFault equations cells fault)
+Finds (Stream gds) fault = IsStreamFault gds fault
+Finds (Size gds) fault = IsSizeFault gds fault
+Finds (Rules gds lib) fault = IsRuleFault gds lib fault
+Finds (Words gds lib text) fault = IsWordsFault gds lib text fault
+
+abbrev pub FindsNone : Stage → Type 0
+FindsNone stage = (fault : Fault) → ¬ Finds stage fault
+
+-- the first of the stages that finds a fault finds this one; none, where no stage finds one
+abbrev pub IsFirst : List Stage → Option Fault → Type 0
+IsFirst [] None = Unit {0}
+IsFirst [] (Some fault) = ⊥
+IsFirst (stage ∷ stages) None = FindsNone stage × IsFirst stages None
+IsFirst (stage ∷ stages) (Some fault) = Finds stage fault ⊎ (FindsNone stage × IsFirst stages (Some fault))
+
+-- the stage loads the file that the word at a place names
+abbrev pub LoadsAt : Stage → ℕ → Type 0
+LoadsAt (Loading load file) place = place ≡ load.place
+LoadsAt _ place = ⊥
+
+-- the work comes to that load: no stage before it finds a fault
+abbrev pub IsReached : List Stage → ℕ → Type 0
+IsReached [] place = ⊥
+IsReached (stage ∷ stages) place = LoadsAt stage place ⊎ (FindsNone stage × IsReached stages place)
+
+-- What the stages may answer: what is due; or want of memory; a failed load that the work comes to; or a refused write,
+-- where nothing is due.
+abbrev pub Answers : List Stage → Option Fault → Type 0
+Answers stages (Some Memory) = Unit {0}
+Answers stages (Some (ReadFault place)) = IsReached stages place
+Answers stages (Some (WriteFault call)) = IsFirst stages None
+Answers stages answer = IsFirst stages answer

@@ -1,0 +1,36 @@
+// The law that joins the commands: what one stores, the other accepts and prints.
+ghost use Rattle.std.specs.Prelude.{ℕ, ◌≤◌, ◌^◌, List, length};
+ghost use Rattle.blif_read.specs.Parts.{NetView};
+ghost use Rattle.cell_library.specs.Library.{LibraryView};
+ghost use Rattle.chip_texts.specs.WordsText.{SaysWords};
+ghost use Rattle.aqfp_top.specs.Designs.{SaysDesign, KeepsLimits};
+ghost use Rattle.aqfp_top.specs.Joined.{VerifiesAsNet};
+
+use blif_read::each_netlist;
+use cell_library::each_library;
+use chip_plan::plan_laws;
+use chip_texts::answers_are_shown;
+use drawn_chip::drawn_chip_realises;
+use gds_records::{one_layout, written_is_read};
+use layout_make::drawing_laws;
+use pulse_sim::shown_once;
+use shape_extract::one_circuit;
+
+/// What `build` stores, `verify` with the same library accepts, whatever words with a value for each input of the
+/// netlist are given, and prints as the chip's counts and the netlist's answer to each word.
+pub fn built_is_verified()
+    ensures { (net_text lib text : List ℕ) (net : NetView) (cells : LibraryView) → length net_text ≤ 2 ^ 28
+        → SaysDesign net_text lib net cells → KeepsLimits net cells → SaysWords net.inputs text
+        → VerifiesAsNet net cells lib text }
+{
+    each_netlist();
+    each_library();
+    plan_laws();
+    drawing_laws();
+    written_is_read();
+    drawn_chip_realises();
+    one_layout();
+    one_circuit();
+    answers_are_shown();
+    shown_once();
+}
