@@ -4,7 +4,7 @@ _aqfp() {
     local place=$COMP_CWORD
     COMPREPLY=()
     if [ "$place" -eq 1 ]; then
-        mapfile -t COMPREPLY < <(compgen -W "build verify trace --help --version" -- "$word")
+        mapfile -t COMPREPLY < <(compgen -W "build verify trace sample --help --version" -- "$word")
         return
     fi
     local endings
