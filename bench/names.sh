@@ -62,10 +62,10 @@ sys.stdout.buffer.write(b"".join(out))
 END
 }
 
-# The milliseconds of a command.
+# The milliseconds of processor time that a command takes.
 took() {
-    /usr/bin/time -f %e -o "$work/time" "$@" >/dev/null 2>"$work/err"
-    awk 'END { printf "%d", $1 * 1000 }' "$work/time"
+    /usr/bin/time -f '%U %S' -o "$work/time" "$@" >/dev/null 2>"$work/err"
+    awk 'END { printf "%d", ($1 + $2) * 1000 }' "$work/time"
 }
 
 for kind in netlist stream; do
