@@ -1,5 +1,6 @@
--- The tracks of a channel: wires by rising lower end column, each on the lowest track whose last wire ended in a lower
--- column.
+-- The tracks of a channel by the left-edge algorithm of channel routing: wires by rising lower end column, each on the
+-- lowest track whose last wire ended in a lower column. No two pins of a channel share a column, so there are no
+-- constraints from above or below.
 use Rattle.std.specs.Prelude.{◌≡◌, ℕ, suc, ◌<◌, true, cond, nat_lt, List, [], ◌∷◌, length, slice_index_or, map, ◌==◌}
 use Rattle.std.specs.List.{filter}
 use Rattle.rowed.specs.Sorting.{by_key}

@@ -1,4 +1,4 @@
--- The drawing of a placed net: a structure for each kind of cell that it uses, and then the top.
+-- The drawing of a placed net, its layout generation: a structure for each kind of cell that it uses, and then the top.
 use Rattle.std.specs.Prelude.{ℕ, ◌+◌, ◌-◌, ◌*◌, ◌/◌, ◌==◌, Bool, true, false, List, [], ◌∷◌, ◌++◌, length, map, pos}
 use Rattle.std.specs.Prelude.{codes}
 use Rattle.std.specs.List.{flat_map, filter, list_any}

@@ -1,4 +1,5 @@
--- The plan of the mapping: signals that the outputs need, in the order in which a depth-first walk leaves them.
+-- The plan of the mapping, which is technology mapping to a majority-inverter graph by fixed recipes: signals that the
+-- outputs need, in the order in which a depth-first walk leaves them.
 use Rattle.std.specs.Prelude.{ℕ, zero, suc, ◌+◌, ◌-◌, Bool, true, false, ltb, List, [], ◌∷◌, ◌++◌, map, length, replicate, slice_get, slice_index_or, slice_set, Option, Some, None, unwrap_or}
 use Rattle.std.specs.List.{fold}
 use Rattle.circuit.specs.declared.gate.Gate.{Gate}
