@@ -3,7 +3,7 @@ use Rattle.std.proofs.Common.{ℕ, ◌≡◌, ◌≤◌, Bool, List, ◌∷◌, 
 use Rattle.std.specs.Result.{result_err}
 use Rattle.aq_base.specs.Causes.{Rose}
 use Rattle.aq_base.specs.Store.{Contents, gained, GainsPrefix}
-use Rattle.shape_extract.specs.Circuits.{CircuitView, KeepsFacts}
+use Rattle.chip_circuit.specs.Circuits.{CircuitView, KeepsFacts}
 use Rattle.chip_texts.specs.WordsText.{words_of}
 use Rattle.aqfp_top.specs.Counted.{Counts, HasFaults, FailedLoad}
 use Rattle.aqfp_top.specs.Loads.{gds_limit, lib_limit, words_limit, check_loads}

@@ -10,7 +10,7 @@ use Rattle.rowed.specs.RowNets.{IsAnswer}
 use Rattle.cell_library.specs.Library.{LibraryView, limits_of}
 use Rattle.cell_library.specs.Laws.{IsLibrary}
 use Rattle.gds_records.specs.Writing.{bytes_of}
-use Rattle.shape_extract.specs.Circuits.{CircuitView}
+use Rattle.chip_circuit.specs.Circuits.{CircuitView}
 use Rattle.layout_make.specs.Draw.{draw}
 use Rattle.layout_make.specs.MayDraw.{MayDraw}
 use Rattle.layout_make.specs.Size.{element_number, element_limit}

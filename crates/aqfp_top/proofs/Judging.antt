@@ -10,7 +10,7 @@ use Rattle.gds_read.specs.declared.refusal.StreamRefusal.{StreamRefusal}
 use Rattle.gds_read.specs.declared.refusal.StreamRefusal.TheVariants.{TooManyShapes}
 use Rattle.cell_library.specs.Library.{LibraryView, limits_of}
 use Rattle.cell_library.specs.Says as library
-use Rattle.shape_extract.specs.Circuits.{CircuitView}
+use Rattle.chip_circuit.specs.Circuits.{CircuitView}
 use Rattle.layout_rules.specs.declared.rule.Rule.{Rule}
 use Rattle.layout_rules.specs.Limits.{Limits}
 use Rattle.layout_rules.specs.Rules.{KeepsRules, FirstBroken}

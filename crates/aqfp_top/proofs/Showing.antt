@@ -1,7 +1,7 @@
 -- What a check that ends well has shown.
 use Rattle.std.proofs.Common.{ℕ, ◌≡◌, Bool, List, length, Option, Some, None, All, refl, subst}
 use Rattle.aq_base.specs.Store.{Contents, gained}
-use Rattle.shape_extract.specs.Circuits.{CircuitView, KeepsFacts}
+use Rattle.chip_circuit.specs.Circuits.{CircuitView, KeepsFacts}
 use Rattle.pulse_sim.specs.Shows.{Shows}
 use Rattle.chip_texts.specs.Counts.{delay_of}
 use Rattle.chip_texts.specs.WordsText.{words_of}

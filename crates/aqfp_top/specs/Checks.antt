@@ -9,7 +9,7 @@ use Rattle.gds_read.specs.Reading.{IsReadAs, IsTooLarge}
 use Rattle.layout_rules.specs.declared.rule.Rule.{Rule}
 use Rattle.layout_rules.specs.Rules.{KeepsRules, FirstBroken}
 use Rattle.cell_library.specs.Library.{limits_of}
-use Rattle.shape_extract.specs.Circuits.{CircuitView, KeepsFacts}
+use Rattle.chip_circuit.specs.Circuits.{CircuitView, KeepsFacts}
 use Rattle.shape_extract.specs.Extraction.{IsCircuitOf}
 use Rattle.chip_texts.specs.WordsText.{words_of, SaysWords, IsBadLine}
 use Rattle.chip_texts.specs.WordLines.{answers_to, answers_text}

@@ -9,7 +9,7 @@ use Rattle.blif_read.specs.Says as netlist
 use Rattle.blif_read.specs.Equations.{IsAnswer}
 use Rattle.cell_library.specs.Library.{LibraryView, limits_of}
 use Rattle.cell_library.specs.Says as library
-use Rattle.shape_extract.specs.Circuits.{CircuitView, KeepsFacts}
+use Rattle.chip_circuit.specs.Circuits.{CircuitView, KeepsFacts}
 use Rattle.layout_make.specs.Draw.{draw}
 use Rattle.chip_plan.specs.Plans.{chip_of}
 use Rattle.chip_texts.specs.Counts.{counts_line, delay_of}

@@ -4,7 +4,7 @@ use Rattle.std.specs.List.{AllZip, flat_map}
 use Rattle.blif_read.specs.Parts.{NetView}
 use Rattle.blif_read.specs.Equations.{IsAnswer}
 use Rattle.cell_library.specs.Library.{LibraryView}
-use Rattle.shape_extract.specs.Circuits.{CircuitView}
+use Rattle.chip_circuit.specs.Circuits.{CircuitView}
 use Rattle.chip_texts.specs.WordsText.{words_of}
 use Rattle.chip_texts.specs.WordLines.{word_line, answers_to, answers_text}
 use Rattle.drawn_chip.specs.RealisesNet.{most_bytes}

@@ -7,7 +7,7 @@ use Rattle.gds_records.specs.Stream.{IsStream}
 use Rattle.cell_library.specs.Library.{LibraryView, limits_of}
 use Rattle.cell_library.specs.Says as library
 use Rattle.layout_rules.specs.Rules.{KeepsRules}
-use Rattle.shape_extract.specs.Circuits.{CircuitView}
+use Rattle.chip_circuit.specs.Circuits.{CircuitView}
 use Rattle.shape_extract.specs.Extraction.{IsCircuitOf}
 use Rattle.pulse_sim.specs.Shows.{Shows}
 use Rattle.chip_texts.specs.Counts.{delay_of}

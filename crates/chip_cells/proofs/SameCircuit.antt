@@ -16,11 +16,11 @@ use Rattle.circuit.specs.declared.gate.Gate.TheVariants as gate
 use Rattle.circuit.specs.declared.cell_kind.CellKind.{CellKind}
 use Rattle.circuit.specs.declared.cell_kind.CellKind.TheVariants.{Buffer, Inverter, Zero, One, Split2, Split3, Majority}
 use Rattle.rowed.specs.declared.source.Source.{Source}
-use Rattle.shape_extract.specs.declared.cells.Feed.{Feed}
-use Rattle.shape_extract.specs.declared.cells.Feed.TheVariants.{Nothing, Pin, Label}
-use Rattle.shape_extract.specs.declared.cells.ExCell.{ExCell}
-use Rattle.shape_extract.specs.Circuits.{CircuitView, IsCellAt, IsFeedOf, feed_at, KeepsFacts}
-use Rattle.shape_extract.specs.Answers.{feed_value, cell_value, IsValuation, values_at, IsAnswer}
+use Rattle.chip_circuit.specs.declared.cells.Feed.{Feed}
+use Rattle.chip_circuit.specs.declared.cells.Feed.TheVariants.{Nothing, Pin, Label}
+use Rattle.chip_circuit.specs.declared.cells.ExCell.{ExCell}
+use Rattle.chip_circuit.specs.Circuits.{CircuitView, IsCellAt, IsFeedOf, feed_at, KeepsFacts}
+use Rattle.chip_circuit.specs.Answers.{feed_value, cell_value, IsValuation, values_at, IsAnswer}
 use Rattle.decide.specs.CellNets.{Reads, IsCells}
 use Rattle.std.specs.Prelude.{All}
 use Rattle.chip_cells.specs.CellGates.{FeedsFit, feed_gate, gate_by, gate_of, inputs_to, cells_of}

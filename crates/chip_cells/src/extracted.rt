@@ -2,13 +2,13 @@
 ghost use Rattle.std.specs.Prelude.{◌≡◌, ℕ, ◌+◌, ◌<◌, ◌^◌, ◌++◌, All, length, map, IfOk};
 ghost use Rattle.circuit.specs.SameAnswers.{SameAnswers};
 ghost use Rattle.circuit.specs.PlainNets as plain;
-ghost use Rattle.shape_extract.specs.Answers.{IsAnswer};
+ghost use Rattle.chip_circuit.specs.Answers.{IsAnswer};
 ghost use Rattle.chip_cells.specs.CellGates.{feed_gate, FeedsFit, gate_of, inputs_to, cells_of};
 
 use aq_base::{List, Memory};
+use chip_circuit::{ExCell, Extracted, Feed, Source};
 use circuit::{CellKind, Gate};
 use decide::Cells;
-use shape_extract::{ExCell, Extracted, Feed, Source};
 use std::alloc::Global;
 
 /// The number of the gate that a feed names, of so many inputs.

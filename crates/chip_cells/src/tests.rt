@@ -1,53 +1,17 @@
 // The first chip, two buffers one above the other, against a wire and against an inverter.
 ghost use Rattle.std.specs.Prelude.{◌≡◌, ◌<◌, IfOk, length};
-ghost use Rattle.circuit.specs.declared.cell_kind.CellKind.TheVariants.{Buffer};
-ghost use Rattle.shape_extract.specs.declared.cells.Feed.TheVariants.{Nothing};
-ghost use Rattle.shape_extract.specs.FirstCircuit.{first_circuit};
+ghost use Rattle.chip_circuit.specs.FirstCircuit.{first_circuit};
 
 use crate::extracted_cells;
 use aq_base::{List, Memory};
-use circuit::{CellKind, Gate, answer_word};
+use chip_circuit::two_buffers;
+use circuit::{Gate, answer_word};
 use decide::{Cells, Verdict, decide};
-use shape_extract::{ExCell, Extracted, Feed, Source, first_chip_extracted};
 use std::alloc::Global;
 use std::test::Fail;
 
-fn buffer(row: u32, feed: Feed) -> ExCell
-    requires { row < 4 }
-    ensures { result ≡ record { kind = Buffer; row = row; phase = row; feed0 = feed; feed1 = Nothing; feed2 = Nothing } }
-{
-    ExCell {
-        kind: CellKind::Buffer,
-        row,
-        phase: row as u16,
-        feed0: feed,
-        feed1: Feed::Nothing,
-        feed2: Feed::Nothing,
-    }
-}
-
-fn two_buffers(alloc: Global) -> Result<Extracted, Memory>
-    ensures { IfOk result (λ circuit. circuit ≡ first_circuit) }
-{
-    first_chip_extracted();
-    let mut cells = List::new(alloc);
-    cells.push(buffer(0, Feed::Label(0)))?;
-    cells.push(buffer(1, Feed::Pin { cell: 0, output: 0 }))?;
-    let mut outputs = List::new(alloc);
-    outputs.push(Source { cell: 1, output: 0 })?;
-    let nets = [0, 1, 2, 3, 4, 2, 2, 2, 2, 2, 10, 2, 12, 13, 14].to_vec(alloc)?;
-    Ok(Extracted {
-        cells,
-        inputs: 1,
-        outputs,
-        rows: 2,
-        wires: 1,
-        nets: List::from_vec(nets),
-    })
-}
-
 // The chip's gates.
-#[tactic(auto, unfolding(shape_extract::specs::FirstCircuit::first_circuit))]
+#[tactic(auto, unfolding(chip_circuit::specs::FirstCircuit::first_circuit))]
 fn chip(alloc: Global) -> Result<Cells, Memory>
     ensures inputs { IfOk result (λ c. c.inputs ≡ 1) }
     ensures outputs { IfOk result (λ c. length c.outputs ≡ 1) }

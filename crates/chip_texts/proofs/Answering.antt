@@ -5,7 +5,7 @@ use Rattle.std.proofs.lemmas.List.Concat.{flat_map-append}
 use Rattle.aq_base.specs.Store.{gained, GainsPrefix}
 use Rattle.aq_base.specs.declared.store.StoreRefusal.{StoreRefusal}
 use Rattle.aq_base.proofs.Gains.{prefix_of_first}
-use Rattle.shape_extract.specs.Circuits.{CircuitView}
+use Rattle.chip_circuit.specs.Circuits.{CircuitView}
 use Rattle.chip_texts.specs.Counts.{counts_line, delay_of}
 use Rattle.chip_texts.specs.WordLines.{word_line, values_at, first_answers, answers_to, answers_text}
 use Rattle.chip_texts.specs.Printing.{IsPrinted, PutsPage}

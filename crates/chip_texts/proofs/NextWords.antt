@@ -9,8 +9,8 @@ use Rattle.std.proofs.lemmas.Bool.{cases_eq}
 use Rattle.std.proofs.lemmas.List.{length-map, nil_from_length}
 use Rattle.std.proofs.lemmas.List.Elements.{All-drop, AllZip-get_or}
 use Rattle.std.proofs.lemmas.Option.{slice_get_within, slice_get-map, get_or_from_slice_get}
-use Rattle.shape_extract.specs.Circuits.{CircuitView, KeepsFacts}
-use Rattle.shape_extract.specs.Answers.{IsAnswer}
+use Rattle.chip_circuit.specs.Circuits.{CircuitView, KeepsFacts}
+use Rattle.chip_circuit.specs.Answers.{IsAnswer}
 use Rattle.chip_texts.specs.Code.NextWords.{IsNextOf}
 use Rattle.chip_texts.specs.Counts.{delay_of}
 use Rattle.chip_texts.specs.WordLines.{values_at, first_answers, answers_to}

@@ -3,8 +3,8 @@ use Rattle.std.proofs.Common.{◌≡◌, ℕ, zero, suc, ◌+◌, ◌*◌, ◌<�
 use Rattle.std.specs.List.{AllZip}
 use Rattle.std.proofs.lemmas.List.{take_more, take_all}
 use Rattle.std.proofs.lemmas.Option.{slice_get-get_or}
-use Rattle.shape_extract.specs.Circuits.{CircuitView}
-use Rattle.shape_extract.specs.Answers.{IsAnswer}
+use Rattle.chip_circuit.specs.Circuits.{CircuitView}
+use Rattle.chip_circuit.specs.Answers.{IsAnswer}
 use Rattle.pulse_sim.specs.Fluxes.{sign}
 use Rattle.pulse_sim.specs.Pulsing.{is_plus}
 use Rattle.pulse_sim.specs.Runs.{IsLegalRun}

@@ -1,7 +1,7 @@
 -- The counts line: how many rows, cells and wires a chip's circuit has, and after how many phases a word leaves it.
 use Rattle.std.specs.Prelude.{ℕ, ◌-◌, List, ◌++◌, codes, length}
 use Rattle.std.specs.Fmt.{decimal}
-use Rattle.shape_extract.specs.Circuits.{CircuitView}
+use Rattle.chip_circuit.specs.Circuits.{CircuitView}
 
 -- phases from a word's entry to its answer: one for each row but the lowest
 abbrev pub delay_of : CircuitView → ℕ

@@ -1,6 +1,6 @@
 -- Where a row's cells begin in the list of cells, which stand by rising row.
 use Rattle.std.specs.Prelude.{◌≡◌, ◌≢◌, ℕ, ◌<◌, ◌≤◌, Bool, true, false, List, length, slice_get, Some}
-use Rattle.shape_extract.specs.declared.cells.ExCell.{ExCell}
+use Rattle.chip_circuit.specs.declared.cells.ExCell.{ExCell}
 
 -- the cells before this number stand in lower rows, and the others in this row or above
 pub record IsRowStart (cells : List ExCell) (row first : ℕ) : Type 0 where

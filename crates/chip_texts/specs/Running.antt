@@ -1,7 +1,7 @@
 -- A run of a circuit under the words of a text: the circuit, the words and the time.
 use Rattle.std.specs.Prelude.{◌≡◌, ◌≢◌, ℕ, ◌+◌, ◌/◌, ◌%◌, Bool, All, List, length, drop, Option, Some, None, slice_get, cond}
 use Rattle.std.specs.Str.Lines.{lines}
-use Rattle.shape_extract.specs.Circuits.{CircuitView}
+use Rattle.chip_circuit.specs.Circuits.{CircuitView}
 use Rattle.pulse_sim.specs.Settled.{settled_run}
 use Rattle.pulse_sim.specs.Pulsing.{Pulsing}
 use Rattle.chip_texts.specs.WordsText.{words_of}

@@ -1,7 +1,7 @@
 -- Word lines: the answers that a circuit shows to words, each a line with a digit for each output.
 use Rattle.std.specs.Prelude.{ℕ, zero, suc, ◌+◌, ◌*◌, Bool, true, false, List, [], ◌∷◌, ◌++◌, codes, length, map}
 use Rattle.std.specs.List.{flat_map}
-use Rattle.shape_extract.specs.Circuits.{CircuitView}
+use Rattle.chip_circuit.specs.Circuits.{CircuitView}
 use Rattle.pulse_sim.specs.Pulsing.{is_plus}
 use Rattle.pulse_sim.specs.Settled.{settled_run}
 use Rattle.pulse_sim.specs.Shows.{fluxes_at}

@@ -15,8 +15,8 @@ use crate::page::{put_full_page, put_page};
 use crate::run::blank_word;
 use crate::words::{GivenWords, copy_word};
 use aq_base::{Memory, Sink, StoreRefusal};
+use chip_circuit::{Extracted, one_answer};
 use circuit::{Answers, Word};
-use shape_extract::{Extracted, one_answer};
 use std::alloc::Global;
 
 fn digit_of(value: bool) -> u8

@@ -3,7 +3,7 @@ ghost use Rattle.std.specs.Prelude.{◌≡◌, ◌++◌, OnOk};
 ghost use Rattle.chip_texts.specs.Counts.{counts_line};
 
 use aq_base::Memory;
-use shape_extract::Extracted;
+use chip_circuit::Extracted;
 use std::alloc::Global;
 
 /// Adds the counts line of a circuit to the page.

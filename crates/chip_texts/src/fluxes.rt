@@ -15,8 +15,8 @@ use crate::page::{put_full_page, put_page};
 use crate::run::Run;
 use crate::words::GivenWords;
 use aq_base::{Memory, Sink, StoreRefusal};
+use chip_circuit::{ExCell, Extracted};
 use pulse_sim::Flux;
-use shape_extract::{ExCell, Extracted};
 use std::alloc::Global;
 
 fn sign_of(flux: Flux) -> u8

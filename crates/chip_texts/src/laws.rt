@@ -1,14 +1,14 @@
 // What the printed answers are.
 ghost use Rattle.std.specs.Prelude.{◌≡◌, List, Bool, All, length};
 ghost use Rattle.std.specs.List.{AllZip};
-ghost use Rattle.shape_extract.specs.Circuits.{CircuitView, KeepsFacts};
-ghost use Rattle.shape_extract.specs.Answers.{IsAnswer};
+ghost use Rattle.chip_circuit.specs.Circuits.{CircuitView, KeepsFacts};
+ghost use Rattle.chip_circuit.specs.Answers.{IsAnswer};
 ghost use Rattle.pulse_sim.specs.Shows.{Shows};
 ghost use Rattle.chip_texts.specs.Counts.{delay_of};
 ghost use Rattle.chip_texts.specs.WordLines.{answers_to};
 
+use chip_circuit::one_answer;
 use pulse_sim::{every_order, settled_is_lawful};
-use shape_extract::one_answer;
 
 /// The answers that are read off the settled run are those of the circuit's functions, and the circuit shows them in
 /// every run, whatever the order of switching.

@@ -7,9 +7,9 @@ ghost use Rattle.chip_texts.specs.Running.{present_word, IsWaiting, IsFed};
 use crate::lines::first_line;
 use crate::words::{GivenWords, copy_word};
 use aq_base::{List, Memory};
+use chip_circuit::Extracted;
 use circuit::Word;
 use pulse_sim::{Flux, Pulses};
-use shape_extract::Extracted;
 use std::alloc::Global;
 use std::marker::Model;
 

@@ -16,9 +16,9 @@ use Rattle.rowed.specs.RowCells as rowed
 use Rattle.rowed.specs.RowNets.{cell_at, outputs_at, output_at, is_input, IsBefore, MayStand, last_of, IsAnswer}
 use Rattle.rowed.specs.PlacedNets.{PlacedView, IsPlaced}
 use Rattle.rowed.specs.Numbers.{numbers}
-use Rattle.shape_extract.specs.declared.cells.ExCell.{ExCell}
-use Rattle.shape_extract.specs.Answers.{feed_value, cell_value, IsValuation, values_at}
-use Rattle.shape_extract.specs.Answers as extracted
+use Rattle.chip_circuit.specs.declared.cells.ExCell.{ExCell}
+use Rattle.chip_circuit.specs.Answers.{feed_value, cell_value, IsValuation, values_at}
+use Rattle.chip_circuit.specs.Answers as extracted
 use Rattle.layout_make.specs.Spots.{spots, has_port, output_port}
 use Rattle.layout_make.specs.declared.spots.Spot.{Spot}
 use Rattle.drawn_chip.specs.DrawnCircuit.{cells_below, source_feed, port_feed, drawn_cell, drawn_row, output_place}

@@ -28,10 +28,10 @@ use Rattle.rowed.specs.RowNets.{last_of, is_input, pins_at}
 use Rattle.rowed.specs.PlacedNets.{PlacedView, IsPlaced}
 use Rattle.rowed.specs.Numbers.{numbers}
 use Rattle.cell_library.specs.Library.{LibraryView}
-use Rattle.shape_extract.specs.declared.cells.Feed.{Feed}
-use Rattle.shape_extract.specs.declared.cells.Feed.TheVariants.{Nothing, Pin}
-use Rattle.shape_extract.specs.declared.cells.ExCell.{ExCell}
-use Rattle.shape_extract.specs.Circuits.{feed_at}
+use Rattle.chip_circuit.specs.declared.cells.Feed.{Feed}
+use Rattle.chip_circuit.specs.declared.cells.Feed.TheVariants.{Nothing, Pin}
+use Rattle.chip_circuit.specs.declared.cells.ExCell.{ExCell}
+use Rattle.chip_circuit.specs.Circuits.{feed_at}
 use Rattle.shape_extract.specs.Frames.{comes_before, HasPlace, AreFrames}
 use Rattle.shape_extract.specs.Extraction.{IsNamed, IsOutputPin, IsDrivenBy, FeedsPin, IsFeedAt, IsInPhase, IsCellFrom}
 use Rattle.shape_extract.specs.Extraction.{IsOutputFrom, is_wired, IsCircuitOf}

@@ -15,8 +15,8 @@ use Rattle.layout_rules.specs.Rules.{KeepsRules}
 use Rattle.layout_rules.proofs.NetsExist.{some_nets}
 use Rattle.rowed.specs.PlacedNets.{PlacedView}
 use Rattle.rowed.specs.RowNets.{row_at, IsAnswer}
-use Rattle.shape_extract.specs.Answers as extracted
-use Rattle.shape_extract.specs.Circuits.{CircuitView, KeepsFacts}
+use Rattle.chip_circuit.specs.Answers as extracted
+use Rattle.chip_circuit.specs.Circuits.{CircuitView, KeepsFacts}
 use Rattle.shape_extract.specs.Extraction.{is_wired, IsCircuitOf}
 use Rattle.shape_extract.specs.Extracts.{KeepsFive}
 use Rattle.pulse_sim.specs.Shows.{Shows}

@@ -4,7 +4,7 @@ use Rattle.std.specs.Prelude.{All}
 use Rattle.std.specs.List.{AllZip}
 use Rattle.circuit.specs.SameAnswers.{SameAnswers}
 use Rattle.layout_rules.specs.Limits.{Limits}
-use Rattle.shape_extract.specs.Circuits.{CircuitView}
+use Rattle.chip_circuit.specs.Circuits.{CircuitView}
 use Rattle.drawn_chip.specs.Realises.{Realises}
 
 module _ (i j o q : ℕ) (f g : List Bool → List Bool → Type 0) (same : SameAnswers i j o q f g) where

@@ -7,12 +7,12 @@ use Rattle.rowed.specs.Numbers.{numbers}
 use Rattle.rowed.specs.PlacedNets.{PlacedView}
 use Rattle.rowed.specs.RowNets.{last_of, IsAnswer}
 use Rattle.rowed.specs.declared.source.Source.{Source}
-use Rattle.shape_extract.specs.Answers as extracted
-use Rattle.shape_extract.specs.Circuits.{CircuitView}
+use Rattle.chip_circuit.specs.Answers as extracted
+use Rattle.chip_circuit.specs.Circuits.{CircuitView}
 use Rattle.shape_extract.specs.Extraction.{IsCircuitOf}
-use Rattle.shape_extract.specs.declared.cells.ExCell.{ExCell}
-use Rattle.shape_extract.specs.declared.cells.Feed.{Feed}
-use Rattle.shape_extract.specs.declared.cells.Feed.TheVariants.{Nothing, Pin, Label}
+use Rattle.chip_circuit.specs.declared.cells.ExCell.{ExCell}
+use Rattle.chip_circuit.specs.declared.cells.Feed.{Feed}
+use Rattle.chip_circuit.specs.declared.cells.Feed.TheVariants.{Nothing, Pin, Label}
 use Rattle.layout_make.specs.Spots.{spots, has_port, output_port}
 use Rattle.layout_make.specs.declared.spots.Spot.{Spot}
 

@@ -7,7 +7,7 @@ use Rattle.geom.specs.FlatForm.{flat_of}
 use Rattle.gds_records.specs.Stream.{IsStream}
 use Rattle.layout_rules.specs.Limits.{Limits}
 use Rattle.layout_rules.specs.Rules.{KeepsRules}
-use Rattle.shape_extract.specs.Circuits.{CircuitView}
+use Rattle.chip_circuit.specs.Circuits.{CircuitView}
 use Rattle.shape_extract.specs.Extraction.{IsCircuitOf}
 use Rattle.pulse_sim.specs.Shows.{Shows}
 

@@ -10,11 +10,11 @@ use Rattle.circuit.specs.declared.cell_kind.CellKind.TheVariants.{Buffer, Invert
 use Rattle.circuit.specs.CellKinds.{inputs_of}
 use Rattle.circuit.specs.Function.{majority, value_of}
 use Rattle.rowed.specs.declared.source.Source.{Source}
-use Rattle.shape_extract.specs.declared.cells.Feed.{Feed}
-use Rattle.shape_extract.specs.declared.cells.Feed.TheVariants.{Nothing, Pin, Label}
-use Rattle.shape_extract.specs.declared.cells.ExCell.{ExCell}
-use Rattle.shape_extract.specs.Circuits.{CircuitView, IsCellAt, feed_at, IsOutputBelow, IsFeedOf, IsCellOf, KeepsFacts}
-use Rattle.shape_extract.specs.Answers.{feed_value, cell_value, IsValuation, values_at, IsAnswer}
+use Rattle.chip_circuit.specs.declared.cells.Feed.{Feed}
+use Rattle.chip_circuit.specs.declared.cells.Feed.TheVariants.{Nothing, Pin, Label}
+use Rattle.chip_circuit.specs.declared.cells.ExCell.{ExCell}
+use Rattle.chip_circuit.specs.Circuits.{CircuitView, IsCellAt, feed_at, IsOutputBelow, IsFeedOf, IsCellOf, KeepsFacts}
+use Rattle.chip_circuit.specs.Answers.{feed_value, cell_value, IsValuation, values_at, IsAnswer}
 use Rattle.pulse_sim.specs.declared.flux.Flux.{Flux}
 use Rattle.pulse_sim.specs.declared.flux.Flux.TheVariants.{Off}
 use Rattle.pulse_sim.specs.Fluxes.{sign, amount, EitherSign, IsSignOf, MayTake}

@@ -4,7 +4,7 @@ use Rattle.std.proofs.Common.{refl, sym, ap, subst, ◌∙◌, arith}
 use Rattle.std.specs.Prelude.{slice_get, take}
 use Rattle.std.proofs.lemmas.List.{length-replicate}
 use Rattle.std.proofs.lemmas.Option.{slice_get-get_or}
-use Rattle.shape_extract.specs.Circuits.{CircuitView, KeepsFacts}
+use Rattle.chip_circuit.specs.Circuits.{CircuitView, KeepsFacts}
 use Rattle.pulse_sim.specs.declared.flux.Flux.{Flux}
 use Rattle.pulse_sim.specs.declared.flux.Flux.TheVariants.{Off}
 use Rattle.pulse_sim.specs.Fluxes.{EitherSign}

@@ -1,9 +1,9 @@
 -- The events of the pulse machine: one cell switches, or one cell relaxes. A state gives the flux of each cell by its number.
 use Rattle.std.specs.Prelude.{◌≡◌, ℕ, ◌+ℤ◌, Bool, false, List, [], ◌∷◌, Option, Some, None, slice_index_or, slice_set}
-use Rattle.shape_extract.specs.declared.cells.Feed.{Feed}
-use Rattle.shape_extract.specs.declared.cells.Feed.TheVariants.{Nothing, Pin, Label}
-use Rattle.shape_extract.specs.declared.cells.ExCell.{ExCell}
-use Rattle.shape_extract.specs.Circuits.{CircuitView, IsCellAt}
+use Rattle.chip_circuit.specs.declared.cells.Feed.{Feed}
+use Rattle.chip_circuit.specs.declared.cells.Feed.TheVariants.{Nothing, Pin, Label}
+use Rattle.chip_circuit.specs.declared.cells.ExCell.{ExCell}
+use Rattle.chip_circuit.specs.Circuits.{CircuitView, IsCellAt}
 use Rattle.pulse_sim.specs.declared.flux.Flux.{Flux}
 use Rattle.pulse_sim.specs.declared.flux.Flux.TheVariants.{Off}
 use Rattle.pulse_sim.specs.Fluxes.{sign, amount, MayTake}

@@ -2,10 +2,10 @@
 use Rattle.std.specs.Prelude.{ℕ, zero, suc, ◌+◌, ◌/◌, ◌%◌, ◌==◌, ℤ, pos, negsuc, neg_ℤ, ◌+ℤ◌, Bool, true, false, List, [], ◌∷◌, length, Option, Some, None, slice_get, slice_index_or, replicate}
 use Rattle.circuit.specs.declared.cell_kind.CellKind.{CellKind}
 use Rattle.circuit.specs.declared.cell_kind.CellKind.TheVariants.{Buffer, Inverter, Zero, One, Split2, Split3, Majority}
-use Rattle.shape_extract.specs.declared.cells.Feed.{Feed}
-use Rattle.shape_extract.specs.declared.cells.Feed.TheVariants.{Nothing, Pin, Label}
-use Rattle.shape_extract.specs.declared.cells.ExCell.{ExCell}
-use Rattle.shape_extract.specs.Circuits.{CircuitView}
+use Rattle.chip_circuit.specs.declared.cells.Feed.{Feed}
+use Rattle.chip_circuit.specs.declared.cells.Feed.TheVariants.{Nothing, Pin, Label}
+use Rattle.chip_circuit.specs.declared.cells.ExCell.{ExCell}
+use Rattle.chip_circuit.specs.Circuits.{CircuitView}
 use Rattle.pulse_sim.specs.declared.flux.Flux.{Flux}
 use Rattle.pulse_sim.specs.declared.flux.Flux.TheVariants.{Minus, Off, Plus}
 use Rattle.pulse_sim.specs.Fluxes.{sign, amount}

@@ -1,8 +1,8 @@
 -- What a settled tick does in place: first the cells of one phase switch, then those of another relax.
 use Rattle.std.specs.Prelude.{◌≡◌, ◌≢◌, ℕ, ◌<◌, Bool, List, length, Option, Some, slice_get, slice_index, slice_index_or}
-use Rattle.shape_extract.specs.declared.cells.ExCell.{ExCell}
-use Rattle.shape_extract.specs.declared.cells.Feed.TheVariants.{Pin}
-use Rattle.shape_extract.specs.Circuits.{feed_at}
+use Rattle.chip_circuit.specs.declared.cells.ExCell.{ExCell}
+use Rattle.chip_circuit.specs.declared.cells.Feed.TheVariants.{Pin}
+use Rattle.chip_circuit.specs.Circuits.{feed_at}
 use Rattle.pulse_sim.specs.declared.flux.Flux.{Flux}
 use Rattle.pulse_sim.specs.declared.flux.Flux.TheVariants.{Off}
 use Rattle.pulse_sim.specs.Settled.{settled_take, feed_sum}

@@ -1,8 +1,8 @@
 -- A tick of the four-phase clock: at time t the cells of phase t mod 4 switch, and those of phase t + 2 mod 4 relax, in any order.
 use Rattle.std.specs.Prelude.{ℕ, suc, ◌+◌, ◌%◌, ◌==◌, Bool, true, false, List, [], ◌∷◌, ◌++◌, Option}
 use Rattle.std.specs.List.Sorted.{IsPermutation}
-use Rattle.shape_extract.specs.declared.cells.ExCell.{ExCell}
-use Rattle.shape_extract.specs.Circuits.{CircuitView}
+use Rattle.chip_circuit.specs.declared.cells.ExCell.{ExCell}
+use Rattle.chip_circuit.specs.Circuits.{CircuitView}
 use Rattle.pulse_sim.specs.declared.flux.Flux.{Flux}
 use Rattle.pulse_sim.specs.Events.{Event, Switch, Relax, Happen}
 

@@ -1,49 +1,13 @@
 // The first chip's run, tick by tick.
 ghost use Rattle.std.specs.Prelude.{◌≡◌, ◌+◌, ◌<◌, ◌≤◌, IfOk, length};
-ghost use Rattle.circuit.specs.declared.cell_kind.CellKind.TheVariants.{Buffer};
-ghost use Rattle.shape_extract.specs.declared.cells.Feed.TheVariants.{Nothing};
-ghost use Rattle.shape_extract.specs.FirstCircuit.{first_circuit};
+ghost use Rattle.chip_circuit.specs.FirstCircuit.{first_circuit};
 
 use crate::{Flux, Pulses, every_order, first_chip_shows, settled_is_lawful};
 use aq_base::{List, Memory};
-use circuit::{CellKind, Word};
-use shape_extract::{ExCell, Extracted, Feed, Source, first_chip_extracted};
+use chip_circuit::two_buffers;
+use circuit::Word;
 use std::alloc::Global;
 use std::test::Fail;
-
-fn buffer(row: u32, feed: Feed) -> ExCell
-    requires { row < 4 }
-    ensures { result ≡ record { kind = Buffer; row = row; phase = row; feed0 = feed; feed1 = Nothing; feed2 = Nothing } }
-{
-    ExCell {
-        kind: CellKind::Buffer,
-        row,
-        phase: row as u16,
-        feed0: feed,
-        feed1: Feed::Nothing,
-        feed2: Feed::Nothing,
-    }
-}
-
-fn two_buffers(alloc: Global) -> Result<Extracted, Memory>
-    ensures { IfOk result (λ circuit. circuit ≡ first_circuit) }
-{
-    first_chip_extracted();
-    let mut cells = List::new(alloc);
-    cells.push(buffer(0, Feed::Label(0)))?;
-    cells.push(buffer(1, Feed::Pin { cell: 0, output: 0 }))?;
-    let mut outputs = List::new(alloc);
-    outputs.push(Source { cell: 1, output: 0 })?;
-    let nets = [0, 1, 2, 3, 4, 2, 2, 2, 2, 2, 10, 2, 12, 13, 14].to_vec(alloc)?;
-    Ok(Extracted {
-        cells,
-        inputs: 1,
-        outputs,
-        rows: 2,
-        wires: 1,
-        nets: List::from_vec(nets),
-    })
-}
 
 fn word_of(alloc: Global, bit: bool) -> Result<Word, Memory>
     ensures { IfOk result (λ word. length word ≡ 1) }
@@ -53,7 +17,7 @@ fn word_of(alloc: Global, bit: bool) -> Result<Word, Memory>
     Ok(word)
 }
 
-#[tactic(auto, unfolding(shape_extract::specs::FirstCircuit::first_circuit))]
+#[tactic(auto, unfolding(chip_circuit::specs::FirstCircuit::first_circuit))]
 fn tick(alloc: Global, pulses: &mut Pulses, bit: Option<bool>) -> Result<(), Memory>
     requires circuit { pulses.old.circuit ≡ first_circuit }
     requires time { pulses.old.time < 100 }
@@ -71,7 +35,7 @@ fn tick(alloc: Global, pulses: &mut Pulses, bit: Option<bool>) -> Result<(), Mem
 }
 
 /// The fluxes of the two buffers.
-#[tactic(auto, unfolding(shape_extract::specs::FirstCircuit::first_circuit))]
+#[tactic(auto, unfolding(chip_circuit::specs::FirstCircuit::first_circuit))]
 fn fluxes(pulses: &Pulses) -> (Flux, Flux)
     requires { pulses.now.circuit ≡ first_circuit }
 {
@@ -79,7 +43,7 @@ fn fluxes(pulses: &Pulses) -> (Flux, Flux)
 }
 
 /// The value at the output.
-#[tactic(auto, unfolding(shape_extract::specs::FirstCircuit::first_circuit))]
+#[tactic(auto, unfolding(chip_circuit::specs::FirstCircuit::first_circuit))]
 fn output(alloc: Global, pulses: &Pulses) -> Result<bool, Memory>
     requires { pulses.now.circuit ≡ first_circuit }
 {

@@ -15,10 +15,10 @@ use Rattle.layout_rules.specs.Reports.{ReportsNone, Passes}
 use Rattle.layout_rules.specs.Rows.{has_edge, lower_edges, row_of, AreRows}
 use Rattle.layout_rules.specs.RowLaws.{row_of-certified}
 use Rattle.layout_rules.specs.CircuitRules.{CellsBroken}
-use Rattle.shape_extract.specs.declared.cells.Feed.{Feed}
-use Rattle.shape_extract.specs.declared.cells.Feed.TheVariants.{Nothing}
-use Rattle.shape_extract.specs.declared.cells.ExCell.{ExCell}
-use Rattle.shape_extract.specs.Circuits.{feed_at}
+use Rattle.chip_circuit.specs.declared.cells.Feed.{Feed}
+use Rattle.chip_circuit.specs.declared.cells.Feed.TheVariants.{Nothing}
+use Rattle.chip_circuit.specs.declared.cells.ExCell.{ExCell}
+use Rattle.chip_circuit.specs.Circuits.{feed_at}
 use Rattle.shape_extract.specs.Edges.{IsAmong}
 use Rattle.shape_extract.specs.Frames.{AreFrames}
 use Rattle.shape_extract.specs.Extraction.{IsFeedAt, IsInPhase, IsCellFrom}

@@ -19,12 +19,12 @@ use Rattle.layout_rules.specs.CircuitRules.{IsSource}
 use Rattle.layout_rules.proofs.LinePaths.{path_from_chain}
 use Rattle.layout_rules.proofs.LinesAgree.{laid_out, none_cut_off}
 use Rattle.layout_rules.proofs.FirstLines.{excitation_kept as lines_kept}
-use Rattle.shape_extract.specs.declared.cells.Feed.TheVariants.{Nothing}
-use Rattle.shape_extract.specs.declared.cells.ExCell.{ExCell}
-use Rattle.shape_extract.specs.Circuits.{feed_at}
+use Rattle.chip_circuit.specs.declared.cells.Feed.TheVariants.{Nothing}
+use Rattle.chip_circuit.specs.declared.cells.ExCell.{ExCell}
+use Rattle.chip_circuit.specs.Circuits.{feed_at}
 use Rattle.shape_extract.specs.Frames.{comes_before, HasPlace, AreFrames}
 use Rattle.shape_extract.specs.Extraction.{IsNamed, IsDrivenBy, IsFeedAt, IsInPhase, IsCellFrom, IsOutputFrom, IsCircuitOf}
-use Rattle.shape_extract.specs.FirstCircuit.{lower_buffer, upper_buffer, upper_output, first_nets, first_circuit}
+use Rattle.chip_circuit.specs.FirstCircuit.{lower_buffer, upper_buffer, upper_output, first_nets, first_circuit}
 use Rattle.shape_extract.proofs.Each.{EachFrom, each_at}
 use Rattle.shape_extract.proofs.FirstNets.{first_nets_are}
 

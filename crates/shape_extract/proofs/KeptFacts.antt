@@ -24,10 +24,10 @@ use Rattle.layout_rules.specs.CircuitRules.{HasNoFrame}
 use Rattle.layout_rules.specs.ReportLaws.{first_kept}
 use Rattle.layout_rules.proofs.Deciding.{settled}
 use Rattle.layout_rules.proofs.LinesAgree.{each_excited}
-use Rattle.shape_extract.specs.declared.cells.Feed.{Feed}
-use Rattle.shape_extract.specs.declared.cells.Feed.TheVariants.{Nothing, Pin, Label as Word}
-use Rattle.shape_extract.specs.declared.cells.ExCell.{ExCell}
-use Rattle.shape_extract.specs.Circuits.{CircuitView, IsCellAt, feed_at, IsFed, IsOutputBelow, IsFeedOf, IsCellOf, HasCell, IsTaken, IsShown, KeepsFacts}
+use Rattle.chip_circuit.specs.declared.cells.Feed.{Feed}
+use Rattle.chip_circuit.specs.declared.cells.Feed.TheVariants.{Nothing, Pin, Label as Word}
+use Rattle.chip_circuit.specs.declared.cells.ExCell.{ExCell}
+use Rattle.chip_circuit.specs.Circuits.{CircuitView, IsCellAt, feed_at, IsFed, IsOutputBelow, IsFeedOf, IsCellOf, HasCell, IsTaken, IsShown, KeepsFacts}
 use Rattle.shape_extract.specs.Frames.{comes_before}
 use Rattle.shape_extract.specs.Extraction.{IsNamed, IsOutputPin, IsDrivenBy, FeedsPin, IsFeedAt, IsCellFrom, IsCircuitOf}
 use Rattle.shape_extract.specs.Extracts.{KeepsFive}

@@ -1,8 +1,6 @@
 mod Each
-mod Evaluated
 mod FirstNets
 mod FirstCells
-mod FirstFacts
 mod Kept
 mod OneLine
 mod OneOrder

@@ -19,10 +19,10 @@ use Rattle.layout_rules.specs.Labels.{letter_i, letter_o, marks, is_labelled}
 use Rattle.layout_rules.specs.CircuitRules.{CellsBroken, LabelsBroken}
 use Rattle.layout_rules.specs.ExcitationRule.{ExcitationBroken}
 use Rattle.rowed.specs.declared.source.Source.{Source}
-use Rattle.shape_extract.specs.declared.cells.Feed.{Feed}
-use Rattle.shape_extract.specs.declared.cells.Feed.TheVariants.{Nothing, Pin, Label}
-use Rattle.shape_extract.specs.declared.cells.ExCell.{ExCell}
-use Rattle.shape_extract.specs.Circuits.{CircuitView, feed_at}
+use Rattle.chip_circuit.specs.declared.cells.Feed.{Feed}
+use Rattle.chip_circuit.specs.declared.cells.Feed.TheVariants.{Nothing, Pin, Label}
+use Rattle.chip_circuit.specs.declared.cells.ExCell.{ExCell}
+use Rattle.chip_circuit.specs.Circuits.{CircuitView, feed_at}
 use Rattle.shape_extract.specs.Frames.{AreFrames}
 use Rattle.shape_extract.specs.Extraction.{IsNamed, IsOutputPin, IsDrivenBy, FeedsPin, IsFeedAt, IsInPhase, IsCellFrom, IsOutputFrom, IsCircuitOf}
 use Rattle.shape_extract.proofs.Kept.{one_input, one_frame, one_named, one_number_of}

@@ -10,7 +10,7 @@ use Rattle.layout_rules.specs.Rules.{place, first_of_geometry, KeepsCircuitRules
 use Rattle.shape_extract.specs.declared.extraction.ExtractRefusal.{ExtractRefusal}
 use Rattle.shape_extract.specs.declared.extraction.ExtractRefusal.TheVariants.{Broken, Memory}
 use Rattle.shape_extract.specs.declared.first_broken.BrokenRule.{BrokenRule}
-use Rattle.shape_extract.specs.Circuits.{CircuitView}
+use Rattle.chip_circuit.specs.Circuits.{CircuitView}
 use Rattle.shape_extract.specs.Lines.{IsExcitedAt}
 use Rattle.shape_extract.specs.Extraction.{IsCircuitOf}
 

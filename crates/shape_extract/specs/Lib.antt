@@ -1,10 +1,5 @@
-pub mod Circuits
-pub mod Answers
-pub mod Valuations
-pub mod Evaluation
 pub mod Frames
 pub mod Extraction
-pub mod FirstCircuit
 pub mod Cells
 pub mod Edges
 pub mod PinRows

@@ -8,8 +8,8 @@ use Rattle.circuit.specs.CellKinds.{number_of, inputs_of}
 use Rattle.layout_rules.specs.Layers.{is_frame}
 use Rattle.layout_rules.specs.Nets.{AreNets}
 use Rattle.shape_extract.specs.declared.cell_feeds.Tables.{Tables}
-use Rattle.shape_extract.specs.declared.cells.Feed.{Feed}
-use Rattle.shape_extract.specs.declared.cells.Feed.TheVariants.{Nothing}
+use Rattle.chip_circuit.specs.declared.cells.Feed.{Feed}
+use Rattle.chip_circuit.specs.declared.cells.Feed.TheVariants.{Nothing}
 use Rattle.shape_extract.specs.Code.Marking.{AreMarks}
 use Rattle.shape_extract.specs.Code.FramesOfPins.{ArePinFrames}
 use Rattle.shape_extract.specs.Frames.{AreFrames}

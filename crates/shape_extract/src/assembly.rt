@@ -13,14 +13,13 @@ ghost use Rattle.shape_extract.specs.RowFaults.{ArePinRows};
 
 use crate::cell_feeds::Tables;
 use crate::cell_list::cells_of;
-use crate::cells::ExCell;
 use crate::drivers::drivers;
-use crate::extraction::Extracted;
 use crate::frames::{ordered_frames, places_of};
 use crate::mark_table::Mark;
 use crate::outputs::{outputs_of, wire_count};
 use crate::ports::{count_entries, count_exits, ports};
 use aq_base::{List, Memory};
+use chip_circuit::{ExCell, Extracted};
 use geom::{Buckets, Flat};
 use rowed::Source;
 use std::alloc::Global;

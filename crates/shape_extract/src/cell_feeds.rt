@@ -11,10 +11,10 @@ ghost use Rattle.shape_extract.specs.Searches.{AreThose};
 ghost use Rattle.shape_extract.specs.Tables.{AreReady, AreKnownPins, IsFrameOf, IsFeedOfInput};
 
 use crate::cell_rule::is_marked;
-use crate::cells::Feed;
 use crate::drivers::driver_of;
 use crate::mark_table::Mark;
 use crate::pin_names::name_of;
+use chip_circuit::Feed;
 use circuit::CellKind;
 use geom::{Buckets, Flat};
 use layout_rules::layers::{INPUT_PIN, OUTPUT_PIN};

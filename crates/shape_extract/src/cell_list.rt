@@ -11,10 +11,10 @@ ghost use Rattle.shape_extract.specs.Tables.{AreReady, AreKnownPins, IsFrameOf};
 
 use crate::cell_feeds::{Tables, feed_at};
 use crate::cell_rule::{HoldsPin, kind_numbered};
-use crate::cells::ExCell;
 use crate::row_edges::{lower_edge, row_at};
 use crate::search::list_partners;
 use aq_base::{List, Memory};
+use chip_circuit::ExCell;
 use circuit::CellKind;
 use std::alloc::Global;
 

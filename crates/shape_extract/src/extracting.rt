@@ -6,13 +6,14 @@ ghost use Rattle.shape_extract.specs.Extracts.{Extracts, BreaksCircuit, IfBroken
 
 use crate::assembly::circuit_of;
 use crate::cell_rule::find_cells;
-use crate::extraction::{ExtractRefusal, Extracted};
+use crate::extraction::ExtractRefusal;
 use crate::first_broken::{BrokenRule, broken, first_broken};
 use crate::mark_table::mark_table;
 use crate::net_walk::nets_by;
 use crate::pin_frames::pin_frames;
 use crate::pin_rows::pin_rows;
 use crate::row_edges::rows;
+use chip_circuit::Extracted;
 use geom::{Flat, file_shapes};
 use layout_rules::Rule;
 use std::alloc::Global;

@@ -1,16 +1,13 @@
 //! The circuit of a layout, extracted from its shapes.
 #![tactic(auto)]
 
-mod answers;
 mod assembly;
 mod cell_feeds;
 mod cell_list;
 mod cell_rule;
-mod cells;
 mod contacts;
 mod crossed_bars;
 mod drivers;
-mod evaluation;
 mod excitation_rule;
 mod excited_frames;
 mod extracting;
@@ -42,12 +39,11 @@ mod search;
 mod touching;
 mod uniqueness;
 
-pub use answers::one_answer;
 pub use cell_rule::{is_frame, is_within};
-pub use cells::{ExCell, Feed};
+pub use chip_circuit::{ExCell, Extracted, Feed, one_answer};
 pub use excited_frames::overlaps;
 pub use extracting::extract;
-pub use extraction::{ExtractRefusal, Extracted};
+pub use extraction::ExtractRefusal;
 pub use first_chip::first_chip_extracted;
 pub use kept_laws::{extracted_keeps, some_circuit};
 pub use layout_rules::Rule;

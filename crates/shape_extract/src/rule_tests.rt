@@ -2,9 +2,9 @@
 ghost use Rattle.std.specs.Prelude.{◌+◌, ◌<◌, length};
 
 use crate::line_tests::{drawn, first_shapes};
-use crate::tests::two_buffers;
 use crate::{ExtractRefusal, Rule, extract};
 use aq_base::{List, Memory};
+use chip_circuit::two_buffers;
 use geom::{Flat, Label, Shape};
 use layout_rules::layers::{BAR, EVEN_LINE, FRAME, INPUT_PIN, LABELS, M1, OUTPUT_PIN};
 use std::alloc::Global;

@@ -1,5 +1,5 @@
 use Rattle.std.proofs.Common.{subst}
-use Rattle.shape_extract.specs.Circuits.{CircuitView}
+use Rattle.chip_circuit.specs.Circuits.{CircuitView}
 use Rattle.chip_texts.specs.WordsText.{SaysWords}
 use Rattle.aqfp_top.proofs.Judging.{is_sound, words_are_well}
 use Rattle.aqfp_top.proofs.OneCheck.{words_none}

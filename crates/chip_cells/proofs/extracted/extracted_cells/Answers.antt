@@ -1,8 +1,8 @@
 use Rattle.std.proofs.Common.{◌+◌, ◌<◌, ◌^◌, ◌++◌, List, length, map, sym, ap, ◌∙◌, subst}
 use Rattle.std.specs.Prelude.{All}
 use Rattle.rowed.specs.declared.source.Source.{Source}
-use Rattle.shape_extract.specs.declared.cells.ExCell.{ExCell}
-use Rattle.shape_extract.specs.Circuits.{CircuitView}
+use Rattle.chip_circuit.specs.declared.cells.ExCell.{ExCell}
+use Rattle.chip_circuit.specs.Circuits.{CircuitView}
 use Rattle.chip_cells.specs.CellGates.{FeedsFit, gate_of, inputs_to}
 use Rattle.chip_cells.proofs.SameCircuit.{feeds_fit, sources_fit, cells_from, same_from}
 use Rattle.chip_cells.proofs.extracted.extracted_cells.Goals as goal

@@ -1,6 +1,6 @@
 use Rattle.std.proofs.Common.{subst, sym}
 use Rattle.std.specs.List.{AllZip}
-use Rattle.shape_extract.specs.Answers.{IsAnswer}
+use Rattle.chip_circuit.specs.Answers.{IsAnswer}
 use Rattle.pulse_sim.specs.Shows.{Shows}
 use Rattle.chip_texts.specs.Counts.{delay_of}
 use Rattle.chip_texts.proofs.Shown.{some_answers, answers_are}

@@ -3,10 +3,10 @@ use Rattle.std.proofs.Common.{◌≡◌, zero, suc, Bool, List, [], ◌∷◌, l
 use Rattle.std.specs.List.{All, AllZip, AllByRecursion}
 use Rattle.std.proofs.lemmas.List.Elements.{recursion_from_All}
 use Rattle.std.proofs.lemmas.Option.{same_Some}
-use Rattle.shape_extract.specs.declared.cells.ExCell.{ExCell}
-use Rattle.shape_extract.specs.Circuits.{KeepsFacts}
-use Rattle.shape_extract.specs.Answers.{cell_value, IsValuation, IsAnswer}
-use Rattle.shape_extract.specs.FirstCircuit.{lower_buffer, upper_buffer, first_circuit}
+use Rattle.chip_circuit.specs.declared.cells.ExCell.{ExCell}
+use Rattle.chip_circuit.specs.Circuits.{KeepsFacts}
+use Rattle.chip_circuit.specs.Answers.{cell_value, IsValuation, IsAnswer}
+use Rattle.chip_circuit.specs.FirstCircuit.{lower_buffer, upper_buffer, first_circuit}
 use Rattle.pulse_sim.specs.Shows.{Shows}
 use Rattle.pulse_sim.proofs.EveryOrder.{shows}
 use Rattle.pulse_sim.proofs.first_chip.first_chip_shows.Goals as goal
@@ -32,4 +32,4 @@ unfolding first_circuit
 shown keeps words wide = shows first_circuit words words keeps wide (answers words (recursion_from_All (λ word. length word ≡ 1) words wide))
 
 pub returns : goal.returns
-returns c = shown c.first_chip_extracted.ensures.keeps
+returns c = shown c.first_circuit_keeps.ensures

@@ -1,5 +1,5 @@
 use Rattle.std.proofs.Common.{◌≡◌, ◌≤◌}
-use Rattle.shape_extract.specs.FirstCircuit.{first_circuit}
+use Rattle.chip_circuit.specs.FirstCircuit.{first_circuit}
 use Rattle.pulse_sim.proofs.tests.first_chip_runs.Given as goal
 
 abbrev pub invariant-loop-bit : goal.invariant-loop-bit

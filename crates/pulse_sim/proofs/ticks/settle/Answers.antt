@@ -1,5 +1,5 @@
 use Rattle.std.proofs.Common.{◌≡◌, ◌∙◌, ◌+◌, ◌%◌, arith, ap}
-use Rattle.shape_extract.specs.Circuits.{CircuitView}
+use Rattle.chip_circuit.specs.Circuits.{CircuitView}
 use Rattle.pulse_sim.specs.Pulsing.{AreInPhase}
 use Rattle.pulse_sim.proofs.InPlace.{at_phase, phase_within, phase_quiet, ticked}
 use Rattle.pulse_sim.proofs.ticks.settle.Goals as goal

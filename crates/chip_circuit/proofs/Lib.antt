@@ -1,0 +1,2 @@
+mod Evaluated
+mod FirstFacts

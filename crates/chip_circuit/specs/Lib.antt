@@ -1,0 +1,4 @@
+pub mod Circuits
+pub mod Answers
+pub mod FirstCircuit
+pub mod Code

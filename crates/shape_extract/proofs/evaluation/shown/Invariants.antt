@@ -1,7 +1,0 @@
-use Rattle.std.proofs.Common.{◌≡◌, ◌++◌, drop}
-use Rattle.shape_extract.specs.Answers.{values_at}
-use Rattle.shape_extract.specs.Evaluation.{valuation}
-use Rattle.shape_extract.proofs.evaluation.shown.Given as goal
-
-abbrev pub invariant-loop-source : goal.invariant-loop-source
-invariant-loop-source l = l.word ++ values_at (drop l.source-index l.outputs) (valuation l.values) ≡ values_at l.outputs (valuation l.values)

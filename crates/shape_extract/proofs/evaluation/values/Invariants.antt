@@ -1,5 +1,0 @@
-use Rattle.shape_extract.proofs.Evaluated.{ValuesBelow}
-use Rattle.shape_extract.proofs.evaluation.values.Given as goal
-
-abbrev pub invariant-loop-cell : goal.invariant-loop-cell
-invariant-loop-cell l = ValuesBelow l.cell-index l.cells l.word l.values.items
