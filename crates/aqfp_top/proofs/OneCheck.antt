@@ -16,7 +16,7 @@ use Rattle.layout_rules.specs.declared.rule.Rule.TheVariants.{E1, E2, E6}
 use Rattle.layout_rules.specs.Limits.{Limits}
 use Rattle.cell_library.specs.Library.{limits_of}
 use Rattle.layout_rules.specs.Rules.{Keeps, FirstBroken}
-use Rattle.layout_rules.specs.RuleLaws.{IsOneReport}
+use Rattle.layout_rules.specs.Rules.{IsOneReport}
 use Rattle.chip_circuit.specs.Circuits.{CircuitView}
 use Rattle.shape_extract.specs.Extraction.{IsCircuitOf}
 use Rattle.chip_texts.specs.WordsText.{is_word, SaysWords, IsBadLine}

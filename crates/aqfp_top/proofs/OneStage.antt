@@ -11,7 +11,7 @@ use Rattle.layout_rules.specs.declared.rule.Rule.{Rule}
 use Rattle.layout_rules.specs.declared.rule.Rule.TheVariants.{E1, E2, E6}
 use Rattle.layout_rules.specs.Limits.{Limits}
 use Rattle.layout_rules.specs.Rules.{Keeps, FirstBroken}
-use Rattle.layout_rules.specs.RuleLaws.{IsOneReport}
+use Rattle.layout_rules.specs.Rules.{IsOneReport}
 use Rattle.chip_circuit.specs.Circuits.{CircuitView}
 use Rattle.shape_extract.specs.Extraction.{IsCircuitOf}
 use Rattle.chip_plan.specs.Plans.{IsWithin}

@@ -13,7 +13,7 @@ use Rattle.cell_library.specs.declared.fault.LibraryFault.{LibraryFault}
 use Rattle.cell_library.specs.declared.fault.LibraryFault.TheVariants as library
 use Rattle.gds_records.specs.declared.fault.StreamKind.{StreamKind}
 use Rattle.gds_records.specs.declared.fault.StreamKind.TheVariants as stream
-use Rattle.layout_rules.specs.RuleNames.{name_of}
+use Rattle.layout_rules.specs.RuleTable.{name_of}
 use Rattle.aqfp_top.specs.declared.fault.Large.{Large}
 use Rattle.aqfp_top.specs.declared.fault.Large.TheVariants.{Slots, Rows, Cells, Elements, Shapes}
 use Rattle.aqfp_top.specs.Words.{word_at}

@@ -4,7 +4,7 @@ ghost use Rattle.aq_base.specs.Causes.{Rose};
 ghost use Rattle.aqfp_top.specs.Words.{spelled};
 ghost use Rattle.aqfp_top.specs.Lines.{line_of, netlist_line, library_line, missing_line, line_kind_text, large_text, stream_kind_text, named as named_line, Puts, HasPlace};
 ghost use Rattle.cell_library.specs.Kinds.{key_of as kind_key};
-ghost use Rattle.layout_rules.specs.RuleNames.{name_of};
+ghost use Rattle.layout_rules.specs.RuleTable.{name_of};
 ghost use Rattle.aqfp_top.specs.Code.Pieces.{pieces_text};
 
 use crate::fault::{Fault, Large};

@@ -17,7 +17,7 @@ use Rattle.geom.specs.Rectangle.{overlap}
 use Rattle.layout_rules.specs.ExcitationLines.{HasPhase}
 use Rattle.layout_rules.specs.Layers.{is_frame}
 use Rattle.layout_rules.specs.Nets.{AreNets}
-use Rattle.layout_rules.specs.NetLaws.{Joined-back}
+use Rattle.layout_rules.proofs.NetLaws.{Joined-back}
 use Rattle.layout_rules.specs.Rows.{row_of}
 use Rattle.layout_rules.specs.Pins.{IsPinOf}
 use Rattle.layout_rules.specs.Labels.{letter_i, is_labelled}

@@ -6,10 +6,9 @@ use Rattle.layout_rules.specs.declared.rule.Rule.TheVariants.{E6}
 use Rattle.layout_rules.specs.FirstLimits.{first_limits}
 use Rattle.layout_rules.specs.Nets.{AreNets}
 use Rattle.layout_rules.specs.Reports.{Alone}
-use Rattle.layout_rules.specs.ReportLaws.{Afterwards-first}
+use Rattle.layout_rules.proofs.ReportLaws.{Afterwards-first}
 use Rattle.layout_rules.specs.CircuitRules.{IsNoPortLabel}
-use Rattle.layout_rules.specs.Rules.{FirstBroken}
-use Rattle.layout_rules.specs.RuleLaws.{KeepsBelow}
+use Rattle.layout_rules.specs.Rules.{FirstBroken, KeepsBefore}
 use Rattle.faulty_chips.specs.CircuitChips.{with_text}
 use Rattle.layout_rules.proofs.Places.{places, one_of}
 use Rattle.layout_rules.proofs.Lines.{line_of}
@@ -53,7 +52,7 @@ no_misled : places (is_misled (with_text (73 ∷ 48 ∷ 48 ∷ [])) first_nets n
 unfolding with_text first_flat
 no_misled = refl
 
-before : KeepsBelow 4 (with_text (73 ∷ 48 ∷ 48 ∷ [])) first_limits
+before : KeepsBefore E6 (with_text (73 ∷ 48 ∷ 48 ∷ [])) first_limits
 before = up_to_rows (with_text (73 ∷ 48 ∷ 48 ∷ [])) first_limits first_nets nets_are (up_to_nets (with_text (73 ∷ 48 ∷ 48 ∷ [])) first_limits first_nets (up_to_lines (with_text (73 ∷ 48 ∷ 48 ∷ [])) first_limits 3 4 13 14 cells) wires) no_misled
 
 broken : IsNoPortLabel (with_text (73 ∷ 48 ∷ 48 ∷ [])) 15

@@ -6,10 +6,9 @@ use Rattle.layout_rules.specs.declared.rule.Rule.TheVariants.{E6}
 use Rattle.layout_rules.specs.FirstLimits.{first_limits}
 use Rattle.layout_rules.specs.Nets.{AreNets}
 use Rattle.layout_rules.specs.Reports.{Alone}
-use Rattle.layout_rules.specs.ReportLaws.{Afterwards-first, Afterwards-second}
+use Rattle.layout_rules.proofs.ReportLaws.{Afterwards-first, Afterwards-second}
 use Rattle.layout_rules.specs.CircuitRules.{IsNoPortLabel, IsUnlabelledPort}
-use Rattle.layout_rules.specs.Rules.{FirstBroken}
-use Rattle.layout_rules.specs.RuleLaws.{KeepsBelow}
+use Rattle.layout_rules.specs.Rules.{FirstBroken, KeepsBefore}
 use Rattle.faulty_chips.specs.CircuitChips.{without_output_label}
 use Rattle.layout_rules.proofs.Places.{places, one_of}
 use Rattle.layout_rules.proofs.Lines.{line_of}
@@ -53,7 +52,7 @@ no_misled : places (is_misled without_output_label first_nets nets_are) (zip wit
 unfolding without_output_label first_flat
 no_misled = refl
 
-before : KeepsBelow 4 without_output_label first_limits
+before : KeepsBefore E6 without_output_label first_limits
 before = up_to_rows without_output_label first_limits first_nets nets_are (up_to_nets without_output_label first_limits first_nets (up_to_lines without_output_label first_limits 3 4 13 14 cells) wires) no_misled
 
 labels_good : (a b : ℕ) → Alone (IsNoPortLabel without_output_label) a b → ⊥

@@ -3,8 +3,7 @@ use Rattle.std.proofs.Common.{refl}
 use Rattle.geom.specs.FirstChip.{first_flat}
 use Rattle.layout_rules.specs.declared.rule.Rule.TheVariants.{G3}
 use Rattle.layout_rules.specs.FirstLimits.{first_limits}
-use Rattle.layout_rules.specs.Rules.{FirstBroken}
-use Rattle.layout_rules.specs.RuleLaws.{KeepsBelow}
+use Rattle.layout_rules.specs.Rules.{FirstBroken, KeepsBefore}
 use Rattle.layout_rules.specs.GeometryRules.{is_bare}
 use Rattle.faulty_chips.specs.GeometryChips.{with_via_at}
 use Rattle.layout_rules.proofs.Lines.{line_of}
@@ -39,7 +38,7 @@ circuit = record {
   labels = record { labels = refl; ports = refl; past = refl; repeats = refl };
 }
 
-kept_before : KeepsBelow 7 (with_via_at 4701 5301) first_limits
+kept_before : KeepsBefore G3 (with_via_at 4701 5301) first_limits
 unfolding with_via_at first_flat
 kept_before = up_to_spacing (with_via_at 4701 5301) first_limits (up_to_sizes (with_via_at 4701 5301) first_limits (circuit_kept (with_via_at 4701 5301) first_limits first_nets circuit) refl) refl
 

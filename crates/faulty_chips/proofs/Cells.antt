@@ -8,7 +8,7 @@ use Rattle.geom.specs.declared.shapes.Shape.{Shape}
 use Rattle.circuit.specs.declared.cell_kind.CellKind.TheVariants.{Buffer}
 use Rattle.layout_rules.specs.declared.layers.TheConstants.{INPUT_PIN, OUTPUT_PIN}
 use Rattle.layout_rules.specs.Layers.{is_frame, is_pin}
-use Rattle.layout_rules.specs.PlaceLaws.{PassesAt, list_any-place, count_by-one}
+use Rattle.layout_rules.proofs.PlaceLaws.{PassesAt, list_any-place, count_by-one}
 use Rattle.layout_rules.specs.Pins.{lies_in, IsPinOf}
 use Rattle.layout_rules.specs.Reports.{ReportsNone}
 use Rattle.layout_rules.specs.CircuitRules.{HasPins, IsCell, LiesInOneFrame, IsNoCell, IsStrayPin, CellsBroken}

@@ -4,8 +4,7 @@ use Rattle.geom.specs.FirstChip.{first_flat}
 use Rattle.layout_rules.specs.declared.rule.Rule.TheVariants.{G2}
 use Rattle.layout_rules.specs.FirstLimits.{first_limits}
 use Rattle.layout_rules.specs.Reports.{PassTogether}
-use Rattle.layout_rules.specs.Rules.{FirstBroken}
-use Rattle.layout_rules.specs.RuleLaws.{KeepsBelow}
+use Rattle.layout_rules.specs.Rules.{FirstBroken, KeepsBefore}
 use Rattle.layout_rules.specs.GeometryRules.{are_too_close, SpacingBroken}
 use Rattle.faulty_chips.specs.GeometryChips.{with_neighbour_at}
 use Rattle.layout_rules.proofs.Places.{one_of, at_one, first_place, second_place}
@@ -47,7 +46,7 @@ circuit = record {
   labels = record { labels = refl; ports = refl; past = refl; repeats = refl };
 }
 
-kept_before : KeepsBelow 6 (with_neighbour_at 6400) first_limits
+kept_before : KeepsBefore G2 (with_neighbour_at 6400) first_limits
 unfolding with_neighbour_at first_flat
 kept_before = up_to_sizes (with_neighbour_at 6400) first_limits (circuit_kept (with_neighbour_at 6400) first_limits nets circuit) refl
 

@@ -6,19 +6,18 @@ use Rattle.layout_rules.specs.declared.rule.Rule.TheVariants.{E2}
 use Rattle.layout_rules.specs.Layers.{is_line}
 use Rattle.layout_rules.specs.FirstLimits.{first_limits}
 use Rattle.layout_rules.specs.Reports.{Passes, Alone, IsFirstReport}
-use Rattle.layout_rules.specs.ReportLaws.{Afterwards-first, Afterwards-second}
+use Rattle.layout_rules.proofs.ReportLaws.{Afterwards-first, Afterwards-second}
 use Rattle.layout_rules.specs.ExcitationLines.{Contact, IsPart, IsChain, IsReached}
-use Rattle.layout_rules.specs.LineLaws.{Contact-back}
+use Rattle.layout_rules.proofs.LineLaws.{Contact-back}
 use Rattle.layout_rules.specs.ExcitationRule.{is_no_part, LacksOneStart, HasItsContacts, IsMisjoined, IsCutOff, ExcitationBroken}
-use Rattle.layout_rules.specs.Rules.{FirstBroken}
-use Rattle.layout_rules.specs.RuleLaws.{KeepsBelow}
+use Rattle.layout_rules.specs.Rules.{FirstBroken, KeepsBefore}
 use Rattle.layout_rules.proofs.Places.{IsOneOf, place_of, at_one}
 use Rattle.layout_rules.proofs.Lines.{line_of, IsShortLine, part_place, one_start, contact, contact_place, other_part, start_joined, bar_joined, start_reached, bar_reached}
 use Rattle.faulty_chips.specs.LineChips.{with_cut_off_line}
 use Rattle.faulty_chips.proofs.Cells.{cells_kept}
 use Rattle.faulty_chips.proofs.Order.{keeps_cells, least_first}
 
-before : KeepsBelow 1 with_cut_off_line first_limits
+before : KeepsBefore E2 with_cut_off_line first_limits
 unfolding with_cut_off_line first_flat
 before = keeps_cells with_cut_off_line first_limits (cells_kept with_cut_off_line.shapes refl refl refl)
 

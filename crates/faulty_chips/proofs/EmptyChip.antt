@@ -4,10 +4,10 @@ use Rattle.layout_rules.specs.declared.rule.Rule.TheVariants.{E1}
 use Rattle.layout_rules.specs.Layers.{is_frame}
 use Rattle.layout_rules.specs.FirstLimits.{first_limits}
 use Rattle.layout_rules.specs.Reports.{Passes, Alone}
-use Rattle.layout_rules.specs.ReportLaws.{Afterwards-first}
+use Rattle.layout_rules.proofs.ReportLaws.{Afterwards-first}
 use Rattle.layout_rules.specs.CircuitRules.{HasNoFrame, IsNoCell, IsStrayPin}
 use Rattle.layout_rules.specs.Rules.{FirstBroken}
-use Rattle.layout_rules.specs.RuleLaws.{KeepsBelow-none}
+use Rattle.layout_rules.proofs.RuleLaws.{KeepsBefore-first}
 use Rattle.faulty_chips.specs.CircuitChips.{empty_chip}
 use Rattle.layout_rules.proofs.Places.{place_of}
 use Rattle.faulty_chips.proofs.Order.{pair_first}
@@ -25,5 +25,5 @@ only c d h = (h.first_is, h.second_is)
 pub no_chip : FirstBroken empty_chip first_limits E1 0 0
 no_chip = record {
   report = Afterwards-first (HasNoFrame empty_chip.shapes) (Alone (λ m. IsNoCell empty_chip.shapes m ⊎ IsStrayPin empty_chip.shapes m)) 0 0 (pair_first (HasNoFrame empty_chip.shapes) 0 0 none only);
-  kept_before = KeepsBelow-none empty_chip first_limits;
+  kept_before = KeepsBefore-first empty_chip first_limits;
 }

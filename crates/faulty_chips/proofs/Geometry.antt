@@ -7,7 +7,7 @@ use Rattle.std.proofs.lemmas.Option.{same_Some}
 use Rattle.geom.specs.declared.shapes.Shape.{Shape}
 use Rattle.layout_rules.specs.Limits.{Limits}
 use Rattle.layout_rules.specs.Reports.{ReportsNone}
-use Rattle.layout_rules.specs.PlaceLaws.{list_any-at}
+use Rattle.layout_rules.proofs.PlaceLaws.{list_any-at}
 use Rattle.layout_rules.specs.GeometryRules.{is_too_small, SizesBroken, are_too_close, SpacingBroken, is_bare, EnclosureBroken, trespasses, CoverBroken, collide, FramesBroken}
 use Rattle.layout_rules.proofs.Places.{places, IsOneOf, place_of, no_partner}
 

@@ -3,11 +3,10 @@ use Rattle.std.proofs.Common.{◌≡◌, ℕ, ◌≤◌, List, [], ◌∷◌, re
 use Rattle.std.specs.Prelude.{zip, slice_index}
 use Rattle.geom.specs.FirstChip.{first_flat}
 use Rattle.layout_rules.specs.declared.rule.Rule.TheVariants.{E5}
-use Rattle.layout_rules.specs.NetLaws.{AreNets-once}
+use Rattle.layout_rules.proofs.NetLaws.{AreNets-once}
 use Rattle.layout_rules.specs.Layers.{is_metal}
 use Rattle.layout_rules.specs.Reports.{Passes}
-use Rattle.layout_rules.specs.Rules.{FirstBroken, KeepsRules}
-use Rattle.layout_rules.specs.RuleLaws.{KeepsBelow}
+use Rattle.layout_rules.specs.Rules.{FirstBroken, KeepsRules, KeepsBefore}
 use Rattle.layout_rules.specs.LengthRule.{net_length, IsTooLong}
 use Rattle.faulty_chips.specs.GeometryChips.{with_limit}
 use Rattle.layout_rules.proofs.Places.{places, IsOneOf, place_of, at_one}
@@ -56,7 +55,7 @@ pub short_wire : KeepsRules first_flat (with_limit 10000)
 short_wire = all_kept first_flat (with_limit 10000) first_nets circuit geometry short
 
 -- the rules before don't read the length
-kept_before : KeepsBelow 10 first_flat (with_limit 9999)
+kept_before : KeepsBefore E5 first_flat (with_limit 9999)
 unfolding first_flat
 kept_before = all_but_lengths first_flat (with_limit 9999) (circuit_kept first_flat (with_limit 9999) first_nets circuit) (record { sizes = refl; spacing = refl; enclosure = refl; cover = refl; frames = refl })
 

@@ -3,8 +3,7 @@ use Rattle.std.proofs.Common.{refl}
 use Rattle.geom.specs.FirstChip.{first_flat}
 use Rattle.layout_rules.specs.declared.rule.Rule.TheVariants.{G1}
 use Rattle.layout_rules.specs.FirstLimits.{first_limits}
-use Rattle.layout_rules.specs.Rules.{FirstBroken}
-use Rattle.layout_rules.specs.RuleLaws.{KeepsBelow}
+use Rattle.layout_rules.specs.Rules.{FirstBroken, KeepsBefore}
 use Rattle.layout_rules.specs.GeometryRules.{is_too_small}
 use Rattle.faulty_chips.specs.GeometryChips.{with_pin_from}
 use Rattle.layout_rules.proofs.Lines.{line_of}
@@ -39,7 +38,7 @@ circuit = record {
   labels = record { labels = refl; ports = refl; past = refl; repeats = refl };
 }
 
-kept_before : KeepsBelow 5 (with_pin_from 23001) first_limits
+kept_before : KeepsBefore G1 (with_pin_from 23001) first_limits
 unfolding with_pin_from first_flat
 kept_before = circuit_kept (with_pin_from 23001) first_limits first_nets circuit
 

@@ -10,10 +10,10 @@ use Rattle.layout_rules.specs.declared.rule.Rule.TheVariants.{E1}
 use Rattle.layout_rules.specs.FirstLimits.{first_limits}
 use Rattle.layout_rules.specs.Pins.{IsPinOf}
 use Rattle.layout_rules.specs.Reports.{Alone}
-use Rattle.layout_rules.specs.ReportLaws.{Afterwards-second}
+use Rattle.layout_rules.proofs.ReportLaws.{Afterwards-second}
 use Rattle.layout_rules.specs.CircuitRules.{IsCell, HasNoFrame, IsNoCell, IsStrayPin}
 use Rattle.layout_rules.specs.Rules.{FirstBroken}
-use Rattle.layout_rules.specs.RuleLaws.{KeepsBelow-none}
+use Rattle.layout_rules.proofs.RuleLaws.{KeepsBefore-first}
 use Rattle.faulty_chips.specs.CircuitChips.{without_input}
 use Rattle.layout_rules.proofs.Places.{one_of}
 use Rattle.faulty_chips.proofs.Cells.{pin_place, no_cell_place, stray_place}
@@ -54,5 +54,5 @@ no_frame a b h = h.none 0 (record { shape = _; shape_is = refl; passes_so = refl
 pub missing_input : FirstBroken without_input first_limits E1 0 0
 missing_input = record {
   report = Afterwards-second (HasNoFrame without_input.shapes) (Alone (λ m. IsNoCell without_input.shapes m ⊎ IsStrayPin without_input.shapes m)) 0 0 no_frame (alone_first (λ m. IsNoCell without_input.shapes m ⊎ IsStrayPin without_input.shapes m) 0 broken only);
-  kept_before = KeepsBelow-none without_input first_limits;
+  kept_before = KeepsBefore-first without_input first_limits;
 }

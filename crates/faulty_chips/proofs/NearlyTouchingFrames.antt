@@ -4,8 +4,7 @@ use Rattle.geom.specs.FirstChip.{first_flat}
 use Rattle.layout_rules.specs.declared.rule.Rule.TheVariants.{G5}
 use Rattle.layout_rules.specs.FirstLimits.{first_limits}
 use Rattle.layout_rules.specs.Reports.{PassTogether}
-use Rattle.layout_rules.specs.Rules.{FirstBroken}
-use Rattle.layout_rules.specs.RuleLaws.{KeepsBelow}
+use Rattle.layout_rules.specs.Rules.{FirstBroken, KeepsBefore}
 use Rattle.layout_rules.specs.GeometryRules.{collide, FramesBroken}
 use Rattle.faulty_chips.specs.GeometryChips.{with_buffer_at}
 use Rattle.layout_rules.proofs.Places.{IsOneOf, one_of, at_one, first_place, second_place}
@@ -47,7 +46,7 @@ circuit = record {
   labels = record { labels = refl; ports = refl; past = refl; repeats = refl };
 }
 
-kept_before : KeepsBelow 9 (with_buffer_at 7999) first_limits
+kept_before : KeepsBefore G5 (with_buffer_at 7999) first_limits
 unfolding with_buffer_at first_flat
 kept_before = up_to_cover (with_buffer_at 7999) first_limits (up_to_enclosure (with_buffer_at 7999) first_limits (up_to_spacing (with_buffer_at 7999) first_limits (up_to_sizes (with_buffer_at 7999) first_limits (circuit_kept (with_buffer_at 7999) first_limits nets circuit) refl) refl) refl) refl
 

@@ -7,10 +7,9 @@ use Rattle.layout_rules.specs.declared.layers.TheConstants.{EVEN_LINE, START}
 use Rattle.layout_rules.specs.declared.rule.Rule.TheVariants.{E2}
 use Rattle.layout_rules.specs.FirstLimits.{first_limits}
 use Rattle.layout_rules.specs.Reports.{Passes, Alone, IsFirstReport}
-use Rattle.layout_rules.specs.ReportLaws.{Afterwards-first, Afterwards-second}
+use Rattle.layout_rules.proofs.ReportLaws.{Afterwards-first, Afterwards-second}
 use Rattle.layout_rules.specs.ExcitationRule.{is_no_part, HasOneStart, LacksOneStart, ExcitationBroken}
-use Rattle.layout_rules.specs.Rules.{FirstBroken}
-use Rattle.layout_rules.specs.RuleLaws.{KeepsBelow}
+use Rattle.layout_rules.specs.Rules.{FirstBroken, KeepsBefore}
 use Rattle.layout_rules.specs.FaultyChips.{without_starts}
 use Rattle.faulty_chips.specs.LineChips.{with_bars_on_one_layer}
 use Rattle.layout_rules.proofs.Places.{IsOneOf, place_at, place_of, at_one}
@@ -18,7 +17,7 @@ use Rattle.faulty_chips.proofs.Cells.{cells_kept}
 use Rattle.layout_rules.proofs.Lines.{part_place}
 use Rattle.faulty_chips.proofs.Order.{keeps_cells, alone_first}
 
-before : KeepsBelow 1 with_bars_on_one_layer first_limits
+before : KeepsBefore E2 with_bars_on_one_layer first_limits
 unfolding with_bars_on_one_layer without_starts first_flat
 before = keeps_cells with_bars_on_one_layer first_limits (cells_kept with_bars_on_one_layer.shapes refl refl refl)
 

@@ -12,8 +12,8 @@ use Rattle.layout_rules.specs.Limits.{Limits}
 use Rattle.layout_rules.specs.Nets.{AreNets}
 use Rattle.layout_rules.specs.Reports.{Alone, IsFirstReport, Passes, PassTogether}
 use Rattle.layout_rules.specs.CircuitRules.{have_one_name}
-use Rattle.layout_rules.specs.Rules.{Keeps, KeepsRules}
-use Rattle.layout_rules.specs.RuleLaws.{KeepsBelow, KeepsBelow-none, KeepsBelow-more, KeepsRules-below}
+use Rattle.layout_rules.specs.Rules.{Keeps, KeepsRules, KeepsBefore}
+use Rattle.layout_rules.proofs.RuleLaws.{rules, KeepsBefore-first, KeepsBefore-next, KeepsRules-last}
 use Rattle.layout_rules.specs.GeometryRules.{is_too_small, are_too_close, is_bare, trespasses, collide}
 use Rattle.layout_rules.proofs.Places.{places, IsOneOf, one_of, place_of, first_place, second_place}
 use Rattle.faulty_chips.proofs.Cells.{is_odd_frame, is_stray, cells_kept}
@@ -47,38 +47,39 @@ pub record AreLabelled (flat : Flat) : Type 0 where
 
 -- the first rules are kept, one more each time
 module _ (flat : Flat) (limits : Limits) where
-  pub keeps_cells : Keeps E1 flat limits → KeepsBelow 1 flat limits
-  keeps_cells e1 = KeepsBelow-more flat limits 0 E1 refl (KeepsBelow-none flat limits) e1
+  pub keeps_cells : Keeps E1 flat limits → KeepsBefore E2 flat limits
+  keeps_cells e1 = KeepsBefore-next flat limits E1 E2 refl (KeepsBefore-first flat limits) e1
 
-  pub up_to_lines : (a b c d : ℕ) → AreCells flat a b c d → KeepsBelow 2 flat limits
-  up_to_lines a b c d are = KeepsBelow-more flat limits 1 E2 refl (keeps_cells (cells_kept flat.shapes are.some are.frames are.pins)) (excitation_kept flat.shapes a b c d are.lines are.enters_even are.enters_odd are.excited)
+  pub up_to_lines : (a b c d : ℕ) → AreCells flat a b c d → KeepsBefore E3 flat limits
+  up_to_lines a b c d are = KeepsBefore-next flat limits E2 E3 refl (keeps_cells (cells_kept flat.shapes are.some are.frames are.pins)) (excitation_kept flat.shapes a b c d are.lines are.enters_even are.enters_odd are.excited)
 
-  pub up_to_nets : (nets : List ℕ) → KeepsBelow 2 flat limits → AreWires flat nets → KeepsBelow 3 flat limits
-  up_to_nets nets below are = KeepsBelow-more flat limits 2 E3 refl below (nets_kept flat nets are.are are.rivals are.undriven are.driven)
+  pub up_to_nets : (nets : List ℕ) → KeepsBefore E3 flat limits → AreWires flat nets → KeepsBefore E4 flat limits
+  up_to_nets nets below are = KeepsBefore-next flat limits E3 E4 refl below (nets_kept flat nets are.are are.rivals are.undriven are.driven)
 
-  pub up_to_rows : (nets : List ℕ) (are : AreNets flat.shapes nets) → KeepsBelow 3 flat limits → places (is_misled flat nets are) (zip flat.shapes nets) ≡ [] → KeepsBelow 4 flat limits
-  up_to_rows nets are below none = KeepsBelow-more flat limits 3 E4 refl below (rows_kept flat nets are none)
+  pub up_to_rows : (nets : List ℕ) (are : AreNets flat.shapes nets) → KeepsBefore E4 flat limits → places (is_misled flat nets are) (zip flat.shapes nets) ≡ [] → KeepsBefore E6 flat limits
+  up_to_rows nets are below none = KeepsBefore-next flat limits E4 E6 refl below (rows_kept flat nets are none)
 
-  pub up_to_labels : KeepsBelow 4 flat limits → AreLabelled flat → KeepsBelow 5 flat limits
-  up_to_labels below are = KeepsBelow-more flat limits 4 E6 refl below (labels_kept flat are.labels are.ports are.past are.repeats)
+  pub up_to_labels : KeepsBefore E6 flat limits → AreLabelled flat → KeepsBefore G1 flat limits
+  up_to_labels below are = KeepsBefore-next flat limits E6 G1 refl below (labels_kept flat are.labels are.ports are.past are.repeats)
 
-  pub up_to_sizes : KeepsBelow 5 flat limits → places (is_too_small limits) flat.shapes ≡ [] → KeepsBelow 6 flat limits
-  up_to_sizes below none = KeepsBelow-more flat limits 5 G1 refl below (sizes_kept limits flat.shapes none)
+  pub up_to_sizes : KeepsBefore G1 flat limits → places (is_too_small limits) flat.shapes ≡ [] → KeepsBefore G2 flat limits
+  up_to_sizes below none = KeepsBefore-next flat limits G1 G2 refl below (sizes_kept limits flat.shapes none)
 
-  pub up_to_spacing : KeepsBelow 6 flat limits → places (λ s. list_any (are_too_close limits.space s) flat.shapes) flat.shapes ≡ [] → KeepsBelow 7 flat limits
-  up_to_spacing below none = KeepsBelow-more flat limits 6 G2 refl below (spacing_kept limits flat.shapes none)
+  pub up_to_spacing : KeepsBefore G2 flat limits → places (λ s. list_any (are_too_close limits.space s) flat.shapes) flat.shapes ≡ [] → KeepsBefore G3 flat limits
+  up_to_spacing below none = KeepsBefore-next flat limits G2 G3 refl below (spacing_kept limits flat.shapes none)
 
-  pub up_to_enclosure : KeepsBelow 7 flat limits → places (is_bare limits flat.shapes) flat.shapes ≡ [] → KeepsBelow 8 flat limits
-  up_to_enclosure below none = KeepsBelow-more flat limits 7 G3 refl below (enclosure_kept limits flat.shapes none)
+  pub up_to_enclosure : KeepsBefore G3 flat limits → places (is_bare limits flat.shapes) flat.shapes ≡ [] → KeepsBefore G4 flat limits
+  up_to_enclosure below none = KeepsBefore-next flat limits G3 G4 refl below (enclosure_kept limits flat.shapes none)
 
-  pub up_to_cover : KeepsBelow 8 flat limits → places (λ s. list_any (trespasses flat.shapes s) flat.shapes) flat.shapes ≡ [] → KeepsBelow 9 flat limits
-  up_to_cover below none = KeepsBelow-more flat limits 8 G4 refl below (cover_kept flat.shapes none)
+  pub up_to_cover : KeepsBefore G4 flat limits → places (λ s. list_any (trespasses flat.shapes s) flat.shapes) flat.shapes ≡ [] → KeepsBefore G5 flat limits
+  up_to_cover below none = KeepsBefore-next flat limits G4 G5 refl below (cover_kept flat.shapes none)
 
-  pub up_to_frames : KeepsBelow 9 flat limits → pairs collide flat.shapes ≡ false → KeepsBelow 10 flat limits
-  up_to_frames below none = KeepsBelow-more flat limits 9 G5 refl below (frames_kept flat.shapes none)
+  pub up_to_frames : KeepsBefore G5 flat limits → pairs collide flat.shapes ≡ false → KeepsBefore E5 flat limits
+  up_to_frames below none = KeepsBefore-next flat limits G5 E5 refl below (frames_kept flat.shapes none)
 
-  pub up_to_lengths : (nets : List ℕ) (are : AreNets flat.shapes nets) → KeepsBelow 10 flat limits → places (is_long flat nets are limits) (zip flat.shapes nets) ≡ [] → KeepsRules flat limits
-  up_to_lengths nets are below none = KeepsRules-below flat limits (KeepsBelow-more flat limits 10 E5 refl below (lengths_kept flat nets are limits none))
+  pub up_to_lengths : (nets : List ℕ) (are : AreNets flat.shapes nets) → KeepsBefore E5 flat limits → places (is_long flat nets are limits) (zip flat.shapes nets) ≡ [] → KeepsRules flat limits
+  unfolding rules
+  up_to_lengths nets are below none = KeepsRules-last flat limits E5 refl below (lengths_kept flat nets are limits none)
 
 -- what is computed of a chip for the rules of geometry but for lengths
 pub record AreShapes (flat : Flat) (limits : Limits) : Type 0 where
@@ -88,7 +89,7 @@ pub record AreShapes (flat : Flat) (limits : Limits) : Type 0 where
   pub cover : places (λ s. list_any (trespasses flat.shapes s) flat.shapes) flat.shapes ≡ []
   pub frames : pairs collide flat.shapes ≡ false
 
-pub all_but_lengths : (flat : Flat) (limits : Limits) → KeepsBelow 5 flat limits → AreShapes flat limits → KeepsBelow 10 flat limits
+pub all_but_lengths : (flat : Flat) (limits : Limits) → KeepsBefore G1 flat limits → AreShapes flat limits → KeepsBefore E5 flat limits
 all_but_lengths flat limits circuit are =
     up_to_frames flat limits (up_to_cover flat limits (up_to_enclosure flat limits (up_to_spacing flat limits (up_to_sizes flat limits circuit are.sizes) are.spacing) are.enclosure) are.cover) are.frames
 
@@ -99,7 +100,7 @@ pub record IsCircuit (flat : Flat) (nets : List ℕ) : Type 0 where
   pub rows : places (is_misled flat nets wires.are) (zip flat.shapes nets) ≡ []
   pub labels : AreLabelled flat
 
-pub circuit_kept : (flat : Flat) (limits : Limits) (nets : List ℕ) → IsCircuit flat nets → KeepsBelow 5 flat limits
+pub circuit_kept : (flat : Flat) (limits : Limits) (nets : List ℕ) → IsCircuit flat nets → KeepsBefore G1 flat limits
 circuit_kept flat limits nets is =
     up_to_labels flat limits (up_to_rows flat limits nets is.wires.are (up_to_nets flat limits nets (up_to_lines flat limits 3 4 13 14 is.cells) is.wires) is.rows) is.labels
 

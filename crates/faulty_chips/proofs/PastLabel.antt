@@ -7,11 +7,10 @@ use Rattle.layout_rules.specs.declared.rule.Rule.TheVariants.{E6}
 use Rattle.layout_rules.specs.FirstLimits.{first_limits}
 use Rattle.layout_rules.specs.Nets.{AreNets}
 use Rattle.layout_rules.specs.Reports.{Alone}
-use Rattle.layout_rules.specs.ReportLaws.{Afterwards-second}
+use Rattle.layout_rules.proofs.ReportLaws.{Afterwards-second}
 use Rattle.layout_rules.specs.CircuitRules.{IsNoPortLabel, IsUnlabelledPort, IsMisnumbered, port_count, have_one_name}
 use Rattle.layout_rules.specs.Labels.{number_of_label}
-use Rattle.layout_rules.specs.Rules.{FirstBroken}
-use Rattle.layout_rules.specs.RuleLaws.{KeepsBelow}
+use Rattle.layout_rules.specs.Rules.{FirstBroken, KeepsBefore}
 use Rattle.faulty_chips.specs.CircuitChips.{with_text}
 use Rattle.layout_rules.proofs.Places.{places, one_of}
 use Rattle.layout_rules.proofs.Lines.{line_of}
@@ -56,7 +55,7 @@ no_misled : places (is_misled (with_text (73 ∷ 49 ∷ [])) first_nets nets_are
 unfolding with_text first_flat
 no_misled = refl
 
-before : KeepsBelow 4 (with_text (73 ∷ 49 ∷ [])) first_limits
+before : KeepsBefore E6 (with_text (73 ∷ 49 ∷ [])) first_limits
 before = up_to_rows (with_text (73 ∷ 49 ∷ [])) first_limits first_nets nets_are (up_to_nets (with_text (73 ∷ 49 ∷ [])) first_limits first_nets (up_to_lines (with_text (73 ∷ 49 ∷ [])) first_limits 3 4 13 14 cells) wires) no_misled
 
 labels_good : (a b : ℕ) → Alone (IsNoPortLabel (with_text (73 ∷ 49 ∷ []))) a b → ⊥

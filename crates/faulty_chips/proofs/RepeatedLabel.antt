@@ -9,11 +9,10 @@ use Rattle.layout_rules.specs.declared.rule.Rule.TheVariants.{E6}
 use Rattle.layout_rules.specs.FirstLimits.{first_limits}
 use Rattle.layout_rules.specs.Nets.{AreNets}
 use Rattle.layout_rules.specs.Reports.{Alone}
-use Rattle.layout_rules.specs.ReportLaws.{Afterwards-second}
+use Rattle.layout_rules.proofs.ReportLaws.{Afterwards-second}
 use Rattle.layout_rules.specs.CircuitRules.{IsNoPortLabel, IsUnlabelledPort, IsRepeated, IsMisnumbered, port_count, have_one_name}
 use Rattle.layout_rules.specs.Labels.{number_of_label}
-use Rattle.layout_rules.specs.Rules.{FirstBroken}
-use Rattle.layout_rules.specs.RuleLaws.{KeepsBelow}
+use Rattle.layout_rules.specs.Rules.{FirstBroken, KeepsBefore}
 use Rattle.faulty_chips.specs.GeometryChips.{with_buffer_at}
 use Rattle.faulty_chips.specs.CircuitChips.{with_repeated_label}
 use Rattle.layout_rules.proofs.Places.{places, place_at, at_one}
@@ -64,7 +63,7 @@ no_misled : places (is_misled with_repeated_label nets nets_are) (zip with_repea
 unfolding with_repeated_label with_buffer_at first_flat
 no_misled = refl
 
-before : KeepsBelow 4 with_repeated_label first_limits
+before : KeepsBefore E6 with_repeated_label first_limits
 before = up_to_rows with_repeated_label first_limits nets nets_are (up_to_nets with_repeated_label first_limits nets (up_to_lines with_repeated_label first_limits 3 4 13 14 cells) wires) no_misled
 
 labels_good : (a b : ℕ) → Alone (IsNoPortLabel with_repeated_label) a b → ⊥

@@ -7,16 +7,15 @@ use Rattle.layout_rules.specs.declared.layers.TheConstants.{EVEN_LINE}
 use Rattle.layout_rules.specs.declared.rule.Rule.TheVariants.{E2}
 use Rattle.layout_rules.specs.FirstLimits.{first_limits}
 use Rattle.layout_rules.specs.Reports.{Passes, Alone, IsFirstReport}
-use Rattle.layout_rules.specs.ReportLaws.{Afterwards-first, Afterwards-second}
+use Rattle.layout_rules.proofs.ReportLaws.{Afterwards-first, Afterwards-second}
 use Rattle.layout_rules.specs.ExcitationRule.{is_no_part, IsStartOn, HasOneStart, LacksOneStart, ExcitationBroken}
-use Rattle.layout_rules.specs.Rules.{FirstBroken}
-use Rattle.layout_rules.specs.RuleLaws.{KeepsBelow}
+use Rattle.layout_rules.specs.Rules.{FirstBroken, KeepsBefore}
 use Rattle.faulty_chips.specs.LineChips.{with_second_start}
 use Rattle.layout_rules.proofs.Places.{IsOneOf, place_at, place_of, at_one}
 use Rattle.faulty_chips.proofs.Cells.{cells_kept}
 use Rattle.faulty_chips.proofs.Order.{keeps_cells, alone_first}
 
-before : KeepsBelow 1 with_second_start first_limits
+before : KeepsBefore E2 with_second_start first_limits
 unfolding with_second_start first_flat
 before = keeps_cells with_second_start first_limits (cells_kept with_second_start.shapes refl refl refl)
 

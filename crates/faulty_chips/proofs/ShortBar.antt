@@ -10,10 +10,9 @@ use Rattle.layout_rules.specs.declared.layers.TheConstants.{EVEN_LINE, ODD_LINE}
 use Rattle.layout_rules.specs.declared.rule.Rule.TheVariants.{E2}
 use Rattle.layout_rules.specs.FirstLimits.{first_limits}
 use Rattle.layout_rules.specs.Reports.{Passes, Alone, IsFirstReport}
-use Rattle.layout_rules.specs.ReportLaws.{Afterwards-second}
+use Rattle.layout_rules.proofs.ReportLaws.{Afterwards-second}
 use Rattle.layout_rules.specs.ExcitationRule.{is_no_part, LacksOneStart, IsMisjoined, IsCutOff}
-use Rattle.layout_rules.specs.Rules.{FirstBroken}
-use Rattle.layout_rules.specs.RuleLaws.{KeepsBelow}
+use Rattle.layout_rules.specs.Rules.{FirstBroken, KeepsBefore}
 use Rattle.layout_rules.specs.Code.ChainRule.{IsChainUncrossed, IsChainExcited, IsChainUnexcited, ChainsBroken}
 use Rattle.layout_rules.proofs.LinesAgree.{excitation_first}
 use Rattle.layout_rules.proofs.Places.{one_of}
@@ -22,7 +21,7 @@ use Rattle.faulty_chips.specs.LineChips.{with_short_bar}
 use Rattle.faulty_chips.proofs.Cells.{cells_kept}
 use Rattle.faulty_chips.proofs.Order.{keeps_cells, alone_first}
 
-before : KeepsBelow 1 with_short_bar first_limits
+before : KeepsBefore E2 with_short_bar first_limits
 unfolding with_short_bar first_flat
 before = keeps_cells with_short_bar first_limits (cells_kept with_short_bar.shapes refl refl refl)
 

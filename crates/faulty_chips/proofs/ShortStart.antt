@@ -6,18 +6,17 @@ use Rattle.layout_rules.specs.declared.rule.Rule.TheVariants.{E2}
 use Rattle.layout_rules.specs.Layers.{is_line}
 use Rattle.layout_rules.specs.FirstLimits.{first_limits}
 use Rattle.layout_rules.specs.Reports.{Passes, Alone, IsFirstReport}
-use Rattle.layout_rules.specs.ReportLaws.{Afterwards-first, Afterwards-second}
+use Rattle.layout_rules.proofs.ReportLaws.{Afterwards-first, Afterwards-second}
 use Rattle.layout_rules.specs.ExcitationLines.{Contact, IsPart}
 use Rattle.layout_rules.specs.ExcitationRule.{is_no_part, LacksOneStart, HasItsContacts, IsMisjoined, ExcitationBroken}
-use Rattle.layout_rules.specs.Rules.{FirstBroken}
-use Rattle.layout_rules.specs.RuleLaws.{KeepsBelow}
+use Rattle.layout_rules.specs.Rules.{FirstBroken, KeepsBefore}
 use Rattle.faulty_chips.specs.LineChips.{with_short_start}
 use Rattle.layout_rules.proofs.Places.{IsOneOf, one_of, place_of, at_one}
 use Rattle.faulty_chips.proofs.Cells.{cells_kept}
 use Rattle.layout_rules.proofs.Lines.{one_start, contact_place}
 use Rattle.faulty_chips.proofs.Order.{keeps_cells, least_first}
 
-before : KeepsBelow 1 with_short_start first_limits
+before : KeepsBefore E2 with_short_start first_limits
 unfolding with_short_start first_flat
 before = keeps_cells with_short_start first_limits (cells_kept with_short_start.shapes refl refl refl)
 

@@ -8,12 +8,11 @@ use Rattle.layout_rules.specs.declared.layers.TheConstants.{EVEN_LINE, ODD_LINE}
 use Rattle.layout_rules.specs.declared.rule.Rule.TheVariants.{E2}
 use Rattle.layout_rules.specs.FirstLimits.{first_limits}
 use Rattle.layout_rules.specs.Reports.{Passes, Alone, IsFirstReport}
-use Rattle.layout_rules.specs.ReportLaws.{Afterwards-second}
+use Rattle.layout_rules.proofs.ReportLaws.{Afterwards-second}
 use Rattle.layout_rules.specs.ExcitationLines.{Contact, phase_of}
-use Rattle.layout_rules.specs.LineLaws.{Contact-back}
+use Rattle.layout_rules.proofs.LineLaws.{Contact-back}
 use Rattle.layout_rules.specs.ExcitationRule.{is_no_part, LacksOneStart, IsMisjoined, IsCutOff}
-use Rattle.layout_rules.specs.Rules.{FirstBroken}
-use Rattle.layout_rules.specs.RuleLaws.{KeepsBelow}
+use Rattle.layout_rules.specs.Rules.{FirstBroken, KeepsBefore}
 use Rattle.layout_rules.specs.Code.LineChains.{HasChainPhase}
 use Rattle.layout_rules.specs.Code.ChainRule.{IsChainUncrossed, IsChainUnexcited, ChainsBroken}
 use Rattle.layout_rules.proofs.LinesAgree.{excitation_first}
@@ -23,7 +22,7 @@ use Rattle.faulty_chips.specs.LineChips.{with_start_at_right}
 use Rattle.faulty_chips.proofs.Cells.{cells_kept}
 use Rattle.faulty_chips.proofs.Order.{keeps_cells, alone_first}
 
-before : KeepsBelow 1 with_start_at_right first_limits
+before : KeepsBefore E2 with_start_at_right first_limits
 unfolding with_start_at_right first_flat
 before = keeps_cells with_start_at_right first_limits (cells_kept with_start_at_right.shapes refl refl refl)
 

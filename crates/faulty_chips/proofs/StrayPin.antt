@@ -5,10 +5,10 @@ use Rattle.layout_rules.specs.declared.rule.Rule.TheVariants.{E1}
 use Rattle.layout_rules.specs.FirstLimits.{first_limits}
 use Rattle.layout_rules.specs.Pins.{lies_in}
 use Rattle.layout_rules.specs.Reports.{Alone}
-use Rattle.layout_rules.specs.ReportLaws.{Afterwards-second}
+use Rattle.layout_rules.proofs.ReportLaws.{Afterwards-second}
 use Rattle.layout_rules.specs.CircuitRules.{LiesInOneFrame, HasNoFrame, IsNoCell, IsStrayPin}
 use Rattle.layout_rules.specs.Rules.{FirstBroken}
-use Rattle.layout_rules.specs.RuleLaws.{KeepsBelow-none}
+use Rattle.layout_rules.proofs.RuleLaws.{KeepsBefore-first}
 use Rattle.faulty_chips.specs.CircuitChips.{with_stray_pin}
 use Rattle.layout_rules.proofs.Places.{one_of, second_place}
 use Rattle.faulty_chips.proofs.Cells.{no_cell_place, stray_place}
@@ -34,5 +34,5 @@ no_frame a b h = h.none 0 (record { shape = _; shape_is = refl; passes_so = refl
 pub stray_pin : FirstBroken with_stray_pin first_limits E1 15 15
 stray_pin = record {
   report = Afterwards-second (HasNoFrame with_stray_pin.shapes) (Alone (λ m. IsNoCell with_stray_pin.shapes m ⊎ IsStrayPin with_stray_pin.shapes m)) 15 15 no_frame (alone_first (λ m. IsNoCell with_stray_pin.shapes m ⊎ IsStrayPin with_stray_pin.shapes m) 15 broken only);
-  kept_before = KeepsBelow-none with_stray_pin first_limits;
+  kept_before = KeepsBefore-first with_stray_pin first_limits;
 }

@@ -7,10 +7,10 @@ use Rattle.circuit.specs.CellKinds.{number_of}
 use Rattle.layout_rules.specs.declared.rule.Rule.TheVariants.{E1}
 use Rattle.layout_rules.specs.FirstLimits.{first_limits}
 use Rattle.layout_rules.specs.Reports.{Alone}
-use Rattle.layout_rules.specs.ReportLaws.{Afterwards-second}
+use Rattle.layout_rules.proofs.ReportLaws.{Afterwards-second}
 use Rattle.layout_rules.specs.CircuitRules.{HasNoFrame, IsNoCell, IsStrayPin}
 use Rattle.layout_rules.specs.Rules.{FirstBroken}
-use Rattle.layout_rules.specs.RuleLaws.{KeepsBelow-none}
+use Rattle.layout_rules.proofs.RuleLaws.{KeepsBefore-first}
 use Rattle.faulty_chips.specs.CircuitChips.{with_unknown_kind}
 use Rattle.layout_rules.proofs.Places.{one_of}
 use Rattle.faulty_chips.proofs.Cells.{no_cell_place, stray_place}
@@ -42,5 +42,5 @@ no_frame a b h = h.none 0 (record { shape = _; shape_is = refl; passes_so = refl
 pub unknown_kind : FirstBroken with_unknown_kind first_limits E1 0 0
 unknown_kind = record {
   report = Afterwards-second (HasNoFrame with_unknown_kind.shapes) (Alone (λ m. IsNoCell with_unknown_kind.shapes m ⊎ IsStrayPin with_unknown_kind.shapes m)) 0 0 no_frame (alone_first (λ m. IsNoCell with_unknown_kind.shapes m ⊎ IsStrayPin with_unknown_kind.shapes m) 0 broken only);
-  kept_before = KeepsBelow-none with_unknown_kind first_limits;
+  kept_before = KeepsBefore-first with_unknown_kind first_limits;
 }

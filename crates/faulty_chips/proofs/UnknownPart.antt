@@ -4,16 +4,15 @@ use Rattle.geom.specs.FirstChip.{first_flat}
 use Rattle.layout_rules.specs.declared.rule.Rule.TheVariants.{E2}
 use Rattle.layout_rules.specs.FirstLimits.{first_limits}
 use Rattle.layout_rules.specs.Reports.{Passes, Alone, IsFirstReport}
-use Rattle.layout_rules.specs.ReportLaws.{Afterwards-first}
+use Rattle.layout_rules.proofs.ReportLaws.{Afterwards-first}
 use Rattle.layout_rules.specs.ExcitationRule.{is_no_part, ExcitationBroken}
-use Rattle.layout_rules.specs.Rules.{FirstBroken}
-use Rattle.layout_rules.specs.RuleLaws.{KeepsBelow}
+use Rattle.layout_rules.specs.Rules.{FirstBroken, KeepsBefore}
 use Rattle.faulty_chips.specs.LineChips.{with_unknown_part}
 use Rattle.layout_rules.proofs.Places.{one_of, place_of}
 use Rattle.faulty_chips.proofs.Cells.{cells_kept}
 use Rattle.faulty_chips.proofs.Order.{keeps_cells, alone_first}
 
-before : KeepsBelow 1 with_unknown_part first_limits
+before : KeepsBefore E2 with_unknown_part first_limits
 unfolding with_unknown_part first_flat
 before = keeps_cells with_unknown_part first_limits (cells_kept with_unknown_part.shapes refl refl refl)
 

@@ -3,8 +3,7 @@ use Rattle.std.proofs.Common.{refl}
 use Rattle.geom.specs.FirstChip.{first_flat}
 use Rattle.layout_rules.specs.declared.rule.Rule.TheVariants.{G4}
 use Rattle.layout_rules.specs.FirstLimits.{first_limits}
-use Rattle.layout_rules.specs.Rules.{FirstBroken}
-use Rattle.layout_rules.specs.RuleLaws.{KeepsBelow}
+use Rattle.layout_rules.specs.Rules.{FirstBroken, KeepsBefore}
 use Rattle.layout_rules.specs.GeometryRules.{trespasses}
 use Rattle.faulty_chips.specs.GeometryChips.{with_wire_to}
 use Rattle.layout_rules.proofs.Lines.{line_of}
@@ -39,7 +38,7 @@ circuit = record {
   labels = record { labels = refl; ports = refl; past = refl; repeats = refl };
 }
 
-kept_before : KeepsBelow 8 (with_wire_to 5501) first_limits
+kept_before : KeepsBefore G4 (with_wire_to 5501) first_limits
 unfolding with_wire_to first_flat
 kept_before = up_to_enclosure (with_wire_to 5501) first_limits (up_to_spacing (with_wire_to 5501) first_limits (up_to_sizes (with_wire_to 5501) first_limits (circuit_kept (with_wire_to 5501) first_limits first_nets circuit) refl) refl) refl
 

@@ -10,8 +10,8 @@ use Rattle.layout_rules.specs.declared.layers.TheConstants.{INPUT_PIN, OUTPUT_PI
 use Rattle.layout_rules.specs.Layers.{is_pin, is_metal}
 use Rattle.layout_rules.specs.Touch.{Joined}
 use Rattle.layout_rules.specs.Nets.{AreNets}
-use Rattle.layout_rules.specs.NetLaws.{one_number, one_net, AreNets-once}
-use Rattle.layout_rules.specs.PlaceLaws.{PassesAt, list_any-at, list_any-place, count_by-one}
+use Rattle.layout_rules.proofs.NetLaws.{one_number, one_net, AreNets-once}
+use Rattle.layout_rules.proofs.PlaceLaws.{PassesAt, list_any-at, list_any-place, count_by-one}
 use Rattle.layout_rules.specs.Rows.{row_of}
 use Rattle.layout_rules.specs.Pins.{lies_in}
 use Rattle.layout_rules.specs.Labels.{is_labelled}

@@ -12,7 +12,7 @@ use Rattle.layout_rules.specs.declared.layers.TheConstants.{M1, M2}
 use Rattle.layout_rules.specs.Layers.{is_frame, is_pin, is_via, is_upper}
 use Rattle.layout_rules.specs.Pins.{lies_in}
 use Rattle.layout_rules.specs.Reports.{ReportsNone}
-use Rattle.layout_rules.specs.PlaceLaws.{list_any-at}
+use Rattle.layout_rules.proofs.PlaceLaws.{list_any-at}
 use Rattle.layout_rules.specs.GeometryRules.{is_too_small, SizesBroken, are_too_close, SpacingBroken, is_covered}
 use Rattle.layout_rules.specs.GeometryRules.{EnclosureBroken, common, is_at_pin, CoverBroken, FramesBroken}
 use Rattle.layout_rules.specs.LengthRule.{length_in, net_length, LengthsBroken}

@@ -9,9 +9,9 @@ use Rattle.geom.specs.declared.shapes.Shape.{Shape}
 use Rattle.geom.specs.Rectangle.{share_point, overlap, within}
 use Rattle.layout_rules.specs.Layers.{is_frame}
 use Rattle.layout_rules.specs.Rows.{AreRows, row_of}
-use Rattle.layout_rules.specs.RowLaws.{row_of-certified}
+use Rattle.layout_rules.proofs.RowLaws.{row_of-certified}
 use Rattle.layout_rules.specs.Reports.{ReportsNone, Passes}
-use Rattle.layout_rules.specs.ReportLaws.{Afterwards-none}
+use Rattle.layout_rules.proofs.ReportLaws.{Afterwards-none}
 use Rattle.layout_rules.specs.ExcitationLines.{Contact, IsPart, IsChain, left_edge, right_edge, enters}
 use Rattle.layout_rules.specs.ExcitationLines.{leaves, phase_of}
 use Rattle.layout_rules.specs.ExcitationRule.{is_no_part, LacksOneStart, IsMisjoined, IsCutOff}

@@ -10,13 +10,13 @@ use Rattle.circuit.specs.CellKinds.{inputs_of, outputs_of}
 use Rattle.geom.specs.declared.shapes.Shape.{Shape}
 use Rattle.geom.specs.declared.shapes.Label.{Label}
 use Rattle.layout_rules.specs.Rows.{row_of, row_count}
-use Rattle.layout_rules.specs.RowLaws.{row_count-certified}
+use Rattle.layout_rules.proofs.RowLaws.{row_count-certified}
 use Rattle.layout_rules.specs.Pins.{lies_in, LiesIn, stands_in, is_entry, is_exit, entry_count, exit_count}
 use Rattle.layout_rules.specs.Labels.{letter_i, letter_o, marks, is_numbered, number_of_label, IsNumbered}
-use Rattle.layout_rules.specs.LabelLaws.{IsNumbered-decimal}
-use Rattle.layout_rules.specs.PlaceLaws.{list_any-at, list_any-place, count_by-once}
+use Rattle.layout_rules.proofs.LabelLaws.{IsNumbered-decimal}
+use Rattle.layout_rules.proofs.PlaceLaws.{list_any-at, list_any-place, count_by-once}
 use Rattle.layout_rules.specs.Reports.{ReportsNone}
-use Rattle.layout_rules.specs.ReportLaws.{Afterwards-none}
+use Rattle.layout_rules.proofs.ReportLaws.{Afterwards-none}
 use Rattle.layout_rules.specs.CircuitRules.{is_port, is_port_label, IsNoPortLabel, IsUnlabelledPort, port_count}
 use Rattle.layout_rules.specs.CircuitRules.{have_one_name, IsRepeated, IsMisnumbered, LabelsBroken}
 use Rattle.rowed.specs.PlacedNets.{PlacedView}

@@ -4,7 +4,7 @@ use Rattle.cell_library.specs.Library.{LibraryView}
 use Rattle.layout_make.specs.Lawful.{IsLawful}
 use Rattle.geom.specs.declared.shapes.Shape.{Shape}
 use Rattle.layout_rules.specs.Touch.{touch, Joined}
-use Rattle.layout_rules.specs.NetLaws.{Joined-self, Joined-touching, Joined-trans, Joined-back}
+use Rattle.layout_rules.proofs.NetLaws.{Joined-self, Joined-touching, Joined-trans, Joined-back}
 use Rattle.layout_make.specs.Sheet.{Tag, Frame, InPin, OutPin, Lead, Bar, Rise, Fall, Across, FromVia, ToVia, shape_of}
 use Rattle.layout_make.specs.Nets.{Net, Into, From, NoNet, net_of, output_net, IsWire, IsDrawn, At}
 use Rattle.rowed.specs.PlacedNets.{PlacedView}

@@ -10,12 +10,12 @@ use Rattle.geom.specs.declared.shapes.Shape.{Shape}
 use Rattle.geom.specs.declared.shapes.Label.{Label}
 use Rattle.geom.specs.declared.shapes.Flat.{Flat}
 use Rattle.geom.specs.FlatForm.{flat_of}
-use Rattle.layout_rules.specs.NetLaws.{Joined-back}
+use Rattle.layout_rules.proofs.NetLaws.{Joined-back}
 use Rattle.layout_rules.specs.Rows.{AreRows, row_of}
-use Rattle.layout_rules.specs.RowLaws.{row_of-certified}
+use Rattle.layout_rules.proofs.RowLaws.{row_of-certified}
 use Rattle.layout_rules.specs.Pins.{LiesIn}
 use Rattle.layout_rules.specs.Labels.{marks, is_labelled}
-use Rattle.layout_rules.specs.PlaceLaws.{list_any-at, list_any-place}
+use Rattle.layout_rules.proofs.PlaceLaws.{list_any-at, list_any-place}
 use Rattle.layout_rules.specs.Reports.{ReportsNone}
 use Rattle.layout_rules.specs.CircuitRules.{HasRival, IsUndriven, IsDriven, NetsBroken, RowsBroken}
 use Rattle.rowed.specs.PlacedNets.{PlacedView}

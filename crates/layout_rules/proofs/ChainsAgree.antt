@@ -6,9 +6,9 @@ use Rattle.std.proofs.lemmas.Option.{same_Some}
 use Rattle.geom.specs.declared.shapes.Shape.{Shape}
 use Rattle.layout_rules.specs.declared.layers.TheConstants.{EVEN_LINE, ODD_LINE, BAR, LINK, START}
 use Rattle.layout_rules.specs.Layers.{is_line}
-use Rattle.layout_rules.specs.LineLaws.{Contact-back}
+use Rattle.layout_rules.proofs.LineLaws.{Contact-back}
 use Rattle.layout_rules.specs.Reports.{Passes}
-use Rattle.layout_rules.specs.ReportLaws.{alone_kept}
+use Rattle.layout_rules.proofs.ReportLaws.{alone_kept}
 use Rattle.layout_rules.specs.ExcitationLines.{Contact, IsPart, IsChain, phase_of}
 use Rattle.layout_rules.specs.ExcitationRule.{is_no_part, LacksOneStart, HasItsContacts, IsMisjoined, AreLaidOut}
 use Rattle.layout_rules.specs.Code.LineChains.{NeverTurnsBack, ChainBefore, HasChainPhase}

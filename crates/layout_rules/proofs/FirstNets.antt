@@ -8,9 +8,9 @@ use Rattle.geom.specs.declared.shapes.Shape.{Shape}
 use Rattle.geom.specs.FirstChip.{first_flat, drawn}
 use Rattle.layout_rules.specs.Touch.{touch, Touching, Joined}
 use Rattle.layout_rules.specs.Nets.{AreNets}
-use Rattle.layout_rules.specs.NetLaws.{AreNets-certified}
+use Rattle.layout_rules.proofs.NetLaws.{AreNets-certified}
 use Rattle.layout_rules.proofs.Places.{places, IsOneOf, place_at, at_one, zip_at}
-use Rattle.layout_rules.specs.PlaceLaws.{list_any-at}
+use Rattle.layout_rules.proofs.PlaceLaws.{list_any-at}
 
 abbrev pub first_nets : List ℕ
 first_nets = 0 ∷ 1 ∷ 2 ∷ 3 ∷ 4 ∷ 2 ∷ 2 ∷ 2 ∷ 2 ∷ 2 ∷ 10 ∷ 2 ∷ 12 ∷ 13 ∷ 14 ∷ []

@@ -8,7 +8,7 @@ use Rattle.geom.specs.FirstChip.{first_flat}
 use Rattle.layout_rules.specs.declared.layers.TheConstants.{INPUT_PIN, OUTPUT_PIN}
 use Rattle.layout_rules.specs.Layers.{is_pin, is_metal}
 use Rattle.layout_rules.specs.Touch.{Joined}
-use Rattle.layout_rules.specs.NetLaws.{one_number, AreNets-once}
+use Rattle.layout_rules.proofs.NetLaws.{one_number, AreNets-once}
 use Rattle.layout_rules.specs.Rows.{row_of}
 use Rattle.layout_rules.specs.Pins.{lies_in, LiesIn}
 use Rattle.layout_rules.specs.Labels.{is_labelled}

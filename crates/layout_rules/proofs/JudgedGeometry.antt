@@ -5,7 +5,7 @@ use Rattle.geom.specs.declared.shapes.Shape.{Shape}
 use Rattle.layout_rules.specs.Layers.{is_metal}
 use Rattle.layout_rules.specs.Limits.{Limits}
 use Rattle.layout_rules.specs.Nets.{AreNets}
-use Rattle.layout_rules.specs.NetLaws.{AreNets-once}
+use Rattle.layout_rules.proofs.NetLaws.{AreNets-once}
 use Rattle.layout_rules.specs.Reports.{Passes, PassTogether}
 use Rattle.layout_rules.specs.GeometryRules.{SizesBroken, SpacingBroken, EnclosureBroken, CoverBroken, FramesBroken}
 use Rattle.layout_rules.specs.GeometryRules.{is_too_small, are_too_close, is_bare, trespasses, collide}

@@ -9,7 +9,7 @@ use Rattle.layout_rules.specs.declared.layers.TheConstants.{INPUT_PIN, OUTPUT_PI
 use Rattle.layout_rules.specs.Layers.{is_pin}
 use Rattle.layout_rules.specs.Touch.{IsPath, Joined}
 use Rattle.layout_rules.specs.Nets.{AreNets}
-use Rattle.layout_rules.specs.NetLaws.{Touching-within, Joined-within, one_number, one_net}
+use Rattle.layout_rules.proofs.NetLaws.{Touching-within, Joined-within, one_number, one_net}
 use Rattle.layout_rules.specs.Pins.{lies_in}
 use Rattle.layout_rules.specs.Rows.{row_of}
 use Rattle.layout_rules.specs.Labels.{is_labelled}

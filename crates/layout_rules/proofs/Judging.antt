@@ -2,8 +2,8 @@
 use Rattle.std.proofs.Common.{ℕ, ◌<◌, ◌≤◌, ◌⊎◌, inl, inr}
 use Rattle.std.proofs.lemmas.Bool.{cases_lt}
 use Rattle.layout_rules.specs.Reports.{ReportsNone, ReportsNoneAt, Alone, Afterwards, Otherwise, IsFirstReport, IsFirstAt}
-use Rattle.layout_rules.specs.ReportLaws.{IsFirstReport-at, Alone-first, Alone-none, Afterwards-first, Afterwards-second, Afterwards-none}
-use Rattle.layout_rules.specs.ReportLaws.{Otherwise-first, Otherwise-second, Otherwise-none}
+use Rattle.layout_rules.proofs.ReportLaws.{IsFirstReport-at, Alone-first, Alone-none, Afterwards-first, Afterwards-second, Afterwards-none}
+use Rattle.layout_rules.proofs.ReportLaws.{Otherwise-first, Otherwise-second, Otherwise-none}
 use Rattle.layout_rules.proofs.Deciding.{Least, none_or_least}
 
 pub record HasFirst (report : ℕ → ℕ → Type 0) : Type 0 where

@@ -1,3 +1,10 @@
+pub mod PlaceLaws
+pub mod ReportLaws
+pub mod NetLaws
+pub mod RowLaws
+pub mod LabelLaws
+pub mod LineLaws
+pub mod RuleLaws
 pub mod Places
 pub mod Lines
 mod FirstCells

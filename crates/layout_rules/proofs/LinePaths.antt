@@ -12,10 +12,10 @@ use Rattle.std.proofs.lemmas.Map.Steps.{length-le_from_distinct_below}
 use Rattle.geom.specs.declared.shapes.Shape.{Shape}
 use Rattle.layout_rules.specs.declared.layers.TheConstants.{EVEN_LINE, ODD_LINE, START}
 use Rattle.layout_rules.specs.Layers.{is_line}
-use Rattle.layout_rules.specs.LineLaws.{Contact-back}
-use Rattle.layout_rules.specs.PlaceLaws.{PassesAt, list_any-place}
+use Rattle.layout_rules.proofs.LineLaws.{Contact-back}
+use Rattle.layout_rules.proofs.PlaceLaws.{PassesAt, list_any-place}
 use Rattle.layout_rules.specs.Reports.{ReportsNone, Alone, Passes}
-use Rattle.layout_rules.specs.ReportLaws.{alone_kept}
+use Rattle.layout_rules.proofs.ReportLaws.{alone_kept}
 use Rattle.layout_rules.specs.ExcitationLines.{Contact, IsPart, IsChain, IsReached, is_on, IsLine, HasOneLine, Before}
 use Rattle.layout_rules.specs.ExcitationRule.{HasOneStart, LacksOneStart, IsCutOff, AreLaidOut}
 use Rattle.layout_rules.specs.Code.LineChains.{NeverTurnsBack, ChainBefore}

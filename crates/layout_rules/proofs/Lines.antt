@@ -9,8 +9,8 @@ use Rattle.layout_rules.specs.declared.layers.TheConstants.{EVEN_LINE, ODD_LINE,
 use Rattle.layout_rules.specs.Layers.{is_line, is_frame}
 use Rattle.layout_rules.specs.Reports.{ReportsNone, Passes}
 use Rattle.layout_rules.specs.ExcitationLines.{meet, Contact, IsPart, IsReached, enters, phase_of, is_on, IsLine}
-use Rattle.layout_rules.specs.PlaceLaws.{count_by-one}
-use Rattle.layout_rules.specs.LineLaws.{Contact-back}
+use Rattle.layout_rules.proofs.PlaceLaws.{count_by-one}
+use Rattle.layout_rules.proofs.LineLaws.{Contact-back}
 use Rattle.layout_rules.specs.Rows.{row_of}
 use Rattle.layout_rules.specs.ExcitationRule.{is_no_part, HasOneStart, LacksOneStart, HasItsContacts, IsMisjoined, IsCutOff, ExcitationBroken}
 use Rattle.layout_rules.specs.Code.LineChains.{ChainBefore, HasChainPhase}

@@ -4,7 +4,7 @@ use Rattle.std.proofs.lemmas.Option.{same_Some}
 use Rattle.geom.specs.declared.shapes.Shape.{Shape}
 use Rattle.layout_rules.specs.declared.layers.TheConstants.{EVEN_LINE, ODD_LINE, BAR, START}
 use Rattle.layout_rules.specs.Reports.{ReportsNone, Alone, Afterwards, IsFirstReport}
-use Rattle.layout_rules.specs.ReportLaws.{first_kept, second_kept, alone_kept}
+use Rattle.layout_rules.proofs.ReportLaws.{first_kept, second_kept, alone_kept}
 use Rattle.layout_rules.specs.ExcitationLines.{IsPart, IsChain, HasPhase, leaves}
 use Rattle.layout_rules.specs.ExcitationRule.{LacksOneStart, IsMisjoined, IsCutOff, AreLaidOut, LeavesWrongly, IsNotCrossed, IsExcited, IsUnexcited, ExcitationBroken}
 use Rattle.layout_rules.specs.Code.LineChains.{NeverTurnsBack, ChainBefore, HasChainPhase}

@@ -6,8 +6,8 @@ use Rattle.std.proofs.lemmas.Bool.{cases_eq, cases_order, eqb-true, eq-eqb, both
 use Rattle.geom.specs.declared.shapes.Shape.{Shape}
 use Rattle.layout_rules.specs.Touch.{touch, Touching, Joined}
 use Rattle.layout_rules.specs.Nets.{AreNets}
-use Rattle.layout_rules.specs.NetLaws.{Touching-within, Joined-self, Joined-touching, Joined-trans, Joined-back}
-use Rattle.layout_rules.specs.NetLaws.{AreNets-certified}
+use Rattle.layout_rules.proofs.NetLaws.{Touching-within, Joined-self, Joined-touching, Joined-trans, Joined-back}
+use Rattle.layout_rules.proofs.NetLaws.{AreNets-certified}
 
 -- two labels made one: the lesser stands for both
 abbrev merged : ℕ → ℕ → ℕ → ℕ

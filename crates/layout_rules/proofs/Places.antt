@@ -4,7 +4,7 @@ use Rattle.std.specs.Prelude.{slice_get, slice_index, zip}
 use Rattle.std.specs.List.{list_any}
 use Rattle.std.proofs.lemmas.Option.{same_Some}
 use Rattle.geom.specs.declared.shapes.Shape.{Shape}
-use Rattle.layout_rules.specs.PlaceLaws.{list_any-at}
+use Rattle.layout_rules.proofs.PlaceLaws.{list_any-at}
 use Rattle.layout_rules.specs.Reports.{Passes, PassTogether}
 
 -- the places from k on

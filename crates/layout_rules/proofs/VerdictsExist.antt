@@ -1,12 +1,14 @@
 -- Every layout keeps all rules or has a first broken one: the rules are judged in the order in which they are tried.
-use Rattle.std.proofs.Common.{◌≡◌, ℕ, suc, ◌⊎◌, refl, sym, subst, inl, inr}
+use Rattle.std.proofs.Common.{◌≡◌, ℕ, suc, ◌+◌, ◌⊎◌, true, List, [], ◌∷◌, length, sym, subst, arith, inl, inr}
+use Rattle.std.specs.Prelude.{◌==◌}
+use Rattle.std.proofs.lemmas.Bool.{and_parts, eqb-true}
 use Rattle.geom.specs.declared.shapes.Flat.{Flat}
 use Rattle.layout_rules.specs.declared.rule.Rule.{Rule}
 use Rattle.layout_rules.specs.declared.rule.Rule.TheVariants.{E1, E2, E3, E4, E5, E6, G1, G2, G3, G4, G5}
 use Rattle.layout_rules.specs.Limits.{Limits}
-use Rattle.layout_rules.specs.Rules.{Broken, KeepsRules, place}
-use Rattle.layout_rules.specs.RuleLaws.{KeepsBelow, KeepsBelow-none, KeepsBelow-more, KeepsRules-below}
-use Rattle.layout_rules.specs.EveryVerdict.{HasFirstBroken}
+use Rattle.layout_rules.specs.RuleTable.{place}
+use Rattle.layout_rules.specs.Rules.{Broken, KeepsRules, HasFirstBroken}
+use Rattle.layout_rules.proofs.RuleLaws.{rules, stand_from, rules_stand, KeepsBelow, KeepsBelow-none, KeepsBelow-more, KeepsRules-below}
 use Rattle.layout_rules.proofs.Judging.{Judged}
 use Rattle.layout_rules.proofs.JudgedCells.{cells_judged}
 use Rattle.layout_rules.proofs.JudgedLines.{chains_judged}
@@ -48,11 +50,19 @@ module _ (flat : Flat) (limits : Limits) where
     })
   ]
 
-  pub some_verdict : KeepsRules flat limits ⊎ HasFirstBroken flat limits
-  some_verdict = elim all [ inl kept ↦ inl (KeepsRules-below flat limits kept) | inr broken ↦ inr broken ]
-    where
-      of_circuit : So 5
-      of_circuit = one_more 4 E6 refl (one_more 3 E4 refl (one_more 2 E3 refl (one_more 1 E2 refl (one_more 0 E1 refl (inl (KeepsBelow-none flat limits))))))
+  -- the rules of a list, which have the places from n on, are judged in turn
+  in_turn : (n : ℕ) (rest : List Rule) → stand_from n rest ≡ true → So n → So (n + length rest)
+  in_turn n [] e so = subst So (omega arith) so
+  in_turn n (rule ∷ rest) e so =
+      let both : ((place rule == n) ≡ true) × (stand_from (suc n) rest ≡ true)
+      = and_parts (place rule == n) (stand_from (suc n) rest) e in
+      subst So (omega arith) (in_turn (suc n) rest both.1 (one_more n rule (eqb-true (place rule) n both.0) so))
 
-      all : So 11
-      all = one_more 10 E5 refl (one_more 9 G5 refl (one_more 8 G4 refl (one_more 7 G3 refl (one_more 6 G2 refl (one_more 5 G1 refl of_circuit)))))
+  pub some_verdict : KeepsRules flat limits ⊎ HasFirstBroken flat limits
+  some_verdict = elim all [
+    | inl kept ↦ inl (KeepsRules-below flat limits kept)
+    | inr broken ↦ inr broken
+  ]
+    where
+      all : So (length rules)
+      all = subst So (omega arith) (in_turn 0 rules rules_stand (inl (KeepsBelow-none flat limits)))

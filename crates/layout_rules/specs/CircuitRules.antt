@@ -1,5 +1,7 @@
--- The rules that make a circuit: cells with their pins, nets that lead from one output to one input, each wire up by one row, and labels on the chip's inputs and outputs.
-use Rattle.std.specs.Prelude.{◌≡◌, ◌≢◌, ℕ, suc, ◌+◌, ◌<◌, ◌≤◌, ◌⊎◌, ◌==◌, ◌&&◌, ◌||◌, Bool, true, false, List, length, count_by, slice_get, slice_index, Some, if◌then◌else◌}
+-- The rules that make a circuit: cells with their pins, nets that lead from one output to one input, each wire up by
+-- one row, and labels on the chip's inputs and outputs.
+use Rattle.std.specs.Prelude.{◌≡◌, ◌≢◌, ℕ, suc, ◌+◌, ◌<◌, ◌≤◌, ◌⊎◌, ◌==◌, ◌&&◌, ◌||◌, Bool, true, false}
+use Rattle.std.specs.Prelude.{List, length, count_by, slice_get, slice_index, Some, if◌then◌else◌}
 use Rattle.std.specs.List.{list_any}
 use Rattle.geom.specs.declared.shapes.Shape.{Shape}
 use Rattle.geom.specs.declared.shapes.Label.{Label}
@@ -27,6 +29,7 @@ pub record IsCell (shapes : List Shape) (f : ℕ) (frame : Shape) : Type 0 where
   pub inputs : HasPins shapes f INPUT_PIN (inputs_of kind)
   pub outputs : HasPins shapes f OUTPUT_PIN (outputs_of kind)
 
+-- the pin lies in a frame, and in no other
 pub record LiesInOneFrame (shapes : List Shape) (p : ℕ) : Type 0 where
   pub frame : ℕ
   pub lies : LiesIn shapes p frame
@@ -38,10 +41,12 @@ pub record HasNoFrame (shapes : List Shape) (a b : ℕ) : Type 0 where
   pub first_is : a ≡ 0
   pub second_is : b ≡ 0
 
+-- a frame that is no cell's
 pub record IsNoCell (shapes : List Shape) (f : ℕ) : Type 0 where
   pub frame : Passes is_frame shapes f
   pub not_so : IsCell shapes f frame.shape → ⊥
 
+-- a pin in no frame or in several
 pub record IsStrayPin (shapes : List Shape) (p : ℕ) : Type 0 where
   pub pin : Passes is_pin shapes p
   pub not_so : LiesInOneFrame shapes p → ⊥
@@ -103,7 +108,8 @@ is_port shapes pin = is_entry shapes pin || is_exit shapes pin
 
 -- the label has a letter and a number, and marks one pin, which is a port
 abbrev pub is_port_label : List Shape → Label → Bool
-is_port_label shapes label = is_numbered label && count_by (marks label) shapes == 1 && list_any (λ pin. marks label pin && is_port shapes pin) shapes
+is_port_label shapes label = is_numbered label && count_by (marks label) shapes == 1
+    && list_any (λ pin. marks label pin && is_port shapes pin) shapes
 
 -- the label of this number, counted after all shapes
 pub record IsLabelAt (flat : Flat) (n : ℕ) : Type 0 where
@@ -113,6 +119,7 @@ pub record IsLabelAt (flat : Flat) (n : ℕ) : Type 0 where
   pub of_layer : label.layer ≡ LABELS
   pub number_is : n ≡ length flat.shapes + place
 
+-- a label that is no port's
 pub record IsNoPortLabel (flat : Flat) (n : ℕ) : Type 0 where
   pub at : IsLabelAt flat n
   pub not_so : is_port_label flat.shapes at.label ≡ false
@@ -126,6 +133,7 @@ pub record IsUnlabelledPort (flat : Flat) (p : ℕ) : Type 0 where
 abbrev pub port_count : List Shape → Label → ℕ
 port_count shapes label = (if slice_index label.text 0 == letter_i then entry_count shapes else exit_count shapes)
 
+-- two labels have one letter and one number
 abbrev pub have_one_name : Label → Label → Bool
 have_one_name a b = slice_index a.text 0 == slice_index b.text 0 && number_of_label a == number_of_label b
 
@@ -138,10 +146,13 @@ pub record IsRepeated (flat : Flat) (place : ℕ) (label : Label) : Type 0 where
   pub of_layer : other.layer ≡ LABELS
   pub one_name : have_one_name other label ≡ true
 
+-- a label whose number is not below the number of such ports, or that an earlier label has
 pub record IsMisnumbered (flat : Flat) (n : ℕ) : Type 0 where
   pub at : IsLabelAt flat n
   pub wrong : (port_count flat.shapes at.label ≤ number_of_label at.label) ⊎ IsRepeated flat at.place at.label
 
 -- the labels by themselves, then the ports, then the labels' numbers
 abbrev pub LabelsBroken : Flat → ℕ → ℕ → Type 0
-LabelsBroken flat = Afterwards (Alone (IsNoPortLabel flat)) (Afterwards (Alone (IsUnlabelledPort flat)) (Alone (IsMisnumbered flat)))
+LabelsBroken flat =
+    Afterwards (Alone (IsNoPortLabel flat))
+    (Afterwards (Alone (IsUnlabelledPort flat)) (Alone (IsMisnumbered flat)))

@@ -1,4 +1,5 @@
--- Excitation lines: each leads from its start over the rows of its layer, by bars over rows and links at the chip's sides. Cells are excited in four phases by two such lines, as in AQFP logic of Takeuchi and others.
+-- Excitation lines: each leads from its start over the rows of its layer, by bars over rows and links at the chip's
+-- sides. Cells are excited in four phases by two such lines, as in AQFP logic of Takeuchi and others.
 use Rattle.std.specs.Prelude.{◌≡◌, ◌≢◌, ℕ, suc, ◌<◌, ◌==◌, ◌&&◌, ◌||◌, not, Bool, true, List, [], ◌∷◌, length}
 use Rattle.std.specs.Prelude.{slice_get, slice_index, Some, if◌then◌else◌}
 use Rattle.geom.specs.declared.shapes.Shape.{Shape}
@@ -66,22 +67,27 @@ pub record Before (shapes : List Shape) (a b : ℕ) : Type 0 where
   pub first_is : slice_index path place ≡ a
   pub second_is : slice_index path (suc place) ≡ b
 
+-- the left edge of a rectangle, which is one without width
 abbrev pub left_edge : Rectangle → Rectangle
 left_edge r = record { x0 = r.x0; y0 = r.y0; x1 = r.x0; y1 = r.y1 }
 
+-- its right edge
 abbrev pub right_edge : Rectangle → Rectangle
 right_edge r = record { x0 = r.x1; y0 = r.y0; x1 = r.x1; y1 = r.y1 }
 
--- the shape shares a point with the bar's left edge, or with its right one
+-- the shape shares a point with the bar's left edge
 abbrev pub at_left : Shape → Shape → Bool
 at_left s bar = share_point s.rect (left_edge bar.rect)
 
+-- or with its right one
 abbrev pub at_right : Shape → Shape → Bool
 at_right s bar = share_point s.rect (right_edge bar.rect)
 
+-- with its left edge and not with its right one
 abbrev pub at_left_only : Shape → Shape → Bool
 at_left_only s bar = at_left s bar && not (at_right s bar)
 
+-- with its right edge and not with its left one
 abbrev pub at_right_only : Shape → Shape → Bool
 at_right_only s bar = at_right s bar && not (at_left s bar)
 
@@ -95,7 +101,8 @@ leaves before bar after = (if at_left before bar then at_right_only after bar el
 
 -- the phase of a bar, by its layer and by its direction, which is to the right where the line comes to its left edge
 abbrev pub phase_of : Shape → Shape → ℕ
-phase_of before bar = (if bar.layer == EVEN_LINE then (if at_left before bar then 0 else 2) else (if at_left before bar then 1 else 3))
+phase_of before bar =
+    (if bar.layer == EVEN_LINE then (if at_left before bar then 0 else 2) else (if at_left before bar then 1 else 3))
 
 -- b is a bar of this phase
 pub record HasPhase (shapes : List Shape) (b phase : ℕ) : Type 0 where

@@ -12,10 +12,12 @@ use Rattle.layout_rules.specs.ExcitationLines.{Contact, IsPart, IsReached, Befor
 abbrev pub is_no_part : Shape → Bool
 is_no_part s = is_line s && nat_lt START s.datatype
 
+-- a start on this layer
 pub record IsStartOn (shapes : List Shape) (layer i : ℕ) : Type 0 where
   pub start : IsPart shapes START i
   pub of_layer : start.shape.layer ≡ layer
 
+-- the layer has one start and no other
 pub record HasOneStart (shapes : List Shape) (layer : ℕ) : Type 0 where
   pub number : ℕ
   pub start : IsStartOn shapes layer number
@@ -55,6 +57,7 @@ pub record HasBarContacts (shapes : List Shape) (i : ℕ) : Type 0 where
   pub only : (c : ℕ) → Contact shapes i c → (c ≡ one) ⊎ (c ≡ other)
   pub no_bar : (c : ℕ) → Contact shapes i c → IsPart shapes BAR c → ⊥
 
+-- a part of a line has the contacts of its kind
 pub record HasItsContacts (shapes : List Shape) (i : ℕ) : Type 0 where
   pub start : IsPart shapes START i → HasStartContacts shapes i
   pub link : IsPart shapes LINK i → HasLinkContacts shapes i
@@ -100,8 +103,10 @@ pub record IsExcited (shapes : List Shape) (frame : Shape) : Type 0 where
   pub phase : HasPhase shapes bar (row_of shapes frame.rect.y0 % 4)
   pub over : overlap phase.is_bar.shape.rect frame.rect ≡ true
   pub contains : within frame.rect phase.is_bar.shape.rect ≡ true
-  pub only : (i : ℕ) (s : Shape) → slice_get shapes i ≡ Some s → is_line s ≡ true → overlap s.rect frame.rect ≡ true → i ≡ bar
+  pub only : (i : ℕ) (s : Shape) → slice_get shapes i ≡ Some s → is_line s ≡ true → overlap s.rect frame.rect ≡ true
+      → i ≡ bar
 
+-- a frame that is not excited so
 pub record IsUnexcited (shapes : List Shape) (f : ℕ) : Type 0 where
   pub frame : Passes is_frame shapes f
   pub not_so : IsExcited shapes frame.shape → ⊥

@@ -1,5 +1,6 @@
 -- Labels, the pins that they mark, and the numbers that they write.
-use Rattle.std.specs.Prelude.{◌≡◌, ℕ, ◌==◌, ◌&&◌, ◌||◌, not, Bool, true, nat_lt, List, ◌∷◌, length, drop, slice_get, slice_index, Some, if◌then◌else◌}
+use Rattle.std.specs.Prelude.{◌≡◌, ℕ, ◌==◌, ◌&&◌, ◌||◌, not, Bool, true, nat_lt, List, ◌∷◌, length, drop}
+use Rattle.std.specs.Prelude.{slice_get, slice_index, Some, if◌then◌else◌}
 use Rattle.std.specs.List.{list_any, list_all}
 use Rattle.std.specs.Char.{is_ascii_digit}
 use Rattle.std.specs.Str.Parse.{digits_value}
@@ -9,10 +10,11 @@ use Rattle.geom.specs.declared.shapes.Flat.{Flat}
 use Rattle.geom.specs.Rectangle.{holds_point}
 use Rattle.layout_rules.specs.declared.layers.TheConstants.{INPUT_PIN, OUTPUT_PIN, LABELS}
 
--- the bytes `I` and `O`
+-- the byte `I`
 abbrev pub letter_i : ℕ
 letter_i = 73
 
+-- the byte `O`
 abbrev pub letter_o : ℕ
 letter_o = 79
 
@@ -38,7 +40,8 @@ is_labelled flat pin = list_any (λ label. marks label pin) flat.labels
 
 -- decimal digits, with no zero before others
 abbrev pub is_decimal : List ℕ → Bool
-is_decimal text = list_all is_ascii_digit text && (length text == 1 || (nat_lt 1 (length text) && not (slice_index text 0 == 48)))
+is_decimal text = list_all is_ascii_digit text
+    && (length text == 1 || (nat_lt 1 (length text) && not (slice_index text 0 == 48)))
 
 -- what stands after the first letter
 abbrev pub tail : List ℕ → List ℕ
@@ -46,7 +49,8 @@ tail text = drop 1 text
 
 -- `I` or `O`, and then a decimal number
 abbrev pub is_numbered : Label → Bool
-is_numbered label = (slice_index label.text 0 == letter_i || slice_index label.text 0 == letter_o) && is_decimal (tail label.text)
+is_numbered label = (slice_index label.text 0 == letter_i || slice_index label.text 0 == letter_o)
+    && is_decimal (tail label.text)
 
 -- that number
 abbrev pub number_of_label : Label → ℕ

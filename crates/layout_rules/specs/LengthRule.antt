@@ -7,6 +7,7 @@ use Rattle.layout_rules.specs.Limits.{Limits}
 use Rattle.layout_rules.specs.Nets.{AreNets}
 use Rattle.layout_rules.specs.Reports.{Alone, Passes}
 
+-- the longer side of a rectangle, in nanometres
 abbrev pub longer_side : Rectangle → ℕ
 longer_side r = max (width r) (height r)
 
@@ -26,5 +27,6 @@ pub record IsTooLong (limits : Limits) (shapes : List Shape) (a : ℕ) : Type 0 
   pub least : (c : ℕ) → Passes is_metal shapes c → slice_index nets c ≡ slice_index nets a → a ≤ c
   pub too_long : limits.limit < net_length shapes nets (slice_index nets a)
 
+-- the metal of a net is too long
 abbrev pub LengthsBroken : Limits → List Shape → ℕ → ℕ → Type 0
 LengthsBroken limits shapes = Alone (IsTooLong limits shapes)

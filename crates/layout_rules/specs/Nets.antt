@@ -9,9 +9,15 @@ pub record AreNets (shapes : List Shape) (nets : List ℕ) : Type 0 where
   pub joined : (i : ℕ) → i < length shapes → Joined shapes i (slice_index nets i)
   pub least : (i j : ℕ) → i < length shapes → Joined shapes i j → slice_index nets i ≤ j
 
--- what shows that numbers are those of nets: each shape is joined to its own, which is not above it, and touching shapes have one
+-- what shows that numbers are those of nets: each shape is joined to its own, which is not above it, and touching
+-- shapes have one
 pub record Certifies (shapes : List Shape) (nets : List ℕ) : Type 0 where
   pub long : length nets ≡ length shapes
   pub joined : (i : ℕ) → i < length shapes → Joined shapes i (slice_index nets i)
   pub not_above : (i : ℕ) → i < length shapes → slice_index nets i ≤ i
   pub agree : (i j : ℕ) → Touching shapes i j → slice_index nets i ≡ slice_index nets j
+
+-- some list is that of the nets of these shapes
+pub record HaveNets (shapes : List Shape) : Type 0 where
+  pub nets : List ℕ
+  pub are : AreNets shapes nets

@@ -41,8 +41,10 @@ is_entry shapes pin = pin.layer == INPUT_PIN && stands_in shapes 0 pin
 abbrev pub is_exit : List Shape → Shape → Bool
 is_exit shapes pin = pin.layer == OUTPUT_PIN && stands_in shapes (row_count shapes - 1) pin
 
+-- how many inputs the chip has
 abbrev pub entry_count : List Shape → ℕ
 entry_count shapes = count_by (is_entry shapes) shapes
 
+-- how many outputs it has
 abbrev pub exit_count : List Shape → ℕ
 exit_count shapes = count_by (is_exit shapes) shapes

@@ -4,9 +4,12 @@ use Rattle.geom.specs.declared.shapes.Shape.{Shape}
 use Rattle.geom.specs.Rectangle.{share_point}
 use Rattle.layout_rules.specs.Layers.{is_lower, is_upper, is_via}
 
--- a shape of the first kind conducts to one of the second: both in the lower plane, both in the upper one, or a via and either
+-- a shape of the first kind conducts to one of the second: both in the lower plane, both in the upper one, or a via and
+-- either
 abbrev pub conducts : Shape → Shape → Bool
-conducts a b = (is_lower a && is_lower b) || (is_upper a && is_upper b) || (is_via a && (is_lower b || is_upper b)) || (is_via b && (is_lower a || is_upper a))
+conducts a b = (is_lower a && is_lower b) || (is_upper a && is_upper b)
+    || (is_via a && (is_lower b || is_upper b))
+    || (is_via b && (is_lower a || is_upper a))
 
 -- the two conduct to each other and share a point
 abbrev pub touch : Shape → Shape → Bool

@@ -4,21 +4,18 @@ ghost use Rattle.geom.specs.declared.shapes.Shape.{Shape};
 ghost use Rattle.geom.specs.declared.shapes.Flat.{Flat};
 ghost use Rattle.geom.specs.FirstChip.{first_flat};
 ghost use Rattle.layout_rules.specs.declared.rule.Rule.{Rule};
-ghost use Rattle.layout_rules.specs.Nets.{AreNets, Certifies};
+ghost use Rattle.layout_rules.specs.Nets.{AreNets, Certifies, HaveNets};
 ghost use Rattle.layout_rules.specs.Rows.{AreRows, row_of, row_count};
 ghost use Rattle.layout_rules.specs.Limits.{Limits};
 ghost use Rattle.layout_rules.specs.FirstLimits.{first_limits};
-ghost use Rattle.layout_rules.specs.EveryNets.{HaveNets};
-ghost use Rattle.layout_rules.specs.EveryVerdict.{HasFirstBroken};
 ghost use Rattle.layout_rules.specs.FaultyChips.{with_moved_via, without_starts};
 ghost use Rattle.layout_rules.specs.declared.layers.TheConstants.{EVEN_LINE, ODD_LINE};
 ghost use Rattle.layout_rules.specs.ExcitationLines.{IsLine, HasOneLine};
 ghost use Rattle.layout_rules.specs.ExcitationRule.{IsCutOff, AreLaidOut};
 ghost use Rattle.layout_rules.specs.Reports.{ReportsNone, Alone, IsFirstReport};
-ghost use Rattle.layout_rules.specs.Rules.{Broken, KeepsRules, FirstBroken};
-ghost use Rattle.layout_rules.specs.RuleLaws.{IsOneReport};
+ghost use Rattle.layout_rules.specs.Rules.{Broken, KeepsRules, FirstBroken, HasFirstBroken, IsOneReport};
 
-/// The first chip keeps all eleven rules.
+/// The first chip keeps all rules.
 pub fn first_chip_keeps_rules()
     ensures { KeepsRules first_flat first_limits }
 {}
@@ -49,15 +46,17 @@ pub fn first_chip_has_lines()
     ensures odd { IsLine first_flat.shapes ODD_LINE (13 ∷ 14 ∷ []) }
 {}
 
-/// Where each part of a line has its contacts, each layer with shapes has one start, and chains lead to all of them, each
-/// layer of a line is one path.
+/// Where each part of a line has its contacts, each layer with shapes has one start, and chains lead to all of them,
+/// each layer of a line is one path.
 pub fn one_line()
-    ensures { (shapes : List Shape) (layer : ℕ) → AreLaidOut shapes → ReportsNone (Alone (IsCutOff shapes)) → (layer ≡ EVEN_LINE) ⊎ (layer ≡ ODD_LINE) → HasOneLine shapes layer }
+    ensures { (shapes : List Shape) (layer : ℕ) → AreLaidOut shapes → ReportsNone (Alone (IsCutOff shapes))
+        → (layer ≡ EVEN_LINE) ⊎ (layer ≡ ODD_LINE) → HasOneLine shapes layer }
 {}
 
 /// A layout has one first broken rule at most, and it reports one pair of numbers.
 pub fn first_broken_once()
-    ensures { (flat : Flat) (limits : Limits) (rule other : Rule) (a b c d : ℕ) → FirstBroken flat limits rule a b → FirstBroken flat limits other c d → IsOneReport rule other a b c d }
+    ensures { (flat : Flat) (limits : Limits) (rule other : Rule) (a b c d : ℕ) → FirstBroken flat limits rule a b
+        → FirstBroken flat limits other c d → IsOneReport rule other a b c d }
 {}
 
 /// Numbers that touching shapes share, each a shape of the net and none above its own, are the least of the nets.
@@ -67,6 +66,7 @@ pub fn certificate_gives_nets()
 
 /// The place of a frame's lower edge among the rising lower edges is its row, and there are as many rows as edges.
 pub fn rising_edges_are_rows()
-    ensures row { (shapes : List Shape) (edges : List ℤ) (r : ℕ) (y : ℤ) → AreRows shapes edges → slice_get edges r ≡ Some y → row_of shapes y ≡ r }
+    ensures row { (shapes : List Shape) (edges : List ℤ) (r : ℕ) (y : ℤ) → AreRows shapes edges
+        → slice_get edges r ≡ Some y → row_of shapes y ≡ r }
     ensures count { (shapes : List Shape) (edges : List ℤ) → AreRows shapes edges → row_count shapes ≡ length edges }
 {}

@@ -1,4 +1,4 @@
-//! Definitions of touch, nets, rows and the eleven rules of a layout, and their laws.
+//! Definitions of touch, nets, rows and the rules of a layout, and their laws.
 #![tactic(auto)]
 
 pub mod laws;

@@ -1,9 +1,9 @@
 // The names of the rules.
 ghost use Rattle.std.specs.Prelude.{◌≡◌, codes};
-ghost use Rattle.layout_rules.specs.RuleNames.{name_of};
+ghost use Rattle.layout_rules.specs.RuleTable.{name_of};
 
-/// The eleven rules: `E` for what makes a circuit, `G` for geometry. They are tried in the order
-/// E1, E2, E3, E4, E6, G1, G2, G3, G4, G5, E5.
+/// The rules: `E` for excitation, wires and labels, `G` for geometry. The order in which they are tried, and which of
+/// them make a circuit of the shapes, stand in the table `specs/RuleTable`.
 #[derive(Clone, Copy, Debug, PartialEq, Eq)]
 pub enum Rule {
     /// Each frame is that of a cell, and each pin lies in one.

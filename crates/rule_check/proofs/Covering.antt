@@ -13,7 +13,7 @@ use Rattle.geom.specs.Rectangle.{Rectangle, IsProper, AreProper, share_x, share_
 use Rattle.layout_rules.specs.declared.layers.TheConstants.{M1}
 use Rattle.layout_rules.specs.Layers.{is_frame, is_via, is_upper}
 use Rattle.layout_rules.specs.Pins.{lies_in}
-use Rattle.layout_rules.specs.PlaceLaws.{PassesAt, list_any-at, list_any-place}
+use Rattle.layout_rules.proofs.PlaceLaws.{PassesAt, list_any-at, list_any-place}
 use Rattle.layout_rules.specs.Reports.{PassTogether}
 use Rattle.layout_rules.specs.GeometryRules.{common, is_at_pin, trespasses, CoverBroken}
 use Rattle.shape_extract.specs.Searches.{FindsAt, passes_in}

@@ -7,9 +7,9 @@ use Rattle.geom.specs.declared.shapes.Shape.{Shape}
 use Rattle.std.proofs.lemmas.List.{length-map}
 use Rattle.geom.specs.Near.{rects_of, AreNear}
 use Rattle.geom.specs.Rectangle.{Rectangle, grown, gap_x, gap_y, share_point}
-use Rattle.layout_rules.specs.PlaceLaws.{PassesAt, list_any-at, list_any-place}
+use Rattle.layout_rules.proofs.PlaceLaws.{PassesAt, list_any-at, list_any-place}
 use Rattle.layout_rules.specs.Reports.{Alone, Passes, PassTogether}
-use Rattle.layout_rules.specs.ReportLaws.{Alone-first, Alone-none}
+use Rattle.layout_rules.proofs.ReportLaws.{Alone-first, Alone-none}
 use Rattle.layout_rules.specs.Layers.{is_lower, is_upper, is_via}
 use Rattle.layout_rules.specs.Limits.{Limits}
 use Rattle.layout_rules.specs.GeometryRules.{is_covered, are_too_close, SpacingBroken}

@@ -12,7 +12,7 @@ use Rattle.layout_rules.specs.Layers.{is_metal}
 use Rattle.layout_rules.specs.Limits.{Limits}
 use Rattle.layout_rules.specs.LengthRule.{longer_side, length_in, net_length, IsTooLong, LengthsBroken}
 use Rattle.layout_rules.specs.Nets.{AreNets}
-use Rattle.layout_rules.specs.NetLaws.{Joined-self, AreNets-once}
+use Rattle.layout_rules.proofs.NetLaws.{Joined-self, AreNets-once}
 use Rattle.layout_rules.specs.Reports.{IsFirstReport, ReportsNone}
 use Rattle.rule_check.specs.Code.Lengths.{AreLengths}
 

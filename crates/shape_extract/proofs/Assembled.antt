@@ -5,7 +5,7 @@ use Rattle.geom.specs.declared.shapes.Flat.{Flat}
 use Rattle.geom.specs.FlatForm.{flat_count}
 use Rattle.layout_rules.specs.Nets.{AreNets}
 use Rattle.layout_rules.specs.Rows.{row_count, lower_edges, AreRows}
-use Rattle.layout_rules.specs.RowLaws.{row_count-certified}
+use Rattle.layout_rules.proofs.RowLaws.{row_count-certified}
 use Rattle.rowed.specs.declared.source.Source.{Source}
 use Rattle.chip_circuit.specs.declared.cells.ExCell.{ExCell}
 use Rattle.chip_circuit.specs.Circuits.{KeepsFacts}

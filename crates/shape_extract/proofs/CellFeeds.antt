@@ -10,7 +10,7 @@ use Rattle.circuit.specs.CellKinds.{inputs_of}
 use Rattle.layout_rules.specs.declared.layers.TheConstants.{INPUT_PIN, OUTPUT_PIN}
 use Rattle.layout_rules.specs.Layers.{is_frame, is_pin}
 use Rattle.layout_rules.specs.Reports.{Passes, PassTogether}
-use Rattle.layout_rules.specs.PlaceLaws.{list_any-place}
+use Rattle.layout_rules.proofs.PlaceLaws.{list_any-place}
 use Rattle.layout_rules.specs.Pins.{LiesIn, IsPinOf}
 use Rattle.layout_rules.specs.Labels.{marks, Marks, is_labelled}
 use Rattle.layout_rules.specs.CircuitRules.{IsInput}

@@ -13,7 +13,7 @@ use Rattle.circuit.specs.CellKinds.{number_of, inputs_of}
 use Rattle.layout_rules.specs.Layers.{is_frame}
 use Rattle.layout_rules.specs.Reports.{ReportsNone, Passes}
 use Rattle.layout_rules.specs.Rows.{has_edge, lower_edges, row_of, AreRows}
-use Rattle.layout_rules.specs.RowLaws.{row_of-certified}
+use Rattle.layout_rules.proofs.RowLaws.{row_of-certified}
 use Rattle.layout_rules.specs.CircuitRules.{CellsBroken}
 use Rattle.chip_circuit.specs.declared.cells.Feed.{Feed}
 use Rattle.chip_circuit.specs.declared.cells.Feed.TheVariants.{Nothing}

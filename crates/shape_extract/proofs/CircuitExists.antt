@@ -16,10 +16,10 @@ use Rattle.layout_rules.specs.declared.layers.TheConstants.{INPUT_PIN, OUTPUT_PI
 use Rattle.layout_rules.specs.CircuitRules.{IsInput, IsSource}
 use Rattle.layout_rules.specs.Labels.{Marks, marks, is_labelled, number_of_label}
 use Rattle.layout_rules.specs.Layers.{is_frame, is_pin}
-use Rattle.layout_rules.specs.NetLaws.{Joined-back, Joined-trans, one_net, one_number}
+use Rattle.layout_rules.proofs.NetLaws.{Joined-back, Joined-trans, one_net, one_number}
 use Rattle.layout_rules.specs.Nets.{AreNets}
 use Rattle.layout_rules.specs.Pins.{lies_in, LiesIn, entry_count, exit_count}
-use Rattle.layout_rules.specs.PlaceLaws.{list_any-at, list_any-place}
+use Rattle.layout_rules.proofs.PlaceLaws.{list_any-at, list_any-place}
 use Rattle.layout_rules.specs.Reports.{Passes}
 use Rattle.layout_rules.specs.Rows.{row_of, row_count}
 use Rattle.layout_rules.proofs.NetsExist.{some_nets}

@@ -12,7 +12,7 @@ use Rattle.std.proofs.lemmas.Option.{same_Some, slice_get_within, slice_get-get_
 use Rattle.std.proofs.lemmas.List.Sorted.{ranks_by, sorted_far, IsPermutation-sym, Contains-permutation, sum_by-IsPermutation}
 use Rattle.geom.specs.declared.shapes.Shape.{Shape}
 use Rattle.layout_rules.specs.Layers.{is_frame}
-use Rattle.layout_rules.specs.PlaceLaws.{count_by-once, count_by-one}
+use Rattle.layout_rules.proofs.PlaceLaws.{count_by-once, count_by-one}
 use Rattle.shape_extract.specs.declared.frames.Corner.{Corner}
 use Rattle.shape_extract.specs.Corners.{corner_of, IsCorner, HasCorner, AreCorners, numbers_of}
 use Rattle.shape_extract.specs.Frames.{AreFrames}

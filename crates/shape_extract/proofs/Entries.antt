@@ -8,7 +8,7 @@ use Rattle.geom.specs.declared.shapes.Label.{Label}
 use Rattle.geom.specs.declared.shapes.Flat.{Flat}
 use Rattle.layout_rules.specs.declared.layers.TheConstants.{INPUT_PIN, OUTPUT_PIN}
 use Rattle.layout_rules.specs.Reports.{ReportsNone}
-use Rattle.layout_rules.specs.PlaceLaws.{list_any-at}
+use Rattle.layout_rules.proofs.PlaceLaws.{list_any-at}
 use Rattle.layout_rules.specs.Pins.{stands_in, is_entry, is_exit, entry_count, exit_count}
 use Rattle.layout_rules.specs.Labels.{letter_i, letter_o, marks, Marks, number_of_label}
 use Rattle.layout_rules.specs.CircuitRules.{LabelsBroken}

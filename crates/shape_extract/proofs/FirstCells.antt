@@ -10,7 +10,7 @@ use Rattle.geom.specs.FirstChip.{drawn, first_flat}
 use Rattle.geom.specs.Rectangle.{overlap}
 use Rattle.layout_rules.specs.declared.layers.TheConstants.{INPUT_PIN, OUTPUT_PIN, BAR, START}
 use Rattle.layout_rules.specs.Layers.{is_frame, is_line}
-use Rattle.layout_rules.specs.NetLaws.{one_number}
+use Rattle.layout_rules.proofs.NetLaws.{one_number}
 use Rattle.layout_rules.specs.Reports.{Passes}
 use Rattle.layout_rules.specs.Pins.{lies_in, IsPinOf}
 use Rattle.layout_rules.specs.Labels.{letter_i}

@@ -5,8 +5,9 @@ use Rattle.layout_rules.specs.declared.rule.Rule.{Rule}
 use Rattle.layout_rules.specs.declared.rule.Rule.TheVariants.{E1, E2, E3, E4, E5, E6, G1, G2, G3, G4, G5}
 use Rattle.layout_rules.specs.Limits.{Limits}
 use Rattle.layout_rules.specs.Reports.{ReportsNone}
-use Rattle.layout_rules.specs.Rules.{Broken, Keeps, place, first_of_geometry, KeepsCircuitRules}
-use Rattle.layout_rules.specs.RuleLaws.{KeepsBelow, KeepsBelow-none, KeepsBelow-more}
+use Rattle.layout_rules.specs.RuleTable.{place, first_of_geometry}
+use Rattle.layout_rules.specs.Rules.{Broken, Keeps, KeepsCircuitRules}
+use Rattle.layout_rules.proofs.RuleLaws.{KeepsBelow, KeepsBelow-none, KeepsBelow-more}
 use Rattle.shape_extract.specs.declared.search.Report.{Report}
 use Rattle.shape_extract.specs.declared.first_broken.BrokenRule.{BrokenRule}
 use Rattle.geom.specs.declared.shapes.Shape.{Shape}

@@ -10,11 +10,11 @@ use Rattle.geom.specs.declared.shapes.Flat.{Flat}
 use Rattle.layout_rules.specs.declared.layers.TheConstants.{INPUT_PIN, LABELS}
 use Rattle.layout_rules.specs.Layers.{is_frame, is_pin}
 use Rattle.layout_rules.specs.Reports.{ReportsNone, Alone, Afterwards, Passes}
-use Rattle.layout_rules.specs.PlaceLaws.{list_any-place, count_by-one}
+use Rattle.layout_rules.proofs.PlaceLaws.{list_any-place, count_by-one}
 use Rattle.layout_rules.specs.Pins.{LiesIn, IsPinOf}
 use Rattle.layout_rules.specs.Labels.{marks, Marks, number_of_label}
 use Rattle.layout_rules.specs.CircuitRules.{IsNoCell, IsStrayPin, CellsBroken, is_port, is_port_label, IsLabelAt, IsNoPortLabel, IsUnlabelledPort, IsMisnumbered, LabelsBroken}
-use Rattle.layout_rules.specs.ReportLaws.{first_kept, second_kept, alone_kept}
+use Rattle.layout_rules.proofs.ReportLaws.{first_kept, second_kept, alone_kept}
 use Rattle.layout_rules.proofs.Deciding.{settled}
 use Rattle.shape_extract.specs.Extraction.{IsNamed}
 

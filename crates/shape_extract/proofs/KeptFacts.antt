@@ -14,14 +14,14 @@ use Rattle.geom.specs.declared.shapes.Shape.{Shape}
 use Rattle.geom.specs.declared.shapes.Flat.{Flat}
 use Rattle.layout_rules.specs.declared.layers.TheConstants.{INPUT_PIN, OUTPUT_PIN}
 use Rattle.layout_rules.specs.Layers.{is_frame, is_pin}
-use Rattle.layout_rules.specs.NetLaws.{Joined-trans, Joined-back}
+use Rattle.layout_rules.proofs.NetLaws.{Joined-trans, Joined-back}
 use Rattle.layout_rules.specs.Touch.{Joined}
 use Rattle.layout_rules.specs.Rows.{row_of, row_count, AreRows}
-use Rattle.layout_rules.specs.RowLaws.{row_of-certified, row_count-certified}
+use Rattle.layout_rules.proofs.RowLaws.{row_of-certified, row_count-certified}
 use Rattle.layout_rules.specs.Pins.{lies_in, LiesIn, IsPinOf, stands_in, is_entry, is_exit, exit_count}
 use Rattle.layout_rules.specs.Labels.{letter_i, letter_o, number_of_label}
 use Rattle.layout_rules.specs.CircuitRules.{HasNoFrame}
-use Rattle.layout_rules.specs.ReportLaws.{first_kept}
+use Rattle.layout_rules.proofs.ReportLaws.{first_kept}
 use Rattle.layout_rules.proofs.Deciding.{settled}
 use Rattle.layout_rules.proofs.LinesAgree.{each_excited}
 use Rattle.chip_circuit.specs.declared.cells.Feed.{Feed}

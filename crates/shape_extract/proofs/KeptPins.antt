@@ -13,12 +13,12 @@ use Rattle.geom.specs.declared.shapes.Flat.{Flat}
 use Rattle.layout_rules.specs.declared.layers.TheConstants.{INPUT_PIN, OUTPUT_PIN, LABELS}
 use Rattle.layout_rules.specs.Layers.{is_frame, is_pin}
 use Rattle.layout_rules.specs.Reports.{ReportsNone}
-use Rattle.layout_rules.specs.PlaceLaws.{list_any-at, list_any-place, count_by-none}
+use Rattle.layout_rules.proofs.PlaceLaws.{list_any-at, list_any-place, count_by-none}
 use Rattle.layout_rules.specs.Rows.{row_of}
 use Rattle.layout_rules.specs.Pins.{lies_in, LiesIn, IsPinOf, stands_in, is_entry, is_exit, entry_count, exit_count}
 use Rattle.layout_rules.specs.Labels.{letter_i, letter_o, marked_layer, marks, Marks, tail, is_decimal, is_numbered, number_of_label}
 use Rattle.layout_rules.specs.CircuitRules.{IsCell, CellsBroken, is_port, port_count, IsUnlabelledPort, IsMisnumbered, LabelsBroken}
-use Rattle.layout_rules.specs.ReportLaws.{first_kept, second_kept, alone_kept}
+use Rattle.layout_rules.proofs.ReportLaws.{first_kept, second_kept, alone_kept}
 use Rattle.layout_rules.proofs.Deciding.{settled}
 use Rattle.shape_extract.specs.Extraction.{IsNamed}
 use Rattle.shape_extract.proofs.Kept.{no_fault, later_kept, port_label, label_at, one_pin}

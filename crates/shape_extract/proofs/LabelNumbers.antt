@@ -11,9 +11,9 @@ use Rattle.layout_rules.specs.declared.layers.TheConstants.{LABELS}
 use Rattle.layout_rules.specs.Labels.{letter_i, letter_o, is_decimal, tail, is_numbered, number_of_label}
 use Rattle.layout_rules.specs.Pins.{entry_count, exit_count}
 use Rattle.layout_rules.specs.Reports.{Alone, ReportsNone, ReportsNoneAt, IsFirstReport}
-use Rattle.layout_rules.specs.ReportLaws.{Alone-first, Alone-none, IsFirstReport-at}
+use Rattle.layout_rules.proofs.ReportLaws.{Alone-first, Alone-none, IsFirstReport-at}
 use Rattle.layout_rules.specs.CircuitRules.{is_port_label, port_count, have_one_name, IsNoPortLabel, IsRepeated, IsMisnumbered}
-use Rattle.layout_rules.specs.ReportLaws.{alone_kept}
+use Rattle.layout_rules.proofs.ReportLaws.{alone_kept}
 use Rattle.shape_extract.specs.LabelNames.{name_count, name_place, is_seen, IsTaken, IsRefused}
 use Rattle.shape_extract.specs.LabelFaults.{misnumbered_within}
 use Rattle.shape_extract.proofs.Kept.{settled_true}

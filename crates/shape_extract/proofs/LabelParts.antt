@@ -10,7 +10,7 @@ use Rattle.geom.specs.declared.shapes.Flat.{Flat}
 use Rattle.layout_rules.specs.declared.layers.TheConstants.{LABELS}
 use Rattle.layout_rules.specs.Labels.{marks, is_numbered}
 use Rattle.layout_rules.specs.Reports.{Alone}
-use Rattle.layout_rules.specs.ReportLaws.{Alone-first, Alone-none}
+use Rattle.layout_rules.proofs.ReportLaws.{Alone-first, Alone-none}
 use Rattle.layout_rules.specs.CircuitRules.{is_port, is_port_label, IsLabelAt, IsNoPortLabel, IsUnlabelledPort}
 use Rattle.shape_extract.specs.Searches.{FindsAt, AreThose}
 use Rattle.shape_extract.specs.Passing.{PassesIn}

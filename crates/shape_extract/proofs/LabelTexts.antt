@@ -6,7 +6,7 @@ use Rattle.std.specs.Str.Parse.{digits_value}
 use Rattle.std.proofs.lemmas.Bool.{cases_lt}
 use Rattle.aq_base.specs.Decimal.{IsUnreadable}
 use Rattle.layout_rules.specs.Labels.{is_decimal}
-use Rattle.layout_rules.specs.LabelLaws.{decimal-is_decimal}
+use Rattle.layout_rules.proofs.LabelLaws.{decimal-is_decimal}
 
 -- the number is told where it is below 2^64
 pub number_said : (text : List ℕ) (r : Option ℕ) → is_decimal text ≡ true → (IsNone r ↔ IsUnreadable text) → ((n : ℕ) → n < 2 ^ 64 → text ≡ decimal n → r ≡ Some n)

@@ -6,7 +6,7 @@ use Rattle.std.proofs.lemmas.Option.{same_Some, slice_get_within}
 use Rattle.geom.specs.declared.shapes.Shape.{Shape}
 use Rattle.layout_rules.specs.declared.layers.TheConstants.{START}
 use Rattle.layout_rules.specs.Layers.{is_line}
-use Rattle.layout_rules.specs.PlaceLaws.{count_by-once, count_by-one}
+use Rattle.layout_rules.proofs.PlaceLaws.{count_by-once, count_by-one}
 use Rattle.layout_rules.specs.Reports.{ReportsNone, Alone, IsFirstReport}
 use Rattle.layout_rules.specs.ExcitationRule.{IsStartOn, HasOneStart, LacksOneStart}
 use Rattle.shape_extract.specs.LineParts.{is_start_on, IsLeastOn}

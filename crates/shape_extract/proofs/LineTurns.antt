@@ -4,7 +4,7 @@ use Rattle.std.specs.Prelude.{Option}
 use Rattle.geom.specs.declared.shapes.Shape.{Shape}
 use Rattle.layout_rules.specs.declared.layers.TheConstants.{EVEN_LINE, ODD_LINE}
 use Rattle.layout_rules.specs.Reports.{ReportsNone, IsFirstReport, Alone, Afterwards, Passes}
-use Rattle.layout_rules.specs.ReportLaws.{Afterwards-first, Afterwards-second}
+use Rattle.layout_rules.proofs.ReportLaws.{Afterwards-first, Afterwards-second}
 use Rattle.layout_rules.specs.ExcitationRule.{is_no_part, LacksOneStart, IsMisjoined, IsCutOff, IsNotCrossed, IsUnexcited, ExcitationBroken, AreLaidOut}
 use Rattle.layout_rules.specs.Code.ChainRule.{IsChainUncrossed, IsChainUnexcited}
 use Rattle.layout_rules.proofs.LinesAgree.{path_parts, chain_parts, path_excited}

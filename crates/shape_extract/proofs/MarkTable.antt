@@ -12,7 +12,7 @@ use Rattle.geom.specs.declared.shapes.Label.{Label}
 use Rattle.geom.specs.declared.shapes.Flat.{Flat}
 use Rattle.layout_rules.specs.Labels.{marks, is_labelled}
 use Rattle.layout_rules.specs.declared.layers.TheConstants.{INPUT_PIN}
-use Rattle.layout_rules.specs.PlaceLaws.{PassesAt, list_any-at, list_any-place}
+use Rattle.layout_rules.proofs.PlaceLaws.{PassesAt, list_any-at, list_any-place}
 use Rattle.shape_extract.specs.Extraction.{is_wired}
 use Rattle.shape_extract.specs.Passing.{PassesIn}
 use Rattle.shape_extract.specs.Searches.{Says, AreThose}

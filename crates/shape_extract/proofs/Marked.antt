@@ -11,7 +11,7 @@ use Rattle.circuit.specs.CellKinds.{number_of, inputs_of, outputs_of}
 use Rattle.layout_rules.specs.declared.layers.TheConstants.{INPUT_PIN, OUTPUT_PIN}
 use Rattle.layout_rules.specs.Layers.{is_frame, is_pin}
 use Rattle.layout_rules.specs.Pins.{lies_in, LiesIn, IsPinOf}
-use Rattle.layout_rules.specs.PlaceLaws.{PassesAt, count_by-once, count_by-one}
+use Rattle.layout_rules.proofs.PlaceLaws.{PassesAt, count_by-once, count_by-one}
 use Rattle.layout_rules.specs.Reports.{ReportsNone, IsFirstReport, Passes, PassTogether}
 use Rattle.layout_rules.specs.CircuitRules.{HasPins, IsCell, LiesInOneFrame, IsNoCell, IsStrayPin, HasNoFrame}
 use Rattle.shape_extract.specs.Searches.{Says, AreThose}

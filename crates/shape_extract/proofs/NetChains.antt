@@ -7,7 +7,7 @@ use Rattle.std.proofs.Math.ListN.{length-set}
 use Rattle.std.proofs.lemmas.Option.{slice_get_within}
 use Rattle.geom.specs.declared.shapes.Shape.{Shape}
 use Rattle.layout_rules.specs.Nets.{AreNets}
-use Rattle.layout_rules.specs.NetLaws.{Joined-within, one_number}
+use Rattle.layout_rules.proofs.NetLaws.{Joined-within, one_number}
 use Rattle.shape_extract.specs.Searches.{AreThose}
 use Rattle.shape_extract.specs.NetPins.{IsPinIn}
 use Rattle.shape_extract.specs.NetChains.{IsNextFrom, AreChains}

@@ -8,7 +8,7 @@ use Rattle.geom.specs.declared.shapes.Shape.{Shape}
 use Rattle.geom.specs.declared.shapes.Flat.{Flat}
 use Rattle.layout_rules.specs.declared.layers.TheConstants.{INPUT_PIN, OUTPUT_PIN}
 use Rattle.layout_rules.specs.Nets.{AreNets}
-use Rattle.layout_rules.specs.NetLaws.{Joined-within, one_number, one_net}
+use Rattle.layout_rules.proofs.NetLaws.{Joined-within, one_number, one_net}
 use Rattle.layout_rules.specs.Reports.{ReportsNone}
 use Rattle.layout_rules.specs.CircuitRules.{IsInput, IsSource, NetsBroken}
 use Rattle.layout_rules.proofs.Deciding.{settled}

@@ -8,10 +8,10 @@ use Rattle.geom.specs.declared.shapes.Flat.{Flat}
 use Rattle.layout_rules.specs.declared.layers.TheConstants.{INPUT_PIN, OUTPUT_PIN}
 use Rattle.layout_rules.specs.Layers.{is_pin}
 use Rattle.layout_rules.specs.Nets.{AreNets}
-use Rattle.layout_rules.specs.NetLaws.{one_number, one_net}
+use Rattle.layout_rules.proofs.NetLaws.{one_number, one_net}
 use Rattle.layout_rules.specs.Labels.{is_labelled}
 use Rattle.layout_rules.specs.Reports.{Alone, Otherwise}
-use Rattle.layout_rules.specs.ReportLaws.{Alone-first, Alone-none, Otherwise-first, Otherwise-second, Otherwise-none}
+use Rattle.layout_rules.proofs.ReportLaws.{Alone-first, Alone-none, Otherwise-first, Otherwise-second, Otherwise-none}
 use Rattle.layout_rules.specs.CircuitRules.{HasRival, IsInput, IsSource, IsUndriven, IsDriven}
 use Rattle.shape_extract.specs.Searches.{FindsAt, AreThose}
 use Rattle.shape_extract.specs.NetPins.{IsPinIn, FindsOther, FindsFirst, lone_number}

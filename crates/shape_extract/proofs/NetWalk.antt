@@ -11,7 +11,7 @@ use Rattle.geom.specs.declared.shapes.Shape.{Shape}
 use Rattle.layout_rules.specs.Touch.{touch, Touching, Joined}
 use Rattle.layout_rules.specs.Reports.{PassTogether}
 use Rattle.layout_rules.specs.Nets.{AreNets}
-use Rattle.layout_rules.specs.NetLaws.{Touching-back, Touching-within, Joined-trans, Joined-touching, AreNets-certified}
+use Rattle.layout_rules.proofs.NetLaws.{Touching-back, Touching-within, Joined-trans, Joined-touching, AreNets-certified}
 use Rattle.shape_extract.specs.Searches.{AreThose}
 use Rattle.shape_extract.specs.Walk.{AreTouching, IsWalk, IsSpreadTo, IsDone, AreMarked, IsLowest, is_settled, AreSettled, SettlesAlike, IsReached}
 

@@ -11,8 +11,8 @@ use Rattle.circuit.specs.declared.cell_kind.CellKind.TheVariants.{Buffer, Invert
 use Rattle.circuit.specs.CellKinds.{number_of, inputs_of}
 use Rattle.layout_rules.specs.declared.layers.TheConstants.{OUTPUT_PIN}
 use Rattle.layout_rules.specs.Layers.{is_frame}
-use Rattle.layout_rules.specs.NetLaws.{AreNets-once}
-use Rattle.layout_rules.specs.PlaceLaws.{list_any-at}
+use Rattle.layout_rules.proofs.NetLaws.{AreNets-once}
+use Rattle.layout_rules.proofs.PlaceLaws.{list_any-at}
 use Rattle.layout_rules.specs.Rows.{row_of}
 use Rattle.layout_rules.specs.Reports.{ReportsNone}
 use Rattle.layout_rules.specs.Labels.{letter_i, letter_o, marks, is_labelled}

@@ -5,7 +5,7 @@ use Rattle.std.specs.List.{list_any}
 use Rattle.std.proofs.lemmas.Bool.{cases_eq, cases_lt, both_ways, and_from, and_parts, ne_eqb, false_from_ne_true}
 use Rattle.std.proofs.lemmas.List.Sums.{sum_by-cons}
 use Rattle.std.proofs.lemmas.Option.{same_Some, slice_get_within, slice_get-get_or, get_or_from_slice_get}
-use Rattle.layout_rules.specs.PlaceLaws.{PassesAt, list_any-at, list_any-place, count_by-once, count_by-one}
+use Rattle.layout_rules.proofs.PlaceLaws.{PassesAt, list_any-at, list_any-place, count_by-once, count_by-one}
 use Rattle.shape_extract.specs.Searches.{Says, AreThose}
 use Rattle.shape_extract.specs.Passing.{PassesIn}
 

@@ -8,11 +8,11 @@ use Rattle.geom.specs.Rectangle.{within}
 use Rattle.geom.specs.declared.shapes.Shape.{Shape}
 use Rattle.layout_rules.specs.Layers.{is_pin, is_frame}
 use Rattle.layout_rules.specs.Rows.{row_of, AreRows}
-use Rattle.layout_rules.specs.RowLaws.{row_of-certified}
+use Rattle.layout_rules.proofs.RowLaws.{row_of-certified}
 use Rattle.layout_rules.specs.Pins.{lies_in, LiesIn}
 use Rattle.layout_rules.specs.Reports.{ReportsNone, Passes, PassTogether}
 use Rattle.layout_rules.specs.CircuitRules.{IsNoCell, IsStrayPin, CellsBroken}
-use Rattle.layout_rules.specs.ReportLaws.{second_kept, alone_kept}
+use Rattle.layout_rules.proofs.ReportLaws.{second_kept, alone_kept}
 use Rattle.shape_extract.specs.Searches.{AreThose}
 use Rattle.shape_extract.specs.Edges.{IsAmong}
 use Rattle.shape_extract.specs.PinRows.{IsRowOf}

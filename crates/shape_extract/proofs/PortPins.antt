@@ -8,7 +8,7 @@ use Rattle.std.proofs.lemmas.Option.{same_Some, slice_get-get_or}
 use Rattle.geom.specs.declared.shapes.Shape.{Shape}
 use Rattle.layout_rules.specs.declared.layers.TheConstants.{INPUT_PIN, OUTPUT_PIN}
 use Rattle.layout_rules.specs.Layers.{is_pin}
-use Rattle.layout_rules.specs.PlaceLaws.{PassesAt, list_any-at, list_any-place}
+use Rattle.layout_rules.proofs.PlaceLaws.{PassesAt, list_any-at, list_any-place}
 use Rattle.layout_rules.specs.Rows.{row_of, row_count}
 use Rattle.layout_rules.specs.Pins.{lies_in, LiesIn, stands_in, is_entry, is_exit, entry_count, exit_count}
 use Rattle.layout_rules.specs.Reports.{ReportsNone, Passes}

@@ -15,7 +15,7 @@ use Rattle.layout_rules.specs.Pins.{LiesIn}
 use Rattle.layout_rules.specs.Rows.{row_of}
 use Rattle.layout_rules.specs.Reports.{ReportsNone, Passes}
 use Rattle.layout_rules.specs.CircuitRules.{IsNoCell, IsStrayPin, CellsBroken, RowsBroken}
-use Rattle.layout_rules.specs.ReportLaws.{second_kept, alone_kept}
+use Rattle.layout_rules.proofs.ReportLaws.{second_kept, alone_kept}
 use Rattle.layout_rules.proofs.Deciding.{settled}
 use Rattle.shape_extract.specs.Searches.{FindsAt, AreThose}
 use Rattle.shape_extract.specs.NetPins.{IsPinIn}

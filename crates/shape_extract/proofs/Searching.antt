@@ -7,7 +7,7 @@ use Rattle.std.proofs.lemmas.Bool.{cases_eq, cases_lt}
 use Rattle.std.proofs.lemmas.Option.{slice_get_within, slice_get-get_or, get_or_from_slice_get}
 use Rattle.geom.specs.declared.shapes.Shape.{Shape}
 use Rattle.layout_rules.specs.Reports.{ReportsNone, ReportsNoneAt, Alone, Afterwards, IsFirstReport, PassTogether}
-use Rattle.layout_rules.specs.ReportLaws.{Alone-first, Alone-none, Afterwards-first, Afterwards-second, Afterwards-none}
+use Rattle.layout_rules.proofs.ReportLaws.{Alone-first, Alone-none, Afterwards-first, Afterwards-second, Afterwards-none}
 use Rattle.shape_extract.specs.declared.search.Report.{Report}
 use Rattle.shape_extract.specs.Searches.{Says, Finds, FindsAt, AreThose}
 

@@ -6,7 +6,8 @@ use Rattle.layout_rules.specs.Limits.{Limits}
 use Rattle.layout_rules.specs.Reports.{ReportsNone}
 use Rattle.layout_rules.specs.CircuitRules.{CellsBroken, NetsBroken, RowsBroken, LabelsBroken}
 use Rattle.layout_rules.specs.ExcitationRule.{ExcitationBroken}
-use Rattle.layout_rules.specs.Rules.{place, first_of_geometry, KeepsCircuitRules, FirstBroken}
+use Rattle.layout_rules.specs.RuleTable.{place, first_of_geometry}
+use Rattle.layout_rules.specs.Rules.{KeepsCircuitRules, FirstBroken}
 use Rattle.shape_extract.specs.declared.extraction.ExtractRefusal.{ExtractRefusal}
 use Rattle.shape_extract.specs.declared.extraction.ExtractRefusal.TheVariants.{Broken, Memory}
 use Rattle.shape_extract.specs.declared.first_broken.BrokenRule.{BrokenRule}

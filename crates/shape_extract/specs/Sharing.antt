@@ -10,7 +10,7 @@ use Rattle.layout_rules.specs.Layers.{is_frame, is_line, is_pin, is_lower, is_up
 use Rattle.layout_rules.specs.Pins.{lies_in}
 use Rattle.layout_rules.specs.Touch.{conducts, touch}
 use Rattle.layout_rules.specs.ExcitationLines.{meet}
-use Rattle.layout_rules.specs.NetLaws.{share_point_comm}
+use Rattle.layout_rules.proofs.NetLaws.{share_point_comm}
 use Rattle.shape_extract.specs.Cells.{holds_pin}
 use Rattle.shape_extract.specs.Lines.{lies_over}
 

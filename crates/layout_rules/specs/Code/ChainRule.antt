@@ -32,8 +32,10 @@ pub record IsChainExcited (shapes : List Shape) (frame : Shape) : Type 0 where
   pub phase : HasChainPhase shapes bar (row_of shapes frame.rect.y0 % 4)
   pub over : overlap phase.is_bar.shape.rect frame.rect ≡ true
   pub contains : within frame.rect phase.is_bar.shape.rect ≡ true
-  pub only : (i : ℕ) (s : Shape) → slice_get shapes i ≡ Some s → is_line s ≡ true → overlap s.rect frame.rect ≡ true → i ≡ bar
+  pub only : (i : ℕ) (s : Shape) → slice_get shapes i ≡ Some s → is_line s ≡ true → overlap s.rect frame.rect ≡ true
+      → i ≡ bar
 
+-- a frame that is not excited so
 pub record IsChainUnexcited (shapes : List Shape) (f : ℕ) : Type 0 where
   pub frame : Passes is_frame shapes f
   pub not_so : IsChainExcited shapes frame.shape → ⊥

@@ -1,4 +1,4 @@
-use Rattle.layout_rules.specs.NetLaws.{AreNets-certified}
+use Rattle.layout_rules.proofs.NetLaws.{AreNets-certified}
 use Rattle.layout_rules.proofs.laws.certificate_gives_nets.Goals as goal
 
 pub returns : goal.returns

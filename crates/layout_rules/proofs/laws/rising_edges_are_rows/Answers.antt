@@ -1,4 +1,4 @@
-use Rattle.layout_rules.specs.RowLaws.{row_of-certified, row_count-certified}
+use Rattle.layout_rules.proofs.RowLaws.{row_of-certified, row_count-certified}
 use Rattle.layout_rules.proofs.laws.rising_edges_are_rows.Goals as goal
 
 pub returns-clause-row : goal.returns-clause-row

@@ -1,6 +1,6 @@
 use Rattle.std.proofs.Common.{◌≤◌, get_or, sym, ◌∙◌, arith}
 use Rattle.std.proofs.lemmas.Bool.{both_ways}
-use Rattle.layout_rules.specs.NetLaws.{Joined-self}
+use Rattle.layout_rules.proofs.NetLaws.{Joined-self}
 use Rattle.rule_check.specs.Code.Seen.{limits_seen}
 use Rattle.rule_check.proofs.Geometry.{read_at}
 use Rattle.rule_check.proofs.Lengthy.{first_long_is, none_long, short_more}

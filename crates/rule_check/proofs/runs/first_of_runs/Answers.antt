@@ -1,5 +1,5 @@
 use Rattle.std.proofs.Common.{arith, None, Some}
-use Rattle.layout_rules.specs.ReportLaws.{IsFirstReport-at}
+use Rattle.layout_rules.proofs.ReportLaws.{IsFirstReport-at}
 use Rattle.layout_rules.specs.Reports.{IsFirstAt}
 use Rattle.rule_check.specs.Code.Runs.{FindsUnless}
 use Rattle.rule_check.proofs.Repeating.{none_more, none_all, none_unless}

@@ -1,6 +1,6 @@
 use Rattle.std.proofs.Common.{◌≡◌, ◌∙◌, ℕ, ◌-◌, sym, ap, List}
 use Rattle.std.specs.Prelude.{count_by}
-use Rattle.layout_rules.specs.RowLaws.{row_count-certified}
+use Rattle.layout_rules.proofs.RowLaws.{row_count-certified}
 use Rattle.shape_extract.specs.declared.ports.Port.{Port}
 use Rattle.shape_extract.specs.Ports.{enters, leaves, ports_of}
 use Rattle.shape_extract.proofs.PortPins.{entries_counted, exits_counted}

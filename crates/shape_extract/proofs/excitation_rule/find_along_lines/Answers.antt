@@ -1,7 +1,7 @@
 use Rattle.std.proofs.lemmas.Result.{IfOk-weaker}
 use Rattle.std.proofs.Common.{Some}
 use Rattle.layout_rules.specs.Reports.{ReportsNone, IsFirstReport, Alone, Afterwards}
-use Rattle.layout_rules.specs.ReportLaws.{Afterwards-first, Afterwards-second}
+use Rattle.layout_rules.proofs.ReportLaws.{Afterwards-first, Afterwards-second}
 use Rattle.layout_rules.specs.ExcitationRule.{IsCutOff, IsNotCrossed, IsUnexcited}
 use Rattle.layout_rules.specs.Code.ChainRule.{IsChainUncrossed, IsChainUnexcited}
 use Rattle.shape_extract.specs.Searches.{Finds}

@@ -1,7 +1,7 @@
 use Rattle.std.proofs.Common.{◌≡◌, ◌∙◌, ℤ, Some, sym, ap, rules, w64, to_z, of_z}
 use Rattle.std.proofs.lemmas.Int.{to_z-of_z}
 use Rattle.layout_rules.specs.Rows.{row_of}
-use Rattle.layout_rules.specs.RowLaws.{row_of-certified}
+use Rattle.layout_rules.proofs.RowLaws.{row_of-certified}
 use Rattle.shape_extract.proofs.Marked.{got_at}
 use Rattle.shape_extract.proofs.ExcitedEach.{not_come_excites, excites_said, not_inside}
 use Rattle.shape_extract.proofs.excited_frames.excites.Goals as goal

@@ -1,6 +1,6 @@
 use Rattle.std.proofs.Common.{◌∙◌, ◌-◌, ℕ, Some, sym, ap}
 use Rattle.std.proofs.lemmas.Result.{IfOk-weaker}
-use Rattle.layout_rules.specs.RowLaws.{row_count-certified}
+use Rattle.layout_rules.proofs.RowLaws.{row_count-certified}
 use Rattle.layout_rules.specs.Reports.{Alone, Afterwards, ReportsNone, IsFirstReport}
 use Rattle.layout_rules.specs.CircuitRules.{IsNoPortLabel, IsUnlabelledPort, IsMisnumbered, LabelsBroken}
 use Rattle.shape_extract.specs.Searches.{Finds}

@@ -1,5 +1,5 @@
 use Rattle.std.proofs.Common.{arith}
-use Rattle.layout_rules.specs.ReportLaws.{IsFirstReport-at}
+use Rattle.layout_rules.proofs.ReportLaws.{IsFirstReport-at}
 use Rattle.layout_rules.specs.Reports.{ReportsNoneAt, IsFirstAt}
 use Rattle.shape_extract.proofs.Searching.{none_more, none_all}
 use Rattle.shape_extract.proofs.search.first_of.Goals as goal

@@ -5,7 +5,7 @@ use Rattle.std.proofs.lemmas.Bool.{eqb-true, and_parts, and_from}
 use Rattle.geom.specs.declared.shapes.Shape.{Shape}
 use Rattle.geom.specs.Rectangle.{share_point}
 use Rattle.layout_rules.specs.Layers.{is_line}
-use Rattle.layout_rules.specs.NetLaws.{share_point_comm}
+use Rattle.layout_rules.proofs.NetLaws.{share_point_comm}
 use Rattle.layout_rules.specs.ExcitationLines.{meet, Contact}
 
 pub meet_back : (a b : Shape) → meet a b ≡ true → meet b a ≡ true

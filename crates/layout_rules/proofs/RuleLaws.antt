@@ -1,42 +1,47 @@
 -- The first broken rule and its report are one, and whoever keeps all rules has none.
-use Rattle.std.proofs.Common.{◌≡◌, ℕ, zero, suc, ◌<◌, ◌≤◌, ◌⊎◌, refl, sym, ap, ◌∙◌, subst, arith, inl, inr}
+use Rattle.std.proofs.Common.{◌≡◌, ℕ, suc, ◌<◌, ◌≤◌, ◌⊎◌, Bool, true, ◌&&◌, List, [], ◌∷◌, Some, length, refl, sym, ap, ◌∙◌, subst, arith, inl, inr}
+use Rattle.std.specs.Prelude.{slice_get, ◌==◌}
 use Rattle.std.proofs.lemmas.Bool.{cases_order, cases_lt}
+use Rattle.std.proofs.lemmas.Option.{same_Some, slice_get_within}
 use Rattle.geom.specs.declared.shapes.Flat.{Flat}
 use Rattle.layout_rules.specs.declared.rule.Rule.{Rule}
 use Rattle.layout_rules.specs.declared.rule.Rule.TheVariants.{E1, E2, E3, E4, E5, E6, G1, G2, G3, G4, G5}
 use Rattle.layout_rules.specs.Limits.{Limits}
 use Rattle.layout_rules.specs.Reports.{IsFirstReport}
-use Rattle.layout_rules.specs.Rules.{Broken, Keeps, KeepsRules, place, first_of_geometry, KeepsCircuitRules, KeepsGeometryRules, FirstBroken, FirstBrokenOfGeometry}
+use Rattle.layout_rules.specs.RuleTable.{place, first_of_geometry}
+use Rattle.layout_rules.specs.Rules.{Broken, Keeps, KeepsRules, KeepsBefore, KeepsCircuitRules, KeepsGeometryRules}
+use Rattle.layout_rules.specs.Rules.{FirstBroken, FirstBrokenOfGeometry, IsOneReport}
 
-rule_at : ℕ → Rule
-rule_at zero = E1
-rule_at (suc zero) = E2
-rule_at (suc (suc zero)) = E3
-rule_at (suc (suc (suc zero))) = E4
-rule_at (suc (suc (suc (suc zero)))) = E6
-rule_at (suc (suc (suc (suc (suc zero))))) = G1
-rule_at (suc (suc (suc (suc (suc (suc zero)))))) = G2
-rule_at (suc (suc (suc (suc (suc (suc (suc zero))))))) = G3
-rule_at (suc (suc (suc (suc (suc (suc (suc (suc zero)))))))) = G4
-rule_at (suc (suc (suc (suc (suc (suc (suc (suc (suc zero))))))))) = G5
-rule_at (suc (suc (suc (suc (suc (suc (suc (suc (suc (suc n)))))))))) = E5
+-- all rules in the order of their places
+unfoldable pub rules : List Rule
+rules = E1 ∷ E2 ∷ E3 ∷ E4 ∷ E6 ∷ G1 ∷ G2 ∷ G3 ∷ G4 ∷ G5 ∷ E5 ∷ []
 
-rule_at-place : (rule : Rule) → rule_at (place rule) ≡ rule
-unfolding rule_at
-rule_at-place E1 = refl
-rule_at-place E2 = refl
-rule_at-place E3 = refl
-rule_at-place E4 = refl
-rule_at-place E5 = refl
-rule_at-place E6 = refl
-rule_at-place G1 = refl
-rule_at-place G2 = refl
-rule_at-place G3 = refl
-rule_at-place G4 = refl
-rule_at-place G5 = refl
+-- these rules have the places from n on
+abbrev pub stand_from : ℕ → List Rule → Bool
+stand_from n [] = true
+stand_from n (rule ∷ rest) = place rule == n && stand_from (suc n) rest
 
+pub rules_stand : stand_from 0 rules ≡ true
+unfolding rules
+rules_stand = refl
+
+at_place : (rule : Rule) → slice_get rules (place rule) ≡ Some rule
+unfolding rules
+at_place E1 = refl
+at_place E2 = refl
+at_place E3 = refl
+at_place E4 = refl
+at_place E5 = refl
+at_place E6 = refl
+at_place G1 = refl
+at_place G2 = refl
+at_place G3 = refl
+at_place G4 = refl
+at_place G5 = refl
+
+-- two rules have two places
 pub same_place : (rule other : Rule) → place rule ≡ place other → rule ≡ other
-same_place rule other e = sym (rule_at-place rule) ∙ (ap rule_at e ∙ rule_at-place other)
+same_place rule other e = same_Some rule other (sym (at_place rule) ∙ (ap (slice_get rules) e ∙ at_place other))
 
 pub same_report : {report : ℕ → ℕ → Type 0} {a b c d : ℕ} → IsFirstReport report a b → IsFirstReport report c d → (a ≡ c) × (b ≡ d)
 same_report {report} {a} {b} {c} {d} one other = both (one.least c d other.reported) (other.least a b one.reported)
@@ -46,12 +51,6 @@ same_report {report} {a} {b} {c} {d} one other = both (one.least c d other.repor
     both (inl h) (inr k) = absurd (omega arith)
     both (inr h) (inl k) = absurd (omega arith)
     both (inr h) (inr k) = (h.0, omega arith)
-
--- what two searches find is one rule and one report
-pub record IsOneReport (rule other : Rule) (a b c d : ℕ) : Type 0 where
-  pub one_rule : rule ≡ other
-  pub one_first : a ≡ c
-  pub one_second : b ≡ d
 
 pub FirstBroken-once : (flat : Flat) (limits : Limits) (rule other : Rule) (a b c d : ℕ) → FirstBroken flat limits rule a b → FirstBroken flat limits other c d → IsOneReport rule other a b c d
 FirstBroken-once flat limits rule other a b c d one two = elim (cases_order (place rule) (place other)) [
@@ -84,21 +83,22 @@ KeepsBelow-more flat limits n rule e below kept other h = elim (cases_order (pla
   | inr ne ↦ elim ne [ inl less ↦ below other less | inr more ↦ absurd (omega arith) ]
 ]
 
-place-below : (rule : Rule) → place rule < 11
-place-below E1 = omega arith
-place-below E2 = omega arith
-place-below E3 = omega arith
-place-below E4 = omega arith
-place-below E5 = omega arith
-place-below E6 = omega arith
-place-below G1 = omega arith
-place-below G2 = omega arith
-place-below G3 = omega arith
-place-below G4 = omega arith
-place-below G5 = omega arith
+pub KeepsRules-below : (flat : Flat) (limits : Limits) → KeepsBelow (length rules) flat limits → KeepsRules flat limits
+KeepsRules-below flat limits below rule = below rule (slice_get_within rules (place rule) rule (at_place rule))
 
-pub KeepsRules-below : (flat : Flat) (limits : Limits) → KeepsBelow 11 flat limits → KeepsRules flat limits
-KeepsRules-below flat limits below rule = below rule (place-below rule)
+-- the same, by the rules themselves: before the first nothing is asked, and each that is kept leads to the next
+pub KeepsBefore-first : (flat : Flat) (limits : Limits) → KeepsBefore E1 flat limits
+KeepsBefore-first flat limits = KeepsBelow-none flat limits
+
+pub KeepsBefore-next : (flat : Flat) (limits : Limits) (rule next : Rule) → place next ≡ suc (place rule)
+    → KeepsBefore rule flat limits → Keeps rule flat limits → KeepsBefore next flat limits
+KeepsBefore-next flat limits rule next e before kept =
+    subst (λ (n : ℕ). KeepsBelow n flat limits) (sym e) (KeepsBelow-more flat limits (place rule) rule refl before kept)
+
+pub KeepsRules-last : (flat : Flat) (limits : Limits) (rule : Rule) → length rules ≡ suc (place rule)
+    → KeepsBefore rule flat limits → Keeps rule flat limits → KeepsRules flat limits
+KeepsRules-last flat limits rule e before kept = KeepsRules-below flat limits
+    (subst (λ (n : ℕ). KeepsBelow n flat limits) (sym e) (KeepsBelow-more flat limits (place rule) rule refl before kept))
 
 -- all rules are those of the circuit and those of geometry
 pub KeepsRules-both : (flat : Flat) (limits : Limits) → KeepsCircuitRules flat limits → KeepsGeometryRules flat limits → KeepsRules flat limits
