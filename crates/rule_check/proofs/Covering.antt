@@ -17,7 +17,7 @@ use Rattle.layout_rules.proofs.PlaceLaws.{PassesAt, list_any-at, list_any-place}
 use Rattle.layout_rules.specs.Reports.{PassTogether}
 use Rattle.layout_rules.specs.GeometryRules.{common, is_at_pin, trespasses, CoverBroken}
 use Rattle.shape_extract.specs.Searches.{FindsAt, passes_in}
-use Rattle.shape_extract.specs.Sharing.{sharing_close, overlap_shares}
+use Rattle.shape_extract.specs.Code.Sharing.{sharing_close, overlap_shares}
 use Rattle.rule_check.specs.Code.Cover.{is_at_pin_of, any_at, may_trespass, trespasses_by, FindsTrespass}
 use Rattle.rule_check.proofs.Geometry.{any_at_here, any_at_found}
 

@@ -11,7 +11,7 @@ use Rattle.chip_circuit.specs.declared.cells.ExCell.{ExCell}
 use Rattle.chip_circuit.specs.Circuits.{KeepsFacts}
 use Rattle.shape_extract.specs.Extraction.{is_wired, IsCellFrom, IsCircuitOf}
 use Rattle.shape_extract.specs.Extracts.{KeepsFive}
-use Rattle.shape_extract.specs.Parts.{AreParts}
+use Rattle.shape_extract.specs.Code.Parts.{AreParts}
 use Rattle.shape_extract.proofs.CellLists.{few_edges}
 use Rattle.shape_extract.proofs.KeptFacts.{zip_long, keeps_facts}
 

@@ -11,7 +11,7 @@ use Rattle.layout_rules.specs.Code.LineChains.{ChainBefore}
 use Rattle.layout_rules.specs.Code.ChainRule.{ChainLeavesWrongly, IsChainUncrossed}
 use Rattle.layout_rules.proofs.ChainsAgree.{one_before}
 use Rattle.shape_extract.specs.Searches.{Says, AreThose}
-use Rattle.shape_extract.specs.Lines.{AreWalked, GoesOnWrongly}
+use Rattle.shape_extract.specs.Code.Lines.{AreWalked, GoesOnWrongly}
 use Rattle.shape_extract.proofs.LineReach.{Before-reached, bar_before}
 
 -- at the first contacts, other than the shape before, the line goes on at the other side alone

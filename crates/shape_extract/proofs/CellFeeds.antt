@@ -17,12 +17,12 @@ use Rattle.layout_rules.specs.CircuitRules.{IsInput}
 use Rattle.rowed.specs.declared.source.Source.{Source}
 use Rattle.chip_circuit.specs.declared.cells.Feed.{Feed}
 use Rattle.chip_circuit.specs.declared.cells.Feed.TheVariants.{Nothing, Pin}
-use Rattle.shape_extract.specs.Cells.{holds_pin, is_marked}
-use Rattle.shape_extract.specs.Drivers.{IsOnlySource}
+use Rattle.shape_extract.specs.Code.Cells.{holds_pin, is_marked}
+use Rattle.shape_extract.specs.Code.Drivers.{IsOnlySource}
 use Rattle.shape_extract.specs.Extraction.{IsOutputPin, FeedsPin}
-use Rattle.shape_extract.specs.PinNames.{IsOn}
+use Rattle.shape_extract.specs.Code.PinNames.{IsOn}
 use Rattle.shape_extract.specs.Searches.{AreThose}
-use Rattle.shape_extract.specs.Tables.{AreTables, IsFrameOf, IsFeedOfInput}
+use Rattle.shape_extract.specs.Code.Tables.{AreTables, IsFrameOf, IsFeedOfInput}
 use Rattle.shape_extract.proofs.KeptPins.{some_input}
 
 pub on_within : (flat : Flat) (layer p : ℕ) → IsOn flat layer p → p < length flat.shapes

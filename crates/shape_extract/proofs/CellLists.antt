@@ -19,11 +19,11 @@ use Rattle.chip_circuit.specs.declared.cells.Feed.{Feed}
 use Rattle.chip_circuit.specs.declared.cells.Feed.TheVariants.{Nothing}
 use Rattle.chip_circuit.specs.declared.cells.ExCell.{ExCell}
 use Rattle.chip_circuit.specs.Circuits.{feed_at}
-use Rattle.shape_extract.specs.Edges.{IsAmong}
+use Rattle.shape_extract.specs.Code.Edges.{IsAmong}
 use Rattle.shape_extract.specs.Frames.{AreFrames}
 use Rattle.shape_extract.specs.Extraction.{IsFeedAt, IsInPhase, IsCellFrom}
-use Rattle.shape_extract.specs.Tables.{IsFrameOf, IsFeedOfInput}
-use Rattle.shape_extract.specs.Lines.{IsExcitedAt}
+use Rattle.shape_extract.specs.Code.Tables.{IsFrameOf, IsFeedOfInput}
+use Rattle.shape_extract.specs.Extracts.{IsExcitedAt}
 use Rattle.shape_extract.proofs.ExcitedEach.{excited_in_phase}
 use Rattle.shape_extract.proofs.Kept.{no_fault}
 use Rattle.shape_extract.proofs.RowEdges.{push_cases}

@@ -29,7 +29,7 @@ use Rattle.shape_extract.specs.Extraction.{IsOutputPin, FeedsPin, IsCellFrom, Is
 use Rattle.shape_extract.specs.Extraction.{is_wired, IsCircuitOf}
 use Rattle.shape_extract.specs.Extracts.{KeepsFive}
 use Rattle.shape_extract.specs.Frames.{AreFrames}
-use Rattle.shape_extract.specs.Tables.{IsFeedOfInput}
+use Rattle.shape_extract.specs.Code.Tables.{IsFeedOfInput}
 use Rattle.chip_circuit.specs.declared.cells.ExCell.{ExCell}
 use Rattle.chip_circuit.specs.declared.cells.Feed.{Feed}
 use Rattle.chip_circuit.specs.declared.cells.Feed.TheVariants.{Nothing, Pin, Label as Word}

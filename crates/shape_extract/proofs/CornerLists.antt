@@ -13,8 +13,8 @@ use Rattle.std.proofs.lemmas.List.Sorted.{ranks_by, sorted_far, IsPermutation-sy
 use Rattle.geom.specs.declared.shapes.Shape.{Shape}
 use Rattle.layout_rules.specs.Layers.{is_frame}
 use Rattle.layout_rules.proofs.PlaceLaws.{count_by-once, count_by-one}
-use Rattle.shape_extract.specs.declared.frames.Corner.{Corner}
-use Rattle.shape_extract.specs.Corners.{corner_of, IsCorner, HasCorner, AreCorners, numbers_of}
+use Rattle.shape_extract.specs.declared.circuits.frames.Corner.{Corner}
+use Rattle.shape_extract.specs.Code.Corners.{corner_of, IsCorner, HasCorner, AreCorners, numbers_of}
 use Rattle.shape_extract.specs.Frames.{AreFrames}
 use Rattle.shape_extract.proofs.RowEdges.{push_old, push_new, push_cases}
 

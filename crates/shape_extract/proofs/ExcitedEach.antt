@@ -16,7 +16,7 @@ use Rattle.layout_rules.specs.Code.ChainRule.{IsChainExcited, IsChainUnexcited}
 use Rattle.layout_rules.proofs.ChainsAgree.{one_before}
 use Rattle.shape_extract.specs.Searches.{Says, AreThose}
 use Rattle.shape_extract.specs.Extraction.{IsInPhase}
-use Rattle.shape_extract.specs.Lines.{AreWalked, lies_over, Excites, IsChainExcitedAt, Judges}
+use Rattle.shape_extract.specs.Code.Lines.{AreWalked, lies_over, Excites, IsChainExcitedAt, Judges}
 use Rattle.shape_extract.proofs.LineReach.{Before-reached, bar_before}
 use Rattle.shape_extract.proofs.JoinedParts.{passes_here}
 

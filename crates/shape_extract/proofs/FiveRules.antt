@@ -9,11 +9,13 @@ use Rattle.layout_rules.specs.RuleTable.{place, first_of_geometry}
 use Rattle.layout_rules.specs.Rules.{Broken, Keeps, KeepsCircuitRules}
 use Rattle.layout_rules.proofs.RuleLaws.{KeepsBelow, KeepsBelow-none, KeepsBelow-more}
 use Rattle.shape_extract.specs.declared.search.Report.{Report}
-use Rattle.shape_extract.specs.declared.first_broken.BrokenRule.{BrokenRule}
+use Rattle.shape_extract.specs.declared.rules.first_broken.BrokenRule.{BrokenRule}
 use Rattle.geom.specs.declared.shapes.Shape.{Shape}
-use Rattle.shape_extract.specs.Lines.{IsExcitedAt, ExcitesFrames}
+use Rattle.shape_extract.specs.Code.Lines.{ExcitesFrames}
+use Rattle.shape_extract.specs.Extracts.{IsExcitedAt}
 use Rattle.shape_extract.specs.Searches.{Finds}
-use Rattle.shape_extract.specs.Extracts.{BreaksCircuit, KeepsFive, FindsRule}
+use Rattle.shape_extract.specs.Extracts.{BreaksCircuit, KeepsFive}
+use Rattle.shape_extract.specs.Code.FirstRule.{FindsRule}
 
 -- all five are the rules of circuits
 pub all_kept : (flat : Flat) → KeepsFive flat → (limits : Limits) → KeepsCircuitRules flat limits

@@ -7,7 +7,7 @@ use Rattle.std.proofs.lemmas.List.{get_or-set_same, get_or-set_other}
 use Rattle.std.proofs.lemmas.Option.{slice_get_within, slice_get-get_or, get_or_from_slice_get}
 use Rattle.geom.specs.declared.shapes.Shape.{Shape}
 use Rattle.shape_extract.specs.Frames.{AreFrames}
-use Rattle.shape_extract.specs.Corners.{ArePlaces}
+use Rattle.shape_extract.specs.Code.Corners.{ArePlaces}
 use Rattle.shape_extract.proofs.OneOrder.{one_place}
 
 -- the places of the first frames are written

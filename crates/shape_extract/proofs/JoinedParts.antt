@@ -10,7 +10,7 @@ use Rattle.layout_rules.specs.Reports.{Passes}
 use Rattle.layout_rules.specs.ExcitationLines.{Contact, IsPart}
 use Rattle.layout_rules.specs.ExcitationRule.{HasStartContacts, HasLinkContacts, HasBarContacts, HasItsContacts, IsMisjoined}
 use Rattle.shape_extract.specs.Searches.{Says, AreThose}
-use Rattle.shape_extract.specs.LineParts.{IsOneBar, AreTwoBars, AreBarEnds}
+use Rattle.shape_extract.specs.Code.LineParts.{IsOneBar, AreTwoBars, AreBarEnds}
 
 no_three : (one other a b c : ℕ) → a < b → b < c → (a ≡ one) ⊎ (a ≡ other) → (b ≡ one) ⊎ (b ≡ other) → (c ≡ one) ⊎ (c ≡ other) → ⊥
 no_three one other a b c ab bc (inl p) (inl q) s = omega arith

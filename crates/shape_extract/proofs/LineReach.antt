@@ -10,7 +10,7 @@ use Rattle.layout_rules.specs.ExcitationLines.{IsPart, IsReached}
 use Rattle.layout_rules.specs.ExcitationRule.{IsCutOff}
 use Rattle.layout_rules.specs.Code.LineChains.{ChainBefore}
 use Rattle.shape_extract.specs.Searches.{Says}
-use Rattle.shape_extract.specs.Lines.{AreWalked}
+use Rattle.shape_extract.specs.Code.Lines.{AreWalked}
 
 not_below : (a b : ℕ) → b ≤ a → nat_lt a b ≡ false
 not_below a b h = grind arith

@@ -9,8 +9,8 @@ use Rattle.layout_rules.specs.declared.layers.TheConstants.{START}
 use Rattle.layout_rules.specs.ExcitationLines.{Contact, IsPart, IsChain}
 use Rattle.layout_rules.specs.Code.LineChains.{NeverTurnsBack, ChainBefore}
 use Rattle.shape_extract.specs.Searches.{AreThose}
-use Rattle.shape_extract.specs.Lines.{AreWalked}
-use Rattle.shape_extract.specs.LineWalk.{Follows, IsLineWalk, HasStarts, HasContacts, IsSpreadAlong, IsBegun}
+use Rattle.shape_extract.specs.Code.Lines.{AreWalked}
+use Rattle.shape_extract.specs.Code.LineWalk.{Follows, IsLineWalk, HasStarts, HasContacts, IsSpreadAlong, IsBegun}
 use Rattle.shape_extract.proofs.NetWalk.{sum_lowered, long_more, old_place, new_place, at_set, off_set}
 
 -- ---- one more shape is reached

@@ -9,7 +9,7 @@ use Rattle.layout_rules.specs.Layers.{is_line}
 use Rattle.layout_rules.proofs.PlaceLaws.{count_by-once, count_by-one}
 use Rattle.layout_rules.specs.Reports.{ReportsNone, Alone, IsFirstReport}
 use Rattle.layout_rules.specs.ExcitationRule.{IsStartOn, HasOneStart, LacksOneStart}
-use Rattle.shape_extract.specs.LineParts.{is_start_on, IsLeastOn}
+use Rattle.shape_extract.specs.Code.LineParts.{is_start_on, IsLeastOn}
 use Rattle.shape_extract.proofs.Marked.{place_of_count}
 
 -- ---- the least shape of a layer

@@ -10,7 +10,7 @@ use Rattle.layout_rules.specs.Code.ChainRule.{IsChainUncrossed, IsChainUnexcited
 use Rattle.layout_rules.proofs.LinesAgree.{path_parts, chain_parts, path_excited}
 use Rattle.shape_extract.specs.declared.search.Report.{Report}
 use Rattle.shape_extract.specs.Searches.{Finds}
-use Rattle.shape_extract.specs.Lines.{ExcitesFrames, ChainsExciteFrames}
+use Rattle.shape_extract.specs.Code.Lines.{ExcitesFrames, ChainsExciteFrames}
 use Rattle.shape_extract.proofs.Searching.{after_none}
 
 -- reports of the same numbers are found the same

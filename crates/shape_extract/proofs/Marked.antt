@@ -15,7 +15,7 @@ use Rattle.layout_rules.proofs.PlaceLaws.{PassesAt, count_by-once, count_by-one}
 use Rattle.layout_rules.specs.Reports.{ReportsNone, IsFirstReport, Passes, PassTogether}
 use Rattle.layout_rules.specs.CircuitRules.{HasPins, IsCell, LiesInOneFrame, IsNoCell, IsStrayPin, HasNoFrame}
 use Rattle.shape_extract.specs.Searches.{Says, AreThose}
-use Rattle.shape_extract.specs.Cells.{holds_pin, is_marked, is_marked_in, is_marked_at, AreNumbered}
+use Rattle.shape_extract.specs.Code.Cells.{holds_pin, is_marked, is_marked_in, is_marked_at, AreNumbered}
 
 pub marked_at : (shapes : List Shape) (layer datatype n : ℕ) (s : Shape) → n < length shapes → s ≡ get_or shapes n s → is_marked_at shapes layer datatype n ≡ is_marked layer datatype s
 marked_at shapes layer datatype n s lt is = ap (is_marked_in layer datatype) (slice_get-get_or shapes n s lt ∙ sym (ap Some is))

@@ -9,8 +9,8 @@ use Rattle.geom.specs.declared.shapes.Shape.{Shape}
 use Rattle.layout_rules.specs.Nets.{AreNets}
 use Rattle.layout_rules.proofs.NetLaws.{Joined-within, one_number}
 use Rattle.shape_extract.specs.Searches.{AreThose}
-use Rattle.shape_extract.specs.NetPins.{IsPinIn}
-use Rattle.shape_extract.specs.NetChains.{IsNextFrom, AreChains}
+use Rattle.shape_extract.specs.Code.NetPins.{IsPinIn}
+use Rattle.shape_extract.specs.Code.NetChains.{IsNextFrom, AreChains}
 use Rattle.shape_extract.proofs.Searching.{AreThoseBelow, those_more, those_same, those_all}
 use Rattle.shape_extract.proofs.NetPins.{pin_in_yes, pin_in_net, pin_in_layer}
 

@@ -12,7 +12,7 @@ use Rattle.layout_rules.proofs.NetLaws.{Joined-within, one_number, one_net}
 use Rattle.layout_rules.specs.Reports.{ReportsNone}
 use Rattle.layout_rules.specs.CircuitRules.{IsInput, IsSource, NetsBroken}
 use Rattle.layout_rules.proofs.Deciding.{settled}
-use Rattle.shape_extract.specs.Drivers.{AreDrivers, IsOnlySource}
+use Rattle.shape_extract.specs.Code.Drivers.{AreDrivers, IsOnlySource}
 use Rattle.shape_extract.proofs.Each.{item_at}
 use Rattle.shape_extract.proofs.FramePlaces.{read_same, read_other}
 

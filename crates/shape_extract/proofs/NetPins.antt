@@ -14,7 +14,7 @@ use Rattle.layout_rules.specs.Reports.{Alone, Otherwise}
 use Rattle.layout_rules.proofs.ReportLaws.{Alone-first, Alone-none, Otherwise-first, Otherwise-second, Otherwise-none}
 use Rattle.layout_rules.specs.CircuitRules.{HasRival, IsInput, IsSource, IsUndriven, IsDriven}
 use Rattle.shape_extract.specs.Searches.{FindsAt, AreThose}
-use Rattle.shape_extract.specs.NetPins.{IsPinIn, FindsOther, FindsFirst, lone_number}
+use Rattle.shape_extract.specs.Code.NetPins.{IsPinIn, FindsOther, FindsFirst, lone_number}
 
 pub pin_in_yes : (shapes : List Shape) (nets : List ℕ) (layer a b : ℕ) (s : Shape) → AreNets shapes nets → a < length shapes → b < length shapes → slice_get shapes b ≡ Some s → s.layer ≡ layer → slice_index nets a ≡ slice_index nets b → IsPinIn shapes layer a b
 pin_in_yes shapes nets layer a b s are la lb got of e = record { pin = s; pin_is = got; of_layer = of; joined = one_net shapes nets are a b la lb e }

@@ -13,7 +13,7 @@ use Rattle.layout_rules.specs.Reports.{PassTogether}
 use Rattle.layout_rules.specs.Nets.{AreNets}
 use Rattle.layout_rules.proofs.NetLaws.{Touching-back, Touching-within, Joined-trans, Joined-touching, AreNets-certified}
 use Rattle.shape_extract.specs.Searches.{AreThose}
-use Rattle.shape_extract.specs.Walk.{AreTouching, IsWalk, IsSpreadTo, IsDone, AreMarked, IsLowest, is_settled, AreSettled, SettlesAlike, IsReached}
+use Rattle.shape_extract.specs.Code.Walk.{AreTouching, IsWalk, IsSpreadTo, IsDone, AreMarked, IsLowest, is_settled, AreSettled, SettlesAlike, IsReached}
 
 pub sum_lowered : (ls : List ℕ) (i v : ℕ) → i < length ls → v < slice_index ls i → sum (set ls i v) < sum ls
 sum_lowered ls i v lt less = omega (arith, sum_by-set (λ x. x) ls i v 0 lt)

@@ -13,8 +13,8 @@ use Rattle.layout_rules.specs.Reports.{ReportsNone}
 use Rattle.layout_rules.specs.CircuitRules.{LabelsBroken}
 use Rattle.rowed.specs.declared.source.Source.{Source}
 use Rattle.shape_extract.specs.Extraction.{IsNamed, IsOutputPin}
-use Rattle.shape_extract.specs.OutputPins.{ShowsOutput, AreOutputs}
-use Rattle.shape_extract.specs.PinNames.{IsOn, Names}
+use Rattle.shape_extract.specs.Code.OutputPins.{ShowsOutput, AreOutputs}
+use Rattle.shape_extract.specs.Code.PinNames.{IsOn, Names}
 use Rattle.shape_extract.proofs.Entries.{named_exit}
 use Rattle.shape_extract.proofs.FramePlaces.{read_same, read_other}
 use Rattle.shape_extract.proofs.Kept.{one_named, one_number_of}

@@ -20,9 +20,9 @@ use Rattle.layout_rules.specs.Labels.{marks, marked_layer}
 use Rattle.layout_rules.specs.Layers.{is_lower, is_upper, is_via}
 use Rattle.layout_rules.specs.Touch.{touch}
 use Rattle.layout_rules.specs.Reports.{PassTogether}
-use Rattle.shape_extract.specs.Walk.{AreTouching}
-use Rattle.shape_extract.specs.Passing.{PassesIn}
-use Rattle.shape_extract.specs.Sharing.{sharing_close, is_conductor}
+use Rattle.shape_extract.specs.Code.Walk.{AreTouching}
+use Rattle.shape_extract.specs.Code.Passing.{PassesIn}
+use Rattle.shape_extract.specs.Code.Sharing.{sharing_close, is_conductor}
 use Rattle.shape_extract.specs.Searches.{AreThose, passes_in, passes_at, passes_with}
 
 -- ---- filters

@@ -14,8 +14,8 @@ use Rattle.layout_rules.specs.Reports.{ReportsNone, Passes, PassTogether}
 use Rattle.layout_rules.specs.CircuitRules.{IsNoCell, IsStrayPin, CellsBroken}
 use Rattle.layout_rules.proofs.ReportLaws.{second_kept, alone_kept}
 use Rattle.shape_extract.specs.Searches.{AreThose}
-use Rattle.shape_extract.specs.Edges.{IsAmong}
-use Rattle.shape_extract.specs.PinRows.{IsRowOf}
+use Rattle.shape_extract.specs.Code.Edges.{IsAmong}
+use Rattle.shape_extract.specs.Code.PinRows.{IsRowOf}
 
 module _ (shapes : List Shape) (p : ℕ) (kept : ReportsNone (CellsBroken shapes)) (pin : Passes is_pin shapes p) (frames : List ℕ) (are : AreThose (PassTogether lies_in shapes p) frames) where
   pub some_frame : 0 < length frames

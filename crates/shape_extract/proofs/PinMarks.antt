@@ -10,10 +10,10 @@ use Rattle.layout_rules.specs.Layers.{is_pin}
 use Rattle.layout_rules.specs.Reports.{ReportsNone, Passes}
 use Rattle.layout_rules.specs.CircuitRules.{LabelsBroken}
 use Rattle.shape_extract.specs.Code.Marking.{AreMarks, label_in}
-use Rattle.shape_extract.specs.Passing.{PassesIn}
-use Rattle.shape_extract.specs.PinNames.{IsNameOf}
-use Rattle.shape_extract.specs.declared.mark_table.Mark.{Mark}
-use Rattle.shape_extract.specs.declared.mark_table.Mark.TheVariants.{Unmarked}
+use Rattle.shape_extract.specs.Code.Passing.{PassesIn}
+use Rattle.shape_extract.specs.Code.PinNames.{IsNameOf}
+use Rattle.shape_extract.specs.declared.tables.mark_table.Mark.{Mark}
+use Rattle.shape_extract.specs.declared.tables.mark_table.Mark.TheVariants.{Unmarked}
 use Rattle.shape_extract.proofs.MarkTable.{mark_of, label_at, none_at}
 use Rattle.shape_extract.proofs.KeptPins.{decimal_marked, input_named, output_named, label_bound}
 

@@ -13,10 +13,10 @@ use Rattle.layout_rules.specs.Rows.{row_of, row_count}
 use Rattle.layout_rules.specs.Pins.{lies_in, LiesIn, stands_in, is_entry, is_exit, entry_count, exit_count}
 use Rattle.layout_rules.specs.Reports.{ReportsNone, Passes}
 use Rattle.layout_rules.specs.CircuitRules.{CellsBroken, is_port}
-use Rattle.shape_extract.specs.PinRows.{IsRowOf}
-use Rattle.shape_extract.specs.RowFaults.{ArePinRows}
-use Rattle.shape_extract.specs.declared.ports.Port.{Port}
-use Rattle.shape_extract.specs.Ports.{port_by, port_of, ports_of, enters, leaves, crosses}
+use Rattle.shape_extract.specs.Code.PinRows.{IsRowOf}
+use Rattle.shape_extract.specs.Code.RowFaults.{ArePinRows}
+use Rattle.shape_extract.specs.declared.tables.ports.Port.{Port}
+use Rattle.shape_extract.specs.Code.Ports.{port_by, port_of, ports_of, enters, leaves, crosses}
 use Rattle.shape_extract.proofs.RowPins.{row_is, input_pin, output_pin}
 
 module _ (shapes : List Shape) (kept : ReportsNone (CellsBroken shapes)) (rows : List ℕ) (are : ArePinRows shapes rows) (p : ℕ) (s : Shape) (got : slice_get shapes p ≡ Some s) where

@@ -14,7 +14,7 @@ use Rattle.geom.specs.declared.shapes.Shape.{Shape}
 use Rattle.layout_rules.specs.Layers.{is_frame}
 use Rattle.layout_rules.specs.Rows.{AreRows}
 use Rattle.shape_extract.specs.Searches.{Says}
-use Rattle.shape_extract.specs.Edges.{IsEdge, IsAmong, AreEdges, Rises, AreDistinct, EndsWith}
+use Rattle.shape_extract.specs.Code.Edges.{IsEdge, IsAmong, AreEdges, Rises, AreDistinct, EndsWith}
 
 -- ---- a list with one more item
 

@@ -18,9 +18,9 @@ use Rattle.layout_rules.specs.CircuitRules.{IsNoCell, IsStrayPin, CellsBroken, R
 use Rattle.layout_rules.proofs.ReportLaws.{second_kept, alone_kept}
 use Rattle.layout_rules.proofs.Deciding.{settled}
 use Rattle.shape_extract.specs.Searches.{FindsAt, AreThose}
-use Rattle.shape_extract.specs.NetPins.{IsPinIn}
-use Rattle.shape_extract.specs.PinRows.{IsRowOf}
-use Rattle.shape_extract.specs.RowFaults.{ArePinRows, AreRowed, FindsAstray}
+use Rattle.shape_extract.specs.Code.NetPins.{IsPinIn}
+use Rattle.shape_extract.specs.Code.PinRows.{IsRowOf}
+use Rattle.shape_extract.specs.Code.RowFaults.{ArePinRows, AreRowed, FindsAstray}
 
 -- ---- the rows of the first pins
 

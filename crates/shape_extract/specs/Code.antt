@@ -1,3 +1,29 @@
--- Words of private contracts and of loops.
-pub mod Marking
+-- Words of private contracts and of loops. Shapes that touch, and nets:
+pub mod Sharing
+pub mod Walk
+pub mod NetChains
+pub mod NetPins
+-- pins, rows and labels in tables:
 pub mod FramesOfPins
+pub mod Edges
+pub mod PinRows
+pub mod RowFaults
+pub mod Ports
+pub mod Passing
+pub mod Marking
+pub mod LabelNames
+-- the rules of circuits:
+pub mod Cells
+pub mod Reported
+pub mod FirstRule
+-- excitation lines:
+pub mod LineParts
+pub mod LineWalk
+pub mod Lines
+-- circuits:
+pub mod Corners
+pub mod Drivers
+pub mod PinNames
+pub mod Tables
+pub mod OutputPins
+pub mod Parts

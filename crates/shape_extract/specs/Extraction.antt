@@ -1,5 +1,7 @@
--- The circuit of a layout's flat form, as circuit extraction from masks takes it: cells from frames, phases from the excitation lines over them, feeds from nets, inputs and outputs from labels.
-use Rattle.std.specs.Prelude.{◌≡◌, ℕ, ◌<◌, ◌≤◌, ◌==◌, ◌&&◌, not, Bool, true, false, List, length, count_by, Some, slice_get}
+-- The circuit of a layout's flat form, as circuit extraction from masks takes it: cells from frames, phases from the
+-- excitation lines over them, feeds from nets, inputs and outputs from labels.
+use Rattle.std.specs.Prelude.{◌≡◌, ℕ, ◌<◌, ◌≤◌, ◌==◌, ◌&&◌, not, Bool, true, false}
+use Rattle.std.specs.Prelude.{List, length, count_by, Some, slice_get}
 use Rattle.std.specs.List.{AllZip}
 use Rattle.geom.specs.declared.shapes.Shape.{Shape}
 use Rattle.geom.specs.declared.shapes.Flat.{Flat}
@@ -78,6 +80,7 @@ pub record IsOutputFrom (flat : Flat) (frames : List ℕ) (n : ℕ) (source : So
 abbrev pub is_wired : Flat → Shape → Bool
 is_wired flat pin = pin.layer == INPUT_PIN && not (is_labelled flat pin)
 
+-- the cells are those of the frames in order, and inputs, outputs, wires and nets are the layout's
 pub record IsCircuitOf (flat : Flat) (circuit : CircuitView) : Type 0 where
   pub frames : List ℕ
   pub are_frames : AreFrames flat.shapes frames
@@ -85,6 +88,7 @@ pub record IsCircuitOf (flat : Flat) (circuit : CircuitView) : Type 0 where
   pub rows : circuit.rows ≡ row_count flat.shapes
   pub inputs : circuit.inputs ≡ entry_count flat.shapes
   pub output_count : length circuit.outputs ≡ exit_count flat.shapes
-  pub outputs : (n : ℕ) (source : Source) → slice_get circuit.outputs n ≡ Some source → IsOutputFrom flat frames n source
+  pub outputs : (n : ℕ) (source : Source) → slice_get circuit.outputs n ≡ Some source
+      → IsOutputFrom flat frames n source
   pub wires : circuit.wires ≡ count_by (is_wired flat) flat.shapes
   pub nets : AreNets flat.shapes circuit.nets

@@ -1,18 +1,19 @@
--- What an extraction answers: the circuit of a layout that keeps the rules of circuits, or the first of these rules that is broken.
-use Rattle.std.specs.Prelude.{ℕ, ◌<◌, Option, Some, None}
+-- What an extraction answers: the circuit of a layout that keeps the rules of circuits, or the first of these rules
+-- that is broken.
+use Rattle.std.specs.Prelude.{◌≡◌, ℕ, ◌<◌, true, List, Some, slice_get}
+use Rattle.geom.specs.declared.shapes.Shape.{Shape}
 use Rattle.geom.specs.declared.shapes.Flat.{Flat}
 use Rattle.layout_rules.specs.declared.rule.Rule.{Rule}
 use Rattle.layout_rules.specs.Limits.{Limits}
 use Rattle.layout_rules.specs.Reports.{ReportsNone}
 use Rattle.layout_rules.specs.CircuitRules.{CellsBroken, NetsBroken, RowsBroken, LabelsBroken}
-use Rattle.layout_rules.specs.ExcitationRule.{ExcitationBroken}
+use Rattle.layout_rules.specs.ExcitationRule.{IsExcited, ExcitationBroken}
+use Rattle.layout_rules.specs.Layers.{is_frame}
 use Rattle.layout_rules.specs.RuleTable.{place, first_of_geometry}
 use Rattle.layout_rules.specs.Rules.{KeepsCircuitRules, FirstBroken}
 use Rattle.shape_extract.specs.declared.extraction.ExtractRefusal.{ExtractRefusal}
 use Rattle.shape_extract.specs.declared.extraction.ExtractRefusal.TheVariants.{Broken, Memory}
-use Rattle.shape_extract.specs.declared.first_broken.BrokenRule.{BrokenRule}
 use Rattle.chip_circuit.specs.Circuits.{CircuitView}
-use Rattle.shape_extract.specs.Lines.{IsExcitedAt}
 use Rattle.shape_extract.specs.Extraction.{IsCircuitOf}
 
 -- the layout keeps the rules of circuits, whatever the limits are, and this is its circuit
@@ -30,6 +31,11 @@ abbrev pub IfBroken : ExtractRefusal → (Rule → ℕ → ℕ → Type 0) → T
 IfBroken (Broken rule first second) P = P rule first second
 IfBroken Memory P = Unit {0}
 
+-- the shape of this number, if it is a frame, is excited
+abbrev pub IsExcitedAt : List Shape → ℕ → Type 0
+IsExcitedAt shapes f = (frame : Shape) → slice_get shapes f ≡ Some frame → is_frame frame ≡ true
+    → IsExcited shapes frame
+
 -- nothing breaks the rules of circuits, which read no limits; so each frame is excited in the phase of its row
 pub record KeepsFive (flat : Flat) : Type 0 where
   pub cells : ReportsNone (CellsBroken flat.shapes)
@@ -38,8 +44,3 @@ pub record KeepsFive (flat : Flat) : Type 0 where
   pub rows : ReportsNone (RowsBroken flat)
   pub labels : ReportsNone (LabelsBroken flat)
   pub excited : (f : ℕ) → IsExcitedAt flat.shapes f
-
--- the first broken rule of circuits, or none where all are kept
-abbrev pub FindsRule : Flat → Option BrokenRule → Type 0
-FindsRule flat None = KeepsFive flat
-FindsRule flat (Some found) = BreaksCircuit flat found.rule found.first found.second

@@ -7,7 +7,9 @@ use Rattle.layout_rules.specs.Reports.{Passes}
 
 -- the frame s, of number f, comes before the frame t, of number g
 abbrev pub comes_before : Shape → ℕ → Shape → ℕ → Bool
-comes_before s f t g = int_lt s.rect.y0 t.rect.y0 || (int_eq s.rect.y0 t.rect.y0 && (int_lt s.rect.x0 t.rect.x0 || (int_eq s.rect.x0 t.rect.x0 && nat_lt f g)))
+comes_before s f t g =
+    int_lt s.rect.y0 t.rect.y0
+    || (int_eq s.rect.y0 t.rect.y0 && (int_lt s.rect.x0 t.rect.x0 || (int_eq s.rect.x0 t.rect.x0 && nat_lt f g)))
 
 -- the frame of this number has a place among the cells
 pub record HasPlace (frames : List ℕ) (f : ℕ) : Type 0 where

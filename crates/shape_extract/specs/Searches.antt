@@ -25,6 +25,7 @@ pub record AreThose (holds : ℕ → Type 0) (numbers : List ℕ) : Type 0 where
   pub complete : (n : ℕ) → holds n → (p : ℕ) × ((p < length numbers) × (slice_index numbers p ≡ n))
   pub rising : (p q : ℕ) → p < q → q < length numbers → slice_index numbers p < slice_index numbers q
 
+-- a shape that may be there passes the test
 abbrev pub passes_in : (Shape → Bool) → Option Shape → Bool
 passes_in test None = false
 passes_in test (Some s) = test s

@@ -1,7 +1,0 @@
-use Rattle.std.proofs.Common.{◌≡◌, ◌≤◌, take}
-use Rattle.std.specs.Prelude.{count_by}
-use Rattle.shape_extract.specs.Cells.{is_marked_at}
-use Rattle.shape_extract.proofs.cell_rule.count_marked.Given as goal
-
-abbrev pub invariant-loop-number : goal.invariant-loop-number
-invariant-loop-number l = record { counted : l.count ≡ count_by (is_marked_at l.shapes l.layer l.datatype) (take l.number-index l.numbers); few : l.count ≤ l.number-index }

@@ -1,6 +1,0 @@
-use Rattle.std.proofs.Common.{arith}
-use Rattle.shape_extract.proofs.Marked.{one_frame_said}
-use Rattle.shape_extract.proofs.cell_rule.lies_in_one_frame.Goals as goal
-
-pub returns : goal.returns
-returns c = one_frame_said _ _ _ _ c.in_ok-list_partners.ensures (omega arith)

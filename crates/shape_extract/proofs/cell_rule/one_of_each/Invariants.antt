@@ -1,5 +1,0 @@
-use Rattle.shape_extract.specs.Cells.{AreOneOfEach}
-use Rattle.shape_extract.proofs.cell_rule.one_of_each.Given as goal
-
-abbrev pub invariant-loop-datatype : goal.invariant-loop-datatype
-invariant-loop-datatype l = AreOneOfEach l.shapes l.numbers l.layer l.datatype

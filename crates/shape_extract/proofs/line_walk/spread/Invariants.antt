@@ -1,5 +1,0 @@
-use Rattle.shape_extract.specs.LineWalk.{IsSpreadAlong}
-use Rattle.shape_extract.proofs.line_walk.spread.Given as goal
-
-abbrev pub invariant-loop-number : goal.invariant-loop-number
-invariant-loop-number l = IsSpreadAlong l.number-index l.shapes l.contacts l.fn.before l.fn.order.items l.before l.order.items

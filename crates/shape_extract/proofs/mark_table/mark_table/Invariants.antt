@@ -1,5 +1,0 @@
-use Rattle.shape_extract.proofs.MarkTable.{MarksTo}
-use Rattle.shape_extract.proofs.mark_table.mark_table.Given as goal
-
-abbrev pub invariant-loop-place : goal.invariant-loop-place
-invariant-loop-place l = MarksTo l.place l.fn.flat.shapes l.fn.flat.labels l.marking.items

@@ -1,5 +1,0 @@
-use Rattle.shape_extract.proofs.RowEdges.{EdgesBelow}
-use Rattle.shape_extract.proofs.row_edges.frame_edges.Given as goal
-
-abbrev pub invariant-loop-shape : goal.invariant-loop-shape
-invariant-loop-shape l = EdgesBelow l.shape-index l.shapes l.edges.items

@@ -1,0 +1,80 @@
+-- The walk that finds nets: a label for each shape, where a number of no shape means none yet, and the labelled shapes
+-- in the order in which they were labelled. It is the search by connected components of circuit extractors.
+use Rattle.std.specs.Prelude.{◌≡◌, ℕ, ◌+◌, ◌*◌, ◌<◌, ◌≤◌, ◌⊎◌, Bool, true, false}
+use Rattle.std.specs.Prelude.{List, length, slice_get, slice_index, slice_index_or, sum}
+use Rattle.geom.specs.declared.shapes.Shape.{Shape}
+use Rattle.layout_rules.specs.Touch.{Touching, Joined}
+
+-- the numbers are those of the shapes that touch shape `from`
+pub record AreTouching (shapes : List Shape) (from : ℕ) (numbers : List ℕ) : Type 0 where
+  pub each : (p : ℕ) → p < length numbers → Touching shapes from (slice_index numbers p)
+  pub complete : (j : ℕ) → Touching shapes from j → (p : ℕ) × ((p < length numbers) × (slice_index numbers p ≡ j))
+
+-- a labelled shape is joined to the shape of its label, which is not above it, and has a place in the order; and all in
+-- the order are labelled
+pub record IsWalk (shapes : List Shape) (labels order : List ℕ) : Type 0 where
+  pub long : length labels ≡ length shapes
+  pub joined : (k : ℕ) → k < length shapes → slice_index labels k < length shapes
+      → Joined shapes k (slice_index labels k)
+  pub lower : (k : ℕ) → k < length shapes → slice_index labels k < length shapes → slice_index labels k ≤ k
+  pub ordered : (k : ℕ) → k < length shapes → slice_index labels k < length shapes
+      → (p : ℕ) × ((p < length order) × (slice_index order p ≡ k))
+  pub within : (p : ℕ) → p < length order → slice_index order p < length shapes
+  pub labelled : (p : ℕ) → p < length order → slice_index labels (slice_index order p) < length shapes
+
+-- the first n of these numbers are labelled, all new ones as shape `from` is
+pub record IsSpreadTo (n : ℕ) (shapes : List Shape) (numbers labels order new more : List ℕ) (from : ℕ) : Type 0 where
+  pub walk : IsWalk shapes new more
+  pub kept : (k : ℕ) → slice_index labels k < length shapes → slice_index new k ≡ slice_index labels k
+  pub reached : (p : ℕ) → p < n → slice_index new (slice_index numbers p) < length shapes
+  pub longer : length order ≤ length more
+  pub prefix : (p : ℕ) → p < length order → slice_index more p ≡ slice_index order p
+  pub marked : (p : ℕ) → length order ≤ p → p < length more
+      → slice_index new (slice_index more p) ≡ slice_index labels from
+  pub less : 2 * sum new + length more ≤ 2 * sum labels + length order
+
+-- the first shapes of the order have all that they touch labelled as they are
+abbrev pub IsDone : List Shape → List ℕ → List ℕ → ℕ → Type 0
+IsDone shapes labels order done = (p j : ℕ) → p < done → Touching shapes (slice_index order p) j
+    → slice_index labels j ≡ slice_index labels (slice_index order p)
+
+-- the others have this label
+abbrev pub AreMarked : List ℕ → List ℕ → ℕ → ℕ → Type 0
+AreMarked labels order done mark = (p : ℕ) → done ≤ p → p < length order
+    → slice_index labels (slice_index order p) ≡ mark
+
+-- no shape below the label lacks one
+abbrev pub IsLowest : List Shape → List ℕ → ℕ → Type 0
+IsLowest shapes labels mark = (k : ℕ) → k < mark → slice_index labels k < length shapes
+
+-- the shape of this number is equal to one that has been spread from
+abbrev pub is_settled : List Bool → ℕ → Bool
+is_settled settled d = slice_index_or settled d false
+
+-- all that touches a settled shape is labelled
+pub record AreSettled (shapes : List Shape) (labels : List ℕ) (settled : List Bool) : Type 0 where
+  pub long : length settled ≡ length shapes
+  pub reached : (d j : ℕ) → is_settled settled d ≡ true → Touching shapes d j → slice_index labels j < length shapes
+
+-- only shapes that are equal to shape `from` are settled anew
+pub record SettlesAlike (shapes : List Shape) (from : ℕ) (settled new : List Bool) : Type 0 where
+  pub long : length new ≡ length settled
+  pub alike : (d : ℕ) → is_settled new d ≡ true
+      → (is_settled settled d ≡ true) ⊎ (slice_get shapes d ≡ slice_get shapes from)
+
+-- all that touches shape `from` is labelled, new ones as that shape is
+pub record IsReached (shapes : List Shape) (labels order new more : List ℕ) (from : ℕ) : Type 0 where
+  pub walk : IsWalk shapes new more
+  pub kept : (k : ℕ) → slice_index labels k < length shapes → slice_index new k ≡ slice_index labels k
+  pub all_reached : (j : ℕ) → Touching shapes from j → slice_index new j < length shapes
+  pub longer : length order ≤ length more
+  pub prefix : (p : ℕ) → p < length order → slice_index more p ≡ slice_index order p
+  pub marked : (p : ℕ) → length order ≤ p → p < length more
+      → slice_index new (slice_index more p) ≡ slice_index labels from
+  pub less : 2 * sum new + length more ≤ 2 * sum labels + length order
+
+-- the walk is done, and what was labelled is still
+pub record IsGrown (shapes : List Shape) (labels new order : List ℕ) : Type 0 where
+  pub grown : IsWalk shapes new order
+  pub all_done : IsDone shapes new order (length order)
+  pub still : (k : ℕ) → slice_index labels k < length shapes → slice_index new k < length shapes

@@ -1,0 +1,11 @@
+// The circuit of a layout that keeps the rules, and laws of it.
+pub mod assembly;
+pub mod cell_feeds;
+pub mod cell_list;
+pub mod drivers;
+pub mod first_chip;
+pub mod frames;
+pub mod kept_laws;
+pub mod outputs;
+pub mod pin_names;
+pub mod uniqueness;

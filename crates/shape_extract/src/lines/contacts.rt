@@ -1,0 +1,61 @@
+// Parts of excitation lines and their contacts.
+ghost use Rattle.std.specs.Prelude.{◌≡◌, ◌&&◌, ◌==◌, ◌^◌, ◌<◌, IfOk, length, not};
+ghost use Rattle.std.specs.List.{filter};
+ghost use Rattle.geom.specs.Near.{rects_of};
+ghost use Rattle.layout_rules.specs.ExcitationLines.{meet, Contact, IsPart};
+ghost use Rattle.shape_extract.specs.Searches.{Says, AreThose};
+
+use crate::layers::is_line;
+use crate::pairs::{PairTest, list_partners};
+use aq_base::Memory;
+use geom::{Buckets, Shape, touches};
+
+/// Whether the shape of this number is a part of a line with this datatype.
+pub fn is_part(shapes: &[Shape], datatype: u16, n: u32) -> bool
+    requires { n < length shapes.now }
+    ensures { Says result (IsPart shapes.now datatype n) }
+{
+    let shape = &shapes[n as usize];
+    is_line(shape) && shape.datatype == datatype
+}
+
+/// Two parts on one layer that share a point.
+struct Meet;
+
+impl PairTest for Meet {
+    ghost use Rattle.shape_extract.specs.Code.Sharing.{meet_close};
+
+    ghost passes = { λ s a b. meet a b };
+
+    ghost reach = { λ s. 0 };
+
+    fn passes(&self, a: &Shape, b: &Shape) -> bool {
+        is_line(a) && a.layer == b.layer && touches(&a.rect, &b.rect)
+    }
+
+    ghost close = { λ s a b p q h. meet_close a b h };
+}
+
+/// Takes a number out of a list.
+fn remove_number(numbers: &mut Vec<u32>, a: u32)
+    ensures { numbers.new.items ≡ filter (λ n. not (n == a)) numbers.old.items }
+{
+    numbers.retain(|n| *n != a);
+}
+
+/// Lists the contacts of the shape of this number.
+pub fn list_contacts(
+    shapes: &[Shape],
+    index: &Buckets,
+    a: u32,
+    found: &mut Vec<u32>,
+) -> Result<(), Memory>
+    requires filed { index.now ≡ rects_of shapes.now }
+    requires few { length shapes.now < 2 ^ 32 }
+    requires within { a < length shapes.now }
+    ensures { IfOk result (λ _. AreThose (Contact shapes.now a) found.new.items) }
+{
+    list_partners(&Meet, shapes, index, a, found)?;
+    remove_number(found, a);
+    Ok(())
+}

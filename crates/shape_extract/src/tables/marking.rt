@@ -1,0 +1,71 @@
+// Which labels mark which pins.
+ghost use Rattle.std.specs.Prelude.{◌≡◌, ◌^◌, ◌<◌, int_le, int_lt, true, All, IfOk, length};
+ghost use Rattle.std.specs.List.{filter};
+ghost use Rattle.geom.specs.Near.{rects_of};
+ghost use Rattle.geom.specs.Rectangle.{holds_point};
+ghost use Rattle.layout_rules.specs.Labels.{marks};
+ghost use Rattle.shape_extract.specs.Searches.{AreThose, passes_at};
+ghost use Rattle.shape_extract.specs.Code.Passing.{PassesIn};
+
+use crate::tables::labels::marks;
+use aq_base::Memory;
+use geom::{Buckets, Label, Rect, Shape};
+
+/// A length of the axis that holds a number.
+struct Span {
+    low: i64,
+    high: i64,
+}
+
+fn span_at(x: i64) -> Span
+    ensures from { int_le result.low x ≡ true }
+    ensures to { int_le x result.high ≡ true }
+    ensures proper { int_lt result.low result.high ≡ true }
+{
+    Span {
+        low: x.saturating_sub(1),
+        high: x.saturating_add(1),
+    }
+}
+
+/// A small rectangle that holds the point.
+fn rect_at(x: i64, y: i64) -> Rect
+    ensures { holds_point result x y ≡ true }
+{
+    let Span { low: x0, high: x1 } = span_at(x);
+    let Span { low: y0, high: y1 } = span_at(y);
+    Rect { x0, y0, x1, y1 }
+}
+
+/// Keeps those of the numbers whose shapes the label marks.
+fn keep_marked(label: &Label, shapes: &[Shape], numbers: &mut Vec<u32>)
+    requires { All (λ n. n < length shapes.now) numbers.old.items }
+    ensures { numbers.new.items ≡ filter (passes_at (marks label.now) shapes.now) numbers.old.items }
+{
+    let mut kept = 0;
+    for place in 0..numbers.len() {
+        let number = numbers[place];
+        if marks(label, &shapes[number as usize]) {
+            numbers[kept] = number;
+            kept += 1;
+        }
+    }
+    numbers.truncate(kept);
+}
+
+/// Lists the numbers of the pins that the label marks, by a query of the index for the shapes that hold its point.
+pub fn list_marked(
+    shapes: &[Shape],
+    index: &Buckets,
+    label: &Label,
+    found: &mut Vec<u32>,
+) -> Result<(), Memory>
+    requires few { length shapes.now < 2 ^ 32 }
+    requires filed { index.now ≡ rects_of shapes.now }
+    ensures { IfOk result (λ _. AreThose (PassesIn (marks label.now) shapes.now) found.new.items) }
+{
+    let here = rect_at(label.x, label.y);
+    index.list_near(&here, 0, found)?;
+    keep_marked(label, shapes, found);
+    Ok(())
+}
