@@ -14,8 +14,8 @@ use Rattle.rowed.specs.PlacedNets.{PlacedRow, IsPlaced, paired, placed_rows}
 use Rattle.rowed.specs.Short.{AreShort}
 use Rattle.rowed.specs.Extent.{widest as widest_span}
 use Rattle.maj_mapping.specs.Plan.{map_net}
-use Rattle.maj_mapping.specs.Few.{few_gates}
-use Rattle.maj_mapping.specs.Keeps.{is_plain, keeps as mapping_keeps}
+use Rattle.maj_mapping.proofs.FewGates.{few_gates}
+use Rattle.maj_mapping.proofs.MappedNets.{is_plain, keeps as mapping_keeps}
 use Rattle.level_balance.proofs.Counted.{plan_count}
 use Rattle.level_balance.proofs.KeptNet.{plan_is_row_net}
 use Rattle.level_balance.proofs.SameAnswers.{same_answers}

@@ -11,6 +11,7 @@ use Rattle.blif_read.specs.Netlist.{IsNetlist}
 use Rattle.rowed.specs.RowNets.{RowView}
 use Rattle.rowed.specs.PlacedNets.{PlacedView, placed_rows}
 use Rattle.maj_mapping.specs.Plan.{map_net}
+use Rattle.maj_mapping.specs.Passes.{IsMappedNet}
 use Rattle.level_balance.specs.Plan.{level_net}
 use Rattle.level_balance.specs.Counts.{cell_count, capped}
 use Rattle.level_balance.specs.Passes as level
@@ -34,7 +35,7 @@ use Rattle.chip_plan.specs.Refusals.{refusal_of, Refuses}
 
 module _ (l : LibraryView) (plan : ChipPlan) (net : NetView) (made : IsMadeFor l plan) where
   abbrev pub GivesGates : PlainView → Type 0
-  GivesGates gates = IsNetlist net × (gates ≡ map_net net)
+  GivesGates gates = IsMappedNet net gates
 
   abbrev pub GivesRows : RowView → Type 0
   GivesRows rows = (gates : PlainView) × GivesGates gates × level.IsLevelled gates plan.first.first.second.three rows
@@ -53,9 +54,9 @@ module _ (l : LibraryView) (plan : ChipPlan) (net : NetView) (made : IsMadeFor l
 
   rows_given : (rows : RowView) → GivesRows rows → (rows ≡ rows_of l net) × (cells_before l net ≤ 2000000)
   rows_given rows given = (
-    given.2.is_plan ∙ ap (λ (g : PlainView). level_net g plan.first.first.second.three) given.1.1
+    given.2.is_plan ∙ ap (λ (g : PlainView). level_net g plan.first.first.second.three) given.1.is_plan
         ∙ ap (λ (t : Bool). level_net (map_net net) t) made.three,
-    omega (arith, given.2.few_cells, count_is given.0 given.1.1),
+    omega (arith, given.2.few_cells, count_is given.0 given.1.is_plan),
   )
 
   width_is : (rows : RowView) → rows ≡ rows_of l net → widest rows.rows * plan.first.second.slot_width ≡ width_of l net
@@ -85,7 +86,7 @@ module _ (l : LibraryView) (plan : ChipPlan) (net : NetView) (made : IsMadeFor l
       given.2.is_plan ∙ ap (λ (p : PlacedView). repeated p plan.second.reach) placed.0
       ∙ ap (λ (r : ℕ). repeated (places_of l net) r) made.reach
       in (
-        given.1.1.1.0,
+        given.1.1.1.net_keeps,
         same,
         record {
           few_before = placed.1;
@@ -142,7 +143,7 @@ module _ (l : LibraryView) (plan : ChipPlan) (net : NetView) (made : IsMadeFor l
   refused (First (First (Second levels.Memory))) said = tt
   refused (First (First (Second (levels.TooManyCells cells)))) (inl e) = absurd cc
   refused (First (First (Second (levels.TooManyCells cells)))) (inr met) =
-      let count = count_is met.0 met.1.1 in
+      let count = count_is met.0 met.1.is_plan in
       inl (subst (λ (n : ℕ). 2000000 < n) count met.2.0, met.2.1 ∙ ap capped count)
   refused (First (Second place_refusals.Memory)) said = tt
   refused (First (Second (place_refusals.TooWide span))) (inl e) = absurd cc

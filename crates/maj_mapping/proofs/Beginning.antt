@@ -1,9 +1,8 @@
 -- The inputs of a net, made one after the other.
 use Rattle.std.proofs.Common.{◌≡◌, ℕ, zero, suc, ◌+◌, ◌-◌, ◌<◌, ◌≤◌, List, [], ◌∷◌, ◌++◌, replicate, Option, Some, None, refl, sym, ap, ◌∙◌, arith, append_assoc, append-nil, add-one}
-use Rattle.circuit.specs.declared.gate.Gate.{Gate}
 use Rattle.circuit.specs.declared.gate.Gate.TheVariants.{Input}
 use Rattle.maj_mapping.specs.Plan.{input_gates, input_names}
-use Rattle.maj_mapping.specs.MakerView.{MakerView, with_gates}
+use Rattle.maj_mapping.specs.Code.MakerView.{MakerView, with_gates}
 
 pub record Begins (inputs input : ℕ) (maker : MakerView) : Type 0 where
   pub same : maker.inputs ≡ inputs

@@ -1,7 +1,7 @@
 -- Literals and cubes, made one after the other: what is left makes the whole.
 use Rattle.std.proofs.Common.{◌≡◌, ℕ, zero, suc, ◌+◌, ◌<◌, ◌≤◌, Bool, true, false, List, [], ◌∷◌, ◌++◌, length, drop, get_or, refl, sym, ap, ◌∙◌, subst, arith, drop-cons, add-one, append_assoc, append-nil}
 use Rattle.std.specs.Prelude.{eqb}
-use Rattle.std.specs.List.{AllByRecursion, list_all}
+use Rattle.std.specs.List.{list_all}
 use Rattle.std.proofs.lemmas.List.{drop_all}
 use Rattle.circuit.specs.declared.gate.Gate.{Gate}
 use Rattle.circuit.specs.PlainNets.{AreGates}
@@ -11,11 +11,13 @@ use Rattle.blif_read.specs.declared.netlist.Def.{Def}
 use Rattle.maj_mapping.specs.declared.maker.Join.TheVariants.{And, Or}
 use Rattle.maj_mapping.specs.Operations.{Made, MadeAll, inv}
 use Rattle.maj_mapping.specs.Values.{HasPlanes}
-use Rattle.maj_mapping.specs.Covers.{first, literal, literals, fold, cube_made, cubes_made, by_cubes}
-use Rattle.maj_mapping.specs.MakerView.{MakerView, with_gates}
-use Rattle.maj_mapping.specs.Below.{AllBelow, below_more, below_at}
-use Rattle.maj_mapping.specs.Right.{Right, inv_is_right, right_keep}
-use Rattle.maj_mapping.specs.CoverRight.{cube_is_right, cubes_are_right, any_is_right}
+use Rattle.maj_mapping.specs.Covers.{first, literals, fold, cube_made, cubes_made, by_cubes}
+use Rattle.maj_mapping.specs.Code.Literals.{literal}
+use Rattle.maj_mapping.specs.Code.MakerView.{MakerView, with_gates}
+use Rattle.maj_mapping.specs.Counts.{AllBelow}
+use Rattle.maj_mapping.proofs.Below.{below_more}
+use Rattle.maj_mapping.proofs.Right.{inv_is_right}
+use Rattle.maj_mapping.proofs.CoverRight.{cube_is_right, any_is_right}
 
 -- gates that were made before the others
 abbrev pub after : List ℕ → MadeAll → MadeAll

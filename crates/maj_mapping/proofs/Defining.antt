@@ -1,11 +1,11 @@
 -- The gates of a definition, by the number of its inputs.
-use Rattle.std.proofs.Common.{◌≡◌, ◌≢◌, ℕ, ◌+◌, ◌≤◌, Bool, true, false, cond, List, [], ◌∷◌, length, get_or, refl, sym, ap, ◌∙◌, arith}
+use Rattle.std.proofs.Common.{◌≡◌, ◌≢◌, ℕ, ◌+◌, Bool, cond, List, [], ◌∷◌, length, get_or, refl, arith}
 use Rattle.circuit.specs.declared.gate.Gate.{Gate}
 use Rattle.blif_read.specs.declared.netlist.Def.{Def}
 use Rattle.case_tables.specs.RecipeView.{RecipeView}
 use Rattle.case_tables.specs.Recipes.{number, values2, values3}
 use Rattle.case_tables.specs.Tables.{two_recipe, three_recipe}
-use Rattle.maj_mapping.specs.Operations.{Made, keep, run}
+use Rattle.maj_mapping.specs.Operations.{keep, run}
 use Rattle.maj_mapping.specs.Values.{cover}
 use Rattle.maj_mapping.specs.Covers.{names, by_cubes, define}
 

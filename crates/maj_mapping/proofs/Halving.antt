@@ -1,11 +1,11 @@
 -- A fold in halves is the operation on the folds of its halves.
 use Rattle.std.specs.Prelude.{◌≡◌, ℕ, zero, suc, ◌+◌, ◌/◌, ◌≤◌, List, [], ◌∷◌, length, take, drop}
-use Rattle.std.proofs.Common.{refl, sym, ap, ◌∙◌, arith, length-take, length-drop}
+use Rattle.std.proofs.Common.{refl, ap, ◌∙◌, arith, length-take, length-drop}
 use Rattle.circuit.specs.declared.gate.Gate.{Gate}
 use Rattle.maj_mapping.specs.declared.maker.Join.{Join}
 use Rattle.maj_mapping.specs.Operations.{Made, halves}
 use Rattle.maj_mapping.specs.Covers.{join, none, fold}
-use Rattle.maj_mapping.specs.MakerView.{MakerView, with_gates}
+use Rattle.maj_mapping.specs.Code.MakerView.{MakerView, with_gates}
 
 halves_same : (op : List Gate → ℕ → ℕ → Made) (none k l : ℕ) (gs : List Gate) (xs : List ℕ) → length xs ≤ suc k → length xs ≤ suc l → halves op none k gs xs ≡ halves op none l gs xs
 halves_same op none k l gs [] a b = refl

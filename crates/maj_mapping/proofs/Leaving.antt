@@ -1,23 +1,23 @@
 -- A signal gets the gate of its definition.
-use Rattle.std.specs.Prelude.{◌≡◌, ℕ, ◌+◌, ◌-◌, ◌<◌, ◌≤◌, List, [], ◌∷◌, map, length, slice_get, slice_set, Option, Some, None, unwrap_or}
+use Rattle.std.specs.Prelude.{◌≡◌, ℕ, ◌-◌, ◌<◌, ◌≤◌, List, [], ◌∷◌, map, length, slice_get, slice_set, Option, Some, None, unwrap_or}
 use Rattle.std.proofs.Common.{refl, sym, ap, ◌∙◌, subst, arith, inl, inr}
 use Rattle.std.proofs.lemmas.Bool.{cases_eq}
-use Rattle.std.proofs.lemmas.Option.{same_Some, none-some}
+use Rattle.std.proofs.lemmas.Option.{same_Some}
 use Rattle.std.proofs.lemmas.List.{length-set, get_or-set_same, get_or-set_other}
 use Rattle.circuit.specs.PlainNets.{AreGates}
 use Rattle.blif_read.specs.declared.netlist.Def.{Def}
 use Rattle.blif_read.specs.Parts.{NetView}
 use Rattle.maj_mapping.specs.Values.{HasPlanes}
-use Rattle.maj_mapping.specs.Below.{AllBelow}
+use Rattle.maj_mapping.specs.Counts.{AllBelow}
 use Rattle.maj_mapping.specs.Operations.{Made}
 use Rattle.maj_mapping.specs.Covers.{define}
-use Rattle.maj_mapping.specs.MakerView.{MakerView, with_gates}
-use Rattle.maj_mapping.specs.Plan.{Mapping, gate_at, gate_or, def_of, leave, leave_by, signals}
-use Rattle.maj_mapping.specs.Ordered.{IsOrdered}
-use Rattle.maj_mapping.specs.Right.{past_constants}
-use Rattle.maj_mapping.specs.DefineRight.{define_is_right}
-use Rattle.maj_mapping.specs.Law.{def_of_is}
-use Rattle.maj_mapping.specs.Walk.{mapping, IsStanding}
+use Rattle.maj_mapping.specs.Code.MakerView.{MakerView, with_gates}
+use Rattle.maj_mapping.specs.Plan.{gate_at, gate_or, leave, leave_by, signals}
+use Rattle.maj_mapping.proofs.Ordered.{IsOrdered}
+use Rattle.maj_mapping.proofs.Right.{past_constants}
+use Rattle.maj_mapping.proofs.DefineRight.{define_is_right}
+use Rattle.maj_mapping.proofs.SoundWalks.{def_of_is}
+use Rattle.maj_mapping.specs.Code.Walks.{mapping, IsStanding}
 
 -- the gates of signals exist
 pub operands_below : (net : NetView) (maker : MakerView) (gate_of : List (Option ℕ)) → IsStanding net maker gate_of → (ss : List ℕ) → AllBelow (length maker.gates) (map (gate_or gate_of) ss)

@@ -1,3 +1,16 @@
+mod Grown
+mod Below
+mod ValueLaws
+mod MakerLaws
+mod Ordered
+mod Right
+mod RightAll
+mod CoverRight
+mod DefineRight
+mod SoundWalks
+pub mod MappedNets
+pub mod FewGates
+mod MappingGiven
 pub mod Halving
 pub mod Beginning
 pub mod Running

@@ -1,18 +1,18 @@
 -- The walks from the outputs, one after the other: what is left makes the whole.
-use Rattle.std.specs.Prelude.{◌≡◌, ℕ, zero, suc, ◌+◌, ◌<◌, ◌≤◌, ◌^◌, List, [], ◌∷◌, map, length, drop, Option, Some, None, slice_index_or}
+use Rattle.std.specs.Prelude.{◌≡◌, ℕ, zero, suc, ◌+◌, ◌<◌, ◌≤◌, ◌^◌, List, [], ◌∷◌, map, length, drop, Option, Some, None}
 use Rattle.std.specs.List.{fold}
 use Rattle.std.proofs.Common.{refl, sym, ap, ◌∙◌, subst, arith, get_or, drop-cons, add-one}
 use Rattle.std.proofs.lemmas.List.{drop_all}
 use Rattle.blif_read.specs.Parts.{NetView}
-use Rattle.blif_read.specs.Netlist.{IsNetlist, size_of, def_size}
+use Rattle.blif_read.specs.Netlist.{IsNetlist}
 use Rattle.circuit.specs.PlainNets.{PlainView, IsPlainNet}
-use Rattle.maj_mapping.specs.Below.{AllBelow}
-use Rattle.maj_mapping.specs.MakerView.{MakerView}
-use Rattle.maj_mapping.specs.Plan.{Mapping, visit, start, first_gates, first_map, mapped, map_net, gate_or, gate_at, signals}
-use Rattle.maj_mapping.specs.Ordered.{IsOrdered, ordered}
-use Rattle.maj_mapping.specs.Law.{start_right}
-use Rattle.maj_mapping.specs.Keeps.{is_plain}
-use Rattle.maj_mapping.specs.Walk.{deep, walk, mapping, IsStanding}
+use Rattle.maj_mapping.specs.Counts.{AllBelow}
+use Rattle.maj_mapping.specs.Code.MakerView.{MakerView}
+use Rattle.maj_mapping.specs.Plan.{Mapping, visit, start, first_gates, first_map, mapped, map_net, gate_or, signals}
+use Rattle.maj_mapping.proofs.Ordered.{IsOrdered}
+use Rattle.maj_mapping.proofs.SoundWalks.{start_right}
+use Rattle.maj_mapping.proofs.MappedNets.{is_plain}
+use Rattle.maj_mapping.specs.Code.Walks.{deep, walk, mapping, IsStanding}
 
 pub record Mapped (net : NetView) (outputs : List ℕ) (maker : MakerView) (gate_of : List (Option ℕ)) (k : ℕ) : Type 0 where
   pub left : fold (visit net (deep net)) (mapping maker gate_of) (drop k outputs) ≡ mapped net

@@ -1,16 +1,16 @@
 -- The steps of a recipe, made one after the other: what is left makes the whole.
 use Rattle.std.proofs.Common.{◌≡◌, ℕ, ◌+◌, ◌<◌, ◌≤◌, List, [], ◌∷◌, ◌++◌, length, drop, get_or, refl, sym, ap, ◌∙◌, subst, arith, drop-cons, add-one}
 use Rattle.std.proofs.lemmas.List.{drop_all}
-use Rattle.circuit.specs.declared.gate.Gate.{Gate}
 use Rattle.circuit.specs.PlainNets.{AreGates}
 use Rattle.case_tables.specs.declared.recipe.Step.{Step}
 use Rattle.case_tables.specs.RecipeView.{RecipeView}
-use Rattle.case_tables.specs.Recipes.{Named, operand_is}
+use Rattle.case_tables.specs.Recipes.{operand_is}
 use Rattle.maj_mapping.specs.Operations.{Made, MadeAll, step_made, steps_made, run}
 use Rattle.maj_mapping.specs.Covers.{names}
-use Rattle.maj_mapping.specs.MakerView.{MakerView, with_gates}
-use Rattle.maj_mapping.specs.Below.{AllBelow, below_more, below_append}
-use Rattle.maj_mapping.specs.RightAll.{NamesBelow, names_inside, step_is_right}
+use Rattle.maj_mapping.specs.Code.MakerView.{MakerView, with_gates}
+use Rattle.maj_mapping.specs.Counts.{AllBelow}
+use Rattle.maj_mapping.proofs.Below.{below_more, below_append}
+use Rattle.maj_mapping.proofs.RightAll.{names_inside, step_is_right}
 
 -- from the maker `first` on, with k steps done
 pub record Running (first : MakerView) (a b c : ℕ) (steps whole : List Step) (maker : MakerView) (done : List ℕ) (k : ℕ) : Type 0 where

@@ -1,5 +1,5 @@
 -- The walk with a stack in place of the recursion: what is left to do, how many turns it takes, and one turn.
-use Rattle.std.specs.Prelude.{◌≡◌, ◌⊎◌, ℕ, zero, suc, ◌+◌, ◌-◌, ◌<◌, ◌≤◌, ltb, Bool, true, false, not, is_some, List, [], ◌∷◌, ◌++◌, length, drop, slice_get, Option, Some, None}
+use Rattle.std.specs.Prelude.{◌≡◌, ℕ, zero, suc, ◌+◌, ◌-◌, ◌<◌, ◌≤◌, ltb, Bool, true, false, not, is_some, List, [], ◌∷◌, ◌++◌, length, drop, slice_get, Option, Some, None}
 use Rattle.std.specs.List.{fold}
 use Rattle.std.proofs.Common.{refl, sym, ap, ◌∙◌, subst, arith, inl, inr}
 use Rattle.std.proofs.lemmas.List.{drop_all}
@@ -8,12 +8,12 @@ use Rattle.std.proofs.lemmas.Bool.{cases_lt, ltb-false}
 use Rattle.blif_read.specs.declared.netlist.Def.{Def}
 use Rattle.blif_read.specs.Parts.{NetView}
 use Rattle.maj_mapping.specs.declared.walk.Visit.{Visit}
-use Rattle.maj_mapping.specs.Below.{AllBelow}
-use Rattle.maj_mapping.specs.MakerView.{MakerView}
+use Rattle.maj_mapping.specs.Counts.{AllBelow}
+use Rattle.maj_mapping.specs.Code.MakerView.{MakerView}
 use Rattle.maj_mapping.specs.Plan.{Mapping, gate_at, def_of, inputs_by, leave, visit, signals}
-use Rattle.maj_mapping.specs.Ordered.{IsOrdered, RanksBelow}
-use Rattle.maj_mapping.specs.Law.{def_of_is}
-use Rattle.maj_mapping.specs.Walk.{deep, walk, mapping, IsStanding}
+use Rattle.maj_mapping.proofs.Ordered.{IsOrdered, RanksBelow}
+use Rattle.maj_mapping.proofs.SoundWalks.{def_of_is}
+use Rattle.maj_mapping.specs.Code.Walks.{deep, walk, mapping, IsStanding}
 
 abbrev pub inputs_of : NetView → ℕ → List ℕ
 inputs_of net s = inputs_by (def_of net s)

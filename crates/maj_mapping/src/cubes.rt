@@ -3,10 +3,11 @@ ghost use Rattle.std.specs.Prelude.{◌≡◌, ◌<◌, ◌++◌, length, IfOk, 
 ghost use Rattle.std.specs.List.{list_all};
 ghost use Rattle.blif_read.specs.Faults.{is_plane_byte};
 ghost use Rattle.circuit.specs.PlainNets.{AreGates};
-ghost use Rattle.maj_mapping.specs.MakerView.{with_gates};
-ghost use Rattle.maj_mapping.specs.Covers.{literal, literals, cube_made, cubes_made, by_cubes};
+ghost use Rattle.maj_mapping.specs.Code.MakerView.{with_gates};
+ghost use Rattle.maj_mapping.specs.Code.Literals.{literal};
+ghost use Rattle.maj_mapping.specs.Covers.{literals, cube_made, cubes_made, by_cubes};
 ghost use Rattle.maj_mapping.specs.Values.{HasPlanes};
-ghost use Rattle.maj_mapping.specs.Below.{AllBelow};
+ghost use Rattle.maj_mapping.specs.Counts.{AllBelow};
 
 use crate::maker::{Join, Maker};
 use aq_base::Memory;
@@ -21,8 +22,10 @@ fn push_literal(
     input: u32,
 ) -> Result<(), Memory>
     requires { input < length maker.old.gates }
-    ensures gates { OnOk result (maker.new ≡ with_gates maker.old (literal maker.old.inputs maker.old.gates byte input).gates) }
-    ensures more { OnOk result (literals.new.items ≡ literals.old.items ++ (literal maker.old.inputs maker.old.gates byte input).ats) }
+    ensures gates { OnOk result (maker.new
+        ≡ with_gates maker.old (literal maker.old.inputs maker.old.gates byte input).gates) }
+    ensures more { OnOk result (literals.new.items
+        ≡ literals.old.items ++ (literal maker.old.inputs maker.old.gates byte input).ats) }
 {
     if byte == b'1' {
         literals.push(input)?;
@@ -45,7 +48,8 @@ fn literals(
 ) -> Result<Vec<u32>, Memory>
     requires good { AreGates maker.old.inputs maker.old.gates }
     requires below { AllBelow (length maker.old.gates) inputs.now }
-    ensures gates { OnOk result (maker.new ≡ with_gates maker.old (literals maker.old.inputs maker.old.gates plane.now inputs.now).gates) }
+    ensures gates { OnOk result (maker.new
+        ≡ with_gates maker.old (literals maker.old.inputs maker.old.gates plane.now inputs.now).gates) }
     ensures all { IfOk result (λ r. r.items ≡ (literals maker.old.inputs maker.old.gates plane.now inputs.now).ats) }
 {
     let mut made = Vec::new(alloc);
@@ -62,7 +66,8 @@ fn literals(
 fn cube(alloc: Global, maker: &mut Maker, plane: &[u8], inputs: &[u32]) -> Result<u32, Memory>
     requires good { AreGates maker.old.inputs maker.old.gates }
     requires below { AllBelow (length maker.old.gates) inputs.now }
-    ensures gates { OnOk result (maker.new ≡ with_gates maker.old (cube_made maker.old.inputs maker.old.gates inputs.now plane.now).gates) }
+    ensures gates { OnOk result (maker.new
+        ≡ with_gates maker.old (cube_made maker.old.inputs maker.old.gates inputs.now plane.now).gates) }
     ensures at { IfOk result (λ r. r ≡ (cube_made maker.old.inputs maker.old.gates inputs.now plane.now).at) }
 {
     let literals = literals(alloc, maker, plane, inputs)?;
@@ -79,7 +84,8 @@ fn cubes(
     requires good { AreGates maker.old.inputs maker.old.gates }
     requires below { AllBelow (length maker.old.gates) inputs.now }
     requires planes { HasPlanes cubes.now }
-    ensures gates { OnOk result (maker.new ≡ with_gates maker.old (cubes_made maker.old.inputs maker.old.gates inputs.now cubes.now).gates) }
+    ensures gates { OnOk result (maker.new
+        ≡ with_gates maker.old (cubes_made maker.old.inputs maker.old.gates inputs.now cubes.now).gates) }
     ensures all { IfOk result (λ r. r.items ≡ (cubes_made maker.old.inputs maker.old.gates inputs.now cubes.now).ats) }
 {
     let mut made = Vec::with_capacity(alloc, cubes.len())?;
@@ -95,7 +101,8 @@ pub fn by_cubes(alloc: Global, maker: &mut Maker, def: &Def, inputs: &[u32]) -> 
     requires good { AreGates maker.old.inputs maker.old.gates }
     requires below { AllBelow (length maker.old.gates) inputs.now }
     requires planes { HasPlanes def.now.cubes }
-    ensures gates { OnOk result (maker.new ≡ with_gates maker.old (by_cubes maker.old.inputs maker.old.gates inputs.now def.now).gates) }
+    ensures gates { OnOk result (maker.new
+        ≡ with_gates maker.old (by_cubes maker.old.inputs maker.old.gates inputs.now def.now).gates) }
     ensures at { IfOk result (λ r. r ≡ (by_cubes maker.old.inputs maker.old.gates inputs.now def.now).at) }
 {
     let cubes = cubes(alloc, maker, def.cubes.as_slice(), inputs)?;

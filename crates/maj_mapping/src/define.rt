@@ -1,10 +1,10 @@
 // The gates of one definition.
 ghost use Rattle.std.specs.Prelude.{◌≡◌, ◌+◌, IfOk, OnOk, length, cond};
 ghost use Rattle.circuit.specs.PlainNets.{AreGates};
-ghost use Rattle.maj_mapping.specs.MakerView.{with_gates};
+ghost use Rattle.maj_mapping.specs.Code.MakerView.{with_gates};
 ghost use Rattle.maj_mapping.specs.Covers.{define};
 ghost use Rattle.maj_mapping.specs.Values.{HasPlanes};
-ghost use Rattle.maj_mapping.specs.Below.{AllBelow};
+ghost use Rattle.maj_mapping.specs.Counts.{AllBelow};
 
 use crate::cover::{cover, number_of_one, number_of_three, number_of_two};
 use crate::cubes::by_cubes;
@@ -26,7 +26,8 @@ pub fn define(
     requires good { AreGates maker.old.inputs maker.old.gates }
     requires below { AllBelow (length maker.old.gates) inputs.now }
     requires planes { HasPlanes def.now.cubes }
-    ensures gates { OnOk result (maker.new ≡ with_gates maker.old (define maker.old.inputs maker.old.gates inputs.now def.now).gates) }
+    ensures gates { OnOk result (maker.new
+        ≡ with_gates maker.old (define maker.old.inputs maker.old.gates inputs.now def.now).gates) }
     ensures at { IfOk result (λ r. r ≡ (define maker.old.inputs maker.old.gates inputs.now def.now).at) }
 {
     let zero = maker.zero();

@@ -11,7 +11,7 @@ mod recipe;
 mod tables;
 mod walk;
 
-pub use laws::{few_gates, few_gates_each};
+pub use laws::{few_gates, few_gates_each, few_gates_in_all, mapping_given};
 pub use pass::MapPass;
 
 #[cfg(test)]

@@ -1,9 +1,9 @@
 // Makes gates: each operation in constant time, with its simplifications.
 ghost use Rattle.std.specs.Prelude.{◌≡◌, ◌<◌, ◌≤◌, ◌+◌, ◌^◌, ◌∷◌, ◌++◌, [], length, IfOk, OnOk, None};
 ghost use Rattle.circuit.specs.declared.gate.Gate.TheVariants as gates;
-ghost use Rattle.maj_mapping.specs.MakerView.{MakerView, with_gates};
+ghost use Rattle.maj_mapping.specs.Code.MakerView.{MakerView, with_gates};
 ghost use Rattle.maj_mapping.specs.Operations.{side, inv, and, or, maj, inverter_from};
-ghost use Rattle.maj_mapping.specs.Maker.{NoInverter};
+ghost use Rattle.maj_mapping.specs.Code.Makers.{NoInverter};
 ghost use Rattle.maj_mapping.specs.Covers.{join, fold, none};
 ghost use Rattle.maj_mapping.specs.Plan.{first_gates};
 
@@ -36,13 +36,13 @@ pub struct Maker {
 }
 
 impl Model for Maker {
-    ghost use Rattle.maj_mapping.specs.MakerView.{MakerView};
+    ghost use Rattle.maj_mapping.specs.Code.MakerView.{MakerView};
 
     ghost Value = { MakerView };
 
     ghost view = { λ m. record { inputs = m.inputs; gates = m.gates } };
 
-    ghost use Rattle.maj_mapping.specs.Maker.{IsMaker};
+    ghost use Rattle.maj_mapping.specs.Code.Makers.{IsMaker};
 
     ghost invariant = { λ m. IsMaker m.inputs m.gates m.inverters };
 }
@@ -223,7 +223,8 @@ impl Maker {
     }
 
     fn join(&mut self, which: Join, x: u32, y: u32) -> Result<u32, Memory>
-        ensures gates { OnOk result (self.new ≡ with_gates self.old (join which self.old.inputs self.old.gates x y).gates) }
+        ensures gates { OnOk result (self.new
+            ≡ with_gates self.old (join which self.old.inputs self.old.gates x y).gates) }
         ensures at { IfOk result (λ r. r ≡ (join which self.old.inputs self.old.gates x y).at) }
     {
         match which {
@@ -244,7 +245,8 @@ impl Maker {
 
     /// The operands joined: the first half, rounded up, then the rest, and then both.
     pub fn fold(&mut self, which: Join, operands: &[u32]) -> Result<u32, Memory>
-        ensures gates { OnOk result (self.new ≡ with_gates self.old (fold which self.old.inputs self.old.gates operands.now).gates) }
+        ensures gates { OnOk result (self.new
+            ≡ with_gates self.old (fold which self.old.inputs self.old.gates operands.now).gates) }
         ensures at { IfOk result (λ r. r ≡ (fold which self.old.inputs self.old.gates operands.now).at) }
     {
         if operands.len() == 0 {

@@ -1,7 +1,8 @@
 // The first pass: from a netlist to a net of majorities and inverters.
 ghost use Rattle.std.specs.Prelude.{◌≡◌, ◌+◌, ◌++◌, map, length, IfOk};
 ghost use Rattle.blif_read.specs.Netlist.{IsNetlist};
-ghost use Rattle.maj_mapping.specs.Plan.{map_net, first_map};
+ghost use Rattle.maj_mapping.specs.Plan.{first_map};
+ghost use Rattle.maj_mapping.specs.Passes.{IsMappedNet};
 
 use crate::maker::Maker;
 use crate::tables::Tables;
@@ -28,7 +29,7 @@ fn first_map(alloc: Global, inputs: u32, defs: usize) -> Result<List<Option<u32>
 /// The net of majorities and inverters that a netlist is mapped to.
 fn map_net(alloc: Global, tables: &Tables, net: &Netlist) -> Result<PlainNet, Memory>
     requires { IsNetlist net.now }
-    ensures { IfOk result (λ out. out ≡ map_net net.now) }
+    ensures { IfOk result (λ out. IsMappedNet net.now out) }
 {
     let inputs = net.input_count();
     let mut maker = Maker::new(alloc, inputs)?;
@@ -60,22 +61,19 @@ impl MapPass {
 }
 
 impl Pass<Netlist> for MapPass {
-    ghost use Rattle.std.specs.Prelude.{◌≡◌};
-    ghost use Rattle.blif_read.specs.Netlist.{IsNetlist};
-    ghost use Rattle.maj_mapping.specs.Plan.{map_net};
-    ghost use Rattle.maj_mapping.specs.Keeps.{keeps};
+    ghost use Rattle.maj_mapping.specs.Passes.{IsMappedNet};
 
     type Out = PlainNet;
 
     type Refusal = Memory;
 
-    ghost may_give = { λ s net out. IsNetlist net × (out ≡ map_net net) };
+    ghost may_give = { λ s net out. IsMappedNet net out };
 
     ghost may_meet = { λ s net refusal. ⊥ };
 
     ghost is_memory = { λ refusal. Unit {0} };
 
-    ghost keeps = { λ s net out given. keeps net out given.0 given.1 };
+    ghost keeps = { λ s net out given. given.same };
 
     fn run(&self, alloc: Global, from: &Netlist) -> Result<PlainNet, Memory> {
         from.known();

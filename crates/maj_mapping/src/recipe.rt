@@ -2,10 +2,10 @@
 ghost use Rattle.std.specs.Prelude.{◌≡◌, ◌<◌, length, IfOk, OnOk, List};
 ghost use Rattle.circuit.specs.PlainNets.{AreGates};
 ghost use Rattle.case_tables.specs.Recipes.{operand_is};
-ghost use Rattle.maj_mapping.specs.MakerView.{with_gates};
+ghost use Rattle.maj_mapping.specs.Code.MakerView.{with_gates};
 ghost use Rattle.maj_mapping.specs.Operations.{step_made, run};
 ghost use Rattle.maj_mapping.specs.Covers.{names};
-ghost use Rattle.maj_mapping.specs.Below.{AllBelow};
+ghost use Rattle.maj_mapping.specs.Counts.{AllBelow};
 
 use crate::maker::Maker;
 use aq_base::Memory;
@@ -41,8 +41,12 @@ fn make_step(maker: &mut Maker, inputs: Inputs, done: &[u32], step: Step) -> Res
     requires b { inputs.b < length maker.old.gates }
     requires c { inputs.c < length maker.old.gates }
     requires done { AllBelow (length maker.old.gates) done.now }
-    ensures gates { OnOk result (maker.new ≡ with_gates maker.old (step_made maker.old.inputs maker.old.gates (names maker.old.inputs inputs.a inputs.b inputs.c) done.now step).gates) }
-    ensures at { IfOk result (λ r. r ≡ (step_made maker.old.inputs maker.old.gates (names maker.old.inputs inputs.a inputs.b inputs.c) done.now step).at) }
+    ensures gates { OnOk result (maker.new
+        ≡ with_gates maker.old (step_made maker.old.inputs maker.old.gates
+        (names maker.old.inputs inputs.a inputs.b inputs.c) done.now step).gates) }
+    ensures at { IfOk result (λ r.
+        r ≡ (step_made maker.old.inputs maker.old.gates
+        (names maker.old.inputs inputs.a inputs.b inputs.c) done.now step).at) }
 {
     match step {
         Step::And(x, y) => {
@@ -74,8 +78,12 @@ pub fn run(alloc: Global, maker: &mut Maker, inputs: Inputs, recipe: &Recipe) ->
     requires a { inputs.a < length maker.old.gates }
     requires b { inputs.b < length maker.old.gates }
     requires c { inputs.c < length maker.old.gates }
-    ensures gates { OnOk result (maker.new ≡ with_gates maker.old (run maker.old.inputs maker.old.gates (names maker.old.inputs inputs.a inputs.b inputs.c) recipe.now).gates) }
-    ensures at { IfOk result (λ r. r ≡ (run maker.old.inputs maker.old.gates (names maker.old.inputs inputs.a inputs.b inputs.c) recipe.now).at) }
+    ensures gates { OnOk result (maker.new
+        ≡ with_gates maker.old (run maker.old.inputs maker.old.gates
+        (names maker.old.inputs inputs.a inputs.b inputs.c) recipe.now).gates) }
+    ensures at { IfOk result (λ r.
+        r ≡ (run maker.old.inputs maker.old.gates
+        (names maker.old.inputs inputs.a inputs.b inputs.c) recipe.now).at) }
 {
     let mut done = Vec::new(alloc);
     for step in recipe.steps.as_slice() {

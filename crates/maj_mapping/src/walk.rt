@@ -2,7 +2,7 @@
 ghost use Rattle.std.specs.Prelude.{◌≡◌, ◌<◌, ◌≤◌, ◌+◌, ◌^◌, ℕ, map, length, IfOk, OnOk};
 ghost use Rattle.blif_read.specs.Netlist.{IsNetlist};
 ghost use Rattle.maj_mapping.specs.Plan.{gate_or, signals, leave};
-ghost use Rattle.maj_mapping.specs.Walk.{walk, mapping, IsStanding};
+ghost use Rattle.maj_mapping.specs.Code.Walks.{walk, mapping, IsStanding};
 
 use crate::define::define;
 use crate::maker::Maker;

@@ -1,7 +1,7 @@
 use Rattle.std.proofs.Common.{◌≡◌, ℕ, subst, OnOk, IfOk}
-use Rattle.maj_mapping.specs.MakerView.{with_gates}
+use Rattle.maj_mapping.specs.Code.MakerView.{with_gates}
 use Rattle.maj_mapping.specs.Operations.{Made, inv}
-use Rattle.maj_mapping.proofs.Cubing.{AnyMade, any_made, any_inside, by_cubes_on, by_cubes_off}
+use Rattle.maj_mapping.proofs.Cubing.{any_made, any_inside, by_cubes_on, by_cubes_off}
 use Rattle.maj_mapping.proofs.cubes.by_cubes.Goals as goal
 
 pub returns-then-def-clause-gates : goal.returns-then-def-clause-gates

@@ -1,5 +1,5 @@
 use Rattle.std.proofs.Common.{◌≡◌, ℕ, subst, OnOk, IfOk}
-use Rattle.maj_mapping.specs.MakerView.{with_gates}
+use Rattle.maj_mapping.specs.Code.MakerView.{with_gates}
 use Rattle.maj_mapping.specs.declared.maker.Join.TheVariants.{And}
 use Rattle.maj_mapping.specs.Operations.{Made}
 use Rattle.maj_mapping.specs.Covers.{fold}

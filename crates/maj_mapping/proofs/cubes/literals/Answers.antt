@@ -1,4 +1,4 @@
-use Rattle.std.proofs.Common.{sym, ◌∙◌}
+use Rattle.std.proofs.Common.{sym}
 use Rattle.std.proofs.lemmas.Bool.{ltb-false}
 use Rattle.maj_mapping.proofs.Cubing.{one_literal, past_inputs}
 use Rattle.maj_mapping.proofs.cubes.literals.Goals as goal

@@ -1,6 +1,6 @@
-use Rattle.std.proofs.Common.{◌≡◌, ◌≢◌, ◌<◌, ℕ, length, sym, ap, subst, arith, OnOk, IfOk, refl}
+use Rattle.std.proofs.Common.{◌≡◌, ◌≢◌, ◌<◌, length, sym, ap, subst, arith, OnOk, IfOk, refl}
 use Rattle.case_tables.specs.Truths.{below_256}
-use Rattle.maj_mapping.specs.MakerView.{with_gates}
+use Rattle.maj_mapping.specs.Code.MakerView.{with_gates}
 use Rattle.maj_mapping.specs.Operations.{Made}
 use Rattle.maj_mapping.proofs.Defining.{define_none, define_one, define_two, define_three, define_more}
 use Rattle.maj_mapping.proofs.define.define.Goals as goal

@@ -1,4 +1,4 @@
-use Rattle.maj_mapping.specs.Few.{few_gates}
+use Rattle.maj_mapping.proofs.FewGates.{few_gates}
 use Rattle.maj_mapping.proofs.laws.few_gates.Goals as goal
 
 pub returns : goal.returns

@@ -1,4 +1,4 @@
-use Rattle.maj_mapping.specs.DefineRight.{define_is_right}
+use Rattle.maj_mapping.proofs.DefineRight.{define_is_right}
 use Rattle.maj_mapping.proofs.laws.few_gates_each.Goals as goal
 
 pub returns : goal.returns

@@ -1,5 +1,6 @@
 use Rattle.std.proofs.Common.{length, ap, ◌∙◌}
-use Rattle.maj_mapping.specs.Ordered.{ordered}
+use Rattle.maj_mapping.proofs.Ordered.{ordered}
+use Rattle.maj_mapping.proofs.MappingGiven.{made_given}
 use Rattle.maj_mapping.proofs.Outputs.{begins, all_outputs, made_plain}
 use Rattle.maj_mapping.proofs.pass.map_net.Goals as goal
 
@@ -12,4 +13,4 @@ invariant_of-result c = made_plain _ _ c.requires
     c.into_gates.ensures.few
 
 pub returns : goal.returns
-returns c = all_outputs c.args.net.now _ _ _ _ _ _ _ _ _ c.loop-output.invariant c.loop-output-test.false c.input_count-inputs.ensures.count c.as_slice.ensures (c.as_slice-2.ensures ∙ c.outputs-2.ensures) (c.from_vec.ensures ∙ c.in_ok-outputs.ensures) c.into_gates.ensures.gates
+returns c = made_given _ _ c.requires (all_outputs c.args.net.now _ _ _ _ _ _ _ _ _ c.loop-output.invariant c.loop-output-test.false c.input_count-inputs.ensures.count c.as_slice.ensures (c.as_slice-2.ensures ∙ c.outputs-2.ensures) (c.from_vec.ensures ∙ c.in_ok-outputs.ensures) c.into_gates.ensures.gates)

@@ -1,4 +1,4 @@
-use Rattle.maj_mapping.specs.RightAll.{operand_below, names_inside}
+use Rattle.maj_mapping.proofs.RightAll.{operand_below, names_inside}
 use Rattle.maj_mapping.proofs.recipe.make_step.Goals as goal
 
 pub inv-requires : goal.inv-requires

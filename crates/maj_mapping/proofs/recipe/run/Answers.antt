@@ -1,4 +1,4 @@
-use Rattle.std.proofs.Common.{◌∙◌, sym, ap}
+use Rattle.std.proofs.Common.{◌∙◌, ap}
 use Rattle.case_tables.specs.RecipeView.{RecipeView}
 use Rattle.case_tables.specs.Recipes.{operand_is}
 use Rattle.maj_mapping.specs.Covers.{names}

@@ -1,6 +1,6 @@
 use Rattle.std.proofs.Common.{length, subst, sym}
-use Rattle.maj_mapping.specs.Below.{AllBelow}
-use Rattle.maj_mapping.specs.Ordered.{ordered}
+use Rattle.maj_mapping.specs.Counts.{AllBelow}
+use Rattle.maj_mapping.proofs.Ordered.{ordered}
 use Rattle.maj_mapping.proofs.Leaving.{found_at, planes_of, operands_are, operands_below, leaves}
 use Rattle.maj_mapping.proofs.walk.leave.Goals as goal
 

@@ -1,7 +1,6 @@
 -- Each turn of the loop is a turn of the walk.
-use Rattle.std.proofs.Common.{◌≡◌, ◌<◌, ◌≤◌, ◌+◌, ◌++◌, ◌∷◌, [], ℕ, length, arith}
-use Rattle.maj_mapping.specs.Plan.{signals}
-use Rattle.maj_mapping.specs.Ordered.{ordered}
+use Rattle.std.proofs.Common.{arith}
+use Rattle.maj_mapping.proofs.Ordered.{ordered}
 use Rattle.maj_mapping.proofs.Leaving.{found_at}
 use Rattle.maj_mapping.proofs.Walking.{top_visit, next_leave, next_known, next_new, begin_known, begin_new, input_signal}
 use Rattle.maj_mapping.proofs.walk.walk.Goals as goal

@@ -1,4 +1,4 @@
-use Rattle.maj_mapping.specs.Walk.{walk, mapping}
+use Rattle.maj_mapping.specs.Code.Walks.{walk, mapping}
 use Rattle.maj_mapping.proofs.Walking.{Walking, turns_left}
 use Rattle.maj_mapping.proofs.walk.walk.Given as goal
 

@@ -1,5 +1,5 @@
 use Rattle.std.proofs.Common.{◌≡◌, ℕ, arith, subst, OnOk, IfOk, refl}
-use Rattle.maj_mapping.specs.MakerView.{with_gates}
+use Rattle.maj_mapping.specs.Code.MakerView.{with_gates}
 use Rattle.maj_mapping.specs.Operations.{Made}
 use Rattle.maj_mapping.specs.Covers.{join}
 use Rattle.maj_mapping.proofs.Halving.{fold_whole}

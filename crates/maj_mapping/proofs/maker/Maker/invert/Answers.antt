@@ -1,7 +1,7 @@
 -- The index gets the new inverter.
 use Rattle.std.proofs.Common.{◌≡◌, ◌+◌, ◌<◌, ◌^◌, length, arith, length-append, subst, sym, ap, ◌∙◌, None}
 use Rattle.maj_mapping.specs.Operations.{inverter_from}
-use Rattle.maj_mapping.specs.Maker.{maker_room, maker_invert}
+use Rattle.maj_mapping.proofs.MakerLaws.{maker_room, maker_invert}
 use Rattle.maj_mapping.proofs.maker.Maker.invert.Goals as goal
 
 pub invariant_of-self-2 : goal.invariant_of-self-2

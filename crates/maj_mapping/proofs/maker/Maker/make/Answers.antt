@@ -1,6 +1,6 @@
 -- The index stands as it did, and the new gate inverts nothing.
 use Rattle.std.proofs.Common.{◌+◌, ◌<◌, ◌^◌, length, arith, length-append, subst, sym}
-use Rattle.maj_mapping.specs.Maker.{maker_room, maker_make}
+use Rattle.maj_mapping.proofs.MakerLaws.{maker_room, maker_make}
 use Rattle.maj_mapping.proofs.maker.Maker.make.Goals as goal
 
 pub invariant_of-self-2 : goal.invariant_of-self-2

@@ -1,27 +1,24 @@
 -- The law of the plan: in each valuation each mapped signal's gate has the signal's value.
-use Rattle.std.specs.Prelude.{◌≡◌, ◌≢◌, ◌⊎◌, ℕ, zero, suc, ◌+◌, ◌-◌, ◌<◌, ◌≤◌, ltb, Bool, true, false, List, [], ◌∷◌, ◌++◌, map, length, replicate, slice_get, slice_index_or, slice_set, Option, Some, None, unwrap_or}
+use Rattle.std.specs.Prelude.{◌≡◌, ℕ, zero, suc, ◌+◌, ◌-◌, ◌<◌, ◌≤◌, ltb, Bool, false, List, [], ◌∷◌, ◌++◌, map, length, replicate, slice_get, slice_index_or, slice_set, Option, Some, None, unwrap_or}
 use Rattle.std.specs.List.{fold}
 use Rattle.std.proofs.Common.{refl, sym, ap, ◌∙◌, subst, arith, inl, inr}
-use Rattle.std.proofs.lemmas.Bool.{cases_eq, cases_lt, le-ltb, lt-ltb}
+use Rattle.std.proofs.lemmas.Bool.{cases_eq, cases_lt, le-ltb}
 use Rattle.std.proofs.lemmas.Option.{slice_get_cases, same_Some, none-some}
 use Rattle.std.proofs.lemmas.List.{length-set, get_or-set_same, get_or-set_other, length-append, length-replicate}
 use Rattle.circuit.specs.declared.gate.Gate.{Gate}
 use Rattle.circuit.specs.declared.gate.Gate.TheVariants.{Input, Zero, One}
 use Rattle.blif_read.specs.declared.netlist.Def.{Def}
 use Rattle.blif_read.specs.Parts.{NetView}
-use Rattle.circuit.specs.PlainNets.{PlainView}
-use Rattle.circuit.specs.Gates.{gate_value, Fits}
+use Rattle.circuit.specs.Gates.{Fits}
 use Rattle.circuit.specs.PlainNets.{MayStand, AreGates}
 use Rattle.blif_read.specs.Equations as equations
-use Rattle.maj_mapping.specs.Values.{cover, cover_is, HasPlanes}
-use Rattle.maj_mapping.specs.Grown.{get_front, get_last, get_cases}
-use Rattle.maj_mapping.specs.Operations.{Made}
+use Rattle.maj_mapping.specs.Values.{cover, HasPlanes}
+use Rattle.maj_mapping.proofs.ValueLaws.{cover_is}
 use Rattle.maj_mapping.specs.Covers.{define}
 use Rattle.maj_mapping.specs.Plan.{Mapping, gate_at, gate_or, input_gates, input_names, start, leave_by, def_of, inputs_by, leave, visit, signals, mapped, map_net}
-use Rattle.maj_mapping.specs.Right.{Right}
-use Rattle.maj_mapping.specs.DefineRight.{most_gates, define_is_right}
-use Rattle.maj_mapping.specs.Below.{AllBelow}
-use Rattle.maj_mapping.specs.Ordered.{RanksBelow, IsOrdered}
+use Rattle.maj_mapping.proofs.DefineRight.{define_is_right}
+use Rattle.maj_mapping.specs.Counts.{AllBelow}
+use Rattle.maj_mapping.proofs.Ordered.{RanksBelow, IsOrdered}
 
 abbrev pub IsMapped : Mapping → ℕ → Type 0
 IsMapped m s = (g : ℕ) × (gate_at m.gate_of s ≡ Some g)

@@ -1,27 +1,22 @@
 -- What recipes, folds, cubes and definitions keep and give.
-use Rattle.std.specs.Prelude.{◌≡◌, ℕ, zero, suc, ◌+◌, ◌-◌, ◌*◌, ◌/◌, ◌<◌, ◌≤◌, ◌&&◌, ◌||◌, Bool, true, false, not, eqb, List, [], ◌∷◌, ◌++◌, map, length, take, drop, slice_get, slice_index_or, Option, Some, None}
-use Rattle.std.proofs.Common.{refl, sym, ap, ◌∙◌, subst, arith, length-append, length-take, length-drop}
-use Rattle.std.proofs.lemmas.List.{take-append-drop, map-append}
+use Rattle.std.specs.Prelude.{◌≡◌, ℕ, ◌+◌, ◌<◌, ◌≤◌, Bool, List, [], ◌∷◌, ◌++◌, map, length}
+use Rattle.std.proofs.Common.{refl, sym, ap, ◌∙◌, arith}
+use Rattle.std.proofs.lemmas.List.{map-append}
 use Rattle.std.proofs.Math.ListN.{get_or-map}
-use Rattle.std.proofs.lemmas.Option.{slice_get_within}
 use Rattle.circuit.specs.declared.gate.Gate.{Gate}
-use Rattle.circuit.specs.declared.gate.Gate.TheVariants.{Zero}
-use Rattle.blif_read.specs.declared.netlist.Cube.{Cube}
-use Rattle.blif_read.specs.declared.netlist.Def.{Def}
-use Rattle.circuit.specs.Function.{majority}
-use Rattle.circuit.specs.Gates.{gate_value, Fits}
-use Rattle.circuit.specs.PlainNets.{is_constant, MayStand, AreGates}
-use Rattle.maj_mapping.specs.Values.{literal_takes, takes_all, some_takes, cover, HasPlanes}
+use Rattle.circuit.specs.Gates.{Fits}
+use Rattle.circuit.specs.PlainNets.{AreGates}
 use Rattle.case_tables.specs.declared.recipe.Operand.{Operand}
 use Rattle.case_tables.specs.declared.recipe.Operand.TheVariants as o
 use Rattle.case_tables.specs.declared.recipe.Step.{Step}
 use Rattle.case_tables.specs.declared.recipe.Step.TheVariants as steps
 use Rattle.case_tables.specs.RecipeView.{RecipeView}
 use Rattle.case_tables.specs.Recipes.{Named, operand_is, step_value, steps_values, truths, recipe_value}
-use Rattle.maj_mapping.specs.Operations.{Made, MadeAll, keep, inv, and, or, maj, step_made, steps_made, run, halves}
-use Rattle.maj_mapping.specs.Covers.{first, literals, and_all, or_all, cube_made, cubes_made, by_cubes, names}
-use Rattle.maj_mapping.specs.Right.{Right, past_constants, at_zero, at_one, right_keep, and_is_right, or_is_right, maj_is_right, inv_is_right}
-use Rattle.maj_mapping.specs.Below.{AllBelow, below_more, below_append, below_take, below_drop, below_at}
+use Rattle.maj_mapping.specs.Operations.{Made, MadeAll, step_made, steps_made, run}
+use Rattle.maj_mapping.specs.Covers.{names}
+use Rattle.maj_mapping.proofs.Right.{Right, past_constants, at_zero, at_one, and_is_right, or_is_right, maj_is_right, inv_is_right}
+use Rattle.maj_mapping.specs.Counts.{AllBelow}
+use Rattle.maj_mapping.proofs.Below.{below_more, below_append, below_at}
 
 -- the same for several gates at once
 pub record RightAll (n : ℕ) (gs : List Gate) (m : MadeAll) (cost : ℕ) (fs : (ℕ → Bool) → List Bool) : Type 0 where

@@ -1,14 +1,14 @@
 -- What each operation on gates keeps and gives: the gates before it keep their values, and the gate that it gives has the value of the operation.
-use Rattle.std.specs.Prelude.{◌≡◌, ◌≢◌, ◌⊎◌, ℕ, zero, suc, ◌+◌, ◌<◌, ◌≤◌, ◌&&◌, ◌||◌, Bool, true, false, not, eqb, List, [], ◌∷◌, ◌++◌, length, slice_get, slice_index_or, Option, Some, None}
+use Rattle.std.specs.Prelude.{◌≡◌, ℕ, suc, ◌+◌, ◌<◌, ◌≤◌, ◌&&◌, ◌||◌, Bool, true, false, not, eqb, List, [], ◌∷◌, ◌++◌, length, slice_get, Option, Some, None}
 use Rattle.std.proofs.Common.{refl, sym, ap, ◌∙◌, inl, inr, arith, length-append, zero-add}
-use Rattle.std.proofs.lemmas.Bool.{eqb-true, eqb-false, eq-eqb, ne_eqb}
+use Rattle.std.proofs.lemmas.Bool.{eqb-true, eqb-false}
 use Rattle.std.proofs.lemmas.Option.{slice_get_within, same_Some}
 use Rattle.circuit.specs.declared.gate.Gate.{Gate}
 use Rattle.circuit.specs.declared.gate.Gate.TheVariants.{Input, Zero, One, Buf, Inv, Maj}
 use Rattle.circuit.specs.Function.{majority}
 use Rattle.circuit.specs.Gates.{gate_value, Fits}
 use Rattle.circuit.specs.PlainNets.{is_constant, MayStand, AreGates}
-use Rattle.maj_mapping.specs.Grown.{get_front, get_last, get_cases}
+use Rattle.maj_mapping.proofs.Grown.{get_front, get_last, get_cases}
 use Rattle.maj_mapping.specs.declared.maker.Side.{Side}
 use Rattle.maj_mapping.specs.declared.maker.Side.TheVariants.{IsZero, IsOne, Neither}
 use Rattle.maj_mapping.specs.Operations.{Made, keep, make, side, inverts, inverter_from, inverted, inv_made, inv_other, inv_case, inv, unless_same, and_case, and, or_case, or, maj_case, maj_same, maj}

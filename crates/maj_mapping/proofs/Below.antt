@@ -1,10 +1,7 @@
 -- Numbers of a list that are all below a bound.
-use Rattle.std.specs.Prelude.{◌≡◌, ℕ, zero, suc, ◌+◌, ◌<◌, ◌≤◌, List, [], ◌∷◌, ◌++◌, length, take, drop, slice_index_or}
-use Rattle.std.specs.List.{AllByRecursion}
+use Rattle.std.specs.Prelude.{ℕ, zero, suc, ◌<◌, ◌≤◌, List, [], ◌∷◌, ◌++◌, take, drop, slice_index_or}
 use Rattle.std.proofs.Common.{arith}
-
-abbrev pub AllBelow : ℕ → List ℕ → Type 0
-AllBelow k xs = AllByRecursion (λ x. x < k) xs
+use Rattle.maj_mapping.specs.Counts.{AllBelow}
 
 pub below_more : (k l : ℕ) (xs : List ℕ) → k ≤ l → AllBelow k xs → AllBelow l xs
 below_more k l [] le h = tt

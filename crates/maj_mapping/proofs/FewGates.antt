@@ -1,23 +1,25 @@
 -- How many gates the whole net has: each definition is mapped once at most, and adds few; so 32 bits number all gates.
-use Rattle.std.specs.Prelude.{◌≡◌, ◌⊎◌, ℕ, zero, suc, ◌+◌, ◌-◌, ◌*◌, ◌<◌, ◌≤◌, ◌^◌, ◌||◌, Bool, true, false, cond, List, [], ◌∷◌, ◌++◌, map, length, slice_get, slice_set, Option, Some, None, unwrap_or}
+use Rattle.std.specs.Prelude.{◌≡◌, ℕ, zero, suc, ◌+◌, ◌-◌, ◌*◌, ◌<◌, ◌≤◌, ◌^◌, Bool, true, false, cond, List, [], ◌∷◌, map, length, slice_get, slice_set, Option, Some, None, unwrap_or}
 use Rattle.std.specs.List.{fold, sum_by}
 use Rattle.std.proofs.Common.{refl, sym, ap, ◌∙◌, subst, arith, inl, inr, length-append}
 use Rattle.std.proofs.lemmas.Bool.{cases_lt}
 use Rattle.std.proofs.lemmas.List.Sums.{sum_by-cons}
-use Rattle.std.proofs.lemmas.Option.{same_Some, none-some, slice_get_within}
+use Rattle.std.proofs.lemmas.Option.{none-some}
 use Rattle.std.proofs.lemmas.List.{get_or-set_same, get_or-set_other}
 use Rattle.circuit.specs.declared.gate.Gate.TheVariants.{Zero, One}
 use Rattle.blif_read.specs.declared.netlist.Cube.{Cube}
 use Rattle.blif_read.specs.declared.netlist.Def.{Def}
 use Rattle.blif_read.specs.Parts.{NetView}
-use Rattle.blif_read.specs.Netlist.{IsNetlist, cube_size, def_size, size_of}
-use Rattle.maj_mapping.specs.Below.{AllBelow}
-use Rattle.maj_mapping.specs.Ordered.{RanksBelow, IsOrdered, ordered}
-use Rattle.maj_mapping.specs.Covers.{define, is_literal, literal_count, cube_literals}
+use Rattle.blif_read.specs.Netlist.{IsNetlist, cube_size, def_size}
+use Rattle.maj_mapping.specs.Counts.{AllBelow, most_gates, most_of_all}
+use Rattle.maj_mapping.proofs.Ordered.{RanksBelow, IsOrdered, ordered}
+use Rattle.maj_mapping.specs.Covers.{define}
+use Rattle.maj_mapping.specs.Counts.{is_literal, literal_count, cube_literals}
 use Rattle.maj_mapping.specs.Plan.{Mapping, gate_at, gate_or, start, input_gates, leave_by, def_of, inputs_by, leave, visit, signals, mapped, map_net}
-use Rattle.maj_mapping.specs.Right.{past_constants}
-use Rattle.maj_mapping.specs.DefineRight.{most_gates, define_is_right}
-use Rattle.maj_mapping.specs.Law.{Sound, WalksBelow, fold_right, ranks_more, low_ranks, gates_length, def_of_is, def_of_some, start_right, visit_right}
+use Rattle.maj_mapping.proofs.Right.{past_constants}
+use Rattle.maj_mapping.specs.Counts.{most_gates}
+use Rattle.maj_mapping.proofs.DefineRight.{define_is_right}
+use Rattle.maj_mapping.proofs.SoundWalks.{Sound, WalksBelow, fold_right, ranks_more, low_ranks, gates_length, def_of_is, def_of_some, start_right, visit_right}
 
 -- what the definitions that are mapped may have added; the first of them defines signal s
 abbrev cost : Option ℕ → Def → ℕ
@@ -28,15 +30,11 @@ abbrev spent : List (Option ℕ) → ℕ → List Def → ℕ
 spent gate_of s [] = 0
 spent gate_of s (d ∷ ds) = cost (gate_at gate_of s) d + spent gate_of (suc s) ds
 
-abbrev total : List Def → ℕ
-total [] = 0
-total (d ∷ ds) = most_gates d + total ds
-
 cost_le : (o : Option ℕ) (d : Def) → cost o d ≤ most_gates d
 cost_le None d = omega arith
 cost_le (Some g) d = omega arith
 
-spent_le : (gate_of : List (Option ℕ)) (s : ℕ) (ds : List Def) → spent gate_of s ds ≤ total ds
+spent_le : (gate_of : List (Option ℕ)) (s : ℕ) (ds : List Def) → spent gate_of s ds ≤ most_of_all ds
 spent_le gate_of s [] = omega arith
 spent_le gate_of s (d ∷ ds) = omega (arith, cost_le (gate_at gate_of s) d, spent_le gate_of (suc s) ds)
 
@@ -142,11 +140,11 @@ cubes_le : (cs : List Cube) → 2 * cube_literals cs + length cs ≤ 2 * sum_by 
 cubes_le [] = omega arith
 cubes_le (c ∷ cs) = omega (arith, literals_le c.plane, cubes_le cs, sum_by-cons cube_size c cs)
 
-total_le : (ds : List Def) → total ds ≤ 2 * sum_by def_size ds + 10 * length ds
+total_le : (ds : List Def) → most_of_all ds ≤ 2 * sum_by def_size ds + 10 * length ds
 total_le [] = omega arith
 total_le (d ∷ ds) = omega (arith, cubes_le d.cubes, total_le ds, sum_by-cons def_size d ds)
 
-mapped_few : (net : NetView) → IsOrdered net → length (mapped net).gates ≤ net.inputs + 2 + total net.defs
+mapped_few : (net : NetView) → IsOrdered net → length (mapped net).gates ≤ net.inputs + 2 + most_of_all net.defs
 unfolding mapped start
 mapped_few net ok =
     let deep = suc (signals net) in
@@ -155,6 +153,10 @@ mapped_few net ok =
     let inputs = gates_length 0 net.inputs in
     let most = spent_le (fold (visit net deep) (start net) net.outputs).gate_of net.inputs net.defs in
     omega (arith, w.room)
+
+pub few_in_all : (net : NetView) → IsNetlist net → length (map_net net).gates ≤ net.inputs + 2 + most_of_all net.defs
+unfolding map_net
+few_in_all net ok = mapped_few net (ordered net ok)
 
 pub few_gates : (net : NetView) → IsNetlist net → length (map_net net).gates < 2 ^ 32
 unfolding map_net

@@ -1,18 +1,17 @@
 -- The mapped net is a net, with the counts of the netlist and its answer to every word.
-use Rattle.std.specs.Prelude.{◌≡◌, ℕ, ◌+◌, ◌<◌, ◌^◌, Bool, List, map, length}
-use Rattle.std.proofs.Common.{refl, sym, ap, ◌∙◌, subst, arith}
+use Rattle.std.specs.Prelude.{◌≡◌, ◌<◌, ◌^◌, length}
+use Rattle.std.proofs.Common.{refl, sym, ◌∙◌, subst, arith}
 use Rattle.std.proofs.lemmas.List.{length-map}
 use Rattle.blif_read.specs.Parts.{NetView}
-use Rattle.blif_read.specs.Netlist.{IsNetlist, def_size}
+use Rattle.blif_read.specs.Netlist.{IsNetlist}
 use Rattle.blif_read.specs.Equations as equations
 use Rattle.blif_read.specs.OneAnswer.{some_valuation}
 use Rattle.circuit.specs.PlainNets.{PlainView, AreGates, IsPlainNet, IsAnswer}
 use Rattle.circuit.specs.PlainAnswers as plain
 use Rattle.circuit.specs.SameAnswers.{SameAnswers}
-use Rattle.std.specs.List.{sum_by}
 use Rattle.maj_mapping.specs.Plan.{map_net}
-use Rattle.maj_mapping.specs.Ordered.{ordered}
-use Rattle.maj_mapping.specs.Law.{same_outputs, mapped_gates}
+use Rattle.maj_mapping.proofs.Ordered.{ordered}
+use Rattle.maj_mapping.proofs.SoundWalks.{same_outputs, mapped_gates}
 
 pub same_inputs : (net : NetView) → (map_net net).inputs ≡ net.inputs
 unfolding map_net
@@ -37,7 +36,7 @@ is_plain net ok few =
       few_outputs = omega arith;
     }
 
-keeps_map : (net : NetView) → IsNetlist net → SameAnswers net.inputs (map_net net).inputs (length net.outputs) (length (map_net net).outputs) (equations.IsAnswer net) (IsAnswer (map_net net))
+pub keeps_map : (net : NetView) → IsNetlist net → SameAnswers net.inputs (map_net net).inputs (length net.outputs) (length (map_net net).outputs) (equations.IsAnswer net) (IsAnswer (map_net net))
 keeps_map net ok = record {
   same_inputs = same_inputs net;
   same_outputs = same_count net;

@@ -1,23 +1,24 @@
 -- What folds in halves and cubes keep and give.
-use Rattle.std.specs.Prelude.{◌≡◌, ℕ, zero, suc, ◌+◌, ◌-◌, ◌*◌, ◌/◌, ◌<◌, ◌≤◌, ◌&&◌, ◌||◌, Bool, true, false, not, cond, eqb, List, [], ◌∷◌, ◌++◌, map, length, take, drop, slice_get, slice_index_or, Option, Some, None}
-use Rattle.std.proofs.Common.{refl, sym, ap, ◌∙◌, subst, arith, length-append, length-take, length-drop, zero-add}
+use Rattle.std.specs.Prelude.{◌≡◌, ℕ, zero, suc, ◌+◌, ◌-◌, ◌*◌, ◌/◌, ◌<◌, ◌≤◌, ◌&&◌, ◌||◌, Bool, true, false, not, cond, eqb, List, [], ◌∷◌, ◌++◌, map, length, take, drop}
+use Rattle.std.proofs.Common.{refl, sym, ap, ◌∙◌, arith, length-take, length-drop, zero-add}
 use Rattle.std.proofs.lemmas.List.{take-append-drop, map-append}
 use Rattle.std.specs.List.{list_all}
 use Rattle.std.proofs.lemmas.Bool.{and_parts}
-use Rattle.std.proofs.lemmas.Option.{slice_get_within}
 use Rattle.blif_read.specs.Faults.{is_plane_byte}
 use Rattle.circuit.specs.declared.gate.Gate.{Gate}
-use Rattle.circuit.specs.declared.gate.Gate.TheVariants.{Zero}
 use Rattle.blif_read.specs.declared.netlist.Cube.{Cube}
 use Rattle.blif_read.specs.declared.netlist.Def.{Def}
 use Rattle.circuit.specs.Gates.{Fits}
 use Rattle.circuit.specs.PlainNets.{AreGates}
-use Rattle.maj_mapping.specs.Values.{literal_takes, takes_all, some_takes, cover, HasPlanes}
-use Rattle.maj_mapping.specs.Operations.{Made, MadeAll, keep, inv, and, or, halves}
-use Rattle.maj_mapping.specs.Covers.{is_literal, literal_count, cube_literals, first, literals, and_all, or_all, cube_made, cubes_made, by_cubes}
-use Rattle.maj_mapping.specs.Right.{Right, past_constants, at_zero, at_one, right_keep, and_is_right, or_is_right, inv_is_right}
-use Rattle.maj_mapping.specs.RightAll.{RightAll}
-use Rattle.maj_mapping.specs.Below.{AllBelow, below_more, below_append, below_take, below_drop, below_at}
+use Rattle.maj_mapping.proofs.ValueLaws.{literal_takes}
+use Rattle.maj_mapping.specs.Values.{takes_all, some_takes, cover, HasPlanes}
+use Rattle.maj_mapping.specs.Operations.{Made, MadeAll, inv, and, or, halves}
+use Rattle.maj_mapping.specs.Counts.{literal_count, cube_literals}
+use Rattle.maj_mapping.specs.Covers.{first, literals, or_all, cube_made, cubes_made, by_cubes}
+use Rattle.maj_mapping.proofs.Right.{Right, past_constants, at_zero, at_one, right_keep, and_is_right, or_is_right, inv_is_right}
+use Rattle.maj_mapping.proofs.RightAll.{RightAll}
+use Rattle.maj_mapping.specs.Counts.{AllBelow}
+use Rattle.maj_mapping.proofs.Below.{below_more, below_take, below_drop}
 
 -- a list of truth values under an operation
 abbrev pub joined : (Bool → Bool → Bool) → Bool → List Bool → Bool

@@ -2,16 +2,18 @@
 use Rattle.std.specs.Prelude.{◌≡◌, ℕ, suc, ◌<◌, List, length, Option, Some, None}
 use Rattle.circuit.specs.PlainNets.{AreGates}
 use Rattle.blif_read.specs.Parts.{NetView}
-use Rattle.maj_mapping.specs.MakerView.{MakerView}
+use Rattle.maj_mapping.specs.Code.MakerView.{MakerView}
 use Rattle.maj_mapping.specs.Plan.{Mapping, gate_at, visit, signals}
 
 -- a bound that is deep enough for every signal
 abbrev pub deep : NetView → ℕ
 deep net = suc (signals net)
 
+-- the walk from signal s
 abbrev pub walk : NetView → Mapping → ℕ → Mapping
 walk net m s = visit net (deep net) m s
 
+-- what the code has so far, as the plan has it
 abbrev pub mapping : MakerView → List (Option ℕ) → Mapping
 mapping maker gate_of = record { gates = maker.gates; gate_of = gate_of }
 

@@ -1,27 +1,23 @@
 -- What the gates of a definition keep and give, and how many they are.
-use Rattle.std.specs.Prelude.{◌≡◌, ℕ, ◌+◌, ◌*◌, ◌<◌, ◌≤◌, Bool, true, false, cond, List, [], ◌∷◌, map, length}
+use Rattle.std.specs.Prelude.{◌≡◌, ℕ, ◌+◌, ◌≤◌, Bool, true, false, cond, List, [], ◌∷◌, map, length}
 use Rattle.std.proofs.Common.{refl, sym, ap, ◌∙◌, arith}
 use Rattle.std.proofs.lemmas.Option.{slice_get_within}
 use Rattle.circuit.specs.declared.gate.Gate.{Gate}
 use Rattle.circuit.specs.declared.gate.Gate.TheVariants.{Zero}
 use Rattle.blif_read.specs.declared.netlist.Def.{Def}
-use Rattle.circuit.specs.Gates.{Fits}
 use Rattle.circuit.specs.PlainNets.{AreGates}
 use Rattle.maj_mapping.specs.Values.{cover, HasPlanes}
 use Rattle.case_tables.specs.Recipes.{number, values2, values3, recipe_value}
 use Rattle.case_tables.specs.Tables.{two_recipe, three_recipe}
 use Rattle.case_tables.specs.Entries.{two_entry, three_entry}
 use Rattle.case_tables.specs.Truths.{two_value, three_value, below_16, below_256}
-use Rattle.maj_mapping.specs.Operations.{Made, keep, run}
-use Rattle.maj_mapping.specs.Covers.{names, by_cubes, define, cube_literals}
-use Rattle.maj_mapping.specs.Right.{Right, past_constants, at_zero, at_one, right_keep}
-use Rattle.maj_mapping.specs.RightAll.{right_same, run_is_right}
-use Rattle.maj_mapping.specs.CoverRight.{cubes_are_cover}
-use Rattle.maj_mapping.specs.Below.{AllBelow}
-
--- twice the literals, the rows, and ten
-abbrev pub most_gates : Def → ℕ
-most_gates d = 2 * cube_literals d.cubes + length d.cubes + 10
+use Rattle.maj_mapping.specs.Operations.{Made, keep}
+use Rattle.maj_mapping.specs.Covers.{define}
+use Rattle.maj_mapping.specs.Counts.{most_gates}
+use Rattle.maj_mapping.proofs.Right.{Right, past_constants, at_zero, at_one, right_keep}
+use Rattle.maj_mapping.proofs.RightAll.{right_same, run_is_right}
+use Rattle.maj_mapping.proofs.CoverRight.{cubes_are_cover}
+use Rattle.maj_mapping.specs.Counts.{AllBelow}
 
 right_cheaper : (n : ℕ) (gs : List Gate) (m : Made) (a b : ℕ) (f : (ℕ → Bool) → Bool) → a ≤ b → Right n gs m a f → Right n gs m b f
 right_cheaper n gs m a b f le r = record { good = r.good; inside = r.inside; grown = r.grown; few = omega (arith, r.few); earlier = r.earlier; value = r.value }

@@ -1,18 +1,12 @@
 -- What a maker of gates keeps.
-use Rattle.std.specs.Prelude.{◌≡◌, ◌⊎◌, ℕ, zero, suc, ◌+◌, ◌<◌, ◌≤◌, ◌^◌, Bool, true, false, List, [], ◌∷◌, ◌++◌, length, slice_index_or, slice_set, Option, Some, None}
+use Rattle.std.specs.Prelude.{◌≡◌, ℕ, zero, suc, ◌+◌, ◌<◌, ◌^◌, Bool, true, false, List, [], ◌∷◌, ◌++◌, length, slice_index_or, slice_set, Option, Some, None}
 use Rattle.std.proofs.Common.{refl, sym, ap, ◌∙◌, subst, arith, inl, inr, length-append, lit<}
-use Rattle.std.proofs.lemmas.Bool.{cases_eq, eqb-false, ne_eqb, eq-eqb}
+use Rattle.std.proofs.lemmas.Bool.{cases_eq, ne_eqb, eq-eqb}
 use Rattle.std.proofs.lemmas.List.{length-set, get_or-set_same, get_or-set_other}
 use Rattle.circuit.specs.declared.gate.Gate.{Gate}
-use Rattle.circuit.specs.declared.gate.Gate.TheVariants.{Input, Zero, One, Buf, Inv, Maj}
+use Rattle.circuit.specs.declared.gate.Gate.TheVariants.{Inv}
 use Rattle.maj_mapping.specs.Operations.{inverts, inverter_from}
-
--- the index has each gate's inverter, and 32 bits number all gates
-pub record IsMaker (inputs : ℕ) (gates : List Gate) (inverters : List (Option ℕ)) : Type 0 where
-  pub known : length gates ≤ length inverters
-  pub index : (x : ℕ) → slice_index_or inverters x None ≡ inverter_from x 0 gates
-  pub numbered : inputs + 1 < 2 ^ 32
-  pub small : length gates < 2 ^ 32
+use Rattle.maj_mapping.specs.Code.Makers.{IsMaker, NoInverter}
 
 -- the index with one more gate
 abbrev pub or_then : Option ℕ → Bool → ℕ → Option ℕ
@@ -42,10 +36,6 @@ pushed_none (y ∷ ys) (suc x) = pushed_none ys x
 or_none : (o : Option ℕ) (j : ℕ) → or_then o false j ≡ o
 or_none None j = refl
 or_none (Some k) j = refl
-
--- a gate that is no inverter
-abbrev pub NoInverter : Gate → Type 0
-NoInverter g = (x : ℕ) → inverts x g ≡ false
 
 pub maker_room : (n : ℕ) (gs : List Gate) (is : List (Option ℕ)) → IsMaker n gs is → IsMaker n gs (is ++ None ∷ [])
 maker_room n gs is ok = record { known = simp length-append (let k = ok.known in omega arith); index = λ x. pushed_none is x ∙ ok.index x; numbered = ok.numbered; small = ok.small }

@@ -2,6 +2,7 @@
 use Rattle.std.specs.Prelude.{ℕ, List}
 use Rattle.circuit.specs.declared.gate.Gate.{Gate}
 
+-- how many inputs there are, and the gates so far
 pub record MakerView : Type 0 where
   pub inputs : ℕ
   pub gates : List Gate

@@ -1,15 +1,14 @@
 -- What the mapping uses of a netlist: definitions name signals, planes are planes, and each signal has a rank, at most
 -- the number of signals, above the ranks of those that it reads.
-use Rattle.std.specs.Prelude.{◌≡◌, ℕ, zero, suc, ◌+◌, ◌-◌, ◌<◌, ◌≤◌, Bool, true, false, cond, nat_lt, List, [], ◌∷◌, length, Option, Some, None, slice_get}
-use Rattle.std.specs.List.{AllByRecursion, list_all}
+use Rattle.std.specs.Prelude.{◌≡◌, ℕ, zero, suc, ◌+◌, ◌-◌, ◌<◌, ◌≤◌, Bool, true, false, cond, nat_lt, List, [], ◌∷◌, length, Some, slice_get}
+use Rattle.std.specs.List.{AllByRecursion}
 use Rattle.std.proofs.Common.{refl, sym, ap, ◌∙◌, subst, arith, inl, inr}
-use Rattle.std.proofs.lemmas.Bool.{le-ltb, lt-ltb, ltb-true, cases_lt, cases_Bool}
-use Rattle.blif_read.specs.Faults.{is_plane_byte}
+use Rattle.std.proofs.lemmas.Bool.{le-ltb, lt-ltb, ltb-true, cases_lt}
 use Rattle.blif_read.specs.Parts.{NetView, operands, operands_at}
-use Rattle.blif_read.specs.Netlist.{IsRankedBy, IsPlane, IsDef, IsNetlist}
+use Rattle.blif_read.specs.Netlist.{IsPlane, IsDef, IsNetlist}
 use Rattle.blif_read.specs.declared.netlist.Cube.{Cube}
 use Rattle.blif_read.specs.declared.netlist.Def.{Def}
-use Rattle.maj_mapping.specs.Below.{AllBelow}
+use Rattle.maj_mapping.specs.Counts.{AllBelow}
 use Rattle.maj_mapping.specs.Values.{HasPlanes}
 use Rattle.maj_mapping.specs.Plan.{signals}
 
