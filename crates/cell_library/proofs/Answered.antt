@@ -13,7 +13,7 @@ use Rattle.cell_library.specs.Library.{LibraryView}
 use Rattle.cell_library.specs.Laws.{Holds, BreaksFirst}
 use Rattle.cell_library.specs.Faults.{table_fault}
 use Rattle.cell_library.specs.Says.{library_of, LibFault, IsDocument, Says, HasFault, Answers}
-use Rattle.cell_library.specs.Stages.{IsJudged}
+use Rattle.cell_library.specs.Code.Stages.{IsJudged}
 
 -- the answer on a text that is a document
 pub answered : (text : List ℕ) (ms : Members) (result : Result LibraryView LibraryRefusal) → IsDocument text ms → IsJudged ms result → Answers text result

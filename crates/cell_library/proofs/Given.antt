@@ -11,11 +11,11 @@ use Rattle.cell_library.specs.declared.draft.Pins.{Pins}
 use Rattle.cell_library.specs.declared.fault.LibraryFault.TheVariants.{Missing}
 use Rattle.cell_library.specs.Kinds.{all_kinds, mandatory_kinds, key_of}
 use Rattle.cell_library.specs.Library.{LibraryView, IsGiven}
-use Rattle.cell_library.specs.Drafts.{drafted}
+use Rattle.cell_library.specs.Code.Drafts.{drafted}
 use Rattle.cell_library.specs.Documents.{table_under}
 use Rattle.cell_library.specs.Faults.{first_some, unknown_key_fault, numbers_fault, table_fault, missing_fault, kind_fault, kinds_fault, inner_fault}
 use Rattle.cell_library.specs.Says.{library_of, pins_under, pins_in}
-use Rattle.cell_library.specs.Stages.{IsNumbersOf, IsDraftOf}
+use Rattle.cell_library.specs.Code.Stages.{IsNumbersOf, IsDraftOf}
 
 neither : {X : Type 0} (a b : Option X) → option_or a b ≡ None → (a ≡ None) × (b ≡ None)
 neither None b e = (refl, e)

@@ -15,7 +15,7 @@ use Rattle.cell_library.specs.declared.fault.LibraryRefusal.{LibraryRefusal}
 use Rattle.cell_library.specs.declared.fault.LibraryRefusal.TheVariants.{Bad, Memory}
 use Rattle.cell_library.specs.Library.{LibraryView}
 use Rattle.cell_library.specs.Says.{LibFault}
-use Rattle.cell_library.specs.Stages.{Judges, IsJudged}
+use Rattle.cell_library.specs.Code.Stages.{Judges, IsJudged}
 
 -- a fault of a key, a value or a kind
 abbrev pub IsEarly : LibraryFault → Type 0

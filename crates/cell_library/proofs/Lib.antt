@@ -1,3 +1,4 @@
+pub mod PlacedPins
 pub mod PinCounts
 pub mod KindLists
 pub mod Look

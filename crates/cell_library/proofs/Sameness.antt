@@ -8,7 +8,7 @@ use Rattle.cell_library.specs.declared.draft.Numbers.{Numbers}
 use Rattle.cell_library.specs.declared.draft.Pins.{Pins}
 use Rattle.cell_library.specs.Library.{LibraryView, pins_of}
 use Rattle.cell_library.specs.Laws.{IsDraft}
-use Rattle.cell_library.specs.Drafts.{drafted}
+use Rattle.cell_library.specs.Code.Drafts.{drafted}
 
 same_places : (xs ys : List (Option Pins)) → length xs ≡ length ys → ((k : ℕ) → k < length xs → unwrap_or (slice_get xs k) None ≡ unwrap_or (slice_get ys k) None) → xs ≡ ys
 same_places [] [] long each = refl

@@ -1,5 +1,7 @@
--- The first fault of a library file that is a TOML document: of its keys and numbers, in the order in which they are looked at, and then of its laws.
-use Rattle.std.specs.Prelude.{ℕ, ℤ, List, [], ◌∷◌, ◌++◌, map, find, codes, Option, Some, None, option_map, option_and_then, is_none}
+-- The first fault of a library file that is a TOML document: of its keys and numbers, in the order in which they are
+-- looked at, and then of its laws.
+use Rattle.std.specs.Prelude.{ℕ, ℤ, List, [], ◌∷◌, ◌++◌, map, find, codes}
+use Rattle.std.specs.Prelude.{Option, Some, None, option_map, option_and_then, is_none}
 use Rattle.std.specs.Option.{option_or}
 use Rattle.toml.specs.Data.{Members, get_member}
 use Rattle.circuit.specs.declared.cell_kind.CellKind.{CellKind}
@@ -26,24 +28,28 @@ pins_keys = codes "inputs" ∷ codes "outputs" ∷ []
 abbrev pub unknown_key_fault : Members → Option LibraryFault
 unknown_key_fault ms = option_map (λ key. Key key) (least (other_keys top_keys ms))
 
--- a number that is absent or no integer, or out of its range
+-- an integer that is out of its range
 abbrev pub range_fault : List ℕ → ℤ → Option ℕ → Option LibraryFault
 range_fault key z (Some n) = None
 range_fault key z None = Some (Value key z)
 
+-- a number that is absent or no integer, or out of its range
 abbrev pub integer_fault : Number → Option ℤ → Option LibraryFault
 integer_fault number None = Some (Key number.key)
 integer_fault number (Some z) = range_fault number.key z (natural_within 1 number.most z)
 
+-- what is wrong with a number of the file
 abbrev pub number_fault : Members → Number → Option LibraryFault
 number_fault ms number = integer_fault number (integer_under ms number.key)
 
+-- with the first number with which something is
 abbrev pub numbers_fault : Members → Option LibraryFault
 numbers_fault ms = first_some (map (number_fault ms) numbers)
 
 -- a kind that no library may leave out
 abbrev pub missing_fault : Members → Option LibraryFault
-missing_fault ms = option_map (λ kind. Missing kind) (find (λ kind. is_none (get_member (key_of kind) ms)) mandatory_kinds)
+missing_fault ms =
+    option_map (λ kind. Missing kind) (find (λ kind. is_none (get_member (key_of kind) ms)) mandatory_kinds)
 
 -- a key of a kind's table, with the kind's before it
 abbrev pub dotted : CellKind → List ℕ → List ℕ
@@ -54,6 +60,7 @@ abbrev pub columns_fault_of : List ℕ → Option (List ℤ) → Option LibraryF
 columns_fault_of key None = Some (Key key)
 columns_fault_of key (Some zs) = option_map (λ z. Value key z) (find (λ z. is_none (natural_within 0 2999 z)) zs)
 
+-- what is wrong with the columns of a kind's inputs or outputs
 abbrev pub columns_fault : Members → CellKind → List ℕ → Option LibraryFault
 columns_fault inner kind part = columns_fault_of (dotted kind part) (integers_under inner part)
 
@@ -64,14 +71,19 @@ inner_key_fault inner kind = option_map (λ key. Key (dotted kind key)) (least (
 -- what is wrong with a kind that is given
 abbrev pub inner_fault : CellKind → Option Members → Option LibraryFault
 inner_fault kind None = Some (Key (key_of kind))
-inner_fault kind (Some inner) = first_some (inner_key_fault inner kind ∷ columns_fault inner kind (codes "inputs") ∷ columns_fault inner kind (codes "outputs") ∷ [])
+inner_fault kind (Some inner) =
+    first_some (inner_key_fault inner kind ∷ columns_fault inner kind (codes "inputs")
+    ∷ columns_fault inner kind (codes "outputs") ∷ [])
 
+-- what is wrong with its table
 abbrev pub given_fault : Members → CellKind → Option LibraryFault
 given_fault ms kind = inner_fault kind (table_under ms (key_of kind))
 
+-- what is wrong with a kind, if it is given
 abbrev pub kind_fault : Members → CellKind → Option LibraryFault
 kind_fault ms kind = option_and_then (λ value. given_fault ms kind) (get_member (key_of kind) ms)
 
+-- with the first kind with which something is
 abbrev pub kinds_fault : Members → Option LibraryFault
 kinds_fault ms = first_some (map (kind_fault ms) all_kinds)
 

@@ -1,19 +1,22 @@
--- The fourteen laws of a library. They make every chip that is drawn with it keep the rules of its layout.
-use Rattle.std.specs.Prelude.{ℕ, ◌≡◌, ◌≢◌, ◌<◌, ◌≤◌, ◌+◌, ◌*◌, ◌%◌, List, [], ◌∷◌, length, slice_index, EachIndex, All, Some}
+-- The laws of a library. They make every chip that is drawn with it keep the rules of its layout.
+use Rattle.std.specs.Prelude.{ℕ, ◌≡◌, ◌≢◌, ◌<◌, ◌≤◌, ◌+◌, ◌*◌, ◌%◌}
+use Rattle.std.specs.Prelude.{List, [], ◌∷◌, length, slice_index, EachIndex, All, Some}
 use Rattle.circuit.specs.declared.cell_kind.CellKind.{CellKind}
 use Rattle.circuit.specs.CellKinds.{inputs_of, outputs_of}
 use Rattle.cell_library.specs.declared.draft.Pins.{Pins}
 use Rattle.cell_library.specs.declared.laws.PinLaw.{PinLaw}
 use Rattle.cell_library.specs.declared.laws.PinLaw.TheVariants.{Counts, InputSlots, OutputSlots, OddInputs, EvenOutputs}
 use Rattle.cell_library.specs.declared.laws.Law.{Law}
-use Rattle.cell_library.specs.declared.laws.Law.TheVariants.{EvenSizes, EvenColumns, ViaInWire, TracksApart, PinsApart, OfPins, Reach, WireInPin, WidestCell, Capacity}
+use Rattle.cell_library.specs.declared.laws.Law.TheVariants.{EvenSizes, EvenColumns, ViaInWire, TracksApart, PinsApart}
+use Rattle.cell_library.specs.declared.laws.Law.TheVariants.{OfPins, Reach, WireInPin, WidestCell, Capacity}
 use Rattle.cell_library.specs.Library.{LibraryView, pins_of, IsGiven}
 use Rattle.circuit.specs.declared.cell_kind.CellKind.TheVariants.{Split3}
 use Rattle.cell_library.specs.Reach.{length_reach_of}
 
 -- pin i has a column of slot i
 abbrev pub IsInSlots : ℕ → List ℕ → Type 0
-IsInSlots columns pins = EachIndex pins (λ i. (i * columns ≤ slice_index pins i) × (slice_index pins i < (i + 1) * columns))
+IsInSlots columns pins =
+    EachIndex pins (λ i. (i * columns ≤ slice_index pins i) × (slice_index pins i < (i + 1) * columns))
 
 -- what a law on pins says of one kind
 abbrev pub KindKeeps : PinLaw → ℕ → CellKind → Pins → Type 0
@@ -23,6 +26,7 @@ KindKeeps OutputSlots columns kind pins = IsInSlots columns pins.outputs
 KindKeeps OddInputs columns kind pins = All (λ column. column % 2 ≡ 1) pins.inputs
 KindKeeps EvenOutputs columns kind pins = All (λ column. column % 2 ≡ 0) pins.outputs
 
+-- the sizes that are even
 abbrev pub sizes_of : LibraryView → List ℕ
 sizes_of l = l.wire ∷ l.space ∷ l.via ∷ l.enclose ∷ l.pin ∷ l.height ∷ l.pitch ∷ []
 

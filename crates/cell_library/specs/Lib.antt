@@ -1,6 +1,5 @@
 pub mod Kinds
 pub mod Library
-pub mod Drafts
 pub mod Reach
 pub mod Laws
 pub mod PinPlaces
@@ -8,5 +7,5 @@ pub mod Numbers
 pub mod Documents
 pub mod Faults
 pub mod Says
-pub mod Stages
 pub mod LibraryA
+pub mod Code

@@ -1,4 +1,4 @@
--- What a library of cells gives: ten numbers, and the columns of the pins of each kind. Sizes are in nanometres.
+-- What a library of cells gives: its numbers, and the columns of the pins of each kind. Sizes are in nanometres.
 use Rattle.std.specs.Prelude.{ℕ, ◌-◌, List, [], slice_get, slice_index, Option, None, IsSome, unwrap_or}
 use Rattle.std.specs.Option.{option_map_or}
 use Rattle.circuit.specs.declared.cell_kind.CellKind.{CellKind}
@@ -6,6 +6,7 @@ use Rattle.circuit.specs.CellKinds.{number_of}
 use Rattle.layout_rules.specs.Limits.{Limits}
 use Rattle.cell_library.specs.declared.draft.Pins.{Pins}
 
+-- a library as contracts see it
 pub record LibraryView : Type 0 where
   -- the width of a wire
   pub wire : ℕ
@@ -38,10 +39,11 @@ pins_of l kind = unwrap_or (slice_get l.pins (number_of kind - 1)) None
 abbrev pub IsGiven : LibraryView → CellKind → Type 0
 IsGiven l kind = IsSome (pins_of l kind)
 
--- the column of an input pin, and of an output pin, counted from the cell's left edge
+-- the column of an input pin, counted from the cell's left edge
 abbrev pub input_column_of : LibraryView → CellKind → ℕ → ℕ
 input_column_of l kind pin = slice_index (option_map_or (λ pins. pins.inputs) (pins_of l kind) []) pin
 
+-- the column of an output pin, counted so
 abbrev pub output_column_of : LibraryView → CellKind → ℕ → ℕ
 output_column_of l kind pin = slice_index (option_map_or (λ pins. pins.outputs) (pins_of l kind) []) pin
 

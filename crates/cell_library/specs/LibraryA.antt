@@ -3,9 +3,11 @@ use Rattle.std.specs.Prelude.{ℕ, List, [], ◌∷◌, Option, Some}
 use Rattle.cell_library.specs.declared.draft.Pins.{Pins}
 use Rattle.cell_library.specs.Library.{LibraryView}
 
+-- a kind with pins in these columns
 abbrev pub pins_at : List ℕ → List ℕ → Option Pins
 pins_at inputs outputs = Some (record { inputs = inputs; outputs = outputs })
 
+-- the numbers and the pins of library A
 abbrev pub library_a_view : LibraryView
 library_a_view = record {
   wire = 1000;

@@ -1,10 +1,12 @@
--- The ten numbers of a library file: the key of each, and its greatest value. The least value is 1.
+-- The numbers of a library file.
 use Rattle.std.specs.Prelude.{ℕ, List, [], ◌∷◌, codes}
 
+-- the key of a number, and its greatest value; the least value is 1
 pub record Number : Type 0 where
   pub key : List ℕ
   pub most : ℕ
 
+-- all numbers, in the order in which they are looked at
 abbrev pub numbers : List Number
 numbers =
     record { key = codes "wire"; most = 1000000 }

@@ -1,5 +1,7 @@
--- When a text says a library, and what its first fault is. That a text is a document, and of which table, is TOML's meaning.
-use Rattle.std.specs.Prelude.{ℕ, ℤ, pos, negsuc, ◌≡◌, List, [], map, codes, IsUtf8, Option, Some, None, unwrap_or, option_map, Result, Ok, Err}
+-- When a text says a library, and what its first fault is. That a text is a document, and of which table, is TOML's
+-- meaning.
+use Rattle.std.specs.Prelude.{ℕ, ℤ, pos, negsuc, ◌≡◌, List, [], map, codes, IsUtf8}
+use Rattle.std.specs.Prelude.{Option, Some, None, unwrap_or, option_map, Result, Ok, Err}
 use Rattle.toml.specs.Data.{Members}
 use Rattle.toml.specs.Parse.{parse_document}
 use Rattle.circuit.specs.declared.cell_kind.CellKind.{CellKind}
@@ -20,17 +22,22 @@ abbrev pub natural : ℤ → ℕ
 natural (pos n) = n
 natural (negsuc n) = 0
 
--- the number, and the columns, under a key
+-- the number under a key
 abbrev pub number_under : Members → List ℕ → ℕ
 number_under ms key = natural (unwrap_or (integer_under ms key) (pos 0))
 
+-- the columns under a key
 abbrev pub columns_under : Members → List ℕ → List ℕ
 columns_under ms key = map natural (unwrap_or (integers_under ms key) [])
 
 -- the pins of a kind by its table
 abbrev pub pins_in : Members → Pins
-pins_in inner = record { inputs = columns_under inner (codes "inputs"); outputs = columns_under inner (codes "outputs") }
+pins_in inner = record {
+  inputs = columns_under inner (codes "inputs");
+  outputs = columns_under inner (codes "outputs");
+}
 
+-- the pins of a kind that has a table
 abbrev pub pins_under : Members → CellKind → Option Pins
 pins_under ms kind = option_map pins_in (table_under ms (key_of kind))
 

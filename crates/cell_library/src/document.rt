@@ -4,7 +4,8 @@ ghost use Rattle.std.specs.BTreeMap.{keys, IsOrdered};
 ghost use Rattle.std.specs.String.{string_cmp};
 ghost use Rattle.toml.specs.Data.{get_member};
 ghost use Rattle.toml.specs.View.{table_view, view, items_view};
-ghost use Rattle.cell_library.specs.Documents.{integer_under, as_integers, integers_of as integers_in, natural_within, is_among, least, other_keys};
+ghost use Rattle.cell_library.specs.Documents.{integer_under, as_integers, integers_of as integers_in, natural_within};
+ghost use Rattle.cell_library.specs.Documents.{is_among, least, other_keys};
 ghost use Rattle.cell_library.specs.Faults.{top_keys, pins_keys};
 
 use std::alloc::{AllocError, Global};

@@ -3,7 +3,7 @@ ghost use Rattle.std.specs.Prelude.{◌≡◌, ◌/◌, ◌-◌, ◌*◌, option
 ghost use Rattle.cell_library.specs.Library.{LibraryView, pins_of};
 ghost use Rattle.cell_library.specs.Reach.{slot_width_of, length_reach_of};
 ghost use Rattle.cell_library.specs.Laws.{IsDraft, InRanges};
-ghost use Rattle.cell_library.specs.Drafts.{drafted};
+ghost use Rattle.cell_library.specs.Code.Drafts.{drafted};
 
 use aq_base::List;
 use circuit::CellKind;
@@ -41,7 +41,7 @@ pub struct Draft {
 impl Model for Draft {
     ghost use Rattle.cell_library.specs.Library.{LibraryView};
     ghost use Rattle.cell_library.specs.Laws.{IsDraft};
-    ghost use Rattle.cell_library.specs.Drafts.{drafted};
+    ghost use Rattle.cell_library.specs.Code.Drafts.{drafted};
 
     ghost Value = { LibraryView };
 

@@ -1,9 +1,10 @@
 // The laws of a library, and the first that a draft breaks.
-ghost use Rattle.std.specs.Prelude.{◌≡◌, [], ◌≤◌, ◌<◌, ◌+◌, ◌*◌, ◌%◌, ◌↔◌, ◌/◌, ◌-◌, ◌^◌, IsTrue, All, IfSome, IsNone, min};
+ghost use Rattle.std.specs.Prelude.{◌≡◌, [], ◌≤◌, ◌<◌, ◌+◌, ◌*◌, ◌%◌, ◌↔◌, ◌/◌, ◌-◌, ◌^◌};
+ghost use Rattle.std.specs.Prelude.{IsTrue, All, IfSome, IsNone, min};
 ghost use Rattle.cell_library.specs.Reach.{length_reach_of, slot_width_of};
 ghost use Rattle.cell_library.specs.Laws.{Holds, KindKeeps, IsInSlots, law_number, BreaksFirst, IsDraft, sizes_of};
 ghost use Rattle.cell_library.specs.declared.laws.Law.{Law};
-ghost use Rattle.cell_library.specs.Drafts.{drafted};
+ghost use Rattle.cell_library.specs.Code.Drafts.{drafted};
 
 use crate::draft::{Draft, Numbers, Pins};
 use crate::kinds::KINDS;

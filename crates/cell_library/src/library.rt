@@ -39,7 +39,7 @@ impl Library {
 
     /// What every library keeps: the ranges of its numbers, the kinds that none leaves out, the laws, and by them the
     /// places of the pins.
-    #[tactic(auto, using(crate::specs::PinPlaces::places_pins))]
+    #[tactic(auto, using(crate::proofs::PlacedPins::places_pins))]
     pub fn known(&self)
         ensures library { IsLibrary self.now }
         ensures pins { PlacesPins self.now }

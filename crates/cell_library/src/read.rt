@@ -1,12 +1,15 @@
 // The reader of library files.
-ghost use Rattle.std.specs.Prelude.{◌≡◌, ◌≤◌, ◌^◌, [], ◌∷◌, IfOk, codes, IsErr, Err, Ok, ◌⊎◌, length, map, All, find, filter_map, is_none, Some};
+ghost use Rattle.std.specs.Prelude.{◌≡◌, ◌≤◌, ◌^◌, [], ◌∷◌, IfOk, codes, IsErr, Err, Ok, ◌⊎◌};
+ghost use Rattle.std.specs.Prelude.{length, map, All, find, filter_map, is_none, Some};
 ghost use Rattle.toml.specs.Data.{get_member};
 ghost use Rattle.toml.specs.View.{table_view};
 ghost use Rattle.cell_library.specs.Kinds.{key_of, all_kinds, mandatory_kinds};
 ghost use Rattle.cell_library.specs.Library.{LibraryView, IsGiven};
-ghost use Rattle.cell_library.specs.Faults.{unknown_key_fault, number_fault, numbers_fault, missing_fault, inner_key_fault, dotted, columns_fault, inner_fault, kind_fault, kinds_fault, table_fault};
+ghost use Rattle.cell_library.specs.Faults.{unknown_key_fault, number_fault, numbers_fault, missing_fault};
+ghost use Rattle.cell_library.specs.Faults.{inner_key_fault, dotted, columns_fault, inner_fault, kind_fault};
+ghost use Rattle.cell_library.specs.Faults.{kinds_fault, table_fault};
 ghost use Rattle.cell_library.specs.Says.{number_under, columns_under, pins_in, pins_under, Says, HasFault, Answers};
-ghost use Rattle.cell_library.specs.Stages.{RefusesFor, Judges, IsNumbersOf, IsDraftOf, IsJudged};
+ghost use Rattle.cell_library.specs.Code.Stages.{RefusesFor, Judges, IsNumbersOf, IsDraftOf, IsJudged};
 ghost use Rattle.cell_library.specs.Documents.{natural_within};
 ghost use Rattle.cell_library.specs.declared.fault.LibraryFault.{LibraryFault};
 
@@ -72,7 +75,8 @@ fn no_unknown_key(alloc: Global, table: &Table) -> Result<(), LibraryRefusal>
 
 // The number under a key, from 1 to the greatest.
 fn read_number(alloc: Global, table: &Table, key: &str, most: u64) -> Result<u64, LibraryRefusal>
-    ensures { Judges (number_fault (table_view table.now) (record { key = key.now; most = most })) (λ n. (n ≡ number_under (table_view table.now) key.now) × (1 ≤ n) × (n ≤ most)) result }
+    ensures { Judges (number_fault (table_view table.now) (record { key = key.now; most = most }))
+        (λ n. (n ≡ number_under (table_view table.now) key.now) × (1 ≤ n) × (n ≤ most)) result }
 {
     let Some(value) = integer_at(table, key) else {
         return Err(bad_key(alloc, key));
@@ -154,7 +158,8 @@ fn read_columns(
     kind: CellKind,
     part: &str,
 ) -> Result<List<u32>, LibraryRefusal>
-    ensures { Judges (columns_fault (table_view inner.now) kind part.now) (λ columns. columns ≡ columns_under (table_view inner.now) part.now) result }
+    ensures { Judges (columns_fault (table_view inner.now) kind part.now)
+        (λ columns. columns ≡ columns_under (table_view inner.now) part.now) result }
 {
     let Some(value) = value_under(inner, part) else {
         return Err(bad_dotted_key(alloc, kind, part));
@@ -181,7 +186,8 @@ fn no_unknown_pins_key(alloc: Global, inner: &Table, kind: CellKind) -> Result<(
 
 // The pins of a kind by its table.
 fn read_pins(alloc: Global, inner: &Table, kind: CellKind) -> Result<Pins, LibraryRefusal>
-    ensures { Judges (inner_fault kind (Some (table_view inner.now))) (λ pins. pins ≡ pins_in (table_view inner.now)) result }
+    ensures { Judges (inner_fault kind (Some (table_view inner.now)))
+        (λ pins. pins ≡ pins_in (table_view inner.now)) result }
 {
     no_unknown_pins_key(alloc, inner, kind)?;
     let inputs = read_columns(alloc, inner, kind, "inputs")?;
@@ -191,7 +197,8 @@ fn read_pins(alloc: Global, inner: &Table, kind: CellKind) -> Result<Pins, Libra
 
 // The pins of a kind, if it is given.
 fn read_kind(alloc: Global, table: &Table, kind: CellKind) -> Result<Option<Pins>, LibraryRefusal>
-    ensures { Judges (kind_fault (table_view table.now) kind) (λ pins. pins ≡ pins_under (table_view table.now) kind) result }
+    ensures { Judges (kind_fault (table_view table.now) kind)
+        (λ pins. pins ≡ pins_under (table_view table.now) kind) result }
 {
     let Some(value) = value_under(table, kind_key(kind)) else {
         return Ok(None);
@@ -205,7 +212,8 @@ fn read_kind(alloc: Global, table: &Table, kind: CellKind) -> Result<Option<Pins
 
 // The pins of each kind.
 fn read_kinds(alloc: Global, table: &Table) -> Result<Vec<Option<Pins>>, LibraryRefusal>
-    ensures { Judges (kinds_fault (table_view table.now)) (λ pins. pins.items ≡ map (pins_under (table_view table.now)) all_kinds) result }
+    ensures { Judges (kinds_fault (table_view table.now))
+        (λ pins. pins.items ≡ map (pins_under (table_view table.now)) all_kinds) result }
 {
     let mut all = Vec::new(alloc);
     for kind in KINDS {
@@ -266,8 +274,10 @@ fn judged(alloc: Global, table: &Table) -> Result<Library, LibraryRefusal>
 pub fn read_library(alloc: Global, text: &[u8]) -> Result<Library, LibraryRefusal>
     requires { length text.now ≤ 268435456 }
     ensures answer { Answers text.now result }
-    ensures said { (library : LibraryView) → Says text.now library → (result ≡ Ok library) ⊎ (result ≡ Err LibraryRefusal.Memory) }
-    ensures faulty { (fault : LibraryFault) → HasFault text.now fault → (result ≡ Err (LibraryRefusal.Bad fault)) ⊎ (result ≡ Err LibraryRefusal.Memory) }
+    ensures said { (library : LibraryView) → Says text.now library
+        → (result ≡ Ok library) ⊎ (result ≡ Err LibraryRefusal.Memory) }
+    ensures faulty { (fault : LibraryFault) → HasFault text.now fault
+        → (result ≡ Err (LibraryRefusal.Bad fault)) ⊎ (result ≡ Err LibraryRefusal.Memory) }
 {
     match toml::table_from_slice(alloc, text) {
         Ok(table) => judged(alloc, &table),

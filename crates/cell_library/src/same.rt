@@ -35,7 +35,10 @@ fn same_kind(a: &Draft, b: &Draft, kind: CellKind) -> bool
 }
 
 fn same_gates(a: &Draft, b: &Draft) -> bool
-    ensures { IsTrue result ↔ ((pins_of a.now CellKind.Buffer ≡ pins_of b.now CellKind.Buffer) × (pins_of a.now CellKind.Inverter ≡ pins_of b.now CellKind.Inverter) × (pins_of a.now CellKind.Zero ≡ pins_of b.now CellKind.Zero) × (pins_of a.now CellKind.One ≡ pins_of b.now CellKind.One)) }
+    ensures { IsTrue result ↔ ((pins_of a.now CellKind.Buffer ≡ pins_of b.now CellKind.Buffer)
+        × (pins_of a.now CellKind.Inverter ≡ pins_of b.now CellKind.Inverter)
+        × (pins_of a.now CellKind.Zero ≡ pins_of b.now CellKind.Zero)
+        × (pins_of a.now CellKind.One ≡ pins_of b.now CellKind.One)) }
 {
     same_kind(a, b, CellKind::Buffer)
         && same_kind(a, b, CellKind::Inverter)
@@ -63,7 +66,8 @@ pub fn same_pins(a: &Draft, b: &Draft) -> bool
 }
 
 fn same_sizes(a: &Numbers, b: &Numbers) -> bool
-    ensures { IsTrue result ↔ ((a.now.wire ≡ b.now.wire) × (a.now.space ≡ b.now.space) × (a.now.via ≡ b.now.via) × (a.now.enclose ≡ b.now.enclose) × (a.now.pin ≡ b.now.pin)) }
+    ensures { IsTrue result ↔ ((a.now.wire ≡ b.now.wire) × (a.now.space ≡ b.now.space) × (a.now.via ≡ b.now.via)
+        × (a.now.enclose ≡ b.now.enclose) × (a.now.pin ≡ b.now.pin)) }
 {
     a.wire == b.wire
         && a.space == b.space

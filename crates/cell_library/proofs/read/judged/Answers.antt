@@ -1,6 +1,6 @@
 use Rattle.std.proofs.lemmas.Result.{err_from_is_err_and}
 use Rattle.toml.specs.View.{table_view}
-use Rattle.cell_library.specs.Stages.{IsDraftOf}
+use Rattle.cell_library.specs.Code.Stages.{IsDraftOf}
 use Rattle.cell_library.proofs.Judged.{refused_early}
 use Rattle.cell_library.proofs.read.judged.Goals as goal
 

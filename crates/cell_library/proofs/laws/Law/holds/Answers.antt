@@ -3,7 +3,7 @@ use Rattle.cell_library.specs.declared.draft.Numbers.{Numbers}
 use Rattle.cell_library.specs.declared.laws.Law.TheVariants.{EvenSizes}
 use Rattle.cell_library.specs.Library.{LibraryView}
 use Rattle.cell_library.specs.Laws.{Holds, sizes_of}
-use Rattle.cell_library.specs.Drafts.{drafted}
+use Rattle.cell_library.specs.Code.Drafts.{drafted}
 use Rattle.cell_library.proofs.laws.Law.holds.Goals as goal
 
 -- the sizes of a draft are those of its numbers

@@ -2,7 +2,7 @@
 use Rattle.std.specs.Prelude.{◌≡◌, ◌≢◌, Option, Some, None, Result, Ok, Err, []}
 use Rattle.toml.specs.Data.{Members}
 use Rattle.cell_library.specs.declared.draft.Numbers.{Numbers}
-use Rattle.cell_library.specs.Drafts.{drafted}
+use Rattle.cell_library.specs.Code.Drafts.{drafted}
 use Rattle.cell_library.specs.Laws.{InRanges, Holds}
 use Rattle.cell_library.specs.Library.{LibraryView, IsGiven}
 use Rattle.cell_library.specs.Faults.{table_fault}
