@@ -1,0 +1,11 @@
+mod LineTexts
+mod Sending
+mod WrittenLines
+mod NumberedNames
+mod Definitions
+mod DefinedLines
+mod DefinedNet
+mod CircuitNames
+mod CircuitLines
+mod FewInputs
+mod CircuitAnswers

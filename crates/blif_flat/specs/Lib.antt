@@ -1,0 +1,4 @@
+pub mod BlifText
+pub mod Written
+pub mod Refusal
+pub mod Code
