@@ -7,6 +7,7 @@ usage: aqfp build NET LIB OUT
        aqfp verify GDS LIB WORDS
        aqfp trace GDS LIB WORDS
        aqfp sample N
+       aqfp equal GDS LIB NET
        aqfp --help
        aqfp --version
 
@@ -20,6 +21,9 @@ trace   the same, but prints the flux of each cell at each time.
 sample  builds an adder of N bits, N from 1 to 64, with a library of its own,
         prints N and the counts, and the adder's answers to eight words. It
         reads and stores no file.
+equal   reads GDS and LIB as verify does, and prints whether the chip answers
+        every word as the netlist NET: equal, or differ Ok at W, k being the
+        least output on which they differ and W the least word for it.
 
 NET     a combinational netlist in the Berkeley Logic Interchange Format (BLIF),
         at most 16777216 bytes
@@ -37,11 +41,13 @@ status  0  done
         6  the netlist has a fault
         7  the library has a fault
         8  the library lacks a kind of cell
-       10  the chip has too many slots, rows, cells, elements or shapes
+       10  the chip has too many slots, rows, cells, elements or shapes, or chip
+           and netlist too many subfunctions to be compared
        11  the layout's bytes are no stream that is read
        12  the layout breaks a rule
        13  a line of WORDS is no word for the chip
        14  out of memory
+       17  chip and netlist have other numbers of inputs or outputs
 A status above 0 comes with one line on standard error.
 ";
 

@@ -9,6 +9,7 @@ fn help_has_each_command_and_each_status(rt: HostRuntime) -> Result<(), Fail> {
         "verify GDS LIB WORDS",
         "trace GDS LIB WORDS",
         "sample N",
+        "equal GDS LIB NET",
     ];
     for command in commands {
         assert!(rt; HELP.contains(command), "{command}");
@@ -28,6 +29,7 @@ fn help_has_each_command_and_each_status(rt: HostRuntime) -> Result<(), Fail> {
         "12  the layout breaks",
         "13  a line of WORDS",
         "14  out of memory",
+        "17  chip and netlist",
     ];
     for status in statuses {
         assert!(rt; HELP.contains(status), "{status}");

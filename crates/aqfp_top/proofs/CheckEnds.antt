@@ -1,5 +1,5 @@
 -- How each step may end a check.
-use Rattle.std.proofs.Common.{ℕ, ◌≡◌, ◌≤◌, Bool, List, ◌∷◌, length, Option, Some, None, Result, IfErr, OnOk, OnErr, All, refl, sym, subst, inl, inr}
+use Rattle.std.proofs.Common.{ℕ, ◌≡◌, ◌≤◌, Bool, List, [], ◌∷◌, length, Option, Some, None, Result, IfErr, OnOk, OnErr, All, refl, sym, subst, inl, inr}
 use Rattle.std.specs.Result.{result_err}
 use Rattle.aq_base.specs.Causes.{Rose}
 use Rattle.aq_base.specs.Store.{Contents, gained, GainsPrefix}
@@ -7,20 +7,33 @@ use Rattle.chip_circuit.specs.Circuits.{CircuitView, KeepsFacts}
 use Rattle.chip_texts.specs.WordsText.{words_of}
 use Rattle.aqfp_top.specs.Counted.{Counts, HasFaults, FailedLoad}
 use Rattle.aqfp_top.specs.Loads.{gds_limit, lib_limit, words_limit, check_loads}
-use Rattle.aqfp_top.specs.Stages.{IsFirst, Answers}
+use Rattle.aqfp_top.specs.Stages as stage
+use Rattle.aqfp_top.specs.Stages.{Stage, IsFirst, Answers}
 use Rattle.aqfp_top.specs.Due.{bytes_at, judging_stages, check_stages}
 use Rattle.aqfp_top.specs.Faults.{IsCheckFault}
 use Rattle.aqfp_top.specs.Code.Loading.{IsFaultOfLoads}
 use Rattle.aqfp_top.specs.Code.Staging.{ToldAnswers}
 use Rattle.aqfp_top.specs.Code.Building.{IsOutOrMemory, IsReadOf}
-use Rattle.aqfp_top.specs.Code.Checking.{IsJudgingFault}
+use Rattle.aqfp_top.specs.Code.Checking.{chip_stages, circuit_then, IsCircuitFault, IsJudgingFault}
 use Rattle.aqfp_top.specs.Checks.{ToldTexts, IsSound, CheckPrints, IsPrintedOf, text_of}
 use Rattle.aqfp_top.specs.declared.check.Printing.{Printing}
 use Rattle.aqfp_top.specs.declared.fault.Fault.{Fault}
-use Rattle.aqfp_top.proofs.EachFault.{each_of_loads, each_judging, each_out}
+use Rattle.aqfp_top.proofs.EachFault.{each_of_loads, each_circuit, each_judging, each_out}
 use Rattle.aqfp_top.proofs.Staging.{load_stage, past, file_loads, held_bytes}
-use Rattle.aqfp_top.proofs.CheckSteps.{texts_at}
 use Rattle.aqfp_top.proofs.Steps.{print_counts}
+
+-- the stages of the texts of the files
+abbrev pub texts_at : Contents → List (List ℕ) → List Stage
+texts_at files words = judging_stages (bytes_at files words 1) (bytes_at files words 2) (bytes_at files words 3)
+
+-- a load that ends a check
+pub loads_answer : (told : Option Contents) (words : List (List ℕ)) (fault : Fault) → ((rest : Contents → List (List ℕ) → List Stage) → ToldAnswers (chip_stages rest) told words (Some fault)) → ToldAnswers check_stages told words (Some fault)
+loads_answer None words fault bad = tt
+loads_answer (Some files) words fault bad = bad texts_at
+
+-- what judging a layout and a library may find, judging words too may find
+pub circuit_judges : (fault : Fault) → IsCircuitFault fault → IsJudgingFault fault
+circuit_judges fault wrong = each_circuit IsJudgingFault (λ o k. tt) (λ n. tt) (λ f. tt) (λ k. tt) (λ r a b. tt) tt fault wrong
 
 -- Where a load ends a check nothing is printed.
 
@@ -66,6 +79,13 @@ pub told_unsound : (told : Option Contents) (words : List (List ℕ)) (gds lib t
 told_unsound None words gds lib text fault held a b c wrong = tt
 told_unsound (Some files) words gds lib text fault held a b c wrong = judging_answers files words gds lib text (Some fault) held a b c wrong
 
+-- the same of the first two texts, which are these
+pub told_no_circuit : (told : Option Contents) (words : List (List ℕ)) (gds lib text gds' lib' : List ℕ) (fault : Fault) → ToldTexts told words gds lib text →
+    length gds ≤ gds_limit → length lib ≤ lib_limit → length text ≤ words_limit → gds' ≡ gds → lib' ≡ lib → ((rest : List Stage) → Answers (circuit_then gds' lib' rest) (Some fault)) → ToldAnswers check_stages told words (Some fault)
+told_no_circuit told words gds lib text gds' lib' fault held a b c g l wrong =
+    told_unsound told words gds lib text fault held a b c
+    (subst (λ x. Answers (judging_stages x lib text) (Some fault)) g (subst (λ x. Answers (judging_stages gds' x text) (Some fault)) l (wrong (stage.Words gds' lib' text ∷ []))))
+
 -- Where the texts are sound the check comes to printing.
 
 pub told_sound : (told : Option Contents) (words : List (List ℕ)) (gds lib text : List ℕ) (result : Result (Unit {0}) Fault) → ToldTexts told words gds lib text →
@@ -109,4 +129,4 @@ out_check_prints printing told words before after gds lib text circuit given res
 pub print_failed : (name : Option (List ℕ)) (words : List (List ℕ)) (result : Result (Unit {0}) Fault) → IfErr result IsOutOrMemory → FailedLoad name words (result_err result)
 print_failed name words result only = each_out (λ r. FailedLoad name words (result_err r)) tt tt tt result only
 
-pub ruleset ends = (loads_check, loads_count, loads_check_print, unsound_is_check, unsound_counts, unsound_failed, unsound_prints, told_unsound, told_sound, out_is_check, out_check_prints, print_counts, print_failed)
+pub ruleset ends = (loads_answer, circuit_judges, loads_check, loads_count, loads_check_print, unsound_is_check, unsound_counts, unsound_failed, unsound_prints, told_unsound, told_sound, out_is_check, out_check_prints, print_counts, print_failed)

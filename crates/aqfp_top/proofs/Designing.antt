@@ -18,7 +18,7 @@ use Rattle.aqfp_top.specs.Due.{design_stages}
 use Rattle.aqfp_top.specs.Code.Staging.{OrMemory}
 use Rattle.aqfp_top.specs.Code.Designing.{IsDesignFault, AreCountsOf, IsChipOf, MakesChip, PassesNone}
 use Rattle.aqfp_top.specs.declared.counts.ChipCounts.{ChipCounts}
-use Rattle.aqfp_top.specs.declared.fault.Large.TheVariants.{Slots, Rows, Cells, Elements, Shapes}
+use Rattle.aqfp_top.specs.declared.fault.Large.TheVariants.{Slots, Rows, Cells, Elements, Shapes, Functions}
 use Rattle.aqfp_top.proofs.Staging.{past, found}
 use Rattle.aqfp_top.proofs.OneFault.{says_no_fault, says_no_cells_fault, same_said, one_netlist}
 use Rattle.aqfp_top.specs.declared.design.Chip.{Chip}
@@ -44,6 +44,7 @@ plan_fault equations cells (TooLarge Rows count) bad = tt
 plan_fault equations cells (TooLarge Cells count) bad = tt
 plan_fault equations cells (TooLarge Elements count) bad = tt
 plan_fault equations cells (TooLarge Shapes count) bad = absurd bad
+plan_fault equations cells (TooLarge Functions count) bad = absurd bad
 plan_fault equations cells Memory bad = tt
 plan_fault equations cells _ bad = absurd bad
 

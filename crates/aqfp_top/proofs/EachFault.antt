@@ -2,13 +2,14 @@
 use Rattle.std.proofs.Common.{ℕ, ◌<◌, List, Result, Ok, Err, IfErr, sym, subst}
 use Rattle.aqfp_top.specs.Loads.{Load, build_loads, IsLoaded, IsPast}
 use Rattle.aqfp_top.specs.Code.Designing.{IsDesignFault}
-use Rattle.aqfp_top.specs.Code.Checking.{IsJudgingFault}
+use Rattle.aqfp_top.specs.Code.Checking.{IsCircuitFault, IsJudgingFault}
+use Rattle.aqfp_top.specs.Code.Comparing.{IsComparingFault}
 use Rattle.aqfp_top.specs.Code.Loading.{IsFaultOfLoad, IsFaultOfLoads}
 use Rattle.aqfp_top.specs.Code.Building.{IsMakeFault, IsStoreFault, IsOutOrMemory}
 use Rattle.aqfp_top.specs.declared.fault.WriteCall.TheVariants.{Create, Append, Close, Out}
-use Rattle.aqfp_top.specs.declared.fault.Large.TheVariants.{Slots, Rows, Cells, Elements, Shapes}
+use Rattle.aqfp_top.specs.declared.fault.Large.TheVariants.{Slots, Rows, Cells, Elements, Shapes, Functions}
 use Rattle.aqfp_top.specs.declared.fault.Fault.{Fault}
-use Rattle.aqfp_top.specs.declared.fault.Fault.TheVariants.{Absent, TooLong, ReadFault, WriteFault, BadBlif, BadLibrary, MissingCell, TooLarge, BadStream, RuleBroken, BadWords, Memory}
+use Rattle.aqfp_top.specs.declared.fault.Fault.TheVariants.{Absent, TooLong, ReadFault, WriteFault, BadBlif, BadLibrary, MissingCell, TooLarge, BadStream, RuleBroken, BadWords, Widths, Memory}
 
 -- a load
 pub each_load : (P : Fault → Type 0) (place limit : ℕ) → P (Absent place) → ((taken : ℕ) → limit < taken → P (TooLong place taken)) → P (ReadFault place) → P Memory →
@@ -41,8 +42,34 @@ each_design P blif library missing slots rows cells elements memory (TooLarge Ro
 each_design P blif library missing slots rows cells elements memory (TooLarge Cells count) wrong = cells count
 each_design P blif library missing slots rows cells elements memory (TooLarge Elements count) wrong = elements count
 each_design P blif library missing slots rows cells elements memory (TooLarge Shapes count) wrong = absurd wrong
+each_design P blif library missing slots rows cells elements memory (TooLarge Functions count) wrong = absurd wrong
 each_design P blif library missing slots rows cells elements memory Memory wrong = memory
 each_design P blif library missing slots rows cells elements memory _ wrong = absurd wrong
+
+-- the texts of a layout and of a library
+pub each_circuit : (P : Fault → Type 0) → ((offset : ℕ) (kind : _) → P (BadStream offset kind)) → ((count : ℕ) → P (TooLarge Shapes count)) → ((fault : _) → P (BadLibrary fault)) → ((kind : _) → P (MissingCell kind)) →
+    ((rule : _) (first second : ℕ) → P (RuleBroken rule first second)) → P Memory → (fault : Fault) → IsCircuitFault fault → P fault
+each_circuit P stream large library missing rules memory (BadStream offset kind) wrong = stream offset kind
+each_circuit P stream large library missing rules memory (TooLarge Shapes count) wrong = large count
+each_circuit P stream large library missing rules memory (BadLibrary fault) wrong = library fault
+each_circuit P stream large library missing rules memory (MissingCell kind) wrong = missing kind
+each_circuit P stream large library missing rules memory (RuleBroken rule first second) wrong = rules rule first second
+each_circuit P stream large library missing rules memory Memory wrong = memory
+each_circuit P stream large library missing rules memory _ wrong = absurd wrong
+
+-- the texts of a layout, of a library and of a netlist
+pub each_comparing : (P : Fault → Type 0) → ((fault : Fault) → IsCircuitFault fault → P fault) → ((fault : _) → P (BadBlif fault)) → ((a b c d : ℕ) → P (Widths a b c d)) → P (TooLarge Functions 1000001) →
+    (fault : Fault) → IsComparingFault fault → P fault
+each_comparing P circuit net widths many (BadStream offset kind) wrong = circuit (BadStream offset kind) tt
+each_comparing P circuit net widths many (TooLarge Shapes count) wrong = circuit (TooLarge Shapes count) tt
+each_comparing P circuit net widths many (TooLarge Functions count) wrong = subst (λ n. P (TooLarge Functions n)) (sym wrong) many
+each_comparing P circuit net widths many (BadLibrary fault) wrong = circuit (BadLibrary fault) tt
+each_comparing P circuit net widths many (MissingCell kind) wrong = circuit (MissingCell kind) tt
+each_comparing P circuit net widths many (RuleBroken rule first second) wrong = circuit (RuleBroken rule first second) tt
+each_comparing P circuit net widths many (BadBlif fault) wrong = net fault
+each_comparing P circuit net widths many (Widths a b c d) wrong = widths a b c d
+each_comparing P circuit net widths many Memory wrong = circuit Memory tt
+each_comparing P circuit net widths many _ wrong = absurd wrong
 
 -- the texts of a layout, of a library and of words
 pub each_judging : (P : Fault → Type 0) → ((offset : ℕ) (kind : _) → P (BadStream offset kind)) → ((count : ℕ) → P (TooLarge Shapes count)) → ((fault : _) → P (BadLibrary fault)) → ((kind : _) → P (MissingCell kind)) →

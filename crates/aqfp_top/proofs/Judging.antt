@@ -1,5 +1,5 @@
 -- From the faults of the steps that judge a chip's texts to what the stages answer.
-use Rattle.std.proofs.Common.{ℕ, List, [], ◌∷◌, Some, None, Result, Ok, Err, OnOk, subst, ◌≡◌}
+use Rattle.std.proofs.Common.{ℕ, List, [], ◌∷◌, Some, None, Result, Ok, Err, IfErr, OnOk, subst, ◌≡◌}
 use Rattle.geom.specs.declared.layout.Layout.{Layout}
 use Rattle.geom.specs.FlatForm.{flat_of}
 use Rattle.gds_records.specs.Stream.{IsStream}
@@ -26,8 +26,8 @@ use Rattle.aqfp_top.specs.Stages as stage
 use Rattle.aqfp_top.specs.Stages.{Stage, FindsNone, IsFirst, Answers}
 use Rattle.aqfp_top.specs.Due.{judging_stages}
 use Rattle.aqfp_top.specs.Code.Staging.{OrMemory}
-use Rattle.aqfp_top.specs.Code.Checking.{IsBroken, IsJudgingFault, circuit_stages}
-use Rattle.aqfp_top.proofs.Staging.{past, found}
+use Rattle.aqfp_top.specs.Code.Checking.{IsBroken, IsCircuitFault, circuit_then, circuit_stages}
+use Rattle.aqfp_top.proofs.Staging.{past, past_all, found}
 use Rattle.aqfp_top.proofs.OneFault.{says_no_cells_fault}
 use Rattle.aqfp_top.proofs.OneCheck.{stream_none}
 use Rattle.aqfp_top.specs.declared.fault.Large.TheVariants.{Shapes}
@@ -45,12 +45,12 @@ size_answers not_both gds count large rest =
     past (stage.Stream gds) (stage.Size gds ∷ rest) (Some (TooLarge Shapes count)) (stream_none not_both gds large.layout large.stream) (found (stage.Size gds) rest (TooLarge Shapes count) large)
 
 -- the kinds of faults
-pub rule_fault : (gds lib : List ℕ) (fault : Fault) → OrMemory (IsRuleFault gds lib) fault → IsJudgingFault fault
+pub rule_fault : (gds lib : List ℕ) (fault : Fault) → OrMemory (IsRuleFault gds lib) fault → IsCircuitFault fault
 rule_fault gds lib (RuleBroken rule first second) bad = tt
 rule_fault gds lib Memory bad = tt
 rule_fault gds lib _ bad = absurd bad
 
-pub cells_fault : (lib : List ℕ) (fault : Fault) → OrMemory (IsCellsFault lib) fault → IsJudgingFault fault
+pub cells_fault : (lib : List ℕ) (fault : Fault) → OrMemory (IsCellsFault lib) fault → IsCircuitFault fault
 cells_fault lib (BadLibrary fault) bad = tt
 cells_fault lib (MissingCell kind) bad = tt
 cells_fault lib Memory bad = tt
@@ -89,17 +89,21 @@ circuit_is_made gds lib layout view flat circuit read says same rules extracts =
 
 -- From the faults of the steps to what the stages answer.
 
-pub layout_answers : (gds lib text : List ℕ) (fault : Fault) → ((rest : List Stage) → Answers (stage.Stream gds ∷ stage.Size gds ∷ rest) (Some fault)) → Answers (judging_stages gds lib text) (Some fault)
-layout_answers gds lib text fault bad = bad (stage.Cells lib ∷ stage.Rules gds lib ∷ stage.Words gds lib text ∷ [])
+pub layout_answers : (gds lib : List ℕ) (fault : Fault) → ((rest : List Stage) → Answers (stage.Stream gds ∷ stage.Size gds ∷ rest) (Some fault)) → (rest : List Stage) → Answers (circuit_then gds lib rest) (Some fault)
+layout_answers gds lib fault bad rest = bad (stage.Cells lib ∷ stage.Rules gds lib ∷ rest)
 
-pub cells_answer : (gds lib text : List ℕ) (fault : Fault) → FindsNone (stage.Stream gds) → FindsNone (stage.Size gds) → OrMemory (IsCellsFault lib) fault → Answers (judging_stages gds lib text) (Some fault)
-cells_answer gds lib text fault stream size bad =
-    past (stage.Stream gds) (stage.Size gds ∷ stage.Cells lib ∷ stage.Rules gds lib ∷ stage.Words gds lib text ∷ []) (Some fault) stream (past (stage.Size gds) (stage.Cells lib ∷ stage.Rules gds lib ∷ stage.Words gds lib text ∷ []) (Some fault) size (found (stage.Cells lib) (stage.Rules gds lib ∷ stage.Words gds lib text ∷ []) fault bad))
+pub cells_answer : (gds lib : List ℕ) (fault : Fault) → FindsNone (stage.Stream gds) → FindsNone (stage.Size gds) → OrMemory (IsCellsFault lib) fault → (rest : List Stage) → Answers (circuit_then gds lib rest) (Some fault)
+cells_answer gds lib fault stream size bad rest =
+    past_all (stage.Stream gds ∷ stage.Size gds ∷ []) (stage.Cells lib ∷ stage.Rules gds lib ∷ rest) (Some fault) (stream, (size, tt)) (found (stage.Cells lib) (stage.Rules gds lib ∷ rest) fault bad)
 
-pub rules_answer : (gds lib text : List ℕ) (view : LibraryView) (fault : Fault) → FindsNone (stage.Stream gds) → FindsNone (stage.Size gds) → library.Says lib view → OrMemory (IsRuleFault gds lib) fault → Answers (judging_stages gds lib text) (Some fault)
-rules_answer gds lib text view fault stream size says bad =
-    past (stage.Stream gds) (stage.Size gds ∷ stage.Cells lib ∷ stage.Rules gds lib ∷ stage.Words gds lib text ∷ []) (Some fault) stream (past (stage.Size gds) (stage.Cells lib ∷ stage.Rules gds lib ∷ stage.Words gds lib text ∷ []) (Some fault) size (past (stage.Cells lib) (stage.Rules gds lib ∷ stage.Words gds lib text ∷ []) (Some fault) (says_no_cells_fault lib view says)
-    (found (stage.Rules gds lib) (stage.Words gds lib text ∷ []) fault bad)))
+pub rules_answer : (gds lib : List ℕ) (view : LibraryView) (fault : Fault) → FindsNone (stage.Stream gds) → FindsNone (stage.Size gds) → library.Says lib view → OrMemory (IsRuleFault gds lib) fault → (rest : List Stage) → Answers (circuit_then gds lib rest) (Some fault)
+rules_answer gds lib view fault stream size says bad rest =
+    past_all (stage.Stream gds ∷ stage.Size gds ∷ stage.Cells lib ∷ []) (stage.Rules gds lib ∷ rest) (Some fault) (stream, (size, (says_no_cells_fault lib view says, tt))) (found (stage.Rules gds lib) rest fault bad)
+
+pub circuit_answers : {A : Type 0} (gds lib : List ℕ) (view : LibraryView) (result : Result A Fault) → FindsNone (stage.Stream gds) → FindsNone (stage.Size gds) → library.Says lib view → IfErr result (OrMemory (IsRuleFault gds lib))
+    → IfErr result (λ fault. (rest : List Stage) → Answers (circuit_then gds lib rest) (Some fault))
+circuit_answers gds lib view (Ok x) stream size says bad = tt
+circuit_answers gds lib view (Err fault) stream size says bad = rules_answer gds lib view fault stream size says bad
 
 pub circuit_is_well : {A : Type 0} (gds lib : List ℕ) (view : LibraryView) (result : Result A Fault) → FindsNone (stage.Stream gds) → FindsNone (stage.Size gds) → library.Says lib view → OnOk result (FindsNone (stage.Rules gds lib)) → OnOk result (IsFirst (circuit_stages gds lib) None)
 circuit_is_well gds lib view (Ok x) stream size says rules = (stream, (size, (says_no_cells_fault lib view says, (rules, tt))))
@@ -111,4 +115,4 @@ words_are_well gds lib text before none = (before.0, (before.1.0, (before.1.1.0,
 pub is_sound : (gds lib text : List ℕ) (circuit : CircuitView) → MakesCircuit gds lib circuit → SaysWords circuit.inputs text → IsSound gds lib text circuit
 is_sound gds lib text circuit makes says = record { makes = makes; says = says }
 
-pub ruleset judges = (layout_answers, cells_answer, rules_answer, rule_fault, cells_fault)
+pub ruleset judges = (layout_answers, cells_answer, rule_fault, cells_fault)

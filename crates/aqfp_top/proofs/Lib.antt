@@ -8,6 +8,10 @@ pub mod Forms
 pub mod Runs
 pub mod OneFault
 pub mod OneCheck
+pub mod OneComparison
+pub mod Comparing
+pub mod Verdicts
+pub mod FewCells
 pub mod OneDue
 pub mod OneStage
 pub mod Sizes

@@ -123,7 +123,7 @@ module _ (one_layout : (bytes : List ℕ) (layout other : Layout) → IsStream b
     one_rule_fault gds lib f g p q = each_rule (λ f. f ≡ g) gds lib (λ r a b x. each_rule (λ g. RuleBroken r a b ≡ g) gds lib (λ s c d y. same_rule gds lib r s a b c d x y) g q) f p
 
   module _ (one_circuit : (flat : Flat) (limits : Limits) (first second : CircuitView) → Keeps E1 flat limits → Keeps E2 flat limits → Keeps E6 flat limits → IsCircuitOf flat first → IsCircuitOf flat second → first ≡ second) where
-    same_circuit : (gds lib : List ℕ) (first second : CircuitView) → MakesCircuit gds lib first → MakesCircuit gds lib second → first ≡ second
+    pub same_circuit : (gds lib : List ℕ) (first second : CircuitView) → MakesCircuit gds lib first → MakesCircuit gds lib second → first ≡ second
     same_circuit gds lib first second p q =
         let same : p.layout ≡ q.layout = one_layout gds p.layout q.layout p.read.stream q.read.stream in
         let circuit_is : IsCircuitOf (flat_of q.layout) first = subst (λ l. IsCircuitOf (flat_of l) first) same p.circuit_is in

@@ -1,16 +1,17 @@
 -- One answer is due, and it comes.
-use Rattle.std.proofs.Common.{ℕ, ◌≡◌, List, [], ◌∷◌, Option, Some, None, inl, inr, refl, sym, ap, subst, ◌∙◌}
+use Rattle.std.proofs.Common.{ℕ, ◌≡◌, ◌⊎◌, List, [], ◌∷◌, Option, Some, None, inl, inr, refl, sym, ap, subst, ◌∙◌}
 use Rattle.aq_base.specs.Store.{Contents}
 use Rattle.aqfp_top.specs.Words.{HasForm, IsOfForm}
 use Rattle.aqfp_top.specs.Loads.{Load}
-use Rattle.aqfp_top.specs.Stages.{Stage, Finds, FindsNone, IsFirst, IsLoadFault, IsFormFault, Answers}
-use Rattle.aqfp_top.specs.Due.{stages_of, Due, MayAnswer, untaken, IsSameAnswer, IsDueOrYields, IsDoneOrMemory}
+use Rattle.aqfp_top.specs.Stages.{Stage, Finds, FindsNone, IsFirst, IsLoadFault, IsFormFault, SomeGivesUp, Answers}
+use Rattle.aqfp_top.specs.Due.{stages_of, Due, MayAnswer, untaken, IsSameAnswer, IsDueOrYields, IsPastComparing, IsDoneOrMemory}
 use Rattle.aqfp_top.specs.Counted.{Counts, HasFaults, NoFaults}
 use Rattle.aqfp_top.specs.declared.words.Form.{Form}
-use Rattle.aqfp_top.specs.declared.words.Form.TheVariants.{Build, Verify, Trace, Sample, Wrong}
+use Rattle.aqfp_top.specs.declared.words.Form.TheVariants.{Build, Verify, Trace, Equal, Sample, Wrong}
+use Rattle.aqfp_top.specs.declared.fault.Large.TheVariants.{Slots, Rows, Cells, Elements, Shapes, Functions}
 use Rattle.aqfp_top.specs.declared.fault.WriteCall.TheVariants.{Create, Append, Close, Out}
 use Rattle.aqfp_top.specs.declared.fault.Fault.{Fault}
-use Rattle.aqfp_top.specs.declared.fault.Fault.TheVariants.{Usage, Absent, TooLong, ReadFault, WriteFault, BadBlif, BadLibrary, MissingCell, TooLarge, BadStream, RuleBroken, BadWords, Memory}
+use Rattle.aqfp_top.specs.declared.fault.Fault.TheVariants.{Usage, Absent, TooLong, ReadFault, WriteFault, BadBlif, BadLibrary, MissingCell, TooLarge, BadStream, RuleBroken, BadWords, Widths, Memory}
 use Rattle.aqfp_top.proofs.Files.{gone_not_there}
 use Rattle.aqfp_top.proofs.Forms.{one_form}
 
@@ -36,24 +37,51 @@ none_is_none None same = refl
 none_is_none (Some fault) same = cc
 
 -- with nothing due and no fault of the outside the work is done, but for want of memory
-done : (before after : Counts) (answer : Option Fault) → IsDueOrYields None answer → HasFaults before after answer → NoFaults before after → IsDoneOrMemory answer
-done before after None comes rose none = tt
-done before after (Some Memory) comes rose none = tt
-done before after (Some (ReadFault place)) comes rose none = none.reads rose
-done before after (Some (WriteFault Create)) comes rose none = none.writes rose
-done before after (Some (WriteFault Append)) comes rose none = none.writes rose
-done before after (Some (WriteFault Close)) comes rose none = none.closes rose
-done before after (Some (WriteFault Out)) comes rose none = none.outs rose
-done before after (Some Usage) comes rose none = cc
-done before after (Some (Absent place)) comes rose none = cc
-done before after (Some (TooLong place taken)) comes rose none = cc
-done before after (Some (BadBlif fault)) comes rose none = cc
-done before after (Some (BadLibrary fault)) comes rose none = cc
-done before after (Some (MissingCell kind)) comes rose none = cc
-done before after (Some (TooLarge what count)) comes rose none = cc
-done before after (Some (BadStream offset kind)) comes rose none = cc
-done before after (Some (RuleBroken rule a b)) comes rose none = cc
-done before after (Some (BadWords line)) comes rose none = cc
+done : (files : Contents) (words : List (List ℕ)) (before after : Counts) (answer : Option Fault) → ((count : ℕ) → answer ≡ Some (TooLarge Functions count) → IsPastComparing files words count) →
+    IsDueOrYields None answer → HasFaults before after answer → NoFaults before after → IsDoneOrMemory files words answer
+done files words before after None large comes rose none = tt
+done files words before after (Some Memory) large comes rose none = tt
+done files words before after (Some (ReadFault place)) large comes rose none = none.reads rose
+done files words before after (Some (WriteFault Create)) large comes rose none = none.writes rose
+done files words before after (Some (WriteFault Append)) large comes rose none = none.writes rose
+done files words before after (Some (WriteFault Close)) large comes rose none = none.closes rose
+done files words before after (Some (WriteFault Out)) large comes rose none = none.outs rose
+done files words before after (Some (TooLarge Functions count)) large comes rose none = large count refl
+done files words before after (Some (TooLarge Slots count)) large comes rose none = cc
+done files words before after (Some (TooLarge Rows count)) large comes rose none = cc
+done files words before after (Some (TooLarge Cells count)) large comes rose none = cc
+done files words before after (Some (TooLarge Elements count)) large comes rose none = cc
+done files words before after (Some (TooLarge Shapes count)) large comes rose none = cc
+done files words before after (Some Usage) large comes rose none = cc
+done files words before after (Some (Absent place)) large comes rose none = cc
+done files words before after (Some (TooLong place taken)) large comes rose none = cc
+done files words before after (Some (BadBlif fault)) large comes rose none = cc
+done files words before after (Some (BadLibrary fault)) large comes rose none = cc
+done files words before after (Some (MissingCell kind)) large comes rose none = cc
+done files words before after (Some (BadStream offset kind)) large comes rose none = cc
+done files words before after (Some (RuleBroken rule a b)) large comes rose none = cc
+done files words before after (Some (BadWords line)) large comes rose none = cc
+done files words before after (Some (Widths a_inputs a_outputs b_inputs b_outputs)) large comes rose none = cc
+
+-- a comparison alone may give up
+rest : {A : Type 0} → ⊥ ⊎ A → A
+rest (inl none) = absurd none
+rest (inr other) = other
+
+gives_up : (files : Contents) (words : List (List ℕ)) (form : Form) (count : ℕ) → IsOfForm words form → SomeGivesUp (stages_of form files words) count → IsPastComparing files words count
+gives_up files words Build count is some = absurd (rest (rest (rest (rest (rest some)))))
+gives_up files words Verify count is some = absurd (rest (rest (rest (rest (rest (rest (rest (rest some))))))))
+gives_up files words Trace count is some = absurd (rest (rest (rest (rest (rest (rest (rest (rest some))))))))
+gives_up files words Equal count is some = elim (rest (rest (rest (rest (rest (rest (rest (rest (rest some))))))))) [
+  | inl many ↦ record { form = is; many = many }
+  | inr none ↦ absurd none
+]
+gives_up files words (Sample bits) count is some = absurd (rest (rest some))
+gives_up files words Wrong count is some = absurd (rest some)
+
+past_comparing : (files : Contents) (words : List (List ℕ)) (answer : Option Fault) → MayAnswer files words answer → (count : ℕ) → answer ≡ Some (TooLarge Functions count) → IsPastComparing files words count
+past_comparing files words answer may count is =
+    gives_up files words may.form count may.is_form (subst (λ a. Answers (stages_of may.form files words) a) is may.answers).1
 
 -- some answer is first, and so some answer is due
 
@@ -71,7 +99,8 @@ no_form : (words : List (List ℕ)) → ((form : Form) → ¬ IsOfForm words for
 no_form words never (inl build) = never Build build
 no_form words never (inr (inl (inl verify))) = never Verify verify
 no_form words never (inr (inl (inr trace))) = never Trace trace
-no_form words never (inr (inr sample)) = never (Sample sample.bits) sample.of_bits
+no_form words never (inr (inr (inl sample))) = never (Sample sample.bits) sample.of_bits
+no_form words never (inr (inr (inr equal))) = never Equal equal
 
 pub some_due : (files : Contents) (words : List (List ℕ)) → ((answer : Option Fault) → ¬ Due files words answer) → ⊥
 some_due files words never =
@@ -104,10 +133,16 @@ module _ (once : (stage : Stage) (f g : Fault) → Finds stage f → Finds stage
   first_comes stages due (Some (BadBlif fault)) p q = first_once stages (Some (BadBlif fault)) due q p
   first_comes stages due (Some (BadLibrary fault)) p q = first_once stages (Some (BadLibrary fault)) due q p
   first_comes stages due (Some (MissingCell kind)) p q = first_once stages (Some (MissingCell kind)) due q p
-  first_comes stages due (Some (TooLarge what count)) p q = first_once stages (Some (TooLarge what count)) due q p
+  first_comes stages due (Some (TooLarge Slots count)) p q = first_once stages (Some (TooLarge Slots count)) due q p
+  first_comes stages due (Some (TooLarge Rows count)) p q = first_once stages (Some (TooLarge Rows count)) due q p
+  first_comes stages due (Some (TooLarge Cells count)) p q = first_once stages (Some (TooLarge Cells count)) due q p
+  first_comes stages due (Some (TooLarge Elements count)) p q = first_once stages (Some (TooLarge Elements count)) due q p
+  first_comes stages due (Some (TooLarge Shapes count)) p q = first_once stages (Some (TooLarge Shapes count)) due q p
+  first_comes stages due (Some (TooLarge Functions count)) p q = none_is_none due (first_once stages due None p q.0)
   first_comes stages due (Some (BadStream offset kind)) p q = first_once stages (Some (BadStream offset kind)) due q p
   first_comes stages due (Some (RuleBroken rule a b)) p q = first_once stages (Some (RuleBroken rule a b)) due q p
   first_comes stages due (Some (BadWords line)) p q = first_once stages (Some (BadWords line)) due q p
+  first_comes stages due (Some (Widths a b c d)) p q = first_once stages (Some (Widths a b c d)) due q p
   first_comes stages due (Some Memory) p q = tt
 
   pub due_once : (files : Contents) (words : List (List ℕ)) (one other : Option Fault) → Due files words one → Due files words other → IsSameAnswer one other
@@ -120,5 +155,5 @@ module _ (once : (stage : Stage) (f g : Fault) → Finds stage f → Finds stage
       first_comes (stages_of p.form files words) due answer p.first
       (subst (λ form. Answers (stages_of form files words) answer) (one_form words q.form p.form q.is_form p.is_form) q.answers)
 
-  pub due_complete : (files : Contents) (words : List (List ℕ)) (before after : Counts) (answer : Option Fault) → Due files words None → MayAnswer files words answer → HasFaults before after answer → NoFaults before after → IsDoneOrMemory answer
-  due_complete files words before after answer p q rose none = done before after answer (due_comes files words None answer p q) rose none
+  pub due_complete : (files : Contents) (words : List (List ℕ)) (before after : Counts) (answer : Option Fault) → Due files words None → MayAnswer files words answer → HasFaults before after answer → NoFaults before after → IsDoneOrMemory files words answer
+  due_complete files words before after answer p q rose none = done files words before after answer (past_comparing files words answer q) (due_comes files words None answer p q) rose none

@@ -19,7 +19,7 @@ use Rattle.chip_plan.specs.declared.refusal.PlanRefusal.{PlanRefusal}
 use Rattle.chip_plan.specs.declared.refusal.PlanRefusal.TheVariants as plan
 use Rattle.aqfp_top.specs.Designs.{SaysNetlist, SaysLibrary, HasNetlist, HasDesign, KeepsLimits, HasManyElements, HasTooMuch, IsCellFault, IsNetlistFault, IsCellsFault, IsPlanFault}
 use Rattle.aqfp_top.specs.declared.fault.Large.{Large}
-use Rattle.aqfp_top.specs.declared.fault.Large.TheVariants.{Slots, Rows, Cells, Elements, Shapes}
+use Rattle.aqfp_top.specs.declared.fault.Large.TheVariants.{Slots, Rows, Cells, Elements, Shapes, Functions}
 use Rattle.aqfp_top.specs.declared.fault.Fault.{Fault}
 use Rattle.aqfp_top.specs.declared.fault.Fault.TheVariants.{BadBlif, BadLibrary, MissingCell, TooLarge, Memory}
 
@@ -187,6 +187,7 @@ limit_passed n l Rows count h = inl (record { refusal = plan.Rows count; no_memo
 limit_passed n l Cells count h = inl (record { refusal = plan.Cells count; no_memory = cells_left count; refuses = h; fault_is = refl })
 limit_passed n l Elements count h = inr (record { what_is = refl; many = h })
 limit_passed n l Shapes count h = absurd h
+limit_passed n l Functions count h = absurd h
 
 many_and_few : (n count : ℕ) → n ≤ element_limit → count ≡ n → element_limit < count → ⊥
 many_and_few n count small is above = omega arith

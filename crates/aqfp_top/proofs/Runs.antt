@@ -1,23 +1,24 @@
 -- From the clauses of each command to those of a run.
 use Rattle.std.proofs.Common.{ℕ, ◌≡◌, ◌<◌, ◌≤◌, List, length, arith, Option, Some, None, Result, Ok, Err, IfErr, inl, inr, refl, subst}
 use Rattle.aq_base.specs.Store.{Contents}
-use Rattle.aqfp_top.specs.Words.{IsBuild, IsVerify, IsTrace, IsCheck, IsSampleOf, HasForm}
-use Rattle.aqfp_top.specs.Loads.{build_loads, check_loads, IsLoaded, IsPast}
+use Rattle.aqfp_top.specs.Words.{IsBuild, IsVerify, IsTrace, IsEqual, IsCheck, IsSampleOf, HasForm}
+use Rattle.aqfp_top.specs.Loads.{build_loads, check_loads, equal_loads, IsLoaded, IsPast}
 use Rattle.aqfp_top.specs.Stages.{Answers as StagesAnswer}
-use Rattle.aqfp_top.specs.Due.{MayAnswer, build_stages, check_stages, sample_stages}
-use Rattle.aqfp_top.specs.Faults.{IsBuildFault, IsCheckFault, IsSampleFault, RunsOnly}
+use Rattle.aqfp_top.specs.Due.{MayAnswer, build_stages, check_stages, equal_stages, sample_stages}
+use Rattle.aqfp_top.specs.Faults.{IsBuildFault, IsCheckFault, IsEqualFault, IsSampleFault, RunsOnly}
 use Rattle.aqfp_top.specs.Run.{RunStands, RunPrints}
 use Rattle.aqfp_top.specs.Lines.{HasPlace}
 use Rattle.aqfp_top.specs.Build.{BuildStands, BuildPrints}
 use Rattle.aqfp_top.specs.Checks.{CheckPrints}
+use Rattle.aqfp_top.specs.Comparing.{EqualPrints}
 use Rattle.aqfp_top.specs.Samples.{SamplePrints}
 use Rattle.aqfp_top.specs.Code.Staging.{ToldAnswers, ToldMayAnswer}
-use Rattle.aqfp_top.specs.declared.words.Form.TheVariants.{Build, Verify, Trace, Sample, Wrong}
+use Rattle.aqfp_top.specs.declared.words.Form.TheVariants.{Build, Verify, Trace, Equal, Sample, Wrong}
 use Rattle.aqfp_top.specs.declared.check.Printing.TheVariants.{Answers, Fluxes}
 use Rattle.aqfp_top.specs.declared.fault.Fault.{Fault}
 use Rattle.aqfp_top.specs.declared.fault.Fault.TheVariants.{Usage, Absent, TooLong, ReadFault}
 use Rattle.aqfp_top.proofs.Sampling.{sample_failed}
-use Rattle.aqfp_top.proofs.Forms.{build_not_sample, verify_not_sample, trace_not_sample, check_not_sample, build_not_check, build_not_verify, build_not_trace, verify_not_trace, one_size}
+use Rattle.aqfp_top.proofs.Forms.{build_not_sample, verify_not_sample, trace_not_sample, check_not_sample, build_not_check, build_not_verify, build_not_trace, verify_not_trace, build_not_equal, verify_not_equal, trace_not_equal, check_not_equal, equal_not_sample, one_size}
 
 -- what a command may answer the words may lead to
 
@@ -32,6 +33,10 @@ verify_answers (Some files) words answer form answers = record { form = Verify; 
 pub trace_answers : (told : Option Contents) (words : List (List ℕ)) (answer : Option Fault) → IsTrace words → ToldAnswers check_stages told words answer → ToldMayAnswer told words answer
 trace_answers None words answer form answers = tt
 trace_answers (Some files) words answer form answers = record { form = Trace; is_form = form; answers = answers }
+
+pub equal_answers : (told : Option Contents) (words : List (List ℕ)) (answer : Option Fault) → IsEqual words → ToldAnswers equal_stages told words answer → ToldMayAnswer told words answer
+equal_answers None words answer form answers = tt
+equal_answers (Some files) words answer form answers = record { form = Equal; is_form = form; answers = answers }
 
 pub sample_answers : (told : Option Contents) (words : List (List ℕ)) (bits : ℕ) (answer : Option Fault) → IsSampleOf words bits → StagesAnswer (sample_stages bits) answer → ToldMayAnswer told words answer
 sample_answers None words bits answer form answers = tt
@@ -52,6 +57,9 @@ verify_leaves before after words fault form same = record { build = λ b. absurd
 pub trace_leaves : (before after : Option Contents) (words : List (List ℕ)) (fault : Option Fault) → IsTrace words → after ≡ before → RunStands before after words fault
 trace_leaves before after words fault form same = record { build = λ b. absurd (build_not_trace words b form); otherwise = λ none. same }
 
+pub equal_leaves : (before after : Option Contents) (words : List (List ℕ)) (fault : Option Fault) → IsEqual words → after ≡ before → RunStands before after words fault
+equal_leaves before after words fault form same = record { build = λ b. absurd (build_not_equal words b form); otherwise = λ none. same }
+
 pub sample_leaves : (held : Option Contents) (words : List (List ℕ)) (bits : ℕ) (fault : Option Fault) → IsSampleOf words bits → RunStands held held words fault
 sample_leaves held words bits fault form = record { build = λ b. absurd (build_not_sample words bits b form); otherwise = λ none. refl }
 
@@ -65,6 +73,7 @@ build_prints told words before after fault form prints = record {
   build = λ b. prints;
   verify = λ v. absurd (build_not_verify words form v);
   trace = λ t. absurd (build_not_trace words form t);
+  equal = λ e. absurd (build_not_equal words form e);
   sample = λ bits s. absurd (build_not_sample words bits form s);
   otherwise = λ none. absurd (none (inl form));
 }
@@ -74,6 +83,7 @@ verify_prints told words before after fault form prints = record {
   build = λ b. absurd (build_not_verify words b form);
   verify = λ v. prints;
   trace = λ t. absurd (verify_not_trace words form t);
+  equal = λ e. absurd (verify_not_equal words form e);
   sample = λ bits s. absurd (verify_not_sample words bits form s);
   otherwise = λ none. absurd (none (inr (inl (inl form))));
 }
@@ -83,8 +93,19 @@ trace_prints told words before after fault form prints = record {
   build = λ b. absurd (build_not_trace words b form);
   verify = λ v. absurd (verify_not_trace words v form);
   trace = λ t. prints;
+  equal = λ e. absurd (trace_not_equal words form e);
   sample = λ bits s. absurd (trace_not_sample words bits form s);
   otherwise = λ none. absurd (none (inr (inl (inr form))));
+}
+
+pub equal_prints : (told : Option Contents) (words : List (List ℕ)) (before after : Option (List ℕ)) (fault : Option Fault) → IsEqual words → EqualPrints told words before after fault → RunPrints told words before after fault
+equal_prints told words before after fault form prints = record {
+  build = λ b. absurd (build_not_equal words b form);
+  verify = λ v. absurd (verify_not_equal words v form);
+  trace = λ t. absurd (trace_not_equal words t form);
+  equal = λ e. prints;
+  sample = λ bits s. absurd (equal_not_sample words bits form s);
+  otherwise = λ none. absurd (none (inr (inr (inr form))));
 }
 
 pub sample_prints : (told : Option Contents) (words : List (List ℕ)) (bits : ℕ) (before after : Option (List ℕ)) (fault : Option Fault) → IsSampleOf words bits → SamplePrints bits before after fault → RunPrints told words before after fault
@@ -92,8 +113,9 @@ sample_prints told words bits before after fault form prints = record {
   build = λ b. absurd (build_not_sample words bits b form);
   verify = λ v. absurd (verify_not_sample words bits v form);
   trace = λ t. absurd (trace_not_sample words bits t form);
+  equal = λ e. absurd (equal_not_sample words bits e form);
   sample = λ other s. subst (λ n. SamplePrints n before after fault) (one_size _ bits other form.size s.size) prints;
-  otherwise = λ none. absurd (none (inr (inr (record { bits = bits; of_bits = form }))));
+  otherwise = λ none. absurd (none (inr (inr (inl (record { bits = bits; of_bits = form })))));
 }
 
 pub usage_prints : (told : Option Contents) (words : List (List ℕ)) (held : Option (List ℕ)) (fault : Option Fault) → ¬ HasForm words → RunPrints told words held held fault
@@ -101,7 +123,8 @@ usage_prints told words held fault form = record {
   build = λ b. absurd (form (inl b));
   verify = λ v. absurd (form (inr (inl (inl v))));
   trace = λ t. absurd (form (inr (inl (inr t))));
-  sample = λ bits s. absurd (form (inr (inr (record { bits = bits; of_bits = s }))));
+  equal = λ e. absurd (form (inr (inr (inr e))));
+  sample = λ bits s. absurd (form (inr (inr (inl (record { bits = bits; of_bits = s })))));
   otherwise = λ none. refl;
 }
 
@@ -144,6 +167,12 @@ check_place words (TooLong place taken) four only = check_past words place taken
 check_place words (ReadFault place) four only = check_loaded words place four only
 check_place words _ four only = tt
 
+equal_place : (words : List (List ℕ)) (fault : Fault) → length words ≡ 4 → IsEqualFault fault → HasPlace words fault
+equal_place words (Absent place) four only = check_loaded words place four only
+equal_place words (TooLong place taken) four only = check_past words place taken four only
+equal_place words (ReadFault place) four only = check_loaded words place four only
+equal_place words _ four only = tt
+
 sample_place : (words : List (List ℕ)) (fault : Fault) → IsSampleFault fault → HasPlace words fault
 sample_place words (Absent place) only = absurd only
 sample_place words (TooLong place taken) only = absurd only
@@ -158,6 +187,7 @@ build_only words (Err fault) form only = record {
   build = λ b. only;
   check = λ c. absurd (build_not_check words form c);
   sample = λ s. absurd (build_not_sample words s.bits form s.of_bits);
+  equal = λ e. absurd (build_not_equal words form e);
   otherwise = λ none. absurd (none (inl form));
   place = build_place words fault form.0 only;
 }
@@ -168,6 +198,7 @@ check_only words (Err fault) four form only = record {
   build = λ b. absurd (build_not_check words b form);
   check = λ c. only;
   sample = λ s. absurd (check_not_sample words s.bits form s.of_bits);
+  equal = λ e. absurd (check_not_equal words form e);
   otherwise = λ none. absurd (none (inr (inl form)));
   place = check_place words fault four only;
 }
@@ -184,15 +215,28 @@ sample_only words bits (Err fault) form only = record {
   build = λ b. absurd (build_not_sample words bits b form);
   check = λ c. absurd (check_not_sample words bits c form);
   sample = λ s. only;
-  otherwise = λ none. absurd (none (inr (inr (record { bits = bits; of_bits = form }))));
+  equal = λ e. absurd (equal_not_sample words bits e form);
+  otherwise = λ none. absurd (none (inr (inr (inl (record { bits = bits; of_bits = form })))));
   place = sample_place words fault only;
+}
+
+pub equal_only : (words : List (List ℕ)) (result : Result (Unit {0}) Fault) → IsEqual words → IfErr result IsEqualFault → IfErr result (RunsOnly words)
+equal_only words (Ok x) form only = tt
+equal_only words (Err fault) form only = record {
+  build = λ b. absurd (build_not_equal words b form);
+  check = λ c. absurd (check_not_equal words c form);
+  sample = λ s. absurd (equal_not_sample words s.bits form s.of_bits);
+  equal = λ e. only;
+  otherwise = λ none. absurd (none (inr (inr (inr form))));
+  place = equal_place words fault form.0 only;
 }
 
 pub usage_only : (words : List (List ℕ)) → ¬ HasForm words → RunsOnly words Usage
 usage_only words none = record {
   build = λ b. absurd (none (inl b));
   check = λ c. absurd (none (inr (inl c)));
-  sample = λ s. absurd (none (inr (inr s)));
+  sample = λ s. absurd (none (inr (inr (inl s))));
+  equal = λ e. absurd (none (inr (inr (inr e))));
   otherwise = λ n. refl;
   place = tt;
 }
@@ -209,33 +253,41 @@ pub trace_no_usage : (words : List (List ℕ)) (answer : Option Fault) → IsTra
 trace_no_usage words answer form none = absurd (none (inr (inl (inr form))))
 
 pub sample_no_usage : (words : List (List ℕ)) (bits : ℕ) (answer : Option Fault) → IsSampleOf words bits → ¬ HasForm words → answer ≡ Some Usage
-sample_no_usage words bits answer form none = absurd (none (inr (inr (record { bits = bits; of_bits = form }))))
+sample_no_usage words bits answer form none = absurd (none (inr (inr (inl (record { bits = bits; of_bits = form })))))
+
+pub equal_no_usage : (words : List (List ℕ)) (answer : Option Fault) → IsEqual words → ¬ HasForm words → answer ≡ Some Usage
+equal_no_usage words answer form none = absurd (none (inr (inr (inr form))))
 
 pub ruleset runs = (
   build_only,
   verify_only,
   trace_only,
+  equal_only,
   sample_only,
   sample_failed,
   usage_only,
   build_answers,
   verify_answers,
   trace_answers,
+  equal_answers,
   sample_answers,
   usage_answers,
   build_leaves,
   verify_leaves,
   trace_leaves,
+  equal_leaves,
   sample_leaves,
   usage_leaves,
   build_prints,
   verify_prints,
   trace_prints,
+  equal_prints,
   sample_prints,
   usage_prints,
   build_no_usage,
   verify_no_usage,
   trace_no_usage,
+  equal_no_usage,
   sample_no_usage,
 )
 

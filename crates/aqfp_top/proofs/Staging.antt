@@ -1,17 +1,18 @@
 -- What stages in turn may answer: a stage finds a fault, or finds none and the stages after it go on.
-use Rattle.std.proofs.Common.{ℕ, ◌≡◌, ◌≤◌, List, [], ◌∷◌, length, Option, Some, None, Ok, Err, Vec, inl, inr, ap, unwrap_or}
+use Rattle.std.proofs.Common.{ℕ, ◌≡◌, ◌≤◌, List, [], ◌∷◌, ◌++◌, length, Option, Some, None, Ok, Err, Vec, inl, inr, ap, unwrap_or}
 use Rattle.std.specs.declared.alloc.Global.{Global}
 use Rattle.aq_base.specs.Store.{Contents}
 use Rattle.aqfp_top.specs.Words.{word_at}
 use Rattle.aqfp_top.specs.Loads.{Load}
 use Rattle.aqfp_top.specs.Stages as stage
-use Rattle.aqfp_top.specs.Stages.{Stage, Finds, FindsNone, IsLoadFault, Answers}
+use Rattle.aqfp_top.specs.Stages.{Stage, Finds, FindsNone, IsFirst, IsLoadFault, Answers}
 use Rattle.aqfp_top.specs.Due.{file_at, bytes_at}
 use Rattle.aqfp_top.specs.Code.Staging.{OrMemory}
 use Rattle.aqfp_top.specs.Code.Loading.{LoadsWord, IsFaultOfLoad}
+use Rattle.aqfp_top.specs.declared.fault.Large.TheVariants.{Slots, Rows, Cells, Elements, Shapes, Functions}
 use Rattle.aqfp_top.specs.declared.fault.WriteCall.{WriteCall}
 use Rattle.aqfp_top.specs.declared.fault.Fault.{Fault}
-use Rattle.aqfp_top.specs.declared.fault.Fault.TheVariants.{Usage, Absent, TooLong, ReadFault, WriteFault, BadBlif, BadLibrary, MissingCell, TooLarge, BadStream, RuleBroken, BadWords, Memory}
+use Rattle.aqfp_top.specs.declared.fault.Fault.TheVariants.{Usage, Absent, TooLong, ReadFault, WriteFault, BadBlif, BadLibrary, MissingCell, TooLarge, BadStream, RuleBroken, BadWords, Widths, Memory}
 use Rattle.aqfp_top.proofs.Files.{long_not_short, held_short}
 
 -- a stage that finds none leaves the answer to those after it
@@ -25,11 +26,22 @@ past s stages (Some (WriteFault call)) none a = (none, a)
 past s stages (Some (BadBlif fault)) none a = inr (none, a)
 past s stages (Some (BadLibrary fault)) none a = inr (none, a)
 past s stages (Some (MissingCell kind)) none a = inr (none, a)
-past s stages (Some (TooLarge what count)) none a = inr (none, a)
+past s stages (Some (TooLarge Slots count)) none a = inr (none, a)
+past s stages (Some (TooLarge Rows count)) none a = inr (none, a)
+past s stages (Some (TooLarge Cells count)) none a = inr (none, a)
+past s stages (Some (TooLarge Elements count)) none a = inr (none, a)
+past s stages (Some (TooLarge Shapes count)) none a = inr (none, a)
+past s stages (Some (TooLarge Functions count)) none a = ((none, a.0), inr a.1)
 past s stages (Some (BadStream offset kind)) none a = inr (none, a)
 past s stages (Some (RuleBroken rule first second)) none a = inr (none, a)
 past s stages (Some (BadWords line)) none a = inr (none, a)
+past s stages (Some (Widths a_inputs a_outputs b_inputs b_outputs)) none a = inr (none, a)
 past s stages (Some Memory) none a = tt
+
+-- so do stages of which none finds one
+pub past_all : (front rest : List Stage) (answer : Option Fault) → IsFirst front None → Answers rest answer → Answers (front ++ rest) answer
+past_all [] rest answer none a = a
+past_all (s ∷ front) rest answer none a = past s (front ++ rest) answer none.0 (past_all front rest answer none.1 a)
 
 -- no stage finds a fault of the outside
 no_read : (s : Stage) (place : ℕ) → Finds s (ReadFault place) → ⊥
@@ -43,6 +55,8 @@ no_read (stage.Stream gds) place found = found
 no_read (stage.Size gds) place found = found
 no_read (stage.Rules gds lib) place found = found
 no_read (stage.Words gds lib text) place found = found
+no_read (stage.Counts gds lib net) place found = found
+no_read (stage.Comparison gds lib net) place found = found
 
 no_write : (s : Stage) (call : WriteCall) → Finds s (WriteFault call) → ⊥
 no_write stage.Form call found = found
@@ -55,6 +69,23 @@ no_write (stage.Stream gds) call found = found
 no_write (stage.Size gds) call found = found
 no_write (stage.Rules gds lib) call found = found
 no_write (stage.Words gds lib text) call found = found
+no_write (stage.Counts gds lib net) call found = found
+no_write (stage.Comparison gds lib net) call found = found
+
+-- nor that a comparison is too large
+no_functions : (s : Stage) (count : ℕ) → Finds s (TooLarge Functions count) → ⊥
+no_functions stage.Form count found = found
+no_functions (stage.Loading load file) count found = found
+no_functions (stage.Netlist net) count found = found
+no_functions (stage.Cells lib) count found = found
+no_functions (stage.Plan net lib) count found = found.holds
+no_functions (stage.PlanWith net cells) count found = found.holds
+no_functions (stage.Stream gds) count found = found
+no_functions (stage.Size gds) count found = found
+no_functions (stage.Rules gds lib) count found = found
+no_functions (stage.Words gds lib text) count found = found
+no_functions (stage.Counts gds lib net) count found = found
+no_functions (stage.Comparison gds lib net) count found = found
 
 -- what the first stage finds is answered
 pub found : (s : Stage) (stages : List Stage) (fault : Fault) → OrMemory (Finds s) fault → Answers (s ∷ stages) (Some fault)
@@ -66,10 +97,16 @@ found s stages (WriteFault call) finds = absurd (no_write s call finds)
 found s stages (BadBlif fault) finds = inl finds
 found s stages (BadLibrary fault) finds = inl finds
 found s stages (MissingCell kind) finds = inl finds
-found s stages (TooLarge what count) finds = inl finds
+found s stages (TooLarge Slots count) finds = inl finds
+found s stages (TooLarge Rows count) finds = inl finds
+found s stages (TooLarge Cells count) finds = inl finds
+found s stages (TooLarge Elements count) finds = inl finds
+found s stages (TooLarge Shapes count) finds = inl finds
+found s stages (TooLarge Functions count) finds = absurd (no_functions s count finds)
 found s stages (BadStream offset kind) finds = inl finds
 found s stages (RuleBroken rule first second) finds = inl finds
 found s stages (BadWords line) finds = inl finds
+found s stages (Widths a_inputs a_outputs b_inputs b_outputs) finds = inl finds
 found s stages Memory finds = tt
 
 -- Loads.

@@ -5,4 +5,5 @@ pub mod Staging
 pub mod Designing
 pub mod Building
 pub mod Checking
+pub mod Comparing
 pub mod Sampling

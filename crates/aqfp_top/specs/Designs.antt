@@ -16,7 +16,7 @@ use Rattle.chip_plan.specs.Plans.{IsWithin, chip_of}
 use Rattle.chip_plan.specs.Refusals.{Refuses}
 use Rattle.chip_plan.specs.declared.refusal.PlanRefusal.TheVariants as plan
 use Rattle.aqfp_top.specs.declared.fault.Large.{Large}
-use Rattle.aqfp_top.specs.declared.fault.Large.TheVariants.{Slots, Rows, Cells, Elements, Shapes}
+use Rattle.aqfp_top.specs.declared.fault.Large.TheVariants.{Slots, Rows, Cells, Elements, Shapes, Functions}
 use Rattle.aqfp_top.specs.declared.fault.Fault.{Fault}
 use Rattle.aqfp_top.specs.declared.fault.Fault.TheVariants.{BadBlif, BadLibrary, MissingCell, TooLarge}
 
@@ -78,6 +78,7 @@ HasTooMuch equations cells Rows count = Refuses cells equations (plan.Rows count
 HasTooMuch equations cells Cells count = Refuses cells equations (plan.Cells count)
 HasTooMuch equations cells Elements count = HasManyElements equations cells count
 HasTooMuch equations cells Shapes count = ⊥
+HasTooMuch equations cells Functions count = ⊥
 
 -- the first fault of a library's text: it is no TOML document, or its table or its laws have this fault
 abbrev pub IsCellFault : List ℕ → LibraryFault → Type 0

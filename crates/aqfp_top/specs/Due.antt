@@ -3,14 +3,16 @@ use Rattle.std.specs.Prelude.{ℕ, ◌≡◌, List, [], ◌∷◌, ◌++◌, map
 use Rattle.aq_base.specs.Store.{Contents}
 use Rattle.cell_library.specs.LibraryA.{library_a_view}
 use Rattle.sample_adder.specs.Adder.{adder}
-use Rattle.aqfp_top.specs.Words.{word_at, IsOfForm}
-use Rattle.aqfp_top.specs.Loads.{Load, build_loads, check_loads}
+use Rattle.aqfp_top.specs.Words.{word_at, IsEqual, IsOfForm}
+use Rattle.aqfp_top.specs.Loads.{Load, build_loads, check_loads, equal_loads}
 use Rattle.aqfp_top.specs.Stages as stage
 use Rattle.aqfp_top.specs.Stages.{Stage, IsFirst}
+use Rattle.aqfp_top.specs.Comparing.{HasManyFunctions}
 use Rattle.aqfp_top.specs.declared.words.Form.{Form}
-use Rattle.aqfp_top.specs.declared.words.Form.TheVariants.{Build, Verify, Trace, Sample, Wrong}
+use Rattle.aqfp_top.specs.declared.words.Form.TheVariants.{Build, Verify, Trace, Equal, Sample, Wrong}
+use Rattle.aqfp_top.specs.declared.fault.Large.TheVariants.{Functions}
 use Rattle.aqfp_top.specs.declared.fault.Fault.{Fault}
-use Rattle.aqfp_top.specs.declared.fault.Fault.TheVariants.{TooLong, ReadFault, WriteFault, Memory}
+use Rattle.aqfp_top.specs.declared.fault.Fault.TheVariants.{TooLong, ReadFault, WriteFault, TooLarge, Memory}
 
 -- the file under the name at a place of the words, if there is one, and its bytes
 abbrev pub file_at : Contents → List (List ℕ) → ℕ → Option (List ℕ)
@@ -31,6 +33,12 @@ abbrev pub judging_stages : List ℕ → List ℕ → List ℕ → List Stage
 judging_stages gds lib text =
     stage.Stream gds ∷ stage.Size gds ∷ stage.Cells lib ∷ stage.Rules gds lib ∷ stage.Words gds lib text ∷ []
 
+-- judging the texts of a chip and of a library, and a netlist against the chip
+abbrev pub comparing_stages : List ℕ → List ℕ → List ℕ → List Stage
+comparing_stages gds lib net =
+    stage.Stream gds ∷ stage.Size gds ∷ stage.Cells lib ∷ stage.Rules gds lib ∷ stage.Netlist net
+    ∷ stage.Counts gds lib net ∷ stage.Comparison gds lib net ∷ []
+
 -- the stages of the commands
 abbrev pub build_stages : Contents → List (List ℕ) → List Stage
 build_stages files words =
@@ -40,6 +48,10 @@ abbrev pub check_stages : Contents → List (List ℕ) → List Stage
 check_stages files words = loading files words check_loads
     ++ judging_stages (bytes_at files words 1) (bytes_at files words 2) (bytes_at files words 3)
 
+abbrev pub equal_stages : Contents → List (List ℕ) → List Stage
+equal_stages files words = loading files words equal_loads
+    ++ comparing_stages (bytes_at files words 1) (bytes_at files words 2) (bytes_at files words 3)
+
 abbrev pub sample_stages : ℕ → List Stage
 sample_stages bits = stage.Netlist (adder bits) ∷ stage.PlanWith (adder bits) library_a_view ∷ []
 
@@ -48,6 +60,7 @@ abbrev pub stages_of : Form → Contents → List (List ℕ) → List Stage
 stages_of Build files words = build_stages files words
 stages_of Verify files words = check_stages files words
 stages_of Trace files words = check_stages files words
+stages_of Equal files words = equal_stages files words
 stages_of (Sample bits) files words = sample_stages bits
 stages_of Wrong files words = stage.Form ∷ []
 
@@ -71,15 +84,22 @@ untaken fault = fault
 abbrev pub IsSameAnswer : Option Fault → Option Fault → Type 0
 IsSameAnswer one other = option_map untaken one ≡ option_map untaken other
 
--- the answer is the one that is due, or yields to want of memory or to a fault of the outside
+-- the answer is the one that is due, or yields to want of memory, to a fault of the outside, or to a comparison's size
 abbrev pub IsDueOrYields : Option Fault → Option Fault → Type 0
 IsDueOrYields due (Some Memory) = Unit {0}
 IsDueOrYields due (Some (ReadFault place)) = Unit {0}
 IsDueOrYields due (Some (WriteFault call)) = due ≡ None
+IsDueOrYields due (Some (TooLarge Functions count)) = due ≡ None
 IsDueOrYields due answer = IsSameAnswer answer due
 
--- the work was done, but for want of memory
-abbrev pub IsDoneOrMemory : Option Fault → Type 0
-IsDoneOrMemory None = Unit {0}
-IsDoneOrMemory (Some Memory) = Unit {0}
-IsDoneOrMemory _ = ⊥
+-- the words compare two circuits that have more than 1,000,000 subfunctions
+pub record IsPastComparing (files : Contents) (words : List (List ℕ)) (count : ℕ) : Type 0 where
+  pub form : IsEqual words
+  pub many : HasManyFunctions (bytes_at files words 1) (bytes_at files words 2) (bytes_at files words 3) count
+
+-- the work was done, but for want of memory, and but for two circuits with too many subfunctions
+abbrev pub IsDoneOrMemory : Contents → List (List ℕ) → Option Fault → Type 0
+IsDoneOrMemory files words None = Unit {0}
+IsDoneOrMemory files words (Some Memory) = Unit {0}
+IsDoneOrMemory files words (Some (TooLarge Functions count)) = IsPastComparing files words count
+IsDoneOrMemory files words _ = ⊥

@@ -1,12 +1,12 @@
 -- Which faults the commands may answer, whatever the store tells.
 use Rattle.std.specs.Prelude.{ℕ, ◌≡◌, List}
-use Rattle.aqfp_top.specs.Loads.{build_loads, check_loads, IsLoaded, IsPast}
-use Rattle.aqfp_top.specs.Words.{IsBuild, IsCheck, IsSample, HasForm}
+use Rattle.aqfp_top.specs.Loads.{build_loads, check_loads, equal_loads, IsLoaded, IsPast}
+use Rattle.aqfp_top.specs.Words.{IsBuild, IsCheck, IsEqual, IsSample, HasForm}
 use Rattle.aqfp_top.specs.Lines.{HasPlace}
-use Rattle.aqfp_top.specs.declared.fault.Large.TheVariants.{Shapes}
+use Rattle.aqfp_top.specs.declared.fault.Large.TheVariants.{Shapes, Functions}
 use Rattle.aqfp_top.specs.declared.fault.WriteCall.TheVariants.{Out}
 use Rattle.aqfp_top.specs.declared.fault.Fault.{Fault}
-use Rattle.aqfp_top.specs.declared.fault.Fault.TheVariants.{Usage, Absent, TooLong, ReadFault, WriteFault, BadBlif, BadLibrary, MissingCell, TooLarge, BadStream, RuleBroken, BadWords, Memory}
+use Rattle.aqfp_top.specs.declared.fault.Fault.TheVariants.{Usage, Absent, TooLong, ReadFault, WriteFault, BadBlif, BadLibrary, MissingCell, TooLarge, BadStream, RuleBroken, BadWords, Widths, Memory}
 
 -- a build's: none of words, of a stream or of rules
 abbrev pub IsBuildFault : Fault → Type 0
@@ -18,6 +18,7 @@ IsBuildFault (BadBlif fault) = Unit {0}
 IsBuildFault (BadLibrary fault) = Unit {0}
 IsBuildFault (MissingCell kind) = Unit {0}
 IsBuildFault (TooLarge Shapes count) = ⊥
+IsBuildFault (TooLarge Functions count) = ⊥
 IsBuildFault (TooLarge what count) = Unit {0}
 IsBuildFault Memory = Unit {0}
 IsBuildFault _ = ⊥
@@ -37,11 +38,29 @@ IsCheckFault (BadWords line) = Unit {0}
 IsCheckFault Memory = Unit {0}
 IsCheckFault _ = ⊥
 
+-- a comparison's: none of words or of a plan, nor of writing but to `out`
+abbrev pub IsEqualFault : Fault → Type 0
+IsEqualFault (Absent place) = IsLoaded equal_loads place
+IsEqualFault (TooLong place taken) = IsPast equal_loads place taken
+IsEqualFault (ReadFault place) = IsLoaded equal_loads place
+IsEqualFault (WriteFault call) = call ≡ Out
+IsEqualFault (BadBlif fault) = Unit {0}
+IsEqualFault (BadLibrary fault) = Unit {0}
+IsEqualFault (MissingCell kind) = Unit {0}
+IsEqualFault (TooLarge Shapes count) = Unit {0}
+IsEqualFault (TooLarge Functions count) = count ≡ 1000001
+IsEqualFault (BadStream offset kind) = Unit {0}
+IsEqualFault (RuleBroken rule first second) = Unit {0}
+IsEqualFault (Widths chip_inputs chip_outputs net_inputs net_outputs) = Unit {0}
+IsEqualFault Memory = Unit {0}
+IsEqualFault _ = ⊥
+
 -- a sample's: none of a file, a library or words, nor of writing but to `out`
 abbrev pub IsSampleFault : Fault → Type 0
 IsSampleFault (WriteFault call) = call ≡ Out
 IsSampleFault (BadBlif fault) = Unit {0}
 IsSampleFault (TooLarge Shapes count) = ⊥
+IsSampleFault (TooLarge Functions count) = ⊥
 IsSampleFault (TooLarge what count) = Unit {0}
 IsSampleFault Memory = Unit {0}
 IsSampleFault _ = ⊥
@@ -51,5 +70,6 @@ pub record RunsOnly (words : List (List ℕ)) (fault : Fault) : Type 0 where
   pub build : IsBuild words → IsBuildFault fault
   pub check : IsCheck words → IsCheckFault fault
   pub sample : IsSample words → IsSampleFault fault
+  pub equal : IsEqual words → IsEqualFault fault
   pub otherwise : ¬ HasForm words → fault ≡ Usage
   pub place : HasPlace words fault

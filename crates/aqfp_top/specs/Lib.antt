@@ -4,6 +4,7 @@ pub mod Lines
 pub mod Loads
 pub mod Designs
 pub mod Checks
+pub mod Comparing
 pub mod Stages
 pub mod Due
 pub mod Faults
@@ -13,5 +14,6 @@ pub mod Samples
 pub mod Run
 pub mod Chips
 pub mod Verified
+pub mod Compared
 pub mod Joined
 pub mod Code

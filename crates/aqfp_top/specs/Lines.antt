@@ -15,10 +15,10 @@ use Rattle.gds_records.specs.declared.fault.StreamKind.{StreamKind}
 use Rattle.gds_records.specs.declared.fault.StreamKind.TheVariants as stream
 use Rattle.layout_rules.specs.RuleTable.{name_of}
 use Rattle.aqfp_top.specs.declared.fault.Large.{Large}
-use Rattle.aqfp_top.specs.declared.fault.Large.TheVariants.{Slots, Rows, Cells, Elements, Shapes}
+use Rattle.aqfp_top.specs.declared.fault.Large.TheVariants.{Slots, Rows, Cells, Elements, Shapes, Functions}
 use Rattle.aqfp_top.specs.Words.{word_at}
 use Rattle.aqfp_top.specs.declared.fault.Fault.{Fault}
-use Rattle.aqfp_top.specs.declared.fault.Fault.TheVariants.{Usage, Absent, TooLong, ReadFault, WriteFault, BadBlif, BadLibrary, MissingCell, TooLarge, BadStream, RuleBroken, BadWords, Memory}
+use Rattle.aqfp_top.specs.declared.fault.Fault.TheVariants.{Usage, Absent, TooLong, ReadFault, WriteFault, BadBlif, BadLibrary, MissingCell, TooLarge, BadStream, RuleBroken, BadWords, Widths, Memory}
 
 -- the line about the file that a word names
 abbrev pub named : List (List ℕ) → ℕ → List ℕ → List ℕ
@@ -69,6 +69,7 @@ large_text Rows = codes "rows"
 large_text Cells = codes "cells"
 large_text Elements = codes "elements"
 large_text Shapes = codes "shapes"
+large_text Functions = codes "functions"
 
 -- what is wrong with a stream
 abbrev pub stream_kind_text : StreamKind → List ℕ
@@ -89,7 +90,9 @@ pair_text first second = decimal first ++ 32 ∷ decimal second
 
 -- the whole line of a fault
 abbrev pub line_of : List (List ℕ) → Fault → List ℕ
-line_of words Usage = codes "aqfp: usage: build NET LIB OUT, verify GDS LIB WORDS, trace GDS LIB WORDS, sample N\n"
+line_of words Usage =
+    codes "aqfp: usage: build NET LIB OUT, verify GDS LIB WORDS, trace GDS LIB WORDS, "
+    ++ codes "sample N, equal GDS LIB NET\n"
 line_of words (Absent place) = named words place (codes ": absent\n")
 line_of words (TooLong place taken) = named words place (codes ": too long\n")
 line_of words (ReadFault place) = named words place (codes ": read failed\n")
@@ -104,6 +107,9 @@ line_of words (BadStream offset kind) =
 line_of words (RuleBroken rule first second) =
     codes "aqfp: rule " ++ name_of rule ++ codes ": shapes " ++ pair_text first second ++ codes "\n"
 line_of words (BadWords line) = codes "aqfp: words: line " ++ decimal line ++ codes "\n"
+line_of words (Widths chip_inputs chip_outputs net_inputs net_outputs) =
+    codes "aqfp: widths: " ++ pair_text chip_inputs chip_outputs ++ codes " and " ++ pair_text net_inputs net_outputs
+    ++ codes "\n"
 line_of words Memory = codes "aqfp: out of memory\n"
 
 -- some first bytes of the text were put, and all of them unless the sink refused

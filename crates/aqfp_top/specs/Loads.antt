@@ -21,6 +21,12 @@ words_limit = 16777216
 abbrev pub build_loads : List Load
 build_loads = record { place = 1; limit = net_limit } ∷ record { place = 2; limit = lib_limit } ∷ []
 
+-- GDS, LIB and NET
+abbrev pub equal_loads : List Load
+equal_loads =
+    record { place = 1; limit = gds_limit } ∷ record { place = 2; limit = lib_limit }
+    ∷ record { place = 3; limit = net_limit } ∷ []
+
 -- GDS, LIB and WORDS
 abbrev pub check_loads : List Load
 check_loads =

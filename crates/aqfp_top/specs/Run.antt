@@ -1,9 +1,10 @@
 -- What a run leaves in the store and prints, by its command.
 use Rattle.std.specs.Prelude.{◌≡◌, ℕ, List, Option}
 use Rattle.aq_base.specs.Store.{Contents}
-use Rattle.aqfp_top.specs.Words.{IsBuild, IsVerify, IsTrace, IsSampleOf, HasForm}
+use Rattle.aqfp_top.specs.Words.{IsBuild, IsVerify, IsTrace, IsEqual, IsSampleOf, HasForm}
 use Rattle.aqfp_top.specs.Build.{BuildStands, BuildPrints}
 use Rattle.aqfp_top.specs.Checks.{CheckPrints}
+use Rattle.aqfp_top.specs.Comparing.{EqualPrints}
 use Rattle.aqfp_top.specs.Samples.{SamplePrints}
 use Rattle.aqfp_top.specs.declared.check.Printing.TheVariants.{Answers, Fluxes}
 use Rattle.aqfp_top.specs.declared.fault.Fault.{Fault}
@@ -19,5 +20,6 @@ pub record RunPrints (told : Option Contents) (words : List (List ℕ)) (before 
   pub build : IsBuild words → BuildPrints told words before after fault
   pub verify : IsVerify words → CheckPrints Answers told words before after fault
   pub trace : IsTrace words → CheckPrints Fluxes told words before after fault
+  pub equal : IsEqual words → EqualPrints told words before after fault
   pub sample : (bits : ℕ) → IsSampleOf words bits → SamplePrints bits before after fault
   pub otherwise : ¬ HasForm words → after ≡ before

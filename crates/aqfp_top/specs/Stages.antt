@@ -4,11 +4,13 @@ use Rattle.cell_library.specs.Library.{LibraryView}
 use Rattle.aqfp_top.specs.Loads.{Load}
 use Rattle.aqfp_top.specs.Designs.{HasNetlist, HasDesign, IsNetlistFault, IsCellsFault, IsPlanFault}
 use Rattle.aqfp_top.specs.Checks.{IsStreamFault, IsSizeFault, IsRuleFault, IsWordsFault}
+use Rattle.aqfp_top.specs.Comparing.{IsWidthsFault, HasManyFunctions}
+use Rattle.aqfp_top.specs.declared.fault.Large.TheVariants.{Functions}
 use Rattle.aqfp_top.specs.declared.fault.Fault.{Fault}
-use Rattle.aqfp_top.specs.declared.fault.Fault.TheVariants.{Usage, Absent, TooLong, ReadFault, WriteFault, Memory}
+use Rattle.aqfp_top.specs.declared.fault.Fault.TheVariants.{Usage, Absent, TooLong, ReadFault, WriteFault, TooLarge, Memory}
 
 -- A stage, and what it judges: the words, which have no form; a file, if there is one under its name; or texts, which
--- are the bytes of files. A sample plans with a library that is known.
+-- are the bytes of files. A sample plans with a library that is known. A comparison finds no fault, and may give up.
 pub data Stage : Type 0 where
   Form : Stage
   Loading : (load : Load) (file : Option (List ℕ)) → Stage
@@ -20,6 +22,8 @@ pub data Stage : Type 0 where
   Size : (gds : List ℕ) → Stage
   Rules : (gds lib : List ℕ) → Stage
   Words : (gds lib text : List ℕ) → Stage
+  Counts : (gds lib net : List ℕ) → Stage
+  Comparison : (gds lib net : List ℕ) → Stage
 
 -- the words have no form
 abbrev pub IsFormFault : Fault → Type 0
@@ -45,6 +49,8 @@ Finds (Stream gds) fault = IsStreamFault gds fault
 Finds (Size gds) fault = IsSizeFault gds fault
 Finds (Rules gds lib) fault = IsRuleFault gds lib fault
 Finds (Words gds lib text) fault = IsWordsFault gds lib text fault
+Finds (Counts gds lib net) fault = IsWidthsFault gds lib net fault
+Finds (Comparison gds lib net) fault = ⊥
 
 abbrev pub FindsNone : Stage → Type 0
 FindsNone stage = (fault : Fault) → ¬ Finds stage fault
@@ -66,10 +72,21 @@ abbrev pub IsReached : List Stage → ℕ → Type 0
 IsReached [] place = ⊥
 IsReached (stage ∷ stages) place = LoadsAt stage place ⊎ (FindsNone stage × IsReached stages place)
 
--- What the stages may answer: what is due; or want of memory; a failed load that the work comes to; or a refused write,
--- where nothing is due.
+-- the stage is a comparison of two circuits with more subfunctions than are compared
+abbrev pub GivesUp : Stage → ℕ → Type 0
+GivesUp (Comparison gds lib net) count = HasManyFunctions gds lib net count
+GivesUp _ count = ⊥
+
+-- so is one of the stages
+abbrev pub SomeGivesUp : List Stage → ℕ → Type 0
+SomeGivesUp [] count = ⊥
+SomeGivesUp (stage ∷ stages) count = GivesUp stage count ⊎ SomeGivesUp stages count
+
+-- What the stages may answer: what is due; or want of memory; a failed load that the work comes to; or, where nothing is
+-- due, a refused write, or that a comparison has too many subfunctions.
 abbrev pub Answers : List Stage → Option Fault → Type 0
 Answers stages (Some Memory) = Unit {0}
 Answers stages (Some (ReadFault place)) = IsReached stages place
 Answers stages (Some (WriteFault call)) = IsFirst stages None
+Answers stages (Some (TooLarge Functions count)) = IsFirst stages None × SomeGivesUp stages count
 Answers stages answer = IsFirst stages answer

@@ -4,7 +4,7 @@ use Rattle.std.specs.Fmt.{decimal}
 use Rattle.std.specs.String.{string_bytes}
 use Rattle.std.specs.declared.alloc.Global.{Global}
 use Rattle.aqfp_top.specs.declared.words.Form.{Form}
-use Rattle.aqfp_top.specs.declared.words.Form.TheVariants.{Build, Verify, Trace, Sample, Wrong}
+use Rattle.aqfp_top.specs.declared.words.Form.TheVariants.{Build, Verify, Trace, Equal, Sample, Wrong}
 
 -- the bytes of each word
 abbrev pub spelled : List (String Global) → List (List ℕ)
@@ -25,6 +25,10 @@ IsVerify words = (length words ≡ 4) × (word_at words 0 ≡ codes "verify")
 -- trace GDS LIB WORDS
 abbrev pub IsTrace : List (List ℕ) → Type 0
 IsTrace words = (length words ≡ 4) × (word_at words 0 ≡ codes "trace")
+
+-- equal GDS LIB NET
+abbrev pub IsEqual : List (List ℕ) → Type 0
+IsEqual words = (length words ≡ 4) × (word_at words 0 ≡ codes "equal")
 
 -- one of the two commands that check a chip
 abbrev pub IsCheck : List (List ℕ) → Type 0
@@ -48,12 +52,13 @@ pub record IsSample (words : List (List ℕ)) : Type 0 where
   pub of_bits : IsSampleOf words bits
 
 abbrev pub HasForm : List (List ℕ) → Type 0
-HasForm words = IsBuild words ⊎ (IsCheck words ⊎ IsSample words)
+HasForm words = IsBuild words ⊎ (IsCheck words ⊎ (IsSample words ⊎ IsEqual words))
 
 -- the words have this form
 abbrev pub IsOfForm : List (List ℕ) → Form → Type 0
 IsOfForm words Build = IsBuild words
 IsOfForm words Verify = IsVerify words
 IsOfForm words Trace = IsTrace words
+IsOfForm words Equal = IsEqual words
 IsOfForm words (Sample bits) = IsSampleOf words bits
 IsOfForm words Wrong = ¬ HasForm words

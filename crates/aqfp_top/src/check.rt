@@ -18,16 +18,11 @@ ghost use Rattle.aqfp_top.specs.Code.Loading.{IsFaultOfLoads};
 ghost use Rattle.aqfp_top.specs.Code.Building.{IsReadOf, IsOutOrMemory};
 ghost use Rattle.aqfp_top.specs.Code.Checking.{circuit_stages, IsJudgingFault};
 
-use crate::design::read_cells;
-use crate::fault::{Fault, Large, WriteCall};
-use crate::judge::{check_geometry, extracted};
-use crate::load::{GDS_LIMIT, LIB_LIMIT, WORDS_LIMIT, load_word};
-use aq_base::{Files, Memory, Sink, StoreRefusal};
-use cell_library::Library;
+use crate::fault::{Fault, WriteCall};
+use crate::reading::{load_texts, read_circuit};
+use aq_base::{Files, Sink, StoreRefusal};
 use chip_texts::{GivenWords, print_answers, print_fluxes, read_words};
-use gds_read::{StreamRefusal, flatten, read_stream};
-use gds_records::{one_layout, one_of_both};
-use geom::Layout;
+use gds_records::one_layout;
 use shape_extract::{Extracted, one_circuit};
 use std::alloc::Global;
 
@@ -38,92 +33,6 @@ pub enum Printing {
     Answers,
     /// The counts line, and the flux of each cell at each time.
     Fluxes,
-}
-
-#[derive(Drop)]
-struct Texts {
-    gds: Vec<u8>,
-    lib: Vec<u8>,
-    words: Vec<u8>,
-}
-
-// Loads GDS, LIB and WORDS.
-#[tactic(auto, using(crate::proofs::CheckSteps::loads))]
-fn load_texts<F: Files>(alloc: Global, files: &mut F, words: &[String]) -> Result<Texts, Fault>
-    requires { length words.now ≡ 4 }
-    ensures texts { IfOk result (λ t. ToldTexts (F.told files.old) (spelled words.now) t.gds.items t.lib.items t.words.items) }
-    ensures gds_fits { IfOk result (λ t. length t.gds.items ≤ gds_limit) }
-    ensures lib_fits { IfOk result (λ t. length t.lib.items ≤ lib_limit) }
-    ensures words_fit { IfOk result (λ t. length t.words.items ≤ words_limit) }
-    ensures bad { IfErr result (λ fault. ToldAnswers check_stages (F.told files.old) (spelled words.now) (Some fault)) }
-    ensures only { IfErr result (IsFaultOfLoads check_loads) }
-    ensures told { F.told files.new ≡ F.told files.old }
-    ensures name { F.opened files.new ≡ F.opened files.old }
-    ensures rose { IfErr result (IsReadOf (Rose (F.read_faults files.old) (F.read_faults files.new))) }
-    ensures failed { IfErr result (λ fault. IsSome (F.told files.old) → FailedLoad (F.load_failed files.new) (spelled words.now) (Some fault)) }
-{
-    let gds = load_word(alloc, files, words, 1, GDS_LIMIT)?;
-    let lib = load_word(alloc, files, words, 2, LIB_LIMIT)?;
-    let words = load_word(alloc, files, words, 3, WORDS_LIMIT)?;
-    Ok(Texts { gds, lib, words })
-}
-
-// The layout whose stream the bytes are.
-fn read_layout(alloc: Global, gds: &[u8]) -> Result<Layout, Fault>
-    ensures ok { IfOk result (IsReadAs gds.now) }
-    ensures stream { OnOk result (FindsNone (Stream gds.now)) }
-    ensures size { OnOk result (FindsNone (Size gds.now)) }
-    ensures bad { IfErr result (λ fault. (rest : List Stage) → Answers (Stream gds.now ∷ Size gds.now ∷ rest) (Some fault)) }
-    ensures only { IfErr result IsJudgingFault }
-{
-    one_layout();
-    one_of_both();
-    match read_stream(alloc, gds) {
-        Ok(layout) => Ok(layout),
-        Err(StreamRefusal::Bad { offset, kind }) => Err(Fault::BadStream { offset, kind }),
-        Err(StreamRefusal::TooManyShapes { count }) => Err(Fault::TooLarge {
-            what: Large::Shapes,
-            count,
-        }),
-        Err(StreamRefusal::Memory) => Err(Fault::Memory),
-    }
-}
-
-// The circuit of the layout that was read of the bytes, where its shapes keep the rules with the library of the text.
-fn circuit_of(
-    alloc: Global,
-    gds: &[u8],
-    lib: &[u8],
-    layout: &Layout,
-    cells: &Library,
-) -> Result<Extracted, Fault>
-    requires read { IsReadAs gds.now layout.now }
-    requires says { library.Says lib.now cells.now }
-    ensures ok { IfOk result (MakesCircuit gds.now lib.now) }
-    ensures rules { OnOk result (FindsNone (Rules gds.now lib.now)) }
-    ensures bad { IfErr result (OrMemory (IsRuleFault gds.now lib.now)) }
-{
-    one_layout();
-    let Ok(flat) = flatten(alloc, layout) else {
-        return Err(Fault::Memory);
-    };
-    let circuit = extracted(alloc, &flat)?;
-    check_geometry(alloc, &flat, &circuit, cells)?;
-    Ok(circuit)
-}
-
-// The circuit that the layout's shapes make, under a library that is one; or the first thing that is wrong with the two.
-#[tactic(auto, using(crate::proofs::Judging::judges))]
-fn read_circuit(alloc: Global, gds: &[u8], lib: &[u8], _text: &[u8]) -> Result<Extracted, Fault>
-    requires { length lib.now ≤ 2 ^ 28 }
-    ensures ok { IfOk result (MakesCircuit gds.now lib.now) }
-    ensures well { OnOk result (IsFirst (circuit_stages gds.now lib.now) None) }
-    ensures bad { IfErr result (λ fault. Answers (judging_stages gds.now lib.now _text.now) (Some fault)) }
-    ensures only { IfErr result IsJudgingFault }
-{
-    let layout = read_layout(alloc, gds)?;
-    let cells = read_cells(alloc, lib)?;
-    circuit_of(alloc, gds, lib, &layout, &cells)
 }
 
 // The words of the text, for the circuit.
@@ -197,8 +106,8 @@ pub fn check<F: Files, O: Sink>(
     ensures name { F.opened files.new ≡ F.opened files.old }
 {
     let texts = load_texts(alloc, files, words)?;
-    let circuit = read_circuit(alloc, &texts.gds, &texts.lib, &texts.words)?;
+    let circuit = read_circuit(alloc, &texts.gds, &texts.lib)?;
     circuit.known();
-    let given = words_for(&texts.gds, &texts.lib, &texts.words, &circuit)?;
+    let given = words_for(&texts.gds, &texts.lib, &texts.third, &circuit)?;
     print(alloc, printing, &circuit, &given, out)
 }

@@ -12,8 +12,9 @@ use shape_extract::one_circuit;
 
 /// One answer is due to words over the files of a store: it can't be that none is, and of two each is the other, but for
 /// how many bytes of a file that is too long were seen. What a run may answer is the answer that is due, or want of
-/// memory, or a fault of the outside; and where nothing is due and no fault of the outside rose, the work is done, but
-/// for want of memory.
+/// memory, or a fault of the outside, or that a comparison has too many subfunctions; and where nothing is due and no
+/// fault of the outside rose, the work is done, but for want of memory, and but for a comparison of two circuits that
+/// have more than 1,000,000 subfunctions.
 pub fn one_answer_is_due()
     ensures some { (files : Contents) (words : List (List ℕ)) → ¬ ((answer : Option Fault) → ¬ Due files words answer) }
     ensures once { (files : Contents) (words : List (List ℕ)) (one other : Option Fault)
@@ -22,7 +23,7 @@ pub fn one_answer_is_due()
         → Due files words due → MayAnswer files words answer → IsDueOrYields due answer }
     ensures complete { (files : Contents) (words : List (List ℕ)) (before after : Counts) (answer : Option Fault)
         → Due files words None → MayAnswer files words answer → HasFaults before after answer → NoFaults before after
-        → IsDoneOrMemory answer }
+        → IsDoneOrMemory files words answer }
 {
     plan_laws();
     one_layout();

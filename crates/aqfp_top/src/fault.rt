@@ -33,6 +33,8 @@ pub enum Large {
     Elements,
     /// The shapes and labels of a layout's flat form, of which there are more than 8,000,000.
     Shapes,
+    /// The subfunctions of two circuits that are compared, of which there are more than 1,000,000.
+    Functions,
 }
 
 /// Why a command did not do its work. A `word` is a place among the words, counted from 0.
@@ -41,27 +43,61 @@ pub enum Fault {
     /// The words have none of the forms.
     Usage,
     /// No file has the name that stands at this place.
-    Absent { word: u32 },
+    Absent {
+        word: u32,
+    },
     /// The file is longer than its limit; so many bytes of it were seen.
-    TooLong { word: u32, taken: u64 },
+    TooLong {
+        word: u32,
+        taken: u64,
+    },
     /// The file could not be read.
-    ReadFault { word: u32 },
+    ReadFault {
+        word: u32,
+    },
     /// The store or `out` refused to write.
-    WriteFault { call: WriteCall },
+    WriteFault {
+        call: WriteCall,
+    },
     /// The netlist's text says no netlist.
-    BadBlif { fault: BlifFault },
+    BadBlif {
+        fault: BlifFault,
+    },
     /// The library's text says no library.
-    BadLibrary { fault: LibraryFault },
+    BadLibrary {
+        fault: LibraryFault,
+    },
     /// The library lacks a kind of cell that each library has.
-    MissingCell { kind: CellKind },
+    MissingCell {
+        kind: CellKind,
+    },
     /// There are more than the limit of the thing: so many.
-    TooLarge { what: Large, count: u64 },
+    TooLarge {
+        what: Large,
+        count: u64,
+    },
     /// The layout's bytes are no stream: the first fault, and its place among the bytes, counted from 0.
-    BadStream { offset: u64, kind: StreamKind },
+    BadStream {
+        offset: u64,
+        kind: StreamKind,
+    },
     /// The shapes break a rule: the first that is broken, and the numbers of shapes that it reports.
-    RuleBroken { rule: Rule, first: u32, second: u32 },
+    RuleBroken {
+        rule: Rule,
+        first: u32,
+        second: u32,
+    },
     /// The line of this number, counted from 1, is no word for the circuit.
-    BadWords { line: u64 },
+    BadWords {
+        line: u64,
+    },
+    /// The chip and the netlist have not as many inputs, or not as many outputs: so many each.
+    Widths {
+        chip_inputs: u32,
+        chip_outputs: u32,
+        net_inputs: u32,
+        net_outputs: u32,
+    },
     /// Want of memory.
     Memory,
 }
@@ -87,6 +123,7 @@ impl Fault {
             Fault::RuleBroken { .. } => 12,
             Fault::BadWords { .. } => 13,
             Fault::Memory => 14,
+            Fault::Widths { .. } => 17,
         }
     }
 }

@@ -6,11 +6,13 @@ mod check;
 mod counts;
 mod design;
 mod due;
+mod equal;
 mod fault;
 mod joined;
 mod judge;
 mod load;
 mod pieces;
+mod reading;
 mod report;
 mod run;
 mod sample;
@@ -26,6 +28,8 @@ pub use run::{Ending, aqfp_run};
 mod check_tests;
 #[cfg(test)]
 mod chip_tests;
+#[cfg(test)]
+mod equal_tests;
 #[cfg(test)]
 mod fixtures;
 #[cfg(test)]

@@ -63,6 +63,7 @@ fn large(what: &Large) -> &[u8]
         Large::Cells => b"cells",
         Large::Elements => b"elements",
         Large::Shapes => b"shapes",
+        Large::Functions => b"functions",
     }
 }
 
@@ -178,10 +179,15 @@ fn pieces_of<'a>(words: &'a [String], fault: &'a Fault) -> [Piece<'a>; 5]
     ensures { pieces_text result ≡ line_of (spelled words.now) fault.now }
 {
     match fault {
-        Fault::Usage => text(
-            fault,
-            b"aqfp: usage: build NET LIB OUT, verify GDS LIB WORDS, trace GDS LIB WORDS, sample N\n",
-        ),
+        Fault::Usage => [
+            Piece::Text(
+                b"aqfp: usage: build NET LIB OUT, verify GDS LIB WORDS, trace GDS LIB WORDS, ",
+            ),
+            Piece::Text(b"sample N, equal GDS LIB NET\n"),
+            Piece::Text(b""),
+            Piece::Text(b""),
+            Piece::Text(b""),
+        ],
         Fault::Absent { word } => named(words, *word, b": absent\n"),
         Fault::TooLong { word, .. } => named(words, *word, b": too long\n"),
         Fault::ReadFault { word } => named(words, *word, b": read failed\n"),
@@ -220,6 +226,18 @@ fn pieces_of<'a>(words: &'a [String], fault: &'a Fault) -> [Piece<'a>; 5]
             Piece::Text(b"\n"),
             Piece::Text(b""),
             Piece::Text(b""),
+        ],
+        Fault::Widths {
+            chip_inputs,
+            chip_outputs,
+            net_inputs,
+            net_outputs,
+        } => [
+            Piece::Text(b"aqfp: widths: "),
+            Piece::Pair(*chip_inputs, *chip_outputs),
+            Piece::Text(b" and "),
+            Piece::Pair(*net_inputs, *net_outputs),
+            Piece::Text(b"\n"),
         ],
         Fault::Memory => text(fault, b"aqfp: out of memory\n"),
     }

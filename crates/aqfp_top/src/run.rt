@@ -3,7 +3,7 @@ ghost use Rattle.std.specs.Prelude.{◌≡◌, ◌⊎◌, Some, None, IsSome, If
 ghost use Rattle.std.specs.Result.{result_err};
 ghost use Rattle.aq_base.specs.Causes.{Rose};
 ghost use Rattle.aq_base.specs.Store.{Contents};
-ghost use Rattle.aqfp_top.specs.Words.{spelled, word_at, IsBuild, IsVerify, IsTrace, HasForm};
+ghost use Rattle.aqfp_top.specs.Words.{spelled, word_at, IsBuild, IsVerify, IsTrace, IsEqual, HasForm};
 ghost use Rattle.aqfp_top.specs.Statuses.{status_of};
 ghost use Rattle.aqfp_top.specs.Lines.{Reports};
 ghost use Rattle.aqfp_top.specs.Due.{MayAnswer};
@@ -12,12 +12,14 @@ ghost use Rattle.aqfp_top.specs.Counted.{HasFaults, FailedLoad};
 ghost use Rattle.aqfp_top.specs.Build.{IsBuilt, IsDone};
 ghost use Rattle.aqfp_top.specs.Chips.{BuildsChip};
 ghost use Rattle.aqfp_top.specs.Verified.{VerifiesChip, TracesChip};
+ghost use Rattle.aqfp_top.specs.Compared.{ComparesChip};
 ghost use Rattle.aqfp_top.specs.Run.{RunStands, RunPrints};
 ghost use Rattle.aqfp_top.specs.Code.Staging.{ToldMayAnswer};
 ghost use Rattle.aqfp_top.specs.declared.fault.Fault.{Fault};
 
 use crate::build::build;
 use crate::check::{Printing, check};
+use crate::equal::equal;
 use crate::fault::Fault;
 use crate::report::say;
 use crate::sample::sample;
@@ -58,6 +60,7 @@ fn work<F: Files, O: Sink>(
         Form::Build => build(alloc, words, files, out),
         Form::Verify => check(alloc, Printing::Answers, words, files, out),
         Form::Trace => check(alloc, Printing::Fluxes, words, files, out),
+        Form::Equal => equal(alloc, words, files, out),
         Form::Sample { bits } => sample(alloc, bits, out),
         Form::Wrong => Err(Fault::Usage),
     }
@@ -97,6 +100,10 @@ pub fn aqfp_run<F: Files, O: Sink, E: Sink>(
         → VerifiesChip held (spelled words.now) (O.written out.old) (O.written out.new) }
     ensures traced { (held : Contents) → F.told files.old ≡ Some held → IsTrace (spelled words.now) → result.fault ≡ None
         → TracesChip held (spelled words.now) (O.written out.old) (O.written out.new) }
+
+    // What a comparison that ends well has shown: that chip and netlist answer every word alike, or where first not.
+    ensures compared { (held : Contents) → F.told files.old ≡ Some held → IsEqual (spelled words.now) → result.fault ≡ None
+        → ComparesChip held (spelled words.now) (O.written out.old) (O.written out.new) }
 
     // What is left.
     ensures stands { RunStands (F.told files.old) (F.told files.new) (spelled words.now) result.fault }

@@ -172,7 +172,7 @@ fn a_sample_is_printed(rt: HostRuntime) -> Result<(), Fail> {
 fn what_is_wrong_is_told(rt: HostRuntime) -> Result<(), Fail> {
     let alloc = rt.alloc();
     let usage =
-        "aqfp: usage: build NET LIB OUT, verify GDS LIB WORDS, trace GDS LIB WORDS, sample N\n";
+        "aqfp: usage: build NET LIB OUT, verify GDS LIB WORDS, trace GDS LIB WORDS, sample N, equal GDS LIB NET\n";
     let four = ".inputs a b c d\n.outputs a b c d\n";
     let cycle =
         ".model t\n.inputs a\n.outputs y\n.names q y\n1 1\n.names r q\n1 1\n.names y a r\n11 1\n.end\n";
@@ -183,6 +183,7 @@ fn what_is_wrong_is_told(rt: HostRuntime) -> Result<(), Fail> {
         ("sample 65", WIRE, 1, usage),
         ("sample 064", WIRE, 1, usage),
         ("build x", WIRE, 1, usage),
+        ("equal net lib", WIRE, 1, usage),
         ("build net lib out more", WIRE, 1, usage),
         ("build nothing lib out", WIRE, 2, "aqfp: nothing: absent\n"),
         ("build net nothing out", WIRE, 2, "aqfp: nothing: absent\n"),

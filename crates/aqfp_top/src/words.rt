@@ -13,6 +13,8 @@ pub enum Form {
     Verify,
     /// `trace GDS LIB WORDS`.
     Trace,
+    /// `equal GDS LIB NET`.
+    Equal,
     /// `sample N`, N being the number of bits.
     Sample { bits: u32 },
     /// None of the forms.
@@ -66,6 +68,9 @@ pub fn form_of(words: &[String]) -> Form
         }
         if is_word(words, 0, "trace") {
             return Form::Trace;
+        }
+        if is_word(words, 0, "equal") {
+            return Form::Equal;
         }
         return Form::Wrong;
     }

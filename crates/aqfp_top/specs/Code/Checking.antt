@@ -1,22 +1,43 @@
 -- The stages of a check in steps.
-use Rattle.std.specs.Prelude.{ℕ, List, [], ◌∷◌}
+use Rattle.std.specs.Prelude.{ℕ, List, [], ◌∷◌, ◌++◌}
+use Rattle.aq_base.specs.Store.{Contents}
 use Rattle.geom.specs.declared.shapes.Flat.{Flat}
 use Rattle.layout_rules.specs.Limits.{Limits}
 use Rattle.layout_rules.specs.Rules.{FirstBroken}
+use Rattle.aqfp_top.specs.Loads.{check_loads}
+use Rattle.aqfp_top.specs.Due.{loading}
 use Rattle.aqfp_top.specs.Stages.{Stage, Stream, Size, Cells, Rules}
 use Rattle.aqfp_top.specs.declared.fault.Large.TheVariants.{Shapes}
 use Rattle.aqfp_top.specs.declared.fault.Fault.{Fault}
 use Rattle.aqfp_top.specs.declared.fault.Fault.TheVariants.{BadLibrary, MissingCell, TooLarge, BadStream, RuleBroken, BadWords, Memory}
 
--- all that comes before the words are judged
+-- loading GDS, LIB and a third file, and what follows
+abbrev pub chip_stages : (Contents → List (List ℕ) → List Stage) → Contents → List (List ℕ) → List Stage
+chip_stages rest files words = loading files words check_loads ++ rest files words
+
+-- judging the texts of a chip and of a library, and what follows
+abbrev pub circuit_then : List ℕ → List ℕ → List Stage → List Stage
+circuit_then gds lib rest = Stream gds ∷ Size gds ∷ Cells lib ∷ Rules gds lib ∷ rest
+
+-- all that comes before words or a netlist are judged
 abbrev pub circuit_stages : List ℕ → List ℕ → List Stage
-circuit_stages gds lib = Stream gds ∷ Size gds ∷ Cells lib ∷ Rules gds lib ∷ []
+circuit_stages gds lib = circuit_then gds lib []
 
 -- the faults of the rules with these numbers
 abbrev pub IsBroken : Flat → Limits → Fault → Type 0
 IsBroken flat limits (RuleBroken rule first second) = FirstBroken flat limits rule first second
 IsBroken flat limits Memory = Unit {0}
 IsBroken flat limits _ = ⊥
+
+-- the faults of judging a layout and a library
+abbrev pub IsCircuitFault : Fault → Type 0
+IsCircuitFault (BadStream offset kind) = Unit {0}
+IsCircuitFault (TooLarge Shapes count) = Unit {0}
+IsCircuitFault (BadLibrary fault) = Unit {0}
+IsCircuitFault (MissingCell kind) = Unit {0}
+IsCircuitFault (RuleBroken rule first second) = Unit {0}
+IsCircuitFault Memory = Unit {0}
+IsCircuitFault _ = ⊥
 
 -- the faults of judging a layout, a library and words
 abbrev pub IsJudgingFault : Fault → Type 0

@@ -11,7 +11,7 @@ use Rattle.chip_plan.specs.Plans.{chip_of}
 use Rattle.aqfp_top.specs.Designs.{SaysDesign, KeepsLimits, IsPlanFault, stream_of}
 use Rattle.aqfp_top.specs.declared.counts.ChipCounts.{ChipCounts}
 use Rattle.aqfp_top.specs.declared.design.Chip.{Chip}
-use Rattle.aqfp_top.specs.declared.fault.Large.TheVariants.{Shapes}
+use Rattle.aqfp_top.specs.declared.fault.Large.TheVariants.{Shapes, Functions}
 use Rattle.aqfp_top.specs.declared.fault.Fault.{Fault}
 use Rattle.aqfp_top.specs.declared.fault.Fault.TheVariants.{BadBlif, BadLibrary, MissingCell, TooLarge, Memory}
 
@@ -47,6 +47,7 @@ IsDesignFault (BadBlif fault) = Unit {0}
 IsDesignFault (BadLibrary fault) = Unit {0}
 IsDesignFault (MissingCell kind) = Unit {0}
 IsDesignFault (TooLarge Shapes count) = ⊥
+IsDesignFault (TooLarge Functions count) = ⊥
 IsDesignFault (TooLarge what count) = Unit {0}
 IsDesignFault Memory = Unit {0}
 IsDesignFault _ = ⊥

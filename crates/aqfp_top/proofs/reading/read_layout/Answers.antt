@@ -1,6 +1,6 @@
 use Rattle.aqfp_top.proofs.Judging.{too_large, size_answers}
 use Rattle.aqfp_top.proofs.OneCheck.{stream_none, size_none}
-use Rattle.aqfp_top.proofs.check.read_layout.Goals as goal
+use Rattle.aqfp_top.proofs.reading.read_layout.Goals as goal
 
 pub returns-in-Ok-clause-stream : goal.returns-in-Ok-clause-stream
 returns-in-Ok-clause-stream c = stream_none c.one_of_both.ensures.one c.args.gds.now _ c.in-Ok.ensures.ok.stream

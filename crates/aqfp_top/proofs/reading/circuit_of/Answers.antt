@@ -2,7 +2,7 @@ use Rattle.std.proofs.lemmas.Result.{err_from_is_err_and}
 use Rattle.cell_library.specs.Library.{limits_of}
 use Rattle.aqfp_top.proofs.Judging.{rule_is_wrong, circuit_is_made}
 use Rattle.aqfp_top.proofs.OneCheck.{rules_none}
-use Rattle.aqfp_top.proofs.check.circuit_of.Goals as goal
+use Rattle.aqfp_top.proofs.reading.circuit_of.Goals as goal
 
 pub returns-in_err-circuit-clause-bad : goal.returns-in_err-circuit-clause-bad
 returns-in_err-circuit-clause-bad c =

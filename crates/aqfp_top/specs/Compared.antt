@@ -1,0 +1,56 @@
+-- What an `equal` that ends well has shown of the chip under GDS and of the netlist under NET.
+use Rattle.std.specs.Prelude.{◌≡◌, ℕ, Bool, All, List, length, Option, Some}
+use Rattle.std.specs.List.{AllZip}
+use Rattle.aq_base.specs.Store.{Contents, gained}
+use Rattle.geom.specs.declared.layout.Layout.{Layout}
+use Rattle.geom.specs.FlatForm.{flat_of}
+use Rattle.gds_records.specs.Stream.{IsStream}
+use Rattle.cell_library.specs.Library.{LibraryView, limits_of}
+use Rattle.cell_library.specs.Says as library
+use Rattle.layout_rules.specs.Rules.{KeepsRules}
+use Rattle.blif_read.specs.Parts.{NetView}
+use Rattle.blif_read.specs.Netlist.{IsNetlist}
+use Rattle.blif_read.specs.Says as netlist
+use Rattle.blif_read.specs.Equations.{IsAnswer}
+use Rattle.chip_circuit.specs.Circuits.{CircuitView, KeepsFacts}
+use Rattle.shape_extract.specs.Extraction.{IsCircuitOf}
+use Rattle.decide.specs.declared.verdict.Verdict.{Verdict}
+use Rattle.decide.specs.declared.verdict.Verdict.TheVariants.{Equal}
+use Rattle.pulse_sim.specs.Shows.{Shows}
+use Rattle.chip_texts.specs.Counts.{delay_of}
+use Rattle.aqfp_top.specs.Words.{word_at}
+use Rattle.aqfp_top.specs.Comparing.{IsTrueOf, verdict_text}
+
+-- in every run, whatever the order of switching, the circuit shows the answers of the equations to these words
+pub record ShowsNet (circuit : CircuitView) (equations : NetView) (given : List (List Bool)) : Type 0 where
+  pub answers : List (List Bool)
+  pub are_answers : AllZip (IsAnswer equations) given answers
+  pub shows : Shows circuit (delay_of circuit) given answers
+
+-- The bytes under GDS are a stream, those under LIB say a library, the layout's shapes keep all rules with its
+-- numbers and make this circuit, and the text under NET says these equations. What was printed is true of the two: they
+-- answer every word alike, and so the chip shows the netlist's answers in every run; or this is the least output, and
+-- its least word, at which they differ.
+pub record ComparesChip (held : Contents) (words : List (List ℕ)) (before after : Option (List ℕ)) : Type 0 where
+  pub gds : List ℕ
+  pub lib : List ℕ
+  pub net : List ℕ
+  pub gds_held : held (word_at words 1) ≡ Some gds
+  pub lib_held : held (word_at words 2) ≡ Some lib
+  pub net_held : held (word_at words 3) ≡ Some net
+  pub layout : Layout
+  pub stream : IsStream gds layout
+  pub cells : LibraryView
+  pub lib_says : library.Says lib cells
+  pub rules : KeepsRules (flat_of layout) (limits_of cells)
+  pub circuit : CircuitView
+  pub extracted : IsCircuitOf (flat_of layout) circuit
+  pub circuit_keeps : KeepsFacts circuit
+  pub equations : NetView
+  pub net_says : netlist.Says net equations
+  pub net_keeps : IsNetlist equations
+  pub verdict : Verdict
+  pub holds : IsTrueOf circuit equations verdict
+  pub shown : verdict ≡ Equal → (given : List (List Bool)) → All (λ word. length word ≡ circuit.inputs) given
+      → ShowsNet circuit equations given
+  pub printed : after ≡ gained before (verdict_text verdict)
