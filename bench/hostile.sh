@@ -1,0 +1,219 @@
+#!/bin/sh
+# What inputs cost that are made to be slow, beside ordinary ones of the same size; where references multiply, beside an
+# ordinary chip of as many shapes and labels.
+#
+# Netlists of 16 MB are read, and then the library, which is empty, is refused: an ordinary one, which adds two numbers;
+# lines of three bytes; a chain of definitions, each of the one that comes next; and a cycle through all of one.
+# Streams are checked, beside the adder of 164 bits: the chip of a wire with a structure of 3,999 squares that is
+# referenced 2,000 times far away from it, the same with all squares on one another, and labels that all stand on one
+# pin; and a text of 32,000 bytes that is referenced 20,000 times, beside one of two bytes. Libraries of 90,000 keys
+# stand beside those of 45,000, and chosen names beside counted ones (bench/names.sh).
+#
+# Prints for each the seconds of processor time and the megabytes of memory at most, the same of the ordinary input, the
+# two ratios, and whether they are within three times, five for labels on one pin, 2.5 for twice the keys. The status
+# is 1 where one is above. Needs GNU time, cc and python3; SECONDS_EACH, by default 300, is when a run is cut off.
+set -u
+here=$(cd -P "$(dirname "$0")/.." && pwd)
+program=${AQFP:-$here/crates/aqfp_cli/out/aqfp_cli}
+seconds=${SECONDS_EACH:-300}
+work=$(mktemp -d)
+trap 'rm -rf "$work"' EXIT
+for tool in /usr/bin/time cc python3; do
+    command -v "$tool" >/dev/null || { echo "hostile: $tool is not there" >&2; exit 70; }
+done
+[ -n "${AQFP:-}" ] || "$here/aqfp" --help >/dev/null
+: >"$work/none"
+printf '0\n1\n' >"$work/words"
+"$program" build "$here/examples/wire.blif" "$here/libraries/a.toml" "$work/wire.gds" >/dev/null || exit 1
+failed=0
+
+cat >"$work/make.py" <<'END'
+import struct, sys
+kind, size, target = sys.argv[1], int(sys.argv[2]), sys.argv[3]
+FAR = 500_000_000
+
+
+def adder(bits):
+    """The sum of two numbers."""
+    def gate(a, b, y, *rows): return [f".names {a} {b} {y}", *rows]
+    xor, both, either = ("10 1", "01 1"), ("11 1",), ("1- 1", "-1 1")
+    yield ".inputs " + " ".join(f"a{i} b{i}" for i in range(bits))
+    yield ".outputs " + " ".join(f"s{i}" for i in range(bits + 1))
+    yield from gate("a0", "b0", "s0", *xor) + gate("a0", "b0", "c1", *both)
+    for i in range(1, bits):
+        yield from gate(f"a{i}", f"b{i}", f"p{i}", *xor) + gate(f"p{i}", f"c{i}", f"s{i}", *xor)
+        yield from gate(f"a{i}", f"b{i}", f"g{i}", *both) + gate(f"p{i}", f"c{i}", f"h{i}", *both)
+        yield from gate(f"g{i}", f"h{i}", f"c{i + 1}", *either)
+    yield from (f".names c{bits} s{bits}", "1 1")
+
+
+def chain(links, last):
+    """Definitions of seven digits, each of the next; the last is of a signal that is named."""
+    yield ".inputs a\n.outputs 1000000"
+    for i in range(1_000_000, 1_000_000 + links):
+        yield f".names {i + 1} {i}\n1 1"
+    yield f".names {last} {1_000_000 + links}\n1 1"
+
+
+def ring(links):
+    """The shortest definitions that make one cycle."""
+    digits = "0123456789abcdefghijklmnopqrstuvwxyzABCDEFGHIJKLMNOPQRSTUVWXYZ"
+    def name(i): return digits[i // 238328] + digits[i // 3844 % 62] + digits[i // 62 % 62] + digits[i % 62]
+    yield ".outputs 0000"
+    for i in range(links):
+        yield f".names {name((i + 1) % links)} {name(i)}"
+
+
+def record(code, data=b""): return struct.pack(">HH", 4 + len(data), code) + data
+def words(*numbers): return struct.pack(f">{len(numbers)}H", *numbers)
+def points(*numbers): return struct.pack(f">{len(numbers)}i", *numbers)
+def structure(name, body):
+    dates = words(*[1970, 1, 1, 0, 0, 0] * 2)
+    return record(0x0502, dates) + record(0x0606, name) + body + record(0x0700)
+def square(x, y):
+    head = record(0x0800) + record(0x0D02, words(10)) + record(0x0E02, words(0))
+    return head + record(0x1003, points(x, y, x + 1000, y, x + 1000, y + 1000, x, y + 1000, x, y)) + record(0x1100)
+def label(layer, text, x, y):
+    head = record(0x0C00) + record(0x0D02, words(layer)) + record(0x1602, words(0))
+    return head + record(0x1003, points(x, y)) + record(0x1906, text) + record(0x1100)
+def reference(name, x, y):
+    return record(0x0A00) + record(0x1206, name) + record(0x1003, points(x, y)) + record(0x1100)
+
+
+def with_more(structures, elements):
+    """The chip of a wire with structures before its top, and elements at the end of the top."""
+    read, at, data = [], 0, open(sys.argv[4], "rb").read()
+    while at < len(data):
+        length = struct.unpack(">H", data[at:at + 2])[0]
+        read.append(data[at:at + length])
+        at += length
+    top = [n for n, it in enumerate(read) if it[2:4] == b"\x05\x02"][-1]
+    end = [n for n, it in enumerate(read) if it[2:4] == b"\x07\x00"][-1]
+    return b"".join(read[:top]) + structures + b"".join(read[top:end]) + elements + b"".join(read[end:])
+
+
+def spread(count):
+    """So many references, each at a place of its own."""
+    return b"".join(reference(b"HP", FAR + k % 45 * 1_000_000, k // 45 * 1_000_000) for k in range(count))
+
+
+def netlist(lines):
+    with open(target, "w") as out:
+        for line in lines:
+            out.write(line + "\n")
+
+
+if kind == "adder": netlist(adder(size))
+elif kind == "adder_words":
+    netlist("".join("01"[(k + 1) * (i + 3) % 11 < 5] for i in range(2 * size)) for k in range(8))
+elif kind == "short": netlist([".outputs y", ".names y", *[" 1"] * size])
+elif kind == "chain": netlist(chain(size, "a"))
+elif kind == "ring": netlist(ring(size))
+elif kind == "keys": netlist(f"k{i} = 1" for i in range(size))
+elif kind == "name_keys": netlist(["[name]", *(f"k{i} = 1" for i in range(size))])
+else:
+    side = 64
+    if kind == "squares": body = b"".join(square(k % side * 2000, k // side * 2000) for k in range(3_999))
+    elif kind == "heap": body = b"".join(square(0, 0) for k in range(3_999))
+    elif kind == "text": body = label(50, b"t" * 32_000, 0, 0)
+    elif kind == "letter": body = label(50, b"t" * 2, 0, 0)
+    if kind == "labels": made = with_more(b"", b"".join(label(30, b"I0", 3000, 500) for k in range(size)))
+    else: made = with_more(structure(b"HP", body), spread(size))
+    open(target, "wb").write(made)
+END
+
+make() { python3 "$work/make.py" "$1" "$2" "$3" "$work/wire.gds"; }
+
+# The seconds of processor time, the megabytes and the first words that a command prints.
+measure() {
+    /usr/bin/time -q -f '%U %S %M' -o "$work/time" timeout "$seconds" "$@" >"$work/printed" 2>"$work/err"
+    awk 'END { printf "%.3f %.1f ", $1 + $2, $3 / 1e3 }' "$work/time"
+    cat "$work/printed" "$work/err" | head -n 1 | cut -c 1-60
+}
+
+# Compares a hostile input with an ordinary one: both as measured, how often the one is in the other, and the mark.
+compare() {
+    awk -v name="$1" -v hostile="$2" -v plain="$3" -v times="$4" -v most="$5" 'BEGIN {
+        split(hostile, h, " "); split(plain, p, " ")
+        said = hostile; sub(/^[^ ]* [^ ]* /, "", said)
+        p[1] *= times; p[2] *= times
+        time = h[1] / (p[1] > 0.005 ? p[1] : 0.005); memory = h[2] / p[2]
+        within = time <= most && memory <= most
+        printf "%s: %.2f s, %.1f MB (%s); ordinary %.2f s, %.1f MB; ratios %.1f and %.1f, %s %s\n", name, h[1], h[2],
+            said == "" ? "no answer" : said, p[1], p[2], time, memory, within ? "within" : "ABOVE", most
+        exit !within }' || failed=1
+}
+
+# Netlists of 16 MB.
+read_netlist() { measure "$program" build "$1" "$work/none" "$work/out.gds"; }
+make adder 83000 "$work/plain"
+plain=$(read_netlist "$work/plain")
+echo "an ordinary netlist of $(wc -c <"$work/plain") bytes: $plain"
+while read -r kind size; do
+    make "$kind" "$size" "$work/net"
+    bytes=$(wc -c <"$work/net")
+    times=$(awk -v a="$bytes" -v b="$(wc -c <"$work/plain")" 'BEGIN { print a / b }')
+    compare "netlist $kind, $bytes bytes" "$(read_netlist "$work/net")" "$plain" "$times" 3
+done <<CASES
+short 5592395
+chain 620000
+ring 980000
+CASES
+rm -f "$work/net" "$work/plain"
+
+# Streams.
+make adder 164 "$work/adder.blif"
+make adder_words 164 "$work/adder.words"
+"$program" build "$work/adder.blif" "$here/libraries/a.toml" "$work/adder.gds" >"$work/counts" || exit 1
+shapes=$(python3 - "$work/adder.gds" <<'END'
+import struct, sys
+data, at, sizes, name, labels = open(sys.argv[1], "rb").read(), 0, {}, b"", 0
+while at < len(data):
+    length, code = struct.unpack(">HH", data[at:at + 4])
+    text = data[at + 4:at + length].rstrip(b"\0")
+    if code == 0x0606: name = text; sizes[name] = 0
+    elif code == 0x0800: sizes[name] += 1
+    elif code == 0x1206: sizes[name] += sizes[text]
+    elif code == 0x0C00: labels += 1
+    at += length
+print(sizes[name] + labels)
+END
+)
+check() { measure "$program" verify "$1" "$here/libraries/a.toml" "$2"; }
+plain=$(check "$work/adder.gds" "$work/adder.words")
+echo "an ordinary chip of $shapes shapes and labels, $(wc -c <"$work/adder.gds") bytes: $plain"
+while read -r kind size count most; do
+    make "$kind" "$size" "$work/hostile.gds"
+    times=$(awk -v a="$count" -v b="$shapes" 'BEGIN { print a / b }')
+    compare "stream $kind, $count shapes and labels, $(wc -c <"$work/hostile.gds") bytes" \
+        "$(check "$work/hostile.gds" "$work/words")" "$plain" "$times" "$most"
+done <<CASES
+squares 2000 7998017 3
+heap 2000 7998017 3
+labels 200000 200017 5
+CASES
+make letter 20000 "$work/letter.gds"
+make text 20000 "$work/hostile.gds"
+compare "stream text, 20000 labels, $(wc -c <"$work/hostile.gds") bytes" \
+    "$(check "$work/hostile.gds" "$work/words")" "$(check "$work/letter.gds" "$work/words")" 1 3
+rm -f "$work/hostile.gds" "$work/adder.gds"
+
+# Libraries, each read twenty times, since once is too short for the clock.
+read_library() {
+    measure sh -c 'for i in 1 2 3 4 5 6 7 8 9 10 11 12 13 14 15 16 17 18 19 20; do "$@"; done' read \
+        "$program" build "$here/examples/wire.blif" "$1" "$work/out.gds"
+}
+for kind in keys name_keys; do
+    make $kind 45000 "$work/half.toml"
+    make $kind 90000 "$work/whole.toml"
+    half=$(read_library "$work/half.toml")
+    compare "library $kind, 90000, twenty times" "$(read_library "$work/whole.toml")" "$half" 1 2.5
+done
+
+# Names.
+AQFP=$program "$here/bench/names.sh" >"$work/names" || failed=1
+awk '
+    { said = $0; sub(/.*ratio /, "", said); within = said + 0 <= 3; print $0 ": " (within ? "within" : "ABOVE") " 3" }
+    !within { above = 1 }
+    END { exit above }' "$work/names" || failed=1
+exit $failed
