@@ -4,7 +4,7 @@ use Rattle.std.proofs.lemmas.Bool.Decides.{nat_tests}
 use Rattle.gds_records.specs.Records.{Record}
 use Rattle.gds_records.specs.Faults.{here_record, kind_of, length_of}
 use Rattle.gds_records.specs.Drawing.{field, has}
-use Rattle.gds_read.specs.Decoding.{IsSpelled, records_in}
+use Rattle.gds_read.specs.Code.Decoding.{IsSpelled, records_in}
 use Rattle.gds_read.proofs.Decoded.{goes, records_none}
 
 pub no_bytes : (bytes : List ℕ) → length bytes ≡ 0 → bytes ≡ []

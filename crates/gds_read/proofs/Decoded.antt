@@ -7,7 +7,7 @@ use Rattle.std.proofs.Math.Seq.{take-append_seam, drop-append_seam}
 use Rattle.std.proofs.lemmas.Nat.{from_be_bytes-to_be_bytes_2}
 use Rattle.gds_records.specs.Records.{Record, record_with, spelled}
 use Rattle.gds_records.specs.Faults.{length_of, here_record}
-use Rattle.gds_read.specs.Decoding.{IsShort, IsSpelled, decode, records_in, Goes}
+use Rattle.gds_read.specs.Code.Decoding.{IsShort, IsSpelled, decode, records_in, Goes}
 
 abbrev plus4 : ℕ → ℕ
 plus4 m = suc (suc (suc (suc m)))

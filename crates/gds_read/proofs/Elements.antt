@@ -10,8 +10,8 @@ use Rattle.gds_records.specs.Values.{is_rectangle}
 use Rattle.gds_records.specs.Drawing.{field, has, coordinate, box_of, place_of, element_of}
 use Rattle.gds_records.specs.Steps.{is_listed}
 use Rattle.gds_read.specs.declared.outline.NamedOutline.{NamedOutline}
-use Rattle.gds_read.specs.Numbering.{number_in, IsNumbering}
-use Rattle.gds_read.specs.Outlining.{outline_of, names_in}
+use Rattle.gds_read.specs.Code.Numbering.{number_in, IsNumbering}
+use Rattle.gds_read.specs.Code.Outlining.{outline_of, names_in}
 
 abbrev turn : Bool → Bool → Element → Element → Element → Element
 turn b s x y z = elim b as (λ (t : Bool). Element) [ true ↦ x | false ↦ elim s as (λ (t : Bool). Element) [ true ↦ y | false ↦ z ] ]

@@ -1,25 +1,34 @@
 -- What the steps of a reader tell of the scan of records.
-use Rattle.std.proofs.Common.{◌≡◌, ℕ, suc, ◌+◌, ◌<◌, ◌≤◌, List, [], ◌∷◌, ◌++◌, map, take, drop, length, Bool, true, false, eqb, Option, Some, None, refl, sym, ap, subst, ◌∙◌, arith}
+use Rattle.std.proofs.Common.{◌≡◌, ℕ, suc, ◌+◌, ◌<◌, ◌≤◌, List, [], ◌∷◌, ◌++◌, map, take, drop, length, Bool, true, false, eqb, Option, Some, None, refl, sym, ap, subst, ◌∙◌, arith, inl, inr}
 use Rattle.std.specs.List.{flat_map, AllByRecursion}
 use Rattle.std.proofs.lemmas.List.{take_at, length-map}
 use Rattle.geom.specs.declared.layout.Layout.{Layout}
 use Rattle.geom.specs.declared.layout.Structure.{Structure}
 use Rattle.gds_records.specs.declared.fault.StreamKind.{StreamKind}
 use Rattle.gds_records.specs.declared.fault.StreamKind.TheVariants.{Value}
-use Rattle.gds_records.specs.Grammar.{stream}
+use Rattle.gds_records.specs.Profiles.{Profile as Streams, IsProfile, strict}
 use Rattle.gds_records.specs.Records.{Record, spelled}
 use Rattle.gds_records.specs.Drawing.{starts, name_of, names_of, structure_of, structures_of}
 use Rattle.gds_records.specs.Whole.{Use, Outline, is_used, all_uses, outlines, tops, top_in, top_fault, top_of, last_place, whole_fault}
-use Rattle.gds_records.specs.Stream.{AreGood, are_zero, layout_of, IsRead, IsStream}
-use Rattle.gds_records.specs.Faults.{StreamFault, at_end, zeros_before}
-use Rattle.gds_records.specs.Scan.{Scanned, Faulty, Whole, Unfinished, scan, fault_in, first_fault}
-use Rattle.gds_records.specs.Steps.{Stopped, Ended, steps, told}
+use Rattle.gds_records.specs.Stream.{layout_of, IsStream}
+use Rattle.gds_records.specs.Profiled.{AreGoodIn, are_zero, IsReadIn, IsFirstFaultIn, at_end, zeros_before}
+use Rattle.gds_records.specs.Profiled.{Scanned, Faulty, Whole, Unfinished, scan_in, found_in, first_fault_in}
+use Rattle.gds_records.specs.Steps.{Stopped, Ended, all_steps, told}
 use Rattle.gds_read.specs.declared.outline.NamedOutline.{NamedOutline}
-use Rattle.gds_read.specs.Outlining.{outline_of, names_in}
-use Rattle.gds_read.specs.Decoding.{IsShort, IsSpelled, records_in}
-use Rattle.gds_read.specs.Bodies.{IsBody}
-use Rattle.gds_read.specs.Steps.{all_steps}
+use Rattle.gds_read.specs.declared.profile.Profile.{Profile}
+use Rattle.gds_read.specs.declared.profile.Profile.TheVariants.{Strict, Wide}
+use Rattle.gds_read.specs.declared.refusal.StreamRefusal.{StreamRefusal}
+use Rattle.gds_read.specs.declared.refusal.StreamRefusal.TheVariants.{Bad, TooManyShapes, Memory}
+use Rattle.gds_read.specs.Reading.{IsRefusedFor}
+use Rattle.gds_read.specs.Code.Profiles.{profile_of}
+use Rattle.gds_read.specs.Code.Outlining.{outline_of, names_in}
+use Rattle.gds_read.specs.Code.Decoding.{IsShort, IsSpelled, records_in}
+use Rattle.gds_read.specs.Code.Bodies.{IsBody, IsFirstRefusal}
 use Rattle.gds_read.proofs.Decoded.{records_are}
+
+pub one_of_two : (x : Profile) → IsProfile (profile_of x)
+one_of_two Strict = inl refl
+one_of_two Wide = inr refl
 
 faulty_of : (s : Scanned) (o : ℕ) (k : StreamKind) → told s ≡ Stopped o k → s ≡ Faulty o k
 faulty_of (Faulty p j) o k e = cc
@@ -36,31 +45,35 @@ whole_of (Faulty p j) o rest e = absurd cc
 whole_of (Whole rs more) o rest e = let q : more ≡ rest = cc in record { records = rs; whole = ap (λ (x : List ℕ). Whole rs x) q; place = cc }
 whole_of Unfinished o rest e = absurd cc
 
-module _ (bytes : List ℕ) (law : steps (suc (length bytes)) stream 0 [] 0 bytes ≡ told (scan (suc (length bytes)) [] bytes)) where
-  pub stopped_at : (o : ℕ) (k : StreamKind) → all_steps bytes ≡ Stopped o k → first_fault bytes ≡ Some (o, k)
-  unfolding all_steps
-  stopped_at o k e = ap (λ (s : Scanned). fault_in s) (faulty_of (scan (suc (length bytes)) [] bytes) o k (sym law ∙ e))
+module _ (p : Streams) (bytes : List ℕ) (law : all_steps p bytes ≡ told (scan_in p (suc (length bytes)) [] bytes)) where
+  pub stopped_at : (o : ℕ) (k : StreamKind) → all_steps p bytes ≡ Stopped o k → first_fault_in p bytes ≡ Some (o, k)
+  stopped_at o k e =
+      ap (λ (s : Scanned). found_in p s) (faulty_of (scan_in p (suc (length bytes)) [] bytes) o k (sym law ∙ e))
 
-  ended_at : (o : ℕ) (rest : List ℕ) → all_steps bytes ≡ Ended o rest → IsWhole (scan (suc (length bytes)) [] bytes) o rest
-  unfolding all_steps
-  ended_at o rest e = whole_of (scan (suc (length bytes)) [] bytes) o rest (sym law ∙ e)
+  ended_at : (o : ℕ) (rest : List ℕ) → all_steps p bytes ≡ Ended o rest
+      → IsWhole (scan_in p (suc (length bytes)) [] bytes) o rest
+  ended_at o rest e = whole_of (scan_in p (suc (length bytes)) [] bytes) o rest (sym law ∙ e)
 
-  nonzero_end : (t : Bool) (f : Option (ℕ × StreamKind)) (p : ℕ × StreamKind) → t ≡ false → (elim t as (λ (x : Bool). Option (ℕ × StreamKind)) [ false ↦ Some p | true ↦ f ]) ≡ Some p
-  nonzero_end true f p e = absurd cc
-  nonzero_end false f p e = refl
+  nonzero_end : (t : Bool) (f : Option (ℕ × StreamKind)) (q : ℕ × StreamKind) → t ≡ false
+      → (elim t as (λ (x : Bool). Option (ℕ × StreamKind)) [ false ↦ Some q | true ↦ f ]) ≡ Some q
+  nonzero_end true f q e = absurd cc
+  nonzero_end false f q e = refl
 
-  pub other_at : (o : ℕ) (rest : List ℕ) (place : ℕ) → all_steps bytes ≡ Ended o rest → are_zero rest ≡ false → place ≡ zeros_before rest → first_fault bytes ≡ Some (o + place, Value)
-  other_at o rest place e z p =
+  pub other_at : (o : ℕ) (rest : List ℕ) (place : ℕ) → all_steps p bytes ≡ Ended o rest → are_zero rest ≡ false
+      → place ≡ zeros_before rest → first_fault_in p bytes ≡ Some (o + place, Value)
+  other_at o rest place e z q =
       let w = ended_at o rest e in
-      ap (λ (s : Scanned). fault_in s) w.whole ∙ nonzero_end (are_zero rest) (whole_fault w.records) (length (flat_map spelled w.records) + zeros_before rest, Value) z
-      ∙ ap (λ (x : ℕ). Some (x + zeros_before rest, Value)) (sym w.place) ∙ ap (λ (x : ℕ). Some (o + x, Value)) (sym p)
+      let found : ℕ × StreamKind = (length (flat_map spelled w.records) + zeros_before rest, Value) in
+      ap (λ (s : Scanned). found_in p s) w.whole ∙ nonzero_end (are_zero rest) (p.whole_fault w.records) found z
+      ∙ ap (λ (x : ℕ). Some (x + zeros_before rest, Value)) (sym w.place) ∙ ap (λ (x : ℕ). Some (o + x, Value)) (sym q)
 
-  good_short : (before rs : List Record) → AreGood before rs → AllByRecursion IsShort rs
+  good_short : (before rs : List Record) → AreGoodIn p before rs → AllByRecursion IsShort rs
   good_short before [] g = tt
   good_short before (r ∷ rs) g = (g.0.short, good_short (before ++ r ∷ []) rs g.1)
 
-  pub body_of : (o : ℕ) → o ≤ length bytes → all_steps bytes ≡ Ended o (drop o bytes) → are_zero (drop o bytes) ≡ true
-      → ((rs : List Record) (rest : List ℕ) → scan (suc (length bytes)) [] bytes ≡ Whole rs rest → IsRead bytes rs rest) → IsBody bytes o
+  pub body_of : (o : ℕ) → o ≤ length bytes → all_steps p bytes ≡ Ended o (drop o bytes) → are_zero (drop o bytes) ≡ true
+      → ((rs : List Record) (rest : List ℕ) → scan_in p (suc (length bytes)) [] bytes ≡ Whole rs rest → IsReadIn p bytes rs rest)
+      → IsBody p bytes o
   body_of o h e z read =
       let w = ended_at o (drop o bytes) e in
       let r = read w.records (drop o bytes) w.whole in
@@ -69,26 +82,34 @@ module _ (bytes : List ℕ) (law : steps (suc (length bytes)) stream 0 [] 0 byte
       record {
         within = h;
         whole = s;
-        read = subst (λ (x : List Record). IsRead bytes x (drop o bytes)) (sym (records_are (take o bytes) s)) r;
+        read = subst (λ (x : List Record). IsReadIn p bytes x (drop o bytes)) (sym (records_are (take o bytes) s)) r;
         zeros = z;
       }
 
 -- ---- the whole stream
 
+pub refused_first : (bytes : List ℕ) (refusal : StreamRefusal) → IsFirstRefusal strict bytes refusal → IsRefusedFor bytes refusal
+refused_first bytes (Bad offset kind) f = f
+refused_first bytes (TooManyShapes count) f = absurd f
+refused_first bytes Memory f = tt
+
 fault_at_end : (t : Bool) (f : Option (ℕ × StreamKind)) (p q : ℕ × StreamKind) → t ≡ true → f ≡ Some q → (elim t as (λ (x : Bool). Option (ℕ × StreamKind)) [ false ↦ Some p | true ↦ f ]) ≡ Some q
 fault_at_end true f p q e g = g
 fault_at_end false f p q e g = absurd cc
 
-pub faulty_whole : (bytes : List ℕ) (end offset : ℕ) (kind : StreamKind) → IsBody bytes end → whole_fault (records_in (take end bytes)) ≡ Some (offset, kind) → StreamFault bytes offset kind
-faulty_whole bytes end offset kind b e =
+pub faulty_whole : (p : Streams) (bytes : List ℕ) (end offset : ℕ) (kind : StreamKind) → IsBody p bytes end
+    → p.whole_fault (records_in (take end bytes)) ≡ Some (offset, kind) → IsFirstFaultIn p bytes offset kind
+faulty_whole p bytes end offset kind b e =
+    let rs = records_in (take end bytes) in
     at_end (record {
-      records = records_in (take end bytes);
+      records = rs;
       rest = drop end bytes;
       read = b.read;
-      fault = fault_at_end (are_zero (drop end bytes)) (whole_fault (records_in (take end bytes))) (length (flat_map spelled (records_in (take end bytes))) + zeros_before (drop end bytes), Value) (offset, kind) b.zeros e;
+      fault = fault_at_end (are_zero (drop end bytes)) (p.whole_fault rs)
+          (length (flat_map spelled rs) + zeros_before (drop end bytes), Value) (offset, kind) b.zeros e;
     })
 
-pub a_stream : (bytes : List ℕ) (end : ℕ) (layout : Layout) → IsBody bytes end → layout ≡ layout_of (records_in (take end bytes)) → whole_fault (records_in (take end bytes)) ≡ None → IsStream bytes layout
+pub a_stream : (bytes : List ℕ) (end : ℕ) (layout : Layout) → IsBody strict bytes end → layout ≡ layout_of (records_in (take end bytes)) → whole_fault (records_in (take end bytes)) ≡ None → IsStream bytes layout
 a_stream bytes end layout b e n = record { records = records_in (take end bytes); rest = drop end bytes; read = b.read; zeros = b.zeros; conditions = n; says = e }
 
 -- ---- the layout

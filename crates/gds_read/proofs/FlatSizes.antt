@@ -9,7 +9,7 @@ use Rattle.geom.specs.declared.layout.Element.{Element}
 use Rattle.geom.specs.declared.layout.Element.TheVariants.{Box, Place, Text}
 use Rattle.geom.specs.declared.layout.Structure.{Structure}
 use Rattle.geom.specs.declared.layout.Layout.{Layout}
-use Rattle.gds_read.specs.Sizes.{own_size, flat_size}
+use Rattle.gds_read.specs.Code.Sizes.{own_size, flat_size}
 use Rattle.gds_read.proofs.Flattens.{own_shapes_append, own_labels_append, flat_shapes_append, flat_labels_append, elements_there}
 use Rattle.gds_read.proofs.Items.{one_more}
 

@@ -14,9 +14,9 @@ use Rattle.gds_read.specs.declared.outline.NamedUse.{NamedUse}
 use Rattle.gds_read.specs.declared.outline.NamedOutline.{NamedOutline}
 use Rattle.gds_read.specs.declared.conditions.Tops.{Tops}
 use Rattle.gds_read.specs.declared.conditions.Tops.TheVariants.{Nothing, One, Several}
-use Rattle.gds_read.specs.Outlining.{use_of, outline_of}
-use Rattle.gds_read.specs.Numbering.{AreUsed, number_in, IsNumbering, unnumbered}
-use Rattle.gds_read.specs.Tops.{told_tops, further_tops}
+use Rattle.gds_read.specs.Code.Outlining.{use_of, outline_of}
+use Rattle.gds_read.specs.Code.Numbering.{AreUsed, number_in, IsNumbering, unnumbered}
+use Rattle.gds_read.specs.Code.Tops.{told_tops, further_tops}
 use Rattle.gds_read.proofs.Named.{listed_any, same_texts}
 use Rattle.gds_read.proofs.Numbering.{unknown_so}
 use Rattle.gds_read.proofs.Items.{next_item, one_more}

@@ -18,3 +18,5 @@ pub mod Words
 pub mod Shaped
 pub mod Placed
 pub mod Exact
+pub mod WideFlat
+pub mod WideFields

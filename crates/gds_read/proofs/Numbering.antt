@@ -9,8 +9,8 @@ use Rattle.gds_records.specs.Drawing.{place_of}
 use Rattle.gds_records.specs.Steps.{is_listed}
 use Rattle.gds_records.specs.Whole.{Use, Outline, is_defined, unknown}
 use Rattle.gds_read.specs.declared.outline.NamedOutline.{NamedOutline}
-use Rattle.gds_read.specs.Outlining.{outline_of}
-use Rattle.gds_read.specs.Numbering.{number_in, first_place, IsNumbering, number_or, unnumbered}
+use Rattle.gds_read.specs.Code.Outlining.{outline_of}
+use Rattle.gds_read.specs.Code.Numbering.{number_in, first_place, IsNumbering, number_or, unnumbered}
 use Rattle.gds_read.proofs.Items.{one_more}
 use Rattle.gds_read.proofs.Named.{same_back, bytes_same}
 

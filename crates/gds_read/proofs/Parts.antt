@@ -9,7 +9,7 @@ use Rattle.geom.specs.declared.layout.Element.{Element}
 use Rattle.gds_records.specs.Records.{Record, spelled}
 use Rattle.gds_records.specs.Faults.{here_record, kind_of, length_of}
 use Rattle.gds_records.specs.Drawing.{up_to, parts, element_parts}
-use Rattle.gds_read.specs.Decoding.{IsShort, IsSpelled, records_in}
+use Rattle.gds_read.specs.Code.Decoding.{IsShort, IsSpelled, records_in}
 use Rattle.gds_read.proofs.Decoded.{goes, records_are, records_none, record_back, length_spelled, spelled_length}
 use Rattle.gds_read.proofs.Cursors.{none_left}
 

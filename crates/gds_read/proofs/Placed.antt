@@ -37,24 +37,24 @@ bytes_back : (xs ys : List ℕ) → IsBytes (xs ++ ys) → IsBytes ys
 bytes_back [] ys h = h
 bytes_back (x ∷ xs) ys h = bytes_back xs ys (λ i. h (suc i))
 
-bytes_front : (xs ys : List ℕ) → IsBytes (xs ++ ys) → IsBytes xs
+pub bytes_front : (xs ys : List ℕ) → IsBytes (xs ++ ys) → IsBytes xs
 bytes_front [] ys h i = omega arith
 bytes_front (x ∷ xs) ys h zero = h 0
 bytes_front (x ∷ xs) ys h (suc i) = bytes_front xs ys (λ j. h (suc j)) i
 
-abbrev HasBytes : Record → Type 0
+abbrev pub HasBytes : Record → Type 0
 HasBytes r = IsBytes r.content
 
 content_bytes : (r : Record) → IsBytes (spelled r) → HasBytes r
 content_bytes r h = λ i. h (suc (suc (suc (suc i))))
 
-all_bytes : (rs : List Record) → IsBytes (flat_map spelled rs) → AllByRecursion HasBytes rs
+pub all_bytes : (rs : List Record) → IsBytes (flat_map spelled rs) → AllByRecursion HasBytes rs
 all_bytes [] h = tt
 all_bytes (r ∷ rs) h =
     let w : IsBytes (spelled r ++ flat_map spelled rs) = subst (λ (x : List ℕ). IsBytes x) (flat_map-cons spelled r rs) h in
     (content_bytes r (bytes_front (spelled r) (flat_map spelled rs) w), all_bytes rs (bytes_back (spelled r) (flat_map spelled rs) w))
 
-field_bytes : (k : ℕ) (rs : List Record) → AllByRecursion HasBytes rs → IsBytes (field k rs)
+pub field_bytes : (k : ℕ) (rs : List Record) → AllByRecursion HasBytes rs → IsBytes (field k rs)
 field_bytes k [] all = λ i. omega arith
 field_bytes k (r ∷ rs) all = turn (eqb r.kind k) (field_bytes k rs all.1)
   where
@@ -62,7 +62,7 @@ field_bytes k (r ∷ rs) all = turn (eqb r.kind k) (field_bytes k rs all.1)
     turn true h = all.0
     turn false h = h
 
-starts_bytes : (rs : List Record) → AllByRecursion HasBytes rs → AllByRecursion (AllByRecursion HasBytes) (starts rs)
+pub starts_bytes : (rs : List Record) → AllByRecursion HasBytes rs → AllByRecursion (AllByRecursion HasBytes) (starts rs)
 starts_bytes [] all = tt
 starts_bytes (r ∷ rs) all = turn (eqb r.kind 5) (starts_bytes rs all.1)
   where
@@ -95,19 +95,19 @@ drop_bytes : (rs : List Record) → AllByRecursion HasBytes rs → AllByRecursio
 drop_bytes [] all = tt
 drop_bytes (r ∷ rs) all = all.1
 
-element_bytes : (p : List Record) → AllByRecursion HasBytes p → AllByRecursion (AllByRecursion HasBytes) (element_parts p)
+pub element_bytes : (p : List Record) → AllByRecursion HasBytes p → AllByRecursion (AllByRecursion HasBytes) (element_parts p)
 element_bytes p all = parts_bytes 17 [] (up_to 7 (drop 1 p)) tt (up_to_bytes 7 (drop 1 p) (drop_bytes p all))
 
 -- ---- coordinates
 
-four_low : (c : List ℕ) → IsBytes c → from_be_bytes w32 (take 4 c) < 4294967296
+pub four_low : (c : List ℕ) → IsBytes c → from_be_bytes w32 (take 4 c) < 4294967296
 four_low [] f = omega arith
 four_low (a ∷ []) f = omega (arith, f 0)
 four_low (a ∷ b ∷ []) f = omega (arith, f 0, f 1)
 four_low (a ∷ b ∷ d ∷ []) f = omega (arith, f 0, f 1, f 2)
 four_low (a ∷ b ∷ d ∷ e ∷ c) f = omega (arith, f 0, f 1, f 2, f 3)
 
-drop_is_bytes : (n : ℕ) (c : List ℕ) → IsBytes c → IsBytes (drop n c)
+pub drop_is_bytes : (n : ℕ) (c : List ℕ) → IsBytes c → IsBytes (drop n c)
 drop_is_bytes zero c f = f
 drop_is_bytes (suc n) [] f = f
 drop_is_bytes (suc n) (x ∷ c) f = drop_is_bytes n c (λ i. f (suc i))
@@ -115,7 +115,7 @@ drop_is_bytes (suc n) (x ∷ c) f = drop_is_bytes n c (λ i. f (suc i))
 signed_fits : (n : ℕ) → n < 4294967296 → FitsSigned w32 (cast_signed w32 n)
 signed_fits n h = omega (arith, ints)
 
-coordinate_fits : (xy : List ℕ) (i : ℕ) → IsBytes xy → FitsSigned w32 (coordinate xy i)
+pub coordinate_fits : (xy : List ℕ) (i : ℕ) → IsBytes xy → FitsSigned w32 (coordinate xy i)
 coordinate_fits xy i f = signed_fits (from_be_bytes w32 (take 4 (drop (4 * i) xy))) (four_low (drop (4 * i) xy) (drop_is_bytes (4 * i) xy f))
 
 lesser_fits : (a b : ℤ) → FitsSigned w32 a → FitsSigned w32 b → FitsSigned w32 (lesser a b)
@@ -339,6 +339,14 @@ module _ (names : List (List ℕ)) (us : List Use) (t : List ℕ) (used : is_use
 known_names : (rs : List Record) → unknown (all_uses (outlines 0 rs)) (outlines 0 rs) ≡ None → (t : List ℕ) → is_used t (all_uses (outlines 0 rs)) ≡ true → is_listed t (names_of rs) ≡ true
 known_names rs e t u = ap (λ (x : List (List ℕ)). is_listed t x) (sym (names_same 0 rs)) ∙ all_defined (all_uses (outlines 0 rs)) (outlines 0 rs) e t u
 
+-- what is referenced holds no reference
+pub shallow_of : (rs : List Record) → AllByRecursion IsShaped (starts rs) → whole_fault rs ≡ None → (n : ℕ) → is_referenced n (structures_of rs) ≡ true → holds_reference (elements_at (structures_of rs) n) ≡ false
+shallow_of rs shapes e n f =
+    let p = parts_none (unknown (all_uses (outlines 0 rs)) (outlines 0 rs)) (deep (all_uses (outlines 0 rs)) (outlines 0 rs)) (top_fault (last_place 0 rs) (tops 0 (all_uses (outlines 0 rs)) (outlines 0 rs))) _ _ e in
+    let m = structures_named (names_of rs) (all_uses (outlines 0 rs)) n (starts rs) (uses_known rs 0 shapes) f in
+    subst (λ (k : ℕ). holds_reference (elements_at (structures_of rs) k) ≡ false) (sym m.place)
+    (shallow_at (names_of rs) (all_uses (outlines 0 rs)) m.name m.used rs 0 shapes p.1 (known_names rs p.0 m.name m.used))
+
 placed : (rs : List Record) → AllByRecursion HasBytes rs → AllByRecursion IsShaped (starts rs) → whole_fault rs ≡ None → flat_count (flat_of (layout_of rs)) ≤ 8000000 → IsFlattenable (layout_of rs)
 placed rs bytes shapes e within =
     let p = parts_none (unknown (all_uses (outlines 0 rs)) (outlines 0 rs)) (deep (all_uses (outlines 0 rs)) (outlines 0 rs)) (top_fault (last_place 0 rs) (tops 0 (all_uses (outlines 0 rs)) (outlines 0 rs))) _ _ e in
@@ -351,9 +359,7 @@ placed rs bytes shapes e within =
       top_stands = top_stands rs e;
       each = subst (λ (n : ℕ). All (λ (s : Structure). All (IsPlaced n) s.elements) (structures_of rs)) size
           (All-from_recursion (λ (s : Structure). All (IsPlaced (length (names_of rs))) s.elements) (structures_of rs) (structures_placed (names_of rs) (starts rs) (starts_bytes rs bytes) known));
-      shallow = λ n f. let m = structures_named (names_of rs) (all_uses (outlines 0 rs)) n (starts rs) uses f in
-          subst (λ (k : ℕ). holds_reference (elements_at (structures_of rs) k) ≡ false) (sym m.place)
-          (shallow_at (names_of rs) (all_uses (outlines 0 rs)) m.name m.used rs 0 shapes p.1 (known_names rs p.0 m.name m.used));
+      shallow = shallow_of rs shapes e;
       within = within;
     }
 

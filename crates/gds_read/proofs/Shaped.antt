@@ -16,14 +16,14 @@ one k n e = grind (arith, nat_tests)
 
 -- ---- records by the words of their kinds
 
-record Split (rs : List Record) (front rest : List ℕ) : Type 0 where
-  xs : List Record
-  ys : List Record
-  whole : rs ≡ xs ++ ys
-  fronts : kinds xs ≡ front
-  rests : kinds ys ≡ rest
+pub record Split (rs : List Record) (front rest : List ℕ) : Type 0 where
+  pub xs : List Record
+  pub ys : List Record
+  pub whole : rs ≡ xs ++ ys
+  pub fronts : kinds xs ≡ front
+  pub rests : kinds ys ≡ rest
 
-split : (rs : List Record) (front rest : List ℕ) → kinds rs ≡ front ++ rest → Split rs front rest
+pub split : (rs : List Record) (front rest : List ℕ) → kinds rs ≡ front ++ rest → Split rs front rest
 split rs [] rest e = record { xs = []; ys = rs; whole = refl; fronts = refl; rests = e }
 split [] (k ∷ front) rest e = absurd cc
 split (r ∷ rs) (k ∷ front) rest e =
@@ -35,19 +35,19 @@ no_kinds : (rs : List Record) → kinds rs ≡ [] → rs ≡ []
 no_kinds [] e = refl
 no_kinds (r ∷ rs) e = absurd cc
 
-record Headed (k : ℕ) (l : Language) (rs : List Record) : Type 0 where
-  head : Record
-  rest : List Record
-  whole : rs ≡ head ∷ rest
-  kind : head.kind ≡ k
-  others : Speaks l (kinds rest)
+pub record Headed (k : ℕ) (l : Language) (rs : List Record) : Type 0 where
+  pub head : Record
+  pub rest : List Record
+  pub whole : rs ≡ head ∷ rest
+  pub kind : head.kind ≡ k
+  pub others : Speaks l (kinds rest)
 
 single : (k : ℕ) (rs : List Record) → kinds rs ≡ k ∷ [] → (r : Record) × (rs ≡ r ∷ []) × (r.kind ≡ k)
 single k [] e = absurd cc
 single k (r ∷ []) e = (r, refl, cc)
 single k (r ∷ s ∷ rs) e = absurd cc
 
-headed : (k : ℕ) (l : Language) (rs : List Record) → Speaks (Then (One k) l) (kinds rs) → Headed k l rs
+pub headed : (k : ℕ) (l : Language) (rs : List Record) → Speaks (Then (One k) l) (kinds rs) → Headed k l rs
 headed k l rs h =
     let s = split rs h.0 h.1 h.2 in
     let o = single k s.xs (s.fronts ∙ h.3) in
@@ -120,7 +120,7 @@ field_listed (r ∷ rs) e = turn (eqb r.kind 18) (field_listed rs) e
     turn true f g = ap (λ (b : Bool). b || is_listed (trimmed r.content) (snames rs)) (same_refl (trimmed r.content))
     turn false f g = f g
 
-has_is : (k : ℕ) (rs : List Record) → has k rs ≡ has_kind k (kinds rs)
+pub has_is : (k : ℕ) (rs : List Record) → has k rs ≡ has_kind k (kinds rs)
 has_is k [] = refl
 has_is k (r ∷ rs) = turn (eqb r.kind k) (has_is k rs)
   where
@@ -212,10 +212,22 @@ elements_covered w (more w' front rest e h r) els k =
     (parts 17 [] s.ys) (elements_covered rest r s.ys s.rests) in
     subst (λ (x : List (List Record)). AllByRecursion (Covered (snames els)) x) (sym (ap (λ (x : List Record). parts 17 [] x) s.whole ∙ first_cut s.xs s.ys (ends 17 element (kinds s.xs) refl sp))) (first, others)
 
+-- an element by its kinds
+abbrev pub Spoken : List Record → Type 0
+Spoken q = Speaks element (kinds q)
+
+elements_spoken : (w : List ℕ) → Repeats (Speaks element) w → (els : List Record) → kinds els ≡ w → AllByRecursion Spoken (parts 17 [] els)
+elements_spoken w (none w' e) els k = subst (λ (x : List Record). AllByRecursion Spoken (parts 17 [] x)) (sym (no_kinds els (k ∙ e))) tt
+elements_spoken w (more w' front rest e h r) els k =
+    let s = split els front rest (k ∙ e) in
+    let sp : Speaks element (kinds s.xs) = subst (λ (x : List ℕ). Speaks element x) (sym s.fronts) h in
+    subst (λ (x : List (List Record)). AllByRecursion Spoken x) (sym (ap (λ (x : List Record). parts 17 [] x) s.whole ∙ first_cut s.xs s.ys (ends 17 element (kinds s.xs) refl sp))) (sp, elements_spoken rest r s.ys s.rests)
+
 -- ---- structures
 
 -- the references of a structure, and that each element which is one is among them
 pub record IsShaped (p : List Record) : Type 0 where
+  pub spoken : AllByRecursion Spoken (element_parts p)
   pub list : List (List ℕ)
   pub names : (o : ℕ) → map (λ u. u.name) (uses_from o p) ≡ list
   pub covered : AllByRecursion (Covered list) (element_parts p)
@@ -241,6 +253,8 @@ shaped xs later h =
     all_weaker (Covered (snames els)) (Covered (snames (a.head ∷ els)))
     (λ q f g. subst (λ (x : List (List ℕ)). is_listed (trimmed (field 18 q)) x ≡ true) (sym more_names) (listed_right (trimmed (field 18 q)) (snames (a.head ∷ [])) (snames els) (f g))) (parts 17 [] els) all in
     record {
+      spoken = subst (λ (x : List (List Record)). AllByRecursion Spoken x)
+          (sym (ap (λ (x : List Record). element_parts x) w ∙ ap (λ (x : List Record). parts 17 [] x) (up_to_end els o.0 later free o.2))) (elements_spoken b.0 b.3 els s.fronts);
       list = snames (a.head ∷ els);
       names = λ n. ap (λ (x : List Record). map (λ (u : Use). u.name) (uses_from n x)) w ∙ uses_names (a.head ∷ els) o.0 later n head_free o.2;
       covered = subst (λ (x : List (List Record)). AllByRecursion (Covered (snames (a.head ∷ els))) x)

@@ -1,89 +1,116 @@
 -- One turn of a reader of records.
-use Rattle.std.proofs.Common.{◌≡◌, ◌≢◌, ℕ, zero, suc, ◌+◌, ◌-◌, ◌<◌, ◌≤◌, List, [], ◌∷◌, ◌++◌, take, drop, length, cond, ◌&&◌, ◌||◌, not, Option, Some, None, Bool, true, false, eqb, refl, sym, ap, ◌∙◌, arith}
+use Rattle.std.proofs.Common.{◌≡◌, ◌≢◌, ℕ, zero, suc, ◌+◌, ◌-◌, ◌<◌, ◌≤◌, List, [], ◌∷◌, ◌++◌, take, drop, length, cond}
+use Rattle.std.proofs.Common.{◌&&◌, ◌||◌, not, Option, Some, None, Bool, true, false, eqb, refl, sym, ap, ◌∙◌, arith}
 use Rattle.std.specs.List.{list_any}
 use Rattle.std.specs.Str.{bytes_eq}
 use Rattle.indexmap.specs.IndexSet.{insert_key}
 use Rattle.std.proofs.lemmas.List.{length-drop, length-take}
 use Rattle.std.proofs.Math.Seq.{drop-drop}
+use Rattle.std.proofs.lemmas.Bool.{eqb-true}
 use Rattle.std.proofs.lemmas.Bool.Decides.{nat_tests}
 use Rattle.gds_records.specs.declared.fault.StreamKind.{StreamKind}
 use Rattle.gds_records.specs.declared.fault.StreamKind.TheVariants.{Order, Value, Unsupported, NotRectangle}
 use Rattle.gds_records.specs.Language.{Language, Nothing}
 use Rattle.gds_records.specs.Derivative.{after}
-use Rattle.gds_records.specs.Records.{record_with, trimmed}
-use Rattle.gds_records.specs.Table.{has_length}
-use Rattle.gds_records.specs.Values.{opener, value_of, is_text, is_name, is_nanometre, is_rectangle, value_fault_in}
-use Rattle.gds_records.specs.Faults.{own_fault, kind_of, form_of, length_of, here_record}
-use Rattle.gds_records.specs.Scan.{alive, fault_of}
-use Rattle.gds_records.specs.Steps.{is_listed, names_with, step_fault, Told, Stopped, Ended, steps}
+use Rattle.gds_records.specs.Records.{Record, record_with, trimmed}
+use Rattle.gds_records.specs.Table.{has_length_in}
+use Rattle.gds_records.specs.Values.{value_of, is_text, is_name, is_nanometre, is_rectangle, has_value, value_fault_in}
+use Rattle.gds_records.specs.WideValues.{last_colrow, rule, refers, points, is_ring, is_path, is_lattice, columns, rows}
+use Rattle.gds_records.specs.WideValues.{is_width, is_flip, is_one, is_turn, is_colrow, wide_fault_in}
+use Rattle.gds_records.specs.Profiles.{Profile as Streams}
+use Rattle.gds_records.specs.Profiled.{own_fault_in, kind_of, form_of, length_of, here_record, alive, fault_of}
+use Rattle.gds_records.specs.Steps.{is_listed, names_with, Kept, kept_with, value_here, step_fault, Told, Stopped, Ended, steps}
 use Rattle.gds_read.specs.declared.place.Place.{Place}
 use Rattle.gds_read.specs.declared.place.Place.TheVariants as places
-use Rattle.gds_read.specs.Places.{rest_of}
-use Rattle.gds_read.specs.Fronts.{IsWhole}
-use Rattle.gds_read.specs.Steps.{GoesOn}
+use Rattle.gds_read.specs.declared.profile.Profile.{Profile}
+use Rattle.gds_read.specs.declared.profile.Profile.TheVariants.{Strict, Wide}
+use Rattle.gds_read.specs.Code.Profiles.{profile_of}
+use Rattle.gds_read.specs.Code.Places.{rest_of}
+use Rattle.gds_read.specs.Code.Fronts.{IsWhole}
+use Rattle.gds_read.specs.Code.Steps.{GoesOn, kept}
 use Rattle.gds_read.proofs.Named.{listed_any}
 
-pub data_long : (b held : List ℕ) → IsWhole b → held ≡ drop 4 (take (length_of b) b) → has_length (kind_of b) (4 + length held) ≡ true
-data_long b held w e =
-    let n : 4 + length held ≡ length_of b = omega (arith, ap (λ (x : List ℕ). length x) e, length-drop 4 (take (length_of b) b), length-take (length_of b) b, w.least, w.enough) in
-    ap (λ (k : ℕ). has_length (kind_of b) k) n ∙ w.long
+pub data_long : (p : Streams) (b held : List ℕ) → IsWhole p b → held ≡ drop 4 (take (length_of b) b)
+    → has_length_in p.records (kind_of b) (4 + length held) ≡ true
+data_long p b held w e =
+    let n : 4 + length held ≡ length_of b
+    = omega (arith, ap (λ (x : List ℕ). length x) e, length-drop 4 (take (length_of b) b), length-take (length_of b) b, w.least, w.enough) in
+    ap (λ (k : ℕ). has_length_in p.records (kind_of b) k) n ∙ w.long
 
--- only a structure's name may be taken
-pub untaken : (element : ℕ) (s t : Bool) (kind form : ℕ) (held : List ℕ) → kind ≢ 6 → value_fault_in element s (record_with kind form held) ≡ value_fault_in element t (record_with kind form held)
-untaken element s t kind form held h =
-    let z : eqb kind 6 ≡ false = grind (arith, nat_tests) in
-    ap (λ (v : Bool). elim (eqb kind 0x1A && eqb element 0x0A) as (λ (x : Bool). Option StreamKind) [
-      | true ↦ elim (eqb (value_of 0 held) 0) as (λ (x : Bool). Option StreamKind) [ true ↦ None | false ↦ Some Unsupported ]
-      | false ↦ elim (eqb kind 0x10 && eqb element 0x08) as (λ (x : Bool). Option StreamKind) [
-        | true ↦ elim (is_rectangle held) as (λ (x : Bool). Option StreamKind) [ true ↦ None | false ↦ Some NotRectangle ]
-        | false ↦ elim v as (λ (x : Bool). Option StreamKind) [ true ↦ None | false ↦ Some Value ]
-      ]
-    ]) (ap (λ (v : Bool). elim (eqb kind 0x02 || eqb kind 0x19) as (λ (x : Bool). Bool) [ true ↦ is_text held | false ↦ elim (eqb kind 0x03) as (λ (x : Bool). Bool) [ true ↦ is_nanometre held | false ↦ v ] ])
-    (same_choice (eqb kind 6) z))
-  where
-    same_choice : (z : Bool) → z ≡ false
-        → (elim z as (λ (x : Bool). Bool) [ true ↦ is_name held && not s | false ↦ elim (eqb kind 0x12) as (λ (x : Bool). Bool) [ true ↦ is_name held | false ↦ elim (eqb kind 0x10) as (λ (x : Bool). Bool) [ true ↦ eqb (length held) 8 | false ↦ true ] ] ])
-        ≡ (elim z as (λ (x : Bool). Bool) [ true ↦ is_name held && not t | false ↦ elim (eqb kind 0x12) as (λ (x : Bool). Bool) [ true ↦ is_name held | false ↦ elim (eqb kind 0x10) as (λ (x : Bool). Bool) [ true ↦ eqb (length held) 8 | false ↦ true ] ] ])
-    same_choice true e = absurd cc
-    same_choice false e = refl
+reference_alive : (x : Profile) → alive (rest_of x places.Reference) ≡ true
+reference_alive Strict = refl
+reference_alive Wide = refl
 
-pub place_alive : (p : Place) → alive (rest_of p) ≡ true
-place_alive places.Start = refl
-place_alive places.Header = refl
-place_alive places.Library = refl
-place_alive places.LibraryName = refl
-place_alive places.ReferenceLibraries = refl
-place_alive places.Fonts = refl
-place_alive places.AttributeTable = refl
-place_alive places.Generations = refl
-place_alive places.Structures = refl
-place_alive places.Structure = refl
-place_alive places.Inside = refl
-place_alive places.Done = refl
-place_alive places.Boundary = refl
-place_alive places.BoundaryFlags = refl
-place_alive places.BoundaryPlex = refl
-place_alive places.BoundaryLayer = refl
-place_alive places.BoundaryDatatype = refl
-place_alive places.Tail = refl
-place_alive places.Property = refl
-place_alive places.Reference = refl
-place_alive places.ReferenceFlags = refl
-place_alive places.ReferencePlex = refl
-place_alive places.ReferenceName = refl
-place_alive places.ReferenceTransform = refl
-place_alive places.Text = refl
-place_alive places.TextFlags = refl
-place_alive places.TextPlex = refl
-place_alive places.TextLayer = refl
-place_alive places.TextType = refl
-place_alive places.TextPresentation = refl
-place_alive places.TextPathType = refl
-place_alive places.TextWidth = refl
-place_alive places.TextTransform = refl
-place_alive places.TextMagnified = refl
-place_alive places.TextAngle = refl
-place_alive places.TextPoint = refl
+referenceFlags_alive : (x : Profile) → alive (rest_of x places.ReferenceFlags) ≡ true
+referenceFlags_alive Strict = refl
+referenceFlags_alive Wide = refl
+
+referencePlex_alive : (x : Profile) → alive (rest_of x places.ReferencePlex) ≡ true
+referencePlex_alive Strict = refl
+referencePlex_alive Wide = refl
+
+referenceName_alive : (x : Profile) → alive (rest_of x places.ReferenceName) ≡ true
+referenceName_alive Strict = refl
+referenceName_alive Wide = refl
+
+referenceTransform_alive : (x : Profile) → alive (rest_of x places.ReferenceTransform) ≡ true
+referenceTransform_alive Strict = refl
+referenceTransform_alive Wide = refl
+
+pub place_alive : (x : Profile) (p : Place) → alive (rest_of x p) ≡ true
+place_alive x places.Start = refl
+place_alive x places.Header = refl
+place_alive x places.Library = refl
+place_alive x places.LibraryName = refl
+place_alive x places.ReferenceLibraries = refl
+place_alive x places.Fonts = refl
+place_alive x places.AttributeTable = refl
+place_alive x places.Generations = refl
+place_alive x places.Structures = refl
+place_alive x places.Structure = refl
+place_alive x places.Inside = refl
+place_alive x places.Done = refl
+place_alive x places.Boundary = refl
+place_alive x places.BoundaryFlags = refl
+place_alive x places.BoundaryPlex = refl
+place_alive x places.BoundaryLayer = refl
+place_alive x places.BoundaryDatatype = refl
+place_alive x places.Tail = refl
+place_alive x places.Property = refl
+place_alive x places.Reference = reference_alive x
+place_alive x places.ReferenceFlags = referenceFlags_alive x
+place_alive x places.ReferencePlex = referencePlex_alive x
+place_alive x places.ReferenceName = referenceName_alive x
+place_alive x places.ReferenceTransform = referenceTransform_alive x
+place_alive x places.ReferenceMagnified = refl
+place_alive x places.ReferenceAngle = refl
+place_alive x places.Text = refl
+place_alive x places.TextFlags = refl
+place_alive x places.TextPlex = refl
+place_alive x places.TextLayer = refl
+place_alive x places.TextType = refl
+place_alive x places.TextPresentation = refl
+place_alive x places.TextPathType = refl
+place_alive x places.TextWidth = refl
+place_alive x places.TextTransform = refl
+place_alive x places.TextMagnified = refl
+place_alive x places.TextAngle = refl
+place_alive x places.TextPoint = refl
+place_alive x places.Path = refl
+place_alive x places.PathFlags = refl
+place_alive x places.PathPlex = refl
+place_alive x places.PathLayer = refl
+place_alive x places.PathDatatype = refl
+place_alive x places.PathPathType = refl
+place_alive x places.PathWidth = refl
+place_alive x places.Array = refl
+place_alive x places.ArrayFlags = refl
+place_alive x places.ArrayPlex = refl
+place_alive x places.ArrayName = refl
+place_alive x places.ArrayTransform = refl
+place_alive x places.ArrayMagnified = refl
+place_alive x places.ArrayAngle = refl
+place_alive x places.ArrayColrow = refl
 
 fault_own : (t : Option StreamKind) (f : Bool) (v : Option StreamKind) (k : StreamKind) → t ≡ Some k → fault_of t f v ≡ Some k
 fault_own t f v k e = rw e refl
@@ -94,22 +121,97 @@ fault_order t f v a b = rw (a, b) refl
 fault_rest : (t : Option StreamKind) (f : Bool) (v : Option StreamKind) → t ≡ None → f ≡ true → fault_of t f v ≡ v
 fault_rest t f v a b = rw (a, b) refl
 
-module _ (l : Language) (element : ℕ) (names : List (List ℕ)) (b : List ℕ) where
-  pub step_own : (k : StreamKind) → own_fault b ≡ Some k → step_fault l element names b ≡ Some k
-  step_own k e = fault_own (own_fault b) (alive (after (kind_of b) l)) (value_fault_in element (is_listed (trimmed (here_record b).content) names) (here_record b)) k e
+-- ---- the value of a record, by its own bytes
 
-  pub step_order : own_fault b ≡ None → after (kind_of b) l ≡ Nothing → step_fault l element names b ≡ Some Order
-  step_order a e = fault_order (own_fault b) (alive (after (kind_of b) l)) (value_fault_in element (is_listed (trimmed (here_record b).content) names) (here_record b)) a (ap (λ (x : Language). alive x) e)
+only_names : (s t : Bool) (kind form : ℕ) (held : List ℕ) → (kind ≡ 6 → s ≡ t)
+    → has_value s (record_with kind form held) ≡ has_value t (record_with kind form held)
+only_names s t kind form held same = turn (eqb kind 6) refl
+  where
+    choice : (z : Bool) → z ≡ false
+        → (elim z as (λ (x : Bool). Bool) [
+          | true ↦ is_name held && not s
+          | false ↦ elim (eqb kind 0x12) as (λ (x : Bool). Bool) [
+            | true ↦ is_name held
+            | false ↦ elim (eqb kind 0x10) as (λ (x : Bool). Bool) [ true ↦ eqb (length held) 8 | false ↦ true ]
+          ]
+        ])
+        ≡ (elim z as (λ (x : Bool). Bool) [
+          | true ↦ is_name held && not t
+          | false ↦ elim (eqb kind 0x12) as (λ (x : Bool). Bool) [
+            | true ↦ is_name held
+            | false ↦ elim (eqb kind 0x10) as (λ (x : Bool). Bool) [ true ↦ eqb (length held) 8 | false ↦ true ]
+          ]
+        ])
+    choice true e = absurd cc
+    choice false e = refl
 
-  pub step_value : (p : Place) (v : Option StreamKind) → own_fault b ≡ None → after (kind_of b) l ≡ rest_of p → v ≡ value_fault_in element (is_listed (trimmed (here_record b).content) names) (here_record b) → step_fault l element names b ≡ v
-  step_value p v a e w = fault_rest (own_fault b) (alive (after (kind_of b) l)) (value_fault_in element (is_listed (trimmed (here_record b).content) names) (here_record b)) a (ap (λ (x : Language). alive x) e ∙ place_alive p) ∙ sym w
+    turn : (z : Bool) → eqb kind 6 ≡ z → has_value s (record_with kind form held) ≡ has_value t (record_with kind form held)
+    turn true e = ap (λ (b : Bool). has_value b (record_with kind form held)) (same (eqb-true kind 6 e))
+    turn false e =
+        ap (λ (v : Bool). elim (eqb kind 0x02 || eqb kind 0x19) as (λ (x : Bool). Bool) [
+          | true ↦ is_text held
+          | false ↦ elim (eqb kind 0x03) as (λ (x : Bool). Bool) [ true ↦ is_nanometre held | false ↦ v ]
+        ]) (choice (eqb kind 6) e)
+
+-- only a structure's name may be taken
+untaken : (x : Profile) (element : ℕ) (colrow : List ℕ) (s t : Bool) (kind form : ℕ) (held : List ℕ) → (kind ≡ 6 → s ≡ t)
+    → (profile_of x).value_at element colrow s (record_with kind form held)
+    ≡ (profile_of x).value_at element colrow t (record_with kind form held)
+untaken Strict element colrow s t kind form held same =
+    ap (λ (v : Bool). elim (eqb kind 0x1A && eqb element 0x0A) as (λ (x : Bool). Option StreamKind) [
+      | true ↦ elim (eqb (value_of 0 held) 0) as (λ (x : Bool). Option StreamKind) [ true ↦ None | false ↦ Some Unsupported ]
+      | false ↦ elim (eqb kind 0x10 && eqb element 0x08) as (λ (x : Bool). Option StreamKind) [
+        | true ↦ elim (is_rectangle held) as (λ (x : Bool). Option StreamKind) [ true ↦ None | false ↦ Some NotRectangle ]
+        | false ↦ elim v as (λ (x : Bool). Option StreamKind) [ true ↦ None | false ↦ Some Value ]
+      ]
+    ]) (only_names s t kind form held same)
+untaken Wide element colrow s t kind form held same =
+    ap (λ (v : Bool). rule (eqb kind 0x1A && refers element) (is_flip held) Unsupported
+    (rule (eqb kind 0x1B && refers element) (is_one held) Unsupported
+    (rule (eqb kind 0x1C && refers element) (is_turn held) Unsupported
+    (rule (eqb kind 0x21 && eqb element 0x09) (eqb (value_of 0 held) 0 || eqb (value_of 0 held) 2) Unsupported
+    (rule (eqb kind 0x10 && eqb element 0x08) (is_ring (points held)) NotRectangle
+    (rule (eqb kind 0x10 && eqb element 0x09) (is_path (points held)) Value
+    (rule (eqb kind 0x10 && eqb element 0x0B) (is_lattice (columns colrow) (rows colrow) (points held)) Value
+    (rule (eqb kind 0x0F && eqb element 0x09) (is_width held) Value
+    (rule (eqb kind 0x13) (is_colrow held) Value
+    (rule true v Value None)))))))))) (only_names s t kind form held same)
+
+-- the value of the record at the front, by its data, and by its name where it is one
+pub value_is : (x : Profile) (element : ℕ) (colrow : List ℕ) (names : List (List ℕ)) (taken : Bool) (b held : List ℕ)
+    → held ≡ (here_record b).content → (kind_of b ≡ 6 → taken ≡ is_listed (trimmed held) names)
+    → (profile_of x).value_at element colrow taken (record_with (kind_of b) (form_of b) held)
+    ≡ value_here (profile_of x) (kept element colrow names) b
+value_is x element colrow names taken b held e named =
+    untaken x element colrow taken (is_listed (trimmed held) names) (kind_of b) (form_of b) held named
+    ∙ ap (λ (h : List ℕ). (profile_of x).value_at element colrow (is_listed (trimmed h) names) (record_with (kind_of b) (form_of b) h)) e
+
+-- ---- the fault of a step
+
+module _ (p : Streams) (l : Language) (k : Kept) (b : List ℕ) where
+  pub step_own : (f : StreamKind) → own_fault_in p b ≡ Some f → step_fault p l k b ≡ Some f
+  step_own f e = fault_own (own_fault_in p b) (alive (after (kind_of b) l)) (value_here p k b) f e
+
+  pub step_order : own_fault_in p b ≡ None → after (kind_of b) l ≡ Nothing → step_fault p l k b ≡ Some Order
+  step_order a e =
+      fault_order (own_fault_in p b) (alive (after (kind_of b) l)) (value_here p k b) a (ap (λ (x : Language). alive x) e)
+
+  pub step_value : (x : Profile) (q : Place) (v : Option StreamKind) → own_fault_in p b ≡ None
+      → after (kind_of b) l ≡ rest_of x q → v ≡ value_here p k b → step_fault p l k b ≡ v
+  step_value x q v a e w =
+      fault_rest (own_fault_in p b) (alive (after (kind_of b) l)) (value_here p k b) a
+      (ap (λ (y : Language). alive y) e ∙ place_alive x q) ∙ sym w
 
 -- ---- turns of the steps
 
 abbrev turn : ℕ → Option StreamKind → Bool → Told → Told → Told
-turn o t z e rest = elim t as (λ (x : Option StreamKind). Told) [ Some k ↦ Stopped o k | None ↦ elim z as (λ (x : Bool). Told) [ true ↦ e | false ↦ rest ] ]
+turn o t z e rest = elim t as (λ (x : Option StreamKind). Told) [
+  | Some k ↦ Stopped o k
+  | None ↦ elim z as (λ (x : Bool). Told) [ true ↦ e | false ↦ rest ]
+]
 
-turn_stop : (o : ℕ) (t : Option StreamKind) (z : Bool) (e rest : Told) (k : StreamKind) → t ≡ Some k → turn o t z e rest ≡ Stopped o k
+turn_stop : (o : ℕ) (t : Option StreamKind) (z : Bool) (e rest : Told) (k : StreamKind) → t ≡ Some k
+    → turn o t z e rest ≡ Stopped o k
 turn_stop o t z e rest k a = rw (a, turn) refl
 
 turn_end : (o : ℕ) (t : Option StreamKind) (z : Bool) (e rest : Told) → t ≡ None → z ≡ true → turn o t z e rest ≡ e
@@ -118,27 +220,27 @@ turn_end o t z e rest a b = rw (a, b, turn) refl
 turn_on : (o : ℕ) (t : Option StreamKind) (z : Bool) (e rest : Told) → t ≡ None → z ≡ false → turn o t z e rest ≡ rest
 turn_on o t z e rest a b = rw (a, b, turn) refl
 
-module _ (l : Language) (element : ℕ) (names : List (List ℕ)) (o : ℕ) (b : List ℕ) where
-  steps_stop : (n : ℕ) (k : StreamKind) → 0 < n → step_fault l element names b ≡ Some k → steps n l element names o b ≡ Stopped o k
+module _ (p : Streams) (l : Language) (kept : Kept) (o : ℕ) (b : List ℕ) where
+  abbrev here : ℕ → Told
+  here n = steps p n (after (kind_of b) l) (kept_with p kept (here_record b)) (o + length_of b) (drop (length_of b) b)
+
+  abbrev ended : Told
+  ended = Ended (o + length_of b) (drop (length_of b) b)
+
+  steps_stop : (n : ℕ) (k : StreamKind) → 0 < n → step_fault p l kept b ≡ Some k → steps p n l kept o b ≡ Stopped o k
   steps_stop zero k h e = absurd (omega arith)
-  steps_stop (suc n) k h e =
-      turn_stop o (step_fault l element names b) (eqb (kind_of b) 4) (Ended (o + length_of b) (drop (length_of b) b))
-      (steps n (after (kind_of b) l) (opener element (here_record b ∷ [])) (names_with names (here_record b)) (o + length_of b) (drop (length_of b) b)) k e
+  steps_stop (suc n) k h e = turn_stop o (step_fault p l kept b) (eqb (kind_of b) 4) ended (here n) k e
 
-  steps_end : (n : ℕ) → 0 < n → step_fault l element names b ≡ None → eqb (kind_of b) 4 ≡ true → steps n l element names o b ≡ Ended (o + length_of b) (drop (length_of b) b)
+  steps_end : (n : ℕ) → 0 < n → step_fault p l kept b ≡ None → eqb (kind_of b) 4 ≡ true → steps p n l kept o b ≡ ended
   steps_end zero h e f = absurd (omega arith)
-  steps_end (suc n) h e f =
-      turn_end o (step_fault l element names b) (eqb (kind_of b) 4) (Ended (o + length_of b) (drop (length_of b) b))
-      (steps n (after (kind_of b) l) (opener element (here_record b ∷ [])) (names_with names (here_record b)) (o + length_of b) (drop (length_of b) b)) e f
+  steps_end (suc n) h e f = turn_end o (step_fault p l kept b) (eqb (kind_of b) 4) ended (here n) e f
 
-  steps_on : (n : ℕ) → 0 < n → step_fault l element names b ≡ None → eqb (kind_of b) 4 ≡ false
-      → steps n l element names o b ≡ steps (n - 1) (after (kind_of b) l) (opener element (here_record b ∷ [])) (names_with names (here_record b)) (o + length_of b) (drop (length_of b) b)
+  steps_on : (n : ℕ) → 0 < n → step_fault p l kept b ≡ None → eqb (kind_of b) 4 ≡ false
+      → steps p n l kept o b ≡ here (n - 1)
   steps_on zero h e f = absurd (omega arith)
   steps_on (suc n) h e f =
       let m : n ≡ suc n - 1 = omega arith in
-      turn_on o (step_fault l element names b) (eqb (kind_of b) 4) (Ended (o + length_of b) (drop (length_of b) b))
-      (steps n (after (kind_of b) l) (opener element (here_record b ∷ [])) (names_with names (here_record b)) (o + length_of b) (drop (length_of b) b)) e f
-      ∙ ap (λ (k : ℕ). steps k (after (kind_of b) l) (opener element (here_record b ∷ [])) (names_with names (here_record b)) (o + length_of b) (drop (length_of b) b)) m
+      turn_on o (step_fault p l kept b) (eqb (kind_of b) 4) ended (here n) e f ∙ ap here m
 
 -- ---- a turn of the reader
 
@@ -156,63 +258,114 @@ both_true true true e = absurd cc
 both_true true false e = refl
 both_true false b e = absurd cc
 
-name_value : (element : ℕ) (taken : Bool) (form : ℕ) (held : List ℕ) → value_fault_in element taken (record_with 6 form held) ≡ None → taken ≡ false
-name_value element taken form held e = both_true (is_name held) taken (has_none (is_name held && not taken) e)
+strict_name : (element : ℕ) (taken : Bool) (form : ℕ) (held : List ℕ)
+    → value_fault_in element taken (record_with 6 form held) ≡ None → taken ≡ false
+strict_name element taken form held e = both_true (is_name held) taken (has_none (is_name held && not taken) e)
 
--- a structure's name that is no fault is new
-fresh_name : (l : Language) (element : ℕ) (names : List (List ℕ)) (b : List ℕ) → step_fault l element names b ≡ None → kind_of b ≡ 6 → is_listed (trimmed (here_record b).content) names ≡ false
-fresh_name l element names b e k =
-    let v = none_value (own_fault b) (alive (after (kind_of b) l)) (value_fault_in element (is_listed (trimmed (here_record b).content) names) (here_record b)) e in
-    let w : value_fault_in element (is_listed (trimmed (here_record b).content) names) (record_with 6 (form_of b) (here_record b).content) ≡ None
-    = ap (λ (x : ℕ). value_fault_in element (is_listed (trimmed (here_record b).content) names) (record_with x (form_of b) (here_record b).content)) (sym k) ∙ v in
-    name_value element (is_listed (trimmed (here_record b).content) names) (form_of b) (here_record b).content w
+wide_name : (element : ℕ) (colrow : List ℕ) (taken : Bool) (form : ℕ) (held : List ℕ)
+    → wide_fault_in element colrow taken (record_with 6 form held) ≡ None → taken ≡ false
+wide_name element colrow taken form held e =
+    both_true (is_name held) taken (rule_none (is_name held && not taken) e)
+  where
+    rule_none : (h : Bool) → rule true h Value None ≡ None → h ≡ true
+    rule_none true e = refl
+    rule_none false e = absurd cc
 
-with_name : (z : Bool) (names : List (List ℕ)) (t : List ℕ) → z ≡ true → (elim z as (λ (x : Bool). List (List ℕ)) [ true ↦ names ++ t ∷ [] | false ↦ names ]) ≡ names ++ t ∷ []
+-- the name of a structure is new where it is no fault
+name_value : (x : Profile) (element : ℕ) (colrow : List ℕ) (taken : Bool) (form : ℕ) (held : List ℕ)
+    → (profile_of x).value_at element colrow taken (record_with 6 form held) ≡ None → taken ≡ false
+name_value Strict element colrow taken form held e = strict_name element taken form held e
+name_value Wide element colrow taken form held e = wide_name element colrow taken form held e
+
+fresh_name : (x : Profile) (l : Language) (kept : Kept) (b : List ℕ) → step_fault (profile_of x) l kept b ≡ None
+    → kind_of b ≡ 6 → is_listed (trimmed (here_record b).content) kept.names ≡ false
+fresh_name x l kept b e k =
+    let p = profile_of x in
+    let taken = is_listed (trimmed (here_record b).content) kept.names in
+    let v = none_value (own_fault_in p b) (alive (after (kind_of b) l)) (value_here p kept b) e in
+    let w : p.value_at kept.element kept.colrow taken (record_with 6 (form_of b) (here_record b).content) ≡ None
+    = ap (λ (y : ℕ). p.value_at kept.element kept.colrow taken (record_with y (form_of b) (here_record b).content)) (sym k) ∙ v in
+    name_value x kept.element kept.colrow taken (form_of b) (here_record b).content w
+
+with_name : (z : Bool) (names : List (List ℕ)) (t : List ℕ) → z ≡ true
+    → (elim z as (λ (x : Bool). List (List ℕ)) [ true ↦ names ++ t ∷ [] | false ↦ names ]) ≡ names ++ t ∷ []
 with_name z names t e = rw e refl
 
-without_name : (z : Bool) (names : List (List ℕ)) (t : List ℕ) → z ≡ false → (elim z as (λ (x : Bool). List (List ℕ)) [ true ↦ names ++ t ∷ [] | false ↦ names ]) ≡ names
+without_name : (z : Bool) (names : List (List ℕ)) (t : List ℕ) → z ≡ false
+    → (elim z as (λ (x : Bool). List (List ℕ)) [ true ↦ names ++ t ∷ [] | false ↦ names ]) ≡ names
 without_name z names t e = rw e refl
 
 not_there : (t : Bool) (names : List (List ℕ)) (k : List ℕ) → t ≡ false → cond t names (names ++ k ∷ []) ≡ names ++ k ∷ []
 not_there t names k e = rw e refl
 
--- the names after a structure's name, as they are kept
-pub named : (l : Language) (element : ℕ) (names kept : List (List ℕ)) (b name : List ℕ) → step_fault l element names b ≡ None → kind_of b ≡ 6 → name ≡ trimmed (here_record b).content
-    → kept ≡ insert_key bytes_eq names name → kept ≡ names_with names (here_record b)
-named l element names kept b name e k n i =
+-- the names after a structure's name, as a reader has them
+pub named : (x : Profile) (l : Language) (kept : Kept) (names : List (List ℕ)) (b name : List ℕ)
+    → step_fault (profile_of x) l kept b ≡ None → kind_of b ≡ 6 → name ≡ trimmed (here_record b).content
+    → names ≡ insert_key bytes_eq kept.names name → names ≡ names_with kept.names (here_record b)
+named x l kept names b name e k n i =
     let t = trimmed (here_record b).content in
-    i ∙ ap (λ (x : List ℕ). insert_key bytes_eq names x) n ∙ not_there (list_any (bytes_eq t) names) names t (sym (listed_any t names) ∙ fresh_name l element names b e k)
-    ∙ sym (with_name (eqb (kind_of b) 6) names t (ap (λ (x : ℕ). eqb x 6) k))
+    i ∙ ap (λ (y : List ℕ). insert_key bytes_eq kept.names y) n
+    ∙ not_there (list_any (bytes_eq t) kept.names) kept.names t (sym (listed_any t kept.names) ∙ fresh_name x l kept b e k)
+    ∙ sym (with_name (eqb (kind_of b) 6) kept.names t (ap (λ (y : ℕ). eqb y 6) k))
 
 pub unnamed : (names : List (List ℕ)) (b : List ℕ) → kind_of b ≢ 6 → names ≡ names_with names (here_record b)
-unnamed names b h = let z : eqb (kind_of b) 6 ≡ false = grind (arith, nat_tests) in sym (without_name (eqb (kind_of b) 6) names (trimmed (here_record b).content) z)
+unnamed names b h =
+    let z : eqb (kind_of b) 6 ≡ false = grind (arith, nat_tests) in
+    sym (without_name (eqb (kind_of b) 6) names (trimmed (here_record b).content) z)
 
-module _ (total : Told) (n : ℕ) (l : Language) (element : ℕ) (names : List (List ℕ)) (at : ℕ) (bytes rest : List ℕ) (here : rest ≡ drop at bytes) (enough : length bytes - at < n)
-    (same : total ≡ steps n l element names at (drop at bytes)) where
-  so_far : total ≡ steps n l element names at rest
-  so_far = same ∙ ap (λ (x : List ℕ). steps n l element names at x) (sym here)
+pub begins : (x : Profile) → (profile_of x).language ≡ rest_of x places.Start
+begins Strict = refl
+begins Wide = refl
 
-  pub stopped_here : (k : StreamKind) → step_fault l element names rest ≡ Some k → total ≡ Stopped at k
-  stopped_here k e = so_far ∙ steps_stop l element names at rest n k (omega arith) e
+-- an opener, by its kind alone
+pub opened_by : (x : Profile) (element : ℕ) (r : Record)
+    → (profile_of x).opener element (record_with r.kind 0 [] ∷ []) ≡ (profile_of x).opener element (r ∷ [])
+opened_by Strict element r = refl
+opened_by Wide element r = refl
+
+-- what is kept, part by part
+pub kept_is : (p : Streams) (old new : Kept) (r : Record) → new.element ≡ p.opener old.element (r ∷ [])
+    → new.colrow ≡ last_colrow old.colrow (r ∷ []) → new.names ≡ names_with old.names r → new ≡ kept_with p old r
+kept_is p old new r e f g i = record { element = e i; colrow = f i; names = g i }
+
+-- a reader of these bytes, that stands at this place and has come so far
+pub record Stands (p : Streams) (total : Told) (n : ℕ) (l : Language) (kept : Kept) (at : ℕ) (bytes rest : List ℕ) : Type 0 where
+  pub here : rest ≡ drop at bytes
+  pub enough : length bytes - at < n
+  pub same : total ≡ steps p n l kept at (drop at bytes)
+
+module _ (p : Streams) (total : Told) (n : ℕ) (l : Language) (kept : Kept) (at : ℕ) (bytes rest : List ℕ)
+    (s : Stands p total n l kept at bytes rest) where
+  so_far : total ≡ steps p n l kept at rest
+  so_far = s.same ∙ ap (λ (x : List ℕ). steps p n l kept at x) (sym s.here)
+
+  some_turn : 0 < n
+  some_turn = let h = s.enough in omega arith
+
+  pub stopped_here : (k : StreamKind) → step_fault p l kept rest ≡ Some k → total ≡ Stopped at k
+  stopped_here k e = so_far ∙ steps_stop p l kept at rest n k some_turn e
 
   moved : (size : ℕ) → size ≡ length_of rest → drop (length_of rest) rest ≡ drop (at + size) bytes
-  moved size e = ap (λ (k : ℕ). drop k rest) (sym e) ∙ ap (λ (x : List ℕ). drop size x) here ∙ drop-drop size at bytes
+  moved size e =
+      ap (λ (k : ℕ). drop k rest) (sym e) ∙ ap (λ (x : List ℕ). drop size x) s.here ∙ drop-drop size at bytes
 
-  pub ended_here : (next : Language) (size : ℕ) → GoesOn l element names rest next → kind_of rest ≡ 4 → size ≡ length_of rest → total ≡ Ended (at + size) (drop (at + size) bytes)
+  pub ended_here : (next : Language) (size : ℕ) → GoesOn p l kept rest next → kind_of rest ≡ 4 → size ≡ length_of rest
+      → total ≡ Ended (at + size) (drop (at + size) bytes)
   ended_here next size g k e =
-      so_far ∙ steps_end l element names at rest n (omega arith) g.sound (ap (λ (x : ℕ). eqb x 4) k)
-      ∙ ap (λ (x : ℕ). Ended (at + x) (drop (length_of rest) rest)) (sym e) ∙ ap (λ (x : List ℕ). Ended (at + size) x) (moved size e)
+      so_far ∙ steps_end p l kept at rest n some_turn g.sound (ap (λ (x : ℕ). eqb x 4) k)
+      ∙ (λ i. Ended (at + sym e i) (moved size e i))
 
-  pub goes_on : (next : Language) (size opened : ℕ) (kept : List (List ℕ)) → GoesOn l element names rest next → kind_of rest ≢ 4 → size ≡ length_of rest
-      → opened ≡ opener element (here_record rest ∷ []) → kept ≡ names_with names (here_record rest) → total ≡ steps (n - 1) next opened kept (at + size) (drop (at + size) bytes)
-  goes_on next size opened kept g k e o w =
+  pub goes_on : (next : Language) (size : ℕ) (new : Kept) → GoesOn p l kept rest next → kind_of rest ≢ 4
+      → size ≡ length_of rest → new ≡ kept_with p kept (here_record rest)
+      → total ≡ steps p (n - 1) next new (at + size) (drop (at + size) bytes)
+  goes_on next size new g k e w =
       let z : eqb (kind_of rest) 4 ≡ false = grind (arith, nat_tests) in
-      so_far ∙ steps_on l element names at rest n (omega arith) g.sound z
-      ∙ ap (λ (x : Language). steps (n - 1) x (opener element (here_record rest ∷ [])) (names_with names (here_record rest)) (at + length_of rest) (drop (length_of rest) rest)) g.follows
-      ∙ ap (λ (x : ℕ). steps (n - 1) next x (names_with names (here_record rest)) (at + length_of rest) (drop (length_of rest) rest)) (sym o)
-      ∙ ap (λ (x : List (List ℕ)). steps (n - 1) next opened x (at + length_of rest) (drop (length_of rest) rest)) (sym w)
-      ∙ ap (λ (x : ℕ). steps (n - 1) next opened kept (at + x) (drop (length_of rest) rest)) (sym e)
-      ∙ ap (λ (x : List ℕ). steps (n - 1) next opened kept (at + size) x) (moved size e)
+      so_far ∙ steps_on p l kept at rest n some_turn g.sound z
+      ∙ (λ i. steps p (n - 1) (g.follows i) (sym w i) (at + sym e i) (moved size e i))
 
-  pub fits_here : (next : Language) (size : ℕ) → GoesOn l element names rest next → at ≤ length bytes → size ≡ length_of rest → (at + size ≤ length bytes) × (0 < size)
-  fits_here next size g w e = let f = g.whole.enough in let h = g.whole.least in (omega (arith, ap (λ (x : List ℕ). length x) here, length-drop at bytes), omega arith)
+  pub fits_here : (next : Language) (size : ℕ) → GoesOn p l kept rest next → at ≤ length bytes → size ≡ length_of rest
+      → (at + size ≤ length bytes) × (0 < size)
+  fits_here next size g w e =
+      let f = g.whole.enough in
+      let h = g.whole.least in
+      (omega (arith, ap (λ (x : List ℕ). length x) s.here, length-drop at bytes), omega arith)

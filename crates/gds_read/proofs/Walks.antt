@@ -8,8 +8,8 @@ use Rattle.gds_records.specs.Faults.{here_record, kind_of, length_of}
 use Rattle.gds_records.specs.Drawing.{name_of, starts}
 use Rattle.gds_records.specs.Whole.{Use, Outline, uses_from, outlines, last_place}
 use Rattle.gds_read.specs.declared.outline.NamedOutline.{NamedOutline}
-use Rattle.gds_read.specs.Decoding.{IsSpelled, records_in, Goes}
-use Rattle.gds_read.specs.Outlining.{use_of, outline_of, uses_at}
+use Rattle.gds_read.specs.Code.Decoding.{IsSpelled, records_in, Goes}
+use Rattle.gds_read.specs.Code.Outlining.{use_of, outline_of, uses_at}
 use Rattle.gds_read.proofs.Cursors.{none_left}
 use Rattle.gds_read.proofs.Decoded.{goes}
 

@@ -1,12 +1,3 @@
-pub mod Places
-pub mod Fronts
-pub mod Texts
-pub mod Steps
 pub mod Flattening
-pub mod Decoding
 pub mod Reading
-pub mod Outlining
-pub mod Numbering
-pub mod Tops
-pub mod Sizes
-pub mod Bodies
+pub mod Code

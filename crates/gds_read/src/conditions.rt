@@ -2,11 +2,11 @@
 ghost use Rattle.std.specs.Prelude.{◌≡◌, ◌&&◌, ◌==◌, not, length, map, Some, None, IfOk, IfErr};
 ghost use Rattle.gds_records.specs.Steps.{is_listed};
 ghost use Rattle.gds_records.specs.Whole.{all_uses, unknown, deep, tops, outlines, whole_fault, top_of};
-ghost use Rattle.gds_read.specs.Decoding.{IsSpelled, records_in};
-ghost use Rattle.gds_read.specs.Outlining.{use_of, outline_of};
-ghost use Rattle.gds_read.specs.Numbering.{number_in, IsNumbering, AreUsed, unnumbered};
-ghost use Rattle.gds_read.specs.Texts.{texts};
-ghost use Rattle.gds_read.specs.Tops.{told_tops};
+ghost use Rattle.gds_read.specs.Code.Decoding.{IsSpelled, records_in};
+ghost use Rattle.gds_read.specs.Code.Outlining.{use_of, outline_of};
+ghost use Rattle.gds_read.specs.Code.Numbering.{number_in, IsNumbering, AreUsed, unnumbered};
+ghost use Rattle.gds_read.specs.Code.Texts.{texts};
+ghost use Rattle.gds_read.specs.Code.Tops.{told_tops};
 
 use crate::cursor::end_at;
 use crate::names::{Names, is_taken};

@@ -3,7 +3,7 @@ ghost use Rattle.std.specs.Prelude.{◌≡◌, ◌+◌, ◌<◌, ◌≤◌, leng
 ghost use Rattle.gds_records.specs.Faults.{here_record, kind_of, length_of};
 ghost use Rattle.gds_records.specs.Drawing.{field, has};
 ghost use Rattle.gds_records.specs.Whole.{last_place};
-ghost use Rattle.gds_read.specs.Decoding.{IsSpelled, Goes, records_in};
+ghost use Rattle.gds_read.specs.Code.Decoding.{IsSpelled, Goes, records_in};
 
 use crate::front::record_length;
 use gds_records::codes::ENDLIB;

@@ -4,9 +4,9 @@ ghost use Rattle.gds_records.specs.Codes.{BOUNDARY, LAYER, DATATYPE, XY, SNAME, 
 ghost use Rattle.gds_records.specs.Records.{number, trimmed};
 ghost use Rattle.gds_records.specs.Values.{is_rectangle};
 ghost use Rattle.gds_records.specs.Drawing.{field, has, coordinate, box_of, place_of, element_of};
-ghost use Rattle.gds_read.specs.Decoding.{IsSpelled, records_in};
-ghost use Rattle.gds_read.specs.Numbering.{IsNumbering};
-ghost use Rattle.gds_read.specs.Outlining.{names_in};
+ghost use Rattle.gds_read.specs.Code.Decoding.{IsSpelled, records_in};
+ghost use Rattle.gds_read.specs.Code.Numbering.{IsNumbering};
+ghost use Rattle.gds_read.specs.Code.Outlining.{names_in};
 
 use crate::cursor::{field, has};
 use crate::fields::{coordinate, number, rectangle};

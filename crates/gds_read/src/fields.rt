@@ -1,5 +1,5 @@
 // Numbers and rectangles in the data of records.
-ghost use Rattle.std.specs.Prelude.{◌≡◌, ◌≢◌, ◌+◌, ◌*◌, ◌<◌, ◌<ℤ◌, true, slice_index};
+ghost use Rattle.std.specs.Prelude.{◌≡◌, ◌≢◌, ◌+◌, ◌*◌, ◌^◌, ◌<◌, ◌<ℤ◌, true, slice_index};
 ghost use Rattle.std.specs.Int.{w32, cast_unsigned};
 ghost use Rattle.gds_records.specs.Records.{number};
 ghost use Rattle.gds_records.specs.Values.{at, is_rectangle};
@@ -22,7 +22,7 @@ pub fn number(content: &[u8]) -> u16
 }
 
 fn bits(xy: &[u8], i: usize) -> u32
-    requires { i < 1000 }
+    requires { i < 2 ^ 61 }
     ensures { result ≡ at xy.now i }
 {
     let k = 4 * i;
@@ -34,9 +34,17 @@ fn bits(xy: &[u8], i: usize) -> u32
     ])
 }
 
+/// Coordinate number `i`, where x and y of each point take turns, in four bytes.
+pub fn narrow(xy: &[u8], i: usize) -> i32
+    requires { i < 2 ^ 61 }
+    ensures { result ≡ coordinate xy.now i }
+{
+    bits(xy, i).cast_signed()
+}
+
 /// Coordinate number `i`, where x and y of each point take turns.
 pub fn coordinate(xy: &[u8], i: usize) -> i64
-    requires { i < 1000 }
+    requires { i < 2 ^ 61 }
     ensures value { result ≡ coordinate xy.now i }
     ensures back { cast_unsigned w32 result ≡ at xy.now i }
 {

@@ -3,13 +3,17 @@ ghost use Rattle.std.specs.Prelude.{◌≡◌, ◌⊎◌, ◌<◌, ◌≤◌, �
 ghost use Rattle.geom.specs.declared.layout.Layout.{Layout};
 ghost use Rattle.geom.specs.FlatForm.{flat_of, flat_count};
 ghost use Rattle.gds_records.specs.declared.fault.StreamKind.{StreamKind};
-ghost use Rattle.gds_records.specs.Stream.{IsStream};
+ghost use Rattle.gds_records.specs.Stream.{IsStream, IsWideStream};
+ghost use Rattle.gds_records.specs.Scan.{IsBytes, wide_layout_in};
+ghost use Rattle.poly_cut.specs.FlatForm.{wide_flat};
 ghost use Rattle.gds_records.specs.Faults.{StreamFault};
 ghost use Rattle.gds_read.specs.declared.refusal.StreamRefusal.{StreamRefusal};
 ghost use Rattle.gds_read.specs.declared.refusal.StreamRefusal.TheVariants.{Bad, TooManyShapes, Memory};
 ghost use Rattle.gds_read.specs.Reading.{IsReadAs, IsRefusedFor};
 
-use gds_records::{one_layout, one_of_both};
+use gds_records::{
+    one_layout, one_of_both, one_wide_reading, rectangles_are_rings, strict_streams_are_wide,
+};
 
 /// Want of memory apart, each answer of `read_stream` comes exactly where it may: a stream of a size that is taken is
 /// not refused, a larger one only by its number of shapes, and bytes with a fault are refused by the first one alone.
@@ -28,4 +32,14 @@ pub fn reading_is_exact()
 {
     one_layout();
     one_of_both();
+}
+
+/// A strict stream is a wide one, with the same flat form.
+pub fn strict_reading_is_wide()
+    ensures stream { (bytes : List ℕ) (layout : Layout) → IsBytes bytes → IsStream bytes layout → IsWideStream bytes (wide_layout_in bytes) }
+    ensures flat { (bytes : List ℕ) (layout : Layout) → IsBytes bytes → IsStream bytes layout → wide_flat (wide_layout_in bytes) ≡ flat_of layout }
+{
+    rectangles_are_rings();
+    strict_streams_are_wide();
+    one_wide_reading();
 }

@@ -14,6 +14,8 @@ mod naming;
 mod numbers;
 mod outline;
 mod place;
+mod points;
+mod profile;
 mod read;
 mod refusal;
 mod scan;
@@ -23,9 +25,11 @@ mod table;
 #[cfg(test)]
 mod tests;
 mod values;
+mod ways;
+mod wide_values;
 
 pub use flat::flatten;
 pub use gds_records::StreamKind;
-pub use laws::reading_is_exact;
+pub use laws::{reading_is_exact, strict_reading_is_wide};
 pub use read::read_stream;
 pub use refusal::StreamRefusal;

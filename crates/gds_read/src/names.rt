@@ -4,9 +4,9 @@ ghost use Rattle.std.specs.Str.{bytes_eq};
 ghost use Rattle.indexmap.specs.IndexSet.{insert_key};
 ghost use Rattle.gds_records.specs.Steps.{is_listed};
 ghost use Rattle.gds_records.specs.Whole.{is_used, all_uses};
-ghost use Rattle.gds_read.specs.Numbering.{AreUsed};
-ghost use Rattle.gds_read.specs.Outlining.{use_of, outline_of};
-ghost use Rattle.gds_read.specs.Texts.{texts};
+ghost use Rattle.gds_read.specs.Code.Numbering.{AreUsed};
+ghost use Rattle.gds_read.specs.Code.Outlining.{use_of, outline_of};
+ghost use Rattle.gds_read.specs.Code.Texts.{texts};
 
 use crate::outline::{NamedOutline, NamedUse};
 use aq_base::Memory;

@@ -1,8 +1,8 @@
 // Numbers of structures, by their names.
 ghost use Rattle.std.specs.Prelude.{◌≡◌, ℕ, List, map, IfOk, OnOk};
 ghost use Rattle.std.specs.Str.{bytes_eq};
-ghost use Rattle.gds_read.specs.Outlining.{outline_of};
-ghost use Rattle.gds_read.specs.Numbering.{number_in, number_or, IsNumbering};
+ghost use Rattle.gds_read.specs.Code.Outlining.{outline_of};
+ghost use Rattle.gds_read.specs.Code.Numbering.{number_in, number_or, IsNumbering};
 
 use crate::outline::NamedOutline;
 use aq_base::Memory;

@@ -4,8 +4,8 @@ ghost use Rattle.gds_records.specs.Faults.{here_record, kind_of};
 ghost use Rattle.gds_records.specs.Records.{trimmed};
 ghost use Rattle.gds_records.specs.Drawing.{name_of};
 ghost use Rattle.gds_records.specs.Whole.{Use, uses_from, outlines};
-ghost use Rattle.gds_read.specs.Decoding.{IsSpelled, records_in};
-ghost use Rattle.gds_read.specs.Outlining.{use_of, outline_of, uses_at};
+ghost use Rattle.gds_read.specs.Code.Decoding.{IsSpelled, records_in};
+ghost use Rattle.gds_read.specs.Code.Outlining.{use_of, outline_of, uses_at};
 
 use crate::cursor::{behind, data_at, field, kind_at, length_at};
 use crate::values::trimmed;

@@ -1,13 +1,16 @@
-// The places of a reader of streams: what it has read, as far as this says what may follow.
+// The places of a reader of strict or of wide streams: what it has read, as far as this says what may follow.
 ghost use Rattle.std.specs.Prelude.{◌≡◌, MatchOption};
 ghost use Rattle.gds_records.specs.Language.{Nothing};
 ghost use Rattle.gds_records.specs.Derivative.{after};
-ghost use Rattle.gds_read.specs.Places.{rest_of};
+ghost use Rattle.gds_read.specs.Code.Places.{rest_of};
+ghost use Rattle.gds_read.specs.declared.place.Place.TheVariants.{Inside, ReferenceTransform};
 
+use crate::profile::Profile;
 use gds_records::codes::{
-    ANGLE, ATTRTABLE, BGNLIB, BGNSTR, BOUNDARY, DATATYPE, ELFLAGS, ENDEL, ENDLIB, ENDSTR, FONTS,
-    GENERATIONS, HEADER, LAYER, LIBNAME, MAG, PATHTYPE, PLEX, PRESENTATION, PROPATTR, PROPVALUE,
-    REFLIBS, SNAME, SREF, STRANS, STRING, STRNAME, TEXT, TEXTTYPE, UNITS, WIDTH, XY,
+    ANGLE, AREF, ATTRTABLE, BGNLIB, BGNSTR, BOUNDARY, COLROW, DATATYPE, ELFLAGS, ENDEL, ENDLIB,
+    ENDSTR, FONTS, GENERATIONS, HEADER, LAYER, LIBNAME, MAG, PATH, PATHTYPE, PLEX, PRESENTATION,
+    PROPATTR, PROPVALUE, REFLIBS, SNAME, SREF, STRANS, STRING, STRNAME, TEXT, TEXTTYPE, UNITS,
+    WIDTH, XY,
 };
 
 /// Where a reader stands: named after the last record that counts for what may follow.
@@ -37,6 +40,8 @@ pub enum Place {
     ReferencePlex,
     ReferenceName,
     ReferenceTransform,
+    ReferenceMagnified,
+    ReferenceAngle,
     Text,
     TextFlags,
     TextPlex,
@@ -49,11 +54,58 @@ pub enum Place {
     TextMagnified,
     TextAngle,
     TextPoint,
+    Path,
+    PathFlags,
+    PathPlex,
+    PathLayer,
+    PathDatatype,
+    PathPathType,
+    PathWidth,
+    Array,
+    ArrayFlags,
+    ArrayPlex,
+    ArrayName,
+    ArrayTransform,
+    ArrayMagnified,
+    ArrayAngle,
+    ArrayColrow,
+}
+
+// The place after a record of this type between elements.
+fn next_element(profile: Profile, kind: u8) -> Option<Place>
+    ensures { MatchOption result (after kind (rest_of profile Inside) ≡ Nothing)
+        (λ next. after kind (rest_of profile Inside) ≡ rest_of profile next) }
+{
+    let wide = matches!(profile, Profile::Wide);
+    match kind {
+        BOUNDARY => Some(Place::Boundary),
+        PATH if wide => Some(Place::Path),
+        SREF => Some(Place::Reference),
+        AREF if wide => Some(Place::Array),
+        TEXT => Some(Place::Text),
+        ENDSTR => Some(Place::Structures),
+        _ => None,
+    }
+}
+
+// The place after a record of this type behind a reference's STRANS.
+fn behind_strans(profile: Profile, kind: u8) -> Option<Place>
+    ensures { MatchOption result (after kind (rest_of profile ReferenceTransform) ≡ Nothing)
+        (λ next. after kind (rest_of profile ReferenceTransform) ≡ rest_of profile next) }
+{
+    let wide = matches!(profile, Profile::Wide);
+    match kind {
+        MAG if wide => Some(Place::ReferenceMagnified),
+        ANGLE if wide => Some(Place::ReferenceAngle),
+        XY => Some(Place::Tail),
+        _ => None,
+    }
 }
 
 /// The place after a record of this type, if it may stand here.
-pub fn next(place: Place, kind: u8) -> Option<Place>
-    ensures { MatchOption result (after kind (rest_of place) ≡ Nothing) (λ next. after kind (rest_of place) ≡ rest_of next) }
+pub fn next(profile: Profile, place: Place, kind: u8) -> Option<Place>
+    ensures { MatchOption result (after kind (rest_of profile place) ≡ Nothing)
+        (λ next. after kind (rest_of profile place) ≡ rest_of profile next) }
 {
     match place {
         Place::Start => match kind {
@@ -107,13 +159,7 @@ pub fn next(place: Place, kind: u8) -> Option<Place>
             STRNAME => Some(Place::Inside),
             _ => None,
         },
-        Place::Inside => match kind {
-            BOUNDARY => Some(Place::Boundary),
-            SREF => Some(Place::Reference),
-            TEXT => Some(Place::Text),
-            ENDSTR => Some(Place::Structures),
-            _ => None,
-        },
+        Place::Inside => next_element(profile, kind),
         Place::Done => None,
         Place::Boundary => match kind {
             ELFLAGS => Some(Place::BoundaryFlags),
@@ -167,7 +213,13 @@ pub fn next(place: Place, kind: u8) -> Option<Place>
             XY => Some(Place::Tail),
             _ => None,
         },
-        Place::ReferenceTransform => match kind {
+        Place::ReferenceTransform => behind_strans(profile, kind),
+        Place::ReferenceMagnified => match kind {
+            ANGLE => Some(Place::ReferenceAngle),
+            XY => Some(Place::Tail),
+            _ => None,
+        },
+        Place::ReferenceAngle => match kind {
             XY => Some(Place::Tail),
             _ => None,
         },
@@ -233,6 +285,77 @@ pub fn next(place: Place, kind: u8) -> Option<Place>
         },
         Place::TextPoint => match kind {
             STRING => Some(Place::Tail),
+            _ => None,
+        },
+        Place::Path => match kind {
+            ELFLAGS => Some(Place::PathFlags),
+            PLEX => Some(Place::PathPlex),
+            LAYER => Some(Place::PathLayer),
+            _ => None,
+        },
+        Place::PathFlags => match kind {
+            PLEX => Some(Place::PathPlex),
+            LAYER => Some(Place::PathLayer),
+            _ => None,
+        },
+        Place::PathPlex => match kind {
+            LAYER => Some(Place::PathLayer),
+            _ => None,
+        },
+        Place::PathLayer => match kind {
+            DATATYPE => Some(Place::PathDatatype),
+            _ => None,
+        },
+        Place::PathDatatype => match kind {
+            PATHTYPE => Some(Place::PathPathType),
+            WIDTH => Some(Place::PathWidth),
+            _ => None,
+        },
+        Place::PathPathType => match kind {
+            WIDTH => Some(Place::PathWidth),
+            _ => None,
+        },
+        Place::PathWidth => match kind {
+            XY => Some(Place::Tail),
+            _ => None,
+        },
+        Place::Array => match kind {
+            ELFLAGS => Some(Place::ArrayFlags),
+            PLEX => Some(Place::ArrayPlex),
+            SNAME => Some(Place::ArrayName),
+            _ => None,
+        },
+        Place::ArrayFlags => match kind {
+            PLEX => Some(Place::ArrayPlex),
+            SNAME => Some(Place::ArrayName),
+            _ => None,
+        },
+        Place::ArrayPlex => match kind {
+            SNAME => Some(Place::ArrayName),
+            _ => None,
+        },
+        Place::ArrayName => match kind {
+            STRANS => Some(Place::ArrayTransform),
+            COLROW => Some(Place::ArrayColrow),
+            _ => None,
+        },
+        Place::ArrayTransform => match kind {
+            MAG => Some(Place::ArrayMagnified),
+            ANGLE => Some(Place::ArrayAngle),
+            COLROW => Some(Place::ArrayColrow),
+            _ => None,
+        },
+        Place::ArrayMagnified => match kind {
+            ANGLE => Some(Place::ArrayAngle),
+            COLROW => Some(Place::ArrayColrow),
+            _ => None,
+        },
+        Place::ArrayAngle => match kind {
+            COLROW => Some(Place::ArrayColrow),
+            _ => None,
+        },
+        Place::ArrayColrow => match kind {
+            XY => Some(Place::Tail),
             _ => None,
         },
     }

@@ -3,8 +3,8 @@ ghost use Rattle.std.specs.Prelude.{◌≡◌, ◌<◌, ◌≤◌, length, None,
 ghost use Rattle.geom.specs.FlatForm.{flat_of, flat_count};
 ghost use Rattle.gds_records.specs.Stream.{layout_of};
 ghost use Rattle.gds_records.specs.Whole.{whole_fault};
-ghost use Rattle.gds_read.specs.Bodies.{IsWholeRefusal, IsOversize};
-ghost use Rattle.gds_read.specs.Decoding.{IsSpelled, records_in};
+ghost use Rattle.gds_read.specs.Code.Bodies.{IsWholeRefusal, IsOversize};
+ghost use Rattle.gds_read.specs.Code.Decoding.{IsSpelled, records_in};
 ghost use Rattle.gds_read.specs.Reading.{IsReadAs, IsRefusedFor};
 
 use crate::conditions::top_or_fault;
@@ -13,6 +13,7 @@ use crate::names::used_names;
 use crate::naming::hash_of_names;
 use crate::numbers::{numbers, small_number};
 use crate::outline::outlines_in;
+use crate::profile::Profile;
 use crate::refusal::StreamRefusal;
 use crate::size::size_of_flat;
 use crate::structures::structures;
@@ -61,7 +62,7 @@ pub fn read_stream(alloc: Global, bytes: &[u8]) -> Result<Layout, StreamRefusal>
     ensures err { IfErr result (λ refusal. IsRefusedFor bytes.now refusal) }
 {
     let hash = hash_of_names(bytes);
-    let end = end_of_records(alloc, hash, bytes)?;
+    let end = end_of_records(alloc, Profile::Strict, hash, bytes)?;
     let (records, _) = bytes.split_at(end);
     let layout = layout_of(alloc, hash, records)?;
     within_size(alloc, layout)

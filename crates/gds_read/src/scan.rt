@@ -1,22 +1,26 @@
 // The records of a stream, one after another, up to ENDLIB or to the first fault.
 ghost use Rattle.std.specs.Prelude.{◌≡◌, ◌≤◌, ◌+◌, ◌∷◌, [], length, take, drop, map, Some, IfOk, IfErr, true};
-ghost use Rattle.gds_records.specs.Faults.{here_record, kind_of, length_of};
-ghost use Rattle.gds_records.specs.Records.{record_with, trimmed};
-ghost use Rattle.gds_records.specs.Table.{has_length};
-ghost use Rattle.gds_records.specs.Values.{value_fault_in, opener};
-ghost use Rattle.gds_records.specs.Steps.{step_fault, is_listed};
-ghost use Rattle.gds_read.specs.Fronts.{IsWhole};
-ghost use Rattle.gds_read.specs.Places.{rest_of};
-ghost use Rattle.gds_read.specs.Steps.{GoesOn, all_steps, told_as, offset_of};
-ghost use Rattle.gds_read.specs.Texts.{texts};
+ghost use Rattle.gds_records.specs.Profiled.{here_record, kind_of, length_of};
+ghost use Rattle.gds_records.specs.Records.{record_with};
+ghost use Rattle.gds_records.specs.Values.{opener};
+ghost use Rattle.gds_records.specs.WideValues.{wide_opener, last_colrow};
+ghost use Rattle.gds_records.specs.Steps.{step_fault, value_here, all_steps};
+ghost use Rattle.gds_read.specs.declared.scan.Step.TheVariants.{On, Fault};
+ghost use Rattle.gds_read.specs.Code.Fronts.{IsWhole};
+ghost use Rattle.gds_read.specs.Code.Profiles.{profile_of};
+ghost use Rattle.gds_read.specs.Code.Places.{rest_of};
+ghost use Rattle.gds_read.specs.Code.Steps.{kept, IsStep, told_as, offset_of};
+ghost use Rattle.gds_read.specs.Code.Texts.{texts};
 
 use crate::front::{fault_at_front, record_length};
 use crate::names::{Names, add, is_taken};
 use crate::place::{Place, next};
+use crate::profile::Profile;
 use crate::values::{trimmed, value_fault};
 use aq_base::Memory;
 use gds_records::StreamKind;
-use gds_records::codes::{BOUNDARY, ENDLIB, SREF, STRNAME, TEXT};
+use gds_records::codes::{AREF, BOUNDARY, COLROW, ENDLIB, PATH, SREF, STRNAME, TEXT};
+use std::alloc::Global;
 
 /// Where the records end, or the first fault at one of them.
 #[derive(Clone, Copy, Debug, PartialEq, Eq)]
@@ -25,9 +29,17 @@ pub enum Outcome {
     Ended { offset: usize },
 }
 
+/// The place after a record, or what is wrong with the record.
+#[derive(Clone, Copy, Debug, PartialEq, Eq)]
+enum Step {
+    On(Place),
+    Fault(StreamKind),
+}
+
 /// The data of the record at the front.
 pub fn content(bytes: &[u8]) -> &[u8]
-    requires { IsWhole bytes.now }
+    requires least { 4 ≤ length_of bytes.now }
+    requires enough { length_of bytes.now ≤ length bytes.now }
     ensures { result.now ≡ drop 4 (take (length_of bytes.now) bytes.now) }
 {
     let (record, _) = bytes.split_at(record_length(bytes));
@@ -35,8 +47,8 @@ pub fn content(bytes: &[u8]) -> &[u8]
     content
 }
 
-/// BOUNDARY, SREF or TEXT, whichever came last.
-pub fn opener_after(element: u8, kind: u8) -> u8
+// BOUNDARY, SREF or TEXT, whichever came last.
+fn strict_opener(element: u8, kind: u8) -> u8
     ensures { result ≡ opener element (record_with kind 0 [] ∷ []) }
 {
     match kind {
@@ -45,51 +57,102 @@ pub fn opener_after(element: u8, kind: u8) -> u8
     }
 }
 
+// BOUNDARY, PATH, SREF, AREF or TEXT, whichever came last.
+fn wide_opener(element: u8, kind: u8) -> u8
+    ensures { result ≡ wide_opener element (record_with kind 0 [] ∷ []) }
+{
+    match kind {
+        BOUNDARY | PATH | SREF | AREF | TEXT => kind,
+        _ => element,
+    }
+}
+
+// The record that opened the element, behind one of this type.
+fn opener_after(profile: Profile, element: u8, kind: u8) -> u8
+    ensures { result ≡ (profile_of profile).opener element (record_with kind 0 [] ∷ []) }
+{
+    match profile {
+        Profile::Strict => strict_opener(element, kind),
+        Profile::Wide => wide_opener(element, kind),
+    }
+}
+
+/// The content of the last COLROW, behind the record at the front.
+fn colrow_after<'a>(colrow: &'a [u8], bytes: &'a [u8]) -> &'a [u8]
+    requires least { 4 ≤ length_of bytes.now }
+    requires enough { length_of bytes.now ≤ length bytes.now }
+    ensures { result.now ≡ last_colrow colrow.now (here_record bytes.now ∷ []) }
+{
+    if bytes[2] == COLROW {
+        content(bytes)
+    } else {
+        colrow
+    }
+}
+
 // What is wrong with the value of the record at the front.
-fn value_here(element: u8, names: &Names<'_>, bytes: &[u8]) -> Option<StreamKind>
-    requires { IsWhole bytes.now }
-    ensures { result ≡ value_fault_in element (is_listed (trimmed (here_record bytes.now).content) (texts names.now.keys)) (here_record bytes.now) }
+fn value_here(
+    alloc: Global,
+    profile: Profile,
+    element: u8,
+    colrow: &[u8],
+    names: &Names<'_>,
+    bytes: &[u8],
+) -> Result<Option<StreamKind>, Memory>
+    requires { IsWhole (profile_of profile) bytes.now }
+    ensures { IfOk result (λ fault. fault ≡ value_here (profile_of profile) (kept element colrow.now (texts names.now.keys)) bytes.now) }
 {
     let data = content(bytes);
-    if bytes[2] != STRNAME {
-        return value_fault(element, false, bytes[2], data);
-    }
-    let taken = is_taken(names, trimmed(data));
-    value_fault(element, taken, bytes[2], data)
+    let taken = bytes[2] == STRNAME && is_taken(names, trimmed(data));
+    value_fault(alloc, profile, element, colrow, taken, bytes[2], data)
 }
 
 // The place after the record at the front, or what is wrong with it.
-fn step(place: Place, element: u8, names: &Names<'_>, bytes: &[u8]) -> Result<Place, StreamKind>
-    ensures ok { IfOk result (λ next. GoesOn (rest_of place) element (texts names.now.keys) bytes.now (rest_of next)) }
-    ensures err { IfErr result (λ kind. step_fault (rest_of place) element (texts names.now.keys) bytes.now ≡ Some kind) }
+fn next_step(
+    alloc: Global,
+    profile: Profile,
+    place: Place,
+    element: u8,
+    colrow: &[u8],
+    names: &Names<'_>,
+    bytes: &[u8],
+) -> Result<Step, Memory>
+    ensures { IfOk result (λ step. IsStep (profile_of profile) (rest_of profile place)
+        (kept element colrow.now (texts names.now.keys)) bytes.now (rest_of profile) step) }
 {
-    if let Some(kind) = fault_at_front(bytes) {
-        return Err(kind);
+    if let Some(kind) = fault_at_front(profile, bytes) {
+        return Ok(Step::Fault(kind));
     }
-    let Some(after) = next(place, bytes[2]) else {
-        return Err(StreamKind::Order);
+    let Some(after) = next(profile, place, bytes[2]) else {
+        return Ok(Step::Fault(StreamKind::Order));
     };
-    match value_here(element, names, bytes) {
-        Some(kind) => Err(kind),
-        None => Ok(after),
+    match value_here(alloc, profile, element, colrow, names, bytes)? {
+        Some(kind) => Ok(Step::Fault(kind)),
+        None => Ok(Step::On(after)),
     }
 }
 
 /// Reads the records of a stream up to ENDLIB, or up to the first fault at one. Behind an end, the names are those of
 /// the structures.
-pub fn scan<'a>(bytes: &'a [u8], names: &mut Names<'a>) -> Result<Outcome, Memory>
+pub fn scan<'a>(
+    alloc: Global,
+    profile: Profile,
+    bytes: &'a [u8],
+    names: &mut Names<'a>,
+) -> Result<Outcome, Memory>
     requires { texts names.old.keys ≡ [] }
-    ensures told { IfOk result (λ outcome. all_steps bytes.now ≡ told_as bytes.now outcome) }
+    ensures told { IfOk result (λ outcome. all_steps (profile_of profile) bytes.now ≡ told_as bytes.now outcome) }
     ensures within { IfOk result (λ outcome. offset_of outcome ≤ length bytes.now) }
 {
     let mut at: usize = 0;
     let mut place = Place::Start;
     let mut element: u8 = 0;
+    let mut colrow: &[u8] = &[];
     'records: loop {
         let (_, rest) = bytes.split_at(at);
-        let next = match step(place, element, names, rest) {
-            Ok(next) => next,
-            Err(kind) => return Ok(Outcome::Stopped { offset: at, kind }),
+        let next = match next_step(alloc, profile, place, element, colrow, names, rest)? {
+            Step::On(next) => next,
+            Step::Fault(kind) => return Ok(Outcome::Stopped { offset: at, kind }),
         };
         let kind = rest[2];
         at += record_length(rest);
@@ -99,7 +162,8 @@ pub fn scan<'a>(bytes: &'a [u8], names: &mut Names<'a>) -> Result<Outcome, Memor
         if kind == STRNAME {
             add(names, trimmed(content(rest)))?;
         }
-        element = opener_after(element, kind);
+        element = opener_after(profile, element, kind);
+        colrow = colrow_after(colrow, rest);
         place = next;
     }
 }

@@ -1,7 +1,7 @@
 // The size of a flat form, without making it.
 ghost use Rattle.std.specs.Prelude.{◌≡◌, ◌∷◌, ◌<◌, ◌≤◌, [], map, length, IfOk, IfSome};
 ghost use Rattle.geom.specs.FlatForm.{flat_of, flat_count};
-ghost use Rattle.gds_read.specs.Sizes.{own_size, flat_size};
+ghost use Rattle.gds_read.specs.Code.Sizes.{own_size, flat_size};
 
 use aq_base::{List, Memory};
 use geom::{Element, Layout, Structure};

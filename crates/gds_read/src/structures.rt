@@ -1,9 +1,9 @@
 // The structures of a stream, element by element.
 ghost use Rattle.std.specs.Prelude.{◌≡◌, map, drop, IfOk};
 ghost use Rattle.gds_records.specs.Drawing.{element_of, element_parts, name_of, structure_of, starts};
-ghost use Rattle.gds_read.specs.Decoding.{IsSpelled, records_in};
-ghost use Rattle.gds_read.specs.Numbering.{IsNumbering};
-ghost use Rattle.gds_read.specs.Outlining.{names_in};
+ghost use Rattle.gds_read.specs.Code.Decoding.{IsSpelled, records_in};
+ghost use Rattle.gds_read.specs.Code.Numbering.{IsNumbering};
+ghost use Rattle.gds_read.specs.Code.Outlining.{names_in};
 
 use crate::cursor::{behind, field, kind_at, length_at};
 use crate::element::{copied, element};

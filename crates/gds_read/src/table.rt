@@ -1,21 +1,31 @@
-// The table of records.
+// The tables of records.
 ghost use Rattle.std.specs.Prelude.{◌≡◌, ◌<◌, ◌^◌, true};
-ghost use Rattle.gds_records.specs.Table.{known, has_form, has_length};
+ghost use Rattle.gds_records.specs.Table.{known_in, has_form_in, has_length_in};
+ghost use Rattle.gds_read.specs.Code.Profiles.{profile_of};
+
+use crate::profile::Profile;
 
 /// Whether the record type is one that is read.
-pub fn is_known(kind: u8) -> bool
-    ensures { result ≡ known kind }
+pub fn is_known(profile: Profile, kind: u8) -> bool
+    ensures { result ≡ known_in (profile_of profile).records kind }
 {
-    matches!(kind, 0..=8 | 10 | 12..=18 | 22 | 23 | 25..=28 | 31..=35 | 38 | 43 | 44 | 47)
+    match profile {
+        Profile::Strict => {
+            matches!(kind, 0..=8 | 10 | 12..=18 | 22 | 23 | 25..=28 | 31..=35 | 38 | 43 | 44 | 47)
+        }
+        Profile::Wide => {
+            matches!(kind, 0..=19 | 22 | 23 | 25..=28 | 31..=35 | 38 | 43 | 44 | 47)
+        }
+    }
 }
 
 /// Whether records of this known type have this data type.
-pub fn is_form(kind: u8, form: u8) -> bool
-    requires { known kind ≡ true }
-    ensures { result ≡ has_form kind form }
+pub fn is_form(profile: Profile, kind: u8, form: u8) -> bool
+    requires { known_in (profile_of profile).records kind ≡ true }
+    ensures { result ≡ has_form_in (profile_of profile).records kind form }
 {
     match kind {
-        0 | 1 | 5 | 13 | 14 | 22 | 33 | 34 | 43 => form == 2,
+        0 | 1 | 5 | 13 | 14 | 19 | 22 | 33 | 34 | 43 => form == 2,
         2 | 6 | 18 | 25 | 31 | 32 | 35 | 44 => form == 6,
         3 | 27 | 28 => form == 5,
         15 | 16 | 47 => form == 3,
@@ -25,9 +35,9 @@ pub fn is_form(kind: u8, form: u8) -> bool
 }
 
 /// Whether records of this known type may have this length, the head counted.
-pub fn is_length(kind: u8, length: usize) -> bool
-    requires { known kind ≡ true }
-    ensures { result ≡ has_length kind length }
+pub fn is_length(profile: Profile, kind: u8, length: usize) -> bool
+    requires { known_in (profile_of profile).records kind ≡ true }
+    ensures { result ≡ has_length_in (profile_of profile).records kind length }
 {
     match kind {
         2 | 6 | 18 | 25 | 31 | 32 | 35 | 44 => length % 2 == 0,
@@ -35,8 +45,8 @@ pub fn is_length(kind: u8, length: usize) -> bool
         1 | 5 => length == 28,
         3 => length == 20,
         27 | 28 => length == 12,
-        15 | 47 => length == 8,
-        4 | 7 | 8 | 10 | 12 | 17 => length == 4,
+        15 | 19 | 47 => length == 8,
+        4 | 7..=12 | 17 => length == 4,
         _ => length == 6,
     }
 }

@@ -13,3 +13,10 @@ pub mod FromWritable
 pub mod FirstStream
 pub mod Appends
 pub mod Flowing
+pub mod WideRows
+pub mod WideFigures
+pub mod Wider
+pub mod RectangleRings
+pub mod WiderRecords
+pub mod WiderStreams
+pub mod Loops

@@ -5,9 +5,9 @@ use Rattle.std.proofs.lemmas.Bool.{eqb-true}
 use Rattle.std.proofs.lemmas.Bool.Decides.{nat_tests}
 use Rattle.gds_records.specs.Language.{Language, Nothing, Empty, One, Then, Either, Many, Speaks, Repeats, none, more}
 use Rattle.gds_records.specs.Records.{Record, kinds}
-use Rattle.gds_records.specs.Grammar.{stream}
+use Rattle.gds_records.specs.Profiles.{Profile}
 use Rattle.gds_records.specs.Derivative.{after, after_all}
-use Rattle.gds_records.specs.Scan.{alive, may_follow}
+use Rattle.gds_records.specs.Profiled.{alive, may_follow_in}
 use Rattle.gds_records.proofs.Derive.{all_complete, goes_on}
 
 -- ---- whether a language has a word
@@ -53,22 +53,9 @@ no_word (Either a b) w e (inr h) = no_word b w (right (alive a) (alive b) e) h
     right false y e = e
 no_word (Many a) w e h = absurd cc
 
--- ---- what may follow
-
-pub follows : (before : List Record) (k : ℕ) → may_follow before k ≡ true → (w : List ℕ) × Speaks stream (kinds before ++ k ∷ w)
-follows before k e =
-    let x = some_word (after k (after_all (kinds before) stream)) e in
-    (x.0, goes_on (kinds before) (k ∷ x.0) stream (goes_on (k ∷ []) x.0 (after_all (kinds before) stream) x.1))
-
-pub no_follower : (before : List Record) (k : ℕ) → may_follow before k ≡ false → (w : List ℕ) → Speaks stream (kinds before ++ k ∷ w) → ⊥
-no_follower before k e w h = no_word (after k (after_all (kinds before) stream)) w e (all_complete (k ∷ []) w (after_all (kinds before) stream) (all_complete (kinds before) (k ∷ w) stream h))
-
 bool_cases : (t : Bool) → (t ≡ true) ⊎ (t ≡ false)
 bool_cases true = inl refl
 bool_cases false = inr refl
-
-pub followed : (before : List Record) (k : ℕ) (w : List ℕ) → Speaks stream (kinds before ++ k ∷ w) → may_follow before k ≡ true
-followed before k w h = elim (bool_cases (may_follow before k)) [ inl e ↦ e | inr e ↦ absurd (no_follower before k e w h) ]
 
 -- ---- the end
 
@@ -109,7 +96,7 @@ lacks k (Either a b) w e (inl h) = lacks k a w (or_false (mentions k a) (mention
 lacks k (Either a b) w e (inr h) = lacks k b w (or_false (mentions k a) (mentions k b) e).1 h
 lacks k (Many a) w e h = many_lacks k a (λ v s. lacks k a v e s) w h
 
-abbrev ends_with : ℕ → Language → Bool
+abbrev pub ends_with : ℕ → Language → Bool
 ends_with k Nothing = true
 ends_with k Empty = false
 ends_with k (One j) = eqb j k
@@ -126,21 +113,21 @@ not_true : (x : Bool) → not x ≡ true → x ≡ false
 not_true true e = absurd cc
 not_true false e = refl
 
-ends : (k : ℕ) (a : Language) (w : List ℕ) → ends_with k a ≡ true → Speaks a w → Ends k w
-ends k Nothing w e h = absurd h
-ends k Empty w e h = absurd cc
-ends k (One j) w e h = record { front = []; whole = h ∙ ap (λ (x : ℕ). x ∷ []) (eqb-true j k e); free = refl }
-ends k (Then a b) w e h =
+ends_so : (k : ℕ) (a : Language) (w : List ℕ) → ends_with k a ≡ true → Speaks a w → Ends k w
+ends_so k Nothing w e h = absurd h
+ends_so k Empty w e h = absurd cc
+ends_so k (One j) w e h = record { front = []; whole = h ∙ ap (λ (x : ℕ). x ∷ []) (eqb-true j k e); free = refl }
+ends_so k (Then a b) w e h =
     let p = and_true (not (mentions k a)) (ends_with k b) e in
-    let r = ends k b h.1 p.1 h.4 in
+    let r = ends_so k b h.1 p.1 h.4 in
     record {
       front = h.0 ++ r.front;
       whole = h.2 ∙ ap (λ (x : List ℕ). h.0 ++ x) r.whole ∙ sym (append_assoc h.0 r.front (k ∷ []));
       free = append_lacks k h.0 r.front (lacks k a h.0 (not_true (mentions k a) p.0) h.3) r.free;
     }
-ends k (Either a b) w e (inl h) = ends k a w (and_true (ends_with k a) (ends_with k b) e).0 h
-ends k (Either a b) w e (inr h) = ends k b w (and_true (ends_with k a) (ends_with k b) e).1 h
-ends k (Many a) w e h = absurd cc
+ends_so k (Either a b) w e (inl h) = ends_so k a w (and_true (ends_with k a) (ends_with k b) e).0 h
+ends_so k (Either a b) w e (inr h) = ends_so k b w (and_true (ends_with k a) (ends_with k b) e).1 h
+ends_so k (Many a) w e h = absurd cc
 
 eqb_same : (k : ℕ) → eqb k k ≡ true
 eqb_same k = grind (arith, nat_tests)
@@ -155,28 +142,43 @@ nothing_after k (y ∷ u) w [] e f = absurd (none_left u w (let q : u ++ k ∷ w
     none_left (z ∷ u) w e = cc
 nothing_after k (y ∷ u) w (x ∷ front) e f = nothing_after k u w front (let q : u ++ k ∷ w ≡ front ++ k ∷ [] = cc in q) (or_false (eqb x k) (has_kind k front) f).1
 
-pub sentence_ends : (w : List ℕ) → Speaks stream w → Ends 4 w
-sentence_ends w h = ends 4 stream w refl h
+module _ (profile : Profile) where
+  -- ---- what may follow
 
--- nothing stands after ENDLIB
-pub at_end : (u w : List ℕ) → Speaks stream (u ++ 4 ∷ w) → w ≡ []
-at_end u w h = let r = sentence_ends (u ++ 4 ∷ w) h in nothing_after 4 u w r.front r.whole r.free
+  pub follows : (before : List Record) (k : ℕ) → may_follow_in profile before k ≡ true → (w : List ℕ) × Speaks profile.language (kinds before ++ k ∷ w)
+  follows before k e =
+      let x = some_word (after k (after_all (kinds before) profile.language)) e in
+      (x.0, goes_on (kinds before) (k ∷ x.0) profile.language (goes_on (k ∷ []) x.0 (after_all (kinds before) profile.language) x.1))
 
--- what something follows is not ENDLIB
-pub not_end : (u : List ℕ) (k j : ℕ) (w : List ℕ) → Speaks stream (u ++ k ∷ j ∷ w) → eqb k 4 ≡ false
-not_end u k j w h = elim (bool_cases (eqb k 4)) [
-  | inl e ↦ absurd (let q : k ≡ 4 = eqb-true k 4 e in let r : j ∷ w ≡ [] = at_end u (j ∷ w) (subst (λ (x : ℕ). Speaks stream (u ++ x ∷ j ∷ w)) q h) in cc)
-  | inr e ↦ e
-]
+  pub no_follower : (before : List Record) (k : ℕ) → may_follow_in profile before k ≡ false → (w : List ℕ) → Speaks profile.language (kinds before ++ k ∷ w) → ⊥
+  no_follower before k e w h = no_word (after k (after_all (kinds before) profile.language)) w e (all_complete (k ∷ []) w (after_all (kinds before) profile.language) (all_complete (kinds before) (k ∷ w) profile.language h))
 
--- what nothing follows is ENDLIB
-pub is_end : (u : List ℕ) (k : ℕ) → Speaks stream (u ++ k ∷ []) → k ≡ 4
-is_end u k h = let r = sentence_ends (u ++ k ∷ []) h in last_same u r.front r.whole
-  where
-    last_same : (u front : List ℕ) → u ++ k ∷ [] ≡ front ++ 4 ∷ [] → k ≡ 4
-    last_same [] [] e = cc
-    last_same [] (x ∷ []) e = absurd cc
-    last_same [] (x ∷ y ∷ front) e = absurd cc
-    last_same (x ∷ []) [] e = absurd cc
-    last_same (x ∷ y ∷ u) [] e = absurd cc
-    last_same (x ∷ u) (y ∷ front) e = last_same u front cc
+  pub followed : (before : List Record) (k : ℕ) (w : List ℕ) → Speaks profile.language (kinds before ++ k ∷ w) → may_follow_in profile before k ≡ true
+  followed before k w h = elim (bool_cases (may_follow_in profile before k)) [ inl e ↦ e | inr e ↦ absurd (no_follower before k e w h) ]
+
+  module _ (ends : ends_with 4 profile.language ≡ true) where
+    pub sentence_ends : (w : List ℕ) → Speaks profile.language w → Ends 4 w
+    sentence_ends w h = ends_so 4 profile.language w ends h
+
+    -- nothing stands after ENDLIB
+    pub at_end : (u w : List ℕ) → Speaks profile.language (u ++ 4 ∷ w) → w ≡ []
+    at_end u w h = let r = sentence_ends (u ++ 4 ∷ w) h in nothing_after 4 u w r.front r.whole r.free
+
+    -- what something follows is not ENDLIB
+    pub not_end : (u : List ℕ) (k j : ℕ) (w : List ℕ) → Speaks profile.language (u ++ k ∷ j ∷ w) → eqb k 4 ≡ false
+    not_end u k j w h = elim (bool_cases (eqb k 4)) [
+      | inl e ↦ absurd (let q : k ≡ 4 = eqb-true k 4 e in let r : j ∷ w ≡ [] = at_end u (j ∷ w) (subst (λ (x : ℕ). Speaks profile.language (u ++ x ∷ j ∷ w)) q h) in cc)
+      | inr e ↦ e
+    ]
+
+    -- what nothing follows is ENDLIB
+    pub is_end : (u : List ℕ) (k : ℕ) → Speaks profile.language (u ++ k ∷ []) → k ≡ 4
+    is_end u k h = let r = sentence_ends (u ++ k ∷ []) h in last_same u r.front r.whole
+      where
+        last_same : (u front : List ℕ) → u ++ k ∷ [] ≡ front ++ 4 ∷ [] → k ≡ 4
+        last_same [] [] e = cc
+        last_same [] (x ∷ []) e = absurd cc
+        last_same [] (x ∷ y ∷ front) e = absurd cc
+        last_same (x ∷ []) [] e = absurd cc
+        last_same (x ∷ y ∷ u) [] e = absurd cc
+        last_same (x ∷ u) (y ∷ front) e = last_same u front cc

@@ -1,8 +1,7 @@
 -- The records that are written are good.
 use Rattle.std.proofs.Common.{◌≡◌, ℕ, zero, suc, ◌+◌, ◌%◌, ◌^◌, ◌<◌, ◌≤◌, List, [], ◌∷◌, ◌++◌, length, Bool, true, false, cond, eqb, ◌&&◌, ◌||◌, Option, Some, None, refl, sym, ap, subst, ◌∙◌, append_assoc, arith, inl, inr, ◌⊎◌}
-use Rattle.std.specs.Prelude.{slice_index_or, FitsSigned, ℤ, not}
+use Rattle.std.specs.Prelude.{slice_index_or, ℤ, not}
 use Rattle.std.specs.List.{flat_map, AllByRecursion}
-use Rattle.std.specs.Int.{w32, from_be_bytes, cast_signed}
 use Rattle.std.proofs.lemmas.List.{append-nil, length-append}
 use Rattle.std.proofs.lemmas.List.Concat.{flat_map-cons}
 use Rattle.std.proofs.lemmas.Bool.{eqb-true}
@@ -18,7 +17,7 @@ use Rattle.gds_records.specs.Drawing.{place_of}
 use Rattle.gds_records.specs.Values.{opener, is_structure_name, holds_zero, is_text, is_name, is_rectangle}
 use Rattle.gds_records.specs.Stream.{IsGood, AreGood}
 use Rattle.geom.specs.Writable.{names_in}
-use Rattle.gds_records.specs.Writing.{two_bytes, four_bytes, padded, point, corners, element_records, dates, structure_records, units, records_of}
+use Rattle.gds_records.specs.Writing.{two_bytes, padded, point, corners, element_records, dates, structure_records, units, records_of}
 use Rattle.gds_records.proofs.Premises.{IsText, IsShort, IsBox, IsWritableElement, IsWritableStructure}
 use Rattle.gds_records.proofs.WrittenRead.{trimmed-padded, names_back, corners_so}
 

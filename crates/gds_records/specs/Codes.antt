@@ -116,3 +116,12 @@ EIGHT_BYTE_REAL = 5
 
 abbrev pub ASCII_STRING : ℕ
 ASCII_STRING = 6
+
+abbrev pub PATH : ℕ
+PATH = 0x09
+
+abbrev pub AREF : ℕ
+AREF = 0x0B
+
+abbrev pub COLROW : ℕ
+COLROW = 0x13

@@ -1,7 +1,7 @@
 -- The grammar of streams, over record types (GDSII Stream Format manual, the syntax of a stream; here for libraries of
 -- boundaries, references and texts).
 use Rattle.gds_records.specs.Language.{Language, Empty, One, Then, Either, Many}
-use Rattle.gds_records.specs.Codes.{HEADER, BGNLIB, LIBNAME, UNITS, ENDLIB, BGNSTR, STRNAME, ENDSTR, BOUNDARY, SREF, TEXT, LAYER, DATATYPE, WIDTH, XY, ENDEL, SNAME, TEXTTYPE, PRESENTATION, STRING, STRANS, MAG, ANGLE, REFLIBS, FONTS, PATHTYPE, GENERATIONS, ATTRTABLE, ELFLAGS, PROPATTR, PROPVALUE, PLEX}
+use Rattle.gds_records.specs.Codes.{HEADER, BGNLIB, LIBNAME, UNITS, ENDLIB, BGNSTR, STRNAME, ENDSTR, BOUNDARY, SREF, TEXT, LAYER, DATATYPE, WIDTH, XY, ENDEL, SNAME, TEXTTYPE, PRESENTATION, STRING, STRANS, MAG, ANGLE, REFLIBS, FONTS, PATHTYPE, GENERATIONS, ATTRTABLE, ELFLAGS, PROPATTR, PROPVALUE, PLEX, PATH, AREF, COLROW}
 
 infixr 5 ◌>>◌
 abbrev pub ◌>>◌ : Language → Language → Language
@@ -33,8 +33,33 @@ text = One TEXT >> flags >> One LAYER >> One TEXTTYPE >> maybe (One PRESENTATION
 abbrev pub element : Language
 element = Either boundary (Either reference text)
 
+-- a structure of such elements
+abbrev pub structure_of_each : Language → Language
+structure_of_each each = One BGNSTR >> One STRNAME >> Many each >> One ENDSTR
+
+-- a stream of such elements
+abbrev pub stream_of_each : Language → Language
+stream_of_each each = One HEADER >> One BGNLIB >> One LIBNAME >> maybe (One REFLIBS) >> maybe (One FONTS) >> maybe (One ATTRTABLE) >> maybe (One GENERATIONS) >> One UNITS >> Many (structure_of_each each) >> One ENDLIB
+
 abbrev pub structure : Language
-structure = One BGNSTR >> One STRNAME >> Many element >> One ENDSTR
+structure = structure_of_each element
 
 abbrev pub stream : Language
-stream = One HEADER >> One BGNLIB >> One LIBNAME >> maybe (One REFLIBS) >> maybe (One FONTS) >> maybe (One ATTRTABLE) >> maybe (One GENERATIONS) >> One UNITS >> Many structure >> One ENDLIB
+stream = stream_of_each element
+
+-- ---- wide streams, with paths, and with references that are turned and repeated
+
+abbrev pub path : Language
+path = One PATH >> flags >> One LAYER >> One DATATYPE >> maybe (One PATHTYPE) >> One WIDTH >> One XY >> tail
+
+abbrev pub turned_reference : Language
+turned_reference = One SREF >> flags >> One SNAME >> turned >> One XY >> tail
+
+abbrev pub array : Language
+array = One AREF >> flags >> One SNAME >> turned >> One COLROW >> One XY >> tail
+
+abbrev pub wide_element : Language
+wide_element = Either boundary (Either path (Either turned_reference (Either array text)))
+
+abbrev pub wide_stream : Language
+wide_stream = stream_of_each wide_element

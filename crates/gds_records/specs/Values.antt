@@ -81,6 +81,3 @@ value_fault_in element taken r =
         | false ↦ elim (has_value taken r) [ true ↦ None | false ↦ Some Value ]
       ]
     ]
-
-abbrev pub value_fault : List Record → Record → Option StreamKind
-value_fault before r = value_fault_in (opener 0 before) (is_structure_name (trimmed r.content) before) r

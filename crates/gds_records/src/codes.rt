@@ -74,3 +74,9 @@ pub const FOUR_BYTE_INTEGER: u8 = 3;
 pub const EIGHT_BYTE_REAL: u8 = 5;
 
 pub const ASCII_STRING: u8 = 6;
+/// Begins a path.
+pub const PATH: u8 = 0x09;
+/// Begins an array of references.
+pub const AREF: u8 = 0x0B;
+/// Columns and rows of an array.
+pub const COLROW: u8 = 0x13;

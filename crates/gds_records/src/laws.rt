@@ -1,15 +1,32 @@
 // Laws of streams, for the crates above.
-ghost use Rattle.std.specs.Prelude.{◌≡◌, List, ℕ, suc, length, Option, Some, None, []};
+ghost use Rattle.std.specs.Prelude.{◌≡◌, List, ℕ, suc, length, Option, Some, None, [], ◌∷◌, ◌<◌, ◌^◌, true};
 ghost use Rattle.geom.specs.declared.layout.Layout.{Layout};
 ghost use Rattle.geom.specs.Writable.{IsWritable};
-ghost use Rattle.geom.specs.FirstChip.{first_layout};
-ghost use Rattle.gds_records.specs.Stream.{IsStream, IsRead};
-ghost use Rattle.gds_records.specs.Records.{Record};
-ghost use Rattle.gds_records.specs.Faults.{StreamFault, IsStreamOrFaulty};
+ghost use Rattle.geom.specs.FirstChip.{first_layout, first_flat};
+ghost use Rattle.poly_cut.specs.FlatForm.{wide_flat};
+ghost use Rattle.gds_records.specs.Stream.{IsStream, IsWideStream, wide_layout_of};
+ghost use Rattle.gds_records.specs.Records.{Record, kinds};
+ghost use Rattle.gds_records.specs.WideDrawing.{AreFit};
+ghost use Rattle.gds_records.specs.Faults.{StreamFault, IsStreamOrFaulty, WideFault};
 ghost use Rattle.gds_records.specs.Writing.{bytes_of};
-ghost use Rattle.gds_records.specs.Scan.{first_fault, layout_in, IsBytes, scan, Whole};
-ghost use Rattle.gds_records.specs.Steps.{steps, told};
-ghost use Rattle.gds_records.specs.Grammar.{stream};
+ghost use Rattle.gds_records.specs.Scan.{first_fault, layout_in, wide_layout_in, IsBytes, Whole};
+ghost use Rattle.poly_cut.specs.declared.layout.WideLayout.{WideLayout};
+ghost use Rattle.poly_cut.specs.declared.layout.Point.{Point};
+ghost use Rattle.poly_cut.specs.declared.layout.Figure.TheVariants.{Ring};
+ghost use Rattle.poly_cut.specs.Figures.{IsFigure, IsBent};
+ghost use Rattle.poly_cut.specs.Conditions.{far};
+ghost use Rattle.gds_records.specs.WideValues.{points, is_ring, is_path, turns, is_multiple};
+ghost use Rattle.gds_records.specs.WideDrawing.{step};
+ghost use Rattle.gds_records.specs.Values.{at, is_rectangle};
+ghost use Rattle.gds_records.specs.Drawing.{box_of};
+ghost use Rattle.poly_cut.specs.Cuts.{ring_cut};
+ghost use Rattle.gds_records.specs.Profiles.{Profile, IsProfile, strict, wide};
+ghost use Rattle.gds_records.specs.Profiled.{AreGoodIn, IsReadIn, IsFirstFaultIn, first_fault_in, scan_in};
+ghost use Rattle.gds_records.specs.Steps.{all_steps, told};
+ghost use Rattle.gds_records.specs.Language.{Speaks};
+ghost use Rattle.gds_records.specs.Whole.{Outline, whole_fault};
+ghost use Rattle.gds_records.specs.WideWhole.{first_long, first_loop, wide_whole_fault};
+ghost use Rattle.gds_records.specs.Grammar.{stream, wide_stream};
 ghost use Rattle.gds_records.specs.FirstChip.{first_bytes};
 ghost use Rattle.gds_records.specs.declared.fault.StreamKind.{StreamKind};
 
@@ -18,14 +35,16 @@ pub fn no_fault_is_stream()
     ensures { (bytes : List ℕ) → IsBytes bytes → first_fault bytes ≡ None → IsStream bytes (layout_in bytes) }
 {}
 
-/// What the scan finds is the first fault.
+/// What the scan of a profile finds is the first fault.
 pub fn found_is_fault()
-    ensures { (bytes : List ℕ) (offset : ℕ) (kind : StreamKind) → IsBytes bytes → first_fault bytes ≡ Some (offset, kind) → StreamFault bytes offset kind }
+    ensures { (p : Profile) (bytes : List ℕ) (offset : ℕ) (kind : StreamKind) → IsProfile p → IsBytes bytes
+        → first_fault_in p bytes ≡ Some (offset, kind) → IsFirstFaultIn p bytes offset kind }
 {}
 
 /// Where the scan arrives at ENDLIB, the bytes are the records before it, a sentence of good records, and then a rest.
 pub fn whole_is_read()
-    ensures { (bytes : List ℕ) (records : List Record) (rest : List ℕ) → IsBytes bytes → scan (suc (length bytes)) [] bytes ≡ Whole records rest → IsRead bytes records rest }
+    ensures { (p : Profile) (bytes : List ℕ) (records : List Record) (rest : List ℕ) → IsProfile p → IsBytes bytes
+        → scan_in p (suc (length bytes)) [] bytes ≡ Whole records rest → IsReadIn p bytes records rest }
 {}
 
 /// A stream has no fault, and its layout is the one that is found.
@@ -41,7 +60,7 @@ pub fn fault_is_found()
 
 /// A scan is told by its steps, which keep no records.
 pub fn steps_tell_scan()
-    ensures { (n : ℕ) (bytes : List ℕ) → steps n stream 0 [] 0 bytes ≡ told (scan n [] bytes) }
+    ensures { (p : Profile) (bytes : List ℕ) → IsProfile p → all_steps p bytes ≡ told (scan_in p (suc (length bytes)) [] bytes) }
 {}
 
 /// The bytes of a layout that can be written are a stream of it.
@@ -70,3 +89,59 @@ pub fn first_chip_is_stream()
     written_is_read();
     geom::first_chip_is_writable();
 }
+
+/// Bytes are a wide stream of one layout, which a scan finds, or have one first fault, which it finds, and never both.
+pub fn one_wide_reading()
+    ensures stream { (bytes : List ℕ) → IsBytes bytes → first_fault_in wide bytes ≡ None → IsWideStream bytes (wide_layout_in bytes) }
+    ensures layout { (bytes : List ℕ) (layout : WideLayout) → IsWideStream bytes layout → layout ≡ wide_layout_in bytes }
+    ensures no_fault { (bytes : List ℕ) (layout : WideLayout) → IsWideStream bytes layout → first_fault_in wide bytes ≡ None }
+    ensures fault { (bytes : List ℕ) (offset : ℕ) (kind : StreamKind) → IsBytes bytes → first_fault_in wide bytes ≡ Some (offset, kind) → WideFault bytes offset kind }
+    ensures one_fault { (bytes : List ℕ) (offset : ℕ) (kind : StreamKind) → WideFault bytes offset kind → first_fault_in wide bytes ≡ Some (offset, kind) }
+{}
+
+/// The first chip is a wide stream too, with the same flat form.
+pub fn first_chip_is_wide()
+    ensures fault { first_fault_in wide first_bytes ≡ None }
+    ensures flat { wide_flat (wide_layout_in first_bytes) ≡ first_flat }
+{}
+
+/// What the values of a wide stream say of an XY makes a figure that can be cut and a grid of whole steps.
+pub fn wide_values_are_drawn()
+    ensures ring { (ps : List Point) → is_ring ps ≡ true → IsFigure (Ring ps) }
+    ensures path { (ps : List Point) → is_path ps ≡ true → IsBent (turns ps) }
+    ensures grid { (n : ℕ) (p q : Point) → is_multiple n p.x q.x ≡ true → is_multiple n p.y q.y ≡ true → far n (step n p q) p ≡ q }
+{}
+
+/// A strict sentence is a wide one, and records that meet the strict conditions on the whole meet the wide ones.
+pub fn strict_is_within_wide()
+    ensures sentence { (w : List ℕ) → Speaks stream w → Speaks wide_stream w }
+    ensures whole { (rs : List Record) → whole_fault rs ≡ None → wide_whole_fault rs ≡ None }
+{}
+
+/// A boundary that is a rectangle is a ring that is cut into that rectangle alone.
+pub fn rectangles_are_rings()
+    ensures cut { (xy : List ℕ) → ((k : ℕ) → at xy k < 2 ^ 32) → is_rectangle xy ≡ true → ring_cut (points xy) ≡ box_of xy ∷ [] }
+    ensures ring { (xy : List ℕ) → ((k : ℕ) → at xy k < 2 ^ 32) → is_rectangle xy ≡ true → is_ring (points xy) ≡ true }
+{
+    poly_cut::rectangle_is_cut_whole();
+}
+
+/// Records of a strict stream, whose coordinates have four bytes, are good in a wide one.
+pub fn strict_records_are_good()
+    ensures { (rs : List Record) → Speaks stream (kinds rs) → AreFit rs → AreGoodIn strict [] rs → AreGoodIn wide [] rs }
+{
+    rectangles_are_rings();
+}
+
+/// A strict stream is a wide one.
+pub fn strict_streams_are_wide()
+    ensures { (bytes : List ℕ) (layout : Layout) → IsBytes bytes → (s : IsStream bytes layout) → IsWideStream bytes (wide_layout_of s.records) }
+{
+    strict_is_within_wide();
+    strict_records_are_good();
+}
+
+/// Where no chain of more than 64 references goes down, no structure leads back to itself.
+pub fn loops_are_long()
+    ensures { (ss : List Outline) → first_long ss ss ≡ None → first_loop ss ss ≡ None }
+{}

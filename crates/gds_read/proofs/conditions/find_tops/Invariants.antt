@@ -1,7 +1,7 @@
 use Rattle.std.proofs.Common.{◌≡◌, map, drop}
 use Rattle.gds_records.specs.Whole.{all_uses, tops}
-use Rattle.gds_read.specs.Outlining.{outline_of}
-use Rattle.gds_read.specs.Tops.{told_tops, further_tops}
+use Rattle.gds_read.specs.Code.Outlining.{outline_of}
+use Rattle.gds_read.specs.Code.Tops.{told_tops, further_tops}
 use Rattle.gds_read.proofs.conditions.find_tops.Given as goal
 
 abbrev pub invariant-loop-number : goal.invariant-loop-number

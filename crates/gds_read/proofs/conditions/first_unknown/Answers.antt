@@ -1,5 +1,5 @@
 use Rattle.std.proofs.Common.{sym, ◌∙◌}
-use Rattle.gds_read.specs.Numbering.{number_in}
+use Rattle.gds_read.specs.Code.Numbering.{number_in}
 use Rattle.gds_read.proofs.Judged.{unknown_there, unknown_later, not_some}
 use Rattle.gds_read.proofs.conditions.first_unknown.Goals as goal
 

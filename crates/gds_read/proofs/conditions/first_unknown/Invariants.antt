@@ -1,7 +1,7 @@
 use Rattle.std.proofs.Common.{◌≡◌, map, drop}
 use Rattle.gds_records.specs.Whole.{all_uses}
-use Rattle.gds_read.specs.Numbering.{number_in, unnumbered}
-use Rattle.gds_read.specs.Outlining.{outline_of}
+use Rattle.gds_read.specs.Code.Numbering.{number_in, unnumbered}
+use Rattle.gds_read.specs.Code.Outlining.{outline_of}
 use Rattle.gds_read.proofs.conditions.first_unknown.Given as goal
 
 abbrev pub invariant-loop-outline : goal.invariant-loop-outline

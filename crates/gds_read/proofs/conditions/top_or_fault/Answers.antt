@@ -1,4 +1,4 @@
-use Rattle.gds_read.specs.Decoding.{records_in}
+use Rattle.gds_read.specs.Code.Decoding.{records_in}
 use Rattle.gds_read.proofs.Judged.{fault_unknown, fault_deep, no_fault, second_top, no_top, top_is}
 use Rattle.gds_read.proofs.conditions.top_or_fault.Goals as goal
 

@@ -1,6 +1,6 @@
 use Rattle.std.proofs.Common.{◌≡◌, map, drop}
-use Rattle.gds_read.specs.Numbering.{number_in, unnumbered}
-use Rattle.gds_read.specs.Outlining.{use_of}
+use Rattle.gds_read.specs.Code.Numbering.{number_in, unnumbered}
+use Rattle.gds_read.specs.Code.Outlining.{use_of}
 use Rattle.gds_read.proofs.conditions.unknown_in.Given as goal
 
 abbrev pub invariant-loop-item : goal.invariant-loop-item

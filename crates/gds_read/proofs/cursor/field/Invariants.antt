@@ -1,6 +1,6 @@
 use Rattle.std.proofs.Common.{◌≡◌, length}
 use Rattle.gds_records.specs.Drawing.{field}
-use Rattle.gds_read.specs.Decoding.{IsSpelled, records_in}
+use Rattle.gds_read.specs.Code.Decoding.{IsSpelled, records_in}
 use Rattle.gds_read.proofs.cursor.field.Given as goal
 
 abbrev pub invariant-records : goal.invariant-records

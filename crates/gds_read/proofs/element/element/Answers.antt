@@ -2,8 +2,8 @@ use Rattle.std.proofs.Common.{List, ℕ, FitsSigned, ap, ◌∙◌, rules}
 use Rattle.std.specs.Int.{w64}
 use Rattle.gds_records.specs.Records.{trimmed}
 use Rattle.gds_records.specs.Drawing.{place_of}
-use Rattle.gds_read.specs.Decoding.{records_in}
-use Rattle.gds_read.specs.Outlining.{names_in}
+use Rattle.gds_read.specs.Code.Decoding.{records_in}
+use Rattle.gds_read.specs.Code.Outlining.{names_in}
 use Rattle.gds_read.proofs.Moving.{kept_is}
 use Rattle.gds_read.proofs.Elements.{box_so, place_so, text_so}
 use Rattle.gds_read.proofs.element.element.Goals as goal

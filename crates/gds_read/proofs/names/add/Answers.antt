@@ -1,5 +1,5 @@
 use Rattle.std.proofs.Common.{List, ℕ, Bor, ap, ◌∙◌}
-use Rattle.gds_read.specs.Texts.{texts}
+use Rattle.gds_read.specs.Code.Texts.{texts}
 use Rattle.gds_read.proofs.Named.{inserted}
 use Rattle.gds_read.proofs.names.add.Goals as goal
 

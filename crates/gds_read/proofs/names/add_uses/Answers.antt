@@ -1,6 +1,6 @@
 use Rattle.std.proofs.Common.{[], get_or}
 use Rattle.gds_read.specs.declared.outline.NamedUse.{NamedUse}
-use Rattle.gds_read.specs.Texts.{texts}
+use Rattle.gds_read.specs.Code.Texts.{texts}
 use Rattle.gds_read.proofs.Items.{any_default}
 use Rattle.gds_read.proofs.Judged.{uses_more}
 use Rattle.gds_read.proofs.names.add_uses.Goals as goal

@@ -1,4 +1,4 @@
-use Rattle.gds_read.specs.Texts.{texts}
+use Rattle.gds_read.specs.Code.Texts.{texts}
 use Rattle.gds_read.proofs.Judged.{used_more}
 use Rattle.gds_read.proofs.names.used_names.Goals as goal
 

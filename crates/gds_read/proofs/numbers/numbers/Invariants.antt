@@ -1,6 +1,6 @@
 use Rattle.std.proofs.Common.{map, take}
-use Rattle.gds_read.specs.Numbering.{IsNumbering}
-use Rattle.gds_read.specs.Outlining.{outline_of}
+use Rattle.gds_read.specs.Code.Numbering.{IsNumbering}
+use Rattle.gds_read.specs.Code.Outlining.{outline_of}
 use Rattle.gds_read.proofs.numbers.numbers.Given as goal
 
 abbrev pub invariant-loop-number : goal.invariant-loop-number

@@ -1,7 +1,7 @@
 use Rattle.std.proofs.Common.{◌≡◌, ◌+◌, ◌<◌, ◌^◌, ◌++◌, map, length}
 use Rattle.gds_records.specs.Whole.{uses_from}
-use Rattle.gds_read.specs.Decoding.{IsSpelled, records_in}
-use Rattle.gds_read.specs.Outlining.{use_of}
+use Rattle.gds_read.specs.Code.Decoding.{IsSpelled, records_in}
+use Rattle.gds_read.specs.Code.Outlining.{use_of}
 use Rattle.gds_read.proofs.outline.uses_in.Given as goal
 
 abbrev pub invariant-records : goal.invariant-records

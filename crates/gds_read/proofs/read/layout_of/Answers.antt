@@ -1,4 +1,4 @@
-use Rattle.gds_read.specs.Decoding.{records_in}
+use Rattle.gds_read.specs.Code.Decoding.{records_in}
 use Rattle.gds_read.proofs.Ends.{layout_made}
 use Rattle.gds_read.proofs.read.layout_of.Goals as goal
 

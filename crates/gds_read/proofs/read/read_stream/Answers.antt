@@ -2,7 +2,7 @@ use Rattle.std.proofs.Common.{◌≡◌, List, ℕ, take, sym, ap, subst, ◌∙
 use Rattle.geom.specs.declared.layout.Layout.{Layout}
 use Rattle.gds_records.specs.Stream.{IsStream, layout_of}
 use Rattle.gds_records.specs.Whole.{whole_fault}
-use Rattle.gds_read.specs.Decoding.{records_in}
+use Rattle.gds_read.specs.Code.Decoding.{records_in}
 use Rattle.gds_read.proofs.Ends.{top_stands, a_stream}
 use Rattle.gds_read.proofs.Placed.{stream_flattens, read_so}
 use Rattle.gds_read.proofs.read.read_stream.Goals as goal

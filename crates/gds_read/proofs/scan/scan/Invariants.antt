@@ -1,8 +1,9 @@
 use Rattle.std.proofs.Common.{◌≡◌, ℕ, ◌-◌, ◌<◌, ◌≤◌, length, drop}
-use Rattle.gds_records.specs.Steps.{steps}
-use Rattle.gds_read.specs.Places.{rest_of}
-use Rattle.gds_read.specs.Texts.{texts}
-use Rattle.gds_read.specs.Steps.{all_steps}
+use Rattle.gds_records.specs.Steps.{steps, all_steps}
+use Rattle.gds_read.specs.Code.Profiles.{profile_of}
+use Rattle.gds_read.specs.Code.Places.{rest_of}
+use Rattle.gds_read.specs.Code.Steps.{kept}
+use Rattle.gds_read.specs.Code.Texts.{texts}
 use Rattle.gds_read.proofs.scan.scan.Given as goal
 
 abbrev pub invariant-records : goal.invariant-records
@@ -10,7 +11,9 @@ invariant-records l = record {
   within : l.at ≤ length l.bytes;
   turns : ℕ;
   enough : length l.bytes - l.at < turns;
-  same : all_steps l.bytes ≡ steps turns (rest_of l.place) l.element (texts l.names.keys) l.at (drop l.at l.bytes);
+  same : all_steps (profile_of l.profile) l.bytes
+      ≡ steps (profile_of l.profile) turns (rest_of l.profile l.place) (kept l.element l.colrow (texts l.names.keys)) l.at
+      (drop l.at l.bytes);
 }
 
 abbrev pub decreases-records : goal.decreases-records

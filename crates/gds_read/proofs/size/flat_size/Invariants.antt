@@ -1,5 +1,5 @@
 use Rattle.std.proofs.Common.{◌≡◌, take}
-use Rattle.gds_read.specs.Sizes.{flat_size}
+use Rattle.gds_read.specs.Code.Sizes.{flat_size}
 use Rattle.gds_read.proofs.size.flat_size.Given as goal
 
 abbrev pub invariant-loop-element : goal.invariant-loop-element

@@ -1,5 +1,5 @@
 use Rattle.std.proofs.Common.{◌≡◌, ◌≤◌, take}
-use Rattle.gds_read.specs.Sizes.{own_size}
+use Rattle.gds_read.specs.Code.Sizes.{own_size}
 use Rattle.gds_read.proofs.size.own_size.Given as goal
 
 abbrev pub invariant-loop-element : goal.invariant-loop-element

@@ -2,8 +2,8 @@ use Rattle.std.proofs.Common.{◌≡◌, ◌≢◌, ℕ, ◌<◌, List, drop, le
 use Rattle.std.proofs.lemmas.List.{length-drop}
 use Rattle.gds_records.specs.Faults.{kind_of, length_of}
 use Rattle.gds_records.specs.Drawing.{element_of}
-use Rattle.gds_read.specs.Decoding.{IsSpelled}
-use Rattle.gds_read.specs.Outlining.{names_in}
+use Rattle.gds_read.specs.Code.Decoding.{IsSpelled}
+use Rattle.gds_read.specs.Code.Outlining.{names_in}
 use Rattle.gds_read.proofs.Parts.{all_none, all_done, spelled_whole, spelled_rest, one_more_record, one_more_part, no_records, first_part, next_part}
 use Rattle.gds_read.proofs.structures.elements.Goals as goal
 

@@ -1,7 +1,7 @@
 use Rattle.std.proofs.Common.{◌≡◌, ◌≤◌, ◌-◌, ◌++◌, map, take, drop, length}
 use Rattle.gds_records.specs.Drawing.{element_of, element_parts}
-use Rattle.gds_read.specs.Decoding.{IsSpelled, records_in}
-use Rattle.gds_read.specs.Outlining.{names_in}
+use Rattle.gds_read.specs.Code.Decoding.{IsSpelled, records_in}
+use Rattle.gds_read.specs.Code.Outlining.{names_in}
 use Rattle.gds_read.proofs.Parts.{left_parts}
 use Rattle.gds_read.proofs.structures.elements.Given as goal
 

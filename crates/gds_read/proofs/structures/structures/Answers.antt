@@ -1,6 +1,6 @@
 use Rattle.std.proofs.Common.{rules}
 use Rattle.gds_records.specs.Drawing.{structure_of}
-use Rattle.gds_read.specs.Outlining.{names_in}
+use Rattle.gds_read.specs.Code.Outlining.{names_in}
 use Rattle.gds_read.proofs.Walks.{starts_end}
 use Rattle.gds_read.proofs.structures.structures.Goals as goal
 

@@ -1,7 +1,7 @@
 use Rattle.std.proofs.Common.{◌≡◌, ◌++◌, map, length}
 use Rattle.gds_records.specs.Drawing.{structure_of, starts}
-use Rattle.gds_read.specs.Decoding.{IsSpelled, records_in}
-use Rattle.gds_read.specs.Outlining.{names_in}
+use Rattle.gds_read.specs.Code.Decoding.{IsSpelled, records_in}
+use Rattle.gds_read.specs.Code.Outlining.{names_in}
 use Rattle.gds_read.proofs.structures.structures.Given as goal
 
 abbrev pub invariant-records : goal.invariant-records

@@ -1,5 +1,5 @@
-use Rattle.gds_records.proofs.Found.{found}
+use Rattle.gds_records.proofs.Found.{found_of_profile}
 use Rattle.gds_records.proofs.laws.found_is_fault.Goals as goal
 
 pub returns : goal.returns
-returns c = found
+returns c = found_of_profile

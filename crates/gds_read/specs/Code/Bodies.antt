@@ -4,17 +4,24 @@ use Rattle.geom.specs.declared.layout.Layout.{Layout}
 use Rattle.geom.specs.FlatForm.{flat_of, flat_count}
 use Rattle.gds_records.specs.Records.{Record}
 use Rattle.gds_records.specs.Whole.{whole_fault}
-use Rattle.gds_records.specs.Stream.{IsRead, are_zero}
-use Rattle.gds_read.specs.Decoding.{IsSpelled, records_in}
+use Rattle.gds_records.specs.Profiles.{Profile}
+use Rattle.gds_records.specs.Profiled.{IsReadIn, IsFirstFaultIn, are_zero}
+use Rattle.gds_read.specs.Code.Decoding.{IsSpelled, records_in}
 use Rattle.gds_read.specs.declared.refusal.StreamRefusal.{StreamRefusal}
 use Rattle.gds_read.specs.declared.refusal.StreamRefusal.TheVariants.{Bad, TooManyShapes, Memory}
 
--- so many bytes are a sentence of good records, and zeros follow
-pub record IsBody (bytes : List ℕ) (end : ℕ) : Type 0 where
+-- so many bytes are a sentence of good records of this profile, and zeros follow
+pub record IsBody (p : Profile) (bytes : List ℕ) (end : ℕ) : Type 0 where
   pub within : end ≤ length bytes
   pub whole : IsSpelled (take end bytes)
-  pub read : IsRead bytes (records_in (take end bytes)) (drop end bytes)
+  pub read : IsReadIn p bytes (records_in (take end bytes)) (drop end bytes)
   pub zeros : are_zero (drop end bytes) ≡ true
+
+-- why bytes have no such records: a first fault, or want of memory
+abbrev pub IsFirstRefusal : Profile → List ℕ → StreamRefusal → Type 0
+IsFirstRefusal p bytes (Bad offset kind) = IsFirstFaultIn p bytes offset kind
+IsFirstRefusal p bytes (TooManyShapes count) = ⊥
+IsFirstRefusal p bytes Memory = Unit {0}
 
 -- why records make no layout: a fault of the whole stream, or want of memory
 abbrev pub IsWholeRefusal : List Record → StreamRefusal → Type 0

@@ -1,0 +1,13 @@
+-- Words of the code alone: places of the reader, records of bytes, outlines, numbers of names, and sizes.
+pub mod Profiles
+pub mod Places
+pub mod Fronts
+pub mod Texts
+pub mod Steps
+pub mod Decoding
+pub mod Bodies
+pub mod Outlining
+pub mod Numbering
+pub mod Tops
+pub mod Ways
+pub mod Sizes

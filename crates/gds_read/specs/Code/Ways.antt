@@ -1,0 +1,12 @@
+-- The ways of figures, as a reader has them.
+use Rattle.gds_records.specs.WideValues as values
+use Rattle.gds_read.specs.declared.ways.Way.{Way}
+use Rattle.gds_read.specs.declared.ways.Way.TheVariants.{Right, Left, Up, Down, Still, Slanted}
+
+abbrev pub way_of : Way → values.Way
+way_of Right = values.Right
+way_of Left = values.Left
+way_of Up = values.Up
+way_of Down = values.Down
+way_of Still = values.Still
+way_of Slanted = values.Slanted
