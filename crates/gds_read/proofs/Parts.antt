@@ -5,7 +5,6 @@ use Rattle.std.proofs.lemmas.List.{append-nil, take_at}
 use Rattle.std.proofs.lemmas.List.Concat.{flat_map-append, flat_map-cons}
 use Rattle.std.proofs.Math.Seq.{take-add, drop-drop}
 use Rattle.std.proofs.lemmas.Bool.Decides.{nat_tests}
-use Rattle.geom.specs.declared.layout.Element.{Element}
 use Rattle.gds_records.specs.Records.{Record, spelled}
 use Rattle.gds_records.specs.Faults.{here_record, kind_of, length_of}
 use Rattle.gds_records.specs.Drawing.{up_to, parts, element_parts}
@@ -82,15 +81,15 @@ parts_on false whole ps qs e = refl
 abbrev pub left_parts : List ℕ → ℕ → List (List Record)
 left_parts part size = parts 17 (records_in (take size part)) (up_to 7 (records_in (drop size part)))
 
-module _ (f : List Record → Element) (part : List ℕ) (size : ℕ) (t : IsSpelled (drop size part)) where
-  pub all_none : (done total : List Element) → length (drop size part) ≡ 0 → done ++ map f (left_parts part size) ≡ total → done ≡ total
+module _ {A : Type 0} (f : List Record → A) (part : List ℕ) (size : ℕ) (t : IsSpelled (drop size part)) where
+  pub all_none : (done total : List A) → length (drop size part) ≡ 0 → done ++ map f (left_parts part size) ≡ total → done ≡ total
   all_none done total e same = sym (append-nil done) ∙ ap (λ (x : List Record). done ++ map f (parts 17 (records_in (take size part)) (up_to 7 x))) (sym (none_left (drop size part) e)) ∙ same
 
   module _ (h : 0 < length (drop size part)) where
     next_records : records_in (drop size part) ≡ here_record (drop size part) ∷ records_in (drop (length_of (drop size part)) (drop size part))
     next_records = (goes (drop size part) (drop (length_of (drop size part)) (drop size part)) t h refl).records
 
-    pub all_done : (done total : List Element) → kind_of (drop size part) ≡ 7 → done ++ map f (left_parts part size) ≡ total → done ≡ total
+    pub all_done : (done total : List A) → kind_of (drop size part) ≡ 7 → done ++ map f (left_parts part size) ≡ total → done ≡ total
     all_done done total e same =
         sym (append-nil done)
         ∙ ap (λ (x : List Record). done ++ map f (parts 17 (records_in (take size part)) x))
@@ -120,7 +119,7 @@ module _ (f : List Record → Element) (part : List ℕ) (size : ℕ) (t : IsSpe
       pub spelled_rest : IsSpelled (drop (size + n) part)
       spelled_rest = spelled_later
 
-      pub one_more_record : (done total : List Element) → kind_of (drop size part) ≢ 17 → done ++ map f (left_parts part size) ≡ total → done ++ map f (left_parts part (size + n)) ≡ total
+      pub one_more_record : (done total : List A) → kind_of (drop size part) ≢ 17 → done ++ map f (left_parts part size) ≡ total → done ++ map f (left_parts part (size + n)) ≡ total
       one_more_record done total e same =
           ap (λ (x : List (List Record)). done ++ map f x)
           (sym (ap (λ (x : List Record). parts 17 (records_in (take size part)) x) up_next
@@ -129,12 +128,12 @@ module _ (f : List Record → Element) (part : List ℕ) (size : ℕ) (t : IsSpe
           ∙ ap (λ (x : List Record). parts 17 x (up_to 7 (records_in (drop (size + n) part)))) fronts))
           ∙ same
 
-      pub one_more_part : (done new total : List Element) (e : Element) (more : List ℕ) → kind_of (drop size part) ≡ 17 → more ≡ drop (size + n) part → e ≡ f (records_in (take (size + n) part)) → new ≡ done ++ e ∷ []
+      pub one_more_part : (done new total : List A) (e : A) (more : List ℕ) → kind_of (drop size part) ≡ 17 → more ≡ drop (size + n) part → e ≡ f (records_in (take (size + n) part)) → new ≡ done ++ e ∷ []
           → done ++ map f (left_parts part size) ≡ total → new ++ map f (parts 17 [] (up_to 7 (records_in more))) ≡ total
       one_more_part done new total e more z m made add same =
-          ap (λ (x : List Element). x ++ map f (parts 17 [] (up_to 7 (records_in more)))) add ∙ append_assoc done (e ∷ []) (map f (parts 17 [] (up_to 7 (records_in more))))
+          ap (λ (x : List A). x ++ map f (parts 17 [] (up_to 7 (records_in more)))) add ∙ append_assoc done (e ∷ []) (map f (parts 17 [] (up_to 7 (records_in more))))
           ∙ ap (λ (x : List ℕ). done ++ e ∷ map f (parts 17 [] (up_to 7 (records_in x)))) m
-          ∙ ap (λ (x : Element). done ++ x ∷ map f (parts 17 [] (up_to 7 (records_in (drop (size + n) part))))) (made ∙ ap (λ (x : List Record). f x) (sym fronts))
+          ∙ ap (λ (x : A). done ++ x ∷ map f (parts 17 [] (up_to 7 (records_in (drop (size + n) part))))) (made ∙ ap (λ (x : List Record). f x) (sym fronts))
           ∙ ap (λ (x : List (List Record)). done ++ map f x)
           (sym (ap (λ (x : List Record). parts 17 (records_in (take size part)) x) up_next
           ∙ parts_end (eqb (kind_of (drop size part)) 17) (records_in (take size part) ++ here_record (drop size part) ∷ []) (parts 17 [] (up_to 7 (records_in (drop (size + n) part))))
@@ -144,12 +143,12 @@ module _ (f : List Record → Element) (part : List ℕ) (size : ℕ) (t : IsSpe
 pub no_records : IsSpelled []
 no_records = record { records = []; whole = refl; short = tt }
 
-pub first_part : (f : List Record → Element) (bytes part : List ℕ) (done : List Element) → done ≡ [] → records_in part ≡ drop 1 (records_in bytes)
+pub first_part : {A : Type 0} (f : List Record → A) (bytes part : List ℕ) (done : List A) → done ≡ [] → records_in part ≡ drop 1 (records_in bytes)
     → done ++ map f (left_parts part 0) ≡ map f (element_parts (records_in bytes))
-first_part f bytes part done none e =
-    ap (λ (x : List Element). x ++ map f (left_parts part 0)) none
+first_part {A} f bytes part done none e =
+    ap (λ (x : List A). x ++ map f (left_parts part 0)) none
     ∙ ap (λ (x : List Record). map f (parts 17 x (up_to 7 (records_in part)))) records_none
     ∙ ap (λ (x : List Record). map f (parts 17 [] (up_to 7 x))) e
 
-pub next_part : (f : List Record → Element) (part : List ℕ) (done total : List Element) → done ++ map f (parts 17 [] (up_to 7 (records_in part))) ≡ total → done ++ map f (left_parts part 0) ≡ total
-next_part f part done total same = ap (λ (x : List Record). done ++ map f (parts 17 x (up_to 7 (records_in part)))) records_none ∙ same
+pub next_part : {A : Type 0} (f : List Record → A) (part : List ℕ) (done total : List A) → done ++ map f (parts 17 [] (up_to 7 (records_in part))) ≡ total → done ++ map f (left_parts part 0) ≡ total
+next_part {A} f part done total same = ap (λ (x : List Record). done ++ map f (parts 17 x (up_to 7 (records_in part)))) records_none ∙ same

@@ -2,7 +2,6 @@
 use Rattle.std.proofs.Common.{◌≡◌, ◌≢◌, ℕ, ◌+◌, ◌<◌, List, [], ◌∷◌, ◌++◌, map, drop, length, Bool, true, false, eqb, refl, sym, ap, ◌∙◌, append_assoc, arith}
 use Rattle.std.proofs.lemmas.List.{map-append, append-nil}
 use Rattle.std.proofs.lemmas.Bool.Decides.{nat_tests}
-use Rattle.geom.specs.declared.layout.Structure.{Structure}
 use Rattle.gds_records.specs.Records.{Record, trimmed}
 use Rattle.gds_records.specs.Faults.{here_record, kind_of, length_of}
 use Rattle.gds_records.specs.Drawing.{name_of, starts}
@@ -132,19 +131,19 @@ start_not : (z : Bool) (rs : List Record) (ss : List (List Record)) → z ≡ fa
 start_not true rs ss e = absurd cc
 start_not false rs ss e = refl
 
-module _ (f : List Record → Structure) (b rest : List ℕ) (g : Goes b rest) where
-  pub starts_skip : (found total : List Structure) → kind_of b ≢ 5 → found ++ map f (starts (records_in b)) ≡ total → found ++ map f (starts (records_in rest)) ≡ total
+module _ {A : Type 0} (f : List Record → A) (b rest : List ℕ) (g : Goes b rest) where
+  pub starts_skip : (found total : List A) → kind_of b ≢ 5 → found ++ map f (starts (records_in b)) ≡ total → found ++ map f (starts (records_in rest)) ≡ total
   starts_skip found total e same =
       ap (λ (x : List (List Record)). found ++ map f x)
       (sym (ap (λ (x : List Record). starts x) g.records ∙ start_not (eqb (kind_of b) 5) (records_in rest) (starts (records_in rest)) (other (kind_of b) 5 e))) ∙ same
 
-  pub starts_take : (found new : List Structure) (s : Structure) (total : List Structure) → kind_of b ≡ 5 → s ≡ f (records_in rest) → new ≡ found ++ s ∷ [] → found ++ map f (starts (records_in b)) ≡ total
+  pub starts_take : (found new : List A) (s : A) (total : List A) → kind_of b ≡ 5 → s ≡ f (records_in rest) → new ≡ found ++ s ∷ [] → found ++ map f (starts (records_in b)) ≡ total
       → new ++ map f (starts (records_in rest)) ≡ total
   starts_take found new s total e made add same =
-      ap (λ (x : List Structure). x ++ map f (starts (records_in rest))) add ∙ append_assoc found (s ∷ []) (map f (starts (records_in rest)))
-      ∙ ap (λ (x : Structure). found ++ x ∷ map f (starts (records_in rest))) made
+      ap (λ (x : List A). x ++ map f (starts (records_in rest))) add ∙ append_assoc found (s ∷ []) (map f (starts (records_in rest)))
+      ∙ ap (λ (x : A). found ++ x ∷ map f (starts (records_in rest))) made
       ∙ ap (λ (x : List (List Record)). found ++ map f x)
       (sym (ap (λ (x : List Record). starts x) g.records ∙ start_here (eqb (kind_of b) 5) (records_in rest) (starts (records_in rest)) (one (kind_of b) 5 e))) ∙ same
 
-pub starts_end : (f : List Record → Structure) (b : List ℕ) (ss total : List Structure) → length b ≡ 0 → ss ++ map f (starts (records_in b)) ≡ total → ss ≡ total
-starts_end f b ss total e same = sym (append-nil ss) ∙ ap (λ (x : List Record). ss ++ map f (starts x)) (sym (none_left b e)) ∙ same
+pub starts_end : {A : Type 0} (f : List Record → A) (b : List ℕ) (ss total : List A) → length b ≡ 0 → ss ++ map f (starts (records_in b)) ≡ total → ss ≡ total
+starts_end {A} f b ss total e same = sym (append-nil ss) ∙ ap (λ (x : List Record). ss ++ map f (starts x)) (sym (none_left b e)) ∙ same

@@ -1,6 +1,6 @@
 -- The points, grids and rings of a wide stream's fields.
 use Rattle.std.proofs.Common.{◌≡◌, ◌≢◌, ℕ, zero, suc, ◌+◌, ◌*◌, ◌/◌, ◌^◌, ◌<◌, ◌≤◌, List, [], ◌∷◌, ◌++◌, Bool, true, false}
-use Rattle.std.proofs.Common.{length, drop, refl, sym, ap, ◌∙◌, arith, ℤ, pos, ◌-ℤ◌, FitsSigned, of_z, to_z, append_assoc, nat_eq}
+use Rattle.std.proofs.Common.{drop-cons, get_or, length, drop, refl, sym, ap, ◌∙◌, arith, ℤ, pos, ◌-ℤ◌, FitsSigned, of_z, to_z, append_assoc, nat_eq}
 use Rattle.std.specs.Prelude.{not, ◌&&◌, ◌==◌, int_rem, unsigned_abs}
 use Rattle.std.specs.Int.{w32, w64}
 use Rattle.std.specs.Ordering.{int_eq}
@@ -16,7 +16,7 @@ use Rattle.poly_cut.specs.Turns.{point}
 use Rattle.poly_cut.specs.Cuts.{ring_cut}
 use Rattle.poly_cut.specs.Counts.{own_count, placed_count, count_of, wide_count, told}
 use Rattle.gds_records.specs.Scan.{IsBytes}
-use Rattle.gds_records.specs.Values.{at}
+use Rattle.gds_records.specs.Values.{at, value_of}
 use Rattle.gds_records.specs.Drawing.{coordinate}
 use Rattle.gds_records.specs.WideValues.{some_points, points, is_multiple, is_lattice}
 use Rattle.gds_records.proofs.RectangleRings.{further}
@@ -81,7 +81,7 @@ and_so : (s t u : Bool) → s ≡ true → u ≡ t → u ≡ (s && t)
 and_so s t u e f = f ∙ (λ k. sym e k && t)
 
 -- a coordinate as it is passed on
-passed : (xy : List ℕ) → IsBytes xy → (i : ℕ) (a : ℤ) → a ≡ coordinate xy i → to_z w32 (of_z w32 a) ≡ coordinate xy i
+pub passed : (xy : List ℕ) → IsBytes xy → (i : ℕ) (a : ℤ) → a ≡ coordinate xy i → to_z w32 (of_z w32 a) ≡ coordinate xy i
 passed xy bytes i a e = ap (λ (z : ℤ). to_z w32 (of_z w32 z)) e ∙ passed_on (coordinate xy i) (coordinate_fits xy i bytes)
 
 pub both_multiples : (n : ℕ) (xy : List ℕ) (bytes : IsBytes xy) (i : ℕ) (a x b y : ℤ) (s u : Bool) → a ≡ coordinate xy 0 → x ≡ coordinate xy i
@@ -140,3 +140,18 @@ squares_counted ring none items s nothing structures count a i w b t e =
     ∙ (λ k. not (told (wide_count (record { structures = alone k; top = 0 })) == 0))
     ∙ (λ k. not (told (count_of_ring ring s (w ∙ one) k) == 0))
     ∙ some_told (length (ring_cut ring))
+
+-- ---- numbers
+
+value_grows : (n : ℕ) (bs : List ℕ) → n ≤ value_of n bs
+value_grows n [] = omega arith
+value_grows n (b ∷ bs) = omega (arith, value_grows (n * 256 + b) bs)
+
+-- a number with more than its front of so many bytes is greater
+pub too_great : (bytes : List ℕ) (so_far i number : ℕ) → i < length bytes → number / 256 < so_far
+    → value_of so_far (drop i bytes) ≡ value_of 0 bytes → false ≡ nat_eq (value_of 0 bytes) number
+too_great bytes so_far i number lt h e =
+    let next = ap (λ (l : List ℕ). value_of so_far l) (drop-cons bytes i 0 lt) in
+    let above : number < value_of 0 bytes
+    = omega (arith, value_grows (so_far * 256 + get_or bytes i 0) (drop (suc i) bytes), next, e) in
+    grind (arith, nat_tests)

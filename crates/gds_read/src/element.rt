@@ -41,8 +41,12 @@ fn shape(part: &[u8], xy: &[u8]) -> Shape
     }
 }
 
-// The number of the structure that a name names, and where there is none that of structures.
-fn named(structures: &[NamedOutline<'_>], numbers: &Numbers<'_>, name: &[u8]) -> Result<u32, Memory>
+/// The number of the structure that a name names, and where there is none that of structures.
+pub fn named(
+    structures: &[NamedOutline<'_>],
+    numbers: &Numbers<'_>,
+    name: &[u8],
+) -> Result<u32, Memory>
     requires { IsNumbering numbers.now.entries (names_in structures.now) }
     ensures { IfOk result (λ number. number ≡ place_of name.now (names_in structures.now)) }
 {
@@ -52,7 +56,8 @@ fn named(structures: &[NamedOutline<'_>], numbers: &Numbers<'_>, name: &[u8]) ->
     }
 }
 
-fn label(alloc: Global, part: &[u8], xy: &[u8]) -> Result<Label, Memory>
+/// The label that records with this XY say.
+pub fn label(alloc: Global, part: &[u8], xy: &[u8]) -> Result<Label, Memory>
     requires { IsSpelled part.now }
     ensures layer { IfOk result (λ label. label.layer ≡ number (field LAYER (records_in part.now))) }
     ensures x { IfOk result (λ label. label.x ≡ coordinate xy.now 0) }

@@ -1,8 +1,8 @@
 // Numbers and rectangles in the data of records.
-ghost use Rattle.std.specs.Prelude.{◌≡◌, ◌≢◌, ◌+◌, ◌*◌, ◌^◌, ◌<◌, ◌<ℤ◌, true, slice_index};
+ghost use Rattle.std.specs.Prelude.{◌≡◌, ◌≢◌, ◌+◌, ◌*◌, ◌^◌, ◌<◌, ◌<ℤ◌, true, slice_index, ◌==◌};
 ghost use Rattle.std.specs.Int.{w32, cast_unsigned};
 ghost use Rattle.gds_records.specs.Records.{number};
-ghost use Rattle.gds_records.specs.Values.{at, is_rectangle};
+ghost use Rattle.gds_records.specs.Values.{at, is_rectangle, value_of};
 ghost use Rattle.gds_records.specs.Drawing.{coordinate, lesser, greater, box_of};
 
 use geom::Rect;
@@ -49,6 +49,20 @@ pub fn coordinate(xy: &[u8], i: usize) -> i64
     ensures back { cast_unsigned w32 result ≡ at xy.now i }
 {
     i64::from(bits(xy, i).cast_signed())
+}
+
+/// Whether the bytes are this number, without sign.
+pub fn is_number(bytes: &[u8], number: u64) -> bool
+    ensures { result ≡ (value_of 0 bytes.now == number) }
+{
+    let mut so_far: u64 = 0;
+    for b in bytes {
+        if so_far > number / 256 {
+            return false;
+        }
+        so_far = so_far * 256 + u64::from(*b);
+    }
+    so_far == number
 }
 
 // The two ends of a side, the lower first.

@@ -8,6 +8,7 @@ mod ending;
 mod fields;
 mod flat;
 mod front;
+mod item;
 mod laws;
 mod names;
 mod naming;
@@ -26,6 +27,9 @@ mod table;
 mod tests;
 mod values;
 mod ways;
+mod wide_structures;
+#[cfg(test)]
+mod wide_tests;
 mod wide_values;
 
 pub use flat::flatten;

@@ -15,8 +15,8 @@ use gds_records::codes::{BGNSTR, ENDEL, ENDSTR, STRNAME};
 use geom::{Element, Structure};
 use std::alloc::Global;
 
-// What stands behind the record at the front, if there is one.
-fn behind_first(bytes: &[u8]) -> &[u8]
+/// What stands behind the record at the front, if there is one.
+pub fn behind_first(bytes: &[u8]) -> &[u8]
     requires { IsSpelled bytes.now }
     ensures spelled { IsSpelled result.now }
     ensures records { records_in result.now ≡ drop 1 (records_in bytes.now) }

@@ -4,7 +4,7 @@ use std::alloc::{AllocError, Global};
 use std::test::Fail;
 
 /// Its 1,046 bytes.
-const FIRST: [u8; 1_046] = [
+pub(crate) const FIRST: [u8; 1_046] = [
     0x00, 0x06, 0x00, 0x02, 0x02, 0x58, 0x00, 0x1C, 0x01, 0x02, 0x07, 0xB2, 0x00, 0x01, 0x00, 0x01,
     0x00, 0x00, 0x00, 0x00, 0x00, 0x00, 0x07, 0xB2, 0x00, 0x01, 0x00, 0x01, 0x00, 0x00, 0x00, 0x00,
     0x00, 0x00, 0x00, 0x08, 0x02, 0x06, 0x41, 0x51, 0x46, 0x50, 0x00, 0x14, 0x03, 0x05, 0x3E, 0x41,
@@ -75,13 +75,13 @@ const FIRST: [u8; 1_046] = [
 
 // Bytes with some at a place taken out and others put in.
 #[derive(Clone, Copy)]
-struct Edit<'a> {
-    at: usize,
-    taken: usize,
-    put: &'a [u8],
+pub(crate) struct Edit<'a> {
+    pub at: usize,
+    pub taken: usize,
+    pub put: &'a [u8],
 }
 
-fn edited(alloc: Global, bytes: &[u8], edit: Edit<'_>) -> Result<Vec<u8>, AllocError> {
+pub(crate) fn edited(alloc: Global, bytes: &[u8], edit: Edit<'_>) -> Result<Vec<u8>, AllocError> {
     let mut new = Vec::new(alloc);
     for (place, b) in bytes.iter().enumerate() {
         if place == edit.at {

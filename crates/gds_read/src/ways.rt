@@ -1,10 +1,12 @@
 // The steps of figures: round by right angles, or along a path.
-ghost use Rattle.std.specs.Prelude.{◌≡◌, ◌&&◌, ◌||◌};
+ghost use Rattle.std.specs.Prelude.{◌≡◌, ◌&&◌, ◌||◌, IfOk};
 ghost use Rattle.std.specs.Ordering.{int_eq};
-ghost use Rattle.gds_records.specs.WideValues.{way, is_straight, is_same, back, is_round, goes_on, is_path, Still as still};
+ghost use Rattle.gds_records.specs.WideValues.{way, is_straight, is_same, back, is_round, goes_on, is_path, turns, Still as still};
 ghost use Rattle.gds_read.specs.Code.Ways.{way_of};
 
+use aq_base::{List, Memory};
 use poly_cut::Point;
+use std::alloc::Global;
 
 /// From one point to the next.
 #[derive(Clone, Copy, Debug, PartialEq, Eq)]
@@ -121,6 +123,32 @@ fn goes_on(first: &Point, points: &[Point]) -> bool
         let way = way_to(last, next);
         if !is_straight(way) || is_same(way, back(came)) {
             return false;
+        }
+        came = way;
+        last = next;
+        rest = more;
+    }
+}
+
+/// The points where a path turns, and its ends, without those inside a straight run.
+pub fn turns(alloc: Global, points: &[Point]) -> Result<List<Point>, Memory>
+    ensures { IfOk result (λ kept. kept ≡ turns points.now) }
+{
+    let mut kept = List::new(alloc);
+    let Some((first, more)) = points.split_first() else {
+        return Ok(kept);
+    };
+    let mut came = Way::Still;
+    let mut last = first;
+    let mut rest = more;
+    'steps: loop {
+        let Some((next, more)) = rest.split_first() else {
+            kept.push(*last)?;
+            return Ok(kept);
+        };
+        let way = way_to(last, next);
+        if !is_same(came, way) {
+            kept.push(*last)?;
         }
         came = way;
         last = next;

@@ -20,3 +20,4 @@ pub mod RectangleRings
 pub mod WiderRecords
 pub mod WiderStreams
 pub mod Loops
+pub mod RankLaws

@@ -10,7 +10,7 @@ or_either a b true d f g e = refl
 or_either true b false d f g e = absurd (let h : false ≡ true = f refl in cc)
 or_either false b false d f g e = g e
 
-some_more : (p q : List ℕ → Bool) → ((n : List ℕ) → p n ≡ true → q n ≡ true) → (us : List Use) → some_use p us ≡ true → some_use q us ≡ true
+pub some_more : (p q : List ℕ → Bool) → ((n : List ℕ) → p n ≡ true → q n ≡ true) → (us : List Use) → some_use p us ≡ true → some_use q us ≡ true
 some_more p q f [] e = absurd cc
 some_more p q f (u ∷ us) e = or_either (p u.name) (some_use p us) (q u.name) (some_use q us) (f u.name) (some_more p q f us) e
 

@@ -7,7 +7,7 @@ use Rattle.gds_records.specs.declared.fault.StreamKind.{StreamKind}
 use Rattle.gds_records.specs.Language.{Language}
 use Rattle.gds_records.specs.Derivative.{after, after_all}
 use Rattle.gds_records.specs.Records.{Record, spelled, kinds, trimmed, same}
-use Rattle.gds_records.specs.Values.{opener, is_structure_name}
+use Rattle.gds_records.specs.Values.{is_structure_name}
 use Rattle.gds_records.specs.WideValues.{wide_opener, last_colrow}
 use Rattle.gds_records.specs.Profiles.{Profile, value_fault_of, strict, wide, IsProfile}
 use Rattle.gds_records.specs.Profiled.{own_fault_in, kind_of, length_of, here_record, alive, may_follow_in, fault_of}

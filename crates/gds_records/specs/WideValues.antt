@@ -7,8 +7,8 @@ use Rattle.poly_cut.specs.Cuts.{ring_cut}
 use Rattle.gds_records.specs.declared.fault.StreamKind.{StreamKind}
 use Rattle.gds_records.specs.declared.fault.StreamKind.TheVariants.{Value, Unsupported, NotRectangle}
 use Rattle.gds_records.specs.Codes.{BOUNDARY, PATH, SREF, AREF, TEXT, XY, STRANS, MAG, ANGLE, PATHTYPE, WIDTH, COLROW}
-use Rattle.gds_records.specs.Records.{Record, trimmed, number}
-use Rattle.gds_records.specs.Values.{value_of, is_structure_name, has_value}
+use Rattle.gds_records.specs.Records.{Record, number}
+use Rattle.gds_records.specs.Values.{value_of, has_value}
 use Rattle.gds_records.specs.Drawing.{coordinate}
 
 -- ---- the points of an XY

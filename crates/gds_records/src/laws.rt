@@ -1,5 +1,5 @@
 // Laws of streams, for the crates above.
-ghost use Rattle.std.specs.Prelude.{◌≡◌, List, ℕ, suc, length, Option, Some, None, [], ◌∷◌, ◌<◌, ◌^◌, true};
+ghost use Rattle.std.specs.Prelude.{◌≡◌, List, ℕ, suc, length, Option, Some, None, [], ◌∷◌, ◌<◌, ◌^◌, true, false};
 ghost use Rattle.geom.specs.declared.layout.Layout.{Layout};
 ghost use Rattle.geom.specs.Writable.{IsWritable};
 ghost use Rattle.geom.specs.FirstChip.{first_layout, first_flat};
@@ -25,7 +25,8 @@ ghost use Rattle.gds_records.specs.Profiled.{AreGoodIn, IsReadIn, IsFirstFaultIn
 ghost use Rattle.gds_records.specs.Steps.{all_steps, told};
 ghost use Rattle.gds_records.specs.Language.{Speaks};
 ghost use Rattle.gds_records.specs.Whole.{Outline, whole_fault};
-ghost use Rattle.gds_records.specs.WideWhole.{first_long, first_loop, wide_whole_fault};
+ghost use Rattle.gds_records.specs.WideWhole.{leads, first_long, first_loop, wide_whole_fault};
+ghost use Rattle.gds_records.specs.Ranks.{NeverRises, Falls, IsWay};
 ghost use Rattle.gds_records.specs.Grammar.{stream, wide_stream};
 ghost use Rattle.gds_records.specs.FirstChip.{first_bytes};
 ghost use Rattle.gds_records.specs.declared.fault.StreamKind.{StreamKind};
@@ -144,4 +145,13 @@ pub fn strict_streams_are_wide()
 /// Where no chain of more than 64 references goes down, no structure leads back to itself.
 pub fn loops_are_long()
     ensures { (ss : List Outline) → first_long ss ss ≡ None → first_loop ss ss ≡ None }
+{}
+
+/// Loops are told by numbers and by ways: where numbers never rise along references, a structure whose references all
+/// fall leads not back to itself, and one with a way back of at most so many references does.
+pub fn loops_are_told()
+    ensures none { (rank : List ℕ → ℕ) (ss : List Outline) (k : ℕ) (name : List ℕ) → NeverRises rank ss → Falls rank ss name
+        → leads k ss name name ≡ false }
+    ensures some { (ss : List Outline) (name : List ℕ) (more : List (List ℕ)) (k : ℕ) → length more < k
+        → IsWay ss name more name → leads k ss name name ≡ true }
 {}

@@ -1,4 +1,5 @@
--- The ways of figures, as a reader has them.
+-- The ways of figures and the quarters of placements, as a reader has them.
+use Rattle.std.specs.Prelude.{ℕ, Option, Some, None}
 use Rattle.gds_records.specs.WideValues as values
 use Rattle.gds_read.specs.declared.ways.Way.{Way}
 use Rattle.gds_read.specs.declared.ways.Way.TheVariants.{Right, Left, Up, Down, Still, Slanted}
@@ -10,3 +11,7 @@ way_of Up = values.Up
 way_of Down = values.Down
 way_of Still = values.Still
 way_of Slanted = values.Slanted
+
+-- a number of quarters, and 0 for none
+abbrev pub quarters_or_none : Option ℕ → ℕ
+quarters_or_none o = elim o [ Some n ↦ n | None ↦ 0 ]
