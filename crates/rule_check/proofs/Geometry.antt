@@ -1,7 +1,9 @@
 -- Rules of geometry, from what is near.
-use Rattle.std.proofs.Common.{◌≡◌, ℕ, zero, suc, ◌+◌, ◌<◌, ◌≤◌, Bool, true, false, ◌||◌, ◌&&◌, not, List, [], ◌∷◌, length, get_or, eq-eqb, Option, Some, None, refl, sym, ap, subst, ◌∙◌, arith, inl, inr}
+use Rattle.std.proofs.Common.{◌≡◌, ℕ, zero, suc, ◌+◌, ◌<◌, ◌≤◌, Bool, true, false, ◌||◌, ◌&&◌, not, List, [], ◌∷◌}
+use Rattle.std.proofs.Common.{length, get_or, eq-eqb, Option, Some, None, refl, sym, ap, subst, ◌∙◌, arith, inl, inr}
 use Rattle.std.specs.Prelude.{◌==◌, slice_get, slice_index, nat_lt}
-use Rattle.std.proofs.lemmas.Bool.{cases_eq, cases_lt, both_ways, or_left, or_right, or_cases, false_from_ne_true, ne_eqb}
+use Rattle.std.proofs.lemmas.Bool.{cases_eq, cases_lt, both_ways, or_left, or_right, or_cases, false_from_ne_true}
+use Rattle.std.proofs.lemmas.Bool.{ne_eqb}
 use Rattle.std.proofs.lemmas.Option.{same_Some, slice_get_within, slice_get-get_or}
 use Rattle.geom.specs.declared.shapes.Shape.{Shape}
 use Rattle.std.proofs.lemmas.List.{length-map}
@@ -27,14 +29,20 @@ alone_yes fault a h = Alone-first fault a h
 pub alone_no : (fault : ℕ → Type 0) (a : ℕ) → (fault a → ⊥) → FindsAt (Alone fault) a None
 alone_no fault a h = Alone-none fault a h
 
-pub passes_not : (test : Shape → Bool) (shapes : List Shape) (n : ℕ) (s : Shape) → slice_get shapes n ≡ Some s → test s ≡ false → Passes test shapes n → ⊥
-passes_not test shapes n s is e pass = both_ways (test s) e (ap test (same_Some s pass.shape (sym is ∙ pass.shape_is)) ∙ pass.passes_so)
+pub passes_not : (test : Shape → Bool) (shapes : List Shape) (n : ℕ) (s : Shape) → slice_get shapes n ≡ Some s
+    → test s ≡ false → Passes test shapes n → ⊥
+passes_not test shapes n s is e pass = both_ways (test s) e (ap test (same_Some s pass.shape (sym is ∙ pass.shape_is))
+    ∙ pass.passes_so)
 
 -- ---- the first partner above
 
 -- of all partners, rising, the first above a is the least above it
-pub first_above_of : (test : Shape → Shape → Bool) (shapes : List Shape) (a : ℕ) (found : List ℕ) (r : Option ℕ) → AreThose (PassTogether test shapes a) found → FindsAbove found a r → FindsAt (λ x y. (x < y) × PassTogether test shapes x y) a r
-first_above_of test shapes a found None are none = λ b h. (let k = are.complete b h.1 in let le : slice_index found k.0 ≤ a = none k.0 k.1.0 in let e : slice_index found k.0 ≡ b = k.1.1 in let lt : a < b = h.0 in absurd (omega arith))
+pub first_above_of : (test : Shape → Shape → Bool) (shapes : List Shape) (a : ℕ) (found : List ℕ) (r : Option ℕ)
+    → AreThose (PassTogether test shapes a) found → FindsAbove found a r
+    → FindsAt (λ x y. (x < y) × PassTogether test shapes x y) a r
+first_above_of test shapes a found None are none =
+    λ b h. (let k = are.complete b h.1 in let le : slice_index found k.0 ≤ a = none k.0 k.1.0 in
+    let e : slice_index found k.0 ≡ b = k.1.1 in let lt : a < b = h.0 in absurd (omega arith))
 first_above_of test shapes a found (Some b) are first = record {
   reported = (first.above, subst (PassTogether test shapes a) first.number_is (are.each first.place first.within));
   least = λ d h. (
@@ -45,69 +53,99 @@ first_above_of test shapes a found (Some b) are first = record {
       elim (cases_lt k.0 first.place) [
         | inl less ↦ absurd (let le : slice_index found k.0 ≤ a = first.before k.0 less in omega arith)
         | inr ge ↦ elim (cases_eq k.0 first.place) [
-          | inl same ↦ (let q : slice_index found k.0 ≡ slice_index found first.place = ap (slice_index found) same in omega arith)
-          | inr ne ↦ (let lt : slice_index found first.place < slice_index found k.0 = are.rising first.place k.0 (omega arith) k.1.0 in omega arith)
+          | inl same ↦ (let q : slice_index found k.0 ≡ slice_index found first.place = ap (slice_index found) same in
+              omega arith)
+          | inr ne ↦ (let lt : slice_index found first.place < slice_index found k.0 = are.rising first.place k.0
+              (omega arith) k.1.0 in omega arith)
         ]
       ]
       );
 }
 
-pub above_more : (numbers : List ℕ) (a i : ℕ) → ((k : ℕ) → k < i → slice_index numbers k ≤ a) → slice_index numbers i ≤ a → (k : ℕ) → k < i + 1 → slice_index numbers k ≤ a
-above_more numbers a i before here k lt = elim (cases_eq k i) [ inl e ↦ (let q : slice_index numbers k ≡ slice_index numbers i = ap (slice_index numbers) e in omega arith) | inr ne ↦ before k (omega arith) ]
+pub above_more : (numbers : List ℕ) (a i : ℕ) → ((k : ℕ) → k < i → slice_index numbers k ≤ a)
+    → slice_index numbers i ≤ a → (k : ℕ) → k < i + 1 → slice_index numbers k ≤ a
+above_more numbers a i before here k lt =
+    elim (cases_eq k i) [
+      | inl e ↦ (let q : slice_index numbers k ≡ slice_index numbers i = ap (slice_index numbers) e in
+          omega arith)
+      | inr ne ↦ before k (omega arith)
+    ]
 
 -- ---- enclosure
 
-covered_some : (shapes : List Shape) (layer margin v : ℕ) (s : Shape) (found : List ℕ) → slice_get shapes v ≡ Some s → AreThose (PassTogether (encloses layer margin) shapes v) found → 0 < length found → is_covered shapes layer (grown margin s.rect) ≡ true
+covered_some : (shapes : List Shape) (layer margin v : ℕ) (s : Shape) (found : List ℕ) → slice_get shapes v ≡ Some s
+    → AreThose (PassTogether (encloses layer margin) shapes v) found → 0 < length found
+    → is_covered shapes layer (grown margin s.rect) ≡ true
 covered_some shapes layer margin v s found got are some =
     let pass : PassTogether (encloses layer margin) shapes v (slice_index found 0) = are.each 0 some in
-    let so : encloses layer margin s pass.second ≡ true = ap (λ (t : Shape). encloses layer margin t pass.second) (same_Some s pass.first (sym got ∙ pass.first_is)) ∙ pass.passes_so in
+    let so : encloses layer margin s pass.second ≡ true = ap (λ (t : Shape). encloses layer margin t pass.second)
+    (same_Some s pass.first (sym got ∙ pass.first_is)) ∙ pass.passes_so in
     list_any-at (λ (t : Shape). encloses layer margin s t) shapes (slice_index found 0) pass.second pass.second_is so
 
-covered_none : (shapes : List Shape) (layer margin v : ℕ) (s : Shape) (found : List ℕ) → slice_get shapes v ≡ Some s → AreThose (PassTogether (encloses layer margin) shapes v) found → length found ≡ 0 → is_covered shapes layer (grown margin s.rect) ≡ false
-covered_none shapes layer margin v s found got are none = false_from_ne_true (is_covered shapes layer (grown margin s.rect)) (λ any. (
-    let at : PassesAt (λ (t : Shape). encloses layer margin s t) shapes = list_any-place (λ (t : Shape). encloses layer margin s t) shapes any in
-    let k = are.complete at.place (record { first = s; second = at.item; first_is = got; second_is = at.item_is; passes_so = at.passes_so }) in
+covered_none : (shapes : List Shape) (layer margin v : ℕ) (s : Shape) (found : List ℕ) → slice_get shapes v ≡ Some s
+    → AreThose (PassTogether (encloses layer margin) shapes v) found → length found ≡ 0
+    → is_covered shapes layer (grown margin s.rect) ≡ false
+covered_none shapes layer margin v s found got are none =
+    false_from_ne_true (is_covered shapes layer (grown margin s.rect)) (λ any. (
+    let at : PassesAt (λ (t : Shape). encloses layer margin s t) shapes =
+    list_any-place (λ (t : Shape). encloses layer margin s t) shapes any in
+    let k = are.complete at.place
+    (record { first = s; second = at.item; first_is = got; second_is = at.item_is; passes_so = at.passes_so }) in
     let lt : k.0 < length found = k.1.0 in
     omega arith
     ))
 
-pub covered : (shapes : List Shape) (layer margin v : ℕ) (s : Shape) (found : List ℕ) (b : Bool) → slice_get shapes v ≡ Some s → AreThose (PassTogether (encloses layer margin) shapes v) found → b ≡ (length found == 0) → not b ≡ is_covered shapes layer (grown margin s.rect)
+pub covered : (shapes : List Shape) (layer margin v : ℕ) (s : Shape) (found : List ℕ) (b : Bool)
+    → slice_get shapes v ≡ Some s → AreThose (PassTogether (encloses layer margin) shapes v) found
+    → b ≡ (length found == 0) → not b ≡ is_covered shapes layer (grown margin s.rect)
 covered shapes layer margin v s found b got are e = elim (cases_eq (length found) 0) [
   | inl none ↦ ap not (e ∙ eq-eqb (length found) 0 none) ∙ sym (covered_none shapes layer margin v s found got are none)
-  | inr some ↦ ap not (e ∙ ne_eqb (length found) 0 some) ∙ sym (covered_some shapes layer margin v s found got are (omega arith))
+  | inr some ↦ ap not (e ∙ ne_eqb (length found) 0 some)
+      ∙ sym (covered_some shapes layer margin v s found got are (omega arith))
 ]
 
 -- ---- among some numbers
 
-pub any_at_here : (test : Shape → Bool) (shapes : List Shape) (ns : List ℕ) (k d : ℕ) → k < length ns → passes_in test (slice_get shapes (get_or ns k d)) ≡ true → any_at test shapes ns ≡ true
+pub any_at_here : (test : Shape → Bool) (shapes : List Shape) (ns : List ℕ) (k d : ℕ) → k < length ns
+    → passes_in test (slice_get shapes (get_or ns k d)) ≡ true → any_at test shapes ns ≡ true
 any_at_here test shapes [] k d lt e = absurd (omega arith)
 any_at_here test shapes (n ∷ ns) zero d lt e = or_left (passes_in test (slice_get shapes n)) (any_at test shapes ns) e
-any_at_here test shapes (n ∷ ns) (suc k) d lt e = or_right (passes_in test (slice_get shapes n)) (any_at test shapes ns) (any_at_here test shapes ns k d (omega arith) e)
+any_at_here test shapes (n ∷ ns) (suc k) d lt e = or_right (passes_in test (slice_get shapes n)) (any_at test shapes ns)
+    (any_at_here test shapes ns k d (omega arith) e)
 
 abbrev pub NoneAt : (Shape → Bool) → List Shape → List ℕ → ℕ → Type 0
 NoneAt test shapes ns n = (k : ℕ) → k < n → passes_in test (slice_get shapes (slice_index ns k)) ≡ false
 
-pub none_more : (test : Shape → Bool) (shapes : List Shape) (ns : List ℕ) (i : ℕ) → NoneAt test shapes ns i → passes_in test (slice_get shapes (slice_index ns i)) ≡ false → NoneAt test shapes ns (i + 1)
-none_more test shapes ns i before here k lt = elim (cases_eq k i) [ inl e ↦ ap (λ (j : ℕ). passes_in test (slice_get shapes (slice_index ns j))) e ∙ here | inr ne ↦ before k (omega arith) ]
+pub none_more : (test : Shape → Bool) (shapes : List Shape) (ns : List ℕ) (i : ℕ) → NoneAt test shapes ns i
+    → passes_in test (slice_get shapes (slice_index ns i)) ≡ false → NoneAt test shapes ns (i + 1)
+none_more test shapes ns i before here k lt =
+    elim (cases_eq k i) [
+      | inl e ↦ ap (λ (j : ℕ). passes_in test (slice_get shapes (slice_index ns j))) e
+          ∙ here
+      | inr ne ↦ before k (omega arith)
+    ]
 
 or_none : (x y : Bool) → x ≡ false → y ≡ false → (x || y) ≡ false
 or_none x y p q = rw (p, q) refl
 
-pub any_at_none : (test : Shape → Bool) (shapes : List Shape) (ns : List ℕ) (n : ℕ) → length ns ≤ n → NoneAt test shapes ns n → any_at test shapes ns ≡ false
+pub any_at_none : (test : Shape → Bool) (shapes : List Shape) (ns : List ℕ) (n : ℕ) → length ns ≤ n
+    → NoneAt test shapes ns n → any_at test shapes ns ≡ false
 any_at_none test shapes [] n all none = refl
 any_at_none test shapes (m ∷ ns) n all none =
     or_none (passes_in test (slice_get shapes m)) (any_at test shapes ns) (none 0 (omega arith))
     (any_at_none test shapes ns (length ns) (omega arith) (λ k lt. none (suc k) (omega arith)))
 
 -- some number passes
-pub any_at_found : (test : Shape → Bool) (shapes : List Shape) (ns : List ℕ) → any_at test shapes ns ≡ true → (k : ℕ) × ((k < length ns) × (passes_in test (slice_get shapes (slice_index ns k)) ≡ true))
+pub any_at_found : (test : Shape → Bool) (shapes : List Shape) (ns : List ℕ) → any_at test shapes ns ≡ true
+    → (k : ℕ) × ((k < length ns) × (passes_in test (slice_get shapes (slice_index ns k)) ≡ true))
 any_at_found test shapes [] e = absurd (both_ways false refl e)
 any_at_found test shapes (n ∷ ns) e = elim (or_cases (passes_in test (slice_get shapes n)) (any_at test shapes ns) e) [
   | inl here ↦ (0, (omega arith, here))
   | inr later ↦ (let k = any_at_found test shapes ns later in (suc k.0, (omega (arith, k.1.0), k.1.1)))
 ]
 
-pub passes_at : (test : Shape → Bool) (shapes : List Shape) (n : ℕ) (s : Shape) (b : Bool) → slice_get shapes n ≡ Some s → b ≡ test s → (c : Bool) → b ≡ c → passes_in test (slice_get shapes n) ≡ c
+pub passes_at : (test : Shape → Bool) (shapes : List Shape) (n : ℕ) (s : Shape) (b : Bool) → slice_get shapes n ≡ Some s
+    → b ≡ test s → (c : Bool) → b ≡ c → passes_in test (slice_get shapes n) ≡ c
 passes_at test shapes n s b is e c h = ap (passes_in test) is ∙ (sym e ∙ h)
 
 pub shape_of : (shapes : List Shape) (n : ℕ) → n < length shapes → (s : Shape) × (slice_get shapes n ≡ Some s)
@@ -116,24 +154,38 @@ shape_of (s ∷ ss) zero lt = (s, refl)
 shape_of (s ∷ ss) (suc n) lt = shape_of ss n (omega arith)
 
 -- the shape of a number of the list, as it is read
-pub read_through : (test : Shape → Bool) (shapes : List Shape) (ns : List ℕ) (k : ℕ) (s : Shape) (b : Bool) → k < length ns → get_or ns k 0 < length shapes → s ≡ get_or shapes (get_or ns k 0) s → test s ≡ b → passes_in test (slice_get shapes (get_or ns k 0)) ≡ b
+pub read_through : (test : Shape → Bool) (shapes : List Shape) (ns : List ℕ) (k : ℕ) (s : Shape) (b : Bool)
+    → k < length ns → get_or ns k 0 < length shapes → s ≡ get_or shapes (get_or ns k 0) s → test s ≡ b
+    → passes_in test (slice_get shapes (get_or ns k 0)) ≡ b
 read_through test shapes ns k s b lt within is e = ap (passes_in test) (read_at shapes (get_or ns k 0) s within is) ∙ e
 
 -- numbers of near ones are numbers of shapes
-pub near_within : (shapes : List Shape) (rect : Rectangle) (margin : ℕ) (near : List ℕ) → AreNear (rects_of shapes) rect margin near → (k d : ℕ) → k < length near → get_or near k d < length shapes
-near_within shapes rect margin near are k d lt = (let at = are.each k d lt in omega (arith, slice_get_within (rects_of shapes) (get_or near k d) at.other at.other_is, length-map shapes (λ (t : Shape). t.rect)))
+pub near_within : (shapes : List Shape) (rect : Rectangle) (margin : ℕ) (near : List ℕ)
+    → AreNear (rects_of shapes) rect margin near → (k d : ℕ) → k < length near → get_or near k d < length shapes
+near_within shapes rect margin near are k d lt =
+    (let at = are.each k d lt in
+    omega (
+      arith,
+      slice_get_within (rects_of shapes) (get_or near k d) at.other at.other_is,
+      length-map shapes
+          (λ (t : Shape). t.rect),
+    ))
 
 -- ---- shapes of no group
 
-no_group : (l v u ol ov ou share gaps : Bool) → ((l || v) || u) ≡ false → (((((l && ol) || (v && ov)) || (u && ou)) && share) && gaps) ≡ false
+no_group : (l v u ol ov ou share gaps : Bool) → ((l || v) || u) ≡ false
+    → (((((l && ol) || (v && ov)) || (u && ou)) && share) && gaps) ≡ false
 no_group true v u ol ov ou share gaps e = absurd cc
 no_group false true u ol ov ou share gaps e = absurd cc
 no_group false false true ol ov ou share gaps e = absurd cc
 no_group false false false ol ov ou share gaps e = refl
 
-pub no_group_none : (limits : Limits) (shapes : List Shape) (a : ℕ) (s : Shape) → slice_get shapes a ≡ Some s → is_of_a_group s ≡ false → (b : ℕ) → SpacingBroken limits shapes a b → ⊥
+pub no_group_none : (limits : Limits) (shapes : List Shape) (a : ℕ) (s : Shape) → slice_get shapes a ≡ Some s
+    → is_of_a_group s ≡ false → (b : ℕ) → SpacingBroken limits shapes a b → ⊥
 no_group_none limits shapes a s got other b h =
     let first : h.1.first ≡ s = same_Some h.1.first s (sym h.1.first_is ∙ got) in
     both_ways (are_too_close limits.space s h.1.second)
-    (no_group (is_lower s) (is_via s) (is_upper s) (is_lower h.1.second) (is_via h.1.second) (is_upper h.1.second) (not (share_point s.rect h.1.second.rect)) (nat_lt (gap_x s.rect h.1.second.rect) limits.space && nat_lt (gap_y s.rect h.1.second.rect) limits.space) other)
+    (no_group (is_lower s) (is_via s) (is_upper s) (is_lower h.1.second) (is_via h.1.second) (is_upper h.1.second)
+    (not (share_point s.rect h.1.second.rect)) (nat_lt (gap_x s.rect h.1.second.rect) limits.space
+    && nat_lt (gap_y s.rect h.1.second.rect) limits.space) other)
     (sym (ap (λ (t : Shape). are_too_close limits.space t h.1.second) first) ∙ h.1.passes_so)

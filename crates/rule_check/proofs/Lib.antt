@@ -3,4 +3,4 @@ mod Covering
 mod Lengthy
 mod Colliding
 mod InOrder
-mod Repeating
+mod Represented

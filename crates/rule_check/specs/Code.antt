@@ -6,4 +6,5 @@ pub mod Cover
 pub mod Lengths
 pub mod Bands
 pub mod FiledRows
-pub mod Runs
+pub mod Named
+pub mod Sheets

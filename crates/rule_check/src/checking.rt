@@ -1,4 +1,4 @@
-// The check of the rules of geometry, in their order.
+// The design rule check (DRC): the rules of geometry, and that of lengths, in their order.
 ghost use Rattle.std.specs.Prelude.{◌≡◌, ◌-◌, ◌<◌, ◌≤◌, ◌^◌, Some, IfErr, IfOk, OnOk};
 ghost use Rattle.geom.specs.FlatForm.{flat_count};
 ghost use Rattle.cell_library.specs.Library.{limits_of};
@@ -13,11 +13,12 @@ use crate::enclosure::find_bare;
 use crate::frames::find_colliding;
 use crate::lengths::find_long;
 use crate::limits::{Limits, read_limits};
+use crate::sheet::sheet_of;
 use crate::sizes::find_small;
 use crate::spacing::find_close;
 use aq_base::Memory;
 use cell_library::Library;
-use geom::{Flat, file_shapes};
+use geom::Flat;
 use layout_rules::Rule;
 use shape_extract::{Extracted, Report};
 use std::alloc::Global;
@@ -79,17 +80,17 @@ pub fn first_broken(
     if let Some(report) = find_small(alloc, shapes, limits)? {
         return Ok(broken(Rule::G1, report));
     }
-    let index = file_shapes(alloc, &flat.shapes)?;
-    if let Some(report) = find_close(alloc, shapes, &index, limits)? {
+    let sheet = sheet_of(alloc, shapes)?;
+    if let Some(report) = find_close(alloc, shapes, &sheet, limits)? {
         return Ok(broken(Rule::G2, report));
     }
-    if let Some(report) = find_bare(alloc, shapes, &index, limits)? {
+    if let Some(report) = find_bare(alloc, shapes, &sheet, limits)? {
         return Ok(broken(Rule::G3, report));
     }
-    if let Some(report) = find_cover(alloc, shapes, &index)? {
+    if let Some(report) = find_cover(alloc, shapes, &sheet)? {
         return Ok(broken(Rule::G4, report));
     }
-    if let Some(report) = find_colliding(alloc, shapes, &index)? {
+    if let Some(report) = find_colliding(alloc, shapes)? {
         return Ok(broken(Rule::G5, report));
     }
     if let Some(report) = find_long(alloc, shapes, nets, limits)? {
@@ -99,8 +100,8 @@ pub fn first_broken(
 }
 
 /// Answers where the layout, whose circuit this is, keeps all rules with the numbers of the library. It is refused with
-/// the first rule that is broken, in the order in which they are tried, and the first two numbers that this rule reports;
-/// otherwise for want of memory alone.
+/// the first rule that is broken, in the order in which they are tried, and the first two numbers that this rule
+/// reports; otherwise for want of memory alone.
 pub fn check(
     alloc: Global,
     flat: &Flat,

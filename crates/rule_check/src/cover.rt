@@ -1,17 +1,22 @@
-// The rule of cover: over cells lies no metal but at pins.
+// Design rule check (DRC), the rule of cover: over cells lies no metal but at pins.
 ghost use Rattle.std.specs.Prelude.{◌≡◌, ◌<◌, ◌^◌, ◌&&◌, int_le, length, IfOk};
 ghost use Rattle.std.specs.Int.{int_max, int_min};
 ghost use Rattle.geom.specs.Near.{rects_of};
 ghost use Rattle.geom.specs.Rectangle.{within};
 ghost use Rattle.layout_rules.specs.GeometryRules.{common, CoverBroken};
 ghost use Rattle.shape_extract.specs.Searches.{Finds, FindsAt};
-ghost use Rattle.rule_check.specs.Code.Cover.{is_at_pin_of, AreWithin, any_at, may_trespass, trespasses_by, FindsTrespass};
+ghost use Rattle.rule_check.specs.Code.Cover.{is_at_pin_of, AreWithin, any_at, may_trespass, trespasses_by};
+ghost use Rattle.rule_check.specs.Code.Cover.{FindsTrespass};
+ghost use Rattle.rule_check.specs.Code.Close.{within_x, within_y};
+ghost use Rattle.rule_check.specs.Code.Sheets.{IsSheet};
 
-use crate::runs::first_of_runs;
+use crate::sheet::{Sheet, named};
 use aq_base::Memory;
 use geom::{Buckets, Rect, Shape};
 use layout_rules::layers::M1;
-use shape_extract::{Part, Report, is_frame, is_pin, is_upper, is_via, is_within, overlaps};
+use shape_extract::{
+    Part, Report, first_of, is_frame, is_pin, is_upper, is_via, is_within, overlaps,
+};
 use std::alloc::Global;
 
 /// Whether the first number is at most the greater of the others.
@@ -29,13 +34,13 @@ fn is_one_below(a: i64, b: i64, high: i64) -> bool
 }
 
 fn holds_common_in_x(a: &Rect, b: &Rect, outer: &Rect) -> bool
-    ensures { result ≡ (int_le outer.now.x0 (int_max a.now.x0 b.now.x0) && int_le (int_min a.now.x1 b.now.x1) outer.now.x1) }
+    ensures { result ≡ within_x (common a.now b.now) outer.now }
 {
     is_below_one(outer.x0, a.x0, b.x0) && is_one_below(a.x1, b.x1, outer.x1)
 }
 
 fn holds_common_in_y(a: &Rect, b: &Rect, outer: &Rect) -> bool
-    ensures { result ≡ (int_le outer.now.y0 (int_max a.now.y0 b.now.y0) && int_le (int_min a.now.y1 b.now.y1) outer.now.y1) }
+    ensures { result ≡ within_y (common a.now b.now) outer.now }
 {
     is_below_one(outer.y0, a.y0, b.y0) && is_one_below(a.y1, b.y1, outer.y1)
 }
@@ -150,14 +155,16 @@ impl<'a> Part for Cover<'a> {
 }
 
 /// The first metal or via over a cell.
-pub fn find_cover(
-    alloc: Global,
-    shapes: &[Shape],
-    index: &Buckets,
-) -> Result<Option<Report>, Memory>
-    requires few { length shapes.now < 2 ^ 32 }
-    requires filed { index.now ≡ rects_of shapes.now }
+pub fn find_cover(alloc: Global, shapes: &[Shape], sheet: &Sheet) -> Result<Option<Report>, Memory>
+    requires { IsSheet shapes.now sheet.now }
     ensures { IfOk result (Finds (CoverBroken shapes.now)) }
 {
-    first_of_runs(alloc, &Cover { shapes, index }, shapes)
+    let found = first_of(
+        alloc,
+        &Cover {
+            shapes: sheet.shapes.as_slice(),
+            index: &sheet.index,
+        },
+    )?;
+    Ok(named(sheet.numbers.as_slice(), found))
 }

@@ -1,4 +1,4 @@
-// The rule of enclosure: a shape of each metal reaches past every via.
+// Design rule check (DRC), the rule of enclosure: a shape of each metal reaches past every via.
 ghost use Rattle.std.specs.Prelude.{◌≡◌, ◌<◌, ◌^◌, ◌&&◌, ◌-ℤ◌, ◌+ℤ◌, Some, pos, int_le, length, slice_get, IfOk};
 ghost use Rattle.geom.specs.declared.shapes.Shape.{Shape};
 ghost use Rattle.geom.specs.Near.{rects_of};
@@ -6,14 +6,15 @@ ghost use Rattle.geom.specs.Rectangle.{within, grown};
 ghost use Rattle.layout_rules.specs.GeometryRules.{is_covered, EnclosureBroken};
 ghost use Rattle.shape_extract.specs.Searches.{Finds};
 ghost use Rattle.rule_check.specs.Code.Seen.{limits_seen};
-ghost use Rattle.rule_check.specs.Code.Close.{encloses, is_bare_by};
+ghost use Rattle.rule_check.specs.Code.Close.{encloses, is_bare_by, within_x, within_y, IsAnswerAt};
+ghost use Rattle.rule_check.specs.Code.Sheets.{IsSheet};
 
 use crate::limits::Limits;
-use crate::runs::first_of_runs;
+use crate::sheet::{Sheet, named};
 use aq_base::Memory;
 use geom::{Buckets, Rect, Shape};
 use layout_rules::layers::{M1, M2};
-use shape_extract::{PairTest, Part, Report, is_via, list_partners};
+use shape_extract::{PairTest, Part, Report, first_of, is_via, list_partners};
 use std::alloc::Global;
 
 /// Whether the first is below the second by the margin at least.
@@ -25,13 +26,13 @@ fn is_below_by(margin: u64, low: i64, high: i64) -> bool
 }
 
 fn is_within_in_x(margin: u64, inner: &Rect, outer: &Rect) -> bool
-    ensures { result ≡ (int_le outer.now.x0 (inner.now.x0 -ℤ pos margin) && int_le (inner.now.x1 +ℤ pos margin) outer.now.x1) }
+    ensures { result ≡ within_x (grown margin inner.now) outer.now }
 {
     is_below_by(margin, outer.x0, inner.x0) && is_below_by(margin, inner.x1, outer.x1)
 }
 
 fn is_within_in_y(margin: u64, inner: &Rect, outer: &Rect) -> bool
-    ensures { result ≡ (int_le outer.now.y0 (inner.now.y0 -ℤ pos margin) && int_le (inner.now.y1 +ℤ pos margin) outer.now.y1) }
+    ensures { result ≡ within_y (grown margin inner.now) outer.now }
 {
     is_below_by(margin, outer.y0, inner.y0) && is_below_by(margin, inner.y1, outer.y1)
 }
@@ -76,7 +77,7 @@ fn is_covered(
     requires few { length shapes.now < 2 ^ 32 }
     requires filed { index.now ≡ rects_of shapes.now }
     requires within { v < length shapes.now }
-    ensures { IfOk result (λ yes. (s : Shape) → slice_get shapes.now v ≡ Some s → yes ≡ is_covered shapes.now layer (grown margin s.rect)) }
+    ensures { IfOk result (IsAnswerAt shapes.now v (λ s. is_covered shapes.now layer (grown margin s.rect))) }
 {
     list_partners(&Encloses { layer, margin }, shapes, index, v, found)?;
     let covers = found.as_slice();
@@ -94,7 +95,7 @@ fn is_bare(
     requires few { length shapes.now < 2 ^ 32 }
     requires filed { index.now ≡ rects_of shapes.now }
     requires within { v < length shapes.now }
-    ensures { IfOk result (λ yes. (s : Shape) → slice_get shapes.now v ≡ Some s → yes ≡ is_bare_by enclose shapes.now s) }
+    ensures { IfOk result (IsAnswerAt shapes.now v (is_bare_by enclose shapes.now)) }
 {
     if !is_via(&shapes[v as usize]) {
         return Ok(false);
@@ -139,20 +140,19 @@ impl<'a> Part for Enclosure<'a> {
 pub fn find_bare(
     alloc: Global,
     shapes: &[Shape],
-    index: &Buckets,
+    sheet: &Sheet,
     limits: &Limits,
 ) -> Result<Option<Report>, Memory>
-    requires few { length shapes.now < 2 ^ 32 }
-    requires filed { index.now ≡ rects_of shapes.now }
+    requires { IsSheet shapes.now sheet.now }
     ensures { IfOk result (Finds (EnclosureBroken (limits_seen limits.now) shapes.now)) }
 {
-    first_of_runs(
+    let found = first_of(
         alloc,
         &Enclosure {
-            shapes,
-            index,
+            shapes: sheet.shapes.as_slice(),
+            index: &sheet.index,
             limits,
         },
-        shapes,
-    )
+    )?;
+    Ok(named(sheet.numbers.as_slice(), found))
 }

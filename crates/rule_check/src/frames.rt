@@ -1,4 +1,4 @@
-// The rule of frames: cells stand beside each other in rows.
+// Design rule check (DRC), the rule of frames: cells stand beside each other in rows. It looks at the frames alone.
 ghost use Rattle.std.specs.Prelude.{◌≡◌, ◌<◌, ◌≤◌, ◌^◌, All, Contains, length, IfOk, IsTrue};
 ghost use Rattle.geom.specs.declared.shapes.Shape.{Shape};
 ghost use Rattle.geom.specs.Near.{rects_of};
@@ -6,14 +6,17 @@ ghost use Rattle.geom.specs.Rectangle.{meet_y};
 ghost use Rattle.layout_rules.specs.GeometryRules.{collide, FramesBroken};
 ghost use Rattle.layout_rules.specs.Layers.{is_frame};
 ghost use Rattle.layout_rules.specs.Reports.{Passes};
-ghost use Rattle.shape_extract.specs.Searches.{Finds, FindsAt};
+ghost use Rattle.shape_extract.specs.Searches.{AreThose, Finds, FindsAt};
 ghost use Rattle.rule_check.specs.Code.Cover.{any_at};
 ghost use Rattle.rule_check.specs.Code.Bands.{band_of, AreBands, collide_across, CollidesWithNone};
 ghost use Rattle.rule_check.specs.Code.FiledRows.{AreFiledRows};
 
+use crate::sheet::named;
 use aq_base::{List, Memory};
 use geom::{Buckets, Rect, Shape, file_shapes};
-use shape_extract::{PairTest, Part, Report, first_of, is_frame, list_partners, overlaps};
+use shape_extract::{
+    PairTest, Part, Report, first_of, is_frame, list_partners, overlaps, shapes_at,
+};
 use std::alloc::Global;
 
 fn meets_in_y(a: &Rect, b: &Rect) -> bool
@@ -215,12 +218,8 @@ impl<'a> Part for Frames<'a> {
     ghost within = { λ s a b valid h. slice_get_within s.rows.now.shapes.now a h.1.first h.1.first_is };
 }
 
-/// The first two frames that collide.
-pub fn find_colliding(
-    alloc: Global,
-    shapes: &[Shape],
-    index: &Buckets,
-) -> Result<Option<Report>, Memory>
+/// The first two of these frames that collide.
+fn find_among(alloc: Global, shapes: &[Shape], index: &Buckets) -> Result<Option<Report>, Memory>
     requires few { length shapes.now < 2 ^ 32 }
     requires filed { index.now ≡ rects_of shapes.now }
     ensures { IfOk result (Finds (FramesBroken shapes.now)) }
@@ -234,4 +233,30 @@ pub fn find_colliding(
         band_index: &band_index,
     };
     first_of(alloc, &Frames { rows: &rows })
+}
+
+/// The numbers of the frames.
+fn frame_numbers(alloc: Global, shapes: &[Shape]) -> Result<Vec<u32>, Memory>
+    requires { length shapes.now < 2 ^ 32 }
+    ensures { IfOk result (λ numbers. AreThose (Passes is_frame shapes.now) numbers.items) }
+{
+    let mut numbers = Vec::new(alloc);
+    for (number, shape) in shapes.iter().enumerate() {
+        if is_frame(shape) {
+            numbers.push(number as u32)?;
+        }
+    }
+    Ok(numbers)
+}
+
+/// The first two frames that collide.
+pub fn find_colliding(alloc: Global, shapes: &[Shape]) -> Result<Option<Report>, Memory>
+    requires { length shapes.now < 2 ^ 32 }
+    ensures { IfOk result (Finds (FramesBroken shapes.now)) }
+{
+    let numbers = frame_numbers(alloc, shapes)?;
+    let frames = List::from_vec(shapes_at(alloc, shapes, numbers.as_slice())?);
+    let index = file_shapes(alloc, &frames)?;
+    let found = find_among(alloc, frames.as_slice(), &index)?;
+    Ok(named(numbers.as_slice(), found))
 }

@@ -1,4 +1,4 @@
-// The rule of lengths: the metal of a net is short enough.
+// Design rule check (DRC), the rule of lengths: the metal of a net is short enough.
 ghost use Rattle.std.specs.Prelude.{◌≡◌, ℕ, ◌-◌, ◌<◌, ◌^◌, length, slice_index, IfOk};
 ghost use Rattle.layout_rules.specs.LengthRule.{longer_side, LengthsBroken};
 ghost use Rattle.layout_rules.specs.Nets.{AreNets};

@@ -1,4 +1,4 @@
-//! The rules of geometry, and the rule of lengths.
+//! The design rule check (DRC): the rules of geometry, and the rule of lengths.
 #![tactic(auto)]
 
 mod checking;
@@ -7,7 +7,7 @@ mod enclosure;
 mod frames;
 mod lengths;
 mod limits;
-mod runs;
+mod sheet;
 mod sizes;
 mod spacing;
 

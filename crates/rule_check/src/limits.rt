@@ -1,4 +1,4 @@
-// The numbers that the rules read.
+// The numbers that the design rule check (DRC) reads.
 ghost use Rattle.std.specs.Prelude.{◌≡◌, ◌-◌, ◌<◌, ◌≤◌, ◌^◌};
 ghost use Rattle.cell_library.specs.Library.{limits_of};
 ghost use Rattle.rule_check.specs.Code.Seen.{limits_seen};

@@ -1,4 +1,4 @@
-// The rule of sizes: metal, vias and pins are large enough.
+// Design rule check (DRC), the rule of sizes: metal, vias and pins are large enough.
 ghost use Rattle.std.specs.Prelude.{◌≡◌, ◌<◌, ◌^◌, length, IfOk};
 ghost use Rattle.layout_rules.specs.GeometryRules.{is_below, is_too_small, SizesBroken};
 ghost use Rattle.layout_rules.specs.Layers.{is_metal};

@@ -1,17 +1,20 @@
-// The rule of spacing: shapes that don't touch keep their distance.
+// Design rule check (DRC), the rule of spacing: shapes that don't touch keep their distance.
 ghost use Rattle.std.specs.Prelude.{◌≡◌, ℕ, ◌-◌, ◌<◌, ◌≤◌, ◌^◌, length, slice_index, IfOk};
 ghost use Rattle.geom.specs.Near.{rects_of};
 ghost use Rattle.layout_rules.specs.GeometryRules.{are_of_one_group, are_too_close, SpacingBroken};
 ghost use Rattle.shape_extract.specs.Searches.{Finds};
 ghost use Rattle.rule_check.specs.Code.Seen.{limits_seen};
 ghost use Rattle.rule_check.specs.Code.Above.{FindsAbove};
-ghost use Rattle.rule_check.specs.Code.Close.{is_of_a_group};
+ghost use Rattle.rule_check.specs.Code.Close.{is_of_a_group, IsFiledWith};
+ghost use Rattle.rule_check.specs.Code.Sheets.{IsSheet};
 
 use crate::limits::Limits;
-use crate::runs::first_of_runs;
+use crate::sheet::{Sheet, named};
 use aq_base::Memory;
 use geom::{Buckets, Shape, gap_x, gap_y, touches};
-use shape_extract::{PairTest, Part, Report, is_lower, is_upper, is_via, list_close_partners};
+use shape_extract::{
+    PairTest, Part, Report, first_of, is_lower, is_upper, is_via, list_close_partners,
+};
 use std::alloc::Global;
 
 fn are_of_one_group(a: &Shape, b: &Shape) -> bool
@@ -72,7 +75,7 @@ struct Spacing<'a> {
 impl<'a> Part for Spacing<'a> {
     ghost use Rattle.std.proofs.lemmas.Option.{slice_get_within};
 
-    ghost valid = { λ s. (length s.shapes.now < 2 ^ 32) × (s.index.now ≡ rects_of s.shapes.now) × (1 ≤ s.limits.now.space) × (s.limits.now.space ≤ 1000000) };
+    ghost valid = { λ s. IsFiledWith s.limits.now.space s.shapes.now s.index.now };
 
     ghost count = { λ s. length s.shapes.now };
 
@@ -106,22 +109,23 @@ impl<'a> Part for Spacing<'a> {
 pub fn find_close(
     alloc: Global,
     shapes: &[Shape],
-    index: &Buckets,
+    sheet: &Sheet,
     limits: &Limits,
 ) -> Result<Option<Report>, Memory>
-    requires few { length shapes.now < 2 ^ 32 }
-    requires filed { index.now ≡ rects_of shapes.now }
+    requires sheet { IsSheet shapes.now sheet.now }
     requires space_some { 1 ≤ limits.now.space }
     requires space_most { limits.now.space ≤ 1000000 }
     ensures { IfOk result (Finds (SpacingBroken (limits_seen limits.now) shapes.now)) }
 {
-    first_of_runs(
+    let index = &sheet.index;
+    index.known();
+    let found = first_of(
         alloc,
         &Spacing {
-            shapes,
+            shapes: sheet.shapes.as_slice(),
             index,
             limits,
         },
-        shapes,
-    )
+    )?;
+    Ok(named(sheet.numbers.as_slice(), found))
 }

@@ -8,7 +8,7 @@ mod OneCircuit
 mod LineContacts
 mod JoinedParts
 mod LineStarts
-mod Searching
+pub mod Searching
 mod Marked
 mod NetPins
 mod NetChains
@@ -45,3 +45,4 @@ mod PinFrameLists
 mod FramesExist
 mod CircuitExists
 pub mod SameShapes
+mod StandIns

@@ -27,3 +27,5 @@ pub mod PinNames
 pub mod Tables
 pub mod OutputPins
 pub mod Parts
+-- equal shapes:
+pub mod DistinctShapes

@@ -4,6 +4,7 @@
 
 mod circuits;
 mod connectivity;
+mod distinct_shapes;
 mod extracting;
 mod extraction;
 mod layers;
@@ -19,6 +20,7 @@ pub use circuits::first_chip::first_chip_extracted;
 pub use circuits::kept_laws::{extracted_keeps, some_circuit};
 pub use circuits::uniqueness::one_circuit;
 pub use connectivity::net_walk::nets;
+pub use distinct_shapes::{Distinct, distinct_of, is_equal, shapes_at};
 pub use extracting::extract;
 pub use extraction::ExtractRefusal;
 pub use layers::{is_frame, is_lower, is_pin, is_upper, is_via};

@@ -1,5 +1,18 @@
-use Rattle.std.proofs.Common.{sym, ◌∙◌}
+use Rattle.layout_rules.specs.GeometryRules.{CoverBroken}
+use Rattle.rule_check.proofs.Represented.{finds_named, places_of, cover_represents}
 use Rattle.rule_check.proofs.cover.find_cover.Goals as goal
 
-pub first_of_runs-requires-clause-alike : goal.first_of_runs-requires-clause-alike
-first_of_runs-requires-clause-alike c a b same h = (b, record { first = h.first; second = h.second; first_is = sym same ∙ h.first_is; second_is = h.second_is; passes_so = h.passes_so })
+pub named-requires : goal.named-requires
+named-requires c =
+    rw c.as_slice-2.ensures.value (places_of c.args.sheet.now.numbers.items (CoverBroken c.args.shapes.now)
+    (CoverBroken c.args.sheet.now.shapes) c.in_ok-found.found
+    (cover_represents c.args.shapes.now c.args.sheet.now.numbers.items c.args.sheet.now.shapes c.requires.distinct)
+    (rw c.as_slice.ensures at c.in_ok-found.ensures))
+
+pub returns : goal.returns
+returns c =
+    rw (c.named.ensures, c.as_slice-2.ensures.value)
+    (finds_named c.args.sheet.now.numbers.items (CoverBroken c.args.shapes.now)
+    (CoverBroken c.args.sheet.now.shapes) c.in_ok-found.found c.requires.distinct.rising
+    (cover_represents c.args.shapes.now c.args.sheet.now.numbers.items c.args.sheet.now.shapes c.requires.distinct)
+    (rw c.as_slice.ensures at c.in_ok-found.ensures))

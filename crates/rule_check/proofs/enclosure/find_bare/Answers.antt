@@ -1,5 +1,21 @@
-use Rattle.std.proofs.Common.{sym, ◌∙◌, refl}
+use Rattle.layout_rules.specs.GeometryRules.{EnclosureBroken}
+use Rattle.rule_check.specs.Code.Seen.{limits_seen}
+use Rattle.rule_check.proofs.Represented.{finds_named, places_of, enclosure_represents}
 use Rattle.rule_check.proofs.enclosure.find_bare.Goals as goal
 
-pub first_of_runs-requires-clause-alike : goal.first_of_runs-requires-clause-alike
-first_of_runs-requires-clause-alike c a b same h = (a, (record { shape = h.0.shape; shape_is = sym same ∙ h.0.shape_is; passes_so = h.0.passes_so }, refl))
+pub named-requires : goal.named-requires
+named-requires c =
+    rw c.as_slice-2.ensures.value
+    (places_of c.args.sheet.now.numbers.items (EnclosureBroken (limits_seen c.args.limits.now) c.args.shapes.now)
+    (EnclosureBroken (limits_seen c.args.limits.now) c.args.sheet.now.shapes) c.in_ok-found.found
+    (enclosure_represents c.args.shapes.now c.args.sheet.now.numbers.items c.args.sheet.now.shapes c.requires.distinct
+    (limits_seen c.args.limits.now)) (rw c.as_slice.ensures at c.in_ok-found.ensures))
+
+pub returns : goal.returns
+returns c =
+    rw (c.named.ensures, c.as_slice-2.ensures.value)
+    (finds_named c.args.sheet.now.numbers.items (EnclosureBroken (limits_seen c.args.limits.now) c.args.shapes.now)
+    (EnclosureBroken (limits_seen c.args.limits.now) c.args.sheet.now.shapes) c.in_ok-found.found
+    c.requires.distinct.rising
+    (enclosure_represents c.args.shapes.now c.args.sheet.now.numbers.items c.args.sheet.now.shapes c.requires.distinct
+    (limits_seen c.args.limits.now)) (rw c.as_slice.ensures at c.in_ok-found.ensures))

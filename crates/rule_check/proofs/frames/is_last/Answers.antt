@@ -9,4 +9,5 @@ pub returns : goal.returns
 returns c e =
     let test : (length c.args.bands.now == 0) ≡ false = sym c.is_empty.ensures ∙ c.if-is_empty.false in
     let some : 0 < length c.args.bands.now = grind (arith, nat_tests) in
-    last_is c.args.bands.now c.index-bands-bands.result c.args.band.now some c.index-bands-bands.is (same_shape c.index-bands-bands.result c.args.band.now (sym c.eq.ensures ∙ e))
+    last_is c.args.bands.now c.index-bands-bands.result c.args.band.now some c.index-bands-bands.is
+    (same_shape c.index-bands-bands.result c.args.band.now (sym c.eq.ensures ∙ e))

@@ -1,11 +1,27 @@
-use Rattle.std.proofs.Common.{sym, ◌∙◌, arith}
+use Rattle.std.proofs.Common.{subst}
+use Rattle.geom.specs.Rectangle.{AreProper}
+use Rattle.layout_rules.specs.GeometryRules.{SpacingBroken}
+use Rattle.rule_check.specs.Code.Seen.{limits_seen}
+use Rattle.rule_check.proofs.Represented.{finds_named, places_of, spacing_represents, proper_own}
 use Rattle.rule_check.proofs.spacing.find_close.Goals as goal
 
-pub first_of_runs-requires-clause-alike : goal.first_of_runs-requires-clause-alike
-first_of_runs-requires-clause-alike c a b same h = (
-  b,
-  (
-    omega (arith, h.0),
-    record { first = h.1.first; second = h.1.second; first_is = sym same ∙ h.1.first_is; second_is = h.1.second_is; passes_so = h.1.passes_so },
-  ),
-)
+pub named-requires : goal.named-requires
+named-requires c =
+    rw c.as_slice-2.ensures.value
+    (places_of c.args.sheet.now.numbers.items (SpacingBroken (limits_seen c.args.limits.now) c.args.shapes.now)
+    (SpacingBroken (limits_seen c.args.limits.now) c.args.sheet.now.shapes) c.in_ok-found.found
+    (spacing_represents c.args.shapes.now c.args.sheet.now.numbers.items c.args.sheet.now.shapes
+    c.requires.sheet.distinct (limits_seen c.args.limits.now)
+    (proper_own c.args.sheet.now.shapes (subst AreProper c.requires.sheet.filed c.known.ensures)))
+    (rw c.as_slice.ensures at c.in_ok-found.ensures))
+
+pub returns : goal.returns
+returns c =
+    rw (c.named.ensures, c.as_slice-2.ensures.value)
+    (finds_named c.args.sheet.now.numbers.items (SpacingBroken (limits_seen c.args.limits.now) c.args.shapes.now)
+    (SpacingBroken (limits_seen c.args.limits.now) c.args.sheet.now.shapes) c.in_ok-found.found
+    c.requires.sheet.distinct.rising
+    (spacing_represents c.args.shapes.now c.args.sheet.now.numbers.items c.args.sheet.now.shapes
+    c.requires.sheet.distinct (limits_seen c.args.limits.now)
+    (proper_own c.args.sheet.now.shapes (subst AreProper c.requires.sheet.filed c.known.ensures)))
+    (rw c.as_slice.ensures at c.in_ok-found.ensures))

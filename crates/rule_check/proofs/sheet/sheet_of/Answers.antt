@@ -1,0 +1,21 @@
+use Rattle.std.proofs.Common.{arith}
+use Rattle.rule_check.proofs.Represented.{no_more}
+use Rattle.rule_check.proofs.sheet.sheet_of.Goals as goal
+
+pub file_shapes-requires : goal.file_shapes-requires
+file_shapes-requires c = omega (
+  arith,
+  no_more c.args.shapes.now c.in_ok-distinct.distinct.numbers.items c.in_ok-distinct.distinct.shapes
+      c.in_ok-distinct.ensures,
+)
+
+pub returns : goal.returns
+returns c = record {
+  distinct = c.in_ok-distinct.ensures;
+  few = omega (
+    arith,
+    no_more c.args.shapes.now c.in_ok-distinct.distinct.numbers.items c.in_ok-distinct.distinct.shapes
+        c.in_ok-distinct.ensures,
+  );
+  filed = c.in_ok-index.ensures;
+}

@@ -1,0 +1,32 @@
+-- Shapes without their repetitions.
+use Rattle.std.specs.Prelude.{◌≡◌, ℕ, ◌<◌, ◌≤◌, List, length, slice_get, slice_index}
+use Rattle.geom.specs.declared.shapes.Shape.{Shape}
+
+-- for each shape the number of an equal one that is not above its own
+pub record AreHeads (shapes : List Shape) (heads : List ℕ) : Type 0 where
+  pub long : length heads ≡ length shapes
+  pub not_above : (n : ℕ) → n < length shapes → slice_index heads n ≤ n
+  pub alike : (n : ℕ) → n < length shapes → slice_get shapes (slice_index heads n) ≡ slice_get shapes n
+
+-- the number is its own head
+abbrev pub IsHead : List ℕ → ℕ → Type 0
+IsHead heads n = (n < length heads) × (slice_index heads n ≡ n)
+
+-- these are the shapes of these numbers
+pub record AreAt (shapes : List Shape) (numbers : List ℕ) (some : List Shape) : Type 0 where
+  pub long : length some ≡ length numbers
+  pub each : (k : ℕ) → k < length numbers → slice_get some k ≡ slice_get shapes (slice_index numbers k)
+
+-- a shape that is equal to the one of this number and has no greater number is among those of the numbers
+pub record HasStandIn (shapes : List Shape) (numbers : List ℕ) (n : ℕ) : Type 0 where
+  pub place : ℕ
+  pub within : place < length numbers
+  pub not_above : slice_index numbers place ≤ n
+  pub alike : slice_get shapes (slice_index numbers place) ≡ slice_get shapes n
+
+-- the shapes of rising numbers, among which each shape has one that stands for it
+pub record IsDistinct (shapes : List Shape) (numbers : List ℕ) (some : List Shape) : Type 0 where
+  pub those : AreAt shapes numbers some
+  pub within : (k : ℕ) → k < length numbers → slice_index numbers k < length shapes
+  pub rising : (j k : ℕ) → j < k → k < length numbers → slice_index numbers j < slice_index numbers k
+  pub all : (n : ℕ) → n < length shapes → HasStandIn shapes numbers n

@@ -1,0 +1,147 @@
+// Shapes without their repetitions: of equal shapes the one with the least number stands for all.
+ghost use Rattle.std.specs.Prelude.{◌≡◌, ◌<◌, ◌^◌, All, IfOk, IsTrue, length};
+ghost use Rattle.shape_extract.specs.Code.DistinctShapes.{AreHeads, IsHead, AreAt, IsDistinct};
+ghost use Rattle.shape_extract.specs.Searches.{AreThose};
+
+use aq_base::{List, Memory};
+use geom::Shape;
+use std::alloc::Global;
+
+/// The shapes that stand for all of a list, and their numbers there, rising. Every shape of the list is equal to one of
+/// them whose number is not above its own.
+#[derive(Drop)]
+pub struct Distinct {
+    pub numbers: Vec<u32>,
+    pub shapes: List<Shape>,
+}
+
+/// A shape as equal ones are brought together: by its sides, its layer and its datatype, then by its number.
+#[derive(Clone, Copy, Debug, PartialEq, Eq, PartialOrd, Ord)]
+struct Sided {
+    x0: i64,
+    y0: i64,
+    x1: i64,
+    y1: i64,
+    layer: u16,
+    datatype: u16,
+    number: u32,
+}
+
+fn sided_at(shape: &Shape, number: u32) -> Sided
+    ensures { result.number ≡ number }
+{
+    let rect = &shape.rect;
+    Sided {
+        x0: rect.x0,
+        y0: rect.y0,
+        x1: rect.x1,
+        y1: rect.y1,
+        layer: shape.layer,
+        datatype: shape.datatype,
+        number,
+    }
+}
+
+/// All shapes, equal ones one after the other by rising number.
+fn in_order(alloc: Global, shapes: &[Shape]) -> Result<Vec<Sided>, Memory>
+    requires { length shapes.now < 2 ^ 32 }
+    ensures { IfOk result (λ order. All (λ s. s.number < length shapes.now) order.items) }
+{
+    let mut order = Vec::with_capacity(alloc, shapes.len())?;
+    for (number, shape) in shapes.iter().enumerate() {
+        order.push(sided_at(shape, number as u32))?;
+    }
+    order.sort_unstable();
+    Ok(order)
+}
+
+/// Each number as its own head.
+fn own_heads(alloc: Global, shapes: &[Shape]) -> Result<Vec<u32>, Memory>
+    requires { length shapes.now < 2 ^ 32 }
+    ensures { IfOk result (λ heads. AreHeads shapes.now heads.items) }
+{
+    let mut heads = Vec::with_capacity(alloc, shapes.len())?;
+    for n in 0..shapes.len() {
+        heads.push(n as u32)?;
+    }
+    Ok(heads)
+}
+
+/// Whether the two are equal.
+pub fn is_equal(a: &Shape, b: &Shape) -> bool
+    ensures { IsTrue result → a.now ≡ b.now }
+{
+    *a == *b
+}
+
+/// Shape n goes by the head of the shape before it in the order, where the two are equal.
+fn link(shapes: &[Shape], heads: &mut [u32], before: u32, n: u32)
+    requires heads { AreHeads shapes.now heads.old }
+    requires before { before < length shapes.now }
+    requires within { n < length shapes.now }
+    ensures { AreHeads shapes.now heads.new }
+{
+    let head = heads[before as usize];
+    if head < n && is_equal(&shapes[head as usize], &shapes[n as usize]) {
+        heads[n as usize] = head;
+    }
+}
+
+/// For each shape the least number of an equal one. That the number is one of an equal shape and not above is what `link`
+/// tests; that it is the least is what the order is for, and no clause rests on it.
+fn heads(alloc: Global, shapes: &[Shape]) -> Result<Vec<u32>, Memory>
+    requires { length shapes.now < 2 ^ 32 }
+    ensures { IfOk result (λ heads. AreHeads shapes.now heads.items) }
+{
+    let order = in_order(alloc, shapes)?;
+    let mut heads = own_heads(alloc, shapes)?;
+    for place in 1..order.len() {
+        link(
+            shapes,
+            &mut heads,
+            order[place - 1].number,
+            order[place].number,
+        );
+    }
+    Ok(heads)
+}
+
+/// The numbers that are their own heads.
+fn own_numbers(alloc: Global, heads: &[u32]) -> Result<Vec<u32>, Memory>
+    requires { length heads.now < 2 ^ 32 }
+    ensures { IfOk result (λ numbers. AreThose (IsHead heads.now) numbers.items) }
+{
+    let mut numbers = Vec::new(alloc);
+    for n in 0..heads.len() {
+        if heads[n] as usize == n {
+            numbers.push(n as u32)?;
+        }
+    }
+    Ok(numbers)
+}
+
+/// The shapes of these numbers, in their order.
+pub fn shapes_at(alloc: Global, shapes: &[Shape], numbers: &[u32]) -> Result<Vec<Shape>, Memory>
+    requires { All (λ n. n < length shapes.now) numbers.now }
+    ensures { IfOk result (λ some. AreAt shapes.now numbers.now some.items) }
+{
+    let mut some = Vec::with_capacity(alloc, numbers.len())?;
+    for number in numbers {
+        some.push(shapes[*number as usize])?;
+    }
+    Ok(some)
+}
+
+/// The shapes of a list, each kind of equal ones once. It is refused for want of memory alone.
+pub fn distinct_of(alloc: Global, shapes: &[Shape]) -> Result<Distinct, Memory>
+    requires { length shapes.now < 2 ^ 32 }
+    ensures { IfOk result (λ d. IsDistinct shapes.now d.numbers.items d.shapes) }
+{
+    let heads = heads(alloc, shapes)?;
+    let numbers = own_numbers(alloc, heads.as_slice())?;
+    let some = shapes_at(alloc, shapes, numbers.as_slice())?;
+    Ok(Distinct {
+        numbers,
+        shapes: List::from_vec(some),
+    })
+}
