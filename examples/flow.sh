@@ -4,11 +4,12 @@
 #   examples/flow.sh FOLDER
 #
 # Each netlist NAME.blif of this folder is built with library A as FOLDER/NAME.gds, is verified with NAME.words, and what
-# is printed is compared with NAME.answers. Then the same is done with netlists that other tools make of it: NAME_yosys,
-# which Yosys makes of NAME.v, with gates of two inputs and choices, NAME_and, with and, or and not alone, NAME_lut, with
-# tables of three inputs; and NAME_abc, which ABC makes of NAME.blif. Where KLayout is installed, it checks each chip by
-# share/aqfp.drc and makes a picture of it. Last come the layouts under layouts/, a trace, and a netlist that is refused.
-# A tool that is not installed is named, and its part is left out.
+# is printed is compared with NAME.answers; and `equal` compares the chip with NAME.blif for all words. Then the same is
+# done with netlists that other tools make of it: NAME_yosys, which Yosys makes of NAME.v, with gates of two inputs and
+# choices, NAME_and, with and, or and not alone, NAME_lut, with tables of three inputs; and NAME_abc, which ABC makes of
+# NAME.blif. Where KLayout is installed, it checks each chip by share/aqfp.drc and makes a picture of it. Last come the
+# layouts under layouts/, of which one is compared with the netlist that it was made of before it was changed, a trace,
+# and a netlist that is refused. A tool that is not installed is named, and its part is left out.
 # Prints a line for each chip. The status is 1 where something failed. AQFP names another program than the launcher.
 set -u
 here=$(cd -P "$(dirname "$0")" && pwd)
@@ -60,6 +61,8 @@ make_chip() {
     else
         fail "$chip: $counts, OTHER ANSWERS, in $folder/$chip.printed"
     fi
+    verdict=$("$aqfp" equal "$folder/$chip.gds" "$library" "$here/$example.blif" 2>&1)
+    [ "$verdict" = equal ] || fail "$chip: $verdict, AND NOT EQUAL to $example.blif"
     if have klayout && ! look_at "$folder/$chip"; then
         fail "$chip: KLAYOUT FINDS A BROKEN RULE, or failed"
     fi
@@ -115,6 +118,8 @@ for layout in "$here"/layouts/*.gds; do
     name=$(basename "$layout" .gds)
     compare "$name" "$here/layouts/$name.printed" verify "$layout" "$library" "$here/layouts/$name.words"
 done
+compare and2_compared "$here/layouts/and2_changed.compared" \
+    equal "$here/layouts/and2_changed.gds" "$library" "$here/and2.blif"
 compare trace "$here/wire.trace" trace "$folder/wire.gds" "$library" "$here/one.words"
 compare cycle "$here/cycle.printed" build "$here/cycle.blif" "$library" "$folder/cycle.gds"
 exit $failed
