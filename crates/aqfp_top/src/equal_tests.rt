@@ -86,13 +86,25 @@ fn what_is_wrong_with_a_comparison_is_told(rt: HostRuntime) -> Result<(), Fail> 
 fn the_first_fault_is_told(rt: HostRuntime) -> Result<(), Fail> {
     let alloc = rt.alloc();
     let cases = [
-        (1003, "", "", 11, "aqfp: stream: byte 1000: truncated\n"),
-        (1046, "", "", 7, "aqfp: library: key wire\n"),
-        (1046, LIBRARY_A, "", 6, "aqfp: line 0: no outputs\n"),
+        (
+            &STREAM[..1003],
+            "",
+            "",
+            11,
+            "aqfp: stream: byte 1000: truncated\n",
+        ),
+        (STREAM.as_slice(), "", "", 7, "aqfp: library: key wire\n"),
+        (
+            STREAM.as_slice(),
+            LIBRARY_A,
+            "",
+            6,
+            "aqfp: line 0: no outputs\n",
+        ),
     ];
-    for (bytes, lib, net, status, told) in cases {
+    for (stream, lib, net, status, told) in cases {
         let mut files = store(alloc, net, lib, "")?;
-        files.add("chip", STREAM.split_at(bytes).0)?;
+        files.add("chip", stream)?;
         let ran = ran(alloc, files, "equal chip lib net")?;
         assert_eq!(rt; ran.status, status, "{told}");
         assert_eq!(rt; ran.err.bytes(), told.as_bytes(), "{told}");
