@@ -49,6 +49,7 @@ fn print<O: Sink>(out: &mut O, text: &[u8]) -> ExitCode {
 fn main(rt: HostRuntime) -> ExitCode {
     let alloc = rt.alloc();
     let Ok(words) = words(alloc, &rt) else {
+        let _ = StdSink::new(rt.stderr()).put(b"aqfp: out of memory\n");
         return ExitCode::from(OUT_OF_MEMORY);
     };
     let mut out = StdSink::new(rt.stdout());

@@ -1,3 +1,4 @@
+pub mod Pending
 pub mod Putting
 pub mod Designing
 pub mod EachFault

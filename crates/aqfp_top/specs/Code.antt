@@ -1,4 +1,5 @@
 -- The words of private contracts.
+pub mod Pages
 pub mod Pieces
 pub mod Loading
 pub mod Staging

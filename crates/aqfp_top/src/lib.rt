@@ -11,6 +11,7 @@ mod fault;
 mod joined;
 mod judge;
 mod load;
+mod page;
 mod pieces;
 mod reading;
 mod report;

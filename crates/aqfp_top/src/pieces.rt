@@ -1,12 +1,14 @@
-// Texts that are put piece by piece, without taking memory.
+// Texts that are put piece by piece, without taking memory: they wait on a page of the stack.
 ghost use Rattle.std.specs.Prelude.{◌≡◌, ◌≤◌, ◌⊎◌, ◌∷◌, ◌++◌, ◌<◌, OnOk, OnErr, IsErrOf, ℕ, length};
 ghost use Rattle.std.specs.Fmt.{decimal};
 ghost use Rattle.std.specs.List.{flat_map};
 ghost use Rattle.aq_base.specs.Causes.{Rose, HasCause};
 ghost use Rattle.aq_base.specs.Store.{gained, GainsPrefix};
 ghost use Rattle.aqfp_top.specs.Lines.{signals_text, integer_text, pair_text};
+ghost use Rattle.aqfp_top.specs.Code.Pages.{Pends};
 ghost use Rattle.aqfp_top.specs.Code.Pieces.{piece_text, pieces_text};
 
+use crate::page::{Page, add_byte, add_text, put_page};
 use aq_base::{Bytes, List, Sink, StoreRefusal};
 
 /// A piece of a line.
@@ -24,112 +26,139 @@ pub enum Piece<'a> {
     Signals(&'a List<Bytes>),
 }
 
-// Puts a number in decimal digits.
-#[tactic(auto, using(crate::proofs::Putting::digits))]
-fn put_decimal<S: Sink>(sink: &mut S, n: u64) -> Result<(), StoreRefusal>
-    ensures added { OnOk result (S.written sink.new ≡ gained (S.written sink.old) (decimal n)) }
-    ensures prefix { OnErr result (GainsPrefix (S.written sink.old) (S.written sink.new) (decimal n)) }
+// Adds a number in decimal digits.
+#[tactic(auto, using(crate::proofs::Pending::numbers))]
+fn add_decimal<S: Sink>(sink: &mut S, page: &mut Page, n: u64) -> Result<(), StoreRefusal>
+    ensures pends { OnOk result (Pends (S.written sink.old) (S.written sink.new) page.new (page.old ++ decimal n)) }
+    ensures prefix { OnErr result (GainsPrefix (S.written sink.old) (S.written sink.new) (page.old ++ decimal n)) }
     ensures faults { HasCause (S.faults sink.old) (S.faults sink.new) (IsErrOf result StoreRefusal.Failed) }
     ensures refused { HasCause (S.refused sink.old) (S.refused sink.new) (IsErrOf result StoreRefusal.Memory) }
 {
     if n < 10 {
-        return sink.put(&[b'0' + n as u8]);
+        return add_byte(sink, page, b'0' + n as u8);
     }
-    put_decimal(sink, n / 10)?;
-    sink.put(&[b'0' + (n % 10) as u8])
+    add_decimal(sink, page, n / 10)?;
+    add_byte(sink, page, b'0' + (n % 10) as u8)
 }
 
-// Puts an integer in decimal digits, after a minus sign where it is negative.
-#[tactic(auto, using(crate::proofs::Putting::signs))]
-fn put_integer<S: Sink>(sink: &mut S, n: i64) -> Result<(), StoreRefusal>
-    ensures added { OnOk result (S.written sink.new ≡ gained (S.written sink.old) (integer_text n)) }
-    ensures prefix { OnErr result (GainsPrefix (S.written sink.old) (S.written sink.new) (integer_text n)) }
+// Adds an integer in decimal digits, after a minus sign where it is negative.
+#[tactic(auto, using(crate::proofs::Pending::numbers))]
+fn add_integer<S: Sink>(sink: &mut S, page: &mut Page, n: i64) -> Result<(), StoreRefusal>
+    ensures pends { OnOk result (Pends (S.written sink.old) (S.written sink.new) page.new (page.old ++ integer_text n)) }
+    ensures prefix { OnErr result (GainsPrefix (S.written sink.old) (S.written sink.new) (page.old ++ integer_text n)) }
     ensures faults { HasCause (S.faults sink.old) (S.faults sink.new) (IsErrOf result StoreRefusal.Failed) }
     ensures refused { HasCause (S.refused sink.old) (S.refused sink.new) (IsErrOf result StoreRefusal.Memory) }
 {
     if n >= 0 {
-        return put_decimal(sink, n as u64);
+        return add_decimal(sink, page, n as u64);
     }
-    sink.put(b"-")?;
-    put_decimal(sink, n.unsigned_abs())
+    add_byte(sink, page, b'-')?;
+    add_decimal(sink, page, n.unsigned_abs())
 }
 
-// Puts a number, after a blank.
-#[tactic(auto, using(crate::proofs::Putting::signals))]
-fn put_after_blank<S: Sink>(sink: &mut S, number: u32) -> Result<(), StoreRefusal>
-    ensures added { OnOk result (S.written sink.new ≡ gained (S.written sink.old) (32 ∷ decimal number)) }
-    ensures prefix { OnErr result (GainsPrefix (S.written sink.old) (S.written sink.new) (32 ∷ decimal number)) }
+// Adds a number, after a blank.
+#[tactic(auto, using(crate::proofs::Pending::numbers))]
+fn add_after_blank<S: Sink>(sink: &mut S, page: &mut Page, number: u32) -> Result<(), StoreRefusal>
+    ensures pends { OnOk result (Pends (S.written sink.old) (S.written sink.new) page.new (page.old ++ 32 ∷ decimal number)) }
+    ensures prefix { OnErr result (GainsPrefix (S.written sink.old) (S.written sink.new) (page.old ++ 32 ∷ decimal number)) }
     ensures faults { HasCause (S.faults sink.old) (S.faults sink.new) (IsErrOf result StoreRefusal.Failed) }
     ensures refused { HasCause (S.refused sink.old) (S.refused sink.new) (IsErrOf result StoreRefusal.Memory) }
 {
-    sink.put(b" ")?;
-    put_decimal(sink, u64::from(number))
+    add_byte(sink, page, b' ')?;
+    add_decimal(sink, page, u64::from(number))
 }
 
-// Puts two numbers, with a blank between them.
-#[tactic(auto, using(crate::proofs::Putting::digits))]
-fn put_pair<S: Sink>(sink: &mut S, first: u32, second: u32) -> Result<(), StoreRefusal>
-    ensures added { OnOk result (S.written sink.new ≡ gained (S.written sink.old) (pair_text first second)) }
-    ensures prefix { OnErr result (GainsPrefix (S.written sink.old) (S.written sink.new) (pair_text first second)) }
+// Adds two numbers, with a blank between them.
+#[tactic(auto, using(crate::proofs::Pending::numbers))]
+fn add_pair<S: Sink>(
+    sink: &mut S,
+    page: &mut Page,
+    first: u32,
+    second: u32,
+) -> Result<(), StoreRefusal>
+    ensures pends { OnOk result (Pends (S.written sink.old) (S.written sink.new) page.new (page.old ++ pair_text first second)) }
+    ensures prefix { OnErr result (GainsPrefix (S.written sink.old) (S.written sink.new) (page.old ++ pair_text first second)) }
     ensures faults { HasCause (S.faults sink.old) (S.faults sink.new) (IsErrOf result StoreRefusal.Failed) }
     ensures refused { HasCause (S.refused sink.old) (S.refused sink.new) (IsErrOf result StoreRefusal.Memory) }
 {
-    put_decimal(sink, u64::from(first))?;
-    put_after_blank(sink, second)
+    add_decimal(sink, page, u64::from(first))?;
+    add_after_blank(sink, page, second)
 }
 
-// Puts a signal, after a blank.
-#[tactic(auto, using(crate::proofs::Putting::signals))]
-fn put_signal<S: Sink>(sink: &mut S, signal: &Bytes) -> Result<(), StoreRefusal>
-    ensures added { OnOk result (S.written sink.new ≡ gained (S.written sink.old) (32 ∷ signal.now)) }
-    ensures prefix { OnErr result (GainsPrefix (S.written sink.old) (S.written sink.new) (32 ∷ signal.now)) }
+// Adds a signal, after a blank.
+#[tactic(auto, using(crate::proofs::Pending::numbers))]
+fn add_signal<S: Sink>(sink: &mut S, page: &mut Page, signal: &Bytes) -> Result<(), StoreRefusal>
+    ensures pends { OnOk result (Pends (S.written sink.old) (S.written sink.new) page.new (page.old ++ 32 ∷ signal.now)) }
+    ensures prefix { OnErr result (GainsPrefix (S.written sink.old) (S.written sink.new) (page.old ++ 32 ∷ signal.now)) }
     ensures faults { HasCause (S.faults sink.old) (S.faults sink.new) (IsErrOf result StoreRefusal.Failed) }
     ensures refused { HasCause (S.refused sink.old) (S.refused sink.new) (IsErrOf result StoreRefusal.Memory) }
 {
-    sink.put(b" ")?;
-    sink.put(signal.as_slice())
+    add_byte(sink, page, b' ')?;
+    add_text(sink, page, signal.as_slice())
 }
 
-// Puts the signals, each after a blank.
-#[tactic(auto, using(crate::proofs::Putting::signals))]
-fn put_signals<S: Sink>(sink: &mut S, signals: &List<Bytes>) -> Result<(), StoreRefusal>
-    ensures added { OnOk result (S.written sink.new ≡ gained (S.written sink.old) (signals_text signals.now)) }
-    ensures prefix { OnErr result (GainsPrefix (S.written sink.old) (S.written sink.new) (signals_text signals.now)) }
+// Adds the signals, each after a blank.
+#[tactic(auto, using(crate::proofs::Pending::numbers))]
+fn add_signals<S: Sink>(
+    sink: &mut S,
+    page: &mut Page,
+    signals: &List<Bytes>,
+) -> Result<(), StoreRefusal>
+    ensures pends { OnOk result (Pends (S.written sink.old) (S.written sink.new) page.new (page.old ++ signals_text signals.now)) }
+    ensures prefix { OnErr result (GainsPrefix (S.written sink.old) (S.written sink.new) (page.old ++ signals_text signals.now)) }
     ensures faults { HasCause (S.faults sink.old) (S.faults sink.new) (IsErrOf result StoreRefusal.Failed) }
     ensures refused { HasCause (S.refused sink.old) (S.refused sink.new) (IsErrOf result StoreRefusal.Memory) }
 {
     for signal in signals.as_slice() {
-        put_signal(sink, signal)?;
+        add_signal(sink, page, signal)?;
     }
     Ok(())
 }
 
-// Puts a piece.
-fn put_piece<S: Sink>(sink: &mut S, piece: &Piece<'_>) -> Result<(), StoreRefusal>
-    ensures added { OnOk result (S.written sink.new ≡ gained (S.written sink.old) (piece_text piece.now)) }
-    ensures prefix { OnErr result (GainsPrefix (S.written sink.old) (S.written sink.new) (piece_text piece.now)) }
+// Adds a piece.
+#[tactic(auto, using(crate::proofs::Pending::numbers))]
+fn add_piece<S: Sink>(sink: &mut S, page: &mut Page, piece: &Piece<'_>) -> Result<(), StoreRefusal>
+    ensures pends { OnOk result (Pends (S.written sink.old) (S.written sink.new) page.new (page.old ++ piece_text piece.now)) }
+    ensures prefix { OnErr result (GainsPrefix (S.written sink.old) (S.written sink.new) (page.old ++ piece_text piece.now)) }
     ensures faults { HasCause (S.faults sink.old) (S.faults sink.new) (IsErrOf result StoreRefusal.Failed) }
     ensures refused { HasCause (S.refused sink.old) (S.refused sink.new) (IsErrOf result StoreRefusal.Memory) }
 {
     match piece {
-        Piece::Text(text) => sink.put(text),
-        Piece::Number(number) => put_decimal(sink, *number),
-        Piece::Integer(integer) => put_integer(sink, *integer),
-        Piece::Pair(first, second) => put_pair(sink, *first, *second),
-        Piece::Signals(signals) => put_signals(sink, signals),
+        Piece::Text(text) => add_text(sink, page, text),
+        Piece::Number(number) => add_decimal(sink, page, *number),
+        Piece::Integer(integer) => add_integer(sink, page, *integer),
+        Piece::Pair(first, second) => add_pair(sink, page, *first, *second),
+        Piece::Signals(signals) => add_signals(sink, page, signals),
     }
 }
 
+// Adds the pieces one after another.
+#[tactic(auto, using(crate::proofs::Pending::numbers))]
+fn add_pieces<S: Sink>(
+    sink: &mut S,
+    page: &mut Page,
+    pieces: &[Piece<'_>],
+) -> Result<(), StoreRefusal>
+    ensures pends { OnOk result (Pends (S.written sink.old) (S.written sink.new) page.new (page.old ++ pieces_text pieces.now)) }
+    ensures prefix { OnErr result (GainsPrefix (S.written sink.old) (S.written sink.new) (page.old ++ pieces_text pieces.now)) }
+    ensures faults { HasCause (S.faults sink.old) (S.faults sink.new) (IsErrOf result StoreRefusal.Failed) }
+    ensures refused { HasCause (S.refused sink.old) (S.refused sink.new) (IsErrOf result StoreRefusal.Memory) }
+{
+    for piece in pieces {
+        add_piece(sink, page, piece)?;
+    }
+    Ok(())
+}
+
 /// Puts the pieces one after another, as far as the sink takes them.
-#[tactic(auto, using(crate::proofs::Putting::signals))]
+#[tactic(auto, using(crate::proofs::Pending::pending))]
 pub fn put_pieces<S: Sink>(sink: &mut S, pieces: &[Piece<'_>]) -> Result<(), StoreRefusal>
     ensures added { OnOk result (S.written sink.new ≡ gained (S.written sink.old) (pieces_text pieces.now)) }
     ensures prefix { OnErr result (GainsPrefix (S.written sink.old) (S.written sink.new) (pieces_text pieces.now)) }
     ensures faults { HasCause (S.faults sink.old) (S.faults sink.new) (IsErrOf result StoreRefusal.Failed) }
     ensures refused { HasCause (S.refused sink.old) (S.refused sink.new) (IsErrOf result StoreRefusal.Memory) }
 {
-    for piece in pieces {
-        put_piece(sink, piece)?;
-    }
-    Ok(())
+    let mut page = Page::new();
+    add_pieces(sink, &mut page, pieces)?;
+    put_page(sink, &mut page)
 }
