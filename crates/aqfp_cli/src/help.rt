@@ -7,6 +7,7 @@ usage: aqfp build NET LIB OUT
        aqfp verify GDS LIB WORDS
        aqfp trace GDS LIB WORDS
        aqfp sample N
+       aqfp netlist GDS LIB OUT
        aqfp equal GDS LIB NET
        aqfp --help
        aqfp --version
@@ -21,6 +22,8 @@ trace   the same, but prints the flux of each cell at each time.
 sample  builds an adder of N bits, N from 1 to 64, with a library of its own,
         prints N and the counts, and the adder's answers to eight words. It
         reads and stores no file.
+netlist reads GDS and LIB as verify does, stores the chip's circuit as a netlist
+        under OUT and prints the counts. OUT may have the name of GDS or LIB.
 equal   reads GDS and LIB as verify does, and prints whether the chip answers
         every word as the netlist NET: equal, or differ Ok at W, k being the
         least output on which they differ and W the least word for it.
@@ -28,8 +31,9 @@ equal   reads GDS and LIB as verify does, and prints whether the chip answers
 NET     a combinational netlist in the Berkeley Logic Interchange Format (BLIF),
         at most 16777216 bytes
 LIB     a cell library in TOML, at most 1048576 bytes
-OUT     a layout in the GDSII Stream Format, in database units of 1 nm
-GDS     such a layout, at most 268435456 bytes
+OUT     a layout in the GDSII Stream Format, in database units of 1 nm; of
+        netlist, a netlist in BLIF
+GDS     a layout in the GDSII Stream Format, at most 268435456 bytes
 WORDS   lines with a 0 or 1 for each input, at most 16777216 bytes
 
 status  0  done

@@ -9,6 +9,7 @@ fn help_has_each_command_and_each_status(rt: HostRuntime) -> Result<(), Fail> {
         "verify GDS LIB WORDS",
         "trace GDS LIB WORDS",
         "sample N",
+        "netlist GDS LIB OUT",
         "equal GDS LIB NET",
     ];
     for command in commands {

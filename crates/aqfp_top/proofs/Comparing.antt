@@ -14,13 +14,13 @@ use Rattle.aqfp_top.specs.Designs.{IsNetlistFault}
 use Rattle.aqfp_top.specs.Checks.{ToldTexts, MakesCircuit}
 use Rattle.aqfp_top.specs.Stages as stage
 use Rattle.aqfp_top.specs.Stages.{Stage, FindsNone, IsFirst, Answers}
-use Rattle.aqfp_top.specs.Due.{bytes_at, comparing_stages, equal_stages}
+use Rattle.aqfp_top.specs.Due.{bytes_at, circuit_stages, comparing_stages, equal_stages}
 use Rattle.aqfp_top.specs.Faults.{IsEqualFault}
 use Rattle.aqfp_top.specs.Comparing.{MakesBoth, HasWidths, AreManyFunctions, HasManyFunctions, IsTrueOf, HasVerdict, IsToldOf, EqualPrints, verdict_text}
 use Rattle.aqfp_top.specs.Code.Staging.{OrMemory, ToldAnswers}
 use Rattle.aqfp_top.specs.Code.Loading.{IsFaultOfLoads}
 use Rattle.aqfp_top.specs.Code.Building.{IsOutOrMemory, IsReadOf}
-use Rattle.aqfp_top.specs.Code.Checking.{chip_stages, circuit_then, circuit_stages, IsCircuitFault}
+use Rattle.aqfp_top.specs.Code.Checking.{chip_stages, circuit_then, IsCircuitFault}
 use Rattle.aqfp_top.specs.Code.Comparing.{both_stages, AreWidths, AreOtherWidths, IsManyFault, IsComparingFault}
 use Rattle.aqfp_top.specs.declared.fault.Large.TheVariants.{Functions}
 use Rattle.aqfp_top.specs.declared.fault.Fault.{Fault}

@@ -1,9 +1,10 @@
 -- The faults of each step of a command: what holds of each of its kinds holds of every fault of the step.
 use Rattle.std.proofs.Common.{ℕ, ◌<◌, List, Result, Ok, Err, IfErr, sym, subst}
-use Rattle.aqfp_top.specs.Loads.{Load, build_loads, IsLoaded, IsPast}
+use Rattle.aqfp_top.specs.Loads.{Load, build_loads, write_loads, IsLoaded, IsPast}
 use Rattle.aqfp_top.specs.Code.Designing.{IsDesignFault}
 use Rattle.aqfp_top.specs.Code.Checking.{IsCircuitFault, IsJudgingFault}
 use Rattle.aqfp_top.specs.Code.Comparing.{IsComparingFault}
+use Rattle.aqfp_top.specs.Code.Writing.{IsReadingFault}
 use Rattle.aqfp_top.specs.Code.Loading.{IsFaultOfLoad, IsFaultOfLoads}
 use Rattle.aqfp_top.specs.Code.Building.{IsMakeFault, IsStoreFault, IsOutOrMemory}
 use Rattle.aqfp_top.specs.declared.fault.WriteCall.TheVariants.{Create, Append, Close, Out}
@@ -99,6 +100,20 @@ each_made P absent long failed blif library missing slots rows cells elements me
 each_made P absent long failed blif library missing slots rows cells elements memory (TooLarge Elements count) only = elements count
 each_made P absent long failed blif library missing slots rows cells elements memory Memory only = memory
 each_made P absent long failed blif library missing slots rows cells elements memory _ only = absurd only
+
+-- all that comes before a netlist is stored
+pub each_reading : (P : Fault → Type 0) → ((place : ℕ) → IsLoaded write_loads place → P (Absent place)) → ((place taken : ℕ) → IsPast write_loads place taken → P (TooLong place taken)) →
+    ((place : ℕ) → IsLoaded write_loads place → P (ReadFault place)) → ((fault : Fault) → IsCircuitFault fault → P fault) → (fault : Fault) → IsReadingFault fault → P fault
+each_reading P absent long failed circuit (Absent place) only = absent place only
+each_reading P absent long failed circuit (TooLong place taken) only = long place taken only
+each_reading P absent long failed circuit (ReadFault place) only = failed place only
+each_reading P absent long failed circuit (BadStream offset kind) only = circuit (BadStream offset kind) tt
+each_reading P absent long failed circuit (TooLarge Shapes count) only = circuit (TooLarge Shapes count) tt
+each_reading P absent long failed circuit (BadLibrary fault) only = circuit (BadLibrary fault) tt
+each_reading P absent long failed circuit (MissingCell kind) only = circuit (MissingCell kind) tt
+each_reading P absent long failed circuit (RuleBroken rule first second) only = circuit (RuleBroken rule first second) tt
+each_reading P absent long failed circuit Memory only = circuit Memory tt
+each_reading P absent long failed circuit _ only = absurd only
 
 -- storing
 pub each_store : (P : Fault → Type 0) → P (WriteFault Create) → P (WriteFault Append) → P (WriteFault Close) → P Memory → (fault : Fault) → IsStoreFault fault → P fault

@@ -1,9 +1,9 @@
 -- A command line has one form.
 use Rattle.std.proofs.Common.{ℕ, ◌≡◌, List, inl, inr, refl, sym, ap, ◌∙◌, arith, get_or}
 use Rattle.std.proofs.lemmas.Fmt.{decimal_injective}
-use Rattle.aqfp_top.specs.Words.{IsBuild, IsVerify, IsTrace, IsEqual, IsCheck, IsSampleSize, IsSampleOf, HasForm, IsOfForm}
+use Rattle.aqfp_top.specs.Words.{IsBuild, IsVerify, IsTrace, IsEqual, IsWrite, IsCheck, IsSampleSize, IsSampleOf, HasForm, IsOfForm}
 use Rattle.aqfp_top.specs.declared.words.Form.{Form}
-use Rattle.aqfp_top.specs.declared.words.Form.TheVariants.{Build, Verify, Trace, Equal, Sample, Wrong}
+use Rattle.aqfp_top.specs.declared.words.Form.TheVariants.{Build, Verify, Trace, Equal, Write, Sample, Wrong}
 
 pub build_not_sample : (words : List (List ℕ)) (bits : ℕ) → IsBuild words → IsSampleOf words bits → ⊥
 build_not_sample words bits form sample = let four = form.0 in let two = sample.two in omega (arith, four, two)
@@ -47,6 +47,25 @@ pub check_not_equal : (words : List (List ℕ)) → IsCheck words → IsEqual wo
 check_not_equal words (inl verify) equal = verify_not_equal words verify equal
 check_not_equal words (inr trace) equal = trace_not_equal words trace equal
 
+pub write_not_sample : (words : List (List ℕ)) (bits : ℕ) → IsWrite words → IsSampleOf words bits → ⊥
+write_not_sample words bits form sample = let four = form.0 in let two = sample.two in omega (arith, four, two)
+
+pub build_not_write : (words : List (List ℕ)) → IsBuild words → IsWrite words → ⊥
+build_not_write words form write = let first : ◌≡◌ {A = ℕ} 110 98 = ap (λ xs. get_or xs 0 0) (sym write.1 ∙ form.1) in omega (arith, first)
+
+pub verify_not_write : (words : List (List ℕ)) → IsVerify words → IsWrite words → ⊥
+verify_not_write words form write = let first : ◌≡◌ {A = ℕ} 110 118 = ap (λ xs. get_or xs 0 0) (sym write.1 ∙ form.1) in omega (arith, first)
+
+pub trace_not_write : (words : List (List ℕ)) → IsTrace words → IsWrite words → ⊥
+trace_not_write words form write = let first : ◌≡◌ {A = ℕ} 110 116 = ap (λ xs. get_or xs 0 0) (sym write.1 ∙ form.1) in omega (arith, first)
+
+pub check_not_write : (words : List (List ℕ)) → IsCheck words → IsWrite words → ⊥
+check_not_write words (inl verify) write = verify_not_write words verify write
+check_not_write words (inr trace) write = trace_not_write words trace write
+
+pub equal_not_write : (words : List (List ℕ)) → IsEqual words → IsWrite words → ⊥
+equal_not_write words form write = let first : ◌≡◌ {A = ℕ} 110 101 = ap (λ xs. get_or xs 0 0) (sym write.1 ∙ form.1) in omega (arith, first)
+
 -- a sample has one number of bits
 pub one_size : (text : List ℕ) (a b : ℕ) → IsSampleSize text a → IsSampleSize text b → a ≡ b
 one_size text a b p q =
@@ -63,35 +82,48 @@ one_form words Build Build p q = refl
 one_form words Build Verify p q = absurd (build_not_verify words p q)
 one_form words Build Trace p q = absurd (build_not_trace words p q)
 one_form words Build Equal p q = absurd (build_not_equal words p q)
+one_form words Build Write p q = absurd (build_not_write words p q)
 one_form words Build (Sample bits) p q = absurd (build_not_sample words bits p q)
 one_form words Build Wrong p q = absurd (q (inl p))
 one_form words Verify Build p q = absurd (build_not_verify words q p)
 one_form words Verify Verify p q = refl
 one_form words Verify Trace p q = absurd (verify_not_trace words p q)
 one_form words Verify Equal p q = absurd (verify_not_equal words p q)
+one_form words Verify Write p q = absurd (verify_not_write words p q)
 one_form words Verify (Sample bits) p q = absurd (verify_not_sample words bits p q)
 one_form words Verify Wrong p q = absurd (q (inr (inl (inl p))))
 one_form words Trace Build p q = absurd (build_not_trace words q p)
 one_form words Trace Verify p q = absurd (verify_not_trace words q p)
 one_form words Trace Trace p q = refl
 one_form words Trace Equal p q = absurd (trace_not_equal words p q)
+one_form words Trace Write p q = absurd (trace_not_write words p q)
 one_form words Trace (Sample bits) p q = absurd (trace_not_sample words bits p q)
 one_form words Trace Wrong p q = absurd (q (inr (inl (inr p))))
 one_form words Equal Build p q = absurd (build_not_equal words q p)
 one_form words Equal Verify p q = absurd (verify_not_equal words q p)
 one_form words Equal Trace p q = absurd (trace_not_equal words q p)
 one_form words Equal Equal p q = refl
+one_form words Equal Write p q = absurd (equal_not_write words p q)
 one_form words Equal (Sample bits) p q = absurd (equal_not_sample words bits p q)
-one_form words Equal Wrong p q = absurd (q (inr (inr (inr p))))
+one_form words Equal Wrong p q = absurd (q (inr (inr (inr (inl p)))))
+one_form words Write Build p q = absurd (build_not_write words q p)
+one_form words Write Verify p q = absurd (verify_not_write words q p)
+one_form words Write Trace p q = absurd (trace_not_write words q p)
+one_form words Write Equal p q = absurd (equal_not_write words q p)
+one_form words Write Write p q = refl
+one_form words Write (Sample bits) p q = absurd (write_not_sample words bits p q)
+one_form words Write Wrong p q = absurd (q (inr (inr (inr (inr p)))))
 one_form words (Sample bits) Build p q = absurd (build_not_sample words bits q p)
 one_form words (Sample bits) Verify p q = absurd (verify_not_sample words bits q p)
 one_form words (Sample bits) Trace p q = absurd (trace_not_sample words bits q p)
 one_form words (Sample bits) Equal p q = absurd (equal_not_sample words bits q p)
+one_form words (Sample bits) Write p q = absurd (write_not_sample words bits q p)
 one_form words (Sample bits) (Sample other) p q = ap Sample (one_size _ bits other p.size q.size)
 one_form words (Sample bits) Wrong p q = absurd (q (sample_form words bits p))
 one_form words Wrong Build p q = absurd (p (inl q))
 one_form words Wrong Verify p q = absurd (p (inr (inl (inl q))))
 one_form words Wrong Trace p q = absurd (p (inr (inl (inr q))))
-one_form words Wrong Equal p q = absurd (p (inr (inr (inr q))))
+one_form words Wrong Equal p q = absurd (p (inr (inr (inr (inl q)))))
+one_form words Wrong Write p q = absurd (p (inr (inr (inr (inr q)))))
 one_form words Wrong (Sample bits) p q = absurd (p (sample_form words bits q))
 one_form words Wrong Wrong p q = refl

@@ -24,9 +24,9 @@ use Rattle.aqfp_top.specs.Designs.{IsCellsFault}
 use Rattle.aqfp_top.specs.Checks.{MakesCircuit, IsSound, IsUnruly, IsRuleFault}
 use Rattle.aqfp_top.specs.Stages as stage
 use Rattle.aqfp_top.specs.Stages.{Stage, FindsNone, IsFirst, Answers}
-use Rattle.aqfp_top.specs.Due.{judging_stages}
+use Rattle.aqfp_top.specs.Due.{circuit_stages, judging_stages}
 use Rattle.aqfp_top.specs.Code.Staging.{OrMemory}
-use Rattle.aqfp_top.specs.Code.Checking.{IsBroken, IsCircuitFault, circuit_then, circuit_stages}
+use Rattle.aqfp_top.specs.Code.Checking.{IsBroken, IsCircuitFault, circuit_then}
 use Rattle.aqfp_top.proofs.Staging.{past, past_all, found}
 use Rattle.aqfp_top.proofs.OneFault.{says_no_cells_fault}
 use Rattle.aqfp_top.proofs.OneCheck.{stream_none}

@@ -12,6 +12,7 @@ pub mod OneCheck
 pub mod OneComparison
 pub mod Comparing
 pub mod Verdicts
+pub mod WriteSteps
 pub mod FewCells
 pub mod OneDue
 pub mod OneStage

@@ -7,7 +7,7 @@ use Rattle.aqfp_top.specs.Stages.{Stage, Finds, FindsNone, IsFirst, IsLoadFault,
 use Rattle.aqfp_top.specs.Due.{stages_of, Due, MayAnswer, untaken, IsSameAnswer, IsDueOrYields, IsPastComparing, IsDoneOrMemory}
 use Rattle.aqfp_top.specs.Counted.{Counts, HasFaults, NoFaults}
 use Rattle.aqfp_top.specs.declared.words.Form.{Form}
-use Rattle.aqfp_top.specs.declared.words.Form.TheVariants.{Build, Verify, Trace, Equal, Sample, Wrong}
+use Rattle.aqfp_top.specs.declared.words.Form.TheVariants.{Build, Verify, Trace, Equal, Write, Sample, Wrong}
 use Rattle.aqfp_top.specs.declared.fault.Large.TheVariants.{Slots, Rows, Cells, Elements, Shapes, Functions}
 use Rattle.aqfp_top.specs.declared.fault.WriteCall.TheVariants.{Create, Append, Close, Out}
 use Rattle.aqfp_top.specs.declared.fault.Fault.{Fault}
@@ -76,6 +76,7 @@ gives_up files words Equal count is some = elim (rest (rest (rest (rest (rest (r
   | inl many ↦ record { form = is; many = many }
   | inr none ↦ absurd none
 ]
+gives_up files words Write count is some = absurd (rest (rest (rest (rest (rest (rest some))))))
 gives_up files words (Sample bits) count is some = absurd (rest (rest some))
 gives_up files words Wrong count is some = absurd (rest some)
 
@@ -100,7 +101,8 @@ no_form words never (inl build) = never Build build
 no_form words never (inr (inl (inl verify))) = never Verify verify
 no_form words never (inr (inl (inr trace))) = never Trace trace
 no_form words never (inr (inr (inl sample))) = never (Sample sample.bits) sample.of_bits
-no_form words never (inr (inr (inr equal))) = never Equal equal
+no_form words never (inr (inr (inr (inl equal)))) = never Equal equal
+no_form words never (inr (inr (inr (inr write)))) = never Write write
 
 pub some_due : (files : Contents) (words : List (List ℕ)) → ((answer : Option Fault) → ¬ Due files words answer) → ⊥
 some_due files words never =

@@ -1,24 +1,25 @@
 -- From the clauses of each command to those of a run.
 use Rattle.std.proofs.Common.{ℕ, ◌≡◌, ◌<◌, ◌≤◌, List, length, arith, Option, Some, None, Result, Ok, Err, IfErr, inl, inr, refl, subst}
 use Rattle.aq_base.specs.Store.{Contents}
-use Rattle.aqfp_top.specs.Words.{IsBuild, IsVerify, IsTrace, IsEqual, IsCheck, IsSampleOf, HasForm}
-use Rattle.aqfp_top.specs.Loads.{build_loads, check_loads, equal_loads, IsLoaded, IsPast}
+use Rattle.aqfp_top.specs.Words.{IsBuild, IsVerify, IsTrace, IsEqual, IsWrite, IsCheck, IsSampleOf, HasForm}
+use Rattle.aqfp_top.specs.Loads.{build_loads, check_loads, equal_loads, write_loads, IsLoaded, IsPast}
 use Rattle.aqfp_top.specs.Stages.{Answers as StagesAnswer}
-use Rattle.aqfp_top.specs.Due.{MayAnswer, build_stages, check_stages, equal_stages, sample_stages}
-use Rattle.aqfp_top.specs.Faults.{IsBuildFault, IsCheckFault, IsEqualFault, IsSampleFault, RunsOnly}
+use Rattle.aqfp_top.specs.Due.{MayAnswer, build_stages, check_stages, equal_stages, write_stages, sample_stages}
+use Rattle.aqfp_top.specs.Faults.{IsBuildFault, IsCheckFault, IsEqualFault, IsWritingFault, IsSampleFault, RunsOnly}
 use Rattle.aqfp_top.specs.Run.{RunStands, RunPrints}
 use Rattle.aqfp_top.specs.Lines.{HasPlace}
 use Rattle.aqfp_top.specs.Build.{BuildStands, BuildPrints}
 use Rattle.aqfp_top.specs.Checks.{CheckPrints}
 use Rattle.aqfp_top.specs.Comparing.{EqualPrints}
 use Rattle.aqfp_top.specs.Samples.{SamplePrints}
+use Rattle.aqfp_top.specs.Writing.{WriteStands, WritePrints}
 use Rattle.aqfp_top.specs.Code.Staging.{ToldAnswers, ToldMayAnswer}
-use Rattle.aqfp_top.specs.declared.words.Form.TheVariants.{Build, Verify, Trace, Equal, Sample, Wrong}
+use Rattle.aqfp_top.specs.declared.words.Form.TheVariants.{Build, Verify, Trace, Equal, Write, Sample, Wrong}
 use Rattle.aqfp_top.specs.declared.check.Printing.TheVariants.{Answers, Fluxes}
 use Rattle.aqfp_top.specs.declared.fault.Fault.{Fault}
 use Rattle.aqfp_top.specs.declared.fault.Fault.TheVariants.{Usage, Absent, TooLong, ReadFault}
 use Rattle.aqfp_top.proofs.Sampling.{sample_failed}
-use Rattle.aqfp_top.proofs.Forms.{build_not_sample, verify_not_sample, trace_not_sample, check_not_sample, build_not_check, build_not_verify, build_not_trace, verify_not_trace, build_not_equal, verify_not_equal, trace_not_equal, check_not_equal, equal_not_sample, one_size}
+use Rattle.aqfp_top.proofs.Forms.{build_not_sample, verify_not_sample, trace_not_sample, check_not_sample, build_not_check, build_not_verify, build_not_trace, verify_not_trace, build_not_equal, verify_not_equal, trace_not_equal, check_not_equal, equal_not_sample, build_not_write, verify_not_write, trace_not_write, check_not_write, equal_not_write, write_not_sample, one_size}
 
 -- what a command may answer the words may lead to
 
@@ -38,6 +39,10 @@ pub equal_answers : (told : Option Contents) (words : List (List ℕ)) (answer :
 equal_answers None words answer form answers = tt
 equal_answers (Some files) words answer form answers = record { form = Equal; is_form = form; answers = answers }
 
+pub write_answers : (told : Option Contents) (words : List (List ℕ)) (answer : Option Fault) → IsWrite words → ToldAnswers write_stages told words answer → ToldMayAnswer told words answer
+write_answers None words answer form answers = tt
+write_answers (Some files) words answer form answers = record { form = Write; is_form = form; answers = answers }
+
 pub sample_answers : (told : Option Contents) (words : List (List ℕ)) (bits : ℕ) (answer : Option Fault) → IsSampleOf words bits → StagesAnswer (sample_stages bits) answer → ToldMayAnswer told words answer
 sample_answers None words bits answer form answers = tt
 sample_answers (Some files) words bits answer form answers = record { form = Sample bits; is_form = form; answers = answers }
@@ -49,22 +54,25 @@ usage_answers (Some files) words form = record { form = Wrong; is_form = form; a
 -- what stands
 
 pub build_leaves : (before after : Option Contents) (words : List (List ℕ)) (fault : Option Fault) → IsBuild words → BuildStands before after words fault → RunStands before after words fault
-build_leaves before after words fault form stands = record { build = λ b. stands; otherwise = λ none. absurd (none form) }
+build_leaves before after words fault form stands = record { build = λ b. stands; write = λ w. absurd (build_not_write words form w); otherwise = λ none other. absurd (none form) }
 
 pub verify_leaves : (before after : Option Contents) (words : List (List ℕ)) (fault : Option Fault) → IsVerify words → after ≡ before → RunStands before after words fault
-verify_leaves before after words fault form same = record { build = λ b. absurd (build_not_verify words b form); otherwise = λ none. same }
+verify_leaves before after words fault form same = record { build = λ b. absurd (build_not_verify words b form); write = λ w. absurd (verify_not_write words form w); otherwise = λ none other. same }
 
 pub trace_leaves : (before after : Option Contents) (words : List (List ℕ)) (fault : Option Fault) → IsTrace words → after ≡ before → RunStands before after words fault
-trace_leaves before after words fault form same = record { build = λ b. absurd (build_not_trace words b form); otherwise = λ none. same }
+trace_leaves before after words fault form same = record { build = λ b. absurd (build_not_trace words b form); write = λ w. absurd (trace_not_write words form w); otherwise = λ none other. same }
 
 pub equal_leaves : (before after : Option Contents) (words : List (List ℕ)) (fault : Option Fault) → IsEqual words → after ≡ before → RunStands before after words fault
-equal_leaves before after words fault form same = record { build = λ b. absurd (build_not_equal words b form); otherwise = λ none. same }
+equal_leaves before after words fault form same = record { build = λ b. absurd (build_not_equal words b form); write = λ w. absurd (equal_not_write words form w); otherwise = λ none other. same }
+
+pub write_leaves : (before after : Option Contents) (words : List (List ℕ)) (fault : Option Fault) → IsWrite words → WriteStands before after words fault → RunStands before after words fault
+write_leaves before after words fault form stands = record { build = λ b. absurd (build_not_write words b form); write = λ w. stands; otherwise = λ none other. absurd (other form) }
 
 pub sample_leaves : (held : Option Contents) (words : List (List ℕ)) (bits : ℕ) (fault : Option Fault) → IsSampleOf words bits → RunStands held held words fault
-sample_leaves held words bits fault form = record { build = λ b. absurd (build_not_sample words bits b form); otherwise = λ none. refl }
+sample_leaves held words bits fault form = record { build = λ b. absurd (build_not_sample words bits b form); write = λ w. absurd (write_not_sample words bits w form); otherwise = λ none other. refl }
 
 pub usage_leaves : (held : Option Contents) (words : List (List ℕ)) (fault : Option Fault) → ¬ HasForm words → RunStands held held words fault
-usage_leaves held words fault form = record { build = λ b. absurd (form (inl b)); otherwise = λ none. refl }
+usage_leaves held words fault form = record { build = λ b. absurd (form (inl b)); write = λ w. absurd (form (inr (inr (inr (inr w))))); otherwise = λ none other. refl }
 
 -- what is printed
 
@@ -74,6 +82,7 @@ build_prints told words before after fault form prints = record {
   verify = λ v. absurd (build_not_verify words form v);
   trace = λ t. absurd (build_not_trace words form t);
   equal = λ e. absurd (build_not_equal words form e);
+  write = λ w. absurd (build_not_write words form w);
   sample = λ bits s. absurd (build_not_sample words bits form s);
   otherwise = λ none. absurd (none (inl form));
 }
@@ -84,6 +93,7 @@ verify_prints told words before after fault form prints = record {
   verify = λ v. prints;
   trace = λ t. absurd (verify_not_trace words form t);
   equal = λ e. absurd (verify_not_equal words form e);
+  write = λ w. absurd (verify_not_write words form w);
   sample = λ bits s. absurd (verify_not_sample words bits form s);
   otherwise = λ none. absurd (none (inr (inl (inl form))));
 }
@@ -94,6 +104,7 @@ trace_prints told words before after fault form prints = record {
   verify = λ v. absurd (verify_not_trace words v form);
   trace = λ t. prints;
   equal = λ e. absurd (trace_not_equal words form e);
+  write = λ w. absurd (trace_not_write words form w);
   sample = λ bits s. absurd (trace_not_sample words bits form s);
   otherwise = λ none. absurd (none (inr (inl (inr form))));
 }
@@ -104,8 +115,20 @@ equal_prints told words before after fault form prints = record {
   verify = λ v. absurd (verify_not_equal words v form);
   trace = λ t. absurd (trace_not_equal words t form);
   equal = λ e. prints;
+  write = λ w. absurd (equal_not_write words form w);
   sample = λ bits s. absurd (equal_not_sample words bits form s);
-  otherwise = λ none. absurd (none (inr (inr (inr form))));
+  otherwise = λ none. absurd (none (inr (inr (inr (inl form)))));
+}
+
+pub write_prints : (told : Option Contents) (words : List (List ℕ)) (before after : Option (List ℕ)) (fault : Option Fault) → IsWrite words → WritePrints told words before after fault → RunPrints told words before after fault
+write_prints told words before after fault form prints = record {
+  build = λ b. absurd (build_not_write words b form);
+  verify = λ v. absurd (verify_not_write words v form);
+  trace = λ t. absurd (trace_not_write words t form);
+  equal = λ e. absurd (equal_not_write words e form);
+  write = λ w. prints;
+  sample = λ bits s. absurd (write_not_sample words bits form s);
+  otherwise = λ none. absurd (none (inr (inr (inr (inr form)))));
 }
 
 pub sample_prints : (told : Option Contents) (words : List (List ℕ)) (bits : ℕ) (before after : Option (List ℕ)) (fault : Option Fault) → IsSampleOf words bits → SamplePrints bits before after fault → RunPrints told words before after fault
@@ -114,6 +137,7 @@ sample_prints told words bits before after fault form prints = record {
   verify = λ v. absurd (verify_not_sample words bits v form);
   trace = λ t. absurd (trace_not_sample words bits t form);
   equal = λ e. absurd (equal_not_sample words bits e form);
+  write = λ w. absurd (write_not_sample words bits w form);
   sample = λ other s. subst (λ n. SamplePrints n before after fault) (one_size _ bits other form.size s.size) prints;
   otherwise = λ none. absurd (none (inr (inr (inl (record { bits = bits; of_bits = form })))));
 }
@@ -123,7 +147,8 @@ usage_prints told words held fault form = record {
   build = λ b. absurd (form (inl b));
   verify = λ v. absurd (form (inr (inl (inl v))));
   trace = λ t. absurd (form (inr (inl (inr t))));
-  equal = λ e. absurd (form (inr (inr (inr e))));
+  equal = λ e. absurd (form (inr (inr (inr (inl e)))));
+  write = λ w. absurd (form (inr (inr (inr (inr w)))));
   sample = λ bits s. absurd (form (inr (inr (inl (record { bits = bits; of_bits = s })))));
   otherwise = λ none. refl;
 }
@@ -161,6 +186,22 @@ build_place words (TooLong place taken) four only = build_past words place taken
 build_place words (ReadFault place) four only = build_loaded words place four only
 build_place words _ four only = tt
 
+write_loaded : (words : List (List ℕ)) (place : ℕ) → length words ≡ 4 → IsLoaded write_loads place → place < length words
+write_loaded words place four (inl one) = four_place words place 1 four (omega arith) one
+write_loaded words place four (inr (inl two)) = four_place words place 2 four (omega arith) two
+write_loaded words place four (inr (inr none)) = absurd none
+
+write_past : (words : List (List ℕ)) (place taken : ℕ) → length words ≡ 4 → IsPast write_loads place taken → place < length words
+write_past words place taken four (inl one) = four_place words place 1 four (omega arith) one.0
+write_past words place taken four (inr (inl two)) = four_place words place 2 four (omega arith) two.0
+write_past words place taken four (inr (inr none)) = absurd none
+
+write_place : (words : List (List ℕ)) (fault : Fault) → length words ≡ 4 → IsWritingFault fault → HasPlace words fault
+write_place words (Absent place) four only = write_loaded words place four only
+write_place words (TooLong place taken) four only = write_past words place taken four only
+write_place words (ReadFault place) four only = write_loaded words place four only
+write_place words _ four only = tt
+
 check_place : (words : List (List ℕ)) (fault : Fault) → length words ≡ 4 → IsCheckFault fault → HasPlace words fault
 check_place words (Absent place) four only = check_loaded words place four only
 check_place words (TooLong place taken) four only = check_past words place taken four only
@@ -188,6 +229,7 @@ build_only words (Err fault) form only = record {
   check = λ c. absurd (build_not_check words form c);
   sample = λ s. absurd (build_not_sample words s.bits form s.of_bits);
   equal = λ e. absurd (build_not_equal words form e);
+  write = λ w. absurd (build_not_write words form w);
   otherwise = λ none. absurd (none (inl form));
   place = build_place words fault form.0 only;
 }
@@ -199,6 +241,7 @@ check_only words (Err fault) four form only = record {
   check = λ c. only;
   sample = λ s. absurd (check_not_sample words s.bits form s.of_bits);
   equal = λ e. absurd (check_not_equal words form e);
+  write = λ w. absurd (check_not_write words form w);
   otherwise = λ none. absurd (none (inr (inl form)));
   place = check_place words fault four only;
 }
@@ -216,6 +259,7 @@ sample_only words bits (Err fault) form only = record {
   check = λ c. absurd (check_not_sample words bits c form);
   sample = λ s. only;
   equal = λ e. absurd (equal_not_sample words bits e form);
+  write = λ w. absurd (write_not_sample words bits w form);
   otherwise = λ none. absurd (none (inr (inr (inl (record { bits = bits; of_bits = form })))));
   place = sample_place words fault only;
 }
@@ -227,8 +271,21 @@ equal_only words (Err fault) form only = record {
   check = λ c. absurd (check_not_equal words c form);
   sample = λ s. absurd (equal_not_sample words s.bits form s.of_bits);
   equal = λ e. only;
-  otherwise = λ none. absurd (none (inr (inr (inr form))));
+  write = λ w. absurd (equal_not_write words form w);
+  otherwise = λ none. absurd (none (inr (inr (inr (inl form)))));
   place = equal_place words fault form.0 only;
+}
+
+pub write_only : (words : List (List ℕ)) (result : Result (Unit {0}) Fault) → IsWrite words → IfErr result IsWritingFault → IfErr result (RunsOnly words)
+write_only words (Ok x) form only = tt
+write_only words (Err fault) form only = record {
+  build = λ b. absurd (build_not_write words b form);
+  check = λ c. absurd (check_not_write words c form);
+  sample = λ s. absurd (write_not_sample words s.bits form s.of_bits);
+  equal = λ e. absurd (equal_not_write words e form);
+  write = λ w. only;
+  otherwise = λ none. absurd (none (inr (inr (inr (inr form)))));
+  place = write_place words fault form.0 only;
 }
 
 pub usage_only : (words : List (List ℕ)) → ¬ HasForm words → RunsOnly words Usage
@@ -236,7 +293,8 @@ usage_only words none = record {
   build = λ b. absurd (none (inl b));
   check = λ c. absurd (none (inr (inl c)));
   sample = λ s. absurd (none (inr (inr (inl s))));
-  equal = λ e. absurd (none (inr (inr (inr e))));
+  equal = λ e. absurd (none (inr (inr (inr (inl e)))));
+  write = λ w. absurd (none (inr (inr (inr (inr w)))));
   otherwise = λ n. refl;
   place = tt;
 }
@@ -256,13 +314,17 @@ pub sample_no_usage : (words : List (List ℕ)) (bits : ℕ) (answer : Option Fa
 sample_no_usage words bits answer form none = absurd (none (inr (inr (inl (record { bits = bits; of_bits = form })))))
 
 pub equal_no_usage : (words : List (List ℕ)) (answer : Option Fault) → IsEqual words → ¬ HasForm words → answer ≡ Some Usage
-equal_no_usage words answer form none = absurd (none (inr (inr (inr form))))
+equal_no_usage words answer form none = absurd (none (inr (inr (inr (inl form)))))
+
+pub write_no_usage : (words : List (List ℕ)) (answer : Option Fault) → IsWrite words → ¬ HasForm words → answer ≡ Some Usage
+write_no_usage words answer form none = absurd (none (inr (inr (inr (inr form)))))
 
 pub ruleset runs = (
   build_only,
   verify_only,
   trace_only,
   equal_only,
+  write_only,
   sample_only,
   sample_failed,
   usage_only,
@@ -270,24 +332,28 @@ pub ruleset runs = (
   verify_answers,
   trace_answers,
   equal_answers,
+  write_answers,
   sample_answers,
   usage_answers,
   build_leaves,
   verify_leaves,
   trace_leaves,
   equal_leaves,
+  write_leaves,
   sample_leaves,
   usage_leaves,
   build_prints,
   verify_prints,
   trace_prints,
   equal_prints,
+  write_prints,
   sample_prints,
   usage_prints,
   build_no_usage,
   verify_no_usage,
   trace_no_usage,
   equal_no_usage,
+  write_no_usage,
   sample_no_usage,
 )
 

@@ -3,7 +3,9 @@ use Rattle.std.proofs.Common.{ℕ, suc, ◌≡◌, Bool, List, [], ◌∷◌, le
 use Rattle.std.specs.List.{AllZip}
 use Rattle.blif_read.specs.Parts.{NetView}
 use Rattle.blif_read.specs.Equations as equations
-use Rattle.aq_base.specs.Store.{Contents, gained}
+use Rattle.aq_base.specs.Store.{Contents, told_with, gained}
+use Rattle.blif_flat.specs.BlifText.{blif_text}
+use Rattle.blif_flat.specs.Written.{AnswersAsWritten}
 use Rattle.chip_circuit.specs.Circuits.{CircuitView, KeepsFacts}
 use Rattle.chip_circuit.specs.Answers.{IsAnswer}
 use Rattle.decide.specs.declared.verdict.Verdict.{Verdict}
@@ -12,9 +14,12 @@ use Rattle.pulse_sim.specs.Shows.{Shows}
 use Rattle.chip_texts.specs.Counts.{delay_of}
 use Rattle.chip_texts.specs.WordsText.{words_of}
 use Rattle.chip_texts.specs.WordLines.{answers_to}
-use Rattle.aqfp_top.specs.Words.{IsVerify, IsTrace, IsEqual}
+use Rattle.aqfp_top.specs.Words.{word_at, IsVerify, IsTrace, IsEqual}
 use Rattle.aqfp_top.specs.Checks.{ToldTexts, IsPrintedOf, IsSound}
 use Rattle.aqfp_top.specs.Comparing.{IsTrueOf, IsToldOf}
+use Rattle.aqfp_top.specs.Writing as writing
+use Rattle.aqfp_top.specs.Writing.{IsRead, IsWritten}
+use Rattle.aqfp_top.specs.WrittenNetlist.{WritesNetlist}
 use Rattle.aqfp_top.specs.Run.{RunPrints}
 use Rattle.aqfp_top.specs.Verified.{ChecksChip, VerifiesChip, TracesChip}
 use Rattle.aqfp_top.specs.Compared.{ShowsNet, ComparesChip}
@@ -115,4 +120,28 @@ chip_compared told held words before after laws is form prints =
       holds = found.holds;
       shown = shows_net laws found.circuit found.view made.verdict found.circuit_keeps found.holds;
       printed = made.printed;
+    }
+
+pub netlist_written : (told : Option Contents) (held : Contents) (after : Option Contents) (words : List (List ℕ)) (printed printed' : Option (List ℕ)) → ((circuit : CircuitView) → KeepsFacts circuit → AnswersAsWritten circuit) →
+    told ≡ Some held → IsRead told words (IsWritten told after words printed printed') → WritesNetlist held after words printed printed'
+netlist_written told held after words printed printed' answers is done =
+    let reads = done.reads in
+    let makes = reads.makes in
+    let texts = subst (λ t. writing.ToldTexts t words reads.gds reads.lib) is reads.held in
+    record {
+      gds = reads.gds;
+      lib = reads.lib;
+      gds_held = texts.0;
+      lib_held = texts.1;
+      layout = makes.layout;
+      stream = makes.read.stream;
+      cells = makes.library.view;
+      lib_says = makes.library.says;
+      rules = makes.rules;
+      circuit = done.circuit;
+      extracted = makes.circuit_is;
+      circuit_keeps = reads.keeps;
+      stored = subst (λ t. after ≡ told_with t (word_at words 3) (blif_text done.circuit)) is done.holds.stored;
+      answers = answers done.circuit reads.keeps;
+      printed = done.holds.printed;
     }

@@ -22,6 +22,7 @@ two_words words two none (inl build) = let four = build.0 in omega (arith, two, 
 two_words words two none (inr (inl (inl verify))) = let four = verify.0 in omega (arith, two, four)
 two_words words two none (inr (inl (inr trace))) = let four = trace.0 in omega (arith, two, four)
 two_words words two none (inr (inr (inl sample))) = none sample.bits sample.of_bits
-two_words words two none (inr (inr (inr equal))) = let four = equal.0 in omega (arith, two, four)
+two_words words two none (inr (inr (inr (inl equal)))) = let four = equal.0 in omega (arith, two, four)
+two_words words two none (inr (inr (inr (inr write)))) = let four = write.0 in omega (arith, two, four)
 
 pub ruleset forms = (is_sample, two_words)

@@ -215,7 +215,7 @@ unfolding counts_of
 same_counts equations cells chip made = λ i. counts_text (made.counts.rows i) (made.counts.cells i) (made.counts.wires i)
 
 -- the whole file is some first bytes of it
-whole_prefix : (told after : Option Contents) (name bytes : List ℕ) → after ≡ told_with told name bytes → StoresPrefix told after name bytes
+pub whole_prefix : (told after : Option Contents) (name bytes : List ℕ) → after ≡ told_with told name bytes → StoresPrefix told after name bytes
 whole_prefix told after name bytes is = record { count = length bytes; stored = rw take-length is }
 
 at_word : (told told' after : Option Contents) (words : List (List ℕ)) (name : List ℕ) (chip : Chip) → told' ≡ told → name ≡ word_at words 3 → after ≡ told_with told' name (bytes_of chip.layout) →

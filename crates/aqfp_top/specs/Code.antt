@@ -7,4 +7,5 @@ pub mod Designing
 pub mod Building
 pub mod Checking
 pub mod Comparing
+pub mod Writing
 pub mod Sampling

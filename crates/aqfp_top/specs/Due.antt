@@ -4,12 +4,12 @@ use Rattle.aq_base.specs.Store.{Contents}
 use Rattle.cell_library.specs.LibraryA.{library_a_view}
 use Rattle.sample_adder.specs.Adder.{adder}
 use Rattle.aqfp_top.specs.Words.{word_at, IsEqual, IsOfForm}
-use Rattle.aqfp_top.specs.Loads.{Load, build_loads, check_loads, equal_loads}
+use Rattle.aqfp_top.specs.Loads.{Load, build_loads, check_loads, equal_loads, write_loads}
 use Rattle.aqfp_top.specs.Stages as stage
 use Rattle.aqfp_top.specs.Stages.{Stage, IsFirst}
 use Rattle.aqfp_top.specs.Comparing.{HasManyFunctions}
 use Rattle.aqfp_top.specs.declared.words.Form.{Form}
-use Rattle.aqfp_top.specs.declared.words.Form.TheVariants.{Build, Verify, Trace, Equal, Sample, Wrong}
+use Rattle.aqfp_top.specs.declared.words.Form.TheVariants.{Build, Verify, Trace, Equal, Write, Sample, Wrong}
 use Rattle.aqfp_top.specs.declared.fault.Large.TheVariants.{Functions}
 use Rattle.aqfp_top.specs.declared.fault.Fault.{Fault}
 use Rattle.aqfp_top.specs.declared.fault.Fault.TheVariants.{TooLong, ReadFault, WriteFault, TooLarge, Memory}
@@ -25,9 +25,13 @@ bytes_at files words place = unwrap_or (file_at files words place) []
 abbrev pub loading : Contents → List (List ℕ) → List Load → List Stage
 loading files words loads = map (λ load. stage.Loading load (file_at files words load.place)) loads
 
--- judging the texts of a netlist and of a library, and the texts of a chip, of a library and of words
+-- judging the texts of a netlist and of a library
 abbrev pub design_stages : List ℕ → List ℕ → List Stage
 design_stages net lib = stage.Netlist net ∷ stage.Cells lib ∷ stage.Plan net lib ∷ []
+
+-- judging the texts of a chip and of a library, and words besides
+abbrev pub circuit_stages : List ℕ → List ℕ → List Stage
+circuit_stages gds lib = stage.Stream gds ∷ stage.Size gds ∷ stage.Cells lib ∷ stage.Rules gds lib ∷ []
 
 abbrev pub judging_stages : List ℕ → List ℕ → List ℕ → List Stage
 judging_stages gds lib text =
@@ -52,6 +56,10 @@ abbrev pub equal_stages : Contents → List (List ℕ) → List Stage
 equal_stages files words = loading files words equal_loads
     ++ comparing_stages (bytes_at files words 1) (bytes_at files words 2) (bytes_at files words 3)
 
+abbrev pub write_stages : Contents → List (List ℕ) → List Stage
+write_stages files words =
+    loading files words write_loads ++ circuit_stages (bytes_at files words 1) (bytes_at files words 2)
+
 abbrev pub sample_stages : ℕ → List Stage
 sample_stages bits = stage.Netlist (adder bits) ∷ stage.PlanWith (adder bits) library_a_view ∷ []
 
@@ -61,6 +69,7 @@ stages_of Build files words = build_stages files words
 stages_of Verify files words = check_stages files words
 stages_of Trace files words = check_stages files words
 stages_of Equal files words = equal_stages files words
+stages_of Write files words = write_stages files words
 stages_of (Sample bits) files words = sample_stages bits
 stages_of Wrong files words = stage.Form ∷ []
 

@@ -1,7 +1,7 @@
 -- Which faults the commands may answer, whatever the store tells.
 use Rattle.std.specs.Prelude.{ℕ, ◌≡◌, List}
-use Rattle.aqfp_top.specs.Loads.{build_loads, check_loads, equal_loads, IsLoaded, IsPast}
-use Rattle.aqfp_top.specs.Words.{IsBuild, IsCheck, IsEqual, IsSample, HasForm}
+use Rattle.aqfp_top.specs.Loads.{build_loads, check_loads, equal_loads, write_loads, IsLoaded, IsPast}
+use Rattle.aqfp_top.specs.Words.{IsBuild, IsCheck, IsEqual, IsWrite, IsSample, HasForm}
 use Rattle.aqfp_top.specs.Lines.{HasPlace}
 use Rattle.aqfp_top.specs.declared.fault.Large.TheVariants.{Shapes, Functions}
 use Rattle.aqfp_top.specs.declared.fault.WriteCall.TheVariants.{Out}
@@ -55,6 +55,20 @@ IsEqualFault (Widths chip_inputs chip_outputs net_inputs net_outputs) = Unit {0}
 IsEqualFault Memory = Unit {0}
 IsEqualFault _ = ⊥
 
+-- of writing a chip's netlist: those of a check but words, and all of writing
+abbrev pub IsWritingFault : Fault → Type 0
+IsWritingFault (Absent place) = IsLoaded write_loads place
+IsWritingFault (TooLong place taken) = IsPast write_loads place taken
+IsWritingFault (ReadFault place) = IsLoaded write_loads place
+IsWritingFault (WriteFault call) = Unit {0}
+IsWritingFault (BadLibrary fault) = Unit {0}
+IsWritingFault (MissingCell kind) = Unit {0}
+IsWritingFault (TooLarge Shapes count) = Unit {0}
+IsWritingFault (BadStream offset kind) = Unit {0}
+IsWritingFault (RuleBroken rule first second) = Unit {0}
+IsWritingFault Memory = Unit {0}
+IsWritingFault _ = ⊥
+
 -- a sample's: none of a file, a library or words, nor of writing but to `out`
 abbrev pub IsSampleFault : Fault → Type 0
 IsSampleFault (WriteFault call) = call ≡ Out
@@ -71,5 +85,6 @@ pub record RunsOnly (words : List (List ℕ)) (fault : Fault) : Type 0 where
   pub check : IsCheck words → IsCheckFault fault
   pub sample : IsSample words → IsSampleFault fault
   pub equal : IsEqual words → IsEqualFault fault
+  pub write : IsWrite words → IsWritingFault fault
   pub otherwise : ¬ HasForm words → fault ≡ Usage
   pub place : HasPlace words fault

@@ -5,6 +5,7 @@ pub mod Loads
 pub mod Designs
 pub mod Checks
 pub mod Comparing
+pub mod Writing
 pub mod Stages
 pub mod Due
 pub mod Faults
@@ -15,5 +16,6 @@ pub mod Run
 pub mod Chips
 pub mod Verified
 pub mod Compared
+pub mod WrittenNetlist
 pub mod Joined
 pub mod Code

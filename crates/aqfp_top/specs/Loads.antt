@@ -21,6 +21,10 @@ words_limit = 16777216
 abbrev pub build_loads : List Load
 build_loads = record { place = 1; limit = net_limit } ∷ record { place = 2; limit = lib_limit } ∷ []
 
+-- GDS and LIB
+abbrev pub write_loads : List Load
+write_loads = record { place = 1; limit = gds_limit } ∷ record { place = 2; limit = lib_limit } ∷ []
+
 -- GDS, LIB and NET
 abbrev pub equal_loads : List Load
 equal_loads =

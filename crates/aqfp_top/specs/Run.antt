@@ -1,18 +1,20 @@
 -- What a run leaves in the store and prints, by its command.
 use Rattle.std.specs.Prelude.{◌≡◌, ℕ, List, Option}
 use Rattle.aq_base.specs.Store.{Contents}
-use Rattle.aqfp_top.specs.Words.{IsBuild, IsVerify, IsTrace, IsEqual, IsSampleOf, HasForm}
+use Rattle.aqfp_top.specs.Words.{IsBuild, IsVerify, IsTrace, IsEqual, IsWrite, IsSampleOf, HasForm}
 use Rattle.aqfp_top.specs.Build.{BuildStands, BuildPrints}
 use Rattle.aqfp_top.specs.Checks.{CheckPrints}
 use Rattle.aqfp_top.specs.Comparing.{EqualPrints}
 use Rattle.aqfp_top.specs.Samples.{SamplePrints}
+use Rattle.aqfp_top.specs.Writing.{WriteStands, WritePrints}
 use Rattle.aqfp_top.specs.declared.check.Printing.TheVariants.{Answers, Fluxes}
 use Rattle.aqfp_top.specs.declared.fault.Fault.{Fault}
 
--- what stands in the store: after a build the file under OUT, and otherwise all as before
+-- what stands in the store: after a build or a `netlist` the file under OUT, and otherwise all as before
 pub record RunStands (before after : Option Contents) (words : List (List ℕ)) (fault : Option Fault) : Type 0 where
   pub build : IsBuild words → BuildStands before after words fault
-  pub otherwise : ¬ IsBuild words → after ≡ before
+  pub write : IsWrite words → WriteStands before after words fault
+  pub otherwise : ¬ IsBuild words → ¬ IsWrite words → after ≡ before
 
 -- what `out` gains, by the command; nothing where there is none
 pub record RunPrints (told : Option Contents) (words : List (List ℕ)) (before after : Option (List ℕ))
@@ -21,5 +23,6 @@ pub record RunPrints (told : Option Contents) (words : List (List ℕ)) (before 
   pub verify : IsVerify words → CheckPrints Answers told words before after fault
   pub trace : IsTrace words → CheckPrints Fluxes told words before after fault
   pub equal : IsEqual words → EqualPrints told words before after fault
+  pub write : IsWrite words → WritePrints told words before after fault
   pub sample : (bits : ℕ) → IsSampleOf words bits → SamplePrints bits before after fault
   pub otherwise : ¬ HasForm words → after ≡ before

@@ -4,7 +4,7 @@ use Rattle.std.specs.Fmt.{decimal}
 use Rattle.std.specs.String.{string_bytes}
 use Rattle.std.specs.declared.alloc.Global.{Global}
 use Rattle.aqfp_top.specs.declared.words.Form.{Form}
-use Rattle.aqfp_top.specs.declared.words.Form.TheVariants.{Build, Verify, Trace, Equal, Sample, Wrong}
+use Rattle.aqfp_top.specs.declared.words.Form.TheVariants.{Build, Verify, Trace, Equal, Write, Sample, Wrong}
 
 -- the bytes of each word
 abbrev pub spelled : List (String Global) → List (List ℕ)
@@ -30,6 +30,10 @@ IsTrace words = (length words ≡ 4) × (word_at words 0 ≡ codes "trace")
 abbrev pub IsEqual : List (List ℕ) → Type 0
 IsEqual words = (length words ≡ 4) × (word_at words 0 ≡ codes "equal")
 
+-- netlist GDS LIB OUT
+abbrev pub IsWrite : List (List ℕ) → Type 0
+IsWrite words = (length words ≡ 4) × (word_at words 0 ≡ codes "netlist")
+
 -- one of the two commands that check a chip
 abbrev pub IsCheck : List (List ℕ) → Type 0
 IsCheck words = IsVerify words ⊎ IsTrace words
@@ -52,7 +56,7 @@ pub record IsSample (words : List (List ℕ)) : Type 0 where
   pub of_bits : IsSampleOf words bits
 
 abbrev pub HasForm : List (List ℕ) → Type 0
-HasForm words = IsBuild words ⊎ (IsCheck words ⊎ (IsSample words ⊎ IsEqual words))
+HasForm words = IsBuild words ⊎ (IsCheck words ⊎ (IsSample words ⊎ (IsEqual words ⊎ IsWrite words)))
 
 -- the words have this form
 abbrev pub IsOfForm : List (List ℕ) → Form → Type 0
@@ -60,5 +64,6 @@ IsOfForm words Build = IsBuild words
 IsOfForm words Verify = IsVerify words
 IsOfForm words Trace = IsTrace words
 IsOfForm words Equal = IsEqual words
+IsOfForm words Write = IsWrite words
 IsOfForm words (Sample bits) = IsSampleOf words bits
 IsOfForm words Wrong = ¬ HasForm words

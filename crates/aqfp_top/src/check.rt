@@ -10,13 +10,13 @@ ghost use Rattle.aqfp_top.specs.Words.{spelled, word_at};
 ghost use Rattle.aqfp_top.specs.Counted.{HasFaults, FailedLoad};
 ghost use Rattle.aqfp_top.specs.Loads.{gds_limit, lib_limit, words_limit, check_loads};
 ghost use Rattle.aqfp_top.specs.Stages.{Stage, Stream, Size, Rules, FindsNone, IsFirst, Answers};
-ghost use Rattle.aqfp_top.specs.Due.{check_stages, judging_stages};
+ghost use Rattle.aqfp_top.specs.Due.{check_stages, circuit_stages, judging_stages};
 ghost use Rattle.aqfp_top.specs.Faults.{IsCheckFault};
 ghost use Rattle.aqfp_top.specs.Checks.{ToldTexts, IsRuleFault, IsSound, MakesCircuit, CheckPrints, text_of};
 ghost use Rattle.aqfp_top.specs.Code.Staging.{OrMemory, ToldAnswers};
 ghost use Rattle.aqfp_top.specs.Code.Loading.{IsFaultOfLoads};
 ghost use Rattle.aqfp_top.specs.Code.Building.{IsReadOf, IsOutOrMemory};
-ghost use Rattle.aqfp_top.specs.Code.Checking.{circuit_stages, IsJudgingFault};
+ghost use Rattle.aqfp_top.specs.Code.Checking.{IsJudgingFault};
 
 use crate::fault::{Fault, WriteCall};
 use crate::reading::{load_texts, read_circuit};

@@ -6,12 +6,14 @@ ghost use Rattle.layout_make.specs.Size.{cells_in, wires_in};
 ghost use Rattle.chip_texts.specs.Counts.{counts_text};
 ghost use Rattle.aqfp_top.specs.Code.Building.{IsOutOrMemory};
 ghost use Rattle.aqfp_top.specs.Code.Designing.{AreCountsOf};
+ghost use Rattle.aqfp_top.specs.Code.Writing.{AreCircuitCounts};
 
 use crate::fault::{Fault, WriteCall};
 use crate::pieces::{Piece, put_pieces};
 use aq_base::{Sink, StoreRefusal};
 use layout_make::{cell_number, row_count, wire_number};
 use rowed::Placed;
+use shape_extract::Extracted;
 
 /// How many rows, cells and wires a chip has.
 #[derive(Clone, Copy, Debug, PartialEq, Eq)]
@@ -33,6 +35,17 @@ pub fn counts_of(placed: &Placed) -> ChipCounts
         rows: row_count(placed) as u64,
         cells: cell_number(placed),
         wires: wire_number(placed),
+    }
+}
+
+/// The counts of an extracted circuit.
+pub fn circuit_counts(circuit: &Extracted) -> ChipCounts
+    ensures { AreCircuitCounts circuit.now result }
+{
+    ChipCounts {
+        rows: u64::from(circuit.rows),
+        cells: circuit.cells.len() as u64,
+        wires: circuit.wires,
     }
 }
 

@@ -19,6 +19,7 @@ mod run;
 mod sample;
 mod store;
 mod words;
+mod write;
 
 pub use due::one_answer_is_due;
 pub use fault::{Fault, Large, WriteCall};
@@ -35,3 +36,5 @@ mod equal_tests;
 mod fixtures;
 #[cfg(test)]
 mod tests;
+#[cfg(test)]
+mod write_tests;

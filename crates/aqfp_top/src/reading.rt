@@ -8,11 +8,12 @@ ghost use Rattle.aqfp_top.specs.Words.{spelled};
 ghost use Rattle.aqfp_top.specs.Counted.{FailedLoad};
 ghost use Rattle.aqfp_top.specs.Loads.{gds_limit, lib_limit, words_limit, check_loads};
 ghost use Rattle.aqfp_top.specs.Stages.{Stage, Stream, Size, Rules, FindsNone, IsFirst, Answers};
+ghost use Rattle.aqfp_top.specs.Due.{circuit_stages};
 ghost use Rattle.aqfp_top.specs.Checks.{ToldTexts, IsRuleFault, MakesCircuit};
 ghost use Rattle.aqfp_top.specs.Code.Staging.{OrMemory, ToldAnswers};
 ghost use Rattle.aqfp_top.specs.Code.Loading.{IsFaultOfLoads};
 ghost use Rattle.aqfp_top.specs.Code.Building.{IsReadOf};
-ghost use Rattle.aqfp_top.specs.Code.Checking.{chip_stages, circuit_stages, circuit_then, IsCircuitFault};
+ghost use Rattle.aqfp_top.specs.Code.Checking.{chip_stages, circuit_then, IsCircuitFault};
 
 use crate::design::read_cells;
 use crate::fault::{Fault, Large};

@@ -183,7 +183,7 @@ fn pieces_of<'a>(words: &'a [String], fault: &'a Fault) -> [Piece<'a>; 5]
             Piece::Text(
                 b"aqfp: usage: build NET LIB OUT, verify GDS LIB WORDS, trace GDS LIB WORDS, ",
             ),
-            Piece::Text(b"sample N, equal GDS LIB NET\n"),
+            Piece::Text(b"sample N, netlist GDS LIB OUT, equal GDS LIB NET\n"),
             Piece::Text(b""),
             Piece::Text(b""),
             Piece::Text(b""),

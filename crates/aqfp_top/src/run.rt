@@ -3,7 +3,7 @@ ghost use Rattle.std.specs.Prelude.{◌≡◌, ◌⊎◌, Some, None, IsSome, If
 ghost use Rattle.std.specs.Result.{result_err};
 ghost use Rattle.aq_base.specs.Causes.{Rose};
 ghost use Rattle.aq_base.specs.Store.{Contents};
-ghost use Rattle.aqfp_top.specs.Words.{spelled, word_at, IsBuild, IsVerify, IsTrace, IsEqual, HasForm};
+ghost use Rattle.aqfp_top.specs.Words.{spelled, word_at, IsBuild, IsVerify, IsTrace, IsEqual, IsWrite, HasForm};
 ghost use Rattle.aqfp_top.specs.Statuses.{status_of};
 ghost use Rattle.aqfp_top.specs.Lines.{Reports};
 ghost use Rattle.aqfp_top.specs.Due.{MayAnswer};
@@ -13,6 +13,8 @@ ghost use Rattle.aqfp_top.specs.Build.{IsBuilt, IsDone};
 ghost use Rattle.aqfp_top.specs.Chips.{BuildsChip};
 ghost use Rattle.aqfp_top.specs.Verified.{VerifiesChip, TracesChip};
 ghost use Rattle.aqfp_top.specs.Compared.{ComparesChip};
+ghost use Rattle.aqfp_top.specs.Writing.{IsRead, IsWritten};
+ghost use Rattle.aqfp_top.specs.WrittenNetlist.{WritesNetlist};
 ghost use Rattle.aqfp_top.specs.Run.{RunStands, RunPrints};
 ghost use Rattle.aqfp_top.specs.Code.Staging.{ToldMayAnswer};
 ghost use Rattle.aqfp_top.specs.declared.fault.Fault.{Fault};
@@ -24,7 +26,9 @@ use crate::fault::Fault;
 use crate::report::say;
 use crate::sample::sample;
 use crate::words::{Form, form_of};
+use crate::write::write_netlist;
 use aq_base::{Files, Sink};
+use blif_flat::written_answers;
 use chip_plan::plan_laws;
 use chip_texts::answers_are_shown;
 use drawn_chip::drawn_chip_realises;
@@ -53,6 +57,7 @@ fn work<F: Files, O: Sink>(
         (record { reads = F.read_faults files.new; writes = F.write_faults files.new; closes = F.close_faults files.new; outs = O.faults out.new }) (result_err result) }
     ensures failed { IsSome (F.told files.old) → FailedLoad (F.load_failed files.new) (spelled words.now) (result_err result) }
     ensures done { IfOk result (λ _. IsBuild (spelled words.now) → IsBuilt (F.told files.old) (spelled words.now) (IsDone (F.told files.old) (F.told files.new) (spelled words.now) (O.written out.old) (O.written out.new))) }
+    ensures written { IfOk result (λ _. IsWrite (spelled words.now) → IsRead (F.told files.old) (spelled words.now) (IsWritten (F.told files.old) (F.told files.new) (spelled words.now) (O.written out.old) (O.written out.new))) }
     ensures only { IfErr result (RunsOnly (spelled words.now)) }
     ensures shut { F.opened files.new ≡ None }
 {
@@ -61,6 +66,7 @@ fn work<F: Files, O: Sink>(
         Form::Verify => check(alloc, Printing::Answers, words, files, out),
         Form::Trace => check(alloc, Printing::Fluxes, words, files, out),
         Form::Equal => equal(alloc, words, files, out),
+        Form::Write => write_netlist(alloc, words, files, out),
         Form::Sample { bits } => sample(alloc, bits, out),
         Form::Wrong => Err(Fault::Usage),
     }
@@ -105,6 +111,10 @@ pub fn aqfp_run<F: Files, O: Sink, E: Sink>(
     ensures compared { (held : Contents) → F.told files.old ≡ Some held → IsEqual (spelled words.now) → result.fault ≡ None
         → ComparesChip held (spelled words.now) (O.written out.old) (O.written out.new) }
 
+    // What a `netlist` that ends well has stored: the chip's circuit as a netlist that answers every word as it does.
+    ensures written { (held : Contents) → F.told files.old ≡ Some held → IsWrite (spelled words.now) → result.fault ≡ None
+        → WritesNetlist held (F.told files.new) (spelled words.now) (O.written out.old) (O.written out.new) }
+
     // What is left.
     ensures stands { RunStands (F.told files.old) (F.told files.new) (spelled words.now) result.fault }
     ensures prints { RunPrints (F.told files.old) (spelled words.now) (O.written out.old) (O.written out.new) result.fault }
@@ -115,6 +125,7 @@ pub fn aqfp_run<F: Files, O: Sink, E: Sink>(
     plan_laws();
     drawn_chip_realises();
     answers_are_shown();
+    written_answers();
     match work(alloc, words, files, out) {
         Ok(()) => Ending {
             status: 0,

@@ -15,6 +15,8 @@ pub enum Form {
     Trace,
     /// `equal GDS LIB NET`.
     Equal,
+    /// `netlist GDS LIB OUT`.
+    Write,
     /// `sample N`, N being the number of bits.
     Sample { bits: u32 },
     /// None of the forms.
@@ -71,6 +73,9 @@ pub fn form_of(words: &[String]) -> Form
         }
         if is_word(words, 0, "equal") {
             return Form::Equal;
+        }
+        if is_word(words, 0, "netlist") {
+            return Form::Write;
         }
         return Form::Wrong;
     }

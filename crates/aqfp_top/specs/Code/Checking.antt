@@ -1,5 +1,5 @@
 -- The stages of a check in steps.
-use Rattle.std.specs.Prelude.{ℕ, List, [], ◌∷◌, ◌++◌}
+use Rattle.std.specs.Prelude.{ℕ, List, ◌∷◌, ◌++◌}
 use Rattle.aq_base.specs.Store.{Contents}
 use Rattle.geom.specs.declared.shapes.Flat.{Flat}
 use Rattle.layout_rules.specs.Limits.{Limits}
@@ -18,10 +18,6 @@ chip_stages rest files words = loading files words check_loads ++ rest files wor
 -- judging the texts of a chip and of a library, and what follows
 abbrev pub circuit_then : List ℕ → List ℕ → List Stage → List Stage
 circuit_then gds lib rest = Stream gds ∷ Size gds ∷ Cells lib ∷ Rules gds lib ∷ rest
-
--- all that comes before words or a netlist are judged
-abbrev pub circuit_stages : List ℕ → List ℕ → List Stage
-circuit_stages gds lib = circuit_then gds lib []
 
 -- the faults of the rules with these numbers
 abbrev pub IsBroken : Flat → Limits → Fault → Type 0

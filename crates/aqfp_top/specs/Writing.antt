@@ -1,0 +1,69 @@
+-- What `netlist` makes of the texts of a layout and of a library: the circuit of the chip, whose netlist it stores, and
+-- whose counts it prints.
+use Rattle.std.specs.Prelude.{ℕ, ◌≡◌, ◌⊎◌, List, Option, Some, None}
+use Rattle.aq_base.specs.Store.{Contents, told_with, StoresPrefix, gained, GainsPrefix}
+use Rattle.chip_circuit.specs.Circuits.{CircuitView, KeepsFacts}
+use Rattle.chip_texts.specs.Counts.{counts_line}
+use Rattle.blif_flat.specs.BlifText.{blif_text}
+use Rattle.aqfp_top.specs.Words.{word_at}
+use Rattle.aqfp_top.specs.Checks.{MakesCircuit}
+use Rattle.aqfp_top.specs.declared.fault.WriteCall.TheVariants.{Create, Append, Close, Out}
+use Rattle.aqfp_top.specs.declared.fault.Fault.{Fault}
+use Rattle.aqfp_top.specs.declared.fault.Fault.TheVariants.{WriteFault, Memory}
+
+-- these are the bytes of GDS and LIB, where the store is told
+abbrev pub ToldTexts : Option Contents → List (List ℕ) → List ℕ → List ℕ → Type 0
+ToldTexts (Some files) words gds lib = (files (word_at words 1) ≡ Some gds) × (files (word_at words 2) ≡ Some lib)
+ToldTexts None words gds lib = Unit {0}
+
+-- the bytes of GDS and LIB make this circuit
+pub record ReadsChip (told : Option Contents) (words : List (List ℕ)) (circuit : CircuitView) : Type 0 where
+  pub gds : List ℕ
+  pub lib : List ℕ
+  pub held : ToldTexts told words gds lib
+  pub makes : MakesCircuit gds lib circuit
+  pub keeps : KeepsFacts circuit
+
+-- they make a circuit of which this holds
+pub record IsRead (told : Option Contents) (words : List (List ℕ)) (Holds : CircuitView → Type 0) : Type 0 where
+  pub circuit : CircuitView
+  pub reads : ReadsChip told words circuit
+  pub holds : Holds circuit
+
+-- OUT holds the circuit's netlist, and nothing else has changed
+abbrev pub StoresNetlist : Option Contents → Option Contents → List (List ℕ) → Type 0
+StoresNetlist before after words =
+    IsRead before words (λ circuit. after ≡ told_with before (word_at words 3) (blif_text circuit))
+
+-- OUT holds some first bytes of it, and nothing else has changed
+abbrev pub StoresSome : Option Contents → Option Contents → List (List ℕ) → Type 0
+StoresSome before after words =
+    IsRead before words (λ circuit. StoresPrefix before after (word_at words 3) (blif_text circuit))
+
+-- what stands in the store: the circuit's netlist under OUT, some first bytes of it, or all as before
+abbrev pub WriteStands : Option Contents → Option Contents → List (List ℕ) → Option Fault → Type 0
+WriteStands before after words None = StoresNetlist before after words
+WriteStands before after words (Some (WriteFault Create)) = after ≡ before
+WriteStands before after words (Some (WriteFault Append)) = StoresSome before after words
+WriteStands before after words (Some (WriteFault Close)) = StoresNetlist before after words
+WriteStands before after words (Some (WriteFault Out)) = StoresNetlist before after words
+WriteStands before after words (Some Memory) = (after ≡ before) ⊎ StoresSome before after words
+WriteStands before after words (Some _) = after ≡ before
+
+-- `out` gained some first bytes of the circuit's counts line
+abbrev pub PrintsSome : Option Contents → List (List ℕ) → Option (List ℕ) → Option (List ℕ) → Type 0
+PrintsSome told words before after = IsRead told words (λ circuit. GainsPrefix before after (counts_line circuit))
+
+-- what `out` gains: the circuit's counts line, or some first bytes of it where the fault is its own or want of memory
+abbrev pub WritePrints : Option Contents → List (List ℕ) → Option (List ℕ) → Option (List ℕ) → Option Fault → Type 0
+WritePrints told words before after None =
+    IsRead told words (λ circuit. after ≡ gained before (counts_line circuit))
+WritePrints told words before after (Some (WriteFault Out)) = PrintsSome told words before after
+WritePrints told words before after (Some Memory) = (after ≡ before) ⊎ PrintsSome told words before after
+WritePrints told words before after (Some _) = after ≡ before
+
+-- what a run that ends well has done, all of one circuit
+pub record IsWritten (before after : Option Contents) (words : List (List ℕ))
+    (printed_before printed_after : Option (List ℕ)) (circuit : CircuitView) : Type 0 where
+  pub stored : after ≡ told_with before (word_at words 3) (blif_text circuit)
+  pub printed : printed_after ≡ gained printed_before (counts_line circuit)
