@@ -83,6 +83,7 @@ COMMANDS = [
     ("verify wire.gds a.toml wire.words", None),
     ("trace wire.gds a.toml wire.words", None),
     ("equal wire.gds a.toml wire.blif", None),
+    ("netlist wire.gds a.toml new.blif", "new.blif"),
     ("sample 1", None),
 ]
 SAID = b"aqfp: out of memory\n"

@@ -4,12 +4,13 @@
 #   examples/flow.sh FOLDER
 #
 # Each netlist NAME.blif of this folder is built with library A as FOLDER/NAME.gds, is verified with NAME.words, and what
-# is printed is compared with NAME.answers; and `equal` compares the chip with NAME.blif for all words. Then the same is
-# done with netlists that other tools make of it: NAME_yosys, which Yosys makes of NAME.v, with gates of two inputs and
-# choices, NAME_and, with and, or and not alone, NAME_lut, with tables of three inputs; and NAME_abc, which ABC makes of
-# NAME.blif. Where KLayout is installed, it checks each chip by share/aqfp.drc and makes a picture of it. Last come the
-# layouts under layouts/, of which one is compared with the netlist that it was made of before it was changed, a trace,
-# and a netlist that is refused. A tool that is not installed is named, and its part is left out.
+# is printed is compared with NAME.answers; `equal` compares the chip with NAME.blif for all words, and where ABC is
+# installed, it compares the netlist of the chip's circuit with NAME.blif. Then the same is done with netlists that other
+# tools make of it: NAME_yosys, which Yosys makes of NAME.v, with gates of two inputs and choices, NAME_and, with and, or
+# and not alone, NAME_lut, with tables of three inputs; and NAME_abc, which ABC makes of NAME.blif. Where KLayout is
+# installed, it checks each chip by share/aqfp.drc and makes a picture of it. Last come the layouts under layouts/, of
+# which one is compared with the netlist that it was made of before it was changed, a trace, and a netlist that is
+# refused. A tool that is not installed is named, and its part is left out.
 # Prints a line for each chip. The status is 1 where something failed. AQFP names another program than the launcher.
 set -u
 here=$(cd -P "$(dirname "$0")" && pwd)
@@ -63,6 +64,12 @@ make_chip() {
     fi
     verdict=$("$aqfp" equal "$folder/$chip.gds" "$library" "$here/$example.blif" 2>&1)
     [ "$verdict" = equal ] || fail "$chip: $verdict, AND NOT EQUAL to $example.blif"
+    "$aqfp" netlist "$folder/$chip.gds" "$library" "$folder/$chip.extracted.blif" >/dev/null 2>&1 ||
+        fail "$chip: NO NETLIST OF ITS CIRCUIT"
+    if have berkeley-abc && grep -q '^\.names' "$here/$example.blif"; then
+        berkeley-abc -q "cec -n $folder/$chip.extracted.blif $here/$example.blif" | grep -q "are equivalent" ||
+            fail "$chip: ABC FINDS ITS CIRCUIT'S NETLIST NOT EQUIVALENT"
+    fi
     if have klayout && ! look_at "$folder/$chip"; then
         fail "$chip: KLAYOUT FINDS A BROKEN RULE, or failed"
     fi
