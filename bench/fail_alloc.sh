@@ -130,7 +130,7 @@ for words, out in COMMANDS:
             print(f"{words}: allocation {number}: status {ended}, {told!r}, {printed!r}")
     said = f"{short} ended with status 14, {full} with the full answer"
     if out:
-        said += f"; OUT was as it was in {short - begun}, and held first bytes of the chip in {begun}"
+        said += f"; OUT was as it was in {short - begun}, and held first bytes of the new file in {begun}"
     print(f"{words}: {number - 1} allocations refused in turn: {said}")
     failed += number == 1
 sys.exit(failed > 0)
