@@ -8,7 +8,7 @@ ghost use Rattle.circuit.specs.PlainNets as plain;
 ghost use Rattle.circuit.specs.SameAnswers.{SameAnswers};
 ghost use Rattle.chip_circuit.specs.Answers.{IsAnswer};
 ghost use Rattle.maj_mapping.specs.Plan.{map_net};
-ghost use Rattle.decide.specs.CellNets.{IsCells};
+ghost use Rattle.circuit.specs.CellNets.{IsCells};
 ghost use Rattle.chip_cells.specs.CellGates.{cells_of};
 ghost use Rattle.aqfp_top.specs.Words.{spelled};
 ghost use Rattle.aqfp_top.specs.Counted.{HasFaults, FailedLoad};

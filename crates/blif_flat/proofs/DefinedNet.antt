@@ -15,7 +15,8 @@ use Rattle.blif_read.specs.Says.{Says}
 use Rattle.blif_read.specs.Netlist.{IsRankedBy}
 use Rattle.blif_read.specs.Equations.{Fits}
 use Rattle.blif_read.specs.OneAnswer.{equation, cover_equation, is_ranked}
-use Rattle.circuit.specs.Ranked.{Solves, solution, some_solution}
+use Rattle.circuit.specs.Ranked.{Solves, solution}
+use Rattle.circuit.specs.Code.Solutions.{some_solution}
 use Rattle.blif_read.proofs.Cycles.{first_is_cycle}
 use Rattle.blif_flat.specs.BlifText.{line_text}
 use Rattle.blif_flat.proofs.WrittenLines.{IsToken, IsWritten, numbered, written_lines}

@@ -6,7 +6,8 @@ use Rattle.std.proofs.lemmas.Bool.{le-ltb, lt-ltb, cases_lt}
 use Rattle.std.proofs.lemmas.List.{length-map}
 use Rattle.blif_read.specs.Parts.{NetView, operands, operands_at}
 use Rattle.blif_read.specs.Equations.{takes, matches, value_of, Fits, IsAnswer}
-use Rattle.circuit.specs.Ranked.{IsRanked, Solves, some_solution}
+use Rattle.circuit.specs.Ranked.{IsRanked, Solves}
+use Rattle.circuit.specs.Code.Solutions.{some_solution}
 use Rattle.blif_read.specs.Netlist.{IsRankedBy, IsDef, IsNetlist}
 use Rattle.blif_read.specs.declared.netlist.Def.{Def}
 use Rattle.blif_read.specs.declared.netlist.Cube.{Cube}

@@ -21,7 +21,7 @@ use Rattle.chip_circuit.specs.declared.cells.Feed.TheVariants.{Nothing, Pin, Lab
 use Rattle.chip_circuit.specs.declared.cells.ExCell.{ExCell}
 use Rattle.chip_circuit.specs.Circuits.{CircuitView, IsCellAt, IsFeedOf, feed_at, KeepsFacts}
 use Rattle.chip_circuit.specs.Answers.{feed_value, cell_value, IsValuation, values_at, IsAnswer}
-use Rattle.decide.specs.CellNets.{Reads, IsCells}
+use Rattle.circuit.specs.CellNets.{Reads, IsCells}
 use Rattle.std.specs.Prelude.{All}
 use Rattle.chip_cells.specs.CellGates.{FeedsFit, feed_gate, gate_by, gate_of, inputs_to, cells_of}
 

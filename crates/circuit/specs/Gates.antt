@@ -1,5 +1,5 @@
 -- The values of gates, and which values fit a list of gates: majority logic over numbered inputs.
-use Rattle.std.specs.Prelude.{◌≡◌, ℕ, Bool, true, false, not, List, Some, slice_get, slice_index_or}
+use Rattle.std.specs.Prelude.{◌≡◌, ℕ, Bool, true, false, not, List, Option, Some, None, slice_get, slice_index_or}
 use Rattle.circuit.specs.Function.{majority}
 use Rattle.circuit.specs.declared.gate.Gate.{Gate}
 use Rattle.circuit.specs.declared.gate.Gate.TheVariants.{Input, Zero, One, Buf, Inv, Maj}
@@ -20,3 +20,12 @@ Fits word v gates = (i : ℕ) (g : Gate) → slice_get gates i ≡ Some g → v 
 -- the values that a list has, and false past its end
 abbrev pub valuation : List Bool → ℕ → Bool
 valuation values i = slice_index_or values i false
+
+-- the equation of a gate, and of no gate
+abbrev pub equation_of : List Bool → (ℕ → Bool) → Option Gate → Bool
+equation_of word v None = false
+equation_of word v (Some g) = gate_value word v g
+
+-- the equation of each gate of a list
+abbrev pub equation : List Gate → List Bool → ℕ → (ℕ → Bool) → Bool
+equation gates word i v = equation_of word v (slice_get gates i)

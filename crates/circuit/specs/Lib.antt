@@ -2,7 +2,8 @@ pub mod CellKinds
 pub mod Function
 pub mod Ranked
 pub mod Gates
+pub mod CellNets
 pub mod PlainNets
-pub mod PlainAnswers
 pub mod SameAnswers
 pub mod Composed
+pub mod Code

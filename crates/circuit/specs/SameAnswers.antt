@@ -1,6 +1,5 @@
 -- What two circuits have in common where one computes what the other does: the counts, and the answer to every word.
 use Rattle.std.specs.Prelude.{◌≡◌, ℕ, List, Bool, length}
-use Rattle.std.proofs.Common.{sym, ◌∙◌}
 
 -- the second circuit has the counts and the answers of the first
 pub record SameAnswers (inputs inputs' outputs outputs' : ℕ) (answer answer' : List Bool → List Bool → Type 0) : Type 0 where
@@ -8,11 +7,3 @@ pub record SameAnswers (inputs inputs' outputs outputs' : ℕ) (answer answer' :
   pub same_outputs : outputs' ≡ outputs
   pub there : (x y : List Bool) → length x ≡ inputs → answer x y → answer' x y
   pub back : (x y : List Bool) → length x ≡ inputs → answer' x y → answer x y
-
-pub same_then : (i j k o p q : ℕ) (f g h : List Bool → List Bool → Type 0) → SameAnswers i j o p f g → SameAnswers j k p q g h → SameAnswers i k o q f h
-same_then i j k o p q f g h a b = record {
-  same_inputs = b.same_inputs ∙ a.same_inputs;
-  same_outputs = b.same_outputs ∙ a.same_outputs;
-  there = λ x y e m. b.there x y (e ∙ sym a.same_inputs) (a.there x y e m);
-  back = λ x y e m. a.back x y e (b.back x y (e ∙ sym a.same_inputs) m);
-}

@@ -7,6 +7,7 @@ mod gate;
 mod pass;
 mod plain_net;
 mod ranked;
+mod values;
 
 pub use answers::{Answers, answer_word};
 use aq_base::List;
@@ -15,6 +16,7 @@ pub use gate::Gate;
 pub use pass::{Pass, Then, ThenRefusal};
 pub use plain_net::PlainNet;
 pub use ranked::ranked_equations;
+pub use values::{gate_values, shown_values};
 
 /// A list of truth values: the first is that of input or output 0.
 pub type Word = List<bool>;

@@ -1,6 +1,7 @@
 // Passes: what makes another circuit of a circuit, with the same answers.
 ghost use Rattle.std.specs.Prelude.{IfOk, IfErr, ◌⊎◌};
-ghost use Rattle.circuit.specs.SameAnswers.{SameAnswers, same_then};
+ghost use Rattle.circuit.specs.SameAnswers.{SameAnswers};
+ghost use Rattle.circuit.specs.Code.SameThen.{same_then};
 ghost use Rattle.circuit.specs.Composed.{OfPart};
 
 use crate::Answers;

@@ -1,8 +1,7 @@
 // Nets of gates, and their answers.
-ghost use Rattle.std.specs.Prelude.{◌≡◌, ℕ, Bool, ◌<◌, length, map, IfOk};
-ghost use Rattle.circuit.specs.Gates.{gate_value, valuation, Fits};
-ghost use Rattle.circuit.specs.PlainNets.{AreGates, IsPlainNet};
+ghost use Rattle.circuit.specs.PlainNets.{IsPlainNet};
 
+use crate::values::{gate_values, shown_values};
 use crate::{Answers, Gate, Word};
 use aq_base::{List, Memory};
 use std::alloc::Global;
@@ -37,63 +36,10 @@ impl PlainNet {
     }
 }
 
-/// The value of a gate; false past the last.
-fn value_at(values: &[bool], gate: u32) -> bool
-    ensures { result ≡ valuation values.now gate }
-{
-    values.get(gate as usize).copied().unwrap_or(false)
-}
-
-/// The value that a gate has where those that it names have these values.
-fn gate_value(gate: Gate, word: &[bool], values: &[bool]) -> bool
-    ensures { result ≡ gate_value word.now (valuation values.now) gate }
-{
-    match gate {
-        Gate::Input(input) => word.get(input as usize).copied().unwrap_or(false),
-        Gate::Zero => false,
-        Gate::One => true,
-        Gate::Buf(x) => value_at(values, x),
-        Gate::Inv(x) => !value_at(values, x),
-        Gate::Maj(x, y, z) => {
-            let (x, y, z) = (
-                value_at(values, x),
-                value_at(values, y),
-                value_at(values, z),
-            );
-            (x && y) || (x && z) || (y && z)
-        }
-    }
-}
-
-/// The values of all gates, each after those that it names.
-fn values(alloc: Global, gates: &[Gate], word: &[bool]) -> Result<Vec<bool>, Memory>
-    requires { (n : ℕ) × AreGates n gates.now }
-    ensures { IfOk result (λ values. (v : ℕ → Bool) → Fits word.now v gates.now → (i : ℕ) →
-        i < length gates.now → valuation values.items i ≡ v i) }
-{
-    let mut values = Vec::with_capacity(alloc, gates.len())?;
-    for gate in gates {
-        let value = gate_value(*gate, word, &values);
-        values.push(value)?;
-    }
-    Ok(values)
-}
-
-/// The values of the outputs.
-fn shown(alloc: Global, outputs: &[u32], values: &[bool]) -> Result<Word, Memory>
-    ensures { IfOk result (λ word. word ≡ map (valuation values.now) outputs.now) }
-{
-    let mut word = List::new(alloc);
-    for output in outputs {
-        word.push(value_at(values, *output))?;
-    }
-    Ok(word)
-}
-
 impl Answers for PlainNet {
     ghost use Rattle.std.specs.Prelude.{length};
     ghost use Rattle.circuit.specs.PlainNets.{IsPlainNet, IsAnswer};
-    ghost use Rattle.circuit.specs.PlainAnswers.{some_answer, one_answer, answer_length};
+    ghost use Rattle.circuit.specs.Code.CellAnswers.{plain_is_cells, some_answer, one_answer, answer_length};
 
     ghost inputs = { λ n. n.inputs };
 
@@ -103,9 +49,9 @@ impl Answers for PlainNet {
 
     ghost valid = { IsPlainNet };
 
-    ghost some = { λ n x known long. some_answer n x known };
+    ghost some = { λ n x known long. some_answer n x (plain_is_cells n known) };
 
-    ghost only = { λ n x y z known long a b. one_answer n x y z known a b };
+    ghost only = { λ n x y z known long a b. one_answer n x y z (plain_is_cells n known) a b };
 
     ghost whole = { λ n x y known long a. answer_length n x y a };
 
@@ -118,7 +64,7 @@ impl Answers for PlainNet {
     }
 
     fn answer(&self, alloc: Global, word: &Word) -> Result<Word, Memory> {
-        let values = values(alloc, self.gates.as_slice(), word.as_slice())?;
-        shown(alloc, self.outputs.as_slice(), &values)
+        let values = gate_values(alloc, self.gates.as_slice(), word.as_slice())?;
+        shown_values(alloc, self.outputs.as_slice(), &values)
     }
 }

@@ -9,8 +9,8 @@ use Rattle.circuit.specs.declared.gate.Gate.{Gate}
 use Rattle.circuit.specs.declared.gate.Gate.TheVariants.{Input}
 use Rattle.decide.specs.declared.edge.Edge.{Edge}
 use Rattle.decide.specs.declared.edge.Node.{Node}
-use Rattle.decide.specs.CellNets.{Reads, AreCells, value}
-use Rattle.decide.specs.CellAnswers.{gate_same, value_fits}
+use Rattle.circuit.specs.CellNets.{Reads, AreCells, value}
+use Rattle.circuit.specs.Code.CellAnswers.{gate_same, value_fits}
 use Rattle.decide.specs.Subfunctions.{gates_of}
 use Rattle.decide.specs.Code.Diagrams.{regular, flip, inputs_of, node_value, edge_value, IsDiagram}
 use Rattle.decide.specs.Code.Grown.{Grows, Represents, choice}

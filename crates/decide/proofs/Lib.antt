@@ -10,6 +10,5 @@ pub mod Gating
 pub mod Searching
 pub mod Narrowed
 pub mod Comparing
-pub mod Valuing
 pub mod Counting
 pub mod Reordered

@@ -8,7 +8,7 @@ use Rattle.std.proofs.lemmas.List.{get_or-set_same, drop-set-lt, length-set, len
 use Rattle.circuit.specs.PlainNets.{PlainView}
 use Rattle.decide.specs.declared.edge.Edge.{Edge}
 use Rattle.decide.specs.declared.edge.Node.{Node}
-use Rattle.decide.specs.CellNets.{value}
+use Rattle.circuit.specs.CellNets.{value}
 use Rattle.decide.specs.Subfunctions.{Name, IsName, subvalue, gates_of, Differ, IsConstant, EachTwo, AreSubfunctions, HasAtMost}
 use Rattle.decide.specs.Code.Diagrams.{flip, inputs_of, node_value, IsDiagram}
 use Rattle.decide.specs.Code.Named.{IsNamed, AreNamed}

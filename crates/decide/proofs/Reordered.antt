@@ -5,8 +5,8 @@ use Rattle.std.proofs.lemmas.List.{length-map, get_or-map}
 use Rattle.circuit.specs.Gates.{gate_value, Fits}
 use Rattle.circuit.specs.declared.gate.Gate.{Gate}
 use Rattle.circuit.specs.declared.gate.Gate.TheVariants.{Input, Zero, One, Buf, Inv, Maj}
-use Rattle.decide.specs.CellNets.{Reads, AreCells, value}
-use Rattle.decide.specs.CellAnswers.{value_fits, one_value}
+use Rattle.circuit.specs.CellNets.{Reads, AreCells, value}
+use Rattle.circuit.specs.Code.CellAnswers.{value_fits, one_value}
 use Rattle.decide.specs.declared.edge.Edge.{Edge}
 use Rattle.decide.specs.declared.edge.Node.{Node}
 use Rattle.decide.specs.Code.GateFunctions.{AreValues}

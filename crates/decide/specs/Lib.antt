@@ -1,5 +1,3 @@
-pub mod CellNets
-pub mod CellAnswers
 pub mod Subfunctions
 pub mod Verdicts
 pub mod Code

@@ -3,7 +3,7 @@ use Rattle.std.specs.Prelude.{◌≡◌, ◌≢◌, ℕ, suc, ◌<◌, ◌≤◌
 use Rattle.std.specs.List.{AllByRecursion}
 use Rattle.circuit.specs.PlainNets.{PlainView}
 use Rattle.circuit.specs.declared.gate.Gate.{Gate}
-use Rattle.decide.specs.CellNets.{value}
+use Rattle.circuit.specs.CellNets.{value}
 
 -- a subfunction's name: a gate of the first circuit, or of the second one, and the values of the first inputs
 pub record Name : Type 0 where

@@ -2,7 +2,7 @@
 use Rattle.std.specs.Prelude.{◌≡◌, ◌≢◌, ◌⊎◌, ℕ, ◌<◌, Bool, true, false, List, [], ◌∷◌, length, slice_index_or}
 use Rattle.circuit.specs.PlainNets.{PlainView, IsAnswer}
 use Rattle.circuit.specs.SameAnswers.{SameAnswers}
-use Rattle.decide.specs.CellNets.{value}
+use Rattle.circuit.specs.CellNets.{value}
 use Rattle.decide.specs.Subfunctions.{HasAtMost}
 use Rattle.decide.specs.declared.verdict.Verdict.{Verdict}
 use Rattle.decide.specs.declared.verdict.Verdict.TheVariants as verdict

@@ -1,7 +1,7 @@
 // Both circuits of a comparison in one diagram.
 ghost use Rattle.std.specs.Prelude.{◌≡◌, ℕ, ◌<◌, List, length, IfOk, IfErr, IfSome, IfNone};
 ghost use Rattle.std.specs.List.{AllByRecursion};
-ghost use Rattle.decide.specs.CellNets.{circuit, AreCells};
+ghost use Rattle.circuit.specs.CellNets.{circuit, AreCells};
 ghost use Rattle.decide.specs.Verdicts.{IsRefusal};
 ghost use Rattle.decide.specs.Code.Diagrams.{inputs_of};
 ghost use Rattle.decide.specs.Code.GateFunctions.{AreValues};

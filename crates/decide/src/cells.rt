@@ -1,10 +1,8 @@
 // Circuits of gates of which each names lower ones.
-ghost use Rattle.std.specs.Prelude.{◌≡◌, ℕ, Bool, ◌<◌, length, map, IfOk};
-ghost use Rattle.circuit.specs.Gates.{gate_value, valuation};
-ghost use Rattle.decide.specs.CellNets.{AreCells, value};
+ghost use Rattle.std.specs.Prelude.{◌≡◌, IfOk};
 
 use aq_base::{List, Memory};
-use circuit::{Answers, Gate, PlainNet, Word};
+use circuit::{Answers, Gate, PlainNet, Word, gate_values, shown_values};
 use std::alloc::Global;
 use std::marker::Model;
 
@@ -21,7 +19,7 @@ pub struct Cells {
 
 impl Model for Cells {
     ghost use Rattle.circuit.specs.PlainNets.{PlainView};
-    ghost use Rattle.decide.specs.CellNets.{IsCells};
+    ghost use Rattle.circuit.specs.CellNets.{IsCells};
 
     ghost Value = { PlainView };
 
@@ -31,7 +29,7 @@ impl Model for Cells {
 }
 
 /// A plain net as such a circuit: the same gates and outputs.
-#[tactic(auto, using(crate::specs::CellAnswers::plain_is_cells))]
+#[tactic(auto, using(circuit::specs::Code::CellAnswers::plain_is_cells))]
 pub fn plain_cells(alloc: Global, net: &PlainNet) -> Result<Cells, Memory>
     ensures { IfOk result (λ cells. cells ≡ net.now) }
 {
@@ -45,64 +43,11 @@ pub fn plain_cells(alloc: Global, net: &PlainNet) -> Result<Cells, Memory>
     })
 }
 
-/// The value of a gate; false past the last.
-fn value_at(values: &[bool], gate: u32) -> bool
-    ensures { result ≡ valuation values.now gate }
-{
-    values.get(gate as usize).copied().unwrap_or(false)
-}
-
-/// The value that a gate has where those that it names have these values.
-fn gate_value(gate: Gate, word: &[bool], values: &[bool]) -> bool
-    ensures { result ≡ gate_value word.now (valuation values.now) gate }
-{
-    match gate {
-        Gate::Input(input) => word.get(input as usize).copied().unwrap_or(false),
-        Gate::Zero => false,
-        Gate::One => true,
-        Gate::Buf(x) => value_at(values, x),
-        Gate::Inv(x) => !value_at(values, x),
-        Gate::Maj(x, y, z) => {
-            let (x, y, z) = (
-                value_at(values, x),
-                value_at(values, y),
-                value_at(values, z),
-            );
-            (x && y) || (x && z) || (y && z)
-        }
-    }
-}
-
-/// The values of all gates, each after those that it names.
-fn values(alloc: Global, gates: &[Gate], word: &[bool]) -> Result<Vec<bool>, Memory>
-    requires { (n : ℕ) × AreCells n gates.now }
-    ensures { IfOk result
-        (λ values. (i : ℕ) → i < length gates.now → valuation values.items i ≡ value gates.now word.now i) }
-{
-    let mut values = Vec::with_capacity(alloc, gates.len())?;
-    for gate in gates {
-        let value = gate_value(*gate, word, &values);
-        values.push(value)?;
-    }
-    Ok(values)
-}
-
-/// The values of the outputs, in order.
-fn shown(alloc: Global, outputs: &[u32], values: &[bool]) -> Result<Word, Memory>
-    ensures { IfOk result (λ word. word ≡ map (valuation values.now) outputs.now) }
-{
-    let mut word = List::new(alloc);
-    for output in outputs {
-        word.push(value_at(values, *output))?;
-    }
-    Ok(word)
-}
-
 impl Answers for Cells {
     ghost use Rattle.std.specs.Prelude.{length};
     ghost use Rattle.circuit.specs.PlainNets.{IsAnswer};
-    ghost use Rattle.decide.specs.CellNets.{IsCells};
-    ghost use Rattle.decide.specs.CellAnswers.{some_answer, one_answer, answer_length};
+    ghost use Rattle.circuit.specs.CellNets.{IsCells};
+    ghost use Rattle.circuit.specs.Code.CellAnswers.{some_answer, one_answer, answer_length};
 
     ghost inputs = { λ c. c.inputs };
 
@@ -127,7 +72,7 @@ impl Answers for Cells {
     }
 
     fn answer(&self, alloc: Global, word: &Word) -> Result<Word, Memory> {
-        let values = values(alloc, self.gates.as_slice(), word.as_slice())?;
-        shown(alloc, self.outputs.as_slice(), &values)
+        let values = gate_values(alloc, self.gates.as_slice(), word.as_slice())?;
+        shown_values(alloc, self.outputs.as_slice(), &values)
     }
 }

@@ -1,7 +1,7 @@
 // The functions of gates, as edges of a diagram.
 ghost use Rattle.std.specs.Prelude.{◌≡◌, ℕ, ◌<◌, Bool, length, IfOk, IfErr};
 ghost use Rattle.circuit.specs.PlainNets.{PlainView};
-ghost use Rattle.decide.specs.CellNets.{Reads, AreCells};
+ghost use Rattle.circuit.specs.CellNets.{Reads, AreCells};
 ghost use Rattle.decide.specs.Subfunctions.{gates_of};
 ghost use Rattle.decide.specs.Code.Diagrams.{regular, inputs_of};
 ghost use Rattle.decide.specs.Code.Grown.{Grows, Represents, IsFull};

@@ -1,7 +1,7 @@
 // Small circuits whose comparison is known, and random ones of which all words are tried as well.
 ghost use Rattle.std.specs.Prelude.{◌≡◌, ◌<◌, ◌^◌, IsTrue, IfOk, IfSome, length};
 ghost use Rattle.std.specs.List.{AllByRecursion};
-ghost use Rattle.decide.specs.CellNets.{Reads, AreCells};
+ghost use Rattle.circuit.specs.CellNets.{Reads, AreCells};
 
 use crate::{Cells, DecideRefusal, Verdict, decide};
 use aq_base::{List, Memory};

@@ -1,7 +1,7 @@
 // The comparison of two circuits, for all words.
 ghost use Rattle.std.specs.Prelude.{◌≡◌, ◌<◌, ◌^◌, length, IfOk, IfErr, IfSome};
 ghost use Rattle.circuit.specs.PlainNets.{PlainView};
-ghost use Rattle.decide.specs.CellNets.{circuit, IsCells};
+ghost use Rattle.circuit.specs.CellNets.{circuit, IsCells};
 ghost use Rattle.decide.specs.Verdicts.{IsVerdict, IsRefusal};
 
 use crate::both::Both;

@@ -13,7 +13,7 @@ use crate::fields::{coordinate, number, rectangle};
 use crate::numbers::{Numbers, number_of, small_number};
 use crate::outline::NamedOutline;
 use crate::values::{is_rectangle, trimmed};
-use aq_base::{Bytes, List, Memory};
+use aq_base::{Bytes, List, Memory, Text};
 use gds_records::codes::{BOUNDARY, DATATYPE, LAYER, SNAME, SREF, STRING, XY};
 use geom::{Element, Label, Shape};
 use std::alloc::Global;
@@ -64,7 +64,7 @@ pub fn label(alloc: Global, part: &[u8], xy: &[u8]) -> Result<Label, Memory>
     ensures y { IfOk result (λ label. label.y ≡ coordinate xy.now 1) }
     ensures text { IfOk result (λ label. label.text ≡ trimmed (field STRING (records_in part.now))) }
 {
-    let text = copied(alloc, trimmed(field(part, STRING)))?;
+    let text = Text::from_vec(copied(alloc, trimmed(field(part, STRING)))?.into_vec())?;
     Ok(Label {
         layer: number(field(part, LAYER)),
         x: coordinate(xy, 0),

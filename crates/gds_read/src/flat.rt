@@ -5,7 +5,7 @@ ghost use Rattle.geom.specs.Rectangle.{moved};
 ghost use Rattle.geom.specs.FlatForm.{moved_shape, moved_label, own_shapes, own_labels, elements_at, flat_shapes, flat_labels, flat_of};
 ghost use Rattle.gds_read.specs.Flattening.{IsNarrow, IsMovable, IsPlaced, IsFlattenable};
 
-use aq_base::{Bytes, List, Memory};
+use aq_base::{List, Memory};
 use geom::{Element, Flat, Label, Layout, Rect, Shape, Structure};
 use std::alloc::Global;
 
@@ -43,39 +43,29 @@ fn moved_shape(shape: &Shape, by: &Offset) -> Shape
     }
 }
 
-fn copy(alloc: Global, text: &Bytes) -> Result<Bytes, Memory>
-    ensures { IfOk result (λ t. t ≡ text.now) }
-{
-    let mut bytes = Vec::new(alloc);
-    bytes.extend_from_slice(text.as_slice())?;
-    Ok(List::from_vec(bytes))
-}
-
-fn moved_label(alloc: Global, label: &Label, by: &Offset) -> Result<Label, Memory>
+fn moved_label(label: &Label, by: &Offset) -> Result<Label, Memory>
     requires label_x { FitsSigned w32 label.now.x }
     requires label_y { FitsSigned w32 label.now.y }
     requires x { FitsSigned w32 by.now.x }
     requires y { FitsSigned w32 by.now.y }
     ensures { IfOk result (λ l. l ≡ moved_label by.now.x by.now.y label.now) }
 {
-    let text = copy(alloc, &label.text)?;
     Ok(Label {
         layer: label.layer,
         x: label.x + by.x,
         y: label.y + by.y,
-        text,
+        text: label.text.clone()?,
     })
 }
 
-fn same_label(alloc: Global, label: &Label) -> Result<Label, Memory>
+fn same_label(label: &Label) -> Result<Label, Memory>
     ensures { IfOk result (λ l. l ≡ label.now) }
 {
-    let text = copy(alloc, &label.text)?;
     Ok(Label {
         layer: label.layer,
         x: label.x,
         y: label.y,
-        text,
+        text: label.text.clone()?,
     })
 }
 
@@ -87,12 +77,7 @@ struct Flattened {
 }
 
 // Adds the shape or the label of an element, moved; a reference adds nothing.
-fn add_moved(
-    alloc: Global,
-    element: &Element,
-    by: &Offset,
-    flat: &mut Flattened,
-) -> Result<(), Memory>
+fn add_moved(element: &Element, by: &Offset, flat: &mut Flattened) -> Result<(), Memory>
     requires element { IsMovable element.now }
     requires x { FitsSigned w32 by.now.x }
     requires y { FitsSigned w32 by.now.y }
@@ -103,18 +88,13 @@ fn add_moved(
         Element::Box(shape) => flat.shapes.push(moved_shape(shape, by)),
         Element::Place { .. } => Ok(()),
         Element::Text(label) => {
-            let label = moved_label(alloc, label, by)?;
+            let label = moved_label(label, by)?;
             flat.labels.push(label)
         }
     }
 }
 
-fn add_all_moved(
-    alloc: Global,
-    elements: &[Element],
-    by: &Offset,
-    flat: &mut Flattened,
-) -> Result<(), Memory>
+fn add_all_moved(elements: &[Element], by: &Offset, flat: &mut Flattened) -> Result<(), Memory>
     requires elements { All IsMovable elements.now }
     requires x { FitsSigned w32 by.now.x }
     requires y { FitsSigned w32 by.now.y }
@@ -122,13 +102,12 @@ fn add_all_moved(
     ensures labels { OnOk result (flat.new.labels ≡ flat.old.labels ++ map (moved_label by.now.x by.now.y) (own_labels elements.now)) }
 {
     for element in elements {
-        add_moved(alloc, element, by, flat)?;
+        add_moved(element, by, flat)?;
     }
     Ok(())
 }
 
 fn add_reference(
-    alloc: Global,
     structures: &[Structure],
     structure: u32,
     by: &Offset,
@@ -142,16 +121,11 @@ fn add_reference(
     ensures labels { OnOk result (flat.new.labels ≡ flat.old.labels ++ map (moved_label by.now.x by.now.y) (own_labels (elements_at structures.now structure))) }
 {
     let named = &structures[structure as usize];
-    add_all_moved(alloc, named.elements.as_slice(), by, flat)
+    add_all_moved(named.elements.as_slice(), by, flat)
 }
 
 // Adds an element's shape or label, or those of the structure that it refers to.
-fn add(
-    alloc: Global,
-    structures: &[Structure],
-    element: &Element,
-    flat: &mut Flattened,
-) -> Result<(), Memory>
+fn add(structures: &[Structure], element: &Element, flat: &mut Flattened) -> Result<(), Memory>
     requires element { IsPlaced (length structures.now) element.now }
     requires structures { All (λ s. All IsMovable s.elements) structures.now }
     ensures shapes { OnOk result (flat.new.shapes ≡ flat.old.shapes ++ flat_shapes structures.now (element.now ∷ [])) }
@@ -161,17 +135,16 @@ fn add(
         Element::Box(shape) => flat.shapes.push(*shape),
         Element::Place { structure, x, y } => {
             let by = Offset { x: *x, y: *y };
-            add_reference(alloc, structures, *structure, &by, flat)
+            add_reference(structures, *structure, &by, flat)
         }
         Element::Text(label) => {
-            let label = same_label(alloc, label)?;
+            let label = same_label(label)?;
             flat.labels.push(label)
         }
     }
 }
 
 fn add_all(
-    alloc: Global,
     structures: &[Structure],
     elements: &[Element],
     flat: &mut Flattened,
@@ -184,7 +157,7 @@ fn add_all(
     ensures labels { OnOk result (flat.new.labels ≡ flat_labels structures.now elements.now) }
 {
     for element in elements {
-        add(alloc, structures, element, flat)?;
+        add(structures, element, flat)?;
     }
     Ok(())
 }
@@ -201,7 +174,7 @@ pub fn flatten(alloc: Global, layout: &Layout) -> Result<Flat, Memory>
         labels: List::new(alloc),
     };
     let top = &structures[layout.top as usize];
-    add_all(alloc, structures, top.elements.as_slice(), &mut flat)?;
+    add_all(structures, top.elements.as_slice(), &mut flat)?;
     let Flattened { shapes, labels } = flat;
     Ok(Flat { shapes, labels })
 }

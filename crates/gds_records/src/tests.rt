@@ -3,7 +3,7 @@ ghost use Rattle.std.specs.Prelude.{◌≡◌, IfOk, IsSome};
 ghost use Rattle.geom.specs.FirstChip.{first_layout, first_buffer, first_top};
 
 use crate::{Head, WriteRefusal, record_head, write_stream};
-use aq_base::{Files, List, MemFiles, Memory};
+use aq_base::{Files, List, MemFiles, Memory, Text};
 use geom::{Element, Label, Layout, Rect, Shape, Structure};
 use std::alloc::Global;
 
@@ -131,8 +131,8 @@ fn buffer(alloc: Global) -> Result<Structure, Memory>
 fn top(alloc: Global) -> Result<Structure, Memory>
     ensures { IfOk result (λ s. s ≡ first_top) }
 {
-    let input = text(alloc, b"I0")?;
-    let output = text(alloc, b"O0")?;
+    let input = Text::from_vec(text(alloc, b"I0")?.into_vec())?;
+    let output = Text::from_vec(text(alloc, b"O0")?.into_vec())?;
     let elements = vec![in alloc;
         Element::Place {
             structure: 0,

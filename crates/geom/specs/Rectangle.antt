@@ -1,5 +1,6 @@
 -- Rectangles with sides along the axes, in database units of one nanometre.
 use Rattle.std.specs.Prelude.{◌≡◌, ℕ, List, slice_get, Some, Bool, max, ℤ, pos, negsuc, ◌<ℤ◌, ◌≤ℤ◌, ◌+ℤ◌, ◌-ℤ◌, int_le, int_lt, ◌&&◌}
+use Rattle.std.specs.Int.{int_min, int_max}
 
 -- what a contract sees of a rectangle: its lower left corner and its upper right corner
 pub record Rectangle : Type 0 where
@@ -85,3 +86,15 @@ grown margin r = record { x0 = r.x0 -ℤ pos margin; y0 = r.y0 -ℤ pos margin; 
 -- the rectangle moved by a vector
 abbrev pub moved : ℤ → ℤ → Rectangle → Rectangle
 moved x y r = record { x0 = r.x0 +ℤ x; y0 = r.y0 +ℤ y; x1 = r.x1 +ℤ x; y1 = r.y1 +ℤ y }
+
+-- the left edge of a rectangle, which is one without width
+abbrev pub left_edge : Rectangle → Rectangle
+left_edge r = record { x0 = r.x0; y0 = r.y0; x1 = r.x0; y1 = r.y1 }
+
+-- its right edge
+abbrev pub right_edge : Rectangle → Rectangle
+right_edge r = record { x0 = r.x1; y0 = r.y0; x1 = r.x1; y1 = r.y1 }
+
+-- the rectangle that two have in common
+abbrev pub common : Rectangle → Rectangle → Rectangle
+common a b = record { x0 = int_max a.x0 b.x0; y0 = int_max a.y0 b.y0; x1 = int_min a.x1 b.x1; y1 = int_min a.y1 b.y1 }

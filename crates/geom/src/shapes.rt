@@ -1,6 +1,6 @@
 // Shapes and labels by themselves, as an extractor sees them.
 use crate::rectangle::Rect;
-use aq_base::{Bytes, List};
+use aq_base::{List, Text};
 
 /// A rectangle on a layer.
 #[derive(Clone, Copy, Debug, PartialEq, Eq)]
@@ -10,13 +10,13 @@ pub struct Shape {
     pub rect: Rect,
 }
 
-/// A text at a point of a layer.
+/// A text at a point of a layer. Labels that repeat it share its bytes.
 #[derive(Clone, Debug, Drop, PartialEq)]
 pub struct Label {
     pub layer: u16,
     pub x: i64,
     pub y: i64,
-    pub text: Bytes,
+    pub text: Text,
 }
 
 /// The shapes and labels of a layout without references, in element order: together fewer than 2^32.

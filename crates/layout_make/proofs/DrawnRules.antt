@@ -5,7 +5,7 @@ use Rattle.std.specs.Prelude.{pos, ◌-ℤ◌, ℤ, int_le, int_lt, nat_lt}
 use Rattle.std.proofs.lemmas.Bool.Decides.{nat_tests}
 use Rattle.std.proofs.lemmas.Int.{ints}
 use Rattle.std.specs.Int.{int_min, int_max}
-use Rattle.layout_rules.specs.GeometryRules.{common}
+use Rattle.geom.specs.Rectangle.{common}
 use Rattle.cell_library.specs.Library.{limits_of}
 use Rattle.layout_make.specs.Lawful.{IsLawful}
 use Rattle.circuit.specs.declared.cell_kind.CellKind.{CellKind}

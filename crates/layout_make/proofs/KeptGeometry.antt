@@ -14,7 +14,8 @@ use Rattle.layout_rules.specs.Pins.{lies_in}
 use Rattle.layout_rules.specs.Reports.{ReportsNone}
 use Rattle.layout_rules.proofs.PlaceLaws.{list_any-at}
 use Rattle.layout_rules.specs.GeometryRules.{is_too_small, SizesBroken, are_too_close, SpacingBroken, is_covered}
-use Rattle.layout_rules.specs.GeometryRules.{EnclosureBroken, common, is_at_pin, CoverBroken, FramesBroken}
+use Rattle.layout_rules.specs.GeometryRules.{EnclosureBroken, is_at_pin, CoverBroken, FramesBroken}
+use Rattle.geom.specs.Rectangle.{common}
 use Rattle.layout_rules.specs.LengthRule.{length_in, net_length, LengthsBroken}
 use Rattle.cell_library.specs.Library.{LibraryView, limits_of}
 use Rattle.layout_make.specs.KeptRules.{G1, G2, G3, G4, G5, Encloses, OverPin}

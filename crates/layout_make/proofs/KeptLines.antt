@@ -12,7 +12,8 @@ use Rattle.layout_rules.specs.Rows.{AreRows, row_of}
 use Rattle.layout_rules.proofs.RowLaws.{row_of-certified}
 use Rattle.layout_rules.specs.Reports.{ReportsNone, Passes}
 use Rattle.layout_rules.proofs.ReportLaws.{Afterwards-none}
-use Rattle.layout_rules.specs.ExcitationLines.{Contact, IsPart, IsChain, left_edge, right_edge, enters}
+use Rattle.layout_rules.specs.ExcitationLines.{Contact, IsPart, IsChain, enters}
+use Rattle.geom.specs.Rectangle.{left_edge, right_edge}
 use Rattle.layout_rules.specs.ExcitationLines.{leaves, phase_of}
 use Rattle.layout_rules.specs.ExcitationRule.{is_no_part, LacksOneStart, IsMisjoined, IsCutOff}
 use Rattle.layout_rules.specs.ExcitationRule.{IsExcited, ExcitationBroken}

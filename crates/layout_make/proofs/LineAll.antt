@@ -17,7 +17,7 @@ use Rattle.layout_make.specs.Nets.{Fits, At, IsDrawn, HasCells}
 use Rattle.rowed.specs.Numbers.{numbers}
 use Rattle.layout_make.specs.Layered.{is_line}
 use Rattle.layout_make.specs.Lines.{Contact, IsOf, IsRoute, phase_of, IsLineAt, E2}
-use Rattle.layout_rules.specs.ExcitationLines.{left_edge, right_edge}
+use Rattle.geom.specs.Rectangle.{left_edge, right_edge}
 use Rattle.layout_rules.specs.Rows.{AreRows}
 use Rattle.layout_make.proofs.Columns.{next_edge, edges_apart}
 use Rattle.layout_make.proofs.Joins.{from_map, to_map, shapes_of, same_at}

@@ -5,7 +5,8 @@ use Rattle.circuit.specs.declared.cell_kind.CellKind.{CellKind}
 use Rattle.circuit.specs.CellKinds.{number_of, inputs_of, outputs_of}
 use Rattle.geom.specs.Rectangle.{Rectangle, overlap, within, grown}
 use Rattle.geom.specs.declared.shapes.Shape.{Shape}
-use Rattle.layout_rules.specs.GeometryRules.{is_too_small, are_too_close, common}
+use Rattle.layout_rules.specs.GeometryRules.{is_too_small, are_too_close}
+use Rattle.geom.specs.Rectangle.{common}
 use Rattle.layout_make.specs.Layered.{is_pin}
 
 -- shape a stands at number i

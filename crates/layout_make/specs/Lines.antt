@@ -2,7 +2,7 @@
 use Rattle.std.specs.Prelude.{◌≡◌, ◌≢◌, ℕ, ◌-◌, ◌%◌, ◌<◌, ◌⊎◌, true, List, [], ◌∷◌, slice_get, Some, if◌then◌else◌, not}
 use Rattle.std.specs.Prelude.{ℤ}
 use Rattle.geom.specs.Rectangle.{share_point, overlap, within}
-use Rattle.layout_rules.specs.ExcitationLines.{left_edge, right_edge}
+use Rattle.geom.specs.Rectangle.{left_edge, right_edge}
 use Rattle.layout_make.specs.Layered.{is_line}
 use Rattle.geom.specs.declared.shapes.Shape.{Shape}
 

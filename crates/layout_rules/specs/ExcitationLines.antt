@@ -3,7 +3,7 @@
 use Rattle.std.specs.Prelude.{◌≡◌, ◌≢◌, ℕ, suc, ◌<◌, ◌==◌, ◌&&◌, ◌||◌, not, Bool, true, List, [], ◌∷◌, length}
 use Rattle.std.specs.Prelude.{slice_get, slice_index, Some, if◌then◌else◌}
 use Rattle.geom.specs.declared.shapes.Shape.{Shape}
-use Rattle.geom.specs.Rectangle.{Rectangle, share_point}
+use Rattle.geom.specs.Rectangle.{Rectangle, share_point, left_edge, right_edge}
 use Rattle.layout_rules.specs.declared.layers.TheConstants.{EVEN_LINE, BAR, START}
 use Rattle.layout_rules.specs.Layers.{is_line}
 use Rattle.layout_rules.specs.Reports.{Passes}
@@ -66,14 +66,6 @@ pub record Before (shapes : List Shape) (a b : ℕ) : Type 0 where
   pub within : suc place < length path
   pub first_is : slice_index path place ≡ a
   pub second_is : slice_index path (suc place) ≡ b
-
--- the left edge of a rectangle, which is one without width
-abbrev pub left_edge : Rectangle → Rectangle
-left_edge r = record { x0 = r.x0; y0 = r.y0; x1 = r.x0; y1 = r.y1 }
-
--- its right edge
-abbrev pub right_edge : Rectangle → Rectangle
-right_edge r = record { x0 = r.x1; y0 = r.y0; x1 = r.x1; y1 = r.y1 }
 
 -- the shape shares a point with the bar's left edge
 abbrev pub at_left : Shape → Shape → Bool

@@ -2,10 +2,9 @@
 -- rules of planar processes have them.
 use Rattle.std.specs.Prelude.{ℕ, ◌<◌, ◌==◌, ◌&&◌, ◌||◌, not, Bool, List, nat_lt}
 use Rattle.std.specs.List.{list_any}
-use Rattle.std.specs.Int.{int_min, int_max}
 use Rattle.std.specs.Ordering.{int_eq}
 use Rattle.geom.specs.declared.shapes.Shape.{Shape}
-use Rattle.geom.specs.Rectangle.{Rectangle, width, height, gap_x, gap_y, share_point, within, overlap, meet_y, grown}
+use Rattle.geom.specs.Rectangle.{Rectangle, width, height, gap_x, gap_y, share_point, within, overlap, meet_y, grown, common}
 use Rattle.layout_rules.specs.declared.layers.TheConstants.{M1, M2}
 use Rattle.layout_rules.specs.Layers.{is_frame, is_pin, is_via, is_metal, is_lower, is_upper}
 use Rattle.layout_rules.specs.Limits.{Limits}
@@ -51,10 +50,6 @@ is_bare limits shapes v = is_via v
 -- a via that is bare
 abbrev pub EnclosureBroken : Limits → List Shape → ℕ → ℕ → Type 0
 EnclosureBroken limits shapes = Alone (Passes (is_bare limits shapes) shapes)
-
--- the rectangle that two have in common
-abbrev pub common : Rectangle → Rectangle → Rectangle
-common a b = record { x0 = int_max a.x0 b.x0; y0 = int_max a.y0 b.y0; x1 = int_min a.x1 b.x1; y1 = int_min a.y1 b.y1 }
 
 -- a pin of the frame holds all that the metal has in common with the frame
 abbrev pub is_at_pin : List Shape → Shape → Shape → Bool

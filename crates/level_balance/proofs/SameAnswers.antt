@@ -4,7 +4,7 @@ use Rattle.std.proofs.Common.{refl, sym, ap, ◌∙◌, subst, arith, get_or}
 use Rattle.std.proofs.lemmas.List.{ext_get_or, length-map, get_or-map}
 use Rattle.std.proofs.lemmas.Option.{none-some, slice_get-get_or, get_or_from_slice_get}
 use Rattle.circuit.specs.PlainNets.{PlainView, IsPlainNet, IsAnswer as IsGatesAnswer}
-use Rattle.circuit.specs.PlainAnswers.{some_answer as some_gates_answer}
+use Rattle.circuit.specs.Code.CellAnswers.{plain_is_cells, some_answer as some_gates_answer}
 use Rattle.circuit.specs.SameAnswers.{SameAnswers}
 use Rattle.rowed.specs.declared.row_cell.RowCell.{RowCell}
 use Rattle.rowed.specs.RowNets.{cell_at, output_at, last_of, IsRowNet, IsAnswer}
@@ -42,6 +42,6 @@ same_answers net three known kept = record {
       let s = some_answer (level_net net three) x kept in
       subst (IsAnswer (level_net net three) x) (sym (one_of_both net three known kept x y s.0 answer s.1)) s.1;
   back = λ x y long answer.
-      let s = some_gates_answer net x known in
+      let s = some_gates_answer net x (plain_is_cells net known) in
       subst (IsGatesAnswer net x) (one_of_both net three known kept x s.0 y s.1 answer) s.1;
 }

@@ -7,7 +7,8 @@ use Rattle.blif_read.specs.Netlist.{IsNetlist}
 use Rattle.blif_read.specs.Equations as equations
 use Rattle.blif_read.specs.OneAnswer.{some_valuation}
 use Rattle.circuit.specs.PlainNets.{PlainView, AreGates, IsPlainNet, IsAnswer}
-use Rattle.circuit.specs.PlainAnswers as plain
+use Rattle.circuit.specs.CellNets.{value}
+use Rattle.circuit.specs.Code.CellAnswers.{gates_read, value_fits}
 use Rattle.circuit.specs.SameAnswers.{SameAnswers}
 use Rattle.maj_mapping.specs.Plan.{map_net}
 use Rattle.maj_mapping.proofs.Ordered.{ordered}
@@ -41,8 +42,13 @@ keeps_map net ok = record {
   same_inputs = same_inputs net;
   same_outputs = same_count net;
   there = λ x y long answer.
-      let some = plain.some_valuation net.inputs (map_net net).gates (mapped_gates net (ordered net ok)).0 x in
-      record { values = some.0; fit = some.1; shown = answer.shown ∙ sym (same_outputs net (ordered net ok) x answer.values some.0 answer.fit some.1) };
+      let gates = (map_net net).gates in
+      let fit = value_fits net.inputs gates (gates_read net.inputs gates (mapped_gates net (ordered net ok)).0) x in
+      record {
+        values = value gates x;
+        fit = fit;
+        shown = answer.shown ∙ sym (same_outputs net (ordered net ok) x answer.values (value gates x) answer.fit fit);
+      };
   back = λ x y long answer.
       let some = some_valuation net x ok in
       record { values = some.0; fit = some.1; shown = answer.shown ∙ same_outputs net (ordered net ok) x some.0 answer.values some.1 answer.fit };

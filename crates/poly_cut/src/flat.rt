@@ -12,7 +12,7 @@ use crate::counts::{count_at, counts};
 use crate::cutting::cut;
 use crate::grids::grid_points;
 use crate::layout::{Figure, Grid, Item, Point, Turn, WideLayout, WideStructure};
-use crate::turns::{copied, placed_label, placed_shape};
+use crate::turns::{placed_label, placed_shape};
 use aq_base::{List, Memory};
 use geom::{Flat, Label, Rect, Shape};
 use std::alloc::Global;
@@ -55,7 +55,6 @@ fn add_shapes(
 
 /// Adds labels, turned and moved.
 fn add_labels(
-    alloc: Global,
     labels: &mut List<Label>,
     part: &[Label],
     turn: &Turn,
@@ -67,14 +66,13 @@ fn add_labels(
     ensures { OnOk result (labels.new ≡ labels.old ++ map (placed_label turn.now by.now) part.now) }
 {
     for label in part {
-        labels.push(placed_label(alloc, label, turn, by)?)?;
+        labels.push(placed_label(label, turn, by)?)?;
     }
     Ok(())
 }
 
 /// Adds a part at each of the points.
 fn add_copies(
-    alloc: Global,
     flat: &mut Part,
     part: &Part,
     turn: &Turn,
@@ -89,7 +87,7 @@ fn add_copies(
 {
     for point in points {
         add_shapes(&mut flat.shapes, part.shapes.as_slice(), turn, point)?;
-        add_labels(alloc, &mut flat.labels, part.labels.as_slice(), turn, point)?;
+        add_labels(&mut flat.labels, part.labels.as_slice(), turn, point)?;
     }
     Ok(())
 }
@@ -106,15 +104,14 @@ fn shape_on(layer: u16, datatype: u16, rect: &Rect) -> Shape
 }
 
 /// A copy of a label.
-fn copied_label(alloc: Global, label: &Label) -> Result<Label, Memory>
+fn copied_label(label: &Label) -> Result<Label, Memory>
     ensures { IfOk result (λ l. l ≡ label.now) }
 {
-    let text = copied(alloc, &label.text)?;
     Ok(Label {
         layer: label.layer,
         x: label.x,
         y: label.y,
-        text,
+        text: label.text.clone()?,
     })
 }
 
@@ -171,10 +168,10 @@ fn add_placed(
             }
             let part = part_of(alloc, structures, counts, depth, *structure)?;
             let points = grid_points(alloc, at, grid)?;
-            add_copies(alloc, flat, &part, turn, points.as_slice())
+            add_copies(flat, &part, turn, points.as_slice())
         }
         Item::Text(label) => {
-            let label = copied_label(alloc, label)?;
+            let label = copied_label(label)?;
             flat.labels.push(label)
         }
     }

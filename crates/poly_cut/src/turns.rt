@@ -5,9 +5,8 @@ ghost use Rattle.poly_cut.specs.Bounds.{IsWithin, IsShapeWithin, IsLabelWithin, 
 ghost use Rattle.geom.specs.Rectangle.{moved};
 
 use crate::layout::{Point, Turn};
-use aq_base::{Bytes, List, Memory};
+use aq_base::Memory;
 use geom::{Label, Rect, Shape};
-use std::alloc::Global;
 
 /// The rectangle, mirrored at the x axis.
 fn mirrored(rect: &Rect) -> Rect
@@ -81,15 +80,6 @@ pub fn placed_shape(shape: &Shape, turn: &Turn, by: &Point) -> Shape
     }
 }
 
-/// A copy of a text.
-pub fn copied(alloc: Global, text: &Bytes) -> Result<Bytes, Memory>
-    ensures { IfOk result (λ t. t ≡ text.now) }
-{
-    let mut bytes = Vec::new(alloc);
-    bytes.extend_from_slice(text.as_slice())?;
-    Ok(List::from_vec(bytes))
-}
-
 /// The point, mirrored at the x axis.
 fn mirrored_point(point: &Point) -> Point
     requires { IsNear (2 ^ 40) point.now }
@@ -144,7 +134,7 @@ pub fn added(point: &Point, by: &Point) -> Point
 }
 
 /// The label, its point turned and then moved by the other.
-pub fn placed_label(alloc: Global, label: &Label, turn: &Turn, by: &Point) -> Result<Label, Memory>
+pub fn placed_label(label: &Label, turn: &Turn, by: &Point) -> Result<Label, Memory>
     requires label { IsLabelWithin (2 ^ 40) label.now }
     requires turn { turn.now.quarter < 4 }
     requires by { IsNear (2 ^ 40) by.now }
@@ -159,6 +149,6 @@ pub fn placed_label(alloc: Global, label: &Label, turn: &Turn, by: &Point) -> Re
         layer: label.layer,
         x: place.x,
         y: place.y,
-        text: copied(alloc, &label.text)?,
+        text: label.text.clone()?,
     })
 }

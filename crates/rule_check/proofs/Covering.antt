@@ -17,7 +17,8 @@ use Rattle.layout_rules.specs.Layers.{is_frame, is_via, is_upper}
 use Rattle.layout_rules.specs.Pins.{lies_in}
 use Rattle.layout_rules.proofs.PlaceLaws.{PassesAt, list_any-at, list_any-place}
 use Rattle.layout_rules.specs.Reports.{PassTogether}
-use Rattle.layout_rules.specs.GeometryRules.{common, is_at_pin, trespasses, CoverBroken}
+use Rattle.layout_rules.specs.GeometryRules.{is_at_pin, trespasses, CoverBroken}
+use Rattle.geom.specs.Rectangle.{common}
 use Rattle.shape_extract.specs.Searches.{FindsAt, passes_in}
 use Rattle.shape_extract.specs.Code.Sharing.{sharing_close, overlap_shares}
 use Rattle.rule_check.specs.Code.Cover.{is_at_pin_of, any_at, may_trespass, trespasses_by, FindsTrespass}

@@ -18,7 +18,8 @@ use Rattle.layout_rules.specs.Pins.{lies_in}
 use Rattle.layout_rules.proofs.PlaceLaws.{PassesAt, list_any-at, list_any-place}
 use Rattle.layout_rules.specs.Reports.{Passes, PassTogether}
 use Rattle.layout_rules.specs.GeometryRules.{are_of_one_group, are_too_close, SpacingBroken, is_covered, is_bare}
-use Rattle.layout_rules.specs.GeometryRules.{EnclosureBroken, common, trespasses, CoverBroken, collide}
+use Rattle.layout_rules.specs.GeometryRules.{EnclosureBroken, trespasses, CoverBroken, collide}
+use Rattle.geom.specs.Rectangle.{common}
 use Rattle.layout_rules.specs.GeometryRules.{FramesBroken}
 use Rattle.shape_extract.specs.declared.search.Report.{Report}
 use Rattle.shape_extract.specs.Searches.{Finds, AreThose}

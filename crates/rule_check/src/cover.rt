@@ -3,7 +3,8 @@ ghost use Rattle.std.specs.Prelude.{◌≡◌, ◌<◌, ◌^◌, ◌&&◌, int_l
 ghost use Rattle.std.specs.Int.{int_max, int_min};
 ghost use Rattle.geom.specs.Near.{rects_of};
 ghost use Rattle.geom.specs.Rectangle.{within};
-ghost use Rattle.layout_rules.specs.GeometryRules.{common, CoverBroken};
+ghost use Rattle.geom.specs.Rectangle.{common};
+ghost use Rattle.layout_rules.specs.GeometryRules.{CoverBroken};
 ghost use Rattle.shape_extract.specs.Searches.{Finds, FindsAt};
 ghost use Rattle.rule_check.specs.Code.Cover.{is_at_pin_of, AreWithin, any_at, may_trespass, trespasses_by};
 ghost use Rattle.rule_check.specs.Code.Cover.{FindsTrespass};
@@ -12,11 +13,9 @@ ghost use Rattle.rule_check.specs.Code.Sheets.{IsSheet};
 
 use crate::sheet::{Sheet, named};
 use aq_base::Memory;
-use geom::{Buckets, Rect, Shape};
+use geom::{Buckets, Rect, Shape, is_within, overlaps};
 use layout_rules::layers::M1;
-use shape_extract::{
-    Part, Report, first_of, is_frame, is_pin, is_upper, is_via, is_within, overlaps,
-};
+use shape_extract::{Part, Report, first_of, is_frame, is_pin, is_upper, is_via};
 use std::alloc::Global;
 
 /// Whether the first number is at most the greater of the others.

@@ -13,10 +13,8 @@ ghost use Rattle.rule_check.specs.Code.FiledRows.{AreFiledRows};
 
 use crate::sheet::named;
 use aq_base::{List, Memory};
-use geom::{Buckets, Rect, Shape, file_shapes};
-use shape_extract::{
-    PairTest, Part, Report, first_of, is_frame, list_partners, overlaps, shapes_at,
-};
+use geom::{Buckets, Rect, Shape, file_shapes, overlaps};
+use shape_extract::{PairTest, Part, Report, first_of, is_frame, list_partners, shapes_at};
 use std::alloc::Global;
 
 fn meets_in_y(a: &Rect, b: &Rect) -> bool

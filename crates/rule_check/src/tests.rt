@@ -3,7 +3,7 @@ ghost use Rattle.std.specs.Prelude.{◌+◌, ◌<◌, length};
 
 use crate::checking::{check, first_broken};
 use crate::limits::Limits;
-use aq_base::{List, Memory};
+use aq_base::{List, Memory, Text};
 use cell_library::library_a;
 use geom::{Flat, Label, Rect, Shape};
 use layout_rules::Rule;
@@ -172,7 +172,7 @@ fn label(alloc: Global, x: i32, y: i32, text: &[u8]) -> Result<Label, Memory> {
         layer: LABELS,
         x: i64::from(x),
         y: i64::from(y),
-        text: List::from_vec(text.to_vec(alloc)?),
+        text: Text::from_vec(text.to_vec(alloc)?)?,
     })
 }
 

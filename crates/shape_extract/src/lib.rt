@@ -10,7 +10,6 @@ mod extraction;
 mod layers;
 mod lines;
 mod pairs;
-mod rects;
 mod rules;
 mod search;
 mod tables;
@@ -26,7 +25,6 @@ pub use extraction::ExtractRefusal;
 pub use layers::{is_frame, is_lower, is_pin, is_upper, is_via};
 pub use layout_rules::Rule;
 pub use pairs::{PairTest, list_close_partners, list_partners};
-pub use rects::{is_within, overlaps};
 pub use rowed::Source;
 pub use search::{Part, Report, first_of};
 

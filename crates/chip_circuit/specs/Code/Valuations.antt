@@ -3,7 +3,8 @@ use Rattle.std.specs.Prelude.{◌≡◌, ℕ, suc, ◌<◌, Bool, false, List, [
 use Rattle.std.proofs.Common.{refl, sym, ap, ◌∙◌, subst, arith}
 use Rattle.std.proofs.lemmas.List.{length-map}
 use Rattle.circuit.specs.Function.{value_of}
-use Rattle.circuit.specs.Ranked.{IsRanked, Solves, solution, some_solution, one_solution}
+use Rattle.circuit.specs.Ranked.{IsRanked, Solves, solution}
+use Rattle.circuit.specs.Code.Solutions.{some_solution, one_solution}
 use Rattle.rowed.specs.declared.source.Source.{Source}
 use Rattle.chip_circuit.specs.declared.cells.Feed.{Feed}
 use Rattle.chip_circuit.specs.declared.cells.Feed.TheVariants.{Nothing, Pin, Label}

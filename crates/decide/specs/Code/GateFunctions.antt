@@ -4,7 +4,7 @@ use Rattle.circuit.specs.Gates.{gate_value}
 use Rattle.circuit.specs.declared.gate.Gate.{Gate}
 use Rattle.decide.specs.declared.edge.Edge.{Edge}
 use Rattle.decide.specs.declared.edge.Node.{Node}
-use Rattle.decide.specs.CellNets.{value}
+use Rattle.circuit.specs.CellNets.{value}
 use Rattle.decide.specs.Code.Diagrams.{regular, edge_value}
 
 -- the edge of a gate

@@ -1,7 +1,7 @@
 -- The outputs of two circuits, as edges of one diagram.
 use Rattle.std.specs.Prelude.{◌≡◌, ℕ, ◌<◌, Bool, List, length, slice_index_or}
 use Rattle.circuit.specs.declared.gate.Gate.{Gate}
-use Rattle.decide.specs.CellNets.{value}
+use Rattle.circuit.specs.CellNets.{value}
 use Rattle.decide.specs.declared.edge.Edge.{Edge}
 use Rattle.decide.specs.declared.edge.Node.{Node}
 use Rattle.decide.specs.Code.Diagrams.{edge_value}

@@ -18,10 +18,9 @@ ghost use Rattle.shape_extract.specs.Code.Lines.{AreWalked, GoesOnWrongly};
 
 use crate::lines::contacts::{is_part, list_contacts};
 use crate::lines::reached_parts::is_reached;
-use crate::rects::{holds_in_x, meets_in_y};
 use crate::search::{Part, Report, first_of};
 use aq_base::Memory;
-use geom::{Buckets, Shape};
+use geom::{Buckets, Shape, holds_in_x, touches_in_y};
 use layout_rules::layers::BAR;
 use std::alloc::Global;
 
@@ -29,14 +28,14 @@ use std::alloc::Global;
 pub fn at_left(s: &Shape, bar: &Shape) -> bool
     ensures { result ≡ at_left s.now bar.now }
 {
-    holds_in_x(&s.rect, bar.rect.x0) && meets_in_y(&s.rect, &bar.rect)
+    holds_in_x(&s.rect, bar.rect.x0) && touches_in_y(&s.rect, &bar.rect)
 }
 
 /// Whether the shape shares a point with the bar's right edge.
 fn at_right(s: &Shape, bar: &Shape) -> bool
     ensures { result ≡ at_right s.now bar.now }
 {
-    holds_in_x(&s.rect, bar.rect.x1) && meets_in_y(&s.rect, &bar.rect)
+    holds_in_x(&s.rect, bar.rect.x1) && touches_in_y(&s.rect, &bar.rect)
 }
 
 fn at_left_only(s: &Shape, bar: &Shape) -> bool

@@ -17,11 +17,10 @@ use crate::lines::contacts::is_part;
 use crate::lines::crossed_bars::at_left;
 use crate::lines::reached_parts::is_reached;
 use crate::pairs::{PairTest, list_partners};
-use crate::rects::{is_within, overlaps};
 use crate::search::Report;
 use crate::tables::row_edges::{lower_edge, row_at};
 use aq_base::Memory;
-use geom::{Buckets, Shape};
+use geom::{Buckets, Shape, is_within, overlaps};
 use layout_rules::layers::{BAR, EVEN_LINE};
 use std::alloc::Global;
 

@@ -2,8 +2,7 @@
 ghost use Rattle.std.specs.Prelude.{◌≡◌, length, slice_index};
 ghost use Rattle.layout_rules.specs.Labels.{marked_layer, marks};
 
-use crate::rects::holds_point;
-use geom::{Label, Shape};
+use geom::{Label, Shape, holds_point};
 use layout_rules::layers::{INPUT_PIN, LABELS, OUTPUT_PIN};
 
 /// The first byte of a text, and 0 where it is empty.

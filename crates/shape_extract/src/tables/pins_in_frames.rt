@@ -4,8 +4,7 @@ ghost use Rattle.layout_rules.specs.Pins.{lies_in};
 
 use crate::layers::{is_frame, is_pin};
 use crate::pairs::PairTest;
-use crate::rects::is_within;
-use geom::Shape;
+use geom::{Shape, is_within};
 
 fn lies_in(pin: &Shape, frame: &Shape) -> bool
     ensures { result ≡ lies_in pin.now frame.now }

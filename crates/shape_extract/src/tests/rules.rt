@@ -3,7 +3,7 @@ ghost use Rattle.std.specs.Prelude.{◌+◌, ◌<◌, length};
 
 use crate::tests::lines::{drawn, first_shapes};
 use crate::{ExtractRefusal, Rule, extract};
-use aq_base::{List, Memory};
+use aq_base::{List, Memory, Text};
 use chip_circuit::two_buffers;
 use geom::{Flat, Label, Shape};
 use layout_rules::layers::{BAR, EVEN_LINE, FRAME, INPUT_PIN, LABELS, M1, OUTPUT_PIN};
@@ -24,7 +24,7 @@ fn label_of(alloc: Global, named: Named) -> Result<Label, Memory> {
         layer: LABELS,
         x: i64::from(named.0),
         y: i64::from(named.1),
-        text: List::from_vec(named.2.to_vec(alloc)?),
+        text: Text::from_vec(named.2.to_vec(alloc)?)?,
     })
 }
 

@@ -1,6 +1,6 @@
 use Rattle.std.proofs.Common.{◌≡◌, ℕ, ◌<◌, slice_get, Some}
 use Rattle.circuit.specs.declared.gate.Gate.{Gate}
-use Rattle.decide.specs.CellNets.{Reads}
+use Rattle.circuit.specs.CellNets.{Reads}
 use Rattle.decide.proofs.tests.all_read.Given as goal
 
 abbrev pub invariant-loop-place : goal.invariant-loop-place

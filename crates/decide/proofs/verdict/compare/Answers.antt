@@ -1,5 +1,5 @@
 use Rattle.std.proofs.Common.{refl}
-use Rattle.decide.specs.CellNets.{circuit}
+use Rattle.circuit.specs.CellNets.{circuit}
 use Rattle.decide.specs.Verdicts.{IsRefusal}
 use Rattle.decide.proofs.Comparing.{err_is, outputs_inside, read_values, edge_read, same_least, all_alike, least_difference}
 use Rattle.decide.proofs.verdict.compare.Goals as goal

@@ -1,5 +1,5 @@
 use Rattle.std.proofs.Common.{length, refl, ◌∙◌}
-use Rattle.decide.specs.CellNets.{circuit}
+use Rattle.circuit.specs.CellNets.{circuit}
 use Rattle.decide.specs.Code.Orders.{arranged}
 use Rattle.decide.proofs.Comparing.{outputs_inside, edge_read, same_least, all_alike, least_difference}
 use Rattle.decide.proofs.Reordered.{read_again, reads_again, undone_order}

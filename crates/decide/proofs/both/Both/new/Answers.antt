@@ -1,5 +1,5 @@
 use Rattle.std.proofs.Common.{true, false, length, refl, ◌∙◌}
-use Rattle.decide.specs.CellNets.{circuit}
+use Rattle.circuit.specs.CellNets.{circuit}
 use Rattle.decide.specs.Verdicts.{IsRefusal}
 use Rattle.decide.proofs.Remembering.{inputs_same}
 use Rattle.decide.proofs.Comparing.{values_grown, none_named, refused, err_is}

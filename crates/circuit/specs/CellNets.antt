@@ -2,7 +2,7 @@
 use Rattle.std.specs.Prelude.{◌≡◌, ℕ, ◌<◌, ◌^◌, Bool, List, length, Some, slice_get}
 use Rattle.std.specs.List.{AllByRecursion}
 use Rattle.circuit.specs.PlainNets.{PlainView}
-use Rattle.circuit.specs.PlainAnswers.{equation}
+use Rattle.circuit.specs.Gates.{equation}
 use Rattle.circuit.specs.Ranked.{solution}
 use Rattle.circuit.specs.declared.gate.Gate.{Gate}
 use Rattle.circuit.specs.declared.gate.Gate.TheVariants.{Input, Zero, One, Buf, Inv, Maj}

@@ -1,16 +1,17 @@
 -- A circuit of such gates has one answer to each word: the values that its gates' equations give.
-use Rattle.std.specs.Prelude.{◌≡◌, ℕ, zero, suc, not, ◌<◌, Bool, List, length, map, Option, Some, None, slice_get}
+use Rattle.std.specs.Prelude.{◌≡◌, ℕ, zero, suc, not, ◌<◌, Bool, List, [], ◌∷◌, length, map, Option, Some, None, slice_get}
+use Rattle.std.specs.List.{AllByRecursion}
 use Rattle.std.proofs.Common.{refl, sym, ap, ◌∙◌, arith, get_or}
 use Rattle.std.proofs.lemmas.Option.{slice_get-get_or}
 use Rattle.std.proofs.lemmas.List.{length-map}
-use Rattle.circuit.specs.Gates.{gate_value, Fits}
-use Rattle.circuit.specs.PlainNets.{PlainView, MayStand, IsPlainNet, IsAnswer}
-use Rattle.circuit.specs.PlainAnswers.{equation, equation_of, same_shown}
+use Rattle.circuit.specs.Gates.{gate_value, Fits, equation_of, equation}
+use Rattle.circuit.specs.PlainNets.{PlainView, MayStand, AreGates, IsPlainNet, IsAnswer}
 use Rattle.circuit.specs.Function.{majority}
-use Rattle.circuit.specs.Ranked.{IsRanked, solution, some_solution}
+use Rattle.circuit.specs.Ranked.{IsRanked, solution}
+use Rattle.circuit.specs.Code.Solutions.{some_solution}
 use Rattle.circuit.specs.declared.gate.Gate.{Gate}
 use Rattle.circuit.specs.declared.gate.Gate.TheVariants.{Input, Zero, One, Buf, Inv, Maj}
-use Rattle.decide.specs.CellNets.{Reads, AreCells, IsCells, value}
+use Rattle.circuit.specs.CellNets.{Reads, AreCells, IsCells, value}
 
 -- a gate reads lower gates alone
 pub gate_same : (n i : ℕ) (g : Gate) → Reads n i g → (word : List Bool) (v w : ℕ → Bool)
@@ -57,6 +58,13 @@ module _ (n : ℕ) (gates : List Gate) (ok : AreCells n gates) (word : List Bool
   pub one_value : (v : ℕ → Bool) → Fits word v gates → (i : ℕ) → i < length gates → v i ≡ value gates word i
   one_value v fits i within = fits_below v (value gates word) fits value_fits (suc i) i (omega arith) within
 
+-- values that agree at the gates show the same outputs
+pub same_shown : (v w : ℕ → Bool) (count : ℕ) → ((i : ℕ) → i < count → v i ≡ w i)
+    → (outputs : List ℕ) → AllByRecursion (λ x. x < count) outputs → map v outputs ≡ map w outputs
+same_shown v w count same [] all = refl
+same_shown v w count same (o ∷ os) all =
+    ap (λ b. b ∷ map v os) (same o all.0) ∙ ap (λ bs. w o ∷ bs) (same_shown v w count same os all.1)
+
 -- a gate that may stand in a plain net reads lower ones
 stands_reads : (n i : ℕ) (g : Gate) → MayStand n i g → Reads n i g
 stands_reads n i (Input k) may = omega arith
@@ -66,10 +74,14 @@ stands_reads n i (Buf x) may = may.1
 stands_reads n i (Inv x) may = may.1
 stands_reads n i (Maj x y z) may = (may.1, may.2, may.3)
 
+-- so do the gates of a plain net
+pub gates_read : (n : ℕ) (gates : List Gate) → AreGates n gates → AreCells n gates
+gates_read n gates ok i g is = stands_reads n i g (ok.stands i g is)
+
 -- a plain net is such a circuit
 pub plain_is_cells : (net : PlainView) → IsPlainNet net → IsCells net
 plain_is_cells net ok = record {
-  gates_read = λ i g is. stands_reads net.inputs i g (ok.gates_stand.stands i g is);
+  gates_read = gates_read net.inputs net.gates ok.gates_stand;
   each_output = ok.each_output;
   few_outputs = ok.few_outputs;
 }

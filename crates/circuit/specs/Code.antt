@@ -1,0 +1,3 @@
+pub mod Solutions
+pub mod CellAnswers
+pub mod SameThen
