@@ -1,4 +1,6 @@
--- Words of the code alone: the segments of a path, the steps of a grid, and the sweep over a ring.
+-- Words of the code alone: the segments of a path, the steps of a grid, the sweep over a ring, and
+-- items that are ready to be added.
 pub mod Strokes
 pub mod Strides
 pub mod Sweeping
+pub mod Readied

@@ -1,20 +1,20 @@
 // The flat form of a wide layout.
-ghost use Rattle.std.specs.Prelude.{◌≡◌, ◌≤◌, ◌<◌, ◌^◌, ◌++◌, [], ℕ, map, length, All, IfOk, OnOk};
+ghost use Rattle.std.specs.Prelude.{◌≡◌, ◌≤◌, ◌<◌, ◌^◌, ◌++◌, [], map, length, All, IfOk, OnOk};
 ghost use Rattle.std.specs.List.{flat_map, AllByRecursion};
-ghost use Rattle.poly_cut.specs.Figures.{cut_of, IsDrawn};
 ghost use Rattle.poly_cut.specs.Turns.{placed_shape, placed_label};
 ghost use Rattle.poly_cut.specs.Bounds.{IsShapeWithin, IsLabelWithin, IsNear};
-ghost use Rattle.poly_cut.specs.Conditions.{IsItem, AreItems, IsFlattenable};
+ghost use Rattle.poly_cut.specs.Conditions.{AreItems, IsFlattenable};
 ghost use Rattle.poly_cut.specs.Counts.{ToldEmpty};
-ghost use Rattle.poly_cut.specs.FlatForm.{shape, item_shapes, item_labels, shapes_of, labels_of, items_at, wide_flat};
+ghost use Rattle.poly_cut.specs.FlatForm.{shapes_of, labels_of, wide_flat};
+ghost use Rattle.poly_cut.specs.Code.Readied.{IsReady, IsTable, ready_shapes, ready_labels};
 
-use crate::counts::{count_at, counts};
-use crate::cutting::cut;
+use crate::counts::counts;
 use crate::grids::grid_points;
-use crate::layout::{Figure, Grid, Item, Point, Turn, WideLayout, WideStructure};
+use crate::layout::{Point, Turn, WideLayout, WideStructure};
+use crate::ready::{Ready, copied_label, ready_items, ready_table};
 use crate::turns::{placed_label, placed_shape};
 use aq_base::{List, Memory};
-use geom::{Flat, Label, Rect, Shape};
+use geom::{Flat, Label, Shape};
 use std::alloc::Global;
 
 /// Shapes and labels.
@@ -71,13 +71,18 @@ fn add_labels(
     Ok(())
 }
 
+/// Adds the rectangles of a figure.
+fn add_drawn(shapes: &mut List<Shape>, drawn: &[Shape]) -> Result<(), Memory>
+    ensures { OnOk result (shapes.new ≡ shapes.old ++ drawn.now) }
+{
+    for shape in drawn {
+        shapes.push(*shape)?;
+    }
+    Ok(())
+}
+
 /// Adds a part at each of the points.
-fn add_copies(
-    flat: &mut Part,
-    part: &Part,
-    turn: &Turn,
-    points: &[Point],
-) -> Result<(), Memory>
+fn add_copies(flat: &mut Part, part: &Part, turn: &Turn, points: &[Point]) -> Result<(), Memory>
     requires shapes { All (IsShapeWithin (2 ^ 40)) part.now.shapes }
     requires labels { All (IsLabelWithin (2 ^ 40)) part.now.labels }
     requires turn { turn.now.quarter < 4 }
@@ -92,115 +97,106 @@ fn add_copies(
     Ok(())
 }
 
-/// A rectangle on a layer and datatype.
-fn shape_on(layer: u16, datatype: u16, rect: &Rect) -> Shape
-    ensures { result ≡ shape layer datatype rect.now }
-{
-    Shape {
-        layer,
-        datatype,
-        rect: *rect,
-    }
-}
-
-/// A copy of a label.
-fn copied_label(label: &Label) -> Result<Label, Memory>
-    ensures { IfOk result (λ l. l ≡ label.now) }
-{
-    Ok(Label {
-        layer: label.layer,
-        x: label.x,
-        y: label.y,
-        text: label.text.clone()?,
-    })
-}
-
-/// Adds the rectangles of a figure.
-fn add_figure(
-    alloc: Global,
-    shapes: &mut List<Shape>,
-    layer: u16,
-    datatype: u16,
-    figure: &Figure,
-) -> Result<(), Memory>
-    requires { IsDrawn figure.now }
-    ensures { OnOk result (shapes.new ≡ shapes.old ++ map (shape layer datatype) (cut_of figure.now)) }
-{
-    let rects = cut(alloc, figure)?;
-    for rect in rects.as_slice() {
-        shapes.push(shape_on(layer, datatype, rect))?;
-    }
-    Ok(())
-}
-
-/// Adds an item: the rectangles of its figure, its label, or what a structure holds at each point of a grid, down chains
-/// of fewer references than this.
+/// Adds what an item adds, down chains of fewer references than this.
 #[cycle(flatten)]
-fn add_placed(
+fn add_item(
     alloc: Global,
     structures: &[WideStructure],
     counts: &[u64],
+    table: &[Option<List<Ready>>],
     depth: usize,
-    item: &Item,
+    item: &Ready,
     flat: &mut Part,
 ) -> Result<(), Memory>
     requires depth { depth ≤ 64 }
     requires items { AreItems (length structures.now) structures.now }
     requires counts { ToldEmpty structures.now counts.now }
-    requires item { IsItem (length structures.now) item.now }
-    ensures shapes { OnOk result (flat.new.shapes ≡ flat.old.shapes ++ item_shapes (shapes_of depth structures.now) item.now) }
-    ensures labels { OnOk result (flat.new.labels ≡ flat.old.labels ++ item_labels (labels_of depth structures.now) item.now) }
+    requires table { IsTable structures.now table.now }
+    requires item { IsReady (length structures.now) item.now }
+    ensures shapes { OnOk result (flat.new.shapes ≡ flat.old.shapes ++ ready_shapes (shapes_of depth structures.now) item.now) }
+    ensures labels { OnOk result (flat.new.labels ≡ flat.old.labels ++ ready_labels (labels_of depth structures.now) item.now) }
 {
     match item {
-        Item::Draw {
-            layer,
-            datatype,
-            figure,
-        } => add_figure(alloc, &mut flat.shapes, *layer, *datatype, figure),
-        Item::Place {
+        Ready::Drawn(shapes) => add_drawn(&mut flat.shapes, shapes.as_slice()),
+        Ready::Placed {
             structure,
             at,
             turn,
             grid,
         } => {
-            if count_at(counts, *structure) == 0 {
-                return Ok(());
-            }
-            let part = part_of(alloc, structures, counts, depth, *structure)?;
+            let part = part_of(alloc, structures, counts, table, depth, *structure)?;
             let points = grid_points(alloc, at, grid)?;
             add_copies(flat, &part, turn, points.as_slice())
         }
-        Item::Text(label) => {
-            let label = copied_label(label)?;
-            flat.labels.push(label)
-        }
+        Ready::Shown(label) => flat.labels.push(copied_label(label)?),
     }
 }
 
-/// The flat form of a structure, down chains of fewer references than this: so at most 65 calls stand on one another.
+/// The shapes and labels that items add, down chains of fewer references than this.
+#[cycle(flatten)]
+fn part_with(
+    alloc: Global,
+    structures: &[WideStructure],
+    counts: &[u64],
+    table: &[Option<List<Ready>>],
+    depth: usize,
+    items: &[Ready],
+) -> Result<Part, Memory>
+    requires depth { depth ≤ 64 }
+    requires items { AreItems (length structures.now) structures.now }
+    requires counts { ToldEmpty structures.now counts.now }
+    requires table { IsTable structures.now table.now }
+    requires each { AllByRecursion (IsReady (length structures.now)) items.now }
+    ensures shapes { IfOk result (λ part. part.shapes ≡ flat_map (ready_shapes (shapes_of depth structures.now)) items.now) }
+    ensures labels { IfOk result (λ part. part.labels ≡ flat_map (ready_labels (labels_of depth structures.now)) items.now) }
+{
+    let mut part = nothing(alloc);
+    for item in items {
+        add_item(alloc, structures, counts, table, depth, item, &mut part)?;
+    }
+    Ok(part)
+}
+
+/// The flat form of a structure, down chains of fewer references than this: so at most 65 structures stand on one another.
 #[cycle(flatten)]
 fn part_of(
     alloc: Global,
     structures: &[WideStructure],
     counts: &[u64],
+    table: &[Option<List<Ready>>],
     depth: usize,
     number: u32,
 ) -> Result<Part, Memory>
     requires depth { depth ≤ 65 }
     requires items { AreItems (length structures.now) structures.now }
     requires counts { ToldEmpty structures.now counts.now }
+    requires table { IsTable structures.now table.now }
     ensures shapes { IfOk result (λ part. part.shapes ≡ shapes_of depth structures.now number) }
     ensures labels { IfOk result (λ part. part.labels ≡ labels_of depth structures.now number) }
 {
-    let mut part = nothing(alloc);
     if depth == 0 || number as usize >= structures.len() {
-        return Ok(part);
+        return Ok(nothing(alloc));
+    }
+    if let Some(Some(ready)) = table.get(number as usize) {
+        return part_with(
+            alloc,
+            structures,
+            counts,
+            table,
+            depth - 1,
+            ready.as_slice(),
+        );
     }
     let structure = &structures[number as usize];
-    for item in structure.items.as_slice() {
-        add_placed(alloc, structures, counts, depth - 1, item, &mut part)?;
-    }
-    Ok(part)
+    let ready = ready_items(alloc, structures, counts, structure.items.as_slice())?;
+    part_with(
+        alloc,
+        structures,
+        counts,
+        table,
+        depth - 1,
+        ready.as_slice(),
+    )
 }
 
 /// The flat form of a wide layout: that of the top structure, where a reference stands at each point of its grid for what its
@@ -211,6 +207,7 @@ pub fn flatten_wide(alloc: Global, wide: &WideLayout) -> Result<Flat, Memory>
 {
     let structures = wide.structures.as_slice();
     let counts = counts(alloc, structures)?;
-    let Part { shapes, labels } = part_of(alloc, structures, counts.as_slice(), 65, wide.top)?;
+    let table = ready_table(alloc, structures, &counts, wide.top)?;
+    let Part { shapes, labels } = part_of(alloc, structures, &counts, &table, 65, wide.top)?;
     Ok(Flat { shapes, labels })
 }

@@ -9,6 +9,7 @@ mod flat;
 mod grids;
 mod laws;
 mod layout;
+mod ready;
 mod slabs;
 mod strokes;
 mod turns;

@@ -1,0 +1,140 @@
+-- What is made ready of items adds what the items add.
+use Rattle.std.specs.Prelude.{◌≡◌, ◌⊎◌, ℕ, zero, suc, ◌+◌, ◌-◌, ◌≤◌, ◌<◌, ◌++◌, List, [], ◌∷◌, length, Option, Some, None, IfOk, slice_get, slice_index}
+use Rattle.std.specs.List.{flat_map, AllByRecursion}
+use Rattle.std.proofs.Common.{Result, Ok, Err, inl, inr, refl, sym, ap, ◌∙◌, subst, arith, take, get_or}
+use Rattle.std.proofs.lemmas.List.{take_more}
+use Rattle.std.proofs.lemmas.Grind.{flat_map-append}
+use Rattle.std.proofs.lemmas.List.{append-nil}
+use Rattle.std.proofs.lemmas.Option.{slice_get-get_or}
+use Rattle.geom.specs.declared.shapes.Shape.{Shape}
+use Rattle.geom.specs.declared.shapes.Label.{Label}
+use Rattle.poly_cut.specs.declared.layout.Point.{Point}
+use Rattle.poly_cut.specs.declared.layout.Turn.{Turn}
+use Rattle.poly_cut.specs.declared.layout.Grid.{Grid}
+use Rattle.poly_cut.specs.declared.layout.Item.{Item}
+use Rattle.poly_cut.specs.declared.layout.Item.TheVariants.{Place}
+use Rattle.poly_cut.specs.declared.layout.WideStructure.{WideStructure}
+use Rattle.poly_cut.specs.declared.ready.Ready.{Ready}
+use Rattle.poly_cut.specs.declared.ready.Ready.TheVariants as ready
+use Rattle.poly_cut.specs.Conditions.{IsPlaced}
+use Rattle.poly_cut.specs.FlatForm.{item_shapes, item_labels, shapes_of, labels_of, items_in, items_at, DEPTH}
+use Rattle.poly_cut.specs.Counts.{ToldEmpty}
+use Rattle.poly_cut.specs.Code.Readied.{ready_shapes, ready_labels, IsReady, AddsAs, GainsItem, IsEntry, IsTable}
+use Rattle.poly_cut.proofs.Placed.{no_shapes, no_labels}
+
+-- one more at the end of a list
+at_end : {A B : Type 0} (f : A → List B) (xs ys : List A) (x : A) → ys ≡ xs ++ x ∷ [] → flat_map f ys ≡ flat_map f xs ++ f x
+at_end f xs ys x is = ap (flat_map f) is ∙ flat_map-append f xs (x ∷ []) ∙ ap (λ l. flat_map f xs ++ l) (append-nil (f x))
+
+all_more : {A : Type 0} (P : A → Type 0) (xs : List A) (x : A) → AllByRecursion P xs → P x → AllByRecursion P (xs ++ x ∷ [])
+all_more P [] x all p = (p, tt)
+all_more P (y ∷ xs) x all p = (all.0, all_more P xs x all.1 p)
+
+-- what is put last adds what the item adds
+pub put : (ss : List WideStructure) (item : Item) (r : Ready) (old new : List Ready) → new ≡ old ++ r ∷ []
+    → ((of : ℕ → List Shape) → ready_shapes of r ≡ item_shapes of item)
+    → ((of : ℕ → List Label) → ready_labels of r ≡ item_labels of item)
+    → IsReady (length ss) r → GainsItem ss item old new
+put ss item r old new is shapes labels ready = record {
+  shapes = λ depth small.
+      at_end (ready_shapes (shapes_of depth ss)) old new r is
+      ∙ ap (λ l. flat_map (ready_shapes (shapes_of depth ss)) old ++ l) (shapes (shapes_of depth ss));
+  labels = λ depth small.
+      at_end (ready_labels (labels_of depth ss)) old new r is
+      ∙ ap (λ l. flat_map (ready_labels (labels_of depth ss)) old ++ l) (labels (labels_of depth ss));
+  each = λ all. subst (AllByRecursion (IsReady (length ss))) (sym is) (all_more (IsReady (length ss)) old r all ready);
+}
+
+-- nothing is added at all
+pub none : (ss : List WideStructure) → AddsAs ss [] []
+none ss = record { shapes = λ depth small. refl; labels = λ depth small. refl; each = tt }
+
+-- one item more
+pub more : (ss : List WideStructure) (items items' : List Item) (item : Item) (old new : List Ready) → items' ≡ items ++ item ∷ []
+    → AddsAs ss items old → GainsItem ss item old new → AddsAs ss items' new
+more ss items items' item old new is so gain = record {
+  shapes = λ depth small.
+      gain.shapes depth small ∙ ap (λ l. l ++ item_shapes (shapes_of depth ss) item) (so.shapes depth small)
+      ∙ sym (at_end (item_shapes (shapes_of depth ss)) items items' item is);
+  labels = λ depth small.
+      gain.labels depth small ∙ ap (λ l. l ++ item_labels (labels_of depth ss) item) (so.labels depth small)
+      ∙ sym (at_end (item_labels (labels_of depth ss)) items items' item is);
+  each = gain.each so.each;
+}
+
+-- the item at a place
+pub more_at : (ss : List WideStructure) (items : List Item) (i : ℕ) (item : Item) (old new : List Ready) → i < length items
+    → item ≡ get_or items i item → AddsAs ss (take i items) old → GainsItem ss item old new → AddsAs ss (take (i + 1) items) new
+more_at ss items i item old new within at so gain =
+    more ss (take i items) (take (i + 1) items) item old new
+    (take_more items i item within ∙ ap (λ x. take i items ++ x ∷ []) (sym at)) so gain
+
+-- a placement of what holds nothing adds nothing
+pub placed_nothing : (ss : List WideStructure) (counts : List ℕ) (item : Item) (n : ℕ) (at : Point) (t : Turn) (g : Grid)
+    (old : List Ready) → item ≡ Place n at t g → ToldEmpty ss counts → slice_index counts n ≡ 0 → GainsItem ss item old old
+placed_nothing ss counts item n at t g old is empty zero_so = record {
+  shapes = λ depth small.
+      no_shapes (shapes_of depth ss) item n at t g (flat_map (ready_shapes (shapes_of depth ss)) old) is
+      (empty n depth (omega (arith, small)) zero_so).0;
+  labels = λ depth small.
+      no_labels (labels_of depth ss) item n at t g (flat_map (ready_labels (labels_of depth ss)) old) is
+      (empty n depth (omega (arith, small)) zero_so).1;
+  each = λ all. all;
+}
+
+-- a placement that is ready is one
+pub ready_so : (count : ℕ) (item : Ready) (n : ℕ) (at : Point) (t : Turn) (g : Grid) → item ≡ ready.Placed n at t g
+    → IsReady count item → IsPlaced count n at t g
+ready_so count item n at t g is h = subst (λ (x : Ready). IsReady count x) is h
+
+-- the items of a list are those that it had and the one that was put last
+cases : {A : Type 0} (xs : List A) (y : A) (i : ℕ) (x : A) → slice_get (xs ++ y ∷ []) i ≡ Some x
+    → (slice_get xs i ≡ Some x) ⊎ ((i ≡ length xs) × (y ≡ x))
+cases [] y zero x e = inr (refl, cc)
+cases [] y (suc i) x e = cc
+cases (z ∷ xs) y zero x e = inl e
+cases (z ∷ xs) y (suc i) x e = elim (cases xs y i x e) [
+  | inl before ↦ inl before
+  | inr last ↦ inr (ap suc last.0, last.1)
+]
+
+-- one entry more
+pub entered : (ss : List WideStructure) (table new : List (Option (List Ready))) (i : ℕ) (s : WideStructure)
+    (entry : Option (List Ready)) → new ≡ table ++ entry ∷ [] → length table ≡ i → i < length ss → s ≡ get_or ss i s
+    → IsTable ss table → IsEntry ss s.items entry → IsTable ss new
+entered ss table new i s entry is size within at so this n other e =
+    elim (cases table entry n other (ap (λ (t : List (Option (List Ready))). slice_get t n) (sym is) ∙ e)) [
+      | inl before ↦ so n other before
+      | inr last ↦
+          let here : slice_get ss n ≡ Some s =
+          ap (slice_get ss) (last.0 ∙ size) ∙ slice_get-get_or ss i s within ∙ ap Some (sym at) in
+          subst (λ (x : Option (List Ready)). IsEntry ss (items_at ss n) x) last.1
+          (subst (λ (o : Option WideStructure). IsEntry ss (items_in o) entry) (sym here) this)
+    ]
+
+-- what a structure's items add is its part of the flat form
+pub part_shapes : {P E : Type 0} (f : P → List Shape) (r : Result P E) (ss : List WideStructure) (n depth : ℕ) (ready given : List Ready)
+    → 0 < depth → depth ≤ DEPTH → AddsAs ss (items_at ss n) ready → given ≡ ready
+    → IfOk r (λ part. f part ≡ flat_map (ready_shapes (shapes_of (depth - 1) ss)) given)
+    → IfOk r (λ part. f part ≡ shapes_of depth ss n)
+part_shapes f (Err e) ss n depth ready given some small adds is so = tt
+part_shapes f (Ok part) ss n zero ready given some small adds is so = absurd (omega (arith, some))
+part_shapes f (Ok part) ss n (suc depth) ready given some small adds is so =
+    let e : suc depth - 1 ≡ depth = omega arith in
+    so ∙ ap (λ (k : ℕ). flat_map (ready_shapes (shapes_of k ss)) given) e
+    ∙ ap (flat_map (ready_shapes (shapes_of depth ss))) is ∙ adds.shapes depth (omega (arith, small))
+
+pub part_labels : {P E : Type 0} (f : P → List Label) (r : Result P E) (ss : List WideStructure) (n depth : ℕ) (ready given : List Ready)
+    → 0 < depth → depth ≤ DEPTH → AddsAs ss (items_at ss n) ready → given ≡ ready
+    → IfOk r (λ part. f part ≡ flat_map (ready_labels (labels_of (depth - 1) ss)) given)
+    → IfOk r (λ part. f part ≡ labels_of depth ss n)
+part_labels f (Err e) ss n depth ready given some small adds is so = tt
+part_labels f (Ok part) ss n zero ready given some small adds is so = absurd (omega (arith, some))
+part_labels f (Ok part) ss n (suc depth) ready given some small adds is so =
+    let e : suc depth - 1 ≡ depth = omega arith in
+    so ∙ ap (λ (k : ℕ). flat_map (ready_labels (labels_of k ss)) given) e
+    ∙ ap (flat_map (ready_labels (labels_of depth ss))) is ∙ adds.labels depth (omega (arith, small))
+
+-- the items of the structure at a place
+pub items_there : (ss : List WideStructure) (n : ℕ) (s : WideStructure) → n < length ss → s ≡ get_or ss n s → items_at ss n ≡ s.items
+items_there ss n s within at = ap items_in (slice_get-get_or ss n s within ∙ ap Some (sym at))
