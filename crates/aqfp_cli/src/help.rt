@@ -15,7 +15,7 @@ usage: aqfp build NET LIB OUT
 build   reads the netlist NET with the cells of the library LIB, stores the
         layout of its chip under OUT and prints the counts of its rows, cells
         and wires and its delay in phases. OUT may have the name of NET or LIB.
-verify  reads the layout GDS, tries the eleven rules of layouts with the numbers
+verify  reads the layout GDS, tries all rules of layouts with the numbers
         of the library LIB, and prints the counts and, for each word of WORDS,
         the answer that the chip's pulses show.
 trace   the same, but prints the flux of each cell at each time.

@@ -27,8 +27,8 @@ pub fn drawing_circuit()
     tracks_are_fewest();
 }
 
-/// The bytes of the drawing of a net that has no more elements than a chip may have are a stream whose shapes keep the
-/// eleven rules, and whose circuit has the net's rows, cells, wires, inputs and outputs. The circuit shows the net's
+/// The bytes of the drawing of a net that has no more elements than a chip may have are a stream whose shapes keep
+/// all rules, and whose circuit has the net's rows, cells, wires, inputs and outputs. The circuit shows the net's
 /// answer to every word, one tick later for each row but the lowest, in whatever order the cells of a tick switch. It
 /// keeps what every extracted circuit keeps, and the shapes and bytes are few enough to be read back.
 pub fn drawn_chip_realises()

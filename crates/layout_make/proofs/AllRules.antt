@@ -1,4 +1,4 @@
--- A drawing keeps all eleven rules.
+-- A drawing keeps all rules.
 use Rattle.std.proofs.Common.{sym, subst, arith, List}
 use Rattle.geom.specs.declared.shapes.Shape.{Shape}
 use Rattle.layout_rules.specs.declared.rule.Rule.TheVariants.{E1, E2, E3, E4, E5, E6, G1, G2, G3, G4, G5}

@@ -21,7 +21,7 @@ ghost use Rattle.layout_make.specs.Chips.{least_library, least_flat, wide_librar
 
 use channel_route::tracks_are_fewest;
 
-/// A drawing keeps the eleven rules. Its frames, lines and labels are those of the cells, rows and ports, and its
+/// A drawing keeps all rules. Its frames, lines and labels are those of the cells, rows and ports, and its
 /// wires join each input pin with its source, and nothing else. Its layout is writable, and the top has as many
 /// elements as are counted.
 pub fn drawing_laws()
