@@ -139,7 +139,7 @@ tops_low n us (s ∷ ss) t ts e = turn (is_used s.name us) (tops (suc n) us ss) 
     turn true more f g = let h : t.0 < suc n + length ss = f g in omega arith
     turn false more f g = let w : n ≡ t.0 = ap (λ (x : List (ℕ × ℕ)). top_in x) g in omega arith
 
-top_low : (o : ℕ) (us : List Use) (ss : List Outline) (ts : List (ℕ × ℕ)) → tops 0 us ss ≡ ts → top_fault o ts ≡ None → top_in ts < length ss
+pub top_low : (o : ℕ) (us : List Use) (ss : List Outline) (ts : List (ℕ × ℕ)) → tops 0 us ss ≡ ts → top_fault o ts ≡ None → top_in ts < length ss
 top_low o us ss [] e f = absurd cc
 top_low o us ss (t ∷ []) e f = omega (arith, tops_low 0 us ss t [] e)
 top_low o us ss (t ∷ s ∷ ts) e f = absurd cc

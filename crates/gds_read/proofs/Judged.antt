@@ -1,6 +1,6 @@
 -- The conditions on the whole stream, structure by structure.
 use Rattle.std.proofs.Common.{◌≡◌, ℕ, suc, ◌+◌, ◌<◌, List, [], ◌∷◌, ◌++◌, map, take, drop, length, Bool, true, false, cond, eqb, ◌&&◌, ◌||◌, Option, Some, None, Bor, refl, sym, ap, ◌∙◌, arith, append_assoc}
-use Rattle.std.specs.Prelude.{not, is_some, is_none, slice_index_or}
+use Rattle.std.specs.Prelude.{not, is_some, is_none, slice_index_or, Result, Ok, Err, IfOk, IfErr}
 use Rattle.std.specs.List.{list_any}
 use Rattle.std.specs.Str.{bytes_eq}
 use Rattle.indexmap.specs.IndexSet.{insert_key}
@@ -10,12 +10,14 @@ use Rattle.gds_records.specs.declared.fault.StreamKind.TheVariants.{UnknownName,
 use Rattle.gds_records.specs.Records.{Record, same}
 use Rattle.gds_records.specs.Steps.{is_listed}
 use Rattle.gds_records.specs.Whole.{Use, Outline, is_used, all_uses, outlines, last_place, deep, tops, top_in, top_fault, outlines_fault, whole_fault, top_of}
+use Rattle.gds_records.specs.WideWhole.{first_of, first_loop, first_long, wide_outlines_fault, wide_whole_fault}
 use Rattle.gds_read.specs.declared.outline.NamedUse.{NamedUse}
 use Rattle.gds_read.specs.declared.outline.NamedOutline.{NamedOutline}
 use Rattle.gds_read.specs.declared.conditions.Tops.{Tops}
 use Rattle.gds_read.specs.declared.conditions.Tops.TheVariants.{Nothing, One, Several}
 use Rattle.gds_read.specs.Code.Outlining.{use_of, outline_of}
 use Rattle.gds_read.specs.Code.Numbering.{AreUsed, number_in, IsNumbering, unnumbered}
+use Rattle.gds_read.specs.Code.Chains.{or_else, loop_or_long}
 use Rattle.gds_read.specs.Code.Tops.{told_tops, further_tops}
 use Rattle.gds_read.proofs.Named.{listed_any, same_texts}
 use Rattle.gds_read.proofs.Numbering.{unknown_so}
@@ -95,33 +97,29 @@ module _ (f : List ℕ → Option ℕ) where
       sym (here_some (f u.name.now) (unnumbered f (map use_of (drop (i + 1) us))) u.place (ap (λ (x : Option ℕ). is_none x) (sym w) ∙ n))
       ∙ ap (λ (x : List NamedUse). unnumbered f (map use_of x)) (sym (next_item us i u h q)) ∙ e
 
-  abbrev first_of : Option ℕ → Option ℕ → Option ℕ
-  first_of (Some p) r = Some p
-  first_of None r = r
-
-  unnumbered_append : (a b : List Use) → unnumbered f (a ++ b) ≡ first_of (unnumbered f a) (unnumbered f b)
+  unnumbered_append : (a b : List Use) → unnumbered f (a ++ b) ≡ or_else (unnumbered f a) (unnumbered f b)
   unnumbered_append [] b = refl
   unnumbered_append (u ∷ a) b = turn (f u.name) (unnumbered_append a b)
     where
-      turn : (o : Option ℕ) → unnumbered f (a ++ b) ≡ first_of (unnumbered f a) (unnumbered f b)
-          → (elim o as (λ (x : Option ℕ). Option ℕ) [ Some n ↦ unnumbered f (a ++ b) | None ↦ Some u.place ]) ≡ first_of (elim o as (λ (x : Option ℕ). Option ℕ) [ Some n ↦ unnumbered f a | None ↦ Some u.place ]) (unnumbered f b)
+      turn : (o : Option ℕ) → unnumbered f (a ++ b) ≡ or_else (unnumbered f a) (unnumbered f b)
+          → (elim o as (λ (x : Option ℕ). Option ℕ) [ Some n ↦ unnumbered f (a ++ b) | None ↦ Some u.place ]) ≡ or_else (elim o as (λ (x : Option ℕ). Option ℕ) [ Some n ↦ unnumbered f a | None ↦ Some u.place ]) (unnumbered f b)
       turn (Some n) e = e
       turn None e = refl
 
   split_first : (ss : List NamedOutline) (i : ℕ) (s : NamedOutline) → i < length ss → s ≡ slice_index_or ss i s
-      → unnumbered f (all_uses (map outline_of (drop i ss))) ≡ first_of (unnumbered f (map use_of s.uses)) (unnumbered f (all_uses (map outline_of (drop (i + 1) ss))))
+      → unnumbered f (all_uses (map outline_of (drop i ss))) ≡ or_else (unnumbered f (map use_of s.uses)) (unnumbered f (all_uses (map outline_of (drop (i + 1) ss))))
   split_first ss i s h q =
       ap (λ (x : List NamedOutline). unnumbered f (all_uses (map outline_of x))) (next_item ss i s h q) ∙ unnumbered_append (map use_of s.uses) (all_uses (map outline_of (drop (i + 1) ss)))
 
   pub unknown_there : (ss : List NamedOutline) (i : ℕ) (s : NamedOutline) (p : ℕ) (total : Option ℕ) → i < length ss → s ≡ slice_index_or ss i s → unnumbered f (all_uses (map outline_of (drop i ss))) ≡ total
       → Some p ≡ unnumbered f (map use_of s.uses) → Some p ≡ total
   unknown_there ss i s p total h q e w =
-      ap (λ (x : Option ℕ). first_of x (unnumbered f (all_uses (map outline_of (drop (i + 1) ss))))) w ∙ sym (split_first ss i s h q) ∙ e
+      ap (λ (x : Option ℕ). or_else x (unnumbered f (all_uses (map outline_of (drop (i + 1) ss))))) w ∙ sym (split_first ss i s h q) ∙ e
 
   pub unknown_later : (ss : List NamedOutline) (i : ℕ) (s : NamedOutline) (total : Option ℕ) → i < length ss → s ≡ slice_index_or ss i s → unnumbered f (all_uses (map outline_of (drop i ss))) ≡ total
       → None ≡ unnumbered f (map use_of s.uses) → unnumbered f (all_uses (map outline_of (drop (i + 1) ss))) ≡ total
   unknown_later ss i s total h q e w =
-      ap (λ (x : Option ℕ). first_of x (unnumbered f (all_uses (map outline_of (drop (i + 1) ss))))) w ∙ sym (split_first ss i s h q) ∙ e
+      ap (λ (x : Option ℕ). or_else x (unnumbered f (all_uses (map outline_of (drop (i + 1) ss))))) w ∙ sym (split_first ss i s h q) ∙ e
 
 -- ---- the first that is too deep, and the tops
 
@@ -195,6 +193,14 @@ module _ (used : List (List ℕ)) (us : List Use) (are : AreUsed used us) (ss : 
 
 -- ---- all three
 
+pub ok_more : {A E : Type 0} (r : Result A E) {P Q : A → Type 0} → ((a : A) → P a → Q a) → IfOk r P → IfOk r Q
+ok_more (Ok a) f h = f a h
+ok_more (Err e) f h = tt
+
+pub err_more : {A E : Type 0} (r : Result A E) {P Q : E → Type 0} → ((e : E) → P e → Q e) → IfErr r P → IfErr r Q
+err_more (Ok a) f h = tt
+err_more (Err e) f h = f e h
+
 abbrev judged : Option ℕ → Option ℕ → Option (ℕ × StreamKind) → Option (ℕ × StreamKind)
 judged u d t = elim u as (λ (x : Option ℕ). Option (ℕ × StreamKind)) [ Some p ↦ Some (p, UnknownName) | None ↦ elim d as (λ (x : Option ℕ). Option (ℕ × StreamKind)) [ Some p ↦ Some (p, Unsupported) | None ↦ t ] ]
 
@@ -216,20 +222,24 @@ pub not_some : (o : Option ℕ) → ((p : ℕ) → o ≡ Some p → ⊥) → o �
 not_some (Some p) h = absurd (h p refl)
 not_some None h = refl
 
-top_none : (o : ℕ) (ts : List (ℕ × ℕ)) (n : ℕ) → One n ≡ told_tops ts → (top_fault o ts ≡ None) × (n ≡ top_in ts)
+pub top_none : (o : ℕ) (ts : List (ℕ × ℕ)) (n : ℕ) → One n ≡ told_tops ts → (top_fault o ts ≡ None) × (n ≡ top_in ts)
 top_none o [] n e = absurd cc
 top_none o (t ∷ []) n e = (refl, cc)
 top_none o (t ∷ s ∷ ts) n e = absurd cc
 
-top_several : (o : ℕ) (ts : List (ℕ × ℕ)) (p : ℕ) → Several p ≡ told_tops ts → top_fault o ts ≡ Some (p, SeveralTops)
+pub top_several : (o : ℕ) (ts : List (ℕ × ℕ)) (p : ℕ) → Several p ≡ told_tops ts → top_fault o ts ≡ Some (p, SeveralTops)
 top_several o [] p e = absurd cc
 top_several o (t ∷ []) p e = absurd cc
 top_several o (t ∷ s ∷ ts) p e = let w : s.1 ≡ p = cc in rw w refl
 
-top_nothing : (o : ℕ) (ts : List (ℕ × ℕ)) → Nothing ≡ told_tops ts → top_fault o ts ≡ Some (o, NoTop)
+pub top_nothing : (o : ℕ) (ts : List (ℕ × ℕ)) → Nothing ≡ told_tops ts → top_fault o ts ≡ Some (o, NoTop)
 top_nothing o [] e = refl
 top_nothing o (t ∷ []) e = absurd cc
 top_nothing o (t ∷ s ∷ ts) e = absurd cc
+
+either_first : (l d : Option ℕ) (t : Option (ℕ × StreamKind)) → first_of l Unsupported (first_of d Unsupported t) ≡ first_of (or_else l d) Unsupported t
+either_first (Some p) d t = refl
+either_first None d t = refl
 
 -- what the three searches answer over the outlines of records
 module _ (rs : List Record) (structures : List NamedOutline) (entries : List (Bor (List ℕ) × ℕ)) (same : map outline_of structures ≡ outlines 0 rs)
@@ -248,18 +258,43 @@ module _ (rs : List Record) (structures : List NamedOutline) (entries : List (Bo
   pub fault_deep : (o : Option ℕ) (p : ℕ) → o ≡ unnumbered (number_in entries) us → ((q : ℕ) → o ≡ Some q → ⊥) → Some p ≡ deep us (map outline_of structures) → whole_fault rs ≡ Some (p, Unsupported)
   fault_deep o p e n f = fault_is ∙ judged_deep (unnumbered (number_in entries) us) (deep us (map outline_of structures)) (top_fault (last_place 0 rs) (tops 0 us (map outline_of structures))) p (sym e ∙ not_some o n) (sym f)
 
-  module _ (o d : Option ℕ) (e : o ≡ unnumbered (number_in entries) us) (n : (q : ℕ) → o ≡ Some q → ⊥) (f : d ≡ deep us (map outline_of structures)) (m : (q : ℕ) → d ≡ Some q → ⊥) where
-    fault_top : whole_fault rs ≡ top_fault (last_place 0 rs) (tops 0 us (map outline_of structures))
-    fault_top = fault_is ∙ judged_top (unnumbered (number_in entries) us) (deep us (map outline_of structures)) (top_fault (last_place 0 rs) (tops 0 us (map outline_of structures))) (sym e ∙ not_some o n) (sym f ∙ not_some d m)
+  pub fault_top : (o d : Option ℕ) → o ≡ unnumbered (number_in entries) us → ((q : ℕ) → o ≡ Some q → ⊥) → d ≡ deep us (map outline_of structures) → ((q : ℕ) → d ≡ Some q → ⊥)
+      → (total : Option (ℕ × StreamKind)) → top_fault (last_place 0 rs) (tops 0 us (map outline_of structures)) ≡ total → whole_fault rs ≡ total
+  fault_top o d e n f m total t =
+      fault_is ∙ judged_top (unnumbered (number_in entries) us) (deep us (map outline_of structures)) (top_fault (last_place 0 rs) (tops 0 us (map outline_of structures))) (sym e ∙ not_some o n) (sym f ∙ not_some d m) ∙ t
 
-    pub no_fault : (top : ℕ) → One top ≡ told_tops (tops 0 us (map outline_of structures)) → whole_fault rs ≡ None
-    no_fault top t = fault_top ∙ (top_none (last_place 0 rs) (tops 0 us (map outline_of structures)) top t).0
+  -- the same of a wide stream
+  wide_is : wide_whole_fault rs ≡ first_of (unnumbered (number_in entries) us) UnknownName
+      (first_of (first_loop (map outline_of structures) (map outline_of structures)) Unsupported
+      (first_of (first_long (map outline_of structures) (map outline_of structures)) Unsupported (top_fault (last_place 0 rs) (tops 0 us (map outline_of structures)))))
+  wide_is =
+      ap (λ (x : List Outline). wide_outlines_fault (last_place 0 rs) x) (sym same)
+      ∙ ap (λ (x : Option ℕ). first_of x UnknownName (first_of (first_loop (map outline_of structures) (map outline_of structures)) Unsupported
+      (first_of (first_long (map outline_of structures) (map outline_of structures)) Unsupported (top_fault (last_place 0 rs) (tops 0 us (map outline_of structures))))))
+      (unknown_so (number_in entries) (map outline_of structures) numbers us)
 
-    pub second_top : (p : ℕ) → Several p ≡ told_tops (tops 0 us (map outline_of structures)) → whole_fault rs ≡ Some (p, SeveralTops)
-    second_top p t = fault_top ∙ top_several (last_place 0 rs) (tops 0 us (map outline_of structures)) p t
+  joined : wide_whole_fault rs ≡ first_of (unnumbered (number_in entries) us) UnknownName
+      (first_of (loop_or_long (map outline_of structures)) Unsupported (top_fault (last_place 0 rs) (tops 0 us (map outline_of structures))))
+  joined = wide_is ∙ ap (λ (x : Option (ℕ × StreamKind)). first_of (unnumbered (number_in entries) us) UnknownName x)
+      (either_first (first_loop (map outline_of structures) (map outline_of structures)) (first_long (map outline_of structures) (map outline_of structures)) (top_fault (last_place 0 rs) (tops 0 us (map outline_of structures))))
 
-    pub no_top : (p : ℕ) → p ≡ last_place 0 rs → Nothing ≡ told_tops (tops 0 us (map outline_of structures)) → whole_fault rs ≡ Some (p, NoTop)
-    no_top p q t = fault_top ∙ top_nothing (last_place 0 rs) (tops 0 us (map outline_of structures)) t ∙ ap (λ (x : ℕ). Some (x, NoTop)) (sym q)
+  pub wide_unknown : (p : ℕ) → Some p ≡ unnumbered (number_in entries) us → wide_whole_fault rs ≡ Some (p, UnknownName)
+  wide_unknown p e =
+      joined ∙ ap (λ (x : Option ℕ). first_of x UnknownName (first_of (loop_or_long (map outline_of structures)) Unsupported (top_fault (last_place 0 rs) (tops 0 us (map outline_of structures))))) (sym e)
 
-  pub top_is : (top : ℕ) → One top ≡ told_tops (tops 0 us (map outline_of structures)) → top ≡ top_of rs
-  top_is top t = (top_none (last_place 0 rs) (tops 0 us (map outline_of structures)) top t).1 ∙ ap (λ (x : List Outline). top_in (tops 0 (all_uses x) x)) same
+  known : (o : Option ℕ) → o ≡ unnumbered (number_in entries) us → ((q : ℕ) → o ≡ Some q → ⊥)
+      → wide_whole_fault rs ≡ first_of (loop_or_long (map outline_of structures)) Unsupported (top_fault (last_place 0 rs) (tops 0 us (map outline_of structures)))
+  known o e n =
+      joined ∙ ap (λ (x : Option ℕ). first_of x UnknownName (first_of (loop_or_long (map outline_of structures)) Unsupported (top_fault (last_place 0 rs) (tops 0 us (map outline_of structures))))) (sym e ∙ not_some o n)
+
+  pub wide_deep : (o : Option ℕ) (p : ℕ) → o ≡ unnumbered (number_in entries) us → ((q : ℕ) → o ≡ Some q → ⊥) → Some p ≡ loop_or_long (map outline_of structures) → wide_whole_fault rs ≡ Some (p, Unsupported)
+  wide_deep o p e n f =
+      known o e n ∙ ap (λ (x : Option ℕ). first_of x Unsupported (top_fault (last_place 0 rs) (tops 0 us (map outline_of structures)))) (sym f)
+
+  pub wide_top : (o d : Option ℕ) → o ≡ unnumbered (number_in entries) us → ((q : ℕ) → o ≡ Some q → ⊥) → d ≡ loop_or_long (map outline_of structures) → ((q : ℕ) → d ≡ Some q → ⊥)
+      → (total : Option (ℕ × StreamKind)) → top_fault (last_place 0 rs) (tops 0 us (map outline_of structures)) ≡ total → wide_whole_fault rs ≡ total
+  wide_top o d e n f m total t =
+      known o e n ∙ ap (λ (x : Option ℕ). first_of x Unsupported (top_fault (last_place 0 rs) (tops 0 us (map outline_of structures)))) (sym f ∙ not_some d m) ∙ t
+
+  pub top_is : (top : ℕ) → top ≡ top_in (tops 0 us (map outline_of structures)) → top ≡ top_of rs
+  top_is top t = t ∙ ap (λ (x : List Outline). top_in (tops 0 (all_uses x) x)) same

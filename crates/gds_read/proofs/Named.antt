@@ -38,7 +38,7 @@ eqb_same k = grind (arith, nat_tests)
 pick : (t : Bool) (s : Bool) → t ≡ true → s ≡ true → (elim t as (λ (b : Bool). Bool) [ true ↦ s | false ↦ false ]) ≡ true
 pick t s e f = rw (e, f) refl
 
-same_refl : (x : List ℕ) → same x x ≡ true
+pub same_refl : (x : List ℕ) → same x x ≡ true
 same_refl [] = refl
 same_refl (a ∷ x) = pick (eqb a a) (same x x) (eqb_same a) (same_refl x)
 

@@ -112,7 +112,7 @@ drop_is_bytes zero c f = f
 drop_is_bytes (suc n) [] f = f
 drop_is_bytes (suc n) (x ∷ c) f = drop_is_bytes n c (λ i. f (suc i))
 
-signed_fits : (n : ℕ) → n < 4294967296 → FitsSigned w32 (cast_signed w32 n)
+pub signed_fits : (n : ℕ) → n < 4294967296 → FitsSigned w32 (cast_signed w32 n)
 signed_fits n h = omega (arith, ints)
 
 pub coordinate_fits : (xy : List ℕ) (i : ℕ) → IsBytes xy → FitsSigned w32 (coordinate xy i)
@@ -142,7 +142,7 @@ box_narrow xy f = record {
 
 -- ---- elements
 
-place_low : (t : List ℕ) (ns : List (List ℕ)) → is_listed t ns ≡ true → place_of t ns < length ns
+pub place_low : (t : List ℕ) (ns : List (List ℕ)) → is_listed t ns ≡ true → place_of t ns < length ns
 place_low t [] e = absurd cc
 place_low t (n ∷ ns) e = turn (same t n) (place_low t ns) e
   where

@@ -1,15 +1,16 @@
 -- The records of a sentence: its structures with their references, and their elements.
 use Rattle.std.proofs.Common.{◌≡◌, ℕ, ◌+◌, List, [], ◌∷◌, ◌++◌, map, length, Bool, true, false, eqb, ◌||◌, refl, sym, ap, subst, ◌∙◌, append_assoc, inl, inr, arith}
-use Rattle.std.specs.List.{AllByRecursion}
+use Rattle.std.specs.List.{flat_map, AllByRecursion}
 use Rattle.std.proofs.lemmas.List.{append-nil}
+use Rattle.std.proofs.lemmas.List.Concat.{flat_map-cons}
 use Rattle.std.proofs.lemmas.Bool.Decides.{nat_tests}
 use Rattle.gds_records.specs.Language.{Language, One, Then, Many, Speaks, Repeats, none, more}
 use Rattle.gds_records.specs.Records.{Record, kinds, trimmed, same}
-use Rattle.gds_records.specs.Grammar.{stream, structure, element, boundary, reference, text, maybe}
+use Rattle.gds_records.specs.Grammar.{◌>>◌, flags, stream, stream_of_each, structure_of_each, element, boundary, reference, text, maybe}
 use Rattle.gds_records.specs.Drawing.{starts, up_to, parts, field, has, element_parts}
 use Rattle.gds_records.specs.Whole.{Use, uses_from}
 use Rattle.gds_records.specs.Steps.{is_listed}
-use Rattle.gds_read.proofs.Words.{has_kind, mentions, or_false, lacks, Ends, ends, holds}
+use Rattle.gds_read.proofs.Words.{has_kind, mentions, or_false, lacks, Ends, ends_with, ends, holds}
 
 one : (k n : ℕ) → k ≡ n → eqb k n ≡ true
 one k n e = grind (arith, nat_tests)
@@ -200,82 +201,112 @@ first_cut xs us e =
     ap (λ (y : List Record). parts 17 [] (y ++ us)) w ∙ ap (λ (y : List Record). parts 17 [] y) (append_assoc s.xs (o.0 ∷ []) us)
     ∙ part_one s.xs o.0 us [] (ap (λ (y : List ℕ). has_kind 17 y) s.fronts ∙ e.free) o.2 ∙ ap (λ (y : List Record). y ∷ parts 17 [] us) (sym w)
 
-elements_covered : (w : List ℕ) → Repeats (Speaks element) w → (els : List Record) → kinds els ≡ w → AllByRecursion (Covered (snames els)) (parts 17 [] els)
-elements_covered w (none w' e) els k = subst (λ (x : List Record). AllByRecursion (Covered (snames els)) (parts 17 [] x)) (sym (no_kinds els (k ∙ e))) tt
-elements_covered w (more w' front rest e h r) els k =
-    let s = split els front rest (k ∙ e) in
-    let sp : Speaks element (kinds s.xs) = subst (λ (x : List ℕ). Speaks element x) (sym s.fronts) h in
-    let names : snames els ≡ snames s.xs ++ snames s.ys = ap (λ (x : List Record). snames x) s.whole ∙ snames_append s.xs s.ys in
-    let first : Covered (snames els) s.xs = λ q. subst (λ (x : List (List ℕ)). is_listed (trimmed (field 18 s.xs)) x ≡ true) (sym names) (listed_left (trimmed (field 18 s.xs)) (snames s.xs) (snames s.ys) (covered_element s.xs sp q)) in
-    let others : AllByRecursion (Covered (snames els)) (parts 17 [] s.ys) =
-    all_weaker (Covered (snames s.ys)) (Covered (snames els)) (λ q f g. subst (λ (x : List (List ℕ)). is_listed (trimmed (field 18 q)) x ≡ true) (sym names) (listed_right (trimmed (field 18 q)) (snames s.xs) (snames s.ys) (f g)))
-    (parts 17 [] s.ys) (elements_covered rest r s.ys s.rests) in
-    subst (λ (x : List (List Record)). AllByRecursion (Covered (snames els)) x) (sym (ap (λ (x : List Record). parts 17 [] x) s.whole ∙ first_cut s.xs s.ys (ends 17 element (kinds s.xs) refl sp))) (first, others)
-
 -- an element by its kinds
-abbrev pub Spoken : List Record → Type 0
-Spoken q = Speaks element (kinds q)
+abbrev pub SpokenIn : Language → List Record → Type 0
+SpokenIn each q = Speaks each (kinds q)
 
-elements_spoken : (w : List ℕ) → Repeats (Speaks element) w → (els : List Record) → kinds els ≡ w → AllByRecursion Spoken (parts 17 [] els)
-elements_spoken w (none w' e) els k = subst (λ (x : List Record). AllByRecursion Spoken (parts 17 [] x)) (sym (no_kinds els (k ∙ e))) tt
-elements_spoken w (more w' front rest e h r) els k =
-    let s = split els front rest (k ∙ e) in
-    let sp : Speaks element (kinds s.xs) = subst (λ (x : List ℕ). Speaks element x) (sym s.fronts) h in
-    subst (λ (x : List (List Record)). AllByRecursion Spoken x) (sym (ap (λ (x : List Record). parts 17 [] x) s.whole ∙ first_cut s.xs s.ys (ends 17 element (kinds s.xs) refl sp))) (sp, elements_spoken rest r s.ys s.rests)
+-- the elements of a structure, and its references, which are those of its elements in turn
+pub record IsShapedIn (each : Language) (p : List Record) : Type 0 where
+  pub spoken : AllByRecursion (SpokenIn each) (element_parts p)
+  pub names : (o : ℕ) → map (λ u. u.name) (uses_from o p) ≡ flat_map snames (element_parts p)
 
--- ---- structures
+pub snames_none : (xs : List Record) → has_kind 18 (kinds xs) ≡ false → snames xs ≡ []
+snames_none [] e = refl
+snames_none (x ∷ xs) e = let p = or_false (eqb x.kind 18) (has_kind 18 (kinds xs)) e in turn (eqb x.kind 18) p.0 (snames_none xs p.1)
+  where
+    turn : (z : Bool) → z ≡ false → snames xs ≡ [] → (elim z as (λ (t : Bool). List (List ℕ)) [ true ↦ trimmed x.content ∷ snames xs | false ↦ snames xs ]) ≡ []
+    turn true f g = absurd cc
+    turn false f g = g
 
--- the references of a structure, and that each element which is one is among them
-pub record IsShaped (p : List Record) : Type 0 where
-  pub spoken : AllByRecursion Spoken (element_parts p)
-  pub list : List (List ℕ)
-  pub names : (o : ℕ) → map (λ u. u.name) (uses_from o p) ≡ list
-  pub covered : AllByRecursion (Covered list) (element_parts p)
+pub field_behind : (k : ℕ) (xs ys : List Record) → has_kind k (kinds xs) ≡ false → field k (xs ++ ys) ≡ field k ys
+field_behind k [] ys e = refl
+field_behind k (x ∷ xs) ys e =
+    let p = or_false (eqb x.kind k) (has_kind k (kinds xs)) e in
+    ap (λ (t : Bool). elim t as (λ (_ : Bool). List ℕ) [ true ↦ x.content | false ↦ field k (xs ++ ys) ]) p.0 ∙ field_behind k xs ys p.1
 
-abbrev inner : Language
-inner = Then (One 6) (Then (Many element) (One 7))
+name_here : (c : Record) (ys : List Record) → c.kind ≡ 18 → has_kind 18 (kinds ys) ≡ false → snames (c ∷ ys) ≡ trimmed c.content ∷ []
+name_here c ys e f =
+    ap (λ (k : ℕ). elim (eqb k 18) as (λ (_ : Bool). List (List ℕ)) [ true ↦ trimmed c.content ∷ snames ys | false ↦ snames ys ]) e
+    ∙ ap (λ (x : List (List ℕ)). trimmed c.content ∷ x) (snames_none ys f)
 
-shaped : (xs later : List Record) → Speaks inner (kinds xs) → IsShaped (xs ++ later)
-shaped xs later h =
-    let a = headed 6 (Then (Many element) (One 7)) xs h in
+field_here : (c : Record) (ys : List Record) → c.kind ≡ 18 → field 18 (c ∷ ys) ≡ c.content
+field_here c ys e = ap (λ (k : ℕ). elim (eqb k 18) as (λ (_ : Bool). List ℕ) [ true ↦ c.content | false ↦ field 18 ys ]) e
+
+one_name : (q xs ys : List Record) (c : Record) → q ≡ xs ++ c ∷ ys → c.kind ≡ 18 → has_kind 18 (kinds xs) ≡ false → has_kind 18 (kinds ys) ≡ false → snames q ≡ trimmed (field 18 q) ∷ []
+one_name q xs ys c w e f g =
+    ap (λ (x : List Record). snames x) w ∙ snames_append xs (c ∷ ys) ∙ ap (λ (x : List (List ℕ)). x ++ snames (c ∷ ys)) (snames_none xs f) ∙ name_here c ys e g
+    ∙ ap (λ (x : List ℕ). trimmed x ∷ []) (sym (ap (λ (x : List Record). field 18 x) w ∙ field_behind 18 xs (c ∷ ys) f ∙ field_here c ys e))
+
+-- the name of an element that has one SNAME, behind its first record and its flags
+pub named_once : (o : ℕ) (l : Language) (q : List Record) → eqb o 18 ≡ false → mentions 18 l ≡ false → Speaks (One o >> flags >> One 18 >> l) (kinds q) → snames q ≡ trimmed (field 18 q) ∷ []
+named_once o l q e f h =
+    let a = headed o (flags >> One 18 >> l) q h in
     let b = a.others in
     let s = split a.rest b.0 b.1 b.2 in
-    let o = single 7 s.ys (s.rests ∙ b.4) in
-    let els : List Record = s.xs in
-    let w : xs ++ later ≡ a.head ∷ (els ++ o.0 ∷ later) =
-    ap (λ (x : List Record). x ++ later) (a.whole ∙ ap (λ (x : List Record). a.head ∷ x) (s.whole ∙ ap (λ (x : List Record). els ++ x) o.1))
-    ∙ ap (λ (x : List Record). a.head ∷ x) (append_assoc els (o.0 ∷ []) later) in
-    let free : has_kind 7 (kinds els) ≡ false = ap (λ (x : List ℕ). has_kind 7 x) s.fronts ∙ lacks 7 (Many element) b.0 refl b.3 in
-    let head_free : has_kind 7 (kinds (a.head ∷ els)) ≡ false = ap (λ (k : ℕ). eqb k 7 || has_kind 7 (kinds els)) a.kind ∙ free in
-    let all : AllByRecursion (Covered (snames els)) (parts 17 [] els) = elements_covered b.0 b.3 els s.fronts in
-    let more_names : snames (a.head ∷ els) ≡ snames (a.head ∷ []) ++ snames els = snames_append (a.head ∷ []) els in
-    let wide : AllByRecursion (Covered (snames (a.head ∷ els))) (parts 17 [] els) =
-    all_weaker (Covered (snames els)) (Covered (snames (a.head ∷ els)))
-    (λ q f g. subst (λ (x : List (List ℕ)). is_listed (trimmed (field 18 q)) x ≡ true) (sym more_names) (listed_right (trimmed (field 18 q)) (snames (a.head ∷ [])) (snames els) (f g))) (parts 17 [] els) all in
-    record {
-      spoken = subst (λ (x : List (List Record)). AllByRecursion Spoken x)
-          (sym (ap (λ (x : List Record). element_parts x) w ∙ ap (λ (x : List Record). parts 17 [] x) (up_to_end els o.0 later free o.2))) (elements_spoken b.0 b.3 els s.fronts);
-      list = snames (a.head ∷ els);
-      names = λ n. ap (λ (x : List Record). map (λ (u : Use). u.name) (uses_from n x)) w ∙ uses_names (a.head ∷ els) o.0 later n head_free o.2;
-      covered = subst (λ (x : List (List Record)). AllByRecursion (Covered (snames (a.head ∷ els))) x)
-          (sym (ap (λ (x : List Record). element_parts x) w ∙ ap (λ (x : List Record). parts 17 [] x) (up_to_end els o.0 later free o.2))) wide;
-    }
+    let c = headed 18 l s.ys (subst (λ (x : List ℕ). Speaks (One 18 >> l) x) (sym s.rests) b.4) in
+    let whole : q ≡ (a.head ∷ s.xs) ++ c.head ∷ c.rest = a.whole ∙ ap (λ (x : List Record). a.head ∷ x) (s.whole ∙ ap (λ (x : List Record). s.xs ++ x) c.whole) in
+    let free : has_kind 18 (kinds (a.head ∷ s.xs)) ≡ false =
+    (λ i. eqb (a.kind i) 18 || has_kind 18 (s.fronts i)) ∙ ap (λ (z : Bool). z || has_kind 18 b.0) e ∙ lacks 18 flags b.0 refl b.3 in
+    one_name q (a.head ∷ s.xs) c.rest c.head whole c.kind free (lacks 18 l (kinds c.rest) f c.others)
 
-one_structure : (xs later : List Record) → Speaks structure (kinds xs) → AllByRecursion IsShaped (starts later) → AllByRecursion IsShaped (starts (xs ++ later))
-one_structure xs later h all =
-    let a = headed 5 inner xs h in
-    let w : starts (xs ++ later) ≡ (a.rest ++ later) ∷ starts later =
-    ap (λ (x : List Record). starts (x ++ later)) a.whole ∙ starts_one a.head (a.rest ++ later) a.kind
-    ∙ ap (λ (x : List (List Record)). (a.rest ++ later) ∷ x) (starts_none a.rest later (lacks 5 inner (kinds a.rest) refl a.others)) in
-    subst (λ (x : List (List Record)). AllByRecursion IsShaped x) (sym w) (shaped a.rest later a.others, all)
+abbrev inner_of : Language → Language
+inner_of each = Then (One 6) (Then (Many each) (One 7))
 
-structures_shaped : (w : List ℕ) → Repeats (Speaks structure) w → (zs later : List Record) → kinds zs ≡ w → AllByRecursion IsShaped (starts later) → AllByRecursion IsShaped (starts (zs ++ later))
-structures_shaped w (none w' e) zs later k all = subst (λ (x : List Record). AllByRecursion IsShaped (starts (x ++ later))) (sym (no_kinds zs (k ∙ e))) all
-structures_shaped w (more w' front rest e h r) zs later k all =
-    let s = split zs front rest (k ∙ e) in
-    let t = structures_shaped rest r s.ys later s.rests all in
-    let u = one_structure s.xs (s.ys ++ later) (subst (λ (x : List ℕ). Speaks structure x) (sym s.fronts) h) t in
-    subst (λ (x : List Record). AllByRecursion IsShaped (starts x)) (sym (ap (λ (x : List Record). x ++ later) s.whole ∙ append_assoc s.xs s.ys later)) u
+module _ (each : Language) (last : ends_with 17 each ≡ true) (closed : mentions 7 each ≡ false) (flat : mentions 5 each ≡ false) where
+  elements_spoken : (w : List ℕ) → Repeats (Speaks each) w → (els : List Record) → kinds els ≡ w → AllByRecursion (SpokenIn each) (parts 17 [] els)
+  elements_spoken w (none w' e) els k = subst (λ (x : List Record). AllByRecursion (SpokenIn each) (parts 17 [] x)) (sym (no_kinds els (k ∙ e))) tt
+  elements_spoken w (more w' front rest e h r) els k =
+      let s = split els front rest (k ∙ e) in
+      let sp : Speaks each (kinds s.xs) = subst (λ (x : List ℕ). Speaks each x) (sym s.fronts) h in
+      subst (λ (x : List (List Record)). AllByRecursion (SpokenIn each) x) (sym (ap (λ (x : List Record). parts 17 [] x) s.whole ∙ first_cut s.xs s.ys (ends 17 each (kinds s.xs) last sp))) (sp, elements_spoken rest r s.ys s.rests)
+
+  elements_named : (w : List ℕ) → Repeats (Speaks each) w → (els : List Record) → kinds els ≡ w → snames els ≡ flat_map snames (parts 17 [] els)
+  elements_named w (none w' e) els k = let q : els ≡ [] = no_kinds els (k ∙ e) in ap (λ (x : List Record). snames x) q ∙ sym (ap (λ (x : List Record). flat_map snames (parts 17 [] x)) q)
+  elements_named w (more w' front rest e h r) els k =
+      let s = split els front rest (k ∙ e) in
+      let sp : Speaks each (kinds s.xs) = subst (λ (x : List ℕ). Speaks each x) (sym s.fronts) h in
+      ap (λ (x : List Record). snames x) s.whole ∙ snames_append s.xs s.ys ∙ ap (λ (x : List (List ℕ)). snames s.xs ++ x) (elements_named rest r s.ys s.rests)
+      ∙ sym (flat_map-cons snames s.xs (parts 17 [] s.ys))
+      ∙ ap (λ (x : List (List Record)). flat_map snames x) (sym (ap (λ (x : List Record). parts 17 [] x) s.whole ∙ first_cut s.xs s.ys (ends 17 each (kinds s.xs) last sp)))
+
+  shaped : (xs later : List Record) → Speaks (inner_of each) (kinds xs) → IsShapedIn each (xs ++ later)
+  shaped xs later h =
+      let a = headed 6 (Then (Many each) (One 7)) xs h in
+      let b = a.others in
+      let s = split a.rest b.0 b.1 b.2 in
+      let o = single 7 s.ys (s.rests ∙ b.4) in
+      let els : List Record = s.xs in
+      let w : xs ++ later ≡ a.head ∷ (els ++ o.0 ∷ later) =
+      ap (λ (x : List Record). x ++ later) (a.whole ∙ ap (λ (x : List Record). a.head ∷ x) (s.whole ∙ ap (λ (x : List Record). els ++ x) o.1))
+      ∙ ap (λ (x : List Record). a.head ∷ x) (append_assoc els (o.0 ∷ []) later) in
+      let free : has_kind 7 (kinds els) ≡ false = ap (λ (x : List ℕ). has_kind 7 x) s.fronts ∙ lacks 7 (Many each) b.0 closed b.3 in
+      let head_free : has_kind 7 (kinds (a.head ∷ els)) ≡ false = ap (λ (k : ℕ). eqb k 7 || has_kind 7 (kinds els)) a.kind ∙ free in
+      let head_named : snames (a.head ∷ els) ≡ snames els =
+      snames_append (a.head ∷ []) els ∙ ap (λ (x : List (List ℕ)). x ++ snames els) (snames_none (a.head ∷ []) (ap (λ (k : ℕ). eqb k 18 || false) a.kind)) in
+      let cut : element_parts (xs ++ later) ≡ parts 17 [] els =
+      ap (λ (x : List Record). element_parts x) w ∙ ap (λ (x : List Record). parts 17 [] x) (up_to_end els o.0 later free o.2) in
+      record {
+        spoken = subst (λ (x : List (List Record)). AllByRecursion (SpokenIn each) x) (sym cut) (elements_spoken b.0 b.3 els s.fronts);
+        names = λ n. ap (λ (x : List Record). map (λ (u : Use). u.name) (uses_from n x)) w ∙ uses_names (a.head ∷ els) o.0 later n head_free o.2
+            ∙ head_named ∙ elements_named b.0 b.3 els s.fronts ∙ ap (λ (x : List (List Record)). flat_map snames x) (sym cut);
+      }
+
+  one_structure : (xs later : List Record) → Speaks (structure_of_each each) (kinds xs) → AllByRecursion (IsShapedIn each) (starts later) → AllByRecursion (IsShapedIn each) (starts (xs ++ later))
+  one_structure xs later h all =
+      let a = headed 5 (inner_of each) xs h in
+      let none_inside : mentions 5 (inner_of each) ≡ false = ap (λ (b : Bool). b || false) flat in
+      let w : starts (xs ++ later) ≡ (a.rest ++ later) ∷ starts later =
+      ap (λ (x : List Record). starts (x ++ later)) a.whole ∙ starts_one a.head (a.rest ++ later) a.kind
+      ∙ ap (λ (x : List (List Record)). (a.rest ++ later) ∷ x) (starts_none a.rest later (lacks 5 (inner_of each) (kinds a.rest) none_inside a.others)) in
+      subst (λ (x : List (List Record)). AllByRecursion (IsShapedIn each) x) (sym w) (shaped a.rest later a.others, all)
+
+  structures_shaped : (w : List ℕ) → Repeats (Speaks (structure_of_each each)) w → (zs later : List Record) → kinds zs ≡ w → AllByRecursion (IsShapedIn each) (starts later) → AllByRecursion (IsShapedIn each) (starts (zs ++ later))
+  structures_shaped w (none w' e) zs later k all = subst (λ (x : List Record). AllByRecursion (IsShapedIn each) (starts (x ++ later))) (sym (no_kinds zs (k ∙ e))) all
+  structures_shaped w (more w' front rest e h r) zs later k all =
+      let s = split zs front rest (k ∙ e) in
+      let t = structures_shaped rest r s.ys later s.rests all in
+      let u = one_structure s.xs (s.ys ++ later) (subst (λ (x : List ℕ). Speaks (structure_of_each each) x) (sym s.fronts) h) t in
+      subst (λ (x : List Record). AllByRecursion (IsShapedIn each) (starts x)) (sym (ap (λ (x : List Record). x ++ later) s.whole ∙ append_assoc s.xs s.ys later)) u
 
 record Peeled (b : Language) (rs : List Record) : Type 0 where
   rest : List Record
@@ -294,43 +325,72 @@ peel a b rs e p =
     }
 
 -- what is left of a sentence's grammar, piece by piece
-abbrev body : Language
-body = Then (Many structure) (One 4)
+abbrev body : Language → Language
+body each = Then (Many (structure_of_each each)) (One 4)
 
-abbrev from_units : Language
-from_units = Then (One 3) body
+abbrev from_units : Language → Language
+from_units each = Then (One 3) (body each)
 
-abbrev from_generations : Language
-from_generations = Then (maybe (One 0x22)) from_units
+abbrev from_generations : Language → Language
+from_generations each = Then (maybe (One 0x22)) (from_units each)
 
-abbrev from_table : Language
-from_table = Then (maybe (One 0x23)) from_generations
+abbrev from_table : Language → Language
+from_table each = Then (maybe (One 0x23)) (from_generations each)
 
-abbrev from_fonts : Language
-from_fonts = Then (maybe (One 0x20)) from_table
+abbrev from_fonts : Language → Language
+from_fonts each = Then (maybe (One 0x20)) (from_table each)
 
-abbrev from_libraries : Language
-from_libraries = Then (maybe (One 0x1F)) from_fonts
+abbrev from_libraries : Language → Language
+from_libraries each = Then (maybe (One 0x1F)) (from_fonts each)
 
-abbrev from_name : Language
-from_name = Then (One 2) from_libraries
+abbrev from_name : Language → Language
+from_name each = Then (One 2) (from_libraries each)
 
-body_shaped : (rs : List Record) → Peeled body rs → AllByRecursion IsShaped (starts rs)
-body_shaped rs p =
-    let h = p.others in
-    let s = split p.rest h.0 h.1 h.2 in
-    let none_left : starts s.ys ≡ [] = ap (λ (x : List Record). starts x) (sym (append-nil s.ys)) ∙ starts_none s.ys [] (ap (λ (x : List ℕ). has_kind 5 x) (s.rests ∙ h.4)) in
-    let all = structures_shaped h.0 h.3 s.xs s.ys s.fronts (subst (λ (x : List (List Record)). AllByRecursion IsShaped x) (sym none_left) tt) in
-    subst (λ (x : List (List Record)). AllByRecursion IsShaped x) (sym (p.same_starts ∙ ap (λ (x : List Record). starts x) s.whole)) all
+module _ (each : Language) (last : ends_with 17 each ≡ true) (closed : mentions 7 each ≡ false) (flat : mentions 5 each ≡ false) where
+  body_shaped : (rs : List Record) → Peeled (body each) rs → AllByRecursion (IsShapedIn each) (starts rs)
+  body_shaped rs p =
+      let h = p.others in
+      let s = split p.rest h.0 h.1 h.2 in
+      let none_left : starts s.ys ≡ [] = ap (λ (x : List Record). starts x) (sym (append-nil s.ys)) ∙ starts_none s.ys [] (ap (λ (x : List ℕ). has_kind 5 x) (s.rests ∙ h.4)) in
+      let all = structures_shaped each last closed flat h.0 h.3 s.xs s.ys s.fronts (subst (λ (x : List (List Record)). AllByRecursion (IsShapedIn each) x) (sym none_left) tt) in
+      subst (λ (x : List (List Record)). AllByRecursion (IsShapedIn each) x) (sym (p.same_starts ∙ ap (λ (x : List Record). starts x) s.whole)) all
+
+  pub shaped_in : (rs : List Record) → Speaks (stream_of_each each) (kinds rs) → AllByRecursion (IsShapedIn each) (starts rs)
+  shaped_in rs h =
+      body_shaped rs
+      (peel (One 3) (body each) rs refl
+      (peel (maybe (One 0x22)) (from_units each) rs refl
+      (peel (maybe (One 0x23)) (from_generations each) rs refl
+      (peel (maybe (One 0x20)) (from_table each) rs refl
+      (peel (maybe (One 0x1F)) (from_fonts each) rs refl
+      (peel (One 2) (from_libraries each) rs refl
+      (peel (One 1) (from_name each) rs refl
+      (peel (One 0) (Then (One 1) (from_name each)) rs refl (record { rest = rs; others = h; same_starts = refl })))))))))
+
+-- ---- strict streams
+
+abbrev pub Spoken : List Record → Type 0
+Spoken q = Speaks element (kinds q)
+
+-- the references of a structure, and that each element which is one is among them
+pub record IsShaped (p : List Record) : Type 0 where
+  pub spoken : AllByRecursion Spoken (element_parts p)
+  pub list : List (List ℕ)
+  pub names : (o : ℕ) → map (λ u. u.name) (uses_from o p) ≡ list
+  pub covered : AllByRecursion (Covered list) (element_parts p)
+
+parts_covered : (qs : List (List Record)) → AllByRecursion Spoken qs → AllByRecursion (Covered (flat_map snames qs)) qs
+parts_covered [] all = tt
+parts_covered (q ∷ qs) all =
+    let names : flat_map snames (q ∷ qs) ≡ snames q ++ flat_map snames qs = flat_map-cons snames q qs in (
+      λ e. subst (λ (x : List (List ℕ)). is_listed (trimmed (field 18 q)) x ≡ true) (sym names) (listed_left (trimmed (field 18 q)) (snames q) (flat_map snames qs) (covered_element q all.0 e)),
+      all_weaker (Covered (flat_map snames qs)) (Covered (flat_map snames (q ∷ qs)))
+          (λ x f e. subst (λ (y : List (List ℕ)). is_listed (trimmed (field 18 x)) y ≡ true) (sym names) (listed_right (trimmed (field 18 x)) (snames q) (flat_map snames qs) (f e)))
+          qs (parts_covered qs all.1),
+    )
+
+strict_shaped : (p : List Record) → IsShapedIn element p → IsShaped p
+strict_shaped p s = record { spoken = s.spoken; list = flat_map snames (element_parts p); names = s.names; covered = parts_covered (element_parts p) s.spoken }
 
 pub sentence_shaped : (rs : List Record) → Speaks stream (kinds rs) → AllByRecursion IsShaped (starts rs)
-sentence_shaped rs h =
-    body_shaped rs
-    (peel (One 3) body rs refl
-    (peel (maybe (One 0x22)) from_units rs refl
-    (peel (maybe (One 0x23)) from_generations rs refl
-    (peel (maybe (One 0x20)) from_table rs refl
-    (peel (maybe (One 0x1F)) from_fonts rs refl
-    (peel (One 2) from_libraries rs refl
-    (peel (One 1) from_name rs refl
-    (peel (One 0) (Then (One 1) from_name) rs refl (record { rest = rs; others = h; same_starts = refl })))))))))
+sentence_shaped rs h = all_weaker (IsShapedIn element) IsShaped strict_shaped (starts rs) (shaped_in element refl refl refl rs h)

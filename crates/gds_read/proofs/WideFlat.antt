@@ -1,5 +1,5 @@
 -- The wide layout of a strict stream has the flat form of its layout.
-use Rattle.std.proofs.Common.{◌≡◌, ℕ, zero, suc, ◌*◌, ◌^◌, ◌<◌, List, [], ◌∷◌, ◌++◌, map, drop, arith, Bool, true, false, eqb, ◌&&◌, ◌||◌, Option, Some, None, refl, sym, ap, subst, ◌∙◌, append_assoc, inl, inr}
+use Rattle.std.proofs.Common.{◌≡◌, ℕ, zero, suc, ◌*◌, ◌^◌, ◌<◌, List, [], ◌∷◌, ◌++◌, map, drop, arith, Bool, true, false, eqb, ◌&&◌, ◌||◌, Option, Some, None, refl, sym, ap, subst, ◌∙◌, inl, inr}
 use Rattle.std.specs.Prelude.{ℤ, pos}
 use Rattle.std.specs.List.{flat_map, AllByRecursion}
 use Rattle.std.proofs.lemmas.List.{append-nil}
@@ -31,13 +31,14 @@ use Rattle.gds_records.specs.Grammar.{◌>>◌, maybe, flags, tail, reference, t
 use Rattle.gds_records.specs.Records.{Record, spelled, kinds, number, trimmed}
 use Rattle.gds_records.specs.Values.{at, value_of, is_rectangle, is_structure_name, has_value, opener, value_fault_in}
 use Rattle.gds_records.specs.WideValues.{points}
-use Rattle.gds_records.specs.Drawing.{starts, up_to, parts, field, has, coordinate, box_of, place_of, element_of, element_parts, structure_of, names_of}
+use Rattle.gds_records.specs.Drawing.{starts, field, has, coordinate, box_of, place_of, element_of, element_parts, structure_of, names_of}
 use Rattle.gds_records.specs.WideDrawing.{point_at, turn_of, grid_of, figure_of, item_of, wide_structure_of}
 use Rattle.gds_records.specs.Stream.{IsStream, wide_layout_of}
 use Rattle.gds_records.specs.Whole.{top_of}
 use Rattle.gds_records.specs.Scan.{IsBytes}
 use Rattle.gds_records.specs.Profiles.{strict}
 use Rattle.gds_records.specs.Profiled.{AreGoodIn}
+use Rattle.gds_read.proofs.Kept.{From, Kept, starts_kept, elements_kept}
 use Rattle.gds_read.proofs.Words.{has_kind, or_false, lacks, holds}
 use Rattle.gds_read.proofs.Shaped.{Headed, headed, has_is, Spoken, IsShaped, sentence_shaped}
 use Rattle.gds_read.proofs.Placed.{HasBytes, all_bytes, bytes_front, starts_bytes, element_bytes, field_bytes, four_low, drop_is_bytes, shallow_of}
@@ -45,8 +46,7 @@ use Rattle.gds_read.proofs.Placed.{HasBytes, all_bytes, bytes_front, starts_byte
 -- ---- values after an opener
 
 abbrev GoodFrom : ℕ → List Record → Type 0
-GoodFrom last [] = Unit {0}
-GoodFrom last (r ∷ rs) = ((taken : Bool) × (value_fault_in last taken r ≡ None)) × GoodFrom (opener last (r ∷ [])) rs
+GoodFrom last rs = From (λ last r. opener last (r ∷ [])) (λ last r. (taken : Bool) × (value_fault_in last taken r ≡ None)) last rs
 
 opener_more : (last : ℕ) (xs : List Record) (r : Record) → opener last (xs ++ r ∷ []) ≡ opener (opener last xs) (r ∷ [])
 opener_more last [] r = refl
@@ -62,49 +62,8 @@ good_from before [] g = tt
 good_from before (r ∷ rs) g = ((is_structure_name (trimmed r.content) before, g.0.value), subst (λ (x : ℕ). GoodFrom x rs) (opener_more 0 before r) (good_from (before ++ r ∷ []) rs g.1))
 
 -- as after some opener
-record Good (q : List Record) : Type 0 where
-  last : ℕ
-  good : GoodFrom last q
-
-front_good : (last : ℕ) (xs ys : List Record) → GoodFrom last (xs ++ ys) → GoodFrom last xs
-front_good last [] ys g = tt
-front_good last (x ∷ xs) ys g = (g.0, front_good (opener last (x ∷ [])) xs ys g.1)
-
-back_good : (last : ℕ) (xs ys : List Record) → GoodFrom last (xs ++ ys) → Good ys
-back_good last [] ys g = record { last = last; good = g }
-back_good last (x ∷ xs) ys g = back_good (opener last (x ∷ [])) xs ys g.1
-
-starts_good : (last : ℕ) (rs : List Record) → GoodFrom last rs → AllByRecursion Good (starts rs)
-starts_good last [] g = tt
-starts_good last (r ∷ rs) g = turn (eqb r.kind 5) (starts_good (opener last (r ∷ [])) rs g.1)
-  where
-    turn : (z : Bool) → AllByRecursion Good (starts rs) → AllByRecursion Good (elim z as (λ (x : Bool). List (List Record)) [ true ↦ rs ∷ starts rs | false ↦ starts rs ])
-    turn true h = (record { last = opener last (r ∷ []); good = g.1 }, h)
-    turn false h = h
-
-up_to_good : (k last : ℕ) (rs : List Record) → GoodFrom last rs → GoodFrom last (up_to k rs)
-up_to_good k last [] g = tt
-up_to_good k last (r ∷ rs) g = turn (eqb r.kind k) (up_to_good k (opener last (r ∷ [])) rs g.1)
-  where
-    turn : (z : Bool) → GoodFrom (opener last (r ∷ [])) (up_to k rs) → GoodFrom last (elim z as (λ (x : Bool). List Record) [ true ↦ [] | false ↦ r ∷ up_to k rs ])
-    turn true h = tt
-    turn false h = (g.0, h)
-
-parts_good : (k last : ℕ) (front rs : List Record) → GoodFrom last (front ++ rs) → AllByRecursion Good (parts k front rs)
-parts_good k last front [] g = tt
-parts_good k last front (r ∷ rs) g =
-    let h : GoodFrom last ((front ++ r ∷ []) ++ rs) = subst (λ (x : List Record). GoodFrom last x) (sym (append_assoc front (r ∷ []) rs)) g in
-    let b = back_good last (front ++ r ∷ []) rs h in
-    turn (eqb r.kind k) h (parts_good k b.last [] rs b.good) (parts_good k last (front ++ r ∷ []) rs h)
-  where
-    turn : (z : Bool) → GoodFrom last ((front ++ r ∷ []) ++ rs) → AllByRecursion Good (parts k [] rs) → AllByRecursion Good (parts k (front ++ r ∷ []) rs)
-        → AllByRecursion Good (elim z as (λ (x : Bool). List (List Record)) [ true ↦ (front ++ r ∷ []) ∷ parts k [] rs | false ↦ parts k (front ++ r ∷ []) rs ])
-    turn true h a b = (record { last = last; good = front_good last (front ++ r ∷ []) rs h }, a)
-    turn false h a b = b
-
-elements_good : (p : List Record) → Good p → AllByRecursion Good (element_parts p)
-elements_good [] a = tt
-elements_good (r ∷ rs) a = parts_good 17 (opener a.last (r ∷ [])) [] (up_to 7 rs) (up_to_good 7 (opener a.last (r ∷ [])) rs a.good.1)
+abbrev Good : List Record → Type 0
+Good q = Kept (λ last r. opener last (r ∷ [])) (λ last r. (taken : Bool) × (value_fault_in last taken r ≡ None)) q
 
 -- ---- fields
 
@@ -150,11 +109,11 @@ record Opened (o : ℕ) (l : Language) (q : List Record) : Type 0 where
 
 open_with : (o : ℕ) (l : Language) (q : List Record) → ((last : ℕ) → (elim (eqb o 8 || eqb o 10 || eqb o 12) as (λ (_ : Bool). ℕ) [ true ↦ o | false ↦ last ]) ≡ o) → eqb o o ≡ true → Good q → Headed o l q → Opened o l q
 open_with o l q op self g h =
-    let w : GoodFrom g.last (h.head ∷ h.rest) = subst (λ (x : List Record). GoodFrom g.last x) h.whole g.good in
+    let w : GoodFrom g.state (h.head ∷ h.rest) = subst (λ (x : List Record). GoodFrom g.state x) h.whole g.good in
     record {
       rest = h.rest;
       others = h.others;
-      good = subst (λ (x : ℕ). GoodFrom x h.rest) (ap (λ (x : ℕ). elim (eqb x 8 || eqb x 10 || eqb x 12) as (λ (_ : Bool). ℕ) [ true ↦ x | false ↦ g.last ]) h.kind ∙ op g.last) w.1;
+      good = subst (λ (x : ℕ). GoodFrom x h.rest) (ap (λ (x : ℕ). elim (eqb x 8 || eqb x 10 || eqb x 12) as (λ (_ : Bool). ℕ) [ true ↦ x | false ↦ g.state ]) h.kind ∙ op g.state) w.1;
       same_field = λ k e. ap (λ (x : List Record). field k x) h.whole ∙ ap (λ (t : Bool). elim t as (λ (_ : Bool). List ℕ) [ true ↦ h.head.content | false ↦ field k h.rest ]) (ap (λ (x : ℕ). eqb x k) h.kind ∙ e);
       first = ap (λ (x : List Record). has o x) h.whole ∙ ap (λ (t : Bool). elim t as (λ (_ : Bool). Bool) [ true ↦ true | false ↦ has o h.rest ]) (ap (λ (x : ℕ). eqb x o) h.kind ∙ self);
     }
@@ -281,7 +240,7 @@ module _ (names : List (List ℕ)) (ring : (xy : List ℕ) → ((k : ℕ) → at
 
   structures_alike : (ps : List (List Record)) → AllByRecursion IsShaped ps → AllByRecursion Good ps → AllByRecursion (AllByRecursion HasBytes) ps → AllByRecursion (λ p. AllByRecursion AlikePart (element_parts p)) ps
   structures_alike [] a b c = tt
-  structures_alike (p ∷ ps) a b c = (parts_alike (element_parts p) a.0.spoken (elements_good p b.0) (element_bytes p c.0), structures_alike ps a.1 b.1 c.1)
+  structures_alike (p ∷ ps) a b c = (parts_alike (element_parts p) a.0.spoken (elements_kept (λ last r. opener last (r ∷ [])) (λ last r. (taken : Bool) × (value_fault_in last taken r ≡ None)) p b.0) (element_bytes p c.0), structures_alike ps a.1 b.1 c.1)
 
 -- ---- flat forms
 
@@ -380,7 +339,7 @@ same_flat ring bytes layout fits s =
     let rs : List Record = s.records in
     let w : IsBytes (flat_map spelled rs ++ s.rest) = subst (λ (x : List ℕ). IsBytes x) s.read.whole fits in
     let shaped = sentence_shaped rs s.read.grammar in
-    let all = structures_alike (names_of rs) ring (starts rs) shaped (starts_good 0 rs (good_from [] rs s.read.good)) (starts_bytes rs (all_bytes rs (bytes_front (flat_map spelled rs) s.rest w))) in
+    let all = structures_alike (names_of rs) ring (starts rs) shaped (starts_kept (λ last r. opener last (r ∷ [])) (λ last r. (taken : Bool) × (value_fault_in last taken r ≡ None)) 0 rs (good_from [] rs s.read.good)) (starts_bytes rs (all_bytes rs (bytes_front (flat_map spelled rs) s.rest w))) in
     let shallow = shallow_of rs shaped s.conditions in
     let e = same_shapes (names_of rs) (starts rs) all shallow 63 (top_of rs) in
     let f = same_labels (names_of rs) (starts rs) all shallow 63 (top_of rs) in

@@ -1,4 +1,4 @@
--- Words of the code alone: places of the reader, records of bytes, outlines, numbers of names, and sizes.
+-- Words of the code alone: places of the reader, records of bytes, outlines, numbers of names, references, and sizes.
 pub mod Profiles
 pub mod Places
 pub mod Fronts
@@ -8,6 +8,8 @@ pub mod Decoding
 pub mod Bodies
 pub mod Outlining
 pub mod Numbering
+pub mod Graphs
+pub mod Chains
 pub mod Tops
 pub mod Ways
 pub mod Sizes

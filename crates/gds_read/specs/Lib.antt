@@ -1,3 +1,4 @@
 pub mod Flattening
 pub mod Reading
+pub mod WideReading
 pub mod Code

@@ -1,7 +1,7 @@
 // The conditions on the whole stream.
 ghost use Rattle.std.specs.Prelude.{◌≡◌, ◌&&◌, ◌==◌, not, length, map, Some, None, IfOk, IfErr};
 ghost use Rattle.gds_records.specs.Steps.{is_listed};
-ghost use Rattle.gds_records.specs.Whole.{all_uses, unknown, deep, tops, outlines, whole_fault, top_of};
+ghost use Rattle.gds_records.specs.Whole.{all_uses, unknown, deep, tops, top_in, top_fault, last_place, outlines, whole_fault, top_of};
 ghost use Rattle.gds_read.specs.Code.Decoding.{IsSpelled, records_in};
 ghost use Rattle.gds_read.specs.Code.Outlining.{use_of, outline_of};
 ghost use Rattle.gds_read.specs.Code.Numbering.{number_in, IsNumbering, AreUsed, unnumbered};
@@ -43,8 +43,8 @@ fn unknown_in(uses: &[NamedUse<'_>], numbers: &Numbers<'_>) -> Option<usize>
     None
 }
 
-// The place of the first reference that names no structure.
-fn first_unknown(structures: &[NamedOutline<'_>], numbers: &Numbers<'_>) -> Option<usize>
+/// The place of the first reference that names no structure.
+pub fn first_unknown(structures: &[NamedOutline<'_>], numbers: &Numbers<'_>) -> Option<usize>
     ensures { result ≡ unnumbered (number_in numbers.now.entries) (all_uses (map outline_of structures.now)) }
 {
     for outline in structures {
@@ -95,6 +95,35 @@ fn find_tops(structures: &[NamedOutline<'_>], used: &Names<'_>) -> Tops
     }
 }
 
+/// The number of the top, which no structure refers to, where there is one alone.
+pub fn one_top(
+    bytes: &[u8],
+    structures: &[NamedOutline<'_>],
+    used: &Names<'_>,
+) -> Result<usize, Fault>
+    requires spelled { IsSpelled bytes.now }
+    requires used { AreUsed (texts used.now.keys) (all_uses (map outline_of structures.now)) }
+    ensures none { IfOk result (λ top. top_fault (last_place 0 (records_in bytes.now))
+        (tops 0 (all_uses (map outline_of structures.now)) (map outline_of structures.now)) ≡ None) }
+    ensures top { IfOk result (λ top. top
+        ≡ top_in (tops 0 (all_uses (map outline_of structures.now)) (map outline_of structures.now))) }
+    ensures fault { IfErr result (λ fault. top_fault (last_place 0 (records_in bytes.now))
+        (tops 0 (all_uses (map outline_of structures.now)) (map outline_of structures.now)) ≡ Some (fault.offset, fault.kind)) }
+{
+    match find_tops(structures, used) {
+        Tops::One(top) => Ok(top),
+        Tops::Several(offset) => {
+            let kind = StreamKind::SeveralTops;
+            Err(Fault { offset, kind })
+        }
+        Tops::Nothing => {
+            let offset = end_at(bytes);
+            let kind = StreamKind::NoTop;
+            Err(Fault { offset, kind })
+        }
+    }
+}
+
 /// The number of the top, or what is wrong with the whole stream.
 pub fn top_or_fault(
     bytes: &[u8],
@@ -118,16 +147,5 @@ pub fn top_or_fault(
         let kind = StreamKind::Unsupported;
         return Err(Fault { offset, kind });
     }
-    match find_tops(structures, used) {
-        Tops::One(top) => Ok(top),
-        Tops::Several(offset) => {
-            let kind = StreamKind::SeveralTops;
-            Err(Fault { offset, kind })
-        }
-        Tops::Nothing => {
-            let offset = end_at(bytes);
-            let kind = StreamKind::NoTop;
-            Err(Fault { offset, kind })
-        }
-    }
+    one_top(bytes, structures, used)
 }

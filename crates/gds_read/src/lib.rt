@@ -1,6 +1,8 @@
 //! The reader of streams, and the flat form of a layout.
 #![tactic(auto)]
 
+mod chains;
+mod components;
 mod conditions;
 mod cursor;
 mod element;
@@ -8,8 +10,10 @@ mod ending;
 mod fields;
 mod flat;
 mod front;
+mod graph;
 mod item;
 mod laws;
+mod loops;
 mod names;
 mod naming;
 mod numbers;
@@ -27,6 +31,8 @@ mod table;
 mod tests;
 mod values;
 mod ways;
+mod wide;
+mod wide_conditions;
 mod wide_structures;
 #[cfg(test)]
 mod wide_tests;
@@ -34,6 +40,7 @@ mod wide_values;
 
 pub use flat::flatten;
 pub use gds_records::StreamKind;
-pub use laws::{reading_is_exact, strict_reading_is_wide};
+pub use laws::{reading_is_exact, strict_reading_is_wide, wide_reading_is_exact};
 pub use read::read_stream;
 pub use refusal::StreamRefusal;
+pub use wide::read_wide;

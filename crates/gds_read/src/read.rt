@@ -2,6 +2,7 @@
 ghost use Rattle.std.specs.Prelude.{◌≡◌, ◌<◌, ◌≤◌, length, None, IfOk, IfErr};
 ghost use Rattle.geom.specs.FlatForm.{flat_of, flat_count};
 ghost use Rattle.gds_records.specs.Stream.{layout_of};
+ghost use Rattle.gds_records.specs.Profiles.{strict};
 ghost use Rattle.gds_records.specs.Whole.{whole_fault};
 ghost use Rattle.gds_read.specs.Code.Bodies.{IsWholeRefusal, IsOversize};
 ghost use Rattle.gds_read.specs.Code.Decoding.{IsSpelled, records_in};
@@ -22,14 +23,14 @@ use name_hash::NameHash;
 use std::alloc::Global;
 
 /// How many shapes and labels a flat form may have.
-const MOST: u64 = 8_000_000;
+pub const MOST: u64 = 8_000_000;
 
 // The layout of the records of a stream, if they meet the conditions on the whole.
 fn layout_of(alloc: Global, hash: NameHash, bytes: &[u8]) -> Result<Layout, StreamRefusal>
     requires { IsSpelled bytes.now }
     ensures layout { IfOk result (λ layout. layout ≡ layout_of (records_in bytes.now)) }
     ensures none { IfOk result (λ layout. whole_fault (records_in bytes.now) ≡ None) }
-    ensures err { IfErr result (λ refusal. IsWholeRefusal (records_in bytes.now) refusal) }
+    ensures err { IfErr result (λ refusal. IsWholeRefusal strict (records_in bytes.now) refusal) }
 {
     let outlines = outlines_in(alloc, bytes)?;
     let numbers = numbers(alloc, hash, outlines.as_slice())?;

@@ -1,0 +1,77 @@
+// The references of structures by number.
+ghost use Rattle.std.specs.Prelude.{◌≡◌, ◌==◌, map, slice_index, IfOk};
+ghost use Rattle.gds_records.specs.Drawing.{place_of};
+ghost use Rattle.gds_read.specs.Code.Numbering.{IsNumbering};
+ghost use Rattle.gds_read.specs.Code.Outlining.{names_in};
+ghost use Rattle.gds_read.specs.Code.Graphs.{graph_of, targets_at, some_target, refers};
+
+use crate::element::named;
+use crate::numbers::Numbers;
+use crate::outline::{NamedOutline, NamedUse};
+use aq_base::{List, Memory};
+use std::alloc::Global;
+
+// The numbers of the structures that references name.
+fn targets(
+    alloc: Global,
+    structures: &[NamedOutline<'_>],
+    numbers: &Numbers<'_>,
+    uses: &[NamedUse<'_>],
+) -> Result<List<u32>, Memory>
+    requires { IsNumbering numbers.now.entries (names_in structures.now) }
+    ensures { IfOk result (λ found. found ≡ map (λ u. place_of u.name.now (names_in structures.now)) uses.now) }
+{
+    let mut found = List::new(alloc);
+    for item in uses {
+        found.push(named(structures, numbers, item.name)?)?;
+    }
+    Ok(found)
+}
+
+/// The references of structures by number.
+pub fn graph(
+    alloc: Global,
+    structures: &[NamedOutline<'_>],
+    numbers: &Numbers<'_>,
+) -> Result<List<List<u32>>, Memory>
+    requires { IsNumbering numbers.now.entries (names_in structures.now) }
+    ensures { IfOk result (λ graph. graph ≡ graph_of structures.now) }
+{
+    let mut graph = List::new(alloc);
+    for outline in structures {
+        graph.push(targets(alloc, structures, numbers, outline.uses.as_slice())?)?;
+    }
+    Ok(graph)
+}
+
+/// What a structure references; nothing past the last.
+pub fn targets_at(graph: &[List<u32>], number: u32) -> &[u32]
+    ensures { result.now ≡ targets_at graph.now number }
+{
+    match graph.get(number as usize) {
+        Some(targets) => targets.as_slice(),
+        None => &[],
+    }
+}
+
+/// Whether one structure references another.
+pub fn refers(graph: &[List<u32>], from: u32, to: u32) -> bool
+    ensures { result ≡ refers graph.now from to }
+{
+    for target in targets_at(graph, from) {
+        if *target == to {
+            return true;
+        }
+    }
+    false
+}
+
+/// The number that structure `number` is given; 0 past the last.
+pub fn value_at(values: &[u32], number: u32) -> u32
+    ensures { result ≡ slice_index values.now number }
+{
+    match values.get(number as usize) {
+        Some(value) => *value,
+        None => 0,
+    }
+}

@@ -1,0 +1,80 @@
+// The conditions on the whole of a wide stream.
+ghost use Rattle.std.specs.Prelude.{◌≡◌, map, None, IfOk, IfErr};
+ghost use Rattle.gds_records.specs.Profiles.{wide};
+ghost use Rattle.gds_records.specs.Whole.{all_uses, outlines, top_of};
+ghost use Rattle.gds_records.specs.WideWhole.{wide_whole_fault};
+ghost use Rattle.gds_read.specs.Code.Bodies.{IsWholeRefusal};
+ghost use Rattle.gds_read.specs.Code.Chains.{loop_or_long, IsShort};
+ghost use Rattle.gds_read.specs.Code.Decoding.{IsSpelled, records_in};
+ghost use Rattle.gds_read.specs.Code.Outlining.{outline_of, names_in};
+ghost use Rattle.gds_read.specs.Code.Numbering.{IsNumbering, AreUsed};
+ghost use Rattle.gds_read.specs.Code.Texts.{texts};
+
+use crate::chains::{first_long, long_chains, none_marked};
+use crate::conditions::{first_unknown, one_top};
+use crate::graph::graph;
+use crate::loops::first_loop;
+use crate::names::Names;
+use crate::numbers::Numbers;
+use crate::outline::NamedOutline;
+use crate::refusal::StreamRefusal;
+use aq_base::Memory;
+use gds_records::{StreamKind, loops_are_long};
+use std::alloc::Global;
+
+// The place of the first structure in a loop of references, or else of the first from which a chain of more than 64 goes
+// down. From a structure in a loop chains of any length go down, so loops are looked for only where there is such a chain.
+// Names are all different, so each structure is the first of its name: a later one with such a chain can't be, and would
+// be answered as want of memory.
+fn loop_or_long(
+    alloc: Global,
+    structures: &[NamedOutline<'_>],
+    numbers: &Numbers<'_>,
+) -> Result<Option<usize>, Memory>
+    requires { IsNumbering numbers.now.entries (names_in structures.now) }
+    ensures place { IfOk result (λ place. place ≡ loop_or_long (map outline_of structures.now)) }
+    ensures short { IfOk result (λ place. place ≡ None → IsShort structures.now) }
+{
+    loops_are_long();
+    let graph = graph(alloc, structures, numbers)?;
+    let long = long_chains(alloc, graph.as_slice())?;
+    let Some(place) = first_long(structures, numbers, long.as_slice())? else {
+        if !none_marked(long.as_slice()) {
+            return Err(Memory);
+        }
+        return Ok(None);
+    };
+    match first_loop(alloc, structures, numbers, graph.as_slice())? {
+        Some(first) => Ok(Some(first)),
+        None => Ok(Some(place)),
+    }
+}
+
+/// The number of the top, or what is wrong with the whole stream.
+pub fn wide_top_or_fault(
+    alloc: Global,
+    bytes: &[u8],
+    structures: &[NamedOutline<'_>],
+    numbers: &Numbers<'_>,
+    used: &Names<'_>,
+) -> Result<usize, StreamRefusal>
+    requires spelled { IsSpelled bytes.now }
+    requires outlines { map outline_of structures.now ≡ outlines 0 (records_in bytes.now) }
+    requires numbers { IsNumbering numbers.now.entries (names_in structures.now) }
+    requires used { AreUsed (texts used.now.keys) (all_uses (map outline_of structures.now)) }
+    ensures short { IfOk result (λ top. IsShort structures.now) }
+    ensures none { IfOk result (λ top. wide_whole_fault (records_in bytes.now) ≡ None) }
+    ensures top { IfOk result (λ top. top ≡ top_of (records_in bytes.now)) }
+    ensures err { IfErr result (λ refusal. IsWholeRefusal wide (records_in bytes.now) refusal) }
+{
+    if let Some(place) = first_unknown(structures, numbers) {
+        return Err(StreamRefusal::bad(place, StreamKind::UnknownName));
+    }
+    if let Some(place) = loop_or_long(alloc, structures, numbers)? {
+        return Err(StreamRefusal::bad(place, StreamKind::Unsupported));
+    }
+    match one_top(bytes, structures, used) {
+        Ok(top) => Ok(top),
+        Err(fault) => Err(StreamRefusal::bad(fault.offset, fault.kind)),
+    }
+}
