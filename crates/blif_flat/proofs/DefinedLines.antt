@@ -174,7 +174,7 @@ module _ (name : ℕ → List ℕ) (total : ℕ) (names : AreNames name total) w
 
   pub head_passes : (inputs : ℕ) (ds : List Definition) (outs : List ℕ) → inputs + length ds ≡ total
       → AreDefined inputs ds → AllByRecursion (λ s. s < total) outs
-      → line_fault [] (numbered 1 (whole name inputs ds outs)) ≡ None
+      → line_fault false [] (numbered 1 (whole name inputs ds outs)) ≡ None
   head_passes inputs ds outs h each shown =
       let input_names = map name (range_with_len 0 inputs) in
       let model = line 1 (codes ".model" ∷ codes "aqfp" ∷ []) in

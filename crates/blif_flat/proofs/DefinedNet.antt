@@ -148,7 +148,7 @@ module _ (name : ℕ → List ℕ) (inputs : ℕ) (ds : List Definition) (outs :
 
     no_fault : 0 < length outs → fault_of lines ≡ None
     no_fault some =
-        let single : line_fault [] lines ≡ None = head_passes name
+        let single : line_fault false [] lines ≡ None = head_passes name
         (inputs + length ds) names inputs ds outs refl each shown in
         let outputs : outputs_fault lines ≡ None = ap (λ xs. cond (is_empty xs) (outputs_fault []) None)
         (outputs_said each) ∙ ap (λ b. cond b (outputs_fault []) None) (some_shown outs some) in

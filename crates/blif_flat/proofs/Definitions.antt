@@ -115,17 +115,17 @@ all_append P (x ∷ xs) ys a b = (a.0, all_append P xs ys a.1 b)
 -- ---- the fault of a line
 
 pub no_kind : (before : Before) (l : Line) → is_token_fault l ≡ false → is_second_model before l ≡ false
-    → is_unsupported before l ≡ false
-    → cond (is_row (word l)) (row_fault before.cover l.tokens) None ≡ None → kind_in before l ≡ None
+    → is_unsupported false before l ≡ false
+    → cond (is_row (word l)) (row_fault before.cover l.tokens) None ≡ None → kind_in false before l ≡ None
 no_kind before l a b c d = rw (a, b, c) d
 
-pub passes : (before : List Line) (l : Line) (lines : List Line) → kind_in (before_of before) l ≡ None
+pub passes : (before : List Line) (l : Line) (lines : List Line) → kind_in false (before_of before) l ≡ None
     → adds_again (flat_map added_in before) (added_in l) ≡ false
-    → line_fault before (l ∷ lines) ≡ line_fault (l ∷ before) lines
+    → line_fault false before (l ∷ lines) ≡ line_fault false (l ∷ before) lines
 passes before l lines k a =
-    let none : kind_of before l ≡ None = ap (λ x. option_or x (duplicate_in before l)) k
+    let none : kind_of false before l ≡ None = ap (λ x. option_or x (duplicate_in before l)) k
     ∙ ap (λ b. cond b (Some Duplicate) None) a in
-    ap (λ x. option_or (at_line l.number x) (line_fault (l ∷ before) lines)) none
+    ap (λ x. option_or (at_line l.number x) (line_fault false (l ∷ before) lines)) none
 
 -- what is known of the lines before: none is `.end`, and the names that are known are those of earlier signals
 pub record Stands (name : ℕ → List ℕ) (s : ℕ) (before : List Line) : Type 0 where
@@ -142,14 +142,14 @@ record InCover (width : ℕ) (before : List Line) : Type 0 where
 
 row_kind : (width n : ℕ) (row : List (List ℕ)) (before : List Line) → IsRow width row
     → list_any (λ l. is_end (word l)) before ≡ false → InCover width before
-    → kind_in (before_of before) (line n row) ≡ None
+    → kind_in false (before_of before) (line n row) ≡ None
 row_kind width n row before is going cover =
     let w : word (line n row) ≡ Row = is.is_row in
     let token : is_token_fault (line n row) ≡ false =
     off_both (list_any (list_any is_control) row) (is_names (word (line n row)) && is_empty (arguments (line n row)))
     (clear_line row is.written) (rw w refl) in
     let model : is_second_model (before_of before) (line n row) ≡ false = rw w refl in
-    let supported : is_unsupported (before_of before) (line n row) ≡ false = rw (w, going) refl in
+    let supported : is_unsupported false (before_of before) (line n row) ≡ false = rw (w, going) refl in
     let fits : row_fault (Some (record { width = width; first = cover.first })) row
     ≡ None = rw (is.shape, is.value, cover.same) refl in
     no_kind (before_of before) (line n row) token model supported
@@ -183,8 +183,8 @@ module _ (name : ℕ → List ℕ) (total : ℕ) (names : AreNames name total) w
   -- rows pass, whatever follows
   rows_pass : (s width n : ℕ) (rows rest : List (List (List ℕ))) (before : List Line)
       → AllByRecursion (IsRow width) rows → InCover width before → Stands name s before
-      → ((m : ℕ) (after : List Line) → Stands name s after → line_fault after (numbered m rest) ≡ None)
-      → line_fault before (numbered n (rows ++ rest)) ≡ None
+      → ((m : ℕ) (after : List Line) → Stands name s after → line_fault false after (numbered m rest) ≡ None)
+      → line_fault false before (numbered n (rows ++ rest)) ≡ None
   rows_pass s width n [] rest before each cover st later = later n before st
   rows_pass s width n (row ∷ rows) rest before each cover st later =
       let w : word (line n row) ≡ Row = each.0.is_row in
@@ -213,7 +213,7 @@ module _ (name : ℕ → List ℕ) (total : ℕ) (names : AreNames name total) w
 
   names_kind : (s n : ℕ) (d : Definition) (before : List Line) → s < total → IsDefinition s d
       → list_any (λ l. is_end (word l)) before ≡ false
-      → kind_in (before_of before) (line n (names_tokens name s d)) ≡ None
+      → kind_in false (before_of before) (line n (names_tokens name s d)) ≡ None
   names_kind s n d before p is going =
       let l = line n (names_tokens name s d) in
       let clear = clear_line (names_tokens name s d) (names_written s d p is) in
@@ -243,7 +243,7 @@ module _ (name : ℕ → List ℕ) (total : ℕ) (names : AreNames name total) w
   }
 
   pub body_passes : (s n : ℕ) (ds : List Definition) (before : List Line) → s + length ds ≤ total → AreDefined s ds
-      → Stands name s before → line_fault before (numbered n (body name s ds)) ≡ None
+      → Stands name s before → line_fault false before (numbered n (body name s ds)) ≡ None
   body_passes s n [] before h each st = passes before (line n end_tokens) []
       (no_kind (before_of before) (line n end_tokens) refl refl st.going refl) refl
   body_passes s n (d ∷ ds) before h each st =

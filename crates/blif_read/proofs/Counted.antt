@@ -10,7 +10,7 @@ use Rattle.blif_read.specs.Netlist.{cube_size, def_size, size_of}
 use Rattle.blif_read.specs.Size.{bytes_of, token_bytes, IsCut, AreCut}
 use Rattle.blif_read.proofs.TextSize.{text_bytes}
 use Rattle.blif_read.specs.declared.words.Word.{Word}
-use Rattle.blif_read.specs.declared.words.Word.TheVariants.{Model, Inputs, Outputs, Names, End, Passed, Other, Row}
+use Rattle.blif_read.specs.declared.words.Word.TheVariants.{Model, Inputs, Outputs, Names, Subckt, End, Passed, Other, Row}
 use Rattle.blif_read.specs.declared.netlist.Def.{Def}
 
 filled : (parts : List (List ℕ)) → AllByRecursion (λ t. 0 < length t) (filter is_token parts)
@@ -61,6 +61,7 @@ line_counts Model args tokens rows def a r d = omega arith
 line_counts Inputs args tokens rows def a r d = omega arith
 line_counts Outputs args tokens rows def a r d = omega arith
 line_counts Names args tokens rows def a r d = omega (arith, front_and_last args)
+line_counts Subckt args tokens rows def a r d = omega arith
 line_counts End args tokens rows def a r d = omega arith
 line_counts Passed args tokens rows def a r d = omega arith
 line_counts Other args tokens rows def a r d = omega arith

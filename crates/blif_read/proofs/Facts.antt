@@ -12,7 +12,7 @@ use Rattle.blif_read.specs.Netlist.{HasNoCycle, IsPlane, IsDef, IsNetlist}
 use Rattle.blif_read.specs.Size.{AreCut}
 use Rattle.blif_read.specs.declared.before.Cover.{Cover}
 use Rattle.blif_read.specs.declared.words.Word.{Word}
-use Rattle.blif_read.specs.declared.words.Word.TheVariants.{Model, Inputs, Outputs, Names, End, Passed, Other, Row}
+use Rattle.blif_read.specs.declared.words.Word.TheVariants.{Model, Inputs, Outputs, Names, Subckt, End, Passed, Other, Row}
 use Rattle.blif_read.specs.declared.netlist.Def.{Def}
 use Rattle.blif_read.proofs.Counted.{netlist_size}
 use Rattle.blif_read.proofs.Distinct.{none_or, no_kind, signals_distinct}
@@ -20,14 +20,14 @@ use Rattle.blif_read.proofs.Shapes.{rows_fit, plane_fits}
 use Rattle.blif_read.proofs.Within.{IsWithinDef, all_join, definitions_within, outputs_within}
 
 -- a line without a fault: what stands before it, and behind it
-record Passes (done : List Line) (line : Line) (rest : List Line) : Type 0 where
-  kind : kind_in (before_of done) line ≡ None
-  later : line_fault (line ∷ done) rest ≡ None
+record Passes (calls : Bool) (done : List Line) (line : Line) (rest : List Line) : Type 0 where
+  kind : kind_in calls (before_of done) line ≡ None
+  later : line_fault calls (line ∷ done) rest ≡ None
 
-passes : (done : List Line) (l : Line) (ls : List Line) → line_fault done (l ∷ ls) ≡ None → Passes done l ls
-passes done l ls e =
-    let both = none_or (at_line l.number (kind_of done l)) (line_fault (l ∷ done) ls) e in
-    record { kind = (none_or (kind_in (before_of done) l) (duplicate_in done l) (no_kind l.number (kind_of done l) both.0)).0; later = both.1 }
+passes : (calls : Bool) (done : List Line) (l : Line) (ls : List Line) → line_fault calls done (l ∷ ls) ≡ None → Passes calls done l ls
+passes calls done l ls e =
+    let both = none_or (at_line l.number (kind_of calls done l)) (line_fault calls (l ∷ done) ls) e in
+    record { kind = (none_or (kind_in calls (before_of done) l) (duplicate_in done l) (no_kind l.number (kind_of calls done l) both.0)).0; later = both.1 }
 
 test_off : {Y : Type 0} (b : Bool) (y : Y) (o : Option Y) → cond b (Some y) o ≡ None → b ≡ false
 test_off true y o e = absurd (cc)
@@ -48,22 +48,23 @@ one_each Names args def e = some_signal args e
 one_each Model args def e = refl
 one_each Inputs args def e = refl
 one_each Outputs args def e = refl
+one_each Subckt args def e = refl
 one_each End args def e = refl
 one_each Passed args def e = refl
 one_each Other args def e = refl
 one_each Row args def e = refl
 
-defined_count : (names : List (List ℕ)) (done lines : List Line) → line_fault done lines ≡ None → length (flat_map defined_in lines) ≡ length (definitions names lines)
-defined_count names done [] e = refl
-defined_count names done (l ∷ ls) e =
-    let p = passes done l ls e in
+defined_count : (calls : Bool) (names : List (List ℕ)) (done lines : List Line) → line_fault calls done lines ≡ None → length (flat_map defined_in lines) ≡ length (definitions names lines)
+defined_count calls names done [] e = refl
+defined_count calls names done (l ∷ ls) e =
+    let p = passes calls done l ls e in
     let named = right_off (list_any (list_any is_control) l.tokens) (is_names (word l) && is_empty (arguments l)) (test_off (is_token_fault l) _ _ p.kind) in
     let here = one_each (word l) (arguments l) (definition names l.number (arguments l) (rows_before_others ls)) named in
-    let rest = defined_count names (l ∷ done) ls p.later in
+    let rest = defined_count calls names (l ∷ done) ls p.later in
     omega (arith, length-append (defined_in l) (flat_map defined_in ls), length-append (definition_at names l ls) (definitions names ls))
 
-pub signals_count : (lines : List Line) → line_fault [] lines ≡ None → length (signals lines) ≡ length (flat_map inputs_in lines) + length (definitions (signals lines) lines)
-signals_count lines e = length-append (flat_map inputs_in lines) (flat_map defined_in lines) ∙ ap (λ n. length (flat_map inputs_in lines) + n) (defined_count (signals lines) [] lines e)
+pub signals_count : (calls : Bool) (lines : List Line) → line_fault calls [] lines ≡ None → length (signals lines) ≡ length (flat_map inputs_in lines) + length (definitions (signals lines) lines)
+signals_count calls lines e = length-append (flat_map inputs_in lines) (flat_map defined_in lines) ∙ ap (λ n. length (flat_map inputs_in lines) + n) (defined_count calls (signals lines) [] lines e)
 
 -- the cover of a definition fits it
 record Covers (def : Def) : Type 0 where
@@ -89,6 +90,7 @@ at_word Names def h = (h refl, tt)
 at_word Model def h = tt
 at_word Inputs def h = tt
 at_word Outputs def h = tt
+at_word Subckt def h = tt
 at_word End def h = tt
 at_word Passed def h = tt
 at_word Other def h = tt
@@ -98,14 +100,14 @@ at_word Row def h = tt
 own_cover : (o : Option Cover) (l : Line) → word l ≡ Names → cover_after o l ≡ Some (record { width = length (front_of (arguments l)); first = None })
 own_cover o l w = ap (λ x. elim x as (λ (y : Word). Option Cover) [ Names ↦ Some (record { width = length (front_of (arguments l)); first = None }) | Row ↦ with_row (truth l.tokens) o | _ ↦ None ]) w
 
-covers : (names : List (List ℕ)) (done lines : List Line) → line_fault done lines ≡ None → AllByRecursion Covers (definitions names lines)
-covers names done [] e = tt
-covers names done (l ∷ ls) e =
-    let p = passes done l ls e in
+covers : (calls : Bool) (names : List (List ℕ)) (done lines : List Line) → line_fault calls done lines ≡ None → AllByRecursion Covers (definitions names lines)
+covers calls names done [] e = tt
+covers calls names done (l ∷ ls) e =
+    let p = passes calls done l ls e in
     all_join Covers (definition_at names l ls) (definitions names ls)
     (at_word (word l) (definition names l.number (arguments l) (rows_before_others ls)) (λ w. definition_covers names l.number (arguments l) (rows_before_others ls)
-    (rows_fit (l ∷ done) ls (record { width = length (front_of (arguments l)); first = None }) (own_cover (before_of done).cover l w) p.later)))
-    (covers names (l ∷ done) ls p.later)
+    (rows_fit calls (l ∷ done) ls (record { width = length (front_of (arguments l)); first = None }) (own_cover (before_of done).cover l w) p.later)))
+    (covers calls names (l ∷ done) ls p.later)
 
 both_hold : (n : ℕ) (defs : List Def) → AllByRecursion (IsWithinDef n) defs → AllByRecursion Covers defs → AllByRecursion (IsDef n) defs
 both_hold n [] w c = tt
@@ -128,12 +130,12 @@ nothing_past inputs defs s le = let k : nat_lt s inputs ≡ false = le-ltb s inp
     past (def ∷ defs) zero le = absurd (omega arith)
     past (def ∷ defs) (suc j) le = past defs j (omega arith)
 
-pub netlist_facts : (lines : List Line) → line_fault [] lines ≡ None → outputs_fault lines ≡ None → undefined_fault (signals lines) lines ≡ None → AreCut (2 ^ 28) lines →
+pub netlist_facts : (lines : List Line) → line_fault false [] lines ≡ None → outputs_fault lines ≡ None → undefined_fault (signals lines) lines ≡ None → AreCut (2 ^ 28) lines →
     HasNoCycle (length (flat_map inputs_in lines)) (definitions (signals lines) lines) → IsNetlist (netlist_of lines)
 netlist_facts lines e o u c acyclic = record {
-  distinct = signals_distinct lines e;
-  count = signals_count lines e;
-  each_def = both_hold (length (signals lines)) (definitions (signals lines) lines) (definitions_within (signals lines) lines u) (covers (signals lines) [] lines e);
+  distinct = signals_distinct false lines e;
+  count = signals_count false lines e;
+  each_def = both_hold (length (signals lines)) (definitions (signals lines) lines) (definitions_within (signals lines) lines u) (covers false (signals lines) [] lines e);
   each_output = outputs_within (signals lines) lines u;
   some_output = (let s = some_output lines o in omega (arith, length-map (flat_map outputs_in lines) (number (signals lines))));
   no_cycle = acyclic;

@@ -1,5 +1,5 @@
 -- A text that says a netlist says one that keeps the facts of netlists.
-use Rattle.std.proofs.Common.{◌≡◌, ℕ, ◌≤◌, ◌^◌, List, [], length, Option, Some, None, refl, sym, ◌∙◌, subst}
+use Rattle.std.proofs.Common.{◌≡◌, ℕ, ◌≤◌, ◌^◌, List, [], length, Option, Some, None, false, refl, sym, ◌∙◌, subst}
 use Rattle.std.specs.Option.{option_map}
 use Rattle.blif_read.specs.Lines.{Line, logical_lines}
 use Rattle.blif_read.specs.Parts.{NetView, signals, netlist_of}
@@ -21,7 +21,7 @@ unmapped f (Some x) e = absurd (cc)
 lines_keep : (lines : List Line) → AreCut (2 ^ 28) lines → fault_of lines ≡ None → IsNetlist (netlist_of lines)
 lines_keep lines cut none =
     let net = netlist_of lines in
-    let single = none_or (line_fault [] lines) _ none in
+    let single = none_or (line_fault false [] lines) _ none in
     let some = none_or (outputs_fault lines) _ single.1 in
     let defined = none_or (undefined_fault (signals lines) lines) (cycle_fault net) some.1 in
     let found : Found lines net.inputs net.names net.defs net.outputs = record {
@@ -33,7 +33,7 @@ lines_keep lines cut none =
       names_are = refl;
       defs_are = refl;
       outputs_are = refl;
-      count = signals_count lines single.0;
+      count = signals_count false lines single.0;
     } in
     let within = operands_within lines net.inputs net.names net.defs net.outputs found net.defs refl in
     let walked = unmapped (told_cycle net.inputs net.names net.defs) (first_cycle net.inputs net.defs) defined.1 in

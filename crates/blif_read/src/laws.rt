@@ -3,7 +3,9 @@ ghost use Rattle.std.specs.Prelude.{◌≡◌, ◌<◌, ◌≤◌, ◌^◌, ◌�
 ghost use Rattle.blif_read.specs.declared.netlist.BlifFault.{BlifFault};
 ghost use Rattle.blif_read.specs.declared.netlist.Def.{Def};
 ghost use Rattle.blif_read.specs.Parts.{NetView, operands};
+ghost use Rattle.blif_read.specs.declared.models.BlifModel.{BlifModel};
 ghost use Rattle.blif_read.specs.Says.{Says, Fault};
+ghost use Rattle.blif_read.specs.Models.{SaysModels, ModelsFault};
 ghost use Rattle.blif_read.specs.Equations.{Fits};
 ghost use Rattle.blif_read.specs.Netlist.{IsNetlist};
 ghost use Rattle.blif_read.specs.Walk.{first_cycle, IsCycle};
@@ -16,6 +18,16 @@ pub fn each_text()
     ensures one_fault { (text : List ℕ) (a b : BlifFault) → Fault text a → Fault text b → a ≡ b }
     ensures not_both { (text : List ℕ) (net : NetView) (fault : BlifFault) →
         Says text net → Fault text fault → ⊥ }
+{}
+
+/// Each text says models or has a first fault of its models: exactly one of the two, and exactly one list or fault.
+pub fn each_design()
+    ensures some { (text : List ℕ) →
+        ((models : List BlifModel) × SaysModels text models) ⊎ ((fault : BlifFault) × ModelsFault text fault) }
+    ensures one_list { (text : List ℕ) (a b : List BlifModel) → SaysModels text a → SaysModels text b → a ≡ b }
+    ensures one_fault { (text : List ℕ) (a b : BlifFault) → ModelsFault text a → ModelsFault text b → a ≡ b }
+    ensures not_both { (text : List ℕ) (models : List BlifModel) (fault : BlifFault) →
+        SaysModels text models → ModelsFault text fault → ⊥ }
 {}
 
 /// A text of at most 2^28 bytes that says a netlist says one that keeps the facts of netlists.

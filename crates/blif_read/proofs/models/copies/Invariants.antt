@@ -1,0 +1,6 @@
+use Rattle.std.proofs.Common.{◌≡◌, ◌++◌, drop}
+use Rattle.blif_read.specs.Seen.{texts}
+use Rattle.blif_read.proofs.models.copies.Given as goal
+
+abbrev pub invariant-loop-name : goal.invariant-loop-name
+invariant-loop-name l = l.copies ++ texts (drop l.name-index l.names) ≡ texts l.names

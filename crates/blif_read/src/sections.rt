@@ -1,0 +1,81 @@
+// A text of several models, read model by model.
+ghost use Rattle.std.specs.Prelude.{◌≡◌, ◌≤◌, ◌<◌, ◌^◌, ◌∷◌, map, length, IfOk, IfErr, IfSome};
+ghost use Rattle.std.specs.List.{position};
+ghost use Rattle.std.specs.Option.{option_map};
+ghost use Rattle.blif_read.specs.Seen.{seen};
+ghost use Rattle.blif_read.specs.Statements.{word, is_model};
+ghost use Rattle.blif_read.specs.Models.{parts_of, SaysModels, ModelsFault};
+ghost use Rattle.blif_read.specs.Sections.{parts_left};
+ghost use Rattle.blif_read.specs.Says.{IfBad};
+
+use crate::faults::line_fault;
+use crate::lines::{LogicalLine, logical_lines};
+use crate::models::{BlifModel, model_of};
+use crate::netlist::BlifRefusal;
+use crate::statements::word;
+use crate::words::Word;
+use aq_base::List;
+use name_hash::NameHash;
+use std::alloc::Global;
+
+fn is_model(line: &LogicalLine<'_>) -> bool
+    ensures { result ≡ is_model (word (seen line.now)) }
+{
+    match word(line) {
+        Word::Model => true,
+        _ => false,
+    }
+}
+
+/// The place of the first line that begins a model.
+fn next_model(lines: &[LogicalLine<'_>]) -> Option<usize>
+    ensures { result ≡ position (λ line. is_model (word (seen line))) lines.now }
+{
+    lines.iter().position(|line| is_model(line))
+}
+
+/// The lines of the first model, and those of the models that follow.
+fn first_part<'a, 'b>(
+    lines: &'b [LogicalLine<'a>],
+) -> (&'b [LogicalLine<'a>], Option<&'b [LogicalLine<'a>]>)
+    ensures cut { parts_of (map seen lines.now)
+        ≡ map seen result.0.now ∷ parts_left (option_map (λ more. map seen more.now) result.1) }
+    ensures shorter { IfSome result.1 (λ more. length more.now < length lines.now) }
+{
+    if lines.len() == 0 {
+        return (lines, None);
+    }
+    match next_model(lines.split_at(1).1) {
+        Some(at) => {
+            let (part, more) = lines.split_at(at + 1);
+            (part, Some(more))
+        }
+        None => (lines, None),
+    }
+}
+
+/// The models that a text in the Berkeley Logic Interchange Format says, each taken by itself, in the text's order. The
+/// text is cut before each `.model` that is not its first logical line. `Bad` has the first fault of the text's models:
+/// a control byte, `.names` without a signal, a statement that is not read, a line behind `.end`, a row that follows no
+/// definition or does not fit it, or a name that is given a value twice, by the lines of one model. It is refused
+/// otherwise for want of memory alone.
+pub fn read_models(alloc: Global, text: &[u8]) -> Result<List<BlifModel>, BlifRefusal>
+    requires { length text.now ≤ 2 ^ 28 }
+    ensures ok { IfOk result (λ models. SaysModels text.now models) }
+    ensures bad { IfErr result (λ refusal. IfBad refusal (ModelsFault text.now)) }
+{
+    let lines = logical_lines(alloc, text)?;
+    let hash = NameHash::of(text);
+    let mut models = List::new(alloc);
+    let mut rest = Some(lines.as_slice());
+    while let Some(left) = rest {
+        let (part, more) = first_part(left);
+        if let Some(fault) = line_fault(alloc, hash, true, part)? {
+            return Err(BlifRefusal::Bad(fault));
+        }
+        let model = model_of(alloc, part)?;
+        models.push(model)?;
+        rest = more;
+    }
+    Ok(models)
+}
