@@ -21,6 +21,7 @@ mod LabelNumbers
 mod LabelParts
 mod RowEdges
 mod NetWalk
+mod KindNets
 mod FiveRules
 mod CornerLists
 mod FramePlaces

@@ -1,19 +1,20 @@
 -- What the walk over touching shapes keeps.
-use Rattle.std.proofs.Common.{◌≡◌, ◌≢◌, ℕ, suc, ◌+◌, ◌<◌, ◌≤◌, Bool, true, false, List, [], ◌∷◌, Some, length, get_or, replicate, set, ◌++◌, refl, sym, ap, subst, ◌∙◌, arith, inl, inr}
-use Rattle.std.specs.Prelude.{slice_get, slice_index, slice_set, sum}
-use Rattle.std.proofs.lemmas.List.{get_or-set_other, get_or-set_same, length-set, get_or-replicate, get_or_default, length-replicate}
+use Rattle.std.proofs.Common.{◌≡◌, ◌≢◌, ℕ, suc, ◌+◌, ◌<◌, ◌≤◌, Bool, true, false, List, [], ◌∷◌, length, set, ◌++◌, refl, sym, ap, subst, ◌∙◌, arith, inl, inr}
+use Rattle.std.specs.Prelude.{nat_lt, slice_index, slice_set, sum}
+use Rattle.std.proofs.lemmas.List.{get_or-set_other, get_or-set_same, length-set}
 use Rattle.std.proofs.Math.ListN.{get_or-append, length-append}
 use Rattle.std.proofs.Math.Seq.{get_or-append_seam}
 use Rattle.std.proofs.lemmas.List.Sums.{sum_by-set}
-use Rattle.std.proofs.lemmas.Bool.{cases_eq, cases_lt, both_ways}
+use Rattle.std.proofs.lemmas.Bool.{cases_eq, cases_lt}
+use Rattle.std.proofs.lemmas.Bool.Decides.{nat_tests}
 use Rattle.std.proofs.lemmas.Option.{slice_get_within}
 use Rattle.geom.specs.declared.shapes.Shape.{Shape}
 use Rattle.layout_rules.specs.Touch.{touch, Touching, Joined}
 use Rattle.layout_rules.specs.Reports.{PassTogether}
 use Rattle.layout_rules.specs.Nets.{AreNets}
 use Rattle.layout_rules.proofs.NetLaws.{Touching-back, Touching-within, Joined-trans, Joined-touching, AreNets-certified}
-use Rattle.shape_extract.specs.Searches.{AreThose}
-use Rattle.shape_extract.specs.Code.Walk.{AreTouching, IsWalk, IsSpreadTo, IsDone, AreMarked, IsLowest, is_settled, AreSettled, SettlesAlike, IsReached}
+use Rattle.shape_extract.specs.Searches.{Says, AreThose}
+use Rattle.shape_extract.specs.Code.Walk.{AreTouching, IsWalk, IsSpreadTo, IsDone, AreMarked, IsLowest, HasTouching, is_touched, IsTold, AreToldTo, AreTold, IsReached}
 
 pub sum_lowered : (ls : List ℕ) (i v : ℕ) → i < length ls → v < slice_index ls i → sum (set ls i v) < sum ls
 sum_lowered ls i v lt less = omega (arith, sum_by-set (λ x. x) ls i v 0 lt)
@@ -119,71 +120,55 @@ spread_same shapes numbers labels order new more from i s here = record {
   less = s.less;
 }
 
--- ---- equal shapes
-
-module _ (shapes : List Shape) (labels order new more : List ℕ) (from : ℕ) (settled : List Bool) where
-  -- an equal shape has been spread from
-  pub reached_before : IsWalk shapes labels order → AreSettled shapes labels settled → is_settled settled from ≡ true → IsReached shapes labels order labels order from
-  reached_before w are e = record {
-    walk = w;
-    kept = λ k lk. refl;
-    all_reached = λ j t. are.reached from j e t;
-    longer = omega arith;
-    prefix = λ p lp. refl;
-    marked = λ p ge lp. absurd (omega arith);
-    less = omega arith;
-  }
-
-  pub reached_now : (numbers : List ℕ) → AreTouching shapes from numbers → IsSpreadTo (length numbers) shapes numbers labels order new more from → IsReached shapes labels order new more from
-  reached_now numbers are s = record {
-    walk = s.walk;
-    kept = s.kept;
-    all_reached = λ j t. (let n = are.complete j t in subst (λ (x : ℕ). slice_index new x < length shapes) n.1.1 (s.reached n.0 n.1.0));
-    longer = s.longer;
-    prefix = s.prefix;
-    marked = s.marked;
-    less = s.less;
-  }
-
-  -- what touches an equal shape touches this one
-  pub settled_now : (later : List Bool) → AreSettled shapes labels settled → IsReached shapes labels order new more from → SettlesAlike shapes from settled later → AreSettled shapes new later
-  settled_now later are r alike = record {
-    long = alike.long ∙ are.long;
-    reached = λ d j e t. elim (alike.alike d e) [
-      | inl before ↦ (let lt : slice_index labels j < length shapes = are.reached d j before t in omega (arith, r.kept j lt))
-      | inr same ↦ r.all_reached j (record { first = t.first; second = t.second; first_is = sym same ∙ t.first_is; second_is = t.second_is; touch_so = t.touch_so })
-    ];
-  }
-
--- one more shape is settled
-pub alike_more : (shapes : List Shape) (from : ℕ) (s t : Shape) (settled now : List Bool) (i : ℕ) → SettlesAlike shapes from settled now → slice_get shapes i ≡ Some t → slice_get shapes from ≡ Some s → t ≡ s → SettlesAlike shapes from settled (slice_set now i true)
-alike_more shapes from s t settled now i are got from_is same = record {
-  long = length-set now i true ∙ are.long;
-  alike = λ d e. elim (cases_eq d i) [
-    | inl here ↦ inr (ap (slice_get shapes) here ∙ (got ∙ (ap Some same ∙ sym from_is)))
-    | inr ne ↦ are.alike d (sym (get_or-set_other now i d true false ne) ∙ e)
-  ];
+pub reached_now : (shapes : List Shape) (labels order new more numbers : List ℕ) (from : ℕ) → AreTouching shapes from numbers → IsSpreadTo (length numbers) shapes numbers labels order new more from → IsReached shapes labels order new more from
+reached_now shapes labels order new more numbers from are s = record {
+  walk = s.walk;
+  kept = s.kept;
+  all_reached = λ j t. (let n = are.complete j t in subst (λ (x : ℕ). slice_index new x < length shapes) n.1.1 (s.reached n.0 n.1.0));
+  longer = s.longer;
+  prefix = s.prefix;
+  marked = s.marked;
+  less = s.less;
 }
 
-pub alike_none : (shapes : List Shape) (from : ℕ) (settled : List Bool) → SettlesAlike shapes from settled settled
-alike_none shapes from settled = record { long = refl; alike = λ d e. inl e }
+-- ---- what is told of shapes: whether some shape touches them
 
-pub settled_read : (settled : List Bool) (d : ℕ) (b : Bool) → d < length settled → b ≡ get_or settled d b → b ≡ true → is_settled settled d ≡ true
-settled_read settled d b lt is e = get_or_default settled d false b lt ∙ (sym is ∙ e)
+-- where touching shapes are listed, some touch
+some_listed : (shapes : List Shape) (from : ℕ) (numbers : List ℕ) → AreTouching shapes from numbers → (b : Bool) → nat_lt 0 (length numbers) ≡ b → Says b (HasTouching shapes from)
+some_listed shapes from numbers are true e = (let some : 0 < length numbers = grind (arith, nat_tests) in (slice_index numbers 0, are.each 0 some))
+some_listed shapes from numbers are false e = λ h. (let none : length numbers ≤ 0 = grind (arith, nat_tests) in let k = are.complete h.0 h.1 in absurd (omega (arith, k.1.0)))
 
--- nothing is settled
-pub settled_none : (n : ℕ) (shapes : List Shape) (labels : List ℕ) (settled : List Bool) → settled ≡ replicate n false → n ≡ length shapes → AreSettled shapes labels settled
-settled_none n shapes labels settled e long = record {
-  long = ap length e ∙ (length-replicate n false ∙ long);
-  reached = λ d j so t. (
-      let lt : d < length shapes = (Touching-within t).0 in
-      absurd (both_ways (is_settled settled d) (ap (λ (ss : List Bool). is_settled ss d) e ∙ get_or-replicate n d false false (omega arith)) so)
-      );
+pub told_now : (shapes : List Shape) (from : ℕ) (numbers : List ℕ) (touched new : List Bool) → AreTouching shapes from numbers → from < length touched → new ≡ slice_set touched from (nat_lt 0 (length numbers)) → IsTold shapes from touched new
+told_now shapes from numbers touched new are lt is = subst (IsTold shapes from touched) (sym is) (record {
+  long = length-set touched from (nat_lt 0 (length numbers));
+  here = subst (λ (x : Bool). Says x (HasTouching shapes from)) (sym (get_or-set_same touched from (nat_lt 0 (length numbers)) false lt)) (some_listed shapes from numbers are (nat_lt 0 (length numbers)) refl);
+  kept = λ d ne. get_or-set_other touched from d (nat_lt 0 (length numbers)) false ne;
+})
+
+told_of : (shapes : List Shape) (touched : List Bool) (d e : ℕ) → d ≡ e → Says (is_touched touched d) (HasTouching shapes d) → Says (is_touched touched e) (HasTouching shapes e)
+told_of shapes touched d e same h = subst (λ (x : ℕ). Says (is_touched touched x) (HasTouching shapes x)) same h
+
+-- the order has grown
+pub told_longer : (n : ℕ) (shapes : List Shape) (order more : List ℕ) (touched : List Bool) → AreToldTo n shapes order touched → ((p : ℕ) → p < n → slice_index more p ≡ slice_index order p) → AreToldTo n shapes more touched
+told_longer n shapes order more touched are prefix = record { long = are.long; each = λ p lt. told_of shapes touched (slice_index order p) (slice_index more p) (sym (prefix p lt)) (are.each p lt) }
+
+-- the next of the order is told of
+pub told_more : (n : ℕ) (shapes : List Shape) (order more : List ℕ) (touched new : List Bool) → AreToldTo n shapes order touched → n < length order → ((p : ℕ) → p < length order → slice_index more p ≡ slice_index order p) → IsTold shapes (slice_index order n) touched new → AreToldTo (n + 1) shapes more new
+told_more n shapes order more touched new are lt prefix told = record {
+  long = told.long ∙ are.long;
+  each = λ p lp. told_of shapes new (slice_index order p) (slice_index more p) (sym (prefix p (omega arith))) (elim (cases_eq (slice_index order p) (slice_index order n)) [
+    | inl same ↦ told_of shapes new (slice_index order n) (slice_index order p) (sym same) told.here
+    | inr ne ↦
+        let before : p < n = elim (cases_eq p n) [ inl e ↦ absurd (ne (ap (slice_index order) e)) | inr other ↦ omega arith ] in
+        subst (λ (b : Bool). Says b (HasTouching shapes (slice_index order p))) (sym (told.kept (slice_index order p) ne)) (are.each p before)
+  ]);
 }
 
--- what is labelled stays so
-pub settled_kept : (shapes : List Shape) (labels new : List ℕ) (settled : List Bool) → ((k : ℕ) → slice_index labels k < length shapes → slice_index new k < length shapes) → AreSettled shapes labels settled → AreSettled shapes new settled
-settled_kept shapes labels new settled still are = record { long = are.long; reached = λ d j e t. still j (are.reached d j e t) }
+pub told_all : (shapes : List Shape) (labels order : List ℕ) (touched : List Bool) → IsWalk shapes labels order → ((k : ℕ) → k < length shapes → slice_index labels k < length shapes) → AreToldTo (length order) shapes order touched → AreTold shapes touched
+told_all shapes labels order touched w all are = record {
+  long = are.long;
+  each = λ d lt. (let p = w.ordered d lt (all d lt) in told_of shapes touched (slice_index order p.0) d p.1.1 (are.each p.0 p.1.0));
+}
 
 -- ---- the order
 

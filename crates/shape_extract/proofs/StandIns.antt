@@ -1,15 +1,14 @@
 -- Of equal shapes the least number stands for all.
-use Rattle.std.proofs.Common.{◌≡◌, ℕ, zero, suc, ◌+◌, ◌<◌, ◌≤◌, List, [], ◌∷◌, ◌++◌, length, get_or, Some, refl, sym}
+use Rattle.std.proofs.Common.{◌≡◌, ℕ, zero, suc, ◌+◌, ◌<◌, ◌≤◌, List, [], ◌∷◌, ◌++◌, length, Some, refl, sym}
 use Rattle.std.proofs.Common.{ap, subst, ◌∙◌, arith, inl, inr}
-use Rattle.std.specs.Prelude.{slice_get, slice_index, slice_set, All}
-use Rattle.std.proofs.Math.ListN.{length-append, length-set}
+use Rattle.std.specs.Prelude.{slice_get, slice_index, slice_set}
+use Rattle.std.proofs.Math.ListN.{get_or-append, length-append, length-set}
+use Rattle.std.proofs.Math.Seq.{get_or-append_seam}
 use Rattle.std.proofs.lemmas.Bool.{cases_eq, cases_lt}
 use Rattle.std.proofs.lemmas.List.{get_or-set_same, get_or-set_other}
-use Rattle.std.proofs.lemmas.Option.{slice_get_within}
 use Rattle.geom.specs.declared.shapes.Shape.{Shape}
-use Rattle.shape_extract.specs.Searches.{AreThose}
-use Rattle.shape_extract.specs.Code.DistinctShapes.{AreHeads, IsHead, AreAt, HasStandIn, IsDistinct}
-use Rattle.shape_extract.proofs.RowEdges.{push_old, push_new}
+use Rattle.shape_extract.specs.Code.DistinctShapes.{AreHeads, AreAt, StandsFor, ArePlaces, IsDistinct}
+use Rattle.shape_extract.proofs.RowEdges.{push_new}
 use Rattle.shape_extract.proofs.PinFrameLists.{NumbersTo}
 
 -- ---- heads
@@ -76,36 +75,118 @@ at_all n shapes numbers some all most are =
 
 -- ---- what stands for a shape
 
-module _ (shapes : List Shape) (heads numbers : List ℕ) (are : AreHeads shapes heads)
-    (those : AreThose (IsHead heads) numbers) where
-  stand_in : (m n : ℕ) → n < m → n < length shapes → HasStandIn shapes numbers n
-  stand_in zero n less lt = absurd (omega arith)
-  stand_in (suc m) n less lt = elim (cases_eq (slice_index heads n) n) [
-    | inl own ↦
-        let k = those.complete n (omega (arith, are.long), own) in
-        record {
-          place = k.0;
-          within = k.1.0;
-          not_above = (let e : slice_index numbers k.0 ≡ n = k.1.1 in omega arith);
-          alike = ap (slice_get shapes) k.1.1;
-        }
-    | inr other ↦
-        let h : slice_index heads n ≤ n = are.not_above n lt in
-        let rest : HasStandIn shapes numbers (slice_index heads n) = stand_in m (slice_index heads n) (omega arith)
-        (omega arith) in
-        record {
-          place = rest.place;
-          within = rest.within;
-          not_above = omega (arith, rest.not_above);
-          alike = rest.alike
-              ∙ are.alike n lt;
-        }
-  ]
+-- of the shapes below n each has one that stands for it
+pub record PlacesTo (n : ℕ) (shapes : List Shape) (numbers places : List ℕ) : Type 0 where
+  pub below : (k : ℕ) → k < length numbers → slice_index numbers k < n
+  pub rising : (j k : ℕ) → j < k → k < length numbers → slice_index numbers j < slice_index numbers k
+  pub few : length numbers ≤ n
+  pub long : length places ≡ n
+  pub each : (m : ℕ) → m < n → StandsFor shapes numbers m (slice_index places m)
 
-  pub distinct_from : (some : List Shape) → AreAt shapes numbers some → IsDistinct shapes numbers some
-  distinct_from some at = record {
-    those = at;
-    within = λ k lt. (let own = those.each k lt in omega (arith, own.0, are.long));
-    rising = those.rising;
-    all = λ n lt. stand_in (suc n) n (omega arith) lt;
+pub places_none : (shapes : List Shape) (numbers places : List ℕ) → numbers ≡ [] → places ≡ []
+    → PlacesTo 0 shapes numbers places
+places_none shapes numbers places none no_places = record {
+  below = λ k lt. absurd (omega (arith, ap length none));
+  rising = λ j k less lt. absurd (omega (arith, ap length none));
+  few = omega (arith, ap length none);
+  long = ap length no_places;
+  each = λ m lt. absurd (omega arith);
+}
+
+module _ (n : ℕ) (shapes : List Shape) (numbers places : List ℕ) (are : PlacesTo n shapes numbers places) where
+  one_more : (xs : List ℕ) (x : ℕ) → length (xs ++ x ∷ []) ≡ suc (length xs)
+  one_more xs x = omega (arith, length-append xs (x ∷ []))
+
+  before : (xs : List ℕ) (x k : ℕ) → k < length xs → slice_index (xs ++ x ∷ []) k ≡ slice_index xs k
+  before xs x k lt = get_or-append xs (x ∷ []) 0 k lt
+
+  last : (xs : List ℕ) (x k : ℕ) → k ≡ length xs → slice_index (xs ++ x ∷ []) k ≡ x
+  last xs x k e = ap (slice_index (xs ++ x ∷ [])) e ∙ get_or-append_seam xs x [] 0
+
+  -- it stands in among more numbers too
+  still : (m place x : ℕ) → StandsFor shapes numbers m place → StandsFor shapes (numbers ++ x ∷ []) m place
+  still m place x s =
+      let e : slice_index (numbers ++ x ∷ []) place ≡ slice_index numbers place = before numbers x place s.within in
+      record {
+        within = omega (arith, one_more numbers x, s.within);
+        not_above = omega (arith, s.not_above);
+        alike = ap (slice_get shapes) e ∙ s.alike;
+      }
+
+  -- shape n goes where one below went that is equal
+  pub place_shared : (head : ℕ) → head < n → slice_get shapes head ≡ slice_get shapes n
+      → PlacesTo (n + 1) shapes numbers (places ++ slice_index places head ∷ [])
+  place_shared head less same = record {
+    below = λ k lt. omega (arith, are.below k lt);
+    rising = are.rising;
+    few = omega (arith, are.few);
+    long = omega (arith, one_more places (slice_index places head), are.long);
+    each = λ m lt. elim (cases_eq m n) [
+      | inl e ↦
+          let s : StandsFor shapes numbers head (slice_index places head) = are.each head less in
+          let here : StandsFor shapes numbers m (slice_index places head) = record {
+            within = s.within;
+            not_above = omega (arith, s.not_above);
+            alike = s.alike ∙ (same ∙ ap (slice_get shapes) (sym e));
+          } in
+          subst (StandsFor shapes numbers m)
+          (sym (last places (slice_index places head) m (omega (arith, are.long)))) here
+      | inr ne ↦ subst (StandsFor shapes numbers m)
+          (sym (before places (slice_index places head) m (omega (arith, are.long)))) (are.each m (omega arith))
+    ];
   }
+
+  -- shape n stands for itself
+  pub place_own : PlacesTo (n + 1) shapes (numbers ++ n ∷ []) (places ++ length numbers ∷ [])
+  place_own = record {
+    below = λ k lt. elim (cases_lt k (length numbers)) [
+      | inl old ↦ omega (arith, before numbers n k old, are.below k old)
+      | inr new ↦ omega (arith, last numbers n k (omega (arith, one_more numbers n)))
+    ];
+    rising = λ j k less lt. elim (cases_lt k (length numbers)) [
+      | inl old ↦ (let jl : j < length numbers = omega arith in
+          omega (arith, before numbers n k old, before numbers n j jl, are.rising j k less old))
+      | inr new ↦ (let jl : j < length numbers = omega (arith, one_more numbers n) in
+          omega (arith, last numbers n k (omega (arith, one_more numbers n)), before numbers n j jl, are.below j jl))
+    ];
+    few = omega (arith, one_more numbers n, are.few);
+    long = omega (arith, one_more places (length numbers), are.long);
+    each = λ m lt. elim (cases_eq m n) [
+      | inl e ↦
+          let own : slice_index (numbers ++ n ∷ []) (length numbers) ≡ n = last numbers n (length numbers) refl in
+          let here : StandsFor shapes (numbers ++ n ∷ []) m (length numbers) = record {
+            within = omega (arith, one_more numbers n);
+            not_above = omega arith;
+            alike = ap (slice_get shapes) (own ∙ sym e);
+          } in
+          subst (StandsFor shapes (numbers ++ n ∷ []) m)
+          (sym (last places (length numbers) m (omega (arith, are.long)))) here
+      | inr ne ↦ subst (StandsFor shapes (numbers ++ n ∷ []) m)
+          (sym (before places (length numbers) m (omega (arith, are.long))))
+          (still m (slice_index places m) n (are.each m (omega arith)))
+    ];
+  }
+
+pub places_all : (n : ℕ) (shapes : List Shape) (numbers places : List ℕ) → PlacesTo n shapes numbers places
+    → length shapes ≤ n → n ≤ length shapes → ArePlaces shapes numbers places
+places_all n shapes numbers places are all most = record {
+  below = λ k lt. omega (arith, are.below k lt);
+  rising = are.rising;
+  few = omega (arith, are.few);
+  long = omega (arith, are.long);
+  each = λ m lt. are.each m (omega arith);
+}
+
+pub distinct_from : (shapes : List Shape) (numbers places : List ℕ) (some : List Shape)
+    → ArePlaces shapes numbers places → AreAt shapes numbers some → IsDistinct shapes numbers some
+distinct_from shapes numbers places some are at = record {
+  those = at;
+  within = are.below;
+  rising = are.rising;
+  all = λ n lt. (let s : StandsFor shapes numbers n (slice_index places n) = are.each n lt in record {
+    place = slice_index places n;
+    within = s.within;
+    not_above = s.not_above;
+    alike = s.alike;
+  });
+}

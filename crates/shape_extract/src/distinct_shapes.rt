@@ -1,7 +1,6 @@
 // Shapes without their repetitions: of equal shapes the one with the least number stands for all.
 ghost use Rattle.std.specs.Prelude.{◌≡◌, ◌<◌, ◌^◌, All, IfOk, IsTrue, length};
-ghost use Rattle.shape_extract.specs.Code.DistinctShapes.{AreHeads, IsHead, AreAt, IsDistinct};
-ghost use Rattle.shape_extract.specs.Searches.{AreThose};
+ghost use Rattle.shape_extract.specs.Code.DistinctShapes.{AreHeads, AreAt, ArePlaces, IsDistinct};
 
 use aq_base::{List, Memory};
 use geom::Shape;
@@ -13,6 +12,14 @@ use std::alloc::Global;
 pub struct Distinct {
     pub numbers: Vec<u32>,
     pub shapes: List<Shape>,
+    /// For each shape of the list the place of the one that stands for it.
+    pub places: Vec<u32>,
+}
+
+/// The numbers that stand for all of a list, and for each number of the list the place of the one that stands for it.
+struct StandIns {
+    numbers: Vec<u32>,
+    places: Vec<u32>,
 }
 
 /// A shape as equal ones are brought together: by its sides, its layer and its datatype, then by its number.
@@ -106,18 +113,25 @@ fn heads(alloc: Global, shapes: &[Shape]) -> Result<Vec<u32>, Memory>
     Ok(heads)
 }
 
-/// The numbers that are their own heads.
-fn own_numbers(alloc: Global, heads: &[u32]) -> Result<Vec<u32>, Memory>
-    requires { length heads.now < 2 ^ 32 }
-    ensures { IfOk result (λ numbers. AreThose (IsHead heads.now) numbers.items) }
+/// The numbers that are their own heads stand for themselves, and each other one goes where its head went.
+fn stand_ins(alloc: Global, shapes: &[Shape], heads: &[u32]) -> Result<StandIns, Memory>
+    requires few { length shapes.now < 2 ^ 32 }
+    requires heads { AreHeads shapes.now heads.now }
+    ensures { IfOk result (λ s. ArePlaces shapes.now s.numbers.items s.places.items) }
 {
     let mut numbers = Vec::new(alloc);
-    for n in 0..heads.len() {
-        if heads[n] as usize == n {
+    let mut places = Vec::with_capacity(alloc, shapes.len())?;
+    for n in 0..shapes.len() {
+        let head = heads[n] as usize;
+        if head < n {
+            let place: u32 = places[head];
+            places.push(place)?;
+        } else {
+            places.push(numbers.len() as u32)?;
             numbers.push(n as u32)?;
         }
     }
-    Ok(numbers)
+    Ok(StandIns { numbers, places })
 }
 
 /// The shapes of these numbers, in their order.
@@ -135,13 +149,15 @@ pub fn shapes_at(alloc: Global, shapes: &[Shape], numbers: &[u32]) -> Result<Vec
 /// The shapes of a list, each kind of equal ones once. It is refused for want of memory alone.
 pub fn distinct_of(alloc: Global, shapes: &[Shape]) -> Result<Distinct, Memory>
     requires { length shapes.now < 2 ^ 32 }
-    ensures { IfOk result (λ d. IsDistinct shapes.now d.numbers.items d.shapes) }
+    ensures distinct { IfOk result (λ d. IsDistinct shapes.now d.numbers.items d.shapes) }
+    ensures places { IfOk result (λ d. ArePlaces shapes.now d.numbers.items d.places.items) }
 {
     let heads = heads(alloc, shapes)?;
-    let numbers = own_numbers(alloc, heads.as_slice())?;
+    let StandIns { numbers, places } = stand_ins(alloc, shapes, heads.as_slice())?;
     let some = shapes_at(alloc, shapes, numbers.as_slice())?;
     Ok(Distinct {
         numbers,
         shapes: List::from_vec(some),
+        places,
     })
 }

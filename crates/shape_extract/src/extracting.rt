@@ -5,7 +5,7 @@ ghost use Rattle.shape_extract.specs.declared.extraction.ExtractRefusal.TheVaria
 ghost use Rattle.shape_extract.specs.Extracts.{Extracts, BreaksCircuit, IfBroken};
 
 use crate::circuits::assembly::circuit_of;
-use crate::connectivity::net_walk::nets_by;
+use crate::connectivity::net_walk::nets;
 use crate::extraction::ExtractRefusal;
 use crate::rules::cell_rule::find_cells;
 use crate::rules::first_broken::{BrokenRule, broken, first_broken};
@@ -40,7 +40,7 @@ pub fn extract(alloc: Global, flat: &Flat) -> Result<Extracted, ExtractRefusal>
     if let Some(report) = find_cells(alloc, shapes, &index)? {
         return Err(refusal(broken(Rule::E1, report)));
     }
-    let nets = nets_by(alloc, flat, &index)?;
+    let nets = nets(alloc, flat)?;
     let edges = rows(alloc, shapes)?;
     let edges = edges.as_slice();
     let frames = pin_frames(alloc, shapes, &index)?;

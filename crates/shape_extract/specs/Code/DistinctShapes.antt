@@ -8,14 +8,24 @@ pub record AreHeads (shapes : List Shape) (heads : List ℕ) : Type 0 where
   pub not_above : (n : ℕ) → n < length shapes → slice_index heads n ≤ n
   pub alike : (n : ℕ) → n < length shapes → slice_get shapes (slice_index heads n) ≡ slice_get shapes n
 
--- the number is its own head
-abbrev pub IsHead : List ℕ → ℕ → Type 0
-IsHead heads n = (n < length heads) × (slice_index heads n ≡ n)
-
 -- these are the shapes of these numbers
 pub record AreAt (shapes : List Shape) (numbers : List ℕ) (some : List Shape) : Type 0 where
   pub long : length some ≡ length numbers
   pub each : (k : ℕ) → k < length numbers → slice_get some k ≡ slice_get shapes (slice_index numbers k)
+
+-- the number at this place is of an equal shape and not above this one
+pub record StandsFor (shapes : List Shape) (numbers : List ℕ) (n place : ℕ) : Type 0 where
+  pub within : place < length numbers
+  pub not_above : slice_index numbers place ≤ n
+  pub alike : slice_get shapes (slice_index numbers place) ≡ slice_get shapes n
+
+-- rising numbers, and for each shape the place among them of one that stands for it
+pub record ArePlaces (shapes : List Shape) (numbers places : List ℕ) : Type 0 where
+  pub below : (k : ℕ) → k < length numbers → slice_index numbers k < length shapes
+  pub rising : (j k : ℕ) → j < k → k < length numbers → slice_index numbers j < slice_index numbers k
+  pub few : length numbers ≤ length shapes
+  pub long : length places ≡ length shapes
+  pub each : (n : ℕ) → n < length shapes → StandsFor shapes numbers n (slice_index places n)
 
 -- a shape that is equal to the one of this number and has no greater number is among those of the numbers
 pub record HasStandIn (shapes : List Shape) (numbers : List ℕ) (n : ℕ) : Type 0 where

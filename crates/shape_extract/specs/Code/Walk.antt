@@ -1,9 +1,10 @@
 -- The walk that finds nets: a label for each shape, where a number of no shape means none yet, and the labelled shapes
 -- in the order in which they were labelled. It is the search by connected components of circuit extractors.
-use Rattle.std.specs.Prelude.{◌≡◌, ℕ, ◌+◌, ◌*◌, ◌<◌, ◌≤◌, ◌⊎◌, Bool, true, false}
-use Rattle.std.specs.Prelude.{List, length, slice_get, slice_index, slice_index_or, sum}
+use Rattle.std.specs.Prelude.{◌≡◌, ◌≢◌, ℕ, ◌+◌, ◌*◌, ◌<◌, ◌≤◌, Bool, false, cond}
+use Rattle.std.specs.Prelude.{List, length, slice_index, slice_index_or, sum}
 use Rattle.geom.specs.declared.shapes.Shape.{Shape}
 use Rattle.layout_rules.specs.Touch.{Touching, Joined}
+use Rattle.shape_extract.specs.Searches.{Says}
 
 -- the numbers are those of the shapes that touch shape `from`
 pub record AreTouching (shapes : List Shape) (from : ℕ) (numbers : List ℕ) : Type 0 where
@@ -47,20 +48,33 @@ AreMarked labels order done mark = (p : ℕ) → done ≤ p → p < length order
 abbrev pub IsLowest : List Shape → List ℕ → ℕ → Type 0
 IsLowest shapes labels mark = (k : ℕ) → k < mark → slice_index labels k < length shapes
 
--- the shape of this number is equal to one that has been spread from
-abbrev pub is_settled : List Bool → ℕ → Bool
-is_settled settled d = slice_index_or settled d false
+-- some shape touches the one of this number
+abbrev pub HasTouching : List Shape → ℕ → Type 0
+HasTouching shapes d = (j : ℕ) × Touching shapes d j
 
--- all that touches a settled shape is labelled
-pub record AreSettled (shapes : List Shape) (labels : List ℕ) (settled : List Bool) : Type 0 where
-  pub long : length settled ≡ length shapes
-  pub reached : (d j : ℕ) → is_settled settled d ≡ true → Touching shapes d j → slice_index labels j < length shapes
+abbrev pub is_touched : List Bool → ℕ → Bool
+is_touched touched d = slice_index_or touched d false
 
--- only shapes that are equal to shape `from` are settled anew
-pub record SettlesAlike (shapes : List Shape) (from : ℕ) (settled new : List Bool) : Type 0 where
-  pub long : length new ≡ length settled
-  pub alike : (d : ℕ) → is_settled new d ≡ true
-      → (is_settled settled d ≡ true) ⊎ (slice_get shapes d ≡ slice_get shapes from)
+-- of shape `from` it is told whether some shape touches it, and of the others what was told before
+pub record IsTold (shapes : List Shape) (from : ℕ) (touched new : List Bool) : Type 0 where
+  pub long : length new ≡ length touched
+  pub here : Says (is_touched new from) (HasTouching shapes from)
+  pub kept : (d : ℕ) → d ≢ from → is_touched new d ≡ is_touched touched d
+
+-- of the first n shapes of the order it is told
+pub record AreToldTo (n : ℕ) (shapes : List Shape) (order : List ℕ) (touched : List Bool) : Type 0 where
+  pub long : length touched ≡ length shapes
+  pub each : (p : ℕ) → p < n → Says (is_touched touched (slice_index order p)) (HasTouching shapes (slice_index order p))
+
+-- of each shape it is told whether some shape touches it
+pub record AreTold (shapes : List Shape) (touched : List Bool) : Type 0 where
+  pub long : length touched ≡ length shapes
+  pub each : (d : ℕ) → d < length shapes → Says (is_touched touched d) (HasTouching shapes d)
+
+-- the net of shape n: by the label of its kind, where some shape touches it, and else itself alone
+abbrev pub net_at : List ℕ → List ℕ → List ℕ → List Bool → ℕ → ℕ
+net_at numbers places labels touched n =
+    cond (is_touched touched (slice_index places n)) (slice_index numbers (slice_index labels (slice_index places n))) n
 
 -- all that touches shape `from` is labelled, new ones as that shape is
 pub record IsReached (shapes : List Shape) (labels order new more : List ℕ) (from : ℕ) : Type 0 where

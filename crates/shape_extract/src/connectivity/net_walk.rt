@@ -1,5 +1,5 @@
 // Nets by connected components: a walk from each shape that is not reached yet.
-ghost use Rattle.std.specs.Prelude.{◌≡◌, ℕ, ◌^◌, ◌<◌, ◌≤◌, length, IfOk, slice_index};
+ghost use Rattle.std.specs.Prelude.{◌≡◌, ℕ, ◌^◌, ◌<◌, ◌≤◌, length, IfOk, nat_lt, slice_index, slice_set};
 ghost use Rattle.geom.specs.Near.{rects_of};
 ghost use Rattle.geom.specs.FlatForm.{flat_count};
 ghost use Rattle.layout_rules.specs.Nets.{AreNets};
@@ -11,11 +11,16 @@ ghost use Rattle.shape_extract.specs.Code.Walk.{
   AreMarked,
   IsLowest,
   IsGrown,
-  AreSettled,
   IsReached,
+  IsTold,
+  AreToldTo,
+  AreTold,
+  net_at,
 };
+ghost use Rattle.shape_extract.specs.Code.DistinctShapes.{ArePlaces, IsDistinct};
 
 use crate::connectivity::neighbours::list_touching;
+use crate::distinct_shapes::{Distinct, distinct_of};
 use aq_base::{List, Memory};
 use geom::{Buckets, Flat, Shape, file_shapes};
 use std::alloc::Global;
@@ -46,33 +51,39 @@ fn spread(
     Ok(())
 }
 
-/// Spreads from the shape of this number, unless an equal one has been spread from: so a heap of equal shapes is looked
-/// at once. The list is for use within.
+/// Notes whether there are shapes that touch the one of this number.
+fn note_touched(numbers: &[u32], touched: &mut [bool], from: u32)
+    requires { from < length touched.old }
+    ensures { touched.new ≡ slice_set touched.old from (nat_lt 0 (length numbers.now)) }
+{
+    touched[from as usize] = 0 < numbers.len();
+}
+
+/// Spreads from the shape of this number, and notes whether some shape touches it. The list is for use within.
 fn reach(
     shapes: &[Shape],
     index: &Buckets,
     labels: &mut [u32],
     order: &mut Vec<u32>,
-    settled: &mut Vec<bool>,
+    touched: &mut [bool],
     found: &mut Vec<u32>,
     from: u32,
 ) -> Result<(), Memory>
     requires filed { index.now ≡ rects_of shapes.now }
     requires few { length shapes.now < 2 ^ 32 }
     requires walk { IsWalk shapes.now labels.old order.old.items }
-    requires settled { AreSettled shapes.now labels.old settled.old.items }
+    requires touched { length touched.old ≡ length shapes.now }
     requires at { from < length shapes.now }
     requires marked { slice_index labels.old from < length shapes.now }
     requires lowest { IsLowest shapes.now labels.old (slice_index labels.old from) }
     ensures reached { IfOk result (λ _. IsReached shapes.now labels.old order.old.items
         labels.new order.new.items from) }
-    ensures settled { IfOk result (λ _. AreSettled shapes.now labels.new settled.new.items) }
+    ensures told { IfOk result (λ _. IsTold shapes.now from touched.old touched.new) }
 {
-    if settled[from as usize] {
-        return Ok(());
-    }
-    list_touching(shapes, index, settled, from, found)?;
-    spread(shapes, found.as_slice(), labels, order, from)?;
+    list_touching(shapes, index, from, found)?;
+    let numbers = found.as_slice();
+    note_touched(numbers, touched, from);
+    spread(shapes, numbers, labels, order, from)?;
     Ok(())
 }
 
@@ -83,27 +94,27 @@ fn grow(
     index: &Buckets,
     labels: &mut [u32],
     order: &mut Vec<u32>,
-    settled: &mut Vec<bool>,
+    touched: &mut [bool],
     start: usize,
     mark: u32,
 ) -> Result<(), Memory>
     requires filed { index.now ≡ rects_of shapes.now }
     requires few { length shapes.now < 2 ^ 32 }
     requires walk { IsWalk shapes.now labels.old order.old.items }
-    requires settled { AreSettled shapes.now labels.old settled.old.items }
+    requires told { AreToldTo start shapes.now order.old.items touched.old }
     requires done { IsDone shapes.now labels.old order.old.items start }
     requires marked { AreMarked labels.old order.old.items start mark }
     requires within { start ≤ length order.old.items }
     requires mark { mark < length shapes.now }
     requires lowest { IsLowest shapes.now labels.old mark }
     ensures grown { IfOk result (λ _. IsGrown shapes.now labels.old labels.new order.new.items) }
-    ensures settled { IfOk result (λ _. AreSettled shapes.now labels.new settled.new.items) }
+    ensures told { IfOk result (λ _. AreToldTo (length order.new.items) shapes.now order.new.items touched.new) }
 {
     let mut found = Vec::new(alloc);
     let mut done = start;
     while done < order.len() {
         let from = order[done];
-        reach(shapes, index, labels, order, settled, &mut found, from)?;
+        reach(shapes, index, labels, order, touched, &mut found, from)?;
         done += 1;
     }
     Ok(())
@@ -115,15 +126,17 @@ fn walk_all(
     shapes: &[Shape],
     index: &Buckets,
     labels: &mut [u32],
+    touched: &mut [bool],
 ) -> Result<(), Memory>
     requires filed { index.now ≡ rects_of shapes.now }
     requires few { length shapes.now < 2 ^ 32 }
     requires long { length labels.old ≡ length shapes.now }
     requires none { (k : ℕ) → k < length shapes.now → slice_index labels.old k ≡ length shapes.now }
-    ensures { IfOk result (λ _. AreNets shapes.now labels.new) }
+    requires touched { length touched.old ≡ length shapes.now }
+    ensures nets { IfOk result (λ _. AreNets shapes.now labels.new) }
+    ensures told { IfOk result (λ _. AreTold shapes.now touched.new) }
 {
     let mut order = Vec::new(alloc);
-    let mut settled = vec![in alloc; false; shapes.len()]?;
     for i in 0..shapes.len() {
         if labels[i] as usize >= shapes.len() {
             let start = order.len();
@@ -131,39 +144,71 @@ fn walk_all(
             labels[i] = mark;
             order.push(mark)?;
             grow(
-                alloc,
-                shapes,
-                index,
-                labels,
-                &mut order,
-                &mut settled,
-                start,
-                mark,
+                alloc, shapes, index, labels, &mut order, touched, start, mark,
             )?;
         }
     }
     Ok(())
 }
 
-fn label_all(alloc: Global, shapes: &[Shape], index: &Buckets) -> Result<Vec<u32>, Memory>
+/// What a walk over the kinds of shapes finds: the net of each, and whether some shape touches it. Vias of one kind don't
+/// touch each other, so those that touch nothing else are no net together.
+#[derive(Drop)]
+struct Walked {
+    labels: Vec<u32>,
+    touched: Vec<bool>,
+}
+
+fn walk(alloc: Global, shapes: &[Shape], index: &Buckets) -> Result<Walked, Memory>
     requires few { length shapes.now < 2 ^ 32 }
     requires filed { index.now ≡ rects_of shapes.now }
-    ensures { IfOk result (λ labels. AreNets shapes.now labels.items) }
+    ensures nets { IfOk result (λ w. AreNets shapes.now w.labels.items) }
+    ensures told { IfOk result (λ w. AreTold shapes.now w.touched.items) }
 {
     let none = shapes.len() as u32;
     let mut labels = vec![in alloc; none; shapes.len()]?;
-    walk_all(alloc, shapes, index, &mut labels)?;
-    Ok(labels)
+    let mut touched = vec![in alloc; false; shapes.len()]?;
+    walk_all(alloc, shapes, index, &mut labels, &mut touched)?;
+    Ok(Walked { labels, touched })
 }
 
-/// The nets, by queries of the index.
-pub fn nets_by(alloc: Global, flat: &Flat, index: &Buckets) -> Result<List<u32>, Memory>
-    requires few { flat_count flat.now < 2 ^ 32 }
-    requires filed { index.now ≡ rects_of flat.now.shapes }
-    ensures { IfOk result (λ nets. AreNets flat.now.shapes nets) }
+/// The net of the shape of this number.
+fn net_of(kinds: &Distinct, walked: &Walked, n: u32) -> u32
+    requires within { n < length kinds.now.places.items }
+    requires place { slice_index kinds.now.places.items n < length walked.now.labels.items }
+    requires long { length walked.now.touched.items ≡ length walked.now.labels.items }
+    requires label { slice_index walked.now.labels.items (slice_index kinds.now.places.items n)
+        < length kinds.now.numbers.items }
+    ensures { result ≡ net_at kinds.now.numbers.items kinds.now.places.items walked.now.labels.items
+        walked.now.touched.items n }
 {
-    let labels = label_all(alloc, flat.shapes.as_slice(), index)?;
-    Ok(List::from_vec(labels))
+    let place = kinds.places[n as usize] as usize;
+    if walked.touched[place] {
+        kinds.numbers[walked.labels[place] as usize]
+    } else {
+        n
+    }
+}
+
+/// The nets of all shapes by those of their kinds.
+fn own_nets(
+    alloc: Global,
+    shapes: &[Shape],
+    kinds: &Distinct,
+    walked: &Walked,
+) -> Result<Vec<u32>, Memory>
+    requires few { length shapes.now < 2 ^ 32 }
+    requires distinct { IsDistinct shapes.now kinds.now.numbers.items kinds.now.shapes }
+    requires places { ArePlaces shapes.now kinds.now.numbers.items kinds.now.places.items }
+    requires nets { AreNets kinds.now.shapes walked.now.labels.items }
+    requires told { AreTold kinds.now.shapes walked.now.touched.items }
+    ensures { IfOk result (λ nets. AreNets shapes.now nets.items) }
+{
+    let mut nets = Vec::with_capacity(alloc, shapes.len())?;
+    for n in 0..shapes.len() as u32 {
+        nets.push(net_of(kinds, walked, n))?;
+    }
+    Ok(nets)
 }
 
 /// For each shape the least number of a shape that is joined to it, itself counted. It is refused for want of memory
@@ -172,6 +217,9 @@ pub fn nets(alloc: Global, flat: &Flat) -> Result<List<u32>, Memory>
     requires { flat_count flat.now < 2 ^ 32 }
     ensures { IfOk result (λ nets. AreNets flat.now.shapes nets) }
 {
-    let index = file_shapes(alloc, &flat.shapes)?;
-    nets_by(alloc, flat, &index)
+    let kinds = distinct_of(alloc, flat.shapes.as_slice())?;
+    let index = file_shapes(alloc, &kinds.shapes)?;
+    let walked = walk(alloc, kinds.shapes.as_slice(), &index)?;
+    let nets = own_nets(alloc, flat.shapes.as_slice(), &kinds, &walked)?;
+    Ok(List::from_vec(nets))
 }

@@ -52,6 +52,11 @@ fn nets_of_a_few_shapes(rt: HostRuntime) -> Result<(), Fail> {
     assert_eq!(rt; by_via.as_slice(), [0, 0, 0].as_slice());
     let vias = nets_of(rt.alloc(), &[via(0), via(5)])?;
     assert_eq!(rt; vias.as_slice(), [0, 1].as_slice());
+    let heaps = nets_of(
+        rt.alloc(),
+        &[via(200), via(200), lower(), via(50), via(50), lower()],
+    )?;
+    assert_eq!(rt; heaps.as_slice(), [0, 1, 2, 2, 2, 2].as_slice());
     Ok(())
 }
 

@@ -6,16 +6,16 @@ pub file_shapes-requires : goal.file_shapes-requires
 file_shapes-requires c = omega (
   arith,
   no_more c.args.shapes.now c.in_ok-distinct.distinct.numbers.items c.in_ok-distinct.distinct.shapes
-      c.in_ok-distinct.ensures,
+      c.in_ok-distinct.ensures.distinct,
 )
 
 pub returns : goal.returns
 returns c = record {
-  distinct = c.in_ok-distinct.ensures;
+  distinct = c.in_ok-distinct.ensures.distinct;
   few = omega (
     arith,
     no_more c.args.shapes.now c.in_ok-distinct.distinct.numbers.items c.in_ok-distinct.distinct.shapes
-        c.in_ok-distinct.ensures,
+        c.in_ok-distinct.ensures.distinct,
   );
   filed = c.in_ok-index.ensures;
 }

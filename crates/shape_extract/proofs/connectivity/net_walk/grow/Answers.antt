@@ -1,8 +1,8 @@
 use Rattle.std.proofs.Common.{◌≡◌, ◌<◌, ◌∙◌, ℕ, length, arith, subst}
 use Rattle.std.proofs.lemmas.Grind.{get_or_default_zero}
 use Rattle.std.specs.Prelude.{slice_index}
-use Rattle.shape_extract.specs.Code.Walk.{IsReached}
-use Rattle.shape_extract.proofs.NetWalk.{done_more, marks_more}
+use Rattle.shape_extract.specs.Code.Walk.{IsReached, IsTold}
+use Rattle.shape_extract.proofs.NetWalk.{done_more, marks_more, told_more}
 use Rattle.shape_extract.proofs.connectivity.net_walk.grow.Goals as goal
 
 pub loop-done-preserved : goal.loop-done-preserved
@@ -16,7 +16,7 @@ loop-done-preserved c =
       all_done = done_more _ _ _ _ _ _ _ c.loop-done.invariant.walk c.loop-done.invariant.all_done c.loop-done.invariant.marks lt s;
       marks = marks_more _ _ _ _ _ _ _ c.loop-done.invariant.walk c.loop-done.invariant.marks lt s;
       within = omega (arith, s.longer);
-      settled = c.in_ok-reach.ensures.settled;
+      told = told_more c.loop-done.done c.args.shapes.now c.loop-done.order.items c.reach.new.order.items c.loop-done.touched c.reach.new.touched c.loop-done.invariant.told lt s.prefix (subst (λ (x : ℕ). IsTold c.args.shapes.now x c.loop-done.touched c.reach.new.touched) from_is c.in_ok-reach.ensures.told);
       still = λ k lk. omega (arith, s.kept k (c.loop-done.invariant.still k lk), c.loop-done.invariant.still k lk);
     }
 

@@ -1,6 +1,6 @@
 use Rattle.std.proofs.Common.{ℕ, ◌<◌, ◌≤◌, ◌+◌, ◌*◌, ◌-◌, length}
 use Rattle.std.specs.Prelude.{slice_index, sum}
-use Rattle.shape_extract.specs.Code.Walk.{IsWalk, IsDone, AreMarked, AreSettled}
+use Rattle.shape_extract.specs.Code.Walk.{IsWalk, IsDone, AreMarked, AreToldTo}
 use Rattle.shape_extract.proofs.connectivity.net_walk.grow.Given as goal
 
 abbrev pub invariant-loop-done : goal.invariant-loop-done
@@ -9,7 +9,7 @@ invariant-loop-done l = record {
   all_done : IsDone l.shapes l.labels l.order.items l.done;
   marks : AreMarked l.labels l.order.items l.done l.mark;
   within : l.done ≤ length l.order.items;
-  settled : AreSettled l.shapes l.labels l.settled.items;
+  told : AreToldTo l.done l.shapes l.order.items l.touched;
   still : (k : ℕ) → slice_index l.fn.labels k < length l.shapes → slice_index l.labels k < length l.shapes;
 }
 

@@ -1,7 +1,7 @@
-use Rattle.std.proofs.Common.{◌≡◌, ◌<◌, ℕ, refl, ap, length, arith, rules, below_more, ◌++◌, ◌∷◌, []}
+use Rattle.std.proofs.Common.{◌≡◌, ◌<◌, ℕ, ap, length, arith, rules, below_more, ◌++◌, ◌∷◌, []}
 use Rattle.std.specs.Prelude.{slice_index, slice_set}
 use Rattle.shape_extract.specs.Code.Walk.{IsGrown}
-use Rattle.shape_extract.proofs.NetWalk.{root_walk, root_done, root_kept, root_self, nets_from_walk, settled_none, settled_kept, walk_none}
+use Rattle.shape_extract.proofs.NetWalk.{root_walk, root_done, root_kept, root_self, nets_from_walk, told_longer, told_all, old_place, walk_none}
 use Rattle.shape_extract.proofs.connectivity.net_walk.walk_all.Goals as goal
 use Rattle.shape_extract.proofs.connectivity.net_walk.walk_all.Goals.{then-labels-i+in_ok-push+in_ok-grow, else-labels-i}
 
@@ -16,8 +16,11 @@ grow-requires-clause-done c =
     let n : c.len-start.result ≡ length c.loop-i.order.items = search rules in
     rw (e, n) (root_done _ _ _ _ c.loop-i.invariant.walk c.loop-i.invariant.all_done (omega arith) c.if-labels-i.true)
 
-pub grow-requires-clause-settled : goal.grow-requires-clause-settled
-grow-requires-clause-settled c = settled_kept c.args.shapes.now c.loop-i.labels _ c.loop-i.settled.items (λ k lk. root_kept (length c.args.shapes.now) c.loop-i.labels c.loop-i.i k (omega arith) (omega (arith, c.loop-i.invariant.walk.long)) lk) c.loop-i.invariant.settled
+pub grow-requires-clause-told : goal.grow-requires-clause-told
+grow-requires-clause-told c =
+    let e : c.push.new.self.items ≡ c.loop-i.order.items ++ (c.loop-i.i ∷ []) = c.in_ok-push.ensures.items in
+    let n : c.len-start.result ≡ length c.loop-i.order.items = search rules in
+    rw (e, n) (told_longer (length c.loop-i.order.items) c.args.shapes.now c.loop-i.order.items (c.loop-i.order.items ++ (c.loop-i.i ∷ [])) c.loop-i.touched c.loop-i.invariant.told (λ p lt. old_place c.loop-i.order.items c.loop-i.i p lt))
 
 pub loop-i-init : goal.loop-i-init
 loop-i-init c =
@@ -25,7 +28,7 @@ loop-i-init c =
     record {
       walk = rw c.new-order.ensures.items (walk_none _ _ c.requires.long c.requires.none);
       all_done = λ p j lp t. absurd (omega arith);
-      settled = settled_none (length c.args.shapes.now) _ _ _ (c.in_ok-settled.ensures.items_if_clones_equal (λ y e. e)) refl;
+      told = record { long = c.requires.touched; each = λ p lt. absurd (omega arith) };
       reached = λ k lt. absurd (omega arith);
     }
 
@@ -35,22 +38,25 @@ loop-i-preserved c = elim c.if-labels-i.branch [
       let li : c.loop-i.i < length c.args.shapes.now = omega arith in
       let ll : c.loop-i.i < length c.loop-i.labels = omega (arith, c.loop-i.invariant.walk.long) in
       let g : IsGrown c.args.shapes.now (slice_set c.loop-i.labels c.loop-i.i c.loop-i.i) w.grow.new.labels w.grow.new.order.items = w.in_ok-grow.ensures.grown in
-      rw (w.labels-is, w.order-is, w.settled-is) (record {
+      rw (w.labels-is, w.order-is, w.touched-is) (record {
         walk = g.grown;
         all_done = g.all_done;
-        settled = w.in_ok-grow.ensures.settled;
+        told = w.in_ok-grow.ensures.told;
         reached = below_more (λ (k : ℕ). slice_index w.grow.new.labels k < length c.args.shapes.now) c.loop-i.i
             (λ k lk. g.still k (root_kept (length c.args.shapes.now) c.loop-i.labels c.loop-i.i k li ll (c.loop-i.invariant.reached k lk)))
             (g.still c.loop-i.i (omega (arith, root_self c.loop-i.labels c.loop-i.i ll)));
       })
   | else-labels-i w ↦
-      rw (w.labels-is, w.order-is, w.settled-is) (record {
+      rw (w.labels-is, w.order-is, w.touched-is) (record {
         walk = c.loop-i.invariant.walk;
         all_done = c.loop-i.invariant.all_done;
-        settled = c.loop-i.invariant.settled;
+        told = c.loop-i.invariant.told;
         reached = below_more (λ (k : ℕ). slice_index c.loop-i.labels k < length c.args.shapes.now) c.loop-i.i c.loop-i.invariant.reached (omega arith);
       })
 ]
 
-pub returns : goal.returns
-returns c = nets_from_walk _ _ _ c.loop-i.invariant.walk c.loop-i.invariant.all_done (λ k lk. c.loop-i.invariant.reached k (omega arith))
+pub returns-clause-nets : goal.returns-clause-nets
+returns-clause-nets c = nets_from_walk _ _ _ c.loop-i.invariant.walk c.loop-i.invariant.all_done (λ k lk. c.loop-i.invariant.reached k (omega arith))
+
+pub returns-clause-told : goal.returns-clause-told
+returns-clause-told c = told_all c.args.shapes.now c.loop-i.labels c.loop-i.order.items c.loop-i.touched c.loop-i.invariant.walk (λ k lk. c.loop-i.invariant.reached k (omega arith)) c.loop-i.invariant.told

@@ -1,0 +1,5 @@
+use Rattle.shape_extract.proofs.StandIns.{PlacesTo}
+use Rattle.shape_extract.proofs.distinct_shapes.stand_ins.Given as goal
+
+abbrev pub invariant-loop-n : goal.invariant-loop-n
+invariant-loop-n l = PlacesTo l.n l.shapes l.numbers.items l.places.items
