@@ -47,3 +47,4 @@ mod FramesExist
 mod CircuitExists
 pub mod SameShapes
 mod StandIns
+mod Members

@@ -119,6 +119,14 @@ those_near holds p near found filtered up sound complete passes = subst (AreThos
   rising = λ k l lt len. AllPairs-from_increasing (filter p near) (IsStrictlyIncreasing-filter p near up) k l 0 lt len;
 })
 
+-- the shapes that pass a test are those that pass it among the near ones
+pub passing_near : (test : Shape → Bool) (shapes : List Shape) (here : Rectangle) (margin : ℕ) (near found : List ℕ) → ((s : Shape) (n : ℕ) → slice_get shapes n ≡ Some s → test s ≡ true → IsClose here s.rect margin) → AreNear (rects_of shapes) here margin near → found ≡ filter (passes_at test shapes) near → AreThose (PassesIn test shapes) found
+passing_near test shapes here margin near found close are filtered =
+    those_near (PassesIn test shapes) (passes_at test shapes) near found filtered are.rising
+    (λ n e. (let s : IsShapeAt test shapes n = shape_at test shapes n e in record { item = s.shape; item_is = s.shape_is; passes_so = s.passes_so }))
+    (λ n h. are.complete n (record { other = h.item.rect; other_is = rect_at shapes n h.item h.item_is; close = close h.item n h.item_is h.passes_so }))
+    (λ n h. ap (passes_in test) h.item_is ∙ h.passes_so)
+
 -- ---- labels
 
 pub holding_share : (a b : Rectangle) (x y : ℤ) → holds_point a x y ≡ true → holds_point b x y ≡ true → share_point a b ≡ true
@@ -138,10 +146,9 @@ holding_share a b x y p q =
 
 pub marked_are : (shapes : List Shape) (label : Label) (here : Rectangle) (near found : List ℕ) → holds_point here label.x label.y ≡ true → AreNear (rects_of shapes) here 0 near → found ≡ filter (passes_at (marks label) shapes) near → AreThose (PassesIn (marks label) shapes) found
 marked_are shapes label here near found at are filtered =
-    those_near (PassesIn (marks label) shapes) (passes_at (marks label) shapes) near found filtered are.rising
-    (λ n e. (let s : IsShapeAt (marks label) shapes n = shape_at (marks label) shapes n e in record { item = s.shape; item_is = s.shape_is; passes_so = s.passes_so }))
-    (λ n h. are.complete n (record { other = h.item.rect; other_is = rect_at shapes n h.item h.item_is; close = sharing_close here h.item.rect (holding_share here h.item.rect label.x label.y at (and_parts (label.layer == LABELS && h.item.layer == marked_layer label) (holds_point h.item.rect label.x label.y) h.passes_so).1) }))
-    (λ n h. ap (passes_in (marks label)) h.item_is ∙ h.passes_so)
+    passing_near (marks label) shapes here 0 near found
+    (λ s n is h. sharing_close here s.rect (holding_share here s.rect label.x label.y at (and_parts (label.layer == LABELS && s.layer == marked_layer label) (holds_point s.rect label.x label.y) h).1))
+    are filtered
 
 pub tested_at : (test : Shape → Bool) (s : Shape) (shapes : List Shape) (n : ℕ) (b : Bool) → slice_get shapes n ≡ Some s → test s ≡ b → passes_at test shapes n ≡ b
 tested_at test s shapes n b is e = ap (passes_in test) is ∙ e

@@ -79,6 +79,7 @@ at_all n shapes numbers some all most are =
 pub record PlacesTo (n : ℕ) (shapes : List Shape) (numbers places : List ℕ) : Type 0 where
   pub below : (k : ℕ) → k < length numbers → slice_index numbers k < n
   pub rising : (j k : ℕ) → j < k → k < length numbers → slice_index numbers j < slice_index numbers k
+  pub own : (k : ℕ) → k < length numbers → slice_index places (slice_index numbers k) ≡ k
   pub few : length numbers ≤ n
   pub long : length places ≡ n
   pub each : (m : ℕ) → m < n → StandsFor shapes numbers m (slice_index places m)
@@ -88,6 +89,7 @@ pub places_none : (shapes : List Shape) (numbers places : List ℕ) → numbers 
 places_none shapes numbers places none no_places = record {
   below = λ k lt. absurd (omega (arith, ap length none));
   rising = λ j k less lt. absurd (omega (arith, ap length none));
+  own = λ k lt. absurd (omega (arith, ap length none));
   few = omega (arith, ap length none);
   long = ap length no_places;
   each = λ m lt. absurd (omega arith);
@@ -119,6 +121,7 @@ module _ (n : ℕ) (shapes : List Shape) (numbers places : List ℕ) (are : Plac
   place_shared head less same = record {
     below = λ k lt. omega (arith, are.below k lt);
     rising = are.rising;
+    own = λ k lt. before places (slice_index places head) (slice_index numbers k) (omega (arith, are.below k lt, are.long)) ∙ are.own k lt;
     few = omega (arith, are.few);
     long = omega (arith, one_more places (slice_index places head), are.long);
     each = λ m lt. elim (cases_eq m n) [
@@ -149,6 +152,14 @@ module _ (n : ℕ) (shapes : List Shape) (numbers places : List ℕ) (are : Plac
       | inr new ↦ (let jl : j < length numbers = omega (arith, one_more numbers n) in
           omega (arith, last numbers n k (omega (arith, one_more numbers n)), before numbers n j jl, are.below j jl))
     ];
+    own = λ k lt. elim (cases_lt k (length numbers)) [
+      | inl old ↦ ap (slice_index (places ++ length numbers ∷ [])) (before numbers n k old)
+          ∙ (before places (length numbers) (slice_index numbers k) (omega (arith, are.below k old, are.long)) ∙ are.own k old)
+      | inr new ↦
+          let here : k ≡ length numbers = omega (arith, one_more numbers n) in
+          ap (slice_index (places ++ length numbers ∷ [])) (last numbers n k here)
+          ∙ (last places (length numbers) n (omega (arith, are.long)) ∙ sym here)
+    ];
     few = omega (arith, one_more numbers n, are.few);
     long = omega (arith, one_more places (length numbers), are.long);
     each = λ m lt. elim (cases_eq m n) [
@@ -172,6 +183,7 @@ pub places_all : (n : ℕ) (shapes : List Shape) (numbers places : List ℕ) →
 places_all n shapes numbers places are all most = record {
   below = λ k lt. omega (arith, are.below k lt);
   rising = are.rising;
+  own = are.own;
   few = omega (arith, are.few);
   long = omega (arith, are.long);
   each = λ m lt. are.each m (omega arith);

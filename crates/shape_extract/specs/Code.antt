@@ -29,3 +29,4 @@ pub mod OutputPins
 pub mod Parts
 -- equal shapes:
 pub mod DistinctShapes
+pub mod Filed

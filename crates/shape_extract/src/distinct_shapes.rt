@@ -94,8 +94,8 @@ fn link(shapes: &[Shape], heads: &mut [u32], before: u32, n: u32)
     }
 }
 
-/// For each shape the least number of an equal one. That the number is one of an equal shape and not above is what `link`
-/// tests; that it is the least is what the order is for, and no clause rests on it.
+/// For each shape the least number of an equal one. That the number is one of an equal shape and not above is what
+/// `link` tests; that it is the least is what the order is for, and no clause rests on it.
 fn heads(alloc: Global, shapes: &[Shape]) -> Result<Vec<u32>, Memory>
     requires { length shapes.now < 2 ^ 32 }
     ensures { IfOk result (λ heads. AreHeads shapes.now heads.items) }

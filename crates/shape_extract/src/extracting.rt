@@ -5,8 +5,9 @@ ghost use Rattle.shape_extract.specs.declared.extraction.ExtractRefusal.TheVaria
 ghost use Rattle.shape_extract.specs.Extracts.{Extracts, BreaksCircuit, IfBroken};
 
 use crate::circuits::assembly::circuit_of;
-use crate::connectivity::net_walk::nets;
+use crate::connectivity::net_walk::nets_by;
 use crate::extraction::ExtractRefusal;
+use crate::filed_shapes::file_kinds;
 use crate::rules::cell_rule::find_cells;
 use crate::rules::first_broken::{BrokenRule, broken, first_broken};
 use crate::tables::mark_table::mark_table;
@@ -14,7 +15,7 @@ use crate::tables::pin_frames::pin_frames;
 use crate::tables::pin_rows::pin_rows;
 use crate::tables::row_edges::rows;
 use chip_circuit::Extracted;
-use geom::{Flat, file_shapes};
+use geom::Flat;
 use layout_rules::Rule;
 use std::alloc::Global;
 
@@ -36,22 +37,22 @@ pub fn extract(alloc: Global, flat: &Flat) -> Result<Extracted, ExtractRefusal>
     ensures broken { IfErr result (λ refusal. IfBroken refusal (BreaksCircuit flat.now)) }
 {
     let shapes = flat.shapes.as_slice();
-    let index = file_shapes(alloc, &flat.shapes)?;
-    if let Some(report) = find_cells(alloc, shapes, &index)? {
+    let filed = file_kinds(alloc, shapes)?;
+    if let Some(report) = find_cells(alloc, shapes, &filed)? {
         return Err(refusal(broken(Rule::E1, report)));
     }
-    let nets = nets(alloc, flat)?;
+    let nets = nets_by(alloc, shapes, &filed)?;
     let edges = rows(alloc, shapes)?;
     let edges = edges.as_slice();
-    let frames = pin_frames(alloc, shapes, &index)?;
+    let frames = pin_frames(alloc, shapes, &filed)?;
     let frames = frames.as_slice();
     let rows = pin_rows(alloc, shapes, frames, edges)?;
     let rows = rows.as_slice();
-    let marking = mark_table(alloc, flat, &index)?;
+    let marking = mark_table(alloc, flat, &filed)?;
     let marking = marking.as_slice();
-    if let Some(found) = first_broken(alloc, flat, marking, &index, nets.as_slice(), edges, rows)? {
+    if let Some(found) = first_broken(alloc, flat, marking, &filed, nets.as_slice(), edges, rows)? {
         return Err(refusal(found));
     }
-    let circuit = circuit_of(alloc, flat, marking, &index, nets, edges, frames, rows)?;
+    let circuit = circuit_of(alloc, flat, marking, &filed, nets, edges, frames, rows)?;
     Ok(circuit)
 }

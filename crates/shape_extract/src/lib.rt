@@ -7,6 +7,7 @@ mod connectivity;
 mod distinct_shapes;
 mod extracting;
 mod extraction;
+mod filed_shapes;
 mod layers;
 mod lines;
 mod pairs;

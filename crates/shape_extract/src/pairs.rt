@@ -6,7 +6,9 @@ ghost use Rattle.geom.specs.Near.{rects_of, IsClose};
 ghost use Rattle.geom.specs.declared.shapes.Shape.{Shape};
 ghost use Rattle.layout_rules.specs.Reports.{PassTogether};
 ghost use Rattle.shape_extract.specs.Searches.{AreThose, passes_with};
+ghost use Rattle.shape_extract.specs.Code.Filed.{IsFiled};
 
+use crate::filed_shapes::{FiledShapes, list_of_kinds};
 use aq_base::Memory;
 use geom::{Buckets, Shape};
 
@@ -82,4 +84,26 @@ pub fn list_partners<T: PairTest>(
     ensures { IfOk result (λ _. AreThose (PassTogether (T.passes test.now) shapes.now a) found.new.items) }
 {
     list_close_partners(test, 0, shapes, index, a, found)
+}
+
+/// The same by a query of the kinds: a heap of equal shapes is tested once, and listed only where it passes.
+pub fn list_filed_partners<T: PairTest>(
+    test: &T,
+    shapes: &[Shape],
+    filed: &FiledShapes,
+    a: u32,
+    found: &mut Vec<u32>,
+) -> Result<(), Memory>
+    requires few { length shapes.now < 2 ^ 32 }
+    requires filed { IsFiled shapes.now filed.now }
+    requires within { a < length shapes.now }
+    requires touching { T.reach test.now ≡ 0 }
+    ensures { IfOk result (λ _. AreThose (PassTogether (T.passes test.now) shapes.now a) found.new.items) }
+{
+    filed.index.known();
+    let first = &shapes[a as usize];
+    filed.index.list_near(&first.rect, 0, found)?;
+    keep_passing(test, first, filed.kinds.shapes.as_slice(), found);
+    list_of_kinds(filed, found)?;
+    Ok(())
 }

@@ -19,10 +19,11 @@ pub record StandsFor (shapes : List Shape) (numbers : List ℕ) (n place : ℕ) 
   pub not_above : slice_index numbers place ≤ n
   pub alike : slice_get shapes (slice_index numbers place) ≡ slice_get shapes n
 
--- rising numbers, and for each shape the place among them of one that stands for it
+-- rising numbers, and for each shape the place among them of one that stands for it, which for those is their own
 pub record ArePlaces (shapes : List Shape) (numbers places : List ℕ) : Type 0 where
   pub below : (k : ℕ) → k < length numbers → slice_index numbers k < length shapes
   pub rising : (j k : ℕ) → j < k → k < length numbers → slice_index numbers j < slice_index numbers k
+  pub own : (k : ℕ) → k < length numbers → slice_index places (slice_index numbers k) ≡ k
   pub few : length numbers ≤ length shapes
   pub long : length places ≡ length shapes
   pub each : (n : ℕ) → n < length shapes → StandsFor shapes numbers n (slice_index places n)

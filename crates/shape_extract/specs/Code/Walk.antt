@@ -64,7 +64,8 @@ pub record IsTold (shapes : List Shape) (from : ℕ) (touched new : List Bool) :
 -- of the first n shapes of the order it is told
 pub record AreToldTo (n : ℕ) (shapes : List Shape) (order : List ℕ) (touched : List Bool) : Type 0 where
   pub long : length touched ≡ length shapes
-  pub each : (p : ℕ) → p < n → Says (is_touched touched (slice_index order p)) (HasTouching shapes (slice_index order p))
+  pub each : (p : ℕ) → p < n
+      → Says (is_touched touched (slice_index order p)) (HasTouching shapes (slice_index order p))
 
 -- of each shape it is told whether some shape touches it
 pub record AreTold (shapes : List Shape) (touched : List Bool) : Type 0 where

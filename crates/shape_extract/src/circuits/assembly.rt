@@ -1,6 +1,5 @@
 // The circuit of a layout, put together from its cells and ports, where the rules of circuits are kept.
 ghost use Rattle.std.specs.Prelude.{◌≡◌, ◌^◌, ◌<◌, IfOk};
-ghost use Rattle.geom.specs.Near.{rects_of};
 ghost use Rattle.geom.specs.FlatForm.{flat_count};
 ghost use Rattle.layout_rules.specs.Nets.{AreNets};
 ghost use Rattle.layout_rules.specs.Rows.{AreRows};
@@ -10,17 +9,19 @@ ghost use Rattle.shape_extract.specs.Code.Marking.{AreMarks};
 ghost use Rattle.shape_extract.specs.Extracts.{KeepsFive};
 ghost use Rattle.shape_extract.specs.Code.Parts.{AreParts};
 ghost use Rattle.shape_extract.specs.Code.RowFaults.{ArePinRows};
+ghost use Rattle.shape_extract.specs.Code.Filed.{IsFiled};
 
 use crate::circuits::cell_feeds::Tables;
 use crate::circuits::cell_list::cells_of;
 use crate::circuits::drivers::drivers;
 use crate::circuits::frames::{ordered_frames, places_of};
 use crate::circuits::outputs::{outputs_of, wire_count};
+use crate::filed_shapes::FiledShapes;
 use crate::tables::mark_table::Mark;
 use crate::tables::ports::{count_entries, count_exits, ports};
 use aq_base::{List, Memory};
 use chip_circuit::{ExCell, Extracted};
-use geom::{Buckets, Flat};
+use geom::Flat;
 use rowed::Source;
 use std::alloc::Global;
 
@@ -36,14 +37,14 @@ fn parts_of(
     alloc: Global,
     flat: &Flat,
     marking: &[Mark],
-    index: &Buckets,
+    filed: &FiledShapes,
     nets: &[u32],
     edges: &[i64],
     pin_frames: &[u32],
     rows: &[usize],
 ) -> Result<CircuitParts, Memory>
     requires few { flat_count flat.now < 2 ^ 32 }
-    requires filed { index.now ≡ rects_of flat.now.shapes }
+    requires filed { IsFiled flat.now.shapes filed.now }
     requires nets { AreNets flat.now.shapes nets.now }
     requires marking { AreMarks flat.now.shapes flat.now.labels marking.now }
     requires edges { AreRows flat.now.shapes edges.now }
@@ -58,7 +59,7 @@ fn parts_of(
     let drivers = drivers(alloc, flat, nets)?;
     let tables = Tables {
         flat,
-        index,
+        filed,
         nets,
         frames: frames.as_slice(),
         places: places.as_slice(),
@@ -81,14 +82,14 @@ pub fn circuit_of(
     alloc: Global,
     flat: &Flat,
     marking: &[Mark],
-    index: &Buckets,
+    filed: &FiledShapes,
     nets: List<u32>,
     edges: &[i64],
     pin_frames: &[u32],
     rows: &[usize],
 ) -> Result<Extracted, Memory>
     requires few { flat_count flat.now < 2 ^ 32 }
-    requires filed { index.now ≡ rects_of flat.now.shapes }
+    requires filed { IsFiled flat.now.shapes filed.now }
     requires nets { AreNets flat.now.shapes nets }
     requires marking { AreMarks flat.now.shapes flat.now.labels marking.now }
     requires edges { AreRows flat.now.shapes edges.now }
@@ -101,7 +102,7 @@ pub fn circuit_of(
         alloc,
         flat,
         marking,
-        index,
+        filed,
         nets.as_slice(),
         edges,
         pin_frames,

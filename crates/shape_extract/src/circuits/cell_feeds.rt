@@ -12,11 +12,12 @@ ghost use Rattle.shape_extract.specs.Code.Tables.{AreReady, AreKnownPins, IsFram
 
 use crate::circuits::drivers::driver_of;
 use crate::circuits::pin_names::name_of;
+use crate::filed_shapes::FiledShapes;
 use crate::rules::cell_pins::is_marked;
 use crate::tables::mark_table::Mark;
 use chip_circuit::Feed;
 use circuit::CellKind;
-use geom::{Buckets, Flat};
+use geom::Flat;
 use layout_rules::layers::{INPUT_PIN, OUTPUT_PIN};
 use rowed::Source;
 
@@ -25,7 +26,7 @@ use rowed::Source;
 #[derive(Clone, Copy)]
 pub struct Tables<'a> {
     pub flat: &'a Flat,
-    pub index: &'a Buckets,
+    pub filed: &'a FiledShapes,
     pub nets: &'a [u32],
     pub frames: &'a [u32],
     pub places: &'a [u32],

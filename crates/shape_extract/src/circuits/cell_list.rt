@@ -2,15 +2,15 @@
 ghost use Rattle.std.specs.Prelude.{◌≡◌, ◌<◌, ◌^◌, IfOk, length, slice_get, Some};
 ghost use Rattle.std.specs.List.{AllZip};
 ghost use Rattle.geom.specs.declared.shapes.Shape.{Shape};
-ghost use Rattle.geom.specs.Near.{rects_of};
 ghost use Rattle.layout_rules.specs.Rows.{AreRows, row_of};
 ghost use Rattle.layout_rules.specs.Reports.{Passes};
 ghost use Rattle.layout_rules.specs.Layers.{is_frame};
 ghost use Rattle.shape_extract.specs.Extraction.{IsCellFrom};
 ghost use Rattle.shape_extract.specs.Code.Tables.{AreReady, AreKnownPins, IsFrameOf};
+ghost use Rattle.shape_extract.specs.Code.Filed.{IsFiled};
 
 use crate::circuits::cell_feeds::{Tables, feed_at};
-use crate::pairs::list_partners;
+use crate::pairs::list_filed_partners;
 use crate::rules::cell_pins::kind_numbered;
 use crate::tables::pins_in_frames::HoldsPin;
 use crate::tables::row_edges::{lower_edge, row_at};
@@ -53,7 +53,7 @@ fn cell_of(
 ) -> Result<ExCell, Memory>
     requires tables { AreReady tables.now }
     requires known { AreKnownPins tables.now }
-    requires filed { tables.now.index.now ≡ rects_of tables.now.flat.now.shapes }
+    requires filed { IsFiled tables.now.flat.now.shapes tables.now.filed.now }
     requires rows { AreRows tables.now.flat.now.shapes edges.now }
     requires frame { Passes is_frame tables.now.flat.now.shapes f }
     ensures { IfOk result (λ cell. IsCellFrom tables.now.flat.now tables.now.frames.now cell f) }
@@ -61,7 +61,7 @@ fn cell_of(
     let shapes = tables.flat.shapes.as_slice();
     let kind = kind_of(tables, f);
     let row = row_of(tables, edges, f);
-    list_partners(&HoldsPin, shapes, tables.index, f, pins)?;
+    list_filed_partners(&HoldsPin, shapes, tables.filed, f, pins)?;
     let feed0 = feed_at(tables, pins.as_slice(), kind, f, 0);
     let feed1 = feed_at(tables, pins.as_slice(), kind, f, 1);
     let feed2 = feed_at(tables, pins.as_slice(), kind, f, 2);
@@ -79,7 +79,7 @@ fn cell_of(
 pub fn cells_of(alloc: Global, tables: &Tables<'_>, edges: &[i64]) -> Result<List<ExCell>, Memory>
     requires tables { AreReady tables.now }
     requires known { AreKnownPins tables.now }
-    requires filed { tables.now.index.now ≡ rects_of tables.now.flat.now.shapes }
+    requires filed { IsFiled tables.now.flat.now.shapes tables.now.filed.now }
     requires rows { AreRows tables.now.flat.now.shapes edges.now }
     ensures { IfOk result
         (λ cells. AllZip (IsCellFrom tables.now.flat.now tables.now.frames.now) cells tables.now.frames.now) }

@@ -1,4 +1,4 @@
-// The shapes of each net, one after the other.
+// The shapes of each net, or of each kind, one after the other.
 ghost use Rattle.std.specs.Prelude.{◌≡◌, ◌^◌, ◌<◌, ℕ, IfOk, length, slice_index};
 ghost use Rattle.layout_rules.specs.Nets.{AreNets};
 ghost use Rattle.shape_extract.specs.Searches.{AreThose};
@@ -25,8 +25,8 @@ fn link(nets: &[u32], heads: &mut [u32], next: &mut [u32])
     }
 }
 
-/// For each shape the next one of its net, or the number of shapes where it is the last. It is refused for want of
-/// memory alone.
+/// For each shape the next one of its net, or the number of shapes where it is the last; places of kinds are linked as
+/// numbers of nets are. It is refused for want of memory alone.
 pub fn chains(alloc: Global, nets: &[u32]) -> Result<Vec<u32>, Memory>
     requires few { length nets.now < 2 ^ 32 }
     requires nets { (x : ℕ) → x < length nets.now → slice_index nets.now x < length nets.now }

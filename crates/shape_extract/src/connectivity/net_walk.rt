@@ -18,11 +18,13 @@ ghost use Rattle.shape_extract.specs.Code.Walk.{
   net_at,
 };
 ghost use Rattle.shape_extract.specs.Code.DistinctShapes.{ArePlaces, IsDistinct};
+ghost use Rattle.shape_extract.specs.Code.Filed.{IsFiled};
 
 use crate::connectivity::neighbours::list_touching;
-use crate::distinct_shapes::{Distinct, distinct_of};
+use crate::distinct_shapes::Distinct;
+use crate::filed_shapes::{FiledShapes, file_kinds};
 use aq_base::{List, Memory};
-use geom::{Buckets, Flat, Shape, file_shapes};
+use geom::{Buckets, Flat, Shape};
 use std::alloc::Global;
 
 /// Labels those of these shapes that have no label yet as shape `from` is labelled, and adds them to the order.
@@ -151,8 +153,8 @@ fn walk_all(
     Ok(())
 }
 
-/// What a walk over the kinds of shapes finds: the net of each, and whether some shape touches it. Vias of one kind don't
-/// touch each other, so those that touch nothing else are no net together.
+/// What a walk over the kinds of shapes finds: the net of each, and whether some shape touches it. Equal vias don't touch
+/// each other, so those that touch nothing else are each a net of their own.
 #[derive(Drop)]
 struct Walked {
     labels: Vec<u32>,
@@ -211,15 +213,23 @@ fn own_nets(
     Ok(nets)
 }
 
+/// The nets, by queries of the kinds. It is refused for want of memory alone.
+pub fn nets_by(alloc: Global, shapes: &[Shape], filed: &FiledShapes) -> Result<List<u32>, Memory>
+    requires few { length shapes.now < 2 ^ 32 }
+    requires filed { IsFiled shapes.now filed.now }
+    ensures { IfOk result (λ nets. AreNets shapes.now nets) }
+{
+    let walked = walk(alloc, filed.kinds.shapes.as_slice(), &filed.index)?;
+    let nets = own_nets(alloc, shapes, &filed.kinds, &walked)?;
+    Ok(List::from_vec(nets))
+}
+
 /// For each shape the least number of a shape that is joined to it, itself counted. It is refused for want of memory
 /// alone.
 pub fn nets(alloc: Global, flat: &Flat) -> Result<List<u32>, Memory>
     requires { flat_count flat.now < 2 ^ 32 }
     ensures { IfOk result (λ nets. AreNets flat.now.shapes nets) }
 {
-    let kinds = distinct_of(alloc, flat.shapes.as_slice())?;
-    let index = file_shapes(alloc, &kinds.shapes)?;
-    let walked = walk(alloc, kinds.shapes.as_slice(), &index)?;
-    let nets = own_nets(alloc, flat.shapes.as_slice(), &kinds, &walked)?;
-    Ok(List::from_vec(nets))
+    let filed = file_kinds(alloc, flat.shapes.as_slice())?;
+    nets_by(alloc, flat.shapes.as_slice(), &filed)
 }

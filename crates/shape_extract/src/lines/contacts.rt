@@ -1,14 +1,15 @@
 // Parts of excitation lines and their contacts.
 ghost use Rattle.std.specs.Prelude.{◌≡◌, ◌&&◌, ◌==◌, ◌^◌, ◌<◌, IfOk, length, not};
 ghost use Rattle.std.specs.List.{filter};
-ghost use Rattle.geom.specs.Near.{rects_of};
 ghost use Rattle.layout_rules.specs.ExcitationLines.{meet, Contact, IsPart};
 ghost use Rattle.shape_extract.specs.Searches.{Says, AreThose};
+ghost use Rattle.shape_extract.specs.Code.Filed.{IsFiled};
 
+use crate::filed_shapes::FiledShapes;
 use crate::layers::is_line;
-use crate::pairs::{PairTest, list_partners};
+use crate::pairs::{PairTest, list_filed_partners};
 use aq_base::Memory;
-use geom::{Buckets, Shape, touches};
+use geom::{Shape, touches};
 
 /// Whether the shape of this number is a part of a line with this datatype.
 pub fn is_part(shapes: &[Shape], datatype: u16, n: u32) -> bool
@@ -46,16 +47,16 @@ fn remove_number(numbers: &mut Vec<u32>, a: u32)
 /// Lists the contacts of the shape of this number.
 pub fn list_contacts(
     shapes: &[Shape],
-    index: &Buckets,
+    filed: &FiledShapes,
     a: u32,
     found: &mut Vec<u32>,
 ) -> Result<(), Memory>
-    requires filed { index.now ≡ rects_of shapes.now }
+    requires filed { IsFiled shapes.now filed.now }
     requires few { length shapes.now < 2 ^ 32 }
     requires within { a < length shapes.now }
     ensures { IfOk result (λ _. AreThose (Contact shapes.now a) found.new.items) }
 {
-    list_partners(&Meet, shapes, index, a, found)?;
+    list_filed_partners(&Meet, shapes, filed, a, found)?;
     remove_number(found, a);
     Ok(())
 }

@@ -1,6 +1,5 @@
 // Bars and how their line runs along them, from one side to the other.
 ghost use Rattle.std.specs.Prelude.{◌≡◌, ◌^◌, ◌<◌, IfOk, length};
-ghost use Rattle.geom.specs.Near.{rects_of};
 ghost use Rattle.layout_rules.specs.Reports.{Alone};
 ghost use Rattle.layout_rules.specs.ExcitationLines.{
   Contact,
@@ -15,12 +14,14 @@ ghost use Rattle.layout_rules.specs.ExcitationRule.{AreLaidOut};
 ghost use Rattle.layout_rules.specs.Code.ChainRule.{IsChainUncrossed};
 ghost use Rattle.shape_extract.specs.Searches.{Says, Finds, AreThose};
 ghost use Rattle.shape_extract.specs.Code.Lines.{AreWalked, GoesOnWrongly};
+ghost use Rattle.shape_extract.specs.Code.Filed.{IsFiled};
 
+use crate::filed_shapes::FiledShapes;
 use crate::lines::contacts::{is_part, list_contacts};
 use crate::lines::reached_parts::is_reached;
 use crate::search::{Part, Report, first_of};
 use aq_base::Memory;
-use geom::{Buckets, Shape, holds_in_x, touches_in_y};
+use geom::{Shape, holds_in_x, touches_in_y};
 use layout_rules::layers::BAR;
 use std::alloc::Global;
 
@@ -91,12 +92,12 @@ fn goes_on_wrongly(shapes: &[Shape], contacts: &[u32], a: u32, b: u32) -> bool
 /// Whether the shape of this number is a bar that its line doesn't run along from one side to the other.
 fn is_not_crossed(
     shapes: &[Shape],
-    index: &Buckets,
+    filed: &FiledShapes,
     before: &[u32],
     b: u32,
     found: &mut Vec<u32>,
 ) -> Result<bool, Memory>
-    requires filed { index.now ≡ rects_of shapes.now }
+    requires filed { IsFiled shapes.now filed.now }
     requires few { length shapes.now < 2 ^ 32 }
     requires within { b < length shapes.now }
     requires lines { AreLaidOut shapes.now }
@@ -113,7 +114,7 @@ fn is_not_crossed(
     if !enters(&shapes[a as usize], &shapes[b as usize]) {
         return Ok(true);
     }
-    list_contacts(shapes, index, b, found)?;
+    list_contacts(shapes, filed, b, found)?;
     let wrong = goes_on_wrongly(shapes, found.as_slice(), a, b);
     Ok(wrong)
 }
@@ -122,7 +123,7 @@ fn is_not_crossed(
 #[derive(Drop)]
 struct UncrossedBars<'a> {
     shapes: &'a [Shape],
-    index: &'a Buckets,
+    filed: &'a FiledShapes,
     before: &'a [u32],
 }
 
@@ -130,7 +131,7 @@ impl<'a> Part for UncrossedBars<'a> {
     ghost use Rattle.std.proofs.lemmas.Option.{slice_get_within};
 
     ghost valid = { λ s. (length s.shapes.now < 2 ^ 32)
-        × (AreLaidOut s.shapes.now × AreWalked s.shapes.now s.before.now) × (s.index.now ≡ rects_of s.shapes.now) };
+        × (AreLaidOut s.shapes.now × AreWalked s.shapes.now s.before.now) × IsFiled s.shapes.now s.filed.now };
 
     ghost count = { λ s. length s.shapes.now };
 
@@ -141,7 +142,7 @@ impl<'a> Part for UncrossedBars<'a> {
     }
 
     fn second(&self, a: u32, found: &mut Vec<u32>) -> Result<Option<u32>, Memory> {
-        if is_not_crossed(self.shapes, self.index, self.before, a, found)? {
+        if is_not_crossed(self.shapes, self.filed, self.before, a, found)? {
             return Ok(Some(a));
         }
         Ok(None)
@@ -154,10 +155,10 @@ impl<'a> Part for UncrossedBars<'a> {
 pub fn find_uncrossed(
     alloc: Global,
     shapes: &[Shape],
-    index: &Buckets,
+    filed: &FiledShapes,
     before: &[u32],
 ) -> Result<Option<Report>, Memory>
-    requires filed { index.now ≡ rects_of shapes.now }
+    requires filed { IsFiled shapes.now filed.now }
     requires few { length shapes.now < 2 ^ 32 }
     requires lines { AreLaidOut shapes.now }
     requires walked { AreWalked shapes.now before.now }
@@ -167,7 +168,7 @@ pub fn find_uncrossed(
         alloc,
         &UncrossedBars {
             shapes,
-            index,
+            filed,
             before,
         },
     )

@@ -1,11 +1,12 @@
 // The rule of excitation lines.
 ghost use Rattle.std.specs.Prelude.{◌≡◌, ◌^◌, ◌<◌, IfOk, length};
-ghost use Rattle.geom.specs.Near.{rects_of};
 ghost use Rattle.layout_rules.specs.Reports.{Alone, Afterwards};
 ghost use Rattle.layout_rules.specs.ExcitationRule.{IsCutOff, IsNotCrossed, IsUnexcited, ExcitationBroken, AreLaidOut};
 ghost use Rattle.shape_extract.specs.Searches.{Finds};
 ghost use Rattle.shape_extract.specs.Code.Lines.{ExcitesFrames};
+ghost use Rattle.shape_extract.specs.Code.Filed.{IsFiled};
 
+use crate::filed_shapes::FiledShapes;
 use crate::lines::crossed_bars::find_uncrossed;
 use crate::lines::excited_frames::find_unexcited;
 use crate::lines::line_parts::find_misjoined;
@@ -16,7 +17,7 @@ use crate::lines::unknown_parts::find_unknown_part;
 use crate::search::Report;
 use crate::tables::row_edges::rows;
 use aq_base::Memory;
-use geom::{Buckets, Shape};
+use geom::Shape;
 use layout_rules::layers::{EVEN_LINE, ODD_LINE};
 use std::alloc::Global;
 
@@ -24,26 +25,26 @@ use std::alloc::Global;
 fn find_along_lines(
     alloc: Global,
     shapes: &[Shape],
-    index: &Buckets,
+    filed: &FiledShapes,
 ) -> Result<Option<Report>, Memory>
-    requires filed { index.now ≡ rects_of shapes.now }
+    requires filed { IsFiled shapes.now filed.now }
     requires few { length shapes.now < 2 ^ 32 }
     requires lines { AreLaidOut shapes.now }
     ensures finds { IfOk result (Finds (Afterwards (Alone (IsCutOff shapes.now))
         (Afterwards (Alone (IsNotCrossed shapes.now)) (Alone (IsUnexcited shapes.now))))) }
     ensures excited { IfOk result (ExcitesFrames shapes.now) }
 {
-    let before = walk_lines(alloc, shapes, index)?;
+    let before = walk_lines(alloc, shapes, filed)?;
     let cut_off = find_cut_off(alloc, shapes, before.as_slice())?;
     if let Some(report) = cut_off {
         return Ok(Some(report));
     }
-    let uncrossed = find_uncrossed(alloc, shapes, index, before.as_slice())?;
+    let uncrossed = find_uncrossed(alloc, shapes, filed, before.as_slice())?;
     if let Some(report) = uncrossed {
         return Ok(Some(report));
     }
     let edges = rows(alloc, shapes)?;
-    find_unexcited(alloc, shapes, index, before.as_slice(), edges.as_slice())
+    find_unexcited(alloc, shapes, filed, before.as_slice(), edges.as_slice())
 }
 
 /// The first report of the rule of excitation lines. Where there is none, each frame lies under one bar alone, which
@@ -51,10 +52,10 @@ fn find_along_lines(
 pub fn find_excitation(
     alloc: Global,
     shapes: &[Shape],
-    index: &Buckets,
+    filed: &FiledShapes,
 ) -> Result<Option<Report>, Memory>
     requires few { length shapes.now < 2 ^ 32 }
-    requires filed { index.now ≡ rects_of shapes.now }
+    requires filed { IsFiled shapes.now filed.now }
     ensures finds { IfOk result (Finds (ExcitationBroken shapes.now)) }
     ensures excited { IfOk result (ExcitesFrames shapes.now) }
 {
@@ -68,9 +69,9 @@ pub fn find_excitation(
     if let Some(report) = find_start_fault(shapes, ODD_LINE) {
         return Ok(Some(report));
     }
-    let misjoined = find_misjoined(alloc, shapes, index)?;
+    let misjoined = find_misjoined(alloc, shapes, filed)?;
     if let Some(report) = misjoined {
         return Ok(Some(report));
     }
-    find_along_lines(alloc, shapes, index)
+    find_along_lines(alloc, shapes, filed)
 }

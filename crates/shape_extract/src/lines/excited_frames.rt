@@ -1,6 +1,5 @@
 // Frames and the bars over them.
 ghost use Rattle.std.specs.Prelude.{◌≡◌, ◌^◌, ◌<◌, Some, IfOk, length, slice_get};
-ghost use Rattle.geom.specs.Near.{rects_of};
 ghost use Rattle.geom.specs.declared.shapes.Shape.{Shape};
 ghost use Rattle.layout_rules.specs.Layers.{is_frame};
 ghost use Rattle.layout_rules.specs.Reports.{Alone, Passes};
@@ -11,16 +10,18 @@ ghost use Rattle.layout_rules.specs.Code.ChainRule.{IsChainExcited, IsChainUnexc
 ghost use Rattle.shape_extract.specs.Searches.{Says, Finds};
 ghost use Rattle.shape_extract.specs.Code.Edges.{IsAmong};
 ghost use Rattle.shape_extract.specs.Code.Lines.{AreWalked, lies_over, Excites, Judges, ChainsExciteFrames};
+ghost use Rattle.shape_extract.specs.Code.Filed.{IsFiled};
 
+use crate::filed_shapes::FiledShapes;
 use crate::layers::{is_frame, is_line};
 use crate::lines::contacts::is_part;
 use crate::lines::crossed_bars::at_left;
 use crate::lines::reached_parts::is_reached;
-use crate::pairs::{PairTest, list_partners};
+use crate::pairs::{PairTest, list_filed_partners};
 use crate::search::Report;
 use crate::tables::row_edges::{lower_edge, row_at};
 use aq_base::Memory;
-use geom::{Buckets, Shape, is_within, overlaps};
+use geom::{Shape, is_within, overlaps};
 use layout_rules::layers::{BAR, EVEN_LINE};
 use std::alloc::Global;
 
@@ -77,13 +78,13 @@ fn excites(shapes: &[Shape], before: &[u32], edges: &[i64], b: u32, frame: &Shap
 /// Whether one bar alone lies over the frame of this number, contains it and has the phase of its row.
 fn is_excited(
     shapes: &[Shape],
-    index: &Buckets,
+    filed: &FiledShapes,
     before: &[u32],
     edges: &[i64],
     f: u32,
     found: &mut Vec<u32>,
 ) -> Result<bool, Memory>
-    requires filed { index.now ≡ rects_of shapes.now }
+    requires filed { IsFiled shapes.now filed.now }
     requires few { length shapes.now < 2 ^ 32 }
     requires lines { AreLaidOut shapes.now }
     requires walked { AreWalked shapes.now before.now }
@@ -93,7 +94,7 @@ fn is_excited(
     ensures { IfOk result (λ yes. (frame : Shape) → slice_get shapes.now f ≡ Some frame
         → Says yes (IsChainExcited shapes.now frame)) }
 {
-    list_partners(&LiesOver, shapes, index, f, found)?;
+    list_filed_partners(&LiesOver, shapes, filed, f, found)?;
     if found.len() != 1 {
         return Ok(false);
     }
@@ -103,13 +104,13 @@ fn is_excited(
 /// Whether the shape of this number is a frame that is not excited.
 fn is_unexcited(
     shapes: &[Shape],
-    index: &Buckets,
+    filed: &FiledShapes,
     before: &[u32],
     edges: &[i64],
     f: u32,
     found: &mut Vec<u32>,
 ) -> Result<bool, Memory>
-    requires filed { index.now ≡ rects_of shapes.now }
+    requires filed { IsFiled shapes.now filed.now }
     requires few { length shapes.now < 2 ^ 32 }
     requires lines { AreLaidOut shapes.now }
     requires walked { AreWalked shapes.now before.now }
@@ -120,7 +121,7 @@ fn is_unexcited(
     if !is_frame(&shapes[f as usize]) {
         return Ok(false);
     }
-    let excited = is_excited(shapes, index, before, edges, f, found)?;
+    let excited = is_excited(shapes, filed, before, edges, f, found)?;
     Ok(!excited)
 }
 
@@ -129,11 +130,11 @@ fn is_unexcited(
 pub fn find_unexcited(
     alloc: Global,
     shapes: &[Shape],
-    index: &Buckets,
+    filed: &FiledShapes,
     before: &[u32],
     edges: &[i64],
 ) -> Result<Option<Report>, Memory>
-    requires filed { index.now ≡ rects_of shapes.now }
+    requires filed { IsFiled shapes.now filed.now }
     requires few { length shapes.now < 2 ^ 32 }
     requires lines { AreLaidOut shapes.now }
     requires walked { AreWalked shapes.now before.now }
@@ -143,7 +144,7 @@ pub fn find_unexcited(
 {
     let mut found = Vec::new(alloc);
     for f in 0..shapes.len() as u32 {
-        if is_unexcited(shapes, index, before, edges, f, &mut found)? {
+        if is_unexcited(shapes, filed, before, edges, f, &mut found)? {
             return Ok(Some(Report {
                 first: f,
                 second: f,

@@ -1,18 +1,19 @@
 // The contacts that each part of an excitation line is to have.
 ghost use Rattle.std.specs.Prelude.{◌≡◌, ◌^◌, ◌<◌, ℕ, IfOk, length, slice_index};
-ghost use Rattle.geom.specs.Near.{rects_of};
 ghost use Rattle.layout_rules.specs.Layers.{is_line};
 ghost use Rattle.layout_rules.specs.Reports.{Alone, Passes};
 ghost use Rattle.layout_rules.specs.ExcitationLines.{Contact};
 ghost use Rattle.layout_rules.specs.ExcitationRule.{HasItsContacts, IsMisjoined};
 ghost use Rattle.shape_extract.specs.Searches.{Says, Finds, AreThose};
 ghost use Rattle.shape_extract.specs.Code.LineParts.{AreBars, AreNoBars, IsOneBar, AreTwoBars, AreBarEnds};
+ghost use Rattle.shape_extract.specs.Code.Filed.{IsFiled};
 
+use crate::filed_shapes::FiledShapes;
 use crate::layers::is_line;
 use crate::lines::contacts::{is_part, list_contacts};
 use crate::search::{Part, Report, first_of};
 use aq_base::Memory;
-use geom::{Buckets, Shape};
+use geom::Shape;
 use layout_rules::layers::{BAR, LINK, START};
 use std::alloc::Global;
 
@@ -89,11 +90,11 @@ fn has_its_contacts(shapes: &[Shape], n: u32, contacts: &[u32]) -> bool
 /// Whether the shape is a part of a line that has other contacts than it is to have.
 fn is_misjoined(
     shapes: &[Shape],
-    index: &Buckets,
+    filed: &FiledShapes,
     n: u32,
     found: &mut Vec<u32>,
 ) -> Result<bool, Memory>
-    requires filed { index.now ≡ rects_of shapes.now }
+    requires filed { IsFiled shapes.now filed.now }
     requires few { length shapes.now < 2 ^ 32 }
     requires within { n < length shapes.now }
     ensures { IfOk result (λ yes. Says yes (IsMisjoined shapes.now n)) }
@@ -101,7 +102,7 @@ fn is_misjoined(
     if !is_line(&shapes[n as usize]) {
         return Ok(false);
     }
-    list_contacts(shapes, index, n, found)?;
+    list_contacts(shapes, filed, n, found)?;
     let joined = has_its_contacts(shapes, n, found.as_slice());
     Ok(!joined)
 }
@@ -110,13 +111,13 @@ fn is_misjoined(
 #[derive(Drop)]
 struct MisjoinedParts<'a> {
     shapes: &'a [Shape],
-    index: &'a Buckets,
+    filed: &'a FiledShapes,
 }
 
 impl<'a> Part for MisjoinedParts<'a> {
     ghost use Rattle.std.proofs.lemmas.Option.{slice_get_within};
 
-    ghost valid = { λ s. (length s.shapes.now < 2 ^ 32) × (s.index.now ≡ rects_of s.shapes.now) };
+    ghost valid = { λ s. (length s.shapes.now < 2 ^ 32) × IsFiled s.shapes.now s.filed.now };
 
     ghost count = { λ s. length s.shapes.now };
 
@@ -127,7 +128,7 @@ impl<'a> Part for MisjoinedParts<'a> {
     }
 
     fn second(&self, a: u32, found: &mut Vec<u32>) -> Result<Option<u32>, Memory> {
-        if is_misjoined(self.shapes, self.index, a, found)? {
+        if is_misjoined(self.shapes, self.filed, a, found)? {
             return Ok(Some(a));
         }
         Ok(None)
@@ -140,11 +141,11 @@ impl<'a> Part for MisjoinedParts<'a> {
 pub fn find_misjoined(
     alloc: Global,
     shapes: &[Shape],
-    index: &Buckets,
+    filed: &FiledShapes,
 ) -> Result<Option<Report>, Memory>
     requires few { length shapes.now < 2 ^ 32 }
-    requires filed { index.now ≡ rects_of shapes.now }
+    requires filed { IsFiled shapes.now filed.now }
     ensures { IfOk result (Finds (Alone (IsMisjoined shapes.now))) }
 {
-    first_of(alloc, &MisjoinedParts { shapes, index })
+    first_of(alloc, &MisjoinedParts { shapes, filed })
 }

@@ -1,14 +1,15 @@
 // The walk along the excitation lines from their starts.
 ghost use Rattle.std.specs.Prelude.{◌≡◌, ◌^◌, ◌<◌, ℕ, IfOk, length, slice_index};
-ghost use Rattle.geom.specs.Near.{rects_of};
 ghost use Rattle.layout_rules.specs.ExcitationLines.{Contact};
 ghost use Rattle.shape_extract.specs.Searches.{AreThose};
 ghost use Rattle.shape_extract.specs.Code.Lines.{AreWalked};
 ghost use Rattle.shape_extract.specs.Code.LineWalk.{IsLineWalk, IsSpreadAlong, IsBegun};
+ghost use Rattle.shape_extract.specs.Code.Filed.{IsFiled};
 
+use crate::filed_shapes::FiledShapes;
 use crate::lines::contacts::{is_part, list_contacts};
 use aq_base::Memory;
-use geom::{Buckets, Shape};
+use geom::Shape;
 use layout_rules::layers::START;
 use std::alloc::Global;
 
@@ -58,11 +59,11 @@ fn spread(
 fn follow(
     alloc: Global,
     shapes: &[Shape],
-    index: &Buckets,
+    filed: &FiledShapes,
     before: &mut [u32],
     order: &mut Vec<u32>,
 ) -> Result<(), Memory>
-    requires filed { index.now ≡ rects_of shapes.now }
+    requires filed { IsFiled shapes.now filed.now }
     requires few { length shapes.now < 2 ^ 32 }
     requires begun { IsBegun shapes.now before.old order.old.items }
     ensures { IfOk result (λ _. AreWalked shapes.now before.new) }
@@ -71,7 +72,7 @@ fn follow(
     let mut done = 0;
     while done < order.len() {
         let from = order[done];
-        list_contacts(shapes, index, from, &mut found)?;
+        list_contacts(shapes, filed, from, &mut found)?;
         spread(shapes, found.as_slice(), before, order, from)?;
         done += 1;
     }
@@ -80,15 +81,15 @@ fn follow(
 
 /// Walks along the lines: for each shape that is reached from a start the one before it, a start being its own, and
 /// the number of shapes for each other one.
-pub fn walk_lines(alloc: Global, shapes: &[Shape], index: &Buckets) -> Result<Vec<u32>, Memory>
+pub fn walk_lines(alloc: Global, shapes: &[Shape], filed: &FiledShapes) -> Result<Vec<u32>, Memory>
     requires few { length shapes.now < 2 ^ 32 }
-    requires filed { index.now ≡ rects_of shapes.now }
+    requires filed { IsFiled shapes.now filed.now }
     ensures { IfOk result (λ before. AreWalked shapes.now before.items) }
 {
     let none = shapes.len() as u32;
     let mut before = vec![in alloc; none; shapes.len()]?;
     let mut order = Vec::new(alloc);
     begin(shapes, &mut before, &mut order)?;
-    follow(alloc, shapes, index, &mut before, &mut order)?;
+    follow(alloc, shapes, filed, &mut before, &mut order)?;
     Ok(before)
 }

@@ -1,25 +1,31 @@
 // The rule of cells: each frame is that of a cell of some kind, and each pin lies in one frame.
 ghost use Rattle.std.specs.Prelude.{◌≡◌, ◌⊎◌, ◌^◌, ◌<◌, ℕ, length, IfOk, slice_get, Some};
-ghost use Rattle.geom.specs.Near.{rects_of};
 ghost use Rattle.geom.specs.declared.shapes.Shape.{Shape};
 ghost use Rattle.layout_rules.specs.Layers.{is_frame};
 ghost use Rattle.layout_rules.specs.Reports.{Alone, Passes};
 ghost use Rattle.layout_rules.specs.CircuitRules.{IsCell, LiesInOneFrame, IsNoCell, IsStrayPin, CellsBroken};
 ghost use Rattle.shape_extract.specs.Searches.{Says, Finds};
+ghost use Rattle.shape_extract.specs.Code.Filed.{IsFiled};
 
+use crate::filed_shapes::FiledShapes;
 use crate::layers::{is_frame, is_pin};
-use crate::pairs::list_partners;
+use crate::pairs::list_filed_partners;
 use crate::rules::cell_pins::{are_numbered, kind_numbered};
 use crate::search::{Part, Report, first_of};
 use crate::tables::pins_in_frames::{HoldsPin, PinInFrame};
 use aq_base::Memory;
-use geom::{Buckets, Shape};
+use geom::Shape;
 use layout_rules::layers::{INPUT_PIN, OUTPUT_PIN};
 use std::alloc::Global;
 
 /// Whether the frame of this number is that of a cell.
-fn is_cell(shapes: &[Shape], index: &Buckets, f: u32, found: &mut Vec<u32>) -> Result<bool, Memory>
-    requires filed { index.now ≡ rects_of shapes.now }
+fn is_cell(
+    shapes: &[Shape],
+    filed: &FiledShapes,
+    f: u32,
+    found: &mut Vec<u32>,
+) -> Result<bool, Memory>
+    requires filed { IsFiled shapes.now filed.now }
     requires few { length shapes.now < 2 ^ 32 }
     requires within { f < length shapes.now }
     ensures { IfOk result (λ yes. (frame : Shape) → slice_get shapes.now f ≡ Some frame
@@ -28,7 +34,7 @@ fn is_cell(shapes: &[Shape], index: &Buckets, f: u32, found: &mut Vec<u32>) -> R
     let Some(kind) = kind_numbered(shapes[f as usize].datatype) else {
         return Ok(false);
     };
-    list_partners(&HoldsPin, shapes, index, f, found)?;
+    list_filed_partners(&HoldsPin, shapes, filed, f, found)?;
     let pins = found.as_slice();
     Ok(
         are_numbered(shapes, pins, INPUT_PIN, kind.inputs())
@@ -39,38 +45,38 @@ fn is_cell(shapes: &[Shape], index: &Buckets, f: u32, found: &mut Vec<u32>) -> R
 /// Whether the pin of this number lies in one frame and in no second one.
 fn lies_in_one_frame(
     shapes: &[Shape],
-    index: &Buckets,
+    filed: &FiledShapes,
     p: u32,
     found: &mut Vec<u32>,
 ) -> Result<bool, Memory>
-    requires filed { index.now ≡ rects_of shapes.now }
+    requires filed { IsFiled shapes.now filed.now }
     requires few { length shapes.now < 2 ^ 32 }
     requires within { p < length shapes.now }
     ensures { IfOk result (λ yes. Says yes (LiesInOneFrame shapes.now p)) }
 {
-    list_partners(&PinInFrame, shapes, index, p, found)?;
+    list_filed_partners(&PinInFrame, shapes, filed, p, found)?;
     Ok(found.len() == 1)
 }
 
 /// Whether the shape of this number is a frame that is no cell's, or a pin that doesn't lie in one frame.
 fn is_at_fault(
     shapes: &[Shape],
-    index: &Buckets,
+    filed: &FiledShapes,
     n: u32,
     found: &mut Vec<u32>,
 ) -> Result<bool, Memory>
-    requires filed { index.now ≡ rects_of shapes.now }
+    requires filed { IsFiled shapes.now filed.now }
     requires few { length shapes.now < 2 ^ 32 }
     requires within { n < length shapes.now }
     ensures { IfOk result (λ yes. Says yes (IsNoCell shapes.now n ⊎ IsStrayPin shapes.now n)) }
 {
     let shape = &shapes[n as usize];
     if is_frame(shape) {
-        let cell = is_cell(shapes, index, n, found)?;
+        let cell = is_cell(shapes, filed, n, found)?;
         return Ok(!cell);
     }
     if is_pin(shape) {
-        let one = lies_in_one_frame(shapes, index, n, found)?;
+        let one = lies_in_one_frame(shapes, filed, n, found)?;
         return Ok(!one);
     }
     Ok(false)
@@ -80,13 +86,13 @@ fn is_at_fault(
 #[derive(Drop)]
 struct Cells<'a> {
     shapes: &'a [Shape],
-    index: &'a Buckets,
+    filed: &'a FiledShapes,
 }
 
 impl<'a> Part for Cells<'a> {
     ghost use Rattle.shape_extract.specs.Code.Reported.{fault_within};
 
-    ghost valid = { λ s. (length s.shapes.now < 2 ^ 32) × (s.index.now ≡ rects_of s.shapes.now) };
+    ghost valid = { λ s. (length s.shapes.now < 2 ^ 32) × IsFiled s.shapes.now s.filed.now };
 
     ghost count = { λ s. length s.shapes.now };
 
@@ -97,7 +103,7 @@ impl<'a> Part for Cells<'a> {
     }
 
     fn second(&self, a: u32, found: &mut Vec<u32>) -> Result<Option<u32>, Memory> {
-        if is_at_fault(self.shapes, self.index, a, found)? {
+        if is_at_fault(self.shapes, self.filed, a, found)? {
             return Ok(Some(a));
         }
         Ok(None)
@@ -122,10 +128,10 @@ fn has_frame(shapes: &[Shape]) -> bool
 pub fn find_cells(
     alloc: Global,
     shapes: &[Shape],
-    index: &Buckets,
+    filed: &FiledShapes,
 ) -> Result<Option<Report>, Memory>
     requires few { length shapes.now < 2 ^ 32 }
-    requires filed { index.now ≡ rects_of shapes.now }
+    requires filed { IsFiled shapes.now filed.now }
     ensures { IfOk result (Finds (CellsBroken shapes.now)) }
 {
     if !has_frame(shapes) {
@@ -134,5 +140,5 @@ pub fn find_cells(
             second: 0,
         }));
     }
-    first_of(alloc, &Cells { shapes, index })
+    first_of(alloc, &Cells { shapes, filed })
 }

@@ -1,6 +1,5 @@
 // The rules of circuits in turn.
 ghost use Rattle.std.specs.Prelude.{◌≡◌, ◌^◌, ◌<◌, IfOk};
-ghost use Rattle.geom.specs.Near.{rects_of};
 ghost use Rattle.geom.specs.FlatForm.{flat_count};
 ghost use Rattle.layout_rules.specs.CircuitRules.{CellsBroken};
 ghost use Rattle.layout_rules.specs.Nets.{AreNets};
@@ -9,7 +8,9 @@ ghost use Rattle.layout_rules.specs.Rows.{AreRows};
 ghost use Rattle.shape_extract.specs.Code.Marking.{AreMarks};
 ghost use Rattle.shape_extract.specs.Code.FirstRule.{FindsRule};
 ghost use Rattle.shape_extract.specs.Code.RowFaults.{ArePinRows};
+ghost use Rattle.shape_extract.specs.Code.Filed.{IsFiled};
 
+use crate::filed_shapes::FiledShapes;
 use crate::lines::excitation_rule::find_excitation;
 use crate::rules::label_rule::find_labels;
 use crate::rules::net_rule::find_nets;
@@ -17,7 +18,7 @@ use crate::rules::row_rule::find_rows;
 use crate::search::Report;
 use crate::tables::mark_table::Mark;
 use aq_base::Memory;
-use geom::{Buckets, Flat};
+use geom::Flat;
 use layout_rules::Rule;
 use std::alloc::Global;
 
@@ -45,21 +46,21 @@ pub fn first_broken(
     alloc: Global,
     flat: &Flat,
     marking: &[Mark],
-    index: &Buckets,
+    filed: &FiledShapes,
     nets: &[u32],
     edges: &[i64],
     rows: &[usize],
 ) -> Result<Option<BrokenRule>, Memory>
     requires few { flat_count flat.now < 2 ^ 32 }
     requires marking { AreMarks flat.now.shapes flat.now.labels marking.now }
-    requires filed { index.now ≡ rects_of flat.now.shapes }
+    requires filed { IsFiled flat.now.shapes filed.now }
     requires nets { AreNets flat.now.shapes nets.now }
     requires edges { AreRows flat.now.shapes edges.now }
     requires rows { ArePinRows flat.now.shapes rows.now }
     requires kept { ReportsNone (CellsBroken flat.now.shapes) }
     ensures { IfOk result (FindsRule flat.now) }
 {
-    if let Some(report) = find_excitation(alloc, flat.shapes.as_slice(), index)? {
+    if let Some(report) = find_excitation(alloc, flat.shapes.as_slice(), filed)? {
         return Ok(Some(broken(Rule::E2, report)));
     }
     if let Some(report) = find_nets(alloc, flat, marking, nets)? {
@@ -68,7 +69,7 @@ pub fn first_broken(
     if let Some(report) = find_rows(alloc, flat, marking, nets, rows)? {
         return Ok(Some(broken(Rule::E4, report)));
     }
-    if let Some(report) = find_labels(alloc, flat, marking, index, edges, rows)? {
+    if let Some(report) = find_labels(alloc, flat, marking, filed, edges, rows)? {
         return Ok(Some(broken(Rule::E6, report)));
     }
     Ok(None)

@@ -1,7 +1,6 @@
 // The rule of labels: each label marks one port, each port has one label, and the labels of a letter are numbered.
 ghost use Rattle.std.specs.Prelude.{◌≡◌, ◌≢◌, ◌+◌, ◌^◌, ◌<◌, ℕ, IfOk, length, count_by, slice_get, Some};
 ghost use Rattle.geom.specs.declared.shapes.Shape.{Shape};
-ghost use Rattle.geom.specs.Near.{rects_of};
 ghost use Rattle.layout_rules.specs.Labels.{marks};
 ghost use Rattle.layout_rules.specs.Reports.{Alone, ReportsNone};
 ghost use Rattle.layout_rules.specs.Rows.{AreRows};
@@ -16,7 +15,9 @@ ghost use Rattle.shape_extract.specs.Searches.{Says, Finds};
 ghost use Rattle.shape_extract.specs.Code.Marking.{AreMarks};
 ghost use Rattle.shape_extract.specs.Code.RowFaults.{ArePinRows};
 ghost use Rattle.shape_extract.specs.Code.Ports.{ports_of};
+ghost use Rattle.shape_extract.specs.Code.Filed.{IsFiled};
 
+use crate::filed_shapes::FiledShapes;
 use crate::rules::label_numbers::find_misnumbered;
 use crate::search::{Part, Report, first_of};
 use crate::tables::label_texts::is_numbered;
@@ -24,27 +25,27 @@ use crate::tables::mark_table::Mark;
 use crate::tables::marking::list_marked;
 use crate::tables::ports::{Port, ports};
 use aq_base::Memory;
-use geom::{Buckets, Flat, Label, Shape};
+use geom::{Flat, Label, Shape};
 use layout_rules::layers::LABELS;
 use std::alloc::Global;
 
 /// Whether the label has a letter and a number, and marks one pin, which is a port.
 fn is_port_label(
     shapes: &[Shape],
-    index: &Buckets,
+    filed: &FiledShapes,
     ports: &[Port],
     label: &Label,
     found: &mut Vec<u32>,
 ) -> Result<bool, Memory>
     requires few { length shapes.now < 2 ^ 32 }
-    requires filed { index.now ≡ rects_of shapes.now }
+    requires filed { IsFiled shapes.now filed.now }
     requires ports { ports.now ≡ ports_of shapes.now }
     ensures { IfOk result (λ yes. yes ≡ is_port_label shapes.now label.now) }
 {
     if !is_numbered(label) {
         return Ok(false);
     }
-    list_marked(shapes, index, label, found)?;
+    list_marked(shapes, filed, label, found)?;
     match found.as_slice() {
         [pin] => Ok(ports[*pin as usize].crosses()),
         _ => Ok(false),
@@ -55,7 +56,7 @@ fn is_port_label(
 #[derive(Drop)]
 struct PortLabels<'a> {
     flat: &'a Flat,
-    index: &'a Buckets,
+    filed: &'a FiledShapes,
     ports: &'a [Port],
 }
 
@@ -64,7 +65,7 @@ impl<'a> Part for PortLabels<'a> {
     ghost use Rattle.shape_extract.specs.Code.Reported.{no_port_label_within};
 
     ghost valid = { λ s. (length s.flat.now.shapes + length s.flat.now.labels < 2 ^ 32)
-        × (s.ports.now ≡ ports_of s.flat.now.shapes) × (s.index.now ≡ rects_of s.flat.now.shapes) };
+        × (s.ports.now ≡ ports_of s.flat.now.shapes) × IsFiled s.flat.now.shapes s.filed.now };
 
     ghost count = { λ s. length s.flat.now.shapes + length s.flat.now.labels };
 
@@ -80,7 +81,7 @@ impl<'a> Part for PortLabels<'a> {
             return Ok(None);
         }
         let label = &self.flat.labels.as_slice()[a as usize - shapes.len()];
-        if label.layer != LABELS || is_port_label(shapes, self.index, self.ports, label, found)? {
+        if label.layer != LABELS || is_port_label(shapes, self.filed, self.ports, label, found)? {
             return Ok(None);
         }
         Ok(Some(a))
@@ -131,13 +132,13 @@ pub fn find_labels(
     alloc: Global,
     flat: &Flat,
     marking: &[Mark],
-    index: &Buckets,
+    filed: &FiledShapes,
     edges: &[i64],
     rows: &[usize],
 ) -> Result<Option<Report>, Memory>
     requires few { length flat.now.shapes + length flat.now.labels < 2 ^ 32 }
     requires marking { AreMarks flat.now.shapes flat.now.labels marking.now }
-    requires filed { index.now ≡ rects_of flat.now.shapes }
+    requires filed { IsFiled flat.now.shapes filed.now }
     requires edges { AreRows flat.now.shapes edges.now }
     requires rows { ArePinRows flat.now.shapes rows.now }
     requires kept { ReportsNone (CellsBroken flat.now.shapes) }
@@ -146,7 +147,7 @@ pub fn find_labels(
     let last = edges.len().saturating_sub(1);
     let ports = ports(alloc, flat.shapes.as_slice(), rows, last)?;
     let ports = ports.as_slice();
-    if let Some(label) = first_of(alloc, &PortLabels { flat, index, ports })? {
+    if let Some(label) = first_of(alloc, &PortLabels { flat, filed, ports })? {
         return Ok(Some(label));
     }
     if let Some(port) = first_of(

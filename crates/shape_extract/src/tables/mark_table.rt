@@ -1,12 +1,13 @@
 // The table of labels: which shapes labels mark, found label by label.
 ghost use Rattle.std.specs.Prelude.{◌≡◌, ℕ, ◌^◌, ◌<◌, length, slice_index, IfOk};
 ghost use Rattle.geom.specs.FlatForm.{flat_count};
-ghost use Rattle.geom.specs.Near.{rects_of};
 ghost use Rattle.shape_extract.specs.Code.Marking.{with_label, has_label, has_one, label_in, AreMarks, IsNoted};
+ghost use Rattle.shape_extract.specs.Code.Filed.{IsFiled};
 
+use crate::filed_shapes::FiledShapes;
 use crate::tables::marking::list_marked;
 use aq_base::Memory;
-use geom::{Buckets, Flat};
+use geom::Flat;
 use std::alloc::Global;
 
 /// Which labels mark a shape.
@@ -79,16 +80,16 @@ fn note(marking: &mut [Mark], numbers: &[u32], label: u32)
 }
 
 /// For each shape which labels mark it, by a query of the index for each label. It is refused for want of memory alone.
-pub fn mark_table(alloc: Global, flat: &Flat, index: &Buckets) -> Result<Vec<Mark>, Memory>
+pub fn mark_table(alloc: Global, flat: &Flat, filed: &FiledShapes) -> Result<Vec<Mark>, Memory>
     requires few { flat_count flat.now < 2 ^ 32 }
-    requires filed { index.now ≡ rects_of flat.now.shapes }
+    requires filed { IsFiled flat.now.shapes filed.now }
     ensures { IfOk result (λ marking. AreMarks flat.now.shapes flat.now.labels marking.items) }
 {
     let shapes = flat.shapes.as_slice();
     let mut found = Vec::new(alloc);
     let mut marking = vec![in alloc; Mark::Unmarked; shapes.len()]?;
     for (place, label) in flat.labels.as_slice().iter().enumerate() {
-        list_marked(shapes, index, label, &mut found)?;
+        list_marked(shapes, filed, label, &mut found)?;
         note(&mut marking, found.as_slice(), place as u32);
     }
     Ok(marking)

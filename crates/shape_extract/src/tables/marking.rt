@@ -1,15 +1,16 @@
 // Which labels mark which pins.
 ghost use Rattle.std.specs.Prelude.{◌≡◌, ◌^◌, ◌<◌, int_le, int_lt, true, All, IfOk, length};
 ghost use Rattle.std.specs.List.{filter};
-ghost use Rattle.geom.specs.Near.{rects_of};
 ghost use Rattle.geom.specs.Rectangle.{holds_point};
 ghost use Rattle.layout_rules.specs.Labels.{marks};
 ghost use Rattle.shape_extract.specs.Searches.{AreThose, passes_at};
 ghost use Rattle.shape_extract.specs.Code.Passing.{PassesIn};
+ghost use Rattle.shape_extract.specs.Code.Filed.{IsFiled};
 
+use crate::filed_shapes::{FiledShapes, list_of_kinds};
 use crate::tables::labels::marks;
 use aq_base::Memory;
-use geom::{Buckets, Label, Rect, Shape};
+use geom::{Label, Rect, Shape};
 
 /// A length of the axis that holds a number.
 struct Span {
@@ -53,19 +54,21 @@ fn keep_marked(label: &Label, shapes: &[Shape], numbers: &mut Vec<u32>)
     numbers.truncate(kept);
 }
 
-/// Lists the numbers of the pins that the label marks, by a query of the index for the shapes that hold its point.
+/// Lists the numbers of the pins that the label marks, by a query of the index for the kinds of shapes that hold its
+/// point.
 pub fn list_marked(
     shapes: &[Shape],
-    index: &Buckets,
+    filed: &FiledShapes,
     label: &Label,
     found: &mut Vec<u32>,
 ) -> Result<(), Memory>
     requires few { length shapes.now < 2 ^ 32 }
-    requires filed { index.now ≡ rects_of shapes.now }
+    requires filed { IsFiled shapes.now filed.now }
     ensures { IfOk result (λ _. AreThose (PassesIn (marks label.now) shapes.now) found.new.items) }
 {
     let here = rect_at(label.x, label.y);
-    index.list_near(&here, 0, found)?;
-    keep_marked(label, shapes, found);
+    filed.index.list_near(&here, 0, found)?;
+    keep_marked(label, filed.kinds.shapes.as_slice(), found);
+    list_of_kinds(filed, found)?;
     Ok(())
 }

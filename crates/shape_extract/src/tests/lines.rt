@@ -1,10 +1,11 @@
 // The rule of excitation lines on the first chip and on changed ones, with the numbers that it reports.
 ghost use Rattle.std.specs.Prelude.{◌<◌};
 
+use crate::filed_shapes::file_kinds;
 use crate::lines::excitation_rule::find_excitation;
 use crate::search::Report;
-use aq_base::{List, Memory};
-use geom::{Rect, Shape, file_shapes};
+use aq_base::Memory;
+use geom::{Rect, Shape};
 use layout_rules::layers::{
     BAR, EVEN_LINE, FRAME, INPUT_PIN, LINK, M1, M2, ODD_LINE, OUTPUT_PIN, START, VIA,
 };
@@ -59,9 +60,8 @@ fn reported(alloc: Global, changes: &[(usize, Shape)]) -> Result<Option<Report>,
             shapes[*n] = *shape;
         }
     }
-    let shapes = List::from_vec(Vec::from_slice(alloc, &shapes)?);
-    let index = file_shapes(alloc, &shapes)?;
-    find_excitation(alloc, shapes.as_slice(), &index)
+    let filed = file_kinds(alloc, &shapes)?;
+    find_excitation(alloc, &shapes, &filed)
 }
 
 /// The report of one shape.

@@ -2,4 +2,4 @@ use Rattle.shape_extract.proofs.LineContacts.{contacts_from}
 use Rattle.shape_extract.proofs.lines.contacts.list_contacts.Goals as goal
 
 pub returns : goal.returns
-returns c = rw c.remove_number.ensures (contacts_from _ _ _ c.in_ok-list_partners.ensures)
+returns c = rw c.remove_number.ensures (contacts_from _ _ _ c.in_ok-list_filed_partners.ensures)

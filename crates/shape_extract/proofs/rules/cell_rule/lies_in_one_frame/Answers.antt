@@ -3,4 +3,4 @@ use Rattle.shape_extract.proofs.Marked.{one_frame_said}
 use Rattle.shape_extract.proofs.rules.cell_rule.lies_in_one_frame.Goals as goal
 
 pub returns : goal.returns
-returns c = one_frame_said _ _ _ _ c.in_ok-list_partners.ensures (omega arith)
+returns c = one_frame_said _ _ _ _ c.in_ok-list_filed_partners.ensures (omega arith)

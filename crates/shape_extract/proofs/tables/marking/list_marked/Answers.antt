@@ -2,17 +2,52 @@ use Rattle.std.proofs.Common.{◌≡◌, List, subst, rules, w64, to_z, of_z}
 use Rattle.std.proofs.lemmas.Int.{to_z-of_z}
 use Rattle.geom.specs.Rectangle.{Rectangle}
 use Rattle.geom.specs.Near.{rects_of, AreNear}
-use Rattle.shape_extract.proofs.Partners.{marked_are, near_within}
+use Rattle.layout_rules.specs.Labels.{marks}
+use Rattle.shape_extract.specs.Searches.{AreThose}
+use Rattle.shape_extract.specs.Code.Passing.{PassesIn}
+use Rattle.shape_extract.proofs.Partners.{marked_are}
+use Rattle.shape_extract.proofs.Members.{passing_within, passing_all}
 use Rattle.shape_extract.proofs.tables.marking.list_marked.Goals as goal
 
-pub keep_marked-requires : goal.keep_marked-requires
-keep_marked-requires c =
-    let are : AreNear (rects_of c.args.shapes.now) c.rect_at-here.result 0 c.list_near.new.found.items = subst (λ (rects : List Rectangle). AreNear rects c.rect_at-here.result 0 c.list_near.new.found.items) c.requires.filed c.in_ok-list_near.ensures in
-    near_within _ _ _ _ are
+pub list_of_kinds-requires-clause-kinds : goal.list_of_kinds-requires-clause-kinds
+list_of_kinds-requires-clause-kinds c =
+    let x : to_z w64 (of_z w64 c.args.label.now.x) ≡ c.args.label.now.x = search (rules, to_z-of_z) in
+    let y : to_z w64 (of_z w64 c.args.label.now.y) ≡ c.args.label.now.y = search (rules, to_z-of_z) in
+    let near : AreNear (rects_of c.args.filed.now.kinds.shapes) c.rect_at-here.result 0 c.list_near.new.found.items =
+    subst (λ (rects : List Rectangle). AreNear rects c.rect_at-here.result 0 c.list_near.new.found.items)
+    c.requires.filed.index c.in_ok-list_near.ensures in
+    let kept : AreThose (PassesIn (marks c.args.label.now) c.args.filed.now.kinds.shapes)
+    c.keep_marked.new.numbers.items = marked_are c.args.filed.now.kinds.shapes c.args.label.now
+    c.rect_at-here.result c.list_near.new.found.items _ (rw (x, y) at c.rect_at-here.ensures) near
+    (rw c.as_slice.ensures at c.keep_marked.ensures) in
+    passing_within (marks c.args.label.now) c.args.filed.now.kinds.shapes c.keep_marked.new.numbers.items _
+    c.requires.filed.distinct.those.long kept
+
+pub list_of_kinds-requires-clause-rising : goal.list_of_kinds-requires-clause-rising
+list_of_kinds-requires-clause-rising c =
+    let x : to_z w64 (of_z w64 c.args.label.now.x) ≡ c.args.label.now.x = search (rules, to_z-of_z) in
+    let y : to_z w64 (of_z w64 c.args.label.now.y) ≡ c.args.label.now.y = search (rules, to_z-of_z) in
+    let near : AreNear (rects_of c.args.filed.now.kinds.shapes) c.rect_at-here.result 0 c.list_near.new.found.items =
+    subst (λ (rects : List Rectangle). AreNear rects c.rect_at-here.result 0 c.list_near.new.found.items)
+    c.requires.filed.index c.in_ok-list_near.ensures in
+    let kept : AreThose (PassesIn (marks c.args.label.now) c.args.filed.now.kinds.shapes)
+    c.keep_marked.new.numbers.items = marked_are c.args.filed.now.kinds.shapes c.args.label.now
+    c.rect_at-here.result c.list_near.new.found.items _ (rw (x, y) at c.rect_at-here.ensures) near
+    (rw c.as_slice.ensures at c.keep_marked.ensures) in
+    kept.rising
 
 pub returns : goal.returns
 returns c =
-    let are : AreNear (rects_of c.args.shapes.now) c.rect_at-here.result 0 c.list_near.new.found.items = subst (λ (rects : List Rectangle). AreNear rects c.rect_at-here.result 0 c.list_near.new.found.items) c.requires.filed c.in_ok-list_near.ensures in
     let x : to_z w64 (of_z w64 c.args.label.now.x) ≡ c.args.label.now.x = search (rules, to_z-of_z) in
     let y : to_z w64 (of_z w64 c.args.label.now.y) ≡ c.args.label.now.y = search (rules, to_z-of_z) in
-    marked_are c.args.shapes.now c.args.label.now c.rect_at-here.result c.list_near.new.found.items _ (rw (x, y) at c.rect_at-here.ensures) are c.keep_marked.ensures
+    let near : AreNear (rects_of c.args.filed.now.kinds.shapes) c.rect_at-here.result 0 c.list_near.new.found.items =
+    subst (λ (rects : List Rectangle). AreNear rects c.rect_at-here.result 0 c.list_near.new.found.items)
+    c.requires.filed.index c.in_ok-list_near.ensures in
+    let kept : AreThose (PassesIn (marks c.args.label.now) c.args.filed.now.kinds.shapes)
+    c.keep_marked.new.numbers.items = marked_are c.args.filed.now.kinds.shapes c.args.label.now
+    c.rect_at-here.result c.list_near.new.found.items _ (rw (x, y) at c.rect_at-here.ensures) near
+    (rw c.as_slice.ensures at c.keep_marked.ensures) in
+    passing_all (marks c.args.label.now) c.args.shapes.now c.args.filed.now.kinds.numbers.items
+    c.args.filed.now.kinds.places.items c.args.filed.now.kinds.shapes c.requires.filed.distinct.those
+    c.requires.filed.places c.keep_marked.new.numbers.items c.list_of_kinds.new.found.items kept
+    c.in_ok-list_of_kinds.ensures
