@@ -1,6 +1,6 @@
 -- What reading a wide stream promises of its layout: that it has a flat form.
 use Rattle.std.proofs.Common.{◌≡◌, ℕ, zero, suc, ◌+◌, ◌≤◌, List, [], ◌∷◌, ◌++◌, map, take, drop, length, Bool, true, false, eqb, ◌||◌, Option, Some, None, refl, sym, ap, subst, ◌∙◌, arith, inl, inr}
-use Rattle.std.specs.Prelude.{Result, Ok, Err, IfOk, IfErr}
+use Rattle.std.specs.Prelude.{Result, Ok, Err, IfOk}
 use Rattle.std.specs.List.{flat_map, AllByRecursion}
 use Rattle.std.proofs.lemmas.List.{length-map, map-append}
 use Rattle.std.proofs.lemmas.List.Concat.{flat_map-cons}
@@ -29,9 +29,8 @@ use Rattle.gds_read.specs.declared.outline.NamedOutline.{NamedOutline}
 use Rattle.gds_read.specs.Code.Outlining.{use_of, outline_of, names_in}
 use Rattle.gds_read.specs.Code.Graphs.{graph_by, graph_of, targets_at, some_target, descends, is_long}
 use Rattle.gds_read.specs.declared.refusal.StreamRefusal.{StreamRefusal}
-use Rattle.gds_read.specs.declared.refusal.StreamRefusal.TheVariants.{Bad, TooManyShapes, Memory}
-use Rattle.gds_read.specs.WideReading.{IsWideReadAs, IsWideRefusedFor}
-use Rattle.gds_read.specs.Code.Bodies.{IsBody, IsFirstRefusal, IsWholeRefusal, IsWideOversize}
+use Rattle.gds_read.specs.WideReading.{IsWideReadAs}
+use Rattle.gds_read.specs.Code.Bodies.{IsBody}
 use Rattle.gds_read.specs.Code.Decoding.{records_in}
 use Rattle.gds_read.specs.Code.Chains.{IsShort, AreShort}
 use Rattle.gds_read.proofs.Kept.{starts_kept}
@@ -40,7 +39,7 @@ use Rattle.gds_read.proofs.Shaped.{has_is, snames, snames_none, SpokenIn, IsShap
 use Rattle.gds_read.proofs.Valued.{next, IsValued, all_valued}
 use Rattle.gds_read.proofs.WidePlaced.{all_split, KnownIn, structures_are}
 use Rattle.gds_read.proofs.Placed.{HasBytes, all_bytes, bytes_front, starts_bytes}
-use Rattle.gds_read.proofs.Ends.{names_same, top_low, faulty_whole}
+use Rattle.gds_read.proofs.Ends.{names_same, top_low}
 use Rattle.gds_read.proofs.Numbering.{defined_listed}
 
 -- ---- references of structures, and the names in their elements
@@ -257,39 +256,6 @@ wide_read bytes end records layout (Ok taken) fits b front says none short same 
       flattenable = subst (λ (w : WideLayout). IsFlattenable w) (sym said) flat;
     } in
     subst (λ (w : WideLayout). IsWideReadAs bytes w) (sym same) is
-
-pub refused_wide : (bytes : List ℕ) (refusal : StreamRefusal) → IsFirstRefusal wide bytes refusal → IsWideRefusedFor bytes refusal
-refused_wide bytes (Bad offset kind) f = f
-refused_wide bytes (TooManyShapes count) f = absurd f
-refused_wide bytes Memory f = tt
-
-pub whole_refused : (bytes : List ℕ) (end : ℕ) (records : List ℕ) (refusal : StreamRefusal) → IsBody wide bytes end → records ≡ take end bytes → IsWholeRefusal wide (records_in records) refusal → IsWideRefusedFor bytes refusal
-whole_refused bytes end records (Bad offset kind) b front f =
-    faulty_whole wide bytes end offset kind b (subst (λ (x : List ℕ). wide_whole_fault (records_in x) ≡ Some (offset, kind)) front f)
-whole_refused bytes end records (TooManyShapes count) b front f = absurd f
-whole_refused bytes end records Memory b front f = tt
-
-pub size_refused : (bytes : List ℕ) (end : ℕ) (records : List ℕ) (layout : WideLayout) (r : Result WideLayout StreamRefusal) → IsBody wide bytes end → records ≡ take end bytes
-    → layout ≡ wide_layout_of (records_in records) → wide_whole_fault (records_in records) ≡ None → IfErr r (λ refusal. IsWideOversize layout refusal) → IfErr r (λ refusal. IsWideRefusedFor bytes refusal)
-size_refused bytes end records layout (Ok taken) b front says none f = tt
-size_refused bytes end records layout (Err (Bad offset kind)) b front says none f = absurd f
-size_refused bytes end records layout (Err (TooManyShapes count)) b front says none f =
-    let rs : List Record = records_in (take end bytes) in
-    let e : records_in records ≡ rs = ap (λ (x : List ℕ). records_in x) front in
-    record {
-      layout = layout;
-      stream = record {
-        records = rs;
-        rest = drop end bytes;
-        read = b.read;
-        zeros = b.zeros;
-        conditions = subst (λ (x : List Record). wide_whole_fault x ≡ None) e none;
-        says = says ∙ ap (λ (x : List Record). wide_layout_of x) e;
-      };
-      count_is = f.0;
-      above = f.1;
-    }
-size_refused bytes end records layout (Err Memory) b front says none f = tt
 
 -- the layout of records, from its parts
 pub wide_layout_made : (rs : List Record) (found seen : List NamedOutline) (structures : List WideStructure) (top made : ℕ) → map outline_of found ≡ outlines 0 rs → seen ≡ found

@@ -133,6 +133,7 @@ fn is_nanometre(units: &[u8]) -> bool
     units[8] == 0x39 && number >= 0x44_B82F_A000_0000 && number < 0x44_B82F_A100_0000
 }
 
+/// The number without sign in two bytes.
 pub fn flag_bits(flags: &[u8]) -> u16
     requires { length flags.now ≡ 2 }
     ensures { result ≡ value_of 0 flags.now }
