@@ -6,8 +6,10 @@
 # lines of three bytes; a chain of definitions, each of the one that comes next; and a cycle through all of one.
 # Streams are checked, beside the adder of 164 bits: the chip of a wire with a structure of 3,999 squares that is
 # referenced 2,000 times far away from it, the same with all squares on one another, and labels that all stand on one
-# pin; and a text of 32,000 bytes that is referenced 20,000 times, beside one of two bytes. Libraries of 90,000 keys
-# stand beside those of 45,000, and chosen names beside counted ones (bench/names.sh).
+# pin; a boundary of 2,001 teeth of different heights that is referenced 3,900 times; a text of 32,000 bytes that is
+# referenced 20,000 times, beside one of two bytes; 20,000 references to an empty structure in one that is referenced
+# 100,000 times, beside it without them; and a loop of 300,000 structures, beside as many with a square each. Libraries
+# of 90,000 keys stand beside those of 45,000, and chosen names beside counted ones (bench/names.sh).
 #
 # Prints for each the seconds of processor time and the megabytes of memory at most, the same of the ordinary input, the
 # two ratios, and whether they are within three times, five for labels on one pin, 2.5 for twice the keys. The status
@@ -73,6 +75,15 @@ def structure(name, body):
 def square(x, y):
     head = record(0x0800) + record(0x0D02, words(10)) + record(0x0E02, words(0))
     return head + record(0x1003, points(x, y, x + 1000, y, x + 1000, y + 1000, x, y + 1000, x, y)) + record(0x1100)
+def ring(corners):
+    head = record(0x0800) + record(0x0D02, words(50)) + record(0x0E02, words(0))
+    return head + record(0x1003, points(*(z for corner in corners for z in corner))) + record(0x1100)
+def comb(teeth):
+    """A comb whose teeth are of different heights: one boundary, cut at as many heights."""
+    corners = [(0, 0), (400 * teeth, 0)]
+    for k in reversed(range(teeth)):
+        corners += [(400 * k + 200, 1000), (400 * k + 200, 2000 + k), (400 * k, 2000 + k), (400 * k, 1000)]
+    return [corners[0], (400 * teeth - 200, 0), *corners[2:], corners[0]]
 def label(layer, text, x, y):
     head = record(0x0C00) + record(0x0D02, words(layer)) + record(0x1602, words(0))
     return head + record(0x1003, points(x, y)) + record(0x1906, text) + record(0x1100)
@@ -94,7 +105,8 @@ def with_more(structures, elements):
 
 def spread(count):
     """So many references, each at a place of its own."""
-    return b"".join(reference(b"HP", FAR + k % 45 * 1_000_000, k // 45 * 1_000_000) for k in range(count))
+    columns, pitch = (45, 1_000_000) if count <= 20_000 else (999, 2_000)
+    return b"".join(reference(b"HP", FAR + k % columns * pitch, k // columns * pitch) for k in range(count))
 
 
 def netlist(lines):
@@ -113,12 +125,26 @@ elif kind == "keys": netlist(f"k{i} = 1" for i in range(size))
 elif kind == "name_keys": netlist(["[name]", *(f"k{i} = 1" for i in range(size))])
 else:
     side = 64
-    if kind == "squares": body = b"".join(square(k % side * 2000, k // side * 2000) for k in range(3_999))
+    before = b""
+    if kind == "comb": body = ring(comb(2_001))
+    elif kind == "bare": body = square(0, 0)
+    elif kind == "empties":
+        before = structure(b"EM", b"")
+        body = square(0, 0) + b"".join(reference(b"EM", 0, 0) for k in range(20_000))
+    elif kind == "squares": body = b"".join(square(k % side * 2000, k // side * 2000) for k in range(3_999))
     elif kind == "heap": body = b"".join(square(0, 0) for k in range(3_999))
     elif kind == "text": body = label(50, b"t" * 32_000, 0, 0)
     elif kind == "letter": body = label(50, b"t" * 2, 0, 0)
-    if kind == "labels": made = with_more(b"", b"".join(label(30, b"I0", 3000, 500) for k in range(size)))
-    else: made = with_more(structure(b"HP", body), spread(size))
+    if kind == "loop":
+        names = [b"L%07d" % k for k in range(size)]
+        loop = (structure(name, reference(names[(k + 1) % size], 0, 0)) for k, name in enumerate(names))
+        made = with_more(b"".join(loop), reference(names[0], FAR, 0))
+    elif kind == "flat":
+        names = [b"L%07d" % k for k in range(size)]
+        made = with_more(b"".join(structure(name, square(0, 0)) for name in names),
+                         b"".join(reference(name, FAR + k % 999 * 2000, k // 999 * 2000) for k, name in enumerate(names)))
+    elif kind == "labels": made = with_more(b"", b"".join(label(30, b"I0", 3000, 500) for k in range(size)))
+    else: made = with_more(before + structure(b"HP", body), spread(size))
     open(target, "wb").write(made)
 END
 
@@ -190,11 +216,20 @@ while read -r kind size count most; do
 done <<CASES
 squares 2000 7998017 3
 heap 2000 7998017 3
+comb 3900 7807817 3
 labels 200000 200017 5
 CASES
 make letter 20000 "$work/letter.gds"
 make text 20000 "$work/hostile.gds"
 compare "stream text, 20000 labels, $(wc -c <"$work/hostile.gds") bytes" \
+    "$(check "$work/hostile.gds" "$work/words")" "$(check "$work/letter.gds" "$work/words")" 1 3
+make bare 100000 "$work/letter.gds"
+make empties 100000 "$work/hostile.gds"
+compare "stream empties, 100000 shapes, $(wc -c <"$work/hostile.gds") bytes" \
+    "$(check "$work/hostile.gds" "$work/words")" "$(check "$work/letter.gds" "$work/words")" 1 3
+make flat 300000 "$work/letter.gds"
+make loop 300000 "$work/hostile.gds"
+compare "stream loop, 300000 structures, $(wc -c <"$work/hostile.gds") bytes" \
     "$(check "$work/hostile.gds" "$work/words")" "$(check "$work/letter.gds" "$work/words")" 1 3
 rm -f "$work/hostile.gds" "$work/adder.gds"
 
