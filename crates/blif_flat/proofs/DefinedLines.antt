@@ -6,7 +6,7 @@ use Rattle.blif_read.specs.Lines.{Line}
 use Rattle.blif_read.specs.Statements.{word, front_of, inputs_in, outputs_in, defined_in, used_in}
 use Rattle.blif_read.specs.Parts.{signals, number, is_defined, rows_before_others, plane, is_false, says_zero, definition, definition_at, definitions}
 use Rattle.blif_read.specs.Faults.{is_control, before_of, adds_again, line_fault, undefined_fault}
-use Rattle.blif_read.specs.declared.words.Word.TheVariants.{Row}
+use Rattle.blif_read.specs.declared.words.Statement.TheVariants.{Row}
 use Rattle.blif_read.specs.declared.netlist.Def.{Def}
 use Rattle.blif_flat.proofs.WrittenLines.{IsToken, IsWritten, numbered}
 use Rattle.blif_flat.proofs.NumberedNames.{AreNames, IsEarlier, in_order, all_earlier, numbers_are, defined_is}

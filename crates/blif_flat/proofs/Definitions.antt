@@ -9,7 +9,7 @@ use Rattle.blif_read.specs.Lines.{Line, is_empty}
 use Rattle.blif_read.specs.Statements.{word, arguments, is_names, is_end, is_row, front_of, last_of, truth}
 use Rattle.blif_read.specs.Parts.{signals}
 use Rattle.blif_read.specs.Faults.{cover_above, before_of, is_control, is_token_fault, is_second_model, is_unsupported, has_shape, is_same, row_fault, kind_in, added_in, adds_again, duplicate_in, kind_of, at_line, line_fault}
-use Rattle.blif_read.specs.declared.words.Word.TheVariants.{Row}
+use Rattle.blif_read.specs.declared.words.Statement.TheVariants.{Row}
 use Rattle.blif_read.specs.declared.before.Before.{Before}
 use Rattle.blif_read.specs.declared.netlist.LineKind.TheVariants.{Duplicate}
 use Rattle.blif_flat.proofs.WrittenLines.{is_inked, IsToken, IsWritten, numbered}

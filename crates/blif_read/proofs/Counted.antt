@@ -9,8 +9,8 @@ use Rattle.blif_read.specs.Parts.{signals, number, plane, definition, definition
 use Rattle.blif_read.specs.Netlist.{cube_size, def_size, size_of}
 use Rattle.blif_read.specs.Size.{bytes_of, token_bytes, IsCut, AreCut}
 use Rattle.blif_read.proofs.TextSize.{text_bytes}
-use Rattle.blif_read.specs.declared.words.Word.{Word}
-use Rattle.blif_read.specs.declared.words.Word.TheVariants.{Model, Inputs, Outputs, Names, Subckt, End, Passed, Other, Row}
+use Rattle.blif_read.specs.declared.words.Statement.{Statement}
+use Rattle.blif_read.specs.declared.words.Statement.TheVariants.{Model, Inputs, Outputs, Names, Subckt, End, Passed, Other, Row}
 use Rattle.blif_read.specs.declared.netlist.Def.{Def}
 
 filled : (parts : List (List ℕ)) → AllByRecursion (λ t. 0 < length t) (filter is_token parts)
@@ -52,10 +52,10 @@ abbrev rows_size : List Line → ℕ
 rows_size lines = sum_by cube_size (map plane (rows_before_others lines))
 
 -- what one line adds: at most its bytes, and the size of the rows behind it
-line_counts : (w : Word) (args tokens : List (List ℕ)) (rows : List (List (List ℕ))) (def : Def) → length args + 1 ≤ token_bytes tokens → cube_size (plane tokens) ≤ token_bytes tokens → def_size def ≡ length (front_of args) + sum_by cube_size (map plane rows)
-    → length (elim w as (λ (x : Word). List (List ℕ)) [ Inputs ↦ args | _ ↦ [] ]) + length (elim w as (λ (x : Word). List (List ℕ)) [ Names ↦ last_of args | _ ↦ [] ])
-    + length (elim w as (λ (x : Word). List (List ℕ)) [ Outputs ↦ args | _ ↦ [] ]) + min 1 (length (elim w as (λ (x : Word). List (List ℕ)) [ Outputs ↦ args | _ ↦ [] ]))
-    + sum_by def_size (elim w as (λ (x : Word). List Def) [ Names ↦ def ∷ [] | _ ↦ [] ]) + sum_by cube_size (map plane (cond (is_row w) (tokens ∷ rows) []))
+line_counts : (w : Statement) (args tokens : List (List ℕ)) (rows : List (List (List ℕ))) (def : Def) → length args + 1 ≤ token_bytes tokens → cube_size (plane tokens) ≤ token_bytes tokens → def_size def ≡ length (front_of args) + sum_by cube_size (map plane rows)
+    → length (elim w as (λ (x : Statement). List (List ℕ)) [ Inputs ↦ args | _ ↦ [] ]) + length (elim w as (λ (x : Statement). List (List ℕ)) [ Names ↦ last_of args | _ ↦ [] ])
+    + length (elim w as (λ (x : Statement). List (List ℕ)) [ Outputs ↦ args | _ ↦ [] ]) + min 1 (length (elim w as (λ (x : Statement). List (List ℕ)) [ Outputs ↦ args | _ ↦ [] ]))
+    + sum_by def_size (elim w as (λ (x : Statement). List Def) [ Names ↦ def ∷ [] | _ ↦ [] ]) + sum_by cube_size (map plane (cond (is_row w) (tokens ∷ rows) []))
     ≤ token_bytes tokens + sum_by cube_size (map plane rows)
 line_counts Model args tokens rows def a r d = omega arith
 line_counts Inputs args tokens rows def a r d = omega arith

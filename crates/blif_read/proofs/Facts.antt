@@ -11,8 +11,8 @@ use Rattle.blif_read.specs.Faults.{is_control, is_token_fault, has_shape, before
 use Rattle.blif_read.specs.Netlist.{HasNoCycle, IsPlane, IsDef, IsNetlist}
 use Rattle.blif_read.specs.Size.{AreCut}
 use Rattle.blif_read.specs.declared.before.Cover.{Cover}
-use Rattle.blif_read.specs.declared.words.Word.{Word}
-use Rattle.blif_read.specs.declared.words.Word.TheVariants.{Model, Inputs, Outputs, Names, Subckt, End, Passed, Other, Row}
+use Rattle.blif_read.specs.declared.words.Statement.{Statement}
+use Rattle.blif_read.specs.declared.words.Statement.TheVariants.{Model, Inputs, Outputs, Names, Subckt, End, Passed, Other, Row}
 use Rattle.blif_read.specs.declared.netlist.Def.{Def}
 use Rattle.blif_read.proofs.Counted.{netlist_size}
 use Rattle.blif_read.proofs.Distinct.{none_or, no_kind, signals_distinct}
@@ -43,7 +43,7 @@ some_signal [] e = absurd (cc)
 some_signal (a ∷ []) e = refl
 some_signal (a ∷ b ∷ args) e = some_signal (b ∷ args) refl
 
-one_each : (w : Word) (args : List (List ℕ)) (def : Def) → is_names w && is_empty args ≡ false → length (elim w as (λ (x : Word). List (List ℕ)) [ Names ↦ last_of args | _ ↦ [] ]) ≡ length (elim w as (λ (x : Word). List Def) [ Names ↦ def ∷ [] | _ ↦ [] ])
+one_each : (w : Statement) (args : List (List ℕ)) (def : Def) → is_names w && is_empty args ≡ false → length (elim w as (λ (x : Statement). List (List ℕ)) [ Names ↦ last_of args | _ ↦ [] ]) ≡ length (elim w as (λ (x : Statement). List Def) [ Names ↦ def ∷ [] | _ ↦ [] ])
 one_each Names args def e = some_signal args e
 one_each Model args def e = refl
 one_each Inputs args def e = refl
@@ -85,7 +85,7 @@ definition_covers names n args rows h = record {
   empty = none_is_on rows;
 }
 
-at_word : (w : Word) (def : Def) → (w ≡ Names → Covers def) → AllByRecursion Covers (elim w as (λ (x : Word). List Def) [ Names ↦ def ∷ [] | _ ↦ [] ])
+at_word : (w : Statement) (def : Def) → (w ≡ Names → Covers def) → AllByRecursion Covers (elim w as (λ (x : Statement). List Def) [ Names ↦ def ∷ [] | _ ↦ [] ])
 at_word Names def h = (h refl, tt)
 at_word Model def h = tt
 at_word Inputs def h = tt
@@ -98,7 +98,7 @@ at_word Row def h = tt
 
 -- the cover behind a definition is its own
 own_cover : (o : Option Cover) (l : Line) → word l ≡ Names → cover_after o l ≡ Some (record { width = length (front_of (arguments l)); first = None })
-own_cover o l w = ap (λ x. elim x as (λ (y : Word). Option Cover) [ Names ↦ Some (record { width = length (front_of (arguments l)); first = None }) | Row ↦ with_row (truth l.tokens) o | _ ↦ None ]) w
+own_cover o l w = ap (λ x. elim x as (λ (y : Statement). Option Cover) [ Names ↦ Some (record { width = length (front_of (arguments l)); first = None }) | Row ↦ with_row (truth l.tokens) o | _ ↦ None ]) w
 
 covers : (calls : Bool) (names : List (List ℕ)) (done lines : List Line) → line_fault calls done lines ≡ None → AllByRecursion Covers (definitions names lines)
 covers calls names done [] e = tt

@@ -1,11 +1,11 @@
 -- A netlist is made from its parts.
-use Rattle.std.proofs.Common.{◌≡◌, ℕ, ◌+◌, ◌<◌, ◌^◌, List, [], ◌∷◌, length, Option, Some, None, Vec, Global, ◌-◌, drop, get_or, drop-cons, add-one, refl, sym, ap, ◌∙◌, subst, arith}
-use Rattle.std.specs.List.{AllByRecursion, IsDistinct}
+use Rattle.std.proofs.Common.{◌≡◌, ℕ, ◌+◌, ◌<◌, ◌^◌, List, [], ◌∷◌, length, Some, None, Vec, Global, drop, get_or, drop-cons, add-one, sym, ap, ◌∙◌, subst, arith}
+use Rattle.std.specs.List.{AllByRecursion}
 use Rattle.std.specs.Str.{bytes_eq}
 use Rattle.indexmap.specs.IndexSet.{insert_key, insert_all}
 use Rattle.blif_read.specs.Parts.{NetView, operands}
 use Rattle.blif_read.specs.Marking.{IsWithin}
-use Rattle.blif_read.specs.Netlist.{IsDef, IsNetlist, AreParts, HasNoCycle}
+use Rattle.blif_read.specs.Netlist.{IsDef, IsNetlist, AreParts}
 use Rattle.blif_read.specs.Walk.{first_cycle}
 use Rattle.blif_read.specs.Walked.{IsOrder, IsComplete, cycle_in}
 use Rattle.blif_read.specs.declared.netlist.Def.{Def}

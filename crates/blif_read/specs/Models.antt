@@ -6,7 +6,7 @@ use Rattle.blif_read.specs.Statements.{word, arguments, is_model, front_of, last
 use Rattle.blif_read.specs.Parts.{rows_before_others, plane, says_zero}
 use Rattle.blif_read.specs.Faults.{line_fault}
 use Rattle.blif_read.specs.Walk.{first_of}
-use Rattle.blif_read.specs.declared.words.Word.TheVariants.{Names, Subckt}
+use Rattle.blif_read.specs.declared.words.Statement.TheVariants.{Names, Subckt}
 use Rattle.blif_read.specs.declared.models.Named.{Named}
 use Rattle.blif_read.specs.declared.models.Port.{Port}
 use Rattle.blif_read.specs.declared.models.Call.{Call}

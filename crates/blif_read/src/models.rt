@@ -2,7 +2,7 @@
 ghost use Rattle.std.specs.Prelude.{◌≡◌, ◌&&◌, not, ◌++◌, [], map, IfOk, OnOk, length, drop, slice_index_or};
 ghost use Rattle.std.specs.List.{position, list_all, flat_map};
 ghost use Rattle.blif_read.specs.Lines.{is_empty};
-ghost use Rattle.blif_read.specs.Seen.{seen, texts};
+ghost use Rattle.blif_read.specs.Seen.{texts};
 ghost use Rattle.blif_read.specs.Statements.{word, arguments, is_model, inputs_in, outputs_in, front_of, last_of};
 ghost use Rattle.blif_read.specs.Parts.{rows_before_others};
 ghost use Rattle.blif_read.specs.Models.{model_of, model_line, model_name, named, named_inputs, named_outputs, named_definition, named_definition_at, is_equals_sign, formal_in, actual_in, is_port, port_of, ports_in, call_of, calls_in, first_name};
@@ -12,8 +12,8 @@ use crate::cover::rows;
 use crate::lines::LogicalLine;
 use crate::names::copy;
 use crate::netlist::Cube;
-use crate::statements::{arguments, front_of, last_of, word};
-use crate::words::Word;
+use crate::statements::{arguments, front_of, last_of};
+use crate::words::Statement;
 use aq_base::{Bytes, List, Memory};
 use std::alloc::Global;
 
@@ -171,14 +171,14 @@ fn named_definition(
     rest: &[LogicalLine<'_>],
 ) -> Result<NamedDef, Memory>
     ensures { IfOk result (λ def. def
-        ≡ named_definition line.now.number (arguments (seen line.now)) (rows_before_others (map seen rest.now))) }
+        ≡ named_definition line.now.number (arguments line.now) (rows_before_others rest.now)) }
 {
-    let names = arguments(&line.tokens);
+    let names = arguments(line.tokens());
     let inputs = copies(alloc, front_of(names))?;
     let output = first_name(alloc, last_of(names))?;
     let (cubes, zero) = rows(alloc, rest)?;
     Ok(NamedDef {
-        line: line.number,
+        line: line.number(),
         inputs,
         output,
         on: !zero,
@@ -193,27 +193,27 @@ fn push_line(
     rest: &[LogicalLine<'_>],
     model: &mut BlifModel,
 ) -> Result<(), Memory>
-    ensures { OnOk result (model.new ≡ with_line model.old (seen line.now) (map seen rest.now)) }
+    ensures { OnOk result (model.new ≡ with_line model.old line.now rest.now) }
 {
-    match word(line) {
-        Word::Inputs => push_named(
+    match line.statement() {
+        Statement::Inputs => push_named(
             alloc,
-            line.number,
-            arguments(&line.tokens),
+            line.number(),
+            arguments(line.tokens()),
             &mut model.inputs,
         ),
-        Word::Outputs => push_named(
+        Statement::Outputs => push_named(
             alloc,
-            line.number,
-            arguments(&line.tokens),
+            line.number(),
+            arguments(line.tokens()),
             &mut model.outputs,
         ),
-        Word::Names => {
+        Statement::Names => {
             let def = named_definition(alloc, line, rest)?;
             model.defs.push(def)
         }
-        Word::Subckt => {
-            let call = call_of(alloc, line.number, arguments(&line.tokens))?;
+        Statement::Subckt => {
+            let call = call_of(alloc, line.number(), arguments(line.tokens()))?;
             model.calls.push(call)
         }
         _ => Ok(()),
@@ -222,16 +222,16 @@ fn push_line(
 
 /// The line and the name of the model that lines begin.
 fn head(alloc: Global, lines: &[LogicalLine<'_>]) -> Result<(u64, Bytes), Memory>
-    ensures line { IfOk result (λ head. head.0 ≡ model_line (map seen lines.now)) }
-    ensures name { IfOk result (λ head. head.1 ≡ model_name (map seen lines.now)) }
+    ensures line { IfOk result (λ head. head.0 ≡ model_line lines.now) }
+    ensures name { IfOk result (λ head. head.1 ≡ model_name lines.now) }
 {
     let Some(line) = lines.first() else {
         return Ok((0, List::new(alloc)));
     };
-    match word(line) {
-        Word::Model => {
-            let name = first_name(alloc, arguments(&line.tokens))?;
-            Ok((line.number, name))
+    match line.statement() {
+        Statement::Model => {
+            let name = first_name(alloc, arguments(line.tokens()))?;
+            Ok((line.number(), name))
         }
         _ => Ok((0, List::new(alloc))),
     }
@@ -239,7 +239,7 @@ fn head(alloc: Global, lines: &[LogicalLine<'_>]) -> Result<(u64, Bytes), Memory
 
 /// The model that its lines say.
 pub fn model_of(alloc: Global, lines: &[LogicalLine<'_>]) -> Result<BlifModel, Memory>
-    ensures { IfOk result (λ model. model ≡ model_of (map seen lines.now)) }
+    ensures { IfOk result (λ model. model ≡ model_of lines.now) }
 {
     let (line, name) = head(alloc, lines)?;
     let mut model = BlifModel {

@@ -1,8 +1,7 @@
 // A text of several models, read model by model.
 ghost use Rattle.std.specs.Prelude.{◌≡◌, ◌≤◌, ◌<◌, ◌^◌, ◌∷◌, map, length, IfOk, IfErr, IfSome};
 ghost use Rattle.std.specs.List.{position};
-ghost use Rattle.std.specs.Option.{option_map};
-ghost use Rattle.blif_read.specs.Seen.{seen};
+ghost use Rattle.std.specs.Option.{option_copied};
 ghost use Rattle.blif_read.specs.Statements.{word, is_model};
 ghost use Rattle.blif_read.specs.Models.{parts_of, SaysModels, ModelsFault};
 ghost use Rattle.blif_read.specs.Sections.{parts_left};
@@ -12,24 +11,23 @@ use crate::faults::line_fault;
 use crate::lines::{LogicalLine, logical_lines};
 use crate::models::{BlifModel, model_of};
 use crate::netlist::BlifRefusal;
-use crate::statements::word;
-use crate::words::Word;
+use crate::words::Statement;
 use aq_base::List;
 use name_hash::NameHash;
 use std::alloc::Global;
 
 fn is_model(line: &LogicalLine<'_>) -> bool
-    ensures { result ≡ is_model (word (seen line.now)) }
+    ensures { result ≡ is_model (word line.now) }
 {
-    match word(line) {
-        Word::Model => true,
+    match line.statement() {
+        Statement::Model => true,
         _ => false,
     }
 }
 
 /// The place of the first line that begins a model.
 fn next_model(lines: &[LogicalLine<'_>]) -> Option<usize>
-    ensures { result ≡ position (λ line. is_model (word (seen line))) lines.now }
+    ensures { result ≡ position (λ line. is_model (word line)) lines.now }
 {
     lines.iter().position(|line| is_model(line))
 }
@@ -38,8 +36,8 @@ fn next_model(lines: &[LogicalLine<'_>]) -> Option<usize>
 fn first_part<'a, 'b>(
     lines: &'b [LogicalLine<'a>],
 ) -> (&'b [LogicalLine<'a>], Option<&'b [LogicalLine<'a>]>)
-    ensures cut { parts_of (map seen lines.now)
-        ≡ map seen result.0.now ∷ parts_left (option_map (λ more. map seen more.now) result.1) }
+    ensures cut { parts_of lines.now
+        ≡ result.0.now ∷ parts_left (option_copied result.1) }
     ensures shorter { IfSome result.1 (λ more. length more.now < length lines.now) }
 {
     if lines.len() == 0 {

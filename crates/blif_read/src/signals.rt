@@ -4,7 +4,7 @@ ghost use Rattle.std.specs.List.{list_all};
 ghost use Rattle.std.specs.Str.{bytes_eq};
 ghost use Rattle.indexmap.specs.IndexSet.{insert_all};
 ghost use Rattle.blif_read.specs.Parts.{number, signals, is_defined};
-ghost use Rattle.blif_read.specs.Seen.{seen, texts};
+ghost use Rattle.blif_read.specs.Seen.{texts};
 
 use crate::lines::LogicalLine;
 use crate::names::{Index, insert_each, number};
@@ -21,7 +21,7 @@ pub fn signals<'a>(
     lines: &[LogicalLine<'a>],
 ) -> Result<Index<'a>, Memory>
     ensures { IfOk result (λ index. texts index.keys
-        ≡ insert_all bytes_eq [] (signals (map seen lines.now))) }
+        ≡ insert_all bytes_eq [] (signals lines.now)) }
 {
     let mut index = IndexSet::with_hasher(alloc, hash);
     'inputs: for line in lines {

@@ -1,20 +1,10 @@
-// What a line says: the word that it begins with, and the names that it speaks of.
+// What a line says: its arguments, and the names that it speaks of.
 ghost use Rattle.std.specs.Prelude.{◌≡◌, drop};
 ghost use Rattle.blif_read.specs.Statements.{word, arguments, front_of, last_of, inputs_in, outputs_in, defined_in};
-ghost use Rattle.blif_read.specs.Seen.{seen, texts};
+ghost use Rattle.blif_read.specs.Seen.{texts};
 
 use crate::lines::LogicalLine;
-use crate::words::{Word, word_of};
-
-/// The word that a line begins with.
-pub fn word(line: &LogicalLine<'_>) -> Word
-    ensures { result ≡ word (seen line.now) }
-{
-    match line.tokens.as_slice() {
-        [first, ..] => word_of(first),
-        [] => Word::Row,
-    }
-}
+use crate::words::Statement;
 
 /// The tokens after the first.
 pub fn arguments<'a, 'b>(tokens: &'b [&'a [u8]]) -> &'b [&'a [u8]]
@@ -50,30 +40,30 @@ pub fn last_of<'a, 'b>(tokens: &'b [&'a [u8]]) -> &'b [&'a [u8]]
 
 /// The names that a line adds to the inputs.
 pub fn inputs_in<'a, 'b>(line: &'b LogicalLine<'a>) -> &'b [&'a [u8]]
-    ensures { texts result.now ≡ inputs_in (seen line.now) }
+    ensures { texts result.now ≡ inputs_in line.now }
 {
-    match word(line) {
-        Word::Inputs => arguments(&line.tokens),
+    match line.statement() {
+        Statement::Inputs => arguments(line.tokens()),
         _ => &[],
     }
 }
 
 /// The names that a line adds to the outputs.
 pub fn outputs_in<'a, 'b>(line: &'b LogicalLine<'a>) -> &'b [&'a [u8]]
-    ensures { texts result.now ≡ outputs_in (seen line.now) }
+    ensures { texts result.now ≡ outputs_in line.now }
 {
-    match word(line) {
-        Word::Outputs => arguments(&line.tokens),
+    match line.statement() {
+        Statement::Outputs => arguments(line.tokens()),
         _ => &[],
     }
 }
 
 /// The names that a line defines: one, or none.
 pub fn defined_in<'a, 'b>(line: &'b LogicalLine<'a>) -> &'b [&'a [u8]]
-    ensures { texts result.now ≡ defined_in (seen line.now) }
+    ensures { texts result.now ≡ defined_in line.now }
 {
-    match word(line) {
-        Word::Names => last_of(arguments(&line.tokens)),
+    match line.statement() {
+        Statement::Names => last_of(arguments(line.tokens())),
         _ => &[],
     }
 }

@@ -3,12 +3,12 @@ use Rattle.std.specs.List.{flat_map}
 use Rattle.blif_read.specs.Statements.{outputs_in}
 use Rattle.blif_read.specs.Parts.{definitions, number}
 use Rattle.blif_read.specs.Faults.{undefined_fault}
-use Rattle.blif_read.specs.Seen.{seen, texts}
+use Rattle.blif_read.specs.Seen.{texts}
 use Rattle.blif_read.proofs.build.resolve.Given as goal
 
 abbrev pub invariant-loop-i : goal.invariant-loop-i
 invariant-loop-i l = record {
-  sound : undefined_fault (texts l.index.keys) (map seen (drop l.i l.lines)) ≡ undefined_fault (texts l.index.keys) (map seen l.lines);
-  defs : l.defs ++ definitions (texts l.index.keys) (map seen (drop l.i l.lines)) ≡ definitions (texts l.index.keys) (map seen l.lines);
-  outputs : l.outputs ++ map (number (texts l.index.keys)) (flat_map outputs_in (map seen (drop l.i l.lines))) ≡ map (number (texts l.index.keys)) (flat_map outputs_in (map seen l.lines));
+  sound : undefined_fault (texts l.index.keys) (drop l.i l.lines) ≡ undefined_fault (texts l.index.keys) l.lines;
+  defs : l.defs ++ definitions (texts l.index.keys) (drop l.i l.lines) ≡ definitions (texts l.index.keys) l.lines;
+  outputs : l.outputs ++ map (number (texts l.index.keys)) (flat_map outputs_in (drop l.i l.lines)) ≡ map (number (texts l.index.keys)) (flat_map outputs_in l.lines);
 }

@@ -1,5 +1,5 @@
-use Rattle.std.proofs.Common.{◌∙◌, ap, refl, sym, subst}
-use Rattle.blif_read.proofs.Making.{few_parts, parts_within, keys_made, order_made, facts_made, none_made, cycle_made, made_of, made_view}
+use Rattle.std.proofs.Common.{◌∙◌}
+use Rattle.blif_read.proofs.Making.{none_made, made_of, made_view}
 use Rattle.blif_read.proofs.make.make_netlist.Goals as goal
 
 pub new-requires-clause-facts : goal.new-requires-clause-facts

@@ -1,8 +1,7 @@
-use Rattle.std.proofs.Common.{◌≡◌, map, drop}
+use Rattle.std.proofs.Common.{◌≡◌, drop}
 use Rattle.blif_read.specs.Models.{model_of}
 use Rattle.blif_read.specs.Sections.{with_lines}
-use Rattle.blif_read.specs.Seen.{seen}
 use Rattle.blif_read.proofs.models.model_of.Given as goal
 
 abbrev pub invariant-loop-i : goal.invariant-loop-i
-invariant-loop-i l = with_lines l.model (map seen (drop l.i l.lines)) ≡ model_of (map seen l.lines)
+invariant-loop-i l = with_lines l.model (drop l.i l.lines) ≡ model_of l.lines

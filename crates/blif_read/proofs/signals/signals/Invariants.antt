@@ -1,14 +1,14 @@
-use Rattle.std.proofs.Common.{◌≡◌, map, drop, []}
+use Rattle.std.proofs.Common.{◌≡◌, drop, []}
 use Rattle.std.specs.List.{flat_map}
 use Rattle.std.specs.Str.{bytes_eq}
 use Rattle.indexmap.specs.IndexSet.{insert_all}
 use Rattle.blif_read.specs.Statements.{inputs_in, defined_in}
 use Rattle.blif_read.specs.Parts.{signals}
-use Rattle.blif_read.specs.Seen.{seen, texts}
+use Rattle.blif_read.specs.Seen.{texts}
 use Rattle.blif_read.proofs.signals.signals.Given as goal
 
 abbrev pub invariant-inputs : goal.invariant-inputs
-invariant-inputs l = insert_all bytes_eq (texts l.index.keys) (flat_map inputs_in (map seen (drop l.line-index l.lines))) ≡ insert_all bytes_eq [] (flat_map inputs_in (map seen l.lines))
+invariant-inputs l = insert_all bytes_eq (texts l.index.keys) (flat_map inputs_in (drop l.line-index l.lines)) ≡ insert_all bytes_eq [] (flat_map inputs_in l.lines)
 
 abbrev pub invariant-defined : goal.invariant-defined
-invariant-defined l = insert_all bytes_eq (texts l.index.keys) (flat_map defined_in (map seen (drop l.line-index l.lines))) ≡ insert_all bytes_eq [] (signals (map seen l.lines))
+invariant-defined l = insert_all bytes_eq (texts l.index.keys) (flat_map defined_in (drop l.line-index l.lines)) ≡ insert_all bytes_eq [] (signals l.lines)

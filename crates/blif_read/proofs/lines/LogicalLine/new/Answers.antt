@@ -1,0 +1,11 @@
+use Rattle.std.proofs.Common.{◌∙◌, ap, ℕ, List, Bor}
+use Rattle.blif_read.specs.Lines.{Line}
+use Rattle.blif_read.specs.Seen.{texts}
+use Rattle.blif_read.specs.Statements.{word}
+use Rattle.blif_read.proofs.lines.LogicalLine.new.Goals as goal
+
+abbrev line_with : ℕ → List (Bor (List ℕ)) → Line
+line_with number tokens = record { number = number; tokens = texts tokens }
+
+pub invariant_of-result : goal.invariant_of-result
+invariant_of-result c = c.statement_in-statement.ensures c.args.number ∙ ap (λ ts. word (line_with c.args.number ts)) c.deref.ensures.value
