@@ -4,3 +4,4 @@ pub mod Strokes
 pub mod Strides
 pub mod Sweeping
 pub mod Readied
+pub mod Boxes

@@ -6,6 +6,7 @@ ghost use Rattle.poly_cut.specs.Paths.{path_cut, past, end_of, before_of};
 ghost use Rattle.poly_cut.specs.Figures.{IsBent, IsNarrow, IsDrawn, cut_of};
 ghost use Rattle.poly_cut.specs.Code.Sweeping.{ends_of, FromBelow, levels_of};
 
+use crate::boxes::rectangle_of;
 use crate::ends::{End, ends};
 use crate::layout::{Figure, Point};
 use crate::slabs::{add_slab, empty};
@@ -39,10 +40,16 @@ fn sweep(alloc: Global, ends: &[End]) -> Result<List<Rect>, Memory>
     Ok(stack.rects)
 }
 
-/// The rectangles into which a ring is cut, by lower edge and then by left edge.
+/// The rectangles into which a ring is cut, by lower edge and then by left edge. A rectangle, which is most of what a
+/// chip has, is cut without a sweep.
 pub fn cut_ring(alloc: Global, ring: &[Point]) -> Result<List<Rect>, Memory>
     ensures { IfOk result (λ rects. rects ≡ ring_cut ring.now) }
 {
+    if let Some(rect) = rectangle_of(ring) {
+        let mut rects = List::new(alloc);
+        rects.push(rect)?;
+        return Ok(rects);
+    }
     let mut ends = ends(alloc, ring)?;
     ends.sort_unstable();
     sweep(alloc, ends.as_slice())

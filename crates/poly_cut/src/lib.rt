@@ -2,6 +2,7 @@
 //! database units of one nanometre.
 #![tactic(auto)]
 
+mod boxes;
 mod counts;
 mod cutting;
 mod ends;
