@@ -8,9 +8,10 @@
 # installed, it compares the netlist of the chip's circuit with NAME.blif. Then the same is done with netlists that other
 # tools make of it: NAME_yosys, which Yosys makes of NAME.v, with gates of two inputs and choices, NAME_and, with and, or
 # and not alone, NAME_lut, with tables of three inputs; and NAME_abc, which ABC makes of NAME.blif. Where KLayout is
-# installed, it checks each chip by share/aqfp.drc and makes a picture of it. Last come the layouts under layouts/, of
-# which one is compared with the netlist that it was made of before it was changed, a trace, and a netlist that is
-# refused. A tool that is not installed is named, and its part is left out.
+# installed, it checks each chip by share/aqfp.drc and makes a picture of it. Last come the layouts under layouts/, a
+# trace, and a netlist that is refused. A layout NETLIST_CHANGE.gds is verified with its words, and where there is a file
+# NETLIST_CHANGE.compared, that is what `equal` says of it and of NETLIST.blif.
+# A tool that is not installed is named, and its part is left out.
 # Prints a line for each chip. The status is 1 where something failed. AQFP names another program than the launcher.
 set -u
 here=$(cd -P "$(dirname "$0")" && pwd)
@@ -124,9 +125,11 @@ done
 for layout in "$here"/layouts/*.gds; do
     name=$(basename "$layout" .gds)
     compare "$name" "$here/layouts/$name.printed" verify "$layout" "$library" "$here/layouts/$name.words"
+    verdict=$here/layouts/$name.compared
+    if [ -f "$verdict" ]; then
+        compare "${name}_compared" "$verdict" equal "$layout" "$library" "$here/${name%_*}.blif"
+    fi
 done
-compare and2_compared "$here/layouts/and2_changed.compared" \
-    equal "$here/layouts/and2_changed.gds" "$library" "$here/and2.blif"
 compare trace "$here/wire.trace" trace "$folder/wire.gds" "$library" "$here/one.words"
 compare cycle "$here/cycle.printed" build "$here/cycle.blif" "$library" "$folder/cycle.gds"
 exit $failed
