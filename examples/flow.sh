@@ -10,8 +10,8 @@
 # and not alone, NAME_lut, with tables of three inputs; and NAME_abc, which ABC makes of NAME.blif. Where KLayout is
 # installed, it checks each chip by share/aqfp.drc and makes a picture of it. Last come the layouts under layouts/, a
 # trace, and a netlist that is refused. A layout NETLIST_CHANGE.gds is verified with its words, and where there is a file
-# NETLIST_CHANGE.compared, that is what `equal` says of it and of NETLIST.blif.
-# A tool that is not installed is named, and its part is left out.
+# NETLIST_CHANGE.compared, that is what `equal` says of it and of NETLIST.blif. Then KLayout and Magic draw the full adder
+# anew by the scripts beside the layouts. A tool that is not installed is named, and its part is left out.
 # Prints a line for each chip. The status is 1 where something failed. AQFP names another program than the launcher.
 set -u
 here=$(cd -P "$(dirname "$0")" && pwd)
@@ -110,6 +110,7 @@ compare() {
 have yosys || echo "flow: yosys is not installed: no netlists are made of Verilog" >&2
 have berkeley-abc || echo "flow: berkeley-abc is not installed: no netlists are made by ABC" >&2
 have klayout || echo "flow: klayout is not installed: no pictures are made, and its rules are not tried" >&2
+have magic || echo "flow: magic is not installed: no chip is written anew by it" >&2
 for netlist in "$here"/*.blif; do
     name=$(basename "$netlist" .blif)
     [ "$name" = cycle ] && continue
@@ -130,6 +131,18 @@ for layout in "$here"/layouts/*.gds; do
         compare "${name}_compared" "$verdict" equal "$layout" "$library" "$here/${name%_*}.blif"
     fi
 done
+if have klayout; then
+    QT_QPA_PLATFORM=offscreen klayout -z -b -r "$here/layouts/redraw.py" \
+        -rd gds="$folder/full_adder.gds" -rd out="$folder/redrawn.gds" >"$folder/redrawn.log" 2>&1
+    compare redrawn "$here/layouts/full_adder_redrawn.compared" \
+        equal "$folder/redrawn.gds" "$library" "$here/full_adder.blif"
+fi
+if have magic; then
+    GDS="$folder/full_adder.gds" OUT="$folder/magic.gds" magic -dnull -noconsole -rcfile /dev/null \
+        -T "$top/share/aqfp.tech" "$here/layouts/through_magic.tcl" </dev/null >"$folder/magic.log" 2>&1
+    compare magic "$here/layouts/full_adder_magic.compared" \
+        equal "$folder/magic.gds" "$library" "$here/full_adder.blif"
+fi
 compare trace "$here/wire.trace" trace "$folder/wire.gds" "$library" "$here/one.words"
 compare cycle "$here/cycle.printed" build "$here/cycle.blif" "$library" "$folder/cycle.gds"
 exit $failed
