@@ -4,7 +4,7 @@ use Rattle.std.specs.Result.{result_err}
 use Rattle.aq_base.specs.Causes.{Rose}
 use Rattle.aq_base.specs.Store.{Contents, gained, GainsPrefix}
 use Rattle.chip_circuit.specs.Circuits.{CircuitView, KeepsFacts}
-use Rattle.chip_texts.specs.WordsText.{words_of}
+use Rattle.chip_texts.specs.WordsText.{words_of, SaysWords}
 use Rattle.aqfp_top.specs.Counted.{Counts, HasFaults, FailedLoad}
 use Rattle.aqfp_top.specs.Loads.{gds_limit, lib_limit, words_limit, check_loads}
 use Rattle.aqfp_top.specs.Stages as stage
@@ -15,7 +15,7 @@ use Rattle.aqfp_top.specs.Code.Loading.{IsFaultOfLoads}
 use Rattle.aqfp_top.specs.Code.Staging.{ToldAnswers}
 use Rattle.aqfp_top.specs.Code.Building.{IsOutOrMemory, IsReadOf}
 use Rattle.aqfp_top.specs.Code.Checking.{chip_stages, circuit_then, IsCircuitFault, IsJudgingFault}
-use Rattle.aqfp_top.specs.Checks.{ToldTexts, IsSound, CheckPrints, IsPrintedOf, text_of}
+use Rattle.aqfp_top.specs.Checks.{ToldTexts, MakesCircuit, IsSound, CheckPrints, IsPrintedOf, text_of}
 use Rattle.aqfp_top.specs.declared.check.Printing.{Printing}
 use Rattle.aqfp_top.specs.declared.fault.Fault.{Fault}
 use Rattle.aqfp_top.proofs.EachFault.{each_of_loads, each_circuit, each_judging, each_out}
@@ -79,12 +79,18 @@ pub told_unsound : (told : Option Contents) (words : List (List ℕ)) (gds lib t
 told_unsound None words gds lib text fault held a b c wrong = tt
 told_unsound (Some files) words gds lib text fault held a b c wrong = judging_answers files words gds lib text (Some fault) held a b c wrong
 
--- the same of the first two texts, which are these
-pub told_no_circuit : (told : Option Contents) (words : List (List ℕ)) (gds lib text gds' lib' : List ℕ) (fault : Fault) → ToldTexts told words gds lib text →
-    length gds ≤ gds_limit → length lib ≤ lib_limit → length text ≤ words_limit → gds' ≡ gds → lib' ≡ lib → ((rest : List Stage) → Answers (circuit_then gds' lib' rest) (Some fault)) → ToldAnswers check_stages told words (Some fault)
-told_no_circuit told words gds lib text gds' lib' fault held a b c g l wrong =
+-- the same of texts that are these
+pub texts_unsound : (told : Option Contents) (words : List (List ℕ)) (gds lib text lib' text' : List ℕ) (fault : Fault) → ToldTexts told words gds lib text →
+    length gds ≤ gds_limit → length lib ≤ lib_limit → length text ≤ words_limit → lib' ≡ lib → text' ≡ text → Answers (judging_stages gds lib' text') (Some fault) → ToldAnswers check_stages told words (Some fault)
+texts_unsound told words gds lib text lib' text' fault held a b c l t wrong =
     told_unsound told words gds lib text fault held a b c
-    (subst (λ x. Answers (judging_stages x lib text) (Some fault)) g (subst (λ x. Answers (judging_stages gds' x text) (Some fault)) l (wrong (stage.Words gds' lib' text ∷ []))))
+    (subst (λ x. Answers (judging_stages gds x text) (Some fault)) l (subst (λ x. Answers (judging_stages gds lib' x) (Some fault)) t wrong))
+
+-- the same of a library's text that is this
+pub told_no_circuit : (told : Option Contents) (words : List (List ℕ)) (gds lib text lib' : List ℕ) (fault : Fault) → ToldTexts told words gds lib text →
+    length gds ≤ gds_limit → length lib ≤ lib_limit → length text ≤ words_limit → lib' ≡ lib → ((rest : List Stage) → Answers (circuit_then gds lib' rest) (Some fault)) → ToldAnswers check_stages told words (Some fault)
+told_no_circuit told words gds lib text lib' fault held a b c l wrong =
+    told_unsound told words gds lib text fault held a b c (subst (λ x. Answers (judging_stages gds x text) (Some fault)) l (wrong (stage.Words gds lib' text ∷ [])))
 
 -- Where the texts are sound the check comes to printing.
 
@@ -96,12 +102,12 @@ told_sound (Some files) words gds lib text result held a b c well only =
     each_out (λ r. Answers (check_stages files words) (result_err r)) none none tt result only
 
 -- the same of texts that are these
-pub texts_sound : (told : Option Contents) (words : List (List ℕ)) (gds lib text gds' lib' text' : List ℕ) (result : Result (Unit {0}) Fault) → ToldTexts told words gds lib text →
-    length gds ≤ gds_limit → length lib ≤ lib_limit → length text ≤ words_limit → gds' ≡ gds → lib' ≡ lib → text' ≡ text → IsFirst (judging_stages gds' lib' text') None → IfErr result IsOutOrMemory
+pub texts_sound : (told : Option Contents) (words : List (List ℕ)) (gds lib text lib' text' : List ℕ) (result : Result (Unit {0}) Fault) → ToldTexts told words gds lib text →
+    length gds ≤ gds_limit → length lib ≤ lib_limit → length text ≤ words_limit → lib' ≡ lib → text' ≡ text → IsFirst (judging_stages gds lib' text') None → IfErr result IsOutOrMemory
     → ToldAnswers check_stages told words (result_err result)
-texts_sound told words gds lib text gds' lib' text' result held a b c g l t well only =
+texts_sound told words gds lib text lib' text' result held a b c l t well only =
     told_sound told words gds lib text result held a b c
-    (subst (λ x. IsFirst (judging_stages x lib text) None) g (subst (λ x. IsFirst (judging_stages gds' x text) None) l (subst (λ x. IsFirst (judging_stages gds' lib' x) None) t well))) only
+    (subst (λ x. IsFirst (judging_stages gds x text) None) l (subst (λ x. IsFirst (judging_stages gds lib' x) None) t well)) only
 
 pub out_is_check : (result : Result (Unit {0}) Fault) → IfErr result IsOutOrMemory → IfErr result IsCheckFault
 out_is_check result only = each_out (λ r. IfErr r IsCheckFault) tt refl tt result only
@@ -125,6 +131,14 @@ out_check_prints printing told words before after gds lib text circuit given res
       wide = subst (All (λ word. length word ≡ circuit.inputs)) same wide;
       printed = subst (λ words. Printed (text_of printing circuit words)) same printed;
     }
+
+-- the same of texts that are these
+pub texts_check_print : (printing : Printing) (told : Option Contents) (words : List (List ℕ)) (before after : Option (List ℕ)) (gds lib text lib' text' : List ℕ) (circuit : CircuitView) (given : List (List Bool)) (result : Result (Unit {0}) Fault) →
+    ToldTexts told words gds lib text → lib' ≡ lib → text' ≡ text → MakesCircuit gds lib' circuit → SaysWords circuit.inputs text' → KeepsFacts circuit → given ≡ words_of text' → All (λ word. length word ≡ circuit.inputs) given → IfErr result IsOutOrMemory →
+    OnOk result (after ≡ gained before (text_of printing circuit given)) → OnErr result (GainsPrefix before after (text_of printing circuit given)) → CheckPrints printing told words before after (result_err result)
+texts_check_print printing told words before after gds lib text lib' text' circuit given result held l t makes says keeps same wide only added prefix =
+    let sound : IsSound gds lib text circuit = record { makes = subst (λ x. MakesCircuit gds x circuit) l makes; says = subst (SaysWords circuit.inputs) t says } in
+    out_check_prints printing told words before after gds lib text circuit given result held sound keeps (subst (λ x. given ≡ words_of x) t same) wide only added prefix
 
 pub print_failed : (name : Option (List ℕ)) (words : List (List ℕ)) (result : Result (Unit {0}) Fault) → IfErr result IsOutOrMemory → FailedLoad name words (result_err result)
 print_failed name words result only = each_out (λ r. FailedLoad name words (result_err r)) tt tt tt result only

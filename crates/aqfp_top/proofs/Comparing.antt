@@ -113,7 +113,7 @@ pub comparison_answers : (gds lib net : List ℕ) (circuit : CircuitView) (view 
 comparison_answers gds lib net circuit view (Ok verdict) both before none bad = tt
 comparison_answers gds lib net circuit view (Err fault) both before none bad = functions_answer gds lib net circuit view fault both before none bad
 
-pub has_verdict : (gds lib net : List ℕ) (circuit : CircuitView) (view : NetView) (verdict : Verdict) → MakesBoth gds lib net circuit view → KeepsFacts circuit → IsNetlist view → IsTrueOf circuit view verdict
+has_verdict : (gds lib net : List ℕ) (circuit : CircuitView) (view : NetView) (verdict : Verdict) → MakesBoth gds lib net circuit view → KeepsFacts circuit → IsNetlist view → IsTrueOf circuit view verdict
     → HasVerdict gds lib net verdict
 has_verdict gds lib net circuit view verdict both circuit_keeps net_keeps holds = record {
   circuit = circuit;
@@ -124,7 +124,12 @@ has_verdict gds lib net circuit view verdict both circuit_keeps net_keeps holds 
   holds = holds;
 }
 
-pub ruleset compares = (widths_compare, functions_compare, widths_answer, has_verdict)
+pub verdicts : (gds lib net : List ℕ) (circuit : CircuitView) (view : NetView) (result : Result Verdict Fault) → MakesBoth gds lib net circuit view → KeepsFacts circuit → IsNetlist view → IfOk result (IsTrueOf circuit view)
+    → IfOk result (HasVerdict gds lib net)
+verdicts gds lib net circuit view (Ok verdict) both circuit_keeps net_keeps holds = has_verdict gds lib net circuit view verdict both circuit_keeps net_keeps holds
+verdicts gds lib net circuit view (Err fault) both circuit_keeps net_keeps holds = tt
+
+pub ruleset compares = (widths_compare, functions_compare)
 
 -- Where a load ends a comparison nothing is printed.
 
@@ -198,12 +203,12 @@ told_well (Some files) words gds lib net result held a b c well only =
     each_out (λ r. Answers (equal_stages files words) (result_err r)) none none tt result only
 
 -- the same of texts that are these
-pub texts_well : (told : Option Contents) (words : List (List ℕ)) (gds lib net gds' lib' net' : List ℕ) (result : Result (Unit {0}) Fault) → ToldTexts told words gds lib net →
-    length gds ≤ gds_limit → length lib ≤ lib_limit → length net ≤ words_limit → gds' ≡ gds → lib' ≡ lib → net' ≡ net → IsFirst (comparing_stages gds' lib' net') None → IfErr result IsOutOrMemory
+pub texts_well : (told : Option Contents) (words : List (List ℕ)) (gds lib net lib' net' : List ℕ) (result : Result (Unit {0}) Fault) → ToldTexts told words gds lib net →
+    length gds ≤ gds_limit → length lib ≤ lib_limit → length net ≤ words_limit → lib' ≡ lib → net' ≡ net → IsFirst (comparing_stages gds lib' net') None → IfErr result IsOutOrMemory
     → ToldAnswers equal_stages told words (result_err result)
-texts_well told words gds lib net gds' lib' net' result held a b c g l t well only =
+texts_well told words gds lib net lib' net' result held a b c l t well only =
     told_well told words gds lib net result held a b c
-    (subst (λ x. IsFirst (comparing_stages x lib net) None) g (subst (λ x. IsFirst (comparing_stages gds' x net) None) l (subst (λ x. IsFirst (comparing_stages gds' lib' x) None) t well))) only
+    (subst (λ x. IsFirst (comparing_stages gds x net) None) l (subst (λ x. IsFirst (comparing_stages gds lib' x) None) t well)) only
 
 pub out_is_equal : (result : Result (Unit {0}) Fault) → IfErr result IsOutOrMemory → IfErr result IsEqualFault
 out_is_equal result only = each_out (λ r. IfErr r IsEqualFault) tt refl tt result only
@@ -219,11 +224,11 @@ out_equal_prints told words before after gds lib net verdict result held found o
     made {Printed} printed = record { gds = gds; lib = lib; net = net; held = held; verdict = verdict; found = found; printed = printed }
 
 -- the same of texts that are these
-pub texts_print : (told : Option Contents) (words : List (List ℕ)) (before after : Option (List ℕ)) (gds lib net gds' lib' net' : List ℕ) (verdict : Verdict) (result : Result (Unit {0}) Fault) →
-    ToldTexts told words gds lib net → gds' ≡ gds → lib' ≡ lib → net' ≡ net → HasVerdict gds' lib' net' verdict → IfErr result IsOutOrMemory →
+pub texts_print : (told : Option Contents) (words : List (List ℕ)) (before after : Option (List ℕ)) (gds lib net lib' net' : List ℕ) (verdict : Verdict) (result : Result (Unit {0}) Fault) →
+    ToldTexts told words gds lib net → lib' ≡ lib → net' ≡ net → HasVerdict gds lib' net' verdict → IfErr result IsOutOrMemory →
     OnOk result (after ≡ gained before (verdict_text verdict)) → OnErr result (GainsPrefix before after (verdict_text verdict)) → EqualPrints told words before after (result_err result)
-texts_print told words before after gds lib net gds' lib' net' verdict result held g l t found only added prefix =
+texts_print told words before after gds lib net lib' net' verdict result held l t found only added prefix =
     out_equal_prints told words before after gds lib net verdict result held
-    (subst (λ x. HasVerdict x lib net verdict) g (subst (λ x. HasVerdict gds' x net verdict) l (subst (λ x. HasVerdict gds' lib' x verdict) t found))) only added prefix
+    (subst (λ x. HasVerdict gds x net verdict) l (subst (λ x. HasVerdict gds lib' x verdict) t found)) only added prefix
 
 pub ruleset ends = (loads_answer, loads_equal, loads_count, loads_equal_print, wrong_is_equal, wrong_counts, wrong_failed, wrong_prints, told_wrong, out_is_equal, out_equal_prints, print_counts, print_failed)

@@ -12,7 +12,8 @@ use Rattle.std.proofs.lemmas.Map.Steps.{length-le_from_distinct_below}
 use Rattle.std.proofs.lemmas.Slice.Zip.{AllZip-long}
 use Rattle.geom.specs.declared.shapes.Shape.{Shape}
 use Rattle.geom.specs.declared.shapes.Flat.{Flat}
-use Rattle.geom.specs.FlatForm.{flat_of, flat_count}
+use Rattle.geom.specs.FlatForm.{flat_count}
+use Rattle.poly_cut.specs.FlatForm.{wide_flat}
 use Rattle.layout_rules.specs.Pins.{is_entry}
 use Rattle.layout_rules.proofs.PlaceLaws.{list_any-place}
 use Rattle.chip_circuit.specs.Circuits.{CircuitView}
@@ -75,4 +76,4 @@ cells_few flat circuit is few =
     omega (arith, inputs, frames, cells, few)
 
 pub few : (gds lib : List ℕ) (circuit : CircuitView) → MakesCircuit gds lib circuit → circuit.inputs + length circuit.cells < 2 ^ 32
-few gds lib circuit makes = cells_few (flat_of makes.layout) circuit makes.circuit_is makes.read.flattenable.within
+few gds lib circuit makes = cells_few (wide_flat makes.layout) circuit makes.circuit_is makes.read.within

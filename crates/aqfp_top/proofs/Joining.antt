@@ -2,16 +2,15 @@
 use Rattle.std.proofs.Common.{ℕ, ◌≡◌, ◌≤◌, ◌<◌, ◌++◌, Bool, List, length, sym, refl, subst, ap, ◌∙◌}
 use Rattle.std.specs.Prelude.{All}
 use Rattle.std.specs.List.{flat_map}
-use Rattle.geom.specs.declared.layout.Element.{Element}
-use Rattle.geom.specs.declared.layout.Element.TheVariants.{Box, Place, Text}
 use Rattle.geom.specs.declared.layout.Layout.{Layout}
 use Rattle.geom.specs.declared.shapes.Flat.{Flat}
 use Rattle.geom.specs.FlatForm.{flat_of, flat_count}
-use Rattle.geom.specs.Writable.{IsWritable, IsWritableElement}
-use Rattle.gds_records.specs.Stream.{IsStream}
+use Rattle.geom.specs.Writable.{IsWritable}
+use Rattle.poly_cut.specs.declared.layout.WideLayout.{WideLayout}
+use Rattle.poly_cut.specs.FlatForm.{wide_flat}
+use Rattle.gds_records.specs.Scan.{IsBytes, wide_layout_in}
+use Rattle.gds_records.specs.Stream.{IsStream, IsWideStream}
 use Rattle.gds_records.specs.Writing.{bytes_of}
-use Rattle.gds_read.specs.Flattening.{IsPlaced, IsFlattenable}
-use Rattle.gds_read.specs.Reading.{IsReadAs}
 use Rattle.blif_read.specs.Parts.{NetView}
 use Rattle.blif_read.specs.Netlist.{IsNetlist}
 use Rattle.blif_read.specs.Equations.{IsAnswer as IsNetAnswer}
@@ -21,7 +20,7 @@ use Rattle.cell_library.specs.Library.{LibraryView, limits_of}
 use Rattle.cell_library.specs.Laws.{IsLibrary}
 use Rattle.cell_library.specs.Says as library
 use Rattle.layout_rules.specs.Limits.{Limits}
-use Rattle.layout_rules.specs.Rules.{Keeps}
+use Rattle.layout_rules.specs.Rules.{Keeps, KeepsRules}
 use Rattle.layout_rules.specs.declared.rule.Rule.TheVariants.{E1, E2, E6}
 use Rattle.chip_circuit.specs.Circuits.{CircuitView, KeepsFacts}
 use Rattle.shape_extract.specs.Extraction.{IsCircuitOf}
@@ -39,22 +38,9 @@ use Rattle.drawn_chip.specs.Realises.{Realises}
 use Rattle.drawn_chip.specs.RealisesNet.{RealisesNet, most_bytes}
 use Rattle.drawn_chip.proofs.RealisesAs.{realises_as}
 use Rattle.aqfp_top.specs.Designs.{KeepsLimits, stream_of, counts_of}
-use Rattle.aqfp_top.specs.Checks.{IsSound}
+use Rattle.aqfp_top.specs.Checks.{IsLayoutOf, IsSound}
 use Rattle.aqfp_top.specs.Joined.{PrintsAsNet, VerifiesAsNet}
-
--- what can be written can be read back, where it is of a size that is taken
-placed_element : (count : ℕ) (element : Element) → IsWritableElement count element → IsPlaced count element
-placed_element count (Box s) w = record { left = w.left; bottom = w.bottom; right = w.right; above = w.above }
-placed_element count (Place n x y) w = w
-placed_element count (Text l) w = (w.x, w.y)
-
-flattenable : (layout : Layout) → IsWritable layout → flat_count (flat_of layout) ≤ 8000000 → IsFlattenable layout
-flattenable layout w few = record {
-  top_stands = w.top_stands;
-  each = λ k d lt j e here. placed_element (length layout.structures) _ ((w.each k d lt).elements j e here);
-  shallow = w.shallow;
-  within = few;
-}
+use Rattle.aqfp_top.proofs.DrawnBytes.{drawn_bytes}
 
 -- the counts line of a circuit with the net's counts, before the lines of answers
 text_is : (circuit : CircuitView) (answers : List (List Bool)) →
@@ -78,6 +64,11 @@ pub record Laws : Type 0 where
   pub realised : (p : PlacedView) (l : LibraryView) → MayDraw p l → element_number p ≤ element_limit → RealisesNet p l
   pub one_layout : (bytes : List ℕ) (layout other : Layout) → IsStream bytes layout → IsStream bytes other
       → layout ≡ other
+  pub is_wide : (bytes : List ℕ) (layout : Layout) → IsBytes bytes → IsStream bytes layout
+      → IsWideStream bytes (wide_layout_in bytes)
+  pub same_flat : (bytes : List ℕ) (layout : Layout) → IsBytes bytes → IsStream bytes layout
+      → wide_flat (wide_layout_in bytes) ≡ flat_of layout
+  pub one_wide : (bytes : List ℕ) (layout : WideLayout) → IsWideStream bytes layout → layout ≡ wide_layout_in bytes
   pub one_circuit : (flat : Flat) (limits : Limits) (first second : CircuitView)
       → Keeps E1 flat limits → Keeps E2 flat limits → Keeps E6 flat limits
       → IsCircuitOf flat first → IsCircuitOf flat second → first ≡ second
@@ -112,22 +103,32 @@ module _ (laws : Laws) (net : NetView) (cells : LibraryView) (lawful : IsLibrary
   unfolding stream_of
   few_bytes = made.short
 
-  read : IsReadAs (stream_of net cells) chip.layout
+  made_of_bytes : IsBytes (stream_of net cells)
+  unfolding stream_of
+  made_of_bytes = drawn_bytes (chip_of cells net) cells may_draw
+
+  -- the layout that is read of them has the shapes of the drawing
+  same : wide_flat (wide_layout_in (stream_of net cells)) ≡ flat_of chip.layout
+  same = laws.same_flat (stream_of net cells) chip.layout made_of_bytes chip.stream
+
+  few : flat_count (flat_of chip.layout) ≤ 8000000
+  few = subst (λ layout. flat_count (flat_of layout) ≤ 8000000) (sym (layout_is chip.layout chip.stream)) made.small
+
+  read : IsLayoutOf (stream_of net cells) (wide_layout_in (stream_of net cells))
   read = record {
-    stream = chip.stream;
-    flattenable = subst IsFlattenable (sym (layout_is chip.layout chip.stream))
-        (flattenable _ (laws.writable _ _ may_draw) made.small);
+    stream = laws.is_wide (stream_of net cells) chip.layout made_of_bytes chip.stream;
+    within = subst (λ flat. flat_count flat ≤ 8000000) (sym same) few;
   }
 
   sound : (lib text : List ℕ) → library.Says lib cells → SaysWords net.inputs text →
       IsSound (stream_of net cells) lib text made.circuit
   sound lib text says words = record {
     makes = record {
-      layout = chip.layout;
+      layout = wide_layout_in (stream_of net cells);
       read = read;
       library = record { view = cells; says = says };
-      rules = chip.rules;
-      circuit_is = chip.extracted;
+      rules = subst (λ flat. KeepsRules flat (limits_of cells)) (sym same) chip.rules;
+      circuit_is = subst (λ flat. IsCircuitOf flat made.circuit) (sym same) chip.extracted;
     };
     says = subst (λ width. SaysWords width text) (sym chip.input_count) words;
   }
@@ -136,9 +137,11 @@ module _ (laws : Laws) (net : NetView) (cells : LibraryView) (lawful : IsLibrary
   found : (lib text : List ℕ) (circuit : CircuitView) → IsSound (stream_of net cells) lib text circuit →
       circuit ≡ made.circuit
   found lib text circuit s =
-      let same = laws.one_layout _ s.makes.layout chip.layout s.makes.read.stream chip.stream in
+      let one = laws.one_wide (stream_of net cells) s.makes.layout s.makes.read.stream in
+      let is : IsCircuitOf (wide_flat (wide_layout_in (stream_of net cells))) circuit =
+      subst (λ (layout : WideLayout). IsCircuitOf (wide_flat layout) circuit) one s.makes.circuit_is in
       laws.one_circuit (flat_of chip.layout) (limits_of cells) circuit made.circuit (chip.rules E1) (chip.rules E2)
-      (chip.rules E6) (subst (λ layout. IsCircuitOf (flat_of layout) circuit) same s.makes.circuit_is) chip.extracted
+      (chip.rules E6) (subst (λ flat. IsCircuitOf flat circuit) same is) chip.extracted
 
   -- what is printed of it are the netlist's answers
   printed : (text : List ℕ) → SaysWords net.inputs text → PrintsAsNet net cells made.circuit (words_of text)

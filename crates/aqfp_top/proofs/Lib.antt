@@ -8,6 +8,7 @@ pub mod Steps
 pub mod Forms
 pub mod Runs
 pub mod OneFault
+pub mod OneStream
 pub mod OneCheck
 pub mod OneComparison
 pub mod Comparing
@@ -18,6 +19,7 @@ pub mod OneDue
 pub mod OneStage
 pub mod Sizes
 pub mod Headline
+pub mod DrawnBytes
 pub mod Joining
 pub mod Showing
 pub mod Sampling

@@ -1,16 +1,19 @@
 -- A stream, its size, its shapes and words have one fault each at most, and none where all is well.
-use Rattle.std.proofs.Common.{ℕ, ◌≡◌, ◌<◌, ◌≤◌, ◌+◌, inl, inr, arith, true, List, length, All, take, slice_get, Some, sym, subst, ap, ◌∙◌}
+use Rattle.std.proofs.Common.{ℕ, ◌≡◌, ◌<◌, ◌≤◌, ◌+◌, ◌-◌, ◌^◌, inl, inr, arith, true, List, length, All, take, slice_get, Some, sym, subst, ap, ◌∙◌}
+use Rattle.std.proofs.Math.Nat.{min-le_left}
 use Rattle.std.proofs.lemmas.Bool.{cases_order}
 use Rattle.std.proofs.lemmas.List.{get_or-take, length-take}
 use Rattle.std.proofs.lemmas.Option.{get_or_from_slice_get, slice_get_within}
 use Rattle.std.specs.Str.Lines.{lines}
 use Rattle.geom.specs.declared.shapes.Flat.{Flat}
-use Rattle.geom.specs.declared.layout.Layout.{Layout}
-use Rattle.geom.specs.FlatForm.{flat_of, flat_count}
-use Rattle.gds_records.specs.Stream.{IsStream}
-use Rattle.gds_records.specs.Faults.{StreamFault}
+use Rattle.geom.specs.FlatForm.{flat_count}
+use Rattle.poly_cut.specs.declared.layout.WideLayout.{WideLayout}
+use Rattle.poly_cut.specs.FlatForm.{wide_flat}
+use Rattle.poly_cut.specs.Counts.{told, wide_count}
+use Rattle.gds_records.specs.Stream.{IsWideStream}
+use Rattle.gds_records.specs.Faults.{WideFault}
 use Rattle.gds_records.specs.declared.fault.StreamKind.{StreamKind}
-use Rattle.gds_read.specs.Reading.{IsReadAs, IsTooLarge}
+use Rattle.gds_read.specs.WideReading.{IsWideTooLarge}
 use Rattle.layout_rules.specs.declared.rule.Rule.{Rule}
 use Rattle.layout_rules.specs.declared.rule.Rule.TheVariants.{E1, E2, E6}
 use Rattle.layout_rules.specs.Limits.{Limits}
@@ -20,7 +23,7 @@ use Rattle.layout_rules.specs.Rules.{IsOneReport}
 use Rattle.chip_circuit.specs.Circuits.{CircuitView}
 use Rattle.shape_extract.specs.Extraction.{IsCircuitOf}
 use Rattle.chip_texts.specs.WordsText.{is_word, SaysWords, IsBadLine}
-use Rattle.aqfp_top.specs.Checks.{IsUnruly, MakesCircuit, IsMisworded, IsSound, IsStreamFault, IsSizeFault, IsRuleFault, IsWordsFault}
+use Rattle.aqfp_top.specs.Checks.{IsLayoutOf, IsUnruly, MakesCircuit, IsMisworded, IsSound, IsStreamFault, IsSizeFault, IsRuleFault, IsWordsFault}
 use Rattle.aqfp_top.specs.declared.fault.Large.TheVariants.{Shapes}
 use Rattle.aqfp_top.specs.declared.fault.Fault.{Fault}
 use Rattle.aqfp_top.specs.declared.fault.Fault.TheVariants.{TooLarge, BadStream, RuleBroken, BadWords}
@@ -28,11 +31,11 @@ use Rattle.aqfp_top.proofs.OneFault.{same_said}
 
 -- what holds of each fault of a stage holds of whatever it finds
 
-each_stream : (P : Fault → Type 0) (gds : List ℕ) → ((offset : ℕ) (kind : StreamKind) → StreamFault gds offset kind → P (BadStream offset kind)) → (fault : Fault) → IsStreamFault gds fault → P fault
+each_stream : (P : Fault → Type 0) (gds : List ℕ) → ((offset : ℕ) (kind : StreamKind) → WideFault gds offset kind → P (BadStream offset kind)) → (fault : Fault) → IsStreamFault gds fault → P fault
 each_stream P gds stream (BadStream offset kind) bad = stream offset kind bad
 each_stream P gds stream _ bad = absurd bad
 
-each_size : (P : Fault → Type 0) (gds : List ℕ) → ((count : ℕ) → IsTooLarge gds count → P (TooLarge Shapes count)) → (fault : Fault) → IsSizeFault gds fault → P fault
+each_size : (P : Fault → Type 0) (gds : List ℕ) → ((count : ℕ) → IsWideTooLarge gds count → P (TooLarge Shapes count)) → (fault : Fault) → IsSizeFault gds fault → P fault
 each_size P gds large (TooLarge Shapes count) bad = large count bad
 each_size P gds large _ bad = absurd bad
 
@@ -67,33 +70,38 @@ same_line width text a b p q = elim (cases_order p.index q.index) [
   ]
 ]
 
+-- a number as 64 bits tell it is not above it
+not_above : (n count : ℕ) → n ≤ 8000000 → count ≡ told n → 8000000 < count → ⊥
+not_above n count fits is above = let less : told n ≤ n = min-le_left n (2 ^ 64 - 1) in omega (arith, fits, above, is, less)
+
 -- The stream.
 
-module _ (not_both : (bytes : List ℕ) (layout : Layout) (offset : ℕ) (kind : StreamKind) → IsStream bytes layout → StreamFault bytes offset kind → ⊥) where
-  pub stream_none : (gds : List ℕ) (layout : Layout) → IsStream gds layout → (fault : Fault) → ¬ IsStreamFault gds fault
+module _ (not_both : (bytes : List ℕ) (layout : WideLayout) (offset : ℕ) (kind : StreamKind) → IsWideStream bytes layout → WideFault bytes offset kind → ⊥) where
+  pub stream_none : (gds : List ℕ) (layout : WideLayout) → IsWideStream gds layout → (fault : Fault) → ¬ IsStreamFault gds fault
   stream_none gds layout stream fault bad = each_stream (λ f. ⊥) gds (λ o k x. not_both gds layout o k stream x) fault bad
 
-module _ (one_fault : (bytes : List ℕ) (offset other : ℕ) (kind second : StreamKind) → StreamFault bytes offset kind → StreamFault bytes other second → (offset ≡ other) × (kind ≡ second)) where
+module _ (one_fault : (bytes : List ℕ) (offset other : ℕ) (kind second : StreamKind) → WideFault bytes offset kind → WideFault bytes other second → (offset ≡ other) × (kind ≡ second)) where
   pub one_stream_fault : (gds : List ℕ) (f g : Fault) → IsStreamFault gds f → IsStreamFault gds g → f ≡ g
   one_stream_fault gds f g p q = each_stream (λ f. f ≡ g) gds
       (λ o k x. each_stream (λ g. BadStream o k ≡ g) gds (λ o' k' y. (let one = one_fault gds o o' k k' x y in λ i. BadStream (one.0 i) (one.1 i))) g q) f p
 
 -- Its size, and its rules.
 
-module _ (one_layout : (bytes : List ℕ) (layout other : Layout) → IsStream bytes layout → IsStream bytes other → layout ≡ other) where
-  not_large : (gds : List ℕ) (count : ℕ) (layout : Layout) → IsTooLarge gds count → IsReadAs gds layout → ⊥
-  not_large gds count layout large read =
-      let same : large.layout ≡ layout = one_layout gds large.layout layout large.stream read.stream in
-      let fits : flat_count (flat_of layout) ≤ 8000000 = read.flattenable.within in
-      let above : 8000000 < count = large.above in
-      let is : count ≡ flat_count (flat_of layout) = large.count_is ∙ ap (λ l. flat_count (flat_of l)) same in
-      omega (arith, fits, above, is)
+module _ (one_layout : (bytes : List ℕ) (layout other : WideLayout) → IsWideStream bytes layout → IsWideStream bytes other → layout ≡ other) where
+  module _ (exact : (layout : WideLayout) → wide_count layout ≡ flat_count (wide_flat layout)) where
+    not_large : (gds : List ℕ) (count : ℕ) (layout : WideLayout) → IsWideTooLarge gds count → IsLayoutOf gds layout → ⊥
+    not_large gds count layout large read =
+        let same : large.layout ≡ layout = one_layout gds large.layout layout large.stream read.stream in
+        let fits : flat_count (wide_flat layout) ≤ 8000000 = read.within in
+        let above : 8000000 < count = large.above in
+        let is : count ≡ told (flat_count (wide_flat layout)) = large.count_is ∙ ap told (ap wide_count same ∙ exact layout) in
+        not_above (flat_count (wide_flat layout)) count fits is above
 
-  pub size_none : (gds : List ℕ) (layout : Layout) → IsReadAs gds layout → (fault : Fault) → ¬ IsSizeFault gds fault
-  size_none gds layout read fault bad = each_size (λ f. ⊥) gds (λ n x. not_large gds n layout x read) fault bad
+    pub size_none : (gds : List ℕ) (layout : WideLayout) → IsLayoutOf gds layout → (fault : Fault) → ¬ IsSizeFault gds fault
+    size_none gds layout read fault bad = each_size (λ f. ⊥) gds (λ n x. not_large gds n layout x read) fault bad
 
-  same_count : (gds : List ℕ) (a b : ℕ) → IsTooLarge gds a → IsTooLarge gds b → a ≡ b
-  same_count gds a b p q = p.count_is ∙ (ap (λ l. flat_count (flat_of l)) (one_layout gds p.layout q.layout p.stream q.stream) ∙ sym q.count_is)
+  same_count : (gds : List ℕ) (a b : ℕ) → IsWideTooLarge gds a → IsWideTooLarge gds b → a ≡ b
+  same_count gds a b p q = p.count_is ∙ (ap (λ l. told (wide_count l)) (one_layout gds p.layout q.layout p.stream q.stream) ∙ sym q.count_is)
 
   pub one_size_fault : (gds : List ℕ) (f g : Fault) → IsSizeFault gds f → IsSizeFault gds g → f ≡ g
   one_size_fault gds f g p q = each_size (λ f. f ≡ g) gds (λ n x. each_size (λ g. TooLarge Shapes n ≡ g) gds (λ m y. ap (TooLarge Shapes) (same_count gds n m x y)) g q) f p
@@ -102,8 +110,8 @@ module _ (one_layout : (bytes : List ℕ) (layout other : Layout) → IsStream b
   not_unruly gds lib rule a b circuit unruly makes =
       let layout : unruly.layout ≡ makes.layout = one_layout gds unruly.layout makes.layout unruly.read.stream makes.read.stream in
       let cells : unruly.library.view ≡ makes.library.view = same_said lib unruly.library.view makes.library.view unruly.library.says makes.library.says in
-      let broken : FirstBroken (flat_of makes.layout) (limits_of makes.library.view) rule a b =
-      subst (λ c. FirstBroken (flat_of makes.layout) (limits_of c) rule a b) cells (subst (λ l. FirstBroken (flat_of l) (limits_of unruly.library.view) rule a b) layout unruly.broken) in
+      let broken : FirstBroken (wide_flat makes.layout) (limits_of makes.library.view) rule a b =
+      subst (λ c. FirstBroken (wide_flat makes.layout) (limits_of c) rule a b) cells (subst (λ l. FirstBroken (wide_flat l) (limits_of unruly.library.view) rule a b) layout unruly.broken) in
       makes.rules rule a b broken.report.reported
 
   pub rules_none : (gds lib : List ℕ) (circuit : CircuitView) → MakesCircuit gds lib circuit → (fault : Fault) → ¬ IsRuleFault gds lib fault
@@ -114,9 +122,9 @@ module _ (one_layout : (bytes : List ℕ) (layout other : Layout) → IsStream b
     same_rule gds lib r s a b c d p q =
         let layout : p.layout ≡ q.layout = one_layout gds p.layout q.layout p.read.stream q.read.stream in
         let cells : p.library.view ≡ q.library.view = same_said lib p.library.view q.library.view p.library.says q.library.says in
-        let broken : FirstBroken (flat_of q.layout) (limits_of q.library.view) r a b =
-        subst (λ v. FirstBroken (flat_of q.layout) (limits_of v) r a b) cells (subst (λ l. FirstBroken (flat_of l) (limits_of p.library.view) r a b) layout p.broken) in
-        let one = broken_once (flat_of q.layout) (limits_of q.library.view) r s a b c d broken q.broken in
+        let broken : FirstBroken (wide_flat q.layout) (limits_of q.library.view) r a b =
+        subst (λ v. FirstBroken (wide_flat q.layout) (limits_of v) r a b) cells (subst (λ l. FirstBroken (wide_flat l) (limits_of p.library.view) r a b) layout p.broken) in
+        let one = broken_once (wide_flat q.layout) (limits_of q.library.view) r s a b c d broken q.broken in
         λ i. RuleBroken (one.one_rule i) (one.one_first i) (one.one_second i)
 
     pub one_rule_fault : (gds lib : List ℕ) (f g : Fault) → IsRuleFault gds lib f → IsRuleFault gds lib g → f ≡ g
@@ -126,8 +134,8 @@ module _ (one_layout : (bytes : List ℕ) (layout other : Layout) → IsStream b
     pub same_circuit : (gds lib : List ℕ) (first second : CircuitView) → MakesCircuit gds lib first → MakesCircuit gds lib second → first ≡ second
     same_circuit gds lib first second p q =
         let same : p.layout ≡ q.layout = one_layout gds p.layout q.layout p.read.stream q.read.stream in
-        let circuit_is : IsCircuitOf (flat_of q.layout) first = subst (λ l. IsCircuitOf (flat_of l) first) same p.circuit_is in
-        one_circuit (flat_of q.layout) (limits_of q.library.view) first second (q.rules E1) (q.rules E2) (q.rules E6) circuit_is q.circuit_is
+        let circuit_is : IsCircuitOf (wide_flat q.layout) first = subst (λ l. IsCircuitOf (wide_flat l) first) same p.circuit_is in
+        one_circuit (wide_flat q.layout) (limits_of q.library.view) first second (q.rules E1) (q.rules E2) (q.rules E6) circuit_is q.circuit_is
 
     pub words_none : (gds lib text : List ℕ) (circuit : CircuitView) → IsSound gds lib text circuit → (fault : Fault) → ¬ IsWordsFault gds lib text fault
     words_none gds lib text circuit sound fault bad = each_words (λ f. ⊥) gds lib text

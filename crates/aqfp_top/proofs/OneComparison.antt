@@ -1,8 +1,8 @@
 -- Whether the counts of a chip and of a netlist are the same has one answer.
 use Rattle.std.proofs.Common.{ℕ, ◌≡◌, List, length, sym, ap, subst, ◌∙◌}
 use Rattle.geom.specs.declared.shapes.Flat.{Flat}
-use Rattle.geom.specs.declared.layout.Layout.{Layout}
-use Rattle.gds_records.specs.Stream.{IsStream}
+use Rattle.poly_cut.specs.declared.layout.WideLayout.{WideLayout}
+use Rattle.gds_records.specs.Stream.{IsWideStream}
 use Rattle.layout_rules.specs.declared.rule.Rule.TheVariants.{E1, E2, E6}
 use Rattle.layout_rules.specs.Limits.{Limits}
 use Rattle.layout_rules.specs.Rules.{Keeps}
@@ -20,7 +20,7 @@ each_widths : (P : Fault → Type 0) (gds lib net : List ℕ) → ((a b c d : �
 each_widths P gds lib net widths (Widths a b c d) bad = widths a b c d bad
 each_widths P gds lib net widths _ bad = absurd bad
 
-module _ (one_layout : (bytes : List ℕ) (layout other : Layout) → IsStream bytes layout → IsStream bytes other → layout ≡ other)
+module _ (one_layout : (bytes : List ℕ) (layout other : WideLayout) → IsWideStream bytes layout → IsWideStream bytes other → layout ≡ other)
     (one_circuit : (flat : Flat) (limits : Limits) (first second : CircuitView) → Keeps E1 flat limits → Keeps E2 flat limits → Keeps E6 flat limits → IsCircuitOf flat first → IsCircuitOf flat second → first ≡ second) where
   same_widths : (gds lib net : List ℕ) (a b c d e f g h : ℕ) → HasWidths gds lib net a b c d → HasWidths gds lib net e f g h → ◌≡◌ {A = Fault} (Widths a b c d) (Widths e f g h)
   same_widths gds lib net a b c d e f g h p q =

@@ -3,9 +3,9 @@ use Rattle.std.proofs.Common.{ℕ, ◌≡◌, ◌≢◌, List, ap}
 use Rattle.blif_read.specs.Parts.{NetView}
 use Rattle.cell_library.specs.Library.{LibraryView}
 use Rattle.geom.specs.declared.shapes.Flat.{Flat}
-use Rattle.geom.specs.declared.layout.Layout.{Layout}
-use Rattle.gds_records.specs.Stream.{IsStream}
-use Rattle.gds_records.specs.Faults.{StreamFault}
+use Rattle.poly_cut.specs.declared.layout.WideLayout.{WideLayout}
+use Rattle.gds_records.specs.Stream.{IsWideStream}
+use Rattle.gds_records.specs.Faults.{WideFault}
 use Rattle.gds_records.specs.declared.fault.StreamKind.{StreamKind}
 use Rattle.layout_rules.specs.declared.rule.Rule.{Rule}
 use Rattle.layout_rules.specs.declared.rule.Rule.TheVariants.{E1, E2, E6}
@@ -29,8 +29,8 @@ use Rattle.aqfp_top.proofs.OneComparison.{one_widths_fault}
 
 module _ (past : (l : LibraryView) (net : NetView) (refusal : PlanRefusal) → refusal ≢ plan.Memory → Refuses l net refusal → IsWithin l net → ⊥)
     (only : (l : LibraryView) (net : NetView) (one other : PlanRefusal) → one ≢ plan.Memory → other ≢ plan.Memory → Refuses l net one → Refuses l net other → one ≡ other)
-    (one_layout : (bytes : List ℕ) (layout other : Layout) → IsStream bytes layout → IsStream bytes other → layout ≡ other)
-    (one_fault : (bytes : List ℕ) (offset other : ℕ) (kind second : StreamKind) → StreamFault bytes offset kind → StreamFault bytes other second → (offset ≡ other) × (kind ≡ second))
+    (one_layout : (bytes : List ℕ) (layout other : WideLayout) → IsWideStream bytes layout → IsWideStream bytes other → layout ≡ other)
+    (one_fault : (bytes : List ℕ) (offset other : ℕ) (kind second : StreamKind) → WideFault bytes offset kind → WideFault bytes other second → (offset ≡ other) × (kind ≡ second))
     (broken_once : (flat : Flat) (limits : Limits) (rule other : Rule) (a b c d : ℕ) → FirstBroken flat limits rule a b → FirstBroken flat limits other c d → IsOneReport rule other a b c d)
     (one_circuit : (flat : Flat) (limits : Limits) (first second : CircuitView) → Keeps E1 flat limits → Keeps E2 flat limits → Keeps E6 flat limits → IsCircuitOf flat first → IsCircuitOf flat second → first ≡ second) where
   pub once : (s : Stage) (f g : Fault) → Finds s f → Finds s g → untaken f ≡ untaken g

@@ -71,29 +71,28 @@ texts_answer files words gds lib answer held a b answers =
     (subst (λ g. Answers (circuit_stages g (bytes_at files words 2)) answer) (sym (held_bytes files words 1 gds held.0))
     (subst (λ l. Answers (circuit_stages gds l) answer) (sym (held_bytes files words 2 lib held.1)) answers)))
 
--- the same of texts that are these, where the store is told
-told_answer : (told : Option Contents) (words : List (List ℕ)) (gds lib gds' lib' : List ℕ) (answer : Option Fault) → ToldTexts told words gds lib → length gds ≤ gds_limit → length lib ≤ lib_limit
-    → gds' ≡ gds → lib' ≡ lib → Answers (circuit_stages gds' lib') answer → ToldAnswers write_stages told words answer
-told_answer None words gds lib gds' lib' answer held a b g l answers = tt
-told_answer (Some files) words gds lib gds' lib' answer held a b g l answers =
-    texts_answer files words gds lib answer held a b
-    (subst (λ x. Answers (circuit_stages x lib) answer) g (subst (λ x. Answers (circuit_stages gds' x) answer) l answers))
+-- the same of a library's text that is this, where the store is told
+told_answer : (told : Option Contents) (words : List (List ℕ)) (gds lib lib' : List ℕ) (answer : Option Fault) → ToldTexts told words gds lib → length gds ≤ gds_limit → length lib ≤ lib_limit
+    → lib' ≡ lib → Answers (circuit_stages gds lib') answer → ToldAnswers write_stages told words answer
+told_answer None words gds lib lib' answer held a b l answers = tt
+told_answer (Some files) words gds lib lib' answer held a b l answers =
+    texts_answer files words gds lib answer held a b (subst (λ x. Answers (circuit_stages gds x) answer) l answers)
 
-pub told_no_circuit : (told : Option Contents) (words : List (List ℕ)) (gds lib gds' lib' : List ℕ) (fault : Fault) → ToldTexts told words gds lib → length gds ≤ gds_limit → length lib ≤ lib_limit
-    → gds' ≡ gds → lib' ≡ lib → ((rest : List Stage) → Answers (circuit_then gds' lib' rest) (Some fault)) → ToldAnswers write_stages told words (Some fault)
-told_no_circuit told words gds lib gds' lib' fault held a b g l bad = told_answer told words gds lib gds' lib' (Some fault) held a b g l (bad [])
+pub told_no_circuit : (told : Option Contents) (words : List (List ℕ)) (gds lib lib' : List ℕ) (fault : Fault) → ToldTexts told words gds lib → length gds ≤ gds_limit → length lib ≤ lib_limit
+    → lib' ≡ lib → ((rest : List Stage) → Answers (circuit_then gds lib' rest) (Some fault)) → ToldAnswers write_stages told words (Some fault)
+told_no_circuit told words gds lib lib' fault held a b l bad = told_answer told words gds lib lib' (Some fault) held a b l (bad [])
 
-pub told_well : (told : Option Contents) (words : List (List ℕ)) (gds lib gds' lib' : List ℕ) → ToldTexts told words gds lib → length gds ≤ gds_limit → length lib ≤ lib_limit
-    → gds' ≡ gds → lib' ≡ lib → IsFirst (circuit_stages gds' lib') None → ToldAnswers write_stages told words None
-told_well told words gds lib gds' lib' held a b g l well = told_answer told words gds lib gds' lib' None held a b g l well
+pub told_well : (told : Option Contents) (words : List (List ℕ)) (gds lib lib' : List ℕ) → ToldTexts told words gds lib → length gds ≤ gds_limit → length lib ≤ lib_limit
+    → lib' ≡ lib → IsFirst (circuit_stages gds lib') None → ToldAnswers write_stages told words None
+told_well told words gds lib lib' held a b l well = told_answer told words gds lib lib' None held a b l well
 
-pub reads_chip : (told : Option Contents) (words : List (List ℕ)) (gds lib gds' lib' : List ℕ) (circuit : CircuitView) → ToldTexts told words gds lib → gds' ≡ gds → lib' ≡ lib
-    → MakesCircuit gds' lib' circuit → KeepsFacts circuit → ReadsChip told words circuit
-reads_chip told words gds lib gds' lib' circuit held g l makes keeps = record {
+pub reads_chip : (told : Option Contents) (words : List (List ℕ)) (gds lib lib' : List ℕ) (circuit : CircuitView) → ToldTexts told words gds lib → lib' ≡ lib
+    → MakesCircuit gds lib' circuit → KeepsFacts circuit → ReadsChip told words circuit
+reads_chip told words gds lib lib' circuit held l makes keeps = record {
   gds = gds;
   lib = lib;
   held = held;
-  makes = subst (λ x. MakesCircuit x lib circuit) g (subst (λ x. MakesCircuit gds' x circuit) l makes);
+  makes = subst (λ x. MakesCircuit gds x circuit) l makes;
   keeps = keeps;
 }
 

@@ -1,11 +1,13 @@
 -- What verify and trace make of the texts of a layout, of a library and of words: their circuit, or a fault of the
 -- stream, of its size, of the rules or of the words; and what they print.
-use Rattle.std.specs.Prelude.{ℕ, ◌≡◌, ◌⊎◌, Bool, All, List, length, Option, Some, None}
+use Rattle.std.specs.Prelude.{ℕ, ◌≡◌, ◌⊎◌, ◌≤◌, Bool, All, List, length, Option, Some, None}
 use Rattle.aq_base.specs.Store.{Contents, gained, GainsPrefix}
-use Rattle.geom.specs.declared.layout.Layout.{Layout}
-use Rattle.geom.specs.FlatForm.{flat_of}
-use Rattle.gds_records.specs.Faults.{StreamFault}
-use Rattle.gds_read.specs.Reading.{IsReadAs, IsTooLarge}
+use Rattle.geom.specs.FlatForm.{flat_count}
+use Rattle.poly_cut.specs.declared.layout.WideLayout.{WideLayout}
+use Rattle.poly_cut.specs.FlatForm.{wide_flat}
+use Rattle.gds_records.specs.Stream.{IsWideStream}
+use Rattle.gds_records.specs.Faults.{WideFault}
+use Rattle.gds_read.specs.WideReading.{IsWideTooLarge}
 use Rattle.layout_rules.specs.declared.rule.Rule.{Rule}
 use Rattle.layout_rules.specs.Rules.{KeepsRules, FirstBroken}
 use Rattle.cell_library.specs.Library.{limits_of}
@@ -22,20 +24,25 @@ use Rattle.aqfp_top.specs.declared.fault.Large.TheVariants.{Shapes}
 use Rattle.aqfp_top.specs.declared.fault.Fault.{Fault}
 use Rattle.aqfp_top.specs.declared.fault.Fault.TheVariants.{WriteFault, TooLarge, BadStream, RuleBroken, BadWords, Memory}
 
+-- the bytes are a wide stream of this layout, whose flat form is of a size that is taken
+pub record IsLayoutOf (gds : List ℕ) (layout : WideLayout) : Type 0 where
+  pub stream : IsWideStream gds layout
+  pub within : flat_count (wide_flat layout) ≤ 8000000
+
 -- the layout's shapes break a rule with the numbers of the library: this one first
 pub record IsUnruly (gds lib : List ℕ) (rule : Rule) (first second : ℕ) : Type 0 where
-  pub layout : Layout
-  pub read : IsReadAs gds layout
+  pub layout : WideLayout
+  pub read : IsLayoutOf gds layout
   pub library : SaysLibrary lib
-  pub broken : FirstBroken (flat_of layout) (limits_of library.view) rule first second
+  pub broken : FirstBroken (wide_flat layout) (limits_of library.view) rule first second
 
 -- the layout's shapes keep all rules with the numbers of the library, and make this circuit
 pub record MakesCircuit (gds lib : List ℕ) (circuit : CircuitView) : Type 0 where
-  pub layout : Layout
-  pub read : IsReadAs gds layout
+  pub layout : WideLayout
+  pub read : IsLayoutOf gds layout
   pub library : SaysLibrary lib
-  pub rules : KeepsRules (flat_of layout) (limits_of library.view)
-  pub circuit_is : IsCircuitOf (flat_of layout) circuit
+  pub rules : KeepsRules (wide_flat layout) (limits_of library.view)
+  pub circuit_is : IsCircuitOf (wide_flat layout) circuit
 
 -- the first line of the words that is no word for the circuit
 pub record IsMisworded (gds lib text : List ℕ) (line : ℕ) : Type 0 where
@@ -54,12 +61,12 @@ pub record SaysSound (gds lib text : List ℕ) : Type 0 where
 
 -- the bytes of a layout have this fault
 abbrev pub IsStreamFault : List ℕ → Fault → Type 0
-IsStreamFault gds (BadStream offset kind) = StreamFault gds offset kind
+IsStreamFault gds (BadStream offset kind) = WideFault gds offset kind
 IsStreamFault gds _ = ⊥
 
 -- the layout has too many shapes
 abbrev pub IsSizeFault : List ℕ → Fault → Type 0
-IsSizeFault gds (TooLarge Shapes count) = IsTooLarge gds count
+IsSizeFault gds (TooLarge Shapes count) = IsWideTooLarge gds count
 IsSizeFault gds _ = ⊥
 
 -- its shapes break this rule first

@@ -2,9 +2,9 @@
 use Rattle.std.specs.Prelude.{◌≡◌, ℕ, Bool, All, List, length, Option, Some}
 use Rattle.std.specs.List.{AllZip}
 use Rattle.aq_base.specs.Store.{Contents, gained}
-use Rattle.geom.specs.declared.layout.Layout.{Layout}
-use Rattle.geom.specs.FlatForm.{flat_of}
-use Rattle.gds_records.specs.Stream.{IsStream}
+use Rattle.poly_cut.specs.declared.layout.WideLayout.{WideLayout}
+use Rattle.poly_cut.specs.FlatForm.{wide_flat}
+use Rattle.gds_records.specs.Stream.{IsWideStream}
 use Rattle.cell_library.specs.Library.{LibraryView, limits_of}
 use Rattle.cell_library.specs.Says as library
 use Rattle.layout_rules.specs.Rules.{KeepsRules}
@@ -27,7 +27,7 @@ pub record ShowsNet (circuit : CircuitView) (equations : NetView) (given : List 
   pub are_answers : AllZip (IsAnswer equations) given answers
   pub shows : Shows circuit (delay_of circuit) given answers
 
--- The bytes under GDS are a stream, those under LIB say a library, the layout's shapes keep all rules with its
+-- The bytes under GDS are a wide stream, those under LIB say a library, the layout's shapes keep all rules with its
 -- numbers and make this circuit, and the text under NET says these equations. What was printed is true of the two: they
 -- answer every word alike, and so the chip shows the netlist's answers in every run; or this is the least output, and
 -- its least word, at which they differ.
@@ -38,13 +38,13 @@ pub record ComparesChip (held : Contents) (words : List (List ℕ)) (before afte
   pub gds_held : held (word_at words 1) ≡ Some gds
   pub lib_held : held (word_at words 2) ≡ Some lib
   pub net_held : held (word_at words 3) ≡ Some net
-  pub layout : Layout
-  pub stream : IsStream gds layout
+  pub layout : WideLayout
+  pub stream : IsWideStream gds layout
   pub cells : LibraryView
   pub lib_says : library.Says lib cells
-  pub rules : KeepsRules (flat_of layout) (limits_of cells)
+  pub rules : KeepsRules (wide_flat layout) (limits_of cells)
   pub circuit : CircuitView
-  pub extracted : IsCircuitOf (flat_of layout) circuit
+  pub extracted : IsCircuitOf (wide_flat layout) circuit
   pub circuit_keeps : KeepsFacts circuit
   pub equations : NetView
   pub net_says : netlist.Says net equations

@@ -1,9 +1,9 @@
 -- What a verify or a trace that ends well has shown of the chip under GDS.
 use Rattle.std.specs.Prelude.{◌≡◌, ℕ, Bool, List, Option, Some}
 use Rattle.aq_base.specs.Store.{Contents, gained}
-use Rattle.geom.specs.declared.layout.Layout.{Layout}
-use Rattle.geom.specs.FlatForm.{flat_of}
-use Rattle.gds_records.specs.Stream.{IsStream}
+use Rattle.poly_cut.specs.declared.layout.WideLayout.{WideLayout}
+use Rattle.poly_cut.specs.FlatForm.{wide_flat}
+use Rattle.gds_records.specs.Stream.{IsWideStream}
 use Rattle.cell_library.specs.Library.{LibraryView, limits_of}
 use Rattle.cell_library.specs.Says as library
 use Rattle.layout_rules.specs.Rules.{KeepsRules}
@@ -16,7 +16,7 @@ use Rattle.chip_texts.specs.WordLines.{answers_text}
 use Rattle.chip_texts.specs.FluxLines.{trace_text}
 use Rattle.aqfp_top.specs.Words.{word_at}
 
--- The bytes under GDS are a stream, those under LIB say a library, the layout's shapes keep all rules with its
+-- The bytes under GDS are a wide stream, those under LIB say a library, the layout's shapes keep all rules with its
 -- numbers and make this circuit, and the lines under WORDS are these words for it.
 pub record ChecksChip (held : Contents) (words : List (List ℕ)) (circuit : CircuitView)
     (given : List (List Bool)) : Type 0 where
@@ -26,12 +26,12 @@ pub record ChecksChip (held : Contents) (words : List (List ℕ)) (circuit : Cir
   pub gds_held : held (word_at words 1) ≡ Some gds
   pub lib_held : held (word_at words 2) ≡ Some lib
   pub text_held : held (word_at words 3) ≡ Some text
-  pub layout : Layout
-  pub stream : IsStream gds layout
+  pub layout : WideLayout
+  pub stream : IsWideStream gds layout
   pub cells : LibraryView
   pub lib_says : library.Says lib cells
-  pub rules : KeepsRules (flat_of layout) (limits_of cells)
-  pub extracted : IsCircuitOf (flat_of layout) circuit
+  pub rules : KeepsRules (wide_flat layout) (limits_of cells)
+  pub extracted : IsCircuitOf (wide_flat layout) circuit
   pub text_says : SaysWords circuit.inputs text
   pub given_is : given ≡ words_of text
 

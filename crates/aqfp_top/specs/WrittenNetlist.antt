@@ -1,9 +1,9 @@
 -- What a `netlist` that ends well has stored and printed: the circuit of the chip under GDS, and its counts.
 use Rattle.std.specs.Prelude.{◌≡◌, ℕ, List, Option, Some}
 use Rattle.aq_base.specs.Store.{Contents, with_file, gained}
-use Rattle.geom.specs.declared.layout.Layout.{Layout}
-use Rattle.geom.specs.FlatForm.{flat_of}
-use Rattle.gds_records.specs.Stream.{IsStream}
+use Rattle.poly_cut.specs.declared.layout.WideLayout.{WideLayout}
+use Rattle.poly_cut.specs.FlatForm.{wide_flat}
+use Rattle.gds_records.specs.Stream.{IsWideStream}
 use Rattle.cell_library.specs.Library.{LibraryView, limits_of}
 use Rattle.cell_library.specs.Says as library
 use Rattle.layout_rules.specs.Rules.{KeepsRules}
@@ -14,22 +14,23 @@ use Rattle.blif_flat.specs.BlifText.{blif_text}
 use Rattle.blif_flat.specs.Written.{AnswersAsWritten}
 use Rattle.aqfp_top.specs.Words.{word_at}
 
--- The bytes are those that GDS and LIB held when the run began, though OUT may have the name of one of them: a stream,
--- and a library's text. The layout's shapes keep all rules with the library's numbers and make this circuit. OUT holds
--- the circuit's text, and no other name has changed; the text says a netlist that answers every word as the circuit.
+-- The bytes are those that GDS and LIB held when the run began, though OUT may have the name of one of them: a wide
+-- stream, and a library's text. The layout's shapes keep all rules with the library's numbers and make this circuit.
+-- OUT holds the circuit's text, and no other name has changed; the text says a netlist that answers every word as the
+-- circuit.
 pub record WritesNetlist (held : Contents) (after : Option Contents) (words : List (List ℕ))
     (printed_before printed_after : Option (List ℕ)) : Type 0 where
   pub gds : List ℕ
   pub lib : List ℕ
   pub gds_held : held (word_at words 1) ≡ Some gds
   pub lib_held : held (word_at words 2) ≡ Some lib
-  pub layout : Layout
-  pub stream : IsStream gds layout
+  pub layout : WideLayout
+  pub stream : IsWideStream gds layout
   pub cells : LibraryView
   pub lib_says : library.Says lib cells
-  pub rules : KeepsRules (flat_of layout) (limits_of cells)
+  pub rules : KeepsRules (wide_flat layout) (limits_of cells)
   pub circuit : CircuitView
-  pub extracted : IsCircuitOf (flat_of layout) circuit
+  pub extracted : IsCircuitOf (wide_flat layout) circuit
   pub circuit_keeps : KeepsFacts circuit
   pub stored : after ≡ Some (with_file held (word_at words 3) (blif_text circuit))
   pub answers : AnswersAsWritten circuit

@@ -1,11 +1,9 @@
 // `verify GDS LIB WORDS` and `trace GDS LIB WORDS`.
-ghost use Rattle.std.specs.Prelude.{◌≡◌, ◌≤◌, ◌^◌, ◌<◌, All, List, ◌∷◌, Some, None, length, IsErrOf, IsSome, IfOk, IfErr, OnOk, OnErr};
+ghost use Rattle.std.specs.Prelude.{◌≡◌, ◌≤◌, ◌^◌, ◌<◌, ℕ, All, List, ◌∷◌, Some, None, length, IsErrOf, IsSome, IfOk, IfErr, OnOk, OnErr};
 ghost use Rattle.std.specs.Result.{result_err};
 ghost use Rattle.aq_base.specs.Causes.{Rose, HasCause};
 ghost use Rattle.aq_base.specs.Store.{gained, GainsPrefix};
-ghost use Rattle.gds_read.specs.Reading.{IsReadAs};
-ghost use Rattle.cell_library.specs.Says as library;
-ghost use Rattle.chip_texts.specs.WordsText.{words_of};
+ghost use Rattle.chip_texts.specs.WordsText.{words_of, SaysWords};
 ghost use Rattle.aqfp_top.specs.Words.{spelled, word_at};
 ghost use Rattle.aqfp_top.specs.Counted.{HasFaults, FailedLoad};
 ghost use Rattle.aqfp_top.specs.Loads.{gds_limit, lib_limit, words_limit, check_loads};
@@ -22,7 +20,7 @@ use crate::fault::{Fault, WriteCall};
 use crate::reading::{load_texts, read_circuit};
 use aq_base::{Files, Sink, StoreRefusal};
 use chip_texts::{GivenWords, print_answers, print_fluxes, read_words};
-use gds_records::one_layout;
+use gds_records::one_wide_reading;
 use shape_extract::{Extracted, one_circuit};
 use std::alloc::Global;
 
@@ -35,24 +33,19 @@ pub enum Printing {
     Fluxes,
 }
 
-// The words of the text, for the circuit.
-fn words_for<'a>(
-    gds: &[u8],
-    lib: &[u8],
-    text: &'a [u8],
-    circuit: &Extracted,
-) -> Result<GivenWords<'a>, Fault>
-    requires few { length text.now < 2 ^ 32 }
-    requires makes { MakesCircuit gds.now lib.now circuit.now }
-    requires before { IsFirst (circuit_stages gds.now lib.now) None }
-    ensures ok { OnOk result (IsSound gds.now lib.now text.now circuit.now) }
+// The words of the text, for the circuit, whatever the bytes of a layout and a library of which it was read.
+fn words_for<'a>(text: &'a [u8], circuit: &Extracted) -> Result<GivenWords<'a>, Fault>
+    requires { length text.now < 2 ^ 32 }
+    ensures says { OnOk result (SaysWords circuit.now.inputs text.now) }
     ensures words { IfOk result (λ words. words ≡ words_of text.now) }
     ensures wide { IfOk result (All (λ word. length word ≡ circuit.now.inputs)) }
-    ensures well { OnOk result (IsFirst (judging_stages gds.now lib.now text.now) None) }
-    ensures bad { IfErr result (λ fault. Answers (judging_stages gds.now lib.now text.now) (Some fault)) }
+    ensures well { (gds lib : List ℕ) → MakesCircuit gds lib circuit.now → IsFirst (circuit_stages gds lib) None
+        → OnOk result (IsFirst (judging_stages gds lib text.now) None) }
+    ensures bad { (gds lib : List ℕ) → MakesCircuit gds lib circuit.now → IsFirst (circuit_stages gds lib) None
+        → IfErr result (λ fault. Answers (judging_stages gds lib text.now) (Some fault)) }
     ensures only { IfErr result IsJudgingFault }
 {
-    one_layout();
+    one_wide_reading();
     one_circuit();
     match read_words(text, circuit.inputs) {
         Ok(words) => Ok(words),
@@ -106,8 +99,8 @@ pub fn check<F: Files, O: Sink>(
     ensures name { F.opened files.new ≡ F.opened files.old }
 {
     let texts = load_texts(alloc, files, words)?;
-    let circuit = read_circuit(alloc, &texts.gds, &texts.lib)?;
+    let circuit = read_circuit(alloc, texts.gds, &texts.lib)?;
     circuit.known();
-    let given = words_for(&texts.gds, &texts.lib, &texts.third, &circuit)?;
+    let given = words_for(&texts.third, &circuit)?;
     print(alloc, printing, &circuit, &given, out)
 }

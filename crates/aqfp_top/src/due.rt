@@ -6,7 +6,7 @@ ghost use Rattle.aqfp_top.specs.Due.{Due, MayAnswer, IsSameAnswer, IsDueOrYields
 ghost use Rattle.aqfp_top.specs.declared.fault.Fault.{Fault};
 
 use chip_plan::plan_laws;
-use gds_records::{one_layout, one_of_both};
+use gds_records::one_wide_reading;
 use layout_rules::laws::first_broken_once;
 use shape_extract::one_circuit;
 
@@ -26,8 +26,7 @@ pub fn one_answer_is_due()
         → IsDoneOrMemory files words answer }
 {
     plan_laws();
-    one_layout();
-    one_of_both();
+    one_wide_reading();
     first_broken_once();
     one_circuit();
 }

@@ -1,5 +1,5 @@
 // `equal GDS LIB NET`.
-ghost use Rattle.std.specs.Prelude.{◌≡◌, ◌≤◌, ◌^◌, ◌<◌, ◌+◌, Some, None, length, IsErrOf, IsSome, IfOk, IfErr, OnOk, OnErr};
+ghost use Rattle.std.specs.Prelude.{◌≡◌, ◌≤◌, ◌^◌, ◌<◌, ◌+◌, ℕ, List, Some, None, length, IsErrOf, IsSome, IfOk, IfErr, OnOk, OnErr};
 ghost use Rattle.std.specs.Result.{result_err};
 ghost use Rattle.aq_base.specs.Causes.{Rose};
 ghost use Rattle.aq_base.specs.Store.{gained, GainsPrefix};
@@ -30,7 +30,7 @@ use chip_cells::extracted_cells;
 use chip_texts::add_word;
 use circuit::{Answers, Pass, Word};
 use decide::{Cells, DecideRefusal, Verdict, decide, plain_cells};
-use gds_records::one_layout;
+use gds_records::one_wide_reading;
 use maj_mapping::MapPass;
 use shape_extract::{Extracted, one_circuit};
 use std::alloc::Global;
@@ -104,24 +104,20 @@ fn check_widths(circuit: &Extracted, net: &Netlist) -> Result<(), Fault>
     })
 }
 
-// The verdict on the circuit and the netlist, which were read of the texts.
+// The verdict on the circuit and the netlist, whatever the texts of which they were read.
 #[tactic(auto, using(crate::proofs::Comparing::compares))]
-fn verdict_of(
-    alloc: Global,
-    gds: &[u8],
-    lib: &[u8],
-    text: &[u8],
-    circuit: &Extracted,
-    net: &Netlist,
-) -> Result<Verdict, Fault>
-    requires both { MakesBoth gds.now lib.now text.now circuit.now net.now }
-    requires before { IsFirst (both_stages gds.now lib.now text.now) None }
-    ensures found { IfOk result (HasVerdict gds.now lib.now text.now) }
-    ensures well { OnOk result (IsFirst (comparing_stages gds.now lib.now text.now) None) }
-    ensures bad { IfErr result (λ fault. Answers (comparing_stages gds.now lib.now text.now) (Some fault)) }
+fn verdict_of(alloc: Global, circuit: &Extracted, net: &Netlist) -> Result<Verdict, Fault>
+    requires { circuit.now.inputs + length circuit.now.cells < 2 ^ 32 }
+    ensures found { (gds lib text : List ℕ) → MakesBoth gds lib text circuit.now net.now
+        → IfOk result (HasVerdict gds lib text) }
+    ensures well { (gds lib text : List ℕ) → MakesBoth gds lib text circuit.now net.now
+        → IsFirst (both_stages gds lib text) None → OnOk result (IsFirst (comparing_stages gds lib text) None) }
+    ensures bad { (gds lib text : List ℕ) → MakesBoth gds lib text circuit.now net.now
+        → IsFirst (both_stages gds lib text) None
+        → IfErr result (λ fault. Answers (comparing_stages gds lib text) (Some fault)) }
     ensures only { IfErr result IsComparingFault }
 {
-    one_layout();
+    one_wide_reading();
     one_circuit();
     circuit.known();
     net.known();
@@ -131,17 +127,17 @@ fn verdict_of(
 
 // The verdict on the chip and the netlist of the texts; or the first thing that is wrong with these.
 #[tactic(auto, using(crate::proofs::Comparing::reads))]
-fn judge(alloc: Global, gds: &[u8], lib: &[u8], text: &[u8]) -> Result<Verdict, Fault>
+fn judge(alloc: Global, gds: Vec<u8>, lib: &[u8], text: &[u8]) -> Result<Verdict, Fault>
     requires lib { length lib.now ≤ 2 ^ 28 }
     requires net { length text.now ≤ 2 ^ 28 }
-    ensures found { IfOk result (HasVerdict gds.now lib.now text.now) }
-    ensures well { OnOk result (IsFirst (comparing_stages gds.now lib.now text.now) None) }
-    ensures bad { IfErr result (λ fault. Answers (comparing_stages gds.now lib.now text.now) (Some fault)) }
+    ensures found { IfOk result (HasVerdict gds.items lib.now text.now) }
+    ensures well { OnOk result (IsFirst (comparing_stages gds.items lib.now text.now) None) }
+    ensures bad { IfErr result (λ fault. Answers (comparing_stages gds.items lib.now text.now) (Some fault)) }
     ensures only { IfErr result IsComparingFault }
 {
     let circuit = read_circuit(alloc, gds, lib)?;
     let net = read_netlist(alloc, text)?;
-    verdict_of(alloc, gds, lib, text, &circuit, &net)
+    verdict_of(alloc, &circuit, &net)
 }
 
 // Puts `equal`, or the first difference.
@@ -203,6 +199,6 @@ pub fn equal<F: Files, O: Sink>(
     ensures name { F.opened files.new ≡ F.opened files.old }
 {
     let texts = load_texts(alloc, files, words)?;
-    let verdict = judge(alloc, &texts.gds, &texts.lib, &texts.third)?;
+    let verdict = judge(alloc, texts.gds, &texts.lib, &texts.third)?;
     print(alloc, &verdict, out)
 }

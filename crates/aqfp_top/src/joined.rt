@@ -11,7 +11,8 @@ use cell_library::each_library;
 use chip_plan::plan_laws;
 use chip_texts::answers_are_shown;
 use drawn_chip::drawn_chip_realises;
-use gds_records::{one_layout, written_is_read};
+use gds_read::strict_reading_is_wide;
+use gds_records::{one_layout, one_wide_reading, written_is_read};
 use layout_make::drawing_laws;
 use pulse_sim::shown_once;
 use shape_extract::one_circuit;
@@ -30,6 +31,8 @@ pub fn built_is_verified()
     written_is_read();
     drawn_chip_realises();
     one_layout();
+    one_wide_reading();
+    strict_reading_is_wide();
     one_circuit();
     answers_are_shown();
     shown_once();

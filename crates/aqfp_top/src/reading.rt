@@ -2,18 +2,19 @@
 ghost use Rattle.std.specs.Prelude.{◌≡◌, ◌≤◌, ◌^◌, List, ◌∷◌, Some, None, ℕ, length, IsSome, IfOk, IfErr, OnOk};
 ghost use Rattle.aq_base.specs.Causes.{Rose};
 ghost use Rattle.aq_base.specs.Store.{Contents};
-ghost use Rattle.gds_read.specs.Reading.{IsReadAs};
-ghost use Rattle.cell_library.specs.Says as library;
+ghost use Rattle.poly_cut.specs.Conditions.{IsFlattenable};
+ghost use Rattle.poly_cut.specs.FlatForm.{wide_flat};
+ghost use Rattle.cell_library.specs.Library.{limits_of};
 ghost use Rattle.aqfp_top.specs.Words.{spelled};
 ghost use Rattle.aqfp_top.specs.Counted.{FailedLoad};
 ghost use Rattle.aqfp_top.specs.Loads.{gds_limit, lib_limit, words_limit, check_loads};
-ghost use Rattle.aqfp_top.specs.Stages.{Stage, Stream, Size, Rules, FindsNone, IsFirst, Answers};
+ghost use Rattle.aqfp_top.specs.Stages.{Stage, Stream, Size, FindsNone, IsFirst, Answers};
 ghost use Rattle.aqfp_top.specs.Due.{circuit_stages};
-ghost use Rattle.aqfp_top.specs.Checks.{ToldTexts, IsRuleFault, MakesCircuit};
-ghost use Rattle.aqfp_top.specs.Code.Staging.{OrMemory, ToldAnswers};
+ghost use Rattle.aqfp_top.specs.Checks.{ToldTexts, IsLayoutOf, MakesCircuit};
+ghost use Rattle.aqfp_top.specs.Code.Staging.{ToldAnswers};
 ghost use Rattle.aqfp_top.specs.Code.Loading.{IsFaultOfLoads};
 ghost use Rattle.aqfp_top.specs.Code.Building.{IsReadOf};
-ghost use Rattle.aqfp_top.specs.Code.Checking.{chip_stages, circuit_then, IsCircuitFault};
+ghost use Rattle.aqfp_top.specs.Code.Checking.{chip_stages, circuit_then, IsRuled, IsBroken, IsCircuitFault};
 
 use crate::design::read_cells;
 use crate::fault::{Fault, Large};
@@ -21,9 +22,9 @@ use crate::judge::{check_geometry, extracted};
 use crate::load::{GDS_LIMIT, LIB_LIMIT, WORDS_LIMIT, load_word};
 use aq_base::Files;
 use cell_library::Library;
-use gds_read::{StreamRefusal, flatten, read_stream};
-use gds_records::{one_layout, one_of_both};
-use geom::Layout;
+use gds_read::{StreamRefusal, read_wide};
+use gds_records::one_wide_reading;
+use poly_cut::{WideLayout, count_is_exact, flatten_wide};
 use shape_extract::Extracted;
 use std::alloc::Global;
 
@@ -56,17 +57,18 @@ pub fn load_texts<F: Files>(alloc: Global, files: &mut F, words: &[String]) -> R
     Ok(Texts { gds, lib, third })
 }
 
-// The layout whose stream the bytes are.
-fn read_layout(alloc: Global, gds: &[u8]) -> Result<Layout, Fault>
-    ensures ok { IfOk result (IsReadAs gds.now) }
+// The layout of which the bytes are a wide stream.
+fn read_layout(alloc: Global, gds: &[u8]) -> Result<WideLayout, Fault>
+    ensures layout { IfOk result (IsLayoutOf gds.now) }
+    ensures flattenable { IfOk result IsFlattenable }
     ensures stream { OnOk result (FindsNone (Stream gds.now)) }
     ensures size { OnOk result (FindsNone (Size gds.now)) }
     ensures bad { IfErr result (λ fault. (rest : List Stage) → Answers (Stream gds.now ∷ Size gds.now ∷ rest) (Some fault)) }
     ensures only { IfErr result IsCircuitFault }
 {
-    one_layout();
-    one_of_both();
-    match read_stream(alloc, gds) {
+    one_wide_reading();
+    count_is_exact();
+    match read_wide(alloc, gds) {
         Ok(layout) => Ok(layout),
         Err(StreamRefusal::Bad { offset, kind }) => Err(Fault::BadStream { offset, kind }),
         Err(StreamRefusal::TooManyShapes { count }) => Err(Fault::TooLarge {
@@ -77,39 +79,36 @@ fn read_layout(alloc: Global, gds: &[u8]) -> Result<Layout, Fault>
     }
 }
 
-// The circuit of the layout that was read of the bytes, where its shapes keep the rules with the library of the text.
-fn circuit_of(
-    alloc: Global,
-    gds: &[u8],
-    lib: &[u8],
-    layout: &Layout,
-    cells: &Library,
-) -> Result<Extracted, Fault>
-    requires read { IsReadAs gds.now layout.now }
-    requires says { library.Says lib.now cells.now }
-    ensures ok { IfOk result (MakesCircuit gds.now lib.now) }
-    ensures rules { OnOk result (FindsNone (Rules gds.now lib.now)) }
-    ensures bad { IfErr result (OrMemory (IsRuleFault gds.now lib.now)) }
+// The circuit of the layout's shapes, where they keep the rules with the numbers of the library. The layout is let go as
+// soon as it is flat.
+fn circuit_of(alloc: Global, layout: WideLayout, cells: &Library) -> Result<Extracted, Fault>
+    requires { IsFlattenable layout }
+    ensures ok { IfOk result (IsRuled (wide_flat layout) (limits_of cells.now)) }
+    ensures bad { IfErr result (IsBroken (wide_flat layout) (limits_of cells.now)) }
 {
-    one_layout();
-    let Ok(flat) = flatten(alloc, layout) else {
+    count_is_exact();
+    let Ok(flat) = flatten_wide(alloc, &layout) else {
         return Err(Fault::Memory);
     };
+    drop(layout);
     let circuit = extracted(alloc, &flat)?;
     check_geometry(alloc, &flat, &circuit, cells)?;
     Ok(circuit)
 }
 
 /// The circuit that the layout's shapes make, under a library that is one; or the first thing that is wrong with the two.
+/// The bytes of the layout are let go as soon as they are read.
 #[tactic(auto, using(crate::proofs::Judging::judges))]
-pub fn read_circuit(alloc: Global, gds: &[u8], lib: &[u8]) -> Result<Extracted, Fault>
+pub fn read_circuit(alloc: Global, gds: Vec<u8>, lib: &[u8]) -> Result<Extracted, Fault>
     requires { length lib.now ≤ 2 ^ 28 }
-    ensures ok { IfOk result (MakesCircuit gds.now lib.now) }
-    ensures well { OnOk result (IsFirst (circuit_stages gds.now lib.now) None) }
-    ensures bad { IfErr result (λ fault. (rest : List Stage) → Answers (circuit_then gds.now lib.now rest) (Some fault)) }
+    ensures ok { IfOk result (MakesCircuit gds.items lib.now) }
+    ensures well { OnOk result (IsFirst (circuit_stages gds.items lib.now) None) }
+    ensures bad { IfErr result (λ fault. (rest : List Stage) → Answers (circuit_then gds.items lib.now rest) (Some fault)) }
     ensures only { IfErr result IsCircuitFault }
 {
-    let layout = read_layout(alloc, gds)?;
+    one_wide_reading();
+    let layout = read_layout(alloc, &gds)?;
+    drop(gds);
     let cells = read_cells(alloc, lib)?;
-    circuit_of(alloc, gds, lib, &layout, &cells)
+    circuit_of(alloc, layout, &cells)
 }

@@ -67,7 +67,7 @@ fn read_chip<F: Files>(alloc: Global, files: &mut F, words: &[String]) -> Result
     ensures failed { IfErr result (λ fault. IsSome (F.told files.old) → FailedLoad (F.load_failed files.new) (spelled words.now) (Some fault)) }
 {
     let texts = load_texts(alloc, files, words)?;
-    let circuit = read_circuit(alloc, &texts.gds, &texts.lib)?;
+    let circuit = read_circuit(alloc, texts.gds, &texts.lib)?;
     circuit.known();
     Ok(circuit)
 }

@@ -3,7 +3,9 @@ use Rattle.std.specs.Prelude.{ℕ, List, ◌∷◌, ◌++◌}
 use Rattle.aq_base.specs.Store.{Contents}
 use Rattle.geom.specs.declared.shapes.Flat.{Flat}
 use Rattle.layout_rules.specs.Limits.{Limits}
-use Rattle.layout_rules.specs.Rules.{FirstBroken}
+use Rattle.layout_rules.specs.Rules.{KeepsRules, FirstBroken}
+use Rattle.chip_circuit.specs.Circuits.{CircuitView}
+use Rattle.shape_extract.specs.Extraction.{IsCircuitOf}
 use Rattle.aqfp_top.specs.Loads.{check_loads}
 use Rattle.aqfp_top.specs.Due.{loading}
 use Rattle.aqfp_top.specs.Stages.{Stage, Stream, Size, Cells, Rules}
@@ -24,6 +26,11 @@ abbrev pub IsBroken : Flat → Limits → Fault → Type 0
 IsBroken flat limits (RuleBroken rule first second) = FirstBroken flat limits rule first second
 IsBroken flat limits Memory = Unit {0}
 IsBroken flat limits _ = ⊥
+
+-- the shapes keep all rules with these numbers, and make this circuit
+pub record IsRuled (flat : Flat) (limits : Limits) (circuit : CircuitView) : Type 0 where
+  pub rules : KeepsRules flat limits
+  pub circuit_is : IsCircuitOf flat circuit
 
 -- the faults of judging a layout and a library
 abbrev pub IsCircuitFault : Fault → Type 0
