@@ -2,7 +2,10 @@
 ghost use Rattle.std.specs.Prelude.{◌≡◌, None};
 ghost use Rattle.aq_base.specs.MemoryStore.{store_of};
 
-use crate::fixtures::{LIBRARY_A, Outcome, WIRE, ran, ran_into, store, with_chip, words_in};
+use crate::fixtures::{
+    FIRST_NETLIST, LIBRARY_A, Outcome, WIRE, first_chip, holding, ran, ran_into, store, with_chip,
+    words_in,
+};
 use aq_base::{MemFiles, MemSink};
 use aqfp_top::aqfp_run;
 use std::alloc::{AllocError, Global};
@@ -71,14 +74,62 @@ fn a_second_piece_fails(rt: HostRuntime) -> Result<(), Fail> {
     Ok(())
 }
 
+// The netlist of the first chip is stored: its calls are two loads, a create, an append and a close.
 #[test]
-fn each_load_of_a_check_fails(rt: HostRuntime) -> Result<(), Fail> {
+fn each_call_of_a_netlist_fails(rt: HostRuntime) -> Result<(), Fail> {
+    let failed = "aqfp: write failed\n";
+    let whole = Some(FIRST_NETLIST.len());
+    let cases = [
+        (0, 4, "aqfp: chip: read failed\n", None),
+        (1, 4, "aqfp: lib: read failed\n", None),
+        (2, 5, failed, None),
+        (4, 5, failed, whole),
+        (5, 0, "", whole),
+    ];
+    for (call, status, told, held) in cases {
+        let mut files = with_chip(rt.alloc())?;
+        files.fail_at(call, 0)?;
+        let run = ran(rt.alloc(), files, "netlist chip lib out")?;
+        assert!(rt; is_left(&run, status, told, held), "call {call}");
+        assert_eq!(rt; run.out.bytes().is_empty(), status != 0, "call {call}");
+    }
+    Ok(())
+}
+
+// Whether a netlist whose append keeps so many bytes leaves these and is closed.
+fn is_kept(alloc: Global, chip: &[u8], keep: usize) -> Result<bool, Fail> {
+    let mut files = holding(alloc, chip)?;
+    files.fail_at(3, keep as u64)?;
+    let run = ran(alloc, files, "netlist chip lib out")?;
+    Ok(
+        is_left(&run, 5, "aqfp: write failed\n", Some(keep))
+            && run.files.bytes("out") == FIRST_NETLIST.as_bytes().get(..keep)
+            && run.files.bytes("chip") == Some(chip)
+            && run.files.calls() == 5
+            && run.out.bytes().is_empty(),
+    )
+}
+
+#[test]
+fn an_append_of_a_netlist_keeps_its_first_bytes(rt: HostRuntime) -> Result<(), Fail> {
+    let chip = first_chip(rt.alloc())?;
+    for keep in 0..=FIRST_NETLIST.len() {
+        assert!(rt;
+            is_kept(rt.alloc(), chip.as_slice(), keep)?,
+            "keeping {keep}"
+        );
+    }
+    Ok(())
+}
+
+#[test]
+fn each_load_of_a_chip_fails(rt: HostRuntime) -> Result<(), Fail> {
     let loads = [
         (0, "aqfp: chip: read failed\n"),
         (1, "aqfp: lib: read failed\n"),
         (2, "aqfp: words: read failed\n"),
     ];
-    for command in ["verify", "trace"] {
+    for command in ["verify", "trace", "equal"] {
         for (call, told) in loads {
             let mut files = with_chip(rt.alloc())?;
             files.fail_at(call, 0)?;
@@ -126,6 +177,8 @@ fn each_put_fails(rt: HostRuntime) -> Result<(), Fail> {
         "build net lib out",
         "verify chip lib words",
         "trace chip lib words",
+        "netlist chip lib out",
+        "equal chip lib net",
         "sample 1",
     ];
     for line in lines {
@@ -139,11 +192,50 @@ fn each_put_fails(rt: HostRuntime) -> Result<(), Fail> {
     Ok(())
 }
 
-// A build whose line is refused has stored its chip.
+// Whether a run whose first put keeps so many bytes tells so, and prints these.
+fn is_cut_at(
+    alloc: Global,
+    chip: &[u8],
+    line: &str,
+    text: &str,
+    keep: usize,
+) -> Result<bool, Fail> {
+    let mut out = MemSink::new(alloc);
+    out.fail_at(0, keep as u64)?;
+    let run = ran_into(alloc, holding(alloc, chip)?, out, line)?;
+    Ok(is_cut(&run, text.as_bytes()) && run.out.bytes().len() == keep)
+}
+
 #[test]
-fn a_chip_stands_that_is_not_told(rt: HostRuntime) -> Result<(), Fail> {
-    let run = cut_off(rt.alloc(), "build net lib out", 0, 0)?;
-    assert!(rt; is_left(&run, 5, "aqfp: write failed\n", Some(1046)));
+fn a_put_keeps_its_first_bytes(rt: HostRuntime) -> Result<(), Fail> {
+    let chip = first_chip(rt.alloc())?;
+    let cases = [
+        ("netlist chip lib out", "rows 2 cells 2 wires 1 delay 1\n"),
+        ("equal chip lib net", "equal\n"),
+    ];
+    for (line, text) in cases {
+        for keep in 0..=text.len() {
+            let told = is_cut_at(rt.alloc(), chip.as_slice(), line, text, keep)?;
+            assert!(rt; told, "{line}, keeping {keep}");
+        }
+    }
+    Ok(())
+}
+
+// A build whose line is refused has stored its chip, and a netlist its text.
+#[test]
+fn what_is_not_told_stands(rt: HostRuntime) -> Result<(), Fail> {
+    let cases = [
+        ("build net lib out", 1046),
+        ("netlist chip lib out", FIRST_NETLIST.len()),
+    ];
+    for (line, held) in cases {
+        let run = cut_off(rt.alloc(), line, 0, 0)?;
+        assert!(rt;
+            is_left(&run, 5, "aqfp: write failed\n", Some(held)),
+            "{line}"
+        );
+    }
     Ok(())
 }
 

@@ -10,6 +10,10 @@ use std::test::Fail;
 /// The netlist of the first chip.
 pub const WIRE: &str = ".model wire\n.inputs a\n.outputs a\n.end\n";
 
+/// The netlist that is stored of the first chip.
+pub const FIRST_NETLIST: &str =
+    ".model aqfp\n.inputs I0\n.outputs O0\n.names I0 n0\n1 1\n.names n0 n1\n1 1\n.names n1 O0\n1 1\n.end\n";
+
 /// The text of library A.
 pub const LIBRARY_A: &str =
     "wire = 1000\nspace = 1000\nvia = 600\nenclose = 200\npin = 1000\nheight = 10000\npitch = 2000\ncolumns = 4\ncapacity = 28\nlimit = 180000\n[buffer]\ninputs = [1]\noutputs = [2]\n[inverter]\ninputs = [1]\noutputs = [2]\n[zero]\ninputs = []\noutputs = [2]\n[one]\ninputs = []\noutputs = [2]\n[split2]\ninputs = [1]\noutputs = [2, 6]\n[split3]\ninputs = [1]\noutputs = [2, 6, 10]\n[majority]\ninputs = [1, 5, 9]\noutputs = [2]\n";
@@ -81,14 +85,21 @@ pub fn first_chip(alloc: Global) -> Result<Vec<u8>, Fail> {
     }
 }
 
+/// A store with these bytes under `chip`.
+pub fn holding(alloc: Global, chip: &[u8]) -> Result<MemFiles, Memory>
+    ensures { IfOk result (λ files. (store_of files).opened ≡ None) }
+{
+    let mut files = store(alloc, WIRE.as_bytes(), LIBRARY_A.as_bytes())?;
+    files.add("chip", chip)?;
+    Ok(files)
+}
+
 /// A store with the first chip under `chip`.
 pub fn with_chip(alloc: Global) -> Result<MemFiles, Fail>
     ensures { IfOk result (λ files. (store_of files).opened ≡ None) }
 {
     let chip = first_chip(alloc)?;
-    let mut files = store(alloc, WIRE.as_bytes(), LIBRARY_A.as_bytes())?;
-    files.add("chip", chip.as_slice())?;
-    Ok(files)
+    Ok(holding(alloc, chip.as_slice())?)
 }
 
 /// A refusal: its status, and its line without the program's name.
@@ -115,4 +126,28 @@ pub fn is_refused(
             && run.out.bytes().is_empty()
             && run.files.bytes("out").is_none(),
     )
+}
+
+/// Bytes of which some at a place are taken out and others are put in.
+#[derive(Clone, Copy)]
+pub struct Edit<'a> {
+    pub at: usize,
+    pub taken: usize,
+    pub put: &'a [u8],
+}
+
+/// The bytes after the edit.
+pub fn edited(alloc: Global, bytes: &[u8], edit: Edit<'_>) -> Result<Vec<u8>, AllocError> {
+    let mut new = Vec::new(alloc);
+    let (before, rest) = bytes.split_at(edit.at.min(bytes.len()));
+    let (_, after) = rest.split_at(edit.taken.min(rest.len()));
+    new.extend_from_slice(before)?;
+    new.extend_from_slice(edit.put)?;
+    new.extend_from_slice(after)?;
+    Ok(new)
+}
+
+/// Some bytes at a place in the stead of those that stand there.
+pub fn put_at(at: usize, taken: usize, put: &[u8]) -> Edit<'_> {
+    Edit { at, taken, put }
 }

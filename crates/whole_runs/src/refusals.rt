@@ -1,5 +1,5 @@
 // Texts and streams that are made against their readers, with the line that the program prints.
-use crate::fixtures::{LIBRARY_A, Refusal, WIRE, first_chip, is_refused, store};
+use crate::fixtures::{LIBRARY_A, Refusal, WIRE, edited, first_chip, is_refused, put_at, store};
 use std::alloc::{AllocError, Global};
 use std::test::Fail;
 
@@ -118,24 +118,6 @@ fn cells_that_are_too_wide_are_refused(rt: HostRuntime) -> Result<(), Fail> {
     Ok(())
 }
 
-// Bytes of which some at a place are taken out and others are put in.
-#[derive(Clone, Copy)]
-struct Edit<'a> {
-    at: usize,
-    taken: usize,
-    put: &'a [u8],
-}
-
-fn edited(alloc: Global, bytes: &[u8], edit: Edit<'_>) -> Result<Vec<u8>, AllocError> {
-    let mut new = Vec::new(alloc);
-    let (before, rest) = bytes.split_at(edit.at.min(bytes.len()));
-    let (_, after) = rest.split_at(edit.taken.min(rest.len()));
-    new.extend_from_slice(before)?;
-    new.extend_from_slice(edit.put)?;
-    new.extend_from_slice(after)?;
-    Ok(new)
-}
-
 fn is_bad_stream(alloc: Global, chip: &[u8], told: &str) -> Result<bool, Fail> {
     let mut files = store(alloc, WIRE.as_bytes(), LIBRARY_A.as_bytes())?;
     files.add("chip", chip)?;
@@ -145,10 +127,6 @@ fn is_bad_stream(alloc: Global, chip: &[u8], told: &str) -> Result<bool, Fail> {
         told: told.as_str(),
     };
     is_refused(alloc, files, "verify chip lib words", refusal)
-}
-
-fn put_at(at: usize, taken: usize, put: &[u8]) -> Edit<'_> {
-    Edit { at, taken, put }
 }
 
 #[test]
