@@ -11,3 +11,5 @@ mod large;
 mod refusals;
 #[cfg(test)]
 mod sample;
+#[cfg(test)]
+mod wide;
