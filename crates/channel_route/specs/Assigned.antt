@@ -12,7 +12,8 @@ wires_of ones = map (λ one. one.wire) ones
 
 -- the wire at each of the first n places has its track
 abbrev pub HaveTracks : List Numbered → List ℕ → ℕ → Type 0
-HaveTracks ones track n = (k : ℕ) (d : Numbered) → k < n → slice_index_or track (slice_index_or ones k d).number 0 ≡ slice_index_or (tracks [] (wires_of ones)) k 0
+HaveTracks ones track n = (k : ℕ) (d : Numbered) → k < n → slice_index_or track (slice_index_or ones k d).number 0
+    ≡ slice_index_or (tracks [] (wires_of ones)) k 0
 
 -- each wire has its track, and there is room for all tracks
 pub record AreAssigned (ones : List Numbered) (capacity : ℕ) (track : List ℕ) (used column : ℕ) : Type 0 where

@@ -35,7 +35,8 @@ tracks_used ws = length (last_ends [] (by_key low ws))
 -- the column where the last track is added; the given one, where none is
 abbrev pub last_column : List ℕ → ℕ → List Wire → ℕ
 last_column ends column [] = column
-last_column ends column (w ∷ ws) = last_column (ends_after (low w) (high w) ends) (cond (lowest_free (low w) ends == length ends) (low w) column) ws
+last_column ends column (w ∷ ws) =
+    last_column (ends_after (low w) (high w) ends) (cond (lowest_free (low w) ends == length ends) (low w) column) ws
 
 abbrev pub column_of : List Wire → ℕ
 column_of ws = last_column [] 0 (by_key low ws)
@@ -52,7 +53,8 @@ route_of ws = map (λ w. slice_index_or (tracks [] (by_key low ws)) (rank ws w) 
 pub record AreApart (ws : List Wire) (track : List ℕ) (used : ℕ) : Type 0 where
   pub one_each : length track ≡ length ws
   pub below_used : (i : ℕ) → i < length ws → slice_index_or track i 0 < used
-  pub distinct : (x i j : ℕ) (d : Wire) → i < length ws → j < length ws → (i ≡ j → ⊥) → crosses x (slice_index_or ws i d) ≡ true → crosses x (slice_index_or ws j d) ≡ true
+  pub distinct : (x i j : ℕ) (d : Wire) → i < length ws → j < length ws → (i ≡ j → ⊥)
+      → crosses x (slice_index_or ws i d) ≡ true → crosses x (slice_index_or ws j d) ≡ true
       → slice_index_or track i 0 ≡ slice_index_or track j 0 → ⊥
 
 -- and as many wires as there are tracks cross the column

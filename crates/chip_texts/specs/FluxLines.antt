@@ -18,7 +18,10 @@ sign_of Plus = 43
 abbrev pub signs_in : ℕ → List ExCell → List Flux → List ℕ
 signs_in row [] fluxes = []
 signs_in row (cell ∷ cells) [] = []
-signs_in row (cell ∷ cells) (flux ∷ fluxes) = elim (cell.row == row) [ true ↦ sign_of flux ∷ signs_in row cells fluxes | false ↦ signs_in row cells fluxes ]
+signs_in row (cell ∷ cells) (flux ∷ fluxes) = elim (cell.row == row) [
+  | true ↦ sign_of flux ∷ signs_in row cells fluxes
+  | false ↦ signs_in row cells fluxes
+]
 
 -- the time, the row, and the signs of its cells
 abbrev pub flux_line : ℕ → ℕ → List ℕ → List ℕ
@@ -27,12 +30,14 @@ flux_line time row signs = decimal time ++ codes " " ++ decimal row ++ codes " "
 -- the lines of the first n rows at a time
 abbrev pub row_lines : CircuitView → ℕ → List Flux → ℕ → List ℕ
 row_lines circuit time fluxes zero = []
-row_lines circuit time fluxes (suc row) = row_lines circuit time fluxes row ++ flux_line time row (signs_in row circuit.cells fluxes)
+row_lines circuit time fluxes (suc row) = row_lines circuit time fluxes row
+    ++ flux_line time row (signs_in row circuit.cells fluxes)
 
 -- the lines of all rows at each of the first n times, after the tick of the time
 abbrev pub time_lines : CircuitView → List (List Bool) → ℕ → List ℕ
 time_lines circuit words zero = []
-time_lines circuit words (suc time) = time_lines circuit words time ++ row_lines circuit time (settled_run circuit words (suc time)) circuit.rows
+time_lines circuit words (suc time) = time_lines circuit words time
+    ++ row_lines circuit time (settled_run circuit words (suc time)) circuit.rows
 
 -- how many ticks it takes until the last of n words is answered
 abbrev pub ticks_for : ℕ → ℕ → ℕ

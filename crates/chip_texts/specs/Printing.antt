@@ -10,16 +10,20 @@ pub record IsPrinted (before now : Option (List ℕ)) (page text : List ℕ) : T
 
 -- the page may have been put: whatever text was printed so far still is
 abbrev pub PutsPage : Option (List ℕ) → Option (List ℕ) → List ℕ → List ℕ → Type 0
-PutsPage old new page left = (before : Option (List ℕ)) (text : List ℕ) → IsPrinted before old page text → IsPrinted before new left text
+PutsPage old new page left = (before : Option (List ℕ)) (text : List ℕ) → IsPrinted before old page text
+    → IsPrinted before new left text
 
 -- some first bytes of the page were put: of whatever text was printed, the sink has gained some first bytes
 abbrev pub RefusesPage : Option (List ℕ) → Option (List ℕ) → List ℕ → Type 0
-RefusesPage old new page = (before : Option (List ℕ)) (text : List ℕ) → IsPrinted before old page text → GainsPrefix before new text
+RefusesPage old new page = (before : Option (List ℕ)) (text : List ℕ) → IsPrinted before old page text
+    → GainsPrefix before new text
 
 -- a line is printed: it comes behind whatever text was printed so far
 abbrev pub PrintsLine : Option (List ℕ) → Option (List ℕ) → List ℕ → List ℕ → List ℕ → Type 0
-PrintsLine old new page left line = (before : Option (List ℕ)) (text : List ℕ) → IsPrinted before old page text → IsPrinted before new left (text ++ line)
+PrintsLine old new page left line = (before : Option (List ℕ)) (text : List ℕ) → IsPrinted before old page text
+    → IsPrinted before new left (text ++ line)
 
 -- a line is not printed whole: of the text with the line, the sink has gained some first bytes
 abbrev pub RefusesLine : Option (List ℕ) → Option (List ℕ) → List ℕ → List ℕ → Type 0
-RefusesLine old new page line = (before : Option (List ℕ)) (text : List ℕ) → IsPrinted before old page text → GainsPrefix before new (text ++ line)
+RefusesLine old new page line = (before : Option (List ℕ)) (text : List ℕ) → IsPrinted before old page text
+    → GainsPrefix before new (text ++ line)

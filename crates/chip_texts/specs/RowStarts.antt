@@ -10,5 +10,6 @@ pub record IsRowStart (cells : List ExCell) (row first : ℕ) : Type 0 where
 
 -- the cell of this number stands in the row, or does not
 abbrev pub StandsIn : List ExCell → ℕ → ℕ → Bool → Type 0
-StandsIn cells number row true = (number < length cells) × ((cell : ExCell) → slice_get cells number ≡ Some cell → cell.row ≡ row)
+StandsIn cells number row true = (number < length cells)
+    × ((cell : ExCell) → slice_get cells number ≡ Some cell → cell.row ≡ row)
 StandsIn cells number row false = (cell : ExCell) → slice_get cells number ≡ Some cell → cell.row ≢ row

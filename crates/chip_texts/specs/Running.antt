@@ -1,5 +1,6 @@
 -- A run of a circuit under the words of a text: the circuit, the words and the time.
-use Rattle.std.specs.Prelude.{◌≡◌, ◌≢◌, ℕ, ◌+◌, ◌/◌, ◌%◌, Bool, All, List, length, drop, Option, Some, None, slice_get, cond}
+use Rattle.std.specs.Prelude.{◌≡◌, ◌≢◌, ℕ, ◌+◌, ◌/◌, ◌%◌, Bool, All, List, length, drop, Option, Some, None, slice_get}
+use Rattle.std.specs.Prelude.{cond}
 use Rattle.std.specs.Str.Lines.{lines}
 use Rattle.chip_circuit.specs.Circuits.{CircuitView}
 use Rattle.pulse_sim.specs.Settled.{settled_run}
@@ -20,7 +21,8 @@ entered time = (time + 3) / 4
 abbrev pub present_word : Bool → List Bool → Option (List Bool)
 present_word is_given word = cond is_given (Some word) None
 
--- Before a tick the rest of the text has the words that are to enter, and while a word is present it stands in the buffer, which has a value for each input.
+-- Before a tick the rest of the text has the words that are to enter, and while a word is present it stands in the
+-- buffer, which has a value for each input.
 pub record IsWaiting (text rest : List ℕ) (word : List Bool) (is_given : Bool) (time width : ℕ) : Type 0 where
   pub wide : All (λ w. length w ≡ width) (words_of text)
   pub buffer : length word ≡ width

@@ -18,10 +18,12 @@ word_line word = map digit_of word ++ codes "\n"
 abbrev pub values_at : CircuitView → List (List Bool) → ℕ → List Bool
 values_at circuit words time = map is_plus (fluxes_at circuit.outputs (settled_run circuit words (suc time)))
 
--- the first n answers; word k enters at time 4k, and its answer stands at the outputs as many ticks later as the delay says
+-- the first n answers; word k enters at time 4k, and its answer stands at the outputs as many ticks later as the delay
+-- says
 abbrev pub first_answers : CircuitView → List (List Bool) → ℕ → List (List Bool)
 first_answers circuit words zero = []
-first_answers circuit words (suc k) = first_answers circuit words k ++ values_at circuit words (4 * k + delay_of circuit) ∷ []
+first_answers circuit words (suc k) = first_answers circuit words k
+    ++ values_at circuit words (4 * k + delay_of circuit) ∷ []
 
 -- an answer for each word
 abbrev pub answers_to : CircuitView → List (List Bool) → List (List Bool)

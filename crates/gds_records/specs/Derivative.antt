@@ -43,7 +43,10 @@ abbrev pub after : ℕ → Language → Language
 after k Nothing = Nothing
 after k Empty = Nothing
 after k (One kind) = elim (eqb kind k) [ true ↦ Empty | false ↦ Nothing ]
-after k (Then a b) = elim (speaks_nothing a) [ true ↦ either (then (after k a) b) (after k b) | false ↦ then (after k a) b ]
+after k (Then a b) = elim (speaks_nothing a) [
+  | true ↦ either (then (after k a) b) (after k b)
+  | false ↦ then (after k a) b
+]
 after k (Either a b) = either (after k a) (after k b)
 after k (Many a) = then (after k a) (Many a)
 

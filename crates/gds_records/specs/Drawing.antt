@@ -1,5 +1,6 @@
 -- What the records of a stream say: its structures in order, with their elements in order.
-use Rattle.std.specs.Prelude.{ℕ, suc, ◌*◌, ◌==◌, ◌&&◌, List, [], ◌∷◌, ◌++◌, Bool, true, false, map, take, drop, ℤ, int_le}
+use Rattle.std.specs.Prelude.{ℕ, suc, ◌*◌, ◌==◌, ◌&&◌, List, [], ◌∷◌, ◌++◌, Bool, true, false, map, take, drop, ℤ}
+use Rattle.std.specs.Prelude.{int_le}
 use Rattle.std.specs.Int.{w32, from_be_bytes, cast_signed}
 use Rattle.geom.specs.Rectangle.{Rectangle}
 use Rattle.geom.specs.declared.layout.Element.{Element}
@@ -22,7 +23,10 @@ up_to kind (r ∷ rs) = elim (r.kind == kind) [ true ↦ [] | false ↦ r ∷ up
 -- the parts of a list that end with a record of this kind; what is left behind the last is in none
 abbrev pub parts : ℕ → List Record → List Record → List (List Record)
 parts stop front [] = []
-parts stop front (r ∷ rs) = elim (r.kind == stop) [ true ↦ (front ++ r ∷ []) ∷ parts stop [] rs | false ↦ parts stop (front ++ r ∷ []) rs ]
+parts stop front (r ∷ rs) = elim (r.kind == stop) [
+  | true ↦ (front ++ r ∷ []) ∷ parts stop [] rs
+  | false ↦ parts stop (front ++ r ∷ []) rs
+]
 
 -- the content of the first record of this kind
 abbrev pub field : ℕ → List Record → List ℕ
@@ -57,14 +61,23 @@ abbrev pub place_of : List ℕ → List (List ℕ) → ℕ
 place_of name [] = 0
 place_of name (n ∷ ns) = elim (same name n) [ true ↦ 0 | false ↦ suc (place_of name ns) ]
 
--- the element that its records say, where the structures have these names; a boundary's XY is that of a rectangle in every
--- stream
+-- the element that its records say, where the structures have these names; a boundary's XY is that of a rectangle in
+-- every stream
 abbrev pub element_of : List (List ℕ) → List Record → Element
 element_of names rs = elim (has BOUNDARY rs && is_rectangle (field XY rs)) [
-  | true ↦ Box (record { layer = number (field LAYER rs); datatype = number (field DATATYPE rs); rect = box_of (field XY rs) })
+  | true ↦ Box (record {
+    layer = number (field LAYER rs);
+    datatype = number (field DATATYPE rs);
+    rect = box_of (field XY rs);
+  })
   | false ↦ elim (has SREF rs) [
     | true ↦ Place (place_of (trimmed (field SNAME rs)) names) (coordinate (field XY rs) 0) (coordinate (field XY rs) 1)
-    | false ↦ Text (record { layer = number (field LAYER rs); x = coordinate (field XY rs) 0; y = coordinate (field XY rs) 1; text = trimmed (field STRING rs) })
+    | false ↦ Text (record {
+      layer = number (field LAYER rs);
+      x = coordinate (field XY rs) 0;
+      y = coordinate (field XY rs) 1;
+      text = trimmed (field STRING rs);
+    })
   ]
 ]
 

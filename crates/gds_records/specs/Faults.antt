@@ -4,7 +4,8 @@ use Rattle.geom.specs.declared.layout.Layout.{Layout}
 use Rattle.gds_records.specs.declared.fault.StreamKind.{StreamKind}
 use Rattle.gds_records.specs.Records.{Record}
 use Rattle.gds_records.specs.Profiles.{strict, wide}
-use Rattle.gds_records.specs.Profiled.{own_fault_in, IsFaultHereIn, IsRecordFaultIn, end_fault_in, IsEndFaultIn, IsFirstFaultIn}
+use Rattle.gds_records.specs.Profiled.{own_fault_in, IsFaultHereIn, IsRecordFaultIn, end_fault_in, IsEndFaultIn}
+use Rattle.gds_records.specs.Profiled.{IsFirstFaultIn}
 use Rattle.gds_records.specs.Stream.{IsStream}
 pub use Rattle.gds_records.specs.Profiled.{length_of, kind_of, form_of, here_record, first_of_six, zeros_before}
 pub use Rattle.gds_records.specs.Profiled.{own, order, value}

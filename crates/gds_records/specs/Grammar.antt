@@ -1,7 +1,10 @@
 -- The grammar of streams, over record types (GDSII Stream Format manual, the syntax of a stream; here for libraries of
 -- boundaries, references and texts).
 use Rattle.gds_records.specs.Language.{Language, Empty, One, Then, Either, Many}
-use Rattle.gds_records.specs.Codes.{HEADER, BGNLIB, LIBNAME, UNITS, ENDLIB, BGNSTR, STRNAME, ENDSTR, BOUNDARY, SREF, TEXT, LAYER, DATATYPE, WIDTH, XY, ENDEL, SNAME, TEXTTYPE, PRESENTATION, STRING, STRANS, MAG, ANGLE, REFLIBS, FONTS, PATHTYPE, GENERATIONS, ATTRTABLE, ELFLAGS, PROPATTR, PROPVALUE, PLEX, PATH, AREF, COLROW}
+use Rattle.gds_records.specs.Codes.{HEADER, BGNLIB, LIBNAME, UNITS, ENDLIB, BGNSTR, STRNAME, ENDSTR, BOUNDARY, SREF}
+use Rattle.gds_records.specs.Codes.{TEXT, LAYER, DATATYPE, WIDTH, XY, ENDEL, SNAME, TEXTTYPE, PRESENTATION, STRING}
+use Rattle.gds_records.specs.Codes.{STRANS, MAG, ANGLE, REFLIBS, FONTS, PATHTYPE, GENERATIONS, ATTRTABLE, ELFLAGS}
+use Rattle.gds_records.specs.Codes.{PROPATTR, PROPVALUE, PLEX, PATH, AREF, COLROW}
 
 infixr 5 ◌>>◌
 abbrev pub ◌>>◌ : Language → Language → Language
@@ -28,7 +31,8 @@ abbrev pub turned : Language
 turned = maybe (One STRANS >> maybe (One MAG) >> maybe (One ANGLE))
 
 abbrev pub text : Language
-text = One TEXT >> flags >> One LAYER >> One TEXTTYPE >> maybe (One PRESENTATION) >> maybe (One PATHTYPE) >> maybe (One WIDTH) >> turned >> One XY >> One STRING >> tail
+text = One TEXT >> flags >> One LAYER >> One TEXTTYPE >> maybe (One PRESENTATION) >> maybe (One PATHTYPE)
+    >> maybe (One WIDTH) >> turned >> One XY >> One STRING >> tail
 
 abbrev pub element : Language
 element = Either boundary (Either reference text)
@@ -39,7 +43,8 @@ structure_of_each each = One BGNSTR >> One STRNAME >> Many each >> One ENDSTR
 
 -- a stream of such elements
 abbrev pub stream_of_each : Language → Language
-stream_of_each each = One HEADER >> One BGNLIB >> One LIBNAME >> maybe (One REFLIBS) >> maybe (One FONTS) >> maybe (One ATTRTABLE) >> maybe (One GENERATIONS) >> One UNITS >> Many (structure_of_each each) >> One ENDLIB
+stream_of_each each = One HEADER >> One BGNLIB >> One LIBNAME >> maybe (One REFLIBS) >> maybe (One FONTS)
+    >> maybe (One ATTRTABLE) >> maybe (One GENERATIONS) >> One UNITS >> Many (structure_of_each each) >> One ENDLIB
 
 abbrev pub structure : Language
 structure = structure_of_each element

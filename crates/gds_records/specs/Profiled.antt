@@ -1,10 +1,12 @@
--- Streams of a profile: whole records that are a sentence of its grammar and good by its table and values, the first fault of
--- bytes that are none, and how a scan finds it.
-use Rattle.std.specs.Prelude.{◌≡◌, ℕ, zero, suc, ◌+◌, ◌<◌, ◌^◌, ◌%◌, ◌==◌, ◌&&◌, ◌||◌, not, nat_lt, List, [], ◌∷◌, ◌++◌, Bool, true, false, length, take, drop, Option, Some, None, slice_index}
+-- Streams of a profile: whole records that are a sentence of its grammar and good by its table and values, the first
+-- fault of bytes that are none, and how a scan finds it.
+use Rattle.std.specs.Prelude.{◌≡◌, ℕ, zero, suc, ◌+◌, ◌<◌, ◌^◌, ◌%◌, ◌==◌, ◌&&◌, ◌||◌, not, nat_lt, List, [], ◌∷◌, ◌++◌}
+use Rattle.std.specs.Prelude.{Bool, true, false, length, take, drop, Option, Some, None, slice_index}
 use Rattle.std.specs.List.{flat_map}
 use Rattle.std.specs.Int.{w16, from_be_bytes}
 use Rattle.gds_records.specs.declared.fault.StreamKind.{StreamKind}
-use Rattle.gds_records.specs.declared.fault.StreamKind.TheVariants.{Truncated, Length, Unsupported, Order, DataType, Value}
+use Rattle.gds_records.specs.declared.fault.StreamKind.TheVariants.{Truncated, Length, Unsupported, Order, DataType}
+use Rattle.gds_records.specs.declared.fault.StreamKind.TheVariants.{Value}
 use Rattle.gds_records.specs.Language.{Language, Nothing, Empty, One, Then, Either, Many, Speaks}
 use Rattle.gds_records.specs.Derivative.{after, after_all}
 use Rattle.gds_records.specs.Codes.{ENDLIB}
@@ -70,15 +72,24 @@ abbrev pub zeros_before : List ℕ → ℕ
 zeros_before [] = 0
 zeros_before (b ∷ bs) = elim (b == 0) [ true ↦ 1 + zeros_before bs | false ↦ 0 ]
 
--- too few bytes for a head; a length below 4 or odd; too few bytes for the length; the record type; the data type; the length
+-- too few bytes for a head; a length below 4 or odd; too few bytes for the length; the record type; the data type; the
+-- length
 abbrev pub own_fault_in : Profile → List ℕ → Option StreamKind
-own_fault_in p b = first_of_six (nat_lt (length b) 4) (nat_lt (length_of b) 4 || not (length_of b % 2 == 0)) (nat_lt (length b) (length_of b)) (known_in p.records (kind_of b)) (has_form_in p.records (kind_of b) (form_of b)) (has_length_in p.records (kind_of b) (length_of b))
+own_fault_in p b = first_of_six
+    (nat_lt (length b) 4)
+    (nat_lt (length_of b) 4 || not (length_of b % 2 == 0))
+    (nat_lt (length b) (length_of b))
+    (known_in p.records (kind_of b))
+    (has_form_in p.records (kind_of b) (form_of b))
+    (has_length_in p.records (kind_of b) (length_of b))
 
 -- the first fault of what stands after these records: its own, its order, or its value
 pub data IsFaultHereIn (p : Profile) (before : List Record) (b : List ℕ) (k : StreamKind) : Type 0 where
   own : own_fault_in p b ≡ Some k → IsFaultHereIn p before b k
-  order : own_fault_in p b ≡ None → k ≡ Order → ((more : List ℕ) → Speaks p.language (kinds before ++ kind_of b ∷ more) → ⊥) → IsFaultHereIn p before b k
-  value : own_fault_in p b ≡ None → (more : List ℕ) → Speaks p.language (kinds before ++ kind_of b ∷ more) → value_fault_of p before (here_record b) ≡ Some k → IsFaultHereIn p before b k
+  order : own_fault_in p b ≡ None → k ≡ Order
+      → ((more : List ℕ) → Speaks p.language (kinds before ++ kind_of b ∷ more) → ⊥) → IsFaultHereIn p before b k
+  value : own_fault_in p b ≡ None → (more : List ℕ) → Speaks p.language (kinds before ++ kind_of b ∷ more)
+      → value_fault_of p before (here_record b) ≡ Some k → IsFaultHereIn p before b k
 
 -- the records before it are free of faults and begin a sentence that goes on
 pub record IsRecordFaultIn (p : Profile) (bytes : List ℕ) (offset : ℕ) (k : StreamKind) : Type 0 where
@@ -94,7 +105,10 @@ pub record IsRecordFaultIn (p : Profile) (bytes : List ℕ) (offset : ℕ) (k : 
 
 -- the fault of a whole sentence of good records, and what stands after it
 abbrev pub end_fault_in : Profile → List Record → List ℕ → Option (ℕ × StreamKind)
-end_fault_in p rs rest = elim (are_zero rest) [ false ↦ Some (length (flat_map spelled rs) + zeros_before rest, Value) | true ↦ p.whole_fault rs ]
+end_fault_in p rs rest = elim (are_zero rest) [
+  | false ↦ Some (length (flat_map spelled rs) + zeros_before rest, Value)
+  | true ↦ p.whole_fault rs
+]
 
 pub record IsEndFaultIn (p : Profile) (bytes : List ℕ) (offset : ℕ) (k : StreamKind) : Type 0 where
   pub records : List Record
@@ -137,7 +151,8 @@ abbrev pub may_follow_in : Profile → List Record → ℕ → Bool
 may_follow_in p before kind = alive (after kind (after_all (kinds before) p.language))
 
 abbrev pub fault_here_in : Profile → List Record → List ℕ → Option StreamKind
-fault_here_in p before b = fault_of (own_fault_in p b) (may_follow_in p before (kind_of b)) (value_fault_of p before (here_record b))
+fault_here_in p before b =
+    fault_of (own_fault_in p b) (may_follow_in p before (kind_of b)) (value_fault_of p before (here_record b))
 
 -- the records from here on, up to the first fault
 abbrev pub scan_in : Profile → ℕ → List Record → List ℕ → Scanned

@@ -1,5 +1,5 @@
--- What tells one kind of stream from another: its grammar, its table of records, the values that records must have, and the
--- conditions on the whole. What a stream and its first fault are is the same for each.
+-- What tells one kind of stream from another: its grammar, its table of records, the values that records must have, and
+-- the conditions on the whole. What a stream and its first fault are is the same for each.
 use Rattle.std.specs.Prelude.{◌≡◌, ◌⊎◌, ℕ, List, [], Bool, Option}
 use Rattle.gds_records.specs.declared.fault.StreamKind.{StreamKind}
 use Rattle.gds_records.specs.Language.{Language}

@@ -1,5 +1,5 @@
--- Records, of which a stream is a list (GDSII Stream Format manual: a two-byte length that counts its four-byte head, a byte
--- for the record type, one for the data type, and the data).
+-- Records, of which a stream is a list (GDSII Stream Format manual: a two-byte length that counts its four-byte head, a
+-- byte for the record type, one for the data type, and the data).
 use Rattle.std.specs.Prelude.{ℕ, zero, suc, ◌+◌, ◌==◌, List, [], ◌∷◌, ◌++◌, Bool, true, false, length, map}
 use Rattle.std.specs.Int.{w16, to_be_bytes, from_be_bytes}
 

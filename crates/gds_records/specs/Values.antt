@@ -1,6 +1,7 @@
--- The values that a record must have, after the records before it (GDSII Stream Format manual; that a database unit is one
--- nanometre, that boundaries are rectangles and that references are not turned is this project's own profile).
-use Rattle.std.specs.Prelude.{ℕ, ◌+◌, ◌*◌, ◌==◌, ◌&&◌, ◌||◌, not, nat_lt, List, [], ◌∷◌, Bool, true, false, length, take, drop, slice_index, Option, Some, None}
+-- The values that a record must have, after the records before it (GDSII Stream Format manual; that a database unit is
+-- one nanometre, that boundaries are rectangles and that references are not turned is this project's own profile).
+use Rattle.std.specs.Prelude.{ℕ, ◌+◌, ◌*◌, ◌==◌, ◌&&◌, ◌||◌, not, nat_lt, List, [], ◌∷◌, Bool, true, false, length}
+use Rattle.std.specs.Prelude.{take, drop, slice_index, Option, Some, None}
 use Rattle.std.specs.Int.{w32, from_be_bytes}
 use Rattle.gds_records.specs.declared.fault.StreamKind.{StreamKind}
 use Rattle.gds_records.specs.declared.fault.StreamKind.TheVariants.{Value, Unsupported, NotRectangle}
@@ -10,7 +11,10 @@ use Rattle.gds_records.specs.Records.{Record, trimmed, same}
 -- BOUNDARY, SREF or TEXT, whichever came last
 abbrev pub opener : ℕ → List Record → ℕ
 opener last [] = last
-opener last (r ∷ rs) = elim (r.kind == BOUNDARY || r.kind == SREF || r.kind == TEXT) [ true ↦ opener r.kind rs | false ↦ opener last rs ]
+opener last (r ∷ rs) = elim (r.kind == BOUNDARY || r.kind == SREF || r.kind == TEXT) [
+  | true ↦ opener r.kind rs
+  | false ↦ opener last rs
+]
 
 -- a structure before has this name
 abbrev pub is_structure_name : List ℕ → List Record → Bool
@@ -35,7 +39,8 @@ value_of so_far (b ∷ bs) = value_of (so_far * 256 + b) bs
 
 -- the second real of UNITS is one nanometre in metres, with room for rounding
 abbrev pub is_nanometre : List ℕ → Bool
-is_nanometre content = slice_index content 8 == 0x39 && not (nat_lt (value_of 0 (drop 9 content)) 0x44B82FA0000000) && nat_lt (value_of 0 (drop 9 content)) 0x44B82FA1000000
+is_nanometre content = slice_index content 8 == 0x39 && not (nat_lt (value_of 0 (drop 9 content)) 0x44B82FA0000000)
+    && nat_lt (value_of 0 (drop 9 content)) 0x44B82FA1000000
 
 -- coordinate i of an XY, as its bits
 abbrev pub at : List ℕ → ℕ → ℕ
@@ -48,11 +53,13 @@ one_x xy i j = at xy (2 * i) == at xy (2 * j)
 abbrev pub one_y : List ℕ → ℕ → ℕ → Bool
 one_y xy i j = at xy (2 * i + 1) == at xy (2 * j + 1)
 
--- five points, the last the first; the first and the third differ in x and in y; and the four go round along y and x in turn
+-- five points, the last the first; the first and the third differ in x and in y; and the four go round along y and x in
+-- turn
 abbrev pub is_rectangle : List ℕ → Bool
 is_rectangle xy =
     length xy == 40 && one_x xy 0 4 && one_y xy 0 4 && not (one_x xy 0 2) && not (one_y xy 0 2)
-    && (one_y xy 0 1 && one_x xy 1 2 && one_y xy 2 3 && one_x xy 3 0 || one_x xy 0 1 && one_y xy 1 2 && one_x xy 2 3 && one_y xy 3 0)
+    && (one_y xy 0 1 && one_x xy 1 2 && one_y xy 2 3 && one_x xy 3 0
+    || one_x xy 0 1 && one_y xy 1 2 && one_x xy 2 3 && one_y xy 3 0)
 
 -- the values of records but a reference's STRANS and a boundary's XY; a structure's name may not be taken
 abbrev pub has_value : Bool → Record → Bool

@@ -1,6 +1,7 @@
--- The conditions on the whole stream: each reference names a structure, what is referenced references nothing, and one structure,
--- the top, is referenced by none (this project's own profile of the GDSII Stream Format).
-use Rattle.std.specs.Prelude.{ℕ, suc, ◌+◌, ◌==◌, ◌&&◌, ◌||◌, not, List, [], ◌∷◌, ◌++◌, Bool, true, false, length, Option, Some, None}
+-- The conditions on the whole stream: each reference names a structure, what is referenced references nothing, and one
+-- structure, the top, is referenced by none (this project's own profile of the GDSII Stream Format).
+use Rattle.std.specs.Prelude.{ℕ, suc, ◌+◌, ◌==◌, ◌&&◌, ◌||◌, not, List, [], ◌∷◌, ◌++◌, Bool, true, false, length}
+use Rattle.std.specs.Prelude.{Option, Some, None}
 use Rattle.gds_records.specs.declared.fault.StreamKind.{StreamKind}
 use Rattle.gds_records.specs.declared.fault.StreamKind.TheVariants.{Unsupported, UnknownName, NoTop, SeveralTops}
 use Rattle.gds_records.specs.Codes.{ENDLIB, BGNSTR, ENDSTR, SNAME}
@@ -33,7 +34,8 @@ uses_from o (r ∷ rs) = elim (r.kind == ENDSTR) [
 abbrev pub outlines : ℕ → List Record → List Outline
 outlines o [] = []
 outlines o (r ∷ rs) = elim (r.kind == BGNSTR) [
-  | true ↦ record { place = o; name = name_of rs; uses = uses_from (o + (4 + length r.content)) rs } ∷ outlines (o + (4 + length r.content)) rs
+  | true ↦ record { place = o; name = name_of rs; uses = uses_from (o + (4 + length r.content)) rs }
+      ∷ outlines (o + (4 + length r.content)) rs
   | false ↦ outlines (o + (4 + length r.content)) rs
 ]
 

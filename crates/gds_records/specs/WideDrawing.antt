@@ -1,5 +1,6 @@
 -- What the records of a wide stream say.
-use Rattle.std.specs.Prelude.{ℕ, ◌+◌, ◌*◌, ◌/◌, ◌^◌, ◌<◌, ◌==◌, ◌||◌, List, true, false, map, Some, None, pos, ◌-ℤ◌, nat_abs, int_div}
+use Rattle.std.specs.Prelude.{ℕ, ◌+◌, ◌*◌, ◌/◌, ◌^◌, ◌<◌, ◌==◌, ◌||◌, List, true, false, map, Some, None, pos, ◌-ℤ◌}
+use Rattle.std.specs.Prelude.{nat_abs, int_div}
 use Rattle.poly_cut.specs.declared.layout.Point.{Point}
 use Rattle.poly_cut.specs.declared.layout.Figure.{Figure}
 use Rattle.poly_cut.specs.declared.layout.Figure.TheVariants.{Ring, Path}
@@ -9,7 +10,8 @@ use Rattle.poly_cut.specs.declared.layout.Item.{Item}
 use Rattle.poly_cut.specs.declared.layout.Item.TheVariants.{Draw, Place, Text}
 use Rattle.poly_cut.specs.declared.layout.WideStructure.{WideStructure}
 use Rattle.poly_cut.specs.Turns.{point}
-use Rattle.gds_records.specs.Codes.{BOUNDARY, PATH, SREF, AREF, LAYER, DATATYPE, XY, SNAME, STRING, STRANS, ANGLE, PATHTYPE, WIDTH, COLROW}
+use Rattle.gds_records.specs.Codes.{BOUNDARY, PATH, SREF, AREF, LAYER, DATATYPE, XY, SNAME, STRING, STRANS, ANGLE}
+use Rattle.gds_records.specs.Codes.{PATHTYPE, WIDTH, COLROW}
 use Rattle.gds_records.specs.Records.{Record, number, trimmed}
 use Rattle.std.specs.List.{AllByRecursion}
 use Rattle.gds_records.specs.Values.{value_of, at}
@@ -24,7 +26,10 @@ abbrev pub step : ℕ → Point → Point → Point
 step n p q = point (int_div (q.x -ℤ p.x) (pos n)) (int_div (q.y -ℤ p.y) (pos n))
 
 abbrev pub turn_of : List Record → Turn
-turn_of rs = record { mirror = value_of 0 (field STRANS rs) == 0x8000; quarter = elim (quarters (field ANGLE rs)) [ Some n ↦ n | None ↦ 0 ] }
+turn_of rs = record {
+  mirror = value_of 0 (field STRANS rs) == 0x8000;
+  quarter = elim (quarters (field ANGLE rs)) [ Some n ↦ n | None ↦ 0 ];
+}
 
 abbrev pub grid_of : List Record → Grid
 grid_of rs = elim (has COLROW rs) [
@@ -40,7 +45,10 @@ grid_of rs = elim (has COLROW rs) [
 abbrev pub figure_of : List Record → Figure
 figure_of rs = elim (has BOUNDARY rs) [
   | true ↦ Ring (points (field XY rs))
-  | false ↦ Path (value_of 0 (field PATHTYPE rs) == 2) (nat_abs (coordinate (field WIDTH rs) 0) / 2) (turns (points (field XY rs)))
+  | false ↦ Path
+      (value_of 0 (field PATHTYPE rs) == 2)
+      (nat_abs (coordinate (field WIDTH rs) 0) / 2)
+      (turns (points (field XY rs)))
 ]
 
 abbrev pub item_of : List (List ℕ) → List Record → Item
@@ -48,7 +56,12 @@ item_of names rs = elim (has BOUNDARY rs || has PATH rs) [
   | true ↦ Draw (number (field LAYER rs)) (number (field DATATYPE rs)) (figure_of rs)
   | false ↦ elim (has SREF rs || has AREF rs) [
     | true ↦ Place (place_of (trimmed (field SNAME rs)) names) (point_at (field XY rs) 0) (turn_of rs) (grid_of rs)
-    | false ↦ Text (record { layer = number (field LAYER rs); x = coordinate (field XY rs) 0; y = coordinate (field XY rs) 1; text = trimmed (field STRING rs) })
+    | false ↦ Text (record {
+      layer = number (field LAYER rs);
+      x = coordinate (field XY rs) 0;
+      y = coordinate (field XY rs) 1;
+      text = trimmed (field STRING rs);
+    })
   ]
 ]
 

@@ -1,6 +1,7 @@
--- The values that a record of a wide stream must have, after the records before it (GDSII Stream Format manual; right angles
--- alone, whole grids and no magnification are this project's own profile).
-use Rattle.std.specs.Prelude.{ℕ, zero, suc, ◌/◌, ◌%◌, ◌==◌, ◌&&◌, ◌||◌, not, nat_lt, List, [], ◌∷◌, Bool, true, false, length, take, drop, Option, Some, None, ℤ, pos, ◌-ℤ◌, int_lt, int_rem}
+-- The values that a record of a wide stream must have, after the records before it (GDSII Stream Format manual; right
+-- angles alone, whole grids and no magnification are this project's own profile).
+use Rattle.std.specs.Prelude.{ℕ, zero, suc, ◌/◌, ◌%◌, ◌==◌, ◌&&◌, ◌||◌, not, nat_lt, List, [], ◌∷◌, Bool, true, false}
+use Rattle.std.specs.Prelude.{length, take, drop, Option, Some, None, ℤ, pos, ◌-ℤ◌, int_lt, int_rem}
 use Rattle.std.specs.Ordering.{int_eq}
 use Rattle.poly_cut.specs.declared.layout.Point.{Point}
 use Rattle.poly_cut.specs.Cuts.{ring_cut}
@@ -90,7 +91,10 @@ is_path (p ∷ q ∷ qs) = goes_on Still p (q ∷ qs)
 -- where a path turns, and its end: p was come to by this way
 abbrev pub turns_from : Way → Point → List Point → List Point
 turns_from w p [] = p ∷ []
-turns_from w p (q ∷ qs) = elim (is_same w (way p q)) [ true ↦ turns_from (way p q) q qs | false ↦ p ∷ turns_from (way p q) q qs ]
+turns_from w p (q ∷ qs) = elim (is_same w (way p q)) [
+  | true ↦ turns_from (way p q) q qs
+  | false ↦ p ∷ turns_from (way p q) q qs
+]
 
 -- without the points inside a straight run
 abbrev pub turns : List Point → List Point
@@ -144,7 +148,8 @@ abbrev pub is_multiple : ℕ → ℤ → ℤ → Bool
 is_multiple n a b = int_eq (int_rem (b -ℤ a) (pos n)) (pos 0)
 
 abbrev pub is_lattice : ℕ → ℕ → List Point → Bool
-is_lattice columns rows (p ∷ q ∷ r ∷ []) = is_multiple columns p.x q.x && is_multiple columns p.y q.y && (is_multiple rows p.x r.x && is_multiple rows p.y r.y)
+is_lattice columns rows (p ∷ q ∷ r ∷ []) = is_multiple columns p.x q.x && is_multiple columns p.y q.y
+    && (is_multiple rows p.x r.x && is_multiple rows p.y r.y)
 is_lattice columns rows ps = false
 
 -- ---- all values
@@ -152,7 +157,11 @@ is_lattice columns rows ps = false
 -- BOUNDARY, PATH, SREF, AREF or TEXT, whichever came last
 abbrev pub wide_opener : ℕ → List Record → ℕ
 wide_opener last [] = last
-wide_opener last (r ∷ rs) = elim (r.kind == BOUNDARY || r.kind == PATH || r.kind == SREF || r.kind == AREF || r.kind == TEXT) [ true ↦ wide_opener r.kind rs | false ↦ wide_opener last rs ]
+wide_opener last (r ∷ rs) =
+    elim (r.kind == BOUNDARY || r.kind == PATH || r.kind == SREF || r.kind == AREF || r.kind == TEXT) [
+      | true ↦ wide_opener r.kind rs
+      | false ↦ wide_opener last rs
+    ]
 
 -- the content of the COLROW that came last
 abbrev pub last_colrow : List ℕ → List Record → List ℕ

@@ -1,5 +1,5 @@
--- The conditions on the whole of a wide stream: each reference names a structure, no structure leads back to itself, no chain of
--- references is longer than 64, and one structure, the top, is referenced by none.
+-- The conditions on the whole of a wide stream: each reference names a structure, no structure leads back to itself, no
+-- chain of references is longer than 64, and one structure, the top, is referenced by none.
 use Rattle.std.specs.Prelude.{ℕ, zero, suc, ◌||◌, List, [], ◌∷◌, Bool, true, false, length, Option, Some, None}
 use Rattle.gds_records.specs.declared.fault.StreamKind.{StreamKind}
 use Rattle.gds_records.specs.declared.fault.StreamKind.TheVariants.{Unsupported, UnknownName}
@@ -25,10 +25,14 @@ abbrev pub leads : ℕ → List Outline → List ℕ → List ℕ → Bool
 leads zero ss from to = false
 leads (suc n) ss from to = some_use (λ name. same name to || leads n ss name to) (uses_by from ss)
 
--- the place of the first of these structures that leads back to itself; a way round has at most as many references as there are structures
+-- the place of the first of these structures that leads back to itself; a way round has at most as many references as
+-- there are structures
 abbrev pub first_loop : List Outline → List Outline → Option ℕ
 first_loop all [] = None
-first_loop all (s ∷ ss) = elim (leads (length all) all s.name s.name) [ true ↦ Some s.place | false ↦ first_loop all ss ]
+first_loop all (s ∷ ss) = elim (leads (length all) all s.name s.name) [
+  | true ↦ Some s.place
+  | false ↦ first_loop all ss
+]
 
 -- the place of the first of these structures from which a chain of more than 64 references goes down
 abbrev pub first_long : List Outline → List Outline → Option ℕ

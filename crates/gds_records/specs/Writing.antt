@@ -8,7 +8,9 @@ use Rattle.geom.specs.declared.layout.Element.{Element}
 use Rattle.geom.specs.declared.layout.Element.TheVariants.{Box, Place, Text}
 use Rattle.geom.specs.declared.layout.Structure.{Structure}
 use Rattle.geom.specs.declared.layout.Layout.{Layout}
-use Rattle.gds_records.specs.Codes.{HEADER, BGNLIB, LIBNAME, UNITS, ENDLIB, BGNSTR, STRNAME, ENDSTR, BOUNDARY, SREF, TEXT, LAYER, DATATYPE, XY, ENDEL, SNAME, TEXTTYPE, STRING, NO_DATA, TWO_BYTE_INTEGER, FOUR_BYTE_INTEGER, EIGHT_BYTE_REAL, ASCII_STRING}
+use Rattle.gds_records.specs.Codes.{HEADER, BGNLIB, LIBNAME, UNITS, ENDLIB, BGNSTR, STRNAME, ENDSTR, BOUNDARY, SREF}
+use Rattle.gds_records.specs.Codes.{TEXT, LAYER, DATATYPE, XY, ENDEL, SNAME, TEXTTYPE, STRING, NO_DATA}
+use Rattle.gds_records.specs.Codes.{TWO_BYTE_INTEGER, FOUR_BYTE_INTEGER, EIGHT_BYTE_REAL, ASCII_STRING}
 use Rattle.gds_records.specs.Records.{Record, record_with, spelled}
 
 abbrev pub two_bytes : ℕ → List ℕ
@@ -24,13 +26,19 @@ padded text = text ++ (if length text % 2 == 0 then [] else (0 ∷ []))
 abbrev pub point : ℤ → ℤ → List ℕ
 point x y = four_bytes x ++ four_bytes y
 
--- corners in turn, by the bits of their coordinates: from the lower left one through the lower right one, and back to it
+-- corners in turn, by the bits of their coordinates: from the lower left one through the lower right one, and back to
+-- it
 abbrev pub corner_bits : ℕ → ℕ → ℕ → ℕ → List ℕ
 corner_bits x0 y0 x1 y1 =
-    to_be_bytes w32 x0 ++ to_be_bytes w32 y0 ++ to_be_bytes w32 x1 ++ to_be_bytes w32 y0 ++ to_be_bytes w32 x1 ++ to_be_bytes w32 y1 ++ to_be_bytes w32 x0 ++ to_be_bytes w32 y1 ++ to_be_bytes w32 x0 ++ to_be_bytes w32 y0
+    to_be_bytes w32 x0 ++ to_be_bytes w32 y0 ++ to_be_bytes w32 x1 ++ to_be_bytes w32 y0 ++ to_be_bytes w32 x1
+    ++ to_be_bytes w32 y1 ++ to_be_bytes w32 x0 ++ to_be_bytes w32 y1 ++ to_be_bytes w32 x0 ++ to_be_bytes w32 y0
 
 abbrev pub corners : Rectangle → List ℕ
-corners r = corner_bits (cast_unsigned w32 r.x0) (cast_unsigned w32 r.y0) (cast_unsigned w32 r.x1) (cast_unsigned w32 r.y1)
+corners r = corner_bits
+    (cast_unsigned w32 r.x0)
+    (cast_unsigned w32 r.y0)
+    (cast_unsigned w32 r.x1)
+    (cast_unsigned w32 r.y1)
 
 abbrev pub element_records : List (List ℕ) → Element → List Record
 element_records names (Box s) =
@@ -64,11 +72,14 @@ abbrev pub dates : List ℕ
 dates = date ++ date
 
 abbrev pub structure_records : List (List ℕ) → Structure → List Record
-structure_records names s = record_with BGNSTR TWO_BYTE_INTEGER dates ∷ record_with STRNAME ASCII_STRING (padded s.name) ∷ flat_map (element_records names) s.elements ++ record_with ENDSTR NO_DATA [] ∷ []
+structure_records names s = record_with BGNSTR TWO_BYTE_INTEGER dates
+    ∷ record_with STRNAME ASCII_STRING (padded s.name) ∷ flat_map (element_records names) s.elements
+    ++ record_with ENDSTR NO_DATA [] ∷ []
 
 -- a database unit in user units, one thousandth, and in metres, one nanometre
 abbrev pub units : List ℕ
-units = 0x3E ∷ 0x41 ∷ 0x89 ∷ 0x37 ∷ 0x4B ∷ 0xC6 ∷ 0xA7 ∷ 0xF0 ∷ 0x39 ∷ 0x44 ∷ 0xB8 ∷ 0x2F ∷ 0xA0 ∷ 0x9B ∷ 0x5A ∷ 0x54 ∷ []
+units = 0x3E ∷ 0x41 ∷ 0x89 ∷ 0x37 ∷ 0x4B ∷ 0xC6 ∷ 0xA7 ∷ 0xF0 ∷ 0x39 ∷ 0x44 ∷ 0xB8 ∷ 0x2F ∷ 0xA0 ∷ 0x9B ∷ 0x5A ∷ 0x54
+    ∷ []
 
 -- AQFP
 abbrev pub library_name : List ℕ

@@ -1,4 +1,5 @@
--- The events of the pulse machine: one cell switches, or one cell relaxes. A state gives the flux of each cell by its number.
+-- The events of the pulse machine: one cell switches, or one cell relaxes. A state gives the flux of each cell by its
+-- number.
 use Rattle.std.specs.Prelude.{◌≡◌, ℕ, ◌+ℤ◌, Bool, false, List, [], ◌∷◌, Option, Some, None, slice_index_or, slice_set}
 use Rattle.chip_circuit.specs.declared.cells.Feed.{Feed}
 use Rattle.chip_circuit.specs.declared.cells.Feed.TheVariants.{Nothing, Pin, Label}
@@ -24,7 +25,8 @@ IsFeedFlux undecided word state (Pin cell output) flux = flux ≡ slice_index_or
 IsFeedFlux undecided word state (Label n) flux = IsInputFlux undecided word n flux
 
 -- cell number c switches: it takes what the sum of its feeds gives, and all other cells keep their flux
-pub record Switches (undecided : Flux → Type 0) (circuit : CircuitView) (word : Option (List Bool)) (old : List Flux) (c : ℕ) (new : List Flux) : Type 0 where
+pub record Switches (undecided : Flux → Type 0) (circuit : CircuitView) (word : Option (List Bool)) (old : List Flux)
+    (c : ℕ) (new : List Flux) : Type 0 where
   pub cell : ExCell
   pub cell_is : IsCellAt circuit c cell
   pub flux0 : Flux
@@ -46,4 +48,5 @@ Happens undecided circuit word old (Relax c) new = new ≡ slice_set old c Off
 abbrev pub Happen : (Flux → Type 0) → CircuitView → Option (List Bool) → List Flux → List Event → List Flux → Type 0
 Happen undecided circuit word old [] new = new ≡ old
 Happen undecided circuit word old (event ∷ events) new =
-    (middle : List Flux) × Happens undecided circuit word old event middle × Happen undecided circuit word middle events new
+    (middle : List Flux) × Happens undecided circuit word old event middle
+    × Happen undecided circuit word middle events new

@@ -1,4 +1,5 @@
--- The flux of a cell and the sign that it takes, after the AQFP literature: a gate that is excited takes the sign of the sum of its input currents, and holds nothing while it is not excited.
+-- The flux of a cell and the sign that it takes, after the AQFP literature: a gate that is excited takes the sign of
+-- the sum of its input currents, and holds nothing while it is not excited.
 use Rattle.std.specs.Prelude.{◌≡◌, ◌⊎◌, zero, suc, ℤ, pos, negsuc, neg_ℤ, Bool, true, false}
 use Rattle.circuit.specs.declared.cell_kind.CellKind.{CellKind}
 use Rattle.circuit.specs.declared.cell_kind.CellKind.TheVariants.{Buffer, Inverter, Zero, One, Split2, Split3, Majority}
@@ -30,7 +31,8 @@ IsSignOf undecided (pos zero) flux = undecided flux
 IsSignOf undecided (pos (suc n)) flux = flux ≡ Plus
 IsSignOf undecided (negsuc n) flux = flux ≡ Minus
 
--- what a cell may take that switches on this sum of its feeds: a constant its own sign, an inverter the sign turned round
+-- what a cell may take that switches on this sum of its feeds: a constant its own sign, an inverter the sign turned
+-- round
 abbrev pub MayTake : (Flux → Type 0) → CellKind → ℤ → Flux → Type 0
 MayTake undecided Buffer sum flux = IsSignOf undecided sum flux
 MayTake undecided Inverter sum flux = IsSignOf undecided (neg_ℤ sum) flux

@@ -40,4 +40,5 @@ pub record AreInPhase (cells : List ExCell) (phase : ℕ) (numbers : List ℕ) :
 -- the numbers of the cells of each of the four phases
 pub record AreByPhase (cells : List ExCell) (phases : List (List ℕ)) : Type 0 where
   pub four : length phases ≡ 4
-  pub each_phase : (phase : ℕ) (numbers : List ℕ) → slice_get phases phase ≡ Some numbers → AreInPhase cells phase numbers
+  pub each_phase : (phase : ℕ) (numbers : List ℕ) → slice_get phases phase ≡ Some numbers
+      → AreInPhase cells phase numbers

@@ -1,4 +1,5 @@
--- Runs of the pulse machine. A run gives the state after each number of ticks; word k of the words is present from time 4k to 4k + 3.
+-- Runs of the pulse machine. A run gives the state after each number of ticks; word k of the words is present from time
+-- 4k to 4k + 3.
 use Rattle.std.specs.Prelude.{◌≡◌, ℕ, suc, ◌/◌, ◌<◌, Bool, List, length, slice_get, replicate}
 use Rattle.chip_circuit.specs.Circuits.{CircuitView}
 use Rattle.pulse_sim.specs.declared.flux.Flux.{Flux}
@@ -7,9 +8,11 @@ use Rattle.pulse_sim.specs.Fluxes.{EitherSign, MinusAlone}
 use Rattle.pulse_sim.specs.Ticks.{Ticks}
 
 -- a run of n ticks: all cells begin without flux, and then come the ticks of times 0 to n - 1
-pub record IsRun (undecided : Flux → Type 0) (circuit : CircuitView) (words : List (List Bool)) (n : ℕ) (run : ℕ → List Flux) : Type 0 where
+pub record IsRun (undecided : Flux → Type 0) (circuit : CircuitView) (words : List (List Bool)) (n : ℕ)
+    (run : ℕ → List Flux) : Type 0 where
   pub begins : run 0 ≡ replicate (length circuit.cells) Off
-  pub ticks : (time : ℕ) → time < n → Ticks undecided circuit (slice_get words (time / 4)) time (run time) (run (suc time))
+  pub ticks : (time : ℕ) → time < n
+      → Ticks undecided circuit (slice_get words (time / 4)) time (run time) (run (suc time))
 
 -- a run of the machine
 abbrev pub IsLegalRun : CircuitView → List (List Bool) → ℕ → (ℕ → List Flux) → Type 0

@@ -1,5 +1,6 @@
 -- The settled run, computed: each sign that nothing decides is minus, and each tick is read off the state before it.
-use Rattle.std.specs.Prelude.{ℕ, zero, suc, ◌+◌, ◌/◌, ◌%◌, ◌==◌, ℤ, pos, negsuc, neg_ℤ, ◌+ℤ◌, Bool, true, false, List, [], ◌∷◌, length, Option, Some, None, slice_get, slice_index_or, replicate}
+use Rattle.std.specs.Prelude.{ℕ, zero, suc, ◌+◌, ◌/◌, ◌%◌, ◌==◌, ℤ, pos, negsuc, neg_ℤ, ◌+ℤ◌, Bool, true, false, List}
+use Rattle.std.specs.Prelude.{[], ◌∷◌, length, Option, Some, None, slice_get, slice_index_or, replicate}
 use Rattle.circuit.specs.declared.cell_kind.CellKind.{CellKind}
 use Rattle.circuit.specs.declared.cell_kind.CellKind.TheVariants.{Buffer, Inverter, Zero, One, Split2, Split3, Majority}
 use Rattle.chip_circuit.specs.declared.cells.Feed.{Feed}
@@ -38,7 +39,8 @@ feed_flux word state (Label n) = input_flux word n
 -- the sum of the fluxes of a cell's feeds
 abbrev pub feed_sum : Option (List Bool) → List Flux → ExCell → ℤ
 feed_sum word state cell =
-    amount (feed_flux word state cell.feed0) +ℤ amount (feed_flux word state cell.feed1) +ℤ amount (feed_flux word state cell.feed2)
+    amount (feed_flux word state cell.feed0) +ℤ amount (feed_flux word state cell.feed1)
+    +ℤ amount (feed_flux word state cell.feed2)
 
 -- the flux of a cell after the tick, from its flux and the state before it
 abbrev pub next_flux : Option (List Bool) → ℕ → List Flux → ExCell → Flux → Flux
@@ -60,4 +62,5 @@ settled_tick circuit word time state = next_fluxes word time state circuit.cells
 -- the state after this many ticks
 abbrev pub settled_run : CircuitView → List (List Bool) → ℕ → List Flux
 settled_run circuit words zero = replicate (length circuit.cells) Off
-settled_run circuit words (suc time) = settled_tick circuit (slice_get words (time / 4)) time (settled_run circuit words time)
+settled_run circuit words (suc time) =
+    settled_tick circuit (slice_get words (time / 4)) time (settled_run circuit words time)

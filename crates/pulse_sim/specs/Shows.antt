@@ -1,5 +1,7 @@
--- What a circuit shows: word k of the answers stands at its outputs d ticks after word k of the words entered, in every run.
-use Rattle.std.specs.Prelude.{◌≡◌, ℕ, suc, ◌+◌, ◌*◌, ◌%◌, ◌<◌, Bool, All, List, length, map, Some, slice_get, slice_index_or}
+-- What a circuit shows: word k of the answers stands at its outputs d ticks after word k of the words entered, in every
+-- run.
+use Rattle.std.specs.Prelude.{◌≡◌, ℕ, suc, ◌+◌, ◌*◌, ◌%◌, ◌<◌, Bool, All, List, length, map, Some, slice_get}
+use Rattle.std.specs.Prelude.{slice_index_or}
 use Rattle.rowed.specs.declared.source.Source.{Source}
 use Rattle.chip_circuit.specs.declared.cells.ExCell.{ExCell}
 use Rattle.chip_circuit.specs.Circuits.{CircuitView, IsCellAt}

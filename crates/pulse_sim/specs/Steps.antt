@@ -1,5 +1,6 @@
 -- What a settled tick does in place: first the cells of one phase switch, then those of another relax.
-use Rattle.std.specs.Prelude.{◌≡◌, ◌≢◌, ℕ, ◌<◌, Bool, List, length, Option, Some, slice_get, slice_index, slice_index_or}
+use Rattle.std.specs.Prelude.{◌≡◌, ◌≢◌, ℕ, ◌<◌, Bool, List, length, Option, Some, slice_get, slice_index}
+use Rattle.std.specs.Prelude.{slice_index_or}
 use Rattle.chip_circuit.specs.declared.cells.ExCell.{ExCell}
 use Rattle.chip_circuit.specs.declared.cells.Feed.TheVariants.{Pin}
 use Rattle.chip_circuit.specs.Circuits.{feed_at}
@@ -12,9 +13,11 @@ abbrev pub IsNoneOf : List ℕ → ℕ → ℕ → Type 0
 IsNoneOf numbers n c = (p : ℕ) → p < n → slice_index numbers p ≢ c
 
 -- the first n of these cells have taken what the state before gives them, and the others are as they were
-pub record AreSwitched (cells : List ExCell) (word : Option (List Bool)) (numbers : List ℕ) (n : ℕ) (old new : List Flux) : Type 0 where
+pub record AreSwitched (cells : List ExCell) (word : Option (List Bool)) (numbers : List ℕ) (n : ℕ)
+    (old new : List Flux) : Type 0 where
   pub long : length new ≡ length old
-  pub taken : (p : ℕ) (cell : ExCell) → p < n → slice_get cells (slice_index numbers p) ≡ Some cell → slice_index_or new (slice_index numbers p) Off ≡ settled_take cell.kind (feed_sum word old cell)
+  pub taken : (p : ℕ) (cell : ExCell) → p < n → slice_get cells (slice_index numbers p) ≡ Some cell
+      → slice_index_or new (slice_index numbers p) Off ≡ settled_take cell.kind (feed_sum word old cell)
   pub kept : (c : ℕ) → IsNoneOf numbers n c → slice_index_or new c Off ≡ slice_index_or old c Off
 
 -- the first n of these cells have no flux, and the others are as they were

@@ -1,4 +1,5 @@
--- A tick of the four-phase clock: at time t the cells of phase t mod 4 switch, and those of phase t + 2 mod 4 relax, in any order.
+-- A tick of the four-phase clock: at time t the cells of phase t mod 4 switch, and those of phase t + 2 mod 4 relax, in
+-- any order.
 use Rattle.std.specs.Prelude.{ℕ, suc, ◌+◌, ◌%◌, ◌==◌, Bool, true, false, List, [], ◌∷◌, ◌++◌, Option}
 use Rattle.std.specs.List.Sorted.{IsPermutation}
 use Rattle.chip_circuit.specs.declared.cells.ExCell.{ExCell}
@@ -19,7 +20,8 @@ due_from time c [] = []
 due_from time c (cell ∷ cells) = due_of time c cell ++ due_from time (suc c) cells
 
 -- a tick has exactly the events of its time, in any order
-pub record Ticks (undecided : Flux → Type 0) (circuit : CircuitView) (word : Option (List Bool)) (time : ℕ) (old new : List Flux) : Type 0 where
+pub record Ticks (undecided : Flux → Type 0) (circuit : CircuitView) (word : Option (List Bool)) (time : ℕ)
+    (old new : List Flux) : Type 0 where
   pub events : List Event
   pub due : IsPermutation (due_from time 0 circuit.cells) events
   pub happen : Happen undecided circuit word old events new
