@@ -1,20 +1,14 @@
 -- The points, grids and rings of a wide stream's fields.
 use Rattle.std.proofs.Common.{◌≡◌, ◌≢◌, ℕ, zero, suc, ◌+◌, ◌*◌, ◌/◌, ◌^◌, ◌<◌, ◌≤◌, List, [], ◌∷◌, ◌++◌, Bool, true, false}
 use Rattle.std.proofs.Common.{drop-cons, get_or, length, drop, refl, sym, ap, ◌∙◌, arith, ℤ, pos, ◌-ℤ◌, FitsSigned, of_z, to_z, append_assoc, nat_eq}
-use Rattle.std.specs.Prelude.{not, ◌&&◌, ◌==◌, int_rem, unsigned_abs}
+use Rattle.std.specs.Prelude.{◌&&◌, int_rem, unsigned_abs}
 use Rattle.std.specs.Int.{w32, w64}
 use Rattle.std.specs.Ordering.{int_eq}
 use Rattle.std.proofs.lemmas.Int.{ints, rem_below}
 use Rattle.std.proofs.lemmas.List.{length-drop}
 use Rattle.std.proofs.lemmas.Bool.Decides.{nat_tests}
 use Rattle.poly_cut.specs.declared.layout.Point.{Point}
-use Rattle.poly_cut.specs.declared.layout.Item.{Item}
-use Rattle.poly_cut.specs.declared.layout.Item.TheVariants.{Draw}
-use Rattle.poly_cut.specs.declared.layout.Figure.TheVariants.{Ring}
-use Rattle.poly_cut.specs.declared.layout.WideStructure.{WideStructure}
 use Rattle.poly_cut.specs.Turns.{point}
-use Rattle.poly_cut.specs.Cuts.{ring_cut}
-use Rattle.poly_cut.specs.Counts.{own_count, placed_count, count_of, wide_count, told}
 use Rattle.gds_records.specs.Scan.{IsBytes}
 use Rattle.gds_records.specs.Values.{at, value_of}
 use Rattle.gds_records.specs.Drawing.{coordinate}
@@ -116,30 +110,6 @@ lattice_other columns rows xy h =
 
 pub at_fits : (xy : List ℕ) → IsBytes xy → (k : ℕ) → at xy k < 2 ^ 32
 at_fits xy f k = four_low (drop (4 * k) xy) (drop_is_bytes (4 * k) xy f)
-
-some_told : (n : ℕ) → not (told n == 0) ≡ not (n == 0)
-some_told n = grind (arith, nat_tests)
-
-plus_nothing : (n : ℕ) → n + 0 + 0 ≡ n
-plus_nothing n = omega arith
-
-count_of_ring : (ring : List Point) (s : WideStructure) → s.items ≡ Draw 0 0 (Ring ring) ∷ []
-    → wide_count (record { structures = s ∷ []; top = 0 }) ≡ length (ring_cut ring)
-unfolding wide_count
-count_of_ring ring s e =
-    (λ k. own_count (e k) + placed_count (count_of 64 (s ∷ [])) (e k)) ∙ plus_nothing (length (ring_cut ring))
-
-pub squares_counted : (ring : List Point) (none items : List Item) (s : WideStructure) (nothing structures : List WideStructure) (count : ℕ)
-    → none ≡ [] → items ≡ none ++ Draw 0 0 (Ring ring) ∷ [] → s.items ≡ items → nothing ≡ [] → structures ≡ nothing ++ s ∷ []
-    → count ≡ told (wide_count (record { structures = structures; top = 0 }))
-    → not (count == 0) ≡ not (length (ring_cut ring) == 0)
-squares_counted ring none items s nothing structures count a i w b t e =
-    let one : items ≡ Draw 0 0 (Ring ring) ∷ [] = i ∙ ap (λ (l : List Item). l ++ Draw 0 0 (Ring ring) ∷ []) a in
-    let alone : structures ≡ s ∷ [] = t ∙ ap (λ (l : List WideStructure). l ++ s ∷ []) b in
-    (λ k. not (e k == 0))
-    ∙ (λ k. not (told (wide_count (record { structures = alone k; top = 0 })) == 0))
-    ∙ (λ k. not (told (count_of_ring ring s (w ∙ one) k) == 0))
-    ∙ some_told (length (ring_cut ring))
 
 -- ---- numbers
 

@@ -30,5 +30,6 @@ IsPlaced count (Text l) = FitsSigned w32 l.x × FitsSigned w32 l.y
 pub record IsFlattenable (layout : Layout) : Type 0 where
   pub top_stands : layout.top < length layout.structures
   pub each : All (λ s. All (IsPlaced (length layout.structures)) s.elements) layout.structures
-  pub shallow : (n : ℕ) → is_referenced n layout.structures ≡ true → holds_reference (elements_at layout.structures n) ≡ false
+  pub shallow : (n : ℕ) → is_referenced n layout.structures ≡ true → holds_reference (elements_at layout.structures n)
+      ≡ false
   pub within : flat_count (flat_of layout) ≤ 8000000

@@ -23,12 +23,12 @@ fn first_point(xy: &[u8]) -> Point
 pub fn points(alloc: Global, xy: &[u8]) -> Result<List<Point>, Memory>
     ensures { IfOk result (λ found. found ≡ points xy.now) }
 {
-    let mut found = List::new(alloc);
+    let mut found = Vec::with_capacity(alloc, xy.len() / 8)?;
     let mut rest = xy;
     'points: while rest.len() >= 8 {
         found.push(first_point(rest))?;
         let (_, more) = rest.split_at(8);
         rest = more;
     }
-    Ok(found)
+    Ok(List::from_vec(found))
 }

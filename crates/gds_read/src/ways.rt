@@ -134,9 +134,9 @@ fn goes_on(first: &Point, points: &[Point]) -> bool
 pub fn turns(alloc: Global, points: &[Point]) -> Result<List<Point>, Memory>
     ensures { IfOk result (λ kept. kept ≡ turns points.now) }
 {
-    let mut kept = List::new(alloc);
+    let mut kept = Vec::with_capacity(alloc, points.len())?;
     let Some((first, more)) = points.split_first() else {
-        return Ok(kept);
+        return Ok(List::from_vec(kept));
     };
     let mut came = Way::Still;
     let mut last = first;
@@ -144,7 +144,7 @@ pub fn turns(alloc: Global, points: &[Point]) -> Result<List<Point>, Memory>
     'steps: loop {
         let Some((next, more)) = rest.split_first() else {
             kept.push(*last)?;
-            return Ok(kept);
+            return Ok(List::from_vec(kept));
         };
         let way = way_to(last, next);
         if !is_same(came, way) {

@@ -35,6 +35,7 @@ fn layout_of(alloc: Global, hash: NameHash, bytes: &[u8]) -> Result<WideLayout, 
     let numbers = numbers(alloc, hash, outlines.as_slice())?;
     let used = used_names(alloc, hash, outlines.as_slice())?;
     let top = wide_top_or_fault(alloc, bytes, outlines.as_slice(), &numbers, &used)?;
+    drop(used);
     let structures = wide_structures(alloc, outlines.as_slice(), &numbers, bytes)?;
     let top = small_number(top)?;
     Ok(WideLayout { structures, top })

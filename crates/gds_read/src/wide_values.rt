@@ -6,18 +6,17 @@ ghost use Rattle.gds_records.specs.Table.{wide_table, has_length_in};
 ghost use Rattle.gds_records.specs.Values.{value_of};
 ghost use Rattle.gds_records.specs.Drawing.{coordinate};
 ghost use Rattle.gds_records.specs.WideValues.{points, is_ring, is_path, is_width, is_flip, is_one, quarters, is_turn, columns, rows, is_count, is_colrow, is_multiple, is_lattice, rule, refers, wide_fault_in};
-ghost use Rattle.poly_cut.specs.Cuts.{ring_cut};
 
 use crate::fields::{narrow, number};
 use crate::points::points;
 use crate::values::{flag_bits, is_rectangle, is_value};
 use crate::ways::{is_path, is_round};
-use aq_base::{List, Memory};
+use aq_base::Memory;
 use gds_records::codes::{
     ANGLE, AREF, BOUNDARY, COLROW, MAG, PATH, PATHTYPE, SREF, STRANS, WIDTH, XY,
 };
 use gds_records::{StreamKind, rectangles_are_rings};
-use poly_cut::{Figure, Item, Point, WideLayout, WideStructure, count_flat};
+use poly_cut::has_squares;
 use std::alloc::Global;
 
 // What holds, or else this fault.
@@ -25,25 +24,6 @@ fn unless(holds: bool, kind: StreamKind) -> Option<StreamKind>
     ensures { result ≡ rule true holds kind None }
 {
     if holds { None } else { Some(kind) }
-}
-
-// Whether a ring has a square inside, by the number of rectangles of a layout of this ring alone.
-fn has_squares(alloc: Global, ring: List<Point>) -> Result<bool, Memory>
-    ensures { IfOk result (λ some. some ≡ not (length (ring_cut ring) == 0)) }
-{
-    let mut items = List::new(alloc);
-    items.push(Item::Draw {
-        layer: 0,
-        datatype: 0,
-        figure: Figure::Ring(ring),
-    })?;
-    let mut structures = List::new(alloc);
-    structures.push(WideStructure {
-        name: List::new(alloc),
-        items,
-    })?;
-    let count = count_flat(alloc, &WideLayout { structures, top: 0 })?;
-    Ok(count != 0)
 }
 
 // Whether the points of a boundary go round by right angles, with a square inside.
@@ -58,7 +38,7 @@ fn is_ring(alloc: Global, xy: &[u8]) -> Result<bool, Memory>
     if !is_round(ring.as_slice()) {
         return Ok(false);
     }
-    has_squares(alloc, ring)
+    has_squares(alloc, ring.as_slice())
 }
 
 // Whether the points are those of a path.

@@ -1,10 +1,10 @@
 -- A ring that goes around a rectangle is cut into it alone.
-use Rattle.std.specs.Prelude.{◌≡◌, ◌⊎◌, ℕ, suc, ◌<ℤ◌, ℤ, List, [], ◌∷◌, length, Option, Some, None}
-use Rattle.std.proofs.Common.{refl, sym, ap, ◌∙◌, subst, arith, inl, inr, get_or}
+use Rattle.std.specs.Prelude.{◌≡◌, ◌⊎◌, ◌<ℤ◌, ℤ, List, [], ◌∷◌, length, Option, Some, None}
+use Rattle.std.proofs.Common.{refl, sym, ap, ◌∙◌, arith, inl, inr, get_or}
 use Rattle.std.proofs.lemmas.Int.{ints}
 use Rattle.geom.specs.Rectangle.{Rectangle}
 use Rattle.poly_cut.specs.declared.layout.Point.{Point}
-use Rattle.poly_cut.specs.Cuts.{box, lesser, greater, ring_cut}
+use Rattle.poly_cut.specs.Cuts.{box, ring_cut}
 use Rattle.poly_cut.specs.Turns.{point}
 use Rattle.poly_cut.specs.Code.Boxes.{AreCorners, IsBox, IsBoxOf}
 use Rattle.poly_cut.proofs.RectangleCut.{cut_along_x, cut_along_y, less_first, less_second}

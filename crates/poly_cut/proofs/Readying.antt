@@ -1,5 +1,5 @@
 -- What is made ready of items adds what the items add.
-use Rattle.std.specs.Prelude.{◌≡◌, ◌⊎◌, ℕ, zero, suc, ◌+◌, ◌-◌, ◌≤◌, ◌<◌, ◌++◌, List, [], ◌∷◌, length, Option, Some, None, IfOk, slice_get, slice_index}
+use Rattle.std.specs.Prelude.{◌≡◌, ◌⊎◌, ℕ, zero, suc, ◌+◌, ◌-◌, ◌≤◌, ◌<◌, ◌++◌, List, [], ◌∷◌, length, map, Option, Some, IfOk, slice_get, slice_index}
 use Rattle.std.specs.List.{flat_map, AllByRecursion}
 use Rattle.std.proofs.Common.{Result, Ok, Err, inl, inr, refl, sym, ap, ◌∙◌, subst, arith, take, get_or}
 use Rattle.std.proofs.lemmas.List.{take_more}
@@ -11,15 +11,17 @@ use Rattle.geom.specs.declared.shapes.Label.{Label}
 use Rattle.poly_cut.specs.declared.layout.Point.{Point}
 use Rattle.poly_cut.specs.declared.layout.Turn.{Turn}
 use Rattle.poly_cut.specs.declared.layout.Grid.{Grid}
+use Rattle.poly_cut.specs.declared.layout.Figure.{Figure}
 use Rattle.poly_cut.specs.declared.layout.Item.{Item}
-use Rattle.poly_cut.specs.declared.layout.Item.TheVariants.{Place}
+use Rattle.poly_cut.specs.declared.layout.Item.TheVariants.{Draw, Place}
 use Rattle.poly_cut.specs.declared.layout.WideStructure.{WideStructure}
 use Rattle.poly_cut.specs.declared.ready.Ready.{Ready}
 use Rattle.poly_cut.specs.declared.ready.Ready.TheVariants as ready
+use Rattle.poly_cut.specs.Figures.{cut_of}
 use Rattle.poly_cut.specs.Conditions.{IsPlaced}
-use Rattle.poly_cut.specs.FlatForm.{item_shapes, item_labels, shapes_of, labels_of, items_in, items_at, DEPTH}
+use Rattle.poly_cut.specs.FlatForm.{shape, item_shapes, item_labels, shapes_of, labels_of, items_in, items_at, DEPTH}
 use Rattle.poly_cut.specs.Counts.{ToldEmpty}
-use Rattle.poly_cut.specs.Code.Readied.{ready_shapes, ready_labels, IsReady, AddsAs, GainsItem, IsEntry, IsTable}
+use Rattle.poly_cut.specs.Code.Readied.{ready_shapes, ready_labels, IsReady, IsDrawing, AddsItem, AddsNothing, AddsAs, GainsItem, IsEntry, IsTable}
 use Rattle.poly_cut.proofs.Placed.{no_shapes, no_labels}
 
 -- one more at the end of a list
@@ -32,17 +34,39 @@ all_more P (y ∷ xs) x all p = (all.0, all_more P xs x all.1 p)
 
 -- what is put last adds what the item adds
 pub put : (ss : List WideStructure) (item : Item) (r : Ready) (old new : List Ready) → new ≡ old ++ r ∷ []
-    → ((of : ℕ → List Shape) → ready_shapes of r ≡ item_shapes of item)
-    → ((of : ℕ → List Label) → ready_labels of r ≡ item_labels of item)
-    → IsReady (length ss) r → GainsItem ss item old new
-put ss item r old new is shapes labels ready = record {
+    → AddsItem (length ss) item r → GainsItem ss item old new
+put ss item r old new is adds = record {
   shapes = λ depth small.
       at_end (ready_shapes (shapes_of depth ss)) old new r is
-      ∙ ap (λ l. flat_map (ready_shapes (shapes_of depth ss)) old ++ l) (shapes (shapes_of depth ss));
+      ∙ ap (λ l. flat_map (ready_shapes (shapes_of depth ss)) old ++ l) (adds.shapes (shapes_of depth ss));
   labels = λ depth small.
       at_end (ready_labels (labels_of depth ss)) old new r is
-      ∙ ap (λ l. flat_map (ready_labels (labels_of depth ss)) old ++ l) (labels (labels_of depth ss));
-  each = λ all. subst (AllByRecursion (IsReady (length ss))) (sym is) (all_more (IsReady (length ss)) old r all ready);
+      ∙ ap (λ l. flat_map (ready_labels (labels_of depth ss)) old ++ l) (adds.labels (labels_of depth ss));
+  each = λ all. subst (AllByRecursion (IsReady (length ss))) (sym is) (all_more (IsReady (length ss)) old r all adds.each);
+}
+
+-- where an item adds nothing, a list that stays as it is gains it
+with_none : {A : Type 0} (old xs : List A) → xs ≡ [] → old ≡ old ++ xs
+with_none old xs e = sym (ap (λ l. old ++ l) e ∙ append-nil old)
+
+pub left_out : (ss : List WideStructure) (item : Item) (old new : List Ready) → new ≡ old → AddsNothing ss item → GainsItem ss item old new
+left_out ss item old new is nothing = record {
+  shapes = λ depth small.
+      ap (flat_map (ready_shapes (shapes_of depth ss))) is
+      ∙ with_none (flat_map (ready_shapes (shapes_of depth ss)) old) (item_shapes (shapes_of depth ss) item) (nothing.shapes depth small);
+  labels = λ depth small.
+      ap (flat_map (ready_labels (labels_of depth ss))) is
+      ∙ with_none (flat_map (ready_labels (labels_of depth ss)) old) (item_labels (labels_of depth ss) item) (nothing.labels depth small);
+  each = λ all. subst (AllByRecursion (IsReady (length ss))) (sym is) all;
+}
+
+-- a figure that is ready
+pub drawing : (count layer datatype : ℕ) (f : Figure) (item : Item) (r : Ready) → item ≡ Draw layer datatype f
+    → IsDrawing (map (shape layer datatype) (cut_of f)) r → AddsItem count item r
+drawing count layer datatype f item r is so = record {
+  shapes = λ of. so.same of ∙ sym (ap (item_shapes of) is);
+  labels = λ of. so.none of ∙ sym (ap (item_labels of) is);
+  each = so.each count;
 }
 
 -- nothing is added at all
@@ -71,15 +95,12 @@ more_at ss items i item old new within at so gain =
 
 -- a placement of what holds nothing adds nothing
 pub placed_nothing : (ss : List WideStructure) (counts : List ℕ) (item : Item) (n : ℕ) (at : Point) (t : Turn) (g : Grid)
-    (old : List Ready) → item ≡ Place n at t g → ToldEmpty ss counts → slice_index counts n ≡ 0 → GainsItem ss item old old
-placed_nothing ss counts item n at t g old is empty zero_so = record {
+    → item ≡ Place n at t g → ToldEmpty ss counts → slice_index counts n ≡ 0 → AddsNothing ss item
+placed_nothing ss counts item n at t g is empty zero_so = record {
   shapes = λ depth small.
-      no_shapes (shapes_of depth ss) item n at t g (flat_map (ready_shapes (shapes_of depth ss)) old) is
-      (empty n depth (omega (arith, small)) zero_so).0;
+      sym (no_shapes (shapes_of depth ss) item n at t g [] is (empty n depth (omega (arith, small)) zero_so).0);
   labels = λ depth small.
-      no_labels (labels_of depth ss) item n at t g (flat_map (ready_labels (labels_of depth ss)) old) is
-      (empty n depth (omega (arith, small)) zero_so).1;
-  each = λ all. all;
+      sym (no_labels (labels_of depth ss) item n at t g [] is (empty n depth (omega (arith, small)) zero_so).1);
 }
 
 -- a placement that is ready is one
@@ -134,6 +155,25 @@ part_labels f (Ok part) ss n (suc depth) ready given some small adds is so =
     let e : suc depth - 1 ≡ depth = omega arith in
     so ∙ ap (λ (k : ℕ). flat_map (ready_labels (labels_of k ss)) given) e
     ∙ ap (flat_map (ready_labels (labels_of depth ss))) is ∙ adds.labels depth (omega (arith, small))
+
+-- and so is what they add one by one
+pub own_shapes : {P E : Type 0} (f : P → List Shape) (r : Result P E) (ss : List WideStructure) (n depth : ℕ) (items : List Item)
+    → 0 < depth → items ≡ items_at ss n → IfOk r (λ part. f part ≡ flat_map (item_shapes (shapes_of (depth - 1) ss)) items)
+    → IfOk r (λ part. f part ≡ shapes_of depth ss n)
+own_shapes f (Err e) ss n depth items some is so = tt
+own_shapes f (Ok part) ss n zero items some is so = absurd (omega (arith, some))
+own_shapes f (Ok part) ss n (suc depth) items some is so =
+    let e : suc depth - 1 ≡ depth = omega arith in
+    so ∙ ap (λ (k : ℕ). flat_map (item_shapes (shapes_of k ss)) items) e ∙ ap (flat_map (item_shapes (shapes_of depth ss))) is
+
+pub own_labels : {P E : Type 0} (f : P → List Label) (r : Result P E) (ss : List WideStructure) (n depth : ℕ) (items : List Item)
+    → 0 < depth → items ≡ items_at ss n → IfOk r (λ part. f part ≡ flat_map (item_labels (labels_of (depth - 1) ss)) items)
+    → IfOk r (λ part. f part ≡ labels_of depth ss n)
+own_labels f (Err e) ss n depth items some is so = tt
+own_labels f (Ok part) ss n zero items some is so = absurd (omega (arith, some))
+own_labels f (Ok part) ss n (suc depth) items some is so =
+    let e : suc depth - 1 ≡ depth = omega arith in
+    so ∙ ap (λ (k : ℕ). flat_map (item_labels (labels_of k ss)) items) e ∙ ap (flat_map (item_labels (labels_of depth ss))) is
 
 -- the items of the structure at a place
 pub items_there : (ss : List WideStructure) (n : ℕ) (s : WideStructure) → n < length ss → s ≡ get_or ss n s → items_at ss n ≡ s.items

@@ -1,20 +1,40 @@
 // The number of shapes and labels of a flat form, without making it.
-ghost use Rattle.std.specs.Prelude.{◌≡◌, ◌+◌, ◌*◌, ◌∷◌, [], ℕ, length, map, slice_index, IfOk};
+ghost use Rattle.std.specs.Prelude.{◌≡◌, ◌+◌, ◌*◌, ◌∷◌, [], ℕ, length, map, slice_index, not, ◌==◌, IsTrue, IfOk};
+ghost use Rattle.poly_cut.specs.Cuts.{ring_cut};
 ghost use Rattle.poly_cut.specs.Figures.{cut_of};
 ghost use Rattle.poly_cut.specs.FlatForm.{items_at};
 ghost use Rattle.poly_cut.specs.Counts.{own_count, placed_count, count_of, wide_count, told, Tell};
 
+use crate::boxes::rectangle_of;
 use crate::cutting::cut_ring;
-use crate::layout::{Figure, Grid, Item, WideLayout, WideStructure};
+use crate::layout::{Figure, Grid, Item, Point, WideLayout, WideStructure};
 use aq_base::Memory;
 use std::alloc::Global;
+
+/// Into how many rectangles a ring is cut.
+fn ring_count(alloc: Global, ring: &[Point]) -> Result<usize, Memory>
+    ensures { IfOk result (λ count. count ≡ length (ring_cut ring.now)) }
+{
+    if rectangle_of(ring).is_some() {
+        return Ok(1);
+    }
+    Ok(cut_ring(alloc, ring)?.len())
+}
+
+/// Whether a ring has a square inside.
+pub fn has_squares(alloc: Global, ring: &[Point]) -> Result<bool, Memory>
+    ensures { IfOk result (λ some. some ≡ not (length (ring_cut ring.now) == 0)) }
+{
+    let count = ring_count(alloc, ring)?;
+    Ok(count != 0)
+}
 
 /// How many rectangles a figure has.
 fn figure_count(alloc: Global, figure: &Figure) -> Result<usize, Memory>
     ensures { IfOk result (λ count. count ≡ length (cut_of figure.now)) }
 {
     match figure {
-        Figure::Ring(points) => Ok(cut_ring(alloc, points.as_slice())?.len()),
+        Figure::Ring(points) => ring_count(alloc, points.as_slice()),
         Figure::Path { points, .. } => Ok(points.len().saturating_sub(1)),
     }
 }
@@ -113,7 +133,13 @@ fn counts_above(
     Ok(above)
 }
 
-/// The counts of shapes and labels of structures, as 64 bits tell them.
+fn are_same(counts: &[u64], others: &[u64]) -> bool
+    ensures { IsTrue result → counts.now ≡ others.now }
+{
+    counts == others
+}
+
+/// The counts of shapes and labels of structures, as 64 bits tell them. A round that changes none is the last.
 pub fn counts(alloc: Global, structures: &[WideStructure]) -> Result<Vec<u64>, Memory>
     ensures { IfOk result (λ counts. Tell counts.items (count_of 65 structures.now)) }
 {
@@ -121,7 +147,11 @@ pub fn counts(alloc: Global, structures: &[WideStructure]) -> Result<Vec<u64>, M
     let mut counts = Vec::new(alloc);
     let mut depth: usize = 0;
     'levels: while depth < 65 {
-        counts = counts_above(alloc, structures, own.as_slice(), counts.as_slice())?;
+        let above = counts_above(alloc, structures, own.as_slice(), counts.as_slice())?;
+        if are_same(above.as_slice(), counts.as_slice()) {
+            return Ok(counts);
+        }
+        counts = above;
         depth += 1;
     }
     Ok(counts)

@@ -26,7 +26,7 @@ fn end_at(edge: &Point, at: &Point) -> End
 pub fn ends(alloc: Global, ring: &[Point]) -> Result<Vec<End>, Memory>
     ensures { IfOk result (λ ends. ends.items ≡ ends_of (edges ring.now)) }
 {
-    let mut ends = Vec::new(alloc);
+    let mut ends = Vec::with_capacity(alloc, ring.len().saturating_mul(2))?;
     for i in 1..ring.len() {
         ends.push(end_at(&ring[i - 1], &ring[i - 1]))?;
         ends.push(end_at(&ring[i - 1], &ring[i]))?;

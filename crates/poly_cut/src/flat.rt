@@ -3,18 +3,18 @@ ghost use Rattle.std.specs.Prelude.{◌≡◌, ◌≤◌, ◌<◌, ◌^◌, ◌+
 ghost use Rattle.std.specs.List.{flat_map, AllByRecursion};
 ghost use Rattle.poly_cut.specs.Turns.{placed_shape, placed_label};
 ghost use Rattle.poly_cut.specs.Bounds.{IsShapeWithin, IsLabelWithin, IsNear};
-ghost use Rattle.poly_cut.specs.Conditions.{AreItems, IsFlattenable};
+ghost use Rattle.poly_cut.specs.Conditions.{AreItems, IsItem, IsFlattenable};
 ghost use Rattle.poly_cut.specs.Counts.{ToldEmpty};
-ghost use Rattle.poly_cut.specs.FlatForm.{shapes_of, labels_of, wide_flat};
+ghost use Rattle.poly_cut.specs.FlatForm.{shape, item_shapes, item_labels, shapes_of, labels_of, wide_flat};
 ghost use Rattle.poly_cut.specs.Code.Readied.{IsReady, IsTable, ready_shapes, ready_labels};
 
 use crate::counts::counts;
 use crate::grids::grid_points;
-use crate::layout::{Point, Turn, WideLayout, WideStructure};
-use crate::ready::{Ready, copied_label, ready_items, ready_table};
+use crate::layout::{Item, Point, Turn, WideLayout, WideStructure};
+use crate::ready::{Ready, copied_label, ready_item, ready_table, shape_on};
 use crate::turns::{placed_label, placed_shape};
 use aq_base::{List, Memory};
-use geom::{Flat, Label, Shape};
+use geom::{Flat, Label, Rect, Shape};
 use std::alloc::Global;
 
 /// Shapes and labels.
@@ -71,12 +71,17 @@ fn add_labels(
     Ok(())
 }
 
-/// Adds the rectangles of a figure.
-fn add_drawn(shapes: &mut List<Shape>, drawn: &[Shape]) -> Result<(), Memory>
-    ensures { OnOk result (shapes.new ≡ shapes.old ++ drawn.now) }
+/// Adds the rectangles of a figure on a layer and datatype.
+fn add_drawn(
+    shapes: &mut List<Shape>,
+    layer: u16,
+    datatype: u16,
+    rects: &[Rect],
+) -> Result<(), Memory>
+    ensures { OnOk result (shapes.new ≡ shapes.old ++ map (shape layer datatype) rects.now) }
 {
-    for shape in drawn {
-        shapes.push(*shape)?;
+    for rect in rects {
+        shapes.push(shape_on(layer, datatype, rect))?;
     }
     Ok(())
 }
@@ -117,7 +122,12 @@ fn add_item(
     ensures labels { OnOk result (flat.new.labels ≡ flat.old.labels ++ ready_labels (labels_of depth structures.now) item.now) }
 {
     match item {
-        Ready::Drawn(shapes) => add_drawn(&mut flat.shapes, shapes.as_slice()),
+        Ready::Boxed(shape) => flat.shapes.push(*shape),
+        Ready::Drawn {
+            layer,
+            datatype,
+            rects,
+        } => add_drawn(&mut flat.shapes, *layer, *datatype, rects.as_slice()),
         Ready::Placed {
             structure,
             at,
@@ -157,6 +167,56 @@ fn part_with(
     Ok(part)
 }
 
+/// Adds what an item adds, which is made ready and let go again.
+#[cycle(flatten)]
+fn add_own(
+    alloc: Global,
+    structures: &[WideStructure],
+    counts: &[u64],
+    table: &[Option<List<Ready>>],
+    depth: usize,
+    item: &Item,
+    flat: &mut Part,
+) -> Result<(), Memory>
+    requires depth { depth ≤ 64 }
+    requires items { AreItems (length structures.now) structures.now }
+    requires counts { ToldEmpty structures.now counts.now }
+    requires table { IsTable structures.now table.now }
+    requires item { IsItem (length structures.now) item.now }
+    ensures shapes { OnOk result (flat.new.shapes ≡ flat.old.shapes ++ item_shapes (shapes_of depth structures.now) item.now) }
+    ensures labels { OnOk result (flat.new.labels ≡ flat.old.labels ++ item_labels (labels_of depth structures.now) item.now) }
+{
+    match ready_item(alloc, structures, counts, item)? {
+        Some(ready) => add_item(alloc, structures, counts, table, depth, &ready, flat),
+        None => Ok(()),
+    }
+}
+
+/// The shapes and labels that items add, one by one, down chains of fewer references than this.
+#[cycle(flatten)]
+fn part_from(
+    alloc: Global,
+    structures: &[WideStructure],
+    counts: &[u64],
+    table: &[Option<List<Ready>>],
+    depth: usize,
+    items: &[Item],
+) -> Result<Part, Memory>
+    requires depth { depth ≤ 64 }
+    requires items { AreItems (length structures.now) structures.now }
+    requires counts { ToldEmpty structures.now counts.now }
+    requires table { IsTable structures.now table.now }
+    requires each { AllByRecursion (IsItem (length structures.now)) items.now }
+    ensures shapes { IfOk result (λ part. part.shapes ≡ flat_map (item_shapes (shapes_of depth structures.now)) items.now) }
+    ensures labels { IfOk result (λ part. part.labels ≡ flat_map (item_labels (labels_of depth structures.now)) items.now) }
+{
+    let mut part = nothing(alloc);
+    for item in items {
+        add_own(alloc, structures, counts, table, depth, item, &mut part)?;
+    }
+    Ok(part)
+}
+
 /// The flat form of a structure, down chains of fewer references than this: so at most 65 structures stand on one another.
 #[cycle(flatten)]
 fn part_of(
@@ -188,14 +248,13 @@ fn part_of(
         );
     }
     let structure = &structures[number as usize];
-    let ready = ready_items(alloc, structures, counts, structure.items.as_slice())?;
-    part_with(
+    part_from(
         alloc,
         structures,
         counts,
         table,
         depth - 1,
-        ready.as_slice(),
+        structure.items.as_slice(),
     )
 }
 

@@ -16,7 +16,7 @@ mod strokes;
 mod turns;
 mod walls;
 
-pub use counts::count_flat;
+pub use counts::{count_flat, has_squares};
 pub use cutting::cut;
 pub use flat::flatten_wide;
 pub use laws::{

@@ -1,12 +1,14 @@
 // Items with their figures cut, and without what adds nothing.
-ghost use Rattle.std.specs.Prelude.{◌≡◌, ◌<◌, ◌++◌, [], ℕ, Some, Option, map, length, slice_get, IfOk, OnOk};
+ghost use Rattle.std.specs.Prelude.{◌≡◌, ◌∷◌, [], Some, map, length, IfOk, OnOk};
 ghost use Rattle.std.specs.List.{AllByRecursion};
+ghost use Rattle.geom.specs.Rectangle.{Rectangle};
 ghost use Rattle.poly_cut.specs.Figures.{cut_of, IsDrawn};
 ghost use Rattle.poly_cut.specs.Conditions.{IsItem, AreItems};
 ghost use Rattle.poly_cut.specs.Counts.{ToldEmpty};
-ghost use Rattle.poly_cut.specs.FlatForm.{shape, items_at};
-ghost use Rattle.poly_cut.specs.Code.Readied.{AddsAs, GainsItem, IsEntry, IsTable};
+ghost use Rattle.poly_cut.specs.FlatForm.{shape};
+ghost use Rattle.poly_cut.specs.Code.Readied.{AddsAs, GainsItem, IsDrawing, IsEntry, IsReadied, IsTable};
 
+use crate::boxes::rectangle_of;
 use crate::counts::count_at;
 use crate::cutting::cut;
 use crate::layout::{Figure, Grid, Item, Point, Turn, WideStructure};
@@ -17,8 +19,14 @@ use std::alloc::Global;
 /// An item that adds something to a flat form, its figure being cut.
 #[derive(Drop)]
 pub enum Ready {
-    /// The rectangles of a figure.
-    Drawn(List<Shape>),
+    /// The one rectangle of a ring that goes around it.
+    Boxed(Shape),
+    /// The rectangles of another figure.
+    Drawn {
+        layer: u16,
+        datatype: u16,
+        rects: List<Rect>,
+    },
     /// A placement of a structure that holds something.
     Placed {
         structure: u32,
@@ -31,7 +39,7 @@ pub enum Ready {
 }
 
 /// A rectangle on a layer and datatype.
-fn shape_on(layer: u16, datatype: u16, rect: &Rect) -> Shape
+pub fn shape_on(layer: u16, datatype: u16, rect: &Rect) -> Shape
     ensures { result ≡ shape layer datatype rect.now }
 {
     Shape {
@@ -41,17 +49,29 @@ fn shape_on(layer: u16, datatype: u16, rect: &Rect) -> Shape
     }
 }
 
-/// The rectangles of a figure on a layer and datatype.
-fn drawn(alloc: Global, layer: u16, datatype: u16, figure: &Figure) -> Result<List<Shape>, Memory>
-    requires { IsDrawn figure.now }
-    ensures { IfOk result (λ shapes. shapes ≡ map (shape layer datatype) (cut_of figure.now)) }
+/// The rectangle of a figure that is a ring around one.
+fn boxed(figure: &Figure) -> Option<Rect>
+    ensures { (rect : Rectangle) → result ≡ Some rect → cut_of figure.now ≡ rect ∷ [] }
 {
-    let rects = cut(alloc, figure)?;
-    let mut shapes = List::new(alloc);
-    for rect in rects.as_slice() {
-        shapes.push(shape_on(layer, datatype, rect))?;
+    match figure {
+        Figure::Ring(points) => rectangle_of(points.as_slice()),
+        Figure::Path { .. } => None,
     }
-    Ok(shapes)
+}
+
+/// A figure that is cut, on a layer and datatype. A rectangle takes no memory of its own.
+fn drawn(alloc: Global, layer: u16, datatype: u16, figure: &Figure) -> Result<Ready, Memory>
+    requires { IsDrawn figure.now }
+    ensures { IfOk result (IsDrawing (map (shape layer datatype) (cut_of figure.now))) }
+{
+    if let Some(rect) = boxed(figure) {
+        return Ok(Ready::Boxed(shape_on(layer, datatype, &rect)));
+    }
+    Ok(Ready::Drawn {
+        layer,
+        datatype,
+        rects: cut(alloc, figure)?,
+    })
 }
 
 /// A copy of a label, whose text it shares.
@@ -66,7 +86,44 @@ pub fn copied_label(label: &Label) -> Result<Label, Memory>
     })
 }
 
-/// Adds an item, unless it places a structure that holds nothing.
+/// What an item adds, unless it places a structure that holds nothing.
+pub fn ready_item(
+    alloc: Global,
+    structures: &[WideStructure],
+    counts: &[u64],
+    item: &Item,
+) -> Result<Option<Ready>, Memory>
+    requires counts { ToldEmpty structures.now counts.now }
+    requires item { IsItem (length structures.now) item.now }
+    ensures { IfOk result (IsReadied structures.now item.now) }
+{
+    match item {
+        Item::Draw {
+            layer,
+            datatype,
+            figure,
+        } => Ok(Some(drawn(alloc, *layer, *datatype, figure)?)),
+        Item::Place {
+            structure,
+            at,
+            turn,
+            grid,
+        } => {
+            if count_at(counts, *structure) == 0 {
+                return Ok(None);
+            }
+            Ok(Some(Ready::Placed {
+                structure: *structure,
+                at: *at,
+                turn: *turn,
+                grid: *grid,
+            }))
+        }
+        Item::Text(label) => Ok(Some(Ready::Shown(copied_label(label)?))),
+    }
+}
+
+/// Adds what an item adds.
 fn add_ready(
     alloc: Global,
     structures: &[WideStructure],
@@ -78,34 +135,14 @@ fn add_ready(
     requires item { IsItem (length structures.now) item.now }
     ensures { OnOk result (GainsItem structures.now item.now ready.old ready.new) }
 {
-    match item {
-        Item::Draw {
-            layer,
-            datatype,
-            figure,
-        } => ready.push(Ready::Drawn(drawn(alloc, *layer, *datatype, figure)?)),
-        Item::Place {
-            structure,
-            at,
-            turn,
-            grid,
-        } => {
-            if count_at(counts, *structure) == 0 {
-                return Ok(());
-            }
-            ready.push(Ready::Placed {
-                structure: *structure,
-                at: *at,
-                turn: *turn,
-                grid: *grid,
-            })
-        }
-        Item::Text(label) => ready.push(Ready::Shown(copied_label(label)?)),
+    match ready_item(alloc, structures, counts, item)? {
+        Some(adds) => ready.push(adds),
+        None => Ok(()),
     }
 }
 
 /// What items add.
-pub fn ready_items(
+fn ready_items(
     alloc: Global,
     structures: &[WideStructure],
     counts: &[u64],
@@ -122,39 +159,40 @@ pub fn ready_items(
     Ok(ready)
 }
 
-/// Which structures the top leads to, as far as 64 rounds find them. No clause rests on it: what it misses is made ready
-/// at each of its places.
-fn reached(alloc: Global, structures: &[WideStructure], top: u32) -> Result<Vec<bool>, Memory> {
-    let mut reached = Vec::with_capacity(alloc, structures.len())?;
-    for number in 0..structures.len() {
-        reached.push(number == top as usize)?;
+/// Counts a visit to a structure, and has it wait to be looked into. Visits behind the second are not told.
+fn note_visit(visits: &mut Vec<u8>, waiting: &mut Vec<u32>, structure: u32) -> Result<(), Memory> {
+    if let Some(count) = visits.get_mut(structure as usize)
+        && *count < 2
+    {
+        *count += 1;
+        waiting.push(structure)?;
     }
-    for _ in 0..64 {
-        if !reach_further(structures, &mut reached) {
-            break;
-        }
-    }
-    Ok(reached)
+    Ok(())
 }
 
-/// Marks what marked structures place, from the last structure to the first. Whether one was added.
-fn reach_further(structures: &[WideStructure], reached: &mut Vec<bool>) -> bool {
-    let mut more = false;
-    for (number, structure) in structures.iter().enumerate().rev() {
-        if !reached.get(number).copied().unwrap_or(false) {
+/// How often each structure is visited from the top down, as far as two: once for each item that places it in each visit
+/// to the structure of that item. No clause rests on it: what it misses is made ready at each visit.
+fn visits(alloc: Global, structures: &[WideStructure], top: u32) -> Result<Vec<u8>, Memory> {
+    let mut visits = Vec::with_capacity(alloc, structures.len())?;
+    for _ in 0..structures.len() {
+        visits.push(0)?;
+    }
+    let mut waiting = Vec::new(alloc);
+    note_visit(&mut visits, &mut waiting, top)?;
+    for _ in 0..structures.len().saturating_mul(2) {
+        let Some(visited) = waiting.pop() else {
+            break;
+        };
+        let Some(visited) = structures.get(visited as usize) else {
             continue;
-        }
-        for item in structure.items.as_slice() {
-            if let Item::Place { structure, .. } = item
-                && let Some(flag) = reached.get_mut(*structure as usize)
-                && !*flag
-            {
-                *flag = true;
-                more = true;
+        };
+        for item in visited.items.as_slice() {
+            if let Item::Place { structure, .. } = item {
+                note_visit(&mut visits, &mut waiting, *structure)?;
             }
         }
     }
-    more
+    Ok(visits)
 }
 
 /// What the items of a structure add, if that is asked.
@@ -175,7 +213,8 @@ fn entry(
     Ok(Some(ready_items(alloc, structures, counts, structure.items.as_slice())?))
 }
 
-/// What the items of each structure that the top leads to add: so each of its figures is cut once.
+/// What the items of each structure add that is visited more than once: so each figure is cut once, and what is visited
+/// once is not kept a second time.
 pub fn ready_table(
     alloc: Global,
     structures: &[WideStructure],
@@ -186,10 +225,10 @@ pub fn ready_table(
     requires items { AreItems (length structures.now) structures.now }
     ensures { IfOk result (λ table. IsTable structures.now table.items) }
 {
-    let reached = reached(alloc, structures, top)?;
+    let visits = visits(alloc, structures, top)?;
     let mut table = Vec::with_capacity(alloc, structures.len())?;
     for (number, structure) in structures.iter().enumerate() {
-        let asked = reached.get(number).copied().unwrap_or(false);
+        let asked = visits.get(number).copied() == Some(2);
         table.push(entry(alloc, structures, counts, structure, asked)?)?;
     }
     Ok(table)

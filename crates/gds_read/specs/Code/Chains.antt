@@ -11,7 +11,8 @@ abbrev pub or_else : Option ℕ → Option ℕ → Option ℕ
 or_else (Some n) other = Some n
 or_else None other = other
 
--- the place of the first structure in a loop, or else of the first from which a chain of more than 64 references goes down
+-- the place of the first structure in a loop, or else of the first from which a chain of more than 64 references goes
+-- down
 abbrev pub loop_or_long : List Outline → Option ℕ
 loop_or_long ss = or_else (first_loop ss ss) (first_long ss ss)
 

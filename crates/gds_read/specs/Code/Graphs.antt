@@ -1,5 +1,6 @@
 -- The references of structures by number: chains down them, ways along them, and numbers that never rise.
-use Rattle.std.specs.Prelude.{ℕ, zero, suc, ◌==◌, ◌&&◌, ◌||◌, not, nat_lt, slice_index_or, List, [], ◌∷◌, Bool, true, false, map}
+use Rattle.std.specs.Prelude.{ℕ, zero, suc, ◌==◌, ◌&&◌, ◌||◌, not, nat_lt, slice_index_or, List, [], ◌∷◌, Bool, true}
+use Rattle.std.specs.Prelude.{false, map}
 use Rattle.gds_records.specs.Drawing.{place_of}
 use Rattle.gds_read.specs.declared.outline.NamedOutline.{NamedOutline}
 use Rattle.gds_read.specs.Code.Outlining.{names_in}

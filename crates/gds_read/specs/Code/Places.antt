@@ -1,7 +1,10 @@
 -- What may follow at each place of a reader, by the grammar of strict or of wide streams.
 use Rattle.gds_records.specs.Language.{Language, Empty, One, Then, Many}
-use Rattle.gds_records.specs.Codes.{BGNLIB, LIBNAME, UNITS, ENDLIB, STRNAME, ENDSTR, LAYER, DATATYPE, WIDTH, XY, ENDEL, SNAME, TEXTTYPE, PRESENTATION, STRING, STRANS, MAG, ANGLE, REFLIBS, FONTS, PATHTYPE, GENERATIONS, ATTRTABLE, PROPATTR, PROPVALUE, PLEX, COLROW}
-use Rattle.gds_records.specs.Grammar.{◌>>◌, maybe, tail, flags, turned, element, wide_element, structure_of_each, stream_of_each}
+use Rattle.gds_records.specs.Codes.{BGNLIB, LIBNAME, UNITS, ENDLIB, STRNAME, ENDSTR, LAYER, DATATYPE, WIDTH, XY, ENDEL}
+use Rattle.gds_records.specs.Codes.{SNAME, TEXTTYPE, PRESENTATION, STRING, STRANS, MAG, ANGLE, REFLIBS, FONTS, PATHTYPE}
+use Rattle.gds_records.specs.Codes.{GENERATIONS, ATTRTABLE, PROPATTR, PROPVALUE, PLEX, COLROW}
+use Rattle.gds_records.specs.Grammar.{◌>>◌, maybe, tail, flags, turned, element, wide_element, structure_of_each}
+use Rattle.gds_records.specs.Grammar.{stream_of_each}
 use Rattle.gds_read.specs.declared.place.Place.{Place}
 use Rattle.gds_read.specs.declared.place.Place.TheVariants as places
 use Rattle.gds_read.specs.declared.profile.Profile.{Profile}
@@ -59,9 +62,12 @@ lattice_on = One COLROW >> One XY >> tail
 
 abbrev pub rest_of : Profile → Place → Language
 rest_of p places.Start = stream_of_each (each p)
-rest_of p places.Header = One BGNLIB >> One LIBNAME >> maybe (One REFLIBS) >> maybe (One FONTS) >> maybe (One ATTRTABLE) >> maybe (One GENERATIONS) >> units p
-rest_of p places.Library = One LIBNAME >> maybe (One REFLIBS) >> maybe (One FONTS) >> maybe (One ATTRTABLE) >> maybe (One GENERATIONS) >> units p
-rest_of p places.LibraryName = maybe (One REFLIBS) >> maybe (One FONTS) >> maybe (One ATTRTABLE) >> maybe (One GENERATIONS) >> units p
+rest_of p places.Header = One BGNLIB >> One LIBNAME >> maybe (One REFLIBS) >> maybe (One FONTS)
+    >> maybe (One ATTRTABLE) >> maybe (One GENERATIONS) >> units p
+rest_of p places.Library = One LIBNAME >> maybe (One REFLIBS) >> maybe (One FONTS) >> maybe (One ATTRTABLE)
+    >> maybe (One GENERATIONS) >> units p
+rest_of p places.LibraryName = maybe (One REFLIBS) >> maybe (One FONTS) >> maybe (One ATTRTABLE)
+    >> maybe (One GENERATIONS) >> units p
 rest_of p places.ReferenceLibraries = maybe (One FONTS) >> maybe (One ATTRTABLE) >> maybe (One GENERATIONS) >> units p
 rest_of p places.Fonts = maybe (One ATTRTABLE) >> maybe (One GENERATIONS) >> units p
 rest_of p places.AttributeTable = maybe (One GENERATIONS) >> units p

@@ -4,7 +4,7 @@ use Rattle.gds_read.specs.Code.Ways.{way_of}
 use Rattle.gds_read.proofs.ways.turns.Given as goal
 
 abbrev pub invariant-steps : goal.invariant-steps
-invariant-steps l = l.kept ++ turns_from (way_of l.came) l.last l.rest ≡ turns l.points
+invariant-steps l = l.kept.items ++ turns_from (way_of l.came) l.last l.rest ≡ turns l.points
 
 abbrev pub decreases-steps : goal.decreases-steps
 decreases-steps l = length l.rest

@@ -1,5 +1,6 @@
-use Rattle.std.proofs.Common.{◌≡◌, ◌++◌, take}
+use Rattle.std.proofs.Common.{◌≡◌, ◌++◌, map, take}
+use Rattle.poly_cut.specs.FlatForm.{shape}
 use Rattle.poly_cut.proofs.flat.add_drawn.Given as goal
 
-abbrev pub invariant-loop-shape : goal.invariant-loop-shape
-invariant-loop-shape l = l.shapes ≡ l.initial.shapes ++ take l.shape-index l.drawn
+abbrev pub invariant-loop-rect : goal.invariant-loop-rect
+invariant-loop-rect l = l.shapes ≡ l.initial.shapes ++ map (shape l.layer l.datatype) (take l.rect-index l.rects)

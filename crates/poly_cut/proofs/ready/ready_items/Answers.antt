@@ -1,4 +1,4 @@
-use Rattle.poly_cut.proofs.Readying.{none, more_at}
+use Rattle.poly_cut.proofs.Readying.{more_at}
 use Rattle.poly_cut.proofs.ready.ready_items.Goals as goal
 
 pub loop-item-preserved : goal.loop-item-preserved

@@ -1,6 +1,0 @@
-use Rattle.std.proofs.Common.{◌≡◌, map, take}
-use Rattle.poly_cut.specs.FlatForm.{shape}
-use Rattle.poly_cut.proofs.ready.drawn.Given as goal
-
-abbrev pub invariant-loop-rect : goal.invariant-loop-rect
-invariant-loop-rect l = l.shapes ≡ map (shape l.layer l.datatype) (take l.rect-index l.rect-items)
