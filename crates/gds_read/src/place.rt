@@ -107,256 +107,96 @@ pub fn next(profile: Profile, place: Place, kind: u8) -> Option<Place>
     ensures { MatchOption result (after kind (rest_of profile place) ≡ Nothing)
         (λ next. after kind (rest_of profile place) ≡ rest_of profile next) }
 {
-    match place {
-        Place::Start => match kind {
-            HEADER => Some(Place::Header),
-            _ => None,
-        },
-        Place::Header => match kind {
-            BGNLIB => Some(Place::Library),
-            _ => None,
-        },
-        Place::Library => match kind {
-            LIBNAME => Some(Place::LibraryName),
-            _ => None,
-        },
-        Place::LibraryName => match kind {
-            REFLIBS => Some(Place::ReferenceLibraries),
-            FONTS => Some(Place::Fonts),
-            ATTRTABLE => Some(Place::AttributeTable),
-            GENERATIONS => Some(Place::Generations),
-            UNITS => Some(Place::Structures),
-            _ => None,
-        },
-        Place::ReferenceLibraries => match kind {
-            FONTS => Some(Place::Fonts),
-            ATTRTABLE => Some(Place::AttributeTable),
-            GENERATIONS => Some(Place::Generations),
-            UNITS => Some(Place::Structures),
-            _ => None,
-        },
-        Place::Fonts => match kind {
-            ATTRTABLE => Some(Place::AttributeTable),
-            GENERATIONS => Some(Place::Generations),
-            UNITS => Some(Place::Structures),
-            _ => None,
-        },
-        Place::AttributeTable => match kind {
-            GENERATIONS => Some(Place::Generations),
-            UNITS => Some(Place::Structures),
-            _ => None,
-        },
-        Place::Generations => match kind {
-            UNITS => Some(Place::Structures),
-            _ => None,
-        },
-        Place::Structures => match kind {
-            BGNSTR => Some(Place::Structure),
-            ENDLIB => Some(Place::Done),
-            _ => None,
-        },
-        Place::Structure => match kind {
-            STRNAME => Some(Place::Inside),
-            _ => None,
-        },
-        Place::Inside => next_element(profile, kind),
-        Place::Done => None,
-        Place::Boundary => match kind {
-            ELFLAGS => Some(Place::BoundaryFlags),
-            PLEX => Some(Place::BoundaryPlex),
-            LAYER => Some(Place::BoundaryLayer),
-            _ => None,
-        },
-        Place::BoundaryFlags => match kind {
-            PLEX => Some(Place::BoundaryPlex),
-            LAYER => Some(Place::BoundaryLayer),
-            _ => None,
-        },
-        Place::BoundaryPlex => match kind {
-            LAYER => Some(Place::BoundaryLayer),
-            _ => None,
-        },
-        Place::BoundaryLayer => match kind {
-            DATATYPE => Some(Place::BoundaryDatatype),
-            _ => None,
-        },
-        Place::BoundaryDatatype => match kind {
-            XY => Some(Place::Tail),
-            _ => None,
-        },
-        Place::Tail => match kind {
-            PROPATTR => Some(Place::Property),
-            ENDEL => Some(Place::Inside),
-            _ => None,
-        },
-        Place::Property => match kind {
-            PROPVALUE => Some(Place::Tail),
-            _ => None,
-        },
-        Place::Reference => match kind {
-            ELFLAGS => Some(Place::ReferenceFlags),
-            PLEX => Some(Place::ReferencePlex),
-            SNAME => Some(Place::ReferenceName),
-            _ => None,
-        },
-        Place::ReferenceFlags => match kind {
-            PLEX => Some(Place::ReferencePlex),
-            SNAME => Some(Place::ReferenceName),
-            _ => None,
-        },
-        Place::ReferencePlex => match kind {
-            SNAME => Some(Place::ReferenceName),
-            _ => None,
-        },
-        Place::ReferenceName => match kind {
-            STRANS => Some(Place::ReferenceTransform),
-            XY => Some(Place::Tail),
-            _ => None,
-        },
-        Place::ReferenceTransform => behind_strans(profile, kind),
-        Place::ReferenceMagnified => match kind {
-            ANGLE => Some(Place::ReferenceAngle),
-            XY => Some(Place::Tail),
-            _ => None,
-        },
-        Place::ReferenceAngle => match kind {
-            XY => Some(Place::Tail),
-            _ => None,
-        },
-        Place::Text => match kind {
-            ELFLAGS => Some(Place::TextFlags),
-            PLEX => Some(Place::TextPlex),
-            LAYER => Some(Place::TextLayer),
-            _ => None,
-        },
-        Place::TextFlags => match kind {
-            PLEX => Some(Place::TextPlex),
-            LAYER => Some(Place::TextLayer),
-            _ => None,
-        },
-        Place::TextPlex => match kind {
-            LAYER => Some(Place::TextLayer),
-            _ => None,
-        },
-        Place::TextLayer => match kind {
-            TEXTTYPE => Some(Place::TextType),
-            _ => None,
-        },
-        Place::TextType => match kind {
-            PRESENTATION => Some(Place::TextPresentation),
-            PATHTYPE => Some(Place::TextPathType),
-            WIDTH => Some(Place::TextWidth),
-            STRANS => Some(Place::TextTransform),
-            XY => Some(Place::TextPoint),
-            _ => None,
-        },
-        Place::TextPresentation => match kind {
-            PATHTYPE => Some(Place::TextPathType),
-            WIDTH => Some(Place::TextWidth),
-            STRANS => Some(Place::TextTransform),
-            XY => Some(Place::TextPoint),
-            _ => None,
-        },
-        Place::TextPathType => match kind {
-            WIDTH => Some(Place::TextWidth),
-            STRANS => Some(Place::TextTransform),
-            XY => Some(Place::TextPoint),
-            _ => None,
-        },
-        Place::TextWidth => match kind {
-            STRANS => Some(Place::TextTransform),
-            XY => Some(Place::TextPoint),
-            _ => None,
-        },
-        Place::TextTransform => match kind {
-            MAG => Some(Place::TextMagnified),
-            ANGLE => Some(Place::TextAngle),
-            XY => Some(Place::TextPoint),
-            _ => None,
-        },
-        Place::TextMagnified => match kind {
-            ANGLE => Some(Place::TextAngle),
-            XY => Some(Place::TextPoint),
-            _ => None,
-        },
-        Place::TextAngle => match kind {
-            XY => Some(Place::TextPoint),
-            _ => None,
-        },
-        Place::TextPoint => match kind {
-            STRING => Some(Place::Tail),
-            _ => None,
-        },
-        Place::Path => match kind {
-            ELFLAGS => Some(Place::PathFlags),
-            PLEX => Some(Place::PathPlex),
-            LAYER => Some(Place::PathLayer),
-            _ => None,
-        },
-        Place::PathFlags => match kind {
-            PLEX => Some(Place::PathPlex),
-            LAYER => Some(Place::PathLayer),
-            _ => None,
-        },
-        Place::PathPlex => match kind {
-            LAYER => Some(Place::PathLayer),
-            _ => None,
-        },
-        Place::PathLayer => match kind {
-            DATATYPE => Some(Place::PathDatatype),
-            _ => None,
-        },
-        Place::PathDatatype => match kind {
-            PATHTYPE => Some(Place::PathPathType),
-            WIDTH => Some(Place::PathWidth),
-            _ => None,
-        },
-        Place::PathPathType => match kind {
-            WIDTH => Some(Place::PathWidth),
-            _ => None,
-        },
-        Place::PathWidth => match kind {
-            XY => Some(Place::Tail),
-            _ => None,
-        },
-        Place::Array => match kind {
-            ELFLAGS => Some(Place::ArrayFlags),
-            PLEX => Some(Place::ArrayPlex),
-            SNAME => Some(Place::ArrayName),
-            _ => None,
-        },
-        Place::ArrayFlags => match kind {
-            PLEX => Some(Place::ArrayPlex),
-            SNAME => Some(Place::ArrayName),
-            _ => None,
-        },
-        Place::ArrayPlex => match kind {
-            SNAME => Some(Place::ArrayName),
-            _ => None,
-        },
-        Place::ArrayName => match kind {
-            STRANS => Some(Place::ArrayTransform),
-            COLROW => Some(Place::ArrayColrow),
-            _ => None,
-        },
-        Place::ArrayTransform => match kind {
-            MAG => Some(Place::ArrayMagnified),
-            ANGLE => Some(Place::ArrayAngle),
-            COLROW => Some(Place::ArrayColrow),
-            _ => None,
-        },
-        Place::ArrayMagnified => match kind {
-            ANGLE => Some(Place::ArrayAngle),
-            COLROW => Some(Place::ArrayColrow),
-            _ => None,
-        },
-        Place::ArrayAngle => match kind {
-            COLROW => Some(Place::ArrayColrow),
-            _ => None,
-        },
-        Place::ArrayColrow => match kind {
-            XY => Some(Place::Tail),
-            _ => None,
-        },
+    match (place, kind) {
+        (Place::Start, HEADER) => Some(Place::Header),
+        (Place::Header, BGNLIB) => Some(Place::Library),
+        (Place::Library, LIBNAME) => Some(Place::LibraryName),
+        (Place::LibraryName, REFLIBS) => Some(Place::ReferenceLibraries),
+        (Place::LibraryName | Place::ReferenceLibraries, FONTS) => Some(Place::Fonts),
+        (Place::LibraryName | Place::ReferenceLibraries | Place::Fonts, ATTRTABLE) => Some(
+            Place::AttributeTable,
+        ),
+        (
+            Place::LibraryName | Place::ReferenceLibraries | Place::Fonts | Place::AttributeTable,
+            GENERATIONS,
+        ) => Some(Place::Generations),
+        (
+            Place::LibraryName
+            | Place::ReferenceLibraries
+            | Place::Fonts
+            | Place::AttributeTable
+            | Place::Generations,
+            UNITS,
+        ) => Some(Place::Structures),
+        (Place::Structures, BGNSTR) => Some(Place::Structure),
+        (Place::Structures, ENDLIB) => Some(Place::Done),
+        (Place::Structure, STRNAME) => Some(Place::Inside),
+        (Place::Inside, _) => next_element(profile, kind),
+        (Place::Boundary, ELFLAGS) => Some(Place::BoundaryFlags),
+        (Place::Boundary | Place::BoundaryFlags, PLEX) => Some(Place::BoundaryPlex),
+        (Place::Boundary | Place::BoundaryFlags | Place::BoundaryPlex, LAYER) => Some(
+            Place::BoundaryLayer,
+        ),
+        (Place::BoundaryLayer, DATATYPE) => Some(Place::BoundaryDatatype),
+        (Place::BoundaryDatatype, XY) => Some(Place::Tail),
+        (Place::Tail, PROPATTR) => Some(Place::Property),
+        (Place::Tail, ENDEL) => Some(Place::Inside),
+        (Place::Property, PROPVALUE) => Some(Place::Tail),
+        (Place::Reference, ELFLAGS) => Some(Place::ReferenceFlags),
+        (Place::Reference | Place::ReferenceFlags, PLEX) => Some(Place::ReferencePlex),
+        (Place::Reference | Place::ReferenceFlags | Place::ReferencePlex, SNAME) => Some(
+            Place::ReferenceName,
+        ),
+        (Place::ReferenceName, STRANS) => Some(Place::ReferenceTransform),
+        (Place::ReferenceTransform, _) => behind_strans(profile, kind),
+        (Place::ReferenceMagnified, ANGLE) => Some(Place::ReferenceAngle),
+        (Place::ReferenceName | Place::ReferenceMagnified | Place::ReferenceAngle, XY) => Some(
+            Place::Tail,
+        ),
+        (Place::Text, ELFLAGS) => Some(Place::TextFlags),
+        (Place::Text | Place::TextFlags, PLEX) => Some(Place::TextPlex),
+        (Place::Text | Place::TextFlags | Place::TextPlex, LAYER) => Some(Place::TextLayer),
+        (Place::TextLayer, TEXTTYPE) => Some(Place::TextType),
+        (Place::TextType, PRESENTATION) => Some(Place::TextPresentation),
+        (Place::TextType | Place::TextPresentation, PATHTYPE) => Some(Place::TextPathType),
+        (Place::TextType | Place::TextPresentation | Place::TextPathType, WIDTH) => Some(
+            Place::TextWidth,
+        ),
+        (
+            Place::TextType | Place::TextPresentation | Place::TextPathType | Place::TextWidth,
+            STRANS,
+        ) => Some(Place::TextTransform),
+        (Place::TextTransform, MAG) => Some(Place::TextMagnified),
+        (Place::TextTransform | Place::TextMagnified, ANGLE) => Some(Place::TextAngle),
+        (
+            Place::TextType
+            | Place::TextPresentation
+            | Place::TextPathType
+            | Place::TextWidth
+            | Place::TextTransform
+            | Place::TextMagnified
+            | Place::TextAngle,
+            XY,
+        ) => Some(Place::TextPoint),
+        (Place::TextPoint, STRING) => Some(Place::Tail),
+        (Place::Path, ELFLAGS) => Some(Place::PathFlags),
+        (Place::Path | Place::PathFlags, PLEX) => Some(Place::PathPlex),
+        (Place::Path | Place::PathFlags | Place::PathPlex, LAYER) => Some(Place::PathLayer),
+        (Place::PathLayer, DATATYPE) => Some(Place::PathDatatype),
+        (Place::PathDatatype, PATHTYPE) => Some(Place::PathPathType),
+        (Place::PathDatatype | Place::PathPathType, WIDTH) => Some(Place::PathWidth),
+        (Place::PathWidth, XY) => Some(Place::Tail),
+        (Place::Array, ELFLAGS) => Some(Place::ArrayFlags),
+        (Place::Array | Place::ArrayFlags, PLEX) => Some(Place::ArrayPlex),
+        (Place::Array | Place::ArrayFlags | Place::ArrayPlex, SNAME) => Some(Place::ArrayName),
+        (Place::ArrayName, STRANS) => Some(Place::ArrayTransform),
+        (Place::ArrayTransform, MAG) => Some(Place::ArrayMagnified),
+        (Place::ArrayTransform | Place::ArrayMagnified, ANGLE) => Some(Place::ArrayAngle),
+        (
+            Place::ArrayName | Place::ArrayTransform | Place::ArrayMagnified | Place::ArrayAngle,
+            COLROW,
+        ) => Some(Place::ArrayColrow),
+        (Place::ArrayColrow, XY) => Some(Place::Tail),
+        _ => None,
     }
 }

@@ -1,28 +1,28 @@
-use Rattle.std.proofs.Common.{◌≡◌, eqb, false, refl, arith}
+use Rattle.std.proofs.Common.{◌≡◌, eqb, false, refl, arith, rules}
 use Rattle.std.proofs.lemmas.Bool.Decides.{nat_tests}
+use Rattle.gds_read.specs.declared.place.Place.TheVariants as places
 use Rattle.gds_read.proofs.place.next.Goals as goal
 
-pub returns-in-15 : goal.returns-in-15
-returns-in-15 c = rw (c.in-TextType.is, c.in-15.is) refl
+pub returns-in-TextType-eq15 : goal.returns-in-TextType-eq15
+returns-in-TextType-eq15 c = let here : c.args.place ≡ places.TextType = search rules in rw (here, c.in-TextType-eq15.is-1) refl
 
-pub returns-in_default-kind-27 : goal.returns-in_default-kind-27
-returns-in_default-kind-27 c =
-    let n = c.in_default-kind-27 in
+pub returns-in-TextType-eq15-2 : goal.returns-in-TextType-eq15-2
+returns-in-TextType-eq15-2 c = let here : c.args.place ≡ places.TextPresentation = search rules in rw (here, c.in-TextType-eq15.is-1) refl
+
+pub returns-in-TextType-eq15-3 : goal.returns-in-TextType-eq15-3
+returns-in-TextType-eq15-3 c = let here : c.args.place ≡ places.TextPathType = search rules in rw (here, c.in-TextType-eq15.is-1) refl
+
+pub returns-in-PathDatatype-eq15 : goal.returns-in-PathDatatype-eq15
+returns-in-PathDatatype-eq15 c = let here : c.args.place ≡ places.PathDatatype = search rules in rw (here, c.in-PathDatatype-eq15.is-1) refl
+
+pub returns-in-PathDatatype-eq15-2 : goal.returns-in-PathDatatype-eq15-2
+returns-in-PathDatatype-eq15-2 c = let here : c.args.place ≡ places.PathPathType = search rules in rw (here, c.in-PathDatatype-eq15.is-1) refl
+
+pub returns-in_default-28 : goal.returns-in_default-28
+returns-in_default-28 c =
     let a : eqb 23 c.args.kind ≡ false = grind (arith, nat_tests) in
     let b : eqb 33 c.args.kind ≡ false = grind (arith, nat_tests) in
     let d : eqb 15 c.args.kind ≡ false = grind (arith, nat_tests) in
     let e : eqb 26 c.args.kind ≡ false = grind (arith, nat_tests) in
     let f : eqb 16 c.args.kind ≡ false = grind (arith, nat_tests) in
-    rw (c.in-TextType.is, a, b, d, e, f) refl
-
-pub returns-in-15-kind : goal.returns-in-15-kind
-returns-in-15-kind c = rw (c.in-TextPresentation.is, c.in-15-kind.is) refl
-
-pub returns-in-15-kind-2 : goal.returns-in-15-kind-2
-returns-in-15-kind-2 c = rw (c.in-TextPathType.is, c.in-15-kind-2.is) refl
-
-pub returns-in-15-kind-3 : goal.returns-in-15-kind-3
-returns-in-15-kind-3 c = rw (c.in-PathDatatype.is, c.in-15-kind-3.is) refl
-
-pub returns-in-15-kind-4 : goal.returns-in-15-kind-4
-returns-in-15-kind-4 c = rw (c.in-PathPathType.is, c.in-15-kind-4.is) refl
+    rw (c.in_default.is-0, a, b, d, e, f) refl
