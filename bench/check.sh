@@ -7,8 +7,8 @@
 # Then layouts that are drawn against a check (bench/hostile.py): heaps of equal shapes, in turn with others in the file
 # or not, crowds far away, tracks as wide or as high as the sheet, rows of cells with heaps over them, pins in a
 # touching chain, labels all on one pin, widths over nine orders. For each the first line that is printed and the time
-# over that of as many shapes of an ordinary chip: at most five is wanted, but for nested and cross, where different
-# rectangles meet in pairs. What a check refuses is tried up to the rule that it names; E5, of lengths, comes last.
+# over that of as many shapes of an ordinary chip: at most five is wanted, but for nested, where different rectangles
+# meet in pairs. What a check refuses is tried up to the rule that it names; E5, of lengths, comes last.
 # KINDS="NAME COUNT.." tries these alone, BITS=64 one adder. Needs GNU time and python3.
 set -u
 here=$(cd -P "$(dirname "$0")/.." && pwd)

@@ -7,10 +7,9 @@ use Rattle.std.proofs.lemmas.Bool.{cases_eq, cases_lt, both_ways, and_parts, and
 use Rattle.std.proofs.lemmas.Int.{ints}
 use Rattle.std.proofs.lemmas.Grind.{get_or_default_zero}
 use Rattle.std.proofs.lemmas.List.Kept.{AllPairs-from_increasing}
-use Rattle.std.proofs.lemmas.Option.{same_Some, slice_get-map}
+use Rattle.std.proofs.lemmas.Option.{same_Some}
 use Rattle.geom.specs.declared.shapes.Shape.{Shape}
-use Rattle.geom.specs.Near.{rects_of, AreNear}
-use Rattle.geom.specs.Rectangle.{Rectangle, IsProper, AreProper, share_x, share_y, share_point, within, overlap, meet_x}
+use Rattle.geom.specs.Rectangle.{Rectangle, IsProper, share_x, share_y, share_point, within, overlap, meet_x}
 use Rattle.geom.specs.Rectangle.{meet_y}
 use Rattle.layout_rules.specs.declared.layers.TheConstants.{M1}
 use Rattle.layout_rules.specs.Layers.{is_frame, is_via, is_upper}
@@ -20,7 +19,11 @@ use Rattle.layout_rules.specs.Reports.{PassTogether}
 use Rattle.layout_rules.specs.GeometryRules.{is_at_pin, trespasses, CoverBroken}
 use Rattle.geom.specs.Rectangle.{common}
 use Rattle.shape_extract.specs.Searches.{FindsAt, passes_in}
+use Rattle.shape_extract.specs.declared.planes.Plane.{Plane}
+use Rattle.shape_extract.specs.declared.planes.Plane.TheVariants.{Lower, Frames}
+use Rattle.shape_extract.specs.Code.Planes.{in_plane, AreNearIn}
 use Rattle.shape_extract.specs.Code.Sharing.{sharing_close, overlap_shares}
+use Rattle.shape_extract.proofs.InPlanes.{pin_lower}
 use Rattle.rule_check.specs.Code.Cover.{is_at_pin_of, any_at, may_trespass, trespasses_by, FindsTrespass}
 use Rattle.rule_check.proofs.Geometry.{any_at_here, any_at_found}
 
@@ -69,38 +72,31 @@ and_same : (p u v x y : Bool) → (p ≡ true → x ≡ y) → (p && (u || (v &&
 and_same true u v x y same = ap (λ (b : Bool). u || (v && not b)) (same refl)
 and_same false u v x y same = refl
 
-module _ (shapes : List Shape) (a : ℕ) (s : Shape) (near : List ℕ) (got : slice_get shapes a ≡ Some s)
-    (proper : AreProper (rects_of shapes)) (are : AreNear (rects_of shapes) s.rect 0 near) where
-  rect_at : (n : ℕ) (t : Shape) → slice_get shapes n ≡ Some t → slice_get (rects_of shapes) n ≡ Some t.rect
-  rect_at n t is = slice_get-map (λ (u : Shape). u.rect) shapes n ∙ (rw is refl)
-
-  -- shapes that share a point with this one are near
-  place_of : (n : ℕ) (t : Shape) → slice_get shapes n ≡ Some t → share_point s.rect t.rect ≡ true
+module _ (shapes : List Shape) (a : ℕ) (s : Shape) (frames pins : List ℕ) (got : slice_get shapes a ≡ Some s)
+    (proper : IsProper s.rect) (are : AreNearIn Frames shapes s.rect 0 frames)
+    (are_pins : AreNearIn Lower shapes s.rect 0 pins) where
+  -- shapes of a plane that share a point with this one are among those near it
+  place_of : (plane : Plane) (near : List ℕ) → AreNearIn plane shapes s.rect 0 near → (n : ℕ) (t : Shape)
+      → slice_get shapes n ≡ Some t → in_plane plane t ≡ true → share_point s.rect t.rect ≡ true
       → (k : ℕ) × ((k < length near) × (slice_index near k ≡ n))
-  place_of n t is share =
-      let here : Contains near n =
-      are.complete n (record {
-        other = t.rect;
-        other_is = rect_at n t is;
-        close =
-            sharing_close s.rect t.rect share;
-      }) in
+  place_of plane near near_are n t is in_it share =
+      let here : Contains near n = near_are.complete n t is in_it (sharing_close s.rect t.rect share) in
       (here.0, (here.1, sym (get_or_default_zero near here.0 n here.1) ∙ here.2))
 
   pin_near : (frame : Shape) → overlap s.rect frame.rect ≡ true → is_at_pin shapes s frame ≡ true
-      → any_at (is_at_pin_of s frame) shapes near ≡ true
+      → any_at (is_at_pin_of s frame) shapes pins ≡ true
   pin_near frame over any =
       let at : PassesAt (is_at_pin_of s frame) shapes = list_any-place (is_at_pin_of s frame) shapes any in
       let holds = and_parts (lies_in at.item frame) (within (common s.rect frame.rect) at.item.rect) at.passes_so in
-      let k = place_of at.place at.item at.item_is
-      (common_shares s.rect frame.rect at.item.rect (proper a s.rect (rect_at a s got)) over holds.1) in
-      any_at_here (is_at_pin_of s frame) shapes near k.0 0 k.1.0
+      let k = place_of Lower pins are_pins at.place at.item at.item_is (pin_lower frame at.item holds.0)
+      (common_shares s.rect frame.rect at.item.rect proper over holds.1) in
+      any_at_here (is_at_pin_of s frame) shapes pins k.0 0 k.1.0
       (ap (λ (n : ℕ). passes_in (is_at_pin_of s frame) (slice_get shapes n)) k.1.1
       ∙ (ap (passes_in (is_at_pin_of s frame)) at.item_is ∙ at.passes_so))
 
-  near_pin : (frame : Shape) → any_at (is_at_pin_of s frame) shapes near ≡ true → is_at_pin shapes s frame ≡ true
-  near_pin frame any = (let k = any_at_found (is_at_pin_of s frame) shapes near any in
-      by_case (slice_index near k.0) (slice_get shapes (slice_index near k.0)) refl k.1.1)
+  near_pin : (frame : Shape) → any_at (is_at_pin_of s frame) shapes pins ≡ true → is_at_pin shapes s frame ≡ true
+  near_pin frame any = (let k = any_at_found (is_at_pin_of s frame) shapes pins any in
+      by_case (slice_index pins k.0) (slice_get shapes (slice_index pins k.0)) refl k.1.1)
     where
       by_case : (n : ℕ) (o : Option Shape) → slice_get shapes n ≡ o
           → passes_in (is_at_pin_of s frame) (slice_get shapes n) ≡ true → is_at_pin shapes s frame ≡ true
@@ -109,80 +105,94 @@ module _ (shapes : List Shape) (a : ℕ) (s : Shape) (near : List ℕ) (got : sl
       by_case n (Some pin) is e = list_any-at (is_at_pin_of s frame) shapes n pin is
           (sym (ap (passes_in (is_at_pin_of s frame)) is) ∙ e)
 
-  same_trespass : (frame : Shape) → trespasses shapes s frame ≡ trespasses_by shapes near s frame
+  same_trespass : (frame : Shape) → trespasses shapes s frame ≡ trespasses_by shapes pins s frame
   same_trespass frame =
       and_same (is_frame frame && overlap s.rect frame.rect) (is_via s || is_upper s) (s.layer == M1)
-      (is_at_pin shapes s frame) (any_at (is_at_pin_of s frame) shapes near)
+      (is_at_pin shapes s frame) (any_at (is_at_pin_of s frame) shapes pins)
       (λ both. (let over : overlap s.rect frame.rect ≡ true =
       (and_parts (is_frame frame) (overlap s.rect frame.rect) both).1 in
-      same_bool (is_at_pin shapes s frame) (any_at (is_at_pin_of s frame) shapes near) (pin_near frame over)
+      same_bool (is_at_pin shapes s frame) (any_at (is_at_pin_of s frame) shapes pins) (pin_near frame over)
       (near_pin frame)))
 
   -- a frame on which the shape trespasses has a place among the near ones, and is found there
   record IsTrespassAt (b : ℕ) : Type 0 where
     pub place : ℕ
-    pub within_so : place < length near
-    pub number_is : slice_index near place ≡ b
-    pub so : passes_in (trespasses_by shapes near s) (slice_get shapes (slice_index near place)) ≡ true
+    pub within_so : place < length frames
+    pub number_is : slice_index frames place ≡ b
+    pub so : passes_in (trespasses_by shapes pins s) (slice_get shapes (slice_index frames place)) ≡ true
 
   trespass_at : (b : ℕ) → PassTogether (trespasses shapes) shapes a b → IsTrespassAt b
   trespass_at b pass =
       let first : pass.first ≡ s = same_Some pass.first s (sym pass.first_is ∙ got) in
       let so : trespasses shapes s pass.second ≡ true = sym (ap (λ (t : Shape). trespasses shapes t pass.second) first)
       ∙ pass.passes_so in
-      let over : overlap s.rect pass.second.rect ≡ true =
-      (and_parts (is_frame pass.second) (overlap s.rect pass.second.rect)
+      let on = and_parts (is_frame pass.second) (overlap s.rect pass.second.rect)
       (and_parts (is_frame pass.second && overlap s.rect pass.second.rect)
-      (is_via s || is_upper s || (s.layer == M1 && not (is_at_pin shapes s pass.second))) so).0).1 in
-      let k = place_of b pass.second pass.second_is (overlap_shares s.rect pass.second.rect over) in
+      (is_via s || is_upper s || (s.layer == M1 && not (is_at_pin shapes s pass.second))) so).0 in
+      let k = place_of Frames frames are b pass.second pass.second_is on.0
+      (overlap_shares s.rect pass.second.rect on.1) in
       record {
         place = k.0;
         within_so = k.1.0;
         number_is = k.1.1;
-        so = ap (λ (n : ℕ). passes_in (trespasses_by shapes near s) (slice_get shapes n)) k.1.1
-            ∙ (ap (passes_in (trespasses_by shapes near s)) pass.second_is ∙ (sym (same_trespass pass.second) ∙ so));
+        so = ap (λ (n : ℕ). passes_in (trespasses_by shapes pins s) (slice_get shapes n)) k.1.1
+            ∙ (ap (passes_in (trespasses_by shapes pins s)) pass.second_is ∙ (sym (same_trespass pass.second) ∙ so));
       }
 
-  reported_at : (b : ℕ) → passes_in (trespasses_by shapes near s) (slice_get shapes b) ≡ true
+  reported_at : (b : ℕ) → passes_in (trespasses_by shapes pins s) (slice_get shapes b) ≡ true
       → PassTogether (trespasses shapes) shapes a b
   reported_at b e = by_case (slice_get shapes b) refl
     where
       by_case : (o : Option Shape) → slice_get shapes b ≡ o → PassTogether (trespasses shapes) shapes a b
-      by_case None is = absurd (both_ways (passes_in (trespasses_by shapes near s) (slice_get shapes b))
-          (ap (passes_in (trespasses_by shapes near s)) is) e)
+      by_case None is = absurd (both_ways (passes_in (trespasses_by shapes pins s) (slice_get shapes b))
+          (ap (passes_in (trespasses_by shapes pins s)) is) e)
       by_case (Some frame) is = record {
         first = s;
         second = frame;
         first_is = got;
         second_is = is;
         passes_so =
-            same_trespass frame ∙ (sym (ap (passes_in (trespasses_by shapes near s)) is) ∙ e);
+            same_trespass frame ∙ (sym (ap (passes_in (trespasses_by shapes pins s)) is) ∙ e);
       }
 
-  pub trespass_found : (r : Option ℕ) → FindsTrespass shapes near s r → FindsAt (CoverBroken shapes) a r
+  pub trespass_found : (r : Option ℕ) → FindsTrespass shapes frames pins s r → FindsAt (CoverBroken shapes) a r
   trespass_found None none = λ b pass. (let at : IsTrespassAt b = trespass_at b pass in
-      both_ways (passes_in (trespasses_by shapes near s) (slice_get shapes (slice_index near at.place)))
+      both_ways (passes_in (trespasses_by shapes pins s) (slice_get shapes (slice_index frames at.place)))
       (none at.place at.within_so) at.so)
   trespass_found (Some b) first = record {
     reported = reported_at b first.trespasses_so;
     least = λ d pass. (
         let at : IsTrespassAt d = trespass_at d pass in
-        let e : slice_index near at.place ≡ d = at.number_is in
-        let is : slice_index near first.place ≡ b = first.number_is in
+        let e : slice_index frames at.place ≡ d = at.number_is in
+        let is : slice_index frames first.place ≡ b = first.number_is in
         elim (cases_lt at.place first.place) [
           | inl less ↦ absurd (both_ways
-              (passes_in (trespasses_by shapes near s) (slice_get shapes (slice_index near at.place)))
+              (passes_in (trespasses_by shapes pins s) (slice_get shapes (slice_index frames at.place)))
               (first.before at.place less) at.so)
           | inr ge ↦ elim (cases_eq at.place first.place) [
-            | inl same ↦ (let q : slice_index near at.place ≡ slice_index near first.place =
-                ap (slice_index near) same in omega arith)
-            | inr ne ↦ (let lt : slice_index near first.place < slice_index near at.place =
-                AllPairs-from_increasing near are.rising first.place at.place 0 (omega arith) at.within_so in
+            | inl same ↦ (let q : slice_index frames at.place ≡ slice_index frames first.place =
+                ap (slice_index frames) same in omega arith)
+            | inr ne ↦ (let lt : slice_index frames first.place < slice_index frames at.place =
+                AllPairs-from_increasing frames are.rising first.place at.place 0 (omega arith) at.within_so in
                 omega arith)
           ]
         ]
         );
   }
+
+-- where no frame is near, there is nothing to trespass on
+pub no_frame_none : (shapes : List Shape) (a : ℕ) (s : Shape) (frames : List ℕ) → slice_get shapes a ≡ Some s
+    → AreNearIn Frames shapes s.rect 0 frames → length frames ≡ 0 → (b : ℕ) → CoverBroken shapes a b → ⊥
+no_frame_none shapes a s frames got are none b pass =
+    let first : pass.first ≡ s = same_Some pass.first s (sym pass.first_is ∙ got) in
+    let so : trespasses shapes s pass.second ≡ true = sym (ap (λ (t : Shape). trespasses shapes t pass.second) first)
+    ∙ pass.passes_so in
+    let on = and_parts (is_frame pass.second) (overlap s.rect pass.second.rect)
+    (and_parts (is_frame pass.second && overlap s.rect pass.second.rect)
+    (is_via s || is_upper s || (s.layer == M1 && not (is_at_pin shapes s pass.second))) so).0 in
+    let here : Contains frames b = are.complete b pass.second pass.second_is on.0
+    (sharing_close s.rect pass.second.rect (overlap_shares s.rect pass.second.rect on.1)) in
+    omega (arith, here.1)
 
 -- ---- shapes of other layers
 

@@ -3,22 +3,28 @@ use Rattle.std.proofs.Common.{◌≡◌, ℕ, zero, suc, ◌+◌, ◌<◌, ◌�
 use Rattle.std.proofs.Common.{length, get_or, eq-eqb, Option, Some, None, refl, sym, ap, subst, ◌∙◌, arith, inl, inr}
 use Rattle.std.specs.Prelude.{◌==◌, slice_get, slice_index, nat_lt}
 use Rattle.std.proofs.lemmas.Bool.{cases_eq, cases_lt, both_ways, or_left, or_right, or_cases, false_from_ne_true}
-use Rattle.std.proofs.lemmas.Bool.{ne_eqb}
+use Rattle.std.proofs.lemmas.Bool.{ne_eqb, and_parts, eqb-true}
 use Rattle.std.proofs.lemmas.Option.{same_Some, slice_get_within, slice_get-get_or}
 use Rattle.geom.specs.declared.shapes.Shape.{Shape}
 use Rattle.std.proofs.lemmas.List.{length-map}
 use Rattle.geom.specs.Near.{rects_of, AreNear}
-use Rattle.geom.specs.Rectangle.{Rectangle, grown, gap_x, gap_y, share_point}
+use Rattle.geom.specs.Rectangle.{Rectangle, IsProper, grown, gap_x, gap_y, share_point, within}
 use Rattle.layout_rules.proofs.PlaceLaws.{PassesAt, list_any-at, list_any-place}
 use Rattle.layout_rules.specs.Reports.{Alone, Passes, PassTogether}
 use Rattle.layout_rules.proofs.ReportLaws.{Alone-first, Alone-none}
-use Rattle.layout_rules.specs.Layers.{is_lower, is_upper, is_via}
+use Rattle.layout_rules.specs.declared.layers.TheConstants.{M1, VIA, M2, INPUT_PIN, OUTPUT_PIN}
+use Rattle.layout_rules.specs.Layers.{is_lower, is_pin, is_upper, is_via}
 use Rattle.layout_rules.specs.Limits.{Limits}
-use Rattle.layout_rules.specs.GeometryRules.{is_covered, are_too_close, SpacingBroken}
+use Rattle.layout_rules.specs.GeometryRules.{is_covered, are_of_one_group, are_too_close, SpacingBroken}
 use Rattle.shape_extract.specs.Searches.{FindsAt, AreThose, passes_in}
 use Rattle.rule_check.specs.Code.Close.{encloses, is_of_a_group}
 use Rattle.rule_check.specs.Code.Cover.{any_at}
 use Rattle.rule_check.specs.Code.Above.{FindsAbove}
+use Rattle.rule_check.specs.Code.Sheets.{HaveSides}
+use Rattle.shape_extract.specs.declared.planes.Plane.{Plane}
+use Rattle.shape_extract.specs.declared.planes.Plane.TheVariants.{Lower, Vias, Upper}
+use Rattle.shape_extract.specs.Code.Passing.{PassesIn}
+use Rattle.shape_extract.specs.Code.Planes.{in_plane}
 
 pub read_at : {X : Type 0} (xs : List X) (n : ℕ) (x : X) → n < length xs → x ≡ get_or xs n x → slice_get xs n ≡ Some x
 read_at xs n x lt is = slice_get-get_or xs n x lt ∙ sym (ap Some is)
@@ -73,35 +79,33 @@ above_more numbers a i before here k lt =
 
 -- ---- enclosure
 
-covered_some : (shapes : List Shape) (layer margin v : ℕ) (s : Shape) (found : List ℕ) → slice_get shapes v ≡ Some s
-    → AreThose (PassTogether (encloses layer margin) shapes v) found → 0 < length found
+covered_some : (shapes : List Shape) (layer margin : ℕ) (s : Shape) (found : List ℕ)
+    → AreThose (PassesIn (encloses layer margin s) shapes) found → 0 < length found
     → is_covered shapes layer (grown margin s.rect) ≡ true
-covered_some shapes layer margin v s found got are some =
-    let pass : PassTogether (encloses layer margin) shapes v (slice_index found 0) = are.each 0 some in
-    let so : encloses layer margin s pass.second ≡ true = ap (λ (t : Shape). encloses layer margin t pass.second)
-    (same_Some s pass.first (sym got ∙ pass.first_is)) ∙ pass.passes_so in
-    list_any-at (λ (t : Shape). encloses layer margin s t) shapes (slice_index found 0) pass.second pass.second_is so
+covered_some shapes layer margin s found are some =
+    let pass : PassesIn (encloses layer margin s) shapes (slice_index found 0) = are.each 0 some in
+    list_any-at (λ (t : Shape). encloses layer margin s t) shapes (slice_index found 0) pass.item pass.item_is
+    pass.passes_so
 
-covered_none : (shapes : List Shape) (layer margin v : ℕ) (s : Shape) (found : List ℕ) → slice_get shapes v ≡ Some s
-    → AreThose (PassTogether (encloses layer margin) shapes v) found → length found ≡ 0
+covered_none : (shapes : List Shape) (layer margin : ℕ) (s : Shape) (found : List ℕ)
+    → AreThose (PassesIn (encloses layer margin s) shapes) found → length found ≡ 0
     → is_covered shapes layer (grown margin s.rect) ≡ false
-covered_none shapes layer margin v s found got are none =
+covered_none shapes layer margin s found are none =
     false_from_ne_true (is_covered shapes layer (grown margin s.rect)) (λ any. (
     let at : PassesAt (λ (t : Shape). encloses layer margin s t) shapes =
     list_any-place (λ (t : Shape). encloses layer margin s t) shapes any in
-    let k = are.complete at.place
-    (record { first = s; second = at.item; first_is = got; second_is = at.item_is; passes_so = at.passes_so }) in
+    let k = are.complete at.place (record { item = at.item; item_is = at.item_is; passes_so = at.passes_so }) in
     let lt : k.0 < length found = k.1.0 in
     omega arith
     ))
 
-pub covered : (shapes : List Shape) (layer margin v : ℕ) (s : Shape) (found : List ℕ) (b : Bool)
-    → slice_get shapes v ≡ Some s → AreThose (PassTogether (encloses layer margin) shapes v) found
+pub covered : (shapes : List Shape) (layer margin : ℕ) (s : Shape) (found : List ℕ) (b : Bool)
+    → AreThose (PassesIn (encloses layer margin s) shapes) found
     → b ≡ (length found == 0) → not b ≡ is_covered shapes layer (grown margin s.rect)
-covered shapes layer margin v s found b got are e = elim (cases_eq (length found) 0) [
-  | inl none ↦ ap not (e ∙ eq-eqb (length found) 0 none) ∙ sym (covered_none shapes layer margin v s found got are none)
+covered shapes layer margin s found b are e = elim (cases_eq (length found) 0) [
+  | inl none ↦ ap not (e ∙ eq-eqb (length found) 0 none) ∙ sym (covered_none shapes layer margin s found are none)
   | inr some ↦ ap not (e ∙ ne_eqb (length found) 0 some)
-      ∙ sym (covered_some shapes layer margin v s found got are (omega arith))
+      ∙ sym (covered_some shapes layer margin s found are (omega arith))
 ]
 
 -- ---- among some numbers
@@ -189,3 +193,86 @@ no_group_none limits shapes a s got other b h =
     (not (share_point s.rect h.1.second.rect)) (nat_lt (gap_x s.rect h.1.second.rect) limits.space
     && nat_lt (gap_y s.rect h.1.second.rect) limits.space) other)
     (sym (ap (λ (t : Shape). are_too_close limits.space t h.1.second) first) ∙ h.1.passes_so)
+
+-- the first n shapes are proper
+abbrev pub HaveSidesTo : ℕ → List Shape → Type 0
+HaveSidesTo n shapes = (k : ℕ) (s : Shape) → k < n → slice_get shapes k ≡ Some s → IsProper s.rect
+
+pub sides_more : (n : ℕ) (shapes : List Shape) (s : Shape) → HaveSidesTo n shapes → slice_get shapes n ≡ Some s
+    → IsProper s.rect → HaveSidesTo (n + 1) shapes
+sides_more n shapes s before is proper k t lt at = elim (cases_eq k n) [
+  | inl e ↦ subst (λ (u : Shape). IsProper u.rect) (same_Some s t (sym is ∙ (ap (slice_get shapes) (sym e) ∙ at))) proper
+  | inr ne ↦ before k t (omega arith) at
+]
+
+pub sides_all : (n : ℕ) (shapes : List Shape) → length shapes ≤ n → HaveSidesTo n shapes → HaveSides shapes
+sides_all n shapes all before k s at = before k s (omega (arith, slice_get_within shapes k s at)) at
+
+-- ---- shapes of one group lie in one plane
+
+lower_alone : (layer : ℕ) → (layer == M1 || (layer == INPUT_PIN || layer == OUTPUT_PIN)) ≡ true
+    → ((layer == VIA) ≡ false) × ((layer == M2) ≡ false)
+lower_alone layer h = elim (or_cases (layer == M1) (layer == INPUT_PIN || layer == OUTPUT_PIN) h) [
+  | inl e ↦ at M1 (eqb-true layer M1 e) (refl, refl)
+  | inr pin ↦ elim (or_cases (layer == INPUT_PIN) (layer == OUTPUT_PIN) pin) [
+    | inl e ↦ at INPUT_PIN (eqb-true layer INPUT_PIN e) (refl, refl)
+    | inr e ↦ at OUTPUT_PIN (eqb-true layer OUTPUT_PIN e) (refl, refl)
+  ]
+]
+  where
+    at : (n : ℕ) → layer ≡ n → ((n == VIA) ≡ false) × ((n == M2) ≡ false)
+        → ((layer == VIA) ≡ false) × ((layer == M2) ≡ false)
+    at n e k = subst (λ (m : ℕ). ((m == VIA) ≡ false) × ((m == M2) ≡ false)) (sym e) k
+
+via_alone : (layer : ℕ) → (layer == VIA) ≡ true → (layer == M2) ≡ false
+via_alone layer h = subst (λ (m : ℕ). (m == M2) ≡ false) (sym (eqb-true layer VIA h)) refl
+
+one_left : (l v u ol ov ou : Bool) → v ≡ false → u ≡ false → (((l && ol) || (v && ov)) || (u && ou)) ≡ true → ol ≡ true
+one_left l true u ol ov ou nv nu h = absurd cc
+one_left l false true ol ov ou nv nu h = absurd cc
+one_left true false false true ov ou nv nu h = refl
+one_left true false false false ov ou nv nu h = h
+one_left false false false ol ov ou nv nu h = absurd cc
+
+one_mid : (l v u ol ov ou : Bool) → l ≡ false → u ≡ false → (((l && ol) || (v && ov)) || (u && ou)) ≡ true → ov ≡ true
+one_mid true v u ol ov ou nl nu h = absurd cc
+one_mid false v true ol ov ou nl nu h = absurd cc
+one_mid false true false ol true ou nl nu h = refl
+one_mid false true false ol false ou nl nu h = h
+one_mid false false false ol ov ou nl nu h = absurd cc
+
+one_right : (l v u ol ov ou : Bool) → l ≡ false → v ≡ false → (((l && ol) || (v && ov)) || (u && ou)) ≡ true → ou ≡ true
+one_right true v u ol ov ou nl nv h = absurd cc
+one_right false true u ol ov ou nl nv h = absurd cc
+one_right false false true ol ov ou nl nv h = h
+one_right false false false ol ov ou nl nv h = absurd cc
+
+pub lower_group : (s t : Shape) → is_lower s ≡ true → are_of_one_group s t ≡ true → in_plane Lower t ≡ true
+lower_group s t h g =
+    let other = lower_alone s.layer h in
+    one_left (is_lower s) (is_via s) (is_upper s) (is_lower t) (is_via t) (is_upper t) other.0 other.1 g
+
+pub via_group : (s t : Shape) → is_lower s ≡ false → is_via s ≡ true → are_of_one_group s t ≡ true
+    → in_plane Vias t ≡ true
+via_group s t nl h g = one_mid (is_lower s) (is_via s) (is_upper s) (is_lower t) (is_via t) (is_upper t) nl
+    (via_alone s.layer h) g
+
+pub upper_group : (s t : Shape) → is_lower s ≡ false → is_via s ≡ false → are_of_one_group s t ≡ true
+    → in_plane Upper t ≡ true
+upper_group s t nl nv g = one_right (is_lower s) (is_via s) (is_upper s) (is_lower t) (is_via t) (is_upper t) nl nv g
+
+pub group_too_close : (space : ℕ) (s t : Shape) → are_too_close space s t ≡ true → are_of_one_group s t ≡ true
+group_too_close space s t h = (and_parts (are_of_one_group s t) (not (share_point s.rect t.rect))
+    (and_parts (are_of_one_group s t && not (share_point s.rect t.rect))
+    (nat_lt (gap_x s.rect t.rect) space && nat_lt (gap_y s.rect t.rect) space) h).0).0
+
+-- ---- planes of metals
+
+pub metal_lower : (s : Shape) → (s.layer == M1) ≡ true → in_plane Lower s ≡ true
+metal_lower s h = or_left (s.layer == M1) (is_pin s) h
+
+pub enclosing_in : (layer margin : ℕ) (plane : Plane) (v : Shape)
+    → ((s : Shape) → (s.layer == layer) ≡ true → in_plane plane s ≡ true) → (s : Shape)
+    → encloses layer margin v s ≡ true → in_plane plane s ≡ true
+enclosing_in layer margin plane v planar s h =
+    planar s (and_parts (s.layer == layer) (within (grown margin v.rect) s.rect) h).0

@@ -5,10 +5,9 @@ use Rattle.std.specs.Prelude.{◌⊎◌, ◌==◌, slice_get, slice_index, nat_l
 use Rattle.std.specs.List.{list_any}
 use Rattle.std.proofs.lemmas.Bool.{cases_eq, cases_lt, cases_order, both_ways, and_parts, and_from}
 use Rattle.std.proofs.lemmas.Int.{ints}
-use Rattle.std.proofs.lemmas.Option.{slice_get_within, same_Some, slice_get-map}
+use Rattle.std.proofs.lemmas.Option.{slice_get_within, same_Some}
 use Rattle.geom.specs.declared.shapes.Shape.{Shape}
-use Rattle.geom.specs.Near.{rects_of}
-use Rattle.geom.specs.Rectangle.{Rectangle, IsProper, AreProper, gap_x, gap_y, share_x, share_y, share_point, within}
+use Rattle.geom.specs.Rectangle.{Rectangle, IsProper, gap_x, gap_y, share_x, share_y, share_point, within}
 use Rattle.geom.specs.Rectangle.{overlap, grown}
 use Rattle.layout_rules.specs.declared.layers.TheConstants.{M1, M2}
 use Rattle.layout_rules.specs.Layers.{is_frame, is_lower, is_upper, is_via}
@@ -25,6 +24,7 @@ use Rattle.shape_extract.specs.declared.search.Report.{Report}
 use Rattle.shape_extract.specs.Searches.{Finds, AreThose}
 use Rattle.shape_extract.specs.Code.DistinctShapes.{AreAt, HasStandIn, IsDistinct}
 use Rattle.rule_check.specs.Code.Named.{HasPlaces, named}
+use Rattle.rule_check.specs.Code.Sheets.{HaveSides}
 
 -- ---- reports of two lists
 
@@ -389,10 +389,9 @@ proper_shares r proper =
     and_from (share_x r r) (share_y r r) (and_from (int_le r.x0 r.x1) (int_le r.x0 r.x1) x x)
     (and_from (int_le r.y0 r.y1) (int_le r.y0 r.y1) y y)
 
-pub proper_own : (some : List Shape) → AreProper (rects_of some) → (s : Shape) (n : ℕ) → slice_get some n ≡ Some s
+pub proper_own : (some : List Shape) → HaveSides some → (s : Shape) (n : ℕ) → slice_get some n ≡ Some s
     → share_point s.rect s.rect ≡ true
-proper_own some proper s n is =
-    proper_shares s.rect (proper n s.rect (slice_get-map (λ (t : Shape). t.rect) some n ∙ (rw is refl)))
+proper_own some proper s n is = proper_shares s.rect (proper n s is)
 
 -- rising numbers are no more than the numbers that they are below
 few_rising : (numbers : List ℕ) (n : ℕ) → Rises numbers → ((k : ℕ) → k < length numbers → slice_index numbers k < n)

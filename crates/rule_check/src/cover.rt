@@ -1,11 +1,11 @@
 // Design rule check (DRC), the rule of cover: over cells lies no metal but at pins.
 ghost use Rattle.std.specs.Prelude.{◌≡◌, ◌<◌, ◌^◌, ◌&&◌, int_le, length, IfOk};
 ghost use Rattle.std.specs.Int.{int_max, int_min};
-ghost use Rattle.geom.specs.Near.{rects_of};
 ghost use Rattle.geom.specs.Rectangle.{within};
 ghost use Rattle.geom.specs.Rectangle.{common};
 ghost use Rattle.layout_rules.specs.GeometryRules.{CoverBroken};
 ghost use Rattle.shape_extract.specs.Searches.{Finds, FindsAt};
+ghost use Rattle.shape_extract.specs.Code.Planes.{ArePlanes};
 ghost use Rattle.rule_check.specs.Code.Cover.{is_at_pin_of, AreWithin, any_at, may_trespass, trespasses_by};
 ghost use Rattle.rule_check.specs.Code.Cover.{FindsTrespass};
 ghost use Rattle.rule_check.specs.Code.Close.{within_x, within_y};
@@ -13,9 +13,9 @@ ghost use Rattle.rule_check.specs.Code.Sheets.{IsSheet};
 
 use crate::sheet::{Sheet, named};
 use aq_base::Memory;
-use geom::{Buckets, Rect, Shape, is_within, overlaps};
+use geom::{Rect, Shape, is_within, overlaps};
 use layout_rules::layers::M1;
-use shape_extract::{Part, Report, first_of, is_frame, is_pin, is_upper, is_via};
+use shape_extract::{Part, Plane, Planes, Report, first_of, is_frame, is_pin, is_upper, is_via};
 use std::alloc::Global;
 
 /// Whether the first number is at most the greater of the others.
@@ -74,23 +74,24 @@ fn has_pin(shapes: &[Shape], numbers: &[u32], metal: &Shape, frame: &Shape) -> b
     false
 }
 
-/// Whether the shape trespasses on the frame, by what is near the shape.
-fn trespasses(shapes: &[Shape], near: &[u32], s: &Shape, frame: &Shape) -> bool
-    requires { AreWithin shapes.now near.now }
-    ensures { result ≡ trespasses_by shapes.now near.now s.now frame.now }
+/// Whether the shape trespasses on the frame, by the pins near the shape.
+fn trespasses(shapes: &[Shape], pins: &[u32], s: &Shape, frame: &Shape) -> bool
+    requires { AreWithin shapes.now pins.now }
+    ensures { result ≡ trespasses_by shapes.now pins.now s.now frame.now }
 {
     is_frame(frame)
         && overlaps(&s.rect, &frame.rect)
-        && (is_via(s) || is_upper(s) || (s.layer == M1 && !has_pin(shapes, near, s, frame)))
+        && (is_via(s) || is_upper(s) || (s.layer == M1 && !has_pin(shapes, pins, s, frame)))
 }
 
-/// The first of the near shapes on which this one trespasses.
-fn first_trespass(shapes: &[Shape], near: &[u32], s: &Shape) -> Option<u32>
-    requires { AreWithin shapes.now near.now }
-    ensures { FindsTrespass shapes.now near.now s.now result }
+/// The first of these frames on which the shape trespasses, by the pins near it.
+fn first_trespass(shapes: &[Shape], frames: &[u32], pins: &[u32], s: &Shape) -> Option<u32>
+    requires frames { AreWithin shapes.now frames.now }
+    requires pins { AreWithin shapes.now pins.now }
+    ensures { FindsTrespass shapes.now frames.now pins.now s.now result }
 {
-    for number in near {
-        if trespasses(shapes, near, s, &shapes[*number as usize]) {
+    for number in frames {
+        if trespasses(shapes, pins, s, &shapes[*number as usize]) {
             return Some(*number);
         }
     }
@@ -106,13 +107,13 @@ fn may_trespass(s: &Shape) -> bool
 
 /// The first frame on which the shape of this number trespasses.
 fn find_trespass(
+    alloc: Global,
     shapes: &[Shape],
-    index: &Buckets,
+    planes: &Planes,
     a: u32,
     found: &mut Vec<u32>,
 ) -> Result<Option<u32>, Memory>
-    requires few { length shapes.now < 2 ^ 32 }
-    requires filed { index.now ≡ rects_of shapes.now }
+    requires filed { ArePlanes shapes.now planes.now }
     requires within { a < length shapes.now }
     ensures { IfOk result (FindsAt (CoverBroken shapes.now) a) }
 {
@@ -120,23 +121,30 @@ fn find_trespass(
     if !may_trespass(s) {
         return Ok(None);
     }
-    index.known();
-    index.list_near(&s.rect, 0, found)?;
-    let frame = first_trespass(shapes, found.as_slice(), s);
+    s.rect.known();
+    planes.list_near(Plane::Frames, &s.rect, 0, found)?;
+    let frames = found.as_slice();
+    if frames.is_empty() {
+        return Ok(None);
+    }
+    let mut pins = Vec::new(alloc);
+    planes.list_near(Plane::Lower, &s.rect, 0, &mut pins)?;
+    let frame = first_trespass(shapes, frames, pins.as_slice(), s);
     Ok(frame)
 }
 
 /// Metal and vias over cells.
 #[derive(Drop)]
 struct Cover<'a> {
+    alloc: Global,
     shapes: &'a [Shape],
-    index: &'a Buckets,
+    planes: &'a Planes,
 }
 
 impl<'a> Part for Cover<'a> {
     ghost use Rattle.std.proofs.lemmas.Option.{slice_get_within};
 
-    ghost valid = { λ s. (length s.shapes.now < 2 ^ 32) × (s.index.now ≡ rects_of s.shapes.now) };
+    ghost valid = { λ s. (length s.shapes.now < 2 ^ 32) × ArePlanes s.shapes.now s.planes.now };
 
     ghost count = { λ s. length s.shapes.now };
 
@@ -147,7 +155,7 @@ impl<'a> Part for Cover<'a> {
     }
 
     fn second(&self, a: u32, found: &mut Vec<u32>) -> Result<Option<u32>, Memory> {
-        find_trespass(self.shapes, self.index, a, found)
+        find_trespass(self.alloc, self.shapes, self.planes, a, found)
     }
 
     ghost within = { λ s a b valid h. slice_get_within s.shapes.now a h.first h.first_is };
@@ -161,8 +169,9 @@ pub fn find_cover(alloc: Global, shapes: &[Shape], sheet: &Sheet) -> Result<Opti
     let found = first_of(
         alloc,
         &Cover {
+            alloc,
             shapes: sheet.shapes.as_slice(),
-            index: &sheet.index,
+            planes: &sheet.planes,
         },
     )?;
     Ok(named(sheet.numbers.as_slice(), found))

@@ -1,10 +1,10 @@
 // Design rule check (DRC), the rule of enclosure: a shape of each metal reaches past every via.
-ghost use Rattle.std.specs.Prelude.{◌≡◌, ◌<◌, ◌^◌, ◌&&◌, ◌-ℤ◌, ◌+ℤ◌, Some, pos, int_le, length, slice_get, IfOk};
+ghost use Rattle.std.specs.Prelude.{◌≡◌, ◌<◌, ◌^◌, ◌&&◌, ◌==◌, ◌-ℤ◌, ◌+ℤ◌, true, Some, pos, int_le, length, slice_get, IfOk};
 ghost use Rattle.geom.specs.declared.shapes.Shape.{Shape};
-ghost use Rattle.geom.specs.Near.{rects_of};
 ghost use Rattle.geom.specs.Rectangle.{within, grown};
 ghost use Rattle.layout_rules.specs.GeometryRules.{is_covered, EnclosureBroken};
 ghost use Rattle.shape_extract.specs.Searches.{Finds};
+ghost use Rattle.shape_extract.specs.Code.Planes.{in_plane, ArePlanes};
 ghost use Rattle.rule_check.specs.Code.Seen.{limits_seen};
 ghost use Rattle.rule_check.specs.Code.Close.{encloses, is_bare_by, within_x, within_y, IsAnswerAt};
 ghost use Rattle.rule_check.specs.Code.Sheets.{IsSheet};
@@ -12,9 +12,9 @@ ghost use Rattle.rule_check.specs.Code.Sheets.{IsSheet};
 use crate::limits::Limits;
 use crate::sheet::{Sheet, named};
 use aq_base::Memory;
-use geom::{Buckets, Rect, Shape};
+use geom::{Rect, Shape};
 use layout_rules::layers::{M1, M2};
-use shape_extract::{PairTest, Part, Report, first_of, is_via, list_partners};
+use shape_extract::{PairTest, Part, Plane, Planes, Report, first_of, is_via, list_passing};
 use std::alloc::Global;
 
 /// Whether the first is below the second by the margin at least.
@@ -65,21 +65,29 @@ impl PairTest for Encloses {
     ghost close = { λ t a b p q h. encloses_close t.layer t.margin a b p h };
 }
 
-/// Whether a shape of the layer reaches past that of this number by the margin.
+/// Whether a shape of the layer, which lies in the plane, reaches past this one by the margin.
 fn is_covered(
     shapes: &[Shape],
-    index: &Buckets,
+    planes: &Planes,
+    plane: Plane,
     layer: u16,
     margin: u64,
-    v: u32,
+    via: &Shape,
     found: &mut Vec<u32>,
 ) -> Result<bool, Memory>
-    requires few { length shapes.now < 2 ^ 32 }
-    requires filed { index.now ≡ rects_of shapes.now }
-    requires within { v < length shapes.now }
-    ensures { IfOk result (IsAnswerAt shapes.now v (λ s. is_covered shapes.now layer (grown margin s.rect))) }
+    requires filed { ArePlanes shapes.now planes.now }
+    requires planar { (s : Shape) → (s.layer == layer) ≡ true → in_plane plane s ≡ true }
+    ensures { IfOk result (λ answer. answer ≡ is_covered shapes.now layer (grown margin via.now.rect)) }
 {
-    list_partners(&Encloses { layer, margin }, shapes, index, v, found)?;
+    list_passing(
+        &Encloses { layer, margin },
+        0,
+        plane,
+        via,
+        shapes,
+        planes,
+        found,
+    )?;
     let covers = found.as_slice();
     Ok(!covers.is_empty())
 }
@@ -87,21 +95,21 @@ fn is_covered(
 /// Whether the shape of this number is a via whose margin is not within one shape of each metal.
 fn is_bare(
     shapes: &[Shape],
-    index: &Buckets,
+    planes: &Planes,
     enclose: u64,
     v: u32,
     found: &mut Vec<u32>,
 ) -> Result<bool, Memory>
-    requires few { length shapes.now < 2 ^ 32 }
-    requires filed { index.now ≡ rects_of shapes.now }
+    requires filed { ArePlanes shapes.now planes.now }
     requires within { v < length shapes.now }
     ensures { IfOk result (IsAnswerAt shapes.now v (is_bare_by enclose shapes.now)) }
 {
-    if !is_via(&shapes[v as usize]) {
+    let via = &shapes[v as usize];
+    if !is_via(via) {
         return Ok(false);
     }
-    let lower = is_covered(shapes, index, M1, enclose, v, found)?;
-    let upper = is_covered(shapes, index, M2, enclose, v, found)?;
+    let lower = is_covered(shapes, planes, Plane::Lower, M1, enclose, via, found)?;
+    let upper = is_covered(shapes, planes, Plane::Upper, M2, enclose, via, found)?;
     Ok(!(lower && upper))
 }
 
@@ -109,14 +117,14 @@ fn is_bare(
 #[derive(Drop)]
 struct Enclosure<'a> {
     shapes: &'a [Shape],
-    index: &'a Buckets,
+    planes: &'a Planes,
     limits: &'a Limits,
 }
 
 impl<'a> Part for Enclosure<'a> {
     ghost use Rattle.std.proofs.lemmas.Option.{slice_get_within};
 
-    ghost valid = { λ s. (length s.shapes.now < 2 ^ 32) × (s.index.now ≡ rects_of s.shapes.now) };
+    ghost valid = { λ s. (length s.shapes.now < 2 ^ 32) × ArePlanes s.shapes.now s.planes.now };
 
     ghost count = { λ s. length s.shapes.now };
 
@@ -127,7 +135,7 @@ impl<'a> Part for Enclosure<'a> {
     }
 
     fn second(&self, a: u32, found: &mut Vec<u32>) -> Result<Option<u32>, Memory> {
-        if is_bare(self.shapes, self.index, self.limits.enclose, a, found)? {
+        if is_bare(self.shapes, self.planes, self.limits.enclose, a, found)? {
             return Ok(Some(a));
         }
         Ok(None)
@@ -150,7 +158,7 @@ pub fn find_bare(
         alloc,
         &Enclosure {
             shapes: sheet.shapes.as_slice(),
-            index: &sheet.index,
+            planes: &sheet.planes,
             limits,
         },
     )?;

@@ -1,20 +1,20 @@
-// The shapes of a layout without their repetitions, and an index over them.
+// The shapes of a layout without their repetitions, filed by planes.
 ghost use Rattle.std.specs.Prelude.{◌≡◌, ◌<◌, ◌^◌, IfOk, length};
 ghost use Rattle.rule_check.specs.Code.Named.{HasPlaces, named};
-ghost use Rattle.rule_check.specs.Code.Sheets.{IsSheet};
+ghost use Rattle.rule_check.specs.Code.Sheets.{HaveSides, IsSheet};
 
 use aq_base::{List, Memory};
-use geom::{Buckets, Shape, file_shapes};
-use shape_extract::{Report, distinct_of};
+use geom::Shape;
+use shape_extract::{Planes, Report, distinct_of, file_planes};
 use std::alloc::Global;
 
-/// The shapes that stand for all of a layout, their numbers there, and an index over them. So a heap of equal shapes is
-/// one to each query.
+/// The shapes that stand for all of a layout, their numbers there, and where they lie. So a heap of equal shapes is one
+/// to each query.
 #[derive(Drop)]
 pub struct Sheet {
     pub numbers: Vec<u32>,
     pub shapes: List<Shape>,
-    pub index: Buckets,
+    pub planes: Planes,
 }
 
 /// The sheet of the shapes of a layout. It is refused for want of memory alone.
@@ -23,12 +23,21 @@ pub fn sheet_of(alloc: Global, shapes: &[Shape]) -> Result<Sheet, Memory>
     ensures { IfOk result (IsSheet shapes.now) }
 {
     let distinct = distinct_of(alloc, shapes)?;
-    let index = file_shapes(alloc, &distinct.shapes)?;
+    let planes = file_planes(alloc, distinct.shapes.as_slice())?;
     Ok(Sheet {
         numbers: distinct.numbers,
         shapes: distinct.shapes,
-        index,
+        planes,
     })
+}
+
+/// What all shapes keep: each has a positive width and a positive height. It does nothing else.
+pub fn known(shapes: &[Shape])
+    ensures { HaveSides shapes.now }
+{
+    for shape in shapes {
+        shape.rect.known();
+    }
 }
 
 /// The report by the numbers of these places.

@@ -1,19 +1,20 @@
 // Design rule check (DRC), the rule of spacing: shapes that don't touch keep their distance.
-ghost use Rattle.std.specs.Prelude.{◌≡◌, ℕ, ◌-◌, ◌<◌, ◌≤◌, ◌^◌, length, slice_index, IfOk};
-ghost use Rattle.geom.specs.Near.{rects_of};
+ghost use Rattle.std.specs.Prelude.{◌≡◌, ℕ, ◌-◌, ◌<◌, ◌≤◌, ◌^◌, true, false, length, IfOk, MatchOption};
+ghost use Rattle.geom.specs.declared.shapes.Shape.{Shape};
 ghost use Rattle.layout_rules.specs.GeometryRules.{are_of_one_group, are_too_close, SpacingBroken};
 ghost use Rattle.shape_extract.specs.Searches.{Finds};
+ghost use Rattle.shape_extract.specs.Code.Planes.{in_plane};
 ghost use Rattle.rule_check.specs.Code.Seen.{limits_seen};
 ghost use Rattle.rule_check.specs.Code.Above.{FindsAbove};
 ghost use Rattle.rule_check.specs.Code.Close.{is_of_a_group, IsFiledWith};
 ghost use Rattle.rule_check.specs.Code.Sheets.{IsSheet};
 
 use crate::limits::Limits;
-use crate::sheet::{Sheet, named};
+use crate::sheet::{Sheet, known, named};
 use aq_base::Memory;
-use geom::{Buckets, Shape, gap_x, gap_y, touches};
+use geom::{Shape, gap_x, gap_y, touches};
 use shape_extract::{
-    PairTest, Part, Report, first_of, is_lower, is_upper, is_via, list_close_partners,
+    PairTest, Part, Plane, Planes, Report, first_of, is_lower, is_upper, is_via, list_passing,
 };
 use std::alloc::Global;
 
@@ -23,11 +24,20 @@ fn are_of_one_group(a: &Shape, b: &Shape) -> bool
     (is_lower(a) && is_lower(b)) || (is_via(a) && is_via(b)) || (is_upper(a) && is_upper(b))
 }
 
-/// Whether the shape is of a layer that keeps distances.
-fn is_of_a_group(s: &Shape) -> bool
-    ensures { result ≡ is_of_a_group s.now }
+/// The plane of the shapes from which this one keeps its distance; none where it is of no such layer.
+fn group_of(s: &Shape) -> Option<Plane>
+    ensures { MatchOption result (is_of_a_group s.now ≡ false)
+        (λ plane. (t : Shape) → are_of_one_group s.now t ≡ true → in_plane plane t ≡ true) }
 {
-    is_lower(s) || is_via(s) || is_upper(s)
+    if is_lower(s) {
+        Some(Plane::Lower)
+    } else if is_via(s) {
+        Some(Plane::Vias)
+    } else if is_upper(s) {
+        Some(Plane::Upper)
+    } else {
+        None
+    }
 }
 
 /// Two shapes that must keep this distance and don't.
@@ -68,14 +78,14 @@ pub fn first_above(numbers: &[u32], a: u32) -> Option<u32>
 #[derive(Drop)]
 struct Spacing<'a> {
     shapes: &'a [Shape],
-    index: &'a Buckets,
+    planes: &'a Planes,
     limits: &'a Limits,
 }
 
 impl<'a> Part for Spacing<'a> {
     ghost use Rattle.std.proofs.lemmas.Option.{slice_get_within};
 
-    ghost valid = { λ s. IsFiledWith s.limits.now.space s.shapes.now s.index.now };
+    ghost valid = { λ s. IsFiledWith s.limits.now.space s.shapes.now s.planes.now };
 
     ghost count = { λ s. length s.shapes.now };
 
@@ -86,16 +96,18 @@ impl<'a> Part for Spacing<'a> {
     }
 
     fn second(&self, a: u32, found: &mut Vec<u32>) -> Result<Option<u32>, Memory> {
-        if !is_of_a_group(&self.shapes[a as usize]) {
+        let first = &self.shapes[a as usize];
+        let Some(group) = group_of(first) else {
             return Ok(None);
-        }
+        };
         let space = self.limits.space;
-        list_close_partners(
+        list_passing(
             &TooClose { space },
             space - 1,
+            group,
+            first,
             self.shapes,
-            self.index,
-            a,
+            self.planes,
             found,
         )?;
         let above = first_above(found.as_slice(), a);
@@ -117,13 +129,13 @@ pub fn find_close(
     requires space_most { limits.now.space ≤ 1000000 }
     ensures { IfOk result (Finds (SpacingBroken (limits_seen limits.now) shapes.now)) }
 {
-    let index = &sheet.index;
-    index.known();
+    let filed = sheet.shapes.as_slice();
+    known(filed);
     let found = first_of(
         alloc,
         &Spacing {
-            shapes: sheet.shapes.as_slice(),
-            index,
+            shapes: filed,
+            planes: &sheet.planes,
             limits,
         },
     )?;

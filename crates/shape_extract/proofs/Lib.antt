@@ -47,4 +47,5 @@ mod FramesExist
 mod CircuitExists
 pub mod SameShapes
 mod StandIns
-mod Members
+pub mod Members
+pub mod InPlanes

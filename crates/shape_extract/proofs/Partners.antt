@@ -17,12 +17,9 @@ use Rattle.geom.specs.declared.shapes.Shape.{Shape}
 use Rattle.geom.specs.declared.shapes.Label.{Label}
 use Rattle.layout_rules.specs.declared.layers.TheConstants.{LABELS}
 use Rattle.layout_rules.specs.Labels.{marks, marked_layer}
-use Rattle.layout_rules.specs.Layers.{is_lower, is_upper, is_via}
-use Rattle.layout_rules.specs.Touch.{touch}
 use Rattle.layout_rules.specs.Reports.{PassTogether}
-use Rattle.shape_extract.specs.Code.Walk.{AreTouching}
 use Rattle.shape_extract.specs.Code.Passing.{PassesIn}
-use Rattle.shape_extract.specs.Code.Sharing.{sharing_close, is_conductor}
+use Rattle.shape_extract.specs.Code.Sharing.{sharing_close}
 use Rattle.shape_extract.specs.Searches.{AreThose, passes_in, passes_at, passes_with}
 
 -- ---- filters
@@ -119,6 +116,10 @@ those_near holds p near found filtered up sound complete passes = subst (AreThos
   rising = λ k l lt len. AllPairs-from_increasing (filter p near) (IsStrictlyIncreasing-filter p near up) k l 0 lt len;
 })
 
+-- a number of which the test holds is that of a shape that passes
+pub passes_here : (test : Shape → Bool) (shapes : List Shape) (n : ℕ) → passes_at test shapes n ≡ true → PassesIn test shapes n
+passes_here test shapes n e = (let s : IsShapeAt test shapes n = shape_at test shapes n e in record { item = s.shape; item_is = s.shape_is; passes_so = s.passes_so })
+
 -- the shapes that pass a test are those that pass it among the near ones
 pub passing_near : (test : Shape → Bool) (shapes : List Shape) (here : Rectangle) (margin : ℕ) (near found : List ℕ) → ((s : Shape) (n : ℕ) → slice_get shapes n ≡ Some s → test s ≡ true → IsClose here s.rect margin) → AreNear (rects_of shapes) here margin near → found ≡ filter (passes_at test shapes) near → AreThose (PassesIn test shapes) found
 passing_near test shapes here margin near found close are filtered =
@@ -155,23 +156,3 @@ tested_at test s shapes n b is e = ap (passes_in test) is ∙ e
 
 pub point_held : (x y x0 y0 x1 y1 : ℤ) → int_le x0 x ≡ true → int_le x x1 ≡ true → int_le y0 y ≡ true → int_le y y1 ≡ true → holds_point (record { x0 = x0; y0 = y0; x1 = x1; y1 = y1 }) x y ≡ true
 point_held x y x0 y0 x1 y1 a b c d = and_from (int_le x0 x && int_le x x1) (int_le y0 y && int_le y y1) (and_from (int_le x0 x) (int_le x x1) a b) (and_from (int_le y0 y) (int_le y y1) c d)
-
--- ---- shapes that conduct to nothing
-
-no_conduction : (l v u lb vb ub share : Bool) → ((l || v) || u) ≡ false → (((((l && lb) || (u && ub)) || (v && (lb || ub))) || (vb && (l || u))) && share) ≡ false
-no_conduction true v u lb vb ub share e = absurd cc
-no_conduction false true u lb vb ub share e = absurd cc
-no_conduction false false true lb vb ub share e = absurd cc
-no_conduction false false false lb true ub share e = refl
-no_conduction false false false lb false ub share e = refl
-
-pub no_touching : (shapes : List Shape) (from : ℕ) (s : Shape) (numbers : List ℕ) → slice_get shapes from ≡ Some s → is_conductor s ≡ false → numbers ≡ [] → AreTouching shapes from numbers
-no_touching shapes from s numbers got other none = subst (AreTouching shapes from) (sym none) (record {
-  each = λ p lt. absurd (omega arith);
-  complete = λ j t. absurd (
-      let first : t.first ≡ s = same_Some t.first s (sym t.first_is ∙ got) in
-      both_ways (touch s t.second)
-      (no_conduction (is_lower s) (is_via s) (is_upper s) (is_lower t.second) (is_via t.second) (is_upper t.second) (share_point s.rect t.second.rect) other)
-      (sym (ap (λ (u : Shape). touch u t.second) first) ∙ t.touch_so)
-      );
-})

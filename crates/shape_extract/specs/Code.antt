@@ -27,6 +27,7 @@ pub mod PinNames
 pub mod Tables
 pub mod OutputPins
 pub mod Parts
--- equal shapes:
+-- equal shapes, and shapes by planes:
 pub mod DistinctShapes
+pub mod Planes
 pub mod Filed

@@ -7,8 +7,9 @@ ghost use Rattle.shape_extract.specs.Code.Filed.{AreFirsts, IsOfKinds, AddsRest,
 
 use crate::connectivity::net_chains::chains;
 use crate::distinct_shapes::{Distinct, distinct_of};
+use crate::planes::{Planes, file_planes};
 use aq_base::Memory;
-use geom::{Buckets, Shape, file_shapes};
+use geom::Shape;
 use std::alloc::Global;
 
 /// The shapes of a layout by kinds: equal shapes are of one kind, and each kind is filed once.
@@ -16,7 +17,7 @@ use std::alloc::Global;
 pub struct FiledShapes {
     pub kinds: Distinct,
     /// Where the kinds lie.
-    pub index: Buckets,
+    pub planes: Planes,
     /// For each shape the next one of its kind, or the number of shapes where it is the last.
     pub next: Vec<u32>,
 }
@@ -27,9 +28,13 @@ pub fn file_kinds(alloc: Global, shapes: &[Shape]) -> Result<FiledShapes, Memory
     ensures { IfOk result (IsFiled shapes.now) }
 {
     let kinds = distinct_of(alloc, shapes)?;
-    let index = file_shapes(alloc, &kinds.shapes)?;
+    let planes = file_planes(alloc, kinds.shapes.as_slice())?;
     let next = chains(alloc, kinds.places.as_slice())?;
-    Ok(FiledShapes { kinds, index, next })
+    Ok(FiledShapes {
+        kinds,
+        planes,
+        next,
+    })
 }
 
 /// Adds the shapes that come after this one in its kind.

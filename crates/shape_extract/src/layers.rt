@@ -1,7 +1,6 @@
 // What shapes are by their layers.
 ghost use Rattle.std.specs.Prelude.{◌≡◌};
 ghost use Rattle.layout_rules.specs.Layers.{is_frame, is_line, is_lower, is_pin, is_upper, is_via};
-ghost use Rattle.shape_extract.specs.Code.Sharing.{is_conductor};
 
 use geom::Shape;
 use layout_rules::layers::{EVEN_LINE, FRAME, INPUT_PIN, M1, M2, ODD_LINE, OUTPUT_PIN, VIA};
@@ -39,13 +38,6 @@ pub fn is_upper(s: &Shape) -> bool
     ensures { result ≡ is_upper s.now }
 {
     s.layer == M2
-}
-
-/// Whether the shape is of a layer that conducts.
-pub fn is_conductor(s: &Shape) -> bool
-    ensures { result ≡ is_conductor s.now }
-{
-    is_lower(s) || is_via(s) || is_upper(s)
 }
 
 /// Whether the shape is a part of an excitation line.

@@ -11,6 +11,7 @@ mod filed_shapes;
 mod layers;
 mod lines;
 mod pairs;
+mod planes;
 mod rules;
 mod search;
 mod tables;
@@ -25,7 +26,8 @@ pub use extracting::extract;
 pub use extraction::ExtractRefusal;
 pub use layers::{is_frame, is_lower, is_pin, is_upper, is_via};
 pub use layout_rules::Rule;
-pub use pairs::{PairTest, list_close_partners, list_partners};
+pub use pairs::{PairTest, list_close_partners, list_partners, list_passing};
+pub use planes::{FiledPlane, Plane, Planes, file_planes};
 pub use rowed::Source;
 pub use search::{Part, Report, first_of};
 

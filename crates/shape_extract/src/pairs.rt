@@ -7,8 +7,11 @@ ghost use Rattle.geom.specs.declared.shapes.Shape.{Shape};
 ghost use Rattle.layout_rules.specs.Reports.{PassTogether};
 ghost use Rattle.shape_extract.specs.Searches.{AreThose, passes_with};
 ghost use Rattle.shape_extract.specs.Code.Filed.{IsFiled};
+ghost use Rattle.shape_extract.specs.Code.Passing.{PassesIn};
+ghost use Rattle.shape_extract.specs.Code.Planes.{in_plane, ArePlanes};
 
 use crate::filed_shapes::{FiledShapes, list_of_kinds};
+use crate::planes::{Plane, Planes};
 use aq_base::Memory;
 use geom::{Buckets, Shape};
 
@@ -86,9 +89,34 @@ pub fn list_partners<T: PairTest>(
     list_close_partners(test, 0, shapes, index, a, found)
 }
 
-/// The same by a query of the kinds: a heap of equal shapes is tested once, and listed only where it passes.
+/// Lists the numbers of the shapes that pass the test together with this one, by a query of a plane in which all such
+/// shapes lie for those that are no further from it than the margin. It is refused for want of memory alone.
+pub fn list_passing<T: PairTest>(
+    test: &T,
+    margin: u64,
+    plane: Plane,
+    first: &Shape,
+    shapes: &[Shape],
+    planes: &Planes,
+    found: &mut Vec<u32>,
+) -> Result<(), Memory>
+    requires planes { ArePlanes shapes.now planes.now }
+    requires reach { T.reach test.now ≤ margin }
+    requires margin { margin ≤ 1000000 }
+    requires planar { (s : Shape) → T.passes test.now first.now s ≡ true → in_plane plane s ≡ true }
+    ensures { IfOk result (λ _. AreThose (PassesIn (T.passes test.now first.now) shapes.now) found.new.items) }
+{
+    first.rect.known();
+    planes.list_near(plane, &first.rect, margin, found)?;
+    keep_passing(test, first, shapes, found);
+    Ok(())
+}
+
+/// Lists the numbers of the shapes that pass the test together with the one of this number, by a query of the kinds in a
+/// plane in which all such shapes lie: a heap of equal shapes is tested once, and listed only where it passes.
 pub fn list_filed_partners<T: PairTest>(
     test: &T,
+    plane: Plane,
     shapes: &[Shape],
     filed: &FiledShapes,
     a: u32,
@@ -98,12 +126,19 @@ pub fn list_filed_partners<T: PairTest>(
     requires filed { IsFiled shapes.now filed.now }
     requires within { a < length shapes.now }
     requires touching { T.reach test.now ≡ 0 }
+    requires planar { (s t : Shape) → T.passes test.now s t ≡ true → in_plane plane t ≡ true }
     ensures { IfOk result (λ _. AreThose (PassTogether (T.passes test.now) shapes.now a) found.new.items) }
 {
-    filed.index.known();
     let first = &shapes[a as usize];
-    filed.index.list_near(&first.rect, 0, found)?;
-    keep_passing(test, first, filed.kinds.shapes.as_slice(), found);
+    list_passing(
+        test,
+        0,
+        plane,
+        first,
+        filed.kinds.shapes.as_slice(),
+        &filed.planes,
+        found,
+    )?;
     list_of_kinds(filed, found)?;
     Ok(())
 }

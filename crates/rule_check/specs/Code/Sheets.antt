@@ -1,11 +1,16 @@
--- Sheets: the shapes that stand for all of a layout, with an index.
-use Rattle.std.specs.Prelude.{◌≡◌, ◌<◌, ◌^◌, List, length}
+-- Sheets: the shapes that stand for all of a layout, filed by planes.
+use Rattle.std.specs.Prelude.{◌≡◌, ℕ, ◌<◌, ◌^◌, List, length, slice_get, Some}
+use Rattle.geom.specs.Rectangle.{IsProper}
 use Rattle.geom.specs.declared.shapes.Shape.{Shape}
-use Rattle.geom.specs.Near.{rects_of}
 use Rattle.shape_extract.specs.Code.DistinctShapes.{IsDistinct}
+use Rattle.shape_extract.specs.Code.Planes.{ArePlanes}
 use Rattle.rule_check.specs.declared.sheet.Sheet.{Sheet}
+
+-- each of the shapes is proper
+abbrev pub HaveSides : List Shape → Type 0
+HaveSides shapes = (n : ℕ) (s : Shape) → slice_get shapes n ≡ Some s → IsProper s.rect
 
 pub record IsSheet (all : List Shape) (sheet : Sheet) : Type 0 where
   pub distinct : IsDistinct all sheet.numbers.items sheet.shapes
   pub few : length sheet.shapes < 2 ^ 32
-  pub filed : sheet.index ≡ rects_of sheet.shapes
+  pub filed : ArePlanes sheet.shapes sheet.planes

@@ -1,9 +1,9 @@
 -- Shapes filed by kinds: equal shapes are of one kind, which goes by its least number.
 use Rattle.std.specs.Prelude.{◌≡◌, ℕ, ◌<◌, ◌≤◌, List, length, slice_index}
 use Rattle.geom.specs.declared.shapes.Shape.{Shape}
-use Rattle.geom.specs.Near.{rects_of}
 use Rattle.shape_extract.specs.Code.DistinctShapes.{ArePlaces, IsDistinct}
 use Rattle.shape_extract.specs.Code.NetChains.{AreChains}
+use Rattle.shape_extract.specs.Code.Planes.{ArePlanes}
 use Rattle.shape_extract.specs.declared.filed_shapes.FiledShapes.{FiledShapes}
 
 -- the numbers, rising, are the least of their kinds; each shape has the place of its kind among them
@@ -19,7 +19,7 @@ pub record IsFiled (shapes : List Shape) (filed : FiledShapes) : Type 0 where
   pub distinct : IsDistinct shapes filed.kinds.numbers.items filed.kinds.shapes
   pub places : ArePlaces shapes filed.kinds.numbers.items filed.kinds.places.items
   pub firsts : AreFirsts filed.kinds.numbers.items filed.kinds.places.items
-  pub index : filed.index ≡ rects_of filed.kinds.shapes
+  pub planes : ArePlanes filed.kinds.shapes filed.planes
   pub next : AreChains filed.kinds.places.items filed.next.items
 
 -- the shape of this number is of one of these kinds

@@ -1,5 +1,5 @@
 -- Shapes that pass the tests of extraction together share a point, so that a query of the index finds them.
-use Rattle.std.specs.Prelude.{◌≡◌, ◌≤◌, ◌==◌, ◌&&◌, ◌||◌, Bool, true, int_le, int_lt}
+use Rattle.std.specs.Prelude.{◌≡◌, ◌≤◌, ◌==◌, ◌&&◌, Bool, true, int_le, int_lt}
 use Rattle.std.proofs.Common.{◌∙◌, arith}
 use Rattle.std.proofs.lemmas.Bool.{and_parts, and_from}
 use Rattle.std.proofs.lemmas.Int.{ints}
@@ -7,7 +7,7 @@ use Rattle.geom.specs.declared.shapes.Shape.{Shape}
 use Rattle.geom.specs.Near.{IsClose}
 use Rattle.geom.specs.Rectangle.{Rectangle, IsProper, gap_x, gap_y, share_x, share_y, share_point}
 use Rattle.geom.specs.Rectangle.{within, overlap, meet_x, meet_y}
-use Rattle.layout_rules.specs.Layers.{is_frame, is_line, is_pin, is_lower, is_upper, is_via}
+use Rattle.layout_rules.specs.Layers.{is_frame, is_line, is_pin}
 use Rattle.layout_rules.specs.Pins.{lies_in}
 use Rattle.layout_rules.specs.Touch.{conducts, touch}
 use Rattle.layout_rules.specs.ExcitationLines.{meet}
@@ -27,12 +27,11 @@ sharing_close a b e =
     let h = and_parts (share_x a b) (share_y a b) e in
     record { in_x = share_x-gap a b h.0; in_y = share_y-gap a b h.1 }
 
--- shapes of other layers touch nothing
-abbrev pub is_conductor : Shape → Bool
-is_conductor s = is_lower s || is_via s || is_upper s
-
 pub touch_close : (a b : Shape) → touch a b ≡ true → IsClose a.rect b.rect 0
 touch_close a b h = sharing_close a.rect b.rect (and_parts (conducts a b) (share_point a.rect b.rect) h).1
+
+pub touch_in_close : (in_it : Bool) (a b : Shape) → (in_it && touch a b) ≡ true → IsClose a.rect b.rect 0
+touch_in_close in_it a b h = touch_close a b (and_parts in_it (touch a b) h).1
 
 pub meet_close : (a b : Shape) → meet a b ≡ true → IsClose a.rect b.rect 0
 meet_close a b h =

@@ -1,15 +1,21 @@
 -- The walk that finds nets: a label for each shape, where a number of no shape means none yet, and the labelled shapes
 -- in the order in which they were labelled. It is the search by connected components of circuit extractors.
-use Rattle.std.specs.Prelude.{◌≡◌, ◌≢◌, ℕ, ◌+◌, ◌*◌, ◌<◌, ◌≤◌, Bool, false, cond}
+use Rattle.std.specs.Prelude.{◌≡◌, ◌≢◌, ℕ, ◌+◌, ◌*◌, ◌<◌, ◌≤◌, ◌&&◌, Bool, false, cond}
 use Rattle.std.specs.Prelude.{List, length, slice_index, slice_index_or, sum}
 use Rattle.geom.specs.declared.shapes.Shape.{Shape}
-use Rattle.layout_rules.specs.Touch.{Touching, Joined}
+use Rattle.layout_rules.specs.Touch.{touch, Touching, Joined}
+use Rattle.shape_extract.specs.declared.planes.Plane.{Plane}
+use Rattle.shape_extract.specs.Code.Planes.{in_plane}
 use Rattle.shape_extract.specs.Searches.{Says}
 
 -- the numbers are those of the shapes that touch shape `from`
 pub record AreTouching (shapes : List Shape) (from : ℕ) (numbers : List ℕ) : Type 0 where
   pub each : (p : ℕ) → p < length numbers → Touching shapes from (slice_index numbers p)
   pub complete : (j : ℕ) → Touching shapes from j → (p : ℕ) × ((p < length numbers) × (slice_index numbers p ≡ j))
+
+-- a shape of the plane touches the first, where such are wanted
+abbrev pub touches_in : Bool → Plane → Shape → Shape → Bool
+touches_in wanted plane from s = wanted && (in_plane plane s && touch from s)
 
 -- a labelled shape is joined to the shape of its label, which is not above it, and has a place in the order; and all in
 -- the order are labelled

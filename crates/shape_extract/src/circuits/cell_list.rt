@@ -11,6 +11,7 @@ ghost use Rattle.shape_extract.specs.Code.Filed.{IsFiled};
 
 use crate::circuits::cell_feeds::{Tables, feed_at};
 use crate::pairs::list_filed_partners;
+use crate::planes::Plane;
 use crate::rules::cell_pins::kind_numbered;
 use crate::tables::pins_in_frames::HoldsPin;
 use crate::tables::row_edges::{lower_edge, row_at};
@@ -61,7 +62,7 @@ fn cell_of(
     let shapes = tables.flat.shapes.as_slice();
     let kind = kind_of(tables, f);
     let row = row_of(tables, edges, f);
-    list_filed_partners(&HoldsPin, shapes, tables.filed, f, pins)?;
+    list_filed_partners(&HoldsPin, Plane::Lower, shapes, tables.filed, f, pins)?;
     let feed0 = feed_at(tables, pins.as_slice(), kind, f, 0);
     let feed1 = feed_at(tables, pins.as_slice(), kind, f, 1);
     let feed2 = feed_at(tables, pins.as_slice(), kind, f, 2);

@@ -1,6 +1,5 @@
 // Nets by connected components: a walk from each shape that is not reached yet.
 ghost use Rattle.std.specs.Prelude.{◌≡◌, ℕ, ◌^◌, ◌<◌, ◌≤◌, length, IfOk, nat_lt, slice_index, slice_set};
-ghost use Rattle.geom.specs.Near.{rects_of};
 ghost use Rattle.geom.specs.FlatForm.{flat_count};
 ghost use Rattle.layout_rules.specs.Nets.{AreNets};
 ghost use Rattle.shape_extract.specs.Code.Walk.{
@@ -19,12 +18,14 @@ ghost use Rattle.shape_extract.specs.Code.Walk.{
 };
 ghost use Rattle.shape_extract.specs.Code.DistinctShapes.{ArePlaces, IsDistinct};
 ghost use Rattle.shape_extract.specs.Code.Filed.{IsFiled};
+ghost use Rattle.shape_extract.specs.Code.Planes.{ArePlanes};
 
 use crate::connectivity::neighbours::list_touching;
 use crate::distinct_shapes::Distinct;
 use crate::filed_shapes::{FiledShapes, file_kinds};
+use crate::planes::Planes;
 use aq_base::{List, Memory};
-use geom::{Buckets, Flat, Shape};
+use geom::{Flat, Shape};
 use std::alloc::Global;
 
 /// Labels those of these shapes that have no label yet as shape `from` is labelled, and adds them to the order.
@@ -61,17 +62,18 @@ fn note_touched(numbers: &[u32], touched: &mut [bool], from: u32)
     touched[from as usize] = 0 < numbers.len();
 }
 
-/// Spreads from the shape of this number, and notes whether some shape touches it. The list is for use within.
+/// Spreads from the shape of this number, and notes whether some shape touches it. The lists are for use within.
 fn reach(
     shapes: &[Shape],
-    index: &Buckets,
+    planes: &Planes,
     labels: &mut [u32],
     order: &mut Vec<u32>,
     touched: &mut [bool],
     found: &mut Vec<u32>,
+    more: &mut Vec<u32>,
     from: u32,
 ) -> Result<(), Memory>
-    requires filed { index.now ≡ rects_of shapes.now }
+    requires planes { ArePlanes shapes.now planes.now }
     requires few { length shapes.now < 2 ^ 32 }
     requires walk { IsWalk shapes.now labels.old order.old.items }
     requires touched { length touched.old ≡ length shapes.now }
@@ -82,7 +84,7 @@ fn reach(
         labels.new order.new.items from) }
     ensures told { IfOk result (λ _. IsTold shapes.now from touched.old touched.new) }
 {
-    list_touching(shapes, index, from, found)?;
+    list_touching(shapes, planes, from, found, more)?;
     let numbers = found.as_slice();
     note_touched(numbers, touched, from);
     spread(shapes, numbers, labels, order, from)?;
@@ -93,14 +95,14 @@ fn reach(
 fn grow(
     alloc: Global,
     shapes: &[Shape],
-    index: &Buckets,
+    planes: &Planes,
     labels: &mut [u32],
     order: &mut Vec<u32>,
     touched: &mut [bool],
     start: usize,
     mark: u32,
 ) -> Result<(), Memory>
-    requires filed { index.now ≡ rects_of shapes.now }
+    requires planes { ArePlanes shapes.now planes.now }
     requires few { length shapes.now < 2 ^ 32 }
     requires walk { IsWalk shapes.now labels.old order.old.items }
     requires told { AreToldTo start shapes.now order.old.items touched.old }
@@ -113,10 +115,13 @@ fn grow(
     ensures told { IfOk result (λ _. AreToldTo (length order.new.items) shapes.now order.new.items touched.new) }
 {
     let mut found = Vec::new(alloc);
+    let mut more = Vec::new(alloc);
     let mut done = start;
     while done < order.len() {
         let from = order[done];
-        reach(shapes, index, labels, order, touched, &mut found, from)?;
+        reach(
+            shapes, planes, labels, order, touched, &mut found, &mut more, from,
+        )?;
         done += 1;
     }
     Ok(())
@@ -126,11 +131,11 @@ fn grow(
 fn walk_all(
     alloc: Global,
     shapes: &[Shape],
-    index: &Buckets,
+    planes: &Planes,
     labels: &mut [u32],
     touched: &mut [bool],
 ) -> Result<(), Memory>
-    requires filed { index.now ≡ rects_of shapes.now }
+    requires planes { ArePlanes shapes.now planes.now }
     requires few { length shapes.now < 2 ^ 32 }
     requires long { length labels.old ≡ length shapes.now }
     requires none { (k : ℕ) → k < length shapes.now → slice_index labels.old k ≡ length shapes.now }
@@ -146,7 +151,7 @@ fn walk_all(
             labels[i] = mark;
             order.push(mark)?;
             grow(
-                alloc, shapes, index, labels, &mut order, touched, start, mark,
+                alloc, shapes, planes, labels, &mut order, touched, start, mark,
             )?;
         }
     }
@@ -161,16 +166,16 @@ struct Walked {
     touched: Vec<bool>,
 }
 
-fn walk(alloc: Global, shapes: &[Shape], index: &Buckets) -> Result<Walked, Memory>
+fn walk(alloc: Global, shapes: &[Shape], planes: &Planes) -> Result<Walked, Memory>
     requires few { length shapes.now < 2 ^ 32 }
-    requires filed { index.now ≡ rects_of shapes.now }
+    requires planes { ArePlanes shapes.now planes.now }
     ensures nets { IfOk result (λ w. AreNets shapes.now w.labels.items) }
     ensures told { IfOk result (λ w. AreTold shapes.now w.touched.items) }
 {
     let none = shapes.len() as u32;
     let mut labels = vec![in alloc; none; shapes.len()]?;
     let mut touched = vec![in alloc; false; shapes.len()]?;
-    walk_all(alloc, shapes, index, &mut labels, &mut touched)?;
+    walk_all(alloc, shapes, planes, &mut labels, &mut touched)?;
     Ok(Walked { labels, touched })
 }
 
@@ -219,7 +224,7 @@ pub fn nets_by(alloc: Global, shapes: &[Shape], filed: &FiledShapes) -> Result<L
     requires filed { IsFiled shapes.now filed.now }
     ensures { IfOk result (λ nets. AreNets shapes.now nets) }
 {
-    let walked = walk(alloc, filed.kinds.shapes.as_slice(), &filed.index)?;
+    let walked = walk(alloc, filed.kinds.shapes.as_slice(), &filed.planes)?;
     let nets = own_nets(alloc, shapes, &filed.kinds, &walked)?;
     Ok(List::from_vec(nets))
 }

@@ -8,6 +8,7 @@ ghost use Rattle.shape_extract.specs.Code.Filed.{IsFiled};
 use crate::filed_shapes::FiledShapes;
 use crate::layers::is_line;
 use crate::pairs::{PairTest, list_filed_partners};
+use crate::planes::Plane;
 use aq_base::Memory;
 use geom::{Shape, touches};
 
@@ -56,7 +57,7 @@ pub fn list_contacts(
     requires within { a < length shapes.now }
     ensures { IfOk result (λ _. AreThose (Contact shapes.now a) found.new.items) }
 {
-    list_filed_partners(&Meet, shapes, filed, a, found)?;
+    list_filed_partners(&Meet, Plane::Lines, shapes, filed, a, found)?;
     remove_number(found, a);
     Ok(())
 }

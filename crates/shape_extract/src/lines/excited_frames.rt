@@ -18,6 +18,7 @@ use crate::lines::contacts::is_part;
 use crate::lines::crossed_bars::at_left;
 use crate::lines::reached_parts::is_reached;
 use crate::pairs::{PairTest, list_filed_partners};
+use crate::planes::Plane;
 use crate::search::Report;
 use crate::tables::row_edges::{lower_edge, row_at};
 use aq_base::Memory;
@@ -94,7 +95,7 @@ fn is_excited(
     ensures { IfOk result (λ yes. (frame : Shape) → slice_get shapes.now f ≡ Some frame
         → Says yes (IsChainExcited shapes.now frame)) }
 {
-    list_filed_partners(&LiesOver, shapes, filed, f, found)?;
+    list_filed_partners(&LiesOver, Plane::Lines, shapes, filed, f, found)?;
     if found.len() != 1 {
         return Ok(false);
     }

@@ -10,6 +10,7 @@ ghost use Rattle.shape_extract.specs.Code.Filed.{IsFiled};
 use crate::filed_shapes::FiledShapes;
 use crate::layers::{is_frame, is_pin};
 use crate::pairs::list_filed_partners;
+use crate::planes::Plane;
 use crate::rules::cell_pins::{are_numbered, kind_numbered};
 use crate::search::{Part, Report, first_of};
 use crate::tables::pins_in_frames::{HoldsPin, PinInFrame};
@@ -34,7 +35,7 @@ fn is_cell(
     let Some(kind) = kind_numbered(shapes[f as usize].datatype) else {
         return Ok(false);
     };
-    list_filed_partners(&HoldsPin, shapes, filed, f, found)?;
+    list_filed_partners(&HoldsPin, Plane::Lower, shapes, filed, f, found)?;
     let pins = found.as_slice();
     Ok(
         are_numbered(shapes, pins, INPUT_PIN, kind.inputs())
@@ -54,7 +55,7 @@ fn lies_in_one_frame(
     requires within { p < length shapes.now }
     ensures { IfOk result (λ yes. Says yes (LiesInOneFrame shapes.now p)) }
 {
-    list_filed_partners(&PinInFrame, shapes, filed, p, found)?;
+    list_filed_partners(&PinInFrame, Plane::Frames, shapes, filed, p, found)?;
     Ok(found.len() == 1)
 }
 

@@ -8,6 +8,7 @@ ghost use Rattle.shape_extract.specs.Code.Passing.{PassesIn};
 ghost use Rattle.shape_extract.specs.Code.Filed.{IsFiled};
 
 use crate::filed_shapes::{FiledShapes, list_of_kinds};
+use crate::planes::Plane;
 use crate::tables::labels::marks;
 use aq_base::Memory;
 use geom::{Label, Rect, Shape};
@@ -67,7 +68,7 @@ pub fn list_marked(
     ensures { IfOk result (λ _. AreThose (PassesIn (marks label.now) shapes.now) found.new.items) }
 {
     let here = rect_at(label.x, label.y);
-    filed.index.list_near(&here, 0, found)?;
+    filed.planes.list_near(Plane::Lower, &here, 0, found)?;
     keep_marked(label, filed.kinds.shapes.as_slice(), found);
     list_of_kinds(filed, found)?;
     Ok(())

@@ -11,6 +11,7 @@ ghost use Rattle.shape_extract.specs.Code.Filed.{IsFiled};
 use crate::filed_shapes::FiledShapes;
 use crate::layers::is_pin;
 use crate::pairs::list_filed_partners;
+use crate::planes::Plane;
 use crate::tables::pins_in_frames::PinInFrame;
 use aq_base::Memory;
 use geom::Shape;
@@ -29,7 +30,7 @@ fn frame_of(
     requires pin { Passes is_pin shapes.now p }
     ensures { IfOk result (λ f. LiesIn shapes.now p f) }
 {
-    list_filed_partners(&PinInFrame, shapes, filed, p, found)?;
+    list_filed_partners(&PinInFrame, Plane::Frames, shapes, filed, p, found)?;
     Ok(found[0])
 }
 

@@ -2,12 +2,12 @@ use Rattle.std.proofs.Common.{arith}
 use Rattle.rule_check.proofs.Represented.{no_more}
 use Rattle.rule_check.proofs.sheet.sheet_of.Goals as goal
 
-pub file_shapes-requires : goal.file_shapes-requires
-file_shapes-requires c = omega (
+pub file_planes-requires : goal.file_planes-requires
+file_planes-requires c = rw c.as_slice.ensures (omega (
   arith,
   no_more c.args.shapes.now c.in_ok-distinct.distinct.numbers.items c.in_ok-distinct.distinct.shapes
       c.in_ok-distinct.ensures.distinct,
-)
+))
 
 pub returns : goal.returns
 returns c = record {
@@ -17,5 +17,5 @@ returns c = record {
     no_more c.args.shapes.now c.in_ok-distinct.distinct.numbers.items c.in_ok-distinct.distinct.shapes
         c.in_ok-distinct.ensures.distinct,
   );
-  filed = c.in_ok-index.ensures;
+  filed = rw c.as_slice.ensures at c.in_ok-planes.ensures;
 }

@@ -1,5 +1,3 @@
-use Rattle.std.proofs.Common.{subst}
-use Rattle.geom.specs.Rectangle.{AreProper}
 use Rattle.layout_rules.specs.GeometryRules.{SpacingBroken}
 use Rattle.rule_check.specs.Code.Seen.{limits_seen}
 use Rattle.rule_check.proofs.Represented.{finds_named, places_of, spacing_represents, proper_own}
@@ -7,21 +5,21 @@ use Rattle.rule_check.proofs.spacing.find_close.Goals as goal
 
 pub named-requires : goal.named-requires
 named-requires c =
-    rw c.as_slice-2.ensures.value
+    rw c.as_slice.ensures.value
     (places_of c.args.sheet.now.numbers.items (SpacingBroken (limits_seen c.args.limits.now) c.args.shapes.now)
     (SpacingBroken (limits_seen c.args.limits.now) c.args.sheet.now.shapes) c.in_ok-found.found
     (spacing_represents c.args.shapes.now c.args.sheet.now.numbers.items c.args.sheet.now.shapes
     c.requires.sheet.distinct (limits_seen c.args.limits.now)
-    (proper_own c.args.sheet.now.shapes (subst AreProper c.requires.sheet.filed c.known.ensures)))
-    (rw c.as_slice.ensures at c.in_ok-found.ensures))
+    (proper_own c.args.sheet.now.shapes (rw c.as_slice-filed.ensures at c.known.ensures)))
+    (rw c.as_slice-filed.ensures at c.in_ok-found.ensures))
 
 pub returns : goal.returns
 returns c =
-    rw (c.named.ensures, c.as_slice-2.ensures.value)
+    rw (c.named.ensures, c.as_slice.ensures.value)
     (finds_named c.args.sheet.now.numbers.items (SpacingBroken (limits_seen c.args.limits.now) c.args.shapes.now)
     (SpacingBroken (limits_seen c.args.limits.now) c.args.sheet.now.shapes) c.in_ok-found.found
     c.requires.sheet.distinct.rising
     (spacing_represents c.args.shapes.now c.args.sheet.now.numbers.items c.args.sheet.now.shapes
     c.requires.sheet.distinct (limits_seen c.args.limits.now)
-    (proper_own c.args.sheet.now.shapes (subst AreProper c.requires.sheet.filed c.known.ensures)))
-    (rw c.as_slice.ensures at c.in_ok-found.ensures))
+    (proper_own c.args.sheet.now.shapes (rw c.as_slice-filed.ensures at c.known.ensures)))
+    (rw c.as_slice-filed.ensures at c.in_ok-found.ensures))

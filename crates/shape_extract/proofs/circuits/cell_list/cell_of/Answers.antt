@@ -1,3 +1,4 @@
+use Rattle.shape_extract.proofs.InPlanes.{pin_lower}
 use Rattle.std.proofs.Common.{refl}
 use Rattle.layout_rules.specs.Reports.{PassTogether}
 use Rattle.shape_extract.specs.Code.Cells.{holds_pin}
@@ -24,3 +25,6 @@ pub returns : goal.returns
 returns c =
     cell_made c.args.tables.now.flat.now c.args.tables.now.frames.now c.kind_of-kind.result c.args.f c.kind_of-kind.ensures c.row_of-row.result _ _ _ _ c.row_of-row.ensures refl (c.requires.tables.five.excited c.args.f)
     c.feed_at-feed0.ensures c.feed_at-feed1.ensures c.feed_at-feed2.ensures
+
+pub list_filed_partners-requires-clause-planar : goal.list_filed_partners-requires-clause-planar
+list_filed_partners-requires-clause-planar c = λ s t h. pin_lower s t h

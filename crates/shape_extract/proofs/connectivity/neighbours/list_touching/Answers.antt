@@ -1,7 +1,18 @@
-use Rattle.std.proofs.Common.{sym, ◌∙◌}
 use Rattle.shape_extract.proofs.Passing.{read_at}
-use Rattle.shape_extract.proofs.Partners.{no_touching}
+use Rattle.shape_extract.proofs.InPlanes.{touching_from}
 use Rattle.shape_extract.proofs.connectivity.neighbours.list_touching.Goals as goal
 
-pub returns-then-not-is_conductor : goal.returns-then-not-is_conductor
-returns-then-not-is_conductor c = no_touching c.args.shapes.now c.args.from c.index-shapes-from.result c.clear.new.self.items (read_at _ _ _ c.requires.within c.index-shapes-from.is) (sym c.is_conductor.ensures ∙ c.if-not-is_conductor.true) c.clear.ensures.items
+pub returns : goal.returns
+returns c =
+    rw (
+      c.in_ok-extend_from_slice-2.ensures.items,
+      c.in_ok-extend_from_slice.ensures.items,
+      c.as_slice.ensures.value,
+      c.as_slice-2.ensures.value,
+    )
+    (touching_from c.args.shapes.now c.args.from c.index-shapes-from.result
+    (read_at _ _ _ c.requires.within c.index-shapes-from.is) c.list_touching_in.new.found.items
+    c.list_touching_in-2.new.found.items c.list_touching_in-3.new.found.items
+    (rw c.meets_lower-lower.ensures at c.in_ok-list_touching_in.ensures)
+    (rw c.meets_vias-vias.ensures at c.in_ok-list_touching_in-2.ensures)
+    (rw c.meets_upper-upper.ensures at c.in_ok-list_touching_in-3.ensures))

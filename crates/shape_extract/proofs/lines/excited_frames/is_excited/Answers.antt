@@ -1,3 +1,4 @@
+use Rattle.shape_extract.proofs.InPlanes.{over_line}
 use Rattle.std.proofs.Common.{◌≡◌, ◌≢◌, ◌<◌, ◌∙◌, length, arith, sym, subst}
 use Rattle.std.proofs.lemmas.Grind.{get_or_default_zero}
 use Rattle.std.proofs.lemmas.Option.{same_Some}
@@ -35,3 +36,6 @@ returns c = λ frame got.
     let same : c.index-shapes-f.result ≡ frame = same_Some c.index-shapes-f.result frame (sym (got_at _ _ _ c.requires.within c.index-shapes-f.is) ∙ got) in
     one_over c.args.shapes.now c.args.f c.list_filed_partners.new.found.items c.in_ok-list_filed_partners.ensures frame got one c.index.result.now (sym is) c.excites.result
     (subst (λ (s : Shape). Says c.excites.result (Excites c.args.shapes.now c.index.result.now s)) same c.excites.ensures)
+
+pub list_filed_partners-requires-clause-planar : goal.list_filed_partners-requires-clause-planar
+list_filed_partners-requires-clause-planar c = λ s t h. over_line s t h

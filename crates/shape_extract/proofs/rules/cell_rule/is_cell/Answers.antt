@@ -1,3 +1,4 @@
+use Rattle.shape_extract.proofs.InPlanes.{pin_lower}
 use Rattle.std.proofs.lemmas.Option.{slice_get-get_or}
 use Rattle.circuit.specs.CellKinds.{inputs_of}
 use Rattle.layout_rules.specs.declared.layers.TheConstants.{INPUT_PIN}
@@ -20,3 +21,6 @@ pub returns-else-are_numbered : goal.returns-else-are_numbered
 returns-else-are_numbered c =
     let are : AreThose (PassTogether holds_pin c.args.shapes.now c.args.f) c.as_slice-pins.result.now = rw c.as_slice-pins.ensures.value c.in_ok-list_filed_partners.ensures in
     rw c.if-are_numbered.false (no_cell _ _ _ (slice_get-get_or c.args.shapes.now c.args.f c.index-shapes-f.result c.requires.within) c.in-Some.kind c.in-Some.ensures _ are (rw c.inputs.ensures at c.if-are_numbered.ensures))
+
+pub list_filed_partners-requires-clause-planar : goal.list_filed_partners-requires-clause-planar
+list_filed_partners-requires-clause-planar c = λ s t h. pin_lower s t h

@@ -1,3 +1,4 @@
+use Rattle.shape_extract.proofs.InPlanes.{frame_framed}
 use Rattle.std.proofs.Common.{◌≡◌, ◌∙◌, ◌<◌, ℕ, length, subst, sym, arith}
 use Rattle.std.proofs.lemmas.Grind.{get_or_default_zero}
 use Rattle.std.specs.Prelude.{slice_index}
@@ -13,3 +14,6 @@ returns c =
     let some : 0 < length c.list_filed_partners.new.found.items = some_frame c.args.shapes.now c.args.p c.requires.kept c.requires.pin c.list_filed_partners.new.found.items c.in_ok-list_filed_partners.ensures in
     let is : c.index.result.now ≡ slice_index c.list_filed_partners.new.found.items 0 = c.index.ensures ∙ get_or_default_zero c.list_filed_partners.new.found.items 0 c.index.result.now some in
     subst (λ (f : ℕ). LiesIn c.args.shapes.now c.args.p f) (sym is) (first_lies c.args.shapes.now c.args.p c.requires.kept c.requires.pin c.list_filed_partners.new.found.items c.in_ok-list_filed_partners.ensures)
+
+pub list_filed_partners-requires-clause-planar : goal.list_filed_partners-requires-clause-planar
+list_filed_partners-requires-clause-planar c = λ s t h. frame_framed s t h

@@ -1,0 +1,157 @@
+// Planes: groups of layers, each filed by itself, so that a query meets only shapes of the layers that it asks for.
+ghost use Rattle.std.specs.Prelude.{◌≡◌, ◌^◌, ◌<◌, ◌≤◌, IfOk, List, length};
+ghost use Rattle.geom.specs.declared.shapes.Shape.{Shape};
+ghost use Rattle.shape_extract.specs.Searches.{AreThose};
+ghost use Rattle.shape_extract.specs.Code.Passing.{PassesIn};
+ghost use Rattle.shape_extract.specs.Code.Planes.{in_plane, IsPlane, ArePlanes, AreNamed, AreNearIn};
+
+use crate::distinct_shapes::shapes_at;
+use crate::layers::{is_frame, is_line, is_lower, is_upper, is_via};
+use aq_base::{List, Memory};
+use geom::{Buckets, Rect, Shape, file_shapes};
+use std::alloc::Global;
+
+/// A group of layers. A shape lies in one plane at most.
+#[derive(Clone, Copy, Debug, PartialEq, Eq)]
+pub enum Plane {
+    /// The lower metal and the pins.
+    Lower,
+    /// The vias.
+    Vias,
+    /// The upper metal.
+    Upper,
+    /// The frames of cells.
+    Frames,
+    /// The parts of excitation lines.
+    Lines,
+}
+
+impl Plane {
+    /// Whether the shape lies in the plane.
+    pub fn holds(self, s: &Shape) -> bool
+        ensures { result ≡ in_plane self s.now }
+    {
+        match self {
+            Plane::Lower => is_lower(s),
+            Plane::Vias => is_via(s),
+            Plane::Upper => is_upper(s),
+            Plane::Frames => is_frame(s),
+            Plane::Lines => is_line(s),
+        }
+    }
+}
+
+/// The shapes of a plane, by their numbers, rising, and where they lie.
+#[derive(Drop)]
+pub struct FiledPlane {
+    pub numbers: Vec<u32>,
+    pub index: Buckets,
+}
+
+/// Shapes by planes; those of no plane are left out.
+#[derive(Drop)]
+pub struct Planes {
+    pub lower: FiledPlane,
+    pub vias: FiledPlane,
+    pub upper: FiledPlane,
+    pub frames: FiledPlane,
+    pub lines: FiledPlane,
+}
+
+/// The numbers of the shapes in the plane.
+fn numbers_in(alloc: Global, shapes: &[Shape], plane: Plane) -> Result<Vec<u32>, Memory>
+    requires { length shapes.now < 2 ^ 32 }
+    ensures { IfOk result (λ numbers. AreThose (PassesIn (in_plane plane) shapes.now) numbers.items) }
+{
+    let mut numbers = Vec::new(alloc);
+    for number in 0..shapes.len() {
+        if plane.holds(&shapes[number]) {
+            numbers.push(number as u32)?;
+        }
+    }
+    Ok(numbers)
+}
+
+fn file_plane(alloc: Global, shapes: &[Shape], plane: Plane) -> Result<FiledPlane, Memory>
+    requires { length shapes.now < 2 ^ 32 }
+    ensures { IfOk result (IsPlane plane shapes.now) }
+{
+    let numbers = numbers_in(alloc, shapes, plane)?;
+    let some = List::from_vec(shapes_at(alloc, shapes, numbers.as_slice())?);
+    let index = file_shapes(alloc, &some)?;
+    Ok(FiledPlane { numbers, index })
+}
+
+/// Files the shapes by planes. It is refused for want of memory alone.
+pub fn file_planes(alloc: Global, shapes: &[Shape]) -> Result<Planes, Memory>
+    requires { length shapes.now < 2 ^ 32 }
+    ensures { IfOk result (ArePlanes shapes.now) }
+{
+    Ok(Planes {
+        lower: file_plane(alloc, shapes, Plane::Lower)?,
+        vias: file_plane(alloc, shapes, Plane::Vias)?,
+        upper: file_plane(alloc, shapes, Plane::Upper)?,
+        frames: file_plane(alloc, shapes, Plane::Frames)?,
+        lines: file_plane(alloc, shapes, Plane::Lines)?,
+    })
+}
+
+/// Puts the number at each place that is found in the place's stead; what is no place stays.
+fn name_places(numbers: &[u32], found: &mut Vec<u32>)
+    ensures { AreNamed numbers.now found.old.items found.new.items }
+{
+    for at in 0..found.len() {
+        let place = found[at] as usize;
+        if place < numbers.len() {
+            found[at] = numbers[place];
+        }
+    }
+}
+
+impl FiledPlane {
+    /// Leaves in `found` rising numbers of shapes in the plane, among them all that are no further from the rectangle
+    /// than the margin, in x and in y. It is refused for want of memory alone.
+    fn list_near(&self, rect: &Rect, margin: u64, found: &mut Vec<u32>) -> Result<(), Memory>
+        requires { margin ≤ 1000000 }
+        ensures { IfOk result (λ _. (plane : Plane) (shapes : List Shape) → IsPlane plane shapes self.now
+            → AreNearIn plane shapes rect.now margin found.new.items) }
+    {
+        self.index.known();
+        self.index.list_near(rect, margin, found)?;
+        name_places(self.numbers.as_slice(), found);
+        Ok(())
+    }
+}
+
+impl Planes {
+    /// The shapes of the plane.
+    fn filed(&self, plane: Plane) -> &FiledPlane
+        ensures { (shapes : List Shape) → ArePlanes shapes self.now → IsPlane plane shapes result.now }
+    {
+        match plane {
+            Plane::Lower => &self.lower,
+            Plane::Vias => &self.vias,
+            Plane::Upper => &self.upper,
+            Plane::Frames => &self.frames,
+            Plane::Lines => &self.lines,
+        }
+    }
+
+    /// Leaves in `found` rising numbers of shapes, among them all in the plane that are no further from the rectangle
+    /// than the margin, in x and in y; what was there before is dropped. The margin is in nanometres. It is refused for
+    /// want of memory alone.
+    pub fn list_near(
+        &self,
+        plane: Plane,
+        rect: &Rect,
+        margin: u64,
+        found: &mut Vec<u32>,
+    ) -> Result<(), Memory>
+        requires { margin ≤ 1000000 }
+        ensures { IfOk result (λ _. (shapes : List Shape) → ArePlanes shapes self.now
+            → AreNearIn plane shapes rect.now margin found.new.items) }
+    {
+        self.filed(plane).list_near(rect, margin, found)?;
+        Ok(())
+    }
+}
