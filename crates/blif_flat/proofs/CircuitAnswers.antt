@@ -15,7 +15,7 @@ use Rattle.rowed.specs.declared.source.Source.{Source}
 use Rattle.blif_read.specs.Parts.{NetView, plane}
 use Rattle.blif_read.specs.Says.{Says}
 use Rattle.blif_read.specs.Equations.{takes, matches, Fits, IsAnswer as NetAnswer}
-use Rattle.blif_read.specs.OneAnswer.{equation}
+use Rattle.blif_read.specs.Code.OneAnswer.{equation}
 use Rattle.chip_circuit.specs.declared.cells.Feed.{Feed}
 use Rattle.chip_circuit.specs.declared.cells.Feed.TheVariants.{Nothing, Pin, Label}
 use Rattle.chip_circuit.specs.declared.cells.ExCell.{ExCell}

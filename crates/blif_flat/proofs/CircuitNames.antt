@@ -6,29 +6,9 @@ use Rattle.std.proofs.lemmas.Bool.{and_from, lt-ltb, le-ltb, ne_eqb, not_from_fa
 use Rattle.std.proofs.lemmas.Fmt.{decimal_by_steps, decimal_injective}
 use Rattle.std.proofs.lemmas.List.Folds.{list_all-append}
 use Rattle.blif_flat.specs.BlifText.{input_name, cell_name, output_name}
-use Rattle.blif_flat.proofs.WrittenLines.{is_inked, IsToken}
+use Rattle.blif_read.proofs.PlainLines.{is_inked, inked_decimal}
+use Rattle.blif_flat.proofs.WrittenLines.{IsToken}
 use Rattle.blif_flat.proofs.NumberedNames.{AreNames}
-
--- digits are no blanks, and no signs with a meaning of their own
-inked_digit : (n : ℕ) → n < 10 → is_inked (48 + n) ≡ true
-inked_digit n small =
-    let slash = ne_eqb (48 + n) 92 (λ e. omega arith) in
-    let control = ne_eqb (48 + n) 127 (λ e. omega arith) in
-    and_from (nat_lt 35 (48 + n)) (not (48 + n == 92) && not (48 + n == 127)) (lt-ltb 35 (48 + n) (omega arith))
-    (and_from (not (48 + n == 92)) (not (48 + n == 127)) (not_from_false (48 + n == 92) slash)
-    (not_from_false (48 + n == 127) control))
-
-one_digit : (n : ℕ) → n < 10 → list_all is_inked ((48 + n) ∷ []) ≡ true
-one_digit n small = rw (inked_digit n small) refl
-
-another_digit : (n : ℕ) (digits : List ℕ) → 10 ≤ n → list_all is_inked digits ≡ true →
-    list_all is_inked (digits ++ ((48 + n % 10) ∷ [])) ≡ true
-another_digit n digits large front =
-    list_all-append is_inked digits ((48 + n % 10) ∷ [])
-    ∙ and_from (list_all is_inked digits) _ front (one_digit (n % 10) (omega arith))
-
-inked_decimal : (n : ℕ) → n < 2 ^ 64 → list_all is_inked (decimal n) ≡ true
-inked_decimal = decimal_by_steps (λ _ digits. list_all is_inked digits ≡ true) one_digit another_digit
 
 -- the names of signals, of which so many are inputs and then so many are cells
 abbrev pub signal_name : ℕ → ℕ → ℕ → List ℕ

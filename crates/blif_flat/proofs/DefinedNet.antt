@@ -14,7 +14,7 @@ use Rattle.blif_read.specs.Walk.{on, first_cycle, Leads, IsCycle}
 use Rattle.blif_read.specs.Says.{Says}
 use Rattle.blif_read.specs.Netlist.{IsRankedBy}
 use Rattle.blif_read.specs.Equations.{Fits}
-use Rattle.blif_read.specs.OneAnswer.{equation, cover_equation, is_ranked}
+use Rattle.blif_read.specs.Code.OneAnswer.{equation, cover_equation, is_ranked}
 use Rattle.circuit.specs.Ranked.{Solves, solution}
 use Rattle.circuit.specs.Code.Solutions.{some_solution}
 use Rattle.blif_read.proofs.Cycles.{first_is_cycle}

@@ -12,7 +12,8 @@ use Rattle.blif_read.specs.Faults.{cover_above, before_of, is_control, is_token_
 use Rattle.blif_read.specs.declared.words.Statement.TheVariants.{Row}
 use Rattle.blif_read.specs.declared.before.Before.{Before}
 use Rattle.blif_read.specs.declared.netlist.LineKind.TheVariants.{Duplicate}
-use Rattle.blif_flat.proofs.WrittenLines.{is_inked, IsToken, IsWritten, numbered}
+use Rattle.blif_read.proofs.PlainLines.{is_inked}
+use Rattle.blif_flat.proofs.WrittenLines.{IsToken, IsWritten, numbered}
 use Rattle.blif_flat.proofs.NumberedNames.{AreNames, IsEarlier, fresh, one_more}
 
 -- the definition of a signal: the signals that it reads, and the rows of its cover

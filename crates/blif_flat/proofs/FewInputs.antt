@@ -5,7 +5,7 @@ use Rattle.std.specs.List.{AllByRecursion}
 use Rattle.std.proofs.lemmas.Bool.{ne_eqb}
 use Rattle.std.proofs.lemmas.Option.{slice_get_within}
 use Rattle.blif_read.specs.Walk.{on}
-use Rattle.blif_read.specs.Marking.{Apart}
+use Rattle.blif_read.specs.Code.Marking.{Apart}
 use Rattle.blif_read.proofs.Closing.{path_fits}
 use Rattle.chip_circuit.specs.declared.cells.Feed.TheVariants.{Label}
 use Rattle.chip_circuit.specs.declared.cells.ExCell.{ExCell}

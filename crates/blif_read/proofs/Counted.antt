@@ -7,7 +7,7 @@ use Rattle.blif_read.specs.Lines.{Line, is_blank, is_token, tokens_of, cut, has_
 use Rattle.blif_read.specs.Statements.{word, arguments, is_row, front_of, last_of, inputs_in, outputs_in, defined_in}
 use Rattle.blif_read.specs.Parts.{signals, number, plane, definition, definition_at, definitions, rows_before_others, netlist_of}
 use Rattle.blif_read.specs.Netlist.{cube_size, def_size, size_of}
-use Rattle.blif_read.specs.Size.{bytes_of, token_bytes, IsCut, AreCut}
+use Rattle.blif_read.specs.Code.Size.{bytes_of, token_bytes, IsCut, AreCut}
 use Rattle.blif_read.proofs.TextSize.{text_bytes}
 use Rattle.blif_read.specs.declared.words.Statement.{Statement}
 use Rattle.blif_read.specs.declared.words.Statement.TheVariants.{Model, Inputs, Outputs, Names, Subckt, End, Passed, Other, Row}

@@ -6,7 +6,8 @@ use Rattle.std.specs.List.{AllByRecursion, range_with_len}
 use Rattle.std.proofs.lemmas.Bool.{cases_Bool, cases_lt, lt-ltb}
 use Rattle.blif_read.specs.Parts.{operands, operands_at}
 use Rattle.blif_read.specs.Walk.{first_of, on, closes, first_cycle}
-use Rattle.blif_read.specs.Marking.{Apart, IsWithin}
+use Rattle.blif_read.specs.Walked.{IsWithin}
+use Rattle.blif_read.specs.Code.Marking.{Apart}
 use Rattle.blif_read.specs.Netlist.{HasNoCycle}
 use Rattle.blif_read.specs.declared.netlist.Def.{Def}
 use Rattle.blif_read.proofs.Closing.{closes_off, closes_on, first_of_or, all_map, path_fits}

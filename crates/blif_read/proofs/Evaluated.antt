@@ -7,9 +7,9 @@ use Rattle.std.proofs.lemmas.List.{take-append-drop, take_more, reverse-append}
 use Rattle.std.proofs.lemmas.Option.{slice_get-get_or}
 use Rattle.blif_read.specs.Parts.{NetView, operands, operands_at}
 use Rattle.blif_read.specs.Equations.{matches, value_of, valuation, Fits, IsAnswer}
-use Rattle.blif_read.specs.OneAnswer.{value_same, some_answer}
+use Rattle.blif_read.specs.Code.OneAnswer.{value_same, some_answer}
 use Rattle.blif_read.specs.Netlist.{IsNetlist}
-use Rattle.blif_read.specs.Marking.{known, Settled}
+use Rattle.blif_read.specs.Walked.{known, Settled}
 use Rattle.blif_read.specs.Walked.{IsOrder}
 use Rattle.blif_read.specs.declared.netlist.Def.{Def}
 use Rattle.blif_read.proofs.Closing.{all_map}

@@ -9,7 +9,7 @@ use Rattle.blif_read.specs.Statements.{word, arguments, is_names, front_of, last
 use Rattle.blif_read.specs.Parts.{signals, number, plane, says_zero, definition, definition_at, definitions, rows_before_others, netlist_of, operands, operands_at}
 use Rattle.blif_read.specs.Faults.{is_control, is_token_fault, has_shape, before_of, cover_after, with_row, kind_in, kind_of, duplicate_in, at_line, line_fault, outputs_fault, undefined_fault}
 use Rattle.blif_read.specs.Netlist.{HasNoCycle, IsPlane, IsDef, IsNetlist}
-use Rattle.blif_read.specs.Size.{AreCut}
+use Rattle.blif_read.specs.Code.Size.{AreCut}
 use Rattle.blif_read.specs.declared.before.Cover.{Cover}
 use Rattle.blif_read.specs.declared.words.Statement.{Statement}
 use Rattle.blif_read.specs.declared.words.Statement.TheVariants.{Model, Inputs, Outputs, Names, Subckt, End, Passed, Other, Row}

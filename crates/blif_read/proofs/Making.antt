@@ -4,7 +4,7 @@ use Rattle.std.specs.List.{AllByRecursion}
 use Rattle.std.specs.Str.{bytes_eq}
 use Rattle.indexmap.specs.IndexSet.{insert_key, insert_all}
 use Rattle.blif_read.specs.Parts.{NetView, operands}
-use Rattle.blif_read.specs.Marking.{IsWithin}
+use Rattle.blif_read.specs.Walked.{IsWithin}
 use Rattle.blif_read.specs.Netlist.{IsDef, IsNetlist, AreParts}
 use Rattle.blif_read.specs.Walk.{first_cycle}
 use Rattle.blif_read.specs.Walked.{IsOrder, IsComplete, cycle_in}

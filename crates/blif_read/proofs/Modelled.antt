@@ -7,7 +7,7 @@ use Rattle.std.proofs.lemmas.List.{drop-drop, length-take-le}
 use Rattle.blif_read.specs.Lines.{Line}
 use Rattle.blif_read.specs.Statements.{word, is_model}
 use Rattle.blif_read.specs.Models.{onto, ended, parts_behind, parts_of, is_equals_sign, formal_in, actual_in}
-use Rattle.blif_read.specs.Sections.{parts_left}
+use Rattle.blif_read.specs.Code.Sections.{parts_left}
 use Rattle.blif_read.proofs.Cuts.{at_some, at_none, before_at}
 
 -- behind the first `=` of a token

@@ -4,9 +4,9 @@ use Rattle.std.specs.Option.{option_map}
 use Rattle.blif_read.specs.Lines.{Line, logical_lines}
 use Rattle.blif_read.specs.Parts.{NetView, signals, netlist_of}
 use Rattle.blif_read.specs.Faults.{line_fault, outputs_fault, undefined_fault, cycle_fault, fault_of, told_cycle}
-use Rattle.blif_read.specs.Found.{Found}
+use Rattle.blif_read.specs.Code.Found.{Found}
 use Rattle.blif_read.specs.Says.{Says}
-use Rattle.blif_read.specs.Size.{AreCut}
+use Rattle.blif_read.specs.Code.Size.{AreCut}
 use Rattle.blif_read.specs.Walk.{first_cycle}
 use Rattle.blif_read.specs.Netlist.{IsNetlist}
 use Rattle.blif_read.proofs.Depths.{no_cycle}

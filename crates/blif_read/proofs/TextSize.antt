@@ -6,7 +6,7 @@ use Rattle.std.specs.Str.Lines.{strip_carriage_return}
 use Rattle.std.proofs.lemmas.List.{length-take}
 use Rattle.std.proofs.lemmas.List.Sums.{sum_by-cons}
 use Rattle.blif_read.specs.Lines.{is_feed, is_blank, is_number_sign, is_backslash, is_token, cut, has_tokens, stripped, physical_lines, without_comment, before_backslash, joined_to, before_lines, joined, logical_lines}
-use Rattle.blif_read.specs.Size.{bytes_of, token_bytes}
+use Rattle.blif_read.specs.Code.Size.{bytes_of, token_bytes}
 
 taken : (n : ℕ) (xs : List ℕ) → length (take n xs) ≤ length xs
 taken n xs = omega (arith, length-take n xs)

@@ -1,11 +1,14 @@
--- What a text of several models says, as tools write designs in parts: the lines of each model, and the model that they say.
-use Rattle.std.specs.Prelude.{◌≡◌, ℕ, Bool, true, false, cond, not, ◌&&◌, ◌==◌, List, [], ◌∷◌, ◌++◌, map, length, drop, suc, slice_index_or, Option, Some, None}
-use Rattle.std.specs.List.{flat_map, list_any, list_all, before_first}
+-- What a text of several models says, as tools write designs in parts: the lines of each model, and the model that they
+-- say.
+use Rattle.std.specs.Prelude.{◌≡◌, ℕ, Bool, true, false, cond, not, ◌&&◌, ◌||◌, ◌==◌, nat_lt, List, [], ◌∷◌, ◌++◌, map, length, drop}
+use Rattle.std.specs.Prelude.{suc, slice_index_or, Option, Some, None}
+use Rattle.std.specs.List.{flat_map, list_any, list_all, count_by, before_first}
 use Rattle.blif_read.specs.Lines.{Line, is_empty, logical_lines}
 use Rattle.blif_read.specs.Statements.{word, arguments, is_model, front_of, last_of, inputs_in, outputs_in}
 use Rattle.blif_read.specs.Parts.{rows_before_others, plane, says_zero}
 use Rattle.blif_read.specs.Faults.{line_fault}
 use Rattle.blif_read.specs.Walk.{first_of}
+use Rattle.blif_read.specs.declared.words.Statement.{Statement}
 use Rattle.blif_read.specs.declared.words.Statement.TheVariants.{Names, Subckt}
 use Rattle.blif_read.specs.declared.models.Named.{Named}
 use Rattle.blif_read.specs.declared.models.Port.{Port}
@@ -132,3 +135,12 @@ pub record SaysModels (text : List ℕ) (models : List BlifModel) : Type 0 where
 -- the first fault of the text's models, each taken by itself
 abbrev pub ModelsFault : List ℕ → BlifFault → Type 0
 ModelsFault text fault = models_fault (parts_of (logical_lines text)) ≡ Some fault
+
+-- a line calls a model
+abbrev pub is_call : Statement → Bool
+is_call Subckt = true
+is_call _ = false
+
+-- a text with a call or with a second model is a design
+abbrev pub is_design : List Line → Bool
+is_design lines = list_any (λ line. is_call (word line)) lines || nat_lt 1 (count_by (λ line. is_model (word line)) lines)

@@ -2,11 +2,11 @@
 ghost use Rattle.std.specs.Prelude.{◌≡◌, ◌&&◌, not, ◌++◌, [], map, IfOk, OnOk, length, drop, slice_index_or};
 ghost use Rattle.std.specs.List.{position, list_all, flat_map};
 ghost use Rattle.blif_read.specs.Lines.{is_empty};
-ghost use Rattle.blif_read.specs.Seen.{texts};
+ghost use Rattle.blif_read.specs.Code.Seen.{texts};
 ghost use Rattle.blif_read.specs.Statements.{word, arguments, is_model, inputs_in, outputs_in, front_of, last_of};
 ghost use Rattle.blif_read.specs.Parts.{rows_before_others};
 ghost use Rattle.blif_read.specs.Models.{model_of, model_line, model_name, named, named_inputs, named_outputs, named_definition, named_definition_at, is_equals_sign, formal_in, actual_in, is_port, port_of, ports_in, call_of, calls_in, first_name};
-ghost use Rattle.blif_read.specs.Sections.{with_line};
+ghost use Rattle.blif_read.specs.Code.Sections.{with_line};
 
 use crate::cover::rows;
 use crate::lines::LogicalLine;

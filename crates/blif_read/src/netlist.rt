@@ -164,7 +164,7 @@ impl Answers for Netlist {
     ghost use Rattle.std.specs.Prelude.{length};
     ghost use Rattle.blif_read.specs.Equations.{IsAnswer};
     ghost use Rattle.blif_read.specs.Netlist.{IsNetlist};
-    ghost use Rattle.blif_read.specs.OneAnswer.{some_answer, one_answer, answer_length};
+    ghost use Rattle.blif_read.specs.Code.OneAnswer.{some_answer, one_answer, answer_length};
 
     ghost inputs = { λ n. n.inputs };
 

@@ -1,10 +1,10 @@
 // A text of several models, read model by model.
-ghost use Rattle.std.specs.Prelude.{◌≡◌, ◌≤◌, ◌<◌, ◌^◌, ◌∷◌, map, length, IfOk, IfErr, IfSome};
+ghost use Rattle.std.specs.Prelude.{◌≡◌, ◌≤◌, ◌<◌, ◌^◌, ◌∷◌, map, length, IfOk, OnOk, IfErr, IfSome, Some, None};
 ghost use Rattle.std.specs.List.{position};
 ghost use Rattle.std.specs.Option.{option_copied};
 ghost use Rattle.blif_read.specs.Statements.{word, is_model};
-ghost use Rattle.blif_read.specs.Models.{parts_of, SaysModels, ModelsFault};
-ghost use Rattle.blif_read.specs.Sections.{parts_left};
+ghost use Rattle.blif_read.specs.Models.{parts_of, model_of, models_fault, SaysModels, ModelsFault};
+ghost use Rattle.blif_read.specs.Code.Sections.{parts_left};
 ghost use Rattle.blif_read.specs.Says.{IfBad};
 
 use crate::faults::line_fault;
@@ -16,7 +16,8 @@ use aq_base::List;
 use name_hash::NameHash;
 use std::alloc::Global;
 
-fn is_model(line: &LogicalLine<'_>) -> bool
+/// Whether a line begins a model.
+pub fn is_model(line: &LogicalLine<'_>) -> bool
     ensures { result ≡ is_model (word line.now) }
 {
     match line.statement() {
@@ -52,6 +53,31 @@ fn first_part<'a, 'b>(
     }
 }
 
+/// The models that lines say, each taken by itself, or the first fault of one of them.
+pub fn models_in(
+    alloc: Global,
+    hash: NameHash,
+    lines: &[LogicalLine<'_>],
+) -> Result<List<BlifModel>, BlifRefusal>
+    ensures sound { OnOk result (models_fault (parts_of lines.now) ≡ None) }
+    ensures models { IfOk result (λ models. models ≡ map model_of (parts_of lines.now)) }
+    ensures bad { IfErr result (λ refusal. IfBad refusal (λ fault. models_fault (parts_of lines.now)
+        ≡ Some fault)) }
+{
+    let mut models = List::new(alloc);
+    let mut rest = Some(lines);
+    while let Some(left) = rest {
+        let (part, more) = first_part(left);
+        if let Some(fault) = line_fault(alloc, hash, true, part)? {
+            return Err(BlifRefusal::Bad(fault));
+        }
+        let model = model_of(alloc, part)?;
+        models.push(model)?;
+        rest = more;
+    }
+    Ok(models)
+}
+
 /// The models that a text in the Berkeley Logic Interchange Format says, each taken by itself, in the text's order. The
 /// text is cut before each `.model` that is not its first logical line. `Bad` has the first fault of the text's models:
 /// a control byte, `.names` without a signal, a statement that is not read, a line behind `.end`, a row that follows no
@@ -63,17 +89,5 @@ pub fn read_models(alloc: Global, text: &[u8]) -> Result<List<BlifModel>, BlifRe
     ensures bad { IfErr result (λ refusal. IfBad refusal (ModelsFault text.now)) }
 {
     let lines = logical_lines(alloc, text)?;
-    let hash = NameHash::of(text);
-    let mut models = List::new(alloc);
-    let mut rest = Some(lines.as_slice());
-    while let Some(left) = rest {
-        let (part, more) = first_part(left);
-        if let Some(fault) = line_fault(alloc, hash, true, part)? {
-            return Err(BlifRefusal::Bad(fault));
-        }
-        let model = model_of(alloc, part)?;
-        models.push(model)?;
-        rest = more;
-    }
-    Ok(models)
+    models_in(alloc, NameHash::of(text), &lines)
 }

@@ -4,7 +4,7 @@ ghost use Rattle.std.specs.List.{list_all};
 ghost use Rattle.std.specs.Str.{bytes_eq};
 ghost use Rattle.indexmap.specs.IndexSet.{insert_all};
 ghost use Rattle.blif_read.specs.Parts.{number, signals, is_defined};
-ghost use Rattle.blif_read.specs.Seen.{texts};
+ghost use Rattle.blif_read.specs.Code.Seen.{texts};
 
 use crate::lines::LogicalLine;
 use crate::names::{Index, insert_each, number};

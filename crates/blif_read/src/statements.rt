@@ -1,7 +1,7 @@
 // What a line says: its arguments, and the names that it speaks of.
 ghost use Rattle.std.specs.Prelude.{◌≡◌, drop};
 ghost use Rattle.blif_read.specs.Statements.{word, arguments, front_of, last_of, inputs_in, outputs_in, defined_in};
-ghost use Rattle.blif_read.specs.Seen.{texts};
+ghost use Rattle.blif_read.specs.Code.Seen.{texts};
 
 use crate::lines::LogicalLine;
 use crate::words::Statement;

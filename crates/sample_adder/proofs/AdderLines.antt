@@ -10,27 +10,8 @@ use Rattle.blif_read.specs.Parts.{NetView}
 use Rattle.blif_read.specs.Says.{Says}
 use Rattle.sample_adder.specs.declared.adder.Signal.{Signal}
 use Rattle.sample_adder.specs.Adder.{name_of, first_bit, second_bit, sum_bit, carry_bit, exclusive_rows, both_rows, either_rows, gate, half_adder, full_adder, full_adders, summand_names, sum_names, head, foot, adder}
-use Rattle.sample_adder.proofs.WholeLines.{is_inked, is_plain, one_token, inked_plain}
+use Rattle.blif_read.proofs.PlainLines.{is_inked, is_plain, one_token, inked_plain, inked_decimal}
 use Rattle.sample_adder.proofs.Pieces.{named_from, IsPiece, no_piece, both_pieces, IsLine, inputs_piece, other_piece, IsName, with_name}
-
--- digits are no blanks, and no signs with a meaning of their own
-inked_digit : (n : ℕ) → n < 10 → is_inked (48 + n) ≡ true
-inked_digit n small =
-    let other = ne_eqb (48 + n) 92 (λ e. omega arith) in
-    and_from (nat_lt 35 (48 + n)) (not (48 + n == 92)) (lt-ltb 35 (48 + n) (omega arith))
-    (not_from_false (48 + n == 92) other)
-
-one_digit : (n : ℕ) → n < 10 → list_all is_inked ((48 + n) ∷ []) ≡ true
-one_digit n small = rw (inked_digit n small) refl
-
-another_digit : (n : ℕ) (digits : List ℕ) → 10 ≤ n → list_all is_inked digits ≡ true →
-    list_all is_inked (digits ++ ((48 + n % 10) ∷ [])) ≡ true
-another_digit n digits large front =
-    list_all-append is_inked digits ((48 + n % 10) ∷ [])
-    ∙ and_from (list_all is_inked digits) _ front (one_digit (n % 10) (omega arith))
-
-inked_decimal : (n : ℕ) → n < 2 ^ 64 → list_all is_inked (decimal n) ≡ true
-inked_decimal = decimal_by_steps (λ _ digits. list_all is_inked digits ≡ true) one_digit another_digit
 
 -- a signal's name is one token
 record IsSignal (signal : Signal) : Type 0 where

@@ -1,4 +1,3 @@
-pub mod WholeLines
 pub mod Pieces
 pub mod AdderLines
 pub mod EightLaws

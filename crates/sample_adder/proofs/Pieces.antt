@@ -6,7 +6,7 @@ use Rattle.std.proofs.lemmas.Grind.{flat_map-append}
 use Rattle.std.proofs.lemmas.List.Folds.{list_all-append}
 use Rattle.blif_read.specs.Lines.{Line, cut, has_tokens, tokens_of}
 use Rattle.blif_read.specs.Statements.{inputs_in}
-use Rattle.sample_adder.proofs.WholeLines.{is_plain, lines_from, first_line, tokens_apart}
+use Rattle.blif_read.proofs.PlainLines.{is_plain, lines_from, first_line, tokens_apart}
 
 abbrev names_of : List Line → ℕ
 names_of lines = length (flat_map inputs_in lines)

@@ -3,7 +3,7 @@ use Rattle.std.specs.List.{flat_map}
 use Rattle.blif_read.specs.Statements.{outputs_in}
 use Rattle.blif_read.specs.Parts.{definitions, number}
 use Rattle.blif_read.specs.Faults.{undefined_fault}
-use Rattle.blif_read.specs.Seen.{texts}
+use Rattle.blif_read.specs.Code.Seen.{texts}
 use Rattle.blif_read.proofs.build.resolve.Given as goal
 
 abbrev pub invariant-loop-i : goal.invariant-loop-i

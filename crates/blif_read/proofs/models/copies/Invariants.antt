@@ -1,5 +1,5 @@
 use Rattle.std.proofs.Common.{◌≡◌, ◌++◌, drop}
-use Rattle.blif_read.specs.Seen.{texts}
+use Rattle.blif_read.specs.Code.Seen.{texts}
 use Rattle.blif_read.proofs.models.copies.Given as goal
 
 abbrev pub invariant-loop-name : goal.invariant-loop-name

@@ -1,6 +1,6 @@
 use Rattle.std.proofs.Common.{◌≡◌, drop}
 use Rattle.blif_read.specs.Models.{model_of}
-use Rattle.blif_read.specs.Sections.{with_lines}
+use Rattle.blif_read.specs.Code.Sections.{with_lines}
 use Rattle.blif_read.proofs.models.model_of.Given as goal
 
 abbrev pub invariant-loop-i : goal.invariant-loop-i

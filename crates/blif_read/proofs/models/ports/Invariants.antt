@@ -1,7 +1,7 @@
 use Rattle.std.proofs.Common.{◌≡◌, ◌++◌, ◌&&◌, drop}
 use Rattle.std.specs.List.{flat_map, list_all}
 use Rattle.blif_read.specs.Models.{is_port, ports_in}
-use Rattle.blif_read.specs.Seen.{texts}
+use Rattle.blif_read.specs.Code.Seen.{texts}
 use Rattle.blif_read.proofs.models.ports.Given as goal
 
 abbrev pub invariant-loop-token : goal.invariant-loop-token

@@ -1,5 +1,5 @@
 use Rattle.std.proofs.Common.{ap}
-use Rattle.blif_read.specs.Seen.{texts}
+use Rattle.blif_read.specs.Code.Seen.{texts}
 use Rattle.blif_read.proofs.Whole.{few_keys, found, undefined_fails}
 use Rattle.blif_read.proofs.read.parts.Goals as goal
 

@@ -1,7 +1,7 @@
 use Rattle.std.proofs.Common.{◌≡◌, map, drop, ◌++◌}
 use Rattle.std.specs.List.{list_all}
 use Rattle.blif_read.specs.Parts.{number, is_defined}
-use Rattle.blif_read.specs.Seen.{texts}
+use Rattle.blif_read.specs.Code.Seen.{texts}
 use Rattle.blif_read.proofs.signals.push_numbers.Given as goal
 
 abbrev pub invariant-loop-token : goal.invariant-loop-token

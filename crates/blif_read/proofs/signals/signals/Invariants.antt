@@ -4,7 +4,7 @@ use Rattle.std.specs.Str.{bytes_eq}
 use Rattle.indexmap.specs.IndexSet.{insert_all}
 use Rattle.blif_read.specs.Statements.{inputs_in, defined_in}
 use Rattle.blif_read.specs.Parts.{signals}
-use Rattle.blif_read.specs.Seen.{texts}
+use Rattle.blif_read.specs.Code.Seen.{texts}
 use Rattle.blif_read.proofs.signals.signals.Given as goal
 
 abbrev pub invariant-inputs : goal.invariant-inputs

@@ -1,6 +1,6 @@
 use Rattle.std.proofs.Common.{◌∙◌, ap, ℕ, List, Bor}
 use Rattle.blif_read.specs.Lines.{Line}
-use Rattle.blif_read.specs.Seen.{texts}
+use Rattle.blif_read.specs.Code.Seen.{texts}
 use Rattle.blif_read.specs.Statements.{word}
 use Rattle.blif_read.proofs.lines.LogicalLine.new.Goals as goal
 

@@ -1,4 +1,5 @@
--- What is known of the parts of a netlist before the walk: they are those of the lines, and no fault is left but a cycle.
+-- What is known of the parts of a netlist before the walk: they are those of the lines, and no fault is left but a
+-- cycle.
 use Rattle.std.specs.Prelude.{◌≡◌, ℕ, ◌+◌, List, [], map, length, None, false}
 use Rattle.std.specs.List.{flat_map}
 use Rattle.blif_read.specs.Lines.{Line}
@@ -7,7 +8,8 @@ use Rattle.blif_read.specs.Parts.{signals, number, definitions, netlist_of}
 use Rattle.blif_read.specs.Faults.{line_fault, outputs_fault, undefined_fault, cycle_fault, fault_of}
 use Rattle.blif_read.specs.declared.netlist.Def.{Def}
 
-pub record Found (lines : List Line) (inputs : ℕ) (names : List (List ℕ)) (defs : List Def) (outputs : List ℕ) : Type 0 where
+pub record Found (lines : List Line) (inputs : ℕ) (names : List (List ℕ)) (defs : List Def) (outputs : List ℕ)
+    : Type 0 where
   pub single : line_fault false [] lines ≡ None
   pub some : outputs_fault lines ≡ None
   pub defined : undefined_fault (signals lines) lines ≡ None

@@ -1,18 +1,18 @@
 use Rattle.std.proofs.Common.{◌≡◌, ◌+◌, ◌++◌, [], map, length, true, Option, None, Some, ℕ, List, Bor}
-use Rattle.blif_read.specs.Lines.{Line, logical_lines}
+use Rattle.blif_read.specs.Lines.{Line}
 use Rattle.blif_read.specs.Faults.{line_fault}
 use Rattle.blif_read.specs.Models.{parts_of, model_of, models_fault}
 use Rattle.blif_read.specs.Walk.{first_of}
 use Rattle.blif_read.proofs.Modelled.{left_of}
-use Rattle.blif_read.proofs.sections.read_models.Given as goal
+use Rattle.blif_read.proofs.sections.models_in.Given as goal
 
 abbrev pub size : Option (Bor (List Line)) → ℕ
 size None = 0
 size (Some lines) = length lines.now + 1
 
 abbrev pub invariant-loop-rest : goal.invariant-loop-rest
-invariant-loop-rest l = (l.models ++ map model_of (left_of l.rest) ≡ map model_of (parts_of (logical_lines l.fn.text)))
-    × (first_of (line_fault true []) (left_of l.rest) ≡ models_fault (parts_of (logical_lines l.fn.text)))
+invariant-loop-rest l = (l.models ++ map model_of (left_of l.rest) ≡ map model_of (parts_of l.lines))
+    × (first_of (line_fault true []) (left_of l.rest) ≡ models_fault (parts_of l.lines))
 
 abbrev pub decreases-loop-rest : goal.decreases-loop-rest
 decreases-loop-rest l = size l.rest

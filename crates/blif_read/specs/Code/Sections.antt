@@ -1,7 +1,8 @@
 -- What the reader of several models has when it has come to a line.
 use Rattle.std.specs.Prelude.{List, [], ◌++◌, Option, Some, None}
 use Rattle.blif_read.specs.Lines.{Line}
-use Rattle.blif_read.specs.Models.{parts_of, named_inputs, named_outputs, named_definition_at, named_definitions, calls_in}
+use Rattle.blif_read.specs.Models.{parts_of, named_inputs, named_outputs, named_definition_at, named_definitions}
+use Rattle.blif_read.specs.Models.{calls_in}
 use Rattle.blif_read.specs.declared.models.BlifModel.{BlifModel}
 use Rattle.std.specs.List.{flat_map}
 

@@ -1,20 +1,25 @@
 -- The logical lines of a text that is put together of whole lines, without comments and joined lines: a line at a time,
 -- and in a line a token at a time.
-use Rattle.std.proofs.Common.{◌≡◌, ℕ, ◌+◌, ◌-◌, Bool, true, false, not, ◌||◌, ◌&&◌, ◌==◌, nat_lt, List, [], ◌∷◌, ◌++◌, length, map, get_or, slice_index, None, All, refl, sym, ap, ◌∙◌, arith, append_assoc}
+use Rattle.std.proofs.Common.{◌≡◌, ℕ, ◌+◌, ◌-◌, ◌%◌, ◌^◌, ◌<◌, ◌≤◌, Bool, true, false, not, ◌||◌, ◌&&◌, ◌==◌, nat_lt, List, [], ◌∷◌, ◌++◌}
+use Rattle.std.proofs.Common.{length, map, get_or, slice_index, None, All, refl, sym, ap, ◌∙◌, arith, append_assoc}
+use Rattle.std.specs.Fmt.{decimal}
 use Rattle.std.specs.List.{filter, slice_split, list_all}
 use Rattle.std.specs.Str.Lines.{strip_carriage_return}
-use Rattle.std.proofs.lemmas.Bool.{ne_eqb, and_from, and_parts, or_left}
+use Rattle.std.proofs.lemmas.Bool.{ne_eqb, and_from, and_parts, or_left, lt-ltb, not_from_false}
+use Rattle.std.proofs.lemmas.Fmt.{decimal_by_steps}
 use Rattle.std.proofs.lemmas.List.{take_all}
 use Rattle.std.proofs.lemmas.List.Elements.{filter-append}
+use Rattle.std.proofs.lemmas.List.Folds.{list_all-append}
 use Rattle.std.proofs.lemmas.List.Splits.{slice_split_at, slice_split_none}
 use Rattle.std.proofs.lemmas.List.Sums.{AllPass-from_list_all, position_or_len_is}
-use Rattle.blif_read.specs.Lines.{Line, is_feed, is_number_sign, is_blank, is_token, stripped, physical_lines, without_comment, before_backslash, before_lines, joined, cut, tokens_of, has_tokens}
+use Rattle.blif_read.specs.Lines.{Line, is_feed, is_number_sign, is_blank, is_token, stripped, physical_lines, without_comment}
+use Rattle.blif_read.specs.Lines.{before_backslash, before_lines, joined, cut, tokens_of, has_tokens}
 use Rattle.blif_read.proofs.Cuts.{has_part, stripped_next}
 use Rattle.blif_read.proofs.Joining.{tokens_joined}
 
 -- a byte of a token, and one of a line: neither has a control byte, the sign of a comment or a backslash
 abbrev pub is_inked : ℕ → Bool
-is_inked b = nat_lt 35 b && not (b == 92)
+is_inked b = nat_lt 35 b && (not (b == 92) && not (b == 127))
 
 abbrev pub is_plain : ℕ → Bool
 is_plain b = is_inked b || b == 32
@@ -88,3 +93,24 @@ inked_plain [] inked = refl
 inked_plain (b ∷ bytes) inked =
     let both = and_parts (is_inked b) (list_all is_inked bytes) inked in
     and_from (is_plain b) (list_all is_plain bytes) (or_left (is_inked b) (b == 32) both.0) (inked_plain bytes both.1)
+
+-- digits are no blanks, and no signs with a meaning of their own
+inked_digit : (n : ℕ) → n < 10 → is_inked (48 + n) ≡ true
+inked_digit n small =
+    let slash = ne_eqb (48 + n) 92 (λ e. omega arith) in
+    let control = ne_eqb (48 + n) 127 (λ e. omega arith) in
+    and_from (nat_lt 35 (48 + n)) (not (48 + n == 92) && not (48 + n == 127)) (lt-ltb 35 (48 + n) (omega arith))
+    (and_from (not (48 + n == 92)) (not (48 + n == 127)) (not_from_false (48 + n == 92) slash)
+    (not_from_false (48 + n == 127) control))
+
+one_digit : (n : ℕ) → n < 10 → list_all is_inked ((48 + n) ∷ []) ≡ true
+one_digit n small = rw (inked_digit n small) refl
+
+another_digit : (n : ℕ) (digits : List ℕ) → 10 ≤ n → list_all is_inked digits ≡ true →
+    list_all is_inked (digits ++ ((48 + n % 10) ∷ [])) ≡ true
+another_digit n digits large front =
+    list_all-append is_inked digits ((48 + n % 10) ∷ [])
+    ∙ and_from (list_all is_inked digits) _ front (one_digit (n % 10) (omega arith))
+
+pub inked_decimal : (n : ℕ) → n < 2 ^ 64 → list_all is_inked (decimal n) ≡ true
+inked_decimal = decimal_by_steps (λ _ digits. list_all is_inked digits ≡ true) one_digit another_digit
