@@ -1,1 +1,12 @@
 pub mod Sending
+pub mod Numbering
+pub mod Calls
+pub mod Sizes
+pub mod Blocks
+pub mod Indexing
+pub mod Joining
+pub mod Joins
+pub mod Outlines
+pub mod Wired
+pub mod Building
+pub mod Finished

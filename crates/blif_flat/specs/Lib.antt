@@ -1,4 +1,12 @@
 pub mod BlifText
 pub mod Written
 pub mod Refusal
+pub mod Designs
+pub mod DesignFaults
+pub mod DesignSize
+pub mod Expansion
+pub mod Meaning
+pub mod DesignText
+pub mod NetMeaning
+pub mod DesignExamples
 pub mod Code

@@ -1,0 +1,142 @@
+-- The pieces of a block, one by one.
+use Rattle.std.proofs.Common.{◌≡◌, ℕ, zero, suc, ◌+◌, ◌<◌, ◌≤◌, Bool, List, [], ◌∷◌, ◌++◌, map, length, take, drop, get_or, refl, sym, ap, ◌∙◌, subst, arith, Option, Some, None, append_assoc, length-append, flat_map, filter, replicate, drop-cons, add-one}
+use Rattle.std.specs.Prelude.{slice_index_or}
+use Rattle.std.proofs.lemmas.List.{map-append, take_more, take_all, append-nil, length-map, length-replicate, drop_all}
+use Rattle.blif_read.specs.declared.netlist.Def.{Def}
+use Rattle.blif_read.specs.declared.netlist.Cube.{Cube}
+use Rattle.blif_read.specs.Parts.{is_defined}
+use Rattle.blif_read.specs.declared.models.Call.{Call}
+use Rattle.blif_read.specs.declared.models.Named.{Named}
+use Rattle.blif_read.specs.declared.models.NamedDef.{NamedDef}
+use Rattle.blif_read.specs.Code.Seen.{texts}
+use Rattle.blif_read.specs.declared.models.BlifModel.{BlifModel}
+use Rattle.blif_flat.specs.Designs.{names_in, model_number, model_at, no_model, distinct_outputs, formals, actual_of}
+use Rattle.blif_flat.specs.DesignFaults.{number_in as listed}
+use Rattle.blif_flat.specs.declared.outlines.Outline.{Outline}
+use Rattle.blif_flat.specs.Code.Outlines.{IsOutline}
+use Rattle.blif_flat.specs.declared.pieces.Piece.{Piece}
+use Rattle.blif_flat.specs.declared.pieces.Piece.TheVariants.{Own, Inner}
+use Rattle.blif_flat.specs.Code.Blocks.{buffer_of, placed, own_names, place, wide, call_pieces, calls_pieces, pieces, call_names}
+use Rattle.blif_flat.specs.Code.Joins.{ports_for, first_actual, exits_in}
+use Rattle.blif_flat.proofs.Members.{map_map}
+use Rattle.blif_flat.proofs.Joining.{exits_more, inputs_actuals, exits_joined}
+
+-- one item more behind those that were there
+pub pushed : {X Y : Type 0} (f : X → Y) (xs : List X) (i : ℕ) (d : X) (base before after : List Y) (y : Y) → i < length xs → before ≡ base ++ map f (take i xs) → after ≡ before ++ y ∷ [] → y ≡ f (get_or xs i d)
+    → after ≡ base ++ map f (take (i + 1) xs)
+pushed f xs i d base before after y lt b a e =
+    a ∙ (λ j. b j ++ e j ∷ []) ∙ append_assoc base (map f (take i xs)) (f (get_or xs i d) ∷ [])
+    ∙ ap (λ back. base ++ back) (sym (ap (map f) (take_more xs i d lt) ∙ map-append f (take i xs) (get_or xs i d ∷ [])))
+
+pub pushed_first : {X Y : Type 0} (f : X → Y) (xs : List X) (i : ℕ) (d : X) (before after : List Y) (y : Y) → i < length xs → before ≡ map f (take i xs) → after ≡ before ++ y ∷ [] → y ≡ f (get_or xs i d)
+    → after ≡ map f (take (i + 1) xs)
+pushed_first f xs i d before after y lt b a e = pushed f xs i d [] before after y lt b a e
+
+abbrev pub def_of : ℕ → List ℕ → Bool → List Cube → Def
+def_of line inputs on cubes = record { line = line; inputs = inputs; on = on; cubes = cubes }
+
+pub def_same : (line : ℕ) (ins ins2 : List ℕ) (on : Bool) (cubes cubes2 : List Cube) → ins ≡ ins2 → cubes ≡ cubes2
+    → def_of line ins on cubes ≡ def_of line ins2 on cubes2
+def_same line ins ins2 on cubes cubes2 i c = λ j. def_of line (i j) on (c j)
+
+-- one output more
+pub exit_count : (ports : List (Option ℕ)) (exits : List ℕ) (i count next : ℕ) (d : Option ℕ) → i < length ports → count ≡ length (exits_in (take i ports) exits)
+    → next ≡ count + length (exits_in (get_or ports i d ∷ []) (get_or exits i 0 ∷ [])) → next ≡ length (exits_in (take (i + 1) ports) exits)
+exit_count ports exits i count next d lt c n =
+    let more = ap length (exits_more ports exits i d lt) ∙ length-append (exits_in (take i ports) exits) (exits_in (get_or ports i d ∷ []) (get_or exits i 0 ∷ [])) in
+    omega arith
+
+pub exit_pieces : (f : ℕ → Piece) (ports : List (Option ℕ)) (exits : List ℕ) (i : ℕ) (d : Option ℕ) (base before after : List Piece) → i < length ports → before ≡ base ++ map f (exits_in (take i ports) exits)
+    → after ≡ before ++ map f (exits_in (get_or ports i d ∷ []) (get_or exits i 0 ∷ [])) → after ≡ base ++ map f (exits_in (take (i + 1) ports) exits)
+exit_pieces f ports exits i d base before after lt b a =
+    let one = exits_in (get_or ports i d ∷ []) (get_or exits i 0 ∷ []) in
+    a ∙ ap (λ front. front ++ map f one) b ∙ append_assoc base (map f (exits_in (take i ports) exits)) (map f one)
+    ∙ ap (λ back. base ++ back) (sym (ap (map f) (exits_more ports exits i d lt) ∙ map-append f (exits_in (take i ports) exits) one))
+
+-- ---- calls
+
+-- the pieces of a call's inputs
+pub entries_are : (call : Call) (ins : List (List ℕ)) (ports : List (Option ℕ)) (f : List ℕ → Piece) → ports ≡ ports_for ins (formals call) → map (λ p. f (first_actual call p)) ports ≡ map (λ i. f (actual_of call i)) ins
+entries_are call ins ports f p = ap (map (λ p. f (first_actual call p))) p ∙ sym (map_map f (first_actual call) (ports_for ins (formals call))) ∙ ap (map f) (inputs_actuals call ins) ∙ map_map f (actual_of call) ins
+
+-- the pieces of a call's outputs
+pub exits_are : (call : Call) (outs : List (List ℕ)) (ports : List (Option ℕ)) (exits : List ℕ) (at : List ℕ → ℕ) (f : ℕ → Piece) → ports ≡ ports_for outs (formals call) → exits ≡ map at outs
+    → map f (exits_in ports exits) ≡ map (λ o. f (at o)) (filter (is_defined (formals call)) outs)
+exits_are call outs ports exits at f p e = ap (map f) ((λ i. exits_in (p i) (e i)) ∙ exits_joined at (formals call) outs) ∙ map_map f at (filter (is_defined (formals call)) outs)
+
+pub exits_count : (call : Call) (outs : List (List ℕ)) (ports : List (Option ℕ)) (exits : List ℕ) (at : List ℕ → ℕ) → ports ≡ ports_for outs (formals call) → exits ≡ map at outs
+    → length (exits_in ports exits) ≡ length (filter (is_defined (formals call)) outs)
+exits_count call outs ports exits at p e = ap length ((λ i. exits_in (p i) (e i)) ∙ exits_joined at (formals call) outs) ∙ length-map (filter (is_defined (formals call)) outs) at
+
+-- the pieces of a call whose model has a number
+pieces_at : List BlifModel → BlifModel → ℕ → Call → Option ℕ → List Piece
+pieces_at models model start call o =
+    map (λ i. Own (buffer_of call.line (place (wide models) models model (actual_of call i)))) (names_in (model_at models o).inputs)
+    ++ map (λ n. Inner n start) (listed o)
+    ++ map (λ o2. Own (buffer_of call.line (start + place (wide models) models (model_at models o) o2))) (filter (is_defined (formals call)) (distinct_outputs (model_at models o)))
+
+pieces_are : (models : List BlifModel) (model : BlifModel) (start : ℕ) (call : Call) → pieces_at models model start call (model_number models call.model) ≡ call_pieces (wide models) models model start call
+unfolding pieces_at
+pieces_are models model start call = refl
+
+pub call_made : (models : List BlifModel) (model : BlifModel) (n : ℕ) (call : Call) (outline : Outline) (start : ℕ) (entries entries_seen joined joined_seen : List (Option ℕ)) (exits_seen : List ℕ) (p0 p1 p2 p3 : List Piece) (o : Option ℕ)
+    → o ≡ Some n → o ≡ model_number models call.model → IsOutline models (slice_index_or models n no_model) outline
+    → entries_seen ≡ entries → entries ≡ ports_for (texts outline.inputs.keys) (formals call) → joined_seen ≡ joined → joined ≡ ports_for (texts outline.outputs.keys) (formals call) → exits_seen ≡ outline.exits.items
+    → p1 ≡ p0 ++ map (λ p. Own (buffer_of call.line (place (wide models) models model (first_actual call p)))) entries_seen → p2 ≡ p1 ++ Inner n start ∷ [] → p3 ≡ p2 ++ map (λ e. Own (buffer_of call.line (start + e))) (exits_in joined_seen exits_seen)
+    → p3 ≡ p0 ++ call_pieces (wide models) models model start call
+unfolding pieces_at
+call_made models model n call outline start entries entries_seen joined joined_seen exits_seen p0 p1 p2 p3 o at same is es e js j xs one two three =
+    let called_is = slice_index_or models n no_model in
+    let ins = map (λ i. Own (buffer_of call.line (place (wide models) models model (actual_of call i)))) (names_in called_is.inputs) in
+    let outs = map (λ o2. Own (buffer_of call.line (start + place (wide models) models called_is o2))) (filter (is_defined (formals call)) (distinct_outputs called_is)) in
+    let first = entries_are call (names_in called_is.inputs) entries_seen (λ s. Own (buffer_of call.line (place (wide models) models model s))) (es ∙ e ∙ ap (λ names. ports_for names (formals call)) is.inputs) in
+    let last = exits_are call (distinct_outputs called_is) joined_seen exits_seen (place (wide models) models called_is) (λ x. Own (buffer_of call.line (start + x))) (js ∙ j ∙ ap (λ names. ports_for names (formals call)) is.outputs) (xs ∙ is.exits) in
+    three ∙ ap (λ front. front ++ map (λ e. Own (buffer_of call.line (start + e))) (exits_in joined_seen exits_seen)) (two ∙ ap (λ front. front ++ Inner n start ∷ []) one)
+    ∙ (λ i. ((p0 ++ first i) ++ Inner n start ∷ []) ++ last i)
+    ∙ ap (λ front. front ++ outs) (append_assoc p0 ins (Inner n start ∷ []))
+    ∙ append_assoc p0 (ins ++ Inner n start ∷ []) outs
+    ∙ ap (λ back. p0 ++ back) (ap (pieces_at models model start call) (sym at ∙ same) ∙ pieces_are models model start call)
+
+pub call_next : (models : List BlifModel) (n : ℕ) (call : Call) (outline : Outline) (start middle count next : ℕ) (joined joined_seen : List (Option ℕ)) (exits_seen : List ℕ) (o : Option ℕ)
+    → o ≡ Some n → o ≡ model_number models call.model → IsOutline models (slice_index_or models n no_model) outline
+    → joined_seen ≡ joined → joined ≡ ports_for (texts outline.outputs.keys) (formals call) → exits_seen ≡ outline.exits.items
+    → middle ≡ start + outline.width → count ≡ length (exits_in joined_seen exits_seen) → next ≡ middle + count → next ≡ start + length (call_names (wide models) models call)
+call_next models n call outline start middle count next joined joined_seen exits_seen o at same is js j xs m c e =
+    let called_is = slice_index_or models n no_model in
+    let outs = filter (is_defined (formals call)) (distinct_outputs called_is) in
+    let number : Some n ≡ model_number models call.model = sym at ∙ same in
+    let many = exits_count call (distinct_outputs called_is) joined_seen exits_seen (place (wide models) models called_is) (js ∙ j ∙ ap (λ names. ports_for names (formals call)) is.outputs) (xs ∙ is.exits) in
+    let size : length (call_names (wide models) models call) ≡ wide models called_is + length outs =
+    ap (λ (x : Option ℕ). length (replicate (wide models (model_at models x)) None ++ map (λ o. Some (actual_of call o)) (filter (is_defined (formals call)) (distinct_outputs (model_at models x))))) (sym number)
+    ∙ length-append (replicate (wide models called_is) None) (map (λ o. Some (actual_of call o)) outs)
+    ∙ (λ i. length-replicate {A = Option (List ℕ)} (wide models called_is) None i + length-map outs (λ o. Some (actual_of call o)) i) in
+    let w = is.width in
+    omega arith
+
+-- ---- the pieces of a model
+
+pub block_begun : (models : List BlifModel) (model : BlifModel) (block : List Piece) (defs : List NamedDef) (none : List Piece) (ins outs start : ℕ) → none ≡ [] → defs ≡ model.defs
+    → block ≡ none ++ map (λ d. Own (placed (place (wide models) models model) d)) defs → ins ≡ length model.inputs → outs ≡ length model.defs → start ≡ ins + outs
+    → block ++ calls_pieces (wide models) models model start model.calls ≡ pieces (wide models) models model
+block_begun models model block defs none ins outs start n d b i o s =
+    let first : block ≡ map (λ d. Own (placed (place (wide models) models model) d)) model.defs = b ∙ (λ j. n j ++ map (λ d. Own (placed (place (wide models) models model) d)) (d j)) in
+    let size : start ≡ length (own_names model) =
+    (let a = length-append (names_in model.inputs) (map (λ (d : NamedDef). d.output) model.defs) in
+    let c : length (names_in model.inputs) ≡ length model.inputs = length-map model.inputs (λ (n : Named). n.name) in
+    let e : length (map (λ (d : NamedDef). d.output) model.defs) ≡ length model.defs = length-map model.defs (λ (d : NamedDef). d.output) in
+    omega arith) in
+    (λ j. first j ++ calls_pieces (wide models) models model (size j) model.calls)
+
+pub call_taken : (models : List BlifModel) (model : BlifModel) (calls : List Call) (i : ℕ) (call : Call) (start next : ℕ) (block after whole : List Piece) → i < length calls → call ≡ get_or calls i call
+    → after ≡ block ++ call_pieces (wide models) models model start call → next ≡ start + length (call_names (wide models) models call)
+    → block ++ calls_pieces (wide models) models model start (drop i calls) ≡ whole → after ++ calls_pieces (wide models) models model next (drop (i + 1) calls) ≡ whole
+call_taken models model calls i call start next block after whole lt is a n w =
+    let rest : drop i calls ≡ call ∷ drop (i + 1) calls = drop-cons calls i call lt ∙ ap (λ c. c ∷ drop (suc i) calls) (sym is) ∙ ap (λ k. call ∷ drop k calls) (sym (add-one i)) in
+    (λ j. a j ++ calls_pieces (wide models) models model (n j) (drop (i + 1) calls))
+    ∙ append_assoc block (call_pieces (wide models) models model start call) (calls_pieces (wide models) models model (start + length (call_names (wide models) models call)) (drop (i + 1) calls))
+    ∙ ap (λ cs. block ++ calls_pieces (wide models) models model start cs) (sym rest) ∙ w
+
+pub calls_done : (models : List BlifModel) (model : BlifModel) (calls : List Call) (i start : ℕ) (block whole : List Piece) → length calls ≤ i
+    → block ++ calls_pieces (wide models) models model start (drop i calls) ≡ whole → block ≡ whole
+calls_done models model calls i start block whole le w =
+    sym (append-nil block) ∙ sym (ap (λ cs. block ++ calls_pieces (wide models) models model start cs) (drop_all i calls le)) ∙ w

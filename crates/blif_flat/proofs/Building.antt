@@ -1,0 +1,153 @@
+-- What the program tells of a text and of its models, step by step.
+use Rattle.std.proofs.Common.{◌≡◌, ℕ, zero, suc, ◌+◌, ◌-◌, ◌<◌, ◌≤◌, ◌^◌, Bool, true, false, min, ◌⊎◌, inl, inr, List, [], ◌∷◌, map, length, get_or, Option, Some, None, refl, sym, ap, ◌∙◌, subst, arith, lit<}
+use Rattle.std.specs.Prelude.{slice_index_or, Result, Ok, Err, IfOk, IfErr}
+use Rattle.std.proofs.lemmas.List.{length-map}
+use Rattle.blif_read.specs.Lines.{Line, logical_lines}
+use Rattle.blif_read.specs.Parts.{NetView}
+use Rattle.blif_read.specs.Netlist.{AreParts}
+use Rattle.blif_read.specs.Models.{onto, parts_of, parts_behind, model_of, is_design, SaysModels, ModelsFault}
+use Rattle.blif_read.specs.Says.{Says, Fault, IfBad}
+use Rattle.blif_read.specs.declared.netlist.BlifRefusal.{BlifRefusal}
+use Rattle.blif_read.specs.declared.netlist.BlifRefusal.TheVariants.{Bad}
+use Rattle.blif_read.specs.Reads.{SaysText, TextFault}
+use Rattle.blif_read.specs.declared.texts.ReadText.{ReadText}
+use Rattle.blif_read.specs.declared.texts.ReadText.TheVariants.{Design as Models}
+use Rattle.blif_read.specs.declared.netlist.BlifFault.{BlifFault}
+use Rattle.blif_read.specs.declared.models.BlifModel.{BlifModel}
+use Rattle.blif_flat.specs.Designs.{first_model, no_model}
+use Rattle.blif_flat.specs.DesignFaults.{IsFirstFault, AreJoined, IsRecursive, loop_of}
+use Rattle.blif_flat.specs.DesignSize.{design_size, size_limit}
+use Rattle.blif_flat.specs.DesignText.{SaysNetlist, IsNetlistRefusal, IsDesignRefusal, IsTextRefusal, IsLaidOut, IsBuildable, HasNoOutputs, IsToldLoop, IsToldFault, IsToldSize, OfModels, SaysExpansion}
+use Rattle.blif_flat.specs.Expansion.{expansion}
+use Rattle.blif_flat.specs.Code.Joining.{IsTold}
+use Rattle.blif_flat.specs.Code.Building.{IsModelsRefusal}
+use Rattle.blif_flat.specs.declared.design.FlatKind.{FlatKind}
+use Rattle.blif_flat.specs.declared.design.FlatKind.TheVariants.{ModelTwice, UnknownModel, Ports, Duplicate, Undefined, Recursive, NoOutputs}
+use Rattle.blif_flat.specs.declared.design.FlatRefusal.{FlatRefusal}
+use Rattle.blif_flat.specs.declared.design.FlatRefusal.TheVariants.{Text, Design, TooMany, Memory}
+use Rattle.blif_flat.specs.declared.order.Told.{Told}
+use Rattle.blif_flat.proofs.ExpandedParts.{said_parts}
+
+fault_of_line : (models : List BlifModel) (line : ℕ) (kind : FlatKind) → IsFirstFault models line kind → IsToldFault models line kind
+fault_of_line models line ModelTwice h = h
+fault_of_line models line UnknownModel h = h
+fault_of_line models line Ports h = h
+fault_of_line models line Duplicate h = h
+fault_of_line models line Undefined h = h
+fault_of_line models line Recursive h = absurd (h.is)
+fault_of_line models line NoOutputs h = absurd (h.is)
+
+-- the fault that belongs to a line, or that there is none
+pub told_line : (models : List BlifModel) (o : Option Told) (told : Told) → IsTold models o → o ≡ Some told → IsToldFault models told.line told.kind
+told_line models o told h e = let f : IsTold models (Some told) = subst (IsTold models) e h in fault_of_line models told.line told.kind f
+
+pub told_none : (models : List BlifModel) (o : Option Told) → IsTold models o → o ≡ None → AreJoined models
+told_none models o h e = subst (IsTold models) e h
+
+pub straight_models : (models : List BlifModel) → AreJoined models → loop_of models ≡ None → IsLaidOut models
+straight_models models j s = record { joined = j; straight = s }
+
+pub looped_models : (models : List BlifModel) (line : ℕ) → AreJoined models → IsRecursive models line → IsToldLoop models line
+looped_models models line j r = record { joined = j; loop = r }
+
+-- ---- outputs and the size
+
+first_same : (models : List BlifModel) (d : BlifModel) → 0 < length models → d ≡ get_or models 0 d → d ≡ first_model models
+first_same [] d lt e = absurd (omega arith)
+first_same (m ∷ ms) d lt e = e
+
+pub none_named : (models : List BlifModel) (d : BlifModel) (n : ℕ) → IsLaidOut models → 0 < length models → d ≡ get_or models 0 d → n ≡ length d.outputs → n ≡ 0 → HasNoOutputs models 0
+none_named models d n laid lt e l z = record { laid_out = laid; none = ap (λ (m : BlifModel). length m.outputs) (sym (first_same models d lt e)) ∙ sym l ∙ z; at = refl }
+
+some_named : (models : List BlifModel) (d : BlifModel) (n : ℕ) → 0 < length models → d ≡ get_or models 0 d → n ≡ length d.outputs → (n ≡ 0 → ⊥) → 0 < length (first_model models).outputs
+some_named models d n lt e l z = subst (λ (m : BlifModel). 0 < length m.outputs) (first_same models d lt e) (by n refl)
+  where
+    by : (k : ℕ) → n ≡ k → 0 < length d.outputs
+    by zero f = absurd (z f)
+    by (suc k) f = omega arith
+
+pub too_many : (models : List BlifModel) (d : BlifModel) (n size : ℕ) → IsLaidOut models → 0 < length models → d ≡ get_or models 0 d → n ≡ length d.outputs → (n ≡ 0 → ⊥)
+    → size ≡ min (design_size models) (2 ^ 64 - 1) → 16777216 < size → IsToldSize models size
+too_many models d n size laid lt e l z s large = record { laid_out = laid; some_output = some_named models d n lt e l z; large = above (design_size models) (2 ^ 64 - 1) size s large; told = s }
+  where
+    above : (m top size : ℕ) → size ≡ min m top → 16777216 < size → 16777216 < m
+    above m top size e lt = omega arith
+
+pub buildable : (models : List BlifModel) (d : BlifModel) (n size : ℕ) → IsLaidOut models → 0 < length models → d ≡ get_or models 0 d → n ≡ length d.outputs → (n ≡ 0 → ⊥)
+    → size ≡ min (design_size models) (2 ^ 64 - 1) → size ≤ 16777216 → IsBuildable models
+buildable models d n size laid lt e l z s le = record { laid_out = laid; some_output = some_named models d n lt e l z; small = below (design_size models) (2 ^ 64 - 1) size (lit< tt) s le }
+  where
+    below : (m top size : ℕ) → 16777216 < top → size ≡ min m top → size ≤ 16777216 → m ≤ 16777216
+    below m top size big e le = omega arith
+
+-- ---- the text
+
+some_onto : (line : Line) (parts : List (List Line)) → 0 < length (onto line parts)
+some_onto line [] = omega arith
+some_onto line (p ∷ ps) = omega arith
+
+some_parts : (lines : List Line) → 0 < length (parts_of lines)
+some_parts [] = omega arith
+some_parts (l ∷ ls) = some_onto l (parts_behind ls)
+
+pub some_models : (text : List ℕ) (models : List BlifModel) → SaysModels text models → 0 < length models
+some_models text models says =
+    let some = some_parts (logical_lines text) in
+    let size : length models ≡ length (parts_of (logical_lines text)) = ap length says.each ∙ length-map (parts_of (logical_lines text)) model_of in omega arith
+
+pub parts_known : (text : List ℕ) (models : List BlifModel) → length text ≤ 2 ^ 24 → SaysModels text models → IsBuildable models → AreParts (expansion models)
+parts_known text models few says ok = said_parts text models (more (length text) few) says ok
+  where
+    more : (n : ℕ) → n ≤ 2 ^ 24 → n ≤ 2 ^ 27
+    more n h = omega (arith, h)
+
+netlist_at : (b : Bool) (text : List ℕ) → is_design (logical_lines text) ≡ b → (net : NetView) → elim b as (λ (x : Bool). Type 0) [ true ↦ OfModels text (SaysExpansion net) | false ↦ Says text net ] → SaysNetlist text net
+netlist_at b text e net h = subst (λ (x : Bool). elim x as (λ (y : Bool). Type 0) [ true ↦ OfModels text (SaysExpansion net) | false ↦ Says text net ]) (sym e) h
+
+pub says_plain : (text : List ℕ) (net : NetView) → is_design (logical_lines text) ≡ false → Says text net → SaysNetlist text net
+says_plain text net e h = netlist_at false text e net h
+
+pub says_design : (text : List ℕ) (models : List BlifModel) (net : NetView) → is_design (logical_lines text) ≡ true → SaysModels text models → SaysExpansion net models → SaysNetlist text net
+says_design text models net e says h = netlist_at true text e net (record { models = models; said = says; fact = h })
+
+refusal_at : (b : Bool) (text : List ℕ) → is_design (logical_lines text) ≡ b → (refusal : FlatRefusal) → elim b as (λ (x : Bool). Type 0) [ true ↦ IsDesignRefusal text refusal | false ↦ IsTextRefusal text refusal ] → IsNetlistRefusal text refusal
+refusal_at b text e refusal h = subst (λ (x : Bool). elim x as (λ (y : Bool). Type 0) [ true ↦ IsDesignRefusal text refusal | false ↦ IsTextRefusal text refusal ]) (sym e) h
+
+models_refused : (text : List ℕ) (models : List BlifModel) (refusal : FlatRefusal) → SaysModels text models → IsModelsRefusal models refusal → IsDesignRefusal text refusal
+models_refused text models (Text fault) says h = inr (record { models = models; said = says; fact = h })
+models_refused text models (Design line kind) says h = record { models = models; said = says; fact = h }
+models_refused text models (TooMany size) says h = record { models = models; said = says; fact = h }
+models_refused text models Memory says h = tt
+
+pub refuses_design : (text : List ℕ) (models : List BlifModel) (refusal : FlatRefusal) → is_design (logical_lines text) ≡ true → SaysModels text models → IsModelsRefusal models refusal → IsNetlistRefusal text refusal
+refuses_design text models refusal e says h = refusal_at true text e refusal (models_refused text models refusal says h)
+
+pub refuses_text : (text : List ℕ) (fault : BlifFault) → TextFault text fault → IsNetlistRefusal text (Text fault)
+refuses_text text fault h = by (is_design (logical_lines text)) refl
+  where
+    by : (b : Bool) → is_design (logical_lines text) ≡ b → IsNetlistRefusal text (Text fault)
+    by true e = refusal_at true text e (Text fault) (inl (subst (λ (x : Bool). elim x as (λ (y : Bool). Type 0) [ true ↦ ModelsFault text fault | false ↦ Fault text fault ]) e h))
+    by false e = refusal_at false text e (Text fault) (subst (λ (x : Bool). elim x as (λ (y : Bool). Type 0) [ true ↦ ModelsFault text fault | false ↦ Fault text fault ]) e h)
+
+pub refuses_memory : (text : List ℕ) → IsNetlistRefusal text Memory
+refuses_memory text = by (is_design (logical_lines text)) refl
+  where
+    by : (b : Bool) → is_design (logical_lines text) ≡ b → IsNetlistRefusal text Memory
+    by true e = refusal_at true text e Memory tt
+    by false e = refusal_at false text e Memory tt
+
+pub refuses : (text : List ℕ) (refusal : BlifRefusal) → IfBad refusal (TextFault text) → (fault : BlifFault) → refusal ≡ Bad fault → IsNetlistRefusal text (Text fault)
+refuses text refusal h fault e = refuses_text text fault (subst (λ r. IfBad r (TextFault text)) e h)
+
+-- ---- facts of results
+
+pub if_ok : {X E : Type 0} (P Q : X → Type 0) (r : Result X E) → ((x : X) → P x → Q x) → IfOk r P → IfOk r Q
+if_ok P Q (Ok x) f h = f x h
+if_ok P Q (Err e) f h = tt
+
+pub if_err : {X E : Type 0} (P Q : E → Type 0) (r : Result X E) → ((e : E) → P e → Q e) → IfErr r P → IfErr r Q
+if_err P Q (Ok x) f h = tt
+if_err P Q (Err e) f h = f e h
+
+pub models_at : (text : List ℕ) (read : ReadText) (models shown : List BlifModel) → SaysText text read → read ≡ Models models → shown ≡ models → (is_design (logical_lines text) ≡ true) × SaysModels text shown
+models_at text read models shown h e f = let g : SaysText text (Models models) = subst (λ (r : ReadText). SaysText text r) e h in (g.0, subst (SaysModels text) (sym f) g.1)

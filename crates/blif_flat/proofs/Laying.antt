@@ -1,0 +1,115 @@
+-- The walk that lays out blocks, turn by turn: the nearest frame is last in its vector.
+use Rattle.std.proofs.Common.{◌≡◌, ℕ, zero, suc, ◌+◌, ◌<◌, ◌≤◌, List, [], ◌∷◌, ◌++◌, length, drop, get_or, reverse, refl, sym, ap, ◌∙◌, subst, arith, add-one, drop-cons, append_assoc}
+use Rattle.std.specs.Prelude.{slice_index_or}
+use Rattle.std.specs.List.{flat_map, sum_by}
+use Rattle.std.proofs.lemmas.List.{reverse-append, append-nil, drop_all}
+use Rattle.std.proofs.lemmas.List.Sums.{sum_by-cons}
+use Rattle.blif_read.specs.declared.netlist.Def.{Def}
+use Rattle.blif_flat.specs.declared.pieces.Piece.{Piece}
+use Rattle.blif_flat.specs.declared.pieces.Piece.TheVariants.{Own, Inner}
+use Rattle.blif_flat.specs.declared.layout.Frame.{Frame}
+use Rattle.blif_flat.specs.Code.Blocks.{moved, of_piece, laid_out, piece_turns, turns, AreStraight, still, turns_left}
+
+abbrev pub frame : ℕ → ℕ → ℕ → Frame
+frame model base next = record { model = model; base = base; next = next }
+
+reverse_push : {X : Type 0} (xs : List X) (x : X) → reverse (xs ++ x ∷ []) ≡ x ∷ reverse xs
+reverse_push xs x = reverse-append xs (x ∷ [])
+
+module _ (blocks : List (List Piece)) where
+  abbrev of : ℕ → ℕ → List Def
+  of = laid_out blocks (length blocks)
+
+  abbrev at : ℕ → List Piece
+  at n = slice_index_or blocks n []
+
+  -- what the nearest frame has still to lay out
+  abbrev rest_of : Frame → List Def
+  rest_of f = flat_map (of_piece of f.base) (drop f.next (at f.model))
+
+  still_popped : (f : Frame) (rest frames : List Frame) → frames ≡ rest ++ f ∷ [] → still blocks (reverse frames) ≡ rest_of f ++ still blocks (reverse rest)
+  still_popped f rest frames e = ap (still blocks) (ap reverse e ∙ reverse_push rest f)
+
+  turns_popped : (f : Frame) (rest frames : List Frame) → frames ≡ rest ++ f ∷ [] → turns_left blocks (reverse frames)
+      ≡ 1 + sum_by (piece_turns (turns blocks (length blocks))) (drop f.next (at f.model)) + turns_left blocks (reverse rest)
+  turns_popped f rest frames e = ap (turns_left blocks) (ap reverse e ∙ reverse_push rest f)
+
+  -- a piece is taken
+  taken : (f : Frame) (xs : List Piece) (p : Piece) → xs ≡ at f.model → f.next < length xs → p ≡ get_or xs f.next p → drop f.next (at f.model) ≡ p ∷ drop (f.next + 1) (at f.model)
+  taken f xs p e lt is =
+      ap (drop f.next) (sym e) ∙ drop-cons xs f.next p lt ∙ ap (λ q. q ∷ drop (suc f.next) xs) (sym is)
+      ∙ ap (λ n. p ∷ drop n xs) (sym (add-one f.next)) ∙ ap (λ ys. p ∷ drop (f.next + 1) ys) e
+
+  pub lay_first : AreStraight blocks → (none frames : List Frame) (defs : List Def) → none ≡ [] → frames ≡ none ++ frame 0 0 0 ∷ [] → defs ≡ [] → defs ++ still blocks (reverse frames) ≡ of 0 0
+  lay_first s none frames defs n f d =
+      ap (λ ds. ds ++ still blocks (reverse frames)) d ∙ still_popped (frame 0 0 0) none frames f
+      ∙ ap (λ fs. rest_of (frame 0 0 0) ++ still blocks (reverse fs)) n ∙ append-nil (rest_of (frame 0 0 0)) ∙ sym (s.laid 0 0)
+
+  -- a block is done
+  pub lay_done : (f : Frame) (rest frames : List Frame) (defs whole : List Def) (xs : List Piece) → frames ≡ rest ++ f ∷ [] → xs ≡ at f.model → length xs ≤ f.next
+      → defs ++ still blocks (reverse frames) ≡ whole → defs ++ still blocks (reverse rest) ≡ whole
+  lay_done f rest frames defs whole xs e same le w =
+      let none : drop f.next (at f.model) ≡ [] = drop_all f.next (at f.model) (subst (λ ys. length ys ≤ f.next) same le) in
+      sym (ap (λ ds. defs ++ ds) (still_popped f rest frames e ∙ ap (λ ps. flat_map (of_piece of f.base) ps ++ still blocks (reverse rest)) none)) ∙ w
+
+  pub done_sooner : (f : Frame) (rest frames : List Frame) → frames ≡ rest ++ f ∷ [] → turns_left blocks (reverse rest) < turns_left blocks (reverse frames)
+  done_sooner f rest frames e = let sum = turns_popped f rest frames e in omega arith
+
+  -- a definition is laid out
+  pub lay_own : (f : Frame) (rest frames after : List Frame) (defs more whole : List Def) (xs : List Piece) (p : Piece) (def moved_def : Def) → frames ≡ rest ++ f ∷ [] → after ≡ rest ++ frame f.model f.base (f.next + 1) ∷ []
+      → xs ≡ at f.model → f.next < length xs → p ≡ get_or xs f.next p → p ≡ Own def → moved_def ≡ moved f.base def → more ≡ defs ++ moved_def ∷ []
+      → defs ++ still blocks (reverse frames) ≡ whole → more ++ still blocks (reverse after) ≡ whole
+  lay_own f rest frames after defs more whole xs p def moved_def e a same lt is own m d w =
+      ap (λ ds. ds ++ still blocks (reverse after)) d ∙ append_assoc defs (moved_def ∷ []) (still blocks (reverse after))
+      ∙ ap (λ x. defs ++ x ∷ still blocks (reverse after)) m
+      ∙ ap (λ ds. defs ++ moved f.base def ∷ ds) (still_popped (frame f.model f.base (f.next + 1)) rest after a)
+      ∙ sym (ap (λ ds. defs ++ ds) (still_popped f rest frames e
+      ∙ ap (λ ps. flat_map (of_piece of f.base) ps ++ still blocks (reverse rest)) (taken f xs p same lt is ∙ ap (λ q. q ∷ drop (f.next + 1) (at f.model)) own)))
+      ∙ w
+
+  turn_taken : (f : Frame) (xs : List Piece) (p : Piece) → xs ≡ at f.model → f.next < length xs → p ≡ get_or xs f.next p
+      → sum_by (piece_turns (turns blocks (length blocks))) (drop f.next (at f.model))
+      ≡ piece_turns (turns blocks (length blocks)) p + sum_by (piece_turns (turns blocks (length blocks))) (drop (f.next + 1) (at f.model))
+  turn_taken f xs p same lt is = ap (sum_by (piece_turns (turns blocks (length blocks)))) (taken f xs p same lt is)
+      ∙ sum_by-cons (piece_turns (turns blocks (length blocks))) p (drop (f.next + 1) (at f.model))
+
+  pub own_sooner : (f : Frame) (rest frames after : List Frame) (xs : List Piece) (p : Piece) (def : Def) → frames ≡ rest ++ f ∷ [] → after ≡ rest ++ frame f.model f.base (f.next + 1) ∷ []
+      → xs ≡ at f.model → f.next < length xs → p ≡ get_or xs f.next p → p ≡ Own def → turns_left blocks (reverse after) < turns_left blocks (reverse frames)
+  own_sooner f rest frames after xs p def e a same lt is own =
+      let before = turns_popped f rest frames e in
+      let now = turns_popped (frame f.model f.base (f.next + 1)) rest after a in
+      let sum = turn_taken f xs p same lt is in
+      let one : piece_turns (turns blocks (length blocks)) p ≡ 1 = ap (piece_turns (turns blocks (length blocks))) own in
+      omega arith
+
+  -- an inner block is begun
+  pub lay_inner : AreStraight blocks → (f : Frame) (rest frames middle after : List Frame) (defs whole : List Def) (xs : List Piece) (p : Piece) (model start base : ℕ) → frames ≡ rest ++ f ∷ []
+      → middle ≡ rest ++ frame f.model f.base (f.next + 1) ∷ [] → after ≡ middle ++ frame model base 0 ∷ []
+      → xs ≡ at f.model → f.next < length xs → p ≡ get_or xs f.next p → p ≡ Inner model start → base ≡ f.base + start
+      → defs ++ still blocks (reverse frames) ≡ whole → defs ++ still blocks (reverse after) ≡ whole
+  lay_inner s f rest frames middle after defs whole xs p model start base e m a same lt is inner b w =
+      ap (λ ds. defs ++ ds) (still_popped (frame model base 0) middle after a
+      ∙ ap (λ ds. ds ++ still blocks (reverse middle)) (sym (s.laid model base))
+      ∙ ap (λ k. of model k ++ still blocks (reverse middle)) b
+      ∙ ap (λ ds. of model (f.base + start) ++ ds) (still_popped (frame f.model f.base (f.next + 1)) rest middle m)
+      ∙ sym (append_assoc (of model (f.base + start)) (rest_of (frame f.model f.base (f.next + 1))) (still blocks (reverse rest)))
+      ∙ sym (still_popped f rest frames e
+      ∙ ap (λ ps. flat_map (of_piece of f.base) ps ++ still blocks (reverse rest)) (taken f xs p same lt is ∙ ap (λ q. q ∷ drop (f.next + 1) (at f.model)) inner)))
+      ∙ w
+
+  pub inner_sooner : AreStraight blocks → (f : Frame) (rest frames middle after : List Frame) (xs : List Piece) (p : Piece) (model start base : ℕ) → frames ≡ rest ++ f ∷ []
+      → middle ≡ rest ++ frame f.model f.base (f.next + 1) ∷ [] → after ≡ middle ++ frame model base 0 ∷ []
+      → xs ≡ at f.model → f.next < length xs → p ≡ get_or xs f.next p → p ≡ Inner model start → turns_left blocks (reverse after) < turns_left blocks (reverse frames)
+  inner_sooner s f rest frames middle after xs p model start base e m a same lt is inner =
+      let before = turns_popped f rest frames e in
+      let between = turns_popped (frame f.model f.base (f.next + 1)) rest middle m in
+      let now = turns_popped (frame model base 0) middle after a in
+      let sum = turn_taken f xs p same lt is in
+      let one : piece_turns (turns blocks (length blocks)) p ≡ 1 + turns blocks (length blocks) model = ap (piece_turns (turns blocks (length blocks))) inner in
+      let ends = s.ends model in
+      omega arith
+
+  -- no frame is left
+  pub lay_all : (frames : List Frame) (defs whole : List Def) → length frames ≡ 0 → defs ++ still blocks (reverse frames) ≡ whole → defs ≡ whole
+  lay_all [] defs whole e w = sym (append-nil defs) ∙ w
+  lay_all (f ∷ fs) defs whole e w = absurd (omega arith)

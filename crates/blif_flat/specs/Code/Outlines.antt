@@ -1,0 +1,32 @@
+-- What a table keeps of models for their callers.
+use Rattle.std.specs.Prelude.{◌≡◌, ℕ, true, List, [], map, length, Option, Some, None, slice_get, slice_index_or}
+use Rattle.std.specs.List.{AllByRecursion}
+use Rattle.blif_read.specs.Code.Seen.{texts}
+use Rattle.blif_read.specs.Walk.{on}
+use Rattle.blif_read.specs.declared.models.Call.{Call}
+use Rattle.blif_read.specs.declared.models.BlifModel.{BlifModel}
+use Rattle.blif_flat.specs.Designs.{names_in, model_number, no_model, distinct_outputs}
+use Rattle.blif_flat.specs.Code.Blocks.{wide, place}
+use Rattle.blif_flat.specs.declared.outlines.Outline.{Outline}
+
+-- the inputs of a model, its outputs with their places, and its width
+pub record IsOutline (models : List BlifModel) (model : BlifModel) (outline : Outline) : Type 0 where
+  pub inputs : texts outline.inputs.keys ≡ names_in model.inputs
+  pub outputs : texts outline.outputs.keys ≡ distinct_outputs model
+  pub exits : outline.exits.items ≡ map (place (wide models) models model) (distinct_outputs model)
+  pub width : outline.width ≡ wide models model
+
+-- the outline of a number in a table
+pub record HasOutline (models : List BlifModel) (outlines : List Outline) (n : ℕ) : Type 0 where
+  pub outline : Outline
+  pub at : slice_get outlines n ≡ Some outline
+  pub is : IsOutline models (slice_index_or models n no_model) outline
+
+-- what the table has for a call
+abbrev pub IsOutlined : List BlifModel → List Outline → Option ℕ → Type 0
+IsOutlined models outlines None = Unit {0}
+IsOutlined models outlines (Some n) = HasOutline models outlines n
+
+-- and for each call of a model
+abbrev pub AreOutlined : List BlifModel → List Outline → List Call → Type 0
+AreOutlined models outlines calls = AllByRecursion (λ c. IsOutlined models outlines (model_number models c.model)) calls

@@ -1,0 +1,58 @@
+-- Words of the walk that lists the wires of a design: the ports of a call by their formals, and what a walk has still to list.
+use Rattle.std.specs.Prelude.{ℕ, ◌+◌, ◌*◌, Bool, List, [], ◌∷◌, ◌++◌, map, length, Option, Some, None}
+use Rattle.std.specs.List.{sum_by}
+use Rattle.std.specs.Borrow.{Bor}
+use Rattle.std.specs.Str.{bytes_eq}
+use Rattle.blif_read.specs.declared.models.Port.{Port}
+use Rattle.blif_read.specs.declared.models.Call.{Call}
+use Rattle.blif_read.specs.declared.models.BlifModel.{BlifModel}
+use Rattle.blif_flat.specs.Designs.{names_in, called, actual_of, joined_outputs}
+use Rattle.blif_flat.specs.Expansion.{Wire, wire, same_wire, calls_within, expanded, expanded_calls}
+use Rattle.blif_flat.specs.declared.wires.Place.{Place}
+use Rattle.blif_flat.specs.declared.wires.Frame.{Frame}
+
+-- the port joins this formal
+abbrev pub has_formal : List ℕ → Port → Bool
+has_formal formal port = bytes_eq formal port.formal
+
+-- the wire of a place, and the wires of places
+abbrev pub wire_of : Place → Wire
+wire_of place = wire place.call place.name.now
+
+abbrev pub wires_of : List Place → List Wire
+wires_of places = map wire_of places
+
+-- the wires that a call begins with: those of its model's inputs, and of what the model itself defines
+abbrev pub begun : ℕ → BlifModel → List Wire
+begun k model = map (wire k) (names_in model.inputs ++ map (λ d. d.output) model.defs)
+
+-- the wires of the caller that a call ends with
+abbrev pub ended : List BlifModel → ℕ → Call → List Wire
+ended models k call = map (λ o. wire k (actual_of call o)) (joined_outputs models call)
+
+abbrev pub left_over : List BlifModel → ℕ → Option (Bor Call) → List Wire
+left_over models k None = []
+left_over models k (Some call) = ended models k call.now
+
+-- the wires that calls of call k define, of which the first is call n
+abbrev pub called_wires : List BlifModel → ℕ → ℕ → List Call → List Wire
+called_wires models k n calls =
+    map (λ d. d.output) (expanded_calls (length models) models (expanded (length models) models) k n calls)
+
+-- how many calls there are in some calls
+abbrev pub call_count : List BlifModel → List Call → ℕ
+call_count models calls = sum_by (λ c. 1 + calls_within (length models) models (called models c)) calls
+
+-- what a walk lists from its frames on, nearest first, where the next call has this number
+abbrev pub listed_from : List BlifModel → ℕ → List Frame → List Wire
+listed_from models n [] = []
+listed_from models n (f ∷ fs) = left_over models f.call f.left ++ called_wires models f.call n f.rest.now
+    ++ listed_from models (n + call_count models f.rest.now) fs
+
+-- and how many turns it takes
+abbrev pub turns_from : List BlifModel → List Frame → ℕ
+turns_from models frames = sum_by (λ f. 1 + 2 * call_count models f.rest.now) frames
+
+-- the wire of the first model itself that has this name
+abbrev pub is_own : List ℕ → Place → Bool
+is_own name place = same_wire (wire 0 name) (wire_of place)
