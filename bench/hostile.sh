@@ -3,7 +3,9 @@
 # ordinary chip of as many shapes and labels.
 #
 # Netlists of 16 MB are read, and then the library, which is empty, is refused: an ordinary one, which adds two numbers;
-# lines of three bytes; a chain of definitions, each of the one that comes next; and a cycle through all of one.
+# lines of three bytes; a chain of definitions, each of the one that comes next; a cycle through all of one; 270,000
+# models, each of which calls the next; a model with a name of 750,000 bytes that is called 100,000 times; and a short
+# text of models that call one another twice, of which the first has nearly the greatest size.
 # Streams are checked, beside the adder of 164 bits: the chip of a wire with a structure of 3,999 squares that is
 # referenced 2,000 times far away from it, the same with all squares on one another, and labels that all stand on one
 # pin; a boundary of 2,001 teeth of different heights that is referenced 3,900 times; a text of 32,000 bytes that is
@@ -57,7 +59,28 @@ def chain(links, last):
     yield f".names {last} {1_000_000 + links}\n1 1"
 
 
-def ring(links):
+def deep(models):
+    """A wire through so many models, each of which calls the next."""
+    for k in range(1_000_000, 1_000_000 + models):
+        last = k == 1_000_000 + models - 1
+        yield f".model m{k}\n.inputs i\n.outputs o\n" + (".names i o\n1 1" if last else f".subckt m{k + 1} i=i o=o")
+
+
+def named(length):
+    """A model with an output of a long name, called 100,000 times for nothing."""
+    yield ".model top\n.inputs a\n.outputs a"
+    yield from (".subckt b" for k in range(100_000))
+    yield f".model b\n.outputs {'x' * length}\n.names {'x' * length}\n1"
+
+
+def doubled(times):
+    """Models that each call the next twice; the last is a constant."""
+    for k in range(times):
+        yield f".model m{k}\n.outputs o\n.subckt m{k + 1} o=o\n.subckt m{k + 1}"
+    yield f".model m{times}\n.outputs o\n.names o\n1"
+
+
+def cycle(links):
     """The shortest definitions that make one cycle."""
     digits = "0123456789abcdefghijklmnopqrstuvwxyzABCDEFGHIJKLMNOPQRSTUVWXYZ"
     def name(i): return digits[i // 238328] + digits[i // 3844 % 62] + digits[i // 62 % 62] + digits[i % 62]
@@ -120,7 +143,10 @@ elif kind == "adder_words":
     netlist("".join("01"[(k + 1) * (i + 3) % 11 < 5] for i in range(2 * size)) for k in range(8))
 elif kind == "short": netlist([".outputs y", ".names y", *[" 1"] * size])
 elif kind == "chain": netlist(chain(size, "a"))
-elif kind == "ring": netlist(ring(size))
+elif kind == "cycle": netlist(cycle(size))
+elif kind == "deep": netlist(deep(size))
+elif kind == "named": netlist(named(size))
+elif kind == "doubled": netlist(doubled(size))
 elif kind == "keys": netlist(f"k{i} = 1" for i in range(size))
 elif kind == "name_keys": netlist(["[name]", *(f"k{i} = 1" for i in range(size))])
 else:
@@ -183,8 +209,12 @@ while read -r kind size; do
 done <<CASES
 short 5592395
 chain 620000
-ring 980000
+cycle 980000
+deep 270000
+named 750000
 CASES
+make doubled 20 "$work/net"
+compare "netlist doubled, of size 12582902" "$(read_netlist "$work/net")" "$plain" 1 3
 rm -f "$work/net" "$work/plain"
 
 # Streams.

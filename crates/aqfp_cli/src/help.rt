@@ -29,7 +29,8 @@ equal   reads GDS and LIB as verify does, and prints whether the chip answers
         least output on which they differ and W the least word for it.
 
 NET     a combinational netlist in the Berkeley Logic Interchange Format (BLIF),
-        at most 16777216 bytes
+        of one model or of several that call one another by .subckt, of which
+        the first is taken; at most 16777216 bytes
 LIB     a cell library in TOML, at most 1048576 bytes
 OUT     a layout in the GDSII Stream Format, in database units of 1 nm; of
         netlist, a netlist in BLIF
@@ -45,12 +46,14 @@ status  0  done
         6  the netlist has a fault
         7  the library has a fault
         8  the library lacks a kind of cell
-       10  the chip has too many slots, rows, cells, elements or shapes, or chip
-           and netlist too many subfunctions to be compared
+       10  the design is too large, or the chip has too many slots, rows, cells,
+           elements or shapes, or chip and netlist too many subfunctions to be
+           compared
        11  the layout's bytes are no stream that is read
        12  the layout breaks a rule
        13  a line of WORDS is no word for the chip
        14  out of memory
+       16  the models and calls of the netlist have a fault
        17  chip and netlist have other numbers of inputs or outputs
 A status above 0 comes with one line on standard error.
 ";

@@ -5,7 +5,7 @@ use Rattle.aq_base.specs.Causes.{Rose}
 use Rattle.aq_base.specs.Store.{Contents, gained, GainsPrefix}
 use Rattle.blif_read.specs.Parts.{NetView}
 use Rattle.blif_read.specs.Netlist.{IsNetlist}
-use Rattle.blif_read.specs.Says as netlist
+use Rattle.blif_flat.specs.DesignText as netlist
 use Rattle.chip_circuit.specs.Circuits.{CircuitView, KeepsFacts}
 use Rattle.decide.specs.declared.verdict.Verdict.{Verdict}
 use Rattle.aqfp_top.specs.Loads.{gds_limit, lib_limit, net_limit, words_limit, check_loads}
@@ -22,9 +22,9 @@ use Rattle.aqfp_top.specs.Code.Loading.{IsFaultOfLoads}
 use Rattle.aqfp_top.specs.Code.Building.{IsOutOrMemory, IsReadOf}
 use Rattle.aqfp_top.specs.Code.Checking.{chip_stages, circuit_then, IsCircuitFault}
 use Rattle.aqfp_top.specs.Code.Comparing.{both_stages, AreWidths, AreOtherWidths, IsManyFault, IsComparingFault}
-use Rattle.aqfp_top.specs.declared.fault.Large.TheVariants.{Functions}
+use Rattle.aqfp_top.specs.declared.fault.Large.TheVariants.{Functions, Design}
 use Rattle.aqfp_top.specs.declared.fault.Fault.{Fault}
-use Rattle.aqfp_top.specs.declared.fault.Fault.TheVariants.{BadBlif, TooLarge, Widths, Memory}
+use Rattle.aqfp_top.specs.declared.fault.Fault.TheVariants.{BadBlif, BadDesign, TooLarge, Widths, Memory}
 use Rattle.aqfp_top.proofs.EachFault.{each_of_loads, each_circuit, each_comparing, each_out}
 use Rattle.aqfp_top.proofs.Staging.{load_stage, past, past_all, found, file_loads, held_bytes}
 use Rattle.aqfp_top.proofs.Steps.{print_counts}
@@ -38,6 +38,8 @@ circuit_compares fault wrong = each_circuit IsComparingFault (λ o k. tt) (λ n.
 
 pub netlist_compares : (net : List ℕ) (fault : Fault) → OrMemory (IsNetlistFault net) fault → IsComparingFault fault
 netlist_compares net (BadBlif fault) bad = tt
+netlist_compares net (BadDesign line kind) bad = tt
+netlist_compares net (TooLarge Design count) bad = tt
 netlist_compares net Memory bad = tt
 netlist_compares net _ bad = absurd bad
 
@@ -52,10 +54,10 @@ functions_compare circuit view _ bad = absurd bad
 
 -- Reading the chip and the netlist.
 
-pub makes_both : (gds lib net : List ℕ) (circuit : CircuitView) (view : NetView) → MakesCircuit gds lib circuit → netlist.Says net view → MakesBoth gds lib net circuit view
+pub makes_both : (gds lib net : List ℕ) (circuit : CircuitView) (view : NetView) → MakesCircuit gds lib circuit → netlist.SaysNetlist net view → MakesBoth gds lib net circuit view
 makes_both gds lib net circuit view makes says = record { makes = makes; says = says }
 
-pub both_well : (gds lib net : List ℕ) (view : NetView) → IsFirst (circuit_stages gds lib) None → netlist.Says net view → IsFirst (both_stages gds lib net) None
+pub both_well : (gds lib net : List ℕ) (view : NetView) → IsFirst (circuit_stages gds lib) None → netlist.SaysNetlist net view → IsFirst (both_stages gds lib net) None
 both_well gds lib net view before says = (before.0, (before.1.0, (before.1.1.0, (before.1.1.1.0, (says_no_fault net view says, tt)))))
 
 pub circuit_answers : (gds lib net : List ℕ) (fault : Fault) → ((rest : List Stage) → Answers (circuit_then gds lib rest) (Some fault)) → Answers (comparing_stages gds lib net) (Some fault)
@@ -154,19 +156,19 @@ circuit_equal : (fault : Fault) → IsCircuitFault fault → IsEqualFault fault
 circuit_equal fault wrong = each_circuit IsEqualFault (λ o k. tt) (λ n. tt) (λ f. tt) (λ k. tt) (λ r a b. tt) tt fault wrong
 
 pub wrong_is_equal : (fault : Fault) → IsComparingFault fault → IsEqualFault fault
-wrong_is_equal fault wrong = each_comparing IsEqualFault circuit_equal (λ f. tt) (λ a b c d. tt) refl fault wrong
+wrong_is_equal fault wrong = each_comparing IsEqualFault circuit_equal (λ f. tt) (λ l k. tt) (λ n. tt) (λ a b c d. tt) refl fault wrong
 
 circuit_counts : (before after : Counts) (fault : Fault) → IsCircuitFault fault → HasFaults before after (Some fault)
 circuit_counts before after fault wrong = each_circuit (λ f. HasFaults before after (Some f)) (λ o k. tt) (λ n. tt) (λ f. tt) (λ k. tt) (λ r a b. tt) tt fault wrong
 
 pub wrong_counts : (before after : Counts) (fault : Fault) → IsComparingFault fault → HasFaults before after (Some fault)
-wrong_counts before after fault wrong = each_comparing (λ f. HasFaults before after (Some f)) (circuit_counts before after) (λ f. tt) (λ a b c d. tt) tt fault wrong
+wrong_counts before after fault wrong = each_comparing (λ f. HasFaults before after (Some f)) (circuit_counts before after) (λ f. tt) (λ l k. tt) (λ n. tt) (λ a b c d. tt) tt fault wrong
 
 circuit_failed : (name : Option (List ℕ)) (words : List (List ℕ)) (fault : Fault) → IsCircuitFault fault → FailedLoad name words (Some fault)
 circuit_failed name words fault wrong = each_circuit (λ f. FailedLoad name words (Some f)) (λ o k. tt) (λ n. tt) (λ f. tt) (λ k. tt) (λ r a b. tt) tt fault wrong
 
 pub wrong_failed : (name : Option (List ℕ)) (words : List (List ℕ)) (fault : Fault) → IsComparingFault fault → FailedLoad name words (Some fault)
-wrong_failed name words fault wrong = each_comparing (λ f. FailedLoad name words (Some f)) (circuit_failed name words) (λ f. tt) (λ a b c d. tt) tt fault wrong
+wrong_failed name words fault wrong = each_comparing (λ f. FailedLoad name words (Some f)) (circuit_failed name words) (λ f. tt) (λ l k. tt) (λ n. tt) (λ a b c d. tt) tt fault wrong
 
 circuit_prints : (told : Option Contents) (words : List (List ℕ)) (held : Option (List ℕ)) (fault : Fault) → IsCircuitFault fault → EqualPrints told words held held (Some fault)
 circuit_prints told words held fault wrong =
@@ -174,7 +176,7 @@ circuit_prints told words held fault wrong =
 
 pub wrong_prints : (told : Option Contents) (words : List (List ℕ)) (held : Option (List ℕ)) (fault : Fault) → IsComparingFault fault → EqualPrints told words held held (Some fault)
 wrong_prints told words held fault wrong =
-    each_comparing (λ f. EqualPrints told words held held (Some f)) (circuit_prints told words held) (λ f. refl) (λ a b c d. refl) refl fault wrong
+    each_comparing (λ f. EqualPrints told words held held (Some f)) (circuit_prints told words held) (λ f. refl) (λ l k. refl) (λ n. refl) (λ a b c d. refl) refl fault wrong
 
 -- what the texts may answer the whole comparison may answer
 texts_answer : (files : Contents) (words : List (List ℕ)) (gds lib net : List ℕ) (answer : Option Fault) → ToldTexts (Some files) words gds lib net → length gds ≤ gds_limit → length lib ≤ lib_limit → length net ≤ words_limit

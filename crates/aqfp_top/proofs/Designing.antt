@@ -2,7 +2,7 @@
 use Rattle.std.proofs.Common.{ℕ, ◌≡◌, ◌<◌, ◌≤◌, ◌^◌, List, [], ◌∷◌, length, Some, None, subst, ap, ◌∙◌, arith}
 use Rattle.blif_read.specs.Parts.{NetView}
 use Rattle.blif_read.specs.Netlist.{IsNetlist}
-use Rattle.blif_read.specs.Says as netlist
+use Rattle.blif_flat.specs.DesignText as netlist
 use Rattle.rowed.specs.PlacedNets.{PlacedView, IsPlaced}
 use Rattle.cell_library.specs.Library.{LibraryView}
 use Rattle.cell_library.specs.Laws.{IsLibrary}
@@ -18,17 +18,19 @@ use Rattle.aqfp_top.specs.Due.{design_stages}
 use Rattle.aqfp_top.specs.Code.Staging.{OrMemory}
 use Rattle.aqfp_top.specs.Code.Designing.{IsDesignFault, AreCountsOf, IsChipOf, MakesChip, PassesNone}
 use Rattle.aqfp_top.specs.declared.counts.ChipCounts.{ChipCounts}
-use Rattle.aqfp_top.specs.declared.fault.Large.TheVariants.{Slots, Rows, Cells, Elements, Shapes, Functions}
+use Rattle.aqfp_top.specs.declared.fault.Large.TheVariants.{Slots, Rows, Cells, Elements, Shapes, Functions, Design}
 use Rattle.aqfp_top.proofs.Staging.{past, found}
 use Rattle.aqfp_top.proofs.OneFault.{says_no_fault, says_no_cells_fault, same_said, one_netlist}
 use Rattle.aqfp_top.specs.declared.design.Chip.{Chip}
 use Rattle.aqfp_top.specs.declared.fault.Fault.{Fault}
-use Rattle.aqfp_top.specs.declared.fault.Fault.TheVariants.{BadBlif, BadLibrary, MissingCell, TooLarge, Memory}
+use Rattle.aqfp_top.specs.declared.fault.Fault.TheVariants.{BadBlif, BadDesign, BadLibrary, MissingCell, TooLarge, Memory}
 
 -- the kinds of faults
 
 pub netlist_fault : (net : List ℕ) (fault : Fault) → OrMemory (IsNetlistFault net) fault → IsDesignFault fault
 netlist_fault net (BadBlif fault) bad = tt
+netlist_fault net (BadDesign line kind) bad = tt
+netlist_fault net (TooLarge Design count) bad = tt
 netlist_fault net Memory bad = tt
 netlist_fault net _ bad = absurd bad
 
@@ -45,6 +47,7 @@ plan_fault equations cells (TooLarge Cells count) bad = tt
 plan_fault equations cells (TooLarge Elements count) bad = tt
 plan_fault equations cells (TooLarge Shapes count) bad = absurd bad
 plan_fault equations cells (TooLarge Functions count) bad = absurd bad
+plan_fault equations cells (TooLarge Design count) bad = absurd bad
 plan_fault equations cells Memory bad = tt
 plan_fault equations cells _ bad = absurd bad
 
@@ -53,20 +56,20 @@ plan_fault equations cells _ bad = absurd bad
 pub netlist_answers : (net lib : List ℕ) (fault : Fault) → OrMemory (IsNetlistFault net) fault → Answers (design_stages net lib) (Some fault)
 netlist_answers net lib fault bad = found (stage.Netlist net) (stage.Cells lib ∷ stage.Plan net lib ∷ []) fault bad
 
-pub cells_answer : (net lib : List ℕ) (view : NetView) (fault : Fault) → netlist.Says net view → OrMemory (IsCellsFault lib) fault → Answers (design_stages net lib) (Some fault)
+pub cells_answer : (net lib : List ℕ) (view : NetView) (fault : Fault) → netlist.SaysNetlist net view → OrMemory (IsCellsFault lib) fault → Answers (design_stages net lib) (Some fault)
 cells_answer net lib view fault says bad = past (stage.Netlist net) (stage.Cells lib ∷ stage.Plan net lib ∷ []) (Some fault) (says_no_fault net view says) (found (stage.Cells lib) (stage.Plan net lib ∷ []) fault bad)
 
-says_design : (net lib : List ℕ) (equations : NetView) (cells : LibraryView) → netlist.Says net equations → library.Says lib cells → SaysDesign net lib equations cells
+says_design : (net lib : List ℕ) (equations : NetView) (cells : LibraryView) → netlist.SaysNetlist net equations → library.Says lib cells → SaysDesign net lib equations cells
 says_design net lib equations cells net_says lib_says = record { net_says = net_says; lib_says = lib_says }
 
-plan_finds : (net lib : List ℕ) (equations : NetView) (cells : LibraryView) (fault : Fault) → netlist.Says net equations → library.Says lib cells
+plan_finds : (net lib : List ℕ) (equations : NetView) (cells : LibraryView) (fault : Fault) → netlist.SaysNetlist net equations → library.Says lib cells
     → OrMemory (IsPlanFault equations cells) fault → OrMemory (Finds (stage.Plan net lib)) fault
 plan_finds net lib equations cells (TooLarge what count) n l bad =
     record { equations = equations; cells = cells; says = says_design net lib equations cells n l; holds = bad }
 plan_finds net lib equations cells Memory n l bad = tt
 plan_finds net lib equations cells _ n l bad = absurd bad
 
-pub plan_answers : (net lib : List ℕ) (equations : NetView) (cells : LibraryView) (fault : Fault) → netlist.Says net equations → library.Says lib cells
+pub plan_answers : (net lib : List ℕ) (equations : NetView) (cells : LibraryView) (fault : Fault) → netlist.SaysNetlist net equations → library.Says lib cells
     → OrMemory (IsPlanFault equations cells) fault → Answers (design_stages net lib) (Some fault)
 plan_answers net lib equations cells fault n l bad =
     past (stage.Netlist net) (stage.Cells lib ∷ stage.Plan net lib ∷ []) (Some fault) (says_no_fault net equations n)
@@ -74,12 +77,12 @@ plan_answers net lib equations cells fault n l bad =
     (found (stage.Plan net lib) [] fault (plan_finds net lib equations cells fault n l bad)))
 
 -- where no limit is passed nothing is due
-plan_finds_none : (net lib : List ℕ) (equations : NetView) (cells : LibraryView) → netlist.Says net equations → library.Says lib cells → PassesNone equations cells → FindsNone (stage.Plan net lib)
+plan_finds_none : (net lib : List ℕ) (equations : NetView) (cells : LibraryView) → netlist.SaysNetlist net equations → library.Says lib cells → PassesNone equations cells → FindsNone (stage.Plan net lib)
 plan_finds_none net lib equations cells n l none fault bad =
     none fault (subst (λ l. IsPlanFault equations l fault) (same_said lib bad.cells cells bad.says.lib_says l)
     (subst (λ n. IsPlanFault n bad.cells fault) (one_netlist net bad.equations equations bad.says.net_says n) bad.holds))
 
-pub design_is_well : (net lib : List ℕ) (equations : NetView) (cells : LibraryView) → netlist.Says net equations → library.Says lib cells → PassesNone equations cells → IsFirst (design_stages net lib) None
+pub design_is_well : (net lib : List ℕ) (equations : NetView) (cells : LibraryView) → netlist.SaysNetlist net equations → library.Says lib cells → PassesNone equations cells → IsFirst (design_stages net lib) None
 design_is_well net lib equations cells n l none =
     (says_no_fault net equations n, (says_no_cells_fault lib cells l, (plan_finds_none net lib equations cells n l none, tt)))
 
@@ -115,7 +118,7 @@ some_row placed counts keeps rows cells wires =
 
 pub ruleset limits = (many_elements, few_cells, few_wires, keeps_limits, chip_is_of)
 
-pub chip_is_made : (net lib : List ℕ) (equations : NetView) (cells : LibraryView) (chip : Chip) → netlist.Says net equations → library.Says lib cells
+pub chip_is_made : (net lib : List ℕ) (equations : NetView) (cells : LibraryView) (chip : Chip) → netlist.SaysNetlist net equations → library.Says lib cells
     → KeepsLimits equations cells → IsChipOf equations cells chip → MakesChip net lib chip
 chip_is_made net lib equations cells chip n l limits made = record {
   equations = equations;

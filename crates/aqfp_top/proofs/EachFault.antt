@@ -8,9 +8,9 @@ use Rattle.aqfp_top.specs.Code.Writing.{IsReadingFault}
 use Rattle.aqfp_top.specs.Code.Loading.{IsFaultOfLoad, IsFaultOfLoads}
 use Rattle.aqfp_top.specs.Code.Building.{IsMakeFault, IsStoreFault, IsOutOrMemory}
 use Rattle.aqfp_top.specs.declared.fault.WriteCall.TheVariants.{Create, Append, Close, Out}
-use Rattle.aqfp_top.specs.declared.fault.Large.TheVariants.{Slots, Rows, Cells, Elements, Shapes, Functions}
+use Rattle.aqfp_top.specs.declared.fault.Large.TheVariants.{Slots, Rows, Cells, Elements, Shapes, Functions, Design}
 use Rattle.aqfp_top.specs.declared.fault.Fault.{Fault}
-use Rattle.aqfp_top.specs.declared.fault.Fault.TheVariants.{Absent, TooLong, ReadFault, WriteFault, BadBlif, BadLibrary, MissingCell, TooLarge, BadStream, RuleBroken, BadWords, Widths, Memory}
+use Rattle.aqfp_top.specs.declared.fault.Fault.TheVariants.{Absent, TooLong, ReadFault, WriteFault, BadBlif, BadDesign, BadLibrary, MissingCell, TooLarge, BadStream, RuleBroken, BadWords, Widths, Memory}
 
 -- a load
 pub each_load : (P : Fault → Type 0) (place limit : ℕ) → P (Absent place) → ((taken : ℕ) → limit < taken → P (TooLong place taken)) → P (ReadFault place) → P Memory →
@@ -32,20 +32,22 @@ each_of_loads P loads absent long failed memory Memory only = memory
 each_of_loads P loads absent long failed memory _ only = absurd only
 
 -- the texts of a netlist and of a library
-pub each_design : (P : Fault → Type 0) → ((fault : _) → P (BadBlif fault)) → ((fault : _) → P (BadLibrary fault)) → ((kind : _) → P (MissingCell kind)) →
-    ((count : ℕ) → P (TooLarge Slots count)) → ((count : ℕ) → P (TooLarge Rows count)) → ((count : ℕ) → P (TooLarge Cells count)) → ((count : ℕ) → P (TooLarge Elements count)) → P Memory →
+pub each_design : (P : Fault → Type 0) → ((fault : _) → P (BadBlif fault)) → ((line : ℕ) (kind : _) → P (BadDesign line kind)) → ((fault : _) → P (BadLibrary fault)) → ((kind : _) → P (MissingCell kind)) →
+    ((count : ℕ) → P (TooLarge Slots count)) → ((count : ℕ) → P (TooLarge Rows count)) → ((count : ℕ) → P (TooLarge Cells count)) → ((count : ℕ) → P (TooLarge Elements count)) → ((count : ℕ) → P (TooLarge Design count)) → P Memory →
     (fault : Fault) → IsDesignFault fault → P fault
-each_design P blif library missing slots rows cells elements memory (BadBlif fault) wrong = blif fault
-each_design P blif library missing slots rows cells elements memory (BadLibrary fault) wrong = library fault
-each_design P blif library missing slots rows cells elements memory (MissingCell kind) wrong = missing kind
-each_design P blif library missing slots rows cells elements memory (TooLarge Slots count) wrong = slots count
-each_design P blif library missing slots rows cells elements memory (TooLarge Rows count) wrong = rows count
-each_design P blif library missing slots rows cells elements memory (TooLarge Cells count) wrong = cells count
-each_design P blif library missing slots rows cells elements memory (TooLarge Elements count) wrong = elements count
-each_design P blif library missing slots rows cells elements memory (TooLarge Shapes count) wrong = absurd wrong
-each_design P blif library missing slots rows cells elements memory (TooLarge Functions count) wrong = absurd wrong
-each_design P blif library missing slots rows cells elements memory Memory wrong = memory
-each_design P blif library missing slots rows cells elements memory _ wrong = absurd wrong
+each_design P blif design library missing slots rows cells elements size memory (BadBlif fault) wrong = blif fault
+each_design P blif design library missing slots rows cells elements size memory (BadDesign line kind) wrong = design line kind
+each_design P blif design library missing slots rows cells elements size memory (BadLibrary fault) wrong = library fault
+each_design P blif design library missing slots rows cells elements size memory (MissingCell kind) wrong = missing kind
+each_design P blif design library missing slots rows cells elements size memory (TooLarge Slots count) wrong = slots count
+each_design P blif design library missing slots rows cells elements size memory (TooLarge Rows count) wrong = rows count
+each_design P blif design library missing slots rows cells elements size memory (TooLarge Cells count) wrong = cells count
+each_design P blif design library missing slots rows cells elements size memory (TooLarge Elements count) wrong = elements count
+each_design P blif design library missing slots rows cells elements size memory (TooLarge Shapes count) wrong = absurd wrong
+each_design P blif design library missing slots rows cells elements size memory (TooLarge Functions count) wrong = absurd wrong
+each_design P blif design library missing slots rows cells elements size memory (TooLarge Design count) wrong = size count
+each_design P blif design library missing slots rows cells elements size memory Memory wrong = memory
+each_design P blif design library missing slots rows cells elements size memory _ wrong = absurd wrong
 
 -- the texts of a layout and of a library
 pub each_circuit : (P : Fault → Type 0) → ((offset : ℕ) (kind : _) → P (BadStream offset kind)) → ((count : ℕ) → P (TooLarge Shapes count)) → ((fault : _) → P (BadLibrary fault)) → ((kind : _) → P (MissingCell kind)) →
@@ -59,18 +61,20 @@ each_circuit P stream large library missing rules memory Memory wrong = memory
 each_circuit P stream large library missing rules memory _ wrong = absurd wrong
 
 -- the texts of a layout, of a library and of a netlist
-pub each_comparing : (P : Fault → Type 0) → ((fault : Fault) → IsCircuitFault fault → P fault) → ((fault : _) → P (BadBlif fault)) → ((a b c d : ℕ) → P (Widths a b c d)) → P (TooLarge Functions 1000001) →
+pub each_comparing : (P : Fault → Type 0) → ((fault : Fault) → IsCircuitFault fault → P fault) → ((fault : _) → P (BadBlif fault)) → ((line : ℕ) (kind : _) → P (BadDesign line kind)) → ((count : ℕ) → P (TooLarge Design count)) → ((a b c d : ℕ) → P (Widths a b c d)) → P (TooLarge Functions 1000001) →
     (fault : Fault) → IsComparingFault fault → P fault
-each_comparing P circuit net widths many (BadStream offset kind) wrong = circuit (BadStream offset kind) tt
-each_comparing P circuit net widths many (TooLarge Shapes count) wrong = circuit (TooLarge Shapes count) tt
-each_comparing P circuit net widths many (TooLarge Functions count) wrong = subst (λ n. P (TooLarge Functions n)) (sym wrong) many
-each_comparing P circuit net widths many (BadLibrary fault) wrong = circuit (BadLibrary fault) tt
-each_comparing P circuit net widths many (MissingCell kind) wrong = circuit (MissingCell kind) tt
-each_comparing P circuit net widths many (RuleBroken rule first second) wrong = circuit (RuleBroken rule first second) tt
-each_comparing P circuit net widths many (BadBlif fault) wrong = net fault
-each_comparing P circuit net widths many (Widths a b c d) wrong = widths a b c d
-each_comparing P circuit net widths many Memory wrong = circuit Memory tt
-each_comparing P circuit net widths many _ wrong = absurd wrong
+each_comparing P circuit net design size widths many (BadStream offset kind) wrong = circuit (BadStream offset kind) tt
+each_comparing P circuit net design size widths many (TooLarge Shapes count) wrong = circuit (TooLarge Shapes count) tt
+each_comparing P circuit net design size widths many (TooLarge Functions count) wrong = subst (λ n. P (TooLarge Functions n)) (sym wrong) many
+each_comparing P circuit net design size widths many (BadLibrary fault) wrong = circuit (BadLibrary fault) tt
+each_comparing P circuit net design size widths many (MissingCell kind) wrong = circuit (MissingCell kind) tt
+each_comparing P circuit net design size widths many (RuleBroken rule first second) wrong = circuit (RuleBroken rule first second) tt
+each_comparing P circuit net design size widths many (BadBlif fault) wrong = net fault
+each_comparing P circuit net design size widths many (BadDesign line kind) wrong = design line kind
+each_comparing P circuit net design size widths many (TooLarge Design count) wrong = size count
+each_comparing P circuit net design size widths many (Widths a b c d) wrong = widths a b c d
+each_comparing P circuit net design size widths many Memory wrong = circuit Memory tt
+each_comparing P circuit net design size widths many _ wrong = absurd wrong
 
 -- the texts of a layout, of a library and of words
 pub each_judging : (P : Fault → Type 0) → ((offset : ℕ) (kind : _) → P (BadStream offset kind)) → ((count : ℕ) → P (TooLarge Shapes count)) → ((fault : _) → P (BadLibrary fault)) → ((kind : _) → P (MissingCell kind)) →
@@ -86,20 +90,22 @@ each_judging P stream large library missing rules words memory _ wrong = absurd 
 
 -- all that comes before anything is stored
 pub each_made : (P : Fault → Type 0) → ((place : ℕ) → IsLoaded build_loads place → P (Absent place)) → ((place taken : ℕ) → IsPast build_loads place taken → P (TooLong place taken)) →
-    ((place : ℕ) → IsLoaded build_loads place → P (ReadFault place)) → ((fault : _) → P (BadBlif fault)) → ((fault : _) → P (BadLibrary fault)) → ((kind : _) → P (MissingCell kind)) →
-    ((count : ℕ) → P (TooLarge Slots count)) → ((count : ℕ) → P (TooLarge Rows count)) → ((count : ℕ) → P (TooLarge Cells count)) → ((count : ℕ) → P (TooLarge Elements count)) → P Memory → (fault : Fault) → IsMakeFault fault → P fault
-each_made P absent long failed blif library missing slots rows cells elements memory (Absent place) only = absent place only
-each_made P absent long failed blif library missing slots rows cells elements memory (TooLong place taken) only = long place taken only
-each_made P absent long failed blif library missing slots rows cells elements memory (ReadFault place) only = failed place only
-each_made P absent long failed blif library missing slots rows cells elements memory (BadBlif fault) only = blif fault
-each_made P absent long failed blif library missing slots rows cells elements memory (BadLibrary fault) only = library fault
-each_made P absent long failed blif library missing slots rows cells elements memory (MissingCell kind) only = missing kind
-each_made P absent long failed blif library missing slots rows cells elements memory (TooLarge Slots count) only = slots count
-each_made P absent long failed blif library missing slots rows cells elements memory (TooLarge Rows count) only = rows count
-each_made P absent long failed blif library missing slots rows cells elements memory (TooLarge Cells count) only = cells count
-each_made P absent long failed blif library missing slots rows cells elements memory (TooLarge Elements count) only = elements count
-each_made P absent long failed blif library missing slots rows cells elements memory Memory only = memory
-each_made P absent long failed blif library missing slots rows cells elements memory _ only = absurd only
+    ((place : ℕ) → IsLoaded build_loads place → P (ReadFault place)) → ((fault : _) → P (BadBlif fault)) → ((line : ℕ) (kind : _) → P (BadDesign line kind)) → ((fault : _) → P (BadLibrary fault)) → ((kind : _) → P (MissingCell kind)) →
+    ((count : ℕ) → P (TooLarge Slots count)) → ((count : ℕ) → P (TooLarge Rows count)) → ((count : ℕ) → P (TooLarge Cells count)) → ((count : ℕ) → P (TooLarge Elements count)) → ((count : ℕ) → P (TooLarge Design count)) → P Memory → (fault : Fault) → IsMakeFault fault → P fault
+each_made P absent long failed blif design library missing slots rows cells elements size memory (Absent place) only = absent place only
+each_made P absent long failed blif design library missing slots rows cells elements size memory (TooLong place taken) only = long place taken only
+each_made P absent long failed blif design library missing slots rows cells elements size memory (ReadFault place) only = failed place only
+each_made P absent long failed blif design library missing slots rows cells elements size memory (BadBlif fault) only = blif fault
+each_made P absent long failed blif design library missing slots rows cells elements size memory (BadDesign line kind) only = design line kind
+each_made P absent long failed blif design library missing slots rows cells elements size memory (TooLarge Design count) only = size count
+each_made P absent long failed blif design library missing slots rows cells elements size memory (BadLibrary fault) only = library fault
+each_made P absent long failed blif design library missing slots rows cells elements size memory (MissingCell kind) only = missing kind
+each_made P absent long failed blif design library missing slots rows cells elements size memory (TooLarge Slots count) only = slots count
+each_made P absent long failed blif design library missing slots rows cells elements size memory (TooLarge Rows count) only = rows count
+each_made P absent long failed blif design library missing slots rows cells elements size memory (TooLarge Cells count) only = cells count
+each_made P absent long failed blif design library missing slots rows cells elements size memory (TooLarge Elements count) only = elements count
+each_made P absent long failed blif design library missing slots rows cells elements size memory Memory only = memory
+each_made P absent long failed blif design library missing slots rows cells elements size memory _ only = absurd only
 
 -- all that comes before a netlist is stored
 pub each_reading : (P : Fault → Type 0) → ((place : ℕ) → IsLoaded write_loads place → P (Absent place)) → ((place taken : ℕ) → IsPast write_loads place taken → P (TooLong place taken)) →

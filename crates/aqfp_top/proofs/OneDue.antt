@@ -8,10 +8,10 @@ use Rattle.aqfp_top.specs.Due.{stages_of, Due, MayAnswer, untaken, IsSameAnswer,
 use Rattle.aqfp_top.specs.Counted.{Counts, HasFaults, NoFaults}
 use Rattle.aqfp_top.specs.declared.words.Form.{Form}
 use Rattle.aqfp_top.specs.declared.words.Form.TheVariants.{Build, Verify, Trace, Equal, Write, Sample, Wrong}
-use Rattle.aqfp_top.specs.declared.fault.Large.TheVariants.{Slots, Rows, Cells, Elements, Shapes, Functions}
+use Rattle.aqfp_top.specs.declared.fault.Large.TheVariants.{Slots, Rows, Cells, Elements, Shapes, Functions, Design}
 use Rattle.aqfp_top.specs.declared.fault.WriteCall.TheVariants.{Create, Append, Close, Out}
 use Rattle.aqfp_top.specs.declared.fault.Fault.{Fault}
-use Rattle.aqfp_top.specs.declared.fault.Fault.TheVariants.{Usage, Absent, TooLong, ReadFault, WriteFault, BadBlif, BadLibrary, MissingCell, TooLarge, BadStream, RuleBroken, BadWords, Widths, Memory}
+use Rattle.aqfp_top.specs.declared.fault.Fault.TheVariants.{Usage, Absent, TooLong, ReadFault, WriteFault, BadBlif, BadDesign, BadLibrary, MissingCell, TooLarge, BadStream, RuleBroken, BadWords, Widths, Memory}
 use Rattle.aqfp_top.proofs.Files.{gone_not_there}
 use Rattle.aqfp_top.proofs.Forms.{one_form}
 
@@ -52,10 +52,12 @@ done files words before after (Some (TooLarge Rows count)) large comes rose none
 done files words before after (Some (TooLarge Cells count)) large comes rose none = cc
 done files words before after (Some (TooLarge Elements count)) large comes rose none = cc
 done files words before after (Some (TooLarge Shapes count)) large comes rose none = cc
+done files words before after (Some (TooLarge Design count)) large comes rose none = cc
 done files words before after (Some Usage) large comes rose none = cc
 done files words before after (Some (Absent place)) large comes rose none = cc
 done files words before after (Some (TooLong place taken)) large comes rose none = cc
 done files words before after (Some (BadBlif fault)) large comes rose none = cc
+done files words before after (Some (BadDesign line kind)) large comes rose none = cc
 done files words before after (Some (BadLibrary fault)) large comes rose none = cc
 done files words before after (Some (MissingCell kind)) large comes rose none = cc
 done files words before after (Some (BadStream offset kind)) large comes rose none = cc
@@ -133,6 +135,7 @@ module _ (once : (stage : Stage) (f g : Fault) → Finds stage f → Finds stage
   first_comes stages due (Some (ReadFault place)) p q = tt
   first_comes stages due (Some (WriteFault call)) p q = none_is_none due (first_once stages due None p q)
   first_comes stages due (Some (BadBlif fault)) p q = first_once stages (Some (BadBlif fault)) due q p
+  first_comes stages due (Some (BadDesign line kind)) p q = first_once stages (Some (BadDesign line kind)) due q p
   first_comes stages due (Some (BadLibrary fault)) p q = first_once stages (Some (BadLibrary fault)) due q p
   first_comes stages due (Some (MissingCell kind)) p q = first_once stages (Some (MissingCell kind)) due q p
   first_comes stages due (Some (TooLarge Slots count)) p q = first_once stages (Some (TooLarge Slots count)) due q p
@@ -140,6 +143,7 @@ module _ (once : (stage : Stage) (f g : Fault) → Finds stage f → Finds stage
   first_comes stages due (Some (TooLarge Cells count)) p q = first_once stages (Some (TooLarge Cells count)) due q p
   first_comes stages due (Some (TooLarge Elements count)) p q = first_once stages (Some (TooLarge Elements count)) due q p
   first_comes stages due (Some (TooLarge Shapes count)) p q = first_once stages (Some (TooLarge Shapes count)) due q p
+  first_comes stages due (Some (TooLarge Design count)) p q = first_once stages (Some (TooLarge Design count)) due q p
   first_comes stages due (Some (TooLarge Functions count)) p q = none_is_none due (first_once stages due None p q.0)
   first_comes stages due (Some (BadStream offset kind)) p q = first_once stages (Some (BadStream offset kind)) due q p
   first_comes stages due (Some (RuleBroken rule a b)) p q = first_once stages (Some (RuleBroken rule a b)) due q p

@@ -1,7 +1,13 @@
 -- The texts of a netlist and of a library, and their plan, have one fault each at most, and none where all is well.
 use Rattle.std.proofs.Common.{ℕ, ◌≡◌, ◌≢◌, ◌<◌, ◌≤◌, ◌⊎◌, inl, inr, arith, List, Option, Some, None, refl, sym, subst, ap, ◌∙◌}
 use Rattle.blif_read.specs.Parts.{NetView}
-use Rattle.blif_read.specs.Says as netlist
+use Rattle.blif_read.specs.Says as plain
+use Rattle.blif_flat.specs.DesignText as netlist
+use Rattle.blif_flat.specs.declared.design.FlatKind.{FlatKind}
+use Rattle.blif_flat.specs.declared.design.FlatRefusal.{FlatRefusal}
+use Rattle.blif_flat.specs.declared.design.FlatRefusal.TheVariants as refusal
+use Rattle.blif_flat.proofs.OneRefusal.{one_refusal}
+use Rattle.blif_flat.proofs.SaidNets as said
 use Rattle.cell_library.specs.Says as library
 use Rattle.cell_library.specs.Faults.{table_fault}
 use Rattle.cell_library.specs.Laws.{BreaksFirst, Holds}
@@ -17,21 +23,17 @@ use Rattle.chip_plan.specs.Plans.{IsWithin, chip_of}
 use Rattle.chip_plan.specs.Refusals.{Refuses}
 use Rattle.chip_plan.specs.declared.refusal.PlanRefusal.{PlanRefusal}
 use Rattle.chip_plan.specs.declared.refusal.PlanRefusal.TheVariants as plan
-use Rattle.aqfp_top.specs.Designs.{SaysNetlist, SaysLibrary, HasNetlist, HasDesign, KeepsLimits, HasManyElements, HasTooMuch, IsCellFault, IsNetlistFault, IsCellsFault, IsPlanFault}
+use Rattle.aqfp_top.specs.Designs.{SaysLibrary, HasNetlist, HasDesign, KeepsLimits, HasManyElements, HasTooMuch, IsCellFault, IsNetlistFault, IsPlainFault, IsCellsFault, IsPlanFault}
 use Rattle.aqfp_top.specs.declared.fault.Large.{Large}
-use Rattle.aqfp_top.specs.declared.fault.Large.TheVariants.{Slots, Rows, Cells, Elements, Shapes, Functions}
+use Rattle.aqfp_top.specs.declared.fault.Large.TheVariants.{Slots, Rows, Cells, Elements, Shapes, Functions, Design}
 use Rattle.aqfp_top.specs.declared.fault.Fault.{Fault}
-use Rattle.aqfp_top.specs.declared.fault.Fault.TheVariants.{BadBlif, BadLibrary, MissingCell, TooLarge, Memory}
+use Rattle.aqfp_top.specs.declared.fault.Fault.TheVariants.{BadBlif, BadDesign, BadLibrary, MissingCell, TooLarge, Memory}
 
 same_some : {X : Type 0} (a b : X) (x : Option X) → x ≡ Some a → x ≡ Some b → a ≡ b
 same_some a b x p q = cc
 
 no_fault_says : {X : Type 0} (a : X) (x : Option X) → x ≡ Some a → x ≡ None → ⊥
 no_fault_says a x p q = cc
-
--- a netlist's text has a fault or says a netlist, and at most one of each
-netlist_either : (text : List ℕ) (fault : BlifFault) → netlist.Fault text fault → SaysNetlist text → ⊥
-netlist_either text fault bad good = no_fault_says fault _ bad good.says.sound
 
 -- the first law that the table's library breaks is the fault
 record BreaksLaw (table : Members) (a : LibraryFault) : Type 0 where
@@ -110,9 +112,32 @@ same_said text l m p q = p.values ∙ (ap library.library_of (one_table text p.t
 
 -- what holds of each fault of a stage holds of whatever it finds
 
-each_netlist : (P : Fault → Type 0) (net : List ℕ) → ((a : BlifFault) → netlist.Fault net a → P (BadBlif a)) → (fault : Fault) → IsNetlistFault net fault → P fault
-each_netlist P net blif (BadBlif a) bad = blif a bad
-each_netlist P net blif _ bad = absurd bad
+-- the fault that tells a refusal of a netlist's text
+abbrev told_of : FlatRefusal → Fault
+told_of (refusal.Text fault) = BadBlif fault
+told_of (refusal.Design line kind) = BadDesign line kind
+told_of (refusal.TooMany size) = TooLarge Design size
+told_of refusal.Memory = Memory
+
+text_left : (fault : BlifFault) → refusal.Text fault ≢ refusal.Memory
+text_left fault e = cc
+
+design_left : (line : ℕ) (kind : FlatKind) → refusal.Design line kind ≢ refusal.Memory
+design_left line kind e = cc
+
+size_left : (size : ℕ) → refusal.TooMany size ≢ refusal.Memory
+size_left size e = cc
+
+each_netlist : (P : Fault → Type 0) (net : List ℕ) → ((r : FlatRefusal) → r ≢ refusal.Memory → netlist.IsNetlistRefusal net r → P (told_of r)) →
+    (fault : Fault) → IsNetlistFault net fault → P fault
+each_netlist P net each (BadBlif fault) bad = each (refusal.Text fault) (text_left fault) bad
+each_netlist P net each (BadDesign line kind) bad = each (refusal.Design line kind) (design_left line kind) bad
+each_netlist P net each (TooLarge Design size) bad = each (refusal.TooMany size) (size_left size) bad
+each_netlist P net each _ bad = absurd bad
+
+each_plain : (P : Fault → Type 0) (net : List ℕ) → ((a : BlifFault) → plain.Fault net a → P (BadBlif a)) → (fault : Fault) → IsPlainFault net fault → P fault
+each_plain P net blif (BadBlif a) bad = blif a bad
+each_plain P net blif _ bad = absurd bad
 
 each_cells : (P : Fault → Type 0) (lib : List ℕ) → ((a : LibraryFault) → IsCellFault lib a → ((k : CellKind) → a ≡ Missing k → ⊥) → P (BadLibrary a)) →
     ((k : CellKind) → IsCellFault lib (Missing k) → P (MissingCell k)) → (fault : Fault) → IsCellsFault lib fault → P fault
@@ -129,7 +154,11 @@ each_plan P n l large (TooLarge what count) bad = large what count bad
 each_plan P n l large _ bad = absurd bad
 
 pub one_netlist_fault : (net : List ℕ) (f g : Fault) → IsNetlistFault net f → IsNetlistFault net g → f ≡ g
-one_netlist_fault net f g p q = each_netlist (λ f. f ≡ g) net (λ a x. each_netlist (λ g. BadBlif a ≡ g) net (λ b y. ap BadBlif (same_some a b _ x y)) g q) f p
+one_netlist_fault net f g p q = each_netlist (λ f. f ≡ g) net
+    (λ r some x. each_netlist (λ g. told_of r ≡ g) net (λ s other y. ap told_of (one_refusal net r s some other x y)) g q) f p
+
+pub one_plain_fault : (net : List ℕ) (f g : Fault) → IsPlainFault net f → IsPlainFault net g → f ≡ g
+one_plain_fault net f g p q = each_plain (λ f. f ≡ g) net (λ a x. each_plain (λ g. BadBlif a ≡ g) net (λ b y. ap BadBlif (same_some a b _ x y)) g q) f p
 
 missing_same : (k m : CellKind) → ◌≡◌ {A = LibraryFault} (Missing k) (Missing m) → ◌≡◌ {A = Fault} (MissingCell k) (MissingCell m)
 missing_same k m e = let same : k ≡ m = cc in ap MissingCell same
@@ -142,8 +171,11 @@ one_cells_fault lib f g p q = each_cells (λ f. f ≡ g) lib
 
 -- a text that says something has no fault
 
-pub says_no_fault : (net : List ℕ) (n : NetView) → netlist.Says net n → (fault : Fault) → ¬ IsNetlistFault net fault
-says_no_fault net n says fault bad = each_netlist (λ f. ⊥) net (λ a x. netlist_either net a x (record { net = n; says = says })) fault bad
+pub says_no_fault : (net : List ℕ) (n : NetView) → netlist.SaysNetlist net n → (fault : Fault) → ¬ IsNetlistFault net fault
+says_no_fault net n says fault bad = each_netlist (λ f. ⊥) net (λ r some x. some (said.memory_alone net n r says x)) fault bad
+
+pub says_no_plain_fault : (net : List ℕ) (n : NetView) → plain.Says net n → (fault : Fault) → ¬ IsPlainFault net fault
+says_no_plain_fault net n says fault bad = each_plain (λ f. ⊥) net (λ a x. no_fault_says a _ x says.sound) fault bad
 
 pub says_no_cells_fault : (lib : List ℕ) (l : LibraryView) → library.Says lib l → (fault : Fault) → ¬ IsCellsFault lib fault
 says_no_cells_fault lib l says fault bad =
@@ -151,8 +183,11 @@ says_no_cells_fault lib l says fault bad =
     each_cells (λ f. ⊥) lib (λ a x none. library_either lib a x good) (λ k x. library_either lib (Missing k) x good) fault bad
 
 -- two designs of the same texts are of one netlist and one library
-pub one_netlist : (net : List ℕ) (n m : NetView) → netlist.Says net n → netlist.Says net m → n ≡ m
-one_netlist net n m p q = p.parts ∙ sym q.parts
+pub one_netlist : (net : List ℕ) (n m : NetView) → netlist.SaysNetlist net n → netlist.SaysNetlist net m → n ≡ m
+one_netlist net n m p q = said.one_net net n m p q
+
+pub one_plain : (net : List ℕ) (n m : NetView) → plain.Says net n → plain.Says net m → n ≡ m
+one_plain net n m p q = p.parts ∙ sym q.parts
 
 -- the fault of a refusal of the plan
 abbrev of_plan : PlanRefusal → Fault
@@ -188,6 +223,7 @@ limit_passed n l Cells count h = inl (record { refusal = plan.Cells count; no_me
 limit_passed n l Elements count h = inr (record { what_is = refl; many = h })
 limit_passed n l Shapes count h = absurd h
 limit_passed n l Functions count h = absurd h
+limit_passed n l Design count h = absurd h
 
 many_and_few : (n count : ℕ) → n ≤ element_limit → count ≡ n → element_limit < count → ⊥
 many_and_few n count small is above = omega arith
@@ -232,4 +268,4 @@ module _ (past : (l : LibraryView) (net : NetView) (refusal : PlanRefusal) → r
 
   pub one_own_plan_fault : (net : List ℕ) (l : LibraryView) (f g : Fault) → HasNetlist net (λ n. IsPlanFault n l f) → HasNetlist net (λ n. IsPlanFault n l g) → f ≡ g
   one_own_plan_fault net l f g p q =
-      one_limit p.equations l f g p.holds (subst (λ n. IsPlanFault n l g) (one_netlist net q.equations p.equations q.says p.says) q.holds)
+      one_limit p.equations l f g p.holds (subst (λ n. IsPlanFault n l g) (one_plain net q.equations p.equations q.says p.says) q.holds)

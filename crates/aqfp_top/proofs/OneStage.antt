@@ -23,7 +23,7 @@ use Rattle.aqfp_top.specs.Stages.{Stage, Finds}
 use Rattle.aqfp_top.specs.Due.{untaken}
 use Rattle.aqfp_top.specs.declared.fault.Fault.{Fault}
 use Rattle.aqfp_top.proofs.OneDue.{one_form_fault, one_load_fault}
-use Rattle.aqfp_top.proofs.OneFault.{one_netlist_fault, one_cells_fault, one_plan_fault, one_own_plan_fault}
+use Rattle.aqfp_top.proofs.OneFault.{one_netlist_fault, one_plain_fault, one_cells_fault, one_plan_fault, one_own_plan_fault}
 use Rattle.aqfp_top.proofs.OneCheck.{one_stream_fault, one_size_fault, one_rule_fault, one_words_fault}
 use Rattle.aqfp_top.proofs.OneComparison.{one_widths_fault}
 
@@ -37,6 +37,7 @@ module _ (past : (l : LibraryView) (net : NetView) (refusal : PlanRefusal) → r
   once stage.Form f g p q = ap untaken (one_form_fault f g p q)
   once (stage.Loading load file) f g p q = one_load_fault load file f g p q
   once (stage.Netlist net) f g p q = ap untaken (one_netlist_fault net f g p q)
+  once (stage.Plain net) f g p q = ap untaken (one_plain_fault net f g p q)
   once (stage.Cells lib) f g p q = ap untaken (one_cells_fault lib f g p q)
   once (stage.Plan net lib) f g p q = ap untaken (one_plan_fault past only net lib f g p q)
   once (stage.PlanWith net cells) f g p q = ap untaken (one_own_plan_fault past only net cells f g p q)

@@ -13,7 +13,7 @@ use Rattle.cell_library.specs.LibraryA.{library_a_view}
 use Rattle.chip_plan.specs.Plans.{chip_of}
 use Rattle.sample_adder.specs.Adder.{adder}
 use Rattle.sample_adder.specs.EightWords.{eight}
-use Rattle.aqfp_top.specs.Designs.{KeepsLimits, IsNetlistFault, IsPlanFault}
+use Rattle.aqfp_top.specs.Designs.{KeepsLimits, IsPlainFault, IsPlanFault}
 use Rattle.aqfp_top.specs.Stages as stage
 use Rattle.aqfp_top.specs.Stages.{Stage, Finds, FindsNone, IsFirst, Answers}
 use Rattle.aqfp_top.specs.Due.{sample_stages}
@@ -26,13 +26,13 @@ use Rattle.aqfp_top.specs.Code.Designing.{AreCountsOf, IsChipOf, PassesNone}
 use Rattle.aqfp_top.specs.Code.Sampling.{IsSampleOfBits, IsMakingFault}
 use Rattle.aqfp_top.specs.declared.sample.SampleResult.{SampleResult}
 use Rattle.aqfp_top.specs.declared.design.Chip.{Chip}
-use Rattle.aqfp_top.specs.declared.fault.Large.TheVariants.{Slots, Rows, Cells, Elements, Shapes}
+use Rattle.aqfp_top.specs.declared.fault.Large.TheVariants.{Slots, Rows, Cells, Elements, Shapes, Functions, Design}
 use Rattle.aqfp_top.specs.declared.fault.WriteCall.TheVariants.{Create, Append, Close, Out}
 use Rattle.aqfp_top.specs.declared.fault.Fault.{Fault}
-use Rattle.aqfp_top.specs.declared.fault.Fault.TheVariants.{WriteFault, BadBlif, TooLarge, Memory}
+use Rattle.aqfp_top.specs.declared.fault.Fault.TheVariants.{WriteFault, BadBlif, BadDesign, TooLarge, Memory}
 use Rattle.aqfp_top.proofs.EachFault.{each_out}
 use Rattle.aqfp_top.proofs.Staging.{past, found}
-use Rattle.aqfp_top.proofs.OneFault.{says_no_fault, one_netlist}
+use Rattle.aqfp_top.proofs.OneFault.{says_no_plain_fault, one_plain}
 
 -- Reading.
 
@@ -54,8 +54,8 @@ wide_words words bits inputs is wide same = subst (λ ws. All (λ word. length w
 
 -- Making.
 
-pub reading_answers : (bits : ℕ) (fault : Fault) → OrMemory (IsNetlistFault (adder bits)) fault → Answers (sample_stages bits) (Some fault)
-reading_answers bits fault bad = found (stage.Netlist (adder bits)) (stage.PlanWith (adder bits) library_a_view ∷ []) fault bad
+pub reading_answers : (bits : ℕ) (fault : Fault) → OrMemory (IsPlainFault (adder bits)) fault → Answers (sample_stages bits) (Some fault)
+reading_answers bits fault bad = found (stage.Plain (adder bits)) (stage.PlanWith (adder bits) library_a_view ∷ []) fault bad
 
 plan_finds : (bits : ℕ) (equations : NetView) (fault : Fault) → netlist.Says (adder bits) equations → OrMemory (IsPlanFault equations library_a_view) fault → OrMemory (Finds (stage.PlanWith (adder bits) library_a_view)) fault
 plan_finds bits equations (TooLarge what count) says bad = record { equations = equations; says = says; holds = bad }
@@ -64,15 +64,15 @@ plan_finds bits equations _ says bad = absurd bad
 
 pub planning_answers : (bits : ℕ) (equations : NetView) (cells : LibraryView) (fault : Fault) → netlist.Says (adder bits) equations → cells ≡ library_a_view → OrMemory (IsPlanFault equations cells) fault → Answers (sample_stages bits) (Some fault)
 planning_answers bits equations cells fault says is bad =
-    past (stage.Netlist (adder bits)) (stage.PlanWith (adder bits) library_a_view ∷ []) (Some fault) (says_no_fault (adder bits) equations says)
+    past (stage.Plain (adder bits)) (stage.PlanWith (adder bits) library_a_view ∷ []) (Some fault) (says_no_plain_fault (adder bits) equations says)
     (found (stage.PlanWith (adder bits) library_a_view) [] fault (plan_finds bits equations fault says (subst (λ l. OrMemory (IsPlanFault equations l) fault) is bad)))
 
 own_plan_none : (bits : ℕ) (equations : NetView) → netlist.Says (adder bits) equations → PassesNone equations library_a_view → FindsNone (stage.PlanWith (adder bits) library_a_view)
-own_plan_none bits equations says none fault bad = none fault (subst (λ n. IsPlanFault n library_a_view fault) (one_netlist (adder bits) bad.equations equations bad.says says) bad.holds)
+own_plan_none bits equations says none fault bad = none fault (subst (λ n. IsPlanFault n library_a_view fault) (one_plain (adder bits) bad.equations equations bad.says says) bad.holds)
 
 pub sample_is_well : (bits : ℕ) (equations : NetView) (cells : LibraryView) → netlist.Says (adder bits) equations → cells ≡ library_a_view → PassesNone equations cells → IsFirst (sample_stages bits) None
 sample_is_well bits equations cells says is none =
-    (says_no_fault (adder bits) equations says, (own_plan_none bits equations says (subst (λ l. PassesNone equations l) is none), tt))
+    (says_no_plain_fault (adder bits) equations says, (own_plan_none bits equations says (subst (λ l. PassesNone equations l) is none), tt))
 
 pub sample_is_made : (bits : ℕ) (equations : NetView) (cells : LibraryView) (chip : Chip) (sample : SampleResult) → netlist.Says (adder bits) equations → cells ≡ library_a_view → KeepsLimits equations cells → IsChipOf equations cells chip
     → sample.counts ≡ chip.counts → AllZip (IsAnswer equations) (eight bits) sample.answers → IsSampleOfBits bits sample
@@ -84,7 +84,7 @@ sample_is_made bits equations cells chip sample says is limits made counts answe
   are_answers = answers;
 }
 
-pub reading_fault : (bits : ℕ) (fault : Fault) → OrMemory (IsNetlistFault (adder bits)) fault → IsMakingFault fault
+pub reading_fault : (bits : ℕ) (fault : Fault) → OrMemory (IsPlainFault (adder bits)) fault → IsMakingFault fault
 reading_fault bits (BadBlif fault) bad = tt
 reading_fault bits Memory bad = tt
 reading_fault bits _ bad = absurd bad

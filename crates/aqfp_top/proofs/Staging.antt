@@ -9,10 +9,10 @@ use Rattle.aqfp_top.specs.Stages.{Stage, Finds, FindsNone, IsFirst, IsLoadFault,
 use Rattle.aqfp_top.specs.Due.{file_at, bytes_at}
 use Rattle.aqfp_top.specs.Code.Staging.{OrMemory}
 use Rattle.aqfp_top.specs.Code.Loading.{LoadsWord, IsFaultOfLoad}
-use Rattle.aqfp_top.specs.declared.fault.Large.TheVariants.{Slots, Rows, Cells, Elements, Shapes, Functions}
+use Rattle.aqfp_top.specs.declared.fault.Large.TheVariants.{Slots, Rows, Cells, Elements, Shapes, Functions, Design}
 use Rattle.aqfp_top.specs.declared.fault.WriteCall.{WriteCall}
 use Rattle.aqfp_top.specs.declared.fault.Fault.{Fault}
-use Rattle.aqfp_top.specs.declared.fault.Fault.TheVariants.{Usage, Absent, TooLong, ReadFault, WriteFault, BadBlif, BadLibrary, MissingCell, TooLarge, BadStream, RuleBroken, BadWords, Widths, Memory}
+use Rattle.aqfp_top.specs.declared.fault.Fault.TheVariants.{Usage, Absent, TooLong, ReadFault, WriteFault, BadBlif, BadDesign, BadLibrary, MissingCell, TooLarge, BadStream, RuleBroken, BadWords, Widths, Memory}
 use Rattle.aqfp_top.proofs.Files.{long_not_short, held_short}
 
 -- a stage that finds none leaves the answer to those after it
@@ -24,6 +24,7 @@ past s stages (Some (TooLong place taken)) none a = inr (none, a)
 past s stages (Some (ReadFault place)) none a = inr (none, a)
 past s stages (Some (WriteFault call)) none a = (none, a)
 past s stages (Some (BadBlif fault)) none a = inr (none, a)
+past s stages (Some (BadDesign line kind)) none a = inr (none, a)
 past s stages (Some (BadLibrary fault)) none a = inr (none, a)
 past s stages (Some (MissingCell kind)) none a = inr (none, a)
 past s stages (Some (TooLarge Slots count)) none a = inr (none, a)
@@ -31,6 +32,7 @@ past s stages (Some (TooLarge Rows count)) none a = inr (none, a)
 past s stages (Some (TooLarge Cells count)) none a = inr (none, a)
 past s stages (Some (TooLarge Elements count)) none a = inr (none, a)
 past s stages (Some (TooLarge Shapes count)) none a = inr (none, a)
+past s stages (Some (TooLarge Design count)) none a = inr (none, a)
 past s stages (Some (TooLarge Functions count)) none a = ((none, a.0), inr a.1)
 past s stages (Some (BadStream offset kind)) none a = inr (none, a)
 past s stages (Some (RuleBroken rule first second)) none a = inr (none, a)
@@ -48,6 +50,7 @@ no_read : (s : Stage) (place : ℕ) → Finds s (ReadFault place) → ⊥
 no_read stage.Form place found = found
 no_read (stage.Loading load file) place found = found
 no_read (stage.Netlist net) place found = found
+no_read (stage.Plain net) place found = found
 no_read (stage.Cells lib) place found = found
 no_read (stage.Plan net lib) place found = found.holds
 no_read (stage.PlanWith net cells) place found = found.holds
@@ -62,6 +65,7 @@ no_write : (s : Stage) (call : WriteCall) → Finds s (WriteFault call) → ⊥
 no_write stage.Form call found = found
 no_write (stage.Loading load file) call found = found
 no_write (stage.Netlist net) call found = found
+no_write (stage.Plain net) call found = found
 no_write (stage.Cells lib) call found = found
 no_write (stage.Plan net lib) call found = found.holds
 no_write (stage.PlanWith net cells) call found = found.holds
@@ -77,6 +81,7 @@ no_functions : (s : Stage) (count : ℕ) → Finds s (TooLarge Functions count) 
 no_functions stage.Form count found = found
 no_functions (stage.Loading load file) count found = found
 no_functions (stage.Netlist net) count found = found
+no_functions (stage.Plain net) count found = found
 no_functions (stage.Cells lib) count found = found
 no_functions (stage.Plan net lib) count found = found.holds
 no_functions (stage.PlanWith net cells) count found = found.holds
@@ -95,6 +100,7 @@ found s stages (TooLong place taken) finds = inl finds
 found s stages (ReadFault place) finds = absurd (no_read s place finds)
 found s stages (WriteFault call) finds = absurd (no_write s call finds)
 found s stages (BadBlif fault) finds = inl finds
+found s stages (BadDesign line kind) finds = inl finds
 found s stages (BadLibrary fault) finds = inl finds
 found s stages (MissingCell kind) finds = inl finds
 found s stages (TooLarge Slots count) finds = inl finds
@@ -102,6 +108,7 @@ found s stages (TooLarge Rows count) finds = inl finds
 found s stages (TooLarge Cells count) finds = inl finds
 found s stages (TooLarge Elements count) finds = inl finds
 found s stages (TooLarge Shapes count) finds = inl finds
+found s stages (TooLarge Design count) finds = inl finds
 found s stages (TooLarge Functions count) finds = absurd (no_functions s count finds)
 found s stages (BadStream offset kind) finds = inl finds
 found s stages (RuleBroken rule first second) finds = inl finds

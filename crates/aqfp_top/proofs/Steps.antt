@@ -74,14 +74,14 @@ pub loads_make : (fault : Fault) → IsFaultOfLoads build_loads fault → IsMake
 loads_make fault only = each_of_loads IsMakeFault build_loads (λ p l. l) (λ p t l. l) (λ p l. l) tt fault only
 
 pub wrong_make : (fault : Fault) → IsDesignFault fault → IsMakeFault fault
-wrong_make fault wrong = each_design IsMakeFault (λ f. tt) (λ f. tt) (λ k. tt) (λ n. tt) (λ n. tt) (λ n. tt) (λ n. tt) tt fault wrong
+wrong_make fault wrong = each_design IsMakeFault (λ f. tt) (λ l k. tt) (λ f. tt) (λ k. tt) (λ n. tt) (λ n. tt) (λ n. tt) (λ n. tt) (λ n. tt) tt fault wrong
 
 pub wrong_read : (Risen : Type 0) (fault : Fault) → IsDesignFault fault → IsReadOf Risen fault
-wrong_read Risen fault wrong = each_design (IsReadOf Risen) (λ f. tt) (λ f. tt) (λ k. tt) (λ n. tt) (λ n. tt) (λ n. tt) (λ n. tt) tt fault wrong
+wrong_read Risen fault wrong = each_design (IsReadOf Risen) (λ f. tt) (λ l k. tt) (λ f. tt) (λ k. tt) (λ n. tt) (λ n. tt) (λ n. tt) (λ n. tt) (λ n. tt) tt fault wrong
 
 pub wrong_failed : (name : Option (List ℕ)) (words : List (List ℕ)) (fault : Fault) → IsDesignFault fault → FailedLoad name words (Some fault)
 wrong_failed name words fault wrong =
-    each_design (λ f. FailedLoad name words (Some f)) (λ f. tt) (λ f. tt) (λ k. tt) (λ n. tt) (λ n. tt) (λ n. tt) (λ n. tt) tt fault wrong
+    each_design (λ f. FailedLoad name words (Some f)) (λ f. tt) (λ l k. tt) (λ f. tt) (λ k. tt) (λ n. tt) (λ n. tt) (λ n. tt) (λ n. tt) (λ n. tt) tt fault wrong
 
 -- what the texts may answer the whole build may answer
 design_answers : (files : Contents) (words : List (List ℕ)) (net lib : List ℕ) (answer : Option Fault) → ToldTexts (Some files) words net lib → length net ≤ net_limit → length lib ≤ lib_limit
@@ -132,19 +132,19 @@ pub ruleset makes = (loads_make, wrong_make, wrong_read, wrong_failed, told_wron
 -- Where a build ends before anything is stored, all stands as before.
 
 pub made_build : (fault : Fault) → IsMakeFault fault → IsBuildFault fault
-made_build fault only = each_made IsBuildFault (λ p l. l) (λ p t l. l) (λ p l. l) (λ f. tt) (λ f. tt) (λ k. tt) (λ n. tt) (λ n. tt) (λ n. tt) (λ n. tt) tt fault only
+made_build fault only = each_made IsBuildFault (λ p l. l) (λ p t l. l) (λ p l. l) (λ f. tt) (λ l k. tt) (λ f. tt) (λ k. tt) (λ n. tt) (λ n. tt) (λ n. tt) (λ n. tt) (λ n. tt) tt fault only
 
 pub made_counts : (before after : Counts) (fault : Fault) → IsMakeFault fault → IsReadOf (Rose before.reads after.reads) fault → HasFaults before after (Some fault)
 made_counts before after fault only =
-    each_made (λ f. IsReadOf (Rose before.reads after.reads) f → HasFaults before after (Some f)) (λ p l r. tt) (λ p t l r. tt) (λ p l r. r) (λ f r. tt) (λ f r. tt) (λ k r. tt) (λ n r. tt) (λ n r. tt) (λ n r. tt) (λ n r. tt) (λ r. tt) fault only
+    each_made (λ f. IsReadOf (Rose before.reads after.reads) f → HasFaults before after (Some f)) (λ p l r. tt) (λ p t l r. tt) (λ p l r. r) (λ f r. tt) (λ l k r. tt) (λ f r. tt) (λ k r. tt) (λ n r. tt) (λ n r. tt) (λ n r. tt) (λ n r. tt) (λ n r. tt) (λ r. tt) fault only
 
 pub made_stands : (before after : Option Contents) (words : List (List ℕ)) (fault : Fault) → IsMakeFault fault → after ≡ before → BuildStands before after words (Some fault)
 made_stands before after words fault only same =
-    each_made (λ f. BuildStands before after words (Some f)) (λ p l. same) (λ p t l. same) (λ p l. same) (λ f. same) (λ f. same) (λ k. same) (λ n. same) (λ n. same) (λ n. same) (λ n. same) (inl same) fault only
+    each_made (λ f. BuildStands before after words (Some f)) (λ p l. same) (λ p t l. same) (λ p l. same) (λ f. same) (λ l k. same) (λ f. same) (λ k. same) (λ n. same) (λ n. same) (λ n. same) (λ n. same) (λ n. same) (inl same) fault only
 
 pub made_prints : (told : Option Contents) (words : List (List ℕ)) (held : Option (List ℕ)) (fault : Fault) → IsMakeFault fault → BuildPrints told words held held (Some fault)
 made_prints told words held fault only =
-    each_made (λ f. BuildPrints told words held held (Some f)) (λ p l. refl) (λ p t l. refl) (λ p l. refl) (λ f. refl) (λ f. refl) (λ k. refl) (λ n. refl) (λ n. refl) (λ n. refl) (λ n. refl) (inl refl) fault only
+    each_made (λ f. BuildPrints told words held held (Some f)) (λ p l. refl) (λ p t l. refl) (λ p l. refl) (λ f. refl) (λ l k. refl) (λ f. refl) (λ k. refl) (λ n. refl) (λ n. refl) (λ n. refl) (λ n. refl) (λ n. refl) (inl refl) fault only
 
 -- what holds of the chip holds of what was built
 built_with : (P Q : NetView → LibraryView → Type 0) (told : Option Contents) (words : List (List ℕ)) → ((n : NetView) (l : LibraryView) → P n l → Q n l) → IsBuilt told words P → IsBuilt told words Q

@@ -5,7 +5,7 @@ use Rattle.aq_base.specs.Store.{Contents, with_file, gained}
 use Rattle.geom.specs.FlatForm.{flat_of}
 use Rattle.blif_read.specs.Parts.{NetView}
 use Rattle.blif_read.specs.Netlist.{IsNetlist}
-use Rattle.blif_read.specs.Says as netlist
+use Rattle.blif_flat.specs.DesignText as netlist
 use Rattle.blif_read.specs.Equations.{IsAnswer}
 use Rattle.cell_library.specs.Library.{LibraryView, limits_of}
 use Rattle.cell_library.specs.Says as library
@@ -27,7 +27,7 @@ pub record BuildsChip (held : Contents) (after : Option Contents) (words : List 
   pub lib_held : held (word_at words 2) ≡ Some lib
   pub equations : NetView
   pub cells : LibraryView
-  pub net_says : netlist.Says net equations
+  pub net_says : netlist.SaysNetlist net equations
   pub net_keeps : IsNetlist equations
   pub lib_says : library.Says lib cells
   -- the bytes of the drawn plan, which can be read back

@@ -10,7 +10,7 @@ use Rattle.cell_library.specs.Says as library
 use Rattle.layout_rules.specs.Rules.{KeepsRules}
 use Rattle.blif_read.specs.Parts.{NetView}
 use Rattle.blif_read.specs.Netlist.{IsNetlist}
-use Rattle.blif_read.specs.Says as netlist
+use Rattle.blif_flat.specs.DesignText as netlist
 use Rattle.blif_read.specs.Equations.{IsAnswer}
 use Rattle.chip_circuit.specs.Circuits.{CircuitView, KeepsFacts}
 use Rattle.shape_extract.specs.Extraction.{IsCircuitOf}
@@ -47,7 +47,7 @@ pub record ComparesChip (held : Contents) (words : List (List ℕ)) (before afte
   pub extracted : IsCircuitOf (wide_flat layout) circuit
   pub circuit_keeps : KeepsFacts circuit
   pub equations : NetView
-  pub net_says : netlist.Says net equations
+  pub net_says : netlist.SaysNetlist net equations
   pub net_keeps : IsNetlist equations
   pub verdict : Verdict
   pub holds : IsTrueOf circuit equations verdict

@@ -6,7 +6,7 @@ use Rattle.aq_base.specs.Store.{Contents, gained, GainsPrefix}
 use Rattle.circuit.specs.SameAnswers.{SameAnswers}
 use Rattle.blif_read.specs.Parts.{NetView}
 use Rattle.blif_read.specs.Netlist.{IsNetlist}
-use Rattle.blif_read.specs.Says as netlist
+use Rattle.blif_flat.specs.DesignText as netlist
 use Rattle.blif_read.specs.Equations as equations
 use Rattle.maj_mapping.specs.Plan.{map_net}
 use Rattle.chip_circuit.specs.Circuits.{CircuitView, KeepsFacts}
@@ -18,14 +18,14 @@ use Rattle.decide.specs.declared.verdict.Verdict.{Verdict}
 use Rattle.decide.specs.declared.verdict.Verdict.TheVariants.{Equal, Differ}
 use Rattle.chip_texts.specs.WordLines.{word_line}
 use Rattle.aqfp_top.specs.Checks.{ToldTexts, MakesCircuit}
-use Rattle.aqfp_top.specs.declared.fault.Large.TheVariants.{Functions}
+use Rattle.aqfp_top.specs.declared.fault.Large.TheVariants.{Functions, Design}
 use Rattle.aqfp_top.specs.declared.fault.Fault.{Fault}
 use Rattle.aqfp_top.specs.declared.fault.Fault.TheVariants.{WriteFault, TooLarge, Widths, Memory}
 
 -- the texts of a layout and of a library make this circuit, and that of a netlist says these equations
 pub record MakesBoth (gds lib net : List ℕ) (circuit : CircuitView) (view : NetView) : Type 0 where
   pub makes : MakesCircuit gds lib circuit
-  pub says : netlist.Says net view
+  pub says : netlist.SaysNetlist net view
 
 -- the two have these counts, and not as many inputs, or not as many outputs
 pub record HasWidths (gds lib net : List ℕ) (inputs outputs net_inputs net_outputs : ℕ) : Type 0 where

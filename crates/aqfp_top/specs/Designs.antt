@@ -2,7 +2,9 @@
 -- of the chip.
 use Rattle.std.specs.Prelude.{ℕ, ◌≡◌, ◌<◌, ◌≤◌, List, length}
 use Rattle.blif_read.specs.Parts.{NetView}
-use Rattle.blif_read.specs.Says as netlist
+use Rattle.blif_read.specs.Says as plain
+use Rattle.blif_flat.specs.DesignText as netlist
+use Rattle.blif_flat.specs.declared.design.FlatRefusal.TheVariants as refusal
 use Rattle.rowed.specs.PlacedNets.{PlacedView}
 use Rattle.cell_library.specs.Says as library
 use Rattle.cell_library.specs.Library.{LibraryView}
@@ -16,14 +18,9 @@ use Rattle.chip_plan.specs.Plans.{IsWithin, chip_of}
 use Rattle.chip_plan.specs.Refusals.{Refuses}
 use Rattle.chip_plan.specs.declared.refusal.PlanRefusal.TheVariants as plan
 use Rattle.aqfp_top.specs.declared.fault.Large.{Large}
-use Rattle.aqfp_top.specs.declared.fault.Large.TheVariants.{Slots, Rows, Cells, Elements, Shapes, Functions}
+use Rattle.aqfp_top.specs.declared.fault.Large.TheVariants.{Slots, Rows, Cells, Elements, Shapes, Functions, Design}
 use Rattle.aqfp_top.specs.declared.fault.Fault.{Fault}
-use Rattle.aqfp_top.specs.declared.fault.Fault.TheVariants.{BadBlif, BadLibrary, MissingCell, TooLarge}
-
--- the text says some netlist
-pub record SaysNetlist (text : List ℕ) : Type 0 where
-  pub net : NetView
-  pub says : netlist.Says text net
+use Rattle.aqfp_top.specs.declared.fault.Fault.TheVariants.{BadBlif, BadDesign, BadLibrary, MissingCell, TooLarge}
 
 -- the text says some library
 pub record SaysLibrary (text : List ℕ) : Type 0 where
@@ -32,7 +29,7 @@ pub record SaysLibrary (text : List ℕ) : Type 0 where
 
 -- the texts say this netlist and this library
 pub record SaysDesign (net lib : List ℕ) (equations : NetView) (cells : LibraryView) : Type 0 where
-  pub net_says : netlist.Says net equations
+  pub net_says : netlist.SaysNetlist net equations
   pub lib_says : library.Says lib cells
 
 -- the texts say a netlist and a library of which this holds
@@ -42,10 +39,10 @@ pub record HasDesign (net lib : List ℕ) (Holds : NetView → LibraryView → T
   pub says : SaysDesign net lib equations cells
   pub holds : Holds equations cells
 
--- the text says a netlist of which this holds
+-- the text, of one model without calls, says a netlist of which this holds
 pub record HasNetlist (net : List ℕ) (Holds : NetView → Type 0) : Type 0 where
   pub equations : NetView
-  pub says : netlist.Says net equations
+  pub says : plain.Says net equations
   pub holds : Holds equations
 
 -- the chip of the netlist keeps all limits
@@ -79,16 +76,24 @@ HasTooMuch equations cells Cells count = Refuses cells equations (plan.Cells cou
 HasTooMuch equations cells Elements count = HasManyElements equations cells count
 HasTooMuch equations cells Shapes count = ⊥
 HasTooMuch equations cells Functions count = ⊥
+HasTooMuch equations cells Design count = ⊥
 
 -- the first fault of a library's text: it is no TOML document, or its table or its laws have this fault
 abbrev pub IsCellFault : List ℕ → LibraryFault → Type 0
 IsCellFault text Text = library.IsRefused text
 IsCellFault text fault = library.HasFault text fault
 
--- a netlist's text has this fault
+-- this is wrong with a netlist's text first: a line or a cycle, or its models and calls, or their size
 abbrev pub IsNetlistFault : List ℕ → Fault → Type 0
-IsNetlistFault text (BadBlif fault) = netlist.Fault text fault
+IsNetlistFault text (BadBlif fault) = netlist.IsNetlistRefusal text (refusal.Text fault)
+IsNetlistFault text (BadDesign line kind) = netlist.IsNetlistRefusal text (refusal.Design line kind)
+IsNetlistFault text (TooLarge Design count) = netlist.IsNetlistRefusal text (refusal.TooMany count)
 IsNetlistFault text _ = ⊥
+
+-- this is wrong with a text of one model without calls first
+abbrev pub IsPlainFault : List ℕ → Fault → Type 0
+IsPlainFault text (BadBlif fault) = plain.Fault text fault
+IsPlainFault text _ = ⊥
 
 -- a library's text has this fault; that a kind of cell is missing has a status of its own
 abbrev pub IsCellsFault : List ℕ → Fault → Type 0

@@ -10,7 +10,7 @@ use Rattle.aqfp_top.specs.Stages.{Stage, IsFirst}
 use Rattle.aqfp_top.specs.Comparing.{HasManyFunctions}
 use Rattle.aqfp_top.specs.declared.words.Form.{Form}
 use Rattle.aqfp_top.specs.declared.words.Form.TheVariants.{Build, Verify, Trace, Equal, Write, Sample, Wrong}
-use Rattle.aqfp_top.specs.declared.fault.Large.TheVariants.{Functions}
+use Rattle.aqfp_top.specs.declared.fault.Large.TheVariants.{Functions, Design}
 use Rattle.aqfp_top.specs.declared.fault.Fault.{Fault}
 use Rattle.aqfp_top.specs.declared.fault.Fault.TheVariants.{TooLong, ReadFault, WriteFault, TooLarge, Memory}
 
@@ -61,7 +61,7 @@ write_stages files words =
     loading files words write_loads ++ circuit_stages (bytes_at files words 1) (bytes_at files words 2)
 
 abbrev pub sample_stages : ℕ → List Stage
-sample_stages bits = stage.Netlist (adder bits) ∷ stage.PlanWith (adder bits) library_a_view ∷ []
+sample_stages bits = stage.Plain (adder bits) ∷ stage.PlanWith (adder bits) library_a_view ∷ []
 
 -- the stages of words of a form
 abbrev pub stages_of : Form → Contents → List (List ℕ) → List Stage

@@ -3,10 +3,10 @@ use Rattle.std.specs.Prelude.{ℕ, ◌≡◌, List}
 use Rattle.aqfp_top.specs.Loads.{build_loads, check_loads, equal_loads, write_loads, IsLoaded, IsPast}
 use Rattle.aqfp_top.specs.Words.{IsBuild, IsCheck, IsEqual, IsWrite, IsSample, HasForm}
 use Rattle.aqfp_top.specs.Lines.{HasPlace}
-use Rattle.aqfp_top.specs.declared.fault.Large.TheVariants.{Shapes, Functions}
+use Rattle.aqfp_top.specs.declared.fault.Large.TheVariants.{Shapes, Functions, Design}
 use Rattle.aqfp_top.specs.declared.fault.WriteCall.TheVariants.{Out}
 use Rattle.aqfp_top.specs.declared.fault.Fault.{Fault}
-use Rattle.aqfp_top.specs.declared.fault.Fault.TheVariants.{Usage, Absent, TooLong, ReadFault, WriteFault, BadBlif, BadLibrary, MissingCell, TooLarge, BadStream, RuleBroken, BadWords, Widths, Memory}
+use Rattle.aqfp_top.specs.declared.fault.Fault.TheVariants.{Usage, Absent, TooLong, ReadFault, WriteFault, BadBlif, BadDesign, BadLibrary, MissingCell, TooLarge, BadStream, RuleBroken, BadWords, Widths, Memory}
 
 -- a build's: none of words, of a stream or of rules
 abbrev pub IsBuildFault : Fault → Type 0
@@ -15,6 +15,7 @@ IsBuildFault (TooLong place taken) = IsPast build_loads place taken
 IsBuildFault (ReadFault place) = IsLoaded build_loads place
 IsBuildFault (WriteFault call) = Unit {0}
 IsBuildFault (BadBlif fault) = Unit {0}
+IsBuildFault (BadDesign line kind) = Unit {0}
 IsBuildFault (BadLibrary fault) = Unit {0}
 IsBuildFault (MissingCell kind) = Unit {0}
 IsBuildFault (TooLarge Shapes count) = ⊥
@@ -45,10 +46,12 @@ IsEqualFault (TooLong place taken) = IsPast equal_loads place taken
 IsEqualFault (ReadFault place) = IsLoaded equal_loads place
 IsEqualFault (WriteFault call) = call ≡ Out
 IsEqualFault (BadBlif fault) = Unit {0}
+IsEqualFault (BadDesign line kind) = Unit {0}
 IsEqualFault (BadLibrary fault) = Unit {0}
 IsEqualFault (MissingCell kind) = Unit {0}
 IsEqualFault (TooLarge Shapes count) = Unit {0}
 IsEqualFault (TooLarge Functions count) = count ≡ 1000001
+IsEqualFault (TooLarge Design count) = Unit {0}
 IsEqualFault (BadStream offset kind) = Unit {0}
 IsEqualFault (RuleBroken rule first second) = Unit {0}
 IsEqualFault (Widths chip_inputs chip_outputs net_inputs net_outputs) = Unit {0}
@@ -75,6 +78,7 @@ IsSampleFault (WriteFault call) = call ≡ Out
 IsSampleFault (BadBlif fault) = Unit {0}
 IsSampleFault (TooLarge Shapes count) = ⊥
 IsSampleFault (TooLarge Functions count) = ⊥
+IsSampleFault (TooLarge Design count) = ⊥
 IsSampleFault (TooLarge what count) = Unit {0}
 IsSampleFault Memory = Unit {0}
 IsSampleFault _ = ⊥

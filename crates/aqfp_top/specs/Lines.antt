@@ -9,16 +9,18 @@ use Rattle.blif_read.specs.declared.netlist.LineKind.{LineKind}
 use Rattle.blif_read.specs.declared.netlist.LineKind.TheVariants.{Token, Unsupported, SecondModel, RowShape, RowValue, RowAlone, Duplicate, Undefined, NoOutputs}
 use Rattle.blif_read.specs.declared.netlist.BlifFault.{BlifFault}
 use Rattle.blif_read.specs.declared.netlist.BlifFault.TheVariants as blif
+use Rattle.blif_flat.specs.declared.design.FlatKind.{FlatKind}
+use Rattle.blif_flat.specs.declared.design.FlatKind.TheVariants as flat
 use Rattle.cell_library.specs.declared.fault.LibraryFault.{LibraryFault}
 use Rattle.cell_library.specs.declared.fault.LibraryFault.TheVariants as library
 use Rattle.gds_records.specs.declared.fault.StreamKind.{StreamKind}
 use Rattle.gds_records.specs.declared.fault.StreamKind.TheVariants as stream
 use Rattle.layout_rules.specs.RuleTable.{name_of}
 use Rattle.aqfp_top.specs.declared.fault.Large.{Large}
-use Rattle.aqfp_top.specs.declared.fault.Large.TheVariants.{Slots, Rows, Cells, Elements, Shapes, Functions}
+use Rattle.aqfp_top.specs.declared.fault.Large.TheVariants.{Slots, Rows, Cells, Elements, Shapes, Functions, Design}
 use Rattle.aqfp_top.specs.Words.{word_at}
 use Rattle.aqfp_top.specs.declared.fault.Fault.{Fault}
-use Rattle.aqfp_top.specs.declared.fault.Fault.TheVariants.{Usage, Absent, TooLong, ReadFault, WriteFault, BadBlif, BadLibrary, MissingCell, TooLarge, BadStream, RuleBroken, BadWords, Widths, Memory}
+use Rattle.aqfp_top.specs.declared.fault.Fault.TheVariants.{Usage, Absent, TooLong, ReadFault, WriteFault, BadBlif, BadDesign, BadLibrary, MissingCell, TooLarge, BadStream, RuleBroken, BadWords, Widths, Memory}
 
 -- the line about the file that a word names
 abbrev pub named : List (List ℕ) → ℕ → List ℕ → List ℕ
@@ -35,6 +37,16 @@ line_kind_text RowAlone = codes "row alone"
 line_kind_text Duplicate = codes "duplicate"
 line_kind_text Undefined = codes "undefined"
 line_kind_text NoOutputs = codes "no outputs"
+
+-- what is wrong with a line of a design
+abbrev pub design_kind_text : FlatKind → List ℕ
+design_kind_text flat.ModelTwice = codes "model twice"
+design_kind_text flat.UnknownModel = codes "unknown model"
+design_kind_text flat.Ports = codes "ports"
+design_kind_text flat.Duplicate = codes "duplicate"
+design_kind_text flat.Undefined = codes "undefined"
+design_kind_text flat.Recursive = codes "recursive"
+design_kind_text flat.NoOutputs = codes "no outputs"
 
 -- the signals, each after a blank
 abbrev pub signals_text : List (List ℕ) → List ℕ
@@ -70,6 +82,7 @@ large_text Cells = codes "cells"
 large_text Elements = codes "elements"
 large_text Shapes = codes "shapes"
 large_text Functions = codes "functions"
+large_text Design = codes "design"
 
 -- what is wrong with a stream
 abbrev pub stream_kind_text : StreamKind → List ℕ
@@ -98,6 +111,8 @@ line_of words (TooLong place taken) = named words place (codes ": too long\n")
 line_of words (ReadFault place) = named words place (codes ": read failed\n")
 line_of words (WriteFault call) = codes "aqfp: write failed\n"
 line_of words (BadBlif fault) = netlist_line fault
+line_of words (BadDesign line kind) =
+    codes "aqfp: line " ++ decimal line ++ codes ": subckt " ++ design_kind_text kind ++ codes "\n"
 line_of words (BadLibrary fault) = library_line fault
 line_of words (MissingCell kind) = missing_line kind
 line_of words (TooLarge what count) =

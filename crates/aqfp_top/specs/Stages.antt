@@ -2,19 +2,21 @@
 use Rattle.std.specs.Prelude.{ℕ, ◌≡◌, ◌⊎◌, ◌<◌, List, [], ◌∷◌, length, Option, Some, None, IsSomeAnd}
 use Rattle.cell_library.specs.Library.{LibraryView}
 use Rattle.aqfp_top.specs.Loads.{Load}
-use Rattle.aqfp_top.specs.Designs.{HasNetlist, HasDesign, IsNetlistFault, IsCellsFault, IsPlanFault}
+use Rattle.aqfp_top.specs.Designs.{HasNetlist, HasDesign, IsNetlistFault, IsPlainFault, IsCellsFault, IsPlanFault}
 use Rattle.aqfp_top.specs.Checks.{IsStreamFault, IsSizeFault, IsRuleFault, IsWordsFault}
 use Rattle.aqfp_top.specs.Comparing.{IsWidthsFault, HasManyFunctions}
-use Rattle.aqfp_top.specs.declared.fault.Large.TheVariants.{Functions}
+use Rattle.aqfp_top.specs.declared.fault.Large.TheVariants.{Functions, Design}
 use Rattle.aqfp_top.specs.declared.fault.Fault.{Fault}
 use Rattle.aqfp_top.specs.declared.fault.Fault.TheVariants.{Usage, Absent, TooLong, ReadFault, WriteFault, TooLarge, Memory}
 
 -- A stage, and what it judges: the words, which have no form; a file, if there is one under its name; or texts, which
--- are the bytes of files. A sample plans with a library that is known. A comparison finds no fault, and may give up.
+-- are the bytes of files. A sample has a text of one model without calls, and plans with a library that is known. A
+-- comparison finds no fault, and may give up.
 pub data Stage : Type 0 where
   Form : Stage
   Loading : (load : Load) (file : Option (List ℕ)) → Stage
   Netlist : (net : List ℕ) → Stage
+  Plain : (net : List ℕ) → Stage
   Cells : (lib : List ℕ) → Stage
   Plan : (net lib : List ℕ) → Stage
   PlanWith : (net : List ℕ) (cells : LibraryView) → Stage
@@ -42,6 +44,7 @@ abbrev pub Finds : Stage → Fault → Type 0
 Finds Form fault = IsFormFault fault
 Finds (Loading load file) fault = IsLoadFault load file fault
 Finds (Netlist net) fault = IsNetlistFault net fault
+Finds (Plain net) fault = IsPlainFault net fault
 Finds (Cells lib) fault = IsCellsFault lib fault
 Finds (Plan net lib) fault = HasDesign net lib (λ equations cells. IsPlanFault equations cells fault)
 Finds (PlanWith net cells) fault = HasNetlist net (λ equations. IsPlanFault equations cells fault)

@@ -1,7 +1,7 @@
 -- The status of an ending, a number for each fault.
 use Rattle.std.specs.Prelude.{ℕ, Option, Some, None}
 use Rattle.aqfp_top.specs.declared.fault.Fault.{Fault}
-use Rattle.aqfp_top.specs.declared.fault.Fault.TheVariants.{Usage, Absent, TooLong, ReadFault, WriteFault, BadBlif, BadLibrary, MissingCell, TooLarge, BadStream, RuleBroken, BadWords, Widths, Memory}
+use Rattle.aqfp_top.specs.declared.fault.Fault.TheVariants.{Usage, Absent, TooLong, ReadFault, WriteFault, BadBlif, BadDesign, BadLibrary, MissingCell, TooLarge, BadStream, RuleBroken, BadWords, Widths, Memory}
 
 abbrev pub status_of : Option Fault → ℕ
 status_of None = 0
@@ -18,4 +18,5 @@ status_of (Some (BadStream offset kind)) = 11
 status_of (Some (RuleBroken rule first second)) = 12
 status_of (Some (BadWords line)) = 13
 status_of (Some Memory) = 14
+status_of (Some (BadDesign line kind)) = 16
 status_of (Some (Widths chip_inputs chip_outputs net_inputs net_outputs)) = 17

@@ -1,6 +1,6 @@
 // From the texts of a netlist and of a library to the chip that is built.
 ghost use Rattle.std.specs.Prelude.{◌≡◌, ◌≤◌, ◌^◌, length, OnOk, IfOk, IfErr};
-ghost use Rattle.blif_read.specs.Says as netlist;
+ghost use Rattle.blif_flat.specs.DesignText as netlist;
 ghost use Rattle.cell_library.specs.Says as library;
 ghost use Rattle.geom.specs.Writable.{IsWritable};
 ghost use Rattle.layout_make.specs.Draw.{draw as drawing};
@@ -12,7 +12,8 @@ ghost use Rattle.aqfp_top.specs.Code.Staging.{OrMemory};
 
 use crate::counts::{ChipCounts, counts_of};
 use crate::fault::{Fault, Large};
-use blif_read::{BlifRefusal, Netlist, blif_read};
+use blif_flat::{FlatRefusal, read_design};
+use blif_read::Netlist;
 use cell_library::{Library, LibraryFault, LibraryRefusal, read_library};
 use chip_plan::{PlanRefusal, plan_chip, plan_laws};
 use geom::Layout;
@@ -27,16 +28,18 @@ pub struct Chip {
     pub counts: ChipCounts,
 }
 
-/// The netlist that the text says.
+/// The netlist that the text says, be it of one model or of several.
 pub fn read_netlist(alloc: Global, text: &[u8]) -> Result<Netlist, Fault>
-    requires { length text.now ≤ 2 ^ 28 }
-    ensures ok { IfOk result (λ net. netlist.Says text.now net) }
+    requires { length text.now ≤ 2 ^ 24 }
+    ensures ok { IfOk result (λ net. netlist.SaysNetlist text.now net) }
     ensures bad { IfErr result (OrMemory (IsNetlistFault text.now)) }
 {
-    match blif_read(alloc, text) {
+    match read_design(alloc, text) {
         Ok(net) => Ok(net),
-        Err(BlifRefusal::Bad(fault)) => Err(Fault::BadBlif { fault }),
-        Err(BlifRefusal::Memory) => Err(Fault::Memory),
+        Err(FlatRefusal::Text(fault)) => Err(Fault::BadBlif { fault }),
+        Err(FlatRefusal::Design { line, kind }) => Err(Fault::BadDesign { line, kind }),
+        Err(FlatRefusal::TooMany { size }) => Err(too_large(Large::Design, size)),
+        Err(FlatRefusal::Memory) => Err(Fault::Memory),
     }
 }
 
@@ -127,7 +130,7 @@ impl Chip {
     /// first.
     #[tactic(auto, using(crate::proofs::Designing::designs))]
     pub fn from_texts(alloc: Global, net: &[u8], lib: &[u8]) -> Result<Chip, Fault>
-        requires net { length net.now ≤ 2 ^ 28 }
+        requires net { length net.now ≤ 2 ^ 24 }
         requires lib { length lib.now ≤ 2 ^ 28 }
         ensures made { IfOk result (MakesChip net.now lib.now) }
         ensures writable { IfOk result (λ chip. IsWritable chip.layout) }

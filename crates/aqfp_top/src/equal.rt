@@ -129,7 +129,7 @@ fn verdict_of(alloc: Global, circuit: &Extracted, net: &Netlist) -> Result<Verdi
 #[tactic(auto, using(crate::proofs::Comparing::reads))]
 fn judge(alloc: Global, gds: Vec<u8>, lib: &[u8], text: &[u8]) -> Result<Verdict, Fault>
     requires lib { length lib.now ≤ 2 ^ 28 }
-    requires net { length text.now ≤ 2 ^ 28 }
+    requires net { length text.now ≤ 2 ^ 24 }
     ensures found { IfOk result (HasVerdict gds.items lib.now text.now) }
     ensures well { OnOk result (IsFirst (comparing_stages gds.items lib.now text.now) None) }
     ensures bad { IfErr result (λ fault. Answers (comparing_stages gds.items lib.now text.now) (Some fault)) }

@@ -1,6 +1,7 @@
 // What a command may answer in place of doing its work.
 ghost use Rattle.std.specs.Prelude.{◌≡◌, Some};
 
+use blif_flat::FlatKind;
 use blif_read::BlifFault;
 use cell_library::LibraryFault;
 use circuit::CellKind;
@@ -35,6 +36,8 @@ pub enum Large {
     Shapes,
     /// The subfunctions of two circuits that are compared, of which there are more than 1,000,000.
     Functions,
+    /// What an expanded design holds, of which there is more than 16,777,216.
+    Design,
 }
 
 /// Why a command did not do its work. A `word` is a place among the words, counted from 0.
@@ -62,6 +65,11 @@ pub enum Fault {
     /// The netlist's text says no netlist.
     BadBlif {
         fault: BlifFault,
+    },
+    /// The models and calls of the netlist's text have a fault in this line, counted from 1.
+    BadDesign {
+        line: u64,
+        kind: FlatKind,
     },
     /// The library's text says no library.
     BadLibrary {
@@ -123,6 +131,7 @@ impl Fault {
             Fault::RuleBroken { .. } => 12,
             Fault::BadWords { .. } => 13,
             Fault::Memory => 14,
+            Fault::BadDesign { .. } => 16,
             Fault::Widths { .. } => 17,
         }
     }

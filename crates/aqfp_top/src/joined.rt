@@ -6,7 +6,7 @@ ghost use Rattle.chip_texts.specs.WordsText.{SaysWords};
 ghost use Rattle.aqfp_top.specs.Designs.{SaysDesign, KeepsLimits};
 ghost use Rattle.aqfp_top.specs.Joined.{VerifiesAsNet};
 
-use blif_read::each_netlist;
+use blif_flat::each_design;
 use cell_library::each_library;
 use chip_plan::plan_laws;
 use chip_texts::answers_are_shown;
@@ -20,11 +20,11 @@ use shape_extract::one_circuit;
 /// What `build` stores, `verify` with the same library accepts, whatever words with a value for each input of the
 /// netlist are given, and prints as the chip's counts and the netlist's answer to each word.
 pub fn built_is_verified()
-    ensures { (net_text lib text : List ℕ) (net : NetView) (cells : LibraryView) → length net_text ≤ 2 ^ 28
+    ensures { (net_text lib text : List ℕ) (net : NetView) (cells : LibraryView) → length net_text ≤ 2 ^ 27
         → SaysDesign net_text lib net cells → KeepsLimits net cells → SaysWords net.inputs text
         → VerifiesAsNet net cells lib text }
 {
-    each_netlist();
+    each_design();
     each_library();
     plan_laws();
     drawing_laws();

@@ -2,7 +2,7 @@
 ghost use Rattle.std.specs.Prelude.{◌≡◌, ◌<◌, ◌⊎◌, ◌++◌, ℕ, length, Some};
 ghost use Rattle.aq_base.specs.Causes.{Rose};
 ghost use Rattle.aqfp_top.specs.Words.{spelled};
-ghost use Rattle.aqfp_top.specs.Lines.{line_of, netlist_line, library_line, missing_line, line_kind_text, large_text, stream_kind_text, named as named_line, Puts, HasPlace};
+ghost use Rattle.aqfp_top.specs.Lines.{line_of, netlist_line, library_line, missing_line, line_kind_text, design_kind_text, large_text, stream_kind_text, named as named_line, Puts, HasPlace};
 ghost use Rattle.cell_library.specs.Kinds.{key_of as kind_key};
 ghost use Rattle.layout_rules.specs.RuleTable.{name_of};
 ghost use Rattle.aqfp_top.specs.Code.Pieces.{pieces_text};
@@ -11,6 +11,7 @@ use crate::fault::{Fault, Large};
 use crate::pieces::{Piece, put_pieces};
 use crate::words::word;
 use aq_base::Sink;
+use blif_flat::FlatKind;
 use blif_read::{BlifFault, LineKind};
 use cell_library::LibraryFault;
 use circuit::CellKind;
@@ -30,6 +31,20 @@ fn line_kind(kind: &LineKind) -> &[u8]
         LineKind::Duplicate => b"duplicate",
         LineKind::Undefined => b"undefined",
         LineKind::NoOutputs => b"no outputs",
+    }
+}
+
+fn design_kind(kind: &FlatKind) -> &[u8]
+    ensures { result.now ≡ design_kind_text kind.now }
+{
+    match kind {
+        FlatKind::ModelTwice => b"model twice",
+        FlatKind::UnknownModel => b"unknown model",
+        FlatKind::Ports => b"ports",
+        FlatKind::Duplicate => b"duplicate",
+        FlatKind::Undefined => b"undefined",
+        FlatKind::Recursive => b"recursive",
+        FlatKind::NoOutputs => b"no outputs",
     }
 }
 
@@ -64,6 +79,7 @@ fn large(what: &Large) -> &[u8]
         Large::Elements => b"elements",
         Large::Shapes => b"shapes",
         Large::Functions => b"functions",
+        Large::Design => b"design",
     }
 }
 
@@ -193,6 +209,13 @@ fn pieces_of<'a>(words: &'a [String], fault: &'a Fault) -> [Piece<'a>; 5]
         Fault::ReadFault { word } => named(words, *word, b": read failed\n"),
         Fault::WriteFault { .. } => text(fault, b"aqfp: write failed\n"),
         Fault::BadBlif { fault } => netlist_pieces(fault),
+        Fault::BadDesign { line, kind } => [
+            Piece::Text(b"aqfp: line "),
+            Piece::Number(*line),
+            Piece::Text(b": subckt "),
+            Piece::Text(design_kind(kind)),
+            Piece::Text(b"\n"),
+        ],
         Fault::BadLibrary { fault } => library_pieces(fault),
         Fault::MissingCell { kind } => missing_pieces(kind),
         Fault::TooLarge { what, count } => [

@@ -1,5 +1,5 @@
 // `sample N`.
-ghost use Rattle.std.specs.Prelude.{◌≡◌, ◌≤◌, ◌*◌, Some, None, IfOk, IfErr, OnOk, OnErr, IsErrOf, All, length};
+ghost use Rattle.std.specs.Prelude.{◌≡◌, ◌≤◌, ◌*◌, ◌^◌, Some, None, IfOk, IfErr, OnOk, OnErr, IsErrOf, All, length};
 ghost use Rattle.std.specs.List.{AllZip};
 ghost use Rattle.std.specs.Result.{result_err};
 ghost use Rattle.aq_base.specs.Causes.{Rose};
@@ -7,7 +7,7 @@ ghost use Rattle.blif_read.specs.Says as netlist;
 ghost use Rattle.blif_read.specs.Equations.{IsAnswer};
 ghost use Rattle.sample_adder.specs.Adder.{adder};
 ghost use Rattle.sample_adder.specs.EightWords.{eight};
-ghost use Rattle.aqfp_top.specs.Designs.{IsNetlistFault};
+ghost use Rattle.aqfp_top.specs.Designs.{IsPlainFault};
 ghost use Rattle.aqfp_top.specs.Stages.{IsFirst, Answers};
 ghost use Rattle.aqfp_top.specs.Due.{sample_stages};
 ghost use Rattle.aqfp_top.specs.Faults.{IsSampleFault};
@@ -18,10 +18,10 @@ ghost use Rattle.aqfp_top.specs.Code.Sampling.{IsSampleOfBits, IsMakingFault};
 ghost use Rattle.aqfp_top.specs.declared.fault.Fault.{Fault};
 
 use crate::counts::ChipCounts;
-use crate::design::{Chip, read_netlist};
+use crate::design::Chip;
 use crate::fault::{Fault, WriteCall};
 use aq_base::{List, Memory, Sink, StoreRefusal};
-use blif_read::Netlist;
+use blif_read::{BlifRefusal, Netlist, blif_read};
 use cell_library::library_a;
 use circuit::{Word, answer_word};
 use sample_adder::{adder_text, print_sample, sample_laws, sample_words};
@@ -34,19 +34,32 @@ pub struct SampleResult {
     pub answers: List<Word>,
 }
 
+// The netlist that a text of one model without calls says.
+fn read_plain(alloc: Global, text: &[u8]) -> Result<Netlist, Fault>
+    requires { length text.now ≤ 2 ^ 28 }
+    ensures ok { IfOk result (λ net. netlist.Says text.now net) }
+    ensures bad { IfErr result (OrMemory (IsPlainFault text.now)) }
+{
+    match blif_read(alloc, text) {
+        Ok(net) => Ok(net),
+        Err(BlifRefusal::Bad(fault)) => Err(Fault::BadBlif { fault }),
+        Err(BlifRefusal::Memory) => Err(Fault::Memory),
+    }
+}
+
 // The adder of so many bits.
 #[tactic(auto, using(crate::proofs::Sampling::reads))]
 fn read_adder(alloc: Global, bits: u32) -> Result<Netlist, Fault>
     requires some { 1 ≤ bits }
     requires most { bits ≤ 64 }
     ensures ok { IfOk result (λ net. netlist.Says (adder bits) net) }
-    ensures bad { IfErr result (OrMemory (IsNetlistFault (adder bits))) }
+    ensures bad { IfErr result (OrMemory (IsPlainFault (adder bits))) }
 {
     sample_laws();
     let Ok(text) = adder_text(alloc, bits) else {
         return Err(Fault::Memory);
     };
-    read_netlist(alloc, &text)
+    read_plain(alloc, &text)
 }
 
 // The netlist's answer to each of the words.

@@ -5,7 +5,7 @@ use Rattle.std.proofs.lemmas.List.{length-map}
 use Rattle.blif_read.specs.Parts.{NetView}
 use Rattle.blif_read.specs.Netlist.{IsNetlist}
 use Rattle.blif_read.specs.Equations as equations
-use Rattle.blif_read.specs.OneAnswer.{some_valuation}
+use Rattle.blif_read.specs.Code.OneAnswer.{some_valuation}
 use Rattle.circuit.specs.PlainNets.{PlainView, AreGates, IsPlainNet, IsAnswer}
 use Rattle.circuit.specs.CellNets.{value}
 use Rattle.circuit.specs.Code.CellAnswers.{gates_read, value_fits}

@@ -4,6 +4,8 @@
 #[cfg(test)]
 mod calls;
 #[cfg(test)]
+mod designs;
+#[cfg(test)]
 mod fixtures;
 #[cfg(test)]
 mod large;

@@ -3,9 +3,8 @@ use crate::fixtures::{LIBRARY_A, Refusal, WIRE, edited, first_chip, is_refused, 
 use std::alloc::{AllocError, Global};
 use std::test::Fail;
 
-fn is_bad_netlist(alloc: Global, net: &str, told: &str) -> Result<bool, Fail> {
+fn is_bad_netlist(alloc: Global, net: &str, refusal: Refusal<'_>) -> Result<bool, Fail> {
     let files = store(alloc, net.as_bytes(), LIBRARY_A.as_bytes())?;
-    let refusal = Refusal { status: 6, told };
     is_refused(alloc, files, "build net lib out", refusal)
 }
 
@@ -14,7 +13,6 @@ fn netlists_are_refused(rt: HostRuntime) -> Result<(), Fail> {
     let cases = [
         ("", "line 0: no outputs"),
         ("1 1\n", "line 1: row alone"),
-        (".model a\n.model b\n", "line 2: second model"),
         (".end\n.inputs a\n", "line 2: unsupported"),
         (".inputs a\n.outputs a\n.names a\n1\n", "line 3: duplicate"),
         (".outputs y\n.names y\n1\n0\n", "line 4: row value"),
@@ -24,7 +22,60 @@ fn netlists_are_refused(rt: HostRuntime) -> Result<(), Fail> {
         (".outputs y\n.names \u{1}\n", "line 2: token"),
     ];
     for (net, told) in cases {
-        assert!(rt; is_bad_netlist(rt.alloc(), net, told)?, "{told}");
+        let refusal = Refusal { status: 6, told };
+        assert!(rt; is_bad_netlist(rt.alloc(), net, refusal)?, "{told}");
+    }
+    Ok(())
+}
+
+#[test]
+fn designs_are_refused(rt: HostRuntime) -> Result<(), Fail> {
+    let cases = [
+        (".model a\n.model b\n", 16, "line 0: subckt no outputs"),
+        (
+            ".model a\n.inputs x\n.outputs y\n.subckt a x=x y=y\n",
+            16,
+            "line 4: subckt recursive",
+        ),
+        (
+            ".subckt b o=y\n.outputs y\n",
+            16,
+            "line 1: subckt unknown model",
+        ),
+        (
+            ".outputs y\n.names y\n.model b\n.model b\n",
+            16,
+            "line 4: subckt model twice",
+        ),
+        (
+            ".subckt b y\n.outputs y\n.model b\n.outputs o\n.names o\n",
+            16,
+            "line 1: subckt ports",
+        ),
+        (
+            ".outputs y\n.subckt b o=y\n.names y\n.model b\n.outputs o\n.names o\n",
+            16,
+            "line 3: subckt duplicate",
+        ),
+        (
+            ".outputs y\n.subckt b i=x o=y\n.model b\n.inputs i\n.outputs o\n.names i o\n1 1\n",
+            16,
+            "line 2: subckt undefined",
+        ),
+        (
+            ".outputs y\n.subckt b i=y o=y\n.model b\n.inputs i\n.outputs o\n.names i o\n1 1\n",
+            6,
+            "line 2: cycle #1.i y #1.o",
+        ),
+        (
+            ".outputs y\n.subckt b o=y\n.latch a b 0\n",
+            6,
+            "line 3: unsupported",
+        ),
+    ];
+    for (net, status, told) in cases {
+        let refusal = Refusal { status, told };
+        assert!(rt; is_bad_netlist(rt.alloc(), net, refusal)?, "{told}");
     }
     Ok(())
 }

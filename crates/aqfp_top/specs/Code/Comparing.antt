@@ -6,9 +6,9 @@ use Rattle.aqfp_top.specs.Stages as stage
 use Rattle.aqfp_top.specs.Stages.{Stage}
 use Rattle.aqfp_top.specs.Comparing.{AreManyFunctions}
 use Rattle.aqfp_top.specs.Code.Checking.{circuit_then}
-use Rattle.aqfp_top.specs.declared.fault.Large.TheVariants.{Shapes, Functions}
+use Rattle.aqfp_top.specs.declared.fault.Large.TheVariants.{Shapes, Functions, Design}
 use Rattle.aqfp_top.specs.declared.fault.Fault.{Fault}
-use Rattle.aqfp_top.specs.declared.fault.Fault.TheVariants.{BadBlif, BadLibrary, MissingCell, TooLarge, BadStream, RuleBroken, Widths, Memory}
+use Rattle.aqfp_top.specs.declared.fault.Fault.TheVariants.{BadBlif, BadDesign, BadLibrary, MissingCell, TooLarge, BadStream, RuleBroken, Widths, Memory}
 
 -- all that comes before the counts of the chip and of the netlist are compared
 abbrev pub both_stages : List ℕ → List ℕ → List ℕ → List Stage
@@ -37,10 +37,12 @@ abbrev pub IsComparingFault : Fault → Type 0
 IsComparingFault (BadStream offset kind) = Unit {0}
 IsComparingFault (TooLarge Shapes count) = Unit {0}
 IsComparingFault (TooLarge Functions count) = count ≡ 1000001
+IsComparingFault (TooLarge Design count) = Unit {0}
 IsComparingFault (BadLibrary fault) = Unit {0}
 IsComparingFault (MissingCell kind) = Unit {0}
 IsComparingFault (RuleBroken rule first second) = Unit {0}
 IsComparingFault (BadBlif fault) = Unit {0}
+IsComparingFault (BadDesign line kind) = Unit {0}
 IsComparingFault (Widths chip_inputs chip_outputs net_inputs net_outputs) = Unit {0}
 IsComparingFault Memory = Unit {0}
 IsComparingFault _ = ⊥

@@ -11,9 +11,9 @@ use Rattle.chip_plan.specs.Plans.{chip_of}
 use Rattle.aqfp_top.specs.Designs.{SaysDesign, KeepsLimits, IsPlanFault, stream_of}
 use Rattle.aqfp_top.specs.declared.counts.ChipCounts.{ChipCounts}
 use Rattle.aqfp_top.specs.declared.design.Chip.{Chip}
-use Rattle.aqfp_top.specs.declared.fault.Large.TheVariants.{Shapes, Functions}
+use Rattle.aqfp_top.specs.declared.fault.Large.TheVariants.{Shapes, Functions, Design}
 use Rattle.aqfp_top.specs.declared.fault.Fault.{Fault}
-use Rattle.aqfp_top.specs.declared.fault.Fault.TheVariants.{BadBlif, BadLibrary, MissingCell, TooLarge, Memory}
+use Rattle.aqfp_top.specs.declared.fault.Fault.TheVariants.{BadBlif, BadDesign, BadLibrary, MissingCell, TooLarge, Memory}
 
 -- these are the counts of a placed net, which has some row
 pub record AreCountsOf (placed : PlacedView) (counts : ChipCounts) : Type 0 where
@@ -44,6 +44,7 @@ PassesNone equations cells = (fault : Fault) → ¬ IsPlanFault equations cells 
 -- the faults of reading a netlist and a library and of planning
 abbrev pub IsDesignFault : Fault → Type 0
 IsDesignFault (BadBlif fault) = Unit {0}
+IsDesignFault (BadDesign line kind) = Unit {0}
 IsDesignFault (BadLibrary fault) = Unit {0}
 IsDesignFault (MissingCell kind) = Unit {0}
 IsDesignFault (TooLarge Shapes count) = ⊥

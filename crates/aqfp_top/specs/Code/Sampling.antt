@@ -11,9 +11,9 @@ use Rattle.sample_adder.specs.EightWords.{eight}
 use Rattle.aqfp_top.specs.Designs.{KeepsLimits}
 use Rattle.aqfp_top.specs.Code.Designing.{AreCountsOf}
 use Rattle.aqfp_top.specs.declared.sample.SampleResult.{SampleResult}
-use Rattle.aqfp_top.specs.declared.fault.Large.TheVariants.{Shapes, Functions}
+use Rattle.aqfp_top.specs.declared.fault.Large.TheVariants.{Shapes, Functions, Design}
 use Rattle.aqfp_top.specs.declared.fault.Fault.{Fault}
-use Rattle.aqfp_top.specs.declared.fault.Fault.TheVariants.{BadBlif, TooLarge, Memory}
+use Rattle.aqfp_top.specs.declared.fault.Fault.TheVariants.{BadBlif, BadDesign, TooLarge, Memory}
 
 -- the counts of the chip of the adder, and the adder's answers
 pub record IsSampleOfBits (bits : ℕ) (sample : SampleResult) : Type 0 where
@@ -28,6 +28,7 @@ abbrev pub IsMakingFault : Fault → Type 0
 IsMakingFault (BadBlif fault) = Unit {0}
 IsMakingFault (TooLarge Shapes count) = ⊥
 IsMakingFault (TooLarge Functions count) = ⊥
+IsMakingFault (TooLarge Design count) = ⊥
 IsMakingFault (TooLarge what count) = Unit {0}
 IsMakingFault Memory = Unit {0}
 IsMakingFault _ = ⊥

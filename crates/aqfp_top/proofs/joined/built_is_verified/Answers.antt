@@ -18,5 +18,5 @@ returns c net_text lib text net cells short says limits words =
       shown_once = c.shown_once.ensures;
     } in
     let lawful = c.each_library.ensures lib cells says.lib_says in
-    let keeps = c.each_netlist.ensures net_text net short says.net_says in
+    let keeps = c.each_design.ensures.keeps net_text net short says.net_says in
     verified laws net cells lawful keeps limits lib text says.lib_says words
