@@ -25,11 +25,12 @@ fn help_has_each_command_and_each_status(rt: HostRuntime) -> Result<(), Fail> {
         "6  the netlist",
         "7  the library has",
         "8  the library lacks",
-        "10  the chip",
+        "10  the design",
         "11  the layout's bytes",
         "12  the layout breaks",
         "13  a line of WORDS",
         "14  out of memory",
+        "16  the models",
         "17  chip and netlist",
     ];
     for status in statuses {
