@@ -1,4 +1,5 @@
--- Formulas over the inputs a, b and c, and the recipe of a formula: it makes operands, left to right, before the operation.
+-- Formulas over the inputs a, b and c, and the recipe of a formula: it makes operands, left to right, before the
+-- operation.
 use Rattle.std.specs.Prelude.{List, [], ◌∷◌, ◌++◌, length}
 use Rattle.case_tables.specs.declared.recipe.Operand.{Operand}
 use Rattle.case_tables.specs.declared.recipe.Operand.TheVariants.{Zero, Step as Result}
@@ -6,7 +7,7 @@ use Rattle.case_tables.specs.declared.recipe.Step.{Step}
 use Rattle.case_tables.specs.declared.recipe.Step.TheVariants.{And, Or, Inv, Maj}
 use Rattle.case_tables.specs.RecipeView.{RecipeView}
 
--- `shared` stands for a formula that was made before
+-- a formula, in which `shared` stands for a formula that was made before
 pub data Formula : Type 0 where
   leaf : (o : Operand) → Formula
   shared : Formula
@@ -23,12 +24,16 @@ step r s = record { steps = r.steps ++ s ∷ []; out = Result (length r.steps) }
 unfoldable pub write : Operand → List Step → Formula → RecipeView
 write made steps (leaf o) = record { steps = steps; out = o }
 write made steps shared = record { steps = steps; out = made }
-write made steps (and x y) = let p = write made steps x in let q = write made p.steps y in step q (And p.out q.out)
-write made steps (or x y) = let p = write made steps x in let q = write made p.steps y in step q (Or p.out q.out)
+write made steps (and x y) =
+    let p = write made steps x in let q = write made p.steps y in step q (And p.out q.out)
+write made steps (or x y) =
+    let p = write made steps x in let q = write made p.steps y in step q (Or p.out q.out)
 write made steps (inv x) = let p = write made steps x in step p (Inv p.out)
 write made steps (maj x y z) =
-    let p = write made steps x in let q = write made p.steps y in let r = write made q.steps z in step r (Maj p.out q.out r.out)
+    let p = write made steps x in let q = write made p.steps y in let r = write made q.steps z in
+    step r (Maj p.out q.out r.out)
 
+-- the recipe of a formula without `shared`
 unfoldable pub recipe : Formula → RecipeView
 unfolding write
 recipe f = write Zero [] f

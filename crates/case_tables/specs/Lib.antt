@@ -3,4 +3,3 @@ pub mod Recipes
 pub mod Formulas
 pub mod Tables
 pub mod Entries
-pub mod Truths

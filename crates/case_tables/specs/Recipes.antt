@@ -1,6 +1,7 @@
 -- What a recipe computes, what each recipe keeps, and the truth number of a function: the row of its truth table read
 -- as a binary number, the first input being the lowest bit of a row's index.
-use Rattle.std.specs.Prelude.{ℕ, suc, ◌+◌, ◌*◌, ◌&&◌, ◌||◌, Bool, true, false, not, cond, ltb, List, [], ◌∷◌, ◌++◌, length, slice_index_or}
+use Rattle.std.specs.Prelude.{ℕ, suc, ◌+◌, ◌*◌, List, [], ◌∷◌, ◌++◌, length, slice_index_or}
+use Rattle.std.specs.Prelude.{◌&&◌, ◌||◌, Bool, true, false, not, cond, ltb}
 use Rattle.circuit.specs.Function.{majority}
 use Rattle.case_tables.specs.declared.recipe.Operand.{Operand}
 use Rattle.case_tables.specs.declared.recipe.Operand.TheVariants.{A, B, C, Zero, One, Step as Result}
@@ -16,6 +17,7 @@ pub record Named (X : Type 0) : Type 0 where
   pub zero_is : X
   pub one_is : X
 
+-- what an operand stands for, where the results of the steps before are told
 abbrev pub operand_is : {X : Type 0} → Named X → List X → Operand → X
 operand_is n done A = n.a
 operand_is n done B = n.b
@@ -24,6 +26,7 @@ operand_is n done Zero = n.zero_is
 operand_is n done One = n.one_is
 operand_is n done (Result k) = slice_index_or done k n.zero_is
 
+-- the value of a step, where those of the steps before are told
 abbrev pub step_value : Named Bool → List Bool → Step → Bool
 step_value n done (And x y) = operand_is n done x && operand_is n done y
 step_value n done (Or x y) = operand_is n done x || operand_is n done y
@@ -35,9 +38,11 @@ abbrev pub steps_values : Named Bool → List Bool → List Step → List Bool
 steps_values n done [] = done
 steps_values n done (s ∷ ss) = steps_values n (done ++ step_value n done s ∷ []) ss
 
+-- truth values of the inputs, beside those of the constants
 abbrev pub truths : Bool → Bool → Bool → Named Bool
 truths a b c = record { a = a; b = b; c = c; zero_is = false; one_is = true }
 
+-- the value of a recipe
 abbrev pub recipe_value : RecipeView → Bool → Bool → Bool → Bool
 recipe_value r a b c = operand_is (truths a b c) (steps_values (truths a b c) [] r.steps) r.out
 
@@ -46,18 +51,21 @@ abbrev pub number : List Bool → ℕ
 number [] = 0
 number (b ∷ bs) = cond b 1 0 + 2 * number bs
 
--- the columns of truth tables
+-- the column of the truth table of a function of two inputs
 abbrev pub values2 : (Bool → Bool → Bool) → List Bool
 values2 f = f false false ∷ f true false ∷ f false true ∷ f true true ∷ []
 
+-- the column of the truth table of a function of three inputs
 abbrev pub values3 : (Bool → Bool → Bool → Bool) → List Bool
 values3 f =
     f false false false ∷ f true false false ∷ f false true false ∷ f true true false
     ∷ f false false true ∷ f true false true ∷ f false true true ∷ f true true true ∷ []
 
+-- the truth number of a recipe as a function of two inputs
 abbrev pub truth_number2 : RecipeView → ℕ
 truth_number2 r = number (values2 (λ a b. recipe_value r a b false))
 
+-- the truth number of a recipe as a function of three inputs
 abbrev pub truth_number3 : RecipeView → ℕ
 truth_number3 r = number (values3 (recipe_value r))
 

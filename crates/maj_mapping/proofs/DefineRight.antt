@@ -9,8 +9,8 @@ use Rattle.circuit.specs.PlainNets.{AreGates}
 use Rattle.maj_mapping.specs.Values.{cover, HasPlanes}
 use Rattle.case_tables.specs.Recipes.{number, values2, values3, recipe_value}
 use Rattle.case_tables.specs.Tables.{two_recipe, three_recipe}
-use Rattle.case_tables.specs.Entries.{two_entry, three_entry}
-use Rattle.case_tables.specs.Truths.{two_value, three_value, below_16, below_256}
+use Rattle.case_tables.proofs.EntryLaws.{two_entry, three_entry}
+use Rattle.case_tables.proofs.TruthLaws.{two_value, three_value, below_16, below_256}
 use Rattle.maj_mapping.specs.Operations.{Made, keep}
 use Rattle.maj_mapping.specs.Covers.{define}
 use Rattle.maj_mapping.specs.Counts.{most_gates}

@@ -4,8 +4,9 @@ use Rattle.case_tables.specs.declared.recipe.Step.{Step}
 use Rattle.case_tables.specs.RecipeView.{RecipeView}
 use Rattle.case_tables.specs.Recipes.{truth_number3}
 use Rattle.case_tables.specs.Tables.{three_recipe_by, three_recipe, recipes_below}
-use Rattle.case_tables.specs.Entries.{IsTable, three_entry}
-use Rattle.case_tables.specs.Truths.{three_table, length_below}
+use Rattle.case_tables.specs.Entries.{IsTable}
+use Rattle.case_tables.proofs.EntryLaws.{three_entry}
+use Rattle.case_tables.proofs.TableLaws.{three_table, length_below}
 use Rattle.case_tables.proofs.three.three_inputs.Goals as goal
 
 one_more : (k : ℕ) (before after : List RecipeView) (steps : List Step) (out : Operand) → before ≡ recipes_below three_recipe k

@@ -4,7 +4,7 @@ use Rattle.case_tables.specs.Recipes.{truth_number2}
 use Rattle.case_tables.specs.Formulas.{write, recipe, recipe_with}
 use Rattle.case_tables.specs.Tables.{two_formula, two_formulas, two_recipe, recipes_below}
 use Rattle.case_tables.specs.Entries.{IsTable, KeepsToInputs}
-use Rattle.case_tables.specs.Truths.{two_table, two_keeps}
+use Rattle.case_tables.proofs.TableLaws.{two_table, two_keeps}
 use Rattle.case_tables.proofs.two.two_inputs.Goals as goal
 
 pub returns-clause-recipes : goal.returns-clause-recipes

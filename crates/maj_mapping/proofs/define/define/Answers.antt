@@ -1,5 +1,5 @@
 use Rattle.std.proofs.Common.{◌≡◌, ◌≢◌, ◌<◌, length, sym, ap, subst, arith, OnOk, IfOk, refl}
-use Rattle.case_tables.specs.Truths.{below_256}
+use Rattle.case_tables.proofs.TruthLaws.{below_256}
 use Rattle.maj_mapping.specs.Code.MakerView.{with_gates}
 use Rattle.maj_mapping.specs.Operations.{Made}
 use Rattle.maj_mapping.proofs.Defining.{define_none, define_one, define_two, define_three, define_more}
