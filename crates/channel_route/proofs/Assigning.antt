@@ -7,10 +7,10 @@ use Rattle.rowed.specs.declared.wire.Wire.{Wire}
 use Rattle.rowed.specs.Sorting.{Rising, EachPair}
 use Rattle.rowed.proofs.SortingLaws.{pair_at, passing-cons}
 use Rattle.channel_route.specs.declared.order.Numbered.{Numbered}
-use Rattle.channel_route.specs.Numbered.{low_of}
+use Rattle.channel_route.specs.Code.Numbered.{low_of}
 use Rattle.channel_route.specs.Crossing.{low, high, crosses, crossing, IsOver}
 use Rattle.channel_route.specs.Tracks.{lowest_free, ends_after, tracks, last_ends, last_column}
-use Rattle.channel_route.specs.Assigned.{wires_of, HaveTracks, AreAssigned}
+use Rattle.channel_route.specs.Code.Assigned.{wires_of, HaveTracks, AreAssigned}
 use Rattle.channel_route.proofs.Minima.{lowest_le}
 use Rattle.channel_route.proofs.Density.{held, one, held-after, crossing-cons, crossing-before, after-adds, most_held}
 

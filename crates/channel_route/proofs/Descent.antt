@@ -3,7 +3,7 @@ use Rattle.std.proofs.Common.{◌≡◌, ℕ, zero, suc, ◌+◌, ◌-◌, ◌<�
 use Rattle.std.specs.Prelude.{if◌then◌else◌}
 use Rattle.std.proofs.lemmas.List.{get_or_default}
 use Rattle.std.proofs.lemmas.Bool.{le-ltb, lt-ltb}
-use Rattle.channel_route.specs.Levels.{halves, LeadUp, AreLevels, lowest_level, top_level}
+use Rattle.channel_route.specs.Code.Levels.{halves, LeadUp, AreLevels, lowest_level, top_level}
 use Rattle.channel_route.specs.Tracks.{lowest_free}
 use Rattle.channel_route.proofs.Minima.{step_down, pair_long, below_within, none_below}
 use Rattle.channel_route.proofs.Raising.{top_of, top_is}

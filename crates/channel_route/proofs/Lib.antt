@@ -1,10 +1,11 @@
-pub mod Density
-pub mod TracksApart
-pub mod Fewest
-pub mod Minima
-pub mod Raising
-pub mod Descent
-pub mod Ordered
-pub mod Assigning
-pub mod Routed
-pub mod Crossed
+mod Density
+mod TracksApart
+mod Fewest
+mod Minima
+mod Raising
+mod Descent
+mod Ordered
+mod Assigning
+mod Routed
+mod Crossed
+pub mod FewCross

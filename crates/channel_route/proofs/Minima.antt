@@ -1,7 +1,7 @@
 -- One step down, and one step up, through levels of minima.
 use Rattle.std.proofs.Common.{◌≡◌, ℕ, zero, suc, ◌+◌, ◌/◌, ◌<◌, ◌≤◌, Bool, true, false, cond, ltb, min, List, [], ◌∷◌, ◌++◌, length, get_or, set, refl, sym, ap, subst, inl, inr, arith}
 use Rattle.std.proofs.lemmas.Bool.{cases_lt, le-ltb, lt-ltb}
-use Rattle.channel_route.specs.Levels.{halves, pair_least, put}
+use Rattle.channel_route.specs.Code.Levels.{halves, pair_least, put}
 use Rattle.channel_route.specs.Tracks.{lowest_free, ends_after}
 
 -- a step down: the first entry below c lies in the first pair whose minimum is, left or right

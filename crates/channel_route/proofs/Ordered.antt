@@ -8,9 +8,9 @@ use Rattle.rowed.specs.declared.wire.Wire.{Wire}
 use Rattle.rowed.specs.Sorting.{by_key, put_by, Rising, EachPair}
 use Rattle.rowed.proofs.SortingLaws.{by_key_from_sort}
 use Rattle.channel_route.specs.declared.order.Numbered.{Numbered}
-use Rattle.channel_route.specs.Numbered.{numbered, low_of, ordered}
+use Rattle.channel_route.specs.Code.Numbered.{numbered, low_of, ordered}
 use Rattle.channel_route.specs.Crossing.{low}
-use Rattle.channel_route.specs.Assigned.{wires_of}
+use Rattle.channel_route.specs.Code.Assigned.{wires_of}
 
 -- sorting commutes with the map to wires
 wires-put : (one : Numbered) (ones : List Numbered) → wires_of (put_by low_of one ones) ≡ put_by low one.wire (wires_of ones)

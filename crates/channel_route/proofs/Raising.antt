@@ -1,7 +1,7 @@
 -- An entry put at the lowest level, and then one at each level above it.
 use Rattle.std.proofs.Common.{◌≡◌, ℕ, zero, suc, ◌+◌, ◌-◌, ◌/◌, ◌<◌, ◌≤◌, List, [], ◌∷◌, ◌++◌, length, get_or, set, take, drop, refl, sym, ap, ◌∙◌, subst, arith, append_assoc, append-nil}
 use Rattle.std.proofs.lemmas.List.{take_all, drop_all, drop-set-lt, drop_more, take_more_set}
-use Rattle.channel_route.specs.Levels.{halves, pair_least, put, LeadUp, AreLevels, lowest_level, top_level}
+use Rattle.channel_route.specs.Code.Levels.{halves, pair_least, put, LeadUp, AreLevels, lowest_level, top_level}
 use Rattle.channel_route.proofs.Minima.{step_up, halves_reach, put_long}
 
 abbrev pub raised : List (List ℕ) → ℕ → ℕ → List (List ℕ)

@@ -8,11 +8,11 @@ use Rattle.rowed.specs.declared.wire.Wire.{Wire}
 use Rattle.rowed.specs.Sorting.{by_key, Rising, EachPair}
 use Rattle.rowed.proofs.SortingLaws.{by_key_all, all_by_key, by_key_pairs, by_key_length, by_key_passing, rank_is_place}
 use Rattle.channel_route.specs.declared.order.Numbered.{Numbered}
-use Rattle.channel_route.specs.Numbered.{numbered, low_of, ordered}
+use Rattle.channel_route.specs.Code.Numbered.{numbered, low_of, ordered}
 use Rattle.channel_route.specs.Crossing.{low, crosses, HasRoom, IsOver, EndsApart}
 use Rattle.channel_route.specs.Tracks.{tracks, last_ends, last_column, route_of, rank, tracks_used, column_of, AreTracks}
 use Rattle.channel_route.specs.Routes.{IsPlan}
-use Rattle.channel_route.specs.Assigned.{wires_of, HaveTracks, AreAssigned}
+use Rattle.channel_route.specs.Code.Assigned.{wires_of, HaveTracks, AreAssigned}
 use Rattle.channel_route.proofs.TracksApart.{rising_lows, route_is, track_at}
 use Rattle.channel_route.proofs.Ordered.{ordered_wires, length-numbered, numbers_from, numbers_apart, rising_ones, own_wires, number_of}
 

@@ -4,10 +4,11 @@ use Rattle.std.specs.List.{filter, AllByRecursion}
 use Rattle.rowed.specs.Sorting.{EachPair}
 use Rattle.rowed.specs.declared.wire.Wire.{Wire}
 
--- the end columns of a wire
+-- the lower end column of a wire
 abbrev pub low : Wire → ℕ
 low w = min w.from_column w.to_column
 
+-- the higher end column of a wire
 abbrev pub high : Wire → ℕ
 high w = max w.from_column w.to_column
 

@@ -2,8 +2,5 @@ pub mod Crossing
 pub mod ShortWires
 pub mod Tracks
 pub mod Routes
-pub mod Levels
-pub mod Numbered
-pub mod Assigned
 pub mod Examples
-pub mod FewCross
+pub mod Code

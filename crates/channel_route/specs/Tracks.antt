@@ -19,11 +19,12 @@ abbrev pub ends_after : ℕ → ℕ → List ℕ → List ℕ
 ends_after low high [] = high ∷ []
 ends_after low high (e ∷ es) = cond (nat_lt e low) (high ∷ es) (e ∷ ends_after low high es)
 
--- the tracks of wires that come by rising lower end column, and the ends after the last
+-- the tracks of wires that come by rising lower end column
 abbrev pub tracks : List ℕ → List Wire → List ℕ
 tracks ends [] = []
 tracks ends (w ∷ ws) = lowest_free (low w) ends ∷ tracks (ends_after (low w) (high w) ends) ws
 
+-- the ends after the last wire
 abbrev pub last_ends : List ℕ → List Wire → List ℕ
 last_ends ends [] = ends
 last_ends ends (w ∷ ws) = last_ends (ends_after (low w) (high w) ends) ws
@@ -32,12 +33,13 @@ last_ends ends (w ∷ ws) = last_ends (ends_after (low w) (high w) ends) ws
 abbrev pub tracks_used : List Wire → ℕ
 tracks_used ws = length (last_ends [] (by_key low ws))
 
--- the column where the last track is added; the given one, where none is
+-- the column where wires that come by rising lower end column add the last track; the given one, where they add none
 abbrev pub last_column : List ℕ → ℕ → List Wire → ℕ
 last_column ends column [] = column
 last_column ends column (w ∷ ws) =
     last_column (ends_after (low w) (high w) ends) (cond (lowest_free (low w) ends == length ends) (low w) column) ws
 
+-- the column where the last track is added; 0 without wires
 abbrev pub column_of : List Wire → ℕ
 column_of ws = last_column [] 0 (by_key low ws)
 
@@ -57,7 +59,7 @@ pub record AreApart (ws : List Wire) (track : List ℕ) (used : ℕ) : Type 0 wh
       → crosses x (slice_index_or ws i d) ≡ true → crosses x (slice_index_or ws j d) ≡ true
       → slice_index_or track i 0 ≡ slice_index_or track j 0 → ⊥
 
--- and as many wires as there are tracks cross the column
+-- each wire has a track so, and as many wires as there are tracks cross the column
 pub record AreTracks (ws : List Wire) (track : List ℕ) (used column : ℕ) : Type 0 where
   pub apart : AreApart ws track used
   pub density : IsDensity ws used column

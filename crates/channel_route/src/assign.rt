@@ -2,8 +2,8 @@
 ghost use Rattle.std.specs.Prelude.{◌≡◌, ℕ, ◌^◌, ◌<◌, length, IfOk};
 ghost use Rattle.std.specs.List.{All};
 ghost use Rattle.rowed.specs.Sorting.{EachPair, Rising};
-ghost use Rattle.channel_route.specs.Numbered.{low_of};
-ghost use Rattle.channel_route.specs.Assigned.{IsAssigned};
+ghost use Rattle.channel_route.specs.Code.Numbered.{low_of};
+ghost use Rattle.channel_route.specs.Code.Assigned.{IsAssigned};
 
 use crate::ends::Ends;
 use crate::order::{Numbered, higher_end, lower_end};

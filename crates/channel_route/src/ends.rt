@@ -1,7 +1,7 @@
 // The tracks of a channel while its wires are placed.
 ghost use Rattle.std.specs.Prelude.{◌≡◌, length, IfOk, OnOk, []};
 ghost use Rattle.channel_route.specs.Tracks.{lowest_free, ends_after};
-ghost use Rattle.channel_route.specs.Levels.{AreLevels, lowest_level};
+ghost use Rattle.channel_route.specs.Code.Levels.{AreLevels, lowest_level};
 
 use crate::levels::{entry_count, first_below, put_entry};
 use aq_base::{List, Memory};

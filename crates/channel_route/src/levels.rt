@@ -1,7 +1,7 @@
 // Levels of minima: the first entry below a bound is found, and an entry put, in as many steps as there are levels.
 ghost use Rattle.std.specs.Prelude.{◌≡◌, ◌+◌, ◌<◌, ◌≤◌, ◌/◌, length, slice_index_or, nat_lt, if◌then◌else◌, IfOk, OnOk};
 ghost use Rattle.channel_route.specs.Tracks.{lowest_free};
-ghost use Rattle.channel_route.specs.Levels.{pair_least, put, AreLevels, lowest_level, top_level};
+ghost use Rattle.channel_route.specs.Code.Levels.{pair_least, put, AreLevels, lowest_level, top_level};
 
 use aq_base::{List, Memory};
 use std::alloc::Global;

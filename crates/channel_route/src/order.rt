@@ -1,7 +1,7 @@
 // Wires by rising lower end column.
 ghost use Rattle.std.specs.Prelude.{◌≡◌, ◌^◌, ◌<◌, length, IfOk};
 ghost use Rattle.channel_route.specs.Crossing.{low, high};
-ghost use Rattle.channel_route.specs.Numbered.{ordered};
+ghost use Rattle.channel_route.specs.Code.Numbered.{ordered};
 
 use aq_base::Memory;
 use rowed::Wire;

@@ -1,4 +1,4 @@
-use Rattle.channel_route.specs.FewCross.{below_capacity, never_over}
+use Rattle.channel_route.proofs.FewCross.{below_capacity, never_over}
 use Rattle.channel_route.proofs.laws.never_full.Goals as goal
 
 pub returns-clause-below : goal.returns-clause-below

@@ -1,5 +1,5 @@
 use Rattle.std.proofs.Common.{rules, ℕ, List, length, ◌∙◌, ap}
-use Rattle.channel_route.specs.Levels.{top_level}
+use Rattle.channel_route.specs.Code.Levels.{top_level}
 use Rattle.channel_route.proofs.Raising.{raising_code, raising_all, levels_whole, levels_short, written}
 use Rattle.channel_route.proofs.levels.put_entry.Goals as goal
 

@@ -1,6 +1,6 @@
 use Rattle.std.proofs.Common.{rules}
 use Rattle.std.proofs.lemmas.List.Sorted.{answers_always}
-use Rattle.channel_route.specs.Numbered.{low_of}
+use Rattle.channel_route.specs.Code.Numbered.{low_of}
 use Rattle.channel_route.proofs.Ordered.{numbered_push, sorted_low}
 use Rattle.channel_route.proofs.order.by_lower_end.Goals as goal
 

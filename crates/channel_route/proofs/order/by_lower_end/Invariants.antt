@@ -1,5 +1,5 @@
 use Rattle.std.proofs.Common.{◌≡◌, take}
-use Rattle.channel_route.specs.Numbered.{numbered}
+use Rattle.channel_route.specs.Code.Numbered.{numbered}
 use Rattle.channel_route.proofs.order.by_lower_end.Given as goal
 
 abbrev pub invariant-loop-number : goal.invariant-loop-number

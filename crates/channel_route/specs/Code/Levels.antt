@@ -27,8 +27,10 @@ abbrev pub AreLevels : List (List ℕ) → Type 0
 AreLevels [] = Unit {0}
 AreLevels (xs ∷ ls) = LeadUp xs ls
 
+-- the lowest level, which has the entries
 abbrev pub lowest_level : List (List ℕ) → List ℕ
 lowest_level levels = slice_index_or levels 0 []
 
+-- the highest level, which has one entry
 abbrev pub top_level : List (List ℕ) → List ℕ
 top_level levels = slice_index_or levels (length levels - 1) []

@@ -10,6 +10,7 @@ abbrev pub numbered : ℕ → List Wire → List Numbered
 numbered n [] = []
 numbered n (w ∷ ws) = record { wire = w; number = n } ∷ numbered (suc n) ws
 
+-- the lower end column of a numbered wire
 abbrev pub low_of : Numbered → ℕ
 low_of one = low one.wire
 
