@@ -1,5 +1,5 @@
 -- Each recipe of the plan is an entry of its number, and keeps to its inputs: computed, once over each table.
-use Rattle.std.specs.Prelude.{◌≡◌, ℕ, zero, suc, ◌<◌, ◌≤◌, ◌&&◌, ◌||◌, Bool, true, false, not, eqb, leb, length, refl}
+use Rattle.std.specs.Prelude.{◌≡◌, ℕ, zero, suc, ◌<◌, ◌&&◌, ◌||◌, Bool, true, false, not, eqb, leb, length, refl}
 use Rattle.std.proofs.Common.{ap, ◌∙◌, arith, inl, inr}
 use Rattle.std.proofs.lemmas.Bool.{eqb-true, leb-true, and_parts, cases_eq}
 use Rattle.case_tables.specs.RecipeView.{RecipeView}

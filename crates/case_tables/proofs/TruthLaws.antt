@@ -26,7 +26,17 @@ below_16 a b c d = omega (arith, bit_below a, bit_below b, bit_below c, bit_belo
 
 pub below_256 : (a b c d e f g h : Bool) → number (a ∷ b ∷ c ∷ d ∷ e ∷ f ∷ g ∷ h ∷ []) < 256
 below_256 a b c d e f g h =
-    omega (arith, bit_below a, bit_below b, bit_below c, bit_below d, bit_below e, bit_below f, bit_below g, bit_below h)
+    omega (
+      arith,
+      bit_below a,
+      bit_below b,
+      bit_below c,
+      bit_below d,
+      bit_below e,
+      bit_below f,
+      bit_below g,
+      bit_below h,
+    )
 
 same_two : (f g : Bool → Bool → Bool) → values2 f ≡ values2 g → (a b : Bool) → f a b ≡ g a b
 same_two f g e false false = cc

@@ -33,13 +33,13 @@ positive : (n c x : ℕ) → x < n * c → 0 < c
 positive n zero x lt = absurd (omega (arith, lt))
 positive n (suc c) x lt = omega arith
 
--- the slot of a column
-slot_least : (slot columns column x : ℕ) → Within columns slot column → column ≤ x → slot ≤ x / columns
+-- the slot of a column is not above that of a later one, nor below that of an earlier one
+pub slot_least : (slot columns column x : ℕ) → Within columns slot column → column ≤ x → slot ≤ x / columns
 slot_least slot columns column x w le =
     (le-div_iff_mul-le {k = columns} {x = slot} {y = x} (positive (suc slot) columns column w.up_to)).1
     (omega (arith, w.from_on, le))
 
-slot_most : (slot columns column x : ℕ) → Within columns slot column → x ≤ column → x / columns ≤ slot
+pub slot_most : (slot columns column x : ℕ) → Within columns slot column → x ≤ column → x / columns ≤ slot
 slot_most slot columns column x w le =
     let some = positive (suc slot) columns column w.up_to in
     let h : x / columns < suc slot = div_below x columns (suc slot) some (omega (arith, w.up_to, le)) in

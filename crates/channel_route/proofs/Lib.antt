@@ -1,3 +1,5 @@
+pub mod FewCross
+mod PinsApart
 mod Density
 mod TracksApart
 mod Fewest
@@ -8,4 +10,3 @@ mod Ordered
 mod Assigning
 mod Routed
 mod Crossed
-pub mod FewCross

@@ -1,5 +1,6 @@
 pub mod Crossing
 pub mod ShortWires
+pub mod PinColumns
 pub mod Tracks
 pub mod Routes
 pub mod Examples

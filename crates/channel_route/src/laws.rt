@@ -4,6 +4,7 @@ ghost use Rattle.std.specs.List.{AllByRecursion};
 ghost use Rattle.rowed.specs.declared.wire.Wire.{Wire};
 ghost use Rattle.channel_route.specs.Crossing.{crossing, EndsApart, IsOver, numbers_crossing};
 ghost use Rattle.channel_route.specs.ShortWires.{FromApart, IsShort};
+ghost use Rattle.channel_route.specs.PinColumns.{IsPinned, ToApart};
 ghost use Rattle.channel_route.specs.Tracks.{route_of, tracks_used, column_of, AreApart, AreTracks};
 ghost use Rattle.channel_route.specs.Examples.{three};
 
@@ -13,6 +14,13 @@ pub fn tracks_are_fewest()
         → AreTracks ws (route_of ws) (tracks_used ws) (column_of ws) }
     ensures fewest { (ws : List Wire) (track : List ℕ) (used : ℕ) → EndsApart ws
         → AreApart ws track used → tracks_used ws ≤ used }
+{}
+
+/// Wires whose ends stand in the columns of their pins have distinct ends, as a route asks: lower ends in even columns
+/// and upper ends in odd ones, each in a slot of its own.
+pub fn ends_apart()
+    ensures { (columns : ℕ) (ws : List Wire) → AllByRecursion (IsPinned columns) ws
+        → FromApart ws → ToApart ws → EndsApart ws }
 {}
 
 /// Where every wire moves at most reach - 1 slots and begins in a slot of its own, no column is crossed by more than

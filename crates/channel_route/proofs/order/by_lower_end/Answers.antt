@@ -5,7 +5,8 @@ use Rattle.channel_route.proofs.Ordered.{numbered_push, sorted_low}
 use Rattle.channel_route.proofs.order.by_lower_end.Goals as goal
 
 pub loop-number-preserved : goal.loop-number-preserved
-loop-number-preserved c = numbered_push _ _ _ _ _ c.loop-number-test.true c.loop-number.invariant c.in_ok-push.ensures.items
+loop-number-preserved c = numbered_push _ _ _ _ _ c.loop-number-test.true c.loop-number.invariant
+    c.in_ok-push.ensures.items
 
 pub returns : goal.returns
 returns c = sorted_low _ _ _ _ c.loop-number.invariant c.loop-number-test.false
