@@ -5,13 +5,15 @@ use Rattle.case_tables.specs.declared.recipe.Operand.TheVariants.{A, B, C, Zero,
 use Rattle.case_tables.specs.RecipeView.{RecipeView}
 use Rattle.case_tables.specs.Formulas.{Formula, leaf, shared, and, or, inv, maj, recipe, recipe_with}
 
--- the inputs
+-- the first input
 abbrev a : Formula
 a = leaf A
 
+-- the second input
 abbrev b : Formula
 b = leaf B
 
+-- the third input
 abbrev c : Formula
 c = leaf C
 

@@ -35,18 +35,17 @@ use Rattle.chip_circuit.specs.Circuits.{feed_at}
 use Rattle.shape_extract.specs.Frames.{comes_before, HasPlace, AreFrames}
 use Rattle.shape_extract.specs.Extraction.{IsNamed, IsOutputPin, IsDrivenBy, FeedsPin, IsFeedAt, IsInPhase, IsCellFrom}
 use Rattle.shape_extract.specs.Extraction.{IsOutputFrom, is_wired, IsCircuitOf}
-use Rattle.layout_make.specs.Lawful.{IsLawful}
+use Rattle.layout_make.proofs.Lawful.{IsLawful}
 use Rattle.layout_make.specs.Lines as lines
 use Rattle.layout_make.specs.Sheet.{Tag, Frame, InPin, OutPin, Lead, Bar, Rise, Fall, Across, FromVia, ToVia, shape_of}
-use Rattle.layout_make.specs.Nets.{At}
-use Rattle.layout_make.specs.Spots.{spots, IsReady, input_port, PortAt}
+use Rattle.layout_make.specs.Tags.{At, sheet, tags}
+use Rattle.layout_make.specs.Spots.{spots, input_port, PortAt}
+use Rattle.layout_make.proofs.ReadyNets.{IsReady}
 use Rattle.layout_make.specs.declared.spots.Spot.{Spot}
 use Rattle.layout_make.specs.Channel.{in_column, out_column}
-use Rattle.layout_make.specs.Tags.{sheet, tags}
 use Rattle.layout_make.specs.Draw.{input_label, output_label}
 use Rattle.layout_make.specs.MayDraw.{MayDraw}
-use Rattle.layout_make.specs.KeptRules.{Is}
-use Rattle.layout_make.specs.Laws.{flat_shapes, FrameAt, InAt, OutAt}
+use Rattle.layout_make.specs.Laws.{Is, flat_shapes, FrameAt, InAt, OutAt}
 use Rattle.drawn_chip.specs.DrawnCircuit.{cells_below, source_feed, port_feed, drawn_cell, drawn_row, output_source}
 use Rattle.drawn_chip.specs.DrawnCircuit.{drawn_circuit}
 use Rattle.drawn_chip.proofs.FrameNumbers.{is_frame_of, first_place, frame_number, frame_row, frame_numbers}

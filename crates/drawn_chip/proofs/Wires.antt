@@ -19,13 +19,13 @@ use Rattle.rowed.specs.declared.source.Source.{Source}
 use Rattle.rowed.specs.declared.wire.Wire.{Wire}
 use Rattle.shape_extract.specs.Extraction.{is_wired}
 use Rattle.layout_make.specs.Channel.{channel}
-use Rattle.layout_make.specs.Lawful.{IsLawful}
+use Rattle.layout_make.proofs.Lawful.{IsLawful}
 use Rattle.layout_make.specs.Laws.{flat_shapes, InAt}
-use Rattle.layout_make.specs.Nets.{At}
+use Rattle.layout_make.specs.Tags.{At, sheet, tags, cell_tags, spot_tags, wire_tags, line_tags, row_tags}
 use Rattle.layout_make.specs.Sheet.{Tag, Frame, InPin, OutPin, Lead, Bar, Rise, Fall, Across, FromVia, ToVia, shape_of}
 use Rattle.layout_make.specs.Size.{fed, cell_feeds, row_feeds, wires_in}
-use Rattle.layout_make.specs.Spots.{spots, IsReady}
-use Rattle.layout_make.specs.Tags.{sheet, tags, cell_tags, spot_tags, wire_tags, line_tags, row_tags}
+use Rattle.layout_make.specs.Spots.{spots}
+use Rattle.layout_make.proofs.ReadyNets.{IsReady}
 use Rattle.layout_make.specs.declared.spots.Spot.{Spot}
 use Rattle.layout_make.proofs.FlatLaw.{flat_is_tags}
 use Rattle.layout_make.proofs.Joins.{to_map}

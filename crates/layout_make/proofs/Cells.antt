@@ -3,12 +3,13 @@ use Rattle.std.proofs.Common.{◌≡◌, ℕ, suc, ◌+◌, ◌*◌, ◌/◌, �
 use Rattle.std.proofs.Math.Nat.{mul-le-mul_right}
 use Rattle.std.proofs.lemmas.Bool.{cases_order, cases_lt}
 use Rattle.cell_library.specs.Library.{LibraryView, IsGiven, input_column_of, output_column_of}
-use Rattle.layout_make.specs.Lawful.{IsLawful}
+use Rattle.layout_make.proofs.Lawful.{IsLawful}
 use Rattle.circuit.specs.declared.cell_kind.CellKind.{CellKind}
 use Rattle.circuit.specs.CellKinds.{inputs_of, outputs_of, slots_of}
 use Rattle.layout_make.specs.Sheet.{Sheet, Tag, Area, Frame, InPin, OutPin, Rise, Fall, area, centre, lower_edge}
 use Rattle.layout_make.specs.Sheet.{track_of}
-use Rattle.layout_make.specs.Nets.{IsWire, At, IsDrawn, HasCells, input_at, output_at}
+use Rattle.layout_make.proofs.SheetKeeps.{IsWire, IsDrawn, HasCells, input_at, output_at}
+use Rattle.layout_make.specs.Tags.{At}
 use Rattle.layout_make.proofs.Columns.{centre_least, next_edge, edges_apart, track_above, track_below}
 use Rattle.layout_make.proofs.PinCounts.{inputs_slots, outputs_slots}
 

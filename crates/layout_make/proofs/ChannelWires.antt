@@ -14,8 +14,9 @@ use Rattle.rowed.specs.PlacedNets.{PlacedView}
 use Rattle.rowed.specs.Sorting.{EachPair, Rising}
 use Rattle.rowed.proofs.SortingLaws.{by_key_all, all_by_key, by_key_pairs}
 use Rattle.cell_library.specs.Library.{LibraryView, input_column_of, output_column_of}
-use Rattle.layout_make.specs.Lawful.{IsLawful}
-use Rattle.layout_make.specs.Spots.{Spot, spots, Packed, AreGiven, IsInput, IsReady}
+use Rattle.layout_make.proofs.Lawful.{IsLawful}
+use Rattle.layout_make.specs.Spots.{Spot, spots, AreGiven, IsInput}
+use Rattle.layout_make.proofs.ReadyNets.{Packed, IsReady}
 use Rattle.layout_make.specs.Channel.{in_column, out_column, wire_to, pin_wire, wires_into, from_of, channel}
 use Rattle.layout_make.proofs.Member.{In, in_head, not_in_nil, all_in, in_all}
 use Rattle.layout_make.proofs.PinCounts.{inputs_slots, outputs_slots, slots_most}

@@ -3,7 +3,8 @@ use Rattle.std.proofs.Common.{refl, rules}
 use Rattle.cell_library.specs.Laws.{IsLibrary}
 use Rattle.cell_library.specs.LibraryA.{library_a_view}
 use Rattle.layout_make.specs.MayDraw.{MayDraw}
-use Rattle.layout_make.specs.Chips.{first_placed, third_placed, crossing_placed, column_placed}
+use Rattle.layout_make.specs.Chips.{first_placed, third_placed}
+use Rattle.layout_make.specs.Code.TestChips.{crossing_placed, column_placed}
 use Rattle.layout_make.specs.Chips.{least_library, wide_library}
 use Rattle.layout_make.proofs.TestedDrawing.{may_draw_from_test}
 

@@ -4,19 +4,19 @@ use Rattle.std.specs.Prelude.{slice_get}
 use Rattle.std.specs.List.{flat_map}
 use Rattle.std.proofs.lemmas.Option.{same_Some}
 use Rattle.cell_library.specs.Library.{LibraryView}
-use Rattle.layout_make.specs.Lawful.{IsLawful}
+use Rattle.layout_make.proofs.Lawful.{IsLawful}
 use Rattle.circuit.specs.declared.cell_kind.CellKind.{CellKind}
 use Rattle.circuit.specs.CellKinds.{inputs_of, outputs_of}
 use Rattle.layout_make.specs.Sheet.{Tag, Frame, InPin, OutPin, Lead, Bar, Rise, Fall, Across, FromVia, ToVia}
 use Rattle.rowed.specs.PlacedNets.{PlacedView}
-use Rattle.layout_make.specs.Spots.{Spot, spots, Packed, AreGiven, IsReady}
+use Rattle.layout_make.specs.Spots.{Spot, spots, AreGiven}
+use Rattle.layout_make.proofs.ReadyNets.{Packed, IsReady}
 use Rattle.rowed.specs.declared.wire.Wire.{Wire}
 use Rattle.rowed.specs.Numbers.{numbers}
-use Rattle.layout_make.specs.Channel.{channel}
+use Rattle.layout_make.specs.Channel.{channel, in_column, out_column}
 use Rattle.layout_make.specs.Tags.{spot_tags, wire_tags, line_tags, row_tags, tags}
 use Rattle.layout_make.proofs.Member.{In, in_head, not_in_nil, in_append, in_map, in_flat_map, Once, once_nil}
 use Rattle.layout_make.proofs.Member.{once_cons, once_append, once_flat_map, once_map, once_count, all_in}
-use Rattle.layout_make.specs.Channel.{in_column, out_column}
 use Rattle.layout_make.proofs.ChannelWires.{PinsApart, channel_pairs, from_tells, in_tells, out_tells, slot_tells}
 use Rattle.layout_make.proofs.PinCounts.{slots_some}
 use Rattle.layout_make.proofs.Origins.{CellPart, TheFrame, AnInput, AnOutput, WirePart, TheRise, TheFall, TheAcross}

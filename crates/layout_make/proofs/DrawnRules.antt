@@ -7,16 +7,18 @@ use Rattle.std.proofs.lemmas.Int.{ints}
 use Rattle.std.specs.Int.{int_min, int_max}
 use Rattle.geom.specs.Rectangle.{common}
 use Rattle.cell_library.specs.Library.{limits_of}
-use Rattle.layout_make.specs.Lawful.{IsLawful}
+use Rattle.layout_make.proofs.Lawful.{IsLawful}
 use Rattle.circuit.specs.declared.cell_kind.CellKind.{CellKind}
 use Rattle.geom.specs.Rectangle.{Rectangle, overlap, within, width, height, grown}
 use Rattle.geom.specs.declared.shapes.Shape.{Shape}
 use Rattle.layout_rules.specs.GeometryRules.{are_too_close, is_below, is_too_small}
 use Rattle.layout_make.specs.Sheet.{Sheet, Tag, Area, Frame, InPin, OutPin, Lead, Bar, Rise, Fall, Across, FromVia}
 use Rattle.layout_make.specs.Sheet.{ToVia, area, layer_of, rect_of, place_of, shape_of, lower_edge}
-use Rattle.layout_make.specs.Nets.{IsWire, Fits, At, Stands, IsDrawn, HasCells}
-use Rattle.layout_make.specs.KeptRules.{Is, G1, G2, G3, G4, G5, Encloses, holds_common, OverPin}
-use Rattle.layout_make.specs.Layered.{is_pin}
+use Rattle.layout_make.proofs.SheetKeeps.{IsWire, Fits, Stands, IsDrawn, HasCells}
+use Rattle.layout_make.specs.Tags.{At}
+use Rattle.layout_make.specs.Laws.{Is}
+use Rattle.layout_make.proofs.KeptRules.{G1, G2, G3, G4, G5, Encloses, holds_common, OverPin}
+use Rattle.layout_make.proofs.Layered.{is_pin}
 use Rattle.layout_make.proofs.Joins.{from_map, to_map, shapes_of}
 use Rattle.layout_make.proofs.Spaced.{difference, spaced}
 use Rattle.layout_make.proofs.ShapeSizes.{Sized, rise_sized, fall_sized, across_sized, from_sized, to_sized}

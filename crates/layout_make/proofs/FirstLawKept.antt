@@ -6,16 +6,17 @@ use Rattle.std.proofs.Math.Nat.{mul-le-mul_right}
 use Rattle.std.proofs.lemmas.Option.{same_Some}
 use Rattle.std.proofs.lemmas.Bool.Decides.{nat_tests}
 use Rattle.cell_library.specs.Library.{LibraryView}
-use Rattle.layout_make.specs.Lawful.{IsLawful}
+use Rattle.layout_make.proofs.Lawful.{IsLawful}
 use Rattle.circuit.specs.declared.cell_kind.CellKind.{CellKind}
 use Rattle.circuit.specs.CellKinds.{slots_of}
 use Rattle.geom.specs.declared.shapes.Shape.{Shape}
 use Rattle.layout_make.specs.Sheet.{Tag, Frame, shape_of, place_of, lower_edge}
-use Rattle.layout_make.specs.Nets.{At, IsDrawn}
+use Rattle.layout_make.specs.Tags.{At, sheet, tags}
+use Rattle.layout_make.proofs.SheetKeeps.{IsDrawn}
 use Rattle.rowed.specs.PlacedNets.{PlacedView}
-use Rattle.layout_make.specs.Spots.{Spot, spots, IsReady, HasPorts, input_port, output_port}
+use Rattle.layout_make.specs.Spots.{Spot, spots, input_port, output_port}
+use Rattle.layout_make.proofs.ReadyNets.{IsReady, HasPorts}
 use Rattle.rowed.specs.RowNets.{last_of}
-use Rattle.layout_make.specs.Tags.{sheet, tags}
 use Rattle.rowed.specs.Numbers.{numbers}
 use Rattle.layout_rules.specs.Rows.{AreRows}
 use Rattle.layout_make.specs.Lines.{E2}

@@ -9,7 +9,7 @@ use Rattle.geom.specs.declared.shapes.Shape.{Shape}
 use Rattle.geom.specs.FlatForm.{moved_shape}
 use Rattle.rowed.specs.Numbers.{numbers}
 use Rattle.cell_library.specs.Library.{input_column_of, output_column_of}
-use Rattle.layout_make.specs.Lawful.{IsLawful}
+use Rattle.layout_make.proofs.Lawful.{IsLawful}
 use Rattle.layout_make.specs.Sheet.{Sheet, Tag, Frame, InPin, OutPin, shape_of, lower_edge}
 use Rattle.layout_make.specs.Tags.{cell_tags}
 use Rattle.layout_make.specs.Draw.{alone}

@@ -21,7 +21,7 @@ use Rattle.rowed.specs.PlacedNets.{PlacedView}
 use Rattle.rowed.specs.Numbers.{numbers}
 use Rattle.cell_library.specs.Kinds.{all_kinds}
 use Rattle.cell_library.specs.Library.{LibraryView}
-use Rattle.layout_make.specs.Lawful.{IsLawful}
+use Rattle.layout_make.proofs.Lawful.{IsLawful}
 use Rattle.layout_make.specs.Sheet.{Sheet, Tag, shape_of, lower_edge}
 use Rattle.layout_make.specs.Spots.{Spot, spots}
 use Rattle.layout_make.specs.Channel.{channel}

@@ -3,14 +3,16 @@ use Rattle.std.proofs.Common.{◌≡◌, ℕ, zero, suc, ◌+◌, ◌<◌, min, 
 use Rattle.std.proofs.Common.{arith, List, [], ◌∷◌, map, Some}
 use Rattle.std.specs.Prelude.{slice_get}
 use Rattle.std.proofs.lemmas.Option.{same_Some}
-use Rattle.layout_make.specs.Lawful.{IsLawful}
+use Rattle.layout_make.proofs.Lawful.{IsLawful}
 use Rattle.geom.specs.Rectangle.{Rectangle, share_point}
 use Rattle.geom.specs.declared.shapes.Shape.{Shape}
-use Rattle.layout_make.specs.Layered.{conduct}
+use Rattle.layout_make.proofs.Layered.{conduct}
 use Rattle.layout_rules.specs.Touch.{touch, Touching, IsPath, Joined}
 use Rattle.layout_make.specs.Sheet.{Sheet, Tag, InPin, OutPin, Rise, Fall, Across, FromVia, ToVia, area, layer_of}
 use Rattle.layout_make.specs.Sheet.{rect_of, place_of, shape_of, centre, lower_edge, track_of}
-use Rattle.layout_make.specs.Nets.{Into, net_of, output_net, IsWire, At, IsDrawn}
+use Rattle.layout_make.specs.Nets.{Into, net_of, output_net}
+use Rattle.layout_make.proofs.SheetKeeps.{IsWire, IsDrawn}
+use Rattle.layout_make.specs.Tags.{At}
 use Rattle.layout_make.proofs.Columns.{centre_rises, track_above, track_below}
 use Rattle.layout_make.proofs.Touches.{touch_is_one_net}
 use Rattle.layout_make.proofs.Spaced.{Holds, held_shared}

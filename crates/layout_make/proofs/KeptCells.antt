@@ -8,8 +8,8 @@ use Rattle.layout_rules.specs.Layers.{is_frame, is_pin}
 use Rattle.layout_rules.specs.Pins.{lies_in, LiesIn, IsPinOf}
 use Rattle.layout_rules.specs.Reports.{ReportsNone}
 use Rattle.layout_rules.specs.CircuitRules.{HasPins, CellsBroken}
-use Rattle.layout_make.specs.Layered as layered
-use Rattle.layout_make.specs.KeptRules as kept
+use Rattle.layout_make.proofs.Layered as layered
+use Rattle.layout_make.proofs.KeptRules as kept
 
 -- a pin in a frame, in both forms
 

@@ -18,8 +18,8 @@ use Rattle.layout_rules.specs.GeometryRules.{EnclosureBroken, is_at_pin, CoverBr
 use Rattle.geom.specs.Rectangle.{common}
 use Rattle.layout_rules.specs.LengthRule.{length_in, net_length, LengthsBroken}
 use Rattle.cell_library.specs.Library.{LibraryView, limits_of}
-use Rattle.layout_make.specs.KeptRules.{G1, G2, G3, G4, G5, Encloses, OverPin}
-use Rattle.layout_make.specs.Code.Lengths.{weights, total, AreShort}
+use Rattle.layout_make.proofs.KeptRules.{G1, G2, G3, G4, G5, Encloses, OverPin}
+use Rattle.layout_make.proofs.Lengths.{weights, total, AreShort}
 
 pub sizes_kept : (l : LibraryView) (shapes : List Shape) → G1 l shapes → ReportsNone (SizesBroken (limits_of l) shapes)
 sizes_kept l shapes g a b (p, e) = both_ways (is_too_small (limits_of l) p.shape) (g a p.shape p.shape_is) p.passes_so

@@ -23,16 +23,15 @@ use Rattle.rowed.specs.PlacedNets.{PlacedView}
 use Rattle.rowed.specs.Numbers.{numbers}
 use Rattle.rowed.specs.RowNets.{last_of}
 use Rattle.cell_library.specs.Library.{LibraryView}
-use Rattle.layout_make.specs.Lawful.{IsLawful}
+use Rattle.layout_make.proofs.Lawful.{IsLawful}
 use Rattle.layout_make.specs.Sheet.{Tag, Frame, InPin, OutPin, shape_of, lower_edge}
-use Rattle.layout_make.specs.Nets.{At}
-use Rattle.layout_make.specs.Spots.{Spot, spots, IsReady, has_port, PortAt, input_port, output_port}
+use Rattle.layout_make.specs.Tags.{At, sheet, tags}
+use Rattle.layout_make.specs.Spots.{Spot, spots, has_port, PortAt, input_port, output_port}
+use Rattle.layout_make.proofs.ReadyNets.{IsReady}
 use Rattle.layout_make.specs.Channel.{in_column, out_column}
-use Rattle.layout_make.specs.Tags.{sheet, tags}
 use Rattle.layout_make.specs.Draw.{labels, input_label, output_label}
 use Rattle.layout_make.specs.Marks.{MarksOne}
-use Rattle.layout_make.specs.KeptRules.{Is}
-use Rattle.layout_make.specs.Laws.{flat_shapes, InAt, OutAt}
+use Rattle.layout_make.specs.Laws.{Is, flat_shapes, InAt, OutAt}
 use Rattle.layout_make.proofs.FlatLaw.{flat_is_tags, labels_flat}
 use Rattle.layout_make.proofs.Joins.{to_map}
 use Rattle.layout_make.proofs.Counting.{count_numbered}

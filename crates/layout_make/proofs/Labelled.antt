@@ -6,21 +6,21 @@ use Rattle.std.proofs.lemmas.Option.{same_Some}
 use Rattle.std.proofs.lemmas.Bool.{cases_order, and_parts}
 use Rattle.std.proofs.lemmas.Bool.Decides.{nat_tests}
 use Rattle.cell_library.specs.Library.{LibraryView, input_column_of, output_column_of}
-use Rattle.layout_make.specs.Lawful.{IsLawful}
+use Rattle.layout_make.proofs.Lawful.{IsLawful}
 use Rattle.circuit.specs.declared.cell_kind.CellKind.{CellKind}
 use Rattle.circuit.specs.declared.cell_kind.CellKind.TheVariants.{Buffer}
 use Rattle.circuit.specs.CellKinds.{inputs_of, outputs_of}
 use Rattle.geom.specs.declared.shapes.Shape.{Shape}
 use Rattle.layout_make.specs.Sheet.{Tag, InPin, OutPin, rect_of, place_of, shape_of, upright, centre, lower_edge}
-use Rattle.layout_make.specs.Nets.{At}
+use Rattle.layout_make.specs.Tags.{At, sheet, tags}
 use Rattle.rowed.specs.PlacedNets.{PlacedView}
 use Rattle.rowed.specs.declared.row_cell.RowCell.{RowCell}
-use Rattle.layout_make.specs.Spots.{Spot, spots, IsReady, has_port, PortAt, HasPorts, input_port, output_port}
+use Rattle.layout_make.specs.Spots.{Spot, spots, has_port, PortAt, input_port, output_port}
+use Rattle.layout_make.proofs.ReadyNets.{IsReady, HasPorts}
 use Rattle.geom.specs.Rectangle.{holds_point}
 use Rattle.layout_rules.specs.Labels.{marks}
 use Rattle.layout_make.specs.Marks.{MarksOne}
 use Rattle.layout_make.specs.Laws.{flat_shapes, InAt, OutAt}
-use Rattle.layout_make.specs.Tags.{sheet, tags}
 use Rattle.rowed.specs.RowNets.{last_of}
 use Rattle.layout_make.specs.Draw
 use Rattle.layout_make.proofs.Columns.{centres_apart, next_edge, edges_apart, edge_zero}

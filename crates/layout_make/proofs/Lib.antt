@@ -1,54 +1,60 @@
-pub mod Comparing
-pub mod PinCounts
-pub mod Columns
-pub mod Posts
-pub mod Stands
-pub mod Touches
-pub mod Spaced
+pub mod Lawful
+mod Layered
+mod KeptRules
+mod SheetKeeps
+pub mod ReadyNets
+mod Lengths
+mod Comparing
+mod PinCounts
+mod Columns
+mod Posts
+mod Stands
+mod Touches
+mod Spaced
 pub mod Joins
-pub mod ShapeSizes
-pub mod Cells
-pub mod LineShapes
-pub mod LineRule
-pub mod LinePhase
+mod ShapeSizes
+mod Cells
+mod LineShapes
+mod LineRule
+mod LinePhase
 pub mod LineAll
-pub mod DrawnRules
+mod DrawnRules
 pub mod Pins
-pub mod NetLengths
+mod NetLengths
 pub mod Member
-pub mod ChannelWires
-pub mod Sound
+mod ChannelWires
+mod Sound
 pub mod Origins
-pub mod Drawn
+mod Drawn
 pub mod Whole
-pub mod TestedDrawing
-pub mod ChipsMayDraw
-pub mod FlatForm
+mod TestedDrawing
+mod ChipsMayDraw
+mod FlatForm
 pub mod FlatLaw
 pub mod Ready
 pub mod SecondLaw
 pub mod Labelled
 pub mod FirstLawKept
-pub mod KeptGeometry
+mod KeptGeometry
 pub mod KeptCells
 pub mod KeptLines
 pub mod Wiring
-pub mod Counting
+mod Counting
 pub mod LabelRule
-pub mod WireLengths
+mod WireLengths
 pub mod AllRules
-pub mod ChipsDrawn
-pub mod RowCode
-pub mod WireCode
-pub mod SizesKept
-pub mod DrawCode
-pub mod Heights
-pub mod RowsDrawn
-pub mod PortSlots
-pub mod TopDrawn
-pub mod SizeBounds
-pub mod WireNets
-pub mod SizeLaw
-pub mod Written
-pub mod WritableEach
-pub mod WritableLaw
+mod ChipsDrawn
+mod RowCode
+mod WireCode
+mod SizesKept
+mod DrawCode
+mod Heights
+mod RowsDrawn
+mod PortSlots
+mod TopDrawn
+mod SizeBounds
+mod WireNets
+mod SizeLaw
+mod Written
+mod WritableEach
+mod WritableLaw

@@ -6,17 +6,17 @@ use Rattle.std.proofs.Math.Nat.{mul-le-mul_right}
 use Rattle.std.proofs.lemmas.Option.{same_Some}
 use Rattle.std.proofs.lemmas.Bool.{eqb-true, cases_order, cases_lt}
 use Rattle.std.proofs.lemmas.Bool.Decides.{nat_tests}
-use Rattle.layout_make.specs.Lawful.{IsLawful}
+use Rattle.layout_make.proofs.Lawful.{IsLawful}
 use Rattle.circuit.specs.declared.cell_kind.CellKind.{CellKind}
 use Rattle.circuit.specs.CellKinds.{slots_of}
 use Rattle.geom.specs.declared.shapes.Shape.{Shape}
 use Rattle.geom.specs.Rectangle.{share_point, overlap, within}
 use Rattle.layout_make.specs.Sheet.{Sheet, Tag, Frame, InPin, OutPin, Lead, Bar, Rise, Fall, Across, FromVia, ToVia}
 use Rattle.layout_make.specs.Sheet.{turns_right, lead_use, layer_of, datatype_of, place_of, shape_of, lower_edge}
-use Rattle.layout_make.specs.Nets.{Fits, At, IsDrawn, HasCells}
+use Rattle.layout_make.proofs.SheetKeeps.{Fits, IsDrawn, HasCells}
+use Rattle.layout_make.specs.Tags.{At}
 use Rattle.rowed.specs.Numbers.{numbers}
-use Rattle.layout_make.specs.Layered.{is_line}
-use Rattle.layout_make.specs.Lines.{Contact, IsOf, IsRoute, phase_of, IsLineAt, E2}
+use Rattle.layout_make.specs.Lines.{is_line, Contact, IsOf, IsRoute, phase_of, IsLineAt, E2}
 use Rattle.geom.specs.Rectangle.{left_edge, right_edge}
 use Rattle.layout_rules.specs.Rows.{AreRows}
 use Rattle.layout_make.proofs.Columns.{next_edge, edges_apart}

@@ -8,7 +8,7 @@ use Rattle.circuit.specs.CellKinds.{slots_of}
 use Rattle.geom.specs.Rectangle.{meet_y, share_point, share_x, share_y, overlap, within}
 use Rattle.layout_make.specs.Sheet.{Sheet, Frame, Lead, Bar, Flank, LeftOf, Over, RightOf, turns_right, lead_flank}
 use Rattle.layout_make.specs.Sheet.{lead_first, line_rect, place_of, shape_of, lower_edge}
-use Rattle.layout_make.specs.Nets.{Fits, IsRouted}
+use Rattle.layout_make.proofs.SheetKeeps.{Fits, IsRouted}
 use Rattle.geom.specs.Rectangle.{left_edge, right_edge}
 use Rattle.layout_make.specs.Lines.{phase_of}
 use Rattle.layout_make.proofs.Columns.{next_edge, edges_apart}

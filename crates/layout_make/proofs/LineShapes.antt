@@ -4,13 +4,13 @@ use Rattle.std.proofs.Common.{◌∙◌, arith, ◌⊎◌, inl, inr, if◌then�
 use Rattle.std.specs.Prelude.{pos, negsuc, neg_ℤ, ℤ, int_le, nat_lt}
 use Rattle.std.proofs.lemmas.Bool.{cases_order, cases_lt}
 use Rattle.std.proofs.lemmas.Bool.Decides.{nat_tests}
-use Rattle.layout_make.specs.Lawful.{IsLawful}
+use Rattle.layout_make.proofs.Lawful.{IsLawful}
 use Rattle.geom.specs.Rectangle.{share_point, share_x, share_y}
 use Rattle.layout_make.specs.Sheet.{Sheet, Tag, Frame, InPin, OutPin, Lead, Bar, Rise, Fall, Across, FromVia, ToVia}
 use Rattle.layout_make.specs.Sheet.{Flank, LeftOf, Over, RightOf, turns_right, lead_flank, lead_first, line_rect}
 use Rattle.layout_make.specs.Sheet.{layer_of, place_of, lower_edge}
-use Rattle.layout_make.specs.Nets.{IsRouted}
-use Rattle.layout_make.specs.Layered.{is_line}
+use Rattle.layout_make.proofs.SheetKeeps.{IsRouted}
+use Rattle.layout_make.specs.Lines.{is_line}
 use Rattle.layout_make.proofs.Columns.{next_edge, edges_apart}
 
 -- flanks that meet

@@ -6,17 +6,19 @@ use Rattle.std.specs.Prelude.{slice_get, pos, ◌-ℤ◌}
 use Rattle.std.proofs.lemmas.Option.{same_Some, slice_get_within}
 use Rattle.std.proofs.lemmas.Bool.{cases_lt}
 use Rattle.std.proofs.lemmas.Bool.Decides.{nat_tests}
-use Rattle.layout_make.specs.Lawful.{IsLawful}
+use Rattle.layout_make.proofs.Lawful.{IsLawful}
 use Rattle.geom.specs.declared.shapes.Shape.{Shape}
 use Rattle.layout_rules.specs.Touch.{Touching, IsPath, touch}
 use Rattle.geom.specs.Rectangle.{positive_part}
 use Rattle.layout_make.specs.Sheet.{Sheet, Tag, Area, Frame, InPin, OutPin, Lead, Bar, Rise, Fall, Across, FromVia}
 use Rattle.layout_make.specs.Sheet.{ToVia, area, layer_of, rect_of, place_of, shape_of}
-use Rattle.layout_make.specs.Nets.{Into, net_of, IsWire, Fits, At, IsDrawn, IsShort}
+use Rattle.layout_make.specs.Nets.{Into, net_of}
+use Rattle.layout_make.proofs.SheetKeeps.{IsWire, Fits, IsDrawn, IsShort}
+use Rattle.layout_make.specs.Tags.{At}
 use Rattle.layout_rules.specs.Nets.{AreNets}
-use Rattle.layout_make.specs.Layered.{is_metal}
+use Rattle.layout_make.proofs.Layered.{is_metal}
 use Rattle.layout_rules.specs.LengthRule.{longer_side}
-use Rattle.layout_make.specs.Code.Lengths.{weight, weights, total, AreShort}
+use Rattle.layout_make.proofs.Lengths.{weight, weights, total, AreShort}
 use Rattle.layout_make.proofs.Columns.{centre_least, centres_between, track_above, track_below, channel_height}
 use Rattle.layout_make.proofs.Spaced.{difference}
 use Rattle.layout_make.proofs.Joins.{from_map, to_map, shapes_of, joined_net}

@@ -3,19 +3,19 @@ use Rattle.std.proofs.Common.{◌≡◌, ℕ, zero, suc, ◌<◌, refl, sym, sub
 use Rattle.std.specs.List.{flat_map}
 use Rattle.std.proofs.lemmas.Option.{same_Some}
 use Rattle.cell_library.specs.Library.{LibraryView}
-use Rattle.layout_make.specs.Lawful.{IsLawful}
+use Rattle.layout_make.proofs.Lawful.{IsLawful}
 use Rattle.circuit.specs.CellKinds.{inputs_of, outputs_of}
 use Rattle.layout_make.specs.Sheet.{Tag, Frame, InPin, OutPin, Lead, Bar, Rise, Fall, Across, FromVia, ToVia}
-use Rattle.layout_make.specs.Nets.{IsWire, Fits, At, Stands}
+use Rattle.layout_make.proofs.SheetKeeps.{IsWire, Fits, Stands}
+use Rattle.layout_make.specs.Tags.{At, sheet, spot_tags, wire_tags, line_tags, row_tags, tags}
 use Rattle.rowed.specs.PlacedNets.{PlacedView}
-use Rattle.layout_make.specs.Spots.{Spot, spots, IsReady}
+use Rattle.layout_make.specs.Spots.{Spot, spots}
+use Rattle.layout_make.proofs.ReadyNets.{IsReady}
 use Rattle.rowed.specs.declared.wire.Wire.{Wire}
 use Rattle.rowed.specs.Numbers.{numbers}
-use Rattle.layout_make.specs.Channel.{channel}
-use Rattle.layout_make.specs.Tags.{sheet, spot_tags, wire_tags, line_tags, row_tags, tags}
+use Rattle.layout_make.specs.Channel.{channel, in_column, out_column}
 use Rattle.layout_make.proofs.Member.{In, in_head, in_append, in_left, in_right, in_map, map_in, in_flat_map}
 use Rattle.layout_make.proofs.Member.{flat_map_in, in_upto, upto_in}
-use Rattle.layout_make.specs.Channel.{in_column, out_column}
 use Rattle.layout_make.proofs.Sound.{wire_is, frame_fits, in_odd, out_even}
 
 -- what a cell draws

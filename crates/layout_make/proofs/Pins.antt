@@ -7,10 +7,11 @@ use Rattle.circuit.specs.CellKinds.{inputs_of, outputs_of}
 use Rattle.geom.specs.Rectangle.{Rectangle, within}
 use Rattle.geom.specs.declared.shapes.Shape.{Shape}
 use Rattle.layout_make.specs.Sheet.{Sheet, Tag, Frame, InPin, OutPin, area, rect_of, place_of, shape_of}
-use Rattle.layout_make.specs.Nets.{At, IsDrawn, Owner, HasCells, input_at, output_at}
+use Rattle.layout_make.specs.Tags.{At}
+use Rattle.layout_make.proofs.SheetKeeps.{IsDrawn, Owner, HasCells, input_at, output_at}
 use Rattle.cell_library.specs.Library.{IsGiven}
-use Rattle.layout_make.specs.Layered.{is_pin}
-use Rattle.layout_make.specs.KeptRules.{LiesIn, HasPins, E1}
+use Rattle.layout_make.proofs.Layered.{is_pin}
+use Rattle.layout_make.proofs.KeptRules.{LiesIn, HasPins, E1}
 use Rattle.layout_make.proofs.Joins.{to_map, shapes_of, same_at}
 use Rattle.layout_make.proofs.Cells.{Columns, Inside, input_columns, output_columns, input_inside, output_inside}
 use Rattle.layout_make.proofs.Cells.{input_of_frame, output_of_frame, one_frame}

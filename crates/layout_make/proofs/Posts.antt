@@ -2,9 +2,9 @@
 use Rattle.std.proofs.Common.{◌≡◌, ℕ, zero, suc, ◌+◌, ◌/◌, ◌%◌, ◌<◌, ◌≤◌, refl, ap, arith, ◌⊎◌, inl, inr}
 use Rattle.std.proofs.lemmas.Bool.{cases_order}
 use Rattle.cell_library.specs.Library.{LibraryView}
-use Rattle.layout_make.specs.Lawful.{IsLawful}
+use Rattle.layout_make.proofs.Lawful.{IsLawful}
 use Rattle.layout_make.specs.Sheet.{Area, centre, edge}
-use Rattle.layout_make.specs.Nets.{Far}
+use Rattle.layout_make.proofs.SheetKeeps.{Far}
 use Rattle.layout_make.proofs.Columns.{centres_apart, edges_apart, edge_first}
 
 pub data Side : Type 0 where

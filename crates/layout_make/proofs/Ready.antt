@@ -24,9 +24,9 @@ use Rattle.cell_library.specs.declared.laws.Law.TheVariants.{WireInPin}
 use Rattle.cell_library.specs.Library.{LibraryView, IsGiven}
 use Rattle.cell_library.specs.Laws.{IsLibrary}
 use Rattle.cell_library.proofs.PlacedPins.{places_pins}
-use Rattle.layout_make.specs.Lawful.{IsLawful}
-use Rattle.layout_make.specs.Spots.{Spot, spots_of, spots, Packed, AreGiven, IsInput, TakesFrom, IsReady, has_port}
-use Rattle.layout_make.specs.Spots.{input_port, output_port, HasPorts, PortsAll}
+use Rattle.layout_make.proofs.Lawful.{IsLawful}
+use Rattle.layout_make.specs.Spots.{Spot, spots_of, spots, AreGiven, IsInput, has_port, input_port, output_port}
+use Rattle.layout_make.proofs.ReadyNets.{Packed, TakesFrom, IsReady, HasPorts, PortsAll}
 use Rattle.layout_make.specs.MayDraw.{GivesKinds, MayDraw}
 
 pub lawful : (l : LibraryView) → IsLibrary l → IsLawful l

@@ -28,10 +28,11 @@ use Rattle.channel_route.specs.declared.channel.Tracks.{Tracks}
 use Rattle.channel_route.specs.declared.channel.RouteRefusal.{RouteRefusal}
 use Rattle.channel_route.specs.declared.channel.RouteRefusal.TheVariants.{Full}
 use Rattle.cell_library.specs.Library.{LibraryView, input_column_of, output_column_of}
-use Rattle.layout_make.specs.Lawful.{IsLawful}
+use Rattle.layout_make.proofs.Lawful.{IsLawful}
 use Rattle.layout_make.specs.Sheet.{Sheet, Tag, Frame, InPin, OutPin, upright, shape_of, edge, track_centre, lower_edge}
 use Rattle.layout_make.specs.Sheet.{lead_first}
-use Rattle.layout_make.specs.Spots.{Spot, spots_of, spots, IsReady}
+use Rattle.layout_make.specs.Spots.{Spot, spots_of, spots}
+use Rattle.layout_make.proofs.ReadyNets.{IsReady}
 use Rattle.layout_make.specs.Channel.{pin_wire, wires_into, from_of, channel}
 use Rattle.layout_make.specs.Size.{fed, row_feeds, wires_in, element_number, element_limit}
 use Rattle.layout_make.specs.MayDraw.{MayDraw}

@@ -1,17 +1,19 @@
 -- The second drawing law, and the rules of geometry, of every placed net and library.
 use Rattle.std.proofs.Common.{◌≡◌, ℕ, suc, Bool, true, false, refl, sym, ap, subst, ◌∙◌, arith, List, if◌then◌else◌}
 use Rattle.cell_library.specs.Library.{LibraryView}
-use Rattle.layout_make.specs.Lawful.{IsLawful}
+use Rattle.layout_make.proofs.Lawful.{IsLawful}
 use Rattle.geom.specs.declared.shapes.Shape.{Shape}
 use Rattle.layout_rules.specs.Touch.{Joined}
 use Rattle.layout_make.specs.Sheet.{Tag, InPin, OutPin}
-use Rattle.layout_make.specs.Nets.{Into, From, output_net, IsWire, IsRouted, IsShort, At}
+use Rattle.layout_make.specs.Nets.{Into, From, output_net}
+use Rattle.layout_make.proofs.SheetKeeps.{IsWire, IsRouted, IsShort}
+use Rattle.layout_make.specs.Tags.{At, sheet, tags}
 use Rattle.rowed.specs.PlacedNets.{PlacedView}
-use Rattle.layout_make.specs.Spots.{spots, IsReady}
-use Rattle.layout_make.specs.Tags.{sheet, tags}
-use Rattle.layout_make.specs.KeptRules.{Is, E1, G1, G2, G3, G4, G5}
-use Rattle.layout_make.specs.Code.Lengths.{AreShort}
-use Rattle.layout_make.specs.Laws.{flat_shapes, InAt, Drives, SecondLaw}
+use Rattle.layout_make.specs.Spots.{spots}
+use Rattle.layout_make.proofs.ReadyNets.{IsReady}
+use Rattle.layout_make.specs.Laws.{Is, flat_shapes, InAt, Drives, SecondLaw}
+use Rattle.layout_make.proofs.KeptRules.{E1, G1, G2, G3, G4, G5}
+use Rattle.layout_make.proofs.Lengths.{AreShort}
 use Rattle.layout_make.proofs.FlatLaw.{flat_is_tags}
 use Rattle.layout_make.proofs.Joins.{shapes_of, joined_net, pins_joined}
 use Rattle.layout_make.specs.Channel.{in_column, out_column}

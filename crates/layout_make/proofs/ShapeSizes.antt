@@ -1,8 +1,8 @@
 -- Rules G1 and G3 of a drawing: sides, and the metal around vias.
 use Rattle.std.proofs.Common.{ℕ, ◌+◌, ◌≤◌, min, max, arith}
-use Rattle.layout_make.specs.Lawful.{IsLawful}
+use Rattle.layout_make.proofs.Lawful.{IsLawful}
 use Rattle.layout_make.specs.Sheet.{Sheet, Area, InPin, OutPin, Rise, Fall, Across, FromVia, ToVia, area}
-use Rattle.layout_make.specs.Nets.{IsWire}
+use Rattle.layout_make.proofs.SheetKeeps.{IsWire}
 use Rattle.layout_make.proofs.Columns.{centre_least, centre_rises, track_above, track_below}
 
 -- at least this wide and high

@@ -17,9 +17,10 @@ use Rattle.rowed.specs.Sorting.{EachPair}
 use Rattle.channel_route.specs.Crossing.{low, high, crosses, Apart, EndsApart}
 use Rattle.channel_route.specs.Tracks.{route_of, tracks_used, AreApart}
 use Rattle.cell_library.specs.Library.{LibraryView}
-use Rattle.layout_make.specs.Lawful.{IsLawful}
-use Rattle.layout_make.specs.Nets.{IsWire, IsRouted}
-use Rattle.layout_make.specs.Spots.{Spot, spots_of, spots, IsReady}
+use Rattle.layout_make.proofs.Lawful.{IsLawful}
+use Rattle.layout_make.proofs.SheetKeeps.{IsWire, IsRouted}
+use Rattle.layout_make.specs.Spots.{Spot, spots_of, spots}
+use Rattle.layout_make.proofs.ReadyNets.{IsReady}
 use Rattle.layout_make.specs.Channel.{in_column, out_column, from_of, channel}
 use Rattle.layout_make.specs.Tags.{widest, wire_place, end_of, sheet}
 use Rattle.layout_make.proofs.Member.{In, in_head, not_in_nil, all_in, in_all}

@@ -4,13 +4,13 @@ use Rattle.std.proofs.Common.{◌⊎◌, inl, inr}
 use Rattle.std.specs.Prelude.{pos, negsuc, ℤ, ◌-ℤ◌, nat_lt}
 use Rattle.std.proofs.lemmas.Bool.Decides.{nat_tests}
 use Rattle.std.proofs.lemmas.Int.{ints}
-use Rattle.layout_make.specs.Lawful.{IsLawful}
+use Rattle.layout_make.proofs.Lawful.{IsLawful}
 use Rattle.geom.specs.Rectangle.{Rectangle, share_point, positive_part, gap_x, gap_y}
 use Rattle.geom.specs.declared.shapes.Shape.{Shape}
-use Rattle.layout_make.specs.Layered.{is_lower, one_group}
+use Rattle.layout_make.proofs.Layered.{is_lower, one_group}
 use Rattle.layout_rules.specs.GeometryRules.{are_too_close}
 use Rattle.layout_make.specs.Sheet.{Sheet, Tag, Area, area, layer_of, rect_of, place_of, shape_of, centre, track_centre}
-use Rattle.layout_make.specs.Nets.{Fits, Far, IsRouted}
+use Rattle.layout_make.proofs.SheetKeeps.{Fits, Far, IsRouted}
 use Rattle.layout_make.proofs.Posts.{Side, posts_far}
 use Rattle.layout_make.proofs.Stands.{joint, post_layer, run_layer, HasPost, has_post, HasRun, has_run, runs_far}
 use Rattle.layout_make.proofs.Touches.{placed_post, placed_run, same_wire}

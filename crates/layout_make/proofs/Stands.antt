@@ -4,11 +4,12 @@ use Rattle.std.proofs.Common.{◌≡◌, ℕ, zero, suc, ◌+◌, ◌-◌, ◌/�
 use Rattle.std.proofs.Common.{sym, ap, arith, ◌⊎◌, inl, inr, cond}
 use Rattle.std.proofs.lemmas.Bool.{cases_order, cases_lt}
 use Rattle.cell_library.specs.Library.{LibraryView}
-use Rattle.layout_make.specs.Lawful.{IsLawful}
-use Rattle.layout_make.specs.Layered.{is_lower}
+use Rattle.layout_make.proofs.Lawful.{IsLawful}
+use Rattle.layout_make.proofs.Layered.{is_lower}
 use Rattle.layout_make.specs.Sheet.{Sheet, Tag, Area, Frame, InPin, OutPin, Lead, Bar, Rise, Fall, Across, FromVia}
 use Rattle.layout_make.specs.Sheet.{ToVia, area, layer_of, centre, edge, track_centre, lower_edge}
-use Rattle.layout_make.specs.Nets.{Net, Into, From, output_net, net_of, IsWire, Fits, Far}
+use Rattle.layout_make.specs.Nets.{Net, Into, From, output_net, net_of}
+use Rattle.layout_make.proofs.SheetKeeps.{IsWire, Fits, Far}
 use Rattle.layout_make.proofs.Columns.{centres_apart, centre_least, next_edge, edges_apart, track_above, track_below}
 use Rattle.layout_make.proofs.Columns.{tracks_apart, centre_rises}
 use Rattle.layout_make.proofs.Posts.{Side, FromSide, ToSide, StandsAt}

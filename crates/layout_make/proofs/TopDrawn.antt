@@ -26,9 +26,10 @@ use Rattle.rowed.specs.RowNets.{row_at}
 use Rattle.rowed.specs.PlacedNets.{PlacedView, IsPlaced, placed_rows}
 use Rattle.rowed.specs.Sorting.{by_key}
 use Rattle.cell_library.specs.Library.{LibraryView, IsGiven, input_column_of, output_column_of}
-use Rattle.layout_make.specs.Lawful.{IsLawful}
+use Rattle.layout_make.proofs.Lawful.{IsLawful}
 use Rattle.layout_make.specs.Sheet.{lower_edge, lead_first}
-use Rattle.layout_make.specs.Spots.{Spot, spots_of, spots, IsReady}
+use Rattle.layout_make.specs.Spots.{Spot, spots_of, spots}
+use Rattle.layout_make.proofs.ReadyNets.{IsReady}
 use Rattle.layout_make.specs.Channel.{from_of, wires_into, channel}
 use Rattle.layout_make.specs.Tags.{sheet, wire_tags, widest}
 use Rattle.layout_make.specs.Draw.{boxes, slot_where}

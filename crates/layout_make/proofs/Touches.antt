@@ -4,11 +4,12 @@ use Rattle.std.proofs.Common.{sym, ap, subst, ◌∙◌, arith, ◌⊎◌, inl, 
 use Rattle.std.proofs.lemmas.Bool.Decides.{nat_tests}
 use Rattle.std.proofs.lemmas.Bool.{and_parts}
 use Rattle.geom.specs.Rectangle.{Rectangle, share_point}
-use Rattle.layout_make.specs.Layered.{is_lower, conduct}
+use Rattle.layout_make.proofs.Layered.{is_lower, conduct}
 use Rattle.layout_rules.specs.Touch.{touch}
 use Rattle.layout_make.specs.Sheet.{Sheet, Tag, Area, Frame, InPin, OutPin, Lead, Bar, Rise, Fall, Across, FromVia}
 use Rattle.layout_make.specs.Sheet.{ToVia, area, layer_of, rect_of, place_of, shape_of}
-use Rattle.layout_make.specs.Nets.{Into, net_of, IsWire, Fits, Far, IsRouted}
+use Rattle.layout_make.specs.Nets.{Into, net_of}
+use Rattle.layout_make.proofs.SheetKeeps.{IsWire, Fits, Far, IsRouted}
 use Rattle.layout_make.proofs.Posts.{Side, posts_far}
 use Rattle.layout_make.proofs.Stands.{post_layer, run_layer, post_net, HasPost, has_post, HasRun, has_run, runs_far}
 

@@ -5,21 +5,21 @@ use Rattle.std.specs.Prelude.{slice_get, slice_index_or}
 use Rattle.std.proofs.lemmas.Option.{same_Some}
 use Rattle.std.proofs.lemmas.Bool.{cases_order}
 use Rattle.cell_library.specs.Library.{LibraryView, input_column_of, output_column_of}
-use Rattle.layout_make.specs.Lawful.{IsLawful}
+use Rattle.layout_make.proofs.Lawful.{IsLawful}
 use Rattle.circuit.specs.declared.cell_kind.CellKind.{CellKind}
 use Rattle.circuit.specs.CellKinds.{inputs_of, outputs_of, slots_of}
 use Rattle.layout_make.specs.Sheet.{Tag, Frame, InPin, OutPin, Rise, Fall, Across, FromVia, ToVia}
-use Rattle.layout_make.specs.Nets.{IsWire, At, Stands, IsDrawn, Owner, HasCells}
+use Rattle.layout_make.proofs.SheetKeeps.{IsWire, Stands, IsDrawn, Owner, HasCells}
+use Rattle.layout_make.specs.Tags.{At, sheet, wire_tags, tags}
 use Rattle.rowed.specs.PlacedNets.{PlacedView}
-use Rattle.layout_make.specs.Spots.{Spot, spots, spots_of, IsInput, IsReady}
+use Rattle.layout_make.specs.Spots.{Spot, spots, spots_of, IsInput}
+use Rattle.layout_make.proofs.ReadyNets.{IsReady}
 use Rattle.rowed.specs.declared.source.Source.{Source}
 use Rattle.rowed.specs.declared.row_cell.RowCell.{RowCell}
 use Rattle.rowed.specs.RowCells.{source_at}
 use Rattle.rowed.specs.declared.wire.Wire.{Wire}
-use Rattle.layout_make.specs.Channel.{channel}
-use Rattle.layout_make.specs.Tags.{sheet, wire_tags, tags}
+use Rattle.layout_make.specs.Channel.{channel, in_column, out_column, wire_to}
 use Rattle.layout_make.proofs.Member.{In}
-use Rattle.layout_make.specs.Channel.{in_column, out_column, wire_to}
 use Rattle.layout_make.proofs.ChannelWires.{wire_of, pin_channel, packed_apart}
 use Rattle.layout_make.proofs.Sound.{wire_is, wired_wire, routed}
 use Rattle.layout_make.proofs.Origins.{TheFrame, AnInput, AnOutput, TheRise, TheFall, TheAcross, TheFromVia, TheToVia}

@@ -17,17 +17,18 @@ use Rattle.rowed.specs.Channels.{Link, source_slot, pin_link, links, move}
 use Rattle.channel_route.specs.Crossing.{crossing}
 use Rattle.channel_route.specs.ShortWires.{Within, FromApart}
 use Rattle.channel_route.specs.ShortWires as routes
-use Rattle.channel_route.specs.FewCross.{below_capacity}
+use Rattle.channel_route.proofs.FewCross.{below_capacity}
 use Rattle.channel_route.specs.Tracks.{tracks_used, column_of}
 use Rattle.cell_library.specs.declared.laws.Law.TheVariants.{Reach, Capacity}
 use Rattle.cell_library.specs.Library.{LibraryView, input_column_of, output_column_of}
 use Rattle.cell_library.specs.Laws.{IsLibrary}
 use Rattle.cell_library.specs.Reach.{slot_width_of, fixed_length_of, length_reach_of, reach_of}
-use Rattle.layout_make.specs.Lawful.{IsLawful}
-use Rattle.layout_make.specs.Nets.{IsShort}
+use Rattle.layout_make.proofs.Lawful.{IsLawful}
+use Rattle.layout_make.proofs.SheetKeeps.{IsShort}
 use Rattle.rowed.specs.Short.{EachShort, AreShort}
 use Rattle.rowed.specs.Short as placed
-use Rattle.layout_make.specs.Spots.{Spot, spots_of, IsReady}
+use Rattle.layout_make.specs.Spots.{Spot, spots_of}
+use Rattle.layout_make.proofs.ReadyNets.{IsReady}
 use Rattle.layout_make.specs.Channel.{wire_to, channel}
 use Rattle.layout_make.specs.Tags.{sheet}
 use Rattle.layout_make.proofs.Member.{In, in_all}

@@ -1,15 +1,16 @@
 -- The shapes of one net are joined, and no others.
 use Rattle.std.proofs.Common.{◌≡◌, ℕ, zero, suc, Bool, true, false, refl, sym, ap, subst, ◌∙◌, List, if◌then◌else◌}
 use Rattle.cell_library.specs.Library.{LibraryView}
-use Rattle.layout_make.specs.Lawful.{IsLawful}
+use Rattle.layout_make.proofs.Lawful.{IsLawful}
 use Rattle.geom.specs.declared.shapes.Shape.{Shape}
 use Rattle.layout_rules.specs.Touch.{touch, Joined}
 use Rattle.layout_rules.proofs.NetLaws.{Joined-self, Joined-touching, Joined-trans, Joined-back}
 use Rattle.layout_make.specs.Sheet.{Tag, Frame, InPin, OutPin, Lead, Bar, Rise, Fall, Across, FromVia, ToVia, shape_of}
-use Rattle.layout_make.specs.Nets.{Net, Into, From, NoNet, net_of, output_net, IsWire, IsDrawn, At}
+use Rattle.layout_make.specs.Nets.{Net, Into, From, NoNet, net_of, output_net}
+use Rattle.layout_make.proofs.SheetKeeps.{IsWire, IsDrawn}
+use Rattle.layout_make.specs.Tags.{At, sheet, tags}
 use Rattle.rowed.specs.PlacedNets.{PlacedView}
-use Rattle.layout_make.specs.Spots.{IsReady}
-use Rattle.layout_make.specs.Tags.{sheet, tags}
+use Rattle.layout_make.proofs.ReadyNets.{IsReady}
 use Rattle.layout_make.specs.WireLaw.{WireLaw}
 use Rattle.layout_make.proofs.FlatLaw.{flat_is_tags}
 use Rattle.layout_make.proofs.Joins.{shapes_of, step, joined_net, pins_joined, rise_via, via_across, across_via}

@@ -22,16 +22,16 @@ use Rattle.rowed.specs.PlacedNets.{PlacedView}
 use Rattle.rowed.specs.Numbers.{numbers}
 use Rattle.rowed.specs.RowNets.{last_of}
 use Rattle.cell_library.specs.Library.{LibraryView}
-use Rattle.layout_make.specs.Lawful.{IsLawful}
+use Rattle.layout_make.proofs.Lawful.{IsLawful}
 use Rattle.layout_make.specs.Sheet.{Tag, Frame, InPin, OutPin, layer_of, shape_of}
-use Rattle.layout_make.specs.Nets.{At, IsDrawn}
-use Rattle.layout_make.specs.Spots.{Spot, IsReady, HasPorts, PortsAll, input_port, output_port}
+use Rattle.layout_make.specs.Tags.{At, sheet, tags}
+use Rattle.layout_make.proofs.SheetKeeps.{IsDrawn}
+use Rattle.layout_make.specs.Spots.{Spot, input_port, output_port}
+use Rattle.layout_make.proofs.ReadyNets.{IsReady, HasPorts, PortsAll}
 use Rattle.layout_make.specs.Channel.{in_column, out_column}
-use Rattle.layout_make.specs.Tags.{sheet, tags}
 use Rattle.layout_make.specs.Draw.{draw, labels, input_label, output_label}
-use Rattle.layout_make.specs.KeptRules.{Is}
-use Rattle.layout_make.specs.KeptRules as kept
-use Rattle.layout_make.specs.Laws.{flat_shapes, InAt, OutAt}
+use Rattle.layout_make.specs.Laws.{Is, flat_shapes, InAt, OutAt}
+use Rattle.layout_make.proofs.KeptRules as kept
 use Rattle.layout_make.proofs.FlatLaw.{flat_is_tags, labels_flat}
 use Rattle.layout_make.proofs.Joins.{to_map}
 use Rattle.layout_make.proofs.Member.{In, in_append, in_map, map_in, in_left, in_upto, upto_in}

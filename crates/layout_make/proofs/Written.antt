@@ -14,12 +14,13 @@ use Rattle.rowed.specs.declared.wire.Wire.{Wire}
 use Rattle.rowed.specs.PlacedNets.{PlacedView, placed_rows}
 use Rattle.cell_library.specs.Library.{LibraryView, IsGiven, input_column_of, output_column_of}
 use Rattle.cell_library.specs.Reach.{slot_width_of}
-use Rattle.layout_make.specs.Lawful.{IsLawful}
+use Rattle.layout_make.proofs.Lawful.{IsLawful}
 use Rattle.layout_make.specs.Code.Sizes.{AreSizes}
 use Rattle.layout_make.specs.Sheet.{Sheet, Tag, Area, Frame, InPin, OutPin, centre, edge, rect_of, shape_of, lower_edge}
 use Rattle.layout_make.specs.Sheet.{flank_rect, Flank, LeftOf, Over, RightOf, lead_use}
-use Rattle.layout_make.specs.Nets.{IsWire}
-use Rattle.layout_make.specs.Spots.{Spot, IsReady}
+use Rattle.layout_make.proofs.SheetKeeps.{IsWire}
+use Rattle.layout_make.specs.Spots.{Spot}
+use Rattle.layout_make.proofs.ReadyNets.{IsReady}
 use Rattle.layout_make.specs.Channel.{channel}
 use Rattle.layout_make.specs.Draw.{alone}
 use Rattle.layout_make.specs.Tags.{widest}

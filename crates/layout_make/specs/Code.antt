@@ -1,6 +1,7 @@
--- Words of private contracts and of loops.
+-- Words of the crate's own code: the elements that it makes one by one, what it asks of sizes and columns, and the chips
+-- of its tests.
 pub mod Boxes
 pub mod Labelling
 pub mod WireFits
 pub mod Sizes
-pub mod Lengths
+pub mod TestChips

@@ -4,19 +4,21 @@ use Rattle.cell_library.specs.Library.{LibraryView, input_column_of, output_colu
 use Rattle.geom.specs.declared.shapes.Shape.{Shape}
 use Rattle.layout_rules.specs.Touch.{Joined}
 use Rattle.layout_make.specs.Sheet.{Frame, InPin, OutPin}
-use Rattle.layout_make.specs.Nets.{At}
+use Rattle.layout_make.specs.Tags.{At, tags}
 use Rattle.rowed.specs.PlacedNets.{PlacedView}
 use Rattle.layout_make.specs.Spots.{Spot, spots, IsInput, IsOutput}
 use Rattle.rowed.specs.declared.source.Source.{Source}
 use Rattle.rowed.specs.RowCells.{source_at}
-use Rattle.layout_make.specs.Tags.{tags}
 use Rattle.geom.specs.FlatForm.{flat_of}
 use Rattle.layout_make.specs.Draw.{draw}
-use Rattle.layout_make.specs.KeptRules.{Is}
 
 -- the shapes of the flat form
 abbrev pub flat_shapes : PlacedView → LibraryView → List Shape
 flat_shapes p l = (flat_of (draw p l)).shapes
+
+-- shape a stands at number i
+abbrev pub Is : List Shape → ℕ → Shape → Type 0
+Is shapes i a = slice_get shapes i ≡ Some a
 
 -- shape m is the frame of cell n of row r
 pub record FrameAt (p : PlacedView) (l : LibraryView) (r n m : ℕ) : Type 0 where

@@ -1,10 +1,14 @@
 -- Rule E2: the excitation lines of a flat form.
 use Rattle.std.specs.Prelude.{◌≡◌, ◌≢◌, ℕ, ◌-◌, ◌%◌, ◌<◌, ◌⊎◌, true, List, [], ◌∷◌, slice_get, Some, if◌then◌else◌, not}
-use Rattle.std.specs.Prelude.{ℤ}
+use Rattle.std.specs.Prelude.{ℤ, Bool, ◌==◌, ◌||◌}
 use Rattle.geom.specs.Rectangle.{share_point, overlap, within}
 use Rattle.geom.specs.Rectangle.{left_edge, right_edge}
-use Rattle.layout_make.specs.Layered.{is_line}
+use Rattle.layout_rules.specs.declared.layers.TheConstants.{EVEN_LINE, ODD_LINE}
 use Rattle.geom.specs.declared.shapes.Shape.{Shape}
+
+-- a layer of excitation lines
+abbrev pub is_line : ℕ → Bool
+is_line n = n == EVEN_LINE || n == ODD_LINE
 
 -- two shapes of one line layer that share a point
 pub record Contact (shapes : List Shape) (i j : ℕ) : Type 0 where
@@ -24,7 +28,7 @@ pub record IsOf (shapes : List Shape) (purpose : ℕ) (i : ℕ) : Type 0 where
   pub of_line : is_line shape.layer ≡ true
   pub used_so : shape.datatype ≡ purpose
 
--- A route leads from a start, by contacts and never straight back, to its first number.
+-- a route leads from a start, by contacts and never straight back, to its first number
 abbrev pub IsRoute : List Shape → List ℕ → Type 0
 IsRoute shapes [] = ⊥
 IsRoute shapes (a ∷ []) = IsOf shapes 2 a
@@ -39,7 +43,7 @@ phase_of before bar = (if share_point before.rect (left_edge bar.rect) then bar.
 abbrev pub IsLineAt : List Shape → ℕ → Shape → Type 0
 IsLineAt shapes i a = (slice_get shapes i ≡ Some a) × (is_line a.layer ≡ true)
 
--- Rule E2, part by part.
+-- rule E2, part by part
 pub record E2 (shapes : List Shape) (edges : List ℤ) : Type 0 where
   pub used : (i : ℕ) (a : Shape) → IsLineAt shapes i a → a.datatype < 3
   pub start : (i : ℕ) (a : Shape) → IsLineAt shapes i a → (j : ℕ) × (b : Shape) × IsLineAt shapes j b

@@ -1,14 +1,8 @@
--- Which net a tag belongs to, what a sheet has to keep, and what is far apart.
-use Rattle.std.specs.Prelude.{◌≡◌, ℕ, suc, ◌+◌, ◌-◌, ◌*◌, ◌%◌, ◌<◌, ◌≤◌, ◌⊎◌, min, max, true, if◌then◌else◌, List}
-use Rattle.std.specs.Prelude.{slice_get, Some}
-use Rattle.circuit.specs.CellKinds.{slots_of, inputs_of, outputs_of}
-use Rattle.circuit.specs.declared.cell_kind.CellKind.{CellKind}
-use Rattle.cell_library.specs.Library.{IsGiven, input_column_of, output_column_of}
-use Rattle.layout_make.specs.Lawful.{IsLawful}
-use Rattle.layout_make.specs.Sheet.{Sheet, Tag, Area, Frame, InPin, OutPin, Lead, Bar, Rise, Fall, Across, FromVia}
-use Rattle.layout_make.specs.Sheet.{ToVia}
+-- Which net a shape belongs to.
+use Rattle.std.specs.Prelude.{ℕ, suc, if◌then◌else◌}
+use Rattle.layout_make.specs.Sheet.{Sheet, Tag, Frame, InPin, OutPin, Lead, Bar, Rise, Fall, Across, FromVia, ToVia}
 
--- A net is named by the input pin that it reaches, or by its output pin where no wire begins.
+-- a net, named by the row and column of the input pin that it reaches, or of its output pin where no wire begins
 pub data Net : Type 0 where
   Into : ℕ → ℕ → Net
   From : ℕ → ℕ → Net
@@ -30,95 +24,3 @@ net_of s (ToVia r c) = Into (suc r) (s.to r c)
 net_of s (Frame r slot kind) = NoNet
 net_of s (Lead r) = NoNet
 net_of s (Bar r) = NoNet
-
--- what a sheet keeps of a wire
-pub record IsWire (s : Sheet) (r c : ℕ) : Type 0 where
-  pub wired_so : s.wired r c ≡ true
-  pub even : c % 2 ≡ 0
-  pub odd : s.to r c % 2 ≡ 1
-  pub tracked : s.track r c < s.used r
-
--- what a sheet keeps of a shape: where it may stand
-abbrev pub Fits : Sheet → Tag → Type 0
-Fits s (InPin r c i) = c % 2 ≡ 1
-Fits s (OutPin r c i) = c % 2 ≡ 0
-Fits s (Rise r c) = IsWire s r c
-Fits s (Fall r c) = IsWire s r c
-Fits s (Across r c) = IsWire s r c
-Fits s (FromVia r c) = IsWire s r c
-Fits s (ToVia r c) = IsWire s r c
-Fits s (Frame r slot kind) = (r < s.rows) × ((slot + slots_of kind) * (s.library.columns * s.library.pitch) ≤ s.right)
-    × IsGiven s.library kind
-Fits s (Lead r) = r < s.rows
-Fits s (Bar r) = r < s.rows
-
--- wires that share a column and a track are one
-pub record IsRouted (s : Sheet) : Type 0 where
-  pub laws : IsLawful s.library
-  pub right_some : 1 ≤ s.right
-  pub rows_some : 2 ≤ s.rows
-  pub one_end : (r c d : ℕ) → IsWire s r c → IsWire s r d → s.to r c ≡ s.to r d → c ≡ d
-  pub one_wire : (r c d : ℕ) → IsWire s r c → IsWire s r d → s.track r c ≡ s.track r d
-      → min c (s.to r c) ≤ max d (s.to r d) → min d (s.to r d) ≤ max c (s.to r c) → c ≡ d
-
--- the areas are at least n apart, to the side or in height
-abbrev pub Far : ℕ → Area → Area → Type 0
-Far n a b = (a.right + n ≤ b.left) ⊎ ((b.right + n ≤ a.left) ⊎ ((a.high + n ≤ b.low) ⊎ (b.high + n ≤ a.low)))
-
--- tag t stands at number i
-abbrev pub At : List Tag → ℕ → Tag → Type 0
-At ts i t = slice_get ts i ≡ Some t
-
--- some number has the tag
-abbrev pub Stands : List Tag → Tag → Type 0
-Stands ts t = (i : ℕ) × At ts i t
-
--- what a list of tags keeps so that wires are whole
-pub record IsDrawn (s : Sheet) (ts : List Tag) : Type 0 where
-  pub routed : IsRouted s
-  pub fits : (i : ℕ) (t : Tag) → At ts i t → Fits s t
-  pub once : (i j : ℕ) (t : Tag) → At ts i t → At ts j t → i ≡ j
-  pub rises : (r c : ℕ) → IsWire s r c → Stands ts (Rise r c)
-  pub falls : (r c : ℕ) → IsWire s r c → Stands ts (Fall r c)
-  pub crosses : (r c : ℕ) → IsWire s r c → Stands ts (Across r c)
-  pub begins : (r c : ℕ) → IsWire s r c → Stands ts (FromVia r c)
-  pub ends : (r c : ℕ) → IsWire s r c → Stands ts (ToVia r c)
-  pub leads : (r : ℕ) → r < s.rows → Stands ts (Lead r)
-  pub bars : (r : ℕ) → r < s.rows → Stands ts (Bar r)
-
--- the column of an input pin of a cell in a slot
-abbrev pub input_at : Sheet → ℕ → CellKind → ℕ → ℕ
-input_at s slot k i = slot * s.library.columns + input_column_of s.library k i
-
--- the column of an output pin
-abbrev pub output_at : Sheet → ℕ → CellKind → ℕ → ℕ
-output_at s slot k o = slot * s.library.columns + output_column_of s.library k o
-
--- the cell that a pin belongs to
-pub record Owner (ts : List Tag) (r : ℕ) : Type 0 where
-  pub slot : ℕ
-  pub kind : CellKind
-  pub stands : Stands ts (Frame r slot kind)
-
--- what a list of tags keeps of cells and their pins
-pub record HasCells (s : Sheet) (ts : List Tag) : Type 0 where
-  pub frames_some : (r : ℕ) → r < s.rows → Owner ts r
-  pub inputs_owned : (j r c i : ℕ) → At ts j (InPin r c i) → (o : Owner ts r) × (i < inputs_of o.kind)
-      × (c ≡ input_at s o.slot o.kind i)
-  pub outputs_owned : (j r c i : ℕ) → At ts j (OutPin r c i) → (o : Owner ts r) × (i < outputs_of o.kind)
-      × (c ≡ output_at s o.slot o.kind i)
-  pub inputs_there : (r slot i : ℕ) (k : CellKind) → Stands ts (Frame r slot k) → i < inputs_of k
-      → Stands ts (InPin r (input_at s slot k i) i)
-  pub outputs_there : (r slot i : ℕ) (k : CellKind) → Stands ts (Frame r slot k) → i < outputs_of k
-      → Stands ts (OutPin r (output_at s slot k i) i)
-  pub frames_apart : (i j r a b : ℕ) (k m : CellKind) → At ts i (Frame r a k) → At ts j (Frame r b m)
-      → (i ≡ j) ⊎ ((a + slots_of k ≤ b) ⊎ (b + slots_of m ≤ a))
-  pub wire_begins : (r c : ℕ) → IsWire s r c → (o : ℕ) × Stands ts (OutPin r c o)
-  pub wire_ends : (r c : ℕ) → IsWire s r c → (i : ℕ) × Stands ts (InPin (suc r) (s.to r c) i)
-  pub inputs_wired : (j r c i : ℕ) → At ts j (InPin (suc r) c i) → (d : ℕ) × IsWire s r d × (s.to r d ≡ c)
-
--- what the wires of a sheet are allowed: the two pins, the two bends, the channel's height and the distance
-abbrev pub IsShort : Sheet → Type 0
-IsShort s = (r c : ℕ) → IsWire s r c
-    → (s.used r + 1) * s.library.pitch + 2 * s.library.pin + 2 * s.library.wire + (max c (s.to r c) - min c (s.to r c))
-    * s.library.pitch ≤ s.library.limit

@@ -1,5 +1,6 @@
 -- The shapes of a drawing, each by its tag, in the order of the flat form.
-use Rattle.std.specs.Prelude.{ℕ, ◌+◌, ◌*◌, List, [], ◌∷◌, ◌++◌, map, length, nat_lt, slice_index_or}
+use Rattle.std.specs.Prelude.{◌≡◌, ℕ, ◌+◌, ◌*◌, List, [], ◌∷◌, ◌++◌, map, length, nat_lt, slice_index_or}
+use Rattle.std.specs.Prelude.{slice_get, Some}
 use Rattle.std.specs.List.{flat_map}
 use Rattle.circuit.specs.CellKinds.{inputs_of, outputs_of}
 use Rattle.circuit.specs.declared.cell_kind.CellKind.{CellKind}
@@ -60,3 +61,7 @@ row_tags p l r = flat_map (spot_tags l r) (spots p r) ++ (line_tags r ++ flat_ma
 -- all shapes, by rising row
 abbrev pub tags : PlacedView → LibraryView → List Tag
 tags p l = flat_map (row_tags p l) (numbers 0 (length p.net.rows))
+
+-- tag t stands at number i
+abbrev pub At : List Tag → ℕ → Tag → Type 0
+At ts i t = slice_get ts i ≡ Some t

@@ -3,9 +3,9 @@ use Rattle.std.specs.Prelude.{◌≡◌, ℕ, false}
 use Rattle.cell_library.specs.Library.{LibraryView}
 use Rattle.layout_rules.specs.Touch.{Joined}
 use Rattle.layout_make.specs.Sheet.{Tag, InPin, OutPin}
-use Rattle.layout_make.specs.Nets.{NoNet, net_of, At}
+use Rattle.layout_make.specs.Nets.{NoNet, net_of}
+use Rattle.layout_make.specs.Tags.{At, sheet, tags}
 use Rattle.rowed.specs.PlacedNets.{PlacedView}
-use Rattle.layout_make.specs.Tags.{sheet, tags}
 use Rattle.layout_make.specs.Laws.{flat_shapes}
 
 -- for any two shapes of the flat form, told by their tags

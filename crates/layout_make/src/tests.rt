@@ -6,6 +6,7 @@ ghost use Rattle.cell_library.specs.Laws.{IsLibrary};
 ghost use Rattle.cell_library.specs.LibraryA.{library_a_view};
 ghost use Rattle.layout_make.specs.MayDraw.{MayDraw};
 ghost use Rattle.layout_make.specs.Chips as chips;
+ghost use Rattle.layout_make.specs.Code.TestChips as test_chips;
 
 use crate::{channel_wires, draw, element_number};
 use aq_base::{List, Memory};
@@ -124,7 +125,7 @@ fn third(alloc: Global) -> Result<Placed, Memory>
 }
 
 fn crossing_rows(alloc: Global) -> Result<Vec<List<RowCell>>, Memory>
-    ensures { IfOk result (λ rows. rows.items ≡ chips.crossing_placed.net.rows) }
+    ensures { IfOk result (λ rows. rows.items ≡ test_chips.crossing_placed.net.rows) }
 {
     let below = list(alloc, [enters(0), zero(), enters(1)])?;
     let above = list(alloc, [leaves(2, 0, 1), leaves(0, 0, 0)])?;
@@ -132,7 +133,7 @@ fn crossing_rows(alloc: Global) -> Result<Vec<List<RowCell>>, Memory>
 }
 
 fn crossing_slots(alloc: Global) -> Result<Vec<List<u32>>, Memory>
-    ensures { IfOk result (λ slots. slots.items ≡ chips.crossing_placed.slots) }
+    ensures { IfOk result (λ slots. slots.items ≡ test_chips.crossing_placed.slots) }
 {
     let below = list(alloc, [0, 1, 6])?;
     let above = list(alloc, [0, 7])?;
@@ -141,7 +142,7 @@ fn crossing_slots(alloc: Global) -> Result<Vec<List<u32>>, Memory>
 
 // Two wires that cross, with slots between cells, and a constant that feeds nothing.
 fn crossing(alloc: Global) -> Result<Placed, Memory>
-    ensures { IfOk result (λ placed. placed ≡ chips.crossing_placed) }
+    ensures { IfOk result (λ placed. placed ≡ test_chips.crossing_placed) }
 {
     let rows = crossing_rows(alloc)?;
     let slots = crossing_slots(alloc)?;
@@ -149,7 +150,7 @@ fn crossing(alloc: Global) -> Result<Placed, Memory>
 }
 
 fn column_rows(alloc: Global) -> Result<Vec<List<RowCell>>, Memory>
-    ensures { IfOk result (λ rows. rows.items ≡ chips.column_placed.net.rows) }
+    ensures { IfOk result (λ rows. rows.items ≡ test_chips.column_placed.net.rows) }
 {
     let first = list(alloc, [enters(0)])?;
     let second = list(alloc, [buffer()])?;
@@ -160,7 +161,7 @@ fn column_rows(alloc: Global) -> Result<Vec<List<RowCell>>, Memory>
 }
 
 fn column_slots(alloc: Global) -> Result<Vec<List<u32>>, Memory>
-    ensures { IfOk result (λ slots. slots.items ≡ chips.column_placed.slots) }
+    ensures { IfOk result (λ slots. slots.items ≡ test_chips.column_placed.slots) }
 {
     let first = list(alloc, [0])?;
     let second = list(alloc, [0])?;
@@ -172,7 +173,7 @@ fn column_slots(alloc: Global) -> Result<Vec<List<u32>>, Memory>
 
 // Five rows of one buffer.
 fn column(alloc: Global) -> Result<Placed, Memory>
-    ensures { IfOk result (λ placed. placed ≡ chips.column_placed) }
+    ensures { IfOk result (λ placed. placed ≡ test_chips.column_placed) }
 {
     let rows = column_rows(alloc)?;
     let slots = column_slots(alloc)?;

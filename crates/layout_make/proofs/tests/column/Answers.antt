@@ -2,7 +2,7 @@ use Rattle.std.proofs.Common.{refl, sym, subst, List, ℕ}
 use Rattle.rowed.specs.declared.row_cell.RowCell.{RowCell}
 use Rattle.rowed.specs.PlacedNets.{IsPlaced}
 use Rattle.rowed.proofs.TestedNets.{placed_from_test}
-use Rattle.layout_make.specs.Chips.{column_placed}
+use Rattle.layout_make.specs.Code.TestChips.{column_placed}
 use Rattle.layout_make.proofs.tests.column.Goals as goal
 
 pub placed-requires : goal.placed-requires

@@ -1,17 +1,13 @@
 -- The rules over the shapes of a flat form, each as what holds where it is kept.
-use Rattle.std.specs.Prelude.{◌≡◌, ℕ, ◌<◌, ◌⊎◌, Bool, true, false, List, slice_get, Some, int_lt}
+use Rattle.std.specs.Prelude.{◌≡◌, ℕ, ◌<◌, ◌⊎◌, Bool, true, false, List, int_lt}
 use Rattle.cell_library.specs.Library.{LibraryView, limits_of}
 use Rattle.circuit.specs.declared.cell_kind.CellKind.{CellKind}
 use Rattle.circuit.specs.CellKinds.{number_of, inputs_of, outputs_of}
-use Rattle.geom.specs.Rectangle.{Rectangle, overlap, within, grown}
+use Rattle.geom.specs.Rectangle.{Rectangle, common, overlap, within, grown}
 use Rattle.geom.specs.declared.shapes.Shape.{Shape}
 use Rattle.layout_rules.specs.GeometryRules.{is_too_small, are_too_close}
-use Rattle.geom.specs.Rectangle.{common}
-use Rattle.layout_make.specs.Layered.{is_pin}
-
--- shape a stands at number i
-abbrev pub Is : List Shape → ℕ → Shape → Type 0
-Is shapes i a = slice_get shapes i ≡ Some a
+use Rattle.layout_make.specs.Laws.{Is}
+use Rattle.layout_make.proofs.Layered.{is_pin}
 
 -- no shape is too small
 abbrev pub G1 : LibraryView → List Shape → Type 0

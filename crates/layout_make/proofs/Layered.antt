@@ -1,6 +1,6 @@
 -- What conducts and what keeps its distance, told by the layers of two shapes.
 use Rattle.std.specs.Prelude.{ℕ, ◌==◌, ◌&&◌, ◌||◌, Bool}
-use Rattle.layout_rules.specs.declared.layers.TheConstants.{M1, VIA, M2, EVEN_LINE, ODD_LINE, INPUT_PIN, OUTPUT_PIN}
+use Rattle.layout_rules.specs.declared.layers.TheConstants.{M1, VIA, M2, INPUT_PIN, OUTPUT_PIN}
 
 -- a layer of pins
 abbrev pub is_pin : ℕ → Bool
@@ -13,10 +13,6 @@ is_lower n = n == M1 || is_pin n
 -- a layer of metal that is measured
 abbrev pub is_metal : ℕ → Bool
 is_metal n = n == M1 || n == M2
-
--- a layer of excitation lines
-abbrev pub is_line : ℕ → Bool
-is_line n = n == EVEN_LINE || n == ODD_LINE
 
 -- current flows between shapes of these layers where they touch
 abbrev pub conduct : ℕ → ℕ → Bool
