@@ -19,7 +19,7 @@ use Rattle.geom.specs.Rectangle.{common}
 use Rattle.layout_rules.specs.LengthRule.{length_in, net_length, LengthsBroken}
 use Rattle.cell_library.specs.Library.{LibraryView, limits_of}
 use Rattle.layout_make.proofs.KeptRules.{G1, G2, G3, G4, G5, Encloses, OverPin}
-use Rattle.layout_make.proofs.Lengths.{weights, total, AreShort}
+use Rattle.layout_make.proofs.Lengths.{weights, total, NetsShort}
 
 pub sizes_kept : (l : LibraryView) (shapes : List Shape) → G1 l shapes → ReportsNone (SizesBroken (limits_of l) shapes)
 sizes_kept l shapes g a b (p, e) = both_ways (is_too_small (limits_of l) p.shape) (g a p.shape p.shape_is) p.passes_so
@@ -119,7 +119,7 @@ lengths_are n (s ∷ ss) [] = refl
 lengths_are n (s ∷ ss) (m ∷ nets) = sum_by-cons (length_in n) (s, m) (zip ss nets)
     ∙ ap (λ (k : ℕ). length_in n (s, m) + k) (lengths_are n ss nets)
 
-pub lengths_kept : (l : LibraryView) (shapes : List Shape) → AreShort shapes l.limit
+pub lengths_kept : (l : LibraryView) (shapes : List Shape) → NetsShort shapes l.limit
     → ReportsNone (LengthsBroken (limits_of l) shapes)
 lengths_kept l shapes short a b (p, e) =
     let n = slice_index p.nets a in

@@ -20,5 +20,5 @@ total [] = 0
 total (w ∷ ws) = w + total ws
 
 -- in each net the lengths come to at most the limit, however the nets are numbered
-abbrev pub AreShort : List Shape → ℕ → Type 0
-AreShort shapes limit = (nets : List ℕ) → AreNets shapes nets → (n : ℕ) → total (weights n shapes nets) ≤ limit
+abbrev pub NetsShort : List Shape → ℕ → Type 0
+NetsShort shapes limit = (nets : List ℕ) → AreNets shapes nets → (n : ℕ) → total (weights n shapes nets) ≤ limit

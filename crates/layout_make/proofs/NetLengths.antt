@@ -13,12 +13,12 @@ use Rattle.geom.specs.Rectangle.{positive_part}
 use Rattle.layout_make.specs.Sheet.{Sheet, Tag, Area, Frame, InPin, OutPin, Lead, Bar, Rise, Fall, Across, FromVia}
 use Rattle.layout_make.specs.Sheet.{ToVia, area, layer_of, rect_of, place_of, shape_of}
 use Rattle.layout_make.specs.Nets.{Into, net_of}
-use Rattle.layout_make.proofs.SheetKeeps.{IsWire, Fits, IsDrawn, IsShort}
+use Rattle.layout_make.proofs.SheetKeeps.{IsWire, Fits, IsDrawn, WiresShort}
 use Rattle.layout_make.specs.Tags.{At}
 use Rattle.layout_rules.specs.Nets.{AreNets}
 use Rattle.layout_make.proofs.Layered.{is_metal}
 use Rattle.layout_rules.specs.LengthRule.{longer_side}
-use Rattle.layout_make.proofs.Lengths.{weight, weights, total, AreShort}
+use Rattle.layout_make.proofs.Lengths.{weight, weights, total, NetsShort}
 use Rattle.layout_make.proofs.Columns.{centre_least, centres_between, track_above, track_below, channel_height}
 use Rattle.layout_make.proofs.Spaced.{difference}
 use Rattle.layout_make.proofs.Joins.{from_map, to_map, shapes_of, joined_net}
@@ -229,7 +229,7 @@ light n shapes nets m x at = elim (heavy n shapes nets m) [
       (same_Some _ _ (sym h.at ∙ at)) in let w = h.weight_so in omega arith
 ]
 
-pub drawn_short : (s : Sheet) (ts : List Tag) → IsDrawn s ts → IsShort s → AreShort (shapes_of s ts) s.library.limit
+pub drawn_short : (s : Sheet) (ts : List Tag) → IsDrawn s ts → WiresShort s → NetsShort (shapes_of s ts) s.library.limit
 drawn_short s ts is short nets are n = elim (some_weight (weights n (shapes_of s ts) nets)) [
   | inl e ↦ omega arith
   | inr found ↦ elim (heavy n (shapes_of s ts) nets found.0) [

@@ -6,14 +6,14 @@ use Rattle.geom.specs.declared.shapes.Shape.{Shape}
 use Rattle.layout_rules.specs.Touch.{Joined}
 use Rattle.layout_make.specs.Sheet.{Tag, InPin, OutPin}
 use Rattle.layout_make.specs.Nets.{Into, From, output_net}
-use Rattle.layout_make.proofs.SheetKeeps.{IsWire, IsRouted, IsShort}
+use Rattle.layout_make.proofs.SheetKeeps.{IsWire, IsRouted, WiresShort}
 use Rattle.layout_make.specs.Tags.{At, sheet, tags}
 use Rattle.rowed.specs.PlacedNets.{PlacedView}
 use Rattle.layout_make.specs.Spots.{spots}
 use Rattle.layout_make.proofs.ReadyNets.{IsReady}
 use Rattle.layout_make.specs.Laws.{Is, flat_shapes, InAt, Drives, SecondLaw}
 use Rattle.layout_make.proofs.KeptRules.{E1, G1, G2, G3, G4, G5}
-use Rattle.layout_make.proofs.Lengths.{AreShort}
+use Rattle.layout_make.proofs.Lengths.{NetsShort}
 use Rattle.layout_make.proofs.FlatLaw.{flat_is_tags}
 use Rattle.layout_make.proofs.Joins.{shapes_of, joined_net, pins_joined}
 use Rattle.layout_make.specs.Channel.{in_column, out_column}
@@ -180,7 +180,7 @@ pub record GeometryKept (p : PlacedView) (l : LibraryView) : Type 0 where
   pub g3 : G3 l (flat_shapes p l)
   pub g4 : G4 (flat_shapes p l)
   pub g5 : G5 (flat_shapes p l)
-  pub e5 : IsShort (sheet p l) → AreShort (flat_shapes p l) l.limit
+  pub e5 : WiresShort (sheet p l) → NetsShort (flat_shapes p l) l.limit
 
 pub geometry_kept : (p : PlacedView) (l : LibraryView) → IsReady p l → IsLawful l → GeometryKept p l
 unfolding sheet
@@ -195,6 +195,6 @@ geometry_kept p l is laws =
       g3 = subst (λ (ss : List Shape). G3 l ss) same (drawn_g3 (sheet p l) (tags p l) whole);
       g4 = subst (λ (ss : List Shape). G4 ss) same (drawn_g4 (sheet p l) (tags p l) whole cells);
       g5 = subst (λ (ss : List Shape). G5 ss) same (drawn_g5 (sheet p l) (tags p l) whole cells);
-      e5 = λ short. subst (λ (ss : List Shape). AreShort ss l.limit) same
+      e5 = λ short. subst (λ (ss : List Shape). NetsShort ss l.limit) same
           (drawn_short (sheet p l) (tags p l) whole short);
     }

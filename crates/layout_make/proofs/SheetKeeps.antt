@@ -91,7 +91,7 @@ pub record HasCells (s : Sheet) (ts : List Tag) : Type 0 where
   pub inputs_wired : (j r c i : ℕ) → At ts j (InPin (suc r) c i) → (d : ℕ) × IsWire s r d × (s.to r d ≡ c)
 
 -- what the wires of a sheet are allowed: the two pins, the two bends, the channel's height and the distance
-abbrev pub IsShort : Sheet → Type 0
-IsShort s = (r c : ℕ) → IsWire s r c
+abbrev pub WiresShort : Sheet → Type 0
+WiresShort s = (r c : ℕ) → IsWire s r c
     → (s.used r + 1) * s.library.pitch + 2 * s.library.pin + 2 * s.library.wire + (max c (s.to r c) - min c (s.to r c))
     * s.library.pitch ≤ s.library.limit

@@ -24,7 +24,7 @@ use Rattle.cell_library.specs.Library.{LibraryView, input_column_of, output_colu
 use Rattle.cell_library.specs.Laws.{IsLibrary}
 use Rattle.cell_library.specs.Reach.{slot_width_of, fixed_length_of, length_reach_of, reach_of}
 use Rattle.layout_make.proofs.Lawful.{IsLawful}
-use Rattle.layout_make.proofs.SheetKeeps.{IsShort}
+use Rattle.layout_make.proofs.SheetKeeps.{WiresShort}
 use Rattle.rowed.specs.Short.{EachShort, AreShort}
 use Rattle.rowed.specs.Short as placed
 use Rattle.layout_make.specs.Spots.{Spot, spots_of}
@@ -222,7 +222,7 @@ wide l laws = let a = laws.columns_some in let b = laws.spaced in let c = laws.s
     let h : 1 * l.pitch ≤ l.columns * l.pitch = mul-le-mul_right l.pitch a in omega arith
 
 pub short_wires : (p : PlacedView) (l : LibraryView) → IsReady p l → IsPlaced p → IsLibrary l
-    → AreShort (reach_of l) (placed_rows p) → IsShort (sheet p l)
+    → AreShort (reach_of l) (placed_rows p) → WiresShort (sheet p l)
 unfolding sheet
 short_wires p l is known lib short r c wire =
     let laws = lawful l lib in
