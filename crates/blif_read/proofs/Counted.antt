@@ -1,12 +1,13 @@
 -- What a netlist counts, names, outputs, operands, rows and plane bytes, has each a byte of its own in the tokens of the lines.
-use Rattle.std.proofs.Common.{◌≡◌, ℕ, ◌+◌, ◌≤◌, ◌<◌, min, Bool, true, false, cond, List, [], ◌∷◌, map, length, drop, refl, ap, arith, length-append}
+use Rattle.std.proofs.Common.{◌≡◌, ℕ, ◌+◌, ◌≤◌, ◌<◌, min, Bool, true, false, cond, List, [], ◌∷◌, map, length, take, drop, refl, ap, arith, length-append}
 use Rattle.std.specs.List.{slice_split, filter, flat_map, sum_by, AllByRecursion}
-use Rattle.std.proofs.lemmas.List.{length-map}
+use Rattle.std.proofs.lemmas.List.{length-map, take_all}
 use Rattle.std.proofs.lemmas.List.Sums.{sum_by-cons, sum_by-append}
 use Rattle.blif_read.specs.Lines.{Line, is_blank, is_token, tokens_of, cut, has_tokens, joined, physical_lines, without_comment, logical_lines}
 use Rattle.blif_read.specs.Statements.{word, arguments, is_row, front_of, last_of, inputs_in, outputs_in, defined_in}
 use Rattle.blif_read.specs.Parts.{signals, number, plane, definition, definition_at, definitions, rows_before_others, netlist_of}
 use Rattle.blif_read.specs.Netlist.{cube_size, def_size, size_of}
+use Rattle.blif_read.specs.Code.Reading.{lines_from}
 use Rattle.blif_read.specs.Code.Size.{bytes_of, token_bytes, IsCut, AreCut}
 use Rattle.blif_read.proofs.TextSize.{text_bytes}
 use Rattle.blif_read.specs.declared.words.Statement.{Statement}
@@ -89,5 +90,21 @@ few_signals lines c =
     let h = counts (signals lines) lines c in
     omega (arith, length-append (flat_map inputs_in lines) (flat_map defined_in lines))
 
+line_each : (lines : List Line) → AllByRecursion IsCut lines → length lines ≤ bytes_of lines
+line_each [] c = omega arith
+line_each (l ∷ ls) c =
+    let h = line_each ls c.1 in
+    let g = token_each l.tokens c.0.filled in
+    let s = c.0.tokens in
+    omega (arith, sum_by-cons (λ line. token_bytes line.tokens) l ls)
+
 pub text_is_cut : (text : List ℕ) → AreCut (length text) (logical_lines text)
 text_is_cut text = record { each = each_is_cut (joined 1 (map without_comment (physical_lines text))); fits = text_bytes text }
+
+-- a text has no more logical lines than bytes
+pub lines_of_text : (text : List ℕ) → take (length text) (lines_from 1 text) ≡ logical_lines text
+lines_of_text text =
+    let c = text_is_cut text in
+    let h = line_each (logical_lines text) c.each in
+    let f = c.fits in
+    take_all (length text) (logical_lines text) (omega arith)

@@ -1,13 +1,12 @@
 -- The models of a text, part by part and line by line.
-use Rattle.std.proofs.Common.{◌≡◌, ℕ, suc, ◌+◌, ◌<◌, ◌≤◌, not, cond, List, [], ◌∷◌, length, take, drop, Bor, Option, Some, None, refl, sym, ap, ◌∙◌, subst, arith, inl, inr}
+use Rattle.std.proofs.Common.{◌≡◌, ℕ, suc, ◌+◌, ◌<◌, ◌≤◌, not, cond, List, [], ◌∷◌, length, take, drop, Option, Some, None, IfSome, true, false, nat_lt, refl, sym, ap, ◌∙◌, subst, arith, inl, inr}
 use Rattle.std.specs.List.{position, position_or_len}
-use Rattle.std.specs.Option.{option_copied}
-use Rattle.std.proofs.lemmas.Bool.{cases_Bool, ltb-true, ltb-false}
+use Rattle.std.specs.Option.{option_map}
+use Rattle.std.proofs.lemmas.Bool.{cases_Bool, ltb-true, ltb-false, lt-ltb, le-ltb}
 use Rattle.std.proofs.lemmas.List.{drop-drop, length-take-le}
 use Rattle.blif_read.specs.Lines.{Line}
 use Rattle.blif_read.specs.Statements.{word, is_model}
 use Rattle.blif_read.specs.Models.{onto, ended, parts_behind, parts_of, is_equals_sign, formal_in, actual_in}
-use Rattle.blif_read.specs.Code.Sections.{parts_left}
 use Rattle.blif_read.proofs.Cuts.{at_some, at_none, before_at}
 
 -- behind the first `=` of a token
@@ -44,27 +43,75 @@ behind_none (x ∷ xs) le = elim (cases_Bool (is_model (word x))) [
 ]
 
 -- the first model ends where the next begins
-pub first_cut : (lines tail part more : List Line) (i : ℕ) → position (λ x. is_model (word x)) tail ≡ Some i → (length lines ≡ 0 → ⊥) → tail ≡ drop 1 lines → part ≡ take (i + 1) lines → more ≡ drop (i + 1) lines
+pub first_cut : (lines tail part more : List Line) (x : Line) (i : ℕ) → position (λ x. is_model (word x)) tail ≡ Some i → lines ≡ x ∷ tail → part ≡ take (i + 1) lines → more ≡ drop i tail
     → parts_of lines ≡ part ∷ parts_of more
-first_cut [] tail part more i e some t p m = absurd (some refl)
-first_cut (x ∷ xs) tail part more i e some t p m =
-    let here : position (λ x. is_model (word x)) xs ≡ Some i = ap (position (λ x. is_model (word x))) (sym t) ∙ e in
-    let both = at_some _ _ _ here in
-    let below : position_or_len (λ x. is_model (word x)) xs < length xs = ltb-true _ _ both.0 in
+first_cut lines tail part more x i e is p m =
+    let both = at_some _ _ _ e in
+    let below : position_or_len (λ x. is_model (word x)) tail < length tail = ltb-true _ _ both.0 in
     let n : i + 1 ≡ suc i = omega arith in
-    let front : take (suc i) (x ∷ xs) ≡ part = ap (λ k. take k (x ∷ xs)) (sym n) ∙ sym p in
-    let back : drop (suc i) (x ∷ xs) ≡ more = ap (λ k. drop k (x ∷ xs)) (sym n) ∙ sym m in
-    ap (onto x) (behind_at xs i both.1 (omega arith))
-    ∙ ap (λ ys. ys ∷ parts_of (drop i xs)) front ∙ ap (λ ys. part ∷ parts_of ys) back
+    let front : take (suc i) (x ∷ tail) ≡ part = ap (λ ls. take (suc i) ls) (sym is) ∙ ap (λ k. take k lines) (sym n) ∙ sym p in
+    ap parts_of is ∙ ap (onto x) (behind_at tail i both.1 (omega arith))
+    ∙ ap (λ ys. ys ∷ parts_of (drop i tail)) front ∙ ap (λ ys. part ∷ parts_of ys) (sym m)
 
 -- no other model begins
-pub last_cut : (lines tail : List Line) → position (λ x. is_model (word x)) tail ≡ None → (length lines ≡ 0 → ⊥) → tail ≡ drop 1 lines → parts_of lines ≡ lines ∷ []
-last_cut [] tail e some t = absurd (some refl)
-last_cut (x ∷ xs) tail e some t =
-    let here : position (λ x. is_model (word x)) xs ≡ None = ap (position (λ x. is_model (word x))) (sym t) ∙ e in
-    let le : length xs ≤ position_or_len (λ x. is_model (word x)) xs = ltb-false _ _ (at_none _ _ here) in
-    ap (onto x) (behind_none xs le)
+pub last_cut : (lines tail : List Line) (x : Line) → position (λ x. is_model (word x)) tail ≡ None → lines ≡ x ∷ tail → parts_of lines ≡ lines ∷ []
+last_cut lines tail x e is =
+    let le : length tail ≤ position_or_len (λ x. is_model (word x)) tail = ltb-false _ _ (at_none _ _ e) in
+    ap parts_of is ∙ ap (onto x) (behind_none tail le) ∙ ap (λ ls. ls ∷ []) (sym is)
 
--- what is left of the models
-abbrev pub left_of : Option (Bor (List Line)) → List (List Line)
-left_of rest = parts_left (option_copied rest)
+-- what is left of lines behind some that begin no model
+pub record IsBehind (at : ℕ) (rest lines : List Line) : Type 0 where
+  pub place : at + position_or_len (λ x. is_model (word x)) rest ≡ position_or_len (λ x. is_model (word x)) lines
+  pub left : rest ≡ drop at lines
+  pub count : at + length rest ≡ length lines
+
+pub behind_none_yet : (rest lines : List Line) → rest ≡ lines → IsBehind 0 rest lines
+behind_none_yet rest lines same =
+    let here = ap (position_or_len (λ x. is_model (word x))) same in
+    let long = ap length same in
+    record { place = omega arith; left = same; count = omega arith }
+
+module _ (at : ℕ) (old rest lines : List Line) (line : Line) (behind : IsBehind at old lines) (is : old ≡ line ∷ rest) where
+  pub behind_more : is_model (word line) ≡ false → IsBehind (at + 1) rest lines
+  behind_more off =
+      let here = ap (position_or_len (λ x. is_model (word x))) is in
+      let none = ap (λ b. cond (not b) (1 + position_or_len (λ x. is_model (word x)) rest) 0) off in
+      let place = behind.place in
+      let long = ap length is in
+      let count = behind.count in
+      record {
+        place = omega arith;
+        left = ap (drop 1) (sym is) ∙ ap (drop 1) behind.left ∙ drop-drop 1 at lines;
+        count = omega arith;
+      }
+
+  pub model_at : is_model (word line) ≡ true → position (λ x. is_model (word x)) lines ≡ Some at
+  model_at on =
+      let here = ap (position_or_len (λ x. is_model (word x))) is in
+      let some = ap (λ b. cond (not b) (1 + position_or_len (λ x. is_model (word x)) rest) 0) on in
+      let place = behind.place in
+      let long = ap length is in
+      let count = behind.count in
+      let same : position_or_len (λ x. is_model (word x)) lines ≡ at = omega arith in
+      ap (λ n. cond (nat_lt n (length lines)) (Some n) None) same
+      ∙ ap (λ b. cond b (Some at) None) (lt-ltb at (length lines) (omega arith))
+
+-- no line is left
+pub no_model : (at : ℕ) (rest lines : List Line) → IsBehind at rest lines → rest ≡ [] → position (λ x. is_model (word x)) lines ≡ None
+no_model at rest lines behind is =
+    let here = ap (position_or_len (λ x. is_model (word x))) is in
+    let place = behind.place in
+    let long = ap length is in
+    let count = behind.count in
+    ap (λ b. cond b (Some (position_or_len (λ x. is_model (word x)) lines)) None)
+    (le-ltb (position_or_len (λ x. is_model (word x)) lines) (length lines) (omega arith))
+
+-- the place of a model that was found
+pub place_at : (found : Option (ℕ × List Line)) (i : ℕ) (more : List Line) (o : Option ℕ) → option_map (λ f. f.0) found ≡ o → found ≡ Some (i, more) → o ≡ Some i
+place_at found i more o e s = sym e ∙ ap (option_map (λ f. f.0)) s
+
+pub lines_at : (found : Option (ℕ × List Line)) (i : ℕ) (more tail : List Line) → IfSome found (λ f. f.1 ≡ drop f.0 tail) → found ≡ Some (i, more) → more ≡ drop i tail
+lines_at found i more tail r s = let P : Option (ℕ × List Line) → Type 0 = λ o. IfSome o (λ f. f.1 ≡ drop f.0 tail) in subst P s r
+
+pub no_place : (found : Option (ℕ × List Line)) (o : Option ℕ) → option_map (λ f. f.0) found ≡ o → found ≡ None → o ≡ None
+no_place found o e s = sym e ∙ ap (option_map (λ f. f.0)) s

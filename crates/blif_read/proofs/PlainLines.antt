@@ -12,8 +12,9 @@ use Rattle.std.proofs.lemmas.List.Elements.{filter-append}
 use Rattle.std.proofs.lemmas.List.Folds.{list_all-append}
 use Rattle.std.proofs.lemmas.List.Splits.{slice_split_at, slice_split_none}
 use Rattle.std.proofs.lemmas.List.Sums.{AllPass-from_list_all, position_or_len_is}
-use Rattle.blif_read.specs.Lines.{Line, is_feed, is_number_sign, is_blank, is_token, stripped, physical_lines, without_comment}
+use Rattle.blif_read.specs.Lines.{is_feed, is_number_sign, is_blank, is_token, stripped, physical_lines, without_comment}
 use Rattle.blif_read.specs.Lines.{before_backslash, before_lines, joined, cut, tokens_of, has_tokens}
+pub use Rattle.blif_read.specs.Code.Reading.{lines_from}
 use Rattle.blif_read.proofs.Cuts.{has_part, stripped_next}
 use Rattle.blif_read.proofs.Joining.{tokens_joined}
 
@@ -23,10 +24,6 @@ is_inked b = nat_lt 35 b && (not (b == 92) && not (b == 127))
 
 abbrev pub is_plain : ℕ → Bool
 is_plain b = is_inked b || b == 32
-
--- the logical lines of a text whose first line has number n
-abbrev pub lines_from : ℕ → List ℕ → List Line
-lines_from n text = filter has_tokens (map cut (joined n (map without_comment (physical_lines text))))
 
 -- a byte that fails a test is not among bytes that pass it
 differs : (p : ℕ → Bool) (c b : ℕ) → p c ≡ false → p b ≡ true → (b == c) ≡ false

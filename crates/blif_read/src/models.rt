@@ -9,7 +9,7 @@ ghost use Rattle.blif_read.specs.Models.{model_of, model_line, model_name, named
 ghost use Rattle.blif_read.specs.Code.Sections.{with_line};
 
 use crate::cover::rows;
-use crate::lines::LogicalLine;
+use crate::lines::{Lines, LogicalLine};
 use crate::names::copy;
 use crate::netlist::Cube;
 use crate::statements::{arguments, front_of, last_of};
@@ -168,7 +168,7 @@ fn call_of(alloc: Global, line: u64, names: &[&[u8]]) -> Result<Call, Memory>
 fn named_definition(
     alloc: Global,
     line: &LogicalLine<'_>,
-    rest: &[LogicalLine<'_>],
+    rest: &Lines<'_>,
 ) -> Result<NamedDef, Memory>
     ensures { IfOk result (λ def. def
         ≡ named_definition line.now.number (arguments line.now) (rows_before_others rest.now)) }
@@ -190,7 +190,7 @@ fn named_definition(
 fn push_line(
     alloc: Global,
     line: &LogicalLine<'_>,
-    rest: &[LogicalLine<'_>],
+    rest: &Lines<'_>,
     model: &mut BlifModel,
 ) -> Result<(), Memory>
     ensures { OnOk result (model.new ≡ with_line model.old line.now rest.now) }
@@ -221,13 +221,15 @@ fn push_line(
 }
 
 /// The line and the name of the model that lines begin.
-fn head(alloc: Global, lines: &[LogicalLine<'_>]) -> Result<(u64, Bytes), Memory>
+fn head(alloc: Global, lines: &Lines<'_>) -> Result<(u64, Bytes), Memory>
     ensures line { IfOk result (λ head. head.0 ≡ model_line lines.now) }
     ensures name { IfOk result (λ head. head.1 ≡ model_name lines.now) }
 {
-    let Some(line) = lines.first() else {
+    let mut line = LogicalLine::blank(alloc);
+    let mut rest = lines.copy();
+    if !rest.read(&mut line)? {
         return Ok((0, List::new(alloc)));
-    };
+    }
     match line.statement() {
         Statement::Model => {
             let name = first_name(alloc, arguments(line.tokens()))?;
@@ -238,21 +240,22 @@ fn head(alloc: Global, lines: &[LogicalLine<'_>]) -> Result<(u64, Bytes), Memory
 }
 
 /// The model that its lines say.
-pub fn model_of(alloc: Global, lines: &[LogicalLine<'_>]) -> Result<BlifModel, Memory>
+pub fn model_of(alloc: Global, lines: &Lines<'_>) -> Result<BlifModel, Memory>
     ensures { IfOk result (λ model. model ≡ model_of lines.now) }
 {
-    let (line, name) = head(alloc, lines)?;
+    let (number, name) = head(alloc, lines)?;
     let mut model = BlifModel {
-        line,
+        line: number,
         name,
         inputs: List::new(alloc),
         outputs: List::new(alloc),
         defs: List::new(alloc),
         calls: List::new(alloc),
     };
-    for (i, line) in lines.iter().enumerate() {
-        let rest = lines.split_at(i + 1).1;
-        push_line(alloc, line, rest, &mut model)?;
+    let mut line = LogicalLine::blank(alloc);
+    let mut rest = lines.copy();
+    'lines: while rest.read(&mut line)? {
+        push_line(alloc, &line, &rest, &mut model)?;
     }
     Ok(model)
 }

@@ -1,18 +1,18 @@
 // A text of several models, read model by model.
-ghost use Rattle.std.specs.Prelude.{◌≡◌, ◌≤◌, ◌<◌, ◌^◌, ◌∷◌, map, length, IfOk, OnOk, IfErr, IfSome, Some, None};
+ghost use Rattle.std.specs.Prelude.{◌≡◌, ◌≤◌, ◌<◌, ◌^◌, ◌∷◌, map, length, drop, IfOk, OnOk, IfErr, IfSome, Some, None};
 ghost use Rattle.std.specs.List.{position};
-ghost use Rattle.std.specs.Option.{option_copied};
+ghost use Rattle.std.specs.Option.{option_map};
 ghost use Rattle.blif_read.specs.Statements.{word, is_model};
 ghost use Rattle.blif_read.specs.Models.{parts_of, model_of, models_fault, SaysModels, ModelsFault};
 ghost use Rattle.blif_read.specs.Code.Sections.{parts_left};
 ghost use Rattle.blif_read.specs.Says.{IfBad};
 
 use crate::faults::line_fault;
-use crate::lines::{LogicalLine, logical_lines};
+use crate::lines::{Lines, LogicalLine};
 use crate::models::{BlifModel, model_of};
 use crate::netlist::BlifRefusal;
 use crate::words::Statement;
-use aq_base::List;
+use aq_base::{List, Memory};
 use name_hash::NameHash;
 use std::alloc::Global;
 
@@ -26,30 +26,44 @@ pub fn is_model(line: &LogicalLine<'_>) -> bool
     }
 }
 
-/// The place of the first line that begins a model.
-fn next_model(lines: &[LogicalLine<'_>]) -> Option<usize>
-    ensures { result ≡ position (λ line. is_model (word line)) lines.now }
+/// The first line that begins a model: its place, and the lines from it on.
+fn next_model<'a>(alloc: Global, lines: &Lines<'a>) -> Result<Option<(usize, Lines<'a>)>, Memory>
+    ensures place { IfOk result (λ found. option_map (λ f. f.0) found
+        ≡ position (λ line. is_model (word line)) lines.now) }
+    ensures rest { IfOk result (λ found. IfSome found (λ f. f.1 ≡ drop f.0 lines.now)) }
+    ensures few { IfOk result (λ found. IfSome found (λ f. f.0 < 2 ^ 63)) }
 {
-    lines.iter().position(|line| is_model(line))
+    let mut at = 0;
+    let mut line = LogicalLine::blank(alloc);
+    let mut rest = lines.copy();
+    'lines: loop {
+        let here = rest.copy();
+        if !rest.read(&mut line)? {
+            return Ok(None);
+        }
+        if is_model(&line) {
+            return Ok(Some((at, here)));
+        }
+        at += 1;
+    }
 }
 
 /// The lines of the first model, and those of the models that follow.
-fn first_part<'a, 'b>(
-    lines: &'b [LogicalLine<'a>],
-) -> (&'b [LogicalLine<'a>], Option<&'b [LogicalLine<'a>]>)
-    ensures cut { parts_of lines.now
-        ≡ result.0.now ∷ parts_left (option_copied result.1) }
-    ensures shorter { IfSome result.1 (λ more. length more.now < length lines.now) }
+fn first_part<'a>(
+    alloc: Global,
+    lines: &Lines<'a>,
+) -> Result<(Lines<'a>, Option<Lines<'a>>), Memory>
+    ensures cut { IfOk result (λ r. parts_of lines.now ≡ r.0 ∷ parts_left r.1) }
+    ensures shorter { IfOk result (λ r. IfSome r.1 (λ more. length more < length lines.now)) }
 {
-    if lines.len() == 0 {
-        return (lines, None);
+    let mut line = LogicalLine::blank(alloc);
+    let mut tail = lines.copy();
+    if !tail.read(&mut line)? {
+        return Ok((lines.copy(), None));
     }
-    match next_model(lines.split_at(1).1) {
-        Some(at) => {
-            let (part, more) = lines.split_at(at + 1);
-            (part, Some(more))
-        }
-        None => (lines, None),
+    match next_model(alloc, &tail)? {
+        Some((at, more)) => Ok((lines.front(at + 1), Some(more))),
+        None => Ok((lines.copy(), None)),
     }
 }
 
@@ -57,7 +71,7 @@ fn first_part<'a, 'b>(
 pub fn models_in(
     alloc: Global,
     hash: NameHash,
-    lines: &[LogicalLine<'_>],
+    lines: &Lines<'_>,
 ) -> Result<List<BlifModel>, BlifRefusal>
     ensures sound { OnOk result (models_fault (parts_of lines.now) ≡ None) }
     ensures models { IfOk result (λ models. models ≡ map model_of (parts_of lines.now)) }
@@ -65,13 +79,13 @@ pub fn models_in(
         ≡ Some fault)) }
 {
     let mut models = List::new(alloc);
-    let mut rest = Some(lines);
+    let mut rest = Some(lines.copy());
     while let Some(left) = rest {
-        let (part, more) = first_part(left);
-        if let Some(fault) = line_fault(alloc, hash, true, part)? {
+        let (part, more) = first_part(alloc, &left)?;
+        if let Some(fault) = line_fault(alloc, hash, true, &part)? {
             return Err(BlifRefusal::Bad(fault));
         }
-        let model = model_of(alloc, part)?;
+        let model = model_of(alloc, &part)?;
         models.push(model)?;
         rest = more;
     }
@@ -88,6 +102,6 @@ pub fn read_models(alloc: Global, text: &[u8]) -> Result<List<BlifModel>, BlifRe
     ensures ok { IfOk result (λ models. SaysModels text.now models) }
     ensures bad { IfErr result (λ refusal. IfBad refusal (ModelsFault text.now)) }
 {
-    let lines = logical_lines(alloc, text)?;
+    let lines = Lines::of(text);
     models_in(alloc, NameHash::of(text), &lines)
 }

@@ -6,29 +6,42 @@ ghost use Rattle.indexmap.specs.IndexSet.{insert_all};
 ghost use Rattle.blif_read.specs.Parts.{number, signals, is_defined};
 ghost use Rattle.blif_read.specs.Code.Seen.{texts};
 
-use crate::lines::LogicalLine;
+use crate::lines::{Lines, LogicalLine};
 use crate::names::{Index, insert_each, number};
 use crate::statements::{defined_in, inputs_in};
+use crate::words::Statement;
 use aq_base::{List, Memory};
 use indexmap::IndexSet;
 use name_hash::NameHash;
 use std::alloc::Global;
 
-/// The names of the inputs, and then those of the defined signals.
-pub fn signals<'a>(
-    alloc: Global,
-    hash: NameHash,
-    lines: &[LogicalLine<'a>],
-) -> Result<Index<'a>, Memory>
+/// Whether a line defines a signal. Only the room that is taken ahead depends on it.
+fn is_definition(line: &LogicalLine<'_>) -> bool {
+    match line.statement() {
+        Statement::Names => true,
+        _ => false,
+    }
+}
+
+/// The names of the inputs, and then those of the defined signals, for which room is taken ahead.
+pub fn signals<'a>(alloc: Global, hash: NameHash, lines: &Lines<'a>) -> Result<Index<'a>, Memory>
     ensures { IfOk result (λ index. texts index.keys
         ≡ insert_all bytes_eq [] (signals lines.now)) }
 {
     let mut index = IndexSet::with_hasher(alloc, hash);
-    'inputs: for line in lines {
-        insert_each(&mut index, inputs_in(line))?;
+    let mut definitions: usize = 0;
+    let mut line = LogicalLine::blank(alloc);
+    let mut rest = lines.copy();
+    'inputs: while rest.read(&mut line)? {
+        insert_each(&mut index, inputs_in(&line))?;
+        if is_definition(&line) {
+            definitions = definitions.saturating_add(1);
+        }
     }
-    'defined: for line in lines {
-        insert_each(&mut index, defined_in(line))?;
+    index.reserve_exact(definitions)?;
+    rest = lines.copy();
+    'defined: while rest.read(&mut line)? {
+        insert_each(&mut index, defined_in(&line))?;
     }
     Ok(index)
 }

@@ -6,13 +6,13 @@ ghost use Rattle.blif_read.specs.Models.{is_call, is_design};
 ghost use Rattle.blif_read.specs.Says.{IfBad};
 ghost use Rattle.blif_read.specs.Reads.{SaysText, TextFault};
 
-use crate::lines::{LogicalLine, logical_lines};
+use crate::lines::{Lines, LogicalLine};
 use crate::models::BlifModel;
 use crate::netlist::{BlifRefusal, Netlist};
 use crate::read::netlist;
 use crate::sections::{is_model, models_in};
 use crate::words::Statement;
-use aq_base::List;
+use aq_base::{List, Memory};
 use name_hash::NameHash;
 use std::alloc::Global;
 
@@ -35,24 +35,23 @@ fn is_call(line: &LogicalLine<'_>) -> bool
     }
 }
 
-fn has_call(lines: &[LogicalLine<'_>]) -> bool
-    ensures { result ≡ list_any (λ line. is_call (word line)) lines.now }
+/// Whether lines are those of a design: one calls a model, or a second one begins.
+fn is_design(alloc: Global, lines: &Lines<'_>) -> Result<bool, Memory>
+    ensures { IfOk result (λ is. is ≡ is_design lines.now) }
 {
-    lines.iter().any(|line| is_call(line))
-}
-
-/// How many lines begin a model.
-fn model_lines(lines: &[LogicalLine<'_>]) -> usize
-    ensures { result ≡ count_by (λ line. is_model (word line)) lines.now }
-{
-    lines.iter().filter(|line| is_model(line)).count()
-}
-
-/// Whether lines are those of a design.
-fn is_design(lines: &[LogicalLine<'_>]) -> bool
-    ensures { result ≡ is_design lines.now }
-{
-    has_call(lines) || model_lines(lines) > 1
+    let mut one = false;
+    let mut two = false;
+    let mut line = LogicalLine::blank(alloc);
+    let mut rest = lines.copy();
+    'lines: while rest.read(&mut line)? {
+        if is_call(&line) {
+            return Ok(true);
+        }
+        let begins = is_model(&line);
+        two = two || (one && begins);
+        one = one || begins;
+    }
+    Ok(two)
 }
 
 /// The netlist that a text in the Berkeley Logic Interchange Format says, or its models where it calls models or has
@@ -63,9 +62,9 @@ pub fn read_text(alloc: Global, text: &[u8]) -> Result<ReadText, BlifRefusal>
     ensures ok { IfOk result (λ read. SaysText text.now read) }
     ensures bad { IfErr result (λ refusal. IfBad refusal (TextFault text.now)) }
 {
-    let lines = logical_lines(alloc, text)?;
+    let lines = Lines::of(text);
     let hash = NameHash::of(text);
-    if is_design(&lines) {
+    if is_design(alloc, &lines)? {
         let models = models_in(alloc, hash, &lines)?;
         return Ok(ReadText::Design(models));
     }

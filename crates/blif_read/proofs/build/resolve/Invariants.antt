@@ -1,4 +1,4 @@
-use Rattle.std.proofs.Common.{◌≡◌, ◌++◌, map, drop}
+use Rattle.std.proofs.Common.{◌≡◌, ◌++◌, map, length}
 use Rattle.std.specs.List.{flat_map}
 use Rattle.blif_read.specs.Statements.{outputs_in}
 use Rattle.blif_read.specs.Parts.{definitions, number}
@@ -6,9 +6,12 @@ use Rattle.blif_read.specs.Faults.{undefined_fault}
 use Rattle.blif_read.specs.Code.Seen.{texts}
 use Rattle.blif_read.proofs.build.resolve.Given as goal
 
-abbrev pub invariant-loop-i : goal.invariant-loop-i
-invariant-loop-i l = record {
-  sound : undefined_fault (texts l.index.keys) (drop l.i l.lines) ≡ undefined_fault (texts l.index.keys) l.lines;
-  defs : l.defs ++ definitions (texts l.index.keys) (drop l.i l.lines) ≡ definitions (texts l.index.keys) l.lines;
-  outputs : l.outputs ++ map (number (texts l.index.keys)) (flat_map outputs_in (drop l.i l.lines)) ≡ map (number (texts l.index.keys)) (flat_map outputs_in l.lines);
+abbrev pub invariant-lines : goal.invariant-lines
+invariant-lines l = record {
+  sound : undefined_fault (texts l.index.keys) l.rest ≡ undefined_fault (texts l.index.keys) l.lines;
+  defs : l.defs ++ definitions (texts l.index.keys) l.rest ≡ definitions (texts l.index.keys) l.lines;
+  outputs : l.outputs ++ map (number (texts l.index.keys)) (flat_map outputs_in l.rest) ≡ map (number (texts l.index.keys)) (flat_map outputs_in l.lines);
 }
+
+abbrev pub decreases-lines : goal.decreases-lines
+decreases-lines l = length l.rest
