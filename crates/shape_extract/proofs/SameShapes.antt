@@ -1,7 +1,7 @@
--- Shapes that compare as equal are one.
-use Rattle.std.proofs.Common.{◌≡◌, ℕ, ℤ, ◌&&◌, true, eqb, ap, ◌∙◌, arith}
+-- Shapes compare as equal exactly where they are one.
+use Rattle.std.proofs.Common.{◌≡◌, ℕ, ℤ, ◌&&◌, Bool, true, eqb, ap, subst, ◌∙◌, arith}
 use Rattle.std.specs.Ordering.{int_eq}
-use Rattle.std.proofs.lemmas.Bool.{and_parts}
+use Rattle.std.proofs.lemmas.Bool.{and_parts, and_from}
 use Rattle.std.proofs.lemmas.Bool.Decides.{nat_tests}
 use Rattle.std.proofs.lemmas.Int.{ints}
 use Rattle.geom.specs.declared.shapes.Shape.{Shape}
@@ -37,3 +37,28 @@ same_shape s t h =
 
     by_parts : (a0 b0 a1 b1 : ℕ) (a2 b2 : Rectangle) → a0 ≡ b0 → a1 ≡ b1 → a2 ≡ b2 → make a0 a1 a2 ≡ make b0 b1 b2
     by_parts a0 b0 a1 b1 a2 b2 e f g = ap (λ (v : ℕ). make v a1 a2) e ∙ (ap (λ (v : ℕ). make b0 v a2) f ∙ ap (λ (v : Rectangle). make b0 b1 v) g)
+
+number_itself : (a : ℕ) → eqb a a ≡ true
+number_itself a = grind (arith, nat_tests)
+
+int_itself : (a : ℤ) → int_eq a a ≡ true
+int_itself a = grind (arith, ints)
+
+-- what the derived comparison of two shapes answers
+abbrev compared : Shape → Shape → Bool
+compared s t =
+    eqb s.layer t.layer && (eqb s.datatype t.datatype && (int_eq s.rect.x0 t.rect.x0 && (int_eq s.rect.y0 t.rect.y0
+    && (int_eq s.rect.x1 t.rect.x1 && int_eq s.rect.y1 t.rect.y1))))
+
+-- a shape compares as equal to itself
+shape_itself : (s : Shape) → compared s s ≡ true
+shape_itself s =
+    and_from (eqb s.layer s.layer) _ (number_itself s.layer)
+    (and_from (eqb s.datatype s.datatype) _ (number_itself s.datatype)
+    (and_from (int_eq s.rect.x0 s.rect.x0) _ (int_itself s.rect.x0)
+    (and_from (int_eq s.rect.y0 s.rect.y0) _ (int_itself s.rect.y0)
+    (and_from (int_eq s.rect.x1 s.rect.x1) (int_eq s.rect.y1 s.rect.y1) (int_itself s.rect.x1) (int_itself s.rect.y1)))))
+
+-- so does one that is the same
+pub shape_compares : (s t : Shape) → s ≡ t → compared s t ≡ true
+shape_compares s t e = let P : Shape → Type 0 = λ v. compared s v ≡ true in subst P e (shape_itself s)

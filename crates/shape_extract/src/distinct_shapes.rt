@@ -1,5 +1,5 @@
 // Shapes without their repetitions: of equal shapes the one with the least number stands for all.
-ghost use Rattle.std.specs.Prelude.{◌≡◌, ◌<◌, ◌^◌, All, IfOk, IsTrue, length};
+ghost use Rattle.std.specs.Prelude.{◌≡◌, ◌<◌, ◌^◌, ◌↔◌, All, IfOk, IsTrue, length};
 ghost use Rattle.shape_extract.specs.Code.DistinctShapes.{AreHeads, AreAt, ArePlaces, IsDistinct};
 
 use aq_base::{List, Memory};
@@ -76,7 +76,7 @@ fn own_heads(alloc: Global, shapes: &[Shape]) -> Result<Vec<u32>, Memory>
 
 /// Whether the two are equal.
 pub fn is_equal(a: &Shape, b: &Shape) -> bool
-    ensures { IsTrue result → a.now ≡ b.now }
+    ensures { IsTrue result ↔ (a.now ≡ b.now) }
 {
     *a == *b
 }
