@@ -1,14 +1,15 @@
 -- The pieces of a block, one by one.
-use Rattle.std.proofs.Common.{◌≡◌, ℕ, zero, suc, ◌+◌, ◌<◌, ◌≤◌, Bool, List, [], ◌∷◌, ◌++◌, map, length, take, drop, get_or, refl, sym, ap, ◌∙◌, subst, arith, Option, Some, None, append_assoc, length-append, flat_map, filter, replicate, drop-cons, add-one}
+use Rattle.std.proofs.Common.{◌≡◌, ℕ, suc, ◌+◌, ◌<◌, ◌≤◌, Bool, List, [], ◌∷◌, ◌++◌, map, length, take, drop, get_or, refl, sym, ap, ◌∙◌, arith, Option, Some, None, append_assoc, length-append, filter, replicate, drop-cons, add-one}
 use Rattle.std.specs.Prelude.{slice_index_or}
-use Rattle.std.proofs.lemmas.List.{map-append, take_more, take_all, append-nil, length-map, length-replicate, drop_all}
+use Rattle.std.specs.Str.{bytes_eq}
+use Rattle.indexmap.specs.IndexSet.{insert_all}
+use Rattle.std.proofs.lemmas.List.{map-append, take_more, append-nil, length-map, length-replicate, drop_all}
 use Rattle.blif_read.specs.declared.netlist.Def.{Def}
 use Rattle.blif_read.specs.declared.netlist.Cube.{Cube}
 use Rattle.blif_read.specs.Parts.{is_defined}
 use Rattle.blif_read.specs.declared.models.Call.{Call}
 use Rattle.blif_read.specs.declared.models.Named.{Named}
 use Rattle.blif_read.specs.declared.models.NamedDef.{NamedDef}
-use Rattle.blif_read.specs.Code.Seen.{texts}
 use Rattle.blif_read.specs.declared.models.BlifModel.{BlifModel}
 use Rattle.blif_flat.specs.Designs.{names_in, model_number, model_at, no_model, distinct_outputs, formals, actual_of}
 use Rattle.blif_flat.specs.DesignFaults.{number_in as listed}
@@ -79,33 +80,34 @@ pieces_are : (models : List BlifModel) (model : BlifModel) (start : ℕ) (call :
 unfolding pieces_at
 pieces_are models model start call = refl
 
-pub call_made : (models : List BlifModel) (model : BlifModel) (n : ℕ) (call : Call) (outline : Outline) (start : ℕ) (entries entries_seen joined joined_seen : List (Option ℕ)) (exits_seen : List ℕ) (p0 p1 p2 p3 : List Piece) (o : Option ℕ)
-    → o ≡ Some n → o ≡ model_number models call.model → IsOutline models (slice_index_or models n no_model) outline
-    → entries_seen ≡ entries → entries ≡ ports_for (texts outline.inputs.keys) (formals call) → joined_seen ≡ joined → joined ≡ ports_for (texts outline.outputs.keys) (formals call) → exits_seen ≡ outline.exits.items
+pub call_made : (models : List BlifModel) (model : BlifModel) (n : ℕ) (call : Call) (outline : Outline) (ins_named outs_named : List (List ℕ)) (start : ℕ) (entries entries_seen joined joined_seen : List (Option ℕ)) (exits_seen : List ℕ) (p0 p1 p2 p3 : List Piece)
+    → model_number models call.model ≡ Some n → IsOutline models (slice_index_or models n no_model) outline
+    → ins_named ≡ insert_all bytes_eq [] (names_in (slice_index_or models n no_model).inputs) → outs_named ≡ distinct_outputs (slice_index_or models n no_model)
+    → entries_seen ≡ entries → entries ≡ ports_for ins_named (formals call) → joined_seen ≡ joined → joined ≡ ports_for outs_named (formals call) → exits_seen ≡ outline.exits.items
     → p1 ≡ p0 ++ map (λ p. Own (buffer_of call.line (place (wide models) models model (first_actual call p)))) entries_seen → p2 ≡ p1 ++ Inner n start ∷ [] → p3 ≡ p2 ++ map (λ e. Own (buffer_of call.line (start + e))) (exits_in joined_seen exits_seen)
     → p3 ≡ p0 ++ call_pieces (wide models) models model start call
 unfolding pieces_at
-call_made models model n call outline start entries entries_seen joined joined_seen exits_seen p0 p1 p2 p3 o at same is es e js j xs one two three =
+call_made models model n call outline ins_named outs_named start entries entries_seen joined joined_seen exits_seen p0 p1 p2 p3 at is names_i names_o es e js j xs one two three =
     let called_is = slice_index_or models n no_model in
     let ins = map (λ i. Own (buffer_of call.line (place (wide models) models model (actual_of call i)))) (names_in called_is.inputs) in
     let outs = map (λ o2. Own (buffer_of call.line (start + place (wide models) models called_is o2))) (filter (is_defined (formals call)) (distinct_outputs called_is)) in
-    let first = entries_are call (names_in called_is.inputs) entries_seen (λ s. Own (buffer_of call.line (place (wide models) models model s))) (es ∙ e ∙ ap (λ names. ports_for names (formals call)) is.inputs) in
-    let last = exits_are call (distinct_outputs called_is) joined_seen exits_seen (place (wide models) models called_is) (λ x. Own (buffer_of call.line (start + x))) (js ∙ j ∙ ap (λ names. ports_for names (formals call)) is.outputs) (xs ∙ is.exits) in
+    let first = entries_are call (names_in called_is.inputs) entries_seen (λ s. Own (buffer_of call.line (place (wide models) models model s))) (es ∙ e ∙ ap (λ names. ports_for names (formals call)) (names_i ∙ is.inputs)) in
+    let last = exits_are call (distinct_outputs called_is) joined_seen exits_seen (place (wide models) models called_is) (λ x. Own (buffer_of call.line (start + x))) (js ∙ j ∙ ap (λ names. ports_for names (formals call)) names_o) (xs ∙ is.exits) in
     three ∙ ap (λ front. front ++ map (λ e. Own (buffer_of call.line (start + e))) (exits_in joined_seen exits_seen)) (two ∙ ap (λ front. front ++ Inner n start ∷ []) one)
     ∙ (λ i. ((p0 ++ first i) ++ Inner n start ∷ []) ++ last i)
     ∙ ap (λ front. front ++ outs) (append_assoc p0 ins (Inner n start ∷ []))
     ∙ append_assoc p0 (ins ++ Inner n start ∷ []) outs
-    ∙ ap (λ back. p0 ++ back) (ap (pieces_at models model start call) (sym at ∙ same) ∙ pieces_are models model start call)
+    ∙ ap (λ back. p0 ++ back) (ap (pieces_at models model start call) (sym at) ∙ pieces_are models model start call)
 
-pub call_next : (models : List BlifModel) (n : ℕ) (call : Call) (outline : Outline) (start middle count next : ℕ) (joined joined_seen : List (Option ℕ)) (exits_seen : List ℕ) (o : Option ℕ)
-    → o ≡ Some n → o ≡ model_number models call.model → IsOutline models (slice_index_or models n no_model) outline
-    → joined_seen ≡ joined → joined ≡ ports_for (texts outline.outputs.keys) (formals call) → exits_seen ≡ outline.exits.items
+pub call_next : (models : List BlifModel) (n : ℕ) (call : Call) (outline : Outline) (outs_named : List (List ℕ)) (start middle count next : ℕ) (joined joined_seen : List (Option ℕ)) (exits_seen : List ℕ)
+    → model_number models call.model ≡ Some n → IsOutline models (slice_index_or models n no_model) outline → outs_named ≡ distinct_outputs (slice_index_or models n no_model)
+    → joined_seen ≡ joined → joined ≡ ports_for outs_named (formals call) → exits_seen ≡ outline.exits.items
     → middle ≡ start + outline.width → count ≡ length (exits_in joined_seen exits_seen) → next ≡ middle + count → next ≡ start + length (call_names (wide models) models call)
-call_next models n call outline start middle count next joined joined_seen exits_seen o at same is js j xs m c e =
+call_next models n call outline outs_named start middle count next joined joined_seen exits_seen at is names_o js j xs m c e =
     let called_is = slice_index_or models n no_model in
     let outs = filter (is_defined (formals call)) (distinct_outputs called_is) in
-    let number : Some n ≡ model_number models call.model = sym at ∙ same in
-    let many = exits_count call (distinct_outputs called_is) joined_seen exits_seen (place (wide models) models called_is) (js ∙ j ∙ ap (λ names. ports_for names (formals call)) is.outputs) (xs ∙ is.exits) in
+    let number : Some n ≡ model_number models call.model = sym at in
+    let many = exits_count call (distinct_outputs called_is) joined_seen exits_seen (place (wide models) models called_is) (js ∙ j ∙ ap (λ names. ports_for names (formals call)) names_o) (xs ∙ is.exits) in
     let size : length (call_names (wide models) models call) ≡ wide models called_is + length outs =
     ap (λ (x : Option ℕ). length (replicate (wide models (model_at models x)) None ++ map (λ o. Some (actual_of call o)) (filter (is_defined (formals call)) (distinct_outputs (model_at models x))))) (sym number)
     ∙ length-append (replicate (wide models called_is) None) (map (λ o. Some (actual_of call o)) outs)

@@ -1,20 +1,20 @@
 -- The wires of a block, as the names that its model has for them: so wide it is, and so places are found by names.
-use Rattle.std.proofs.Common.{◌≡◌, ℕ, zero, suc, ◌+◌, ◌<◌, ◌≤◌, Bool, true, false, not, cond, ◌&&◌, List, [], ◌∷◌, ◌++◌, map, length, refl, sym, ap, ◌∙◌, subst, arith, inl, inr, Option, Some, None, get_or, flat_map, replicate}
+use Rattle.std.proofs.Common.{◌≡◌, ℕ, zero, suc, ◌+◌, ◌<◌, ◌≤◌, Bool, true, false, not, cond, ◌&&◌, List, [], ◌∷◌, ◌++◌, map, length, refl, sym, ap, ◌∙◌, subst, arith, inl, inr, Option, Some, None, flat_map, replicate}
 use Rattle.std.specs.Prelude.{nat_eq, slice_index_or, ◌==◌}
 use Rattle.std.specs.List.{AllByRecursion, position_or_len}
 use Rattle.std.specs.Str.{bytes_eq}
-use Rattle.std.proofs.lemmas.Bool.{cases_Bool, eqb-true, eqb-false, true≢false}
+use Rattle.std.proofs.lemmas.Bool.{cases_Bool, eqb-true, eqb-false}
 use Rattle.std.proofs.lemmas.List.{map-append, length-map}
 use Rattle.blif_read.specs.Walk.{on}
 use Rattle.blif_read.specs.Walked.{Settled}
 use Rattle.blif_read.specs.declared.models.Call.{Call}
 use Rattle.blif_read.specs.declared.models.BlifModel.{BlifModel}
-use Rattle.blif_flat.specs.Designs.{names_in, model_number, no_model, model_at, called, actual_of, joined_outputs}
+use Rattle.blif_flat.specs.Designs.{model_number, no_model, model_at, called, actual_of, joined_outputs}
 use Rattle.blif_flat.specs.DesignFaults.{number_in as listed, callees}
 use Rattle.blif_flat.specs.Expansion.{Wire, wire, same_wire, WireDef, expanded, expanded_call, expanded_calls, calls_within, number}
 use Rattle.blif_flat.specs.declared.pieces.Piece.{Piece}
 use Rattle.blif_flat.specs.Code.Blocks.{is_that, own_names, call_names, block_names, block_width, place, pieces}
-use Rattle.blif_flat.proofs.Members.{Among, all_weaker, at_among, map_map, same_bytes}
+use Rattle.blif_flat.proofs.Members.{Among, all_weaker, map_map, same_bytes}
 use Rattle.blif_flat.proofs.JoinedModels.{driven_names}
 use Rattle.blif_flat.proofs.SoundModels.{IsSound}
 use Rattle.blif_flat.proofs.Blocks.{defined_in, block, driven_is_there}

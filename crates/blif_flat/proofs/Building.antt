@@ -1,6 +1,6 @@
 -- What the program tells of a text and of its models, step by step.
-use Rattle.std.proofs.Common.{◌≡◌, ℕ, zero, suc, ◌+◌, ◌-◌, ◌<◌, ◌≤◌, ◌^◌, Bool, true, false, min, ◌⊎◌, inl, inr, List, [], ◌∷◌, map, length, get_or, Option, Some, None, refl, sym, ap, ◌∙◌, subst, arith, lit<}
-use Rattle.std.specs.Prelude.{slice_index_or, Result, Ok, Err, IfOk, IfErr}
+use Rattle.std.proofs.Common.{◌≡◌, ℕ, zero, suc, ◌-◌, ◌<◌, ◌≤◌, ◌^◌, Bool, true, false, min, inl, inr, List, [], ◌∷◌, length, get_or, Option, Some, None, refl, sym, ap, ◌∙◌, subst, arith, lit<}
+use Rattle.std.specs.Prelude.{Result, Ok, Err, IfOk, IfErr}
 use Rattle.std.proofs.lemmas.List.{length-map}
 use Rattle.blif_read.specs.Lines.{Line, logical_lines}
 use Rattle.blif_read.specs.Parts.{NetView}
@@ -14,9 +14,9 @@ use Rattle.blif_read.specs.declared.texts.ReadText.{ReadText}
 use Rattle.blif_read.specs.declared.texts.ReadText.TheVariants.{Design as Models}
 use Rattle.blif_read.specs.declared.netlist.BlifFault.{BlifFault}
 use Rattle.blif_read.specs.declared.models.BlifModel.{BlifModel}
-use Rattle.blif_flat.specs.Designs.{first_model, no_model}
+use Rattle.blif_flat.specs.Designs.{first_model}
 use Rattle.blif_flat.specs.DesignFaults.{IsFirstFault, AreJoined, IsRecursive, loop_of}
-use Rattle.blif_flat.specs.DesignSize.{design_size, size_limit}
+use Rattle.blif_flat.specs.DesignSize.{design_size}
 use Rattle.blif_flat.specs.DesignText.{SaysNetlist, IsNetlistRefusal, IsDesignRefusal, IsTextRefusal, IsLaidOut, IsBuildable, HasNoOutputs, IsToldLoop, IsToldFault, IsToldSize, OfModels, SaysExpansion}
 use Rattle.blif_flat.specs.Expansion.{expansion}
 use Rattle.blif_flat.specs.Code.Joining.{IsTold}

@@ -1,14 +1,14 @@
 -- Models that models call, and the walk through calls.
-use Rattle.std.proofs.Common.{◌≡◌, ℕ, zero, suc, ◌+◌, ◌-◌, ◌<◌, List, [], ◌∷◌, ◌++◌, map, length, take, drop, get_or, slice_get, arith, Bool, true, false, cond, Option, Some, None, Bor, refl, sym, ap, subst, ◌∙◌, inl, inr, reverse, Vec, Global}
-use Rattle.std.specs.Prelude.{is_some, nat_lt, slice_index_or}
-use Rattle.std.specs.List.{position, position_or_len, flat_map, AllByRecursion}
+use Rattle.std.proofs.Common.{◌≡◌, ℕ, zero, suc, ◌+◌, ◌-◌, ◌<◌, List, [], ◌∷◌, ◌++◌, length, take, get_or, slice_get, arith, false, cond, Option, Some, None, Bor, refl, sym, ap, subst, ◌∙◌, inl, inr, reverse, Vec, Global}
+use Rattle.std.specs.Prelude.{nat_lt, slice_index_or}
+use Rattle.std.specs.List.{position_or_len, flat_map, AllByRecursion}
 use Rattle.std.specs.Option.{option_map}
 use Rattle.std.specs.Str.{bytes_eq}
 use Rattle.std.proofs.lemmas.Bool.{cases_Bool, ltb-true}
 use Rattle.std.proofs.lemmas.Option.{slice_get-map}
 use Rattle.std.proofs.lemmas.List.{length-map, take_more, length-take}
 use Rattle.blif_read.specs.Parts.{operands, operands_at}
-use Rattle.blif_read.specs.Walk.{closes, on}
+use Rattle.blif_read.specs.Walk.{closes}
 use Rattle.blif_read.specs.Walked.{IsWithin, Settled}
 use Rattle.blif_read.specs.Walked.{IsOrderFrom, IsLedFrom, cycle_in}
 use Rattle.blif_read.specs.declared.walk.Walked.{Walked}

@@ -1,10 +1,9 @@
 -- The names of a circuit's signals: inputs, cells and outputs, in this order. They are tokens, and differ.
-use Rattle.std.proofs.Common.{◌≡◌, ℕ, ◌+◌, ◌-◌, ◌<◌, ◌≤◌, ◌^◌, ◌%◌, ◌&&◌, ◌==◌, not, cond, nat_lt, true, false, List, [], ◌∷◌, ◌++◌, refl, sym, ap, ◌∙◌, subst, arith, inl, inr}
+use Rattle.std.proofs.Common.{◌≡◌, ℕ, ◌+◌, ◌-◌, ◌<◌, ◌^◌, ◌==◌, cond, nat_lt, true, false, List, ◌∷◌, refl, sym, ap, ◌∙◌, subst, arith, inl, inr}
 use Rattle.std.specs.Fmt.{decimal}
 use Rattle.std.specs.List.{list_all}
-use Rattle.std.proofs.lemmas.Bool.{and_from, lt-ltb, le-ltb, ne_eqb, not_from_false, cases_lt}
-use Rattle.std.proofs.lemmas.Fmt.{decimal_by_steps, decimal_injective}
-use Rattle.std.proofs.lemmas.List.Folds.{list_all-append}
+use Rattle.std.proofs.lemmas.Bool.{and_from, lt-ltb, le-ltb, cases_lt}
+use Rattle.std.proofs.lemmas.Fmt.{decimal_injective}
 use Rattle.blif_flat.specs.BlifText.{input_name, cell_name, output_name}
 use Rattle.blif_read.proofs.PlainLines.{is_inked, inked_decimal}
 use Rattle.blif_flat.proofs.WrittenLines.{IsToken}

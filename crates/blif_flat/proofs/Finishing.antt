@@ -1,6 +1,6 @@
 -- What is finished of a design's wires and definitions is the netlist that its text says, and its refusals are those of
 -- that text.
-use Rattle.std.proofs.Common.{◌≡◌, ◌<◌, ◌≤◌, ◌^◌, ℕ, List, map, Result, Ok, Err, IfOk, IfErr, OnOk, None, length, refl, sym, ap, ◌∙◌, subst, inl, inr}
+use Rattle.std.proofs.Common.{◌≡◌, ◌<◌, ◌≤◌, ◌^◌, ℕ, List, map, Result, Ok, Err, IfOk, IfErr, OnOk, None, length, refl, sym, ap, ◌∙◌, subst, inr}
 use Rattle.std.specs.Prelude.{slice_index_or}
 use Rattle.std.proofs.lemmas.List.{get_or_default}
 use Rattle.blif_read.specs.Parts.{NetView}

@@ -1,5 +1,5 @@
 -- Ports of calls by names, and places of names, one by one.
-use Rattle.std.proofs.Common.{◌≡◌, ℕ, zero, suc, ◌+◌, ◌<◌, ◌≤◌, ◌||◌, Bool, true, false, not, cond, List, [], ◌∷◌, ◌++◌, map, length, take, get_or, slice_get, set, filter, IfSome, refl, sym, ap, ◌∙◌, subst, arith, inl, inr, Option, Some, None, replicate, Bor, append_assoc, length-append}
+use Rattle.std.proofs.Common.{◌≡◌, ℕ, zero, suc, ◌+◌, ◌<◌, ◌≤◌, ◌||◌, Bool, true, false, not, cond, List, [], ◌∷◌, ◌++◌, map, length, take, get_or, slice_get, filter, IfSome, refl, sym, ap, ◌∙◌, subst, arith, inl, inr, Option, Some, None, replicate, Bor, append_assoc, length-append}
 use Rattle.std.specs.Prelude.{nat_lt, slice_index_or}
 use Rattle.std.specs.List.{AllByRecursion, IsDistinct, list_any, position, position_or_len, flat_map}
 use Rattle.std.specs.Str.{bytes_eq}
@@ -9,7 +9,7 @@ use Rattle.blif_read.specs.declared.models.Call.{Call}
 use Rattle.blif_read.specs.declared.models.Port.{Port}
 use Rattle.blif_read.specs.Parts.{is_defined}
 use Rattle.blif_flat.specs.Designs.{formals, actual_of}
-use Rattle.blif_flat.specs.Code.Numbering.{number_in, number_or, IsNumbering}
+use Rattle.blif_flat.specs.Code.Numbering.{number_in, number_or}
 use Rattle.blif_flat.specs.Code.Blocks.{is_that}
 use Rattle.blif_flat.specs.Code.Joins.{ports_for, noted, actual_at, actual_in, actuals_in, first_actual, exits_in, ArePlaces}
 use Rattle.blif_flat.proofs.Numbering.{position_cons, position_push, numbered_more, bytes_same, bytes_back}

@@ -1,6 +1,5 @@
 -- Blocks laid out are the expanded models, with numbers in place of wires.
-use Rattle.std.proofs.Common.{◌≡◌, ℕ, zero, suc, ◌+◌, ◌<◌, ◌≤◌, Bool, true, List, [], ◌∷◌, ◌++◌, codes, map, length, refl, sym, ap, ◌∙◌, subst, arith, Option, Some, None, flat_map, replicate, append_assoc, length-append}
-use Rattle.std.specs.Prelude.{slice_index_or}
+use Rattle.std.proofs.Common.{◌≡◌, ℕ, zero, suc, ◌+◌, ◌<◌, Bool, true, List, [], ◌∷◌, ◌++◌, codes, map, length, refl, sym, ap, ◌∙◌, arith, Option, Some, None, flat_map, replicate, append_assoc, length-append}
 use Rattle.std.specs.List.{AllByRecursion}
 use Rattle.std.proofs.lemmas.List.{map-append, length-map, length-replicate, append-nil}
 use Rattle.blif_read.specs.declared.netlist.Def.{Def}
@@ -13,8 +12,8 @@ use Rattle.blif_flat.specs.DesignFaults.{number_in as listed}
 use Rattle.blif_flat.specs.Expansion.{Wire, wire, WireDef, own, buffer, expanded, expanded_call, expanded_calls, calls_within, number, numbered, wires, expansion}
 use Rattle.blif_flat.specs.declared.pieces.Piece.{Piece}
 use Rattle.blif_flat.specs.declared.pieces.Piece.TheVariants.{Own, Inner}
-use Rattle.blif_flat.specs.Code.Blocks.{own_names, call_names, block_names, place, placed, buffer_of, call_pieces, calls_pieces, pieces, moved, of_piece, laid_out}
-use Rattle.blif_flat.proofs.Members.{Among, all_weaker, all_both, all_from, at_among, map_map}
+use Rattle.blif_flat.specs.Code.Blocks.{own_names, call_names, place, placed, buffer_of, call_pieces, calls_pieces, of_piece, laid_out}
+use Rattle.blif_flat.proofs.Members.{Among, all_weaker, all_both, all_from, at_among}
 use Rattle.blif_flat.proofs.JoinedModels.{driven_names, IsJoinedCall, joined_is_output}
 use Rattle.blif_flat.proofs.SoundModels.{IsSound}
 use Rattle.blif_flat.proofs.Blocks.{defined_in, block}

@@ -45,7 +45,8 @@ mod DrivenLines
 mod Indexes
 mod Ported
 mod Listing
-mod PortNumbers
+mod Walking
+mod Linking
 mod WireNames
 mod Building
 pub mod Finishing

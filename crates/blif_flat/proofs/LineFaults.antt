@@ -1,21 +1,19 @@
 -- The faults that the program meets are those that belong to lines: each of them is one, and none comes before all of them.
-use Rattle.std.proofs.Common.{◌≡◌, ◌≢◌, ℕ, ◌+◌, ◌<◌, ◌≤◌, Bool, true, false, not, ◌⊎◌, inl, inr, List, [], ◌∷◌, ◌++◌, map, length, Option, Some, None, Contains, refl, sym, ap, ◌∙◌, subst, arith}
+use Rattle.std.proofs.Common.{◌≡◌, ℕ, ◌+◌, Bool, true, false, not, ◌⊎◌, inl, inr, List, [], ◌∷◌, ◌++◌, Option, Some, None, Contains, refl, sym, ap, ◌∙◌, subst, arith}
 use Rattle.std.specs.Prelude.{slice_get, is_some, max}
 use Rattle.std.specs.List.{flat_map}
 use Rattle.std.proofs.lemmas.List.Elements.{Contains-append_left, Contains-append_right, Contains-append_cases}
-use Rattle.blif_read.specs.Parts.{is_defined}
 use Rattle.blif_read.specs.declared.models.Named.{Named}
 use Rattle.blif_read.specs.declared.models.Call.{Call}
 use Rattle.blif_read.specs.declared.models.BlifModel.{BlifModel}
-use Rattle.blif_flat.specs.Designs.{names_in, model_number, model_at, called, driven, used}
-use Rattle.blif_flat.specs.DesignFaults.{IsModelTwice, HasCall, IsUnknown, HasPorts, IsDrivenTwice, IsUndefined, HasFault, IsToldBefore, IsFirstFault, AreJoined, fits, rank}
-use Rattle.blif_flat.specs.Code.Joining.{at_line, least_of, where_so, is_twice, twice_named, call_faults, Driving, drive_all, undriven, undefined_at, undefined_in, told_behind, model_told, told_in, IsTold}
+use Rattle.blif_flat.specs.Designs.{model_number, model_at, called, driven, used}
+use Rattle.blif_flat.specs.DesignFaults.{IsModelTwice, HasCall, IsUnknown, HasPorts, IsDrivenTwice, IsUndefined, HasFault, fits}
+use Rattle.blif_flat.specs.Code.Joining.{at_line, least_of, where_so, is_twice, twice_named, call_faults, drive_all, undriven, undefined_at, undefined_in, model_told, told_in, IsTold}
 use Rattle.blif_flat.specs.declared.design.FlatKind.{FlatKind}
 use Rattle.blif_flat.specs.declared.design.FlatKind.TheVariants.{ModelTwice, UnknownModel, Ports, Duplicate, Undefined, Recursive, NoOutputs}
 use Rattle.blif_flat.specs.declared.order.Told.{Told}
-use Rattle.blif_flat.proofs.Least.{IsBefore, IsBest, IsBestOf, best_of_list, before_both, before_itself, least_append, in_where, where_in, none_in, head_or, head_in, in_flat, flat_in}
-use Rattle.blif_flat.proofs.Places.{at_place, in_place}
-use Rattle.blif_flat.proofs.NamedTwice.{TellsTwice, twice_sound, twice_cover, is_twice_at}
+use Rattle.blif_flat.proofs.Least.{IsBestOf, best_of_list, before_both, before_itself, least_append, in_where, where_in, none_in, head_or, head_in, in_flat, flat_in}
+use Rattle.blif_flat.proofs.NamedTwice.{twice_sound, twice_cover, is_twice_at}
 use Rattle.blif_flat.proofs.DrivenTwice.{lines_all, twice_driven, drive_lines, drive_told, AreLines, no_lines, lines_append, line_defined, TellsPair, driven_sound, ComesFirst, driven_cover}
 
 -- ---- the faults of a list

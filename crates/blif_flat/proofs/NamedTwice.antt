@@ -1,5 +1,5 @@
 -- Models that have the name of an earlier one, as they are met in order.
-use Rattle.std.proofs.Common.{◌≡◌, ◌≢◌, ℕ, zero, suc, ◌+◌, ◌<◌, ◌≤◌, Bool, true, false, ◌⊎◌, inl, inr, List, [], ◌∷◌, ◌++◌, length, Option, Some, None, Contains, refl, sym, ap, ◌∙◌, subst, arith}
+use Rattle.std.proofs.Common.{◌≡◌, ◌≢◌, ℕ, zero, suc, ◌+◌, ◌<◌, Bool, true, false, ◌⊎◌, inl, inr, List, [], ◌∷◌, Option, Some, None, Contains, refl, sym, ap, ◌∙◌, subst, arith}
 use Rattle.std.specs.Prelude.{slice_get, nat_lt}
 use Rattle.std.proofs.lemmas.Bool.{ltb-true, lt-ltb}
 use Rattle.std.proofs.lemmas.List.Elements.{Contains-append_left, Contains-append_right, Contains-append_cases}
@@ -10,7 +10,7 @@ use Rattle.blif_flat.specs.Code.Joining.{at_line, where_so, is_twice, twice_name
 use Rattle.blif_flat.specs.declared.design.FlatKind.TheVariants.{ModelTwice}
 use Rattle.blif_flat.specs.declared.order.Told.{Told}
 use Rattle.blif_flat.proofs.Least.{in_where, where_in, none_in}
-use Rattle.blif_flat.proofs.Places.{IsNamed, number_found, IsFound, number_finds}
+use Rattle.blif_flat.proofs.Places.{number_found, number_finds}
 
 pub record TellsTwice (models : List BlifModel) (told : Told) : Type 0 where
   pub kind : told.kind ≡ ModelTwice

@@ -1,16 +1,16 @@
 -- A text has one refusal at most but for want of memory.
-use Rattle.std.proofs.Common.{◌≡◌, ◌≢◌, ◌⊎◌, inl, inr, ℕ, ◌+◌, ◌-◌, ◌^◌, ◌<◌, ◌≤◌, Bool, true, false, List, [], length, min, Option, Some, None}
+use Rattle.std.proofs.Common.{◌≡◌, ◌≢◌, ◌⊎◌, inl, inr, ℕ, ◌<◌, ◌≤◌, Bool, true, false, List, length, Option, Some, None}
 use Rattle.std.proofs.Common.{zero, suc, slice_index_or, refl, sym, ap, subst, ◌∙◌, arith}
 use Rattle.std.proofs.lemmas.Bool.{cases_lt}
 use Rattle.blif_read.specs.Lines.{logical_lines}
 use Rattle.blif_read.specs.Faults.{line_of}
 use Rattle.blif_read.specs.Walk.{first_cycle}
-use Rattle.blif_read.specs.Models.{SaysModels, ModelsFault, models_fault}
+use Rattle.blif_read.specs.Models.{SaysModels, ModelsFault}
 use Rattle.blif_read.specs.declared.models.BlifModel.{BlifModel}
 use Rattle.blif_read.specs.declared.netlist.BlifFault.{BlifFault}
 use Rattle.blif_read.specs.declared.netlist.BlifFault.TheVariants.{Cycle}
 use Rattle.blif_flat.specs.Designs.{first_model}
-use Rattle.blif_flat.specs.DesignFaults.{HasFault, IsFirstFault, IsToldBefore, AreJoined, IsRecursive, loop_of, loop_line, rank}
+use Rattle.blif_flat.specs.DesignFaults.{IsFirstFault, IsToldBefore, AreJoined, loop_of, loop_line, rank}
 use Rattle.blif_flat.specs.DesignSize.{design_size, size_limit}
 use Rattle.blif_flat.specs.Expansion.{expansion}
 use Rattle.blif_flat.specs.DesignText.{is_design, IsLaidOut, IsBuildable, HasNoOutputs, IsToldLoop, IsToldFault, IsToldSize, IsToldCycle}

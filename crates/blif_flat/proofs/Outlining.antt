@@ -1,19 +1,18 @@
 -- The places of a model's signals, part by part of its block.
-use Rattle.std.proofs.Common.{◌≡◌, ℕ, zero, suc, ◌+◌, ◌<◌, ◌≤◌, List, [], ◌∷◌, ◌++◌, map, length, take, get_or, slice_get, refl, sym, ap, ◌∙◌, subst, arith, Option, Some, None, replicate, Bor, append_assoc, Vec, Global, flat_map, filter}
+use Rattle.std.proofs.Common.{◌≡◌, ℕ, zero, suc, ◌+◌, ◌<◌, ◌≤◌, List, [], ◌∷◌, ◌++◌, map, length, take, get_or, slice_get, refl, sym, ap, ◌∙◌, subst, arith, Option, Some, None, replicate, Bor, append_assoc, flat_map, filter}
 use Rattle.std.specs.Prelude.{slice_index_or}
 use Rattle.std.specs.List.{AllByRecursion}
 use Rattle.std.proofs.lemmas.List.{map-append, append-nil, take_more, take_all}
-use Rattle.blif_read.specs.Code.Seen.{texts}
 use Rattle.blif_read.specs.declared.models.Call.{Call}
 use Rattle.blif_read.specs.declared.models.Named.{Named}
 use Rattle.blif_read.specs.declared.models.NamedDef.{NamedDef}
 use Rattle.blif_read.specs.declared.models.BlifModel.{BlifModel}
-use Rattle.blif_flat.specs.Designs.{names_in, model_number, model_at, no_model, called, actual_of, joined_outputs, distinct_outputs, formals}
+use Rattle.blif_flat.specs.Designs.{names_in, model_number, model_at, no_model, actual_of, distinct_outputs, formals}
 use Rattle.blif_read.specs.Parts.{is_defined}
 use Rattle.blif_flat.specs.declared.outlines.Outline.{Outline}
 use Rattle.blif_flat.specs.Code.Blocks.{call_names, block_names, own_names, wide}
 use Rattle.blif_flat.specs.Code.Joins.{ports_for, actuals_in, ArePlaces}
-use Rattle.blif_flat.specs.Code.Outlines.{IsOutline, HasOutline, IsOutlined, AreOutlined}
+use Rattle.blif_flat.specs.Code.Outlines.{IsOutline, HasOutline}
 use Rattle.blif_flat.proofs.Members.{map_map}
 use Rattle.blif_flat.proofs.Joining.{outputs_actuals, flat_append}
 use Rattle.blif_flat.proofs.BlockNames.{none_width}
@@ -33,9 +32,8 @@ all_at P (y ∷ xs) zero x all lt is = subst P (sym is) all.0
 all_at P (y ∷ xs) (suc i) x all lt is = all_at P xs i x all.1 (omega arith) is
 
 -- a call that names no model adds nothing
-pub no_call_names : (models : List BlifModel) (call : Call) (o : Option ℕ) → o ≡ model_number models call.model → o ≡ None → [] ≡ call_names (wide models) models call
-no_call_names models call o same is =
-    let none : model_number models call.model ≡ None = sym same ∙ is in
+pub no_call_names : (models : List BlifModel) (call : Call) → model_number models call.model ≡ None → [] ≡ call_names (wide models) models call
+no_call_names models call none =
     sym (ap (λ w. replicate w None) (none_width (length models) models)) ∙ sym (append-nil (replicate (wide models no_model) None))
     ∙ ap (λ (x : Option ℕ). replicate (wide models (model_at models x)) None ++ map (λ o. Some (actual_of call o)) (filter (is_defined (formals call)) (distinct_outputs (model_at models x)))) (sym none)
 
@@ -50,25 +48,25 @@ names_are : (models : List BlifModel) (call : Call) → names_at models call (mo
 unfolding names_at
 names_are models call = refl
 
-call_adds : (models : List BlifModel) (n : ℕ) (call : Call) (outline : Outline) (ports : List (Option ℕ)) → IsOutline models (slice_index_or models n no_model) outline
-    → ports ≡ ports_for (texts outline.outputs.keys) (formals call) → replicate outline.width None ++ somes (actuals_in call ports) ≡ names_at models call (Some n)
+call_adds : (models : List BlifModel) (n : ℕ) (call : Call) (outline : Outline) (keys : List (List ℕ)) (ports : List (Option ℕ)) → IsOutline models (slice_index_or models n no_model) outline
+    → keys ≡ distinct_outputs (slice_index_or models n no_model) → ports ≡ ports_for keys (formals call) → replicate outline.width None ++ somes (actuals_in call ports) ≡ names_at models call (Some n)
 unfolding names_at
-call_adds models n call outline ports is p =
+call_adds models n call outline keys ports is k p =
     let outs = distinct_outputs (slice_index_or models n no_model) in
     let joined : actuals_in call ports ≡ map (actual_of call) (filter (is_defined (formals call)) outs) =
-    ap (actuals_in call) (p ∙ ap (λ names. ports_for names (formals call)) is.outputs) ∙ outputs_actuals call outs in
+    ap (actuals_in call) (p ∙ ap (λ names. ports_for names (formals call)) k) ∙ outputs_actuals call outs in
     (λ i. replicate (is.width i) None ++ somes (joined i))
     ∙ ap (λ back. replicate (wide models (slice_index_or models n no_model)) None ++ back) (map_map (λ n. Some n) (actual_of call) (filter (is_defined (formals call)) outs))
 
-pub call_places : (models : List BlifModel) (n : ℕ) (call : Call) (outline : Outline) (ports seen : List (Option ℕ)) (old new : List (Bor (List ℕ) × ℕ)) (count inner next : ℕ) (o : Option ℕ) → o ≡ Some n → o ≡ model_number models call.model
-    → IsOutline models (slice_index_or models n no_model) outline → seen ≡ ports → ports ≡ ports_for (texts outline.outputs.keys) (formals call)
+pub call_places : (models : List BlifModel) (n : ℕ) (call : Call) (outline : Outline) (keys : List (List ℕ)) (ports seen : List (Option ℕ)) (old new : List (Bor (List ℕ) × ℕ)) (count inner next : ℕ) → model_number models call.model ≡ Some n
+    → IsOutline models (slice_index_or models n no_model) outline → keys ≡ distinct_outputs (slice_index_or models n no_model) → seen ≡ ports → ports ≡ ports_for keys (formals call)
     → ((names : List (Option (List ℕ))) → ArePlaces old count names → ArePlaces old inner (names ++ replicate outline.width None))
     → ((names : List (Option (List ℕ))) → ArePlaces old inner names → ArePlaces new next (names ++ map (λ n. Some n) (actuals_in call seen)))
     → (names : List (Option (List ℕ))) → ArePlaces old count names → ArePlaces new next (names ++ call_names (wide models) models call)
-call_places models n call outline ports seen old new count inner next o at same is s p passes adds names places =
+call_places models n call outline keys ports seen old new count inner next at is k s p passes adds names places =
     let whole : (names ++ replicate outline.width None) ++ somes (actuals_in call seen) ≡ names ++ call_names (wide models) models call =
     append_assoc names (replicate outline.width None) (somes (actuals_in call seen))
-    ∙ ap (λ back. names ++ back) (call_adds models n call outline seen is (s ∙ p) ∙ ap (names_at models call) (sym at ∙ same) ∙ names_are models call) in
+    ∙ ap (λ back. names ++ back) (call_adds models n call outline keys seen is k (s ∙ p) ∙ ap (names_at models call) (sym at) ∙ names_are models call) in
     subst (ArePlaces new next) whole (adds (names ++ replicate outline.width None) (passes names places))
 
 -- ---- one part more

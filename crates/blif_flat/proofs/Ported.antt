@@ -1,16 +1,15 @@
 -- The ports of a call, as the program goes over them.
-use Rattle.std.proofs.Common.{◌≡◌, ℕ, ◌+◌, ◌<◌, ◌≤◌, Bool, true, false, cond, List, [], ◌∷◌, ◌++◌, map, drop, get_or, length, filter, Option, Some, None, refl, sym, ap, ◌∙◌}
+use Rattle.std.proofs.Common.{◌≡◌, ℕ, ◌+◌, ◌<◌, ◌≤◌, false, List, [], ◌∷◌, ◌++◌, drop, get_or, length, filter, Option, Some, None, refl, sym, ap, ◌∙◌}
 use Rattle.std.specs.Prelude.{is_some}
 use Rattle.std.specs.List.{flat_map}
 use Rattle.std.proofs.lemmas.Grind.{flat_map-append}
 use Rattle.std.proofs.lemmas.List.{drop_all}
 use Rattle.blif_read.specs.Parts.{is_defined}
-use Rattle.blif_read.specs.Models.{named}
 use Rattle.blif_read.specs.declared.models.Named.{Named}
 use Rattle.blif_read.specs.declared.models.Port.{Port}
 use Rattle.blif_read.specs.declared.models.Call.{Call}
 use Rattle.blif_read.specs.declared.models.BlifModel.{BlifModel}
-use Rattle.blif_flat.specs.Designs.{names_in, model_number, model_at, called, actuals, input_ports, output_ports, driven, used, no_model}
+use Rattle.blif_flat.specs.Designs.{names_in, model_number, model_at, called, input_ports, output_ports, driven, used, no_model}
 use Rattle.blif_flat.specs.Code.Joining.{least_of, undefined_at, undefined_in, Driving, drive_all, driving, undriven, call_faults, model_told, told_in}
 use Rattle.blif_flat.specs.declared.drivers.Drivers.{Drivers}
 use Rattle.blif_flat.specs.declared.order.Told.{Told}

@@ -1,8 +1,7 @@
 -- Sizes of models, model by model in an order of their calls.
-use Rattle.std.proofs.Common.{◌≡◌, ℕ, zero, suc, ◌+◌, ◌*◌, ◌^◌, ◌-◌, ◌<◌, ◌≤◌, ◌||◌, List, [], ◌∷◌, ◌++◌, length, take, drop, get_or, set, reverse, arith, Bool, true, false, refl, sym, ap, subst, ◌∙◌, inl, inr, min, Option, Some, None, get_or-set_other, get_or-set_same, slice_get}
+use Rattle.std.proofs.Common.{◌≡◌, ℕ, zero, suc, ◌+◌, ◌*◌, ◌^◌, ◌-◌, ◌<◌, ◌≤◌, ◌||◌, List, [], ◌∷◌, ◌++◌, length, take, get_or, set, reverse, arith, true, refl, sym, ap, subst, ◌∙◌, inl, inr, min, Option, Some, None, get_or-set_other, get_or-set_same}
 use Rattle.std.specs.Prelude.{nat_eq, slice_index_or}
 use Rattle.std.specs.List.{AllByRecursion, flat_map, sum_by}
-use Rattle.std.specs.Str.{bytes_eq}
 use Rattle.std.proofs.lemmas.Bool.{cases_Bool, eqb-true, eqb-false}
 use Rattle.std.proofs.lemmas.List.{take_more, take_all, get_or_read}
 use Rattle.std.proofs.lemmas.List.Sums.{sum_by-cons, sum_by-append}
@@ -11,7 +10,7 @@ use Rattle.blif_read.specs.Walked.{Settled}
 use Rattle.blif_read.proofs.Closing.{all_map}
 use Rattle.blif_read.specs.declared.models.Call.{Call}
 use Rattle.blif_read.specs.declared.models.BlifModel.{BlifModel}
-use Rattle.blif_flat.specs.Designs.{model_number, no_model, model_at, called, first_model, distinct_outputs}
+use Rattle.blif_flat.specs.Designs.{model_number, no_model, model_at, first_model, distinct_outputs}
 use Rattle.blif_flat.specs.DesignFaults.{number_in as listed, callees, calls_of}
 use Rattle.blif_flat.specs.DesignSize.{definition_size, call_size, model_size, design_size}
 use Rattle.blif_flat.specs.Code.Calls.{IsCallOrder}

@@ -1,5 +1,5 @@
 -- Where models stand in an order of their calls, chains of their blocks come to an end.
-use Rattle.std.proofs.Common.{◌≡◌, ℕ, zero, suc, ◌+◌, ◌<◌, ◌≤◌, Bool, true, false, List, [], ◌∷◌, ◌++◌, map, length, reverse, refl, sym, ap, ◌∙◌, subst, arith, inl, inr, Option, Some, None, flat_map}
+use Rattle.std.proofs.Common.{◌≡◌, ℕ, zero, suc, ◌+◌, ◌<◌, ◌≤◌, true, List, [], ◌∷◌, ◌++◌, map, length, reverse, refl, sym, ap, ◌∙◌, subst, arith, inl, inr, flat_map}
 use Rattle.std.specs.Prelude.{slice_index_or}
 use Rattle.std.specs.List.{AllByRecursion, sum_by}
 use Rattle.std.proofs.lemmas.Bool.{cases_Bool}
@@ -8,9 +8,8 @@ use Rattle.blif_read.specs.Walk.{on}
 use Rattle.blif_read.specs.Walked.{Settled}
 use Rattle.blif_read.specs.declared.netlist.Def.{Def}
 use Rattle.blif_read.specs.declared.models.Call.{Call}
-use Rattle.blif_read.specs.declared.models.NamedDef.{NamedDef}
 use Rattle.blif_read.specs.declared.models.BlifModel.{BlifModel}
-use Rattle.blif_flat.specs.Designs.{names_in, model_number, no_model, called, actual_of, joined_outputs, first_model}
+use Rattle.blif_flat.specs.Designs.{names_in, model_number, called, actual_of, joined_outputs}
 use Rattle.blif_flat.specs.DesignFaults.{number_in as listed, callees}
 use Rattle.blif_flat.specs.DesignText.{IsLaidOut}
 use Rattle.blif_flat.specs.Expansion.{expansion}
@@ -22,7 +21,7 @@ use Rattle.blif_flat.proofs.Members.{all_both, all_weaker}
 use Rattle.blif_flat.proofs.SoundModels.{first_is_sound}
 use Rattle.blif_flat.proofs.Settling.{agrees, order_fits, reads_done}
 use Rattle.blif_flat.proofs.Sizing.{at, callees_at}
-use Rattle.blif_flat.proofs.BlockNames.{none_width, width_is, IsPlanned, ArePlanned}
+use Rattle.blif_flat.proofs.BlockNames.{none_width, width_is, ArePlanned}
 use Rattle.blif_flat.proofs.LaidBlocks.{definitions_laid}
 
 -- of pieces that are blocks

@@ -1,6 +1,6 @@
 -- Tables of blocks, model by model in the order of calls.
-use Rattle.std.proofs.Common.{◌≡◌, ℕ, zero, suc, ◌+◌, ◌<◌, ◌≤◌, ◌||◌, Bool, true, false, List, [], ◌∷◌, ◌++◌, map, length, take, get_or, slice_get, set, reverse, refl, sym, ap, ◌∙◌, subst, arith, inl, inr, Option, Some, None, flat_map, replicate, Bor, get_or-set_other, get_or-set_same, length-set, Contains}
-use Rattle.std.specs.Prelude.{nat_eq, slice_index_or}
+use Rattle.std.proofs.Common.{◌≡◌, ℕ, zero, suc, ◌+◌, ◌<◌, ◌||◌, true, false, List, [], ◌∷◌, ◌++◌, map, length, take, get_or, slice_get, set, reverse, refl, sym, ap, ◌∙◌, subst, arith, inl, inr, Option, Some, None, flat_map, replicate, Bor, get_or-set_other, get_or-set_same, length-set}
+use Rattle.std.specs.Prelude.{nat_eq}
 use Rattle.std.specs.List.{AllByRecursion, IsDistinct}
 use Rattle.std.specs.Str.{bytes_eq}
 use Rattle.std.proofs.lemmas.Bool.{cases_Bool, eqb-true, eqb-false, true≢false}

@@ -7,6 +7,7 @@ pub mod Indexing
 pub mod Joining
 pub mod Joins
 pub mod Outlines
+pub mod Linked
 pub mod Wired
 pub mod Building
 pub mod Finished

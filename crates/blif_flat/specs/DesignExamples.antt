@@ -1,5 +1,5 @@
--- Small designs, for the laws that compute their netlists: a half adder in a call, a call inside a call, and a model that
--- calls itself.
+-- Small designs, for the laws that compute their netlists: a half adder in a call, a call inside a call, and a model
+-- that calls itself.
 use Rattle.std.specs.Prelude.{ℕ, true, List, [], ◌∷◌, ◌++◌, codes, map}
 use Rattle.blif_read.specs.Lines.{logical_lines}
 use Rattle.blif_read.specs.Models.{parts_of, model_of}
@@ -24,7 +24,8 @@ def_at line inputs planes = record { line = line; inputs = inputs; on = true; cu
 
 abbrev pub half_adder : List ℕ
 half_adder = text_of (
-    codes ".model top" ∷ codes ".inputs a b" ∷ codes ".outputs s c" ∷ codes ".subckt half x=a y=b p=s q=c" ∷ codes ".end"
+    codes ".model top" ∷ codes ".inputs a b" ∷ codes ".outputs s c"
+    ∷ codes ".subckt half x=a y=b p=s q=c" ∷ codes ".end"
     ∷ codes ".model half" ∷ codes ".inputs x y" ∷ codes ".outputs p q" ∷ codes ".names x y p" ∷ codes "10 1"
     ∷ codes "01 1" ∷ codes ".names x y q" ∷ codes "11 1" ∷ codes ".end" ∷ []
     )

@@ -1,6 +1,7 @@
 -- The faults of a design: which there are, and which is told. Those of a line come first, by the least line and then by
 -- kind; then a call that leads back to a model that it stands in; then a first model without outputs.
-use Rattle.std.specs.Prelude.{◌≡◌, ◌≢◌, ◌⊎◌, ℕ, ◌+◌, ◌<◌, ◌≤◌, ◌==◌, Bool, false, cond, not, ◌&&◌, List, [], ◌∷◌, ◌++◌, length, max, Contains, Option, Some, None, slice_get, slice_index_or}
+use Rattle.std.specs.Prelude.{◌≡◌, ◌≢◌, ◌⊎◌, ℕ, ◌+◌, ◌<◌, ◌≤◌, ◌==◌, Bool, false, cond, not, ◌&&◌, List, [], ◌∷◌, ◌++◌}
+use Rattle.std.specs.Prelude.{length, max, Contains, Option, Some, None, slice_get, slice_index_or}
 use Rattle.std.specs.List.{flat_map, list_all}
 use Rattle.blif_read.specs.Parts.{is_defined}
 use Rattle.blif_read.specs.Faults.{adds_again}
@@ -10,7 +11,8 @@ use Rattle.blif_read.specs.declared.models.Call.{Call}
 use Rattle.blif_read.specs.declared.models.BlifModel.{BlifModel}
 use Rattle.blif_flat.specs.Designs.{names_in, model_number, called, driven, used, formals}
 use Rattle.blif_flat.specs.declared.design.FlatKind.{FlatKind}
-use Rattle.blif_flat.specs.declared.design.FlatKind.TheVariants.{ModelTwice, UnknownModel, Ports, Duplicate, Undefined, Recursive, NoOutputs}
+use Rattle.blif_flat.specs.declared.design.FlatKind.TheVariants.{ModelTwice, UnknownModel, Ports, Duplicate, Undefined}
+use Rattle.blif_flat.specs.declared.design.FlatKind.TheVariants.{Recursive, NoOutputs}
 
 -- a model has the name of an earlier one
 pub record IsModelTwice (models : List BlifModel) (line : ℕ) : Type 0 where
@@ -38,8 +40,8 @@ pub record IsUnknown (models : List BlifModel) (line : ℕ) : Type 0 where
   pub none : model_number models call.model ≡ None
   pub at : call.line ≡ line
 
--- The ports of a call fit a model: each is well formed, is an input or an output of the model and stands once, each input
--- has one, and no input is an output too.
+-- The ports of a call fit a model: each is well formed, is an input or an output of the model and stands once, each
+-- input has one, and no input is an output too.
 abbrev pub fits : BlifModel → Call → Bool
 fits model call = call.well_formed
     && list_all (λ p. is_defined (names_in model.inputs ++ names_in model.outputs) p.formal) call.ports

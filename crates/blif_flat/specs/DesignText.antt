@@ -1,6 +1,7 @@
--- Which netlist a text says, be it of one model or of several that call one another, and what is told of a text that says
--- none.
-use Rattle.std.specs.Prelude.{◌≡◌, ◌⊎◌, ℕ, ◌-◌, ◌<◌, ◌≤◌, ◌^◌, Bool, true, false, min, List, [], length, map, Some, None, slice_index_or}
+-- Which netlist a text says, be it of one model or of several that call one another, and what is told of a text that
+-- says none.
+use Rattle.std.specs.Prelude.{◌≡◌, ◌⊎◌, ℕ, ◌-◌, ◌<◌, ◌≤◌, ◌^◌, true, false, min, List, [], length, map, Some}
+use Rattle.std.specs.Prelude.{None, slice_index_or}
 use Rattle.blif_read.specs.Lines.{logical_lines}
 use Rattle.blif_read.specs.Parts.{NetView}
 use Rattle.blif_read.specs.Faults.{line_of}
@@ -16,7 +17,8 @@ use Rattle.blif_flat.specs.DesignFaults.{IsFirstFault, AreJoined, IsRecursive, l
 use Rattle.blif_flat.specs.DesignSize.{design_size, size_limit}
 use Rattle.blif_flat.specs.Expansion.{expansion, wires, wire, told_name}
 use Rattle.blif_flat.specs.declared.design.FlatKind.{FlatKind}
-use Rattle.blif_flat.specs.declared.design.FlatKind.TheVariants.{ModelTwice, UnknownModel, Ports, Duplicate, Undefined, Recursive, NoOutputs}
+use Rattle.blif_flat.specs.declared.design.FlatKind.TheVariants.{ModelTwice, UnknownModel, Ports, Duplicate, Undefined}
+use Rattle.blif_flat.specs.declared.design.FlatKind.TheVariants.{Recursive, NoOutputs}
 use Rattle.blif_flat.specs.declared.design.FlatRefusal.{FlatRefusal}
 use Rattle.blif_flat.specs.declared.design.FlatRefusal.TheVariants.{Text, Design, TooMany, Memory}
 

@@ -1,5 +1,5 @@
--- What the names of a design stand for. A design is the list of the models that a text says; the first is the one that is
--- built. A call names a model, and its ports join signals of that model to signals of the caller.
+-- What the names of a design stand for. A design is the list of the models that a text says; the first is the one that
+-- is built. A call names a model, and its ports join signals of that model to signals of the caller.
 use Rattle.std.specs.Prelude.{ℕ, List, [], ◌∷◌, ◌++◌, map, Option, Some, None, slice_index_or}
 use Rattle.std.specs.List.{flat_map, filter, position}
 use Rattle.std.specs.Str.{bytes_eq}

@@ -56,8 +56,8 @@ abbrev pub calls_within : ℕ → List BlifModel → BlifModel → ℕ
 calls_within zero models model = 0
 calls_within (suc steps) models model = sum_by (λ c. 1 + calls_within steps models (called models c)) model.calls
 
--- A call in call k, which is call n: buffers from the actuals of its inputs, the model that it names, of which these are the
--- definitions, and buffers to the actuals of its outputs.
+-- A call in call k, which is call n: buffers from the actuals of its inputs, the model that it names, of which these
+-- are the definitions, and buffers to the actuals of its outputs.
 abbrev pub expanded_call : List BlifModel → (ℕ → BlifModel → List WireDef) → ℕ → ℕ → Call → List WireDef
 expanded_call models of k n call =
     map (λ i. buffer call.line (wire k (actual_of call i)) (wire n i)) (names_in (called models call).inputs)
@@ -70,8 +70,8 @@ expanded_calls steps models of k n [] = []
 expanded_calls steps models of k n (call ∷ calls) = expanded_call models of k n call
     ++ expanded_calls steps models of k (n + 1 + calls_within steps models (called models call)) calls
 
--- The definitions of the model that call k expands, down chains of fewer models than steps: its own, and then those of its
--- calls, of which the first is call k + 1.
+-- The definitions of the model that call k expands, down chains of fewer models than steps: its own, and then those of
+-- its calls, of which the first is call k + 1.
 abbrev pub expanded : ℕ → List BlifModel → ℕ → BlifModel → List WireDef
 expanded zero models k model = []
 expanded (suc steps) models k model = map (own k) model.defs
@@ -91,8 +91,8 @@ number wires w = position_or_len (same_wire w) wires
 abbrev pub numbered : List Wire → WireDef → Def
 numbered wires d = record { line = d.line; inputs = map (number wires) d.inputs; on = d.on; cubes = d.cubes }
 
--- The names that the netlist keeps. A signal of the first model has its own. One inside a call has its number behind `#`,
--- which stands in no name of a text: so names differ, and their size does not grow with the depth of calls.
+-- The names that the netlist keeps. A signal of the first model has its own. One inside a call has its number behind
+-- `#`, which stands in no name of a text: so names differ, and their size does not grow with the depth of calls.
 abbrev pub kept_name : ℕ → Wire → List ℕ
 kept_name n w = elim w.call [ zero ↦ w.name | suc k ↦ codes "#" ++ decimal n ]
 

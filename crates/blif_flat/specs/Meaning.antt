@@ -1,6 +1,7 @@
--- What the models of a design mean, apart from any expansion: a model answers a word where some values of its signals fit
--- it, and a call shows what the model that it names answers.
-use Rattle.std.specs.Prelude.{◌≡◌, ℕ, zero, suc, Bool, true, false, not, ◌&&◌, List, [], ◌∷◌, map, length, slice_index_or}
+-- What the models of a design mean, apart from any expansion: a model answers a word where some values of its signals
+-- fit it, and a call shows what the model that it names answers.
+use Rattle.std.specs.Prelude.{◌≡◌, ℕ, zero, suc, Bool, true, false, not, ◌&&◌, List, [], ◌∷◌, map, length}
+use Rattle.std.specs.Prelude.{slice_index_or}
 use Rattle.std.specs.List.{list_any, position_or_len, AllByRecursion}
 use Rattle.std.specs.Str.{bytes_eq}
 use Rattle.blif_read.specs.Equations.{takes}
@@ -15,7 +16,8 @@ takes_all [] values = true
 takes_all (b ∷ bs) [] = true
 takes_all (b ∷ bs) (value ∷ values) = takes b value && takes_all bs values
 
--- true where some plane takes the values of the inputs; for a cover of the places where it is false, true where none does
+-- true where some plane takes the values of the inputs; for a cover of the places where it is false, true where none
+-- does
 abbrev pub named_value : NamedDef → (List ℕ → Bool) → Bool
 named_value def v = elim def.on [
   | true ↦ list_any (λ cube. takes_all cube.plane (map v def.inputs)) def.cubes
@@ -26,13 +28,15 @@ named_value def v = elim def.on [
 abbrev pub answer_at : BlifModel → List Bool → List ℕ → Bool
 answer_at model answer name = slice_index_or answer (position_or_len (bytes_eq name) (names_in model.outputs)) false
 
--- The model that a call names answers the values of its input ports, and the signals at its output ports have the values
--- of that answer. These are the answers of models.
+-- The model that a call names answers the values of its input ports, and the signals at its output ports have the
+-- values of that answer. These are the answers of models.
 pub record Shows (answers : BlifModel → List Bool → List Bool → Type 0) (models : List BlifModel)
     (v : List ℕ → Bool) (call : Call) : Type 0 where
   pub answer : List Bool
-  pub given : answers (called models call) (map (λ i. v (actual_of call i)) (names_in (called models call).inputs)) answer
-  pub joined : AllByRecursion (λ p. v p.actual ≡ answer_at (called models call) answer p.formal) (output_ports models call)
+  pub given : answers (called models call)
+      (map (λ i. v (actual_of call i)) (names_in (called models call).inputs)) answer
+  pub joined : AllByRecursion (λ p. v p.actual ≡ answer_at (called models call) answer p.formal)
+      (output_ports models call)
 
 -- values of a model's signals, under which it answers a word
 pub record AnswersBy (answers : BlifModel → List Bool → List Bool → Type 0) (models : List BlifModel)
@@ -48,6 +52,7 @@ abbrev pub Means : ℕ → List BlifModel → BlifModel → List Bool → List B
 Means zero models model word answer = ⊥
 Means (suc steps) models model word answer = AnswersBy (Means steps models) models model word answer
 
--- what a design answers is what its first model does; where no model calls itself, a chain has no more models than there are
+-- what a design answers is what its first model does; where no model calls itself, a chain has no more models than
+-- there are
 abbrev pub DesignAnswers : List BlifModel → List Bool → List Bool → Type 0
 DesignAnswers models word answer = Means (length models) models (first_model models) word answer

@@ -4,13 +4,11 @@ ghost use Rattle.std.specs.List.{position_or_len};
 ghost use Rattle.blif_read.specs.declared.models.BlifModel.{BlifModel as Model};
 ghost use Rattle.blif_flat.specs.Designs.{model_number};
 ghost use Rattle.blif_flat.specs.declared.pieces.Piece.TheVariants.{Own};
-ghost use Rattle.blif_flat.specs.Code.Numbering.{IsNumbering};
-ghost use Rattle.blif_flat.specs.Code.Calls.{has_name};
 ghost use Rattle.blif_flat.specs.Code.Blocks.{is_that, wide, block_names, call_names, placed, buffer_of, call_pieces, pieces};
 ghost use Rattle.blif_flat.specs.Code.Joins.{first_actual, exits_in, ArePlaces};
 ghost use Rattle.blif_flat.specs.Code.Outlines.{IsOutlined, AreOutlined};
 
-use crate::calls::called;
+use crate::indexed::Design;
 use crate::joins::{actual_in, more, place_of, ports_for};
 use crate::numbers::{Numbers, small_number};
 use crate::outlines::{Outline, outline_at};
@@ -173,37 +171,36 @@ fn push_exits(
     Ok(count)
 }
 
-/// Adds the pieces of a call whose model, of this number, has a block that starts at a place. Answers the place behind
-/// what the call adds.
+/// Adds the pieces of a call whose model has a block that starts at a place. Answers the place behind what the call adds.
 fn push_call(
     alloc: Global,
-    outlines: &[Outline<'_>],
-    called: Option<u32>,
+    design: &Design<'_>,
+    outlines: &[Outline],
     places: &Numbers<'_>,
     width: u32,
     call: &Call,
     start: u32,
     pieces: &mut Block,
 ) -> Result<u32, Memory>
-    ensures pieces { (models : Items Model) (model : Model) → called ≡ model_number models call.now.model
-        → IsOutlined models outlines.now called → ArePlaces places.now.entries width (block_names (wide models) models model)
-        → OnOk result (pieces.new ≡ pieces.old ++ call_pieces (wide models) models model start call.now) }
-    ensures next { (models : Items Model) → called ≡ model_number models call.now.model → IsOutlined models outlines.now called
-        → IfOk result (λ next. next ≡ start + length (call_names (wide models) models call.now)) }
+    ensures pieces { (model : Model) → IsOutlined design.now outlines.now (model_number design.now call.now.model)
+        → ArePlaces places.now.entries width (block_names (wide design.now) design.now model)
+        → OnOk result (pieces.new ≡ pieces.old ++ call_pieces (wide design.now) design.now model start call.now) }
+    ensures next { IsOutlined design.now outlines.now (model_number design.now call.now.model)
+        → IfOk result (λ next. next ≡ start + length (call_names (wide design.now) design.now call.now)) }
 {
-    let Some(number) = called else {
+    let Some((number, model)) = design.found(call) else {
         return Ok(start);
     };
     let Some(outline) = outline_at(outlines, number) else {
         return Ok(start);
     };
-    let entries = ports_for(alloc, &outline.inputs, call)?;
+    let entries = ports_for(alloc, model.input_names(), call)?;
     push_entries(alloc, places, width, call, &entries, pieces)?;
     pieces.push(Piece::Inner {
         model: number,
         start,
     })?;
-    let joined = ports_for(alloc, &outline.outputs, call)?;
+    let joined = ports_for(alloc, model.outputs(), call)?;
     let count = push_exits(
         alloc,
         call.line,
@@ -220,15 +217,15 @@ fn push_call(
 /// The block of a model.
 pub fn block_of(
     alloc: Global,
-    numbers: &Numbers<'_>,
-    outlines: &[Outline<'_>],
+    design: &Design<'_>,
+    outlines: &[Outline],
     places: &Numbers<'_>,
     width: u32,
     model: &BlifModel,
 ) -> Result<Block, Memory>
-    ensures { (models : Items Model) → IsNumbering has_name numbers.now.entries models → AreOutlined models outlines.now model.now.calls
-        → ArePlaces places.now.entries width (block_names (wide models) models model.now)
-        → IfOk result (λ block. block ≡ pieces (wide models) models model.now) }
+    ensures { AreOutlined design.now outlines.now model.now.calls
+        → ArePlaces places.now.entries width (block_names (wide design.now) design.now model.now)
+        → IfOk result (λ block. block ≡ pieces (wide design.now) design.now model.now) }
 {
     let mut block = List::new(alloc);
     push_defs(alloc, places, width, model.defs.as_slice(), &mut block)?;
@@ -236,9 +233,8 @@ pub fn block_of(
     let defs = small_number(model.defs.len())?;
     let mut start = more(inputs, defs)?;
     for call in model.calls.as_slice() {
-        let number = called(numbers, call);
         start = push_call(
-            alloc, outlines, number, places, width, call, start, &mut block,
+            alloc, design, outlines, places, width, call, start, &mut block,
         )?;
     }
     Ok(block)

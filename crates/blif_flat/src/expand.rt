@@ -1,17 +1,16 @@
 // The netlist that models are expanded to.
-ghost use Rattle.std.specs.Prelude.{◌<◌, length, IfOk, IfErr};
+ghost use Rattle.std.specs.Prelude.{◌≡◌, ◌<◌, length, IfOk, IfErr};
 ghost use Rattle.blif_read.specs.Netlist.{AreParts};
 ghost use Rattle.blif_flat.specs.DesignText.{IsBuildable, SaysExpansion};
 ghost use Rattle.blif_flat.specs.Expansion.{expansion};
-ghost use Rattle.blif_flat.specs.Code.Numbering.{IsNumbering};
-ghost use Rattle.blif_flat.specs.Code.Calls.{has_name, IsCallOrder};
+ghost use Rattle.blif_flat.specs.Code.Calls.{IsCallOrder};
 ghost use Rattle.blif_flat.specs.Code.Building.{IsModelsRefusal};
 
 use crate::design::FlatRefusal;
 use crate::ends::output_numbers;
 use crate::finish::finish;
 use crate::indexed::Design;
-use crate::numbers::{Numbers, small_number};
+use crate::numbers::small_number;
 use crate::tables::definitions_of;
 use crate::wires::wires;
 use blif_read::{BlifModel, Netlist};
@@ -22,12 +21,12 @@ use std::alloc::Global;
 pub fn expand(
     alloc: Global,
     hash: NameHash,
-    numbers: &Numbers<'_>,
+    design: &Design<'_>,
     models: &[BlifModel],
     order: &[u32],
 ) -> Result<Netlist, FlatRefusal>
+    requires same { design.now ≡ models.now }
     requires some { 0 < length models.now }
-    requires numbers { IsNumbering has_name numbers.now.entries models.now }
     requires buildable { IsBuildable models.now }
     requires parts { AreParts (expansion models.now) }
     requires order { IsCallOrder models.now order.now }
@@ -35,9 +34,8 @@ pub fn expand(
     ensures err { IfErr result (IsModelsRefusal models.now) }
 {
     let first = &models[0];
-    let design = Design::new(alloc, hash, numbers, models)?;
-    let places = wires(alloc, hash, &design, first)?;
-    let defs = definitions_of(alloc, hash, numbers, models, order)?;
+    let places = wires(alloc, design, models, order)?;
+    let defs = definitions_of(alloc, hash, design, models, order)?;
     let outputs = output_numbers(alloc, hash, places.as_slice(), first.outputs.as_slice())?;
     let inputs = small_number(first.inputs.len())?;
     finish(alloc, inputs, places.as_slice(), &defs, &outputs)

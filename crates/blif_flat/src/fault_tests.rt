@@ -1,15 +1,32 @@
 // Texts of models and calls, with the first fault that belongs to a line.
 ghost use Rattle.std.specs.Prelude.{◌≤◌, ◌^◌, length};
+ghost use Rattle.blif_flat.specs.Code.Calls.{has_name};
+ghost use Rattle.blif_flat.specs.Code.Numbering.{IsNumbering};
 
 use crate::calls::model_numbers;
 use crate::design::FlatKind;
 use crate::faults::first_fault;
+use crate::indexed::Design;
+use crate::numbers::Numbers;
 use crate::order::Told;
 use aq_base::Memory;
-use blif_read::read_models;
+use blif_read::{BlifModel, read_models};
 use name_hash::NameHash;
 use std::alloc::Global;
 use std::test::Fail;
+
+/// The first fault of models of these numbers.
+fn fault_in(
+    alloc: Global,
+    hash: NameHash,
+    numbers: &Numbers<'_>,
+    models: &[BlifModel],
+) -> Result<Option<Told>, Memory>
+    requires { IsNumbering has_name numbers.now.entries models.now }
+{
+    let design = Design::new(alloc, hash, numbers, models)?;
+    first_fault(alloc, hash, &design, models)
+}
 
 /// The first fault of a text's models, which have none by themselves.
 fn fault_of(alloc: Global, text: &[u8]) -> Result<Option<Told>, Memory>
@@ -20,7 +37,7 @@ fn fault_of(alloc: Global, text: &[u8]) -> Result<Option<Told>, Memory>
         Ok(models) => {
             let models = models.as_slice();
             let numbers = model_numbers(alloc, hash, models)?;
-            first_fault(alloc, hash, &numbers, models)
+            fault_in(alloc, hash, &numbers, models)
         }
         Err(_) => Err(Memory),
     }

@@ -1,14 +1,11 @@
 // The first fault that belongs to a line of a design.
 ghost use Rattle.std.specs.Prelude.{◌≡◌, IfOk, None};
 ghost use Rattle.std.specs.List.{flat_map};
-ghost use Rattle.blif_flat.specs.Code.Numbering.{IsNumbering};
-ghost use Rattle.blif_flat.specs.Code.Calls.{has_name};
 ghost use Rattle.blif_flat.specs.Code.Joining.{least_of, call_faults, twice_named, model_told, IsTold};
 
 use crate::design::FlatKind;
 use crate::drivers::Drivers;
 use crate::indexed::Design;
-use crate::numbers::Numbers;
 use crate::order::{Told, least, least_where};
 use crate::ports::fits;
 use crate::uses::uses_told;
@@ -80,22 +77,20 @@ fn named_told(design: &Design<'_>, models: &[BlifModel]) -> Option<Told>
     best
 }
 
-/// The first fault that belongs to a line of some models, if there is one, by the numbers of the models. The hash is
-/// keyed by their text. The time that it takes grows with the text, however often a model is called. It is refused for
+/// The first fault that belongs to a line of the models of a design, if there is one. The hash is keyed by their text. The time that it takes grows with the text, however often a model is called. It is refused for
 /// want of memory alone.
 pub fn first_fault(
     alloc: Global,
     hash: NameHash,
-    numbers: &Numbers<'_>,
+    design: &Design<'_>,
     models: &[BlifModel],
 ) -> Result<Option<Told>, Memory>
-    requires { IsNumbering has_name numbers.now.entries models.now }
+    requires { design.now ≡ models.now }
     ensures { IfOk result (λ told. IsTold models.now told) }
 {
-    let design = Design::new(alloc, hash, numbers, models)?;
-    let mut best = named_told(&design, models);
+    let mut best = named_told(design, models);
     for model in models {
-        best = model_told(alloc, hash, &design, best, model)?;
+        best = model_told(alloc, hash, design, best, model)?;
     }
     Ok(best)
 }

@@ -1,12 +1,12 @@
 // The models of a design, found by their names, with the names of their inputs and outputs found fast.
-ghost use Rattle.std.specs.Prelude.{◌≡◌, ◌++◌, [], List, not, IfOk, IfSome, is_some};
+ghost use Rattle.std.specs.Prelude.{◌≡◌, ◌++◌, ◌<◌, [], List, length, not, IfOk, IfSome, MatchOption, Some, is_some, slice_index_or};
 ghost use Rattle.std.specs.List.{list_all};
 ghost use Rattle.std.specs.Str.{bytes_eq};
 ghost use Rattle.indexmap.specs.IndexSet.{insert_all};
 ghost use Rattle.blif_read.specs.Parts.{is_defined};
 ghost use Rattle.blif_read.specs.Code.Seen.{texts};
 ghost use Rattle.blif_read.specs.declared.models.BlifModel.{BlifModel};
-ghost use Rattle.blif_flat.specs.Designs.{names_in, distinct_outputs, model_number, called};
+ghost use Rattle.blif_flat.specs.Designs.{names_in, distinct_outputs, model_number, model_at, no_model, called};
 ghost use Rattle.blif_flat.specs.Code.Numbering.{IsNumbering};
 ghost use Rattle.blif_flat.specs.Code.Calls.{has_name};
 ghost use Rattle.blif_flat.specs.Code.Joining.{is_twice};
@@ -102,6 +102,13 @@ impl<'a> IndexedModel<'a> {
         ensures { texts result.now.keys ≡ distinct_outputs self.now }
     {
         &self.outputs
+    }
+
+    /// The names of its inputs, each once.
+    pub fn input_names(&self) -> &Names<'a>
+        ensures { texts result.now.keys ≡ insert_all bytes_eq [] (names_in self.now.inputs) }
+    {
+        &self.inputs
     }
 
     /// Its inputs.
@@ -210,6 +217,42 @@ impl<'a> Design<'a> {
             Some(first) => (first as usize) < number,
             None => false,
         }
+    }
+
+    /// The model of a number, if there is one.
+    pub fn model(&self, number: Option<u32>) -> Option<&IndexedModel<'a>>
+        ensures { MatchOption result (model_at self.now number ≡ no_model) (λ m. m.now ≡ model_at self.now number) }
+    {
+        match number {
+            Some(number) => self.models.get(number as usize),
+            None => None,
+        }
+    }
+
+    /// The model at a place.
+    pub fn at(&self, place: usize) -> &IndexedModel<'a>
+        requires { place < length self.now }
+        ensures { result.now ≡ slice_index_or self.now place no_model }
+    {
+        &self.models[place]
+    }
+
+    /// The number of the model that a call names, if it names one.
+    pub fn number(&self, call: &Call) -> Option<u32>
+        ensures { result ≡ model_number self.now call.now.model }
+    {
+        called(self.numbers, call)
+    }
+
+    /// The model that a call names, with its number, if it names one.
+    pub fn found(&self, call: &Call) -> Option<(u32, &IndexedModel<'a>)>
+        ensures found { is_some result ≡ is_some (model_number self.now call.now.model) }
+        ensures number { IfSome result (λ r. model_number self.now call.now.model ≡ Some r.0) }
+        ensures model { IfSome result (λ r. r.1.now ≡ slice_index_or self.now r.0 no_model) }
+    {
+        let number = called(self.numbers, call)?;
+        let model = self.models.get(number as usize)?;
+        Some((number, model))
     }
 
     /// The model that a call names, if it names one.

@@ -7,8 +7,8 @@ ghost use Rattle.blif_flat.specs.Designs.{formals};
 ghost use Rattle.blif_flat.specs.Code.Blocks.{is_that};
 ghost use Rattle.blif_flat.specs.Code.Joins.{ports_for, noted, actual_in, actuals_in, ArePlaces};
 
+use crate::indexed::Names;
 use crate::numbers::{Numbers, add, number_of, small_number};
-use crate::sizes::Names;
 use aq_base::Memory;
 use blif_read::Call;
 use std::alloc::Global;

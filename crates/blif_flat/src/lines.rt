@@ -17,6 +17,7 @@ pub const CELL: u8 = b'n';
 
 pub const OUTPUT: u8 = b'O';
 
+/// Adds bytes to a page.
 pub fn add_text(text: &[u8], page: &mut Vec<u8>) -> Result<(), Memory>
     ensures { OnOk result (page.new.items ≡ page.old.items ++ text.now) }
 {

@@ -1,19 +1,15 @@
 // The places of a model's signals in its block.
 ghost use Rattle.std.specs.Prelude.{◌≡◌, ℕ, ◌∷◌, ◌++◌, [], List as Items, map, Option as Maybe, Some, None, slice_get, IfOk};
 ghost use Rattle.std.specs.Option.{option_copied};
-ghost use Rattle.blif_read.specs.declared.models.BlifModel.{BlifModel as Model};
 ghost use Rattle.blif_flat.specs.Designs.{names_in, model_number};
-ghost use Rattle.blif_flat.specs.Code.Numbering.{IsNumbering};
-ghost use Rattle.blif_flat.specs.Code.Calls.{has_name};
 ghost use Rattle.blif_flat.specs.Code.Blocks.{call_names, block_names, wide};
 ghost use Rattle.blif_flat.specs.Code.Joins.{ArePlaces};
 ghost use Rattle.blif_flat.specs.Code.Outlines.{IsOutlined, AreOutlined};
 ghost use Rattle.std.specs.List.{flat_map};
 
-use crate::calls::called;
+use crate::indexed::Design;
 use crate::joins::{add_actuals, add_name, pass, ports_for};
 use crate::numbers::Numbers;
-use crate::sizes::Names;
 use aq_base::Memory;
 use blif_read::{BlifModel, Call, Named, NamedDef};
 use indexmap::IndexMap;
@@ -22,42 +18,39 @@ use std::alloc::Global;
 
 /// What callers of a model need to know of its block.
 #[derive(Drop)]
-pub struct Outline<'a> {
-    pub inputs: Names<'a>,
-    pub outputs: Names<'a>,
-
+pub struct Outline {
     /// The places of the outputs.
     pub exits: Vec<u32>,
     pub width: u32,
 }
 
 /// The outline of a number.
-pub fn outline_at<'a, 'b>(outlines: &'b [Outline<'a>], number: u32) -> Option<&'b Outline<'a>>
+pub fn outline_at(outlines: &[Outline], number: u32) -> Option<&Outline>
     ensures { option_copied result ≡ slice_get outlines.now number }
 {
     outlines.get(number as usize)
 }
 
-/// Gives the next places to what a call adds to its block, where this is the number of the model that it names.
+/// Gives the next places to what a call adds to its block.
 fn add_call<'a>(
     alloc: Global,
-    outlines: &[Outline<'_>],
-    called: Option<u32>,
+    design: &Design<'_>,
+    outlines: &[Outline],
     call: &'a Call,
     places: &mut Numbers<'a>,
     count: u32,
 ) -> Result<u32, Memory>
-    ensures { (models : Items Model) → called ≡ model_number models call.now.model → IsOutlined models outlines.now called
+    ensures { IsOutlined design.now outlines.now (model_number design.now call.now.model)
         → IfOk result (λ next. (names : Items (Maybe (Items ℕ))) → ArePlaces places.old.entries count names
-        → ArePlaces places.new.entries next (names ++ call_names (wide models) models call.now)) }
+        → ArePlaces places.new.entries next (names ++ call_names (wide design.now) design.now call.now)) }
 {
-    let Some(number) = called else {
+    let Some((number, model)) = design.found(call) else {
         return Ok(count);
     };
     let Some(outline) = outline_at(outlines, number) else {
         return Ok(count);
     };
-    let ports = ports_for(alloc, &outline.outputs, call)?;
+    let ports = ports_for(alloc, model.outputs(), call)?;
     let inner = pass(places, count, outline.width)?;
     let next = add_actuals(places, inner, call, &ports)?;
     Ok(next)
@@ -90,20 +83,19 @@ fn add_defs<'a>(defs: &'a [NamedDef], places: &mut Numbers<'a>, count: u32) -> R
 /// Gives the next places to what calls add.
 fn add_calls<'a>(
     alloc: Global,
-    numbers: &Numbers<'_>,
-    outlines: &[Outline<'_>],
+    design: &Design<'_>,
+    outlines: &[Outline],
     calls: &'a [Call],
     places: &mut Numbers<'a>,
     count: u32,
 ) -> Result<u32, Memory>
-    ensures { (models : Items Model) → IsNumbering has_name numbers.now.entries models → AreOutlined models outlines.now calls.now
+    ensures { AreOutlined design.now outlines.now calls.now
         → IfOk result (λ next. (names : Items (Maybe (Items ℕ))) → ArePlaces places.old.entries count names
-        → ArePlaces places.new.entries next (names ++ flat_map (call_names (wide models) models) calls.now)) }
+        → ArePlaces places.new.entries next (names ++ flat_map (call_names (wide design.now) design.now) calls.now)) }
 {
     let mut next = count;
     for call in calls {
-        let number = called(numbers, call);
-        next = add_call(alloc, outlines, number, call, places, next)?;
+        next = add_call(alloc, design, outlines, call, places, next)?;
     }
     Ok(next)
 }
@@ -112,19 +104,19 @@ fn add_calls<'a>(
 pub fn places_of<'a>(
     alloc: Global,
     hash: NameHash,
-    numbers: &Numbers<'_>,
-    outlines: &[Outline<'_>],
+    design: &Design<'_>,
+    outlines: &[Outline],
     model: &'a BlifModel,
 ) -> Result<(Numbers<'a>, u32), Memory>
-    ensures { (models : Items Model) → IsNumbering has_name numbers.now.entries models → AreOutlined models outlines.now model.now.calls
-        → IfOk result (λ r. ArePlaces r.0.entries r.1 (block_names (wide models) models model.now)) }
+    ensures { AreOutlined design.now outlines.now model.now.calls
+        → IfOk result (λ r. ArePlaces r.0.entries r.1 (block_names (wide design.now) design.now model.now)) }
 {
     let mut places = IndexMap::with_hasher(alloc, hash);
     let inputs = add_inputs(model.inputs.as_slice(), &mut places, 0)?;
     let own = add_defs(model.defs.as_slice(), &mut places, inputs)?;
     let width = add_calls(
         alloc,
-        numbers,
+        design,
         outlines,
         model.calls.as_slice(),
         &mut places,

@@ -1,5 +1,5 @@
 // From a text to its netlist, or to what is wrong with it first.
-ghost use Rattle.std.specs.Prelude.{ℕ, ◌<◌, ◌≤◌, ◌^◌, List, length, IfOk, IfErr};
+ghost use Rattle.std.specs.Prelude.{◌≡◌, ℕ, ◌<◌, ◌≤◌, ◌^◌, List, length, IfOk, IfErr};
 ghost use Rattle.blif_read.specs.Says.{IfBad};
 ghost use Rattle.blif_read.specs.Reads.{SaysText, TextFault};
 ghost use Rattle.blif_read.specs.Netlist.{AreParts};
@@ -14,6 +14,7 @@ use crate::calls::{call_order, model_numbers};
 use crate::design::{FlatKind, FlatRefusal};
 use crate::expand::expand;
 use crate::faults::first_fault;
+use crate::indexed::Design;
 use crate::numbers::{Numbers, small_number};
 use crate::sizes::design_size;
 use blif_read::{BlifModel, BlifRefusal, Netlist, ReadText, read_text};
@@ -28,9 +29,11 @@ fn net_of_straight(
     alloc: Global,
     hash: NameHash,
     numbers: &Numbers<'_>,
+    design: &Design<'_>,
     models: &[BlifModel],
     order: &[u32],
 ) -> Result<Netlist, FlatRefusal>
+    requires same { design.now ≡ models.now }
     requires some { 0 < length models.now }
     requires parts { IsBuildable models.now → AreParts (expansion models.now) }
     requires numbers { IsNumbering has_name numbers.now.entries models.now }
@@ -45,11 +48,11 @@ fn net_of_straight(
             kind: FlatKind::NoOutputs,
         });
     }
-    let size = design_size(alloc, hash, numbers, models, order)?;
+    let size = design_size(alloc, numbers, design, models, order)?;
     if size > SIZE_LIMIT {
         return Err(FlatRefusal::TooMany { size });
     }
-    expand(alloc, hash, numbers, models, order)
+    expand(alloc, hash, design, models, order)
 }
 
 /// The netlist of models without faults of lines.
@@ -57,8 +60,10 @@ fn net_of_joined(
     alloc: Global,
     hash: NameHash,
     numbers: &Numbers<'_>,
+    design: &Design<'_>,
     models: &[BlifModel],
 ) -> Result<Netlist, FlatRefusal>
+    requires same { design.now ≡ models.now }
     requires some { 0 < length models.now }
     requires few { length models.now < 2 ^ 32 }
     requires parts { IsBuildable models.now → AreParts (expansion models.now) }
@@ -68,11 +73,35 @@ fn net_of_joined(
     ensures err { IfErr result (IsModelsRefusal models.now) }
 {
     match call_order(alloc, numbers, models)? {
-        Ok(order) => net_of_straight(alloc, hash, numbers, models, &order),
+        Ok(order) => net_of_straight(alloc, hash, numbers, design, models, &order),
         Err(line) => Err(FlatRefusal::Design {
             line,
             kind: FlatKind::Recursive,
         }),
+    }
+}
+
+/// The netlist of models of these numbers.
+fn net_of_numbered(
+    alloc: Global,
+    hash: NameHash,
+    numbers: &Numbers<'_>,
+    models: &[BlifModel],
+) -> Result<Netlist, FlatRefusal>
+    requires some { 0 < length models.now }
+    requires few { length models.now < 2 ^ 32 }
+    requires parts { IsBuildable models.now → AreParts (expansion models.now) }
+    requires numbers { IsNumbering has_name numbers.now.entries models.now }
+    ensures ok { IfOk result (λ net. SaysExpansion net models.now) }
+    ensures err { IfErr result (IsModelsRefusal models.now) }
+{
+    let design = Design::new(alloc, hash, numbers, models)?;
+    match first_fault(alloc, hash, &design, models)? {
+        Some(told) => Err(FlatRefusal::Design {
+            line: told.line,
+            kind: told.kind,
+        }),
+        None => net_of_joined(alloc, hash, numbers, &design, models),
     }
 }
 
@@ -85,13 +114,7 @@ fn net_of(alloc: Global, hash: NameHash, models: &[BlifModel]) -> Result<Netlist
 {
     let _count = small_number(models.len())?;
     let numbers = model_numbers(alloc, hash, models)?;
-    match first_fault(alloc, hash, &numbers, models)? {
-        Some(told) => Err(FlatRefusal::Design {
-            line: told.line,
-            kind: told.kind,
-        }),
-        None => net_of_joined(alloc, hash, &numbers, models),
-    }
+    net_of_numbered(alloc, hash, &numbers, models)
 }
 
 /// The netlist that is read, or that the models are expanded to.

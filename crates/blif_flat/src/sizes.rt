@@ -1,60 +1,19 @@
 // The size of a design.
 ghost use Rattle.std.specs.Prelude.{◌≡◌, ℕ, ◌+◌, ◌-◌, ◌*◌, ◌^◌, ◌<◌, ◌++◌, List as Items, [], length, reverse, min, IfOk, OnOk, slice_index_or};
 ghost use Rattle.std.specs.List.{sum_by};
-ghost use Rattle.std.specs.Str.{bytes_eq};
-ghost use Rattle.indexmap.specs.IndexSet.{insert_key, insert_all};
-ghost use Rattle.blif_read.specs.Code.Seen.{texts};
 ghost use Rattle.blif_read.specs.declared.models.BlifModel.{BlifModel as Model};
-ghost use Rattle.blif_flat.specs.Designs.{names_in, model_number, distinct_outputs};
+ghost use Rattle.blif_flat.specs.Designs.{model_number};
 ghost use Rattle.blif_flat.specs.DesignSize.{definition_size, design_size};
 ghost use Rattle.blif_flat.specs.Code.Numbering.{IsNumbering};
 ghost use Rattle.blif_flat.specs.Code.Calls.{has_name, IsCallOrder};
 ghost use Rattle.blif_flat.specs.Code.Sizes.{told, called_size, told_at, size_by, TellsCalls};
 
 use crate::calls::called;
+use crate::indexed::{Design, IndexedModel};
 use crate::numbers::Numbers;
 use aq_base::Memory;
-use blif_read::{BlifModel, Call, Named, NamedDef};
-use indexmap::IndexSet;
-use name_hash::NameHash;
+use blif_read::{BlifModel, Call, NamedDef};
 use std::alloc::Global;
-
-/// Names, each once, in the order in which they were added.
-pub type Names<'a> = IndexSet<&'a [u8], NameHash>;
-
-fn add_name<'a>(names: &mut Names<'a>, name: &'a [u8]) -> Result<(), Memory>
-    ensures { OnOk result (texts names.new.keys ≡ insert_key bytes_eq (texts names.old.keys) name.now) }
-{
-    names.insert_full(name)?;
-    Ok(())
-}
-
-/// Names, each once.
-pub fn distinct_names<'a>(
-    alloc: Global,
-    hash: NameHash,
-    list: &'a [Named],
-) -> Result<Names<'a>, Memory>
-    ensures { IfOk result (λ names. texts names.keys ≡ insert_all bytes_eq [] (names_in list.now)) }
-{
-    let mut names = IndexSet::with_hasher(alloc, hash);
-    for named in list {
-        add_name(&mut names, named.name.as_slice())?;
-    }
-    Ok(names)
-}
-
-/// The names of a model's outputs, each once.
-pub fn distinct_outputs<'a>(
-    alloc: Global,
-    hash: NameHash,
-    model: &'a BlifModel,
-) -> Result<Names<'a>, Memory>
-    ensures { IfOk result (λ names. texts names.keys ≡ distinct_outputs model.now) }
-{
-    let names = distinct_names(alloc, hash, model.outputs.as_slice())?;
-    Ok(names)
-}
 
 /// The size of a definition, or `u64::MAX` where that is larger, as for all sizes here.
 fn definition_size(def: &NamedDef) -> u64
@@ -113,28 +72,26 @@ fn model_size(numbers: &Numbers<'_>, table: &[u64], model: &BlifModel) -> u64
 }
 
 /// What a call of a model takes, which has this size.
-fn called_size(alloc: Global, hash: NameHash, model: &BlifModel, size: u64) -> Result<u64, Memory>
-    ensures { IfOk result (λ called. called ≡ told (called_size model.now size)) }
+fn called_size(model: &IndexedModel<'_>, size: u64) -> u64
+    ensures { result ≡ told (called_size model.now size) }
 {
-    let inputs = 4_u64.saturating_mul(model.inputs.len() as u64);
-    let outputs = distinct_outputs(alloc, hash, model)?;
-    let outputs = 4_u64.saturating_mul(outputs.len() as u64);
-    Ok(
-        1_u64
-            .saturating_add(inputs)
-            .saturating_add(outputs)
-            .saturating_add(size),
-    )
+    let inputs = 4_u64.saturating_mul(model.inputs().len() as u64);
+    let outputs = 4_u64.saturating_mul(model.outputs().len() as u64);
+    1_u64
+        .saturating_add(inputs)
+        .saturating_add(outputs)
+        .saturating_add(size)
 }
 
 /// What calls of the models in an order take, by the numbers of models.
 fn call_sizes(
     alloc: Global,
-    hash: NameHash,
     numbers: &Numbers<'_>,
+    design: &Design<'_>,
     models: &[BlifModel],
     order: &[u32],
 ) -> Result<Vec<u64>, Memory>
+    requires same { design.now ≡ models.now }
     requires numbers { IsNumbering has_name numbers.now.entries models.now }
     requires order { IsCallOrder models.now order.now }
     ensures { IfOk result (λ table. TellsCalls models.now (reverse order.now) table.items) }
@@ -142,9 +99,8 @@ fn call_sizes(
     let mut table = vec![in alloc; 0_u64; models.len()]?;
     for number in order {
         let at = *number as usize;
-        let model = &models[at];
-        let size = model_size(numbers, &table, model);
-        table[at] = called_size(alloc, hash, model, size)?;
+        let size = model_size(numbers, &table, &models[at]);
+        table[at] = called_size(design.at(at), size);
     }
     Ok(table)
 }
@@ -152,16 +108,17 @@ fn call_sizes(
 /// The size of a design whose models stand in this order, each after those that it calls.
 pub fn design_size(
     alloc: Global,
-    hash: NameHash,
     numbers: &Numbers<'_>,
+    design: &Design<'_>,
     models: &[BlifModel],
     order: &[u32],
 ) -> Result<u64, Memory>
+    requires same { design.now ≡ models.now }
     requires some { 0 < length models.now }
     requires numbers { IsNumbering has_name numbers.now.entries models.now }
     requires order { IsCallOrder models.now order.now }
     ensures { IfOk result (λ size. size ≡ min (design_size models.now) (2 ^ 64 - 1)) }
 {
-    let table = call_sizes(alloc, hash, numbers, models, order)?;
+    let table = call_sizes(alloc, numbers, design, models, order)?;
     Ok(model_size(numbers, &table, &models[0]))
 }

@@ -8,22 +8,20 @@ ghost use Rattle.blif_flat.specs.Designs.{names_in};
 ghost use Rattle.blif_flat.specs.DesignFaults.{AreJoined};
 ghost use Rattle.blif_flat.specs.DesignText.{IsLaidOut};
 ghost use Rattle.blif_flat.specs.Expansion.{expansion};
-ghost use Rattle.blif_flat.specs.Code.Numbering.{IsNumbering};
-ghost use Rattle.blif_flat.specs.Code.Calls.{has_name, IsCallOrder};
+ghost use Rattle.blif_flat.specs.Code.Calls.{IsCallOrder};
 ghost use Rattle.blif_flat.specs.Code.Blocks.{is_that, wide, block_names, HasBlocks};
 ghost use Rattle.blif_flat.specs.Code.Joins.{ArePlaces};
 ghost use Rattle.blif_flat.specs.Code.Outlines.{IsOutline};
 
 use crate::assembly::block_of;
+use crate::indexed::{Design, IndexedModel, Names};
 use crate::joins::place_of;
 use crate::layout::lay_out;
 use crate::numbers::Numbers;
 use crate::outlines::{Outline, places_of};
 use crate::pieces::Block;
-use crate::sizes::{Names, distinct_names, distinct_outputs};
 use aq_base::{List, Memory};
 use blif_read::{BlifModel, Def};
-use indexmap::IndexSet;
 use name_hash::NameHash;
 use std::alloc::Global;
 
@@ -56,40 +54,26 @@ fn exits_of(
 }
 
 /// The outline of a model, whose inputs differ.
-fn outline_of<'a>(
+fn outline_of(
     alloc: Global,
-    hash: NameHash,
     places: &Numbers<'_>,
     width: u32,
-    model: &'a BlifModel,
-) -> Result<Outline<'a>, Memory>
+    model: &IndexedModel<'_>,
+) -> Result<Outline, Memory>
     requires { IsDistinct bytes_eq (names_in model.now.inputs) }
     ensures { (models : Items Model) → ArePlaces places.now.entries width (block_names (wide models) models model.now)
         → width ≡ wide models model.now → IfOk result (IsOutline models model.now) }
 {
-    let inputs = distinct_names(alloc, hash, model.inputs.as_slice())?;
-    let outputs = distinct_outputs(alloc, hash, model)?;
-    let exits = exits_of(alloc, places, width, &outputs)?;
-    Ok(Outline {
-        inputs,
-        outputs,
-        exits,
-        width,
-    })
+    let exits = exits_of(alloc, places, width, model.outputs())?;
+    Ok(Outline { exits, width })
 }
 
-fn empty_outlines<'a>(
-    alloc: Global,
-    hash: NameHash,
-    count: usize,
-) -> Result<List<Outline<'a>>, Memory>
+fn empty_outlines(alloc: Global, count: usize) -> Result<List<Outline>, Memory>
     ensures { IfOk result (λ outlines. length outlines ≡ count) }
 {
     let mut outlines = List::new(alloc);
     for _number in 0..count {
         outlines.push(Outline {
-            inputs: IndexSet::with_hasher(alloc, hash),
-            outputs: IndexSet::with_hasher(alloc, hash),
             exits: Vec::new(alloc),
             width: 0,
         })?;
@@ -108,26 +92,27 @@ fn empty_blocks(alloc: Global, count: usize) -> Result<List<Block>, Memory>
 }
 
 /// The blocks of the models that stand in an order, each after those that it calls, by the numbers of models.
-pub fn blocks_of<'a>(
+pub fn blocks_of(
     alloc: Global,
     hash: NameHash,
-    numbers: &Numbers<'_>,
-    models: &'a [BlifModel],
+    design: &Design<'_>,
+    models: &[BlifModel],
     order: &[u32],
 ) -> Result<List<Block>, Memory>
-    requires numbers { IsNumbering has_name numbers.now.entries models.now }
+    requires same { design.now ≡ models.now }
     requires order { IsCallOrder models.now order.now }
     requires joined { AreJoined models.now }
     ensures { IfOk result (λ blocks. HasBlocks models.now (reverse order.now) blocks) }
 {
-    let mut outlines = empty_outlines(alloc, hash, models.len())?;
+    let mut outlines = empty_outlines(alloc, models.len())?;
     let mut blocks = empty_blocks(alloc, models.len())?;
     for number in order {
         let at = *number as usize;
-        let model = &models[at];
-        let (places, width) = places_of(alloc, hash, numbers, outlines.as_slice(), model)?;
-        let block = block_of(alloc, numbers, outlines.as_slice(), &places, width, model)?;
-        let outline = outline_of(alloc, hash, &places, width, model)?;
+        let model = design.at(at);
+        let own = model.model();
+        let (places, width) = places_of(alloc, hash, design, outlines.as_slice(), own)?;
+        let block = block_of(alloc, design, outlines.as_slice(), &places, width, own)?;
+        let outline = outline_of(alloc, &places, width, model)?;
         blocks.set(at, block);
         outlines.set(at, outline);
     }
@@ -139,17 +124,17 @@ pub fn blocks_of<'a>(
 pub fn definitions_of(
     alloc: Global,
     hash: NameHash,
-    numbers: &Numbers<'_>,
+    design: &Design<'_>,
     models: &[BlifModel],
     order: &[u32],
 ) -> Result<List<Def>, Memory>
+    requires same { design.now ≡ models.now }
     requires some { 0 < length models.now }
-    requires numbers { IsNumbering has_name numbers.now.entries models.now }
     requires order { IsCallOrder models.now order.now }
     requires laid_out { IsLaidOut models.now }
     ensures { IfOk result (λ defs. defs ≡ (expansion models.now).defs) }
 {
-    let blocks = blocks_of(alloc, hash, numbers, models, order)?;
+    let blocks = blocks_of(alloc, hash, design, models, order)?;
     let defs = lay_out(alloc, blocks.as_slice())?;
     Ok(defs)
 }

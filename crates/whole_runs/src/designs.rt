@@ -58,11 +58,45 @@ fn named_at_length(alloc: Global, bytes: u32, calls: u32) -> Result<String, Allo
     Ok(net)
 }
 
+// Each model from this one on calls the next twice, up to the last, which is a constant.
+fn doubled(alloc: Global, from: u32, times: u32) -> Result<String, AllocError> {
+    let mut net = String::from_str(alloc, "")?;
+    for model in from..times {
+        let next = model + 1;
+        let calls = format!(in alloc;
+            ".model m{model}\n.outputs o\n.subckt m{next} o=o\n.subckt m{next}\n"
+        )?;
+        net.push_str(calls.as_str())?;
+    }
+    let last = format!(in alloc; ".model m{times}\n.outputs o\n.names o\n1\n")?;
+    net.push_str(last.as_str())?;
+    Ok(net)
+}
+
+// A wire, and calls of doubled models and a definition for nothing: a design of size 16,777,146, and one more for each
+// input of that definition.
+fn sized(alloc: Global, inputs: u32) -> Result<String, AllocError> {
+    let mut net = String::from_str(alloc, ".model top\n.inputs a\n.outputs a\n.subckt m1\n")?;
+    for model in [1, 2, 4, 6, 8, 10, 12, 14, 16, 18] {
+        let call = format!(in alloc; ".subckt m{model}\n")?;
+        net.push_str(call.as_str())?;
+    }
+    net.push_str(".names")?;
+    for _ in 0..inputs {
+        net.push_str(" a")?;
+    }
+    net.push_str(" b\n")?;
+    let models = doubled(alloc, 1, 20)?;
+    net.push_str(models.as_str())?;
+    Ok(net)
+}
+
 #[test]
-fn depth_and_names_cost_what_they_are(rt: HostRuntime) -> Result<(), Fail> {
+fn depth_names_and_size_cost_what_they_are(rt: HostRuntime) -> Result<(), Fail> {
     let nets = [
         nested(rt.alloc(), 10_000)?,
-        named_at_length(rt.alloc(), 10_000, 10_000)?,
+        named_at_length(rt.alloc(), 1_000_000, 100_000)?,
+        sized(rt.alloc(), 70)?,
     ];
     for net in nets {
         let files = store(rt.alloc(), net.as_bytes(), LIBRARY_A.as_bytes())?;
@@ -75,29 +109,17 @@ fn depth_and_names_cost_what_they_are(rt: HostRuntime) -> Result<(), Fail> {
     Ok(())
 }
 
-// Each model calls the next twice, so that the last, a constant, stands so many times twofold.
-fn doubled(alloc: Global, times: u32) -> Result<String, AllocError> {
-    let mut net = String::from_str(alloc, "")?;
-    for model in 0..times {
-        let next = model + 1;
-        let calls = format!(in alloc;
-            ".model m{model}\n.outputs o\n.subckt m{next} o=o\n.subckt m{next}\n"
-        )?;
-        net.push_str(calls.as_str())?;
-    }
-    let last = format!(in alloc; ".model m{times}\n.outputs o\n.names o\n1\n")?;
-    net.push_str(last.as_str())?;
-    Ok(net)
-}
-
 #[test]
 fn too_large_designs_are_refused(rt: HostRuntime) -> Result<(), Fail> {
     let cases = [
-        (21, "too large: 25165814 design"),
-        (100, "too large: 18446744073709551615 design"),
+        (doubled(rt.alloc(), 0, 21)?, "too large: 25165814 design"),
+        (
+            doubled(rt.alloc(), 0, 100)?,
+            "too large: 18446744073709551615 design",
+        ),
+        (sized(rt.alloc(), 71)?, "too large: 16777217 design"),
     ];
-    for (times, told) in cases {
-        let net = doubled(rt.alloc(), times)?;
+    for (net, told) in cases {
         let files = store(rt.alloc(), net.as_bytes(), LIBRARY_A.as_bytes())?;
         let refusal = Refusal { status: 10, told };
         assert!(rt;

@@ -1,11 +1,11 @@
--- The wires of a model in one block: its inputs, what it defines, and then, call by call, the block of the called model and
--- the signals that its outputs are joined to. Places are counted from the block's first wire, so that one list of
+-- The wires of a model in one block: its inputs, what it defines, and then, call by call, the block of the called model
+-- and the signals that its outputs are joined to. Places are counted from the block's first wire, so that one list of
 -- definitions by places serves each call of a model.
-use Rattle.std.specs.Prelude.{◌≡◌, ℕ, zero, suc, ◌+◌, Bool, true, false, List, [], ◌∷◌, ◌++◌, codes, map, length, drop, replicate, Option, Some, None, slice_index_or}
+use Rattle.std.specs.Prelude.{◌≡◌, ℕ, zero, suc, ◌+◌, Bool, true, false, List, [], ◌∷◌, ◌++◌, codes, map, length, drop}
+use Rattle.std.specs.Prelude.{replicate, Option, Some, None, slice_index_or}
 use Rattle.std.specs.List.{flat_map, position_or_len, sum_by}
 use Rattle.std.specs.Str.{bytes_eq}
 use Rattle.blif_read.specs.declared.netlist.Def.{Def}
-use Rattle.blif_read.specs.declared.netlist.Cube.{Cube}
 use Rattle.blif_read.specs.declared.models.Call.{Call}
 use Rattle.blif_read.specs.declared.models.NamedDef.{NamedDef}
 use Rattle.blif_read.specs.declared.models.BlifModel.{BlifModel}
@@ -52,9 +52,11 @@ buffer_of line from = record { line = line; inputs = from ∷ []; on = true; cub
 -- the pieces of a call whose model's block starts at a place
 abbrev pub call_pieces : (BlifModel → ℕ) → List BlifModel → BlifModel → ℕ → Call → List Piece
 call_pieces width models model start call =
-    map (λ i. Own (buffer_of call.line (place width models model (actual_of call i)))) (names_in (called models call).inputs)
+    map (λ i. Own (buffer_of call.line (place width models model (actual_of call i))))
+    (names_in (called models call).inputs)
     ++ map (λ n. Inner n start) (listed (model_number models call.model))
-    ++ map (λ o. Own (buffer_of call.line (start + place width models (called models call) o))) (joined_outputs models call)
+    ++ map (λ o. Own (buffer_of call.line (start + place width models (called models call) o)))
+    (joined_outputs models call)
 
 abbrev pub calls_pieces : (BlifModel → ℕ) → List BlifModel → BlifModel → ℕ → List Call → List Piece
 calls_pieces width models model start [] = []
@@ -100,13 +102,15 @@ pub record AreStraight (blocks : List (List Piece)) : Type 0 where
 -- what a walk has still to lay out from its frames on, nearest first
 abbrev pub still : List (List Piece) → List Frame → List Def
 still blocks [] = []
-still blocks (f ∷ fs) = flat_map (of_piece (laid_out blocks (length blocks)) f.base) (drop f.next (slice_index_or blocks f.model []))
+still blocks (f ∷ fs) =
+    flat_map (of_piece (laid_out blocks (length blocks)) f.base) (drop f.next (slice_index_or blocks f.model []))
     ++ still blocks fs
 
 -- and how many turns it takes for that
 abbrev pub turns_left : List (List Piece) → List Frame → ℕ
 turns_left blocks [] = 0
-turns_left blocks (f ∷ fs) = 1 + sum_by (piece_turns (turns blocks (length blocks))) (drop f.next (slice_index_or blocks f.model []))
+turns_left blocks (f ∷ fs) =
+    1 + sum_by (piece_turns (turns blocks (length blocks))) (drop f.next (slice_index_or blocks f.model []))
     + turns_left blocks fs
 
 -- the width of a model's block
@@ -116,5 +120,6 @@ wide models model = block_width (length models) models model
 -- a table has the pieces of these models' blocks, and nothing for others
 pub record HasBlocks (models : List BlifModel) (done : List ℕ) (blocks : List (List Piece)) : Type 0 where
   pub size : length blocks ≡ length models
-  pub held : (n : ℕ) → on done n ≡ true → slice_index_or blocks n [] ≡ pieces (wide models) models (slice_index_or models n no_model)
+  pub held : (n : ℕ) → on done n ≡ true
+      → slice_index_or blocks n [] ≡ pieces (wide models) models (slice_index_or models n no_model)
   pub others : (n : ℕ) → on done n ≡ false → slice_index_or blocks n [] ≡ []

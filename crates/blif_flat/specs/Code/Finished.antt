@@ -11,7 +11,12 @@ use Rattle.blif_flat.specs.declared.design.FlatRefusal.{FlatRefusal}
 use Rattle.blif_flat.specs.declared.design.FlatRefusal.TheVariants.{Text, Design, TooMany, Memory}
 
 abbrev pub net_of : ℕ → List Wire → List Def → List ℕ → NetView
-net_of inputs wires defs outputs = record { inputs = inputs; names = kept_names 0 wires; defs = defs; outputs = outputs }
+net_of inputs wires defs outputs = record {
+  inputs = inputs;
+  names = kept_names 0 wires;
+  defs = defs;
+  outputs = outputs;
+}
 
 -- signals by the names that a fault tells
 abbrev pub told_of : List Wire → List ℕ → List (List ℕ)

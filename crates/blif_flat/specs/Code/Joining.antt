@@ -1,6 +1,7 @@
 -- The first fault of a line as the program finds it: the faults that it meets one after another, and the one of them
 -- that is told. Of a signal that is driven again only the least line before matters.
-use Rattle.std.specs.Prelude.{ℕ, suc, ◌||◌, ◌&&◌, ◌==◌, Bool, true, false, cond, not, nat_lt, nat_le, min, max, List, [], ◌∷◌, ◌++◌, Option, Some, None, is_some}
+use Rattle.std.specs.Prelude.{ℕ, suc, ◌||◌, ◌&&◌, ◌==◌, Bool, true, false, cond, not, nat_lt, nat_le, min, max, List}
+use Rattle.std.specs.Prelude.{[], ◌∷◌, ◌++◌, Option, Some, None, is_some}
 use Rattle.std.specs.List.{flat_map}
 use Rattle.std.specs.Str.{bytes_eq}
 use Rattle.blif_read.specs.declared.models.Named.{Named}

@@ -1,18 +1,17 @@
 -- What a table keeps of models for their callers.
-use Rattle.std.specs.Prelude.{◌≡◌, ℕ, true, List, [], map, length, Option, Some, None, slice_get, slice_index_or}
+use Rattle.std.specs.Prelude.{◌≡◌, ℕ, List, [], map, Option, Some, None, slice_get, slice_index_or}
 use Rattle.std.specs.List.{AllByRecursion}
-use Rattle.blif_read.specs.Code.Seen.{texts}
-use Rattle.blif_read.specs.Walk.{on}
+use Rattle.std.specs.Str.{bytes_eq}
+use Rattle.indexmap.specs.IndexSet.{insert_all}
 use Rattle.blif_read.specs.declared.models.Call.{Call}
 use Rattle.blif_read.specs.declared.models.BlifModel.{BlifModel}
 use Rattle.blif_flat.specs.Designs.{names_in, model_number, no_model, distinct_outputs}
 use Rattle.blif_flat.specs.Code.Blocks.{wide, place}
 use Rattle.blif_flat.specs.declared.outlines.Outline.{Outline}
 
--- the inputs of a model, its outputs with their places, and its width
+-- the inputs of a model differ; the places of its outputs, each once, and its width
 pub record IsOutline (models : List BlifModel) (model : BlifModel) (outline : Outline) : Type 0 where
-  pub inputs : texts outline.inputs.keys ≡ names_in model.inputs
-  pub outputs : texts outline.outputs.keys ≡ distinct_outputs model
+  pub inputs : insert_all bytes_eq [] (names_in model.inputs) ≡ names_in model.inputs
   pub exits : outline.exits.items ≡ map (place (wide models) models model) (distinct_outputs model)
   pub width : outline.width ≡ wide models model
 

@@ -16,7 +16,8 @@ called_size model size = 1 + 4 * length model.inputs + 4 * length (distinct_outp
 
 -- what a call of the model of a number takes
 abbrev pub size_of_call : List BlifModel → ℕ → ℕ
-size_of_call models n = called_size (slice_index_or models n no_model) (model_size (length models) models (slice_index_or models n no_model))
+size_of_call models n = called_size (slice_index_or models n no_model)
+    (model_size (length models) models (slice_index_or models n no_model))
 
 -- what the table has for a call; one that names no model takes its own line alone
 abbrev pub told_at : List ℕ → Option ℕ → ℕ

@@ -1,19 +1,16 @@
--- Words of the walk that lists the wires of a design: the ports of a call by their formals, and what a walk has still to list.
-use Rattle.std.specs.Prelude.{ℕ, ◌+◌, ◌*◌, Bool, List, [], ◌∷◌, ◌++◌, map, length, Option, Some, None}
+-- Words of the walk that lists the wires of a design: what a walk has still to list.
+use Rattle.std.specs.Prelude.{ℕ, ◌+◌, ◌*◌, Bool, List, [], ◌∷◌, ◌++◌, map, length, Option, Some, None, slice_index_or}
 use Rattle.std.specs.List.{sum_by}
 use Rattle.std.specs.Borrow.{Bor}
-use Rattle.std.specs.Str.{bytes_eq}
-use Rattle.blif_read.specs.declared.models.Port.{Port}
+use Rattle.blif_read.specs.Code.Seen.{texts}
 use Rattle.blif_read.specs.declared.models.Call.{Call}
 use Rattle.blif_read.specs.declared.models.BlifModel.{BlifModel}
 use Rattle.blif_flat.specs.Designs.{names_in, called, actual_of, joined_outputs}
 use Rattle.blif_flat.specs.Expansion.{Wire, wire, same_wire, calls_within, expanded, expanded_calls}
 use Rattle.blif_flat.specs.declared.wires.Place.{Place}
 use Rattle.blif_flat.specs.declared.wires.Frame.{Frame}
-
--- the port joins this formal
-abbrev pub has_formal : List ℕ → Port → Bool
-has_formal formal port = bytes_eq formal port.formal
+use Rattle.blif_flat.specs.declared.links.Link.{Link}
+use Rattle.blif_flat.specs.Code.Linked.{calls_in}
 
 -- the wire of a place, and the wires of places
 abbrev pub wire_of : Place → Wire
@@ -30,9 +27,15 @@ begun k model = map (wire k) (names_in model.inputs ++ map (λ d. d.output) mode
 abbrev pub ended : List BlifModel → ℕ → Call → List Wire
 ended models k call = map (λ o. wire k (actual_of call o)) (joined_outputs models call)
 
-abbrev pub left_over : List BlifModel → ℕ → Option (Bor Call) → List Wire
-left_over models k None = []
-left_over models k (Some call) = ended models k call.now
+-- the same, as a link has them, where one is left
+abbrev pub put_in : ℕ → Option (Bor Link) → List Wire
+put_in k None = []
+put_in k (Some link) = map (wire k) (texts link.now.actuals.items)
+
+-- the links that a table has for a model
+abbrev pub links_at : List (List Link) → Option ℕ → List Link
+links_at table None = []
+links_at table (Some n) = slice_index_or table n []
 
 -- the wires that calls of call k define, of which the first is call n
 abbrev pub called_wires : List BlifModel → ℕ → ℕ → List Call → List Wire
@@ -46,12 +49,12 @@ call_count models calls = sum_by (λ c. 1 + calls_within (length models) models 
 -- what a walk lists from its frames on, nearest first, where the next call has this number
 abbrev pub listed_from : List BlifModel → ℕ → List Frame → List Wire
 listed_from models n [] = []
-listed_from models n (f ∷ fs) = left_over models f.call f.left ++ called_wires models f.call n f.rest.now
-    ++ listed_from models (n + call_count models f.rest.now) fs
+listed_from models n (f ∷ fs) = put_in f.call f.left ++ called_wires models f.call n (calls_in f.rest.now)
+    ++ listed_from models (n + call_count models (calls_in f.rest.now)) fs
 
 -- and how many turns it takes
 abbrev pub turns_from : List BlifModel → List Frame → ℕ
-turns_from models frames = sum_by (λ f. 1 + 2 * call_count models f.rest.now) frames
+turns_from models frames = sum_by (λ f. 1 + 2 * call_count models (calls_in f.rest.now)) frames
 
 -- the wire of the first model itself that has this name
 abbrev pub is_own : List ℕ → Place → Bool

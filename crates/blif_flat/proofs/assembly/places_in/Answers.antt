@@ -1,4 +1,4 @@
-use Rattle.std.proofs.Common.{◌∙◌, ap, [], sym}
+use Rattle.std.proofs.Common.{◌∙◌, ap}
 use Rattle.std.specs.List.{position_or_len}
 use Rattle.blif_flat.specs.Code.Blocks.{is_that}
 use Rattle.blif_flat.proofs.Assembling.{pushed_first}

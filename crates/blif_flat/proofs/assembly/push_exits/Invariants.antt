@@ -1,4 +1,4 @@
-use Rattle.std.proofs.Common.{◌≡◌, ℕ, ◌+◌, ◌++◌, map, take, length}
+use Rattle.std.proofs.Common.{◌≡◌, ◌+◌, ◌++◌, map, take, length}
 use Rattle.blif_flat.specs.declared.pieces.Piece.TheVariants.{Own}
 use Rattle.blif_flat.specs.Code.Blocks.{buffer_of}
 use Rattle.blif_flat.specs.Code.Joins.{exits_in}

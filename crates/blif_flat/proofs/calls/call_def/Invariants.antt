@@ -1,4 +1,4 @@
-use Rattle.std.proofs.Common.{◌≡◌, ℕ, List, ◌++◌, drop}
+use Rattle.std.proofs.Common.{◌≡◌, List, ◌++◌, drop}
 use Rattle.std.specs.List.{flat_map}
 use Rattle.blif_read.specs.declared.models.BlifModel.{BlifModel}
 use Rattle.blif_flat.specs.Designs.{model_number}

@@ -1,4 +1,4 @@
-use Rattle.std.proofs.Common.{◌≡◌, suc, ◌+◌, ◌-◌, length, arith}
+use Rattle.std.proofs.Common.{arith}
 use Rattle.blif_flat.proofs.Calling.{last_at}
 use Rattle.blif_flat.proofs.calls.last_of.Goals as goal
 

@@ -1,43 +1,37 @@
-use Rattle.std.proofs.Common.{◌≡◌, ◌∙◌, List, sym, ap, subst}
+use Rattle.std.proofs.Common.{◌∙◌, sym, ap, subst}
 use Rattle.blif_read.specs.Netlist.{AreParts}
-use Rattle.blif_read.specs.declared.models.BlifModel.{BlifModel}
-use Rattle.blif_flat.specs.Expansion.{wires}
-use Rattle.blif_flat.specs.Code.Finished.{net_of}
 use Rattle.blif_flat.specs.Code.Wired.{wires_of}
 use Rattle.blif_flat.proofs.Finishing.{whole, are_expanded, expand_ok, expand_err}
 use Rattle.blif_flat.proofs.expand.expand.Goals as goal
 
 pub finish-requires : goal.finish-requires
 finish-requires c =
-    let listed = c.in_ok-places.ensures ∙ ap wires c.in_ok-design.ensures in
     subst AreParts (sym (whole c.args.models.now c.in_ok-inputs.inputs (wires_of c.as_slice-3.result.now)
     c.in_ok-defs.defs c.in_ok-outputs.outputs
     (are_expanded c.args.models.now c.index-models-0.result c.in_ok-inputs.inputs c.len.result
     (wires_of c.as_slice-3.result.now) (wires_of c.as_slice.result.now) c.in_ok-defs.defs c.in_ok-outputs.outputs
     c.as_slice-2.result.now c.requires.some c.index-models-0.is c.in_ok-inputs.ensures c.len.ensures
-    (ap wires_of c.as_slice-3.ensures.value ∙ listed) (ap wires_of c.as_slice.ensures.value ∙ listed)
+    (ap wires_of c.as_slice-3.ensures.value ∙ c.in_ok-places.ensures) (ap wires_of c.as_slice.ensures.value ∙ c.in_ok-places.ensures)
     c.in_ok-defs.ensures c.in_ok-outputs.ensures c.as_slice-2.ensures))) c.requires.parts
 
 pub returns-clause-ok : goal.returns-clause-ok
 returns-clause-ok c =
-    let listed = c.in_ok-places.ensures ∙ ap wires c.in_ok-design.ensures in
     expand_ok c.args.models.now c.in_ok-inputs.inputs (wires_of c.as_slice-3.result.now)
     c.in_ok-defs.defs c.in_ok-outputs.outputs
     (are_expanded c.args.models.now c.index-models-0.result c.in_ok-inputs.inputs c.len.result
     (wires_of c.as_slice-3.result.now) (wires_of c.as_slice.result.now) c.in_ok-defs.defs c.in_ok-outputs.outputs
     c.as_slice-2.result.now c.requires.some c.index-models-0.is c.in_ok-inputs.ensures c.len.ensures
-    (ap wires_of c.as_slice-3.ensures.value ∙ listed) (ap wires_of c.as_slice.ensures.value ∙ listed)
+    (ap wires_of c.as_slice-3.ensures.value ∙ c.in_ok-places.ensures) (ap wires_of c.as_slice.ensures.value ∙ c.in_ok-places.ensures)
     c.in_ok-defs.ensures c.in_ok-outputs.ensures c.as_slice-2.ensures)
     c.requires.buildable c.finish.result c.finish.ensures.ok c.finish.ensures.sound
 
 pub returns-clause-err : goal.returns-clause-err
 returns-clause-err c =
-    let listed = c.in_ok-places.ensures ∙ ap wires c.in_ok-design.ensures in
     expand_err c.args.models.now c.in_ok-inputs.inputs (wires_of c.as_slice-3.result.now)
     c.in_ok-defs.defs c.in_ok-outputs.outputs
     (are_expanded c.args.models.now c.index-models-0.result c.in_ok-inputs.inputs c.len.result
     (wires_of c.as_slice-3.result.now) (wires_of c.as_slice.result.now) c.in_ok-defs.defs c.in_ok-outputs.outputs
     c.as_slice-2.result.now c.requires.some c.index-models-0.is c.in_ok-inputs.ensures c.len.ensures
-    (ap wires_of c.as_slice-3.ensures.value ∙ listed) (ap wires_of c.as_slice.ensures.value ∙ listed)
+    (ap wires_of c.as_slice-3.ensures.value ∙ c.in_ok-places.ensures) (ap wires_of c.as_slice.ensures.value ∙ c.in_ok-places.ensures)
     c.in_ok-defs.ensures c.in_ok-outputs.ensures c.as_slice-2.ensures)
     c.requires.buildable c.finish.result c.finish.ensures.refused

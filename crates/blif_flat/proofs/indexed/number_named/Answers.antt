@@ -1,5 +1,5 @@
 use Rattle.std.proofs.Common.{◌∙◌}
-use Rattle.blif_flat.proofs.Calling.{number_at, no_number}
+use Rattle.blif_flat.proofs.Calling.{number_at}
 use Rattle.blif_flat.proofs.indexed.number_named.Goals as goal
 
 pub returns : goal.returns

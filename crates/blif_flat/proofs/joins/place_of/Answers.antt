@@ -1,4 +1,4 @@
-use Rattle.std.proofs.Common.{◌∙◌, sym}
+use Rattle.std.proofs.Common.{sym}
 use Rattle.blif_flat.proofs.Joining.{place_missing}
 use Rattle.blif_flat.proofs.joins.place_of.Goals as goal
 

@@ -1,4 +1,4 @@
-use Rattle.std.proofs.Common.{subst, sym, refl}
+use Rattle.std.proofs.Common.{refl}
 use Rattle.blif_flat.specs.Designs.{model_number}
 use Rattle.blif_flat.specs.Code.Blocks.{call_names, wide}
 use Rattle.blif_flat.specs.Code.Outlines.{IsOutlined}
@@ -6,14 +6,13 @@ use Rattle.blif_flat.proofs.Outlining.{part_more, all_at, all_parts}
 use Rattle.blif_flat.proofs.outlines.add_calls.Goals as goal
 
 pub loop-call-preserved : goal.loop-call-preserved
-loop-call-preserved c = λ models numbers outlined.
-    part_more (call_names (wide models) models) c.args.calls.now c.loop-call.call-index c.call-item.result _ c.loop-call.places.entries c.add_call.new.places.entries c.args.count c.loop-call.next c.in_ok-next.next c.loop-call-test.true c.call-item.is
-    (c.loop-call.invariant models numbers outlined)
-    (c.in_ok-next.ensures models (c.called-number.ensures models numbers)
-    (subst (IsOutlined models c.args.outlines.now) (sym (c.called-number.ensures models numbers))
-    (all_at (λ call. IsOutlined models c.args.outlines.now (model_number models call.model)) c.args.calls.now c.loop-call.call-index c.call-item.result outlined c.loop-call-test.true c.call-item.is)))
+loop-call-preserved c = λ outlined.
+    part_more (call_names (wide c.args.design.now) c.args.design.now) c.args.calls.now c.loop-call.call-index c.call-item.result _ c.loop-call.places.entries c.add_call.new.places.entries c.args.count c.loop-call.next c.in_ok-next.next c.loop-call-test.true c.call-item.is
+    (c.loop-call.invariant outlined)
+    (c.in_ok-next.ensures
+    (all_at (λ call. IsOutlined c.args.design.now c.args.outlines.now (model_number c.args.design.now call.model)) c.args.calls.now c.loop-call.call-index c.call-item.result outlined c.loop-call-test.true c.call-item.is))
 
 pub returns : goal.returns
-returns c = λ models numbers outlined.
-    all_parts (call_names (wide models) models) c.args.calls.now c.args.calls.now c.loop-call.call-index c.args.places.now.entries c.loop-call.places.entries c.args.count c.loop-call.next refl c.loop-call-test.false
-    (c.loop-call.invariant models numbers outlined)
+returns c = λ outlined.
+    all_parts (call_names (wide c.args.design.now) c.args.design.now) c.args.calls.now c.args.calls.now c.loop-call.call-index c.args.places.now.entries c.loop-call.places.entries c.args.count c.loop-call.next refl c.loop-call-test.false
+    (c.loop-call.invariant outlined)

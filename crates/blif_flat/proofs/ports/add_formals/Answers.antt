@@ -1,4 +1,3 @@
-use Rattle.std.proofs.Common.{◌∙◌}
 use Rattle.blif_read.specs.Code.Seen.{texts}
 use Rattle.blif_flat.proofs.Indexes.{next_formal, old_formal}
 use Rattle.blif_flat.proofs.ports.add_formals.Goals as goal

@@ -1,7 +1,6 @@
-use Rattle.std.proofs.Common.{◌∙◌, ap, subst, true, false}
+use Rattle.std.proofs.Common.{subst}
 use Rattle.blif_read.specs.Reads.{SaysText}
 use Rattle.blif_read.specs.declared.texts.ReadText.{ReadText}
-use Rattle.blif_flat.specs.DesignText.{SaysNetlist, IsNetlistRefusal}
 use Rattle.blif_flat.proofs.Building.{says_plain, says_design, refuses_design, some_models, parts_known, if_ok, if_err, models_at}
 use Rattle.blif_flat.proofs.reading.net_said.Goals as goal
 

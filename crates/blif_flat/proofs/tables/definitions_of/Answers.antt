@@ -1,4 +1,4 @@
-use Rattle.std.proofs.Common.{◌≡◌, ◌∙◌, ap, sym, subst, length, reverse}
+use Rattle.std.proofs.Common.{◌∙◌, ap, sym, subst, length, reverse}
 use Rattle.blif_flat.specs.Code.Blocks.{AreStraight, laid_out}
 use Rattle.blif_flat.proofs.StraightBlocks.{straight, design_laid}
 use Rattle.blif_flat.proofs.tables.definitions_of.Goals as goal

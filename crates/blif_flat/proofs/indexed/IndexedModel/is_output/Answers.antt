@@ -1,4 +1,4 @@
-use Rattle.std.proofs.Common.{◌∙◌, ap, ℕ, List}
+use Rattle.std.proofs.Common.{◌∙◌, ap}
 use Rattle.blif_read.specs.Code.Seen.{texts}
 use Rattle.blif_read.specs.Parts.{is_defined}
 use Rattle.blif_read.specs.declared.models.BlifModel.{BlifModel}
