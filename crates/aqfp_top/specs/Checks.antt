@@ -22,7 +22,8 @@ use Rattle.aqfp_top.specs.declared.check.Printing.{Printing}
 use Rattle.aqfp_top.specs.declared.check.Printing.TheVariants.{Answers, Fluxes}
 use Rattle.aqfp_top.specs.declared.fault.Large.TheVariants.{Shapes}
 use Rattle.aqfp_top.specs.declared.fault.Fault.{Fault}
-use Rattle.aqfp_top.specs.declared.fault.Fault.TheVariants.{WriteFault, TooLarge, BadStream, RuleBroken, BadWords, Memory}
+use Rattle.aqfp_top.specs.declared.fault.Fault.TheVariants.{WriteFault, TooLarge, BadStream, RuleBroken, BadWords}
+use Rattle.aqfp_top.specs.declared.fault.Fault.TheVariants.{Memory}
 
 -- the bytes are a wide stream of this layout, whose flat form is of a size that is taken
 pub record IsLayoutOf (gds : List ℕ) (layout : WideLayout) : Type 0 where

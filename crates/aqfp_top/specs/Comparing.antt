@@ -1,6 +1,7 @@
 -- What `equal` makes of the texts of a layout, of a library and of a netlist: whether the chip's circuit answers every
 -- word as the netlist, or that the two have other counts, or too many subfunctions; and what it prints.
-use Rattle.std.specs.Prelude.{ℕ, ◌≡◌, ◌≢◌, ◌⊎◌, ◌<◌, ◌++◌, Bool, false, List, length, codes, Option, Some, None, slice_index_or}
+use Rattle.std.specs.Prelude.{ℕ, ◌≡◌, ◌≢◌, ◌⊎◌, ◌<◌, ◌++◌, Bool, false, List, length, codes, Option, Some, None}
+use Rattle.std.specs.Prelude.{slice_index_or}
 use Rattle.std.specs.Fmt.{decimal}
 use Rattle.aq_base.specs.Store.{Contents, gained, GainsPrefix}
 use Rattle.circuit.specs.SameAnswers.{SameAnswers}

@@ -6,7 +6,9 @@ use Rattle.aqfp_top.specs.Lines.{HasPlace}
 use Rattle.aqfp_top.specs.declared.fault.Large.TheVariants.{Shapes, Functions, Design}
 use Rattle.aqfp_top.specs.declared.fault.WriteCall.TheVariants.{Out}
 use Rattle.aqfp_top.specs.declared.fault.Fault.{Fault}
-use Rattle.aqfp_top.specs.declared.fault.Fault.TheVariants.{Usage, Absent, TooLong, ReadFault, WriteFault, BadBlif, BadDesign, BadLibrary, MissingCell, TooLarge, BadStream, RuleBroken, BadWords, Widths, Memory}
+use Rattle.aqfp_top.specs.declared.fault.Fault.TheVariants.{Usage, Absent, TooLong, ReadFault, WriteFault, BadBlif}
+use Rattle.aqfp_top.specs.declared.fault.Fault.TheVariants.{BadDesign, BadLibrary, MissingCell, TooLarge, BadStream}
+use Rattle.aqfp_top.specs.declared.fault.Fault.TheVariants.{RuleBroken, BadWords, Widths, Memory}
 
 -- a build's: none of words, of a stream or of rules
 abbrev pub IsBuildFault : Fault → Type 0

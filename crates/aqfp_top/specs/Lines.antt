@@ -1,12 +1,14 @@
 -- The line that each fault puts to `err`.
-use Rattle.std.specs.Prelude.{ℕ, suc, ◌≡◌, ◌<◌, ◌≤◌, take, length, List, ◌∷◌, ◌++◌, codes, Option, Some, None, ℤ, pos, negsuc}
+use Rattle.std.specs.Prelude.{ℕ, suc, ◌≡◌, ◌<◌, ◌≤◌, take, length, List, ◌∷◌, ◌++◌, codes, Option, Some, None, ℤ, pos}
+use Rattle.std.specs.Prelude.{negsuc}
 use Rattle.std.specs.List.{flat_map}
 use Rattle.std.specs.Fmt.{decimal}
 use Rattle.aq_base.specs.Store.{gained}
 use Rattle.circuit.specs.declared.cell_kind.CellKind.{CellKind}
 use Rattle.cell_library.specs.Kinds.{key_of}
 use Rattle.blif_read.specs.declared.netlist.LineKind.{LineKind}
-use Rattle.blif_read.specs.declared.netlist.LineKind.TheVariants.{Token, Unsupported, SecondModel, RowShape, RowValue, RowAlone, Duplicate, Undefined, NoOutputs}
+use Rattle.blif_read.specs.declared.netlist.LineKind.TheVariants.{Token, Unsupported, SecondModel, RowShape, RowValue}
+use Rattle.blif_read.specs.declared.netlist.LineKind.TheVariants.{RowAlone, Duplicate, Undefined, NoOutputs}
 use Rattle.blif_read.specs.declared.netlist.BlifFault.{BlifFault}
 use Rattle.blif_read.specs.declared.netlist.BlifFault.TheVariants as blif
 use Rattle.blif_flat.specs.declared.design.FlatKind.{FlatKind}
@@ -20,7 +22,9 @@ use Rattle.aqfp_top.specs.declared.fault.Large.{Large}
 use Rattle.aqfp_top.specs.declared.fault.Large.TheVariants.{Slots, Rows, Cells, Elements, Shapes, Functions, Design}
 use Rattle.aqfp_top.specs.Words.{word_at}
 use Rattle.aqfp_top.specs.declared.fault.Fault.{Fault}
-use Rattle.aqfp_top.specs.declared.fault.Fault.TheVariants.{Usage, Absent, TooLong, ReadFault, WriteFault, BadBlif, BadDesign, BadLibrary, MissingCell, TooLarge, BadStream, RuleBroken, BadWords, Widths, Memory}
+use Rattle.aqfp_top.specs.declared.fault.Fault.TheVariants.{Usage, Absent, TooLong, ReadFault, WriteFault, BadBlif}
+use Rattle.aqfp_top.specs.declared.fault.Fault.TheVariants.{BadDesign, BadLibrary, MissingCell, TooLarge, BadStream}
+use Rattle.aqfp_top.specs.declared.fault.Fault.TheVariants.{RuleBroken, BadWords, Widths, Memory}
 
 -- the line about the file that a word names
 abbrev pub named : List (List ℕ) → ℕ → List ℕ → List ℕ

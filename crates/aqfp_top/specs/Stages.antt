@@ -7,7 +7,8 @@ use Rattle.aqfp_top.specs.Checks.{IsStreamFault, IsSizeFault, IsRuleFault, IsWor
 use Rattle.aqfp_top.specs.Comparing.{IsWidthsFault, HasManyFunctions}
 use Rattle.aqfp_top.specs.declared.fault.Large.TheVariants.{Functions, Design}
 use Rattle.aqfp_top.specs.declared.fault.Fault.{Fault}
-use Rattle.aqfp_top.specs.declared.fault.Fault.TheVariants.{Usage, Absent, TooLong, ReadFault, WriteFault, TooLarge, Memory}
+use Rattle.aqfp_top.specs.declared.fault.Fault.TheVariants.{Usage, Absent, TooLong, ReadFault, WriteFault, TooLarge}
+use Rattle.aqfp_top.specs.declared.fault.Fault.TheVariants.{Memory}
 
 -- A stage, and what it judges: the words, which have no form; a file, if there is one under its name; or texts, which
 -- are the bytes of files. A sample has a text of one model without calls, and plans with a library that is known. A
@@ -85,8 +86,8 @@ abbrev pub SomeGivesUp : List Stage → ℕ → Type 0
 SomeGivesUp [] count = ⊥
 SomeGivesUp (stage ∷ stages) count = GivesUp stage count ⊎ SomeGivesUp stages count
 
--- What the stages may answer: what is due; or want of memory; a failed load that the work comes to; or, where nothing is
--- due, a refused write, or that a comparison has too many subfunctions.
+-- What the stages may answer: what is due; or want of memory; a failed load that the work comes to; or, where nothing
+-- is due, a refused write, or that a comparison has too many subfunctions.
 abbrev pub Answers : List Stage → Option Fault → Type 0
 Answers stages (Some Memory) = Unit {0}
 Answers stages (Some (ReadFault place)) = IsReached stages place

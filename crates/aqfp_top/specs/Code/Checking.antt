@@ -11,7 +11,8 @@ use Rattle.aqfp_top.specs.Due.{loading}
 use Rattle.aqfp_top.specs.Stages.{Stage, Stream, Size, Cells, Rules}
 use Rattle.aqfp_top.specs.declared.fault.Large.TheVariants.{Shapes}
 use Rattle.aqfp_top.specs.declared.fault.Fault.{Fault}
-use Rattle.aqfp_top.specs.declared.fault.Fault.TheVariants.{BadLibrary, MissingCell, TooLarge, BadStream, RuleBroken, BadWords, Memory}
+use Rattle.aqfp_top.specs.declared.fault.Fault.TheVariants.{BadLibrary, MissingCell, TooLarge, BadStream, RuleBroken}
+use Rattle.aqfp_top.specs.declared.fault.Fault.TheVariants.{BadWords, Memory}
 
 -- loading GDS, LIB and a third file, and what follows
 abbrev pub chip_stages : (Contents → List (List ℕ) → List Stage) → Contents → List (List ℕ) → List Stage

@@ -8,7 +8,8 @@ use Rattle.aqfp_top.specs.Comparing.{AreManyFunctions}
 use Rattle.aqfp_top.specs.Code.Checking.{circuit_then}
 use Rattle.aqfp_top.specs.declared.fault.Large.TheVariants.{Shapes, Functions, Design}
 use Rattle.aqfp_top.specs.declared.fault.Fault.{Fault}
-use Rattle.aqfp_top.specs.declared.fault.Fault.TheVariants.{BadBlif, BadDesign, BadLibrary, MissingCell, TooLarge, BadStream, RuleBroken, Widths, Memory}
+use Rattle.aqfp_top.specs.declared.fault.Fault.TheVariants.{BadBlif, BadDesign, BadLibrary, MissingCell, TooLarge}
+use Rattle.aqfp_top.specs.declared.fault.Fault.TheVariants.{BadStream, RuleBroken, Widths, Memory}
 
 -- all that comes before the counts of the chip and of the netlist are compared
 abbrev pub both_stages : List ℕ → List ℕ → List ℕ → List Stage
