@@ -3,9 +3,10 @@
 # ordinary chip of as many shapes and labels.
 #
 # Netlists of 16 MB are read, and then the library, which is empty, is refused: an ordinary one, which adds two numbers;
-# lines of three bytes; a chain of definitions, each of the one that comes next; a cycle through all of one; 270,000
-# models, each of which calls the next; a model with a name of 750,000 bytes that is called 100,000 times; and a short
-# text of models that call one another twice, of which the first has nearly the greatest size.
+# lines of three bytes; a chain of definitions, each of the one that comes next; a cycle through all of one; a model
+# with a name of 7,500,000 bytes that is called 100,000 times; and a short text of models that call one another twice, of
+# which the first has nearly the greatest size, beside an ordinary one of that size. 270,000 models, each of which calls
+# the next, stand beside as many bytes of models that the first one calls.
 # Streams are checked, beside the adder of 164 bits: the chip of a wire with a structure of 3,999 squares that is
 # referenced 2,000 times far away from it, the same with all squares on one another, and labels that all stand on one
 # pin; a boundary of 2,001 teeth of different heights that is referenced 3,900 times; a text of 32,000 bytes that is
@@ -64,6 +65,13 @@ def deep(models):
     for k in range(1_000_000, 1_000_000 + models):
         last = k == 1_000_000 + models - 1
         yield f".model m{k}\n.inputs i\n.outputs o\n" + (".names i o\n1 1" if last else f".subckt m{k + 1} i=i o=o")
+
+
+def broad(models):
+    """A wire, and calls of so many models for nothing."""
+    yield ".model top\n.inputs i\n.outputs i"
+    for k in range(1_000_000, 1_000_000 + models): yield f".subckt m{k} i=i"
+    for k in range(1_000_000, 1_000_000 + models): yield f".model m{k}\n.inputs i\n.outputs o\n.names i o\n1 1"
 
 
 def named(length):
@@ -145,6 +153,7 @@ elif kind == "short": netlist([".outputs y", ".names y", *[" 1"] * size])
 elif kind == "chain": netlist(chain(size, "a"))
 elif kind == "cycle": netlist(cycle(size))
 elif kind == "deep": netlist(deep(size))
+elif kind == "broad": netlist(broad(size))
 elif kind == "named": netlist(named(size))
 elif kind == "doubled": netlist(doubled(size))
 elif kind == "keys": netlist(f"k{i} = 1" for i in range(size))
@@ -210,11 +219,18 @@ done <<CASES
 short 5592395
 chain 620000
 cycle 980000
-deep 270000
-named 750000
+named 7500000
 CASES
+make broad 225000 "$work/net"
+broad=$(read_netlist "$work/net")
+bytes=$(wc -c <"$work/net")
+make deep 270000 "$work/net"
+times=$(awk -v a="$(wc -c <"$work/net")" -v b="$bytes" 'BEGIN { print a / b }')
+compare "netlist deep, beside one whose first model calls all others" "$(read_netlist "$work/net")" "$broad" "$times" 3
 make doubled 20 "$work/net"
-compare "netlist doubled, of size 12582902" "$(read_netlist "$work/net")" "$plain" 1 3
+# The ordinary one has 39 for each bit.
+times=$(awk 'BEGIN { print 12582902 / (39 * 83000) }')
+compare "netlist doubled, beside one of its size, 12582902" "$(read_netlist "$work/net")" "$plain" "$times" 3
 rm -f "$work/net" "$work/plain"
 
 # Streams.

@@ -1,16 +1,34 @@
 #!/bin/sh
-# How the time of reading a netlist grows with its text: netlists of 2, 4, 8 and 16 MB, once as many rows of one cover
-# and once as a chain of definitions. Each is read whole, and then the library, which is empty, is refused. Prints the
-# times and their ratios, twice the text against once.
+# How the time and the memory of reading a netlist grow with its text: netlists of 2, 4, 8 and 16 MB, as many rows of a
+# cover of eight inputs, as rows of two bytes of a constant, as rows of four bytes of a buffer, as a chain of definitions,
+# and as one line of inputs. Each is read whole, and then the library, which is empty, is refused. Prints the seconds of
+# processor time, their ratios, twice the text against once, and the memory at most in times of the text, which is
+# counted too. Needs GNU time; AQFP is the program, by default the one that is built here.
 set -u
 here=$(cd -P "$(dirname "$0")/.." && pwd)
+program=${AQFP:-$here/crates/aqfp_cli/out/aqfp_cli}
+command -v /usr/bin/time >/dev/null || { echo "read_netlists: /usr/bin/time is not there" >&2; exit 70; }
+[ -n "${AQFP:-}" ] || "$here/aqfp" --help >/dev/null
 work=$(mktemp -d)
 trap 'rm -rf "$work"' EXIT
 : >"$work/none.toml"
 
+# So many lines of one text.
+lines() { awk -v n="$1" -v line="$2" 'BEGIN { for (i = 0; i < n; i++) print line }'; }
+
 rows() {
     printf '.inputs a b c d e f g h\n.outputs y\n.names a b c d e f g h y\n'
-    awk -v bytes="$1" 'BEGIN { n = int(bytes / 11) - 10; for (i = 0; i < n; i++) print "1-0-1-0- 1" }'
+    lines $(($1 / 11 - 10)) '1-0-1-0- 1'
+}
+
+ones() {
+    printf '.inputs a\n.outputs y\n.names y\n'
+    lines $(($1 / 2 - 20)) 1
+}
+
+buffers() {
+    printf '.inputs a\n.outputs y\n.names a y\n'
+    lines $(($1 / 4 - 10)) '1 1'
 }
 
 chain() {
@@ -19,21 +37,23 @@ chain() {
         for (i = 1000000; i < last; i++) printf ".names x%d x%d\n1 1\n", i + 1, i; printf ".names a x%d\n1 1\n", last }'
 }
 
-now() { date +%s%N; }
+inputs() {
+    printf '.outputs i1000000\n.inputs'
+    awk -v bytes="$1" 'BEGIN { n = int(bytes / 9) - 10; for (i = 1000000; i < 1000000 + n; i++) printf " i%d", i; print "" }'
+}
 
-for shape in rows chain; do
+for shape in rows ones buffers chain inputs; do
     before=
     for megabytes in 2 4 8 16; do
         $shape $((megabytes * 1000000)) >"$work/net.blif"
-        began=$(now)
-        "$here/aqfp" build "$work/net.blif" "$work/none.toml" "$work/out.gds" >/dev/null 2>"$work/err"
-        took=$((($(now) - began) / 1000000))
-        if [ -n "$before" ]; then
-            ratio=$(awk -v a="$took" -v b="$before" 'BEGIN { printf "%.2f", a / b }')
-        else
-            ratio=-
-        fi
-        echo "$shape $megabytes MB: $took ms, ratio $ratio"
+        /usr/bin/time -q -f '%U %S %M' -o "$work/time" \
+            "$program" build "$work/net.blif" "$work/none.toml" "$work/out.gds" >/dev/null 2>"$work/err"
+        took=$(awk 'END { print $1 + $2 }' "$work/time")
+        awk -v name="$shape $megabytes MB" -v took="$took" -v before="$before" -v bytes="$(wc -c <"$work/net.blif")" '
+            END {
+                ratio = (before + 0 > 0) ? sprintf("%.2f", took / before) : "-"
+                printf "%s: %.2f s, ratio %s, memory %.1f times the text\n", name, took, ratio, $3 * 1024 / bytes
+            }' "$work/time"
         before=$took
     done
 done
