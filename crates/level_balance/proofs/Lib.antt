@@ -34,3 +34,6 @@ mod Outlined
 mod Counting
 mod Based
 mod Levelled
+mod ShortestTrees
+mod NeededPaths
+mod LevelEquation

@@ -2,6 +2,9 @@ pub mod Uses
 pub mod Levels
 pub mod Laying
 pub mod Plan
+pub mod Trees
+pub mod Needs
+pub mod Heights
 pub mod Examples
 pub mod Totals
 pub mod Counts
