@@ -25,7 +25,7 @@ mod Opened
 mod ChannelSteps
 mod RoundsLeft
 mod Counting
+mod LimitLaws
 mod Neighbours
-mod CountingRows
 mod Making
 mod Given

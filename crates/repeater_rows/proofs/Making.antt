@@ -2,7 +2,7 @@
 use Rattle.std.proofs.Common.{◌≡◌, ℕ, suc, ◌+◌, ◌-◌, ◌*◌, ◌<◌, ◌≤◌, ◌==◌, Bool, true, false, not, ◌||◌, List, [], ◌∷◌, ◌++◌, length, map, drop, Option, Some, None, refl, sym, ap, ◌∙◌, subst, append_assoc, arith}
 use Rattle.std.specs.List.{All}
 use Rattle.std.proofs.lemmas.Bool.{eq-eqb}
-use Rattle.std.proofs.lemmas.List.{append-nil, map-append, drop_all}
+use Rattle.std.proofs.lemmas.List.{append-nil, length-map, map-append, drop_all}
 use Rattle.std.proofs.lemmas.List.Elements.{All-from_recursion}
 use Rattle.rowed.specs.declared.source.Source.{Source}
 use Rattle.rowed.specs.declared.row_cell.RowCell.{RowCell}
@@ -16,7 +16,14 @@ use Rattle.repeater_rows.proofs.RowsAboveLaws.{cells_of, slots_in}
 use Rattle.rowed.specs.PlacedNets.{row_of}
 use Rattle.repeater_rows.proofs.NeighbourLaws.{seated_at, slots_below}
 use Rattle.repeater_rows.specs.Code.Opening.{AreDestinations}
-use Rattle.repeater_rows.specs.Code.Counts.{rounds_left}
+use Rattle.repeater_rows.specs.Code.Counts.{rounds_left, AreCounted, ArePast, IsPastLimit}
+use Rattle.repeater_rows.specs.Passes.{cell_limit, cells_in, cells_past}
+use Rattle.repeater_rows.specs.declared.pass.RepeatRefusal.{RepeatRefusal}
+use Rattle.repeater_rows.specs.declared.pass.RepeatRefusal.TheVariants.{TooManyCells}
+use Rattle.repeater_rows.proofs.Counting.{counted_none, past_more, past_also}
+use Rattle.repeater_rows.proofs.AddedLaws.{moved_length}
+use Rattle.repeater_rows.proofs.LimitLaws.{rows_fit, refused}
+use Rattle.repeater_rows.proofs.WindowOrder.{carriers_count}
 use Rattle.repeater_rows.proofs.Makes.{SameSources, AreMade, rows_left, AreMadeTo}
 use Rattle.repeater_rows.proofs.RoundsLeft.{rounds_stop, left_next}
 use Rattle.repeater_rows.proofs.Neighbours.{rows_from, placed_long}
@@ -40,6 +47,10 @@ same_added wired f g same (to ∷ tos) =
 same_last : (wired : ℕ → Bool) (f g : ℕ → Source) → SameSources wired f g → (tos : List (List ℕ)) → SameSources wired (last_source wired f tos) (last_source wired g tos)
 same_last wired f g same [] d w = same d w
 same_last wired f g same (to ∷ tos) d w = refl
+
+-- a row has a cell for each slot with a wire
+pub width_is : (wired : ℕ → Bool) (source : ℕ → Source) (to carriers : List ℕ) → carriers ≡ carrier_slots wired 0 to → length carriers ≡ length (added wired source to).cells
+width_is wired source to carriers carry = ap length carry ∙ carriers_count wired 0 to ∙ sym (length-map (carried wired to) (λ (d : ℕ). buffer_from (source d)))
 
 -- before the first round
 pub made_first : (reach slots : ℕ) (wired : ℕ → Bool) (source : ℕ → Source) (to carriers : List ℕ) (cells : List (List RowCell)) (row_slots : List (List ℕ))
@@ -111,6 +122,21 @@ made_step reach slots wired all_cells all_slots last done next count first sourc
       sources = λ d w. same_last wired source' (source_above wired to') above left d w
           ∙ ap (λ (l : List (List ℕ)). last_source wired source l d) (sym tos) ∙ made.sources d w;
     }
+
+-- a round's row too many
+pub past_round : (reach slots : ℕ) (wired : ℕ → Bool) (all_cells : List (List RowCell)) (all_slots : List (List ℕ)) (last : ℕ → Source)
+    (done count : ℕ) (first : Bool) (source : ℕ → Source) (to carriers to' carriers' : List ℕ) (cells : List (List RowCell)) (row_slots : List (List ℕ))
+    → AreMade reach slots wired all_cells all_slots last done first source to carriers cells row_slots
+    → count ≡ slots → done < count * count → is_far reach wired 0 to ≡ true → to' ≡ round (window_size reach) first to → AreDestinations wired slots to' carriers'
+    → (so_far size : ℕ) (refusal : RepeatRefusal) → AreCounted cells so_far → size ≡ length carriers'
+    → (refusal ≡ TooManyCells (so_far + size)) × (cell_limit < so_far + size) → ArePast all_cells refusal
+past_round reach slots wired all_cells all_slots last done count first source to carriers to' carriers' cells row_slots made is lt far round_is known so_far size refusal counted long =
+    let left = rounds_left reach wired (done + 1) (not first) to' in
+    let tos : rounds_left reach wired done first to ≡ to' ∷ left =
+    left_next reach slots done (done + 1) count wired first to to' made.known.long known.long is lt refl far round_is in
+    past_more cells all_cells (added wired source to').cells (cells_of (added_rows wired (source_above wired to') left)) so_far size refusal counted
+    (long ∙ width_is wired source to' carriers' known.carry)
+    (sym made.rows ∙ ap (λ (l : List (List ℕ)). cells ++ cells_of (added_rows wired source l)) tos)
 
 -- what a channel's steps keep, where it has the same wires
 pub known_too : (f g : ℕ → Bool) (n : ℕ) (to carriers : List ℕ) → f ≡ g → AreDestinations g n to carriers → AreDestinations f n to carriers
@@ -224,6 +250,25 @@ module _ (reach : ℕ) (lower upper : PlacedRow) (w : ℕ → Bool) (source : �
       ∙ append_assoc rows (slots_in plan) (upper.slots ∷ [])
       ∙ ap (λ (l : List (List ℕ)). rows ++ l) (sym (map-append (λ (row : PlacedRow). row.slots) plan (record { cells = cells_from last upper.cells upper.slots; slots = upper.slots } ∷ [])))
 
+  -- a row of the channel too many
+  pub channel_past : (rows : List (List RowCell)) (refusal : RepeatRefusal) → ArePast (rows ++ cells_of (added_rows w source (all_rounds reach w to))) refusal
+      → ArePast (rows ++ cells_of (channel_rows lower upper (channel_rounds reach lower upper) [])) refusal
+  channel_past rows refusal past =
+      let f = last_source w source (all_rounds reach w to) in
+      let fed = cells_from f upper.cells upper.slots in
+      let made = rows ++ cells_of (added_rows w source (all_rounds reach w to)) in
+      past_also made (fed ∷ []) _ refusal (channel_cells f upper.cells upper.slots fed rows made (made ++ (fed ∷ [])) refl (λ d e. refl) refl refl refl refl) past
+
+  pub upper_past : (f : ℕ → Source) (cells : List RowCell) (slots : List ℕ) (rows rows' : List (List RowCell)) (count size : ℕ) (refusal : RepeatRefusal)
+      → rows' ≡ rows ++ cells_of (added_rows w source (all_rounds reach w to)) → SameSources w f (last_source w source (all_rounds reach w to))
+      → cells ≡ upper.cells → slots ≡ upper.slots → AreCounted rows' count → size ≡ length cells
+      → (refusal ≡ TooManyCells (count + size)) × (cell_limit < count + size)
+      → ArePast (rows ++ cells_of (channel_rows lower upper (channel_rounds reach lower upper) [])) refusal
+  upper_past f cells slots rows rows' count size refusal made same cells_is slots_is counted long =
+      let fed = cells_from f cells slots in
+      past_more rows' _ fed [] count size refusal counted (long ∙ sym (moved_length f cells slots))
+      (sym (channel_cells f cells slots fed rows rows' (rows' ++ (fed ∷ [])) made same cells_is slots_is refl refl))
+
 -- the channel is open
 pub known_from : (n m : ℕ) (w : ℕ → Bool) (to carriers : List ℕ) → AreDestinations w n to carriers → m ≡ n → AreDestinations w m to carriers
 known_from n m w to carriers known e = subst (λ (k : ℕ). AreDestinations w k to carriers) (sym e) known
@@ -292,6 +337,23 @@ made_channel reach net k lower upper next rows rows' row_slots row_slots' known 
           ∙ ap (λ (l : List PlacedRow). row_slots ++ slots_in l) (sym left) ∙ made.seats;
     }
 
+-- a row too many: the lowest one, or one of the next channel
+pub past_lowest : (reach : ℕ) (net : PlacedView) (cells : List RowCell) (size : ℕ) (refusal : RepeatRefusal) → IsPlaced net → cells ≡ (row_of net 0).cells → size ≡ length cells
+    → (refusal ≡ TooManyCells (0 + size)) × (cell_limit < 0 + size) → IsPastLimit reach (placed_rows net) refusal
+past_lowest reach net cells size refusal known is long past =
+    let made = made_from reach net cells cells (row_of net 0).slots (row_of net 0).slots [] (cells ∷ []) [] ((row_of net 0).slots ∷ []) known refl is refl refl refl refl refl refl in
+    refused reach net refusal (past_more [] (cells_of (repeated_rows reach (placed_rows net))) cells (cells_of (rows_left reach net 1)) 0 size refusal
+    (counted_none [] refl) long (sym made.rows) past)
+
+pub past_channel : (reach : ℕ) (net : PlacedView) (k lower upper : ℕ) (rows : List (List RowCell)) (row_slots : List (List ℕ)) (refusal : RepeatRefusal)
+    → IsPlaced net → k < length net.net.rows → lower ≡ k - 1 → upper ≡ lower + 1 → AreMadeTo reach net k rows row_slots
+    → ArePast (rows ++ cells_of (channel_rows (row_of net lower) (row_of net upper) (channel_rounds reach (row_of net lower) (row_of net upper)) [])) refusal
+    → IsPastLimit reach (placed_rows net) refusal
+past_channel reach net k lower upper rows row_slots refusal known lt below above made past =
+    let channel = channel_rows (row_of net lower) (row_of net upper) (channel_rounds reach (row_of net lower) (row_of net upper)) [] in
+    let next = made_channel reach net k lower upper (k + 1) rows (rows ++ cells_of channel) row_slots (row_slots ++ slots_in channel) known lt below above refl made refl refl in
+    refused reach net refusal (past_also (rows ++ cells_of channel) (cells_of (rows_left reach net (k + 1))) _ refusal next.rows past)
+
 -- all channels
 module _ (reach : ℕ) (net : PlacedView) (k : ℕ) (rows : List (List RowCell)) (row_slots : List (List ℕ)) (known : IsPlaced net) (made : AreMadeTo reach net k rows row_slots)
     (le : length net.net.rows ≤ k) where
@@ -303,3 +365,9 @@ module _ (reach : ℕ) (net : PlacedView) (k : ℕ) (rows : List (List RowCell))
 
   pub all_seats : row_slots ≡ slots_in (repeated_rows reach (placed_rows net))
   all_seats = sym (append-nil row_slots) ∙ ap (λ (l : List PlacedRow). row_slots ++ slots_in l) (sym no_rows_left) ∙ made.seats
+
+  pub all_many : length rows ≡ length (repeated_rows reach (placed_rows net))
+  all_many = ap length all_cells ∙ length-map (repeated_rows reach (placed_rows net)) (λ (row : PlacedRow). row.cells)
+
+  pub all_few : (count : ℕ) → AreCounted rows count → cells_past 0 (repeated_rows reach (placed_rows net)) ≡ None
+  all_few count counted = rows_fit (repeated_rows reach (placed_rows net)) (omega (arith, counted.count, counted.few, ap cells_in all_cells))

@@ -2,5 +2,4 @@
 pub mod Reading
 pub mod Looking
 pub mod Opening
-pub mod Sizes
 pub mod Counts

@@ -1,6 +1,8 @@
 -- What the pass of repeaters gives, and which nets it refuses.
-use Rattle.std.specs.Prelude.{◌≡◌, ℕ, ◌+◌, ◌-◌, ◌*◌, ◌<◌, ◌≤◌, List, [], ◌∷◌, length, Option, Some, None, cond, nat_le}
+use Rattle.std.specs.Prelude.{◌≡◌, ℕ, ◌+◌, ◌-◌, ◌*◌, ◌<◌, ◌≤◌, List, [], ◌∷◌, ◌++◌, length, Option, Some, None, cond}
+use Rattle.std.specs.Prelude.{nat_le}
 use Rattle.circuit.specs.SameAnswers.{SameAnswers}
+use Rattle.rowed.specs.declared.row_cell.RowCell.{RowCell}
 use Rattle.rowed.specs.RowNets.{IsAnswer}
 use Rattle.rowed.specs.PlacedNets.{PlacedRow, PlacedView, IsPlaced, placed_rows}
 pub use Rattle.rowed.specs.Extent.{height_limit}
@@ -18,6 +20,21 @@ cells_past before [] = None
 cells_past before (row ∷ rows) =
     let now = before + length row.cells in
     cond (nat_le now cell_limit) (cells_past now rows) (Some now)
+
+-- how many cells stand in rows
+abbrev pub cells_in : List (List RowCell) → ℕ
+cells_in [] = 0
+cells_in (row ∷ rows) = length row + cells_in rows
+
+-- one of these rows is the first that passes the limit, and so many cells stand up to its end
+pub record IsFirstPast (rows : List (List RowCell)) (cells : ℕ) : Type 0 where
+  pub below : List (List RowCell)
+  pub row : List RowCell
+  pub above : List (List RowCell)
+  pub all : rows ≡ below ++ (row ∷ above)
+  pub within : cells_in below ≤ cell_limit
+  pub count : cells ≡ cells_in below + length row
+  pub past : cell_limit < cells
 
 -- the height of rows that are each so high, and of channels that are each at most so high
 abbrev pub height_of : ℕ → ℕ → ℕ → ℕ

@@ -3,7 +3,6 @@
 
 mod cells;
 mod channel;
-mod count;
 mod destinations;
 mod laws;
 mod pass;

@@ -2,6 +2,7 @@ use Rattle.std.proofs.Common.{◌≡◌, ◌++◌, length}
 use Rattle.circuit.specs.Gates.{valuation}
 use Rattle.repeater_rows.specs.Rounds.{all_rounds}
 use Rattle.repeater_rows.specs.Repeaters.{added_rows, last_source}
+use Rattle.repeater_rows.specs.Code.Counts.{AreCounted}
 use Rattle.repeater_rows.specs.Code.Reading.{source_in}
 use Rattle.repeater_rows.proofs.RowsAboveLaws.{cells_of, slots_in}
 use Rattle.repeater_rows.proofs.Makes.{AreMade}
@@ -17,7 +18,8 @@ invariant-loop l =
     record {
       wired : l.channel.wired ≡ l.fn.channel.wired;
       long : length l.channel.sources.items ≡ n;
+      counted : AreCounted l.made.cells.items l.made.count;
       square : l.count ≡ n;
-      made : AreMade l.reach n ends (l.fn.rows.items ++ cells_of plan) (l.fn.slots.items ++ slots_in plan) (last_source ends source tos)
-          l.counter l.first (source_in l.channel.sources.items) l.channel.to.items l.channel.carriers.items l.rows.items l.slots.items;
+      made : AreMade l.reach n ends (l.fn.made.cells.items ++ cells_of plan) (l.fn.made.slots.items ++ slots_in plan) (last_source ends source tos)
+          l.counter l.first (source_in l.channel.sources.items) l.channel.to.items l.channel.carriers.items l.made.cells.items l.made.slots.items;
     }
