@@ -1,21 +1,22 @@
 // The laws of the plan of repeaters.
-ghost use Rattle.std.specs.Prelude.{◌≡◌, ℕ, ◌+◌, ◌*◌, ◌≤◌, ◌<◌, ◌⊎◌, [], ◌∷◌, Bool, true, not, List, length, take, drop, replicate, map, None};
+ghost use Rattle.std.specs.Prelude.{◌≡◌, ℕ, ◌+◌, ◌*◌, ◌≤◌, ◌<◌, ◌⊎◌, [], ◌∷◌, Bool, true, not, List, length, take, drop, replicate, map, Some, None};
 ghost use Rattle.std.specs.List.{AllByRecursion, sum};
 ghost use Rattle.circuit.specs.SameAnswers.{SameAnswers};
 ghost use Rattle.rowed.specs.RowNets.{IsAnswer};
-ghost use Rattle.rowed.specs.PlacedNets.{PlacedView, IsPlaced, placed_rows, row_of};
+ghost use Rattle.rowed.specs.PlacedNets.{PlacedRow, PlacedView, IsPlaced, placed_rows, row_of};
 ghost use Rattle.rowed.specs.Channels.{Link, channel_links, channel_slots};
 ghost use Rattle.rowed.specs.Numbers.{IsOrder};
 ghost use Rattle.repeater_rows.specs.Destinations.{destinations, is_end, IsChannel};
 ghost use Rattle.repeater_rows.specs.Rounds.{AreRounds, AreOrders, all_rounds, round, window_size, in_order};
 ghost use Rattle.repeater_rows.specs.Repeaters.{channel_rounds, repeated_rows, repeated, buffer_from, carrier_slots};
-ghost use Rattle.repeater_rows.specs.Passes.{AreRepeated, IsTooLarge, cells_past};
+ghost use Rattle.repeater_rows.specs.Passes.{AreRepeated, IsTooLarge, cell_limit, cells_in, cells_past, IsFirstPast};
 ghost use Rattle.repeater_rows.specs.Inversions.{inversions};
 ghost use Rattle.repeater_rows.specs.Local.{UnwiredRise};
 ghost use Rattle.rowed.specs.Short.{AreShort};
 ghost use Rattle.repeater_rows.specs.Inserted.{AreInserted, AreNarrow};
 ghost use Rattle.repeater_rows.specs.Examples as examples;
 ghost use Rattle.repeater_rows.specs.declared.pass.RepeatRefusal.{RepeatRefusal};
+ghost use Rattle.repeater_rows.specs.declared.pass.RepeatRefusal.TheVariants.{TooManyCells};
 
 /// The destinations of a channel are an order of its slots.
 pub fn destinations_order()
@@ -74,6 +75,24 @@ pub fn repeaters_answer()
     ensures { (p : PlacedView) (reach : ℕ) → IsPlaced p → IsPlaced (repeated p reach)
         → SameAnswers p.net.inputs (repeated p reach).net.inputs p.net.outputs (repeated p reach).net.outputs
         (IsAnswer p.net) (IsAnswer (repeated p reach).net) }
+{}
+
+/// Rows pass the limit exactly where their cells together are more than 2,000,000, and the number that is then told is
+/// that of the cells up to the end of the first row that passes it. So what the pass gives has at most 2,000,000 cells,
+/// and what it refuses for its cells has more up to the end of such a row.
+pub fn repeaters_count()
+    ensures within { (rows : List PlacedRow) → cells_in (map (λ (row : PlacedRow). row.cells) rows) ≤ cell_limit
+        → cells_past 0 rows ≡ None }
+    ensures few { (rows : List PlacedRow) → cells_past 0 rows ≡ None
+        → cells_in (map (λ (row : PlacedRow). row.cells) rows) ≤ cell_limit }
+    ensures first { (rows : List PlacedRow) (cells : ℕ) → IsFirstPast (map (λ (row : PlacedRow). row.cells) rows) cells
+        → cells_past 0 rows ≡ Some cells }
+    ensures past { (rows : List PlacedRow) (cells : ℕ) → cells_past 0 rows ≡ Some cells
+        → IsFirstPast (map (λ (row : PlacedRow). row.cells) rows) cells }
+    ensures given { (p out : PlacedView) (reach height channel : ℕ) → AreRepeated p reach height channel out
+        → cells_in out.net.rows ≤ cell_limit }
+    ensures refused { (p : PlacedView) (reach height channel cells : ℕ)
+        → IsTooLarge p reach height channel (TooManyCells cells) → IsFirstPast (repeated p reach).net.rows cells }
 {}
 
 /// The pass may give the plan of a placed net wherever it may refuse nothing but want of memory.

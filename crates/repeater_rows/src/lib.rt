@@ -13,7 +13,8 @@ mod tests;
 mod windows;
 
 pub use laws::{
-    channels_end, destinations_order, repeaters_add, repeaters_answer, repeaters_given,
-    repeaters_keep, repeaters_narrow, repeaters_short, rounds_end, unwired_rise, worked_rows,
+    channels_end, destinations_order, repeaters_add, repeaters_answer, repeaters_count,
+    repeaters_given, repeaters_keep, repeaters_narrow, repeaters_short, rounds_end, unwired_rise,
+    worked_rows,
 };
 pub use pass::{RepeatPass, RepeatRefusal};
