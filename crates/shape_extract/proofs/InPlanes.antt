@@ -9,7 +9,7 @@ use Rattle.std.proofs.lemmas.Grind.{get_or_default_zero}
 use Rattle.std.proofs.lemmas.List.{get_or-append-add, get_or-set_same, get_or-set_other, length-map}
 use Rattle.std.proofs.lemmas.Option.{same_Some, slice_get_within}
 use Rattle.geom.specs.Rectangle.{Rectangle, IsProper, AreProper}
-use Rattle.geom.specs.Near.{rects_of, IsClose, AreNear}
+use Rattle.geom.specs.Near.{rects_of, IsClose, IsNear, AreNear}
 use Rattle.geom.specs.declared.shapes.Shape.{Shape}
 use Rattle.geom.specs.Rectangle.{holds_point, overlap, share_point, within}
 use Rattle.geom.specs.declared.shapes.Label.{Label}
@@ -29,7 +29,7 @@ use Rattle.shape_extract.specs.declared.planes.FiledPlane.{FiledPlane}
 use Rattle.shape_extract.specs.Searches.{AreThose, passes_in, passes_at}
 use Rattle.shape_extract.specs.Code.DistinctShapes.{AreAt}
 use Rattle.shape_extract.specs.Code.Passing.{PassesIn}
-use Rattle.shape_extract.specs.Code.Planes.{in_plane, IsPlane, AreNamed, AreNearIn}
+use Rattle.shape_extract.specs.Code.Planes.{in_plane, IsPlane, AreNamed, IsNearIn, AreNearIn}
 use Rattle.shape_extract.proofs.Partners.{rect_at, those_near, passes_here, holding_share}
 
 -- ---- numbers in the stead of places
@@ -108,9 +108,29 @@ module _ (plane : Plane) (shapes : List Shape) (filed : FiledPlane) (is : IsPlan
       is.those.each (slice_index near k) (place_within k lk) in
       omega (arith, slice_get_within shapes (slice_index filed.numbers.items (slice_index near k)) p.item p.item_is)
 
+  found_near : (k : ℕ) → k < length found → IsNearIn plane shapes rect margin (slice_index found k)
+  found_near k lt =
+      let lk : k < length near = omega (arith, named.long) in
+      let place = slice_index near k in
+      let number = slice_index filed.numbers.items place in
+      let p : PassesIn (in_plane plane) shapes number = is.those.each place (place_within k lk) in
+      let there : slice_get is.some place ≡ Some p.item =
+      shape_there number place p.item p.item_is (place_within k lk) refl in
+      let at : IsNear (rects_of is.some) rect margin place = are.each k 0 lk in
+      let same : at.other ≡ p.item.rect =
+      same_Some at.other p.item.rect (sym at.other_is ∙ rect_at is.some place p.item there) in
+      let near_so : IsNearIn plane shapes rect margin number = record {
+        shape = p.item;
+        shape_is = p.item_is;
+        in_it = p.passes_so;
+        close = subst (λ (r : Rectangle). IsClose rect r margin) same at.close;
+      } in
+      subst (IsNearIn plane shapes rect margin) (sym (named.each k lk (place_within k lk))) near_so
+
   pub near_in_plane : AreNearIn plane shapes rect margin found
   near_in_plane = record {
     within = found_within;
+    each = found_near;
     rising = λ k lt.
         let lk : k + 1 < length near = omega (arith, named.long) in
         let less : slice_index near k < slice_index near (k + 1) = are.rising k lk in

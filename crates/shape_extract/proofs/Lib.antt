@@ -46,6 +46,8 @@ mod PinFrameLists
 mod FramesExist
 mod CircuitExists
 pub mod SameShapes
+mod SidedOrder
+mod LeastHeads
 mod StandIns
 pub mod Members
 pub mod InPlanes

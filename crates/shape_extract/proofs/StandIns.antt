@@ -7,7 +7,9 @@ use Rattle.std.proofs.Math.Seq.{get_or-append_seam}
 use Rattle.std.proofs.lemmas.Bool.{cases_eq, cases_lt}
 use Rattle.std.proofs.lemmas.List.{get_or-set_same, get_or-set_other}
 use Rattle.geom.specs.declared.shapes.Shape.{Shape}
-use Rattle.shape_extract.specs.Code.DistinctShapes.{AreHeads, AreAt, StandsFor, ArePlaces, IsDistinct}
+use Rattle.shape_extract.specs.Code.DistinctShapes.{AreHeads, AreLeast, AreOwn, AreAt, StandsFor, ArePlaces}
+use Rattle.shape_extract.specs.Code.DistinctShapes.{IsDistinct}
+use Rattle.shape_extract.proofs.LeastHeads.{own_first}
 use Rattle.shape_extract.proofs.RowEdges.{push_new}
 use Rattle.shape_extract.proofs.PinFrameLists.{NumbersTo}
 
@@ -121,7 +123,8 @@ module _ (n : ℕ) (shapes : List Shape) (numbers places : List ℕ) (are : Plac
   place_shared head less same = record {
     below = λ k lt. omega (arith, are.below k lt);
     rising = are.rising;
-    own = λ k lt. before places (slice_index places head) (slice_index numbers k) (omega (arith, are.below k lt, are.long)) ∙ are.own k lt;
+    own = λ k lt. before places (slice_index places head) (slice_index numbers k)
+        (omega (arith, are.below k lt, are.long)) ∙ are.own k lt;
     few = omega (arith, are.few);
     long = omega (arith, one_more places (slice_index places head), are.long);
     each = λ m lt. elim (cases_eq m n) [
@@ -154,7 +157,8 @@ module _ (n : ℕ) (shapes : List Shape) (numbers places : List ℕ) (are : Plac
     ];
     own = λ k lt. elim (cases_lt k (length numbers)) [
       | inl old ↦ ap (slice_index (places ++ length numbers ∷ [])) (before numbers n k old)
-          ∙ (before places (length numbers) (slice_index numbers k) (omega (arith, are.below k old, are.long)) ∙ are.own k old)
+          ∙ (before places (length numbers) (slice_index numbers k) (omega (arith, are.below k old, are.long))
+          ∙ are.own k old)
       | inr new ↦
           let here : k ≡ length numbers = omega (arith, one_more numbers n) in
           ap (slice_index (places ++ length numbers ∷ [])) (last numbers n k here)
@@ -189,12 +193,14 @@ places_all n shapes numbers places are all most = record {
   each = λ m lt. are.each m (omega arith);
 }
 
-pub distinct_from : (shapes : List Shape) (numbers places : List ℕ) (some : List Shape)
-    → ArePlaces shapes numbers places → AreAt shapes numbers some → IsDistinct shapes numbers some
-distinct_from shapes numbers places some are at = record {
+pub distinct_from : (shapes : List Shape) (heads numbers places : List ℕ) (some : List Shape)
+    → AreLeast shapes heads → AreOwn heads numbers → ArePlaces shapes numbers places → AreAt shapes numbers some
+    → IsDistinct shapes numbers some
+distinct_from shapes heads numbers places some least own are at = record {
   those = at;
   within = are.below;
   rising = are.rising;
+  first = λ k lt. own_first shapes heads (slice_index numbers k) least (are.below k lt) (own k lt);
   all = λ n lt. (let s : StandsFor shapes numbers n (slice_index places n) = are.each n lt in record {
     place = slice_index places n;
     within = s.within;

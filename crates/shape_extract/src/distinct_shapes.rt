@@ -1,6 +1,7 @@
 // Shapes without their repetitions: of equal shapes the one with the least number stands for all.
-ghost use Rattle.std.specs.Prelude.{◌≡◌, ◌<◌, ◌^◌, ◌↔◌, All, IfOk, IsTrue, length};
-ghost use Rattle.shape_extract.specs.Code.DistinctShapes.{AreHeads, AreAt, ArePlaces, IsDistinct};
+ghost use Rattle.std.specs.Prelude.{◌≡◌, ◌≢◌, ℕ, ◌<◌, ◌^◌, ◌↔◌, All, IfOk, IsTrue, length};
+ghost use Rattle.shape_extract.specs.Code.DistinctShapes.{sided_of, AreInOrder, AreHeads, IsLeastHead, GoesOn};
+ghost use Rattle.shape_extract.specs.Code.DistinctShapes.{AreLeast, AreOwn, AreAt, ArePlaces, IsDistinct};
 
 use aq_base::{List, Memory};
 use geom::Shape;
@@ -35,7 +36,7 @@ struct Sided {
 }
 
 fn sided_at(shape: &Shape, number: u32) -> Sided
-    ensures { result.number ≡ number }
+    ensures { result ≡ sided_of shape.now number }
 {
     let rect = &shape.rect;
     Sided {
@@ -52,7 +53,7 @@ fn sided_at(shape: &Shape, number: u32) -> Sided
 /// All shapes, equal ones one after the other by rising number.
 fn in_order(alloc: Global, shapes: &[Shape]) -> Result<Vec<Sided>, Memory>
     requires { length shapes.now < 2 ^ 32 }
-    ensures { IfOk result (λ order. All (λ s. s.number < length shapes.now) order.items) }
+    ensures { IfOk result (λ order. AreInOrder shapes.now order.items) }
 {
     let mut order = Vec::with_capacity(alloc, shapes.len())?;
     for (number, shape) in shapes.iter().enumerate() {
@@ -86,7 +87,9 @@ fn link(shapes: &[Shape], heads: &mut [u32], before: u32, n: u32)
     requires heads { AreHeads shapes.now heads.old }
     requires before { before < length shapes.now }
     requires within { n < length shapes.now }
-    ensures { AreHeads shapes.now heads.new }
+    ensures heads { AreHeads shapes.now heads.new }
+    ensures least { GoesOn shapes.now heads.old before n → IsLeastHead shapes.now heads.new n }
+    ensures others { (m : ℕ) → m ≢ n → IsLeastHead shapes.now heads.old m → IsLeastHead shapes.now heads.new m }
 {
     let head = heads[before as usize];
     if head < n && is_equal(&shapes[head as usize], &shapes[n as usize]) {
@@ -95,10 +98,11 @@ fn link(shapes: &[Shape], heads: &mut [u32], before: u32, n: u32)
 }
 
 /// For each shape the least number of an equal one. That the number is one of an equal shape and not above is what
-/// `link` tests; that it is the least is what the order is for, and no clause rests on it.
+/// `link` tests; that it is the least is what the order is for.
 fn heads(alloc: Global, shapes: &[Shape]) -> Result<Vec<u32>, Memory>
     requires { length shapes.now < 2 ^ 32 }
-    ensures { IfOk result (λ heads. AreHeads shapes.now heads.items) }
+    ensures heads { IfOk result (λ heads. AreHeads shapes.now heads.items) }
+    ensures least { IfOk result (λ heads. AreLeast shapes.now heads.items) }
 {
     let order = in_order(alloc, shapes)?;
     let mut heads = own_heads(alloc, shapes)?;
@@ -117,7 +121,8 @@ fn heads(alloc: Global, shapes: &[Shape]) -> Result<Vec<u32>, Memory>
 fn stand_ins(alloc: Global, shapes: &[Shape], heads: &[u32]) -> Result<StandIns, Memory>
     requires few { length shapes.now < 2 ^ 32 }
     requires heads { AreHeads shapes.now heads.now }
-    ensures { IfOk result (λ s. ArePlaces shapes.now s.numbers.items s.places.items) }
+    ensures places { IfOk result (λ s. ArePlaces shapes.now s.numbers.items s.places.items) }
+    ensures own { IfOk result (λ s. AreOwn heads.now s.numbers.items) }
 {
     let mut numbers = Vec::new(alloc);
     let mut places = Vec::with_capacity(alloc, shapes.len())?;

@@ -109,8 +109,8 @@ fn name_places(numbers: &[u32], found: &mut Vec<u32>)
 }
 
 impl FiledPlane {
-    /// Leaves in `found` rising numbers of shapes in the plane, among them all that are no further from the rectangle
-    /// than the margin, in x and in y. It is refused for want of memory alone.
+    /// Leaves in `found` the numbers of the shapes in the plane that are no further from the rectangle than the margin,
+    /// in x and in y, rising. It is refused for want of memory alone.
     fn list_near(&self, rect: &Rect, margin: u64, found: &mut Vec<u32>) -> Result<(), Memory>
         requires { margin ≤ 1000000 }
         ensures { IfOk result (λ _. (plane : Plane) (shapes : List Shape) → IsPlane plane shapes self.now
@@ -137,9 +137,9 @@ impl Planes {
         }
     }
 
-    /// Leaves in `found` rising numbers of shapes, among them all in the plane that are no further from the rectangle
-    /// than the margin, in x and in y; what was there before is dropped. The margin is in nanometres. It is refused for
-    /// want of memory alone.
+    /// Leaves in `found` the numbers of the shapes in the plane that are no further from the rectangle than the margin,
+    /// in x and in y, rising; what was there before is dropped. The margin is in nanometres. It is refused for want of
+    /// memory alone.
     pub fn list_near(
         &self,
         plane: Plane,

@@ -42,11 +42,18 @@ pub record AreNamed (numbers places named : List ℕ) : Type 0 where
   pub each : (k : ℕ) → k < length places → slice_index places k < length numbers
       → slice_index named k ≡ slice_index numbers (slice_index places k)
 
--- rising numbers of shapes, among them those in the plane that are no further than the margin; all in the plane are
--- proper
+-- the shape of number n lies in the plane, no further than the margin
+pub record IsNearIn (plane : Plane) (shapes : List Shape) (rect : Rectangle) (margin n : ℕ) : Type 0 where
+  pub shape : Shape
+  pub shape_is : slice_get shapes n ≡ Some shape
+  pub in_it : in_plane plane shape ≡ true
+  pub close : IsClose rect shape.rect margin
+
+-- the numbers, rising, of the shapes in the plane that are no further than the margin; all in the plane are proper
 pub record AreNearIn (plane : Plane) (shapes : List Shape) (rect : Rectangle) (margin : ℕ) (found : List ℕ)
     : Type 0 where
   pub within : (k : ℕ) → k < length found → slice_index found k < length shapes
+  pub each : (k : ℕ) → k < length found → IsNearIn plane shapes rect margin (slice_index found k)
   pub rising : IsStrictlyIncreasing found
   pub proper : (n : ℕ) (s : Shape) → slice_get shapes n ≡ Some s → in_plane plane s ≡ true → IsProper s.rect
   pub complete : (n : ℕ) (s : Shape) → slice_get shapes n ≡ Some s → in_plane plane s ≡ true
