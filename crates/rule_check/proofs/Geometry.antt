@@ -23,8 +23,8 @@ use Rattle.rule_check.specs.Code.Above.{FindsAbove}
 use Rattle.rule_check.specs.Code.Sheets.{HaveSides}
 use Rattle.shape_extract.specs.declared.planes.Plane.{Plane}
 use Rattle.shape_extract.specs.declared.planes.Plane.TheVariants.{Lower, Vias, Upper}
-use Rattle.shape_extract.specs.Code.Passing.{PassesIn}
-use Rattle.shape_extract.specs.Code.Planes.{in_plane}
+use Rattle.shape_extract.specs.Passing.{PassesIn}
+use Rattle.shape_extract.specs.Planes.{in_plane}
 
 pub read_at : {X : Type 0} (xs : List X) (n : ℕ) (x : X) → n < length xs → x ≡ get_or xs n x → slice_get xs n ≡ Some x
 read_at xs n x lt is = slice_get-get_or xs n x lt ∙ sym (ap Some is)

@@ -22,7 +22,7 @@ use Rattle.geom.specs.Rectangle.{common}
 use Rattle.layout_rules.specs.GeometryRules.{FramesBroken}
 use Rattle.shape_extract.specs.declared.search.Report.{Report}
 use Rattle.shape_extract.specs.Searches.{Finds, AreThose}
-use Rattle.shape_extract.specs.Code.DistinctShapes.{AreAt, HasStandIn, IsDistinct}
+use Rattle.shape_extract.specs.Distinct.{AreAt, HasStandIn, IsDistinct}
 use Rattle.rule_check.specs.Code.Named.{HasPlaces, named}
 use Rattle.rule_check.specs.Code.Sheets.{HaveSides}
 

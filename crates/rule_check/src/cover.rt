@@ -5,7 +5,7 @@ ghost use Rattle.geom.specs.Rectangle.{within};
 ghost use Rattle.geom.specs.Rectangle.{common};
 ghost use Rattle.layout_rules.specs.GeometryRules.{CoverBroken};
 ghost use Rattle.shape_extract.specs.Searches.{Finds, FindsAt};
-ghost use Rattle.shape_extract.specs.Code.Planes.{ArePlanes};
+ghost use Rattle.shape_extract.specs.Planes.{ArePlanes};
 ghost use Rattle.rule_check.specs.Code.Cover.{is_at_pin_of, AreWithin, any_at, may_trespass, trespasses_by};
 ghost use Rattle.rule_check.specs.Code.Cover.{FindsTrespass};
 ghost use Rattle.rule_check.specs.Code.Close.{within_x, within_y};

@@ -4,7 +4,7 @@ ghost use Rattle.geom.specs.declared.shapes.Shape.{Shape};
 ghost use Rattle.geom.specs.Rectangle.{within, grown};
 ghost use Rattle.layout_rules.specs.GeometryRules.{is_covered, EnclosureBroken};
 ghost use Rattle.shape_extract.specs.Searches.{Finds};
-ghost use Rattle.shape_extract.specs.Code.Planes.{in_plane, ArePlanes};
+ghost use Rattle.shape_extract.specs.Planes.{in_plane, ArePlanes};
 ghost use Rattle.rule_check.specs.Code.Seen.{limits_seen};
 ghost use Rattle.rule_check.specs.Code.Close.{encloses, is_bare_by, within_x, within_y, IsAnswerAt};
 ghost use Rattle.rule_check.specs.Code.Sheets.{IsSheet};

@@ -3,7 +3,7 @@ ghost use Rattle.std.specs.Prelude.{◌≡◌, ℕ, ◌-◌, ◌<◌, ◌≤◌,
 ghost use Rattle.geom.specs.declared.shapes.Shape.{Shape};
 ghost use Rattle.layout_rules.specs.GeometryRules.{are_of_one_group, are_too_close, SpacingBroken};
 ghost use Rattle.shape_extract.specs.Searches.{Finds};
-ghost use Rattle.shape_extract.specs.Code.Planes.{in_plane};
+ghost use Rattle.shape_extract.specs.Planes.{in_plane};
 ghost use Rattle.rule_check.specs.Code.Seen.{limits_seen};
 ghost use Rattle.rule_check.specs.Code.Above.{FindsAbove};
 ghost use Rattle.rule_check.specs.Code.Close.{is_of_a_group, IsFiledWith};

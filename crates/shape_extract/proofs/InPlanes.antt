@@ -27,9 +27,9 @@ use Rattle.shape_extract.specs.Code.Sharing.{sharing_close}
 use Rattle.shape_extract.specs.Code.Walk.{AreTouching, touches_in}
 use Rattle.shape_extract.specs.declared.planes.FiledPlane.{FiledPlane}
 use Rattle.shape_extract.specs.Searches.{AreThose, passes_in, passes_at}
-use Rattle.shape_extract.specs.Code.DistinctShapes.{AreAt}
-use Rattle.shape_extract.specs.Code.Passing.{PassesIn}
-use Rattle.shape_extract.specs.Code.Planes.{in_plane, IsPlane, AreNamed, IsNearIn, AreNearIn}
+use Rattle.shape_extract.specs.Distinct.{AreAt}
+use Rattle.shape_extract.specs.Passing.{PassesIn}
+use Rattle.shape_extract.specs.Planes.{in_plane, IsPlane, AreNamed, IsNearIn, AreNearIn}
 use Rattle.shape_extract.proofs.Partners.{rect_at, those_near, passes_here, holding_share}
 
 -- ---- numbers in the stead of places

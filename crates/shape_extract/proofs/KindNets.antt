@@ -8,7 +8,7 @@ use Rattle.layout_rules.specs.Touch.{Touching, IsPath, Joined}
 use Rattle.layout_rules.specs.Nets.{AreNets}
 use Rattle.layout_rules.proofs.NetLaws.{Touching-back, Touching-within, Joined-self, Joined-trans, Joined-touching, Joined-within, one_number, AreNets-certified}
 use Rattle.shape_extract.specs.Searches.{Says}
-use Rattle.shape_extract.specs.Code.DistinctShapes.{AreAt, StandsFor, ArePlaces}
+use Rattle.shape_extract.specs.Distinct.{AreAt, StandsFor, ArePlaces}
 use Rattle.shape_extract.specs.Code.Walk.{HasTouching, is_touched, AreTold, net_at}
 
 module _ (all : List Shape) (numbers places : List ℕ) (some : List Shape) (at : AreAt all numbers some)

@@ -13,7 +13,7 @@ use Rattle.layout_rules.specs.Reports.{Alone}
 use Rattle.layout_rules.proofs.ReportLaws.{Alone-first, Alone-none}
 use Rattle.layout_rules.specs.CircuitRules.{is_port, is_port_label, IsLabelAt, IsNoPortLabel, IsUnlabelledPort}
 use Rattle.shape_extract.specs.Searches.{FindsAt, AreThose}
-use Rattle.shape_extract.specs.Code.Passing.{PassesIn}
+use Rattle.shape_extract.specs.Passing.{PassesIn}
 use Rattle.shape_extract.specs.declared.tables.ports.Port.{Port}
 use Rattle.shape_extract.specs.Code.Ports.{port_of, ports_of, crosses}
 use Rattle.shape_extract.proofs.PortPins.{port_got, crosses_port}

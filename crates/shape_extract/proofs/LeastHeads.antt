@@ -8,7 +8,8 @@ use Rattle.std.proofs.lemmas.Bool.{cases_eq, cases_lt}
 use Rattle.std.proofs.lemmas.Option.{same_Some, slice_get_within, slice_get-get_or}
 use Rattle.geom.specs.declared.shapes.Shape.{Shape}
 use Rattle.shape_extract.specs.declared.distinct_shapes.Sided.{Sided}
-use Rattle.shape_extract.specs.Code.DistinctShapes.{AreAlike, AreInOrder, AreHeads, IsLeastHead, IsFirst, GoesOn}
+use Rattle.shape_extract.specs.Distinct.{IsFirst}
+use Rattle.shape_extract.specs.Code.DistinctShapes.{AreAlike, AreInOrder, AreHeads, IsLeastHead, GoesOn}
 use Rattle.shape_extract.specs.Code.DistinctShapes.{AreLeast, AreOwn}
 
 -- the head of the first of its kind is its own number

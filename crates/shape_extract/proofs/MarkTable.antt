@@ -14,7 +14,7 @@ use Rattle.layout_rules.specs.Labels.{marks, is_labelled}
 use Rattle.layout_rules.specs.declared.layers.TheConstants.{INPUT_PIN}
 use Rattle.layout_rules.proofs.PlaceLaws.{PassesAt, list_any-at, list_any-place}
 use Rattle.shape_extract.specs.Extraction.{is_wired}
-use Rattle.shape_extract.specs.Code.Passing.{PassesIn}
+use Rattle.shape_extract.specs.Passing.{PassesIn}
 use Rattle.shape_extract.specs.Searches.{Says, AreThose}
 use Rattle.shape_extract.specs.Code.Marking.{with_label, has_label, has_one, label_in, IsMarkOf, AreMarks, IsNoted}
 use Rattle.shape_extract.specs.declared.tables.mark_table.Mark.{Mark}

@@ -15,9 +15,9 @@ use Rattle.geom.specs.Rectangle.{IsProper, AreProper}
 use Rattle.geom.specs.Near.{rects_of, IsClose, AreNear}
 use Rattle.layout_rules.specs.Reports.{PassTogether}
 use Rattle.shape_extract.specs.Searches.{AreThose, passes_at}
-use Rattle.shape_extract.specs.Code.DistinctShapes.{AreAt, StandsFor, ArePlaces}
+use Rattle.shape_extract.specs.Distinct.{AreAt, StandsFor, ArePlaces}
 use Rattle.shape_extract.specs.Code.NetChains.{IsNextFrom}
-use Rattle.shape_extract.specs.Code.Passing.{PassesIn}
+use Rattle.shape_extract.specs.Passing.{PassesIn}
 use Rattle.shape_extract.specs.Code.Filed.{AreFirsts, IsOfKinds, IsFromOn, AddsRest, ListsMembers}
 use Rattle.shape_extract.proofs.Partners.{passing_near, closer, rect_at}
 

@@ -18,7 +18,7 @@ use Rattle.geom.specs.declared.shapes.Label.{Label}
 use Rattle.layout_rules.specs.declared.layers.TheConstants.{LABELS}
 use Rattle.layout_rules.specs.Labels.{marks, marked_layer}
 use Rattle.layout_rules.specs.Reports.{PassTogether}
-use Rattle.shape_extract.specs.Code.Passing.{PassesIn}
+use Rattle.shape_extract.specs.Passing.{PassesIn}
 use Rattle.shape_extract.specs.Code.Sharing.{sharing_close}
 use Rattle.shape_extract.specs.Searches.{AreThose, passes_in, passes_at, passes_with}
 

@@ -7,7 +7,7 @@ use Rattle.std.proofs.lemmas.List.Sums.{sum_by-cons}
 use Rattle.std.proofs.lemmas.Option.{same_Some, slice_get_within, slice_get-get_or, get_or_from_slice_get}
 use Rattle.layout_rules.proofs.PlaceLaws.{PassesAt, list_any-at, list_any-place, count_by-once, count_by-one}
 use Rattle.shape_extract.specs.Searches.{Says, AreThose}
-use Rattle.shape_extract.specs.Code.Passing.{PassesIn}
+use Rattle.shape_extract.specs.Passing.{PassesIn}
 
 pub read_at : {X : Type 0} (xs : List X) (n : ℕ) (x : X) → n < length xs → x ≡ get_or xs n x → slice_get xs n ≡ Some x
 read_at xs n x lt is = slice_get-get_or xs n x lt ∙ sym (ap Some is)

@@ -10,7 +10,7 @@ use Rattle.layout_rules.specs.Layers.{is_pin}
 use Rattle.layout_rules.specs.Reports.{ReportsNone, Passes}
 use Rattle.layout_rules.specs.CircuitRules.{LabelsBroken}
 use Rattle.shape_extract.specs.Code.Marking.{AreMarks, label_in}
-use Rattle.shape_extract.specs.Code.Passing.{PassesIn}
+use Rattle.shape_extract.specs.Passing.{PassesIn}
 use Rattle.shape_extract.specs.Code.PinNames.{IsNameOf}
 use Rattle.shape_extract.specs.declared.tables.mark_table.Mark.{Mark}
 use Rattle.shape_extract.specs.declared.tables.mark_table.Mark.TheVariants.{Unmarked}

@@ -7,8 +7,9 @@ use Rattle.std.proofs.Math.Seq.{get_or-append_seam}
 use Rattle.std.proofs.lemmas.Bool.{cases_eq, cases_lt}
 use Rattle.std.proofs.lemmas.List.{get_or-set_same, get_or-set_other}
 use Rattle.geom.specs.declared.shapes.Shape.{Shape}
-use Rattle.shape_extract.specs.Code.DistinctShapes.{AreHeads, AreLeast, AreOwn, AreAt, StandsFor, ArePlaces}
-use Rattle.shape_extract.specs.Code.DistinctShapes.{IsDistinct}
+use Rattle.shape_extract.specs.Distinct.{AreAt, StandsFor, ArePlaces}
+use Rattle.shape_extract.specs.Code.DistinctShapes.{AreHeads, AreLeast, AreOwn}
+use Rattle.shape_extract.specs.Distinct.{IsDistinct}
 use Rattle.shape_extract.proofs.LeastHeads.{own_first}
 use Rattle.shape_extract.proofs.RowEdges.{push_new}
 use Rattle.shape_extract.proofs.PinFrameLists.{NumbersTo}

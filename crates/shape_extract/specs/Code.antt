@@ -9,7 +9,6 @@ pub mod Edges
 pub mod PinRows
 pub mod RowFaults
 pub mod Ports
-pub mod Passing
 pub mod Marking
 pub mod LabelNames
 -- the rules of circuits:
@@ -29,5 +28,4 @@ pub mod OutputPins
 pub mod Parts
 -- equal shapes, and shapes by planes:
 pub mod DistinctShapes
-pub mod Planes
 pub mod Filed

@@ -1,7 +1,8 @@
 // Shapes without their repetitions: of equal shapes the one with the least number stands for all.
 ghost use Rattle.std.specs.Prelude.{◌≡◌, ◌≢◌, ℕ, ◌<◌, ◌^◌, ◌↔◌, All, IfOk, IsTrue, length};
 ghost use Rattle.shape_extract.specs.Code.DistinctShapes.{sided_of, AreInOrder, AreHeads, IsLeastHead, GoesOn};
-ghost use Rattle.shape_extract.specs.Code.DistinctShapes.{AreLeast, AreOwn, AreAt, ArePlaces, IsDistinct};
+ghost use Rattle.shape_extract.specs.Distinct.{AreAt, ArePlaces, IsDistinct};
+ghost use Rattle.shape_extract.specs.Code.DistinctShapes.{AreLeast, AreOwn};
 
 use aq_base::{List, Memory};
 use geom::Shape;

@@ -7,8 +7,8 @@ ghost use Rattle.geom.specs.declared.shapes.Shape.{Shape};
 ghost use Rattle.layout_rules.specs.Reports.{PassTogether};
 ghost use Rattle.shape_extract.specs.Searches.{AreThose, passes_with};
 ghost use Rattle.shape_extract.specs.Code.Filed.{IsFiled};
-ghost use Rattle.shape_extract.specs.Code.Passing.{PassesIn};
-ghost use Rattle.shape_extract.specs.Code.Planes.{in_plane, ArePlanes};
+ghost use Rattle.shape_extract.specs.Passing.{PassesIn};
+ghost use Rattle.shape_extract.specs.Planes.{in_plane, ArePlanes};
 
 use crate::filed_shapes::{FiledShapes, list_of_kinds};
 use crate::planes::{Plane, Planes};

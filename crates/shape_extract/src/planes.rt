@@ -2,8 +2,8 @@
 ghost use Rattle.std.specs.Prelude.{◌≡◌, ◌^◌, ◌<◌, ◌≤◌, IfOk, List, length};
 ghost use Rattle.geom.specs.declared.shapes.Shape.{Shape};
 ghost use Rattle.shape_extract.specs.Searches.{AreThose};
-ghost use Rattle.shape_extract.specs.Code.Passing.{PassesIn};
-ghost use Rattle.shape_extract.specs.Code.Planes.{in_plane, IsPlane, ArePlanes, AreNamed, AreNearIn};
+ghost use Rattle.shape_extract.specs.Passing.{PassesIn};
+ghost use Rattle.shape_extract.specs.Planes.{in_plane, IsPlane, ArePlanes, AreNamed, AreNearIn};
 
 use crate::distinct_shapes::shapes_at;
 use crate::layers::{is_frame, is_line, is_lower, is_upper, is_via};

@@ -2,8 +2,8 @@
 use Rattle.std.specs.Prelude.{◌≡◌, ℕ, ◌<◌, ◌^◌, List, length, slice_get, Some}
 use Rattle.geom.specs.Rectangle.{IsProper}
 use Rattle.geom.specs.declared.shapes.Shape.{Shape}
-use Rattle.shape_extract.specs.Code.DistinctShapes.{IsDistinct}
-use Rattle.shape_extract.specs.Code.Planes.{ArePlanes}
+use Rattle.shape_extract.specs.Distinct.{IsDistinct}
+use Rattle.shape_extract.specs.Planes.{ArePlanes}
 use Rattle.rule_check.specs.declared.sheet.Sheet.{Sheet}
 
 -- each of the shapes is proper

@@ -1,9 +1,9 @@
 -- Shapes filed by kinds: equal shapes are of one kind, which goes by its least number.
 use Rattle.std.specs.Prelude.{◌≡◌, ℕ, ◌<◌, ◌≤◌, List, length, slice_index}
 use Rattle.geom.specs.declared.shapes.Shape.{Shape}
-use Rattle.shape_extract.specs.Code.DistinctShapes.{ArePlaces, IsDistinct}
+use Rattle.shape_extract.specs.Distinct.{ArePlaces, IsDistinct}
 use Rattle.shape_extract.specs.Code.NetChains.{AreChains}
-use Rattle.shape_extract.specs.Code.Planes.{ArePlanes}
+use Rattle.shape_extract.specs.Planes.{ArePlanes}
 use Rattle.shape_extract.specs.declared.filed_shapes.FiledShapes.{FiledShapes}
 
 -- the numbers, rising, are the least of their kinds; each shape has the place of its kind among them

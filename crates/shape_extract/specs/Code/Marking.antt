@@ -4,7 +4,7 @@ use Rattle.std.specs.Prelude.{List, length, count_by, slice_get, slice_index}
 use Rattle.geom.specs.declared.shapes.Shape.{Shape}
 use Rattle.geom.specs.declared.shapes.Label.{Label}
 use Rattle.layout_rules.specs.Labels.{marks}
-use Rattle.shape_extract.specs.Code.Passing.{PassesIn}
+use Rattle.shape_extract.specs.Passing.{PassesIn}
 use Rattle.shape_extract.specs.declared.tables.mark_table.Mark.{Mark}
 use Rattle.shape_extract.specs.declared.tables.mark_table.Mark.TheVariants.{Unmarked, Once, Often}
 

@@ -5,7 +5,7 @@ use Rattle.std.specs.Prelude.{List, length, slice_index, slice_index_or, sum}
 use Rattle.geom.specs.declared.shapes.Shape.{Shape}
 use Rattle.layout_rules.specs.Touch.{touch, Touching, Joined}
 use Rattle.shape_extract.specs.declared.planes.Plane.{Plane}
-use Rattle.shape_extract.specs.Code.Planes.{in_plane}
+use Rattle.shape_extract.specs.Planes.{in_plane}
 use Rattle.shape_extract.specs.Searches.{Says}
 
 -- the numbers are those of the shapes that touch shape `from`

@@ -4,8 +4,8 @@ ghost use Rattle.geom.specs.declared.shapes.Shape.{Shape};
 ghost use Rattle.layout_rules.specs.Layers.{is_lower, is_upper, is_via};
 ghost use Rattle.layout_rules.specs.Touch.{touch};
 ghost use Rattle.shape_extract.specs.Searches.{AreThose};
-ghost use Rattle.shape_extract.specs.Code.Passing.{PassesIn};
-ghost use Rattle.shape_extract.specs.Code.Planes.{in_plane, ArePlanes};
+ghost use Rattle.shape_extract.specs.Passing.{PassesIn};
+ghost use Rattle.shape_extract.specs.Planes.{in_plane, ArePlanes};
 ghost use Rattle.shape_extract.specs.Code.Walk.{AreTouching, touches_in};
 
 use crate::connectivity::touching::touch;

@@ -16,9 +16,9 @@ ghost use Rattle.shape_extract.specs.Code.Walk.{
   AreTold,
   net_at,
 };
-ghost use Rattle.shape_extract.specs.Code.DistinctShapes.{ArePlaces, IsDistinct};
+ghost use Rattle.shape_extract.specs.Distinct.{ArePlaces, IsDistinct};
 ghost use Rattle.shape_extract.specs.Code.Filed.{IsFiled};
-ghost use Rattle.shape_extract.specs.Code.Planes.{ArePlanes};
+ghost use Rattle.shape_extract.specs.Planes.{ArePlanes};
 
 use crate::connectivity::neighbours::list_touching;
 use crate::distinct_shapes::Distinct;

@@ -4,7 +4,7 @@ ghost use Rattle.std.specs.List.{filter};
 ghost use Rattle.geom.specs.Rectangle.{holds_point};
 ghost use Rattle.layout_rules.specs.Labels.{marks};
 ghost use Rattle.shape_extract.specs.Searches.{AreThose, passes_at};
-ghost use Rattle.shape_extract.specs.Code.Passing.{PassesIn};
+ghost use Rattle.shape_extract.specs.Passing.{PassesIn};
 ghost use Rattle.shape_extract.specs.Code.Filed.{IsFiled};
 
 use crate::filed_shapes::{FiledShapes, list_of_kinds};

@@ -1,6 +1,6 @@
 use Rattle.std.proofs.Common.{arith}
 use Rattle.layout_rules.specs.GeometryRules.{FramesBroken}
-use Rattle.shape_extract.specs.Code.DistinctShapes.{AreAt}
+use Rattle.shape_extract.specs.Distinct.{AreAt}
 use Rattle.rule_check.proofs.Represented.{finds_named, places_of, frames_represent, frames_few}
 use Rattle.rule_check.proofs.frames.find_colliding.Goals as goal
 

@@ -1,6 +1,6 @@
 use Rattle.std.proofs.Common.{arith}
 use Rattle.shape_extract.specs.Searches.{AreThose}
-use Rattle.shape_extract.specs.Code.Passing.{PassesIn}
+use Rattle.shape_extract.specs.Passing.{PassesIn}
 use Rattle.shape_extract.proofs.Passing.{read_at}
 use Rattle.shape_extract.proofs.Members.{passing_within, passing_all, together_from}
 use Rattle.shape_extract.proofs.pairs.list_filed_partners.Goals as goal

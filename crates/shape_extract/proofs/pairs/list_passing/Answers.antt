@@ -1,4 +1,4 @@
-use Rattle.shape_extract.specs.Code.Planes.{AreNearIn}
+use Rattle.shape_extract.specs.Planes.{AreNearIn}
 use Rattle.shape_extract.proofs.Partners.{closer}
 use Rattle.shape_extract.proofs.InPlanes.{all_within, passing_in_plane}
 use Rattle.shape_extract.proofs.pairs.list_passing.Goals as goal

@@ -1,6 +1,6 @@
 use Rattle.std.proofs.Common.{arith}
-use Rattle.shape_extract.specs.Code.DistinctShapes.{AreAt}
-use Rattle.shape_extract.specs.Code.Planes.{in_plane}
+use Rattle.shape_extract.specs.Distinct.{AreAt}
+use Rattle.shape_extract.specs.Planes.{in_plane}
 use Rattle.shape_extract.proofs.InPlanes.{few_in_plane}
 use Rattle.shape_extract.proofs.planes.file_plane.Goals as goal
 

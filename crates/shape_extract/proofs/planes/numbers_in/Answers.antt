@@ -1,8 +1,8 @@
 use Rattle.std.proofs.Common.{◌≡◌, ◌∙◌, sym, [], ◌∷◌, ◌++◌, Some, arith}
 use Rattle.std.specs.Prelude.{slice_get}
 use Rattle.std.proofs.lemmas.Option.{slice_get_within}
-use Rattle.shape_extract.specs.Code.Passing.{PassesIn}
-use Rattle.shape_extract.specs.Code.Planes.{in_plane}
+use Rattle.shape_extract.specs.Passing.{PassesIn}
+use Rattle.shape_extract.specs.Planes.{in_plane}
 use Rattle.shape_extract.proofs.Passing.{passes_here, fails_here}
 use Rattle.shape_extract.proofs.Searching.{those_more, those_same, those_all}
 use Rattle.shape_extract.proofs.planes.numbers_in.Goals as goal

@@ -1,5 +1,5 @@
-use Rattle.shape_extract.specs.Code.Passing.{PassesIn}
-use Rattle.shape_extract.specs.Code.Planes.{in_plane}
+use Rattle.shape_extract.specs.Passing.{PassesIn}
+use Rattle.shape_extract.specs.Planes.{in_plane}
 use Rattle.shape_extract.proofs.Searching.{AreThoseBelow}
 use Rattle.shape_extract.proofs.planes.numbers_in.Given as goal
 

@@ -1,7 +1,7 @@
 use Rattle.std.proofs.Common.{◌≡◌, ◌∙◌, sym, arith, true}
 use Rattle.layout_rules.specs.Labels.{marks, is_numbered}
 use Rattle.shape_extract.specs.Searches.{AreThose}
-use Rattle.shape_extract.specs.Code.Passing.{PassesIn}
+use Rattle.shape_extract.specs.Passing.{PassesIn}
 use Rattle.shape_extract.proofs.LabelParts.{not_one, one_port}
 use Rattle.shape_extract.proofs.rules.label_rule.is_port_label.Goals as goal
 

@@ -1,7 +1,7 @@
 use Rattle.std.proofs.Common.{◌≡◌, ap, arith, length, Some}
 use Rattle.std.specs.Prelude.{slice_get}
 use Rattle.layout_rules.specs.Labels.{marks}
-use Rattle.shape_extract.specs.Code.Passing.{PassesIn}
+use Rattle.shape_extract.specs.Passing.{PassesIn}
 use Rattle.shape_extract.specs.Searches.{AreThose}
 use Rattle.shape_extract.specs.Code.Marking.{IsNoted}
 use Rattle.shape_extract.proofs.Passing.{read_at}

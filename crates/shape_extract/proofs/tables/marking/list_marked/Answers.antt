@@ -2,7 +2,7 @@ use Rattle.std.proofs.Common.{◌≡◌, rules, w64, to_z, of_z}
 use Rattle.std.proofs.lemmas.Int.{to_z-of_z}
 use Rattle.layout_rules.specs.Labels.{marks}
 use Rattle.shape_extract.specs.Searches.{AreThose}
-use Rattle.shape_extract.specs.Code.Passing.{PassesIn}
+use Rattle.shape_extract.specs.Passing.{PassesIn}
 use Rattle.shape_extract.proofs.InPlanes.{all_within, marked_in_plane}
 use Rattle.shape_extract.proofs.Members.{passing_within, passing_all}
 use Rattle.shape_extract.proofs.tables.marking.list_marked.Goals as goal

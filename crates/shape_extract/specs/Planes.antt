@@ -10,8 +10,8 @@ use Rattle.shape_extract.specs.declared.planes.Plane.TheVariants.{Lower, Vias, U
 use Rattle.shape_extract.specs.declared.planes.FiledPlane.{FiledPlane}
 use Rattle.shape_extract.specs.declared.planes.Planes.{Planes}
 use Rattle.shape_extract.specs.Searches.{AreThose}
-use Rattle.shape_extract.specs.Code.DistinctShapes.{AreAt}
-use Rattle.shape_extract.specs.Code.Passing.{PassesIn}
+use Rattle.shape_extract.specs.Distinct.{AreAt}
+use Rattle.shape_extract.specs.Passing.{PassesIn}
 
 -- the shape lies in the plane
 abbrev pub in_plane : Plane → Shape → Bool
