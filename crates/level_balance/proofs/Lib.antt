@@ -23,6 +23,8 @@ pub mod SameAnswers
 pub mod Counted
 pub mod Narrow
 mod PlanGiven
+mod KindCounts
+mod ConstantCells
 mod Worked
 mod Used
 mod Laid

@@ -4,6 +4,7 @@ pub mod Laying
 pub mod Plan
 pub mod Trees
 pub mod Needs
+pub mod Kinds
 pub mod Heights
 pub mod Examples
 pub mod Totals
