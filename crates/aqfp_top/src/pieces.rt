@@ -9,7 +9,8 @@ ghost use Rattle.aqfp_top.specs.Code.Pages.{Pends};
 ghost use Rattle.aqfp_top.specs.Code.Pieces.{piece_text, pieces_text};
 
 use crate::page::{Page, add_byte, add_text, put_page};
-use aq_base::{Bytes, List, Sink, StoreRefusal};
+use aq_base::{List, Sink, StoreRefusal};
+use short_bytes::ShortBytes;
 
 /// A piece of a line.
 #[derive(Clone, Copy)]
@@ -23,7 +24,7 @@ pub enum Piece<'a> {
     /// Two numbers, with a blank between them.
     Pair(u32, u32),
     /// Signals, each after a blank.
-    Signals(&'a List<Bytes>),
+    Signals(&'a List<ShortBytes>),
 }
 
 // Adds a number in decimal digits.
@@ -87,7 +88,11 @@ fn add_pair<S: Sink>(
 
 // Adds a signal, after a blank.
 #[tactic(auto, using(crate::proofs::Pending::numbers))]
-fn add_signal<S: Sink>(sink: &mut S, page: &mut Page, signal: &Bytes) -> Result<(), StoreRefusal>
+fn add_signal<S: Sink>(
+    sink: &mut S,
+    page: &mut Page,
+    signal: &ShortBytes,
+) -> Result<(), StoreRefusal>
     ensures pends { OnOk result (Pends (S.written sink.old) (S.written sink.new) page.new (page.old ++ 32 ∷ signal.now)) }
     ensures prefix { OnErr result (GainsPrefix (S.written sink.old) (S.written sink.new) (page.old ++ 32 ∷ signal.now)) }
     ensures faults { HasCause (S.faults sink.old) (S.faults sink.new) (IsErrOf result StoreRefusal.Failed) }
@@ -102,7 +107,7 @@ fn add_signal<S: Sink>(sink: &mut S, page: &mut Page, signal: &Bytes) -> Result<
 fn add_signals<S: Sink>(
     sink: &mut S,
     page: &mut Page,
-    signals: &List<Bytes>,
+    signals: &List<ShortBytes>,
 ) -> Result<(), StoreRefusal>
     ensures pends { OnOk result (Pends (S.written sink.old) (S.written sink.new) page.new (page.old ++ signals_text signals.now)) }
     ensures prefix { OnErr result (GainsPrefix (S.written sink.old) (S.written sink.new) (page.old ++ signals_text signals.now)) }

@@ -13,8 +13,9 @@ use crate::joins::{actual_in, more, place_of, ports_for};
 use crate::numbers::{Numbers, small_number};
 use crate::outlines::{Outline, outline_at};
 use crate::pieces::{Block, Piece};
-use aq_base::{Bytes, List, Memory};
+use aq_base::{List, Memory};
 use blif_read::{BlifModel, Call, Cube, Def, NamedDef};
+use short_bytes::ShortBytes;
 use std::alloc::Global;
 
 /// The definition of a signal that has the value of the signal at a place.
@@ -23,8 +24,7 @@ fn buffer(alloc: Global, line: u64, from: u32) -> Result<Def, Memory>
 {
     let mut inputs = List::new(alloc);
     inputs.push(from)?;
-    let mut plane = List::new(alloc);
-    plane.push(b'1')?;
+    let plane = ShortBytes::copy(alloc, &[b'1'])?;
     let mut cubes = List::new(alloc);
     cubes.push(Cube { plane })?;
     Ok(Def {
@@ -47,7 +47,7 @@ fn places_in(
     alloc: Global,
     places: &Numbers<'_>,
     width: u32,
-    names: &[Bytes],
+    names: &[ShortBytes],
 ) -> Result<List<u32>, Memory>
     ensures { (known : Items (Maybe (Items ℕ))) → ArePlaces places.now.entries width known → IfOk result (λ found. found
         ≡ map (λ t. position_or_len (is_that t) known) names.now) }

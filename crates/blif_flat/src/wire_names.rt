@@ -6,7 +6,8 @@ ghost use Rattle.blif_flat.specs.Code.Wired.{wire_of, wires_of};
 
 use crate::numbers::small_number;
 use crate::wires::Place;
-use aq_base::{Bytes, List, Memory};
+use aq_base::{List, Memory};
+use short_bytes::ShortBytes;
 use std::alloc::Global;
 
 /// Adds the sign that names inside calls begin with, and a number.
@@ -19,20 +20,19 @@ fn add_number(alloc: Global, number: u32, text: &mut Vec<u8>) -> Result<(), Memo
 }
 
 /// The name that the netlist keeps of the wire of a number.
-fn kept_name(alloc: Global, number: u32, place: &Place<'_>) -> Result<Bytes, Memory>
+fn kept_name(alloc: Global, number: u32, place: &Place<'_>) -> Result<ShortBytes, Memory>
     ensures { IfOk result (λ name. name ≡ kept_name number (wire_of place.now)) }
 {
-    let mut text = Vec::new(alloc);
     if place.call == 0 {
-        text.extend_from_slice(place.name)?;
-    } else {
-        add_number(alloc, number, &mut text)?;
+        return ShortBytes::copy(alloc, place.name);
     }
-    Ok(List::from_vec(text))
+    let mut text = Vec::new(alloc);
+    add_number(alloc, number, &mut text)?;
+    ShortBytes::copy(alloc, &text)
 }
 
 /// The name that a fault tells of a wire.
-fn told_name(alloc: Global, place: &Place<'_>) -> Result<Bytes, Memory>
+fn told_name(alloc: Global, place: &Place<'_>) -> Result<ShortBytes, Memory>
     ensures { IfOk result (λ name. name ≡ told_name (wire_of place.now)) }
 {
     let mut text = Vec::new(alloc);
@@ -41,11 +41,11 @@ fn told_name(alloc: Global, place: &Place<'_>) -> Result<Bytes, Memory>
         text.push(b'.')?;
     }
     text.extend_from_slice(place.name)?;
-    Ok(List::from_vec(text))
+    ShortBytes::copy(alloc, &text)
 }
 
 /// The names that the netlist keeps of these wires, which are all.
-pub fn kept_names(alloc: Global, places: &[Place<'_>]) -> Result<List<Bytes>, Memory>
+pub fn kept_names(alloc: Global, places: &[Place<'_>]) -> Result<List<ShortBytes>, Memory>
     ensures { IfOk result (λ names. names ≡ kept_names 0 (wires_of places.now)) }
 {
     let mut names = List::new(alloc);
@@ -57,13 +57,13 @@ pub fn kept_names(alloc: Global, places: &[Place<'_>]) -> Result<List<Bytes>, Me
 }
 
 /// The name that a fault tells of the wire of a number; no name past the last.
-fn told_at(alloc: Global, places: &[Place<'_>], signal: u32) -> Result<Bytes, Memory>
+fn told_at(alloc: Global, places: &[Place<'_>], signal: u32) -> Result<ShortBytes, Memory>
     ensures { IfOk result (λ name. name ≡ told_name (slice_index_or (wires_of places.now) signal (wire 0 []))) }
 {
     if (signal as usize) < places.len() {
         told_name(alloc, &places[signal as usize])
     } else {
-        Ok(List::new(alloc))
+        Ok(ShortBytes::new())
     }
 }
 
@@ -72,7 +72,7 @@ pub fn told_names(
     alloc: Global,
     places: &[Place<'_>],
     signals: &[u32],
-) -> Result<List<Bytes>, Memory>
+) -> Result<List<ShortBytes>, Memory>
     ensures { IfOk result (λ names. names
         ≡ map (λ s. told_name (slice_index_or (wires_of places.now) s (wire 0 []))) signals.now) }
 {

@@ -7,13 +7,14 @@ ghost use Rattle.blif_read.specs.Walk.{first_cycle};
 ghost use Rattle.blif_read.specs.Made.{IfCycle};
 
 use crate::build::Parts;
-use crate::names::{Names, copy};
+use crate::names::Names;
 use crate::netlist::{Def, Netlist};
 use crate::walk::{Walked, walk};
-use aq_base::{Bytes, List, Memory};
+use aq_base::{List, Memory};
 use indexmap::IndexSet;
 use name_hash::NameHash;
 use sha2::{Digest, Sha256};
+use short_bytes::ShortBytes;
 use std::alloc::Global;
 
 /// Why parts give no netlist.
@@ -37,7 +38,7 @@ impl From<Memory> for MakeRefusal {
 }
 
 /// The hash of names, whose key is a digest of all of them. Only the time that an index takes depends on it.
-fn hash_of(names: &[Bytes]) -> NameHash {
+fn hash_of(names: &[ShortBytes]) -> NameHash {
     let mut digest = Sha256::new();
     for name in names {
         digest.update(name.as_slice());
@@ -47,12 +48,12 @@ fn hash_of(names: &[Bytes]) -> NameHash {
 }
 
 /// Copies of names, each once.
-fn index_of(alloc: Global, names: &[Bytes]) -> Result<Names, Memory>
+fn index_of(alloc: Global, names: &[ShortBytes]) -> Result<Names, Memory>
     ensures { IfOk result (λ index. index.keys ≡ insert_all bytes_eq [] names.now) }
 {
     let mut index = IndexSet::with_hasher(alloc, hash_of(names));
     for name in names {
-        let copy = copy(alloc, name.as_slice())?;
+        let copy = name.clone()?;
         index.insert(copy)?;
     }
     Ok(index)
@@ -75,7 +76,7 @@ fn copy_of(defs: &List<Def>, outputs: &List<u32>) -> Result<Parts, Memory>
 pub fn make_netlist(
     alloc: Global,
     inputs: u32,
-    names: &List<Bytes>,
+    names: &List<ShortBytes>,
     defs: &List<Def>,
     outputs: &List<u32>,
 ) -> Result<Netlist, MakeRefusal>

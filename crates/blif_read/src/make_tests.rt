@@ -2,10 +2,10 @@
 ghost use Rattle.std.specs.Prelude.{◌<◌};
 
 use crate::make::{MakeRefusal, make_netlist};
-use crate::names::copy;
 use crate::netlist::{Cube, Def, Netlist};
 use aq_base::{List, Memory};
 use circuit::{Answers, answer_word};
+use short_bytes::ShortBytes;
 use std::alloc::Global;
 use std::test::Fail;
 
@@ -14,12 +14,12 @@ fn inverter_of(alloc: Global, feed: u32) -> Result<Netlist, MakeRefusal>
     requires { feed < 2 }
 {
     let mut names = List::new(alloc);
-    names.push(copy(alloc, &[b'a'])?)?;
-    names.push(copy(alloc, &[b'y'])?)?;
+    names.push(ShortBytes::copy(alloc, &[b'a'])?)?;
+    names.push(ShortBytes::copy(alloc, &[b'y'])?)?;
     let mut inputs = List::new(alloc);
     inputs.push(feed)?;
     let mut cubes = List::new(alloc);
-    let plane = copy(alloc, &[b'0'])?;
+    let plane = ShortBytes::copy(alloc, &[b'0'])?;
     cubes.push(Cube { plane })?;
     let mut defs = List::new(alloc);
     defs.push(Def {

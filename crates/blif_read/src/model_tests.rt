@@ -2,7 +2,8 @@
 ghost use Rattle.std.specs.Prelude.{◌≤◌, ◌^◌, length};
 
 use crate::{BlifFault, BlifModel, BlifRefusal, LineKind, Named, read_models};
-use aq_base::{Bytes, List};
+use aq_base::List;
+use short_bytes::ShortBytes;
 use std::alloc::{AllocError, Global};
 use std::test::Fail;
 
@@ -12,7 +13,7 @@ fn add_number(told: &mut Vec<u8>, number: u64) -> Result<(), AllocError> {
     told.extend_from_slice(number.as_str().as_bytes())
 }
 
-fn add_name(told: &mut Vec<u8>, mark: u8, name: &Bytes) -> Result<(), AllocError> {
+fn add_name(told: &mut Vec<u8>, mark: u8, name: &ShortBytes) -> Result<(), AllocError> {
     told.push(mark)?;
     told.extend_from_slice(name.as_slice())
 }

@@ -10,25 +10,25 @@ ghost use Rattle.blif_read.specs.Code.Sections.{with_line};
 
 use crate::cover::rows;
 use crate::lines::{Lines, LogicalLine};
-use crate::names::copy;
 use crate::netlist::Cube;
 use crate::statements::{arguments, front_of, last_of};
 use crate::words::Statement;
-use aq_base::{Bytes, List, Memory};
+use aq_base::{List, Memory};
+use short_bytes::ShortBytes;
 use std::alloc::Global;
 
 /// A name, and the line that it stands in.
 #[derive(Clone, Debug, Drop, PartialEq)]
 pub struct Named {
     pub line: u64,
-    pub name: Bytes,
+    pub name: ShortBytes,
 }
 
 /// A port of a call: a signal of the called model, and the signal of the caller that it is joined to. Neither is empty.
 #[derive(Clone, Debug, Drop, PartialEq)]
 pub struct Port {
-    pub formal: Bytes,
-    pub actual: Bytes,
+    pub formal: ShortBytes,
+    pub actual: ShortBytes,
 }
 
 /// A call of a model. It is well formed where it names a model and each of its ports has both names; `ports` are those
@@ -36,7 +36,7 @@ pub struct Port {
 #[derive(Clone, Debug, Drop, PartialEq)]
 pub struct Call {
     pub line: u64,
-    pub model: Bytes,
+    pub model: ShortBytes,
     pub ports: List<Port>,
     pub well_formed: bool,
 }
@@ -45,8 +45,8 @@ pub struct Call {
 #[derive(Clone, Debug, Drop, PartialEq)]
 pub struct NamedDef {
     pub line: u64,
-    pub inputs: List<Bytes>,
-    pub output: Bytes,
+    pub inputs: List<ShortBytes>,
+    pub output: ShortBytes,
     pub on: bool,
     pub cubes: List<Cube>,
 }
@@ -56,7 +56,7 @@ pub struct NamedDef {
 #[derive(Clone, Debug, Drop, PartialEq)]
 pub struct BlifModel {
     pub line: u64,
-    pub name: Bytes,
+    pub name: ShortBytes,
     pub inputs: List<Named>,
     pub outputs: List<Named>,
     pub defs: List<NamedDef>,
@@ -64,22 +64,22 @@ pub struct BlifModel {
 }
 
 /// A copy of the first name; empty where there is none.
-fn first_name(alloc: Global, names: &[&[u8]]) -> Result<Bytes, Memory>
+fn first_name(alloc: Global, names: &[&[u8]]) -> Result<ShortBytes, Memory>
     ensures { IfOk result (λ name. name ≡ first_name (texts names.now)) }
 {
     match names.first() {
-        Some(name) => copy(alloc, name),
-        None => Ok(List::new(alloc)),
+        Some(name) => ShortBytes::copy(alloc, name),
+        None => Ok(ShortBytes::new()),
     }
 }
 
 /// Copies of names, in order.
-fn copies(alloc: Global, names: &[&[u8]]) -> Result<List<Bytes>, Memory>
+fn copies(alloc: Global, names: &[&[u8]]) -> Result<List<ShortBytes>, Memory>
     ensures { IfOk result (λ copies. copies ≡ texts names.now) }
 {
     let mut copies = List::new(alloc);
     for name in names {
-        let copy = copy(alloc, name)?;
+        let copy = ShortBytes::copy(alloc, name)?;
         copies.push(copy)?;
     }
     Ok(copies)
@@ -95,7 +95,7 @@ fn push_named(
     ensures { OnOk result (list.new ≡ list.old ++ map (named line) (texts names.now)) }
 {
     for name in names {
-        let name = copy(alloc, name)?;
+        let name = ShortBytes::copy(alloc, name)?;
         list.push(Named { line, name })?;
     }
     Ok(())
@@ -130,8 +130,8 @@ fn push_port(alloc: Global, token: &[u8], ports: &mut List<Port>) -> Result<bool
     if formal.len() == 0 || actual.len() == 0 {
         return Ok(false);
     }
-    let formal = copy(alloc, formal)?;
-    let actual = copy(alloc, actual)?;
+    let formal = ShortBytes::copy(alloc, formal)?;
+    let actual = ShortBytes::copy(alloc, actual)?;
     ports.push(Port { formal, actual })?;
     Ok(true)
 }
@@ -221,21 +221,21 @@ fn push_line(
 }
 
 /// The line and the name of the model that lines begin.
-fn head(alloc: Global, lines: &Lines<'_>) -> Result<(u64, Bytes), Memory>
+fn head(alloc: Global, lines: &Lines<'_>) -> Result<(u64, ShortBytes), Memory>
     ensures line { IfOk result (λ head. head.0 ≡ model_line lines.now) }
     ensures name { IfOk result (λ head. head.1 ≡ model_name lines.now) }
 {
     let mut line = LogicalLine::blank(alloc);
     let mut rest = lines.copy();
     if !rest.read(&mut line)? {
-        return Ok((0, List::new(alloc)));
+        return Ok((0, ShortBytes::new()));
     }
     match line.statement() {
         Statement::Model => {
             let name = first_name(alloc, arguments(line.tokens()))?;
             Ok((line.number(), name))
         }
-        _ => Ok((0, List::new(alloc))),
+        _ => Ok((0, ShortBytes::new())),
     }
 }
 

@@ -4,8 +4,9 @@ ghost use Rattle.std.specs.Prelude.{◌≡◌, ◌<◌, ◌^◌, ℕ, List, leng
 use crate::build::Parts;
 use crate::names::Names;
 use crate::values::{shown, values};
-use aq_base::{Bytes, List, Memory};
+use aq_base::{List, Memory};
 use circuit::{Answers, Word};
+use short_bytes::ShortBytes;
 use std::alloc::Global;
 use std::marker::Model;
 
@@ -36,9 +37,15 @@ pub enum LineKind {
 #[derive(Clone, Debug, Drop, PartialEq)]
 pub enum BlifFault {
     /// A fault of a line.
-    Line { line: u64, kind: LineKind },
+    Line {
+        line: u64,
+        kind: LineKind,
+    },
     /// Signals that are each computed from the next, and the last from the first, with the line that defines the first.
-    Cycle { line: u64, signals: List<Bytes> },
+    Cycle {
+        line: u64,
+        signals: List<ShortBytes>,
+    },
 }
 
 /// Why a text gives no netlist.
@@ -53,7 +60,7 @@ pub enum BlifRefusal {
 /// A row of a cover: a byte `0`, `1` or `-` for each input of its definition.
 #[derive(Clone, Debug, Drop, PartialEq)]
 pub struct Cube {
-    pub plane: Bytes,
+    pub plane: ShortBytes,
 }
 
 /// The definition of a signal, from its line. Where `on` is set, the signal is true where a plane matches; else false there.
@@ -138,7 +145,7 @@ impl Netlist {
     }
 
     /// The name of a signal.
-    pub fn name(&self, signal: u32) -> &Bytes
+    pub fn name(&self, signal: u32) -> &ShortBytes
         requires { signal < length self.now.names }
         ensures { slice_get self.now.names signal ≡ Some result.now }
     {

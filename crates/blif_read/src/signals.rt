@@ -7,7 +7,7 @@ ghost use Rattle.blif_read.specs.Parts.{number, signals, is_defined};
 ghost use Rattle.blif_read.specs.Code.Seen.{texts};
 
 use crate::lines::{Lines, LogicalLine};
-use crate::names::{Index, insert_each, number};
+use crate::names::{Names, insert_each, number};
 use crate::statements::{defined_in, inputs_in};
 use crate::words::Statement;
 use aq_base::{List, Memory};
@@ -24,42 +24,42 @@ fn is_definition(line: &LogicalLine<'_>) -> bool {
 }
 
 /// The names of the inputs, and then those of the defined signals, for which room is taken ahead.
-pub fn signals<'a>(alloc: Global, hash: NameHash, lines: &Lines<'a>) -> Result<Index<'a>, Memory>
-    ensures { IfOk result (λ index. texts index.keys
-        ≡ insert_all bytes_eq [] (signals lines.now)) }
+pub fn signals(alloc: Global, hash: NameHash, lines: &Lines<'_>) -> Result<Names, Memory>
+    ensures { IfOk result (λ names. names.keys ≡ insert_all bytes_eq [] (signals lines.now)) }
 {
-    let mut index = IndexSet::with_hasher(alloc, hash);
+    let mut names = IndexSet::with_hasher(alloc, hash);
     let mut definitions: usize = 0;
     let mut line = LogicalLine::blank(alloc);
     let mut rest = lines.copy();
     'inputs: while rest.read(&mut line)? {
-        insert_each(&mut index, inputs_in(&line))?;
+        insert_each(alloc, &mut names, inputs_in(&line))?;
         if is_definition(&line) {
             definitions = definitions.saturating_add(1);
         }
     }
-    index.reserve_exact(definitions)?;
+    names.reserve_exact(definitions)?;
     rest = lines.copy();
     'defined: while rest.read(&mut line)? {
-        insert_each(&mut index, defined_in(&line))?;
+        insert_each(alloc, &mut names, defined_in(&line))?;
     }
-    Ok(index)
+    Ok(names)
 }
 
 /// Adds the numbers of names, and answers whether each has one.
 pub fn push_numbers(
-    index: &Index<'_>,
+    alloc: Global,
+    names: &Names,
     tokens: &[&[u8]],
     numbers: &mut List<u32>,
 ) -> Result<bool, Memory>
-    requires { length index.now.keys < 2 ^ 32 }
+    requires { length names.now.keys < 2 ^ 32 }
     ensures all { IfOk result (λ all. all
-        ≡ list_all (is_defined (texts index.now.keys)) (texts tokens.now)) }
+        ≡ list_all (is_defined names.now.keys) (texts tokens.now)) }
     ensures numbers { IfOk result (λ all. all ≡ true → numbers.new
-        ≡ numbers.old ++ map (number (texts index.now.keys)) (texts tokens.now)) }
+        ≡ numbers.old ++ map (number names.now.keys) (texts tokens.now)) }
 {
     for token in tokens {
-        match number(index, token) {
+        match number(alloc, names, token)? {
             Some(place) => numbers.push(place as u32)?,
             None => return Ok(false),
         }

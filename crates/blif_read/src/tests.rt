@@ -2,8 +2,9 @@
 ghost use Rattle.std.specs.Prelude.{◌≤◌, ◌^◌, length};
 
 use crate::{BlifFault, BlifRefusal, LineKind, Netlist, blif_read};
-use aq_base::{Bytes, List, Memory};
+use aq_base::{List, Memory};
 use circuit::{Answers, Word, answer_word};
+use short_bytes::ShortBytes;
 use std::alloc::{AllocError, Global};
 use std::test::Fail;
 

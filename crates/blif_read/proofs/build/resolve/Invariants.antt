@@ -3,14 +3,13 @@ use Rattle.std.specs.List.{flat_map}
 use Rattle.blif_read.specs.Statements.{outputs_in}
 use Rattle.blif_read.specs.Parts.{definitions, number}
 use Rattle.blif_read.specs.Faults.{undefined_fault}
-use Rattle.blif_read.specs.Code.Seen.{texts}
 use Rattle.blif_read.proofs.build.resolve.Given as goal
 
 abbrev pub invariant-lines : goal.invariant-lines
 invariant-lines l = record {
-  sound : undefined_fault (texts l.index.keys) l.rest ≡ undefined_fault (texts l.index.keys) l.lines;
-  defs : l.defs ++ definitions (texts l.index.keys) l.rest ≡ definitions (texts l.index.keys) l.lines;
-  outputs : l.outputs ++ map (number (texts l.index.keys)) (flat_map outputs_in l.rest) ≡ map (number (texts l.index.keys)) (flat_map outputs_in l.lines);
+  sound : undefined_fault l.names.keys l.rest ≡ undefined_fault l.names.keys l.lines;
+  defs : l.defs ++ definitions l.names.keys l.rest ≡ definitions l.names.keys l.lines;
+  outputs : l.outputs ++ map (number l.names.keys) (flat_map outputs_in l.rest) ≡ map (number l.names.keys) (flat_map outputs_in l.lines);
 }
 
 abbrev pub decreases-lines : goal.decreases-lines

@@ -19,7 +19,7 @@ parts_with defs outputs = record { defs = defs; outputs = outputs }
 
 -- a clone is equal
 cube_same : (x y : Cube) → cubes.is_clone-value.it x y → y ≡ x
-cube_same x y h = ap cube_with (each_same x.plane y.plane h)
+cube_same x y h = ap cube_with h
 
 same_def : {l m : ℕ} {i j : List ℕ} {o p : Bool} {c d : List Cube} → l ≡ m → i ≡ j → o ≡ p → c ≡ d → def_with l i o c ≡ def_with m j p d
 same_def a b c d = rw (a, b, c, d) refl

@@ -1,13 +1,11 @@
-use Rattle.std.proofs.Common.{ap}
-use Rattle.blif_read.specs.Code.Seen.{texts}
 use Rattle.blif_read.proofs.Whole.{few_keys, found, undefined_fails}
 use Rattle.blif_read.proofs.read.parts.Goals as goal
 
 pub resolve-requires : goal.resolve-requires
-resolve-requires c = few_keys c.args.lines.now _ _ c.requires c.in_ok-fault.ensures c.in_default.is c.in_ok-index.ensures
+resolve-requires c = few_keys c.args.lines.now _ _ c.requires c.in_ok-fault.ensures c.in_default.is c.in_ok-names.ensures
 
 pub returns-in-Ok-clause-found : goal.returns-in-Ok-clause-found
-returns-in-Ok-clause-found c = found c.args.lines.now _ _ _ _ _ _ c.in_ok-fault.ensures c.in_default.is c.in_ok-index.ensures c.in-Ok.is c.in_ok-parts.ensures.sound c.in_ok-parts.ensures.defs c.in_ok-parts.ensures.outputs (ap texts c.as_slice.ensures.keys) c.in_ok-names-in-Ok.ensures
+returns-in-Ok-clause-found c = found c.args.lines.now _ _ _ _ c.in_ok-fault.ensures c.in_default.is c.in_ok-names.ensures c.in-Ok.is c.in_ok-parts.ensures.sound c.in_ok-parts.ensures.defs c.in_ok-parts.ensures.outputs
 
-pub returns-clause-bad : goal.returns-clause-bad
-returns-clause-bad c = undefined_fails c.args.lines.now _ _ _ _ c.in_ok-fault.ensures c.in_default.is c.in_ok-index.ensures c.in_ok-parts.ensures.bad c.in-Err.is
+pub returns-in-Err-clause-bad : goal.returns-in-Err-clause-bad
+returns-in-Err-clause-bad c = undefined_fails c.args.lines.now _ _ _ _ c.in_ok-fault.ensures c.in_default.is c.in_ok-names.ensures c.in_ok-parts.ensures.bad c.in-Err.is
