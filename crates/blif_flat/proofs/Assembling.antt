@@ -13,10 +13,10 @@ use Rattle.blif_read.specs.declared.models.NamedDef.{NamedDef}
 use Rattle.blif_read.specs.declared.models.BlifModel.{BlifModel}
 use Rattle.blif_flat.specs.Designs.{names_in, model_number, model_at, no_model, distinct_outputs, formals, actual_of}
 use Rattle.blif_flat.specs.DesignFaults.{number_in as listed}
-use Rattle.blif_flat.specs.declared.outlines.Outline.{Outline}
+use Rattle.blif_flat.specs.declared.models.outlines.Outline.{Outline}
 use Rattle.blif_flat.specs.Code.Outlines.{IsOutline}
-use Rattle.blif_flat.specs.declared.pieces.Piece.{Piece}
-use Rattle.blif_flat.specs.declared.pieces.Piece.TheVariants.{Own, Inner}
+use Rattle.blif_flat.specs.declared.expansion.pieces.Piece.{Piece}
+use Rattle.blif_flat.specs.declared.expansion.pieces.Piece.TheVariants.{Own, Inner}
 use Rattle.blif_flat.specs.Code.Blocks.{buffer_of, placed, own_names, place, wide, call_pieces, calls_pieces, pieces, call_names}
 use Rattle.blif_flat.specs.Code.Joins.{ports_for, first_actual, exits_in}
 use Rattle.blif_flat.proofs.Members.{map_map}

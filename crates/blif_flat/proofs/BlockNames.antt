@@ -12,7 +12,7 @@ use Rattle.blif_read.specs.declared.models.BlifModel.{BlifModel}
 use Rattle.blif_flat.specs.Designs.{model_number, no_model, model_at, called, actual_of, joined_outputs}
 use Rattle.blif_flat.specs.DesignFaults.{number_in as listed, callees}
 use Rattle.blif_flat.specs.Expansion.{Wire, wire, same_wire, WireDef, expanded, expanded_call, expanded_calls, calls_within, number}
-use Rattle.blif_flat.specs.declared.pieces.Piece.{Piece}
+use Rattle.blif_flat.specs.declared.expansion.pieces.Piece.{Piece}
 use Rattle.blif_flat.specs.Code.Blocks.{is_that, own_names, call_names, block_names, block_width, place, pieces}
 use Rattle.blif_flat.proofs.Members.{Among, all_weaker, map_map, same_bytes}
 use Rattle.blif_flat.proofs.JoinedModels.{driven_names}

@@ -25,7 +25,7 @@ use Rattle.blif_flat.specs.declared.design.FlatKind.{FlatKind}
 use Rattle.blif_flat.specs.declared.design.FlatKind.TheVariants.{ModelTwice, UnknownModel, Ports, Duplicate, Undefined, Recursive, NoOutputs}
 use Rattle.blif_flat.specs.declared.design.FlatRefusal.{FlatRefusal}
 use Rattle.blif_flat.specs.declared.design.FlatRefusal.TheVariants.{Text, Design, TooMany, Memory}
-use Rattle.blif_flat.specs.declared.order.Told.{Told}
+use Rattle.blif_flat.specs.declared.faults.order.Told.{Told}
 use Rattle.blif_flat.proofs.ExpandedParts.{said_parts}
 
 fault_of_line : (models : List BlifModel) (line : ℕ) (kind : FlatKind) → IsFirstFault models line kind → IsToldFault models line kind

@@ -7,7 +7,7 @@ use Rattle.blif_read.specs.declared.models.Named.{Named}
 use Rattle.blif_read.specs.Models.{named}
 use Rattle.blif_flat.specs.Code.Numbering.{number_in}
 use Rattle.blif_flat.specs.Code.Joining.{lower, driven_also, again, drive, drive_all, Driving, least_of}
-use Rattle.blif_flat.specs.declared.order.Told.{Told}
+use Rattle.blif_flat.specs.declared.faults.order.Told.{Told}
 use Rattle.blif_flat.proofs.Numbering.{bytes_same}
 use Rattle.blif_flat.proofs.Indexes.{drop_item}
 

@@ -11,7 +11,7 @@ use Rattle.blif_read.specs.declared.models.Named.{Named}
 use Rattle.blif_flat.specs.Designs.{names_in}
 use Rattle.blif_flat.specs.Code.Joining.{at_line, lower, driven_also, again, drive, drive_all, Driving, least_of}
 use Rattle.blif_flat.specs.declared.design.FlatKind.TheVariants.{Duplicate}
-use Rattle.blif_flat.specs.declared.order.Told.{Told}
+use Rattle.blif_flat.specs.declared.faults.order.Told.{Told}
 use Rattle.blif_flat.proofs.Least.{IsBefore, head_or, head_in, none_in, least_append, in_map, from_map, lt_or_ge}
 use Rattle.blif_read.proofs.Distinct.{bytes_equiv}
 use Rattle.blif_flat.proofs.Numbering.{bytes_same}

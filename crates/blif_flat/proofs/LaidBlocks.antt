@@ -10,8 +10,8 @@ use Rattle.blif_read.specs.declared.models.BlifModel.{BlifModel}
 use Rattle.blif_flat.specs.Designs.{names_in, model_number, no_model, model_at, called, actual_of, joined_outputs, first_model}
 use Rattle.blif_flat.specs.DesignFaults.{number_in as listed}
 use Rattle.blif_flat.specs.Expansion.{Wire, wire, WireDef, own, buffer, expanded, expanded_call, expanded_calls, calls_within, number, numbered, wires, expansion}
-use Rattle.blif_flat.specs.declared.pieces.Piece.{Piece}
-use Rattle.blif_flat.specs.declared.pieces.Piece.TheVariants.{Own, Inner}
+use Rattle.blif_flat.specs.declared.expansion.pieces.Piece.{Piece}
+use Rattle.blif_flat.specs.declared.expansion.pieces.Piece.TheVariants.{Own, Inner}
 use Rattle.blif_flat.specs.Code.Blocks.{own_names, call_names, place, placed, buffer_of, call_pieces, calls_pieces, of_piece, laid_out}
 use Rattle.blif_flat.proofs.Members.{Among, all_weaker, all_both, all_from, at_among}
 use Rattle.blif_flat.proofs.JoinedModels.{driven_names, IsJoinedCall, joined_is_output}

@@ -5,9 +5,9 @@ use Rattle.std.specs.List.{flat_map, sum_by}
 use Rattle.std.proofs.lemmas.List.{reverse-append, append-nil, drop_all}
 use Rattle.std.proofs.lemmas.List.Sums.{sum_by-cons}
 use Rattle.blif_read.specs.declared.netlist.Def.{Def}
-use Rattle.blif_flat.specs.declared.pieces.Piece.{Piece}
-use Rattle.blif_flat.specs.declared.pieces.Piece.TheVariants.{Own, Inner}
-use Rattle.blif_flat.specs.declared.layout.Frame.{Frame}
+use Rattle.blif_flat.specs.declared.expansion.pieces.Piece.{Piece}
+use Rattle.blif_flat.specs.declared.expansion.pieces.Piece.TheVariants.{Own, Inner}
+use Rattle.blif_flat.specs.declared.expansion.layout.Frame.{Frame}
 use Rattle.blif_flat.specs.Code.Blocks.{moved, of_piece, laid_out, piece_turns, turns, AreStraight, still, turns_left}
 
 abbrev pub frame : ℕ → ℕ → ℕ → Frame

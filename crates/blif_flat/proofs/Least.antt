@@ -8,7 +8,7 @@ use Rattle.std.proofs.lemmas.List.Elements.{Contains-append_left, Contains-appen
 use Rattle.blif_flat.specs.DesignFaults.{rank, IsToldBefore}
 use Rattle.blif_flat.specs.Code.Joining.{at_line, is_before, least, least_of, where_so}
 use Rattle.blif_flat.specs.declared.design.FlatKind.{FlatKind}
-use Rattle.blif_flat.specs.declared.order.Told.{Told}
+use Rattle.blif_flat.specs.declared.faults.order.Told.{Told}
 
 -- ---- the order of faults
 

@@ -11,7 +11,7 @@ use Rattle.blif_flat.specs.DesignFaults.{IsModelTwice, HasCall, IsUnknown, HasPo
 use Rattle.blif_flat.specs.Code.Joining.{at_line, least_of, where_so, is_twice, twice_named, call_faults, drive_all, undriven, undefined_at, undefined_in, model_told, told_in, IsTold}
 use Rattle.blif_flat.specs.declared.design.FlatKind.{FlatKind}
 use Rattle.blif_flat.specs.declared.design.FlatKind.TheVariants.{ModelTwice, UnknownModel, Ports, Duplicate, Undefined, Recursive, NoOutputs}
-use Rattle.blif_flat.specs.declared.order.Told.{Told}
+use Rattle.blif_flat.specs.declared.faults.order.Told.{Told}
 use Rattle.blif_flat.proofs.Least.{IsBestOf, best_of_list, before_both, before_itself, least_append, in_where, where_in, none_in, head_or, head_in, in_flat, flat_in}
 use Rattle.blif_flat.proofs.NamedTwice.{twice_sound, twice_cover, is_twice_at}
 use Rattle.blif_flat.proofs.DrivenTwice.{lines_all, twice_driven, drive_lines, drive_told, AreLines, no_lines, lines_append, line_defined, TellsPair, driven_sound, ComesFirst, driven_cover}

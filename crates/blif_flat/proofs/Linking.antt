@@ -9,7 +9,7 @@ use Rattle.blif_read.specs.Parts.{is_defined}
 use Rattle.blif_read.specs.declared.models.Call.{Call}
 use Rattle.blif_read.specs.declared.models.BlifModel.{BlifModel}
 use Rattle.blif_flat.specs.Designs.{model_number, model_at, no_model, formals, actual_of, distinct_outputs, joined_outputs}
-use Rattle.blif_flat.specs.declared.links.Link.{Link}
+use Rattle.blif_flat.specs.declared.models.links.Link.{Link}
 use Rattle.blif_flat.specs.Code.Calls.{IsCallOrder}
 use Rattle.blif_flat.specs.Code.Linked.{IsLink, IsLinkOf, AreLinks, HasLinks, calls_in}
 use Rattle.blif_flat.proofs.Settling.{in_order, next_done}

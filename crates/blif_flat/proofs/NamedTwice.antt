@@ -8,7 +8,7 @@ use Rattle.blif_flat.specs.Designs.{model_number}
 use Rattle.blif_flat.specs.DesignFaults.{IsModelTwice}
 use Rattle.blif_flat.specs.Code.Joining.{at_line, where_so, is_twice, twice_named}
 use Rattle.blif_flat.specs.declared.design.FlatKind.TheVariants.{ModelTwice}
-use Rattle.blif_flat.specs.declared.order.Told.{Told}
+use Rattle.blif_flat.specs.declared.faults.order.Told.{Told}
 use Rattle.blif_flat.proofs.Least.{in_where, where_in, none_in}
 use Rattle.blif_flat.proofs.Places.{number_found, number_finds}
 

@@ -9,7 +9,7 @@ use Rattle.blif_read.specs.declared.models.NamedDef.{NamedDef}
 use Rattle.blif_read.specs.declared.models.BlifModel.{BlifModel}
 use Rattle.blif_flat.specs.Designs.{names_in, model_number, model_at, no_model, actual_of, distinct_outputs, formals}
 use Rattle.blif_read.specs.Parts.{is_defined}
-use Rattle.blif_flat.specs.declared.outlines.Outline.{Outline}
+use Rattle.blif_flat.specs.declared.models.outlines.Outline.{Outline}
 use Rattle.blif_flat.specs.Code.Blocks.{call_names, block_names, own_names, wide}
 use Rattle.blif_flat.specs.Code.Joins.{ports_for, actuals_in, ArePlaces}
 use Rattle.blif_flat.specs.Code.Outlines.{IsOutline, HasOutline}

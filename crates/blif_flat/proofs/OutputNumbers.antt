@@ -7,7 +7,7 @@ use Rattle.std.proofs.lemmas.Bool.{ne_eqb, cases_lt, lt-ltb}
 use Rattle.std.proofs.lemmas.Option.{none-some}
 use Rattle.std.proofs.lemmas.List.{take_more}
 use Rattle.blif_flat.specs.Expansion.{wire, number}
-use Rattle.blif_flat.specs.declared.wires.Place.{Place}
+use Rattle.blif_flat.specs.declared.expansion.wires.Place.{Place}
 use Rattle.blif_flat.specs.Code.Numbering.{number_in, number_or, IsNumbering}
 use Rattle.blif_flat.specs.Code.Wired.{wires_of, is_own}
 use Rattle.blif_flat.proofs.Numbering.{numbered_more, bytes_back}

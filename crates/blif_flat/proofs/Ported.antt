@@ -11,8 +11,8 @@ use Rattle.blif_read.specs.declared.models.Call.{Call}
 use Rattle.blif_read.specs.declared.models.BlifModel.{BlifModel}
 use Rattle.blif_flat.specs.Designs.{names_in, model_number, model_at, called, input_ports, output_ports, driven, used, no_model}
 use Rattle.blif_flat.specs.Code.Joining.{least_of, undefined_at, undefined_in, Driving, drive_all, driving, undriven, call_faults, model_told, told_in}
-use Rattle.blif_flat.specs.declared.drivers.Drivers.{Drivers}
-use Rattle.blif_flat.specs.declared.order.Told.{Told}
+use Rattle.blif_flat.specs.declared.faults.drivers.Drivers.{Drivers}
+use Rattle.blif_flat.specs.declared.faults.order.Told.{Told}
 use Rattle.blif_flat.proofs.Least.{least_append}
 use Rattle.blif_flat.proofs.Indexes.{drop_item}
 

@@ -13,8 +13,8 @@ use Rattle.blif_flat.specs.Designs.{names_in, model_number, called, actual_of, j
 use Rattle.blif_flat.specs.DesignFaults.{number_in as listed, callees}
 use Rattle.blif_flat.specs.DesignText.{IsLaidOut}
 use Rattle.blif_flat.specs.Expansion.{expansion}
-use Rattle.blif_flat.specs.declared.pieces.Piece.{Piece}
-use Rattle.blif_flat.specs.declared.pieces.Piece.TheVariants.{Own, Inner}
+use Rattle.blif_flat.specs.declared.expansion.pieces.Piece.{Piece}
+use Rattle.blif_flat.specs.declared.expansion.pieces.Piece.TheVariants.{Own, Inner}
 use Rattle.blif_flat.specs.Code.Calls.{IsCallOrder}
 use Rattle.blif_flat.specs.Code.Blocks.{own_names, call_names, place, placed, buffer_of, call_pieces, calls_pieces, pieces, of_piece, laid_out, piece_turns, turns, AreStraight, wide, HasBlocks}
 use Rattle.blif_flat.proofs.Members.{all_both, all_weaker}

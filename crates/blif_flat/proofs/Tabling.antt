@@ -12,8 +12,8 @@ use Rattle.blif_read.specs.declared.models.Call.{Call}
 use Rattle.blif_read.specs.declared.models.BlifModel.{BlifModel}
 use Rattle.blif_flat.specs.Designs.{names_in, model_number, no_model}
 use Rattle.blif_flat.specs.DesignFaults.{AreJoined, number_in as listed, callees}
-use Rattle.blif_flat.specs.declared.pieces.Piece.{Piece}
-use Rattle.blif_flat.specs.declared.outlines.Outline.{Outline}
+use Rattle.blif_flat.specs.declared.expansion.pieces.Piece.{Piece}
+use Rattle.blif_flat.specs.declared.models.outlines.Outline.{Outline}
 use Rattle.blif_flat.specs.Code.Calls.{IsCallOrder}
 use Rattle.blif_flat.specs.Code.Blocks.{wide, block_names, pieces, HasBlocks}
 use Rattle.blif_flat.specs.Code.Joins.{ArePlaces}

@@ -10,8 +10,8 @@ use Rattle.blif_read.specs.declared.models.BlifModel.{BlifModel}
 use Rattle.blif_flat.specs.Designs.{model_number, model_at, called, actual_of, joined_outputs, first_model}
 use Rattle.blif_flat.specs.DesignFaults.{number_in as listed, callees}
 use Rattle.blif_flat.specs.Expansion.{Wire, wire, calls_within, wires}
-use Rattle.blif_flat.specs.declared.links.Link.{Link}
-use Rattle.blif_flat.specs.declared.wires.Frame.{Frame}
+use Rattle.blif_flat.specs.declared.models.links.Link.{Link}
+use Rattle.blif_flat.specs.declared.expansion.wires.Frame.{Frame}
 use Rattle.blif_flat.specs.Code.Linked.{IsLink, HasLinks, calls_in}
 use Rattle.blif_flat.specs.Code.Wired.{begun, ended, put_in, links_at, called_wires, call_count, listed_from, turns_from}
 use Rattle.blif_flat.proofs.Members.{all_front, all_back, map_map}

@@ -2,7 +2,7 @@
 use Rattle.std.proofs.Common.{◌≡◌, ℕ, suc, ◌+◌, ◌<◌, List, [], ◌∷◌, ◌++◌, length, take, get_or, sym, ap, ◌∙◌, arith, length-take}
 use Rattle.std.proofs.lemmas.List.{length-map, map_more}
 use Rattle.blif_flat.specs.Expansion.{Wire, kept_name, kept_names}
-use Rattle.blif_flat.specs.declared.wires.Place.{Place}
+use Rattle.blif_flat.specs.declared.expansion.wires.Place.{Place}
 use Rattle.blif_flat.specs.Code.Wired.{wire_of, wires_of}
 
 kept_push : (n : ℕ) (ws : List Wire) (w : Wire) → kept_names n (ws ++ w ∷ [])

@@ -1,8 +1,8 @@
 -- What a refused append makes of a netlist's writing.
 use Rattle.aq_base.specs.declared.store.StoreRefusal.{StoreRefusal}
 use Rattle.aq_base.specs.declared.store.StoreRefusal.TheVariants as store
-use Rattle.blif_flat.specs.declared.refusal.WriteBlifRefusal.{WriteBlifRefusal}
-use Rattle.blif_flat.specs.declared.refusal.WriteBlifRefusal.TheVariants.{Failed, Memory}
+use Rattle.blif_flat.specs.declared.writing.refusal.WriteBlifRefusal.{WriteBlifRefusal}
+use Rattle.blif_flat.specs.declared.writing.refusal.WriteBlifRefusal.TheVariants.{Failed, Memory}
 
 abbrev pub refusal_of : StoreRefusal → WriteBlifRefusal
 refusal_of store.Failed = Failed

@@ -3,12 +3,12 @@ ghost use Rattle.std.specs.Prelude.{◌≤◌, ◌^◌, length};
 ghost use Rattle.blif_flat.specs.Code.Calls.{has_name};
 ghost use Rattle.blif_flat.specs.Code.Numbering.{IsNumbering};
 
-use crate::calls::model_numbers;
 use crate::design::FlatKind;
-use crate::faults::first_fault;
-use crate::indexed::Design;
-use crate::numbers::Numbers;
-use crate::order::Told;
+use crate::faults::order::Told;
+use crate::faults::told::first_fault;
+use crate::models::calls::model_numbers;
+use crate::models::indexed::Design;
+use crate::models::numbers::Numbers;
 use aq_base::Memory;
 use blif_read::{BlifModel, read_models};
 use name_hash::NameHash;

@@ -3,7 +3,7 @@ ghost use Rattle.std.specs.Prelude.{◌≡◌, ◌<◌, IsSome};
 ghost use Rattle.circuit.specs.declared.cell_kind.CellKind.TheVariants.{Buffer};
 ghost use Rattle.chip_circuit.specs.declared.cells.Feed.TheVariants.{Nothing};
 
-use crate::lines::{add_cell, add_output};
+use crate::writing::lines::{add_cell, add_output};
 use crate::{WriteBlifRefusal, write_blif, written_answers};
 use aq_base::{Files, List, MemFiles, Memory};
 use chip_circuit::{ExCell, Extracted, Feed, Source, first_circuit_keeps};

@@ -12,9 +12,9 @@ use Rattle.blif_read.specs.declared.models.BlifModel.{BlifModel}
 use Rattle.blif_read.specs.Walk.{on}
 use Rattle.blif_flat.specs.Designs.{names_in, model_number, no_model, called, actual_of, joined_outputs}
 use Rattle.blif_flat.specs.DesignFaults.{number_in as listed}
-use Rattle.blif_flat.specs.declared.pieces.Piece.{Piece}
-use Rattle.blif_flat.specs.declared.pieces.Piece.TheVariants.{Own, Inner}
-use Rattle.blif_flat.specs.declared.layout.Frame.{Frame}
+use Rattle.blif_flat.specs.declared.expansion.pieces.Piece.{Piece}
+use Rattle.blif_flat.specs.declared.expansion.pieces.Piece.TheVariants.{Own, Inner}
+use Rattle.blif_flat.specs.declared.expansion.layout.Frame.{Frame}
 
 -- the name at a place is this one; the wires of calls have none in the model
 abbrev pub is_that : List ℕ → Option (List ℕ) → Bool

@@ -11,8 +11,8 @@ use Rattle.blif_flat.specs.Designs.{model_number, model_at, driven, used}
 use Rattle.blif_flat.specs.DesignFaults.{fits, rank, IsFirstFault, AreJoined}
 use Rattle.blif_flat.specs.declared.design.FlatKind.{FlatKind}
 use Rattle.blif_flat.specs.declared.design.FlatKind.TheVariants.{ModelTwice, UnknownModel, Ports, Duplicate, Undefined}
-use Rattle.blif_flat.specs.declared.order.Told.{Told}
-use Rattle.blif_flat.specs.declared.drivers.Drivers.{Drivers}
+use Rattle.blif_flat.specs.declared.faults.order.Told.{Told}
+use Rattle.blif_flat.specs.declared.faults.drivers.Drivers.{Drivers}
 use Rattle.blif_flat.specs.Code.Numbering.{number_in}
 
 abbrev pub at_line : ℕ → FlatKind → Told

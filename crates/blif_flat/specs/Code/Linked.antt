@@ -6,7 +6,7 @@ use Rattle.blif_read.specs.Walk.{on}
 use Rattle.blif_read.specs.declared.models.Call.{Call}
 use Rattle.blif_read.specs.declared.models.BlifModel.{BlifModel}
 use Rattle.blif_flat.specs.Designs.{model_number, no_model, actual_of, joined_outputs}
-use Rattle.blif_flat.specs.declared.links.Link.{Link}
+use Rattle.blif_flat.specs.declared.models.links.Link.{Link}
 
 -- the number of the model that a call names, and the signals of the caller that this model's outputs are joined to
 pub record IsLink (models : List BlifModel) (link : Link) : Type 0 where

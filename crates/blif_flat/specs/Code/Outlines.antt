@@ -7,7 +7,7 @@ use Rattle.blif_read.specs.declared.models.Call.{Call}
 use Rattle.blif_read.specs.declared.models.BlifModel.{BlifModel}
 use Rattle.blif_flat.specs.Designs.{names_in, model_number, no_model, distinct_outputs}
 use Rattle.blif_flat.specs.Code.Blocks.{wide, place}
-use Rattle.blif_flat.specs.declared.outlines.Outline.{Outline}
+use Rattle.blif_flat.specs.declared.models.outlines.Outline.{Outline}
 
 -- the inputs of a model differ; the places of its outputs, each once, and its width
 pub record IsOutline (models : List BlifModel) (model : BlifModel) (outline : Outline) : Type 0 where

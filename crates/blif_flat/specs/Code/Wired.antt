@@ -7,9 +7,9 @@ use Rattle.blif_read.specs.declared.models.Call.{Call}
 use Rattle.blif_read.specs.declared.models.BlifModel.{BlifModel}
 use Rattle.blif_flat.specs.Designs.{names_in, called, actual_of, joined_outputs}
 use Rattle.blif_flat.specs.Expansion.{Wire, wire, same_wire, calls_within, expanded, expanded_calls}
-use Rattle.blif_flat.specs.declared.wires.Place.{Place}
-use Rattle.blif_flat.specs.declared.wires.Frame.{Frame}
-use Rattle.blif_flat.specs.declared.links.Link.{Link}
+use Rattle.blif_flat.specs.declared.expansion.wires.Place.{Place}
+use Rattle.blif_flat.specs.declared.expansion.wires.Frame.{Frame}
+use Rattle.blif_flat.specs.declared.models.links.Link.{Link}
 use Rattle.blif_flat.specs.Code.Linked.{calls_in}
 
 -- the wire of a place, and the wires of places

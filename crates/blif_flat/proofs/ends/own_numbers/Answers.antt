@@ -1,7 +1,0 @@
-use Rattle.blif_flat.proofs.OutputNumbers.{own_more}
-use Rattle.blif_flat.proofs.ends.own_numbers.Goals as goal
-
-pub loop-number-preserved : goal.loop-number-preserved
-loop-number-preserved c = own_more c.args.places.now c.loop-number.number _ c.loop-number.numbers.entries
-    c.add_own.new.numbers.entries c.in_ok-number.number c.loop-number-test.true c.in_ok-number.ensures
-    c.loop-number.invariant c.in_ok-add_own.ensures

@@ -1,7 +1,0 @@
-use Rattle.std.proofs.Common.{◌≡◌, map, take}
-use Rattle.blif_read.specs.Code.Seen.{texts}
-use Rattle.blif_flat.specs.Code.Joins.{ports_for}
-use Rattle.blif_flat.proofs.joins.ports_for.Given as goal
-
-abbrev pub invariant-loop-number : goal.invariant-loop-number
-invariant-loop-number l = l.ports.items ≡ ports_for (texts l.names.keys) (map (λ p. p.formal) (take l.number l.call.ports))

@@ -1,0 +1,12 @@
+use Rattle.std.proofs.Common.{◌∙◌, ap}
+use Rattle.blif_read.specs.Code.Seen.{texts}
+use Rattle.blif_read.specs.Parts.{is_defined}
+use Rattle.blif_read.specs.declared.models.BlifModel.{BlifModel}
+use Rattle.blif_flat.specs.Designs.{names_in}
+use Rattle.blif_flat.proofs.Indexes.{index_defines}
+use Rattle.blif_flat.proofs.models.indexed.IndexedModel.is_input.Goals as goal
+
+pub returns : goal.returns
+returns c = c.is_among.ensures
+    ∙ index_defines (texts c.self.inside.inputs.keys) (names_in c.self.inside.model.now.inputs) c.args.name.now c.self.invariant.has_inputs
+    ∙ ap (λ (m : BlifModel). is_defined (names_in m.inputs) c.args.name.now) c.self.view_is

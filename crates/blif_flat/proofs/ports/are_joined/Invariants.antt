@@ -1,8 +1,0 @@
-use Rattle.std.proofs.Common.{◌≡◌, drop}
-use Rattle.std.specs.List.{list_all}
-use Rattle.blif_read.specs.Parts.{is_defined}
-use Rattle.blif_read.specs.Code.Seen.{texts}
-use Rattle.blif_flat.proofs.ports.are_joined.Given as goal
-
-abbrev pub invariant-loop-input : goal.invariant-loop-input
-invariant-loop-input l = list_all (λ n. is_defined (texts l.formals.keys) n.name) (drop l.input-index l.inputs) ≡ list_all (λ n. is_defined (texts l.formals.keys) n.name) l.inputs

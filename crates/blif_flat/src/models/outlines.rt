@@ -1,0 +1,126 @@
+// The places of a model's signals in its block.
+ghost use Rattle.std.specs.Prelude.{◌≡◌, ℕ, ◌∷◌, ◌++◌, [], List as Items, map, Option as Maybe, Some, None, slice_get, IfOk};
+ghost use Rattle.std.specs.Option.{option_copied};
+ghost use Rattle.blif_flat.specs.Designs.{names_in, model_number};
+ghost use Rattle.blif_flat.specs.Code.Blocks.{call_names, block_names, wide};
+ghost use Rattle.blif_flat.specs.Code.Joins.{ArePlaces};
+ghost use Rattle.blif_flat.specs.Code.Outlines.{IsOutlined, AreOutlined};
+ghost use Rattle.std.specs.List.{flat_map};
+
+use crate::models::indexed::Design;
+use crate::models::joins::{add_actuals, add_name, pass, ports_for};
+use crate::models::numbers::Numbers;
+use aq_base::Memory;
+use blif_read::{BlifModel, Call, Named, NamedDef};
+use indexmap::IndexMap;
+use name_hash::NameHash;
+use std::alloc::Global;
+
+/// What callers of a model need to know of its block.
+#[derive(Drop)]
+pub struct Outline {
+    /// The places of the outputs.
+    pub exits: Vec<u32>,
+    pub width: u32,
+}
+
+/// The outline of a number.
+pub fn outline_at(outlines: &[Outline], number: u32) -> Option<&Outline>
+    ensures { option_copied result ≡ slice_get outlines.now number }
+{
+    outlines.get(number as usize)
+}
+
+/// Gives the next places to what a call adds to its block.
+fn add_call<'a>(
+    alloc: Global,
+    design: &Design<'_>,
+    outlines: &[Outline],
+    call: &'a Call,
+    places: &mut Numbers<'a>,
+    count: u32,
+) -> Result<u32, Memory>
+    ensures { IsOutlined design.now outlines.now (model_number design.now call.now.model)
+        → IfOk result (λ next. (names : Items (Maybe (Items ℕ))) → ArePlaces places.old.entries count names
+        → ArePlaces places.new.entries next (names ++ call_names (wide design.now) design.now call.now)) }
+{
+    let Some((number, model)) = design.found(call) else {
+        return Ok(count);
+    };
+    let Some(outline) = outline_at(outlines, number) else {
+        return Ok(count);
+    };
+    let ports = ports_for(alloc, model.outputs(), call)?;
+    let inner = pass(places, count, outline.width)?;
+    let next = add_actuals(places, inner, call, &ports)?;
+    Ok(next)
+}
+
+/// Gives the next places to names.
+fn add_inputs<'a>(inputs: &'a [Named], places: &mut Numbers<'a>, count: u32) -> Result<u32, Memory>
+    ensures { IfOk result (λ next. (names : Items (Maybe (Items ℕ))) → ArePlaces places.old.entries count names
+        → ArePlaces places.new.entries next (names ++ flat_map (λ n. Some n.name ∷ []) inputs.now)) }
+{
+    let mut next = count;
+    for input in inputs {
+        next = add_name(places, next, input.name.as_slice())?;
+    }
+    Ok(next)
+}
+
+/// Gives the next places to what definitions define.
+fn add_defs<'a>(defs: &'a [NamedDef], places: &mut Numbers<'a>, count: u32) -> Result<u32, Memory>
+    ensures { IfOk result (λ next. (names : Items (Maybe (Items ℕ))) → ArePlaces places.old.entries count names
+        → ArePlaces places.new.entries next (names ++ flat_map (λ d. Some d.output ∷ []) defs.now)) }
+{
+    let mut next = count;
+    for def in defs {
+        next = add_name(places, next, def.output.as_slice())?;
+    }
+    Ok(next)
+}
+
+/// Gives the next places to what calls add.
+fn add_calls<'a>(
+    alloc: Global,
+    design: &Design<'_>,
+    outlines: &[Outline],
+    calls: &'a [Call],
+    places: &mut Numbers<'a>,
+    count: u32,
+) -> Result<u32, Memory>
+    ensures { AreOutlined design.now outlines.now calls.now
+        → IfOk result (λ next. (names : Items (Maybe (Items ℕ))) → ArePlaces places.old.entries count names
+        → ArePlaces places.new.entries next (names ++ flat_map (call_names (wide design.now) design.now) calls.now)) }
+{
+    let mut next = count;
+    for call in calls {
+        next = add_call(alloc, design, outlines, call, places, next)?;
+    }
+    Ok(next)
+}
+
+/// The places of a model's signals in its block, and its width.
+pub fn places_of<'a>(
+    alloc: Global,
+    hash: NameHash,
+    design: &Design<'_>,
+    outlines: &[Outline],
+    model: &'a BlifModel,
+) -> Result<(Numbers<'a>, u32), Memory>
+    ensures { AreOutlined design.now outlines.now model.now.calls
+        → IfOk result (λ r. ArePlaces r.0.entries r.1 (block_names (wide design.now) design.now model.now)) }
+{
+    let mut places = IndexMap::with_hasher(alloc, hash);
+    let inputs = add_inputs(model.inputs.as_slice(), &mut places, 0)?;
+    let own = add_defs(model.defs.as_slice(), &mut places, inputs)?;
+    let width = add_calls(
+        alloc,
+        design,
+        outlines,
+        model.calls.as_slice(),
+        &mut places,
+        own,
+    )?;
+    Ok((places, width))
+}

@@ -1,0 +1,4 @@
+// A chip's circuit, written as a netlist.
+pub mod lines;
+pub mod refusal;
+pub mod writer;
