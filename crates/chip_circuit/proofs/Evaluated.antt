@@ -12,7 +12,8 @@ use Rattle.chip_circuit.specs.declared.cells.Feed.TheVariants.{Nothing, Pin, Lab
 use Rattle.chip_circuit.specs.declared.cells.ExCell.{ExCell}
 use Rattle.chip_circuit.specs.Circuits.{CircuitView, feed_at, IsFeedOf, IsOutputBelow, KeepsFacts}
 use Rattle.chip_circuit.specs.Answers.{feed_value, cell_value, values_at, IsAnswer}
-use Rattle.chip_circuit.specs.Code.Evaluation.{valuation, AreFedBefore, AreValues}
+use Rattle.circuit.specs.Gates.{valuation}
+use Rattle.chip_circuit.specs.Code.Evaluation.{AreFedBefore, AreValues}
 
 pub record ValuesBelow (n : ℕ) (cells : List ExCell) (word values : List Bool) : Type 0 where
   pub long : length values ≡ n

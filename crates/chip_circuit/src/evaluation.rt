@@ -1,21 +1,14 @@
 // The values of the cells of a circuit under a word, and what its outputs show.
 ghost use Rattle.std.specs.Prelude.{◌≡◌, IfOk};
-ghost use Rattle.circuit.specs.Function.{value_of};
+ghost use Rattle.circuit.specs.Gates.{valuation};
 ghost use Rattle.chip_circuit.specs.Answers.{feed_value, cell_value, values_at};
-ghost use Rattle.chip_circuit.specs.Code.Evaluation.{valuation, AreFedBefore, AreValues};
+ghost use Rattle.chip_circuit.specs.Code.Evaluation.{AreFedBefore, AreValues};
 
 use crate::cells::{ExCell, Feed};
 use aq_base::{List, Memory};
-use circuit::{CellKind, Word};
+use circuit::{Word, value_at};
 use rowed::Source;
 use std::alloc::Global;
-
-/// The value of this number, and false past the last.
-fn value_at(values: &[bool], number: u32) -> bool
-    ensures { result ≡ valuation values.now number }
-{
-    values.get(number as usize).copied().unwrap_or(false)
-}
 
 fn feed_value(word: &[bool], values: &[bool], feed: Feed) -> bool
     ensures { result ≡ feed_value word.now (valuation values.now) feed }
@@ -27,24 +20,10 @@ fn feed_value(word: &[bool], values: &[bool], feed: Feed) -> bool
     }
 }
 
-/// The value of a cell whose inputs have these values.
-fn value_of(kind: CellKind, a: bool, b: bool, c: bool) -> bool
-    ensures { result ≡ value_of kind a b c }
-{
-    match kind {
-        CellKind::Buffer | CellKind::Split2 | CellKind::Split3 => a,
-        CellKind::Inverter => !a,
-        CellKind::Zero => false,
-        CellKind::One => true,
-        CellKind::Majority => (a && b) || (a && c) || (b && c),
-    }
-}
-
 fn cell_value(word: &[bool], values: &[bool], cell: &ExCell) -> bool
     ensures { result ≡ cell_value word.now (valuation values.now) cell.now }
 {
-    value_of(
-        cell.kind,
+    cell.kind.value(
         feed_value(word, values, cell.feed0),
         feed_value(word, values, cell.feed1),
         feed_value(word, values, cell.feed2),

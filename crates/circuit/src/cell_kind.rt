@@ -22,6 +22,7 @@ pub enum CellKind {
 
 impl CellKind {
     ghost use Rattle.circuit.specs.CellKinds.{number_of, inputs_of, outputs_of, slots_of};
+    ghost use Rattle.circuit.specs.Function.{value_of};
 
     /// The kind's number, from 1 to 7: the datatype of its frame in a layout.
     pub fn number(self) -> u16
@@ -72,6 +73,20 @@ impl CellKind {
             CellKind::Buffer | CellKind::Inverter | CellKind::Zero | CellKind::One => 1,
             CellKind::Split2 => 2,
             CellKind::Split3 | CellKind::Majority => 3,
+        }
+    }
+
+    /// The value of a cell of the kind whose inputs 0, 1 and 2 have these values. An input that the kind lacks is not
+    /// read.
+    pub fn value(self, a: bool, b: bool, c: bool) -> bool
+        ensures { result ≡ value_of self a b c }
+    {
+        match self {
+            CellKind::Buffer | CellKind::Split2 | CellKind::Split3 => a,
+            CellKind::Inverter => !a,
+            CellKind::Zero => false,
+            CellKind::One => true,
+            CellKind::Majority => (a && b) || (a && c) || (b && c),
         }
     }
 }

@@ -16,7 +16,7 @@ pub use gate::Gate;
 pub use pass::{Pass, Then, ThenRefusal};
 pub use plain_net::PlainNet;
 pub use ranked::ranked_equations;
-pub use values::{gate_values, shown_values};
+pub use values::{gate_values, shown_values, value_at};
 
 /// A list of truth values: the first is that of input or output 0.
 pub type Word = List<bool>;

@@ -3,15 +3,15 @@ ghost use Rattle.std.specs.Prelude.{◌≡◌, ℕ, Bool, ◌<◌, length, map, 
 ghost use Rattle.circuit.specs.Gates.{gate_value, valuation};
 ghost use Rattle.circuit.specs.CellNets.{AreCells, value};
 
-use crate::{Gate, Word};
+use crate::{CellKind, Gate, Word};
 use aq_base::{List, Memory};
 use std::alloc::Global;
 
-/// The value of a gate; false past the last.
-fn value_at(values: &[bool], gate: u32) -> bool
-    ensures { result ≡ valuation values.now gate }
+/// The value of this number, from 0; false past the last.
+pub fn value_at(values: &[bool], number: u32) -> bool
+    ensures { result ≡ valuation values.now number }
 {
-    values.get(gate as usize).copied().unwrap_or(false)
+    values.get(number as usize).copied().unwrap_or(false)
 }
 
 /// The value that a gate has where those that it names have these values.
@@ -19,19 +19,16 @@ fn gate_value(gate: Gate, word: &[bool], values: &[bool]) -> bool
     ensures { result ≡ gate_value word.now (valuation values.now) gate }
 {
     match gate {
-        Gate::Input(input) => word.get(input as usize).copied().unwrap_or(false),
+        Gate::Input(input) => value_at(word, input),
         Gate::Zero => false,
         Gate::One => true,
         Gate::Buf(x) => value_at(values, x),
         Gate::Inv(x) => !value_at(values, x),
-        Gate::Maj(x, y, z) => {
-            let (x, y, z) = (
-                value_at(values, x),
-                value_at(values, y),
-                value_at(values, z),
-            );
-            (x && y) || (x && z) || (y && z)
-        }
+        Gate::Maj(x, y, z) => CellKind::Majority.value(
+            value_at(values, x),
+            value_at(values, y),
+            value_at(values, z),
+        ),
     }
 }
 

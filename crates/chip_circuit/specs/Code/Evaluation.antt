@@ -1,13 +1,10 @@
 -- The values of cells one after the other: each cell is fed by cells before it, and its value is computed from theirs.
-use Rattle.std.specs.Prelude.{◌≡◌, ℕ, ◌<◌, Bool, false, List, Some, slice_get, slice_index_or}
+use Rattle.std.specs.Prelude.{◌≡◌, ℕ, ◌<◌, Bool, List, Some, slice_get}
+use Rattle.circuit.specs.Gates.{valuation}
 use Rattle.chip_circuit.specs.declared.cells.Feed.TheVariants.{Pin}
 use Rattle.chip_circuit.specs.declared.cells.ExCell.{ExCell}
 use Rattle.chip_circuit.specs.Circuits.{feed_at}
 use Rattle.chip_circuit.specs.Answers.{cell_value}
-
--- the values that a list has, and false past its end
-abbrev pub valuation : List Bool → ℕ → Bool
-valuation values c = slice_index_or values c false
 
 -- each cell that feeds another stands before it
 abbrev pub AreFedBefore : List ExCell → Type 0

@@ -1,5 +1,6 @@
 -- A circuit of such gates has one answer to each word: the values that its gates' equations give.
-use Rattle.std.specs.Prelude.{◌≡◌, ℕ, zero, suc, not, ◌<◌, Bool, List, [], ◌∷◌, length, map, Option, Some, None, slice_get}
+use Rattle.std.specs.Prelude.{◌≡◌, ℕ, zero, suc, not, ◌<◌, Bool, List, [], ◌∷◌, length, map, Option, Some, None}
+use Rattle.std.specs.Prelude.{slice_get}
 use Rattle.std.specs.List.{AllByRecursion}
 use Rattle.std.proofs.Common.{refl, sym, ap, ◌∙◌, arith, get_or}
 use Rattle.std.proofs.lemmas.Option.{slice_get-get_or}

@@ -1,6 +1,6 @@
 use Rattle.std.proofs.Common.{◌≡◌, ◌++◌, drop}
 use Rattle.chip_circuit.specs.Answers.{values_at}
-use Rattle.chip_circuit.specs.Code.Evaluation.{valuation}
+use Rattle.circuit.specs.Gates.{valuation}
 use Rattle.chip_circuit.proofs.evaluation.shown.Given as goal
 
 abbrev pub invariant-loop-source : goal.invariant-loop-source

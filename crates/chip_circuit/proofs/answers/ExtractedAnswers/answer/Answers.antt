@@ -4,7 +4,8 @@ use Rattle.rowed.specs.declared.source.Source.{Source}
 use Rattle.chip_circuit.specs.declared.cells.ExCell.{ExCell}
 use Rattle.chip_circuit.specs.Circuits.{CircuitView, KeepsFacts}
 use Rattle.chip_circuit.specs.Answers.{values_at, IsAnswer}
-use Rattle.chip_circuit.specs.Code.Evaluation.{valuation, AreFedBefore, AreValues}
+use Rattle.circuit.specs.Gates.{valuation}
+use Rattle.chip_circuit.specs.Code.Evaluation.{AreFedBefore, AreValues}
 use Rattle.chip_circuit.proofs.Evaluated.{fed_before, evaluated}
 use Rattle.chip_circuit.proofs.answers.ExtractedAnswers.answer.Goals as goal
 
