@@ -15,6 +15,7 @@ HasOtherByte text = SomeIndex text (λ i. ¬ IsAsciiDigit (slice_index text i))
 abbrev pub HasLeadingZero : List ℕ → Type 0
 HasLeadingZero text = (1 < length text) × (slice_index text 0 ≡ 48)
 
--- the text writes no number of 64 bits: it is empty, holds another byte than a digit, has a leading zero, or its number is too large
+-- the text writes no number of 64 bits: it is empty, holds another byte than a digit, has a leading zero, or its number
+-- is too large
 abbrev pub IsUnreadable : List ℕ → Type 0
 IsUnreadable text = (text ≡ []) ⊎ (HasOtherByte text ⊎ (HasLeadingZero text ⊎ (2 ^ 64 ≤ digits_value 10 text)))

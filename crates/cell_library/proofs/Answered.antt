@@ -12,7 +12,7 @@ use Rattle.cell_library.specs.declared.laws.Law.{Law as LawName}
 use Rattle.cell_library.specs.Library.{LibraryView}
 use Rattle.cell_library.specs.Laws.{Holds, BreaksFirst}
 use Rattle.cell_library.specs.Faults.{table_fault}
-use Rattle.cell_library.specs.Says.{library_of, LibFault, IsDocument, Says, HasFault, Answers}
+use Rattle.cell_library.specs.Says.{library_of, LibFault, IsDocument, SaysLibrary, HasFault, Answers}
 use Rattle.cell_library.specs.Code.Stages.{IsJudged}
 
 -- the answer on a text that is a document
@@ -39,13 +39,13 @@ excludes ms (Value key z) l first none values laws = let e : Some (Value key z) 
 excludes ms (Missing kind) l first none values laws = let e : Some (Missing kind) ≡ None = sym first ∙ none in cc
 excludes ms (Law number) l first none values laws = first.1.broken (subst (λ (x : LibraryView). Holds first.1.law x) values (laws first.1.law))
 
-not_both : (text : List ℕ) (fault : LibraryFault) (l : LibraryView) → HasFault text fault → Says text l → ⊥
+not_both : (text : List ℕ) (fault : LibraryFault) (l : LibraryView) → HasFault text fault → SaysLibrary text l → ⊥
 not_both text fault l h s =
     let same : h.table ≡ s.table = one_table text h.table s.table h.document s.document in
     excludes s.table fault l (subst (λ (ms : Members). LibFault ms fault) same h.first) s.faultless s.values s.laws
 
 -- a text that says a library
-pub said_answer : (text : List ℕ) (result : Result LibraryView LibraryRefusal) (l : LibraryView) → Answers text result → Says text l → (result ≡ Ok l) ⊎ (result ≡ Err Memory)
+pub said_answer : (text : List ℕ) (result : Result LibraryView LibraryRefusal) (l : LibraryView) → Answers text result → SaysLibrary text l → (result ≡ Ok l) ⊎ (result ≡ Err Memory)
 said_answer text (Ok found) l answer s = inl (ap (λ x. Ok x) (answer.values ∙ (ap library_of (one_table text answer.table s.table answer.document s.document) ∙ sym s.values)))
 said_answer text (Err (Bad Text)) l answer s = absurd (not_refused text s.table s.document answer)
 said_answer text (Err (Bad (Key key))) l answer s = absurd (not_both text (Key key) l answer s)

@@ -11,7 +11,7 @@ use Rattle.circuit.specs.declared.cell_kind.CellKind.{CellKind}
 use Rattle.circuit.specs.declared.cell_kind.CellKind.TheVariants.{Split3}
 use Rattle.cell_library.specs.Library.{LibraryView, IsGiven}
 use Rattle.cell_library.specs.Laws.{InRanges, IsDraft, IsLibrary}
-use Rattle.cell_library.specs.Says.{Says, natural, number_under, library_of}
+use Rattle.cell_library.specs.Says.{SaysLibrary, natural, number_under, library_of}
 use Rattle.cell_library.proofs.Given.{first_nones, all_given}
 
 -- a number of the table is in its range
@@ -71,7 +71,7 @@ in_ranges ms e =
       limit_most = all.1.1.1.1.1.1.1.1.1.0.most;
     }
 
-pub said_keeps : (text : List ℕ) (library : LibraryView) → Says text library → IsLibrary library
+pub said_keeps : (text : List ℕ) (library : LibraryView) → SaysLibrary text library → IsLibrary library
 said_keeps text library says =
     let faults = first_nones (unknown_key_fault says.table ∷ numbers_fault says.table ∷ missing_fault says.table
     ∷ kinds_fault says.table ∷ []) says.faultless in

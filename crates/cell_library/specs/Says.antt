@@ -67,7 +67,7 @@ abbrev pub IsRefused : List ℕ → Type 0
 IsRefused text = IsUtf8 text → parse_document text ≡ None
 
 -- the text says this library
-pub record Says (text : List ℕ) (library : LibraryView) : Type 0 where
+pub record SaysLibrary (text : List ℕ) (library : LibraryView) : Type 0 where
   pub table : Members
   pub document : IsDocument text table
   pub faultless : table_fault table ≡ None
@@ -88,7 +88,7 @@ pub record HasFault (text : List ℕ) (fault : LibraryFault) : Type 0 where
 
 -- what the answer of a reader says of the text
 abbrev pub Answers : List ℕ → Result LibraryView LibraryRefusal → Type 0
-Answers text (Ok library) = Says text library
+Answers text (Ok library) = SaysLibrary text library
 Answers text (Err (Bad Text)) = IsRefused text
 Answers text (Err (Bad fault)) = HasFault text fault
 Answers text (Err Memory) = Unit {0}

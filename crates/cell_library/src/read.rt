@@ -8,7 +8,7 @@ ghost use Rattle.cell_library.specs.Library.{LibraryView, IsGiven};
 ghost use Rattle.cell_library.specs.Faults.{unknown_key_fault, number_fault, numbers_fault, missing_fault};
 ghost use Rattle.cell_library.specs.Faults.{inner_key_fault, dotted, columns_fault, inner_fault, kind_fault};
 ghost use Rattle.cell_library.specs.Faults.{kinds_fault, table_fault};
-ghost use Rattle.cell_library.specs.Says.{number_under, columns_under, pins_in, pins_under, Says, HasFault, Answers};
+ghost use Rattle.cell_library.specs.Says.{number_under, columns_under, pins_in, pins_under, SaysLibrary, HasFault, Answers};
 ghost use Rattle.cell_library.specs.Code.Stages.{RefusesFor, Judges, IsNumbersOf, IsDraftOf, IsJudged};
 ghost use Rattle.cell_library.specs.Documents.{natural_within};
 ghost use Rattle.cell_library.specs.declared.fault.LibraryFault.{LibraryFault};
@@ -274,7 +274,7 @@ fn judged(alloc: Global, table: &Table) -> Result<Library, LibraryRefusal>
 pub fn read_library(alloc: Global, text: &[u8]) -> Result<Library, LibraryRefusal>
     requires { length text.now ≤ 268435456 }
     ensures answer { Answers text.now result }
-    ensures said { (library : LibraryView) → Says text.now library
+    ensures said { (library : LibraryView) → SaysLibrary text.now library
         → (result ≡ Ok library) ⊎ (result ≡ Err LibraryRefusal.Memory) }
     ensures faulty { (fault : LibraryFault) → HasFault text.now fault
         → (result ≡ Err (LibraryRefusal.Bad fault)) ⊎ (result ≡ Err LibraryRefusal.Memory) }

@@ -15,5 +15,6 @@ counts_text rows cells wires =
     ++ codes " wires " ++ decimal wires
     ++ codes " delay " ++ decimal (rows - 1) ++ codes "\n"
 
+-- the counts line of a circuit: its rows, its cells, its wires, and its delay in phases
 unfoldable pub counts_line : CircuitView → List ℕ
 counts_line circuit = counts_text circuit.rows (length circuit.cells) circuit.wires

@@ -7,10 +7,12 @@ use Rattle.pulse_sim.specs.Settled.{settled_run}
 use Rattle.pulse_sim.specs.Shows.{fluxes_at}
 use Rattle.chip_texts.specs.Counts.{counts_line, delay_of}
 
+-- the digit of a value, 0 or 1, in ASCII
 abbrev pub digit_of : Bool → ℕ
 digit_of false = 48
 digit_of true = 49
 
+-- a line with a digit for each value of the word, and a line feed
 abbrev pub word_line : List Bool → List ℕ
 word_line word = map digit_of word ++ codes "\n"
 

@@ -8,6 +8,7 @@ use Rattle.std.specs.Str.Lines.{lines}
 abbrev pub is_digit : ℕ → Bool
 is_digit b = b == 48 || b == 49
 
+-- the digit 1, which stands for true (ASCII 49)
 abbrev pub is_one : ℕ → Bool
 is_one b = b == 49
 
@@ -15,6 +16,7 @@ is_one b = b == 49
 abbrev pub is_word : ℕ → List ℕ → Bool
 is_word width line = length line == width && list_all is_digit line
 
+-- the values that a line of digits writes, in the order of the inputs
 abbrev pub word_of : List ℕ → List Bool
 word_of line = map is_one line
 

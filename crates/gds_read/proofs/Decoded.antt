@@ -7,12 +7,12 @@ use Rattle.std.proofs.Math.Seq.{take-append_seam, drop-append_seam}
 use Rattle.std.proofs.lemmas.Nat.{from_be_bytes-to_be_bytes_2}
 use Rattle.gds_records.specs.Records.{Record, record_with, spelled}
 use Rattle.gds_records.specs.Faults.{length_of, here_record}
-use Rattle.gds_read.specs.Code.Decoding.{IsShort, IsSpelled, decode, records_in, Goes}
+use Rattle.gds_read.specs.Code.Decoding.{IsShortRecord, IsSpelled, decode, records_in, Goes}
 
 abbrev plus4 : ℕ → ℕ
 plus4 m = suc (suc (suc (suc m)))
 
-pub length_spelled : (r : Record) (b : List ℕ) → IsShort r → length_of (spelled r ++ b) ≡ 4 + length r.content
+pub length_spelled : (r : Record) (b : List ℕ) → IsShortRecord r → length_of (spelled r ++ b) ≡ 4 + length r.content
 length_spelled r b h = from_be_bytes-to_be_bytes_2 (4 + length r.content) h
 
 content_back : (h l k f : ℕ) (c b : List ℕ) (n : ℕ) → n ≡ 4 + length c → drop 4 (take n (h ∷ l ∷ k ∷ f ∷ c ++ b)) ≡ c
@@ -24,10 +24,10 @@ after_back h l k f c b n e = let q : n ≡ plus4 (length c) = omega arith in ap 
 same_record : (r : Record) (c : List ℕ) → c ≡ r.content → record_with r.kind r.form c ≡ r
 same_record r c e = rw e refl
 
-pub record_back : (r : Record) (b : List ℕ) → IsShort r → here_record (spelled r ++ b) ≡ r
+pub record_back : (r : Record) (b : List ℕ) → IsShortRecord r → here_record (spelled r ++ b) ≡ r
 record_back r b h = same_record r _ (content_back _ _ r.kind r.form r.content b (length_of (spelled r ++ b)) (length_spelled r b h))
 
-pub rest_back : (r : Record) (b : List ℕ) → IsShort r → drop (length_of (spelled r ++ b)) (spelled r ++ b) ≡ b
+pub rest_back : (r : Record) (b : List ℕ) → IsShortRecord r → drop (length_of (spelled r ++ b)) (spelled r ++ b) ≡ b
 rest_back r b h = after_back _ _ r.kind r.form r.content b (length_of (spelled r ++ b)) (length_spelled r b h)
 
 pub spelled_length : (r : Record) → length (spelled r) ≡ 4 + length r.content
@@ -45,7 +45,7 @@ decode_none (suc n) = refl
 two : (r s : Record) (a b : List Record) → r ≡ s → a ≡ b → r ∷ a ≡ s ∷ b
 two r s a b e f = rw (e, f) refl
 
-decoded : (n : ℕ) (rs : List Record) → AllByRecursion IsShort rs → length (flat_map spelled rs) ≤ n → decode n (flat_map spelled rs) ≡ rs
+decoded : (n : ℕ) (rs : List Record) → AllByRecursion IsShortRecord rs → length (flat_map spelled rs) ≤ n → decode n (flat_map spelled rs) ≡ rs
 decoded n [] all h = decode_none n
 decoded zero (r ∷ rs) all h = absurd (omega (arith, ap (λ (x : List ℕ). length x) (flat_map-cons spelled r rs), length-append (spelled r) (flat_map spelled rs), spelled_length r))
 decoded (suc n) (r ∷ rs) all h =
@@ -65,7 +65,7 @@ unfolding records_in
 records_none = refl
 
 -- what stands behind the first record
-goes_from : (bytes : List ℕ) (rs : List Record) → bytes ≡ flat_map spelled rs → AllByRecursion IsShort rs → 0 < length bytes → Goes bytes (drop (length_of bytes) bytes)
+goes_from : (bytes : List ℕ) (rs : List Record) → bytes ≡ flat_map spelled rs → AllByRecursion IsShortRecord rs → 0 < length bytes → Goes bytes (drop (length_of bytes) bytes)
 goes_from bytes [] e all h = absurd (omega (arith, ap (λ (x : List ℕ). length x) e))
 goes_from bytes (r ∷ rs) e all h =
     let w : bytes ≡ spelled r ++ flat_map spelled rs = e ∙ flat_map-cons spelled r rs in
@@ -86,7 +86,7 @@ pub record Front (bytes : List ℕ) : Type 0 where
   pub least : 4 ≤ length_of bytes
   pub enough : length_of bytes ≤ length bytes
 
-front_from : (bytes : List ℕ) (rs : List Record) → bytes ≡ flat_map spelled rs → AllByRecursion IsShort rs → 0 < length bytes → Front bytes
+front_from : (bytes : List ℕ) (rs : List Record) → bytes ≡ flat_map spelled rs → AllByRecursion IsShortRecord rs → 0 < length bytes → Front bytes
 front_from bytes [] e all h = absurd (omega (arith, ap (λ (x : List ℕ). length x) e))
 front_from bytes (r ∷ rs) e all h =
     let w : bytes ≡ spelled r ++ flat_map spelled rs = e ∙ flat_map-cons spelled r rs in

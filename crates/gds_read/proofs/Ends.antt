@@ -22,7 +22,7 @@ use Rattle.gds_read.specs.declared.refusal.StreamRefusal.TheVariants.{Bad, TooMa
 use Rattle.gds_read.specs.Reading.{IsRefusedFor}
 use Rattle.gds_read.specs.Code.Profiles.{profile_of}
 use Rattle.gds_read.specs.Code.Outlining.{outline_of, names_in}
-use Rattle.gds_read.specs.Code.Decoding.{IsShort, IsSpelled, records_in}
+use Rattle.gds_read.specs.Code.Decoding.{IsShortRecord, IsSpelled, records_in}
 use Rattle.gds_read.specs.Code.Bodies.{IsBody, IsFirstRefusal}
 use Rattle.gds_read.proofs.Decoded.{records_are}
 
@@ -67,7 +67,7 @@ module _ (p : Streams) (bytes : List ℕ) (law : all_steps p bytes ≡ told (sca
       ap (λ (s : Scanned). found_in p s) w.whole ∙ nonzero_end (are_zero rest) (p.whole_fault w.records) found z
       ∙ ap (λ (x : ℕ). Some (x + zeros_before rest, Value)) (sym w.place) ∙ ap (λ (x : ℕ). Some (o + x, Value)) (sym q)
 
-  good_short : (before rs : List Record) → AreGoodIn p before rs → AllByRecursion IsShort rs
+  good_short : (before rs : List Record) → AreGoodIn p before rs → AllByRecursion IsShortRecord rs
   good_short before [] g = tt
   good_short before (r ∷ rs) g = (g.0.short, good_short (before ++ r ∷ []) rs g.1)
 

@@ -8,15 +8,15 @@ use Rattle.std.proofs.lemmas.Bool.Decides.{nat_tests}
 use Rattle.gds_records.specs.Records.{Record, spelled}
 use Rattle.gds_records.specs.Faults.{here_record, kind_of, length_of}
 use Rattle.gds_records.specs.Drawing.{up_to, parts, element_parts}
-use Rattle.gds_read.specs.Code.Decoding.{IsShort, IsSpelled, records_in}
+use Rattle.gds_read.specs.Code.Decoding.{IsShortRecord, IsSpelled, records_in}
 use Rattle.gds_read.proofs.Decoded.{goes, records_are, records_none, record_back, length_spelled, spelled_length}
 use Rattle.gds_read.proofs.Cursors.{none_left}
 
 record FrontText (b : List ℕ) : Type 0 where
   text : take (length_of b) b ≡ spelled (here_record b)
-  short : IsShort (here_record b)
+  short : IsShortRecord (here_record b)
 
-front_text : (b : List ℕ) (rs : List Record) → b ≡ flat_map spelled rs → AllByRecursion IsShort rs → 0 < length b → FrontText b
+front_text : (b : List ℕ) (rs : List Record) → b ≡ flat_map spelled rs → AllByRecursion IsShortRecord rs → 0 < length b → FrontText b
 front_text b [] e all h = absurd (omega (arith, ap (λ (x : List ℕ). length x) e))
 front_text b (r ∷ rs) e all h =
     let w : b ≡ spelled r ++ flat_map spelled rs = e ∙ flat_map-cons spelled r rs in
@@ -24,10 +24,10 @@ front_text b (r ∷ rs) e all h =
     let n : length_of b ≡ 4 + length r.content = ap (λ (x : List ℕ). length_of x) w ∙ length_spelled r (flat_map spelled rs) all.0 in
     record {
       text = ap (λ (x : List ℕ). take (length_of b) x) w ∙ take_at (spelled r) (flat_map spelled rs) (length_of b) (omega (arith, spelled_length r, n)) ∙ ap (λ (x : Record). spelled x) (sym here);
-      short = subst (λ (x : Record). IsShort x) (sym here) all.0;
+      short = subst (λ (x : Record). IsShortRecord x) (sym here) all.0;
     }
 
-all_more : (rs : List Record) (r : Record) → AllByRecursion IsShort rs → IsShort r → AllByRecursion IsShort (rs ++ r ∷ [])
+all_more : (rs : List Record) (r : Record) → AllByRecursion IsShortRecord rs → IsShortRecord r → AllByRecursion IsShortRecord (rs ++ r ∷ [])
 all_more [] r all h = (h, tt)
 all_more (x ∷ rs) r all h = (all.0, all_more rs r all.1 h)
 

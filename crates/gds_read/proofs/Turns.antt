@@ -14,7 +14,7 @@ use Rattle.gds_records.specs.Language.{Language, Nothing}
 use Rattle.gds_records.specs.Derivative.{after}
 use Rattle.gds_records.specs.Records.{Record, record_with, trimmed}
 use Rattle.gds_records.specs.Table.{has_length_in}
-use Rattle.gds_records.specs.Values.{value_of, is_text, is_name, is_nanometre, is_rectangle, has_value, value_fault_in}
+use Rattle.gds_records.specs.Values.{unsigned_value, is_text, is_name, is_nanometre, is_rectangle, has_value, value_fault_in}
 use Rattle.gds_records.specs.WideValues.{last_colrow, rule, refers, points, is_ring, is_path, is_lattice, columns, rows}
 use Rattle.gds_records.specs.WideValues.{is_width, is_flip, is_one, is_turn, is_colrow, wide_fault_in}
 use Rattle.gds_records.specs.Profiles.{Profile as Streams}
@@ -159,7 +159,7 @@ untaken : (x : Profile) (element : ℕ) (colrow : List ℕ) (s t : Bool) (kind f
     ≡ (profile_of x).value_at element colrow t (record_with kind form held)
 untaken Strict element colrow s t kind form held same =
     ap (λ (v : Bool). elim (eqb kind 0x1A && eqb element 0x0A) as (λ (x : Bool). Option StreamKind) [
-      | true ↦ elim (eqb (value_of 0 held) 0) as (λ (x : Bool). Option StreamKind) [ true ↦ None | false ↦ Some Unsupported ]
+      | true ↦ elim (eqb (unsigned_value 0 held) 0) as (λ (x : Bool). Option StreamKind) [ true ↦ None | false ↦ Some Unsupported ]
       | false ↦ elim (eqb kind 0x10 && eqb element 0x08) as (λ (x : Bool). Option StreamKind) [
         | true ↦ elim (is_rectangle held) as (λ (x : Bool). Option StreamKind) [ true ↦ None | false ↦ Some NotRectangle ]
         | false ↦ elim v as (λ (x : Bool). Option StreamKind) [ true ↦ None | false ↦ Some Value ]
@@ -169,7 +169,7 @@ untaken Wide element colrow s t kind form held same =
     ap (λ (v : Bool). rule (eqb kind 0x1A && refers element) (is_flip held) Unsupported
     (rule (eqb kind 0x1B && refers element) (is_one held) Unsupported
     (rule (eqb kind 0x1C && refers element) (is_turn held) Unsupported
-    (rule (eqb kind 0x21 && eqb element 0x09) (eqb (value_of 0 held) 0 || eqb (value_of 0 held) 2) Unsupported
+    (rule (eqb kind 0x21 && eqb element 0x09) (eqb (unsigned_value 0 held) 0 || eqb (unsigned_value 0 held) 2) Unsupported
     (rule (eqb kind 0x10 && eqb element 0x08) (is_ring (points held)) NotRectangle
     (rule (eqb kind 0x10 && eqb element 0x09) (is_path (points held)) Value
     (rule (eqb kind 0x10 && eqb element 0x0B) (is_lattice (columns colrow) (rows colrow) (points held)) Value

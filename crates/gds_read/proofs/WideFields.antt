@@ -10,7 +10,7 @@ use Rattle.std.proofs.lemmas.Bool.Decides.{nat_tests}
 use Rattle.poly_cut.specs.declared.layout.Point.{Point}
 use Rattle.poly_cut.specs.Turns.{point}
 use Rattle.gds_records.specs.Scan.{IsBytes}
-use Rattle.gds_records.specs.Values.{at, value_of}
+use Rattle.gds_records.specs.Values.{at, unsigned_value}
 use Rattle.gds_records.specs.Drawing.{coordinate}
 use Rattle.gds_records.specs.WideValues.{some_points, points, is_multiple, is_lattice}
 use Rattle.gds_records.proofs.RectangleRings.{further}
@@ -113,15 +113,15 @@ at_fits xy f k = four_low (drop (4 * k) xy) (drop_is_bytes (4 * k) xy f)
 
 -- ---- numbers
 
-value_grows : (n : ℕ) (bs : List ℕ) → n ≤ value_of n bs
+value_grows : (n : ℕ) (bs : List ℕ) → n ≤ unsigned_value n bs
 value_grows n [] = omega arith
 value_grows n (b ∷ bs) = omega (arith, value_grows (n * 256 + b) bs)
 
 -- a number with more than its front of so many bytes is greater
 pub too_great : (bytes : List ℕ) (so_far i number : ℕ) → i < length bytes → number / 256 < so_far
-    → value_of so_far (drop i bytes) ≡ value_of 0 bytes → false ≡ nat_eq (value_of 0 bytes) number
+    → unsigned_value so_far (drop i bytes) ≡ unsigned_value 0 bytes → false ≡ nat_eq (unsigned_value 0 bytes) number
 too_great bytes so_far i number lt h e =
-    let next = ap (λ (l : List ℕ). value_of so_far l) (drop-cons bytes i 0 lt) in
-    let above : number < value_of 0 bytes
+    let next = ap (λ (l : List ℕ). unsigned_value so_far l) (drop-cons bytes i 0 lt) in
+    let above : number < unsigned_value 0 bytes
     = omega (arith, value_grows (so_far * 256 + get_or bytes i 0) (drop (suc i) bytes), next, e) in
     grind (arith, nat_tests)

@@ -29,7 +29,7 @@ use Rattle.gds_records.specs.declared.fault.StreamKind.TheVariants.{Unsupported,
 use Rattle.gds_records.specs.Language.{Language, One, Speaks}
 use Rattle.gds_records.specs.Grammar.{◌>>◌, maybe, flags, tail, reference, text, element}
 use Rattle.gds_records.specs.Records.{Record, spelled, kinds, number, trimmed}
-use Rattle.gds_records.specs.Values.{at, value_of, is_rectangle, is_structure_name, has_value, opener, value_fault_in}
+use Rattle.gds_records.specs.Values.{at, unsigned_value, is_rectangle, is_structure_name, has_value, opener, value_fault_in}
 use Rattle.gds_records.specs.WideValues.{points}
 use Rattle.gds_records.specs.Drawing.{starts, field, has, coordinate, box_of, place_of, element_of, element_parts, structure_of, names_of}
 use Rattle.gds_records.specs.WideDrawing.{point_at, turn_of, grid_of, figure_of, item_of, wide_structure_of}
@@ -154,16 +154,16 @@ zero_so false rect false xy h e f = absurd cc
 is_rectangle_so : (q : List Record) → Opened 8 in_boundary q → is_rectangle (field 16 q) ≡ true
 is_rectangle_so q o =
     let f = found 16 8 o.rest o.good (lacks 8 in_boundary (kinds o.rest) refl o.others) (lacks 10 in_boundary (kinds o.rest) refl o.others) (lacks 12 in_boundary (kinds o.rest) refl o.others) (holds 16 in_boundary (kinds o.rest) refl o.others) in
-    ap (λ (x : List ℕ). is_rectangle x) (o.same_field 16 refl ∙ f.content) ∙ rectangle_so (eqb (value_of 0 f.it.content) 0) (is_rectangle f.it.content) (eqb f.it.kind 26) (eqb f.it.kind 16) (has_value f.taken f.it) f.kind f.value
+    ap (λ (x : List ℕ). is_rectangle x) (o.same_field 16 refl ∙ f.content) ∙ rectangle_so (eqb (unsigned_value 0 f.it.content) 0) (is_rectangle f.it.content) (eqb f.it.kind 26) (eqb f.it.kind 16) (has_value f.taken f.it) f.kind f.value
 
-no_strans : (q : List Record) → Opened 10 in_reference q → eqb (value_of 0 (field 26 q)) 0 ≡ true
+no_strans : (q : List Record) → Opened 10 in_reference q → eqb (unsigned_value 0 (field 26 q)) 0 ≡ true
 no_strans q o = turn (has_kind 26 (kinds o.rest)) refl
   where
-    turn : (t : Bool) → has_kind 26 (kinds o.rest) ≡ t → eqb (value_of 0 (field 26 q)) 0 ≡ true
-    turn false e = ap (λ (x : List ℕ). eqb (value_of 0 x) 0) (o.same_field 26 refl ∙ no_field 26 o.rest e)
+    turn : (t : Bool) → has_kind 26 (kinds o.rest) ≡ t → eqb (unsigned_value 0 (field 26 q)) 0 ≡ true
+    turn false e = ap (λ (x : List ℕ). eqb (unsigned_value 0 x) 0) (o.same_field 26 refl ∙ no_field 26 o.rest e)
     turn true e =
         let f = found 26 10 o.rest o.good (lacks 8 in_reference (kinds o.rest) refl o.others) (lacks 10 in_reference (kinds o.rest) refl o.others) (lacks 12 in_reference (kinds o.rest) refl o.others) e in
-        ap (λ (x : List ℕ). eqb (value_of 0 x) 0) (o.same_field 26 refl ∙ f.content) ∙ zero_so (eqb (value_of 0 f.it.content) 0) (is_rectangle f.it.content) (eqb f.it.kind 26) (eqb f.it.kind 16) (has_value f.taken f.it) f.kind f.value
+        ap (λ (x : List ℕ). eqb (unsigned_value 0 x) 0) (o.same_field 26 refl ∙ f.content) ∙ zero_so (eqb (unsigned_value 0 f.it.content) 0) (is_rectangle f.it.content) (eqb f.it.kind 26) (eqb f.it.kind 16) (has_value f.taken f.it) f.kind f.value
 
 -- ---- elements and items
 
@@ -205,10 +205,10 @@ module _ (names : List (List ℕ)) (ring : (xy : List ℕ) → ((k : ℕ) → at
       let f : figure_of q ≡ Ring (points (field 16 q)) = rw (figure_of, b) refl in
       by_equals e (i ∙ ap (λ (x : Figure). Item.Draw (number (field 13 q)) (number (field 14 q)) x) f) (record { shapes = λ of. ap (λ (x : List Rectangle). map (shape (number (field 13 q)) (number (field 14 q))) x) (ring (field 16 q) fit r); labels = λ of. refl })
 
-  reference_alike : (q : List Record) → has 8 q ≡ false → has 9 q ≡ false → has 10 q ≡ true → has 0x13 q ≡ false → eqb (value_of 0 (field 26 q)) 0 ≡ true → field 0x1C q ≡ [] → Alike (element_of names q) (item_of names q)
+  reference_alike : (q : List Record) → has 8 q ≡ false → has 9 q ≡ false → has 10 q ≡ true → has 0x13 q ≡ false → eqb (unsigned_value 0 (field 26 q)) 0 ≡ true → field 0x1C q ≡ [] → Alike (element_of names q) (item_of names q)
   reference_alike q b p s c z a =
       let e : element_of names q ≡ Place (place_of (trimmed (field 18 q)) names) (coordinate (field 16 q) 0) (coordinate (field 16 q) 1) = rw (element_of, b, s) refl in
-      let t : turn_of q ≡ plain_turn = rw (a, eqb-true (value_of 0 (field 26 q)) 0 z) refl in
+      let t : turn_of q ≡ plain_turn = rw (a, eqb-true (unsigned_value 0 (field 26 q)) 0 z) refl in
       let g : grid_of q ≡ plain_grid = rw (grid_of, c) refl in
       let i : item_of names q ≡ Item.Place (place_of (trimmed (field 18 q)) names) (point_at (field 16 q) 0) (turn_of q) (grid_of q) = rw (item_of, b, p, s) refl in
       by_equals e (i ∙ (λ k. Item.Place (place_of (trimmed (field 18 q)) names) (point_at (field 16 q) 0) (t k) (g k))) (placed_alike (place_of (trimmed (field 18 q)) names) (coordinate (field 16 q) 0) (coordinate (field 16 q) 1))

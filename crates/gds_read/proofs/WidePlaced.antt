@@ -23,7 +23,7 @@ use Rattle.gds_records.specs.Language.{Language, One, Speaks}
 use Rattle.gds_records.specs.Grammar.{◌>>◌, maybe, flags, tail, turned, boundary, path, turned_reference, array, text, wide_element}
 use Rattle.gds_records.specs.Records.{Record, kinds, number, trimmed}
 use Rattle.gds_records.specs.Table.{wide_table, has_length_in}
-use Rattle.gds_records.specs.Values.{value_of}
+use Rattle.gds_records.specs.Values.{unsigned_value}
 use Rattle.gds_records.specs.WideValues.{some_points, points, is_ring, is_path, turns_from, turns, Way, Still, way, is_same, is_width, quarters, columns, rows, is_count, is_colrow, is_multiple, is_lattice, rule, wide_fault_in}
 use Rattle.gds_records.specs.WideDrawing.{point_at, step, turn_of, grid_of, figure_of, item_of, wide_structure_of}
 use Rattle.gds_records.specs.Drawing.{field, has, coordinate, place_of, element_parts}
@@ -133,9 +133,9 @@ width_half [] f h = absurd (omega (arith, h.long))
 width_half (a ∷ []) f h = absurd (omega (arith, h.long))
 width_half (a ∷ b ∷ []) f h = absurd (omega (arith, h.long))
 width_half (a ∷ b ∷ c ∷ []) f h = absurd (omega (arith, h.long))
-width_half (a ∷ b ∷ c ∷ d ∷ []) f h = halves (from_be_bytes w32 (a ∷ b ∷ c ∷ d ∷ [])) (value_of 0 (a ∷ b ∷ c ∷ d ∷ [])) (same_value a b c d) (omega (arith, f 0, f 1, f 2, f 3)) h.good
+width_half (a ∷ b ∷ c ∷ d ∷ []) f h = halves (from_be_bytes w32 (a ∷ b ∷ c ∷ d ∷ [])) (unsigned_value 0 (a ∷ b ∷ c ∷ d ∷ [])) (same_value a b c d) (omega (arith, f 0, f 1, f 2, f 3)) h.good
   where
-    same_value : (a b c d : ℕ) → from_be_bytes w32 (a ∷ b ∷ c ∷ d ∷ []) ≡ value_of 0 (a ∷ b ∷ c ∷ d ∷ [])
+    same_value : (a b c d : ℕ) → from_be_bytes w32 (a ∷ b ∷ c ∷ d ∷ []) ≡ unsigned_value 0 (a ∷ b ∷ c ∷ d ∷ [])
     same_value a b c d = omega arith
 
     even_so : (v : ℕ) → (eqb (v % 2) 0 && not (eqb v 0)) ≡ true → (v % 2 ≡ 0) × (0 < v)
@@ -146,7 +146,7 @@ width_half (a ∷ b ∷ c ∷ d ∷ []) f h = halves (from_be_bytes w32 (a ∷ b
 width_half (a ∷ b ∷ c ∷ d ∷ x ∷ w) f h = absurd (omega (arith, h.long))
 
 quarter_small : (angle : List ℕ) → (elim (quarters angle) as (λ (_ : Option ℕ). ℕ) [ Some n ↦ n | None ↦ 0 ]) < 4
-quarter_small angle = turn (eqb (value_of 0 angle) 0) (eqb (value_of 0 angle) 0x425A000000000000) (eqb (value_of 0 angle) 0x42B4000000000000) (eqb (value_of 0 angle) 0x4310E00000000000)
+quarter_small angle = turn (eqb (unsigned_value 0 angle) 0) (eqb (unsigned_value 0 angle) 0x425A000000000000) (eqb (unsigned_value 0 angle) 0x42B4000000000000) (eqb (unsigned_value 0 angle) 0x4310E00000000000)
   where
     turn : (a b c d : Bool) → (elim (elim a as (λ (_ : Bool). Option ℕ) [
       | true ↦ Some 0
@@ -269,7 +269,7 @@ module _ (names : List (List ℕ)) where
   path_is : (q : List Record) → IsBytes (field 16 q) → IsBytes (field 15 q) → has 8 q ≡ false → has 9 q ≡ true → is_path (points (field 16 q)) ≡ true → IsWidth (field 15 q) → IsItem (length names) (item_of names q)
   path_is q f w b p r h =
       let i : item_of names q ≡ Draw (number (field 13 q)) (number (field 14 q)) (figure_of q) = rw (item_of, b, p) refl in
-      let g : figure_of q ≡ Path (eqb (value_of 0 (field 0x21 q)) 2) (nat_abs (coordinate (field 15 q) 0) / 2) (turns (points (field 16 q))) = rw (figure_of, b) refl in
+      let g : figure_of q ≡ Path (eqb (unsigned_value 0 (field 0x21 q)) 2) (nat_abs (coordinate (field 15 q) 0) / 2) (turns (points (field 16 q))) = rw (figure_of, b) refl in
       let v = width_half (field 15 q) w h in
       subst (λ (x : Item). IsItem (length names) x) (sym (i ∙ ap (λ (x : Figure). Draw (number (field 13 q)) (number (field 14 q)) x) g))
       (record {

@@ -32,7 +32,7 @@ use Rattle.gds_read.specs.declared.refusal.StreamRefusal.{StreamRefusal}
 use Rattle.gds_read.specs.WideReading.{IsWideReadAs}
 use Rattle.gds_read.specs.Code.Bodies.{IsBody}
 use Rattle.gds_read.specs.Code.Decoding.{records_in}
-use Rattle.gds_read.specs.Code.Chains.{IsShort, AreShort}
+use Rattle.gds_read.specs.Code.Chains.{HasShortChains, HaveShortChains}
 use Rattle.gds_read.proofs.Kept.{starts_kept}
 use Rattle.gds_read.proofs.Words.{lacks, holds}
 use Rattle.gds_read.proofs.Shaped.{has_is, snames, snames_none, SpokenIn, IsShapedIn, named_once, shaped_in}
@@ -213,7 +213,7 @@ module _ (rs : List Record) (shapes : AllByRecursion (IsShapedIn wide_element) (
       ∙ ap (λ (x : List (List (List ℕ))). map (λ ts. map (λ t. place_of t (names_of rs)) ts) x) (told_names rs 0 shapes)
       ∙ numbers_drawn (names_of rs) (starts rs)
 
-  short_drawn : (ss : List NamedOutline) → map outline_of ss ≡ outlines 0 rs → IsShort ss → (n : ℕ) → goes_down 65 (wide_structures_of rs) n ≡ false
+  short_drawn : (ss : List NamedOutline) → map outline_of ss ≡ outlines 0 rs → HasShortChains ss → (n : ℕ) → goes_down 65 (wide_structures_of rs) n ≡ false
   unfolding is_long
   short_drawn ss same short n =
       chains_drawn (names_of rs) 65 (starts rs) shapes n ∙ ap (λ (g : List (List ℕ)). descends 65 g n) (sym (graph_drawn ss same)) ∙ short.each n
@@ -237,7 +237,7 @@ module _ (rs : List Record) (shapes : AllByRecursion (IsShapedIn wide_element) (
 
 -- what is read is a wide stream, and has a flat form
 pub wide_read : (bytes : List ℕ) (end : ℕ) (records : List ℕ) (layout : WideLayout) (r : Result WideLayout StreamRefusal) → IsBytes bytes → IsBody wide bytes end → records ≡ take end bytes
-    → layout ≡ wide_layout_of (records_in records) → wide_whole_fault (records_in records) ≡ None → AreShort (records_in records)
+    → layout ≡ wide_layout_of (records_in records) → wide_whole_fault (records_in records) ≡ None → HaveShortChains (records_in records)
     → IfOk r (λ taken. taken ≡ layout) → IfOk r (λ taken. wide_count layout ≤ 8000000) → IfOk r (λ taken. IsWideReadAs bytes taken)
 wide_read bytes end records layout (Err refusal) fits b front says none short same within = tt
 wide_read bytes end records layout (Ok taken) fits b front says none short same within =
@@ -245,7 +245,7 @@ wide_read bytes end records layout (Ok taken) fits b front says none short same 
     let e : records_in records ≡ rs = ap (λ (x : List ℕ). records_in x) front in
     let said : layout ≡ wide_layout_of rs = says ∙ ap (λ (x : List Record). wide_layout_of x) e in
     let no_fault : wide_whole_fault rs ≡ None = subst (λ (x : List Record). wide_whole_fault x ≡ None) e none in
-    let are_short : AreShort rs = subst (λ (x : List Record). AreShort x) e short in
+    let are_short : HaveShortChains rs = subst (λ (x : List Record). HaveShortChains x) e short in
     let shapes = shaped_in wide_element refl refl refl rs b.read.grammar in
     let low : IsBytes (flat_map spelled rs ++ drop end bytes) = subst (λ (x : List ℕ). IsBytes x) b.read.whole fits in
     let flat : IsFlattenable (wide_layout_of rs) =

@@ -27,6 +27,7 @@ IsPlaced count (Box s) = IsNarrow s.rect
 IsPlaced count (Place n x y) = (n < count) × FitsSigned w32 x × FitsSigned w32 y
 IsPlaced count (Text l) = FitsSigned w32 l.x × FitsSigned w32 l.y
 
+-- the top stands, coordinates take four bytes, references go one level down, at most 8,000,000 shapes and labels
 pub record IsFlattenable (layout : Layout) : Type 0 where
   pub top_stands : layout.top < length layout.structures
   pub each : All (λ s. All (IsPlaced (length layout.structures)) s.elements) layout.structures

@@ -2,7 +2,7 @@
 ghost use Rattle.std.specs.Prelude.{◌≡◌, ◌≢◌, ◌+◌, ◌*◌, ◌^◌, ◌<◌, ◌<ℤ◌, true, slice_index, ◌==◌};
 ghost use Rattle.std.specs.Int.{w32, cast_unsigned};
 ghost use Rattle.gds_records.specs.Records.{number};
-ghost use Rattle.gds_records.specs.Values.{at, is_rectangle, value_of};
+ghost use Rattle.gds_records.specs.Values.{at, is_rectangle, unsigned_value};
 ghost use Rattle.gds_records.specs.Drawing.{coordinate, lesser, greater, box_of};
 
 use geom::Rect;
@@ -53,7 +53,7 @@ pub fn coordinate(xy: &[u8], i: usize) -> i64
 
 /// Whether the bytes are this number, without sign.
 pub fn is_number(bytes: &[u8], number: u64) -> bool
-    ensures { result ≡ (value_of 0 bytes.now == number) }
+    ensures { result ≡ (unsigned_value 0 bytes.now == number) }
 {
     let mut so_far: u64 = 0;
     for b in bytes {

@@ -2,7 +2,7 @@
 ghost use Rattle.std.specs.Prelude.{◌≡◌, ℕ, ◌+◌, ◌<◌, ◌/◌, ◌==◌, ◌||◌, ◌-ℤ◌, pos, map, suc, nat_abs, int_div, true, false, IfOk};
 ghost use Rattle.gds_records.specs.Codes.{LAYER, DATATYPE, XY, PATHTYPE, WIDTH};
 ghost use Rattle.gds_records.specs.Records.{number};
-ghost use Rattle.gds_records.specs.Values.{value_of};
+ghost use Rattle.gds_records.specs.Values.{unsigned_value};
 ghost use Rattle.gds_records.specs.Drawing.{field, coordinate};
 ghost use Rattle.gds_records.specs.WideValues.{Still as still, quarters, turns_from, turns, points};
 ghost use Rattle.gds_records.specs.WideDrawing.{point_at, step, turn_of, grid_of, figure_of, item_of};

@@ -2,7 +2,7 @@
 ghost use Rattle.std.specs.Prelude.{◌≡◌, ℕ, ◌+◌, ◌*◌, ◌≤◌, ◌&&◌, length, drop, true, not, ◌==◌, IfOk};
 ghost use Rattle.gds_records.specs.Records.{record_with, trimmed};
 ghost use Rattle.gds_records.specs.Table.{has_length, has_length_in};
-ghost use Rattle.gds_records.specs.Values.{at, one_x, one_y, is_rectangle, holds_zero, is_text, is_name, is_nanometre, value_of, has_value, value_fault_in};
+ghost use Rattle.gds_records.specs.Values.{at, one_x, one_y, is_rectangle, holds_zero, is_text, is_name, is_nanometre, unsigned_value, has_value, value_fault_in};
 ghost use Rattle.gds_read.specs.Code.Profiles.{profile_of};
 
 use crate::profile::Profile;
@@ -119,7 +119,7 @@ pub fn is_rectangle(xy: &[u8]) -> bool
 // The mantissa of the second real of UNITS.
 fn mantissa(units: &[u8]) -> u64
     requires { length units.now ≡ 16 }
-    ensures { result ≡ value_of 0 (drop 9 units.now) }
+    ensures { result ≡ unsigned_value 0 (drop 9 units.now) }
 {
     let u = units;
     u64::from_be_bytes([0, u[9], u[10], u[11], u[12], u[13], u[14], u[15]])
@@ -136,14 +136,14 @@ fn is_nanometre(units: &[u8]) -> bool
 /// The number without sign in two bytes.
 pub fn flag_bits(flags: &[u8]) -> u16
     requires { length flags.now ≡ 2 }
-    ensures { result ≡ value_of 0 flags.now }
+    ensures { result ≡ unsigned_value 0 flags.now }
 {
     u16::from_be_bytes([flags[0], flags[1]])
 }
 
 fn is_zero(flags: &[u8]) -> bool
     requires { length flags.now ≡ 2 }
-    ensures { result ≡ (value_of 0 flags.now == 0) }
+    ensures { result ≡ (unsigned_value 0 flags.now == 0) }
 {
     flag_bits(flags) == 0
 }

@@ -4,7 +4,7 @@ ghost use Rattle.gds_records.specs.Profiles.{wide};
 ghost use Rattle.gds_records.specs.Whole.{all_uses, outlines, top_of};
 ghost use Rattle.gds_records.specs.WideWhole.{wide_whole_fault};
 ghost use Rattle.gds_read.specs.Code.Bodies.{IsWholeRefusal};
-ghost use Rattle.gds_read.specs.Code.Chains.{loop_or_long, IsShort};
+ghost use Rattle.gds_read.specs.Code.Chains.{loop_or_long, HasShortChains};
 ghost use Rattle.gds_read.specs.Code.Decoding.{IsSpelled, records_in};
 ghost use Rattle.gds_read.specs.Code.Outlining.{outline_of, names_in};
 ghost use Rattle.gds_read.specs.Code.Numbering.{IsNumbering, AreUsed};
@@ -33,7 +33,7 @@ fn loop_or_long(
 ) -> Result<Option<usize>, Memory>
     requires { IsNumbering numbers.now.entries (names_in structures.now) }
     ensures place { IfOk result (λ place. place ≡ loop_or_long (map outline_of structures.now)) }
-    ensures short { IfOk result (λ place. place ≡ None → IsShort structures.now) }
+    ensures short { IfOk result (λ place. place ≡ None → HasShortChains structures.now) }
 {
     loops_are_long();
     let graph = graph(alloc, structures, numbers)?;
@@ -62,7 +62,7 @@ pub fn wide_top_or_fault(
     requires outlines { map outline_of structures.now ≡ outlines 0 (records_in bytes.now) }
     requires numbers { IsNumbering numbers.now.entries (names_in structures.now) }
     requires used { AreUsed (texts used.now.keys) (all_uses (map outline_of structures.now)) }
-    ensures short { IfOk result (λ top. IsShort structures.now) }
+    ensures short { IfOk result (λ top. HasShortChains structures.now) }
     ensures none { IfOk result (λ top. wide_whole_fault (records_in bytes.now) ≡ None) }
     ensures top { IfOk result (λ top. top ≡ top_of (records_in bytes.now)) }
     ensures err { IfErr result (λ refusal. IsWholeRefusal wide (records_in bytes.now) refusal) }

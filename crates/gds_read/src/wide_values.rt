@@ -3,7 +3,7 @@ ghost use Rattle.std.specs.Prelude.{◌≡◌, ℕ, suc, ◌+◌, ◌<◌, ◌-�
 ghost use Rattle.gds_records.specs.declared.fault.StreamKind.TheVariants.{Unsupported};
 ghost use Rattle.gds_records.specs.Records.{record_with};
 ghost use Rattle.gds_records.specs.Table.{wide_table, has_length_in};
-ghost use Rattle.gds_records.specs.Values.{value_of};
+ghost use Rattle.gds_records.specs.Values.{unsigned_value};
 ghost use Rattle.gds_records.specs.Drawing.{coordinate};
 ghost use Rattle.gds_records.specs.WideValues.{points, is_ring, is_path, is_width, is_flip, is_one, quarters, is_turn, columns, rows, is_count, is_colrow, is_multiple, is_lattice, rule, refers, wide_fault_in};
 
@@ -51,7 +51,7 @@ fn is_track(alloc: Global, xy: &[u8]) -> Result<bool, Memory>
 
 fn width_bits(width: &[u8]) -> u32
     requires { length width.now ≡ 4 }
-    ensures { result ≡ value_of 0 width.now }
+    ensures { result ≡ unsigned_value 0 width.now }
 {
     u32::from_be_bytes([width[0], width[1], width[2], width[3]])
 }
@@ -74,7 +74,7 @@ fn is_flip(flags: &[u8]) -> bool
 
 fn has_known_ends(path_type: &[u8]) -> bool
     requires { length path_type.now ≡ 2 }
-    ensures { result ≡ (value_of 0 path_type.now == 0 || value_of 0 path_type.now == 2) }
+    ensures { result ≡ (unsigned_value 0 path_type.now == 0 || unsigned_value 0 path_type.now == 2) }
 {
     let bits = flag_bits(path_type);
     bits == 0 || bits == 2
@@ -83,7 +83,7 @@ fn has_known_ends(path_type: &[u8]) -> bool
 // The bits of an eight-byte real.
 fn real_bits(real: &[u8]) -> u64
     requires { length real.now ≡ 8 }
-    ensures { result ≡ value_of 0 real.now }
+    ensures { result ≡ unsigned_value 0 real.now }
 {
     let r = real;
     u64::from_be_bytes([r[0], r[1], r[2], r[3], r[4], r[5], r[6], r[7]])

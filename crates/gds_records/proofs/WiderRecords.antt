@@ -12,7 +12,7 @@ use Rattle.gds_records.specs.Codes.{HEADER, BGNLIB, LIBNAME, UNITS, ENDLIB, REFL
 use Rattle.gds_records.specs.Grammar.{maybe, boundary, reference, stream}
 use Rattle.gds_records.specs.Records.{Record, kinds, trimmed}
 use Rattle.gds_records.specs.Table.{Entry, Exactly, entry, entry_of, is_among, table, wide_table, known_in}
-use Rattle.gds_records.specs.Values.{at, value_of, is_rectangle, is_structure_name, has_value, opener, value_fault_in}
+use Rattle.gds_records.specs.Values.{at, unsigned_value, is_rectangle, is_structure_name, has_value, opener, value_fault_in}
 use Rattle.gds_records.specs.WideValues.{points, is_flip, is_one, is_turn, is_ring, is_path, is_lattice, columns, rows, is_width, is_colrow, wide_opener, last_colrow, rule, refers, wide_fault_in}
 use Rattle.gds_records.specs.WideDrawing.{AreFit}
 use Rattle.gds_records.specs.Profiles.{strict, wide}
@@ -262,12 +262,12 @@ value_within : (ring : (xy : List ℕ) → ((k : ℕ) → at xy k < 2 ^ 32) → 
 value_within ring el colrow taken r fits oe ok quiet h =
     let q : refers el ≡ eqb el 0x0A = or_none (eqb el 0x0A) (eqb el 0x0B) oe.array in
     ap (λ (b : Bool). rule (eqb r.kind 0x1A && b) (is_flip r.content) Unsupported (rule (eqb r.kind 0x1B && b) (is_one r.content) Unsupported (rule (eqb r.kind 0x1C && b) (is_turn r.content) Unsupported
-    (rule (eqb r.kind 0x21 && eqb el 0x09) (eqb (value_of 0 r.content) 0 || eqb (value_of 0 r.content) 2) Unsupported (rule (eqb r.kind 0x10 && eqb el 0x08) (is_ring (points r.content)) NotRectangle
+    (rule (eqb r.kind 0x21 && eqb el 0x09) (eqb (unsigned_value 0 r.content) 0 || eqb (unsigned_value 0 r.content) 2) Unsupported (rule (eqb r.kind 0x10 && eqb el 0x08) (is_ring (points r.content)) NotRectangle
     (rule (eqb r.kind 0x10 && eqb el 0x09) (is_path (points r.content)) Value (rule (eqb r.kind 0x10 && eqb el 0x0B) (is_lattice (columns colrow) (rows colrow) (points r.content)) Value
     (rule (eqb r.kind 0x0F && eqb el 0x09) (is_width r.content) Value (rule (eqb r.kind 0x13) (is_colrow r.content) Value (rule true (has_value taken r) Value None)))))))))) q
     ∙ rules_pass (eqb r.kind 0x1A && eqb el 0x0A) (eqb r.kind 0x10 && eqb el 0x08) (eqb r.kind 0x1B && eqb el 0x0A) (eqb r.kind 0x1C && eqb el 0x0A) (eqb r.kind 0x21 && eqb el 0x09) (eqb r.kind 0x10 && eqb el 0x09) (eqb r.kind 0x10 && eqb el 0x0B) (eqb r.kind 0x0F && eqb el 0x09) (eqb r.kind 0x13)
-    (eqb (value_of 0 r.content) 0) (is_flip r.content) (is_rectangle r.content) (is_ring (points r.content)) (is_one r.content) (is_turn r.content) (eqb (value_of 0 r.content) 0 || eqb (value_of 0 r.content) 2) (is_path (points r.content)) (is_lattice (columns colrow) (rows colrow) (points r.content)) (is_width r.content) (is_colrow r.content) (has_value taken r)
-    h (zero_flips (eqb (value_of 0 r.content) 0) (eqb (value_of 0 r.content) 0x8000)) (ring r.content fits)
+    (eqb (unsigned_value 0 r.content) 0) (is_flip r.content) (is_rectangle r.content) (is_ring (points r.content)) (is_one r.content) (is_turn r.content) (eqb (unsigned_value 0 r.content) 0 || eqb (unsigned_value 0 r.content) 2) (is_path (points r.content)) (is_lattice (columns colrow) (rows colrow) (points r.content)) (is_width r.content) (is_colrow r.content) (has_value taken r)
+    h (zero_flips (eqb (unsigned_value 0 r.content) 0) (eqb (unsigned_value 0 r.content) 0x8000)) (ring r.content fits)
     (or_left (eqb r.kind 0x1B) (eqb r.kind 0x1C) (eqb el 0x0A) quiet) (or_right (eqb r.kind 0x1B) (eqb r.kind 0x1C) (eqb el 0x0A) quiet)
     (and_none (eqb r.kind 0x21) (eqb el 0x09) oe.path) (and_none (eqb r.kind 0x10) (eqb el 0x09) oe.path) (and_none (eqb r.kind 0x10) (eqb el 0x0B) oe.array) (and_none (eqb r.kind 0x0F) (eqb el 0x09) oe.path) ok.colrow
 

@@ -50,6 +50,7 @@ after k (Then a b) = elim (speaks_nothing a) [
 after k (Either a b) = either (after k a) (after k b)
 after k (Many a) = then (after k a) (Many a)
 
+-- the words that follow these kinds in turn
 abbrev pub after_all : List ℕ → Language → Language
 after_all [] a = a
 after_all (k ∷ ks) a = after_all ks (after k a)

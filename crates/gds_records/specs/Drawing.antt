@@ -33,6 +33,7 @@ abbrev pub field : ℕ → List Record → List ℕ
 field kind [] = []
 field kind (r ∷ rs) = elim (r.kind == kind) [ true ↦ r.content | false ↦ field kind rs ]
 
+-- one of the records is of this kind
 abbrev pub has : ℕ → List Record → Bool
 has kind [] = false
 has kind (r ∷ rs) = elim (r.kind == kind) [ true ↦ true | false ↦ has kind rs ]
@@ -41,9 +42,11 @@ has kind (r ∷ rs) = elim (r.kind == kind) [ true ↦ true | false ↦ has kind
 abbrev pub coordinate : List ℕ → ℕ → ℤ
 coordinate bytes i = cast_signed w32 (from_be_bytes w32 (take 4 (drop (4 * i) bytes)))
 
+-- the lesser of two coordinates
 abbrev pub lesser : ℤ → ℤ → ℤ
 lesser a b = elim (int_le a b) [ true ↦ a | false ↦ b ]
 
+-- the greater of two coordinates
 abbrev pub greater : ℤ → ℤ → ℤ
 greater a b = elim (int_le a b) [ true ↦ b | false ↦ a ]
 
@@ -89,11 +92,14 @@ name_of rs = trimmed (field STRNAME rs)
 abbrev pub element_parts : List Record → List (List Record)
 element_parts rs = parts ENDEL [] (up_to ENDSTR (drop 1 rs))
 
+-- the structure whose BGNSTR these records follow, where the structures have these names
 abbrev pub structure_of : List (List ℕ) → List Record → Structure
 structure_of names rs = record { name = name_of rs; elements = map (element_of names) (element_parts rs) }
 
+-- the names of all structures of a stream, in order
 abbrev pub names_of : List Record → List (List ℕ)
 names_of rs = map name_of (starts rs)
 
+-- all structures of a stream, in order
 abbrev pub structures_of : List Record → List Structure
 structures_of rs = map (structure_of (names_of rs)) (starts rs)

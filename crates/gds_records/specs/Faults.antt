@@ -11,21 +11,27 @@ pub use Rattle.gds_records.specs.Profiled.{length_of, kind_of, form_of, here_rec
 pub use Rattle.gds_records.specs.Profiled.{own, order, value}
 pub use Rattle.gds_records.specs.Profiled.{at_record, at_end}
 
+-- the fault that the record at the front has by itself, in a strict stream
 abbrev pub own_fault : List ℕ → Option StreamKind
 own_fault = own_fault_in strict
 
+-- the first fault of what stands after these records of a strict stream
 abbrev pub IsFaultHere : List Record → List ℕ → StreamKind → Type 0
 IsFaultHere = IsFaultHereIn strict
 
+-- the first fault of bytes as a strict stream is at the record at this offset
 abbrev pub IsRecordFault : List ℕ → ℕ → StreamKind → Type 0
 IsRecordFault = IsRecordFaultIn strict
 
+-- the fault of a whole strict sentence of good records and of what stands after it
 abbrev pub end_fault : List Record → List ℕ → Option (ℕ × StreamKind)
 end_fault = end_fault_in strict
 
+-- the first fault of bytes as a strict stream is behind a whole sentence of good records
 abbrev pub IsEndFault : List ℕ → ℕ → StreamKind → Type 0
 IsEndFault = IsEndFaultIn strict
 
+-- the first fault of bytes that are no strict stream
 abbrev pub StreamFault : List ℕ → ℕ → StreamKind → Type 0
 StreamFault = IsFirstFaultIn strict
 

@@ -28,6 +28,7 @@ abbrev pub AreGoodIn : Profile → List Record → List Record → Type 0
 AreGoodIn p before [] = Unit {0}
 AreGoodIn p before (r ∷ rs) = IsGoodIn p before r × AreGoodIn p (before ++ r ∷ []) rs
 
+-- all bytes are zero, as those behind ENDLIB have to be
 abbrev pub are_zero : List ℕ → Bool
 are_zero [] = true
 are_zero (b ∷ bs) = b == 0 && are_zero bs
@@ -42,12 +43,15 @@ pub record IsReadIn (p : Profile) (bytes : List ℕ) (records : List Record) (re
 abbrev pub length_of : List ℕ → ℕ
 length_of b = from_be_bytes w16 (take 2 b)
 
+-- its record type, in the third byte
 abbrev pub kind_of : List ℕ → ℕ
 kind_of b = slice_index b 2
 
+-- its data type, in the fourth byte
 abbrev pub form_of : List ℕ → ℕ
 form_of b = slice_index b 3
 
+-- the record at the front of bytes, as long as its head says
 abbrev pub here_record : List ℕ → Record
 here_record b = record_with (kind_of b) (form_of b) (drop 4 (take (length_of b) b))
 
@@ -110,16 +114,19 @@ end_fault_in p rs rest = elim (are_zero rest) [
   | true ↦ p.whole_fault rs
 ]
 
+-- the bytes are a whole sentence of good records and a rest, and the fault is in the rest or in the whole
 pub record IsEndFaultIn (p : Profile) (bytes : List ℕ) (offset : ℕ) (k : StreamKind) : Type 0 where
   pub records : List Record
   pub rest : List ℕ
   pub read : IsReadIn p bytes records rest
   pub fault : end_fault_in p records rest ≡ Some (offset, k)
 
+-- the first fault of bytes, at this offset: at a record, or behind a whole sentence
 pub data IsFirstFaultIn (p : Profile) (bytes : List ℕ) (offset : ℕ) (k : StreamKind) : Type 0 where
   at_record : IsRecordFaultIn p bytes offset k → IsFirstFaultIn p bytes offset k
   at_end : IsEndFaultIn p bytes offset k → IsFirstFaultIn p bytes offset k
 
+-- each number is a byte, 0 to 255
 abbrev pub IsBytes : List ℕ → Type 0
 IsBytes bytes = (i : ℕ) → slice_index bytes i < 256
 
@@ -132,24 +139,29 @@ alive (Then a b) = alive a && alive b
 alive (Either a b) = alive a || alive b
 alive (Many a) = true
 
+-- a record's own fault; otherwise that it may not follow; otherwise what is wrong with its value
 abbrev pub fault_of : (own : Option StreamKind) (follows : Bool) (wrong : Option StreamKind) → Option StreamKind
 fault_of (Some k) follows wrong = Some k
 fault_of None false wrong = Some Order
 fault_of None true wrong = wrong
 
+-- what a scan comes to: a fault at a record, the records to ENDLIB and the bytes behind it, or neither so far
 pub data Scanned : Type 0 where
   Faulty : (offset : ℕ) (kind : StreamKind) → Scanned
   Whole : (records : List Record) (rest : List ℕ) → Scanned
   Unfinished : Scanned
 
+-- the records of a scan that came to ENDLIB, and otherwise none
 abbrev pub records_in : Scanned → List Record
 records_in (Faulty o k) = []
 records_in (Whole rs rest) = rs
 records_in Unfinished = []
 
+-- a record of this type may stand after these records
 abbrev pub may_follow_in : Profile → List Record → ℕ → Bool
 may_follow_in p before kind = alive (after kind (after_all (kinds before) p.language))
 
+-- what is wrong with the record at the front of bytes, after these records
 abbrev pub fault_here_in : Profile → List Record → List ℕ → Option StreamKind
 fault_here_in p before b =
     fault_of (own_fault_in p b) (may_follow_in p before (kind_of b)) (value_fault_of p before (here_record b))
@@ -165,10 +177,12 @@ scan_in p (suc n) before b = elim (fault_here_in p before b) [
   ]
 ]
 
+-- the fault that a scan found: at a record, or at ENDLIB that of the whole
 abbrev pub found_in : Profile → Scanned → Option (ℕ × StreamKind)
 found_in p (Faulty o k) = Some (o, k)
 found_in p (Whole rs rest) = end_fault_in p rs rest
 found_in p Unfinished = None
 
+-- the offset and the kind of the first fault of bytes, if there is one
 abbrev pub first_fault_in : Profile → List ℕ → Option (ℕ × StreamKind)
 first_fault_in p bytes = found_in p (scan_in p (suc (length bytes)) [] bytes)

@@ -11,6 +11,7 @@ use Rattle.gds_records.specs.Whole.{whole_fault}
 use Rattle.gds_records.specs.WideValues.{wide_opener, last_colrow, wide_fault_in}
 use Rattle.gds_records.specs.WideWhole.{wide_whole_fault}
 
+-- a kind of stream: its grammar, its table, and what its values and its whole have to be
 pub record Profile : Type 0 where
   pub language : Language
   pub records : List Entry

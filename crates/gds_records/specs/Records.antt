@@ -3,11 +3,13 @@
 use Rattle.std.specs.Prelude.{ℕ, zero, suc, ◌+◌, ◌==◌, List, [], ◌∷◌, ◌++◌, Bool, true, false, length, map}
 use Rattle.std.specs.Int.{w16, to_be_bytes, from_be_bytes}
 
+-- a record type, a data type, and the data without the head
 pub record Record : Type 0 where
   pub kind : ℕ
   pub form : ℕ
   pub content : List ℕ
 
+-- a record from its record type, data type and data
 abbrev pub record_with : ℕ → ℕ → List ℕ → Record
 record_with kind form content = record { kind = kind; form = form; content = content }
 

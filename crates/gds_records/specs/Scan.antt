@@ -9,23 +9,30 @@ use Rattle.gds_records.specs.Stream.{layout_of, wide_layout_of}
 use Rattle.gds_records.specs.Profiled.{may_follow_in, fault_here_in, scan_in, found_in, first_fault_in}
 pub use Rattle.gds_records.specs.Profiled.{IsBytes, alive, fault_of, Scanned, Faulty, Whole, Unfinished, records_in}
 
+-- in a strict stream, a record of this type may stand after these records
 abbrev pub may_follow : List Record → ℕ → Bool
 may_follow = may_follow_in strict
 
+-- what is wrong with the record at the front of bytes, after these records of a strict stream
 abbrev pub fault_here : List Record → List ℕ → Option StreamKind
 fault_here = fault_here_in strict
 
+-- the records of a strict stream from here on, up to the first fault
 abbrev pub scan : ℕ → List Record → List ℕ → Scanned
 scan = scan_in strict
 
+-- the fault that a scan of a strict stream found, if there is one
 abbrev pub fault_in : Scanned → Option (ℕ × StreamKind)
 fault_in = found_in strict
 
+-- the offset and the kind of the first fault of bytes as a strict stream, if there is one
 abbrev pub first_fault : List ℕ → Option (ℕ × StreamKind)
 first_fault = first_fault_in strict
 
+-- the layout of the records that a scan of a strict stream finds
 abbrev pub layout_in : List ℕ → Layout
 layout_in bytes = layout_of (records_in (scan (suc (length bytes)) [] bytes))
 
+-- the layout of the records that a scan of a wide stream finds
 abbrev pub wide_layout_in : List ℕ → WideLayout
 wide_layout_in bytes = wide_layout_of (records_in (scan_in wide (suc (length bytes)) [] bytes))

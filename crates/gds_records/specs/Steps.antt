@@ -12,6 +12,7 @@ use Rattle.gds_records.specs.Profiles.{Profile}
 use Rattle.gds_records.specs.Profiled.{own_fault_in, kind_of, length_of, here_record}
 use Rattle.gds_records.specs.Profiled.{alive, fault_of, Scanned, Faulty, Whole, Unfinished}
 
+-- the name is one of these
 abbrev pub is_listed : List ℕ → List (List ℕ) → Bool
 is_listed name [] = false
 is_listed name (n ∷ ns) = same name n || is_listed name ns
@@ -48,6 +49,7 @@ value_here p k b =
 abbrev pub step_fault : Profile → Language → Kept → List ℕ → Option StreamKind
 step_fault p l k b = fault_of (own_fault_in p b) (alive (after (kind_of b) l)) (value_here p k b)
 
+-- what reading comes to: stopped by a fault, ended after ENDLIB with a rest, or neither so far
 pub data Told : Type 0 where
   Stopped : (offset : ℕ) (kind : StreamKind) → Told
   Ended : (offset : ℕ) (rest : List ℕ) → Told
@@ -68,6 +70,7 @@ steps p (suc n) l k o b = elim (step_fault p l k b) [
 unfoldable pub all_steps : Profile → List ℕ → Told
 all_steps p bytes = steps p (suc (length bytes)) p.language nothing_kept 0 bytes
 
+-- what a scan tells without its records
 abbrev pub told : Scanned → Told
 told (Faulty o k) = Stopped o k
 told (Whole rs rest) = Ended (length (flat_map spelled rs)) rest

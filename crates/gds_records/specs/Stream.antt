@@ -12,15 +12,19 @@ pub use Rattle.gds_records.specs.Profiled.{are_zero}
 
 -- ---- strict streams
 
+-- good in a strict stream, after the records before
 abbrev pub IsGood : List Record → Record → Type 0
 IsGood = IsGoodIn strict
 
+-- each is good in a strict stream, after what stands before it
 abbrev pub AreGood : List Record → List Record → Type 0
 AreGood = AreGoodIn strict
 
+-- the bytes are these records, a strict sentence of good ones, and then the rest
 abbrev pub IsRead : List ℕ → List Record → List ℕ → Type 0
 IsRead = IsReadIn strict
 
+-- the layout that the records of a strict stream say
 abbrev pub layout_of : List Record → Layout
 layout_of rs = record { structures = structures_of rs; top = top_of rs }
 
@@ -35,9 +39,11 @@ pub record IsStream (bytes : List ℕ) (layout : Layout) : Type 0 where
 
 -- ---- wide streams
 
+-- the layout that the records of a wide stream say
 abbrev pub wide_layout_of : List Record → WideLayout
 wide_layout_of rs = record { structures = wide_structures_of rs; top = top_of rs }
 
+-- as for a strict stream, with the grammar, values and conditions of wide ones
 pub record IsWideStream (bytes : List ℕ) (layout : WideLayout) : Type 0 where
   pub records : List Record
   pub rest : List ℕ

@@ -21,6 +21,7 @@ abbrev pub is_structure_name : List ℕ → List Record → Bool
 is_structure_name name [] = false
 is_structure_name name (r ∷ rs) = r.kind == STRNAME && same name (trimmed r.content) || is_structure_name name rs
 
+-- one of the bytes is zero
 abbrev pub holds_zero : List ℕ → Bool
 holds_zero [] = false
 holds_zero (b ∷ bs) = b == 0 || holds_zero bs
@@ -29,18 +30,19 @@ holds_zero (b ∷ bs) = b == 0 || holds_zero bs
 abbrev pub is_text : List ℕ → Bool
 is_text content = not (holds_zero (trimmed content))
 
+-- a name is a text with at least one byte
 abbrev pub is_name : List ℕ → Bool
 is_name content = not (length (trimmed content) == 0) && is_text content
 
 -- the number in these bytes, without sign
-abbrev pub value_of : ℕ → List ℕ → ℕ
-value_of so_far [] = so_far
-value_of so_far (b ∷ bs) = value_of (so_far * 256 + b) bs
+abbrev pub unsigned_value : ℕ → List ℕ → ℕ
+unsigned_value so_far [] = so_far
+unsigned_value so_far (b ∷ bs) = unsigned_value (so_far * 256 + b) bs
 
 -- the second real of UNITS is one nanometre in metres, with room for rounding
 abbrev pub is_nanometre : List ℕ → Bool
-is_nanometre content = slice_index content 8 == 0x39 && not (nat_lt (value_of 0 (drop 9 content)) 0x44B82FA0000000)
-    && nat_lt (value_of 0 (drop 9 content)) 0x44B82FA1000000
+is_nanometre content = slice_index content 8 == 0x39 && not (nat_lt (unsigned_value 0 (drop 9 content)) 0x44B82FA0000000)
+    && nat_lt (unsigned_value 0 (drop 9 content)) 0x44B82FA1000000
 
 -- coordinate i of an XY, as its bits
 abbrev pub at : List ℕ → ℕ → ℕ
@@ -50,6 +52,7 @@ at xy i = from_be_bytes w32 (take 4 (drop (4 * i) xy))
 abbrev pub one_x : List ℕ → ℕ → ℕ → Bool
 one_x xy i j = at xy (2 * i) == at xy (2 * j)
 
+-- points i and j have one y
 abbrev pub one_y : List ℕ → ℕ → ℕ → Bool
 one_y xy i j = at xy (2 * i + 1) == at xy (2 * j + 1)
 
@@ -82,7 +85,7 @@ has_value taken r =
 abbrev pub value_fault_in : ℕ → Bool → Record → Option StreamKind
 value_fault_in element taken r =
     elim (r.kind == STRANS && element == SREF) [
-      | true ↦ elim (value_of 0 r.content == 0) [ true ↦ None | false ↦ Some Unsupported ]
+      | true ↦ elim (unsigned_value 0 r.content == 0) [ true ↦ None | false ↦ Some Unsupported ]
       | false ↦ elim (r.kind == XY && element == BOUNDARY) [
         | true ↦ elim (is_rectangle r.content) [ true ↦ None | false ↦ Some NotRectangle ]
         | false ↦ elim (has_value taken r) [ true ↦ None | false ↦ Some Value ]

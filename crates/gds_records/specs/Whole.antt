@@ -44,14 +44,17 @@ abbrev pub last_place : ℕ → List Record → ℕ
 last_place o [] = o
 last_place o (r ∷ rs) = elim (r.kind == ENDLIB) [ true ↦ o | false ↦ last_place (o + (4 + length r.content)) rs ]
 
+-- one of these structures has this name
 abbrev pub is_defined : List ℕ → List Outline → Bool
 is_defined name [] = false
 is_defined name (s ∷ ss) = same name s.name || is_defined name ss
 
+-- one of these references is to this name
 abbrev pub is_used : List ℕ → List Use → Bool
 is_used name [] = false
 is_used name (u ∷ us) = same name u.name || is_used name us
 
+-- the references in all of these structures, in order
 abbrev pub all_uses : List Outline → List Use
 all_uses [] = []
 all_uses (s ∷ ss) = s.uses ++ all_uses ss
@@ -71,6 +74,7 @@ abbrev pub tops : ℕ → List Use → List Outline → List (ℕ × ℕ)
 tops n us [] = []
 tops n us (s ∷ ss) = elim (is_used s.name us) [ true ↦ tops (suc n) us ss | false ↦ (n, s.place) ∷ tops (suc n) us ss ]
 
+-- the number of the first of these structures, and 0 where there is none
 abbrev pub top_in : List (ℕ × ℕ) → ℕ
 top_in [] = 0
 top_in (t ∷ ts) = t.0
@@ -81,6 +85,7 @@ top_fault o [] = Some (o, NoTop)
 top_fault o (t ∷ []) = None
 top_fault o (t ∷ s ∷ ts) = Some (s.1, SeveralTops)
 
+-- the first fault of the whole by its references and structures, where o is the place of ENDLIB
 abbrev pub outlines_fault : ℕ → List Use → List Outline → Option (ℕ × StreamKind)
 outlines_fault o us ss = elim (unknown us ss) [
   | Some p ↦ Some (p, UnknownName)

@@ -14,7 +14,7 @@ use Rattle.gds_records.specs.Codes.{BOUNDARY, PATH, SREF, AREF, LAYER, DATATYPE,
 use Rattle.gds_records.specs.Codes.{PATHTYPE, WIDTH, COLROW}
 use Rattle.gds_records.specs.Records.{Record, number, trimmed}
 use Rattle.std.specs.List.{AllByRecursion}
-use Rattle.gds_records.specs.Values.{value_of, at}
+use Rattle.gds_records.specs.Values.{unsigned_value, at}
 use Rattle.gds_records.specs.Drawing.{starts, field, has, coordinate, place_of, name_of, names_of, element_parts}
 use Rattle.gds_records.specs.WideValues.{points, turns, quarters, columns, rows}
 
@@ -22,15 +22,18 @@ use Rattle.gds_records.specs.WideValues.{points, turns, quarters, columns, rows}
 abbrev pub point_at : List ℕ → ℕ → Point
 point_at xy i = point (coordinate xy (2 * i)) (coordinate xy (2 * i + 1))
 
+-- the step that leads from p to q in n times
 abbrev pub step : ℕ → Point → Point → Point
 step n p q = point (int_div (q.x -ℤ p.x) (pos n)) (int_div (q.y -ℤ p.y) (pos n))
 
+-- how a reference is turned: STRANS says whether it is mirrored, ANGLE the quarter turns; without them it is not
 abbrev pub turn_of : List Record → Turn
 turn_of rs = record {
-  mirror = value_of 0 (field STRANS rs) == 0x8000;
+  mirror = unsigned_value 0 (field STRANS rs) == 0x8000;
   quarter = elim (quarters (field ANGLE rs)) [ Some n ↦ n | None ↦ 0 ];
 }
 
+-- where a reference repeats its structure: an AREF by its columns and rows, an SREF at its own point alone
 abbrev pub grid_of : List Record → Grid
 grid_of rs = elim (has COLROW rs) [
   | true ↦ record {
@@ -42,15 +45,17 @@ grid_of rs = elim (has COLROW rs) [
   | false ↦ record { columns = 1; rows = 1; column_step = point (pos 0) (pos 0); row_step = point (pos 0) (pos 0) }
 ]
 
+-- what a boundary or a path draws; a path's ends are extended with PATHTYPE 2, and half its WIDTH is kept
 abbrev pub figure_of : List Record → Figure
 figure_of rs = elim (has BOUNDARY rs) [
   | true ↦ Ring (points (field XY rs))
   | false ↦ Path
-      (value_of 0 (field PATHTYPE rs) == 2)
+      (unsigned_value 0 (field PATHTYPE rs) == 2)
       (nat_abs (coordinate (field WIDTH rs) 0) / 2)
       (turns (points (field XY rs)))
 ]
 
+-- the item that an element's records say, where the structures have these names
 abbrev pub item_of : List (List ℕ) → List Record → Item
 item_of names rs = elim (has BOUNDARY rs || has PATH rs) [
   | true ↦ Draw (number (field LAYER rs)) (number (field DATATYPE rs)) (figure_of rs)
@@ -65,9 +70,11 @@ item_of names rs = elim (has BOUNDARY rs || has PATH rs) [
   ]
 ]
 
+-- the structure whose BGNSTR these records follow, where the structures have these names
 abbrev pub wide_structure_of : List (List ℕ) → List Record → WideStructure
 wide_structure_of names rs = record { name = name_of rs; items = map (item_of names) (element_parts rs) }
 
+-- all structures of a wide stream, in order
 abbrev pub wide_structures_of : List Record → List WideStructure
 wide_structures_of rs = map (wide_structure_of (names_of rs)) (starts rs)
 

@@ -11,6 +11,7 @@ abbrev pub uses_by : List ℕ → List Outline → List Use
 uses_by name [] = []
 uses_by name (s ∷ ss) = elim (same name s.name) [ true ↦ s.uses | false ↦ uses_by name ss ]
 
+-- some reference is to a name that passes the test
 abbrev pub some_use : (List ℕ → Bool) → List Use → Bool
 some_use test [] = false
 some_use test (u ∷ us) = test u.name || some_use test us
@@ -39,6 +40,7 @@ abbrev pub first_long : List Outline → List Outline → Option ℕ
 first_long all [] = None
 first_long all (s ∷ ss) = elim (goes_down 65 all s.name) [ true ↦ Some s.place | false ↦ first_long all ss ]
 
+-- a fault of this kind at this place, where there is one, and otherwise the other fault
 abbrev pub first_of : Option ℕ → StreamKind → Option (ℕ × StreamKind) → Option (ℕ × StreamKind)
 first_of (Some place) kind others = Some (place, kind)
 first_of None kind others = others
@@ -51,5 +53,6 @@ wide_outlines_fault o ss =
     (first_of (first_long ss ss) Unsupported
     (top_fault o (tops 0 (all_uses ss) ss))))
 
+-- the first fault of the whole of a wide stream, in the order of the conditions
 abbrev pub wide_whole_fault : List Record → Option (ℕ × StreamKind)
 wide_whole_fault rs = wide_outlines_fault (last_place 0 rs) (outlines 0 rs)

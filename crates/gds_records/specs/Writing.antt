@@ -13,9 +13,11 @@ use Rattle.gds_records.specs.Codes.{TEXT, LAYER, DATATYPE, XY, ENDEL, SNAME, TEX
 use Rattle.gds_records.specs.Codes.{TWO_BYTE_INTEGER, FOUR_BYTE_INTEGER, EIGHT_BYTE_REAL, ASCII_STRING}
 use Rattle.gds_records.specs.Records.{Record, record_with, spelled}
 
+-- a number below 65,536 as two bytes, the high one first
 abbrev pub two_bytes : ℕ → List ℕ
 two_bytes n = to_be_bytes w16 n
 
+-- a signed number as four bytes of two's complement, the high one first
 abbrev pub four_bytes : ℤ → List ℕ
 four_bytes z = to_be_bytes w32 (cast_unsigned w32 z)
 
@@ -23,6 +25,7 @@ four_bytes z = to_be_bytes w32 (cast_unsigned w32 z)
 abbrev pub padded : List ℕ → List ℕ
 padded text = text ++ (if length text % 2 == 0 then [] else (0 ∷ []))
 
+-- the eight bytes of a point, x before y
 abbrev pub point : ℤ → ℤ → List ℕ
 point x y = four_bytes x ++ four_bytes y
 
@@ -33,6 +36,7 @@ corner_bits x0 y0 x1 y1 =
     to_be_bytes w32 x0 ++ to_be_bytes w32 y0 ++ to_be_bytes w32 x1 ++ to_be_bytes w32 y0 ++ to_be_bytes w32 x1
     ++ to_be_bytes w32 y1 ++ to_be_bytes w32 x0 ++ to_be_bytes w32 y1 ++ to_be_bytes w32 x0 ++ to_be_bytes w32 y0
 
+-- the forty bytes of a rectangle's XY: its four corners, and the first once more
 abbrev pub corners : Rectangle → List ℕ
 corners r = corner_bits
     (cast_unsigned w32 r.x0)
@@ -40,6 +44,7 @@ corners r = corner_bits
     (cast_unsigned w32 r.x1)
     (cast_unsigned w32 r.y1)
 
+-- the records of an element, from BOUNDARY, SREF or TEXT to ENDEL, where the structures have these names
 abbrev pub element_records : List (List ℕ) → Element → List Record
 element_records names (Box s) =
     record_with BOUNDARY NO_DATA []
@@ -71,6 +76,7 @@ date = two_bytes 1970 ++ two_bytes 1 ++ two_bytes 1 ++ two_bytes 0 ++ two_bytes 
 abbrev pub dates : List ℕ
 dates = date ++ date
 
+-- the records of a structure, from BGNSTR to ENDSTR, where the structures have these names
 abbrev pub structure_records : List (List ℕ) → Structure → List Record
 structure_records names s = record_with BGNSTR TWO_BYTE_INTEGER dates
     ∷ record_with STRNAME ASCII_STRING (padded s.name) ∷ flat_map (element_records names) s.elements
@@ -94,8 +100,10 @@ library_head =
     ∷ record_with UNITS EIGHT_BYTE_REAL units
     ∷ []
 
+-- all records of a stream of these structures, from HEADER to ENDLIB
 abbrev pub records_of : List Structure → List Record
 records_of ss = library_head ++ flat_map (structure_records (names_in ss)) ss ++ record_with ENDLIB NO_DATA [] ∷ []
 
+-- the bytes that the writer makes of a layout
 unfoldable pub bytes_of : Layout → List ℕ
 bytes_of layout = flat_map spelled (records_of layout.structures)

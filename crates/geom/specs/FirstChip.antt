@@ -10,7 +10,8 @@ use Rattle.geom.specs.FlatForm.{flat_of}
 
 -- a rectangle of a layer and a datatype
 abbrev pub drawn : ℕ → ℕ → ℤ → ℤ → ℤ → ℤ → Shape
-drawn layer datatype x0 y0 x1 y1 = record { layer = layer; datatype = datatype; rect = record { x0 = x0; y0 = y0; x1 = x1; y1 = y1 } }
+drawn layer datatype x0 y0 x1 y1 =
+    record { layer = layer; datatype = datatype; rect = record { x0 = x0; y0 = y0; x1 = x1; y1 = y1 } }
 
 -- a label of the label layer
 abbrev pub labelled : ℤ → ℤ → List ℕ → Label

@@ -1,5 +1,5 @@
--- The flat form of a layout: its shapes and labels without references (GDSII Stream Format manual: a structure reference
--- stands for what the named structure holds, moved).
+-- The flat form of a layout: its shapes and labels without references (GDSII Stream Format manual: a structure
+-- reference stands for what the named structure holds, moved).
 use Rattle.std.specs.Prelude.{ℕ, ℤ, ◌+ℤ◌, ◌+◌, List, [], ◌∷◌, ◌++◌, map, length, Option, Some, None, slice_get}
 use Rattle.geom.specs.Rectangle.{moved}
 use Rattle.geom.specs.declared.shapes.Shape.{Shape}

@@ -1,5 +1,6 @@
 -- Rectangles with sides along the axes, in database units of one nanometre.
-use Rattle.std.specs.Prelude.{◌≡◌, ℕ, List, slice_get, Some, Bool, max, ℤ, pos, negsuc, ◌<ℤ◌, ◌≤ℤ◌, ◌+ℤ◌, ◌-ℤ◌, int_le, int_lt, ◌&&◌}
+use Rattle.std.specs.Prelude.{◌≡◌, ℕ, List, slice_get, Some, Bool, max, ℤ, pos, negsuc, ◌<ℤ◌, ◌≤ℤ◌, ◌+ℤ◌, ◌-ℤ◌, int_le}
+use Rattle.std.specs.Prelude.{int_lt, ◌&&◌}
 use Rattle.std.specs.Int.{int_min, int_max}
 
 -- what a contract sees of a rectangle: its lower left corner and its upper right corner
@@ -81,7 +82,8 @@ gap_y a b = max (positive_part (a.y0 -ℤ b.y1)) (positive_part (b.y0 -ℤ a.y1)
 
 -- the rectangle grown by a margin on all sides
 abbrev pub grown : ℕ → Rectangle → Rectangle
-grown margin r = record { x0 = r.x0 -ℤ pos margin; y0 = r.y0 -ℤ pos margin; x1 = r.x1 +ℤ pos margin; y1 = r.y1 +ℤ pos margin }
+grown margin r =
+    record { x0 = r.x0 -ℤ pos margin; y0 = r.y0 -ℤ pos margin; x1 = r.x1 +ℤ pos margin; y1 = r.y1 +ℤ pos margin }
 
 -- the rectangle moved by a vector
 abbrev pub moved : ℤ → ℤ → Rectangle → Rectangle

@@ -1,6 +1,7 @@
--- Layouts that can be written as a stream (GDSII Stream Format manual: lengths of names, four-byte coordinates, and structures
--- that are referenced to one depth, from one top).
-use Rattle.std.specs.Prelude.{◌≡◌, ◌≢◌, ℕ, ◌<◌, ◌≤◌, ◌^◌, ◌==◌, ◌||◌, List, [], ◌∷◌, Bool, true, false, length, map, All, AllPairs, FitsSigned}
+-- Layouts that can be written as a stream (GDSII Stream Format manual: lengths of names, four-byte coordinates, and
+-- structures that are referenced to one depth, from one top).
+use Rattle.std.specs.Prelude.{◌≡◌, ◌≢◌, ℕ, ◌<◌, ◌≤◌, ◌^◌, ◌==◌, ◌||◌, List, [], ◌∷◌, Bool, true, false, length, map}
+use Rattle.std.specs.Prelude.{All, AllPairs, FitsSigned}
 use Rattle.std.specs.Int.{w32}
 use Rattle.geom.specs.Rectangle.{IsProper}
 use Rattle.geom.specs.declared.shapes.Shape.{Shape}
@@ -66,12 +67,14 @@ is_referenced n (s ∷ ss) = refers_to n s.elements || is_referenced n ss
 abbrev pub names_in : List Structure → List (List ℕ)
 names_in ss = map (λ s. s.name) ss
 
--- each structure can be written, no two have one name, what is referenced holds no reference, and every structure but the
--- top is referenced
+-- each structure can be written, no two have one name, what is referenced holds no reference, and every structure but
+-- the top is referenced
 pub record IsWritable (layout : Layout) : Type 0 where
   pub each : All (IsWritableStructure (length layout.structures)) layout.structures
   pub distinct : AllPairs (λ a b. a ≢ b) (names_in layout.structures)
-  pub shallow : (n : ℕ) → is_referenced n layout.structures ≡ true → holds_reference (elements_at layout.structures n) ≡ false
+  pub shallow : (n : ℕ) → is_referenced n layout.structures ≡ true
+      → holds_reference (elements_at layout.structures n) ≡ false
   pub top_stands : layout.top < length layout.structures
   pub top_is_free : is_referenced layout.top layout.structures ≡ false
-  pub others_are_used : (n : ℕ) → n < length layout.structures → n ≢ layout.top → is_referenced n layout.structures ≡ true
+  pub others_are_used : (n : ℕ) → n < length layout.structures → n ≢ layout.top
+      → is_referenced n layout.structures ≡ true

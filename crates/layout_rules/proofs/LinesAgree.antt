@@ -5,7 +5,7 @@ use Rattle.geom.specs.declared.shapes.Shape.{Shape}
 use Rattle.layout_rules.specs.declared.layers.TheConstants.{EVEN_LINE, ODD_LINE, BAR, START}
 use Rattle.layout_rules.specs.Reports.{ReportsNone, Alone, Afterwards, IsFirstReport}
 use Rattle.layout_rules.proofs.ReportLaws.{first_kept, second_kept, alone_kept}
-use Rattle.layout_rules.specs.ExcitationLines.{IsPart, IsChain, HasPhase, leaves}
+use Rattle.layout_rules.specs.ExcitationLines.{IsPart, IsChain, BarHasPhase, leaves}
 use Rattle.layout_rules.specs.ExcitationRule.{LacksOneStart, IsMisjoined, IsCutOff, AreLaidOut, LeavesWrongly, IsNotCrossed, IsExcited, IsUnexcited, ExcitationBroken}
 use Rattle.layout_rules.specs.Code.LineChains.{NeverTurnsBack, ChainBefore, HasChainPhase}
 use Rattle.layout_rules.specs.Code.ChainRule.{ChainLeavesWrongly, IsChainUncrossed, IsChainExcited, IsChainUnexcited, ChainsBroken}
@@ -36,7 +36,7 @@ over_bar shapes b after bar chain = by_rest chain.rest chain.chain chain.onward
     by_rest [] is onward = absurd (start_no_bar (sym is.1.datatype_is ∙ ap (λ (s : Shape). s.datatype) (same_Some is.1.shape bar.shape (sym is.1.shape_is ∙ bar.shape_is)) ∙ bar.datatype_is))
     by_rest (c ∷ rest) is onward = (c, (record { rest = rest; chain = is.1; onward = onward.1 }, onward.0))
 
-pub chain_phase : (shapes : List Shape) (b phase : ℕ) → HasPhase shapes b phase → HasChainPhase shapes b phase
+pub chain_phase : (shapes : List Shape) (b phase : ℕ) → BarHasPhase shapes b phase → HasChainPhase shapes b phase
 chain_phase shapes b phase has = record {
   is_bar = has.is_bar;
   before = has.before;
@@ -57,7 +57,7 @@ chain_excited shapes frame is = record {
 }
 
 module _ (shapes : List Shape) (lines : AreLaidOut shapes) (cut : ReportsNone (Alone (IsCutOff shapes))) where
-  pub path_phase : (b phase : ℕ) → HasChainPhase shapes b phase → HasPhase shapes b phase
+  pub path_phase : (b phase : ℕ) → HasChainPhase shapes b phase → BarHasPhase shapes b phase
   path_phase b phase has = record {
     is_bar = has.is_bar;
     before = has.before;
@@ -221,5 +221,5 @@ module _ (shapes : List Shape) (kept : ReportsNone (ExcitationBroken shapes)) wh
   each_excited = alone_kept (IsUnexcited shapes) (second_kept _ _ (second_kept _ _ after_contacts))
 
   -- a bar has one phase
-  pub one_phase_of : (b p q : ℕ) → HasPhase shapes b p → HasPhase shapes b q → p ≡ q
+  pub one_phase_of : (b p q : ℕ) → BarHasPhase shapes b p → BarHasPhase shapes b q → p ≡ q
   one_phase_of b p q first second = one_chain_phase shapes laid_out b p q (chain_phase shapes b p first) (chain_phase shapes b q second)

@@ -97,7 +97,7 @@ phase_of before bar =
     (if bar.layer == EVEN_LINE then (if at_left before bar then 0 else 2) else (if at_left before bar then 1 else 3))
 
 -- b is a bar of this phase
-pub record HasPhase (shapes : List Shape) (b phase : ℕ) : Type 0 where
+pub record BarHasPhase (shapes : List Shape) (b phase : ℕ) : Type 0 where
   pub is_bar : IsPart shapes BAR b
   pub before : ℕ
   pub before_shape : Shape

@@ -6,7 +6,7 @@ use Rattle.layout_rules.specs.declared.layers.TheConstants.{EVEN_LINE, ODD_LINE,
 use Rattle.layout_rules.specs.Layers.{is_line, is_frame}
 use Rattle.layout_rules.specs.Rows.{row_of}
 use Rattle.layout_rules.specs.Reports.{ReportsNone, Alone, Afterwards, Passes}
-use Rattle.layout_rules.specs.ExcitationLines.{Contact, IsPart, IsReached, Before, enters, leaves, HasPhase}
+use Rattle.layout_rules.specs.ExcitationLines.{Contact, IsPart, IsReached, Before, enters, leaves, BarHasPhase}
 
 -- a part of a line that is no bar, link or start
 abbrev pub is_no_part : Shape → Bool
@@ -100,7 +100,7 @@ pub record IsNotCrossed (shapes : List Shape) (b : ℕ) : Type 0 where
 -- one bar alone lies over the frame and contains it, and it has the phase of the frame's row
 pub record IsExcited (shapes : List Shape) (frame : Shape) : Type 0 where
   pub bar : ℕ
-  pub phase : HasPhase shapes bar (row_of shapes frame.rect.y0 % 4)
+  pub phase : BarHasPhase shapes bar (row_of shapes frame.rect.y0 % 4)
   pub over : overlap phase.is_bar.shape.rect frame.rect ≡ true
   pub contains : within frame.rect phase.is_bar.shape.rect ≡ true
   pub only : (i : ℕ) (s : Shape) → slice_get shapes i ≡ Some s → is_line s ≡ true → overlap s.rect frame.rect ≡ true

@@ -4,7 +4,8 @@ use Rattle.std.specs.Prelude.{ℕ, ◌<◌, ◌==◌, ◌&&◌, ◌||◌, not, B
 use Rattle.std.specs.List.{list_any}
 use Rattle.std.specs.Ordering.{int_eq}
 use Rattle.geom.specs.declared.shapes.Shape.{Shape}
-use Rattle.geom.specs.Rectangle.{Rectangle, width, height, gap_x, gap_y, share_point, within, overlap, meet_y, grown, common}
+use Rattle.geom.specs.Rectangle.{Rectangle, width, height, gap_x, gap_y, share_point, within, overlap, meet_y, grown}
+use Rattle.geom.specs.Rectangle.{common}
 use Rattle.layout_rules.specs.declared.layers.TheConstants.{M1, M2}
 use Rattle.layout_rules.specs.Layers.{is_frame, is_pin, is_via, is_metal, is_lower, is_upper}
 use Rattle.layout_rules.specs.Limits.{Limits}

@@ -25,7 +25,7 @@ use Rattle.poly_cut.specs.declared.layout.WideLayout.{WideLayout}
 use Rattle.poly_cut.specs.Rings.{Edge, edges_from, covers}
 use Rattle.poly_cut.specs.Cuts.{box, toggled, walls, placed, levels, between, slabs_from, slabs, stands_on, joined, all_joined, ring_cut}
 use Rattle.poly_cut.specs.Paths.{stroke, segment, past, segments, end_of}
-use Rattle.poly_cut.specs.Code.Strokes.{IsShort}
+use Rattle.poly_cut.specs.Code.Strokes.{IsHalfWidth}
 use Rattle.poly_cut.proofs.Segments.{end_short, half_short}
 use Rattle.poly_cut.specs.Figures.{cut_of, IsNarrow, IsDrawn}
 use Rattle.poly_cut.specs.FlatForm.{items_at, shape, item_shapes, item_labels, shapes_of, labels_of, wide_flat}
@@ -227,13 +227,13 @@ module _ (b : ℕ) where
 
 -- ---- paths
 
-short_near : (z : ℤ) → IsShort z → IsAtMost (2 ^ 30) z
+short_near : (z : ℤ) → IsHalfWidth z → IsAtMost (2 ^ 30) z
 short_near z h = (omega (arith, ints, h.0), omega (arith, ints, h.1))
 
-stretched : (x n : ℤ) → IsAtMost (2 ^ 31) x → IsShort n → IsAtMost (2 ^ 33) (x +ℤ n) × IsAtMost (2 ^ 33) (x -ℤ n)
+stretched : (x n : ℤ) → IsAtMost (2 ^ 31) x → IsHalfWidth n → IsAtMost (2 ^ 33) (x +ℤ n) × IsAtMost (2 ^ 33) (x -ℤ n)
 stretched x n h s = ((omega (arith, ints, h.0, s.0), omega (arith, ints, h.1, s.1)), (omega (arith, ints, h.0, s.1), omega (arith, ints, h.1, s.0)))
 
-stroke_within : (half under over : ℤ) (low high : Point) → IsShort half → IsShort under → IsShort over → IsNear (2 ^ 31) low → IsNear (2 ^ 31) high → IsWithin (2 ^ 33) (stroke half low under high over)
+stroke_within : (half under over : ℤ) (low high : Point) → IsHalfWidth half → IsHalfWidth under → IsHalfWidth over → IsNear (2 ^ 31) low → IsNear (2 ^ 31) high → IsWithin (2 ^ 33) (stroke half low under high over)
 stroke_within half under over low high h u o l k = turn (int_lt low.y high.y)
   where
     turn : (t : Bool) → IsWithin (2 ^ 33) (elim t as (λ (x : Bool). Rectangle) [
@@ -243,18 +243,18 @@ stroke_within half under over low high h u o l k = turn (int_lt low.y high.y)
     turn true = record { left = (stretched low.x half l.0 h).1; bottom = (stretched low.y under l.1 u).1; right = (stretched high.x half k.0 h).0; above = (stretched high.y over k.1 o).0 }
     turn false = record { left = (stretched low.x under l.0 u).1; bottom = (stretched low.y half l.1 h).1; right = (stretched high.x over k.0 o).0; above = (stretched high.y half k.1 h).0 }
 
-segment_within : (half before behind : ℤ) (p q : Point) → IsShort half → IsShort before → IsShort behind → IsNear (2 ^ 31) p → IsNear (2 ^ 31) q → IsWithin (2 ^ 33) (segment half before behind p q)
+segment_within : (half before behind : ℤ) (p q : Point) → IsHalfWidth half → IsHalfWidth before → IsHalfWidth behind → IsNear (2 ^ 31) p → IsNear (2 ^ 31) q → IsWithin (2 ^ 33) (segment half before behind p q)
 segment_within half before behind p q h u o l k = turn (int_le p.x q.x && int_le p.y q.y)
   where
     turn : (t : Bool) → IsWithin (2 ^ 33) (elim t as (λ (x : Bool). Rectangle) [ true ↦ stroke half p before q behind | false ↦ stroke half q behind p before ])
     turn true = stroke_within half before behind p q h u o l k
     turn false = stroke_within half behind before q p h o u k l
 
-segments_within : (half end before : ℤ) (p : Point) (qs : List Point) → IsShort half → IsShort end → IsShort before → IsNear (2 ^ 31) p → AllByRecursion (IsNear (2 ^ 31)) qs → AllByRecursion (IsWithin (2 ^ 33)) (segments half end before p qs)
+segments_within : (half end before : ℤ) (p : Point) (qs : List Point) → IsHalfWidth half → IsHalfWidth end → IsHalfWidth before → IsNear (2 ^ 31) p → AllByRecursion (IsNear (2 ^ 31)) qs → AllByRecursion (IsWithin (2 ^ 33)) (segments half end before p qs)
 segments_within half end before p [] h e u n a = tt
 segments_within half end before p (q ∷ qs) h e u n a = (segment_within half before (past half end qs) p q h u (behind qs) n a.0, segments_within half end half q qs h e h a.0 a.1)
   where
-    behind : (rs : List Point) → IsShort (past half end rs)
+    behind : (rs : List Point) → IsHalfWidth (past half end rs)
     behind [] = e
     behind (r ∷ rs) = h
 

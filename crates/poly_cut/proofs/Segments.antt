@@ -9,7 +9,7 @@ use Rattle.poly_cut.specs.declared.layout.Point.{Point}
 use Rattle.poly_cut.specs.declared.strokes.Extent.{Extent}
 use Rattle.poly_cut.specs.Paths.{segment, segments, past, end_of, path_cut, before_of}
 use Rattle.poly_cut.specs.Figures.{GoesInTurn, IsBent}
-use Rattle.poly_cut.specs.Code.Strokes.{IsShort, IsSegment, IsExtent}
+use Rattle.poly_cut.specs.Code.Strokes.{IsHalfWidth, IsSegment, IsExtent}
 use Rattle.poly_cut.specs.Turns.{point}
 
 pub past_some : (half end : ℤ) (ps : List Point) (k : ℕ) → k < length ps → past half end (drop k ps) ≡ half
@@ -40,21 +40,21 @@ pub straight_at : (ps : List Point) (i : ℕ) (d : Point) → IsBent ps → 1 �
 straight_at ps zero d b lo hi = absurd (omega arith)
 straight_at ps (suc n) d b lo hi = let e : suc n - 1 ≡ n = omega arith in rw e (straight ps n d b hi)
 
-pub end_short : (extended : Bool) (half : ℕ) → half ≤ 2 ^ 30 → IsShort (end_of extended half)
+pub end_short : (extended : Bool) (half : ℕ) → half ≤ 2 ^ 30 → IsHalfWidth (end_of extended half)
 end_short true half le = (omega (arith, ints), omega (arith, ints))
 end_short false half le = (omega (arith, ints), omega (arith, ints))
 
-pub half_short : (half : ℕ) → half ≤ 2 ^ 30 → IsShort (pos half)
+pub half_short : (half : ℕ) → half ≤ 2 ^ 30 → IsHalfWidth (pos half)
 half_short half le = (omega (arith, ints), omega (arith, ints))
 
-before_short : (half : ℕ) (extended : Bool) (i : ℕ) → half ≤ 2 ^ 30 → IsShort (before_of half extended i)
+before_short : (half : ℕ) (extended : Bool) (i : ℕ) → half ≤ 2 ^ 30 → IsHalfWidth (before_of half extended i)
 before_short half extended i le = turn (i == 1)
   where
-    turn : (b : Bool) → IsShort (elim b as (λ (x : Bool). ℤ) [ true ↦ end_of extended half | false ↦ pos half ])
+    turn : (b : Bool) → IsHalfWidth (elim b as (λ (x : Bool). ℤ) [ true ↦ end_of extended half | false ↦ pos half ])
     turn true = end_short extended half le
     turn false = half_short half le
 
-past_short : (half : ℕ) (extended : Bool) (ps : List Point) → half ≤ 2 ^ 30 → IsShort (past (pos half) (end_of extended half) ps)
+past_short : (half : ℕ) (extended : Bool) (ps : List Point) → half ≤ 2 ^ 30 → IsHalfWidth (past (pos half) (end_of extended half) ps)
 past_short half extended [] le = end_short extended half le
 past_short half extended (p ∷ ps) le = half_short half le
 

@@ -9,6 +9,7 @@ use Rattle.pulse_sim.specs.declared.flux.Flux.{Flux}
 use Rattle.pulse_sim.specs.declared.flux.Flux.TheVariants.{Off}
 use Rattle.pulse_sim.specs.Fluxes.{sign, amount, MayTake}
 
+-- what one cell, by its number, does: it is excited and switches to a flux, or it relaxes and loses its flux
 pub data Event : Type 0 where
   Switch : (number : ℕ) → Event
   Relax : (number : ℕ) → Event

@@ -17,6 +17,7 @@ pub record IsPulsing (state : Pulsing) : Type 0 where
   pub keeps : KeepsFacts state.circuit
   pub each_flux : length state.fluxes ≡ length state.circuit.cells
 
+-- the truth value that a flux shows: plus is true; minus, and no flux at all, are false
 abbrev pub is_plus : Flux → Bool
 is_plus Minus = false
 is_plus Off = false

@@ -27,10 +27,12 @@ settled_take Split2 sum = settled_sign sum
 settled_take Split3 sum = settled_sign sum
 settled_take Majority sum = settled_sign sum
 
+-- the flux of the circuit's input n: the sign of its bit of the present word, and minus without a word
 abbrev pub input_flux : Option (List Bool) → ℕ → Flux
 input_flux None n = Minus
 input_flux (Some word) n = sign (slice_index_or word n false)
 
+-- the flux of a feed: that of the cell that it names, or of the circuit's input; none where nothing feeds
 abbrev pub feed_flux : Option (List Bool) → List Flux → Feed → Flux
 feed_flux word state Nothing = Off
 feed_flux word state (Pin cell output) = slice_index_or state cell Off
@@ -49,6 +51,7 @@ next_flux word time state cell flux = elim (cell.phase == time % 4) [
   | false ↦ elim (cell.phase == (time + 2) % 4) [ true ↦ Off | false ↦ flux ]
 ]
 
+-- the fluxes of all cells after the tick, each read off the state before it
 abbrev pub next_fluxes : Option (List Bool) → ℕ → List Flux → List ExCell → List Flux → List Flux
 next_fluxes word time state [] fluxes = []
 next_fluxes word time state (cell ∷ cells) [] = []

@@ -11,7 +11,7 @@ use Rattle.pulse_sim.specs.Fluxes.{sign}
 use Rattle.pulse_sim.specs.Runs.{IsLegalRun}
 
 -- the cell of the source has this phase
-pub record HasPhase (circuit : CircuitView) (phase : ℕ) (source : Source) : Type 0 where
+pub record CellHasPhase (circuit : CircuitView) (phase : ℕ) (source : Source) : Type 0 where
   pub cell : ExCell
   pub cell_is : IsCellAt circuit source.cell cell
   pub phase_is : cell.phase ≡ phase
@@ -27,11 +27,13 @@ ShowsAnswers circuit d words answers =
     → (k : ℕ) (answer : List Bool) → slice_get answers k ≡ Some answer → 4 * k + d < n
     → fluxes_at circuit.outputs (run (suc (4 * k + d))) ≡ map sign answer
 
+-- in every legal run the circuit shows these answers at its outputs, each d ticks after its word entered
 pub record Shows (circuit : CircuitView) (d : ℕ) (words answers : List (List Bool)) : Type 0 where
   pub as_many : length answers ≡ length words
   -- a value for each input, and a value for each output
   pub words_wide : All (λ word. length word ≡ circuit.inputs) words
   pub answers_wide : All (λ answer. length answer ≡ length circuit.outputs) answers
   -- the cells at the outputs switch at the times 4k + d
-  pub in_phase : (k : ℕ) (source : Source) → slice_get circuit.outputs k ≡ Some source → HasPhase circuit (d % 4) source
+  pub in_phase : (k : ℕ) (source : Source) → slice_get circuit.outputs k ≡ Some source
+      → CellHasPhase circuit (d % 4) source
   pub shown : ShowsAnswers circuit d words answers

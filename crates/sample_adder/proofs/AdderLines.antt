@@ -7,7 +7,7 @@ use Rattle.std.proofs.lemmas.Fmt.{decimal_by_steps}
 use Rattle.std.proofs.lemmas.List.Folds.{list_all-append}
 use Rattle.blif_read.specs.Lines.{tokens_of}
 use Rattle.blif_read.specs.Parts.{NetView}
-use Rattle.blif_read.specs.Says.{Says}
+use Rattle.blif_read.specs.Says.{SaysNet}
 use Rattle.sample_adder.specs.declared.adder.Signal.{Signal}
 use Rattle.sample_adder.specs.Adder.{name_of, first_bit, second_bit, sum_bit, carry_bit, exclusive_rows, both_rows, either_rows, gate, half_adder, full_adder, full_adders, summand_names, sum_names, head, foot, adder}
 use Rattle.blif_read.proofs.PlainLines.{is_inked, is_plain, one_token, inked_plain, inked_decimal}
@@ -150,7 +150,7 @@ adder_piece bits few =
 nothing_left : (n : ℕ) → named_from n [] ≡ 0
 nothing_left n = refl
 
-pub adder_inputs : (bits : ℕ) (net : NetView) → 1 ≤ bits → bits ≤ 64 → Says (adder bits) net → net.inputs ≡ 2 * bits
+pub adder_inputs : (bits : ℕ) (net : NetView) → 1 ≤ bits → bits ≤ 64 → SaysNet (adder bits) net → net.inputs ≡ 2 * bits
 adder_inputs bits net some few says =
     let piece = adder_piece bits few in
     let whole = ap (named_from 1) (append-nil (adder bits)) in

@@ -11,12 +11,15 @@ name_of signal = signal.letter ∷ decimal signal.number
 abbrev pub first_bit : ℕ → Signal
 first_bit i = record { letter = 97; number = i }
 
+-- bit i of the second number, counted from the lowest: b0, b1 and so on
 abbrev pub second_bit : ℕ → Signal
 second_bit i = record { letter = 98; number = i }
 
+-- bit i of the sum: s0, s1 and so on; the last is the carry out of the highest bits
 abbrev pub sum_bit : ℕ → Signal
 sum_bit i = record { letter = 115; number = i }
 
+-- the carry into bit i, from the bits below it: c1, c2 and so on
 abbrev pub carry_bit : ℕ → Signal
 carry_bit i = record { letter = 99; number = i }
 
@@ -24,9 +27,11 @@ carry_bit i = record { letter = 99; number = i }
 abbrev pub one_set : ℕ → Signal
 one_set i = record { letter = 112; number = i }
 
+-- bit i of both numbers is set, which gives a carry by itself: g1, g2 and so on
 abbrev pub both_set : ℕ → Signal
 both_set i = record { letter = 103; number = i }
 
+-- one of the two bits is set and the carry comes in, which carries it on: h1, h2 and so on
 abbrev pub carried_on : ℕ → Signal
 carried_on i = record { letter = 104; number = i }
 
@@ -34,9 +39,11 @@ carried_on i = record { letter = 104; number = i }
 abbrev pub exclusive_rows : List ℕ
 exclusive_rows = codes "10 1\n01 1\n"
 
+-- the cover of an and, as a .names table of BLIF has it: true where both inputs are
 abbrev pub both_rows : List ℕ
 both_rows = codes "11 1\n"
 
+-- the cover of an or: true where either input is, a dash standing for any value
 abbrev pub either_rows : List ℕ
 either_rows = codes "1- 1\n-1 1\n"
 
@@ -70,6 +77,7 @@ abbrev pub summand_names : ℕ → List ℕ
 summand_names zero = []
 summand_names (suc i) = summand_names i ++ codes " " ++ name_of (first_bit i) ++ codes " " ++ name_of (second_bit i)
 
+-- the names of the lowest so many bits of the sum, each after a blank
 abbrev pub sum_names : ℕ → List ℕ
 sum_names zero = []
 sum_names (suc i) = sum_names i ++ codes " " ++ name_of (sum_bit i)
@@ -79,6 +87,7 @@ unfoldable pub head : ℕ → List ℕ
 head bits =
     codes ".model adder\n.inputs" ++ summand_names bits ++ codes "\n.outputs" ++ sum_names (bits + 1) ++ codes "\n"
 
+-- the highest bit of the sum, which is the last carry, and the end of the model
 unfoldable pub foot : ℕ → List ℕ
 foot bits =
     codes ".names " ++ name_of (carry_bit bits) ++ codes " " ++ name_of (sum_bit bits) ++ codes "\n1 1\n.end\n"

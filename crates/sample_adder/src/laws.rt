@@ -3,7 +3,7 @@ ghost use Rattle.std.specs.Prelude.{◌≡◌, ◌≤◌, ◌<◌, ◌*◌, ◌^
 ghost use Rattle.std.specs.Fmt.{decimal};
 ghost use Rattle.std.specs.List.{All};
 ghost use Rattle.blif_read.specs.Parts.{NetView};
-ghost use Rattle.blif_read.specs.Says.{Says};
+ghost use Rattle.blif_read.specs.Says.{SaysNet};
 ghost use Rattle.sample_adder.specs.Adder.{adder};
 ghost use Rattle.sample_adder.specs.EightWords.{eight};
 
@@ -19,7 +19,7 @@ pub fn worked_sample()
 /// For 1 to 64 bits: the netlist has two inputs for each bit, its text is far below the 16 MiB that a netlist may have,
 /// and each of the eight words has a value for each input. No two numbers of 64 bits are written alike.
 pub fn sample_laws()
-    ensures inputs { (bits : ℕ) (net : NetView) → 1 ≤ bits → bits ≤ 64 → Says (adder bits) net →
+    ensures inputs { (bits : ℕ) (net : NetView) → 1 ≤ bits → bits ≤ 64 → SaysNet (adder bits) net →
         net.inputs ≡ 2 * bits }
     ensures size { (bits : ℕ) → bits ≤ 64 → length (adder bits) ≤ 16777216 }
     ensures words { (bits : ℕ) → All (λ word. length word ≡ 2 * bits) (eight bits) }

@@ -10,7 +10,7 @@ use Rattle.layout_rules.specs.ExcitationRule.{AreLaidOut}
 use Rattle.layout_rules.specs.Code.LineChains.{ChainBefore}
 use Rattle.layout_rules.specs.Code.ChainRule.{ChainLeavesWrongly, IsChainUncrossed}
 use Rattle.layout_rules.proofs.ChainsAgree.{one_before}
-use Rattle.shape_extract.specs.Searches.{Says, AreThose}
+use Rattle.shape_extract.specs.Searches.{SaysWhether, AreThose}
 use Rattle.shape_extract.specs.Code.Lines.{AreWalked, GoesOnWrongly}
 use Rattle.shape_extract.proofs.LineReach.{Before-reached, bar_before}
 
@@ -86,7 +86,7 @@ module _ (shapes : List Shape) (before : List ℕ) (lines : AreLaidOut shapes) (
     same_shape : (fault : IsChainUncrossed shapes b) → from ≡ fault.before_shape
     same_shape fault = same_Some from fault.before_shape (sym from_is ∙ (ap (slice_get shapes) (same_before fault) ∙ fault.before_shape_is))
 
-    pub crossed : enters from bar ≡ true → (answer : Bool) → Says answer (GoesOnWrongly shapes (slice_index before b) b) → Says answer (IsChainUncrossed shapes b)
+    pub crossed : enters from bar ≡ true → (answer : Bool) → SaysWhether answer (GoesOnWrongly shapes (slice_index before b) b) → SaysWhether answer (IsChainUncrossed shapes b)
     crossed well true on =
         let bars : on.bar ≡ is.shape = same_Some on.bar is.shape (sym on.bar_is ∙ is.shape_is) in
         let froms : on.before ≡ from = same_Some on.before from (sym on.before_is ∙ from_is) in

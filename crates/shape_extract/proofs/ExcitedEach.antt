@@ -14,7 +14,7 @@ use Rattle.layout_rules.specs.ExcitationRule.{IsExcited, AreLaidOut}
 use Rattle.layout_rules.specs.Code.LineChains.{ChainBefore}
 use Rattle.layout_rules.specs.Code.ChainRule.{IsChainExcited, IsChainUnexcited}
 use Rattle.layout_rules.proofs.ChainsAgree.{one_before}
-use Rattle.shape_extract.specs.Searches.{Says, AreThose}
+use Rattle.shape_extract.specs.Searches.{SaysWhether, AreThose}
 use Rattle.shape_extract.specs.Extraction.{IsInPhase}
 use Rattle.shape_extract.specs.Code.Lines.{AreWalked, lies_over, Excites, IsChainExcitedAt, Judges}
 use Rattle.shape_extract.proofs.LineReach.{Before-reached, bar_before}
@@ -55,13 +55,13 @@ module _ (shapes : List Shape) (before : List ℕ) (lines : AreLaidOut shapes) (
         let shape : from ≡ excites.phase.before_shape = same_Some from excites.phase.before_shape (sym from_is ∙ (ap (slice_get shapes) one ∙ excites.phase.before_shape_is)) in
         ap (λ (s : Shape). phase_of s bar) shape ∙ (ap (phase_of excites.phase.before_shape) (same_bar excites.phase.is_bar) ∙ excites.phase.phase_is)
 
-    pub excites_said : within frame.rect bar.rect ≡ true → (phase row : ℕ) → phase ≡ phase_of from bar → row_of shapes frame.rect.y0 ≡ row → Says (phase == row % 4) (Excites shapes b frame)
+    pub excites_said : within frame.rect bar.rect ≡ true → (phase row : ℕ) → phase ≡ phase_of from bar → row_of shapes frame.rect.y0 ≡ row → SaysWhether (phase == row % 4) (Excites shapes b frame)
     excites_said inside phase row phase_is row_is = elim (cases_eq phase (row % 4)) [
-      | inl e ↦ subst (λ (x : Bool). Says x (Excites shapes b frame)) (sym (eq-eqb phase (row % 4) e)) (excites_so inside (sym phase_is ∙ (e ∙ ap (λ (n : ℕ). n % 4) (sym row_is))))
-      | inr ne ↦ subst (λ (x : Bool). Says x (Excites shapes b frame)) (sym (ne_eqb phase (row % 4) ne)) (λ excites. ne (phase_is ∙ (phase_from excites ∙ ap (λ (n : ℕ). n % 4) row_is)))
+      | inl e ↦ subst (λ (x : Bool). SaysWhether x (Excites shapes b frame)) (sym (eq-eqb phase (row % 4) e)) (excites_so inside (sym phase_is ∙ (e ∙ ap (λ (n : ℕ). n % 4) (sym row_is))))
+      | inr ne ↦ subst (λ (x : Bool). SaysWhether x (Excites shapes b frame)) (sym (ne_eqb phase (row % 4) ne)) (λ excites. ne (phase_is ∙ (phase_from excites ∙ ap (λ (n : ℕ). n % 4) row_is)))
     ]
 
-    pub not_inside : (answer : Bool) → answer ≡ within frame.rect bar.rect → answer ≡ false → Says answer (Excites shapes b frame)
+    pub not_inside : (answer : Bool) → answer ≡ within frame.rect bar.rect → answer ≡ false → SaysWhether answer (Excites shapes b frame)
     not_inside true e f = absurd cc
     not_inside false e f = λ excites. both_ways (within frame.rect bar.rect) (sym e) (inside_from excites)
 
@@ -91,7 +91,7 @@ module _ (shapes : List Shape) (f : ℕ) (over : List ℕ) (are : AreThose (Pass
         | inr few ↦ ne (omega (arith, k.1.0))
       ]
 
-  pub one_over : length over ≡ 1 → (b : ℕ) → slice_index over 0 ≡ b → (answer : Bool) → Says answer (Excites shapes b frame) → Says answer (IsChainExcited shapes frame)
+  pub one_over : length over ≡ 1 → (b : ℕ) → slice_index over 0 ≡ b → (answer : Bool) → SaysWhether answer (Excites shapes b frame) → SaysWhether answer (IsChainExcited shapes frame)
   one_over one b is true excites =
       let bar = excites.phase.is_bar in
       let there : slice_get shapes (slice_index over 0) ≡ Some bar.shape = ap (slice_get shapes) is ∙ bar.shape_is in
@@ -114,7 +114,7 @@ module _ (shapes : List Shape) (f : ℕ) (over : List ℕ) (are : AreThose (Pass
 -- ---- the answer for one shape
 
 module _ (shapes : List Shape) (f : ℕ) (here : Shape) (got : slice_get shapes f ≡ Some here) where
-  pub judged : is_frame here ≡ true → (excited : Bool) → ((frame : Shape) → slice_get shapes f ≡ Some frame → Says excited (IsChainExcited shapes frame)) → Judges shapes f (not excited)
+  pub judged : is_frame here ≡ true → (excited : Bool) → ((frame : Shape) → slice_get shapes f ≡ Some frame → SaysWhether excited (IsChainExcited shapes frame)) → Judges shapes f (not excited)
   judged frame true says = λ s at so. says s at
   judged frame false says = record { frame = record { shape = here; shape_is = got; passes_so = frame }; not_so = says here got }
 

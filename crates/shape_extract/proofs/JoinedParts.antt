@@ -9,7 +9,7 @@ use Rattle.layout_rules.specs.Layers.{is_line}
 use Rattle.layout_rules.specs.Reports.{Passes}
 use Rattle.layout_rules.specs.ExcitationLines.{Contact, IsPart}
 use Rattle.layout_rules.specs.ExcitationRule.{HasStartContacts, HasLinkContacts, HasBarContacts, HasItsContacts, IsMisjoined}
-use Rattle.shape_extract.specs.Searches.{Says, AreThose}
+use Rattle.shape_extract.specs.Searches.{SaysWhether, AreThose}
 use Rattle.shape_extract.specs.Code.LineParts.{IsOneBar, AreTwoBars, AreBarEnds}
 
 no_three : (one other a b c : ℕ) → a < b → b < c → (a ≡ one) ⊎ (a ≡ other) → (b ≡ one) ⊎ (b ≡ other) → (c ≡ one) ⊎ (c ≡ other) → ⊥
@@ -120,15 +120,15 @@ module _ (shapes : List Shape) (i : ℕ) (contacts : List ℕ) (are : AreThose (
     part : (d : ℕ) → here.datatype ≡ d → IsPart shapes d i
     part d e = record { shape = here; shape_is = got; line_so = line; datatype_is = e }
 
-    pub joined_start : here.datatype ≡ START → (answer : Bool) → Says answer (IsOneBar shapes contacts) → Says answer (HasItsContacts shapes i)
+    pub joined_start : here.datatype ≡ START → (answer : Bool) → SaysWhether answer (IsOneBar shapes contacts) → SaysWhether answer (HasItsContacts shapes i)
     joined_start e true one = record { start = λ _. start_from one; link = two_datatypes START LINK (λ z. omega arith) (part START e); bar = two_datatypes START BAR (λ z. omega arith) (part START e) }
     joined_start e false not_so = λ has. not_so (start_to (has.start (part START e)))
 
-    pub joined_link : here.datatype ≡ LINK → (answer : Bool) → Says answer (AreTwoBars shapes contacts) → Says answer (HasItsContacts shapes i)
+    pub joined_link : here.datatype ≡ LINK → (answer : Bool) → SaysWhether answer (AreTwoBars shapes contacts) → SaysWhether answer (HasItsContacts shapes i)
     joined_link e true two = record { start = two_datatypes LINK START (λ z. omega arith) (part LINK e); link = λ _. link_from two; bar = two_datatypes LINK BAR (λ z. omega arith) (part LINK e) }
     joined_link e false not_so = λ has. not_so (link_to (has.link (part LINK e)))
 
-    pub joined_bar : here.datatype ≡ BAR → (answer : Bool) → Says answer (AreBarEnds shapes contacts) → Says answer (HasItsContacts shapes i)
+    pub joined_bar : here.datatype ≡ BAR → (answer : Bool) → SaysWhether answer (AreBarEnds shapes contacts) → SaysWhether answer (HasItsContacts shapes i)
     joined_bar e true ends = record { start = two_datatypes BAR START (λ z. omega arith) (part BAR e); link = two_datatypes BAR LINK (λ z. omega arith) (part BAR e); bar = λ _. bar_from ends }
     joined_bar e false not_so = λ has. not_so (bar_to (has.bar (part BAR e)))
 
@@ -142,7 +142,7 @@ module _ (shapes : List Shape) (i : ℕ) (contacts : List ℕ) (are : AreThose (
 -- ---- the answer for one shape
 
 module _ (shapes : List Shape) (n : ℕ) (here : Shape) (got : slice_get shapes n ≡ Some here) where
-  pub misjoined : is_line here ≡ true → (joined : Bool) → Says joined (HasItsContacts shapes n) → Says (not joined) (IsMisjoined shapes n)
+  pub misjoined : is_line here ≡ true → (joined : Bool) → SaysWhether joined (HasItsContacts shapes n) → SaysWhether (not joined) (IsMisjoined shapes n)
   misjoined line true has = λ fault. fault.not_so has
   misjoined line false has = record { part = record { shape = here; shape_is = got; passes_so = line }; not_so = has }
 

@@ -7,7 +7,7 @@ use Rattle.geom.specs.declared.shapes.Shape.{Shape}
 use Rattle.layout_rules.specs.Touch.{Touching, IsPath, Joined}
 use Rattle.layout_rules.specs.Nets.{AreNets}
 use Rattle.layout_rules.proofs.NetLaws.{Touching-back, Touching-within, Joined-self, Joined-trans, Joined-touching, Joined-within, one_number, AreNets-certified}
-use Rattle.shape_extract.specs.Searches.{Says}
+use Rattle.shape_extract.specs.Searches.{SaysWhether}
 use Rattle.shape_extract.specs.Distinct.{AreAt, StandsFor, ArePlaces}
 use Rattle.shape_extract.specs.Code.Walk.{HasTouching, is_touched, AreTold, net_at}
 
@@ -105,7 +105,7 @@ module _ (all : List Shape) (numbers places : List ℕ) (some : List Shape) (at 
     joined_so n lt true e =
         let p : ℕ = slice_index places n in
         let path : Joined some p (slice_index labels p) = nets.joined p (place_within n lt) in
-        let touching : HasTouching some p = subst (λ (b : Bool). Says b (HasTouching some p)) e
+        let touching : HasTouching some p = subst (λ (b : Bool). SaysWhether b (HasTouching some p)) e
         (told.each p (place_within n lt)) in
         subst (Joined all n) (sym (by_kind n e)) (Joined-trans all n (slice_index numbers p)
         (slice_index numbers (slice_index labels p)) (joined_stand_in n lt touching)
@@ -127,7 +127,7 @@ module _ (all : List Shape) (numbers places : List ℕ) (some : List Shape) (at 
     touched_so : (p q : ℕ) → Touching some p q → (b : Bool) → is_touched touched p ≡ b → is_touched touched p ≡ true
     touched_so p q t true e = e
     touched_so p q t false e = absurd (let none : HasTouching some p → ⊥ = subst
-        (λ (b : Bool). Says b (HasTouching some p)) e (told.each p (Touching-within t).0) in none (q, t))
+        (λ (b : Bool). SaysWhether b (HasTouching some p)) e (told.each p (Touching-within t).0) in none (q, t))
 
     agree : (i j : ℕ) → Touching all i j
         → net_at numbers places labels touched i ≡ net_at numbers places labels touched j

@@ -9,7 +9,7 @@ use Rattle.layout_rules.specs.Layers.{is_line}
 use Rattle.layout_rules.specs.ExcitationLines.{IsPart, IsReached}
 use Rattle.layout_rules.specs.ExcitationRule.{IsCutOff}
 use Rattle.layout_rules.specs.Code.LineChains.{ChainBefore}
-use Rattle.shape_extract.specs.Searches.{Says}
+use Rattle.shape_extract.specs.Searches.{SaysWhether}
 use Rattle.shape_extract.specs.Code.Lines.{AreWalked}
 
 not_below : (a b : ℕ) → b ≤ a → nat_lt a b ≡ false
@@ -25,10 +25,10 @@ module _ (shapes : List Shape) (before : List ℕ) (w : AreWalked shapes before)
     | inr b ↦ Before-reached shapes (slice_index before n) n b
   ]
 
-  pub reached_said : Says (nat_lt (slice_index before n) (length shapes)) (IsReached shapes n)
+  pub reached_said : SaysWhether (nat_lt (slice_index before n) (length shapes)) (IsReached shapes n)
   reached_said = elim (cases_lt (slice_index before n) (length shapes)) [
-    | inl less ↦ subst (λ (b : Bool). Says b (IsReached shapes n)) (sym (lt-ltb (slice_index before n) (length shapes) less)) (reached_from less)
-    | inr ge ↦ subst (λ (b : Bool). Says b (IsReached shapes n)) (sym (not_below (slice_index before n) (length shapes) ge)) (λ reached. (let k : slice_index before n < length shapes = w.all n reached in omega arith))
+    | inl less ↦ subst (λ (b : Bool). SaysWhether b (IsReached shapes n)) (sym (lt-ltb (slice_index before n) (length shapes) less)) (reached_from less)
+    | inr ge ↦ subst (λ (b : Bool). SaysWhether b (IsReached shapes n)) (sym (not_below (slice_index before n) (length shapes) ge)) (λ reached. (let k : slice_index before n < length shapes = w.all n reached in omega arith))
   ]
 
   -- a bar that is reached has the shape before it
@@ -46,7 +46,7 @@ module _ (shapes : List Shape) (before : List ℕ) (w : AreWalked shapes before)
 -- ---- the answer for one shape
 
 module _ (shapes : List Shape) (n : ℕ) (here : Shape) (got : slice_get shapes n ≡ Some here) where
-  pub cut_off : is_line here ≡ true → (answer : Bool) → Says answer (IsReached shapes n) → Says (not answer) (IsCutOff shapes n)
+  pub cut_off : is_line here ≡ true → (answer : Bool) → SaysWhether answer (IsReached shapes n) → SaysWhether (not answer) (IsCutOff shapes n)
   cut_off line true reached = λ fault. fault.not_reached reached
   cut_off line false reached = record { part = record { shape = here; shape_is = got; passes_so = line }; not_reached = reached }
 

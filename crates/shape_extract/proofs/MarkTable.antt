@@ -15,7 +15,7 @@ use Rattle.layout_rules.specs.declared.layers.TheConstants.{INPUT_PIN}
 use Rattle.layout_rules.proofs.PlaceLaws.{PassesAt, list_any-at, list_any-place}
 use Rattle.shape_extract.specs.Extraction.{is_wired}
 use Rattle.shape_extract.specs.Passing.{PassesIn}
-use Rattle.shape_extract.specs.Searches.{Says, AreThose}
+use Rattle.shape_extract.specs.Searches.{SaysWhether, AreThose}
 use Rattle.shape_extract.specs.Code.Marking.{with_label, has_label, has_one, label_in, IsMarkOf, AreMarks, IsNoted}
 use Rattle.shape_extract.specs.declared.tables.mark_table.Mark.{Mark}
 use Rattle.shape_extract.specs.declared.tables.mark_table.Mark.TheVariants.{Unmarked, Once, Often}
@@ -170,7 +170,7 @@ labelled_so labels s Unmarked h = sym (false_from_ne_true (list_any (λ (l : Lab
 labelled_so labels s (Once l) h = sym (list_any-at (λ (l : Label). marks l s) labels l h.1.item h.1.item_is h.1.passes_so)
 labelled_so labels s (Often l) h = sym (list_any-at (λ (l : Label). marks l s) labels l h.1.item h.1.item_is h.1.passes_so)
 
-pub one_so : (labels : List Label) (s : Shape) (m : Mark) → IsMarkOf labels s m → Says (has_one m) (count_by (λ label. marks label s) labels ≡ 1)
+pub one_so : (labels : List Label) (s : Shape) (m : Mark) → IsMarkOf labels s m → SaysWhether (has_one m) (count_by (λ label. marks label s) labels ≡ 1)
 one_so labels s Unmarked h = λ one. (let z = h.count_is in omega arith)
 one_so labels s (Once l) h = h.0
 one_so labels s (Often l) h = λ one. (let z = h.0 in omega arith)
@@ -185,7 +185,7 @@ module _ (flat : Flat) (marking : List Mark) (are : AreMarks flat.shapes flat.la
   unfolding mark_of
   labelled_at = labelled_so flat.labels s (get_or marking a Unmarked) mark_of
 
-  pub one_at : Says (has_one (get_or marking a Unmarked)) (count_by (λ label. marks label s) flat.labels ≡ 1)
+  pub one_at : SaysWhether (has_one (get_or marking a Unmarked)) (count_by (λ label. marks label s) flat.labels ≡ 1)
   unfolding mark_of
   one_at = one_so flat.labels s (get_or marking a Unmarked) mark_of
 

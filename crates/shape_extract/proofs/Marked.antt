@@ -14,7 +14,7 @@ use Rattle.layout_rules.specs.Pins.{lies_in, LiesIn, IsPinOf}
 use Rattle.layout_rules.proofs.PlaceLaws.{PassesAt, count_by-once, count_by-one}
 use Rattle.layout_rules.specs.Reports.{ReportsNone, IsFirstReport, Passes, PassTogether}
 use Rattle.layout_rules.specs.CircuitRules.{HasPins, IsCell, LiesInOneFrame, IsNoCell, IsStrayPin, HasNoFrame}
-use Rattle.shape_extract.specs.Searches.{Says, AreThose}
+use Rattle.shape_extract.specs.Searches.{SaysWhether, AreThose}
 use Rattle.shape_extract.specs.Code.Cells.{holds_pin, is_marked, is_marked_in, is_marked_at, AreNumbered}
 
 pub marked_at : (shapes : List Shape) (layer datatype n : ℕ) (s : Shape) → n < length shapes → s ≡ get_or shapes n s → is_marked_at shapes layer datatype n ≡ is_marked layer datatype s
@@ -172,7 +172,7 @@ module _ (shapes : List Shape) (f : ℕ) (here : Shape) (got : slice_get shapes 
   cell_kind frame e cell = one_kind cell.kind kind (sym cell.kind_is ∙ (ap (λ (x : Shape). x.datatype) (sym (at frame e)) ∙ named))
 
   -- what is left to decide where the input pins are those of the kind
-  pub cell_by_outputs : AreNumbered shapes pins INPUT_PIN (inputs_of kind) → (answer : Bool) → Says answer (AreNumbered shapes pins OUTPUT_PIN (outputs_of kind)) → (frame : Shape) → slice_get shapes f ≡ Some frame → Says answer (IsCell shapes f frame)
+  pub cell_by_outputs : AreNumbered shapes pins INPUT_PIN (inputs_of kind) → (answer : Bool) → SaysWhether answer (AreNumbered shapes pins OUTPUT_PIN (outputs_of kind)) → (frame : Shape) → slice_get shapes f ≡ Some frame → SaysWhether answer (IsCell shapes f frame)
   cell_by_outputs ins true outs frame e = record {
     kind = kind;
     kind_is = ap (λ (x : Shape). x.datatype) (sym (at frame e)) ∙ named;
@@ -187,17 +187,17 @@ module _ (shapes : List Shape) (f : ℕ) (here : Shape) (got : slice_get shapes 
 pub no_kind : (shapes : List Shape) (f : ℕ) (here : Shape) → slice_get shapes f ≡ Some here → ((kind : CellKind) → here.datatype ≡ number_of kind → ⊥) → (frame : Shape) → slice_get shapes f ≡ Some frame → IsCell shapes f frame → ⊥
 no_kind shapes f here got none frame e cell = none cell.kind (ap (λ (x : Shape). x.datatype) (same_Some here frame (sym got ∙ e)) ∙ cell.kind_is)
 
-pub one_frame_said : (shapes : List Shape) (p n : ℕ) (frames : List ℕ) → AreThose (PassTogether lies_in shapes p) frames → n ≡ length frames → Says (n == 1) (LiesInOneFrame shapes p)
+pub one_frame_said : (shapes : List Shape) (p n : ℕ) (frames : List ℕ) → AreThose (PassTogether lies_in shapes p) frames → n ≡ length frames → SaysWhether (n == 1) (LiesInOneFrame shapes p)
 one_frame_said shapes p n frames are long = elim (cases_eq n 1) [
   | inl one ↦
       let lt : 0 < length frames = omega arith in
       let both : PassTogether lies_in shapes p (slice_index frames 0) = are.each 0 lt in
-      subst (λ (b : Bool). Says b (LiesInOneFrame shapes p)) (sym (eq-eqb n 1 one)) (record {
+      subst (λ (b : Bool). SaysWhether b (LiesInOneFrame shapes p)) (sym (eq-eqb n 1 one)) (record {
         frame = slice_index frames 0;
         lies = record { pin = both.first; frame = both.second; pin_is = both.first_is; frame_is = both.second_is; lies_so = both.passes_so };
         only = λ f lies. (let k = place lies in let zero_k : k.0 ≡ 0 = omega (arith, k.1.0) in sym k.1.1 ∙ ap (slice_index frames) zero_k);
       })
-  | inr more ↦ subst (λ (b : Bool). Says b (LiesInOneFrame shapes p)) (sym (ne_eqb n 1 more)) (λ one.
+  | inr more ↦ subst (λ (b : Bool). SaysWhether b (LiesInOneFrame shapes p)) (sym (ne_eqb n 1 more)) (λ one.
       let k = place one.lies in
       let some : 1 < length frames = omega (arith, k.1.0) in
       let a : slice_index frames 0 ≡ one.frame = one.only (slice_index frames 0) (lies_at 0 (omega arith)) in
@@ -229,14 +229,14 @@ module _ (shapes : List Shape) (n : ℕ) (here : Shape) (got : slice_get shapes 
   same : (s : Shape) → slice_get shapes n ≡ Some s → here ≡ s
   same s e = same_Some here s (sym got ∙ e)
 
-  pub frame_fault : is_frame here ≡ true → (cell : Bool) → ((frame : Shape) → slice_get shapes n ≡ Some frame → Says cell (IsCell shapes n frame)) → Says (not cell) (Fault shapes n)
+  pub frame_fault : is_frame here ≡ true → (cell : Bool) → ((frame : Shape) → slice_get shapes n ≡ Some frame → SaysWhether cell (IsCell shapes n frame)) → SaysWhether (not cell) (Fault shapes n)
   frame_fault frame true says = λ fault. elim fault [
     | inl bad ↦ bad.not_so (says bad.frame.shape bad.frame.shape_is)
     | inr stray ↦ apart here frame (ap is_pin (same stray.pin.shape stray.pin.shape_is) ∙ stray.pin.passes_so)
   ]
   frame_fault frame false says = inl (record { frame = record { shape = here; shape_is = got; passes_so = frame }; not_so = says here got })
 
-  pub pin_fault : is_pin here ≡ true → (one : Bool) → Says one (LiesInOneFrame shapes n) → Says (not one) (Fault shapes n)
+  pub pin_fault : is_pin here ≡ true → (one : Bool) → SaysWhether one (LiesInOneFrame shapes n) → SaysWhether (not one) (Fault shapes n)
   pin_fault pin true says = λ fault. elim fault [
     | inl bad ↦ apart here (ap is_frame (same bad.frame.shape bad.frame.shape_is) ∙ bad.frame.passes_so) pin
     | inr stray ↦ stray.not_so says

@@ -13,7 +13,7 @@ use Rattle.layout_rules.specs.Touch.{touch, Touching, Joined}
 use Rattle.layout_rules.specs.Reports.{PassTogether}
 use Rattle.layout_rules.specs.Nets.{AreNets}
 use Rattle.layout_rules.proofs.NetLaws.{Touching-back, Touching-within, Joined-trans, Joined-touching, AreNets-certified}
-use Rattle.shape_extract.specs.Searches.{Says, AreThose}
+use Rattle.shape_extract.specs.Searches.{SaysWhether, AreThose}
 use Rattle.shape_extract.specs.Code.Walk.{AreTouching, IsWalk, IsSpreadTo, IsDone, AreMarked, IsLowest, HasTouching, is_touched, IsTold, AreToldTo, AreTold, IsReached}
 
 pub sum_lowered : (ls : List ℕ) (i v : ℕ) → i < length ls → v < slice_index ls i → sum (set ls i v) < sum ls
@@ -134,19 +134,19 @@ reached_now shapes labels order new more numbers from are s = record {
 -- ---- what is told of shapes: whether some shape touches them
 
 -- where touching shapes are listed, some touch
-some_listed : (shapes : List Shape) (from : ℕ) (numbers : List ℕ) → AreTouching shapes from numbers → (b : Bool) → nat_lt 0 (length numbers) ≡ b → Says b (HasTouching shapes from)
+some_listed : (shapes : List Shape) (from : ℕ) (numbers : List ℕ) → AreTouching shapes from numbers → (b : Bool) → nat_lt 0 (length numbers) ≡ b → SaysWhether b (HasTouching shapes from)
 some_listed shapes from numbers are true e = (let some : 0 < length numbers = grind (arith, nat_tests) in (slice_index numbers 0, are.each 0 some))
 some_listed shapes from numbers are false e = λ h. (let none : length numbers ≤ 0 = grind (arith, nat_tests) in let k = are.complete h.0 h.1 in absurd (omega (arith, k.1.0)))
 
 pub told_now : (shapes : List Shape) (from : ℕ) (numbers : List ℕ) (touched new : List Bool) → AreTouching shapes from numbers → from < length touched → new ≡ slice_set touched from (nat_lt 0 (length numbers)) → IsTold shapes from touched new
 told_now shapes from numbers touched new are lt is = subst (IsTold shapes from touched) (sym is) (record {
   long = length-set touched from (nat_lt 0 (length numbers));
-  here = subst (λ (x : Bool). Says x (HasTouching shapes from)) (sym (get_or-set_same touched from (nat_lt 0 (length numbers)) false lt)) (some_listed shapes from numbers are (nat_lt 0 (length numbers)) refl);
+  here = subst (λ (x : Bool). SaysWhether x (HasTouching shapes from)) (sym (get_or-set_same touched from (nat_lt 0 (length numbers)) false lt)) (some_listed shapes from numbers are (nat_lt 0 (length numbers)) refl);
   kept = λ d ne. get_or-set_other touched from d (nat_lt 0 (length numbers)) false ne;
 })
 
-told_of : (shapes : List Shape) (touched : List Bool) (d e : ℕ) → d ≡ e → Says (is_touched touched d) (HasTouching shapes d) → Says (is_touched touched e) (HasTouching shapes e)
-told_of shapes touched d e same h = subst (λ (x : ℕ). Says (is_touched touched x) (HasTouching shapes x)) same h
+told_of : (shapes : List Shape) (touched : List Bool) (d e : ℕ) → d ≡ e → SaysWhether (is_touched touched d) (HasTouching shapes d) → SaysWhether (is_touched touched e) (HasTouching shapes e)
+told_of shapes touched d e same h = subst (λ (x : ℕ). SaysWhether (is_touched touched x) (HasTouching shapes x)) same h
 
 -- the order has grown
 pub told_longer : (n : ℕ) (shapes : List Shape) (order more : List ℕ) (touched : List Bool) → AreToldTo n shapes order touched → ((p : ℕ) → p < n → slice_index more p ≡ slice_index order p) → AreToldTo n shapes more touched
@@ -160,7 +160,7 @@ told_more n shapes order more touched new are lt prefix told = record {
     | inl same ↦ told_of shapes new (slice_index order n) (slice_index order p) (sym same) told.here
     | inr ne ↦
         let before : p < n = elim (cases_eq p n) [ inl e ↦ absurd (ne (ap (slice_index order) e)) | inr other ↦ omega arith ] in
-        subst (λ (b : Bool). Says b (HasTouching shapes (slice_index order p))) (sym (told.kept (slice_index order p) ne)) (are.each p before)
+        subst (λ (b : Bool). SaysWhether b (HasTouching shapes (slice_index order p))) (sym (told.kept (slice_index order p) ne)) (are.each p before)
   ]);
 }
 

@@ -6,7 +6,7 @@ use Rattle.std.proofs.lemmas.Bool.{cases_eq, cases_lt, both_ways, and_from, and_
 use Rattle.std.proofs.lemmas.List.Sums.{sum_by-cons}
 use Rattle.std.proofs.lemmas.Option.{same_Some, slice_get_within, slice_get-get_or, get_or_from_slice_get}
 use Rattle.layout_rules.proofs.PlaceLaws.{PassesAt, list_any-at, list_any-place, count_by-once, count_by-one}
-use Rattle.shape_extract.specs.Searches.{Says, AreThose}
+use Rattle.shape_extract.specs.Searches.{SaysWhether, AreThose}
 use Rattle.shape_extract.specs.Passing.{PassesIn}
 
 pub read_at : {X : Type 0} (xs : List X) (n : ℕ) (x : X) → n < length xs → x ≡ get_or xs n x → slice_get xs n ≡ Some x
@@ -83,12 +83,12 @@ module _ {X : Type 0} (test : X → Bool) (xs : List X) (found : List ℕ) (are 
           both_ways (other x) e (ap other same ∙ both.1)
           )) ∙ sym e
 
-pub one_said : {X : Type 0} (test : X → Bool) (xs : List X) (found : List ℕ) → AreThose (PassesIn test xs) found → (answer : Bool) → Says answer (length found ≡ 1) → Says answer (count_by test xs ≡ 1)
+pub one_said : {X : Type 0} (test : X → Bool) (xs : List X) (found : List ℕ) → AreThose (PassesIn test xs) found → (answer : Bool) → SaysWhether answer (length found ≡ 1) → SaysWhether answer (count_by test xs ≡ 1)
 one_said test xs found are true one = counted_one test xs found are one
 one_said test xs found are false more = λ one. more (found_one test xs found are one)
 
-pub says_one : (n : ℕ) → Says (n == 1) (n ≡ 1)
+pub says_one : (n : ℕ) → SaysWhether (n == 1) (n ≡ 1)
 says_one n = elim (cases_eq n 1) [
-  | inl e ↦ subst (λ (b : Bool). Says b (n ≡ 1)) (sym (eq-eqb n 1 e)) e
-  | inr ne ↦ subst (λ (b : Bool). Says b (n ≡ 1)) (sym (ne_eqb n 1 ne)) ne
+  | inl e ↦ subst (λ (b : Bool). SaysWhether b (n ≡ 1)) (sym (eq-eqb n 1 e)) e
+  | inr ne ↦ subst (λ (b : Bool). SaysWhether b (n ≡ 1)) (sym (ne_eqb n 1 ne)) ne
 ]

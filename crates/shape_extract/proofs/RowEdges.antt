@@ -13,7 +13,7 @@ use Rattle.std.proofs.lemmas.Option.{same_Some, slice_get_within, slice_get-get_
 use Rattle.geom.specs.declared.shapes.Shape.{Shape}
 use Rattle.layout_rules.specs.Layers.{is_frame}
 use Rattle.layout_rules.specs.Rows.{AreRows}
-use Rattle.shape_extract.specs.Searches.{Says}
+use Rattle.shape_extract.specs.Searches.{SaysWhether}
 use Rattle.shape_extract.specs.Code.Edges.{IsEdge, IsAmong, AreEdges, Rises, AreDistinct, EndsWith}
 
 -- ---- a list with one more item
@@ -185,7 +185,7 @@ rows_from shapes edges sorted distinct are same once = record {
 
 -- ---- the last number
 
-pub ends_said : (numbers : List ℤ) (y : ℤ) (answer : Bool) (d : ℤ) → 0 < length numbers → Says answer (get_or numbers (length numbers - 1) d ≡ y) → Says answer (EndsWith numbers y)
+pub ends_said : (numbers : List ℤ) (y : ℤ) (answer : Bool) (d : ℤ) → 0 < length numbers → SaysWhether answer (get_or numbers (length numbers - 1) d ≡ y) → SaysWhether answer (EndsWith numbers y)
 ends_said numbers y true d some says =
     let lt : length numbers - 1 < length numbers = omega arith in
     record { place = length numbers - 1; last = omega arith; number_is = slice_get-get_or numbers (length numbers - 1) d lt ∙ ap Some says }

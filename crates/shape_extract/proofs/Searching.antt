@@ -9,7 +9,7 @@ use Rattle.geom.specs.declared.shapes.Shape.{Shape}
 use Rattle.layout_rules.specs.Reports.{ReportsNone, ReportsNoneAt, Alone, Afterwards, IsFirstReport, PassTogether}
 use Rattle.layout_rules.proofs.ReportLaws.{Alone-first, Alone-none, Afterwards-first, Afterwards-second, Afterwards-none}
 use Rattle.shape_extract.specs.declared.search.Report.{Report}
-use Rattle.shape_extract.specs.Searches.{Says, Finds, FindsAt, AreThose}
+use Rattle.shape_extract.specs.Searches.{SaysWhether, Finds, FindsAt, AreThose}
 
 abbrev pub NoneBelow : (ℕ → ℕ → Type 0) → ℕ → Type 0
 NoneBelow reported n = (a : ℕ) → a < n → ReportsNoneAt reported a
@@ -79,11 +79,11 @@ those_all holds count n numbers are all within = record {
 }
 
 -- a decided fact, by its answer
-pub said_true : (answer : Bool) (fact : Type 0) → Says answer fact → answer ≡ true → fact
+pub said_true : (answer : Bool) (fact : Type 0) → SaysWhether answer fact → answer ≡ true → fact
 said_true true fact says e = says
 said_true false fact says e = absurd cc
 
-pub said_false : (answer : Bool) (fact : Type 0) → Says answer fact → answer ≡ false → fact → ⊥
+pub said_false : (answer : Bool) (fact : Type 0) → SaysWhether answer fact → answer ≡ false → fact → ⊥
 said_false true fact says e = absurd cc
 said_false false fact says e = says
 

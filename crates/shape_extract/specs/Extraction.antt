@@ -12,7 +12,7 @@ use Rattle.layout_rules.specs.Nets.{AreNets}
 use Rattle.layout_rules.specs.Rows.{row_of, row_count}
 use Rattle.layout_rules.specs.Pins.{IsPinOf, entry_count, exit_count}
 use Rattle.layout_rules.specs.Labels.{letter_i, letter_o, Marks, is_labelled, IsNumbered}
-use Rattle.layout_rules.specs.ExcitationLines.{HasPhase}
+use Rattle.layout_rules.specs.ExcitationLines.{BarHasPhase}
 use Rattle.layout_rules.specs.CircuitRules.{IsInput, IsSource}
 use Rattle.rowed.specs.declared.source.Source.{Source}
 use Rattle.chip_circuit.specs.declared.cells.Feed.{Feed}
@@ -56,7 +56,7 @@ pub record IsFeedAt (flat : Flat) (frames : List ℕ) (f i : ℕ) (feed : Feed) 
 -- the bar that overlaps the frame has this phase
 pub record IsInPhase (shapes : List Shape) (frame : Shape) (phase : ℕ) : Type 0 where
   pub number : ℕ
-  pub bar : HasPhase shapes number phase
+  pub bar : BarHasPhase shapes number phase
   pub over : overlap bar.is_bar.shape.rect frame.rect ≡ true
 
 -- the cell of the frame of number f

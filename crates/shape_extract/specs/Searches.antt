@@ -5,9 +5,9 @@ use Rattle.layout_rules.specs.Reports.{ReportsNone, ReportsNoneAt, IsFirstReport
 use Rattle.shape_extract.specs.declared.search.Report.{Report}
 
 -- the answer says whether the fact holds
-abbrev pub Says : Bool → Type 0 → Type 0
-Says true fact = fact
-Says false fact = fact → ⊥
+abbrev pub SaysWhether : Bool → Type 0 → Type 0
+SaysWhether true fact = fact
+SaysWhether false fact = fact → ⊥
 
 -- the first report, or nothing where there is none
 abbrev pub Finds : (ℕ → ℕ → Type 0) → Option Report → Type 0

@@ -7,6 +7,7 @@ use Rattle.gds_read.specs.declared.outline.NamedOutline.{NamedOutline}
 use Rattle.gds_read.specs.Code.Outlining.{outline_of}
 use Rattle.gds_read.specs.Code.Graphs.{graph_of, is_long}
 
+-- the first of two numbers that is there
 abbrev pub or_else : Option ℕ → Option ℕ → Option ℕ
 or_else (Some n) other = Some n
 or_else None other = other
@@ -17,11 +18,11 @@ abbrev pub loop_or_long : List Outline → Option ℕ
 loop_or_long ss = or_else (first_loop ss ss) (first_long ss ss)
 
 -- no chain of more than 64 references goes down from a structure
-pub record IsShort (ss : List NamedOutline) : Type 0 where
+pub record HasShortChains (ss : List NamedOutline) : Type 0 where
   pub each : (n : ℕ) → is_long (graph_of ss) n ≡ false
 
 -- so from no structure of these records
-pub record AreShort (rs : List Record) : Type 0 where
+pub record HaveShortChains (rs : List Record) : Type 0 where
   pub structures : List NamedOutline
   pub same : map outline_of structures ≡ outlines 0 rs
-  pub short : IsShort structures
+  pub short : HasShortChains structures

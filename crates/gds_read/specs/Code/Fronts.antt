@@ -8,7 +8,8 @@ use Rattle.gds_records.specs.Profiled.{length_of, kind_of, first_of_six}
 -- the last three of the faults that a record may have by itself
 abbrev pub code_fault : List Entry → ℕ → ℕ → ℕ → Option StreamKind
 code_fault entries kind form length =
-    first_of_six false false false (known_in entries kind) (has_form_in entries kind form) (has_length_in entries kind length)
+    first_of_six false false false (known_in entries kind) (has_form_in entries kind form)
+    (has_length_in entries kind length)
 
 -- a head, and as many bytes as it says
 pub record IsWhole (p : Profile) (bytes : List ℕ) : Type 0 where

@@ -9,6 +9,7 @@ use Rattle.gds_read.specs.Code.Outlining.{names_in}
 abbrev pub graph_by : List (List ℕ) → List NamedOutline → List (List ℕ)
 graph_by names ss = map (λ s. map (λ u. place_of u.name.now names) s.uses) ss
 
+-- for each structure the numbers of those that it references, by the names of the structures themselves
 abbrev pub graph_of : List NamedOutline → List (List ℕ)
 graph_of ss = graph_by (names_in ss) ss
 
@@ -16,10 +17,12 @@ graph_of ss = graph_by (names_in ss) ss
 abbrev pub targets_at : List (List ℕ) → ℕ → List ℕ
 targets_at graph n = slice_index_or graph n []
 
+-- one of these numbers passes the test
 abbrev pub some_target : (ℕ → Bool) → List ℕ → Bool
 some_target test [] = false
 some_target test (n ∷ ns) = test n || some_target test ns
 
+-- the ranks of these numbers are below the bound
 abbrev pub all_below : (ℕ → ℕ) → ℕ → List ℕ → Bool
 all_below rank bound [] = true
 all_below rank bound (n ∷ ns) = nat_lt (rank n) bound && all_below rank bound ns
@@ -33,6 +36,7 @@ descends (suc k) graph n = some_target (descends k graph) (targets_at graph n)
 unfoldable pub is_long : List (List ℕ) → ℕ → Bool
 is_long graph n = descends 65 graph n
 
+-- no structure is marked
 abbrev pub all_unmarked : List Bool → Bool
 all_unmarked [] = true
 all_unmarked (mark ∷ marks) = not mark && all_unmarked marks
@@ -42,6 +46,7 @@ abbrev pub never_rises : (ℕ → ℕ) → ℕ → List (List ℕ) → Bool
 never_rises rank n [] = true
 never_rises rank n (ns ∷ graph) = all_below rank (suc (rank n)) ns && never_rises rank (suc n) graph
 
+-- one structure references the other directly
 abbrev pub refers : List (List ℕ) → ℕ → ℕ → Bool
 refers graph from to = some_target (λ n. n == to) (targets_at graph from)
 

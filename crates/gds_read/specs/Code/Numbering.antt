@@ -15,6 +15,7 @@ number_in entries t = lookup (λ k. bytes_eq t k.now) entries
 abbrev pub first_place : List ℕ → List (List ℕ) → Option ℕ
 first_place t names = elim (is_listed t names) [ true ↦ Some (place_of t names) | false ↦ None ]
 
+-- a map gives each of these names its first place among them, and no other name a number
 abbrev pub IsNumbering : List (Bor (List ℕ) × ℕ) → List (List ℕ) → Type 0
 IsNumbering entries names = (t : List ℕ) → number_in entries t ≡ first_place t names
 

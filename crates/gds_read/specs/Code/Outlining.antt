@@ -6,9 +6,11 @@ use Rattle.gds_records.specs.Whole.{Use, Outline}
 use Rattle.gds_read.specs.declared.outline.NamedUse.{NamedUse}
 use Rattle.gds_read.specs.declared.outline.NamedOutline.{NamedOutline}
 
+-- a reference in outline: the place of its SNAME record, and the structure name that it gives
 abbrev pub use_of : NamedUse → Use
 use_of u = record { place = u.place; name = u.name.now }
 
+-- a structure in outline: its place in the stream, its name, and its references in order
 abbrev pub outline_of : NamedOutline → Outline
 outline_of s = record { place = s.place; name = s.name.now; uses = map use_of s.uses }
 

@@ -10,6 +10,7 @@ use Rattle.gds_read.specs.declared.place.Place.TheVariants as places
 use Rattle.gds_read.specs.declared.profile.Profile.{Profile}
 use Rattle.gds_read.specs.declared.profile.Profile.TheVariants.{Strict, Wide}
 
+-- one element, from its opening record to ENDEL, of those that the profile reads
 abbrev pub each : Profile → Language
 each Strict = element
 each Wide = wide_element
@@ -28,6 +29,7 @@ behind_strans Wide l = Then (maybe (One MAG) >> maybe (One ANGLE)) l
 abbrev pub structures : Profile → Language
 structures p = Many (structure_of_each (each p)) >> One ENDLIB
 
+-- the UNITS record, and then structures and the end
 abbrev pub units : Profile → Language
 units p = One UNITS >> structures p
 
@@ -39,27 +41,35 @@ within p l = Then (Then l (Many (structure_of_each (each p)))) (One ENDLIB)
 abbrev pub inside : Profile → Language → Language
 inside p l = within p (Then (Then l (Many (each p))) (One ENDSTR))
 
+-- of a TEXT element from its point on: XY, STRING, and its end
 abbrev pub point_on : Language
 point_on = One XY >> One STRING >> tail
 
+-- of a TEXT element from its transform on, which may be missing: STRANS, and then MAG and ANGLE where they are
 abbrev pub transform_on : Language
 transform_on = maybe (One STRANS >> maybe (One MAG) >> maybe (One ANGLE)) >> point_on
 
+-- of a TEXT element from its WIDTH on, which may be missing
 abbrev pub width_on : Language
 width_on = maybe (One WIDTH) >> transform_on
 
+-- of a TEXT element from its PATHTYPE on, which may be missing
 abbrev pub path_on : Language
 path_on = maybe (One PATHTYPE) >> width_on
 
+-- of a TEXT element from its TEXTTYPE on
 abbrev pub type_on : Language
 type_on = One TEXTTYPE >> maybe (One PRESENTATION) >> path_on
 
+-- of a PATH element behind its DATATYPE: PATHTYPE, which may be missing, WIDTH, XY, and its end
 abbrev pub drawn_on : Language
 drawn_on = maybe (One PATHTYPE) >> One WIDTH >> One XY >> tail
 
+-- of an AREF element behind its transform: columns and rows, the three points of its lattice, and its end
 abbrev pub lattice_on : Language
 lattice_on = One COLROW >> One XY >> tail
 
+-- all records that may follow at a place, up to ENDLIB
 abbrev pub rest_of : Profile → Place → Language
 rest_of p places.Start = stream_of_each (each p)
 rest_of p places.Header = One BGNLIB >> One LIBNAME >> maybe (One REFLIBS) >> maybe (One FONTS)

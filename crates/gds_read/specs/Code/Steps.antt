@@ -27,10 +27,12 @@ IsStep p l kept b rest_of (Fault kind) = step_fault p l kept b ≡ Some kind
 abbrev pub kept : ℕ → List ℕ → List (List ℕ) → Kept
 kept element colrow names = record { element = element; colrow = colrow; names = names }
 
+-- what a scan of these bytes comes to: a fault at an offset, or the end of the records and the bytes behind it
 abbrev pub told_as : List ℕ → Outcome → Told
 told_as bytes (outcomes.Stopped offset kind) = Stopped offset kind
 told_as bytes (outcomes.Ended offset) = Ended offset (drop offset bytes)
 
+-- where a scan stops, in bytes from the start of the stream: at its first fault, or behind ENDLIB
 abbrev pub offset_of : Outcome → ℕ
 offset_of (outcomes.Stopped offset kind) = offset
 offset_of (outcomes.Ended offset) = offset

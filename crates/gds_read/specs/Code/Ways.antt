@@ -4,6 +4,7 @@ use Rattle.gds_records.specs.WideValues as values
 use Rattle.gds_read.specs.declared.ways.Way.{Way}
 use Rattle.gds_read.specs.declared.ways.Way.TheVariants.{Right, Left, Up, Down, Still, Slanted}
 
+-- the way from one point of a figure to the next, in the word that the values of streams have for it
 abbrev pub way_of : Way → values.Way
 way_of Right = values.Right
 way_of Left = values.Left

@@ -14,11 +14,13 @@ pub record Holds (outer inner : Rectangle) : Type 0 where
 
 -- the rectangles of the entries from one place up to another lie in this one
 abbrev pub HoldsEntries : List Rectangle → List Entry → ℕ → ℕ → Rectangle → Type 0
-HoldsEntries rects entries from past bounds = (p : ℕ) (e : Entry) (r : Rectangle) → from ≤ p → p < past → slice_get entries p ≡ Some e → slice_get rects e.number ≡ Some r → Holds bounds r
+HoldsEntries rects entries from past bounds = (p : ℕ) (e : Entry) (r : Rectangle) → from ≤ p → p < past
+    → slice_get entries p ≡ Some e → slice_get rects e.number ≡ Some r → Holds bounds r
 
 -- each block holds the entries that follow its place
 abbrev pub AreBlocks : List Rectangle → List Entry → List Block → Type 0
-AreBlocks rects entries blocks = (b : ℕ) (block : Block) → slice_get blocks b ≡ Some block → HoldsEntries rects entries (b * 8) block.past block.bounds
+AreBlocks rects entries blocks = (b : ℕ) (block : Block) → slice_get blocks b ≡ Some block
+    → HoldsEntries rects entries (b * 8) block.past block.bounds
 
 -- the block that begins at this place is far away, and holds what lies before the other one
 pub record IsPassed (blocks : List Block) (place past : ℕ) (rect : Rectangle) (margin : ℕ) : Type 0 where

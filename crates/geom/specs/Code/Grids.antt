@@ -1,5 +1,5 @@
--- Grids of an index over rectangles: each rectangle stands in the cell of its lower left corner, so where the corners of
--- near ones can be follows from how wide and high they are at most.
+-- Grids of an index over rectangles: each rectangle stands in the cell of its lower left corner, so where the corners
+-- of near ones can be follows from how wide and high they are at most.
 use Rattle.std.specs.Prelude.{◌≡◌, ℕ, ◌+◌, ◌-◌, ◌*◌, ◌/◌, ◌^◌, ◌≤◌, ◌-ℤ◌, min, List, length, slice_get, Some, All}
 use Rattle.geom.specs.Rectangle.{Rectangle, positive_part}
 use Rattle.geom.specs.declared.index.grid.Grid.{Grid}

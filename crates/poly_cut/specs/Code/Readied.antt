@@ -79,4 +79,5 @@ IsEntry ss items (Some ready) = AddsAs ss items ready
 
 -- the table has an entry for each structure, in order
 abbrev pub IsTable : List WideStructure → List (Option (List Ready)) → Type 0
-IsTable ss table = (n : ℕ) (entry : Option (List Ready)) → slice_get table n ≡ Some entry → IsEntry ss (items_at ss n) entry
+IsTable ss table =
+    (n : ℕ) (entry : Option (List Ready)) → slice_get table n ≡ Some entry → IsEntry ss (items_at ss n) entry

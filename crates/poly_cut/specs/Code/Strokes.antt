@@ -5,15 +5,15 @@ use Rattle.poly_cut.specs.declared.strokes.Reach.{Reach}
 use Rattle.poly_cut.specs.declared.strokes.Extent.{Extent}
 
 -- at most half of the greatest width
-abbrev pub IsShort : ℤ → Type 0
-IsShort n = (pos 0 ≤ℤ n) × (n ≤ℤ pos (2 ^ 30))
+abbrev pub IsHalfWidth : ℤ → Type 0
+IsHalfWidth n = (pos 0 ≤ℤ n) × (n ≤ℤ pos (2 ^ 30))
 
 -- how far a segment goes is short, and its width is not nothing
 pub record IsReach (r : Reach) : Type 0 where
   pub some : pos 0 <ℤ r.half
-  pub half : IsShort r.half
-  pub under : IsShort r.under
-  pub over : IsShort r.over
+  pub half : IsHalfWidth r.half
+  pub under : IsHalfWidth r.under
+  pub over : IsHalfWidth r.over
 
 -- high is right of low or above it
 pub record IsUpward (low high : Point) : Type 0 where
@@ -28,6 +28,6 @@ IsSegment p q = ((p.x ≢ q.x) × (p.y ≡ q.y)) ⊎ ((p.x ≡ q.x) × (p.y ≢ 
 -- so with its ends named by the path's direction
 pub record IsExtent (e : Extent) : Type 0 where
   pub some : pos 0 <ℤ e.half
-  pub half : IsShort e.half
-  pub before : IsShort e.before
-  pub behind : IsShort e.behind
+  pub half : IsHalfWidth e.half
+  pub before : IsHalfWidth e.before
+  pub behind : IsHalfWidth e.behind

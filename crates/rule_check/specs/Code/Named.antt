@@ -7,6 +7,7 @@ abbrev pub HasPlaces : ℕ → Option Report → Type 0
 HasPlaces n None = Unit {0}
 HasPlaces n (Some r) = (r.first < n) × (r.second < n)
 
+-- the report with the numbers that its two shapes have in the whole layout
 abbrev pub named : List ℕ → Option Report → Option Report
 named numbers None = None
 named numbers (Some r) = Some (record { first = slice_index numbers r.first; second = slice_index numbers r.second })

@@ -10,6 +10,7 @@ use Rattle.rule_check.specs.declared.sheet.Sheet.{Sheet}
 abbrev pub HaveSides : List Shape → Type 0
 HaveSides shapes = (n : ℕ) (s : Shape) → slice_get shapes n ≡ Some s → IsProper s.rect
 
+-- the sheet has each different shape of the layout once, fewer than 2^32 in all, filed by planes
 pub record IsSheet (all : List Shape) (sheet : Sheet) : Type 0 where
   pub distinct : IsDistinct all sheet.numbers.items sheet.shapes
   pub few : length sheet.shapes < 2 ^ 32

@@ -24,16 +24,20 @@ nets_within flat a b h = elim h [
   ]
 ]
 
+-- a label's reported number is below the number of shapes and labels together
 label_within : (flat : Flat) (n : ℕ) → IsLabelAt flat n → n < length flat.shapes + length flat.labels
 label_within flat n at =
     let lt : at.place < length flat.labels = slice_get_within flat.labels at.place at.label at.label_is in
     omega (arith, at.number_is)
 
+-- so is the number reported for a label that marks no port
 pub no_port_label_within : (flat : Flat) (n : ℕ) → IsNoPortLabel flat n → n < length flat.shapes + length flat.labels
 no_port_label_within flat n fault = label_within flat n fault.at
 
+-- the number reported for a port with no label, or with several, is that of a shape
 pub unlabelled_port_within : (flat : Flat) (p : ℕ) → IsUnlabelledPort flat p → p < length flat.shapes
 unlabelled_port_within flat p fault = slice_get_within flat.shapes p fault.port.shape fault.port.shape_is
 
+-- the number reported for a label that is numbered wrongly is below that of shapes and labels together
 pub misnumbered_within : (flat : Flat) (n : ℕ) → IsMisnumbered flat n → n < length flat.shapes + length flat.labels
 misnumbered_within flat n fault = label_within flat n fault.at

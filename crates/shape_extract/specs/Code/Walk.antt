@@ -6,7 +6,7 @@ use Rattle.geom.specs.declared.shapes.Shape.{Shape}
 use Rattle.layout_rules.specs.Touch.{touch, Touching, Joined}
 use Rattle.shape_extract.specs.declared.planes.Plane.{Plane}
 use Rattle.shape_extract.specs.Planes.{in_plane}
-use Rattle.shape_extract.specs.Searches.{Says}
+use Rattle.shape_extract.specs.Searches.{SaysWhether}
 
 -- the numbers are those of the shapes that touch shape `from`
 pub record AreTouching (shapes : List Shape) (from : ℕ) (numbers : List ℕ) : Type 0 where
@@ -58,25 +58,26 @@ IsLowest shapes labels mark = (k : ℕ) → k < mark → slice_index labels k < 
 abbrev pub HasTouching : List Shape → ℕ → Type 0
 HasTouching shapes d = (j : ℕ) × Touching shapes d j
 
+-- what was told of shape d: whether some shape touches it; false where nothing was told
 abbrev pub is_touched : List Bool → ℕ → Bool
 is_touched touched d = slice_index_or touched d false
 
 -- of shape `from` it is told whether some shape touches it, and of the others what was told before
 pub record IsTold (shapes : List Shape) (from : ℕ) (touched new : List Bool) : Type 0 where
   pub long : length new ≡ length touched
-  pub here : Says (is_touched new from) (HasTouching shapes from)
+  pub here : SaysWhether (is_touched new from) (HasTouching shapes from)
   pub kept : (d : ℕ) → d ≢ from → is_touched new d ≡ is_touched touched d
 
 -- of the first n shapes of the order it is told
 pub record AreToldTo (n : ℕ) (shapes : List Shape) (order : List ℕ) (touched : List Bool) : Type 0 where
   pub long : length touched ≡ length shapes
   pub each : (p : ℕ) → p < n
-      → Says (is_touched touched (slice_index order p)) (HasTouching shapes (slice_index order p))
+      → SaysWhether (is_touched touched (slice_index order p)) (HasTouching shapes (slice_index order p))
 
 -- of each shape it is told whether some shape touches it
 pub record AreTold (shapes : List Shape) (touched : List Bool) : Type 0 where
   pub long : length touched ≡ length shapes
-  pub each : (d : ℕ) → d < length shapes → Says (is_touched touched d) (HasTouching shapes d)
+  pub each : (d : ℕ) → d < length shapes → SaysWhether (is_touched touched d) (HasTouching shapes d)
 
 -- the net of shape n: by the label of its kind, where some shape touches it, and else itself alone
 abbrev pub net_at : List ℕ → List ℕ → List ℕ → List Bool → ℕ → ℕ

@@ -2,7 +2,7 @@
 ghost use Rattle.std.specs.Prelude.{◌≡◌, ◌&&◌, ◌==◌, ◌^◌, ◌<◌, IfOk, length, not};
 ghost use Rattle.std.specs.List.{filter};
 ghost use Rattle.layout_rules.specs.ExcitationLines.{meet, Contact, IsPart};
-ghost use Rattle.shape_extract.specs.Searches.{Says, AreThose};
+ghost use Rattle.shape_extract.specs.Searches.{SaysWhether, AreThose};
 ghost use Rattle.shape_extract.specs.Code.Filed.{IsFiled};
 
 use crate::filed_shapes::FiledShapes;
@@ -15,7 +15,7 @@ use geom::{Shape, touches};
 /// Whether the shape of this number is a part of a line with this datatype.
 pub fn is_part(shapes: &[Shape], datatype: u16, n: u32) -> bool
     requires { n < length shapes.now }
-    ensures { Says result (IsPart shapes.now datatype n) }
+    ensures { SaysWhether result (IsPart shapes.now datatype n) }
 {
     let shape = &shapes[n as usize];
     is_line(shape) && shape.datatype == datatype

@@ -12,7 +12,7 @@ ghost use Rattle.layout_rules.specs.ExcitationLines.{
 };
 ghost use Rattle.layout_rules.specs.ExcitationRule.{AreLaidOut};
 ghost use Rattle.layout_rules.specs.Code.ChainRule.{IsChainUncrossed};
-ghost use Rattle.shape_extract.specs.Searches.{Says, Finds, AreThose};
+ghost use Rattle.shape_extract.specs.Searches.{SaysWhether, Finds, AreThose};
 ghost use Rattle.shape_extract.specs.Code.Lines.{AreWalked, GoesOnWrongly};
 ghost use Rattle.shape_extract.specs.Code.Filed.{IsFiled};
 
@@ -74,7 +74,7 @@ fn goes_on_wrongly(shapes: &[Shape], contacts: &[u32], a: u32, b: u32) -> bool
     requires contacts { AreThose (Contact shapes.now b) contacts.now }
     requires before { a < length shapes.now }
     requires bar { b < length shapes.now }
-    ensures { Says result (GoesOnWrongly shapes.now a b) }
+    ensures { SaysWhether result (GoesOnWrongly shapes.now a b) }
 {
     let bar = &shapes[b as usize];
     let before = &shapes[a as usize];
@@ -102,7 +102,7 @@ fn is_not_crossed(
     requires within { b < length shapes.now }
     requires lines { AreLaidOut shapes.now }
     requires walked { AreWalked shapes.now before.now }
-    ensures { IfOk result (λ yes. Says yes (IsChainUncrossed shapes.now b)) }
+    ensures { IfOk result (λ yes. SaysWhether yes (IsChainUncrossed shapes.now b)) }
 {
     if !is_part(shapes, BAR, b) {
         return Ok(false);

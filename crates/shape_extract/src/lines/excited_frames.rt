@@ -7,7 +7,7 @@ ghost use Rattle.layout_rules.specs.Rows.{AreRows};
 ghost use Rattle.layout_rules.specs.ExcitationLines.{phase_of};
 ghost use Rattle.layout_rules.specs.ExcitationRule.{AreLaidOut};
 ghost use Rattle.layout_rules.specs.Code.ChainRule.{IsChainExcited, IsChainUnexcited};
-ghost use Rattle.shape_extract.specs.Searches.{Says, Finds};
+ghost use Rattle.shape_extract.specs.Searches.{SaysWhether, Finds};
 ghost use Rattle.shape_extract.specs.Code.Edges.{IsAmong};
 ghost use Rattle.shape_extract.specs.Code.Lines.{AreWalked, lies_over, Excites, Judges, ChainsExciteFrames};
 ghost use Rattle.shape_extract.specs.Code.Filed.{IsFiled};
@@ -62,7 +62,7 @@ fn excites(shapes: &[Shape], before: &[u32], edges: &[i64], b: u32, frame: &Shap
     requires walked { AreWalked shapes.now before.now }
     requires rows { AreRows shapes.now edges.now }
     requires among { IsAmong edges.now frame.now.rect.y0 }
-    ensures { Says result (Excites shapes.now b frame.now) }
+    ensures { SaysWhether result (Excites shapes.now b frame.now) }
 {
     if !is_part(shapes, BAR, b) {
         return false;
@@ -93,7 +93,7 @@ fn is_excited(
     requires frame { Passes is_frame shapes.now f }
     requires within { f < length shapes.now }
     ensures { IfOk result (λ yes. (frame : Shape) → slice_get shapes.now f ≡ Some frame
-        → Says yes (IsChainExcited shapes.now frame)) }
+        → SaysWhether yes (IsChainExcited shapes.now frame)) }
 {
     list_filed_partners(&LiesOver, Plane::Lines, shapes, filed, f, found)?;
     if found.len() != 1 {

@@ -4,7 +4,7 @@ ghost use Rattle.layout_rules.specs.Layers.{is_line};
 ghost use Rattle.layout_rules.specs.Reports.{Alone, Passes};
 ghost use Rattle.layout_rules.specs.ExcitationLines.{Contact};
 ghost use Rattle.layout_rules.specs.ExcitationRule.{HasItsContacts, IsMisjoined};
-ghost use Rattle.shape_extract.specs.Searches.{Says, Finds, AreThose};
+ghost use Rattle.shape_extract.specs.Searches.{SaysWhether, Finds, AreThose};
 ghost use Rattle.shape_extract.specs.Code.LineParts.{AreBars, AreNoBars, IsOneBar, AreTwoBars, AreBarEnds};
 ghost use Rattle.shape_extract.specs.Code.Filed.{IsFiled};
 
@@ -20,7 +20,7 @@ use std::alloc::Global;
 /// Whether each of these shapes is a bar.
 fn are_bars(shapes: &[Shape], numbers: &[u32]) -> bool
     requires { (p : ℕ) → p < length numbers.now → slice_index numbers.now p < length shapes.now }
-    ensures { Says result (AreBars shapes.now numbers.now) }
+    ensures { SaysWhether result (AreBars shapes.now numbers.now) }
 {
     for number in numbers {
         if !is_part(shapes, BAR, *number) {
@@ -33,7 +33,7 @@ fn are_bars(shapes: &[Shape], numbers: &[u32]) -> bool
 /// Whether none of these shapes is a bar.
 fn are_no_bars(shapes: &[Shape], numbers: &[u32]) -> bool
     requires { (p : ℕ) → p < length numbers.now → slice_index numbers.now p < length shapes.now }
-    ensures { Says result (AreNoBars shapes.now numbers.now) }
+    ensures { SaysWhether result (AreNoBars shapes.now numbers.now) }
 {
     for number in numbers {
         if is_part(shapes, BAR, *number) {
@@ -46,7 +46,7 @@ fn are_no_bars(shapes: &[Shape], numbers: &[u32]) -> bool
 /// Whether these are the contacts of a start.
 fn is_one_bar(shapes: &[Shape], contacts: &[u32]) -> bool
     requires { (p : ℕ) → p < length contacts.now → slice_index contacts.now p < length shapes.now }
-    ensures { Says result (IsOneBar shapes.now contacts.now) }
+    ensures { SaysWhether result (IsOneBar shapes.now contacts.now) }
 {
     contacts.len() == 1 && are_bars(shapes, contacts)
 }
@@ -54,7 +54,7 @@ fn is_one_bar(shapes: &[Shape], contacts: &[u32]) -> bool
 /// Whether these are the contacts of a link.
 fn are_two_bars(shapes: &[Shape], contacts: &[u32]) -> bool
     requires { (p : ℕ) → p < length contacts.now → slice_index contacts.now p < length shapes.now }
-    ensures { Says result (AreTwoBars shapes.now contacts.now) }
+    ensures { SaysWhether result (AreTwoBars shapes.now contacts.now) }
 {
     contacts.len() == 2 && are_bars(shapes, contacts)
 }
@@ -62,7 +62,7 @@ fn are_two_bars(shapes: &[Shape], contacts: &[u32]) -> bool
 /// Whether these are the contacts of a bar.
 fn are_bar_ends(shapes: &[Shape], contacts: &[u32]) -> bool
     requires { (p : ℕ) → p < length contacts.now → slice_index contacts.now p < length shapes.now }
-    ensures { Says result (AreBarEnds shapes.now contacts.now) }
+    ensures { SaysWhether result (AreBarEnds shapes.now contacts.now) }
 {
     1 <= contacts.len() && contacts.len() <= 2 && are_no_bars(shapes, contacts)
 }
@@ -72,7 +72,7 @@ fn has_its_contacts(shapes: &[Shape], n: u32, contacts: &[u32]) -> bool
     requires part { Passes is_line shapes.now n }
     requires within { n < length shapes.now }
     requires contacts { AreThose (Contact shapes.now n) contacts.now }
-    ensures { Says result (HasItsContacts shapes.now n) }
+    ensures { SaysWhether result (HasItsContacts shapes.now n) }
 {
     let part = &shapes[n as usize];
     if part.datatype == START {
@@ -97,7 +97,7 @@ fn is_misjoined(
     requires filed { IsFiled shapes.now filed.now }
     requires few { length shapes.now < 2 ^ 32 }
     requires within { n < length shapes.now }
-    ensures { IfOk result (λ yes. Says yes (IsMisjoined shapes.now n)) }
+    ensures { IfOk result (λ yes. SaysWhether yes (IsMisjoined shapes.now n)) }
 {
     if !is_line(&shapes[n as usize]) {
         return Ok(false);

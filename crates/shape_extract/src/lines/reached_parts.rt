@@ -3,7 +3,7 @@ ghost use Rattle.std.specs.Prelude.{◌≡◌, ◌^◌, ◌<◌, IfOk, length};
 ghost use Rattle.layout_rules.specs.Reports.{Alone};
 ghost use Rattle.layout_rules.specs.ExcitationLines.{IsReached};
 ghost use Rattle.layout_rules.specs.ExcitationRule.{IsCutOff};
-ghost use Rattle.shape_extract.specs.Searches.{Says, Finds};
+ghost use Rattle.shape_extract.specs.Searches.{SaysWhether, Finds};
 ghost use Rattle.shape_extract.specs.Code.Lines.{AreWalked};
 
 use crate::layers::is_line;
@@ -16,7 +16,7 @@ use std::alloc::Global;
 pub fn is_reached(shapes: &[Shape], before: &[u32], n: u32) -> bool
     requires walked { AreWalked shapes.now before.now }
     requires within { n < length shapes.now }
-    ensures { Says result (IsReached shapes.now n) }
+    ensures { SaysWhether result (IsReached shapes.now n) }
 {
     (before[n as usize] as usize) < shapes.len()
 }
@@ -25,7 +25,7 @@ pub fn is_reached(shapes: &[Shape], before: &[u32], n: u32) -> bool
 fn is_cut_off(shapes: &[Shape], before: &[u32], n: u32) -> bool
     requires walked { AreWalked shapes.now before.now }
     requires within { n < length shapes.now }
-    ensures { Says result (IsCutOff shapes.now n) }
+    ensures { SaysWhether result (IsCutOff shapes.now n) }
 {
     if !is_line(&shapes[n as usize]) {
         return false;

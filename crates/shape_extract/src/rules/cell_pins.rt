@@ -1,6 +1,6 @@
 // The kind that a frame names, and the pins that a cell of this kind is to have.
 ghost use Rattle.std.specs.Prelude.{◌≡◌, ◌<◌, ℕ, length, count_by, slice_index};
-ghost use Rattle.shape_extract.specs.Searches.{Says};
+ghost use Rattle.shape_extract.specs.Searches.{SaysWhether};
 ghost use Rattle.shape_extract.specs.Code.Cells.{
   IsKindNumbered,
   is_marked,
@@ -53,7 +53,7 @@ fn count_marked(shapes: &[Shape], numbers: &[u32], layer: u16, datatype: u32) ->
 /// Whether each of these shapes that is on the layer has a datatype below n.
 fn all_below(shapes: &[Shape], numbers: &[u32], layer: u16, n: u32) -> bool
     requires { (p : ℕ) → p < length numbers.now → slice_index numbers.now p < length shapes.now }
-    ensures { Says result (AreBelow shapes.now numbers.now layer n) }
+    ensures { SaysWhether result (AreBelow shapes.now numbers.now layer n) }
 {
     for number in numbers {
         let shape = &shapes[*number as usize];
@@ -67,7 +67,7 @@ fn all_below(shapes: &[Shape], numbers: &[u32], layer: u16, n: u32) -> bool
 /// Whether of each datatype below n one of these shapes is on the layer.
 fn one_of_each(shapes: &[Shape], numbers: &[u32], layer: u16, n: u32) -> bool
     requires { (p : ℕ) → p < length numbers.now → slice_index numbers.now p < length shapes.now }
-    ensures { Says result (AreOneOfEach shapes.now numbers.now layer n) }
+    ensures { SaysWhether result (AreOneOfEach shapes.now numbers.now layer n) }
 {
     for datatype in 0..n {
         if count_marked(shapes, numbers, layer, datatype) != 1 {
@@ -80,7 +80,7 @@ fn one_of_each(shapes: &[Shape], numbers: &[u32], layer: u16, n: u32) -> bool
 /// Whether the datatypes that these shapes have on the layer are those below n, each once.
 pub fn are_numbered(shapes: &[Shape], numbers: &[u32], layer: u16, n: u32) -> bool
     requires { (p : ℕ) → p < length numbers.now → slice_index numbers.now p < length shapes.now }
-    ensures { Says result (AreNumbered shapes.now numbers.now layer n) }
+    ensures { SaysWhether result (AreNumbered shapes.now numbers.now layer n) }
 {
     all_below(shapes, numbers, layer, n) && one_of_each(shapes, numbers, layer, n)
 }

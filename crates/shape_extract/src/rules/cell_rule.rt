@@ -4,7 +4,7 @@ ghost use Rattle.geom.specs.declared.shapes.Shape.{Shape};
 ghost use Rattle.layout_rules.specs.Layers.{is_frame};
 ghost use Rattle.layout_rules.specs.Reports.{Alone, Passes};
 ghost use Rattle.layout_rules.specs.CircuitRules.{IsCell, LiesInOneFrame, IsNoCell, IsStrayPin, CellsBroken};
-ghost use Rattle.shape_extract.specs.Searches.{Says, Finds};
+ghost use Rattle.shape_extract.specs.Searches.{SaysWhether, Finds};
 ghost use Rattle.shape_extract.specs.Code.Filed.{IsFiled};
 
 use crate::filed_shapes::FiledShapes;
@@ -30,7 +30,7 @@ fn is_cell(
     requires few { length shapes.now < 2 ^ 32 }
     requires within { f < length shapes.now }
     ensures { IfOk result (λ yes. (frame : Shape) → slice_get shapes.now f ≡ Some frame
-        → Says yes (IsCell shapes.now f frame)) }
+        → SaysWhether yes (IsCell shapes.now f frame)) }
 {
     let Some(kind) = kind_numbered(shapes[f as usize].datatype) else {
         return Ok(false);
@@ -53,7 +53,7 @@ fn lies_in_one_frame(
     requires filed { IsFiled shapes.now filed.now }
     requires few { length shapes.now < 2 ^ 32 }
     requires within { p < length shapes.now }
-    ensures { IfOk result (λ yes. Says yes (LiesInOneFrame shapes.now p)) }
+    ensures { IfOk result (λ yes. SaysWhether yes (LiesInOneFrame shapes.now p)) }
 {
     list_filed_partners(&PinInFrame, Plane::Frames, shapes, filed, p, found)?;
     Ok(found.len() == 1)
@@ -69,7 +69,7 @@ fn is_at_fault(
     requires filed { IsFiled shapes.now filed.now }
     requires few { length shapes.now < 2 ^ 32 }
     requires within { n < length shapes.now }
-    ensures { IfOk result (λ yes. Says yes (IsNoCell shapes.now n ⊎ IsStrayPin shapes.now n)) }
+    ensures { IfOk result (λ yes. SaysWhether yes (IsNoCell shapes.now n ⊎ IsStrayPin shapes.now n)) }
 {
     let shape = &shapes[n as usize];
     if is_frame(shape) {
@@ -115,7 +115,7 @@ impl<'a> Part for Cells<'a> {
 
 /// Whether there is a frame.
 fn has_frame(shapes: &[Shape]) -> bool
-    ensures { Says result ((f : ℕ) × Passes is_frame shapes.now f) }
+    ensures { SaysWhether result ((f : ℕ) × Passes is_frame shapes.now f) }
 {
     for shape in shapes {
         if is_frame(shape) {

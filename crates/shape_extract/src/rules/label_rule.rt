@@ -11,7 +11,7 @@ ghost use Rattle.layout_rules.specs.CircuitRules.{
   CellsBroken,
   LabelsBroken,
 };
-ghost use Rattle.shape_extract.specs.Searches.{Says, Finds};
+ghost use Rattle.shape_extract.specs.Searches.{SaysWhether, Finds};
 ghost use Rattle.shape_extract.specs.Code.Marking.{AreMarks};
 ghost use Rattle.shape_extract.specs.Code.RowFaults.{ArePinRows};
 ghost use Rattle.shape_extract.specs.Code.Ports.{ports_of};

@@ -3,7 +3,7 @@ ghost use Rattle.std.specs.Prelude.{◌≡◌, ◌^◌, ◌<◌, suc, IfOk, leng
 ghost use Rattle.layout_rules.specs.Nets.{AreNets};
 ghost use Rattle.layout_rules.specs.Reports.{ReportsNone};
 ghost use Rattle.layout_rules.specs.CircuitRules.{CellsBroken, RowsBroken};
-ghost use Rattle.shape_extract.specs.Searches.{Says, Finds};
+ghost use Rattle.shape_extract.specs.Searches.{SaysWhether, Finds};
 ghost use Rattle.shape_extract.specs.Code.Marking.{AreMarks};
 ghost use Rattle.shape_extract.specs.Code.NetChains.{AreChains};
 ghost use Rattle.shape_extract.specs.Code.RowFaults.{ArePinRows, AreRowed, FindsAstray};
@@ -18,7 +18,7 @@ use std::alloc::Global;
 
 /// Whether the one row is just below the other.
 fn is_just_below(lower: usize, upper: usize) -> bool
-    ensures { Says result (upper ≡ suc lower) }
+    ensures { SaysWhether result (upper ≡ suc lower) }
 {
     upper > 0 && upper - 1 == lower
 }

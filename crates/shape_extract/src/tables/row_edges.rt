@@ -2,7 +2,7 @@
 ghost use Rattle.std.specs.Prelude.{◌≡◌, IfOk, IsSorted, Some, slice_get};
 ghost use Rattle.std.specs.Ordering.{int_cmp};
 ghost use Rattle.layout_rules.specs.Rows.{AreRows};
-ghost use Rattle.shape_extract.specs.Searches.{Says};
+ghost use Rattle.shape_extract.specs.Searches.{SaysWhether};
 ghost use Rattle.shape_extract.specs.Code.Edges.{AreEdges, AreDistinct, EndsWith, IsAmong, Rises};
 
 use crate::layers::is_frame;
@@ -32,13 +32,13 @@ fn frame_edges(alloc: Global, shapes: &[Shape]) -> Result<Vec<i64>, Memory>
 }
 
 fn are_same(a: i64, b: i64) -> bool
-    ensures { Says result (a ≡ b) }
+    ensures { SaysWhether result (a ≡ b) }
 {
     a == b
 }
 
 fn ends_with(numbers: &[i64], y: i64) -> bool
-    ensures { Says result (EndsWith numbers.now y) }
+    ensures { SaysWhether result (EndsWith numbers.now y) }
 {
     if numbers.is_empty() {
         return false;

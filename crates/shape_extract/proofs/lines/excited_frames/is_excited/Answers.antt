@@ -5,7 +5,7 @@ use Rattle.std.proofs.lemmas.Option.{same_Some}
 use Rattle.std.specs.Prelude.{slice_index}
 use Rattle.geom.specs.declared.shapes.Shape.{Shape}
 use Rattle.layout_rules.specs.Reports.{PassTogether}
-use Rattle.shape_extract.specs.Searches.{Says, AreThose}
+use Rattle.shape_extract.specs.Searches.{SaysWhether, AreThose}
 use Rattle.shape_extract.specs.Code.Lines.{lies_over, Excites}
 use Rattle.shape_extract.proofs.Searching.{together_within}
 use Rattle.shape_extract.proofs.Marked.{got_at}
@@ -35,7 +35,7 @@ returns c = λ frame got.
     let is : c.index.result.now ≡ slice_index c.list_filed_partners.new.found.items 0 = c.index.ensures ∙ get_or_default_zero c.list_filed_partners.new.found.items 0 c.index.result.now (omega arith) in
     let same : c.index-shapes-f.result ≡ frame = same_Some c.index-shapes-f.result frame (sym (got_at _ _ _ c.requires.within c.index-shapes-f.is) ∙ got) in
     one_over c.args.shapes.now c.args.f c.list_filed_partners.new.found.items c.in_ok-list_filed_partners.ensures frame got one c.index.result.now (sym is) c.excites.result
-    (subst (λ (s : Shape). Says c.excites.result (Excites c.args.shapes.now c.index.result.now s)) same c.excites.ensures)
+    (subst (λ (s : Shape). SaysWhether c.excites.result (Excites c.args.shapes.now c.index.result.now s)) same c.excites.ensures)
 
 pub list_filed_partners-requires-clause-planar : goal.list_filed_partners-requires-clause-planar
 list_filed_partners-requires-clause-planar c = λ s t h. over_line s t h
