@@ -6,10 +6,10 @@ use Rattle.std.proofs.lemmas.Bool.{cases_lt, leb-true, and_parts}
 use Rattle.std.proofs.lemmas.Nat.{div_below}
 use Rattle.std.proofs.Math.Nat.{le-div_iff_mul-le}
 use Rattle.rowed.specs.declared.wire.Wire.{Wire}
-use Rattle.rowed.specs.Sorting.{EachPair}
-use Rattle.rowed.proofs.SortingLaws.{distinct_fit}
+use Rattle.list_orders.specs.Sorting.{EachPair}
+use Rattle.list_orders.proofs.SortingLaws.{distinct_fit}
 use Rattle.channel_route.specs.Crossing.{low, high, crosses, crossing, IsOver}
-use Rattle.channel_route.specs.ShortWires.{Within, IsShort, FromApart}
+use Rattle.channel_route.specs.ShortWires.{Within, IsShortWire, FromApart}
 
 -- what a filter keeps
 kept_all : {X : Type 0} (p : X → Bool) (P Q : X → Type 0) → ((x : X) → p x ≡ true → P x → Q x) → (xs : List X)
@@ -46,7 +46,7 @@ slot_most slot columns column x w le =
     omega arith
 
 -- a wire that crosses a column begins near its slot
-begins_near : (reach columns x : ℕ) (w : Wire) → crosses x w ≡ true → IsShort reach columns w
+begins_near : (reach columns x : ℕ) (w : Wire) → crosses x w ≡ true → IsShortWire reach columns w
     → (x / columns ≤ w.from_slot + (reach - 1)) × (w.from_slot ≤ x / columns + (reach - 1))
 begins_near reach columns x w c s =
     let both = and_parts (leb (low w) x) (leb x (high w)) c in
@@ -64,12 +64,12 @@ begins_near reach columns x w c s =
     ]
 
 -- where every wire moves at most reach - 1 slots, no column is crossed by more than 2 * reach - 1 wires
-pub few_cross : (reach columns : ℕ) (ws : List Wire) → 1 ≤ reach → AllByRecursion (IsShort reach columns) ws
+pub few_cross : (reach columns : ℕ) (ws : List Wire) → 1 ≤ reach → AllByRecursion (IsShortWire reach columns) ws
     → FromApart ws → (x : ℕ) → length (crossing x ws) ≤ 2 * reach - 1
 few_cross reach columns ws some short apart x =
-    let near = kept_all (crosses x) (IsShort reach columns) (λ w. (x / columns - (reach - 1)) ≤ w.from_slot)
+    let near = kept_all (crosses x) (IsShortWire reach columns) (λ w. (x / columns - (reach - 1)) ≤ w.from_slot)
     (λ w c s. omega (arith, (begins_near reach columns x w c s).0)) ws short in
-    let near' = kept_all (crosses x) (IsShort reach columns) (λ w. w.from_slot < x / columns + reach)
+    let near' = kept_all (crosses x) (IsShortWire reach columns) (λ w. w.from_slot < x / columns + reach)
     (λ w c s. omega (arith, (begins_near reach columns x w c s).1)) ws short in
     let apart' = kept_pairs (crosses x) (λ v w. v.from_slot ≡ w.from_slot → ⊥) ws apart in
     omega (
@@ -80,11 +80,11 @@ few_cross reach columns ws some short apart x =
 
 -- so fewer wires than the capacity cross each column, where the reach is at most half of it, and none is over it
 pub below_capacity : (reach columns capacity : ℕ) (ws : List Wire) → 1 ≤ reach → reach ≤ capacity / 2
-    → AllByRecursion (IsShort reach columns) ws → FromApart ws → (x : ℕ) → length (crossing x ws) < capacity
+    → AllByRecursion (IsShortWire reach columns) ws → FromApart ws → (x : ℕ) → length (crossing x ws) < capacity
 below_capacity reach columns capacity ws some half short apart x =
     omega (arith, half, few_cross reach columns ws some short apart x)
 
 pub never_over : (reach columns capacity : ℕ) (ws : List Wire) → 1 ≤ reach → reach ≤ capacity / 2
-    → AllByRecursion (IsShort reach columns) ws → FromApart ws → (x : ℕ) → IsOver ws capacity x → ⊥
+    → AllByRecursion (IsShortWire reach columns) ws → FromApart ws → (x : ℕ) → IsOver ws capacity x → ⊥
 never_over reach columns capacity ws some half short apart x over =
     absurd (omega (arith, over.over, below_capacity reach columns capacity ws some half short apart x))

@@ -1,5 +1,6 @@
 pub mod FewCross
 mod PinsApart
+pub mod PlacedChannels
 mod Density
 mod TracksApart
 mod Fewest

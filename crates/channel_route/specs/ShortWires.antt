@@ -1,6 +1,6 @@
 -- Wires that move few slots, each from a slot of its own.
 use Rattle.std.specs.Prelude.{◌≡◌, ℕ, suc, ◌-◌, ◌*◌, ◌<◌, ◌≤◌, List}
-use Rattle.rowed.specs.Sorting.{EachPair}
+use Rattle.list_orders.specs.Sorting.{EachPair}
 use Rattle.rowed.specs.Channels.{move}
 use Rattle.rowed.specs.declared.wire.Wire.{Wire}
 
@@ -10,7 +10,7 @@ pub record Within (columns slot column : ℕ) : Type 0 where
   pub up_to : column < suc slot * columns
 
 -- a wire's ends stand in columns of its slots, and it moves at most reach - 1 slots
-pub record IsShort (reach columns : ℕ) (w : Wire) : Type 0 where
+pub record IsShortWire (reach columns : ℕ) (w : Wire) : Type 0 where
   pub from_within : Within columns w.from_slot w.from_column
   pub to_within : Within columns w.to_slot w.to_column
   pub short : move w.from_slot w.to_slot ≤ reach - 1

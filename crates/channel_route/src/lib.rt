@@ -9,7 +9,9 @@ mod levels;
 mod order;
 
 pub use channel::{RouteRefusal, Tracks, route};
-pub use laws::{ends_apart, few_cross, never_full, three_wires, tracks_are_fewest};
+pub use laws::{
+    ends_apart, few_cross, never_full, placed_channels, three_wires, tracks_are_fewest,
+};
 
 #[cfg(test)]
 mod tests;

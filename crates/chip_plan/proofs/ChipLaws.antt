@@ -12,19 +12,18 @@ use Rattle.rowed.specs.RowNets.{row_at, IsRowNet}
 use Rattle.rowed.specs.Slots.{span_of}
 use Rattle.rowed.specs.PlacedNets.{PlacedRow, IsPlaced, paired, placed_rows}
 use Rattle.rowed.specs.Short.{AreShort}
-use Rattle.rowed.specs.Extent.{widest as widest_span}
+use Rattle.rowed.specs.Extent.{widest}
 use Rattle.maj_mapping.specs.Plan.{map_net}
 use Rattle.maj_mapping.proofs.FewGates.{few_gates}
 use Rattle.maj_mapping.proofs.MappedNets.{is_plain, keeps as mapping_keeps}
 use Rattle.level_balance.proofs.Counted.{plan_count}
 use Rattle.level_balance.proofs.KeptNet.{plan_is_row_net}
 use Rattle.level_balance.proofs.SameAnswers.{same_answers}
-use Rattle.row_place.specs.Places.{widest}
 use Rattle.row_place.proofs.PlanGiven.{plan_given}
 use Rattle.row_place.proofs.PlanLaws.{places_answer}
 use Rattle.row_place.proofs.PlanSpans.{widest_is}
 use Rattle.repeater_rows.specs.Repeaters.{repeated, repeated_rows}
-use Rattle.repeater_rows.proofs.RowsAboveLaws.{placed_rows_of}
+use Rattle.rowed.proofs.RowsAboveLaws.{placed_rows_of}
 use Rattle.repeater_rows.specs.Passes.{cells_past}
 use Rattle.repeater_rows.proofs.KeptLaws.{repeaters_keep}
 use Rattle.repeater_rows.proofs.AnswerLaws.{repeaters_answer}
@@ -37,7 +36,7 @@ use Rattle.cell_library.proofs.PinCounts.{two_reach}
 use Rattle.cell_library.specs.Reach.{reach_of, slot_width_of}
 use Rattle.layout_make.specs.MayDraw.{MayDraw, GivesKinds}
 use Rattle.chip_plan.specs.Laws.{AnswersAs}
-use Rattle.chip_plan.specs.Plans.{three_of, rows_of, places_of, chip_of, IsWithin}
+use Rattle.chip_plan.specs.Plans.{three_of, rows_of, places_of, chip_of, span_before, IsWithin}
 use Rattle.chip_plan.proofs.CellSizes.{some_width}
 use Rattle.chip_plan.proofs.KeptKinds.{levels_give_kinds, places_keep_kinds, repeaters_keep_kinds}
 
@@ -49,7 +48,7 @@ narrow_from width [] slots at = tt
 narrow_from width (row ∷ rows) [] at = tt
 narrow_from width (row ∷ rows) (s ∷ slots) at = (at 0, narrow_from width rows slots (λ r. at (suc r)))
 
-narrow_widest : (width : ℕ) (rows : List PlacedRow) → AreNarrow width rows → widest_span rows ≤ width
+narrow_widest : (width : ℕ) (rows : List PlacedRow) → AreNarrow width rows → widest rows ≤ width
 narrow_widest width [] narrow = omega arith
 narrow_widest width (row ∷ rows) narrow = omega (arith, narrow.0, narrow_widest width rows narrow.1)
 
@@ -112,9 +111,9 @@ module _ (l : LibraryView) (net : NetView) (cells : IsLibrary l) (known : IsNetl
   chip_short = repeaters_short (places_of l net) (reach_of l) places_keep least_reach
 
   -- it is no wider than its widest row
-  chip_narrow : widest_span (placed_rows (chip_of l net)) ≤ widest (rows_of l net).rows
+  chip_narrow : widest (placed_rows (chip_of l net)) ≤ span_before l net
   chip_narrow =
-      let width = widest (rows_of l net).rows in
+      let width = span_before l net in
       let spans = widest_is (rows_of l net) in
       let before : AreNarrow width (placed_rows (places_of l net)) =
       narrow_from width (places_of l net).net.rows (places_of l net).slots spans.none_wider in

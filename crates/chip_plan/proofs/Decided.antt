@@ -1,15 +1,15 @@
 -- Each netlist keeps the limits of its plan, or has a refusal: its numbers are tested one after the other.
-use Rattle.std.specs.Prelude.{◌≡◌, ℕ, ◌<◌, ◌≤◌, ◌⊎◌, Option, Some, None, length}
+use Rattle.std.specs.Prelude.{◌≡◌, ℕ, ◌*◌, ◌<◌, ◌≤◌, ◌⊎◌, Option, Some, None, length}
 use Rattle.std.proofs.Common.{refl, inl, inr}
 use Rattle.std.proofs.lemmas.Bool.{cases_lt}
 use Rattle.blif_read.specs.Parts.{NetView}
 use Rattle.rowed.specs.PlacedNets.{placed_rows}
 use Rattle.level_balance.specs.Counts.{capped}
-use Rattle.row_place.specs.Places.{widest}
-use Rattle.rowed.specs.Extent.{width_limit, height_limit}
+use Rattle.rowed.specs.Extent.{KeepsWidth, PassesWidth, width_limit, height_limit}
 use Rattle.repeater_rows.specs.Passes.{cells_past}
 use Rattle.cell_library.specs.Library.{LibraryView}
-use Rattle.chip_plan.specs.Plans.{IsWithin, rows_of, chip_of, cells_before, width_of, rows_height}
+use Rattle.cell_library.specs.Reach.{slot_width_of}
+use Rattle.chip_plan.specs.Plans.{IsWithin, chip_of, cells_before, span_before, rows_height}
 use Rattle.chip_plan.specs.Laws.{IsRefused}
 use Rattle.chip_plan.specs.declared.refusal.PlanRefusal.TheVariants.{Slots, Rows, Cells}
 
@@ -17,7 +17,7 @@ module _ (l : LibraryView) (net : NetView) where
   abbrev IsDecided : Type 0
   IsDecided = IsWithin l net ⊎ IsRefused l net
 
-  by_height : cells_before l net ≤ 2000000 → width_of l net ≤ width_limit
+  by_height : cells_before l net ≤ 2000000 → KeepsWidth (span_before l net) (slot_width_of l)
       → cells_past 0 (placed_rows (chip_of l net)) ≡ None
       → (height_limit < rows_height l (length (chip_of l net).net.rows))
       ⊎ (rows_height l (length (chip_of l net).net.rows) ≤ height_limit)
@@ -30,7 +30,7 @@ module _ (l : LibraryView) (net : NetView) where
   by_height before narrow few (inr low) =
       inl (record { few_before = before; narrow = narrow; few_cells = few; low = low })
 
-  by_cells : cells_before l net ≤ 2000000 → width_of l net ≤ width_limit
+  by_cells : cells_before l net ≤ 2000000 → KeepsWidth (span_before l net) (slot_width_of l)
       → (past : Option ℕ) → cells_past 0 (placed_rows (chip_of l net)) ≡ past → IsDecided
   by_cells before narrow None few =
       by_height before narrow few (cases_lt height_limit (rows_height l (length (chip_of l net).net.rows)))
@@ -40,9 +40,10 @@ module _ (l : LibraryView) (net : NetView) where
     refuses = inr (before, narrow, many);
   })
 
-  by_width : cells_before l net ≤ 2000000 → (width_limit < width_of l net) ⊎ (width_of l net ≤ width_limit) → IsDecided
+  by_width : cells_before l net ≤ 2000000
+      → PassesWidth (span_before l net) (slot_width_of l) ⊎ KeepsWidth (span_before l net) (slot_width_of l) → IsDecided
   by_width before (inl wide) = inr (record {
-    refusal = Slots (widest (rows_of l net).rows);
+    refusal = Slots (span_before l net);
     of_limit = λ e. absurd cc;
     refuses = (before, wide, refl);
   })
@@ -54,7 +55,7 @@ module _ (l : LibraryView) (net : NetView) where
     of_limit = λ e. absurd cc;
     refuses = inl (many, refl);
   })
-  by_count (inr few) = by_width few (cases_lt width_limit (width_of l net))
+  by_count (inr few) = by_width few (cases_lt width_limit (span_before l net * slot_width_of l))
 
   pub decided : IsDecided
   decided = by_count (cases_lt 2000000 (cells_before l net))

@@ -17,7 +17,8 @@ use Rattle.level_balance.specs.Counts.{cell_count, capped}
 use Rattle.level_balance.specs.Passes as level
 use Rattle.level_balance.specs.declared.pass.LevelRefusal.{LevelRefusal}
 use Rattle.level_balance.specs.declared.pass.LevelRefusal.TheVariants as levels
-use Rattle.row_place.specs.Places.{place, widest}
+use Rattle.rowed.specs.Extent.{widest_packed, width_limit, height_limit, KeepsWidth}
+use Rattle.row_place.specs.Places.{place}
 use Rattle.row_place.specs.Passes as places
 use Rattle.row_place.specs.declared.pass.PlaceRefusal.{PlaceRefusal}
 use Rattle.row_place.specs.declared.pass.PlaceRefusal.TheVariants as place_refusals
@@ -27,9 +28,10 @@ use Rattle.repeater_rows.specs.declared.pass.RepeatRefusal.{RepeatRefusal}
 use Rattle.repeater_rows.specs.declared.pass.RepeatRefusal.TheVariants as repeat_refusals
 use Rattle.cell_library.specs.Library.{LibraryView}
 use Rattle.cell_library.specs.Laws.{IsLibrary}
-use Rattle.cell_library.specs.Reach.{reach_of}
+use Rattle.cell_library.specs.Reach.{reach_of, slot_width_of}
 use Rattle.layout_make.specs.MayDraw.{MayDraw}
-use Rattle.chip_plan.specs.Plans.{ChipPlan, IsMadeFor, IsWithin, rows_of, places_of, chip_of, cells_before, width_of, rows_height}
+use Rattle.chip_plan.specs.Plans.{ChipPlan, IsMadeFor, IsWithin, rows_of, places_of, chip_of, cells_before, span_before}
+use Rattle.chip_plan.specs.Plans.{rows_height}
 use Rattle.chip_plan.proofs.ChipLaws.{same_placed, same_height, chip_may_draw}
 use Rattle.chip_plan.specs.Refusals.{refusal_of, Refuses}
 
@@ -59,18 +61,19 @@ module _ (l : LibraryView) (plan : ChipPlan) (net : NetView) (made : IsMadeFor l
     omega (arith, given.2.few_cells, count_is given.0 given.1.is_plan),
   )
 
-  width_is : (rows : RowView) → rows ≡ rows_of l net → widest rows.rows * plan.first.second.slot_width ≡ width_of l net
+  width_is : (rows : RowView) → rows ≡ rows_of l net
+      → widest_packed rows.rows * plan.first.second.slot_width ≡ span_before l net * slot_width_of l
   width_is rows e =
-      ap (λ (r : RowView). widest r.rows * plan.first.second.slot_width) e
-      ∙ ap (λ (w : ℕ). widest (rows_of l net).rows * w) made.width
+      ap (λ (r : RowView). widest_packed r.rows * plan.first.second.slot_width) e
+      ∙ ap (λ (w : ℕ). span_before l net * w) made.width
 
   places_given : (placed : PlacedView) → GivesPlaces placed → (placed ≡ places_of l net)
-      × (cells_before l net ≤ 2000000) × (width_of l net ≤ places.width_limit)
+      × (cells_before l net ≤ 2000000) × KeepsWidth (span_before l net) (slot_width_of l)
   places_given placed given =
       let rows = rows_given given.0 given.1 in (
         given.2.is_plan ∙ ap place rows.0,
         rows.1,
-        subst (λ (w : ℕ). w ≤ places.width_limit) (width_is given.0 rows.0) given.2.within,
+        subst (λ (w : ℕ). w ≤ width_limit) (width_is given.0 rows.0) given.2.within,
       )
 
   height_is : (rows : ℕ) → repeats.height_of plan.second.height plan.second.channel rows ≡ rows_height l rows
@@ -92,8 +95,8 @@ module _ (l : LibraryView) (plan : ChipPlan) (net : NetView) (made : IsMadeFor l
           few_before = placed.1;
           narrow = placed.2;
           few_cells = sym (ap (λ (c : PlacedView). repeats.cells_past 0 (placed_rows c)) same) ∙ given.2.few_cells;
-          low = subst (λ (c : PlacedView). rows_height l (length c.net.rows) ≤ repeats.height_limit) same
-              (subst (λ (h : ℕ). h ≤ repeats.height_limit) (height_is (length chip.net.rows)) given.2.not_tall);
+          low = subst (λ (c : PlacedView). rows_height l (length c.net.rows) ≤ height_limit) same
+              (subst (λ (h : ℕ). h ≤ height_limit) (height_is (length chip.net.rows)) given.2.not_tall);
         },
       )
 
@@ -150,9 +153,8 @@ module _ (l : LibraryView) (plan : ChipPlan) (net : NetView) (made : IsMadeFor l
   refused (First (Second (place_refusals.TooWide span))) (inr met) =
       let rows = rows_given met.0 met.1 in (
         rows.1,
-        subst (λ (w : ℕ). places.width_limit < w) (width_is met.0 rows.0) met.2.0,
-        met.2.1
-            ∙ ap (λ (r : RowView). widest r.rows) rows.0,
+        subst (λ (w : ℕ). width_limit < w) (width_is met.0 rows.0) met.2.0,
+        met.2.1 ∙ ap (λ (r : RowView). widest_packed r.rows) rows.0,
       )
   refused (Second repeat_refusals.Memory) said = tt
   refused (Second (repeat_refusals.TooManyCells cells)) (inl e) = absurd cc
@@ -165,6 +167,6 @@ module _ (l : LibraryView) (plan : ChipPlan) (net : NetView) (made : IsMadeFor l
         placed.1,
         placed.2,
         sym (past_is met.0 placed.0) ∙ met.2.0,
-        subst (λ (h : ℕ). repeats.height_limit < h) (height_is rows) met.2.1,
+        subst (λ (h : ℕ). height_limit < h) (height_is rows) met.2.1,
         met.2.2 ∙ ap length (raised_is met.0 placed.0) ∙ sym (same_height l net),
       )

@@ -7,8 +7,8 @@ use Rattle.rowed.specs.PlacedNets.{PlacedView, placed_rows}
 use Rattle.maj_mapping.specs.Plan.{map_net}
 use Rattle.level_balance.specs.Plan.{level_net}
 use Rattle.level_balance.specs.Counts.{cell_count}
-use Rattle.row_place.specs.Places.{place, widest}
-use Rattle.rowed.specs.Extent.{width_limit, height_limit}
+use Rattle.row_place.specs.Places.{place}
+use Rattle.rowed.specs.Extent.{widest_packed, KeepsWidth, height_limit}
 use Rattle.repeater_rows.specs.Repeaters.{repeated}
 use Rattle.repeater_rows.specs.Passes.{cells_past, height_of}
 use Rattle.cell_library.specs.Library.{LibraryView, pins_of}
@@ -31,9 +31,11 @@ channel_of l = (l.capacity + 1) * l.pitch
 abbrev pub rows_of : LibraryView → NetView → RowView
 rows_of l net = level_net (map_net net) (three_of l)
 
+-- the netlist's rows with a slot for each cell, before repeaters
 abbrev pub places_of : LibraryView → NetView → PlacedView
 places_of l net = place (rows_of l net)
 
+-- the chip: the placed rows, with the rows of repeaters that the library's reach calls for
 abbrev pub chip_of : LibraryView → NetView → PlacedView
 chip_of l net = repeated (places_of l net) (reach_of l)
 
@@ -53,16 +55,17 @@ pub record IsMadeFor (l : LibraryView) (plan : ChipPlan) : Type 0 where
 abbrev pub cells_before : LibraryView → NetView → ℕ
 cells_before l net = cell_count (map_net net) (three_of l)
 
--- how wide the widest row is, and how high the rows can come to stand
-abbrev pub width_of : LibraryView → NetView → ℕ
-width_of l net = widest (rows_of l net).rows * slot_width_of l
+-- the span of the widest row before they get repeaters, in slots
+abbrev pub span_before : LibraryView → NetView → ℕ
+span_before l net = widest_packed (rows_of l net).rows
 
+-- the greatest height in nanometres of so many rows and the channels between them, all tracks in use
 abbrev pub rows_height : LibraryView → ℕ → ℕ
 rows_height l rows = height_of l.height (channel_of l) rows
 
 -- the chip keeps all limits
 pub record IsWithin (l : LibraryView) (net : NetView) : Type 0 where
   pub few_before : cells_before l net ≤ 2000000
-  pub narrow : width_of l net ≤ width_limit
+  pub narrow : KeepsWidth (span_before l net) (slot_width_of l)
   pub few_cells : cells_past 0 (placed_rows (chip_of l net)) ≡ None
   pub low : rows_height l (length (chip_of l net).net.rows) ≤ height_limit

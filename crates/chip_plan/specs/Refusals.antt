@@ -8,15 +8,15 @@ use Rattle.rowed.specs.PlacedNets.{placed_rows}
 use Rattle.level_balance.specs.Counts.{capped}
 use Rattle.level_balance.specs.declared.pass.LevelRefusal.{LevelRefusal}
 use Rattle.level_balance.specs.declared.pass.LevelRefusal.TheVariants as levels
-use Rattle.row_place.specs.Places.{widest}
-use Rattle.rowed.specs.Extent.{width_limit, height_limit}
+use Rattle.rowed.specs.Extent.{KeepsWidth, PassesWidth, height_limit}
 use Rattle.row_place.specs.declared.pass.PlaceRefusal.{PlaceRefusal}
 use Rattle.row_place.specs.declared.pass.PlaceRefusal.TheVariants as places
 use Rattle.repeater_rows.specs.Passes.{cells_past}
 use Rattle.repeater_rows.specs.declared.pass.RepeatRefusal.{RepeatRefusal}
 use Rattle.repeater_rows.specs.declared.pass.RepeatRefusal.TheVariants as repeats
 use Rattle.cell_library.specs.Library.{LibraryView}
-use Rattle.chip_plan.specs.Plans.{rows_of, chip_of, cells_before, width_of, rows_height}
+use Rattle.cell_library.specs.Reach.{slot_width_of}
+use Rattle.chip_plan.specs.Plans.{chip_of, cells_before, span_before, rows_height}
 use Rattle.chip_plan.specs.declared.refusal.PlanRefusal.{PlanRefusal}
 use Rattle.chip_plan.specs.declared.refusal.PlanRefusal.TheVariants.{Slots, Rows, Cells, Memory}
 
@@ -25,15 +25,18 @@ abbrev pub of_levels : LevelRefusal → PlanRefusal
 of_levels (levels.TooManyCells cells) = Cells cells
 of_levels levels.Memory = Memory
 
+-- the refusal of placement: the span of the widest row in slots, or want of memory
 abbrev pub of_places : PlaceRefusal → PlanRefusal
 of_places (places.TooWide span) = Slots span
 of_places places.Memory = Memory
 
+-- the refusal of repeaters: too many cells with them, too many rows for the height limit, or want of memory
 abbrev pub of_repeats : RepeatRefusal → PlanRefusal
 of_repeats (repeats.TooManyCells cells) = Cells cells
 of_repeats (repeats.TooTall rows) = Rows rows
 of_repeats repeats.Memory = Memory
 
+-- the refusal of the pass at fault, taken out of the nesting of the four passes
 abbrev pub refusal_of : ThenRefusal (ThenRefusal (ThenRefusal NoMemory LevelRefusal) PlaceRefusal) RepeatRefusal
     → PlanRefusal
 refusal_of (First (First (First refusal))) = Memory
@@ -45,18 +48,19 @@ refusal_of (Second refusal) = of_repeats refusal
 abbrev pub HasManyBefore : LibraryView → NetView → ℕ → Type 0
 HasManyBefore l net cells = (2000000 < cells_before l net) × (cells ≡ capped (cells_before l net))
 
+-- the cells before repeaters and the width keep their limits, but with repeaters there are too many cells
 abbrev pub HasMany : LibraryView → NetView → ℕ → Type 0
 HasMany l net cells =
-    (cells_before l net ≤ 2000000) × (width_of l net ≤ width_limit)
+    (cells_before l net ≤ 2000000) × KeepsWidth (span_before l net) (slot_width_of l)
     × (cells_past 0 (placed_rows (chip_of l net)) ≡ Some cells)
 
 -- what the passes refuse, and with which number
 abbrev pub Refuses : LibraryView → NetView → PlanRefusal → Type 0
 Refuses l net (Cells cells) = HasManyBefore l net cells ⊎ HasMany l net cells
 Refuses l net (Slots span) =
-    (cells_before l net ≤ 2000000) × (width_limit < width_of l net) × (span ≡ widest (rows_of l net).rows)
+    (cells_before l net ≤ 2000000) × PassesWidth (span_before l net) (slot_width_of l) × (span ≡ span_before l net)
 Refuses l net (Rows rows) =
-    (cells_before l net ≤ 2000000) × (width_of l net ≤ width_limit)
+    (cells_before l net ≤ 2000000) × KeepsWidth (span_before l net) (slot_width_of l)
     × (cells_past 0 (placed_rows (chip_of l net)) ≡ None)
     × (height_limit < rows_height l rows) × (rows ≡ length (chip_of l net).net.rows)
 Refuses l net Memory = Unit {0}

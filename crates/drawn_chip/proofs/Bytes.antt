@@ -25,7 +25,7 @@ use Rattle.gds_records.specs.Records.{Record, record_with, spelled}
 use Rattle.gds_records.specs.Writing.{two_bytes, padded, point, dates, element_records, structure_records, library_head}
 use Rattle.gds_records.specs.Writing.{bytes_of}
 use Rattle.layout_rules.specs.Labels.{letter_i, letter_o}
-use Rattle.rowed.specs.Numbers.{numbers}
+use Rattle.list_orders.specs.Numbers.{numbers}
 use Rattle.rowed.specs.PlacedNets.{PlacedView}
 use Rattle.layout_make.specs.Channel.{channel}
 use Rattle.layout_make.specs.Draw as Draw

@@ -15,7 +15,7 @@ use Rattle.rowed.specs.RowCells.{source_at, source_value, bit_or}
 use Rattle.rowed.specs.RowCells as rowed
 use Rattle.rowed.specs.RowNets.{cell_at, outputs_at, output_at, is_input, IsBefore, MayStand, last_of, IsAnswer}
 use Rattle.rowed.specs.PlacedNets.{PlacedView, IsPlaced}
-use Rattle.rowed.specs.Numbers.{numbers}
+use Rattle.list_orders.specs.Numbers.{numbers}
 use Rattle.chip_circuit.specs.declared.cells.ExCell.{ExCell}
 use Rattle.chip_circuit.specs.Answers.{feed_value, cell_value, IsValuation, values_at}
 use Rattle.chip_circuit.specs.Answers as extracted

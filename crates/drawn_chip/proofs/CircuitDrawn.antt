@@ -14,7 +14,7 @@ use Rattle.circuit.specs.declared.cell_kind.CellKind.{CellKind}
 use Rattle.circuit.specs.declared.cell_kind.CellKind.TheVariants.{Buffer, Inverter, Zero, One, Split2, Split3, Majority}
 use Rattle.geom.specs.declared.shapes.Shape.{Shape}
 use Rattle.geom.specs.Rectangle.{overlap}
-use Rattle.layout_rules.specs.ExcitationLines.{HasPhase}
+use Rattle.layout_rules.specs.ExcitationLines.{BarHasPhase}
 use Rattle.layout_rules.specs.Layers.{is_frame}
 use Rattle.layout_rules.specs.Nets.{AreNets}
 use Rattle.layout_rules.proofs.NetLaws.{Joined-back}
@@ -26,7 +26,7 @@ use Rattle.rowed.specs.declared.source.Source.{Source}
 use Rattle.rowed.specs.RowCells.{source_at}
 use Rattle.rowed.specs.RowNets.{last_of, is_input, pins_at}
 use Rattle.rowed.specs.PlacedNets.{PlacedView, IsPlaced}
-use Rattle.rowed.specs.Numbers.{numbers}
+use Rattle.list_orders.specs.Numbers.{numbers}
 use Rattle.cell_library.specs.Library.{LibraryView}
 use Rattle.chip_circuit.specs.declared.cells.Feed.{Feed}
 use Rattle.chip_circuit.specs.declared.cells.Feed.TheVariants.{Nothing, Pin}
@@ -424,7 +424,7 @@ module _ (p : PlacedView) (l : LibraryView) (law : TracksLaw) (may : MayDraw p l
       let in_row : (row_of (flat_shapes p l) frame.rect.y0) % 4 ≡ r % 4 = ap (λ (k : ℕ). k % 4) row in
       go h.bar (row_of (flat_shapes p l) frame.rect.y0 % 4) in_row h.phase h.over
     where
-      go : (b phase : ℕ) → phase ≡ r % 4 → (bar : HasPhase (flat_shapes p l) b phase)
+      go : (b phase : ℕ) → phase ≡ r % 4 → (bar : BarHasPhase (flat_shapes p l) b phase)
           → overlap bar.is_bar.shape.rect (shape_of (sheet p l) (Frame r x.slot x.cell.kind)).rect ≡ true
           → IsInPhase (flat_shapes p l) (shape_of (sheet p l) (Frame r x.slot x.cell.kind)) (r % 4)
       go b phase same bar over =

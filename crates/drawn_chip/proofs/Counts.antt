@@ -9,17 +9,18 @@ use Rattle.circuit.specs.declared.cell_kind.CellKind.{CellKind}
 use Rattle.circuit.specs.declared.cell_kind.CellKind.TheVariants.{Buffer, Inverter, Zero, One, Split2, Split3, Majority}
 use Rattle.cell_library.specs.Library.{LibraryView, input_column_of, output_column_of}
 use Rattle.geom.specs.declared.layout.Element.{Element}
-use Rattle.rowed.specs.Numbers.{numbers}
+use Rattle.list_orders.specs.Numbers.{numbers}
 use Rattle.rowed.specs.PlacedNets.{PlacedView, IsPlaced}
 use Rattle.rowed.specs.RowCells.{source_at}
 use Rattle.rowed.specs.RowNets.{row_at, pins_at}
 use Rattle.rowed.specs.Slots.{AreSeated, EachSeated}
 use Rattle.rowed.specs.declared.row_cell.RowCell.{RowCell}
 use Rattle.rowed.specs.declared.source.Source.{Source}
+use Rattle.rowed.specs.Counts.{fed, cell_feeds, row_feeds, cells_in, wires_in}
 use Rattle.layout_make.specs.Channel.{channel}
 use Rattle.layout_make.specs.Draw as Draw
 use Rattle.layout_make.specs.Sheet.{Tag, InPin, OutPin}
-use Rattle.layout_make.specs.Size.{fed, cell_feeds, row_feeds, cells_in, wires_in, element_number}
+use Rattle.layout_make.specs.Size.{element_number}
 use Rattle.layout_make.specs.Spots.{spots, spots_of}
 use Rattle.layout_make.specs.declared.spots.Spot.{Spot}
 use Rattle.layout_make.specs.Tags.{sheet, tags, cell_tags, spot_tags, wire_tags, line_tags, row_tags}

@@ -15,6 +15,7 @@ use Rattle.layout_rules.specs.Rules.{KeepsRules}
 use Rattle.layout_rules.proofs.NetsExist.{some_nets}
 use Rattle.rowed.specs.PlacedNets.{PlacedView}
 use Rattle.rowed.specs.RowNets.{row_at, IsAnswer}
+use Rattle.rowed.specs.Counts.{cells_in}
 use Rattle.chip_circuit.specs.Answers as extracted
 use Rattle.chip_circuit.specs.Circuits.{CircuitView, KeepsFacts}
 use Rattle.shape_extract.specs.Extraction.{is_wired, IsCircuitOf}
@@ -25,7 +26,7 @@ use Rattle.layout_make.specs.FirstLaw.{FirstLaw, row_edges}
 use Rattle.layout_make.specs.Laws.{flat_shapes}
 use Rattle.layout_make.specs.MayDraw.{MayDraw}
 use Rattle.layout_make.specs.Sheet.{shape_of}
-use Rattle.layout_make.specs.Size.{cells_in, element_number, element_limit}
+use Rattle.layout_make.specs.Size.{element_number, element_limit}
 use Rattle.layout_make.specs.Spots.{spots}
 use Rattle.layout_make.specs.Tags.{sheet, tags}
 use Rattle.layout_make.proofs.AllRules.{ports_of}

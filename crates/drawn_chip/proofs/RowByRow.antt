@@ -5,7 +5,7 @@ use Rattle.std.specs.Prelude.{slice_get}
 use Rattle.std.specs.List.{flat_map, AllZip}
 use Rattle.std.proofs.lemmas.Option.{slice_get_within}
 use Rattle.std.proofs.lemmas.Bool.{cases_lt, cases_order}
-use Rattle.rowed.specs.Numbers.{numbers}
+use Rattle.list_orders.specs.Numbers.{numbers}
 
 -- how many items the rows from k on have before row k + r
 abbrev pub before : {A : Type 0} → (ℕ → List A) → ℕ → ℕ → ℕ

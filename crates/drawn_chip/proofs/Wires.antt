@@ -11,19 +11,19 @@ use Rattle.circuit.specs.declared.cell_kind.CellKind.{CellKind}
 use Rattle.cell_library.specs.Library.{LibraryView, input_column_of, output_column_of}
 use Rattle.geom.specs.declared.shapes.Shape.{Shape}
 use Rattle.layout_rules.specs.Labels.{is_labelled}
-use Rattle.rowed.specs.Numbers.{numbers}
+use Rattle.list_orders.specs.Numbers.{numbers}
 use Rattle.rowed.specs.PlacedNets.{PlacedView, IsPlaced}
 use Rattle.rowed.specs.RowNets.{row_at}
 use Rattle.rowed.specs.declared.row_cell.RowCell.{RowCell}
 use Rattle.rowed.specs.declared.source.Source.{Source}
 use Rattle.rowed.specs.declared.wire.Wire.{Wire}
+use Rattle.rowed.specs.Counts.{fed, cell_feeds, row_feeds, wires_in}
 use Rattle.shape_extract.specs.Extraction.{is_wired}
 use Rattle.layout_make.specs.Channel.{channel}
 use Rattle.layout_make.proofs.Lawful.{IsLawful}
 use Rattle.layout_make.specs.Laws.{flat_shapes, InAt}
 use Rattle.layout_make.specs.Tags.{At, sheet, tags, cell_tags, spot_tags, wire_tags, line_tags, row_tags}
 use Rattle.layout_make.specs.Sheet.{Tag, Frame, InPin, OutPin, Lead, Bar, Rise, Fall, Across, FromVia, ToVia, shape_of}
-use Rattle.layout_make.specs.Size.{fed, cell_feeds, row_feeds, wires_in}
 use Rattle.layout_make.specs.Spots.{spots}
 use Rattle.layout_make.proofs.ReadyNets.{IsReady}
 use Rattle.layout_make.specs.declared.spots.Spot.{Spot}

@@ -3,7 +3,7 @@ use Rattle.std.specs.Prelude.{ℕ, zero, suc, pred, ◌+◌, ◌%◌, true, fals
 use Rattle.std.specs.List.{flat_map}
 use Rattle.circuit.specs.SameAnswers.{SameAnswers}
 use Rattle.geom.specs.declared.shapes.Flat.{Flat}
-use Rattle.rowed.specs.Numbers.{numbers}
+use Rattle.list_orders.specs.Numbers.{numbers}
 use Rattle.rowed.specs.PlacedNets.{PlacedView}
 use Rattle.rowed.specs.RowNets.{last_of, IsAnswer}
 use Rattle.rowed.specs.declared.source.Source.{Source}
@@ -42,6 +42,7 @@ drawn_cell p r x = record {
   feed2 = source_feed (cells_below p (pred r)) x.cell.source2;
 }
 
+-- the cells of row r as the circuit of a layout has them, from left to right
 abbrev pub drawn_row : PlacedView → ℕ → List ExCell
 drawn_row p r = map (drawn_cell p r) (spots p r)
 

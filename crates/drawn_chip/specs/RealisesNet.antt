@@ -6,9 +6,9 @@ use Rattle.gds_records.specs.Writing.{bytes_of}
 use Rattle.geom.specs.FlatForm.{flat_of}
 use Rattle.rowed.specs.PlacedNets.{PlacedView}
 use Rattle.rowed.specs.RowNets.{IsAnswer}
+use Rattle.rowed.specs.Counts.{cells_in, wires_in}
 use Rattle.chip_circuit.specs.Circuits.{CircuitView, KeepsFacts}
 use Rattle.layout_make.specs.Draw.{draw}
-use Rattle.layout_make.specs.Size.{cells_in, wires_in}
 use Rattle.drawn_chip.specs.Realises.{Realises}
 
 -- shapes and labels of the flat form of a drawing

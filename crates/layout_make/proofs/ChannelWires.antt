@@ -11,15 +11,16 @@ use Rattle.rowed.specs.declared.source.Source.{Source}
 use Rattle.rowed.specs.declared.wire.Wire.{Wire}
 use Rattle.rowed.specs.RowCells.{source_at}
 use Rattle.rowed.specs.PlacedNets.{PlacedView}
-use Rattle.rowed.specs.Sorting.{EachPair, Rising}
-use Rattle.rowed.proofs.SortingLaws.{by_key_all, all_by_key, by_key_pairs}
+use Rattle.rowed.proofs.SpanLaws.{at_most_three}
+use Rattle.list_orders.specs.Sorting.{EachPair, Rising}
+use Rattle.list_orders.proofs.SortingLaws.{by_key_all, all_by_key, by_key_pairs}
 use Rattle.cell_library.specs.Library.{LibraryView, input_column_of, output_column_of}
 use Rattle.layout_make.proofs.Lawful.{IsLawful}
 use Rattle.layout_make.specs.Spots.{Spot, spots, AreGiven, IsInput}
 use Rattle.layout_make.proofs.ReadyNets.{Packed, IsReady}
 use Rattle.layout_make.specs.Channel.{in_column, out_column, wire_to, pin_wire, wires_into, from_of, channel}
 use Rattle.layout_make.proofs.Member.{In, in_head, not_in_nil, all_in, in_all}
-use Rattle.layout_make.proofs.PinCounts.{inputs_slots, outputs_slots, slots_most}
+use Rattle.layout_make.proofs.PinCounts.{inputs_slots, outputs_slots}
 
 -- columns tell cells and pins apart
 
@@ -211,7 +212,7 @@ rising_into : (l : LibraryView) (lower : List Spot) (b : ℕ) (xs : List Spot) �
 rising_into l lower b [] p fits = tt
 rising_into l lower b (x ∷ xs) p fits =
     let n = slots_of x.cell.kind in
-    let most = slots_most x.cell.kind in
+    let most = at_most_three x.cell.kind in
     let pins = inputs_slots x.cell.kind in
     let later = rising_into l lower (x.slot + n) xs p.1 (λ k i y s at e. fits (suc k) i y s at e) in
     let two = rising_pin l lower x n 2 x.cell.source2 (wires_into l lower xs)

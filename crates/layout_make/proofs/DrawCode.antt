@@ -3,7 +3,7 @@ use Rattle.std.proofs.Common.{◌≡◌, ℕ, zero, suc, ◌+◌, ◌≤◌, sym
 use Rattle.std.proofs.Common.{drop, append_assoc, Some}
 use Rattle.std.specs.Prelude.{slice_get}
 use Rattle.std.proofs.lemmas.List.{map-append, append-nil}
-use Rattle.rowed.specs.Numbers.{numbers}
+use Rattle.list_orders.specs.Numbers.{numbers}
 use Rattle.layout_make.proofs.RowCode.{drop_at, drop_all}
 
 -- adding

@@ -12,7 +12,7 @@ use Rattle.rowed.specs.PlacedNets.{PlacedView}
 use Rattle.layout_make.specs.Spots.{Spot, spots, AreGiven}
 use Rattle.layout_make.proofs.ReadyNets.{Packed, IsReady}
 use Rattle.rowed.specs.declared.wire.Wire.{Wire}
-use Rattle.rowed.specs.Numbers.{numbers}
+use Rattle.list_orders.specs.Numbers.{numbers}
 use Rattle.layout_make.specs.Channel.{channel, in_column, out_column}
 use Rattle.layout_make.specs.Tags.{spot_tags, wire_tags, line_tags, row_tags, tags}
 use Rattle.layout_make.proofs.Member.{In, in_head, not_in_nil, in_append, in_map, in_flat_map, Once, once_nil}

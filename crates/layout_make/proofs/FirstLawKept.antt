@@ -17,7 +17,7 @@ use Rattle.rowed.specs.PlacedNets.{PlacedView}
 use Rattle.layout_make.specs.Spots.{Spot, spots, input_port, output_port}
 use Rattle.layout_make.proofs.ReadyNets.{IsReady, HasPorts}
 use Rattle.rowed.specs.RowNets.{last_of}
-use Rattle.rowed.specs.Numbers.{numbers}
+use Rattle.list_orders.specs.Numbers.{numbers}
 use Rattle.layout_rules.specs.Rows.{AreRows}
 use Rattle.layout_make.specs.Lines.{E2}
 use Rattle.layout_make.specs.Laws.{FrameAt}

@@ -2,12 +2,13 @@
 use Rattle.std.proofs.Common.{ℕ, zero, suc, ◌+◌, ◌-◌, ◌*◌, ◌<◌, ◌≤◌, arith, length}
 use Rattle.std.proofs.Math.Nat.{mul-le-mul_right}
 use Rattle.rowed.specs.PlacedNets.{PlacedView}
+use Rattle.rowed.specs.Extent.{height_limit}
 use Rattle.channel_route.specs.Tracks.{tracks_used}
 use Rattle.cell_library.specs.Library.{LibraryView}
 use Rattle.layout_make.specs.Sheet.{edge, lower_edge}
 use Rattle.layout_make.specs.Channel.{channel}
 use Rattle.layout_make.specs.Tags.{sheet}
-use Rattle.layout_make.specs.MayDraw.{MayDraw, height_limit}
+use Rattle.layout_make.specs.MayDraw.{MayDraw}
 use Rattle.layout_make.proofs.Ready.{TracksLaw, may_ready}
 use Rattle.layout_make.proofs.WireLengths.{used_below}
 

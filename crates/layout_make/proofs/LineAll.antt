@@ -15,7 +15,7 @@ use Rattle.layout_make.specs.Sheet.{Sheet, Tag, Frame, InPin, OutPin, Lead, Bar,
 use Rattle.layout_make.specs.Sheet.{turns_right, lead_use, layer_of, datatype_of, place_of, shape_of, lower_edge}
 use Rattle.layout_make.proofs.SheetKeeps.{Fits, IsDrawn, HasCells}
 use Rattle.layout_make.specs.Tags.{At}
-use Rattle.rowed.specs.Numbers.{numbers}
+use Rattle.list_orders.specs.Numbers.{numbers}
 use Rattle.layout_make.specs.Lines.{is_line, Contact, IsOf, IsRoute, phase_of, IsLineAt, E2}
 use Rattle.geom.specs.Rectangle.{left_edge, right_edge}
 use Rattle.layout_rules.specs.Rows.{AreRows}

@@ -1,34 +1,10 @@
 -- What the code reads of a row.
-use Rattle.std.proofs.Common.{◌≡◌, ℕ, zero, suc, ◌<◌, refl, sym, ap, ◌∙◌, ◌+◌, ◌≤◌, arith, List, [], ◌∷◌, length}
-use Rattle.std.proofs.Common.{get_or, drop, Some}
+use Rattle.std.proofs.Common.{◌≡◌, ℕ, zero, suc, ◌<◌, refl, ap, ◌∙◌, ◌+◌, ◌≤◌, arith, List, [], ◌∷◌, length}
+use Rattle.std.proofs.Common.{drop, Some}
 use Rattle.std.specs.Prelude.{slice_get, slice_index_or}
 use Rattle.std.proofs.lemmas.Option.{same_Some}
-use Rattle.circuit.specs.CellKinds.{slots_of}
 use Rattle.rowed.specs.declared.row_cell.RowCell.{RowCell}
-use Rattle.rowed.specs.RowNets.{row_at}
-use Rattle.rowed.specs.Slots.{AreSeated, EachSeated}
-use Rattle.rowed.specs.PlacedNets.{PlacedView, IsPlaced}
 use Rattle.layout_make.specs.Spots.{Spot, spots_of}
-
-rows_long : (rows : List (List RowCell)) (slots : List (List ℕ)) → EachSeated rows slots → length slots ≡ length rows
-rows_long [] [] h = refl
-rows_long [] (s ∷ slots) h = absurd h
-rows_long (row ∷ rows) [] h = absurd h
-rows_long (row ∷ rows) (s ∷ slots) h = ap suc (rows_long rows slots h.1)
-
-row_long : (b : ℕ) (cells : List RowCell) (slots : List ℕ) → AreSeated b cells slots → length slots ≡ length cells
-row_long b [] [] h = refl
-row_long b [] (s ∷ slots) h = absurd h
-row_long b (c ∷ cells) [] h = absurd h
-row_long b (c ∷ cells) (s ∷ slots) h = ap suc (row_long (s + slots_of c.kind) cells slots h.2)
-
-pub long_row : (rows : List (List RowCell)) (slots : List (List ℕ)) (r : ℕ) → EachSeated rows slots
-    → length (slice_index_or slots r []) ≡ length (row_at rows r)
-long_row [] [] r h = refl
-long_row [] (s ∷ slots) r h = absurd h
-long_row (row ∷ rows) [] r h = absurd h
-long_row (row ∷ rows) (s ∷ slots) zero h = row_long 0 row s h.0
-long_row (row ∷ rows) (s ∷ slots) (suc r) h = long_row rows slots r h.1
 
 pub spot_there : (cells : List RowCell) (slots : List ℕ) (n : ℕ) (c : RowCell) (s : ℕ) → n < length cells
     → n < length slots → slice_get (spots_of cells slots) n ≡ Some
@@ -37,14 +13,6 @@ spot_there [] slots n c s lc ls = absurd (omega arith)
 spot_there (d ∷ cells) [] n c s lc ls = absurd (omega arith)
 spot_there (d ∷ cells) (t ∷ slots) zero c s lc ls = refl
 spot_there (d ∷ cells) (t ∷ slots) (suc n) c s lc ls = spot_there cells slots n c s (omega arith) (omega arith)
-
-pub got_at : {A : Type 0} (xs : List A) (n : ℕ) (x d : A) → slice_get xs n ≡ Some x → x ≡ get_or xs n d
-got_at [] n x d e = absurd cc
-got_at (y ∷ xs) zero x d e = sym (same_Some _ _ e)
-got_at (y ∷ xs) (suc n) x d e = got_at xs n x d e
-
-pub as_many : (p : PlacedView) → IsPlaced p → length p.slots ≡ length p.net.rows
-as_many p is = rows_long p.net.rows p.slots is.seated
 
 pub spot_bounds : (cells : List RowCell) (slots : List ℕ) (n : ℕ) (x : Spot)
     → slice_get (spots_of cells slots) n ≡ Some x → (n < length cells) × (n < length slots)

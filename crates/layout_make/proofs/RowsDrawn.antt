@@ -1,6 +1,6 @@
 -- What the code adds for a row is what is drawn of it.
-use Rattle.std.proofs.Common.{◌≡◌, ℕ, zero, suc, min, Option, None, ◌+◌, ◌-◌, ◌*◌, ◌<◌, ◌≤◌, max, refl, sym, ap, subst}
-use Rattle.std.proofs.Common.{◌∙◌, arith, List, [], ◌∷◌, ◌++◌, length, map, drop, append_assoc, Some, Result, Err}
+use Rattle.std.proofs.Common.{◌≡◌, ℕ, zero, suc, min, Option, None, ◌+◌, ◌-◌, ◌*◌, ◌<◌, ◌≤◌, refl, sym, ap, subst}
+use Rattle.std.proofs.Common.{◌∙◌, arith, List, [], ◌∷◌, ◌++◌, length, map, append_assoc, Some, Result, Err}
 use Rattle.std.proofs.Common.{IfErr}
 use Rattle.std.specs.Prelude.{slice_get, slice_index_or}
 use Rattle.std.specs.List.{flat_map}
@@ -14,12 +14,14 @@ use Rattle.geom.specs.declared.layout.Element.TheVariants.{Box}
 use Rattle.geom.specs.declared.layout.Structure.{Structure}
 use Rattle.rowed.specs.declared.row_cell.RowCell.{RowCell}
 use Rattle.rowed.specs.declared.wire.Wire.{Wire}
-use Rattle.rowed.specs.Numbers.{numbers}
+use Rattle.list_orders.specs.Numbers.{numbers}
 use Rattle.rowed.specs.RowNets.{row_at}
-use Rattle.rowed.specs.Slots.{span_of}
-use Rattle.rowed.specs.PlacedNets.{PlacedView, IsPlaced, paired, placed_rows}
-use Rattle.rowed.proofs.SortingLaws.{by_key_length}
+use Rattle.rowed.specs.PlacedNets.{PlacedView, IsPlaced, placed_rows}
+use Rattle.list_orders.proofs.SortingLaws.{by_key_length}
 use Rattle.rowed.specs.declared.source.Source.{Source}
+use Rattle.rowed.specs.Extent.{widest}
+use Rattle.rowed.specs.Counts.{fed, row_feeds, wires_in}
+use Rattle.rowed.proofs.SpanLaws.{long_row}
 use Rattle.channel_route.specs.Crossing.{crossing, IsOver}
 use Rattle.layout_rules.specs.declared.layers.TheConstants.{FRAME, INPUT_PIN, OUTPUT_PIN}
 use Rattle.channel_route.specs.Tracks.{route_of, tracks_used}
@@ -34,60 +36,17 @@ use Rattle.layout_make.specs.Sheet.{lead_first}
 use Rattle.layout_make.specs.Spots.{Spot, spots_of, spots}
 use Rattle.layout_make.proofs.ReadyNets.{IsReady}
 use Rattle.layout_make.specs.Channel.{pin_wire, wires_into, from_of, channel}
-use Rattle.layout_make.specs.Size.{fed, row_feeds, wires_in, element_number, element_limit}
+use Rattle.layout_make.specs.Size.{element_number, element_limit}
 use Rattle.layout_make.specs.MayDraw.{MayDraw}
 use Rattle.layout_make.proofs.Ready.{TracksLaw, may_ready}
 use Rattle.layout_make.proofs.WireLengths.{few_over}
-use Rattle.layout_make.specs.Tags.{sheet, wire_place, wire_tags, widest, cell_tags}
+use Rattle.layout_make.specs.Tags.{sheet, wire_place, wire_tags, cell_tags}
 use Rattle.layout_make.specs.Draw.{boxes, alone}
 use Rattle.layout_make.specs.Draw as Draw
 use Rattle.layout_make.specs.Code.Boxes.{boxed, in_box, out_box, frame_box, bend_of, wire_boxes, channel_boxes}
 use Rattle.layout_make.specs.Code.Boxes.{cell_boxes, place_box, lead_box, bar_box, row_boxes}
 use Rattle.layout_make.proofs.Drawn.{once_channel}
-use Rattle.layout_make.proofs.RowCode.{long_row}
 use Rattle.layout_make.proofs.Sound.{tracks_apart, wire_at, wire_is}
-
--- spans
-
-span_at : (cells : List RowCell) (slots : List ℕ) (n : ℕ) (x : Spot) → slice_get (spots_of cells slots) n ≡ Some x
-    → span_of (drop n cells) (drop n slots) ≡ max (x.slot + slots_of x.cell.kind)
-    (span_of (drop (suc n) cells) (drop (suc n) slots))
-span_at [] slots n x e = absurd (let k : slice_get (spots_of [] slots) n ≡ Some x = e in cc)
-span_at (c ∷ cells) [] n x e = absurd cc
-span_at (c ∷ cells) (s ∷ slots) zero x e = ap (λ (y : Spot). max (y.slot + slots_of y.cell.kind) (span_of cells slots))
-    (same_Some _ _ e)
-span_at (c ∷ cells) (s ∷ slots) (suc n) x e = span_at cells slots n x e
-
-pub span_next : (cells : List RowCell) (slots : List ℕ) (n : ℕ) (x : Spot) (old new all : ℕ)
-    → slice_get (spots_of cells slots) n ≡ Some x → new ≡ max (x.slot + slots_of x.cell.kind) old
-    → max old (span_of (drop n cells) (drop n slots)) ≡ all
-    → max new (span_of (drop (n + 1) cells) (drop (n + 1) slots)) ≡ all
-span_next cells slots n x old new all at is so =
-    let e = span_at cells slots n x at in
-    let m = span_of (drop (suc n) cells) (drop (suc n) slots) in
-    let k : span_of (drop (n + 1) cells)
-    (drop (n + 1) slots) ≡ m = ap (λ (i : ℕ). span_of (drop i cells) (drop i slots))
-    (let h : n + 1 ≡ suc n = omega arith in h) in
-    omega arith
-
-widest_at : (rows : List (List RowCell)) (slots : List (List ℕ)) (n : ℕ) → n < length rows → n < length slots
-    → widest (paired (drop n rows) (drop n slots)) ≡ max (span_of (row_at rows n) (slice_index_or slots n []))
-    (widest (paired (drop (suc n) rows) (drop (suc n) slots)))
-widest_at [] slots n lt l = absurd (omega arith)
-widest_at (row ∷ rows) [] n lt l = absurd (omega arith)
-widest_at (row ∷ rows) (s ∷ slots) zero lt l = refl
-widest_at (row ∷ rows) (s ∷ slots) (suc n) lt l = widest_at rows slots n (omega arith) (omega arith)
-
-pub widest_next : (rows : List (List RowCell)) (slots : List (List ℕ)) (n old new all : ℕ) → n < length rows
-    → n < length slots → new ≡ max (span_of (row_at rows n) (slice_index_or slots n [])) old
-    → max old (widest (paired (drop n rows) (drop n slots))) ≡ all
-    → max new (widest (paired (drop (n + 1) rows) (drop (n + 1) slots))) ≡ all
-widest_next rows slots n old new all lt l is so =
-    let e = widest_at rows slots n lt l in
-    let m = widest (paired (drop (suc n) rows) (drop (suc n) slots)) in
-    let k : widest (paired (drop (n + 1) rows) (drop (n + 1) slots)) ≡ m = ap
-    (λ (i : ℕ). widest (paired (drop i rows) (drop i slots))) (let h : n + 1 ≡ suc n = omega arith in h) in
-    omega arith
 
 -- wires
 
@@ -258,11 +217,6 @@ slot_fits s c p a b d =
     let m : c * p ≤ 1000 * p = mul-le-mul_right p b in
     let n : s * (c * p) ≤ 4294967296 * (c * p) = mul-le-mul_right (c * p) (let h : s ≤ 4294967296 = omega arith in h) in
     omega arith
-
-pub same_span : (n : ℕ) (cells more : List RowCell) (slots others : List ℕ) → n ≡ span_of cells slots → cells ≡ more
-    → slots ≡ others → n ≡ span_of more others
-same_span n cells more slots others e f g = e ∙ ap (λ (c : List RowCell). span_of c slots) f
-    ∙ ap (λ (s : List ℕ). span_of more s) g
 
 pub same_structure : (l : LibraryView) (k : CellKind) (name : List ℕ) (elements : List Element)
     → name ≡ Draw.kind_name k → elements ≡ cell_boxes l k

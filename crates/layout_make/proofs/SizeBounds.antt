@@ -6,9 +6,10 @@ use Rattle.rowed.specs.declared.source.Source.{Source}
 use Rattle.rowed.specs.declared.row_cell.RowCell.{RowCell}
 use Rattle.rowed.specs.Slots.{span_of, AreSeated, EachSeated}
 use Rattle.rowed.specs.PlacedNets.{PlacedView, paired, placed_rows}
+use Rattle.rowed.specs.Extent.{widest}
+use Rattle.rowed.specs.Counts.{fed, row_feeds, cells_in, wires_in}
 use Rattle.cell_library.specs.Library.{LibraryView}
-use Rattle.layout_make.specs.Tags.{widest}
-use Rattle.layout_make.specs.Size.{fed, row_feeds, cells_in, wires_in, element_number}
+use Rattle.layout_make.specs.Size.{element_number}
 use Rattle.layout_make.specs.MayDraw.{MayDraw}
 use Rattle.layout_make.proofs.PinCounts.{slots_some}
 use Rattle.layout_make.proofs.Ready.{lawful}

@@ -10,16 +10,18 @@ use Rattle.rowed.specs.declared.row_cell.RowCell.{RowCell}
 use Rattle.rowed.specs.declared.wire.Wire.{Wire}
 use Rattle.rowed.specs.RowCells.{source_at}
 use Rattle.rowed.specs.RowNets.{row_at}
-use Rattle.rowed.specs.Numbers.{numbers}
+use Rattle.list_orders.specs.Numbers.{numbers}
 use Rattle.rowed.specs.PlacedNets.{PlacedView, IsPlaced}
+use Rattle.rowed.specs.Counts.{fed, row_feeds, cells_in, wires_in}
+use Rattle.rowed.proofs.SpanLaws.{long_row}
 use Rattle.cell_library.specs.Library.{LibraryView}
 use Rattle.layout_make.specs.Spots.{spots}
 use Rattle.layout_make.specs.Channel.{channel}
 use Rattle.layout_make.specs.Tags.{sheet, wire_tags, line_tags}
 use Rattle.layout_make.specs.Draw as Draw
-use Rattle.layout_make.specs.Size.{fed, row_feeds, cells_in, wires_in, element_number}
+use Rattle.layout_make.specs.Size.{element_number}
 use Rattle.layout_make.proofs.PortSlots.{many}
-use Rattle.layout_make.proofs.RowCode.{spots_long, long_row}
+use Rattle.layout_make.proofs.RowCode.{spots_long}
 use Rattle.layout_make.proofs.RowsDrawn.{channel_long}
 
 five_each : (r : ℕ) (ws : List Wire) → length (flat_map (wire_tags r) ws) ≡ 5 * length ws

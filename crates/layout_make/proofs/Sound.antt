@@ -12,8 +12,9 @@ use Rattle.rowed.specs.declared.row_cell.RowCell.{RowCell}
 use Rattle.rowed.specs.RowNets.{row_at}
 use Rattle.rowed.specs.Slots.{span_of}
 use Rattle.rowed.specs.PlacedNets.{PlacedView, paired, placed_rows}
-use Rattle.rowed.specs.Numbers.{place_of}
-use Rattle.rowed.specs.Sorting.{EachPair}
+use Rattle.rowed.specs.Extent.{widest}
+use Rattle.list_orders.specs.Numbers.{place_of}
+use Rattle.list_orders.specs.Sorting.{EachPair}
 use Rattle.channel_route.specs.Crossing.{low, high, crosses, Apart, EndsApart}
 use Rattle.channel_route.specs.Tracks.{route_of, tracks_used, AreApart}
 use Rattle.cell_library.specs.Library.{LibraryView}
@@ -22,7 +23,7 @@ use Rattle.layout_make.proofs.SheetKeeps.{IsWire, IsRouted}
 use Rattle.layout_make.specs.Spots.{Spot, spots_of, spots}
 use Rattle.layout_make.proofs.ReadyNets.{IsReady}
 use Rattle.layout_make.specs.Channel.{in_column, out_column, from_of, channel}
-use Rattle.layout_make.specs.Tags.{widest, wire_place, end_of, sheet}
+use Rattle.layout_make.specs.Tags.{wire_place, end_of, sheet}
 use Rattle.layout_make.proofs.Member.{In, in_head, not_in_nil, all_in, in_all}
 use Rattle.layout_make.proofs.Joins.{from_map, to_map}
 use Rattle.layout_make.proofs.PinCounts.{slots_some}

@@ -5,7 +5,7 @@ use Rattle.std.specs.Prelude.{slice_get, slice_index_or}
 use Rattle.std.specs.List.Sorted.{IsSortedByKey, IsStableByKey}
 use Rattle.std.specs.Ordering.{nat_cmp}
 use Rattle.std.proofs.lemmas.Option.{same_Some}
-use Rattle.rowed.specs.Sorting.{by_key}
+use Rattle.list_orders.specs.Sorting.{by_key}
 use Rattle.std.proofs.Math.Nat.{mul-le-mul_right}
 use Rattle.std.proofs.lemmas.List.{append-nil}
 use Rattle.circuit.specs.CellKinds.{slots_of}
@@ -14,14 +14,13 @@ use Rattle.rowed.specs.declared.wire.Wire.{Wire}
 use Rattle.rowed.specs.declared.row_cell.RowCell.{RowCell}
 use Rattle.rowed.specs.RowNets.{row_at}
 use Rattle.rowed.specs.PlacedNets.{PlacedView, IsPlaced, placed_rows}
-use Rattle.rowed.proofs.SortingLaws.{by_key_from_sort}
+use Rattle.rowed.specs.Extent.{widest, width_limit}
+use Rattle.list_orders.proofs.SortingLaws.{by_key_from_sort}
 use Rattle.cell_library.specs.Library.{LibraryView}
 use Rattle.cell_library.specs.Laws.{IsLibrary}
 use Rattle.cell_library.specs.Reach.{slot_width_of}
 use Rattle.layout_make.specs.Spots.{Spot, spots_of, spots, AreGiven}
 use Rattle.layout_make.specs.Channel.{pin_wire, wires_into, from_of, channel}
-use Rattle.layout_make.specs.Tags.{widest}
-use Rattle.layout_make.specs.MayDraw.{width_limit}
 use Rattle.layout_make.specs.Code.WireFits.{CellFits, SourceFits, WiresFit}
 use Rattle.layout_make.proofs.Sound.{widest_most}
 use Rattle.layout_make.proofs.Ready.{lawful, pin_below, source_there}

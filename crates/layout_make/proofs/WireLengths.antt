@@ -15,8 +15,7 @@ use Rattle.rowed.specs.Slots.{EachSeated}
 use Rattle.rowed.specs.PlacedNets.{PlacedView, PlacedRow, paired, placed_rows, IsPlaced}
 use Rattle.rowed.specs.Channels.{Link, source_slot, pin_link, links, move}
 use Rattle.channel_route.specs.Crossing.{crossing}
-use Rattle.channel_route.specs.ShortWires.{Within, FromApart}
-use Rattle.channel_route.specs.ShortWires as routes
+use Rattle.channel_route.specs.ShortWires.{Within, FromApart, IsShortWire}
 use Rattle.channel_route.proofs.FewCross.{below_capacity}
 use Rattle.channel_route.specs.Tracks.{tracks_used, column_of}
 use Rattle.cell_library.specs.declared.laws.Law.TheVariants.{Reach, Capacity}
@@ -25,7 +24,7 @@ use Rattle.cell_library.specs.Laws.{IsLibrary}
 use Rattle.cell_library.specs.Reach.{slot_width_of, fixed_length_of, length_reach_of, reach_of}
 use Rattle.layout_make.proofs.Lawful.{IsLawful}
 use Rattle.layout_make.proofs.SheetKeeps.{WiresShort}
-use Rattle.rowed.specs.Short.{EachShort, AreShort}
+use Rattle.rowed.specs.Short.{AreShort}
 use Rattle.rowed.specs.Short as placed
 use Rattle.layout_make.specs.Spots.{Spot, spots_of}
 use Rattle.layout_make.proofs.ReadyNets.{IsReady}
@@ -169,8 +168,8 @@ few_over p l is known lib short r x =
     let ws = channel p l r in
     let least = lib.laws Reach in
     let room = lib.laws Capacity in
-    let shorts : AllByRecursion (routes.IsShort (reach_of l) l.columns) ws = in_all
-    (routes.IsShort (reach_of l) l.columns) ws (λ w h. let k = wire_within p l is laws r w h in
+    let shorts : AllByRecursion (IsShortWire (reach_of l) l.columns) ws = in_all
+    (IsShortWire (reach_of l) l.columns) ws (λ w h. let k = wire_within p l is laws r w h in
     record { from_within = k.0; to_within = k.1; short = wire_near p l is known (reach_of l) short r w h }) in
     let apart : FromApart ws = pairs_with (λ (v : Wire) (w : Wire). v.to_slot ≡ w.to_slot → ⊥)
     (λ (v : Wire) (w : Wire). v.from_slot ≡ w.from_slot → ⊥) ws (channel_pairs p l is r)

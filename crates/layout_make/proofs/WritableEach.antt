@@ -21,17 +21,18 @@ use Rattle.geom.specs.Writable.{IsWritableStructure}
 use Rattle.layout_rules.specs.Labels.{letter_i, letter_o}
 use Rattle.rowed.specs.declared.row_cell.RowCell.{RowCell}
 use Rattle.rowed.specs.declared.wire.Wire.{Wire}
-use Rattle.rowed.specs.Numbers.{numbers, place_of}
+use Rattle.list_orders.specs.Numbers.{numbers, place_of}
 use Rattle.rowed.specs.Slots.{span_of, AreSeated, EachSeated}
 use Rattle.rowed.specs.PlacedNets.{PlacedView, paired, placed_rows}
+use Rattle.rowed.specs.Extent.{widest, width_limit}
 use Rattle.cell_library.specs.Kinds.{all_kinds}
 use Rattle.cell_library.specs.Library.{LibraryView, input_column_of, output_column_of}
 use Rattle.layout_make.specs.Sheet.{Tag, Lead, Bar, shape_of, centre, lower_edge, lead_first, lead_flank}
 use Rattle.layout_make.specs.Spots.{Spot, spots}
 use Rattle.layout_make.specs.Channel.{channel}
-use Rattle.layout_make.specs.Tags.{sheet, widest, cell_tags, wire_tags, line_tags}
+use Rattle.layout_make.specs.Tags.{sheet, cell_tags, wire_tags, line_tags}
 use Rattle.layout_make.specs.Draw as Draw
-use Rattle.layout_make.specs.MayDraw.{MayDraw, width_limit}
+use Rattle.layout_make.specs.MayDraw.{MayDraw}
 use Rattle.layout_make.proofs.Columns.{next_edge, edges_apart}
 use Rattle.layout_make.proofs.FlatLaw.{kinds_same}
 use Rattle.layout_make.proofs.Heights.{stands_low}

@@ -19,8 +19,9 @@ use Rattle.geom.specs.declared.layout.Element.TheVariants.{Box, Place, Text}
 use Rattle.geom.specs.declared.layout.Structure.{Structure}
 use Rattle.geom.specs.Writable.{IsWritable, refers_to, is_referenced, holds_reference, names_in}
 use Rattle.rowed.specs.declared.row_cell.RowCell.{RowCell}
-use Rattle.rowed.specs.Numbers.{numbers}
+use Rattle.list_orders.specs.Numbers.{numbers}
 use Rattle.rowed.specs.PlacedNets.{PlacedView}
+use Rattle.rowed.proofs.SpanLaws.{got_at}
 use Rattle.cell_library.specs.Kinds.{all_kinds}
 use Rattle.cell_library.specs.Library.{LibraryView}
 use Rattle.layout_make.specs.Sheet.{Sheet, Tag, shape_of}
@@ -34,7 +35,6 @@ use Rattle.layout_make.proofs.Joins.{to_map, from_map}
 use Rattle.layout_make.proofs.Member.{In, Once, in_head, in_append, in_left, in_map, map_in, in_flat_map, flat_map_in}
 use Rattle.layout_make.proofs.Member.{upto_in, in_all, not_in_nil, once_cons, once_tail}
 use Rattle.layout_make.proofs.Ready.{TracksLaw, spot_at}
-use Rattle.layout_make.proofs.RowCode.{got_at}
 use Rattle.layout_make.proofs.Sound.{at_place}
 use Rattle.layout_make.proofs.TopDrawn.{passes, tells}
 use Rattle.layout_make.proofs.WritableEach.{all_of, each_written}

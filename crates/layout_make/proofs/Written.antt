@@ -12,6 +12,8 @@ use Rattle.circuit.specs.declared.cell_kind.CellKind.TheVariants.{Buffer, Invert
 use Rattle.geom.specs.Writable.{IsWritableShape}
 use Rattle.rowed.specs.declared.wire.Wire.{Wire}
 use Rattle.rowed.specs.PlacedNets.{PlacedView, placed_rows}
+use Rattle.rowed.specs.Extent.{widest, width_limit}
+use Rattle.rowed.proofs.SpanLaws.{at_most_three}
 use Rattle.cell_library.specs.Library.{LibraryView, IsGiven, input_column_of, output_column_of}
 use Rattle.cell_library.specs.Reach.{slot_width_of}
 use Rattle.layout_make.proofs.Lawful.{IsLawful}
@@ -23,14 +25,12 @@ use Rattle.layout_make.specs.Spots.{Spot}
 use Rattle.layout_make.proofs.ReadyNets.{IsReady}
 use Rattle.layout_make.specs.Channel.{channel}
 use Rattle.layout_make.specs.Draw.{alone}
-use Rattle.layout_make.specs.Tags.{widest}
-use Rattle.layout_make.specs.MayDraw.{width_limit}
 use Rattle.layout_make.proofs.ChannelWires.{wire_of}
 use Rattle.layout_make.proofs.Columns.{centre_rises, track_above, track_below}
 use Rattle.layout_make.proofs.Member.{In}
 use Rattle.layout_make.proofs.Origins.{WirePart, TheRise, TheFall, TheAcross, TheFromVia, TheToVia, CellPart, TheFrame}
 use Rattle.layout_make.proofs.Origins.{AnInput, AnOutput}
-use Rattle.layout_make.proofs.PinCounts.{outputs_slots, inputs_slots, slots_some, slots_most}
+use Rattle.layout_make.proofs.PinCounts.{outputs_slots, inputs_slots, slots_some}
 use Rattle.layout_make.proofs.Sound.{widest_most}
 use Rattle.layout_make.proofs.WireLengths.{wire_within}
 
@@ -208,7 +208,7 @@ cell_written l laws sizes k given fits x at is t (AnInput i lt e) =
     (sym (e ∙ ap (λ (n : ℕ). InPin 0 (n * l.columns + input_column_of l x.cell.kind i) i) at
     ∙ ap (λ (j : CellKind). InPin 0 (0 * l.columns + input_column_of l j i) i) is)) (
     let below : i < inputs_of k = subst (λ (j : CellKind). i < inputs_of j) is lt in
-    let slot = inputs_slots k in let most = slots_most k in let half = sizes.wire_half in let pin = sizes.pin_some in
+    let slot = inputs_slots k in let most = at_most_three k in let half = sizes.wire_half in let pin = sizes.pin_some in
     let pins = sizes.pin_most in
     let right = strip_right l laws (0 * l.columns + input_column_of l k i)
     (column_right l k i (input_column_of l k i) fits (omega arith) (laws.input_most k i given below)) in
@@ -218,7 +218,8 @@ cell_written l laws sizes k given fits x at is t (AnOutput i lt e) =
     (sym (e ∙ ap (λ (n : ℕ). OutPin 0 (n * l.columns + output_column_of l x.cell.kind i) i) at
     ∙ ap (λ (j : CellKind). OutPin 0 (0 * l.columns + output_column_of l j i) i) is)) (
     let below : i < outputs_of k = subst (λ (j : CellKind). i < outputs_of j) is lt in
-    let slot = outputs_slots k in let most = slots_most k in let half = sizes.wire_half in let pin = sizes.pin_some in
+    let slot = outputs_slots k in let most = at_most_three k in let half = sizes.wire_half in
+    let pin = sizes.pin_some in
     let low = sizes.pin_low in let high = sizes.height_most in
     let right = strip_right l laws (0 * l.columns + output_column_of l k i)
     (column_right l k i (output_column_of l k i) fits (omega arith) (laws.output_most k i given below)) in

@@ -1,40 +1,17 @@
 -- Worked chips with library A, each with the layout or the flat form that another program drew of it.
-use Rattle.std.specs.Prelude.{ℕ, [], ◌∷◌, Option, Some, None, pos, negsuc}
-use Rattle.circuit.specs.declared.cell_kind.CellKind.{CellKind}
-use Rattle.circuit.specs.declared.cell_kind.CellKind.TheVariants.{Buffer, Zero, Split3, Majority}
+use Rattle.std.specs.Prelude.{[], ◌∷◌, pos, negsuc}
+use Rattle.circuit.specs.declared.cell_kind.CellKind.TheVariants.{Zero, Split3, Majority}
 use Rattle.geom.specs.declared.shapes.Flat.{Flat}
 use Rattle.geom.specs.FirstChip.{drawn, labelled}
-use Rattle.rowed.specs.declared.source.Source.{Source}
-use Rattle.rowed.specs.declared.row_cell.RowCell.{RowCell}
+use Rattle.rowed.specs.MadeCells.{source, cell, bare_cell, fed_cell, input_cell, output_cell}
 use Rattle.rowed.specs.PlacedNets.{PlacedView}
 use Rattle.cell_library.specs.Library.{LibraryView}
 use Rattle.cell_library.specs.LibraryA.{library_a_view, pins_at}
 
--- an output of a cell of the row before
-abbrev pub output : ℕ → ℕ → Option Source
-output cell number = Some (record { cell = cell; output = number })
-
--- a cell with its sources, its input and its output
-abbrev pub cell_of : CellKind → Option Source → Option Source → Option Source → Option ℕ → Option ℕ → RowCell
-cell_of kind a b c input shown =
-    record { kind = kind; source0 = a; source1 = b; source2 = c; input = input; output = shown }
-
--- a buffer that shows an input
-abbrev pub enters : ℕ → RowCell
-enters input = cell_of Buffer None None None (Some input) None
-
--- a constant zero
-abbrev pub zero_cell : RowCell
-zero_cell = cell_of Zero None None None None None
-
--- a buffer that is read as an output
-abbrev pub leaves : Option Source → ℕ → RowCell
-leaves source number = cell_of Buffer source None None None (Some number)
-
 -- a buffer in each of two rows
 abbrev pub first_placed : PlacedView
 first_placed = record {
-  net = record { inputs = 1; outputs = 1; rows = (enters 0 ∷ []) ∷ (leaves (output 0 0) 0 ∷ []) ∷ [] };
+  net = record { inputs = 1; outputs = 1; rows = (input_cell 0 ∷ []) ∷ (output_cell (source 0 0) 0 ∷ []) ∷ [] };
   slots = (0 ∷ []) ∷ (0 ∷ []) ∷ [];
 }
 
@@ -44,9 +21,9 @@ second_placed = record {
   net = record {
     inputs = 2;
     outputs = 1;
-    rows = (enters 0 ∷ zero_cell ∷ enters 1 ∷ [])
-        ∷ (cell_of Majority (output 0 0) (output 1 0) (output 2 0) None None ∷ [])
-        ∷ (leaves (output 0 0) 0 ∷ [])
+    rows = (input_cell 0 ∷ bare_cell Zero ∷ input_cell 1 ∷ [])
+        ∷ (cell Majority (source 0 0 ∷ source 1 0 ∷ source 2 0 ∷ []) ∷ [])
+        ∷ (output_cell (source 0 0) 0 ∷ [])
         ∷ [];
   };
   slots = (0 ∷ 1 ∷ 2 ∷ []) ∷ (0 ∷ []) ∷ (0 ∷ []) ∷ [];
@@ -112,9 +89,9 @@ third_placed = record {
   net = record {
     inputs = 1;
     outputs = 3;
-    rows = (enters 0 ∷ [])
-        ∷ (cell_of Split3 (output 0 0) None None None None ∷ [])
-        ∷ (leaves (output 0 0) 0 ∷ leaves (output 0 1) 1 ∷ leaves (output 0 2) 2 ∷ [])
+    rows = (input_cell 0 ∷ [])
+        ∷ (fed_cell Split3 (source 0 0) ∷ [])
+        ∷ (output_cell (source 0 0) 0 ∷ output_cell (source 0 1) 1 ∷ output_cell (source 0 2) 2 ∷ [])
         ∷ [];
   };
   slots = (0 ∷ []) ∷ (0 ∷ []) ∷ (0 ∷ 1 ∷ 2 ∷ []) ∷ [];

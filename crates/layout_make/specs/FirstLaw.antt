@@ -10,7 +10,7 @@ use Rattle.layout_make.specs.Spots.{Spot, spots, PortAt, input_port, output_port
 use Rattle.geom.specs.FlatForm.{flat_of}
 use Rattle.layout_make.specs.Draw.{input_label, output_label, labels, draw, last_row}
 use Rattle.layout_make.specs.Tags.{sheet}
-use Rattle.rowed.specs.Numbers.{numbers}
+use Rattle.list_orders.specs.Numbers.{numbers}
 use Rattle.layout_rules.specs.Rows.{AreRows}
 use Rattle.layout_make.specs.Lines.{E2}
 use Rattle.layout_make.specs.Marks.{MarksOne}

@@ -4,7 +4,7 @@ use Rattle.std.specs.List.{AllByRecursion}
 use Rattle.rowed.specs.declared.row_cell.RowCell.{RowCell}
 use Rattle.rowed.specs.PlacedNets.{PlacedView, IsPlaced, placed_rows}
 use Rattle.rowed.specs.Short.{AreShort}
-pub use Rattle.rowed.specs.Extent.{widest, width_limit, height_limit}
+use Rattle.rowed.specs.Extent.{widest, KeepsWidth, height_limit}
 use Rattle.cell_library.specs.Library.{LibraryView, IsGiven}
 use Rattle.cell_library.specs.Laws.{IsLibrary}
 use Rattle.cell_library.specs.Reach.{reach_of, slot_width_of}
@@ -24,7 +24,7 @@ pub record MayDraw (p : PlacedView) (l : LibraryView) : Type 0 where
   pub library : IsLibrary l
   pub given : GivesKinds l p.net.rows
   pub short : AreShort (reach_of l) (placed_rows p)
-  pub narrow : widest (placed_rows p) * slot_width_of l ≤ width_limit
+  pub narrow : KeepsWidth (widest (placed_rows p)) (slot_width_of l)
   pub low : most_height l (length p.net.rows) ≤ height_limit
   -- so that the number of each label is one of 32 bits
   pub few_inputs : p.net.inputs < 2 ^ 32

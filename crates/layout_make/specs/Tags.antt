@@ -5,9 +5,9 @@ use Rattle.std.specs.List.{flat_map}
 use Rattle.circuit.specs.CellKinds.{inputs_of, outputs_of}
 use Rattle.circuit.specs.declared.cell_kind.CellKind.{CellKind}
 use Rattle.rowed.specs.declared.wire.Wire.{Wire}
-use Rattle.rowed.specs.Numbers.{numbers, place_of}
+use Rattle.list_orders.specs.Numbers.{numbers, place_of}
 use Rattle.rowed.specs.PlacedNets.{PlacedView, placed_rows}
-pub use Rattle.rowed.specs.Extent.{widest}
+use Rattle.rowed.specs.Extent.{widest}
 use Rattle.channel_route.specs.Tracks.{tracks_used, route_of}
 use Rattle.cell_library.specs.Library.{LibraryView, input_column_of, output_column_of}
 use Rattle.layout_make.specs.Sheet.{Sheet, Tag, Frame, InPin, OutPin, Lead, Bar, Rise, Fall, Across, FromVia, ToVia}

@@ -3,7 +3,7 @@ ghost use Rattle.std.specs.Prelude.{◌≡◌, ℕ, ◌<◌, ◌≤◌, ◌+◌,
 ghost use Rattle.std.specs.Prelude.{IfOk, IfErr, OnOk};
 ghost use Rattle.geom.specs.Writable.{IsWritable};
 ghost use Rattle.rowed.specs.PlacedNets.{placed_rows};
-ghost use Rattle.rowed.specs.Numbers.{numbers};
+ghost use Rattle.list_orders.specs.Numbers.{numbers};
 ghost use Rattle.channel_route.specs.Tracks.{tracks_used, route_of};
 ghost use Rattle.cell_library.specs.Reach.{slot_width_of};
 ghost use Rattle.layout_make.specs.Spots.{spots_of};
@@ -12,18 +12,18 @@ ghost use Rattle.layout_make.specs.Channel.{channel as channel_of};
 ghost use Rattle.std.specs.List.{flat_map};
 ghost use Rattle.circuit.specs.declared.cell_kind.CellKind.{CellKind as Kind};
 ghost use Rattle.cell_library.specs.Library.{IsGiven};
-ghost use Rattle.layout_make.specs.Tags.{sheet, widest, wire_tags};
+ghost use Rattle.layout_make.specs.Tags.{sheet, wire_tags};
 ghost use Rattle.layout_make.specs.Draw.{draw as drawn, boxes, used_kinds, cell_structure, last_row};
 ghost use Rattle.layout_make.specs.Draw.{row_elements, top_elements};
 ghost use Rattle.layout_make.specs.Code.Boxes.{bend_of, place_box, row_boxes, channel_boxes};
 ghost use Rattle.layout_make.specs.Size.{element_number, element_limit, RefusesSize};
-ghost use Rattle.rowed.specs.Slots.{span_of};
-ghost use Rattle.layout_make.specs.MayDraw.{MayDraw, width_limit};
+ghost use Rattle.rowed.specs.Extent.{widest, KeepsWidth};
+ghost use Rattle.layout_make.specs.MayDraw.{MayDraw};
 
 use crate::marks::{Ports, push_labels};
 use crate::rows::{bar, known_sizes, lead, push_wire_boxes};
 use crate::sizing::element_number;
-use crate::spots::{Row, Spot, input_count, output_count, row_count};
+use crate::spots::{Row, Spot, input_count, output_count};
 use crate::structures::{cell_structure, kind_place, used_kinds};
 use crate::wires::channel_wires;
 use aq_base::{Bytes, List, Memory};
@@ -186,31 +186,13 @@ fn push_channel(
     Ok(next)
 }
 
-/// The span of a row, in slots.
-fn row_span(row: &Row) -> u64
-    requires { length row.now.slots.now ≡ length row.now.cells.now }
-    ensures { result ≡ span_of row.now.cells.now row.now.slots.now }
-{
-    let mut span = 0;
-    for number in 0..row.cells.len() {
-        let spot = row.spot(number);
-        span = (u64::from(spot.slot) + u64::from(spot.cell.kind.slots())).max(span);
-    }
-    span
-}
-
 /// The right end of the rows.
 fn right_end(placed: &Placed, library: &Library) -> u64
-    requires { widest (placed_rows placed.now) * slot_width_of library.now ≤ width_limit }
+    requires { KeepsWidth (widest (placed_rows placed.now)) (slot_width_of library.now) }
     ensures { result ≡ widest (placed_rows placed.now) * slot_width_of library.now }
 {
-    placed.known();
     library.known();
-    let mut widest = 0;
-    for number in 0..row_count(placed) {
-        widest = row_span(&Row::of(placed, number)).max(widest);
-    }
-    widest * (library.columns() * library.pitch())
+    placed.span() * (library.columns() * library.pitch())
 }
 
 /// Adds the cells and the line of a row, from the row with the lower edge `first` on.
@@ -256,7 +238,7 @@ fn row_elements(
     placed.known();
     library.known();
     tracks_are_fewest();
-    let count = row_count(placed);
+    let count = placed.row_count();
     let right = right_end(placed, library);
     let mut elements = Vec::with_capacity(alloc, element_number(placed) as usize)?;
     let mut edge = 0;
@@ -312,7 +294,7 @@ fn top_elements(
         library.pin() / 2,
         &mut elements,
     )?;
-    let last = row_count(placed) - 1;
+    let last = placed.row_count() - 1;
     let top = Row::of(placed, last);
     let column = library.output_column(CellKind::Buffer, 0);
     let y = (edge + library.height()).saturating_sub(library.pin() / 2);

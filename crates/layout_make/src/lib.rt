@@ -13,8 +13,8 @@ mod wires;
 
 pub use drawing::{DrawRefusal, draw};
 pub use laws::{drawing_laws, never_full, worked_chips};
-pub use sizing::{cell_number, element_number, wire_number};
-pub use spots::{Spot, row_count};
+pub use sizing::element_number;
+pub use spots::Spot;
 pub use wires::channel_wires;
 
 #[cfg(test)]

@@ -26,13 +26,6 @@ pub(crate) struct Row<'a> {
     pub(crate) slots: &'a [u32],
 }
 
-/// How many rows a placed net has.
-pub fn row_count(placed: &Placed) -> usize
-    ensures { result ≡ length placed.now.net.rows }
-{
-    placed.net.rows.len()
-}
-
 /// How many inputs a placed net has.
 pub(crate) fn input_count(placed: &Placed) -> u32
     ensures { result ≡ placed.now.net.inputs }
@@ -47,23 +40,6 @@ pub(crate) fn output_count(placed: &Placed) -> u32
     placed.net.outputs
 }
 
-/// The cells of row `number` of a placed net.
-fn cells_at(placed: &Placed, number: usize) -> &[RowCell]
-    requires { number < length placed.now.net.rows }
-    ensures { result.now ≡ row_at placed.now.net.rows number }
-{
-    placed.net.rows.get(number).as_slice()
-}
-
-/// The slots of row `number` of a placed net.
-fn slots_at(placed: &Placed, number: usize) -> &[u32]
-    requires known { IsPlaced placed.now }
-    requires number { number < length placed.now.net.rows }
-    ensures { result.now ≡ slice_index_or placed.now.slots number [] }
-{
-    placed.slots.get(number).as_slice()
-}
-
 impl<'a> Row<'a> {
     /// Row `number` of a placed net.
     pub(crate) fn of(placed: &'a Placed, number: usize) -> Row<'a>
@@ -73,8 +49,8 @@ impl<'a> Row<'a> {
         ensures slots { result.slots.now ≡ slice_index_or placed.now.slots number [] }
     {
         Row {
-            cells: cells_at(placed, number),
-            slots: slots_at(placed, number),
+            cells: placed.cells_at(number),
+            slots: placed.slots_at(number),
         }
     }
 

@@ -1,6 +1,6 @@
 // Worked chips, drawn with library A. The rectangles are those of another program that draws by the same formulas.
 ghost use Rattle.std.specs.Prelude.{◌≡◌, ◌∷◌, [], Some, IfOk};
-ghost use Rattle.circuit.specs.declared.cell_kind.CellKind.TheVariants.{Buffer as BufferKind, Split3 as Split3Kind};
+ghost use Rattle.rowed.specs.MadeCells.{source};
 ghost use Rattle.rowed.specs.PlacedNets.{IsPlaced};
 ghost use Rattle.cell_library.specs.Laws.{IsLibrary};
 ghost use Rattle.cell_library.specs.LibraryA.{library_a_view};
@@ -17,57 +17,10 @@ use rowed::{Placed, RowCell, RowNet, Source, Wire};
 use std::alloc::Global;
 use std::test::Fail;
 
-fn zero() -> RowCell
-    ensures { result ≡ chips.zero_cell }
+fn source(cell: u32, output: u32) -> Source
+    ensures { result ≡ source cell output }
 {
-    RowCell {
-        kind: CellKind::Zero,
-        source0: None,
-        source1: None,
-        source2: None,
-        input: None,
-        output: None,
-    }
-}
-
-fn enters(number: u32) -> RowCell
-    ensures { result ≡ chips.enters number }
-{
-    RowCell {
-        kind: CellKind::Buffer,
-        input: Some(number),
-        ..zero()
-    }
-}
-
-fn leaves(cell: u32, output: u32, number: u32) -> RowCell
-    ensures { result ≡ chips.leaves (chips.output cell output) number }
-{
-    RowCell {
-        kind: CellKind::Buffer,
-        source0: Some(Source { cell, output }),
-        output: Some(number),
-        ..zero()
-    }
-}
-
-fn buffer() -> RowCell
-    ensures { result ≡ chips.cell_of BufferKind (chips.output 0 0) None None None None }
-{
-    RowCell {
-        kind: CellKind::Buffer,
-        source0: Some(Source { cell: 0, output: 0 }),
-        ..zero()
-    }
-}
-
-fn splitter() -> RowCell
-    ensures { result ≡ chips.cell_of Split3Kind (chips.output 0 0) None None None None }
-{
-    RowCell {
-        kind: CellKind::Split3,
-        ..buffer()
-    }
+    Source { cell, output }
 }
 
 fn list<T: Copy, const N: usize>(alloc: Global, items: [T; N]) -> Result<List<T>, Memory>
@@ -100,9 +53,16 @@ fn placed(inputs: u32, outputs: u32, rows: Vec<List<RowCell>>, slots: Vec<List<u
 fn third_rows(alloc: Global) -> Result<Vec<List<RowCell>>, Memory>
     ensures { IfOk result (λ rows. rows.items ≡ chips.third_placed.net.rows) }
 {
-    let below = list(alloc, [enters(0)])?;
-    let middle = list(alloc, [splitter()])?;
-    let above = list(alloc, [leaves(0, 0, 0), leaves(0, 1, 1), leaves(0, 2, 2)])?;
+    let below = list(alloc, [RowCell::input(0)])?;
+    let middle = list(alloc, [RowCell::fed(CellKind::Split3, source(0, 0))])?;
+    let above = list(
+        alloc,
+        [
+            RowCell::output(source(0, 0), 0),
+            RowCell::output(source(0, 1), 1),
+            RowCell::output(source(0, 2), 2),
+        ],
+    )?;
     Ok(Vec::from_array(alloc, [below, middle, above])?)
 }
 
@@ -127,8 +87,21 @@ fn third(alloc: Global) -> Result<Placed, Memory>
 fn crossing_rows(alloc: Global) -> Result<Vec<List<RowCell>>, Memory>
     ensures { IfOk result (λ rows. rows.items ≡ test_chips.crossing_placed.net.rows) }
 {
-    let below = list(alloc, [enters(0), zero(), enters(1)])?;
-    let above = list(alloc, [leaves(2, 0, 1), leaves(0, 0, 0)])?;
+    let below = list(
+        alloc,
+        [
+            RowCell::input(0),
+            RowCell::bare(CellKind::Zero),
+            RowCell::input(1),
+        ],
+    )?;
+    let above = list(
+        alloc,
+        [
+            RowCell::output(source(2, 0), 1),
+            RowCell::output(source(0, 0), 0),
+        ],
+    )?;
     Ok(Vec::from_array(alloc, [below, above])?)
 }
 
@@ -152,11 +125,11 @@ fn crossing(alloc: Global) -> Result<Placed, Memory>
 fn column_rows(alloc: Global) -> Result<Vec<List<RowCell>>, Memory>
     ensures { IfOk result (λ rows. rows.items ≡ test_chips.column_placed.net.rows) }
 {
-    let first = list(alloc, [enters(0)])?;
-    let second = list(alloc, [buffer()])?;
-    let third = list(alloc, [buffer()])?;
-    let fourth = list(alloc, [buffer()])?;
-    let last = list(alloc, [leaves(0, 0, 0)])?;
+    let first = list(alloc, [RowCell::input(0)])?;
+    let second = list(alloc, [RowCell::buffer(source(0, 0))])?;
+    let third = list(alloc, [RowCell::buffer(source(0, 0))])?;
+    let fourth = list(alloc, [RowCell::buffer(source(0, 0))])?;
+    let last = list(alloc, [RowCell::output(source(0, 0), 0)])?;
     Ok(Vec::from_array(alloc, [first, second, third, fourth, last])?)
 }
 

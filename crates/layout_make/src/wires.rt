@@ -1,12 +1,11 @@
 // The wires of a channel.
-ghost use Rattle.std.specs.Prelude.{◌≡◌, ℕ, ◌+◌, ◌*◌, ◌<◌, ◌≤◌, ◌^◌, ◌++◌, [], length, slice_get, Some, IfOk, OnOk};
+ghost use Rattle.std.specs.Prelude.{◌≡◌, ℕ, ◌+◌, ◌<◌, ◌^◌, ◌++◌, [], length, slice_get, Some, IfOk, OnOk};
 ghost use Rattle.rowed.specs.declared.source.Source.{Source as From};
 ghost use Rattle.rowed.specs.PlacedNets.{placed_rows};
+ghost use Rattle.rowed.specs.Extent.{widest, KeepsWidth};
 ghost use Rattle.cell_library.specs.Reach.{slot_width_of};
 ghost use Rattle.layout_make.specs.Spots.{spots_of, spots, AreGiven};
 ghost use Rattle.layout_make.specs.Channel.{wire_to, pin_wire, wires_into, from_of, channel as channel_of};
-ghost use Rattle.layout_make.specs.Tags.{widest};
-ghost use Rattle.layout_make.specs.MayDraw.{width_limit};
 ghost use Rattle.layout_make.specs.Code.WireFits.{SourceFits, CellFits, PinFits, WiresFit};
 
 use crate::spots::{Row, Spot, in_column, out_column};
@@ -85,7 +84,7 @@ pub fn channel_wires(
     channel: u32,
 ) -> Result<List<Wire>, Memory>
     requires rows { channel + 1 < length placed.now.net.rows }
-    requires narrow { widest (placed_rows placed.now) * slot_width_of library.now ≤ width_limit }
+    requires narrow { KeepsWidth (widest (placed_rows placed.now)) (slot_width_of library.now) }
     requires lower_given { AreGiven library.now (spots placed.now channel) }
     requires upper_given { AreGiven library.now (spots placed.now (channel + 1)) }
     ensures { IfOk result (λ wires. wires ≡ channel_of placed.now library.now channel) }

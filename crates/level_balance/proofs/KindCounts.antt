@@ -8,9 +8,10 @@ use Rattle.circuit.specs.declared.gate.Gate.TheVariants as gates
 use Rattle.circuit.specs.PlainNets.{PlainView, is_constant, IsPlainNet}
 use Rattle.rowed.specs.declared.source.Source.{Source}
 use Rattle.rowed.specs.declared.row_cell.RowCell.{RowCell}
+use Rattle.rowed.specs.MadeCells.{cell, output_cell, source}
 use Rattle.level_balance.specs.Uses.{operands, needed, counts, uses_of, use_count}
 use Rattle.level_balance.specs.Levels.{depth, tree_sizes}
-use Rattle.level_balance.specs.Laying.{cell, output_cell, put, next, source, giving, Signals, tree_row, tree, chain}
+use Rattle.level_balance.specs.Laying.{put, next, giving, Signals, tree_row, tree, chain}
 use Rattle.level_balance.specs.Plan.{Frame, frame, Laid, constant_kind, sources, gate_cell, lead_each, lay_gate, lay_gates, lay_outputs, laid, level_net}
 use Rattle.level_balance.specs.Kinds.{one_of, row_cells_of, cells_of, gate_kind, gates_of}
 use Rattle.level_balance.proofs.Carries.{put_length}

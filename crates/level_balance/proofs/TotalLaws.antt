@@ -2,9 +2,9 @@
 use Rattle.std.specs.Prelude.{◌≡◌, ℕ, zero, suc, ◌<◌, ◌≤◌, List, [], ◌∷◌, length}
 use Rattle.std.proofs.Common.{arith, length-append}
 use Rattle.rowed.specs.declared.row_cell.RowCell.{RowCell}
+use Rattle.rowed.specs.Counts.{cells_in}
 use Rattle.level_balance.specs.Laying.{put, next}
 use Rattle.level_balance.proofs.Filled.{Filled}
-use Rattle.level_balance.specs.Totals.{cells_in}
 
 pub row_within : (rows : List (List RowCell)) (r : ℕ) → next rows r ≤ cells_in rows
 row_within [] r = omega arith

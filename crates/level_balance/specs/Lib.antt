@@ -7,7 +7,6 @@ pub mod Needs
 pub mod Kinds
 pub mod Heights
 pub mod Examples
-pub mod Totals
 pub mod Counts
 pub mod Passes
 pub mod Code

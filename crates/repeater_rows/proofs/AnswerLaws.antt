@@ -13,19 +13,19 @@ use Rattle.rowed.specs.Code.RowByRow.{last_values, with_value, shown_from}
 use Rattle.rowed.specs.Code.RowAnswers.{evaluated_word, evaluated_answer, one_answer}
 use Rattle.rowed.specs.Slots.{AreSeated}
 use Rattle.rowed.specs.PlacedNets.{PlacedRow, PlacedView, IsPlaced, placed_rows, placed_of}
-use Rattle.rowed.specs.Numbers.{place_of}
+use Rattle.list_orders.specs.Numbers.{place_of}
 use Rattle.rowed.specs.Channels.{Link, pin_link, links, channel_links, channel_slots}
 use Rattle.repeater_rows.specs.Destinations.{is_end, destinations}
 use Rattle.repeater_rows.specs.Rounds.{AreOrders}
 use Rattle.repeater_rows.specs.Repeaters.{source_to, buffer_from, carried, added, source_above, added_rows, last_source, fed_from, cell_from, cells_from, channel_rounds, rows_above, repeated_rows, repeated}
-use Rattle.repeater_rows.proofs.RowsAbove.{PlacedAbove, no_more}
+use Rattle.rowed.proofs.RowsAbove.{PlacedAbove, no_more}
 use Rattle.repeater_rows.proofs.Sources.{HaveValues}
 use Rattle.repeater_rows.proofs.RoundsLaws.{all_rounds_orders}
 use Rattle.repeater_rows.proofs.OrderLaws.{destinations_order, destinations_length}
-use Rattle.repeater_rows.proofs.RowsAboveLaws.{cells_of, placed_again, placed_facts}
-use Rattle.repeater_rows.proofs.PinLaws.{seated_length}
+use Rattle.rowed.proofs.RowsAboveLaws.{cells_of, placed_again, placed_facts}
+use Rattle.rowed.proofs.PinLaws.{seated_length}
 use Rattle.repeater_rows.proofs.PlaceLaws.{times, stands_in, carried_has}
-use Rattle.repeater_rows.proofs.ChannelLaws.{channel_known}
+use Rattle.rowed.proofs.ChannelLaws.{channel_known}
 use Rattle.repeater_rows.proofs.WireLaws.{IsFound, found, wired_below}
 
 -- a buffer has the value of its source

@@ -3,8 +3,9 @@ use Rattle.std.proofs.Common.{◌≡◌, ℕ, ◌+◌, ◌<◌, ◌≤◌, Bool,
 use Rattle.std.specs.Global.{Global}
 use Rattle.circuit.specs.Gates.{valuation}
 use Rattle.rowed.specs.declared.row_cell.RowCell.{RowCell}
+use Rattle.rowed.specs.Counts.{cells_in}
 use Rattle.repeater_rows.specs.Rounds.{is_far}
-use Rattle.repeater_rows.specs.Passes.{cell_limit, cells_in}
+use Rattle.repeater_rows.specs.Passes.{cell_limit}
 use Rattle.repeater_rows.specs.Code.Opening.{AreDestinations}
 use Rattle.repeater_rows.specs.Code.Counts.{AreCounted, ArePast}
 use Rattle.repeater_rows.specs.declared.pass.RepeatRefusal.{RepeatRefusal}

@@ -1,11 +1,7 @@
-mod InversionLaws
+mod WindowLaws
 mod RoundsLaws
 mod OrderLaws
 mod LocalLaws
-mod RowsAbove
-pub mod RowsAboveLaws
-mod PinLaws
-mod ChannelLaws
 mod PlaceLaws
 pub mod ShortLaws
 mod Sources
@@ -14,7 +10,6 @@ mod AddedLaws
 pub mod KeptLaws
 pub mod AnswerLaws
 pub mod InsertedLaws
-mod NeighbourLaws
 mod Makes
 mod Worked
 mod Lists

@@ -3,12 +3,13 @@ use Rattle.std.proofs.Common.{◌≡◌, ℕ, ◌+◌, ◌<◌, ◌≤◌, true,
 use Rattle.std.proofs.lemmas.Bool.{le-leb, lt-leb, cases_lt}
 use Rattle.rowed.specs.declared.row_cell.RowCell.{RowCell}
 use Rattle.rowed.specs.PlacedNets.{PlacedRow, placed_rows, PlacedView}
+use Rattle.rowed.specs.Counts.{cells_in}
 use Rattle.repeater_rows.specs.Repeaters.{repeated, repeated_rows}
-use Rattle.repeater_rows.specs.Passes.{AreRepeated, IsTooLarge, cell_limit, cells_in, cells_past, IsFirstPast}
+use Rattle.repeater_rows.specs.Passes.{AreRepeated, IsTooLarge, cell_limit, cells_past, IsFirstPast}
 use Rattle.repeater_rows.specs.Code.Counts.{ArePast, IsPastLimit}
 use Rattle.repeater_rows.specs.declared.pass.RepeatRefusal.{RepeatRefusal}
 use Rattle.repeater_rows.specs.declared.pass.RepeatRefusal.TheVariants.{TooManyCells, TooTall, Memory}
-use Rattle.repeater_rows.proofs.RowsAboveLaws.{cells_of, placed_again}
+use Rattle.rowed.proofs.RowsAboveLaws.{cells_of, placed_again}
 
 -- a row within the limit, and one past it
 on : (before : ℕ) (row : PlacedRow) (rows : List PlacedRow) → before + length row.cells ≤ cell_limit

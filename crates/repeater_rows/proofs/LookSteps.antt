@@ -2,9 +2,9 @@
 use Rattle.std.proofs.Common.{◌≡◌, ℕ, zero, suc, ◌+◌, ◌-◌, ◌*◌, ◌/◌, ◌%◌, ◌^◌, ◌<◌, ◌≤◌, min, Bool, true, List, [], ◌∷◌, ◌++◌, length, take, drop, get_or, refl, sym, ap, ◌∙◌, subst, arith, append_assoc}
 use Rattle.std.proofs.lemmas.List.{take-append-drop, length-append, length-drop, length-take, drop-drop, get_or-drop, get_or-take}
 use Rattle.std.proofs.Math.Nat.{div-add-mod, mul_comm}
-use Rattle.rowed.specs.Sorting.{passing}
-use Rattle.rowed.proofs.SortingLaws.{by_key_passing, by_key_length}
-use Rattle.repeater_rows.specs.Rounds.{in_order, windows}
+use Rattle.list_orders.specs.Sorting.{passing, in_order}
+use Rattle.list_orders.proofs.SortingLaws.{by_key_passing, by_key_length}
+use Rattle.repeater_rows.specs.Rounds.{windows}
 use Rattle.repeater_rows.specs.Repeaters.{carrier_slots}
 use Rattle.repeater_rows.specs.Local.{UnwiredRise}
 use Rattle.repeater_rows.specs.Code.Looking.{sorted_at, ordered_from, IsLooked}

@@ -12,12 +12,13 @@ use Rattle.rowed.specs.Channels.{Link, pin_link, links, channel_links, channel_s
 use Rattle.repeater_rows.specs.Destinations.{is_end, destinations}
 use Rattle.repeater_rows.specs.Rounds.{is_far, round, rounds, all_rounds, window_size}
 use Rattle.repeater_rows.specs.Repeaters.{buffer_from, carried, carrier_slots, added, source_to, source_above, added_rows, last_source, fed_from, cell_from, cells_from, channel_rounds, channel_rows, rows_above, repeated_rows}
-use Rattle.repeater_rows.proofs.RowsAboveLaws.{cells_of, slots_in}
+use Rattle.rowed.proofs.RowsAboveLaws.{cells_of, slots_in}
 use Rattle.rowed.specs.PlacedNets.{row_of}
-use Rattle.repeater_rows.proofs.NeighbourLaws.{seated_at, slots_below}
+use Rattle.rowed.proofs.NeighbourLaws.{seated_at, slots_below}
+use Rattle.rowed.specs.Counts.{cells_in}
 use Rattle.repeater_rows.specs.Code.Opening.{AreDestinations}
 use Rattle.repeater_rows.specs.Code.Counts.{rounds_left, AreCounted, ArePast, IsPastLimit}
-use Rattle.repeater_rows.specs.Passes.{cell_limit, cells_in, cells_past}
+use Rattle.repeater_rows.specs.Passes.{cell_limit, cells_past}
 use Rattle.repeater_rows.specs.declared.pass.RepeatRefusal.{RepeatRefusal}
 use Rattle.repeater_rows.specs.declared.pass.RepeatRefusal.TheVariants.{TooManyCells}
 use Rattle.repeater_rows.proofs.Counting.{counted_none, past_more, past_also}
@@ -26,7 +27,7 @@ use Rattle.repeater_rows.proofs.LimitLaws.{rows_fit, refused}
 use Rattle.repeater_rows.proofs.WindowOrder.{carriers_count}
 use Rattle.repeater_rows.proofs.Makes.{SameSources, AreMade, rows_left, AreMadeTo}
 use Rattle.repeater_rows.proofs.RoundsLeft.{rounds_stop, left_next}
-use Rattle.repeater_rows.proofs.Neighbours.{rows_from, placed_long}
+use Rattle.rowed.proofs.NumberedRows.{rows_from, placed_long}
 
 -- a row depends on the sources of its wires
 same_buffers : (wired : ℕ → Bool) (f g : ℕ → Source) → SameSources wired f g → (to : List ℕ)

@@ -6,17 +6,17 @@ use Rattle.rowed.specs.declared.source.Source.{Source}
 use Rattle.rowed.specs.declared.row_cell.RowCell.{RowCell}
 use Rattle.rowed.specs.Slots.{AreSeated}
 use Rattle.rowed.specs.PlacedNets.{PlacedRow, PlacedView, IsPlaced, placed_rows, placed_of}
-use Rattle.rowed.specs.Numbers.{numbers, place_of, IsOrder}
-use Rattle.rowed.specs.Channels.{Link, source_slot, pin_link, links, move, channel_links, channel_slots}
-use Rattle.repeater_rows.specs.Destinations.{end_from, is_end, destinations, IsChannel}
+use Rattle.list_orders.specs.Numbers.{numbers, place_of, IsOrder}
+use Rattle.rowed.specs.Channels.{Link, source_slot, pin_link, links, move, channel_links, channel_slots, IsChannel}
+use Rattle.repeater_rows.specs.Destinations.{end_from, is_end, destinations}
 use Rattle.repeater_rows.specs.Rounds.{AreRounds, round, window_size, is_far}
 use Rattle.repeater_rows.specs.Repeaters.{source_to, buffer_from, carried, carrier_slots, added, source_above, added_rows, last_source, fed_from, cells_from, channel_rounds, rows_above, repeated_rows, repeated}
 use Rattle.rowed.specs.Short.{EachShort, AreShort}
 use Rattle.repeater_rows.proofs.Sources.{StandAt}
-use Rattle.repeater_rows.proofs.RowsAbove.{PlacedAbove, no_more}
-use Rattle.repeater_rows.proofs.RowsAboveLaws.{placed_rows_of, placed_again, placed_facts}
-use Rattle.repeater_rows.proofs.PinLaws.{pins_all, seated_length}
-use Rattle.repeater_rows.proofs.ChannelLaws.{channel_known}
+use Rattle.rowed.proofs.RowsAbove.{PlacedAbove, no_more}
+use Rattle.rowed.proofs.RowsAboveLaws.{placed_rows_of, placed_again, placed_facts}
+use Rattle.rowed.proofs.PinLaws.{pins_all, seated_length}
+use Rattle.rowed.proofs.ChannelLaws.{channel_known}
 use Rattle.repeater_rows.proofs.RoundsLaws.{round_order, length_same, round_same, all_rounds_end}
 use Rattle.repeater_rows.proofs.OrderLaws.{destinations_order, destinations_length}
 use Rattle.repeater_rows.proofs.PlaceLaws.{times, place_unique, once_each, stands_in, carried_place, near_at, round_move}

@@ -9,10 +9,10 @@ use Rattle.std.specs.List.Sorted.{IsPermutation, IsSorted}
 use Rattle.std.specs.Ordering.{nat_cmp}
 use Rattle.std.proofs.lemmas.List.Sums.{length-filter}
 use Rattle.std.proofs.lemmas.List.Sorted.{sum_by-IsPermutation}
-use Rattle.rowed.specs.Sorting.{NotFalling, passing}
-use Rattle.rowed.specs.Numbers.{Same}
-use Rattle.rowed.proofs.SortingLaws.{by_key_is, by_key_in_order, by_key_same_key, same_in_order, not_falling_from_sort, passing-yes, passing-no}
-use Rattle.repeater_rows.specs.Rounds.{in_order, windows}
+use Rattle.list_orders.specs.Sorting.{NotFalling, passing, in_order}
+use Rattle.list_orders.specs.Numbers.{Same}
+use Rattle.list_orders.proofs.SortingLaws.{by_key_is, by_key_in_order, by_key_same_key, same_in_order, not_falling_from_sort, passing-yes, passing-no}
+use Rattle.repeater_rows.specs.Rounds.{windows}
 use Rattle.repeater_rows.specs.Repeaters.{carrier_slots}
 use Rattle.repeater_rows.specs.Local.{unwired, UnwiredRise}
 use Rattle.repeater_rows.proofs.RoundsLaws.{same_of_key}

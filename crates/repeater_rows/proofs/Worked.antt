@@ -3,10 +3,11 @@ use Rattle.std.specs.Prelude.{◌≡◌, [], ◌∷◌, map, replicate, refl}
 use Rattle.std.specs.List.{sum}
 use Rattle.rowed.specs.PlacedNets.{placed_rows}
 use Rattle.rowed.specs.Channels.{channel_links, channel_slots}
+use Rattle.rowed.specs.MadeCells.{input_cell}
 use Rattle.repeater_rows.specs.Destinations.{destinations, is_end}
 use Rattle.repeater_rows.specs.Rounds.{all_rounds}
 use Rattle.repeater_rows.specs.Repeaters.{carrier_slots, buffer_from, channel_rounds, repeated}
-use Rattle.repeater_rows.specs.Examples.{input, from_cell, output, sizes, farthest_in, turned, one_wire, and_inputs, and_gate}
+use Rattle.repeater_rows.specs.Examples.{from_cell, output, sizes, farthest_in, turned, one_wire, and_inputs, and_gate}
 use Rattle.repeater_rows.specs.Examples.{and_net, four_wires}
 
 pub turned_sizes : sizes (repeated turned 14) ≡ replicate 7 40
@@ -29,7 +30,8 @@ pub wire_within : repeated (one_wire 13) 14 ≡ one_wire 13
 unfolding repeated one_wire
 wire_within = refl
 
-pub wire_past_rows : (repeated (one_wire 14) 14).net.rows ≡ (input 0 ∷ []) ∷ (buffer_from (from_cell 0) ∷ []) ∷ (output 0 0 ∷ []) ∷ []
+pub wire_past_rows : (repeated (one_wire 14) 14).net.rows
+    ≡ (input_cell 0 ∷ []) ∷ (buffer_from (from_cell 0) ∷ []) ∷ (output 0 0 ∷ []) ∷ []
 unfolding repeated one_wire
 wire_past_rows = refl
 

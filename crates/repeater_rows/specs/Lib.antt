@@ -2,7 +2,6 @@ pub mod Destinations
 pub mod Rounds
 pub mod Repeaters
 pub mod Passes
-pub mod Inversions
 pub mod Local
 pub mod Inserted
 pub mod Examples

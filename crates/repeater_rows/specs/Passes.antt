@@ -5,7 +5,8 @@ use Rattle.circuit.specs.SameAnswers.{SameAnswers}
 use Rattle.rowed.specs.declared.row_cell.RowCell.{RowCell}
 use Rattle.rowed.specs.RowNets.{IsAnswer}
 use Rattle.rowed.specs.PlacedNets.{PlacedRow, PlacedView, IsPlaced, placed_rows}
-pub use Rattle.rowed.specs.Extent.{height_limit}
+use Rattle.rowed.specs.Counts.{cells_in}
+use Rattle.rowed.specs.Extent.{height_limit}
 use Rattle.repeater_rows.specs.Repeaters.{repeated, repeated_rows}
 use Rattle.repeater_rows.specs.declared.pass.RepeatRefusal.{RepeatRefusal}
 use Rattle.repeater_rows.specs.declared.pass.RepeatRefusal.TheVariants.{TooManyCells, TooTall, Memory}
@@ -20,11 +21,6 @@ cells_past before [] = None
 cells_past before (row ∷ rows) =
     let now = before + length row.cells in
     cond (nat_le now cell_limit) (cells_past now rows) (Some now)
-
--- how many cells stand in rows
-abbrev pub cells_in : List (List RowCell) → ℕ
-cells_in [] = 0
-cells_in (row ∷ rows) = length row + cells_in rows
 
 -- one of these rows is the first that passes the limit, and so many cells stand up to its end
 pub record IsFirstPast (rows : List (List RowCell)) (cells : ℕ) : Type 0 where

@@ -3,16 +3,19 @@ ghost use Rattle.std.specs.Prelude.{◌≡◌, ℕ, ◌+◌, ◌*◌, ◌≤◌,
 ghost use Rattle.std.specs.List.{AllByRecursion, sum};
 ghost use Rattle.circuit.specs.SameAnswers.{SameAnswers};
 ghost use Rattle.rowed.specs.RowNets.{IsAnswer};
+ghost use Rattle.rowed.specs.MadeCells.{input_cell};
 ghost use Rattle.rowed.specs.PlacedNets.{PlacedRow, PlacedView, IsPlaced, placed_rows, row_of};
-ghost use Rattle.rowed.specs.Channels.{Link, channel_links, channel_slots};
-ghost use Rattle.rowed.specs.Numbers.{IsOrder};
-ghost use Rattle.repeater_rows.specs.Destinations.{destinations, is_end, IsChannel};
-ghost use Rattle.repeater_rows.specs.Rounds.{AreRounds, AreOrders, all_rounds, round, window_size, in_order};
+ghost use Rattle.rowed.specs.Channels.{Link, IsChannel, channel_links, channel_slots};
+ghost use Rattle.list_orders.specs.Numbers.{IsOrder};
+ghost use Rattle.repeater_rows.specs.Destinations.{destinations, is_end};
+ghost use Rattle.list_orders.specs.Sorting.{in_order};
+ghost use Rattle.repeater_rows.specs.Rounds.{AreRounds, AreOrders, all_rounds, round, window_size};
 ghost use Rattle.repeater_rows.specs.Repeaters.{channel_rounds, repeated_rows, repeated, buffer_from, carrier_slots};
-ghost use Rattle.repeater_rows.specs.Passes.{AreRepeated, IsTooLarge, cell_limit, cells_in, cells_past, IsFirstPast};
-ghost use Rattle.repeater_rows.specs.Inversions.{inversions};
+ghost use Rattle.repeater_rows.specs.Passes.{AreRepeated, IsTooLarge, cell_limit, cells_past, IsFirstPast};
+ghost use Rattle.list_orders.specs.Inversions.{inversions};
 ghost use Rattle.repeater_rows.specs.Local.{UnwiredRise};
 ghost use Rattle.rowed.specs.Short.{AreShort};
+ghost use Rattle.rowed.specs.Counts.{cells_in};
 ghost use Rattle.repeater_rows.specs.Inserted.{AreInserted, AreNarrow};
 ghost use Rattle.repeater_rows.specs.Examples as examples;
 ghost use Rattle.repeater_rows.specs.declared.pass.RepeatRefusal.{RepeatRefusal};
@@ -40,11 +43,8 @@ pub fn rounds_end()
         → AreOrders (length to) (all_rounds reach wired to) }
 {}
 
-/// In a placed net the rounds of each channel end by themselves, after at most as many as the square of its slots, which
-/// begin one wire at most and end one at most.
+/// In a placed net the rounds of each channel end by themselves, after at most as many as the square of its slots.
 pub fn channels_end()
-    ensures channel { (p : PlacedView) (k : ℕ) → IsPlaced p → k + 1 < length p.net.rows
-        → IsChannel (channel_links (row_of p k) (row_of p (k + 1))) (channel_slots (row_of p k) (row_of p (k + 1))) }
     ensures end { (p : PlacedView) (reach k : ℕ) → IsPlaced p → 2 ≤ reach → k + 1 < length p.net.rows
         → AreRounds reach (is_end (channel_links (row_of p k) (row_of p (k + 1)))) true
         (destinations (channel_links (row_of p k) (row_of p (k + 1))) (channel_slots (row_of p k) (row_of p (k + 1))))
@@ -128,7 +128,7 @@ pub fn worked_rows()
     ensures turned_before { examples.farthest_in (placed_rows examples.turned) ≡ 39 }
     ensures turned_after { examples.farthest_in (placed_rows (repeated examples.turned 14)) ≡ 13 }
     ensures within { repeated (examples.one_wire 13) 14 ≡ examples.one_wire 13 }
-    ensures past_rows { (repeated (examples.one_wire 14) 14).net.rows ≡ (examples.input 0 ∷ [])
+    ensures past_rows { (repeated (examples.one_wire 14) 14).net.rows ≡ (input_cell 0 ∷ [])
         ∷ (buffer_from (examples.from_cell 0) ∷ []) ∷ (examples.output 0 0 ∷ []) ∷ [] }
     ensures past_slots { (repeated (examples.one_wire 14) 14).slots ≡ (0 ∷ []) ∷ (13 ∷ []) ∷ (14 ∷ []) ∷ [] }
     ensures and_start { destinations (channel_links examples.and_inputs examples.and_gate)

@@ -1,10 +1,10 @@
 // Nets whose repeaters are worked by hand, and nets that are as tall as may be.
 ghost use Rattle.std.specs.Prelude.{◌≡◌, ◌-◌, ◌∷◌, [], ℕ, IfOk, map};
 ghost use Rattle.circuit.specs.declared.cell_kind.CellKind.TheVariants as kinds;
-ghost use Rattle.rowed.specs.Numbers.{numbers};
+ghost use Rattle.list_orders.specs.Numbers.{numbers};
+ghost use Rattle.rowed.specs.MadeCells.{source, cell, fed_cell, input_cell, output_cell};
 ghost use Rattle.rowed.specs.PlacedNets.{IsPlaced};
 ghost use Rattle.repeater_rows.specs.Examples as examples;
-ghost use Rattle.repeater_rows.specs.Repeaters.{buffer_from};
 
 use crate::{RepeatPass, RepeatRefusal};
 use aq_base::{List, Memory};
@@ -13,29 +13,6 @@ use rowed::{Placed, RowCell, RowNet, Source};
 use std::alloc::Global;
 use std::test::Fail;
 
-fn zero() -> RowCell
-    ensures { result ≡ examples.zero_cell }
-{
-    RowCell {
-        kind: CellKind::Zero,
-        source0: None,
-        source1: None,
-        source2: None,
-        input: None,
-        output: None,
-    }
-}
-
-fn input(number: u32) -> RowCell
-    ensures { result ≡ examples.input number }
-{
-    RowCell {
-        kind: CellKind::Buffer,
-        input: Some(number),
-        ..zero()
-    }
-}
-
 fn first(cell: u32) -> Source
     ensures { result ≡ examples.from_cell cell }
 {
@@ -43,45 +20,16 @@ fn first(cell: u32) -> Source
 }
 
 fn second(cell: u32) -> Source
-    ensures { result ≡ record { cell = cell; output = 1 } }
+    ensures { result ≡ source cell 1 }
 {
     Source { cell, output: 1 }
 }
 
-fn buffer(source: Source) -> RowCell
-    ensures { result ≡ buffer_from source }
-{
-    RowCell {
-        kind: CellKind::Buffer,
-        source0: Some(source),
-        ..zero()
-    }
-}
-
-fn output(number: u32, source: Source) -> RowCell
-    ensures { result ≡ record (buffer_from source) { output = Some number } }
-{
-    RowCell {
-        output: Some(number),
-        ..buffer(source)
-    }
-}
-
 fn majority(a: u32, b: u32, c: u32) -> RowCell
-    ensures { result ≡ record examples.zero_cell {
-      kind = kinds.Majority;
-      source0 = Some (examples.from_cell a);
-      source1 = Some (examples.from_cell b);
-      source2 = Some (examples.from_cell c);
-    } }
+    ensures { result ≡ cell kinds.Majority
+        (examples.from_cell a ∷ examples.from_cell b ∷ examples.from_cell c ∷ []) }
 {
-    RowCell {
-        kind: CellKind::Majority,
-        source0: Some(first(a)),
-        source1: Some(first(b)),
-        source2: Some(first(c)),
-        ..zero()
-    }
+    RowCell::gate(CellKind::Majority, &[first(a), first(b), first(c)])
 }
 
 fn list<T: Copy, const N: usize>(alloc: Global, items: [T; N]) -> Result<List<T>, Memory>
@@ -105,10 +53,10 @@ fn placed(inputs: u32, outputs: u32, rows: Vec<List<RowCell>>, slots: Vec<List<u
 }
 
 fn wire_rows(alloc: Global) -> Result<Vec<List<RowCell>>, Memory>
-    ensures { IfOk result (λ rows. rows.items ≡ (examples.input 0 ∷ []) ∷ (examples.output 0 0 ∷ []) ∷ []) }
+    ensures { IfOk result (λ rows. rows.items ≡ (input_cell 0 ∷ []) ∷ (examples.output 0 0 ∷ []) ∷ []) }
 {
-    let below = list(alloc, [input(0)])?;
-    let above = list(alloc, [output(0, first(0))])?;
+    let below = list(alloc, [RowCell::input(0)])?;
+    let above = list(alloc, [RowCell::output(first(0), 0)])?;
     Ok(Vec::from_array(alloc, [below, above])?)
 }
 
@@ -139,11 +87,11 @@ fn forty(alloc: Global) -> Result<Vec<u32>, Memory>
 }
 
 fn inputs(alloc: Global, numbers: &[u32]) -> Result<List<RowCell>, Memory>
-    ensures { IfOk result (λ row. row ≡ map (λ (i : ℕ). examples.input i) numbers.now) }
+    ensures { IfOk result (λ row. row ≡ map (λ (i : ℕ). input_cell i) numbers.now) }
 {
     let mut row = Vec::new(alloc);
     for i in numbers {
-        row.push(input(*i))?;
+        row.push(RowCell::input(*i))?;
     }
     Ok(List::from_vec(row))
 }
@@ -154,13 +102,13 @@ fn outputs(alloc: Global, numbers: &[u32]) -> Result<List<RowCell>, Memory>
 {
     let mut row = Vec::new(alloc);
     for i in numbers {
-        row.push(output(*i, first(39u32.saturating_sub(*i))))?;
+        row.push(RowCell::output(first(39u32.saturating_sub(*i)), *i))?;
     }
     Ok(List::from_vec(row))
 }
 
 fn turned_rows(alloc: Global) -> Result<Vec<List<RowCell>>, Memory>
-    ensures { IfOk result (λ rows. rows.items ≡ map (λ (i : ℕ). examples.input i) (numbers 0 40)
+    ensures { IfOk result (λ rows. rows.items ≡ map (λ (i : ℕ). input_cell i) (numbers 0 40)
         ∷ map (λ (i : ℕ). examples.output (39 - i) i) (numbers 0 40) ∷ []) }
 {
     let numbers = forty(alloc)?;
@@ -187,9 +135,16 @@ fn turned(alloc: Global) -> Result<Placed, Memory> {
 fn and_rows(alloc: Global) -> Result<Vec<List<RowCell>>, Memory>
     ensures { IfOk result (λ rows. rows.items ≡ examples.and_inputs.cells ∷ examples.and_gate.cells ∷ (examples.output 0 0 ∷ []) ∷ []) }
 {
-    let below = list(alloc, [input(0), zero(), input(1)])?;
+    let below = list(
+        alloc,
+        [
+            RowCell::input(0),
+            RowCell::bare(CellKind::Zero),
+            RowCell::input(1),
+        ],
+    )?;
     let middle = list(alloc, [majority(2, 1, 0)])?;
-    let above = list(alloc, [output(0, first(0))])?;
+    let above = list(alloc, [RowCell::output(first(0), 0)])?;
     Ok(Vec::from_array(alloc, [below, middle, above])?)
 }
 
@@ -211,17 +166,25 @@ fn and_net(alloc: Global) -> Result<Placed, Memory> {
 
 fn four_rows(alloc: Global) -> Result<Vec<List<RowCell>>, Memory>
     ensures { IfOk result (λ rows. rows.items ≡
-        (examples.input 0 ∷ examples.input 1 ∷ examples.input 2 ∷ examples.input 3 ∷ [])
+        (input_cell 0 ∷ input_cell 1 ∷ input_cell 2 ∷ input_cell 3 ∷ [])
         ∷ (examples.output 2 0 ∷ examples.output 3 1 ∷ examples.output 1 2 ∷ examples.output 0 3 ∷ []) ∷ []) }
 {
-    let below = list(alloc, [input(0), input(1), input(2), input(3)])?;
+    let below = list(
+        alloc,
+        [
+            RowCell::input(0),
+            RowCell::input(1),
+            RowCell::input(2),
+            RowCell::input(3),
+        ],
+    )?;
     let above = list(
         alloc,
         [
-            output(0, first(2)),
-            output(1, first(3)),
-            output(2, first(1)),
-            output(3, first(0)),
+            RowCell::output(first(2), 0),
+            RowCell::output(first(3), 1),
+            RowCell::output(first(1), 2),
+            RowCell::output(first(0), 3),
         ],
     )?;
     Ok(Vec::from_array(alloc, [below, above])?)
@@ -243,23 +206,23 @@ fn four_wires(alloc: Global) -> Result<Placed, Memory> {
 }
 
 fn split_rows(alloc: Global) -> Result<Vec<List<RowCell>>, Memory>
-    ensures { IfOk result (λ rows. rows.items ≡ (examples.input 0 ∷ [])
-        ∷ (record (buffer_from (examples.from_cell 0)) { kind = kinds.Split2 } ∷ [])
-        ∷ (record (buffer_from (record { cell = 0; output = 1 })) { output = Some 0 } ∷ examples.output 0 1 ∷ []) ∷ []) }
+    ensures { IfOk result (λ rows. rows.items ≡ (input_cell 0 ∷ [])
+        ∷ (fed_cell kinds.Split2 (examples.from_cell 0) ∷ [])
+        ∷ (output_cell (source 0 1) 0 ∷ examples.output 0 1 ∷ []) ∷ []) }
 {
-    let below = list(alloc, [input(0)])?;
+    let below = list(alloc, [RowCell::input(0)])?;
     let middle = list(alloc, [splitter()])?;
-    let above = list(alloc, [output(0, second(0)), output(1, first(0))])?;
+    let above = list(
+        alloc,
+        [RowCell::output(second(0), 0), RowCell::output(first(0), 1)],
+    )?;
     Ok(Vec::from_array(alloc, [below, middle, above])?)
 }
 
 fn splitter() -> RowCell
-    ensures { result ≡ record (buffer_from (examples.from_cell 0)) { kind = kinds.Split2 } }
+    ensures { result ≡ fed_cell kinds.Split2 (examples.from_cell 0) }
 {
-    RowCell {
-        kind: CellKind::Split2,
-        ..buffer(first(0))
-    }
+    RowCell::fed(CellKind::Split2, first(0))
 }
 
 fn split_slots(alloc: Global) -> Result<Vec<List<u32>>, Memory>
@@ -304,13 +267,13 @@ fn has_row(placed: &Placed, r: usize, cells: &[RowCell], slots: &[u32]) -> bool 
 
 // Whether the repeaters of one wire, from one slot to another, stand in these slots.
 fn has_repeaters(net: &Placed, from: u16, between: &[u32], to: u16) -> bool {
-    let mut right = has_row(net, 0, &[input(0)], &[u32::from(from)]);
+    let mut right = has_row(net, 0, &[RowCell::input(0)], &[u32::from(from)]);
     let mut rows = 1usize;
     for slot in between {
-        right = right && has_row(net, rows, &[buffer(first(0))], &[*slot]);
+        right = right && has_row(net, rows, &[RowCell::buffer(first(0))], &[*slot]);
         rows = rows.saturating_add(1);
     }
-    let above = has_row(net, rows, &[output(0, first(0))], &[u32::from(to)]);
+    let above = has_row(net, rows, &[RowCell::output(first(0), 0)], &[u32::from(to)]);
     right && above && net.net.rows.len() == rows.saturating_add(1)
 }
 
@@ -391,13 +354,32 @@ fn wires_of_an_and(rt: HostRuntime) -> Result<(), Fail> {
     let net = and_net(rt.alloc())?;
     let out = repeated(rt.alloc(), &net, 2)?;
     let slots = [0, 1, 2];
-    let first_row = [buffer(first(1)), buffer(first(0)), buffer(first(2))];
-    let second_row = [buffer(first(0)), buffer(first(2)), buffer(first(1))];
-    assert!(rt; has_row(&out, 0, &[input(0), zero(), input(1)], &slots));
+    let first_row = [
+        RowCell::buffer(first(1)),
+        RowCell::buffer(first(0)),
+        RowCell::buffer(first(2)),
+    ];
+    let second_row = [
+        RowCell::buffer(first(0)),
+        RowCell::buffer(first(2)),
+        RowCell::buffer(first(1)),
+    ];
+    assert!(rt;
+        has_row(
+            &out,
+            0,
+            &[
+                RowCell::input(0),
+                RowCell::bare(CellKind::Zero),
+                RowCell::input(1)
+            ],
+            &slots
+        )
+    );
     assert!(rt; has_row(&out, 1, &first_row, &slots));
     assert!(rt; has_row(&out, 2, &second_row, &slots));
     assert!(rt; has_row(&out, 3, &[majority(1, 0, 2)], &[0]));
-    assert!(rt; has_row(&out, 4, &[output(0, first(0))], &[0]));
+    assert!(rt; has_row(&out, 4, &[RowCell::output(first(0), 0)], &[0]));
     assert_eq!(rt; out.net.rows.len(), 5);
     Ok(())
 }
@@ -409,17 +391,17 @@ fn slots_between_wires(rt: HostRuntime) -> Result<(), Fail> {
     let net = four_wires(rt.alloc())?;
     let out = repeated(rt.alloc(), &net, 4)?;
     let slots = [2, 3, 4, 5];
-    let one = buffer(first(0));
-    let two = buffer(first(1));
-    let three = buffer(first(2));
-    let four = buffer(first(3));
+    let one = RowCell::buffer(first(0));
+    let two = RowCell::buffer(first(1));
+    let three = RowCell::buffer(first(2));
+    let four = RowCell::buffer(first(3));
     assert!(rt; has_row(&out, 1, &[two, one, three, four], &slots));
     assert!(rt; has_row(&out, 2, &[three, four, one, two], &slots));
     let above = [
-        output(0, first(0)),
-        output(1, first(1)),
-        output(2, first(2)),
-        output(3, first(3)),
+        RowCell::output(first(0), 0),
+        RowCell::output(first(1), 1),
+        RowCell::output(first(2), 2),
+        RowCell::output(first(3), 3),
     ];
     assert!(rt; has_row(&out, 3, &above, &[0, 2, 5, 7]));
     assert_eq!(rt; out.net.rows.len(), 4);
@@ -431,12 +413,19 @@ fn wires_of_a_splitter(rt: HostRuntime) -> Result<(), Fail> {
     let net = split_net(rt.alloc())?;
     let out = repeated(rt.alloc(), &net, 2)?;
     assert!(rt; has_row(&out, 1, &[splitter()], &[0]));
-    assert!(rt; has_row(&out, 2, &[buffer(second(0)), buffer(first(0))], &[0, 1]));
+    assert!(rt;
+        has_row(
+            &out,
+            2,
+            &[RowCell::buffer(second(0)), RowCell::buffer(first(0))],
+            &[0, 1]
+        )
+    );
     assert!(rt;
         has_row(
             &out,
             3,
-            &[output(0, first(0)), output(1, first(1))],
+            &[RowCell::output(first(0), 0), RowCell::output(first(1), 1)],
             &[0, 2]
         )
     );

@@ -7,9 +7,6 @@ pub mod PlanLaws
 pub mod PlanGiven
 mod Worked
 mod AllRows
-mod Inverted
-mod KeyedCells
 mod KeysFound
 mod Ordered
 mod Placing
-mod Spanned

@@ -6,16 +6,17 @@ use Rattle.std.specs.List.{AllByRecursion}
 use Rattle.std.proofs.lemmas.Option.{slice_get-get_or}
 use Rattle.rowed.specs.declared.source.Source.{Source}
 use Rattle.rowed.specs.declared.row_cell.RowCell.{RowCell}
-use Rattle.rowed.specs.Sorting.{by_key, put_by}
-use Rattle.rowed.proofs.SortingLaws.{by_key_all}
-use Rattle.rowed.specs.Numbers.{numbers}
-use Rattle.rowed.proofs.NumbersLaws.{length-by_key_numbers}
+use Rattle.list_orders.specs.Sorting.{by_key, put_by}
+use Rattle.list_orders.proofs.SortingLaws.{by_key_all}
+use Rattle.list_orders.specs.Numbers.{numbers}
+use Rattle.list_orders.proofs.NumbersLaws.{length-by_key_numbers}
 use Rattle.rowed.specs.Slots.{slot_limit}
+use Rattle.rowed.specs.Extent.{packed_span}
 use Rattle.row_place.specs.Keys.{key}
-use Rattle.row_place.specs.Places.{picked, and_cell, slots_in}
+use Rattle.row_place.specs.Places.{picked, and_cell}
 use Rattle.row_place.proofs.PlanSpans.{picked_all}
 use Rattle.row_place.specs.Code.Arrays.{moved_cell}
-use Rattle.row_place.proofs.Inverted.{numbers_below}
+use Rattle.list_orders.proofs.Inverted.{numbers_below}
 
 -- sorting by the list of keys is sorting by the plan's keys
 pub order_is_plan : (slot : Source → ℕ) (row next : List RowCell) (keys read order : List ℕ) → length keys ≡ length row → ((c : ℕ) → get_or keys c 0 ≡ key slot row next c) → read ≡ keys
@@ -30,33 +31,33 @@ order_within f n order e = subst (AllByRecursion (λ c. c < n)) (sym e) (by_key_
 pub order_length : (f : ℕ → ℕ) (n : ℕ) (order : List ℕ) → order ≡ by_key f (numbers 0 n) → length order ≡ n
 order_length f n order e = ap length e ∙ length-by_key_numbers f n
 
-slots_moved : (places : List ℕ) (cells : List RowCell) → slots_in (map (moved_cell places) cells) ≡ slots_in cells
+slots_moved : (places : List ℕ) (cells : List RowCell) → packed_span (map (moved_cell places) cells) ≡ packed_span cells
 slots_moved places [] = refl
 slots_moved places (cell ∷ cells) = let rest = slots_moved places cells in omega (arith, rest)
 
-slots_and : (o : Option RowCell) (cells : List RowCell) → slots_in (and_cell o cells) ≡ slots_in (and_cell o []) + slots_in cells
+slots_and : (o : Option RowCell) (cells : List RowCell) → packed_span (and_cell o cells) ≡ packed_span (and_cell o []) + packed_span cells
 slots_and None cells = omega arith
 slots_and (Some cell) cells = omega arith
 
-slots_put : (row : List RowCell) (f : ℕ → ℕ) (x : ℕ) (ys : List ℕ) → slots_in (picked row (put_by f x ys)) ≡ slots_in (picked row (x ∷ ys))
+slots_put : (row : List RowCell) (f : ℕ → ℕ) (x : ℕ) (ys : List ℕ) → packed_span (picked row (put_by f x ys)) ≡ packed_span (picked row (x ∷ ys))
 slots_put row f x [] = refl
 slots_put row f x (y ∷ ys) = go (leb (f x) (f y)) refl (slots_put row f x ys)
   where
-    go : (b : Bool) → leb (f x) (f y) ≡ b → slots_in (picked row (put_by f x ys)) ≡ slots_in (picked row (x ∷ ys)) → slots_in (picked row (put_by f x (y ∷ ys))) ≡ slots_in (picked row (x ∷ (y ∷ ys)))
+    go : (b : Bool) → leb (f x) (f y) ≡ b → packed_span (picked row (put_by f x ys)) ≡ packed_span (picked row (x ∷ ys)) → packed_span (picked row (put_by f x (y ∷ ys))) ≡ packed_span (picked row (x ∷ (y ∷ ys)))
     go true q rest = rw q refl
     go false q rest = rw q (
         slots_and (slice_get row y) (picked row (put_by f x ys)) ∙ omega (arith, rest, slots_and (slice_get row x) (picked row ys), slots_and (slice_get row y) (picked row ys), slots_and (slice_get row x) (and_cell (slice_get row y) (picked row ys))))
 
-slots_by_key : (row : List RowCell) (f : ℕ → ℕ) (xs : List ℕ) → slots_in (picked row (by_key f xs)) ≡ slots_in (picked row xs)
+slots_by_key : (row : List RowCell) (f : ℕ → ℕ) (xs : List ℕ) → packed_span (picked row (by_key f xs)) ≡ packed_span (picked row xs)
 slots_by_key row f [] = refl
 slots_by_key row f (x ∷ xs) = slots_put row f x (by_key f xs) ∙ omega (arith, slots_by_key row f xs, slots_and (slice_get row x) (picked row xs), slots_and (slice_get row x) (picked row (by_key f xs)))
 
 -- a row takes as many slots in any order
-pub slots_kept : (places : List ℕ) (row cells : List RowCell) (f : ℕ → ℕ) (order : List ℕ) → order ≡ by_key f (numbers 0 (length row)) → cells ≡ map (moved_cell places) (picked row order) → slots_in row ≤ slot_limit → slots_in cells ≤ slot_limit
+pub slots_kept : (places : List ℕ) (row cells : List RowCell) (f : ℕ → ℕ) (order : List ℕ) → order ≡ by_key f (numbers 0 (length row)) → cells ≡ map (moved_cell places) (picked row order) → packed_span row ≤ slot_limit → packed_span cells ≤ slot_limit
 slots_kept places row cells f order sorted is within =
-    let same : slots_in cells ≡ slots_in row =
-    ap slots_in is ∙ slots_moved places (picked row order) ∙ ap (λ (l : List ℕ). slots_in (picked row l)) sorted ∙ slots_by_key row f (numbers 0 (length row))
-    ∙ ap slots_in (picked_all row) in
+    let same : packed_span cells ≡ packed_span row =
+    ap packed_span is ∙ slots_moved places (picked row order) ∙ ap (λ (l : List ℕ). packed_span (picked row l)) sorted ∙ slots_by_key row f (numbers 0 (length row))
+    ∙ ap packed_span (picked_all row) in
     omega (arith, same, within)
 
 -- one more cell is picked

@@ -2,14 +2,14 @@
 use Rattle.std.specs.Prelude.{◌≡◌, [], ◌∷◌, refl}
 use Rattle.circuit.specs.declared.cell_kind.CellKind.TheVariants.{Buffer, Zero, One, Split2}
 use Rattle.row_place.specs.Places.{place}
-use Rattle.row_place.specs.Examples.{first, second, input, constant, fed, output, majority, and_net, tied_net, split_net}
-use Rattle.row_place.specs.Examples.{keys}
+use Rattle.rowed.specs.MadeCells.{bare_cell, fed_cell, input_cell, output_cell}
+use Rattle.row_place.specs.Examples.{first, second, majority, and_net, tied_net, split_net, keys}
 
 pub and_keys : keys and_net 0 3 ≡ 0 ∷ 6 ∷ 3 ∷ []
 unfolding keys and_net
 and_keys = refl
 
-pub and_rows : (place and_net).net.rows ≡ (input 0 ∷ constant Zero ∷ input 1 ∷ []) ∷ (majority 0 1 2 ∷ []) ∷ (output 0 (first 0) ∷ []) ∷ []
+pub and_rows : (place and_net).net.rows ≡ (input_cell 0 ∷ bare_cell Zero ∷ input_cell 1 ∷ []) ∷ (majority 0 1 2 ∷ []) ∷ (output_cell (first 0) 0 ∷ []) ∷ []
 unfolding place and_net
 and_rows = refl
 
@@ -26,7 +26,7 @@ unfolding keys tied_net
 tied_keys = refl
 
 pub tied_rows : (place tied_net).net.rows
-    ≡ (input 0 ∷ constant Zero ∷ constant One ∷ input 1 ∷ []) ∷ (fed Buffer (first 0) ∷ majority 3 1 2 ∷ []) ∷ (output 1 (first 0) ∷ output 0 (first 1) ∷ []) ∷ []
+    ≡ (input_cell 0 ∷ bare_cell Zero ∷ bare_cell One ∷ input_cell 1 ∷ []) ∷ (fed_cell Buffer (first 0) ∷ majority 3 1 2 ∷ []) ∷ (output_cell (first 0) 1 ∷ output_cell (first 1) 0 ∷ []) ∷ []
 unfolding place tied_net
 tied_rows = refl
 
@@ -35,7 +35,7 @@ unfolding place tied_net
 tied_slots = refl
 
 pub split_rows : (place split_net).net.rows
-    ≡ (input 0 ∷ input 1 ∷ []) ∷ (fed Buffer (first 0) ∷ fed Split2 (first 1) ∷ []) ∷ (output 2 (first 0) ∷ output 1 (first 1) ∷ output 0 (second 1) ∷ []) ∷ []
+    ≡ (input_cell 0 ∷ input_cell 1 ∷ []) ∷ (fed_cell Buffer (first 0) ∷ fed_cell Split2 (first 1) ∷ []) ∷ (output_cell (first 0) 2 ∷ output_cell (first 1) 1 ∷ output_cell (second 1) 0 ∷ []) ∷ []
 unfolding place split_net
 split_rows = refl
 

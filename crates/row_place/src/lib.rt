@@ -4,11 +4,9 @@
 mod below;
 mod keys;
 mod laws;
-mod order;
 mod pass;
 mod plan;
 mod rows;
-mod spans;
 #[cfg(test)]
 mod tests;
 

@@ -1,6 +1,7 @@
 // Nets whose places are worked by hand, and rows that are as wide as may be.
 ghost use Rattle.std.specs.Prelude.{◌≡◌, ◌≤◌, ◌∷◌, [], IfOk};
 ghost use Rattle.circuit.specs.declared.cell_kind.CellKind.TheVariants as kinds;
+ghost use Rattle.rowed.specs.MadeCells.{bare_cell, fed_cell, input_cell, output_cell};
 ghost use Rattle.row_place.specs.Examples as examples;
 
 use crate::{PlacePass, PlaceRefusal};
@@ -9,28 +10,6 @@ use circuit::{CellKind, Pass};
 use rowed::{Placed, RowCell, RowNet, Source};
 use std::alloc::Global;
 use std::test::Fail;
-
-fn constant(kind: CellKind) -> RowCell
-    ensures { result ≡ examples.constant kind }
-{
-    RowCell {
-        kind,
-        source0: None,
-        source1: None,
-        source2: None,
-        input: None,
-        output: None,
-    }
-}
-
-fn input(number: u32) -> RowCell
-    ensures { result ≡ examples.input number }
-{
-    RowCell {
-        input: Some(number),
-        ..constant(CellKind::Buffer)
-    }
-}
 
 fn first(cell: u32) -> Source
     ensures { result ≡ examples.first cell }
@@ -44,32 +23,10 @@ fn second(cell: u32) -> Source
     Source { cell, output: 1 }
 }
 
-fn fed(kind: CellKind, source: Source) -> RowCell
-    ensures { result ≡ examples.fed kind source }
-{
-    RowCell {
-        source0: Some(source),
-        ..constant(kind)
-    }
-}
-
-fn output(number: u32, source: Source) -> RowCell
-    ensures { result ≡ examples.output number source }
-{
-    RowCell {
-        output: Some(number),
-        ..fed(CellKind::Buffer, source)
-    }
-}
-
 fn majority(a: u32, b: u32, c: u32) -> RowCell
     ensures { result ≡ examples.majority a b c }
 {
-    RowCell {
-        source1: Some(first(b)),
-        source2: Some(first(c)),
-        ..fed(CellKind::Majority, first(a))
-    }
+    RowCell::gate(CellKind::Majority, &[first(a), first(b), first(c)])
 }
 
 fn row<const N: usize>(alloc: Global, cells: [RowCell; N]) -> Result<List<RowCell>, Memory>
@@ -80,12 +37,19 @@ fn row<const N: usize>(alloc: Global, cells: [RowCell; N]) -> Result<List<RowCel
 
 // The rows of `a and b`.
 fn and_rows(alloc: Global) -> Result<Vec<List<RowCell>>, Memory>
-    ensures { IfOk result (λ rows. rows.items ≡ (examples.input 0 ∷ examples.input 1 ∷ examples.constant kinds.Zero ∷ [])
-        ∷ (examples.majority 0 2 1 ∷ []) ∷ (examples.output 0 (examples.first 0) ∷ []) ∷ []) }
+    ensures { IfOk result (λ rows. rows.items ≡ (input_cell 0 ∷ input_cell 1 ∷ bare_cell kinds.Zero ∷ [])
+        ∷ (examples.majority 0 2 1 ∷ []) ∷ (output_cell (examples.first 0) 0 ∷ []) ∷ []) }
 {
-    let inputs = row(alloc, [input(0), input(1), constant(CellKind::Zero)])?;
+    let inputs = row(
+        alloc,
+        [
+            RowCell::input(0),
+            RowCell::input(1),
+            RowCell::bare(CellKind::Zero),
+        ],
+    )?;
     let middle = row(alloc, [majority(0, 2, 1)])?;
-    let outputs = row(alloc, [output(0, first(0))])?;
+    let outputs = row(alloc, [RowCell::output(first(0), 0)])?;
     Ok(Vec::from_array(alloc, [inputs, middle, outputs])?)
 }
 
@@ -103,16 +67,19 @@ fn and_net(alloc: Global) -> Result<RowNet, Memory>
 // Two constants of the key of input 0, which input 1 goes past.
 fn tied_rows(alloc: Global) -> Result<Vec<List<RowCell>>, Memory>
     ensures { IfOk result (λ rows. rows.items ≡
-        (examples.input 0 ∷ examples.input 1 ∷ examples.constant kinds.Zero ∷ examples.constant kinds.One ∷ [])
-        ∷ (examples.majority 1 2 3 ∷ examples.fed kinds.Buffer (examples.first 0) ∷ [])
-        ∷ (examples.output 0 (examples.first 0) ∷ examples.output 1 (examples.first 1) ∷ []) ∷ []) }
+        (input_cell 0 ∷ input_cell 1 ∷ bare_cell kinds.Zero ∷ bare_cell kinds.One ∷ [])
+        ∷ (examples.majority 1 2 3 ∷ fed_cell kinds.Buffer (examples.first 0) ∷ [])
+        ∷ (output_cell (examples.first 0) 0 ∷ output_cell (examples.first 1) 1 ∷ []) ∷ []) }
 {
-    let zero = constant(CellKind::Zero);
-    let one = constant(CellKind::One);
-    let inputs = row(alloc, [input(0), input(1), zero, one])?;
-    let buffer = fed(CellKind::Buffer, first(0));
+    let zero = RowCell::bare(CellKind::Zero);
+    let one = RowCell::bare(CellKind::One);
+    let inputs = row(alloc, [RowCell::input(0), RowCell::input(1), zero, one])?;
+    let buffer = RowCell::fed(CellKind::Buffer, first(0));
     let middle = row(alloc, [majority(1, 2, 3), buffer])?;
-    let outputs = row(alloc, [output(0, first(0)), output(1, first(1))])?;
+    let outputs = row(
+        alloc,
+        [RowCell::output(first(0), 0), RowCell::output(first(1), 1)],
+    )?;
     Ok(Vec::from_array(alloc, [inputs, middle, outputs])?)
 }
 
@@ -129,21 +96,21 @@ fn tied_net(alloc: Global) -> Result<RowNet, Memory>
 
 // A splitter and a buffer whose wires cross, and users of the splitter's outputs that cross too.
 fn split_rows(alloc: Global) -> Result<Vec<List<RowCell>>, Memory>
-    ensures { IfOk result (λ rows. rows.items ≡ (examples.input 0 ∷ examples.input 1 ∷ [])
-        ∷ (examples.fed kinds.Split2 (examples.first 1) ∷ examples.fed kinds.Buffer (examples.first 0) ∷ [])
-        ∷ (examples.output 0 (examples.second 0) ∷ examples.output 1 (examples.first 0)
-        ∷ examples.output 2 (examples.first 1) ∷ []) ∷ []) }
+    ensures { IfOk result (λ rows. rows.items ≡ (input_cell 0 ∷ input_cell 1 ∷ [])
+        ∷ (fed_cell kinds.Split2 (examples.first 1) ∷ fed_cell kinds.Buffer (examples.first 0) ∷ [])
+        ∷ (output_cell (examples.second 0) 0 ∷ output_cell (examples.first 0) 1
+        ∷ output_cell (examples.first 1) 2 ∷ []) ∷ []) }
 {
-    let inputs = row(alloc, [input(0), input(1)])?;
-    let splitter = fed(CellKind::Split2, first(1));
-    let buffer = fed(CellKind::Buffer, first(0));
+    let inputs = row(alloc, [RowCell::input(0), RowCell::input(1)])?;
+    let splitter = RowCell::fed(CellKind::Split2, first(1));
+    let buffer = RowCell::fed(CellKind::Buffer, first(0));
     let middle = row(alloc, [splitter, buffer])?;
     let outputs = row(
         alloc,
         [
-            output(0, second(0)),
-            output(1, first(0)),
-            output(2, first(1)),
+            RowCell::output(second(0), 0),
+            RowCell::output(first(0), 1),
+            RowCell::output(first(1), 2),
         ],
     )?;
     Ok(Vec::from_array(alloc, [inputs, middle, outputs])?)
@@ -183,10 +150,14 @@ fn has_row(placed: &Placed, r: usize, cells: &[RowCell], slots: &[u32]) -> bool 
 fn constant_goes_between_its_partners(rt: HostRuntime) -> Result<(), Fail> {
     let net = and_net(rt.alloc())?;
     let placed = placed(rt.alloc(), &net)?;
-    let inputs = [input(0), constant(CellKind::Zero), input(1)];
+    let inputs = [
+        RowCell::input(0),
+        RowCell::bare(CellKind::Zero),
+        RowCell::input(1),
+    ];
     assert!(rt; has_row(&placed, 0, &inputs, &[0, 1, 2]));
     assert!(rt; has_row(&placed, 1, &[majority(0, 1, 2)], &[0]));
-    assert!(rt; has_row(&placed, 2, &[output(0, first(0))], &[0]));
+    assert!(rt; has_row(&placed, 2, &[RowCell::output(first(0), 0)], &[0]));
     Ok(())
 }
 
@@ -194,12 +165,19 @@ fn constant_goes_between_its_partners(rt: HostRuntime) -> Result<(), Fail> {
 fn cells_of_one_key_keep_their_order(rt: HostRuntime) -> Result<(), Fail> {
     let net = tied_net(rt.alloc())?;
     let placed = placed(rt.alloc(), &net)?;
-    let zero = constant(CellKind::Zero);
-    let one = constant(CellKind::One);
-    assert!(rt; has_row(&placed, 0, &[input(0), zero, one, input(1)], &[0, 1, 2, 3]));
-    let middle = [fed(CellKind::Buffer, first(0)), majority(3, 1, 2)];
+    let zero = RowCell::bare(CellKind::Zero);
+    let one = RowCell::bare(CellKind::One);
+    assert!(rt;
+        has_row(
+            &placed,
+            0,
+            &[RowCell::input(0), zero, one, RowCell::input(1)],
+            &[0, 1, 2, 3]
+        )
+    );
+    let middle = [RowCell::fed(CellKind::Buffer, first(0)), majority(3, 1, 2)];
     assert!(rt; has_row(&placed, 1, &middle, &[0, 1]));
-    let outputs = [output(1, first(0)), output(0, first(1))];
+    let outputs = [RowCell::output(first(0), 1), RowCell::output(first(1), 0)];
     assert!(rt; has_row(&placed, 2, &outputs, &[0, 1]));
     Ok(())
 }
@@ -208,16 +186,16 @@ fn cells_of_one_key_keep_their_order(rt: HostRuntime) -> Result<(), Fail> {
 fn wires_of_splitters_do_not_cross(rt: HostRuntime) -> Result<(), Fail> {
     let net = split_net(rt.alloc())?;
     let placed = placed(rt.alloc(), &net)?;
-    assert!(rt; has_row(&placed, 0, &[input(0), input(1)], &[0, 1]));
+    assert!(rt; has_row(&placed, 0, &[RowCell::input(0), RowCell::input(1)], &[0, 1]));
     let middle = [
-        fed(CellKind::Buffer, first(0)),
-        fed(CellKind::Split2, first(1)),
+        RowCell::fed(CellKind::Buffer, first(0)),
+        RowCell::fed(CellKind::Split2, first(1)),
     ];
     assert!(rt; has_row(&placed, 1, &middle, &[0, 1]));
     let outputs = [
-        output(2, first(0)),
-        output(1, first(1)),
-        output(0, second(1)),
+        RowCell::output(first(0), 2),
+        RowCell::output(first(1), 1),
+        RowCell::output(second(1), 0),
     ];
     assert!(rt; has_row(&placed, 2, &outputs, &[0, 1, 2]));
     Ok(())

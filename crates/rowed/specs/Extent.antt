@@ -1,9 +1,21 @@
--- How far a placed net reaches: the span of its widest row, and the limits of a chip's width and height.
-use Rattle.std.specs.Prelude.{ℕ, max, List, [], ◌∷◌}
+-- How far the rows reach, in slots, before they are placed and after; and the limits of a chip's width and height.
+use Rattle.std.specs.Prelude.{ℕ, ◌+◌, ◌*◌, ◌<◌, ◌≤◌, max, List, [], ◌∷◌}
+use Rattle.circuit.specs.CellKinds.{slots_of}
+use Rattle.rowed.specs.declared.row_cell.RowCell.{RowCell}
 use Rattle.rowed.specs.Slots.{span_of}
 use Rattle.rowed.specs.PlacedNets.{PlacedRow}
 
--- the greatest span of the rows, in slots
+-- the span of a row whose cells are packed without gaps, whatever their order
+abbrev pub packed_span : List RowCell → ℕ
+packed_span [] = 0
+packed_span (cell ∷ cells) = slots_of cell.kind + packed_span cells
+
+-- the greatest of these spans
+abbrev pub widest_packed : List (List RowCell) → ℕ
+widest_packed [] = 0
+widest_packed (row ∷ rows) = max (packed_span row) (widest_packed rows)
+
+-- the greatest span of rows that are placed
 abbrev pub widest : List PlacedRow → ℕ
 widest [] = 0
 widest (row ∷ rows) = max (span_of row.cells row.slots) (widest rows)
@@ -11,6 +23,13 @@ widest (row ∷ rows) = max (span_of row.cells row.slots) (widest rows)
 -- how wide a row may be, in nanometres
 abbrev pub width_limit : ℕ
 width_limit = 2000000000
+
+-- a span keeps this limit, with slots of some width in nanometres, or it passes the limit
+abbrev pub KeepsWidth : ℕ → ℕ → Type 0
+KeepsWidth span slot_width = span * slot_width ≤ width_limit
+
+abbrev pub PassesWidth : ℕ → ℕ → Type 0
+PassesWidth span slot_width = width_limit < span * slot_width
 
 -- how high the rows and their channels may be, in nanometres
 abbrev pub height_limit : ℕ

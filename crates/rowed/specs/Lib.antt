@@ -1,10 +1,10 @@
 pub mod RowCells
+pub mod MadeCells
 pub mod RowNets
+pub mod Counts
 pub mod Slots
 pub mod PlacedNets
 pub mod Channels
 pub mod Short
 pub mod Extent
-pub mod Sorting
-pub mod Numbers
 pub mod Code

@@ -1,8 +1,8 @@
 -- Chips of the tests alone.
-use Rattle.std.specs.Prelude.{[], ◌∷◌, None}
-use Rattle.circuit.specs.declared.cell_kind.CellKind.TheVariants.{Buffer}
+use Rattle.std.specs.Prelude.{[], ◌∷◌}
+use Rattle.circuit.specs.declared.cell_kind.CellKind.TheVariants.{Buffer, Zero}
+use Rattle.rowed.specs.MadeCells.{source, bare_cell, fed_cell, input_cell, output_cell}
 use Rattle.rowed.specs.PlacedNets.{PlacedView}
-use Rattle.layout_make.specs.Chips.{output, cell_of, enters, zero_cell, leaves}
 
 -- crossing wires, slots between cells, and a constant that feeds nothing
 abbrev pub crossing_placed : PlacedView
@@ -10,8 +10,8 @@ crossing_placed = record {
   net = record {
     inputs = 2;
     outputs = 2;
-    rows = (enters 0 ∷ zero_cell ∷ enters 1 ∷ [])
-        ∷ (leaves (output 2 0) 1 ∷ leaves (output 0 0) 0 ∷ [])
+    rows = (input_cell 0 ∷ bare_cell Zero ∷ input_cell 1 ∷ [])
+        ∷ (output_cell (source 2 0) 1 ∷ output_cell (source 0 0) 0 ∷ [])
         ∷ [];
   };
   slots = (0 ∷ 1 ∷ 6 ∷ []) ∷ (0 ∷ 7 ∷ []) ∷ [];
@@ -23,11 +23,11 @@ column_placed = record {
   net = record {
     inputs = 1;
     outputs = 1;
-    rows = (enters 0 ∷ [])
-        ∷ (cell_of Buffer (output 0 0) None None None None ∷ [])
-        ∷ (cell_of Buffer (output 0 0) None None None None ∷ [])
-        ∷ (cell_of Buffer (output 0 0) None None None None ∷ [])
-        ∷ (leaves (output 0 0) 0 ∷ [])
+    rows = (input_cell 0 ∷ [])
+        ∷ (fed_cell Buffer (source 0 0) ∷ [])
+        ∷ (fed_cell Buffer (source 0 0) ∷ [])
+        ∷ (fed_cell Buffer (source 0 0) ∷ [])
+        ∷ (output_cell (source 0 0) 0 ∷ [])
         ∷ [];
   };
   slots = (0 ∷ []) ∷ (0 ∷ []) ∷ (0 ∷ []) ∷ (0 ∷ []) ∷ (0 ∷ []) ∷ [];

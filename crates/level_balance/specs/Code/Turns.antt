@@ -4,9 +4,10 @@ use Rattle.std.specs.Prelude.{◌-◌, ◌^◌, min}
 use Rattle.circuit.specs.declared.gate.Gate.{Gate}
 use Rattle.rowed.specs.declared.source.Source.{Source}
 use Rattle.rowed.specs.declared.row_cell.RowCell.{RowCell}
+use Rattle.rowed.specs.MadeCells.{source, output_cell}
 use Rattle.level_balance.specs.Uses.{counts}
 use Rattle.level_balance.specs.Counts.{gate_cells, capped}
-use Rattle.level_balance.specs.Laying.{put, source, output_cell}
+use Rattle.level_balance.specs.Laying.{put}
 use Rattle.level_balance.specs.Plan.{Frame, Laid, sources, lay_gate, lay_gates, lay_outputs}
 
 -- the cells of a gate, if it counts

@@ -2,9 +2,10 @@
 use Rattle.std.specs.Prelude.{◌≡◌, ℕ, ◌-◌, ◌*◌, ◌≤◌, Bool, List, length, Some}
 use Rattle.rowed.specs.declared.row_cell.RowCell.{RowCell}
 use Rattle.rowed.specs.PlacedNets.{PlacedRow}
+use Rattle.rowed.specs.Counts.{cells_in}
 use Rattle.repeater_rows.specs.Repeaters.{repeated_rows}
 use Rattle.repeater_rows.specs.Rounds.{rounds}
-use Rattle.repeater_rows.specs.Passes.{cell_limit, cells_in, cells_past, IsFirstPast}
+use Rattle.repeater_rows.specs.Passes.{cell_limit, cells_past, IsFirstPast}
 use Rattle.repeater_rows.specs.declared.pass.RepeatRefusal.{RepeatRefusal}
 use Rattle.repeater_rows.specs.declared.pass.RepeatRefusal.TheVariants.{TooManyCells, TooTall, Memory}
 

@@ -1,22 +1,14 @@
 -- The plan by arrays: a placed row is told by the new numbers of its cells, listed by their old ones, and by its slots.
-use Rattle.std.specs.Prelude.{◌≡◌, ℕ, ◌+◌, ◌-◌, ◌/◌, List, [], length, slice_index_or, Option, Some, None, map, cond}
+use Rattle.std.specs.Prelude.{ℕ, ◌+◌, ◌-◌, ◌/◌, List, [], length, slice_index_or, Option, Some, None, map, cond}
 use Rattle.std.specs.Prelude.{◌&&◌, slice_set}
 use Rattle.std.specs.Option.{option_or}
 use Rattle.rowed.specs.declared.source.Source.{Source}
 use Rattle.rowed.specs.declared.row_cell.RowCell.{RowCell}
 use Rattle.rowed.specs.PlacedNets.{PlacedRow}
 use Rattle.rowed.specs.Channels.{source_slot}
-use Rattle.rowed.specs.Sorting.{by_key}
+use Rattle.list_orders.specs.Sorting.{by_key}
 use Rattle.row_place.specs.Keys.{Partners, signal_at, key}
-use Rattle.rowed.specs.Numbers.{numbers, place_of}
-
--- the new number of cell c; past the last cell, how many there are
-abbrev pub place_in : List ℕ → ℕ → ℕ
-place_in places c = slice_index_or places c (length places)
-
--- the list tells the places that the numbers have in an order
-abbrev pub IsInverse : List ℕ → List ℕ → Type 0
-IsInverse places old = (c : ℕ) → place_in places c ≡ place_of old c
+use Rattle.list_orders.specs.Numbers.{numbers, place_in}
 
 -- a source, a pin and a cell by new numbers
 abbrev pub moved : List ℕ → Source → Source
@@ -58,12 +50,13 @@ told_at found cell key = slice_set found cell (option_or (slice_index_or found c
 abbrev pub order_in : List ℕ → List ℕ → List RowCell → List RowCell → List ℕ
 order_in places slots row next = by_key (key (slot_in places slots) row next) (numbers 0 (length row))
 
--- the cells of placed rows, and their slots
-abbrev pub cells_of : List PlacedRow → List (List RowCell)
-cells_of rows = map (λ (row : PlacedRow). row.cells) rows
+-- the cells of placed rows
+abbrev pub row_cells : List PlacedRow → List (List RowCell)
+row_cells rows = map (λ (row : PlacedRow). row.cells) rows
 
-abbrev pub slots_of : List PlacedRow → List (List ℕ)
-slots_of rows = map (λ (row : PlacedRow). row.slots) rows
+-- their slots
+abbrev pub row_slots : List PlacedRow → List (List ℕ)
+row_slots rows = map (λ (row : PlacedRow). row.slots) rows
 
 -- the last of some lists; the empty list, where there is none
 abbrev pub last_row : List (List ℕ) → List ℕ

@@ -1,9 +1,9 @@
 use Rattle.std.proofs.Common.{◌≡◌, ◌∙◌, ap, sym, length, arith}
+use Rattle.rowed.proofs.SpanLaws.{long_row}
 use Rattle.layout_make.specs.Sheet.{lower_edge, lead_first}
 use Rattle.layout_make.specs.Tags.{sheet}
 use Rattle.layout_make.proofs.Heights.{stands_low}
 use Rattle.layout_make.proofs.Ready.{lawful, may_ready}
-use Rattle.layout_make.proofs.RowCode.{long_row}
 use Rattle.layout_make.proofs.RowsDrawn.{so_far, edge_here, first_own, first_before}
 use Rattle.layout_make.proofs.TopDrawn.{two_below, right_some, so_wired, so_last}
 use Rattle.layout_make.proofs.drawing.row_elements.Goals as goal

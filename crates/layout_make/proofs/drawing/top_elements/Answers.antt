@@ -1,12 +1,12 @@
 use Rattle.std.proofs.Common.{ℕ, ◌/◌, ◌∙◌, ap, sym, length, arith, []}
 use Rattle.std.specs.Prelude.{slice_index_or}
 use Rattle.rowed.specs.RowNets.{row_at}
+use Rattle.rowed.proofs.SpanLaws.{long_row}
 use Rattle.circuit.specs.declared.cell_kind.CellKind.TheVariants.{Buffer}
 use Rattle.layout_make.specs.declared.marks.Ports.TheVariants.{Inputs, Outputs}
 use Rattle.layout_make.specs.Draw.{last_row}
 use Rattle.layout_make.proofs.Heights.{stands_low}
 use Rattle.layout_make.proofs.Ready.{lawful, last_suc}
-use Rattle.layout_make.proofs.RowCode.{long_row}
 use Rattle.layout_make.proofs.TopDrawn.{labels_fit, top_is, last_at}
 use Rattle.layout_make.proofs.drawing.top_elements.Goals as goal
 

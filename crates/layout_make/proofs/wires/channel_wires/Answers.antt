@@ -1,7 +1,7 @@
 use Rattle.std.proofs.Common.{◌∙◌, sym, ap, length, rules}
 use Rattle.std.proofs.lemmas.List.Sorted.{answers_always}
+use Rattle.rowed.proofs.SpanLaws.{long_row}
 use Rattle.layout_make.specs.Channel.{from_of}
-use Rattle.layout_make.proofs.RowCode.{long_row}
 use Rattle.layout_make.proofs.WireCode.{same_spots, next_spots, fit_rows, sorted_channel}
 use Rattle.layout_make.proofs.wires.channel_wires.Goals as goal
 

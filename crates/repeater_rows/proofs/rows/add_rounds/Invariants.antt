@@ -4,7 +4,7 @@ use Rattle.repeater_rows.specs.Rounds.{all_rounds}
 use Rattle.repeater_rows.specs.Repeaters.{added_rows, last_source}
 use Rattle.repeater_rows.specs.Code.Counts.{AreCounted}
 use Rattle.repeater_rows.specs.Code.Reading.{source_in}
-use Rattle.repeater_rows.proofs.RowsAboveLaws.{cells_of, slots_in}
+use Rattle.rowed.proofs.RowsAboveLaws.{cells_of, slots_in}
 use Rattle.repeater_rows.proofs.Makes.{AreMade}
 use Rattle.repeater_rows.proofs.rows.add_rounds.Given as goal
 

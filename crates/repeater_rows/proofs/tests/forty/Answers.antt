@@ -1,5 +1,5 @@
 use Rattle.std.proofs.Common.{◌≡◌, ◌+◌, ◌++◌, ◌∷◌, [], List, ℕ, zero, suc, sym, ap, ◌∙◌, arith}
-use Rattle.rowed.specs.Numbers.{numbers}
+use Rattle.list_orders.specs.Numbers.{numbers}
 use Rattle.repeater_rows.proofs.tests.forty.Goals as goal
 
 one_more : (from count last : ℕ) → from + count ≡ last → numbers from (suc count) ≡ numbers from count ++ (last ∷ [])

@@ -1,5 +1,5 @@
 use Rattle.std.specs.Prelude.{◌≡◌}
-use Rattle.rowed.specs.Numbers.{numbers}
+use Rattle.list_orders.specs.Numbers.{numbers}
 use Rattle.repeater_rows.proofs.tests.forty.Given as goal
 
 abbrev pub invariant-loop-slot : goal.invariant-loop-slot

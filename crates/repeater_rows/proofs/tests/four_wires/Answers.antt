@@ -2,7 +2,8 @@ use Rattle.std.proofs.Common.{refl, sym, subst, List, ◌∷◌, [], ℕ}
 use Rattle.rowed.specs.declared.row_cell.RowCell.{RowCell}
 use Rattle.rowed.specs.PlacedNets.{IsPlaced, PlacedView}
 use Rattle.rowed.proofs.TestedNets.{placed_from_test}
-use Rattle.repeater_rows.specs.Examples.{input, output}
+use Rattle.rowed.specs.MadeCells.{input_cell}
+use Rattle.repeater_rows.specs.Examples.{output}
 use Rattle.repeater_rows.proofs.tests.four_wires.Goals as goal
 
 net : PlacedView
@@ -10,7 +11,8 @@ net = record {
   net = record {
     inputs = 4;
     outputs = 4;
-    rows = (input 0 ∷ input 1 ∷ input 2 ∷ input 3 ∷ []) ∷ (output 2 0 ∷ output 3 1 ∷ output 1 2 ∷ output 0 3 ∷ []) ∷ [];
+    rows = (input_cell 0 ∷ input_cell 1 ∷ input_cell 2 ∷ input_cell 3 ∷ [])
+        ∷ (output 2 0 ∷ output 3 1 ∷ output 1 2 ∷ output 0 3 ∷ []) ∷ [];
   };
   slots = (0 ∷ 1 ∷ 6 ∷ 7 ∷ []) ∷ (0 ∷ 2 ∷ 5 ∷ 7 ∷ []) ∷ [];
 }

@@ -2,9 +2,10 @@ use Rattle.std.proofs.Common.{refl, sym, subst, List, ◌∷◌, [], ℕ}
 use Rattle.rowed.specs.declared.row_cell.RowCell.{RowCell}
 use Rattle.rowed.specs.PlacedNets.{IsPlaced, PlacedView}
 use Rattle.rowed.proofs.TestedNets.{placed_from_test}
+use Rattle.rowed.specs.MadeCells.{input_cell}
 use Rattle.std.specs.Prelude.{Some}
 use Rattle.circuit.specs.declared.cell_kind.CellKind.TheVariants.{Split2}
-use Rattle.repeater_rows.specs.Examples.{input, output, from_cell}
+use Rattle.repeater_rows.specs.Examples.{output, from_cell}
 use Rattle.repeater_rows.specs.Repeaters.{buffer_from}
 use Rattle.repeater_rows.proofs.tests.split_net.Goals as goal
 
@@ -13,7 +14,7 @@ net = record {
   net = record {
     inputs = 1;
     outputs = 2;
-    rows = (input 0 ∷ []) ∷ (record (buffer_from (from_cell 0)) { kind = Split2 } ∷ [])
+    rows = (input_cell 0 ∷ []) ∷ (record (buffer_from (from_cell 0)) { kind = Split2 } ∷ [])
         ∷ (record (buffer_from (record { cell = 0; output = 1 })) { output = Some 0 } ∷ output 0 1 ∷ []) ∷ [];
   };
   slots = (0 ∷ []) ∷ (0 ∷ []) ∷ (0 ∷ 2 ∷ []) ∷ [];

@@ -2,9 +2,10 @@ use Rattle.std.proofs.Common.{refl, sym, subst, List, ◌∷◌, [], ℕ}
 use Rattle.rowed.specs.declared.row_cell.RowCell.{RowCell}
 use Rattle.rowed.specs.PlacedNets.{IsPlaced, PlacedView}
 use Rattle.rowed.proofs.TestedNets.{placed_from_test}
+use Rattle.rowed.specs.MadeCells.{input_cell}
 use Rattle.std.specs.Prelude.{map, ◌-◌}
-use Rattle.rowed.specs.Numbers.{numbers}
-use Rattle.repeater_rows.specs.Examples.{input, output}
+use Rattle.list_orders.specs.Numbers.{numbers}
+use Rattle.repeater_rows.specs.Examples.{output}
 use Rattle.repeater_rows.proofs.tests.turned.Goals as goal
 
 net : PlacedView
@@ -12,7 +13,7 @@ net = record {
   net = record {
     inputs = 40;
     outputs = 40;
-    rows = map (λ (i : ℕ). input i) (numbers 0 40) ∷ map (λ (i : ℕ). output (39 - i) i) (numbers 0 40) ∷ [];
+    rows = map (λ (i : ℕ). input_cell i) (numbers 0 40) ∷ map (λ (i : ℕ). output (39 - i) i) (numbers 0 40) ∷ [];
   };
   slots = numbers 0 40 ∷ numbers 0 40 ∷ [];
 }

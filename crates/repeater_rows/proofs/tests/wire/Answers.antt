@@ -3,11 +3,12 @@ use Rattle.rowed.specs.declared.row_cell.RowCell.{RowCell}
 use Rattle.rowed.specs.RowNets.{RowView}
 use Rattle.rowed.specs.PlacedNets.{IsPlaced}
 use Rattle.rowed.proofs.TestedNets.{row_net_from_test}
-use Rattle.repeater_rows.specs.Examples.{input, output}
+use Rattle.rowed.specs.MadeCells.{input_cell}
+use Rattle.repeater_rows.specs.Examples.{output}
 use Rattle.repeater_rows.proofs.tests.wire.Goals as goal
 
 rows : List (List RowCell)
-rows = (input 0 ∷ []) ∷ (output 0 0 ∷ []) ∷ []
+rows = (input_cell 0 ∷ []) ∷ (output 0 0 ∷ []) ∷ []
 
 net : RowView
 net = record { inputs = 1; outputs = 1; rows = rows }
