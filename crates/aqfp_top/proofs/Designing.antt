@@ -4,12 +4,13 @@ use Rattle.blif_read.specs.Parts.{NetView}
 use Rattle.blif_read.specs.Netlist.{IsNetlist}
 use Rattle.blif_flat.specs.DesignText as netlist
 use Rattle.rowed.specs.PlacedNets.{PlacedView, IsPlaced}
+use Rattle.rowed.specs.Counts.{cells_in, wires_in}
 use Rattle.cell_library.specs.Library.{LibraryView}
 use Rattle.cell_library.specs.Laws.{IsLibrary}
 use Rattle.cell_library.specs.Says as library
 use Rattle.gds_records.specs.Writing.{bytes_of}
 use Rattle.layout_make.specs.Draw.{draw}
-use Rattle.layout_make.specs.Size.{cells_in, wires_in, element_number, element_limit}
+use Rattle.layout_make.specs.Size.{element_number, element_limit}
 use Rattle.chip_plan.specs.Plans.{IsWithin, chip_of}
 use Rattle.aqfp_top.specs.Designs.{SaysDesign, KeepsLimits, HasManyElements, IsNetlistFault, IsCellsFault, IsPlanFault, stream_of}
 use Rattle.aqfp_top.specs.Stages as stage
@@ -59,17 +60,17 @@ netlist_answers net lib fault bad = found (stage.Netlist net) (stage.Cells lib �
 pub cells_answer : (net lib : List ℕ) (view : NetView) (fault : Fault) → netlist.SaysNetlist net view → OrMemory (IsCellsFault lib) fault → Answers (design_stages net lib) (Some fault)
 cells_answer net lib view fault says bad = past (stage.Netlist net) (stage.Cells lib ∷ stage.Plan net lib ∷ []) (Some fault) (says_no_fault net view says) (found (stage.Cells lib) (stage.Plan net lib ∷ []) fault bad)
 
-says_design : (net lib : List ℕ) (equations : NetView) (cells : LibraryView) → netlist.SaysNetlist net equations → library.Says lib cells → SaysDesign net lib equations cells
+says_design : (net lib : List ℕ) (equations : NetView) (cells : LibraryView) → netlist.SaysNetlist net equations → library.SaysLibrary lib cells → SaysDesign net lib equations cells
 says_design net lib equations cells net_says lib_says = record { net_says = net_says; lib_says = lib_says }
 
-plan_finds : (net lib : List ℕ) (equations : NetView) (cells : LibraryView) (fault : Fault) → netlist.SaysNetlist net equations → library.Says lib cells
+plan_finds : (net lib : List ℕ) (equations : NetView) (cells : LibraryView) (fault : Fault) → netlist.SaysNetlist net equations → library.SaysLibrary lib cells
     → OrMemory (IsPlanFault equations cells) fault → OrMemory (Finds (stage.Plan net lib)) fault
 plan_finds net lib equations cells (TooLarge what count) n l bad =
     record { equations = equations; cells = cells; says = says_design net lib equations cells n l; holds = bad }
 plan_finds net lib equations cells Memory n l bad = tt
 plan_finds net lib equations cells _ n l bad = absurd bad
 
-pub plan_answers : (net lib : List ℕ) (equations : NetView) (cells : LibraryView) (fault : Fault) → netlist.SaysNetlist net equations → library.Says lib cells
+pub plan_answers : (net lib : List ℕ) (equations : NetView) (cells : LibraryView) (fault : Fault) → netlist.SaysNetlist net equations → library.SaysLibrary lib cells
     → OrMemory (IsPlanFault equations cells) fault → Answers (design_stages net lib) (Some fault)
 plan_answers net lib equations cells fault n l bad =
     past (stage.Netlist net) (stage.Cells lib ∷ stage.Plan net lib ∷ []) (Some fault) (says_no_fault net equations n)
@@ -77,12 +78,12 @@ plan_answers net lib equations cells fault n l bad =
     (found (stage.Plan net lib) [] fault (plan_finds net lib equations cells fault n l bad)))
 
 -- where no limit is passed nothing is due
-plan_finds_none : (net lib : List ℕ) (equations : NetView) (cells : LibraryView) → netlist.SaysNetlist net equations → library.Says lib cells → PassesNone equations cells → FindsNone (stage.Plan net lib)
+plan_finds_none : (net lib : List ℕ) (equations : NetView) (cells : LibraryView) → netlist.SaysNetlist net equations → library.SaysLibrary lib cells → PassesNone equations cells → FindsNone (stage.Plan net lib)
 plan_finds_none net lib equations cells n l none fault bad =
     none fault (subst (λ l. IsPlanFault equations l fault) (same_said lib bad.cells cells bad.says.lib_says l)
     (subst (λ n. IsPlanFault n bad.cells fault) (one_netlist net bad.equations equations bad.says.net_says n) bad.holds))
 
-pub design_is_well : (net lib : List ℕ) (equations : NetView) (cells : LibraryView) → netlist.SaysNetlist net equations → library.Says lib cells → PassesNone equations cells → IsFirst (design_stages net lib) None
+pub design_is_well : (net lib : List ℕ) (equations : NetView) (cells : LibraryView) → netlist.SaysNetlist net equations → library.SaysLibrary lib cells → PassesNone equations cells → IsFirst (design_stages net lib) None
 design_is_well net lib equations cells n l none =
     (says_no_fault net equations n, (says_no_cells_fault lib cells l, (plan_finds_none net lib equations cells n l none, tt)))
 
@@ -118,7 +119,7 @@ some_row placed counts keeps rows cells wires =
 
 pub ruleset limits = (many_elements, few_cells, few_wires, keeps_limits, chip_is_of)
 
-pub chip_is_made : (net lib : List ℕ) (equations : NetView) (cells : LibraryView) (chip : Chip) → netlist.SaysNetlist net equations → library.Says lib cells
+pub chip_is_made : (net lib : List ℕ) (equations : NetView) (cells : LibraryView) (chip : Chip) → netlist.SaysNetlist net equations → library.SaysLibrary lib cells
     → KeepsLimits equations cells → IsChipOf equations cells chip → MakesChip net lib chip
 chip_is_made net lib equations cells chip n l limits made = record {
   equations = equations;

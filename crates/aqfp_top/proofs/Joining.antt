@@ -120,7 +120,7 @@ module _ (laws : Laws) (net : NetView) (cells : LibraryView) (lawful : IsLibrary
     within = subst (λ flat. flat_count flat ≤ 8000000) (sym same) few;
   }
 
-  sound : (lib text : List ℕ) → library.Says lib cells → SaysWords net.inputs text →
+  sound : (lib text : List ℕ) → library.SaysLibrary lib cells → SaysWords net.inputs text →
       IsSound (stream_of net cells) lib text made.circuit
   sound lib text says words = record {
     makes = record {
@@ -159,7 +159,7 @@ module _ (laws : Laws) (net : NetView) (cells : LibraryView) (lawful : IsLibrary
             ∙ ap (λ answers. counts_of net cells ++ flat_map word_line answers) same;
       }
 
-  pub verified : (lib text : List ℕ) → library.Says lib cells → SaysWords net.inputs text →
+  pub verified : (lib text : List ℕ) → library.SaysLibrary lib cells → SaysWords net.inputs text →
       VerifiesAsNet net cells lib text
   verified lib text says words = record {
     short = few_bytes;

@@ -90,12 +90,12 @@ is_ruled flat whole limits circuit same rules extracts = record {
 pub is_broken : (flat whole : Flat) (limits : Limits) (fault : Fault) → flat ≡ whole → IsBroken flat limits fault → IsBroken whole limits fault
 is_broken flat whole limits fault same bad = subst (λ f. IsBroken f limits fault) same bad
 
-rule_is_wrong : (gds lib : List ℕ) (layout : WideLayout) (view : LibraryView) (fault : Fault) → IsLayoutOf gds layout → library.Says lib view → IsBroken (wide_flat layout) (limits_of view) fault → OrMemory (IsRuleFault gds lib) fault
+rule_is_wrong : (gds lib : List ℕ) (layout : WideLayout) (view : LibraryView) (fault : Fault) → IsLayoutOf gds layout → library.SaysLibrary lib view → IsBroken (wide_flat layout) (limits_of view) fault → OrMemory (IsRuleFault gds lib) fault
 rule_is_wrong gds lib layout view (RuleBroken rule first second) read says bad = record { layout = layout; read = read; library = record { view = view; says = says }; broken = bad }
 rule_is_wrong gds lib layout view Memory read says bad = tt
 rule_is_wrong gds lib layout view _ read says bad = absurd bad
 
-circuit_is_made : (gds lib : List ℕ) (layout : WideLayout) (view : LibraryView) (circuit : CircuitView) → IsLayoutOf gds layout → library.Says lib view → IsRuled (wide_flat layout) (limits_of view) circuit → MakesCircuit gds lib circuit
+circuit_is_made : (gds lib : List ℕ) (layout : WideLayout) (view : LibraryView) (circuit : CircuitView) → IsLayoutOf gds layout → library.SaysLibrary lib view → IsRuled (wide_flat layout) (limits_of view) circuit → MakesCircuit gds lib circuit
 circuit_is_made gds lib layout view circuit read says ruled = record {
   layout = layout;
   read = read;
@@ -129,21 +129,21 @@ pub cells_answer : (gds lib : List ℕ) (layout : WideLayout) (fault : Fault) �
 cells_answer gds lib layout fault is bad rest =
     past_all (stage.Stream gds ∷ stage.Size gds ∷ []) (stage.Cells lib ∷ stage.Rules gds lib ∷ rest) (Some fault) (is.stream, (is.size, tt)) (found (stage.Cells lib) (stage.Rules gds lib ∷ rest) fault bad)
 
-rules_answer : (gds lib : List ℕ) (layout : WideLayout) (view : LibraryView) (fault : Fault) → IsRead gds layout → library.Says lib view → OrMemory (IsRuleFault gds lib) fault → (rest : List Stage) → Answers (circuit_then gds lib rest) (Some fault)
+rules_answer : (gds lib : List ℕ) (layout : WideLayout) (view : LibraryView) (fault : Fault) → IsRead gds layout → library.SaysLibrary lib view → OrMemory (IsRuleFault gds lib) fault → (rest : List Stage) → Answers (circuit_then gds lib rest) (Some fault)
 rules_answer gds lib layout view fault is says bad rest =
     past_all (stage.Stream gds ∷ stage.Size gds ∷ stage.Cells lib ∷ []) (stage.Rules gds lib ∷ rest) (Some fault) (is.stream, (is.size, (says_no_cells_fault lib view says, tt))) (found (stage.Rules gds lib) rest fault bad)
 
-pub circuit_answers : {A : Type 0} (gds lib : List ℕ) (layout : WideLayout) (view : LibraryView) (result : Result A Fault) → IsRead gds layout → library.Says lib view → IfErr result (IsBroken (wide_flat layout) (limits_of view))
+pub circuit_answers : {A : Type 0} (gds lib : List ℕ) (layout : WideLayout) (view : LibraryView) (result : Result A Fault) → IsRead gds layout → library.SaysLibrary lib view → IfErr result (IsBroken (wide_flat layout) (limits_of view))
     → IfErr result (λ fault. (rest : List Stage) → Answers (circuit_then gds lib rest) (Some fault))
 circuit_answers gds lib layout view (Ok x) is says bad = tt
 circuit_answers gds lib layout view (Err fault) is says bad = rules_answer gds lib layout view fault is says (rule_is_wrong gds lib layout view fault is.read says bad)
 
-pub circuits_made : (gds lib : List ℕ) (layout : WideLayout) (view : LibraryView) (result : Result CircuitView Fault) → IsRead gds layout → library.Says lib view → IfOk result (IsRuled (wide_flat layout) (limits_of view)) → IfOk result (MakesCircuit gds lib)
+pub circuits_made : (gds lib : List ℕ) (layout : WideLayout) (view : LibraryView) (result : Result CircuitView Fault) → IsRead gds layout → library.SaysLibrary lib view → IfOk result (IsRuled (wide_flat layout) (limits_of view)) → IfOk result (MakesCircuit gds lib)
 circuits_made gds lib layout view (Ok circuit) is says ruled = circuit_is_made gds lib layout view circuit is.read says ruled
 circuits_made gds lib layout view (Err fault) is says ruled = tt
 
 pub circuit_is_well : (one_layout : (bytes : List ℕ) (layout other : WideLayout) → IsWideStream bytes layout → IsWideStream bytes other → layout ≡ other)
-    (gds lib : List ℕ) (layout : WideLayout) (view : LibraryView) (result : Result CircuitView Fault) → IsRead gds layout → library.Says lib view → IfOk result (IsRuled (wide_flat layout) (limits_of view))
+    (gds lib : List ℕ) (layout : WideLayout) (view : LibraryView) (result : Result CircuitView Fault) → IsRead gds layout → library.SaysLibrary lib view → IfOk result (IsRuled (wide_flat layout) (limits_of view))
     → OnOk result (IsFirst (circuit_stages gds lib) None)
 circuit_is_well one_layout gds lib layout view (Ok circuit) is says ruled =
     (is.stream, (is.size, (says_no_cells_fault lib view says, (rules_none one_layout gds lib circuit (circuit_is_made gds lib layout view circuit is.read says ruled), tt))))

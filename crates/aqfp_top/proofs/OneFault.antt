@@ -107,7 +107,7 @@ pub library_either : (text : List ℕ) (fault : LibraryFault) → IsCellFault te
 library_either text fault bad good = by_text (λ a. ⊥) text (λ refused. refused_document text good.says.table refused good.says.document) (λ a found. says_faultless text a found good) fault bad
 
 -- a text says one library
-pub same_said : (text : List ℕ) (l m : LibraryView) → library.Says text l → library.Says text m → l ≡ m
+pub same_said : (text : List ℕ) (l m : LibraryView) → library.SaysLibrary text l → library.SaysLibrary text m → l ≡ m
 same_said text l m p q = p.values ∙ (ap library.library_of (one_table text p.table q.table p.document q.document) ∙ sym q.values)
 
 -- what holds of each fault of a stage holds of whatever it finds
@@ -174,10 +174,10 @@ one_cells_fault lib f g p q = each_cells (λ f. f ≡ g) lib
 pub says_no_fault : (net : List ℕ) (n : NetView) → netlist.SaysNetlist net n → (fault : Fault) → ¬ IsNetlistFault net fault
 says_no_fault net n says fault bad = each_netlist (λ f. ⊥) net (λ r some x. some (said.memory_alone net n r says x)) fault bad
 
-pub says_no_plain_fault : (net : List ℕ) (n : NetView) → plain.Says net n → (fault : Fault) → ¬ IsPlainFault net fault
+pub says_no_plain_fault : (net : List ℕ) (n : NetView) → plain.SaysNet net n → (fault : Fault) → ¬ IsPlainFault net fault
 says_no_plain_fault net n says fault bad = each_plain (λ f. ⊥) net (λ a x. no_fault_says a _ x says.sound) fault bad
 
-pub says_no_cells_fault : (lib : List ℕ) (l : LibraryView) → library.Says lib l → (fault : Fault) → ¬ IsCellsFault lib fault
+pub says_no_cells_fault : (lib : List ℕ) (l : LibraryView) → library.SaysLibrary lib l → (fault : Fault) → ¬ IsCellsFault lib fault
 says_no_cells_fault lib l says fault bad =
     let good : SaysLibrary lib = record { view = l; says = says } in
     each_cells (λ f. ⊥) lib (λ a x none. library_either lib a x good) (λ k x. library_either lib (Missing k) x good) fault bad
@@ -186,7 +186,7 @@ says_no_cells_fault lib l says fault bad =
 pub one_netlist : (net : List ℕ) (n m : NetView) → netlist.SaysNetlist net n → netlist.SaysNetlist net m → n ≡ m
 one_netlist net n m p q = said.one_net net n m p q
 
-pub one_plain : (net : List ℕ) (n m : NetView) → plain.Says net n → plain.Says net m → n ≡ m
+pub one_plain : (net : List ℕ) (n m : NetView) → plain.SaysNet net n → plain.SaysNet net m → n ≡ m
 one_plain net n m p q = p.parts ∙ sym q.parts
 
 -- the fault of a refusal of the plan

@@ -57,24 +57,24 @@ wide_words words bits inputs is wide same = subst (λ ws. All (λ word. length w
 pub reading_answers : (bits : ℕ) (fault : Fault) → OrMemory (IsPlainFault (adder bits)) fault → Answers (sample_stages bits) (Some fault)
 reading_answers bits fault bad = found (stage.Plain (adder bits)) (stage.PlanWith (adder bits) library_a_view ∷ []) fault bad
 
-plan_finds : (bits : ℕ) (equations : NetView) (fault : Fault) → netlist.Says (adder bits) equations → OrMemory (IsPlanFault equations library_a_view) fault → OrMemory (Finds (stage.PlanWith (adder bits) library_a_view)) fault
+plan_finds : (bits : ℕ) (equations : NetView) (fault : Fault) → netlist.SaysNet (adder bits) equations → OrMemory (IsPlanFault equations library_a_view) fault → OrMemory (Finds (stage.PlanWith (adder bits) library_a_view)) fault
 plan_finds bits equations (TooLarge what count) says bad = record { equations = equations; says = says; holds = bad }
 plan_finds bits equations Memory says bad = tt
 plan_finds bits equations _ says bad = absurd bad
 
-pub planning_answers : (bits : ℕ) (equations : NetView) (cells : LibraryView) (fault : Fault) → netlist.Says (adder bits) equations → cells ≡ library_a_view → OrMemory (IsPlanFault equations cells) fault → Answers (sample_stages bits) (Some fault)
+pub planning_answers : (bits : ℕ) (equations : NetView) (cells : LibraryView) (fault : Fault) → netlist.SaysNet (adder bits) equations → cells ≡ library_a_view → OrMemory (IsPlanFault equations cells) fault → Answers (sample_stages bits) (Some fault)
 planning_answers bits equations cells fault says is bad =
     past (stage.Plain (adder bits)) (stage.PlanWith (adder bits) library_a_view ∷ []) (Some fault) (says_no_plain_fault (adder bits) equations says)
     (found (stage.PlanWith (adder bits) library_a_view) [] fault (plan_finds bits equations fault says (subst (λ l. OrMemory (IsPlanFault equations l) fault) is bad)))
 
-own_plan_none : (bits : ℕ) (equations : NetView) → netlist.Says (adder bits) equations → PassesNone equations library_a_view → FindsNone (stage.PlanWith (adder bits) library_a_view)
+own_plan_none : (bits : ℕ) (equations : NetView) → netlist.SaysNet (adder bits) equations → PassesNone equations library_a_view → FindsNone (stage.PlanWith (adder bits) library_a_view)
 own_plan_none bits equations says none fault bad = none fault (subst (λ n. IsPlanFault n library_a_view fault) (one_plain (adder bits) bad.equations equations bad.says says) bad.holds)
 
-pub sample_is_well : (bits : ℕ) (equations : NetView) (cells : LibraryView) → netlist.Says (adder bits) equations → cells ≡ library_a_view → PassesNone equations cells → IsFirst (sample_stages bits) None
+pub sample_is_well : (bits : ℕ) (equations : NetView) (cells : LibraryView) → netlist.SaysNet (adder bits) equations → cells ≡ library_a_view → PassesNone equations cells → IsFirst (sample_stages bits) None
 sample_is_well bits equations cells says is none =
     (says_no_plain_fault (adder bits) equations says, (own_plan_none bits equations says (subst (λ l. PassesNone equations l) is none), tt))
 
-pub sample_is_made : (bits : ℕ) (equations : NetView) (cells : LibraryView) (chip : Chip) (sample : SampleResult) → netlist.Says (adder bits) equations → cells ≡ library_a_view → KeepsLimits equations cells → IsChipOf equations cells chip
+pub sample_is_made : (bits : ℕ) (equations : NetView) (cells : LibraryView) (chip : Chip) (sample : SampleResult) → netlist.SaysNet (adder bits) equations → cells ≡ library_a_view → KeepsLimits equations cells → IsChipOf equations cells chip
     → sample.counts ≡ chip.counts → AllZip (IsAnswer equations) (eight bits) sample.answers → IsSampleOfBits bits sample
 sample_is_made bits equations cells chip sample says is limits made counts answers = record {
   equations = equations;

@@ -56,6 +56,7 @@ pub record IsSound (gds lib text : List ℕ) (circuit : CircuitView) : Type 0 wh
   pub makes : MakesCircuit gds lib circuit
   pub says : SaysWords circuit.inputs text
 
+-- the layout makes a circuit with the library, and the words are words for it
 pub record SaysSound (gds lib text : List ℕ) : Type 0 where
   pub circuit : CircuitView
   pub sound : IsSound gds lib text circuit

@@ -29,7 +29,7 @@ pub record BuildsChip (held : Contents) (after : Option Contents) (words : List 
   pub cells : LibraryView
   pub net_says : netlist.SaysNetlist net equations
   pub net_keeps : IsNetlist equations
-  pub lib_says : library.Says lib cells
+  pub lib_says : library.SaysLibrary lib cells
   -- the bytes of the drawn plan, which can be read back
   pub bytes : List ℕ
   pub bytes_are : bytes ≡ stream_of equations cells

@@ -41,7 +41,7 @@ pub record ComparesChip (held : Contents) (words : List (List ℕ)) (before afte
   pub layout : WideLayout
   pub stream : IsWideStream gds layout
   pub cells : LibraryView
-  pub lib_says : library.Says lib cells
+  pub lib_says : library.SaysLibrary lib cells
   pub rules : KeepsRules (wide_flat layout) (limits_of cells)
   pub circuit : CircuitView
   pub extracted : IsCircuitOf (wide_flat layout) circuit

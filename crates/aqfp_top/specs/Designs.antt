@@ -6,6 +6,7 @@ use Rattle.blif_read.specs.Says as plain
 use Rattle.blif_flat.specs.DesignText as netlist
 use Rattle.blif_flat.specs.declared.design.FlatRefusal.TheVariants as refusal
 use Rattle.rowed.specs.PlacedNets.{PlacedView}
+use Rattle.rowed.specs.Counts.{cells_in, wires_in}
 use Rattle.cell_library.specs.Says as library
 use Rattle.cell_library.specs.Library.{LibraryView}
 use Rattle.cell_library.specs.declared.fault.LibraryFault.{LibraryFault}
@@ -13,7 +14,7 @@ use Rattle.cell_library.specs.declared.fault.LibraryFault.TheVariants.{Text, Mis
 use Rattle.gds_records.specs.Writing.{bytes_of}
 use Rattle.chip_texts.specs.Counts.{counts_text}
 use Rattle.layout_make.specs.Draw.{draw}
-use Rattle.layout_make.specs.Size.{cells_in, wires_in, element_number, element_limit}
+use Rattle.layout_make.specs.Size.{element_number, element_limit}
 use Rattle.chip_plan.specs.Plans.{IsWithin, chip_of}
 use Rattle.chip_plan.specs.Refusals.{Refuses}
 use Rattle.chip_plan.specs.declared.refusal.PlanRefusal.TheVariants as plan
@@ -25,12 +26,12 @@ use Rattle.aqfp_top.specs.declared.fault.Fault.TheVariants.{BadBlif, BadDesign, 
 -- the text says some library
 pub record SaysLibrary (text : List ℕ) : Type 0 where
   pub view : LibraryView
-  pub says : library.Says text view
+  pub says : library.SaysLibrary text view
 
 -- the texts say this netlist and this library
 pub record SaysDesign (net lib : List ℕ) (equations : NetView) (cells : LibraryView) : Type 0 where
   pub net_says : netlist.SaysNetlist net equations
-  pub lib_says : library.Says lib cells
+  pub lib_says : library.SaysLibrary lib cells
 
 -- the texts say a netlist and a library of which this holds
 pub record HasDesign (net lib : List ℕ) (Holds : NetView → LibraryView → Type 0) : Type 0 where
@@ -42,7 +43,7 @@ pub record HasDesign (net lib : List ℕ) (Holds : NetView → LibraryView → T
 -- the text, of one model without calls, says a netlist of which this holds
 pub record HasNetlist (net : List ℕ) (Holds : NetView → Type 0) : Type 0 where
   pub equations : NetView
-  pub says : plain.Says net equations
+  pub says : plain.SaysNet net equations
   pub holds : Holds equations
 
 -- the chip of the netlist keeps all limits

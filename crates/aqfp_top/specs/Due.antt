@@ -18,6 +18,7 @@ use Rattle.aqfp_top.specs.declared.fault.Fault.TheVariants.{TooLong, ReadFault, 
 abbrev pub file_at : Contents → List (List ℕ) → ℕ → Option (List ℕ)
 file_at files words place = files (word_at words place)
 
+-- the bytes of the file under the name at a place of the words; no bytes where it is absent
 abbrev pub bytes_at : Contents → List (List ℕ) → ℕ → List ℕ
 bytes_at files words place = unwrap_or (file_at files words place) []
 
@@ -33,6 +34,7 @@ design_stages net lib = stage.Netlist net ∷ stage.Cells lib ∷ stage.Plan net
 abbrev pub circuit_stages : List ℕ → List ℕ → List Stage
 circuit_stages gds lib = stage.Stream gds ∷ stage.Size gds ∷ stage.Cells lib ∷ stage.Rules gds lib ∷ []
 
+-- judging the texts of a chip and of a library, and words for its inputs
 abbrev pub judging_stages : List ℕ → List ℕ → List ℕ → List Stage
 judging_stages gds lib text =
     stage.Stream gds ∷ stage.Size gds ∷ stage.Cells lib ∷ stage.Rules gds lib ∷ stage.Words gds lib text ∷ []
@@ -48,18 +50,22 @@ abbrev pub build_stages : Contents → List (List ℕ) → List Stage
 build_stages files words =
     loading files words build_loads ++ design_stages (bytes_at files words 1) (bytes_at files words 2)
 
+-- verify and trace: load GDS, LIB and WORDS, then judge the three texts
 abbrev pub check_stages : Contents → List (List ℕ) → List Stage
 check_stages files words = loading files words check_loads
     ++ judging_stages (bytes_at files words 1) (bytes_at files words 2) (bytes_at files words 3)
 
+-- equal: load GDS, LIB and NET, then judge them and compare chip and netlist
 abbrev pub equal_stages : Contents → List (List ℕ) → List Stage
 equal_stages files words = loading files words equal_loads
     ++ comparing_stages (bytes_at files words 1) (bytes_at files words 2) (bytes_at files words 3)
 
+-- netlist: load GDS and LIB, then judge the chip
 abbrev pub write_stages : Contents → List (List ℕ) → List Stage
 write_stages files words =
     loading files words write_loads ++ circuit_stages (bytes_at files words 1) (bytes_at files words 2)
 
+-- sample: read the adder of so many bits and plan it with library A; no file is loaded
 abbrev pub sample_stages : ℕ → List Stage
 sample_stages bits = stage.Plain (adder bits) ∷ stage.PlanWith (adder bits) library_a_view ∷ []
 
@@ -90,6 +96,7 @@ abbrev pub untaken : Fault → Fault
 untaken (TooLong place taken) = TooLong place 0
 untaken fault = fault
 
+-- the two answers differ at most in how many bytes were seen of a file that is too long
 abbrev pub IsSameAnswer : Option Fault → Option Fault → Type 0
 IsSameAnswer one other = option_map untaken one ≡ option_map untaken other
 

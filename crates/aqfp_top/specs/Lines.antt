@@ -56,6 +56,7 @@ design_kind_text flat.NoOutputs = codes "no outputs"
 abbrev pub signals_text : List (List ℕ) → List ℕ
 signals_text signals = flat_map (λ signal. 32 ∷ signal) signals
 
+-- the line about a netlist: the number of the line at fault, and what is wrong with it or the signals of the cycle
 abbrev pub netlist_line : BlifFault → List ℕ
 netlist_line (blif.Line line kind) =
     codes "aqfp: line " ++ decimal line ++ codes ": " ++ line_kind_text kind ++ codes "\n"
@@ -67,9 +68,11 @@ abbrev pub integer_text : ℤ → List ℕ
 integer_text (pos n) = decimal n
 integer_text (negsuc n) = codes "-" ++ decimal (suc n)
 
+-- the line about a kind of cell that the library lacks
 abbrev pub missing_line : CellKind → List ℕ
 missing_line kind = codes "aqfp: library: missing " ++ key_of kind ++ codes "\n"
 
+-- the line about a library of cells: its text, a key, a value, a law of its numbers, or a cell that it lacks
 abbrev pub library_line : LibraryFault → List ℕ
 library_line library.Text = codes "aqfp: library: text\n"
 library_line (library.Key key) = codes "aqfp: library: key " ++ key ++ codes "\n"

@@ -1,19 +1,24 @@
 -- The files that the commands load: the places of their names among the words, and how many bytes they may have.
 use Rattle.std.specs.Prelude.{ℕ, ◌≡◌, ◌⊎◌, ◌<◌, List, [], ◌∷◌}
 
+-- a file to load: the place of its name among the words, counted from 0, and the most bytes that it may have
 pub record Load : Type 0 where
   pub place : ℕ
   pub limit : ℕ
 
+-- the most bytes that the text of a netlist may have: 16 MiB
 abbrev pub net_limit : ℕ
 net_limit = 16777216
 
+-- the most bytes that the text of a library may have: 1 MiB
 abbrev pub lib_limit : ℕ
 lib_limit = 1048576
 
+-- the most bytes that a file in GDSII Stream Format may have: 256 MiB
 abbrev pub gds_limit : ℕ
 gds_limit = 268435456
 
+-- the most bytes that a file of words may have: 16 MiB
 abbrev pub words_limit : ℕ
 words_limit = 16777216
 

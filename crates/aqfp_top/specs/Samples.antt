@@ -6,8 +6,8 @@ use Rattle.blif_read.specs.Parts.{NetView}
 use Rattle.blif_read.specs.Says as netlist
 use Rattle.blif_read.specs.Equations.{IsAnswer}
 use Rattle.rowed.specs.PlacedNets.{PlacedView}
+use Rattle.rowed.specs.Counts.{cells_in, wires_in}
 use Rattle.cell_library.specs.LibraryA.{library_a_view}
-use Rattle.layout_make.specs.Size.{cells_in, wires_in}
 use Rattle.chip_plan.specs.Plans.{chip_of}
 use Rattle.sample_adder.specs.Adder.{adder}
 use Rattle.sample_adder.specs.EightWords.{eight}
@@ -25,7 +25,7 @@ text_of bits chip answers =
 -- netlist's answers
 pub record IsSampled (bits : ℕ) (Printed : List ℕ → Type 0) : Type 0 where
   pub equations : NetView
-  pub says : netlist.Says (adder bits) equations
+  pub says : netlist.SaysNet (adder bits) equations
   pub limits : KeepsLimits equations library_a_view
   pub answers : List (List Bool)
   pub are_answers : AllZip (IsAnswer equations) (eight bits) answers

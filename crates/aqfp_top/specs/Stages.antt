@@ -56,6 +56,7 @@ Finds (Words gds lib text) fault = IsWordsFault gds lib text fault
 Finds (Counts gds lib net) fault = IsWidthsFault gds lib net fault
 Finds (Comparison gds lib net) fault = ⊥
 
+-- the stage finds no fault
 abbrev pub FindsNone : Stage → Type 0
 FindsNone stage = (fault : Fault) → ¬ Finds stage fault
 

@@ -5,6 +5,7 @@ use Rattle.aqfp_top.specs.declared.fault.Fault.TheVariants.{Usage, Absent, TooLo
 use Rattle.aqfp_top.specs.declared.fault.Fault.TheVariants.{BadDesign, BadLibrary, MissingCell, TooLarge, BadStream}
 use Rattle.aqfp_top.specs.declared.fault.Fault.TheVariants.{RuleBroken, BadWords, Widths, Memory}
 
+-- the exit status of the command: 0 for success, and for each kind of fault a number of its own
 abbrev pub status_of : Option Fault → ℕ
 status_of None = 0
 status_of (Some Usage) = 1

@@ -29,7 +29,7 @@ pub record ChecksChip (held : Contents) (words : List (List ℕ)) (circuit : Cir
   pub layout : WideLayout
   pub stream : IsWideStream gds layout
   pub cells : LibraryView
-  pub lib_says : library.Says lib cells
+  pub lib_says : library.SaysLibrary lib cells
   pub rules : KeepsRules (wide_flat layout) (limits_of cells)
   pub extracted : IsCircuitOf (wide_flat layout) circuit
   pub text_says : SaysWords circuit.inputs text

@@ -55,6 +55,7 @@ pub record IsSample (words : List (List ℕ)) : Type 0 where
   pub bits : ℕ
   pub of_bits : IsSampleOf words bits
 
+-- the words are one of the six commands with its arguments, the number of a sample being from 1 to 64
 abbrev pub HasForm : List (List ℕ) → Type 0
 HasForm words = IsBuild words ⊎ (IsCheck words ⊎ (IsSample words ⊎ (IsEqual words ⊎ IsWrite words)))
 

@@ -27,7 +27,7 @@ pub record WritesNetlist (held : Contents) (after : Option Contents) (words : Li
   pub layout : WideLayout
   pub stream : IsWideStream gds layout
   pub cells : LibraryView
-  pub lib_says : library.Says lib cells
+  pub lib_says : library.SaysLibrary lib cells
   pub rules : KeepsRules (wide_flat layout) (limits_of cells)
   pub circuit : CircuitView
   pub extracted : IsCircuitOf (wide_flat layout) circuit

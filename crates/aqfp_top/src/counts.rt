@@ -2,7 +2,7 @@
 ghost use Rattle.std.specs.Prelude.{◌≡◌, ◌+◌, ◌<◌, ◌^◌, length, OnOk, OnErr, IsErrOf, IfErr};
 ghost use Rattle.aq_base.specs.Causes.{Rose};
 ghost use Rattle.aq_base.specs.Store.{gained, GainsPrefix};
-ghost use Rattle.layout_make.specs.Size.{cells_in, wires_in};
+ghost use Rattle.rowed.specs.Counts.{cells_in, wires_in};
 ghost use Rattle.chip_texts.specs.Counts.{counts_text};
 ghost use Rattle.aqfp_top.specs.Code.Building.{IsOutOrMemory};
 ghost use Rattle.aqfp_top.specs.Code.Designing.{AreCountsOf};
@@ -11,7 +11,6 @@ ghost use Rattle.aqfp_top.specs.Code.Writing.{AreCircuitCounts};
 use crate::fault::{Fault, WriteCall};
 use crate::pieces::{Piece, put_pieces};
 use aq_base::{Sink, StoreRefusal};
-use layout_make::{cell_number, row_count, wire_number};
 use rowed::Placed;
 use shape_extract::Extracted;
 
@@ -32,9 +31,9 @@ pub fn counts_of(placed: &Placed) -> ChipCounts
 {
     placed.known();
     ChipCounts {
-        rows: row_count(placed) as u64,
-        cells: cell_number(placed),
-        wires: wire_number(placed),
+        rows: placed.row_count() as u64,
+        cells: placed.cell_count(),
+        wires: placed.wire_count(),
     }
 }
 

@@ -46,7 +46,7 @@ pub fn read_netlist(alloc: Global, text: &[u8]) -> Result<Netlist, Fault>
 /// The library that the text says.
 pub fn read_cells(alloc: Global, text: &[u8]) -> Result<Library, Fault>
     requires { length text.now ≤ 2 ^ 28 }
-    ensures ok { IfOk result (λ cells. library.Says text.now cells) }
+    ensures ok { IfOk result (λ cells. library.SaysLibrary text.now cells) }
     ensures bad { IfErr result (OrMemory (IsCellsFault text.now)) }
 {
     match read_library(alloc, text) {

@@ -37,7 +37,7 @@ pub struct SampleResult {
 // The netlist that a text of one model without calls says.
 fn read_plain(alloc: Global, text: &[u8]) -> Result<Netlist, Fault>
     requires { length text.now ≤ 2 ^ 28 }
-    ensures ok { IfOk result (λ net. netlist.Says text.now net) }
+    ensures ok { IfOk result (λ net. netlist.SaysNet text.now net) }
     ensures bad { IfErr result (OrMemory (IsPlainFault text.now)) }
 {
     match blif_read(alloc, text) {
@@ -52,7 +52,7 @@ fn read_plain(alloc: Global, text: &[u8]) -> Result<Netlist, Fault>
 fn read_adder(alloc: Global, bits: u32) -> Result<Netlist, Fault>
     requires some { 1 ≤ bits }
     requires most { bits ≤ 64 }
-    ensures ok { IfOk result (λ net. netlist.Says (adder bits) net) }
+    ensures ok { IfOk result (λ net. netlist.SaysNet (adder bits) net) }
     ensures bad { IfErr result (OrMemory (IsPlainFault (adder bits))) }
 {
     sample_laws();
@@ -79,7 +79,7 @@ fn answers_to(alloc: Global, net: &Netlist, words: &List<Word>) -> Result<List<W
 fn eight_answers(alloc: Global, bits: u32, net: &Netlist) -> Result<List<Word>, Memory>
     requires some { 1 ≤ bits }
     requires most { bits ≤ 64 }
-    requires says { netlist.Says (adder bits) net.now }
+    requires says { netlist.SaysNet (adder bits) net.now }
     ensures { IfOk result (AllZip (IsAnswer net.now) (eight bits)) }
 {
     sample_laws();

@@ -6,7 +6,7 @@ use Rattle.blif_read.specs.Lines.{Line, logical_lines}
 use Rattle.blif_read.specs.Parts.{NetView}
 use Rattle.blif_read.specs.Netlist.{AreParts}
 use Rattle.blif_read.specs.Models.{onto, parts_of, parts_behind, model_of, is_design, SaysModels, ModelsFault}
-use Rattle.blif_read.specs.Says.{Says, Fault, IfBad}
+use Rattle.blif_read.specs.Says.{SaysNet, Fault, IfBad}
 use Rattle.blif_read.specs.declared.netlist.BlifRefusal.{BlifRefusal}
 use Rattle.blif_read.specs.declared.netlist.BlifRefusal.TheVariants.{Bad}
 use Rattle.blif_read.specs.Reads.{SaysText, TextFault}
@@ -101,10 +101,10 @@ parts_known text models few says ok = said_parts text models (more (length text)
     more : (n : ℕ) → n ≤ 2 ^ 24 → n ≤ 2 ^ 27
     more n h = omega (arith, h)
 
-netlist_at : (b : Bool) (text : List ℕ) → is_design (logical_lines text) ≡ b → (net : NetView) → elim b as (λ (x : Bool). Type 0) [ true ↦ OfModels text (SaysExpansion net) | false ↦ Says text net ] → SaysNetlist text net
-netlist_at b text e net h = subst (λ (x : Bool). elim x as (λ (y : Bool). Type 0) [ true ↦ OfModels text (SaysExpansion net) | false ↦ Says text net ]) (sym e) h
+netlist_at : (b : Bool) (text : List ℕ) → is_design (logical_lines text) ≡ b → (net : NetView) → elim b as (λ (x : Bool). Type 0) [ true ↦ OfModels text (SaysExpansion net) | false ↦ SaysNet text net ] → SaysNetlist text net
+netlist_at b text e net h = subst (λ (x : Bool). elim x as (λ (y : Bool). Type 0) [ true ↦ OfModels text (SaysExpansion net) | false ↦ SaysNet text net ]) (sym e) h
 
-pub says_plain : (text : List ℕ) (net : NetView) → is_design (logical_lines text) ≡ false → Says text net → SaysNetlist text net
+pub says_plain : (text : List ℕ) (net : NetView) → is_design (logical_lines text) ≡ false → SaysNet text net → SaysNetlist text net
 says_plain text net e h = netlist_at false text e net h
 
 pub says_design : (text : List ℕ) (models : List BlifModel) (net : NetView) → is_design (logical_lines text) ≡ true → SaysModels text models → SaysExpansion net models → SaysNetlist text net

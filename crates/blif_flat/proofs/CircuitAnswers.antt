@@ -13,7 +13,7 @@ use Rattle.circuit.specs.declared.cell_kind.CellKind.{CellKind}
 use Rattle.circuit.specs.declared.cell_kind.CellKind.TheVariants.{Buffer, Inverter, Zero, One, Split2, Split3, Majority}
 use Rattle.rowed.specs.declared.source.Source.{Source}
 use Rattle.blif_read.specs.Parts.{NetView, plane}
-use Rattle.blif_read.specs.Says.{Says}
+use Rattle.blif_read.specs.Says.{SaysNet}
 use Rattle.blif_read.specs.Equations.{takes, matches, Fits, IsAnswer as NetAnswer}
 use Rattle.blif_read.specs.Code.OneAnswer.{equation}
 use Rattle.chip_circuit.specs.declared.cells.Feed.{Feed}
@@ -276,7 +276,7 @@ module _ (circuit : CircuitView) (ok : KeepsFacts circuit) where
             (circuit_answers circuit ok word v fits);
       }
 
-  text_is : Says (blif_text circuit) said
+  text_is : SaysNet (blif_text circuit) said
   unfolding blif_text
   text_is =
       let names = subst (λ n. AreNames (name_of circuit) (circuit.inputs + n)) (sym definition_count)
@@ -288,7 +288,7 @@ module _ (circuit : CircuitView) (ok : KeepsFacts circuit) where
       let some : 0 < length (output_signals circuit) =
       (let e = length-range_with_len (circuit.inputs + length circuit.cells)
       (length circuit.outputs) in let h = some_output circuit ok in omega (arith, e, h)) in
-      subst (λ text. Says text said) (ap (flat_map line_text) (sym (lines_are circuit (is_writable circuit ok))))
+      subst (λ text. SaysNet text said) (ap (flat_map line_text) (sym (lines_are circuit (is_writable circuit ok))))
       (text_says (name_of circuit) circuit.inputs (definitions_of circuit) (output_signals circuit) names
       (are_defined circuit (is_writable circuit ok)) within some)
 

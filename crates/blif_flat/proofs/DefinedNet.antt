@@ -11,7 +11,7 @@ use Rattle.blif_read.specs.Statements.{inputs_in, outputs_in, defined_in}
 use Rattle.blif_read.specs.Parts.{NetView, signals, number, definitions, netlist_of, operands, operands_at}
 use Rattle.blif_read.specs.Faults.{line_fault, outputs_fault, undefined_fault, told_cycle, cycle_fault, fault_of}
 use Rattle.blif_read.specs.Walk.{on, first_cycle, Leads, IsCycle}
-use Rattle.blif_read.specs.Says.{Says}
+use Rattle.blif_read.specs.Says.{SaysNet}
 use Rattle.blif_read.specs.Netlist.{IsRankedBy}
 use Rattle.blif_read.specs.Equations.{Fits}
 use Rattle.blif_read.specs.Code.OneAnswer.{equation, cover_equation, is_ranked}
@@ -174,7 +174,7 @@ module _ (name : ℕ → List ℕ) (inputs : ℕ) (ds : List Definition) (outs :
     )
 
     -- the text says the netlist of the definitions
-    pub text_says : 0 < length outs → Says (flat_map line_text (whole name inputs ds outs)) net
+    pub text_says : 0 < length outs → SaysNet (flat_map line_text (whole name inputs ds outs)) net
     text_says some =
         let cut = written_lines (whole name inputs ds outs) all_written in
         record { sound = ap fault_of cut ∙ no_fault some; parts = sym (ap netlist_of cut ∙ net_said) }

@@ -8,8 +8,8 @@ use Rattle.std.proofs.lemmas.List.{length-map}
 use Rattle.std.proofs.lemmas.Option.{slice_get-get_or}
 use Rattle.blif_read.specs.Lines.{logical_lines}
 use Rattle.blif_read.specs.Parts.{NetView}
-use Rattle.blif_read.specs.Says.{Says}
-use Rattle.blif_read.specs.Equations.{takes, matches, value_of, IsAnswer}
+use Rattle.blif_read.specs.Says.{SaysNet}
+use Rattle.blif_read.specs.Equations.{takes, matches, cover_value, IsAnswer}
 use Rattle.blif_read.specs.declared.netlist.Cube.{Cube}
 use Rattle.blif_read.specs.declared.models.Named.{Named}
 use Rattle.blif_read.specs.declared.models.BlifModel.{BlifModel}
@@ -20,7 +20,7 @@ use Rattle.blif_flat.specs.Expansion.{Wire, wire, same_wire, WireDef, definition
 use Rattle.blif_flat.specs.Meaning.{takes_all, DesignAnswers}
 use Rattle.blif_flat.proofs.Members.{Among, AreApart, all_from, at_among, map_map, map_same, Picks, at_place, place_of, there, same_bytes, bytes_same}
 use Rattle.blif_flat.proofs.SoundModels.{IsSound, some_model, first_is_sound}
-use Rattle.blif_flat.proofs.HeldWires.{Values, at, cover_value, Holds, means_from_wires}
+use Rattle.blif_flat.proofs.HeldWires.{Values, at, held_value, Holds, means_from_wires}
 use Rattle.blif_flat.proofs.WiresOfMeaning.{IsSolved, wires_from_meaning}
 use Rattle.blif_flat.proofs.Blocks.{block_reads, output_is_there}
 use Rattle.blif_flat.proofs.DistinctWires.{block_apart}
@@ -57,7 +57,7 @@ by_on false a b e = ap not e
 
 same_value : (d : WireDef) (ws : List Wire) (v : ℕ → Bool) (w : Values)
     → AllByRecursion (λ x. v (number ws x) ≡ at w x) d.inputs
-    → value_of (numbered ws d) v ≡ cover_value d (map (at w) d.inputs)
+    → cover_value (numbered ws d) v ≡ held_value d (map (at w) d.inputs)
 same_value d ws v w h = by_on d.on _ _ (some_match d.cubes ws d.inputs v w h)
 
 -- ---- places in lists
@@ -203,7 +203,7 @@ module _ (models : List BlifModel) (sound : IsSound (length models) models (firs
               (λ x h. ap (at w) (wire_of_number x
               (at_among (λ y. Among y ws) m.of.inputs x
               (at_among (λ d. AllByRecursion (λ y. Among y ws) d.inputs) ds m.of reads within) h)))))
-              ∙ ap (λ d. value_of d v) m.is);
+              ∙ ap (λ d. cover_value d v) m.is);
         };
         shown = s.shown
             ∙ sym (map_map v (λ o. number ws (wire 0 o)) outputs
@@ -254,7 +254,7 @@ net_means models ok word answer size =
 pub said_means : (text : List ℕ) (net : NetView) → is_design (logical_lines text) ≡ true → SaysNetlist text net
     → OfModels text (λ models. NetMeans models net)
 said_means text net design says =
-    let of = subst (λ b. elim b as (λ (x : Bool). Type 0) [ true ↦ OfModels text (SaysExpansion net) | false ↦ Says text net ])
+    let of = subst (λ b. elim b as (λ (x : Bool). Type 0) [ true ↦ OfModels text (SaysExpansion net) | false ↦ SaysNet text net ])
     design says in
     record {
       models = of.models;

@@ -22,15 +22,15 @@ abbrev pub at : Values → Wire → Bool
 at w x = w x.call x.name
 
 -- the value of a definition's cover
-abbrev pub cover_value : WireDef → List Bool → Bool
-cover_value d bits = elim d.on [
+abbrev pub held_value : WireDef → List Bool → Bool
+held_value d bits = elim d.on [
   | true ↦ list_any (λ cube. takes_all cube.plane bits) d.cubes
   | false ↦ not (list_any (λ cube. takes_all cube.plane bits) d.cubes)
 ]
 
 -- the defined signal has it
 abbrev pub Holds : Values → WireDef → Type 0
-Holds w d = at w d.output ≡ cover_value d (map (at w) d.inputs)
+Holds w d = at w d.output ≡ held_value d (map (at w) d.inputs)
 
 -- ---- single definitions
 
@@ -45,8 +45,8 @@ pub buffer_holds : (w : Values) (line : ℕ) (from to : Wire) → at w to ≡ at
 buffer_holds w line from to e = e ∙ sym (passed_on (at w from))
 
 pub own_value : (w : Values) (k : ℕ) (def : NamedDef)
-    → cover_value (own k def) (map (at w) (own k def).inputs) ≡ named_value def (w k)
-own_value w k def = ap (cover_value (own k def)) (map_map (at w) (wire k) def.inputs)
+    → held_value (own k def) (map (at w) (own k def).inputs) ≡ named_value def (w k)
+own_value w k def = ap (held_value (own k def)) (map_map (at w) (wire k) def.inputs)
 
 -- what an answer has for an output is the output's value
 pub answer_is : (model : BlifModel) (v : List ℕ → Bool) (name : List ℕ) → Among name (names_in model.outputs)

@@ -3,7 +3,7 @@
 use Rattle.std.proofs.Common.{◌≡◌, ℕ, ◌≤◌, ◌^◌, Bool, true, false, List, length, refl, sym, ap, ◌∙◌, subst, arith, inl, inr}
 use Rattle.blif_read.specs.Lines.{logical_lines}
 use Rattle.blif_read.specs.Parts.{NetView}
-use Rattle.blif_read.specs.Says.{Says}
+use Rattle.blif_read.specs.Says.{SaysNet}
 use Rattle.blif_read.specs.Models.{SaysModels}
 use Rattle.blif_read.specs.Netlist.{IsNetlist}
 use Rattle.blif_read.proofs.Said.{said_keeps}
@@ -18,7 +18,7 @@ use Rattle.blif_flat.proofs.ExpandedParts.{said_parts, netlist_from_parts}
 
 -- what a text says, by whether it is a design
 abbrev SaysBy : Bool → List ℕ → NetView → Type 0
-SaysBy b text net = elim b [ true ↦ OfModels text (SaysExpansion net) | false ↦ Says text net ]
+SaysBy b text net = elim b [ true ↦ OfModels text (SaysExpansion net) | false ↦ SaysNet text net ]
 
 abbrev IsRefusedBy : Bool → List ℕ → FlatRefusal → Type 0
 IsRefusedBy b text refusal = elim b [ true ↦ IsDesignRefusal text refusal | false ↦ IsTextRefusal text refusal ]
@@ -79,7 +79,7 @@ design_by text net (TooMany size) says refused =
     let large = refused.fact.large in
     absurd (omega (arith, small, large))
 
-text_by : (text : List ℕ) (net : NetView) (refusal : FlatRefusal) → Says text net → IsTextRefusal text refusal
+text_by : (text : List ℕ) (net : NetView) (refusal : FlatRefusal) → SaysNet text net → IsTextRefusal text refusal
     → refusal ≡ Memory
 text_by text net Memory says refused = refl
 text_by text net (Text fault) says refused = absurd (let none = says.sound in cc)

@@ -12,6 +12,7 @@ abbrev pub text_of : List (List ℕ) → List ℕ
 text_of [] = []
 text_of (line ∷ lines) = line ++ 10 ∷ text_of lines
 
+-- the models that a text says, whether or not they have faults
 abbrev pub models_in : List ℕ → List BlifModel
 models_in text = map model_of (parts_of (logical_lines text))
 
@@ -19,9 +20,11 @@ models_in text = map model_of (parts_of (logical_lines text))
 abbrev pub cube_of : List ℕ → Cube
 cube_of plane = record { plane = plane }
 
+-- a definition in this line by these planes, which list where the signal is true
 abbrev pub def_at : ℕ → List ℕ → List (List ℕ) → Def
 def_at line inputs planes = record { line = line; inputs = inputs; on = true; cubes = map cube_of planes }
 
+-- a half adder that the first model calls: p is the sum of x and y modulo 2, and q the carry
 abbrev pub half_adder : List ℕ
 half_adder = text_of (
     codes ".model top" ∷ codes ".inputs a b" ∷ codes ".outputs s c"
@@ -39,6 +42,7 @@ nested = text_of (
     ∷ codes "0 1" ∷ []
     )
 
+-- a design of one model, whose only call names the model itself
 abbrev pub calls_itself : List ℕ
 calls_itself = text_of (
     codes ".model a" ∷ codes ".inputs x" ∷ codes ".outputs y" ∷ codes ".subckt a x=x y=y" ∷ []

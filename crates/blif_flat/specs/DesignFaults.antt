@@ -117,9 +117,11 @@ abbrev pub number_in : Option ℕ → List ℕ
 number_in None = []
 number_in (Some n) = n ∷ []
 
+-- the calls of model n; none past the last model
 abbrev pub calls_of : List BlifModel → ℕ → List Call
 calls_of models n = elim (slice_get models n) [ None ↦ [] | Some model ↦ model.calls ]
 
+-- the models that model n calls, by number, call by call; calls that name no model are left out
 abbrev pub callees : List BlifModel → ℕ → List ℕ
 callees models n = flat_map (λ c. number_in (model_number models c.model)) (calls_of models n)
 
@@ -133,6 +135,7 @@ last_of_loop [] = 0
 last_of_loop (n ∷ []) = n
 last_of_loop (n ∷ m ∷ loop) = last_of_loop (m ∷ loop)
 
+-- the line of the first of these calls that names model n; 0 where none does
 abbrev pub line_to : List BlifModel → ℕ → List Call → ℕ
 line_to models n [] = 0
 line_to models n (call ∷ calls) = elim (model_number models call.model) [
@@ -140,6 +143,7 @@ line_to models n (call ∷ calls) = elim (model_number models call.model) [
   | Some m ↦ cond (m == n) call.line (line_to models n calls)
 ]
 
+-- the line of the call that closes this loop
 abbrev pub loop_line : List BlifModel → List ℕ → ℕ
 loop_line models loop = line_to models (slice_index_or loop 0 0) (calls_of models (last_of_loop loop))
 

@@ -27,5 +27,6 @@ model_size (suc steps) models model = sum_by definition_size model.defs
 unfoldable pub design_size : List BlifModel → ℕ
 design_size models = model_size (length models) models (first_model models)
 
+-- the greatest size of a design that is expanded
 abbrev pub size_limit : ℕ
 size_limit = 2 ^ 24

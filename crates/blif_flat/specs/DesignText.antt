@@ -8,7 +8,7 @@ use Rattle.blif_read.specs.Faults.{line_of}
 use Rattle.blif_read.specs.Walk.{first_cycle}
 pub use Rattle.blif_read.specs.Models.{is_design}
 use Rattle.blif_read.specs.Models.{SaysModels, ModelsFault}
-use Rattle.blif_read.specs.Says.{Says, Fault}
+use Rattle.blif_read.specs.Says.{SaysNet, Fault}
 use Rattle.blif_read.specs.declared.models.BlifModel.{BlifModel}
 use Rattle.blif_read.specs.declared.netlist.BlifFault.{BlifFault}
 use Rattle.blif_read.specs.declared.netlist.BlifFault.TheVariants.{Cycle}
@@ -39,10 +39,12 @@ pub record HasNoOutputs (models : List BlifModel) (line : ℕ) : Type 0 where
   pub none : length (first_model models).outputs ≡ 0
   pub at : line ≡ 0
 
+-- no line has a fault, and a call of this line closes the first loop
 pub record IsToldLoop (models : List BlifModel) (line : ℕ) : Type 0 where
   pub joined : AreJoined models
   pub loop : IsRecursive models line
 
+-- the fault of this kind in this line is the one that is told of a design
 abbrev pub IsToldFault : List BlifModel → ℕ → FlatKind → Type 0
 IsToldFault models line ModelTwice = IsFirstFault models line ModelTwice
 IsToldFault models line UnknownModel = IsFirstFault models line UnknownModel
@@ -63,6 +65,7 @@ pub record IsToldSize (models : List BlifModel) (size : ℕ) : Type 0 where
 abbrev pub told_names : List BlifModel → List ℕ → List (List ℕ)
 told_names models cycle = map (λ s. told_name (slice_index_or (wires models) s (wire 0 []))) cycle
 
+-- the fault is the first cycle of the expanded netlist, by the names that signals have in the design
 pub record IsToldCycle (models : List BlifModel) (fault : BlifFault) : Type 0 where
   pub buildable : IsBuildable models
   pub cycle : List ℕ
@@ -86,7 +89,7 @@ pub record SaysExpansion (net : NetView) (models : List BlifModel) : Type 0 wher
 abbrev pub SaysNetlist : List ℕ → NetView → Type 0
 SaysNetlist text net = elim (is_design (logical_lines text)) [
   | true ↦ OfModels text (SaysExpansion net)
-  | false ↦ Says text net
+  | false ↦ SaysNet text net
 ]
 
 -- what is told of a design

@@ -11,6 +11,7 @@ use Rattle.blif_read.specs.declared.models.Port.{Port}
 use Rattle.blif_read.specs.declared.models.Call.{Call}
 use Rattle.blif_read.specs.declared.models.BlifModel.{BlifModel}
 
+-- the names alone, without their lines
 abbrev pub names_in : List Named → List (List ℕ)
 names_in names = map (λ n. n.name) names
 
@@ -36,9 +37,11 @@ called models call = model_at models (model_number models call.model)
 abbrev pub input_ports : List BlifModel → Call → List Port
 input_ports models call = filter (λ p. is_defined (names_in (called models call).inputs) p.formal) call.ports
 
+-- the ports of a call that are joined to outputs of its model
 abbrev pub output_ports : List BlifModel → Call → List Port
 output_ports models call = filter (λ p. is_defined (names_in (called models call).outputs) p.formal) call.ports
 
+-- the signals of the caller at these ports, each with the line of the call
 abbrev pub actuals : ℕ → List Port → List Named
 actuals line ports = map (λ p. named line p.actual) ports
 
@@ -66,8 +69,10 @@ distinct_outputs model = insert_all bytes_eq [] (names_in model.outputs)
 abbrev pub formals : Call → List (List ℕ)
 formals call = map (λ p. p.formal) call.ports
 
+-- the signal of the caller that this signal of the called model is joined to; the empty name for none
 abbrev pub actual_of : Call → List ℕ → List ℕ
 actual_of call formal = slice_index_or (map (λ p. p.actual) (filter (λ p. bytes_eq formal p.formal) call.ports)) 0 []
 
+-- the outputs of the called model that a port joins to a signal of the caller, each once
 abbrev pub joined_outputs : List BlifModel → Call → List (List ℕ)
 joined_outputs models call = filter (is_defined (formals call)) (distinct_outputs (called models call))

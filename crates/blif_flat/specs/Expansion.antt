@@ -17,9 +17,11 @@ pub record Wire : Type 0 where
   pub call : ℕ
   pub name : List ℕ
 
+-- the signal of this name in this call
 abbrev pub wire : ℕ → List ℕ → Wire
 wire call name = record { call = call; name = name }
 
+-- the two signals stand in the same call and have the same name there
 abbrev pub same_wire : Wire → Wire → Bool
 same_wire a b = a.call == b.call && bytes_eq a.name b.name
 
@@ -85,9 +87,11 @@ definitions models = expanded (length models) models 0 (first_model models)
 abbrev pub wires : List BlifModel → List Wire
 wires models = map (wire 0) (names_in (first_model models).inputs) ++ map (λ d. d.output) (definitions models)
 
+-- the number of a signal of the netlist: its place among the wires
 abbrev pub number : List Wire → Wire → ℕ
 number wires w = position_or_len (same_wire w) wires
 
+-- a definition of the netlist, with signals by their numbers
 abbrev pub numbered : List Wire → WireDef → Def
 numbered wires d = record { line = d.line; inputs = map (number wires) d.inputs; on = d.on; cubes = d.cubes }
 
@@ -96,6 +100,7 @@ numbered wires d = record { line = d.line; inputs = map (number wires) d.inputs;
 abbrev pub kept_name : ℕ → Wire → List ℕ
 kept_name n w = elim w.call [ zero ↦ w.name | suc k ↦ codes "#" ++ decimal n ]
 
+-- the names that the netlist keeps for signals of which the first has number n
 abbrev pub kept_names : ℕ → List Wire → List (List ℕ)
 kept_names n [] = []
 kept_names n (w ∷ ws) = kept_name n w ∷ kept_names (n + 1) ws

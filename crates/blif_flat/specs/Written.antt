@@ -1,7 +1,7 @@
 -- What the text of a circuit says: a netlist that answers as the circuit does.
 use Rattle.std.specs.Prelude.{◌≡◌, ◌↔◌, Bool, List, length}
 use Rattle.blif_read.specs.Parts.{NetView}
-use Rattle.blif_read.specs.Says.{Says}
+use Rattle.blif_read.specs.Says.{SaysNet}
 use Rattle.blif_read.specs.Equations.{IsAnswer as NetAnswer}
 use Rattle.chip_circuit.specs.Circuits.{CircuitView}
 use Rattle.chip_circuit.specs.Answers.{IsAnswer}
@@ -10,7 +10,7 @@ use Rattle.blif_flat.specs.BlifText.{blif_text}
 -- the text says a netlist with the circuit's inputs and outputs, whose answers to each word are those of the circuit
 pub record AnswersAsWritten (circuit : CircuitView) : Type 0 where
   pub net : NetView
-  pub says : Says (blif_text circuit) net
+  pub says : SaysNet (blif_text circuit) net
   pub inputs : net.inputs ≡ circuit.inputs
   pub outputs : length net.outputs ≡ length circuit.outputs
   pub answers : (word answer : List Bool) → NetAnswer net word answer ↔ IsAnswer circuit word answer

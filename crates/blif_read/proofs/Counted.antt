@@ -14,7 +14,7 @@ use Rattle.blif_read.specs.declared.words.Statement.{Statement}
 use Rattle.blif_read.specs.declared.words.Statement.TheVariants.{Model, Inputs, Outputs, Names, Subckt, End, Passed, Other, Row}
 use Rattle.blif_read.specs.declared.netlist.Def.{Def}
 
-filled : (parts : List (List ℕ)) → AllByRecursion (λ t. 0 < length t) (filter is_token parts)
+pub filled : (parts : List (List ℕ)) → AllByRecursion (λ t. 0 < length t) (filter is_token parts)
 filled [] = tt
 filled ([] ∷ parts) = filled parts
 filled ((b ∷ bs) ∷ parts) = (omega arith, filled parts)
@@ -29,7 +29,7 @@ each_is_cut [] = tt
 each_is_cut (line ∷ lines) = cut_line (has_tokens (cut line)) (tokens_of line.1) line.0 (filter has_tokens (map cut lines)) refl (filled (slice_split is_blank line.1)) (each_is_cut lines)
 
 -- each token has a byte
-token_each : (tokens : List (List ℕ)) → AllByRecursion (λ t. 0 < length t) tokens → length tokens ≤ token_bytes tokens
+pub token_each : (tokens : List (List ℕ)) → AllByRecursion (λ t. 0 < length t) tokens → length tokens ≤ token_bytes tokens
 token_each [] f = omega arith
 token_each (t ∷ ts) f = let h = token_each ts f.1 in let g = f.0 in omega (arith, sum_by-cons length t ts)
 

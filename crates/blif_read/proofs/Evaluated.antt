@@ -6,7 +6,8 @@ use Rattle.std.proofs.lemmas.Bool.{cases_Bool, eqb-true, eqb-false, ltb-false, l
 use Rattle.std.proofs.lemmas.List.{take-append-drop, take_more, reverse-append}
 use Rattle.std.proofs.lemmas.Option.{slice_get-get_or}
 use Rattle.blif_read.specs.Parts.{NetView, operands, operands_at}
-use Rattle.blif_read.specs.Equations.{matches, value_of, valuation, Fits, IsAnswer}
+use Rattle.circuit.specs.Gates.{valuation}
+use Rattle.blif_read.specs.Equations.{matches, cover_value, Fits, IsAnswer}
 use Rattle.blif_read.specs.Code.OneAnswer.{value_same, some_answer}
 use Rattle.blif_read.specs.Netlist.{IsNetlist}
 use Rattle.blif_read.specs.Walked.{known, Settled}
@@ -61,7 +62,7 @@ was_known false b c e f = subst (λ x. x || c ≡ true) e f
 
 -- one more value
 pub one_more_value : (inputs : ℕ) (defs : List Def) (word : List Bool) (order : List ℕ) (i : ℕ) (values read : List Bool) (def : Def) (value : Bool)
-    → IsOrder inputs defs order → i < length order → length values ≡ inputs + length defs → def ≡ get_or defs (get_or order i 0 - inputs) def → read ≡ values → value ≡ value_of def (valuation read)
+    → IsOrder inputs defs order → i < length order → length values ≡ inputs + length defs → def ≡ get_or defs (get_or order i 0 - inputs) def → read ≡ values → value ≡ cover_value def (valuation read)
     → ((v : ℕ → Bool) → Fits inputs defs word v → (q : ℕ) → known inputs (reverse (take i order)) q ≡ true → valuation values q ≡ v q)
     → (v : ℕ → Bool) → Fits inputs defs word v → (q : ℕ) → known inputs (reverse (take (i + 1) order)) q ≡ true → valuation (set values (get_or order i 0) value) q ≡ v q
 one_more_value inputs defs word order i values read def value o lt size is r val agrees v fit q k =
@@ -79,7 +80,7 @@ one_more_value inputs defs word order i values read def value o lt size is r val
           let same_reads = all_map (λ x. known inputs (reverse (take i order)) x ≡ true) (λ x. valuation values x ≡ v x) def.inputs (λ x kx. agrees v fit x kx) (subst (AllByRecursion (λ x. known inputs (reverse (take i order)) x ≡ true)) reads t.reads) in
           let back : inputs + (get_or order i 0 - inputs) ≡ get_or order i 0 = omega arith in
           subst (λ x. valuation (set values (get_or order i 0) value) x ≡ v x) (sym at)
-          (get_or-set_same values (get_or order i 0) value false place ∙ val ∙ ap (λ vs. value_of def (valuation vs)) r ∙ value_same def (valuation values) v same_reads ∙ sym (fit.covers (get_or order i 0 - inputs) def found) ∙ ap v back)
+          (get_or-set_same values (get_or order i 0) value false place ∙ val ∙ ap (λ vs. cover_value def (valuation vs)) r ∙ value_same def (valuation values) v same_reads ∙ sym (fit.covers (get_or order i 0 - inputs) def found) ∙ ap v back)
       | inr other ↦ get_or-set_other values (get_or order i 0) q value false (eqb-false q (get_or order i 0) other)
           ∙ agrees v fit q (was_known (nat_lt q inputs) (nat_eq q (get_or order i 0)) _ other (subst (λ ds. known inputs ds q ≡ true) done k))
     ]

@@ -5,7 +5,7 @@ use Rattle.blif_read.specs.Lines.{Line, logical_lines}
 use Rattle.blif_read.specs.Parts.{NetView, signals, netlist_of}
 use Rattle.blif_read.specs.Faults.{line_fault, outputs_fault, undefined_fault, cycle_fault, fault_of, told_cycle}
 use Rattle.blif_read.specs.Code.Found.{Found}
-use Rattle.blif_read.specs.Says.{Says}
+use Rattle.blif_read.specs.Says.{SaysNet}
 use Rattle.blif_read.specs.Code.Size.{AreCut}
 use Rattle.blif_read.specs.Walk.{first_cycle}
 use Rattle.blif_read.specs.Netlist.{IsNetlist}
@@ -39,7 +39,7 @@ lines_keep lines cut none =
     let walked = unmapped (told_cycle net.inputs net.names net.defs) (first_cycle net.inputs net.defs) defined.1 in
     netlist_facts lines single.0 some.0 defined.0 cut (no_cycle net.inputs net.defs within walked)
 
-pub said_keeps : (text : List ℕ) (net : NetView) → length text ≤ 2 ^ 28 → Says text net → IsNetlist net
+pub said_keeps : (text : List ℕ) (net : NetView) → length text ≤ 2 ^ 28 → SaysNet text net → IsNetlist net
 said_keeps text net few says =
     let lines = logical_lines text in
     subst IsNetlist (sym says.parts) (lines_keep lines (text_cut text lines refl few) says.sound)

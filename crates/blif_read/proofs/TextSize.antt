@@ -8,7 +8,7 @@ use Rattle.std.proofs.lemmas.List.Sums.{sum_by-cons}
 use Rattle.blif_read.specs.Lines.{is_feed, is_blank, is_number_sign, is_backslash, is_token, cut, has_tokens, stripped, physical_lines, without_comment, before_backslash, joined_to, before_lines, joined, logical_lines}
 use Rattle.blif_read.specs.Code.Size.{bytes_of, token_bytes}
 
-taken : (n : ℕ) (xs : List ℕ) → length (take n xs) ≤ length xs
+pub taken : (n : ℕ) (xs : List ℕ) → length (take n xs) ≤ length xs
 taken n xs = omega (arith, length-take n xs)
 
 cut_short : (b : Bool) (xs : List ℕ) (n : ℕ) → length (cond b (take n xs) xs) ≤ length xs
@@ -16,7 +16,7 @@ cut_short true xs n = taken n xs
 cut_short false xs n = omega arith
 
 -- what a cut leaves
-split_bytes : (p : ℕ → Bool) (xs : List ℕ) → sum_by length (slice_split p xs) ≤ length xs
+pub split_bytes : (p : ℕ → Bool) (xs : List ℕ) → sum_by length (slice_split p xs) ≤ length xs
 split_bytes p [] = omega arith
 split_bytes p (x ∷ xs) = one (p x) (slice_split p xs) (split_bytes p xs)
   where
@@ -25,7 +25,7 @@ split_bytes p (x ∷ xs) = one (p x) (slice_split p xs) (split_bytes p xs)
     one false [] h = omega arith
     one false (part ∷ parts) h = omega (arith, sum_by-cons length (x ∷ part) parts, sum_by-cons length part parts)
 
-stripped_bytes : (parts : List (List ℕ)) → sum_by length (stripped parts) ≤ sum_by length parts
+pub stripped_bytes : (parts : List (List ℕ)) → sum_by length (stripped parts) ≤ sum_by length parts
 stripped_bytes [] = omega arith
 stripped_bytes (last ∷ []) = omega arith
 stripped_bytes (part ∷ next ∷ parts) =
@@ -64,7 +64,7 @@ joined_bytes n (line ∷ lines) = one (before_backslash line) (λ front. front_b
     one None f rest h = omega (arith, sum_by-cons {X = ℕ × List ℕ} (λ l. length l.1) (n, line) rest, sum_by-cons length line lines)
     one (Some front) f rest h = let s = f front refl in let t = onto (front ++ 32 ∷ []) rest in omega (arith, length-append front (32 ∷ []), sum_by-cons length line lines)
 
-filtered_bytes : {X : Type 0} (p : X → Bool) (f : X → ℕ) (xs : List X) → sum_by f (filter p xs) ≤ sum_by f xs
+pub filtered_bytes : {X : Type 0} (p : X → Bool) (f : X → ℕ) (xs : List X) → sum_by f (filter p xs) ≤ sum_by f xs
 filtered_bytes {X = X} p f [] = omega arith
 filtered_bytes {X = X} p f (x ∷ xs) = one (p x) (filter p xs) (filtered_bytes p f xs)
   where

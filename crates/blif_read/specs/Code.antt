@@ -2,6 +2,7 @@
 pub mod Reading
 pub mod Size
 pub mod Seen
+pub mod Ends
 pub mod Sections
 pub mod Progress
 pub mod Found

@@ -1,6 +1,7 @@
 -- What a text of several models says, as tools write designs in parts: the lines of each model, and the model that they
 -- say.
-use Rattle.std.specs.Prelude.{◌≡◌, ℕ, Bool, true, false, cond, not, ◌&&◌, ◌||◌, ◌==◌, nat_lt, List, [], ◌∷◌, ◌++◌, map, length, drop}
+use Rattle.std.specs.Prelude.{◌≡◌, ℕ, Bool, true, false, cond, not, ◌&&◌, ◌||◌, ◌==◌, nat_lt, List, [], ◌∷◌, ◌++◌, map}
+use Rattle.std.specs.Prelude.{length, drop}
 use Rattle.std.specs.Prelude.{suc, slice_index_or, Option, Some, None}
 use Rattle.std.specs.List.{flat_map, list_any, list_all, count_by, before_first}
 use Rattle.blif_read.specs.Lines.{Line, is_empty, logical_lines}
@@ -50,16 +51,20 @@ abbrev pub model_line : List Line → ℕ
 model_line [] = 0
 model_line (line ∷ lines) = cond (is_model (word line)) line.number 0
 
+-- the name that a model's `.model` gives it, and the empty name where it gives none
 abbrev pub model_name : List Line → List ℕ
 model_name [] = []
 model_name (line ∷ lines) = cond (is_model (word line)) (first_name (arguments line)) []
 
+-- a name and the number of the line that it stands in
 abbrev pub named : ℕ → List ℕ → Named
 named number name = record { line = number; name = name }
 
+-- the inputs that a line names, each with the line
 abbrev pub named_inputs : Line → List Named
 named_inputs line = map (named line.number) (inputs_in line)
 
+-- the outputs that a line names, each with the line
 abbrev pub named_outputs : Line → List Named
 named_outputs line = map (named line.number) (outputs_in line)
 
@@ -80,10 +85,12 @@ named_definition_at line lines = elim (word line) [
   | _ ↦ []
 ]
 
+-- the definitions that lines begin, in order
 abbrev pub named_definitions : List Line → List NamedDef
 named_definitions [] = []
 named_definitions (line ∷ lines) = named_definition_at line lines ++ named_definitions lines
 
+-- the byte `=`, which stands between the two names of a port
 abbrev pub is_equals_sign : ℕ → Bool
 is_equals_sign b = b == 61
 
@@ -91,6 +98,7 @@ is_equals_sign b = b == 61
 abbrev pub formal_in : List ℕ → List ℕ
 formal_in token = before_first is_equals_sign token
 
+-- the signal of the caller that a port names, behind the first `=`
 abbrev pub actual_in : List ℕ → List ℕ
 actual_in token = drop (suc (length (formal_in token))) token
 
@@ -98,9 +106,11 @@ actual_in token = drop (suc (length (formal_in token))) token
 abbrev pub is_port : List ℕ → Bool
 is_port token = not (is_empty (formal_in token)) && not (is_empty (actual_in token))
 
+-- the two names of a port, `formal=actual` in the text
 abbrev pub port_of : List ℕ → Port
 port_of token = record { formal = formal_in token; actual = actual_in token }
 
+-- the port that a token is, if it is one
 abbrev pub ports_in : List ℕ → List Port
 ports_in token = cond (is_port token) (port_of token ∷ []) []
 
@@ -113,6 +123,7 @@ call_of number names = record {
   well_formed = not (is_empty names) && list_all is_port (drop 1 names);
 }
 
+-- the call that a line is, if it is a `.subckt`
 abbrev pub calls_in : Line → List Call
 calls_in line = elim (word line) [ Subckt ↦ call_of line.number (arguments line) ∷ [] | _ ↦ [] ]
 
@@ -143,4 +154,5 @@ is_call _ = false
 
 -- a text with a call or with a second model is a design
 abbrev pub is_design : List Line → Bool
-is_design lines = list_any (λ line. is_call (word line)) lines || nat_lt 1 (count_by (λ line. is_model (word line)) lines)
+is_design lines =
+    list_any (λ line. is_call (word line)) lines || nat_lt 1 (count_by (λ line. is_model (word line)) lines)

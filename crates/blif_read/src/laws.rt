@@ -4,7 +4,7 @@ ghost use Rattle.blif_read.specs.declared.netlist.BlifFault.{BlifFault};
 ghost use Rattle.blif_read.specs.declared.netlist.Def.{Def};
 ghost use Rattle.blif_read.specs.Parts.{NetView, operands};
 ghost use Rattle.blif_read.specs.declared.models.BlifModel.{BlifModel};
-ghost use Rattle.blif_read.specs.Says.{Says, Fault};
+ghost use Rattle.blif_read.specs.Says.{SaysNet, Fault};
 ghost use Rattle.blif_read.specs.Models.{SaysModels, ModelsFault};
 ghost use Rattle.blif_read.specs.Equations.{Fits};
 ghost use Rattle.blif_read.specs.Netlist.{IsNetlist};
@@ -13,11 +13,11 @@ ghost use Rattle.blif_read.specs.Walk.{first_cycle, IsCycle};
 /// Each text says a netlist or has a first fault: exactly one of the two, and exactly one netlist or fault.
 pub fn each_text()
     ensures some { (text : List ℕ) →
-        ((net : NetView) × Says text net) ⊎ ((fault : BlifFault) × Fault text fault) }
-    ensures one_netlist { (text : List ℕ) (a b : NetView) → Says text a → Says text b → a ≡ b }
+        ((net : NetView) × SaysNet text net) ⊎ ((fault : BlifFault) × Fault text fault) }
+    ensures one_netlist { (text : List ℕ) (a b : NetView) → SaysNet text a → SaysNet text b → a ≡ b }
     ensures one_fault { (text : List ℕ) (a b : BlifFault) → Fault text a → Fault text b → a ≡ b }
     ensures not_both { (text : List ℕ) (net : NetView) (fault : BlifFault) →
-        Says text net → Fault text fault → ⊥ }
+        SaysNet text net → Fault text fault → ⊥ }
 {}
 
 /// Each text says models or has a first fault of its models: exactly one of the two, and exactly one list or fault.
@@ -32,7 +32,7 @@ pub fn each_design()
 
 /// A text of at most 2^28 bytes that says a netlist says one that keeps the facts of netlists.
 pub fn each_netlist()
-    ensures { (text : List ℕ) (net : NetView) → length text ≤ 2 ^ 28 → Says text net → IsNetlist net }
+    ensures { (text : List ℕ) (net : NetView) → length text ≤ 2 ^ 28 → SaysNet text net → IsNetlist net }
 {}
 
 /// A netlist has exactly one valuation of its signals that fits a word.

@@ -2,7 +2,6 @@
 ghost use Rattle.std.specs.Prelude.{◌≡◌, ◌&&◌, not, ◌++◌, [], map, IfOk, OnOk, length, drop, slice_index_or};
 ghost use Rattle.std.specs.List.{position, list_all, flat_map};
 ghost use Rattle.blif_read.specs.Lines.{is_empty};
-ghost use Rattle.blif_read.specs.Code.Seen.{texts};
 ghost use Rattle.blif_read.specs.Statements.{word, arguments, is_model, inputs_in, outputs_in, front_of, last_of};
 ghost use Rattle.blif_read.specs.Parts.{rows_before_others};
 ghost use Rattle.blif_read.specs.Models.{model_of, model_line, model_name, named, named_inputs, named_outputs, named_definition, named_definition_at, is_equals_sign, formal_in, actual_in, is_port, port_of, ports_in, call_of, calls_in, first_name};
@@ -12,6 +11,7 @@ use crate::cover::rows;
 use crate::lines::{Lines, LogicalLine};
 use crate::netlist::Cube;
 use crate::statements::{arguments, front_of, last_of};
+use crate::token_list::Tokens;
 use crate::words::Statement;
 use aq_base::{List, Memory};
 use short_bytes::ShortBytes;
@@ -64,21 +64,23 @@ pub struct BlifModel {
 }
 
 /// A copy of the first name; empty where there is none.
-fn first_name(alloc: Global, names: &[&[u8]]) -> Result<ShortBytes, Memory>
-    ensures { IfOk result (λ name. name ≡ first_name (texts names.now)) }
+fn first_name(alloc: Global, names: Tokens<'_>) -> Result<ShortBytes, Memory>
+    ensures { IfOk result (λ name. name ≡ first_name names.entry) }
 {
-    match names.first() {
+    let mut rest = names;
+    match rest.take_first() {
         Some(name) => ShortBytes::copy(alloc, name),
         None => Ok(ShortBytes::new()),
     }
 }
 
 /// Copies of names, in order.
-fn copies(alloc: Global, names: &[&[u8]]) -> Result<List<ShortBytes>, Memory>
-    ensures { IfOk result (λ copies. copies ≡ texts names.now) }
+fn copies(alloc: Global, names: Tokens<'_>) -> Result<List<ShortBytes>, Memory>
+    ensures { IfOk result (λ copies. copies ≡ names.entry) }
 {
     let mut copies = List::new(alloc);
-    for name in names {
+    let mut rest = names;
+    'names: while let Some(name) = rest.take_first() {
         let copy = ShortBytes::copy(alloc, name)?;
         copies.push(copy)?;
     }
@@ -89,12 +91,13 @@ fn copies(alloc: Global, names: &[&[u8]]) -> Result<List<ShortBytes>, Memory>
 fn push_named(
     alloc: Global,
     line: u64,
-    names: &[&[u8]],
+    names: Tokens<'_>,
     list: &mut List<Named>,
 ) -> Result<(), Memory>
-    ensures { OnOk result (list.new ≡ list.old ++ map (named line) (texts names.now)) }
+    ensures { OnOk result (list.new ≡ list.old ++ map (named line) names.entry) }
 {
-    for name in names {
+    let mut rest = names;
+    'names: while let Some(name) = rest.take_first() {
         let name = ShortBytes::copy(alloc, name)?;
         list.push(Named { line, name })?;
     }
@@ -137,13 +140,14 @@ fn push_port(alloc: Global, token: &[u8], ports: &mut List<Port>) -> Result<bool
 }
 
 /// The ports among tokens, and whether each token is one.
-fn ports(alloc: Global, tokens: &[&[u8]]) -> Result<(List<Port>, bool), Memory>
-    ensures ports { IfOk result (λ r. r.0 ≡ flat_map ports_in (texts tokens.now)) }
-    ensures all { IfOk result (λ r. r.1 ≡ list_all is_port (texts tokens.now)) }
+fn ports(alloc: Global, tokens: Tokens<'_>) -> Result<(List<Port>, bool), Memory>
+    ensures ports { IfOk result (λ r. r.0 ≡ flat_map ports_in tokens.entry) }
+    ensures all { IfOk result (λ r. r.1 ≡ list_all is_port tokens.entry) }
 {
     let mut ports = List::new(alloc);
     let mut all = true;
-    for token in tokens {
+    let mut rest = tokens;
+    'tokens: while let Some(token) = rest.take_first() {
         let is_port = push_port(alloc, token, &mut ports)?;
         all = all && is_port;
     }
@@ -151,16 +155,17 @@ fn ports(alloc: Global, tokens: &[&[u8]]) -> Result<(List<Port>, bool), Memory>
 }
 
 /// The call with these tokens behind its first.
-fn call_of(alloc: Global, line: u64, names: &[&[u8]]) -> Result<Call, Memory>
-    ensures { IfOk result (λ c. c ≡ call_of line (texts names.now)) }
+fn call_of(alloc: Global, line: u64, names: Tokens<'_>) -> Result<Call, Memory>
+    ensures { IfOk result (λ c. c ≡ call_of line names.entry) }
 {
-    let model = first_name(alloc, names)?;
+    let named = !names.is_empty();
+    let model = first_name(alloc, names.copy())?;
     let (ports, all) = ports(alloc, arguments(names))?;
     Ok(Call {
         line,
         model,
         ports,
-        well_formed: names.len() > 0 && all,
+        well_formed: named && all,
     })
 }
 
@@ -173,9 +178,8 @@ fn named_definition(
     ensures { IfOk result (λ def. def
         ≡ named_definition line.now.number (arguments line.now) (rows_before_others rest.now)) }
 {
-    let names = arguments(line.tokens());
-    let inputs = copies(alloc, front_of(names))?;
-    let output = first_name(alloc, last_of(names))?;
+    let inputs = copies(alloc, front_of(arguments(line.tokens())))?;
+    let output = first_name(alloc, last_of(arguments(line.tokens())))?;
     let (cubes, zero) = rows(alloc, rest)?;
     Ok(NamedDef {
         line: line.number(),
@@ -225,11 +229,10 @@ fn head(alloc: Global, lines: &Lines<'_>) -> Result<(u64, ShortBytes), Memory>
     ensures line { IfOk result (λ head. head.0 ≡ model_line lines.now) }
     ensures name { IfOk result (λ head. head.1 ≡ model_name lines.now) }
 {
-    let mut line = LogicalLine::blank(alloc);
     let mut rest = lines.copy();
-    if !rest.read(&mut line)? {
+    let Some(line) = rest.take_first() else {
         return Ok((0, ShortBytes::new()));
-    }
+    };
     match line.statement() {
         Statement::Model => {
             let name = first_name(alloc, arguments(line.tokens()))?;
@@ -252,9 +255,8 @@ pub fn model_of(alloc: Global, lines: &Lines<'_>) -> Result<BlifModel, Memory>
         defs: List::new(alloc),
         calls: List::new(alloc),
     };
-    let mut line = LogicalLine::blank(alloc);
     let mut rest = lines.copy();
-    'lines: while rest.read(&mut line)? {
+    'lines: while let Some(line) = rest.take_first() {
         push_line(alloc, &line, &rest, &mut model)?;
     }
     Ok(model)

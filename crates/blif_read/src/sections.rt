@@ -27,43 +27,38 @@ pub fn is_model(line: &LogicalLine<'_>) -> bool
 }
 
 /// The first line that begins a model: its place, and the lines from it on.
-fn next_model<'a>(alloc: Global, lines: &Lines<'a>) -> Result<Option<(usize, Lines<'a>)>, Memory>
-    ensures place { IfOk result (λ found. option_map (λ f. f.0) found
-        ≡ position (λ line. is_model (word line)) lines.now) }
-    ensures rest { IfOk result (λ found. IfSome found (λ f. f.1 ≡ drop f.0 lines.now)) }
-    ensures few { IfOk result (λ found. IfSome found (λ f. f.0 < 2 ^ 63)) }
+fn next_model<'a>(lines: &Lines<'a>) -> Option<(usize, Lines<'a>)>
+    ensures place { option_map (λ f. f.0) result
+        ≡ position (λ line. is_model (word line)) lines.now }
+    ensures rest { IfSome result (λ f. f.1 ≡ drop f.0 lines.now) }
+    ensures few { IfSome result (λ f. f.0 < 2 ^ 63) }
 {
     let mut at = 0;
-    let mut line = LogicalLine::blank(alloc);
     let mut rest = lines.copy();
     'lines: loop {
         let here = rest.copy();
-        if !rest.read(&mut line)? {
-            return Ok(None);
-        }
+        let Some(line) = rest.take_first() else {
+            return None;
+        };
         if is_model(&line) {
-            return Ok(Some((at, here)));
+            return Some((at, here));
         }
         at += 1;
     }
 }
 
 /// The lines of the first model, and those of the models that follow.
-fn first_part<'a>(
-    alloc: Global,
-    lines: &Lines<'a>,
-) -> Result<(Lines<'a>, Option<Lines<'a>>), Memory>
-    ensures cut { IfOk result (λ r. parts_of lines.now ≡ r.0 ∷ parts_left r.1) }
-    ensures shorter { IfOk result (λ r. IfSome r.1 (λ more. length more < length lines.now)) }
+fn first_part<'a>(lines: &Lines<'a>) -> (Lines<'a>, Option<Lines<'a>>)
+    ensures cut { parts_of lines.now ≡ result.0 ∷ parts_left result.1 }
+    ensures shorter { IfSome result.1 (λ more. length more < length lines.now) }
 {
-    let mut line = LogicalLine::blank(alloc);
     let mut tail = lines.copy();
-    if !tail.read(&mut line)? {
-        return Ok((lines.copy(), None));
-    }
-    match next_model(alloc, &tail)? {
-        Some((at, more)) => Ok((lines.front(at + 1), Some(more))),
-        None => Ok((lines.copy(), None)),
+    let Some(_first) = tail.take_first() else {
+        return (lines.copy(), None);
+    };
+    match next_model(&tail) {
+        Some((at, more)) => (lines.front(at + 1), Some(more)),
+        None => (lines.copy(), None),
     }
 }
 
@@ -81,7 +76,7 @@ pub fn models_in(
     let mut models = List::new(alloc);
     let mut rest = Some(lines.copy());
     while let Some(left) = rest {
-        let (part, more) = first_part(alloc, &left)?;
+        let (part, more) = first_part(&left);
         if let Some(fault) = line_fault(alloc, hash, true, &part)? {
             return Err(BlifRefusal::Bad(fault));
         }

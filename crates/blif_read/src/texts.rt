@@ -36,22 +36,21 @@ fn is_call(line: &LogicalLine<'_>) -> bool
 }
 
 /// Whether lines are those of a design: one calls a model, or a second one begins.
-fn is_design(alloc: Global, lines: &Lines<'_>) -> Result<bool, Memory>
-    ensures { IfOk result (λ is. is ≡ is_design lines.now) }
+fn is_design(lines: &Lines<'_>) -> bool
+    ensures { result ≡ is_design lines.now }
 {
     let mut one = false;
     let mut two = false;
-    let mut line = LogicalLine::blank(alloc);
     let mut rest = lines.copy();
-    'lines: while rest.read(&mut line)? {
+    'lines: while let Some(line) = rest.take_first() {
         if is_call(&line) {
-            return Ok(true);
+            return true;
         }
         let begins = is_model(&line);
         two = two || (one && begins);
         one = one || begins;
     }
-    Ok(two)
+    two
 }
 
 /// The netlist that a text in the Berkeley Logic Interchange Format says, or its models where it calls models or has
@@ -64,7 +63,7 @@ pub fn read_text(alloc: Global, text: &[u8]) -> Result<ReadText, BlifRefusal>
 {
     let lines = Lines::of(text);
     let hash = NameHash::of(text);
-    if is_design(alloc, &lines)? {
+    if is_design(&lines) {
         let models = models_in(alloc, hash, &lines)?;
         return Ok(ReadText::Design(models));
     }

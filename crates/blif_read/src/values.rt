@@ -1,11 +1,12 @@
 // The values of the signals of a netlist, each after those that it is computed from.
 ghost use Rattle.std.specs.Prelude.{◌≡◌, ℕ, Bool, ◌+◌, ◌<◌, ◌^◌, length, map, IfOk, false, slice_index_or};
-ghost use Rattle.blif_read.specs.Equations.{takes, matches, value_of, valuation, Fits};
+ghost use Rattle.circuit.specs.Gates.{valuation};
+ghost use Rattle.blif_read.specs.Equations.{takes, matches, cover_value, Fits};
 ghost use Rattle.blif_read.specs.Walked.{IsOrder};
 
 use crate::netlist::Def;
 use aq_base::{List, Memory};
-use circuit::Word;
+use circuit::{Word, value_at};
 use std::alloc::Global;
 
 /// A byte of a plane takes a value: `-` takes both, `1` takes true and `0` takes false.
@@ -17,13 +18,6 @@ fn takes(byte: u8, value: bool) -> bool
     } else {
         byte == b'-' || byte == b'0'
     }
-}
-
-/// The value of a signal; false past the last.
-fn value_at(values: &[bool], signal: u32) -> bool
-    ensures { result ≡ valuation values.now signal }
-{
-    values.get(signal as usize).copied().unwrap_or(false)
 }
 
 /// The plane takes the values of the signals, place by place.
@@ -42,8 +36,8 @@ fn matches(plane: &[u8], signals: &[u32], values: &[bool]) -> bool
 }
 
 /// The value of a cover.
-fn value_of(def: &Def, values: &[bool]) -> bool
-    ensures { result ≡ value_of def.now (valuation values.now) }
+fn cover_value(def: &Def, values: &[bool]) -> bool
+    ensures { result ≡ cover_value def.now (valuation values.now) }
 {
     for cube in def.cubes.as_slice() {
         if matches(cube.plane.as_slice(), def.inputs.as_slice(), values) {
@@ -73,7 +67,7 @@ pub fn values(
     }
     for signal in order {
         let def = &defs[(*signal - inputs) as usize];
-        values[*signal as usize] = value_of(def, &values);
+        values[*signal as usize] = cover_value(def, &values);
     }
     Ok(values)
 }

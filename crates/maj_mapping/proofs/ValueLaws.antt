@@ -4,7 +4,7 @@ use Rattle.std.specs.List.{list_any}
 use Rattle.std.proofs.Common.{refl, sym, ap, ◌∙◌}
 use Rattle.std.proofs.lemmas.Bool.{eqb-true}
 use Rattle.blif_read.specs.Faults.{is_plane_byte}
-use Rattle.blif_read.specs.Equations.{takes, matches, value_of}
+use Rattle.blif_read.specs.Equations.{takes, matches, cover_value}
 use Rattle.blif_read.specs.declared.netlist.Cube.{Cube}
 use Rattle.blif_read.specs.declared.netlist.Def.{Def}
 use Rattle.maj_mapping.specs.Values.{takes_all, some_takes, cover}
@@ -23,7 +23,7 @@ by_on true a b e = e
 by_on false a b e = ap not e
 
 -- it is the value of the definition under any valuation of signals
-pub cover_is : (d : Def) (v : ℕ → Bool) → cover d (map v d.inputs) ≡ value_of d v
+pub cover_is : (d : Def) (v : ℕ → Bool) → cover d (map v d.inputs) ≡ cover_value d v
 cover_is d v = by_on d.on _ _ (some_is d.cubes d.inputs v)
 
 -- a literal: the value for `1`, its inverse for `0`, and nothing for `-`

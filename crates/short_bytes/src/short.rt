@@ -85,6 +85,18 @@ impl ShortBytes {
         Ok(ShortBytes { held })
     }
 
+    /// The list of the bytes of a `Vec`, which are not copied where they are many: the `Vec` becomes their memory.
+    pub fn from_vec(alloc: Global, bytes: Vec<u8>) -> Result<Self, Memory>
+        ensures { IfOk result (λ list. list ≡ bytes.items) }
+    {
+        let held = if bytes.len() <= ROOM {
+            Held::InPlace(in_place(&bytes))
+        } else {
+            Held::Elsewhere(Box::new(alloc, bytes)?)
+        };
+        Ok(ShortBytes { held })
+    }
+
     /// The bytes in order.
     pub fn as_slice(&self) -> &[u8]
         ensures { result.now ≡ self.now }

@@ -17,6 +17,7 @@ fn keeps_bytes_in_place_and_elsewhere(rt: HostRuntime) -> Result<(), Fail> {
         assert_eq!(rt; list.as_slice(), text);
         let copy = list.clone()?;
         assert!(rt; copy == list);
+        assert!(rt; ShortBytes::from_vec(alloc, text.to_vec(alloc)?)? == list);
         let longer = ShortBytes::copy(alloc, b"a name of more than fifteen byte_")?;
         assert!(rt; longer != list);
     }

@@ -23,6 +23,7 @@ pub record AreWidths (circuit : CircuitView) (view : NetView) (inputs outputs ne
   pub net_outputs_are : net_outputs ≡ length view.outputs
   pub other : ¬ ((inputs ≡ net_inputs) × (outputs ≡ net_outputs))
 
+-- the fault is that chip and netlist differ in how many inputs or outputs they have, and it has the four counts
 abbrev pub AreOtherWidths : CircuitView → NetView → Fault → Type 0
 AreOtherWidths circuit view (Widths inputs outputs net_inputs net_outputs) =
     AreWidths circuit view inputs outputs net_inputs net_outputs

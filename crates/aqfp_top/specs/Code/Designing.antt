@@ -6,7 +6,7 @@ use Rattle.cell_library.specs.Library.{LibraryView}
 use Rattle.cell_library.specs.Laws.{IsLibrary}
 use Rattle.gds_records.specs.Writing.{bytes_of}
 use Rattle.rowed.specs.PlacedNets.{PlacedView}
-use Rattle.layout_make.specs.Size.{cells_in, wires_in}
+use Rattle.rowed.specs.Counts.{cells_in, wires_in}
 use Rattle.chip_plan.specs.Plans.{chip_of}
 use Rattle.aqfp_top.specs.Designs.{SaysDesign, KeepsLimits, IsPlanFault, stream_of}
 use Rattle.aqfp_top.specs.declared.counts.ChipCounts.{ChipCounts}

@@ -18,7 +18,7 @@ use Rattle.aqfp_top.specs.declared.fault.Fault.TheVariants.{BadBlif, BadDesign, 
 -- the counts of the chip of the adder, and the adder's answers
 pub record IsSampleOfBits (bits : ℕ) (sample : SampleResult) : Type 0 where
   pub equations : NetView
-  pub says : netlist.Says (adder bits) equations
+  pub says : netlist.SaysNet (adder bits) equations
   pub limits : KeepsLimits equations library_a_view
   pub counts : AreCountsOf (chip_of library_a_view equations) sample.counts
   pub are_answers : AllZip (IsAnswer equations) (eight bits) sample.answers

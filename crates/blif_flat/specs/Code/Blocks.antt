@@ -21,6 +21,7 @@ abbrev pub is_that : List ℕ → Option (List ℕ) → Bool
 is_that t None = false
 is_that t (Some name) = bytes_eq t name
 
+-- the names of a model's inputs, and of the signals that it defines by covers
 abbrev pub own_names : BlifModel → List (List ℕ)
 own_names model = names_in model.inputs ++ map (λ d. d.output) model.defs
 
@@ -38,6 +39,7 @@ abbrev pub block_width : ℕ → List BlifModel → BlifModel → ℕ
 block_width zero models model = 0
 block_width (suc steps) models model = length (block_names (block_width steps models) models model)
 
+-- where a name stands in a model's block, from its first wire on, where models are so wide
 abbrev pub place : (BlifModel → ℕ) → List BlifModel → BlifModel → List ℕ → ℕ
 place width models model name = position_or_len (is_that name) (block_names width models model)
 
@@ -58,6 +60,7 @@ call_pieces width models model start call =
     ++ map (λ o. Own (buffer_of call.line (start + place width models (called models call) o)))
     (joined_outputs models call)
 
+-- the pieces of calls, one after another, where the first call's block starts at a place
 abbrev pub calls_pieces : (BlifModel → ℕ) → List BlifModel → BlifModel → ℕ → List Call → List Piece
 calls_pieces width models model start [] = []
 calls_pieces width models model start (call ∷ calls) = call_pieces width models model start call
@@ -70,6 +73,7 @@ pieces width models model = map (λ d. Own (placed (place width models model) d)
 
 -- ---- blocks laid out
 
+-- a definition of a block that starts at wire `base`, with signals by their places in the whole
 abbrev pub moved : ℕ → Def → Def
 moved base def = record { line = def.line; inputs = map (λ p. base + p) def.inputs; on = def.on; cubes = def.cubes }
 
@@ -88,6 +92,7 @@ abbrev pub piece_turns : (ℕ → ℕ) → Piece → ℕ
 piece_turns of (Own def) = 1
 piece_turns of (Inner n start) = 1 + of n
 
+-- how many turns of a walk the block of model n takes, down chains of fewer models than steps
 abbrev pub turns : List (List Piece) → ℕ → ℕ → ℕ
 turns blocks zero n = 0
 turns blocks (suc steps) n = 1 + sum_by (piece_turns (turns blocks steps)) (slice_index_or blocks n [])

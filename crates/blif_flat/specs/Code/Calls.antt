@@ -22,6 +22,7 @@ call_def models model = record {
   cubes = [];
 }
 
+-- a definition for each model, in the order of the models
 abbrev pub call_defs : List BlifModel → List Def
 call_defs models = map (call_def models) models
 

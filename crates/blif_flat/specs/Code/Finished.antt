@@ -10,6 +10,7 @@ use Rattle.blif_flat.specs.Expansion.{Wire, wire, kept_names, told_name}
 use Rattle.blif_flat.specs.declared.design.FlatRefusal.{FlatRefusal}
 use Rattle.blif_flat.specs.declared.design.FlatRefusal.TheVariants.{Text, Design, TooMany, Memory}
 
+-- the netlist of these wires, of which the first so many are inputs, by the names that it keeps for them
 abbrev pub net_of : ℕ → List Wire → List Def → List ℕ → NetView
 net_of inputs wires defs outputs = record {
   inputs = inputs;

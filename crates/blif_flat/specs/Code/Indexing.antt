@@ -10,6 +10,7 @@ use Rattle.blif_read.specs.Parts.{is_defined}
 use Rattle.blif_read.specs.declared.models.BlifModel.{BlifModel}
 use Rattle.blif_flat.specs.Designs.{names_in}
 
+-- a model's inputs and outputs, each name once in its order, and whether no name is both
 pub record AreIndexes (model : BlifModel) (inputs outputs : List (Bor (List ℕ))) (apart : Bool) : Type 0 where
   pub has_inputs : texts inputs ≡ insert_all bytes_eq [] (names_in model.inputs)
   pub has_outputs : texts outputs ≡ insert_all bytes_eq [] (names_in model.outputs)

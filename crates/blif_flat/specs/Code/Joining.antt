@@ -15,6 +15,7 @@ use Rattle.blif_flat.specs.declared.faults.order.Told.{Told}
 use Rattle.blif_flat.specs.declared.faults.drivers.Drivers.{Drivers}
 use Rattle.blif_flat.specs.Code.Numbering.{number_in}
 
+-- the fault of this kind in this line
 abbrev pub at_line : ℕ → FlatKind → Told
 at_line line kind = record { line = line; kind = kind }
 
@@ -23,6 +24,7 @@ abbrev pub is_before : Told → Told → Bool
 is_before told other = nat_lt told.line other.line
     || (told.line == other.line && nat_le (rank told.kind) (rank other.kind))
 
+-- of the best so far, where there is one, and of this fault the one that is told
 abbrev pub least : Option Told → Told → Option Told
 least None told = Some told
 least (Some best) told = Some (cond (is_before best told) best told)
@@ -58,10 +60,12 @@ pub record Driving : Type 0 where
   pub lines : List ℕ → Option ℕ
   pub told : Option Told
 
+-- the lesser of two lines, where there is a first
 abbrev pub lower : Option ℕ → ℕ → ℕ
 lower None line = line
 lower (Some least) line = min least line
 
+-- the least line in which each name is driven, where one more line drives a signal
 abbrev pub driven_also : (List ℕ → Option ℕ) → Named → List ℕ → Option ℕ
 driven_also lines n name = cond (bytes_eq n.name name) (Some (lower (lines name) n.line)) (lines name)
 
@@ -70,9 +74,11 @@ abbrev pub again : Option ℕ → ℕ → List Told
 again None line = []
 again (Some least) line = at_line (max least line) Duplicate ∷ []
 
+-- one more signal is driven, which is a fault where it was driven before
 abbrev pub drive : Driving → Named → Driving
 drive d n = record { lines = driven_also d.lines n; told = least_of d.told (again (d.lines n.name) n.line) }
 
+-- these signals are driven, one after another
 abbrev pub drive_all : Driving → List Named → Driving
 drive_all d [] = d
 drive_all d (n ∷ ns) = drive_all (drive d n) ns
@@ -81,6 +87,7 @@ drive_all d (n ∷ ns) = drive_all (drive d n) ns
 abbrev pub undefined_at : (List ℕ → Option ℕ) → Named → List Told
 undefined_at lines n = where_so (not (is_some (lines n.name))) n.line Undefined
 
+-- the faults of these uses, whose names nothing drives
 abbrev pub undefined_in : (List ℕ → Option ℕ) → List Named → List Told
 undefined_in lines uses = flat_map (undefined_at lines) uses
 
@@ -96,11 +103,13 @@ undriven best = record { lines = λ name. None; told = best }
 abbrev pub told_behind : Driving → List Named → Option Told
 told_behind d uses = least_of d.told (undefined_in d.lines uses)
 
+-- the best fault so far behind those of one more model
 abbrev pub model_told : List BlifModel → Option Told → BlifModel → Option Told
 model_told models best model = told_behind
     (drive_all (undriven (least_of best (flat_map (call_faults models) model.calls))) (driven models model))
     (used models model)
 
+-- the best fault so far behind those of these models
 abbrev pub told_in : List BlifModel → Option Told → List BlifModel → Option Told
 told_in models best [] = best
 told_in models best (m ∷ ms) = told_in models (model_told models best m) ms

@@ -24,10 +24,12 @@ abbrev pub actual_at : Option Port → List (List ℕ)
 actual_at None = []
 actual_at (Some port) = port.actual ∷ []
 
+-- the actual of a call's port by number, where there is such a port
 abbrev pub actual_in : Call → Option ℕ → List (List ℕ)
 actual_in call None = []
 actual_in call (Some port) = actual_at (slice_get call.ports port)
 
+-- the actuals of a call's ports by these numbers, in order, where there are such ports
 abbrev pub actuals_in : Call → List (Option ℕ) → List (List ℕ)
 actuals_in call ports = flat_map (actual_in call) ports
 

@@ -18,6 +18,7 @@ pub record IsLinkOf (models : List BlifModel) (call : Call) (link : Link) : Type
   pub same : link.call.now ≡ call
   pub is : IsLink models link
 
+-- the calls that links are of
 abbrev pub calls_in : List Link → List Call
 calls_in links = map (λ link. link.call.now) links
 

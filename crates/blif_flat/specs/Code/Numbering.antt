@@ -15,5 +15,6 @@ number_or (Some n) fits number = Some n
 number_or None true number = Some number
 number_or None false number = None
 
+-- an index gives each name the place of the first item that it fits, and no other name a number
 abbrev pub IsNumbering : {X : Type 0} → (List ℕ → X → Bool) → List (Bor (List ℕ) × ℕ) → List X → Type 0
 IsNumbering fits entries items = (t : List ℕ) → number_in entries t ≡ position (fits t) items

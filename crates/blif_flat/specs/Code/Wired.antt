@@ -16,6 +16,7 @@ use Rattle.blif_flat.specs.Code.Linked.{calls_in}
 abbrev pub wire_of : Place → Wire
 wire_of place = wire place.call place.name.now
 
+-- the wires of places, in order
 abbrev pub wires_of : List Place → List Wire
 wires_of places = map wire_of places
 

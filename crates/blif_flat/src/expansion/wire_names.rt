@@ -28,20 +28,21 @@ fn kept_name(alloc: Global, number: u32, place: &Place<'_>) -> Result<ShortBytes
     }
     let mut text = Vec::new(alloc);
     add_number(alloc, number, &mut text)?;
-    ShortBytes::copy(alloc, &text)
+    ShortBytes::from_vec(alloc, text)
 }
 
 /// The name that a fault tells of a wire.
 fn told_name(alloc: Global, place: &Place<'_>) -> Result<ShortBytes, Memory>
     ensures { IfOk result (λ name. name ≡ told_name (wire_of place.now)) }
 {
-    let mut text = Vec::new(alloc);
-    if place.call != 0 {
-        add_number(alloc, place.call, &mut text)?;
-        text.push(b'.')?;
+    if place.call == 0 {
+        return ShortBytes::copy(alloc, place.name);
     }
+    let mut text = Vec::new(alloc);
+    add_number(alloc, place.call, &mut text)?;
+    text.push(b'.')?;
     text.extend_from_slice(place.name)?;
-    ShortBytes::copy(alloc, &text)
+    ShortBytes::from_vec(alloc, text)
 }
 
 /// The names that the netlist keeps of these wires, which are all.

@@ -8,6 +8,7 @@ use Rattle.blif_read.specs.Parts.{signals, number, definitions, netlist_of}
 use Rattle.blif_read.specs.Faults.{line_fault, outputs_fault, undefined_fault, cycle_fault, fault_of}
 use Rattle.blif_read.specs.declared.netlist.Def.{Def}
 
+-- inputs, names, definitions and outputs are what these lines say, which have no fault but perhaps a cycle
 pub record Found (lines : List Line) (inputs : ℕ) (names : List (List ℕ)) (defs : List Def) (outputs : List ℕ)
     : Type 0 where
   pub single : line_fault false [] lines ≡ None

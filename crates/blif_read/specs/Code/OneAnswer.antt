@@ -7,7 +7,7 @@ use Rattle.std.proofs.Common.{refl, sym, ap, ◌∙◌, arith, inl, inr, subst}
 use Rattle.std.proofs.lemmas.Bool.{le-ltb, lt-ltb, cases_lt}
 use Rattle.std.proofs.lemmas.List.{length-map}
 use Rattle.blif_read.specs.Parts.{NetView, operands, operands_at}
-use Rattle.blif_read.specs.Equations.{takes, matches, value_of, Fits, IsAnswer}
+use Rattle.blif_read.specs.Equations.{takes, matches, cover_value, Fits, IsAnswer}
 use Rattle.circuit.specs.Ranked.{IsRanked, Solves}
 use Rattle.circuit.specs.Code.Solutions.{some_solution}
 use Rattle.blif_read.specs.Netlist.{IsRankedBy, IsDef, IsNetlist}
@@ -17,8 +17,9 @@ use Rattle.blif_read.specs.declared.netlist.Cube.{Cube}
 -- the equation of each signal
 abbrev pub cover_equation : Option Def → (ℕ → Bool) → Bool
 cover_equation None v = false
-cover_equation (Some def) v = value_of def v
+cover_equation (Some def) v = cover_value def v
 
+-- the value of signal s by those of others: an input's is its bit of the word, another's that of its cover
 abbrev pub equation : NetView → List Bool → ℕ → (ℕ → Bool) → Bool
 equation net word s v =
     cond (nat_lt s net.inputs) (slice_index_or word s false) (cover_equation (slice_get net.defs (s - net.inputs)) v)
@@ -34,7 +35,8 @@ some_matches_same : (cubes : List Cube) (signals : List ℕ) (v w : ℕ → Bool
     → list_any (λ cube. matches cube.plane signals v) cubes ≡ list_any (λ cube. matches cube.plane signals w) cubes
 some_matches_same [] signals v w h = refl
 some_matches_same (c ∷ cs) signals v w h =
-    ap (λ x. x || list_any (λ cube. matches cube.plane signals v) cs) (matches_same c.plane signals v w h) ∙ ap (λ y. matches c.plane signals w || y) (some_matches_same cs signals v w h)
+    ap (λ x. x || list_any (λ cube. matches cube.plane signals v) cs) (matches_same c.plane signals v w h)
+    ∙ ap (λ y. matches c.plane signals w || y) (some_matches_same cs signals v w h)
 
 by_on : (on : Bool) (a b : Bool) → a ≡ b → (elim on as (λ (x : Bool). Bool) [ true ↦ a | false ↦ not a ])
     ≡ (elim on as (λ (x : Bool). Bool) [ true ↦ b | false ↦ not b ])
@@ -42,8 +44,8 @@ by_on true a b e = e
 by_on false a b e = ap not e
 
 -- a cover reads the inputs of its definition alone
-pub value_same : (def : Def) (v w : ℕ → Bool) → AllByRecursion (λ s. v s ≡ w s) def.inputs → value_of def v
-    ≡ value_of def w
+pub value_same : (def : Def) (v w : ℕ → Bool) → AllByRecursion (λ s. v s ≡ w s) def.inputs → cover_value def v
+    ≡ cover_value def w
 value_same def v w h = by_on def.on _ _ (some_matches_same def.cubes def.inputs v w h)
 
 cover_same : (o : Option Def) (v w : ℕ → Bool) → AllByRecursion (λ s. v s ≡ w s) (operands_at o) → cover_equation o v
@@ -62,6 +64,7 @@ lower_same : (rank : ℕ → ℕ) (v w : ℕ → Bool) (c : ℕ) → ((d : ℕ) 
 lower_same rank v w c same [] h = tt
 lower_same rank v w c same (x ∷ xs) h = (same x h.0, lower_same rank v w c same xs h.1)
 
+-- the equation of a signal reads signals of lower rank alone
 pub is_ranked : (net : NetView) (word : List Bool) (rank : ℕ → ℕ) → IsRankedBy rank net.inputs net.defs
     → IsRanked rank (equation net word)
 is_ranked net word rank r c v w same =
@@ -77,11 +80,13 @@ solution_fits net word v s = record {
       let m : net.inputs + j - net.inputs ≡ j = omega arith in rw (k, m) (ap (λ o. cover_equation o v) is));
 }
 
+-- for each word some values of the signals fit it
 pub some_valuation : (net : NetView) (word : List Bool) → IsNetlist net → (v : ℕ → Bool)
     × Fits net.inputs net.defs word v
 some_valuation net word ok =
     (_, solution_fits net word _ (some_solution ok.no_cycle.rank (equation net word) (is_ranked net word ok.no_cycle.rank ok.no_cycle.ranked)))
 
+-- a netlist answers each word
 pub some_answer : (net : NetView) (word : List Bool) → IsNetlist net → (answer : List Bool) × IsAnswer net word answer
 some_answer net word ok = let some =
     some_valuation net word ok in (map some.0 net.outputs, record { values = some.0; fit = some.1; shown = refl })
@@ -125,6 +130,7 @@ same_values net word ok v w fv fw (suc n) s lt at = elim (cases_lt s net.inputs)
       ∙ sym (fw.covers (s - net.inputs) found.0 found.1) ∙ ap w back
 ]
 
+-- values that fit the same word are the same for each signal of the netlist
 pub one_valuation : (net : NetView) (word : List Bool) (v w : ℕ → Bool) → IsNetlist net
     → Fits net.inputs net.defs word v → Fits net.inputs net.defs word w → (s : ℕ) → s < length net.names → v s ≡ w s
 one_valuation net word v w ok p q s at = same_values net word ok v w p q (suc (ok.no_cycle.rank s)) s (omega arith) at
@@ -135,11 +141,14 @@ same_shown net v w same [] all = refl
 same_shown net v w same (o ∷ os) all =
     ap (λ b. b ∷ map v os) (same o all.0) ∙ ap (λ bs. w o ∷ bs) (same_shown net v w same os all.1)
 
+-- a netlist has no two answers to a word
 pub one_answer : (net : NetView) (word a b : List Bool) → IsNetlist net → IsAnswer net word a → IsAnswer net word b → a
     ≡ b
 one_answer net word a b ok p q =
-    p.shown ∙ same_shown net p.values q.values (one_valuation net word p.values q.values ok p.fit q.fit) net.outputs ok.each_output ∙ sym q.shown
+    p.shown
+    ∙ same_shown net p.values q.values (one_valuation net word p.values q.values ok p.fit q.fit) net.outputs ok.each_output ∙ sym q.shown
 
+-- an answer has one bit for each output
 pub answer_length : (net : NetView) (word answer : List Bool) → IsAnswer net word answer → length answer
     ≡ length net.outputs
 answer_length net word answer a = ap length a.shown ∙ length-map net.outputs a.values

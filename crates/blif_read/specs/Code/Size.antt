@@ -3,9 +3,11 @@ use Rattle.std.specs.Prelude.{ℕ, ◌<◌, ◌≤◌, List, length}
 use Rattle.std.specs.List.{AllByRecursion, sum_by}
 use Rattle.blif_read.specs.Lines.{Line}
 
+-- the bytes of tokens, the blanks between them left aside
 abbrev pub token_bytes : List (List ℕ) → ℕ
 token_bytes tokens = sum_by length tokens
 
+-- the bytes of the tokens of lines
 abbrev pub bytes_of : List Line → ℕ
 bytes_of lines = sum_by (λ line. token_bytes line.tokens) lines
 

@@ -2,11 +2,11 @@ use Rattle.std.proofs.Common.{◌≡◌, ◌⊎◌, ◌∙◌, sym, ℕ, List, O
 use Rattle.blif_read.specs.Lines.{logical_lines}
 use Rattle.blif_read.specs.Parts.{NetView, netlist_of}
 use Rattle.blif_read.specs.Faults.{fault_of}
-use Rattle.blif_read.specs.Says.{Says, Fault}
+use Rattle.blif_read.specs.Says.{SaysNet, Fault}
 use Rattle.blif_read.specs.declared.netlist.BlifFault.{BlifFault}
 use Rattle.blif_read.proofs.laws.each_text.Goals as goal
 
-one_of : (text : List ℕ) (o : Option BlifFault) → fault_of (logical_lines text) ≡ o → ((net : NetView) × Says text net) ⊎ ((fault : BlifFault) × Fault text fault)
+one_of : (text : List ℕ) (o : Option BlifFault) → fault_of (logical_lines text) ≡ o → ((net : NetView) × SaysNet text net) ⊎ ((fault : BlifFault) × Fault text fault)
 one_of text None e = inl (netlist_of (logical_lines text), record { sound = e; parts = refl })
 one_of text (Some fault) e = inr (fault, e)
 

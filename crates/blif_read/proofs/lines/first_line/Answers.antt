@@ -1,62 +1,38 @@
-use Rattle.std.proofs.Common.{◌≡◌, ◌∙◌, ◌+◌, ◌≤◌, ◌<◌, sym, ap, arith, subst, map, length, Option, None, Some, ℕ, List, [], Bor, IfSome}
-use Rattle.std.specs.Prelude.{IfNone}
+use Rattle.std.proofs.Common.{◌≡◌, ◌∙◌, ◌+◌, ◌≤◌, ◌<◌, sym, ap, arith, subst, length, Option, None, Some, ℕ, List, [], Bor, IfSome}
 use Rattle.std.specs.Option.{option_map}
 use Rattle.blif_read.specs.Code.Reading.{left}
-use Rattle.blif_read.specs.Code.Seen.{texts}
-use Rattle.blif_read.specs.Lines.{is_empty}
-use Rattle.std.specs.Prelude.{not}
+use Rattle.blif_read.proofs.Joining.{left_from, left_at_end}
+use Rattle.blif_read.proofs.Passing.{passed_some, passed_none, line_told}
 use Rattle.blif_read.proofs.lines.first_line.Invariants.{size}
-use Rattle.blif_read.proofs.Joining.{is_read, step_joins, step_blank, step_whole, line_found, left_from, left_at_end}
 use Rattle.blif_read.proofs.lines.first_line.Goals as goal
 
--- what is left is shorter, so the number of its first line is still small
-fewer : (n whole : ℕ) (rest more : Option (Bor (List ℕ))) (text : Bor (List ℕ)) → rest ≡ Some text → IfSome more (λ r. length r.now < length text.now) → n + size rest ≤ whole → n + 1 + size more ≤ whole
-fewer n whole rest None text r s h = let h2 : n + size (Some text) ≤ whole = subst (λ o. n + size o ≤ whole) r h in omega arith
-fewer n whole rest (Some more) text r s h = let h2 : n + size (Some text) ≤ whole = subst (λ o. n + size o ≤ whole) r h in omega arith
+fewer : (first next whole : ℕ) (rest more : Option (Bor (List ℕ))) (text : Bor (List ℕ)) → rest ≡ Some text → first + size rest ≤ whole → next ≤ first + length text.now + 1
+    → IfSome more (λ r. next + length r.now ≤ first + length text.now) → next + size more ≤ whole
+fewer first next whole rest None text r h n s = let h2 : first + size (Some text) ≤ whole = subst (λ o. first + size o ≤ whole) r h in omega arith
+fewer first next whole rest (Some more) text r h n s = let h2 : first + size (Some text) ≤ whole = subst (λ o. first + size o ≤ whole) r h in let t = s in omega arith
 
-behind_fits : (n whole next : ℕ) (rest more : Option (Bor (List ℕ))) (text : Bor (List ℕ)) (after : List ℕ) → rest ≡ Some text → IfSome more (λ r. length r.now < length text.now) → n + size rest ≤ whole
-    → next ≡ n + 1 → IfSome more (λ r. after ≡ r.now) → IfNone more (after ≡ []) → next + length after ≤ whole
-behind_fits n whole next rest None text after r s h x some none = let h2 : n + size (Some text) ≤ whole = subst (λ o. n + size o ≤ whole) r h in omega (arith, ap length none)
-behind_fits n whole next rest (Some more) text after r s h x some none = let h2 : n + size (Some text) ≤ whole = subst (λ o. n + size o ≤ whole) r h in omega (arith, ap length some)
+smaller : (first next : ℕ) (rest more : Option (Bor (List ℕ))) (text : Bor (List ℕ)) → rest ≡ Some text → first < next → IfSome more (λ r. next + length r.now ≤ first + length text.now) → size more < size rest
+smaller first next rest None text r n s = let h : size rest ≡ size (Some text) = ap size r in omega arith
+smaller first next rest (Some more) text r n s = let h : size rest ≡ size (Some text) = ap size r in let t = s in omega arith
 
 pub loop-rest-init : goal.loop-rest-init
-loop-rest-init c = record {
-  fits = omega arith;
-  lines = ap (λ tokens. left c.args.number (map (λ t. t.now) tokens) c.args.number (Some c.args.text.now)) c.clear.ensures.items ∙ left_from c.args.number c.args.text.now;
-}
-
-pub loop-rest-preserved-then-joins : goal.loop-rest-preserved-then-joins
-loop-rest-preserved-then-joins c = record {
-  fits = fewer _ _ _ _ _ c.in-Some.is c.uncommented_line.ensures.shorter c.loop-rest.invariant.fits;
-  lines = step_joins _ c.loop-rest.first c.loop-rest.next _ _ c.loop-rest.rest c.uncommented_line.ensures.first.line c.content_of-goes_on.result.0.now c.uncommented_line.result.1 c.content_of-goes_on.result.1
-      (is_read _ c.uncommented_line.result.1 c.in-Some.text c.uncommented_line.result.0.now _ _ c.in-Some.is c.uncommented_line.ensures.first c.content_of-goes_on.ensures.content c.content_of-goes_on.ensures.goes_on)
-      (sym c.joins.ensures ∙ c.if-joins.true) c.in_ok-push_tokens.ensures c.loop-rest.invariant.lines;
-}
+loop-rest-init c = record { fits = omega arith; lines = left_from c.args.number c.args.text.now }
 
 pub loop-rest-preserved : goal.loop-rest-preserved
 loop-rest-preserved c = record {
-  fits = fewer _ _ _ _ _ c.in-Some.is c.uncommented_line.ensures.shorter c.loop-rest.invariant.fits;
-  lines = step_blank _ c.loop-rest.first c.loop-rest.next _ _ c.loop-rest.rest c.uncommented_line.ensures.first.line c.content_of-goes_on.result.0.now c.uncommented_line.result.1 c.content_of-goes_on.result.1
-      (is_read _ c.uncommented_line.result.1 c.in-Some.text c.uncommented_line.result.0.now _ _ c.in-Some.is c.uncommented_line.ensures.first c.content_of-goes_on.ensures.content c.content_of-goes_on.ensures.goes_on)
-      (sym c.joins.ensures ∙ c.if-joins.false) c.in_ok-push_tokens.ensures
-      (ap (λ ts. not (is_empty (texts ts))) (sym c.as_slice.ensures.value) ∙ sym c.is_any.ensures ∙ c.if-is_any.false) c.loop-rest.invariant.lines;
+  fits = fewer _ _ _ _ _ _ c.in-Some.is c.loop-rest.invariant.fits c.pass_line.ensures.few c.pass_line.ensures.size;
+  lines = passed_none c.loop-rest.first c.in-Some.text.now _ _ _ _ c.pass_line.ensures.passed c.if-passed.false
+      (ap (λ o. left c.loop-rest.first [] c.loop-rest.first (option_map (λ t. t.now) o)) (sym c.in-Some.is) ∙ c.loop-rest.invariant.lines);
 }
 
-pub returns-then-is_any : goal.returns-then-is_any
-returns-then-is_any c = record {
-  line = line_found _ _ c.loop-rest.first (c.loop-rest.next + 1) _ _ _ c.whole_line.result.rest.now
-      (step_whole _ c.loop-rest.first c.loop-rest.next _ _ c.loop-rest.rest c.uncommented_line.ensures.first.line c.content_of-goes_on.result.0.now c.uncommented_line.result.1 c.content_of-goes_on.result.1
-      (is_read _ c.uncommented_line.result.1 c.in-Some.text c.uncommented_line.result.0.now _ _ c.in-Some.is c.uncommented_line.ensures.first c.content_of-goes_on.ensures.content c.content_of-goes_on.ensures.goes_on)
-      (sym c.joins.ensures ∙ c.if-joins.false) c.in_ok-push_tokens.ensures
-      (ap (λ ts. not (is_empty (texts ts))) (sym c.as_slice.ensures.value) ∙ sym c.is_any.ensures ∙ c.if-is_any.true) c.loop-rest.invariant.lines)
-      c.whole_line.ensures.first c.whole_line.ensures.next c.whole_line.ensures.rest;
-  none = tt;
-  size = behind_fits c.loop-rest.next _ _ _ _ _ _ c.in-Some.is c.uncommented_line.ensures.shorter c.loop-rest.invariant.fits c.whole_line.ensures.next c.whole_line.ensures.size c.whole_line.ensures.end;
-}
+pub loop-rest-smaller : goal.loop-rest-smaller
+loop-rest-smaller c = smaller _ _ _ _ _ c.in-Some.is c.pass_line.ensures.later c.pass_line.ensures.size
 
-pub returns : goal.returns
-returns c = record {
-  line = tt;
-  none = sym c.loop-rest.invariant.lines ∙ ap (λ o. left c.loop-rest.first (map (λ t. t.now) c.loop-rest.tokens.items) c.loop-rest.next (option_map (λ t. t.now) o)) c.in_default.is ∙ left_at_end c.loop-rest.first c.loop-rest.next _;
-  size = tt;
-}
+pub returns-then-passed-clause-line : goal.returns-then-passed-clause-line
+returns-then-passed-clause-line c = line_told _ _ c.loop-rest.first c.whole_line.result.first c.whole_line.result.next c.pass_line.result.1.next c.in-Some.text.now c.whole_line.result.text.now c.whole_line.result.rest.now
+    (passed_some c.loop-rest.first c.in-Some.text.now c.pass_line.result.1.any c.pass_line.result.1.next (option_map (λ t. t.now) c.pass_line.result.1.more) _ c.pass_line.ensures.passed c.if-passed.true
+    (ap (λ o. left c.loop-rest.first [] c.loop-rest.first (option_map (λ t. t.now) o)) (sym c.in-Some.is) ∙ c.loop-rest.invariant.lines))
+    c.whole_line.ensures.first c.whole_line.ensures.text c.whole_line.ensures.next c.whole_line.ensures.rest
+
+pub returns-clause-none : goal.returns-clause-none
+returns-clause-none c = sym c.loop-rest.invariant.lines ∙ ap (λ o. left c.loop-rest.first [] c.loop-rest.first (option_map (λ t. t.now) o)) c.in_default.is ∙ left_at_end c.loop-rest.first c.loop-rest.first []

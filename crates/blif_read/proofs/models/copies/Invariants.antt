@@ -1,6 +1,8 @@
-use Rattle.std.proofs.Common.{◌≡◌, ◌++◌, drop}
-use Rattle.blif_read.specs.Code.Seen.{texts}
+use Rattle.std.proofs.Common.{◌≡◌, ◌++◌, length}
 use Rattle.blif_read.proofs.models.copies.Given as goal
 
-abbrev pub invariant-loop-name : goal.invariant-loop-name
-invariant-loop-name l = l.copies ++ texts (drop l.name-index l.names) ≡ texts l.names
+abbrev pub invariant-names : goal.invariant-names
+invariant-names l = l.copies ++ l.rest ≡ l.fn.names
+
+abbrev pub decreases-names : goal.decreases-names
+decreases-names l = length l.rest

@@ -1,5 +1,6 @@
 use Rattle.std.proofs.Common.{◌≡◌, drop}
-use Rattle.blif_read.specs.Equations.{matches, valuation}
+use Rattle.circuit.specs.Gates.{valuation}
+use Rattle.blif_read.specs.Equations.{matches}
 use Rattle.blif_read.proofs.values.matches.Given as goal
 
 abbrev pub invariant-loop-i : goal.invariant-loop-i

@@ -1,5 +1,5 @@
 use Rattle.std.proofs.Common.{◌≡◌, ◌++◌, map, drop}
-use Rattle.blif_read.specs.Equations.{valuation}
+use Rattle.circuit.specs.Gates.{valuation}
 use Rattle.blif_read.proofs.values.shown.Given as goal
 
 abbrev pub invariant-loop-output : goal.invariant-loop-output

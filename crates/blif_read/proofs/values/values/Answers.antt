@@ -20,5 +20,5 @@ index_mut-requires-in-loop-signal c =
 pub loop-signal-preserved : goal.loop-signal-preserved
 loop-signal-preserved c = record {
   size = length-set _ _ _ ∙ c.loop-signal.invariant.size;
-  agrees = one_more_value _ _ c.args.word.now c.args.order.now c.loop-signal.signal-index _ _ _ _ c.requires.order c.loop-signal-test.true c.loop-signal.invariant.size c.index-defs-signal.is c.deref.ensures.value c.value_of.ensures c.loop-signal.invariant.agrees;
+  agrees = one_more_value _ _ c.args.word.now c.args.order.now c.loop-signal.signal-index _ _ _ _ c.requires.order c.loop-signal-test.true c.loop-signal.invariant.size c.index-defs-signal.is c.deref.ensures.value c.cover_value.ensures c.loop-signal.invariant.agrees;
 }

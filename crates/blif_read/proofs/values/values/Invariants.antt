@@ -1,5 +1,6 @@
 use Rattle.std.proofs.Common.{◌≡◌, ℕ, ◌+◌, ◌<◌, true, Bool, take, reverse, length}
-use Rattle.blif_read.specs.Equations.{Fits, valuation}
+use Rattle.circuit.specs.Gates.{valuation}
+use Rattle.blif_read.specs.Equations.{Fits}
 use Rattle.blif_read.specs.Walked.{known}
 use Rattle.blif_read.proofs.values.values.Given as goal
 
