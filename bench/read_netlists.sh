@@ -1,8 +1,8 @@
 #!/bin/sh
 # How the time and the memory of reading a netlist grow with its text: netlists of 2, 4, 8 and 16 MB, as many rows of a
 # cover of eight inputs, as rows of two bytes of a constant, as rows of four bytes of a buffer, as a chain of definitions,
-# as one line of inputs, and as one line of inputs with names of three and four bytes. Each is read whole, and then the
-# library, which is empty, is refused. Prints the seconds of processor time, their ratios, twice the text against once,
+# as one line of inputs, as one line of inputs with names of three and four bytes, and as definitions without rows with
+# such names. Each is read whole, and then the library, which is empty, is refused. Prints the seconds of processor time, their ratios, twice the text against once,
 # and the memory at most in times of the text, which is counted too. Needs GNU time; AQFP is the program, by default the
 # one that is built here.
 set -u
@@ -43,21 +43,30 @@ inputs() {
     awk -v bytes="$1" 'BEGIN { n = int(bytes / 9) - 10; for (i = 1000000; i < 1000000 + n; i++) printf " i%d", i; print "" }'
 }
 
-# Names of 62 signs, as short as so many can be.
-short() {
-    printf '.outputs ~\n.inputs ~'
-    awk -v bytes="$1" 'BEGIN { left = bytes - 30
+# Names of 62 signs, as short as so many can be, each behind these bytes.
+names() {
+    awk -v bytes="$1" -v before="$2" 'BEGIN { left = bytes - 30
         signs = "0123456789abcdefghijklmnopqrstuvwxyzABCDEFGHIJKLMNOPQRSTUVWXYZ"
         for (i = 62 * 62; left > 0; i++) {
             name = ""
             for (n = i; n > 0; n = int(n / 62)) name = substr(signs, n % 62 + 1, 1) name
-            printf " %s", name
-            left -= length(name) + 1
+            printf "%s%s", before, name
+            left -= length(name) + length(before)
         }
         print "" }'
 }
 
-for shape in rows ones buffers chain inputs short; do
+short() {
+    printf '.outputs ~\n.inputs ~'
+    names "$1" ' '
+}
+
+definitions() {
+    printf '.inputs ~\n.outputs ~'
+    names "$1" '\n.names '
+}
+
+for shape in rows ones buffers chain inputs short definitions; do
     before=
     for megabytes in 2 4 8 16; do
         $shape $((megabytes * 1000000)) >"$work/net.blif"
