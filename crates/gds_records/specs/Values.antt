@@ -41,7 +41,8 @@ unsigned_value so_far (b ∷ bs) = unsigned_value (so_far * 256 + b) bs
 
 -- the second real of UNITS is one nanometre in metres, with room for rounding
 abbrev pub is_nanometre : List ℕ → Bool
-is_nanometre content = slice_index content 8 == 0x39 && not (nat_lt (unsigned_value 0 (drop 9 content)) 0x44B82FA0000000)
+is_nanometre content = slice_index content 8 == 0x39
+    && not (nat_lt (unsigned_value 0 (drop 9 content)) 0x44B82FA0000000)
     && nat_lt (unsigned_value 0 (drop 9 content)) 0x44B82FA1000000
 
 -- coordinate i of an XY, as its bits

@@ -202,7 +202,8 @@ wide_fault_in element colrow taken r =
     rule (r.kind == STRANS && refers element) (is_flip r.content) Unsupported
     (rule (r.kind == MAG && refers element) (is_one r.content) Unsupported
     (rule (r.kind == ANGLE && refers element) (is_turn r.content) Unsupported
-    (rule (r.kind == PATHTYPE && element == PATH) (unsigned_value 0 r.content == 0 || unsigned_value 0 r.content == 2) Unsupported
+    (rule (r.kind == PATHTYPE && element == PATH)
+    (unsigned_value 0 r.content == 0 || unsigned_value 0 r.content == 2) Unsupported
     (rule (r.kind == XY && element == BOUNDARY) (is_ring (points r.content)) NotRectangle
     (rule (r.kind == XY && element == PATH) (is_path (points r.content)) Value
     (rule (r.kind == XY && element == AREF) (is_lattice (columns colrow) (rows colrow) (points r.content)) Value

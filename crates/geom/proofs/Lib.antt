@@ -1,3 +1,4 @@
 pub mod Sharing
+pub mod FirstFlat
 pub mod FirstWritable
 pub mod Filing

@@ -1,12 +1,11 @@
 -- The first chip: a buffer in each of two rows, and one wire between them.
-use Rattle.std.specs.Prelude.{◌≡◌, ℕ, ℤ, pos, negsuc, List, [], ◌∷◌, refl}
+use Rattle.std.specs.Prelude.{ℕ, ℤ, pos, negsuc, List, [], ◌∷◌}
 use Rattle.geom.specs.declared.shapes.Shape.{Shape}
 use Rattle.geom.specs.declared.shapes.Label.{Label}
 use Rattle.geom.specs.declared.shapes.Flat.{Flat}
 use Rattle.geom.specs.declared.layout.Element.TheVariants.{Box, Place, Text}
 use Rattle.geom.specs.declared.layout.Structure.{Structure}
 use Rattle.geom.specs.declared.layout.Layout.{Layout}
-use Rattle.geom.specs.FlatForm.{flat_of}
 
 -- a rectangle of a layer and a datatype
 abbrev pub drawn : ℕ → ℕ → ℤ → ℤ → ℤ → ℤ → Shape
@@ -74,7 +73,3 @@ first_flat = record {
       ∷ [];
   labels = labelled (pos 3000) (pos 500) (73 ∷ 48 ∷ []) ∷ labelled (pos 5000) (pos 23500) (79 ∷ 48 ∷ []) ∷ [];
 }
-
-pub first_flat_form : flat_of first_layout ≡ first_flat
-unfolding flat_of first_layout first_buffer first_top first_flat
-first_flat_form = refl

@@ -28,6 +28,7 @@ pub record IsWritableShape (s : Shape) : Type 0 where
   pub right : FitsSigned w32 s.rect.x1
   pub above : FitsSigned w32 s.rect.y1
 
+-- the layer, the place and the text of a label fit their records
 pub record IsWritableLabel (l : Label) : Type 0 where
   pub layer : l.layer < 2 ^ 16
   pub x : FitsSigned w32 l.x
@@ -40,6 +41,7 @@ IsWritableElement count (Box s) = IsWritableShape s
 IsWritableElement count (Place n x y) = (n < count) × FitsSigned w32 x × FitsSigned w32 y
 IsWritableElement count (Text l) = IsWritableLabel l
 
+-- so do the name and each element of a structure, among this many structures
 pub record IsWritableStructure (count : ℕ) (s : Structure) : Type 0 where
   pub name : IsWritableText s.name
   pub elements : All (IsWritableElement count) s.elements

@@ -5,7 +5,7 @@ ghost use Rattle.geom.specs.Writable.{IsWritable};
 ghost use Rattle.geom.specs.FirstChip.{first_layout, first_flat};
 
 /// The shapes and labels of the first chip, a buffer in each of two rows.
-#[tactic(auto, using(crate::specs::FirstChip::first_flat_form))]
+#[tactic(auto, using(crate::proofs::FirstFlat::first_flat_form))]
 pub fn first_chip_flat()
     ensures { flat_of first_layout ≡ first_flat }
 {}
