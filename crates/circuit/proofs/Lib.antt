@@ -1,1 +1,3 @@
+pub mod Solutions
+pub mod CellAnswers
 pub mod Valued

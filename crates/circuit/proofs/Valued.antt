@@ -10,7 +10,7 @@ use Rattle.circuit.specs.PlainNets.{PlainView, IsAnswer}
 use Rattle.circuit.specs.declared.gate.Gate.{Gate}
 use Rattle.circuit.specs.declared.gate.Gate.TheVariants.{Input}
 use Rattle.circuit.specs.CellNets.{AreCells, IsCells, value}
-use Rattle.circuit.specs.Code.CellAnswers.{gate_same, value_fits, same_shown}
+use Rattle.circuit.proofs.CellAnswers.{gate_same, value_fits, same_shown}
 
 -- one more value
 pub one_more : (n : ℕ) (gates : List Gate) (word values read more : List Bool) (k : ℕ) (v : Bool) → AreCells n gates → k < length gates → length values ≡ k → read ≡ values

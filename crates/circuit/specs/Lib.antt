@@ -4,6 +4,6 @@ pub mod Ranked
 pub mod Gates
 pub mod CellNets
 pub mod PlainNets
+pub mod OneAnswer
 pub mod SameAnswers
 pub mod Composed
-pub mod Code

@@ -1,5 +1,6 @@
 // What answers words.
 ghost use Rattle.std.specs.Prelude.{◌≡◌, ℕ, List, Bool, length, IfOk};
+ghost use Rattle.circuit.specs.OneAnswer.{HasOneAnswer};
 
 use crate::Word;
 use aq_base::Memory;
@@ -16,13 +17,10 @@ pub trait Answers {
     /// The second word is the answer to the first.
     ghost meaning: { Self → List Bool → List Bool → Type 0 };
 
-    /// Holds of every value of the type.
-    ghost valid: { Self → Type 0 };
-
-    /// How many values a word has.
+    /// How many values a word has. Each word of so many has one answer.
     fn input_count(&self) -> u32
         ensures count { result ≡ inputs self.now }
-        ensures known { valid self.now };
+        ensures once { HasOneAnswer (inputs self.now) (outputs self.now) (meaning self.now) };
 
     /// How many values an answer has.
     fn output_count(&self) -> u32
@@ -32,18 +30,6 @@ pub trait Answers {
     fn answer(&self, alloc: Global, word: &Word) -> Result<Word, Memory>
         requires { length word.now ≡ inputs self.now }
         ensures { IfOk result (λ answer. meaning self.now word.now answer) };
-
-    /// Each word has an answer.
-    ghost some: { (s : Self) (x : List Bool)
-        → valid s → length x ≡ inputs s → (y : List Bool) × meaning s x y };
-
-    /// No word has two answers.
-    ghost only: { (s : Self) (x y z : List Bool)
-        → valid s → length x ≡ inputs s → meaning s x y → meaning s x z → y ≡ z };
-
-    /// An answer has a value for each output.
-    ghost whole: { (s : Self) (x y : List Bool)
-        → valid s → length x ≡ inputs s → meaning s x y → length y ≡ outputs s };
 }
 
 /// The circuit's answer to a word of as many values as it has inputs. It is refused for want of memory alone.

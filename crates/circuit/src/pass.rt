@@ -1,7 +1,6 @@
 // Passes: what makes another circuit of a circuit, with the same answers.
 ghost use Rattle.std.specs.Prelude.{IfOk, IfErr, ◌⊎◌};
 ghost use Rattle.circuit.specs.SameAnswers.{SameAnswers};
-ghost use Rattle.circuit.specs.Code.SameThen.{same_then};
 ghost use Rattle.circuit.specs.Composed.{OfPart};
 
 use crate::Answers;
@@ -51,6 +50,8 @@ pub enum ThenRefusal<R, S> {
 }
 
 impl<A: Answers, P: Pass<A>, Q: Pass<P::Out>> Pass<A> for Then<P, Q> {
+    ghost use Rattle.std.proofs.Common.{sym, ◌∙◌};
+
     type Out = Q::Out;
 
     type Refusal = ThenRefusal<P::Refusal, Q::Refusal>;
@@ -62,8 +63,15 @@ impl<A: Answers, P: Pass<A>, Q: Pass<P::Out>> Pass<A> for Then<P, Q> {
 
     ghost is_memory = { OfPart P.is_memory Q.is_memory };
 
-    ghost keeps = { λ s a o h. same_then _ _ _ _ _ _ _ _ _
-        (P.keeps s.first a h.0 h.1) (Q.keeps s.second h.0 o h.2) };
+    ghost keeps = { λ s a o h.
+        let one = P.keeps s.first a h.0 h.1 in
+        let two = Q.keeps s.second h.0 o h.2 in
+        record {
+          same_inputs = two.same_inputs ∙ one.same_inputs;
+          same_outputs = two.same_outputs ∙ one.same_outputs;
+          there = λ x y long m. two.there x y (long ∙ sym one.same_inputs) (one.there x y long m);
+          back = λ x y long m. one.back x y long (two.back x y (long ∙ sym one.same_inputs) m);
+        } };
 
     fn run(&self, alloc: Global, from: &A) -> Result<Self::Out, Self::Refusal> {
         match self.first.run(alloc, from) {

@@ -38,8 +38,7 @@ impl PlainNet {
 
 impl Answers for PlainNet {
     ghost use Rattle.std.specs.Prelude.{length};
-    ghost use Rattle.circuit.specs.PlainNets.{IsPlainNet, IsAnswer};
-    ghost use Rattle.circuit.specs.Code.CellAnswers.{plain_is_cells, some_answer, one_answer, answer_length};
+    ghost use Rattle.circuit.specs.PlainNets.{IsAnswer};
 
     ghost inputs = { λ n. n.inputs };
 
@@ -47,14 +46,7 @@ impl Answers for PlainNet {
 
     ghost meaning = { IsAnswer };
 
-    ghost valid = { IsPlainNet };
-
-    ghost some = { λ n x known long. some_answer n x (plain_is_cells n known) };
-
-    ghost only = { λ n x y z known long a b. one_answer n x y z (plain_is_cells n known) a b };
-
-    ghost whole = { λ n x y known long a. answer_length n x y a };
-
+    #[tactic(auto, using(crate::proofs::CellAnswers::plain_once))]
     fn input_count(&self) -> u32 {
         self.inputs
     }

@@ -30,23 +30,13 @@ fn kinds(rt: HostRuntime) -> Result<(), Fail> {
 struct Crossed;
 
 impl Answers for Crossed {
-    ghost use Rattle.std.specs.Prelude.{◌≡◌, reverse, refl};
-    ghost use Rattle.std.proofs.Common.{sym, ◌∙◌};
-    ghost use Rattle.std.proofs.lemmas.List.{length-reverse};
+    ghost use Rattle.std.specs.Prelude.{◌≡◌, reverse};
 
     ghost inputs = { λ s. 2 };
 
     ghost outputs = { λ s. 2 };
 
     ghost meaning = { λ s x y. y ≡ reverse x };
-
-    ghost valid = { λ s. Unit {0} };
-
-    ghost some = { λ s x ok long. (reverse x, refl) };
-
-    ghost only = { λ s x y z ok long a b. a ∙ sym b };
-
-    ghost whole = { λ s x y ok long a. Prim.search (a, long, length-reverse) };
 
     fn input_count(&self) -> u32 {
         2

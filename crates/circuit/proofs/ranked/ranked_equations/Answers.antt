@@ -1,5 +1,5 @@
 use Rattle.circuit.specs.Ranked.{solution}
-use Rattle.circuit.specs.Code.Solutions.{some_solution, one_solution}
+use Rattle.circuit.proofs.Solutions.{some_solution, one_solution}
 use Rattle.circuit.proofs.ranked.ranked_equations.Goals as goal
 
 pub returns : goal.returns

@@ -1,7 +1,7 @@
 use Rattle.std.proofs.Common.{List, sym, subst}
 use Rattle.circuit.specs.declared.gate.Gate.{Gate}
 use Rattle.circuit.specs.CellNets.{AreCells}
-use Rattle.circuit.specs.Code.CellAnswers.{plain_is_cells}
+use Rattle.circuit.proofs.CellAnswers.{plain_is_cells}
 use Rattle.circuit.proofs.Valued.{shown_answers}
 use Rattle.circuit.proofs.plain_net.PlainNetAnswers.answer.Goals as goal
 

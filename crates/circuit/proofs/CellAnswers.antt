@@ -9,10 +9,11 @@ use Rattle.circuit.specs.Gates.{gate_value, Fits, equation_of, equation}
 use Rattle.circuit.specs.PlainNets.{PlainView, MayStand, AreGates, IsPlainNet, IsAnswer}
 use Rattle.circuit.specs.Function.{majority}
 use Rattle.circuit.specs.Ranked.{IsRanked, solution}
-use Rattle.circuit.specs.Code.Solutions.{some_solution}
+use Rattle.circuit.proofs.Solutions.{some_solution}
 use Rattle.circuit.specs.declared.gate.Gate.{Gate}
 use Rattle.circuit.specs.declared.gate.Gate.TheVariants.{Input, Zero, One, Buf, Inv, Maj}
 use Rattle.circuit.specs.CellNets.{Reads, AreCells, IsCells, value}
+use Rattle.circuit.specs.OneAnswer.{HasOneAnswer}
 
 -- a gate reads lower gates alone
 pub gate_same : (n i : ℕ) (g : Gate) → Reads n i g → (word : List Bool) (v w : ℕ → Bool)
@@ -115,3 +116,15 @@ one_answer net word a b ok p q = the_answer net word a ok p ∙ sym (the_answer 
 pub answer_length : (net : PlainView) (word answer : List Bool) → IsAnswer net word answer
     → length answer ≡ length net.outputs
 answer_length net word answer a = ap length a.shown ∙ length-map net.outputs a.values
+
+-- so a circuit of such gates has one answer to each word
+pub cells_once : (net : PlainView) → IsCells net → HasOneAnswer net.inputs (length net.outputs) (IsAnswer net)
+cells_once net ok = record {
+  some = λ x long. some_answer net x ok;
+  only = λ x y z long a b. one_answer net x y z ok a b;
+  whole = λ x y long a. answer_length net x y a;
+}
+
+-- and so has a plain net
+pub plain_once : (net : PlainView) → IsPlainNet net → HasOneAnswer net.inputs (length net.outputs) (IsAnswer net)
+plain_once net ok = cells_once net (plain_is_cells net ok)

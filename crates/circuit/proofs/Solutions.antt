@@ -25,6 +25,7 @@ settles rank equation ranked (suc n) (suc m) c below more =
     ranked c (approximation equation n) (approximation equation m)
     (λ d lower. settles rank equation ranked n m d (omega arith) (omega arith))
 
+-- the solution by approximations is one
 pub some_solution : (rank : ℕ → ℕ) (equation : ℕ → (ℕ → Bool) → Bool) → IsRanked rank equation
     → Solves equation (solution rank equation)
 unfolding approximation solution

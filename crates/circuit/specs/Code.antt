@@ -1,3 +1,0 @@
-pub mod Solutions
-pub mod CellAnswers
-pub mod SameThen
