@@ -4,7 +4,7 @@ use Rattle.std.proofs.lemmas.List.{get_or-map, length-map}
 use Rattle.circuit.specs.PlainNets.{PlainView}
 use Rattle.circuit.specs.PlainNets as plain
 use Rattle.circuit.specs.SameAnswers.{SameAnswers}
-use Rattle.circuit.specs.Code.SameThen.{same_then}
+use Rattle.circuit.proofs.SameThen.{same_then}
 use Rattle.blif_read.specs.Parts.{NetView}
 use Rattle.blif_read.specs.Equations as equations
 use Rattle.blif_read.specs.Netlist.{IsNetlist}
@@ -14,7 +14,7 @@ use Rattle.chip_cells.specs.CellGates.{cells_of}
 use Rattle.chip_circuit.specs.Circuits.{CircuitView}
 use Rattle.chip_circuit.specs.Answers.{IsAnswer}
 use Rattle.circuit.specs.CellNets.{IsCells, value}
-use Rattle.circuit.specs.Code.CellAnswers.{some_answer, the_answer}
+use Rattle.circuit.proofs.CellAnswers.{some_answer, the_answer}
 use Rattle.decide.specs.Subfunctions.{HasAtMost}
 use Rattle.decide.specs.Verdicts.{shown, Before, IsLeastDifference, IsVerdict, IsRefusal}
 use Rattle.decide.specs.declared.refusal.DecideRefusal.TheVariants.{TooMany}

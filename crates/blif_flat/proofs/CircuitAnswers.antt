@@ -15,13 +15,13 @@ use Rattle.rowed.specs.declared.source.Source.{Source}
 use Rattle.blif_read.specs.Parts.{NetView, plane}
 use Rattle.blif_read.specs.Says.{SaysNet}
 use Rattle.blif_read.specs.Equations.{takes, matches, Fits, IsAnswer as NetAnswer}
-use Rattle.blif_read.specs.Code.OneAnswer.{equation}
+use Rattle.blif_read.proofs.OneAnswer.{equation}
 use Rattle.chip_circuit.specs.declared.cells.Feed.{Feed}
 use Rattle.chip_circuit.specs.declared.cells.Feed.TheVariants.{Nothing, Pin, Label}
 use Rattle.chip_circuit.specs.declared.cells.ExCell.{ExCell}
 use Rattle.chip_circuit.specs.Circuits.{CircuitView, IsCellAt, IsOutputBelow, IsFeedOf, KeepsFacts, feed_at}
 use Rattle.chip_circuit.specs.Answers.{feed_value, cell_value, values_at, IsAnswer}
-use Rattle.chip_circuit.specs.Code.Valuations.{only_answer}
+use Rattle.chip_circuit.proofs.Valuations.{only_answer}
 use Rattle.blif_flat.specs.BlifText.{blif_text, line_text, rows_of}
 use Rattle.blif_flat.specs.Written.{AnswersAsWritten}
 use Rattle.blif_flat.proofs.NumberedNames.{AreNames}

@@ -14,9 +14,9 @@ use Rattle.blif_read.specs.Walk.{on, first_cycle, Leads, IsCycle}
 use Rattle.blif_read.specs.Says.{SaysNet}
 use Rattle.blif_read.specs.Netlist.{IsRankedBy}
 use Rattle.blif_read.specs.Equations.{Fits}
-use Rattle.blif_read.specs.Code.OneAnswer.{equation, cover_equation, is_ranked}
+use Rattle.blif_read.proofs.OneAnswer.{equation, cover_equation, is_ranked}
 use Rattle.circuit.specs.Ranked.{Solves, solution}
-use Rattle.circuit.specs.Code.Solutions.{some_solution}
+use Rattle.circuit.proofs.Solutions.{some_solution}
 use Rattle.blif_read.proofs.Cycles.{first_is_cycle}
 use Rattle.blif_flat.specs.BlifText.{line_text}
 use Rattle.blif_flat.proofs.WrittenLines.{IsToken, IsWritten, numbered, written_lines}

@@ -8,7 +8,7 @@ use Rattle.std.proofs.lemmas.Option.{slice_get-get_or}
 use Rattle.blif_read.specs.Parts.{NetView, operands, operands_at}
 use Rattle.circuit.specs.Gates.{valuation}
 use Rattle.blif_read.specs.Equations.{matches, cover_value, Fits, IsAnswer}
-use Rattle.blif_read.specs.Code.OneAnswer.{value_same, some_answer}
+use Rattle.blif_read.proofs.OneAnswer.{value_same, some_answer}
 use Rattle.blif_read.specs.Netlist.{IsNetlist}
 use Rattle.blif_read.specs.Walked.{known, Settled}
 use Rattle.blif_read.specs.Walked.{IsOrder}

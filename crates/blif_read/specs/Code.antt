@@ -1,4 +1,4 @@
--- Words of private contracts and of loops, and the lemmas that the laws of a trait cite.
+-- Words of private contracts and of loops.
 pub mod Reading
 pub mod Size
 pub mod Seen
@@ -7,4 +7,3 @@ pub mod Sections
 pub mod Progress
 pub mod Found
 pub mod Marking
-pub mod OneAnswer

@@ -170,8 +170,6 @@ impl Netlist {
 impl Answers for Netlist {
     ghost use Rattle.std.specs.Prelude.{length};
     ghost use Rattle.blif_read.specs.Equations.{IsAnswer};
-    ghost use Rattle.blif_read.specs.Netlist.{IsNetlist};
-    ghost use Rattle.blif_read.specs.Code.OneAnswer.{some_answer, one_answer, answer_length};
 
     ghost inputs = { λ n. n.inputs };
 
@@ -179,14 +177,7 @@ impl Answers for Netlist {
 
     ghost meaning = { IsAnswer };
 
-    ghost valid = { IsNetlist };
-
-    ghost some = { λ n x known long. some_answer n x known };
-
-    ghost only = { λ n x y z known long a b. one_answer n x y z known a b };
-
-    ghost whole = { λ n x y known long a. answer_length n x y a };
-
+    #[tactic(auto, using(crate::proofs::OneAnswer::netlist_once))]
     fn input_count(&self) -> u32 {
         self.inputs
     }

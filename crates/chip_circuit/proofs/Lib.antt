@@ -1,2 +1,3 @@
+pub mod Valuations
 mod Evaluated
 mod FirstFacts

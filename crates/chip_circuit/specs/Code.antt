@@ -1,3 +1,2 @@
--- Words of the crate's own code: the values of cells one after the other, and that they give the one answer.
+-- Words of the crate's own code: the values of cells one after the other.
 pub mod Evaluation
-pub mod Valuations

@@ -22,9 +22,7 @@ pub fn one_answer()
 
 impl Answers for Extracted {
     ghost use Rattle.std.specs.Prelude.{length};
-    ghost use Rattle.chip_circuit.specs.Circuits.{KeepsFacts};
     ghost use Rattle.chip_circuit.specs.Answers.{IsAnswer};
-    ghost use Rattle.chip_circuit.specs.Code.Valuations.{some_answer, only_answer, answer_length};
 
     ghost inputs = { λ c. c.inputs };
 
@@ -32,14 +30,7 @@ impl Answers for Extracted {
 
     ghost meaning = { IsAnswer };
 
-    ghost valid = { KeepsFacts };
-
-    ghost some = { λ c x known long. some_answer c known x };
-
-    ghost only = { λ c x y z known long a b. only_answer c known x y z a b };
-
-    ghost whole = { λ c x y known long a. answer_length c x y a };
-
+    #[tactic(auto, using(crate::proofs::Valuations::circuit_once))]
     fn input_count(&self) -> u32 {
         self.inputs
     }

@@ -9,7 +9,7 @@ use Rattle.decide.specs.declared.refusal.DecideRefusal.{DecideRefusal}
 use Rattle.decide.specs.declared.refusal.DecideRefusal.TheVariants.{TooMany, Memory}
 use Rattle.std.proofs.Common.{Result, Ok, Err, IfErr, IsErrAnd}
 use Rattle.circuit.specs.CellNets.{IsCells, value}
-use Rattle.circuit.specs.Code.CellAnswers.{value_fits, the_answer}
+use Rattle.circuit.proofs.CellAnswers.{value_fits, the_answer}
 use Rattle.decide.specs.Verdicts.{shown, answer_alike, IsLeastDifference, IsRefusal}
 use Rattle.decide.specs.Code.Diagrams.{inputs_of, edge_value, IsDiagram}
 use Rattle.decide.specs.Code.Grown.{Grows, IsFull}

@@ -4,7 +4,7 @@ use Rattle.std.proofs.Math.ListN.{get_or-eq_default}
 use Rattle.std.proofs.lemmas.Bool.{cases_lt, cases_eq, ne_eqb, eq-eqb}
 use Rattle.std.proofs.lemmas.List.{get_or-drop}
 use Rattle.circuit.specs.Ranked.{IsRanked}
-use Rattle.circuit.specs.Code.Solutions.{some_solution}
+use Rattle.circuit.proofs.Solutions.{some_solution}
 use Rattle.decide.specs.declared.edge.Edge.{Edge}
 use Rattle.decide.specs.declared.edge.Node.{Node}
 use Rattle.decide.specs.Code.Diagrams.{flip, no_node, node_at, level_of, inputs_of, choice_value, node_equation, node_value, edge_value, child, cofactor, IsNode, IsDiagram}

@@ -10,7 +10,7 @@ use Rattle.circuit.specs.declared.gate.Gate.TheVariants.{Input}
 use Rattle.decide.specs.declared.edge.Edge.{Edge}
 use Rattle.decide.specs.declared.edge.Node.{Node}
 use Rattle.circuit.specs.CellNets.{Reads, AreCells, value}
-use Rattle.circuit.specs.Code.CellAnswers.{gate_same, value_fits}
+use Rattle.circuit.proofs.CellAnswers.{gate_same, value_fits}
 use Rattle.decide.specs.Subfunctions.{gates_of}
 use Rattle.decide.specs.Code.Diagrams.{regular, flip, inputs_of, node_value, edge_value, IsDiagram}
 use Rattle.decide.specs.Code.Grown.{Grows, Represents, choice}

@@ -6,7 +6,7 @@ use Rattle.circuit.specs.Gates.{gate_value, Fits}
 use Rattle.circuit.specs.declared.gate.Gate.{Gate}
 use Rattle.circuit.specs.declared.gate.Gate.TheVariants.{Input, Zero, One, Buf, Inv, Maj}
 use Rattle.circuit.specs.CellNets.{Reads, AreCells, value}
-use Rattle.circuit.specs.Code.CellAnswers.{value_fits, one_value}
+use Rattle.circuit.proofs.CellAnswers.{value_fits, one_value}
 use Rattle.decide.specs.declared.edge.Edge.{Edge}
 use Rattle.decide.specs.declared.edge.Node.{Node}
 use Rattle.decide.specs.Code.GateFunctions.{AreValues}

@@ -29,7 +29,7 @@ impl Model for Cells {
 }
 
 /// A plain net as such a circuit: the same gates and outputs.
-#[tactic(auto, using(circuit::specs::Code::CellAnswers::plain_is_cells))]
+#[tactic(auto, using(circuit::proofs::CellAnswers::plain_is_cells))]
 pub fn plain_cells(alloc: Global, net: &PlainNet) -> Result<Cells, Memory>
     ensures { IfOk result (λ cells. cells ≡ net.now) }
 {
@@ -46,8 +46,6 @@ pub fn plain_cells(alloc: Global, net: &PlainNet) -> Result<Cells, Memory>
 impl Answers for Cells {
     ghost use Rattle.std.specs.Prelude.{length};
     ghost use Rattle.circuit.specs.PlainNets.{IsAnswer};
-    ghost use Rattle.circuit.specs.CellNets.{IsCells};
-    ghost use Rattle.circuit.specs.Code.CellAnswers.{some_answer, one_answer, answer_length};
 
     ghost inputs = { λ c. c.inputs };
 
@@ -55,14 +53,7 @@ impl Answers for Cells {
 
     ghost meaning = { IsAnswer };
 
-    ghost valid = { IsCells };
-
-    ghost some = { λ c x known long. some_answer c x known };
-
-    ghost only = { λ c x y z known long a b. one_answer c x y z known a b };
-
-    ghost whole = { λ c x y known long a. answer_length c x y a };
-
+    #[tactic(auto, using(circuit::proofs::CellAnswers::cells_once))]
     fn input_count(&self) -> u32 {
         self.inputs
     }

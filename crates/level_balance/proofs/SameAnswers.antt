@@ -4,7 +4,7 @@ use Rattle.std.proofs.Common.{refl, sym, ap, ◌∙◌, subst, arith, get_or}
 use Rattle.std.proofs.lemmas.List.{ext_get_or, length-map, get_or-map}
 use Rattle.std.proofs.lemmas.Option.{none-some, slice_get-get_or, get_or_from_slice_get}
 use Rattle.circuit.specs.PlainNets.{PlainView, IsPlainNet, IsAnswer as IsGatesAnswer}
-use Rattle.circuit.specs.Code.CellAnswers.{plain_is_cells, some_answer as some_gates_answer}
+use Rattle.circuit.proofs.CellAnswers.{plain_is_cells, some_answer as some_gates_answer}
 use Rattle.circuit.specs.SameAnswers.{SameAnswers}
 use Rattle.rowed.specs.declared.row_cell.RowCell.{RowCell}
 use Rattle.rowed.specs.RowNets.{cell_at, output_at, last_of, IsRowNet, IsAnswer}

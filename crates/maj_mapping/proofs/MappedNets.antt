@@ -5,10 +5,10 @@ use Rattle.std.proofs.lemmas.List.{length-map}
 use Rattle.blif_read.specs.Parts.{NetView}
 use Rattle.blif_read.specs.Netlist.{IsNetlist}
 use Rattle.blif_read.specs.Equations as equations
-use Rattle.blif_read.specs.Code.OneAnswer.{some_valuation}
+use Rattle.blif_read.proofs.OneAnswer.{some_valuation}
 use Rattle.circuit.specs.PlainNets.{PlainView, AreGates, IsPlainNet, IsAnswer}
 use Rattle.circuit.specs.CellNets.{value}
-use Rattle.circuit.specs.Code.CellAnswers.{gates_read, value_fits}
+use Rattle.circuit.proofs.CellAnswers.{gates_read, value_fits}
 use Rattle.circuit.specs.SameAnswers.{SameAnswers}
 use Rattle.maj_mapping.specs.Plan.{map_net}
 use Rattle.maj_mapping.proofs.Ordered.{ordered}

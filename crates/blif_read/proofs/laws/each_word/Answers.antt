@@ -1,4 +1,4 @@
-use Rattle.blif_read.specs.Code.OneAnswer.{some_valuation, one_valuation}
+use Rattle.blif_read.proofs.OneAnswer.{some_valuation, one_valuation}
 use Rattle.blif_read.proofs.laws.each_word.Goals as goal
 
 pub returns-clause-some : goal.returns-clause-some

@@ -1,4 +1,4 @@
-use Rattle.chip_circuit.specs.Code.Valuations.{some_answer, only_answer}
+use Rattle.chip_circuit.proofs.Valuations.{some_answer, only_answer}
 use Rattle.chip_circuit.proofs.answers.one_answer.Goals as goal
 
 pub returns-clause-some : goal.returns-clause-some

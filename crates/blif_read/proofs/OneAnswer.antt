@@ -9,7 +9,8 @@ use Rattle.std.proofs.lemmas.List.{length-map}
 use Rattle.blif_read.specs.Parts.{NetView, operands, operands_at}
 use Rattle.blif_read.specs.Equations.{takes, matches, cover_value, Fits, IsAnswer}
 use Rattle.circuit.specs.Ranked.{IsRanked, Solves}
-use Rattle.circuit.specs.Code.Solutions.{some_solution}
+use Rattle.circuit.specs.OneAnswer.{HasOneAnswer}
+use Rattle.circuit.proofs.Solutions.{some_solution}
 use Rattle.blif_read.specs.Netlist.{IsRankedBy, IsDef, IsNetlist}
 use Rattle.blif_read.specs.declared.netlist.Def.{Def}
 use Rattle.blif_read.specs.declared.netlist.Cube.{Cube}
@@ -84,7 +85,11 @@ solution_fits net word v s = record {
 pub some_valuation : (net : NetView) (word : List Bool) → IsNetlist net → (v : ℕ → Bool)
     × Fits net.inputs net.defs word v
 some_valuation net word ok =
-    (_, solution_fits net word _ (some_solution ok.no_cycle.rank (equation net word) (is_ranked net word ok.no_cycle.rank ok.no_cycle.ranked)))
+    (
+      _,
+      solution_fits net word _ (some_solution ok.no_cycle.rank (equation net word)
+      (is_ranked net word ok.no_cycle.rank ok.no_cycle.ranked)),
+    )
 
 -- a netlist answers each word
 pub some_answer : (net : NetView) (word : List Bool) → IsNetlist net → (answer : List Bool) × IsAnswer net word answer
@@ -152,3 +157,11 @@ one_answer net word a b ok p q =
 pub answer_length : (net : NetView) (word answer : List Bool) → IsAnswer net word answer → length answer
     ≡ length net.outputs
 answer_length net word answer a = ap length a.shown ∙ length-map net.outputs a.values
+
+-- so a netlist has one answer to each word
+pub netlist_once : (net : NetView) → IsNetlist net → HasOneAnswer net.inputs (length net.outputs) (IsAnswer net)
+netlist_once net ok = record {
+  some = λ x long. some_answer net x ok;
+  only = λ x y z long a b. one_answer net x y z ok a b;
+  whole = λ x y long a. answer_length net x y a;
+}

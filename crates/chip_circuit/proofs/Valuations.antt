@@ -4,7 +4,8 @@ use Rattle.std.proofs.Common.{refl, sym, ap, ◌∙◌, subst, arith}
 use Rattle.std.proofs.lemmas.List.{length-map}
 use Rattle.circuit.specs.Function.{value_of}
 use Rattle.circuit.specs.Ranked.{IsRanked, Solves, solution}
-use Rattle.circuit.specs.Code.Solutions.{some_solution, one_solution}
+use Rattle.circuit.specs.OneAnswer.{HasOneAnswer}
+use Rattle.circuit.proofs.Solutions.{some_solution, one_solution}
 use Rattle.rowed.specs.declared.source.Source.{Source}
 use Rattle.chip_circuit.specs.declared.cells.Feed.{Feed}
 use Rattle.chip_circuit.specs.declared.cells.Feed.TheVariants.{Nothing, Pin, Label}
@@ -131,3 +132,12 @@ pub answer_length : (circuit : CircuitView) (word answer : List Bool) → IsAnsw
     → length answer ≡ length circuit.outputs
 answer_length circuit word answer is =
     ap length is.answer_is ∙ length-map circuit.outputs (λ (source : Source). is.value source.cell)
+
+-- so a circuit that keeps its facts has one answer to each word
+pub circuit_once : (circuit : CircuitView) → KeepsFacts circuit
+    → HasOneAnswer circuit.inputs (length circuit.outputs) (IsAnswer circuit)
+circuit_once circuit ok = record {
+  some = λ x long. some_answer circuit ok x;
+  only = λ x y z long a b. only_answer circuit ok x y z a b;
+  whole = λ x y long a. answer_length circuit x y a;
+}
