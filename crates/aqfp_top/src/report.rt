@@ -3,7 +3,7 @@ ghost use Rattle.std.specs.Prelude.{◌≡◌, ◌<◌, ◌⊎◌, ◌++◌, ℕ
 ghost use Rattle.aq_base.specs.Causes.{Rose};
 ghost use Rattle.aqfp_top.specs.Words.{spelled};
 ghost use Rattle.aqfp_top.specs.Lines.{line_of, netlist_line, library_line, missing_line, line_kind_text, design_kind_text, large_text, stream_kind_text, named as named_line, Puts, HasPlace};
-ghost use Rattle.cell_library.specs.Kinds.{key_of as kind_key};
+ghost use Rattle.cell_library.specs.Kinds.{key_of};
 ghost use Rattle.layout_rules.specs.RuleTable.{name_of};
 ghost use Rattle.aqfp_top.specs.Code.Pieces.{pieces_text};
 
@@ -13,7 +13,7 @@ use crate::words::word;
 use aq_base::Sink;
 use blif_flat::FlatKind;
 use blif_read::{BlifFault, LineKind};
-use cell_library::LibraryFault;
+use cell_library::{LibraryFault, kind_key};
 use circuit::CellKind;
 use gds_records::StreamKind;
 use layout_rules::Rule;
@@ -48,18 +48,11 @@ fn design_kind(kind: &FlatKind) -> &[u8]
     }
 }
 
-fn key_of(kind: &CellKind) -> &[u8]
-    ensures { result.now ≡ kind_key kind.now }
+// The key of a kind in a library, lent as long as the kind is.
+fn library_key(kind: &CellKind) -> &[u8]
+    ensures { result.now ≡ key_of kind.now }
 {
-    match kind {
-        CellKind::Buffer => b"buffer",
-        CellKind::Inverter => b"inverter",
-        CellKind::Zero => b"zero",
-        CellKind::One => b"one",
-        CellKind::Split2 => b"split2",
-        CellKind::Split3 => b"split3",
-        CellKind::Majority => b"majority",
-    }
+    kind_key(*kind).as_bytes()
 }
 
 // The name of a rule, lent as long as the rule is.
@@ -152,7 +145,7 @@ fn missing_pieces(kind: &CellKind) -> [Piece<'_>; 5]
 {
     [
         Piece::Text(b"aqfp: library: missing "),
-        Piece::Text(key_of(kind)),
+        Piece::Text(library_key(kind)),
         Piece::Text(b"\n"),
         Piece::Text(b""),
         Piece::Text(b""),

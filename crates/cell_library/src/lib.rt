@@ -16,6 +16,7 @@ mod tests;
 
 pub use bundled::library_a;
 pub use fault::{LibraryFault, LibraryRefusal};
+pub use kinds::kind_key;
 pub use library::Library;
 pub use read::read_library;
 pub use said::each_library;
