@@ -8,7 +8,7 @@ use Rattle.maj_mapping.specs.Plan.{map_net}
 use Rattle.level_balance.specs.Plan.{level_net}
 use Rattle.level_balance.specs.Counts.{cell_count}
 use Rattle.row_place.specs.Places.{place}
-use Rattle.rowed.specs.Extent.{widest_packed, KeepsWidth, height_limit}
+use Rattle.rowed.specs.Extent.{cell_limit, widest_packed, KeepsWidth, height_limit}
 use Rattle.repeater_rows.specs.Repeaters.{repeated}
 use Rattle.repeater_rows.specs.Passes.{cells_past, height_of}
 use Rattle.cell_library.specs.Library.{LibraryView, pins_of}
@@ -65,7 +65,7 @@ rows_height l rows = height_of l.height (channel_of l) rows
 
 -- the chip keeps all limits
 pub record IsWithin (l : LibraryView) (net : NetView) : Type 0 where
-  pub few_before : cells_before l net ≤ 2000000
+  pub few_before : cells_before l net ≤ cell_limit
   pub narrow : KeepsWidth (span_before l net) (slot_width_of l)
   pub few_cells : cells_past 0 (placed_rows (chip_of l net)) ≡ None
   pub low : rows_height l (length (chip_of l net).net.rows) ≤ height_limit

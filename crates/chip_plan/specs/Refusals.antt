@@ -8,7 +8,7 @@ use Rattle.rowed.specs.PlacedNets.{placed_rows}
 use Rattle.level_balance.specs.Counts.{capped}
 use Rattle.level_balance.specs.declared.pass.LevelRefusal.{LevelRefusal}
 use Rattle.level_balance.specs.declared.pass.LevelRefusal.TheVariants as levels
-use Rattle.rowed.specs.Extent.{KeepsWidth, PassesWidth, height_limit}
+use Rattle.rowed.specs.Extent.{cell_limit, KeepsWidth, PassesWidth, height_limit}
 use Rattle.row_place.specs.declared.pass.PlaceRefusal.{PlaceRefusal}
 use Rattle.row_place.specs.declared.pass.PlaceRefusal.TheVariants as places
 use Rattle.repeater_rows.specs.Passes.{cells_past}
@@ -46,21 +46,21 @@ refusal_of (Second refusal) = of_repeats refusal
 
 -- the rows have too many cells before they get repeaters, or else keep the width and have too many with them
 abbrev pub HasManyBefore : LibraryView → NetView → ℕ → Type 0
-HasManyBefore l net cells = (2000000 < cells_before l net) × (cells ≡ capped (cells_before l net))
+HasManyBefore l net cells = (cell_limit < cells_before l net) × (cells ≡ capped (cells_before l net))
 
 -- the cells before repeaters and the width keep their limits, but with repeaters there are too many cells
 abbrev pub HasMany : LibraryView → NetView → ℕ → Type 0
 HasMany l net cells =
-    (cells_before l net ≤ 2000000) × KeepsWidth (span_before l net) (slot_width_of l)
+    (cells_before l net ≤ cell_limit) × KeepsWidth (span_before l net) (slot_width_of l)
     × (cells_past 0 (placed_rows (chip_of l net)) ≡ Some cells)
 
 -- what the passes refuse, and with which number
 abbrev pub Refuses : LibraryView → NetView → PlanRefusal → Type 0
 Refuses l net (Cells cells) = HasManyBefore l net cells ⊎ HasMany l net cells
 Refuses l net (Slots span) =
-    (cells_before l net ≤ 2000000) × PassesWidth (span_before l net) (slot_width_of l) × (span ≡ span_before l net)
+    (cells_before l net ≤ cell_limit) × PassesWidth (span_before l net) (slot_width_of l) × (span ≡ span_before l net)
 Refuses l net (Rows rows) =
-    (cells_before l net ≤ 2000000) × KeepsWidth (span_before l net) (slot_width_of l)
+    (cells_before l net ≤ cell_limit) × KeepsWidth (span_before l net) (slot_width_of l)
     × (cells_past 0 (placed_rows (chip_of l net)) ≡ None)
     × (height_limit < rows_height l rows) × (rows ≡ length (chip_of l net).net.rows)
 Refuses l net Memory = Unit {0}

@@ -5,7 +5,7 @@ use Rattle.circuit.specs.Gates.{valuation}
 use Rattle.rowed.specs.declared.row_cell.RowCell.{RowCell}
 use Rattle.rowed.specs.Counts.{cells_in}
 use Rattle.repeater_rows.specs.Rounds.{is_far}
-use Rattle.repeater_rows.specs.Passes.{cell_limit}
+use Rattle.rowed.specs.Extent.{cell_limit}
 use Rattle.repeater_rows.specs.Code.Opening.{AreDestinations}
 use Rattle.repeater_rows.specs.Code.Counts.{AreCounted, ArePast}
 use Rattle.repeater_rows.specs.declared.pass.RepeatRefusal.{RepeatRefusal}

@@ -5,7 +5,8 @@ use Rattle.rowed.specs.declared.row_cell.RowCell.{RowCell}
 use Rattle.rowed.specs.PlacedNets.{PlacedRow, placed_rows, PlacedView}
 use Rattle.rowed.specs.Counts.{cells_in}
 use Rattle.repeater_rows.specs.Repeaters.{repeated, repeated_rows}
-use Rattle.repeater_rows.specs.Passes.{AreRepeated, IsTooLarge, cell_limit, cells_past, IsFirstPast}
+use Rattle.rowed.specs.Extent.{cell_limit}
+use Rattle.repeater_rows.specs.Passes.{AreRepeated, IsTooLarge, cells_past, IsFirstPast}
 use Rattle.repeater_rows.specs.Code.Counts.{ArePast, IsPastLimit}
 use Rattle.repeater_rows.specs.declared.pass.RepeatRefusal.{RepeatRefusal}
 use Rattle.repeater_rows.specs.declared.pass.RepeatRefusal.TheVariants.{TooManyCells, TooTall, Memory}

@@ -18,7 +18,8 @@ use Rattle.rowed.proofs.NeighbourLaws.{seated_at, slots_below}
 use Rattle.rowed.specs.Counts.{cells_in}
 use Rattle.repeater_rows.specs.Code.Opening.{AreDestinations}
 use Rattle.repeater_rows.specs.Code.Counts.{rounds_left, AreCounted, ArePast, IsPastLimit}
-use Rattle.repeater_rows.specs.Passes.{cell_limit, cells_past}
+use Rattle.rowed.specs.Extent.{cell_limit}
+use Rattle.repeater_rows.specs.Passes.{cells_past}
 use Rattle.repeater_rows.specs.declared.pass.RepeatRefusal.{RepeatRefusal}
 use Rattle.repeater_rows.specs.declared.pass.RepeatRefusal.TheVariants.{TooManyCells}
 use Rattle.repeater_rows.proofs.Counting.{counted_none, past_more, past_also}

@@ -6,14 +6,10 @@ use Rattle.rowed.specs.declared.row_cell.RowCell.{RowCell}
 use Rattle.rowed.specs.RowNets.{IsAnswer}
 use Rattle.rowed.specs.PlacedNets.{PlacedRow, PlacedView, IsPlaced, placed_rows}
 use Rattle.rowed.specs.Counts.{cells_in}
-use Rattle.rowed.specs.Extent.{height_limit}
+use Rattle.rowed.specs.Extent.{cell_limit, height_limit}
 use Rattle.repeater_rows.specs.Repeaters.{repeated, repeated_rows}
 use Rattle.repeater_rows.specs.declared.pass.RepeatRefusal.{RepeatRefusal}
 use Rattle.repeater_rows.specs.declared.pass.RepeatRefusal.TheVariants.{TooManyCells, TooTall, Memory}
-
--- how many cells a chip may have
-abbrev pub cell_limit : ℕ
-cell_limit = 2000000
 
 -- the cells up to the end of the first row that passes the limit, so many standing in the rows before
 abbrev pub cells_past : ℕ → List PlacedRow → Option ℕ

@@ -1,4 +1,4 @@
--- How far the rows reach, in slots, before they are placed and after; and the limits of a chip's width and height.
+-- How far the rows reach, in slots, before they are placed and after; and the limits of a chip's cells, width and height.
 use Rattle.std.specs.Prelude.{ℕ, ◌+◌, ◌*◌, ◌<◌, ◌≤◌, max, List, [], ◌∷◌}
 use Rattle.circuit.specs.CellKinds.{slots_of}
 use Rattle.rowed.specs.declared.row_cell.RowCell.{RowCell}
@@ -19,6 +19,10 @@ widest_packed (row ∷ rows) = max (packed_span row) (widest_packed rows)
 abbrev pub widest : List PlacedRow → ℕ
 widest [] = 0
 widest (row ∷ rows) = max (span_of row.cells row.slots) (widest rows)
+
+-- how many cells a chip may have
+abbrev pub cell_limit : ℕ
+cell_limit = 2000000
 
 -- how wide a row may be, in nanometres
 abbrev pub width_limit : ℕ

@@ -5,7 +5,8 @@ use Rattle.rowed.specs.PlacedNets.{PlacedRow}
 use Rattle.rowed.specs.Counts.{cells_in}
 use Rattle.repeater_rows.specs.Repeaters.{repeated_rows}
 use Rattle.repeater_rows.specs.Rounds.{rounds}
-use Rattle.repeater_rows.specs.Passes.{cell_limit, cells_past, IsFirstPast}
+use Rattle.rowed.specs.Extent.{cell_limit}
+use Rattle.repeater_rows.specs.Passes.{cells_past, IsFirstPast}
 use Rattle.repeater_rows.specs.declared.pass.RepeatRefusal.{RepeatRefusal}
 use Rattle.repeater_rows.specs.declared.pass.RepeatRefusal.TheVariants.{TooManyCells, TooTall, Memory}
 
