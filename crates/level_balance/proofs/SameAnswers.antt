@@ -8,7 +8,7 @@ use Rattle.circuit.proofs.CellAnswers.{plain_is_cells, some_answer as some_gates
 use Rattle.circuit.specs.SameAnswers.{SameAnswers}
 use Rattle.rowed.specs.declared.row_cell.RowCell.{RowCell}
 use Rattle.rowed.specs.RowNets.{cell_at, output_at, last_of, IsRowNet, IsAnswer}
-use Rattle.rowed.specs.Code.RowAnswers.{some_answer}
+use Rattle.rowed.proofs.RowAnswers.{some_answer}
 use Rattle.level_balance.specs.Plan.{level_net}
 use Rattle.level_balance.proofs.Frames.{level_law}
 use Rattle.level_balance.proofs.Plain.{is_plain}

@@ -10,7 +10,7 @@ use Rattle.rowed.specs.declared.row_cell.RowCell.{RowCell}
 use Rattle.rowed.specs.RowCells.{source_value, cell_value}
 use Rattle.rowed.specs.RowNets.{row_at, last_of, IsAnswer}
 use Rattle.rowed.specs.Code.RowByRow.{last_values, with_value, shown_from}
-use Rattle.rowed.specs.Code.RowAnswers.{evaluated_word, evaluated_answer, one_answer}
+use Rattle.rowed.proofs.RowAnswers.{evaluated_word, evaluated_answer, one_answer}
 use Rattle.rowed.specs.Slots.{AreSeated}
 use Rattle.rowed.specs.PlacedNets.{PlacedRow, PlacedView, IsPlaced, placed_rows, placed_of}
 use Rattle.list_orders.specs.Numbers.{place_of}

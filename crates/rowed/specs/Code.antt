@@ -1,3 +1,2 @@
--- Words of the crate's own code: evaluation row by row, and that it gives the answer.
+-- Words of the crate's own code: evaluation row by row.
 pub mod RowByRow
-pub mod RowAnswers

@@ -1,12 +1,25 @@
--- How many cells stand in rows, and how many wires end at them.
-use Rattle.std.specs.Prelude.{ℕ, ◌+◌, List, [], ◌∷◌, length, Option, Some, None}
+-- How many cells stand in rows, the number of each, and how many wires end at them.
+use Rattle.std.specs.Prelude.{◌≡◌, ℕ, ◌+◌, ◌<◌, List, [], ◌∷◌, length, take, Option, Some, None}
 use Rattle.rowed.specs.declared.source.Source.{Source}
 use Rattle.rowed.specs.declared.row_cell.RowCell.{RowCell}
+use Rattle.rowed.specs.RowNets.{row_at}
 
 -- the cells of all rows
 abbrev pub cells_in : List (List RowCell) → ℕ
 cells_in [] = 0
 cells_in (row ∷ rows) = length row + cells_in rows
+
+-- the number of the cell at a place of row r, where cells are numbered row by row: the cells of the rows before, and
+-- the place
+abbrev pub cell_number : List (List RowCell) → ℕ → ℕ → ℕ
+cell_number rows r place = cells_in (take r rows) + place
+
+-- the row and the place of the cell of a number
+pub record IsCellAt (rows : List (List RowCell)) (number : ℕ) : Type 0 where
+  pub row : ℕ
+  pub place : ℕ
+  pub within : place < length (row_at rows row)
+  pub number_is : number ≡ cell_number rows row place
 
 -- 1 for a pin with a source
 abbrev pub fed : Option Source → ℕ

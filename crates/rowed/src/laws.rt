@@ -1,8 +1,10 @@
-// The laws of placed nets: their rows by number, and the wires between two rows.
-ghost use Rattle.std.specs.Prelude.{◌≡◌, ℕ, ◌+◌, ◌<◌, ◌≤◌, length, slice_get, Some};
+// The laws of placed nets: their rows and cells by number, and the wires between two rows.
+ghost use Rattle.std.specs.Prelude.{◌≡◌, ℕ, ◌+◌, ◌<◌, ◌≤◌, List, length, slice_get, Some};
 ghost use Rattle.std.specs.List.{Contains};
 ghost use Rattle.rowed.specs.declared.source.Source.{Source};
-ghost use Rattle.rowed.specs.RowNets.{cell_at, fed_at};
+ghost use Rattle.rowed.specs.declared.row_cell.RowCell.{RowCell};
+ghost use Rattle.rowed.specs.RowNets.{row_at, cell_at, fed_at};
+ghost use Rattle.rowed.specs.Counts.{cells_in, cell_number, IsCellAt};
 ghost use Rattle.rowed.specs.Slots.{slot_limit};
 ghost use Rattle.rowed.specs.PlacedNets.{PlacedView, IsPlaced, placed_rows, row_of};
 ghost use Rattle.rowed.specs.Channels.{Link, IsChannel, User, channel_links, channel_slots, link_to};
@@ -13,6 +15,20 @@ pub fn rows_by_number()
     ensures count { (p : PlacedView) → IsPlaced p → length (placed_rows p) ≡ length p.net.rows }
     ensures row { (p : PlacedView) (k : ℕ) → IsPlaced p → k < length p.net.rows
         → slice_get (placed_rows p) k ≡ Some (row_of p k) }
+{}
+
+/// Cells that stand in rows are numbered row by row, and each number below their count is that of one cell: a row's
+/// numbers go on where those of the row before end, so lower rows have lower numbers.
+pub fn cells_by_number()
+    ensures below { (rows : List (List RowCell)) (r place : ℕ) → place < length (row_at rows r)
+        → cell_number rows r place < cells_in rows }
+    ensures next { (rows : List (List RowCell)) (r : ℕ)
+        → cell_number rows (r + 1) 0 ≡ cell_number rows r (length (row_at rows r)) }
+    ensures lower { (rows : List (List RowCell)) (q m r n : ℕ) → q < r → m < length (row_at rows q)
+        → cell_number rows q m < cell_number rows r n }
+    ensures one { (rows : List (List RowCell)) (q m r n : ℕ) → m < length (row_at rows q)
+        → n < length (row_at rows r) → cell_number rows q m ≡ cell_number rows r n → (q ≡ r) × (m ≡ n) }
+    ensures some { (rows : List (List RowCell)) (number : ℕ) → number < cells_in rows → IsCellAt rows number }
 {}
 
 /// Each channel of a placed net is one: each of its slots begins one wire at most and ends one at most, and all wires
