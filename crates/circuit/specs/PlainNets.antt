@@ -33,7 +33,7 @@ pub record AreGates (n : ℕ) (gates : List Gate) : Type 0 where
   pub one_at : slice_get gates (n + 1) ≡ Some One
   pub stands : (i : ℕ) (g : Gate) → slice_get gates i ≡ Some g → MayStand n i g
 
--- what a net of gates keeps: its gates stand where they may, and each of its outputs, of which there is one, names a gate
+-- what a net of gates keeps: its gates stand where they may, and each output names a gate; there is some output
 pub record IsPlainNet (net : PlainView) : Type 0 where
   pub gates_stand : AreGates net.inputs net.gates
   pub some_output : 0 < length net.outputs

@@ -19,5 +19,6 @@ pub record IsLevelled (net : PlainView) (three : Bool) (rows : RowView) : Type 0
 
 -- the plan has more cells, and the refusal says how many; 2^64 - 1 where there are more
 abbrev pub IsTooLarge : PlainView → Bool → LevelRefusal → Type 0
-IsTooLarge net three (TooManyCells cells) = (cell_limit < cell_count net three) × (cells ≡ capped (cell_count net three))
+IsTooLarge net three (TooManyCells cells) =
+    (cell_limit < cell_count net three) × (cells ≡ capped (cell_count net three))
 IsTooLarge net three Memory = ⊥

@@ -1,4 +1,4 @@
--- How far the rows reach, in slots, before they are placed and after; and the limits of a chip's cells, width and height.
+-- How far the rows reach, in slots, before they are placed and after; and the limits of a chip's cells, width, height.
 use Rattle.std.specs.Prelude.{ℕ, ◌+◌, ◌*◌, ◌<◌, ◌≤◌, max, List, [], ◌∷◌}
 use Rattle.circuit.specs.CellKinds.{slots_of}
 use Rattle.rowed.specs.declared.row_cell.RowCell.{RowCell}
