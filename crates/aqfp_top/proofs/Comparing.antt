@@ -16,7 +16,7 @@ use Rattle.aqfp_top.specs.Stages as stage
 use Rattle.aqfp_top.specs.Stages.{Stage, FindsNone, IsFirst, Answers}
 use Rattle.aqfp_top.specs.Due.{bytes_at, circuit_stages, comparing_stages, equal_stages}
 use Rattle.aqfp_top.specs.Faults.{IsEqualFault}
-use Rattle.aqfp_top.specs.Comparing.{MakesBoth, HasWidths, AreManyFunctions, HasManyFunctions, IsTrueOf, HasVerdict, IsToldOf, EqualPrints, verdict_text}
+use Rattle.aqfp_top.specs.Comparing.{MakesBoth, HasWidths, IsTrueOf, HasVerdict, IsToldOf, EqualPrints, verdict_text}
 use Rattle.aqfp_top.specs.Code.Staging.{OrMemory, ToldAnswers}
 use Rattle.aqfp_top.specs.Code.Loading.{IsFaultOfLoads}
 use Rattle.aqfp_top.specs.Code.Building.{IsOutOrMemory, IsReadOf}

@@ -9,7 +9,6 @@ use Rattle.std.proofs.lemmas.Bool.{and_parts}
 use Rattle.std.proofs.lemmas.Bool.Decides.{nat_tests}
 use Rattle.circuit.specs.declared.cell_kind.CellKind.{CellKind}
 use Rattle.circuit.specs.declared.cell_kind.CellKind.TheVariants.{Buffer, Inverter, Zero, One, Split2, Split3, Majority}
-use Rattle.geom.specs.Rectangle.{Rectangle}
 use Rattle.geom.specs.Writable.{names_in}
 use Rattle.geom.specs.declared.shapes.Label.{Label}
 use Rattle.geom.specs.declared.layout.Element.{Element}

@@ -24,7 +24,7 @@ use Rattle.shape_extract.specs.declared.extraction.ExtractRefusal.{ExtractRefusa
 use Rattle.shape_extract.specs.declared.extraction.ExtractRefusal.TheVariants.{Broken}
 use Rattle.chip_texts.specs.WordsText.{SaysWords, IsBadLine}
 use Rattle.aqfp_top.specs.Designs.{IsCellsFault}
-use Rattle.aqfp_top.specs.Checks.{IsLayoutOf, MakesCircuit, IsSound, IsUnruly, IsRuleFault}
+use Rattle.aqfp_top.specs.Checks.{IsLayoutOf, MakesCircuit, IsSound, IsRuleFault}
 use Rattle.aqfp_top.specs.Stages as stage
 use Rattle.aqfp_top.specs.Stages.{Stage, FindsNone, IsFirst, Answers}
 use Rattle.aqfp_top.specs.Due.{circuit_stages, judging_stages}

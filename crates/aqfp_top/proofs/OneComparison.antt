@@ -1,5 +1,5 @@
 -- Whether the counts of a chip and of a netlist are the same has one answer.
-use Rattle.std.proofs.Common.{ℕ, ◌≡◌, List, length, sym, ap, subst, ◌∙◌}
+use Rattle.std.proofs.Common.{ℕ, ◌≡◌, List, length, sym, ap, ◌∙◌}
 use Rattle.geom.specs.declared.shapes.Flat.{Flat}
 use Rattle.poly_cut.specs.declared.layout.WideLayout.{WideLayout}
 use Rattle.gds_records.specs.Stream.{IsWideStream}

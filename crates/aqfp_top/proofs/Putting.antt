@@ -1,5 +1,5 @@
 -- What an attempt to put a line leaves.
-use Rattle.std.proofs.Common.{ℕ, ◌⊎◌, inl, inr, Result, Ok, Err, OnOk, OnErr, IsErrOf, ◌≡◌, ◌<◌, List, length, take, Option, refl, arith}
+use Rattle.std.proofs.Common.{ℕ, ◌⊎◌, inl, inr, Result, Ok, Err, OnOk, OnErr, IsErrOf, ◌≡◌, List, length, Option, refl, arith}
 use Rattle.std.proofs.Math.Seq.{take-length}
 use Rattle.aq_base.specs.Causes.{Rose, HasCause}
 use Rattle.aq_base.specs.declared.store.StoreRefusal.{StoreRefusal}

@@ -2,7 +2,7 @@
 use Rattle.std.proofs.Common.{ℕ, ◌≡◌, ◌<◌, ◌≤◌, List, length, arith, Option, Some, None, Result, Ok, Err, IfErr, inl, inr, refl, subst}
 use Rattle.aq_base.specs.Store.{Contents}
 use Rattle.aqfp_top.specs.Words.{IsBuild, IsVerify, IsTrace, IsEqual, IsWrite, IsCheck, IsSampleOf, HasForm}
-use Rattle.aqfp_top.specs.Loads.{build_loads, check_loads, equal_loads, write_loads, IsLoaded, IsPast}
+use Rattle.aqfp_top.specs.Loads.{build_loads, check_loads, write_loads, IsLoaded, IsPast}
 use Rattle.aqfp_top.specs.Stages.{Answers as StagesAnswer}
 use Rattle.aqfp_top.specs.Due.{MayAnswer, build_stages, check_stages, equal_stages, write_stages, sample_stages}
 use Rattle.aqfp_top.specs.Faults.{IsBuildFault, IsCheckFault, IsEqualFault, IsWritingFault, IsSampleFault, RunsOnly}

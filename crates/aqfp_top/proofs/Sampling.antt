@@ -15,7 +15,7 @@ use Rattle.sample_adder.specs.Adder.{adder}
 use Rattle.sample_adder.specs.EightWords.{eight}
 use Rattle.aqfp_top.specs.Designs.{KeepsLimits, IsPlainFault, IsPlanFault}
 use Rattle.aqfp_top.specs.Stages as stage
-use Rattle.aqfp_top.specs.Stages.{Stage, Finds, FindsNone, IsFirst, Answers}
+use Rattle.aqfp_top.specs.Stages.{Finds, FindsNone, IsFirst, Answers}
 use Rattle.aqfp_top.specs.Due.{sample_stages}
 use Rattle.aqfp_top.specs.Faults.{IsSampleFault}
 use Rattle.aqfp_top.specs.Samples.{SamplePrints}
@@ -26,10 +26,10 @@ use Rattle.aqfp_top.specs.Code.Designing.{AreCountsOf, IsChipOf, PassesNone}
 use Rattle.aqfp_top.specs.Code.Sampling.{IsSampleOfBits, IsMakingFault}
 use Rattle.aqfp_top.specs.declared.sample.SampleResult.{SampleResult}
 use Rattle.aqfp_top.specs.declared.design.Chip.{Chip}
-use Rattle.aqfp_top.specs.declared.fault.Large.TheVariants.{Slots, Rows, Cells, Elements, Shapes, Functions, Design}
+use Rattle.aqfp_top.specs.declared.fault.Large.TheVariants.{Slots, Rows, Cells, Elements, Shapes}
 use Rattle.aqfp_top.specs.declared.fault.WriteCall.TheVariants.{Create, Append, Close, Out}
 use Rattle.aqfp_top.specs.declared.fault.Fault.{Fault}
-use Rattle.aqfp_top.specs.declared.fault.Fault.TheVariants.{WriteFault, BadBlif, BadDesign, TooLarge, Memory}
+use Rattle.aqfp_top.specs.declared.fault.Fault.TheVariants.{WriteFault, BadBlif, TooLarge, Memory}
 use Rattle.aqfp_top.proofs.EachFault.{each_out}
 use Rattle.aqfp_top.proofs.Staging.{past, found}
 use Rattle.aqfp_top.proofs.OneFault.{says_no_plain_fault, one_plain}

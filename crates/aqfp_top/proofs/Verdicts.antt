@@ -16,7 +16,7 @@ use Rattle.chip_circuit.specs.Answers.{IsAnswer}
 use Rattle.circuit.specs.CellNets.{IsCells, value}
 use Rattle.circuit.proofs.CellAnswers.{some_answer, the_answer}
 use Rattle.decide.specs.Subfunctions.{HasAtMost}
-use Rattle.decide.specs.Verdicts.{shown, Before, IsLeastDifference, IsVerdict, IsRefusal}
+use Rattle.decide.specs.Verdicts.{shown, IsLeastDifference, IsVerdict, IsRefusal}
 use Rattle.decide.specs.declared.refusal.DecideRefusal.TheVariants.{TooMany}
 use Rattle.decide.specs.declared.verdict.Verdict.{Verdict}
 use Rattle.decide.specs.declared.verdict.Verdict.TheVariants.{Equal, Differ}

@@ -19,9 +19,8 @@ use Rattle.decide.specs.declared.verdict.Verdict.{Verdict}
 use Rattle.decide.specs.declared.verdict.Verdict.TheVariants.{Equal, Differ}
 use Rattle.chip_texts.specs.WordLines.{word_line}
 use Rattle.aqfp_top.specs.Checks.{ToldTexts, MakesCircuit}
-use Rattle.aqfp_top.specs.declared.fault.Large.TheVariants.{Functions, Design}
 use Rattle.aqfp_top.specs.declared.fault.Fault.{Fault}
-use Rattle.aqfp_top.specs.declared.fault.Fault.TheVariants.{WriteFault, TooLarge, Widths, Memory}
+use Rattle.aqfp_top.specs.declared.fault.Fault.TheVariants.{WriteFault, Widths, Memory}
 
 -- the texts of a layout and of a library make this circuit, and that of a netlist says these equations
 pub record MakesBoth (gds lib net : List ℕ) (circuit : CircuitView) (view : NetView) : Type 0 where

@@ -10,7 +10,7 @@ use Rattle.aqfp_top.specs.Stages.{Stage, IsFirst}
 use Rattle.aqfp_top.specs.Comparing.{HasManyFunctions}
 use Rattle.aqfp_top.specs.declared.words.Form.{Form}
 use Rattle.aqfp_top.specs.declared.words.Form.TheVariants.{Build, Verify, Trace, Equal, Write, Sample, Wrong}
-use Rattle.aqfp_top.specs.declared.fault.Large.TheVariants.{Functions, Design}
+use Rattle.aqfp_top.specs.declared.fault.Large.TheVariants.{Functions}
 use Rattle.aqfp_top.specs.declared.fault.Fault.{Fault}
 use Rattle.aqfp_top.specs.declared.fault.Fault.TheVariants.{TooLong, ReadFault, WriteFault, TooLarge, Memory}
 

@@ -5,7 +5,7 @@ use Rattle.aqfp_top.specs.Loads.{Load}
 use Rattle.aqfp_top.specs.Designs.{HasNetlist, HasDesign, IsNetlistFault, IsPlainFault, IsCellsFault, IsPlanFault}
 use Rattle.aqfp_top.specs.Checks.{IsStreamFault, IsSizeFault, IsRuleFault, IsWordsFault}
 use Rattle.aqfp_top.specs.Comparing.{IsWidthsFault, HasManyFunctions}
-use Rattle.aqfp_top.specs.declared.fault.Large.TheVariants.{Functions, Design}
+use Rattle.aqfp_top.specs.declared.fault.Large.TheVariants.{Functions}
 use Rattle.aqfp_top.specs.declared.fault.Fault.{Fault}
 use Rattle.aqfp_top.specs.declared.fault.Fault.TheVariants.{Usage, Absent, TooLong, ReadFault, WriteFault, TooLarge}
 use Rattle.aqfp_top.specs.declared.fault.Fault.TheVariants.{Memory}

@@ -3,7 +3,7 @@ ghost use Rattle.std.specs.Prelude.{◌≡◌, ◌≤◌, Some, None, length, Is
 ghost use Rattle.std.specs.Result.{result_err};
 ghost use Rattle.aq_base.specs.Causes.{Rose};
 ghost use Rattle.geom.specs.Writable.{IsWritable};
-ghost use Rattle.aqfp_top.specs.Words.{spelled, word_at};
+ghost use Rattle.aqfp_top.specs.Words.{spelled};
 ghost use Rattle.aqfp_top.specs.Counted.{HasFaults, FailedLoad};
 ghost use Rattle.aqfp_top.specs.Loads.{net_limit, lib_limit, build_loads};
 ghost use Rattle.aqfp_top.specs.Due.{build_stages};

@@ -1,19 +1,17 @@
 // `verify GDS LIB WORDS` and `trace GDS LIB WORDS`.
-ghost use Rattle.std.specs.Prelude.{◌≡◌, ◌≤◌, ◌^◌, ◌<◌, ℕ, All, List, ◌∷◌, Some, None, length, IsErrOf, IsSome, IfOk, IfErr, OnOk, OnErr};
+ghost use Rattle.std.specs.Prelude.{◌≡◌, ◌^◌, ◌<◌, ℕ, All, List, Some, None, length, IsErrOf, IsSome, IfOk, IfErr, OnOk, OnErr};
 ghost use Rattle.std.specs.Result.{result_err};
-ghost use Rattle.aq_base.specs.Causes.{Rose, HasCause};
+ghost use Rattle.aq_base.specs.Causes.{Rose};
 ghost use Rattle.aq_base.specs.Store.{gained, GainsPrefix};
 ghost use Rattle.chip_texts.specs.WordsText.{words_of, SaysWords};
-ghost use Rattle.aqfp_top.specs.Words.{spelled, word_at};
+ghost use Rattle.aqfp_top.specs.Words.{spelled};
 ghost use Rattle.aqfp_top.specs.Counted.{HasFaults, FailedLoad};
-ghost use Rattle.aqfp_top.specs.Loads.{gds_limit, lib_limit, words_limit, check_loads};
-ghost use Rattle.aqfp_top.specs.Stages.{Stage, Stream, Size, Rules, FindsNone, IsFirst, Answers};
+ghost use Rattle.aqfp_top.specs.Stages.{IsFirst, Answers};
 ghost use Rattle.aqfp_top.specs.Due.{check_stages, circuit_stages, judging_stages};
 ghost use Rattle.aqfp_top.specs.Faults.{IsCheckFault};
-ghost use Rattle.aqfp_top.specs.Checks.{ToldTexts, IsRuleFault, IsSound, MakesCircuit, CheckPrints, text_of};
-ghost use Rattle.aqfp_top.specs.Code.Staging.{OrMemory, ToldAnswers};
-ghost use Rattle.aqfp_top.specs.Code.Loading.{IsFaultOfLoads};
-ghost use Rattle.aqfp_top.specs.Code.Building.{IsReadOf, IsOutOrMemory};
+ghost use Rattle.aqfp_top.specs.Checks.{MakesCircuit, CheckPrints, text_of};
+ghost use Rattle.aqfp_top.specs.Code.Staging.{ToldAnswers};
+ghost use Rattle.aqfp_top.specs.Code.Building.{IsOutOrMemory};
 ghost use Rattle.aqfp_top.specs.Code.Checking.{IsJudgingFault};
 
 use crate::fault::{Fault, WriteCall};

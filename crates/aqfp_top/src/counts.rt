@@ -1,5 +1,5 @@
 // The counts of a chip, and their line.
-ghost use Rattle.std.specs.Prelude.{◌≡◌, ◌+◌, ◌<◌, ◌^◌, length, OnOk, OnErr, IsErrOf, IfErr};
+ghost use Rattle.std.specs.Prelude.{◌≡◌, ◌<◌, ◌^◌, OnOk, OnErr, IsErrOf, IfErr};
 ghost use Rattle.aq_base.specs.Causes.{Rose};
 ghost use Rattle.aq_base.specs.Store.{gained, GainsPrefix};
 ghost use Rattle.rowed.specs.Counts.{cells_in, wires_in};

@@ -1,8 +1,7 @@
 // Texts that are put piece by piece, without taking memory: they wait on a page of the stack.
-ghost use Rattle.std.specs.Prelude.{◌≡◌, ◌≤◌, ◌⊎◌, ◌∷◌, ◌++◌, ◌<◌, OnOk, OnErr, IsErrOf, ℕ, length};
+ghost use Rattle.std.specs.Prelude.{◌≡◌, ◌∷◌, ◌++◌, ◌<◌, OnOk, OnErr, IsErrOf};
 ghost use Rattle.std.specs.Fmt.{decimal};
-ghost use Rattle.std.specs.List.{flat_map};
-ghost use Rattle.aq_base.specs.Causes.{Rose, HasCause};
+ghost use Rattle.aq_base.specs.Causes.{HasCause};
 ghost use Rattle.aq_base.specs.Store.{gained, GainsPrefix};
 ghost use Rattle.aqfp_top.specs.Lines.{signals_text, integer_text, pair_text};
 ghost use Rattle.aqfp_top.specs.Code.Pages.{Pends};

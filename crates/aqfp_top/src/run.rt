@@ -1,9 +1,9 @@
 // The top call.
-ghost use Rattle.std.specs.Prelude.{◌≡◌, ◌⊎◌, Some, None, IsSome, IfSome, IfOk, IfErr, List, ℕ};
+ghost use Rattle.std.specs.Prelude.{◌≡◌, ◌⊎◌, Some, None, IsSome, IfSome, IfOk, IfErr};
 ghost use Rattle.std.specs.Result.{result_err};
 ghost use Rattle.aq_base.specs.Causes.{Rose};
 ghost use Rattle.aq_base.specs.Store.{Contents};
-ghost use Rattle.aqfp_top.specs.Words.{spelled, word_at, IsBuild, IsVerify, IsTrace, IsEqual, IsWrite, HasForm};
+ghost use Rattle.aqfp_top.specs.Words.{spelled, IsBuild, IsVerify, IsTrace, IsEqual, IsWrite, HasForm};
 ghost use Rattle.aqfp_top.specs.Statuses.{status_of};
 ghost use Rattle.aqfp_top.specs.Lines.{Reports};
 ghost use Rattle.aqfp_top.specs.Due.{MayAnswer};

@@ -11,13 +11,13 @@ use Rattle.circuit.specs.declared.cell_kind.CellKind.TheVariants.{Buffer}
 use Rattle.circuit.specs.SameAnswers.{SameAnswers}
 use Rattle.rowed.specs.declared.source.Source.{Source}
 use Rattle.rowed.specs.declared.row_cell.RowCell.{RowCell}
-use Rattle.rowed.specs.RowCells.{source_at, source_value, bit_or}
+use Rattle.rowed.specs.RowCells.{source_value, bit_or}
 use Rattle.rowed.specs.RowCells as rowed
 use Rattle.rowed.specs.RowNets.{cell_at, outputs_at, output_at, is_input, IsBefore, MayStand, last_of, IsAnswer}
 use Rattle.rowed.specs.PlacedNets.{PlacedView, IsPlaced}
 use Rattle.list_orders.specs.Numbers.{numbers}
 use Rattle.chip_circuit.specs.declared.cells.ExCell.{ExCell}
-use Rattle.chip_circuit.specs.Answers.{feed_value, cell_value, IsValuation, values_at}
+use Rattle.chip_circuit.specs.Answers.{feed_value, cell_value, values_at}
 use Rattle.chip_circuit.specs.Answers as extracted
 use Rattle.layout_make.specs.Spots.{spots, has_port, output_port}
 use Rattle.layout_make.specs.declared.spots.Spot.{Spot}

@@ -61,7 +61,7 @@ use Rattle.layout_make.proofs.Labelled.{input_marked, output_marked}
 use Rattle.layout_make.proofs.SecondLaw.{second_law}
 use Rattle.layout_make.proofs.FirstLawKept.{first_law}
 use Rattle.layout_make.proofs.KeptLines.{frame_excited}
-use Rattle.layout_make.proofs.Wiring.{flat, Ports, rows_are, row_labelled, labelled_row, tag_layer}
+use Rattle.layout_make.proofs.Wiring.{flat, Ports, rows_are, labelled_row}
 use Rattle.layout_make.proofs.Wiring as wiring
 use Rattle.layout_make.proofs.LabelRule.{shape_is, in_columns, out_columns, rows_count, entries_are, exits_are}
 use Rattle.layout_make.proofs.LabelRule.{input_label_at, output_label_at, input_numbered, output_numbered}

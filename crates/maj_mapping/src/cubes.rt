@@ -1,7 +1,5 @@
 // The gates of a definition by its cubes.
-ghost use Rattle.std.specs.Prelude.{◌≡◌, ◌<◌, ◌++◌, length, IfOk, OnOk, true};
-ghost use Rattle.std.specs.List.{list_all};
-ghost use Rattle.blif_read.specs.Faults.{is_plane_byte};
+ghost use Rattle.std.specs.Prelude.{◌≡◌, ◌<◌, ◌++◌, length, IfOk, OnOk};
 ghost use Rattle.circuit.specs.PlainNets.{AreGates};
 ghost use Rattle.maj_mapping.specs.Code.MakerView.{with_gates};
 ghost use Rattle.maj_mapping.specs.Code.Literals.{literal};

@@ -1,5 +1,5 @@
 // Makes gates: each operation in constant time, with its simplifications.
-ghost use Rattle.std.specs.Prelude.{◌≡◌, ◌<◌, ◌≤◌, ◌+◌, ◌^◌, ◌∷◌, ◌++◌, [], length, IfOk, OnOk, None};
+ghost use Rattle.std.specs.Prelude.{◌≡◌, ◌<◌, ◌+◌, ◌^◌, ◌∷◌, ◌++◌, [], length, IfOk, OnOk, None};
 ghost use Rattle.circuit.specs.declared.gate.Gate.TheVariants as gates;
 ghost use Rattle.maj_mapping.specs.Code.MakerView.{MakerView, with_gates};
 ghost use Rattle.maj_mapping.specs.Operations.{side, inv, and, or, maj, inverter_from};

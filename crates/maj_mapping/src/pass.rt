@@ -1,5 +1,5 @@
 // The first pass: from a netlist to a net of majorities and inverters.
-ghost use Rattle.std.specs.Prelude.{◌≡◌, ◌+◌, ◌++◌, map, length, IfOk};
+ghost use Rattle.std.specs.Prelude.{◌≡◌, map, IfOk};
 ghost use Rattle.blif_read.specs.Netlist.{IsNetlist};
 ghost use Rattle.maj_mapping.specs.Plan.{first_map};
 ghost use Rattle.maj_mapping.specs.Passes.{IsMappedNet};

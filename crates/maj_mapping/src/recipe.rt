@@ -1,5 +1,5 @@
 // Runs recipes over gates.
-ghost use Rattle.std.specs.Prelude.{◌≡◌, ◌<◌, length, IfOk, OnOk, List};
+ghost use Rattle.std.specs.Prelude.{◌≡◌, ◌<◌, length, IfOk, OnOk};
 ghost use Rattle.circuit.specs.PlainNets.{AreGates};
 ghost use Rattle.case_tables.specs.Recipes.{operand_is};
 ghost use Rattle.maj_mapping.specs.Code.MakerView.{with_gates};

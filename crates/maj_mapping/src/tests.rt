@@ -1,5 +1,5 @@
 // Netlists that are read from texts: the gates of their nets, and what both answer.
-ghost use Rattle.std.specs.Prelude.{◌≡◌, ◌≤◌, ◌<◌, ◌^◌, length, IfOk};
+ghost use Rattle.std.specs.Prelude.{◌≤◌, ◌<◌, ◌^◌, length};
 
 use crate::MapPass;
 use aq_base::{List, Memory};

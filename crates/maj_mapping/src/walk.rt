@@ -1,5 +1,5 @@
 // The depth-first walk over the definitions, with a stack of its own.
-ghost use Rattle.std.specs.Prelude.{◌≡◌, ◌<◌, ◌≤◌, ◌+◌, ◌^◌, ℕ, map, length, IfOk, OnOk};
+ghost use Rattle.std.specs.Prelude.{◌≡◌, ◌<◌, ◌≤◌, ◌+◌, map, IfOk, OnOk};
 ghost use Rattle.blif_read.specs.Netlist.{IsNetlist};
 ghost use Rattle.maj_mapping.specs.Plan.{gate_or, signals, leave};
 ghost use Rattle.maj_mapping.specs.Code.Walks.{walk, mapping, IsStanding};

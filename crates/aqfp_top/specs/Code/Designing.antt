@@ -11,7 +11,7 @@ use Rattle.chip_plan.specs.Plans.{chip_of}
 use Rattle.aqfp_top.specs.Designs.{SaysDesign, KeepsLimits, IsPlanFault, stream_of}
 use Rattle.aqfp_top.specs.declared.counts.ChipCounts.{ChipCounts}
 use Rattle.aqfp_top.specs.declared.design.Chip.{Chip}
-use Rattle.aqfp_top.specs.declared.fault.Large.TheVariants.{Shapes, Functions, Design}
+use Rattle.aqfp_top.specs.declared.fault.Large.TheVariants.{Shapes, Functions}
 use Rattle.aqfp_top.specs.declared.fault.Fault.{Fault}
 use Rattle.aqfp_top.specs.declared.fault.Fault.TheVariants.{BadBlif, BadDesign, BadLibrary, MissingCell, TooLarge}
 use Rattle.aqfp_top.specs.declared.fault.Fault.TheVariants.{Memory}

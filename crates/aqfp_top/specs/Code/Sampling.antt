@@ -13,7 +13,7 @@ use Rattle.aqfp_top.specs.Code.Designing.{AreCountsOf}
 use Rattle.aqfp_top.specs.declared.sample.SampleResult.{SampleResult}
 use Rattle.aqfp_top.specs.declared.fault.Large.TheVariants.{Shapes, Functions, Design}
 use Rattle.aqfp_top.specs.declared.fault.Fault.{Fault}
-use Rattle.aqfp_top.specs.declared.fault.Fault.TheVariants.{BadBlif, BadDesign, TooLarge, Memory}
+use Rattle.aqfp_top.specs.declared.fault.Fault.TheVariants.{BadBlif, TooLarge, Memory}
 
 -- the counts of the chip of the adder, and the adder's answers
 pub record IsSampleOfBits (bits : ℕ) (sample : SampleResult) : Type 0 where

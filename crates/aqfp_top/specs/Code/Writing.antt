@@ -1,5 +1,5 @@
 -- The steps of writing a chip's netlist.
-use Rattle.std.specs.Prelude.{ℕ, ◌≡◌, length}
+use Rattle.std.specs.Prelude.{◌≡◌, length}
 use Rattle.chip_circuit.specs.Circuits.{CircuitView}
 use Rattle.aqfp_top.specs.Faults.{IsWritingFault}
 use Rattle.aqfp_top.specs.declared.counts.ChipCounts.{ChipCounts}

@@ -1,4 +1,4 @@
-use Rattle.std.proofs.Common.{◌≡◌, ◌<◌, ◌∷◌, length, get_or, rules}
+use Rattle.std.proofs.Common.{◌≡◌, ◌<◌, length, get_or, rules}
 use Rattle.std.proofs.lemmas.Result.{err_from_is_err_and}
 use Rattle.aqfp_top.specs.Code.Pieces.{piece_text}
 use Rattle.aqfp_top.proofs.Pending.{pends_item, prefix_item}

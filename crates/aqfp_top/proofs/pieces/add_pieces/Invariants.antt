@@ -1,4 +1,4 @@
-use Rattle.std.proofs.Common.{◌≤◌, ◌∷◌, ◌++◌, take}
+use Rattle.std.proofs.Common.{◌≤◌, ◌++◌, take}
 use Rattle.std.specs.List.{flat_map}
 use Rattle.aqfp_top.specs.Code.Pages.{Pends}
 use Rattle.aqfp_top.specs.Code.Pieces.{piece_text}
