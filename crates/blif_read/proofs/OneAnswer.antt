@@ -84,12 +84,11 @@ solution_fits net word v s = record {
 -- for each word some values of the signals fit it
 pub some_valuation : (net : NetView) (word : List Bool) → IsNetlist net → (v : ℕ → Bool)
     × Fits net.inputs net.defs word v
-some_valuation net word ok =
-    (
-      _,
-      solution_fits net word _ (some_solution ok.no_cycle.rank (equation net word)
+some_valuation net word ok = (
+  _,
+  solution_fits net word _ (some_solution ok.no_cycle.rank (equation net word)
       (is_ranked net word ok.no_cycle.rank ok.no_cycle.ranked)),
-    )
+)
 
 -- a netlist answers each word
 pub some_answer : (net : NetView) (word : List Bool) → IsNetlist net → (answer : List Bool) × IsAnswer net word answer

@@ -10,6 +10,7 @@ ghost use Rattle.blif_read.specs.Code.Sections.{with_line};
 use crate::cover::rows;
 use crate::lines::{Lines, LogicalLine};
 use crate::netlist::Cube;
+use crate::rooms::rooms_of;
 use crate::statements::{arguments, front_of, last_of};
 use crate::token_list::Tokens;
 use crate::words::Statement;
@@ -78,7 +79,7 @@ fn first_name(alloc: Global, names: Tokens<'_>) -> Result<ShortBytes, Memory>
 fn copies(alloc: Global, names: Tokens<'_>) -> Result<List<ShortBytes>, Memory>
     ensures { IfOk result (λ copies. copies ≡ names.entry) }
 {
-    let mut copies = List::new(alloc);
+    let mut copies = List::from_vec(Vec::with_capacity(alloc, names.len())?);
     let mut rest = names;
     'names: while let Some(name) = rest.take_first() {
         let copy = ShortBytes::copy(alloc, name)?;
@@ -144,7 +145,7 @@ fn ports(alloc: Global, tokens: Tokens<'_>) -> Result<(List<Port>, bool), Memory
     ensures ports { IfOk result (λ r. r.0 ≡ flat_map ports_in tokens.entry) }
     ensures all { IfOk result (λ r. r.1 ≡ list_all is_port tokens.entry) }
 {
-    let mut ports = List::new(alloc);
+    let mut ports = List::from_vec(Vec::with_capacity(alloc, tokens.len())?);
     let mut all = true;
     let mut rest = tokens;
     'tokens: while let Some(token) = rest.take_first() {
@@ -242,18 +243,19 @@ fn head(alloc: Global, lines: &Lines<'_>) -> Result<(u64, ShortBytes), Memory>
     }
 }
 
-/// The model that its lines say.
+/// The model that its lines say. Room for its lists is taken ahead.
 pub fn model_of(alloc: Global, lines: &Lines<'_>) -> Result<BlifModel, Memory>
     ensures { IfOk result (λ model. model ≡ model_of lines.now) }
 {
     let (number, name) = head(alloc, lines)?;
+    let rooms = rooms_of(lines);
     let mut model = BlifModel {
         line: number,
         name,
-        inputs: List::new(alloc),
-        outputs: List::new(alloc),
-        defs: List::new(alloc),
-        calls: List::new(alloc),
+        inputs: List::from_vec(Vec::with_capacity(alloc, rooms.inputs)?),
+        outputs: List::from_vec(Vec::with_capacity(alloc, rooms.outputs)?),
+        defs: List::from_vec(Vec::with_capacity(alloc, rooms.defs)?),
+        calls: List::from_vec(Vec::with_capacity(alloc, rooms.calls)?),
     };
     let mut rest = lines.copy();
     'lines: while let Some(line) = rest.take_first() {

@@ -1,5 +1,5 @@
 // A text of several models, read model by model.
-ghost use Rattle.std.specs.Prelude.{◌≡◌, ◌≤◌, ◌<◌, ◌^◌, ◌∷◌, map, length, drop, IfOk, OnOk, IfErr, IfSome, Some, None};
+ghost use Rattle.std.specs.Prelude.{◌≡◌, ◌≤◌, ◌<◌, ◌^◌, ◌∷◌, [], map, length, drop, IfOk, OnOk, IfErr, IfSome, Some, None};
 ghost use Rattle.std.specs.List.{position};
 ghost use Rattle.std.specs.Option.{option_map};
 ghost use Rattle.blif_read.specs.Statements.{word, is_model};
@@ -11,6 +11,7 @@ use crate::faults::line_fault;
 use crate::lines::{Lines, LogicalLine};
 use crate::models::{BlifModel, model_of};
 use crate::netlist::BlifRefusal;
+use crate::rooms::model_room;
 use crate::words::Statement;
 use aq_base::{List, Memory};
 use name_hash::NameHash;
@@ -62,6 +63,13 @@ fn first_part<'a>(lines: &Lines<'a>) -> (Lines<'a>, Option<Lines<'a>>)
     }
 }
 
+/// No model yet, and room for so many.
+fn no_models(alloc: Global, room: usize) -> Result<List<BlifModel>, Memory>
+    ensures { IfOk result (λ models. models ≡ []) }
+{
+    Ok(List::from_vec(Vec::with_capacity(alloc, room)?))
+}
+
 /// The models that lines say, each taken by itself, or the first fault of one of them.
 pub fn models_in(
     alloc: Global,
@@ -73,7 +81,7 @@ pub fn models_in(
     ensures bad { IfErr result (λ refusal. IfBad refusal (λ fault. models_fault (parts_of lines.now)
         ≡ Some fault)) }
 {
-    let mut models = List::new(alloc);
+    let mut models = no_models(alloc, model_room(lines))?;
     let mut rest = Some(lines.copy());
     while let Some(left) = rest {
         let (part, more) = first_part(&left);

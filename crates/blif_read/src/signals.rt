@@ -62,9 +62,10 @@ fn insert_defined(alloc: Global, names: &mut Names, line: LogicalLine<'_>) -> Re
     }
 }
 
-/// The names of the inputs, and then those of the defined signals, for which room is taken ahead.
-pub fn signals(alloc: Global, hash: NameHash, lines: &Lines<'_>) -> Result<Names, Memory>
-    ensures { IfOk result (λ names. names.keys ≡ insert_all bytes_eq [] (signals lines.now)) }
+/// The names of the inputs, and then those of the defined signals, for which room is taken ahead; and how many lines
+/// define one, on which only room depends.
+pub fn signals(alloc: Global, hash: NameHash, lines: &Lines<'_>) -> Result<(Names, usize), Memory>
+    ensures { IfOk result (λ r. r.0.keys ≡ insert_all bytes_eq [] (signals lines.now)) }
 {
     let mut names = IndexSet::with_hasher(alloc, hash);
     let mut definitions: usize = 0;
@@ -80,7 +81,7 @@ pub fn signals(alloc: Global, hash: NameHash, lines: &Lines<'_>) -> Result<Names
     'defined: while let Some(line) = rest.take_first() {
         insert_defined(alloc, &mut names, line)?;
     }
-    Ok(names)
+    Ok((names, definitions))
 }
 
 /// Adds the numbers of names, and answers whether each has one.
