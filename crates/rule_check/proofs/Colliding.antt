@@ -12,7 +12,7 @@ use Rattle.layout_rules.specs.Layers.{is_frame}
 use Rattle.layout_rules.specs.Reports.{PassTogether}
 use Rattle.layout_rules.specs.GeometryRules.{collide, FramesBroken}
 use Rattle.shape_extract.specs.Searches.{FindsAt, AreThose, passes_in}
-use Rattle.shape_extract.specs.Code.Sharing.{sharing_close}
+use Rattle.shape_extract.proofs.Sharing.{sharing_close}
 use Rattle.rule_check.specs.Code.Cover.{any_at}
 use Rattle.rule_check.specs.Code.Bands.{collide_across, frames_overlap, band_of, AreBands, CollidesWithNone}
 use Rattle.rule_check.proofs.Geometry.{any_at_here}

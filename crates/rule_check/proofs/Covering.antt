@@ -22,7 +22,7 @@ use Rattle.shape_extract.specs.Searches.{FindsAt, passes_in}
 use Rattle.shape_extract.specs.declared.planes.Plane.{Plane}
 use Rattle.shape_extract.specs.declared.planes.Plane.TheVariants.{Lower, Frames}
 use Rattle.shape_extract.specs.Planes.{in_plane, AreNearIn}
-use Rattle.shape_extract.specs.Code.Sharing.{sharing_close, overlap_shares}
+use Rattle.shape_extract.proofs.Sharing.{sharing_close, overlap_shares}
 use Rattle.shape_extract.proofs.InPlanes.{pin_lower}
 use Rattle.rule_check.specs.Code.Cover.{is_at_pin_of, any_at, may_trespass, trespasses_by, FindsTrespass}
 use Rattle.rule_check.proofs.Geometry.{any_at_here, any_at_found}

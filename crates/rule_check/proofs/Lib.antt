@@ -1,3 +1,4 @@
+mod Closeness
 mod Geometry
 mod Covering
 mod Lengthy

@@ -142,8 +142,6 @@ struct Cover<'a> {
 }
 
 impl<'a> Part for Cover<'a> {
-    ghost use Rattle.std.proofs.lemmas.Option.{slice_get_within};
-
     ghost valid = { λ s. (length s.shapes.now < 2 ^ 32) × ArePlanes s.shapes.now s.planes.now };
 
     ghost count = { λ s. length s.shapes.now };
@@ -157,8 +155,6 @@ impl<'a> Part for Cover<'a> {
     fn second(&self, a: u32, found: &mut Vec<u32>) -> Result<Option<u32>, Memory> {
         find_trespass(self.alloc, self.shapes, self.planes, a, found)
     }
-
-    ghost within = { λ s a b valid h. slice_get_within s.shapes.now a h.first h.first_is };
 }
 
 /// The first metal or via over a cell.

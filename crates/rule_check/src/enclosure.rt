@@ -52,8 +52,6 @@ struct Encloses {
 }
 
 impl PairTest for Encloses {
-    ghost use Rattle.rule_check.specs.Code.Close.{encloses_close};
-
     ghost passes = { λ t a b. encloses t.layer t.margin a b };
 
     ghost reach = { λ t. 0 };
@@ -62,7 +60,9 @@ impl PairTest for Encloses {
         b.layer == self.layer && is_within_by(self.margin, &a.rect, &b.rect)
     }
 
-    ghost close = { λ t a b p q h. encloses_close t.layer t.margin a b p h };
+    fn reach(&self) -> u64 {
+        0
+    }
 }
 
 /// Whether a shape of the layer, which lies in the plane, reaches past this one by the margin.
@@ -81,7 +81,6 @@ fn is_covered(
 {
     list_passing(
         &Encloses { layer, margin },
-        0,
         plane,
         via,
         shapes,
@@ -122,8 +121,6 @@ struct Enclosure<'a> {
 }
 
 impl<'a> Part for Enclosure<'a> {
-    ghost use Rattle.std.proofs.lemmas.Option.{slice_get_within};
-
     ghost valid = { λ s. (length s.shapes.now < 2 ^ 32) × ArePlanes s.shapes.now s.planes.now };
 
     ghost count = { λ s. length s.shapes.now };
@@ -140,8 +137,6 @@ impl<'a> Part for Enclosure<'a> {
         }
         Ok(None)
     }
-
-    ghost within = { λ s a b valid h. slice_get_within s.shapes.now a h.0.shape h.0.shape_is };
 }
 
 /// The first via that metal does not enclose.

@@ -41,7 +41,7 @@ fn collide(a: &Shape, b: &Shape) -> bool
 struct Overlap;
 
 impl PairTest for Overlap {
-    ghost use Rattle.rule_check.specs.Code.Bands.{frames_overlap, overlap_close};
+    ghost use Rattle.rule_check.specs.Code.Bands.{frames_overlap};
 
     ghost passes = { λ t a b. frames_overlap a b };
 
@@ -51,7 +51,9 @@ impl PairTest for Overlap {
         is_frame(a) && is_frame(b) && overlaps(&a.rect, &b.rect)
     }
 
-    ghost close = { λ t a b p q h. overlap_close a b h };
+    fn reach(&self) -> u64 {
+        0
+    }
 }
 
 /// The band over which a frame reaches, drawn one nanometre wide at the left.
@@ -189,7 +191,6 @@ struct Frames<'a> {
 }
 
 impl<'a> Part for Frames<'a> {
-    ghost use Rattle.std.proofs.lemmas.Option.{slice_get_within};
     ghost use Rattle.rule_check.specs.Code.FiledRows.{AreFiledRows};
 
     ghost valid = { λ s. AreFiledRows s.rows.now };
@@ -212,8 +213,6 @@ impl<'a> Part for Frames<'a> {
         let other = first_colliding(self.rows.shapes, a);
         Ok(other)
     }
-
-    ghost within = { λ s a b valid h. slice_get_within s.rows.now.shapes.now a h.1.first h.1.first_is };
 }
 
 /// The first two of these frames that collide.

@@ -41,8 +41,6 @@ struct Sizes<'a> {
 }
 
 impl<'a> Part for Sizes<'a> {
-    ghost use Rattle.std.proofs.lemmas.Option.{slice_get_within};
-
     ghost valid = { λ s. length s.shapes.now < 2 ^ 32 };
 
     ghost count = { λ s. length s.shapes.now };
@@ -59,8 +57,6 @@ impl<'a> Part for Sizes<'a> {
         }
         Ok(None)
     }
-
-    ghost within = { λ s a b valid h. slice_get_within s.shapes.now a h.0.shape h.0.shape_is };
 }
 
 /// The first shape that is too small.

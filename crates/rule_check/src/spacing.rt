@@ -47,8 +47,6 @@ struct TooClose {
 }
 
 impl PairTest for TooClose {
-    ghost use Rattle.rule_check.specs.Code.Close.{too_close};
-
     ghost passes = { λ t a b. are_too_close t.space a b };
 
     ghost reach = { λ t. t.space - 1 };
@@ -59,7 +57,9 @@ impl PairTest for TooClose {
             && (gap_x(&a.rect, &b.rect) < self.space && gap_y(&a.rect, &b.rect) < self.space)
     }
 
-    ghost close = { λ t a b p q h. too_close t.space a b h };
+    fn reach(&self) -> u64 {
+        self.space.saturating_sub(1)
+    }
 }
 
 /// The first of these numbers that is above a.
@@ -83,8 +83,6 @@ struct Spacing<'a> {
 }
 
 impl<'a> Part for Spacing<'a> {
-    ghost use Rattle.std.proofs.lemmas.Option.{slice_get_within};
-
     ghost valid = { λ s. IsFiledWith s.limits.now.space s.shapes.now s.planes.now };
 
     ghost count = { λ s. length s.shapes.now };
@@ -103,7 +101,6 @@ impl<'a> Part for Spacing<'a> {
         let space = self.limits.space;
         list_passing(
             &TooClose { space },
-            space - 1,
             group,
             first,
             self.shapes,
@@ -113,8 +110,6 @@ impl<'a> Part for Spacing<'a> {
         let above = first_above(found.as_slice(), a);
         Ok(above)
     }
-
-    ghost within = { λ s a b valid h. slice_get_within s.shapes.now a h.1.first h.1.first_is };
 }
 
 /// The first two shapes that stand too close.

@@ -23,7 +23,7 @@ use Rattle.shape_extract.specs.declared.planes.Plane.{Plane}
 use Rattle.shape_extract.specs.declared.planes.Plane.TheVariants.{Lower, Vias, Upper, Frames, Lines}
 use Rattle.shape_extract.specs.Code.Cells.{holds_pin}
 use Rattle.shape_extract.specs.Code.Lines.{lies_over}
-use Rattle.shape_extract.specs.Code.Sharing.{sharing_close}
+use Rattle.shape_extract.proofs.Sharing.{sharing_close}
 use Rattle.shape_extract.specs.Code.Walk.{AreTouching, touches_in}
 use Rattle.shape_extract.specs.declared.planes.FiledPlane.{FiledPlane}
 use Rattle.shape_extract.specs.Searches.{AreThose, passes_in, passes_at}

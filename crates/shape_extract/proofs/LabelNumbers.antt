@@ -15,7 +15,7 @@ use Rattle.layout_rules.proofs.ReportLaws.{Alone-first, Alone-none, IsFirstRepor
 use Rattle.layout_rules.specs.CircuitRules.{is_port_label, port_count, have_one_name, IsNoPortLabel, IsRepeated, IsMisnumbered}
 use Rattle.layout_rules.proofs.ReportLaws.{alone_kept}
 use Rattle.shape_extract.specs.Code.LabelNames.{name_count, name_place, is_seen, IsTaken, IsRefused}
-use Rattle.shape_extract.specs.Code.Reported.{misnumbered_within}
+use Rattle.shape_extract.proofs.Reported.{misnumbered_within}
 use Rattle.shape_extract.proofs.Kept.{settled_true}
 use Rattle.shape_extract.proofs.Searching.{NoneBelow, none_more, none_all}
 

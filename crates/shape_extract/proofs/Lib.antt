@@ -8,6 +8,8 @@ mod OneCircuit
 mod LineContacts
 mod JoinedParts
 mod LineStarts
+mod Reported
+pub mod Sharing
 pub mod Searching
 mod Marked
 mod NetPins

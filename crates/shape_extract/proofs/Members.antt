@@ -1,7 +1,6 @@
 -- Shapes of kinds: how they are listed, and that a query of the kinds finds all shapes that pass a test.
-use Rattle.std.proofs.Common.{◌≡◌, ℕ, suc, ◌+◌, ◌<◌, ◌≤◌, Bool, true, List, [], ◌∷◌, ◌++◌, length, Some, refl, sym, ap, subst, ◌∙◌, arith, inl, inr}
+use Rattle.std.proofs.Common.{◌≡◌, ℕ, suc, ◌+◌, ◌<◌, ◌≤◌, Bool, List, [], ◌∷◌, ◌++◌, length, Some, refl, sym, ap, subst, ◌∙◌, arith, inl, inr}
 use Rattle.std.specs.Prelude.{slice_get, slice_index, slice_set, ◌↔◌, Contains}
-use Rattle.std.specs.List.{filter}
 use Rattle.std.specs.List.Sorted.{IsStrictlyIncreasing}
 use Rattle.std.proofs.Math.ListN.{get_or-append, length-append, length-set}
 use Rattle.std.proofs.Math.Seq.{get_or-append_seam}
@@ -11,15 +10,12 @@ use Rattle.std.proofs.lemmas.List.{get_or-set_same, get_or-set_other}
 use Rattle.std.proofs.lemmas.List.Kept.{AllPairs-from_increasing}
 use Rattle.std.proofs.lemmas.Option.{same_Some, slice_get_within}
 use Rattle.geom.specs.declared.shapes.Shape.{Shape}
-use Rattle.geom.specs.Rectangle.{IsProper, AreProper}
-use Rattle.geom.specs.Near.{rects_of, IsClose, AreNear}
 use Rattle.layout_rules.specs.Reports.{PassTogether}
-use Rattle.shape_extract.specs.Searches.{AreThose, passes_at}
+use Rattle.shape_extract.specs.Searches.{AreThose}
 use Rattle.shape_extract.specs.Distinct.{AreAt, StandsFor, ArePlaces}
 use Rattle.shape_extract.specs.Code.NetChains.{IsNextFrom}
 use Rattle.shape_extract.specs.Passing.{PassesIn}
 use Rattle.shape_extract.specs.Code.Filed.{AreFirsts, IsOfKinds, IsFromOn, AddsRest, ListsMembers}
-use Rattle.shape_extract.proofs.Partners.{passing_near, closer, rect_at}
 
 -- ---- numbers of kinds
 
@@ -312,23 +308,6 @@ module _ (test : Shape → Bool) (shapes : List Shape) (numbers places : List �
         });
     rising = members.rising;
   }
-
--- the kinds whose shapes pass a test together with a shape are found near it
-pub kinds_near : (test : Shape → Shape → Bool) (shapes : List Shape) (numbers places : List ℕ) (some : List Shape)
-    (at : AreAt shapes numbers some) (are : ArePlaces shapes numbers places) (a : ℕ) (first : Shape) (reach : ℕ)
-    (near found : List ℕ) → slice_get shapes a ≡ Some first
-    → ((s t : Shape) → IsProper s.rect → IsProper t.rect → test s t ≡ true → IsClose s.rect t.rect reach) → reach ≡ 0
-    → AreProper (rects_of some) → AreNear (rects_of some) first.rect 0 near
-    → found ≡ filter (passes_at (test first) some) near → AreThose (PassesIn (test first) some) found
-kinds_near test shapes numbers places some at are a first reach near found is close none proper are_near filtered =
-    let lt : a < length shapes = slice_get_within shapes a first is in
-    let first_proper : IsProper first.rect = proper (slice_index places a) first.rect
-    (rect_at some (slice_index places a) first (kind_shape (test first) shapes numbers places some at are a lt
-    ∙ is)) in
-    passing_near (test first) some first.rect 0 near found
-    (λ s n s_is h. closer first.rect s.rect reach 0 (omega arith)
-    (close first s first_proper (proper n s.rect (rect_at some n s s_is)) h))
-    are_near filtered
 
 -- what passes is of the kinds
 pub passing_within : (test : Shape → Bool) (some : List Shape) (found : List ℕ) (count : ℕ) → length some ≡ count

@@ -19,7 +19,7 @@ use Rattle.layout_rules.specs.declared.layers.TheConstants.{LABELS}
 use Rattle.layout_rules.specs.Labels.{marks, marked_layer}
 use Rattle.layout_rules.specs.Reports.{PassTogether}
 use Rattle.shape_extract.specs.Passing.{PassesIn}
-use Rattle.shape_extract.specs.Code.Sharing.{sharing_close}
+use Rattle.shape_extract.proofs.Sharing.{sharing_close}
 use Rattle.shape_extract.specs.Searches.{AreThose, passes_in, passes_at, passes_with}
 
 -- ---- filters
@@ -102,10 +102,6 @@ untried p xs ys k i x f e = e ∙ (sym (read_drop ys i x) ∙ (ap (λ (l : List 
 -- the test of a number is that of its shape
 pub tested : (test : Shape → Shape → Bool) (first s : Shape) (shapes : List Shape) (n : ℕ) (b : Bool) → slice_get shapes n ≡ Some s → test first s ≡ b → passes_with test first shapes n ≡ b
 tested test first s shapes n b is e = ap (passes_in (test first)) is ∙ e
-
--- what is close within less is close within more
-pub closer : (a b : Rectangle) (reach margin : ℕ) → reach ≤ margin → IsClose a b reach → IsClose a b margin
-closer a b reach margin h close = record { in_x = omega (arith, close.in_x); in_y = omega (arith, close.in_y) }
 
 -- ---- what a test of numbers keeps of rising ones
 

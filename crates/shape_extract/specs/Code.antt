@@ -1,5 +1,4 @@
 -- Words of private contracts and of loops. Shapes that touch, and nets:
-pub mod Sharing
 pub mod Walk
 pub mod NetChains
 pub mod NetPins
@@ -13,7 +12,6 @@ pub mod Marking
 pub mod LabelNames
 -- the rules of circuits:
 pub mod Cells
-pub mod Reported
 pub mod FirstRule
 -- excitation lines:
 pub mod LineParts

@@ -27,9 +27,11 @@ pub trait PairTest {
     fn passes(&self, a: &Shape, b: &Shape) -> bool
         ensures { result ≡ passes self.now a.now b.now };
 
-    /// Two that pass are so close.
-    ghost close: { (s : Self) (a b : Shape) → IsProper a.rect → IsProper b.rect → passes s a b ≡ true
-        → IsClose a.rect b.rect (reach s) };
+    /// How far apart, in nanometres, two that pass are at most, in x and in y.
+    fn reach(&self) -> u64
+        ensures reach { result ≡ reach self.now }
+        ensures close { (a b : Shape) → IsProper a.rect → IsProper b.rect → passes self.now a b ≡ true
+            → IsClose a.rect b.rect (reach self.now) };
 }
 
 /// Keeps those of the numbers whose shapes pass the test together with the first.
@@ -49,30 +51,7 @@ pub fn keep_passing<T: PairTest>(test: &T, first: &Shape, shapes: &[Shape], numb
 }
 
 /// Lists the numbers of the shapes that pass the test together with the one of this number, by a query of the index for
-/// those that are no further from it than the margin.
-pub fn list_close_partners<T: PairTest>(
-    test: &T,
-    margin: u64,
-    shapes: &[Shape],
-    index: &Buckets,
-    a: u32,
-    found: &mut Vec<u32>,
-) -> Result<(), Memory>
-    requires few { length shapes.now < 2 ^ 32 }
-    requires filed { index.now ≡ rects_of shapes.now }
-    requires within { a < length shapes.now }
-    requires reach { T.reach test.now ≤ margin }
-    requires margin { margin ≤ 1000000 }
-    ensures { IfOk result (λ _. AreThose (PassTogether (T.passes test.now) shapes.now a) found.new.items) }
-{
-    index.known();
-    let first = &shapes[a as usize];
-    index.list_near(&first.rect, margin, found)?;
-    keep_passing(test, first, shapes, found);
-    Ok(())
-}
-
-/// The same for a test that only shapes with a common point pass.
+/// those within reach of it.
 pub fn list_partners<T: PairTest>(
     test: &T,
     shapes: &[Shape],
@@ -83,17 +62,20 @@ pub fn list_partners<T: PairTest>(
     requires few { length shapes.now < 2 ^ 32 }
     requires filed { index.now ≡ rects_of shapes.now }
     requires within { a < length shapes.now }
-    requires touching { T.reach test.now ≡ 0 }
+    requires reach { T.reach test.now ≤ 1000000 }
     ensures { IfOk result (λ _. AreThose (PassTogether (T.passes test.now) shapes.now a) found.new.items) }
 {
-    list_close_partners(test, 0, shapes, index, a, found)
+    index.known();
+    let first = &shapes[a as usize];
+    index.list_near(&first.rect, test.reach(), found)?;
+    keep_passing(test, first, shapes, found);
+    Ok(())
 }
 
 /// Lists the numbers of the shapes that pass the test together with this one, by a query of a plane in which all such
-/// shapes lie for those that are no further from it than the margin. It is refused for want of memory alone.
+/// shapes lie for those within reach of it. It is refused for want of memory alone.
 pub fn list_passing<T: PairTest>(
     test: &T,
-    margin: u64,
     plane: Plane,
     first: &Shape,
     shapes: &[Shape],
@@ -101,13 +83,12 @@ pub fn list_passing<T: PairTest>(
     found: &mut Vec<u32>,
 ) -> Result<(), Memory>
     requires planes { ArePlanes shapes.now planes.now }
-    requires reach { T.reach test.now ≤ margin }
-    requires margin { margin ≤ 1000000 }
+    requires reach { T.reach test.now ≤ 1000000 }
     requires planar { (s : Shape) → T.passes test.now first.now s ≡ true → in_plane plane s ≡ true }
     ensures { IfOk result (λ _. AreThose (PassesIn (T.passes test.now first.now) shapes.now) found.new.items) }
 {
     first.rect.known();
-    planes.list_near(plane, &first.rect, margin, found)?;
+    planes.list_near(plane, &first.rect, test.reach(), found)?;
     keep_passing(test, first, shapes, found);
     Ok(())
 }
@@ -125,14 +106,13 @@ pub fn list_filed_partners<T: PairTest>(
     requires few { length shapes.now < 2 ^ 32 }
     requires filed { IsFiled shapes.now filed.now }
     requires within { a < length shapes.now }
-    requires touching { T.reach test.now ≡ 0 }
+    requires reach { T.reach test.now ≤ 1000000 }
     requires planar { (s t : Shape) → T.passes test.now s t ≡ true → in_plane plane t ≡ true }
     ensures { IfOk result (λ _. AreThose (PassTogether (T.passes test.now) shapes.now a) found.new.items) }
 {
     let first = &shapes[a as usize];
     list_passing(
         test,
-        0,
         plane,
         first,
         filed.kinds.shapes.as_slice(),

@@ -23,19 +23,17 @@ pub trait Part {
     /// What it reports.
     ghost reported: { Self → ℕ → ℕ → Type 0 };
 
-    /// How many numbers are judged.
+    /// How many numbers are judged. Nothing is reported past them.
     fn count(&self) -> u32
         requires { valid self.now }
-        ensures { result ≡ count self.now };
+        ensures count { result ≡ count self.now }
+        ensures within { (a b : ℕ) → reported self.now a b → a < count self.now };
 
     /// The least second number that is reported with this first one. The list is for use within.
     fn second(&self, a: u32, found: &mut Vec<u32>) -> Result<Option<u32>, Memory>
         requires valid { valid self.now }
         requires within { a < count self.now }
         ensures { IfOk result (FindsAt (reported self.now) a) };
-
-    /// Nothing is reported past the count.
-    ghost within: { (s : Self) (a b : ℕ) → valid s → reported s a b → a < count s };
 }
 
 /// The first report of the part.

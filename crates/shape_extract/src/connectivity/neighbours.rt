@@ -22,8 +22,6 @@ struct TouchIn {
 }
 
 impl PairTest for TouchIn {
-    ghost use Rattle.shape_extract.specs.Code.Sharing.{touch_in_close};
-
     ghost passes = { λ t a b. in_plane t.plane b && touch a b };
 
     ghost reach = { λ t. 0 };
@@ -32,7 +30,9 @@ impl PairTest for TouchIn {
         self.plane.holds(b) && touch(a, b)
     }
 
-    ghost close = { λ t a b p q h. touch_in_close (in_plane t.plane b) a b h };
+    fn reach(&self) -> u64 {
+        0
+    }
 }
 
 /// Whether shapes of the lower plane conduct to this one.
@@ -69,7 +69,7 @@ fn list_touching_in(
     ensures { IfOk result (λ _. AreThose (PassesIn (touches_in wanted plane from.now) shapes.now) found.new.items) }
 {
     if wanted {
-        return list_passing(&TouchIn { plane }, 0, plane, from, shapes, planes, found);
+        return list_passing(&TouchIn { plane }, plane, from, shapes, planes, found);
     }
     found.clear();
     Ok(())

@@ -128,8 +128,6 @@ struct UncrossedBars<'a> {
 }
 
 impl<'a> Part for UncrossedBars<'a> {
-    ghost use Rattle.std.proofs.lemmas.Option.{slice_get_within};
-
     ghost valid = { λ s. (length s.shapes.now < 2 ^ 32)
         × (AreLaidOut s.shapes.now × AreWalked s.shapes.now s.before.now) × IsFiled s.shapes.now s.filed.now };
 
@@ -147,8 +145,6 @@ impl<'a> Part for UncrossedBars<'a> {
         }
         Ok(None)
     }
-
-    ghost within = { λ s a b valid h. slice_get_within s.shapes.now a h.0.bar.shape h.0.bar.shape_is };
 }
 
 /// The first bar that its line doesn't run along from one side to the other.

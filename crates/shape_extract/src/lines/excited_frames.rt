@@ -30,8 +30,6 @@ use std::alloc::Global;
 struct LiesOver;
 
 impl PairTest for LiesOver {
-    ghost use Rattle.shape_extract.specs.Code.Sharing.{over_close};
-
     ghost passes = { λ s frame part. lies_over frame part };
 
     ghost reach = { λ s. 0 };
@@ -40,7 +38,9 @@ impl PairTest for LiesOver {
         is_line(b) && overlaps(&b.rect, &a.rect)
     }
 
-    ghost close = { λ s a b p q h. over_close a b h };
+    fn reach(&self) -> u64 {
+        0
+    }
 }
 
 /// The phase of a bar to which the line comes from this shape.

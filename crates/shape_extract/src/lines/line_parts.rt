@@ -115,8 +115,6 @@ struct MisjoinedParts<'a> {
 }
 
 impl<'a> Part for MisjoinedParts<'a> {
-    ghost use Rattle.std.proofs.lemmas.Option.{slice_get_within};
-
     ghost valid = { λ s. (length s.shapes.now < 2 ^ 32) × IsFiled s.shapes.now s.filed.now };
 
     ghost count = { λ s. length s.shapes.now };
@@ -133,8 +131,6 @@ impl<'a> Part for MisjoinedParts<'a> {
         }
         Ok(None)
     }
-
-    ghost within = { λ s a b valid h. slice_get_within s.shapes.now a h.0.part.shape h.0.part.shape_is };
 }
 
 /// The first part of a line with other contacts than it is to have.

@@ -41,8 +41,6 @@ struct CutOffParts<'a> {
 }
 
 impl<'a> Part for CutOffParts<'a> {
-    ghost use Rattle.std.proofs.lemmas.Option.{slice_get_within};
-
     ghost valid = { λ s. (length s.shapes.now < 2 ^ 32) × AreWalked s.shapes.now s.before.now };
 
     ghost count = { λ s. length s.shapes.now };
@@ -59,8 +57,6 @@ impl<'a> Part for CutOffParts<'a> {
         }
         Ok(None)
     }
-
-    ghost within = { λ s a b valid h. slice_get_within s.shapes.now a h.0.part.shape h.0.part.shape_is };
 }
 
 /// The first part of a line to which no start leads.

@@ -24,8 +24,6 @@ struct UnknownParts<'a> {
 }
 
 impl<'a> Part for UnknownParts<'a> {
-    ghost use Rattle.std.proofs.lemmas.Option.{slice_get_within};
-
     ghost valid = { λ s. length s.shapes.now < 2 ^ 32 };
 
     ghost count = { λ s. length s.shapes.now };
@@ -42,8 +40,6 @@ impl<'a> Part for UnknownParts<'a> {
         }
         Ok(None)
     }
-
-    ghost within = { λ s a b valid h. slice_get_within s.shapes.now a h.0.shape h.0.shape_is };
 }
 
 /// The first part of a line that is no bar, link or start.

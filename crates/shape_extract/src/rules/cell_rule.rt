@@ -91,8 +91,6 @@ struct Cells<'a> {
 }
 
 impl<'a> Part for Cells<'a> {
-    ghost use Rattle.shape_extract.specs.Code.Reported.{fault_within};
-
     ghost valid = { λ s. (length s.shapes.now < 2 ^ 32) × IsFiled s.shapes.now s.filed.now };
 
     ghost count = { λ s. length s.shapes.now };
@@ -109,8 +107,6 @@ impl<'a> Part for Cells<'a> {
         }
         Ok(None)
     }
-
-    ghost within = { λ s a b valid h. fault_within s.shapes.now a h.0 };
 }
 
 /// Whether there is a frame.

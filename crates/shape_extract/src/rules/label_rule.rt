@@ -62,7 +62,6 @@ struct PortLabels<'a> {
 
 impl<'a> Part for PortLabels<'a> {
     ghost use Rattle.layout_rules.specs.CircuitRules.{IsNoPortLabel};
-    ghost use Rattle.shape_extract.specs.Code.Reported.{no_port_label_within};
 
     ghost valid = { λ s. (length s.flat.now.shapes + length s.flat.now.labels < 2 ^ 32)
         × (s.ports.now ≡ ports_of s.flat.now.shapes) × IsFiled s.flat.now.shapes s.filed.now };
@@ -86,8 +85,6 @@ impl<'a> Part for PortLabels<'a> {
         }
         Ok(Some(a))
     }
-
-    ghost within = { λ s a b valid h. no_port_label_within s.flat.now a h.0 };
 }
 
 /// Ports with no label or several.
@@ -100,7 +97,6 @@ struct LabelledPorts<'a> {
 
 impl<'a> Part for LabelledPorts<'a> {
     ghost use Rattle.layout_rules.specs.CircuitRules.{IsUnlabelledPort};
-    ghost use Rattle.shape_extract.specs.Code.Reported.{unlabelled_port_within};
 
     ghost valid = { λ s. (length s.flat.now.shapes + length s.flat.now.labels < 2 ^ 32)
         × (s.ports.now ≡ ports_of s.flat.now.shapes)
@@ -123,8 +119,6 @@ impl<'a> Part for LabelledPorts<'a> {
         }
         Ok(Some(a))
     }
-
-    ghost within = { λ s a b valid h. unlabelled_port_within s.flat.now a h.0 };
 }
 
 /// The first report of the rule of labels, where the rule of cells is kept.

@@ -113,8 +113,6 @@ struct Pins<'a> {
 }
 
 impl<'a> Part for Pins<'a> {
-    ghost use Rattle.shape_extract.specs.Code.Reported.{nets_within};
-
     ghost valid = { λ s. (length s.flat.now.shapes < 2 ^ 32) × AreNets s.flat.now.shapes s.nets.now
         × AreChains s.nets.now s.next.now × AreMarks s.flat.now.shapes s.flat.now.labels s.marking.now };
 
@@ -133,8 +131,6 @@ impl<'a> Part for Pins<'a> {
         }
         source_fault(self.flat, self.marking, self.nets, self.next, a, found)
     }
-
-    ghost within = { λ s a b valid h. nets_within s.flat.now a b h };
 }
 
 /// The first report of the rule of nets.

@@ -47,7 +47,6 @@ struct Wires<'a> {
 }
 
 impl<'a> Part for Wires<'a> {
-    ghost use Rattle.std.proofs.lemmas.Option.{slice_get_within};
     ghost use Rattle.layout_rules.specs.Reports.{ReportsNone};
     ghost use Rattle.layout_rules.specs.CircuitRules.{CellsBroken, RowsBroken};
 
@@ -73,8 +72,6 @@ impl<'a> Part for Wires<'a> {
         let astray = first_astray(self.rows, found.as_slice(), self.rows[a as usize]);
         Ok(astray)
     }
-
-    ghost within = { λ s a b valid h. slice_get_within s.flat.now.shapes a h.input.pin h.input.pin_is };
 }
 
 /// The first report of the rule of rows, where the rule of cells is kept.

@@ -1,4 +1,3 @@
-use Rattle.std.proofs.Common.{arith}
 use Rattle.shape_extract.specs.Searches.{AreThose}
 use Rattle.shape_extract.specs.Passing.{PassesIn}
 use Rattle.shape_extract.proofs.Passing.{read_at}
@@ -7,9 +6,6 @@ use Rattle.shape_extract.proofs.pairs.list_filed_partners.Goals as goal
 
 pub list_passing-requires-clause-planes : goal.list_passing-requires-clause-planes
 list_passing-requires-clause-planes g c = rw c.as_slice.ensures c.requires.filed.planes
-
-pub list_passing-requires-clause-reach : goal.list_passing-requires-clause-reach
-list_passing-requires-clause-reach g c = omega (arith, c.requires.touching)
 
 pub list_of_kinds-requires-clause-kinds : goal.list_of_kinds-requires-clause-kinds
 list_of_kinds-requires-clause-kinds g c =

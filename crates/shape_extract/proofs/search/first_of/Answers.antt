@@ -15,4 +15,4 @@ returns-in-Some g c =
     IsFirstReport-at _ _ _ here c.loop-a.invariant
 
 pub returns : goal.returns
-returns g c = none_all (g.P.Part.reported c.args.part.now) (g.P.Part.count c.args.part.now) c.loop-a.a c.loop-a.invariant (omega (arith, c.count-a-end.ensures, c.loop-a-test.false)) (λ a b h. g.met.P.Part.within c.args.part.now a b c.requires h)
+returns g c = none_all (g.P.Part.reported c.args.part.now) (g.P.Part.count c.args.part.now) c.loop-a.a c.loop-a.invariant (omega (arith, c.count-a-end.ensures.count, c.loop-a-test.false)) c.count-a-end.ensures.within

@@ -1,0 +1,5 @@
+use Rattle.std.proofs.lemmas.Option.{slice_get_within}
+use Rattle.rule_check.proofs.frames.FramesPart.count.Goals as goal
+
+pub returns-clause-within : goal.returns-clause-within
+returns-clause-within c = λ a b h. slice_get_within c.args.self.now.rows.now.shapes.now a h.1.first h.1.first_is

@@ -1,0 +1,5 @@
+use Rattle.std.proofs.lemmas.Option.{slice_get_within}
+use Rattle.shape_extract.proofs.lines.reached_parts.CutOffPartsPart.count.Goals as goal
+
+pub returns-clause-within : goal.returns-clause-within
+returns-clause-within c = λ a b h. slice_get_within c.args.self.now.shapes.now a h.0.part.shape h.0.part.shape_is
