@@ -71,7 +71,7 @@ fn outline_of(
 fn empty_outlines(alloc: Global, count: usize) -> Result<List<Outline>, Memory>
     ensures { IfOk result (λ outlines. length outlines ≡ count) }
 {
-    let mut outlines = List::new(alloc);
+    let mut outlines = List::from_vec(Vec::with_capacity(alloc, count)?);
     for _number in 0..count {
         outlines.push(Outline {
             exits: Vec::new(alloc),
@@ -84,7 +84,7 @@ fn empty_outlines(alloc: Global, count: usize) -> Result<List<Outline>, Memory>
 fn empty_blocks(alloc: Global, count: usize) -> Result<List<Block>, Memory>
     ensures { IfOk result (λ blocks. blocks ≡ replicate count []) }
 {
-    let mut blocks = List::new(alloc);
+    let mut blocks = List::from_vec(Vec::with_capacity(alloc, count)?);
     for _number in 0..count {
         blocks.push(List::new(alloc))?;
     }

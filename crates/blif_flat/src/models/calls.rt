@@ -22,6 +22,7 @@ pub fn model_numbers<'a>(
     ensures { IfOk result (λ numbers. IsNumbering has_name numbers.entries models.now) }
 {
     let mut numbers = IndexMap::with_hasher(alloc, hash);
+    numbers.reserve_exact(models.len())?;
     for (number, model) in models.iter().enumerate() {
         let number = small_number(number)?;
         add(&mut numbers, model.name.as_slice(), number)?;
@@ -67,7 +68,7 @@ fn call_defs(
     requires { IsNumbering has_name numbers.now.entries models.now }
     ensures { IfOk result (λ defs. defs ≡ call_defs models.now) }
 {
-    let mut defs = List::new(alloc);
+    let mut defs = List::from_vec(Vec::with_capacity(alloc, models.len())?);
     for model in models {
         let def = call_def(alloc, numbers, model)?;
         defs.push(def)?;

@@ -27,6 +27,7 @@ fn index_of<'a>(alloc: Global, hash: NameHash, names: &'a [Named]) -> Result<Nam
     ensures { IfOk result (λ index. texts index.keys ≡ insert_all bytes_eq [] (names_in names.now)) }
 {
     let mut index = IndexSet::with_hasher(alloc, hash);
+    index.reserve_exact(names.len())?;
     for named in names {
         index.insert(named.name.as_slice())?;
     }
@@ -166,7 +167,7 @@ fn indexed<'a>(
 ) -> Result<Vec<IndexedModel<'a>>, Memory>
     ensures { IfOk result (λ indexed. indexed.items ≡ models.now) }
 {
-    let mut indexed = Vec::new(alloc);
+    let mut indexed = Vec::with_capacity(alloc, models.len())?;
     for model in models {
         let model = IndexedModel::new(alloc, hash, model)?;
         indexed.push(model)?;

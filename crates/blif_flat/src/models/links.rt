@@ -88,7 +88,7 @@ fn links_of<'a>(alloc: Global, design: &Design<'_>, calls: &'a [Call]) -> Result
 fn no_links<'a>(alloc: Global, count: usize) -> Result<List<Links<'a>>, Memory>
     ensures { IfOk result (λ table. table ≡ replicate count []) }
 {
-    let mut table = List::new(alloc);
+    let mut table = List::from_vec(Vec::with_capacity(alloc, count)?);
     for _number in 0..count {
         table.push(List::new(alloc))?;
     }
