@@ -1,10 +1,11 @@
 #!/bin/sh
 # How the time and the memory of reading a netlist grow with its text: netlists of 2, 4, 8 and 16 MB, as many rows of a
 # cover of eight inputs, as rows of two bytes of a constant, as rows of four bytes of a buffer, as a chain of definitions,
-# as one line of inputs, as one line of inputs with names of three and four bytes, and as definitions without rows with
-# such names. Each is read whole, and then the library, which is empty, is refused. Prints the seconds of processor time, their ratios, twice the text against once,
-# and the memory at most in times of the text, which is counted too. Needs GNU time; AQFP is the program, by default the
-# one that is built here.
+# as one line of inputs, as one line of inputs with names of three and four bytes, and as definitions of such names: of no
+# input and without rows, of no input and with a row, and of one input; and then as designs of as many models, of which the
+# first calls none, or all. Each is read whole, and then the library, which is empty, is refused. Prints the seconds of
+# processor time, their ratios, twice the text against once, and the memory at most in times of the text, which is counted
+# too. Needs GNU time; AQFP is the program, by default the one that is built here.
 set -u
 here=$(cd -P "$(dirname "$0")/.." && pwd)
 program=${AQFP:-$here/crates/aqfp_cli/out/aqfp_cli}
@@ -43,15 +44,15 @@ inputs() {
     awk -v bytes="$1" 'BEGIN { n = int(bytes / 9) - 10; for (i = 1000000; i < 1000000 + n; i++) printf " i%d", i; print "" }'
 }
 
-# Names of 62 signs, as short as so many can be, each behind these bytes.
+# Names of 62 signs, as short as so many can be, each between these bytes.
 names() {
-    awk -v bytes="$1" -v before="$2" 'BEGIN { left = bytes - 30
+    awk -v bytes="$1" -v before="$2" -v behind="${3:-}" 'BEGIN { left = bytes - 30
         signs = "0123456789abcdefghijklmnopqrstuvwxyzABCDEFGHIJKLMNOPQRSTUVWXYZ"
         for (i = 62 * 62; left > 0; i++) {
             name = ""
             for (n = i; n > 0; n = int(n / 62)) name = substr(signs, n % 62 + 1, 1) name
-            printf "%s%s", before, name
-            left -= length(name) + length(before)
+            printf "%s%s%s", before, name, behind
+            left -= length(name) + length(before) + length(behind)
         }
         print "" }'
 }
@@ -66,7 +67,29 @@ definitions() {
     names "$1" '\n.names '
 }
 
-for shape in rows ones buffers chain inputs short definitions; do
+constants() {
+    printf '.inputs ~\n.outputs ~'
+    names "$1" '\n.names ' '\n1'
+}
+
+feeds() {
+    printf '.inputs ~\n.outputs ~'
+    names "$1" '\n.names ~ '
+}
+
+uncalled() {
+    printf '.model top\n.inputs a\n.outputs a'
+    names "$1" '\n.model m' '\n.inputs a\n.outputs y\n.names a y\n1 1'
+}
+
+# A quarter of the bytes are calls, and the models that are called have the others.
+called() {
+    printf '.model top\n.inputs a\n.outputs a'
+    names $(($1 / 64 * 16)) '\n.subckt m' ' a=a'
+    names $(($1 / 64 * 48)) '\n.model m' '\n.inputs a\n.outputs y\n.names a y\n1 1'
+}
+
+for shape in rows ones buffers chain inputs short definitions constants feeds uncalled called; do
     before=
     for megabytes in 2 4 8 16; do
         $shape $((megabytes * 1000000)) >"$work/net.blif"
