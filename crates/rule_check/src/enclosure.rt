@@ -1,5 +1,6 @@
 // Design rule check (DRC), the rule of enclosure: a shape of each metal reaches past every via.
-ghost use Rattle.std.specs.Prelude.{◌≡◌, ◌<◌, ◌^◌, ◌&&◌, ◌==◌, ◌-ℤ◌, ◌+ℤ◌, true, Some, pos, int_le, length, slice_get, IfOk};
+ghost use Rattle.std.specs.Prelude.{◌≡◌, ◌<◌, ◌^◌, ◌&&◌, ◌==◌, ◌-ℤ◌, ◌+ℤ◌, true, Some, pos, int_le, length};
+ghost use Rattle.std.specs.Prelude.{slice_get, IfOk};
 ghost use Rattle.geom.specs.declared.shapes.Shape.{Shape};
 ghost use Rattle.geom.specs.Rectangle.{within, grown};
 ghost use Rattle.layout_rules.specs.GeometryRules.{is_covered, EnclosureBroken};

@@ -93,8 +93,8 @@ pub fn list_passing<T: PairTest>(
     Ok(())
 }
 
-/// Lists the numbers of the shapes that pass the test together with the one of this number, by a query of the kinds in a
-/// plane in which all such shapes lie: a heap of equal shapes is tested once, and listed only where it passes.
+/// Lists the numbers of the shapes that pass the test together with the one of this number, by a query of the kinds in
+/// a plane in which all such shapes lie: a heap of equal shapes is tested once, and listed only where it passes.
 pub fn list_filed_partners<T: PairTest>(
     test: &T,
     plane: Plane,

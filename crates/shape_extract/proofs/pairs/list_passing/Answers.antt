@@ -10,7 +10,8 @@ keep_passing-requires g c = all_within c.args.plane c.args.shapes.now c.args.fir
 
 pub returns : goal.returns
 returns g c =
-    let near : AreNearIn c.args.plane c.args.shapes.now c.args.first.now.rect c.reach.result c.list_near.new.found.items =
+    let near : AreNearIn c.args.plane c.args.shapes.now c.args.first.now.rect c.reach.result
+    c.list_near.new.found.items =
     c.in_ok-list_near.ensures c.args.shapes.now c.requires.planes in
     passing_in_plane (g.T.PairTest.passes c.args.test.now c.args.first.now) c.args.plane c.args.shapes.now
     c.args.first.now.rect c.reach.result c.list_near.new.found.items c.keep_passing.new.numbers.items c.requires.planar
