@@ -4,7 +4,7 @@ use Rattle.std.proofs.lemmas.List.{get_or-map, length-map}
 use Rattle.circuit.specs.PlainNets.{PlainView}
 use Rattle.circuit.specs.PlainNets as plain
 use Rattle.circuit.specs.SameAnswers.{SameAnswers}
-use Rattle.circuit.proofs.SameThen.{same_then}
+use Rattle.chip_plan.proofs.SameThen.{same_then}
 use Rattle.blif_read.specs.Parts.{NetView}
 use Rattle.blif_read.specs.Equations as equations
 use Rattle.blif_read.specs.Netlist.{IsNetlist}

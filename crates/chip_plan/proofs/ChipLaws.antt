@@ -4,7 +4,7 @@ use Rattle.std.proofs.Common.{refl, sym, ap, ◌∙◌, arith, mul-le-mul, le_re
 use Rattle.std.proofs.lemmas.List.{length-map}
 use Rattle.circuit.specs.declared.cell_kind.CellKind.TheVariants.{Buffer}
 use Rattle.circuit.specs.PlainNets.{IsPlainNet}
-use Rattle.circuit.proofs.SameThen.{same_then}
+use Rattle.chip_plan.proofs.SameThen.{same_then}
 use Rattle.blif_read.specs.Parts.{NetView}
 use Rattle.blif_read.specs.Netlist.{IsNetlist}
 use Rattle.rowed.specs.declared.row_cell.RowCell.{RowCell}

@@ -1,3 +1,4 @@
+pub mod SameThen
 pub mod CellSizes
 pub mod KeptKinds
 pub mod ChipLaws
