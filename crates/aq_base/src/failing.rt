@@ -6,7 +6,7 @@ ghost use Rattle.aq_base.specs.Failing.{keep_of};
 use std::alloc::{AllocError, Global};
 
 /// A call that is to fail: its number, counted from 0, and how many bytes it keeps.
-#[derive(Clone, Copy, Debug, PartialEq, Eq)]
+#[derive(Clone, Copy, PartialEq, Eq)]
 pub struct FailingCall {
     pub call: u64,
     pub keep: u64,

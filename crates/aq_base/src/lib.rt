@@ -3,19 +3,23 @@
 
 mod decimal;
 mod failing;
+mod heard;
 mod lists;
 mod memory_files;
 mod memory_sink;
+mod replay;
 mod std_store;
 mod store;
 mod texts;
 
 pub use decimal::read_decimal;
+pub use heard::{Call, Heard};
 pub use lists::{List, Memory};
 pub use memory_files::MemFiles;
 pub use memory_sink::MemSink;
+pub use replay::told_follows;
 pub use std_store::{StdFiles, StdSink};
-pub use store::{Files, LoadRefusal, Sink, StoreRefusal, told_stays_told};
+pub use store::{Files, LoadRefusal, Sink, StoreRefusal, pieces_are_joined, told_stays_told};
 pub use texts::Text;
 
 /// A list of bytes.

@@ -11,7 +11,7 @@ use std::rc::RcSlice;
 
 /// A text in bytes that doesn't change any more. Its clones share the bytes: a text that a thousand labels show takes
 /// memory once.
-#[derive(Debug, Drop)]
+#[derive(Drop)]
 pub struct Text {
     bytes: RcSlice<u8>,
 }

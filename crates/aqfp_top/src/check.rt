@@ -9,6 +9,7 @@ ghost use Rattle.aqfp_top.specs.Counted.{HasFaults, FailedLoad};
 ghost use Rattle.aqfp_top.specs.Stages.{IsFirst, Answers};
 ghost use Rattle.aqfp_top.specs.Due.{check_stages, circuit_stages, judging_stages};
 ghost use Rattle.aqfp_top.specs.Faults.{IsCheckFault};
+ghost use Rattle.aqfp_top.specs.Histories.{HeardChecked};
 ghost use Rattle.aqfp_top.specs.Checks.{MakesCircuit, CheckPrints, text_of};
 ghost use Rattle.aqfp_top.specs.Code.Staging.{ToldAnswers};
 ghost use Rattle.aqfp_top.specs.Code.Building.{IsOutOrMemory};
@@ -23,7 +24,7 @@ use shape_extract::{Extracted, one_circuit};
 use std::alloc::Global;
 
 /// What is printed of a chip's circuit.
-#[derive(Clone, Copy, Debug, PartialEq, Eq)]
+#[derive(Clone, Copy, PartialEq, Eq)]
 pub enum Printing {
     /// The counts line, and the answer to each word.
     Answers,
@@ -92,6 +93,7 @@ pub fn check<F: Files, O: Sink>(
     ensures faults { HasFaults (record { reads = F.read_faults files.old; writes = F.write_faults files.old; closes = F.close_faults files.old; outs = O.faults out.old })
         (record { reads = F.read_faults files.new; writes = F.write_faults files.new; closes = F.close_faults files.new; outs = O.faults out.new }) (result_err result) }
     ensures failed { IsSome (F.told files.old) → FailedLoad (F.load_failed files.new) (spelled words.now) (result_err result) }
+    ensures heard { OnOk result (HeardChecked printing (F.heard files.old) (F.heard files.new) (spelled words.now) (O.written out.old) (O.written out.new)) }
     ensures only { IfErr result IsCheckFault }
     ensures told { F.told files.new ≡ F.told files.old }
     ensures name { F.opened files.new ≡ F.opened files.old }

@@ -15,7 +15,7 @@ use rowed::Placed;
 use shape_extract::Extracted;
 
 /// How many rows, cells and wires a chip has.
-#[derive(Clone, Copy, Debug, PartialEq, Eq)]
+#[derive(Clone, Copy, PartialEq, Eq)]
 pub struct ChipCounts {
     pub rows: u64,
     pub cells: u64,

@@ -21,20 +21,7 @@ mod store;
 mod words;
 mod write;
 
-pub use due::one_answer_is_due;
+pub use due::{each_design_is_built, one_answer_is_due};
 pub use fault::{Fault, Large, WriteCall};
 pub use joined::built_is_verified;
 pub use run::{Ending, aqfp_run};
-
-#[cfg(test)]
-mod check_tests;
-#[cfg(test)]
-mod chip_tests;
-#[cfg(test)]
-mod equal_tests;
-#[cfg(test)]
-mod fixtures;
-#[cfg(test)]
-mod tests;
-#[cfg(test)]
-mod write_tests;

@@ -11,6 +11,8 @@ ghost use Rattle.aqfp_top.specs.Faults.{RunsOnly};
 ghost use Rattle.aqfp_top.specs.Counted.{HasFaults, FailedLoad};
 ghost use Rattle.aqfp_top.specs.Build.{IsBuilt, IsDone};
 ghost use Rattle.aqfp_top.specs.Chips.{BuildsChip};
+ghost use Rattle.aqfp_top.specs.Histories.{HeardBuilt, HearsChip, HeardWritten, HearsNetlist, HeardChecked, HearsAnswers, HearsFluxes, HeardCompared, HearsVerdict};
+ghost use Rattle.aqfp_top.specs.declared.check.Printing.{Printing};
 ghost use Rattle.aqfp_top.specs.Verified.{VerifiesChip, TracesChip};
 ghost use Rattle.aqfp_top.specs.Compared.{ComparesChip};
 ghost use Rattle.aqfp_top.specs.Writing.{IsRead, IsWritten};
@@ -35,7 +37,7 @@ use drawn_chip::drawn_chip_realises;
 use std::alloc::Global;
 
 /// How a run ended: the status of the program, and the fault where the status is not 0.
-#[derive(Debug, Drop)]
+#[derive(Drop)]
 pub struct Ending {
     pub status: u8,
     pub fault: Option<Fault>,
@@ -58,6 +60,11 @@ fn work<F: Files, O: Sink>(
     ensures failed { IsSome (F.told files.old) → FailedLoad (F.load_failed files.new) (spelled words.now) (result_err result) }
     ensures done { IfOk result (λ _. IsBuild (spelled words.now) → IsBuilt (F.told files.old) (spelled words.now) (IsDone (F.told files.old) (F.told files.new) (spelled words.now) (O.written out.old) (O.written out.new))) }
     ensures written { IfOk result (λ _. IsWrite (spelled words.now) → IsRead (F.told files.old) (spelled words.now) (IsWritten (F.told files.old) (F.told files.new) (spelled words.now) (O.written out.old) (O.written out.new))) }
+    ensures built { IfOk result (λ _. IsBuild (spelled words.now) → HeardBuilt (F.heard files.old) (F.heard files.new) (spelled words.now) (O.written out.old) (O.written out.new)) }
+    ensures checked { IfOk result (λ _. IsVerify (spelled words.now) → HeardChecked Printing.Answers (F.heard files.old) (F.heard files.new) (spelled words.now) (O.written out.old) (O.written out.new)) }
+    ensures traced { IfOk result (λ _. IsTrace (spelled words.now) → HeardChecked Printing.Fluxes (F.heard files.old) (F.heard files.new) (spelled words.now) (O.written out.old) (O.written out.new)) }
+    ensures compared { IfOk result (λ _. IsEqual (spelled words.now) → HeardCompared (F.heard files.old) (F.heard files.new) (spelled words.now) (O.written out.old) (O.written out.new)) }
+    ensures netlisted { IfOk result (λ _. IsWrite (spelled words.now) → HeardWritten (F.heard files.old) (F.heard files.new) (spelled words.now) (O.written out.old) (O.written out.new)) }
     ensures only { IfErr result (RunsOnly (spelled words.now)) }
     ensures shut { F.opened files.new ≡ None }
 {
@@ -101,19 +108,37 @@ pub fn aqfp_run<F: Files, O: Sink, E: Sink>(
     ensures chip { (held : Contents) → F.told files.old ≡ Some held → IsBuild (spelled words.now) → result.fault ≡ None
         → BuildsChip held (F.told files.new) (spelled words.now) (O.written out.old) (O.written out.new) }
 
+    // The same of any store, the system's files too: what NET and LIB gave, and what OUT took.
+    ensures hears { IsBuild (spelled words.now) → result.fault ≡ None
+        → HearsChip (F.heard files.old) (F.heard files.new) (spelled words.now) (O.written out.old) (O.written out.new) }
+
     // What a check that ends well has shown: the answers to the words, whatever the order of switching, or the fluxes.
     ensures verified { (held : Contents) → F.told files.old ≡ Some held → IsVerify (spelled words.now) → result.fault ≡ None
         → VerifiesChip held (spelled words.now) (O.written out.old) (O.written out.new) }
     ensures traced { (held : Contents) → F.told files.old ≡ Some held → IsTrace (spelled words.now) → result.fault ≡ None
         → TracesChip held (spelled words.now) (O.written out.old) (O.written out.new) }
 
+    // The same of any store: what GDS, LIB and WORDS gave.
+    ensures hears_answers { IsVerify (spelled words.now) → result.fault ≡ None
+        → HearsAnswers (F.heard files.old) (F.heard files.new) (spelled words.now) (O.written out.old) (O.written out.new) }
+    ensures hears_fluxes { IsTrace (spelled words.now) → result.fault ≡ None
+        → HearsFluxes (F.heard files.old) (F.heard files.new) (spelled words.now) (O.written out.old) (O.written out.new) }
+
     // What a comparison that ends well has shown: that chip and netlist answer every word alike, or where first not.
     ensures compared { (held : Contents) → F.told files.old ≡ Some held → IsEqual (spelled words.now) → result.fault ≡ None
         → ComparesChip held (spelled words.now) (O.written out.old) (O.written out.new) }
 
+    // The same of any store: what GDS, LIB and NET gave.
+    ensures hears_verdict { IsEqual (spelled words.now) → result.fault ≡ None
+        → HearsVerdict (F.heard files.old) (F.heard files.new) (spelled words.now) (O.written out.old) (O.written out.new) }
+
     // What a `netlist` that ends well has stored: the chip's circuit as a netlist that answers every word as it does.
     ensures written { (held : Contents) → F.told files.old ≡ Some held → IsWrite (spelled words.now) → result.fault ≡ None
         → WritesNetlist held (F.told files.new) (spelled words.now) (O.written out.old) (O.written out.new) }
+
+    // The same of any store, the system's files too: what GDS and LIB gave, and what OUT took.
+    ensures hears_netlist { IsWrite (spelled words.now) → result.fault ≡ None
+        → HearsNetlist (F.heard files.old) (F.heard files.new) (spelled words.now) (O.written out.old) (O.written out.new) }
 
     // What is left.
     ensures stands { RunStands (F.told files.old) (F.told files.new) (spelled words.now) result.fault }

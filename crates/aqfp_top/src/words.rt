@@ -5,7 +5,7 @@ ghost use Rattle.aqfp_top.specs.Words.{IsOfForm, IsSampleSize, spelled, word_at}
 use aq_base::read_decimal;
 
 /// Which form a command line has.
-#[derive(Clone, Copy, Debug, PartialEq, Eq)]
+#[derive(Clone, Copy, PartialEq, Eq)]
 pub enum Form {
     /// `build NET LIB OUT`.
     Build,

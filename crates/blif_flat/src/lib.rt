@@ -14,10 +14,3 @@ pub use laws::{design_answers, each_design, one_refusal, worked_designs, written
 pub use reading::read_design;
 pub use writing::refusal::WriteBlifRefusal;
 pub use writing::writer::write_blif;
-
-#[cfg(test)]
-mod fault_tests;
-#[cfg(test)]
-mod reading_tests;
-#[cfg(test)]
-mod tests;

@@ -6,8 +6,6 @@ mod fault;
 mod head;
 mod laws;
 mod spelling;
-#[cfg(test)]
-mod tests;
 mod writer;
 
 pub use fault::StreamKind;

@@ -8,7 +8,7 @@ use blif_read::Def;
 use std::alloc::Global;
 
 /// A block that is laid out: its model, the wire that it starts at, and how many of its pieces were taken.
-#[derive(Clone, Copy, Debug)]
+#[derive(Clone, Copy)]
 pub struct Frame {
     pub model: u32,
     pub base: u32,

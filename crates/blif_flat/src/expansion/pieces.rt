@@ -3,7 +3,7 @@ use aq_base::List;
 use blif_read::Def;
 
 /// A piece of a model's block, by places in the block.
-#[derive(Debug, Drop)]
+#[derive(Drop)]
 pub enum Piece {
     /// A definition of the next wire.
     Own(Def),

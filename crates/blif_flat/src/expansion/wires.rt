@@ -14,7 +14,7 @@ use blif_read::BlifModel;
 use std::alloc::Global;
 
 /// A wire: the call that it stands in, 0 for the first model itself, and its name in the model.
-#[derive(Clone, Copy, Debug)]
+#[derive(Clone, Copy)]
 pub struct Place<'a> {
     pub call: u32,
     pub name: &'a [u8],

@@ -6,7 +6,7 @@ ghost use Rattle.blif_flat.specs.Code.Joining.{is_before, at_line, least, least_
 use crate::design::FlatKind;
 
 /// A fault, with its line.
-#[derive(Clone, Copy, Debug, PartialEq, Eq)]
+#[derive(Clone, Copy, PartialEq, Eq)]
 pub struct Told {
     pub line: u64,
     pub kind: FlatKind,
