@@ -78,7 +78,7 @@ event_count c events = count_by (λ event. eqb (cell_of event) c) events
 same_eqb : (c : ℕ) → eqb c c ≡ true
 same_eqb c = grind (arith, nat_tests)
 
-own_event : (c : ℕ) (event : Event) (events : List Event) → cell_of event ≡ c → event_count c (event ∷ events) ≡ 1 + event_count c events
+pub own_event : (c : ℕ) (event : Event) (events : List Event) → cell_of event ≡ c → event_count c (event ∷ events) ≡ 1 + event_count c events
 own_event c event events e =
     let k : eqb (cell_of event) c ≡ true = ap (λ (d : ℕ). eqb d c) e ∙ same_eqb c in
     sum_by-cons (λ x. cond (eqb (cell_of x) c) 1 0) event events ∙ ap (λ (b : Bool). cond b 1 0 + event_count c events) k
@@ -124,7 +124,7 @@ comes circuit time events c cell tick is moves =
 -- ---- what one event changes
 
 module _ (undecided : Flux → Type 0) (circuit : CircuitView) (word : Option (List Bool)) where
-  Happens-length : (event : Event) (old new : List Flux) → Happens undecided circuit word old event new → length new ≡ length old
+  pub Happens-length : (event : Event) (old new : List Flux) → Happens undecided circuit word old event new → length new ≡ length old
   Happens-length (Switch c) old new h = ap (λ (s : List Flux). length s) h.new_is ∙ length-set old c h.taken
   Happens-length (Relax c) old new h = ap (λ (s : List Flux). length s) h ∙ length-set old c Off
 

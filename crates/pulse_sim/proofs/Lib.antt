@@ -1,7 +1,14 @@
 mod Due
+mod Taken
+mod Skews
+mod Clocks
+mod TickHistories
 mod EveryOrder
+mod ThreeRows
 mod Settling
 mod InPlace
 mod Readings
 mod Stepped
 mod ShownOnce
+mod SomeClock
+mod TwoColumns

@@ -48,7 +48,7 @@ either_feed word state Nothing flux h = h
 either_feed word state (Pin cell output) flux h = h
 either_feed word state (Label n) flux h = either_input word n flux h
 
-either_happens : (circuit : CircuitView) (word : Option (List Bool)) (event : Event) (old new : List Flux) → Happens MinusAlone circuit word old event new → Happens EitherSign circuit word old event new
+pub either_happens : (circuit : CircuitView) (word : Option (List Bool)) (event : Event) (old new : List Flux) → Happens MinusAlone circuit word old event new → Happens EitherSign circuit word old event new
 either_happens circuit word (Relax c) old new h = h
 either_happens circuit word (Switch c) old new h = record {
   cell = h.cell;
@@ -121,7 +121,7 @@ may_feed word state (Label n) = may_input word n
 
 -- ---- a settled tick can happen
 
-can_happens : (circuit : CircuitView) (word : Option (List Bool)) (time : ℕ) (event : Event) (old : List Flux) → IsDue circuit time event → (new : List Flux) × Happens MinusAlone circuit word old event new
+pub can_happens : (circuit : CircuitView) (word : Option (List Bool)) (time : ℕ) (event : Event) (old : List Flux) → IsDue circuit time event → (new : List Flux) × Happens MinusAlone circuit word old event new
 can_happens circuit word time (Relax c) old due = (set old c Off, refl)
 can_happens circuit word time (Switch c) old due =
     let cell : ExCell = due.cell in

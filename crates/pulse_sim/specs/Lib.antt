@@ -7,3 +7,8 @@ pub mod Settled
 pub mod Pulsing
 pub mod Steps
 pub mod Stepping
+pub mod Skewed
+pub mod Clocked
+pub mod Histories
+pub mod ThreeRows
+pub mod TwoColumns
