@@ -8,7 +8,7 @@ use crate::token_list::Tokens;
 
 /// How many tokens a line has, the first and the last of them, which are empty where there is none, and whether a token
 /// has a control byte.
-#[derive(Clone, Copy, Debug)]
+#[derive(Clone, Copy)]
 pub struct Ends<'a> {
     pub count: usize,
     pub control: bool,

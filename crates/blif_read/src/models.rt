@@ -19,14 +19,14 @@ use short_bytes::ShortBytes;
 use std::alloc::Global;
 
 /// A name, and the line that it stands in.
-#[derive(Clone, Debug, Drop, PartialEq)]
+#[derive(Clone, Drop, PartialEq)]
 pub struct Named {
     pub line: u64,
     pub name: ShortBytes,
 }
 
 /// A port of a call: a signal of the called model, and the signal of the caller that it is joined to. Neither is empty.
-#[derive(Clone, Debug, Drop, PartialEq)]
+#[derive(Clone, Drop, PartialEq)]
 pub struct Port {
     pub formal: ShortBytes,
     pub actual: ShortBytes,
@@ -34,7 +34,7 @@ pub struct Port {
 
 /// A call of a model. It is well formed where it names a model and each of its ports has both names; `ports` are those
 /// that have both. Without a name `model` is empty.
-#[derive(Clone, Debug, Drop, PartialEq)]
+#[derive(Clone, Drop, PartialEq)]
 pub struct Call {
     pub line: u64,
     pub model: ShortBytes,
@@ -43,7 +43,7 @@ pub struct Call {
 }
 
 /// The definition of the signal `output` by names. Where `on` is set, it is true where a plane matches; else false there.
-#[derive(Clone, Debug, Drop, PartialEq)]
+#[derive(Clone, Drop, PartialEq)]
 pub struct NamedDef {
     pub line: u64,
     pub inputs: List<ShortBytes>,
@@ -54,7 +54,7 @@ pub struct NamedDef {
 
 /// A model as its text says it, each list in the text's order. Without a `.model` its line is 0, and without a name
 /// behind that its name is empty.
-#[derive(Clone, Debug, Drop, PartialEq)]
+#[derive(Clone, Drop, PartialEq)]
 pub struct BlifModel {
     pub line: u64,
     pub name: ShortBytes,

@@ -58,13 +58,13 @@ pub enum BlifRefusal {
 }
 
 /// A row of a cover: a byte `0`, `1` or `-` for each input of its definition.
-#[derive(Clone, Debug, Drop, PartialEq)]
+#[derive(Clone, Drop, PartialEq)]
 pub struct Cube {
     pub plane: ShortBytes,
 }
 
 /// The definition of a signal, from its line. Where `on` is set, the signal is true where a plane matches; else false there.
-#[derive(Clone, Debug, Drop, PartialEq)]
+#[derive(Clone, Drop, PartialEq)]
 pub struct Def {
     pub line: u64,
     pub inputs: List<u32>,

@@ -5,7 +5,7 @@ use crate::statements::arguments;
 use crate::words::Statement;
 
 /// How many items the lists of a model have.
-#[derive(Clone, Copy, Debug)]
+#[derive(Clone, Copy)]
 pub struct Rooms {
     pub inputs: usize,
     pub outputs: usize,

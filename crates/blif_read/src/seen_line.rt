@@ -12,7 +12,7 @@ use crate::words::Statement;
 use std::marker::Model;
 
 /// A logical line, and what one walk over its tokens has kept of them.
-#[derive(Debug, Drop)]
+#[derive(Drop)]
 pub struct SeenLine<'a> {
     line: LogicalLine<'a>,
     ends: Ends<'a>,

@@ -74,7 +74,7 @@ pub fn any_token(any: bool, line: &[u8]) -> bool
 }
 
 /// What is left of a logical line: a part of a physical line, and the text that goes on with it, if it goes on.
-#[derive(Clone, Copy, Debug)]
+#[derive(Clone, Copy)]
 pub struct Rest<'a> {
     pub line: &'a [u8],
     pub more: Option<&'a [u8]>,
@@ -117,7 +117,7 @@ fn first_token<'a>(rest: Rest<'a>) -> Option<(&'a [u8], Rest<'a>)>
 
 /// The tokens that are left of a logical line: at most so many. Contracts see them as a list, but they stand on the text
 /// and take no memory.
-#[derive(Debug, Drop)]
+#[derive(Drop)]
 pub struct Tokens<'a> {
     rest: Rest<'a>,
     most: usize,

@@ -10,6 +10,3 @@ pub use recipe::{Operand, Recipe, Step};
 pub use table::Table;
 pub use three::three_inputs;
 pub use two::two_inputs;
-
-#[cfg(test)]
-mod tests;

@@ -5,7 +5,7 @@ use aq_base::List;
 use std::marker::Model;
 
 /// What a step takes: an input, a constant, or what an earlier step gave, counted from 0.
-#[derive(Clone, Copy, Debug, PartialEq, Eq)]
+#[derive(Clone, Copy, PartialEq, Eq)]
 pub enum Operand {
     A,
     B,
@@ -16,7 +16,7 @@ pub enum Operand {
 }
 
 /// An operation on operands.
-#[derive(Clone, Copy, Debug, PartialEq, Eq)]
+#[derive(Clone, Copy, PartialEq, Eq)]
 pub enum Step {
     And(Operand, Operand),
     Or(Operand, Operand),
@@ -25,7 +25,7 @@ pub enum Step {
 }
 
 /// Steps, and which operand is the result. A step names only steps before it, and a step that `out` names is there.
-#[derive(Debug, Drop)]
+#[derive(Drop)]
 pub struct Recipe {
     pub steps: List<Step>,
     pub out: Operand,

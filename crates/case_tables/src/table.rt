@@ -6,7 +6,7 @@ use aq_base::List;
 use std::marker::Model;
 
 /// Exactly N recipes, by number from 0.
-#[derive(Debug, Drop)]
+#[derive(Drop)]
 pub struct Table<const N: usize> {
     recipes: List<Recipe>,
 }

@@ -1,8 +1,8 @@
 // The table of the functions of three inputs: ten cases over the functions of two.
 ghost use Rattle.std.specs.Prelude.{◌≡◌, ◌<◌, ◌≤◌, ◌+◌, ◌∷◌, ◌++◌, [], length, IfOk, OnOk};
 ghost use Rattle.case_tables.specs.Recipes.{truth_number3};
-ghost use Rattle.case_tables.specs.Formulas.{write};
-ghost use Rattle.case_tables.specs.Tables.{two_formula, three_recipe_by, three_recipe, recipes_below};
+ghost use Rattle.case_tables.specs.Formulas.{write, leaf, and, inv};
+ghost use Rattle.case_tables.specs.Tables.{two_formula, recipe_of_varying, three_recipe_by, three_recipe, recipes_below};
 ghost use Rattle.case_tables.specs.Entries.{IsTable};
 ghost use Rattle.case_tables.specs.declared.recipe.Operand.TheVariants as operands;
 
@@ -75,8 +75,58 @@ fn write_two(steps: &mut List<Step>, number: u16) -> Result<Operand, Memory>
     Ok(out)
 }
 
+/// The steps of a function of two inputs where the third input is true.
+#[tactic(auto, unfolding(crate::specs::Formulas::write))]
+fn write_with_c(steps: &mut List<Step>, number: u16) -> Result<Operand, Memory>
+    requires number { number < 16 }
+    requires room { length steps.old < 240 }
+    ensures steps { OnOk result (steps.new ≡ (write operands.Zero steps.old (and (two_formula number) (leaf operands.C))).steps) }
+    ensures out { IfOk result (λ o. o ≡ (write operands.Zero steps.old (and (two_formula number) (leaf operands.C))).out) }
+    ensures few { OnOk result (length steps.new ≤ length steps.old + 5) }
+{
+    let x = write_two(steps, number)?;
+    push_step(steps, Step::And(x, Operand::C))
+}
+
+/// The steps of a function of two inputs where the third input is false.
+#[tactic(auto, unfolding(crate::specs::Formulas::write))]
+fn write_without_c(steps: &mut List<Step>, number: u16) -> Result<Operand, Memory>
+    requires number { number < 16 }
+    requires room { length steps.old < 240 }
+    ensures steps { OnOk result (steps.new ≡ (write operands.Zero steps.old (and (two_formula number) (inv (leaf operands.C)))).steps) }
+    ensures out { IfOk result (λ o. o ≡ (write operands.Zero steps.old (and (two_formula number) (inv (leaf operands.C)))).out) }
+    ensures few { OnOk result (length steps.new ≤ length steps.old + 6) }
+{
+    let x = write_two(steps, number)?;
+    let y = push_step(steps, Step::Inv(Operand::C))?;
+    push_step(steps, Step::And(x, y))
+}
+
+/// The steps of the recipe of three inputs where no half is constant and the halves differ.
+#[tactic(auto, unfolding(crate::specs::Formulas::write, crate::specs::Formulas::recipe, crate::specs::Formulas::recipe_with))]
+fn write_varying(steps: &mut List<Step>, lo: u16, hi: u16) -> Result<Operand, Memory>
+    requires lo { lo < 16 }
+    requires hi { hi < 16 }
+    requires start { steps.old ≡ [] }
+    ensures steps { OnOk result (steps.new ≡ (recipe_of_varying lo hi).steps) }
+    ensures out { IfOk result (λ o. o ≡ (recipe_of_varying lo hi).out) }
+{
+    if lo == 8 && hi == 14 {
+        push_step(steps, Step::Maj(Operand::A, Operand::C, Operand::B))
+    } else if lo == 15 - hi {
+        let low = write_two(steps, lo)?;
+        Ok(formula!(steps; (and (or {low} c) (inv (and {low} c)))))
+    } else if lo & hi == lo {
+        Ok(formula!(steps; (or {write_two(steps, lo)?} {write_with_c(steps, hi)?})))
+    } else if lo & hi == hi {
+        Ok(formula!(steps; (or {write_two(steps, hi)?} {write_without_c(steps, lo)?})))
+    } else {
+        Ok(formula!(steps; (or {write_without_c(steps, lo)?} {write_with_c(steps, hi)?})))
+    }
+}
+
 /// The steps of the recipe of three inputs, by the first case that fits.
-#[tactic(auto, unfolding(crate::specs::Formulas::write, crate::specs::Formulas::recipe, crate::specs::Formulas::recipe_with, crate::specs::Tables::three_recipe_by))]
+#[tactic(auto, unfolding(crate::specs::Formulas::write, crate::specs::Formulas::recipe, crate::specs::Tables::three_recipe_by))]
 fn write_three(steps: &mut List<Step>, lo: u16, hi: u16) -> Result<Operand, Memory>
     requires lo { lo < 16 }
     requires hi { hi < 16 }
@@ -84,29 +134,19 @@ fn write_three(steps: &mut List<Step>, lo: u16, hi: u16) -> Result<Operand, Memo
     ensures steps { OnOk result (steps.new ≡ (three_recipe_by lo hi).steps) }
     ensures out { IfOk result (λ o. o ≡ (three_recipe_by lo hi).out) }
 {
-    let out = if lo == hi {
-        write_two(steps, lo)?
+    if lo == hi {
+        write_two(steps, lo)
     } else if lo == 0 {
-        formula!(steps; (and {write_two(steps, hi)?} c))
+        write_with_c(steps, hi)
     } else if hi == 0 {
-        formula!(steps; (and {write_two(steps, lo)?} (inv c)))
+        write_without_c(steps, lo)
     } else if lo == 15 {
-        formula!(steps; (or {write_two(steps, hi)?} (inv c)))
+        Ok(formula!(steps; (or {write_two(steps, hi)?} (inv c))))
     } else if hi == 15 {
-        formula!(steps; (or {write_two(steps, lo)?} c))
-    } else if lo == 8 && hi == 14 {
-        push_step(steps, Step::Maj(Operand::A, Operand::C, Operand::B))?
-    } else if lo == 15 - hi {
-        let low = write_two(steps, lo)?;
-        formula!(steps; (and (or {low} c) (inv (and {low} c))))
-    } else if lo & hi == lo {
-        formula!(steps; (or {write_two(steps, lo)?} (and {write_two(steps, hi)?} c)))
-    } else if lo & hi == hi {
-        formula!(steps; (or {write_two(steps, hi)?} (and {write_two(steps, lo)?} (inv c))))
+        Ok(formula!(steps; (or {write_two(steps, lo)?} c)))
     } else {
-        formula!(steps; (or (and {write_two(steps, lo)?} (inv c)) (and {write_two(steps, hi)?} c)))
-    };
-    Ok(out)
+        write_varying(steps, lo, hi)
+    }
 }
 
 /// For each truth number of three inputs a recipe of that function.

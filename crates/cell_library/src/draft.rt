@@ -10,14 +10,14 @@ use circuit::CellKind;
 use std::marker::Model;
 
 /// The columns of a kind's pins, counted from the cell's left edge.
-#[derive(Debug, Drop)]
+#[derive(Drop)]
 pub struct Pins {
     pub inputs: List<u32>,
     pub outputs: List<u32>,
 }
 
 /// The ten numbers of a library, in nanometres but for `columns` and `capacity`.
-#[derive(Clone, Copy, Debug)]
+#[derive(Clone, Copy)]
 pub struct Numbers {
     pub wire: u64,
     pub space: u64,
@@ -32,7 +32,7 @@ pub struct Numbers {
 }
 
 /// Numbers in their ranges, and a place for the pins of each kind.
-#[derive(Debug, Drop)]
+#[derive(Drop)]
 pub struct Draft {
     numbers: Numbers,
     pins: Vec<Option<Pins>>,

@@ -11,8 +11,6 @@ mod library;
 mod read;
 mod said;
 mod same;
-#[cfg(test)]
-mod tests;
 
 pub use bundled::library_a;
 pub use fault::{LibraryFault, LibraryRefusal};

@@ -12,7 +12,7 @@ use circuit::CellKind;
 use std::marker::Model;
 
 /// A library of cells: ten numbers and the pin columns of each kind, which keep every law.
-#[derive(Debug, Drop)]
+#[derive(Drop)]
 pub struct Library {
     draft: Draft,
 }

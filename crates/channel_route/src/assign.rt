@@ -11,7 +11,7 @@ use aq_base::Memory;
 use std::alloc::Global;
 
 /// What became of a channel's wires.
-#[derive(Debug, Drop)]
+#[derive(Drop)]
 pub(crate) enum Assigned {
     /// Each has a track. `column` is where the last track was added, 0 without wires.
     Done {

@@ -11,7 +11,7 @@ use rowed::Wire;
 use std::alloc::Global;
 
 /// The tracks of a channel's wires.
-#[derive(Clone, Debug, Drop, PartialEq)]
+#[derive(Clone, Drop, PartialEq)]
 pub struct Tracks {
     /// The track of each wire, in the order of the wires, counted from 0 at the lower row.
     pub track: List<u32>,

@@ -8,7 +8,7 @@ use aq_base::{List, Memory};
 use std::alloc::Global;
 
 /// For each track the column where its last wire ends, in the lowest of levels of minima.
-#[derive(Debug, Drop)]
+#[derive(Drop)]
 pub(crate) struct Ends {
     levels: Vec<List<u32>>,
 }

@@ -12,6 +12,3 @@ pub use channel::{RouteRefusal, Tracks, route};
 pub use laws::{
     ends_apart, few_cross, never_full, placed_channels, three_wires, tracks_are_fewest,
 };
-
-#[cfg(test)]
-mod tests;

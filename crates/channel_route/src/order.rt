@@ -8,7 +8,7 @@ use rowed::Wire;
 use std::alloc::Global;
 
 /// A wire, and its number in the channel.
-#[derive(Clone, Copy, Debug, PartialEq, Eq)]
+#[derive(Clone, Copy, PartialEq, Eq)]
 pub(crate) struct Numbered {
     pub wire: Wire,
     pub number: u32,

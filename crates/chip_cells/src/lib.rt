@@ -4,6 +4,3 @@
 mod extracted;
 
 pub use extracted::extracted_cells;
-
-#[cfg(test)]
-mod tests;

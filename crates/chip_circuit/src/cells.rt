@@ -2,7 +2,7 @@
 use circuit::CellKind;
 
 /// What an input of a cell takes.
-#[derive(Clone, Copy, Debug, PartialEq, Eq)]
+#[derive(Clone, Copy, PartialEq, Eq)]
 pub enum Feed {
     /// The kind of the cell has no such input.
     Nothing,
@@ -13,7 +13,7 @@ pub enum Feed {
 }
 
 /// A cell of an extracted circuit.
-#[derive(Clone, Copy, Debug, PartialEq, Eq)]
+#[derive(Clone, Copy, PartialEq, Eq)]
 pub struct ExCell {
     pub kind: CellKind,
     /// Its row, from 0 at the lower edge of the chip.

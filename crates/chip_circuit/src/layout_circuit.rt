@@ -5,7 +5,7 @@ use rowed::Source;
 use std::marker::Model;
 
 /// The circuit that the shapes of a layout make: its cells by rising row, and within a row from left to right.
-#[derive(Clone, Debug, Drop, PartialEq)]
+#[derive(Clone, Drop, PartialEq)]
 pub struct Extracted {
     /// The cells; feeds and outputs name them by their number here.
     pub cells: List<ExCell>,

@@ -12,6 +12,3 @@ pub use cells::{ExCell, Feed};
 pub use first_circuit::{first_circuit_keeps, two_buffers};
 pub use layout_circuit::Extracted;
 pub use rowed::Source;
-
-#[cfg(test)]
-mod tests;

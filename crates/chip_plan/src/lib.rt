@@ -6,8 +6,5 @@ mod plan;
 mod refusal;
 
 pub use laws::plan_laws;
-pub use plan::{ChipPlan, chip_plan, plan_chip};
+pub use plan::{ChipPlan, chip_plan, plan_chip, repeating};
 pub use refusal::PlanRefusal;
-
-#[cfg(test)]
-mod tests;

@@ -34,7 +34,7 @@ fn placing(library: &Library) -> PlacePass
 /// The pass of repeaters for these cells: the reach in slots, and heights in nanometres. A channel is highest with
 /// wires on all tracks.
 #[tactic(auto, using(crate::proofs::CellSizes::channels))]
-fn repeating(library: &Library) -> RepeatPass
+pub fn repeating(library: &Library) -> RepeatPass
     ensures reach { result.reach ≡ reach_of library.now }
     ensures height { result.height ≡ library.now.height }
     ensures channel { result.channel ≡ channel_of library.now }

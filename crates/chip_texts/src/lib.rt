@@ -14,6 +14,3 @@ pub use answers::{add_word, print_answers};
 pub use fluxes::print_fluxes;
 pub use laws::answers_are_shown;
 pub use words::{BadLine, GivenWords, read_words};
-
-#[cfg(test)]
-mod tests;

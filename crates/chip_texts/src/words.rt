@@ -8,7 +8,7 @@ use circuit::Word;
 use std::marker::Model;
 
 /// The number of a line, counted from 1, that is no word.
-#[derive(Clone, Copy, Debug, PartialEq, Eq)]
+#[derive(Clone, Copy, PartialEq, Eq)]
 pub struct BadLine {
     pub line: u64,
 }

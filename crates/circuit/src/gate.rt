@@ -1,7 +1,7 @@
 // Gates of a net of majorities and inverters.
 
 /// A gate. Others name it by its place in the list of gates, counted from 0.
-#[derive(Clone, Copy, Debug, PartialEq, Eq)]
+#[derive(Clone, Copy, PartialEq, Eq)]
 pub enum Gate {
     /// Shows the bit of the word that this input has.
     Input(u32),

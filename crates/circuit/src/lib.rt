@@ -20,6 +20,3 @@ pub use values::{gate_values, shown_values, value_at};
 
 /// A list of truth values: the first is that of input or output 0.
 pub type Word = List<bool>;
-
-#[cfg(test)]
-mod tests;

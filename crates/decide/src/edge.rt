@@ -3,7 +3,7 @@ ghost use Rattle.std.specs.Prelude.{◌≡◌, not, MatchBool};
 ghost use Rattle.decide.specs.Code.Diagrams.{flip};
 
 /// A function of the inputs: that of a node, or its complement where the edge is complemented.
-#[derive(Clone, Copy, Debug, PartialEq, Eq, Hash)]
+#[derive(Clone, Copy, PartialEq, Eq, Hash)]
 pub struct Edge {
     /// The number of the node.
     pub node: u32,
@@ -47,7 +47,7 @@ impl Edge {
 
 /// A choice between two functions by one input, its variable. The low edge is never complemented, so every node is
 /// false at the word of false values alone, and no node is the complement of another.
-#[derive(Clone, Copy, Debug, PartialEq, Eq, Hash)]
+#[derive(Clone, Copy, PartialEq, Eq, Hash)]
 pub struct Node {
     /// The place of the variable in the variable order, from 0. Node 0 has the number of inputs here.
     pub level: u32,
@@ -58,7 +58,7 @@ pub struct Node {
 }
 
 /// Three functions of which the majority is wanted.
-#[derive(Clone, Copy, Debug, PartialEq, Eq)]
+#[derive(Clone, Copy, PartialEq, Eq)]
 pub struct Triple {
     pub first: Edge,
     pub second: Edge,

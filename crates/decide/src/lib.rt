@@ -19,6 +19,3 @@ mod walk;
 pub use cells::{Cells, plain_cells};
 pub use refusal::DecideRefusal;
 pub use verdict::{Verdict, decide};
-
-#[cfg(test)]
-mod tests;

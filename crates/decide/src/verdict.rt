@@ -14,7 +14,7 @@ use circuit::{Gate, Word};
 use std::alloc::Global;
 
 /// What a comparison finds.
-#[derive(Debug, Drop)]
+#[derive(Drop)]
 pub enum Verdict {
     /// Both circuits answer every word alike.
     Equal,

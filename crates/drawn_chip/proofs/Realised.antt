@@ -21,6 +21,7 @@ use Rattle.chip_circuit.specs.Circuits.{CircuitView, KeepsFacts}
 use Rattle.shape_extract.specs.Extraction.{is_wired, IsCircuitOf}
 use Rattle.shape_extract.specs.Extracts.{KeepsFive}
 use Rattle.pulse_sim.specs.Shows.{Shows}
+use Rattle.pulse_sim.specs.Clocked.{ShowsByClocks}
 use Rattle.layout_make.specs.Draw.{draw, top_elements}
 use Rattle.layout_make.specs.FirstLaw.{FirstLaw, row_edges}
 use Rattle.layout_make.specs.Laws.{flat_shapes}
@@ -56,6 +57,8 @@ pub record CrateLaws (p : PlacedView) (l : LibraryView) : Type 0 where
   pub shows : (circuit : CircuitView) (words answers : List (List Bool)) → KeepsFacts circuit
       → All (λ word. length word ≡ circuit.inputs) words → AllZip (extracted.IsAnswer circuit) words answers
       → Shows circuit (circuit.rows - 1) words answers
+  pub by_clocks : (circuit : CircuitView) (words answers : List (List Bool)) → KeepsFacts circuit
+      → AllZip (extracted.IsAnswer circuit) words answers → ShowsByClocks circuit (circuit.rows - 1) words answers
 
 module _ (p : PlacedView) (l : LibraryView) (law : CrateLaws p l) (may : MayDraw p l)
     (few : element_number p ≤ element_limit) where
@@ -132,6 +135,7 @@ module _ (p : PlacedView) (l : LibraryView) (law : CrateLaws p l) (may : MayDraw
         are_answers = all.of_net;
         shows = law.shows circuit words all.replies keeps (λ k d h. wide k d h ∙ sym drawn.same.same_inputs)
             all.of_circuit;
+        by_clocks = law.by_clocks circuit words all.replies keeps all.of_circuit;
       }
 
   pub realises_net : RealisesNet p l

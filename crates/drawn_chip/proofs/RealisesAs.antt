@@ -31,5 +31,10 @@ module _ (i j o q : ℕ) (f g : List Bool → List Bool → Type 0) (same : Same
     output_count = r.output_count ∙ same.same_outputs;
     answers_all = λ words wide.
         let h = r.answers_all words (widths_as words wide) in
-        record { replies = h.replies; are_answers = answers_as words h.replies wide h.are_answers; shows = h.shows };
+        record {
+          replies = h.replies;
+          are_answers = answers_as words h.replies wide h.are_answers;
+          shows = h.shows;
+          by_clocks = h.by_clocks;
+        };
   }

@@ -10,13 +10,16 @@ use Rattle.layout_rules.specs.Rules.{KeepsRules}
 use Rattle.chip_circuit.specs.Circuits.{CircuitView}
 use Rattle.shape_extract.specs.Extraction.{IsCircuitOf}
 use Rattle.pulse_sim.specs.Shows.{Shows}
+use Rattle.pulse_sim.specs.Clocked.{ShowsByClocks}
 
--- the words have these answers, which the circuit shows after the delay in every order of switching
+-- the words have these answers, which the circuit shows after the delay in every order of switching, and by every clock
+-- whose windows keep clear at each cell and its feeds
 pub record AnswersAll (circuit : CircuitView) (delay : ℕ) (answers : List Bool → List Bool → Type 0)
     (words : List (List Bool)) : Type 0 where
   pub replies : List (List Bool)
   pub are_answers : AllZip answers words replies
   pub shows : Shows circuit delay words replies
+  pub by_clocks : ShowsByClocks circuit delay words replies
 
 -- The bytes are a stream; the shapes of its layout keep all rules under the limits; the circuit that is extracted
 -- from these shapes has so many inputs and outputs, and answers every list of words.

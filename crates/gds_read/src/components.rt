@@ -7,7 +7,7 @@ use aq_base::{List, Memory};
 use std::alloc::Global;
 
 /// A structure on the walk's path, and how many of its references were looked at.
-#[derive(Clone, Copy, Debug)]
+#[derive(Clone, Copy)]
 struct Visit {
     structure: u32,
     seen: usize,

@@ -15,7 +15,7 @@ use crate::outline::{NamedOutline, NamedUse};
 use gds_records::StreamKind;
 
 /// The structures that none refers to.
-#[derive(Clone, Copy, Debug)]
+#[derive(Clone, Copy)]
 pub enum Tops {
     Nothing,
     /// One, by its number.

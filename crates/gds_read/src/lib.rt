@@ -27,15 +27,11 @@ mod scan;
 mod size;
 mod structures;
 mod table;
-#[cfg(test)]
-mod tests;
 mod values;
 mod ways;
 mod wide;
 mod wide_conditions;
 mod wide_structures;
-#[cfg(test)]
-mod wide_tests;
 mod wide_values;
 
 pub use flat::flatten;

@@ -14,14 +14,14 @@ use gds_records::codes::{BGNSTR, ENDSTR, SNAME, STRNAME};
 use std::alloc::Global;
 
 /// A reference: the place of its SNAME record, and the name that it refers to.
-#[derive(Clone, Copy, Debug)]
+#[derive(Clone, Copy)]
 pub struct NamedUse<'a> {
     pub place: usize,
     pub name: &'a [u8],
 }
 
 /// A structure: the place of its BGNSTR record, its name, and its references in order.
-#[derive(Debug, Drop)]
+#[derive(Drop)]
 pub struct NamedOutline<'a> {
     pub place: usize,
     pub name: &'a [u8],

@@ -14,7 +14,7 @@ use gds_records::codes::{
 };
 
 /// Where a reader stands: named after the last record that counts for what may follow.
-#[derive(Clone, Copy, Debug, PartialEq, Eq)]
+#[derive(Clone, Copy, PartialEq, Eq)]
 pub enum Place {
     Start,
     Header,

@@ -1,7 +1,7 @@
 // Kinds of streams.
 
 /// Which streams are read: those that are written here, or those that other tools write.
-#[derive(Clone, Copy, Debug, PartialEq, Eq)]
+#[derive(Clone, Copy, PartialEq, Eq)]
 pub enum Profile {
     /// Boundaries that are rectangles, and references to one depth.
     Strict,

@@ -23,14 +23,14 @@ use gds_records::codes::{AREF, BOUNDARY, COLROW, ENDLIB, PATH, SREF, STRNAME, TE
 use std::alloc::Global;
 
 /// Where the records end, or the first fault at one of them.
-#[derive(Clone, Copy, Debug, PartialEq, Eq)]
+#[derive(Clone, Copy, PartialEq, Eq)]
 pub enum Outcome {
     Stopped { offset: usize, kind: StreamKind },
     Ended { offset: usize },
 }
 
 /// The place after a record, or what is wrong with the record.
-#[derive(Clone, Copy, Debug, PartialEq, Eq)]
+#[derive(Clone, Copy, PartialEq, Eq)]
 enum Step {
     On(Place),
     Fault(StreamKind),

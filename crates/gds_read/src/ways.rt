@@ -9,7 +9,7 @@ use poly_cut::Point;
 use std::alloc::Global;
 
 /// From one point to the next.
-#[derive(Clone, Copy, Debug, PartialEq, Eq)]
+#[derive(Clone, Copy, PartialEq, Eq)]
 pub enum Way {
     Right,
     Left,

@@ -3,7 +3,7 @@ use crate::shapes::{Label, Shape};
 use aq_base::{Bytes, List};
 
 /// An element of a structure. Coordinates are in database units of one nanometre.
-#[derive(Clone, Debug, Drop, PartialEq)]
+#[derive(Clone, Drop, PartialEq)]
 pub enum Element {
     /// A boundary that is a rectangle.
     Box(Shape),
@@ -14,14 +14,14 @@ pub enum Element {
 }
 
 /// A structure: a name and the elements under it.
-#[derive(Clone, Debug, Drop, PartialEq)]
+#[derive(Clone, Drop, PartialEq)]
 pub struct Structure {
     pub name: Bytes,
     pub elements: List<Element>,
 }
 
 /// The structures of a stream in order, and the number of the top, which no structure refers to. Structures are numbered from 0.
-#[derive(Clone, Debug, Drop, PartialEq)]
+#[derive(Clone, Drop, PartialEq)]
 pub struct Layout {
     pub structures: List<Structure>,
     pub top: u32,

@@ -6,7 +6,7 @@ ghost use Rattle.geom.specs.Rectangle.{meet_x, meet_y, overlap, positive_part, w
 use std::marker::Model;
 
 /// A rectangle with sides along the axes, in database units of one nanometre: `x0` is below `x1`, and `y0` below `y1`.
-#[derive(Clone, Copy, Debug, PartialEq, Eq)]
+#[derive(Clone, Copy, PartialEq, Eq)]
 pub struct Rect {
     pub x0: i64,
     pub y0: i64,

@@ -3,7 +3,7 @@ use crate::rectangle::Rect;
 use aq_base::{List, Text};
 
 /// A rectangle on a layer.
-#[derive(Clone, Copy, Debug, PartialEq, Eq)]
+#[derive(Clone, Copy, PartialEq, Eq)]
 pub struct Shape {
     pub layer: u16,
     pub datatype: u16,
@@ -11,7 +11,7 @@ pub struct Shape {
 }
 
 /// A text at a point of a layer. Labels that repeat it share its bytes.
-#[derive(Clone, Debug, Drop, PartialEq)]
+#[derive(Clone, Drop, PartialEq)]
 pub struct Label {
     pub layer: u16,
     pub x: i64,
@@ -20,7 +20,7 @@ pub struct Label {
 }
 
 /// The shapes and labels of a layout without references, in element order: together fewer than 2^32.
-#[derive(Clone, Debug, Drop, PartialEq)]
+#[derive(Clone, Drop, PartialEq)]
 pub struct Flat {
     pub shapes: List<Shape>,
     pub labels: List<Label>,

@@ -8,7 +8,7 @@ use cell_library::Library;
 use geom::{Element, Rect, Shape};
 
 /// A rectangle whose corners have no negative coordinates, in nanometres.
-#[derive(Clone, Copy, Debug, PartialEq, Eq)]
+#[derive(Clone, Copy, PartialEq, Eq)]
 pub(crate) struct Area {
     pub(crate) left: u64,
     pub(crate) low: u64,

@@ -16,6 +16,3 @@ pub use laws::{drawing_laws, never_full, worked_chips};
 pub use sizing::element_number;
 pub use spots::Spot;
 pub use wires::channel_wires;
-
-#[cfg(test)]
-mod tests;

@@ -19,7 +19,7 @@ use rowed::RowCell;
 use std::alloc::Global;
 
 /// Which ports of a net a row shows.
-#[derive(Clone, Copy, Debug, PartialEq, Eq)]
+#[derive(Clone, Copy, PartialEq, Eq)]
 pub(crate) enum Ports {
     Inputs,
     Outputs,

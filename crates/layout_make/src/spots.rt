@@ -11,7 +11,7 @@ use cell_library::Library;
 use rowed::{Placed, RowCell};
 
 /// A cell with the slot where it stands.
-#[derive(Clone, Copy, Debug, PartialEq, Eq)]
+#[derive(Clone, Copy, PartialEq, Eq)]
 pub struct Spot {
     /// The cell.
     pub cell: RowCell,

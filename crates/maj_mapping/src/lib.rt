@@ -13,6 +13,3 @@ mod walk;
 
 pub use laws::{few_gates, few_gates_each, few_gates_in_all, mapping_given};
 pub use pass::MapPass;
-
-#[cfg(test)]
-mod tests;

@@ -46,7 +46,7 @@ fn map_net(alloc: Global, tables: &Tables, net: &Netlist) -> Result<PlainNet, Me
 }
 
 /// Maps netlists to nets of majorities and inverters. A netlist gives one net; it is refused for want of memory alone.
-#[derive(Debug, Drop)]
+#[derive(Drop)]
 pub struct MapPass {
     tables: Tables,
 }

@@ -13,7 +13,7 @@ use case_tables::{Operand, Recipe, Step};
 use std::alloc::Global;
 
 /// The gates of the inputs of a recipe.
-#[derive(Clone, Copy, Debug)]
+#[derive(Clone, Copy)]
 pub struct Inputs {
     pub a: u32,
     pub b: u32,

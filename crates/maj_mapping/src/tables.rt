@@ -8,7 +8,7 @@ use std::alloc::Global;
 use std::marker::Model;
 
 /// The recipes of all functions of two and of three inputs.
-#[derive(Debug, Drop)]
+#[derive(Drop)]
 pub struct Tables {
     two: Table<16>,
     three: Table<256>,

@@ -13,7 +13,7 @@ use circuit::Answers;
 use std::alloc::Global;
 
 /// A signal whose inputs before `at` were walked.
-#[derive(Clone, Copy, Debug)]
+#[derive(Clone, Copy)]
 pub struct Visit {
     pub signal: u32,
     pub at: usize,

@@ -8,7 +8,7 @@ use aq_base::Memory;
 use std::alloc::Global;
 
 /// An end of an edge, and the x at which the edge stands. An edge along x has two equal ends.
-#[derive(Clone, Copy, Debug, PartialEq, Eq, PartialOrd, Ord)]
+#[derive(Clone, Copy, PartialEq, Eq, PartialOrd, Ord)]
 pub struct End {
     pub y: i64,
     pub x: i64,

@@ -4,14 +4,14 @@ use aq_base::{Bytes, List};
 use geom::Label;
 
 /// A point: its coordinates, in nanometres.
-#[derive(Clone, Copy, Debug, PartialEq, Eq)]
+#[derive(Clone, Copy, PartialEq, Eq)]
 pub struct Point {
     pub x: i64,
     pub y: i64,
 }
 
 /// What an element draws.
-#[derive(Clone, Debug, Drop, PartialEq)]
+#[derive(Clone, Drop, PartialEq)]
 pub enum Figure {
     /// The corners of a boundary in turn, from a point back to it. Consecutive corners differ in at most one coordinate.
     Ring(List<Point>),
@@ -25,7 +25,7 @@ pub enum Figure {
 }
 
 /// A mirroring at the x axis, if asked for, and then so many quarter turns, fewer than four, counterclockwise.
-#[derive(Clone, Copy, Debug, PartialEq, Eq)]
+#[derive(Clone, Copy, PartialEq, Eq)]
 pub struct Turn {
     pub mirror: bool,
     pub quarter: u8,
@@ -33,7 +33,7 @@ pub struct Turn {
 
 /// The points at which a structure is repeated: `columns` by `rows` of them, each from 1 to 32,767. The steps are taken as
 /// they stand, whatever the turn.
-#[derive(Clone, Copy, Debug, PartialEq, Eq)]
+#[derive(Clone, Copy, PartialEq, Eq)]
 pub struct Grid {
     pub columns: u16,
     pub rows: u16,
@@ -42,7 +42,7 @@ pub struct Grid {
 }
 
 /// An element of a structure: a figure on a layer and datatype, a placement, or a label.
-#[derive(Clone, Debug, Drop, PartialEq)]
+#[derive(Clone, Drop, PartialEq)]
 pub enum Item {
     Draw {
         layer: u16,
@@ -60,7 +60,7 @@ pub enum Item {
 }
 
 /// A structure: a name and the elements under it.
-#[derive(Clone, Debug, Drop, PartialEq)]
+#[derive(Clone, Drop, PartialEq)]
 pub struct WideStructure {
     pub name: Bytes,
     pub items: List<Item>,
@@ -68,7 +68,7 @@ pub struct WideStructure {
 
 /// The structures of a stream in order, and the number of the top, which no structure refers to. Structures are numbered
 /// from 0.
-#[derive(Clone, Debug, Drop, PartialEq)]
+#[derive(Clone, Drop, PartialEq)]
 pub struct WideLayout {
     pub structures: List<WideStructure>,
     pub top: u32,

@@ -8,8 +8,6 @@ mod laws;
 mod pass;
 mod pins;
 mod rows;
-#[cfg(test)]
-mod tests;
 mod windows;
 
 pub use laws::{

@@ -7,8 +7,6 @@ mod laws;
 mod pass;
 mod plan;
 mod rows;
-#[cfg(test)]
-mod tests;
 
 pub use laws::{places_answer, places_given, places_keep, places_rows, places_span, worked_places};
 pub use pass::{PlacePass, PlaceRefusal};

@@ -7,13 +7,14 @@ ghost use Rattle.shape_extract.specs.Extracts.{Extracts};
 ghost use Rattle.rule_check.specs.Checks.{FindsGeometry, IfBroken};
 ghost use Rattle.layout_rules.specs.Nets.{AreNets};
 ghost use Rattle.rule_check.specs.Code.Seen.{limits_seen};
+ghost use Rattle.rule_check.specs.Code.Sheets.{IsSheet};
 
 use crate::cover::find_cover;
 use crate::enclosure::find_bare;
 use crate::frames::find_colliding;
 use crate::lengths::find_long;
 use crate::limits::{Limits, read_limits};
-use crate::sheet::sheet_of;
+use crate::sheet::{Sheet, sheet_of};
 use crate::sizes::find_small;
 use crate::spacing::find_close;
 use aq_base::Memory;
@@ -44,7 +45,7 @@ impl From<Memory> for CheckRefusal {
 }
 
 /// A rule that is broken, and what it reports.
-#[derive(Clone, Copy, Debug, PartialEq, Eq)]
+#[derive(Clone, Copy, PartialEq, Eq)]
 pub struct BrokenRule {
     pub rule: Rule,
     pub first: u32,
@@ -62,6 +63,44 @@ fn broken(rule: Rule, report: Report) -> Option<BrokenRule>
     })
 }
 
+/// The first rule of geometry that is broken, from the sheet of the shapes.
+fn first_on(
+    alloc: Global,
+    flat: &Flat,
+    sheet: &Sheet,
+    nets: &[u32],
+    limits: &Limits,
+) -> Result<Option<BrokenRule>, Memory>
+    requires few { flat_count flat.now < 2 ^ 32 }
+    requires sheet { IsSheet flat.now.shapes sheet.now }
+    requires nets { AreNets flat.now.shapes nets.now }
+    requires space_some { 1 ≤ limits.now.space }
+    requires space_most { limits.now.space ≤ 1000000 }
+    requires limit { limits.now.limit < 2 ^ 64 - 1 }
+    ensures { IfOk result (FindsGeometry flat.now (limits_seen limits.now)) }
+{
+    let shapes = flat.shapes.as_slice();
+    if let Some(report) = find_small(alloc, shapes, limits)? {
+        return Ok(broken(Rule::G1, report));
+    }
+    if let Some(report) = find_close(alloc, shapes, sheet, limits)? {
+        return Ok(broken(Rule::G2, report));
+    }
+    if let Some(report) = find_bare(alloc, shapes, sheet, limits)? {
+        return Ok(broken(Rule::G3, report));
+    }
+    if let Some(report) = find_cover(alloc, shapes, sheet)? {
+        return Ok(broken(Rule::G4, report));
+    }
+    if let Some(report) = find_colliding(alloc, shapes)? {
+        return Ok(broken(Rule::G5, report));
+    }
+    if let Some(report) = find_long(alloc, shapes, nets, limits)? {
+        return Ok(broken(Rule::E5, report));
+    }
+    Ok(None)
+}
+
 /// The first rule of geometry that is broken, with the numbers that it reports.
 pub fn first_broken(
     alloc: Global,
@@ -76,27 +115,8 @@ pub fn first_broken(
     requires limit { limits.now.limit < 2 ^ 64 - 1 }
     ensures { IfOk result (FindsGeometry flat.now (limits_seen limits.now)) }
 {
-    let shapes = flat.shapes.as_slice();
-    if let Some(report) = find_small(alloc, shapes, limits)? {
-        return Ok(broken(Rule::G1, report));
-    }
-    let sheet = sheet_of(alloc, shapes)?;
-    if let Some(report) = find_close(alloc, shapes, &sheet, limits)? {
-        return Ok(broken(Rule::G2, report));
-    }
-    if let Some(report) = find_bare(alloc, shapes, &sheet, limits)? {
-        return Ok(broken(Rule::G3, report));
-    }
-    if let Some(report) = find_cover(alloc, shapes, &sheet)? {
-        return Ok(broken(Rule::G4, report));
-    }
-    if let Some(report) = find_colliding(alloc, shapes)? {
-        return Ok(broken(Rule::G5, report));
-    }
-    if let Some(report) = find_long(alloc, shapes, nets, limits)? {
-        return Ok(broken(Rule::E5, report));
-    }
-    Ok(None)
+    let sheet = sheet_of(alloc, flat.shapes.as_slice())?;
+    first_on(alloc, flat, &sheet, nets, limits)
 }
 
 /// Answers where the layout, whose circuit this is, keeps all rules with the numbers of the library. It is refused with

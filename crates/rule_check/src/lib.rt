@@ -12,6 +12,3 @@ mod sizes;
 mod spacing;
 
 pub use checking::{CheckRefusal, check};
-
-#[cfg(test)]
-mod tests;

@@ -10,6 +10,3 @@ pub use adder::adder_text;
 pub use eight::sample_words;
 pub use laws::{sample_laws, worked_sample};
 pub use print::print_sample;
-
-#[cfg(test)]
-mod tests;

@@ -25,7 +25,7 @@ struct StandIns {
 }
 
 /// A shape as equal ones are brought together: by its sides, its layer and its datatype, then by its number.
-#[derive(Clone, Copy, Debug, PartialEq, Eq, PartialOrd, Ord)]
+#[derive(Clone, Copy, PartialEq, Eq, PartialOrd, Ord)]
 struct Sided {
     x0: i64,
     y0: i64,

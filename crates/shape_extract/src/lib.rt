@@ -30,6 +30,3 @@ pub use pairs::{PairTest, list_partners, list_passing};
 pub use planes::{FiledPlane, Plane, Planes, file_planes};
 pub use rowed::Source;
 pub use search::{Part, Report, first_of};
-
-#[cfg(test)]
-mod tests;

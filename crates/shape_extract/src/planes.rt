@@ -12,7 +12,7 @@ use geom::{Buckets, Rect, Shape, file_shapes};
 use std::alloc::Global;
 
 /// A group of layers. A shape lies in one plane at most.
-#[derive(Clone, Copy, Debug, PartialEq, Eq)]
+#[derive(Clone, Copy, PartialEq, Eq)]
 pub enum Plane {
     /// The lower metal and the pins.
     Lower,

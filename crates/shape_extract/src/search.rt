@@ -6,7 +6,7 @@ use aq_base::Memory;
 use std::alloc::Global;
 
 /// The two numbers that a rule reports.
-#[derive(Clone, Copy, Debug, PartialEq, Eq)]
+#[derive(Clone, Copy, PartialEq, Eq)]
 pub struct Report {
     pub first: u32,
     pub second: u32,

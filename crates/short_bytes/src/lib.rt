@@ -5,7 +5,5 @@
 #![tactic(auto)]
 
 mod short;
-#[cfg(test)]
-mod tests;
 
 pub use short::ShortBytes;

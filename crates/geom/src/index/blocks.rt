@@ -12,7 +12,7 @@ use std::alloc::Global;
 pub const BLOCK_SIZE: usize = 8;
 
 /// Entries from a place on, by the place past the last, and a rectangle that holds theirs.
-#[derive(Clone, Copy, Debug)]
+#[derive(Clone, Copy)]
 pub struct Block {
     pub past: usize,
     pub bounds: Rect,

@@ -11,7 +11,7 @@ use aq_base::Memory;
 use std::alloc::Global;
 
 /// The rectangle of this number stands in this cell.
-#[derive(Clone, Copy, Debug, PartialEq, Eq)]
+#[derive(Clone, Copy, PartialEq, Eq)]
 pub struct Entry {
     pub cell: usize,
     /// Where in the cell: entries near each other there have orders near each other, mostly.

@@ -10,7 +10,7 @@ pub const MOST_ROWS: u64 = 2_048;
 
 /// Cells in columns and rows, numbered row by row from the first on; all lengths are in nanometres. Corners to the left
 /// of the grid count to its first column, those to the right to its last; so do those below and above to its rows.
-#[derive(Clone, Copy, Debug, PartialEq, Eq)]
+#[derive(Clone, Copy, PartialEq, Eq)]
 pub struct Grid {
     /// The number of its first cell.
     pub first: usize,

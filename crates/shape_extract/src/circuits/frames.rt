@@ -9,7 +9,7 @@ use geom::Shape;
 use std::alloc::Global;
 
 /// The lower left corner of a frame and the frame's number. Cells are counted in the order of these.
-#[derive(Clone, Copy, Debug, PartialEq, Eq, PartialOrd, Ord)]
+#[derive(Clone, Copy, PartialEq, Eq, PartialOrd, Ord)]
 pub struct Corner {
     pub y: i64,
     pub x: i64,

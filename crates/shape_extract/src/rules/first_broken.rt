@@ -23,7 +23,7 @@ use layout_rules::Rule;
 use std::alloc::Global;
 
 /// A rule that is broken, and what it reports.
-#[derive(Clone, Copy, Debug, PartialEq, Eq)]
+#[derive(Clone, Copy, PartialEq, Eq)]
 pub struct BrokenRule {
     pub rule: Rule,
     pub first: u32,

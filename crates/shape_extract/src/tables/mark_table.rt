@@ -11,7 +11,7 @@ use geom::Flat;
 use std::alloc::Global;
 
 /// Which labels mark a shape.
-#[derive(Clone, Copy, Debug, PartialEq, Eq)]
+#[derive(Clone, Copy, PartialEq, Eq)]
 pub enum Mark {
     /// None.
     Unmarked,

@@ -14,7 +14,7 @@ use layout_rules::layers::{INPUT_PIN, OUTPUT_PIN};
 use std::alloc::Global;
 
 /// What a shape is to the outside of a chip.
-#[derive(Clone, Copy, Debug, PartialEq, Eq)]
+#[derive(Clone, Copy, PartialEq, Eq)]
 pub enum Port {
     /// An input pin of the lowest row.
     Entry,

@@ -13,5 +13,6 @@ returns c = record {
     keeps = c.extracted_keeps.ensures;
     answers = c.one_answer.ensures.some;
     shows = c.every_order.ensures.shows;
+    by_clocks = c.every_clock.ensures.shows;
   }) may few;
 }

@@ -1,0 +1,208 @@
+// Tests of the reader on the first chip, a buffer in each of two rows, and on what becomes of its bytes.
+use crate::fixtures::{Edit, FIRST, edited};
+use gds_read::{StreamKind, StreamRefusal, flatten, read_stream};
+use std::alloc::{AllocError, Global};
+use std::test::Fail;
+
+fn is_refused(alloc: Global, bytes: &[u8], offset: u64, kind: StreamKind) -> bool {
+    match read_stream(alloc, bytes) {
+        Err(refusal) => refusal == StreamRefusal::Bad { offset, kind },
+        Ok(_) => false,
+    }
+}
+
+// Whether the bytes are read as the first chip is.
+fn is_first(alloc: Global, bytes: &[u8]) -> bool {
+    match (read_stream(alloc, bytes), read_stream(alloc, &FIRST)) {
+        (Ok(layout), Ok(first)) => layout == first,
+        _ => false,
+    }
+}
+
+#[test]
+fn first_chip_is_read(rt: HostRuntime) -> Result<(), Fail> {
+    let layout = read_stream(rt.alloc(), &FIRST)?;
+    assert_eq!(rt; layout.structures.len(), 2);
+    assert_eq!(rt; layout.top, 1);
+    let flat = flatten(rt.alloc(), &layout)?;
+    assert_eq!(rt; flat.shapes.len(), 15);
+    assert_eq!(rt; flat.labels.len(), 2);
+    let pin = flat.shapes.get(12);
+    assert_eq!(rt; (pin.layer, pin.rect.x0, pin.rect.y1), (22, 4500, 24_000));
+    assert_eq!(rt; flat.labels.get(1).text.as_slice(), b"O0".as_slice());
+    Ok(())
+}
+
+#[test]
+fn a_cut_is_truncated_at_its_record(rt: HostRuntime) {
+    let records = [1000, 1004, 1010, 1016, 1028, 1034, 1038, 1042, 1046];
+    for window in records.windows(2) {
+        for length in window[0]..window[1] {
+            let (cut, _) = FIRST.split_at(length);
+            assert!(rt;
+                is_refused(rt.alloc(), cut, window[0] as u64, StreamKind::Truncated),
+                "{length}"
+            );
+        }
+    }
+}
+
+#[test]
+fn faults_are_found_at_their_places(rt: HostRuntime) -> Result<(), Fail> {
+    let none: &[u8] = &[];
+    let rows: [(usize, usize, &[u8], u64, StreamKind); 13] = [
+        (0, 1046, none, 0, StreamKind::Truncated),
+        (0, 1046, &[0x00, 0x03, 0x00, 0x02], 0, StreamKind::Length),
+        (0, 1046, &[0x00, 0x04, 0x00, 0x02], 0, StreamKind::Length),
+        (
+            0,
+            1046,
+            &[0x00, 0x06, 0x00, 0x03, 0x02, 0x58],
+            0,
+            StreamKind::DataType,
+        ),
+        (0, 6, none, 0, StreamKind::Order),
+        (42, 20, none, 42, StreamKind::Order),
+        (54, 1, &[0x3A], 42, StreamKind::Value),
+        (62, 984, &[0x00, 0x04, 0x04, 0x00], 62, StreamKind::NoTop),
+        (100, 1, &[0x09], 98, StreamKind::Unsupported),
+        (133, 1, &[0x01], 114, StreamKind::NotRectangle),
+        (326, 3, b"BUF", 322, StreamKind::Value),
+        (340, 1, b"G", 334, StreamKind::UnknownName),
+        (
+            342,
+            0,
+            &[0x00, 0x06, 0x1A, 0x01, 0x80, 0x00],
+            342,
+            StreamKind::Unsupported,
+        ),
+    ];
+    for (at, taken, put, offset, kind) in rows {
+        let bytes = edited(rt.alloc(), &FIRST, Edit { at, taken, put })?;
+        assert!(rt;
+            is_refused(rt.alloc(), bytes.as_slice(), offset, kind),
+            "{kind:?} at {offset}"
+        );
+    }
+    Ok(())
+}
+
+#[test]
+fn faults_of_the_whole_are_found(rt: HostRuntime) -> Result<(), Fail> {
+    let none: &[u8] = &[];
+    let rows: [(usize, usize, &[u8], usize, usize, &[u8], u64, StreamKind); 3] = [
+        (814, 3, b"TOP", 338, 3, b"TOP", 294, StreamKind::Unsupported),
+        (806, 28, none, 330, 28, none, 294, StreamKind::SeveralTops),
+        (
+            1046,
+            0,
+            &[0x00, 0x01],
+            1046,
+            0,
+            none,
+            1047,
+            StreamKind::Value,
+        ),
+    ];
+    for (at, taken, put, then, out, and, offset, kind) in rows {
+        let once = edited(rt.alloc(), &FIRST, Edit { at, taken, put })?;
+        let edit = Edit {
+            at: then,
+            taken: out,
+            put: and,
+        };
+        let bytes = edited(rt.alloc(), once.as_slice(), edit)?;
+        assert!(rt;
+            is_refused(rt.alloc(), bytes.as_slice(), offset, kind),
+            "{kind:?} at {offset}"
+        );
+    }
+    let edit = Edit {
+        at: 1046,
+        taken: 0,
+        put: &[0x01],
+    };
+    let bytes = edited(rt.alloc(), &FIRST, edit)?;
+    assert!(rt; is_refused(rt.alloc(), bytes.as_slice(), 1046, StreamKind::Value));
+    Ok(())
+}
+
+// REFLIBS, FONTS, ATTRTABLE and GENERATIONS.
+const LIBRARIES: [u8; 20] = [
+    0x00, 0x06, 0x1F, 0x06, 0x41, 0x42, 0x00, 0x04, 0x20, 0x06, 0x00, 0x04, 0x23, 0x06, 0x00, 0x06,
+    0x22, 0x02, 0x00, 0x03,
+];
+
+// ELFLAGS and PLEX.
+const FLAGS: [u8; 14] = [
+    0x00, 0x06, 0x26, 0x01, 0x00, 0x01, 0x00, 0x08, 0x2F, 0x03, 0x00, 0x00, 0x00, 0x07,
+];
+
+// PROPATTR and PROPVALUE.
+const PROPERTY: [u8; 12] = [
+    0x00, 0x06, 0x2B, 0x02, 0x00, 0x01, 0x00, 0x06, 0x2C, 0x06, 0x41, 0x42,
+];
+
+// The first frame, from its upper right corner and clockwise.
+const CORNERS: [u8; 40] = [
+    0x00, 0x00, 0x1F, 0x40, 0x00, 0x00, 0x27, 0x10, 0x00, 0x00, 0x1F, 0x40, 0x00, 0x00, 0x00, 0x00,
+    0x00, 0x00, 0x00, 0x00, 0x00, 0x00, 0x00, 0x00, 0x00, 0x00, 0x00, 0x00, 0x00, 0x00, 0x27, 0x10,
+    0x00, 0x00, 0x1F, 0x40, 0x00, 0x00, 0x27, 0x10,
+];
+
+// PRESENTATION, PATHTYPE, WIDTH, STRANS, MAG and ANGLE.
+const LETTERING: [u8; 50] = [
+    0x00, 0x06, 0x17, 0x01, 0x00, 0x05, 0x00, 0x06, 0x21, 0x02, 0x00, 0x00, 0x00, 0x08, 0x0F, 0x03,
+    0x00, 0x00, 0x00, 0x0A, 0x00, 0x06, 0x1A, 0x01, 0x80, 0x00, 0x00, 0x0C, 0x1B, 0x05, 0x41, 0x10,
+    0x00, 0x00, 0x00, 0x00, 0x00, 0x00, 0x00, 0x0C, 0x1C, 0x05, 0x42, 0x5A, 0x00, 0x00, 0x00, 0x00,
+    0x00, 0x00,
+];
+
+#[test]
+fn what_does_not_count_is_passed_over(rt: HostRuntime) -> Result<(), Fail> {
+    let zeros = [0u8; 1002];
+    let rows: [(usize, usize, &[u8]); 7] = [
+        (42, 0, &LIBRARIES),
+        (102, 0, &FLAGS),
+        (158, 0, &PROPERTY),
+        (118, 40, &CORNERS),
+        (342, 0, &[0x00, 0x06, 0x1A, 0x01, 0x00, 0x00]),
+        (978, 0, &LETTERING),
+        (1046, 0, &zeros),
+    ];
+    for (at, taken, put) in rows {
+        let bytes = edited(rt.alloc(), &FIRST, Edit { at, taken, put })?;
+        assert!(rt; is_first(rt.alloc(), bytes.as_slice()), "at {at}");
+    }
+    Ok(())
+}
+
+// A structure of 4,000 boundaries, and a top that refers to it so many times.
+fn crowded(alloc: Global, references: usize) -> Result<Vec<u8>, AllocError> {
+    let mut bytes = Vec::new(alloc);
+    bytes.extend_from_slice(&FIRST[0..98])?;
+    for _ in 0..4_000 {
+        bytes.extend_from_slice(&FIRST[98..162])?;
+    }
+    bytes.extend_from_slice(&FIRST[290..330])?;
+    for _ in 0..references {
+        bytes.extend_from_slice(&FIRST[330..358])?;
+    }
+    bytes.extend_from_slice(&FIRST[1038..1046])?;
+    Ok(bytes)
+}
+
+#[test]
+fn too_many_shapes_are_counted(rt: HostRuntime) -> Result<(), Fail> {
+    let enough = crowded(rt.alloc(), 2_000)?;
+    let layout = read_stream(rt.alloc(), enough.as_slice())?;
+    assert_eq!(rt; layout.structures.len(), 2);
+    let more = crowded(rt.alloc(), 2_001)?;
+    match read_stream(rt.alloc(), more.as_slice()) {
+        Ok(_) => assert!(rt; false, "read"),
+        Err(refusal) => {
+            assert_eq!(rt; refusal, StreamRefusal::TooManyShapes { count: 8_004_000 });
+        }
+    }
+    Ok(())
+}
