@@ -87,8 +87,7 @@ if ! [ -x /usr/bin/time ]; then
     echo "build: GNU time is not there" >&2
     exit 70
 fi
-"$here/aqfp" --help >/dev/null
-program=$here/crates/aqfp_cli/out/aqfp_cli
+program=${AQFP:-$("$here/.ci/program")} || exit
 
 while read -r shape half whole; do
     measure "$shape" "$half" >"$work/half"

@@ -12,7 +12,6 @@
 # KINDS="NAME COUNT.." tries these alone, BITS=64 one adder. Needs GNU time and python3.
 set -u
 here=$(cd -P "$(dirname "$0")/.." && pwd)
-program=${AQFP:-$here/crates/aqfp_cli/out/aqfp_cli}
 library=$here/libraries/a.toml
 seconds=${SECONDS_EACH:-60}
 work=$(mktemp -d)
@@ -20,7 +19,7 @@ trap 'rm -rf "$work"' EXIT
 for tool in /usr/bin/time python3; do
     command -v "$tool" >/dev/null || { echo "check: $tool is not there" >&2; exit 70; }
 done
-[ -n "${AQFP:-}" ] || "$here/aqfp" --help >/dev/null
+program=${AQFP:-$("$here/.ci/program")} || exit
 
 # The sum of two numbers of so many bits.
 adder() {

@@ -13,7 +13,6 @@
 # abc) all circuits are compared with themselves, and no time is judged.
 set -u
 here=$(cd -P "$(dirname "$0")/.." && pwd)
-program=${AQFP:-$here/crates/aqfp_cli/out/aqfp_cli}
 seconds=${SECONDS_EACH:-600}
 work=$(mktemp -d)
 trap 'rm -rf "$work"' EXIT
@@ -25,7 +24,7 @@ for tool in berkeley-abc yosys-abc abc; do
     command -v $tool >/dev/null && { abc=$tool; break; }
 done
 [ -n "$abc" ] || echo "equal: ABC is not there; circuits are compared with themselves, and no time is judged" >&2
-[ -n "${AQFP:-}" ] || "$here/aqfp" --help >/dev/null
+program=${AQFP:-$("$here/.ci/program")} || exit
 sed 's/^capacity = .*/capacity = 200/; s/^limit = .*/limit = 20000000/' "$here/libraries/a.toml" >"$work/far.toml"
 : >"$work/none"
 failed=0

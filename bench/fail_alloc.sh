@@ -11,13 +11,12 @@
 # crates/aqfp_cli refuses one allocation in a run that is also checked for bad accesses, in about a minute each.
 set -u
 here=$(cd -P "$(dirname "$0")/.." && pwd)
-program=${AQFP:-$here/crates/aqfp_cli/out/aqfp_cli}
 work=$(mktemp -d)
 trap 'rm -rf "$work"' EXIT
 for tool in cc python3; do
     command -v "$tool" >/dev/null || { echo "fail_alloc: $tool is not there" >&2; exit 70; }
 done
-[ -n "${AQFP:-}" ] || "$here/aqfp" --help >/dev/null
+program=${AQFP:-$("$here/.ci/program")} || exit
 
 cat >"$work/refuse.c" <<'END'
 #define _GNU_SOURCE
@@ -80,6 +79,7 @@ room.mkdir()
 COMMANDS = [
     ("build wire.blif a.toml old.gds", "old.gds"),
     ("build wire.blif a.toml new.gds", "new.gds"),
+    ("compact wire.blif a.toml new.gds", "new.gds"),
     ("verify wire.gds a.toml wire.words", None),
     ("trace wire.gds a.toml wire.words", None),
     ("equal wire.gds a.toml wire.blif", None),

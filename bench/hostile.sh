@@ -19,14 +19,13 @@
 # is 1 where one is above. Needs GNU time, cc and python3; SECONDS_EACH, by default 300, is when a run is cut off.
 set -u
 here=$(cd -P "$(dirname "$0")/.." && pwd)
-program=${AQFP:-$here/crates/aqfp_cli/out/aqfp_cli}
 seconds=${SECONDS_EACH:-300}
 work=$(mktemp -d)
 trap 'rm -rf "$work"' EXIT
 for tool in /usr/bin/time cc python3; do
     command -v "$tool" >/dev/null || { echo "hostile: $tool is not there" >&2; exit 70; }
 done
-[ -n "${AQFP:-}" ] || "$here/aqfp" --help >/dev/null
+program=${AQFP:-$("$here/.ci/program")} || exit
 : >"$work/none"
 printf '0\n1\n' >"$work/words"
 "$program" build "$here/examples/wire.blif" "$here/libraries/a.toml" "$work/wire.gds" >/dev/null || exit 1

@@ -6,13 +6,12 @@
 # time.
 set -u
 here=$(cd -P "$(dirname "$0")/.." && pwd)
-program=${AQFP:-$here/crates/aqfp_cli/out/aqfp_cli}
 work=$(mktemp -d)
 trap 'rm -rf "$work"' EXIT
 for tool in cc python3 /usr/bin/time; do
     command -v "$tool" >/dev/null || { echo "names: $tool is not there" >&2; exit 70; }
 done
-[ -n "${AQFP:-}" ] || "$here/aqfp" --help >/dev/null
+program=${AQFP:-$("$here/.ci/program")} || exit
 : >"$work/none"
 
 # The default hash takes a name's length and then its bytes, one by one: each is a product of 64 bits by 64, folded.

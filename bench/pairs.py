@@ -19,7 +19,7 @@ import sys
 import tempfile
 
 top = pathlib.Path(__file__).resolve().parent.parent
-program = os.environ.get("AQFP", top / "crates/aqfp_cli/out/aqfp_cli")
+program = os.environ.get("AQFP") or subprocess.check_output([top / ".ci/program"], text=True).removesuffix("\n")
 library = top / "libraries/a.toml"
 
 

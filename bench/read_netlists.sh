@@ -5,12 +5,11 @@
 # input and without rows, of no input and with a row, and of one input; and then as designs of as many models, of which the
 # first calls none, or all. Each is read whole, and then the library, which is empty, is refused. Prints the seconds of
 # processor time, their ratios, twice the text against once, and the memory at most in times of the text, which is counted
-# too. Needs GNU time; AQFP is the program, by default the one that is built here.
+# too. Needs GNU time; AQFP is the program, by default the one that ./aqfp runs.
 set -u
 here=$(cd -P "$(dirname "$0")/.." && pwd)
-program=${AQFP:-$here/crates/aqfp_cli/out/aqfp_cli}
 command -v /usr/bin/time >/dev/null || { echo "read_netlists: /usr/bin/time is not there" >&2; exit 70; }
-[ -n "${AQFP:-}" ] || "$here/aqfp" --help >/dev/null
+program=${AQFP:-$("$here/.ci/program")} || exit
 work=$(mktemp -d)
 trap 'rm -rf "$work"' EXIT
 : >"$work/none.toml"
