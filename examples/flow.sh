@@ -3,21 +3,23 @@
 #
 #   examples/flow.sh FOLDER
 #
-# Each netlist NAME.blif of this folder is built with library A as FOLDER/NAME.gds, is verified with NAME.words, and what
-# is printed is compared with NAME.answers; `equal` compares the chip with NAME.blif for all words, and where ABC is
-# installed, it compares the netlist of the chip's circuit with NAME.blif. Then the same is done with netlists that other
-# tools make of it: NAME_yosys, which Yosys makes of NAME.v, with gates of two inputs and choices, NAME_and, with and, or
-# and not alone, NAME_lut, with tables of three inputs; and NAME_abc, which ABC makes of NAME.blif. Where KLayout is
-# installed, it checks each chip by share/aqfp.drc and makes a picture of it. Last come the layouts under layouts/, a
-# trace, and a netlist that is refused. A layout NETLIST_CHANGE.gds is verified with its words, and where there is a file
-# NETLIST_CHANGE.compared, that is what `equal` says of it and of NETLIST.blif. Then KLayout and Magic draw the full adder
-# anew by the scripts beside the layouts. A tool that is not installed is named, and its part is left out.
+# Each netlist NAME.blif of this folder is built with library A as FOLDER/NAME.gds, is verified with NAME.words, and
+# what is printed is compared with NAME.answers; `equal` compares the chip with NAME.blif for all words, and where ABC
+# is installed, it compares the netlist of the chip's circuit with NAME.blif. The same is done with library B, as
+# NAME_b, with the chip of `compact`, as NAME_compact, and with netlists that other tools make of it: NAME_yosys, which
+# Yosys makes of NAME.v, with gates of two inputs and choices, NAME_and, with and, or and not alone, NAME_lut, with
+# tables of three inputs; and NAME_abc, which ABC makes of NAME.blif. Where KLayout is installed, it checks each chip by
+# share/aqfp.drc and makes a picture of it. Last come the layouts under layouts/, a trace, and a netlist that is
+# refused. A layout NETLIST_CHANGE.gds is verified with its words, and where there is a file NETLIST_CHANGE.compared,
+# that is what `equal` says of it and of NETLIST.blif. Then KLayout and Magic draw the full adder anew by the scripts
+# beside the layouts. A tool that is not installed is named, and its part is left out.
 # Prints a line for each chip. The status is 1 where something failed. AQFP names another program than the launcher.
 set -u
 here=$(cd -P "$(dirname "$0")" && pwd)
 top=$(dirname "$here")
 aqfp=${AQFP:-$top/aqfp}
 library=$top/libraries/a.toml
+command=build
 if [ $# -ne 1 ]; then
     echo "usage: examples/flow.sh FOLDER" >&2
     exit 2
@@ -48,12 +50,12 @@ look_at() {
     klayout -z -b -r "$top/share/aqfp.drc" -rd gds="$1.gds" -rd library="$library" | grep -q '^sum 0$'
 }
 
-# Builds a netlist as FOLDER/CHIP.gds, and compares the chip's answers with those of an example.
+# Makes the chip of a netlist by the command, as FOLDER/CHIP.gds, and compares its answers with those of an example.
 make_chip() {
     chip=$1
     netlist=$2
     example=$3
-    if ! counts=$("$aqfp" build "$netlist" "$library" "$folder/$chip.gds" 2>&1); then
+    if ! counts=$("$aqfp" "$command" "$netlist" "$library" "$folder/$chip.gds" 2>&1); then
         fail "$chip: $counts"
         return
     fi
@@ -115,6 +117,12 @@ for netlist in "$here"/*.blif; do
     name=$(basename "$netlist" .blif)
     [ "$name" = cycle ] && continue
     make_chip "$name" "$netlist" "$name"
+    library=$top/libraries/b.toml
+    make_chip "${name}_b" "$netlist" "$name"
+    library=$top/libraries/a.toml
+    command=compact
+    make_chip "${name}_compact" "$netlist" "$name"
+    command=build
     if [ -f "$here/$name.v" ] && have yosys; then
         make_synthesised "$name" yosys "-g AND,OR,XOR,ANDNOT,ORNOT,MUX"
         make_synthesised "$name" and "-g AND,OR"

@@ -1,24 +1,41 @@
-# Completion of aqfp's words for bash: source it, or put it where bash-completion looks, under the name aqfp.
+# Completion of aqfp's words for bash: source it, or put it where bash-completion looks, under the name aqfp. Where
+# bash-completion is loaded, its `_filedir` looks for files, so blanks, quotes and ~ in names are as for other programs.
+
+# Files with one of the endings, and folders, where there is no bash-completion.
+_aqfp_files() {
+    local file
+    while IFS= read -r file; do
+        if [ -d "$file" ] || [[ $file =~ \.($1)$ ]]; then COMPREPLY+=("$file"); fi
+    done < <(compgen -f -- "$2")
+    compopt -o filenames 2>/dev/null
+}
+
 _aqfp() {
-    local word=${COMP_WORDS[COMP_CWORD]}
-    local place=$COMP_CWORD
+    local cur prev words cword
     COMPREPLY=()
-    if [ "$place" -eq 1 ]; then
-        mapfile -t COMPREPLY < <(compgen -W "build verify trace sample netlist equal --help --version" -- "$word")
+    if declare -F _init_completion >/dev/null; then
+        _init_completion || return
+    else
+        cur=${COMP_WORDS[COMP_CWORD]}
+        cword=$COMP_CWORD
+        words=("${COMP_WORDS[@]}")
+    fi
+    if [ "$cword" -eq 1 ]; then
+        mapfile -t COMPREPLY < <(compgen -W "build compact verify trace sample netlist equal --help --version" -- "$cur")
         return
     fi
     local endings
-    case ${COMP_WORDS[1]}:$place in
-        build:2 | equal:4 | netlist:4) endings='blif' ;;
-        verify:2 | trace:2 | equal:2 | netlist:2 | build:4) endings='gds' ;;
-        build:3 | verify:3 | trace:3 | equal:3 | netlist:3) endings='toml' ;;
+    case ${words[1]}:$cword in
+        build:2 | compact:2 | equal:4 | netlist:4) endings='blif' ;;
+        verify:2 | trace:2 | equal:2 | netlist:2 | build:4 | compact:4) endings='gds' ;;
+        build:3 | compact:3 | verify:3 | trace:3 | equal:3 | netlist:3) endings='toml' ;;
         verify:4 | trace:4) endings='words|txt' ;;
         *) return ;;
     esac
-    local file
-    while IFS= read -r file; do
-        if [ -d "$file" ] || [[ $file =~ \.($endings)$ ]]; then COMPREPLY+=("$file"); fi
-    done < <(compgen -f -- "$word")
-    compopt -o filenames 2>/dev/null
+    if declare -F _filedir >/dev/null; then
+        _filedir "@($endings)"
+    else
+        _aqfp_files "$endings" "$cur"
+    fi
 }
 complete -F _aqfp aqfp
