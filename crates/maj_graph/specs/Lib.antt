@@ -1,0 +1,5 @@
+pub mod Graphs
+pub mod Building
+pub mod Carried
+pub mod Passes
+pub mod Code
