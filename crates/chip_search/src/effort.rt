@@ -1,0 +1,103 @@
+// How much work a search does.
+use crate::arrays::narrow;
+
+/// How much work a search does. All numbers are counts, so that the same graphs give the same draft on each machine.
+#[derive(Clone, Copy)]
+pub struct Effort {
+    /// How many times all rows are settled after a start.
+    pub sweeps: u32,
+    /// Whether wires of one label are matched anew after each time.
+    pub matches: bool,
+    /// How many times nodes in a line are drawn to their neighbors for one more start, and 0 for no such start.
+    pub line_rounds: u32,
+    /// How many times all rows are settled by means before, and 0 for no such starts.
+    pub smooth_sweeps: u32,
+    /// How many times splitters are pulled down.
+    pub pulls: u32,
+    /// How many times all rows are settled after each of these.
+    pub pull_sweeps: u32,
+    /// How many times rows are added to each channel where wires move too far.
+    pub rounds: u32,
+    /// How many times all rows are settled after each of these.
+    pub round_sweeps: u32,
+    /// How many times rows that channels side by side share are added before, and 0 for no such try.
+    pub shared_rounds: u32,
+    /// How many times all rows are settled after each of these.
+    pub shared_sweeps: u32,
+    /// How many times rows of buffers are left out at the end, and others added where they are wanted then.
+    pub trims: u32,
+    /// How many times a cell is settled, at most, for each cell of a chip without added rows: once for the starts of
+    /// each graph, and once more for all that is done to the best one. `MORE_CELLS` are counted more than there are.
+    pub steps: u32,
+}
+
+/// So many cells are counted more than there are.
+const MORE_CELLS: u64 = 10_000;
+
+impl Effort {
+    /// Few starts, and no wire matched anew.
+    pub fn plain() -> Effort {
+        Effort {
+            sweeps: 24,
+            matches: false,
+            line_rounds: 0,
+            smooth_sweeps: 0,
+            pulls: 0,
+            pull_sweeps: 0,
+            rounds: 4,
+            round_sweeps: 8,
+            shared_rounds: 0,
+            shared_sweeps: 0,
+            trims: 0,
+            steps: u32::MAX,
+        }
+    }
+
+    /// More starts, and more ways to add rows.
+    pub fn full() -> Effort {
+        Effort {
+            sweeps: 24,
+            matches: true,
+            line_rounds: 300,
+            smooth_sweeps: 50,
+            pulls: 30,
+            pull_sweeps: 8,
+            rounds: 4,
+            round_sweeps: 24,
+            shared_rounds: 10,
+            shared_sweeps: 24,
+            trims: 12,
+            steps: 3_000,
+        }
+    }
+}
+
+/// How many times a cell may still be settled.
+#[derive(Clone, Copy)]
+pub(crate) struct Steps {
+    left: u64,
+}
+
+impl Steps {
+    /// The steps for a chip of so many cells.
+    pub(crate) fn new(effort: &Effort, cells: u32) -> Steps {
+        let cells = u64::from(cells).saturating_add(MORE_CELLS);
+        Steps {
+            left: cells.saturating_mul(u64::from(effort.steps)),
+        }
+    }
+
+    /// Whether some are left for so many cells.
+    pub(crate) fn are_left(&self, cells: u32) -> bool {
+        self.left >= u64::from(cells)
+    }
+
+    /// Takes steps for settling so many cells a number of times, or as often as the rest serves; how many times.
+    pub(crate) fn take(&mut self, cells: u32, sweeps: u32) -> u32 {
+        let cells = u64::from(cells.max(1));
+        let most = self.left.checked_div(cells).unwrap_or(0);
+        let taken = u64::from(sweeps).min(most);
+        self.left = self.left.saturating_sub(taken.saturating_mul(cells));
+        narrow(taken as usize)
+    }
+}

@@ -1,0 +1,24 @@
+//! The search for a small chip of a majority graph: levels, rows of cells, their order and their slots.
+#![tactic(auto)]
+
+mod added;
+mod arrays;
+mod candidate;
+mod cells;
+mod chip;
+mod drafts;
+mod effort;
+mod finding;
+mod graph;
+mod growing;
+mod levels;
+mod lining;
+mod places;
+mod pulling;
+mod signs;
+mod starting;
+mod trimming;
+mod walk;
+
+pub use effort::Effort;
+pub use finding::{Found, search};
