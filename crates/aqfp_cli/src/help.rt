@@ -4,6 +4,7 @@
 pub const HELP: &str = "aqfp - physical design of adiabatic quantum-flux-parametron (AQFP) chips
 
 usage: aqfp build NET LIB OUT
+       aqfp compact NET LIB OUT
        aqfp verify GDS LIB WORDS
        aqfp trace GDS LIB WORDS
        aqfp sample N
@@ -15,6 +16,8 @@ usage: aqfp build NET LIB OUT
 build   reads the netlist NET with the cells of the library LIB, stores the
         layout of its chip under OUT and prints the counts of its rows, cells
         and wires and its delay in phases. OUT may have the name of NET or LIB.
+compact the same, but searches for a smaller chip: one that answers as the
+        netlist does and is no larger than that of build.
 verify  reads the layout GDS, tries all rules of layouts with the numbers
         of the library LIB, and prints the counts and, for each word of WORDS,
         the answer that the chip's pulses show.
@@ -33,12 +36,13 @@ NET     a combinational netlist in the Berkeley Logic Interchange Format (BLIF),
         the first is taken; at most 16777216 bytes
 LIB     a cell library in TOML, at most 1048576 bytes
 OUT     a layout in the GDSII Stream Format, in database units of 1 nm; of
-        netlist, a netlist in BLIF
+        netlist, a netlist in BLIF. Not the file that standard output goes to:
+        the counts line would lie over its first bytes, with status 0
 GDS     a layout in the GDSII Stream Format, at most 268435456 bytes
 WORDS   lines with a 0 or 1 for each input, at most 16777216 bytes
 
 status  0  done
-        1  the words are none of the commands
+        1  the command line matches no command
         2  a file is absent
         3  a file is longer than its limit
         4  a file could not be read
@@ -59,4 +63,4 @@ A status above 0 comes with one line on standard error.
 ";
 
 /// The program's name and version.
-pub const VERSION: &str = "aqfp 0.1.0\n";
+pub const VERSION: &str = "aqfp 0.2.0\n";

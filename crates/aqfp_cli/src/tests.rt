@@ -6,6 +6,7 @@ use std::test::Fail;
 fn help_has_each_command_and_each_status(rt: HostRuntime) -> Result<(), Fail> {
     let commands = [
         "build NET LIB OUT",
+        "compact NET LIB OUT",
         "verify GDS LIB WORDS",
         "trace GDS LIB WORDS",
         "sample N",
@@ -17,7 +18,7 @@ fn help_has_each_command_and_each_status(rt: HostRuntime) -> Result<(), Fail> {
     }
     let statuses = [
         "0  done",
-        "1  the words",
+        "1  the command line",
         "2  a file is absent",
         "3  a file is longer",
         "4  a file could not be read",

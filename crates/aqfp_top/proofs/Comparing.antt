@@ -106,7 +106,7 @@ always_well gds lib net (Err fault) before none = tt
 pub functions_answer : (gds lib net : List ℕ) (circuit : CircuitView) (view : NetView) (fault : Fault) → MakesBoth gds lib net circuit view → IsFirst (both_stages gds lib net) None → FindsNone (stage.Counts gds lib net)
     → OrMemory (IsManyFault circuit view) fault → Answers (comparing_stages gds lib net) (Some fault)
 functions_answer gds lib net circuit view (TooLarge Functions count) both before none bad =
-    (compared_well gds lib net before none, inr (inr (inr (inr (inr (inr (inl (record { circuit = circuit; view = view; both = both; many = bad }))))))))
+    inr (compared_well gds lib net before none, inr (inr (inr (inr (inr (inr (inl (record { circuit = circuit; view = view; both = both; many = bad }))))))))
 functions_answer gds lib net circuit view Memory both before none bad = tt
 functions_answer gds lib net circuit view _ both before none bad = absurd bad
 

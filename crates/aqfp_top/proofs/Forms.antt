@@ -1,12 +1,57 @@
 -- A command line has one form.
-use Rattle.std.proofs.Common.{ℕ, ◌≡◌, List, inl, inr, refl, sym, ap, ◌∙◌, arith, get_or}
+use Rattle.std.proofs.Common.{ℕ, ◌≡◌, ◌≤◌, List, length, inl, inr, refl, sym, ap, ◌∙◌, arith, get_or}
 use Rattle.std.proofs.lemmas.Fmt.{decimal_injective}
-use Rattle.aqfp_top.specs.Words.{IsBuild, IsVerify, IsTrace, IsEqual, IsWrite, IsCheck, IsSampleSize, IsSampleOf, HasForm, IsOfForm}
+use Rattle.aqfp_top.specs.Words.{IsMake, IsMakeBy, IsBuild, IsCompact, IsVerify, IsTrace, IsEqual, IsWrite, IsCheck, IsSampleSize, IsSampleOf, HasForm, IsOfForm, word_at}
+use Rattle.aqfp_top.specs.declared.planner.Planner.{Planner}
+use Rattle.aqfp_top.specs.declared.planner.Planner.TheVariants.{Layered, Compact}
 use Rattle.aqfp_top.specs.declared.words.Form.{Form}
-use Rattle.aqfp_top.specs.declared.words.Form.TheVariants.{Build, Verify, Trace, Equal, Write, Sample, Wrong}
+use Rattle.aqfp_top.specs.declared.words.Form.TheVariants.{Make, Verify, Trace, Equal, Write, Sample, Wrong}
 
-pub build_not_sample : (words : List (List ℕ)) (bits : ℕ) → IsBuild words → IsSampleOf words bits → ⊥
-build_not_sample words bits form sample = let four = form.0 in let two = sample.two in omega (arith, four, two)
+build_not_compact : (words : List (List ℕ)) → IsBuild words → IsCompact words → ⊥
+build_not_compact words form compact =
+    let first : ◌≡◌ {A = ℕ} 99 98 = ap (λ xs. get_or xs 0 0) (sym compact.1 ∙ form.1) in omega (arith, first)
+
+-- the words of either command that makes a chip
+pub is_make : (planner : Planner) (words : List (List ℕ)) → IsMakeBy planner words → IsMake words
+is_make Layered words form = inl form
+is_make Compact words form = inr form
+
+pub one_planner : (words : List (List ℕ)) (p q : Planner) → IsMakeBy p words → IsMakeBy q words → p ≡ q
+one_planner words Layered Layered a b = refl
+one_planner words Layered Compact a b = absurd (build_not_compact words a b)
+one_planner words Compact Layered a b = absurd (build_not_compact words b a)
+one_planner words Compact Compact a b = refl
+
+pub four_words : (words : List (List ℕ)) → IsMake words → length words ≡ 4
+four_words words (inl form) = form.0
+four_words words (inr form) = form.0
+
+-- the first letter of a command that makes a chip is b or c
+first_letter : (words : List (List ℕ)) (letter : ℕ) → IsMake words → get_or (word_at words 0) 0 0 ≡ letter → 100 ≤ letter → ⊥
+first_letter words letter (inl form) is past =
+    let own : ◌≡◌ {A = ℕ} 98 letter = ap (λ xs. get_or xs 0 0) (sym form.1) ∙ is in omega (arith, own, past)
+first_letter words letter (inr form) is past =
+    let own : ◌≡◌ {A = ℕ} 99 letter = ap (λ xs. get_or xs 0 0) (sym form.1) ∙ is in omega (arith, own, past)
+
+pub make_not_sample : (words : List (List ℕ)) (bits : ℕ) → IsMake words → IsSampleOf words bits → ⊥
+make_not_sample words bits form sample =
+    let four = four_words words form in let two = sample.two in omega (arith, four, two)
+
+pub make_not_verify : (words : List (List ℕ)) → IsMake words → IsVerify words → ⊥
+make_not_verify words form verify = first_letter words 118 form (ap (λ xs. get_or xs 0 0) verify.1) (omega arith)
+
+pub make_not_trace : (words : List (List ℕ)) → IsMake words → IsTrace words → ⊥
+make_not_trace words form trace = first_letter words 116 form (ap (λ xs. get_or xs 0 0) trace.1) (omega arith)
+
+pub make_not_check : (words : List (List ℕ)) → IsMake words → IsCheck words → ⊥
+make_not_check words form (inl verify) = make_not_verify words form verify
+make_not_check words form (inr trace) = make_not_trace words form trace
+
+pub make_not_equal : (words : List (List ℕ)) → IsMake words → IsEqual words → ⊥
+make_not_equal words form equal = first_letter words 101 form (ap (λ xs. get_or xs 0 0) equal.1) (omega arith)
+
+pub make_not_write : (words : List (List ℕ)) → IsMake words → IsWrite words → ⊥
+make_not_write words form write = first_letter words 110 form (ap (λ xs. get_or xs 0 0) write.1) (omega arith)
 
 pub verify_not_sample : (words : List (List ℕ)) (bits : ℕ) → IsVerify words → IsSampleOf words bits → ⊥
 verify_not_sample words bits form sample = let four = form.0 in let two = sample.two in omega (arith, four, two)
@@ -18,24 +63,11 @@ pub check_not_sample : (words : List (List ℕ)) (bits : ℕ) → IsCheck words 
 check_not_sample words bits (inl verify) sample = verify_not_sample words bits verify sample
 check_not_sample words bits (inr trace) sample = trace_not_sample words bits trace sample
 
-pub build_not_verify : (words : List (List ℕ)) → IsBuild words → IsVerify words → ⊥
-build_not_verify words form verify = let first : ◌≡◌ {A = ℕ} 118 98 = ap (λ xs. get_or xs 0 0) (sym verify.1 ∙ form.1) in omega (arith, first)
-
-pub build_not_trace : (words : List (List ℕ)) → IsBuild words → IsTrace words → ⊥
-build_not_trace words form trace = let first : ◌≡◌ {A = ℕ} 116 98 = ap (λ xs. get_or xs 0 0) (sym trace.1 ∙ form.1) in omega (arith, first)
-
-pub build_not_check : (words : List (List ℕ)) → IsBuild words → IsCheck words → ⊥
-build_not_check words form (inl verify) = build_not_verify words form verify
-build_not_check words form (inr trace) = build_not_trace words form trace
-
 pub verify_not_trace : (words : List (List ℕ)) → IsVerify words → IsTrace words → ⊥
 verify_not_trace words verify trace = let first : ◌≡◌ {A = ℕ} 118 116 = ap (λ xs. get_or xs 0 0) (sym verify.1 ∙ trace.1) in omega (arith, first)
 
 pub equal_not_sample : (words : List (List ℕ)) (bits : ℕ) → IsEqual words → IsSampleOf words bits → ⊥
 equal_not_sample words bits form sample = let four = form.0 in let two = sample.two in omega (arith, four, two)
-
-pub build_not_equal : (words : List (List ℕ)) → IsBuild words → IsEqual words → ⊥
-build_not_equal words form equal = let first : ◌≡◌ {A = ℕ} 101 98 = ap (λ xs. get_or xs 0 0) (sym equal.1 ∙ form.1) in omega (arith, first)
 
 pub verify_not_equal : (words : List (List ℕ)) → IsVerify words → IsEqual words → ⊥
 verify_not_equal words form equal = let first : ◌≡◌ {A = ℕ} 101 118 = ap (λ xs. get_or xs 0 0) (sym equal.1 ∙ form.1) in omega (arith, first)
@@ -49,9 +81,6 @@ check_not_equal words (inr trace) equal = trace_not_equal words trace equal
 
 pub write_not_sample : (words : List (List ℕ)) (bits : ℕ) → IsWrite words → IsSampleOf words bits → ⊥
 write_not_sample words bits form sample = let four = form.0 in let two = sample.two in omega (arith, four, two)
-
-pub build_not_write : (words : List (List ℕ)) → IsBuild words → IsWrite words → ⊥
-build_not_write words form write = let first : ◌≡◌ {A = ℕ} 110 98 = ap (λ xs. get_or xs 0 0) (sym write.1 ∙ form.1) in omega (arith, first)
 
 pub verify_not_write : (words : List (List ℕ)) → IsVerify words → IsWrite words → ⊥
 verify_not_write words form write = let first : ◌≡◌ {A = ℕ} 110 118 = ap (λ xs. get_or xs 0 0) (sym write.1 ∙ form.1) in omega (arith, first)
@@ -78,49 +107,49 @@ sample_form : (words : List (List ℕ)) (bits : ℕ) → IsSampleOf words bits �
 sample_form words bits form = inr (inr (inl (record { bits = bits; of_bits = form })))
 
 pub one_form : (words : List (List ℕ)) (f g : Form) → IsOfForm words f → IsOfForm words g → f ≡ g
-one_form words Build Build p q = refl
-one_form words Build Verify p q = absurd (build_not_verify words p q)
-one_form words Build Trace p q = absurd (build_not_trace words p q)
-one_form words Build Equal p q = absurd (build_not_equal words p q)
-one_form words Build Write p q = absurd (build_not_write words p q)
-one_form words Build (Sample bits) p q = absurd (build_not_sample words bits p q)
-one_form words Build Wrong p q = absurd (q (inl p))
-one_form words Verify Build p q = absurd (build_not_verify words q p)
+one_form words (Make a) (Make b) p q = ap Make (one_planner words a b p q)
+one_form words (Make a) Verify p q = absurd (make_not_verify words (is_make a words p) q)
+one_form words (Make a) Trace p q = absurd (make_not_trace words (is_make a words p) q)
+one_form words (Make a) Equal p q = absurd (make_not_equal words (is_make a words p) q)
+one_form words (Make a) Write p q = absurd (make_not_write words (is_make a words p) q)
+one_form words (Make a) (Sample bits) p q = absurd (make_not_sample words bits (is_make a words p) q)
+one_form words (Make a) Wrong p q = absurd (q (inl (is_make a words p)))
+one_form words Verify (Make b) p q = absurd (make_not_verify words (is_make b words q) p)
 one_form words Verify Verify p q = refl
 one_form words Verify Trace p q = absurd (verify_not_trace words p q)
 one_form words Verify Equal p q = absurd (verify_not_equal words p q)
 one_form words Verify Write p q = absurd (verify_not_write words p q)
 one_form words Verify (Sample bits) p q = absurd (verify_not_sample words bits p q)
 one_form words Verify Wrong p q = absurd (q (inr (inl (inl p))))
-one_form words Trace Build p q = absurd (build_not_trace words q p)
+one_form words Trace (Make b) p q = absurd (make_not_trace words (is_make b words q) p)
 one_form words Trace Verify p q = absurd (verify_not_trace words q p)
 one_form words Trace Trace p q = refl
 one_form words Trace Equal p q = absurd (trace_not_equal words p q)
 one_form words Trace Write p q = absurd (trace_not_write words p q)
 one_form words Trace (Sample bits) p q = absurd (trace_not_sample words bits p q)
 one_form words Trace Wrong p q = absurd (q (inr (inl (inr p))))
-one_form words Equal Build p q = absurd (build_not_equal words q p)
+one_form words Equal (Make b) p q = absurd (make_not_equal words (is_make b words q) p)
 one_form words Equal Verify p q = absurd (verify_not_equal words q p)
 one_form words Equal Trace p q = absurd (trace_not_equal words q p)
 one_form words Equal Equal p q = refl
 one_form words Equal Write p q = absurd (equal_not_write words p q)
 one_form words Equal (Sample bits) p q = absurd (equal_not_sample words bits p q)
 one_form words Equal Wrong p q = absurd (q (inr (inr (inr (inl p)))))
-one_form words Write Build p q = absurd (build_not_write words q p)
+one_form words Write (Make b) p q = absurd (make_not_write words (is_make b words q) p)
 one_form words Write Verify p q = absurd (verify_not_write words q p)
 one_form words Write Trace p q = absurd (trace_not_write words q p)
 one_form words Write Equal p q = absurd (equal_not_write words q p)
 one_form words Write Write p q = refl
 one_form words Write (Sample bits) p q = absurd (write_not_sample words bits p q)
 one_form words Write Wrong p q = absurd (q (inr (inr (inr (inr p)))))
-one_form words (Sample bits) Build p q = absurd (build_not_sample words bits q p)
+one_form words (Sample bits) (Make b) p q = absurd (make_not_sample words bits (is_make b words q) p)
 one_form words (Sample bits) Verify p q = absurd (verify_not_sample words bits q p)
 one_form words (Sample bits) Trace p q = absurd (trace_not_sample words bits q p)
 one_form words (Sample bits) Equal p q = absurd (equal_not_sample words bits q p)
 one_form words (Sample bits) Write p q = absurd (write_not_sample words bits q p)
 one_form words (Sample bits) (Sample other) p q = ap Sample (one_size _ bits other p.size q.size)
 one_form words (Sample bits) Wrong p q = absurd (q (sample_form words bits p))
-one_form words Wrong Build p q = absurd (p (inl q))
+one_form words Wrong (Make b) p q = absurd (p (inl (is_make b words q)))
 one_form words Wrong Verify p q = absurd (p (inr (inl (inl q))))
 one_form words Wrong Trace p q = absurd (p (inr (inl (inr q))))
 one_form words Wrong Equal p q = absurd (p (inr (inr (inr (inl q)))))

@@ -12,12 +12,10 @@ use Rattle.gds_records.specs.Scan.{IsBytes, wide_layout_in}
 use Rattle.gds_records.specs.Stream.{IsStream, IsWideStream}
 use Rattle.gds_records.specs.Writing.{bytes_of}
 use Rattle.blif_read.specs.Parts.{NetView}
-use Rattle.blif_read.specs.Netlist.{IsNetlist}
 use Rattle.blif_read.specs.Equations.{IsAnswer as IsNetAnswer}
 use Rattle.rowed.specs.PlacedNets.{PlacedView}
 use Rattle.rowed.specs.RowNets.{IsAnswer}
 use Rattle.cell_library.specs.Library.{LibraryView, limits_of}
-use Rattle.cell_library.specs.Laws.{IsLibrary}
 use Rattle.cell_library.specs.Says as library
 use Rattle.layout_rules.specs.Limits.{Limits}
 use Rattle.layout_rules.specs.Rules.{Keeps, KeepsRules}
@@ -28,8 +26,6 @@ use Rattle.layout_make.specs.Draw.{draw}
 use Rattle.layout_make.specs.MayDraw.{MayDraw}
 use Rattle.layout_make.specs.Size.{element_number, element_limit}
 use Rattle.pulse_sim.specs.Shows.{Shows}
-use Rattle.chip_plan.specs.Laws.{AnswersAs}
-use Rattle.chip_plan.specs.Plans.{IsWithin, chip_of}
 use Rattle.chip_texts.specs.Counts.{counts_line, counts_text, delay_of}
 use Rattle.chip_texts.specs.WordLines.{word_line, answers_to, answers_text}
 use Rattle.chip_texts.specs.WordsText.{words_of, SaysWords}
@@ -37,7 +33,7 @@ use Rattle.chip_texts.proofs.Reading.{words_wide}
 use Rattle.drawn_chip.specs.Realises.{Realises}
 use Rattle.drawn_chip.specs.RealisesNet.{RealisesNet, most_bytes}
 use Rattle.drawn_chip.proofs.RealisesAs.{realises_as}
-use Rattle.aqfp_top.specs.Designs.{KeepsLimits, stream_of, counts_of}
+use Rattle.aqfp_top.specs.Designs.{IsChipFor, stream_of, counts_of}
 use Rattle.aqfp_top.specs.Checks.{IsLayoutOf, IsSound}
 use Rattle.aqfp_top.specs.Joined.{PrintsAsNet, VerifiesAsNet}
 use Rattle.aqfp_top.proofs.DrawnBytes.{drawn_bytes}
@@ -48,17 +44,13 @@ text_is : (circuit : CircuitView) (answers : List (List Bool)) →
 unfolding answers_text
 text_is circuit answers = refl
 
-line_is : (net : NetView) (cells : LibraryView) (r : RealisesNet (chip_of cells net) cells) →
-    counts_line r.circuit ≡ counts_of net cells
+line_is : (placed : PlacedView) (cells : LibraryView) (r : RealisesNet placed cells) →
+    counts_line r.circuit ≡ counts_of placed
 unfolding counts_line counts_of
-line_is net cells r = λ i. counts_text (r.rows i) (r.cells i) (r.wires i)
+line_is placed cells r = λ i. counts_text (r.rows i) (r.cells i) (r.wires i)
 
 -- the laws that the proof rests on
 pub record Laws : Type 0 where
-  pub draws : (l : LibraryView) (net : NetView) → IsLibrary l → IsNetlist net → IsWithin l net
-      → MayDraw (chip_of l net) l
-  pub answers : (l : LibraryView) (net : NetView) → IsLibrary l → IsNetlist net → IsWithin l net
-      → AnswersAs net (chip_of l net)
   pub writable : (p : PlacedView) (l : LibraryView) → MayDraw p l → IsWritable (draw p l)
   pub stream : (layout : Layout) → IsWritable layout → IsStream (bytes_of layout) layout
   pub realised : (p : PlacedView) (l : LibraryView) → MayDraw p l → element_number p ≤ element_limit → RealisesNet p l
@@ -78,53 +70,49 @@ pub record Laws : Type 0 where
   pub shown_once : (circuit : CircuitView) (d : ℕ) (words answers others : List (List Bool)) → KeepsFacts circuit
       → Shows circuit d words answers → Shows circuit d words others → answers ≡ others
 
-module _ (laws : Laws) (net : NetView) (cells : LibraryView) (lawful : IsLibrary cells) (keeps : IsNetlist net)
-    (limits : KeepsLimits net cells) where
-  abbrev may_draw : MayDraw (chip_of cells net) cells
-  may_draw = laws.draws cells net lawful keeps limits.within
-
-  abbrev made : RealisesNet (chip_of cells net) cells
-  made = laws.realised (chip_of cells net) cells may_draw limits.small
+module _ (laws : Laws) (net : NetView) (placed : PlacedView) (cells : LibraryView) (is : IsChipFor net cells placed) where
+  abbrev made : RealisesNet placed cells
+  made = laws.realised placed cells is.draws is.small
 
   -- the stored bytes realise the netlist, and are a stream of the drawing alone
-  chip : Realises (stream_of net cells) (limits_of cells) net.inputs (length net.outputs) (IsNetAnswer net) made.circuit
+  chip : Realises (stream_of placed cells) (limits_of cells) net.inputs (length net.outputs) (IsNetAnswer net) made.circuit
       (delay_of made.circuit)
   unfolding stream_of
-  chip = realises_as net.inputs (chip_of cells net).net.inputs (length net.outputs) (chip_of cells net).net.outputs
-      (IsNetAnswer net) (IsAnswer (chip_of cells net).net) (laws.answers cells net lawful keeps limits.within)
-      (bytes_of (draw (chip_of cells net) cells)) (limits_of cells) made.circuit (delay_of made.circuit) made.realises
+  chip = realises_as net.inputs placed.net.inputs (length net.outputs) placed.net.outputs
+      (IsNetAnswer net) (IsAnswer placed.net) is.answers
+      (bytes_of (draw placed cells)) (limits_of cells) made.circuit (delay_of made.circuit) made.realises
 
-  layout_is : (layout : Layout) → IsStream (stream_of net cells) layout → layout ≡ draw (chip_of cells net) cells
+  layout_is : (layout : Layout) → IsStream (stream_of placed cells) layout → layout ≡ draw placed cells
   unfolding stream_of
   layout_is layout stream =
-      laws.one_layout _ layout (draw (chip_of cells net) cells) stream (laws.stream _ (laws.writable _ _ may_draw))
+      laws.one_layout _ layout (draw placed cells) stream (laws.stream _ (laws.writable _ _ is.draws))
 
-  few_bytes : length (stream_of net cells) < most_bytes
+  few_bytes : length (stream_of placed cells) < most_bytes
   unfolding stream_of
   few_bytes = made.short
 
-  made_of_bytes : IsBytes (stream_of net cells)
+  made_of_bytes : IsBytes (stream_of placed cells)
   unfolding stream_of
-  made_of_bytes = drawn_bytes (chip_of cells net) cells may_draw
+  made_of_bytes = drawn_bytes placed cells is.draws
 
   -- the layout that is read of them has the shapes of the drawing
-  same : wide_flat (wide_layout_in (stream_of net cells)) ≡ flat_of chip.layout
-  same = laws.same_flat (stream_of net cells) chip.layout made_of_bytes chip.stream
+  same : wide_flat (wide_layout_in (stream_of placed cells)) ≡ flat_of chip.layout
+  same = laws.same_flat (stream_of placed cells) chip.layout made_of_bytes chip.stream
 
   few : flat_count (flat_of chip.layout) ≤ 8000000
   few = subst (λ layout. flat_count (flat_of layout) ≤ 8000000) (sym (layout_is chip.layout chip.stream)) made.small
 
-  read : IsLayoutOf (stream_of net cells) (wide_layout_in (stream_of net cells))
+  read : IsLayoutOf (stream_of placed cells) (wide_layout_in (stream_of placed cells))
   read = record {
-    stream = laws.is_wide (stream_of net cells) chip.layout made_of_bytes chip.stream;
+    stream = laws.is_wide (stream_of placed cells) chip.layout made_of_bytes chip.stream;
     within = subst (λ flat. flat_count flat ≤ 8000000) (sym same) few;
   }
 
   sound : (lib text : List ℕ) → library.SaysLibrary lib cells → SaysWords net.inputs text →
-      IsSound (stream_of net cells) lib text made.circuit
+      IsSound (stream_of placed cells) lib text made.circuit
   sound lib text says words = record {
     makes = record {
-      layout = wide_layout_in (stream_of net cells);
+      layout = wide_layout_in (stream_of placed cells);
       read = read;
       library = record { view = cells; says = says };
       rules = subst (λ flat. KeepsRules flat (limits_of cells)) (sym same) chip.rules;
@@ -134,17 +122,17 @@ module _ (laws : Laws) (net : NetView) (cells : LibraryView) (lawful : IsLibrary
   }
 
   -- no other circuit is found
-  found : (lib text : List ℕ) (circuit : CircuitView) → IsSound (stream_of net cells) lib text circuit →
+  found : (lib text : List ℕ) (circuit : CircuitView) → IsSound (stream_of placed cells) lib text circuit →
       circuit ≡ made.circuit
   found lib text circuit s =
-      let one = laws.one_wide (stream_of net cells) s.makes.layout s.makes.read.stream in
-      let is : IsCircuitOf (wide_flat (wide_layout_in (stream_of net cells))) circuit =
+      let one = laws.one_wide (stream_of placed cells) s.makes.layout s.makes.read.stream in
+      let circuit_is : IsCircuitOf (wide_flat (wide_layout_in (stream_of placed cells))) circuit =
       subst (λ (layout : WideLayout). IsCircuitOf (wide_flat layout) circuit) one s.makes.circuit_is in
       laws.one_circuit (flat_of chip.layout) (limits_of cells) circuit made.circuit (chip.rules E1) (chip.rules E2)
-      (chip.rules E6) (subst (λ flat. IsCircuitOf flat circuit) same is) chip.extracted
+      (chip.rules E6) (subst (λ flat. IsCircuitOf flat circuit) same circuit_is) chip.extracted
 
   -- what is printed of it are the netlist's answers
-  printed : (text : List ℕ) → SaysWords net.inputs text → PrintsAsNet net cells made.circuit (words_of text)
+  printed : (text : List ℕ) → SaysWords net.inputs text → PrintsAsNet net placed made.circuit (words_of text)
   printed text says =
       let words = words_of text in
       let wide = words_wide net.inputs text says in
@@ -155,16 +143,16 @@ module _ (laws : Laws) (net : NetView) (cells : LibraryView) (lawful : IsLibrary
         answers = all.replies;
         are_answers = all.are_answers;
         printed = text_is made.circuit (answers_to made.circuit words)
-            ∙ ap (λ head. head ++ flat_map word_line (answers_to made.circuit words)) (line_is net cells made)
-            ∙ ap (λ answers. counts_of net cells ++ flat_map word_line answers) same;
+            ∙ ap (λ head. head ++ flat_map word_line (answers_to made.circuit words)) (line_is placed cells made)
+            ∙ ap (λ answers. counts_of placed ++ flat_map word_line answers) same;
       }
 
   pub verified : (lib text : List ℕ) → library.SaysLibrary lib cells → SaysWords net.inputs text →
-      VerifiesAsNet net cells lib text
+      VerifiesAsNet net placed cells lib text
   verified lib text says words = record {
     short = few_bytes;
     sound = record { circuit = made.circuit; sound = sound lib text says words };
     prints = λ circuit s.
-        let is = found lib text circuit s in
-        subst (λ c. PrintsAsNet net cells c (words_of text)) (sym is) (printed text words);
+        let same = found lib text circuit s in
+        subst (λ c. PrintsAsNet net placed c (words_of text)) (sym same) (printed text words);
   }

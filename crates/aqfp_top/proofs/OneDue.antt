@@ -1,13 +1,18 @@
 -- One answer is due, and it comes.
 use Rattle.std.proofs.Common.{ℕ, ◌≡◌, ◌⊎◌, List, [], ◌∷◌, Option, Some, None, inl, inr, refl, sym, ap, subst, ◌∙◌}
 use Rattle.aq_base.specs.Store.{Contents}
-use Rattle.aqfp_top.specs.Words.{HasForm, IsOfForm}
+use Rattle.aqfp_top.specs.Words.{IsCompact, IsEqual, HasForm, IsOfForm}
 use Rattle.aqfp_top.specs.Loads.{Load}
-use Rattle.aqfp_top.specs.Stages.{Stage, Finds, FindsNone, IsFirst, IsLoadFault, IsFormFault, SomeGivesUp, Answers}
-use Rattle.aqfp_top.specs.Due.{stages_of, Due, MayAnswer, untaken, IsSameAnswer, IsDueOrYields, IsPastComparing, IsDoneOrMemory}
+use Rattle.aqfp_top.specs.Stages.{Stage, Finds, FindsNone, IsFirst, IsLoadFault, IsFormFault, GivesUp, SomeGivesUp, Answers}
+use Rattle.aqfp_top.specs.Stages as stage
+use Rattle.aqfp_top.specs.Designs.{HasDesign, HasTooMuch}
+use Rattle.aqfp_top.specs.Due.{stages_of, bytes_at, Due, MayAnswer, MayGiveUp, untaken, IsSameAnswer, IsDueOrYields}
+use Rattle.aqfp_top.specs.Due.{IsPastSize, IsDoneOrMemory}
 use Rattle.aqfp_top.specs.Counted.{Counts, HasFaults, NoFaults}
+use Rattle.aqfp_top.specs.declared.planner.Planner.TheVariants.{Layered, Compact}
 use Rattle.aqfp_top.specs.declared.words.Form.{Form}
-use Rattle.aqfp_top.specs.declared.words.Form.TheVariants.{Build, Verify, Trace, Equal, Write, Sample, Wrong}
+use Rattle.aqfp_top.specs.declared.words.Form.TheVariants.{Make, Verify, Trace, Equal, Write, Sample, Wrong}
+use Rattle.aqfp_top.specs.declared.fault.Large.{Large}
 use Rattle.aqfp_top.specs.declared.fault.Large.TheVariants.{Slots, Rows, Cells, Elements, Shapes, Functions, Design}
 use Rattle.aqfp_top.specs.declared.fault.WriteCall.TheVariants.{Create, Append, Close, Out}
 use Rattle.aqfp_top.specs.declared.fault.Fault.{Fault}
@@ -36,9 +41,11 @@ none_is_none : (answer : Option Fault) → IsSameAnswer answer None → answer �
 none_is_none None same = refl
 none_is_none (Some fault) same = cc
 
--- with nothing due and no fault of the outside the work is done, but for want of memory
-done : (files : Contents) (words : List (List ℕ)) (before after : Counts) (answer : Option Fault) → ((count : ℕ) → answer ≡ Some (TooLarge Functions count) → IsPastComparing files words count) →
-    IsDueOrYields None answer → HasFaults before after answer → NoFaults before after → IsDoneOrMemory files words answer
+-- with nothing due and no fault of the outside the work is done, but for want of memory and a size
+done : (files : Contents) (words : List (List ℕ)) (before after : Counts) (answer : Option Fault)
+    → ((what : Large) (count : ℕ) → answer ≡ Some (TooLarge what count) → IsPastSize files words what count)
+    → IsDueOrYields words None answer → HasFaults before after answer → NoFaults before after
+    → IsDoneOrMemory files words answer
 done files words before after None large comes rose none = tt
 done files words before after (Some Memory) large comes rose none = tt
 done files words before after (Some (ReadFault place)) large comes rose none = none.reads rose
@@ -46,13 +53,7 @@ done files words before after (Some (WriteFault Create)) large comes rose none =
 done files words before after (Some (WriteFault Append)) large comes rose none = none.writes rose
 done files words before after (Some (WriteFault Close)) large comes rose none = none.closes rose
 done files words before after (Some (WriteFault Out)) large comes rose none = none.outs rose
-done files words before after (Some (TooLarge Functions count)) large comes rose none = large count refl
-done files words before after (Some (TooLarge Slots count)) large comes rose none = cc
-done files words before after (Some (TooLarge Rows count)) large comes rose none = cc
-done files words before after (Some (TooLarge Cells count)) large comes rose none = cc
-done files words before after (Some (TooLarge Elements count)) large comes rose none = cc
-done files words before after (Some (TooLarge Shapes count)) large comes rose none = cc
-done files words before after (Some (TooLarge Design count)) large comes rose none = cc
+done files words before after (Some (TooLarge what count)) large comes rose none = large what count refl
 done files words before after (Some Usage) large comes rose none = cc
 done files words before after (Some (Absent place)) large comes rose none = cc
 done files words before after (Some (TooLong place taken)) large comes rose none = cc
@@ -65,26 +66,59 @@ done files words before after (Some (RuleBroken rule a b)) large comes rose none
 done files words before after (Some (BadWords line)) large comes rose none = cc
 done files words before after (Some (Widths a_inputs a_outputs b_inputs b_outputs)) large comes rose none = cc
 
--- a comparison alone may give up
+-- a comparison alone may give up, and the search for a compact chip
 rest : {A : Type 0} → ⊥ ⊎ A → A
 rest (inl none) = absurd none
 rest (inr other) = other
 
-gives_up : (files : Contents) (words : List (List ℕ)) (form : Form) (count : ℕ) → IsOfForm words form → SomeGivesUp (stages_of form files words) count → IsPastComparing files words count
-gives_up files words Build count is some = absurd (rest (rest (rest (rest (rest some)))))
-gives_up files words Verify count is some = absurd (rest (rest (rest (rest (rest (rest (rest (rest some))))))))
-gives_up files words Trace count is some = absurd (rest (rest (rest (rest (rest (rest (rest (rest some))))))))
-gives_up files words Equal count is some = elim (rest (rest (rest (rest (rest (rest (rest (rest (rest some))))))))) [
-  | inl many ↦ record { form = is; many = many }
+comparing : (files : Contents) (words : List (List ℕ)) (what : Large) (count : ℕ) → IsEqual words
+    → GivesUp (stage.Comparison (bytes_at files words 1) (bytes_at files words 2) (bytes_at files words 3)) what count
+    → IsPastSize files words what count
+comparing files words Functions count is many = record { form = is; many = many }
+comparing files words Slots count is many = absurd many
+comparing files words Rows count is many = absurd many
+comparing files words Cells count is many = absurd many
+comparing files words Elements count is many = absurd many
+comparing files words Shapes count is many = absurd many
+comparing files words Design count is many = absurd many
+
+planning : (files : Contents) (words : List (List ℕ)) (what : Large) (count : ℕ) → IsCompact words
+    → HasDesign (bytes_at files words 1) (bytes_at files words 2) (λ equations cells. HasTooMuch equations cells what count)
+    → IsPastSize files words what count
+planning files words Functions count is many = absurd many.holds
+planning files words Slots count is many = record { form = is; many = many }
+planning files words Rows count is many = record { form = is; many = many }
+planning files words Cells count is many = record { form = is; many = many }
+planning files words Elements count is many = record { form = is; many = many }
+planning files words Shapes count is many = absurd many.holds
+planning files words Design count is many = absurd many.holds
+
+gives_up : (files : Contents) (words : List (List ℕ)) (form : Form) (what : Large) (count : ℕ) → IsOfForm words form
+    → SomeGivesUp (stages_of form files words) what count → IsPastSize files words what count
+gives_up files words (Make Layered) what count is some = absurd (rest (rest (rest (rest (rest some)))))
+gives_up files words (Make Compact) what count is some = elim (rest (rest (rest (rest some)))) [
+  | inl many ↦ planning files words what count is many
   | inr none ↦ absurd none
 ]
-gives_up files words Write count is some = absurd (rest (rest (rest (rest (rest (rest some))))))
-gives_up files words (Sample bits) count is some = absurd (rest (rest some))
-gives_up files words Wrong count is some = absurd (rest some)
+gives_up files words Verify what count is some = absurd (rest (rest (rest (rest (rest (rest (rest (rest some))))))))
+gives_up files words Trace what count is some = absurd (rest (rest (rest (rest (rest (rest (rest (rest some))))))))
+gives_up files words Equal what count is some = elim (rest (rest (rest (rest (rest (rest (rest (rest (rest some))))))))) [
+  | inl many ↦ comparing files words what count is many
+  | inr none ↦ absurd none
+]
+gives_up files words Write what count is some = absurd (rest (rest (rest (rest (rest (rest some))))))
+gives_up files words (Sample bits) what count is some = absurd (rest (rest some))
+gives_up files words Wrong what count is some = absurd (rest some)
 
-past_comparing : (files : Contents) (words : List (List ℕ)) (answer : Option Fault) → MayAnswer files words answer → (count : ℕ) → answer ≡ Some (TooLarge Functions count) → IsPastComparing files words count
-past_comparing files words answer may count is =
-    gives_up files words may.form count may.is_form (subst (λ a. Answers (stages_of may.form files words) a) is may.answers).1
+may_give_up : (files : Contents) (words : List (List ℕ)) (what : Large) (count : ℕ) → IsPastSize files words what count
+    → MayGiveUp words what
+may_give_up files words Functions count past = past.form
+may_give_up files words Slots count past = past.form
+may_give_up files words Rows count past = past.form
+may_give_up files words Cells count past = past.form
+may_give_up files words Elements count past = past.form
+may_give_up files words Shapes count past = past.form
+may_give_up files words Design count past = past.form
 
 -- some answer is first, and so some answer is due
 
@@ -99,7 +133,8 @@ some_first (s ∷ stages) never =
     some_first stages (λ answer first. never answer (first_after s stages answer none first))
 
 no_form : (words : List (List ℕ)) → ((form : Form) → ¬ IsOfForm words form) → ¬ HasForm words
-no_form words never (inl build) = never Build build
+no_form words never (inl (inl build)) = never (Make Layered) build
+no_form words never (inl (inr compact)) = never (Make Compact) compact
 no_form words never (inr (inl (inl verify))) = never Verify verify
 no_form words never (inr (inl (inr trace))) = never Trace trace
 no_form words never (inr (inr (inl sample))) = never (Sample sample.bits) sample.of_bits
@@ -127,39 +162,73 @@ module _ (once : (stage : Stage) (f g : Fault) → Finds stage f → Finds stage
   first_once (s ∷ stages) (Some f) (Some g) (inr p) (inl y) = absurd (p.0 g y)
   first_once (s ∷ stages) (Some f) (Some g) (inr p) (inr q) = first_once stages (Some f) (Some g) p.1 q.1
 
-  first_comes : (stages : List Stage) (due answer : Option Fault) → IsFirst stages due → Answers stages answer → IsDueOrYields due answer
-  first_comes stages due None p q = first_once stages None due q p
-  first_comes stages due (Some Usage) p q = first_once stages (Some Usage) due q p
-  first_comes stages due (Some (Absent place)) p q = first_once stages (Some (Absent place)) due q p
-  first_comes stages due (Some (TooLong place taken)) p q = first_once stages (Some (TooLong place taken)) due q p
-  first_comes stages due (Some (ReadFault place)) p q = tt
-  first_comes stages due (Some (WriteFault call)) p q = none_is_none due (first_once stages due None p q)
-  first_comes stages due (Some (BadBlif fault)) p q = first_once stages (Some (BadBlif fault)) due q p
-  first_comes stages due (Some (BadDesign line kind)) p q = first_once stages (Some (BadDesign line kind)) due q p
-  first_comes stages due (Some (BadLibrary fault)) p q = first_once stages (Some (BadLibrary fault)) due q p
-  first_comes stages due (Some (MissingCell kind)) p q = first_once stages (Some (MissingCell kind)) due q p
-  first_comes stages due (Some (TooLarge Slots count)) p q = first_once stages (Some (TooLarge Slots count)) due q p
-  first_comes stages due (Some (TooLarge Rows count)) p q = first_once stages (Some (TooLarge Rows count)) due q p
-  first_comes stages due (Some (TooLarge Cells count)) p q = first_once stages (Some (TooLarge Cells count)) due q p
-  first_comes stages due (Some (TooLarge Elements count)) p q = first_once stages (Some (TooLarge Elements count)) due q p
-  first_comes stages due (Some (TooLarge Shapes count)) p q = first_once stages (Some (TooLarge Shapes count)) due q p
-  first_comes stages due (Some (TooLarge Design count)) p q = first_once stages (Some (TooLarge Design count)) due q p
-  first_comes stages due (Some (TooLarge Functions count)) p q = none_is_none due (first_once stages due None p q.0)
-  first_comes stages due (Some (BadStream offset kind)) p q = first_once stages (Some (BadStream offset kind)) due q p
-  first_comes stages due (Some (RuleBroken rule a b)) p q = first_once stages (Some (RuleBroken rule a b)) due q p
-  first_comes stages due (Some (BadWords line)) p q = first_once stages (Some (BadWords line)) due q p
-  first_comes stages due (Some (Widths a b c d)) p q = first_once stages (Some (Widths a b c d)) due q p
-  first_comes stages due (Some Memory) p q = tt
+  first_comes : (files : Contents) (words : List (List ℕ)) (form : Form) (due answer : Option Fault) → IsOfForm words form
+      → IsFirst (stages_of form files words) due → Answers (stages_of form files words) answer
+      → IsDueOrYields words due answer
+  first_comes files words form due None is p q = first_once (stages_of form files words) None due q p
+  first_comes files words form due (Some Usage) is p q = first_once (stages_of form files words) (Some Usage) due q p
+  first_comes files words form due (Some (Absent place)) is p q =
+      first_once (stages_of form files words) (Some (Absent place)) due q p
+  first_comes files words form due (Some (TooLong place taken)) is p q =
+      first_once (stages_of form files words) (Some (TooLong place taken)) due q p
+  first_comes files words form due (Some (ReadFault place)) is p q = tt
+  first_comes files words form due (Some (WriteFault call)) is p q =
+      none_is_none due (first_once (stages_of form files words) due None p q)
+  first_comes files words form due (Some (BadBlif fault)) is p q =
+      first_once (stages_of form files words) (Some (BadBlif fault)) due q p
+  first_comes files words form due (Some (BadDesign line kind)) is p q =
+      first_once (stages_of form files words) (Some (BadDesign line kind)) due q p
+  first_comes files words form due (Some (BadLibrary fault)) is p q =
+      first_once (stages_of form files words) (Some (BadLibrary fault)) due q p
+  first_comes files words form due (Some (MissingCell kind)) is p q =
+      first_once (stages_of form files words) (Some (MissingCell kind)) due q p
+  first_comes files words form due (Some (TooLarge what count)) is p (inl q) =
+      inl (first_once (stages_of form files words) (Some (TooLarge what count)) due q p)
+  first_comes files words form due (Some (TooLarge what count)) is p (inr q) =
+      inr (
+        may_give_up files words what count (gives_up files words form what count is q.1),
+        none_is_none due (first_once (stages_of form files words) due None p q.0),
+      )
+  first_comes files words form due (Some (BadStream offset kind)) is p q =
+      first_once (stages_of form files words) (Some (BadStream offset kind)) due q p
+  first_comes files words form due (Some (RuleBroken rule a b)) is p q =
+      first_once (stages_of form files words) (Some (RuleBroken rule a b)) due q p
+  first_comes files words form due (Some (BadWords line)) is p q =
+      first_once (stages_of form files words) (Some (BadWords line)) due q p
+  first_comes files words form due (Some (Widths a b c d)) is p q =
+      first_once (stages_of form files words) (Some (Widths a b c d)) due q p
+  first_comes files words form due (Some Memory) is p q = tt
+
+  -- where nothing is due, a size comes of a stage that gives up
+  first_large : (files : Contents) (words : List (List ℕ)) (form : Form) (what : Large) (count : ℕ) → IsOfForm words form
+      → IsFirst (stages_of form files words) None → Answers (stages_of form files words) (Some (TooLarge what count))
+      → IsPastSize files words what count
+  first_large files words form what count is p (inl q) =
+      let same : IsSameAnswer None (Some (TooLarge what count)) =
+      first_once (stages_of form files words) None (Some (TooLarge what count)) p q in cc
+  first_large files words form what count is p (inr q) = gives_up files words form what count is q.1
 
   pub due_once : (files : Contents) (words : List (List ℕ)) (one other : Option Fault) → Due files words one → Due files words other → IsSameAnswer one other
   due_once files words one other p q =
       first_once (stages_of p.form files words) one other p.first
       (subst (λ form. IsFirst (stages_of form files words) other) (one_form words q.form p.form q.is_form p.is_form) q.first)
 
-  pub due_comes : (files : Contents) (words : List (List ℕ)) (due answer : Option Fault) → Due files words due → MayAnswer files words answer → IsDueOrYields due answer
+  pub due_comes : (files : Contents) (words : List (List ℕ)) (due answer : Option Fault) → Due files words due → MayAnswer files words answer → IsDueOrYields words due answer
   due_comes files words due answer p q =
-      first_comes (stages_of p.form files words) due answer p.first
+      first_comes files words p.form due answer p.is_form p.first
       (subst (λ form. Answers (stages_of form files words) answer) (one_form words q.form p.form q.is_form p.is_form) q.answers)
 
-  pub due_complete : (files : Contents) (words : List (List ℕ)) (before after : Counts) (answer : Option Fault) → Due files words None → MayAnswer files words answer → HasFaults before after answer → NoFaults before after → IsDoneOrMemory files words answer
-  due_complete files words before after answer p q rose none = done files words before after answer (past_comparing files words answer q) (due_comes files words None answer p q) rose none
+  pub due_large : (files : Contents) (words : List (List ℕ)) (what : Large) (count : ℕ) → Due files words None
+      → MayAnswer files words (Some (TooLarge what count)) → IsPastSize files words what count
+  due_large files words what count p q =
+      first_large files words p.form what count p.is_form p.first
+      (subst (λ form. Answers (stages_of form files words) (Some (TooLarge what count)))
+      (one_form words q.form p.form q.is_form p.is_form) q.answers)
+
+  pub due_complete : (files : Contents) (words : List (List ℕ)) (before after : Counts) (answer : Option Fault)
+      → Due files words None → MayAnswer files words answer → HasFaults before after answer → NoFaults before after
+      → IsDoneOrMemory files words answer
+  due_complete files words before after answer p q rose none =
+      done files words before after answer
+      (λ what count is. due_large files words what count p (subst (MayAnswer files words) is q))
+      (due_comes files words None answer p q) rose none

@@ -1,10 +1,10 @@
 -- From the clauses of each command to those of a run.
-use Rattle.std.proofs.Common.{ℕ, ◌≡◌, ◌<◌, ◌≤◌, List, length, arith, Option, Some, None, Result, Ok, Err, IfErr, inl, inr, refl, subst}
+use Rattle.std.proofs.Common.{ℕ, ◌≡◌, ◌<◌, ◌≤◌, List, length, arith, Option, Some, None, Result, Ok, Err, IfOk, IfErr, OnOk, inl, inr, refl, subst}
 use Rattle.aq_base.specs.Store.{Contents}
-use Rattle.aqfp_top.specs.Words.{IsBuild, IsVerify, IsTrace, IsEqual, IsWrite, IsCheck, IsSampleOf, HasForm}
+use Rattle.aqfp_top.specs.Words.{IsMake, IsMakeBy, IsVerify, IsTrace, IsEqual, IsWrite, IsCheck, IsSampleOf, HasForm}
 use Rattle.aqfp_top.specs.Loads.{build_loads, check_loads, write_loads, IsLoaded, IsPast}
 use Rattle.aqfp_top.specs.Stages.{Answers as StagesAnswer}
-use Rattle.aqfp_top.specs.Due.{MayAnswer, build_stages, check_stages, equal_stages, write_stages, sample_stages}
+use Rattle.aqfp_top.specs.Due.{MayAnswer, make_stages, check_stages, equal_stages, write_stages, sample_stages}
 use Rattle.aqfp_top.specs.Faults.{IsBuildFault, IsCheckFault, IsEqualFault, IsWritingFault, IsSampleFault, RunsOnly}
 use Rattle.aqfp_top.specs.Run.{RunStands, RunPrints}
 use Rattle.aqfp_top.specs.Lines.{HasPlace}
@@ -14,18 +14,25 @@ use Rattle.aqfp_top.specs.Comparing.{EqualPrints}
 use Rattle.aqfp_top.specs.Samples.{SamplePrints}
 use Rattle.aqfp_top.specs.Writing.{WriteStands, WritePrints}
 use Rattle.aqfp_top.specs.Code.Staging.{ToldAnswers, ToldMayAnswer}
-use Rattle.aqfp_top.specs.declared.words.Form.TheVariants.{Build, Verify, Trace, Equal, Write, Sample, Wrong}
+use Rattle.aqfp_top.specs.declared.planner.Planner.{Planner}
+use Rattle.aqfp_top.specs.declared.words.Form.TheVariants.{Make, Verify, Trace, Equal, Write, Sample, Wrong}
 use Rattle.aqfp_top.specs.declared.check.Printing.TheVariants.{Answers, Fluxes}
 use Rattle.aqfp_top.specs.declared.fault.Fault.{Fault}
 use Rattle.aqfp_top.specs.declared.fault.Fault.TheVariants.{Usage, Absent, TooLong, ReadFault}
 use Rattle.aqfp_top.proofs.Sampling.{sample_failed}
-use Rattle.aqfp_top.proofs.Forms.{build_not_sample, verify_not_sample, trace_not_sample, check_not_sample, build_not_check, build_not_verify, build_not_trace, verify_not_trace, build_not_equal, verify_not_equal, trace_not_equal, check_not_equal, equal_not_sample, build_not_write, verify_not_write, trace_not_write, check_not_write, equal_not_write, write_not_sample, one_size}
+use Rattle.aqfp_top.proofs.Forms.{is_make, one_planner, four_words, make_not_sample, make_not_check, make_not_verify, make_not_trace}
+use Rattle.aqfp_top.proofs.Forms.{make_not_equal, make_not_write, verify_not_sample, trace_not_sample, check_not_sample}
+use Rattle.aqfp_top.proofs.Forms.{verify_not_trace, verify_not_equal, trace_not_equal, check_not_equal, equal_not_sample}
+use Rattle.aqfp_top.proofs.Forms.{verify_not_write, trace_not_write, check_not_write, equal_not_write, write_not_sample}
+use Rattle.aqfp_top.proofs.Forms.{one_size}
 
 -- what a command may answer the words may lead to
 
-pub build_answers : (told : Option Contents) (words : List (List ℕ)) (answer : Option Fault) → IsBuild words → ToldAnswers build_stages told words answer → ToldMayAnswer told words answer
-build_answers None words answer form answers = tt
-build_answers (Some files) words answer form answers = record { form = Build; is_form = form; answers = answers }
+pub build_answers : (planner : Planner) (told : Option Contents) (words : List (List ℕ)) (answer : Option Fault)
+    → IsMakeBy planner words → ToldAnswers (make_stages planner) told words answer → ToldMayAnswer told words answer
+build_answers planner None words answer form answers = tt
+build_answers planner (Some files) words answer form answers =
+    record { form = Make planner; is_form = form; answers = answers }
 
 pub verify_answers : (told : Option Contents) (words : List (List ℕ)) (answer : Option Fault) → IsVerify words → ToldAnswers check_stages told words answer → ToldMayAnswer told words answer
 verify_answers None words answer form answers = tt
@@ -53,43 +60,53 @@ usage_answers (Some files) words form = record { form = Wrong; is_form = form; a
 
 -- what stands
 
-pub build_leaves : (before after : Option Contents) (words : List (List ℕ)) (fault : Option Fault) → IsBuild words → BuildStands before after words fault → RunStands before after words fault
-build_leaves before after words fault form stands = record { build = λ b. stands; write = λ w. absurd (build_not_write words form w); otherwise = λ none other. absurd (none form) }
+pub build_leaves : (planner : Planner) (before after : Option Contents) (words : List (List ℕ)) (fault : Option Fault)
+    → IsMakeBy planner words → BuildStands planner before after words fault → RunStands before after words fault
+build_leaves planner before after words fault form stands = record {
+  make = λ other b. subst (λ p. BuildStands p before after words fault) (one_planner words planner other form b) stands;
+  write = λ w. absurd (make_not_write words (is_make planner words form) w);
+  otherwise = λ none other. absurd (none (is_make planner words form));
+}
 
 pub verify_leaves : (before after : Option Contents) (words : List (List ℕ)) (fault : Option Fault) → IsVerify words → after ≡ before → RunStands before after words fault
-verify_leaves before after words fault form same = record { build = λ b. absurd (build_not_verify words b form); write = λ w. absurd (verify_not_write words form w); otherwise = λ none other. same }
+verify_leaves before after words fault form same = record { make = λ p b. absurd (make_not_verify words (is_make p words b) form); write = λ w. absurd (verify_not_write words form w); otherwise = λ none other. same }
 
 pub trace_leaves : (before after : Option Contents) (words : List (List ℕ)) (fault : Option Fault) → IsTrace words → after ≡ before → RunStands before after words fault
-trace_leaves before after words fault form same = record { build = λ b. absurd (build_not_trace words b form); write = λ w. absurd (trace_not_write words form w); otherwise = λ none other. same }
+trace_leaves before after words fault form same = record { make = λ p b. absurd (make_not_trace words (is_make p words b) form); write = λ w. absurd (trace_not_write words form w); otherwise = λ none other. same }
 
 pub equal_leaves : (before after : Option Contents) (words : List (List ℕ)) (fault : Option Fault) → IsEqual words → after ≡ before → RunStands before after words fault
-equal_leaves before after words fault form same = record { build = λ b. absurd (build_not_equal words b form); write = λ w. absurd (equal_not_write words form w); otherwise = λ none other. same }
+equal_leaves before after words fault form same = record { make = λ p b. absurd (make_not_equal words (is_make p words b) form); write = λ w. absurd (equal_not_write words form w); otherwise = λ none other. same }
 
 pub write_leaves : (before after : Option Contents) (words : List (List ℕ)) (fault : Option Fault) → IsWrite words → WriteStands before after words fault → RunStands before after words fault
-write_leaves before after words fault form stands = record { build = λ b. absurd (build_not_write words b form); write = λ w. stands; otherwise = λ none other. absurd (other form) }
+write_leaves before after words fault form stands = record { make = λ p b. absurd (make_not_write words (is_make p words b) form); write = λ w. stands; otherwise = λ none other. absurd (other form) }
 
 pub sample_leaves : (held : Option Contents) (words : List (List ℕ)) (bits : ℕ) (fault : Option Fault) → IsSampleOf words bits → RunStands held held words fault
-sample_leaves held words bits fault form = record { build = λ b. absurd (build_not_sample words bits b form); write = λ w. absurd (write_not_sample words bits w form); otherwise = λ none other. refl }
+sample_leaves held words bits fault form = record { make = λ p b. absurd (make_not_sample words bits (is_make p words b) form); write = λ w. absurd (write_not_sample words bits w form); otherwise = λ none other. refl }
 
 pub usage_leaves : (held : Option Contents) (words : List (List ℕ)) (fault : Option Fault) → ¬ HasForm words → RunStands held held words fault
-usage_leaves held words fault form = record { build = λ b. absurd (form (inl b)); write = λ w. absurd (form (inr (inr (inr (inr w))))); otherwise = λ none other. refl }
+usage_leaves held words fault form = record { make = λ p b. absurd (form (inl (is_make p words b))); write = λ w. absurd (form (inr (inr (inr (inr w))))); otherwise = λ none other. refl }
 
 -- what is printed
 
-pub build_prints : (told : Option Contents) (words : List (List ℕ)) (before after : Option (List ℕ)) (fault : Option Fault) → IsBuild words → BuildPrints told words before after fault → RunPrints told words before after fault
-build_prints told words before after fault form prints = record {
-  build = λ b. prints;
-  verify = λ v. absurd (build_not_verify words form v);
-  trace = λ t. absurd (build_not_trace words form t);
-  equal = λ e. absurd (build_not_equal words form e);
-  write = λ w. absurd (build_not_write words form w);
-  sample = λ bits s. absurd (build_not_sample words bits form s);
-  otherwise = λ none. absurd (none (inl form));
-}
+pub build_prints : (planner : Planner) (told : Option Contents) (words : List (List ℕ)) (before after : Option (List ℕ))
+    (fault : Option Fault) → IsMakeBy planner words → BuildPrints planner told words before after fault
+    → RunPrints told words before after fault
+build_prints planner told words before after fault form prints =
+    let is : IsMake words = is_make planner words form in
+    record {
+      make = λ other b.
+          subst (λ p. BuildPrints p told words before after fault) (one_planner words planner other form b) prints;
+      verify = λ v. absurd (make_not_verify words is v);
+      trace = λ t. absurd (make_not_trace words is t);
+      equal = λ e. absurd (make_not_equal words is e);
+      write = λ w. absurd (make_not_write words is w);
+      sample = λ bits s. absurd (make_not_sample words bits is s);
+      otherwise = λ none. absurd (none (inl is));
+    }
 
 pub verify_prints : (told : Option Contents) (words : List (List ℕ)) (before after : Option (List ℕ)) (fault : Option Fault) → IsVerify words → CheckPrints Answers told words before after fault → RunPrints told words before after fault
 verify_prints told words before after fault form prints = record {
-  build = λ b. absurd (build_not_verify words b form);
+  make = λ p b. absurd (make_not_verify words (is_make p words b) form);
   verify = λ v. prints;
   trace = λ t. absurd (verify_not_trace words form t);
   equal = λ e. absurd (verify_not_equal words form e);
@@ -100,7 +117,7 @@ verify_prints told words before after fault form prints = record {
 
 pub trace_prints : (told : Option Contents) (words : List (List ℕ)) (before after : Option (List ℕ)) (fault : Option Fault) → IsTrace words → CheckPrints Fluxes told words before after fault → RunPrints told words before after fault
 trace_prints told words before after fault form prints = record {
-  build = λ b. absurd (build_not_trace words b form);
+  make = λ p b. absurd (make_not_trace words (is_make p words b) form);
   verify = λ v. absurd (verify_not_trace words v form);
   trace = λ t. prints;
   equal = λ e. absurd (trace_not_equal words form e);
@@ -111,7 +128,7 @@ trace_prints told words before after fault form prints = record {
 
 pub equal_prints : (told : Option Contents) (words : List (List ℕ)) (before after : Option (List ℕ)) (fault : Option Fault) → IsEqual words → EqualPrints told words before after fault → RunPrints told words before after fault
 equal_prints told words before after fault form prints = record {
-  build = λ b. absurd (build_not_equal words b form);
+  make = λ p b. absurd (make_not_equal words (is_make p words b) form);
   verify = λ v. absurd (verify_not_equal words v form);
   trace = λ t. absurd (trace_not_equal words t form);
   equal = λ e. prints;
@@ -122,7 +139,7 @@ equal_prints told words before after fault form prints = record {
 
 pub write_prints : (told : Option Contents) (words : List (List ℕ)) (before after : Option (List ℕ)) (fault : Option Fault) → IsWrite words → WritePrints told words before after fault → RunPrints told words before after fault
 write_prints told words before after fault form prints = record {
-  build = λ b. absurd (build_not_write words b form);
+  make = λ p b. absurd (make_not_write words (is_make p words b) form);
   verify = λ v. absurd (verify_not_write words v form);
   trace = λ t. absurd (trace_not_write words t form);
   equal = λ e. absurd (equal_not_write words e form);
@@ -133,7 +150,7 @@ write_prints told words before after fault form prints = record {
 
 pub sample_prints : (told : Option Contents) (words : List (List ℕ)) (bits : ℕ) (before after : Option (List ℕ)) (fault : Option Fault) → IsSampleOf words bits → SamplePrints bits before after fault → RunPrints told words before after fault
 sample_prints told words bits before after fault form prints = record {
-  build = λ b. absurd (build_not_sample words bits b form);
+  make = λ p b. absurd (make_not_sample words bits (is_make p words b) form);
   verify = λ v. absurd (verify_not_sample words bits v form);
   trace = λ t. absurd (trace_not_sample words bits t form);
   equal = λ e. absurd (equal_not_sample words bits e form);
@@ -144,7 +161,7 @@ sample_prints told words bits before after fault form prints = record {
 
 pub usage_prints : (told : Option Contents) (words : List (List ℕ)) (held : Option (List ℕ)) (fault : Option Fault) → ¬ HasForm words → RunPrints told words held held fault
 usage_prints told words held fault form = record {
-  build = λ b. absurd (form (inl b));
+  make = λ p b. absurd (form (inl (is_make p words b)));
   verify = λ v. absurd (form (inr (inl (inl v))));
   trace = λ t. absurd (form (inr (inl (inr t))));
   equal = λ e. absurd (form (inr (inr (inr (inl e)))));
@@ -222,22 +239,25 @@ sample_place words _ only = tt
 
 -- the faults of each form
 
-pub build_only : (words : List (List ℕ)) (result : Result (Unit {0}) Fault) → IsBuild words → IfErr result IsBuildFault → IfErr result (RunsOnly words)
-build_only words (Ok x) form only = tt
-build_only words (Err fault) form only = record {
-  build = λ b. only;
-  check = λ c. absurd (build_not_check words form c);
-  sample = λ s. absurd (build_not_sample words s.bits form s.of_bits);
-  equal = λ e. absurd (build_not_equal words form e);
-  write = λ w. absurd (build_not_write words form w);
-  otherwise = λ none. absurd (none (inl form));
-  place = build_place words fault form.0 only;
-}
+pub build_only : (planner : Planner) (words : List (List ℕ)) (result : Result (Unit {0}) Fault) → IsMakeBy planner words
+    → IfErr result IsBuildFault → IfErr result (RunsOnly words)
+build_only planner words (Ok x) form only = tt
+build_only planner words (Err fault) form only =
+    let is : IsMake words = is_make planner words form in
+    record {
+      make = λ b. only;
+      check = λ c. absurd (make_not_check words is c);
+      sample = λ s. absurd (make_not_sample words s.bits is s.of_bits);
+      equal = λ e. absurd (make_not_equal words is e);
+      write = λ w. absurd (make_not_write words is w);
+      otherwise = λ none. absurd (none (inl is));
+      place = build_place words fault (four_words words is) only;
+    }
 
 check_only : (words : List (List ℕ)) (result : Result (Unit {0}) Fault) → length words ≡ 4 → IsCheck words → IfErr result IsCheckFault → IfErr result (RunsOnly words)
 check_only words (Ok x) four form only = tt
 check_only words (Err fault) four form only = record {
-  build = λ b. absurd (build_not_check words b form);
+  make = λ b. absurd (make_not_check words b form);
   check = λ c. only;
   sample = λ s. absurd (check_not_sample words s.bits form s.of_bits);
   equal = λ e. absurd (check_not_equal words form e);
@@ -255,7 +275,7 @@ trace_only words result form only = check_only words result form.0 (inr form) on
 pub sample_only : (words : List (List ℕ)) (bits : ℕ) (result : Result (Unit {0}) Fault) → IsSampleOf words bits → IfErr result IsSampleFault → IfErr result (RunsOnly words)
 sample_only words bits (Ok x) form only = tt
 sample_only words bits (Err fault) form only = record {
-  build = λ b. absurd (build_not_sample words bits b form);
+  make = λ b. absurd (make_not_sample words bits b form);
   check = λ c. absurd (check_not_sample words bits c form);
   sample = λ s. only;
   equal = λ e. absurd (equal_not_sample words bits e form);
@@ -267,7 +287,7 @@ sample_only words bits (Err fault) form only = record {
 pub equal_only : (words : List (List ℕ)) (result : Result (Unit {0}) Fault) → IsEqual words → IfErr result IsEqualFault → IfErr result (RunsOnly words)
 equal_only words (Ok x) form only = tt
 equal_only words (Err fault) form only = record {
-  build = λ b. absurd (build_not_equal words b form);
+  make = λ b. absurd (make_not_equal words b form);
   check = λ c. absurd (check_not_equal words c form);
   sample = λ s. absurd (equal_not_sample words s.bits form s.of_bits);
   equal = λ e. only;
@@ -279,7 +299,7 @@ equal_only words (Err fault) form only = record {
 pub write_only : (words : List (List ℕ)) (result : Result (Unit {0}) Fault) → IsWrite words → IfErr result IsWritingFault → IfErr result (RunsOnly words)
 write_only words (Ok x) form only = tt
 write_only words (Err fault) form only = record {
-  build = λ b. absurd (build_not_write words b form);
+  make = λ b. absurd (make_not_write words b form);
   check = λ c. absurd (check_not_write words c form);
   sample = λ s. absurd (write_not_sample words s.bits form s.of_bits);
   equal = λ e. absurd (equal_not_write words e form);
@@ -290,7 +310,7 @@ write_only words (Err fault) form only = record {
 
 pub usage_only : (words : List (List ℕ)) → ¬ HasForm words → RunsOnly words Usage
 usage_only words none = record {
-  build = λ b. absurd (none (inl b));
+  make = λ b. absurd (none (inl b));
   check = λ c. absurd (none (inr (inl c)));
   sample = λ s. absurd (none (inr (inr (inl s))));
   equal = λ e. absurd (none (inr (inr (inr (inl e)))));
@@ -301,8 +321,9 @@ usage_only words none = record {
 
 -- words of a command have a form
 
-pub build_no_usage : (words : List (List ℕ)) (answer : Option Fault) → IsBuild words → ¬ HasForm words → answer ≡ Some Usage
-build_no_usage words answer form none = absurd (none (inl form))
+pub build_no_usage : (planner : Planner) (words : List (List ℕ)) (answer : Option Fault) → IsMakeBy planner words
+    → ¬ HasForm words → answer ≡ Some Usage
+build_no_usage planner words answer form none = absurd (none (inl (is_make planner words form)))
 
 pub verify_no_usage : (words : List (List ℕ)) (answer : Option Fault) → IsVerify words → ¬ HasForm words → answer ≡ Some Usage
 verify_no_usage words answer form none = absurd (none (inr (inl (inl form))))
@@ -318,6 +339,29 @@ equal_no_usage words answer form none = absurd (none (inr (inr (inr (inl form)))
 
 pub write_no_usage : (words : List (List ℕ)) (answer : Option Fault) → IsWrite words → ¬ HasForm words → answer ≡ Some Usage
 write_no_usage words answer form none = absurd (none (inr (inr (inr (inr form)))))
+
+-- where a command ends well, what holds for its form holds by its planner, and nothing is asked of other forms
+
+pub made_by : (words : List (List ℕ)) (planner : Planner) (result : Result (Unit {0}) Fault) (Holds : Planner → Type 0)
+    → IsMakeBy planner words → IfOk result (λ _. Holds planner)
+    → IfOk result (λ _. (other : Planner) → IsMakeBy other words → Holds other)
+made_by words planner (Ok x) Holds form holds = λ other is. subst Holds (one_planner words planner other form is) holds
+made_by words planner (Err fault) Holds form holds = tt
+
+pub heard_by : (words : List (List ℕ)) (planner : Planner) (result : Result (Unit {0}) Fault) (Holds : Planner → Type 0)
+    → IsMakeBy planner words → OnOk result (Holds planner)
+    → IfOk result (λ _. (other : Planner) → IsMakeBy other words → Holds other)
+heard_by words planner (Ok x) Holds form holds = λ other is. subst Holds (one_planner words planner other form is) holds
+heard_by words planner (Err fault) Holds form holds = tt
+
+pub never_made : (words : List (List ℕ)) (result : Result (Unit {0}) Fault) (Holds : Planner → Type 0)
+    → (IsMake words → ⊥) → IfOk result (λ _. (other : Planner) → IsMakeBy other words → Holds other)
+never_made words (Ok x) Holds none = λ other is. absurd (none (is_make other words is))
+never_made words (Err fault) Holds none = tt
+
+pub never : (result : Result (Unit {0}) Fault) (Is Holds : Type 0) → (Is → ⊥) → IfOk result (λ _. Is → Holds)
+never (Ok x) Is Holds none = λ is. absurd (none is)
+never (Err fault) Is Holds none = tt
 
 pub ruleset runs = (
   build_only,

@@ -10,6 +10,7 @@ use Rattle.blif_read.specs.Says as netlist
 use Rattle.blif_read.specs.Equations.{IsAnswer}
 use Rattle.cell_library.specs.Library.{LibraryView}
 use Rattle.cell_library.specs.LibraryA.{library_a_view}
+use Rattle.layout_make.specs.Size.{element_number, element_limit}
 use Rattle.chip_plan.specs.Plans.{chip_of}
 use Rattle.sample_adder.specs.Adder.{adder}
 use Rattle.sample_adder.specs.EightWords.{eight}
@@ -24,6 +25,7 @@ use Rattle.aqfp_top.specs.Code.Staging.{OrMemory}
 use Rattle.aqfp_top.specs.Code.Building.{IsOutOrMemory}
 use Rattle.aqfp_top.specs.Code.Designing.{AreCountsOf, IsChipOf, PassesNone}
 use Rattle.aqfp_top.specs.Code.Sampling.{IsSampleOfBits, IsMakingFault}
+use Rattle.aqfp_top.specs.declared.planner.Planner.TheVariants.{Layered}
 use Rattle.aqfp_top.specs.declared.sample.SampleResult.{SampleResult}
 use Rattle.aqfp_top.specs.declared.design.Chip.{Chip}
 use Rattle.aqfp_top.specs.declared.fault.Large.TheVariants.{Slots, Rows, Cells, Elements, Shapes}
@@ -74,13 +76,19 @@ pub sample_is_well : (bits : ℕ) (equations : NetView) (cells : LibraryView) �
 sample_is_well bits equations cells says is none =
     (says_no_plain_fault (adder bits) equations says, (own_plan_none bits equations says (subst (λ l. PassesNone equations l) is none), tt))
 
-pub sample_is_made : (bits : ℕ) (equations : NetView) (cells : LibraryView) (chip : Chip) (sample : SampleResult) → netlist.SaysNet (adder bits) equations → cells ≡ library_a_view → KeepsLimits equations cells → IsChipOf equations cells chip
+pub sample_is_made : (bits : ℕ) (equations : NetView) (cells : LibraryView) (chip : Chip) (sample : SampleResult)
+    → netlist.SaysNet (adder bits) equations → cells ≡ library_a_view → IsChipOf Layered equations cells chip
     → sample.counts ≡ chip.counts → AllZip (IsAnswer equations) (eight bits) sample.answers → IsSampleOfBits bits sample
-sample_is_made bits equations cells chip sample says is limits made counts answers = record {
+sample_is_made bits equations cells chip sample says is made counts answers = record {
   equations = equations;
   says = says;
-  limits = subst (λ l. KeepsLimits equations l) is limits;
-  counts = subst (λ c. AreCountsOf (chip_of library_a_view equations) c) (sym counts) (subst (λ l. AreCountsOf (chip_of l equations) chip.counts) is made.counts);
+  limits = subst (λ l. KeepsLimits equations l) is (record {
+    within = made.planned.1;
+    small = subst (λ p. element_number p ≤ element_limit) made.planned.0 made.of_net.small;
+  });
+  counts = subst (λ c. AreCountsOf (chip_of library_a_view equations) c) (sym counts)
+      (subst (λ l. AreCountsOf (chip_of l equations) chip.counts) is
+      (subst (λ p. AreCountsOf p chip.counts) made.planned.0 made.drawn.counts));
   are_answers = answers;
 }
 

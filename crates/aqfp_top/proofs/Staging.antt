@@ -9,7 +9,7 @@ use Rattle.aqfp_top.specs.Stages.{Stage, Finds, FindsNone, IsFirst, IsLoadFault,
 use Rattle.aqfp_top.specs.Due.{file_at, bytes_at}
 use Rattle.aqfp_top.specs.Code.Staging.{OrMemory}
 use Rattle.aqfp_top.specs.Code.Loading.{LoadsWord, IsFaultOfLoad}
-use Rattle.aqfp_top.specs.declared.fault.Large.TheVariants.{Slots, Rows, Cells, Elements, Shapes, Functions, Design}
+use Rattle.aqfp_top.specs.declared.planner.Planner.TheVariants.{Layered, Compact}
 use Rattle.aqfp_top.specs.declared.fault.WriteCall.{WriteCall}
 use Rattle.aqfp_top.specs.declared.fault.Fault.{Fault}
 use Rattle.aqfp_top.specs.declared.fault.Fault.TheVariants.{Usage, Absent, TooLong, ReadFault, WriteFault, BadBlif, BadDesign, BadLibrary, MissingCell, TooLarge, BadStream, RuleBroken, BadWords, Widths, Memory}
@@ -27,13 +27,8 @@ past s stages (Some (BadBlif fault)) none a = inr (none, a)
 past s stages (Some (BadDesign line kind)) none a = inr (none, a)
 past s stages (Some (BadLibrary fault)) none a = inr (none, a)
 past s stages (Some (MissingCell kind)) none a = inr (none, a)
-past s stages (Some (TooLarge Slots count)) none a = inr (none, a)
-past s stages (Some (TooLarge Rows count)) none a = inr (none, a)
-past s stages (Some (TooLarge Cells count)) none a = inr (none, a)
-past s stages (Some (TooLarge Elements count)) none a = inr (none, a)
-past s stages (Some (TooLarge Shapes count)) none a = inr (none, a)
-past s stages (Some (TooLarge Design count)) none a = inr (none, a)
-past s stages (Some (TooLarge Functions count)) none a = ((none, a.0), inr a.1)
+past s stages (Some (TooLarge what count)) none (inl a) = inl (inr (none, a))
+past s stages (Some (TooLarge what count)) none (inr a) = inr ((none, a.0), inr a.1)
 past s stages (Some (BadStream offset kind)) none a = inr (none, a)
 past s stages (Some (RuleBroken rule first second)) none a = inr (none, a)
 past s stages (Some (BadWords line)) none a = inr (none, a)
@@ -52,7 +47,8 @@ no_read (stage.Loading load file) place found = found
 no_read (stage.Netlist net) place found = found
 no_read (stage.Plain net) place found = found
 no_read (stage.Cells lib) place found = found
-no_read (stage.Plan net lib) place found = found.holds
+no_read (stage.Plan Layered net lib) place found = found.holds
+no_read (stage.Plan Compact net lib) place found = found
 no_read (stage.PlanWith net cells) place found = found.holds
 no_read (stage.Stream gds) place found = found
 no_read (stage.Size gds) place found = found
@@ -67,7 +63,8 @@ no_write (stage.Loading load file) call found = found
 no_write (stage.Netlist net) call found = found
 no_write (stage.Plain net) call found = found
 no_write (stage.Cells lib) call found = found
-no_write (stage.Plan net lib) call found = found.holds
+no_write (stage.Plan Layered net lib) call found = found.holds
+no_write (stage.Plan Compact net lib) call found = found
 no_write (stage.PlanWith net cells) call found = found.holds
 no_write (stage.Stream gds) call found = found
 no_write (stage.Size gds) call found = found
@@ -75,22 +72,6 @@ no_write (stage.Rules gds lib) call found = found
 no_write (stage.Words gds lib text) call found = found
 no_write (stage.Counts gds lib net) call found = found
 no_write (stage.Comparison gds lib net) call found = found
-
--- nor that a comparison is too large
-no_functions : (s : Stage) (count : ℕ) → Finds s (TooLarge Functions count) → ⊥
-no_functions stage.Form count found = found
-no_functions (stage.Loading load file) count found = found
-no_functions (stage.Netlist net) count found = found
-no_functions (stage.Plain net) count found = found
-no_functions (stage.Cells lib) count found = found
-no_functions (stage.Plan net lib) count found = found.holds
-no_functions (stage.PlanWith net cells) count found = found.holds
-no_functions (stage.Stream gds) count found = found
-no_functions (stage.Size gds) count found = found
-no_functions (stage.Rules gds lib) count found = found
-no_functions (stage.Words gds lib text) count found = found
-no_functions (stage.Counts gds lib net) count found = found
-no_functions (stage.Comparison gds lib net) count found = found
 
 -- what the first stage finds is answered
 pub found : (s : Stage) (stages : List Stage) (fault : Fault) → OrMemory (Finds s) fault → Answers (s ∷ stages) (Some fault)
@@ -103,13 +84,7 @@ found s stages (BadBlif fault) finds = inl finds
 found s stages (BadDesign line kind) finds = inl finds
 found s stages (BadLibrary fault) finds = inl finds
 found s stages (MissingCell kind) finds = inl finds
-found s stages (TooLarge Slots count) finds = inl finds
-found s stages (TooLarge Rows count) finds = inl finds
-found s stages (TooLarge Cells count) finds = inl finds
-found s stages (TooLarge Elements count) finds = inl finds
-found s stages (TooLarge Shapes count) finds = inl finds
-found s stages (TooLarge Design count) finds = inl finds
-found s stages (TooLarge Functions count) finds = absurd (no_functions s count finds)
+found s stages (TooLarge what count) finds = inl (inl finds)
 found s stages (BadStream offset kind) finds = inl finds
 found s stages (RuleBroken rule first second) finds = inl finds
 found s stages (BadWords line) finds = inl finds

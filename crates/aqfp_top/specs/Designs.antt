@@ -2,6 +2,7 @@
 -- of the chip.
 use Rattle.std.specs.Prelude.{ℕ, ◌≡◌, ◌<◌, ◌≤◌, List, length}
 use Rattle.blif_read.specs.Parts.{NetView}
+use Rattle.blif_read.specs.Netlist.{IsNetlist}
 use Rattle.blif_read.specs.Says as plain
 use Rattle.blif_flat.specs.DesignText as netlist
 use Rattle.blif_flat.specs.declared.design.FlatRefusal.TheVariants as refusal
@@ -9,15 +10,21 @@ use Rattle.rowed.specs.PlacedNets.{PlacedView}
 use Rattle.rowed.specs.Counts.{cells_in, wires_in}
 use Rattle.cell_library.specs.Says as library
 use Rattle.cell_library.specs.Library.{LibraryView}
+use Rattle.cell_library.specs.Laws.{IsLibrary}
 use Rattle.cell_library.specs.declared.fault.LibraryFault.{LibraryFault}
 use Rattle.cell_library.specs.declared.fault.LibraryFault.TheVariants.{Text, Missing}
 use Rattle.gds_records.specs.Writing.{bytes_of}
 use Rattle.chip_texts.specs.Counts.{counts_text}
 use Rattle.layout_make.specs.Draw.{draw}
 use Rattle.layout_make.specs.Size.{element_number, element_limit}
+use Rattle.layout_make.specs.MayDraw.{MayDraw}
+use Rattle.chip_plan.specs.Laws.{AnswersAs}
 use Rattle.chip_plan.specs.Plans.{IsWithin, chip_of}
 use Rattle.chip_plan.specs.Refusals.{Refuses}
 use Rattle.chip_plan.specs.declared.refusal.PlanRefusal.TheVariants as plan
+use Rattle.compact_plan.specs.Compact.{IsNoLarger}
+use Rattle.aqfp_top.specs.declared.planner.Planner.{Planner}
+use Rattle.aqfp_top.specs.declared.planner.Planner.TheVariants.{Layered, Compact}
 use Rattle.aqfp_top.specs.declared.fault.Large.{Large}
 use Rattle.aqfp_top.specs.declared.fault.Large.TheVariants.{Slots, Rows, Cells, Elements, Shapes, Functions, Design}
 use Rattle.aqfp_top.specs.declared.fault.Fault.{Fault}
@@ -46,24 +53,35 @@ pub record HasNetlist (net : List ℕ) (Holds : NetView → Type 0) : Type 0 whe
   pub says : plain.SaysNet net equations
   pub holds : Holds equations
 
--- the chip of the netlist keeps all limits
+-- the chip of the defined plan keeps all limits
 pub record KeepsLimits (equations : NetView) (cells : LibraryView) : Type 0 where
   pub within : IsWithin cells equations
   pub small : element_number (chip_of cells equations) ≤ element_limit
 
--- the stream of the chip of the netlist: its plan, drawn and spelled
-unfoldable pub stream_of : NetView → LibraryView → List ℕ
-stream_of equations cells = bytes_of (draw (chip_of cells equations) cells)
+-- the chip is the one that the defined plan makes of the netlist, which keeps all limits; or one that was searched for,
+-- which is no larger than that one, if that one keeps all limits
+abbrev pub IsPlanBy : Planner → NetView → LibraryView → PlacedView → Type 0
+IsPlanBy Layered equations cells chip = (chip ≡ chip_of cells equations) × IsWithin cells equations
+IsPlanBy Compact equations cells chip = IsWithin cells equations → IsNoLarger chip (chip_of cells equations)
+
+-- a chip of a netlist: rows of placed cells that may be drawn with the library and answer every word as the netlist
+-- does, with few enough elements
+pub record IsChipFor (equations : NetView) (cells : LibraryView) (chip : PlacedView) : Type 0 where
+  pub keeps : IsNetlist equations
+  pub lawful : IsLibrary cells
+  pub draws : MayDraw chip cells
+  pub answers : AnswersAs equations chip
+  pub small : element_number chip ≤ element_limit
+
+-- the stream of a chip: drawn and spelled
+unfoldable pub stream_of : PlacedView → LibraryView → List ℕ
+stream_of chip cells = bytes_of (draw chip cells)
 
 -- the counts line of a chip
-abbrev pub placed_counts : PlacedView → List ℕ
-placed_counts chip = counts_text (length chip.net.rows) (cells_in chip.net.rows) (wires_in chip.net.rows)
+unfoldable pub counts_of : PlacedView → List ℕ
+counts_of chip = counts_text (length chip.net.rows) (cells_in chip.net.rows) (wires_in chip.net.rows)
 
--- the counts line of the chip of the netlist
-unfoldable pub counts_of : NetView → LibraryView → List ℕ
-counts_of equations cells = placed_counts (chip_of cells equations)
-
--- the plan is within its limits, and its drawing would have too many elements: so many
+-- the defined plan is within its limits, and its drawing would have too many elements: so many
 pub record HasManyElements (equations : NetView) (cells : LibraryView) (count : ℕ) : Type 0 where
   pub within : IsWithin cells equations
   pub count_is : count ≡ element_number (chip_of cells equations)

@@ -1,7 +1,7 @@
 -- Which faults the commands may answer, whatever the store tells.
 use Rattle.std.specs.Prelude.{ℕ, ◌≡◌, List}
 use Rattle.aqfp_top.specs.Loads.{build_loads, check_loads, equal_loads, write_loads, IsLoaded, IsPast}
-use Rattle.aqfp_top.specs.Words.{IsBuild, IsCheck, IsEqual, IsWrite, IsSample, HasForm}
+use Rattle.aqfp_top.specs.Words.{IsMake, IsCheck, IsEqual, IsWrite, IsSample, HasForm}
 use Rattle.aqfp_top.specs.Lines.{HasPlace}
 use Rattle.aqfp_top.specs.declared.fault.Large.TheVariants.{Shapes, Functions, Design}
 use Rattle.aqfp_top.specs.declared.fault.WriteCall.TheVariants.{Out}
@@ -10,7 +10,7 @@ use Rattle.aqfp_top.specs.declared.fault.Fault.TheVariants.{Usage, Absent, TooLo
 use Rattle.aqfp_top.specs.declared.fault.Fault.TheVariants.{BadDesign, BadLibrary, MissingCell, TooLarge, BadStream}
 use Rattle.aqfp_top.specs.declared.fault.Fault.TheVariants.{RuleBroken, BadWords, Widths, Memory}
 
--- a build's: none of words, of a stream or of rules
+-- of making a chip: none of words, of a stream or of rules
 abbrev pub IsBuildFault : Fault → Type 0
 IsBuildFault (Absent place) = IsLoaded build_loads place
 IsBuildFault (TooLong place taken) = IsPast build_loads place taken
@@ -87,7 +87,7 @@ IsSampleFault _ = ⊥
 
 -- the faults that words may lead to; the place that one names is one of the words
 pub record RunsOnly (words : List (List ℕ)) (fault : Fault) : Type 0 where
-  pub build : IsBuild words → IsBuildFault fault
+  pub make : IsMake words → IsBuildFault fault
   pub check : IsCheck words → IsCheckFault fault
   pub sample : IsSample words → IsSampleFault fault
   pub equal : IsEqual words → IsEqualFault fault

@@ -1,8 +1,9 @@
--- What `verify` finds and prints of a chip that `build` stored, with the library that it was built with.
+-- What `verify` finds and prints of a chip that `build` or `compact` stored, with the library that it was made with.
 use Rattle.std.specs.Prelude.{◌≡◌, ℕ, ◌<◌, Bool, List, ◌++◌, length}
 use Rattle.std.specs.List.{AllZip, flat_map}
 use Rattle.blif_read.specs.Parts.{NetView}
 use Rattle.blif_read.specs.Equations.{IsAnswer}
+use Rattle.rowed.specs.PlacedNets.{PlacedView}
 use Rattle.cell_library.specs.Library.{LibraryView}
 use Rattle.chip_circuit.specs.Circuits.{CircuitView}
 use Rattle.chip_texts.specs.WordsText.{words_of}
@@ -11,18 +12,19 @@ use Rattle.drawn_chip.specs.RealisesNet.{most_bytes}
 use Rattle.aqfp_top.specs.Checks.{IsSound, SaysSound}
 use Rattle.aqfp_top.specs.Designs.{stream_of, counts_of}
 
--- what is printed of the circuit and words: the counts line of the netlist's chip, and a line for the netlist's answer
--- to each word
-pub record PrintsAsNet (net : NetView) (cells : LibraryView) (circuit : CircuitView) (words : List (List Bool))
+-- what is printed of the circuit and words: the counts line of the chip, and a line for the netlist's answer to each
+-- word
+pub record PrintsAsNet (net : NetView) (chip : PlacedView) (circuit : CircuitView) (words : List (List Bool))
     : Type 0 where
   pub answers : List (List Bool)
   pub are_answers : AllZip (IsAnswer net) words answers
-  pub printed : answers_text circuit (answers_to circuit words) ≡ counts_of net cells ++ flat_map word_line answers
+  pub printed : answers_text circuit (answers_to circuit words) ≡ counts_of chip ++ flat_map word_line answers
 
 -- The stored bytes are short enough to be read, nothing is wrong with them, the library's text and the words, and
 -- whatever circuit is found in them is printed as the netlist.
-pub record VerifiesAsNet (net : NetView) (cells : LibraryView) (lib text : List ℕ) : Type 0 where
-  pub short : length (stream_of net cells) < most_bytes
-  pub sound : SaysSound (stream_of net cells) lib text
-  pub prints : (circuit : CircuitView) → IsSound (stream_of net cells) lib text circuit
-      → PrintsAsNet net cells circuit (words_of text)
+pub record VerifiesAsNet (net : NetView) (chip : PlacedView) (cells : LibraryView) (lib text : List ℕ)
+    : Type 0 where
+  pub short : length (stream_of chip cells) < most_bytes
+  pub sound : SaysSound (stream_of chip cells) lib text
+  pub prints : (circuit : CircuitView) → IsSound (stream_of chip cells) lib text circuit
+      → PrintsAsNet net chip circuit (words_of text)

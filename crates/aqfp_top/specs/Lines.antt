@@ -111,8 +111,8 @@ pair_text first second = decimal first ++ 32 ∷ decimal second
 -- the whole line of a fault
 abbrev pub line_of : List (List ℕ) → Fault → List ℕ
 line_of words Usage =
-    codes "aqfp: usage: build NET LIB OUT, verify GDS LIB WORDS, trace GDS LIB WORDS, "
-    ++ codes "sample N, netlist GDS LIB OUT, equal GDS LIB NET\n"
+    codes "aqfp: usage: build NET LIB OUT, compact NET LIB OUT, verify GDS LIB WORDS, "
+    ++ codes "trace GDS LIB WORDS, sample N, netlist GDS LIB OUT, equal GDS LIB NET\n"
 line_of words (Absent place) = named words place (codes ": absent\n")
 line_of words (TooLong place taken) = named words place (codes ": too long\n")
 line_of words (ReadFault place) = named words place (codes ": read failed\n")

@@ -1,25 +1,26 @@
 -- What a run leaves in the store and prints, by its command.
 use Rattle.std.specs.Prelude.{◌≡◌, ℕ, List, Option}
 use Rattle.aq_base.specs.Store.{Contents}
-use Rattle.aqfp_top.specs.Words.{IsBuild, IsVerify, IsTrace, IsEqual, IsWrite, IsSampleOf, HasForm}
+use Rattle.aqfp_top.specs.Words.{IsMake, IsMakeBy, IsVerify, IsTrace, IsEqual, IsWrite, IsSampleOf, HasForm}
 use Rattle.aqfp_top.specs.Build.{BuildStands, BuildPrints}
 use Rattle.aqfp_top.specs.Checks.{CheckPrints}
 use Rattle.aqfp_top.specs.Comparing.{EqualPrints}
 use Rattle.aqfp_top.specs.Samples.{SamplePrints}
 use Rattle.aqfp_top.specs.Writing.{WriteStands, WritePrints}
+use Rattle.aqfp_top.specs.declared.planner.Planner.{Planner}
 use Rattle.aqfp_top.specs.declared.check.Printing.TheVariants.{Answers, Fluxes}
 use Rattle.aqfp_top.specs.declared.fault.Fault.{Fault}
 
--- what stands in the store: after a build or a `netlist` the file under OUT, and otherwise all as before
+-- what stands in the store: after a chip was made or a `netlist` the file under OUT, and otherwise all as before
 pub record RunStands (before after : Option Contents) (words : List (List ℕ)) (fault : Option Fault) : Type 0 where
-  pub build : IsBuild words → BuildStands before after words fault
+  pub make : (planner : Planner) → IsMakeBy planner words → BuildStands planner before after words fault
   pub write : IsWrite words → WriteStands before after words fault
-  pub otherwise : ¬ IsBuild words → ¬ IsWrite words → after ≡ before
+  pub otherwise : ¬ IsMake words → ¬ IsWrite words → after ≡ before
 
 -- what `out` gains, by the command; nothing where there is none
 pub record RunPrints (told : Option Contents) (words : List (List ℕ)) (before after : Option (List ℕ))
     (fault : Option Fault) : Type 0 where
-  pub build : IsBuild words → BuildPrints told words before after fault
+  pub make : (planner : Planner) → IsMakeBy planner words → BuildPrints planner told words before after fault
   pub verify : IsVerify words → CheckPrints Answers told words before after fault
   pub trace : IsTrace words → CheckPrints Fluxes told words before after fault
   pub equal : IsEqual words → EqualPrints told words before after fault

@@ -2,9 +2,13 @@
 use Rattle.std.specs.Prelude.{ℕ, ◌≡◌, ◌⊎◌, ◌<◌, List, [], ◌∷◌, length, Option, Some, None, IsSomeAnd}
 use Rattle.cell_library.specs.Library.{LibraryView}
 use Rattle.aqfp_top.specs.Loads.{Load}
-use Rattle.aqfp_top.specs.Designs.{HasNetlist, HasDesign, IsNetlistFault, IsPlainFault, IsCellsFault, IsPlanFault}
+use Rattle.aqfp_top.specs.Designs.{HasNetlist, HasDesign, HasTooMuch, IsNetlistFault, IsPlainFault, IsCellsFault}
+use Rattle.aqfp_top.specs.Designs.{IsPlanFault}
 use Rattle.aqfp_top.specs.Checks.{IsStreamFault, IsSizeFault, IsRuleFault, IsWordsFault}
 use Rattle.aqfp_top.specs.Comparing.{IsWidthsFault, HasManyFunctions}
+use Rattle.aqfp_top.specs.declared.planner.Planner.{Planner}
+use Rattle.aqfp_top.specs.declared.planner.Planner.TheVariants.{Layered, Compact}
+use Rattle.aqfp_top.specs.declared.fault.Large.{Large}
 use Rattle.aqfp_top.specs.declared.fault.Large.TheVariants.{Functions}
 use Rattle.aqfp_top.specs.declared.fault.Fault.{Fault}
 use Rattle.aqfp_top.specs.declared.fault.Fault.TheVariants.{Usage, Absent, TooLong, ReadFault, WriteFault, TooLarge}
@@ -12,14 +16,15 @@ use Rattle.aqfp_top.specs.declared.fault.Fault.TheVariants.{Memory}
 
 -- A stage, and what it judges: the words, which have no form; a file, if there is one under its name; or texts, which
 -- are the bytes of files. A sample has a text of one model without calls, and plans with a library that is known. A
--- comparison finds no fault, and may give up.
+-- comparison finds no fault, and may give up; nor does the search for a compact chip, which may give up where the
+-- defined plan passes a limit.
 pub data Stage : Type 0 where
   Form : Stage
   Loading : (load : Load) (file : Option (List ℕ)) → Stage
   Netlist : (net : List ℕ) → Stage
   Plain : (net : List ℕ) → Stage
   Cells : (lib : List ℕ) → Stage
-  Plan : (net lib : List ℕ) → Stage
+  Plan : (planner : Planner) (net lib : List ℕ) → Stage
   PlanWith : (net : List ℕ) (cells : LibraryView) → Stage
   Stream : (gds : List ℕ) → Stage
   Size : (gds : List ℕ) → Stage
@@ -47,7 +52,8 @@ Finds (Loading load file) fault = IsLoadFault load file fault
 Finds (Netlist net) fault = IsNetlistFault net fault
 Finds (Plain net) fault = IsPlainFault net fault
 Finds (Cells lib) fault = IsCellsFault lib fault
-Finds (Plan net lib) fault = HasDesign net lib (λ equations cells. IsPlanFault equations cells fault)
+Finds (Plan Layered net lib) fault = HasDesign net lib (λ equations cells. IsPlanFault equations cells fault)
+Finds (Plan Compact net lib) fault = ⊥
 Finds (PlanWith net cells) fault = HasNetlist net (λ equations. IsPlanFault equations cells fault)
 Finds (Stream gds) fault = IsStreamFault gds fault
 Finds (Size gds) fault = IsSizeFault gds fault
@@ -77,21 +83,24 @@ abbrev pub IsReached : List Stage → ℕ → Type 0
 IsReached [] place = ⊥
 IsReached (stage ∷ stages) place = LoadsAt stage place ⊎ (FindsNone stage × IsReached stages place)
 
--- the stage is a comparison of two circuits with more subfunctions than are compared
-abbrev pub GivesUp : Stage → ℕ → Type 0
-GivesUp (Comparison gds lib net) count = HasManyFunctions gds lib net count
-GivesUp _ count = ⊥
+-- the stage gives up for a size: it is a comparison of two circuits with more subfunctions than are compared, or the
+-- search for the chip of a netlist whose defined plan passes this limit first
+abbrev pub GivesUp : Stage → Large → ℕ → Type 0
+GivesUp (Comparison gds lib net) Functions count = HasManyFunctions gds lib net count
+GivesUp (Plan Compact net lib) what count = HasDesign net lib (λ equations cells. HasTooMuch equations cells what count)
+GivesUp _ what count = ⊥
 
--- so is one of the stages
-abbrev pub SomeGivesUp : List Stage → ℕ → Type 0
-SomeGivesUp [] count = ⊥
-SomeGivesUp (stage ∷ stages) count = GivesUp stage count ⊎ SomeGivesUp stages count
+-- so does one of the stages
+abbrev pub SomeGivesUp : List Stage → Large → ℕ → Type 0
+SomeGivesUp [] what count = ⊥
+SomeGivesUp (stage ∷ stages) what count = GivesUp stage what count ⊎ SomeGivesUp stages what count
 
 -- What the stages may answer: what is due; or want of memory; a failed load that the work comes to; or, where nothing
--- is due, a refused write, or that a comparison has too many subfunctions.
+-- is due, a refused write, or the size for which a stage gives up.
 abbrev pub Answers : List Stage → Option Fault → Type 0
 Answers stages (Some Memory) = Unit {0}
 Answers stages (Some (ReadFault place)) = IsReached stages place
 Answers stages (Some (WriteFault call)) = IsFirst stages None
-Answers stages (Some (TooLarge Functions count)) = IsFirst stages None × SomeGivesUp stages count
+Answers stages (Some (TooLarge what count)) =
+    IsFirst stages (Some (TooLarge what count)) ⊎ (IsFirst stages None × SomeGivesUp stages what count)
 Answers stages answer = IsFirst stages answer

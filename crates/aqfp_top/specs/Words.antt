@@ -3,8 +3,10 @@ use Rattle.std.specs.Prelude.{ℕ, ◌≡◌, ◌≤◌, ◌⊎◌, List, [], St
 use Rattle.std.specs.Fmt.{decimal}
 use Rattle.std.specs.String.{string_bytes}
 use Rattle.std.specs.declared.alloc.Global.{Global}
+use Rattle.aqfp_top.specs.declared.planner.Planner.{Planner}
+use Rattle.aqfp_top.specs.declared.planner.Planner.TheVariants.{Layered, Compact}
 use Rattle.aqfp_top.specs.declared.words.Form.{Form}
-use Rattle.aqfp_top.specs.declared.words.Form.TheVariants.{Build, Verify, Trace, Equal, Write, Sample, Wrong}
+use Rattle.aqfp_top.specs.declared.words.Form.TheVariants.{Make, Verify, Trace, Equal, Write, Sample, Wrong}
 
 -- the bytes of each word
 abbrev pub spelled : List (String Global) → List (List ℕ)
@@ -17,6 +19,19 @@ word_at words place = unwrap_or (slice_get words place) []
 -- build NET LIB OUT
 abbrev pub IsBuild : List (List ℕ) → Type 0
 IsBuild words = (length words ≡ 4) × (word_at words 0 ≡ codes "build")
+
+-- compact NET LIB OUT
+abbrev pub IsCompact : List (List ℕ) → Type 0
+IsCompact words = (length words ≡ 4) × (word_at words 0 ≡ codes "compact")
+
+-- the command that makes a chip by this plan
+abbrev pub IsMakeBy : Planner → List (List ℕ) → Type 0
+IsMakeBy Layered words = IsBuild words
+IsMakeBy Compact words = IsCompact words
+
+-- one of the two commands that make a chip
+abbrev pub IsMake : List (List ℕ) → Type 0
+IsMake words = IsBuild words ⊎ IsCompact words
 
 -- verify GDS LIB WORDS
 abbrev pub IsVerify : List (List ℕ) → Type 0
@@ -55,13 +70,13 @@ pub record IsSample (words : List (List ℕ)) : Type 0 where
   pub bits : ℕ
   pub of_bits : IsSampleOf words bits
 
--- the words are one of the six commands with its arguments, the number of a sample being from 1 to 64
+-- the words are one of the seven commands with its arguments, the number of a sample being from 1 to 64
 abbrev pub HasForm : List (List ℕ) → Type 0
-HasForm words = IsBuild words ⊎ (IsCheck words ⊎ (IsSample words ⊎ (IsEqual words ⊎ IsWrite words)))
+HasForm words = IsMake words ⊎ (IsCheck words ⊎ (IsSample words ⊎ (IsEqual words ⊎ IsWrite words)))
 
 -- the words have this form
 abbrev pub IsOfForm : List (List ℕ) → Form → Type 0
-IsOfForm words Build = IsBuild words
+IsOfForm words (Make planner) = IsMakeBy planner words
 IsOfForm words Verify = IsVerify words
 IsOfForm words Trace = IsTrace words
 IsOfForm words Equal = IsEqual words

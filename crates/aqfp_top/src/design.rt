@@ -6,16 +6,19 @@ ghost use Rattle.geom.specs.Writable.{IsWritable};
 ghost use Rattle.layout_make.specs.Draw.{draw as drawing};
 ghost use Rattle.layout_make.specs.MayDraw.{MayDraw};
 ghost use Rattle.layout_make.specs.Size.{element_number, element_limit};
-ghost use Rattle.chip_plan.specs.Plans.{IsWithin, chip_of};
+ghost use Rattle.chip_plan.specs.Laws.{AnswersAs};
 ghost use Rattle.aqfp_top.specs.Designs.{IsNetlistFault, IsCellsFault, IsPlanFault};
+ghost use Rattle.aqfp_top.specs.Code.Designing.{IsPlannedBy, plan_fault};
 ghost use Rattle.aqfp_top.specs.Code.Staging.{OrMemory};
 
 use crate::counts::{ChipCounts, counts_of};
 use crate::fault::{Fault, Large};
+use crate::planner::Planner;
 use blif_flat::{FlatRefusal, read_design};
 use blif_read::Netlist;
 use cell_library::{Library, LibraryFault, LibraryRefusal, read_library};
 use chip_plan::{PlanRefusal, plan_chip, plan_laws};
+use compact_plan::compact_chip;
 use geom::Layout;
 use layout_make::{DrawRefusal, draw};
 use rowed::Placed;
@@ -65,27 +68,46 @@ fn too_large(what: Large, count: u64) -> Fault
     Fault::TooLarge { what, count }
 }
 
-// The rows of the netlist's chip.
-fn plan(alloc: Global, cells: &Library, net: &Netlist) -> Result<Placed, Fault>
-    ensures chip { IfOk result (λ chip. chip ≡ chip_of cells.now net.now) }
-    ensures within { OnOk result (IsWithin cells.now net.now) }
-    ensures draws { IfOk result (λ chip. MayDraw chip cells.now) }
-    ensures bad { IfErr result (OrMemory (IsPlanFault net.now cells.now)) }
+// What tells that a plan passes a limit.
+fn limit_fault(refusal: &PlanRefusal) -> Fault
+    ensures { result ≡ plan_fault refusal.now }
 {
-    match plan_chip(alloc, cells, net) {
-        Ok(chip) => Ok(chip),
-        Err(PlanRefusal::Slots { span }) => Err(too_large(Large::Slots, span)),
-        Err(PlanRefusal::Rows { rows }) => Err(too_large(Large::Rows, rows)),
-        Err(PlanRefusal::Cells { cells }) => Err(too_large(Large::Cells, cells)),
-        Err(PlanRefusal::Memory) => Err(Fault::Memory),
+    match refusal {
+        PlanRefusal::Slots { span } => too_large(Large::Slots, *span),
+        PlanRefusal::Rows { rows } => too_large(Large::Rows, *rows),
+        PlanRefusal::Cells { cells } => too_large(Large::Cells, *cells),
+        PlanRefusal::Memory => Fault::Memory,
     }
 }
 
-// The layout of the netlist's chip.
+// The rows of a chip of the netlist.
+#[tactic(auto, using(crate::proofs::Designing::plans))]
+fn plan(alloc: Global, planner: Planner, cells: &Library, net: &Netlist) -> Result<Placed, Fault>
+    ensures draws { IfOk result (λ chip. MayDraw chip cells.now) }
+    ensures answers { IfOk result (λ chip. AnswersAs net.now chip) }
+    ensures planned { IfOk result (IsPlannedBy planner net.now cells.now) }
+    ensures bad { IfErr result (OrMemory (IsPlanFault net.now cells.now)) }
+{
+    let placed = match planner {
+        Planner::Layered => plan_chip(alloc, cells, net),
+        Planner::Compact => compact_chip(alloc, cells, net),
+    };
+    match placed {
+        Ok(placed) => Ok(placed),
+        Err(refusal) => Err(limit_fault(&refusal)),
+    }
+}
+
+// The layout of a chip of the netlist.
 #[tactic(auto, using(crate::proofs::Designing::limits))]
-fn lay_out(alloc: Global, _net: &Netlist, cells: &Library, chip: &Placed) -> Result<Layout, Fault>
-    requires chip { chip.now ≡ chip_of cells.now _net.now }
-    requires within { IsWithin cells.now _net.now }
+fn lay_out(
+    alloc: Global,
+    _planner: Planner,
+    _net: &Netlist,
+    cells: &Library,
+    chip: &Placed,
+) -> Result<Layout, Fault>
+    requires planned { IsPlannedBy _planner _net.now cells.now chip.now }
     requires draws { MayDraw chip.now cells.now }
     ensures drawn { IfOk result (λ layout. layout ≡ drawing chip.now cells.now) }
     ensures writable { IfOk result IsWritable }
@@ -102,45 +124,55 @@ fn lay_out(alloc: Global, _net: &Netlist, cells: &Library, chip: &Placed) -> Res
 impl Chip {
     ghost use Rattle.std.specs.Prelude.{◌≤◌, ◌^◌, Some, None, length, OnOk, IfOk, IfErr};
     ghost use Rattle.geom.specs.Writable.{IsWritable};
-    ghost use Rattle.aqfp_top.specs.Designs.{KeepsLimits, IsPlanFault};
+    ghost use Rattle.aqfp_top.specs.Designs.{IsPlanFault};
     ghost use Rattle.aqfp_top.specs.Stages.{IsFirst, Answers};
     ghost use Rattle.aqfp_top.specs.Due.{design_stages};
     ghost use Rattle.aqfp_top.specs.Code.Staging.{OrMemory};
-    ghost use Rattle.aqfp_top.specs.Code.Designing.{IsDesignFault, IsChipOf, MakesChip, PassesNone};
+    ghost use Rattle.aqfp_top.specs.Code.Designing.{IsDesignFault, IsChipOf, MakesChip, IsWellPlanned};
 
-    /// The chip of the netlist with the cells of the library, and otherwise the first limit that it passes.
+    /// A chip of the netlist with the cells of the library by a plan, and otherwise the first limit that the defined
+    /// plan passes.
     #[tactic(auto, using(crate::proofs::Designing::limits))]
-    pub fn of_net(alloc: Global, net: &Netlist, cells: &Library) -> Result<Chip, Fault>
-        ensures made { IfOk result (IsChipOf net.now cells.now) }
-        ensures limits { OnOk result (KeepsLimits net.now cells.now) }
-        ensures passes { OnOk result (PassesNone net.now cells.now) }
+    pub fn of_net(
+        alloc: Global,
+        planner: Planner,
+        net: &Netlist,
+        cells: &Library,
+    ) -> Result<Chip, Fault>
+        ensures made { IfOk result (IsChipOf planner net.now cells.now) }
+        ensures passes { OnOk result (IsWellPlanned planner net.now cells.now) }
         ensures writable { IfOk result (λ chip. IsWritable chip.layout) }
         ensures bad { IfErr result (OrMemory (IsPlanFault net.now cells.now)) }
     {
         plan_laws();
         net.known();
         cells.known();
-        let placed = plan(alloc, cells, net)?;
-        let layout = lay_out(alloc, net, cells, &placed)?;
+        let placed = plan(alloc, planner, cells, net)?;
+        let layout = lay_out(alloc, planner, net, cells, &placed)?;
         let counts = counts_of(&placed);
         Ok(Chip { layout, counts })
     }
 
-    /// The chip of the netlist with the cells of the library that the texts say, and otherwise what is wrong with them
-    /// first.
+    /// A chip of the netlist with the cells of the library that the texts say, by a plan, and otherwise what is wrong
+    /// with them first.
     #[tactic(auto, using(crate::proofs::Designing::designs))]
-    pub fn from_texts(alloc: Global, net: &[u8], lib: &[u8]) -> Result<Chip, Fault>
+    pub fn from_texts(
+        alloc: Global,
+        planner: Planner,
+        net: &[u8],
+        lib: &[u8],
+    ) -> Result<Chip, Fault>
         requires net { length net.now ≤ 2 ^ 24 }
         requires lib { length lib.now ≤ 2 ^ 28 }
-        ensures made { IfOk result (MakesChip net.now lib.now) }
+        ensures made { IfOk result (MakesChip planner net.now lib.now) }
         ensures writable { IfOk result (λ chip. IsWritable chip.layout) }
-        ensures well { OnOk result (IsFirst (design_stages net.now lib.now) None) }
-        ensures bad { IfErr result (λ fault. Answers (design_stages net.now lib.now) (Some fault)) }
+        ensures well { OnOk result (IsFirst (design_stages planner net.now lib.now) None) }
+        ensures bad { IfErr result (λ fault. Answers (design_stages planner net.now lib.now) (Some fault)) }
         ensures only { IfErr result IsDesignFault }
     {
         let net = read_netlist(alloc, net)?;
         let cells = read_cells(alloc, lib)?;
-        let chip = Chip::of_net(alloc, &net, &cells)?;
+        let chip = Chip::of_net(alloc, planner, &net, &cells)?;
         Ok(chip)
     }
 }

@@ -1,9 +1,12 @@
 // The law that joins the commands: what one stores, the other accepts and prints.
 ghost use Rattle.std.specs.Prelude.{ℕ, ◌≤◌, ◌^◌, List, length};
 ghost use Rattle.blif_read.specs.Parts.{NetView};
+ghost use Rattle.rowed.specs.PlacedNets.{PlacedView};
 ghost use Rattle.cell_library.specs.Library.{LibraryView};
+ghost use Rattle.cell_library.specs.Says.{SaysLibrary};
+ghost use Rattle.chip_plan.specs.Plans.{chip_of};
 ghost use Rattle.chip_texts.specs.WordsText.{SaysWords};
-ghost use Rattle.aqfp_top.specs.Designs.{SaysDesign, KeepsLimits};
+ghost use Rattle.aqfp_top.specs.Designs.{SaysDesign, KeepsLimits, IsChipFor};
 ghost use Rattle.aqfp_top.specs.Joined.{VerifiesAsNet};
 
 use blif_flat::each_design;
@@ -17,17 +20,20 @@ use layout_make::drawing_laws;
 use pulse_sim::shown_once;
 use shape_extract::one_circuit;
 
-/// What `build` stores, `verify` with the same library accepts, whatever words with a value for each input of the
-/// netlist are given, and prints as the chip's counts and the netlist's answer to each word.
+/// What `build` or `compact` stores, a chip for the netlist, `verify` with the same library accepts, whatever words with
+/// a value for each input of the netlist are given, and prints as the chip's counts and the netlist's answer to each
+/// word. The chip of the defined plan is such a chip, where it keeps all limits.
 pub fn built_is_verified()
-    ensures { (net_text lib text : List ℕ) (net : NetView) (cells : LibraryView) → length net_text ≤ 2 ^ 27
-        → SaysDesign net_text lib net cells → KeepsLimits net cells → SaysWords net.inputs text
-        → VerifiesAsNet net cells lib text }
+    ensures verified { (lib text : List ℕ) (net : NetView) (chip : PlacedView) (cells : LibraryView)
+        → SaysLibrary lib cells → IsChipFor net cells chip → SaysWords net.inputs text
+        → VerifiesAsNet net chip cells lib text }
+    ensures of_plan { (net_text lib : List ℕ) (net : NetView) (cells : LibraryView) → length net_text ≤ 2 ^ 27
+        → SaysDesign net_text lib net cells → KeepsLimits net cells → IsChipFor net cells (chip_of cells net) }
 {
+    drawing_laws();
     each_design();
     each_library();
     plan_laws();
-    drawing_laws();
     written_is_read();
     drawn_chip_realises();
     one_layout();

@@ -190,9 +190,9 @@ fn pieces_of<'a>(words: &'a [String], fault: &'a Fault) -> [Piece<'a>; 5]
     match fault {
         Fault::Usage => [
             Piece::Text(
-                b"aqfp: usage: build NET LIB OUT, verify GDS LIB WORDS, trace GDS LIB WORDS, ",
+                b"aqfp: usage: build NET LIB OUT, compact NET LIB OUT, verify GDS LIB WORDS, ",
             ),
-            Piece::Text(b"sample N, netlist GDS LIB OUT, equal GDS LIB NET\n"),
+            Piece::Text(b"trace GDS LIB WORDS, sample N, netlist GDS LIB OUT, equal GDS LIB NET\n"),
             Piece::Text(b""),
             Piece::Text(b""),
             Piece::Text(b""),

@@ -3,7 +3,7 @@ ghost use Rattle.std.specs.Prelude.{◌≡◌, ◌⊎◌, Some, None, IsSome, If
 ghost use Rattle.std.specs.Result.{result_err};
 ghost use Rattle.aq_base.specs.Causes.{Rose};
 ghost use Rattle.aq_base.specs.Store.{Contents};
-ghost use Rattle.aqfp_top.specs.Words.{spelled, IsBuild, IsVerify, IsTrace, IsEqual, IsWrite, HasForm};
+ghost use Rattle.aqfp_top.specs.Words.{spelled, IsMakeBy, IsVerify, IsTrace, IsEqual, IsWrite, HasForm};
 ghost use Rattle.aqfp_top.specs.Statuses.{status_of};
 ghost use Rattle.aqfp_top.specs.Lines.{Reports};
 ghost use Rattle.aqfp_top.specs.Due.{MayAnswer};
@@ -12,6 +12,7 @@ ghost use Rattle.aqfp_top.specs.Counted.{HasFaults, FailedLoad};
 ghost use Rattle.aqfp_top.specs.Build.{IsBuilt, IsDone};
 ghost use Rattle.aqfp_top.specs.Chips.{BuildsChip};
 ghost use Rattle.aqfp_top.specs.Histories.{HeardBuilt, HearsChip, HeardWritten, HearsNetlist, HeardChecked, HearsAnswers, HearsFluxes, HeardCompared, HearsVerdict};
+ghost use Rattle.aqfp_top.specs.declared.planner.Planner.{Planner};
 ghost use Rattle.aqfp_top.specs.declared.check.Printing.{Printing};
 ghost use Rattle.aqfp_top.specs.Verified.{VerifiesChip, TracesChip};
 ghost use Rattle.aqfp_top.specs.Compared.{ComparesChip};
@@ -31,9 +32,10 @@ use crate::words::{Form, form_of};
 use crate::write::write_netlist;
 use aq_base::{Files, Sink};
 use blif_flat::written_answers;
-use chip_plan::plan_laws;
 use chip_texts::answers_are_shown;
 use drawn_chip::drawn_chip_realises;
+use gds_records::{one_layout, written_is_read};
+use layout_make::drawing_laws;
 use std::alloc::Global;
 
 /// How a run ended: the status of the program, and the fault where the status is not 0.
@@ -58,9 +60,9 @@ fn work<F: Files, O: Sink>(
     ensures faults { HasFaults (record { reads = F.read_faults files.old; writes = F.write_faults files.old; closes = F.close_faults files.old; outs = O.faults out.old })
         (record { reads = F.read_faults files.new; writes = F.write_faults files.new; closes = F.close_faults files.new; outs = O.faults out.new }) (result_err result) }
     ensures failed { IsSome (F.told files.old) → FailedLoad (F.load_failed files.new) (spelled words.now) (result_err result) }
-    ensures done { IfOk result (λ _. IsBuild (spelled words.now) → IsBuilt (F.told files.old) (spelled words.now) (IsDone (F.told files.old) (F.told files.new) (spelled words.now) (O.written out.old) (O.written out.new))) }
+    ensures done { IfOk result (λ _. (planner : Planner) → IsMakeBy planner (spelled words.now) → IsBuilt planner (F.told files.old) (spelled words.now) (IsDone (F.told files.old) (F.told files.new) (spelled words.now) (O.written out.old) (O.written out.new))) }
     ensures written { IfOk result (λ _. IsWrite (spelled words.now) → IsRead (F.told files.old) (spelled words.now) (IsWritten (F.told files.old) (F.told files.new) (spelled words.now) (O.written out.old) (O.written out.new))) }
-    ensures built { IfOk result (λ _. IsBuild (spelled words.now) → HeardBuilt (F.heard files.old) (F.heard files.new) (spelled words.now) (O.written out.old) (O.written out.new)) }
+    ensures built { IfOk result (λ _. (planner : Planner) → IsMakeBy planner (spelled words.now) → HeardBuilt planner (F.heard files.old) (F.heard files.new) (spelled words.now) (O.written out.old) (O.written out.new)) }
     ensures checked { IfOk result (λ _. IsVerify (spelled words.now) → HeardChecked Printing.Answers (F.heard files.old) (F.heard files.new) (spelled words.now) (O.written out.old) (O.written out.new)) }
     ensures traced { IfOk result (λ _. IsTrace (spelled words.now) → HeardChecked Printing.Fluxes (F.heard files.old) (F.heard files.new) (spelled words.now) (O.written out.old) (O.written out.new)) }
     ensures compared { IfOk result (λ _. IsEqual (spelled words.now) → HeardCompared (F.heard files.old) (F.heard files.new) (spelled words.now) (O.written out.old) (O.written out.new)) }
@@ -69,7 +71,7 @@ fn work<F: Files, O: Sink>(
     ensures shut { F.opened files.new ≡ None }
 {
     match form_of(words) {
-        Form::Build => build(alloc, words, files, out),
+        Form::Make { planner } => build(alloc, planner, words, files, out),
         Form::Verify => check(alloc, Printing::Answers, words, files, out),
         Form::Trace => check(alloc, Printing::Fluxes, words, files, out),
         Form::Equal => equal(alloc, words, files, out),
@@ -104,13 +106,17 @@ pub fn aqfp_run<F: Files, O: Sink, E: Sink>(
     ensures only { IfSome result.fault (RunsOnly (spelled words.now)) }
     ensures usage { ¬ HasForm (spelled words.now) → result.fault ≡ Some Fault.Usage }
 
-    // What a build that ends well has made: the chip of its netlist, whatever the order of switching.
-    ensures chip { (held : Contents) → F.told files.old ≡ Some held → IsBuild (spelled words.now) → result.fault ≡ None
+    // What a `build` or a `compact` that ends well has made: a chip of its netlist, whatever the order of switching.
+    ensures chip { (held : Contents) (planner : Planner) → F.told files.old ≡ Some held → IsMakeBy planner (spelled words.now) → result.fault ≡ None
         → BuildsChip held (F.told files.new) (spelled words.now) (O.written out.old) (O.written out.new) }
 
     // The same of any store, the system's files too: what NET and LIB gave, and what OUT took.
-    ensures hears { IsBuild (spelled words.now) → result.fault ≡ None
+    ensures hears { (planner : Planner) → IsMakeBy planner (spelled words.now) → result.fault ≡ None
         → HearsChip (F.heard files.old) (F.heard files.new) (spelled words.now) (O.written out.old) (O.written out.new) }
+
+    // And by which plan: the defined one, or one that is no larger.
+    ensures planned { (planner : Planner) → IsMakeBy planner (spelled words.now) → result.fault ≡ None
+        → HeardBuilt planner (F.heard files.old) (F.heard files.new) (spelled words.now) (O.written out.old) (O.written out.new) }
 
     // What a check that ends well has shown: the answers to the words, whatever the order of switching, or the fluxes.
     ensures verified { (held : Contents) → F.told files.old ≡ Some held → IsVerify (spelled words.now) → result.fault ≡ None
@@ -147,7 +153,9 @@ pub fn aqfp_run<F: Files, O: Sink, E: Sink>(
     ensures reports { Reports (E.written err.old) (E.written err.new) (spelled words.now) result.fault
         (Rose (E.faults err.old) (E.faults err.new) ⊎ Rose (E.refused err.old) (E.refused err.new)) }
 {
-    plan_laws();
+    drawing_laws();
+    written_is_read();
+    one_layout();
     drawn_chip_realises();
     answers_are_shown();
     written_answers();

@@ -20,6 +20,7 @@ ghost use Rattle.aqfp_top.specs.declared.fault.Fault.{Fault};
 use crate::counts::ChipCounts;
 use crate::design::Chip;
 use crate::fault::{Fault, WriteCall};
+use crate::planner::Planner;
 use aq_base::{List, Memory, Sink, StoreRefusal};
 use blif_read::{BlifRefusal, Netlist, blif_read};
 use cell_library::library_a;
@@ -101,7 +102,7 @@ fn make(alloc: Global, bits: u32) -> Result<SampleResult, Fault>
     let Ok(cells) = library_a(alloc) else {
         return Err(Fault::Memory);
     };
-    let chip = Chip::of_net(alloc, &net, &cells)?;
+    let chip = Chip::of_net(alloc, Planner::Layered, &net, &cells)?;
     let Ok(answers) = eight_answers(alloc, bits, &net) else {
         return Err(Fault::Memory);
     };

@@ -2,13 +2,14 @@
 ghost use Rattle.std.specs.Prelude.{ℕ, ◌≡◌, ◌<◌, ◌↔◌, IsTrue, IfSome, None, length};
 ghost use Rattle.aqfp_top.specs.Words.{IsOfForm, IsSampleSize, spelled, word_at};
 
+use crate::planner::Planner;
 use aq_base::read_decimal;
 
 /// Which form a command line has.
 #[derive(Clone, Copy, PartialEq, Eq)]
 pub enum Form {
-    /// `build NET LIB OUT`.
-    Build,
+    /// `build NET LIB OUT` or `compact NET LIB OUT`, by the plan.
+    Make { planner: Planner },
     /// `verify GDS LIB WORDS`.
     Verify,
     /// `trace GDS LIB WORDS`.
@@ -63,7 +64,14 @@ pub fn form_of(words: &[String]) -> Form
 {
     if words.len() == 4 {
         if is_word(words, 0, "build") {
-            return Form::Build;
+            return Form::Make {
+                planner: Planner::Layered,
+            };
+        }
+        if is_word(words, 0, "compact") {
+            return Form::Make {
+                planner: Planner::Compact,
+            };
         }
         if is_word(words, 0, "verify") {
             return Form::Verify;

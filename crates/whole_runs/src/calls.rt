@@ -3,12 +3,12 @@ ghost use Rattle.std.specs.Prelude.{◌≡◌, None};
 ghost use Rattle.aq_base.specs.MemoryStore.{store_of};
 
 use crate::fixtures::{
-    FIRST_NETLIST, LIBRARY_A, Outcome, WIRE, first_chip, holding, ran, ran_into, store, with_chip,
+    FIRST_NETLIST, LIBRARY_A, Outcome, STREAM, WIRE, ran, ran_into, store, wires, with_chip,
     words_in,
 };
 use aq_base::{MemFiles, MemSink};
 use aqfp_top::aqfp_run;
-use std::alloc::{AllocError, Global};
+use std::alloc::Global;
 use std::test::Fail;
 
 // What a run told, and how many bytes `out` holds.
@@ -38,6 +38,9 @@ fn each_call_of_a_build_fails(rt: HostRuntime) -> Result<(), Fail> {
         let run = ran(rt.alloc(), files, "build net lib out")?;
         assert!(rt; is_left(&run, status, told, held), "call {call}");
         assert_eq!(rt; run.out.bytes().is_empty(), status != 0, "call {call}");
+        // a file that was opened is closed
+        let made = if call < 3 { call + 1 } else { 5 };
+        assert_eq!(rt; run.files.calls(), made, "call {call}");
     }
     Ok(())
 }
@@ -53,20 +56,10 @@ fn a_failed_append_is_told_once(rt: HostRuntime) -> Result<(), Fail> {
     Ok(())
 }
 
-// So many inputs that are all shown.
-fn shown(alloc: Global, inputs: u32) -> Result<String, AllocError> {
-    let mut names = String::new(alloc);
-    for input in 0..inputs {
-        let name = format!(in alloc; " x{input}")?;
-        names.push_str(name.as_str())?;
-    }
-    format!(in alloc; ".inputs{names}\n.outputs{names}\n")
-}
-
 // A stream of two pieces, of which the second is cut off.
 #[test]
 fn a_second_piece_fails(rt: HostRuntime) -> Result<(), Fail> {
-    let net = shown(rt.alloc(), 200)?;
+    let net = wires(rt.alloc(), 200)?;
     let mut files = store(rt.alloc(), net.as_bytes(), LIBRARY_A.as_bytes())?;
     files.fail_at(4, 10)?;
     let run = ran(rt.alloc(), files, "build net lib out")?;
@@ -97,14 +90,14 @@ fn each_call_of_a_netlist_fails(rt: HostRuntime) -> Result<(), Fail> {
 }
 
 // Whether a netlist whose append keeps so many bytes leaves these and is closed.
-fn is_kept(alloc: Global, chip: &[u8], keep: usize) -> Result<bool, Fail> {
-    let mut files = holding(alloc, chip)?;
+fn is_kept(alloc: Global, keep: usize) -> Result<bool, Fail> {
+    let mut files = with_chip(alloc)?;
     files.fail_at(3, keep as u64)?;
     let run = ran(alloc, files, "netlist chip lib out")?;
     Ok(
         is_left(&run, 5, "aqfp: write failed\n", Some(keep))
             && run.files.bytes("out") == FIRST_NETLIST.as_bytes().get(..keep)
-            && run.files.bytes("chip") == Some(chip)
+            && run.files.bytes("chip") == Some(STREAM.as_slice())
             && run.files.calls() == 5
             && run.out.bytes().is_empty(),
     )
@@ -112,12 +105,8 @@ fn is_kept(alloc: Global, chip: &[u8], keep: usize) -> Result<bool, Fail> {
 
 #[test]
 fn an_append_of_a_netlist_keeps_its_first_bytes(rt: HostRuntime) -> Result<(), Fail> {
-    let chip = first_chip(rt.alloc())?;
     for keep in 0..=FIRST_NETLIST.len() {
-        assert!(rt;
-            is_kept(rt.alloc(), chip.as_slice(), keep)?,
-            "keeping {keep}"
-        );
+        assert!(rt; is_kept(rt.alloc(), keep)?, "keeping {keep}");
     }
     Ok(())
 }
@@ -193,29 +182,22 @@ fn each_put_fails(rt: HostRuntime) -> Result<(), Fail> {
 }
 
 // Whether a run whose first put keeps so many bytes tells so, and prints these.
-fn is_cut_at(
-    alloc: Global,
-    chip: &[u8],
-    line: &str,
-    text: &str,
-    keep: usize,
-) -> Result<bool, Fail> {
+fn is_cut_at(alloc: Global, line: &str, text: &str, keep: usize) -> Result<bool, Fail> {
     let mut out = MemSink::new(alloc);
     out.fail_at(0, keep as u64)?;
-    let run = ran_into(alloc, holding(alloc, chip)?, out, line)?;
+    let run = ran_into(alloc, with_chip(alloc)?, out, line)?;
     Ok(is_cut(&run, text.as_bytes()) && run.out.bytes().len() == keep)
 }
 
 #[test]
 fn a_put_keeps_its_first_bytes(rt: HostRuntime) -> Result<(), Fail> {
-    let chip = first_chip(rt.alloc())?;
     let cases = [
         ("netlist chip lib out", "rows 2 cells 2 wires 1 delay 1\n"),
         ("equal chip lib net", "equal\n"),
     ];
     for (line, text) in cases {
         for keep in 0..=text.len() {
-            let told = is_cut_at(rt.alloc(), chip.as_slice(), line, text, keep)?;
+            let told = is_cut_at(rt.alloc(), line, text, keep)?;
             assert!(rt; told, "{line}, keeping {keep}");
         }
     }

@@ -18,14 +18,90 @@ pub const FIRST_NETLIST: &str =
 pub const LIBRARY_A: &str =
     "wire = 1000\nspace = 1000\nvia = 600\nenclose = 200\npin = 1000\nheight = 10000\npitch = 2000\ncolumns = 4\ncapacity = 28\nlimit = 180000\n[buffer]\ninputs = [1]\noutputs = [2]\n[inverter]\ninputs = [1]\noutputs = [2]\n[zero]\ninputs = []\noutputs = [2]\n[one]\ninputs = []\noutputs = [2]\n[split2]\ninputs = [1]\noutputs = [2, 6]\n[split3]\ninputs = [1]\noutputs = [2, 6, 10]\n[majority]\ninputs = [1, 5, 9]\noutputs = [2]\n";
 
-/// A store of a netlist and a library, under `net` and `lib`, and two words for one input under `words`.
-pub fn store(alloc: Global, net: &[u8], lib: &[u8]) -> Result<MemFiles, Memory>
+/// The and of two inputs.
+pub const AND: &str = ".inputs a b\n.outputs y\n.names a b y\n11 1\n";
+
+/// Their exclusive or.
+pub const XOR: &str = ".inputs a b\n.outputs y\n.names a b y\n10 1\n01 1\n";
+
+/// The stream of the first chip, as the manual's records spell it.
+pub const STREAM: [u8; 1046] = [
+    0, 6, 0, 2, 2, 88, 0, 28, 1, 2, 7, 178, 0, 1, 0, 1, 0, 0, 0, 0, 0, 0, 7, 178, 0, 1, 0, 1, 0, 0,
+    0, 0, 0, 0, 0, 8, 2, 6, 65, 81, 70, 80, 0, 20, 3, 5, 62, 65, 137, 55, 75, 198, 167, 240, 57,
+    68, 184, 47, 160, 155, 90, 84, 0, 28, 5, 2, 7, 178, 0, 1, 0, 1, 0, 0, 0, 0, 0, 0, 7, 178, 0, 1,
+    0, 1, 0, 0, 0, 0, 0, 0, 0, 8, 6, 6, 66, 85, 70, 0, 0, 4, 8, 0, 0, 6, 13, 2, 0, 20, 0, 6, 14, 2,
+    0, 1, 0, 44, 16, 3, 0, 0, 0, 0, 0, 0, 0, 0, 0, 0, 31, 64, 0, 0, 0, 0, 0, 0, 31, 64, 0, 0, 39,
+    16, 0, 0, 0, 0, 0, 0, 39, 16, 0, 0, 0, 0, 0, 0, 0, 0, 0, 4, 17, 0, 0, 4, 8, 0, 0, 6, 13, 2, 0,
+    21, 0, 6, 14, 2, 0, 0, 0, 44, 16, 3, 0, 0, 9, 196, 0, 0, 0, 0, 0, 0, 13, 172, 0, 0, 0, 0, 0, 0,
+    13, 172, 0, 0, 3, 232, 0, 0, 9, 196, 0, 0, 3, 232, 0, 0, 9, 196, 0, 0, 0, 0, 0, 4, 17, 0, 0, 4,
+    8, 0, 0, 6, 13, 2, 0, 22, 0, 6, 14, 2, 0, 0, 0, 44, 16, 3, 0, 0, 17, 148, 0, 0, 35, 40, 0, 0,
+    21, 124, 0, 0, 35, 40, 0, 0, 21, 124, 0, 0, 39, 16, 0, 0, 17, 148, 0, 0, 39, 16, 0, 0, 17, 148,
+    0, 0, 35, 40, 0, 4, 17, 0, 0, 4, 7, 0, 0, 28, 5, 2, 7, 178, 0, 1, 0, 1, 0, 0, 0, 0, 0, 0, 7,
+    178, 0, 1, 0, 1, 0, 0, 0, 0, 0, 0, 0, 8, 6, 6, 84, 79, 80, 0, 0, 4, 10, 0, 0, 8, 18, 6, 66, 85,
+    70, 0, 0, 12, 16, 3, 0, 0, 0, 0, 0, 0, 0, 0, 0, 4, 17, 0, 0, 4, 8, 0, 0, 6, 13, 2, 0, 14, 0, 6,
+    14, 2, 0, 2, 0, 44, 16, 3, 255, 255, 240, 96, 0, 0, 0, 0, 0, 0, 0, 0, 0, 0, 0, 0, 0, 0, 0, 0,
+    0, 0, 39, 16, 255, 255, 240, 96, 0, 0, 39, 16, 255, 255, 240, 96, 0, 0, 0, 0, 0, 4, 17, 0, 0,
+    4, 8, 0, 0, 6, 13, 2, 0, 14, 0, 6, 14, 2, 0, 0, 0, 44, 16, 3, 0, 0, 0, 0, 0, 0, 0, 0, 0, 0, 31,
+    64, 0, 0, 0, 0, 0, 0, 31, 64, 0, 0, 39, 16, 0, 0, 0, 0, 0, 0, 39, 16, 0, 0, 0, 0, 0, 0, 0, 0,
+    0, 4, 17, 0, 0, 4, 8, 0, 0, 6, 13, 2, 0, 10, 0, 6, 14, 2, 0, 0, 0, 44, 16, 3, 0, 0, 17, 148, 0,
+    0, 35, 40, 0, 0, 21, 124, 0, 0, 35, 40, 0, 0, 21, 124, 0, 0, 48, 212, 0, 0, 17, 148, 0, 0, 48,
+    212, 0, 0, 17, 148, 0, 0, 35, 40, 0, 4, 17, 0, 0, 4, 8, 0, 0, 6, 13, 2, 0, 10, 0, 6, 14, 2, 0,
+    0, 0, 44, 16, 3, 0, 0, 9, 196, 0, 0, 44, 236, 0, 0, 13, 172, 0, 0, 44, 236, 0, 0, 13, 172, 0,
+    0, 58, 152, 0, 0, 9, 196, 0, 0, 58, 152, 0, 0, 9, 196, 0, 0, 44, 236, 0, 4, 17, 0, 0, 4, 8, 0,
+    0, 6, 13, 2, 0, 12, 0, 6, 14, 2, 0, 0, 0, 44, 16, 3, 0, 0, 9, 196, 0, 0, 44, 236, 0, 0, 21,
+    124, 0, 0, 44, 236, 0, 0, 21, 124, 0, 0, 48, 212, 0, 0, 9, 196, 0, 0, 48, 212, 0, 0, 9, 196, 0,
+    0, 44, 236, 0, 4, 17, 0, 0, 4, 8, 0, 0, 6, 13, 2, 0, 11, 0, 6, 14, 2, 0, 0, 0, 44, 16, 3, 0, 0,
+    18, 92, 0, 0, 45, 180, 0, 0, 20, 180, 0, 0, 45, 180, 0, 0, 20, 180, 0, 0, 48, 12, 0, 0, 18, 92,
+    0, 0, 48, 12, 0, 0, 18, 92, 0, 0, 45, 180, 0, 4, 17, 0, 0, 4, 8, 0, 0, 6, 13, 2, 0, 11, 0, 6,
+    14, 2, 0, 0, 0, 44, 16, 3, 0, 0, 10, 140, 0, 0, 45, 180, 0, 0, 12, 228, 0, 0, 45, 180, 0, 0,
+    12, 228, 0, 0, 48, 12, 0, 0, 10, 140, 0, 0, 48, 12, 0, 0, 10, 140, 0, 0, 45, 180, 0, 4, 17, 0,
+    0, 4, 10, 0, 0, 8, 18, 6, 66, 85, 70, 0, 0, 12, 16, 3, 0, 0, 0, 0, 0, 0, 54, 176, 0, 4, 17, 0,
+    0, 4, 8, 0, 0, 6, 13, 2, 0, 15, 0, 6, 14, 2, 0, 2, 0, 44, 16, 3, 255, 255, 240, 96, 0, 0, 54,
+    176, 0, 0, 0, 0, 0, 0, 54, 176, 0, 0, 0, 0, 0, 0, 93, 192, 255, 255, 240, 96, 0, 0, 93, 192,
+    255, 255, 240, 96, 0, 0, 54, 176, 0, 4, 17, 0, 0, 4, 8, 0, 0, 6, 13, 2, 0, 15, 0, 6, 14, 2, 0,
+    0, 0, 44, 16, 3, 0, 0, 0, 0, 0, 0, 54, 176, 0, 0, 31, 64, 0, 0, 54, 176, 0, 0, 31, 64, 0, 0,
+    93, 192, 0, 0, 0, 0, 0, 0, 93, 192, 0, 0, 0, 0, 0, 0, 54, 176, 0, 4, 17, 0, 0, 4, 12, 0, 0, 6,
+    13, 2, 0, 30, 0, 6, 22, 2, 0, 0, 0, 12, 16, 3, 0, 0, 11, 184, 0, 0, 1, 244, 0, 6, 25, 6, 73,
+    48, 0, 4, 17, 0, 0, 4, 12, 0, 0, 6, 13, 2, 0, 30, 0, 6, 22, 2, 0, 0, 0, 12, 16, 3, 0, 0, 19,
+    136, 0, 0, 91, 204, 0, 6, 25, 6, 79, 48, 0, 4, 17, 0, 0, 4, 7, 0, 0, 4, 4, 0,
+];
+
+fn store_of_bytes(alloc: Global, net: &[u8], lib: &[u8], words: &[u8]) -> Result<MemFiles, Memory>
     ensures { IfOk result (λ files. (store_of files).opened ≡ None) }
 {
     let mut files = MemFiles::new(alloc);
     files.add("net", net)?;
     files.add("lib", lib)?;
-    files.add("words", b"0\n1\n")?;
+    files.add("words", words)?;
+    Ok(files)
+}
+
+/// A store of a netlist, a library and words, under `net`, `lib` and `words`.
+pub fn stored(alloc: Global, net: &str, lib: &str, words: &str) -> Result<MemFiles, Memory>
+    ensures { IfOk result (λ files. (store_of files).opened ≡ None) }
+{
+    store_of_bytes(alloc, net.as_bytes(), lib.as_bytes(), words.as_bytes())
+}
+
+/// A store of a netlist and a library, and of two words for one input.
+pub fn store(alloc: Global, net: &[u8], lib: &[u8]) -> Result<MemFiles, Memory>
+    ensures { IfOk result (λ files. (store_of files).opened ≡ None) }
+{
+    store_of_bytes(alloc, net, lib, b"0\n1\n")
+}
+
+/// A store of a netlist, a library, words and a chip, under `chip`.
+pub fn stored_chip(
+    alloc: Global,
+    chip: &[u8],
+    net: &str,
+    lib: &str,
+    words: &str,
+) -> Result<MemFiles, Memory>
+    ensures { IfOk result (λ files. (store_of files).opened ≡ None) }
+{
+    let mut files = stored(alloc, net, lib, words)?;
+    files.add("chip", chip)?;
     Ok(files)
 }
 
@@ -75,31 +151,42 @@ pub fn ran(alloc: Global, files: MemFiles, line: &str) -> Result<Outcome, AllocE
     ran_into(alloc, files, MemSink::new(alloc), line)
 }
 
-/// The bytes of the first chip, as `build` stores them.
-pub fn first_chip(alloc: Global) -> Result<Vec<u8>, Fail> {
-    let files = store(alloc, WIRE.as_bytes(), LIBRARY_A.as_bytes())?;
-    let built = ran(alloc, files, "build net lib chip")?;
-    match built.files.bytes("chip") {
-        Some(bytes) => Ok(bytes.to_vec(alloc)?),
-        None => Err("no chip".into()),
-    }
-}
-
 /// A store with these bytes under `chip`.
 pub fn holding(alloc: Global, chip: &[u8]) -> Result<MemFiles, Memory>
     ensures { IfOk result (λ files. (store_of files).opened ≡ None) }
 {
-    let mut files = store(alloc, WIRE.as_bytes(), LIBRARY_A.as_bytes())?;
-    files.add("chip", chip)?;
-    Ok(files)
+    stored_chip(alloc, chip, WIRE, LIBRARY_A, "0\n1\n")
 }
 
 /// A store with the first chip under `chip`.
-pub fn with_chip(alloc: Global) -> Result<MemFiles, Fail>
+pub fn with_chip(alloc: Global) -> Result<MemFiles, Memory>
     ensures { IfOk result (λ files. (store_of files).opened ≡ None) }
 {
-    let chip = first_chip(alloc)?;
-    Ok(holding(alloc, chip.as_slice())?)
+    holding(alloc, &STREAM)
+}
+
+// Whether what was built is verified, and both runs print this text, the build its first line.
+fn is_verified(alloc: Global, built: Outcome, told: &str) -> Result<bool, AllocError> {
+    let printed = built.status == 0 && told.as_bytes().starts_with(built.out.bytes());
+    let checked = ran(alloc, built.files, "verify out lib words")?;
+    Ok(printed && checked.status == 0 && checked.out.bytes() == told.as_bytes())
+}
+
+/// Whether the chip of a netlist, built and verified with library A, answers words with this text.
+pub fn is_answered(alloc: Global, net: &str, words: &str, told: &str) -> Result<bool, Fail> {
+    let files = stored(alloc, net, LIBRARY_A, words)?;
+    let built = ran(alloc, files, "build net lib out")?;
+    Ok(is_verified(alloc, built, told)?)
+}
+
+/// A netlist of so many inputs that are all shown.
+pub fn wires(alloc: Global, inputs: u32) -> Result<String, AllocError> {
+    let mut names = String::new(alloc);
+    for input in 0..inputs {
+        let name = format!(in alloc; " x{input}")?;
+        names.push_str(name.as_str())?;
+    }
+    format!(in alloc; ".inputs{names}\n.outputs{names}\n")
 }
 
 /// A refusal: its status, and its line without the program's name.

@@ -1,5 +1,5 @@
 // Inputs that are large by number, or stand for many.
-use crate::fixtures::{LIBRARY_A, Refusal, WIRE, first_chip, is_refused, ran, store};
+use crate::fixtures::{LIBRARY_A, Refusal, STREAM, holding, is_refused, ran, store};
 use std::alloc::{AllocError, Global};
 use std::test::Fail;
 
@@ -73,10 +73,8 @@ fn crowd(alloc: Global, chip: &[u8], references: u32) -> Result<Vec<u8>, AllocEr
 // They are counted, and not made.
 #[test]
 fn too_many_shapes_are_refused(rt: HostRuntime) -> Result<(), Fail> {
-    let chip = first_chip(rt.alloc())?;
-    let crowd = crowd(rt.alloc(), chip.as_slice(), 2_001)?;
-    let mut files = store(rt.alloc(), WIRE.as_bytes(), LIBRARY_A.as_bytes())?;
-    files.add("chip", crowd.as_slice())?;
+    let crowd = crowd(rt.alloc(), STREAM.as_slice(), 2_001)?;
+    let files = holding(rt.alloc(), crowd.as_slice())?;
     let refusal = Refusal {
         status: 10,
         told: "too large: 8004000 shapes",

@@ -1,8 +1,18 @@
-//! Whole runs of the program over stores in memory, as tables: no code, tests alone.
+//! Whole runs of the program over stores in memory: no code, tests alone.
 #![tactic(auto)]
 
 #[cfg(test)]
+mod built;
+#[cfg(test)]
 mod calls;
+#[cfg(test)]
+mod checked;
+#[cfg(test)]
+mod chips;
+#[cfg(test)]
+mod compacted;
+#[cfg(test)]
+mod compared;
 #[cfg(test)]
 mod designs;
 #[cfg(test)]
@@ -15,3 +25,5 @@ mod refusals;
 mod sample;
 #[cfg(test)]
 mod wide;
+#[cfg(test)]
+mod written;

@@ -1,5 +1,7 @@
 // Texts and streams that are made against their readers, with the line that the program prints.
-use crate::fixtures::{LIBRARY_A, Refusal, WIRE, edited, first_chip, is_refused, put_at, store};
+use crate::fixtures::{
+    LIBRARY_A, Refusal, STREAM, WIRE, edited, holding, is_refused, put_at, store,
+};
 use std::alloc::{AllocError, Global};
 use std::test::Fail;
 
@@ -170,19 +172,17 @@ fn cells_that_are_too_wide_are_refused(rt: HostRuntime) -> Result<(), Fail> {
 }
 
 fn is_bad_stream(alloc: Global, chip: &[u8], told: &str) -> Result<bool, Fail> {
-    let mut files = store(alloc, WIRE.as_bytes(), LIBRARY_A.as_bytes())?;
-    files.add("chip", chip)?;
     let told = format!(in alloc; "stream: byte {told}")?;
     let refusal = Refusal {
         status: 11,
         told: told.as_str(),
     };
+    let files = holding(alloc, chip)?;
     is_refused(alloc, files, "verify chip lib words", refusal)
 }
 
 #[test]
 fn streams_are_refused(rt: HostRuntime) -> Result<(), Fail> {
-    let chip = first_chip(rt.alloc())?;
     let cases = [
         (put_at(0, 1046, b""), "0: truncated"),
         (put_at(0, 1046, b"\x00\x03\x00\x02"), "0: length"),
@@ -204,7 +204,7 @@ fn streams_are_refused(rt: HostRuntime) -> Result<(), Fail> {
         (put_at(1046, 0, b"\x01"), "1046: value"),
     ];
     for (edit, told) in cases {
-        let bytes = edited(rt.alloc(), chip.as_slice(), edit)?;
+        let bytes = edited(rt.alloc(), STREAM.as_slice(), edit)?;
         assert!(rt;
             is_bad_stream(rt.alloc(), bytes.as_slice(), told)?,
             "{told}"
@@ -216,7 +216,6 @@ fn streams_are_refused(rt: HostRuntime) -> Result<(), Fail> {
 // The later place first, so that the other one stays.
 #[test]
 fn streams_with_other_references_are_refused(rt: HostRuntime) -> Result<(), Fail> {
-    let chip = first_chip(rt.alloc())?;
     let cases = [
         (
             put_at(814, 3, b"TOP"),
@@ -230,7 +229,7 @@ fn streams_with_other_references_are_refused(rt: HostRuntime) -> Result<(), Fail
         ),
     ];
     for (later, sooner, told) in cases {
-        let once = edited(rt.alloc(), chip.as_slice(), later)?;
+        let once = edited(rt.alloc(), STREAM.as_slice(), later)?;
         let bytes = edited(rt.alloc(), once.as_slice(), sooner)?;
         assert!(rt;
             is_bad_stream(rt.alloc(), bytes.as_slice(), told)?,

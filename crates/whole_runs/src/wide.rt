@@ -3,7 +3,7 @@ ghost use Rattle.std.specs.Prelude.{◌≡◌, None, IfOk};
 ghost use Rattle.aq_base.specs.MemoryStore.{store_of};
 
 use crate::fixtures::{
-    Edit, FIRST_NETLIST, Refusal, edited, first_chip, holding, is_refused, put_at, ran, with_chip,
+    Edit, FIRST_NETLIST, Refusal, STREAM, edited, holding, is_refused, put_at, ran, with_chip,
 };
 use aq_base::MemFiles;
 use std::alloc::Global;
@@ -30,8 +30,7 @@ const TOP: [u8; 28] = [
 fn with_changes(alloc: Global, later: Edit<'_>, sooner: Edit<'_>) -> Result<MemFiles, Fail>
     ensures { IfOk result (λ files. (store_of files).opened ≡ None) }
 {
-    let chip = first_chip(alloc)?;
-    let once = edited(alloc, chip.as_slice(), later)?;
+    let once = edited(alloc, STREAM.as_slice(), later)?;
     let bytes = edited(alloc, once.as_slice(), sooner)?;
     Ok(holding(alloc, bytes.as_slice())?)
 }

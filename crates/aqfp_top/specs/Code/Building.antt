@@ -1,10 +1,14 @@
 -- The words of the steps of a build: loading, making the chip, storing and printing.
-use Rattle.std.specs.Prelude.{ℕ, ◌≡◌, ◌⊎◌, List, Option, Result, Ok, Err}
+use Rattle.std.specs.Prelude.{ℕ, ◌≡◌, ◌≤◌, ◌⊎◌, List, length, Option, Result, Ok, Err}
 use Rattle.aq_base.specs.Causes.{Rose}
+use Rattle.aq_base.specs.Heard.{Event}
 use Rattle.aq_base.specs.Store.{Contents, told_with, StoresPrefix}
 use Rattle.aqfp_top.specs.Build.{IsBuilt}
 use Rattle.aqfp_top.specs.Faults.{IsBuildFault}
-use Rattle.aqfp_top.specs.Code.Designing.{IsChipOf}
+use Rattle.aqfp_top.specs.Loads.{net_limit, lib_limit}
+use Rattle.aqfp_top.specs.Histories.{loaded}
+use Rattle.aqfp_top.specs.Code.Designing.{IsDrawn, MakesChip}
+use Rattle.aqfp_top.specs.declared.planner.Planner.{Planner}
 use Rattle.aqfp_top.specs.declared.design.Chip.{Chip}
 use Rattle.aqfp_top.specs.declared.fault.WriteCall.TheVariants.{Create, Append, Close, Out}
 use Rattle.aqfp_top.specs.declared.fault.Fault.{Fault}
@@ -51,6 +55,15 @@ abbrev pub IsReadOf : Type 0 → Fault → Type 0
 IsReadOf Risen (ReadFault place) = Risen
 IsReadOf Risen _ = Unit {0}
 
--- the chip is that of the texts of NET and LIB
-abbrev pub IsMade : Option Contents → List (List ℕ) → Chip → Type 0
-IsMade told words chip = IsBuilt told words (λ equations cells. IsChipOf equations cells chip)
+-- the chip is one of the texts of NET and LIB by this plan
+abbrev pub IsMade : Planner → Option Contents → List (List ℕ) → Chip → Type 0
+IsMade planner told words chip = IsBuilt planner told words (λ placed cells. IsDrawn placed cells chip)
+
+-- the chip is one of the bytes that NET and LIB gave, by this plan, and nothing else was heard
+pub record HeardMade (planner : Planner) (heard heard' : List Event) (words : List (List ℕ)) (chip : Chip) : Type 0 where
+  pub net : List ℕ
+  pub lib : List ℕ
+  pub net_fits : length net ≤ net_limit
+  pub lib_fits : length lib ≤ lib_limit
+  pub makes : MakesChip planner net lib chip
+  pub is : heard' ≡ loaded heard words net lib

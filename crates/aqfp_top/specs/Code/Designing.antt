@@ -1,17 +1,19 @@
 -- The chip that the steps from texts to a layout make.
 use Rattle.std.specs.Prelude.{ℕ, ◌≡◌, ◌≤◌, List, length}
 use Rattle.blif_read.specs.Parts.{NetView}
-use Rattle.blif_read.specs.Netlist.{IsNetlist}
 use Rattle.cell_library.specs.Library.{LibraryView}
-use Rattle.cell_library.specs.Laws.{IsLibrary}
 use Rattle.gds_records.specs.Writing.{bytes_of}
 use Rattle.rowed.specs.PlacedNets.{PlacedView}
 use Rattle.rowed.specs.Counts.{cells_in, wires_in}
-use Rattle.chip_plan.specs.Plans.{chip_of}
-use Rattle.aqfp_top.specs.Designs.{SaysDesign, KeepsLimits, IsPlanFault, stream_of}
+use Rattle.chip_plan.specs.declared.refusal.PlanRefusal.{PlanRefusal}
+use Rattle.chip_plan.specs.declared.refusal.PlanRefusal.TheVariants as refusal
+use Rattle.compact_plan.specs.Compact.{IsPlanned, IsCompactChip}
+use Rattle.aqfp_top.specs.Designs.{SaysDesign, IsChipFor, IsPlanBy, IsPlanFault, stream_of}
+use Rattle.aqfp_top.specs.declared.planner.Planner.{Planner}
+use Rattle.aqfp_top.specs.declared.planner.Planner.TheVariants.{Layered, Compact}
 use Rattle.aqfp_top.specs.declared.counts.ChipCounts.{ChipCounts}
 use Rattle.aqfp_top.specs.declared.design.Chip.{Chip}
-use Rattle.aqfp_top.specs.declared.fault.Large.TheVariants.{Shapes, Functions}
+use Rattle.aqfp_top.specs.declared.fault.Large.TheVariants.{Slots, Rows, Cells, Shapes, Functions}
 use Rattle.aqfp_top.specs.declared.fault.Fault.{Fault}
 use Rattle.aqfp_top.specs.declared.fault.Fault.TheVariants.{BadBlif, BadDesign, BadLibrary, MissingCell, TooLarge}
 use Rattle.aqfp_top.specs.declared.fault.Fault.TheVariants.{Memory}
@@ -23,24 +25,45 @@ pub record AreCountsOf (placed : PlacedView) (counts : ChipCounts) : Type 0 wher
   pub wires : counts.wires ≡ wires_in placed.net.rows
   pub some : 1 ≤ counts.rows
 
--- the layout and the counts are those of the netlist's chip
-pub record IsChipOf (equations : NetView) (cells : LibraryView) (chip : Chip) : Type 0 where
-  pub keeps : IsNetlist equations
-  pub lawful : IsLibrary cells
-  pub stream : bytes_of chip.layout ≡ stream_of equations cells
-  pub counts : AreCountsOf (chip_of cells equations) chip.counts
+-- the layout and the counts are those of the placed net
+pub record IsDrawn (placed : PlacedView) (cells : LibraryView) (chip : Chip) : Type 0 where
+  pub stream : bytes_of chip.layout ≡ stream_of placed cells
+  pub counts : AreCountsOf placed chip.counts
 
--- the texts say a netlist and a library, whose chip keeps all limits and is this one
-pub record MakesChip (net lib : List ℕ) (chip : Chip) : Type 0 where
+-- the layout and the counts are those of a chip of the netlist by this plan
+pub record IsChipOf (planner : Planner) (equations : NetView) (cells : LibraryView) (chip : Chip) : Type 0 where
+  pub placed : PlacedView
+  pub of_net : IsChipFor equations cells placed
+  pub planned : IsPlanBy planner equations cells placed
+  pub drawn : IsDrawn placed cells chip
+
+-- the texts say a netlist and a library, of which this is a chip by this plan
+pub record MakesChip (planner : Planner) (net lib : List ℕ) (chip : Chip) : Type 0 where
   pub equations : NetView
   pub cells : LibraryView
   pub says : SaysDesign net lib equations cells
-  pub limits : KeepsLimits equations cells
-  pub made : IsChipOf equations cells chip
+  pub made : IsChipOf planner equations cells chip
+
+-- the placed net was planned: it is that of the defined plan, or one that was searched for
+abbrev pub IsPlannedBy : Planner → NetView → LibraryView → PlacedView → Type 0
+IsPlannedBy Layered equations cells placed = IsPlanned cells equations placed
+IsPlannedBy Compact equations cells placed = IsCompactChip cells equations placed
+
+-- the fault that tells a plan's refusal
+abbrev pub plan_fault : PlanRefusal → Fault
+plan_fault (refusal.Slots span) = TooLarge Slots span
+plan_fault (refusal.Rows rows) = TooLarge Rows rows
+plan_fault (refusal.Cells cells) = TooLarge Cells cells
+plan_fault refusal.Memory = Memory
 
 -- no limit is passed
 abbrev pub PassesNone : NetView → LibraryView → Type 0
 PassesNone equations cells = (fault : Fault) → ¬ IsPlanFault equations cells fault
+
+-- what the plan leaves to be told: nothing, or for a compact chip no fault at all
+abbrev pub IsWellPlanned : Planner → NetView → LibraryView → Type 0
+IsWellPlanned Layered equations cells = PassesNone equations cells
+IsWellPlanned Compact equations cells = Unit {0}
 
 -- the faults of reading a netlist and a library and of planning
 abbrev pub IsDesignFault : Fault → Type 0

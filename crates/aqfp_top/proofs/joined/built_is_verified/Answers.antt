@@ -1,11 +1,9 @@
 use Rattle.aqfp_top.proofs.Joining.{Laws, verified}
 use Rattle.aqfp_top.proofs.joined.built_is_verified.Goals as goal
 
-pub returns : goal.returns
-returns c net_text lib text net cells short says limits words =
+pub returns-clause-verified : goal.returns-clause-verified
+returns-clause-verified c lib text net chip cells says is words =
     let laws : Laws = record {
-      draws = c.plan_laws.ensures.draws;
-      answers = c.plan_laws.ensures.answers;
       writable = c.drawing_laws.ensures.writable;
       stream = c.written_is_read.ensures;
       realised = c.drawn_chip_realises.ensures.chip;
@@ -17,6 +15,16 @@ returns c net_text lib text net cells short says limits words =
       shown = c.answers_are_shown.ensures.shown;
       shown_once = c.shown_once.ensures;
     } in
+    verified laws net chip cells is lib text says words
+
+pub returns-clause-of_plan : goal.returns-clause-of_plan
+returns-clause-of_plan c net_text lib net cells short says limits =
     let lawful = c.each_library.ensures lib cells says.lib_says in
     let keeps = c.each_design.ensures.keeps net_text net short says.net_says in
-    verified laws net cells lawful keeps limits lib text says.lib_says words
+    record {
+      keeps = keeps;
+      lawful = lawful;
+      draws = c.plan_laws.ensures.draws cells net lawful keeps limits.within;
+      answers = c.plan_laws.ensures.answers cells net lawful keeps limits.within;
+      small = limits.small;
+    }

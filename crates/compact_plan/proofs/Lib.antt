@@ -1,0 +1,4 @@
+pub mod FewJunctions
+pub mod Given
+pub mod FewElements
+pub mod Candidates

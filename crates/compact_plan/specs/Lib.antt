@@ -1,0 +1,3 @@
+pub mod Junctions
+pub mod Compact
+pub mod Code
