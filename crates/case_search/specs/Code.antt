@@ -1,0 +1,2 @@
+-- Words of the crate's own code: literals that follow from others.
+pub mod Following

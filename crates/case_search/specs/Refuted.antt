@@ -1,0 +1,13 @@
+-- Literals of a graph of majorities that cannot all be true.
+use Rattle.std.specs.Prelude.{◌≡◌, ℕ, Bool, true, List}
+use Rattle.std.specs.List.{AllByRecursion}
+use Rattle.maj_graph.specs.Graphs.{literal_value, Fits}
+use Rattle.maj_graph.specs.Building.{BuilderView}
+
+-- each of the literals is true, by these values of the nodes
+abbrev pub AreTrue : (ℕ → Bool) → List ℕ → Type 0
+AreTrue v literals = AllByRecursion (λ l. literal_value v l ≡ true) literals
+
+-- they are not all true at any word
+pub record AreImpossible (b : BuilderView) (literals : List ℕ) : Type 0 where
+  pub never : (word : List Bool) (v : ℕ → Bool) → Fits b.inputs b.nodes word v → AreTrue v literals → ⊥
