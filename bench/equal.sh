@@ -1,16 +1,18 @@
 #!/bin/sh
-# What the comparison of `aqfp equal` takes, beside ABC's `cec`: a multiplier, a divider, a population count and an
-# arithmetic and logic unit, each against its form in tables of four inputs, which ABC makes, and adders against
-# themselves; all of one operand stands before all of the other in the inputs. Library A is changed so that wires may be
-# long: then a multiplier of 16 bits is no chip too large.
+# What the comparison of `aqfp equal` takes, beside ABC's `cec`: multipliers, dividers, a population count and
+# arithmetic and logic units, each against a form that ABC makes by the commands FORM, by default in tables of four
+# inputs (`if -K 4`; `dch; if -K 6; mfs` and `dc2` are others), and adders against themselves; all of one operand stands
+# before all of the other in the inputs. Library A is changed so that wires may be long: then a multiplier of 16 bits is
+# no chip too large.
 #
 # Prints for each the seconds of processor time of `equal`, of `verify` without words on the same chip, of the
 # comparison, which is the difference of the two, and of a run of ABC with `cec` on the two netlists; and whether the
 # comparison takes at most twice ABC's time and 0.1 seconds more. Each is the least of RUNS runs, by default 3. Then a
-# multiplier of 16 bits is tried once, which must be refused with status 10 and `functions`. The status is 1 where a
-# time is above, an answer is not `equal` or the refusal does not come. SECONDS_EACH, by default 600, is when a run is
-# cut off; CASES="KIND BITS.." tries these alone. Needs GNU time and python3. Without ABC (berkeley-abc, yosys-abc or
-# abc) all circuits are compared with themselves, and no time is judged.
+# multiplier of 16 bits is tried once against the same with its factors exchanged, which must be refused with status 10
+# and `functions`. The status is 1 where a time is above, an answer is not `equal` or the refusal does not come.
+# SECONDS_EACH, by default 600, is when a run is cut off; CASES="KIND BITS.." tries these alone. Needs GNU time and
+# python3. Without ABC (berkeley-abc, yosys-abc or abc) all circuits are compared with themselves, and no time is
+# judged.
 set -u
 here=$(cd -P "$(dirname "$0")/.." && pwd)
 seconds=${SECONDS_EACH:-600}
@@ -123,7 +125,8 @@ def unit(a, b, code):
 a, b, code = ([f"{letter}{i}" for i in range(size)] for letter, size in (("a", bits), ("b", bits), ("c", 3)))
 inputs = {"count": a, "unit": a + b + code}.get(kind, a + b)
 outputs = {"adder": lambda: adder(a, b), "multiplier": lambda: multiplier(a, b), "divider": lambda: divider(a, b),
-           "count": lambda: count(list(a)), "unit": lambda: unit(a, b, code)}[kind]()
+           "exchanged": lambda: multiplier(b, a), "count": lambda: count(list(a)),
+           "unit": lambda: unit(a, b, code)}[kind]()
 print(".model", kind)
 print(".inputs", *inputs)
 print(".outputs", *(f"y{i}" for i in range(len(outputs))))
@@ -145,18 +148,23 @@ least() {
 # What the last command printed, or its status where it printed nothing.
 said() { cat "$work/printed" "$work/err" | grep . || echo "status $(cat "$work/status")"; }
 
-# Makes a circuit as one.blif, what it is compared with as other.blif, and its chip.
+# Makes a circuit as one.blif, what it is compared with as other.blif, and its chip. A third word is the kind of circuit
+# that it is compared with.
 prepare() {
     python3 "$work/circuit.py" "$1" "$2" >"$work/one.blif" || return 1
-    if [ -n "$abc" ] && [ "$1" != adder ]; then
-        "$abc" -q "read_blif $work/one.blif; strash; if -K 4; write_blif $work/other.blif" >"$work/err" 2>&1 || return 1
+    if [ $# -gt 2 ]; then
+        python3 "$work/circuit.py" "$3" "$2" >"$work/other.blif" || return 1
+    elif [ -n "$abc" ] && [ "$1" != adder ]; then
+        form="read_blif $work/one.blif; strash; ${FORM:-if -K 4}; write_blif $work/other.blif"
+        "$abc" -q "$form" >"$work/err" 2>&1 || return 1
     else
         cp "$work/one.blif" "$work/other.blif"
     fi
     "$program" build "$work/one.blif" "$work/far.toml" "$work/chip.gds" >"$work/counts" 2>"$work/err"
 }
 
-echo "${CASES:-multiplier 8 divider 8 count 32 unit 16 adder 8 adder 16 adder 32 adder 64}" | tr -s ' ' '\n\n' |
+echo "${CASES:-multiplier 8 multiplier 12 multiplier 16 divider 8 divider 12 count 32 unit 16 unit 32 \
+    adder 8 adder 16 adder 32 adder 64}" | tr -s ' ' '\n\n' |
     paste -d ' ' - - >"$work/cases"
 while read -r kind bits; do
     prepare "$kind" "$bits" || { echo "$kind $bits: $(head -n 1 "$work/err")"; failed=1; continue; }
@@ -180,13 +188,13 @@ while read -r kind bits; do
 done <"$work/cases"
 
 if [ -z "${CASES:-}" ]; then
-    if prepare multiplier 16; then
+    if prepare multiplier 16 exchanged; then
         took=$(least 1 "$program" equal "$work/chip.gds" "$work/far.toml" "$work/other.blif")
         answer="$(said), status $(cat "$work/status")"
-        echo "multiplier 16: $(cat "$work/counts"): $answer: $took s"
+        echo "multiplier 16, factors exchanged: $(cat "$work/counts"): $answer: $took s"
         [ "$answer" = "aqfp: too large: 1000001 functions, status 10" ] || failed=1
     else
-        echo "multiplier 16: $(head -n 1 "$work/err")"
+        echo "multiplier 16, factors exchanged: $(head -n 1 "$work/err")"
         failed=1
     fi
 fi

@@ -74,7 +74,7 @@ fn compared(rt: HostRuntime) -> Result<(), Fail> {
             assert_eq!(rt; output, 0);
             assert_eq!(rt; word.as_slice(), [false].as_slice());
         }
-        _ => assert!(rt; false),
+        _other => assert!(rt; false),
     }
     Ok(())
 }

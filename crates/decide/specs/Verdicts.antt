@@ -32,10 +32,18 @@ pub record IsLeastDifference (a b : PlainView) (output : ℕ) (word : List Bool)
   pub least_output : (k : ℕ) (x : List Bool) → k < output → length x ≡ a.inputs → shown a k x ≡ shown b k x
   pub least_word : (x : List Bool) → length x ≡ a.inputs → Before x word → shown a output x ≡ shown b output x
 
+-- the output differs at the word, and the two circuits have more than 1,000,000 subfunctions
+pub record IsSomeDifference (a b : PlainView) (output : ℕ) (word : List Bool) : Type 0 where
+  pub output_within : output < length a.outputs
+  pub long : length word ≡ a.inputs
+  pub differ : shown a output word ≢ shown b output word
+  pub many : ¬ HasAtMost a b 1000000
+
 -- what a verdict says
 abbrev pub IsVerdict : PlainView → PlainView → Verdict → Type 0
 IsVerdict a b verdict.Equal = answer_alike a b
 IsVerdict a b (verdict.Differ output word) = IsLeastDifference a b output word
+IsVerdict a b (verdict.Differs output word) = IsSomeDifference a b output word
 
 -- what a refusal says: too many comes only where it is so, and want of memory may always come
 abbrev pub IsRefusal : PlainView → PlainView → DecideRefusal → Type 0

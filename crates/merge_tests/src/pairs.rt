@@ -1,4 +1,5 @@
-// Pairs of circuits, and what is found of them: by their structure, by the verdict, and by all words.
+// Pairs of circuits, and what is found of them: by their structure, whether it is decided without their
+// diagram, by the verdict, and by all words.
 ghost use Rattle.std.specs.Prelude.{◌≡◌, ◌<◌, IsTrue, IfOk, IfSome, length};
 ghost use Rattle.std.specs.List.{AllByRecursion};
 ghost use Rattle.circuit.specs.CellNets.{Reads, AreCells};
@@ -6,7 +7,7 @@ ghost use Rattle.circuit.specs.CellNets.{Reads, AreCells};
 use aq_base::{List, Memory};
 use circuit::{Gate, Word, answer_word};
 use decide::{Cells, DecideRefusal, Verdict};
-use merged_gates::{are_alike, verdict};
+use merged_gates::{are_alike, swept_verdict, verdict};
 use std::alloc::Global;
 
 fn reads(inputs: u32, place: usize, gate: Gate) -> bool
@@ -110,6 +111,7 @@ pub struct Pair<'a> {
 #[derive(Clone, Copy, PartialEq, Eq)]
 pub struct Found {
     pub is_alike: bool,
+    pub is_decided: bool,
     pub is_equal: bool,
 }
 
@@ -119,8 +121,13 @@ fn findings(alloc: Global, one: &Cells, other: &Cells) -> Result<Found, DecideRe
     requires outputs { length other.now.outputs ≡ length one.now.outputs }
 {
     let is_alike = are_alike(alloc, one, other)?;
+    let is_decided = swept_verdict(alloc, one, other)?.is_some();
     let is_equal = matches!(verdict(alloc, one, other)?, Verdict::Equal);
-    Ok(Found { is_alike, is_equal })
+    Ok(Found {
+        is_alike,
+        is_decided,
+        is_equal,
+    })
 }
 
 // What is found of two circuits, and whether they answer all words alike.

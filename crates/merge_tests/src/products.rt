@@ -1,4 +1,4 @@
-// A multiplier whose diagram is too large, beside the same with exchanged operands.
+// A multiplier whose diagram is too large, beside the same with exchanged operands, and with other adders.
 use crate::pairs::{Found, Pair, compared};
 use aq_base::Memory;
 use circuit::Gate;
@@ -12,11 +12,20 @@ const BITS: u32 = 16;
 // The number of the gate that gives false, after the inputs.
 const ZERO: u32 = 2 * BITS;
 
-// Gates that grow: each majority has its operands in the one order or in the other.
+// How the gates are made: each majority has its operands in the one order or in the other, or each sum is made of two
+// exclusive ors in place of majorities.
+#[derive(Clone, Copy, PartialEq, Eq)]
+enum Form {
+    Plain,
+    Turned,
+    Exclusive,
+}
+
+// Gates that grow.
 #[derive(Drop)]
 struct Maker {
     gates: Vec<Gate>,
-    is_turned: bool,
+    form: Form,
 }
 
 // The number of the last gate.
@@ -33,7 +42,7 @@ impl Maker {
 
     // The number of a new majority.
     fn majority(&mut self, x: u32, y: u32, z: u32) -> Result<u32, Memory> {
-        let gate = if self.is_turned {
+        let gate = if self.form == Form::Turned {
             Gate::Maj(z, y, x)
         } else {
             Gate::Maj(x, y, z)
@@ -42,8 +51,23 @@ impl Maker {
         Ok(last(&self.gates))
     }
 
+    // The numbers of a new and, and of a new exclusive or.
+    fn exclusive(&mut self, x: u32, y: u32) -> Result<(u32, u32), Memory> {
+        let one = self.inverter(ZERO)?;
+        let both = self.majority(x, y, ZERO)?;
+        let either = self.majority(x, y, one)?;
+        let not_both = self.inverter(both)?;
+        Ok((both, self.majority(either, not_both, ZERO)?))
+    }
+
     // The numbers of the sum and of the carry of three gates.
     fn sum(&mut self, x: u32, y: u32, z: u32) -> Result<(u32, u32), Memory> {
+        if self.form == Form::Exclusive {
+            let (low, half) = self.exclusive(x, y)?;
+            let (high, sum) = self.exclusive(half, z)?;
+            let one = self.inverter(ZERO)?;
+            return Ok((sum, self.majority(low, high, one)?));
+        }
         let carry = self.majority(x, y, z)?;
         let no_carry = self.inverter(carry)?;
         let no_last = self.inverter(z)?;
@@ -90,10 +114,11 @@ fn beside(
     alloc: Global,
     gates: &[Gate],
     outputs: &[u32],
+    form: Form,
 ) -> Result<Option<(Found, bool)>, DecideRefusal> {
     let mut maker = Maker {
         gates: Vec::new(alloc),
-        is_turned: true,
+        form,
     };
     let mut sums = [ZERO; 32];
     add_gates(&mut maker, &mut sums)?;
@@ -107,24 +132,29 @@ fn beside(
     compared(alloc, pair)
 }
 
-// A multiplier beside the same with exchanged operands.
-fn multipliers(alloc: Global) -> Result<Option<(Found, bool)>, DecideRefusal> {
+// A multiplier beside the same in another form.
+fn multipliers(alloc: Global, form: Form) -> Result<Option<(Found, bool)>, DecideRefusal> {
     let mut maker = Maker {
         gates: Vec::new(alloc),
-        is_turned: false,
+        form: Form::Plain,
     };
     let mut sums = [ZERO; 32];
     add_gates(&mut maker, &mut sums)?;
-    beside(alloc, &maker.gates, &sums)
+    beside(alloc, &maker.gates, &sums, form)
+}
+
+// What is found of them.
+fn is_found(alloc: Global, form: Form, is_alike: bool) -> Result<bool, DecideRefusal> {
+    match multipliers(alloc, form)? {
+        None => Ok(false),
+        Some((found, _)) => Ok(found.is_alike == is_alike && found.is_decided && found.is_equal),
+    }
 }
 
 // Their diagram would have far more nodes than there may be.
 #[test]
 fn multipliers_of_sixteen_bits(rt: HostRuntime) -> Result<(), Fail> {
-    let is_found = match multipliers(rt.alloc())? {
-        None => false,
-        Some((found, _)) => found.is_alike && found.is_equal,
-    };
-    assert!(rt; is_found);
+    assert!(rt; is_found(rt.alloc(), Form::Turned, true)?);
+    assert!(rt; is_found(rt.alloc(), Form::Exclusive, false)?);
     Ok(())
 }

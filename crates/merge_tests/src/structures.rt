@@ -9,17 +9,20 @@ use std::test::Fail;
 // Alike by their structure, and so equal.
 const ALIKE: Found = Found {
     is_alike: true,
+    is_decided: true,
     is_equal: true,
 };
 
-// Equal, which the diagram alone finds.
-const EQUAL: Found = Found {
+// Alike after a sweep alone. What differs is decided by it as well.
+const SWEPT: Found = Found {
     is_alike: false,
+    is_decided: true,
     is_equal: true,
 };
 
 const DIFFERENT: Found = Found {
     is_alike: false,
+    is_decided: true,
     is_equal: false,
 };
 
@@ -89,11 +92,52 @@ const EITHER_ALONE: [Gate; 10] = [
     Gate::Buf(1),
 ];
 
+// A full adder of two exclusive ors: gate 12 is the sum of three inputs, gate 13 the carry.
+const TWO_EXCLUSIVES: [Gate; 14] = [
+    Gate::Input(0),
+    Gate::Input(1),
+    Gate::Input(2),
+    Gate::Zero,
+    Gate::One,
+    Gate::Maj(0, 1, 3),
+    Gate::Maj(0, 1, 4),
+    Gate::Inv(5),
+    Gate::Maj(6, 7, 3),
+    Gate::Maj(8, 2, 3),
+    Gate::Maj(8, 2, 4),
+    Gate::Inv(9),
+    Gate::Maj(10, 11, 3),
+    Gate::Maj(5, 9, 4),
+];
+
+// The same by the second input, which chooses between what sum and carry are without it: gates 15 and 8. Gate 16 is
+// false.
+const CHOSEN: [Gate; 17] = [
+    Gate::Input(0),
+    Gate::Input(1),
+    Gate::Input(2),
+    Gate::Zero,
+    Gate::One,
+    Gate::Maj(0, 4, 2),
+    Gate::Maj(0, 3, 2),
+    Gate::Maj(5, 1, 3),
+    Gate::Maj(7, 6, 4),
+    Gate::Inv(6),
+    Gate::Maj(5, 9, 3),
+    Gate::Inv(10),
+    Gate::Inv(1),
+    Gate::Maj(11, 1, 3),
+    Gate::Maj(10, 12, 3),
+    Gate::Maj(13, 14, 4),
+    Gate::Maj(13, 14, 3),
+];
+
 #[test]
 fn known_pairs(rt: HostRuntime) -> Result<(), Fail> {
     use Gate::{Buf, Input, Inv, Maj, One, Zero};
     let (adder, other): (&[Gate], &[Gate]) = (&ADDER, &OTHER_ADDER);
     let (exclusive, either): (&[Gate], &[Gate]) = (&EXCLUSIVE, &EITHER_ALONE);
+    let (twice, chosen): (&[Gate], &[Gate]) = (&TWO_EXCLUSIVES, &CHOSEN);
     let chain: &[Gate] = &[Input(0), Inv(0), Buf(1), Inv(2), Inv(3), Buf(4), Inv(5)];
     let constants: &[Gate] = &[
         One,
@@ -105,7 +149,7 @@ fn known_pairs(rt: HostRuntime) -> Result<(), Fail> {
         Maj(1, 1, 3),
     ];
     // inputs, the gates and outputs of both circuits, and what is found
-    let rows: [(u32, &[Gate], &[u32], &[Gate], &[u32], Found); 14] = [
+    let rows: [(u32, &[Gate], &[u32], &[Gate], &[u32], Found); 19] = [
         (3, adder, &[10, 5], other, &[12, 4], ALIKE),
         (3, adder, &[10, 5], other, &[12, 3], DIFFERENT),
         (3, adder, &[10, 5], other, &[4, 12], DIFFERENT),
@@ -122,8 +166,13 @@ fn known_pairs(rt: HostRuntime) -> Result<(), Fail> {
         (0, &[Zero], &[0], &[One], &[0], DIFFERENT),
         (1, &[Input(0)], &[0], &[Zero], &[0], DIFFERENT),
         (2, exclusive, &[7], exclusive, &[7], ALIKE),
-        (2, exclusive, &[7], either, &[8], EQUAL),
-        (2, exclusive, &[0, 7], either, &[9, 8], EQUAL),
+        (2, exclusive, &[7], either, &[8], SWEPT),
+        (2, exclusive, &[0, 7], either, &[9, 8], SWEPT),
+        (3, adder, &[10, 5], twice, &[12, 13], SWEPT),
+        (3, adder, &[5, 10], twice, &[12, 13], DIFFERENT),
+        (3, twice, &[12, 13], chosen, &[15, 8], SWEPT),
+        (3, twice, &[3, 13], chosen, &[16, 8], SWEPT),
+        (3, twice, &[12, 13], chosen, &[16, 8], DIFFERENT),
         (2, exclusive, &[4], exclusive, &[5], DIFFERENT),
         (3, &[Input(2)], &[0], &[Input(0)], &[0], DIFFERENT),
         (0, &[], &[], &[One], &[], ALIKE),
@@ -219,6 +268,7 @@ fn random_pairs(rt: HostRuntime) -> Result<(), Fail> {
             None => assert!(rt; false),
             Some((found, agree)) => {
                 assert!(rt; found.is_equal == agree);
+                assert!(rt; found.is_decided);
                 assert!(rt; agree || !found.is_alike);
                 alike = alike.saturating_add(u32::from(found.is_alike));
                 equal = equal.saturating_add(u32::from(found.is_equal));

@@ -4,6 +4,7 @@ use Rattle.std.specs.List.{AllByRecursion}
 use Rattle.std.proofs.Common.{Result, Ok, Err, refl, sym, ap, ◌∙◌, subst, arith, inl, inr, get_or}
 use Rattle.std.proofs.lemmas.Option.{slice_get-get_or}
 use Rattle.std.proofs.lemmas.Bool.{cases_lt}
+use Rattle.std.proofs.lemmas.List.{length-map}
 use Rattle.circuit.specs.declared.gate.Gate.{Gate}
 use Rattle.circuit.specs.declared.gate.Gate.TheVariants.{Input, Zero, One, Inv, Maj}
 use Rattle.circuit.specs.Gates.{gate_value}
@@ -142,6 +143,7 @@ pub show_outputs : (b : BuilderView) (literals read : List ℕ) (gates : List Ga
     → AllByRecursion (λ x. x < length gates) outputs → given ≡ map (literal_of read) outputs
     → ShowOutputs b gates outputs given
 show_outputs b literals read gates outputs given are same within is = record {
+  size = ap length is ∙ length-map outputs (literal_of read);
   shows = λ word v fit.
       ap (map (literal_value v)) (is ∙ ap (λ (ls : List ℕ). map (literal_of ls) outputs) same)
       ∙ each word v (λ i lt. are.shows i lt word v fit) outputs within;

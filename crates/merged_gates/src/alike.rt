@@ -1,41 +1,35 @@
-// Whether the outputs of two circuits have the same literals in one graph.
+// Whether the outputs of two circuits are alike by the structure of one graph.
 ghost use Rattle.std.specs.Prelude.{◌≡◌, IsTrue, IfOk, length};
 ghost use Rattle.circuit.specs.CellNets.{circuit, IsCells};
 ghost use Rattle.decide.specs.Verdicts.{answer_alike};
 
 use crate::literals::output_literals;
+use crate::merged::{Merged, are_all_alike};
 use aq_base::Memory;
 use circuit::Gate;
 use decide::Cells;
-use maj_graph::{Builder, GraphRefusal};
+use maj_graph::GraphRefusal;
 use std::alloc::Global;
-
-/// Whether two lists of literals are the same.
-fn same_literals(one: &[u32], other: &[u32]) -> bool
-    ensures { IsTrue result → one.now ≡ other.now }
-{
-    one == other
-}
 
 /// Whether the outputs of two circuits have the same literals in a graph of their inputs.
 fn have_one_form(
     alloc: Global,
-    builder: &mut Builder,
+    graph: &mut Merged,
     gates: &[Gate],
     outputs: &[u32],
     other_gates: &[Gate],
     other_outputs: &[u32],
 ) -> Result<bool, GraphRefusal>
-    requires first { IsCells (circuit builder.old.inputs gates.now outputs.now) }
-    requires second { IsCells (circuit builder.old.inputs other_gates.now other_outputs.now) }
+    requires first { IsCells (circuit graph.old.inputs gates.now outputs.now) }
+    requires second { IsCells (circuit graph.old.inputs other_gates.now other_outputs.now) }
     requires outputs { length other_outputs.now ≡ length outputs.now }
-    ensures { IfOk result (λ one. IsTrue one → answer_alike (circuit builder.old.inputs gates.now outputs.now)
-        (circuit builder.old.inputs other_gates.now other_outputs.now)) }
+    ensures { IfOk result (λ one. IsTrue one → answer_alike (circuit graph.old.inputs gates.now outputs.now)
+        (circuit graph.old.inputs other_gates.now other_outputs.now)) }
 {
-    let literals = output_literals(alloc, builder, gates, outputs)?;
-    let others = output_literals(alloc, builder, other_gates, other_outputs)?;
-    builder.known();
-    Ok(same_literals(&literals, &others))
+    let ones = output_literals(alloc, graph, gates, outputs)?;
+    let others = output_literals(alloc, graph, other_gates, other_outputs)?;
+    graph.known();
+    Ok(are_all_alike(graph, &ones, &others))
 }
 
 /// The same, in a graph of its own.
@@ -44,10 +38,10 @@ fn are_one_graph(alloc: Global, one: &Cells, other: &Cells) -> Result<bool, Grap
     requires outputs { length other.now.outputs ≡ length one.now.outputs }
     ensures { IfOk result (λ alike. IsTrue alike → answer_alike one.now other.now) }
 {
-    let mut builder = Builder::new(alloc, one.inputs)?;
+    let mut graph = Merged::new(alloc, one.inputs)?;
     have_one_form(
         alloc,
-        &mut builder,
+        &mut graph,
         one.gates.as_slice(),
         one.outputs.as_slice(),
         other.gates.as_slice(),

@@ -5,9 +5,10 @@ ghost use Rattle.circuit.specs.CellNets.{Reads, AreCells};
 ghost use Rattle.maj_graph.specs.Building.{Grown};
 ghost use Rattle.merged_gates.specs.Code.GateLiterals.{literal_of, AreThere, GivesGate, AreLiterals, ShowOutputs};
 
+use crate::merged::Merged;
 use aq_base::Memory;
 use circuit::Gate;
-use maj_graph::{Builder, GraphRefusal, turned};
+use maj_graph::{GraphRefusal, turned};
 use std::alloc::Global;
 
 /// The literal of a gate, by its number.
@@ -19,13 +20,13 @@ fn literal_of(literals: &[u32], gate: u32) -> u32
 }
 
 /// The literal of a gate, by those of the gates that it names.
-fn gate_literal(builder: &mut Builder, literals: &[u32], gate: Gate) -> Result<u32, GraphRefusal>
-    requires reads { Reads builder.old.inputs (length literals.now) gate }
-    requires there { AreThere builder.old literals.now (length literals.now) }
-    ensures grown { Grown builder.old builder.new }
-    ensures given { IfOk result (GivesGate builder.new literals.now gate) }
+fn gate_literal(graph: &mut Merged, literals: &[u32], gate: Gate) -> Result<u32, GraphRefusal>
+    requires reads { Reads graph.old.inputs (length literals.now) gate }
+    requires there { AreThere graph.old literals.now (length literals.now) }
+    ensures grown { Grown graph.old graph.new }
+    ensures given { IfOk result (GivesGate graph.new literals.now gate) }
 {
-    builder.known();
+    graph.known();
     match gate {
         Gate::Input(input) => Ok(2 * (1 + input)),
         Gate::Zero => Ok(0),
@@ -36,7 +37,7 @@ fn gate_literal(builder: &mut Builder, literals: &[u32], gate: Gate) -> Result<u
             let x = literal_of(literals, x);
             let y = literal_of(literals, y);
             let z = literal_of(literals, z);
-            builder.maj(x, y, z)
+            graph.maj(x, y, z)
         }
     }
 }
@@ -44,17 +45,17 @@ fn gate_literal(builder: &mut Builder, literals: &[u32], gate: Gate) -> Result<u
 /// The literals of all gates of a circuit, in their order.
 fn gate_literals(
     alloc: Global,
-    builder: &mut Builder,
+    graph: &mut Merged,
     gates: &[Gate],
 ) -> Result<Vec<u32>, GraphRefusal>
-    requires { AreCells builder.old.inputs gates.now }
-    ensures grown { Grown builder.old builder.new }
+    requires { AreCells graph.old.inputs gates.now }
+    ensures grown { Grown graph.old graph.new }
     ensures literals { IfOk result
-        (λ literals. AreLiterals builder.new literals.items gates.now (length gates.now)) }
+        (λ literals. AreLiterals graph.new literals.items gates.now (length gates.now)) }
 {
     let mut literals = Vec::with_capacity(alloc, gates.len())?;
     for gate in gates {
-        let literal = gate_literal(builder, &literals, *gate)?;
+        let literal = gate_literal(graph, &literals, *gate)?;
         literals.push(literal)?;
     }
     Ok(literals)
@@ -75,16 +76,16 @@ fn shown(alloc: Global, literals: &[u32], outputs: &[u32]) -> Result<Vec<u32>, M
 /// The literals of the outputs of a circuit, in their order.
 pub(crate) fn output_literals(
     alloc: Global,
-    builder: &mut Builder,
+    graph: &mut Merged,
     gates: &[Gate],
     outputs: &[u32],
 ) -> Result<Vec<u32>, GraphRefusal>
-    requires gates { AreCells builder.old.inputs gates.now }
+    requires gates { AreCells graph.old.inputs gates.now }
     requires outputs { AllByRecursion (λ x. x < length gates.now) outputs.now }
-    ensures grown { Grown builder.old builder.new }
+    ensures grown { Grown graph.old graph.new }
     ensures shown { IfOk result
-        (λ literals. ShowOutputs builder.new gates.now outputs.now literals.items) }
+        (λ literals. ShowOutputs graph.new gates.now outputs.now literals.items) }
 {
-    let literals = gate_literals(alloc, builder, gates)?;
+    let literals = gate_literals(alloc, graph, gates)?;
     Ok(shown(alloc, &literals, outputs)?)
 }

@@ -29,5 +29,6 @@ pub record AreLiterals (b : BuilderView) (literals : List ℕ) (gates : List Gat
 
 -- the literals show what the outputs do
 pub record ShowOutputs (b : BuilderView) (gates : List Gate) (outputs literals : List ℕ) : Type 0 where
+  pub size : length literals ≡ length outputs
   pub shows : (word : List Bool) (v : ℕ → Bool) → Fits b.inputs b.nodes word v
       → map (literal_value v) literals ≡ map (value gates word) outputs

@@ -8,5 +8,5 @@ shown-requires c =
 
 pub returns-clause-shown : goal.returns-clause-shown
 returns-clause-shown c =
-    show_outputs c.gate_literals.new.builder c.in_ok-literals.literals.items _ c.args.gates.now c.args.outputs.now _
+    show_outputs c.gate_literals.new.graph c.in_ok-literals.literals.items _ c.args.gates.now c.args.outputs.now _
     c.in_ok-literals.ensures.literals c.deref.ensures.value c.requires.outputs c.in_ok-shown.ensures

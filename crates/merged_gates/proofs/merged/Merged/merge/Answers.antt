@@ -1,0 +1,14 @@
+use Rattle.std.proofs.Common.{sym, subst, ◌<◌, ◌*◌}
+use Rattle.maj_graph.specs.Building.{BuilderView, limit}
+use Rattle.merged_gates.specs.Code.Merging.{AreAlike}
+use Rattle.merged_gates.proofs.Merging.{merged_more}
+use Rattle.merged_gates.proofs.merged.Merged.merge.Goals as goal
+
+pub invariant_of-self : goal.invariant_of-self
+invariant_of-self c =
+    let seen = sym c.self.view_is in
+    merged_more c.self.inside.builder c.self.inside.partners.items c.put_partner.new.partners.items c.args.node
+    c.args.literal c.self.invariant
+    (subst (λ (b : BuilderView). c.args.literal < limit b) seen c.requires.below)
+    (subst (λ (b : BuilderView). AreAlike b (2 * c.args.node) c.args.literal) seen c.requires.alike)
+    c.put_partner.ensures
