@@ -62,12 +62,17 @@ const NAMES: [Named; 17] = [
 const NETLIST: &str =
     ".model aqfp\n.inputs I0 I1 I2 I3 I4 I5 I6\n.outputs O0 O1 O2 O3 O4 O5 O6 O7 O8 O9\n.names I6 n0\n1 1\n.names I5 n1\n0 1\n.names n2\n.names n3\n1\n.names I4 n4\n1 1\n.names I3 n5\n1 1\n.names I2 I1 I0 n6\n11- 1\n1-1 1\n-11 1\n.names n0 O0\n1 1\n.names n1 O1\n1 1\n.names n2 O2\n1 1\n.names n3 O3\n1 1\n.names n4 O4\n1 1\n.names n4 O5\n1 1\n.names n5 O6\n1 1\n.names n5 O7\n1 1\n.names n5 O8\n1 1\n.names n6 O9\n1 1\n.end\n";
 
-fn circuit(rt: &HostRuntime) -> Result<Extracted, Fail> {
+/// The shapes and labels of the row.
+pub fn row_of_kinds(rt: &HostRuntime) -> Result<Flat, Fail> {
     let labels = labels_of(rt.alloc(), &NAMES)?;
-    let flat = Flat {
+    Ok(Flat {
         shapes: List::from_vec(shapes().to_vec(rt.alloc())?),
         labels,
-    };
+    })
+}
+
+fn circuit(rt: &HostRuntime) -> Result<Extracted, Fail> {
+    let flat = row_of_kinds(rt)?;
     if flat.shapes.len() > 100 || flat.labels.len() > 100 {
         return Err("more shapes".into());
     }

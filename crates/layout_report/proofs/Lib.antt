@@ -1,0 +1,16 @@
+mod Keyed
+mod Chosen
+mod Zipped
+mod NetSums
+mod RowEdges
+mod Heights
+mod PinRows
+mod SourceRows
+mod Wired
+mod Outlines
+mod Sided
+mod ShapeTexts
+mod PrintedRows
+mod Kept
+mod FirstReport
+mod LeastOutline

@@ -1,0 +1,5 @@
+-- Words of private contracts and of loops.
+pub mod Sources
+pub mod Heights
+pub mod Tables
+pub mod Figures

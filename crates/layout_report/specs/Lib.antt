@@ -1,0 +1,7 @@
+pub mod Kinds
+pub mod Outline
+pub mod Wires
+pub mod ReportText
+pub mod FirstReport
+pub mod ShapeLines
+pub mod Code

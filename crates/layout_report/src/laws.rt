@@ -1,0 +1,25 @@
+// What the definitions come to.
+ghost use Rattle.std.specs.Prelude.{◌≡◌, codes, filter, List, Some};
+ghost use Rattle.geom.specs.declared.shapes.Shape.{Shape};
+ghost use Rattle.geom.specs.Rectangle.{Rectangle};
+ghost use Rattle.layout_rules.specs.Layers.{is_frame};
+ghost use Rattle.geom.specs.FirstChip.{first_flat};
+ghost use Rattle.chip_circuit.specs.FirstCircuit.{first_circuit};
+ghost use Rattle.layout_report.specs.FirstReport.{first_report};
+ghost use Rattle.layout_report.specs.Outline.{outline, IsLeastHolding};
+ghost use Rattle.layout_report.specs.ReportText.{report_text};
+ghost use Rattle.layout_report.specs.ShapeLines.{shape_line};
+
+/// The report of the first chip, and the lines of its first frame, of a start and of its last label. It does nothing.
+pub fn first_chip_report()
+    ensures report { report_text first_flat first_circuit 180000 ≡ first_report }
+    ensures frame { shape_line first_flat 0 ≡ codes "shape 0 layer 20 datatype 1 box 0 0 8000 10000\n" }
+    ensures start { shape_line first_flat 3 ≡ codes "shape 3 layer 14 datatype 2 box -4000 0 0 10000\n" }
+    ensures label { shape_line first_flat 16 ≡ codes "label 16 layer 30 at 5000 23500\n" }
+{}
+
+/// The outline of which a report tells the size is the least rectangle that holds all frames. It does nothing.
+pub fn outline_is_least()
+    ensures { (shapes : List Shape) (r : Rectangle) → outline shapes ≡ Some r
+        → IsLeastHolding (filter is_frame shapes) r }
+{}
