@@ -10,6 +10,8 @@ usage: aqfp build NET LIB OUT
        aqfp sample N
        aqfp netlist GDS LIB OUT
        aqfp equal GDS LIB NET
+       aqfp report GDS LIB
+       aqfp shapes GDS A B
        aqfp --help
        aqfp --version
 
@@ -29,7 +31,14 @@ netlist reads GDS and LIB as verify does, stores the chip's circuit as a netlist
         under OUT and prints the counts. OUT may have the name of GDS or LIB.
 equal   reads GDS and LIB as verify does, and prints whether the chip answers
         every word as the netlist NET: equal, or differ Ok at W, k being the
-        least output on which they differ and W the least word for it.
+        least output on which they differ and W the least word for it. Of
+        circuits too large for that the line may end in: perhaps not the least
+report  reads GDS and LIB as verify does, and prints the counts, the cells by
+        kind, the junctions, the size of the chip and the length of the longest
+        wire in nanometres, and a line for each row: its phase, its cells, the
+        wires that leave it and the length of the longest of these.
+shapes  prints layer and place of the shapes or labels of the numbers A and B in
+        the layout GDS, those that a broken rule names: aqfp: rule G3: shapes A B
 
 NET     a combinational netlist in the Berkeley Logic Interchange Format (BLIF),
         of one model or of several that call one another by .subckt, of which
@@ -59,8 +68,9 @@ status  0  done
        14  out of memory
        16  the models and calls of the netlist have a fault
        17  chip and netlist have other numbers of inputs or outputs
+       18  the layout has no shape or label of a number
 A status above 0 comes with one line on standard error.
 ";
 
 /// The program's name and version.
-pub const VERSION: &str = "aqfp 0.2.0\n";
+pub const VERSION: &str = "aqfp 0.3.0\n";

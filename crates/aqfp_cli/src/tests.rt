@@ -12,6 +12,8 @@ fn help_has_each_command_and_each_status(rt: HostRuntime) -> Result<(), Fail> {
         "sample N",
         "netlist GDS LIB OUT",
         "equal GDS LIB NET",
+        "report GDS LIB",
+        "shapes GDS A B",
     ];
     for command in commands {
         assert!(rt; HELP.contains(command), "{command}");
@@ -33,6 +35,7 @@ fn help_has_each_command_and_each_status(rt: HostRuntime) -> Result<(), Fail> {
         "14  out of memory",
         "16  the models",
         "17  chip and netlist",
+        "18  the layout has no shape",
     ];
     for status in statuses {
         assert!(rt; HELP.contains(status), "{status}");

@@ -64,7 +64,9 @@ unsound_prints printing told words held fault wrong =
     each_judging (λ f. CheckPrints printing told words held held (Some f)) (λ o k. refl) (λ n. refl) (λ f. refl) (λ k. refl) (λ r a b. refl) (λ l. refl) (inl refl) fault wrong
 
 -- what the texts may answer the whole check may answer
-judging_answers : (files : Contents) (words : List (List ℕ)) (gds lib text : List ℕ) (answer : Option Fault) → ToldTexts (Some files) words gds lib text → length gds ≤ gds_limit → length lib ≤ lib_limit → length text ≤ words_limit
+pub judging_answers : (files : Contents) (words : List (List ℕ)) (gds lib text : List ℕ) (answer : Option Fault)
+    → ToldTexts (Some files) words gds lib text
+    → length gds ≤ gds_limit → length lib ≤ lib_limit → length text ≤ words_limit
     → Answers (judging_stages gds lib text) answer → Answers (check_stages files words) answer
 judging_answers files words gds lib text answer held a b c answers =
     past (load_stage files words 1 gds_limit) (load_stage files words 2 lib_limit ∷ load_stage files words 3 words_limit ∷ texts_at files words) answer (file_loads files words 1 gds_limit gds held.0 a)

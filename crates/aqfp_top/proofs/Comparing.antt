@@ -179,7 +179,9 @@ wrong_prints told words held fault wrong =
     each_comparing (λ f. EqualPrints told words held held (Some f)) (circuit_prints told words held) (λ f. refl) (λ l k. refl) (λ n. refl) (λ a b c d. refl) refl fault wrong
 
 -- what the texts may answer the whole comparison may answer
-texts_answer : (files : Contents) (words : List (List ℕ)) (gds lib net : List ℕ) (answer : Option Fault) → ToldTexts (Some files) words gds lib net → length gds ≤ gds_limit → length lib ≤ lib_limit → length net ≤ words_limit
+pub texts_answer : (files : Contents) (words : List (List ℕ)) (gds lib net : List ℕ) (answer : Option Fault)
+    → ToldTexts (Some files) words gds lib net
+    → length gds ≤ gds_limit → length lib ≤ lib_limit → length net ≤ words_limit
     → Answers (comparing_stages gds lib net) answer → Answers (equal_stages files words) answer
 texts_answer files words gds lib net answer held a b c answers =
     let rest = comparing_stages (bytes_at files words 1) (bytes_at files words 2) (bytes_at files words 3) in

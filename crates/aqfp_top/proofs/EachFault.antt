@@ -5,12 +5,13 @@ use Rattle.aqfp_top.specs.Code.Designing.{IsDesignFault}
 use Rattle.aqfp_top.specs.Code.Checking.{IsCircuitFault, IsJudgingFault}
 use Rattle.aqfp_top.specs.Code.Comparing.{IsComparingFault}
 use Rattle.aqfp_top.specs.Code.Writing.{IsReadingFault}
+use Rattle.aqfp_top.specs.Code.Reporting.{IsLayoutFault, IsPrintingFault, IsShowingFault}
 use Rattle.aqfp_top.specs.Code.Loading.{IsFaultOfLoad, IsFaultOfLoads}
 use Rattle.aqfp_top.specs.Code.Building.{IsMakeFault, IsStoreFault, IsOutOrMemory}
 use Rattle.aqfp_top.specs.declared.fault.WriteCall.TheVariants.{Create, Append, Close, Out}
 use Rattle.aqfp_top.specs.declared.fault.Large.TheVariants.{Slots, Rows, Cells, Elements, Shapes, Functions, Design}
 use Rattle.aqfp_top.specs.declared.fault.Fault.{Fault}
-use Rattle.aqfp_top.specs.declared.fault.Fault.TheVariants.{Absent, TooLong, ReadFault, WriteFault, BadBlif, BadDesign, BadLibrary, MissingCell, TooLarge, BadStream, RuleBroken, BadWords, Widths, Memory}
+use Rattle.aqfp_top.specs.declared.fault.Fault.TheVariants.{Absent, TooLong, ReadFault, WriteFault, BadBlif, BadDesign, BadLibrary, MissingCell, TooLarge, BadStream, RuleBroken, BadWords, Widths, NoShape, Memory}
 
 -- a load
 pub each_load : (P : Fault → Type 0) (place limit : ℕ) → P (Absent place) → ((taken : ℕ) → limit < taken → P (TooLong place taken)) → P (ReadFault place) → P Memory →
@@ -143,3 +144,39 @@ each_print P out memory _ only = absurd only
 pub each_out : (P : Result (Unit {0}) Fault → Type 0) → P (Ok tt) → P (Err (WriteFault Out)) → P (Err Memory) → (result : Result (Unit {0}) Fault) → IfErr result IsOutOrMemory → P result
 each_out P ok out memory (Ok x) only = ok
 each_out P ok out memory (Err fault) only = each_print (λ f. P (Err f)) out memory fault only
+
+-- the text of a layout
+pub each_layout : (P : Fault → Type 0) → ((offset : ℕ) (kind : _) → P (BadStream offset kind))
+    → ((count : ℕ) → P (TooLarge Shapes count)) → P Memory → (fault : Fault) → IsLayoutFault fault → P fault
+each_layout P stream large memory (BadStream offset kind) wrong = stream offset kind
+each_layout P stream large memory (TooLarge Shapes count) wrong = large count
+each_layout P stream large memory Memory wrong = memory
+each_layout P stream large memory _ wrong = absurd wrong
+
+-- the texts of a layout and of a library, and printing
+pub each_printing : (P : Fault → Type 0) → P (WriteFault Out) → ((fault : Fault) → IsCircuitFault fault → P fault)
+    → (fault : Fault) → IsPrintingFault fault → P fault
+each_printing P out circuit (WriteFault Create) wrong = absurd wrong
+each_printing P out circuit (WriteFault Append) wrong = absurd wrong
+each_printing P out circuit (WriteFault Close) wrong = absurd wrong
+each_printing P out circuit (WriteFault Out) wrong = out
+each_printing P out circuit (BadStream offset kind) wrong = circuit (BadStream offset kind) wrong
+each_printing P out circuit (TooLarge Shapes count) wrong = circuit (TooLarge Shapes count) wrong
+each_printing P out circuit (BadLibrary fault) wrong = circuit (BadLibrary fault) wrong
+each_printing P out circuit (MissingCell kind) wrong = circuit (MissingCell kind) wrong
+each_printing P out circuit (RuleBroken rule first second) wrong = circuit (RuleBroken rule first second) wrong
+each_printing P out circuit Memory wrong = circuit Memory wrong
+each_printing P out circuit _ wrong = absurd wrong
+
+-- the text of a layout and the numbers of its shapes, and printing
+pub each_showing : (P : Fault → Type 0) → P (WriteFault Out) → ((number count : ℕ) → P (NoShape number count))
+    → ((fault : Fault) → IsLayoutFault fault → P fault) → (fault : Fault) → IsShowingFault fault → P fault
+each_showing P out none layout (WriteFault Create) wrong = absurd wrong
+each_showing P out none layout (WriteFault Append) wrong = absurd wrong
+each_showing P out none layout (WriteFault Close) wrong = absurd wrong
+each_showing P out none layout (WriteFault Out) wrong = out
+each_showing P out none layout (NoShape number count) wrong = none number count
+each_showing P out none layout (BadStream offset kind) wrong = layout (BadStream offset kind) wrong
+each_showing P out none layout (TooLarge Shapes count) wrong = layout (TooLarge Shapes count) wrong
+each_showing P out none layout Memory wrong = layout Memory wrong
+each_showing P out none layout _ wrong = absurd wrong

@@ -1,11 +1,11 @@
 -- A command line has one form.
 use Rattle.std.proofs.Common.{ℕ, ◌≡◌, ◌≤◌, List, length, inl, inr, refl, sym, ap, ◌∙◌, arith, get_or}
 use Rattle.std.proofs.lemmas.Fmt.{decimal_injective}
-use Rattle.aqfp_top.specs.Words.{IsMake, IsMakeBy, IsBuild, IsCompact, IsVerify, IsTrace, IsEqual, IsWrite, IsCheck, IsSampleSize, IsSampleOf, HasForm, IsOfForm, word_at}
+use Rattle.aqfp_top.specs.Words.{IsMake, IsMakeBy, IsBuild, IsCompact, IsVerify, IsTrace, IsEqual, IsWrite, IsReport, IsNumber, IsShapesOf, IsCheck, IsSampleSize, IsSampleOf, HasForm, IsOfForm, word_at}
 use Rattle.aqfp_top.specs.declared.planner.Planner.{Planner}
 use Rattle.aqfp_top.specs.declared.planner.Planner.TheVariants.{Layered, Compact}
 use Rattle.aqfp_top.specs.declared.words.Form.{Form}
-use Rattle.aqfp_top.specs.declared.words.Form.TheVariants.{Make, Verify, Trace, Equal, Write, Sample, Wrong}
+use Rattle.aqfp_top.specs.declared.words.Form.TheVariants.{Make, Verify, Trace, Equal, Write, Report, Shapes, Sample, Wrong}
 
 build_not_compact : (words : List (List ℕ)) → IsBuild words → IsCompact words → ⊥
 build_not_compact words form compact =
@@ -95,6 +95,52 @@ check_not_write words (inr trace) write = trace_not_write words trace write
 pub equal_not_write : (words : List (List ℕ)) → IsEqual words → IsWrite words → ⊥
 equal_not_write words form write = let first : ◌≡◌ {A = ℕ} 110 101 = ap (λ xs. get_or xs 0 0) (sym write.1 ∙ form.1) in omega (arith, first)
 
+-- a report has three words
+pub four_not_report : (words : List (List ℕ)) → length words ≡ 4 → IsReport words → ⊥
+four_not_report words four report = let three = report.0 in omega (arith, four, three)
+
+pub make_not_report : (words : List (List ℕ)) → IsMake words → IsReport words → ⊥
+make_not_report words form report = four_not_report words (four_words words form) report
+
+pub check_not_report : (words : List (List ℕ)) → IsCheck words → IsReport words → ⊥
+check_not_report words (inl verify) report = four_not_report words verify.0 report
+check_not_report words (inr trace) report = four_not_report words trace.0 report
+
+pub sample_not_report : (words : List (List ℕ)) (bits : ℕ) → IsSampleOf words bits → IsReport words → ⊥
+sample_not_report words bits form report = let three = report.0 in let two = form.two in omega (arith, two, three)
+
+pub shapes_not_report : (words : List (List ℕ)) (first second : ℕ) → IsShapesOf words first second → IsReport words → ⊥
+shapes_not_report words first second form report = four_not_report words form.four report
+
+pub make_not_shapes : (words : List (List ℕ)) (first second : ℕ) → IsMake words → IsShapesOf words first second → ⊥
+make_not_shapes words first second form shapes =
+    first_letter words 115 form (ap (λ xs. get_or xs 0 0) shapes.named) (omega arith)
+
+pub verify_not_shapes : (words : List (List ℕ)) (first second : ℕ) → IsVerify words → IsShapesOf words first second → ⊥
+verify_not_shapes words first second form shapes =
+    let letter : ◌≡◌ {A = ℕ} 118 115 = ap (λ xs. get_or xs 0 0) (sym form.1 ∙ shapes.named) in omega (arith, letter)
+
+pub trace_not_shapes : (words : List (List ℕ)) (first second : ℕ) → IsTrace words → IsShapesOf words first second → ⊥
+trace_not_shapes words first second form shapes =
+    let letter : ◌≡◌ {A = ℕ} 116 115 = ap (λ xs. get_or xs 0 0) (sym form.1 ∙ shapes.named) in omega (arith, letter)
+
+pub check_not_shapes : (words : List (List ℕ)) (first second : ℕ) → IsCheck words → IsShapesOf words first second → ⊥
+check_not_shapes words first second (inl verify) shapes = verify_not_shapes words first second verify shapes
+check_not_shapes words first second (inr trace) shapes = trace_not_shapes words first second trace shapes
+
+pub equal_not_shapes : (words : List (List ℕ)) (first second : ℕ) → IsEqual words → IsShapesOf words first second → ⊥
+equal_not_shapes words first second form shapes =
+    let letter : ◌≡◌ {A = ℕ} 101 115 = ap (λ xs. get_or xs 0 0) (sym form.1 ∙ shapes.named) in omega (arith, letter)
+
+pub write_not_shapes : (words : List (List ℕ)) (first second : ℕ) → IsWrite words → IsShapesOf words first second → ⊥
+write_not_shapes words first second form shapes =
+    let letter : ◌≡◌ {A = ℕ} 110 115 = ap (λ xs. get_or xs 0 0) (sym form.1 ∙ shapes.named) in omega (arith, letter)
+
+pub sample_not_shapes : (words : List (List ℕ)) (bits first second : ℕ) → IsSampleOf words bits
+    → IsShapesOf words first second → ⊥
+sample_not_shapes words bits first second form shapes =
+    let four = shapes.four in let two = form.two in omega (arith, two, four)
+
 -- a sample has one number of bits
 pub one_size : (text : List ℕ) (a b : ℕ) → IsSampleSize text a → IsSampleSize text b → a ≡ b
 one_size text a b p q =
@@ -102,9 +148,21 @@ one_size text a b p q =
     let b_few = q.few in
     decimal_injective a b (omega (arith, a_few)) (omega (arith, b_few)) (sym p.spelled_so ∙ q.spelled_so)
 
+-- a text writes one number
+pub one_number : (text : List ℕ) (a b : ℕ) → IsNumber text a → IsNumber text b → a ≡ b
+one_number text a b p q = decimal_injective a b p.fits q.fits (sym p.spelled_so ∙ q.spelled_so)
+
+pub one_pair : (words : List (List ℕ)) (a b c d : ℕ) → IsShapesOf words a b → IsShapesOf words c d
+    → (a ≡ c) × (b ≡ d)
+one_pair words a b c d p q = (one_number _ a c p.first_is q.first_is, one_number _ b d p.second_is q.second_is)
+
 -- the words that have this form have some form, unless it is that of wrong words
 sample_form : (words : List (List ℕ)) (bits : ℕ) → IsSampleOf words bits → HasForm words
 sample_form words bits form = inr (inr (inl (record { bits = bits; of_bits = form })))
+
+shapes_form : (words : List (List ℕ)) (first second : ℕ) → IsShapesOf words first second → HasForm words
+shapes_form words first second form =
+    inr (inr (inr (inr (inr (inr (record { first = first; second = second; of_numbers = form }))))))
 
 pub one_form : (words : List (List ℕ)) (f g : Form) → IsOfForm words f → IsOfForm words g → f ≡ g
 one_form words (Make a) (Make b) p q = ap Make (one_planner words a b p q)
@@ -112,6 +170,8 @@ one_form words (Make a) Verify p q = absurd (make_not_verify words (is_make a wo
 one_form words (Make a) Trace p q = absurd (make_not_trace words (is_make a words p) q)
 one_form words (Make a) Equal p q = absurd (make_not_equal words (is_make a words p) q)
 one_form words (Make a) Write p q = absurd (make_not_write words (is_make a words p) q)
+one_form words (Make a) Report p q = absurd (four_not_report words (four_words words (is_make a words p)) q)
+one_form words (Make a) (Shapes first second) p q = absurd (make_not_shapes words first second (is_make a words p) q)
 one_form words (Make a) (Sample bits) p q = absurd (make_not_sample words bits (is_make a words p) q)
 one_form words (Make a) Wrong p q = absurd (q (inl (is_make a words p)))
 one_form words Verify (Make b) p q = absurd (make_not_verify words (is_make b words q) p)
@@ -119,6 +179,8 @@ one_form words Verify Verify p q = refl
 one_form words Verify Trace p q = absurd (verify_not_trace words p q)
 one_form words Verify Equal p q = absurd (verify_not_equal words p q)
 one_form words Verify Write p q = absurd (verify_not_write words p q)
+one_form words Verify Report p q = absurd (four_not_report words p.0 q)
+one_form words Verify (Shapes first second) p q = absurd (verify_not_shapes words first second p q)
 one_form words Verify (Sample bits) p q = absurd (verify_not_sample words bits p q)
 one_form words Verify Wrong p q = absurd (q (inr (inl (inl p))))
 one_form words Trace (Make b) p q = absurd (make_not_trace words (is_make b words q) p)
@@ -126,6 +188,8 @@ one_form words Trace Verify p q = absurd (verify_not_trace words q p)
 one_form words Trace Trace p q = refl
 one_form words Trace Equal p q = absurd (trace_not_equal words p q)
 one_form words Trace Write p q = absurd (trace_not_write words p q)
+one_form words Trace Report p q = absurd (four_not_report words p.0 q)
+one_form words Trace (Shapes first second) p q = absurd (trace_not_shapes words first second p q)
 one_form words Trace (Sample bits) p q = absurd (trace_not_sample words bits p q)
 one_form words Trace Wrong p q = absurd (q (inr (inl (inr p))))
 one_form words Equal (Make b) p q = absurd (make_not_equal words (is_make b words q) p)
@@ -133,6 +197,8 @@ one_form words Equal Verify p q = absurd (verify_not_equal words q p)
 one_form words Equal Trace p q = absurd (trace_not_equal words q p)
 one_form words Equal Equal p q = refl
 one_form words Equal Write p q = absurd (equal_not_write words p q)
+one_form words Equal Report p q = absurd (four_not_report words p.0 q)
+one_form words Equal (Shapes first second) p q = absurd (equal_not_shapes words first second p q)
 one_form words Equal (Sample bits) p q = absurd (equal_not_sample words bits p q)
 one_form words Equal Wrong p q = absurd (q (inr (inr (inr (inl p)))))
 one_form words Write (Make b) p q = absurd (make_not_write words (is_make b words q) p)
@@ -140,19 +206,44 @@ one_form words Write Verify p q = absurd (verify_not_write words q p)
 one_form words Write Trace p q = absurd (trace_not_write words q p)
 one_form words Write Equal p q = absurd (equal_not_write words q p)
 one_form words Write Write p q = refl
+one_form words Write Report p q = absurd (four_not_report words p.0 q)
+one_form words Write (Shapes first second) p q = absurd (write_not_shapes words first second p q)
 one_form words Write (Sample bits) p q = absurd (write_not_sample words bits p q)
-one_form words Write Wrong p q = absurd (q (inr (inr (inr (inr p)))))
+one_form words Write Wrong p q = absurd (q (inr (inr (inr (inr (inl p))))))
+one_form words Report (Make a) p q = absurd (four_not_report words (four_words words (is_make a words q)) p)
+one_form words Report Verify p q = absurd (four_not_report words q.0 p)
+one_form words Report Trace p q = absurd (four_not_report words q.0 p)
+one_form words Report Equal p q = absurd (four_not_report words q.0 p)
+one_form words Report Write p q = absurd (four_not_report words q.0 p)
+one_form words Report Report p q = refl
+one_form words Report (Shapes first second) p q = absurd (shapes_not_report words first second q p)
+one_form words Report (Sample bits) p q = absurd (sample_not_report words bits q p)
+one_form words Report Wrong p q = absurd (q (inr (inr (inr (inr (inr (inl p)))))))
+one_form words (Shapes first second) (Make a) p q = absurd (make_not_shapes words first second (is_make a words q) p)
+one_form words (Shapes first second) Verify p q = absurd (verify_not_shapes words first second q p)
+one_form words (Shapes first second) Trace p q = absurd (trace_not_shapes words first second q p)
+one_form words (Shapes first second) Equal p q = absurd (equal_not_shapes words first second q p)
+one_form words (Shapes first second) Write p q = absurd (write_not_shapes words first second q p)
+one_form words (Shapes first second) Report p q = absurd (shapes_not_report words first second p q)
+one_form words (Shapes first second) (Shapes c d) p q =
+    let same = one_pair words first second c d p q in λ i. Shapes (same.0 i) (same.1 i)
+one_form words (Shapes first second) (Sample bits) p q = absurd (sample_not_shapes words bits first second q p)
+one_form words (Shapes first second) Wrong p q = absurd (q (shapes_form words first second p))
 one_form words (Sample bits) (Make b) p q = absurd (make_not_sample words bits (is_make b words q) p)
 one_form words (Sample bits) Verify p q = absurd (verify_not_sample words bits q p)
 one_form words (Sample bits) Trace p q = absurd (trace_not_sample words bits q p)
 one_form words (Sample bits) Equal p q = absurd (equal_not_sample words bits q p)
 one_form words (Sample bits) Write p q = absurd (write_not_sample words bits q p)
+one_form words (Sample bits) Report p q = absurd (sample_not_report words bits p q)
+one_form words (Sample bits) (Shapes first second) p q = absurd (sample_not_shapes words bits first second p q)
 one_form words (Sample bits) (Sample other) p q = ap Sample (one_size _ bits other p.size q.size)
 one_form words (Sample bits) Wrong p q = absurd (q (sample_form words bits p))
 one_form words Wrong (Make b) p q = absurd (p (inl (is_make b words q)))
 one_form words Wrong Verify p q = absurd (p (inr (inl (inl q))))
 one_form words Wrong Trace p q = absurd (p (inr (inl (inr q))))
 one_form words Wrong Equal p q = absurd (p (inr (inr (inr (inl q)))))
-one_form words Wrong Write p q = absurd (p (inr (inr (inr (inr q)))))
+one_form words Wrong Write p q = absurd (p (inr (inr (inr (inr (inl q))))))
+one_form words Wrong Report p q = absurd (p (inr (inr (inr (inr (inr (inl q)))))))
+one_form words Wrong (Shapes first second) p q = absurd (p (shapes_form words first second q))
 one_form words Wrong (Sample bits) p q = absurd (p (sample_form words bits q))
 one_form words Wrong Wrong p q = refl

@@ -58,7 +58,7 @@ size_answers not_both gds count large rest =
 
 -- the kinds of faults
 
-broken_fault : (flat : Flat) (limits : Limits) (fault : Fault) → IsBroken flat limits fault → IsCircuitFault fault
+pub broken_fault : (flat : Flat) (limits : Limits) (fault : Fault) → IsBroken flat limits fault → IsCircuitFault fault
 broken_fault flat limits (RuleBroken rule first second) bad = tt
 broken_fault flat limits Memory bad = tt
 broken_fault flat limits _ bad = absurd bad

@@ -11,12 +11,13 @@ use Rattle.aqfp_top.specs.Due.{IsPastSize, IsDoneOrMemory}
 use Rattle.aqfp_top.specs.Counted.{Counts, HasFaults, NoFaults}
 use Rattle.aqfp_top.specs.declared.planner.Planner.TheVariants.{Layered, Compact}
 use Rattle.aqfp_top.specs.declared.words.Form.{Form}
-use Rattle.aqfp_top.specs.declared.words.Form.TheVariants.{Make, Verify, Trace, Equal, Write, Sample, Wrong}
+use Rattle.aqfp_top.specs.declared.words.Form.TheVariants.{Make, Verify, Trace, Equal, Write, Report, Sample, Wrong}
+use Rattle.aqfp_top.specs.declared.words.Form.TheVariants as form
 use Rattle.aqfp_top.specs.declared.fault.Large.{Large}
 use Rattle.aqfp_top.specs.declared.fault.Large.TheVariants.{Slots, Rows, Cells, Elements, Shapes, Functions, Design}
 use Rattle.aqfp_top.specs.declared.fault.WriteCall.TheVariants.{Create, Append, Close, Out}
 use Rattle.aqfp_top.specs.declared.fault.Fault.{Fault}
-use Rattle.aqfp_top.specs.declared.fault.Fault.TheVariants.{Usage, Absent, TooLong, ReadFault, WriteFault, BadBlif, BadDesign, BadLibrary, MissingCell, TooLarge, BadStream, RuleBroken, BadWords, Widths, Memory}
+use Rattle.aqfp_top.specs.declared.fault.Fault.TheVariants.{Usage, Absent, TooLong, ReadFault, WriteFault, BadBlif, BadDesign, BadLibrary, MissingCell, TooLarge, BadStream, RuleBroken, BadWords, Widths, NoShape, Memory}
 use Rattle.aqfp_top.proofs.Files.{gone_not_there}
 use Rattle.aqfp_top.proofs.Forms.{one_form}
 
@@ -65,6 +66,7 @@ done files words before after (Some (BadStream offset kind)) large comes rose no
 done files words before after (Some (RuleBroken rule a b)) large comes rose none = cc
 done files words before after (Some (BadWords line)) large comes rose none = cc
 done files words before after (Some (Widths a_inputs a_outputs b_inputs b_outputs)) large comes rose none = cc
+done files words before after (Some (NoShape number count)) large comes rose none = cc
 
 -- a comparison alone may give up, and the search for a compact chip
 rest : {A : Type 0} → ⊥ ⊎ A → A
@@ -107,6 +109,8 @@ gives_up files words Equal what count is some = elim (rest (rest (rest (rest (re
   | inr none ↦ absurd none
 ]
 gives_up files words Write what count is some = absurd (rest (rest (rest (rest (rest (rest some))))))
+gives_up files words Report what count is some = absurd (rest (rest (rest (rest (rest (rest some))))))
+gives_up files words (form.Shapes first second) what count is some = absurd (rest (rest (rest (rest some))))
 gives_up files words (Sample bits) what count is some = absurd (rest (rest some))
 gives_up files words Wrong what count is some = absurd (rest some)
 
@@ -139,7 +143,10 @@ no_form words never (inr (inl (inl verify))) = never Verify verify
 no_form words never (inr (inl (inr trace))) = never Trace trace
 no_form words never (inr (inr (inl sample))) = never (Sample sample.bits) sample.of_bits
 no_form words never (inr (inr (inr (inl equal)))) = never Equal equal
-no_form words never (inr (inr (inr (inr write)))) = never Write write
+no_form words never (inr (inr (inr (inr (inl write))))) = never Write write
+no_form words never (inr (inr (inr (inr (inr (inl report)))))) = never Report report
+no_form words never (inr (inr (inr (inr (inr (inr shapes)))))) =
+    never (form.Shapes shapes.first shapes.second) shapes.of_numbers
 
 pub some_due : (files : Contents) (words : List (List ℕ)) → ((answer : Option Fault) → ¬ Due files words answer) → ⊥
 some_due files words never =
@@ -197,6 +204,8 @@ module _ (once : (stage : Stage) (f g : Fault) → Finds stage f → Finds stage
       first_once (stages_of form files words) (Some (BadWords line)) due q p
   first_comes files words form due (Some (Widths a b c d)) is p q =
       first_once (stages_of form files words) (Some (Widths a b c d)) due q p
+  first_comes files words form due (Some (NoShape number count)) is p q =
+      first_once (stages_of form files words) (Some (NoShape number count)) due q p
   first_comes files words form due (Some Memory) is p q = tt
 
   -- where nothing is due, a size comes of a stage that gives up

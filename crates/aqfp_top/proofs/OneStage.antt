@@ -27,6 +27,7 @@ use Rattle.aqfp_top.proofs.OneDue.{one_form_fault, one_load_fault}
 use Rattle.aqfp_top.proofs.OneFault.{one_netlist_fault, one_plain_fault, one_cells_fault, one_plan_fault, one_own_plan_fault}
 use Rattle.aqfp_top.proofs.OneCheck.{one_stream_fault, one_size_fault, one_rule_fault, one_words_fault}
 use Rattle.aqfp_top.proofs.OneComparison.{one_widths_fault}
+use Rattle.aqfp_top.proofs.Naming.{one_number_fault}
 
 module _ (past : (l : LibraryView) (net : NetView) (refusal : PlanRefusal) → refusal ≢ plan.Memory → Refuses l net refusal → IsWithin l net → ⊥)
     (only : (l : LibraryView) (net : NetView) (one other : PlanRefusal) → one ≢ plan.Memory → other ≢ plan.Memory → Refuses l net one → Refuses l net other → one ≡ other)
@@ -48,4 +49,5 @@ module _ (past : (l : LibraryView) (net : NetView) (refusal : PlanRefusal) → r
   once (stage.Rules gds lib) f g p q = ap untaken (one_rule_fault one_layout broken_once gds lib f g p q)
   once (stage.Counts gds lib net) f g p q = ap untaken (one_widths_fault one_layout one_circuit gds lib net f g p q)
   once (stage.Comparison gds lib net) f g p q = absurd p
+  once (stage.Numbers gds first second) f g p q = ap untaken (one_number_fault one_layout gds first second f g p q)
   once (stage.Words gds lib text) f g p q = ap untaken (one_words_fault one_layout one_circuit gds lib text f g p q)

@@ -1,11 +1,11 @@
 -- From the clauses of each command to those of a run.
 use Rattle.std.proofs.Common.{ℕ, ◌≡◌, ◌<◌, ◌≤◌, List, length, arith, Option, Some, None, Result, Ok, Err, IfOk, IfErr, OnOk, inl, inr, refl, subst}
 use Rattle.aq_base.specs.Store.{Contents}
-use Rattle.aqfp_top.specs.Words.{IsMake, IsMakeBy, IsVerify, IsTrace, IsEqual, IsWrite, IsCheck, IsSampleOf, HasForm}
-use Rattle.aqfp_top.specs.Loads.{build_loads, check_loads, write_loads, IsLoaded, IsPast}
+use Rattle.aqfp_top.specs.Words.{IsMake, IsMakeBy, IsVerify, IsTrace, IsEqual, IsWrite, IsReport, IsShapesOf, IsShapes, IsCheck, IsSampleOf, HasForm}
+use Rattle.aqfp_top.specs.Loads.{build_loads, check_loads, write_loads, shapes_loads, IsLoaded, IsPast}
 use Rattle.aqfp_top.specs.Stages.{Answers as StagesAnswer}
-use Rattle.aqfp_top.specs.Due.{MayAnswer, make_stages, check_stages, equal_stages, write_stages, sample_stages}
-use Rattle.aqfp_top.specs.Faults.{IsBuildFault, IsCheckFault, IsEqualFault, IsWritingFault, IsSampleFault, RunsOnly}
+use Rattle.aqfp_top.specs.Due.{MayAnswer, make_stages, check_stages, equal_stages, write_stages, shapes_stages, sample_stages}
+use Rattle.aqfp_top.specs.Faults.{IsBuildFault, IsCheckFault, IsEqualFault, IsWritingFault, IsReportFault, IsShapesFault, IsSampleFault, RunsOnly}
 use Rattle.aqfp_top.specs.Run.{RunStands, RunPrints}
 use Rattle.aqfp_top.specs.Lines.{HasPlace}
 use Rattle.aqfp_top.specs.Build.{BuildStands, BuildPrints}
@@ -13,18 +13,23 @@ use Rattle.aqfp_top.specs.Checks.{CheckPrints}
 use Rattle.aqfp_top.specs.Comparing.{EqualPrints}
 use Rattle.aqfp_top.specs.Samples.{SamplePrints}
 use Rattle.aqfp_top.specs.Writing.{WriteStands, WritePrints}
+use Rattle.aqfp_top.specs.Printed.{TextPrints}
+use Rattle.aqfp_top.specs.Reported.{IsReportOf}
+use Rattle.aqfp_top.specs.Shown.{IsShownOf}
 use Rattle.aqfp_top.specs.Code.Staging.{ToldAnswers, ToldMayAnswer}
 use Rattle.aqfp_top.specs.declared.planner.Planner.{Planner}
-use Rattle.aqfp_top.specs.declared.words.Form.TheVariants.{Make, Verify, Trace, Equal, Write, Sample, Wrong}
+use Rattle.aqfp_top.specs.declared.words.Form.TheVariants.{Make, Verify, Trace, Equal, Write, Report, Shapes, Sample, Wrong}
 use Rattle.aqfp_top.specs.declared.check.Printing.TheVariants.{Answers, Fluxes}
 use Rattle.aqfp_top.specs.declared.fault.Fault.{Fault}
-use Rattle.aqfp_top.specs.declared.fault.Fault.TheVariants.{Usage, Absent, TooLong, ReadFault}
+use Rattle.aqfp_top.specs.declared.fault.Fault.TheVariants.{Usage, Absent, TooLong, ReadFault, WriteFault}
 use Rattle.aqfp_top.proofs.Sampling.{sample_failed}
 use Rattle.aqfp_top.proofs.Forms.{is_make, one_planner, four_words, make_not_sample, make_not_check, make_not_verify, make_not_trace}
 use Rattle.aqfp_top.proofs.Forms.{make_not_equal, make_not_write, verify_not_sample, trace_not_sample, check_not_sample}
 use Rattle.aqfp_top.proofs.Forms.{verify_not_trace, verify_not_equal, trace_not_equal, check_not_equal, equal_not_sample}
 use Rattle.aqfp_top.proofs.Forms.{verify_not_write, trace_not_write, check_not_write, equal_not_write, write_not_sample}
-use Rattle.aqfp_top.proofs.Forms.{one_size}
+use Rattle.aqfp_top.proofs.Forms.{one_size, one_pair, four_not_report, make_not_report, check_not_report, sample_not_report}
+use Rattle.aqfp_top.proofs.Forms.{shapes_not_report, make_not_shapes, verify_not_shapes, trace_not_shapes}
+use Rattle.aqfp_top.proofs.Forms.{check_not_shapes, equal_not_shapes, write_not_shapes, sample_not_shapes}
 
 -- what a command may answer the words may lead to
 
@@ -49,6 +54,18 @@ equal_answers (Some files) words answer form answers = record { form = Equal; is
 pub write_answers : (told : Option Contents) (words : List (List ℕ)) (answer : Option Fault) → IsWrite words → ToldAnswers write_stages told words answer → ToldMayAnswer told words answer
 write_answers None words answer form answers = tt
 write_answers (Some files) words answer form answers = record { form = Write; is_form = form; answers = answers }
+
+pub report_answers : (told : Option Contents) (words : List (List ℕ)) (answer : Option Fault) → IsReport words
+    → ToldAnswers write_stages told words answer → ToldMayAnswer told words answer
+report_answers None words answer form answers = tt
+report_answers (Some files) words answer form answers = record { form = Report; is_form = form; answers = answers }
+
+pub shapes_answers : (told : Option Contents) (words : List (List ℕ)) (first second : ℕ) (answer : Option Fault)
+    → IsShapesOf words first second → ToldAnswers (shapes_stages first second) told words answer
+    → ToldMayAnswer told words answer
+shapes_answers None words first second answer form answers = tt
+shapes_answers (Some files) words first second answer form answers =
+    record { form = Shapes first second; is_form = form; answers = answers }
 
 pub sample_answers : (told : Option Contents) (words : List (List ℕ)) (bits : ℕ) (answer : Option Fault) → IsSampleOf words bits → StagesAnswer (sample_stages bits) answer → ToldMayAnswer told words answer
 sample_answers None words bits answer form answers = tt
@@ -80,11 +97,27 @@ equal_leaves before after words fault form same = record { make = λ p b. absurd
 pub write_leaves : (before after : Option Contents) (words : List (List ℕ)) (fault : Option Fault) → IsWrite words → WriteStands before after words fault → RunStands before after words fault
 write_leaves before after words fault form stands = record { make = λ p b. absurd (make_not_write words (is_make p words b) form); write = λ w. stands; otherwise = λ none other. absurd (other form) }
 
+pub report_leaves : (before after : Option Contents) (words : List (List ℕ)) (fault : Option Fault) → IsReport words
+    → after ≡ before → RunStands before after words fault
+report_leaves before after words fault form same = record {
+  make = λ p b. absurd (make_not_report words (is_make p words b) form);
+  write = λ w. absurd (four_not_report words w.0 form);
+  otherwise = λ none other. same;
+}
+
+pub shapes_leaves : (before after : Option Contents) (words : List (List ℕ)) (first second : ℕ) (fault : Option Fault)
+    → IsShapesOf words first second → after ≡ before → RunStands before after words fault
+shapes_leaves before after words first second fault form same = record {
+  make = λ p b. absurd (make_not_shapes words first second (is_make p words b) form);
+  write = λ w. absurd (write_not_shapes words first second w form);
+  otherwise = λ none other. same;
+}
+
 pub sample_leaves : (held : Option Contents) (words : List (List ℕ)) (bits : ℕ) (fault : Option Fault) → IsSampleOf words bits → RunStands held held words fault
 sample_leaves held words bits fault form = record { make = λ p b. absurd (make_not_sample words bits (is_make p words b) form); write = λ w. absurd (write_not_sample words bits w form); otherwise = λ none other. refl }
 
 pub usage_leaves : (held : Option Contents) (words : List (List ℕ)) (fault : Option Fault) → ¬ HasForm words → RunStands held held words fault
-usage_leaves held words fault form = record { make = λ p b. absurd (form (inl (is_make p words b))); write = λ w. absurd (form (inr (inr (inr (inr w))))); otherwise = λ none other. refl }
+usage_leaves held words fault form = record { make = λ p b. absurd (form (inl (is_make p words b))); write = λ w. absurd (form (inr (inr (inr (inr (inl w)))))); otherwise = λ none other. refl }
 
 -- what is printed
 
@@ -100,6 +133,8 @@ build_prints planner told words before after fault form prints =
       trace = λ t. absurd (make_not_trace words is t);
       equal = λ e. absurd (make_not_equal words is e);
       write = λ w. absurd (make_not_write words is w);
+      report = λ r. absurd (make_not_report words is r);
+      shapes = λ a b s. absurd (make_not_shapes words a b is s);
       sample = λ bits s. absurd (make_not_sample words bits is s);
       otherwise = λ none. absurd (none (inl is));
     }
@@ -111,6 +146,8 @@ verify_prints told words before after fault form prints = record {
   trace = λ t. absurd (verify_not_trace words form t);
   equal = λ e. absurd (verify_not_equal words form e);
   write = λ w. absurd (verify_not_write words form w);
+  report = λ r. absurd (four_not_report words form.0 r);
+  shapes = λ a b s. absurd (verify_not_shapes words a b form s);
   sample = λ bits s. absurd (verify_not_sample words bits form s);
   otherwise = λ none. absurd (none (inr (inl (inl form))));
 }
@@ -122,6 +159,8 @@ trace_prints told words before after fault form prints = record {
   trace = λ t. prints;
   equal = λ e. absurd (trace_not_equal words form e);
   write = λ w. absurd (trace_not_write words form w);
+  report = λ r. absurd (four_not_report words form.0 r);
+  shapes = λ a b s. absurd (trace_not_shapes words a b form s);
   sample = λ bits s. absurd (trace_not_sample words bits form s);
   otherwise = λ none. absurd (none (inr (inl (inr form))));
 }
@@ -133,6 +172,8 @@ equal_prints told words before after fault form prints = record {
   trace = λ t. absurd (trace_not_equal words t form);
   equal = λ e. prints;
   write = λ w. absurd (equal_not_write words form w);
+  report = λ r. absurd (four_not_report words form.0 r);
+  shapes = λ a b s. absurd (equal_not_shapes words a b form s);
   sample = λ bits s. absurd (equal_not_sample words bits form s);
   otherwise = λ none. absurd (none (inr (inr (inr (inl form)))));
 }
@@ -144,8 +185,10 @@ write_prints told words before after fault form prints = record {
   trace = λ t. absurd (trace_not_write words t form);
   equal = λ e. absurd (equal_not_write words e form);
   write = λ w. prints;
+  report = λ r. absurd (four_not_report words form.0 r);
+  shapes = λ a b s. absurd (write_not_shapes words a b form s);
   sample = λ bits s. absurd (write_not_sample words bits form s);
-  otherwise = λ none. absurd (none (inr (inr (inr (inr form)))));
+  otherwise = λ none. absurd (none (inr (inr (inr (inr (inl form))))));
 }
 
 pub sample_prints : (told : Option Contents) (words : List (List ℕ)) (bits : ℕ) (before after : Option (List ℕ)) (fault : Option Fault) → IsSampleOf words bits → SamplePrints bits before after fault → RunPrints told words before after fault
@@ -155,8 +198,46 @@ sample_prints told words bits before after fault form prints = record {
   trace = λ t. absurd (trace_not_sample words bits t form);
   equal = λ e. absurd (equal_not_sample words bits e form);
   write = λ w. absurd (write_not_sample words bits w form);
+  report = λ r. absurd (sample_not_report words bits form r);
+  shapes = λ a b s. absurd (sample_not_shapes words bits a b form s);
   sample = λ other s. subst (λ n. SamplePrints n before after fault) (one_size _ bits other form.size s.size) prints;
   otherwise = λ none. absurd (none (inr (inr (inl (record { bits = bits; of_bits = form })))));
+}
+
+pub report_prints : (told : Option Contents) (words : List (List ℕ)) (before after : Option (List ℕ)) (fault : Option Fault)
+    → IsReport words → TextPrints (IsReportOf told words) before after fault → RunPrints told words before after fault
+report_prints told words before after fault form prints = record {
+  make = λ p b. absurd (make_not_report words (is_make p words b) form);
+  verify = λ v. absurd (four_not_report words v.0 form);
+  trace = λ t. absurd (four_not_report words t.0 form);
+  equal = λ e. absurd (four_not_report words e.0 form);
+  write = λ w. absurd (four_not_report words w.0 form);
+  report = λ r. prints;
+  shapes = λ a b s. absurd (shapes_not_report words a b s form);
+  sample = λ bits s. absurd (sample_not_report words bits s form);
+  otherwise = λ none. absurd (none (inr (inr (inr (inr (inr (inl form)))))));
+}
+
+pub shapes_prints : (told : Option Contents) (words : List (List ℕ)) (first second : ℕ) (before after : Option (List ℕ))
+    (fault : Option Fault) → IsShapesOf words first second → TextPrints (IsShownOf told words first second) before after fault
+    → RunPrints told words before after fault
+shapes_prints told words first second before after fault form prints = record {
+  make = λ p b. absurd (make_not_shapes words first second (is_make p words b) form);
+  verify = λ v. absurd (verify_not_shapes words first second v form);
+  trace = λ t. absurd (trace_not_shapes words first second t form);
+  equal = λ e. absurd (equal_not_shapes words first second e form);
+  write = λ w. absurd (write_not_shapes words first second w form);
+  report = λ r. absurd (shapes_not_report words first second form r);
+  shapes = λ a b s.
+      let same = one_pair words first second a b form s in
+      subst (λ m. TextPrints (IsShownOf told words a m) before after fault) same.1
+      (subst (λ n. TextPrints (IsShownOf told words n second) before after fault) same.0 prints);
+  sample = λ bits s. absurd (sample_not_shapes words bits first second s form);
+  otherwise = λ none. absurd (none (inr (inr (inr (inr (inr (inr (record {
+    first = first;
+    second = second;
+    of_numbers = form;
+  }))))))));
 }
 
 pub usage_prints : (told : Option Contents) (words : List (List ℕ)) (held : Option (List ℕ)) (fault : Option Fault) → ¬ HasForm words → RunPrints told words held held fault
@@ -165,7 +246,9 @@ usage_prints told words held fault form = record {
   verify = λ v. absurd (form (inr (inl (inl v))));
   trace = λ t. absurd (form (inr (inl (inr t))));
   equal = λ e. absurd (form (inr (inr (inr (inl e)))));
-  write = λ w. absurd (form (inr (inr (inr (inr w)))));
+  write = λ w. absurd (form (inr (inr (inr (inr (inl w))))));
+  report = λ r. absurd (form (inr (inr (inr (inr (inr (inl r)))))));
+  shapes = λ a b s. absurd (form (inr (inr (inr (inr (inr (inr (record { first = a; second = b; of_numbers = s }))))))));
   sample = λ bits s. absurd (form (inr (inr (inl (record { bits = bits; of_bits = s })))));
   otherwise = λ none. refl;
 }
@@ -219,6 +302,39 @@ write_place words (TooLong place taken) four only = write_past words place taken
 write_place words (ReadFault place) four only = write_loaded words place four only
 write_place words _ four only = tt
 
+three_place : (words : List (List ℕ)) (place low : ℕ) → length words ≡ 3 → low ≤ 2 → place ≡ low → place < length words
+three_place words place low three most is = omega arith
+
+report_loaded : (words : List (List ℕ)) (place : ℕ) → length words ≡ 3 → IsLoaded write_loads place → place < length words
+report_loaded words place three (inl one) = three_place words place 1 three (omega arith) one
+report_loaded words place three (inr (inl two)) = three_place words place 2 three (omega arith) two
+report_loaded words place three (inr (inr none)) = absurd none
+
+report_past : (words : List (List ℕ)) (place taken : ℕ) → length words ≡ 3 → IsPast write_loads place taken → place < length words
+report_past words place taken three (inl one) = three_place words place 1 three (omega arith) one.0
+report_past words place taken three (inr (inl two)) = three_place words place 2 three (omega arith) two.0
+report_past words place taken three (inr (inr none)) = absurd none
+
+report_place : (words : List (List ℕ)) (fault : Fault) → length words ≡ 3 → IsReportFault fault → HasPlace words fault
+report_place words (Absent place) three only = report_loaded words place three only
+report_place words (TooLong place taken) three only = report_past words place taken three only
+report_place words (ReadFault place) three only = report_loaded words place three only
+report_place words _ three only = tt
+
+shapes_loaded : (words : List (List ℕ)) (place : ℕ) → length words ≡ 4 → IsLoaded shapes_loads place → place < length words
+shapes_loaded words place four (inl one) = four_place words place 1 four (omega arith) one
+shapes_loaded words place four (inr none) = absurd none
+
+shapes_past : (words : List (List ℕ)) (place taken : ℕ) → length words ≡ 4 → IsPast shapes_loads place taken → place < length words
+shapes_past words place taken four (inl one) = four_place words place 1 four (omega arith) one.0
+shapes_past words place taken four (inr none) = absurd none
+
+shapes_place : (words : List (List ℕ)) (fault : Fault) → length words ≡ 4 → IsShapesFault fault → HasPlace words fault
+shapes_place words (Absent place) four only = shapes_loaded words place four only
+shapes_place words (TooLong place taken) four only = shapes_past words place taken four only
+shapes_place words (ReadFault place) four only = shapes_loaded words place four only
+shapes_place words _ four only = tt
+
 check_place : (words : List (List ℕ)) (fault : Fault) → length words ≡ 4 → IsCheckFault fault → HasPlace words fault
 check_place words (Absent place) four only = check_loaded words place four only
 check_place words (TooLong place taken) four only = check_past words place taken four only
@@ -250,6 +366,8 @@ build_only planner words (Err fault) form only =
       sample = λ s. absurd (make_not_sample words s.bits is s.of_bits);
       equal = λ e. absurd (make_not_equal words is e);
       write = λ w. absurd (make_not_write words is w);
+      report = λ r. absurd (make_not_report words is r);
+      shapes = λ s. absurd (make_not_shapes words s.first s.second is s.of_numbers);
       otherwise = λ none. absurd (none (inl is));
       place = build_place words fault (four_words words is) only;
     }
@@ -262,6 +380,8 @@ check_only words (Err fault) four form only = record {
   sample = λ s. absurd (check_not_sample words s.bits form s.of_bits);
   equal = λ e. absurd (check_not_equal words form e);
   write = λ w. absurd (check_not_write words form w);
+  report = λ r. absurd (four_not_report words four r);
+  shapes = λ s. absurd (check_not_shapes words s.first s.second form s.of_numbers);
   otherwise = λ none. absurd (none (inr (inl form)));
   place = check_place words fault four only;
 }
@@ -280,6 +400,8 @@ sample_only words bits (Err fault) form only = record {
   sample = λ s. only;
   equal = λ e. absurd (equal_not_sample words bits e form);
   write = λ w. absurd (write_not_sample words bits w form);
+  report = λ r. absurd (sample_not_report words bits form r);
+  shapes = λ s. absurd (sample_not_shapes words bits s.first s.second form s.of_numbers);
   otherwise = λ none. absurd (none (inr (inr (inl (record { bits = bits; of_bits = form })))));
   place = sample_place words fault only;
 }
@@ -292,6 +414,8 @@ equal_only words (Err fault) form only = record {
   sample = λ s. absurd (equal_not_sample words s.bits form s.of_bits);
   equal = λ e. only;
   write = λ w. absurd (equal_not_write words form w);
+  report = λ r. absurd (four_not_report words form.0 r);
+  shapes = λ s. absurd (equal_not_shapes words s.first s.second form s.of_numbers);
   otherwise = λ none. absurd (none (inr (inr (inr (inl form)))));
   place = equal_place words fault form.0 only;
 }
@@ -304,8 +428,44 @@ write_only words (Err fault) form only = record {
   sample = λ s. absurd (write_not_sample words s.bits form s.of_bits);
   equal = λ e. absurd (equal_not_write words e form);
   write = λ w. only;
-  otherwise = λ none. absurd (none (inr (inr (inr (inr form)))));
+  report = λ r. absurd (four_not_report words form.0 r);
+  shapes = λ s. absurd (write_not_shapes words s.first s.second form s.of_numbers);
+  otherwise = λ none. absurd (none (inr (inr (inr (inr (inl form))))));
   place = write_place words fault form.0 only;
+}
+
+pub report_only : (words : List (List ℕ)) (result : Result (Unit {0}) Fault) → IsReport words → IfErr result IsReportFault
+    → IfErr result (RunsOnly words)
+report_only words (Ok x) form only = tt
+report_only words (Err fault) form only = record {
+  make = λ b. absurd (make_not_report words b form);
+  check = λ c. absurd (check_not_report words c form);
+  sample = λ s. absurd (sample_not_report words s.bits s.of_bits form);
+  equal = λ e. absurd (four_not_report words e.0 form);
+  write = λ w. absurd (four_not_report words w.0 form);
+  report = λ r. only;
+  shapes = λ s. absurd (shapes_not_report words s.first s.second s.of_numbers form);
+  otherwise = λ none. absurd (none (inr (inr (inr (inr (inr (inl form)))))));
+  place = report_place words fault form.0 only;
+}
+
+pub shapes_only : (words : List (List ℕ)) (first second : ℕ) (result : Result (Unit {0}) Fault) → IsShapesOf words first second
+    → IfErr result IsShapesFault → IfErr result (RunsOnly words)
+shapes_only words first second (Ok x) form only = tt
+shapes_only words first second (Err fault) form only = record {
+  make = λ b. absurd (make_not_shapes words first second b form);
+  check = λ c. absurd (check_not_shapes words first second c form);
+  sample = λ s. absurd (sample_not_shapes words s.bits first second s.of_bits form);
+  equal = λ e. absurd (equal_not_shapes words first second e form);
+  write = λ w. absurd (write_not_shapes words first second w form);
+  report = λ r. absurd (shapes_not_report words first second form r);
+  shapes = λ s. only;
+  otherwise = λ none. absurd (none (inr (inr (inr (inr (inr (inr (record {
+    first = first;
+    second = second;
+    of_numbers = form;
+  }))))))));
+  place = shapes_place words fault form.four only;
 }
 
 pub usage_only : (words : List (List ℕ)) → ¬ HasForm words → RunsOnly words Usage
@@ -314,7 +474,9 @@ usage_only words none = record {
   check = λ c. absurd (none (inr (inl c)));
   sample = λ s. absurd (none (inr (inr (inl s))));
   equal = λ e. absurd (none (inr (inr (inr (inl e)))));
-  write = λ w. absurd (none (inr (inr (inr (inr w)))));
+  write = λ w. absurd (none (inr (inr (inr (inr (inl w))))));
+  report = λ r. absurd (none (inr (inr (inr (inr (inr (inl r)))))));
+  shapes = λ s. absurd (none (inr (inr (inr (inr (inr (inr s)))))));
   otherwise = λ n. refl;
   place = tt;
 }
@@ -338,7 +500,16 @@ pub equal_no_usage : (words : List (List ℕ)) (answer : Option Fault) → IsEqu
 equal_no_usage words answer form none = absurd (none (inr (inr (inr (inl form)))))
 
 pub write_no_usage : (words : List (List ℕ)) (answer : Option Fault) → IsWrite words → ¬ HasForm words → answer ≡ Some Usage
-write_no_usage words answer form none = absurd (none (inr (inr (inr (inr form)))))
+write_no_usage words answer form none = absurd (none (inr (inr (inr (inr (inl form))))))
+
+pub report_no_usage : (words : List (List ℕ)) (answer : Option Fault) → IsReport words → ¬ HasForm words → answer ≡ Some Usage
+report_no_usage words answer form none = absurd (none (inr (inr (inr (inr (inr (inl form)))))))
+
+pub shapes_no_usage : (words : List (List ℕ)) (first second : ℕ) (answer : Option Fault) → IsShapesOf words first second
+    → ¬ HasForm words → answer ≡ Some Usage
+shapes_no_usage words first second answer form none =
+    let is : IsShapes words = record { first = first; second = second; of_numbers = form } in
+    absurd (none (inr (inr (inr (inr (inr (inr is)))))))
 
 -- where a command ends well, what holds for its form holds by its planner, and nothing is asked of other forms
 
@@ -363,12 +534,29 @@ pub never : (result : Result (Unit {0}) Fault) (Is Holds : Type 0) → (Is → �
 never (Ok x) Is Holds none = λ is. absurd (none is)
 never (Err fault) Is Holds none = tt
 
+pub never_shown : (words : List (List ℕ)) (result : Result (Unit {0}) Fault) (Holds : ℕ → ℕ → Type 0)
+    → ((a b : ℕ) → IsShapesOf words a b → ⊥)
+    → IfOk result (λ _. (a b : ℕ) → IsShapesOf words a b → Holds a b)
+never_shown words (Ok x) Holds none = λ a b is. absurd (none a b is)
+never_shown words (Err fault) Holds none = tt
+
+-- two numbers of shapes are these
+pub shown_by : (words : List (List ℕ)) (first second : ℕ) (result : Result (Unit {0}) Fault) (Holds : ℕ → ℕ → Type 0)
+    → IsShapesOf words first second → OnOk result (Holds first second)
+    → IfOk result (λ _. (a b : ℕ) → IsShapesOf words a b → Holds a b)
+shown_by words first second (Ok x) Holds form holds = λ a b is.
+    let same = one_pair words first second a b form is in
+    subst (λ m. Holds a m) same.1 (subst (λ n. Holds n second) same.0 holds)
+shown_by words first second (Err fault) Holds form holds = tt
+
 pub ruleset runs = (
   build_only,
   verify_only,
   trace_only,
   equal_only,
   write_only,
+  report_only,
+  shapes_only,
   sample_only,
   sample_failed,
   usage_only,
@@ -377,6 +565,8 @@ pub ruleset runs = (
   trace_answers,
   equal_answers,
   write_answers,
+  report_answers,
+  shapes_answers,
   sample_answers,
   usage_answers,
   build_leaves,
@@ -384,6 +574,8 @@ pub ruleset runs = (
   trace_leaves,
   equal_leaves,
   write_leaves,
+  report_leaves,
+  shapes_leaves,
   sample_leaves,
   usage_leaves,
   build_prints,
@@ -391,6 +583,8 @@ pub ruleset runs = (
   trace_prints,
   equal_prints,
   write_prints,
+  report_prints,
+  shapes_prints,
   sample_prints,
   usage_prints,
   build_no_usage,
@@ -398,6 +592,8 @@ pub ruleset runs = (
   trace_no_usage,
   equal_no_usage,
   write_no_usage,
+  report_no_usage,
+  shapes_no_usage,
   sample_no_usage,
 )
 

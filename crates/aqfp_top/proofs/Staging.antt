@@ -12,7 +12,7 @@ use Rattle.aqfp_top.specs.Code.Loading.{LoadsWord, IsFaultOfLoad}
 use Rattle.aqfp_top.specs.declared.planner.Planner.TheVariants.{Layered, Compact}
 use Rattle.aqfp_top.specs.declared.fault.WriteCall.{WriteCall}
 use Rattle.aqfp_top.specs.declared.fault.Fault.{Fault}
-use Rattle.aqfp_top.specs.declared.fault.Fault.TheVariants.{Usage, Absent, TooLong, ReadFault, WriteFault, BadBlif, BadDesign, BadLibrary, MissingCell, TooLarge, BadStream, RuleBroken, BadWords, Widths, Memory}
+use Rattle.aqfp_top.specs.declared.fault.Fault.TheVariants.{Usage, Absent, TooLong, ReadFault, WriteFault, BadBlif, BadDesign, BadLibrary, MissingCell, TooLarge, BadStream, RuleBroken, BadWords, Widths, NoShape, Memory}
 use Rattle.aqfp_top.proofs.Files.{long_not_short, held_short}
 
 -- a stage that finds none leaves the answer to those after it
@@ -33,6 +33,7 @@ past s stages (Some (BadStream offset kind)) none a = inr (none, a)
 past s stages (Some (RuleBroken rule first second)) none a = inr (none, a)
 past s stages (Some (BadWords line)) none a = inr (none, a)
 past s stages (Some (Widths a_inputs a_outputs b_inputs b_outputs)) none a = inr (none, a)
+past s stages (Some (NoShape number count)) none a = inr (none, a)
 past s stages (Some Memory) none a = tt
 
 -- so do stages of which none finds one
@@ -56,6 +57,7 @@ no_read (stage.Rules gds lib) place found = found
 no_read (stage.Words gds lib text) place found = found
 no_read (stage.Counts gds lib net) place found = found
 no_read (stage.Comparison gds lib net) place found = found
+no_read (stage.Numbers gds first second) place found = found
 
 no_write : (s : Stage) (call : WriteCall) → Finds s (WriteFault call) → ⊥
 no_write stage.Form call found = found
@@ -72,6 +74,7 @@ no_write (stage.Rules gds lib) call found = found
 no_write (stage.Words gds lib text) call found = found
 no_write (stage.Counts gds lib net) call found = found
 no_write (stage.Comparison gds lib net) call found = found
+no_write (stage.Numbers gds first second) call found = found
 
 -- what the first stage finds is answered
 pub found : (s : Stage) (stages : List Stage) (fault : Fault) → OrMemory (Finds s) fault → Answers (s ∷ stages) (Some fault)
@@ -89,6 +92,7 @@ found s stages (BadStream offset kind) finds = inl finds
 found s stages (RuleBroken rule first second) finds = inl finds
 found s stages (BadWords line) finds = inl finds
 found s stages (Widths a_inputs a_outputs b_inputs b_outputs) finds = inl finds
+found s stages (NoShape number count) finds = inl finds
 found s stages Memory finds = tt
 
 -- Loads.

@@ -17,10 +17,11 @@ use Rattle.circuit.specs.CellNets.{IsCells, value}
 use Rattle.circuit.proofs.CellAnswers.{some_answer, the_answer}
 use Rattle.decide.specs.Subfunctions.{HasAtMost}
 use Rattle.decide.specs.Verdicts.{shown, IsLeastDifference, IsVerdict, IsRefusal}
+use Rattle.decide.specs.Verdicts as verdicts
 use Rattle.decide.specs.declared.refusal.DecideRefusal.TheVariants.{TooMany}
 use Rattle.decide.specs.declared.verdict.Verdict.{Verdict}
-use Rattle.decide.specs.declared.verdict.Verdict.TheVariants.{Equal, Differ}
-use Rattle.aqfp_top.specs.Comparing.{at, AgreeAt, DifferAt, IsFirstDifference, IsTrueOf, AreManyFunctions}
+use Rattle.decide.specs.declared.verdict.Verdict.TheVariants.{Equal, Differ, Differs}
+use Rattle.aqfp_top.specs.Comparing.{at, AgreeAt, DifferAt, IsFirstDifference, IsSomeDifference, IsTrueOf, AreManyFunctions}
 
 -- the first circuit has the counts and the answers of the second
 same_back : (i j o p : ℕ) (f g : List Bool → List Bool → Type 0) → SameAnswers i j o p f g → SameAnswers j i p o g f
@@ -38,7 +39,8 @@ at_answer net word answer k ok is lt = ap (λ a. at a k) (the_answer net word an
 module _ (circuit : CircuitView) (view : NetView) (a b : PlainView) (a_cells : IsCells a) (b_cells : IsCells b)
     (first : SameAnswers circuit.inputs a.inputs (length circuit.outputs) (length a.outputs) (IsAnswer circuit) (plain.IsAnswer a))
     (second : SameAnswers view.inputs b.inputs (length view.outputs) (length b.outputs) (equations.IsAnswer view) (plain.IsAnswer b))
-    (inputs : view.inputs ≡ circuit.inputs) (outputs : length view.outputs ≡ length circuit.outputs) where
+    (inputs : view.inputs ≡ circuit.inputs) (outputs : length view.outputs ≡ length circuit.outputs)
+    (a_is : a ≡ cells_of circuit) (b_is : b ≡ map_net view) where
   many : (k : ℕ) → k < length circuit.outputs → k < length a.outputs
   many k lt = let is = first.same_outputs in omega arith
 
@@ -80,12 +82,26 @@ module _ (circuit : CircuitView) (view : NetView) (a b : PlainView) (a_cells : I
       below : (k m n : ℕ) → k < m → m < n → k < n
       below k m n p q = omega arith
 
+  some_difference : (output : ℕ) (word : List Bool) → verdicts.IsSomeDifference a b output word
+      → IsSomeDifference circuit view output word
+  some_difference output word d =
+      let within : output < length circuit.outputs = (let lt : output < length a.outputs = d.output_within in let is = first.same_outputs in omega arith) in
+      let long : length word ≡ circuit.inputs = d.long ∙ first.same_inputs in
+      record {
+        output_within = within;
+        long = long;
+        differ = differ output word within long d.differ;
+        many = λ few. d.many (subst (λ x. HasAtMost a x 1000000) (sym b_is)
+            (subst (λ x. HasAtMost x (map_net view) 1000000) (sym a_is) few));
+      }
+
   pub truth : (verdict : Verdict) → IsVerdict a b verdict → IsTrueOf circuit view verdict
   truth Equal same =
       same_then circuit.inputs a.inputs view.inputs (length circuit.outputs) (length a.outputs) (length view.outputs) (IsAnswer circuit) (plain.IsAnswer a) (equations.IsAnswer view) first
       (same_then a.inputs b.inputs view.inputs (length a.outputs) (length b.outputs) (length view.outputs) (plain.IsAnswer a) (plain.IsAnswer b) (equations.IsAnswer view) same
       (same_back view.inputs b.inputs (length view.outputs) (length b.outputs) (equations.IsAnswer view) (plain.IsAnswer b) second))
   truth (Differ output word) least = first_difference output word least
+  truth (Differs output word) some = some_difference output word some
 
 -- The same of the gates of the chip's cells and of those that the netlist is mapped to.
 
@@ -97,10 +113,11 @@ gate_outputs circuit view a b a_is b_is same =
     ap (λ (n : PlainView). length n.outputs) b_is
     ∙ (same_count view ∙ (same ∙ (sym (length-map circuit.outputs (λ source. circuit.inputs + source.cell)) ∙ ap (λ (n : PlainView). length n.outputs) (sym a_is))))
 
-pub chip_truth : (circuit : CircuitView) (view : NetView) (a b : PlainView) (verdict : Verdict) → IsCells a → IsCells b → b ≡ map_net view → IsNetlist view
+pub chip_truth : (circuit : CircuitView) (view : NetView) (a b : PlainView) (verdict : Verdict) → IsCells a → IsCells b → a ≡ cells_of circuit → b ≡ map_net view → IsNetlist view
     → SameAnswers circuit.inputs a.inputs (length circuit.outputs) (length a.outputs) (IsAnswer circuit) (plain.IsAnswer a) → view.inputs ≡ circuit.inputs → length view.outputs ≡ length circuit.outputs
     → IsVerdict a b verdict → IsTrueOf circuit view verdict
-chip_truth circuit view a b verdict a_cells b_cells b_is keeps_net same inputs outputs says = truth circuit view a b a_cells b_cells same (keeps view b keeps_net b_is) inputs outputs verdict says
+chip_truth circuit view a b verdict a_cells b_cells a_is b_is keeps_net same inputs outputs says =
+    truth circuit view a b a_cells b_cells same (keeps view b keeps_net b_is) inputs outputs a_is b_is verdict says
 
 pub chip_functions : (circuit : CircuitView) (view : NetView) (a b : PlainView) (functions : ℕ) → a ≡ cells_of circuit → b ≡ map_net view → IsRefusal a b (TooMany functions) → AreManyFunctions circuit view functions
 chip_functions circuit view a b functions a_is b_is refused =

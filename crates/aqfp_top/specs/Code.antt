@@ -5,7 +5,9 @@ pub mod Loading
 pub mod Staging
 pub mod Designing
 pub mod Building
+pub mod Hearing
 pub mod Checking
 pub mod Comparing
 pub mod Writing
 pub mod Sampling
+pub mod Reporting

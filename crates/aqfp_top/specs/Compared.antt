@@ -17,20 +17,23 @@ use Rattle.shape_extract.specs.Extraction.{IsCircuitOf}
 use Rattle.decide.specs.declared.verdict.Verdict.{Verdict}
 use Rattle.decide.specs.declared.verdict.Verdict.TheVariants.{Equal}
 use Rattle.pulse_sim.specs.Shows.{Shows}
+use Rattle.pulse_sim.specs.Clocked.{ShowsByClocks}
 use Rattle.chip_texts.specs.Counts.{delay_of}
 use Rattle.aqfp_top.specs.Words.{word_at}
 use Rattle.aqfp_top.specs.Comparing.{IsTrueOf, verdict_text}
 
--- in every run, whatever the order of switching, the circuit shows the answers of the equations to these words
+-- in every run, whatever the order of switching, and by every clock whose windows keep clear at each cell and its
+-- feeds, the circuit shows the answers of the equations to these words
 pub record ShowsNet (circuit : CircuitView) (equations : NetView) (given : List (List Bool)) : Type 0 where
   pub answers : List (List Bool)
   pub are_answers : AllZip (IsAnswer equations) given answers
   pub shows : Shows circuit (delay_of circuit) given answers
+  pub by_clocks : ShowsByClocks circuit (delay_of circuit) given answers
 
 -- The bytes under GDS are a wide stream, those under LIB say a library, the layout's shapes keep all rules with its
 -- numbers and make this circuit, and the text under NET says these equations. What was printed is true of the two: they
 -- answer every word alike, and so the chip shows the netlist's answers in every run; or this is the least output, and
--- its least word, at which they differ.
+-- its least word, at which they differ; or, where they are too large to be compared, some output and word at which they do.
 pub record ComparesChip (held : Contents) (words : List (List ℕ)) (before after : Option (List ℕ)) : Type 0 where
   pub gds : List ℕ
   pub lib : List ℕ

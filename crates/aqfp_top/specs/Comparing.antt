@@ -1,7 +1,7 @@
 -- What `equal` makes of the texts of a layout, of a library and of a netlist: whether the chip's circuit answers every
 -- word as the netlist, or that the two have other counts, or too many subfunctions; and what it prints.
 use Rattle.std.specs.Prelude.{ℕ, ◌≡◌, ◌≢◌, ◌⊎◌, ◌<◌, ◌++◌, Bool, false, List, length, codes, Option, Some, None}
-use Rattle.std.specs.Prelude.{slice_index_or}
+use Rattle.std.specs.Prelude.{slice_index_or, map}
 use Rattle.std.specs.Fmt.{decimal}
 use Rattle.aq_base.specs.Store.{Contents, gained, GainsPrefix}
 use Rattle.circuit.specs.SameAnswers.{SameAnswers}
@@ -16,8 +16,8 @@ use Rattle.chip_cells.specs.CellGates.{cells_of}
 use Rattle.decide.specs.Subfunctions.{HasAtMost}
 use Rattle.decide.specs.Verdicts.{Before}
 use Rattle.decide.specs.declared.verdict.Verdict.{Verdict}
-use Rattle.decide.specs.declared.verdict.Verdict.TheVariants.{Equal, Differ}
-use Rattle.chip_texts.specs.WordLines.{word_line}
+use Rattle.decide.specs.declared.verdict.Verdict.TheVariants.{Equal, Differ, Differs}
+use Rattle.chip_texts.specs.WordLines.{digit_of, word_line}
 use Rattle.aqfp_top.specs.Checks.{ToldTexts, MakesCircuit}
 use Rattle.aqfp_top.specs.declared.fault.Fault.{Fault}
 use Rattle.aqfp_top.specs.declared.fault.Fault.TheVariants.{WriteFault, Widths, Memory}
@@ -81,18 +81,29 @@ pub record IsFirstDifference (circuit : CircuitView) (view : NetView) (output : 
   pub least_output : (k : ℕ) (x : List Bool) → k < output → length x ≡ circuit.inputs → AgreeAt circuit view k x
   pub least_word : (x : List Bool) → length x ≡ circuit.inputs → Before x word → AgreeAt circuit view output x
 
+-- the answers to the word differ in this output, and the two have too many subfunctions to be compared: other
+-- differences may come before
+pub record IsSomeDifference (circuit : CircuitView) (view : NetView) (output : ℕ) (word : List Bool) : Type 0 where
+  pub output_within : output < length circuit.outputs
+  pub long : length word ≡ circuit.inputs
+  pub differ : DifferAt circuit view output word
+  pub many : ¬ HasAtMost (cells_of circuit) (map_net view) 1000000
+
 -- what a verdict says of the circuit and of the equations: they have the same answers to every word, or this is their
--- first difference
+-- first difference, or some difference
 abbrev pub IsTrueOf : CircuitView → NetView → Verdict → Type 0
 IsTrueOf circuit view Equal =
     SameAnswers circuit.inputs view.inputs (length circuit.outputs) (length view.outputs) (IsAnswer circuit)
     (equations.IsAnswer view)
 IsTrueOf circuit view (Differ output word) = IsFirstDifference circuit view output word
+IsTrueOf circuit view (Differs output word) = IsSomeDifference circuit view output word
 
 -- the line of a verdict
 abbrev pub verdict_text : Verdict → List ℕ
 verdict_text Equal = codes "equal\n"
 verdict_text (Differ output word) = codes "differ O" ++ decimal output ++ codes " at " ++ word_line word
+verdict_text (Differs output word) =
+    codes "differ O" ++ decimal output ++ codes " at " ++ map digit_of word ++ codes ", perhaps not the least\n"
 
 -- the texts make a circuit and equations, of which the verdict is true
 pub record HasVerdict (gds lib net : List ℕ) (verdict : Verdict) : Type 0 where

@@ -1,14 +1,14 @@
 -- Which faults the commands may answer, whatever the store tells.
 use Rattle.std.specs.Prelude.{ℕ, ◌≡◌, List}
-use Rattle.aqfp_top.specs.Loads.{build_loads, check_loads, equal_loads, write_loads, IsLoaded, IsPast}
-use Rattle.aqfp_top.specs.Words.{IsMake, IsCheck, IsEqual, IsWrite, IsSample, HasForm}
+use Rattle.aqfp_top.specs.Loads.{build_loads, check_loads, equal_loads, write_loads, shapes_loads, IsLoaded, IsPast}
+use Rattle.aqfp_top.specs.Words.{IsMake, IsCheck, IsEqual, IsWrite, IsReport, IsShapes, IsSample, HasForm}
 use Rattle.aqfp_top.specs.Lines.{HasPlace}
 use Rattle.aqfp_top.specs.declared.fault.Large.TheVariants.{Shapes, Functions, Design}
 use Rattle.aqfp_top.specs.declared.fault.WriteCall.TheVariants.{Out}
 use Rattle.aqfp_top.specs.declared.fault.Fault.{Fault}
 use Rattle.aqfp_top.specs.declared.fault.Fault.TheVariants.{Usage, Absent, TooLong, ReadFault, WriteFault, BadBlif}
 use Rattle.aqfp_top.specs.declared.fault.Fault.TheVariants.{BadDesign, BadLibrary, MissingCell, TooLarge, BadStream}
-use Rattle.aqfp_top.specs.declared.fault.Fault.TheVariants.{RuleBroken, BadWords, Widths, Memory}
+use Rattle.aqfp_top.specs.declared.fault.Fault.TheVariants.{RuleBroken, BadWords, Widths, NoShape, Memory}
 
 -- of making a chip: none of words, of a stream or of rules
 abbrev pub IsBuildFault : Fault → Type 0
@@ -74,6 +74,23 @@ IsWritingFault (RuleBroken rule first second) = Unit {0}
 IsWritingFault Memory = Unit {0}
 IsWritingFault _ = ⊥
 
+-- a report's: those of a check but words
+abbrev pub IsReportFault : Fault → Type 0
+IsReportFault (WriteFault call) = call ≡ Out
+IsReportFault fault = IsWritingFault fault
+
+-- of naming shapes: those of one file and its stream, and of the numbers
+abbrev pub IsShapesFault : Fault → Type 0
+IsShapesFault (Absent place) = IsLoaded shapes_loads place
+IsShapesFault (TooLong place taken) = IsPast shapes_loads place taken
+IsShapesFault (ReadFault place) = IsLoaded shapes_loads place
+IsShapesFault (WriteFault call) = call ≡ Out
+IsShapesFault (TooLarge Shapes count) = Unit {0}
+IsShapesFault (BadStream offset kind) = Unit {0}
+IsShapesFault (NoShape number count) = Unit {0}
+IsShapesFault Memory = Unit {0}
+IsShapesFault _ = ⊥
+
 -- a sample's: none of a file, a library or words, nor of writing but to `out`
 abbrev pub IsSampleFault : Fault → Type 0
 IsSampleFault (WriteFault call) = call ≡ Out
@@ -92,5 +109,7 @@ pub record RunsOnly (words : List (List ℕ)) (fault : Fault) : Type 0 where
   pub sample : IsSample words → IsSampleFault fault
   pub equal : IsEqual words → IsEqualFault fault
   pub write : IsWrite words → IsWritingFault fault
+  pub report : IsReport words → IsReportFault fault
+  pub shapes : IsShapes words → IsShapesFault fault
   pub otherwise : ¬ HasForm words → fault ≡ Usage
   pub place : HasPlace words fault

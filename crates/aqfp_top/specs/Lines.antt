@@ -24,7 +24,7 @@ use Rattle.aqfp_top.specs.Words.{word_at}
 use Rattle.aqfp_top.specs.declared.fault.Fault.{Fault}
 use Rattle.aqfp_top.specs.declared.fault.Fault.TheVariants.{Usage, Absent, TooLong, ReadFault, WriteFault, BadBlif}
 use Rattle.aqfp_top.specs.declared.fault.Fault.TheVariants.{BadDesign, BadLibrary, MissingCell, TooLarge, BadStream}
-use Rattle.aqfp_top.specs.declared.fault.Fault.TheVariants.{RuleBroken, BadWords, Widths, Memory}
+use Rattle.aqfp_top.specs.declared.fault.Fault.TheVariants.{RuleBroken, BadWords, Widths, NoShape, Memory}
 
 -- the line about the file that a word names
 abbrev pub named : List (List ℕ) → ℕ → List ℕ → List ℕ
@@ -112,7 +112,7 @@ pair_text first second = decimal first ++ 32 ∷ decimal second
 abbrev pub line_of : List (List ℕ) → Fault → List ℕ
 line_of words Usage =
     codes "aqfp: usage: build NET LIB OUT, compact NET LIB OUT, verify GDS LIB WORDS, "
-    ++ codes "trace GDS LIB WORDS, sample N, netlist GDS LIB OUT, equal GDS LIB NET\n"
+    ++ codes "trace GDS LIB WORDS, sample N, netlist GDS LIB OUT, equal GDS LIB NET, report GDS LIB, shapes GDS A B\n"
 line_of words (Absent place) = named words place (codes ": absent\n")
 line_of words (TooLong place taken) = named words place (codes ": too long\n")
 line_of words (ReadFault place) = named words place (codes ": read failed\n")
@@ -132,6 +132,8 @@ line_of words (BadWords line) = codes "aqfp: words: line " ++ decimal line ++ co
 line_of words (Widths chip_inputs chip_outputs net_inputs net_outputs) =
     codes "aqfp: widths: " ++ pair_text chip_inputs chip_outputs ++ codes " and " ++ pair_text net_inputs net_outputs
     ++ codes "\n"
+line_of words (NoShape number count) =
+    codes "aqfp: no shape " ++ decimal number ++ codes " of " ++ decimal count ++ codes "\n"
 line_of words Memory = codes "aqfp: out of memory\n"
 
 -- some first bytes of the text were put, and all of them unless the sink refused

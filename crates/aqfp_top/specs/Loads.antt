@@ -30,6 +30,10 @@ build_loads = record { place = 1; limit = net_limit } ∷ record { place = 2; li
 abbrev pub write_loads : List Load
 write_loads = record { place = 1; limit = gds_limit } ∷ record { place = 2; limit = lib_limit } ∷ []
 
+-- GDS
+abbrev pub shapes_loads : List Load
+shapes_loads = record { place = 1; limit = gds_limit } ∷ []
+
 -- GDS, LIB and NET
 abbrev pub equal_loads : List Load
 equal_loads =

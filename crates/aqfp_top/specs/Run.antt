@@ -1,12 +1,16 @@
 -- What a run leaves in the store and prints, by its command.
 use Rattle.std.specs.Prelude.{◌≡◌, ℕ, List, Option}
 use Rattle.aq_base.specs.Store.{Contents}
-use Rattle.aqfp_top.specs.Words.{IsMake, IsMakeBy, IsVerify, IsTrace, IsEqual, IsWrite, IsSampleOf, HasForm}
+use Rattle.aqfp_top.specs.Words.{IsMake, IsMakeBy, IsVerify, IsTrace, IsEqual, IsWrite, IsReport, IsShapesOf, IsSampleOf}
+use Rattle.aqfp_top.specs.Words.{HasForm}
 use Rattle.aqfp_top.specs.Build.{BuildStands, BuildPrints}
 use Rattle.aqfp_top.specs.Checks.{CheckPrints}
 use Rattle.aqfp_top.specs.Comparing.{EqualPrints}
 use Rattle.aqfp_top.specs.Samples.{SamplePrints}
 use Rattle.aqfp_top.specs.Writing.{WriteStands, WritePrints}
+use Rattle.aqfp_top.specs.Printed.{TextPrints}
+use Rattle.aqfp_top.specs.Reported.{IsReportOf}
+use Rattle.aqfp_top.specs.Shown.{IsShownOf}
 use Rattle.aqfp_top.specs.declared.planner.Planner.{Planner}
 use Rattle.aqfp_top.specs.declared.check.Printing.TheVariants.{Answers, Fluxes}
 use Rattle.aqfp_top.specs.declared.fault.Fault.{Fault}
@@ -25,5 +29,8 @@ pub record RunPrints (told : Option Contents) (words : List (List ℕ)) (before 
   pub trace : IsTrace words → CheckPrints Fluxes told words before after fault
   pub equal : IsEqual words → EqualPrints told words before after fault
   pub write : IsWrite words → WritePrints told words before after fault
+  pub report : IsReport words → TextPrints (IsReportOf told words) before after fault
+  pub shapes : (first second : ℕ) → IsShapesOf words first second
+      → TextPrints (IsShownOf told words first second) before after fault
   pub sample : (bits : ℕ) → IsSampleOf words bits → SamplePrints bits before after fault
   pub otherwise : ¬ HasForm words → after ≡ before

@@ -5,6 +5,7 @@ use Rattle.aqfp_top.specs.Loads.{Load}
 use Rattle.aqfp_top.specs.Designs.{HasNetlist, HasDesign, HasTooMuch, IsNetlistFault, IsPlainFault, IsCellsFault}
 use Rattle.aqfp_top.specs.Designs.{IsPlanFault}
 use Rattle.aqfp_top.specs.Checks.{IsStreamFault, IsSizeFault, IsRuleFault, IsWordsFault}
+use Rattle.aqfp_top.specs.Shown.{IsNumberFault}
 use Rattle.aqfp_top.specs.Comparing.{IsWidthsFault, HasManyFunctions}
 use Rattle.aqfp_top.specs.declared.planner.Planner.{Planner}
 use Rattle.aqfp_top.specs.declared.planner.Planner.TheVariants.{Layered, Compact}
@@ -32,6 +33,7 @@ pub data Stage : Type 0 where
   Words : (gds lib text : List ℕ) → Stage
   Counts : (gds lib net : List ℕ) → Stage
   Comparison : (gds lib net : List ℕ) → Stage
+  Numbers : (gds : List ℕ) (first second : ℕ) → Stage
 
 -- the words have no form
 abbrev pub IsFormFault : Fault → Type 0
@@ -61,6 +63,7 @@ Finds (Rules gds lib) fault = IsRuleFault gds lib fault
 Finds (Words gds lib text) fault = IsWordsFault gds lib text fault
 Finds (Counts gds lib net) fault = IsWidthsFault gds lib net fault
 Finds (Comparison gds lib net) fault = ⊥
+Finds (Numbers gds first second) fault = IsNumberFault gds first second fault
 
 -- the stage finds no fault
 abbrev pub FindsNone : Stage → Type 0

@@ -10,6 +10,7 @@ use Rattle.layout_rules.specs.Rules.{KeepsRules}
 use Rattle.chip_circuit.specs.Circuits.{CircuitView}
 use Rattle.shape_extract.specs.Extraction.{IsCircuitOf}
 use Rattle.pulse_sim.specs.Shows.{Shows}
+use Rattle.pulse_sim.specs.Clocked.{ShowsByClocks}
 use Rattle.chip_texts.specs.Counts.{delay_of}
 use Rattle.chip_texts.specs.WordsText.{words_of, SaysWords}
 use Rattle.chip_texts.specs.WordLines.{answers_text}
@@ -35,13 +36,15 @@ pub record ChecksChip (held : Contents) (words : List (List ℕ)) (circuit : Cir
   pub text_says : SaysWords circuit.inputs text
   pub given_is : given ≡ words_of text
 
--- The chip's counts were printed, and for each word the answer that the circuit shows in every order of switching.
+-- The chip's counts were printed, and for each word the answer that the circuit shows in every order of switching, and
+-- by every clock whose windows keep clear at each cell and its feeds.
 pub record VerifiesChip (held : Contents) (words : List (List ℕ)) (before after : Option (List ℕ)) : Type 0 where
   pub circuit : CircuitView
   pub given : List (List Bool)
   pub checks : ChecksChip held words circuit given
   pub answers : List (List Bool)
   pub shows : Shows circuit (delay_of circuit) given answers
+  pub by_clocks : ShowsByClocks circuit (delay_of circuit) given answers
   pub printed : after ≡ gained before (answers_text circuit answers)
 
 -- The chip's counts were printed, and the flux of each cell at each time of the settled run.

@@ -1,12 +1,12 @@
 -- The words of a command line: which forms they may have.
-use Rattle.std.specs.Prelude.{ℕ, ◌≡◌, ◌≤◌, ◌⊎◌, List, [], String, map, slice_get, codes, unwrap_or, length}
+use Rattle.std.specs.Prelude.{ℕ, ◌≡◌, ◌<◌, ◌≤◌, ◌^◌, ◌⊎◌, List, [], String, map, slice_get, codes, unwrap_or, length}
 use Rattle.std.specs.Fmt.{decimal}
 use Rattle.std.specs.String.{string_bytes}
 use Rattle.std.specs.declared.alloc.Global.{Global}
 use Rattle.aqfp_top.specs.declared.planner.Planner.{Planner}
 use Rattle.aqfp_top.specs.declared.planner.Planner.TheVariants.{Layered, Compact}
 use Rattle.aqfp_top.specs.declared.words.Form.{Form}
-use Rattle.aqfp_top.specs.declared.words.Form.TheVariants.{Make, Verify, Trace, Equal, Write, Sample, Wrong}
+use Rattle.aqfp_top.specs.declared.words.Form.TheVariants.{Make, Verify, Trace, Equal, Write, Report, Shapes, Sample, Wrong}
 
 -- the bytes of each word
 abbrev pub spelled : List (String Global) → List (List ℕ)
@@ -49,6 +49,28 @@ IsEqual words = (length words ≡ 4) × (word_at words 0 ≡ codes "equal")
 abbrev pub IsWrite : List (List ℕ) → Type 0
 IsWrite words = (length words ≡ 4) × (word_at words 0 ≡ codes "netlist")
 
+-- report GDS LIB
+abbrev pub IsReport : List (List ℕ) → Type 0
+IsReport words = (length words ≡ 3) × (word_at words 0 ≡ codes "report")
+
+-- the text writes this number, which has at most 64 bits
+pub record IsNumber (text : List ℕ) (number : ℕ) : Type 0 where
+  pub spelled_so : text ≡ decimal number
+  pub fits : number < 2 ^ 64
+
+-- shapes GDS A B, A and B being these numbers
+pub record IsShapesOf (words : List (List ℕ)) (first second : ℕ) : Type 0 where
+  pub four : length words ≡ 4
+  pub named : word_at words 0 ≡ codes "shapes"
+  pub first_is : IsNumber (word_at words 2) first
+  pub second_is : IsNumber (word_at words 3) second
+
+-- shapes GDS A B
+pub record IsShapes (words : List (List ℕ)) : Type 0 where
+  pub first : ℕ
+  pub second : ℕ
+  pub of_numbers : IsShapesOf words first second
+
 -- one of the two commands that check a chip
 abbrev pub IsCheck : List (List ℕ) → Type 0
 IsCheck words = IsVerify words ⊎ IsTrace words
@@ -70,9 +92,11 @@ pub record IsSample (words : List (List ℕ)) : Type 0 where
   pub bits : ℕ
   pub of_bits : IsSampleOf words bits
 
--- the words are one of the seven commands with its arguments, the number of a sample being from 1 to 64
+-- the words are one of the nine commands with its arguments, the number of a sample being from 1 to 64
 abbrev pub HasForm : List (List ℕ) → Type 0
-HasForm words = IsMake words ⊎ (IsCheck words ⊎ (IsSample words ⊎ (IsEqual words ⊎ IsWrite words)))
+HasForm words =
+    IsMake words ⊎ (IsCheck words ⊎ (IsSample words ⊎ (IsEqual words ⊎ (IsWrite words
+    ⊎ (IsReport words ⊎ IsShapes words)))))
 
 -- the words have this form
 abbrev pub IsOfForm : List (List ℕ) → Form → Type 0
@@ -81,5 +105,7 @@ IsOfForm words Verify = IsVerify words
 IsOfForm words Trace = IsTrace words
 IsOfForm words Equal = IsEqual words
 IsOfForm words Write = IsWrite words
+IsOfForm words Report = IsReport words
+IsOfForm words (Shapes first second) = IsShapesOf words first second
 IsOfForm words (Sample bits) = IsSampleOf words bits
 IsOfForm words Wrong = ¬ HasForm words

@@ -7,9 +7,11 @@ ghost use Rattle.chip_texts.specs.WordsText.{words_of, SaysWords};
 ghost use Rattle.aqfp_top.specs.Words.{spelled};
 ghost use Rattle.aqfp_top.specs.Counted.{HasFaults, FailedLoad};
 ghost use Rattle.aqfp_top.specs.Stages.{IsFirst, Answers};
+ghost use Rattle.aqfp_top.specs.Loads.{check_loads};
 ghost use Rattle.aqfp_top.specs.Due.{check_stages, circuit_stages, judging_stages};
 ghost use Rattle.aqfp_top.specs.Faults.{IsCheckFault};
 ghost use Rattle.aqfp_top.specs.Histories.{HeardChecked};
+ghost use Rattle.aqfp_top.specs.HeardDue.{DueOfThree};
 ghost use Rattle.aqfp_top.specs.Checks.{MakesCircuit, CheckPrints, text_of};
 ghost use Rattle.aqfp_top.specs.Code.Staging.{ToldAnswers};
 ghost use Rattle.aqfp_top.specs.Code.Building.{IsOutOrMemory};
@@ -79,7 +81,7 @@ fn print<O: Sink>(
 }
 
 /// Judges a chip's stream, a library and words, and prints the chip's counts and what its circuit shows.
-#[tactic(auto, using(crate::proofs::CheckEnds::ends))]
+#[tactic(auto, using(crate::proofs::CheckEnds::ends, crate::proofs::HearingDue::refused_three))]
 pub fn check<F: Files, O: Sink>(
     alloc: Global,
     printing: Printing,
@@ -94,6 +96,8 @@ pub fn check<F: Files, O: Sink>(
         (record { reads = F.read_faults files.new; writes = F.write_faults files.new; closes = F.close_faults files.new; outs = O.faults out.new }) (result_err result) }
     ensures failed { IsSome (F.told files.old) → FailedLoad (F.load_failed files.new) (spelled words.now) (result_err result) }
     ensures heard { OnOk result (HeardChecked printing (F.heard files.old) (F.heard files.new) (spelled words.now) (O.written out.old) (O.written out.new)) }
+    ensures due { DueOfThree check_loads judging_stages (F.heard files.old) (F.heard files.new) (spelled words.now)
+        (result_err result) }
     ensures only { IfErr result IsCheckFault }
     ensures told { F.told files.new ≡ F.told files.old }
     ensures name { F.opened files.new ≡ F.opened files.old }

@@ -106,6 +106,11 @@ pub enum Fault {
         net_inputs: u32,
         net_outputs: u32,
     },
+    /// There are so many shapes and labels, and none has this number, counted from 0.
+    NoShape {
+        number: u64,
+        count: u64,
+    },
     /// Want of memory.
     Memory,
 }
@@ -133,6 +138,7 @@ impl Fault {
             Fault::Memory => 14,
             Fault::BadDesign { .. } => 16,
             Fault::Widths { .. } => 17,
+            Fault::NoShape { .. } => 18,
         }
     }
 }

@@ -1,8 +1,10 @@
 //! The top call.
 #![tactic(auto)]
 
+mod accepted;
 mod build;
 mod check;
+mod chip_report;
 mod counts;
 mod design;
 mod due;
@@ -18,10 +20,15 @@ mod reading;
 mod report;
 mod run;
 mod sample;
+mod shapes;
 mod store;
 mod words;
 mod write;
 
+pub use accepted::{
+    each_layout_is_checked, each_netlist_is_written, each_pair_is_compared, each_report_is_printed,
+    each_sample_is_made, each_shape_is_shown,
+};
 pub use due::{each_design_is_built, one_answer_is_due};
 pub use fault::{Fault, Large, WriteCall};
 pub use joined::built_is_verified;

@@ -1,9 +1,9 @@
 // The top call.
-ghost use Rattle.std.specs.Prelude.{◌≡◌, ◌⊎◌, Some, None, IsSome, IfSome, IfOk, IfErr};
+ghost use Rattle.std.specs.Prelude.{◌≡◌, ◌⊎◌, ℕ, Some, None, IsSome, IfSome, IfOk, IfErr};
 ghost use Rattle.std.specs.Result.{result_err};
 ghost use Rattle.aq_base.specs.Causes.{Rose};
 ghost use Rattle.aq_base.specs.Store.{Contents};
-ghost use Rattle.aqfp_top.specs.Words.{spelled, IsMakeBy, IsVerify, IsTrace, IsEqual, IsWrite, HasForm};
+ghost use Rattle.aqfp_top.specs.Words.{spelled, IsMakeBy, IsVerify, IsTrace, IsEqual, IsWrite, IsReport, IsShapesOf, IsSampleOf, HasForm};
 ghost use Rattle.aqfp_top.specs.Statuses.{status_of};
 ghost use Rattle.aqfp_top.specs.Lines.{Reports};
 ghost use Rattle.aqfp_top.specs.Due.{MayAnswer};
@@ -12,22 +12,28 @@ ghost use Rattle.aqfp_top.specs.Counted.{HasFaults, FailedLoad};
 ghost use Rattle.aqfp_top.specs.Build.{IsBuilt, IsDone};
 ghost use Rattle.aqfp_top.specs.Chips.{BuildsChip};
 ghost use Rattle.aqfp_top.specs.Histories.{HeardBuilt, HearsChip, HeardWritten, HearsNetlist, HeardChecked, HearsAnswers, HearsFluxes, HeardCompared, HearsVerdict};
+ghost use Rattle.aqfp_top.specs.HeardSamples.{HearsSample};
+ghost use Rattle.aqfp_top.specs.HeardDue.{HearsDue};
 ghost use Rattle.aqfp_top.specs.declared.planner.Planner.{Planner};
 ghost use Rattle.aqfp_top.specs.declared.check.Printing.{Printing};
 ghost use Rattle.aqfp_top.specs.Verified.{VerifiesChip, TracesChip};
 ghost use Rattle.aqfp_top.specs.Compared.{ComparesChip};
 ghost use Rattle.aqfp_top.specs.Writing.{IsRead, IsWritten};
 ghost use Rattle.aqfp_top.specs.WrittenNetlist.{WritesNetlist};
+ghost use Rattle.aqfp_top.specs.Reported.{ReportsChip, HearsReport};
+ghost use Rattle.aqfp_top.specs.Shown.{ShowsShapes, HearsShapes};
 ghost use Rattle.aqfp_top.specs.Run.{RunStands, RunPrints};
 ghost use Rattle.aqfp_top.specs.Code.Staging.{ToldMayAnswer};
 ghost use Rattle.aqfp_top.specs.declared.fault.Fault.{Fault};
 
 use crate::build::build;
 use crate::check::{Printing, check};
+use crate::chip_report::report;
 use crate::equal::equal;
 use crate::fault::Fault;
 use crate::report::say;
 use crate::sample::sample;
+use crate::shapes::shapes;
 use crate::words::{Form, form_of};
 use crate::write::write_netlist;
 use aq_base::{Files, Sink};
@@ -36,6 +42,7 @@ use chip_texts::answers_are_shown;
 use drawn_chip::drawn_chip_realises;
 use gds_records::{one_layout, written_is_read};
 use layout_make::drawing_laws;
+use pulse_sim::every_clock;
 use std::alloc::Global;
 
 /// How a run ended: the status of the program, and the fault where the status is not 0.
@@ -45,7 +52,7 @@ pub struct Ending {
     pub fault: Option<Fault>,
 }
 
-#[tactic(auto, using(crate::proofs::Runs::runs))]
+#[tactic(auto, using(crate::proofs::Runs::runs, crate::proofs::HearingDue::dues))]
 fn work<F: Files, O: Sink>(
     alloc: Global,
     words: &[String],
@@ -67,6 +74,9 @@ fn work<F: Files, O: Sink>(
     ensures traced { IfOk result (λ _. IsTrace (spelled words.now) → HeardChecked Printing.Fluxes (F.heard files.old) (F.heard files.new) (spelled words.now) (O.written out.old) (O.written out.new)) }
     ensures compared { IfOk result (λ _. IsEqual (spelled words.now) → HeardCompared (F.heard files.old) (F.heard files.new) (spelled words.now) (O.written out.old) (O.written out.new)) }
     ensures netlisted { IfOk result (λ _. IsWrite (spelled words.now) → HeardWritten (F.heard files.old) (F.heard files.new) (spelled words.now) (O.written out.old) (O.written out.new)) }
+    ensures reported { IfOk result (λ _. IsReport (spelled words.now) → HearsReport (F.heard files.old) (F.heard files.new) (spelled words.now) (O.written out.old) (O.written out.new)) }
+    ensures shown { IfOk result (λ _. (first second : ℕ) → IsShapesOf (spelled words.now) first second → HearsShapes (F.heard files.old) (F.heard files.new) (spelled words.now) first second (O.written out.old) (O.written out.new)) }
+    ensures due { HearsDue (F.heard files.old) (F.heard files.new) (spelled words.now) (result_err result) }
     ensures only { IfErr result (RunsOnly (spelled words.now)) }
     ensures shut { F.opened files.new ≡ None }
 {
@@ -76,6 +86,8 @@ fn work<F: Files, O: Sink>(
         Form::Trace => check(alloc, Printing::Fluxes, words, files, out),
         Form::Equal => equal(alloc, words, files, out),
         Form::Write => write_netlist(alloc, words, files, out),
+        Form::Report => report(alloc, words, files, out),
+        Form::Shapes { first, second } => shapes(alloc, words, first, second, files, out),
         Form::Sample { bits } => sample(alloc, bits, out),
         Form::Wrong => Err(Fault::Usage),
     }
@@ -102,6 +114,10 @@ pub fn aqfp_run<F: Files, O: Sink, E: Sink>(
         (record { reads = F.read_faults files.new; writes = F.write_faults files.new; closes = F.close_faults files.new; outs = O.faults out.new }) result.fault }
     ensures failed { IsSome (F.told files.old) → FailedLoad (F.load_failed files.new) (spelled words.now) result.fault }
 
+    // The same of any store, the system's files too. By what was heard the answer says why a load was refused, or it is
+    // what the texts may answer that all loads gave.
+    ensures hears_due { HearsDue (F.heard files.old) (F.heard files.new) (spelled words.now) result.fault }
+
     // Which faults a command may answer, whatever the store tells; the usage where there is none.
     ensures only { IfSome result.fault (RunsOnly (spelled words.now)) }
     ensures usage { ¬ HasForm (spelled words.now) → result.fault ≡ Some Fault.Usage }
@@ -118,7 +134,8 @@ pub fn aqfp_run<F: Files, O: Sink, E: Sink>(
     ensures planned { (planner : Planner) → IsMakeBy planner (spelled words.now) → result.fault ≡ None
         → HeardBuilt planner (F.heard files.old) (F.heard files.new) (spelled words.now) (O.written out.old) (O.written out.new) }
 
-    // What a check that ends well has shown: the answers to the words, whatever the order of switching, or the fluxes.
+    // What a check that ends well has shown: the answers to the words, whatever the order of switching and by every
+    // clock whose windows keep clear, or the fluxes.
     ensures verified { (held : Contents) → F.told files.old ≡ Some held → IsVerify (spelled words.now) → result.fault ≡ None
         → VerifiesChip held (spelled words.now) (O.written out.old) (O.written out.new) }
     ensures traced { (held : Contents) → F.told files.old ≡ Some held → IsTrace (spelled words.now) → result.fault ≡ None
@@ -146,6 +163,22 @@ pub fn aqfp_run<F: Files, O: Sink, E: Sink>(
     ensures hears_netlist { IsWrite (spelled words.now) → result.fault ≡ None
         → HearsNetlist (F.heard files.old) (F.heard files.new) (spelled words.now) (O.written out.old) (O.written out.new) }
 
+    // What a sample that ends well has printed. It asks nothing of the store.
+    ensures hears_sample { (bits : ℕ) → IsSampleOf (spelled words.now) bits → result.fault ≡ None
+        → HearsSample bits (F.heard files.old) (F.heard files.new) (O.written out.old) (O.written out.new) }
+
+    // What a `report` that ends well has printed: the counts of the chip, its cells by kind, its size and its wires.
+    ensures reported { (held : Contents) → F.told files.old ≡ Some held → IsReport (spelled words.now) → result.fault ≡ None
+        → ReportsChip held (spelled words.now) (O.written out.old) (O.written out.new) }
+    ensures hears_report { IsReport (spelled words.now) → result.fault ≡ None
+        → HearsReport (F.heard files.old) (F.heard files.new) (spelled words.now) (O.written out.old) (O.written out.new) }
+
+    // What a `shapes` that ends well has printed: the lines of the shapes or labels of two numbers.
+    ensures shown { (held : Contents) (first second : ℕ) → F.told files.old ≡ Some held → IsShapesOf (spelled words.now) first second → result.fault ≡ None
+        → ShowsShapes held (spelled words.now) first second (O.written out.old) (O.written out.new) }
+    ensures hears_shapes { (first second : ℕ) → IsShapesOf (spelled words.now) first second → result.fault ≡ None
+        → HearsShapes (F.heard files.old) (F.heard files.new) (spelled words.now) first second (O.written out.old) (O.written out.new) }
+
     // What is left.
     ensures stands { RunStands (F.told files.old) (F.told files.new) (spelled words.now) result.fault }
     ensures prints { RunPrints (F.told files.old) (spelled words.now) (O.written out.old) (O.written out.new) result.fault }
@@ -158,6 +191,7 @@ pub fn aqfp_run<F: Files, O: Sink, E: Sink>(
     one_layout();
     drawn_chip_realises();
     answers_are_shown();
+    every_clock();
     written_answers();
     match work(alloc, words, files, out) {
         Ok(()) => Ending {

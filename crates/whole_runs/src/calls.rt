@@ -168,6 +168,8 @@ fn each_put_fails(rt: HostRuntime) -> Result<(), Fail> {
         "trace chip lib words",
         "netlist chip lib out",
         "equal chip lib net",
+        "report chip lib",
+        "shapes chip 0 16",
         "sample 1",
     ];
     for line in lines {

@@ -22,6 +22,8 @@ mod large;
 #[cfg(test)]
 mod refusals;
 #[cfg(test)]
+mod reported;
+#[cfg(test)]
 mod sample;
 #[cfg(test)]
 mod wide;

@@ -1,0 +1,371 @@
+-- From what the steps of a command hear to which answer is due by it.
+use Rattle.std.proofs.Common.{ℕ, ◌≡◌, ◌≤◌, List, [], ◌∷◌, length, Option, Some, None, Result, Ok, Err, IfErr, OnOk}
+use Rattle.std.proofs.Common.{refl, ap, subst, inl, inr, ◌∙◌}
+use Rattle.std.specs.Result.{result_err}
+use Rattle.aq_base.specs.declared.store.StoreRefusal.TheVariants as store
+use Rattle.aq_base.specs.Heard.{Event, Loaded, Created, NotCreated, NotClosed, took}
+use Rattle.aqfp_top.specs.Words.{word_at, IsMakeBy, IsVerify, IsTrace, IsEqual, IsWrite, IsReport, IsShapesOf, IsSampleOf, HasForm}
+use Rattle.aqfp_top.specs.Loads.{Load, net_limit, lib_limit, gds_limit, words_limit}
+use Rattle.aqfp_top.specs.Loads.{build_loads, check_loads, equal_loads, write_loads, shapes_loads}
+use Rattle.aqfp_top.specs.Stages.{Stage, IsFirst, Answers}
+use Rattle.aqfp_top.specs.Due.{design_stages, circuit_stages, judging_stages, comparing_stages, showing_stages, sample_stages}
+use Rattle.aqfp_top.specs.Histories.{loaded, loaded_three, stored}
+use Rattle.aqfp_top.specs.HeardDue.{HearsRefusal, RefusesOne, DueOfThree, StoresOut, HeardAfter}
+use Rattle.aqfp_top.specs.HeardDue.{DueOfOne, DueOfTwo, ReadsTwo, DueOfReading, DueByForm, HearsDue}
+use Rattle.aqfp_top.specs.Code.Hearing.{HeardStored}
+use Rattle.aqfp_top.specs.Code.Building.{IsMakeFault, IsStoreFault, IsOutOrMemory}
+use Rattle.aqfp_top.specs.Code.Writing.{IsReadingFault}
+use Rattle.aqfp_top.specs.declared.planner.Planner.{Planner}
+use Rattle.aqfp_top.specs.declared.words.Form.TheVariants.{Make, Verify, Trace, Equal, Write, Report, Shapes, Sample, Wrong}
+use Rattle.aqfp_top.specs.declared.fault.Fault.{Fault}
+use Rattle.aqfp_top.specs.declared.fault.Fault.TheVariants.{Usage}
+use Rattle.aqfp_top.proofs.Forms.{one_form}
+use Rattle.aqfp_top.proofs.Hearing.{heard_built}
+use Rattle.aqfp_top.proofs.HearingNetlists.{heard_written}
+use Rattle.aqfp_top.proofs.Staging.{load_at}
+use Rattle.aqfp_top.proofs.EachFault.{each_circuit, each_made, each_reading, each_store, each_out}
+
+-- Loads that were refused.
+
+refused_now : (load : Load) (loads : List Load) (words : List (List ℕ)) (heard heard' : List Event) (fault : Fault)
+    → HearsRefusal load.place load.limit words heard heard' fault → RefusesOne (load ∷ loads) words heard heard' fault
+unfolding RefusesOne
+refused_now load loads words heard heard' fault refused = inl refused
+
+refused_later : (load : Load) (loads : List Load) (words : List (List ℕ)) (heard now heard' : List Event)
+    (bytes : List ℕ) (fault : Fault) → length bytes ≤ load.limit → now ≡ Loaded (word_at words load.place) bytes ∷ heard
+    → RefusesOne loads words now heard' fault → RefusesOne (load ∷ loads) words heard heard' fault
+unfolding RefusesOne
+refused_later load loads words heard now heard' bytes fault fits is refused = inr (record {
+  bytes = bytes;
+  fits = fits;
+  holds = subst (λ h. RefusesOne loads words h heard' fault) is refused;
+})
+
+-- the first load
+first_refused : (place limit : ℕ) (loads : List Load) (words : List (List ℕ)) (heard heard' : List Event)
+    (fault : Fault) → HearsRefusal place limit words heard heard' fault
+    → RefusesOne (load_at place limit ∷ loads) words heard heard' fault
+first_refused place limit loads words heard heard' fault refused =
+    refused_now (load_at place limit) loads words heard heard' fault refused
+
+-- the second, or one behind it
+second_refused : (limit : ℕ) (loads : List Load) (words : List (List ℕ)) (heard now heard' : List Event)
+    (bytes : List ℕ) (fault : Fault) → length bytes ≤ limit → now ≡ Loaded (word_at words 1) bytes ∷ heard
+    → RefusesOne loads words now heard' fault → RefusesOne (load_at 1 limit ∷ loads) words heard heard' fault
+second_refused limit loads words heard now heard' bytes fault fits is refused =
+    refused_later (load_at 1 limit) loads words heard now heard' bytes fault fits is refused
+
+pub net_refused : (words : List (List ℕ)) (heard heard' : List Event) (fault : Fault)
+    → HearsRefusal 1 net_limit words heard heard' fault → RefusesOne build_loads words heard heard' fault
+net_refused words heard heard' fault refused =
+    first_refused 1 net_limit (load_at 2 lib_limit ∷ []) words heard heard' fault refused
+
+pub net_lib_refused : (words : List (List ℕ)) (heard now heard' : List Event) (net : List ℕ) (fault : Fault)
+    → length net ≤ net_limit → now ≡ Loaded (word_at words 1) net ∷ heard
+    → HearsRefusal 2 lib_limit words now heard' fault → RefusesOne build_loads words heard heard' fault
+net_lib_refused words heard now heard' net fault fits is refused =
+    second_refused net_limit (load_at 2 lib_limit ∷ []) words heard now heard' net fault fits is
+    (first_refused 2 lib_limit [] words now heard' fault refused)
+
+pub chip_refused : (words : List (List ℕ)) (heard heard' : List Event) (fault : Fault)
+    → HearsRefusal 1 gds_limit words heard heard' fault → RefusesOne write_loads words heard heard' fault
+chip_refused words heard heard' fault refused =
+    first_refused 1 gds_limit (load_at 2 lib_limit ∷ []) words heard heard' fault refused
+
+pub chip_lib_refused : (words : List (List ℕ)) (heard now heard' : List Event) (gds : List ℕ) (fault : Fault)
+    → length gds ≤ gds_limit → now ≡ Loaded (word_at words 1) gds ∷ heard
+    → HearsRefusal 2 lib_limit words now heard' fault → RefusesOne write_loads words heard heard' fault
+chip_lib_refused words heard now heard' gds fault fits is refused =
+    second_refused gds_limit (load_at 2 lib_limit ∷ []) words heard now heard' gds fault fits is
+    (first_refused 2 lib_limit [] words now heard' fault refused)
+
+pub gds_refused : (words : List (List ℕ)) (heard heard' : List Event) (fault : Fault)
+    → HearsRefusal 1 gds_limit words heard heard' fault → RefusesOne check_loads words heard heard' fault
+gds_refused words heard heard' fault refused =
+    first_refused 1 gds_limit (load_at 2 lib_limit ∷ load_at 3 words_limit ∷ []) words heard heard' fault refused
+
+pub lib_refused : (words : List (List ℕ)) (heard now heard' : List Event) (gds : List ℕ) (fault : Fault)
+    → length gds ≤ gds_limit → now ≡ Loaded (word_at words 1) gds ∷ heard
+    → HearsRefusal 2 lib_limit words now heard' fault → RefusesOne check_loads words heard heard' fault
+lib_refused words heard now heard' gds fault fits is refused =
+    second_refused gds_limit (load_at 2 lib_limit ∷ load_at 3 words_limit ∷ []) words heard now heard' gds fault fits is
+    (first_refused 2 lib_limit (load_at 3 words_limit ∷ []) words now heard' fault refused)
+
+pub third_refused : (words : List (List ℕ)) (heard now later heard' : List Event) (gds lib : List ℕ) (fault : Fault)
+    → length gds ≤ gds_limit → now ≡ Loaded (word_at words 1) gds ∷ heard
+    → length lib ≤ lib_limit → later ≡ Loaded (word_at words 2) lib ∷ now
+    → HearsRefusal 3 words_limit words later heard' fault → RefusesOne check_loads words heard heard' fault
+third_refused words heard now later heard' gds lib fault fits is lib_fits lib_is refused =
+    second_refused gds_limit (load_at 2 lib_limit ∷ load_at 3 words_limit ∷ []) words heard now heard' gds fault fits is
+    (refused_later (load_at 2 lib_limit) (load_at 3 words_limit ∷ []) words now later heard' lib fault lib_fits lib_is
+    (first_refused 3 words_limit [] words later heard' fault refused))
+
+pub ruleset build_refusals = (net_refused, net_lib_refused)
+
+pub ruleset write_refusals = (chip_refused, chip_lib_refused)
+
+pub ruleset check_refusals = (gds_refused, lib_refused, third_refused)
+
+-- Three texts.
+
+pub refused_three : (loads : List Load) (stages : List ℕ → List ℕ → List ℕ → List Stage) (heard heard' : List Event)
+    (words : List (List ℕ)) (fault : Fault) → RefusesOne loads words heard heard' fault
+    → DueOfThree loads stages heard heard' words (Some fault)
+unfolding DueOfThree
+refused_three loads stages heard heard' words fault refused = inl refused
+
+pub judged_three : (loads : List Load) (stages : List ℕ → List ℕ → List ℕ → List Stage) (heard heard' : List Event)
+    (words : List (List ℕ)) (gds lib third lib' third' : List ℕ) (answer : Option Fault)
+    → heard' ≡ loaded_three heard words gds lib third
+    → length gds ≤ gds_limit → length lib ≤ lib_limit → length third ≤ words_limit → lib' ≡ lib → third' ≡ third
+    → Answers (stages gds lib' third') answer → DueOfThree loads stages heard heard' words answer
+unfolding DueOfThree
+judged_three loads stages heard heard' words gds lib third lib' third' answer is a b c l t answers = inr (record {
+  gds = gds;
+  lib = lib;
+  third = third;
+  gds_fits = a;
+  lib_fits = b;
+  third_fits = c;
+  heard_is = is;
+  answers = subst (λ x. Answers (stages gds x third) answer) l
+      (subst (λ x. Answers (stages gds lib' x) answer) t answers);
+})
+
+-- what printing answers, where nothing was due
+out_answers : (stages : List Stage) (result : Result (Unit {0}) Fault) → IsFirst stages None
+    → IfErr result IsOutOrMemory → Answers stages (result_err result)
+out_answers stages result well only = each_out (λ r. Answers stages (result_err r)) well well tt result only
+
+pub printed_three : (loads : List Load) (stages : List ℕ → List ℕ → List ℕ → List Stage) (heard heard' : List Event)
+    (words : List (List ℕ)) (gds lib third lib' third' : List ℕ) (result : Result (Unit {0}) Fault)
+    → heard' ≡ loaded_three heard words gds lib third
+    → length gds ≤ gds_limit → length lib ≤ lib_limit → length third ≤ words_limit → lib' ≡ lib → third' ≡ third
+    → IsFirst (stages gds lib' third') None → IfErr result IsOutOrMemory
+    → DueOfThree loads stages heard heard' words (result_err result)
+printed_three loads stages heard heard' words gds lib third lib' third' result is a b c l t well only =
+    judged_three loads stages heard heard' words gds lib third lib' third' (result_err result) is a b c l t
+    (out_answers (stages gds lib' third') result well only)
+
+-- Two texts, before anything is written.
+
+pub refused_reading : (loads : List Load) (limit : ℕ) (stages : List ℕ → List ℕ → List Stage)
+    (heard heard' : List Event) (words : List (List ℕ)) (fault : Fault) → RefusesOne loads words heard heard' fault
+    → DueOfReading loads limit stages heard heard' words (Some fault)
+unfolding DueOfReading
+refused_reading loads limit stages heard heard' words fault refused = inl refused
+
+pub reads_two : (limit : ℕ) (stages : List ℕ → List ℕ → List Stage) (heard heard' : List Event)
+    (words : List (List ℕ)) (first lib first' lib' : List ℕ) (answer : Option Fault)
+    → heard' ≡ loaded heard words first lib → length first ≤ limit → length lib ≤ lib_limit
+    → first' ≡ first → lib' ≡ lib → Answers (stages first' lib') answer
+    → ReadsTwo limit stages heard heard' words answer
+reads_two limit stages heard heard' words first lib first' lib' answer is a b f l answers = record {
+  first = first;
+  lib = lib;
+  first_fits = a;
+  lib_fits = b;
+  heard_is = is;
+  answers = subst (λ x. Answers (stages x lib) answer) f (subst (λ x. Answers (stages first' x) answer) l answers);
+}
+
+pub due_of_reading : (loads : List Load) (limit : ℕ) (stages : List ℕ → List ℕ → List Stage)
+    (heard heard' : List Event) (words : List (List ℕ)) (answer : Option Fault)
+    → ReadsTwo limit stages heard heard' words answer → DueOfReading loads limit stages heard heard' words answer
+unfolding DueOfReading
+due_of_reading loads limit stages heard heard' words answer reads = inr reads
+
+-- of a step whose answer is the last
+pub well_read : {A : Type 0} (limit : ℕ) (stages : List ℕ → List ℕ → List Stage) (heard heard' : List Event)
+    (words : List (List ℕ)) (first lib first' lib' : List ℕ) (result : Result A Fault)
+    → heard' ≡ loaded heard words first lib → length first ≤ limit → length lib ≤ lib_limit
+    → first' ≡ first → lib' ≡ lib → OnOk result (IsFirst (stages first' lib') None)
+    → OnOk result (ReadsTwo limit stages heard heard' words None)
+well_read limit stages heard heard' words first lib first' lib' (Ok x) is a b f l well =
+    reads_two limit stages heard heard' words first lib first' lib' None is a b f l well
+well_read limit stages heard heard' words first lib first' lib' (Err fault) is a b f l well = tt
+
+pub badly_read : {A : Type 0} (loads : List Load) (limit : ℕ) (stages : List ℕ → List ℕ → List Stage)
+    (heard heard' : List Event) (words : List (List ℕ)) (first lib first' lib' : List ℕ) (result : Result A Fault)
+    → heard' ≡ loaded heard words first lib → length first ≤ limit → length lib ≤ lib_limit
+    → first' ≡ first → lib' ≡ lib → IfErr result (λ fault. Answers (stages first' lib') (Some fault))
+    → IfErr result (λ fault. DueOfReading loads limit stages heard heard' words (Some fault))
+badly_read loads limit stages heard heard' words first lib first' lib' (Ok x) is a b f l bad = tt
+badly_read loads limit stages heard heard' words first lib first' lib' (Err fault) is a b f l bad =
+    due_of_reading loads limit stages heard heard' words (Some fault)
+    (reads_two limit stages heard heard' words first lib first' lib' (Some fault) is a b f l bad)
+
+-- One text.
+
+pub load_due : (stages : List ℕ → List Stage) (words : List (List ℕ)) (heard heard' : List Event) (fault : Fault)
+    → HearsRefusal 1 gds_limit words heard heard' fault → DueOfOne stages heard heard' words (Some fault)
+unfolding DueOfOne RefusesOne
+load_due stages words heard heard' fault refused = inl (inl refused)
+
+pub judged_one : (stages : List ℕ → List Stage) (words : List (List ℕ)) (heard heard' : List Event) (gds : List ℕ)
+    (answer : Option Fault) → heard' ≡ Loaded (word_at words 1) gds ∷ heard → length gds ≤ gds_limit
+    → Answers (stages gds) answer → DueOfOne stages heard heard' words answer
+unfolding DueOfOne
+judged_one stages words heard heard' gds answer is fits answers =
+    inr (record { gds = gds; gds_fits = fits; heard_is = is; answers = answers })
+
+-- Two texts, and then a file is written.
+
+-- nothing was heard after the loads, where nothing was to be written
+circuit_after : (heard heard' : List Event) (words : List (List ℕ)) → heard' ≡ heard → (fault : Fault)
+    → IsReadingFault fault → HeardAfter heard heard' words (Some fault)
+circuit_after heard heard' words same fault only =
+    each_reading (λ f. HeardAfter heard heard' words (Some f)) (λ p l. same) (λ p t l. same) (λ p l. same)
+    (each_circuit (λ f. HeardAfter heard heard' words (Some f)) (λ o k. same) (λ n. same) (λ f. same) (λ k. same)
+    (λ x a b. same) tt) fault only
+
+design_after : (heard heard' : List Event) (words : List (List ℕ)) → heard' ≡ heard → (fault : Fault)
+    → IsMakeFault fault → HeardAfter heard heard' words (Some fault)
+design_after heard heard' words same fault only =
+    each_made (λ f. HeardAfter heard heard' words (Some f)) (λ p l. same) (λ p t l. same) (λ p l. same) (λ f. same)
+    (λ l k. same) (λ f. same) (λ k. same) (λ n. same) (λ n. same) (λ n. same) (λ n. same) (λ n. same) tt fault only
+
+read_ends : (loads : List Load) (limit : ℕ) (stages : List ℕ → List ℕ → List Stage) (heard heard' : List Event)
+    (words : List (List ℕ)) (fault : Fault)
+    → ((h : List Event) → heard' ≡ h → HeardAfter h heard' words (Some fault))
+    → DueOfReading loads limit stages heard heard' words (Some fault)
+    → DueOfTwo loads limit stages heard heard' words (Some fault)
+unfolding DueOfReading DueOfTwo
+read_ends loads limit stages heard heard' words fault after (inl refused) = inl refused
+read_ends loads limit stages heard heard' words fault after (inr reads) = inr (record {
+  first = reads.first;
+  lib = reads.lib;
+  first_fits = reads.first_fits;
+  lib_fits = reads.lib_fits;
+  answers = reads.answers;
+  heard_is = after (loaded heard words reads.first reads.lib) reads.heard_is;
+})
+
+pub design_ends : (loads : List Load) (limit : ℕ) (stages : List ℕ → List ℕ → List Stage) (heard heard' : List Event)
+    (words : List (List ℕ)) (fault : Fault) → IsMakeFault fault
+    → DueOfReading loads limit stages heard heard' words (Some fault)
+    → DueOfTwo loads limit stages heard heard' words (Some fault)
+design_ends loads limit stages heard heard' words fault only due =
+    read_ends loads limit stages heard heard' words fault (λ h same. design_after h heard' words same fault only) due
+
+pub circuit_ends : (loads : List Load) (limit : ℕ) (stages : List ℕ → List ℕ → List Stage) (heard heard' : List Event)
+    (words : List (List ℕ)) (fault : Fault) → IsReadingFault fault
+    → DueOfReading loads limit stages heard heard' words (Some fault)
+    → DueOfTwo loads limit stages heard heard' words (Some fault)
+circuit_ends loads limit stages heard heard' words fault only due =
+    read_ends loads limit stages heard heard' words fault (λ h same. circuit_after h heard' words same fault only) due
+
+-- the texts were read, and nothing was due
+read_then : (loads : List Load) (limit : ℕ) (stages : List ℕ → List ℕ → List Stage) (heard now heard' : List Event)
+    (words : List (List ℕ)) (answer : Option Fault) → (reads : ReadsTwo limit stages heard now words None)
+    → Answers (stages reads.first reads.lib) answer → HeardAfter now heard' words answer
+    → DueOfTwo loads limit stages heard heard' words answer
+unfolding DueOfTwo
+read_then loads limit stages heard now heard' words answer reads answers after = inr (record {
+  first = reads.first;
+  lib = reads.lib;
+  first_fits = reads.first_fits;
+  lib_fits = reads.lib_fits;
+  answers = answers;
+  heard_is = subst (λ h. HeardAfter h heard' words answer) reads.heard_is after;
+})
+
+-- storing the file was refused
+stored_after : (now heard' : List Event) (words : List (List ℕ)) (name bytes : List ℕ) (fault : Fault)
+    → IsStoreFault fault → name ≡ word_at words 3 → HeardStored now heard' name bytes fault
+    → HeardAfter now heard' words (Some fault)
+stored_after now heard' words name bytes fault only same =
+    each_store (λ f. HeardStored now heard' name bytes f → HeardAfter now heard' words (Some f))
+    (λ h. h ∙ ap (λ n. NotCreated n store.Failed ∷ now) same) (λ h. tt)
+    (λ h. record { bytes = bytes; heard_is = h ∙ ap (λ n. NotClosed store.Failed ∷ took bytes (Created n ∷ now)) same })
+    (λ h. tt) fault only
+
+pub store_ends : (loads : List Load) (limit : ℕ) (stages : List ℕ → List ℕ → List Stage) (heard now heard' : List Event)
+    (words : List (List ℕ)) (name bytes : List ℕ) (fault : Fault) → ReadsTwo limit stages heard now words None
+    → IsStoreFault fault → name ≡ word_at words 3 → HeardStored now heard' name bytes fault
+    → DueOfTwo loads limit stages heard heard' words (Some fault)
+store_ends loads limit stages heard now heard' words name bytes fault reads only same after =
+    read_then loads limit stages heard now heard' words (Some fault) reads
+    (each_store (λ f. Answers (stages reads.first reads.lib) (Some f)) reads.answers reads.answers reads.answers tt
+    fault only)
+    (stored_after now heard' words name bytes fault only same after)
+
+-- it was stored, and the counts were printed or not
+pub counts_end : (loads : List Load) (limit : ℕ) (stages : List ℕ → List ℕ → List Stage) (heard now heard' : List Event)
+    (words : List (List ℕ)) (name bytes : List ℕ) (result : Result (Unit {0}) Fault)
+    → ReadsTwo limit stages heard now words None → name ≡ word_at words 3 → heard' ≡ stored now name bytes
+    → IfErr result IsOutOrMemory → DueOfTwo loads limit stages heard heard' words (result_err result)
+counts_end loads limit stages heard now heard' words name bytes result reads same is only =
+    let out : StoresOut now heard' words =
+    record { bytes = bytes; heard_is = is ∙ ap (λ n. stored now n bytes) same } in
+    read_then loads limit stages heard now heard' words (result_err result) reads
+    (out_answers (stages reads.first reads.lib) result reads.answers only)
+    (each_out (λ r. HeardAfter now heard' words (result_err r)) out out tt result only)
+
+pub ruleset build_dues = (heard_built, design_ends, store_ends, counts_end)
+
+pub ruleset write_dues = (heard_written, circuit_ends, store_ends, counts_end)
+
+-- Each command.
+
+pub make_due : (planner : Planner) (words : List (List ℕ)) (heard heard' : List Event) (answer : Option Fault)
+    → IsMakeBy planner words → DueOfTwo build_loads net_limit (design_stages planner) heard heard' words answer
+    → HearsDue heard heard' words answer
+make_due planner words heard heard' answer form due = record { form = Make planner; is_form = form; due = due }
+
+pub verify_due : (words : List (List ℕ)) (heard heard' : List Event) (answer : Option Fault) → IsVerify words
+    → DueOfThree check_loads judging_stages heard heard' words answer → HearsDue heard heard' words answer
+verify_due words heard heard' answer form due = record { form = Verify; is_form = form; due = due }
+
+pub trace_due : (words : List (List ℕ)) (heard heard' : List Event) (answer : Option Fault) → IsTrace words
+    → DueOfThree check_loads judging_stages heard heard' words answer → HearsDue heard heard' words answer
+trace_due words heard heard' answer form due = record { form = Trace; is_form = form; due = due }
+
+pub equal_due : (words : List (List ℕ)) (heard heard' : List Event) (answer : Option Fault) → IsEqual words
+    → DueOfThree equal_loads comparing_stages heard heard' words answer → HearsDue heard heard' words answer
+equal_due words heard heard' answer form due = record { form = Equal; is_form = form; due = due }
+
+pub write_due : (words : List (List ℕ)) (heard heard' : List Event) (answer : Option Fault) → IsWrite words
+    → DueOfTwo write_loads gds_limit circuit_stages heard heard' words answer → HearsDue heard heard' words answer
+write_due words heard heard' answer form due = record { form = Write; is_form = form; due = due }
+
+pub report_due : (words : List (List ℕ)) (heard heard' : List Event) (answer : Option Fault) → IsReport words
+    → DueOfReading write_loads gds_limit circuit_stages heard heard' words answer → HearsDue heard heard' words answer
+report_due words heard heard' answer form due = record { form = Report; is_form = form; due = due }
+
+pub shapes_due : (words : List (List ℕ)) (first second : ℕ) (heard heard' : List Event) (answer : Option Fault)
+    → IsShapesOf words first second → DueOfOne (λ gds. showing_stages gds first second) heard heard' words answer
+    → HearsDue heard heard' words answer
+shapes_due words first second heard heard' answer form due =
+    record { form = Shapes first second; is_form = form; due = due }
+
+pub sample_due : (words : List (List ℕ)) (bits : ℕ) (heard : List Event) (answer : Option Fault)
+    → IsSampleOf words bits → Answers (sample_stages bits) answer → HearsDue heard heard words answer
+sample_due words bits heard answer form answers =
+    record { form = Sample bits; is_form = form; due = (refl, answers) }
+
+pub usage_due : (words : List (List ℕ)) (heard : List Event) → ¬ HasForm words
+    → HearsDue heard heard words (Some Usage)
+usage_due words heard form = record { form = Wrong; is_form = form; due = (refl, refl) }
+
+-- a sample asks nothing of the store
+pub sample_silent : (words : List (List ℕ)) (bits : ℕ) (heard heard' : List Event) (answer : Option Fault)
+    → IsSampleOf words bits → HearsDue heard heard' words answer → heard' ≡ heard
+sample_silent words bits heard heard' answer form hears =
+    let same = one_form words hears.form (Sample bits) hears.is_form form in
+    let due : DueByForm (Sample bits) heard heard' words answer =
+    subst (λ f. DueByForm f heard heard' words answer) same hears.due in
+    due.0
+
+pub ruleset dues = (
+  make_due,
+  verify_due,
+  trace_due,
+  equal_due,
+  write_due,
+  report_due,
+  shapes_due,
+  sample_due,
+  usage_due,
+)

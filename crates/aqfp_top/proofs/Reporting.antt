@@ -1,0 +1,175 @@
+-- From the clauses of the steps of a report to its own.
+use Rattle.std.proofs.Common.{ℕ, ◌≡◌, ◌≤◌, ◌<◌, ◌^◌, List, [], length, Option, Some, None, Result, Ok, Err, IfErr, OnOk}
+use Rattle.std.proofs.Common.{refl, sym, ap, subst, arith}
+use Rattle.std.specs.Result.{result_err}
+use Rattle.aq_base.specs.Causes.{Rose}
+use Rattle.aq_base.specs.Heard.{Event}
+use Rattle.aq_base.specs.Store.{Contents, gained}
+use Rattle.geom.specs.declared.shapes.Flat.{Flat}
+use Rattle.geom.specs.FlatForm.{flat_count}
+use Rattle.poly_cut.specs.declared.layout.WideLayout.{WideLayout}
+use Rattle.poly_cut.specs.FlatForm.{wide_flat}
+use Rattle.gds_records.specs.Stream.{IsWideStream}
+use Rattle.cell_library.specs.Library.{LibraryView, limits_of}
+use Rattle.cell_library.specs.Says as library
+use Rattle.layout_rules.specs.Limits.{Limits}
+use Rattle.layout_rules.specs.Rules.{KeepsRules}
+use Rattle.chip_circuit.specs.Circuits.{CircuitView}
+use Rattle.shape_extract.specs.Extraction.{IsCircuitOf}
+use Rattle.shape_extract.specs.Extracts.{Extracts}
+use Rattle.layout_report.specs.ReportText.{report_text}
+use Rattle.aqfp_top.specs.Counted.{Counts, HasFaults, FailedLoad}
+use Rattle.aqfp_top.specs.Loads.{gds_limit, lib_limit, write_loads}
+use Rattle.aqfp_top.specs.Stages.{Stage, IsFirst, Answers}
+use Rattle.aqfp_top.specs.Due.{circuit_stages, write_stages}
+use Rattle.aqfp_top.specs.Faults.{IsReportFault}
+use Rattle.aqfp_top.specs.Histories.{loaded}
+use Rattle.aqfp_top.specs.Printed.{TextPrints}
+use Rattle.aqfp_top.specs.Reported.{IsReport, IsReportOf, HearsReport}
+use Rattle.aqfp_top.specs.Writing.{ToldTexts}
+use Rattle.aqfp_top.specs.Code.Loading.{IsFaultOfLoads}
+use Rattle.aqfp_top.specs.Code.Staging.{ToldAnswers}
+use Rattle.aqfp_top.specs.Code.Building.{IsOutOrMemory, IsReadOf}
+use Rattle.aqfp_top.specs.Code.Checking.{IsRuled, IsCircuitFault}
+use Rattle.aqfp_top.specs.Code.Reporting.{KeepsAll, IsJudged, IsLayoutFault, IsPrintingFault}
+use Rattle.aqfp_top.specs.declared.chip_report.JudgedChip.{JudgedChip}
+use Rattle.aqfp_top.specs.declared.fault.WriteCall.TheVariants.{Out}
+use Rattle.aqfp_top.specs.declared.fault.Fault.{Fault}
+use Rattle.aqfp_top.specs.declared.fault.Fault.TheVariants.{WriteFault}
+use Rattle.aqfp_top.proofs.EachFault.{each_of_loads, each_circuit, each_layout, each_printing, each_out}
+use Rattle.aqfp_top.proofs.Judging.{IsRead, circuit_is_well}
+use Rattle.aqfp_top.proofs.Printing.{prints_more, out_prints, out_answers, loads_print}
+use Rattle.aqfp_top.proofs.WriteSteps.{told_answer}
+
+-- The chip of the texts.
+
+-- the shapes and the circuit are those of the layout
+pub is_judged : (flat whole : Flat) (limits : Limits) (circuit : CircuitView) → flat ≡ whole → flat_count flat < 2 ^ 32
+    → KeepsRules flat limits → Extracts flat circuit
+    → IsJudged whole limits (record { flat = flat; circuit = circuit })
+is_judged flat whole limits circuit same few rules extracts =
+    record { flat_is = same; keeps = record { few = few; rules = rules; extracts = extracts } }
+
+-- they keep the rules, and make the circuit
+is_ruled : (layout : WideLayout) (limits : Limits) (chip : JudgedChip) → IsJudged (wide_flat layout) limits chip
+    → IsRuled (wide_flat layout) limits chip.circuit
+is_ruled layout limits chip judged = record {
+  rules = subst (λ f. KeepsRules f limits) judged.flat_is judged.keeps.rules;
+  circuit_is = subst (λ f. IsCircuitOf f chip.circuit) judged.flat_is judged.keeps.extracts.circuit_is;
+}
+
+-- the text is the report of the chip of the texts
+pub is_report : (gds lib : List ℕ) (layout : WideLayout) (view : LibraryView) (chip : JudgedChip) → IsRead gds layout
+    → library.SaysLibrary lib view → IsJudged (wide_flat layout) (limits_of view) chip
+    → IsReport gds lib (report_text chip.flat chip.circuit view.limit)
+is_report gds lib layout view chip is says judged =
+    let ruled = is_ruled layout (limits_of view) chip judged in
+    record {
+      circuit = chip.circuit;
+      makes = record {
+        layout = layout;
+        read = is.read;
+        library = record { view = view; says = says };
+        rules = ruled.rules;
+        circuit_is = ruled.circuit_is;
+      };
+      text_is = ap (λ f. report_text f chip.circuit view.limit) judged.flat_is;
+    }
+
+-- nothing is wrong with the texts
+pub chip_is_well : (one_layout : (bytes : List ℕ) (layout other : WideLayout) → IsWideStream bytes layout → IsWideStream bytes other → layout ≡ other)
+    (gds lib : List ℕ) (layout : WideLayout) (view : LibraryView) (chip : JudgedChip) → IsRead gds layout
+    → library.SaysLibrary lib view → IsJudged (wide_flat layout) (limits_of view) chip
+    → IsFirst (circuit_stages gds lib) None
+chip_is_well one_layout gds lib layout view chip is says judged =
+    circuit_is_well one_layout gds lib layout view (Ok chip.circuit) is says
+    (is_ruled layout (limits_of view) chip judged)
+
+-- Printing it.
+
+pub layout_printing : (fault : Fault) → IsLayoutFault fault → IsPrintingFault fault
+layout_printing fault wrong = each_layout IsPrintingFault (λ o k. tt) (λ n. tt) tt fault wrong
+
+pub circuit_printing : (fault : Fault) → IsCircuitFault fault → IsPrintingFault fault
+circuit_printing fault wrong =
+    each_circuit IsPrintingFault (λ o k. tt) (λ n. tt) (λ f. tt) (λ k. tt) (λ r a b. tt) tt fault wrong
+
+pub out_printing : (result : Result (Unit {0}) Fault) → IfErr result IsOutOrMemory → IfErr result IsPrintingFault
+out_printing result only = each_out (λ r. IfErr r IsPrintingFault) tt tt tt result only
+
+pub no_out : (Risen : Type 0) (fault : Fault) → IsCircuitFault fault → fault ≡ WriteFault Out → Risen
+no_out Risen fault wrong =
+    each_circuit (λ f. f ≡ WriteFault Out → Risen) (λ o k e. cc) (λ n e. cc) (λ f e. cc) (λ k e. cc) (λ r a b e. cc)
+    (λ e. cc) fault wrong
+
+pub ruleset prints = (layout_printing, circuit_printing, out_printing)
+
+-- The whole report.
+
+pub loads_report : (fault : Fault) → IsFaultOfLoads write_loads fault → IsReportFault fault
+loads_report fault only = each_of_loads IsReportFault write_loads (λ p l. l) (λ p t l. l) (λ p l. l) tt fault only
+
+pub loads_report_print : (told : Option Contents) (words : List (List ℕ)) (held : Option (List ℕ)) (fault : Fault)
+    → IsFaultOfLoads write_loads fault → TextPrints (IsReportOf told words) held held (Some fault)
+loads_report_print told words held fault only = loads_print (IsReportOf told words) write_loads held fault only
+
+pub loads_report_count : (before after : Counts) (fault : Fault) → IsFaultOfLoads write_loads fault
+    → IsReadOf (Rose before.reads after.reads) fault → HasFaults before after (Some fault)
+loads_report_count before after fault only =
+    each_of_loads (λ f. IsReadOf (Rose before.reads after.reads) f → HasFaults before after (Some f)) write_loads
+    (λ p l r. tt) (λ p t l r. tt) (λ p l r. r) (λ r. tt) fault only
+
+pub report_only : (result : Result (Unit {0}) Fault) → IfErr result IsPrintingFault → IfErr result IsReportFault
+report_only (Ok x) only = tt
+report_only (Err fault) only =
+    each_printing IsReportFault refl
+    (each_circuit IsReportFault (λ o k. tt) (λ n. tt) (λ f. tt) (λ k. tt) (λ r a b. tt) tt) fault only
+
+pub report_counts : (before after : Counts) (result : Result (Unit {0}) Fault) → IfErr result IsPrintingFault
+    → (result ≡ Err (WriteFault Out) → Rose before.outs after.outs) → HasFaults before after (result_err result)
+report_counts before after (Ok x) only = λ cause. tt
+report_counts before after (Err fault) only =
+    each_printing (λ f. (◌≡◌ {A = Result (Unit {0}) Fault} (Err f) (Err (WriteFault Out)) → Rose before.outs after.outs)
+    → HasFaults before after (Some f)) (λ cause. cause refl)
+    (λ f wrong cause. each_circuit (λ f. HasFaults before after (Some f)) (λ o k. tt) (λ n. tt) (λ f. tt) (λ k. tt)
+    (λ r a b. tt) tt f wrong) fault only
+
+pub report_failed : (name : Option (List ℕ)) (words : List (List ℕ)) (result : Result (Unit {0}) Fault)
+    → IfErr result IsPrintingFault → FailedLoad name words (result_err result)
+report_failed name words (Ok x) only = tt
+report_failed name words (Err fault) only =
+    each_printing (λ f. FailedLoad name words (Some f)) tt
+    (each_circuit (λ f. FailedLoad name words (Some f)) (λ o k. tt) (λ n. tt) (λ f. tt) (λ k. tt) (λ r a b. tt) tt)
+    fault only
+
+-- the report of the texts of the files
+pub texts_report : (told : Option Contents) (words : List (List ℕ)) (gds lib lib' : List ℕ) (before after : Option (List ℕ))
+    (fault : Option Fault) → ToldTexts told words gds lib → lib' ≡ lib → TextPrints (IsReport gds lib') before after fault
+    → TextPrints (IsReportOf told words) before after fault
+texts_report told words gds lib lib' before after fault held same prints =
+    prints_more (IsReport gds lib') (IsReportOf told words) before after fault
+    (λ text report.
+    record { gds = gds; lib = lib; held = held; report = subst (λ l. IsReport gds l text) same report }) prints
+
+pub heard_report : (heard heard' : List Event) (words : List (List ℕ)) (gds lib lib' : List ℕ)
+    (before after : Option (List ℕ)) (result : Result (Unit {0}) Fault) → heard' ≡ loaded heard words gds lib → lib' ≡ lib
+    → TextPrints (IsReport gds lib') before after (result_err result)
+    → OnOk result (HearsReport heard heard' words before after)
+heard_report heard heard' words gds lib lib' before after (Ok x) is same prints = record {
+  gds = gds;
+  lib = lib;
+  heard_is = is;
+  text = prints.text;
+  report = subst (λ l. IsReport gds l prints.text) same prints.means;
+  printed = prints.printed;
+}
+heard_report heard heard' words gds lib lib' before after (Err fault) is same prints = tt
+
+pub told_report : (told : Option Contents) (words : List (List ℕ)) (gds lib lib' : List ℕ)
+    (result : Result (Unit {0}) Fault) → ToldTexts told words gds lib → length gds ≤ gds_limit → length lib ≤ lib_limit
+    → lib' ≡ lib → Answers (circuit_stages gds lib') (result_err result)
+    → ToldAnswers write_stages told words (result_err result)
+told_report told words gds lib lib' result held a b same answers =
+    told_answer told words gds lib lib' (result_err result) held a b same answers
+
+pub ruleset ends = (loads_report, loads_report_print, loads_report_count)

@@ -1,0 +1,258 @@
+-- From the clauses of the steps of naming shapes to its own.
+use Rattle.std.proofs.Common.{ℕ, ◌≡◌, ◌≤◌, ◌<◌, ◌⊎◌, List, [], ◌∷◌, ◌++◌, length, Option, Some, None, Result, Ok, Err, IfErr}
+use Rattle.std.proofs.Common.{OnOk, OnErr, Vec, refl, sym, ap, subst, inl, inr, ◌∙◌, arith}
+use Rattle.std.specs.Result.{result_err}
+use Rattle.std.specs.declared.alloc.Global.{Global}
+use Rattle.aq_base.specs.Causes.{Rose}
+use Rattle.aq_base.specs.Heard.{Event, Loaded}
+use Rattle.aq_base.specs.Store.{Contents, gained, GainsPrefix}
+use Rattle.geom.specs.declared.shapes.Flat.{Flat}
+use Rattle.geom.specs.FlatForm.{flat_count}
+use Rattle.poly_cut.specs.declared.layout.WideLayout.{WideLayout}
+use Rattle.poly_cut.specs.FlatForm.{wide_flat}
+use Rattle.gds_records.specs.Stream.{IsWideStream}
+use Rattle.layout_report.specs.ShapeLines.{shape_line}
+use Rattle.aqfp_top.specs.Words.{word_at}
+use Rattle.aqfp_top.specs.Counted.{Counts, HasFaults, FailedLoad}
+use Rattle.aqfp_top.specs.Loads.{gds_limit, shapes_loads}
+use Rattle.aqfp_top.specs.Stages as stage
+use Rattle.aqfp_top.specs.Stages.{Stage, FindsNone, IsFirst, Answers}
+use Rattle.aqfp_top.specs.Due.{bytes_at, showing_stages, shapes_stages}
+use Rattle.aqfp_top.specs.Faults.{IsShapesFault}
+use Rattle.aqfp_top.specs.Printed.{Prints, TextPrints}
+use Rattle.aqfp_top.specs.Shown.{IsNoShape, IsNumberFault, HasLines, AreShapes, ToldLayout, IsShownOf, HearsShapes}
+use Rattle.aqfp_top.specs.Code.Loading.{ToldLoadsWord, IsFaultOfLoad}
+use Rattle.aqfp_top.specs.Code.Staging.{ToldAnswers}
+use Rattle.aqfp_top.specs.Code.Building.{IsOutOrMemory}
+use Rattle.aqfp_top.specs.Code.Reporting.{IsLayoutFault, IsPastFault, IsNamingFault, IsShowingFault}
+use Rattle.aqfp_top.specs.declared.fault.WriteCall.TheVariants.{Create, Append, Close, Out}
+use Rattle.aqfp_top.specs.declared.fault.Fault.{Fault}
+use Rattle.aqfp_top.specs.declared.fault.Fault.TheVariants.{ReadFault, WriteFault, NoShape, Memory}
+use Rattle.aqfp_top.proofs.EachFault.{each_load, each_layout, each_showing}
+use Rattle.aqfp_top.proofs.Judging.{IsRead}
+use Rattle.aqfp_top.proofs.Printing.{prints_more}
+use Rattle.aqfp_top.proofs.Staging.{load_stage, past, past_all, found, load_found, file_loads, held_bytes}
+
+-- The lines.
+
+-- where a number is past the shapes nothing is printed
+
+pub past_prints : (flat : Flat) (first second : ℕ) (Means : List ℕ → Type 0) (held : Option (List ℕ)) (fault : Fault)
+    → IsPastFault flat first second fault → TextPrints Means held held (Some fault)
+past_prints flat first second Means held (NoShape number count) past = refl
+past_prints flat first second Means held _ past = absurd past
+
+pub past_naming : (flat : Flat) (first second : ℕ) (fault : Fault) → IsPastFault flat first second fault
+    → IsNamingFault flat first second fault
+past_naming flat first second (NoShape number count) past = past
+past_naming flat first second _ past = absurd past
+
+pub lines_printed : (flat : Flat) (first second : ℕ) (before after : Option (List ℕ)) → first < flat_count flat
+    → second < flat_count flat → after ≡ gained before (shape_line flat first ++ shape_line flat second)
+    → TextPrints (HasLines flat first second) before after None
+lines_printed flat first second before after one other added = record {
+  text = shape_line flat first ++ shape_line flat second;
+  means = record { first_there = one; second_there = other; text_is = refl };
+  printed = added;
+}
+
+pub lines_failed : (flat : Flat) (first second : ℕ) (before after : Option (List ℕ)) → first < flat_count flat
+    → second < flat_count flat → GainsPrefix before after (shape_line flat first ++ shape_line flat second)
+    → TextPrints (HasLines flat first second) before after (Some (WriteFault Out))
+lines_failed flat first second before after one other prefix = record {
+  text = shape_line flat first ++ shape_line flat second;
+  means = record { first_there = one; second_there = other; text_is = refl };
+  printed = prefix;
+}
+
+pub lines_refused : (flat : Flat) (first second : ℕ) (before after : Option (List ℕ)) → first < flat_count flat
+    → second < flat_count flat → GainsPrefix before after (shape_line flat first ++ shape_line flat second)
+    → TextPrints (HasLines flat first second) before after (Some Memory)
+lines_refused flat first second before after one other prefix = inr (record {
+  text = shape_line flat first ++ shape_line flat second;
+  means = record { first_there = one; second_there = other; text_is = refl };
+  printed = prefix;
+})
+
+pub ruleset lines = (past_prints, past_naming, lines_printed, lines_failed, lines_refused)
+
+-- The layout.
+
+pub same_prints : (flat whole : Flat) (first second : ℕ) (before after : Option (List ℕ)) (fault : Option Fault)
+    → flat ≡ whole → TextPrints (HasLines flat first second) before after fault
+    → TextPrints (HasLines whole first second) before after fault
+same_prints flat whole first second before after fault same prints =
+    subst (λ f. TextPrints (HasLines f first second) before after fault) same prints
+
+pub same_naming : (flat whole : Flat) (first second : ℕ) (result : Result (Unit {0}) Fault) → flat ≡ whole
+    → IfErr result (IsNamingFault flat first second) → IfErr result (IsNamingFault whole first second)
+same_naming flat whole first second result same bad =
+    subst (λ f. IfErr result (IsNamingFault f first second)) same bad
+
+-- the numbers are of shapes, so that nothing is found
+there_not_past : (first second count number : ℕ) → first < count → second < count → count ≤ number
+    → ((number ≡ first) ⊎ ((first < count) × (number ≡ second))) → ⊥
+there_not_past first second count number one other past (inl is) = omega (arith, one, past, is)
+there_not_past first second count number one other past (inr is) = let same = is.1 in omega (arith, other, past, same)
+
+numbers_none : (one_layout : (bytes : List ℕ) (layout other : WideLayout) → IsWideStream bytes layout → IsWideStream bytes other → layout ≡ other)
+    (gds : List ℕ) (layout : WideLayout) (first second : ℕ) (text : List ℕ) → IsRead gds layout
+    → HasLines (wide_flat layout) first second text → FindsNone (stage.Numbers gds first second)
+numbers_none one_layout gds layout first second text is lines (NoShape number count) bad =
+    let same = one_layout gds bad.layout layout bad.read.stream is.read.stream in
+    let none : IsNoShape (wide_flat layout) first second number count =
+    subst (λ l. IsNoShape (wide_flat l) first second number count) same bad.none in
+    let counted = sym none.count_is in
+    there_not_past first second count number
+    (subst (λ n. first < n) counted lines.first_there) (subst (λ n. second < n) counted lines.second_there)
+    none.past none.which
+numbers_none one_layout gds layout first second text is lines _ bad = absurd bad
+
+pub well : (one_layout : (bytes : List ℕ) (layout other : WideLayout) → IsWideStream bytes layout → IsWideStream bytes other → layout ≡ other)
+    (gds : List ℕ) (layout : WideLayout) (first second : ℕ) (text : List ℕ) → IsRead gds layout
+    → HasLines (wide_flat layout) first second text → IsFirst (showing_stages gds first second) None
+well one_layout gds layout first second text is lines =
+    (is.stream, (is.size, (numbers_none one_layout gds layout first second text is lines, tt)))
+
+-- what the layout's lines may answer the stages may
+pub shown_answers : (one_layout : (bytes : List ℕ) (layout other : WideLayout) → IsWideStream bytes layout → IsWideStream bytes other → layout ≡ other)
+    (gds : List ℕ) (layout : WideLayout) (first second : ℕ) (before after : Option (List ℕ))
+    (result : Result (Unit {0}) Fault) → IsRead gds layout
+    → TextPrints (HasLines (wide_flat layout) first second) before after (result_err result)
+    → IfErr result (IsNamingFault (wide_flat layout) first second)
+    → Answers (showing_stages gds first second) (result_err result)
+shown_answers one_layout gds layout first second before after (Ok x) is prints bad =
+    well one_layout gds layout first second prints.text is prints.means
+shown_answers one_layout gds layout first second before after (Err (NoShape number count)) is prints bad =
+    past_all (stage.Stream gds ∷ stage.Size gds ∷ []) (stage.Numbers gds first second ∷ []) (Some (NoShape number count))
+    (is.stream, (is.size, tt))
+    (found (stage.Numbers gds first second) [] (NoShape number count)
+    (record { layout = layout; read = is.read; none = bad }))
+shown_answers one_layout gds layout first second before after (Err (WriteFault Out)) is prints bad =
+    well one_layout gds layout first second prints.text is prints.means
+shown_answers one_layout gds layout first second before after (Err (WriteFault Create)) is prints bad = absurd bad
+shown_answers one_layout gds layout first second before after (Err (WriteFault Append)) is prints bad = absurd bad
+shown_answers one_layout gds layout first second before after (Err (WriteFault Close)) is prints bad = absurd bad
+shown_answers one_layout gds layout first second before after (Err Memory) is prints bad = tt
+shown_answers one_layout gds layout first second before after (Err _) is prints bad = absurd bad
+
+pub shown_prints : (gds : List ℕ) (layout : WideLayout) (first second : ℕ) (before after : Option (List ℕ))
+    (fault : Option Fault) → IsRead gds layout → TextPrints (HasLines (wide_flat layout) first second) before after fault
+    → TextPrints (AreShapes gds first second) before after fault
+shown_prints gds layout first second before after fault is prints =
+    prints_more (HasLines (wide_flat layout) first second) (AreShapes gds first second) before after fault
+    (λ text lines. record { layout = layout; read = is.read; lines = lines }) prints
+
+naming_showing : (flat : Flat) (first second : ℕ) (fault : Fault) → IsNamingFault flat first second fault
+    → IsShowingFault fault
+naming_showing flat first second (NoShape number count) bad = tt
+naming_showing flat first second (WriteFault Out) bad = tt
+naming_showing flat first second (WriteFault Create) bad = absurd bad
+naming_showing flat first second (WriteFault Append) bad = absurd bad
+naming_showing flat first second (WriteFault Close) bad = absurd bad
+naming_showing flat first second Memory bad = tt
+naming_showing flat first second _ bad = absurd bad
+
+pub shown_only : (flat : Flat) (first second : ℕ) (result : Result (Unit {0}) Fault)
+    → IfErr result (IsNamingFault flat first second) → IfErr result IsShowingFault
+shown_only flat first second (Ok x) bad = tt
+shown_only flat first second (Err fault) bad = naming_showing flat first second fault bad
+
+pub layout_showing : (fault : Fault) → IsLayoutFault fault → IsShowingFault fault
+layout_showing fault wrong = each_layout IsShowingFault (λ o k. tt) (λ n. tt) tt fault wrong
+
+pub layout_answers : (gds gds' : List ℕ) (first second : ℕ) (fault : Fault) → gds' ≡ gds
+    → ((rest : List Stage) → Answers (stage.Stream gds' ∷ stage.Size gds' ∷ rest) (Some fault))
+    → Answers (showing_stages gds first second) (Some fault)
+layout_answers gds gds' first second fault same bad =
+    let rest = stage.Numbers gds first second ∷ [] in
+    subst (λ g. Answers (stage.Stream g ∷ stage.Size g ∷ rest) (Some fault)) same (bad rest)
+
+pub ruleset shows = layout_showing
+
+-- The whole.
+
+pub load_shapes : (fault : Fault) → IsFaultOfLoad 1 gds_limit fault → IsShapesFault fault
+load_shapes fault only = each_load IsShapesFault 1 gds_limit (inl refl) (λ taken more. inl (refl, more)) (inl refl) tt fault only
+
+pub load_prints : (Means : List ℕ → Type 0) (held : Option (List ℕ)) (fault : Fault) → IsFaultOfLoad 1 gds_limit fault
+    → TextPrints Means held held (Some fault)
+load_prints Means held fault only =
+    each_load (λ f. TextPrints Means held held (Some f)) 1 gds_limit refl (λ taken more. refl) refl (inl refl) fault only
+
+pub load_counts : (before after : Counts) (fault : Fault) → IsFaultOfLoad 1 gds_limit fault
+    → (fault ≡ ReadFault 1 → Rose before.reads after.reads) → HasFaults before after (Some fault)
+load_counts before after fault only =
+    each_load (λ f. (f ≡ ReadFault 1 → Rose before.reads after.reads) → HasFaults before after (Some f)) 1 gds_limit
+    (λ rose. tt) (λ taken more rose. tt) (λ rose. rose refl) (λ rose. tt) fault only
+
+pub load_answers : (told : Option Contents) (words : List (List ℕ)) (first second : ℕ) (fault : Fault)
+    → IsFaultOfLoad 1 gds_limit fault → ToldLoadsWord told words 1 gds_limit (Err fault)
+    → ToldAnswers (shapes_stages first second) told words (Some fault)
+load_answers None words first second fault only loads = tt
+load_answers (Some files) words first second fault only loads =
+    load_found files words 1 gds_limit (showing_stages (bytes_at files words 1) first second) fault only loads
+
+pub told_layout : (told : Option Contents) (words : List (List ℕ)) (gds : Vec ℕ Global)
+    → ToldLoadsWord told words 1 gds_limit (Ok gds) → ToldLayout told words gds.items
+told_layout None words gds loads = tt
+told_layout (Some files) words gds loads = loads.0
+
+-- what the bytes of the file may answer the whole may answer
+pub file_shapes : (files : Contents) (words : List (List ℕ)) (gds : List ℕ) (first second : ℕ) (answer : Option Fault)
+    → files (word_at words 1) ≡ Some gds → length gds ≤ gds_limit → Answers (showing_stages gds first second) answer
+    → Answers (shapes_stages first second files words) answer
+file_shapes files words gds first second answer held fits answers =
+    past (load_stage files words 1 gds_limit) (showing_stages (bytes_at files words 1) first second) answer
+    (file_loads files words 1 gds_limit gds held fits)
+    (subst (λ g. Answers (showing_stages g first second) answer) (sym (held_bytes files words 1 gds held)) answers)
+
+pub told_shapes : (told : Option Contents) (words : List (List ℕ)) (gds : Vec ℕ Global) (first second : ℕ)
+    (answer : Option Fault) → ToldLoadsWord told words 1 gds_limit (Ok gds)
+    → Answers (showing_stages gds.items first second) answer → ToldAnswers (shapes_stages first second) told words answer
+told_shapes None words gds first second answer loads answers = tt
+told_shapes (Some files) words gds first second answer loads answers =
+    file_shapes files words gds.items first second answer loads.0 loads.1 answers
+
+pub whole_prints : (told : Option Contents) (words : List (List ℕ)) (gds : List ℕ) (first second : ℕ)
+    (before after : Option (List ℕ)) (fault : Option Fault) → ToldLayout told words gds
+    → TextPrints (AreShapes gds first second) before after fault
+    → TextPrints (IsShownOf told words first second) before after fault
+whole_prints told words gds first second before after fault held prints =
+    prints_more (AreShapes gds first second) (IsShownOf told words first second) before after fault
+    (λ text shapes. record { gds = gds; held = held; shapes = shapes }) prints
+
+pub heard_shapes : (heard heard' : List Event) (words : List (List ℕ)) (gds : List ℕ) (first second : ℕ)
+    (before after : Option (List ℕ)) (result : Result (Unit {0}) Fault) → heard' ≡ Loaded (word_at words 1) gds ∷ heard
+    → TextPrints (AreShapes gds first second) before after (result_err result)
+    → OnOk result (HearsShapes heard heard' words first second before after)
+heard_shapes heard heard' words gds first second before after (Ok x) is prints = record {
+  gds = gds;
+  heard_is = is;
+  text = prints.text;
+  shapes = prints.means;
+  printed = prints.printed;
+}
+heard_shapes heard heard' words gds first second before after (Err fault) is prints = tt
+
+pub showing_only : (result : Result (Unit {0}) Fault) → IfErr result IsShowingFault → IfErr result IsShapesFault
+showing_only (Ok x) only = tt
+showing_only (Err fault) only =
+    each_showing IsShapesFault refl (λ n m. tt) (each_layout IsShapesFault (λ o k. tt) (λ n. tt) tt) fault only
+
+pub showing_counts : (before after : Counts) (result : Result (Unit {0}) Fault) → IfErr result IsShowingFault
+    → (result ≡ Err (WriteFault Out) → Rose before.outs after.outs) → HasFaults before after (result_err result)
+showing_counts before after (Ok x) only = λ cause. tt
+showing_counts before after (Err fault) only =
+    each_showing (λ f. (◌≡◌ {A = Result (Unit {0}) Fault} (Err f) (Err (WriteFault Out)) → Rose before.outs after.outs)
+    → HasFaults before after (Some f)) (λ cause. cause refl) (λ n m cause. tt)
+    (λ f wrong cause. each_layout (λ f. HasFaults before after (Some f)) (λ o k. tt) (λ n. tt) tt f wrong) fault only
+
+pub showing_failed : (name : Option (List ℕ)) (words : List (List ℕ)) (result : Result (Unit {0}) Fault)
+    → IfErr result IsShowingFault → FailedLoad name words (result_err result)
+showing_failed name words (Ok x) only = tt
+showing_failed name words (Err fault) only =
+    each_showing (λ f. FailedLoad name words (Some f)) tt (λ n m. tt)
+    (each_layout (λ f. FailedLoad name words (Some f)) (λ o k. tt) (λ n. tt) tt) fault only
+
+pub ruleset ends = (load_shapes, load_prints, load_counts, load_answers)

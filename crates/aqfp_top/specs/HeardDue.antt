@@ -1,0 +1,147 @@
+-- Which answer is due by what a store was heard to give, told or not. The files of a command are loaded in turn. The
+-- answer says why a load was refused, or it is what the stages of the texts that the loads gave may answer.
+use Rattle.std.specs.Prelude.{ℕ, ◌≡◌, ◌⊎◌, ◌<◌, ◌≤◌, List, [], ◌∷◌, length, Option, Some, None, IsSomeAnd}
+use Rattle.aq_base.specs.declared.store.LoadRefusal.TheVariants as refusal
+use Rattle.aq_base.specs.declared.store.StoreRefusal.TheVariants as store
+use Rattle.aq_base.specs.Heard.{Event, Loaded, NotLoaded, Created, NotCreated, NotClosed, took}
+use Rattle.aqfp_top.specs.Words.{word_at, IsOfForm}
+use Rattle.aqfp_top.specs.Loads.{Load, net_limit, lib_limit, gds_limit, words_limit}
+use Rattle.aqfp_top.specs.Loads.{build_loads, check_loads, equal_loads, write_loads, shapes_loads}
+use Rattle.aqfp_top.specs.Stages.{Stage, Answers}
+use Rattle.aqfp_top.specs.Due.{design_stages, circuit_stages, judging_stages, comparing_stages, showing_stages, sample_stages}
+use Rattle.aqfp_top.specs.Histories.{loaded, loaded_three, stored}
+use Rattle.aqfp_top.specs.declared.words.Form.{Form}
+use Rattle.aqfp_top.specs.declared.words.Form.TheVariants.{Make, Verify, Trace, Equal, Write, Report, Shapes, Sample, Wrong}
+use Rattle.aqfp_top.specs.declared.fault.WriteCall.TheVariants.{Create, Append, Close, Out}
+use Rattle.aqfp_top.specs.declared.fault.Fault.{Fault}
+use Rattle.aqfp_top.specs.declared.fault.Fault.TheVariants.{Usage, Absent, TooLong, ReadFault, WriteFault, Memory}
+
+-- the fault says why the file at this place was not loaded, as it was heard; more bytes than the limit were seen of one
+-- that is too long
+abbrev pub HearsRefusal : ℕ → ℕ → List (List ℕ) → List Event → List Event → Fault → Type 0
+HearsRefusal place limit words heard heard' (Absent word) =
+    (word ≡ place) × (heard' ≡ NotLoaded (word_at words place) refusal.Absent ∷ heard)
+HearsRefusal place limit words heard heard' (TooLong word taken) =
+    (word ≡ place) × (limit < taken) × (heard' ≡ NotLoaded (word_at words place) (refusal.TooLong taken) ∷ heard)
+HearsRefusal place limit words heard heard' (ReadFault word) =
+    (word ≡ place) × (heard' ≡ NotLoaded (word_at words place) refusal.Failed ∷ heard)
+HearsRefusal place limit words heard heard' Memory = heard' ≡ NotLoaded (word_at words place) refusal.Memory ∷ heard
+HearsRefusal place limit words heard heard' _ = ⊥
+
+-- a load gave bytes, no more than its limit, and this holds of what was heard then
+pub record Gives (load : Load) (words : List (List ℕ)) (heard : List Event) (Then : List Event → Type 0)
+    : Type 0 where
+  pub bytes : List ℕ
+  pub fits : length bytes ≤ load.limit
+  pub holds : Then (Loaded (word_at words load.place) bytes ∷ heard)
+
+-- the fault says why one of the loads was refused; those before it gave bytes, and nothing else was heard
+unfoldable pub RefusesOne : List Load → List (List ℕ) → List Event → List Event → Fault → Type 0
+RefusesOne [] words heard heard' fault = ⊥
+RefusesOne (load ∷ loads) words heard heard' fault = HearsRefusal load.place load.limit words heard heard' fault
+    ⊎ Gives load words heard (λ now. RefusesOne loads words now heard' fault)
+
+-- GDS, LIB and a third file gave these texts, nothing else was heard, and their stages may answer this
+pub record JudgesThree (stages : List ℕ → List ℕ → List ℕ → List Stage) (heard heard' : List Event)
+    (words : List (List ℕ)) (answer : Option Fault) : Type 0 where
+  pub gds : List ℕ
+  pub lib : List ℕ
+  pub third : List ℕ
+  pub gds_fits : length gds ≤ gds_limit
+  pub lib_fits : length lib ≤ lib_limit
+  pub third_fits : length third ≤ words_limit
+  pub heard_is : heard' ≡ loaded_three heard words gds lib third
+  pub answers : Answers (stages gds lib third) answer
+
+-- of three files: a load was refused, or the texts may answer this
+unfoldable pub DueOfThree : List Load → (List ℕ → List ℕ → List ℕ → List Stage) → List Event → List Event
+    → List (List ℕ) → Option Fault → Type 0
+DueOfThree loads stages heard heard' words answer =
+    IsSomeAnd answer (RefusesOne loads words heard heard') ⊎ JudgesThree stages heard heard' words answer
+
+-- the first file and LIB gave these texts, nothing else was heard, and their stages may answer this
+pub record ReadsTwo (limit : ℕ) (stages : List ℕ → List ℕ → List Stage) (heard heard' : List Event)
+    (words : List (List ℕ)) (answer : Option Fault) : Type 0 where
+  pub first : List ℕ
+  pub lib : List ℕ
+  pub first_fits : length first ≤ limit
+  pub lib_fits : length lib ≤ lib_limit
+  pub heard_is : heard' ≡ loaded heard words first lib
+  pub answers : Answers (stages first lib) answer
+
+-- of two files, where nothing is written: a load was refused, or the texts may answer this
+unfoldable pub DueOfReading : List Load → ℕ → (List ℕ → List ℕ → List Stage) → List Event → List Event
+    → List (List ℕ) → Option Fault → Type 0
+DueOfReading loads limit stages heard heard' words answer =
+    IsSomeAnd answer (RefusesOne loads words heard heard') ⊎ ReadsTwo limit stages heard heard' words answer
+
+-- GDS gave these bytes, nothing else was heard, and their stages may answer this
+pub record JudgesOne (stages : List ℕ → List Stage) (heard heard' : List Event) (words : List (List ℕ))
+    (answer : Option Fault) : Type 0 where
+  pub gds : List ℕ
+  pub gds_fits : length gds ≤ gds_limit
+  pub heard_is : heard' ≡ Loaded (word_at words 1) gds ∷ heard
+  pub answers : Answers (stages gds) answer
+
+-- of one file: the load was refused, or the bytes may answer this
+unfoldable pub DueOfOne : (List ℕ → List Stage) → List Event → List Event → List (List ℕ) → Option Fault → Type 0
+DueOfOne stages heard heard' words answer =
+    IsSomeAnd answer (RefusesOne shapes_loads words heard heard') ⊎ JudgesOne stages heard heard' words answer
+
+-- OUT was made, took some bytes and was closed
+pub record StoresOut (heard heard' : List Event) (words : List (List ℕ)) : Type 0 where
+  pub bytes : List ℕ
+  pub heard_is : heard' ≡ stored heard (word_at words 3) bytes
+
+-- the same, but that closing failed
+pub record LeavesOut (heard heard' : List Event) (words : List (List ℕ)) : Type 0 where
+  pub bytes : List ℕ
+  pub heard_is : heard' ≡ NotClosed store.Failed ∷ took bytes (Created (word_at words 3) ∷ heard)
+
+-- What was heard after the loads of a command that writes OUT: nothing, where nothing was to be written. What was heard
+-- where an `append` was refused, or where memory ran out, is not said.
+abbrev pub HeardAfter : List Event → List Event → List (List ℕ) → Option Fault → Type 0
+HeardAfter heard heard' words None = StoresOut heard heard' words
+HeardAfter heard heard' words (Some (WriteFault Create)) = heard' ≡ NotCreated (word_at words 3) store.Failed ∷ heard
+HeardAfter heard heard' words (Some (WriteFault Append)) = Unit {0}
+HeardAfter heard heard' words (Some (WriteFault Close)) = LeavesOut heard heard' words
+HeardAfter heard heard' words (Some (WriteFault Out)) = StoresOut heard heard' words
+HeardAfter heard heard' words (Some Memory) = Unit {0}
+HeardAfter heard heard' words (Some fault) = heard' ≡ heard
+
+-- the first file and LIB gave these texts, and their stages may answer this
+pub record JudgesTwo (limit : ℕ) (stages : List ℕ → List ℕ → List Stage) (heard heard' : List Event)
+    (words : List (List ℕ)) (answer : Option Fault) : Type 0 where
+  pub first : List ℕ
+  pub lib : List ℕ
+  pub first_fits : length first ≤ limit
+  pub lib_fits : length lib ≤ lib_limit
+  pub answers : Answers (stages first lib) answer
+  pub heard_is : HeardAfter (loaded heard words first lib) heard' words answer
+
+-- of two files: a load was refused, or the texts may answer this
+unfoldable pub DueOfTwo : List Load → ℕ → (List ℕ → List ℕ → List Stage) → List Event → List Event → List (List ℕ)
+    → Option Fault → Type 0
+DueOfTwo loads limit stages heard heard' words answer =
+    IsSomeAnd answer (RefusesOne loads words heard heard') ⊎ JudgesTwo limit stages heard heard' words answer
+
+-- by the form of the words; a sample asks for no file, nor do words of no form
+abbrev pub DueByForm : Form → List Event → List Event → List (List ℕ) → Option Fault → Type 0
+DueByForm (Make planner) heard heard' words answer =
+    DueOfTwo build_loads net_limit (design_stages planner) heard heard' words answer
+DueByForm Verify heard heard' words answer = DueOfThree check_loads judging_stages heard heard' words answer
+DueByForm Trace heard heard' words answer = DueOfThree check_loads judging_stages heard heard' words answer
+DueByForm Equal heard heard' words answer = DueOfThree equal_loads comparing_stages heard heard' words answer
+DueByForm Write heard heard' words answer = DueOfTwo write_loads gds_limit circuit_stages heard heard' words answer
+DueByForm Report heard heard' words answer =
+    DueOfReading write_loads gds_limit circuit_stages heard heard' words answer
+DueByForm (Shapes first second) heard heard' words answer =
+    DueOfOne (λ gds. showing_stages gds first second) heard heard' words answer
+DueByForm (Sample bits) heard heard' words answer = (heard' ≡ heard) × Answers (sample_stages bits) answer
+DueByForm Wrong heard heard' words answer = (heard' ≡ heard) × (answer ≡ Some Usage)
+
+-- the answer is one that the words may lead to, by what was heard
+pub record HearsDue (heard heard' : List Event) (words : List (List ℕ)) (answer : Option Fault) : Type 0 where
+  pub form : Form
+  pub is_form : IsOfForm words form
+  pub due : DueByForm form heard heard' words answer

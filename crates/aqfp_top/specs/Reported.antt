@@ -1,0 +1,44 @@
+-- What `report` prints of the texts of a layout and of a library.
+use Rattle.std.specs.Prelude.{ℕ, ◌≡◌, List, ◌++◌, Option, Some}
+use Rattle.aq_base.specs.Store.{Contents, gained}
+use Rattle.aq_base.specs.Heard.{Event}
+use Rattle.poly_cut.specs.FlatForm.{wide_flat}
+use Rattle.chip_circuit.specs.Circuits.{CircuitView}
+use Rattle.layout_report.specs.ReportText.{report_text}
+use Rattle.aqfp_top.specs.Words.{word_at}
+use Rattle.aqfp_top.specs.Checks.{MakesCircuit}
+use Rattle.aqfp_top.specs.Histories.{loaded}
+use Rattle.aqfp_top.specs.Writing.{ToldTexts}
+
+-- the layout is a chip with this library, and the text is its report
+pub record IsReport (gds lib text : List ℕ) : Type 0 where
+  pub circuit : CircuitView
+  pub makes : MakesCircuit gds lib circuit
+  pub text_is : text ≡ report_text (wide_flat makes.layout) circuit makes.library.view.limit
+
+-- the text is the report of the chip under GDS with the library under LIB, where the store is told
+pub record IsReportOf (told : Option Contents) (words : List (List ℕ)) (text : List ℕ) : Type 0 where
+  pub gds : List ℕ
+  pub lib : List ℕ
+  pub held : ToldTexts told words gds lib
+  pub report : IsReport gds lib text
+
+-- what a `report` that ends well has printed: the report of the chip of the bytes under GDS and LIB
+pub record ReportsChip (held : Contents) (words : List (List ℕ)) (before after : Option (List ℕ)) : Type 0 where
+  pub gds : List ℕ
+  pub lib : List ℕ
+  pub gds_held : held (word_at words 1) ≡ Some gds
+  pub lib_held : held (word_at words 2) ≡ Some lib
+  pub text : List ℕ
+  pub report : IsReport gds lib text
+  pub printed : after ≡ gained before text
+
+-- what any store hears of it: GDS and LIB gave these bytes, and nothing else was asked or given
+pub record HearsReport (heard heard' : List Event) (words : List (List ℕ)) (before after : Option (List ℕ))
+    : Type 0 where
+  pub gds : List ℕ
+  pub lib : List ℕ
+  pub heard_is : heard' ≡ loaded heard words gds lib
+  pub text : List ℕ
+  pub report : IsReport gds lib text
+  pub printed : after ≡ gained before text

@@ -1,0 +1,72 @@
+-- What `shapes` prints of the text of a layout: the shapes or labels of two numbers.
+use Rattle.std.specs.Prelude.{ℕ, ◌≡◌, ◌<◌, ◌≤◌, ◌⊎◌, List, ◌∷◌, ◌++◌, Option, Some, None}
+use Rattle.aq_base.specs.Store.{Contents, gained}
+use Rattle.aq_base.specs.Heard.{Event, Loaded}
+use Rattle.geom.specs.declared.shapes.Flat.{Flat}
+use Rattle.geom.specs.FlatForm.{flat_count}
+use Rattle.poly_cut.specs.declared.layout.WideLayout.{WideLayout}
+use Rattle.poly_cut.specs.FlatForm.{wide_flat}
+use Rattle.layout_report.specs.ShapeLines.{shape_line}
+use Rattle.aqfp_top.specs.Words.{word_at}
+use Rattle.aqfp_top.specs.Checks.{IsLayoutOf}
+use Rattle.aqfp_top.specs.declared.fault.Fault.{Fault}
+use Rattle.aqfp_top.specs.declared.fault.Fault.TheVariants.{NoShape}
+
+-- there are so many shapes and labels, and this is the first of the two numbers that is not below it
+pub record IsNoShape (flat : Flat) (first second number count : ℕ) : Type 0 where
+  pub count_is : count ≡ flat_count flat
+  pub past : count ≤ number
+  pub which : (number ≡ first) ⊎ ((first < count) × (number ≡ second))
+
+-- so it is in the layout of the bytes
+pub record IsPastShapes (gds : List ℕ) (first second number count : ℕ) : Type 0 where
+  pub layout : WideLayout
+  pub read : IsLayoutOf gds layout
+  pub none : IsNoShape (wide_flat layout) first second number count
+
+-- one of the numbers is none of a shape or label
+abbrev pub IsNumberFault : List ℕ → ℕ → ℕ → Fault → Type 0
+IsNumberFault gds first second (NoShape number count) = IsPastShapes gds first second number count
+IsNumberFault gds first second _ = ⊥
+
+-- the text has the lines of the shapes or labels of these numbers
+pub record HasLines (flat : Flat) (first second : ℕ) (text : List ℕ) : Type 0 where
+  pub first_there : first < flat_count flat
+  pub second_there : second < flat_count flat
+  pub text_is : text ≡ shape_line flat first ++ shape_line flat second
+
+-- the shapes are those of the layout of the bytes
+pub record AreShapes (gds : List ℕ) (first second : ℕ) (text : List ℕ) : Type 0 where
+  pub layout : WideLayout
+  pub read : IsLayoutOf gds layout
+  pub lines : HasLines (wide_flat layout) first second text
+
+-- these are the bytes of GDS, where the store is told
+abbrev pub ToldLayout : Option Contents → List (List ℕ) → List ℕ → Type 0
+ToldLayout (Some files) words gds = files (word_at words 1) ≡ Some gds
+ToldLayout None words gds = Unit {0}
+
+-- the text has the lines of the shapes or labels of the layout under GDS, where the store is told
+pub record IsShownOf (told : Option Contents) (words : List (List ℕ)) (first second : ℕ) (text : List ℕ)
+    : Type 0 where
+  pub gds : List ℕ
+  pub held : ToldLayout told words gds
+  pub shapes : AreShapes gds first second text
+
+-- what a `shapes` that ends well has printed: the two lines, of the bytes under GDS
+pub record ShowsShapes (held : Contents) (words : List (List ℕ)) (first second : ℕ) (before after : Option (List ℕ))
+    : Type 0 where
+  pub gds : List ℕ
+  pub gds_held : held (word_at words 1) ≡ Some gds
+  pub text : List ℕ
+  pub shapes : AreShapes gds first second text
+  pub printed : after ≡ gained before text
+
+-- what any store hears of it: GDS gave these bytes, and nothing else was asked or given
+pub record HearsShapes (heard heard' : List Event) (words : List (List ℕ)) (first second : ℕ)
+    (before after : Option (List ℕ)) : Type 0 where
+  pub gds : List ℕ
+  pub heard_is : heard' ≡ Loaded (word_at words 1) gds ∷ heard
+  pub text : List ℕ
+  pub shapes : AreShapes gds first second text
+  pub printed : after ≡ gained before text

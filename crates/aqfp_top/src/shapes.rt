@@ -1,0 +1,165 @@
+// `shapes GDS A B`.
+ghost use Rattle.std.specs.Prelude.{◌≡◌, ◌++◌, ◌∷◌, ◌<◌, ◌≤◌, ◌^◌, length, IsErrOf, IsSome, IfOk, IfErr, OnOk, OnErr};
+ghost use Rattle.std.specs.Result.{result_err};
+ghost use Rattle.aq_base.specs.Causes.{Rose, HasCause};
+ghost use Rattle.aq_base.specs.Heard.{Loaded};
+ghost use Rattle.aq_base.specs.Store.{gained, GainsPrefix};
+ghost use Rattle.geom.specs.FlatForm.{flat_count};
+ghost use Rattle.poly_cut.specs.Conditions.{IsFlattenable};
+ghost use Rattle.poly_cut.specs.FlatForm.{wide_flat};
+ghost use Rattle.layout_report.specs.ShapeLines.{shape_line};
+ghost use Rattle.aqfp_top.specs.Words.{spelled, word_at};
+ghost use Rattle.aqfp_top.specs.Counted.{HasFaults, FailedLoad};
+ghost use Rattle.aqfp_top.specs.Stages.{Answers};
+ghost use Rattle.aqfp_top.specs.Due.{showing_stages, shapes_stages};
+ghost use Rattle.aqfp_top.specs.Faults.{IsShapesFault};
+ghost use Rattle.aqfp_top.specs.HeardDue.{DueOfOne};
+ghost use Rattle.aqfp_top.specs.Printed.{TextPrints};
+ghost use Rattle.aqfp_top.specs.Shown.{HasLines, AreShapes, IsShownOf, HearsShapes};
+ghost use Rattle.aqfp_top.specs.Code.Staging.{ToldAnswers};
+ghost use Rattle.aqfp_top.specs.Code.Reporting.{IsPastFault, IsNamingFault, IsShowingFault};
+
+use crate::fault::{Fault, WriteCall};
+use crate::load::{GDS_LIMIT, load_word};
+use crate::reading::read_layout;
+use aq_base::{Files, Sink, StoreRefusal};
+use gds_records::one_wide_reading;
+use geom::Flat;
+use layout_report::print_shape;
+use poly_cut::{WideLayout, count_is_exact, flatten_wide};
+use std::alloc::Global;
+
+// Whether both numbers are of shapes or labels.
+fn check_numbers(flat: &Flat, first: u64, second: u64) -> Result<(), Fault>
+    requires few { flat_count flat.now < 2 ^ 32 }
+    ensures one { OnOk result (first < flat_count flat.now) }
+    ensures other { OnOk result (second < flat_count flat.now) }
+    ensures bad { IfErr result (IsPastFault flat.now first second) }
+{
+    let count = flat.shapes.len() as u64 + flat.labels.len() as u64;
+    if first >= count {
+        return Err(Fault::NoShape {
+            number: first,
+            count,
+        });
+    }
+    if second >= count {
+        return Err(Fault::NoShape {
+            number: second,
+            count,
+        });
+    }
+    Ok(())
+}
+
+// Puts the two lines.
+#[tactic(auto, using(aq_base::proofs::Gains::gains))]
+fn put_lines<O: Sink>(
+    alloc: Global,
+    flat: &Flat,
+    first: u64,
+    second: u64,
+    out: &mut O,
+) -> Result<(), StoreRefusal>
+    requires one { first < flat_count flat.now }
+    requires other { second < flat_count flat.now }
+    ensures added { OnOk result (O.written out.new ≡ gained (O.written out.old) (shape_line flat.now first ++ shape_line flat.now second)) }
+    ensures prefix { OnErr result (GainsPrefix (O.written out.old) (O.written out.new) (shape_line flat.now first ++ shape_line flat.now second)) }
+    ensures faults { HasCause (O.faults out.old) (O.faults out.new) (IsErrOf result StoreRefusal.Failed) }
+{
+    print_shape(alloc, flat, first, out)?;
+    print_shape(alloc, flat, second, out)
+}
+
+// Prints the lines of the two shapes or labels.
+#[tactic(auto, using(crate::proofs::ShowingShapes::lines))]
+fn print_lines<O: Sink>(
+    alloc: Global,
+    flat: &Flat,
+    first: u64,
+    second: u64,
+    out: &mut O,
+) -> Result<(), Fault>
+    requires { flat_count flat.now < 2 ^ 32 }
+    ensures prints { TextPrints (HasLines flat.now first second) (O.written out.old) (O.written out.new) (result_err result) }
+    ensures cause { IsErrOf result (Fault.WriteFault WriteCall.Out) → Rose (O.faults out.old) (O.faults out.new) }
+    ensures bad { IfErr result (IsNamingFault flat.now first second) }
+{
+    check_numbers(flat, first, second)?;
+    match put_lines(alloc, flat, first, second, out) {
+        Ok(()) => Ok(()),
+        Err(StoreRefusal::Failed) => Err(Fault::WriteFault {
+            call: WriteCall::Out,
+        }),
+        Err(StoreRefusal::Memory) => Err(Fault::Memory),
+    }
+}
+
+// The same of the layout's shapes and labels. The layout is let go as soon as it is flat.
+fn show_layout<O: Sink>(
+    alloc: Global,
+    layout: WideLayout,
+    first: u64,
+    second: u64,
+    out: &mut O,
+) -> Result<(), Fault>
+    requires { IsFlattenable layout }
+    ensures prints { TextPrints (HasLines (wide_flat layout) first second) (O.written out.old) (O.written out.new) (result_err result) }
+    ensures cause { IsErrOf result (Fault.WriteFault WriteCall.Out) → Rose (O.faults out.old) (O.faults out.new) }
+    ensures bad { IfErr result (IsNamingFault (wide_flat layout) first second) }
+{
+    count_is_exact();
+    let Ok(flat) = flatten_wide(alloc, &layout) else {
+        return Err(Fault::Memory);
+    };
+    drop(layout);
+    print_lines(alloc, &flat, first, second, out)
+}
+
+// Prints the lines of the two shapes or labels of the layout; or gives the first thing that is wrong with it or with the
+// numbers.
+#[tactic(auto, using(crate::proofs::ShowingShapes::shows))]
+fn show<O: Sink>(
+    alloc: Global,
+    gds: Vec<u8>,
+    first: u64,
+    second: u64,
+    out: &mut O,
+) -> Result<(), Fault>
+    ensures answer { Answers (showing_stages gds.items first second) (result_err result) }
+    ensures prints { TextPrints (AreShapes gds.items first second) (O.written out.old) (O.written out.new) (result_err result) }
+    ensures cause { IsErrOf result (Fault.WriteFault WriteCall.Out) → Rose (O.faults out.old) (O.faults out.new) }
+    ensures only { IfErr result IsShowingFault }
+{
+    one_wide_reading();
+    let layout = read_layout(alloc, &gds)?;
+    drop(gds);
+    show_layout(alloc, layout, first, second, out)
+}
+
+/// Reads a chip's stream, and prints the lines of the shapes or labels of two numbers.
+#[tactic(auto, using(crate::proofs::ShowingShapes::ends, crate::proofs::HearingDue::load_due))]
+pub fn shapes<F: Files, O: Sink>(
+    alloc: Global,
+    words: &[String],
+    first: u64,
+    second: u64,
+    files: &mut F,
+    out: &mut O,
+) -> Result<(), Fault>
+    requires { length words.now ≡ 4 }
+    ensures answer { ToldAnswers (shapes_stages first second) (F.told files.old) (spelled words.now) (result_err result) }
+    ensures prints { TextPrints (IsShownOf (F.told files.old) (spelled words.now) first second) (O.written out.old) (O.written out.new) (result_err result) }
+    ensures faults { HasFaults (record { reads = F.read_faults files.old; writes = F.write_faults files.old; closes = F.close_faults files.old; outs = O.faults out.old })
+        (record { reads = F.read_faults files.new; writes = F.write_faults files.new; closes = F.close_faults files.new; outs = O.faults out.new }) (result_err result) }
+    ensures failed { IsSome (F.told files.old) → FailedLoad (F.load_failed files.new) (spelled words.now) (result_err result) }
+    ensures due { DueOfOne (λ gds. showing_stages gds first second) (F.heard files.old) (F.heard files.new)
+        (spelled words.now) (result_err result) }
+    ensures heard { OnOk result (HearsShapes (F.heard files.old) (F.heard files.new) (spelled words.now) first second (O.written out.old) (O.written out.new)) }
+    ensures only { IfErr result IsShapesFault }
+    ensures told { F.told files.new ≡ F.told files.old }
+    ensures name { F.opened files.new ≡ F.opened files.old }
+{
+    let gds = load_word(alloc, files, words, 1, GDS_LIMIT)?;
+    show(alloc, gds, first, second, out)
+}
