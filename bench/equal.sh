@@ -1,18 +1,21 @@
 #!/bin/sh
-# What the comparison of `aqfp equal` takes, beside ABC's `cec`: multipliers, dividers, a population count and
-# arithmetic and logic units, each against a form that ABC makes by the commands FORM, by default in tables of four
-# inputs (`if -K 4`; `dch; if -K 6; mfs` and `dc2` are others), and adders against themselves; all of one operand stands
-# before all of the other in the inputs. Library A is changed so that wires may be long: then a multiplier of 16 bits is
-# no chip too large.
+# What the comparison of `aqfp equal` takes, beside ABC's `cec`: chips of multipliers, dividers, a population count,
+# arithmetic and logic units and adders, made by `build` or by `compact`, each against another form of its netlist. All
+# of one operand stands before all of the other in the inputs. Library A is changed so that wires may be long: then a
+# multiplier of 16 bits is no chip too large.
+#
+# A case is four words, KIND BITS FORM COMMAND. FORM is a form that ABC makes: `tables` of four inputs (if -K 4),
+# `choices` (dch; if -K 6; mfs), `rewritten` (dc2) or `resyn2`; or `itself`, or the kind of circuit that it is compared
+# with, as `trees`, an adder by carry trees.
 #
 # Prints for each the seconds of processor time of `equal`, of `verify` without words on the same chip, of the
 # comparison, which is the difference of the two, and of a run of ABC with `cec` on the two netlists; and whether the
-# comparison takes at most twice ABC's time and 0.1 seconds more. Each is the least of RUNS runs, by default 3. Then a
-# multiplier of 16 bits is tried once against the same with its factors exchanged, which must be refused with status 10
-# and `functions`. The status is 1 where a time is above, an answer is not `equal` or the refusal does not come.
-# SECONDS_EACH, by default 600, is when a run is cut off; CASES="KIND BITS.." tries these alone. Needs GNU time and
-# python3. Without ABC (berkeley-abc, yosys-abc or abc) all circuits are compared with themselves, and no time is
-# judged.
+# comparison takes at most twice ABC's time and 0.1 seconds more. Each is the least of RUNS runs, by default 3. Then
+# what is known to be undecided is tried once and must be refused with status 10 and `functions`: a multiplier of 16
+# bits against the same with its factors exchanged, and against ABC's `choices`. The status is 1 where a time is above,
+# an answer is not `equal` or the refusal does not come. SECONDS_EACH, by default 600, is when a run is cut off;
+# CASES="KIND BITS FORM COMMAND.." tries these alone. Needs GNU time and python3. Without ABC (berkeley-abc, yosys-abc
+# or abc) all circuits are compared with themselves, and no time is judged.
 set -u
 here=$(cd -P "$(dirname "$0")/.." && pwd)
 seconds=${SECONDS_EACH:-600}
@@ -74,6 +77,17 @@ def adder(a, b):
     return total + [carry]
 
 
+def trees(a, b):
+    """Each carry by a tree of its own, of whether ranges of bits make a carry, and whether they hand one on."""
+    half = [xor(x, y) for x, y in zip(a, b)]
+    made, handed, step = [both(x, y) for x, y in zip(a, b)], half, 1
+    while step < len(a):
+        made, handed = (made[:step] + [either(m, both(h, low)) for m, h, low in zip(made[step:], handed[step:], made)],
+                        handed[:step] + [both(h, low) for h, low in zip(handed[step:], handed)])
+        step *= 2
+    return [half[0]] + [xor(h, carry) for h, carry in zip(half[1:], made)] + [made[-1]]
+
+
 def multiplier(a, b):
     """By rows of full adders."""
     zero = gate("")
@@ -124,8 +138,8 @@ def unit(a, b, code):
 
 a, b, code = ([f"{letter}{i}" for i in range(size)] for letter, size in (("a", bits), ("b", bits), ("c", 3)))
 inputs = {"count": a, "unit": a + b + code}.get(kind, a + b)
-outputs = {"adder": lambda: adder(a, b), "multiplier": lambda: multiplier(a, b), "divider": lambda: divider(a, b),
-           "exchanged": lambda: multiplier(b, a), "count": lambda: count(list(a)),
+outputs = {"adder": lambda: adder(a, b), "trees": lambda: trees(a, b), "multiplier": lambda: multiplier(a, b),
+           "exchanged": lambda: multiplier(b, a), "divider": lambda: divider(a, b), "count": lambda: count(list(a)),
            "unit": lambda: unit(a, b, code)}[kind]()
 print(".model", kind)
 print(".inputs", *inputs)
@@ -148,36 +162,76 @@ least() {
 # What the last command printed, or its status where it printed nothing.
 said() { cat "$work/printed" "$work/err" | grep . || echo "status $(cat "$work/status")"; }
 
-# Makes a circuit as one.blif, what it is compared with as other.blif, and its chip. A third word is the kind of circuit
-# that it is compared with.
+# Makes a circuit as one.blif, its FORM as other.blif, and the chip of the one by COMMAND.
 prepare() {
     python3 "$work/circuit.py" "$1" "$2" >"$work/one.blif" || return 1
-    if [ $# -gt 2 ]; then
-        python3 "$work/circuit.py" "$3" "$2" >"$work/other.blif" || return 1
-    elif [ -n "$abc" ] && [ "$1" != adder ]; then
-        form="read_blif $work/one.blif; strash; ${FORM:-if -K 4}; write_blif $work/other.blif"
-        "$abc" -q "$form" >"$work/err" 2>&1 || return 1
-    else
+    case $3 in
+        tables) form="if -K 4" ;;
+        choices) form="dch; if -K 6; mfs" ;;
+        rewritten) form="dc2" ;;
+        resyn2) form="b; rw; rf; b; rw; rwz; b; rfz; rwz; b" ;;
+        *) form= ;;
+    esac
+    if [ "$3" = itself ] || { [ -n "$form" ] && [ -z "$abc" ]; }; then
         cp "$work/one.blif" "$work/other.blif"
+    elif [ -n "$form" ]; then
+        "$abc" -q "read_blif $work/one.blif; strash; $form; write_blif $work/other.blif" >"$work/err" 2>&1 || return 1
+    else
+        python3 "$work/circuit.py" "$3" "$2" >"$work/other.blif" || return 1
     fi
-    "$program" build "$work/one.blif" "$work/far.toml" "$work/chip.gds" >"$work/counts" 2>"$work/err"
+    "$program" "$4" "$work/one.blif" "$work/far.toml" "$work/chip.gds" >"$work/counts" 2>"$work/err"
 }
 
-echo "${CASES:-multiplier 8 multiplier 12 multiplier 16 divider 8 divider 12 count 32 unit 16 unit 32 \
-    adder 8 adder 16 adder 32 adder 64}" | tr -s ' ' '\n\n' |
-    paste -d ' ' - - >"$work/cases"
-while read -r kind bits; do
-    prepare "$kind" "$bits" || { echo "$kind $bits: $(head -n 1 "$work/err")"; failed=1; continue; }
+cat >"$work/known" <<'END'
+multiplier 8 tables build
+multiplier 8 tables compact
+multiplier 12 tables build
+multiplier 12 choices build
+multiplier 12 rewritten build
+multiplier 12 resyn2 build
+multiplier 16 tables build
+multiplier 16 tables compact
+multiplier 16 rewritten build
+multiplier 16 resyn2 build
+multiplier 16 itself compact
+multiplier 32 tables compact
+divider 8 tables build
+divider 12 tables build
+divider 12 tables compact
+divider 12 choices build
+count 32 tables build
+count 32 tables compact
+unit 16 tables build
+unit 32 tables build
+unit 32 tables compact
+unit 32 choices build
+adder 8 itself build
+adder 16 itself build
+adder 32 itself build
+adder 64 itself build
+adder 64 tables build
+adder 64 trees build
+adder 64 trees compact
+trees 64 adder build
+END
+if [ -n "${CASES:-}" ]; then
+    echo "$CASES" | tr -s ' ' '\n\n' | paste -d ' ' - - - - >"$work/cases"
+else
+    cp "$work/known" "$work/cases"
+fi
+while read -r kind bits form command; do
+    name="$kind $bits, $form, $command"
+    prepare "$kind" "$bits" "$form" "$command" || { echo "$name: $(head -n 1 "$work/err")"; failed=1; continue; }
     verify=$(least "${RUNS:-3}" "$program" verify "$work/chip.gds" "$work/far.toml" "$work/none")
     equal=$(least "${RUNS:-3}" "$program" equal "$work/chip.gds" "$work/far.toml" "$work/other.blif")
     answer=$(said)
     beside=-
     if [ -n "$abc" ]; then
         beside=$(least "${RUNS:-3}" "$abc" -q "cec $work/one.blif $work/other.blif")
-        grep -q 'are equivalent' "$work/printed" || { echo "$kind $bits: ABC: $(said)"; failed=1; }
+        grep -q 'are equivalent' "$work/printed" || { echo "$name: ABC: $(said)"; failed=1; }
     fi
     [ "$answer" = equal ] || failed=1
-    awk -v name="$kind $bits" -v answer="$answer" -v equal="$equal" -v verify="$verify" -v beside="$beside" \
+    awk -v name="$name" -v answer="$answer" -v equal="$equal" -v verify="$verify" -v beside="$beside" \
         -v counts="$(cat "$work/counts")" 'BEGIN {
         takes = equal - verify
         within = beside == "-" || takes <= 2 * beside + 0.1 + 1e-9
@@ -187,15 +241,14 @@ while read -r kind bits; do
         exit !within }' || failed=1
 done <"$work/cases"
 
-if [ -z "${CASES:-}" ]; then
-    if prepare multiplier 16 exchanged; then
-        took=$(least 1 "$program" equal "$work/chip.gds" "$work/far.toml" "$work/other.blif")
-        answer="$(said), status $(cat "$work/status")"
-        echo "multiplier 16, factors exchanged: $(cat "$work/counts"): $answer: $took s"
-        [ "$answer" = "aqfp: too large: 1000001 functions, status 10" ] || failed=1
-    else
-        echo "multiplier 16, factors exchanged: $(head -n 1 "$work/err")"
-        failed=1
-    fi
-fi
+# What is known to be undecided.
+[ -n "${CASES:-}" ] || for form in exchanged choices; do
+    [ "$form" = exchanged ] || [ -n "$abc" ] || continue
+    name="multiplier 16, $form, build"
+    prepare multiplier 16 $form build || { echo "$name: $(head -n 1 "$work/err")"; failed=1; continue; }
+    took=$(least 1 "$program" equal "$work/chip.gds" "$work/far.toml" "$work/other.blif")
+    answer="$(said), status $(cat "$work/status")"
+    echo "$name: $(cat "$work/counts"): $answer: $took s"
+    [ "$answer" = "aqfp: too large: 1000001 functions, status 10" ] || failed=1
+done
 exit $failed

@@ -12,11 +12,15 @@
 # pin; a boundary of 2,001 teeth of different heights that is referenced 3,900 times; a text of 32,000 bytes that is
 # referenced 20,000 times, beside one of two bytes; 20,000 references to an empty structure in one that is referenced
 # 100,000 times, beside it without them; and a loop of 300,000 structures, beside as many with a square each. Libraries
-# of 90,000 keys stand beside those of 45,000, and chosen names beside counted ones (bench/names.sh).
+# of 90,000 keys stand beside those of 45,000, and chosen names beside counted ones (bench/names.sh). Chips are
+# compared with another form of their netlists, beside `verify` of them without words: rows of chosen gates, whose
+# exclusive ors are made in two ways, of which the chip of `compact` is undecided; and outputs that random words all
+# show false, so that each looks like each other.
 #
 # Prints for each the seconds of processor time and the megabytes of memory at most, the same of the ordinary input, the
-# two ratios, and whether they are within three times, five for labels on one pin, 2.5 for twice the keys. The status
-# is 1 where one is above. Needs GNU time, cc and python3; SECONDS_EACH, by default 300, is when a run is cut off.
+# two ratios, and whether they are within three times, five for labels on one pin, 2.5 for twice the keys, ten for an
+# undecided comparison, whose work is bounded by counts. The status is 1 where one is above, or a comparison is answered
+# otherwise. Needs GNU time, cc and python3; SECONDS_EACH, by default 300, is when a run is cut off.
 set -u
 here=$(cd -P "$(dirname "$0")/.." && pwd)
 seconds=${SECONDS_EACH:-300}
@@ -32,7 +36,7 @@ printf '0\n1\n' >"$work/words"
 failed=0
 
 cat >"$work/make.py" <<'END'
-import struct, sys
+import random, struct, sys
 kind, size, target = sys.argv[1], int(sys.argv[2]), sys.argv[3]
 FAR = 500_000_000
 
@@ -117,6 +121,38 @@ def comb(teeth):
 def label(layer, text, x, y):
     head = record(0x0C00) + record(0x0D02, words(layer)) + record(0x1602, words(0))
     return head + record(0x1003, points(x, y)) + record(0x1906, text) + record(0x1100)
+def layers(size, form):
+    """Rows of 64 gates, each of two of the row below, chosen by a fixed seed; exclusive ors are of two forms."""
+    chosen = random.Random(1)
+    xor = {"one": ["10 1", "01 1"], "two": None}[form]
+    yield ".inputs " + " ".join(f"r0_{k}" for k in range(64))
+    yield ".outputs " + " ".join(f"r{size}_{k}" for k in range(64))
+    for row in range(1, size + 1):
+        for k in range(64):
+            a, b = (f"r{row - 1}_{(k + step) % 64}" for step in chosen.sample(range(-3, 4), 2))
+            y, what = f"r{row}_{k}", chosen.choice(("xor", "xor", "and", "or"))
+            if what == "xor" and xor is None:
+                yield f".names {a} {b} e{y}\n1- 1\n-1 1\n.names {a} {b} b{y}\n11 1\n.names e{y} b{y} {y}\n10 1"
+            else:
+                yield "\n".join([f".names {a} {b} {y}", *{"xor": xor, "and": ["11 1"], "or": ["1- 1", "-1 1"]}[what]])
+
+
+def scarce(size, form):
+    """Outputs that are true where 16 inputs of 48 have chosen values, so that random words show all of them false."""
+    chosen = random.Random(1)
+    yield ".inputs " + " ".join(f"i{k}" for k in range(48))
+    yield ".outputs " + " ".join(f"y{k}" for k in range(size))
+    for k in range(size):
+        taken = [(f"i{n}", chosen.choice("01")) for n in chosen.sample(range(48), 16)]
+        if form == "two":
+            taken.reverse()
+        last, value = taken[0]
+        for step, (name, bit) in enumerate(taken[1:], 1):
+            y = f"y{k}" if step == 15 else f"t{k}_{step}"
+            yield f".names {last} {name} {y}\n{value}{bit} 1"
+            last, value = y, "1"
+
+
 def reference(name, x, y):
     return record(0x0A00) + record(0x1206, name) + record(0x1003, points(x, y)) + record(0x1100)
 
@@ -155,6 +191,8 @@ elif kind == "deep": netlist(deep(size))
 elif kind == "broad": netlist(broad(size))
 elif kind == "named": netlist(named(size))
 elif kind == "doubled": netlist(doubled(size))
+elif kind == "layers": netlist(layers(size, sys.argv[5]))
+elif kind == "scarce": netlist(scarce(size, sys.argv[5]))
 elif kind == "keys": netlist(f"k{i} = 1" for i in range(size))
 elif kind == "name_keys": netlist(["[name]", *(f"k{i} = 1" for i in range(size))])
 else:
@@ -182,7 +220,7 @@ else:
     open(target, "wb").write(made)
 END
 
-make() { python3 "$work/make.py" "$1" "$2" "$3" "$work/wire.gds"; }
+make() { python3 "$work/make.py" "$1" "$2" "$3" "$work/wire.gds" "${4:-}"; }
 
 # The seconds of processor time, the megabytes and the first words that a command prints.
 measure() {
@@ -289,6 +327,24 @@ for kind in keys name_keys; do
     half=$(read_library "$work/half.toml")
     compare "library $kind, 90000, twenty times" "$(read_library "$work/whole.toml")" "$half" 1 2.5
 done
+
+# Comparisons, each of a chip with another form of its netlist, beside `verify` without words, and what is answered.
+sed 's/^capacity = .*/capacity = 200/; s/^limit = .*/limit = 20000000/' "$here/libraries/a.toml" >"$work/far.toml"
+while read -r kind size command answer most; do
+    make "$kind" "$size" "$work/net" one
+    make "$kind" "$size" "$work/other" two
+    "$program" "$command" "$work/net" "$work/far.toml" "$work/chip.gds" >"$work/counts" || exit 1
+    took=$(measure "$program" equal "$work/chip.gds" "$work/far.toml" "$work/other")
+    case $took in *"$answer"*) ;; *) failed=1 ;; esac
+    compare "comparison $kind, $command, $(cut -d ' ' -f 3-4 "$work/counts")" "$took" \
+        "$(measure "$program" verify "$work/chip.gds" "$work/far.toml" "$work/none")" 1 "$most"
+done <<CASES
+layers 120 build equal 3
+layers 480 build equal 3
+scarce 100 compact equal 3
+scarce 400 compact equal 3
+layers 200 compact functions 10
+CASES
 
 # Names.
 AQFP=$program "$here/bench/names.sh" >"$work/names" || failed=1
