@@ -1,10 +1,10 @@
 #!/bin/sh
-# Each allocation of a command failing in turn: the commands over the first chip, its netlist and its words, and the
-# sample of one bit. The program is run once for each of its allocations, which is refused, and each run must end with
-# status 14 and the line for it, or with the full answer: then standard output holds the whole text, else some first
-# bytes of it; OUT holds what it held before, or some first bytes of the new file, and the whole of it where the answer
-# is full; and no other file has changed. Prints a line for each command, and what was otherwise; the status is 1 where
-# something was.
+# Each allocation of a command failing in turn: the commands over the first chip, its netlist and its words, comparisons
+# with the netlist of an inverter and of an exclusive or with another form of it, and the sample of one bit. The program
+# is run once for each of its allocations, which is refused, and each run must end with status 14 and the line for it,
+# or with the full answer: then standard output holds the whole text, else some first bytes of it; OUT holds what it
+# held before, or some first bytes of the new file, and the whole of it where the answer is full; and no other file has
+# changed. Prints a line for each command, and what was otherwise; the status is 1 where something was.
 #
 # The calls of malloc and its like are refused by a library that is loaded before the C library's own, and only those
 # that the program itself makes. Needs cc and python3. AQFP names another program; `rt try --fail-alloc N` in
@@ -66,7 +66,12 @@ cc -O2 -shared -fPIC -o "$work/refuse.so" "$work/refuse.c" || exit 70
 mkdir "$work/given"
 cp "$here/libraries/a.toml" "$work/given/a.toml"
 cp "$here/examples/wire.blif" "$here/examples/wire.words" "$work/given/"
-(cd "$work/given" && "$program" build wire.blif a.toml wire.gds >/dev/null) || exit 1
+printf '.inputs a\n.outputs y\n.names a y\n0 1\n' >"$work/given/not.blif"
+printf '.inputs a b\n.outputs y\n.names a b y\n10 1\n01 1\n' >"$work/given/one.blif"
+printf '.inputs a b\n.outputs y\n.names a b o\n1- 1\n-1 1\n.names a b n\n11 0\n.names o n y\n11 1\n' \
+    >"$work/given/two.blif"
+(cd "$work/given" && "$program" build wire.blif a.toml wire.gds && "$program" build one.blif a.toml one.gds) \
+    >/dev/null || exit 1
 echo "what stood here before" >"$work/given/old.gds"
 
 python3 - "$program" "$work" <<'END'
@@ -83,6 +88,10 @@ COMMANDS = [
     ("verify wire.gds a.toml wire.words", None),
     ("trace wire.gds a.toml wire.words", None),
     ("equal wire.gds a.toml wire.blif", None),
+    ("equal one.gds a.toml two.blif", None),
+    ("equal wire.gds a.toml not.blif", None),
+    ("report wire.gds a.toml", None),
+    ("shapes wire.gds 0 1", None),
     ("netlist wire.gds a.toml new.blif", "new.blif"),
     ("sample 1", None),
 ]
