@@ -164,18 +164,22 @@ said() { cat "$work/printed" "$work/err" | grep . || echo "status $(cat "$work/s
 
 # Makes a circuit as one.blif, its FORM as other.blif, and the chip of the one by COMMAND.
 prepare() {
+    rm -f "$work/other.blif"
     python3 "$work/circuit.py" "$1" "$2" >"$work/one.blif" || return 1
     case $3 in
         tables) form="if -K 4" ;;
         choices) form="dch; if -K 6; mfs" ;;
         rewritten) form="dc2" ;;
-        resyn2) form="b; rw; rf; b; rw; rwz; b; rfz; rwz; b" ;;
+        resyn2)
+            form="balance; rewrite; refactor; balance; rewrite; rewrite -z; balance; refactor -z; rewrite -z; balance"
+            ;;
         *) form= ;;
     esac
     if [ "$3" = itself ] || { [ -n "$form" ] && [ -z "$abc" ]; }; then
         cp "$work/one.blif" "$work/other.blif"
     elif [ -n "$form" ]; then
-        "$abc" -q "read_blif $work/one.blif; strash; $form; write_blif $work/other.blif" >"$work/err" 2>&1 || return 1
+        "$abc" -q "read_blif $work/one.blif; strash; $form; write_blif $work/other.blif" >"$work/err" 2>&1
+        [ -e "$work/other.blif" ] || return 1
     else
         python3 "$work/circuit.py" "$3" "$2" >"$work/other.blif" || return 1
     fi
