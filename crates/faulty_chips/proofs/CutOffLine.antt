@@ -14,12 +14,13 @@ use Rattle.layout_rules.specs.Rules.{FirstBroken, KeepsBefore}
 use Rattle.layout_rules.proofs.Places.{IsOneOf, place_of, at_one}
 use Rattle.layout_rules.proofs.Lines.{line_of, IsShortLine, part_place, one_start, contact, contact_place, other_part, start_joined, bar_joined, start_reached, bar_reached}
 use Rattle.faulty_chips.specs.LineChips.{with_cut_off_line}
-use Rattle.faulty_chips.proofs.Cells.{cells_kept}
+use Rattle.layout_rules.proofs.Computed.{found_none}
+use Rattle.layout_rules.proofs.JudgedCells.{cells_judged}
 use Rattle.faulty_chips.proofs.Order.{keeps_cells, least_first}
 
 before : KeepsBefore E2 with_cut_off_line first_limits
 unfolding with_cut_off_line first_flat
-before = keeps_cells with_cut_off_line first_limits (cells_kept with_cut_off_line.shapes refl refl refl)
+before = keeps_cells with_cut_off_line first_limits (found_none (cells_judged with_cut_off_line.shapes) refl)
 
 no_other_part : (n : ℕ) → Passes is_no_part with_cut_off_line.shapes n → ⊥
 unfolding with_cut_off_line first_flat

@@ -13,13 +13,14 @@ use Rattle.layout_rules.specs.Rules.{FirstBroken, KeepsBefore}
 use Rattle.layout_rules.specs.FaultyChips.{without_starts}
 use Rattle.faulty_chips.specs.LineChips.{with_bars_on_one_layer}
 use Rattle.layout_rules.proofs.Places.{IsOneOf, place_at, place_of, at_one}
-use Rattle.faulty_chips.proofs.Cells.{cells_kept}
+use Rattle.layout_rules.proofs.Computed.{found_none}
+use Rattle.layout_rules.proofs.JudgedCells.{cells_judged}
 use Rattle.layout_rules.proofs.Lines.{part_place}
 use Rattle.faulty_chips.proofs.Order.{keeps_cells, alone_first}
 
 before : KeepsBefore E2 with_bars_on_one_layer first_limits
 unfolding with_bars_on_one_layer without_starts first_flat
-before = keeps_cells with_bars_on_one_layer first_limits (cells_kept with_bars_on_one_layer.shapes refl refl refl)
+before = keeps_cells with_bars_on_one_layer first_limits (found_none (cells_judged with_bars_on_one_layer.shapes) refl)
 
 no_other_part : (n : ℕ) → Passes is_no_part with_bars_on_one_layer.shapes n → ⊥
 unfolding with_bars_on_one_layer without_starts first_flat

@@ -12,12 +12,13 @@ use Rattle.layout_rules.specs.ExcitationRule.{is_no_part, IsStartOn, HasOneStart
 use Rattle.layout_rules.specs.Rules.{FirstBroken, KeepsBefore}
 use Rattle.faulty_chips.specs.LineChips.{with_second_start}
 use Rattle.layout_rules.proofs.Places.{IsOneOf, place_at, place_of, at_one}
-use Rattle.faulty_chips.proofs.Cells.{cells_kept}
+use Rattle.layout_rules.proofs.Computed.{found_none}
+use Rattle.layout_rules.proofs.JudgedCells.{cells_judged}
 use Rattle.faulty_chips.proofs.Order.{keeps_cells, alone_first}
 
 before : KeepsBefore E2 with_second_start first_limits
 unfolding with_second_start first_flat
-before = keeps_cells with_second_start first_limits (cells_kept with_second_start.shapes refl refl refl)
+before = keeps_cells with_second_start first_limits (found_none (cells_judged with_second_start.shapes) refl)
 
 no_other_part : (n : ℕ) → Passes is_no_part with_second_start.shapes n → ⊥
 unfolding with_second_start first_flat

@@ -18,12 +18,13 @@ use Rattle.layout_rules.proofs.LinesAgree.{excitation_first}
 use Rattle.layout_rules.proofs.Places.{one_of}
 use Rattle.layout_rules.proofs.Lines.{line_of, AreLines, parts_kept, even_kept, odd_kept, joined_kept, reached_kept, crossed_kept, unexcited_place}
 use Rattle.faulty_chips.specs.LineChips.{with_short_bar}
-use Rattle.faulty_chips.proofs.Cells.{cells_kept}
+use Rattle.layout_rules.proofs.Computed.{found_none}
+use Rattle.layout_rules.proofs.JudgedCells.{cells_judged}
 use Rattle.faulty_chips.proofs.Order.{keeps_cells, alone_first}
 
 before : KeepsBefore E2 with_short_bar first_limits
 unfolding with_short_bar first_flat
-before = keeps_cells with_short_bar first_limits (cells_kept with_short_bar.shapes refl refl refl)
+before = keeps_cells with_short_bar first_limits (found_none (cells_judged with_short_bar.shapes) refl)
 
 -- its two lines
 lines : AreLines with_short_bar.shapes 3 4 13 14

@@ -12,13 +12,14 @@ use Rattle.layout_rules.specs.ExcitationRule.{is_no_part, LacksOneStart, HasItsC
 use Rattle.layout_rules.specs.Rules.{FirstBroken, KeepsBefore}
 use Rattle.faulty_chips.specs.LineChips.{with_short_start}
 use Rattle.layout_rules.proofs.Places.{IsOneOf, one_of, place_of, at_one}
-use Rattle.faulty_chips.proofs.Cells.{cells_kept}
+use Rattle.layout_rules.proofs.Computed.{found_none}
+use Rattle.layout_rules.proofs.JudgedCells.{cells_judged}
 use Rattle.layout_rules.proofs.Lines.{one_start, contact_place}
 use Rattle.faulty_chips.proofs.Order.{keeps_cells, least_first}
 
 before : KeepsBefore E2 with_short_start first_limits
 unfolding with_short_start first_flat
-before = keeps_cells with_short_start first_limits (cells_kept with_short_start.shapes refl refl refl)
+before = keeps_cells with_short_start first_limits (found_none (cells_judged with_short_start.shapes) refl)
 
 no_other_part : (n : ℕ) → Passes is_no_part with_short_start.shapes n → ⊥
 unfolding with_short_start first_flat

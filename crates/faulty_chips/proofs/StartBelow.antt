@@ -14,12 +14,13 @@ use Rattle.layout_rules.proofs.LinesAgree.{excitation_first}
 use Rattle.layout_rules.proofs.Places.{IsOneOf, at_one}
 use Rattle.layout_rules.proofs.Lines.{line_of, AreLines, part_place, bar_part, bar_before, bar_crossed, parts_kept, even_kept, odd_kept, joined_kept, reached_kept}
 use Rattle.faulty_chips.specs.LineChips.{with_start_below}
-use Rattle.faulty_chips.proofs.Cells.{cells_kept}
+use Rattle.layout_rules.proofs.Computed.{found_none}
+use Rattle.layout_rules.proofs.JudgedCells.{cells_judged}
 use Rattle.faulty_chips.proofs.Order.{keeps_cells, alone_first}
 
 before : KeepsBefore E2 with_start_below first_limits
 unfolding with_start_below first_flat
-before = keeps_cells with_start_below first_limits (cells_kept with_start_below.shapes refl refl refl)
+before = keeps_cells with_start_below first_limits (found_none (cells_judged with_start_below.shapes) refl)
 
 -- its two lines
 lines : AreLines with_start_below.shapes 3 4 13 14

@@ -9,12 +9,13 @@ use Rattle.layout_rules.specs.ExcitationRule.{is_no_part, ExcitationBroken}
 use Rattle.layout_rules.specs.Rules.{FirstBroken, KeepsBefore}
 use Rattle.faulty_chips.specs.LineChips.{with_unknown_part}
 use Rattle.layout_rules.proofs.Places.{one_of, place_of}
-use Rattle.faulty_chips.proofs.Cells.{cells_kept}
+use Rattle.layout_rules.proofs.Computed.{found_none}
+use Rattle.layout_rules.proofs.JudgedCells.{cells_judged}
 use Rattle.faulty_chips.proofs.Order.{keeps_cells, alone_first}
 
 before : KeepsBefore E2 with_unknown_part first_limits
 unfolding with_unknown_part first_flat
-before = keeps_cells with_unknown_part first_limits (cells_kept with_unknown_part.shapes refl refl refl)
+before = keeps_cells with_unknown_part first_limits (found_none (cells_judged with_unknown_part.shapes) refl)
 
 broken : Passes is_no_part with_unknown_part.shapes 4
 unfolding with_unknown_part first_flat

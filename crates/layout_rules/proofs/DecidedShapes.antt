@@ -6,7 +6,7 @@ use Rattle.geom.specs.declared.shapes.Shape.{Shape}
 use Rattle.layout_rules.specs.Reports.{Passes, PassTogether}
 use Rattle.layout_rules.proofs.Deciding.{dec_same, dec_true, dec_item}
 
-pub dec_passes : (test : Shape → Bool) (shapes : List Shape) (n : ℕ) → Dec (Passes test shapes n)
+abbrev pub dec_passes : (test : Shape → Bool) (shapes : List Shape) (n : ℕ) → Dec (Passes test shapes n)
 dec_passes test shapes n = dec_same
     (λ h. record { shape = h.0; shape_is = h.1; passes_so = h.2 }) (λ p. (p.shape, p.shape_is, p.passes_so))
     (dec_item shapes n (λ s. test s ≡ true) (λ s is. dec_true (test s)))
@@ -14,7 +14,7 @@ dec_passes test shapes n = dec_same
 pub passes_within : (test : Shape → Bool) (shapes : List Shape) (n : ℕ) → Passes test shapes n → n < length shapes
 passes_within test shapes n p = slice_get_within shapes n p.shape p.shape_is
 
-pub dec_together : (test : Shape → Shape → Bool) (shapes : List Shape) (a b : ℕ) → Dec (PassTogether test shapes a b)
+abbrev pub dec_together : (test : Shape → Shape → Bool) (shapes : List Shape) (a b : ℕ) → Dec (PassTogether test shapes a b)
 dec_together test shapes a b = dec_same
     (λ h. record { first = h.0; first_is = h.1; second = h.2.0; second_is = h.2.1; passes_so = h.2.2 })
     (λ p. (p.first, p.first_is, (p.second, p.second_is, p.passes_so)))

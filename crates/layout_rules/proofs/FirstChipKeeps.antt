@@ -1,23 +1,20 @@
--- The first chip keeps all rules.
+-- The first chip keeps all rules, and its two lines excite its two rows.
+use Rattle.std.proofs.Common.{refl}
 use Rattle.geom.specs.FirstChip.{first_flat}
-use Rattle.layout_rules.specs.declared.rule.Rule.TheVariants.{E1, E2, E3, E4, E5, E6, G1, G2, G3, G4, G5}
+use Rattle.layout_rules.specs.ExcitationRule.{ExcitationBroken}
 use Rattle.layout_rules.specs.FirstLimits.{first_limits}
+use Rattle.layout_rules.specs.Reports.{ReportsNone}
 use Rattle.layout_rules.specs.Rules.{KeepsRules}
-use Rattle.layout_rules.proofs.FirstCells.{cells_kept, frames_kept}
-use Rattle.layout_rules.proofs.FirstGeometry.{sizes_kept, spacing_kept, enclosure_kept, cover_kept}
-use Rattle.layout_rules.proofs.FirstWires.{nets_kept, rows_kept, lengths_kept}
-use Rattle.layout_rules.proofs.FirstLabels.{labels_kept}
-use Rattle.layout_rules.proofs.FirstLines.{excitation_kept}
+use Rattle.layout_rules.proofs.FirstWire.{first_nets, first_paths}
+use Rattle.layout_rules.proofs.NetPaths.{nets_from}
+use Rattle.layout_rules.proofs.RuleLaws.{rules}
+use Rattle.layout_rules.proofs.ShortLines.{lines_kept}
+use Rattle.layout_rules.proofs.Worked.{keeps}
+
+pub excitation_kept : ReportsNone (ExcitationBroken first_flat.shapes)
+unfolding first_flat
+excitation_kept = lines_kept _ 3 4 13 14 refl refl refl refl refl
 
 pub all_kept : KeepsRules first_flat first_limits
-all_kept E1 = cells_kept
-all_kept E2 = excitation_kept
-all_kept E3 = nets_kept
-all_kept E4 = rows_kept
-all_kept E5 = lengths_kept
-all_kept E6 = labels_kept
-all_kept G1 = sizes_kept
-all_kept G2 = spacing_kept
-all_kept G3 = enclosure_kept
-all_kept G4 = cover_kept
-all_kept G5 = frames_kept
+unfolding first_flat rules
+all_kept = keeps _ _ _ (nets_from _ first_nets first_paths refl refl refl) excitation_kept refl

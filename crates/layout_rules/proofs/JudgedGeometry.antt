@@ -13,30 +13,29 @@ use Rattle.layout_rules.specs.LengthRule.{net_length, IsTooLong, LengthsBroken}
 use Rattle.layout_rules.proofs.Deciding.{dec_same, dec_both, dec_then, dec_equal, dec_below, dec_up_to, dec_all_those}
 use Rattle.layout_rules.proofs.DecidedShapes.{dec_passes, passes_within, dec_together, together_within}
 use Rattle.layout_rules.proofs.Judging.{Judged, judged_alone, judged_pairs}
-use Rattle.layout_rules.proofs.NetsExist.{some_nets}
 
-passes_judged : (test : Shape → Bool) (shapes : List Shape) → Judged (λ a b. Passes test shapes a × (b ≡ a))
+abbrev pub passes_judged : (test : Shape → Bool) (shapes : List Shape) → Judged (λ a b. Passes test shapes a × (b ≡ a))
 passes_judged test shapes = judged_alone (Passes test shapes) (length shapes) (dec_passes test shapes) (passes_within test shapes)
 
 -- two shapes of which the lesser number is told first
-in_order_judged : (test : Shape → Shape → Bool) (shapes : List Shape) → Judged (λ a b. (a < b) × PassTogether test shapes a b)
+abbrev pub in_order_judged : (test : Shape → Shape → Bool) (shapes : List Shape) → Judged (λ a b. (a < b) × PassTogether test shapes a b)
 in_order_judged test shapes = judged_pairs (λ a b. (a < b) × PassTogether test shapes a b) (length shapes)
     (λ a b. dec_both (dec_below a b) (dec_together test shapes a b)) (λ a b h. together_within test shapes a b h.1)
 
 module _ (limits : Limits) (shapes : List Shape) where
-  pub sizes_judged : Judged (SizesBroken limits shapes)
+  abbrev pub sizes_judged : Judged (SizesBroken limits shapes)
   sizes_judged = passes_judged (is_too_small limits) shapes
 
-  pub spacing_judged : Judged (SpacingBroken limits shapes)
+  abbrev pub spacing_judged : Judged (SpacingBroken limits shapes)
   spacing_judged = in_order_judged (are_too_close limits.space) shapes
 
-  pub enclosure_judged : Judged (EnclosureBroken limits shapes)
+  abbrev pub enclosure_judged : Judged (EnclosureBroken limits shapes)
   enclosure_judged = passes_judged (is_bare limits shapes) shapes
 
-  pub cover_judged : Judged (CoverBroken shapes)
+  abbrev pub cover_judged : Judged (CoverBroken shapes)
   cover_judged = judged_pairs (CoverBroken shapes) (length shapes) (dec_together (trespasses shapes) shapes) (together_within (trespasses shapes) shapes)
 
-  pub frames_judged : Judged (FramesBroken shapes)
+  abbrev pub frames_judged : Judged (FramesBroken shapes)
   frames_judged = in_order_judged collide shapes
 
   -- a shape of metal that is the first of its net, which is too long by these nets
@@ -45,7 +44,7 @@ module _ (limits : Limits) (shapes : List Shape) where
       × ((c : ℕ) → Passes is_metal shapes c → slice_index nets c ≡ slice_index nets a → a ≤ c)
       × (limits.limit < net_length shapes nets (slice_index nets a))
 
-  dec_too_long_by : (nets : List ℕ) (a : ℕ) → Dec (TooLongBy nets a)
+  abbrev pub dec_too_long_by : (nets : List ℕ) (a : ℕ) → Dec (TooLongBy nets a)
   dec_too_long_by nets a = dec_same (λ h. (h.0, h.1.0, h.1.1)) (λ h. (h.0, (h.1, h.2)))
       (dec_both (dec_passes is_metal shapes a) (dec_both
       (dec_all_those (Passes is_metal shapes) (λ c. slice_index nets c ≡ slice_index nets a → a ≤ c) (length shapes)
@@ -53,14 +52,14 @@ module _ (limits : Limits) (shapes : List Shape) where
       (λ c. dec_then (dec_equal (slice_index nets c) (slice_index nets a)) (dec_up_to a c)))
       (dec_below limits.limit (net_length shapes nets (slice_index nets a)))))
 
-  pub lengths_judged : Judged (LengthsBroken limits shapes)
-  lengths_judged = judged_alone (IsTooLong limits shapes) (length shapes) dec_too_long (λ a h. passes_within is_metal shapes a h.metal)
+  abbrev pub lengths_judged : (some : (ns : List ℕ) × AreNets shapes ns) → Judged (LengthsBroken limits shapes)
+  lengths_judged some = judged_alone (IsTooLong limits shapes) (length shapes) dec_too_long (λ a h. passes_within is_metal shapes a h.metal)
     where
       nets : List ℕ
-      nets = (some_nets shapes).0
+      nets = some.0
 
       are : AreNets shapes nets
-      are = (some_nets shapes).1
+      are = some.1
 
       by_these : (a : ℕ) → IsTooLong limits shapes a → TooLongBy nets a
       by_these a h = subst (λ (n : List ℕ). TooLongBy n a) (AreNets-once shapes h.nets nets h.are_nets are) (h.metal, h.least, h.too_long)

@@ -18,39 +18,37 @@ module _ (flat : Flat) where
   abbrev SomeLabel : (ℕ → Label → Type 0) → ℕ → Type 0
   SomeLabel Q n = (place : ℕ) × ((label : Label) × (slice_get flat.labels place ≡ Some label) × ((label.layer ≡ LABELS) × (n ≡ length flat.shapes + place) × Q place label))
 
-  dec_label : (Q : ℕ → Label → Type 0) (n : ℕ) → ((place : ℕ) (label : Label) → Dec (Q place label)) → Dec (SomeLabel Q n)
+  abbrev pub dec_label : (Q : ℕ → Label → Type 0) (n : ℕ) → ((place : ℕ) (label : Label) → Dec (Q place label)) → Dec (SomeLabel Q n)
   dec_label Q n decided = dec_some_item flat.labels (λ place label. (label.layer ≡ LABELS) × (n ≡ length flat.shapes + place) × Q place label)
       (λ place label is. dec_same (λ h. (h.0, h.1.0, h.1.1)) (λ h. (h.0, (h.1, h.2)))
       (dec_both (dec_equal label.layer LABELS) (dec_both (dec_equal n (length flat.shapes + place)) (decided place label))))
 
-  label_at : (Q : ℕ → Label → Type 0) (n : ℕ) → SomeLabel Q n → IsLabelAt flat n
+  abbrev pub label_at : (Q : ℕ → Label → Type 0) (n : ℕ) → SomeLabel Q n → IsLabelAt flat n
   label_at Q n h = record { place = h.0; label = h.1.0; label_is = h.1.1; of_layer = h.1.2.0; number_is = h.1.2.1 }
 
-  some_label : (Q : ℕ → Label → Type 0) (n : ℕ) (at : IsLabelAt flat n) → Q at.place at.label → SomeLabel Q n
+  abbrev pub some_label : (Q : ℕ → Label → Type 0) (n : ℕ) (at : IsLabelAt flat n) → Q at.place at.label → SomeLabel Q n
   some_label Q n at q = (at.place, (at.label, at.label_is, (at.of_layer, at.number_is, q)))
 
-  count : ℕ
+  abbrev pub count : ℕ
   count = length flat.shapes + length flat.labels
 
-  label_within : (n : ℕ) → IsLabelAt flat n → n < count
-  unfolding count
+  pub label_within : (n : ℕ) → IsLabelAt flat n → n < count
   label_within n at = let lt : at.place < length flat.labels = slice_get_within flat.labels at.place at.label at.label_is in let e = at.number_is in omega arith
 
   abbrev IsNoPort : ℕ → Label → Type 0
   IsNoPort place label = is_port_label flat.shapes label ≡ false
 
-  dec_no_port : (n : ℕ) → Dec (IsNoPortLabel flat n)
-  unfolding label_at
+  abbrev pub dec_no_port : (n : ℕ) → Dec (IsNoPortLabel flat n)
   dec_no_port n = dec_same (λ h. record { at = label_at IsNoPort n h; not_so = h.1.2.2 }) (λ h. some_label IsNoPort n h.at h.not_so)
       (dec_label IsNoPort n (λ place label. dec_false (is_port_label flat.shapes label)))
 
-  dec_unlabelled : (p : ℕ) → Dec (IsUnlabelledPort flat p)
+  abbrev pub dec_unlabelled : (p : ℕ) → Dec (IsUnlabelledPort flat p)
   dec_unlabelled p = dec_same (λ h. record { port = record { shape = h.0; shape_is = h.1; passes_so = h.2.0 }; not_one = h.2.1 })
       (λ h. (h.port.shape, h.port.shape_is, (h.port.passes_so, h.not_one)))
       (dec_item flat.shapes p (λ s. (is_port flat.shapes s ≡ true) × (count_by (λ label. marks label s) flat.labels ≡ 1 → ⊥))
       (λ s is. dec_both (dec_true (is_port flat.shapes s)) (dec_not (dec_equal (count_by (λ label. marks label s) flat.labels) 1))))
 
-  dec_repeated : (place : ℕ) (label : Label) → Dec (IsRepeated flat place label)
+  abbrev pub dec_repeated : (place : ℕ) (label : Label) → Dec (IsRepeated flat place label)
   dec_repeated place label = dec_same
       (λ h. record { earlier = h.0; other = h.1.0; before = h.1.2.0; other_is = h.1.1; of_layer = h.1.2.1.0; one_name = h.1.2.1.1 })
       (λ h. (h.earlier, (h.other, h.other_is, (h.before, (h.of_layer, h.one_name)))))
@@ -60,12 +58,11 @@ module _ (flat : Flat) where
   abbrev IsWrong : ℕ → Label → Type 0
   IsWrong place label = (port_count flat.shapes label ≤ number_of_label label) ⊎ IsRepeated flat place label
 
-  dec_misnumbered : (n : ℕ) → Dec (IsMisnumbered flat n)
-  unfolding label_at
+  abbrev pub dec_misnumbered : (n : ℕ) → Dec (IsMisnumbered flat n)
   dec_misnumbered n = dec_same (λ h. record { at = label_at IsWrong n h; wrong = h.1.2.2 }) (λ h. some_label IsWrong n h.at h.wrong)
       (dec_label IsWrong n (λ place label. dec_either (dec_up_to (port_count flat.shapes label) (number_of_label label)) (dec_repeated place label)))
 
-  pub labels_judged : Judged (LabelsBroken flat)
+  abbrev pub labels_judged : Judged (LabelsBroken flat)
   labels_judged = judged_afterwards (Alone (IsNoPortLabel flat)) (Afterwards (Alone (IsUnlabelledPort flat)) (Alone (IsMisnumbered flat)))
       (judged_alone (IsNoPortLabel flat) count dec_no_port (λ n h. label_within n h.at))
       (judged_afterwards (Alone (IsUnlabelledPort flat)) (Alone (IsMisnumbered flat))

@@ -7,28 +7,28 @@ pub mod LineLaws
 pub mod RuleLaws
 pub mod Places
 pub mod Lines
-mod FirstCells
-mod FirstGeometry
-mod FirstNets
-mod FirstWires
-mod FirstLabels
-pub mod FirstLines
+pub mod NetPaths
+pub mod FirstWire
+mod FirstLines
 mod OtherChips
-mod FirstChipKeeps
 pub mod NetsExist
 pub mod Insertion
 pub mod RowsExist
 pub mod Deciding
 mod DecidedShapes
-mod Judging
-mod JudgedCells
+pub mod Judging
+pub mod JudgedCells
 mod Reaching
 mod LineWays
 pub mod ChainsAgree
-mod JudgedLines
+pub mod JudgedLines
 pub mod LinePaths
 pub mod LinesAgree
-mod JudgedNets
-mod JudgedLabels
-mod JudgedGeometry
+pub mod JudgedNets
+pub mod JudgedLabels
+pub mod JudgedGeometry
 mod VerdictsExist
+pub mod Computed
+pub mod ShortLines
+pub mod Worked
+pub mod FirstChipKeeps

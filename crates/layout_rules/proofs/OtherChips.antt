@@ -7,20 +7,19 @@ use Rattle.layout_rules.specs.declared.layers.TheConstants.{EVEN_LINE, START}
 use Rattle.layout_rules.specs.FirstLimits.{first_limits}
 use Rattle.layout_rules.specs.FaultyChips.{with_moved_via, without_starts}
 use Rattle.layout_rules.specs.Reports.{IsFirstReport, Passes}
-use Rattle.layout_rules.specs.GeometryRules.{is_bare, EnclosureBroken}
+use Rattle.layout_rules.specs.GeometryRules.{EnclosureBroken}
 use Rattle.layout_rules.specs.ExcitationRule.{is_no_part, HasOneStart, LacksOneStart, ExcitationBroken}
 use Rattle.layout_rules.proofs.Places.{one_of, place_at, place_of}
 use Rattle.layout_rules.proofs.Lines.{part_place}
-
-same_numbers : (a b c d : ℕ) → a ≡ c → b ≡ a → d ≡ c → (a < c) ⊎ ((a ≡ c) × (b ≤ d))
-same_numbers a b c d e f g = inr (e, omega arith)
+use Rattle.layout_rules.proofs.Computed.{found_first}
+use Rattle.layout_rules.proofs.JudgedGeometry.{enclosure_judged}
 
 pub moved_via : IsFirstReport (EnclosureBroken first_limits with_moved_via.shapes) 8 8
 unfolding with_moved_via first_flat
-moved_via = record {
-  reported = (record { shape = _; shape_is = refl; passes_so = refl }, refl);
-  least = λ c d h. same_numbers 8 8 c d (sym (one_of (place_of (is_bare first_limits with_moved_via.shapes) with_moved_via.shapes c h.0))) refl h.1;
-}
+moved_via = found_first (enclosure_judged first_limits with_moved_via.shapes) 8 8 refl
+
+same_numbers : (a b c d : ℕ) → a ≡ c → b ≡ a → d ≡ c → (a < c) ⊎ ((a ≡ c) × (b ≤ d))
+same_numbers a b c d e f g = inr (e, omega arith)
 
 no_start : HasOneStart without_starts.shapes EVEN_LINE → ⊥
 unfolding without_starts first_flat

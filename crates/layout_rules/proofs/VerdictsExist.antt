@@ -13,6 +13,7 @@ use Rattle.layout_rules.proofs.Judging.{Judged}
 use Rattle.layout_rules.proofs.JudgedCells.{cells_judged}
 use Rattle.layout_rules.proofs.JudgedLines.{chains_judged}
 use Rattle.layout_rules.proofs.LinesAgree.{excitation_none, excitation_first}
+use Rattle.layout_rules.proofs.NetsExist.{some_nets}
 use Rattle.layout_rules.proofs.JudgedNets.{nets_judged, rows_judged}
 use Rattle.layout_rules.proofs.JudgedLabels.{labels_judged}
 use Rattle.layout_rules.proofs.JudgedGeometry.{sizes_judged, spacing_judged, enclosure_judged, cover_judged, frames_judged, lengths_judged}
@@ -24,9 +25,9 @@ module _ (flat : Flat) (limits : Limits) where
     | inl none ↦ inl (excitation_none flat.shapes none)
     | inr found ↦ inr (record { first = found.first; second = found.second; is_first = excitation_first flat.shapes found.first found.second found.is_first })
   ]
-  rule_judged E3 = nets_judged flat
-  rule_judged E4 = rows_judged flat
-  rule_judged E5 = lengths_judged limits flat.shapes
+  rule_judged E3 = nets_judged flat (some_nets flat.shapes)
+  rule_judged E4 = rows_judged flat (some_nets flat.shapes)
+  rule_judged E5 = lengths_judged limits flat.shapes (some_nets flat.shapes)
   rule_judged E6 = labels_judged flat
   rule_judged G1 = sizes_judged limits flat.shapes
   rule_judged G2 = spacing_judged limits flat.shapes

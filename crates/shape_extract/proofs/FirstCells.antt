@@ -18,7 +18,7 @@ use Rattle.layout_rules.specs.ExcitationLines.{meet, phase_of}
 use Rattle.layout_rules.specs.CircuitRules.{IsSource}
 use Rattle.layout_rules.proofs.LinePaths.{path_from_chain}
 use Rattle.layout_rules.proofs.LinesAgree.{laid_out, none_cut_off}
-use Rattle.layout_rules.proofs.FirstLines.{excitation_kept as lines_kept}
+use Rattle.layout_rules.proofs.FirstChipKeeps.{excitation_kept as lines_kept}
 use Rattle.chip_circuit.specs.declared.cells.Feed.TheVariants.{Nothing}
 use Rattle.chip_circuit.specs.declared.cells.ExCell.{ExCell}
 use Rattle.chip_circuit.specs.Circuits.{feed_at}

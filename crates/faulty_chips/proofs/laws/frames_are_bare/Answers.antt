@@ -1,8 +1,4 @@
-use Rattle.faulty_chips.proofs.OverhangingWire.{overhanging_wire}
-use Rattle.faulty_chips.proofs.WiderWire.{wider_wire}
-use Rattle.faulty_chips.proofs.CoveringMetal.{covering_metal}
-use Rattle.faulty_chips.proofs.NearlyBesideMetal.{nearly_beside_metal}
-use Rattle.faulty_chips.proofs.BesideMetal.{beside_metal}
+use Rattle.faulty_chips.proofs.GeometryJudged.{overhanging_wire, wider_wire, covering_metal, nearly_beside_metal, beside_metal}
 use Rattle.faulty_chips.proofs.laws.frames_are_bare.Goals as goal
 
 pub returns-clause-wire : goal.returns-clause-wire

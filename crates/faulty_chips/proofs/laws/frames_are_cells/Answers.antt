@@ -1,7 +1,4 @@
-use Rattle.faulty_chips.proofs.EmptyChip.{no_chip}
-use Rattle.faulty_chips.proofs.UnknownKind.{unknown_kind}
-use Rattle.faulty_chips.proofs.MissingInput.{missing_input}
-use Rattle.faulty_chips.proofs.StrayPin.{stray_pin}
+use Rattle.faulty_chips.proofs.CircuitsJudged.{no_chip, unknown_kind, missing_input, stray_pin}
 use Rattle.faulty_chips.proofs.laws.frames_are_cells.Goals as goal
 
 pub returns-clause-none : goal.returns-clause-none

@@ -1,7 +1,4 @@
-use Rattle.faulty_chips.proofs.OverlappingFrames.{overlapping_frames}
-use Rattle.faulty_chips.proofs.NearlyTouchingFrames.{nearly_touching_frames}
-use Rattle.faulty_chips.proofs.UnevenFrames.{uneven_frames}
-use Rattle.faulty_chips.proofs.TouchingFrames.{touching_frames}
+use Rattle.faulty_chips.proofs.GeometryJudged.{overlapping_frames, nearly_touching_frames, uneven_frames, touching_frames}
 use Rattle.faulty_chips.proofs.laws.frames_stand_apart.Goals as goal
 
 pub returns-clause-overlapping : goal.returns-clause-overlapping

@@ -1,7 +1,4 @@
-use Rattle.faulty_chips.proofs.BadLabel.{bad_label}
-use Rattle.faulty_chips.proofs.BareOutput.{bare_output}
-use Rattle.faulty_chips.proofs.PastLabel.{past_label}
-use Rattle.faulty_chips.proofs.RepeatedLabel.{repeated_label}
+use Rattle.faulty_chips.proofs.CircuitsJudged.{bad_label, bare_output, past_label, repeated_label}
 use Rattle.faulty_chips.proofs.laws.labels_mark_ports.Goals as goal
 
 pub returns-clause-text : goal.returns-clause-text

@@ -1,5 +1,4 @@
-use Rattle.faulty_chips.proofs.BareVia.{bare_via}
-use Rattle.faulty_chips.proofs.EnclosedVia.{enclosed_via}
+use Rattle.faulty_chips.proofs.GeometryJudged.{bare_via, enclosed_via}
 use Rattle.faulty_chips.proofs.laws.metal_encloses_vias.Goals as goal
 
 pub returns-clause-moved : goal.returns-clause-moved

@@ -1,6 +1,4 @@
-use Rattle.faulty_chips.proofs.CloseMetal.{close_metal}
-use Rattle.faulty_chips.proofs.NearlySpacedMetal.{nearly_spaced_metal}
-use Rattle.faulty_chips.proofs.SpacedMetal.{spaced_metal}
+use Rattle.faulty_chips.proofs.GeometryJudged.{close_metal, nearly_spaced_metal, spaced_metal}
 use Rattle.faulty_chips.proofs.laws.metal_keeps_its_distance.Goals as goal
 
 pub returns-clause-close : goal.returns-clause-close

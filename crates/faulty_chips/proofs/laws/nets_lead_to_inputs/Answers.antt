@@ -1,7 +1,4 @@
-use Rattle.faulty_chips.proofs.JoinedOutputs.{joined_outputs}
-use Rattle.faulty_chips.proofs.JoinedInputs.{joined_inputs}
-use Rattle.faulty_chips.proofs.CutWire.{cut_wire}
-use Rattle.faulty_chips.proofs.LabelledWire.{labelled_wire}
+use Rattle.faulty_chips.proofs.CircuitsJudged.{joined_outputs, joined_inputs, cut_wire, labelled_wire}
 use Rattle.faulty_chips.proofs.laws.nets_lead_to_inputs.Goals as goal
 
 pub returns-clause-outputs : goal.returns-clause-outputs

@@ -1,7 +1,4 @@
-use Rattle.faulty_chips.proofs.NarrowWire.{narrow_wire}
-use Rattle.faulty_chips.proofs.NarrowVia.{narrow_via}
-use Rattle.faulty_chips.proofs.LowPin.{low_pin}
-use Rattle.faulty_chips.proofs.WideWire.{wide_wire}
+use Rattle.faulty_chips.proofs.GeometryJudged.{narrow_wire, narrow_via, low_pin, wide_wire}
 use Rattle.faulty_chips.proofs.laws.shapes_are_large_enough.Goals as goal
 
 pub returns-clause-narrow : goal.returns-clause-narrow

@@ -1,5 +1,4 @@
-use Rattle.faulty_chips.proofs.LongWire.{long_wire}
-use Rattle.faulty_chips.proofs.LongWire.{short_wire}
+use Rattle.faulty_chips.proofs.GeometryJudged.{long_wire, short_wire}
 use Rattle.faulty_chips.proofs.laws.wires_are_short.Goals as goal
 
 pub returns-clause-long : goal.returns-clause-long
