@@ -36,7 +36,7 @@ use Rattle.shape_extract.specs.Frames.{comes_before, HasPlace, AreFrames}
 use Rattle.shape_extract.specs.Extraction.{IsNamed, IsOutputPin, IsDrivenBy, FeedsPin, IsFeedAt, IsInPhase, IsCellFrom}
 use Rattle.shape_extract.specs.Extraction.{IsOutputFrom, is_wired, IsCircuitOf}
 use Rattle.layout_make.proofs.Lawful.{IsLawful}
-use Rattle.layout_make.specs.Lines as lines
+use Rattle.layout_make.proofs.RouteRule as lines
 use Rattle.layout_make.specs.Sheet.{Tag, Frame, InPin, OutPin, Lead, Bar, Rise, Fall, Across, FromVia, ToVia, shape_of}
 use Rattle.layout_make.specs.Tags.{At, sheet, tags}
 use Rattle.layout_make.specs.Spots.{spots, input_port, PortAt}
@@ -58,8 +58,8 @@ use Rattle.layout_make.proofs.Origins.{frame_stands, input_stands}
 use Rattle.layout_make.proofs.Whole.{drawn, has_cells, spot_row}
 use Rattle.layout_make.proofs.LineAll.{drawn_e2, edges_of}
 use Rattle.layout_make.proofs.Labelled.{input_marked, output_marked}
-use Rattle.layout_make.proofs.SecondLaw.{second_law}
-use Rattle.layout_make.proofs.FirstLawKept.{first_law}
+use Rattle.layout_make.proofs.WiresJoined.{second_law}
+use Rattle.layout_make.proofs.CellsDrawn.{first_law}
 use Rattle.layout_make.proofs.KeptLines.{frame_excited}
 use Rattle.layout_make.proofs.Wiring.{flat, Ports, rows_are, labelled_row}
 use Rattle.layout_make.proofs.Wiring as wiring

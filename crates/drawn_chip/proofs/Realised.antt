@@ -23,7 +23,7 @@ use Rattle.shape_extract.specs.Extracts.{KeepsFive}
 use Rattle.pulse_sim.specs.Shows.{Shows}
 use Rattle.pulse_sim.specs.Clocked.{ShowsByClocks}
 use Rattle.layout_make.specs.Draw.{draw, top_elements}
-use Rattle.layout_make.specs.FirstLaw.{FirstLaw, row_edges}
+use Rattle.layout_make.specs.CellsAreDrawn.{CellsAreDrawn, row_edges}
 use Rattle.layout_make.specs.Laws.{flat_shapes}
 use Rattle.layout_make.specs.MayDraw.{MayDraw}
 use Rattle.layout_make.specs.Sheet.{shape_of}
@@ -32,7 +32,6 @@ use Rattle.layout_make.specs.Spots.{spots}
 use Rattle.layout_make.specs.Tags.{sheet, tags}
 use Rattle.layout_make.proofs.AllRules.{ports_of}
 use Rattle.layout_make.proofs.FlatLaw.{flat_is_tags}
-use Rattle.layout_make.proofs.KeptLines.{frame_excited}
 use Rattle.layout_make.proofs.Ready.{TracksLaw, may_ready, lawful}
 use Rattle.layout_make.proofs.Wiring.{flat}
 use Rattle.drawn_chip.specs.DrawnCircuit.{drawn_cell, drawn_row, drawn_circuit, IsDrawnAs}
@@ -47,7 +46,7 @@ use Rattle.drawn_chip.proofs.Wires.{wires_are}
 pub record CrateLaws (p : PlacedView) (l : LibraryView) : Type 0 where
   pub tracks : TracksLaw
   pub rules : KeepsRules (flat p l) (limits_of l)
-  pub first : FirstLaw p l
+  pub first : CellsAreDrawn p l
   pub size : length (top_elements p l) ≡ element_number p
   pub stream : IsStream (bytes_of (draw p l)) (draw p l)
   pub keeps : (flat : Flat) (circuit : CircuitView) → length flat.shapes < 2 ^ 32 → length circuit.cells < 2 ^ 32
@@ -81,8 +80,7 @@ module _ (p : PlacedView) (l : LibraryView) (law : CrateLaws p l) (may : MayDraw
     nets = law.rules E3;
     rows = law.rules E4;
     labels = law.rules E6;
-    excited = λ f frame at so. frame_excited (flat_shapes p l) (row_edges p l) law.first.e2 law.first.rows f frame at
-        so;
+    excited = law.first.excited;
   }
 
   -- ---- sizes

@@ -1,29 +1,17 @@
 -- The first fault, found record by record.
-use Rattle.std.specs.Prelude.{ℕ, suc, List, [], Bool, length, Option}
+use Rattle.std.specs.Prelude.{ℕ, suc, List, [], length, Option}
 use Rattle.geom.specs.declared.layout.Layout.{Layout}
 use Rattle.poly_cut.specs.declared.layout.WideLayout.{WideLayout}
 use Rattle.gds_records.specs.declared.fault.StreamKind.{StreamKind}
 use Rattle.gds_records.specs.Records.{Record}
 use Rattle.gds_records.specs.Profiles.{strict, wide}
 use Rattle.gds_records.specs.Stream.{layout_of, wide_layout_of}
-use Rattle.gds_records.specs.Profiled.{may_follow_in, fault_here_in, scan_in, found_in, first_fault_in}
+use Rattle.gds_records.specs.Profiled.{scan_in, first_fault_in}
 pub use Rattle.gds_records.specs.Profiled.{IsBytes, alive, fault_of, Scanned, Faulty, Whole, Unfinished, records_in}
-
--- in a strict stream, a record of this type may stand after these records
-abbrev pub may_follow : List Record → ℕ → Bool
-may_follow = may_follow_in strict
-
--- what is wrong with the record at the front of bytes, after these records of a strict stream
-abbrev pub fault_here : List Record → List ℕ → Option StreamKind
-fault_here = fault_here_in strict
 
 -- the records of a strict stream from here on, up to the first fault
 abbrev pub scan : ℕ → List Record → List ℕ → Scanned
 scan = scan_in strict
-
--- the fault that a scan of a strict stream found, if there is one
-abbrev pub fault_in : Scanned → Option (ℕ × StreamKind)
-fault_in = found_in strict
 
 -- the offset and the kind of the first fault of bytes as a strict stream, if there is one
 abbrev pub first_fault : List ℕ → Option (ℕ × StreamKind)

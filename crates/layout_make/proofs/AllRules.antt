@@ -5,17 +5,17 @@ use Rattle.layout_rules.specs.declared.rule.Rule.TheVariants.{E1, E2, E3, E4, E5
 use Rattle.layout_rules.specs.Rules.{KeepsRules}
 use Rattle.rowed.specs.PlacedNets.{PlacedView}
 use Rattle.cell_library.specs.Library.{LibraryView, limits_of}
-use Rattle.layout_make.specs.Lines as lines
+use Rattle.layout_make.proofs.RouteRule as lines
 use Rattle.layout_make.specs.MayDraw.{MayDraw}
 use Rattle.layout_make.specs.Tags.{sheet, tags}
-use Rattle.layout_make.specs.Laws.{flat_shapes, SecondLaw}
-use Rattle.layout_make.specs.FirstLaw.{FirstLaw}
+use Rattle.layout_make.specs.Laws.{flat_shapes, WiresJoinPins}
+use Rattle.layout_make.specs.CellsAreDrawn.{CellsAreDrawn}
 use Rattle.layout_make.proofs.FlatLaw.{flat_is_tags}
 use Rattle.layout_make.proofs.Whole.{drawn, has_cells}
 use Rattle.layout_make.proofs.LineAll.{drawn_e2, edges_of}
 use Rattle.layout_make.proofs.Ready.{TracksLaw, may_ready, lawful, input_ports, output_ports, all_inputs, all_outputs}
-use Rattle.layout_make.proofs.SecondLaw.{second_law, geometry_kept}
-use Rattle.layout_make.proofs.FirstLawKept.{first_law}
+use Rattle.layout_make.proofs.WiresJoined.{second_law, geometry_kept}
+use Rattle.layout_make.proofs.CellsDrawn.{first_law}
 use Rattle.layout_make.proofs.Wiring.{flat, Ports, rows_are, nets_kept, wires_up}
 use Rattle.layout_make.proofs.LabelRule.{labels_kept}
 use Rattle.layout_make.proofs.KeptCells.{cells_kept}
@@ -58,9 +58,9 @@ module _ (p : PlacedView) (l : LibraryView) (law : TracksLaw) (may : MayDraw p l
   keeps_rules G4 = cover_kept (flat_shapes p l) (geometry_kept p l (may_ready p l law may) (lawful l may.library)).g4
   keeps_rules G5 = frames_kept (flat_shapes p l) (geometry_kept p l (may_ready p l law may) (lawful l may.library)).g5
 
-  pub keeps_first : FirstLaw p l
+  pub keeps_first : CellsAreDrawn p l
   keeps_first = first_law p l (may_ready p l law may) (lawful l may.library) (input_ports p may.placed)
       (output_ports p may.placed)
 
-  pub keeps_second : SecondLaw p l
+  pub keeps_second : WiresJoinPins p l
   keeps_second = second_law p l (may_ready p l law may) (lawful l may.library)

@@ -20,8 +20,8 @@ use Rattle.layout_rules.specs.ExcitationRule.{IsExcited, ExcitationBroken}
 use Rattle.layout_rules.specs.Code.ChainRule.{ChainsBroken, IsChainUncrossed, IsChainExcited, IsChainUnexcited}
 use Rattle.layout_rules.specs.Code.LineChains.{NeverTurnsBack}
 use Rattle.layout_rules.proofs.LinesAgree.{excitation_none, laid_out, none_cut_off, path_excited}
-use Rattle.layout_make.specs.Lines.{is_line}
-use Rattle.layout_make.specs.Lines as lines
+use Rattle.layout_make.proofs.RouteRule.{is_line}
+use Rattle.layout_make.proofs.RouteRule as lines
 
 -- contacts, parts and routes, in both forms
 

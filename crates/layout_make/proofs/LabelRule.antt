@@ -43,7 +43,7 @@ use Rattle.layout_make.proofs.LineAll.{edges_of}
 use Rattle.layout_make.proofs.Cells.{Columns, input_columns, output_columns}
 use Rattle.layout_make.proofs.Pins.{input_lies, output_lies}
 use Rattle.layout_make.proofs.KeptCells.{of_lies}
-use Rattle.layout_make.proofs.SecondLaw.{out_tag_at}
+use Rattle.layout_make.proofs.WiresJoined.{out_tag_at}
 use Rattle.layout_make.proofs.Wiring.{flat, Ports, input_number, same_in, tag_layer, rows_are, input_row, output_row}
 
 -- an output pin by its cell

@@ -29,7 +29,7 @@ use Rattle.layout_make.specs.Channel.{in_column, out_column}
 use Rattle.layout_make.proofs.Origins.{input_stands, output_stands}
 use Rattle.layout_make.proofs.Whole.{drawn, spot_row}
 use Rattle.layout_make.proofs.DrawnRules.{tag_of, input_tag, output_tag}
-use Rattle.layout_make.proofs.SecondLaw.{one_in, one_out}
+use Rattle.layout_make.proofs.WiresJoined.{one_in, one_out}
 use Rattle.layout_make.proofs.FlatLaw.{flat_is_tags}
 use Rattle.layout_make.proofs.Comparing.{four, le_of}
 

@@ -14,6 +14,7 @@ mod Spaced
 pub mod Joins
 mod ShapeSizes
 mod Cells
+pub mod RouteRule
 mod LineShapes
 mod LineRule
 mod LinePhase
@@ -32,9 +33,9 @@ mod ChipsMayDraw
 mod FlatForm
 pub mod FlatLaw
 pub mod Ready
-pub mod SecondLaw
+pub mod WiresJoined
 pub mod Labelled
-pub mod FirstLawKept
+pub mod CellsDrawn
 mod KeptGeometry
 pub mod KeptCells
 pub mod KeptLines

@@ -16,7 +16,7 @@ use Rattle.layout_make.specs.Sheet.{turns_right, lead_use, layer_of, datatype_of
 use Rattle.layout_make.proofs.SheetKeeps.{Fits, IsDrawn, HasCells}
 use Rattle.layout_make.specs.Tags.{At}
 use Rattle.list_orders.specs.Numbers.{numbers}
-use Rattle.layout_make.specs.Lines.{is_line, Contact, IsOf, IsRoute, phase_of, IsLineAt, E2}
+use Rattle.layout_make.proofs.RouteRule.{is_line, Contact, IsOf, IsRoute, phase_of, IsLineAt, E2}
 use Rattle.geom.specs.Rectangle.{left_edge, right_edge}
 use Rattle.layout_rules.specs.Rows.{AreRows}
 use Rattle.layout_make.proofs.Columns.{next_edge, edges_apart}

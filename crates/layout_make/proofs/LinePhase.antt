@@ -10,7 +10,7 @@ use Rattle.layout_make.specs.Sheet.{Sheet, Frame, Lead, Bar, Flank, LeftOf, Over
 use Rattle.layout_make.specs.Sheet.{lead_first, line_rect, place_of, shape_of, lower_edge}
 use Rattle.layout_make.proofs.SheetKeeps.{Fits, IsRouted}
 use Rattle.geom.specs.Rectangle.{left_edge, right_edge}
-use Rattle.layout_make.specs.Lines.{phase_of}
+use Rattle.layout_make.proofs.RouteRule.{phase_of}
 use Rattle.layout_make.proofs.Columns.{next_edge, edges_apart}
 use Rattle.layout_make.proofs.LineShapes.{spans_share, below_zero, bar_lead, is_le}
 use Rattle.layout_make.proofs.Comparing.{four, lt_of}

@@ -8,7 +8,7 @@ use Rattle.layout_make.specs.Sheet.{Sheet, Tag, Frame, InPin, OutPin, Lead, Bar,
 use Rattle.layout_make.specs.Sheet.{lead_use, layer_of, datatype_of, place_of, shape_of}
 use Rattle.layout_make.specs.Tags.{At}
 use Rattle.layout_make.proofs.SheetKeeps.{IsDrawn}
-use Rattle.layout_make.specs.Lines.{is_line, Contact, IsOf, IsRoute}
+use Rattle.layout_make.proofs.RouteRule.{is_line, Contact, IsOf, IsRoute}
 use Rattle.layout_make.proofs.Joins.{from_map, to_map, shapes_of, same_at}
 use Rattle.layout_make.proofs.LineShapes.{Linked, linked, bar_over}
 

@@ -10,7 +10,7 @@ use Rattle.layout_make.specs.Sheet.{Sheet, Tag, Frame, InPin, OutPin, Lead, Bar,
 use Rattle.layout_make.specs.Sheet.{Flank, LeftOf, Over, RightOf, turns_right, lead_flank, lead_first, line_rect}
 use Rattle.layout_make.specs.Sheet.{layer_of, place_of, lower_edge}
 use Rattle.layout_make.proofs.SheetKeeps.{IsRouted}
-use Rattle.layout_make.specs.Lines.{is_line}
+use Rattle.layout_make.proofs.RouteRule.{is_line}
 use Rattle.layout_make.proofs.Columns.{next_edge, edges_apart}
 
 -- flanks that meet

@@ -15,7 +15,7 @@ use Rattle.layout_make.specs.WireLaw.{WireLaw}
 use Rattle.layout_make.proofs.FlatLaw.{flat_is_tags}
 use Rattle.layout_make.proofs.Joins.{shapes_of, step, joined_net, pins_joined, rise_via, via_across, across_via}
 use Rattle.layout_make.proofs.Joins.{via_fall, fall_in}
-use Rattle.layout_make.proofs.SecondLaw.{one_in, one_out, wires_all}
+use Rattle.layout_make.proofs.WiresJoined.{one_in, one_out, wires_all}
 use Rattle.layout_make.proofs.Whole.{drawn, has_cells}
 
 module _ (p : PlacedView) (l : LibraryView) (is : IsReady p l) (laws : IsLawful l) where

@@ -37,7 +37,7 @@ use Rattle.layout_make.proofs.Joins.{to_map}
 use Rattle.layout_make.proofs.Member.{In, in_append, in_map, map_in, in_left, in_upto, upto_in}
 use Rattle.layout_make.proofs.Whole.{drawn, has_cells, input_from}
 use Rattle.layout_make.proofs.Labelled.{input_marked, output_marked}
-use Rattle.layout_make.proofs.SecondLaw.{second_law, in_tag_at}
+use Rattle.layout_make.proofs.WiresJoined.{second_law, in_tag_at}
 use Rattle.layout_make.proofs.LineAll.{shape_at, at_edge, edges_of, drawn_rows}
 use Rattle.layout_make.proofs.Pins.{input_of, output_of}
 use Rattle.layout_make.proofs.KeptCells.{lies_of}

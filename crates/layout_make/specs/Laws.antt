@@ -51,7 +51,7 @@ pub record Drives (p : PlacedView) (l : LibraryView) (r n i m : ℕ) : Type 0 wh
 
 -- each input pin above the first row is driven by its source alone, and no pin of the first row by any; a net has one
 -- output pin and one input pin at most
-pub record SecondLaw (p : PlacedView) (l : LibraryView) : Type 0 where
+pub record WiresJoinPins (p : PlacedView) (l : LibraryView) : Type 0 where
   pub drives : (r n i m : ℕ) → InAt p l (suc r) n i m → Drives p l r n i m
   pub lone : (n i m q : ℕ) (b : Shape) → InAt p l 0 n i m → Is (flat_shapes p l) q b → b.layer ≡ 22
       → Joined (flat_shapes p l) q m → ⊥

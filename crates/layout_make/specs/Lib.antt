@@ -4,10 +4,9 @@ pub mod Channel
 pub mod Tags
 pub mod Nets
 pub mod Draw
-pub mod Lines
 pub mod Marks
 pub mod Laws
-pub mod FirstLaw
+pub mod CellsAreDrawn
 pub mod WireLaw
 pub mod MayDraw
 pub mod Size

@@ -13,8 +13,8 @@ ghost use Rattle.layout_make.specs.MayDraw.{MayDraw};
 ghost use Rattle.layout_make.specs.Channel.{channel};
 ghost use Rattle.layout_make.specs.Draw.{draw, top_elements};
 ghost use Rattle.layout_make.specs.Size.{element_number};
-ghost use Rattle.layout_make.specs.Laws.{SecondLaw};
-ghost use Rattle.layout_make.specs.FirstLaw.{FirstLaw};
+ghost use Rattle.layout_make.specs.Laws.{WiresJoinPins};
+ghost use Rattle.layout_make.specs.CellsAreDrawn.{CellsAreDrawn};
 ghost use Rattle.layout_make.specs.WireLaw.{WireLaw};
 ghost use Rattle.layout_make.specs.Chips.{first_placed, second_placed, second_flat, third_placed, third_flat};
 ghost use Rattle.layout_make.specs.Chips.{least_library, least_flat, wide_library, wide_flat};
@@ -26,8 +26,8 @@ use channel_route::tracks_are_fewest;
 /// elements as are counted.
 pub fn drawing_laws()
     ensures rules { (p : PlacedView) (l : LibraryView) → MayDraw p l → KeepsRules (flat_of (draw p l)) (limits_of l) }
-    ensures first { (p : PlacedView) (l : LibraryView) → MayDraw p l → FirstLaw p l }
-    ensures second { (p : PlacedView) (l : LibraryView) → MayDraw p l → SecondLaw p l }
+    ensures first { (p : PlacedView) (l : LibraryView) → MayDraw p l → CellsAreDrawn p l }
+    ensures second { (p : PlacedView) (l : LibraryView) → MayDraw p l → WiresJoinPins p l }
     ensures writable { (p : PlacedView) (l : LibraryView) → MayDraw p l → IsWritable (draw p l) }
     ensures size { (p : PlacedView) (l : LibraryView) → IsPlaced p → length (top_elements p l) ≡ element_number p }
     ensures wires { (p : PlacedView) (l : LibraryView) → MayDraw p l → WireLaw p l }

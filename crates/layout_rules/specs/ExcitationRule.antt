@@ -106,6 +106,11 @@ pub record IsExcited (shapes : List Shape) (frame : Shape) : Type 0 where
   pub only : (i : ℕ) (s : Shape) → slice_get shapes i ≡ Some s → is_line s ≡ true → overlap s.rect frame.rect ≡ true
       → i ≡ bar
 
+-- the shape of this number, if it is a frame, is excited
+abbrev pub IsExcitedAt : List Shape → ℕ → Type 0
+IsExcitedAt shapes f = (frame : Shape) → slice_get shapes f ≡ Some frame → is_frame frame ≡ true
+    → IsExcited shapes frame
+
 -- a frame that is not excited so
 pub record IsUnexcited (shapes : List Shape) (f : ℕ) : Type 0 where
   pub frame : Passes is_frame shapes f

@@ -23,7 +23,7 @@ use Rattle.shape_extract.specs.Code.Edges.{IsAmong}
 use Rattle.shape_extract.specs.Frames.{AreFrames}
 use Rattle.shape_extract.specs.Extraction.{IsFeedAt, IsInPhase, IsCellFrom}
 use Rattle.shape_extract.specs.Code.Tables.{IsFrameOf, IsFeedOfInput}
-use Rattle.shape_extract.specs.Extracts.{IsExcitedAt}
+use Rattle.layout_rules.specs.ExcitationRule.{IsExcitedAt}
 use Rattle.shape_extract.proofs.ExcitedEach.{excited_in_phase}
 use Rattle.shape_extract.proofs.Kept.{no_fault}
 use Rattle.shape_extract.proofs.RowEdges.{push_cases}

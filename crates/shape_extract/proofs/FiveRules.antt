@@ -12,7 +12,7 @@ use Rattle.shape_extract.specs.declared.search.Report.{Report}
 use Rattle.shape_extract.specs.declared.rules.first_broken.BrokenRule.{BrokenRule}
 use Rattle.geom.specs.declared.shapes.Shape.{Shape}
 use Rattle.shape_extract.specs.Code.Lines.{ExcitesFrames}
-use Rattle.shape_extract.specs.Extracts.{IsExcitedAt}
+use Rattle.layout_rules.specs.ExcitationRule.{IsExcitedAt}
 use Rattle.shape_extract.specs.Searches.{Finds}
 use Rattle.shape_extract.specs.Extracts.{BreaksCircuit, KeepsFive}
 use Rattle.shape_extract.specs.Code.FirstRule.{FindsRule}

@@ -7,7 +7,7 @@ use Rattle.layout_rules.specs.declared.rule.Rule.{Rule}
 use Rattle.layout_rules.specs.Limits.{Limits}
 use Rattle.layout_rules.specs.Reports.{ReportsNone}
 use Rattle.layout_rules.specs.CircuitRules.{CellsBroken, NetsBroken, RowsBroken, LabelsBroken}
-use Rattle.layout_rules.specs.ExcitationRule.{IsExcited, ExcitationBroken}
+use Rattle.layout_rules.specs.ExcitationRule.{ExcitationBroken, IsExcitedAt}
 use Rattle.layout_rules.specs.Layers.{is_frame}
 use Rattle.layout_rules.specs.RuleTable.{place, first_of_geometry}
 use Rattle.layout_rules.specs.Rules.{KeepsCircuitRules, FirstBroken}
@@ -30,11 +30,6 @@ pub record BreaksCircuit (flat : Flat) (rule : Rule) (a b : ℕ) : Type 0 where
 abbrev pub IfBroken : ExtractRefusal → (Rule → ℕ → ℕ → Type 0) → Type 0
 IfBroken (Broken rule first second) P = P rule first second
 IfBroken Memory P = Unit {0}
-
--- the shape of this number, if it is a frame, is excited
-abbrev pub IsExcitedAt : List Shape → ℕ → Type 0
-IsExcitedAt shapes f = (frame : Shape) → slice_get shapes f ≡ Some frame → is_frame frame ≡ true
-    → IsExcited shapes frame
 
 -- nothing breaks the rules of circuits, which read no limits; so each frame is excited in the phase of its row
 pub record KeepsFive (flat : Flat) : Type 0 where

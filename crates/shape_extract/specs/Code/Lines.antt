@@ -8,7 +8,7 @@ use Rattle.layout_rules.specs.declared.layers.TheConstants.{START}
 use Rattle.layout_rules.specs.Layers.{is_frame, is_line}
 use Rattle.layout_rules.specs.Rows.{row_of}
 use Rattle.layout_rules.specs.ExcitationLines.{IsPart, IsReached}
-use Rattle.shape_extract.specs.Extracts.{IsExcitedAt}
+use Rattle.layout_rules.specs.ExcitationRule.{IsExcitedAt}
 use Rattle.layout_rules.specs.Code.LineChains.{ChainBefore, HasChainPhase}
 use Rattle.layout_rules.specs.Code.ChainRule.{ChainLeavesWrongly, IsChainExcited, IsChainUnexcited}
 use Rattle.shape_extract.specs.declared.search.Report.{Report}

@@ -3,7 +3,7 @@ use Rattle.layout_rules.specs.declared.rule.Rule.TheVariants.{E2, E3, E4, E6}
 use Rattle.layout_rules.specs.Reports.{ReportsNone}
 use Rattle.layout_rules.specs.CircuitRules.{NetsBroken, RowsBroken, LabelsBroken}
 use Rattle.layout_rules.specs.ExcitationRule.{ExcitationBroken}
-use Rattle.shape_extract.specs.Extracts.{IsExcitedAt}
+use Rattle.layout_rules.specs.ExcitationRule.{IsExcitedAt}
 use Rattle.shape_extract.proofs.FiveRules.{breaks, found_none, excites_none, cells_below, lines_below, nets_below, rows_below}
 use Rattle.shape_extract.proofs.rules.first_broken.first_broken.Goals as goal
 

@@ -1,4 +1,4 @@
--- Rule E2: the excitation lines of a flat form.
+-- The rule of excitation lines by routes, part by part, as it is shown of a drawing.
 use Rattle.std.specs.Prelude.{◌≡◌, ◌≢◌, ℕ, ◌-◌, ◌%◌, ◌<◌, ◌⊎◌, true, List, [], ◌∷◌, slice_get, Some, if◌then◌else◌, not}
 use Rattle.std.specs.Prelude.{ℤ, Bool, ◌==◌, ◌||◌}
 use Rattle.geom.specs.Rectangle.{share_point, overlap, within}
@@ -43,7 +43,7 @@ phase_of before bar = (if share_point before.rect (left_edge bar.rect) then bar.
 abbrev pub IsLineAt : List Shape → ℕ → Shape → Type 0
 IsLineAt shapes i a = (slice_get shapes i ≡ Some a) × (is_line a.layer ≡ true)
 
--- rule E2, part by part
+-- the rule, part by part
 pub record E2 (shapes : List Shape) (edges : List ℤ) : Type 0 where
   pub used : (i : ℕ) (a : Shape) → IsLineAt shapes i a → a.datatype < 3
   pub start : (i : ℕ) (a : Shape) → IsLineAt shapes i a → (j : ℕ) × (b : Shape) × IsLineAt shapes j b

@@ -1,4 +1,4 @@
--- The first law of drawing.
+-- The cells of a net are drawn: their rows, frames, excitation and labels.
 use Rattle.std.specs.Prelude.{◌≡◌, ℕ, ◌<◌, ◌⊎◌, true, List, length, slice_get, Some, int_lt, ℤ, map, pos}
 use Rattle.cell_library.specs.Library.{LibraryView}
 use Rattle.circuit.specs.CellKinds.{number_of}
@@ -12,7 +12,7 @@ use Rattle.layout_make.specs.Draw.{input_label, output_label, labels, draw, last
 use Rattle.layout_make.specs.Tags.{sheet}
 use Rattle.list_orders.specs.Numbers.{numbers}
 use Rattle.layout_rules.specs.Rows.{AreRows}
-use Rattle.layout_make.specs.Lines.{E2}
+use Rattle.layout_rules.specs.ExcitationRule.{IsExcitedAt}
 use Rattle.layout_make.specs.Marks.{MarksOne}
 use Rattle.layout_make.specs.Laws.{flat_shapes, FrameAt, InAt, OutAt}
 
@@ -34,11 +34,11 @@ pub record IsFrameOf (p : PlacedView) (l : LibraryView) (edges : List ℤ) (r n 
   pub of_kind : shape.datatype ≡ number_of spot.cell.kind
   pub of_row : slice_get edges r ≡ Some shape.rect.y0
 
--- the rows, the frames in the order of the cells, the excitation lines, and the labels, each at its own pin
-pub record FirstLaw (p : PlacedView) (l : LibraryView) : Type 0 where
+-- the rows, the frames in the order of the cells, each excited, and the labels, each at its own pin
+pub record CellsAreDrawn (p : PlacedView) (l : LibraryView) : Type 0 where
   pub rows : AreRows (flat_shapes p l) (row_edges p l)
   pub count : length (row_edges p l) ≡ length p.net.rows
-  pub e2 : E2 (flat_shapes p l) (row_edges p l)
+  pub excited : (f : ℕ) → IsExcitedAt (flat_shapes p l) f
   pub frame : (r n : ℕ) (x : Spot) → slice_get (spots p r) n ≡ Some x → (m : ℕ) × FrameAt p l r n m
   pub frame_once : (r n a b : ℕ) → FrameAt p l r n a → FrameAt p l r n b → a ≡ b
   pub frame_is : (r n m : ℕ) → FrameAt p l r n m → IsFrameOf p l (row_edges p l) r n m

@@ -1,4 +1,4 @@
--- The first drawing law, of every placed net and library.
+-- The cells of every placed net are drawn, with every library.
 use Rattle.std.proofs.Common.{◌≡◌, ℕ, zero, suc, ◌+◌, ◌*◌, ◌<◌, ◌≤◌, ◌⊎◌, inl, inr, true, refl, sym, ap, subst, ◌∙◌}
 use Rattle.std.proofs.Common.{arith, List, [], ◌∷◌, map, length, Some}
 use Rattle.std.specs.Prelude.{slice_get, pos, int_lt}
@@ -19,15 +19,17 @@ use Rattle.layout_make.proofs.ReadyNets.{IsReady, HasPorts}
 use Rattle.rowed.specs.RowNets.{last_of}
 use Rattle.list_orders.specs.Numbers.{numbers}
 use Rattle.layout_rules.specs.Rows.{AreRows}
-use Rattle.layout_make.specs.Lines.{E2}
+use Rattle.layout_make.proofs.RouteRule.{E2}
 use Rattle.layout_make.specs.Laws.{FrameAt}
-use Rattle.layout_make.specs.FirstLaw.{Before, FirstLaw}
+use Rattle.layout_make.specs.CellsAreDrawn.{Before, CellsAreDrawn}
 use Rattle.layout_make.proofs.FlatLaw.{flat_is_tags, labels_flat}
 use Rattle.layout_make.proofs.Joins.{to_map}
 use Rattle.layout_make.proofs.ChannelWires.{packed_apart}
 use Rattle.layout_make.proofs.Origins.{frame_stands}
 use Rattle.layout_make.proofs.Whole.{drawn, has_cells, spot_row, frame_from}
 use Rattle.layout_make.proofs.DrawnRules.{frame_at}
+use Rattle.layout_make.specs.Laws.{flat_shapes}
+use Rattle.layout_make.proofs.KeptLines.{frame_excited}
 use Rattle.layout_make.proofs.LineAll.{drawn_e2, drawn_rows, edges_of, at_edge, edge_rises, shape_at, slot_wide}
 use Rattle.layout_make.proofs.Labelled.{input_marked, output_marked}
 use Rattle.layout_make.proofs.PinCounts.{slots_some}
@@ -77,7 +79,7 @@ unfolding sheet
 rows_are p l = refl
 
 pub first_law : (p : PlacedView) (l : LibraryView) → IsReady p l → IsLawful l → HasPorts p input_port 0 p.net.inputs
-    → HasPorts p output_port (last_of p.net.rows) p.net.outputs → FirstLaw p l
+    → HasPorts p output_port (last_of p.net.rows) p.net.outputs → CellsAreDrawn p l
 first_law p l is laws ins outs =
     let same = flat_is_tags p l laws in
     let whole = drawn p l is laws in
@@ -87,8 +89,11 @@ first_law p l is laws ins outs =
           (drawn_rows (sheet p l) (tags p l) whole cells);
       count = length_map (λ r. pos (lower_edge (sheet p l) r)) (numbers 0 (sheet p l).rows)
           ∙ length_count 0 (sheet p l).rows ∙ rows_are p l;
-      e2 = subst (λ (ss : List Shape). E2 ss (edges_of (sheet p l))) (sym same)
-          (drawn_e2 (sheet p l) (tags p l) whole cells);
+      excited = λ f frame at so. frame_excited (flat_shapes p l) (edges_of (sheet p l))
+          (subst (λ (ss : List Shape). E2 ss (edges_of (sheet p l))) (sym same)
+          (drawn_e2 (sheet p l) (tags p l) whole cells))
+          (subst (λ (ss : List Shape). AreRows ss (edges_of (sheet p l))) (sym same)
+          (drawn_rows (sheet p l) (tags p l) whole cells)) f frame at so;
       frame = λ r n x at. (let f = frame_stands p l r x (spot_row p r x (n, at)) (n, at) in
           (f.0, record { spot = x; place = at; at = f.1 }));
       frame_once = λ r n a b f g. same_frame p l r n a b whole f g;

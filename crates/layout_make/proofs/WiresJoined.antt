@@ -1,4 +1,4 @@
--- The second drawing law, and the rules of geometry, of every placed net and library.
+-- The wires of every placed net join its pins, and what is kept of the rules of geometry.
 use Rattle.std.proofs.Common.{◌≡◌, ℕ, suc, Bool, true, false, refl, sym, ap, subst, ◌∙◌, arith, List, if◌then◌else◌}
 use Rattle.cell_library.specs.Library.{LibraryView}
 use Rattle.layout_make.proofs.Lawful.{IsLawful}
@@ -11,7 +11,7 @@ use Rattle.layout_make.specs.Tags.{At, sheet, tags}
 use Rattle.rowed.specs.PlacedNets.{PlacedView}
 use Rattle.layout_make.specs.Spots.{spots}
 use Rattle.layout_make.proofs.ReadyNets.{IsReady}
-use Rattle.layout_make.specs.Laws.{Is, flat_shapes, InAt, Drives, SecondLaw}
+use Rattle.layout_make.specs.Laws.{Is, flat_shapes, InAt, Drives, WiresJoinPins}
 use Rattle.layout_make.proofs.KeptRules.{E1, G1, G2, G3, G4, G5}
 use Rattle.layout_make.proofs.Lengths.{NetsShort}
 use Rattle.layout_make.proofs.FlatLaw.{flat_is_tags}
@@ -146,7 +146,7 @@ drawn_drives p l is laws same r n i m at =
           (net ∙ sym (wired_net p l r (out_column l w.spot w.source.output) w.wire));
     }
 
-pub second_law : (p : PlacedView) (l : LibraryView) → IsReady p l → IsLawful l → SecondLaw p l
+pub second_law : (p : PlacedView) (l : LibraryView) → IsReady p l → IsLawful l → WiresJoinPins p l
 second_law p l is laws =
     let same = flat_is_tags p l laws in
     let whole = drawn p l is laws in
