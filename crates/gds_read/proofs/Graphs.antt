@@ -1,5 +1,5 @@
 -- References by name and by number.
-use Rattle.std.proofs.Common.{◌≡◌, ℕ, zero, suc, ◌+◌, ◌-◌, ◌<◌, ◌≤◌, List, [], ◌∷◌, map, drop, length, Bool, true, false, eqb, ◌&&◌, ◌||◌, Option, Some, refl, sym, ap, subst, ◌∙◌, arith}
+use Rattle.std.proofs.Common.{◌≡◌, ℕ, zero, suc, ◌+◌, ◌-◌, ◌<◌, ◌≤◌, List, [], ◌∷◌, map, drop, length, Bool, true, false, eqb, ◌&&◌, ◌||◌, Option, Some, None, refl, sym, ap, subst, ◌∙◌, arith}
 use Rattle.std.specs.Prelude.{not, nat_lt, slice_index_or}
 use Rattle.std.specs.List.{AllByRecursion}
 use Rattle.std.specs.Cmp.Lexicographic.{pointwise}
@@ -17,9 +17,10 @@ use Rattle.gds_records.proofs.RankLaws.{no_way_back, short_way_leads}
 use Rattle.gds_read.specs.declared.outline.NamedUse.{NamedUse}
 use Rattle.gds_read.specs.declared.outline.NamedOutline.{NamedOutline}
 use Rattle.gds_read.specs.Code.Outlining.{use_of, outline_of, names_in}
-use Rattle.gds_read.specs.Code.Graphs.{graph_by, graph_of, targets_at, some_target, all_below, descends, is_long, all_unmarked, never_rises, refers, is_way}
+use Rattle.gds_read.specs.Code.Graphs.{graph_by, graph_of, targets_at, some_target, all_below, descends, is_long, never_rises, refers, is_way, IsBack}
 use Rattle.gds_read.proofs.Named.{same_texts, same_refl}
 use Rattle.gds_read.proofs.Items.{next_item}
+use Rattle.gds_read.proofs.Distinct.{Fresh, each_first}
 
 -- ---- what a structure references, by name and by number
 
@@ -86,12 +87,6 @@ stays (suc more) k graph f n =
     let q : suc more + k ≡ suc (more + k) = omega arith in
     ap (λ (x : ℕ). descends x graph n) q ∙ target_alike (descends (more + k) graph) (descends k graph) (stays more k graph f) (targets_at graph n) ∙ f n
 
-pub unmarked : (marks : List Bool) → all_unmarked marks ≡ true → (n : ℕ) → slice_index_or marks n false ≡ false
-unmarked [] e n = refl
-unmarked (true ∷ marks) e n = absurd cc
-unmarked (false ∷ marks) e zero = refl
-unmarked (false ∷ marks) e (suc n) = unmarked marks e n
-
 pub all_marks : (marks : List Bool) (k : ℕ) (graph : List (List ℕ)) → k ≡ 65 → Marked marks k graph → (n : ℕ) → slice_index_or marks n false ≡ is_long graph n
 unfolding is_long
 all_marks marks k graph e m n = m.each n ∙ ap (λ (x : ℕ). descends x graph n) e
@@ -135,6 +130,55 @@ module _ (ss : List NamedOutline) where
       ∙ some_by_number (names_in ss) (descends k (graph_of ss)) (uses_by t (map outline_of ss))
       ∙ ap (λ (x : List ℕ). some_target (descends k (graph_of ss)) x) (by_number (names_in ss) ss t)
 
+below_so : (a b : ℕ) → nat_lt a b ≡ true → a < b
+below_so a b e = grind (arith, nat_tests)
+
+not_below : (a b : ℕ) → nat_lt a b ≡ false → b ≤ a
+not_below a b e = grind (arith, nat_tests)
+
+-- ---- where each structure is the first of its name, and none of them has a long chain
+
+pub past_none : (graph : List (List ℕ)) (n : ℕ) → length graph ≤ n → targets_at graph n ≡ []
+past_none [] n h = refl
+past_none (ns ∷ graph) zero h = absurd (omega arith)
+past_none (ns ∷ graph) (suc n) h = past_none graph n (omega (arith, h))
+
+past_short : (graph : List (List ℕ)) (n : ℕ) → length graph ≤ n → is_long graph n ≡ false
+unfolding is_long
+past_short graph n h = ap (λ (ns : List ℕ). some_target (descends 64 graph) ns) (past_none graph n h)
+
+each_short : (all os : List Outline) → first_long all os ≡ None → (k : ℕ) → k < length os → goes_down 65 all (slice_index_or (map (λ o. o.name) os) k []) ≡ false
+each_short all [] e k h = absurd (omega arith)
+each_short all (o ∷ os) e k h = turn (goes_down 65 all o.name) refl e k h (each_short all os)
+  where
+    turn : (z : Bool) → goes_down 65 all o.name ≡ z → (elim z as (λ (x : Bool). Option ℕ) [ true ↦ Some o.place | false ↦ first_long all os ]) ≡ None
+        → (k : ℕ) → k < suc (length os) → (first_long all os ≡ None → (k : ℕ) → k < length os → goes_down 65 all (slice_index_or (map (λ o. o.name) os) k []) ≡ false)
+        → goes_down 65 all (slice_index_or (o.name ∷ map (λ o. o.name) os) k []) ≡ false
+    turn true f g k h r = absurd cc
+    turn false f g zero h r = f
+    turn false f g (suc k) h r = r g k (omega (arith, h))
+
+module _ (ss : List NamedOutline) (fresh : Fresh [] (names_in ss)) (none : first_long (map outline_of ss) (map outline_of ss) ≡ None) where
+  stands_short : (n : ℕ) → n < length ss → is_long (graph_of ss) n ≡ false
+  unfolding is_long
+  stands_short n h =
+      let outlined : length (map outline_of ss) ≡ length ss = length-map ss outline_of in
+      let sized : length (names_in ss) ≡ length (map outline_of ss) = length-map (map outline_of ss) (λ s. s.name) in
+      let name : List ℕ = slice_index_or (names_in ss) n [] in
+      let first : place_of name (names_in ss) ≡ 0 + n = each_first [] (names_in ss) fresh n (omega (arith, h, outlined, sized)) in
+      let place : n ≡ place_of name (names_in ss) = omega (arith, first) in
+      ap (λ (m : ℕ). descends 65 (graph_of ss) m) place ∙ sym (goes_by_number ss 65 name) ∙ each_short (map outline_of ss) (map outline_of ss) none n (omega (arith, h, outlined))
+
+  pub all_short : (n : ℕ) → is_long (graph_of ss) n ≡ false
+  all_short n = turn (nat_lt n (length ss)) refl
+    where
+      turn : (z : Bool) → nat_lt n (length ss) ≡ z → is_long (graph_of ss) n ≡ false
+      turn true e = stands_short n (below_so n (length ss) e)
+      turn false e =
+          let sized : length (graph_of ss) ≡ length ss = length-map ss (λ s. map (λ u. place_of u.name.now (names_in ss)) s.uses) in
+          let past : length ss ≤ n = not_below n (length ss) e in
+          past_short (graph_of ss) n (omega (arith, sized, past))
+
 pick_here : (z : Bool) (p : ℕ) (r : Option ℕ) → z ≡ true → (elim z as (λ (x : Bool). Option ℕ) [ true ↦ Some p | false ↦ r ]) ≡ Some p
 pick_here true p r e = refl
 pick_here false p r e = absurd cc
@@ -160,9 +204,6 @@ module _ (ss : List NamedOutline) (i : ℕ) (s : NamedOutline) (h : i < length s
 
 -- ---- numbers that never rise
 
-below_so : (a b : ℕ) → nat_lt a b ≡ true → a < b
-below_so a b e = grind (arith, nat_tests)
-
 all_by_number : (rank : ℕ → ℕ) (names : List (List ℕ)) (bound : ℕ) (us : List Use) → all_below rank bound (map (λ u. place_of u.name names) us) ≡ true
     → AllByRecursion (λ u. rank (place_of u.name names) < bound) us
 all_by_number rank names bound [] e = tt
@@ -174,7 +215,7 @@ at_most : (f : Use → ℕ) (bound : ℕ) (us : List Use) → AllByRecursion (λ
 at_most f bound [] all = tt
 at_most f bound (u ∷ us) all = (omega (arith, all.0), at_most f bound us all.1)
 
-rises_at : (rank : ℕ → ℕ) (m : ℕ) (graph : List (List ℕ)) (n : ℕ) → never_rises rank m graph ≡ true → all_below rank (suc (rank (m + n))) (targets_at graph n) ≡ true
+pub rises_at : (rank : ℕ → ℕ) (m : ℕ) (graph : List (List ℕ)) (n : ℕ) → never_rises rank m graph ≡ true → all_below rank (suc (rank (m + n))) (targets_at graph n) ≡ true
 rises_at rank m [] n e = refl
 rises_at rank m (ns ∷ graph) zero e =
     let q : m ≡ m + 0 = omega arith in
@@ -272,10 +313,10 @@ module _ (ss : List NamedOutline) (to : List ℕ) (stands : place_of to (names_i
 all_length : (ss : List NamedOutline) → length (map outline_of ss) ≡ length ss
 all_length ss = length-map ss outline_of
 
-graph_length : (ss : List NamedOutline) → length (graph_of ss) ≡ length ss
+pub graph_length : (ss : List NamedOutline) → length (graph_of ss) ≡ length ss
 graph_length ss = length-map ss (λ s. map (λ u. place_of u.name.now (names_in ss)) s.uses)
 
-names_length : (ss : List NamedOutline) → length (names_in ss) ≡ length ss
+pub names_length : (ss : List NamedOutline) → length (names_in ss) ≡ length ss
 names_length ss = length-map (map outline_of ss) (λ s. s.name) ∙ all_length ss
 
 stands_at : (ss : List NamedOutline) (i : ℕ) (s : NamedOutline) → i < length ss → s ≡ slice_index_or ss i s → place_of s.name.now (names_in ss) < length (names_in ss)
@@ -291,17 +332,35 @@ stands_at (x ∷ ss) (suc i) s h q = turn (same s.name.now x.name.now) (stands_a
     turn true e = omega arith
     turn false e = omega (arith, e)
 
+-- ---- whether a structure leads back
+
+pub falls_back : (graph : List (List ℕ)) (rank : ℕ → ℕ) (n : ℕ) → never_rises rank 0 graph ≡ true → all_below rank (rank n) (targets_at graph n) ≡ true → IsBack graph n false
+falls_back graph rank n e f = record {
+  told = λ ss t g q h. sym (no_way ss rank (ap (λ (x : List (List ℕ)). never_rises rank 0 x) (sym g) ∙ e) t (length (map outline_of ss))
+      ((λ i. all_below rank (rank (sym q i)) (targets_at (sym g i) (sym q i))) ∙ f));
+}
+
+pub way_leads_back : (graph : List (List ℕ)) (n : ℕ) (way : List ℕ) → is_way graph n way n ≡ true → length way < length graph → IsBack graph n true
+way_leads_back graph n way w k = record {
+  told = λ ss t g q h.
+      let size : length graph ≡ length (graph_of ss) = ap (λ (x : List (List ℕ)). length x) g in
+      let low : length way < length (map outline_of ss) = omega (arith, k, size, all_length ss, graph_length ss) in
+      let stands : place_of t (names_in ss) < length (names_in ss) = omega (arith, q, h) in
+      sym (a_way ss t stands way (length (map outline_of ss)) ((λ i. is_way (sym g i) (sym q i) way (sym q i)) ∙ w) low);
+}
+
 module _ (ss : List NamedOutline) (i : ℕ) (s : NamedOutline) (h : i < length ss) (q : s ≡ slice_index_or ss i s) (total : Option ℕ)
     (e : first_loop (map outline_of ss) (map outline_of (drop i ss)) ≡ total) where
-  pub loop_here : (way : List ℕ) → is_way (graph_of ss) (place_of s.name.now (names_in ss)) way (place_of s.name.now (names_in ss)) ≡ true → length way < length (graph_of ss) → Some s.place ≡ total
-  loop_here way w k =
-      sym (pick_here (leads (length (map outline_of ss)) (map outline_of ss) s.name.now s.name.now) s.place (first_loop (map outline_of ss) (map outline_of (drop (i + 1) ss)))
-      (a_way ss s.name.now (stands_at ss i s h q) way (length (map outline_of ss)) w (omega (arith, k, all_length ss, graph_length ss))))
-      ∙ ap (λ (x : List NamedOutline). first_loop (map outline_of ss) (map outline_of x)) (sym (next_item ss i s h q)) ∙ e
+  module _ (back : Bool) (told : IsBack (graph_of ss) (place_of s.name.now (names_in ss)) back) where
+    is_back : back ≡ leads (length (map outline_of ss)) (map outline_of ss) s.name.now s.name.now
+    is_back = told.told ss s.name.now refl refl (stands_at ss i s h q)
 
-  pub loop_next : (rank : ℕ → ℕ) → never_rises rank 0 (graph_of ss) ≡ true → all_below rank (rank (place_of s.name.now (names_in ss))) (targets_at (graph_of ss) (place_of s.name.now (names_in ss))) ≡ true
-      → first_loop (map outline_of ss) (map outline_of (drop (i + 1) ss)) ≡ total
-  loop_next rank n f =
-      sym (pick_next (leads (length (map outline_of ss)) (map outline_of ss) s.name.now s.name.now) s.place (first_loop (map outline_of ss) (map outline_of (drop (i + 1) ss)))
-      (no_way ss rank n s.name.now (length (map outline_of ss)) f))
-      ∙ ap (λ (x : List NamedOutline). first_loop (map outline_of ss) (map outline_of x)) (sym (next_item ss i s h q)) ∙ e
+    pub loop_here : back ≡ true → Some s.place ≡ total
+    loop_here t =
+        sym (pick_here (leads (length (map outline_of ss)) (map outline_of ss) s.name.now s.name.now) s.place (first_loop (map outline_of ss) (map outline_of (drop (i + 1) ss))) (sym is_back ∙ t))
+        ∙ ap (λ (x : List NamedOutline). first_loop (map outline_of ss) (map outline_of x)) (sym (next_item ss i s h q)) ∙ e
+
+    pub loop_next : back ≡ false → first_loop (map outline_of ss) (map outline_of (drop (i + 1) ss)) ≡ total
+    loop_next t =
+        sym (pick_next (leads (length (map outline_of ss)) (map outline_of ss) s.name.now s.name.now) s.place (first_loop (map outline_of ss) (map outline_of (drop (i + 1) ss))) (sym is_back ∙ t))
+        ∙ ap (λ (x : List NamedOutline). first_loop (map outline_of ss) (map outline_of x)) (sym (next_item ss i s h q)) ∙ e

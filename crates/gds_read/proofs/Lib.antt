@@ -11,6 +11,9 @@ pub mod Items
 pub mod Numbering
 pub mod Judged
 pub mod Graphs
+pub mod BlockSteps
+pub mod Walking
+pub mod LoopWays
 pub mod Parts
 pub mod Elements
 pub mod FlatSizes
@@ -21,6 +24,7 @@ pub mod Shaped
 pub mod Placed
 pub mod Valued
 pub mod WidePlaced
+pub mod Distinct
 pub mod WideReads
 pub mod Exact
 pub mod WideExact

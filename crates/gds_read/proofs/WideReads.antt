@@ -13,7 +13,7 @@ use Rattle.poly_cut.specs.Counts.{wide_count}
 use Rattle.poly_cut.specs.Conditions.{AreItems, some_placed, goes_down, IsFlattenable}
 use Rattle.gds_records.specs.declared.fault.StreamKind.{StreamKind}
 use Rattle.gds_records.specs.Language.{One, Speaks}
-use Rattle.gds_records.specs.Grammar.{◌>>◌, tail, turned, boundary, path, turned_reference, array, text, wide_element}
+use Rattle.gds_records.specs.Grammar.{◌>>◌, tail, turned, boundary, path, turned_reference, array, text, wide_element, wide_stream}
 use Rattle.gds_records.specs.Records.{Record, spelled, kinds, number, trimmed}
 use Rattle.gds_records.specs.Drawing.{starts, field, has, place_of, name_of, names_of, coordinate, element_parts}
 use Rattle.gds_records.specs.WideDrawing.{point_at, turn_of, grid_of, figure_of, item_of, wide_structure_of, wide_structures_of}
@@ -32,7 +32,7 @@ use Rattle.gds_read.specs.declared.refusal.StreamRefusal.{StreamRefusal}
 use Rattle.gds_read.specs.WideReading.{IsWideReadAs}
 use Rattle.gds_read.specs.Code.Bodies.{IsBody}
 use Rattle.gds_read.specs.Code.Decoding.{records_in}
-use Rattle.gds_read.specs.Code.Chains.{HasShortChains, HaveShortChains}
+use Rattle.gds_read.specs.Code.Chains.{AreOutlined}
 use Rattle.gds_read.proofs.Kept.{starts_kept}
 use Rattle.gds_read.proofs.Words.{lacks, holds}
 use Rattle.gds_read.proofs.Shaped.{has_is, snames, snames_none, SpokenIn, IsShapedIn, named_once, shaped_in}
@@ -41,6 +41,8 @@ use Rattle.gds_read.proofs.WidePlaced.{all_split, KnownIn, structures_are}
 use Rattle.gds_read.proofs.Placed.{HasBytes, all_bytes, bytes_front, starts_bytes}
 use Rattle.gds_read.proofs.Ends.{names_same, top_low}
 use Rattle.gds_read.proofs.Numbering.{defined_listed}
+use Rattle.gds_read.proofs.Distinct.{Fresh, fresh_names}
+use Rattle.gds_read.proofs.Graphs.{all_short}
 
 -- ---- references of structures, and the names in their elements
 
@@ -213,10 +215,22 @@ module _ (rs : List Record) (shapes : AllByRecursion (IsShapedIn wide_element) (
       ∙ ap (λ (x : List (List (List ℕ))). map (λ ts. map (λ t. place_of t (names_of rs)) ts) x) (told_names rs 0 shapes)
       ∙ numbers_drawn (names_of rs) (starts rs)
 
-  short_drawn : (ss : List NamedOutline) → map outline_of ss ≡ outlines 0 rs → HasShortChains ss → (n : ℕ) → goes_down 65 (wide_structures_of rs) n ≡ false
+  short_drawn : (ss : List NamedOutline) → map outline_of ss ≡ outlines 0 rs → ((n : ℕ) → is_long (graph_of ss) n ≡ false) → (n : ℕ) → goes_down 65 (wide_structures_of rs) n ≡ false
   unfolding is_long
   short_drawn ss same short n =
-      chains_drawn (names_of rs) 65 (starts rs) shapes n ∙ ap (λ (g : List (List ℕ)). descends 65 g n) (sym (graph_drawn ss same)) ∙ short.each n
+      chains_drawn (names_of rs) 65 (starts rs) shapes n ∙ ap (λ (g : List (List ℕ)). descends 65 g n) (sym (graph_drawn ss same)) ∙ short n
+
+  -- names differ, so each structure is the first of its name, and the first from which a long chain goes down is found by
+  -- names
+  all_drawn_short : Speaks wide_stream (kinds rs) → AreGoodIn wide [] rs → wide_whole_fault rs ≡ None → AreOutlined rs → (n : ℕ) → goes_down 65 (wide_structures_of rs) n ≡ false
+  all_drawn_short grammar good e outlined n =
+      let u = none_of (unknown (all_uses (outlines 0 rs)) (outlines 0 rs)) _ _ e in
+      let l = none_of (first_loop (outlines 0 rs) (outlines 0 rs)) _ _ u.1 in
+      let d = none_of (first_long (outlines 0 rs) (outlines 0 rs)) _ _ l.1 in
+      let names : names_in outlined.structures ≡ names_of rs = ap (λ (x : List Outline). map (λ s. s.name) x) outlined.same ∙ names_same 0 rs in
+      let fresh : Fresh [] (names_in outlined.structures) = subst (λ (ns : List (List ℕ)). Fresh [] ns) (sym names) (fresh_names rs grammar good) in
+      let none : first_long (map outline_of outlined.structures) (map outline_of outlined.structures) ≡ None = (λ i. first_long (outlined.same i) (outlined.same i)) ∙ d.0 in
+      short_drawn outlined.structures outlined.same (all_short outlined.structures fresh none) n
 
   flattens : AllByRecursion HasBytes rs → AreGoodIn wide [] rs → wide_whole_fault rs ≡ None → ((n : ℕ) → goes_down 65 (wide_structures_of rs) n ≡ false) → wide_count (wide_layout_of rs) ≤ 8000000
       → IsFlattenable (wide_layout_of rs)
@@ -237,20 +251,20 @@ module _ (rs : List Record) (shapes : AllByRecursion (IsShapedIn wide_element) (
 
 -- what is read is a wide stream, and has a flat form
 pub wide_read : (bytes : List ℕ) (end : ℕ) (records : List ℕ) (layout : WideLayout) (r : Result WideLayout StreamRefusal) → IsBytes bytes → IsBody wide bytes end → records ≡ take end bytes
-    → layout ≡ wide_layout_of (records_in records) → wide_whole_fault (records_in records) ≡ None → HaveShortChains (records_in records)
+    → layout ≡ wide_layout_of (records_in records) → wide_whole_fault (records_in records) ≡ None → AreOutlined (records_in records)
     → IfOk r (λ taken. taken ≡ layout) → IfOk r (λ taken. wide_count layout ≤ 8000000) → IfOk r (λ taken. IsWideReadAs bytes taken)
-wide_read bytes end records layout (Err refusal) fits b front says none short same within = tt
-wide_read bytes end records layout (Ok taken) fits b front says none short same within =
+wide_read bytes end records layout (Err refusal) fits b front says none outlined same within = tt
+wide_read bytes end records layout (Ok taken) fits b front says none outlined same within =
     let rs : List Record = records_in (take end bytes) in
     let e : records_in records ≡ rs = ap (λ (x : List ℕ). records_in x) front in
     let said : layout ≡ wide_layout_of rs = says ∙ ap (λ (x : List Record). wide_layout_of x) e in
     let no_fault : wide_whole_fault rs ≡ None = subst (λ (x : List Record). wide_whole_fault x ≡ None) e none in
-    let are_short : HaveShortChains rs = subst (λ (x : List Record). HaveShortChains x) e short in
+    let told : AreOutlined rs = subst (λ (x : List Record). AreOutlined x) e outlined in
     let shapes = shaped_in wide_element refl refl refl rs b.read.grammar in
     let low : IsBytes (flat_map spelled rs ++ drop end bytes) = subst (λ (x : List ℕ). IsBytes x) b.read.whole fits in
     let flat : IsFlattenable (wide_layout_of rs) =
     flattens rs shapes (all_bytes rs (bytes_front (flat_map spelled rs) (drop end bytes) low)) b.read.good no_fault
-    (short_drawn rs shapes are_short.structures are_short.same are_short.short) (subst (λ (w : WideLayout). wide_count w ≤ 8000000) said within) in
+    (all_drawn_short rs shapes b.read.grammar b.read.good no_fault told) (subst (λ (w : WideLayout). wide_count w ≤ 8000000) said within) in
     let is : IsWideReadAs bytes layout = record {
       stream = record { records = rs; rest = drop end bytes; read = b.read; zeros = b.zeros; conditions = no_fault; says = said };
       flattenable = subst (λ (w : WideLayout). IsFlattenable w) (sym said) flat;

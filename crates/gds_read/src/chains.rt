@@ -3,7 +3,7 @@ ghost use Rattle.std.specs.Prelude.{◌≡◌, ℕ, map, true, false, slice_inde
 ghost use Rattle.gds_records.specs.WideWhole.{first_long};
 ghost use Rattle.gds_read.specs.Code.Numbering.{IsNumbering};
 ghost use Rattle.gds_read.specs.Code.Outlining.{names_in, outline_of};
-ghost use Rattle.gds_read.specs.Code.Graphs.{graph_of, targets_at, some_target, is_long, all_unmarked};
+ghost use Rattle.gds_read.specs.Code.Graphs.{graph_of, targets_at, some_target, is_long};
 
 use crate::element::named;
 use crate::numbers::Numbers;
@@ -79,18 +79,6 @@ pub fn long_chains(alloc: Global, graph: &[List<u32>]) -> Result<Vec<bool>, Memo
         length += 1;
     }
     Ok(marks)
-}
-
-/// Whether no structure is marked.
-pub fn none_marked(marks: &[bool]) -> bool
-    ensures { result ≡ all_unmarked marks.now }
-{
-    for mark in marks {
-        if *mark {
-            return false;
-        }
-    }
-    true
 }
 
 /// The place of the first structure from which a chain of more than 64 references goes down.

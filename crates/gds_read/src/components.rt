@@ -1,191 +1,257 @@
-// Structures that lead to one another, found by one walk along all references. Nothing is proved of it: what it answers
-// is checked where it is used.
+// Components of structures that lead to one another, found by one walk along all references (Gabow's algorithm): blocks
+// of structures that lead to each other stand on a stack, each block leads to the next one, and a reference that leads
+// down the stack joins all blocks from there on. When nothing is left to be followed from the uppermost block, it is a
+// component.
+ghost use Rattle.std.specs.Prelude.{◌≡◌, ℕ, ◌+◌, ◌<◌, ◌≤◌, length, map, true, suc, slice_index, IfOk, OnOk, IfSome, IfNone};
+ghost use Rattle.gds_read.specs.Code.Graphs.{targets_at, refers};
+ghost use Rattle.gds_read.specs.Code.Components.{AreComponents, IsLast, Walks, Keeps, IsEntered, IsTop, IsFollowed, IsStepped, IsRanked, IsEnded};
 
-use crate::graph::{targets_at, value_at};
-use crate::numbers::small_number;
 use aq_base::{List, Memory};
 use std::alloc::Global;
 
-/// A structure on the walk's path, and how many of its references were looked at.
-#[derive(Clone, Copy)]
-struct Visit {
-    structure: u32,
-    seen: usize,
-}
-
-/// A walk that meets each structure once, and goes back only when all that a structure leads to was met. Each of the
-/// first four has a number for each structure.
+/// A walk along all references.
 #[derive(Drop)]
-struct Walk {
-    /// When it was met, counted from 1; 0 before.
-    met: Vec<u32>,
-    /// The earliest of the open structures that it was seen to lead to.
-    earliest: Vec<u32>,
-    /// The component that it is in, counted from 1; 0 while that is open.
-    component: Vec<u32>,
-    /// The structures in no component yet, in the order in which they were met.
-    open: Vec<u32>,
-    /// The structure that is looked at, behind those through which the walk came to it.
-    path: Vec<Visit>,
-    /// How many were met.
-    count: u32,
-    /// How many components are known.
-    components: u32,
+pub struct Walk {
+    /// The place on the stack at which each structure was met, counted from 1; 0 before.
+    pub met: Vec<usize>,
+    /// The component of each structure, counted from 1; 0 before it is closed.
+    pub rank: Vec<usize>,
+    /// How many references of each structure are left to be followed.
+    pub left: Vec<usize>,
+    /// The open structures, in the order in which they were met.
+    pub stack: Vec<usize>,
+    /// Where each block of the stack begins.
+    pub starts: Vec<usize>,
+    /// The open structures of which references may be left, in the order of the stack.
+    pub work: Vec<usize>,
+    /// The closed structures. How many there are numbers the next component.
+    pub closed: Vec<usize>,
 }
 
-// Gives a structure a number; nothing past the last.
-fn put(values: &mut Vec<u32>, number: u32, value: u32) {
-    if let Some(slot) = values.get_mut(number as usize) {
-        *slot = value;
+fn last_of(values: &[usize]) -> Option<usize>
+    ensures some { IfSome result (IsLast values.now) }
+    ensures none { IfNone result (length values.now ≡ 0) }
+{
+    let count = values.len();
+    if count == 0 {
+        return None;
     }
+    Some(values[count - 1])
+}
+
+/// The number that a structure has; 0 past the last.
+fn number_at(values: &[usize], structure: usize) -> usize
+    ensures { result ≡ slice_index values.now structure }
+{
+    match values.get(structure) {
+        Some(value) => *value,
+        None => 0,
+    }
+}
+
+/// A reference of a structure; 0 past the last.
+fn target_at(graph: &[List<u32>], number: usize, place: usize) -> usize
+    ensures { result ≡ slice_index (targets_at graph.now number) place }
+{
+    match graph.get(number) {
+        Some(targets) => match targets.as_slice().get(place) {
+            Some(target) => *target as usize,
+            None => 0,
+        },
+        None => 0,
+    }
+}
+
+/// How many blocks begin before a place on the stack, which is counted from 1.
+fn blocks_before(starts: &[usize], met: usize) -> usize
+    ensures within { result ≤ length starts.now }
+    ensures kept { (k : ℕ) → suc k ≡ result → slice_index starts.now k < met }
+    ensures gone { (k : ℕ) → result ≤ k → k < length starts.now → met ≤ slice_index starts.now k }
+{
+    let mut count = starts.len();
+    'blocks: while count > 0 {
+        if starts[count - 1] < met {
+            return count;
+        }
+        count -= 1;
+    }
+    count
 }
 
 impl Walk {
-    /// Meets a structure.
-    fn enter(&mut self, structure: u32) -> Result<(), Memory> {
-        self.count = self.count.saturating_add(1);
-        put(&mut self.met, structure, self.count);
-        put(&mut self.earliest, structure, self.count);
-        self.open.push(structure)?;
-        self.path.push(Visit { structure, seen: 0 })?;
+    /// Meets a structure, which is a block of its own.
+    fn enter(&mut self, structure: usize) -> Result<(), Memory>
+        requires { structure < length self.old.met.items }
+        ensures { OnOk result (IsEntered self.old structure self.new) }
+    {
+        let place = self.stack.len();
+        self.met[structure] = place + 1;
+        self.stack.push(structure)?;
+        self.starts.push(place)?;
+        self.work.push(structure)?;
         Ok(())
     }
 
-    /// Notes that a structure leads to one that was met then.
-    fn lead(&mut self, structure: u32, met: u32) {
-        let earliest = value_at(self.earliest.as_slice(), structure).min(met);
-        put(&mut self.earliest, structure, earliest);
-    }
-
-    /// Makes the open structures from this one on a component.
-    fn close(&mut self, first: u32) {
-        self.components = self.components.saturating_add(1);
-        for _ in 0..self.open.len() {
-            let Some(member) = self.open.pop() else {
-                break;
-            };
-            put(&mut self.component, member, self.components);
-            if member == first {
-                break;
-            }
+    /// Follows a reference from the uppermost block.
+    fn follow(&mut self, graph: &[List<u32>], from: usize, to: usize) -> Result<(), Memory>
+        requires walks { Walks graph.now self.old }
+        requires top { IsTop self.old from }
+        requires refers { refers graph.now from to ≡ true }
+        ensures { OnOk result (IsFollowed graph.now self.old from to self.new) }
+    {
+        if to >= graph.len() {
+            return Ok(());
         }
-    }
-
-    /// Goes back from a structure.
-    fn leave(&mut self) {
-        let Some(visit) = self.path.pop() else {
-            return;
-        };
-        let earliest = value_at(self.earliest.as_slice(), visit.structure);
-        if earliest == value_at(self.met.as_slice(), visit.structure) {
-            self.close(visit.structure);
-        }
-        if let Some(above) = self.path.last() {
-            let above = above.structure;
-            self.lead(above, earliest);
-        }
-    }
-
-    /// Follows a reference.
-    fn follow(&mut self, from: u32, to: u32) -> Result<(), Memory> {
-        let met = value_at(self.met.as_slice(), to);
+        let met = self.met[to];
         if met == 0 {
-            return self.enter(to);
+            self.enter(to)?;
+            return Ok(());
         }
-        if value_at(self.component.as_slice(), to) == 0 {
-            self.lead(from, met);
+        if self.rank[to] != 0 {
+            return Ok(());
+        }
+        let count = blocks_before(self.starts.as_slice(), met);
+        self.starts.truncate(count);
+        Ok(())
+    }
+
+    /// Follows the next reference of a structure of the uppermost block, the last one first.
+    fn scan(&mut self, graph: &[List<u32>], here: usize) -> Result<(), Memory>
+        requires walks { Walks graph.now self.old }
+        requires top { IsTop self.old here }
+        requires last { IsLast self.old.work.items here }
+        ensures { OnOk result (IsStepped graph.now self.old self.new) }
+    {
+        let left = self.left[here];
+        if left == 0 {
+            let count = self.work.len() - 1;
+            self.work.truncate(count);
+            return Ok(());
+        }
+        let target = target_at(graph, here, left - 1);
+        self.follow(graph, here, target)?;
+        self.left[here] = left - 1;
+        Ok(())
+    }
+
+    /// Gives the structures from a place of the stack on the number of the next component.
+    fn number_from(&mut self, start: usize) -> Result<(), Memory>
+        requires low { start ≤ length self.old.stack.items }
+        requires inside { (i : ℕ) → i < length self.old.stack.items → slice_index self.old.stack.items i < length self.old.rank.items }
+        ensures { OnOk result (IsRanked self.old start (length self.old.stack.items) self.new) }
+    {
+        let rank = self.closed.len() + 1;
+        let mut place = start;
+        'members: while place < self.stack.len() {
+            let member = self.stack[place];
+            self.rank[member] = rank;
+            self.closed.push(member)?;
+            place += 1;
         }
         Ok(())
     }
 
-    /// Goes on by one reference, or back where none is left. Answers whether the path goes on.
-    fn step(&mut self, graph: &[List<u32>]) -> Result<bool, Memory> {
-        let Some(visit) = self.path.last_mut() else {
-            return Ok(false);
+    /// Makes the uppermost block a component.
+    fn close(&mut self, graph: &[List<u32>], start: usize) -> Result<(), Memory>
+        requires walks { Walks graph.now self.old }
+        requires last { IsLast self.old.starts.items start }
+        requires idle { (here : ℕ) → IsLast self.old.work.items here → slice_index self.old.met.items here ≤ start }
+        ensures { OnOk result (IsStepped graph.now self.old self.new) }
+    {
+        self.number_from(start)?;
+        self.stack.truncate(start);
+        let count = self.starts.len() - 1;
+        self.starts.truncate(count);
+        Ok(())
+    }
+
+    /// The last structure that waits, if it is in the uppermost block.
+    fn top(&self, start: usize) -> Option<usize>
+        ensures last { IfSome result (λ here. IsLast self.now.work.items here) }
+        ensures above { IfSome result (λ here. start < slice_index self.now.met.items here) }
+        ensures none { IfNone result ((here : ℕ) → IsLast self.now.work.items here → slice_index self.now.met.items here ≤ start) }
+    {
+        let Some(here) = last_of(self.work.as_slice()) else {
+            return None;
         };
-        let (here, seen) = (visit.structure, visit.seen);
-        visit.seen = seen.saturating_add(1);
-        match targets_at(graph, here).get(seen) {
-            Some(target) => self.follow(here, *target)?,
-            None => self.leave(),
+        if number_at(self.met.as_slice(), here) > start {
+            Some(here)
+        } else {
+            None
         }
-        Ok(true)
+    }
+
+    fn step(&mut self, graph: &[List<u32>], start: usize) -> Result<(), Memory>
+        requires walks { Walks graph.now self.old }
+        requires last { IsLast self.old.starts.items start }
+        ensures { OnOk result (IsStepped graph.now self.old self.new) }
+    {
+        match self.top(start) {
+            Some(here) => self.scan(graph, here),
+            None => self.close(graph, start),
+        }
     }
 
     /// Goes on until all that was met is closed.
-    fn run(&mut self, graph: &[List<u32>]) -> Result<(), Memory> {
-        for _ in 0..u64::MAX {
-            if !self.step(graph)? {
-                break;
-            }
+    fn run(&mut self, graph: &[List<u32>]) -> Result<(), Memory>
+        requires { Walks graph.now self.old }
+        ensures { OnOk result (IsEnded graph.now self.old self.new) }
+    {
+        'steps: while let Some(start) = last_of(self.starts.as_slice()) {
+            self.step(graph, start)?;
         }
+        Ok(())
+    }
+
+    /// Closes a structure, and all that it leads to.
+    fn visit(&mut self, graph: &[List<u32>], number: usize) -> Result<(), Memory>
+        requires walks { Walks graph.now self.old }
+        requires closed { length self.old.stack.items ≡ 0 }
+        requires low { number < length graph.now }
+        ensures ended { OnOk result (IsEnded graph.now self.old self.new) }
+        ensures met { OnOk result (0 < slice_index self.new.met.items number) }
+    {
+        if self.met[number] != 0 {
+            return Ok(());
+        }
+        self.enter(number)?;
+        self.run(graph)?;
         Ok(())
     }
 }
 
-/// For each structure the number of its component: two of one number lead to each other, and no reference leads to a
-/// greater one.
-pub fn components(alloc: Global, graph: &[List<u32>]) -> Result<Vec<u32>, Memory> {
-    let mut walk = Walk {
+fn degrees(alloc: Global, graph: &[List<u32>]) -> Result<Vec<usize>, Memory>
+    ensures { IfOk result (λ degrees. degrees.items ≡ map length graph.now) }
+{
+    let mut degrees = Vec::with_capacity(alloc, graph.len())?;
+    for targets in graph {
+        degrees.push(targets.len())?;
+    }
+    Ok(degrees)
+}
+
+fn new_walk(alloc: Global, graph: &[List<u32>]) -> Result<Walk, Memory>
+    ensures walks { IfOk result (Walks graph.now) }
+    ensures closed { IfOk result (λ walk. length walk.stack.items ≡ 0) }
+{
+    Ok(Walk {
         met: vec![in alloc; 0; graph.len()]?,
-        earliest: vec![in alloc; 0; graph.len()]?,
-        component: vec![in alloc; 0; graph.len()]?,
-        open: Vec::new(alloc),
-        path: Vec::new(alloc),
-        count: 0,
-        components: 0,
-    };
-    for start in 0..graph.len() {
-        let start = small_number(start)?;
-        if value_at(walk.met.as_slice(), start) == 0 {
-            walk.enter(start)?;
-            walk.run(graph)?;
-        }
-    }
-    Ok(walk.component)
+        rank: vec![in alloc; 0; graph.len()]?,
+        left: degrees(alloc, graph)?,
+        stack: Vec::new(alloc),
+        starts: Vec::new(alloc),
+        work: Vec::new(alloc),
+        closed: Vec::new(alloc),
+    })
 }
 
-// The structures on the way from the start to the last of them, which these were come to from.
-fn traced(alloc: Global, before: &[u32], start: u32, last: u32) -> Result<Vec<u32>, Memory> {
-    let mut way = Vec::new(alloc);
-    let mut here = last;
-    for _ in 0..before.len() {
-        if here == start {
-            break;
-        }
-        way.push(here)?;
-        here = value_at(before, here);
+/// For each structure the number of its component.
+pub fn components(alloc: Global, graph: &[List<u32>]) -> Result<Vec<usize>, Memory>
+    ensures { IfOk result (λ ranks. AreComponents graph.now ranks.items) }
+{
+    let mut walk = new_walk(alloc, graph)?;
+    for number in 0..graph.len() {
+        walk.visit(graph, number)?;
     }
-    way.reverse();
-    Ok(way)
-}
-
-/// The structures on a shortest way from a structure back to itself, without it, through structures of its component.
-/// None where there is no way.
-pub fn way_back(
-    alloc: Global,
-    graph: &[List<u32>],
-    components: &[u32],
-    start: u32,
-) -> Result<Vec<u32>, Memory> {
-    let component = value_at(components, start);
-    let mut before = vec![in alloc; u32::MAX; graph.len()]?;
-    let mut found = Vec::new(alloc);
-    found.push(start)?;
-    for place in 0..graph.len() {
-        let Some(here) = found.get(place).copied() else {
-            break;
-        };
-        for target in targets_at(graph, here) {
-            if *target == start {
-                return traced(alloc, before.as_slice(), start, here);
-            }
-            let is_new = value_at(before.as_slice(), *target) == u32::MAX;
-            if is_new && value_at(components, *target) == component {
-                put(&mut before, *target, here);
-                found.push(*target)?;
-            }
-        }
-    }
-    Ok(Vec::new(alloc))
+    Ok(walk.rank)
 }

@@ -1,9 +1,9 @@
 // The references of structures by number.
-ghost use Rattle.std.specs.Prelude.{◌≡◌, ◌==◌, map, slice_index, IfOk};
+ghost use Rattle.std.specs.Prelude.{◌≡◌, map, slice_index, IfOk};
 ghost use Rattle.gds_records.specs.Drawing.{place_of};
 ghost use Rattle.gds_read.specs.Code.Numbering.{IsNumbering};
 ghost use Rattle.gds_read.specs.Code.Outlining.{names_in};
-ghost use Rattle.gds_read.specs.Code.Graphs.{graph_of, targets_at, some_target, refers};
+ghost use Rattle.gds_read.specs.Code.Graphs.{graph_of, targets_at};
 
 use crate::element::named;
 use crate::numbers::Numbers;
@@ -54,20 +54,8 @@ pub fn targets_at(graph: &[List<u32>], number: u32) -> &[u32]
     }
 }
 
-/// Whether one structure references another.
-pub fn refers(graph: &[List<u32>], from: u32, to: u32) -> bool
-    ensures { result ≡ refers graph.now from to }
-{
-    for target in targets_at(graph, from) {
-        if *target == to {
-            return true;
-        }
-    }
-    false
-}
-
 /// The number that structure `number` is given; 0 past the last.
-pub fn value_at(values: &[u32], number: u32) -> u32
+pub fn value_at(values: &[usize], number: u32) -> usize
     ensures { result ≡ slice_index values.now number }
 {
     match values.get(number as usize) {

@@ -5,7 +5,7 @@ ghost use Rattle.gds_records.specs.Profiles.{wide};
 ghost use Rattle.gds_records.specs.Stream.{wide_layout_of};
 ghost use Rattle.gds_records.specs.WideWhole.{wide_whole_fault};
 ghost use Rattle.gds_read.specs.Code.Bodies.{IsWholeRefusal, IsWideOversize};
-ghost use Rattle.gds_read.specs.Code.Chains.{HaveShortChains};
+ghost use Rattle.gds_read.specs.Code.Chains.{AreOutlined};
 ghost use Rattle.gds_read.specs.Code.Decoding.{IsSpelled, records_in};
 ghost use Rattle.gds_read.specs.WideReading.{IsWideReadAs, IsWideRefusedFor};
 
@@ -28,7 +28,7 @@ fn layout_of(alloc: Global, hash: NameHash, bytes: &[u8]) -> Result<WideLayout, 
     requires { IsSpelled bytes.now }
     ensures layout { IfOk result (λ layout. layout ≡ wide_layout_of (records_in bytes.now)) }
     ensures none { IfOk result (λ layout. wide_whole_fault (records_in bytes.now) ≡ None) }
-    ensures short { IfOk result (λ layout. HaveShortChains (records_in bytes.now)) }
+    ensures outlined { IfOk result (λ layout. AreOutlined (records_in bytes.now)) }
     ensures err { IfErr result (λ refusal. IsWholeRefusal wide (records_in bytes.now) refusal) }
 {
     let outlines = outlines_in(alloc, bytes)?;

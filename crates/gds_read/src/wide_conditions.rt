@@ -4,13 +4,13 @@ ghost use Rattle.gds_records.specs.Profiles.{wide};
 ghost use Rattle.gds_records.specs.Whole.{all_uses, outlines, top_of};
 ghost use Rattle.gds_records.specs.WideWhole.{wide_whole_fault};
 ghost use Rattle.gds_read.specs.Code.Bodies.{IsWholeRefusal};
-ghost use Rattle.gds_read.specs.Code.Chains.{loop_or_long, HasShortChains};
+ghost use Rattle.gds_read.specs.Code.Chains.{loop_or_long};
 ghost use Rattle.gds_read.specs.Code.Decoding.{IsSpelled, records_in};
 ghost use Rattle.gds_read.specs.Code.Outlining.{outline_of, names_in};
 ghost use Rattle.gds_read.specs.Code.Numbering.{IsNumbering, AreUsed};
 ghost use Rattle.gds_read.specs.Code.Texts.{texts};
 
-use crate::chains::{first_long, long_chains, none_marked};
+use crate::chains::{first_long, long_chains};
 use crate::conditions::{first_unknown, one_top};
 use crate::graph::graph;
 use crate::loops::first_loop;
@@ -24,24 +24,18 @@ use std::alloc::Global;
 
 // The place of the first structure in a loop of references, or else of the first from which a chain of more than 64 goes
 // down. From a structure in a loop chains of any length go down, so loops are looked for only where there is such a chain.
-// Names are all different, so each structure is the first of its name: a later one with such a chain can't be, and would
-// be answered as want of memory.
 fn loop_or_long(
     alloc: Global,
     structures: &[NamedOutline<'_>],
     numbers: &Numbers<'_>,
 ) -> Result<Option<usize>, Memory>
     requires { IsNumbering numbers.now.entries (names_in structures.now) }
-    ensures place { IfOk result (λ place. place ≡ loop_or_long (map outline_of structures.now)) }
-    ensures short { IfOk result (λ place. place ≡ None → HasShortChains structures.now) }
+    ensures { IfOk result (λ place. place ≡ loop_or_long (map outline_of structures.now)) }
 {
     loops_are_long();
     let graph = graph(alloc, structures, numbers)?;
     let long = long_chains(alloc, graph.as_slice())?;
     let Some(place) = first_long(structures, numbers, long.as_slice())? else {
-        if !none_marked(long.as_slice()) {
-            return Err(Memory);
-        }
         return Ok(None);
     };
     match first_loop(alloc, structures, numbers, graph.as_slice())? {
@@ -62,7 +56,6 @@ pub fn wide_top_or_fault(
     requires outlines { map outline_of structures.now ≡ outlines 0 (records_in bytes.now) }
     requires numbers { IsNumbering numbers.now.entries (names_in structures.now) }
     requires used { AreUsed (texts used.now.keys) (all_uses (map outline_of structures.now)) }
-    ensures short { IfOk result (λ top. HasShortChains structures.now) }
     ensures none { IfOk result (λ top. wide_whole_fault (records_in bytes.now) ≡ None) }
     ensures top { IfOk result (λ top. top ≡ top_of (records_in bytes.now)) }
     ensures err { IfErr result (λ refusal. IsWholeRefusal wide (records_in bytes.now) refusal) }

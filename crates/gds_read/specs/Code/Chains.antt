@@ -1,11 +1,10 @@
 -- The first structure that is too deep to be drawn.
-use Rattle.std.specs.Prelude.{◌≡◌, ℕ, List, map, false, Option, Some, None}
+use Rattle.std.specs.Prelude.{◌≡◌, ℕ, List, map, Option, Some, None}
 use Rattle.gds_records.specs.Records.{Record}
 use Rattle.gds_records.specs.Whole.{Outline, outlines}
 use Rattle.gds_records.specs.WideWhole.{first_loop, first_long}
 use Rattle.gds_read.specs.declared.outline.NamedOutline.{NamedOutline}
 use Rattle.gds_read.specs.Code.Outlining.{outline_of}
-use Rattle.gds_read.specs.Code.Graphs.{graph_of, is_long}
 
 -- the first of two numbers that is there
 abbrev pub or_else : Option ℕ → Option ℕ → Option ℕ
@@ -17,12 +16,7 @@ or_else None other = other
 abbrev pub loop_or_long : List Outline → Option ℕ
 loop_or_long ss = or_else (first_loop ss ss) (first_long ss ss)
 
--- no chain of more than 64 references goes down from a structure
-pub record HasShortChains (ss : List NamedOutline) : Type 0 where
-  pub each : (n : ℕ) → is_long (graph_of ss) n ≡ false
-
--- so from no structure of these records
-pub record HaveShortChains (rs : List Record) : Type 0 where
+-- these records have structures in outline
+pub record AreOutlined (rs : List Record) : Type 0 where
   pub structures : List NamedOutline
   pub same : map outline_of structures ≡ outlines 0 rs
-  pub short : HasShortChains structures

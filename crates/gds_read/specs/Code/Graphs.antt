@@ -1,9 +1,10 @@
 -- The references of structures by number: chains down them, ways along them, and numbers that never rise.
-use Rattle.std.specs.Prelude.{ℕ, zero, suc, ◌==◌, ◌&&◌, ◌||◌, not, nat_lt, slice_index_or, List, [], ◌∷◌, Bool, true}
-use Rattle.std.specs.Prelude.{false, map}
+use Rattle.std.specs.Prelude.{◌≡◌, ℕ, zero, suc, ◌==◌, ◌&&◌, ◌||◌, ◌<◌, nat_lt, slice_index_or, List, [], ◌∷◌}
+use Rattle.std.specs.Prelude.{Bool, true, false, map, length}
 use Rattle.gds_records.specs.Drawing.{place_of}
+use Rattle.gds_records.specs.WideWhole.{leads}
 use Rattle.gds_read.specs.declared.outline.NamedOutline.{NamedOutline}
-use Rattle.gds_read.specs.Code.Outlining.{names_in}
+use Rattle.gds_read.specs.Code.Outlining.{outline_of, names_in}
 
 -- for each structure the numbers of those that it references, where the structures have these names
 abbrev pub graph_by : List (List ℕ) → List NamedOutline → List (List ℕ)
@@ -36,11 +37,6 @@ descends (suc k) graph n = some_target (descends k graph) (targets_at graph n)
 unfoldable pub is_long : List (List ℕ) → ℕ → Bool
 is_long graph n = descends 65 graph n
 
--- no structure is marked
-abbrev pub all_unmarked : List Bool → Bool
-all_unmarked [] = true
-all_unmarked (mark ∷ marks) = not mark && all_unmarked marks
-
 -- no reference leads to a greater number, in structures from n on
 abbrev pub never_rises : (ℕ → ℕ) → ℕ → List (List ℕ) → Bool
 never_rises rank n [] = true
@@ -54,3 +50,8 @@ refers graph from to = some_target (λ n. n == to) (targets_at graph from)
 abbrev pub is_way : List (List ℕ) → ℕ → List ℕ → ℕ → Bool
 is_way graph from [] to = refers graph from to
 is_way graph from (n ∷ way) to = refers graph from n && is_way graph n way to
+
+-- whether structure n leads back to itself, whatever names the structures of this graph have
+pub record IsBack (graph : List (List ℕ)) (n : ℕ) (back : Bool) : Type 0 where
+  pub told : (ss : List NamedOutline) (t : List ℕ) → graph ≡ graph_of ss → n ≡ place_of t (names_in ss)
+      → n < length (names_in ss) → back ≡ leads (length (map outline_of ss)) (map outline_of ss) t t

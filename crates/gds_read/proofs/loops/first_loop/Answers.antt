@@ -1,20 +1,27 @@
-use Rattle.std.proofs.Common.{List, ℕ, ◌<◌, length, sym, subst, ◌∙◌}
+use Rattle.std.proofs.Common.{List, ℕ, true, false, refl, sym, subst, ◌∙◌}
 use Rattle.std.specs.Prelude.{slice_index}
-use Rattle.gds_read.specs.Code.Graphs.{targets_at, all_below, never_rises, is_way}
-use Rattle.gds_read.proofs.Graphs.{loop_here, loop_next}
+use Rattle.gds_read.specs.Code.Graphs.{IsBack, graph_of}
+use Rattle.gds_read.specs.Code.Components.{AreComponents}
+use Rattle.gds_read.proofs.Graphs.{falls_back, loop_here, loop_next}
+use Rattle.gds_read.proofs.LoopWays.{rises_back}
 use Rattle.gds_read.proofs.loops.first_loop.Goals as goal
 
 pub returns-then-not-falls : goal.returns-then-not-falls
 returns-then-not-falls c =
-    let way = c.in_ok-certain_way.field-0.items in
-    loop_here c.args.structures.now c.loop-outline.outline-index c.outline-item.result c.loop-outline-test.true c.outline-item.is _ c.loop-outline.invariant way
-    ((λ i. is_way (sym c.requires.graph i) (sym c.in_ok-number.ensures i) way (sym c.in_ok-number.ensures i)) ∙ c.in_ok-certain_way.ensures.way)
-    (subst (λ (g : List (List ℕ)). length way < length g) c.requires.graph c.in_ok-certain_way.ensures.short)
+    let g = c.args.graph.now in
+    let n = c.in_ok-number.number in
+    let ranks = c.as_slice.result.now in
+    let are = subst (λ (r : List ℕ). AreComponents g r) (sym c.as_slice.ensures.value) c.in_ok-ranks.ensures in
+    loop_here c.args.structures.now c.loop-outline.outline-index c.outline-item.result c.loop-outline-test.true c.outline-item.is _ c.loop-outline.invariant true
+    (subst (λ (m : ℕ). IsBack (graph_of c.args.structures.now) m true) c.in_ok-number.ensures
+    (subst (λ (x : List (List ℕ)). IsBack x n true) c.requires.graph (rises_back g ranks n are (sym c.falls.ensures ∙ c.if-not-falls.true)))) refl
 
 pub loop-outline-preserved : goal.loop-outline-preserved
 loop-outline-preserved c =
-    let rank = slice_index c.in_ok-ranks.ranks.items in
-    loop_next c.args.structures.now c.loop-outline.outline-index c.outline-item.result c.loop-outline-test.true c.outline-item.is _ c.loop-outline.invariant rank
-    ((λ i. never_rises (slice_index (sym c.as_slice.ensures.value i)) 0 (sym c.requires.graph i)) ∙ sym c.in_ok-never_rises.ensures ∙ c.if-not-branch.false)
-    ((λ i. all_below (slice_index (sym c.as_slice-in-loop-outline.ensures.value i)) (slice_index (sym c.as_slice-in-loop-outline.ensures.value i) (sym c.in_ok-number.ensures i))
-    (targets_at (sym c.requires.graph i) (sym c.in_ok-number.ensures i))) ∙ sym c.falls.ensures ∙ c.if-not-falls.false)
+    let g = c.args.graph.now in
+    let n = c.in_ok-number.number in
+    let ranks = c.as_slice.result.now in
+    let are : AreComponents g ranks = subst (λ (r : List ℕ). AreComponents g r) (sym c.as_slice.ensures.value) c.in_ok-ranks.ensures in
+    loop_next c.args.structures.now c.loop-outline.outline-index c.outline-item.result c.loop-outline-test.true c.outline-item.is _ c.loop-outline.invariant false
+    (subst (λ (m : ℕ). IsBack (graph_of c.args.structures.now) m false) c.in_ok-number.ensures
+    (subst (λ (x : List (List ℕ)). IsBack x n false) c.requires.graph (falls_back g (slice_index ranks) n are.never (sym c.falls.ensures ∙ c.if-not-falls.false)))) refl
