@@ -17,9 +17,6 @@ use std::alloc::Global;
 /// The places of the computed table at first.
 const FIRST_PLACES: usize = 1_024;
 
-/// The places of the computed table at most: 2^24.
-const MOST_PLACES: usize = 16_777_216;
-
 /// The golden ratio as a fraction of 2^64: products with it spread over the high bits.
 const SPREADING: u64 = 0x9e37_79b9_7f4a_7c15;
 
@@ -79,16 +76,13 @@ fn entries(alloc: Global, entry: Entry, count: usize) -> Result<Vec<Entry>, Memo
     Ok(vec![in alloc; entry; count]?)
 }
 
-/// The entries at twice as many places. `Memory` past `MOST_PLACES`.
+/// The entries at twice as many places.
 fn spread(alloc: Global, computed: &[Entry]) -> Result<Vec<Entry>, Memory>
     requires { 0 < length computed.now }
     ensures some { IfOk result (λ v. 0 < length v.items) }
     ensures each { (nodes : List Node) → IsEntry nodes NOTHING → All (IsEntry nodes) computed.now
         → IfOk result (λ v. All (IsEntry nodes) v.items) }
 {
-    if computed.len() >= MOST_PLACES {
-        return Err(Memory);
-    }
     let mut more = entries(alloc, NOTHING, 2 * computed.len())?;
     for entry in computed {
         let at = place(&more, entry.operands);
@@ -217,7 +211,8 @@ impl Diagram {
         }
     }
 
-    /// Doubles the computed table, where two majorities a place were remembered. So at most 2^25 are made in all.
+    /// Doubles the computed table, where two majorities a place were remembered. So it grows with the work, and a
+    /// comparison that makes too many majorities ends where a growth is refused.
     fn make_room(&mut self, alloc: Global) -> Result<(), Memory>
         ensures { self.new.table.nodes.keys ≡ self.old.table.nodes.keys }
     {

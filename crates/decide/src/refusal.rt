@@ -10,7 +10,7 @@ use std::alloc::{AllocError, AllocFailed};
 pub enum DecideRefusal {
     /// The two circuits have more than 1,000,000 subfunctions. `functions` is always 1,000,001.
     TooMany { functions: u64 },
-    /// Want of memory, or of places to remember majorities in.
+    /// Want of memory.
     Memory,
 }
 
