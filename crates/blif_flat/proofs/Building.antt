@@ -1,11 +1,15 @@
 -- What the program tells of a text and of its models, step by step.
-use Rattle.std.proofs.Common.{◌≡◌, ℕ, zero, suc, ◌-◌, ◌<◌, ◌≤◌, ◌^◌, Bool, true, false, min, inl, inr, List, [], ◌∷◌, length, get_or, Option, Some, None, refl, sym, ap, ◌∙◌, subst, arith, lit<}
+use Rattle.std.proofs.Common.{◌≡◌, ℕ, zero, suc, ◌+◌, ◌-◌, ◌*◌, ◌<◌, ◌≤◌, ◌^◌, Bool, true, false, min, inl, inr, List, [], ◌∷◌, length, get_or, Option, Some, None, refl, sym, ap, ◌∙◌, subst, arith, lit<}
 use Rattle.std.specs.Prelude.{Result, Ok, Err, IfOk, IfErr}
+use Rattle.std.specs.List.{AllByRecursion}
 use Rattle.std.proofs.lemmas.List.{length-map}
+use Rattle.std.proofs.lemmas.List.Sums.{sum_by-cons}
 use Rattle.blif_read.specs.Lines.{Line, logical_lines}
+use Rattle.blif_read.specs.Statements.{word, is_model}
+use Rattle.blif_read.specs.Code.Size.{bytes_of, token_bytes, IsCut}
 use Rattle.blif_read.specs.Parts.{NetView}
 use Rattle.blif_read.specs.Netlist.{AreParts}
-use Rattle.blif_read.specs.Models.{onto, parts_of, parts_behind, model_of, is_design, SaysModels, ModelsFault}
+use Rattle.blif_read.specs.Models.{onto, ended, parts_of, parts_behind, model_of, is_design, SaysModels, ModelsFault}
 use Rattle.blif_read.specs.Says.{SaysNet, Fault, IfBad}
 use Rattle.blif_read.specs.declared.netlist.BlifRefusal.{BlifRefusal}
 use Rattle.blif_read.specs.declared.netlist.BlifRefusal.TheVariants.{Bad}
@@ -26,7 +30,8 @@ use Rattle.blif_flat.specs.declared.design.FlatKind.TheVariants.{ModelTwice, Unk
 use Rattle.blif_flat.specs.declared.design.FlatRefusal.{FlatRefusal}
 use Rattle.blif_flat.specs.declared.design.FlatRefusal.TheVariants.{Text, Design, TooMany, Memory}
 use Rattle.blif_flat.specs.declared.faults.order.Told.{Told}
-use Rattle.blif_flat.proofs.ExpandedParts.{said_parts}
+use Rattle.blif_flat.proofs.ExpandedParts.{each_has_a_byte, said_parts}
+use Rattle.blif_read.proofs.Counted.{text_is_cut}
 
 fault_of_line : (models : List BlifModel) (line : ℕ) (kind : FlatKind) → IsFirstFault models line kind → IsToldFault models line kind
 fault_of_line models line ModelTwice h = h
@@ -95,11 +100,41 @@ some_models text models says =
     let some = some_parts (logical_lines text) in
     let size : length models ≡ length (parts_of (logical_lines text)) = ap length says.each ∙ length-map (parts_of (logical_lines text)) model_of in omega arith
 
-pub parts_known : (text : List ℕ) (models : List BlifModel) → length text ≤ 2 ^ 24 → SaysModels text models → IsBuildable models → AreParts (expansion models)
-parts_known text models few says ok = said_parts text models (more (length text) few) says ok
-  where
-    more : (n : ℕ) → n ≤ 2 ^ 24 → n ≤ 2 ^ 27
-    more n h = omega (arith, h)
+few_onto : (line : Line) (parts : List (List Line)) → length (onto line parts) ≤ length parts + 1
+few_onto line [] = omega arith
+few_onto line (part ∷ parts) = omega arith
+
+few_ended : (b : Bool) (parts : List (List Line)) → length (ended b parts) ≤ length parts + 1
+few_ended true parts = omega arith
+few_ended false parts = omega arith
+
+few_behind : (lines : List Line) → length (parts_behind lines) ≤ 2 * length lines + 1
+few_behind [] = omega arith
+few_behind (line ∷ lines) =
+    let more = few_behind lines in
+    omega (arith, more, few_onto line (parts_behind lines), few_ended (is_model (word line)) (onto line (parts_behind lines)))
+
+few_parts : (lines : List Line) → length (parts_of lines) ≤ 2 * length lines + 1
+few_parts [] = omega arith
+few_parts (line ∷ lines) = let more = few_behind lines in omega (arith, more, few_onto line (parts_behind lines))
+
+few_lines : (lines : List Line) → AllByRecursion IsCut lines → length lines ≤ bytes_of lines
+few_lines [] h = omega arith
+few_lines (line ∷ lines) h =
+    let more = few_lines lines h.1 in
+    let some = h.0.tokens in
+    omega (arith, more, some, each_has_a_byte line.tokens h.0.filled, sum_by-cons (λ (l : Line). token_bytes l.tokens) line lines)
+
+pub few_models : (text : List ℕ) (models : List BlifModel) → length text ≤ 2 ^ 27 → SaysModels text models → length models < 2 ^ 32
+few_models text models few says =
+    let lines = logical_lines text in
+    let cut = text_is_cut text in
+    let fits = cut.fits in
+    let size : length models ≡ length (parts_of lines) = ap length says.each ∙ length-map (parts_of lines) model_of in
+    omega (arith, size, few_parts lines, few_lines lines cut.each, fits, few)
+
+pub parts_known : (text : List ℕ) (models : List BlifModel) → length text ≤ 2 ^ 27 → SaysModels text models → IsBuildable models → AreParts (expansion models)
+parts_known text models few says ok = said_parts text models few says ok
 
 netlist_at : (b : Bool) (text : List ℕ) → is_design (logical_lines text) ≡ b → (net : NetView) → elim b as (λ (x : Bool). Type 0) [ true ↦ OfModels text (SaysExpansion net) | false ↦ SaysNet text net ] → SaysNetlist text net
 netlist_at b text e net h = subst (λ (x : Bool). elim x as (λ (y : Bool). Type 0) [ true ↦ OfModels text (SaysExpansion net) | false ↦ SaysNet text net ]) (sym e) h

@@ -214,7 +214,7 @@ named_in Passed names n h = omega arith
 named_in Other names n h = omega arith
 named_in Row names n h = omega arith
 
-each_has_a_byte : (tokens : List (List ℕ)) → AllByRecursion (λ t. 0 < length t) tokens → length tokens ≤ token_bytes tokens
+pub each_has_a_byte : (tokens : List (List ℕ)) → AllByRecursion (λ t. 0 < length t) tokens → length tokens ≤ token_bytes tokens
 each_has_a_byte [] h = omega arith
 each_has_a_byte (t ∷ tokens) h =
     let more = each_has_a_byte tokens h.1 in

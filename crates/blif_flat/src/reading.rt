@@ -15,7 +15,7 @@ use crate::expansion::expand::expand;
 use crate::faults::told::first_fault;
 use crate::models::calls::{call_order, model_numbers};
 use crate::models::indexed::Design;
-use crate::models::numbers::{Numbers, small_number};
+use crate::models::numbers::Numbers;
 use crate::models::sizes::design_size;
 use blif_read::{BlifModel, BlifRefusal, Netlist, ReadText, read_text};
 use name_hash::NameHash;
@@ -108,18 +108,18 @@ fn net_of_numbered(
 /// The netlist of models.
 fn net_of(alloc: Global, hash: NameHash, models: &[BlifModel]) -> Result<Netlist, FlatRefusal>
     requires some { 0 < length models.now }
+    requires few { length models.now < 2 ^ 32 }
     requires parts { IsBuildable models.now → AreParts (expansion models.now) }
     ensures ok { IfOk result (λ net. SaysExpansion net models.now) }
     ensures err { IfErr result (IsModelsRefusal models.now) }
 {
-    let _count = small_number(models.len())?;
     let numbers = model_numbers(alloc, hash, models)?;
     net_of_numbered(alloc, hash, &numbers, models)
 }
 
 /// The netlist that is read, or that the models are expanded to.
 fn net_said(alloc: Global, text: &[u8], read: ReadText) -> Result<Netlist, FlatRefusal>
-    requires few { length text.now ≤ 2 ^ 24 }
+    requires few { length text.now ≤ 2 ^ 27 }
     requires said { SaysText text.now read }
     ensures ok { IfOk result (λ net. SaysNetlist text.now net) }
     ensures err { IfErr result (λ refusal. IsNetlistRefusal text.now refusal) }
@@ -143,7 +143,7 @@ fn refused(refusal: BlifRefusal) -> FlatRefusal
 /// The netlist that a text in the Berkeley Logic Interchange Format says, be it of one model or of several that call one
 /// another; or what is wrong with it first. It is refused otherwise for want of memory alone.
 pub fn read_design(alloc: Global, text: &[u8]) -> Result<Netlist, FlatRefusal>
-    requires { length text.now ≤ 2 ^ 24 }
+    requires { length text.now ≤ 2 ^ 27 }
     ensures ok { IfOk result (λ net. SaysNetlist text.now net) }
     ensures err { IfErr result (λ refusal. IsNetlistRefusal text.now refusal) }
 {

@@ -6,7 +6,7 @@ ghost use Rattle.blif_flat.specs.DesignFaults.{loop_of, line_to, last_of_loop, l
 ghost use Rattle.blif_flat.specs.Code.Numbering.{IsNumbering};
 ghost use Rattle.blif_flat.specs.Code.Calls.{has_name, call_def, call_defs, IsCallOrder};
 
-use crate::models::numbers::{Numbers, add, number_of, small_number};
+use crate::models::numbers::{Numbers, add, narrow, number_of};
 use aq_base::{List, Memory};
 use blif_read::{BlifModel, Call, Def, Walked, walk_from};
 use indexmap::IndexMap;
@@ -19,13 +19,13 @@ pub fn model_numbers<'a>(
     hash: NameHash,
     models: &'a [BlifModel],
 ) -> Result<Numbers<'a>, Memory>
+    requires { length models.now < 2 ^ 32 }
     ensures { IfOk result (λ numbers. IsNumbering has_name numbers.entries models.now) }
 {
     let mut numbers = IndexMap::with_hasher(alloc, hash);
     numbers.reserve_exact(models.len())?;
     for (number, model) in models.iter().enumerate() {
-        let number = small_number(number)?;
-        add(&mut numbers, model.name.as_slice(), number)?;
+        add(&mut numbers, model.name.as_slice(), narrow(number))?;
     }
     Ok(numbers)
 }

@@ -1,5 +1,5 @@
 // Numbers of names.
-ghost use Rattle.std.specs.Prelude.{◌≡◌, ℕ, List, IfOk, OnOk};
+ghost use Rattle.std.specs.Prelude.{◌≡◌, ℕ, ◌<◌, ◌^◌, List, IfOk, OnOk};
 ghost use Rattle.std.specs.Str.{bytes_eq};
 ghost use Rattle.blif_flat.specs.Code.Numbering.{number_in, number_or};
 
@@ -15,6 +15,14 @@ pub fn small_number(number: usize) -> Result<u32, Memory>
     ensures { IfOk result (λ small. small ≡ number) }
 {
     u32::try_from(number).map_err(|_| Memory)
+}
+
+/// A number of items that 32 bits hold.
+pub fn narrow(number: usize) -> u32
+    requires { number < 2 ^ 32 }
+    ensures { result ≡ number }
+{
+    number as u32
 }
 
 /// The number of a name, if it has one.

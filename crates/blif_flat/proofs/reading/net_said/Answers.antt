@@ -1,7 +1,7 @@
 use Rattle.std.proofs.Common.{subst}
 use Rattle.blif_read.specs.Reads.{SaysText}
 use Rattle.blif_read.specs.declared.texts.ReadText.{ReadText}
-use Rattle.blif_flat.proofs.Building.{says_plain, says_design, refuses_design, some_models, parts_known, if_ok, if_err, models_at}
+use Rattle.blif_flat.proofs.Building.{few_models, says_plain, says_design, refuses_design, some_models, parts_known, if_ok, if_err, models_at}
 use Rattle.blif_flat.proofs.reading.net_said.Goals as goal
 
 pub returns-in-Plain-clause-ok : goal.returns-in-Plain-clause-ok
@@ -9,6 +9,9 @@ returns-in-Plain-clause-ok c = let h = subst (λ (r : ReadText). SaysText c.args
 
 pub net_of-requires-clause-some : goal.net_of-requires-clause-some
 net_of-requires-clause-some c = let h = models_at c.args.text.now c.args.read c.in-Design.models c.as_slice.result.now c.requires.said c.in-Design.is c.as_slice.ensures in some_models c.args.text.now c.as_slice.result.now h.1
+
+pub net_of-requires-clause-few : goal.net_of-requires-clause-few
+net_of-requires-clause-few c = let h = models_at c.args.text.now c.args.read c.in-Design.models c.as_slice.result.now c.requires.said c.in-Design.is c.as_slice.ensures in few_models c.args.text.now c.as_slice.result.now c.requires.few h.1
 
 pub net_of-requires-clause-parts : goal.net_of-requires-clause-parts
 net_of-requires-clause-parts c = let h = models_at c.args.text.now c.args.read c.in-Design.models c.as_slice.result.now c.requires.said c.in-Design.is c.as_slice.ensures in parts_known c.args.text.now c.as_slice.result.now c.requires.few h.1
