@@ -9,10 +9,12 @@
 # the next, stand beside as many bytes of models that the first one calls.
 # Streams are checked, beside the adder of 164 bits: the chip of a wire with a structure of 3,999 squares that is
 # referenced 2,000 times far away from it, the same with all squares on one another, and labels that all stand on one
-# pin; a boundary of 2,001 teeth of different heights that is referenced 3,900 times; a text of 32,000 bytes that is
-# referenced 20,000 times, beside one of two bytes; 20,000 references to an empty structure in one that is referenced
-# 100,000 times, beside it without them; and a loop of 300,000 structures, beside as many with a square each. Libraries
-# of 90,000 keys stand beside those of 45,000, and chosen names beside counted ones (bench/names.sh). Chips are
+# pin; a boundary of 2,001 teeth of different heights that is referenced 3,900 times; one of 8,004 points that crosses
+# itself everywhere; a hundred boundaries of some 8,160 points each, as combs, stairs, spirals, and walls with steps at
+# both sides and slots between, and 80,000 of seven points, beside as many bytes of the adder; a text of 32,000 bytes
+# that is referenced 20,000 times, beside one of two bytes; 20,000 references to an empty structure in one that is
+# referenced 100,000 times, beside it without them; and a loop of 300,000 structures, beside as many with a square each.
+# Libraries of 90,000 keys stand beside those of 45,000, and chosen names beside counted ones (bench/names.sh). Chips are
 # compared with another form of their netlists, beside `verify` of them without words: rows of chosen gates, whose
 # exclusive ors are made in two ways, of which the chip of `compact` is undecided; and outputs that random words all
 # show false, so that each looks like each other.
@@ -118,6 +120,53 @@ def comb(teeth):
     for k in reversed(range(teeth)):
         corners += [(400 * k + 200, 1000), (400 * k + 200, 2000 + k), (400 * k, 2000 + k), (400 * k, 1000)]
     return [corners[0], (400 * teeth - 200, 0), *corners[2:], corners[0]]
+def stairs(steps):
+    """A triangle with steps."""
+    corners = [(0, 0), (10 * steps, 0)]
+    for k in range(steps): corners += [(10 * (steps - k), 10 * (k + 1)), (10 * (steps - k - 1), 10 * (k + 1))]
+    return [*corners, (0, 0)]
+def spiral(rounds):
+    """A line wound inwards."""
+    side, outer, inner = 8 * rounds + 8, [(0, 0)], [(0, 2)]
+    for d in range(0, 4 * rounds, 4):
+        far = side - d
+        outer += [(far, d), (far, far), (d, far), (d, d + 4)]
+        inner += [(far - 2, d + 2), (far - 2, far - 2), (d + 2, far - 2), (d + 2, d + 6)]
+    inner[-1] = (inner[-1][0], outer[-1][1])
+    return [*outer, *reversed(inner), (0, 0)]
+def castle(steps):
+    """Steps at both sides, of the same heights, and as many slots between them that go down past all steps."""
+    width, top = 40 * steps + 100, 10 * steps + 100
+    corners = [(0, 0), (width, 0)]
+    for k in range(steps): corners += [(width - k, 10 * k + 10), (width - k - 1, 10 * k + 10)]
+    corners += [(width - steps, top)]
+    for x in reversed(range(steps + 30, 31 * steps + 30, 30)):
+        corners += [(x + 10, top), (x + 10, 5), (x, 5), (x, top)]
+    corners += [(steps, top)]
+    for k in reversed(range(steps)): corners += [(k + 1, 10 * k + 10), (k, 10 * k + 10)]
+    return [*corners, (0, 0)]
+def crossed(lines):
+    """A line that goes up and down so often, and then across itself as often: squares as on a board."""
+    high, corners = 10 * lines + 10, [(10, -10)]
+    for k in range(lines): corners += [(10 * k + 10, -10 if k % 2 else high), (10 * k + 20, -10 if k % 2 else high)]
+    x = 10 * lines + 20
+    corners[-1] = (x, corners[-1][1])
+    corners += [(x, 5)]
+    for k in range(lines): corners += [(x if k % 2 else 0, 10 * k + 5), (x if k % 2 else 0, 10 * k + 15)]
+    corners[-1] = (corners[-1][0], -20)
+    return [*corners, (10, -20), (10, -10)]
+def ell():
+    """A corner."""
+    return [(0, 0), (4000, 0), (4000, 2000), (2000, 2000), (2000, 6000), (0, 6000), (0, 0)]
+# Rings of at most 8,191 points, which is as many as a record holds.
+RINGS = {"rings_comb": lambda: comb(2_040), "rings_stairs": lambda: stairs(4_080),
+         "rings_spiral": lambda: spiral(1_019), "rings_castle": lambda: castle(1_019), "rings_ell": ell,
+         "ring_crossed": lambda: crossed(2_000)}
+def rings(corners, count):
+    """So many of a ring, beside one another."""
+    pitch = max(max(corner) for corner in corners) + 1000
+    places = [(FAR + k % 300 * pitch, k // 300 * pitch) for k in range(count)]
+    return b"".join(ring([(x + dx, y + dy) for x, y in corners]) for dx, dy in places)
 def label(layer, text, x, y):
     head = record(0x0C00) + record(0x0D02, words(layer)) + record(0x1602, words(0))
     return head + record(0x1003, points(x, y)) + record(0x1906, text) + record(0x1100)
@@ -215,6 +264,7 @@ else:
         names = [b"L%07d" % k for k in range(size)]
         made = with_more(b"".join(structure(name, square(0, 0)) for name in names),
                          b"".join(reference(name, FAR + k % 999 * 2000, k // 999 * 2000) for k, name in enumerate(names)))
+    elif kind in RINGS: made = with_more(b"", rings(RINGS[kind](), size))
     elif kind == "labels": made = with_more(b"", b"".join(label(30, b"I0", 3000, 500) for k in range(size)))
     else: made = with_more(before + structure(b"HP", body), spread(size))
     open(target, "wb").write(made)
@@ -300,7 +350,21 @@ done <<CASES
 squares 2000 7998017 3
 heap 2000 7998017 3
 comb 3900 7807817 3
+ring_crossed 1 2002018 3
 labels 200000 200017 5
+CASES
+while read -r kind count; do
+    make "$kind" "$count" "$work/hostile.gds"
+    bytes=$(wc -c <"$work/hostile.gds")
+    times=$(awk -v a="$bytes" -v b="$(wc -c <"$work/adder.gds")" 'BEGIN { print a / b }')
+    compare "stream $kind, $count rings, $bytes bytes" \
+        "$(check "$work/hostile.gds" "$work/words")" "$plain" "$times" 3
+done <<CASES
+rings_comb 100
+rings_stairs 100
+rings_spiral 100
+rings_castle 100
+rings_ell 80000
 CASES
 make letter 20000 "$work/letter.gds"
 make text 20000 "$work/hostile.gds"

@@ -122,6 +122,12 @@ abbrev pub odd_upto : List ℤ → ℤ → Bool
 odd_upto [] i = false
 odd_upto (w ∷ ws) i = differ (int_le w i) (odd_upto ws i)
 
+pub none_upto : (b i : ℤ) (ws : List ℤ) → Above b ws → i ≤ℤ b → odd_upto ws i ≡ false
+none_upto b i [] h le = refl
+none_upto b i (w ∷ ws) h le =
+    let m : i <ℤ w = omega (arith, ints, h.0, le) in
+    ap (λ (t : Bool). differ t (odd_upto ws i)) (le_not w i m) ∙ none_upto w i ws h.1 (omega (arith, ints, m))
+
 abbrev pub is_odd : List ℤ → Bool
 is_odd [] = false
 is_odd (w ∷ ws) = not (is_odd ws)

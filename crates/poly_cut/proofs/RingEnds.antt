@@ -3,7 +3,7 @@ use Rattle.std.proofs.Common.{◌≡◌, ◌<◌, ℤ, ◌<ℤ◌, ◌≤ℤ◌,
 use Rattle.std.specs.Prelude.{◌||◌, IsPermutation, IsSorted}
 use Rattle.std.specs.List.{list_any}
 use Rattle.std.specs.declared.cmp.Ordering.{Ordering}
-use Rattle.std.specs.declared.cmp.Ordering.TheVariants.{Less}
+use Rattle.std.specs.declared.cmp.Ordering.TheVariants.{Less, Equal}
 use Rattle.std.specs.Ordering.{int_cmp, int_eq, is_lt, ordering_then}
 use Rattle.std.proofs.lemmas.Int.{ints, by_lt_z}
 use Rattle.std.proofs.lemmas.Cmp.{int_cmp_total, then_total, on_total}
@@ -15,6 +15,7 @@ use Rattle.poly_cut.specs.declared.ends.End.{End}
 use Rattle.poly_cut.specs.Rings.{Edge, edges_from, edges}
 use Rattle.poly_cut.specs.Cuts.{placed, levels, slabs, all_joined, ring_cut}
 use Rattle.poly_cut.specs.Code.Sweeping.{ends_of, FromBelow, levels_of}
+use Rattle.poly_cut.specs.Code.Levels.{LevelsFromLeft}
 use Rattle.poly_cut.proofs.Parity.{In, in_placed, in_still, in_placed_cases}
 use Rattle.poly_cut.proofs.RingLaw.{AreAmong, edges_among, levels_rising}
 use Rattle.poly_cut.proofs.Sweeps.{same_members, levels_rise}
@@ -37,6 +38,25 @@ from_sort ends up i j e f le p q =
     let b : get_or ends j e ≡ f = get_or_from_slice_get ends j f e q in
     let far : is_lt (end_cmp (get_or ends j e) (get_or ends i e)) ≡ false = sorted_far (λ u v. is_lt (end_cmp u v)) (ranks_by (then_total (on_total (λ (k : End). k.y) int_cmp_total) (on_total (λ (k : End). k.x) int_cmp_total)) (λ u. u)) ends up i j e le lt in
     not_below f.y e.y (int_cmp f.x e.x) (sym (λ n. is_lt (end_cmp (b n) (a n))) ∙ far)
+
+not_left : (v y w x : ℤ) → v ≡ y → is_lt (ordering_then (int_cmp v y) (int_cmp w x)) ≡ false → x ≤ℤ w
+not_left v y w x e h = by_lt_z w x
+    (λ lt. absurd (let k : true ≡ false = sym (λ n. is_lt (ordering_then (same v y e n) (less w x lt n))) ∙ h in cc))
+    (λ le. le)
+  where
+    less : (x y : ℤ) → x <ℤ y → int_cmp x y ≡ Less
+    less x y h = grind (arith, ints)
+
+    same : (x y : ℤ) → x ≡ y → int_cmp x y ≡ Equal
+    same x y h = grind (arith, ints)
+
+pub left_sort : (ends : List End) → IsSorted end_cmp ends → LevelsFromLeft ends
+left_sort ends up i j e f le p q same =
+    let lt : j < length ends = slice_get_within ends j f q in
+    let a : get_or ends i e ≡ e = get_or_from_slice_get ends i e e p in
+    let b : get_or ends j e ≡ f = get_or_from_slice_get ends j f e q in
+    let far : is_lt (end_cmp (get_or ends j e) (get_or ends i e)) ≡ false = sorted_far (λ u v. is_lt (end_cmp u v)) (ranks_by (then_total (on_total (λ (k : End). k.y) int_cmp_total) (on_total (λ (k : End). k.x) int_cmp_total)) (λ u. u)) ends up i j e le lt in
+    not_left f.y e.y f.x e.x (sym same) (sym (λ n. is_lt (end_cmp (b n) (a n))) ∙ far)
 
 -- ---- what is among the levels
 

@@ -1,5 +1,5 @@
 -- Rectangles of a slab, joined to those below it.
-use Rattle.std.proofs.Common.{◌≡◌, ℕ, zero, suc, ◌<◌, ◌⊎◌, ℤ, ◌<ℤ◌, List, [], ◌∷◌, ◌++◌, Bool, true, false, cond, length, Some, None, refl, sym, ap, subst, ◌∙◌, arith, inl, inr}
+use Rattle.std.proofs.Common.{◌≡◌, ℕ, zero, suc, ◌<◌, ℤ, ◌<ℤ◌, List, [], ◌∷◌, ◌++◌, Bool, true, false, cond, length, Some, None, refl, sym, ap, subst, ◌∙◌, arith, inl, inr}
 use Rattle.std.specs.Prelude.{slice_get, slice_set, ◌&&◌}
 use Rattle.std.specs.Ordering.{int_cmp, int_eq, is_eq}
 use Rattle.std.specs.BTreeMap.{BTreeMap}
@@ -9,32 +9,7 @@ use Rattle.std.proofs.lemmas.List.{length-append}
 use Rattle.geom.specs.Rectangle.{Rectangle, IsProper}
 use Rattle.poly_cut.specs.Cuts.{box, stands_on, joined}
 use Rattle.poly_cut.specs.Code.Sweeping.{last_at, InSlab, IsSupport}
-
--- ---- places in lists
-
-push_cases : {X : Type 0} (xs : List X) (y x : X) (k : ℕ) → slice_get (xs ++ y ∷ []) k ≡ Some x → (slice_get xs k ≡ Some x) ⊎ ((k ≡ length xs) × (y ≡ x))
-push_cases [] y x zero e = inr (refl, same_Some y x e)
-push_cases [] y x (suc k) e = absurd cc
-push_cases (z ∷ xs) y x zero e = inl e
-push_cases (z ∷ xs) y x (suc k) e = elim (push_cases xs y x k e) [
-  | inl old ↦ inl old
-  | inr new ↦ inr (ap suc new.0, new.1)
-]
-
-set_cases : {X : Type 0} (xs : List X) (n : ℕ) (y x : X) (k : ℕ) → slice_get (slice_set xs n y) k ≡ Some x → (slice_get xs k ≡ Some x) ⊎ ((k ≡ n) × (y ≡ x))
-set_cases [] n y x k e = absurd cc
-set_cases (z ∷ xs) zero y x zero e = inr (refl, same_Some y x e)
-set_cases (z ∷ xs) zero y x (suc k) e = inl e
-set_cases (z ∷ xs) (suc n) y x zero e = inl e
-set_cases (z ∷ xs) (suc n) y x (suc k) e = elim (set_cases xs n y x k e) [
-  | inl old ↦ inl old
-  | inr new ↦ inr (ap suc new.0, new.1)
-]
-
-set_length : {X : Type 0} (xs : List X) (n : ℕ) (y : X) → length (slice_set xs n y) ≡ length xs
-set_length [] n y = refl
-set_length (x ∷ xs) zero y = refl
-set_length (x ∷ xs) (suc n) y = ap suc (set_length xs n y)
+use Rattle.poly_cut.proofs.Places.{push_cases, set_cases, set_length}
 
 -- ---- joining, by place
 
@@ -83,6 +58,18 @@ stands_so r t e =
     both : (p q : Bool) → (p && q) ≡ true → (p ≡ true) × (q ≡ true)
     both true q e = (refl, e)
     both false q e = absurd cc
+
+pub left_so : (r t : Rectangle) → stands_on r t ≡ true → r.x0 ≡ t.x0
+left_so r t e = (stands_so r t e).left
+
+pub right_so : (r t : Rectangle) → stands_on r t ≡ true → r.x1 ≡ t.x1
+right_so r t e = (stands_so r t e).right
+
+pub stands_is : (r t : Rectangle) → r.x0 ≡ t.x0 → r.x1 ≡ t.x1 → r.y1 ≡ t.y0 → stands_on r t ≡ true
+stands_is r t a b c = (λ n. eq_is r.x0 t.x0 a n && (eq_is r.x1 t.x1 b n && eq_is r.y1 t.y0 c n))
+  where
+    eq_is : (a b : ℤ) → a ≡ b → int_eq a b ≡ true
+    eq_is a b e = grind (arith, ints)
 
 pub level_so : (r t : Rectangle) → stands_on r t ≡ true → r.y1 ≡ t.y0
 level_so r t e = (stands_so r t e).level

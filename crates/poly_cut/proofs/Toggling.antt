@@ -1,5 +1,7 @@
 -- Toggling by the place that a binary search finds.
-use Rattle.std.proofs.Common.{◌≡◌, ℕ, zero, suc, ◌+◌, ◌<◌, ◌≤◌, ℤ, ◌<ℤ◌, List, [], ◌∷◌, ◌++◌, false, length, get_or, take, drop, refl, ap, subst, ◌∙◌, arith}
+use Rattle.std.proofs.Common.{◌≡◌, ◌⊎◌, ℕ, zero, suc, ◌+◌, ◌/◌, ◌<◌, ◌≤◌, ℤ, ◌<ℤ◌, ◌≤ℤ◌, List, [], ◌∷◌, ◌++◌, false, Some, length, get_or, take, drop, refl, sym, ap, subst, ◌∙◌, arith, inl, inr}
+use Rattle.std.specs.Prelude.{slice_get}
+use Rattle.std.proofs.lemmas.Option.{same_Some, slice_get-get_or, slice_get_within, get_or_from_slice_get}
 use Rattle.std.specs.declared.cmp.Ordering.{Ordering}
 use Rattle.std.specs.declared.cmp.Ordering.TheVariants.{Less, Equal, Greater}
 use Rattle.std.specs.Ordering.{int_cmp, is_lt, ordering_index}
@@ -11,6 +13,7 @@ use Rattle.std.proofs.lemmas.List.Sorted.{searchable_from_sorted}
 use Rattle.poly_cut.specs.Cuts.{toggled}
 use Rattle.poly_cut.specs.Code.Sweeping.{Above, Rising}
 use Rattle.poly_cut.proofs.Parity.{rising_of}
+use Rattle.poly_cut.proofs.Spans.{got_less}
 
 cmp_less : (x y : ℤ) → x <ℤ y → int_cmp x y ≡ Less
 cmp_less x y h = grind (arith, ints)
@@ -82,3 +85,35 @@ toggled_in x (w ∷ ws) zero up le parts = toggled_so x w ws Less (cmp_less x w 
 toggled_in x (w ∷ ws) (suc k) up le parts =
     toggled_so x w ws Greater (cmp_greater x w (less_cmp w x (parts.0 0 x (omega arith) (omega arith))))
     ∙ ap (λ (l : List ℤ). w ∷ l) (toggled_in x ws k (rising_of w ws up) (omega arith) (λ i d lo hi. parts.0 (suc i) d (omega arith) (omega arith), λ i d lo hi. parts.1 (suc i) d (omega arith) (omega arith)))
+
+-- ---- the pairs of walls left of a place, and those from it on
+
+module _ (x : ℤ) (ws : List ℤ) (k : ℕ) (up : Rising ws) where
+  found_there : k < length ws → HoldsAt (λ y. int_cmp y x ≡ Equal) ws k → slice_get ws k ≡ Some x
+  found_there lt here = slice_get-get_or ws k x lt ∙ ap (λ (v : ℤ). Some v) (cmp_equal (get_or ws k x) x (here x))
+
+  pub before_found : k < length ws → HoldsAt (λ y. int_cmp y x ≡ Equal) ws k → (i : ℕ) (w : ℤ) → i < k / 2 → slice_get ws (suc (i + i)) ≡ Some w → w <ℤ x
+  before_found lt here i w h e = got_less ws (suc (i + i)) k w x up (omega arith) e (found_there lt here)
+
+  pub from_found : k < length ws → HoldsAt (λ y. int_cmp y x ≡ Equal) ws k → (i : ℕ) (w : ℤ) → k / 2 ≤ i → slice_get ws (suc (i + i)) ≡ Some w → x ≤ℤ w
+  from_found lt here i w h e = elim (less_or k (suc (i + i)) (omega arith)) [
+    | inl less ↦ (let m : x <ℤ w = got_less ws k (suc (i + i)) x w up less (found_there lt here) e in omega (arith, ints, m))
+    | inr same ↦ (let m : x ≡ w = same_Some x w (sym (found_there lt here) ∙ ap (λ (n : ℕ). slice_get ws n) same ∙ e) in omega (arith, ints, m))
+  ]
+    where
+      less_or : (a b : ℕ) → a ≤ b → (a < b) ⊎ (a ≡ b)
+      less_or zero zero le = inr refl
+      less_or zero (suc b) le = inl (omega arith)
+      less_or (suc a) zero le = absurd (omega arith)
+      less_or (suc a) (suc b) le = elim (less_or a b (omega arith)) [ inl lt ↦ inl (omega (arith, lt)) | inr e ↦ inr (ap suc e) ]
+
+  pub before_place : IsPartitionPoint (λ y. int_cmp y x ≡ Less) (λ y. int_cmp y x ≡ Greater) ws k → (i : ℕ) (w : ℤ) → i < k / 2 → slice_get ws (suc (i + i)) ≡ Some w → w <ℤ x
+  before_place parts i w h e =
+      let lt : suc (i + i) < length ws = slice_get_within ws (suc (i + i)) w e in
+      subst (λ (v : ℤ). v <ℤ x) (get_or_from_slice_get ws (suc (i + i)) w x e) (less_cmp (get_or ws (suc (i + i)) x) x (parts.0 (suc (i + i)) x (omega (arith, lt)) (omega (arith, lt))))
+
+  pub from_place : IsPartitionPoint (λ y. int_cmp y x ≡ Less) (λ y. int_cmp y x ≡ Greater) ws k → (i : ℕ) (w : ℤ) → k / 2 ≤ i → slice_get ws (suc (i + i)) ≡ Some w → x ≤ℤ w
+  from_place parts i w h e =
+      let lt : suc (i + i) < length ws = slice_get_within ws (suc (i + i)) w e in
+      let m : x <ℤ w = subst (λ (v : ℤ). x <ℤ v) (get_or_from_slice_get ws (suc (i + i)) w x e) (greater_cmp (get_or ws (suc (i + i)) x) x (parts.1 (suc (i + i)) x (omega (arith, lt)) (omega (arith, lt)))) in
+      omega (arith, ints, m)

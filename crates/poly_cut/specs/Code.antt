@@ -3,5 +3,6 @@
 pub mod Strokes
 pub mod Strides
 pub mod Sweeping
+pub mod Levels
 pub mod Readied
 pub mod Boxes

@@ -6,7 +6,7 @@ ghost use Rattle.poly_cut.specs.FlatForm.{items_at};
 ghost use Rattle.poly_cut.specs.Counts.{own_count, placed_count, count_of, wide_count, told, Tell};
 
 use crate::boxes::rectangle_of;
-use crate::cutting::cut_ring;
+use crate::cutting::{cut_ring, is_cut};
 use crate::layout::{Figure, Grid, Item, Point, WideLayout, WideStructure};
 use aq_base::Memory;
 use std::alloc::Global;
@@ -25,8 +25,7 @@ fn ring_count(alloc: Global, ring: &[Point]) -> Result<usize, Memory>
 pub fn has_squares(alloc: Global, ring: &[Point]) -> Result<bool, Memory>
     ensures { IfOk result (λ some. some ≡ not (length (ring_cut ring.now) == 0)) }
 {
-    let count = ring_count(alloc, ring)?;
-    Ok(count != 0)
+    is_cut(alloc, ring)
 }
 
 /// How many rectangles a figure has.

@@ -3,6 +3,7 @@
 #![tactic(auto)]
 
 mod boxes;
+mod closing;
 mod counts;
 mod cutting;
 mod ends;
@@ -15,6 +16,7 @@ mod slabs;
 mod strokes;
 mod turns;
 mod walls;
+mod windows;
 
 pub use counts::{count_flat, has_squares};
 pub use cutting::cut;

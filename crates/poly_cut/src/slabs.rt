@@ -1,15 +1,19 @@
-// The rectangles of slabs, one on another.
-ghost use Rattle.std.specs.Prelude.{◌≡◌, [], ◌<◌, ℕ, ℤ, ◌<ℤ◌, length, Some, None, OnOk};
-ghost use Rattle.poly_cut.specs.Cuts.{box, stands_on, joined, all_joined, between};
-ghost use Rattle.poly_cut.specs.Code.Sweeping.{Rising, ReachesUp, InSlab, IsSupport, last_at};
+// The rectangles of slabs, one on another. One that goes on through many slabs is touched where it begins and where it ends.
+ghost use Rattle.std.specs.Prelude.{◌≡◌, [], List as Items, ◌<◌, ◌≤◌, ◌⊎◌, ℕ, ℤ, ◌<ℤ◌, ◌≤ℤ◌, length, map, slice_get, drop, Some, None, IfOk, OnOk};
+ghost use Rattle.geom.specs.Rectangle.{Rectangle};
+ghost use Rattle.poly_cut.specs.Cuts.{box};
+ghost use Rattle.poly_cut.specs.Code.Sweeping.{Rising, ReachesUp, last_at};
+ghost use Rattle.poly_cut.specs.Code.Levels.{cut_off, IsPair, Clear, IsOpen, FromLeft, Standing, IsHigh, BeginBelow, Opening, Whole, Behind, OffFrom, Risen, Goes, Begins, IsSupport, IsReached};
 
 use crate::ends::End;
+use crate::windows::{Level, first_pair, is_past};
 use aq_base::{List, Memory};
 use geom::Rect;
 use std::alloc::Global;
 use std::collections::BTreeMap;
 
-/// The rectangles so far, and at each left edge the number of the one that was begun last.
+/// The rectangles so far, and at each left edge the number of the one that was begun last. Those that have not ended go up
+/// to the top of the ring.
 #[derive(Drop)]
 pub struct Stack {
     pub rects: List<Rect>,
@@ -27,33 +31,32 @@ pub fn empty(alloc: Global) -> Stack
     }
 }
 
-/// Whether a rectangle stands on another with the same sides.
-fn stands_on(lower: &Rect, upper: &Rect) -> bool
-    ensures { result ≡ stands_on lower.now upper.now }
+/// Whether a rectangle has the same sides as another, and reaches it from below.
+fn reaches(lower: &Rect, upper: &Rect) -> bool
+    ensures { IsReached lower.now upper.now result }
 {
-    lower.x0 == upper.x0 && lower.x1 == upper.x1 && lower.y1 == upper.y0
+    lower.x0 == upper.x0 && lower.x1 == upper.x1 && lower.y1 >= upper.y0
 }
 
-/// The number of the rectangle on which the upper one stands, if there is one.
+/// The number of the rectangle that goes on as the upper one, if there is one.
 fn support(stack: &Stack, upper: &Rect) -> Option<usize>
     requires { (x : ℤ) (n : ℕ) → last_at stack.now.last x ≡ Some n → n < length stack.now.rects }
     ensures { IsSupport stack.now.rects stack.now.last upper.now result }
 {
     let number = *stack.last.get(&upper.x0)?;
-    if stands_on(stack.rects.get(number), upper) {
+    if reaches(stack.rects.get(number), upper) {
         Some(number)
     } else {
         None
     }
 }
 
-/// The lower rectangle, up to the top of the upper one.
+/// The lower rectangle, up to the top of the upper one, which it reaches.
 fn raised(lower: &Rect, upper: &Rect) -> Rect
-    requires { lower.now.y1 ≡ upper.now.y0 }
+    requires { lower.now.y0 <ℤ upper.now.y1 }
     ensures { result ≡ box lower.now.x0 lower.now.y0 lower.now.x1 upper.now.y1 }
 {
     lower.known();
-    upper.known();
     Rect {
         x0: lower.x0,
         y0: lower.y0,
@@ -62,11 +65,11 @@ fn raised(lower: &Rect, upper: &Rect) -> Rect
     }
 }
 
-/// Adds the next rectangle of a slab.
+/// Lets a rectangle go on as this one, or begins this one.
 fn join(stack: &mut Stack, upper: Rect) -> Result<(), Memory>
-    requires { InSlab stack.old.rects stack.old.last upper.y0 upper.y1 upper.x0 }
-    ensures rects { OnOk result (stack.new.rects ≡ joined stack.old.rects upper) }
-    ensures slab { OnOk result ((left : ℤ) → upper.x0 <ℤ left → InSlab stack.new.rects stack.new.last upper.y0 upper.y1 left) }
+    requires stand { (x : ℤ) (n : ℕ) → last_at stack.old.last x ≡ Some n → n < length stack.old.rects }
+    requires low { (n : ℕ) (r : Rectangle) → slice_get stack.old.rects n ≡ Some r → r.y0 ≤ℤ upper.y0 }
+    ensures { OnOk result (Goes stack.old.rects stack.old.last upper stack.new.rects stack.new.last ⊎ Begins stack.old.rects stack.old.last upper stack.new.rects stack.new.last) }
 {
     upper.known();
     match support(stack, &upper) {
@@ -82,32 +85,74 @@ fn join(stack: &mut Stack, upper: Rect) -> Result<(), Memory>
     Ok(())
 }
 
-/// The rectangle between two levels and two walls.
-fn between(bottom: &End, top: &End, left: i64, right: i64) -> Rect
-    requires high { bottom.now.y <ℤ top.now.y }
+/// The rectangle between two walls, from a level up to the top.
+fn between(left: i64, right: i64, level: &Level) -> Rect
     requires wide { left <ℤ right }
-    ensures { result ≡ box left bottom.now.y right top.now.y }
+    requires high { level.now.y <ℤ level.now.top }
+    ensures { result ≡ box left level.now.y right level.now.top }
 {
     Rect {
         x0: left,
-        y0: bottom.y,
+        y0: level.y,
         x1: right,
-        y1: top.y,
+        y1: level.top,
     }
 }
 
-/// Adds the rectangles of the slab between two levels, which lie between its walls.
-pub fn add_slab(stack: &mut Stack, walls: &[i64], bottom: &End, top: &End) -> Result<(), Memory>
-    requires high { bottom.now.y <ℤ top.now.y }
+/// Begins the rectangles of the window which begins at the end of this number, of those pairs of walls that have not been
+/// looked at, and counts those that have.
+fn begin_window(
+    stack: &mut Stack,
+    walls: &[i64],
+    ends: &[End],
+    number: usize,
+    from: usize,
+    level: &Level,
+) -> Result<usize, Memory>
+    requires within { number < length ends.now }
     requires rising { Rising walls.now }
-    requires below { ReachesUp stack.old.rects stack.old.last bottom.now.y }
-    ensures rects { OnOk result (stack.new.rects ≡ all_joined stack.old.rects (between bottom.now.y top.now.y walls.now)) }
-    ensures here { OnOk result (ReachesUp stack.new.rects stack.new.last top.now.y) }
+    requires left { FromLeft ends.now }
+    requires high { level.now.y <ℤ level.now.top }
+    requires before { Opening from ends.now walls.now level.now.y level.now.top stack.old.rects stack.old.last }
+    requires behind { Behind from walls.now (drop number ends.now) ends.now }
+    ensures after { IfOk result (λ n. Opening n ends.now walls.now level.now.y level.now.top stack.new.rects stack.new.last) }
+    ensures whole { IfOk result (λ n. (whole : ℤ → Items Rectangle) → Whole from walls.now level.now.y level.now.top stack.old.rects whole → Whole n walls.now level.now.y level.now.top stack.new.rects whole) }
+    ensures more { IfOk result (λ n. from ≤ n) }
+    ensures off { IfOk result (λ n. OffFrom n walls.now (drop number ends.now)) }
 {
-    let mut i: usize = 0;
-    'intervals: while walls.len() - i > 1 {
-        join(stack, between(bottom, top, walls[i], walls[i + 1]))?;
-        i += 2;
+    let first = from.max(first_pair(walls, &ends[number]));
+    for pair in first..walls.len() / 2 {
+        let (left, right) = (walls[pair + pair], walls[pair + pair + 1]);
+        if is_past(ends, number, left) {
+            return Ok(pair);
+        }
+        join(stack, between(left, right, level))?;
+    }
+    Ok(walls.len() / 2)
+}
+
+/// Begins the rectangles of the slab on a level, between these walls. Those that lie off all windows go on.
+pub fn begin_level(
+    stack: &mut Stack,
+    walls: &[i64],
+    ends: &[End],
+    level: &Level,
+) -> Result<(), Memory>
+    requires rising { Rising walls.now }
+    requires left { FromLeft ends.now }
+    requires high { level.now.y <ℤ level.now.top }
+    requires low { BeginBelow stack.old.rects level.now.y }
+    requires reaches { ReachesUp (map (cut_off level.now.y) stack.old.rects) stack.old.last level.now.y }
+    requires standing { Standing stack.old.rects stack.old.last walls.now level.now.y }
+    requires whole { IsHigh stack.old.rects level.now.y level.now.top }
+    requires clear { (i : ℕ) (a b : ℤ) → IsPair walls.now i a b → Clear ends.now a b → IsOpen stack.old.rects stack.old.last a b level.now.top }
+    ensures { OnOk result (Risen stack.old.rects walls.now level.now.y level.now.top stack.new.rects stack.new.last) }
+{
+    let mut from: usize = 0;
+    let mut number: usize = 0;
+    'windows: while number < ends.len() {
+        from = begin_window(stack, walls, ends, number, from, level)?;
+        number += 2;
     }
     Ok(())
 }

@@ -2,6 +2,7 @@
 ghost use Rattle.std.specs.Prelude.{◌≡◌, OnOk};
 ghost use Rattle.poly_cut.specs.Cuts.{toggled};
 ghost use Rattle.poly_cut.specs.Code.Sweeping.{Rising};
+ghost use Rattle.poly_cut.specs.Code.Levels.{all_toggled};
 
 use crate::ends::End;
 use aq_base::Memory;
@@ -16,6 +17,17 @@ pub fn toggle(walls: &mut Vec<i64>, end: &End) -> Result<(), Memory>
             let _ = walls.remove(place);
         }
         Err(place) => walls.insert(place, end.x)?,
+    }
+    Ok(())
+}
+
+/// Toggles all ends, one after another.
+pub fn toggle_all(walls: &mut Vec<i64>, ends: &[End]) -> Result<(), Memory>
+    requires { Rising walls.old.items }
+    ensures { OnOk result (walls.new.items ≡ all_toggled ends.now walls.old.items) }
+{
+    for end in ends {
+        toggle(walls, end)?;
     }
     Ok(())
 }
