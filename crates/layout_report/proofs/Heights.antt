@@ -11,8 +11,8 @@ use Rattle.std.proofs.lemmas.Cmp.{int_cmp_total}
 use Rattle.std.proofs.lemmas.List.Sorted.{searchable_from_sorted}
 use Rattle.std.proofs.lemmas.Option.{same_Some, slice_get_within, slice_get-get_or, get_or_from_slice_get}
 use Rattle.shape_extract.specs.Code.Edges.{Rises}
+use Rattle.shape_extract.proofs.RowEdges.{sorted_from_rises}
 use Rattle.layout_report.specs.Code.Heights.{BelongsTo}
-use Rattle.layout_report.proofs.RowEdges.{sorted_from_rises}
 
 at_self : (y : ℤ) → int_le y y ≡ true
 at_self y = grind (arith, ints)

@@ -1,5 +1,5 @@
 -- The outline holds all frames, and lies within each rectangle that does.
-use Rattle.std.proofs.Common.{◌≡◌, ◌&&◌, Bool, true, arith, List, [], ◌∷◌, Option, Some, None, ℤ, sym, subst}
+use Rattle.std.proofs.Common.{◌≡◌, ◌&&◌, true, arith, List, [], ◌∷◌, Some, None, ℤ, subst}
 use Rattle.std.specs.Prelude.{All, filter, fold, int_le}
 use Rattle.std.specs.Int.{int_min, int_max}
 use Rattle.std.proofs.lemmas.Bool.{and_parts, and_from}

@@ -2,7 +2,6 @@ mod Keyed
 mod Chosen
 mod Zipped
 mod NetSums
-mod RowEdges
 mod Heights
 mod PinRows
 mod SourceRows

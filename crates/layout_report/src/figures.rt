@@ -7,7 +7,6 @@ ghost use Rattle.layout_report.specs.Code.Figures.{AreFigures};
 ghost use Rattle.layout_report.specs.Code.Sources.{AreInOrder, AreSourceRows};
 ghost use Rattle.layout_report.specs.Code.Tables.{AreNetLengths, IsRowTable};
 
-use crate::edges::rows;
 use crate::frames::{height_of, outline, width_of};
 use crate::kinds::{Kinds, count_junctions, count_kinds};
 use crate::lengths::net_lengths;
@@ -17,6 +16,7 @@ use crate::wire_tables::longest_wire;
 use aq_base::Memory;
 use chip_circuit::Extracted;
 use geom::Flat;
+use shape_extract::rows;
 use std::alloc::Global;
 
 /// The numbers of a report, but for those of the counts line; lengths in nanometres.

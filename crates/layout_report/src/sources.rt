@@ -5,11 +5,12 @@ ghost use Rattle.shape_extract.specs.Code.Edges.{Rises};
 ghost use Rattle.layout_report.specs.Code.Heights.{BelongsTo};
 ghost use Rattle.layout_report.specs.Code.Sources.{AreInOrder, AreSourceRows, row_left};
 
-use crate::edges::{lower_edge, row_at};
+use crate::edges::row_at;
 use crate::rules::known;
 use aq_base::Memory;
 use geom::{Flat, Shape};
 use layout_rules::layers::{INPUT_PIN, OUTPUT_PIN};
+use shape_extract::lower_edge;
 use std::alloc::Global;
 
 /// The row to which the shape's lower edge belongs.

@@ -20,10 +20,10 @@ use Rattle.layout_rules.specs.GeometryRules.{is_at_pin, trespasses, CoverBroken}
 use Rattle.geom.specs.Rectangle.{common}
 use Rattle.shape_extract.specs.Searches.{FindsAt, passes_in}
 use Rattle.shape_extract.specs.declared.planes.Plane.{Plane}
-use Rattle.shape_extract.specs.declared.planes.Plane.TheVariants.{Lower, Frames}
+use Rattle.shape_extract.specs.declared.planes.Plane.TheVariants.{Frames, Pins}
 use Rattle.shape_extract.specs.Planes.{in_plane, AreNearIn}
 use Rattle.shape_extract.proofs.Sharing.{sharing_close, overlap_shares}
-use Rattle.shape_extract.proofs.InPlanes.{pin_lower}
+use Rattle.shape_extract.proofs.InPlanes.{pin_pinned}
 use Rattle.rule_check.specs.Code.Cover.{is_at_pin_of, any_at, may_trespass, trespasses_by, FindsTrespass}
 use Rattle.rule_check.proofs.Geometry.{any_at_here, any_at_found}
 
@@ -74,7 +74,7 @@ and_same false u v x y same = refl
 
 module _ (shapes : List Shape) (a : ℕ) (s : Shape) (frames pins : List ℕ) (got : slice_get shapes a ≡ Some s)
     (proper : IsProper s.rect) (are : AreNearIn Frames shapes s.rect 0 frames)
-    (are_pins : AreNearIn Lower shapes s.rect 0 pins) where
+    (are_pins : AreNearIn Pins shapes s.rect 0 pins) where
   -- shapes of a plane that share a point with this one are among those near it
   place_of : (plane : Plane) (near : List ℕ) → AreNearIn plane shapes s.rect 0 near → (n : ℕ) (t : Shape)
       → slice_get shapes n ≡ Some t → in_plane plane t ≡ true → share_point s.rect t.rect ≡ true
@@ -88,7 +88,7 @@ module _ (shapes : List Shape) (a : ℕ) (s : Shape) (frames pins : List ℕ) (g
   pin_near frame over any =
       let at : PassesAt (is_at_pin_of s frame) shapes = list_any-place (is_at_pin_of s frame) shapes any in
       let holds = and_parts (lies_in at.item frame) (within (common s.rect frame.rect) at.item.rect) at.passes_so in
-      let k = place_of Lower pins are_pins at.place at.item at.item_is (pin_lower frame at.item holds.0)
+      let k = place_of Pins pins are_pins at.place at.item at.item_is (pin_pinned frame at.item holds.0)
       (common_shares s.rect frame.rect at.item.rect proper over holds.1) in
       any_at_here (is_at_pin_of s frame) shapes pins k.0 0 k.1.0
       (ap (λ (n : ℕ). passes_in (is_at_pin_of s frame) (slice_get shapes n)) k.1.1

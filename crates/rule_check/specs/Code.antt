@@ -3,7 +3,6 @@ pub mod Seen
 pub mod Close
 pub mod Above
 pub mod Cover
-pub mod Lengths
 pub mod Bands
 pub mod FiledRows
 pub mod Named

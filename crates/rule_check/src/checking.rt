@@ -4,6 +4,7 @@ ghost use Rattle.geom.specs.FlatForm.{flat_count};
 ghost use Rattle.cell_library.specs.Library.{limits_of};
 ghost use Rattle.layout_rules.specs.Rules.{KeepsRules, FirstBroken};
 ghost use Rattle.shape_extract.specs.Extracts.{Extracts};
+ghost use Rattle.shape_extract.specs.Filed.{IsFiled};
 ghost use Rattle.rule_check.specs.Checks.{FindsGeometry, IfBroken};
 ghost use Rattle.layout_rules.specs.Nets.{AreNets};
 ghost use Rattle.rule_check.specs.Code.Seen.{limits_seen};
@@ -14,14 +15,13 @@ use crate::enclosure::find_bare;
 use crate::frames::find_colliding;
 use crate::lengths::find_long;
 use crate::limits::{Limits, read_limits};
-use crate::sheet::{Sheet, sheet_of};
 use crate::sizes::find_small;
 use crate::spacing::find_close;
 use aq_base::Memory;
 use cell_library::Library;
 use geom::Flat;
 use layout_rules::Rule;
-use shape_extract::{Extracted, Report};
+use shape_extract::{Extracted, FiledShapes, Report, file_kinds};
 use std::alloc::Global;
 
 /// Why a layout doesn't pass.
@@ -63,11 +63,11 @@ fn broken(rule: Rule, report: Report) -> Option<BrokenRule>
     })
 }
 
-/// The first rule of geometry that is broken, from the sheet of the shapes.
-fn first_on(
+/// The first rule of geometry that is broken, with the numbers that it reports.
+fn first_broken(
     alloc: Global,
     flat: &Flat,
-    sheet: &Sheet,
+    sheet: &FiledShapes,
     nets: &[u32],
     limits: &Limits,
 ) -> Result<Option<BrokenRule>, Memory>
@@ -101,22 +101,29 @@ fn first_on(
     Ok(None)
 }
 
-/// The first rule of geometry that is broken, with the numbers that it reports.
-pub fn first_broken(
+/// The same as `check`, of a layout whose shapes are filed.
+pub fn check_filed(
     alloc: Global,
     flat: &Flat,
-    nets: &[u32],
-    limits: &Limits,
-) -> Result<Option<BrokenRule>, Memory>
+    filed: &FiledShapes,
+    circuit: &Extracted,
+    library: &Library,
+) -> Result<(), CheckRefusal>
     requires few { flat_count flat.now < 2 ^ 32 }
-    requires nets { AreNets flat.now.shapes nets.now }
-    requires space_some { 1 ≤ limits.now.space }
-    requires space_most { limits.now.space ≤ 1000000 }
-    requires limit { limits.now.limit < 2 ^ 64 - 1 }
-    ensures { IfOk result (FindsGeometry flat.now (limits_seen limits.now)) }
+    requires filed { IsFiled flat.now.shapes filed.now }
+    requires circuit { Extracts flat.now circuit.now }
+    ensures kept { OnOk result (KeepsRules flat.now (limits_of library.now)) }
+    ensures broken { IfErr result (λ refusal. IfBroken refusal (FirstBroken flat.now (limits_of library.now))) }
 {
-    let sheet = sheet_of(alloc, flat.shapes.as_slice())?;
-    first_on(alloc, flat, &sheet, nets, limits)
+    let limits = read_limits(library);
+    match first_broken(alloc, flat, filed, circuit.nets.as_slice(), &limits)? {
+        Some(found) => Err(CheckRefusal::Broken {
+            rule: found.rule,
+            first: found.first,
+            second: found.second,
+        }),
+        None => Ok(()),
+    }
 }
 
 /// Answers where the layout, whose circuit this is, keeps all rules with the numbers of the library. It is refused with
@@ -133,13 +140,6 @@ pub fn check(
     ensures kept { OnOk result (KeepsRules flat.now (limits_of library.now)) }
     ensures broken { IfErr result (λ refusal. IfBroken refusal (FirstBroken flat.now (limits_of library.now))) }
 {
-    let limits = read_limits(library);
-    match first_broken(alloc, flat, circuit.nets.as_slice(), &limits)? {
-        Some(found) => Err(CheckRefusal::Broken {
-            rule: found.rule,
-            first: found.first,
-            second: found.second,
-        }),
-        None => Ok(()),
-    }
+    let filed = file_kinds(alloc, flat.shapes.as_slice())?;
+    check_filed(alloc, flat, &filed, circuit, library)
 }

@@ -11,11 +11,13 @@ ghost use Rattle.rule_check.specs.Code.Cover.{FindsTrespass};
 ghost use Rattle.rule_check.specs.Code.Close.{within_x, within_y};
 ghost use Rattle.rule_check.specs.Code.Sheets.{IsSheet};
 
-use crate::sheet::{Sheet, named};
+use crate::sheet::named;
 use aq_base::Memory;
 use geom::{Rect, Shape, is_within, overlaps};
 use layout_rules::layers::M1;
-use shape_extract::{Part, Plane, Planes, Report, first_of, is_frame, is_pin, is_upper, is_via};
+use shape_extract::{
+    FiledShapes, Part, Plane, Planes, Report, first_of, is_frame, is_pin, is_upper, is_via,
+};
 use std::alloc::Global;
 
 /// Whether the first number is at most the greater of the others.
@@ -128,7 +130,7 @@ fn find_trespass(
         return Ok(None);
     }
     let mut pins = Vec::new(alloc);
-    planes.list_near(Plane::Lower, &s.rect, 0, &mut pins)?;
+    planes.list_near(Plane::Pins, &s.rect, 0, &mut pins)?;
     let frame = first_trespass(shapes, frames, pins.as_slice(), s);
     Ok(frame)
 }
@@ -158,7 +160,11 @@ impl<'a> Part for Cover<'a> {
 }
 
 /// The first metal or via over a cell.
-pub fn find_cover(alloc: Global, shapes: &[Shape], sheet: &Sheet) -> Result<Option<Report>, Memory>
+pub fn find_cover(
+    alloc: Global,
+    shapes: &[Shape],
+    sheet: &FiledShapes,
+) -> Result<Option<Report>, Memory>
     requires { IsSheet shapes.now sheet.now }
     ensures { IfOk result (Finds (CoverBroken shapes.now)) }
 {
@@ -166,9 +172,9 @@ pub fn find_cover(alloc: Global, shapes: &[Shape], sheet: &Sheet) -> Result<Opti
         alloc,
         &Cover {
             alloc,
-            shapes: sheet.shapes.as_slice(),
+            shapes: sheet.kinds.shapes.as_slice(),
             planes: &sheet.planes,
         },
     )?;
-    Ok(named(sheet.numbers.as_slice(), found))
+    Ok(named(sheet.kinds.numbers.as_slice(), found))
 }

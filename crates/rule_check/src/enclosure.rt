@@ -11,11 +11,13 @@ ghost use Rattle.rule_check.specs.Code.Close.{encloses, is_bare_by, within_x, wi
 ghost use Rattle.rule_check.specs.Code.Sheets.{IsSheet};
 
 use crate::limits::Limits;
-use crate::sheet::{Sheet, named};
+use crate::sheet::named;
 use aq_base::Memory;
 use geom::{Rect, Shape};
 use layout_rules::layers::{M1, M2};
-use shape_extract::{PairTest, Part, Plane, Planes, Report, first_of, is_via, list_passing};
+use shape_extract::{
+    FiledShapes, PairTest, Part, Plane, Planes, Report, first_of, is_via, list_passing,
+};
 use std::alloc::Global;
 
 /// Whether the first is below the second by the margin at least.
@@ -144,7 +146,7 @@ impl<'a> Part for Enclosure<'a> {
 pub fn find_bare(
     alloc: Global,
     shapes: &[Shape],
-    sheet: &Sheet,
+    sheet: &FiledShapes,
     limits: &Limits,
 ) -> Result<Option<Report>, Memory>
     requires { IsSheet shapes.now sheet.now }
@@ -153,10 +155,10 @@ pub fn find_bare(
     let found = first_of(
         alloc,
         &Enclosure {
-            shapes: sheet.shapes.as_slice(),
+            shapes: sheet.kinds.shapes.as_slice(),
             planes: &sheet.planes,
             limits,
         },
     )?;
-    Ok(named(sheet.numbers.as_slice(), found))
+    Ok(named(sheet.kinds.numbers.as_slice(), found))
 }

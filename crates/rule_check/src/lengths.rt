@@ -1,38 +1,16 @@
 // Design rule check (DRC), the rule of lengths: the metal of a net is short enough.
-ghost use Rattle.std.specs.Prelude.{◌≡◌, ℕ, ◌-◌, ◌<◌, ◌^◌, length, slice_index, IfOk};
-ghost use Rattle.layout_rules.specs.LengthRule.{longer_side, LengthsBroken};
+ghost use Rattle.std.specs.Prelude.{◌≡◌, ◌-◌, ◌<◌, ◌^◌, length, IfOk};
+ghost use Rattle.layout_rules.specs.LengthRule.{LengthsBroken};
 ghost use Rattle.layout_rules.specs.Nets.{AreNets};
 ghost use Rattle.shape_extract.specs.Searches.{Finds};
+ghost use Rattle.shape_extract.specs.Lengths.{AreLengths};
 ghost use Rattle.rule_check.specs.Code.Seen.{limits_seen};
-ghost use Rattle.rule_check.specs.Code.Lengths.{AreLengths};
 
 use crate::limits::Limits;
-use crate::sizes::is_metal;
 use aq_base::Memory;
-use geom::{Rect, Shape, height, width};
-use shape_extract::Report;
+use geom::Shape;
+use shape_extract::{Report, is_metal, net_lengths};
 use std::alloc::Global;
-
-fn longer_side(rect: &Rect) -> u64
-    ensures { result ≡ longer_side rect.now }
-{
-    width(rect).max(height(rect))
-}
-
-/// Adds the longer side of each metal shape to the length of its net. All lengths are 0 before.
-fn add_lengths(shapes: &[Shape], nets: &[u32], lengths: &mut [u64])
-    requires long { length nets.now ≡ length shapes.now }
-    requires nets { (i : ℕ) → i < length nets.now → slice_index nets.now i < length lengths.old }
-    requires none { (i : ℕ) → slice_index lengths.old i ≡ 0 }
-    ensures { AreLengths shapes.now nets.now lengths.new }
-{
-    for (n, shape) in shapes.iter().enumerate() {
-        if is_metal(shape) {
-            let net = nets[n] as usize;
-            lengths[net] = lengths[net].saturating_add(longer_side(&shape.rect));
-        }
-    }
-}
 
 /// The first metal shape of a net that is too long, by the lengths of the nets.
 fn first_long(shapes: &[Shape], nets: &[u32], lengths: &[u64], limits: &Limits) -> Option<Report>
@@ -67,8 +45,7 @@ pub fn find_long(
     requires limit { limits.now.limit < 2 ^ 64 - 1 }
     ensures { IfOk result (Finds (LengthsBroken (limits_seen limits.now) shapes.now)) }
 {
-    let mut lengths = vec![in alloc; 0; shapes.len()]?;
-    add_lengths(shapes, nets, &mut lengths);
-    let found = first_long(shapes, nets, &lengths, limits);
+    let lengths = net_lengths(alloc, shapes, nets)?;
+    let found = first_long(shapes, nets, lengths.as_slice(), limits);
     Ok(found)
 }

@@ -11,4 +11,4 @@ mod sheet;
 mod sizes;
 mod spacing;
 
-pub use checking::{CheckRefusal, check};
+pub use checking::{CheckRefusal, check, check_filed};

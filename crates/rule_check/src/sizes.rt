@@ -1,23 +1,14 @@
 // Design rule check (DRC), the rule of sizes: metal, vias and pins are large enough.
 ghost use Rattle.std.specs.Prelude.{◌≡◌, ◌<◌, ◌^◌, length, IfOk};
 ghost use Rattle.layout_rules.specs.GeometryRules.{is_below, is_too_small, SizesBroken};
-ghost use Rattle.layout_rules.specs.Layers.{is_metal};
 ghost use Rattle.shape_extract.specs.Searches.{Finds};
 ghost use Rattle.rule_check.specs.Code.Seen.{limits_seen};
 
 use crate::limits::Limits;
 use aq_base::Memory;
 use geom::{Rect, Shape, height, width};
-use layout_rules::layers::{M1, M2};
-use shape_extract::{Part, Report, first_of, is_pin, is_via};
+use shape_extract::{Part, Report, first_of, is_metal, is_pin, is_via};
 use std::alloc::Global;
-
-/// Whether the shape is metal.
-pub fn is_metal(s: &Shape) -> bool
-    ensures { result ≡ is_metal s.now }
-{
-    s.layer == M1 || s.layer == M2
-}
 
 fn is_below(least_width: u64, least_height: u64, rect: &Rect) -> bool
     ensures { result ≡ is_below least_width least_height rect.now }

@@ -10,11 +10,12 @@ ghost use Rattle.rule_check.specs.Code.Close.{is_of_a_group, IsFiledWith};
 ghost use Rattle.rule_check.specs.Code.Sheets.{IsSheet};
 
 use crate::limits::Limits;
-use crate::sheet::{Sheet, known, named};
+use crate::sheet::{known, named};
 use aq_base::Memory;
 use geom::{Shape, gap_x, gap_y, touches};
 use shape_extract::{
-    PairTest, Part, Plane, Planes, Report, first_of, is_lower, is_upper, is_via, list_passing,
+    FiledShapes, PairTest, Part, Plane, Planes, Report, first_of, is_lower, is_upper, is_via,
+    list_passing,
 };
 use std::alloc::Global;
 
@@ -116,7 +117,7 @@ impl<'a> Part for Spacing<'a> {
 pub fn find_close(
     alloc: Global,
     shapes: &[Shape],
-    sheet: &Sheet,
+    sheet: &FiledShapes,
     limits: &Limits,
 ) -> Result<Option<Report>, Memory>
     requires sheet { IsSheet shapes.now sheet.now }
@@ -124,7 +125,7 @@ pub fn find_close(
     requires space_most { limits.now.space ≤ 1000000 }
     ensures { IfOk result (Finds (SpacingBroken (limits_seen limits.now) shapes.now)) }
 {
-    let filed = sheet.shapes.as_slice();
+    let filed = sheet.kinds.shapes.as_slice();
     known(filed);
     let found = first_of(
         alloc,
@@ -134,5 +135,5 @@ pub fn find_close(
             limits,
         },
     )?;
-    Ok(named(sheet.numbers.as_slice(), found))
+    Ok(named(sheet.kinds.numbers.as_slice(), found))
 }

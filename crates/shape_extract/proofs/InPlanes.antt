@@ -1,8 +1,7 @@
 -- A query of a plane: what it finds, and that shapes that pass a test of that plane are among them.
-use Rattle.std.proofs.Common.{◌≡◌, ℕ, zero, suc, ◌+◌, ◌<◌, ◌≤◌, ◌⊎◌, ◌&&◌, ◌||◌, Bool, true, false, List, [], ◌∷◌, ◌++◌, length, Some, refl, sym, ap, subst, ◌∙◌, arith, inl, inr}
+use Rattle.std.proofs.Common.{◌≡◌, ℕ, zero, suc, ◌+◌, ◌<◌, ◌≤◌, ◌⊎◌, ◌&&◌, ◌||◌, Bool, true, false, List, [], ◌++◌, length, Some, refl, sym, ap, subst, ◌∙◌, arith, inl, inr}
 use Rattle.std.specs.Prelude.{◌-◌, ◌==◌, slice_get, slice_index, slice_set, All, Contains}
 use Rattle.std.specs.List.{filter}
-use Rattle.std.specs.List.Sorted.{IsStrictlyIncreasing}
 use Rattle.std.proofs.Math.ListN.{get_or-append, length-append, length-set}
 use Rattle.std.proofs.lemmas.Bool.{cases_eq, cases_lt, and_from, and_parts, eqb-true}
 use Rattle.std.proofs.lemmas.Grind.{get_or_default_zero}
@@ -13,14 +12,14 @@ use Rattle.geom.specs.Near.{rects_of, IsClose, IsNear, AreNear}
 use Rattle.geom.specs.declared.shapes.Shape.{Shape}
 use Rattle.geom.specs.Rectangle.{holds_point, overlap, share_point, within}
 use Rattle.geom.specs.declared.shapes.Label.{Label}
-use Rattle.layout_rules.specs.declared.layers.TheConstants.{M1, EVEN_LINE, ODD_LINE, INPUT_PIN, OUTPUT_PIN, LABELS}
+use Rattle.layout_rules.specs.declared.layers.TheConstants.{EVEN_LINE, ODD_LINE, INPUT_PIN, OUTPUT_PIN, LABELS}
 use Rattle.layout_rules.specs.ExcitationLines.{meet}
 use Rattle.layout_rules.specs.Labels.{letter_i, marked_layer, marks}
 use Rattle.layout_rules.specs.Layers.{is_frame, is_line, is_lower, is_pin, is_upper, is_via}
 use Rattle.layout_rules.specs.Pins.{lies_in}
 use Rattle.layout_rules.specs.Touch.{conducts, touch, Touching}
 use Rattle.shape_extract.specs.declared.planes.Plane.{Plane}
-use Rattle.shape_extract.specs.declared.planes.Plane.TheVariants.{Lower, Vias, Upper, Frames, Lines}
+use Rattle.shape_extract.specs.declared.planes.Plane.TheVariants.{Lower, Vias, Upper, Frames, Lines, Pins}
 use Rattle.shape_extract.specs.Code.Cells.{holds_pin}
 use Rattle.shape_extract.specs.Code.Lines.{lies_over}
 use Rattle.shape_extract.proofs.Sharing.{sharing_close}
@@ -177,14 +176,10 @@ or_cases : (a b : Bool) → (a || b) ≡ true → (a ≡ true) ⊎ (b ≡ true)
 or_cases true b h = inl refl
 or_cases false b h = inr h
 
-or_second : (a b : Bool) → b ≡ true → (a || b) ≡ true
-or_second true b h = refl
-or_second false b h = h
-
-pub pin_lower : (frame pin : Shape) → holds_pin frame pin ≡ true → in_plane Lower pin ≡ true
-pin_lower frame pin h =
+pub pin_pinned : (frame pin : Shape) → holds_pin frame pin ≡ true → in_plane Pins pin ≡ true
+pin_pinned frame pin h =
     let p = and_parts (is_pin pin && is_frame frame) (within pin.rect frame.rect) h in
-    or_second (pin.layer == M1) (is_pin pin) (and_parts (is_pin pin) (is_frame frame) p.0).0
+    (and_parts (is_pin pin) (is_frame frame) p.0).0
 
 pub frame_framed : (pin frame : Shape) → lies_in pin frame ≡ true → in_plane Frames frame ≡ true
 frame_framed pin frame h =
@@ -203,28 +198,28 @@ met_line a b h =
     let q = and_parts (is_line a) (a.layer == b.layer) p.0 in
     line_of a.layer b.layer (eqb-true a.layer b.layer q.1) q.0
 
-input_lower : (layer : ℕ) → layer ≡ INPUT_PIN → (layer == M1 || (layer == INPUT_PIN || layer == OUTPUT_PIN)) ≡ true
-input_lower layer e = rw e refl
+input_pinned : (layer : ℕ) → layer ≡ INPUT_PIN → (layer == INPUT_PIN || layer == OUTPUT_PIN) ≡ true
+input_pinned layer e = rw e refl
 
-output_lower : (layer : ℕ) → layer ≡ OUTPUT_PIN → (layer == M1 || (layer == INPUT_PIN || layer == OUTPUT_PIN)) ≡ true
-output_lower layer e = rw e refl
+output_pinned : (layer : ℕ) → layer ≡ OUTPUT_PIN → (layer == INPUT_PIN || layer == OUTPUT_PIN) ≡ true
+output_pinned layer e = rw e refl
 
-pub marked_lower : (label : Label) (pin : Shape) → marks label pin ≡ true → in_plane Lower pin ≡ true
-marked_lower label pin h =
+pub marked_pinned : (label : Label) (pin : Shape) → marks label pin ≡ true → in_plane Pins pin ≡ true
+marked_pinned label pin h =
     let p = and_parts (label.layer == LABELS && pin.layer == marked_layer label) (holds_point pin.rect label.x label.y) h in
     let q = and_parts (label.layer == LABELS) (pin.layer == marked_layer label) p.0 in
     by_letter (slice_index label.text 0 == letter_i) refl (eqb-true pin.layer (marked_layer label) q.1)
   where
     by_letter : (b : Bool) → (slice_index label.text 0 == letter_i) ≡ b → pin.layer ≡ marked_layer label
-        → in_plane Lower pin ≡ true
-    by_letter true is e = input_lower pin.layer (rw is at e)
-    by_letter false is e = output_lower pin.layer (rw is at e)
+        → in_plane Pins pin ≡ true
+    by_letter true is e = input_pinned pin.layer (rw is at e)
+    by_letter false is e = output_pinned pin.layer (rw is at e)
 
 pub marked_in_plane : (shapes : List Shape) (label : Label) (here : Rectangle) (near found : List ℕ)
-    → holds_point here label.x label.y ≡ true → AreNearIn Lower shapes here 0 near
+    → holds_point here label.x label.y ≡ true → AreNearIn Pins shapes here 0 near
     → found ≡ filter (passes_at (marks label) shapes) near → AreThose (PassesIn (marks label) shapes) found
 marked_in_plane shapes label here near found at are filtered =
-    passing_in_plane (marks label) Lower shapes here 0 near found (marked_lower label)
+    passing_in_plane (marks label) Pins shapes here 0 near found (marked_pinned label)
     (λ s proper h. sharing_close here s.rect (holding_share here s.rect label.x label.y at
     (and_parts (label.layer == LABELS && s.layer == marked_layer label) (holds_point s.rect label.x label.y) h).1))
     are filtered

@@ -21,7 +21,8 @@ mod Passing
 mod PortPins
 mod LabelNumbers
 mod LabelParts
-mod RowEdges
+pub mod RowEdges
+mod NetLengths
 mod NetWalk
 mod KindNets
 mod FiveRules

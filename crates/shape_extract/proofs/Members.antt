@@ -13,9 +13,10 @@ use Rattle.geom.specs.declared.shapes.Shape.{Shape}
 use Rattle.layout_rules.specs.Reports.{PassTogether}
 use Rattle.shape_extract.specs.Searches.{AreThose}
 use Rattle.shape_extract.specs.Distinct.{AreAt, StandsFor, ArePlaces}
-use Rattle.shape_extract.specs.Code.NetChains.{IsNextFrom}
+use Rattle.shape_extract.specs.Chains.{IsNextFrom}
 use Rattle.shape_extract.specs.Passing.{PassesIn}
-use Rattle.shape_extract.specs.Code.Filed.{AreFirsts, IsOfKinds, IsFromOn, AddsRest, ListsMembers}
+use Rattle.shape_extract.specs.Filed.{AreFirsts}
+use Rattle.shape_extract.specs.Code.Filed.{IsOfKinds, IsFromOn, AddsRest, ListsMembers}
 
 -- ---- numbers of kinds
 

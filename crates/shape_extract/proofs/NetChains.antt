@@ -10,7 +10,7 @@ use Rattle.layout_rules.specs.Nets.{AreNets}
 use Rattle.layout_rules.proofs.NetLaws.{Joined-within, one_number}
 use Rattle.shape_extract.specs.Searches.{AreThose}
 use Rattle.shape_extract.specs.Code.NetPins.{IsPinIn}
-use Rattle.shape_extract.specs.Code.NetChains.{IsNextFrom, AreChains}
+use Rattle.shape_extract.specs.Chains.{IsNextFrom, AreChains}
 use Rattle.shape_extract.proofs.Searching.{AreThoseBelow, those_more, those_same, those_all}
 use Rattle.shape_extract.proofs.NetPins.{pin_in_yes, pin_in_net, pin_in_layer}
 

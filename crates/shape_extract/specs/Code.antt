@@ -1,6 +1,5 @@
 -- Words of private contracts and of loops. Shapes that touch, and nets:
 pub mod Walk
-pub mod NetChains
 pub mod NetPins
 -- pins, rows and labels in tables:
 pub mod FramesOfPins
@@ -24,6 +23,6 @@ pub mod PinNames
 pub mod Tables
 pub mod OutputPins
 pub mod Parts
--- equal shapes, and shapes by planes:
+-- equal shapes, and shapes by kinds:
 pub mod DistinctShapes
 pub mod Filed

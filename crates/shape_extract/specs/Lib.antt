@@ -5,4 +5,7 @@ pub mod Searches
 pub mod Passing
 pub mod Distinct
 pub mod Planes
+pub mod Chains
+pub mod Filed
+pub mod Lengths
 pub mod Code

@@ -4,9 +4,9 @@ use Rattle.std.specs.List.Sorted.{IsStrictlyIncreasing}
 use Rattle.geom.specs.Rectangle.{Rectangle, IsProper}
 use Rattle.geom.specs.Near.{rects_of, IsClose}
 use Rattle.geom.specs.declared.shapes.Shape.{Shape}
-use Rattle.layout_rules.specs.Layers.{is_frame, is_line, is_lower, is_upper, is_via}
+use Rattle.layout_rules.specs.Layers.{is_frame, is_line, is_lower, is_pin, is_upper, is_via}
 use Rattle.shape_extract.specs.declared.planes.Plane.{Plane}
-use Rattle.shape_extract.specs.declared.planes.Plane.TheVariants.{Lower, Vias, Upper, Frames, Lines}
+use Rattle.shape_extract.specs.declared.planes.Plane.TheVariants.{Lower, Vias, Upper, Frames, Lines, Pins}
 use Rattle.shape_extract.specs.declared.planes.FiledPlane.{FiledPlane}
 use Rattle.shape_extract.specs.declared.planes.Planes.{Planes}
 use Rattle.shape_extract.specs.Searches.{AreThose}
@@ -20,6 +20,7 @@ in_plane Vias s = is_via s
 in_plane Upper s = is_upper s
 in_plane Frames s = is_frame s
 in_plane Lines s = is_line s
+in_plane Pins s = is_pin s
 
 -- the numbers are those of the shapes in the plane, and the index is over their rectangles
 pub record IsPlane (plane : Plane) (shapes : List Shape) (filed : FiledPlane) : Type 0 where
@@ -35,6 +36,7 @@ pub record ArePlanes (shapes : List Shape) (planes : Planes) : Type 0 where
   pub upper : IsPlane Upper shapes planes.upper
   pub frames : IsPlane Frames shapes planes.frames
   pub lines : IsPlane Lines shapes planes.lines
+  pub pins : IsPlane Pins shapes planes.pins
 
 -- in the stead of each of these that is a place there is the number at it
 pub record AreNamed (numbers places named : List ℕ) : Type 0 where

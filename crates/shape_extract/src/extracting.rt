@@ -10,7 +10,7 @@ ghost use Rattle.layout_rules.specs.Rows.{AreRows};
 ghost use Rattle.shape_extract.specs.Code.Marking.{AreMarks};
 ghost use Rattle.shape_extract.specs.Code.FramesOfPins.{ArePinFrames};
 ghost use Rattle.shape_extract.specs.Code.RowFaults.{ArePinRows};
-ghost use Rattle.shape_extract.specs.Code.Filed.{IsFiled};
+ghost use Rattle.shape_extract.specs.Filed.{IsFiled};
 
 use crate::circuits::assembly::circuit_of;
 use crate::connectivity::net_walk::nets_by;
@@ -97,8 +97,8 @@ fn extract_cells(
     )
 }
 
-/// The circuit or the first broken rule of a layout whose shapes are filed.
-fn extract_filed(
+/// The same as `extract`, of a layout whose shapes are filed.
+pub fn extract_filed(
     alloc: Global,
     flat: &Flat,
     filed: &FiledShapes,

@@ -2,8 +2,9 @@
 ghost use Rattle.std.specs.Prelude.{◌≡◌, ℕ, ◌^◌, ◌<◌, ◌↔◌, Contains, IfOk, length, slice_index};
 ghost use Rattle.std.specs.List.Sorted.{IsStrictlyIncreasing};
 ghost use Rattle.shape_extract.specs.Searches.{AreThose};
-ghost use Rattle.shape_extract.specs.Code.NetChains.{AreChains};
-ghost use Rattle.shape_extract.specs.Code.Filed.{AreFirsts, IsOfKinds, AddsRest, ListsMembers, IsFiled};
+ghost use Rattle.shape_extract.specs.Chains.{AreChains};
+ghost use Rattle.shape_extract.specs.Filed.{AreFirsts, IsFiled};
+ghost use Rattle.shape_extract.specs.Code.Filed.{IsOfKinds, AddsRest, ListsMembers};
 
 use crate::connectivity::net_chains::chains;
 use crate::distinct_shapes::{Distinct, distinct_of};

@@ -1,6 +1,6 @@
 // What shapes are by their layers.
 ghost use Rattle.std.specs.Prelude.{◌≡◌};
-ghost use Rattle.layout_rules.specs.Layers.{is_frame, is_line, is_lower, is_pin, is_upper, is_via};
+ghost use Rattle.layout_rules.specs.Layers.{is_frame, is_line, is_lower, is_metal, is_pin, is_upper, is_via};
 
 use geom::Shape;
 use layout_rules::layers::{EVEN_LINE, FRAME, INPUT_PIN, M1, M2, ODD_LINE, OUTPUT_PIN, VIA};
@@ -45,4 +45,11 @@ pub fn is_line(s: &Shape) -> bool
     ensures { result ≡ is_line s.now }
 {
     s.layer == EVEN_LINE || s.layer == ODD_LINE
+}
+
+/// Whether the shape is metal.
+pub fn is_metal(s: &Shape) -> bool
+    ensures { result ≡ is_metal s.now }
+{
+    s.layer == M1 || s.layer == M2
 }

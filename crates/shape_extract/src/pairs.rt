@@ -6,7 +6,7 @@ ghost use Rattle.geom.specs.Near.{rects_of, IsClose};
 ghost use Rattle.geom.specs.declared.shapes.Shape.{Shape};
 ghost use Rattle.layout_rules.specs.Reports.{PassTogether};
 ghost use Rattle.shape_extract.specs.Searches.{AreThose, passes_with};
-ghost use Rattle.shape_extract.specs.Code.Filed.{IsFiled};
+ghost use Rattle.shape_extract.specs.Filed.{IsFiled};
 ghost use Rattle.shape_extract.specs.Passing.{PassesIn};
 ghost use Rattle.shape_extract.specs.Planes.{in_plane, ArePlanes};
 

@@ -6,12 +6,12 @@ ghost use Rattle.shape_extract.specs.Passing.{PassesIn};
 ghost use Rattle.shape_extract.specs.Planes.{in_plane, IsPlane, ArePlanes, AreNamed, AreNearIn};
 
 use crate::distinct_shapes::shapes_at;
-use crate::layers::{is_frame, is_line, is_lower, is_upper, is_via};
+use crate::layers::{is_frame, is_line, is_lower, is_pin, is_upper, is_via};
 use aq_base::{List, Memory};
 use geom::{Buckets, Rect, Shape, file_shapes};
 use std::alloc::Global;
 
-/// A group of layers. A shape lies in one plane at most.
+/// A group of layers. A pin lies in two planes, and any other shape in one at most.
 #[derive(Clone, Copy, PartialEq, Eq)]
 pub enum Plane {
     /// The lower metal and the pins.
@@ -24,6 +24,8 @@ pub enum Plane {
     Frames,
     /// The parts of excitation lines.
     Lines,
+    /// The pins alone, so that a question for them meets no metal.
+    Pins,
 }
 
 impl Plane {
@@ -37,6 +39,7 @@ impl Plane {
             Plane::Upper => is_upper(s),
             Plane::Frames => is_frame(s),
             Plane::Lines => is_line(s),
+            Plane::Pins => is_pin(s),
         }
     }
 }
@@ -56,6 +59,7 @@ pub struct Planes {
     pub upper: FiledPlane,
     pub frames: FiledPlane,
     pub lines: FiledPlane,
+    pub pins: FiledPlane,
 }
 
 /// The numbers of the shapes in the plane.
@@ -93,6 +97,7 @@ pub fn file_planes(alloc: Global, shapes: &[Shape]) -> Result<Planes, Memory>
         upper: file_plane(alloc, shapes, Plane::Upper)?,
         frames: file_plane(alloc, shapes, Plane::Frames)?,
         lines: file_plane(alloc, shapes, Plane::Lines)?,
+        pins: file_plane(alloc, shapes, Plane::Pins)?,
     })
 }
 
@@ -134,6 +139,7 @@ impl Planes {
             Plane::Upper => &self.upper,
             Plane::Frames => &self.frames,
             Plane::Lines => &self.lines,
+            Plane::Pins => &self.pins,
         }
     }
 

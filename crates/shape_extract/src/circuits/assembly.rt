@@ -9,7 +9,7 @@ ghost use Rattle.shape_extract.specs.Code.Marking.{AreMarks};
 ghost use Rattle.shape_extract.specs.Extracts.{KeepsFive};
 ghost use Rattle.shape_extract.specs.Code.Parts.{AreParts};
 ghost use Rattle.shape_extract.specs.Code.RowFaults.{ArePinRows};
-ghost use Rattle.shape_extract.specs.Code.Filed.{IsFiled};
+ghost use Rattle.shape_extract.specs.Filed.{IsFiled};
 
 use crate::circuits::cell_feeds::Tables;
 use crate::circuits::cell_list::cells_of;

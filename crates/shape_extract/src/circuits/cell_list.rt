@@ -7,7 +7,7 @@ ghost use Rattle.layout_rules.specs.Reports.{Passes};
 ghost use Rattle.layout_rules.specs.Layers.{is_frame};
 ghost use Rattle.shape_extract.specs.Extraction.{IsCellFrom};
 ghost use Rattle.shape_extract.specs.Code.Tables.{AreReady, AreKnownPins, IsFrameOf};
-ghost use Rattle.shape_extract.specs.Code.Filed.{IsFiled};
+ghost use Rattle.shape_extract.specs.Filed.{IsFiled};
 
 use crate::circuits::cell_feeds::{Tables, feed_at};
 use crate::pairs::list_filed_partners;
@@ -62,7 +62,7 @@ fn cell_of(
     let shapes = tables.flat.shapes.as_slice();
     let kind = kind_of(tables, f);
     let row = row_of(tables, edges, f);
-    list_filed_partners(&HoldsPin, Plane::Lower, shapes, tables.filed, f, pins)?;
+    list_filed_partners(&HoldsPin, Plane::Pins, shapes, tables.filed, f, pins)?;
     let feed0 = feed_at(tables, pins.as_slice(), kind, f, 0);
     let feed1 = feed_at(tables, pins.as_slice(), kind, f, 1);
     let feed2 = feed_at(tables, pins.as_slice(), kind, f, 2);

@@ -3,7 +3,7 @@ ghost use Rattle.std.specs.Prelude.{◌≡◌, ◌^◌, ◌<◌, ℕ, IfOk, leng
 ghost use Rattle.layout_rules.specs.Nets.{AreNets};
 ghost use Rattle.shape_extract.specs.Searches.{AreThose};
 ghost use Rattle.shape_extract.specs.Code.NetPins.{IsPinIn};
-ghost use Rattle.shape_extract.specs.Code.NetChains.{AreChains};
+ghost use Rattle.shape_extract.specs.Chains.{AreChains};
 
 use aq_base::Memory;
 use geom::Shape;

@@ -17,7 +17,7 @@ ghost use Rattle.shape_extract.specs.Code.Walk.{
   net_at,
 };
 ghost use Rattle.shape_extract.specs.Distinct.{ArePlaces, IsDistinct};
-ghost use Rattle.shape_extract.specs.Code.Filed.{IsFiled};
+ghost use Rattle.shape_extract.specs.Filed.{IsFiled};
 ghost use Rattle.shape_extract.specs.Planes.{ArePlanes};
 
 use crate::connectivity::neighbours::list_touching;

@@ -3,7 +3,7 @@ ghost use Rattle.std.specs.Prelude.{◌≡◌, ◌&&◌, ◌==◌, ◌^◌, ◌<
 ghost use Rattle.std.specs.List.{filter};
 ghost use Rattle.layout_rules.specs.ExcitationLines.{meet, Contact, IsPart};
 ghost use Rattle.shape_extract.specs.Searches.{SaysWhether, AreThose};
-ghost use Rattle.shape_extract.specs.Code.Filed.{IsFiled};
+ghost use Rattle.shape_extract.specs.Filed.{IsFiled};
 
 use crate::filed_shapes::FiledShapes;
 use crate::layers::is_line;

@@ -14,7 +14,7 @@ ghost use Rattle.layout_rules.specs.ExcitationRule.{AreLaidOut};
 ghost use Rattle.layout_rules.specs.Code.ChainRule.{IsChainUncrossed};
 ghost use Rattle.shape_extract.specs.Searches.{SaysWhether, Finds, AreThose};
 ghost use Rattle.shape_extract.specs.Code.Lines.{AreWalked, GoesOnWrongly};
-ghost use Rattle.shape_extract.specs.Code.Filed.{IsFiled};
+ghost use Rattle.shape_extract.specs.Filed.{IsFiled};
 
 use crate::filed_shapes::FiledShapes;
 use crate::lines::contacts::{is_part, list_contacts};

@@ -4,7 +4,7 @@ ghost use Rattle.layout_rules.specs.Reports.{Alone, Afterwards};
 ghost use Rattle.layout_rules.specs.ExcitationRule.{IsCutOff, IsNotCrossed, IsUnexcited, ExcitationBroken, AreLaidOut};
 ghost use Rattle.shape_extract.specs.Searches.{Finds};
 ghost use Rattle.shape_extract.specs.Code.Lines.{ExcitesFrames};
-ghost use Rattle.shape_extract.specs.Code.Filed.{IsFiled};
+ghost use Rattle.shape_extract.specs.Filed.{IsFiled};
 
 use crate::filed_shapes::FiledShapes;
 use crate::lines::crossed_bars::find_uncrossed;

@@ -10,7 +10,7 @@ ghost use Rattle.layout_rules.specs.Code.ChainRule.{IsChainExcited, IsChainUnexc
 ghost use Rattle.shape_extract.specs.Searches.{SaysWhether, Finds};
 ghost use Rattle.shape_extract.specs.Code.Edges.{IsAmong};
 ghost use Rattle.shape_extract.specs.Code.Lines.{AreWalked, lies_over, Excites, Judges, ChainsExciteFrames};
-ghost use Rattle.shape_extract.specs.Code.Filed.{IsFiled};
+ghost use Rattle.shape_extract.specs.Filed.{IsFiled};
 
 use crate::filed_shapes::FiledShapes;
 use crate::layers::{is_frame, is_line};

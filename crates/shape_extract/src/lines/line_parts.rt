@@ -6,7 +6,7 @@ ghost use Rattle.layout_rules.specs.ExcitationLines.{Contact};
 ghost use Rattle.layout_rules.specs.ExcitationRule.{HasItsContacts, IsMisjoined};
 ghost use Rattle.shape_extract.specs.Searches.{SaysWhether, Finds, AreThose};
 ghost use Rattle.shape_extract.specs.Code.LineParts.{AreBars, AreNoBars, IsOneBar, AreTwoBars, AreBarEnds};
-ghost use Rattle.shape_extract.specs.Code.Filed.{IsFiled};
+ghost use Rattle.shape_extract.specs.Filed.{IsFiled};
 
 use crate::filed_shapes::FiledShapes;
 use crate::layers::is_line;

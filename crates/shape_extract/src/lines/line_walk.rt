@@ -4,7 +4,7 @@ ghost use Rattle.layout_rules.specs.ExcitationLines.{Contact};
 ghost use Rattle.shape_extract.specs.Searches.{AreThose};
 ghost use Rattle.shape_extract.specs.Code.Lines.{AreWalked};
 ghost use Rattle.shape_extract.specs.Code.LineWalk.{IsLineWalk, IsSpreadAlong, IsBegun};
-ghost use Rattle.shape_extract.specs.Code.Filed.{IsFiled};
+ghost use Rattle.shape_extract.specs.Filed.{IsFiled};
 
 use crate::filed_shapes::FiledShapes;
 use crate::lines::contacts::{is_part, list_contacts};

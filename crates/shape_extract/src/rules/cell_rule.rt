@@ -5,7 +5,7 @@ ghost use Rattle.layout_rules.specs.Layers.{is_frame};
 ghost use Rattle.layout_rules.specs.Reports.{Alone, Passes};
 ghost use Rattle.layout_rules.specs.CircuitRules.{IsCell, LiesInOneFrame, IsNoCell, IsStrayPin, CellsBroken};
 ghost use Rattle.shape_extract.specs.Searches.{SaysWhether, Finds};
-ghost use Rattle.shape_extract.specs.Code.Filed.{IsFiled};
+ghost use Rattle.shape_extract.specs.Filed.{IsFiled};
 
 use crate::filed_shapes::FiledShapes;
 use crate::layers::{is_frame, is_pin};
@@ -35,7 +35,7 @@ fn is_cell(
     let Some(kind) = kind_numbered(shapes[f as usize].datatype) else {
         return Ok(false);
     };
-    list_filed_partners(&HoldsPin, Plane::Lower, shapes, filed, f, found)?;
+    list_filed_partners(&HoldsPin, Plane::Pins, shapes, filed, f, found)?;
     let pins = found.as_slice();
     Ok(
         are_numbered(shapes, pins, INPUT_PIN, kind.inputs())

@@ -8,7 +8,7 @@ ghost use Rattle.layout_rules.specs.Rows.{AreRows};
 ghost use Rattle.shape_extract.specs.Code.Marking.{AreMarks};
 ghost use Rattle.shape_extract.specs.Code.FirstRule.{FindsRule};
 ghost use Rattle.shape_extract.specs.Code.RowFaults.{ArePinRows};
-ghost use Rattle.shape_extract.specs.Code.Filed.{IsFiled};
+ghost use Rattle.shape_extract.specs.Filed.{IsFiled};
 
 use crate::filed_shapes::FiledShapes;
 use crate::lines::excitation_rule::find_excitation;

@@ -15,7 +15,7 @@ ghost use Rattle.shape_extract.specs.Searches.{SaysWhether, Finds};
 ghost use Rattle.shape_extract.specs.Code.Marking.{AreMarks};
 ghost use Rattle.shape_extract.specs.Code.RowFaults.{ArePinRows};
 ghost use Rattle.shape_extract.specs.Code.Ports.{ports_of};
-ghost use Rattle.shape_extract.specs.Code.Filed.{IsFiled};
+ghost use Rattle.shape_extract.specs.Filed.{IsFiled};
 
 use crate::filed_shapes::FiledShapes;
 use crate::rules::label_numbers::find_misnumbered;

@@ -4,7 +4,7 @@ ghost use Rattle.layout_rules.specs.Nets.{AreNets};
 ghost use Rattle.layout_rules.specs.Reports.{Alone, Otherwise};
 ghost use Rattle.layout_rules.specs.CircuitRules.{HasRival, IsUndriven, IsDriven, NetsBroken};
 ghost use Rattle.shape_extract.specs.Searches.{Finds, FindsAt};
-ghost use Rattle.shape_extract.specs.Code.NetChains.{AreChains};
+ghost use Rattle.shape_extract.specs.Chains.{AreChains};
 ghost use Rattle.shape_extract.specs.Code.Marking.{AreMarks};
 ghost use Rattle.shape_extract.specs.Code.NetPins.{FindsOther, FindsFirst, lone_number};
 

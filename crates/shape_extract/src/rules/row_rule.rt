@@ -5,7 +5,7 @@ ghost use Rattle.layout_rules.specs.Reports.{ReportsNone};
 ghost use Rattle.layout_rules.specs.CircuitRules.{CellsBroken, RowsBroken};
 ghost use Rattle.shape_extract.specs.Searches.{SaysWhether, Finds};
 ghost use Rattle.shape_extract.specs.Code.Marking.{AreMarks};
-ghost use Rattle.shape_extract.specs.Code.NetChains.{AreChains};
+ghost use Rattle.shape_extract.specs.Chains.{AreChains};
 ghost use Rattle.shape_extract.specs.Code.RowFaults.{ArePinRows, AreRowed, FindsAstray};
 
 use crate::connectivity::net_chains::{chains, list_in_net};

@@ -36,10 +36,16 @@ fn tail(label: &Label) -> &[u8]
     if text.is_empty() { text } else { &text[1..] }
 }
 
+/// Whether all bytes are digits. It looks at each, which compilers make many bytes a step: many labels may show one
+/// long text.
 fn are_digits(text: &[u8]) -> bool
     ensures { result ≡ list_all is_ascii_digit text.now }
 {
-    text.iter().all(|byte| byte.is_ascii_digit())
+    let mut all = true;
+    for byte in text {
+        all &= byte.is_ascii_digit();
+    }
+    all
 }
 
 /// Whether the text is one byte, or longer and doesn't begin with a zero.

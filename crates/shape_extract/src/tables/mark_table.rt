@@ -2,7 +2,7 @@
 ghost use Rattle.std.specs.Prelude.{◌≡◌, ℕ, ◌^◌, ◌<◌, length, slice_index, IfOk};
 ghost use Rattle.geom.specs.FlatForm.{flat_count};
 ghost use Rattle.shape_extract.specs.Code.Marking.{with_label, has_label, has_one, label_in, AreMarks, IsNoted};
-ghost use Rattle.shape_extract.specs.Code.Filed.{IsFiled};
+ghost use Rattle.shape_extract.specs.Filed.{IsFiled};
 
 use crate::filed_shapes::FiledShapes;
 use crate::tables::marking::list_marked;

@@ -5,7 +5,7 @@ ghost use Rattle.geom.specs.Rectangle.{holds_point};
 ghost use Rattle.layout_rules.specs.Labels.{marks};
 ghost use Rattle.shape_extract.specs.Searches.{AreThose, passes_at};
 ghost use Rattle.shape_extract.specs.Passing.{PassesIn};
-ghost use Rattle.shape_extract.specs.Code.Filed.{IsFiled};
+ghost use Rattle.shape_extract.specs.Filed.{IsFiled};
 
 use crate::filed_shapes::{FiledShapes, list_of_kinds};
 use crate::planes::Plane;
@@ -55,7 +55,7 @@ fn keep_marked(label: &Label, shapes: &[Shape], numbers: &mut Vec<u32>)
     numbers.truncate(kept);
 }
 
-/// Lists the numbers of the pins that the label marks, by a query of the index for the kinds of shapes that hold its
+/// Lists the numbers of the pins that the label marks, by a query of the index for the kinds of pins that hold its
 /// point.
 pub fn list_marked(
     shapes: &[Shape],
@@ -68,7 +68,7 @@ pub fn list_marked(
     ensures { IfOk result (λ _. AreThose (PassesIn (marks label.now) shapes.now) found.new.items) }
 {
     let here = rect_at(label.x, label.y);
-    filed.planes.list_near(Plane::Lower, &here, 0, found)?;
+    filed.planes.list_near(Plane::Pins, &here, 0, found)?;
     keep_marked(label, filed.kinds.shapes.as_slice(), found);
     list_of_kinds(filed, found)?;
     Ok(())

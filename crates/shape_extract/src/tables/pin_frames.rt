@@ -6,7 +6,7 @@ ghost use Rattle.layout_rules.specs.Pins.{LiesIn};
 ghost use Rattle.layout_rules.specs.Reports.{ReportsNone, Passes};
 ghost use Rattle.layout_rules.specs.CircuitRules.{CellsBroken};
 ghost use Rattle.shape_extract.specs.Code.FramesOfPins.{ArePinFrames};
-ghost use Rattle.shape_extract.specs.Code.Filed.{IsFiled};
+ghost use Rattle.shape_extract.specs.Filed.{IsFiled};
 
 use crate::filed_shapes::FiledShapes;
 use crate::layers::is_pin;

@@ -1,7 +1,7 @@
 use Rattle.std.proofs.Common.{◌≡◌, ◌∙◌, ◌-◌, sym, ap, subst, rules, arith, Some, ℤ, w64, to_z, of_z}
 use Rattle.std.proofs.lemmas.Int.{to_z-of_z}
 use Rattle.layout_report.specs.Code.Heights.{BelongsTo}
-use Rattle.layout_report.proofs.RowEdges.{row_found}
+use Rattle.shape_extract.proofs.RowEdges.{row_found}
 use Rattle.layout_report.proofs.Heights.{row_found_at, row_missed_at}
 use Rattle.layout_report.proofs.edges.row_at.Goals as goal
 

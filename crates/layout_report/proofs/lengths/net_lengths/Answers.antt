@@ -1,10 +1,6 @@
-use Rattle.std.proofs.Common.{◌≤◌, arith}
-use Rattle.std.specs.Prelude.{slice_index}
-use Rattle.layout_rules.proofs.NetLaws.{Joined-self}
+use Rattle.layout_report.proofs.NetSums.{lengths_whole}
 use Rattle.layout_report.proofs.lengths.net_lengths.Goals as goal
 
-pub add_lengths-requires-clause-nets : goal.add_lengths-requires-clause-nets
-add_lengths-requires-clause-nets c i lt =
-    let le : slice_index c.args.nets.now i ≤ i = c.requires.nets.least i i (omega (arith, c.requires.nets.long))
-    (Joined-self c.args.shapes.now i) in
-    omega (arith, c.requires.nets.long, c.deref_mut.ensures.len, c.in_ok-lengths.ensures.len)
+pub returns : goal.returns
+returns c = lengths_whole c.args.shapes.now c.args.nets.now c.in_ok-lengths.lengths.items c.in_ok-lengths.ensures.long
+    c.in_ok-lengths.ensures.lengths c.requires.kept

@@ -6,20 +6,20 @@ use Rattle.rule_check.proofs.spacing.find_close.Goals as goal
 pub named-requires : goal.named-requires
 named-requires c =
     rw c.as_slice.ensures.value
-    (places_of c.args.sheet.now.numbers.items (SpacingBroken (limits_seen c.args.limits.now) c.args.shapes.now)
-    (SpacingBroken (limits_seen c.args.limits.now) c.args.sheet.now.shapes) c.in_ok-found.found
-    (spacing_represents c.args.shapes.now c.args.sheet.now.numbers.items c.args.sheet.now.shapes
+    (places_of c.args.sheet.now.kinds.numbers.items (SpacingBroken (limits_seen c.args.limits.now) c.args.shapes.now)
+    (SpacingBroken (limits_seen c.args.limits.now) c.args.sheet.now.kinds.shapes) c.in_ok-found.found
+    (spacing_represents c.args.shapes.now c.args.sheet.now.kinds.numbers.items c.args.sheet.now.kinds.shapes
     c.requires.sheet.distinct (limits_seen c.args.limits.now)
-    (proper_own c.args.sheet.now.shapes (rw c.as_slice-filed.ensures at c.known.ensures)))
+    (proper_own c.args.sheet.now.kinds.shapes (rw c.as_slice-filed.ensures at c.known.ensures)))
     (rw c.as_slice-filed.ensures at c.in_ok-found.ensures))
 
 pub returns : goal.returns
 returns c =
     rw (c.named.ensures, c.as_slice.ensures.value)
-    (finds_named c.args.sheet.now.numbers.items (SpacingBroken (limits_seen c.args.limits.now) c.args.shapes.now)
-    (SpacingBroken (limits_seen c.args.limits.now) c.args.sheet.now.shapes) c.in_ok-found.found
+    (finds_named c.args.sheet.now.kinds.numbers.items (SpacingBroken (limits_seen c.args.limits.now) c.args.shapes.now)
+    (SpacingBroken (limits_seen c.args.limits.now) c.args.sheet.now.kinds.shapes) c.in_ok-found.found
     c.requires.sheet.distinct.rising
-    (spacing_represents c.args.shapes.now c.args.sheet.now.numbers.items c.args.sheet.now.shapes
+    (spacing_represents c.args.shapes.now c.args.sheet.now.kinds.numbers.items c.args.sheet.now.kinds.shapes
     c.requires.sheet.distinct (limits_seen c.args.limits.now)
-    (proper_own c.args.sheet.now.shapes (rw c.as_slice-filed.ensures at c.known.ensures)))
+    (proper_own c.args.sheet.now.kinds.shapes (rw c.as_slice-filed.ensures at c.known.ensures)))
     (rw c.as_slice-filed.ensures at c.in_ok-found.ensures))

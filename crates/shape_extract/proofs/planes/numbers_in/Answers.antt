@@ -1,5 +1,4 @@
-use Rattle.std.proofs.Common.{◌≡◌, ◌∙◌, sym, [], ◌∷◌, ◌++◌, Some, arith}
-use Rattle.std.specs.Prelude.{slice_get}
+use Rattle.std.proofs.Common.{◌≡◌, ◌∙◌, sym, [], ◌∷◌, ◌++◌, arith}
 use Rattle.std.proofs.lemmas.Option.{slice_get_within}
 use Rattle.shape_extract.specs.Passing.{PassesIn}
 use Rattle.shape_extract.specs.Planes.{in_plane}

@@ -1,4 +1,4 @@
-use Rattle.shape_extract.proofs.InPlanes.{pin_lower}
+use Rattle.shape_extract.proofs.InPlanes.{pin_pinned}
 use Rattle.std.proofs.Common.{refl}
 use Rattle.layout_rules.specs.Reports.{PassTogether}
 use Rattle.shape_extract.specs.Code.Cells.{holds_pin}
@@ -27,4 +27,4 @@ returns c =
     c.feed_at-feed0.ensures c.feed_at-feed1.ensures c.feed_at-feed2.ensures
 
 pub list_filed_partners-requires-clause-planar : goal.list_filed_partners-requires-clause-planar
-list_filed_partners-requires-clause-planar c = λ s t h. pin_lower s t h
+list_filed_partners-requires-clause-planar c = λ s t h. pin_pinned s t h

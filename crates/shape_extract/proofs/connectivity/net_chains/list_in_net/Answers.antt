@@ -1,6 +1,6 @@
 use Rattle.std.proofs.Common.{◌≡◌, ◌+◌, ◌<◌, [], ◌∷◌, ◌++◌, Some, length, arith}
 use Rattle.std.specs.Prelude.{slice_get, slice_index}
-use Rattle.shape_extract.specs.Code.NetChains.{IsNextFrom}
+use Rattle.shape_extract.specs.Chains.{IsNextFrom}
 use Rattle.shape_extract.proofs.Marked.{got_at}
 use Rattle.shape_extract.proofs.NetChains.{walk_begun, walked_more, walked_past, walked_all}
 use Rattle.shape_extract.proofs.connectivity.net_chains.list_in_net.Goals as goal

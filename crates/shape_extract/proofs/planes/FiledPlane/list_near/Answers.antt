@@ -1,6 +1,6 @@
 use Rattle.std.proofs.Common.{List, subst}
 use Rattle.geom.specs.Rectangle.{Rectangle, AreProper}
-use Rattle.geom.specs.Near.{rects_of, AreNear}
+use Rattle.geom.specs.Near.{AreNear}
 use Rattle.shape_extract.proofs.InPlanes.{near_in_plane}
 use Rattle.shape_extract.proofs.planes.FiledPlane.list_near.Goals as goal
 

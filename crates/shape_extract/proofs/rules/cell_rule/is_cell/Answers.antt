@@ -1,4 +1,4 @@
-use Rattle.shape_extract.proofs.InPlanes.{pin_lower}
+use Rattle.shape_extract.proofs.InPlanes.{pin_pinned}
 use Rattle.std.proofs.lemmas.Option.{slice_get-get_or}
 use Rattle.circuit.specs.CellKinds.{inputs_of}
 use Rattle.layout_rules.specs.declared.layers.TheConstants.{INPUT_PIN}
@@ -23,4 +23,4 @@ returns-else-are_numbered c =
     rw c.if-are_numbered.false (no_cell _ _ _ (slice_get-get_or c.args.shapes.now c.args.f c.index-shapes-f.result c.requires.within) c.in-Some.kind c.in-Some.ensures _ are (rw c.inputs.ensures at c.if-are_numbered.ensures))
 
 pub list_filed_partners-requires-clause-planar : goal.list_filed_partners-requires-clause-planar
-list_filed_partners-requires-clause-planar c = λ s t h. pin_lower s t h
+list_filed_partners-requires-clause-planar c = λ s t h. pin_pinned s t h

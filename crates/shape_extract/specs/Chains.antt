@@ -1,4 +1,4 @@
--- Chains of the shapes of each net: for each shape the next one of its net, as a list in a table.
+-- Chains of numbers that belong together, as shapes of one net or of one kind: for each the next one, in a table.
 use Rattle.std.specs.Prelude.{◌≡◌, ◌≢◌, ℕ, ◌+◌, ◌<◌, ◌≤◌, List, length, slice_index}
 
 -- y is the least number from n on whose net is r, or the length where there is none

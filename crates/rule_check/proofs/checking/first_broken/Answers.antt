@@ -2,7 +2,7 @@ use Rattle.std.proofs.Common.{arith}
 use Rattle.layout_rules.specs.declared.rule.Rule.TheVariants.{G1, G2, G3, G4, G5, E5}
 use Rattle.rule_check.specs.Code.Seen.{limits_seen}
 use Rattle.rule_check.proofs.InOrder.{to_first, to_next, first_at, to_all}
-use Rattle.rule_check.proofs.checking.first_on.Goals as goal
+use Rattle.rule_check.proofs.checking.first_broken.Goals as goal
 
 pub returns-in-Some-2 : goal.returns-in-Some-2
 returns-in-Some-2 c = first_at c.args.flat.now (limits_seen c.args.limits.now) G2 _ c.in-Some-2.report

@@ -1,5 +1,0 @@
-use Rattle.layout_report.proofs.NetSums.{LengthsOf}
-use Rattle.layout_report.proofs.lengths.add_lengths.Given as goal
-
-abbrev pub invariant-loop-n : goal.invariant-loop-n
-invariant-loop-n l = LengthsOf l.n l.shapes l.nets l.lengths
