@@ -6,6 +6,7 @@ mod Heights
 mod PinRows
 mod SourceRows
 mod Wired
+mod AddedWires
 mod Outlines
 mod Sided
 mod ShapeTexts

@@ -46,8 +46,7 @@ no_such_row q e = absurd cc
 some_no_row : (q : ℕ) → ◌≡◌ {A = Option (Option ℕ)} (Some None) (Some (Some q)) → ⊥
 some_no_row q e = absurd cc
 
-module _ (flat : Flat) (circuit : CircuitView) (order : AreInOrder flat circuit.nets) (rows : List (Option ℕ))
-    (sources : AreSourceRows flat.shapes circuit.nets rows) (n : ℕ) (wire : Shape × ℕ)
+module _ (flat : Flat) (circuit : CircuitView) (order : AreInOrder flat circuit.nets) (n : ℕ) (wire : Shape × ℕ)
     (is : slice_get (shapes_in_nets flat circuit) n ≡ Some wire) where
   pin_is : slice_get flat.shapes n ≡ Some wire.0
   pin_is = (zip_at flat.shapes circuit.nets n wire is).0
@@ -60,28 +59,6 @@ module _ (flat : Flat) (circuit : CircuitView) (order : AreInOrder flat circuit.
 
   input : (labelled : Bool) → wire.0.layer ≡ INPUT_PIN → is_labelled flat wire.0 ≡ labelled → IsInput flat labelled n
   input labelled on e = record { pin = wire.0; pin_is = pin_is; of_layer = on; labelled_so = e }
-
-  -- a source in the net has a row in the table
-  no_source : ((q : ℕ) → slice_get rows wire.1 ≡ Some (Some q) → ⊥) → (b : ℕ) → IsSource flat.shapes n b → ⊥
-  no_source none b source =
-      let pin : Passes is_pin flat.shapes b =
-      record { shape = source.pin; shape_is = source.pin_is; passes_so = pin_so source.pin source.of_layer } in
-      let lies : (f : ℕ) × LiesIn flat.shapes b f = frame_of flat.shapes order.cells b pin in
-      let row : ℕ = row_of flat.shapes lies.1.frame.rect.y0 in
-      let stands : IsRowOf flat.shapes b row = record { frame = lies.0; lies = lies.1; row_is = refl } in
-      let same : slice_index circuit.nets n ≡ slice_index circuit.nets b =
-      one_number flat.shapes circuit.nets order.are_nets n b within source.joined in
-      none row (subst (λ (net : ℕ). slice_get rows net ≡ Some (Some row)) (sym same ∙ net_is)
-      (sources.each b source.pin row source.pin_is source.of_layer stands))
-
-  -- so without one the pin is labelled
-  labelled_alone : wire.0.layer ≡ INPUT_PIN → ((q : ℕ) → slice_get rows wire.1 ≡ Some (Some q) → ⊥)
-      → (b : Bool) → is_labelled flat wire.0 ≡ b → b ≡ true
-  labelled_alone on none true e = refl
-  labelled_alone on none false e = absurd (order.driven n n (inr (
-    λ b rival. order.driven n b (inl rival),
-    inl (record { input = input false on e; none = no_source none }, refl),
-  )))
 
   module _ (q : ℕ) (source : HasSource flat.shapes circuit.nets wire.1 q) where
     source_within : source.number < length flat.shapes
@@ -116,7 +93,7 @@ module _ (flat : Flat) (circuit : CircuitView) (order : AreInOrder flat circuit.
         (subst (λ (s : Shape). lies_in s lies.frame ≡ true) same lies.lies_so)
         (eq-eqb (row_of flat.shapes lies.frame.rect.y0) q source.stands.row_is))
 
-    leaves_q : leaves flat circuit q wire ≡ true
+    pub leaves_q : leaves flat circuit q wire ≡ true
     leaves_q =
         list_any-at (feeds flat q wire.1) (shapes_in_nets flat circuit) source.number
         (source.pin, slice_index circuit.nets source.number)
@@ -129,7 +106,7 @@ module _ (flat : Flat) (circuit : CircuitView) (order : AreInOrder flat circuit.
         stands_q)
 
     -- and it leaves no other row
-    leaves_one : (row : ℕ) → leaves flat circuit row wire ≡ true → row ≡ q
+    pub leaves_one : (row : ℕ) → leaves flat circuit row wire ≡ true → row ≡ q
     leaves_one row e =
         let at : PassesAt (feeds flat row wire.1) (shapes_in_nets flat circuit) =
         list_any-place (feeds flat row wire.1) (shapes_in_nets flat circuit) e in
@@ -172,6 +149,31 @@ module _ (flat : Flat) (circuit : CircuitView) (order : AreInOrder flat circuit.
         false_from_ne_true (leaves flat circuit row wire)
         (λ h. both_ways (q == row) e (eq-eqb q row (sym (leaves_one row h))))
 
+module _ (flat : Flat) (circuit : CircuitView) (order : AreInOrder flat circuit.nets) (rows : List (Option ℕ))
+    (sources : AreSourceRows flat.shapes circuit.nets rows) (n : ℕ) (wire : Shape × ℕ)
+    (is : slice_get (shapes_in_nets flat circuit) n ≡ Some wire) where
+  -- a source in the net has a row in the table
+  no_source : ((q : ℕ) → slice_get rows wire.1 ≡ Some (Some q) → ⊥) → (b : ℕ) → IsSource flat.shapes n b → ⊥
+  no_source none b source =
+      let pin : Passes is_pin flat.shapes b =
+      record { shape = source.pin; shape_is = source.pin_is; passes_so = pin_so source.pin source.of_layer } in
+      let lies : (f : ℕ) × LiesIn flat.shapes b f = frame_of flat.shapes order.cells b pin in
+      let row : ℕ = row_of flat.shapes lies.1.frame.rect.y0 in
+      let stands : IsRowOf flat.shapes b row = record { frame = lies.0; lies = lies.1; row_is = refl } in
+      let same : slice_index circuit.nets n ≡ slice_index circuit.nets b =
+      one_number flat.shapes circuit.nets order.are_nets n b (within flat circuit order n wire is) source.joined in
+      none row (subst (λ (net : ℕ). slice_get rows net ≡ Some (Some row)) (sym same ∙ net_is flat circuit order n wire is)
+      (sources.each b source.pin row source.pin_is source.of_layer stands))
+
+  -- so without one the pin is labelled
+  labelled_alone : wire.0.layer ≡ INPUT_PIN → ((q : ℕ) → slice_get rows wire.1 ≡ Some (Some q) → ⊥)
+      → (b : Bool) → is_labelled flat wire.0 ≡ b → b ≡ true
+  labelled_alone on none true e = refl
+  labelled_alone on none false e = absurd (order.driven n n (inr (
+    λ b rival. order.driven n b (inl rival),
+    inl (record { input = input flat circuit order n wire is false on e; none = no_source none }, refl),
+  )))
+
   -- whether the shape is the input pin of a wire, and of one that leaves the row, as the table says it
   wired_as : (b : Bool) → (wire.0.layer == INPUT_PIN) ≡ b → (o : Option (Option ℕ)) → slice_get rows wire.1 ≡ o
       → is_wired flat wire.0 ≡ is_some_row (if b then flat_row o else None)
@@ -186,7 +188,7 @@ module _ (flat : Flat) (circuit : CircuitView) (order : AreInOrder flat circuit.
       (is_labelled flat wire.0) refl)
   wired_as true e (Some (Some q)) at =
       ap (λ (v : Bool). v && not (is_labelled flat wire.0)) e
-      ∙ ap not (unlabelled q (sources.only wire.1 q at) (eqb-true wire.0.layer INPUT_PIN e) (is_labelled flat
+      ∙ ap not (unlabelled flat circuit order n wire is q (sources.only wire.1 q at) (eqb-true wire.0.layer INPUT_PIN e) (is_labelled flat
       wire.0) refl)
 
   leaves_as : (row : ℕ) (b : Bool) → (wire.0.layer == INPUT_PIN) ≡ b → (o : Option (Option ℕ))
@@ -199,7 +201,7 @@ module _ (flat : Flat) (circuit : CircuitView) (order : AreInOrder flat circuit.
       ap (λ (v : Bool). v && leaves flat circuit row wire) (wired_as true e (Some None) at)
   leaves_as row true e (Some (Some q)) at =
       ap (λ (v : Bool). v && leaves flat circuit row wire) (wired_as true e (Some (Some q)) at)
-      ∙ leaves_is q (sources.only wire.1 q at) row (q == row) refl
+      ∙ leaves_is flat circuit order n wire is q (sources.only wire.1 q at) row (q == row) refl
 
   pub wired_is : is_wired flat wire.0 ≡ is_some_row (row_left rows wire)
   wired_is = wired_as (wire.0.layer == INPUT_PIN) refl (slice_get rows wire.1) refl

@@ -1,5 +1,5 @@
 -- The wires of a chip: input pins that other cells feed, the rows that they leave, and their lengths.
-use Rattle.std.specs.Prelude.{ℕ, ◌==◌, ◌&&◌, Bool, List, map, filter, fold, max, zip}
+use Rattle.std.specs.Prelude.{ℕ, zero, suc, ◌+◌, ◌==◌, ◌&&◌, Bool, List, length, map, filter, fold, max, zip}
 use Rattle.std.specs.List.{list_any}
 use Rattle.geom.specs.declared.shapes.Shape.{Shape}
 use Rattle.geom.specs.declared.shapes.Flat.{Flat}
@@ -28,6 +28,11 @@ leaves flat circuit row wire = list_any (feeds flat row wire.1) (shapes_in_nets 
 -- the wires that leave the row
 abbrev pub wires_from : Flat → CircuitView → ℕ → List (Shape × ℕ)
 wires_from flat circuit row = filter (leaves flat circuit row) (wires flat circuit)
+
+-- how many wires leave the first n rows, counted row by row
+abbrev pub wires_of_rows : Flat → CircuitView → ℕ → ℕ
+wires_of_rows flat circuit zero = 0
+wires_of_rows flat circuit (suc row) = wires_of_rows flat circuit row + length (wires_from flat circuit row)
 
 -- the length of a wire, in nanometres: that of its net's metal, as the rule of lengths has it
 abbrev pub wire_length : Flat → CircuitView → Shape × ℕ → ℕ

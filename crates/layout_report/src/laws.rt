@@ -1,14 +1,20 @@
 // What the definitions come to.
 ghost use Rattle.std.specs.Prelude.{◌≡◌, codes, filter, List, Some};
 ghost use Rattle.geom.specs.declared.shapes.Shape.{Shape};
+ghost use Rattle.geom.specs.declared.shapes.Flat.{Flat};
 ghost use Rattle.geom.specs.Rectangle.{Rectangle};
 ghost use Rattle.layout_rules.specs.Layers.{is_frame};
+ghost use Rattle.layout_rules.specs.Limits.{Limits};
+ghost use Rattle.layout_rules.specs.Rules.{KeepsRules};
 ghost use Rattle.geom.specs.FirstChip.{first_flat};
+ghost use Rattle.chip_circuit.specs.Circuits.{CircuitView};
 ghost use Rattle.chip_circuit.specs.FirstCircuit.{first_circuit};
+ghost use Rattle.shape_extract.specs.Extraction.{IsCircuitOf};
 ghost use Rattle.layout_report.specs.FirstReport.{first_report};
 ghost use Rattle.layout_report.specs.Outline.{outline, IsLeastHolding};
 ghost use Rattle.layout_report.specs.ReportText.{report_text};
 ghost use Rattle.layout_report.specs.ShapeLines.{shape_line};
+ghost use Rattle.layout_report.specs.Wires.{wires_of_rows};
 
 /// The report of the first chip, and the lines of its first frame, of a start and of its last label. It does nothing.
 pub fn first_chip_report()
@@ -22,4 +28,10 @@ pub fn first_chip_report()
 pub fn outline_is_least()
     ensures { (shapes : List Shape) (r : Rectangle) → outline shapes ≡ Some r
         → IsLeastHolding (filter is_frame shapes) r }
+{}
+
+/// The wires that a report tells row by row add up to those of its counts line. It does nothing.
+pub fn wires_add_up()
+    ensures { (flat : Flat) (circuit : CircuitView) (limits : Limits) → IsCircuitOf flat circuit
+        → KeepsRules flat limits → wires_of_rows flat circuit circuit.rows ≡ circuit.wires }
 {}

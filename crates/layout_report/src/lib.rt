@@ -16,6 +16,6 @@ mod tables;
 mod wire_tables;
 
 pub use kinds::Kinds;
-pub use laws::{first_chip_report, outline_is_least};
+pub use laws::{first_chip_report, outline_is_least, wires_add_up};
 pub use printing::print_report;
 pub use shape_lines::print_shape;
