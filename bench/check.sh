@@ -3,7 +3,9 @@
 #
 # First the chips of adders, with eight words each: shapes are counted by the stored bytes; prints megabytes,
 # milliseconds of the processor, megabytes of memory at most, memory over bytes, and the ratios to the adder of half the
-# bits. Where KLayout is installed, its time for the rules of geometry (share/aqfp.drc) on that chip comes beside it.
+# bits. Where KLayout is installed, its time for the rules of geometry (share/aqfp.drc) on that chip comes beside it. The
+# last of these chips is checked with 64,000 words too: whether the sums are right, what that takes beside eight words,
+# and how many cells are evaluated a second, with the reading and printing of the words in it.
 # Then layouts that are drawn against a check (bench/hostile.py): heaps of equal shapes, in turn with others in the file
 # or not, crowds far away, tracks as wide or as high as the sheet, rows of cells with heaps over them, pins in a
 # touching chain, labels all on one pin, widths over nine orders. For each the first line that is printed and the time
@@ -72,6 +74,25 @@ for bits in ${BITS:-16 32 64}; do
     half_time=$time
     half_bytes=$bytes
 done
+# The last adder again, with words of random numbers, whose sums are compared.
+count=64000
+python3 - "$bits" "$count" "$work" <<'END'
+import random, sys
+bits, count, work = int(sys.argv[1]), int(sys.argv[2]), sys.argv[3]
+def digits(number, places): return format(number, f"0{places}b")[::-1]
+with open(work + "/many.words", "w") as words, open(work + "/sums", "w") as sums:
+    for _ in range(count):
+        a, b = random.getrandbits(bits), random.getrandbits(bits)
+        words.write("".join(x + y for x, y in zip(digits(a, bits), digits(b, bits))) + "\n")
+        sums.write(digits(a + b, bits + 1) + "\n")
+END
+measure "$work/adder.gds" "$work/many.words" >"$work/result"
+read -r time memory line <"$work/result"
+said=$(tail -n +2 "$work/printed" | cmp -s - "$work/sums" && echo right || echo WRONG)
+echo "$line" | awk -v bits="$bits" -v count="$count" -v time="$time" -v few="$half_time" -v said="$said" '{
+    more = time > few ? time - few : 1
+    printf "adder %d with %d words: %s, %d ms more than with eight, %.1f billion cells a second, %.2f times the whole\n",
+        bits, count, said, more, count * $4 / more / 1e6, time / few }'
 # An ordinary chip's shape takes this many nanoseconds.
 each=$(awk -v time="$half_time" 'BEGIN { printf "%.0f", time * 1e6 / 387666 }')
 

@@ -23,7 +23,7 @@ answers_more circuit words k answer shown =
     ∙ (ap (λ a. flat_map word_line (first_answers circuit words k ++ a ∷ [])) shown ∙ ap (λ n. flat_map word_line (first_answers circuit words n)) (sym (add-one k)))))
 
 -- the text of the first answers is the beginning of the text of more of them
-record Begins (front whole : List ℕ) : Type 0 where
+pub record Begins (front whole : List ℕ) : Type 0 where
   pub rest : List ℕ
   pub whole_is : whole ≡ front ++ rest
 

@@ -4,4 +4,6 @@ pub mod Pages
 pub mod Answering
 pub mod Shown
 pub mod Tracing
+mod InBlocks
+mod InLanes
 mod NextWords

@@ -1,2 +1,2 @@
 -- Words of private contracts and of loops.
-pub mod NextWords
+pub mod Lanes

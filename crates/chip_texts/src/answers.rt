@@ -1,29 +1,20 @@
 // The answers of a circuit to words, line by line.
-ghost use Rattle.std.specs.Prelude.{◌≡◌, ◌++◌, ◌<◌, ℕ, List, All, length, drop, IfOk, OnOk, OnErr, IsErrOf};
+ghost use Rattle.std.specs.Prelude.{◌≡◌, ◌++◌, ◌+◌, ◌<◌, ◌≤◌, All, length, IfOk, OnOk, OnErr, IsErrOf};
 ghost use Rattle.aq_base.specs.Causes.{HasCause};
 ghost use Rattle.aq_base.specs.Store.{gained, GainsPrefix};
 ghost use Rattle.chip_texts.specs.Counts.{counts_line};
-ghost use Rattle.std.specs.Str.Lines.{lines};
-ghost use Rattle.chip_texts.specs.Code.NextWords.{IsNextOf};
-ghost use Rattle.chip_texts.specs.WordLines.{digit_of, word_line, answers_to, answers_text};
-ghost use Rattle.chip_texts.specs.Printing.{PrintsLine, RefusesLine};
+ghost use Rattle.chip_texts.specs.WordLines.{word_line, answers_to, answers_text};
 
+use crate::blocks::{digit_of, enter_block, print_block};
 use crate::counts::add_counts;
+use crate::lanes::{LANES, Lanes, empty_lanes};
 use crate::laws::answers_are_shown;
-use crate::lines::first_line;
-use crate::page::{put_full_page, put_page};
-use crate::run::blank_word;
-use crate::words::{GivenWords, copy_word};
+use crate::page::put_page;
+use crate::words::GivenWords;
 use aq_base::{Memory, Sink, StoreRefusal};
-use chip_circuit::{Extracted, one_answer};
-use circuit::{Answers, Word};
+use chip_circuit::Extracted;
+use circuit::Word;
 use std::alloc::Global;
-
-fn digit_of(value: bool) -> u8
-    ensures { result ≡ digit_of value }
-{
-    if value { b'1' } else { b'0' }
-}
 
 /// Adds the line of a word to the page.
 pub fn add_word(word: &Word, page: &mut Vec<u8>) -> Result<(), Memory>
@@ -36,44 +27,31 @@ pub fn add_word(word: &Word, page: &mut Vec<u8>) -> Result<(), Memory>
     Ok(())
 }
 
-/// Prints the line of a word.
-fn print_word<O: Sink>(word: &Word, page: &mut Vec<u8>, out: &mut O) -> Result<(), StoreRefusal>
-    ensures put { OnOk result (PrintsLine (O.written out.old) (O.written out.new) page.old.items page.new.items (word_line word.now)) }
-    ensures refused { OnErr result (RefusesLine (O.written out.old) (O.written out.new) page.old.items (word_line word.now)) }
-    ensures faults { HasCause (O.faults out.old) (O.faults out.new) (IsErrOf result StoreRefusal.Failed) }
-{
-    match add_word(word, page) {
-        Ok(()) => put_full_page(out, page),
-        Err(Memory) => Err(StoreRefusal::Memory),
-    }
-}
-
-/// What printing answers needs: a page that begins with the counts line, and room for a word.
+/// What printing answers needs: a page that begins with the counts line, and room for a block of words.
 #[derive(Drop)]
 struct Answering {
     page: Vec<u8>,
-    word: Word,
+    lanes: Lanes,
 }
 
 fn begin(alloc: Global, circuit: &Extracted) -> Result<Answering, Memory>
     ensures page { IfOk result (λ a. a.page.items ≡ counts_line circuit.now) }
-    ensures word { IfOk result (λ a. length a.word ≡ circuit.now.inputs) }
+    ensures long { IfOk result (λ a. length a.lanes.words.items ≡ circuit.now.inputs) }
 {
     let mut page = Vec::new(alloc);
     add_counts(alloc, circuit, &mut page)?;
-    let word = blank_word(alloc, circuit.inputs)?;
-    Ok(Answering { page, word })
+    let lanes = empty_lanes(alloc, circuit)?;
+    Ok(Answering { page, lanes })
 }
 
-/// Puts the word of the first line into a word of as many values, and answers what follows the line.
-fn next_word<'a>(rest: &'a [u8], word: &mut Word) -> &'a [u8]
-    requires some { 0 < length rest.now }
-    requires wide { All (λ line. length line ≡ length word.old) (lines rest.now) }
-    ensures { (text : List ℕ) (k : ℕ) → lines rest.now ≡ drop k (lines text) → IsNextOf text k result.now word.new }
+/// How many of so many words, of which some are left, make up the next block.
+fn block_of(words: u64, done: u64) -> u32
+    requires { done < words }
+    ensures some { 0 < result }
+    ensures few { result ≤ 128 }
+    ensures there { done + result ≤ words }
 {
-    let (line, after) = first_line(rest);
-    copy_word(line, word);
-    after
+    u64::from(LANES).min(words - done) as u32
 }
 
 /// Prints the counts line of a circuit, and for each word the answer that the circuit's settled run shows: every run shows
@@ -92,18 +70,20 @@ pub fn print_answers<O: Sink>(
 {
     circuit.known();
     answers_are_shown();
-    one_answer();
     let Ok(answering) = begin(alloc, circuit) else {
         return Err(StoreRefusal::Memory);
     };
-    let Answering { mut page, mut word } = answering;
+    let Answering {
+        mut page,
+        mut lanes,
+    } = answering;
     let mut rest = words.text();
-    for k in 0..words.count() {
-        rest = next_word(rest, &mut word);
-        let Ok(answer) = circuit.answer(alloc, &word) else {
-            return Err(StoreRefusal::Memory);
-        };
-        print_word(&answer, &mut page, out)?;
+    let mut done = 0;
+    while done < words.count() {
+        let count = block_of(words.count(), done);
+        rest = enter_block(rest, count, &mut lanes);
+        print_block(circuit, count, &mut lanes, &mut page, out)?;
+        done += u64::from(count);
     }
     put_page(out, &mut page)
 }

@@ -2,8 +2,10 @@
 #![tactic(auto)]
 
 mod answers;
+mod blocks;
 mod counts;
 mod fluxes;
+mod lanes;
 mod laws;
 mod lines;
 mod page;

@@ -1,65 +1,51 @@
-use Rattle.std.proofs.Common.{◌≡◌, ◌<◌, ◌≤◌, ◌+◌, ◌*◌, Bool, List, Some, All, rules, arith, refl, ap, sym, subst, length, slice_get}
+use Rattle.std.proofs.Common.{◌≡◌, ◌≤◌, ◌+◌, ◌*◌, Bool, List, All, rules, arith, refl, ap, sym, subst, ◌∙◌, length}
 use Rattle.std.proofs.lemmas.Result.{err_from_is_err_and}
 use Rattle.aq_base.specs.Store.{GainsPrefix}
 use Rattle.chip_texts.specs.Counts.{delay_of}
 use Rattle.chip_texts.specs.Printing.{IsPrinted}
 use Rattle.chip_texts.specs.WordLines.{values_at}
-use Rattle.chip_texts.specs.WordsText.{words_of}
-use Rattle.chip_texts.proofs.Answering.{begins_with_counts, answers_more, prefix_of_answers, all_answered}
-use Rattle.chip_texts.proofs.NextWords.{next_in, some_left, left_wide, word_wide, answer_shown}
-use Rattle.chip_texts.proofs.Pages.{printed_prefix}
+use Rattle.chip_texts.proofs.Answering.{begins_with_counts, prefix_of_answers, all_answered}
+use Rattle.chip_texts.proofs.InBlocks.{block_text}
+use Rattle.chip_texts.proofs.NextWords.{left_wide, left_after, block_due}
 use Rattle.chip_texts.proofs.answers.print_answers.Goals as goal
 
-pub loop-k-init : goal.loop-k-init
-loop-k-init g c = record {
+pub loop-done-init : goal.loop-done-init
+loop-done-init g c = record {
   printed = begins_with_counts _ _ c.args.circuit.now c.args.words.now c.in-Ok.ensures.page;
   faults = omega arith;
   to_come = refl;
-  long = c.in-Ok.ensures.word;
+  long = c.in-Ok.ensures.long;
+  within = omega arith;
 }
 
-pub next_word-rest-requires-clause-some : goal.next_word-rest-requires-clause-some
-next_word-rest-requires-clause-some g c =
-    some_left c.text-rest.result.now c.loop-k.rest.now c.loop-k.k c.loop-k.invariant.to_come (omega (arith, c.loop-k-test.true, c.count-k-end.ensures.count, ap length c.text-rest.ensures))
+pub enter_block-rest-requires-clause-wide : goal.enter_block-rest-requires-clause-wide
+enter_block-rest-requires-clause-wide g c =
+    left_wide c.text-rest.result.now c.loop-done.rest.now c.loop-done.done c.args.circuit.now.inputs _ c.loop-done.invariant.to_come
+    (subst (λ (ws : List (List Bool)). All (λ w. length w ≡ c.args.circuit.now.inputs) ws) (sym c.text-rest.ensures) c.requires) c.loop-done.invariant.long
 
-pub next_word-rest-requires-clause-wide : goal.next_word-rest-requires-clause-wide
-next_word-rest-requires-clause-wide g c =
-    left_wide c.text-rest.result.now c.loop-k.rest.now c.loop-k.k c.args.circuit.now.inputs _ c.loop-k.invariant.to_come
-    (subst (λ (ws : List (List Bool)). All (λ w. length w ≡ c.args.circuit.now.inputs) ws) (sym c.text-rest.ensures) c.requires) c.loop-k.invariant.long
-
-pub answer-requires : goal.answer-requires
-answer-requires g c =
-    let next = c.next_word-rest.ensures c.text-rest.result.now c.loop-k.k c.loop-k.invariant.to_come in
-    word_wide c.args.words.now c.args.circuit.now.inputs c.loop-k.k c.next_word-rest.new.word c.requires (next_in c.text-rest.result.now c.args.words.now c.loop-k.k _ _ c.text-rest.ensures next)
-
-pub returns-in_default-answer-clause-prefix : goal.returns-in_default-answer-clause-prefix
-returns-in_default-answer-clause-prefix g c =
-    prefix_of_answers c.args.circuit.now c.args.words.now c.loop-k.k (length c.args.words.now) _ _ (omega (arith, c.loop-k-test.true, c.count-k-end.ensures.count)) (printed_prefix _ _ _ _ c.loop-k.invariant.printed)
-
-pub returns-in_err-print_word-clause-prefix : goal.returns-in_err-print_word-clause-prefix
-returns-in_err-print_word-clause-prefix g c =
+pub returns-in_err-print_block-clause-prefix : goal.returns-in_err-print_block-clause-prefix
+returns-in_err-print_block-clause-prefix g c =
     let p = err_from_is_err_and c.from_residual.result c.from_residual.ensures.1 in
-    let next = c.next_word-rest.ensures c.text-rest.result.now c.loop-k.k c.loop-k.invariant.to_come in
-    let answer : c.in-Ok-answer.answer ≡ values_at c.args.circuit.now c.args.words.now (4 * c.loop-k.k + delay_of c.args.circuit.now) = answer_shown c.args.circuit.now c.args.words.now c.loop-k.k c.next_word-rest.new.word c.in-Ok-answer.answer
-    (c.answers_are_shown.ensures.answers c.args.circuit.now c.args.words.now c.known.ensures c.requires)
-    (λ a b. c.one_answer.ensures.only c.args.circuit.now c.next_word-rest.new.word a b c.known.ensures)
-    (next_in c.text-rest.result.now c.args.words.now c.loop-k.k _ _ c.text-rest.ensures next) c.in-Ok-answer.ensures in
-    rw p.1 (prefix_of_answers c.args.circuit.now c.args.words.now (c.loop-k.k + 1) (length c.args.words.now) _ _ (omega (arith, c.loop-k-test.true, c.count-k-end.ensures.count)) (subst (GainsPrefix (g.O.Sink.written c.args.out.now) (g.O.Sink.written c.print_word.new.out)) (answers_more _ _ _ _ answer) (c.in_err-print_word.ensures.refused _ _ c.loop-k.invariant.printed)))
+    let more : c.loop-done.done + c.block_of-count.result ≤ length c.args.words.now = omega (arith, c.block_of-count.ensures.there, c.count-in-loop-done.ensures.count) in
+    let due = block_due c.args.circuit.now c.text-rest.result.now c.loop-done.rest.now c.args.words.now c.enter_block-rest.new.lanes.words.items c.loop-done.done c.block_of-count.result
+    (c.answers_are_shown.ensures.answers c.args.circuit.now c.args.words.now c.known.ensures c.requires) c.loop-done.invariant.to_come c.text-rest.ensures more c.enter_block-rest.ensures.words in
+    rw p.1 (prefix_of_answers c.args.circuit.now c.args.words.now (c.loop-done.done + c.block_of-count.result) (length c.args.words.now) _ _ more
+    (subst (GainsPrefix (g.O.Sink.written c.args.out.now) (g.O.Sink.written c.print_block.new.out)) (block_text c.args.circuit.now c.args.words.now c.loop-done.done c.block_of-count.result)
+    (c.in_err-print_block.ensures.refused (λ l. values_at c.args.circuit.now c.args.words.now (4 * (c.loop-done.done + l) + delay_of c.args.circuit.now)) due _ _ c.loop-done.invariant.printed)))
 
-pub loop-k-preserved : goal.loop-k-preserved
-loop-k-preserved g c =
-    let next = c.next_word-rest.ensures c.text-rest.result.now c.loop-k.k c.loop-k.invariant.to_come in
-    let word : slice_get c.args.words.now c.loop-k.k ≡ Some c.next_word-rest.new.word = next_in c.text-rest.result.now c.args.words.now c.loop-k.k _ _ c.text-rest.ensures next in
-    let answer : c.in-Ok-answer.answer ≡ values_at c.args.circuit.now c.args.words.now (4 * c.loop-k.k + delay_of c.args.circuit.now) = answer_shown c.args.circuit.now c.args.words.now c.loop-k.k c.next_word-rest.new.word c.in-Ok-answer.answer
-    (c.answers_are_shown.ensures.answers c.args.circuit.now c.args.words.now c.known.ensures c.requires)
-    (λ a b. c.one_answer.ensures.only c.args.circuit.now c.next_word-rest.new.word a b c.known.ensures)
-    word c.in-Ok-answer.ensures in
-    record {
-      printed = subst (IsPrinted (g.O.Sink.written c.args.out.now) (g.O.Sink.written c.print_word.new.out) c.print_word.new.page.items) (answers_more _ _ _ _ answer) (c.in_ok-print_word.ensures.put _ _ c.loop-k.invariant.printed);
+pub loop-done-preserved : goal.loop-done-preserved
+loop-done-preserved g c =
+    let more : c.loop-done.done + c.block_of-count.result ≤ length c.args.words.now = omega (arith, c.block_of-count.ensures.there, c.count-in-loop-done.ensures.count) in
+    let due = block_due c.args.circuit.now c.text-rest.result.now c.loop-done.rest.now c.args.words.now c.enter_block-rest.new.lanes.words.items c.loop-done.done c.block_of-count.result
+    (c.answers_are_shown.ensures.answers c.args.circuit.now c.args.words.now c.known.ensures c.requires) c.loop-done.invariant.to_come c.text-rest.ensures more c.enter_block-rest.ensures.words in
+    rw c.from-done.ensures (record {
+      printed = subst (IsPrinted (g.O.Sink.written c.args.out.now) (g.O.Sink.written c.print_block.new.out) c.print_block.new.page.items) (block_text c.args.circuit.now c.args.words.now c.loop-done.done c.block_of-count.result)
+          (c.in_ok-print_block.ensures.put (λ l. values_at c.args.circuit.now c.args.words.now (4 * (c.loop-done.done + l) + delay_of c.args.circuit.now)) due _ _ c.loop-done.invariant.printed);
       faults = search (rules, arith);
-      to_come = next.to_come;
-      long = word_wide c.args.words.now c.args.circuit.now.inputs c.loop-k.k c.next_word-rest.new.word c.requires word;
-    }
+      to_come = left_after c.text-rest.result.now c.loop-done.rest.now c.enter_block-rest.result.now c.loop-done.done c.block_of-count.result c.loop-done.invariant.to_come c.enter_block-rest.ensures.left;
+      long = ap length c.print_block.ensures.words ∙ (c.enter_block-rest.ensures.long ∙ c.loop-done.invariant.long);
+      within = more;
+    })
 
 pub returns-clause-added : goal.returns-clause-added
-returns-clause-added g c = all_answered _ _ _ _ _ _ _ c.loop-k.k c.put_page.result (search (rules, arith)) c.loop-k.invariant.printed c.put_page.ensures.put c.put_page.ensures.empty
+returns-clause-added g c = all_answered _ _ _ _ _ _ _ c.loop-done.done c.put_page.result (search (rules, arith)) c.loop-done.invariant.printed c.put_page.ensures.put c.put_page.ensures.empty

@@ -1,13 +1,17 @@
-use Rattle.std.proofs.Common.{◌≡◌, ◌≤◌, length, drop}
+use Rattle.std.proofs.Common.{◌≡◌, ◌≤◌, ◌-◌, length, drop}
 use Rattle.std.specs.Str.Lines.{lines}
 use Rattle.chip_texts.specs.WordLines.{answers_text, first_answers}
 use Rattle.chip_texts.specs.Printing.{IsPrinted}
 use Rattle.chip_texts.proofs.answers.print_answers.Given as goal
 
-abbrev pub invariant-loop-k : goal.invariant-loop-k
-invariant-loop-k g l = record {
-  printed : IsPrinted (g.O.Sink.written l.initial.out) (g.O.Sink.written l.out) l.page.items (answers_text l.circuit (first_answers l.circuit l.words l.k));
+abbrev pub invariant-loop-done : goal.invariant-loop-done
+invariant-loop-done g l = record {
+  printed : IsPrinted (g.O.Sink.written l.initial.out) (g.O.Sink.written l.out) l.page.items (answers_text l.circuit (first_answers l.circuit l.words l.done));
   faults : g.O.Sink.faults l.initial.out ≤ g.O.Sink.faults l.out;
-  to_come : lines l.rest ≡ drop l.k (lines l.initial.rest);
-  long : length l.word ≡ l.circuit.inputs;
+  to_come : lines l.rest ≡ drop l.done (lines l.initial.rest);
+  long : length l.lanes.words.items ≡ l.circuit.inputs;
+  within : l.done ≤ length l.words;
 }
+
+abbrev pub decreases-loop-done : goal.decreases-loop-done
+decreases-loop-done g l = length l.words - l.done
