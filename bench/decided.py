@@ -3,12 +3,12 @@
 
   decided.py PROGRAM LIBRARY FOLDER [--seconds N]
 
-FOLDER has NAME.blif and, where there are some, its forms in tables, NAME_lut4.blif and NAME_lut5.blif, as designs.py
-makes them. Prints a line for each comparison that is not `equal`, that fails, or that takes longer than `verify`
-without words on the same chip, twice what ABC's `cec` takes on the two netlists and 0.1 seconds more; then how many
-there were of each. Times are seconds of processor time, of one run each; what is above is run once more. Chips that are
-refused are left out. The status is 1 where an answer is a difference, or a time is above. Needs berkeley-abc, yosys-abc
-or abc for the times.
+FOLDER has NAME.blif and, where there are some, its forms in tables, NAME_lut4.blif and NAME_lut5.blif, and by ABC,
+NAME_choices.blif and NAME_dc2.blif, as designs.py makes them. Prints a line for each comparison that is not `equal`,
+that fails, or that takes longer than `verify` without words on the same chip, twice what ABC's `cec` takes on the two
+netlists and 0.1 seconds more; then how many there were of each. Times are seconds of processor time, of one run each;
+what is above is run once more. Chips that are refused are left out. The status is 1 where an answer is a difference, or
+a time is above. Needs berkeley-abc, yosys-abc or abc for the times.
 """
 import argparse
 import pathlib
@@ -74,7 +74,7 @@ with tempfile.TemporaryDirectory() as work:
     (work / "none").touch()
     modules = {}
     for net in sorted(folder.glob("*.blif")):
-        modules.setdefault(re.sub(r"_lut\d$", "", net.stem), []).append(net)
+        modules.setdefault(re.sub(r"_(lut\d|choices|dc2)$", "", net.stem), []).append(net)
     for forms in modules.values():
         for net in forms:
             try_netlist(work, net, forms)
