@@ -19,12 +19,12 @@
 # lines of M1, lines of M2 across long vias, and squares around one centre. Libraries of 90,000 keys stand beside those
 # of 45,000, and chosen names beside counted ones (bench/names.sh). Chips are compared with another form of their
 # netlists, beside `verify` of them without words: rows of chosen gates, whose exclusive ors are made in two ways, of
-# which the chip of `compact` is undecided; and outputs that random words all show false, so that each looks like each
+# which the chip of `compact` takes many searches; and outputs that random words all show false, so that each looks like each
 # other.
 #
 # Prints for each the seconds of processor time and the megabytes of memory at most, the same of the ordinary input, the
-# two ratios, and whether they are within three times, five for labels on one pin, 2.5 for twice the keys, ten for an
-# undecided comparison, whose work is bounded by counts. Where the time grows with pairs that touch, or with the places
+# two ratios, and whether they are within three times, five for labels on one pin, 2.5 for twice the keys, ten for the
+# comparison of many searches, whose work is bounded by counts. Where the time grows with pairs that touch, or with the places
 # of a long text, that is said. The status is 1 where one is above, or a comparison is answered otherwise. Needs GNU
 # time, cc and python3; SECONDS_EACH, by default 300, is when a run is cut off.
 set -u
@@ -454,7 +454,7 @@ layers 120 build equal 3
 layers 480 build equal 3
 scarce 100 compact equal 3
 scarce 400 compact equal 3
-layers 200 compact functions 10
+layers 200 compact equal 10
 CASES
 
 # Names.

@@ -9,12 +9,12 @@ use Rattle.std.proofs.lemmas.List.Elements.{All-contains, All-more, All-get_or}
 use Rattle.circuit.specs.Function.{majority}
 use Rattle.maj_graph.specs.declared.node.Node.{Node}
 use Rattle.maj_graph.specs.Graphs.{literal_value, node_value, turned}
-use Rattle.maj_graph.specs.Building.{BuilderView, Splits}
+use Rattle.maj_graph.specs.Building.{BuilderView, Grown, Splits}
 use Rattle.maj_graph.proofs.Folded.{turned_value}
-use Rattle.maj_graph.proofs.Built.{odd_value}
-use Rattle.case_search.specs.declared.ledger.Fact.{Fact}
-use Rattle.case_search.specs.Refuted.{AreImpossible}
-use Rattle.case_search.specs.Code.Following.{Follows, IsTold, HasBoth, AreContrary, AreFacts}
+use Rattle.maj_graph.proofs.Built.{odd_value, fits_before}
+use Rattle.case_search.specs.declared.found.Fact.{Fact}
+use Rattle.case_search.specs.Refuted.{AreImpossible, AreFacts}
+use Rattle.case_search.specs.Code.Following.{Follows, IsTold, HasBoth, AreContrary}
 
 -- two of three values that are true
 first_two : (a b c : Bool) → a ≡ true → b ≡ true → majority a b c ≡ true
@@ -162,3 +162,14 @@ pub fact_at : (b : BuilderView) (facts : List Fact) (k : ℕ) (fact : Fact) (rea
 fact_at b facts k fact read all lt same =
     subst (AreImpossible b) (sym same)
     (All-get_or (λ (f : Fact). AreImpossible b f.literals.items) facts k fact lt all)
+
+-- facts stay facts where the graph grows
+impossible_later : (a b : BuilderView) (literals : List ℕ) → Grown a b → AreImpossible a literals
+    → AreImpossible b literals
+impossible_later a b literals grown impossible = record {
+  never = λ word v fit are. impossible.never word v (fits_before a b grown word v fit) are;
+}
+
+pub facts_later : (a b : BuilderView) (facts : List Fact) → Grown a b → AreFacts a facts → AreFacts b facts
+facts_later a b facts grown all =
+    λ k fact lt. impossible_later a b (get_or facts k fact).literals.items grown (all k fact lt)

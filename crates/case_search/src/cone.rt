@@ -61,6 +61,15 @@ impl Cone {
             == Seat::Inside
     }
 
+    /// Whether a node is in the cone, or an operand of one that is.
+    pub(crate) fn touches(&self, node: u32) -> bool {
+        self.seats
+            .get(node as usize)
+            .copied()
+            .unwrap_or(Seat::Outside)
+            != Seat::Outside
+    }
+
     /// The nodes that were touched, which the cone has all.
     pub(crate) fn nodes(&self) -> &[u32] {
         self.touched.as_slice()

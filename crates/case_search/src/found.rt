@@ -11,6 +11,12 @@ pub enum Found {
     Unknown,
 }
 
+/// Literals that are not all true at any word.
+#[derive(Drop)]
+pub struct Fact {
+    pub literals: Vec<u32>,
+}
+
 /// What is left of counted work: majorities and literals of facts that are looked at, entries of the trail, nodes of
 /// cones, and literals that are replaced. Nothing is looked at where none is left.
 #[derive(Clone, Copy)]

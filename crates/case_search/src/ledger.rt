@@ -1,19 +1,14 @@
 // What a search has shown: facts that it learned, each by steps that are gone through again before it counts.
 ghost use Rattle.std.specs.Prelude.{◌≡◌, [], ◌∷◌, IsTrue, IfOk};
 ghost use Rattle.maj_graph.specs.Graphs.{turned};
-ghost use Rattle.case_search.specs.Refuted.{AreImpossible};
-ghost use Rattle.case_search.specs.Code.Following.{Follows, HasBoth, AreFacts};
+ghost use Rattle.case_search.specs.Refuted.{AreImpossible, AreFacts};
+ghost use Rattle.case_search.specs.Code.Following.{Follows, HasBoth};
 
+use crate::Fact;
 use crate::known::Known;
 use crate::step::{Reason, Step};
 use aq_base::Memory;
 use maj_graph::{Builder, Node, turned};
-
-/// Literals that are not all true at any word.
-#[derive(Drop)]
-pub(crate) struct Fact {
-    pub(crate) literals: Vec<u32>,
-}
 
 /// Whether these are the two literals, in this order.
 fn are_these(one: u32, other: u32, p: u32, q: u32) -> bool

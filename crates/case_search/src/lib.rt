@@ -16,5 +16,5 @@ mod trail;
 mod watched;
 mod work;
 
-pub use found::{Found, Limits, Work};
+pub use found::{Fact, Found, Limits, Work};
 pub use search::Search;

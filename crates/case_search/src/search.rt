@@ -1,24 +1,29 @@
 // Whether literals of a graph of majorities can all be true.
 ghost use Rattle.std.specs.Prelude.{◌≡◌, [], ◌∷◌, IfOk, IfSome};
 ghost use Rattle.maj_graph.specs.Graphs.{turned};
-ghost use Rattle.case_search.specs.Refuted.{AreImpossible};
-ghost use Rattle.case_search.specs.Code.Following.{AreFacts};
+ghost use Rattle.case_search.specs.Refuted.{AreImpossible, AreFacts};
 
 use crate::known::Known;
-use crate::ledger::{Fact, are_refuted, learn};
+use crate::ledger::{are_refuted, learn};
 use crate::step::Step;
 use crate::tables::Tables;
-use crate::{Found, Limits, Work};
+use crate::{Fact, Found, Limits, Work};
 use aq_base::Memory;
 use maj_graph::{Builder, turned};
 use std::alloc::Global;
 
+/// What a search writes down: the tables that find, and those that check what was found.
+#[derive(Drop)]
+struct Desk {
+    alloc: Global,
+    tables: Tables,
+    known: Known,
+}
+
 /// What comes of a clash on the first level: that the assumed literals cannot all be true, where the steps to it show it.
 fn after_last_clash(
-    alloc: Global,
     graph: &Builder,
-    tables: &mut Tables,
-    known: &mut Known,
+    desk: &mut Desk,
     facts: &[Fact],
     assumed: &[u32],
     clash: Step,
@@ -27,8 +32,9 @@ fn after_last_clash(
     requires { AreFacts graph.now facts.now }
     ensures { IfOk result (λ found. found ≡ Found.Impossible → AreImpossible graph.now assumed.now) }
 {
-    tables.blame_assumed(alloc, clash, work)?;
-    if are_refuted(graph, facts, known, assumed, tables.steps(), clash.literal)? {
+    desk.tables.blame_assumed(desk.alloc, clash, work)?;
+    let steps = desk.tables.steps();
+    if are_refuted(graph, facts, &mut desk.known, assumed, steps, clash.literal)? {
         Ok(Found::Impossible)
     } else {
         Ok(Found::Unknown)
@@ -37,10 +43,8 @@ fn after_last_clash(
 
 /// Learns a fact from a clash, and goes back to where it says something; whether there may be a clash more.
 fn learned(
-    alloc: Global,
     graph: &Builder,
-    tables: &mut Tables,
-    known: &mut Known,
+    desk: &mut Desk,
     facts: &mut Vec<Fact>,
     clash: Step,
     work: &mut Work,
@@ -48,20 +52,19 @@ fn learned(
     requires { AreFacts graph.now facts.old.items }
     ensures { AreFacts graph.now facts.new.items }
 {
-    if tables.count() {
+    if desk.tables.count() {
         return Ok(false);
     }
-    let fact = tables.blame_fact(alloc, clash, work)?;
-    tables.take_fact(&fact, work)?;
-    learn(graph, facts, known, fact, tables.steps(), clash.literal)
+    let fact = desk.tables.blame_fact(desk.alloc, clash, work)?;
+    desk.tables.take_fact(&fact, work)?;
+    let steps = desk.tables.steps();
+    learn(graph, facts, &mut desk.known, fact, steps, clash.literal)
 }
 
 /// What comes of a clash: nothing yet, where a fact was learned from it.
 fn after_clash(
-    alloc: Global,
     graph: &Builder,
-    tables: &mut Tables,
-    known: &mut Known,
+    desk: &mut Desk,
     facts: &mut Vec<Fact>,
     assumed: &[u32],
     clash: Step,
@@ -72,11 +75,11 @@ fn after_clash(
     ensures found { IfOk result (λ some.
         IfSome some (λ found. found ≡ Found.Impossible → AreImpossible graph.now assumed.now)) }
 {
-    if tables.is_of_assumed(clash) {
-        let found = after_last_clash(alloc, graph, tables, known, facts, assumed, clash, work)?;
+    if desk.tables.is_of_assumed(clash) {
+        let found = after_last_clash(graph, desk, facts, assumed, clash, work)?;
         return Ok(Some(found));
     }
-    if learned(alloc, graph, tables, known, facts, clash, work)? {
+    if learned(graph, desk, facts, clash, work)? {
         Ok(None)
     } else {
         Ok(Some(Found::Unknown))
@@ -85,10 +88,8 @@ fn after_clash(
 
 /// What comes of what follows: of a clash, or of a choice where nothing clashes.
 fn one_case(
-    alloc: Global,
     graph: &Builder,
-    tables: &mut Tables,
-    known: &mut Known,
+    desk: &mut Desk,
     facts: &mut Vec<Fact>,
     assumed: &[u32],
     work: &mut Work,
@@ -98,13 +99,13 @@ fn one_case(
     ensures found { IfOk result (λ some.
         IfSome some (λ found. found ≡ Found.Impossible → AreImpossible graph.now assumed.now)) }
 {
-    if let Some(clash) = tables.spread(graph, work)? {
-        return after_clash(alloc, graph, tables, known, facts, assumed, clash, work);
+    if let Some(clash) = desk.tables.spread(graph, work)? {
+        return after_clash(graph, desk, facts, assumed, clash, work);
     }
     if work.left == 0 {
         return Ok(Some(Found::Unknown));
     }
-    if tables.choose(graph, work)? {
+    if desk.tables.choose(graph, work)? {
         Ok(None)
     } else {
         Ok(Some(Found::Word))
@@ -113,10 +114,8 @@ fn one_case(
 
 /// Cases, until it is known what the search comes to.
 fn cases(
-    alloc: Global,
     graph: &Builder,
-    tables: &mut Tables,
-    known: &mut Known,
+    desk: &mut Desk,
     facts: &mut Vec<Fact>,
     assumed: &[u32],
     work: &mut Work,
@@ -126,7 +125,7 @@ fn cases(
     ensures found { IfOk result (λ found. found ≡ Found.Impossible → AreImpossible graph.now assumed.now) }
 {
     for _ in 0..work.left {
-        if let Some(found) = one_case(alloc, graph, tables, known, facts, assumed, work)? {
+        if let Some(found) = one_case(graph, desk, facts, assumed, work)? {
             return Ok(found);
         }
     }
@@ -135,10 +134,8 @@ fn cases(
 
 /// A search in the cone that is marked, with the facts that there are.
 fn searched(
-    alloc: Global,
     graph: &Builder,
-    tables: &mut Tables,
-    known: &mut Known,
+    desk: &mut Desk,
     facts: &mut Vec<Fact>,
     assumed: &[u32],
     limits: Limits,
@@ -148,19 +145,17 @@ fn searched(
     ensures facts { AreFacts graph.now facts.new.items }
     ensures found { IfOk result (λ found. found ≡ Found.Impossible → AreImpossible graph.now assumed.now) }
 {
-    tables.begin(limits)?;
-    if let Some(clash) = tables.assume(assumed)? {
-        return after_last_clash(alloc, graph, tables, known, facts, assumed, clash, work);
+    desk.tables.begin(limits)?;
+    if let Some(clash) = desk.tables.assume(assumed, work)? {
+        return after_last_clash(graph, desk, facts, assumed, clash, work);
     }
-    cases(alloc, graph, tables, known, facts, assumed, work)
+    cases(graph, desk, facts, assumed, work)
 }
 
 /// Two searches in the cone of two literals, for a word at which one of them alone is true.
 fn compared(
-    alloc: Global,
     graph: &Builder,
-    tables: &mut Tables,
-    known: &mut Known,
+    desk: &mut Desk,
     facts: &mut Vec<Fact>,
     p: u32,
     q: u32,
@@ -168,25 +163,25 @@ fn compared(
     work: &mut Work,
 ) -> Result<Found, Memory>
     requires { AreFacts graph.now facts.old.items }
+    ensures facts { AreFacts graph.now facts.new.items }
     ensures one { IfOk result (λ found. found ≡ Found.Impossible → AreImpossible graph.now (p ∷ turned q ∷ [])) }
     ensures other { IfOk result (λ found. found ≡ Found.Impossible → AreImpossible graph.now (turned p ∷ q ∷ [])) }
 {
-    tables.mark(graph, &[p, q], limits, work)?;
+    desk.tables.mark(graph, &[p, q], limits, work)?;
     let first = [p, turned(q)];
-    let found = searched(alloc, graph, tables, known, facts, &first, limits, work)?;
+    let found = searched(graph, desk, facts, &first, limits, work)?;
     if found != Found::Impossible {
         return Ok(found);
     }
     let second = [turned(p), q];
-    searched(alloc, graph, tables, known, facts, &second, limits, work)
+    searched(graph, desk, facts, &second, limits, work)
 }
 
 /// Tables over the nodes of one graph, which are kept between searches.
 #[derive(Drop)]
 pub struct Search {
-    tables: Tables,
-    known: Known,
-    facts: Vec<Fact>,
+    desk: Desk,
+    own: Vec<Fact>,
     word: Vec<bool>,
     nodes: u32,
 }
@@ -196,9 +191,12 @@ impl Search {
     pub fn new(alloc: Global, inputs: u32) -> Result<Search, Memory> {
         let word = vec![in alloc; false; inputs as usize]?;
         Ok(Search {
-            tables: Tables::new(alloc),
-            known: Known::new(alloc),
-            facts: Vec::new(alloc),
+            desk: Desk {
+                alloc,
+                tables: Tables::new(alloc),
+                known: Known::new(alloc),
+            },
+            own: Vec::new(alloc),
             word,
             nodes: 0,
         })
@@ -210,8 +208,8 @@ impl Search {
             .node_count()
             .saturating_add(graph.inputs() as usize)
             .saturating_add(1);
-        self.tables.grow(nodes)?;
-        self.known.grow(nodes.saturating_mul(2))?;
+        self.desk.tables.grow(nodes)?;
+        self.desk.known.grow(nodes.saturating_mul(2))?;
         self.nodes = u32::try_from(nodes).unwrap_or(0);
         Ok(())
     }
@@ -222,7 +220,6 @@ impl Search {
     /// left. Its time is that of the work that it takes.
     pub fn refute(
         &mut self,
-        alloc: Global,
         graph: &Builder,
         assumed: &[u32],
         limits: Limits,
@@ -235,52 +232,40 @@ impl Search {
                 return Ok(Found::Unknown);
             }
         }
-        self.facts.clear();
-        self.tables.mark(graph, assumed, limits, work)?;
-        let found = searched(
-            alloc,
-            graph,
-            &mut self.tables,
-            &mut self.known,
-            &mut self.facts,
-            assumed,
-            limits,
-            work,
-        )?;
+        self.own.clear();
+        self.desk.tables.forget();
+        self.desk.tables.mark(graph, assumed, limits, work)?;
+        let found = searched(graph, &mut self.desk, &mut self.own, assumed, limits, work)?;
         self.read_word(found);
         Ok(found)
     }
 
     /// Whether two literals have one value at each word, as `refute` of the one with the complement of the other, both
-    /// ways: the two searches have one cone, and the second has the facts of the first. `Impossible` says that neither is
-    /// true where the other is false. Each search has the limits.
+    /// ways: the two searches have one cone. `Impossible` says that neither is true where the other is false. Each search
+    /// has the limits. It goes by the facts that the searches before it found, as far as its cone has their nodes, and
+    /// adds its own, which stay true where the graph grows; past a bound it lets go all.
     pub fn compare(
         &mut self,
-        alloc: Global,
         graph: &Builder,
+        facts: &mut Vec<Fact>,
         p: u32,
         q: u32,
         limits: Limits,
         work: &mut Work,
     ) -> Result<Found, Memory>
+        requires { AreFacts graph.now facts.old.items }
+        ensures facts { AreFacts graph.now facts.new.items }
         ensures one { IfOk result (λ found. found ≡ Found.Impossible → AreImpossible graph.now (p ∷ turned q ∷ [])) }
         ensures other { IfOk result (λ found. found ≡ Found.Impossible → AreImpossible graph.now (turned p ∷ q ∷ [])) }
     {
         if p / 2 >= self.nodes || q / 2 >= self.nodes {
             return Ok(Found::Unknown);
         }
-        self.facts.clear();
-        let found = compared(
-            alloc,
-            graph,
-            &mut self.tables,
-            &mut self.known,
-            &mut self.facts,
-            p,
-            q,
-            limits,
-            work,
-        )?;
+        if !self.desk.tables.may_keep(facts.len()) {
+            facts.clear();
+            self.desk.tables.forget();
+        }
+        let found = compared(graph, &mut self.desk, facts, p, q, limits, work)?;
         self.read_word(found);
         Ok(found)
     }
@@ -288,7 +273,7 @@ impl Search {
     /// Takes over the word, if one was found.
     fn read_word(&mut self, found: Found) {
         if found == Found::Word {
-            self.tables.read_word(&mut self.word);
+            self.desk.tables.read_word(&mut self.word);
         }
     }
 

@@ -124,7 +124,7 @@ pub(crate) fn spread(
         if let Some(clash) = settle_around(graph, cone, trail, literal, work)? {
             return Ok(Some(clash));
         }
-        if let Some(clash) = watched.spread(trail, literal, work)? {
+        if let Some(clash) = watched.spread(cone, trail, literal, work)? {
             return Ok(Some(clash));
         }
     }

@@ -12,6 +12,9 @@ use aq_base::Memory;
 use maj_graph::{Builder, turned};
 use std::alloc::Global;
 
+/// How many literals the facts may have that are kept for the next search.
+const MOST_LITERALS: usize = 500_000;
+
 /// The tables of a search.
 #[derive(Drop)]
 pub(crate) struct Tables {
@@ -45,7 +48,17 @@ impl Tables {
         self.activity.grow(nodes)
     }
 
-    /// Lets go all facts, and marks the cone of some literals.
+    /// Lets go all facts.
+    pub(crate) fn forget(&mut self) {
+        self.watched.clear();
+    }
+
+    /// Whether these are so many facts, and not too many to be kept.
+    pub(crate) fn may_keep(&self, facts: usize) -> bool {
+        self.watched.len() == facts && self.watched.literal_count() <= MOST_LITERALS
+    }
+
+    /// Marks the cone of some literals.
     pub(crate) fn mark(
         &mut self,
         graph: &Builder,
@@ -53,7 +66,6 @@ impl Tables {
         limits: Limits,
         work: &mut Work,
     ) -> Result<(), Memory> {
-        self.watched.clear();
         self.cone.mark(graph, literals, limits.cone, work)
     }
 
@@ -66,9 +78,16 @@ impl Tables {
     }
 
     /// Sets what is assumed; the step that cannot be, if the complement of one is set.
-    pub(crate) fn assume(&mut self, assumed: &[u32]) -> Result<Option<Step>, Memory> {
+    pub(crate) fn assume(
+        &mut self,
+        assumed: &[u32],
+        work: &mut Work,
+    ) -> Result<Option<Step>, Memory> {
         for step in self.watched.singles() {
-            if let Some(clash) = self.trail.imply(*step)? {
+            work.pay(1);
+            if self.cone.touches(step.literal / 2)
+                && let Some(clash) = self.trail.imply(*step)?
+            {
                 return Ok(Some(clash));
             }
         }

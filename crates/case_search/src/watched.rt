@@ -1,5 +1,6 @@
-// The facts of one search, each watched at two of its literals.
+// The facts of searches, each watched at two of its literals.
 use crate::Work;
+use crate::cone::Cone;
 use crate::step::{Reason, Step};
 use crate::trail::Trail;
 use aq_base::Memory;
@@ -66,6 +67,16 @@ impl Watched {
         let start = self.start(fact);
         let end = self.start(fact.saturating_add(1));
         self.literals.get(start..end).unwrap_or(&[])
+    }
+
+    /// How many facts there are.
+    pub(crate) fn len(&self) -> usize {
+        self.starts.len()
+    }
+
+    /// How many literals they have.
+    pub(crate) fn literal_count(&self) -> usize {
+        self.literals.len()
     }
 
     /// Lets go all facts.
@@ -166,9 +177,11 @@ impl Watched {
         }
     }
 
-    /// What follows of the facts that watch a literal which became true; the step that cannot be, if one clashes.
+    /// What follows in the cone of the facts that watch a literal which became true; the step that cannot be, if one
+    /// clashes.
     pub(crate) fn spread(
         &mut self,
+        cone: &Cone,
         trail: &mut Trail,
         literal: u32,
         work: &mut Work,
@@ -186,7 +199,9 @@ impl Watched {
                 Seen::Moved => self.unlink(literal, before, after),
                 Seen::Forces(step) => {
                     before = watch;
-                    if let Some(clash) = trail.imply(step)? {
+                    if cone.touches(step.literal / 2)
+                        && let Some(clash) = trail.imply(step)?
+                    {
                         return Ok(Some(clash));
                     }
                 }

@@ -6,7 +6,7 @@ use Rattle.circuit.specs.declared.gate.Gate.{Gate}
 use Rattle.circuit.specs.PlainNets.{PlainView}
 use Rattle.circuit.specs.CellNets.{IsCells, value}
 use Rattle.circuit.proofs.CellAnswers.{value_fits, the_answer}
-use Rattle.decide.specs.Verdicts.{answer_alike, shown, IsLeastDifference, IsVerdict}
+use Rattle.decide.specs.Verdicts.{answer_alike, shown, IsLeastDifference}
 use Rattle.decide.specs.declared.verdict.Verdict.{Verdict}
 use Rattle.decide.specs.declared.verdict.Verdict.TheVariants.{Equal, Differ, Differs}
 use Rattle.maj_graph.specs.Graphs.{literal_value, Fits}
@@ -15,7 +15,8 @@ use Rattle.maj_graph.proofs.Valued.{some_fits}
 use Rattle.maj_graph.proofs.Built.{fits_before}
 use Rattle.merged_gates.specs.Code.GateLiterals.{ShowOutputs}
 use Rattle.merged_gates.specs.Code.Merging.{AreAllAlike}
-use Rattle.merged_gates.specs.Code.Least.{IsSeen, IsFound, AreFirstApart}
+use Rattle.merged_gates.specs.Code.Differences.{IsDifference}
+use Rattle.merged_gates.specs.Code.Least.{IsFound, AreFirstApart}
 use Rattle.merged_gates.proofs.Merging.{maps_alike}
 
 -- answers that are alike are so the other way round
@@ -126,7 +127,7 @@ module _ (one other : PlainView) (mid late last : BuilderView) (ok : IsBuilder l
 -- some output that differs
 pub seen_difference : (one other : PlainView) (b : BuilderView) (literals : List ℕ) (place : ℕ) (word : List Bool)
     → length literals ≡ length one.outputs → b.inputs ≡ one.inputs → place < length literals → length word ≡ b.inputs
-    → shown one place word ≢ shown other place word → IsSeen one other place word
+    → shown one place word ≢ shown other place word → IsDifference one other place word
 seen_difference one other b literals place word size inputs within long differ = record {
   long = long ∙ inputs;
   at = record { within = omega arith; differ = differ };

@@ -1,16 +1,13 @@
 -- From values of gates to outputs that differ.
-use Rattle.std.proofs.Common.{◌≡◌, ◌≢◌, ℕ, suc, zero, ◌<◌, Bool, List, [], ◌∷◌, length, slice_index_or, sym, ◌∙◌, arith}
+use Rattle.std.proofs.Common.{◌≡◌, ℕ, suc, zero, ◌<◌, Bool, List, [], ◌∷◌, length, slice_index_or, sym, ◌∙◌, arith}
 use Rattle.std.specs.List.{AllByRecursion}
 use Rattle.circuit.specs.PlainNets.{PlainView}
 use Rattle.circuit.specs.Gates.{valuation}
 use Rattle.circuit.specs.CellNets.{IsCells, value}
-use Rattle.decide.specs.Subfunctions.{HasAtMost}
-use Rattle.decide.specs.Verdicts.{shown, IsSomeDifference, IsVerdict, IsRefusal}
+use Rattle.decide.specs.Verdicts.{shown, IsVerdict, IsRefusal}
 use Rattle.decide.specs.declared.verdict.Verdict.TheVariants.{Differs}
 use Rattle.decide.specs.declared.refusal.DecideRefusal.TheVariants.{TooMany}
 use Rattle.merged_gates.specs.Code.Differences.{IsOther, DiffersAt, IsDifference}
-use Rattle.merged_gates.specs.Code.Least.{IsSeen}
-use Rattle.merged_gates.specs.declared.some_difference.Difference.{Difference}
 
 -- the element at a place below the length is one of those of which this holds
 below_at : (most : ℕ) (xs : List ℕ) (place : ℕ) → AllByRecursion (λ x. x < most) xs → place < length xs
@@ -40,22 +37,11 @@ differs_at a b word values others place cells cells' same are are' other =
           ∙ sym (shown_value b word others place cells' are' within));
     }
 
-pub differs : (a b : PlainView) (functions : ℕ) (found : Difference) → IsRefusal a b (TooMany functions)
-    → IsDifference a b found → IsVerdict a b (Differs found.output found.word)
-differs a b functions found many difference = record {
+pub differs : (a b : PlainView) (functions output : ℕ) (word : List Bool) → IsRefusal a b (TooMany functions)
+    → IsDifference a b output word → IsVerdict a b (Differs output word)
+differs a b functions output word many difference = record {
   output_within = difference.at.within;
   long = difference.long;
   differ = difference.at.differ;
   many = many.1;
 }
-
-pub seen_differs : (a b : PlainView) (functions output : ℕ) (word : List Bool) → IsRefusal a b (TooMany functions)
-    → IsSeen a b output word → IsVerdict a b (Differs output word)
-seen_differs a b functions output word many seen = record {
-  output_within = seen.at.within;
-  long = seen.long;
-  differ = seen.at.differ;
-  many = many.1;
-}
-
-pub ruleset weaker = (differs, seen_differs)

@@ -3,12 +3,16 @@ use Rattle.std.specs.Prelude.{◌≡◌, ◌⊎◌, ℕ, ◌+◌, ◌*◌, ◌/�
 use Rattle.std.specs.Prelude.{suc, List, [], ◌∷◌, length, Option, Some, IfOk, map}
 use Rattle.std.proofs.Common.{Result, Ok, Err, refl, sym, ap, ◌∙◌, subst, arith, inl, inr}
 use Rattle.std.proofs.lemmas.Bool.Decides.{eqb_tells}
+use Rattle.std.proofs.lemmas.List.Elements.{All-nil}
 use Rattle.maj_graph.specs.declared.node.Node.{Node}
 use Rattle.maj_graph.specs.Graphs.{literal_value, node_value, Fits, turned, AreBelow}
 use Rattle.maj_graph.specs.Building.{BuilderView, Grown, Gives, Splits, limit}
 use Rattle.maj_graph.proofs.Folded.{turned_value, turned_below}
 use Rattle.maj_graph.proofs.Built.{fits_before, limit_grows, even_value, odd_value, whole_value}
-use Rattle.merged_gates.specs.Code.Merging.{AreAlike, StandsFor, AreMerged, AreAllAlike, partner_at, turned_as}
+use Rattle.case_search.specs.declared.found.Fact.{Fact}
+use Rattle.case_search.specs.Refuted.{AreImpossible, AreFacts}
+use Rattle.case_search.proofs.Followed.{facts_later}
+use Rattle.merged_gates.specs.Code.Merging.{AreAlike, StandsFor, AreMerged, IsKnown, AreAllAlike, partner_at, turned_as}
 
 pub alike_same : (b : BuilderView) (l : ℕ) → AreAlike b l l
 alike_same b l = record { shows = λ word v fit. refl }
@@ -47,6 +51,20 @@ merged_none b partners empty =
       below = λ node l is. absurd cc;
       alike = λ node l is. absurd cc;
     })
+
+pub known_later : (a b : BuilderView) (partners : List (Option ℕ)) (facts : List Fact) → Grown a b
+    → IsKnown a partners facts → IsKnown b partners facts
+known_later a b partners facts grown known = record {
+  are_merged = merged_later a b partners grown known.are_merged;
+  are_facts = facts_later a b facts grown known.are_facts;
+}
+
+pub known_none : (b : BuilderView) (partners : List (Option ℕ)) (facts : List Fact) → partners ≡ [] → facts ≡ []
+    → IsKnown b partners facts
+known_none b partners facts empty none = record {
+  are_merged = merged_none b partners empty;
+  are_facts = subst (AreFacts b) (sym none) (All-nil (λ (fact : Fact). AreImpossible b fact.literals.items));
+}
 
 -- a partner, turned as the literal is
 pub partner_stands : (b : BuilderView) (partners : List (Option ℕ)) (literal own found : ℕ) → AreMerged b partners

@@ -1,7 +1,7 @@
 // The diagram's verdict, or a difference that needs no diagram.
 ghost use Rattle.std.specs.Prelude.{◌≡◌, length, IfOk, IfErr};
 ghost use Rattle.decide.specs.Verdicts.{IsVerdict, IsRefusal};
-ghost use Rattle.merged_gates.specs.Code.Least.{IsSeen};
+ghost use Rattle.merged_gates.specs.Code.Differences.{IsDifference};
 
 use crate::some_difference::{Difference, some_difference};
 use circuit::Word;
@@ -9,7 +9,7 @@ use decide::{Cells, DecideRefusal, Verdict, decide};
 use std::alloc::Global;
 
 /// The diagram's verdict; where the diagram is too large, a difference that some word shows, if one was found.
-#[tactic(auto, using(crate::proofs::Differing::weaker))]
+#[tactic(auto, using(crate::proofs::Differing::differs))]
 pub(crate) fn decided(alloc: Global, a: &Cells, b: &Cells) -> Result<Verdict, DecideRefusal>
     requires inputs { b.now.inputs ≡ a.now.inputs }
     requires outputs { length b.now.outputs ≡ length a.now.outputs }
@@ -26,7 +26,7 @@ pub(crate) fn decided(alloc: Global, a: &Cells, b: &Cells) -> Result<Verdict, De
 }
 
 /// The diagram's verdict; where the diagram is too large, this difference.
-#[tactic(auto, using(crate::proofs::Differing::weaker))]
+#[tactic(auto, using(crate::proofs::Differing::differs))]
 pub(crate) fn decided_or(
     alloc: Global,
     a: &Cells,
@@ -36,7 +36,7 @@ pub(crate) fn decided_or(
 ) -> Result<Verdict, DecideRefusal>
     requires inputs { b.now.inputs ≡ a.now.inputs }
     requires outputs { length b.now.outputs ≡ length a.now.outputs }
-    requires seen { IsSeen a.now b.now output word }
+    requires seen { IsDifference a.now b.now output word }
     ensures verdict { IfOk result (IsVerdict a.now b.now) }
     ensures refusal { IfErr result (IsRefusal a.now b.now) }
 {

@@ -39,10 +39,10 @@ fn apart_where(
     let no_one = turned(one);
     let no_other = turned(other);
     let assumed = with_three(alloc, first, more, one, no_other)?;
-    match search.refute(alloc, graph, &assumed, limits, &mut round.work)? {
+    match search.refute(graph, &assumed, limits, &mut round.work)? {
         Found::Impossible => {
             let second = with_three(alloc, first, more, no_one, other)?;
-            search.refute(alloc, graph, &second, limits, &mut round.work)
+            search.refute(graph, &second, limits, &mut round.work)
         }
         found => Ok(found),
     }

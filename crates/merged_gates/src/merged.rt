@@ -1,10 +1,14 @@
 // A graph whose nodes are merged where they have one value.
 ghost use Rattle.std.specs.Prelude.{◌≡◌, ◌⊎◌, ◌*◌, ◌/◌, ◌<◌, ℕ, Some, [], IfOk, IfSome, IfNone, IsTrue, length};
+ghost use Rattle.case_search.specs.declared.found.Found.TheVariants as answers;
 ghost use Rattle.maj_graph.specs.Graphs.{node_value, AreBelow};
 ghost use Rattle.maj_graph.specs.Building.{IsBuilder, Grown, Gives, limit};
 ghost use Rattle.merged_gates.specs.Code.Merging.{AreAlike, StandsFor, AreAllAlike, AreAlikeBelow, partner_at, turned_as};
 
+use crate::refuted::apart;
+use crate::round::Round;
 use aq_base::Memory;
+use case_search::{Fact, Found, Search};
 use maj_graph::{Builder, GraphRefusal, turned};
 use std::alloc::Global;
 use std::marker::Model;
@@ -37,22 +41,24 @@ fn put_partner(partners: &mut Vec<Option<u32>>, node: u32, literal: u32) -> Resu
     Ok(())
 }
 
-/// A graph, and for each node that was merged the literal that it was merged into. Clauses see the graph.
+/// A graph, for each node that was merged the literal that it was merged into, and facts that comparisons found. Clauses
+/// see the graph.
 #[derive(Drop)]
 pub(crate) struct Merged {
     builder: Builder,
     partners: Vec<Option<u32>>,
+    facts: Vec<Fact>,
 }
 
 impl Model for Merged {
     ghost use Rattle.maj_graph.specs.Building.{BuilderView};
-    ghost use Rattle.merged_gates.specs.Code.Merging.{AreMerged};
+    ghost use Rattle.merged_gates.specs.Code.Merging.{IsKnown};
 
     ghost Value = { BuilderView };
 
     ghost view = { λ m. m.builder };
 
-    ghost invariant = { λ m. AreMerged m.builder m.partners.items };
+    ghost invariant = { λ m. IsKnown m.builder m.partners.items m.facts.items };
 }
 
 impl Merged {
@@ -64,6 +70,7 @@ impl Merged {
         Ok(Merged {
             builder,
             partners: Vec::new(alloc),
+            facts: Vec::new(alloc),
         })
     }
 
@@ -111,6 +118,21 @@ impl Merged {
         ensures { self.new ≡ self.old }
     {
         put_partner(&mut self.partners, node, literal)
+    }
+
+    /// Whether two literals have one value, by searches, as far as they get with the limits and the work of a round:
+    /// `Impossible` says that they never have two. The facts that were found before serve, and there may be more now.
+    pub(crate) fn compare(
+        &mut self,
+        search: &mut Search,
+        one: u32,
+        other: u32,
+        round: &mut Round,
+    ) -> Result<Found, Memory>
+        ensures same { self.new ≡ self.old }
+        ensures alike { IfOk result (λ found. found ≡ answers.Impossible → AreAlike self.new one other) }
+    {
+        apart(&self.builder, &mut self.facts, search, one, other, round)
     }
 
     /// A literal whose value is the majority of the values of three literals.

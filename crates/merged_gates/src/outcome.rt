@@ -85,8 +85,26 @@ fn majorities(gates: &[Gate]) -> usize {
         .count()
 }
 
-/// The same, where the gates of the smaller circuit come first, into which those of the other one are merged.
-fn compare_smaller_first(
+/// The same, where the gates of one of the two come first, into which those of the other one are merged.
+fn compare_in_order(
+    alloc: Global,
+    one: &Cells,
+    other: &Cells,
+    is_first: bool,
+) -> Result<Option<Verdict>, GraphRefusal>
+    requires inputs { other.now.inputs ≡ one.now.inputs }
+    requires outputs { length other.now.outputs ≡ length one.now.outputs }
+    ensures { IfOk result (λ found. IfSome found (IsFound one.now other.now)) }
+{
+    if is_first {
+        compare_cells(alloc, one, other)
+    } else {
+        compare_cells(alloc, other, one)
+    }
+}
+
+/// The same in both orders, until something is found: the smaller circuit first, and then the larger one.
+fn compare_in_both(
     alloc: Global,
     one: &Cells,
     other: &Cells,
@@ -95,17 +113,18 @@ fn compare_smaller_first(
     requires outputs { length other.now.outputs ≡ length one.now.outputs }
     ensures { IfOk result (λ found. IfSome found (IsFound one.now other.now)) }
 {
-    if majorities(other.gates.as_slice()) < majorities(one.gates.as_slice()) {
-        compare_cells(alloc, other, one)
-    } else {
-        compare_cells(alloc, one, other)
+    let is_larger = majorities(other.gates.as_slice()) < majorities(one.gates.as_slice());
+    match compare_in_order(alloc, one, other, !is_larger)? {
+        None => compare_in_order(alloc, one, other, is_larger),
+        found => Ok(found),
     }
 }
 
 /// What is found of two circuits of the same counts without their diagram. Their gates are made into one graph of
 /// majorities, where an inverter turns a literal and a buffer keeps it. Where the literals of their outputs are not the
 /// same, nodes that have the same values at many words are compared, lowest first, and merged where searches prove them
-/// alike; where outputs differ, searches find the least word. `Differs` has an output that differs at its word, and says
+/// alike, in a second graph too, with the circuits in the other order, where the first one tells nothing; where outputs
+/// differ, searches find the least word. `Differs` has an output that differs at its word, and says
 /// nothing of others. `None` says nothing at all. These two come where the searches would take too much work, which is
 /// counted and the same in each run, or where the graph would have 2^30 nodes.
 pub fn swept_verdict(alloc: Global, one: &Cells, other: &Cells) -> Result<Option<Verdict>, Memory>
@@ -113,7 +132,7 @@ pub fn swept_verdict(alloc: Global, one: &Cells, other: &Cells) -> Result<Option
     requires outputs { length other.now.outputs ≡ length one.now.outputs }
     ensures { IfOk result (λ found. IfSome found (IsFound one.now other.now)) }
 {
-    match compare_smaller_first(alloc, one, other) {
+    match compare_in_both(alloc, one, other) {
         Ok(found) => Ok(found),
         Err(GraphRefusal::TooManyNodes) => Ok(None),
         Err(GraphRefusal::Memory) => Err(Memory),

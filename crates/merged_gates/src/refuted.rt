@@ -1,24 +1,27 @@
 // Two literals have one value where neither can be true without the other.
 ghost use Rattle.std.specs.Prelude.{◌≡◌, IfOk};
 ghost use Rattle.case_search.specs.declared.found.Found.TheVariants as answers;
+ghost use Rattle.case_search.specs.Refuted.{AreFacts};
 ghost use Rattle.merged_gates.specs.Code.Merging.{AreAlike};
 
+use crate::round::Round;
 use aq_base::Memory;
-use case_search::{Found, Limits, Search, Work};
+use case_search::{Fact, Found, Search};
 use maj_graph::Builder;
-use std::alloc::Global;
 
 /// Whether two literals have one value: `Impossible` says that they never have two.
 pub(crate) fn apart(
-    alloc: Global,
     graph: &Builder,
+    facts: &mut Vec<Fact>,
     search: &mut Search,
     one: u32,
     other: u32,
-    limits: Limits,
-    work: &mut Work,
+    round: &mut Round,
 ) -> Result<Found, Memory>
-    ensures { IfOk result (λ found. found ≡ answers.Impossible → AreAlike graph.now one other) }
+    requires { AreFacts graph.now facts.old.items }
+    ensures facts { AreFacts graph.now facts.new.items }
+    ensures alike { IfOk result (λ found. found ≡ answers.Impossible → AreAlike graph.now one other) }
 {
-    search.compare(alloc, graph, one, other, limits, work)
+    let limits = round.limits;
+    search.compare(graph, facts, one, other, limits, &mut round.work)
 }

@@ -1,8 +1,5 @@
-// What the searches of a round may take.
+// What searches may take.
 use case_search::{Limits, Work};
-
-/// How much work the searches of a round may take.
-const ROUND_WORK: u64 = 50_000_000;
 
 /// The limits of each search, and what is left of the work of all.
 #[derive(Drop)]
@@ -11,10 +8,10 @@ pub(crate) struct Round {
     pub(crate) work: Work,
 }
 
-/// A round of searches, each with so many conflicts over so many majorities.
-pub(crate) fn round_of(conflicts: u32, cone: u32) -> Round {
+/// Searches, each with so many conflicts over so many majorities, and all with so much work.
+pub(crate) fn round_of(conflicts: u32, cone: u32, work: u64) -> Round {
     Round {
         limits: Limits { conflicts, cone },
-        work: Work { left: ROUND_WORK },
+        work: Work { left: work },
     }
 }

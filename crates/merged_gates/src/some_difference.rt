@@ -86,7 +86,7 @@ pub(crate) fn some_difference(
     other: &Cells,
 ) -> Result<Option<Difference>, Memory>
     requires outputs { length other.now.outputs ≡ length one.now.outputs }
-    ensures { IfOk result (λ found. IfSome found (IsDifference one.now other.now)) }
+    ensures { IfOk result (λ found. IfSome found (λ found. IsDifference one.now other.now found.output found.word)) }
 {
     for number in 0..WORDS {
         let word = word_of(alloc, one.inputs, number)?;

@@ -8,18 +8,26 @@ use crate::least::{least_or_none, lower};
 use crate::merged::{Merged, are_all_alike, first_open};
 use crate::needed::{is_marked, needed};
 use crate::numbers::{first_node, node_limit};
-use crate::refuted::apart;
 use crate::round::{Round, round_of};
 use crate::signatures::Signatures;
 use crate::swept::Swept;
 use aq_base::{List, Memory};
-use case_search::{Found, Search};
+use case_search::{Found, Limits, Search};
 use circuit::Word;
 use maj_graph::GraphRefusal;
 use std::alloc::Global;
 
-/// How many conflicts a search may come to, in each round.
-const ROUNDS: [u32; 2] = [100, 1_000];
+/// How many conflicts a search may come to, in each round. Few are enough for most nodes, and what these merge makes the
+/// searches for the others shorter.
+const ROUNDS: [u32; 3] = [20, 200, 2_000];
+
+/// How much work the searches of all rounds may take for each node of the graph, and at most.
+const NODE_WORK: u64 = 20_000;
+
+const SWEEP_WORK: u64 = 150_000_000;
+
+/// How much work the searches for a least word may take.
+const LEAST_WORK: u64 = 50_000_000;
 
 /// From so many nodes on a search looks at parts of cones alone, of so many majorities.
 const LARGE: u32 = 100_000;
@@ -37,6 +45,11 @@ const LEAST_CONFLICTS: u32 = 20_000;
 /// How many majorities of a cone a search looks at, in a graph of so many nodes.
 fn cone_of(nodes: u32) -> u32 {
     if nodes > LARGE { PART } else { nodes }
+}
+
+/// How much work the searches of all rounds may take in a graph of so many nodes.
+fn work_of(nodes: u32) -> u64 {
+    u64::from(nodes).saturating_mul(NODE_WORK).min(SWEEP_WORK)
 }
 
 /// What tells which nodes may be alike, and what compares them.
@@ -94,16 +107,7 @@ impl Sweep {
     {
         merged.known();
         let own = 2 * node;
-        let limits = round.limits;
-        match apart(
-            alloc,
-            merged.graph(),
-            &mut self.search,
-            own,
-            literal,
-            limits,
-            &mut round.work,
-        )? {
+        match merged.compare(&mut self.search, own, literal, round)? {
             Found::Impossible => {
                 merged.merge(node, literal)?;
                 Ok(true)
@@ -202,8 +206,8 @@ impl Sweep {
             .unwrap_or(ones.len())
     }
 
-    /// Rounds, of which each may take more than the one before, over what the literals of two lists need that are not
-    /// known to be alike, as far as the first place at which they are known to differ.
+    /// Rounds, in which a search may come to more conflicts than in the one before, over what the literals of two lists
+    /// need that are not known to be alike, as far as the first place at which they are known to differ.
     fn rounds(
         &mut self,
         alloc: Global,
@@ -214,6 +218,7 @@ impl Sweep {
         requires { length others.now ≡ length ones.now }
         ensures { Grown merged.old merged.new }
     {
+        let mut round = round_of(0, 0, work_of(node_limit(merged.graph())));
         for conflicts in ROUNDS {
             self.begin(alloc, merged)?;
             let count = self.first_apart(ones, others);
@@ -221,7 +226,8 @@ impl Sweep {
                 return Ok(());
             }
             let needed = needed(alloc, merged, ones, others, count)?;
-            let mut round = round_of(conflicts, cone_of(node_limit(merged.graph())));
+            let cone = cone_of(node_limit(merged.graph()));
+            round.limits = Limits { conflicts, cone };
             self.pass_all(alloc, merged, &needed, &mut round)?;
         }
         Ok(())
@@ -246,7 +252,7 @@ impl Sweep {
         else {
             return Ok(None);
         };
-        let mut round = round_of(LEAST_CONFLICTS, node_limit(graph));
+        let mut round = round_of(LEAST_CONFLICTS, node_limit(graph), LEAST_WORK);
         lower(
             alloc,
             graph,

@@ -1,11 +1,9 @@
 -- Literals that follow from others, which is what the steps of a search show.
 use Rattle.std.specs.Prelude.{◌≡◌, ℕ, Bool, true, false, List}
-use Rattle.std.specs.List.{All}
 use Rattle.maj_graph.specs.declared.node.Node.{Node}
 use Rattle.maj_graph.specs.Graphs.{literal_value, node_value, Fits}
 use Rattle.maj_graph.specs.Building.{BuilderView}
-use Rattle.case_search.specs.declared.ledger.Fact.{Fact}
-use Rattle.case_search.specs.Refuted.{AreTrue, AreImpossible}
+use Rattle.case_search.specs.Refuted.{AreTrue}
 
 -- where the first are all true, so is this
 pub record Follows (b : BuilderView) (from : List ℕ) (literal : ℕ) : Type 0 where
@@ -23,7 +21,3 @@ pub record HasBoth (node : Node) (p q : ℕ) : Type 0 where
 -- no values make all of these true
 pub record AreContrary (known : List ℕ) : Type 0 where
   pub never : (v : ℕ → Bool) → AreTrue v known → ⊥
-
--- the literals of each fact are not all true at any word
-abbrev pub AreFacts : BuilderView → List Fact → Type 0
-AreFacts b facts = All (λ fact. AreImpossible b fact.literals.items) facts

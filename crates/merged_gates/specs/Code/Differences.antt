@@ -3,7 +3,6 @@ use Rattle.std.specs.Prelude.{◌≡◌, ◌≢◌, ℕ, ◌<◌, Bool, List, le
 use Rattle.circuit.specs.PlainNets.{PlainView}
 use Rattle.circuit.specs.Gates.{valuation}
 use Rattle.decide.specs.Verdicts.{shown}
-use Rattle.merged_gates.specs.declared.some_difference.Difference.{Difference}
 
 -- two lists of outputs show different values at this place, the values of the gates being these
 pub record IsOther (outputs : List ℕ) (values : List Bool) (other_outputs : List ℕ) (other_values : List Bool) (place : ℕ)
@@ -17,7 +16,7 @@ pub record DiffersAt (a b : PlainView) (output : ℕ) (word : List Bool) : Type 
   pub within : output < length a.outputs
   pub differ : shown a output word ≢ shown b output word
 
--- so it does
-pub record IsDifference (a b : PlainView) (found : Difference) : Type 0 where
-  pub long : length found.word ≡ a.inputs
-  pub at : DiffersAt a b found.output found.word
+-- so it does, and the word is of the circuits' length
+pub record IsDifference (a b : PlainView) (output : ℕ) (word : List Bool) : Type 0 where
+  pub long : length word ≡ a.inputs
+  pub at : DiffersAt a b output word

@@ -8,7 +8,7 @@ use Rattle.decide.specs.declared.verdict.Verdict.TheVariants as verdict
 use Rattle.maj_graph.specs.Graphs.{literal_value, Fits}
 use Rattle.maj_graph.specs.Building.{BuilderView}
 use Rattle.merged_gates.specs.Code.Merging.{AreAlikeBelow, AreAllAlike}
-use Rattle.merged_gates.specs.Code.Differences.{DiffersAt}
+use Rattle.merged_gates.specs.Code.Differences.{IsDifference}
 use Rattle.merged_gates.specs.declared.swept.Swept.{Swept}
 use Rattle.merged_gates.specs.declared.swept.Swept.TheVariants as swept
 
@@ -47,13 +47,8 @@ IsSwept b ones others (swept.Apart place word) = AreFirstApart b ones others pla
 IsSwept b ones others (swept.Seen place word) = (place < length ones) × (length word ≡ b.inputs)
 IsSwept b ones others swept.Open = Unit {0}
 
--- the output differs at the word
-pub record IsSeen (a b : PlainView) (output : ℕ) (word : List Bool) : Type 0 where
-  pub long : length word ≡ a.inputs
-  pub at : DiffersAt a b output word
-
 -- what is found of two circuits without a diagram: that they are alike, or their first difference, or some difference
 abbrev pub IsFound : PlainView → PlainView → Verdict → Type 0
 IsFound a b verdict.Equal = answer_alike a b
 IsFound a b (verdict.Differ output word) = IsLeastDifference a b output word
-IsFound a b (verdict.Differs output word) = IsSeen a b output word
+IsFound a b (verdict.Differs output word) = IsDifference a b output word

@@ -2,6 +2,8 @@
 use Rattle.std.specs.Prelude.{◌≡◌, ℕ, ◌*◌, ◌%◌, ◌<◌, ◌==◌, Bool, List, length, cond, Option, Some, None, slice_index_or}
 use Rattle.maj_graph.specs.Graphs.{literal_value, Fits, turned}
 use Rattle.maj_graph.specs.Building.{BuilderView, limit}
+use Rattle.case_search.specs.declared.found.Fact.{Fact}
+use Rattle.case_search.specs.Refuted.{AreFacts}
 
 -- two literals have one value, at each word
 pub record AreAlike (b : BuilderView) (one other : ℕ) : Type 0 where
@@ -21,6 +23,11 @@ partner_at partners node = slice_index_or partners node None
 pub record AreMerged (b : BuilderView) (partners : List (Option ℕ)) : Type 0 where
   pub below : (node literal : ℕ) → partner_at partners node ≡ Some literal → literal < limit b
   pub alike : (node literal : ℕ) → partner_at partners node ≡ Some literal → AreAlike b (2 * node) literal
+
+-- what is known of a graph: literals of merged nodes, and facts
+pub record IsKnown (b : BuilderView) (partners : List (Option ℕ)) (facts : List Fact) : Type 0 where
+  pub are_merged : AreMerged b partners
+  pub are_facts : AreFacts b facts
 
 -- a literal of the same node or its complement, for a literal of the node's
 abbrev pub turned_as : ℕ → ℕ → ℕ

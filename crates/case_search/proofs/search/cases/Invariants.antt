@@ -1,4 +1,4 @@
-use Rattle.case_search.specs.Code.Following.{AreFacts}
+use Rattle.case_search.specs.Refuted.{AreFacts}
 use Rattle.case_search.proofs.search.cases.Given as goal
 
 abbrev pub invariant-loop : goal.invariant-loop

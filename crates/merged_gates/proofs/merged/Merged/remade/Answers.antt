@@ -1,12 +1,13 @@
 use Rattle.std.proofs.Common.{◌≡◌, ◌*◌, ℕ, sym, subst}
 use Rattle.maj_graph.specs.Building.{BuilderView}
 use Rattle.merged_gates.specs.Code.Merging.{StandsFor}
-use Rattle.merged_gates.proofs.Merging.{merged_later, if_remade}
+use Rattle.merged_gates.proofs.Merging.{known_later, if_remade}
 use Rattle.merged_gates.proofs.merged.Merged.remade.Goals as goal
 
 pub invariant_of-self : goal.invariant_of-self
 invariant_of-self c =
-    merged_later c.self.inside.builder c.maj.new.self c.self.inside.partners.items c.maj.ensures.grown c.self.invariant
+    known_later c.self.inside.builder c.maj.new.self c.self.inside.partners.items c.self.inside.facts.items
+    c.maj.ensures.grown c.self.invariant
 
 pub returns-in-Some-clause-alike : goal.returns-in-Some-clause-alike
 returns-in-Some-clause-alike c =

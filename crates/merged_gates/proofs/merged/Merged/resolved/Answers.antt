@@ -15,7 +15,7 @@ pub loop-preserved : goal.loop-preserved
 loop-preserved c =
     let own = c.partner.ensures c.in-Some.next c.in-Some.is in
     let merged = subst (λ (ps : List (Option ℕ)). AreMerged c.self.inside.builder ps) (sym c.deref.ensures.value)
-    c.self.invariant in
+    c.self.invariant.are_merged in
     stands_then c.self.inside.builder c.args.literal c.loop.now c.in-Some.next c.loop.invariant
     (partner_stands c.self.inside.builder c.deref.result.now c.loop.now own.0 c.in-Some.next merged own.1 own.2)
 
