@@ -1,0 +1,6 @@
+pub mod Valued
+pub mod Gated
+pub mod Levelled
+pub mod Judged
+pub mod Shown
+pub mod Ended

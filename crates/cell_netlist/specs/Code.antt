@@ -1,0 +1,4 @@
+-- Words of the crate's own code.
+pub mod Covers
+pub mod Tables
+pub mod Progress

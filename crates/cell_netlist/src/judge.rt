@@ -1,0 +1,149 @@
+// The faults of definitions, one after another.
+ghost use Rattle.std.specs.Prelude.{◌≡◌, ◌+◌, ◌<◌, ◌||◌, ◌&&◌, not, length, take, slice_get, Some, true, false, IfOk, IfErr, IfSome, IsNone};
+ghost use Rattle.height_trees.specs.Forests.{trees};
+ghost use Rattle.cell_netlist.specs.Uses.{named, uses, is_name, is_used_well, shares_input, may_have};
+ghost use Rattle.cell_netlist.specs.Faults.{HasFault, IsFaultOfDef};
+ghost use Rattle.cell_netlist.specs.Code.Tables.{IsTableOf, view, IsTaken};
+ghost use Rattle.cell_netlist.specs.Code.Progress.{IsSoundGate, IsJudged, IsLevelled};
+
+use crate::counts::Table;
+use crate::fault::CellFault;
+use crate::levels::add_cell;
+use crate::names::{is_fed_well, is_name, may_have, shares, take_inputs};
+use blif_read::{Def, Netlist};
+use circuit::{Answers, Gate};
+use height_trees::Heights;
+
+/// The gate of definition `j`, if it computes one.
+fn gate_at(table: &Table, j: u32) -> Option<Gate>
+    requires { j < length table.now.gates.items }
+    ensures { slice_get table.now.gates.items j ≡ Some result }
+{
+    table.gates[j as usize]
+}
+
+/// How many uses a signal has.
+pub(crate) fn uses_of(_net: &Netlist, table: &Table, _three: bool, signal: u32) -> u32
+    requires table { IsTableOf _net.now table.now.gates.items table.now.used.items table.now.shown.items }
+    requires signal { signal < _net.now.inputs + length _net.now.defs }
+    ensures { result ≡ uses (view _net.now table.now.gates.items _three) signal }
+{
+    table.used[signal as usize]
+}
+
+/// Whether definition `j` is a name, or has as many uses as its gate may.
+fn is_used(net: &Netlist, table: &Table, three: bool, signal: u32, gate: Gate) -> bool
+    requires table { IsTableOf net.now table.now.gates.items table.now.used.items table.now.shown.items }
+    requires signal { signal < net.now.inputs + length net.now.defs }
+    ensures { let d = view net.now table.now.gates.items three in
+        result ≡ (is_name d signal || may_have d gate (uses d signal)) }
+{
+    let name = is_name(net, table, signal);
+    let fine = may_have(net, table, three, gate, uses_of(net, table, three, signal));
+    name || fine
+}
+
+/// Whether definition `j` is a name or has as many uses as it may, and names no input that is taken.
+fn is_used_well(
+    net: &Netlist,
+    table: &Table,
+    three: bool,
+    taken: &[bool],
+    j: u32,
+    def: &Def,
+    gate: Gate,
+) -> bool
+    requires table { IsTableOf net.now table.now.gates.items table.now.used.items table.now.shown.items }
+    requires here { slice_get net.now.defs j ≡ Some def.now }
+    requires taken { IsTaken taken.now net.now.inputs (named (take j net.now.defs)) }
+    ensures { result ≡ is_used_well (view net.now table.now.gates.items three) j def.now gate }
+{
+    net.known();
+    let used = is_used(net, table, three, net.input_count() + j, gate);
+    let shared = shares(taken, def.inputs.as_slice());
+    used && !shared
+}
+
+/// The gate of definition `j`, or what is wrong with it apart from its level.
+fn checked(
+    net: &Netlist,
+    table: &Table,
+    three: bool,
+    taken: &[bool],
+    j: u32,
+    def: &Def,
+) -> Result<Gate, CellFault>
+    requires table { IsTableOf net.now table.now.gates.items table.now.used.items table.now.shown.items }
+    requires here { slice_get net.now.defs j ≡ Some def.now }
+    requires taken { IsTaken taken.now net.now.inputs (named (take j net.now.defs)) }
+    ensures ok { IfOk result (λ gate. IsSoundGate (view net.now table.now.gates.items three) j def.now gate) }
+    ensures err { IfErr result (λ kind. HasFault (view net.now table.now.gates.items three) j def.now kind) }
+{
+    let Some(gate) = gate_at(table, j) else {
+        return Err(CellFault::Cover);
+    };
+    let used = is_used_well(net, table, three, taken, j, def, gate);
+    if !used {
+        return Err(CellFault::Uses);
+    }
+    let fed = is_fed_well(net, table, def, gate);
+    if !fed {
+        return Err(CellFault::Level);
+    }
+    Ok(gate)
+}
+
+/// Judges definition `j` after those before it: what is wrong with it, if anything is.
+pub(crate) fn judge(
+    net: &Netlist,
+    table: &Table,
+    three: bool,
+    heights: &mut Heights,
+    taken: &mut [bool],
+    j: u32,
+    def: &Def,
+) -> Option<CellFault>
+    requires table { IsTableOf net.now table.now.gates.items table.now.used.items table.now.shown.items }
+    requires here { slice_get net.now.defs j ≡ Some def.now }
+    requires judged { IsJudged (view net.now table.now.gates.items three) j (trees heights.old) taken.old }
+    ensures fault { IfSome result (λ kind. HasFault (view net.now table.now.gates.items three) j def.now kind) }
+    ensures next { IsNone result
+        → IsJudged (view net.now table.now.gates.items three) (j + 1) (trees heights.new) taken.new }
+{
+    let _gate = match checked(net, table, three, taken, j, def) {
+        Ok(gate) => gate,
+        Err(kind) => return Some(kind),
+    };
+    let added = add_cell(heights, net, table, three, j, def);
+    if !added {
+        return Some(CellFault::Level);
+    }
+    take_inputs(taken, def.inputs.as_slice());
+    None
+}
+
+/// The first fault of a definition, with its line.
+pub(crate) fn first_fault(
+    net: &Netlist,
+    table: &Table,
+    three: bool,
+    heights: &mut Heights,
+    taken: &mut [bool],
+    defs: &[Def],
+) -> Option<(u64, CellFault)>
+    requires table { IsTableOf net.now table.now.gates.items table.now.used.items table.now.shown.items }
+    requires defs { defs.now ≡ net.now.defs }
+    requires start { IsJudged (view net.now table.now.gates.items three) 0 (trees heights.old) taken.old }
+    ensures fault { IfSome result (λ p. IsFaultOfDef (view net.now table.now.gates.items three) p.0 p.1) }
+    ensures none { IsNone result
+        → IsJudged (view net.now table.now.gates.items three) (length net.now.defs) (trees heights.new) taken.new }
+{
+    net.known();
+    for (j, def) in defs.iter().enumerate() {
+        heights.known();
+        if let Some(kind) = judge(net, table, three, heights, taken, j as u32, def) {
+            return Some((def.line, kind));
+        }
+    }
+    None
+}
