@@ -1,0 +1,4 @@
+pub mod LibrarySaid
+pub mod WireSaid
+mod Planned
+mod Realised
