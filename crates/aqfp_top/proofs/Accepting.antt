@@ -23,7 +23,6 @@ use Rattle.aqfp_top.specs.Words.{word_at, IsCheck, IsCompact, IsEqual, IsWrite, 
 use Rattle.aqfp_top.specs.Loads.{gds_limit, lib_limit, net_limit, words_limit}
 use Rattle.aqfp_top.specs.Checks.{IsLayoutOf, IsUnruly, SaysSound, IsRuleFault}
 use Rattle.aqfp_top.specs.Comparing.{MakesBoth}
-use Rattle.aqfp_top.specs.Shown.{HasLines}
 use Rattle.aqfp_top.specs.Stages.{IsFirst}
 use Rattle.aqfp_top.specs.Due.{circuit_stages, judging_stages, comparing_stages, showing_stages, sample_stages}
 use Rattle.aqfp_top.specs.Due.{Due, MayAnswer}

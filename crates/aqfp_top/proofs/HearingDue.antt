@@ -1,24 +1,29 @@
 -- From what the steps of a command hear to which answer is due by it.
-use Rattle.std.proofs.Common.{ℕ, ◌≡◌, ◌≤◌, List, [], ◌∷◌, length, Option, Some, None, Result, Ok, Err, IfErr, OnOk}
+use Rattle.std.proofs.Common.{ℕ, ◌≡◌, ◌≤◌, List, [], ◌∷◌, length, Option, Some, None, Result, Ok, Err, IfOk, IfErr, OnOk}
 use Rattle.std.proofs.Common.{refl, ap, subst, inl, inr, ◌∙◌}
 use Rattle.std.specs.Result.{result_err}
 use Rattle.aq_base.specs.declared.store.StoreRefusal.TheVariants as store
-use Rattle.aq_base.specs.Heard.{Event, Loaded, Created, NotCreated, NotClosed, took}
+use Rattle.aq_base.specs.declared.store.StoreRefusal.{StoreRefusal}
+use Rattle.aq_base.specs.Heard.{Event, Loaded, Created, NotCreated, NotAppended, NotClosed, took}
+use Rattle.gds_records.specs.Writing.{bytes_of}
 use Rattle.aqfp_top.specs.Words.{word_at, IsMakeBy, IsVerify, IsTrace, IsEqual, IsWrite, IsReport, IsShapesOf, IsSampleOf, HasForm}
 use Rattle.aqfp_top.specs.Loads.{Load, net_limit, lib_limit, gds_limit, words_limit}
-use Rattle.aqfp_top.specs.Loads.{build_loads, check_loads, equal_loads, write_loads, shapes_loads}
+use Rattle.aqfp_top.specs.Loads.{build_loads, check_loads, equal_loads, write_loads}
 use Rattle.aqfp_top.specs.Stages.{Stage, IsFirst, Answers}
 use Rattle.aqfp_top.specs.Due.{design_stages, circuit_stages, judging_stages, comparing_stages, showing_stages, sample_stages}
 use Rattle.aqfp_top.specs.Histories.{loaded, loaded_three, stored}
-use Rattle.aqfp_top.specs.HeardDue.{HearsRefusal, RefusesOne, DueOfThree, StoresOut, HeardAfter}
+use Rattle.aqfp_top.specs.HeardDue.{HearsRefusal, RefusesOne, DueOfThree, IsStreamBy, IsTextOf}
+use Rattle.aqfp_top.specs.HeardDue.{TakesFirst, StoresOut, LeavesOut, CutsOut, EndsForMemory, HeardAfter}
 use Rattle.aqfp_top.specs.HeardDue.{DueOfOne, DueOfTwo, ReadsTwo, DueOfReading, DueByForm, HearsDue}
-use Rattle.aqfp_top.specs.Code.Hearing.{HeardStored}
+use Rattle.aqfp_top.specs.Code.Hearing.{IsLeft, HeardStored, ReadsDue}
 use Rattle.aqfp_top.specs.Code.Building.{IsMakeFault, IsStoreFault, IsOutOrMemory}
 use Rattle.aqfp_top.specs.Code.Writing.{IsReadingFault}
+use Rattle.aqfp_top.specs.Code.Designing.{MakesChip}
 use Rattle.aqfp_top.specs.declared.planner.Planner.{Planner}
+use Rattle.aqfp_top.specs.declared.design.Chip.{Chip}
 use Rattle.aqfp_top.specs.declared.words.Form.TheVariants.{Make, Verify, Trace, Equal, Write, Report, Shapes, Sample, Wrong}
 use Rattle.aqfp_top.specs.declared.fault.Fault.{Fault}
-use Rattle.aqfp_top.specs.declared.fault.Fault.TheVariants.{Usage}
+use Rattle.aqfp_top.specs.declared.fault.Fault.TheVariants.{Usage, Memory}
 use Rattle.aqfp_top.proofs.Forms.{one_form}
 use Rattle.aqfp_top.proofs.Hearing.{heard_built}
 use Rattle.aqfp_top.proofs.HearingNetlists.{heard_written}
@@ -176,15 +181,45 @@ pub due_of_reading : (loads : List Load) (limit : ℕ) (stages : List ℕ → Li
 unfolding DueOfReading
 due_of_reading loads limit stages heard heard' words answer reads = inr reads
 
--- of a step whose answer is the last
-pub well_read : {A : Type 0} (limit : ℕ) (stages : List ℕ → List ℕ → List Stage) (heard heard' : List Event)
-    (words : List (List ℕ)) (first lib first' lib' : List ℕ) (result : Result A Fault)
+-- of a step whose answer is the last: nothing is wrong with the texts, and these bytes are due
+pub reads_due : (limit : ℕ) (stages : List ℕ → List ℕ → List Stage) (IsDue : List ℕ → List ℕ → List ℕ → Type 0)
+    (heard heard' : List Event) (words : List (List ℕ)) (first lib first' lib' bytes : List ℕ)
     → heard' ≡ loaded heard words first lib → length first ≤ limit → length lib ≤ lib_limit
-    → first' ≡ first → lib' ≡ lib → OnOk result (IsFirst (stages first' lib') None)
-    → OnOk result (ReadsTwo limit stages heard heard' words None)
-well_read limit stages heard heard' words first lib first' lib' (Ok x) is a b f l well =
-    reads_two limit stages heard heard' words first lib first' lib' None is a b f l well
-well_read limit stages heard heard' words first lib first' lib' (Err fault) is a b f l well = tt
+    → first' ≡ first → lib' ≡ lib → IsFirst (stages first' lib') None → IsDue first' lib' bytes
+    → ReadsDue limit stages IsDue heard heard' words bytes
+reads_due limit stages IsDue heard heard' words first lib first' lib' bytes is a b f l well due = record {
+  first = first;
+  lib = lib;
+  first_fits = a;
+  lib_fits = b;
+  heard_is = is;
+  answers = subst (λ x. Answers (stages x lib) None) f (subst (λ x. Answers (stages first' x) None) l well);
+  due = subst (λ x. IsDue x lib bytes) f (subst (λ x. IsDue first' x bytes) l due);
+}
+
+stream_due : (planner : Planner) (net lib : List ℕ) (chip : Chip) → MakesChip planner net lib chip
+    → IsStreamBy planner net lib (bytes_of chip.layout)
+stream_due planner net lib chip makes = record {
+  equations = makes.equations;
+  cells = makes.cells;
+  says = makes.says;
+  chip = makes.made.placed;
+  of_net = makes.made.of_net;
+  planned = makes.made.planned;
+  bytes_are = makes.made.drawn.stream;
+}
+
+pub well_made : (planner : Planner) (heard heard' : List Event) (words : List (List ℕ))
+    (net lib net' lib' : List ℕ) (result : Result Chip Fault)
+    → heard' ≡ loaded heard words net lib → length net ≤ net_limit → length lib ≤ lib_limit
+    → net' ≡ net → lib' ≡ lib → OnOk result (IsFirst (design_stages planner net' lib') None)
+    → IfOk result (MakesChip planner net' lib')
+    → IfOk result (λ chip. ReadsDue net_limit (design_stages planner) (IsStreamBy planner) heard heard' words
+    (bytes_of chip.layout))
+well_made planner heard heard' words net lib net' lib' (Ok chip) is a b n l well makes =
+    reads_due net_limit (design_stages planner) (IsStreamBy planner) heard heard' words net lib net' lib'
+    (bytes_of chip.layout) is a b n l well (stream_due planner net' lib' chip makes)
+well_made planner heard heard' words net lib net' lib' (Err fault) is a b n l well makes = tt
 
 pub badly_read : {A : Type 0} (loads : List Load) (limit : ℕ) (stages : List ℕ → List ℕ → List Stage)
     (heard heard' : List Event) (words : List (List ℕ)) (first lib first' lib' : List ℕ) (result : Result A Fault)
@@ -213,95 +248,135 @@ judged_one stages words heard heard' gds answer is fits answers =
 -- Two texts, and then a file is written.
 
 -- nothing was heard after the loads, where nothing was to be written
-circuit_after : (heard heard' : List Event) (words : List (List ℕ)) → heard' ≡ heard → (fault : Fault)
-    → IsReadingFault fault → HeardAfter heard heard' words (Some fault)
-circuit_after heard heard' words same fault only =
-    each_reading (λ f. HeardAfter heard heard' words (Some f)) (λ p l. same) (λ p t l. same) (λ p l. same)
-    (each_circuit (λ f. HeardAfter heard heard' words (Some f)) (λ o k. same) (λ n. same) (λ f. same) (λ k. same)
-    (λ x a b. same) tt) fault only
+circuit_after : (IsDue : List ℕ → Type 0) (heard heard' : List Event) (words : List (List ℕ)) → heard' ≡ heard
+    → (fault : Fault) → IsReadingFault fault → HeardAfter IsDue heard heard' words (Some fault)
+circuit_after IsDue heard heard' words same fault only =
+    each_reading (λ f. HeardAfter IsDue heard heard' words (Some f)) (λ p l. same) (λ p t l. same) (λ p l. same)
+    (each_circuit (λ f. HeardAfter IsDue heard heard' words (Some f)) (λ o k. same) (λ n. same) (λ f. same) (λ k. same)
+    (λ x a b. same) (inl same)) fault only
 
-design_after : (heard heard' : List Event) (words : List (List ℕ)) → heard' ≡ heard → (fault : Fault)
-    → IsMakeFault fault → HeardAfter heard heard' words (Some fault)
-design_after heard heard' words same fault only =
-    each_made (λ f. HeardAfter heard heard' words (Some f)) (λ p l. same) (λ p t l. same) (λ p l. same) (λ f. same)
-    (λ l k. same) (λ f. same) (λ k. same) (λ n. same) (λ n. same) (λ n. same) (λ n. same) (λ n. same) tt fault only
+design_after : (IsDue : List ℕ → Type 0) (heard heard' : List Event) (words : List (List ℕ)) → heard' ≡ heard
+    → (fault : Fault) → IsMakeFault fault → HeardAfter IsDue heard heard' words (Some fault)
+design_after IsDue heard heard' words same fault only =
+    each_made (λ f. HeardAfter IsDue heard heard' words (Some f)) (λ p l. same) (λ p t l. same) (λ p l. same)
+    (λ f. same) (λ l k. same) (λ f. same) (λ k. same) (λ n. same) (λ n. same) (λ n. same) (λ n. same) (λ n. same)
+    (inl same) fault only
 
-read_ends : (loads : List Load) (limit : ℕ) (stages : List ℕ → List ℕ → List Stage) (heard heard' : List Event)
-    (words : List (List ℕ)) (fault : Fault)
-    → ((h : List Event) → heard' ≡ h → HeardAfter h heard' words (Some fault))
+read_ends : (loads : List Load) (limit : ℕ) (stages : List ℕ → List ℕ → List Stage)
+    (IsDue : List ℕ → List ℕ → List ℕ → Type 0) (heard heard' : List Event) (words : List (List ℕ)) (fault : Fault)
+    → ((bytes_due : List ℕ → Type 0) (h : List Event) → heard' ≡ h → HeardAfter bytes_due h heard' words (Some fault))
     → DueOfReading loads limit stages heard heard' words (Some fault)
-    → DueOfTwo loads limit stages heard heard' words (Some fault)
+    → DueOfTwo loads limit stages IsDue heard heard' words (Some fault)
 unfolding DueOfReading DueOfTwo
-read_ends loads limit stages heard heard' words fault after (inl refused) = inl refused
-read_ends loads limit stages heard heard' words fault after (inr reads) = inr (record {
+read_ends loads limit stages IsDue heard heard' words fault after (inl refused) = inl refused
+read_ends loads limit stages IsDue heard heard' words fault after (inr reads) = inr (record {
   first = reads.first;
   lib = reads.lib;
   first_fits = reads.first_fits;
   lib_fits = reads.lib_fits;
   answers = reads.answers;
-  heard_is = after (loaded heard words reads.first reads.lib) reads.heard_is;
+  heard_is = after (IsDue reads.first reads.lib) (loaded heard words reads.first reads.lib) reads.heard_is;
 })
 
-pub design_ends : (loads : List Load) (limit : ℕ) (stages : List ℕ → List ℕ → List Stage) (heard heard' : List Event)
-    (words : List (List ℕ)) (fault : Fault) → IsMakeFault fault
-    → DueOfReading loads limit stages heard heard' words (Some fault)
-    → DueOfTwo loads limit stages heard heard' words (Some fault)
-design_ends loads limit stages heard heard' words fault only due =
-    read_ends loads limit stages heard heard' words fault (λ h same. design_after h heard' words same fault only) due
+pub design_ends : (loads : List Load) (limit : ℕ) (stages : List ℕ → List ℕ → List Stage)
+    (IsDue : List ℕ → List ℕ → List ℕ → Type 0) (heard heard' : List Event) (words : List (List ℕ)) (fault : Fault)
+    → IsMakeFault fault → DueOfReading loads limit stages heard heard' words (Some fault)
+    → DueOfTwo loads limit stages IsDue heard heard' words (Some fault)
+design_ends loads limit stages IsDue heard heard' words fault only due =
+    read_ends loads limit stages IsDue heard heard' words fault
+    (λ bytes_due h same. design_after bytes_due h heard' words same fault only) due
 
-pub circuit_ends : (loads : List Load) (limit : ℕ) (stages : List ℕ → List ℕ → List Stage) (heard heard' : List Event)
-    (words : List (List ℕ)) (fault : Fault) → IsReadingFault fault
-    → DueOfReading loads limit stages heard heard' words (Some fault)
-    → DueOfTwo loads limit stages heard heard' words (Some fault)
-circuit_ends loads limit stages heard heard' words fault only due =
-    read_ends loads limit stages heard heard' words fault (λ h same. circuit_after h heard' words same fault only) due
+pub circuit_ends : (loads : List Load) (limit : ℕ) (stages : List ℕ → List ℕ → List Stage)
+    (IsDue : List ℕ → List ℕ → List ℕ → Type 0) (heard heard' : List Event) (words : List (List ℕ)) (fault : Fault)
+    → IsReadingFault fault → DueOfReading loads limit stages heard heard' words (Some fault)
+    → DueOfTwo loads limit stages IsDue heard heard' words (Some fault)
+circuit_ends loads limit stages IsDue heard heard' words fault only due =
+    read_ends loads limit stages IsDue heard heard' words fault
+    (λ bytes_due h same. circuit_after bytes_due h heard' words same fault only) due
 
--- the texts were read, and nothing was due
-read_then : (loads : List Load) (limit : ℕ) (stages : List ℕ → List ℕ → List Stage) (heard now heard' : List Event)
-    (words : List (List ℕ)) (answer : Option Fault) → (reads : ReadsTwo limit stages heard now words None)
-    → Answers (stages reads.first reads.lib) answer → HeardAfter now heard' words answer
-    → DueOfTwo loads limit stages heard heard' words answer
+-- the texts were read, nothing was wrong with them, and these bytes were due
+read_then : (loads : List Load) (limit : ℕ) (stages : List ℕ → List ℕ → List Stage)
+    (IsDue : List ℕ → List ℕ → List ℕ → Type 0) (heard now heard' : List Event) (words : List (List ℕ))
+    (bytes : List ℕ) (answer : Option Fault) → (reads : ReadsDue limit stages IsDue heard now words bytes)
+    → Answers (stages reads.first reads.lib) answer
+    → HeardAfter (IsDue reads.first reads.lib) now heard' words answer
+    → DueOfTwo loads limit stages IsDue heard heard' words answer
 unfolding DueOfTwo
-read_then loads limit stages heard now heard' words answer reads answers after = inr (record {
+read_then loads limit stages IsDue heard now heard' words bytes answer reads answers after = inr (record {
   first = reads.first;
   lib = reads.lib;
   first_fits = reads.first_fits;
   lib_fits = reads.lib_fits;
   answers = answers;
-  heard_is = subst (λ h. HeardAfter h heard' words answer) reads.heard_is after;
+  heard_is = subst (λ h. HeardAfter (IsDue reads.first reads.lib) h heard' words answer) reads.heard_is after;
 })
 
 -- storing the file was refused
-stored_after : (now heard' : List Event) (words : List (List ℕ)) (name bytes : List ℕ) (fault : Fault)
-    → IsStoreFault fault → name ≡ word_at words 3 → HeardStored now heard' name bytes fault
-    → HeardAfter now heard' words (Some fault)
-stored_after now heard' words name bytes fault only same =
-    each_store (λ f. HeardStored now heard' name bytes f → HeardAfter now heard' words (Some f))
-    (λ h. h ∙ ap (λ n. NotCreated n store.Failed ∷ now) same) (λ h. tt)
-    (λ h. record { bytes = bytes; heard_is = h ∙ ap (λ n. NotClosed store.Failed ∷ took bytes (Created n ∷ now)) same })
-    (λ h. tt) fault only
+cuts_out : (IsDue : List ℕ → Type 0) (then_heard now heard' : List Event) (words : List (List ℕ))
+    (name bytes : List ℕ) → IsDue bytes → name ≡ word_at words 3 → TakesFirst then_heard now heard' name bytes
+    → CutsOut IsDue then_heard now heard' words
+cuts_out IsDue then_heard now heard' words name bytes due same first = record {
+  bytes = bytes;
+  due = due;
+  first = subst (λ n. TakesFirst then_heard now heard' n bytes) same first;
+}
 
-pub store_ends : (loads : List Load) (limit : ℕ) (stages : List ℕ → List ℕ → List Stage) (heard now heard' : List Event)
-    (words : List (List ℕ)) (name bytes : List ℕ) (fault : Fault) → ReadsTwo limit stages heard now words None
+leaves_out : (IsDue : List ℕ → Type 0) (why : StoreRefusal) (now heard' : List Event) (words : List (List ℕ))
+    (name bytes : List ℕ) → IsDue bytes → name ≡ word_at words 3 → IsLeft why now heard' name bytes
+    → LeavesOut IsDue why now heard' words
+leaves_out IsDue why now heard' words name bytes due same left = record {
+  bytes = bytes;
+  due = due;
+  heard_is = left ∙ ap (λ n. NotClosed why ∷ took bytes (Created n ∷ now)) same;
+}
+
+memory_ends : (IsDue : List ℕ → Type 0) (now heard' : List Event) (words : List (List ℕ)) (name bytes : List ℕ)
+    → IsDue bytes → name ≡ word_at words 3 → HeardStored now heard' name bytes Memory
+    → EndsForMemory IsDue now heard' words
+memory_ends IsDue now heard' words name bytes due same (inl made) =
+    inr (inl (made ∙ ap (λ n. NotCreated n store.Memory ∷ now) same))
+memory_ends IsDue now heard' words name bytes due same (inr (inl first)) =
+    inr (inr (inl (cuts_out IsDue [] now heard' words name bytes due same first)))
+memory_ends IsDue now heard' words name bytes due same (inr (inr (inl first))) =
+    inr (inr (inr (inl (cuts_out IsDue (NotAppended store.Memory ∷ []) now heard' words name bytes due same first))))
+memory_ends IsDue now heard' words name bytes due same (inr (inr (inr left))) =
+    inr (inr (inr (inr (inl (leaves_out IsDue store.Memory now heard' words name bytes due same left)))))
+
+stored_after : (IsDue : List ℕ → Type 0) (now heard' : List Event) (words : List (List ℕ)) (name bytes : List ℕ)
+    (fault : Fault) → IsStoreFault fault → IsDue bytes → name ≡ word_at words 3
+    → HeardStored now heard' name bytes fault → HeardAfter IsDue now heard' words (Some fault)
+stored_after IsDue now heard' words name bytes fault only due same =
+    each_store (λ f. HeardStored now heard' name bytes f → HeardAfter IsDue now heard' words (Some f))
+    (λ h. h ∙ ap (λ n. NotCreated n store.Failed ∷ now) same)
+    (cuts_out IsDue (NotAppended store.Failed ∷ []) now heard' words name bytes due same)
+    (leaves_out IsDue store.Failed now heard' words name bytes due same)
+    (memory_ends IsDue now heard' words name bytes due same) fault only
+
+pub store_ends : (loads : List Load) (limit : ℕ) (stages : List ℕ → List ℕ → List Stage)
+    (IsDue : List ℕ → List ℕ → List ℕ → Type 0) (heard now heard' : List Event) (words : List (List ℕ))
+    (name bytes : List ℕ) (fault : Fault) → ReadsDue limit stages IsDue heard now words bytes
     → IsStoreFault fault → name ≡ word_at words 3 → HeardStored now heard' name bytes fault
-    → DueOfTwo loads limit stages heard heard' words (Some fault)
-store_ends loads limit stages heard now heard' words name bytes fault reads only same after =
-    read_then loads limit stages heard now heard' words (Some fault) reads
+    → DueOfTwo loads limit stages IsDue heard heard' words (Some fault)
+store_ends loads limit stages IsDue heard now heard' words name bytes fault reads only same after =
+    read_then loads limit stages IsDue heard now heard' words bytes (Some fault) reads
     (each_store (λ f. Answers (stages reads.first reads.lib) (Some f)) reads.answers reads.answers reads.answers tt
     fault only)
-    (stored_after now heard' words name bytes fault only same after)
+    (stored_after (IsDue reads.first reads.lib) now heard' words name bytes fault only reads.due same after)
 
 -- it was stored, and the counts were printed or not
-pub counts_end : (loads : List Load) (limit : ℕ) (stages : List ℕ → List ℕ → List Stage) (heard now heard' : List Event)
-    (words : List (List ℕ)) (name bytes : List ℕ) (result : Result (Unit {0}) Fault)
-    → ReadsTwo limit stages heard now words None → name ≡ word_at words 3 → heard' ≡ stored now name bytes
-    → IfErr result IsOutOrMemory → DueOfTwo loads limit stages heard heard' words (result_err result)
-counts_end loads limit stages heard now heard' words name bytes result reads same is only =
-    let out : StoresOut now heard' words =
-    record { bytes = bytes; heard_is = is ∙ ap (λ n. stored now n bytes) same } in
-    read_then loads limit stages heard now heard' words (result_err result) reads
+pub counts_end : (loads : List Load) (limit : ℕ) (stages : List ℕ → List ℕ → List Stage)
+    (IsDue : List ℕ → List ℕ → List ℕ → Type 0) (heard now heard' : List Event) (words : List (List ℕ))
+    (name bytes : List ℕ) (result : Result (Unit {0}) Fault) → ReadsDue limit stages IsDue heard now words bytes
+    → name ≡ word_at words 3 → heard' ≡ stored now name bytes → IfErr result IsOutOrMemory
+    → DueOfTwo loads limit stages IsDue heard heard' words (result_err result)
+counts_end loads limit stages IsDue heard now heard' words name bytes result reads same is only =
+    let bytes_due : List ℕ → Type 0 = IsDue reads.first reads.lib in
+    let out : StoresOut bytes_due now heard' words =
+    record { bytes = bytes; due = reads.due; heard_is = is ∙ ap (λ n. stored now n bytes) same } in
+    read_then loads limit stages IsDue heard now heard' words bytes (result_err result) reads
     (out_answers (stages reads.first reads.lib) result reads.answers only)
-    (each_out (λ r. HeardAfter now heard' words (result_err r)) out out tt result only)
+    (each_out (λ r. HeardAfter bytes_due now heard' words (result_err r)) out out
+    (inr (inr (inr (inr (inr out))))) result only)
 
 pub ruleset build_dues = (heard_built, design_ends, store_ends, counts_end)
 
@@ -310,7 +385,8 @@ pub ruleset write_dues = (heard_written, circuit_ends, store_ends, counts_end)
 -- Each command.
 
 pub make_due : (planner : Planner) (words : List (List ℕ)) (heard heard' : List Event) (answer : Option Fault)
-    → IsMakeBy planner words → DueOfTwo build_loads net_limit (design_stages planner) heard heard' words answer
+    → IsMakeBy planner words
+    → DueOfTwo build_loads net_limit (design_stages planner) (IsStreamBy planner) heard heard' words answer
     → HearsDue heard heard' words answer
 make_due planner words heard heard' answer form due = record { form = Make planner; is_form = form; due = due }
 
@@ -327,7 +403,8 @@ pub equal_due : (words : List (List ℕ)) (heard heard' : List Event) (answer : 
 equal_due words heard heard' answer form due = record { form = Equal; is_form = form; due = due }
 
 pub write_due : (words : List (List ℕ)) (heard heard' : List Event) (answer : Option Fault) → IsWrite words
-    → DueOfTwo write_loads gds_limit circuit_stages heard heard' words answer → HearsDue heard heard' words answer
+    → DueOfTwo write_loads gds_limit circuit_stages IsTextOf heard heard' words answer
+    → HearsDue heard heard' words answer
 write_due words heard heard' answer form due = record { form = Write; is_form = form; due = due }
 
 pub report_due : (words : List (List ℕ)) (heard heard' : List Event) (answer : Option Fault) → IsReport words

@@ -4,7 +4,7 @@ use Rattle.geom.specs.FlatForm.{flat_count}
 use Rattle.poly_cut.specs.declared.layout.WideLayout.{WideLayout}
 use Rattle.poly_cut.specs.FlatForm.{wide_flat}
 use Rattle.gds_records.specs.Stream.{IsWideStream}
-use Rattle.aqfp_top.specs.Shown.{IsPastShapes, IsNumberFault}
+use Rattle.aqfp_top.specs.Shown.{IsNumberFault}
 use Rattle.aqfp_top.specs.declared.fault.Fault.{Fault}
 use Rattle.aqfp_top.specs.declared.fault.Fault.TheVariants.{NoShape}
 

@@ -1,5 +1,5 @@
 -- What is printed of a text, and how printing may end.
-use Rattle.std.proofs.Common.{ℕ, ◌≡◌, List, Option, Some, None, Result, Ok, Err, IfErr, OnOk, OnErr, refl, inl, inr}
+use Rattle.std.proofs.Common.{ℕ, ◌≡◌, List, Option, Some, None, Result, IfErr, OnOk, OnErr, refl, inl, inr}
 use Rattle.std.specs.Result.{result_err}
 use Rattle.aq_base.specs.Store.{gained, GainsPrefix}
 use Rattle.aqfp_top.specs.Stages.{Stage, IsFirst, Answers}

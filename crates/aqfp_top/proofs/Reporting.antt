@@ -1,10 +1,10 @@
 -- From the clauses of the steps of a report to its own.
-use Rattle.std.proofs.Common.{ℕ, ◌≡◌, ◌≤◌, ◌<◌, ◌^◌, List, [], length, Option, Some, None, Result, Ok, Err, IfErr, OnOk}
-use Rattle.std.proofs.Common.{refl, sym, ap, subst, arith}
+use Rattle.std.proofs.Common.{ℕ, ◌≡◌, ◌≤◌, ◌<◌, ◌^◌, List, length, Option, Some, None, Result, Ok, Err, IfErr, OnOk}
+use Rattle.std.proofs.Common.{refl, ap, subst}
 use Rattle.std.specs.Result.{result_err}
 use Rattle.aq_base.specs.Causes.{Rose}
 use Rattle.aq_base.specs.Heard.{Event}
-use Rattle.aq_base.specs.Store.{Contents, gained}
+use Rattle.aq_base.specs.Store.{Contents}
 use Rattle.geom.specs.declared.shapes.Flat.{Flat}
 use Rattle.geom.specs.FlatForm.{flat_count}
 use Rattle.poly_cut.specs.declared.layout.WideLayout.{WideLayout}
@@ -20,7 +20,7 @@ use Rattle.shape_extract.specs.Extracts.{Extracts}
 use Rattle.layout_report.specs.ReportText.{report_text}
 use Rattle.aqfp_top.specs.Counted.{Counts, HasFaults, FailedLoad}
 use Rattle.aqfp_top.specs.Loads.{gds_limit, lib_limit, write_loads}
-use Rattle.aqfp_top.specs.Stages.{Stage, IsFirst, Answers}
+use Rattle.aqfp_top.specs.Stages.{IsFirst, Answers}
 use Rattle.aqfp_top.specs.Due.{circuit_stages, write_stages}
 use Rattle.aqfp_top.specs.Faults.{IsReportFault}
 use Rattle.aqfp_top.specs.Histories.{loaded}
@@ -31,14 +31,14 @@ use Rattle.aqfp_top.specs.Code.Loading.{IsFaultOfLoads}
 use Rattle.aqfp_top.specs.Code.Staging.{ToldAnswers}
 use Rattle.aqfp_top.specs.Code.Building.{IsOutOrMemory, IsReadOf}
 use Rattle.aqfp_top.specs.Code.Checking.{IsRuled, IsCircuitFault}
-use Rattle.aqfp_top.specs.Code.Reporting.{KeepsAll, IsJudged, IsLayoutFault, IsPrintingFault}
+use Rattle.aqfp_top.specs.Code.Reporting.{IsJudged, IsLayoutFault, IsPrintingFault}
 use Rattle.aqfp_top.specs.declared.chip_report.JudgedChip.{JudgedChip}
 use Rattle.aqfp_top.specs.declared.fault.WriteCall.TheVariants.{Out}
 use Rattle.aqfp_top.specs.declared.fault.Fault.{Fault}
 use Rattle.aqfp_top.specs.declared.fault.Fault.TheVariants.{WriteFault}
 use Rattle.aqfp_top.proofs.EachFault.{each_of_loads, each_circuit, each_layout, each_printing, each_out}
 use Rattle.aqfp_top.proofs.Judging.{IsRead, circuit_is_well}
-use Rattle.aqfp_top.proofs.Printing.{prints_more, out_prints, out_answers, loads_print}
+use Rattle.aqfp_top.proofs.Printing.{prints_more, loads_print}
 use Rattle.aqfp_top.proofs.WriteSteps.{told_answer}
 
 -- The chip of the texts.

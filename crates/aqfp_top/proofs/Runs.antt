@@ -21,7 +21,7 @@ use Rattle.aqfp_top.specs.declared.planner.Planner.{Planner}
 use Rattle.aqfp_top.specs.declared.words.Form.TheVariants.{Make, Verify, Trace, Equal, Write, Report, Shapes, Sample, Wrong}
 use Rattle.aqfp_top.specs.declared.check.Printing.TheVariants.{Answers, Fluxes}
 use Rattle.aqfp_top.specs.declared.fault.Fault.{Fault}
-use Rattle.aqfp_top.specs.declared.fault.Fault.TheVariants.{Usage, Absent, TooLong, ReadFault, WriteFault}
+use Rattle.aqfp_top.specs.declared.fault.Fault.TheVariants.{Usage, Absent, TooLong, ReadFault}
 use Rattle.aqfp_top.proofs.Sampling.{sample_failed}
 use Rattle.aqfp_top.proofs.Forms.{is_make, one_planner, four_words, make_not_sample, make_not_check, make_not_verify, make_not_trace}
 use Rattle.aqfp_top.proofs.Forms.{make_not_equal, make_not_write, verify_not_sample, trace_not_sample, check_not_sample}

@@ -1,6 +1,6 @@
 -- From the clauses of the steps of naming shapes to its own.
 use Rattle.std.proofs.Common.{ℕ, ◌≡◌, ◌≤◌, ◌<◌, ◌⊎◌, List, [], ◌∷◌, ◌++◌, length, Option, Some, None, Result, Ok, Err, IfErr}
-use Rattle.std.proofs.Common.{OnOk, OnErr, Vec, refl, sym, ap, subst, inl, inr, ◌∙◌, arith}
+use Rattle.std.proofs.Common.{OnOk, Vec, refl, sym, subst, inl, inr, arith}
 use Rattle.std.specs.Result.{result_err}
 use Rattle.std.specs.declared.alloc.Global.{Global}
 use Rattle.aq_base.specs.Causes.{Rose}
@@ -14,16 +14,15 @@ use Rattle.gds_records.specs.Stream.{IsWideStream}
 use Rattle.layout_report.specs.ShapeLines.{shape_line}
 use Rattle.aqfp_top.specs.Words.{word_at}
 use Rattle.aqfp_top.specs.Counted.{Counts, HasFaults, FailedLoad}
-use Rattle.aqfp_top.specs.Loads.{gds_limit, shapes_loads}
+use Rattle.aqfp_top.specs.Loads.{gds_limit}
 use Rattle.aqfp_top.specs.Stages as stage
 use Rattle.aqfp_top.specs.Stages.{Stage, FindsNone, IsFirst, Answers}
 use Rattle.aqfp_top.specs.Due.{bytes_at, showing_stages, shapes_stages}
 use Rattle.aqfp_top.specs.Faults.{IsShapesFault}
-use Rattle.aqfp_top.specs.Printed.{Prints, TextPrints}
-use Rattle.aqfp_top.specs.Shown.{IsNoShape, IsNumberFault, HasLines, AreShapes, ToldLayout, IsShownOf, HearsShapes}
+use Rattle.aqfp_top.specs.Printed.{TextPrints}
+use Rattle.aqfp_top.specs.Shown.{IsNoShape, HasLines, AreShapes, ToldLayout, IsShownOf, HearsShapes}
 use Rattle.aqfp_top.specs.Code.Loading.{ToldLoadsWord, IsFaultOfLoad}
 use Rattle.aqfp_top.specs.Code.Staging.{ToldAnswers}
-use Rattle.aqfp_top.specs.Code.Building.{IsOutOrMemory}
 use Rattle.aqfp_top.specs.Code.Reporting.{IsLayoutFault, IsPastFault, IsNamingFault, IsShowingFault}
 use Rattle.aqfp_top.specs.declared.fault.WriteCall.TheVariants.{Create, Append, Close, Out}
 use Rattle.aqfp_top.specs.declared.fault.Fault.{Fault}

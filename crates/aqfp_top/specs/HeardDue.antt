@@ -1,15 +1,25 @@
 -- Which answer is due by what a store was heard to give, told or not. The files of a command are loaded in turn. The
 -- answer says why a load was refused, or it is what the stages of the texts that the loads gave may answer.
-use Rattle.std.specs.Prelude.{ℕ, ◌≡◌, ◌⊎◌, ◌<◌, ◌≤◌, List, [], ◌∷◌, length, Option, Some, None, IsSomeAnd}
+use Rattle.std.specs.Prelude.{ℕ, ◌≡◌, ◌⊎◌, ◌<◌, ◌≤◌, List, [], ◌∷◌, ◌++◌, length, take, Option, Some, None, IsSomeAnd}
+use Rattle.std.specs.Prelude.{Result}
 use Rattle.aq_base.specs.declared.store.LoadRefusal.TheVariants as refusal
+use Rattle.aq_base.specs.declared.store.StoreRefusal.{StoreRefusal}
 use Rattle.aq_base.specs.declared.store.StoreRefusal.TheVariants as store
-use Rattle.aq_base.specs.Heard.{Event, Loaded, NotLoaded, Created, NotCreated, NotClosed, took}
+use Rattle.aq_base.specs.Heard.{Event, Loaded, NotLoaded, Created, NotCreated, NotAppended, NotClosed, took, close_event}
+use Rattle.blif_read.specs.Parts.{NetView}
+use Rattle.cell_library.specs.Library.{LibraryView}
+use Rattle.rowed.specs.PlacedNets.{PlacedView}
+use Rattle.chip_circuit.specs.Circuits.{CircuitView}
+use Rattle.blif_flat.specs.BlifText.{blif_text}
 use Rattle.aqfp_top.specs.Words.{word_at, IsOfForm}
 use Rattle.aqfp_top.specs.Loads.{Load, net_limit, lib_limit, gds_limit, words_limit}
 use Rattle.aqfp_top.specs.Loads.{build_loads, check_loads, equal_loads, write_loads, shapes_loads}
 use Rattle.aqfp_top.specs.Stages.{Stage, Answers}
 use Rattle.aqfp_top.specs.Due.{design_stages, circuit_stages, judging_stages, comparing_stages, showing_stages, sample_stages}
+use Rattle.aqfp_top.specs.Designs.{SaysDesign, IsChipFor, IsPlanBy, stream_of}
+use Rattle.aqfp_top.specs.Checks.{MakesCircuit}
 use Rattle.aqfp_top.specs.Histories.{loaded, loaded_three, stored}
+use Rattle.aqfp_top.specs.declared.planner.Planner.{Planner}
 use Rattle.aqfp_top.specs.declared.words.Form.{Form}
 use Rattle.aqfp_top.specs.declared.words.Form.TheVariants.{Make, Verify, Trace, Equal, Write, Report, Shapes, Sample, Wrong}
 use Rattle.aqfp_top.specs.declared.fault.WriteCall.TheVariants.{Create, Append, Close, Out}
@@ -88,51 +98,98 @@ unfoldable pub DueOfOne : (List ℕ → List Stage) → List Event → List Even
 DueOfOne stages heard heard' words answer =
     IsSomeAnd answer (RefusesOne shapes_loads words heard heard') ⊎ JudgesOne stages heard heard' words answer
 
--- OUT was made, took some bytes and was closed
-pub record StoresOut (heard heard' : List Event) (words : List (List ℕ)) : Type 0 where
+-- these are the bytes that a chip of the texts of NET and LIB is to be stored as, by this plan
+pub record IsStreamBy (planner : Planner) (net lib bytes : List ℕ) : Type 0 where
+  pub equations : NetView
+  pub cells : LibraryView
+  pub says : SaysDesign net lib equations cells
+  pub chip : PlacedView
+  pub of_net : IsChipFor equations cells chip
+  pub planned : IsPlanBy planner equations cells chip
+  pub bytes_are : bytes ≡ stream_of chip cells
+
+-- these are the bytes of the netlist of the circuit that the texts of GDS and LIB make
+pub record IsTextOf (gds lib bytes : List ℕ) : Type 0 where
+  pub circuit : CircuitView
+  pub makes : MakesCircuit gds lib circuit
+  pub bytes_are : bytes ≡ blif_text circuit
+
+-- OUT was made, took the bytes that were due and was closed
+pub record StoresOut (IsDue : List ℕ → Type 0) (heard heard' : List Event) (words : List (List ℕ)) : Type 0 where
   pub bytes : List ℕ
+  pub due : IsDue bytes
   pub heard_is : heard' ≡ stored heard (word_at words 3) bytes
 
--- the same, but that closing failed
-pub record LeavesOut (heard heard' : List Event) (words : List (List ℕ)) : Type 0 where
+-- the same, but that closing was refused
+pub record LeavesOut (IsDue : List ℕ → Type 0) (why : StoreRefusal) (heard heard' : List Event)
+    (words : List (List ℕ)) : Type 0 where
   pub bytes : List ℕ
-  pub heard_is : heard' ≡ NotClosed store.Failed ∷ took bytes (Created (word_at words 3) ∷ heard)
+  pub due : IsDue bytes
+  pub heard_is : heard' ≡ NotClosed why ∷ took bytes (Created (word_at words 3) ∷ heard)
 
--- What was heard after the loads of a command that writes OUT: nothing, where nothing was to be written. What was heard
--- where an `append` was refused, or where memory ran out, is not said.
-abbrev pub HeardAfter : List Event → List Event → List (List ℕ) → Option Fault → Type 0
-HeardAfter heard heard' words None = StoresOut heard heard' words
-HeardAfter heard heard' words (Some (WriteFault Create)) = heard' ≡ NotCreated (word_at words 3) store.Failed ∷ heard
-HeardAfter heard heard' words (Some (WriteFault Append)) = Unit {0}
-HeardAfter heard heard' words (Some (WriteFault Close)) = LeavesOut heard heard' words
-HeardAfter heard heard' words (Some (WriteFault Out)) = StoresOut heard heard' words
-HeardAfter heard heard' words (Some Memory) = Unit {0}
-HeardAfter heard heard' words (Some fault) = heard' ≡ heard
+-- a file of this name was made and took some first bytes of these; then this was heard, and closing was answered
+pub record TakesFirst (then_heard : List Event) (heard heard' : List Event) (name bytes : List ℕ) : Type 0 where
+  pub count : ℕ
+  pub within : count ≤ length bytes
+  pub closing : Result (Unit {0}) StoreRefusal
+  pub heard_is : heard' ≡ close_event closing ∷ then_heard ++ took (take count bytes) (Created name ∷ heard)
 
--- the first file and LIB gave these texts, and their stages may answer this
-pub record JudgesTwo (limit : ℕ) (stages : List ℕ → List ℕ → List Stage) (heard heard' : List Event)
-    (words : List (List ℕ)) (answer : Option Fault) : Type 0 where
+-- OUT was made and took some first bytes of those that were due; then this was heard, and closing was answered
+pub record CutsOut (IsDue : List ℕ → Type 0) (then_heard : List Event) (heard heard' : List Event)
+    (words : List (List ℕ)) : Type 0 where
+  pub bytes : List ℕ
+  pub due : IsDue bytes
+  pub first : TakesFirst then_heard heard heard' (word_at words 3) bytes
+
+-- What was heard where memory ran out: nothing, before OUT was to be made; or OUT was not made for want of it; or OUT took
+-- some first bytes, and the writer wanted it, or the store; or closing was refused for it; or OUT was stored, and
+-- printing wanted it.
+abbrev pub EndsForMemory : (List ℕ → Type 0) → List Event → List Event → List (List ℕ) → Type 0
+EndsForMemory IsDue heard heard' words =
+    (heard' ≡ heard)
+    ⊎ ((heard' ≡ NotCreated (word_at words 3) store.Memory ∷ heard)
+    ⊎ (CutsOut IsDue [] heard heard' words
+    ⊎ (CutsOut IsDue (NotAppended store.Memory ∷ []) heard heard' words
+    ⊎ (LeavesOut IsDue store.Memory heard heard' words
+    ⊎ StoresOut IsDue heard heard' words))))
+
+-- what was heard after the loads of a command that writes OUT: nothing, where nothing was to be written
+abbrev pub HeardAfter : (List ℕ → Type 0) → List Event → List Event → List (List ℕ) → Option Fault → Type 0
+HeardAfter IsDue heard heard' words None = StoresOut IsDue heard heard' words
+HeardAfter IsDue heard heard' words (Some (WriteFault Create)) =
+    heard' ≡ NotCreated (word_at words 3) store.Failed ∷ heard
+HeardAfter IsDue heard heard' words (Some (WriteFault Append)) =
+    CutsOut IsDue (NotAppended store.Failed ∷ []) heard heard' words
+HeardAfter IsDue heard heard' words (Some (WriteFault Close)) = LeavesOut IsDue store.Failed heard heard' words
+HeardAfter IsDue heard heard' words (Some (WriteFault Out)) = StoresOut IsDue heard heard' words
+HeardAfter IsDue heard heard' words (Some Memory) = EndsForMemory IsDue heard heard' words
+HeardAfter IsDue heard heard' words (Some fault) = heard' ≡ heard
+
+-- the first file and LIB gave these texts, and their stages may answer this; where OUT is written, it takes these bytes
+pub record JudgesTwo (limit : ℕ) (stages : List ℕ → List ℕ → List Stage) (IsDue : List ℕ → List ℕ → List ℕ → Type 0)
+    (heard heard' : List Event) (words : List (List ℕ)) (answer : Option Fault) : Type 0 where
   pub first : List ℕ
   pub lib : List ℕ
   pub first_fits : length first ≤ limit
   pub lib_fits : length lib ≤ lib_limit
   pub answers : Answers (stages first lib) answer
-  pub heard_is : HeardAfter (loaded heard words first lib) heard' words answer
+  pub heard_is : HeardAfter (IsDue first lib) (loaded heard words first lib) heard' words answer
 
 -- of two files: a load was refused, or the texts may answer this
-unfoldable pub DueOfTwo : List Load → ℕ → (List ℕ → List ℕ → List Stage) → List Event → List Event → List (List ℕ)
-    → Option Fault → Type 0
-DueOfTwo loads limit stages heard heard' words answer =
-    IsSomeAnd answer (RefusesOne loads words heard heard') ⊎ JudgesTwo limit stages heard heard' words answer
+unfoldable pub DueOfTwo : List Load → ℕ → (List ℕ → List ℕ → List Stage) → (List ℕ → List ℕ → List ℕ → Type 0)
+    → List Event → List Event → List (List ℕ) → Option Fault → Type 0
+DueOfTwo loads limit stages IsDue heard heard' words answer =
+    IsSomeAnd answer (RefusesOne loads words heard heard') ⊎ JudgesTwo limit stages IsDue heard heard' words answer
 
 -- by the form of the words; a sample asks for no file, nor do words of no form
 abbrev pub DueByForm : Form → List Event → List Event → List (List ℕ) → Option Fault → Type 0
 DueByForm (Make planner) heard heard' words answer =
-    DueOfTwo build_loads net_limit (design_stages planner) heard heard' words answer
+    DueOfTwo build_loads net_limit (design_stages planner) (IsStreamBy planner) heard heard' words answer
 DueByForm Verify heard heard' words answer = DueOfThree check_loads judging_stages heard heard' words answer
 DueByForm Trace heard heard' words answer = DueOfThree check_loads judging_stages heard heard' words answer
 DueByForm Equal heard heard' words answer = DueOfThree equal_loads comparing_stages heard heard' words answer
-DueByForm Write heard heard' words answer = DueOfTwo write_loads gds_limit circuit_stages heard heard' words answer
+DueByForm Write heard heard' words answer =
+    DueOfTwo write_loads gds_limit circuit_stages IsTextOf heard heard' words answer
 DueByForm Report heard heard' words answer =
     DueOfReading write_loads gds_limit circuit_stages heard heard' words answer
 DueByForm (Shapes first second) heard heard' words answer =

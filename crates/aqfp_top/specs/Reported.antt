@@ -1,5 +1,5 @@
 -- What `report` prints of the texts of a layout and of a library.
-use Rattle.std.specs.Prelude.{ℕ, ◌≡◌, List, ◌++◌, Option, Some}
+use Rattle.std.specs.Prelude.{ℕ, ◌≡◌, List, Option, Some}
 use Rattle.aq_base.specs.Store.{Contents, gained}
 use Rattle.aq_base.specs.Heard.{Event}
 use Rattle.poly_cut.specs.FlatForm.{wide_flat}

@@ -115,7 +115,7 @@ pub fn aqfp_run<F: Files, O: Sink, E: Sink>(
     ensures failed { IsSome (F.told files.old) → FailedLoad (F.load_failed files.new) (spelled words.now) result.fault }
 
     // The same of any store, the system's files too. By what was heard the answer says why a load was refused, or it is
-    // what the texts may answer that all loads gave.
+    // what the texts may answer that all loads gave; and of the bytes that were due OUT took what that answer tells.
     ensures hears_due { HearsDue (F.heard files.old) (F.heard files.new) (spelled words.now) result.fault }
 
     // Which faults a command may answer, whatever the store tells; the usage where there is none.

@@ -8,3 +8,8 @@ use Rattle.blif_flat.specs.declared.writing.refusal.WriteBlifRefusal.TheVariants
 abbrev pub refusal_of : StoreRefusal → WriteBlifRefusal
 refusal_of store.Failed = Failed
 refusal_of store.Memory = Memory
+
+-- why the store or memory was refused, by the writer's refusal
+abbrev pub cause_of : WriteBlifRefusal → StoreRefusal
+cause_of Failed = store.Failed
+cause_of Memory = store.Memory

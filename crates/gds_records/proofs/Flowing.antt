@@ -1,12 +1,17 @@
 -- Bytes that pass through a buffer, one part after another.
-use Rattle.std.proofs.Common.{◌≡◌, ℕ, ◌+◌, ◌-◌, ◌<◌, ◌≤◌, List, [], ◌∷◌, ◌++◌, Bool, true, false, cond, take, drop, length, Option, Some, None, option_map, append_assoc, append-nil, refl, ap, sym, ◌∙◌, arith}
+use Rattle.std.proofs.Common.{◌≡◌, ℕ, ◌+◌, ◌-◌, ◌<◌, ◌≤◌, List, [], ◌∷◌, ◌++◌, Bool, true, false, cond, take, drop, length, Option, Some, None, option_map, append_assoc, append-nil, refl, ap, sym, subst, inl, inr, ◌∙◌, arith}
 use Rattle.std.specs.List.{copy_within}
 use Rattle.std.proofs.lemmas.List.{take-append-drop, length-append, length-drop, take_more}
 use Rattle.std.proofs.lemmas.List.Edits.{paste_all}
 use Rattle.std.proofs.Math.Seq.{take-append_seam, take-length}
-use Rattle.std.specs.Prelude.{Result, Ok, Err, OnErr}
+use Rattle.std.specs.Prelude.{Result, IfErr, IsErrAnd}
+use Rattle.std.proofs.lemmas.Result.{err_from_is_err_and}
 use Rattle.std.specs.Str.{bytes_eq}
-use Rattle.aq_base.specs.Store.{Contents, with_growth, told_grown, GrowsPrefix}
+use Rattle.aq_base.specs.Store.{Contents, with_growth, told_grown}
+use Rattle.aq_base.specs.Heard.{Event, took, TakesPart}
+use Rattle.aq_base.specs.declared.store.StoreRefusal.{StoreRefusal}
+use Rattle.aq_base.specs.declared.store.StoreRefusal.TheVariants as store
+use Rattle.aq_base.proofs.Hearing.{took-took}
 use Rattle.std.specs.Prelude.{slice_index_or}
 use Rattle.std.specs.List.{flat_map}
 use Rattle.std.proofs.lemmas.List.Concat.{flat_map-append}
@@ -18,88 +23,113 @@ use Rattle.gds_records.specs.Codes.{BGNSTR, STRNAME, ENDSTR, ENDLIB, NO_DATA, TW
 use Rattle.gds_records.specs.Records.{Record, record_with, spelled}
 use Rattle.gds_records.specs.Writing.{padded, dates, element_records, structure_records, library_head, bytes_of}
 use Rattle.gds_records.specs.Buffer.{Gains}
-use Rattle.gds_records.specs.Flow.{Flows, FlowsPart}
+use Rattle.gds_records.specs.Flow.{Outside, grown, Stops, StopsWithin, Flows, FlowsPart}
+use Rattle.gds_records.specs.Refusal.{refusal_of, cause_of}
+
+abbrev Made : Option Contents → List Event → Option (List ℕ) → Outside
+Made told heard opened = record { told = told; heard = heard; opened = opened }
 
 no_growth : (b : Bool) (x : Option (List ℕ)) → cond b (option_map (λ b. b ++ []) x) x ≡ x
 no_growth true None = refl
 no_growth true (Some bytes) = ap (λ b. Some b) (append-nil bytes)
 no_growth false x = refl
 
-grown_nothing : (told : Option Contents) (name : Option (List ℕ)) → told ≡ told_grown told name []
+told_nothing : (told : Option Contents) (name : Option (List ℕ)) → told ≡ told_grown told name []
 unfolding with_growth
-grown_nothing None name = refl
-grown_nothing (Some files) None = refl
-grown_nothing (Some files) (Some name) = ap (λ (f : Contents). Some f) (λ i other. sym (no_growth (bytes_eq name other) (files other)) i)
+told_nothing None name = refl
+told_nothing (Some files) None = refl
+told_nothing (Some files) (Some name) = ap (λ (f : Contents). Some f) (λ i other. sym (no_growth (bytes_eq name other) (files other)) i)
 
 grows_twice : (b : Bool) (p q : List ℕ) (x : Option (List ℕ)) → cond b (option_map (λ b. b ++ q) (cond b (option_map (λ b. b ++ p) x) x)) (cond b (option_map (λ b. b ++ p) x) x) ≡ cond b (option_map (λ b. b ++ (p ++ q)) x) x
 grows_twice true p q None = refl
 grows_twice true p q (Some bytes) = ap (λ b. Some b) (append_assoc bytes p q)
 grows_twice false p q x = refl
 
-grown_twice : (told : Option Contents) (name : Option (List ℕ)) (p q : List ℕ) → told_grown (told_grown told name p) name q ≡ told_grown told name (p ++ q)
+told_twice : (told : Option Contents) (name : Option (List ℕ)) (p q : List ℕ) → told_grown (told_grown told name p) name q ≡ told_grown told name (p ++ q)
 unfolding with_growth
-grown_twice None name p q = refl
-grown_twice (Some files) None p q = refl
-grown_twice (Some files) (Some name) p q = ap (λ (f : Contents). Some f) (λ i other. grows_twice (bytes_eq name other) p q (files other) i)
+told_twice None name p q = refl
+told_twice (Some files) None p q = refl
+told_twice (Some files) (Some name) p q = ap (λ (f : Contents). Some f) (λ i other. grows_twice (bytes_eq name other) p q (files other) i)
+
+-- ---- what is taken one behind the other
+
+pub grown_nothing : (o : Outside) → o ≡ grown [] o
+grown_nothing o = λ i. record { told = told_nothing o.told o.opened i; heard = o.heard; opened = o.opened }
+
+pub grown_twice : (o : Outside) (p q : List ℕ) → grown q (grown p o) ≡ grown (p ++ q) o
+grown_twice o p q = λ i. record { told = told_twice o.told o.opened p q i; heard = took-took o.heard p q i; opened = o.opened }
+
+-- by what the store says of a call
+pub grown_by : (t t' : Option Contents) (h h' : List Event) (n n' : Option (List ℕ)) (piece : List ℕ) → t' ≡ told_grown t n piece → h' ≡ took piece h → n' ≡ n
+    → Made t' h' n' ≡ grown piece (Made t h n)
+grown_by t t' h h' n n' piece a b c = λ i. record { told = a i; heard = b i; opened = c i }
+
+pub stops_by : {t t' : Option Contents} {h h' : List Event} {n n' : Option (List ℕ)} {piece : List ℕ} (why : StoreRefusal) → TakesPart t t' n h h' piece why → n' ≡ n
+    → StopsWithin (Made t h n) (Made t' h' n') piece why
+stops_by {t = t} {h = h} {n = n} {piece = piece} store.Failed p c = record { count = p.count; within = p.within; stops = λ i. record { told = p.growth i; heard = p.taken i; opened = c i } }
+stops_by {t = t} {h = h} {n = n} {piece = piece} store.Memory p c = record { count = p.count; within = p.within; stops = inr (λ i. record { told = p.growth i; heard = p.taken i; opened = c i }) }
+
+-- ---- through a buffer
 
 -- what is only put into the buffer
-pub flows_put : {held held' bytes : List ℕ} (told : Option Contents) (name : Option (List ℕ)) → Gains held held' bytes → Flows told told name held held' bytes
-flows_put told name g = record { sent = []; grown = grown_nothing told name; all = g.whole }
+pub flows_put : {held held' bytes : List ℕ} (o : Outside) → Gains held held' bytes → Flows o o held held' bytes
+flows_put o g = record { sent = []; grows = grown_nothing o; all = g.whole }
 
-pub flows_nothing : (told : Option Contents) (name : Option (List ℕ)) (held : List ℕ) → Flows told told name held held []
-flows_nothing told name held = record { sent = []; grown = grown_nothing told name; all = sym (append-nil held) }
+pub flows_nothing : (o : Outside) (held : List ℕ) → Flows o o held held []
+flows_nothing o held = record { sent = []; grows = grown_nothing o; all = sym (append-nil held) }
 
-pub flows_then : {t0 t1 t2 : Option Contents} {name : Option (List ℕ)} {h0 h1 h2 p q : List ℕ} → Flows t0 t1 name h0 h1 p → Flows t1 t2 name h1 h2 q → Flows t0 t2 name h0 h2 (p ++ q)
-flows_then {t0 = t0} {name = name} {h0 = h0} {h1 = h1} {h2 = h2} {p = p} {q = q} a b = record {
+pub flows_then : {o0 o1 o2 : Outside} {h0 h1 h2 p q : List ℕ} → Flows o0 o1 h0 h1 p → Flows o1 o2 h1 h2 q → Flows o0 o2 h0 h2 (p ++ q)
+flows_then {o0 = o0} {h0 = h0} {h1 = h1} {h2 = h2} {p = p} {q = q} a b = record {
   sent = a.sent ++ b.sent;
-  grown = b.grown ∙ ap (λ (t : Option Contents). told_grown t name b.sent) a.grown ∙ grown_twice t0 name a.sent b.sent;
+  grows = b.grows ∙ ap (grown b.sent) a.grows ∙ grown_twice o0 a.sent b.sent;
   all = append_assoc a.sent b.sent h2 ∙ ap (λ (x : List ℕ). a.sent ++ x) b.all ∙ sym (append_assoc a.sent h1 q) ∙ ap (λ (x : List ℕ). x ++ q) a.all ∙ append_assoc h0 p q;
 }
 
-pub part_then : {t0 t1 t2 : Option Contents} {name : Option (List ℕ)} {h0 h1 p q : List ℕ} → Flows t0 t1 name h0 h1 p → FlowsPart t1 t2 name h1 q → FlowsPart t0 t2 name h0 (p ++ q)
-part_then {t0 = t0} {name = name} {h0 = h0} {h1 = h1} {p = p} {q = q} a b = record {
+pub part_then : {o0 o1 o2 : Outside} {h0 h1 p q : List ℕ} {why : StoreRefusal} → Flows o0 o1 h0 h1 p → FlowsPart o1 o2 h1 q why → FlowsPart o0 o2 h0 (p ++ q) why
+part_then {o0 = o0} {o2 = o2} {h0 = h0} {h1 = h1} {p = p} {q = q} {why = why} a b = record {
   sent = a.sent ++ b.sent;
   unsent = b.unsent;
-  grown = b.grown ∙ ap (λ (t : Option Contents). told_grown t name b.sent) a.grown ∙ grown_twice t0 name a.sent b.sent;
+  stops = subst (λ o. Stops why o o2) (ap (grown b.sent) a.grows ∙ grown_twice o0 a.sent b.sent) b.stops;
   all = append_assoc a.sent b.sent b.unsent ∙ ap (λ (x : List ℕ). a.sent ++ x) b.all ∙ sym (append_assoc a.sent h1 q) ∙ ap (λ (x : List ℕ). x ++ q) a.all ∙ append_assoc h0 p q;
 }
 
-pub flows_part : {t0 t1 : Option Contents} {name : Option (List ℕ)} {h0 h1 p : List ℕ} → Flows t0 t1 name h0 h1 p → FlowsPart t0 t1 name h0 p
-flows_part {h1 = h1} a = record { sent = a.sent; unsent = h1; grown = a.grown; all = a.all }
+-- memory was refused before the store was asked again
+pub flows_part : {o0 o1 : Outside} {h0 h1 p : List ℕ} → Flows o0 o1 h0 h1 p → FlowsPart o0 o1 h0 p store.Memory
+flows_part {h1 = h1} a = record { sent = a.sent; unsent = h1; stops = inl a.grows; all = a.all }
 
 -- nothing has been sent yet
-pub part_none : (told : Option Contents) (name : Option (List ℕ)) (held bytes : List ℕ) → FlowsPart told told name held bytes
-part_none told name held bytes = record { sent = []; unsent = held ++ bytes; grown = grown_nothing told name; all = refl }
+pub part_none : (o : Outside) (held bytes : List ℕ) → FlowsPart o o held bytes store.Memory
+part_none o held bytes = record { sent = []; unsent = held ++ bytes; stops = inl (grown_nothing o); all = refl }
 
 -- what goes on
-pub part_more : {t0 t1 : Option Contents} {name : Option (List ℕ)} {h p : List ℕ} (q : List ℕ) → FlowsPart t0 t1 name h p → FlowsPart t0 t1 name h (p ++ q)
+pub part_more : {o0 o1 : Outside} {h p : List ℕ} {why : StoreRefusal} (q : List ℕ) → FlowsPart o0 o1 h p why → FlowsPart o0 o1 h (p ++ q) why
 part_more {h = h} {p = p} q a = record {
   sent = a.sent;
   unsent = a.unsent ++ q;
-  grown = a.grown;
+  stops = a.stops;
   all = sym (append_assoc a.sent a.unsent q) ∙ ap (λ (x : List ℕ). x ++ q) a.all ∙ append_assoc h p q;
 }
 
 -- a part of less, of more
-pub part_of : {t0 t1 : Option Contents} {name : Option (List ℕ)} {h p : List ℕ} (q whole : List ℕ) → p ++ q ≡ whole → FlowsPart t0 t1 name h p → FlowsPart t0 t1 name h whole
-part_of {t0} {t1} {name} {h} {p} q whole e a = let m = part_more q a in record { sent = m.sent; unsent = m.unsent; grown = m.grown; all = m.all ∙ ap (λ (x : List ℕ). h ++ x) e }
+pub part_of : {o0 o1 : Outside} {h p : List ℕ} {why : StoreRefusal} (q whole : List ℕ) → p ++ q ≡ whole → FlowsPart o0 o1 h p why → FlowsPart o0 o1 h whole why
+part_of {h = h} q whole e a = let m = part_more q a in record { sent = m.sent; unsent = m.unsent; stops = m.stops; all = m.all ∙ ap (λ (x : List ℕ). h ++ x) e }
 
-pub flows_so : {t0 t1 : Option Contents} {name : Option (List ℕ)} {h0 h1 p : List ℕ} (q : List ℕ) → p ≡ q → Flows t0 t1 name h0 h1 p → Flows t0 t1 name h0 h1 q
-flows_so {h0 = h0} q e a = record { sent = a.sent; grown = a.grown; all = a.all ∙ ap (λ (x : List ℕ). h0 ++ x) e }
+pub flows_so : {o0 o1 : Outside} {h0 h1 p : List ℕ} (q : List ℕ) → p ≡ q → Flows o0 o1 h0 h1 p → Flows o0 o1 h0 h1 q
+flows_so {h0 = h0} q e a = record { sent = a.sent; grows = a.grows; all = a.all ∙ ap (λ (x : List ℕ). h0 ++ x) e }
 
 -- a piece from the front of the buffer
-pub piece_flows : {t0 t1 : Option Contents} {name : Option (List ℕ)} {held held' : List ℕ} (count : ℕ) (piece : List ℕ) → piece ≡ take count held → t1 ≡ told_grown t0 name piece → held' ≡ drop count held → Flows t0 t1 name held held' []
+pub piece_flows : {o0 o1 : Outside} {held held' : List ℕ} (count : ℕ) (piece : List ℕ) → piece ≡ take count held → o1 ≡ grown piece o0 → held' ≡ drop count held → Flows o0 o1 held held' []
 piece_flows {held = held} {held' = held'} count piece p g e = record {
   sent = piece;
-  grown = g;
+  grows = g;
   all = ap (λ (x : List ℕ). x ++ held') p ∙ ap (λ (x : List ℕ). take count held ++ x) e ∙ take-append-drop count held ∙ sym (append-nil held);
 }
 
-pub piece_part : {t0 t1 : Option Contents} {name : Option (List ℕ)} {held : List ℕ} (count : ℕ) (piece : List ℕ) → piece ≡ take count held → GrowsPrefix t0 t1 name piece → FlowsPart t0 t1 name held []
+pub piece_part : {o0 o1 : Outside} {held : List ℕ} {why : StoreRefusal} (count : ℕ) (piece : List ℕ) → piece ≡ take count held → StopsWithin o0 o1 piece why → FlowsPart o0 o1 held [] why
 piece_part {held = held} count piece e p = record {
   sent = take p.count piece;
   unsent = drop p.count piece ++ drop count held;
-  grown = p.growth;
+  stops = p.stops;
   all = sym (append_assoc (take p.count piece) (drop p.count piece) (drop count held))
       ∙ ap (λ (x : List ℕ). x ++ drop count held) (take-append-drop p.count piece ∙ e) ∙ take-append-drop count held ∙ sym (append-nil held);
 }
@@ -107,26 +137,31 @@ piece_part {held = held} count piece e p = record {
 pub fewer_held : (count : ℕ) (held held' : List ℕ) → 0 < count → count ≤ length held → held' ≡ drop count held → length held' < length held
 fewer_held count held held' h fit e = omega (arith, length-drop count held, ap (λ (x : List ℕ). length x) e)
 
-pub flows_named : {t0 t1 : Option Contents} {name other : Option (List ℕ)} {h0 h1 p : List ℕ} → name ≡ other → Flows t0 t1 name h0 h1 p → Flows t0 t1 other h0 h1 p
-flows_named {t0 = t0} e a = record { sent = a.sent; grown = a.grown ∙ ap (λ (n : Option (List ℕ)). told_grown t0 n a.sent) e; all = a.all }
+-- ---- refusals that a `?` hands on
 
-pub part_named : {t0 t1 : Option Contents} {name other : Option (List ℕ)} {h p : List ℕ} → name ≡ other → FlowsPart t0 t1 name h p → FlowsPart t0 t1 other h p
-part_named {t0 = t0} e a = record { sent = a.sent; unsent = a.unsent; grown = a.grown ∙ ap (λ (n : Option (List ℕ)). told_grown t0 n a.sent) e; all = a.all }
+pub on_same : {T E : Type 0} (P : E → Type 0) {e : E} (r : Result T E) → IsErrAnd r (λ d. d ≡ e) → P e → IfErr r P
+on_same P r is p = let q = err_from_is_err_and r is in subst (λ x. IfErr x P) (sym q.1) (subst P (sym q.2) p)
 
-pub on_err : {T E P : Type 0} (r : Result T E) → P → OnErr r P
-on_err (Ok x) p = tt
-on_err (Err e) p = p
+same_cause : (why : StoreRefusal) → cause_of (refusal_of why) ≡ why
+same_cause store.Failed = refl
+same_cause store.Memory = refl
+
+-- by the writer's refusal
+pub as_told : {o o' : Outside} {bytes : List ℕ} (why : StoreRefusal) → StopsWithin o o' bytes why → StopsWithin o o' bytes (cause_of (refusal_of why))
+as_told {o = o} {o' = o'} {bytes = bytes} why s = subst (StopsWithin o o' bytes) (sym (same_cause why)) s
+
+-- ---- the end
 
 -- all that was held, at the end
-pub flows_whole : {t0 t1 t2 : Option Contents} {name : Option (List ℕ)} {held bytes : List ℕ} → Flows t0 t1 name [] held bytes → t2 ≡ told_grown t1 name held → t2 ≡ told_grown t0 name bytes
-flows_whole {t0 = t0} {name = name} {held = held} a g =
-    g ∙ ap (λ (t : Option Contents). told_grown t name held) a.grown ∙ grown_twice t0 name a.sent held ∙ ap (λ (x : List ℕ). told_grown t0 name x) a.all
+pub flows_whole : {o0 o1 o2 : Outside} {held bytes : List ℕ} → Flows o0 o1 [] held bytes → o2 ≡ grown held o1 → o2 ≡ grown bytes o0
+flows_whole {o0 = o0} {held = held} a g =
+    g ∙ ap (grown held) a.grows ∙ grown_twice o0 a.sent held ∙ ap (λ (x : List ℕ). grown x o0) a.all
 
-pub part_whole : {t0 t1 : Option Contents} {name : Option (List ℕ)} {bytes : List ℕ} → FlowsPart t0 t1 name [] bytes → GrowsPrefix t0 t1 name bytes
-part_whole {t0 = t0} {name = name} {bytes = bytes} a = record {
+pub part_whole : {o0 o1 : Outside} {bytes : List ℕ} {why : StoreRefusal} → FlowsPart o0 o1 [] bytes why → StopsWithin o0 o1 bytes why
+part_whole {o0 = o0} {o1 = o1} {bytes = bytes} {why = why} a = record {
   count = length a.sent;
   within = omega (arith, ap (λ (x : List ℕ). length x) a.all, length-append a.sent a.unsent);
-  growth = a.grown ∙ ap (λ (x : List ℕ). told_grown t0 name x) (sym (take-append_seam a.sent a.unsent) ∙ ap (λ (x : List ℕ). take (length a.sent) x) a.all);
+  stops = subst (λ x. Stops why (grown x o0) o1) (sym (take-append_seam a.sent a.unsent) ∙ ap (λ (x : List ℕ). take (length a.sent) x) a.all) a.stops;
 }
 
 -- a piece that is taken out of the front
@@ -199,35 +234,42 @@ stream_parts layout structures a =
 
 -- ---- three parts, of which the middle passes
 
-pub flows_three : {t0 t1 : Option Contents} {name : Option (List ℕ)} {h0 h1 h2 h3 a b c : List ℕ} (whole : List ℕ) → a ++ (b ++ c) ≡ whole
-    → Gains h0 h1 a → Flows t0 t1 name h1 h2 b → Gains h2 h3 c → Flows t0 t1 name h0 h3 whole
-flows_three {t0 = t0} {t1 = t1} {name = name} whole e g f k = flows_so whole e (flows_then (flows_put t0 name g) (flows_then f (flows_put t1 name k)))
+pub flows_three : {o0 o1 : Outside} {h0 h1 h2 h3 a b c : List ℕ} (whole : List ℕ) → a ++ (b ++ c) ≡ whole
+    → Gains h0 h1 a → Flows o0 o1 h1 h2 b → Gains h2 h3 c → Flows o0 o1 h0 h3 whole
+flows_three {o0 = o0} {o1 = o1} whole e g f k = flows_so whole e (flows_then (flows_put o0 g) (flows_then f (flows_put o1 k)))
 
-pub part_two : {t0 t1 : Option Contents} {name : Option (List ℕ)} {h0 h1 a b : List ℕ} (c whole : List ℕ) → a ++ (b ++ c) ≡ whole → Gains h0 h1 a → FlowsPart t0 t1 name h1 b → FlowsPart t0 t1 name h0 whole
-part_two {t0 = t0} {name = name} {a = a} {b = b} c whole e g f = part_of c whole (append_assoc a b c ∙ e) (part_then (flows_put t0 name g) f)
+pub part_two : {o0 o1 : Outside} {h0 h1 a b : List ℕ} {why : StoreRefusal} (c whole : List ℕ) → a ++ (b ++ c) ≡ whole → Gains h0 h1 a → FlowsPart o0 o1 h1 b why → FlowsPart o0 o1 h0 whole why
+part_two {o0 = o0} {a = a} {b = b} c whole e g f = part_of c whole (append_assoc a b c ∙ e) (part_then (flows_put o0 g) f)
 
-pub part_last : {t0 t1 : Option Contents} {name : Option (List ℕ)} {h0 h1 h2 a b : List ℕ} (c whole : List ℕ) → a ++ (b ++ c) ≡ whole → Gains h0 h1 a → Flows t0 t1 name h1 h2 b → FlowsPart t0 t1 name h0 whole
-part_last {t0 = t0} {name = name} {a = a} {b = b} c whole e g f = part_of c whole (append_assoc a b c ∙ e) (flows_part (flows_then (flows_put t0 name g) f))
+pub part_last : {o0 o1 : Outside} {h0 h1 h2 a b : List ℕ} (c whole : List ℕ) → a ++ (b ++ c) ≡ whole → Gains h0 h1 a → Flows o0 o1 h1 h2 b → FlowsPart o0 o1 h0 whole store.Memory
+part_last {o0 = o0} {a = a} {b = b} c whole e g f = part_of c whole (append_assoc a b c ∙ e) (flows_part (flows_then (flows_put o0 g) f))
 
--- ---- the end
+-- what is put into the buffer, which may then be sent
+pub put_part : {o0 o1 : Outside} {h0 h1 a : List ℕ} {why : StoreRefusal} → Gains h0 h1 a → FlowsPart o0 o1 h1 [] why → FlowsPart o0 o1 h0 a why
+put_part {o0 = o0} {a = a} g f = part_of [] a (append-nil (a ++ []) ∙ append-nil a) (part_then (flows_put o0 g) f)
 
-pub rest_part : {t0 t1 : Option Contents} {name : Option (List ℕ)} {held : List ℕ} (piece : List ℕ) → piece ≡ held → GrowsPrefix t0 t1 name piece → FlowsPart t0 t1 name held []
+-- ---- what is left in the buffer
+
+pub rest_part : {o0 o1 : Outside} {held : List ℕ} {why : StoreRefusal} (piece : List ℕ) → piece ≡ held → StopsWithin o0 o1 piece why → FlowsPart o0 o1 held [] why
 rest_part {held = held} piece e p = piece_part (length held) piece (e ∙ sym (take-length held)) p
 
-pub rest_sent : {t0 t1 t2 : Option Contents} {name other : Option (List ℕ)} {h0 h1 : List ℕ} (piece : List ℕ) → Flows t0 t1 name h0 h1 [] → other ≡ name → piece ≡ h1 → t2 ≡ told_grown t1 other piece → t2 ≡ told_grown t0 name h0
-rest_sent {t0} {t1} {t2} {name} {other} {h0} {h1} piece a n e g =
-    g ∙ ap (λ (x : List ℕ). told_grown t1 other x) e ∙ ap (λ (m : Option (List ℕ)). told_grown t1 m h1) n ∙ ap (λ (t : Option Contents). told_grown t name h1) a.grown
-    ∙ grown_twice t0 name a.sent h1 ∙ ap (λ (x : List ℕ). told_grown t0 name x) (a.all ∙ append-nil h0)
+pub rest_sent : {o0 o1 o2 : Outside} {h0 h1 : List ℕ} (piece : List ℕ) → Flows o0 o1 h0 h1 [] → piece ≡ h1 → o2 ≡ grown piece o1 → o2 ≡ grown h0 o0
+rest_sent {o0} {o1} {o2} {h0} {h1} piece a e g =
+    g ∙ ap (λ (x : List ℕ). grown x o1) e ∙ ap (grown h1) a.grows ∙ grown_twice o0 a.sent h1 ∙ ap (λ (x : List ℕ). grown x o0) (a.all ∙ append-nil h0)
 
-pub prefix_none : (told : Option Contents) (name : Option (List ℕ)) (bytes : List ℕ) → GrowsPrefix told told name bytes
-prefix_none told name bytes = record { count = 0; within = omega arith; growth = grown_nothing told name }
+-- nothing was left
+pub none_left : {o0 o1 : Outside} {h0 h1 : List ℕ} → Flows o0 o1 h0 h1 [] → h1 ≡ [] → o1 ≡ grown h0 o0
+none_left {o0} {o1} {h0} {h1} a e = rest_sent [] a (sym e) (grown_nothing o1)
 
-pub part_whole_from : {t0 t1 : Option Contents} {name : Option (List ℕ)} {held bytes : List ℕ} → held ≡ [] → FlowsPart t0 t1 name held bytes → GrowsPrefix t0 t1 name bytes
-part_whole_from {bytes = bytes} e a = part_whole (record { sent = a.sent; unsent = a.unsent; grown = a.grown; all = a.all ∙ ap (λ (x : List ℕ). x ++ bytes) e })
+pub stops_none : (o : Outside) (bytes : List ℕ) → StopsWithin o o bytes store.Memory
+stops_none o bytes = record { count = 0; within = omega arith; stops = inl (grown_nothing o) }
 
-pub flows_whole_from : {t0 t1 t2 : Option Contents} {name other : Option (List ℕ)} {h0 held bytes : List ℕ} → h0 ≡ [] → Flows t0 t1 name h0 held bytes → other ≡ name → t2 ≡ told_grown t1 other held → t2 ≡ told_grown t0 name bytes
-flows_whole_from {t1 = t1} {held = held} {bytes = bytes} e a n g =
-    flows_whole (record { sent = a.sent; grown = a.grown; all = a.all ∙ ap (λ (x : List ℕ). x ++ bytes) e }) (g ∙ ap (λ (m : Option (List ℕ)). told_grown t1 m held) n)
+pub part_whole_from : {o0 o1 : Outside} {held bytes : List ℕ} {why : StoreRefusal} → held ≡ [] → FlowsPart o0 o1 held bytes why → StopsWithin o0 o1 bytes why
+part_whole_from {bytes = bytes} e a = part_whole (record { sent = a.sent; unsent = a.unsent; stops = a.stops; all = a.all ∙ ap (λ (x : List ℕ). x ++ bytes) e })
 
-pub part_whole_after : {t0 t1 t2 : Option Contents} {name other : Option (List ℕ)} {h0 held bytes : List ℕ} → h0 ≡ [] → Flows t0 t1 name h0 held bytes → other ≡ name → FlowsPart t1 t2 other held [] → GrowsPrefix t0 t2 name bytes
-part_whole_after {bytes = bytes} e a n p = part_whole_from e (part_of [] bytes (append-nil (bytes ++ []) ∙ append-nil bytes) (part_then a (part_named n p)))
+pub flows_whole_from : {o0 o1 o2 : Outside} {h0 held bytes : List ℕ} → h0 ≡ [] → Flows o0 o1 h0 held bytes → o2 ≡ grown held o1 → o2 ≡ grown bytes o0
+flows_whole_from {bytes = bytes} e a g =
+    flows_whole (record { sent = a.sent; grows = a.grows; all = a.all ∙ ap (λ (x : List ℕ). x ++ bytes) e }) g
+
+pub part_whole_after : {o0 o1 o2 : Outside} {h0 held bytes : List ℕ} {why : StoreRefusal} → h0 ≡ [] → Flows o0 o1 h0 held bytes → FlowsPart o1 o2 held [] why → StopsWithin o0 o2 bytes why
+part_whole_after {bytes = bytes} e a p = part_whole_from e (part_of [] bytes (append-nil (bytes ++ []) ∙ append-nil bytes) (part_then a p))

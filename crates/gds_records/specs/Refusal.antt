@@ -8,3 +8,8 @@ use Rattle.gds_records.specs.declared.writer.WriteRefusal.TheVariants.{Failed, M
 abbrev pub refusal_of : StoreRefusal → WriteRefusal
 refusal_of store.Failed = Failed
 refusal_of store.Memory = Memory
+
+-- why the store or memory was refused, by the writer's refusal
+abbrev pub cause_of : WriteRefusal → StoreRefusal
+cause_of Failed = store.Failed
+cause_of Memory = store.Memory

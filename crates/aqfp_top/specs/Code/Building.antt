@@ -3,6 +3,8 @@ use Rattle.std.specs.Prelude.{ℕ, ◌≡◌, ◌≤◌, ◌⊎◌, List, length
 use Rattle.aq_base.specs.Causes.{Rose}
 use Rattle.aq_base.specs.Heard.{Event}
 use Rattle.aq_base.specs.Store.{Contents, told_with, StoresPrefix}
+use Rattle.aq_base.specs.declared.store.StoreRefusal.{StoreRefusal}
+use Rattle.aq_base.specs.declared.store.StoreRefusal.TheVariants as store
 use Rattle.aqfp_top.specs.Build.{IsBuilt}
 use Rattle.aqfp_top.specs.Faults.{IsBuildFault}
 use Rattle.aqfp_top.specs.Loads.{net_limit, lib_limit}
@@ -23,6 +25,14 @@ StandsStored before after name bytes (Err (WriteFault Close)) = after ≡ told_w
 StandsStored before after name bytes (Err (WriteFault Out)) = ⊥
 StandsStored before after name bytes (Err Memory) = (after ≡ before) ⊎ StoresPrefix before after name bytes
 StandsStored before after name bytes (Err _) = ⊥
+
+-- how storing ends, by how writing and closing do
+abbrev pub end_of : Result (Unit {0}) StoreRefusal → Result (Unit {0}) StoreRefusal → Result (Unit {0}) Fault
+end_of (Ok _) (Ok _) = Ok tt
+end_of (Ok _) (Err store.Failed) = Err (WriteFault Close)
+end_of (Ok _) (Err store.Memory) = Err Memory
+end_of (Err store.Failed) closed = Err (WriteFault Append)
+end_of (Err store.Memory) closed = Err Memory
 
 -- the counts of write and close faults that a refused store shows
 abbrev pub StoreCause : ℕ → ℕ → ℕ → ℕ → Result (Unit {0}) Fault → Type 0
