@@ -3,7 +3,7 @@ use Rattle.std.proofs.Common.{◌≡◌, ℕ, zero, suc, ◌+◌, ◌<◌, ◌�
 use Rattle.std.proofs.Common.{length, get_or, set, take, drop, refl, sym, ap, subst, ◌∙◌, inl, inr, arith}
 use Rattle.std.specs.List.{All}
 use Rattle.std.proofs.lemmas.Bool.{cases_lt, cases_eq, eq-eqb, ne_eqb, eqb-true, eqb-false, le-leb}
-use Rattle.std.proofs.lemmas.List.{take_all, take_more, get_or-set_same, get_or-set_other, length-set, get_or_default}
+use Rattle.std.proofs.lemmas.List.{take_more, get_or-set_same, get_or-set_other, length-set, get_or_default}
 use Rattle.rowed.specs.declared.wire.Wire.{Wire}
 use Rattle.list_orders.specs.Sorting.{Rising, EachPair}
 use Rattle.list_orders.proofs.SortingLaws.{pair_at, passing-cons}
@@ -11,7 +11,7 @@ use Rattle.channel_route.specs.declared.order.Numbered.{Numbered}
 use Rattle.channel_route.specs.Code.Numbered.{low_of}
 use Rattle.channel_route.specs.Crossing.{low, high, crosses, crossing, IsOver}
 use Rattle.channel_route.specs.Tracks.{lowest_free, ends_after, tracks, last_ends, last_column}
-use Rattle.channel_route.specs.Code.Assigned.{wires_of, HaveTracks, AreAssigned}
+use Rattle.channel_route.specs.Code.Assigned.{wires_of, HaveTracks}
 use Rattle.channel_route.proofs.Minima.{lowest_le}
 use Rattle.channel_route.proofs.Density.{held, one, held-after, crossing-cons, crossing-before, after-adds, most_held}
 
@@ -51,18 +51,6 @@ track_at_place es [] i d lt = absurd (omega arith)
 track_at_place es (v ∷ ones) zero d lt = refl
 track_at_place es (v ∷ ones) (suc i) d lt =
     track_at_place (ends_after (low v.wire) (high v.wire) es) ones i d (omega arith)
-
-pub assigning_none : (ones : List Numbered) (capacity : ℕ) (track : List ℕ) → length track ≡ length ones
-    → Assigning ones capacity 0 track [] 0
-assigning_none ones capacity track len = record {
-  one_each = len;
-  placed = λ k d lt. absurd (omega arith);
-  ends_are = refl;
-  column_is = refl;
-  within =
-      omega arith;
-  few = omega arith;
-}
 
 after_length : (l h : ℕ) (es : List ℕ) → length (ends_after l h es) ≤ length es + 1
 after_length l h es = elim (after-adds l h es) [ inl same ↦ omega (arith, same.0) | inr more ↦ omega (arith, more.0) ]
@@ -125,20 +113,6 @@ assigning_more ones capacity i track ends ends' column column' taken d apart bel
         (length (last_ends [] (wires_of (take i ones))))) (low (get_or ones i d).wire)
         (last_column [] 0 (wires_of (take i ones)))
     columns = rw (t, a.column_is, a.ends_are) refl
-
-pub assigned_all : (ones : List Numbered) (capacity i used : ℕ) (track ends : List ℕ) (column : ℕ) → length ones ≤ i
-    → i ≤ length ones → used ≡ length ends → Assigning ones capacity i track ends column
-    → AreAssigned ones capacity track used column
-assigned_all ones capacity i used track ends column ge le u a =
-    let whole : take i ones ≡ ones = take_all i ones ge in
-    record {
-      one_each = a.one_each;
-      placed = λ k d lt. a.placed k d (omega arith);
-      used_is = u ∙ ap (λ (l : List ℕ). length l) a.ends_are
-          ∙ ap (λ (l : List Numbered). length (last_ends [] (wires_of l))) whole;
-      column_is = a.column_is ∙ ap (λ (l : List Numbered). last_column [] 0 (wires_of l)) whole;
-      within = omega (arith, u, a.within);
-    }
 
 -- the same at what the code holds: the branch that adds a track, and the one that doesn't
 more_at : (ones : List Numbered) (capacity i : ℕ) (track ends ends' : List ℕ) (column column' taken low' high' : ℕ)

@@ -1,9 +1,8 @@
 -- The way down from the top to the first entry below a bound.
-use Rattle.std.proofs.Common.{◌≡◌, ℕ, zero, suc, ◌+◌, ◌-◌, ◌<◌, ◌≤◌, true, false, ltb, List, [], ◌∷◌, length, get_or}
-use Rattle.std.proofs.Common.{refl, sym, ap, ◌∙◌, subst, arith, add-one}
-use Rattle.std.specs.Prelude.{if◌then◌else◌}
+use Rattle.std.proofs.Common.{◌≡◌, ℕ, zero, suc, ◌+◌, ◌-◌, ◌<◌, ◌≤◌, false, ltb, List, [], ◌∷◌, length, get_or}
+use Rattle.std.proofs.Common.{refl, sym, ap, ◌∙◌, subst, arith, add-one, if◌then◌else◌}
 use Rattle.std.proofs.lemmas.List.{get_or_default}
-use Rattle.std.proofs.lemmas.Bool.{le-ltb, lt-ltb}
+use Rattle.std.proofs.lemmas.Bool.{le-ltb}
 use Rattle.channel_route.specs.Code.Levels.{halves, LeadUp, AreLevels, lowest_level, top_level}
 use Rattle.channel_route.specs.Tracks.{lowest_free}
 use Rattle.channel_route.proofs.Minima.{step_down, pair_long, below_within, none_below}
@@ -27,27 +26,6 @@ pub record Stands (levels : List (List ℕ)) (bound level place : ℕ) : Type 0 
   pub found : lowest_free bound (get_or levels level []) ≡ place
   pub within : place < length (get_or levels level [])
   pub below : level < length levels
-
-single_first : (bound : ℕ) (xs : List ℕ) → length xs ≡ 1 → get_or xs 0 bound < bound → (lowest_free bound xs ≡ 0)
-    × (0 < length xs)
-single_first bound [] one lt = absurd (omega (arith, one))
-single_first bound (x ∷ xs) one lt = let k : ltb x bound ≡ true = lt-ltb x bound lt in (rw k refl, omega arith)
-
-top_single : (xs : List ℕ) (ls : List (List ℕ)) → LeadUp xs ls → length (top_of xs ls) ≡ 1
-top_single xs [] up = up
-top_single xs (l ∷ ls) up = top_single l ls up.2
-
-pub stands_top : (levels : List (List ℕ)) (bound : ℕ) → AreLevels levels → get_or (top_level levels) 0 bound < bound
-    → Stands levels bound (length levels - 1) 0
-stands_top [] bound are lt = absurd (omega (arith, lt))
-stands_top (xs ∷ ls) bound are lt =
-    let one : length (top_level (xs ∷ ls)) ≡ 1 = ap (λ (l : List ℕ). length l) (top_is xs ls) ∙ top_single xs ls are in
-    let f = single_first bound (top_level (xs ∷ ls)) one lt in
-    record { found = f.0; within = f.1; below = omega arith }
-
-pub stands_some : (levels : List (List ℕ)) (bound : ℕ) → get_or (top_level levels) 0 bound < bound → 0 < length levels
-stands_some [] bound lt = absurd (omega (arith, lt))
-stands_some (xs ∷ ls) bound lt = omega arith
 
 pub level_read : (levels : List (List ℕ)) (bound level place : ℕ) (x now : List ℕ) → Stands levels bound level place
     → x ≡ get_or levels (level - 1) x → now ≡ x → now ≡ get_or levels (level - 1) []

@@ -114,11 +114,6 @@ step_up (suc (suc i)) v (a ∷ (b ∷ xs)) le =
     let h : suc (suc i) / 2 ≡ suc (i / 2) = omega arith in
     rw (h, pair_shift a b (put xs i v) (i / 2)) (ap (λ (l : List ℕ). min a b ∷ l) (step_up i v xs (omega arith)))
 
-pub length-halves : (xs : List ℕ) → length (halves xs) + length (halves xs) ≤ length xs + 1
-length-halves [] = omega arith
-length-halves (a ∷ []) = omega arith
-length-halves (a ∷ (b ∷ xs)) = omega (arith, length-halves xs)
-
 pub halves_reach : (i : ℕ) (xs : List ℕ) → i ≤ length xs → i / 2 ≤ length (halves xs)
 halves_reach i [] le = omega arith
 halves_reach i (a ∷ []) le = omega arith

@@ -61,10 +61,6 @@ pub record Raising (old now : List (List ℕ)) (i v k at' least : ℕ) : Type 0 
   pub rest : AreLevels (drop k now)
   pub fits : at' ≤ length (lowest_level (drop k now))
 
-pub raising_none : (old : List (List ℕ)) (i v : ℕ) → AreLevels old → i ≤ length (lowest_level old)
-    → Raising old old i v 0 i v
-raising_none old i v are le = record { same = refl; last = refl; rest = are; fits = le }
-
 pub raising_fits : (old now : List (List ℕ)) (i v k at' least : ℕ) (d : List ℕ) → Raising old now i v k at' least
     → k < length now → at' ≤ length (get_or now k d)
 raising_fits old now i v k at' least d r lt =
@@ -136,19 +132,6 @@ levels_short (x ∷ ls) now new i v least root are le is last more one grown =
     ∙ ap (λ (k : List (List ℕ)). k ++ root ∷ []) is
     ∙ ap (λ (k : List ℕ). raised (x ∷ ls) i v ++ k ∷ []) (one ∙ ap (λ n. n ∷ []) last) in
     subst AreLevels (sym e) (raised_short x ls i v are le top)
-
-pub lowest_whole : (old now : List (List ℕ)) (i v : ℕ) → now ≡ raised old i v → length (top_level now) ≡ 1
-    → lowest_level now ≡ put (lowest_level old) i v
-lowest_whole [] now i v is one = absurd (let h = rw is at one in omega (arith, h))
-lowest_whole (x ∷ ls) now i v is one = ap lowest_level is
-
-pub lowest_short : (old now new : List (List ℕ)) (i v least : ℕ) (root : List ℕ) → now ≡ raised old i v
-    → least ≡ last_least old i v → root ≡ least ∷ [] → new ≡ now ++ root ∷ []
-    → lowest_level new ≡ put (lowest_level old) i v
-lowest_short [] now new i v least root is last one grown =
-    ap lowest_level (grown ∙ ap (λ (k : List (List ℕ)). k ++ root ∷ []) is) ∙ one ∙ ap (λ n. n ∷ []) last
-lowest_short (x ∷ ls) now new i v least root is last one grown =
-    ap lowest_level (grown ∙ ap (λ (k : List (List ℕ)). k ++ root ∷ []) is)
 
 -- the same at what the code holds
 pub raising_code : (old now : List (List ℕ)) (i v k at' least least' : ℕ) (d y : List ℕ)

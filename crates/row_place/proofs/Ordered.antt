@@ -1,7 +1,6 @@
 -- Lemmas on the order of a row: it is that of the plan, it has each cell, it keeps the span, and cells are picked by it.
-use Rattle.std.proofs.Common.{◌≡◌, ℕ, suc, ◌+◌, ◌<◌, ◌≤◌, List, [], ◌∷◌, ◌++◌, Option, Some, None, Bool, true, false, length, drop, map, get_or, add-one, drop-cons, append_assoc, refl, sym, ◌∙◌, ap, subst, arith, leb}
+use Rattle.std.proofs.Common.{◌≡◌, ℕ, suc, ◌+◌, ◌<◌, ◌≤◌, List, [], ◌∷◌, ◌++◌, Option, Some, None, Bool, true, false, length, drop, map, get_or, add-one, drop-cons, append_assoc, refl, sym, ◌∙◌, ap, subst, arith, leb, slice_get}
 use Rattle.std.proofs.Math.Path.{fun_ext}
-use Rattle.std.specs.Prelude.{slice_get}
 use Rattle.std.specs.List.{AllByRecursion}
 use Rattle.std.proofs.lemmas.Option.{slice_get-get_or}
 use Rattle.rowed.specs.declared.source.Source.{Source}

@@ -1,6 +1,5 @@
 -- Lemmas: rows in another order, with their sources renumbered, answer every word as the net does.
-use Rattle.std.specs.Prelude.{◌≡◌, ℕ, zero, suc, pred, Bool, List, slice_get, Option, Some, None}
-use Rattle.std.proofs.Common.{refl, ap, ◌∙◌, subst}
+use Rattle.std.proofs.Common.{◌≡◌, ℕ, zero, suc, pred, Bool, List, slice_get, Option, Some, None, refl, ap, ◌∙◌, subst}
 use Rattle.circuit.specs.Function.{value_of}
 use Rattle.circuit.specs.SameAnswers.{SameAnswers}
 use Rattle.rowed.specs.declared.source.Source.{Source}

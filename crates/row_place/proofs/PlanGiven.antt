@@ -1,6 +1,5 @@
 -- The plan of a net whose rows are within the width is what the pass is to give; so it is where nothing is to be refused.
-use Rattle.std.specs.Prelude.{ℕ, ◌≤◌, ◌*◌}
-use Rattle.std.proofs.Common.{refl, arith, inl, inr}
+use Rattle.std.proofs.Common.{ℕ, ◌≤◌, ◌*◌, refl, arith, inl, inr}
 use Rattle.std.proofs.lemmas.Bool.{cases_lt}
 use Rattle.std.proofs.lemmas.Nat.{mul-le}
 use Rattle.rowed.specs.RowNets.{RowView, IsRowNet}
