@@ -10,11 +10,10 @@ ghost use Rattle.draft_check.specs.Code.Rows.{is_sound};
 use crate::Draft;
 use crate::labels::rows_fit;
 use crate::rows::is_net;
-use crate::seats::each_seated;
 use aq_base::Memory;
 use circuit::Answers;
 use maj_graph::Graph;
-use rowed::{Placed, RowNet};
+use rowed::{Placed, RowNet, each_seated};
 use std::alloc::Global;
 
 /// Whether the rows of a draft are those of a placed net, and its labels those of the graph.

@@ -7,7 +7,6 @@ mod draft;
 mod labels;
 mod numbering;
 mod rows;
-mod seats;
 
 pub use checker::check;
 pub use draft::Draft;

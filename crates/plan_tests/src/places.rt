@@ -7,7 +7,7 @@ ghost use Rattle.row_place.specs.Examples as examples;
 use crate::fixtures::{first, has_row, list, majority, second};
 use aq_base::{List, Memory};
 use circuit::{CellKind, Pass};
-use row_place::{PlacePass, PlaceRefusal};
+use row_place::{PlacePass, PlaceRefusal, arrange};
 use rowed::{Placed, RowCell, RowNet};
 use std::alloc::Global;
 use std::test::Fail;
@@ -193,5 +193,65 @@ fn rows_are_as_wide_as_may_be(rt: HostRuntime) -> Result<(), Fail> {
     assert!(rt; refused(rt.alloc(), &net, 500_000_000).is_ok());
     assert!(rt; refused(rt.alloc(), &net, 500_000_001) == Err(PlaceRefusal::TooWide { span: 4 }));
     assert!(rt; refused(rt.alloc(), &net, u64::MAX) == Err(PlaceRefusal::TooWide { span: 4 }));
+    Ok(())
+}
+
+// Slots for the rows of `a and b`: these for the first row, and 4 and 7.
+fn and_slots(alloc: Global, first: [u32; 3]) -> Result<Vec<List<u32>>, Memory> {
+    let first = list(alloc, first)?;
+    let middle = list(alloc, [4])?;
+    let last = list(alloc, [7])?;
+    Ok(Vec::from_array(alloc, [first, middle, last])?)
+}
+
+// Slots for two rows, where `a and b` has three.
+fn short_slots(alloc: Global) -> Result<Vec<List<u32>>, Memory> {
+    let first = list(alloc, [0, 1, 2])?;
+    let middle = list(alloc, [4])?;
+    Ok(Vec::from_array(alloc, [first, middle])?)
+}
+
+// The net `a and b` with its cells at these slots.
+fn arranged(alloc: Global, slots: &[List<u32>]) -> Result<Option<Placed>, Memory> {
+    let net = and_net(alloc)?;
+    arrange(alloc, &net, slots)
+}
+
+fn and_arranged(alloc: Global, first: [u32; 3]) -> Result<Option<Placed>, Memory> {
+    let slots = and_slots(alloc, first)?;
+    arranged(alloc, &slots)
+}
+
+fn short_arranged(alloc: Global) -> Result<Option<Placed>, Memory> {
+    let slots = short_slots(alloc)?;
+    arranged(alloc, &slots)
+}
+
+// Whether the first row may stand at these slots.
+fn is_taken(alloc: Global, first: [u32; 3]) -> Result<bool, Memory> {
+    Ok(and_arranged(alloc, first)?.is_some())
+}
+
+#[test]
+fn cells_stand_where_they_are_told_to(rt: HostRuntime) -> Result<(), Fail> {
+    let placed = and_arranged(rt.alloc(), [9, 0, 5])?.ok_or("slots of the cells' own")?;
+    let inputs = [
+        RowCell::input(1),
+        RowCell::bare(CellKind::Zero),
+        RowCell::input(0),
+    ];
+    assert!(rt; has_row(&placed, 0, &inputs, &[0, 5, 9]));
+    assert!(rt; has_row(&placed, 1, &[majority(2, 1, 0)], &[4]));
+    assert!(rt; has_row(&placed, 2, &[RowCell::output(first(0), 0)], &[7]));
+    Ok(())
+}
+
+#[test]
+fn slots_that_two_cells_share_are_refused(rt: HostRuntime) -> Result<(), Fail> {
+    let shared = is_taken(rt.alloc(), [0, 5, 5])?;
+    let far = is_taken(rt.alloc(), [0, 1, 2_147_483_647])?;
+    let last = is_taken(rt.alloc(), [0, 1, 2_147_483_646])?;
+    let short = short_arranged(rt.alloc())?.is_some();
+    assert!(rt; !shared && !far && last && !short);
     Ok(())
 }

@@ -10,3 +10,5 @@ mod AllRows
 mod KeysFound
 mod Ordered
 mod Placing
+pub mod ArrangedRows
+mod ArrangingRows

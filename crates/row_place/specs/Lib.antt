@@ -1,5 +1,6 @@
 pub mod Keys
 pub mod Places
+pub mod Arranged
 pub mod Passes
 pub mod Orders
 pub mod Spans

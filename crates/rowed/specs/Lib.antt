@@ -3,6 +3,7 @@ pub mod MadeCells
 pub mod RowNets
 pub mod Counts
 pub mod Slots
+pub mod SeatTests
 pub mod PlacedNets
 pub mod Channels
 pub mod Short
