@@ -1,5 +1,5 @@
 -- What is made ready of items adds what the items add.
-use Rattle.std.specs.Prelude.{◌≡◌, ◌⊎◌, ℕ, zero, suc, ◌+◌, ◌-◌, ◌≤◌, ◌<◌, ◌++◌, List, [], ◌∷◌, length, map, Option, Some, IfOk, slice_get, slice_index}
+use Rattle.std.specs.Prelude.{◌≡◌, ◌⊎◌, ℕ, zero, suc, ◌+◌, ◌-◌, ◌≤◌, ◌<◌, ◌++◌, List, [], ◌∷◌, length, map, Option, Some, IfOk, slice_get, slice_index_or, Bool, false}
 use Rattle.std.specs.List.{flat_map, AllByRecursion}
 use Rattle.std.proofs.Common.{Result, Ok, Err, inl, inr, refl, sym, ap, ◌∙◌, subst, arith, take, get_or}
 use Rattle.std.proofs.lemmas.List.{take_more}
@@ -20,7 +20,7 @@ use Rattle.poly_cut.specs.declared.ready.Ready.TheVariants as ready
 use Rattle.poly_cut.specs.Figures.{cut_of}
 use Rattle.poly_cut.specs.Conditions.{IsPlaced}
 use Rattle.poly_cut.specs.FlatForm.{shape, item_shapes, item_labels, shapes_of, labels_of, items_in, items_at, DEPTH}
-use Rattle.poly_cut.specs.Counts.{ToldEmpty}
+use Rattle.poly_cut.specs.Code.Holding.{MarksAll}
 use Rattle.poly_cut.specs.Code.Readied.{ready_shapes, ready_labels, IsReady, IsDrawing, AddsItem, AddsNothing, AddsAs, GainsItem, IsEntry, IsTable}
 use Rattle.poly_cut.proofs.Placed.{no_shapes, no_labels}
 
@@ -94,13 +94,13 @@ more_at ss items i item old new within at so gain =
     (take_more items i item within ∙ ap (λ x. take i items ++ x ∷ []) (sym at)) so gain
 
 -- a placement of what holds nothing adds nothing
-pub placed_nothing : (ss : List WideStructure) (counts : List ℕ) (item : Item) (n : ℕ) (at : Point) (t : Turn) (g : Grid)
-    → item ≡ Place n at t g → ToldEmpty ss counts → slice_index counts n ≡ 0 → AddsNothing ss item
-placed_nothing ss counts item n at t g is empty zero_so = record {
+pub placed_nothing : (ss : List WideStructure) (marks : List Bool) (item : Item) (n : ℕ) (at : Point) (t : Turn) (g : Grid)
+    → item ≡ Place n at t g → MarksAll ss marks → slice_index_or marks n false ≡ false → AddsNothing ss item
+placed_nothing ss marks item n at t g is empty none_so = record {
   shapes = λ depth small.
-      sym (no_shapes (shapes_of depth ss) item n at t g [] is (empty n depth (omega (arith, small)) zero_so).0);
+      sym (no_shapes (shapes_of depth ss) item n at t g [] is (empty n depth (omega (arith, small)) none_so).0);
   labels = λ depth small.
-      sym (no_labels (labels_of depth ss) item n at t g [] is (empty n depth (omega (arith, small)) zero_so).1);
+      sym (no_labels (labels_of depth ss) item n at t g [] is (empty n depth (omega (arith, small)) none_so).1);
 }
 
 -- a placement that is ready is one

@@ -1,8 +1,9 @@
--- Words of the code alone: the segments of a path, the steps of a grid, the sweep over a ring, and
--- items that are ready to be added.
+-- Words of the code alone: the segments of a path, the steps of a grid, the sweep over a ring, structures that hold
+-- something, and items that are ready to be added.
 pub mod Strokes
 pub mod Strides
 pub mod Sweeping
 pub mod Levels
 pub mod Readied
 pub mod Boxes
+pub mod Holding

@@ -1,11 +1,11 @@
 -- How many shapes and labels a flat form has, counted structure by structure.
-use Rattle.std.specs.Prelude.{◌≡◌, ℕ, zero, suc, ◌+◌, ◌-◌, ◌*◌, ◌^◌, ◌≤◌, min, List, [], ◌∷◌, length, slice_index}
+use Rattle.std.specs.Prelude.{◌≡◌, ℕ, zero, suc, ◌+◌, ◌-◌, ◌*◌, ◌^◌, min, List, [], ◌∷◌, length, slice_index}
 use Rattle.poly_cut.specs.declared.layout.Item.{Item}
 use Rattle.poly_cut.specs.declared.layout.Item.TheVariants.{Draw, Place, Text}
 use Rattle.poly_cut.specs.declared.layout.WideStructure.{WideStructure}
 use Rattle.poly_cut.specs.declared.layout.WideLayout.{WideLayout}
 use Rattle.poly_cut.specs.Figures.{cut_of}
-use Rattle.poly_cut.specs.FlatForm.{items_at, shapes_of, labels_of, DEPTH}
+use Rattle.poly_cut.specs.FlatForm.{items_at, DEPTH}
 
 -- among the items themselves
 abbrev pub own_count : List Item → ℕ
@@ -37,8 +37,3 @@ told n = min n (2 ^ 64 - 1)
 -- these are the counts of all structures, as 64 bits tell them
 abbrev pub Tell : List ℕ → (ℕ → ℕ) → Type 0
 Tell counts of = (n : ℕ) → slice_index counts n ≡ told (of n)
-
--- what counts 0 has no shapes and no labels, as far as chains go
-abbrev pub ToldEmpty : List WideStructure → List ℕ → Type 0
-ToldEmpty ss counts = (n depth : ℕ) → depth ≤ DEPTH → slice_index counts n ≡ 0
-    → (shapes_of depth ss n ≡ []) × (labels_of depth ss n ≡ [])

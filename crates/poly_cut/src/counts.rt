@@ -79,7 +79,7 @@ fn points_in(grid: &Grid) -> u64
 }
 
 /// The count of a structure; 0 past the last.
-pub fn count_at(counts: &[u64], structure: u32) -> u64
+fn count_at(counts: &[u64], structure: u32) -> u64
     ensures { result ≡ slice_index counts.now structure }
 {
     match counts.get(structure as usize) {
@@ -139,7 +139,7 @@ fn are_same(counts: &[u64], others: &[u64]) -> bool
 }
 
 /// The counts of shapes and labels of structures, as 64 bits tell them. A round that changes none is the last.
-pub fn counts(alloc: Global, structures: &[WideStructure]) -> Result<Vec<u64>, Memory>
+fn counts(alloc: Global, structures: &[WideStructure]) -> Result<Vec<u64>, Memory>
     ensures { IfOk result (λ counts. Tell counts.items (count_of 65 structures.now)) }
 {
     let own = own_counts(alloc, structures)?;

@@ -4,12 +4,12 @@ ghost use Rattle.std.specs.List.{flat_map, AllByRecursion};
 ghost use Rattle.poly_cut.specs.Turns.{placed_shape, placed_label};
 ghost use Rattle.poly_cut.specs.Bounds.{IsShapeWithin, IsLabelWithin, IsNear};
 ghost use Rattle.poly_cut.specs.Conditions.{AreItems, IsItem, IsFlattenable};
-ghost use Rattle.poly_cut.specs.Counts.{ToldEmpty};
 ghost use Rattle.poly_cut.specs.FlatForm.{shape, item_shapes, item_labels, shapes_of, labels_of, wide_flat};
+ghost use Rattle.poly_cut.specs.Code.Holding.{MarksAll};
 ghost use Rattle.poly_cut.specs.Code.Readied.{IsReady, IsTable, ready_shapes, ready_labels};
 
-use crate::counts::counts;
 use crate::grids::grid_points;
+use crate::holding::marks;
 use crate::layout::{Item, Point, Turn, WideLayout, WideStructure};
 use crate::ready::{Ready, copied_label, ready_item, ready_table, shape_on};
 use crate::turns::{placed_label, placed_shape};
@@ -107,7 +107,7 @@ fn add_copies(flat: &mut Part, part: &Part, turn: &Turn, points: &[Point]) -> Re
 fn add_item(
     alloc: Global,
     structures: &[WideStructure],
-    counts: &[u64],
+    marks: &[bool],
     table: &[Option<List<Ready>>],
     depth: usize,
     item: &Ready,
@@ -115,7 +115,7 @@ fn add_item(
 ) -> Result<(), Memory>
     requires depth { depth ≤ 64 }
     requires items { AreItems (length structures.now) structures.now }
-    requires counts { ToldEmpty structures.now counts.now }
+    requires marks { MarksAll structures.now marks.now }
     requires table { IsTable structures.now table.now }
     requires item { IsReady (length structures.now) item.now }
     ensures shapes { OnOk result (flat.new.shapes ≡ flat.old.shapes ++ ready_shapes (shapes_of depth structures.now) item.now) }
@@ -134,7 +134,7 @@ fn add_item(
             turn,
             grid,
         } => {
-            let part = part_of(alloc, structures, counts, table, depth, *structure)?;
+            let part = part_of(alloc, structures, marks, table, depth, *structure)?;
             let points = grid_points(alloc, at, grid)?;
             add_copies(flat, &part, turn, points.as_slice())
         }
@@ -147,14 +147,14 @@ fn add_item(
 fn part_with(
     alloc: Global,
     structures: &[WideStructure],
-    counts: &[u64],
+    marks: &[bool],
     table: &[Option<List<Ready>>],
     depth: usize,
     items: &[Ready],
 ) -> Result<Part, Memory>
     requires depth { depth ≤ 64 }
     requires items { AreItems (length structures.now) structures.now }
-    requires counts { ToldEmpty structures.now counts.now }
+    requires marks { MarksAll structures.now marks.now }
     requires table { IsTable structures.now table.now }
     requires each { AllByRecursion (IsReady (length structures.now)) items.now }
     ensures shapes { IfOk result (λ part. part.shapes ≡ flat_map (ready_shapes (shapes_of depth structures.now)) items.now) }
@@ -162,7 +162,7 @@ fn part_with(
 {
     let mut part = nothing(alloc);
     for item in items {
-        add_item(alloc, structures, counts, table, depth, item, &mut part)?;
+        add_item(alloc, structures, marks, table, depth, item, &mut part)?;
     }
     Ok(part)
 }
@@ -172,7 +172,7 @@ fn part_with(
 fn add_own(
     alloc: Global,
     structures: &[WideStructure],
-    counts: &[u64],
+    marks: &[bool],
     table: &[Option<List<Ready>>],
     depth: usize,
     item: &Item,
@@ -180,14 +180,14 @@ fn add_own(
 ) -> Result<(), Memory>
     requires depth { depth ≤ 64 }
     requires items { AreItems (length structures.now) structures.now }
-    requires counts { ToldEmpty structures.now counts.now }
+    requires marks { MarksAll structures.now marks.now }
     requires table { IsTable structures.now table.now }
     requires item { IsItem (length structures.now) item.now }
     ensures shapes { OnOk result (flat.new.shapes ≡ flat.old.shapes ++ item_shapes (shapes_of depth structures.now) item.now) }
     ensures labels { OnOk result (flat.new.labels ≡ flat.old.labels ++ item_labels (labels_of depth structures.now) item.now) }
 {
-    match ready_item(alloc, structures, counts, item)? {
-        Some(ready) => add_item(alloc, structures, counts, table, depth, &ready, flat),
+    match ready_item(alloc, structures, marks, item)? {
+        Some(ready) => add_item(alloc, structures, marks, table, depth, &ready, flat),
         None => Ok(()),
     }
 }
@@ -197,14 +197,14 @@ fn add_own(
 fn part_from(
     alloc: Global,
     structures: &[WideStructure],
-    counts: &[u64],
+    marks: &[bool],
     table: &[Option<List<Ready>>],
     depth: usize,
     items: &[Item],
 ) -> Result<Part, Memory>
     requires depth { depth ≤ 64 }
     requires items { AreItems (length structures.now) structures.now }
-    requires counts { ToldEmpty structures.now counts.now }
+    requires marks { MarksAll structures.now marks.now }
     requires table { IsTable structures.now table.now }
     requires each { AllByRecursion (IsItem (length structures.now)) items.now }
     ensures shapes { IfOk result (λ part. part.shapes ≡ flat_map (item_shapes (shapes_of depth structures.now)) items.now) }
@@ -212,7 +212,7 @@ fn part_from(
 {
     let mut part = nothing(alloc);
     for item in items {
-        add_own(alloc, structures, counts, table, depth, item, &mut part)?;
+        add_own(alloc, structures, marks, table, depth, item, &mut part)?;
     }
     Ok(part)
 }
@@ -222,14 +222,14 @@ fn part_from(
 fn part_of(
     alloc: Global,
     structures: &[WideStructure],
-    counts: &[u64],
+    marks: &[bool],
     table: &[Option<List<Ready>>],
     depth: usize,
     number: u32,
 ) -> Result<Part, Memory>
     requires depth { depth ≤ 65 }
     requires items { AreItems (length structures.now) structures.now }
-    requires counts { ToldEmpty structures.now counts.now }
+    requires marks { MarksAll structures.now marks.now }
     requires table { IsTable structures.now table.now }
     ensures shapes { IfOk result (λ part. part.shapes ≡ shapes_of depth structures.now number) }
     ensures labels { IfOk result (λ part. part.labels ≡ labels_of depth structures.now number) }
@@ -238,20 +238,13 @@ fn part_of(
         return Ok(nothing(alloc));
     }
     if let Some(Some(ready)) = table.get(number as usize) {
-        return part_with(
-            alloc,
-            structures,
-            counts,
-            table,
-            depth - 1,
-            ready.as_slice(),
-        );
+        return part_with(alloc, structures, marks, table, depth - 1, ready.as_slice());
     }
     let structure = &structures[number as usize];
     part_from(
         alloc,
         structures,
-        counts,
+        marks,
         table,
         depth - 1,
         structure.items.as_slice(),
@@ -265,8 +258,8 @@ pub fn flatten_wide(alloc: Global, wide: &WideLayout) -> Result<Flat, Memory>
     ensures { IfOk result (λ flat. flat ≡ wide_flat wide.now) }
 {
     let structures = wide.structures.as_slice();
-    let counts = counts(alloc, structures)?;
-    let table = ready_table(alloc, structures, &counts, wide.top)?;
-    let Part { shapes, labels } = part_of(alloc, structures, &counts, &table, 65, wide.top)?;
+    let marks = marks(alloc, structures)?;
+    let table = ready_table(alloc, structures, &marks, wide.top)?;
+    let Part { shapes, labels } = part_of(alloc, structures, &marks, &table, 65, wide.top)?;
     Ok(Flat { shapes, labels })
 }

@@ -9,6 +9,7 @@ mod cutting;
 mod ends;
 mod flat;
 mod grids;
+mod holding;
 mod laws;
 mod layout;
 mod ready;

@@ -4,13 +4,13 @@ ghost use Rattle.std.specs.List.{AllByRecursion};
 ghost use Rattle.geom.specs.Rectangle.{Rectangle};
 ghost use Rattle.poly_cut.specs.Figures.{cut_of, IsDrawn};
 ghost use Rattle.poly_cut.specs.Conditions.{IsItem, AreItems};
-ghost use Rattle.poly_cut.specs.Counts.{ToldEmpty};
 ghost use Rattle.poly_cut.specs.FlatForm.{shape};
+ghost use Rattle.poly_cut.specs.Code.Holding.{MarksAll};
 ghost use Rattle.poly_cut.specs.Code.Readied.{AddsAs, GainsItem, IsDrawing, IsEntry, IsReadied, IsTable};
 
 use crate::boxes::rectangle_of;
-use crate::counts::count_at;
 use crate::cutting::cut;
+use crate::holding::mark_at;
 use crate::layout::{Figure, Grid, Item, Point, Turn, WideStructure};
 use aq_base::{List, Memory};
 use geom::{Label, Rect, Shape};
@@ -90,10 +90,10 @@ pub fn copied_label(label: &Label) -> Result<Label, Memory>
 pub fn ready_item(
     alloc: Global,
     structures: &[WideStructure],
-    counts: &[u64],
+    marks: &[bool],
     item: &Item,
 ) -> Result<Option<Ready>, Memory>
-    requires counts { ToldEmpty structures.now counts.now }
+    requires marks { MarksAll structures.now marks.now }
     requires item { IsItem (length structures.now) item.now }
     ensures { IfOk result (IsReadied structures.now item.now) }
 {
@@ -109,7 +109,7 @@ pub fn ready_item(
             turn,
             grid,
         } => {
-            if count_at(counts, *structure) == 0 {
+            if !mark_at(marks, *structure) {
                 return Ok(None);
             }
             Ok(Some(Ready::Placed {
@@ -127,15 +127,15 @@ pub fn ready_item(
 fn add_ready(
     alloc: Global,
     structures: &[WideStructure],
-    counts: &[u64],
+    marks: &[bool],
     item: &Item,
     ready: &mut List<Ready>,
 ) -> Result<(), Memory>
-    requires counts { ToldEmpty structures.now counts.now }
+    requires marks { MarksAll structures.now marks.now }
     requires item { IsItem (length structures.now) item.now }
     ensures { OnOk result (GainsItem structures.now item.now ready.old ready.new) }
 {
-    match ready_item(alloc, structures, counts, item)? {
+    match ready_item(alloc, structures, marks, item)? {
         Some(adds) => ready.push(adds),
         None => Ok(()),
     }
@@ -145,16 +145,16 @@ fn add_ready(
 fn ready_items(
     alloc: Global,
     structures: &[WideStructure],
-    counts: &[u64],
+    marks: &[bool],
     items: &[Item],
 ) -> Result<List<Ready>, Memory>
-    requires counts { ToldEmpty structures.now counts.now }
+    requires marks { MarksAll structures.now marks.now }
     requires items { AllByRecursion (IsItem (length structures.now)) items.now }
     ensures { IfOk result (λ ready. AddsAs structures.now items.now ready) }
 {
     let mut ready = List::new(alloc);
     for item in items {
-        add_ready(alloc, structures, counts, item, &mut ready)?;
+        add_ready(alloc, structures, marks, item, &mut ready)?;
     }
     Ok(ready)
 }
@@ -199,18 +199,18 @@ fn visits(alloc: Global, structures: &[WideStructure], top: u32) -> Result<Vec<u
 fn entry(
     alloc: Global,
     structures: &[WideStructure],
-    counts: &[u64],
+    marks: &[bool],
     structure: &WideStructure,
     asked: bool,
 ) -> Result<Option<List<Ready>>, Memory>
-    requires counts { ToldEmpty structures.now counts.now }
+    requires marks { MarksAll structures.now marks.now }
     requires items { AllByRecursion (IsItem (length structures.now)) structure.now.items }
     ensures { IfOk result (IsEntry structures.now structure.now.items) }
 {
     if !asked {
         return Ok(None);
     }
-    Ok(Some(ready_items(alloc, structures, counts, structure.items.as_slice())?))
+    Ok(Some(ready_items(alloc, structures, marks, structure.items.as_slice())?))
 }
 
 /// What the items of each structure add that is visited more than once: so each figure is cut once, and what is visited
@@ -218,10 +218,10 @@ fn entry(
 pub fn ready_table(
     alloc: Global,
     structures: &[WideStructure],
-    counts: &[u64],
+    marks: &[bool],
     top: u32,
 ) -> Result<Vec<Option<List<Ready>>>, Memory>
-    requires counts { ToldEmpty structures.now counts.now }
+    requires marks { MarksAll structures.now marks.now }
     requires items { AreItems (length structures.now) structures.now }
     ensures { IfOk result (λ table. IsTable structures.now table.items) }
 {
@@ -229,7 +229,7 @@ pub fn ready_table(
     let mut table = Vec::with_capacity(alloc, structures.len())?;
     for (number, structure) in structures.iter().enumerate() {
         let asked = visits.get(number).copied() == Some(2);
-        table.push(entry(alloc, structures, counts, structure, asked)?)?;
+        table.push(entry(alloc, structures, marks, structure, asked)?)?;
     }
     Ok(table)
 }

@@ -1,7 +1,7 @@
 -- What a sweep over a ring keeps, from below.
 use Rattle.std.specs.Prelude.{◌≡◌, ℕ, ◌<◌, ◌≤◌, List, [], ◌∷◌, Some, None, true, false, slice_get, length, ℤ, ◌<ℤ◌}
 use Rattle.std.specs.Prelude.{◌≤ℤ◌, Option}
-use Rattle.std.specs.Ordering.{int_cmp}
+use Rattle.std.specs.Ordering.{int_cmp, int_eq}
 use Rattle.std.specs.BTreeMap.{BTreeMap}
 use Rattle.std.specs.BTreeMap as tree
 use Rattle.geom.specs.Rectangle.{Rectangle}
@@ -22,6 +22,11 @@ Rising (w ∷ ws) = Above w ws
 -- an end of an edge
 abbrev pub end : ℤ → ℤ → End
 end y x = record { y = y; x = x }
+
+-- the edges that go up or down; the others have no walls
+abbrev pub steep : List Edge → List Edge
+steep [] = []
+steep (e ∷ es) = elim (int_eq e.start e.stop) [ true ↦ steep es | false ↦ e ∷ steep es ]
 
 -- both ends of each edge
 abbrev pub ends_of : List Edge → List End

@@ -2,10 +2,10 @@ use Rattle.std.proofs.Common.{sym, length, ◌∙◌}
 use Rattle.poly_cut.proofs.Readying.{placed_nothing, drawing}
 use Rattle.poly_cut.proofs.ready.ready_item.Goals as goal
 
-pub returns-then-count_at-eq0 : goal.returns-then-count_at-eq0
-returns-then-count_at-eq0 c =
-    placed_nothing c.args.structures.now c.args.counts.now c.args.item.now c.in-Place.structure c.in-Place.at c.in-Place.turn c.in-Place.grid
-    c.in-Place.is c.requires.counts (sym c.count_at.ensures ∙ c.if-count_at-eq0.true)
+pub returns-then-not-mark_at : goal.returns-then-not-mark_at
+returns-then-not-mark_at c =
+    placed_nothing c.args.structures.now c.args.marks.now c.args.item.now c.in-Place.structure c.in-Place.at c.in-Place.turn c.in-Place.grid
+    c.in-Place.is c.requires.marks (sym c.mark_at.ensures ∙ c.if-not-mark_at.true)
 
 pub returns-in_ok-drawn-in-Draw : goal.returns-in_ok-drawn-in-Draw
 returns-in_ok-drawn-in-Draw c =
