@@ -23,10 +23,10 @@
 # other.
 #
 # Prints for each the seconds of processor time and the megabytes of memory at most, the same of the ordinary input, the
-# two ratios, and whether they are within three times, five for labels on one pin, 2.5 for twice the keys, eight for a
-# hundred boundaries, ten for the comparison of many searches, whose work is bounded by counts. Where the time grows with pairs that touch, or with the places
-# of a long text, that is said. The status is 1 where one is above, or a comparison is answered otherwise. Needs GNU
-# time, cc and python3; SECONDS_EACH, by default 300, is when a run is cut off.
+# two ratios, and whether they are within three times, five for labels on one pin, 2.5 for twice the keys, ten for the
+# comparison of many searches, whose work is bounded by counts. Where the time grows with pairs that touch, or with the
+# places of a long text, that is said. The status is 1 where one is above, or a comparison is answered otherwise. Needs
+# GNU time, cc and python3; SECONDS_EACH, by default 300, is when a run is cut off.
 set -u
 here=$(cd -P "$(dirname "$0")/.." && pwd)
 seconds=${SECONDS_EACH:-300}
@@ -401,7 +401,7 @@ while read -r kind count; do
     bytes=$(wc -c <"$work/hostile.gds")
     times=$(awk -v a="$bytes" -v b="$(wc -c <"$work/adder.gds")" 'BEGIN { print a / b }')
     compare "stream $kind, $count rings, $bytes bytes" \
-        "$(check "$work/hostile.gds" "$work/words")" "$plain" "$times" 8
+        "$(check "$work/hostile.gds" "$work/words")" "$plain" "$times" 3
 done <<CASES
 rings_comb 100
 rings_stairs 100
