@@ -1,22 +1,13 @@
 -- What is counted and laid from an outline is the plan's.
-use Rattle.std.proofs.Common.{◌≡◌, ℕ, ◌+◌, ◌<◌, ◌≤◌, Bool, List, length, ap, ◌∙◌, sym, subst, arith}
+use Rattle.std.proofs.Common.{◌≡◌, ℕ, ◌<◌, ◌≤◌, Bool, List, length, ap, ◌∙◌, sym, subst, arith}
 use Rattle.circuit.specs.PlainNets.{PlainView, IsPlainNet}
 use Rattle.rowed.specs.declared.row_cell.RowCell.{RowCell}
 use Rattle.rowed.specs.RowNets.{RowView}
 use Rattle.level_balance.specs.Plan.{Frame, frame, laid, level_net}
 use Rattle.level_balance.specs.Code.Turns.{laid_by}
-use Rattle.level_balance.specs.Counts.{constants_in, gates_cells, cell_count, capped}
-use Rattle.level_balance.proofs.KeptNet.{frame_inputs}
+use Rattle.level_balance.specs.Counts.{cell_count, capped}
 use Rattle.level_balance.proofs.PlanGiven.{plan_given}
 use Rattle.level_balance.specs.Passes.{IsLevelled}
-
--- the count from the outline is that of the plan
-pub total_is : (net : PlainView) (three : Bool) (f : Frame) (cells : ℕ) → f ≡ frame net three
-    → cells ≡ capped (gates_cells f 0 net.gates + constants_in f.inputs net.outputs + length net.outputs) → cells ≡ capped (cell_count net three)
-unfolding cell_count
-total_is net three f cells e is =
-    is ∙ ap (λ (g : Frame). capped (gates_cells g 0 net.gates + constants_in g.inputs net.outputs + length net.outputs)) e
-    ∙ ap (λ (n : ℕ). capped (gates_cells (frame net three) 0 net.gates + constants_in n net.outputs + length net.outputs)) (frame_inputs net three)
 
 pub many : (cells count : ℕ) → 2000000 < cells → cells ≡ capped count → 2000000 < count
 many cells count lt is = omega arith
@@ -35,9 +26,9 @@ plan_is net three rows e = ap (λ (r : List (List RowCell)). let made : RowView 
 
 -- the rows that are laid from the outline are the plan's, where they are few
 pub levelled : (net : PlainView) (three : Bool) (f : Frame) (cells : ℕ) (rows : List (List RowCell)) → IsPlainNet net → f ≡ frame net three
-    → cells ≡ capped (gates_cells f 0 net.gates + constants_in f.inputs net.outputs + length net.outputs) → cells ≤ 2000000 → rows ≡ laid_by f net.gates net.outputs
+    → cells ≡ capped (cell_count net three) → cells ≤ 2000000 → rows ≡ laid_by f net.gates net.outputs
     → IsLevelled net three (record { inputs = net.inputs; outputs = length net.outputs; rows = rows })
 levelled net three f cells rows known e total le laid_is =
-    let small = few cells (cell_count net three) le (total_is net three f cells e total) in
+    let small = few cells (cell_count net three) le total in
     let plan = plan_is net three rows (rows_are net three f rows e laid_is) in
     subst (IsLevelled net three) (sym plan) (plan_given net three known small)

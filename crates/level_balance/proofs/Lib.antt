@@ -39,3 +39,6 @@ mod Levelled
 mod ShortestTrees
 mod NeededPaths
 mod LevelEquation
+mod ByUsers
+mod Serving
+mod AtMost

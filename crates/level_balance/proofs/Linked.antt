@@ -1,10 +1,11 @@
 -- The loop that links uses from the last one down.
 use Rattle.std.proofs.Common.{◌≡◌, ◌≢◌, ℕ, zero, suc, ◌+◌, ◌-◌, ◌<◌, ◌≤◌, List, [], ◌∷◌, length, drop, set, replicate, get_or, refl, sym, ap, ◌∙◌, subst, arith, inl, inr, drop-cons}
 use Rattle.std.specs.List.{AllByRecursion}
-use Rattle.std.proofs.lemmas.Bool.{cases_eq, eq-eqb, ne_eqb}
+use Rattle.std.proofs.lemmas.Bool.{cases_eq, cases_lt, eq-eqb, ne_eqb}
 use Rattle.std.proofs.lemmas.List.{length-set, get_or-set_same, get_or-set_other, length-replicate}
 use Rattle.level_balance.specs.Uses.{uses_of}
 use Rattle.level_balance.specs.Code.Chained.{Chained, AreLinksFrom}
+use Rattle.level_balance.specs.Code.Served.{IsAtMost}
 use Rattle.level_balance.proofs.LawOfGates.{In, from_uses}
 
 -- a chain of higher numbers is not changed by a lower one
@@ -18,10 +19,10 @@ chained_set next stop at q v (p ∷ qs) high h =
 later_uses : (g q : ℕ) (us : List ℕ) (p : ℕ) → In p (uses_of g (suc q) us) → q < p
 later_uses g q us p i = let r = from_uses g (suc q) p us i in let e = r.1 in omega arith
 
-uses_same : (g q : ℕ) (h : ℕ) (us : List ℕ) → h ≡ g → uses_of g q (h ∷ us) ≡ q ∷ uses_of g (suc q) us
+pub uses_same : (g q : ℕ) (h : ℕ) (us : List ℕ) → h ≡ g → uses_of g q (h ∷ us) ≡ q ∷ uses_of g (suc q) us
 uses_same g q h us e = rw (eq-eqb h g e, uses_of) refl
 
-uses_other : (g q : ℕ) (h : ℕ) (us : List ℕ) → h ≢ g → uses_of g q (h ∷ us) ≡ uses_of g (suc q) us
+pub uses_other : (g q : ℕ) (h : ℕ) (us : List ℕ) → h ≢ g → uses_of g q (h ∷ us) ≡ uses_of g (suc q) us
 uses_other g q h us other = rw (ne_eqb h g other, uses_of) refl
 
 pub link_turn : (first next fans first' next' fans' : List ℕ) (gates : ℕ) (us : List ℕ) (q g : ℕ) → q < length us → g ≡ get_or us q 0 → g < gates
@@ -100,3 +101,27 @@ link_step first next fans first' next' fans' gates us left some le all fe ne ae 
     let q = left - 1 in
     let z : left ≡ suc q = omega arith in
     link_turn first next fans first' next' fans' gates us q (get_or us q 0) (omega arith) refl (within gates us q all (omega arith)) fe ne ae (subst (λ t. AreLinksFrom first next fans gates us t) z h)
+
+uses_shorter : (g q : ℕ) (us : List ℕ) → length (uses_of g q us) ≤ length us
+uses_shorter g q [] = omega arith
+uses_shorter g q (h ∷ us) = elim (cases_eq h g) [
+  | inl same ↦ (let a = ap length (uses_same g q h us same) in let b = uses_shorter g (suc q) us in omega arith)
+  | inr other ↦ (let a = ap length (uses_other g q h us other) in let b = uses_shorter g (suc q) us in omega arith)
+]
+
+drop_shorter : (q : ℕ) (us : List ℕ) → length (drop q us) ≤ length us
+drop_shorter zero us = omega arith
+drop_shorter (suc q) [] = omega arith
+drop_shorter (suc q) (x ∷ us) = let e = drop_shorter q us in omega arith
+
+past_fans : (fans : List ℕ) (x : ℕ) → length fans ≤ x → get_or fans x 0 ≡ 0
+past_fans [] x le = refl
+past_fans (y ∷ fans) zero le = absurd (omega arith)
+past_fans (y ∷ fans) (suc x) le = past_fans fans x (omega arith)
+
+-- a gate has no more uses than there are
+pub fan_low : (first next fans : List ℕ) (gates : ℕ) (us : List ℕ) (q most : ℕ) → length us ≤ most → AreLinksFrom first next fans gates us q → IsAtMost most fans
+fan_low first next fans gates us q most le h = λ x. elim (cases_lt x gates) [
+  | inl below ↦ (let e = h.counts x below in let a = uses_shorter x q (drop q us) in let b = drop_shorter q us in omega arith)
+  | inr past ↦ (let size = h.fans_length in let e = past_fans fans x (omega arith) in omega arith)
+]

@@ -74,7 +74,7 @@ uses_low net known marks us is =
     (uses_low_from net.inputs (length net.gates) marks 0 net.gates net.outputs (omega arith)
     (λ k g e. subst (λ t. AllIn (λ y. y < t) (operands g)) (let z : k ≡ 0 + k = omega arith in z) (plain.lower k g e)) known.each_output)
 
-all_out : (m : ℕ) (xs : List ℕ) → AllByRecursion (λ x. x < m) xs → AllIn (λ x. x < m) xs
+pub all_out : (m : ℕ) (xs : List ℕ) → AllByRecursion (λ x. x < m) xs → AllIn (λ x. x < m) xs
 all_out m [] h = tt
 all_out m (x ∷ xs) h = (h.0, all_out m xs h.1)
 

@@ -4,3 +4,4 @@ pub mod Arrays
 pub mod Steps
 pub mod Turns
 pub mod Outlines
+pub mod Served

@@ -1,5 +1,5 @@
 -- The plan over arrays: how many uses each gate has, and the uses of a gate as a chain of numbers.
-use Rattle.std.specs.Prelude.{ℕ, zero, suc, ◌+◌, ◌-◌, max, ltb, true, false, List, [], ◌∷◌, ◌++◌, length}
+use Rattle.std.specs.Prelude.{ℕ, suc, ◌+◌, ◌-◌, max, ltb, true, false, List, [], ◌∷◌, ◌++◌, length}
 use Rattle.std.specs.Prelude.{slice_index_or, slice_set}
 use Rattle.circuit.specs.PlainNets.{is_constant}
 use Rattle.circuit.specs.declared.gate.Gate.{Gate}
@@ -56,23 +56,3 @@ lead_one user_rows next leaf at s =
 abbrev pub lead_walk : List ℕ → List ℕ → ℕ → Led → List Source → Led
 lead_walk user_rows next leaf at [] = at
 lead_walk user_rows next leaf at (s ∷ ss) = lead_walk user_rows next leaf (lead_one user_rows next leaf at s) ss
-
--- the buffers to the use of this number; none where the chain of uses has ended
-abbrev pub lead_count : List ℕ → List ℕ → ℕ → ℕ → ℕ
-lead_count user_rows next leaf number = elim (ltb number (length next)) [
-  | true ↦ slice_index_or user_rows number 0 - 1 - leaf
-  | false ↦ 0
-]
-
--- the number of the next use; none past the last
-abbrev pub lead_next : List ℕ → ℕ → ℕ
-lead_next next number = elim (ltb number (length next)) [
-  | true ↦ slice_index_or next number (length next)
-  | false ↦ number
-]
-
--- the buffers to so many uses along the chain
-abbrev pub lead_sum : List ℕ → List ℕ → ℕ → ℕ → ℕ → ℕ
-lead_sum user_rows next leaf number zero = 0
-lead_sum user_rows next leaf number (suc k) =
-    lead_count user_rows next leaf number + lead_sum user_rows next leaf (lead_next next number) k

@@ -1,6 +1,8 @@
 -- What the code knows of a plan before a cell is made, in the words of the plan.
+use Rattle.std.specs.Prelude.{◌≤◌, ◌^◌}
 use Rattle.level_balance.specs.declared.laying.Outline.{Outline}
 use Rattle.level_balance.specs.Plan.{Frame}
+use Rattle.level_balance.specs.Code.Served.{IsAtMost}
 
 -- what is fixed before a cell is made, as the code has it
 abbrev pub frame_of : Outline → Frame
@@ -13,3 +15,10 @@ frame_of o = record {
   last = o.last;
   user_rows = o.user_rows.items;
 }
+
+-- numbers of rows and of uses are far below what a word holds
+pub record IsLow (o : Outline) : Type 0 where
+  pub levels : IsAtMost (2 ^ 39) o.levels.items
+  pub last : o.last ≤ 2 ^ 41
+  pub user_rows : IsAtMost (2 ^ 41) o.user_rows.items
+  pub fans : IsAtMost (2 ^ 40) o.links.fans.items

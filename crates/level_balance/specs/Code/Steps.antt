@@ -1,5 +1,5 @@
 -- One turn of the walks over gates and signals.
-use Rattle.std.specs.Prelude.{ℕ, suc, ◌+◌, max, Bool, true, false, List, [], length, replicate}
+use Rattle.std.specs.Prelude.{ℕ, ◌+◌, max, Bool, true, false, List, [], length, replicate}
 use Rattle.std.specs.Prelude.{slice_index_or}
 use Rattle.circuit.specs.PlainNets.{is_constant}
 use Rattle.circuit.specs.declared.gate.Gate.{Gate}
@@ -23,7 +23,3 @@ counted_rows n marks ls i g = elim (counts n marks i) [
   | true ↦ replicate (length (operands g)) (slice_index_or ls i 0)
   | false ↦ []
 ]
-
--- one more where the gate is a constant
-abbrev pub one_more_constant : ℕ → ℕ → ℕ → ℕ
-one_more_constant n x count = elim (is_constant n x) [ true ↦ suc count | false ↦ count ]

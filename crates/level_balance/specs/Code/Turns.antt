@@ -1,12 +1,10 @@
 -- One turn of the walks that lay gates and outputs.
-use Rattle.std.specs.Prelude.{◌≡◌, ℕ, suc, pred, true, false, List, [], ◌∷◌, length, replicate, slice_index_or, ◌+◌}
-use Rattle.std.specs.Prelude.{◌-◌, ◌^◌, min}
+use Rattle.std.specs.Prelude.{◌≡◌, ℕ, suc, pred, true, false, List, [], ◌∷◌, length, replicate, slice_index_or}
 use Rattle.circuit.specs.declared.gate.Gate.{Gate}
 use Rattle.rowed.specs.declared.source.Source.{Source}
 use Rattle.rowed.specs.declared.row_cell.RowCell.{RowCell}
 use Rattle.rowed.specs.MadeCells.{source, output_cell}
 use Rattle.level_balance.specs.Uses.{counts}
-use Rattle.level_balance.specs.Counts.{gate_cells, capped}
 use Rattle.level_balance.specs.Laying.{put}
 use Rattle.level_balance.specs.Plan.{Frame, Laid, sources, lay_gate, lay_gates, lay_outputs}
 
@@ -33,10 +31,3 @@ laid_by f gates outs =
     let none : Laid =
     record { rows = replicate (suc f.last) []; ends = replicate (length f.uses) (source 0 0); use_at = 0 } in
     (lay_outputs f 0 (lay_gates f 0 none gates) outs).rows
-
--- a total and the cells of a gate, if it counts
-abbrev pub total_with : Frame → ℕ → Gate → ℕ → ℕ
-total_with f i g total = elim (counts f.inputs f.marks i) [
-  | true ↦ min (total + capped (gate_cells f i g)) (2 ^ 64 - 1)
-  | false ↦ total
-]
