@@ -42,3 +42,4 @@ mod LevelEquation
 mod ByUsers
 mod Serving
 mod AtMost
+mod Rooms

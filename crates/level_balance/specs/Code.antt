@@ -5,3 +5,4 @@ pub mod Steps
 pub mod Turns
 pub mod Outlines
 pub mod Served
+pub mod Rooms
