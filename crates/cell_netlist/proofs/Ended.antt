@@ -1,23 +1,26 @@
 -- The levels that are told.
-use Rattle.std.proofs.Common.{◌≡◌, ℕ, zero, suc, ◌+◌, ◌-◌, ◌<◌, ◌≤◌, Bool, true, false, List, [], ◌∷◌, ◌++◌, length, Option, refl, ap, sym, ◌∙◌, subst, arith, inl, inr}
+use Rattle.std.proofs.Common.{◌≡◌, ℕ, zero, suc, ◌+◌, ◌-◌, ◌<◌, ◌≤◌, Bool, true, false, List, [], ◌∷◌, ◌++◌, length}
+use Rattle.std.proofs.Common.{Option, refl, ap, sym, ◌∙◌, subst, arith, inl, inr}
 use Rattle.std.proofs.Math.Path.{fun_ext}
 use Rattle.std.specs.Prelude.{slice_index, slice_index_or, nat_lt, replicate}
 use Rattle.std.specs.List.{list_all}
 use Rattle.std.proofs.lemmas.Bool.{cases_eq, cases_lt, cond-true, cond-false}
-use Rattle.std.proofs.lemmas.List.{get_or_push, get_or_append_left, length_push, get_or_past, get_or-replicate, length-replicate}
+use Rattle.std.proofs.lemmas.List.{get_or_push, get_or_append_left, length_push, get_or_past, get_or-replicate}
+use Rattle.std.proofs.lemmas.List.{length-replicate}
 use Rattle.std.proofs.lemmas.Slice.Zip.{AllZip-long}
 use Rattle.height_trees.specs.Forests.{Forest, Obeys, AreLeast}
 use Rattle.circuit.specs.declared.gate.Gate.{Gate}
 use Rattle.blif_read.specs.Parts.{NetView}
 use Rattle.blif_read.specs.Netlist.{IsNetlist}
 use Rattle.cell_netlist.specs.Kinds.{IsGateOf}
-use Rattle.cell_netlist.specs.Uses.{CellView}
+use Rattle.cell_netlist.specs.Uses.{CellView, with_gates}
 use Rattle.cell_netlist.specs.Levels.{level_in, is_shown}
 use Rattle.cell_netlist.specs.Faults.{IsFed, IsUnshown, IsCellNet, IsFault, IsFaultOfDef}
 use Rattle.cell_netlist.specs.declared.fault.CellFault.{CellFault}
 use Rattle.cell_netlist.specs.declared.fault.CellFault.TheVariants.{Cover, Uses, Level, Outputs}
-use Rattle.cell_netlist.specs.Code.Tables.{IsTableOf, view}
-use Rattle.cell_netlist.specs.Code.Progress.{node_of, level_of, height_of, IsLevelled, IsJudged, IsAligned, AreShownNodes, IsNearly, IsLast, AreLevels}
+use Rattle.cell_netlist.specs.Tables.{IsTableOf}
+use Rattle.cell_netlist.specs.Code.Progress.{node_of, level_of, height_of, IsLevelled, IsJudged, IsAligned}
+use Rattle.cell_netlist.specs.Code.Progress.{AreShownNodes, IsNearly, IsLast, AreLevels}
 use Rattle.cell_netlist.proofs.Levelled.{side, all_at}
 use Rattle.cell_netlist.proofs.Levelled.Side.{before_cells, past_inputs}
 use Rattle.cell_netlist.proofs.Shown.{cell_net, unshown_grounded, node_low}
@@ -87,10 +90,11 @@ told_fault d nodes heights known low = unshown_grounded d known.f known.g nodes 
 -- the facts at each step
 
 pub nearly_of : (net : NetView) (gates : List (Option Gate)) (used shown nodes : List ℕ) (three : Bool) (f : Forest)
-    → IsNetlist net → IsTableOf net gates used shown → IsFed (view net gates three)
-    → IsLevelled (view net gates three) (length net.defs) f
-    → list_all (is_shown (view net gates three)) net.outputs ≡ true
-    → AreShownNodes (view net gates three) net.outputs nodes (length net.outputs) → IsNearly (view net gates three) f nodes
+    → IsNetlist net → IsTableOf net gates used shown → IsFed (with_gates net gates three)
+    → IsLevelled (with_gates net gates three) (length net.defs) f
+    → list_all (is_shown (with_gates net gates three)) net.outputs ≡ true
+    → AreShownNodes (with_gates net gates three) net.outputs nodes (length net.outputs)
+    → IsNearly (with_gates net gates three) f nodes
 nearly_of net gates used shown nodes three f known table fed levelled all are = record {
   fed = fed;
   levelled = levelled;
@@ -135,7 +139,8 @@ pub start_from : (d : CellView) (f : Forest) (taken : List Bool) (n : ℕ) → n
     → ((h : ℕ → ℕ) → h 0 ≡ 0 → ((s : ℕ) → 0 < s → s < n + 1 → 0 < h s) → Obeys f h)
     → taken ≡ replicate d.net.inputs false → IsJudged d 0 f taken
 start_from d f taken n e count free is =
-    start_of d f taken (omega (arith, e, count)) (λ h base rises. free h base (λ s pos lt. rises s pos (omega (arith, e)))) is
+    start_of d f taken (omega (arith, e, count))
+    (λ h base rises. free h base (λ s pos lt. rises s pos (omega (arith, e)))) is
 
 pub within_of : (d : CellView) (f g : Forest) (nodes heights xs : List ℕ) (n : ℕ) → IsNearly d f nodes
     → IsAligned f g (slice_index nodes 0) nodes n → AreLeast g heights → xs ≡ heights → slice_index nodes 0 < length xs

@@ -1,5 +1,6 @@
 -- Gates and counts of lists that grow by one.
-use Rattle.std.proofs.Common.{◌≡◌, ℕ, zero, suc, ◌+◌, ◌<◌, ◌≤◌, ◌^◌, Bool, List, [], ◌∷◌, ◌++◌, length, take, get_or, Option, refl, ap, sym, ◌∙◌, subst, arith, inl, inr}
+use Rattle.std.proofs.Common.{◌≡◌, ℕ, zero, suc, ◌+◌, ◌<◌, ◌≤◌, ◌^◌, Bool, List, [], ◌∷◌, ◌++◌, length, take, get_or}
+use Rattle.std.proofs.Common.{Option, refl, ap, sym, ◌∙◌, subst, arith, inl, inr}
 use Rattle.std.specs.Prelude.{slice_index, eqb, nat_eq, ◌&&◌}
 use Rattle.std.specs.List.{count_by, sum_by}
 use Rattle.std.proofs.lemmas.Bool.Decides.{eqb_tells}
@@ -11,7 +12,8 @@ use Rattle.blif_read.specs.Netlist.{def_size, IsNetlist}
 use Rattle.blif_read.specs.Parts.{NetView}
 use Rattle.cell_netlist.specs.Kinds.{IsGateOf, AreGatesOf}
 use Rattle.cell_netlist.specs.Uses.{CellView, named, uses, gate_of, is_name, is_buffer_of_buffer}
-use Rattle.cell_netlist.specs.Code.Tables.{AreCounts, IsBumped}
+use Rattle.cell_netlist.specs.Tables.{AreCounts}
+use Rattle.cell_netlist.specs.Code.Tables.{IsBumped}
 
 zip_pushed : (defs : List Def) (gates : List (Option Gate)) (i : ℕ) (def : Def) (gate : Option Gate)
     → AreGatesOf (take i defs) gates → def ≡ get_or defs i def → i < length defs → IsGateOf def gate

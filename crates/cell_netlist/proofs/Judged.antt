@@ -1,5 +1,6 @@
 -- Definitions judged one after another.
-use Rattle.std.proofs.Common.{◌≡◌, ℕ, zero, suc, ◌+◌, ◌<◌, ◌≤◌, Bool, true, false, not, List, [], ◌∷◌, ◌++◌, length, take, get_or, Option, Some, refl, ap, sym, ◌∙◌, subst, arith, inl, inr, append_assoc}
+use Rattle.std.proofs.Common.{◌≡◌, ℕ, zero, suc, ◌+◌, ◌<◌, ◌≤◌, Bool, true, false, not, List, [], ◌∷◌, ◌++◌, length}
+use Rattle.std.proofs.Common.{take, get_or, Option, Some, refl, ap, sym, ◌∙◌, subst, arith, inl, inr, append_assoc}
 use Rattle.std.specs.Prelude.{◌&&◌, ◌||◌, slice_index_or, slice_get, slice_set, nat_lt, nat_eq}
 use Rattle.std.specs.List.{list_any}
 use Rattle.std.proofs.lemmas.Bool.{cases_eq, ltb-true, ltb-false}
@@ -15,7 +16,8 @@ use Rattle.cell_netlist.specs.Kinds.{IsGateOf}
 use Rattle.cell_netlist.specs.Uses.{CellView, named, uses, is_input, is_name, may_have, shares_input, is_used_well}
 use Rattle.cell_netlist.specs.Faults.{IsSoundAt, IsSoundTo, HasFault, IsFaultOfDef}
 use Rattle.cell_netlist.specs.declared.fault.CellFault.{CellFault}
-use Rattle.cell_netlist.specs.Code.Tables.{IsTableOf, IsTaken, shares, take_all}
+use Rattle.cell_netlist.specs.Tables.{IsTableOf}
+use Rattle.cell_netlist.specs.Code.Tables.{IsTaken, shares, take_all}
 use Rattle.cell_netlist.specs.Code.Progress.{IsSoundGate, IsJudged, IsLevelled, level_of}
 
 -- taken inputs
@@ -116,7 +118,7 @@ take_more taken inputs xs (s ∷ signals) known =
     (append_assoc xs (s ∷ []) signals)
     (take_more (slice_set taken s true) inputs (xs ++ s ∷ []) signals (take_last taken inputs s xs known))
 
-named_more : (defs : List Def) (j : ℕ) (def : Def) → slice_get defs j ≡ Some def
+pub named_more : (defs : List Def) (j : ℕ) (def : Def) → slice_get defs j ≡ Some def
     → named (take (suc j) defs) ≡ named (take j defs) ++ def.inputs
 named_more [] j def there = absurd (none-some def there)
 named_more (x ∷ defs) zero def there =
@@ -129,7 +131,8 @@ named_more (x ∷ defs) (suc j) def there =
     ap (λ (ys : List ℕ). x.inputs ++ ys) (named_more defs j def there)
     ∙ sym (append_assoc x.inputs (named (take j defs)) def.inputs)
 
-same_def : (defs : List Def) (i j : ℕ) (a b : Def) → i ≡ j → slice_get defs i ≡ Some a → slice_get defs j ≡ Some b → a ≡ b
+same_def : (defs : List Def) (i j : ℕ) (a b : Def) → i ≡ j → slice_get defs i ≡ Some a → slice_get defs j ≡ Some b
+    → a ≡ b
 same_def defs i j a b e p q = same_Some a b (sym p ∙ ap (slice_get defs) e ∙ q)
 
 sound_at : (d : CellView) (j : ℕ) (def : Def) (gate : Gate) → IsSoundGate d j def gate → IsSoundAt d j def
@@ -163,7 +166,8 @@ judged_more d j def gate f g taken new there known sound levelled is =
 
 -- the first definition with a fault
 
-item_there : (defs : List Def) (j : ℕ) (def : Def) → j < length defs → def ≡ get_or defs j def → slice_get defs j ≡ Some def
+item_there : (defs : List Def) (j : ℕ) (def : Def) → j < length defs → def ≡ get_or defs j def
+    → slice_get defs j ≡ Some def
 item_there [] j def lt is = absurd (omega (arith, lt))
 item_there (x ∷ defs) zero def lt is = ap Some (sym is)
 item_there (x ∷ defs) (suc j) def lt is = item_there defs j def (omega (arith, lt)) is
@@ -172,7 +176,8 @@ pub there_of : (net : NetView) (defs : List Def) (j : ℕ) (def : Def) → defs 
     → def ≡ get_or defs j def → slice_get net.defs j ≡ Some def
 there_of net defs j def e lt is = ap (λ (xs : List Def). slice_get xs j) (sym e) ∙ item_there defs j def lt is
 
-pub sound_to : (d : CellView) (n : ℕ) (f : Forest) (taken : List Bool) → IsJudged d n f taken → HasHeights f → IsSoundTo d n
+pub sound_to : (d : CellView) (n : ℕ) (f : Forest) (taken : List Bool) → IsJudged d n f taken → HasHeights f
+    → IsSoundTo d n
 sound_to d n f taken known some = record {
   each = known.each;
   level = level_of d.net.inputs some.heights;

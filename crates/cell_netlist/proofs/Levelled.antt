@@ -1,5 +1,6 @@
 -- Heights of nodes that are those of levels.
-use Rattle.std.proofs.Common.{◌≡◌, ℕ, zero, suc, ◌+◌, ◌-◌, ◌<◌, ◌≤◌, ◌^◌, Bool, true, false, List, [], ◌∷◌, length, Option, Some, refl, ap, sym, ◌∙◌, subst, arith, inl, inr}
+use Rattle.std.proofs.Common.{◌≡◌, ℕ, zero, suc, ◌+◌, ◌-◌, ◌<◌, ◌≤◌, ◌^◌, Bool, true, false, List, [], ◌∷◌, length}
+use Rattle.std.proofs.Common.{Option, Some, refl, ap, sym, ◌∙◌, subst, arith, inl, inr}
 use Rattle.std.specs.Prelude.{slice_index, slice_get, nat_lt}
 use Rattle.std.specs.List.{AllByRecursion}
 use Rattle.std.proofs.lemmas.Bool.{cases_eq, cond-true, cond-false, ltb-true, ltb-false}
@@ -8,8 +9,8 @@ use Rattle.height_trees.specs.Forests.{Forest, Obeys, IsJoined, IsRefused}
 use Rattle.circuit.specs.declared.gate.Gate.{Gate}
 use Rattle.blif_read.specs.declared.netlist.Def.{Def}
 use Rattle.cell_netlist.specs.Kinds.{operands_of, Computes, IsGateOf, AreGatesOf}
-use Rattle.cell_netlist.specs.Uses.{CellView, is_name}
-use Rattle.cell_netlist.specs.Code.Tables.{view, IsTableOf}
+use Rattle.cell_netlist.specs.Uses.{CellView, is_name, with_gates}
+use Rattle.cell_netlist.specs.Tables.{IsTableOf}
 use Rattle.blif_read.specs.Netlist.{IsNetlist, IsDef}
 use Rattle.blif_read.specs.Parts.{NetView}
 use Rattle.cell_netlist.specs.Levels.{above, LevelsFit}
@@ -25,7 +26,8 @@ added_none f inputs upper signals = record {
   forth = λ h known each. known;
 }
 
-pub added_more : (f g k : Forest) (inputs upper : ℕ) (signals : List ℕ) (n lower : ℕ) → IsAdded f g inputs upper signals n
+pub added_more : (f g k : Forest) (inputs upper : ℕ) (signals : List ℕ) (n lower : ℕ)
+    → IsAdded f g inputs upper signals n
     → lower ≡ node_of inputs (slice_index signals n) → IsJoined g k upper lower 1
     → IsAdded f k inputs upper signals (n + 1)
 added_more f g k inputs upper signals n lower added is joined = record {
@@ -237,11 +239,16 @@ here_of net j def known there = record {
 
 pub cell_of : (net : NetView) (gates : List (Option Gate)) (three : Bool) (j : ℕ) (def : Def) (gate : Gate)
     → Here net j def → slice_get gates j ≡ Some (Some gate) → Computes def gate
-    → Cell (view net gates three) j def gate
-cell_of net gates three j def gate here there computes = record { here = there; computes = computes; within = here.within }
+    → Cell (with_gates net gates three) j def gate
+cell_of net gates three j def gate here there computes = record {
+  here = there;
+  computes = computes;
+  within = here.within;
+}
 
 -- the gate that is told of a definition is computed by it
-gate_there : (defs : List Def) (gates : List (Option Gate)) (j : ℕ) (def : Def) (gate : Gate) → AreGatesOf defs gates
+pub gate_there : (defs : List Def) (gates : List (Option Gate)) (j : ℕ) (def : Def) (gate : Gate)
+    → AreGatesOf defs gates
     → slice_get defs j ≡ Some def → slice_get gates j ≡ Some (Some gate) → Computes def gate
 gate_there [] gates j def gate known p q = absurd (none-some def p)
 gate_there (x ∷ defs) [] j def gate known p q = absurd known
@@ -250,7 +257,8 @@ gate_there (x ∷ defs) (g ∷ gates) zero def gate known p q =
     (subst (λ (o : Option Gate). IsGateOf x o) (same_Some g (Some gate) q) known.0)
 gate_there (x ∷ defs) (g ∷ gates) (suc j) def gate known p q = gate_there defs gates j def gate known.1 p q
 
-pub computes_there : (net : NetView) (gates : List (Option Gate)) (used shown : List ℕ) (j : ℕ) (def : Def) (gate : Gate)
+pub computes_there : (net : NetView) (gates : List (Option Gate)) (used shown : List ℕ) (j : ℕ) (def : Def)
+    (gate : Gate)
     → IsTableOf net gates used shown → slice_get net.defs j ≡ Some def → slice_get gates j ≡ Some (Some gate)
     → Computes def gate
 computes_there net gates used shown j def gate known p q = gate_there net.defs gates j def gate known.gates_are p q

@@ -4,3 +4,5 @@ pub mod Levelled
 pub mod Judged
 pub mod Shown
 pub mod Ended
+pub mod OneGate
+pub mod OneFault

@@ -1,5 +1,6 @@
 -- The buffers that show outputs, on one level.
-use Rattle.std.proofs.Common.{◌≡◌, ℕ, zero, suc, ◌+◌, ◌-◌, ◌<◌, ◌≤◌, Bool, true, false, List, [], ◌∷◌, ◌++◌, length, Option, Some, None, refl, ap, sym, ◌∙◌, subst, arith, inl, inr}
+use Rattle.std.proofs.Common.{◌≡◌, ℕ, zero, suc, ◌+◌, ◌-◌, ◌<◌, ◌≤◌, Bool, true, false, List, [], ◌∷◌, ◌++◌, length}
+use Rattle.std.proofs.Common.{Option, Some, None, refl, ap, sym, ◌∙◌, subst, arith, inl, inr}
 use Rattle.std.specs.Prelude.{◌&&◌, eqb, slice_index, slice_index_or, slice_get, nat_lt, nat_eq}
 use Rattle.std.specs.List.{list_all, count_by}
 use Rattle.std.proofs.lemmas.Bool.{cases_eq, and_parts, eqb-true, cond-true, cond-false}
@@ -11,11 +12,12 @@ use Rattle.circuit.specs.declared.gate.Gate.TheVariants.{Input, Zero, One, Buf, 
 use Rattle.blif_read.specs.Parts.{NetView}
 use Rattle.blif_read.specs.Netlist.{IsNetlist}
 use Rattle.blif_read.specs.declared.netlist.Def.{Def}
-use Rattle.cell_netlist.specs.Uses.{CellView, uses, gate_of, is_buffer, is_buffer_of_buffer, is_name}
+use Rattle.cell_netlist.specs.Uses.{CellView, uses, gate_of, is_buffer, is_buffer_of_buffer, is_name, with_gates}
 use Rattle.cell_netlist.specs.Levels.{above, LevelsFit, LevelsFitAll, buffered, shown_by, is_shown}
 use Rattle.cell_netlist.specs.Faults.{IsFed, IsUnfed, IsUnshown, IsCellNet}
-use Rattle.cell_netlist.specs.Code.Tables.{IsTableOf, view}
-use Rattle.cell_netlist.specs.Code.Progress.{node_of, level_of, height_of, IsAligned, IsNotAligned, AreShownNodes, IsJudged, AreAllUsed, HasUnused, IsNearly, IsFoundLast}
+use Rattle.cell_netlist.specs.Tables.{IsTableOf}
+use Rattle.cell_netlist.specs.Code.Progress.{node_of, level_of, height_of, IsAligned, IsNotAligned, AreShownNodes}
+use Rattle.cell_netlist.specs.Code.Progress.{IsJudged, AreAllUsed, HasUnused, IsNearly, IsFoundLast}
 use Rattle.cell_netlist.proofs.Levelled.{here_of, computes_there, all_at, all_of, height_above, side}
 use Rattle.cell_netlist.proofs.Levelled.Side.{before_cells, past_inputs}
 use Rattle.cell_netlist.proofs.Judged.{sound_to}
@@ -65,7 +67,8 @@ nodes_more d outputs nodes n node shown known is by = record {
   each = λ k lt. elim (cases_eq k n) [
     | inl e ↦
         ap (slice_index (nodes ++ node ∷ [])) e ∙ get_or_push nodes node 0 n known.long ∙ is
-        ∙ ap (node_of d.net.inputs) by ∙ sym (ap (λ (m : ℕ). node_of d.net.inputs (shown_by d (slice_index outputs m))) e)
+        ∙ ap (node_of d.net.inputs) by
+        ∙ sym (ap (λ (m : ℕ). node_of d.net.inputs (shown_by d (slice_index outputs m))) e)
     | inr ne ↦
         let low : k < n = omega (arith, ne) in
         get_or_append_left nodes (node ∷ []) 0 k (omega (arith, known.long)) ∙ known.each k low
@@ -97,8 +100,8 @@ record GateAt (d : CellView) (s : ℕ) (gate : Gate) : Type 0 where
 gate_in : (d : CellView) (s : ℕ) (gate : Gate) → gate_of d s ≡ Some gate → GateAt d s gate
 gate_in d s gate e = elim (side d.net.inputs s) [
   | before_cells t low ↦
-      absurd (none-some gate (sym (cond-true (nat_lt s d.net.inputs) None (slice_index_or d.gates (s - d.net.inputs) None) t)
-      ∙ e))
+      absurd (none-some gate
+      (sym (cond-true (nat_lt s d.net.inputs) None (slice_index_or d.gates (s - d.net.inputs) None) t) ∙ e))
   | past_inputs t low ↦
       record {
         past = low;
@@ -114,10 +117,11 @@ get_def (x ∷ defs) zero lt = (x, refl)
 get_def (x ∷ defs) (suc j) lt = get_def defs j (omega (arith, lt))
 
 buffer_low : (net : NetView) (gates : List (Option Gate)) (used shown : List ℕ) (three : Bool) (s x : ℕ) → IsNetlist net
-    → IsTableOf net gates used shown → s < net.inputs + length net.defs → gate_of (view net gates three) s ≡ Some (Buf x)
+    → IsTableOf net gates used shown → s < net.inputs + length net.defs
+    → gate_of (with_gates net gates three) s ≡ Some (Buf x)
     → x < net.inputs + length net.defs
 buffer_low net gates used shown three s x known table lt e =
-    let at = gate_in (view net gates three) s (Buf x) e in
+    let at = gate_in (with_gates net gates three) s (Buf x) e in
     let past = at.past in
     let def = get_def net.defs (s - net.inputs) (omega (arith, lt, past)) in
     let here = here_of net (s - net.inputs) def.0 known def.1 in
@@ -129,11 +133,11 @@ buffer_low net gates used shown three s x known table lt e =
 
 pub shown_within : (net : NetView) (gates : List (Option Gate)) (used shown : List ℕ) (three : Bool) (s : ℕ)
     → IsNetlist net → IsTableOf net gates used shown → s < net.inputs + length net.defs
-    → shown_by (view net gates three) s < net.inputs + length net.defs
-shown_within net gates used shown three s known table lt = by (gate_of (view net gates three) s) refl
+    → shown_by (with_gates net gates three) s < net.inputs + length net.defs
+shown_within net gates used shown three s known table lt = by (gate_of (with_gates net gates three) s) refl
   where
-    by : (g : Option Gate) → gate_of (view net gates three) s ≡ g
-        → buffered (gate_of (view net gates three) s) s < net.inputs + length net.defs
+    by : (g : Option Gate) → gate_of (with_gates net gates three) s ≡ g
+        → buffered (gate_of (with_gates net gates three) s) s < net.inputs + length net.defs
     by None e = subst (λ (o : Option Gate). buffered o s < net.inputs + length net.defs) (sym e) lt
     by (Some (Input i)) e = subst (λ (o : Option Gate). buffered o s < net.inputs + length net.defs) (sym e) lt
     by (Some Zero) e = subst (λ (o : Option Gate). buffered o s < net.inputs + length net.defs) (sym e) lt
@@ -227,7 +231,8 @@ all_high d f nodes known level last fit k lt =
     let s = slice_index d.net.outputs k in
     let at = output_at d f nodes known k lt in
     let gate = gate_in d (shown_by d s) (Buf at.reads) at.buffer in
-    let on : level (shown_by d s) ≡ last = all_at (λ (s : ℕ). level (shown_by d s) ≡ last) d.net.outputs fit.outputs k lt in
+    let on : level (shown_by d s) ≡ last =
+    all_at (λ (s : ℕ). level (shown_by d s) ≡ last) d.net.outputs fit.outputs k lt in
     ap (height_of d.net.inputs level) (known.nodes_are.each k lt) ∙ height_above d level (shown_by d s)
     ∙ cond-false (nat_lt (shown_by d s) d.net.inputs) 0 (suc (level (shown_by d s))) gate.test ∙ ap suc on
 

@@ -1,5 +1,6 @@
 -- Covers by their values.
-use Rattle.std.proofs.Common.{◌≡◌, ◌≢◌, ℕ, Bool, true, false, not, List, [], ◌∷◌, map, length, refl, ap, sym, ◌∙◌, arith, inl, inr}
+use Rattle.std.proofs.Common.{◌≡◌, ◌≢◌, ℕ, Bool, true, false, not, List, [], ◌∷◌, map, length, refl, ap, sym, ◌∙◌}
+use Rattle.std.proofs.Common.{arith, inl, inr}
 use Rattle.std.specs.Prelude.{◌&&◌, ◌||◌, cond, eqb}
 use Rattle.std.specs.List.{list_any}
 use Rattle.std.proofs.lemmas.Bool.{cond-true, cond-false, eq-eqb}
@@ -39,7 +40,8 @@ by_values def v =
     (list_any (λ (cube : Cube). takes_each cube.plane (map v def.inputs)) def.cubes)
     (any_each def.cubes def.inputs v)
 
-pub with_inputs : (def : Def) (ss : List ℕ) (v : ℕ → Bool) → def.inputs ≡ ss → cover_value def v ≡ cover_at def (map v ss)
+pub with_inputs : (def : Def) (ss : List ℕ) (v : ℕ → Bool) → def.inputs ≡ ss
+    → cover_value def v ≡ cover_at def (map v ss)
 with_inputs def ss v e = by_values def v ∙ ap (λ (xs : List ℕ). cover_at def (map v xs)) e
 
 -- without inputs
@@ -80,15 +82,20 @@ named_long def gate is = ap length is.named
 pub one_none : (def : Def) (x : ℕ) → def.inputs ≡ x ∷ [] → cover_at def (false ∷ []) ≡ cover_at def (true ∷ [])
     → (gate : Gate) → Computes def gate → ⊥
 one_none def x e same (Input i) is = is.cell
-one_none def x e same Zero is = let long = named_long def Zero is in let long' = ap length e in absurd (omega (arith, long, long'))
-one_none def x e same One is = let long = named_long def One is in let long' = ap length e in absurd (omega (arith, long, long'))
+one_none def x e same Zero is =
+    let long = named_long def Zero is in let long' = ap length e in absurd (omega (arith, long, long'))
+one_none def x e same One is =
+    let long = named_long def One is in let long' = ap length e in absurd (omega (arith, long, long'))
 one_none def x e same (Buf y) is =
-    let low : cover_at def (false ∷ []) ≡ false = sym (with_inputs def (x ∷ []) (λ s. false) e) ∙ is.valued (λ s. false) in
+    let low : cover_at def (false ∷ []) ≡ false =
+    sym (with_inputs def (x ∷ []) (λ s. false) e) ∙ is.valued (λ s. false) in
     let high : cover_at def (true ∷ []) ≡ true = sym (with_inputs def (x ∷ []) (λ s. true) e) ∙ is.valued (λ s. true) in
     cc
 one_none def x e same (Inv y) is =
-    let low : cover_at def (false ∷ []) ≡ true = sym (with_inputs def (x ∷ []) (λ s. false) e) ∙ is.valued (λ s. false) in
-    let high : cover_at def (true ∷ []) ≡ false = sym (with_inputs def (x ∷ []) (λ s. true) e) ∙ is.valued (λ s. true) in
+    let low : cover_at def (false ∷ []) ≡ true =
+    sym (with_inputs def (x ∷ []) (λ s. false) e) ∙ is.valued (λ s. false) in
+    let high : cover_at def (true ∷ []) ≡ false =
+    sym (with_inputs def (x ∷ []) (λ s. true) e) ∙ is.valued (λ s. true) in
     cc
 one_none def x e same (Maj y z w) is =
     let long = named_long def (Maj y z w) is in let long' = ap length e in absurd (omega (arith, long, long'))
@@ -154,8 +161,10 @@ three_at def x y z is a b c =
 pub three_none : (def : Def) (x y z : ℕ) → def.inputs ≡ x ∷ y ∷ z ∷ []
     → ((x ≢ y) → (x ≢ z) → (y ≢ z) → IsMajority def → ⊥) → (gate : Gate) → Computes def gate → ⊥
 three_none def x y z e none (Input i) is = is.cell
-three_none def x y z e none Zero is = let long = named_long def Zero is in let long' = ap length e in absurd (omega (arith, long, long'))
-three_none def x y z e none One is = let long = named_long def One is in let long' = ap length e in absurd (omega (arith, long, long'))
+three_none def x y z e none Zero is =
+    let long = named_long def Zero is in let long' = ap length e in absurd (omega (arith, long, long'))
+three_none def x y z e none One is =
+    let long = named_long def One is in let long' = ap length e in absurd (omega (arith, long, long'))
 three_none def x y z e none (Buf y') is =
     let long = named_long def (Buf y') is in let long' = ap length e in absurd (omega (arith, long, long'))
 three_none def x y z e none (Inv y') is =

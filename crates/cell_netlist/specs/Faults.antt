@@ -1,5 +1,5 @@
 -- Which netlists are netlists of cells, and the first fault of one that is none.
-use Rattle.std.specs.Prelude.{◌≡◌, ℕ, suc, ◌<◌, ◌≤◌, ◌⊎◌, Bool, true, false, ◌||◌, not, length}
+use Rattle.std.specs.Prelude.{◌≡◌, ℕ, suc, ◌+◌, ◌<◌, ◌≤◌, ◌⊎◌, Bool, true, false, ◌&&◌, ◌||◌, not, nat_le, length}
 use Rattle.std.specs.Prelude.{Some, None, slice_get}
 use Rattle.std.specs.List.{list_any, list_all}
 use Rattle.circuit.specs.declared.gate.Gate.{Gate}
@@ -9,16 +9,17 @@ use Rattle.cell_netlist.specs.Levels.{LevelsFit, LevelsFitAll, is_shown}
 use Rattle.cell_netlist.specs.declared.fault.CellFault.{CellFault}
 use Rattle.cell_netlist.specs.declared.fault.CellFault.TheVariants.{Cover, Uses, Level, Outputs}
 
--- the gate is a buffer, or it names no input: inputs feed buffers alone
-abbrev pub is_fed_well : CellView → Def → Gate → Bool
-is_fed_well d def gate = is_buffer (Some gate) || not (list_any (is_input d) def.inputs)
+-- definition j, of this gate, is a buffer and no splitter, or it names no input: inputs feed buffers alone
+abbrev pub is_fed_well : CellView → ℕ → Def → Gate → Bool
+is_fed_well d j def gate =
+    (is_buffer (Some gate) && nat_le (uses d (d.net.inputs + j)) 1) || not (list_any (is_input d) def.inputs)
 
 -- definition j has a gate, its uses and inputs that are right
 pub record IsSoundAt (d : CellView) (j : ℕ) (def : Def) : Type 0 where
   pub gate : Gate
   pub there : slice_get d.gates j ≡ Some (Some gate)
   pub used_well : is_used_well d j def gate ≡ true
-  pub fed_well : is_fed_well d def gate ≡ true
+  pub fed_well : is_fed_well d j def gate ≡ true
 
 -- the first n definitions are without fault
 pub record IsSoundTo (d : CellView) (n : ℕ) : Type 0 where
@@ -33,7 +34,7 @@ HasFault d j def Uses =
     (gate : Gate) × (slice_get d.gates j ≡ Some (Some gate)) × (is_used_well d j def gate ≡ false)
 HasFault d j def Level =
     (gate : Gate) × (slice_get d.gates j ≡ Some (Some gate)) × (is_used_well d j def gate ≡ true)
-    × ((is_fed_well d def gate ≡ false) ⊎ ((level : ℕ → ℕ) → LevelsFit d (suc j) level → ⊥))
+    × ((is_fed_well d j def gate ≡ false) ⊎ ((level : ℕ → ℕ) → LevelsFit d (suc j) level → ⊥))
 HasFault d j def Outputs = ⊥
 
 -- the first definition with a fault has this one

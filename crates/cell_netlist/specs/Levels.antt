@@ -1,5 +1,6 @@
 -- Levels of cells: the row of each, counted from the inputs' buffers.
-use Rattle.std.specs.Prelude.{◌≡◌, ℕ, suc, ◌+◌, ◌-◌, ◌<◌, ◌==◌, ◌&&◌, Bool, false, cond, nat_lt, List, length, slice_index}
+use Rattle.std.specs.Prelude.{◌≡◌, ℕ, suc, ◌+◌, ◌-◌, ◌<◌, ◌==◌, ◌&&◌, Bool, false, cond, nat_lt, List, length}
+use Rattle.std.specs.Prelude.{slice_index}
 use Rattle.std.specs.Prelude.{Option, Some, slice_get}
 use Rattle.std.specs.List.{AllByRecursion}
 use Rattle.circuit.specs.declared.gate.Gate.{Gate}
@@ -11,8 +12,8 @@ use Rattle.cell_netlist.specs.Uses.{CellView, uses, is_input, gate_of, is_name}
 abbrev pub above : CellView → (ℕ → ℕ) → ℕ → ℕ
 above d level s = cond (is_input d s) 0 (suc (level s))
 
--- levels fit the cells among the first n definitions: each cell has the level above each signal that it names; names are
--- left out
+-- levels fit the cells among the first n definitions: each cell has the level above each signal that it names; names
+-- are left out
 abbrev pub LevelsFit : CellView → ℕ → (ℕ → ℕ) → Type 0
 LevelsFit d n level =
     (j : ℕ) (gate : Gate) → j < n → slice_get d.gates j ≡ Some (Some gate) → is_name d (d.net.inputs + j) ≡ false

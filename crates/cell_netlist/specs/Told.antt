@@ -6,15 +6,12 @@ use Rattle.cell_netlist.specs.declared.fault.CellFault.{CellFault}
 use Rattle.cell_netlist.specs.declared.fault.CellsRefusal.{CellsRefusal}
 use Rattle.cell_netlist.specs.declared.fault.CellsRefusal.TheVariants.{NotCells, Memory}
 use Rattle.cell_netlist.specs.Kinds.{AreGatesOf}
-use Rattle.cell_netlist.specs.Uses.{CellView}
+use Rattle.cell_netlist.specs.Uses.{with_gates}
 use Rattle.cell_netlist.specs.Levels.{level_in}
 use Rattle.cell_netlist.specs.Faults.{IsFault, IsCellNet}
 
--- a netlist with the gates of its definitions
-abbrev pub with_gates : NetView → List (Option Gate) → Bool → CellView
-with_gates net gates three = record { net = net; gates = gates; three = three }
-
--- the netlist is one of cells; the list tells the level of each definition's cell, and the last level is as low as can be
+-- the netlist is one of cells; the list tells the level of each definition's cell, and the last level is as low as it
+-- can be
 pub record IsNetOfCells (net : NetView) (three : Bool) (levels : List ℕ) (last : ℕ) : Type 0 where
   pub gates : List (Option Gate)
   pub gates_are : AreGatesOf net.defs gates

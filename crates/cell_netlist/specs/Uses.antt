@@ -14,6 +14,10 @@ pub record CellView : Type 0 where
   pub gates : List (Option Gate)
   pub three : Bool
 
+-- a netlist with the gates of its definitions
+abbrev pub with_gates : NetView → List (Option Gate) → Bool → CellView
+with_gates net gates three = record { net = net; gates = gates; three = three }
+
 -- the signals that definitions name, each as often as it is named
 abbrev pub named : List Def → List ℕ
 named defs = flat_map (λ (def : Def). def.inputs) defs

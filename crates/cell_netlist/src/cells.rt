@@ -4,10 +4,11 @@ ghost use Rattle.height_trees.specs.Forests.{trees};
 ghost use Rattle.cell_netlist.specs.Levels.{level_in};
 ghost use Rattle.cell_netlist.specs.Faults.{IsFault, IsFaultOfDef, IsFed, IsCellNet};
 ghost use Rattle.cell_netlist.specs.Told.{IfNotCells, IsNetOfCells, HasFirstFault};
-ghost use Rattle.cell_netlist.specs.Code.Tables.{IsTableOf, view};
+ghost use Rattle.cell_netlist.specs.Tables.{IsTableOf};
+ghost use Rattle.cell_netlist.specs.Uses.{with_gates};
 ghost use Rattle.cell_netlist.specs.Code.Progress.{IsJudged, IsLevelled, IsNearly, IsLast, AreLevels};
 
-use crate::counts::{Table, table_of};
+use crate::counts::{CellTable, cell_table};
 use crate::fault::{CellFault, CellsRefusal};
 use crate::judge::first_fault;
 use crate::outputs::{align, are_shown, are_used, shown_nodes};
@@ -17,8 +18,8 @@ use circuit::Answers;
 use height_trees::Heights;
 use std::alloc::Global;
 
-/// The levels of the cells of a netlist: one for each definition, in order, and the last, on which the buffers stand that
-/// show outputs. What is told for a name says nothing.
+/// The levels of the cells of a netlist: one for each definition, in order, and the last, on which the buffers stand
+/// that show outputs. What is told for a name says nothing.
 #[derive(Drop)]
 pub struct CellLevels {
     pub levels: List<u64>,
@@ -41,18 +42,18 @@ fn levels_of(alloc: Global, heights: &[u64]) -> Result<Vec<u64>, Memory>
 fn told(
     alloc: Global,
     _net: &Netlist,
-    _table: &Table,
+    _table: &CellTable,
     _three: bool,
     nodes: &[u32],
     least: &[u64],
 ) -> Result<CellLevels, CellsRefusal>
     requires some { 0 < length nodes.now }
     requires within { slice_index nodes.now 0 < length least.now }
-    requires found { IsLast (view _net.now _table.now.gates.items _three) nodes.now least.now }
-    ensures net { IfOk result (λ cells. IsCellNet (view _net.now _table.now.gates.items _three)
+    requires found { IsLast (with_gates _net.now _table.now.gates.items _three) nodes.now least.now }
+    ensures net { IfOk result (λ cells. IsCellNet (with_gates _net.now _table.now.gates.items _three)
         (level_in _net.now.inputs cells.levels) cells.last) }
     ensures fault { IfErr result (λ refusal. IfNotCells refusal
-        (IsFault (view _net.now _table.now.gates.items _three))) }
+        (IsFault (with_gates _net.now _table.now.gates.items _three))) }
 {
     let high = least[nodes[0] as usize];
     if high <= 1 {
@@ -72,16 +73,16 @@ fn told(
 fn on_one_level(
     alloc: Global,
     net: &Netlist,
-    table: &Table,
+    table: &CellTable,
     three: bool,
     heights: &mut Heights,
     nodes: &[u32],
 ) -> Result<CellLevels, CellsRefusal>
-    requires { IsNearly (view net.now table.now.gates.items three) (trees heights.old) nodes.now }
-    ensures net { IfOk result (λ cells. IsCellNet (view net.now table.now.gates.items three)
+    requires { IsNearly (with_gates net.now table.now.gates.items three) (trees heights.old) nodes.now }
+    ensures net { IfOk result (λ cells. IsCellNet (with_gates net.now table.now.gates.items three)
         (level_in net.now.inputs cells.levels) cells.last) }
     ensures fault { IfErr result (λ refusal. IfNotCells refusal
-        (IsFault (view net.now table.now.gates.items three))) }
+        (IsFault (with_gates net.now table.now.gates.items three))) }
 {
     let aligned = align(heights, nodes[0], nodes);
     if !aligned {
@@ -98,7 +99,7 @@ fn on_one_level(
 fn shown(
     alloc: Global,
     net: &Netlist,
-    table: &Table,
+    table: &CellTable,
     three: bool,
     heights: &mut Heights,
     inputs: u32,
@@ -107,13 +108,13 @@ fn shown(
     requires table { IsTableOf net.now table.now.gates.items table.now.used.items table.now.shown.items }
     requires inputs { inputs ≡ net.now.inputs }
     requires outputs { outputs.now ≡ net.now.outputs }
-    requires fed { IsFed (view net.now table.now.gates.items three) }
-    requires levelled { IsLevelled (view net.now table.now.gates.items three) (length net.now.defs)
+    requires fed { IsFed (with_gates net.now table.now.gates.items three) }
+    requires levelled { IsLevelled (with_gates net.now table.now.gates.items three) (length net.now.defs)
         (trees heights.old) }
-    ensures net { IfOk result (λ cells. IsCellNet (view net.now table.now.gates.items three)
+    ensures net { IfOk result (λ cells. IsCellNet (with_gates net.now table.now.gates.items three)
         (level_in net.now.inputs cells.levels) cells.last) }
     ensures fault { IfErr result (λ refusal. IfNotCells refusal
-        (IsFault (view net.now table.now.gates.items three))) }
+        (IsFault (with_gates net.now table.now.gates.items three))) }
 {
     net.known();
     let all = are_shown(net, table, three, outputs);
@@ -131,18 +132,18 @@ fn shown(
 fn fed(
     alloc: Global,
     net: &Netlist,
-    table: &Table,
+    table: &CellTable,
     three: bool,
     heights: &mut Heights,
     _taken: &[bool],
 ) -> Result<CellLevels, CellsRefusal>
     requires table { IsTableOf net.now table.now.gates.items table.now.used.items table.now.shown.items }
-    requires all { IsJudged (view net.now table.now.gates.items three) (length net.now.defs) (trees heights.old)
+    requires all { IsJudged (with_gates net.now table.now.gates.items three) (length net.now.defs) (trees heights.old)
         _taken.now }
-    ensures net { IfOk result (λ cells. IsCellNet (view net.now table.now.gates.items three)
+    ensures net { IfOk result (λ cells. IsCellNet (with_gates net.now table.now.gates.items three)
         (level_in net.now.inputs cells.levels) cells.last) }
     ensures fault { IfErr result (λ refusal. IfNotCells refusal
-        (IsFault (view net.now table.now.gates.items three))) }
+        (IsFault (with_gates net.now table.now.gates.items three))) }
 {
     heights.known();
     let inputs = net.input_count();
@@ -168,17 +169,17 @@ fn fed(
 fn judged(
     alloc: Global,
     net: &Netlist,
-    table: &Table,
+    table: &CellTable,
     three: bool,
     heights: &mut Heights,
     taken: &mut [bool],
 ) -> Result<CellLevels, CellsRefusal>
     requires table { IsTableOf net.now table.now.gates.items table.now.used.items table.now.shown.items }
-    requires start { IsJudged (view net.now table.now.gates.items three) 0 (trees heights.old) taken.old }
-    ensures net { IfOk result (λ cells. IsCellNet (view net.now table.now.gates.items three)
+    requires start { IsJudged (with_gates net.now table.now.gates.items three) 0 (trees heights.old) taken.old }
+    ensures net { IfOk result (λ cells. IsCellNet (with_gates net.now table.now.gates.items three)
         (level_in net.now.inputs cells.levels) cells.last) }
     ensures fault { IfErr result (λ refusal. IfNotCells refusal
-        (IsFault (view net.now table.now.gates.items three))) }
+        (IsFault (with_gates net.now table.now.gates.items three))) }
 {
     let defs = net.defs().as_slice();
     match first_fault(net, table, three, heights, taken, defs) {
@@ -188,9 +189,14 @@ fn judged(
 }
 
 /// The refusal for the fault of a definition.
-fn told_of(_net: &Netlist, _table: &Table, _three: bool, fault: (u64, CellFault)) -> CellsRefusal
-    requires { IsFaultOfDef (view _net.now _table.now.gates.items _three) fault.0 fault.1 }
-    ensures { IfNotCells result (IsFault (view _net.now _table.now.gates.items _three)) }
+fn told_of(
+    _net: &Netlist,
+    _table: &CellTable,
+    _three: bool,
+    fault: (u64, CellFault),
+) -> CellsRefusal
+    requires { IsFaultOfDef (with_gates _net.now _table.now.gates.items _three) fault.0 fault.1 }
+    ensures { IfNotCells result (IsFault (with_gates _net.now _table.now.gates.items _three)) }
 {
     CellsRefusal::NotCells {
         line: fault.0,
@@ -212,7 +218,7 @@ pub fn cell_levels(alloc: Global, net: &Netlist, three: bool) -> Result<CellLeve
     ensures fault { IfErr result (λ refusal. IfNotCells refusal (HasFirstFault net.now three)) }
 {
     net.known();
-    let table = table_of(alloc, net)?;
+    let table = cell_table(alloc, net)?;
     let nodes = net.defs().len() as u32 + 1;
     let mut heights = Heights::new(alloc, nodes)?;
     let mut taken = none_taken(alloc, net.input_count())?;

@@ -1,7 +1,8 @@
 // How often signals are named, and how often they are outputs.
 ghost use Rattle.std.specs.Prelude.{◌≡◌, ◌+◌, ◌<◌, ◌^◌, ℕ, [], length, slice_index, IfOk};
 ghost use Rattle.cell_netlist.specs.Uses.{named};
-ghost use Rattle.cell_netlist.specs.Code.Tables.{AreCounts, IsTableOf, IsBumped};
+ghost use Rattle.cell_netlist.specs.Tables.{AreCounts, IsTableOf};
+ghost use Rattle.cell_netlist.specs.Code.Tables.{IsBumped};
 
 use crate::covers::gates_of;
 use aq_base::Memory;
@@ -52,23 +53,24 @@ fn counts(alloc: Global, numbers: &[u32], bound: u32) -> Result<Vec<u32>, Memory
     Ok(counts)
 }
 
-/// What is counted of a netlist: the gates of its definitions, the uses of its signals, and how often each is an output.
+/// What is counted of a netlist: the gates of its definitions, the uses of its signals, and how often each is an
+/// output.
 #[derive(Drop)]
-pub(crate) struct Table {
+pub struct CellTable {
     pub gates: Vec<Option<Gate>>,
     pub used: Vec<u32>,
     pub shown: Vec<u32>,
 }
 
 /// The table of a netlist.
-pub(crate) fn table_of(alloc: Global, net: &Netlist) -> Result<Table, Memory>
+pub fn cell_table(alloc: Global, net: &Netlist) -> Result<CellTable, Memory>
     ensures { IfOk result (λ table. IsTableOf net.now table.gates.items table.used.items table.shown.items) }
 {
     net.known();
     let defs = net.defs().as_slice();
     let bound = net.name_count();
     let signals = named(alloc, defs)?;
-    Ok(Table {
+    Ok(CellTable {
         gates: gates_of(alloc, defs)?,
         used: counts(alloc, &signals, bound)?,
         shown: counts(alloc, net.outputs().as_slice(), bound)?,

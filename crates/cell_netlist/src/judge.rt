@@ -1,12 +1,14 @@
 // The faults of definitions, one after another.
-ghost use Rattle.std.specs.Prelude.{◌≡◌, ◌+◌, ◌<◌, ◌||◌, ◌&&◌, not, length, take, slice_get, Some, true, false, IfOk, IfErr, IfSome, IsNone};
+ghost use Rattle.std.specs.Prelude.{◌≡◌, ◌+◌, ◌<◌, ◌||◌, ◌&&◌, not, length, take, slice_get, Some, true, false, IfOk};
+ghost use Rattle.std.specs.Prelude.{IfErr, IfSome, IsNone};
 ghost use Rattle.height_trees.specs.Forests.{trees};
-ghost use Rattle.cell_netlist.specs.Uses.{named, uses, is_name, is_used_well, shares_input, may_have};
+ghost use Rattle.cell_netlist.specs.Uses.{named, uses, is_name, is_used_well, shares_input, may_have, with_gates};
 ghost use Rattle.cell_netlist.specs.Faults.{HasFault, IsFaultOfDef};
-ghost use Rattle.cell_netlist.specs.Code.Tables.{IsTableOf, view, IsTaken};
+ghost use Rattle.cell_netlist.specs.Tables.{IsTableOf};
+ghost use Rattle.cell_netlist.specs.Code.Tables.{IsTaken};
 ghost use Rattle.cell_netlist.specs.Code.Progress.{IsSoundGate, IsJudged, IsLevelled};
 
-use crate::counts::Table;
+use crate::counts::CellTable;
 use crate::fault::CellFault;
 use crate::levels::add_cell;
 use crate::names::{is_fed_well, is_name, may_have, shares, take_inputs};
@@ -15,7 +17,7 @@ use circuit::{Answers, Gate};
 use height_trees::Heights;
 
 /// The gate of definition `j`, if it computes one.
-fn gate_at(table: &Table, j: u32) -> Option<Gate>
+fn gate_at(table: &CellTable, j: u32) -> Option<Gate>
     requires { j < length table.now.gates.items }
     ensures { slice_get table.now.gates.items j ≡ Some result }
 {
@@ -23,19 +25,19 @@ fn gate_at(table: &Table, j: u32) -> Option<Gate>
 }
 
 /// How many uses a signal has.
-pub(crate) fn uses_of(_net: &Netlist, table: &Table, _three: bool, signal: u32) -> u32
+pub fn uses_of(_net: &Netlist, table: &CellTable, _three: bool, signal: u32) -> u32
     requires table { IsTableOf _net.now table.now.gates.items table.now.used.items table.now.shown.items }
     requires signal { signal < _net.now.inputs + length _net.now.defs }
-    ensures { result ≡ uses (view _net.now table.now.gates.items _three) signal }
+    ensures { result ≡ uses (with_gates _net.now table.now.gates.items _three) signal }
 {
     table.used[signal as usize]
 }
 
 /// Whether definition `j` is a name, or has as many uses as its gate may.
-fn is_used(net: &Netlist, table: &Table, three: bool, signal: u32, gate: Gate) -> bool
+fn is_used(net: &Netlist, table: &CellTable, three: bool, signal: u32, gate: Gate) -> bool
     requires table { IsTableOf net.now table.now.gates.items table.now.used.items table.now.shown.items }
     requires signal { signal < net.now.inputs + length net.now.defs }
-    ensures { let d = view net.now table.now.gates.items three in
+    ensures { let d = with_gates net.now table.now.gates.items three in
         result ≡ (is_name d signal || may_have d gate (uses d signal)) }
 {
     let name = is_name(net, table, signal);
@@ -46,7 +48,7 @@ fn is_used(net: &Netlist, table: &Table, three: bool, signal: u32, gate: Gate) -
 /// Whether definition `j` is a name or has as many uses as it may, and names no input that is taken.
 fn is_used_well(
     net: &Netlist,
-    table: &Table,
+    table: &CellTable,
     three: bool,
     taken: &[bool],
     j: u32,
@@ -56,7 +58,7 @@ fn is_used_well(
     requires table { IsTableOf net.now table.now.gates.items table.now.used.items table.now.shown.items }
     requires here { slice_get net.now.defs j ≡ Some def.now }
     requires taken { IsTaken taken.now net.now.inputs (named (take j net.now.defs)) }
-    ensures { result ≡ is_used_well (view net.now table.now.gates.items three) j def.now gate }
+    ensures { result ≡ is_used_well (with_gates net.now table.now.gates.items three) j def.now gate }
 {
     net.known();
     let used = is_used(net, table, three, net.input_count() + j, gate);
@@ -67,7 +69,7 @@ fn is_used_well(
 /// The gate of definition `j`, or what is wrong with it apart from its level.
 fn checked(
     net: &Netlist,
-    table: &Table,
+    table: &CellTable,
     three: bool,
     taken: &[bool],
     j: u32,
@@ -76,8 +78,8 @@ fn checked(
     requires table { IsTableOf net.now table.now.gates.items table.now.used.items table.now.shown.items }
     requires here { slice_get net.now.defs j ≡ Some def.now }
     requires taken { IsTaken taken.now net.now.inputs (named (take j net.now.defs)) }
-    ensures ok { IfOk result (λ gate. IsSoundGate (view net.now table.now.gates.items three) j def.now gate) }
-    ensures err { IfErr result (λ kind. HasFault (view net.now table.now.gates.items three) j def.now kind) }
+    ensures ok { IfOk result (λ gate. IsSoundGate (with_gates net.now table.now.gates.items three) j def.now gate) }
+    ensures err { IfErr result (λ kind. HasFault (with_gates net.now table.now.gates.items three) j def.now kind) }
 {
     let Some(gate) = gate_at(table, j) else {
         return Err(CellFault::Cover);
@@ -86,7 +88,7 @@ fn checked(
     if !used {
         return Err(CellFault::Uses);
     }
-    let fed = is_fed_well(net, table, def, gate);
+    let fed = is_fed_well(net, table, j, def, gate);
     if !fed {
         return Err(CellFault::Level);
     }
@@ -96,7 +98,7 @@ fn checked(
 /// Judges definition `j` after those before it: what is wrong with it, if anything is.
 pub(crate) fn judge(
     net: &Netlist,
-    table: &Table,
+    table: &CellTable,
     three: bool,
     heights: &mut Heights,
     taken: &mut [bool],
@@ -105,10 +107,10 @@ pub(crate) fn judge(
 ) -> Option<CellFault>
     requires table { IsTableOf net.now table.now.gates.items table.now.used.items table.now.shown.items }
     requires here { slice_get net.now.defs j ≡ Some def.now }
-    requires judged { IsJudged (view net.now table.now.gates.items three) j (trees heights.old) taken.old }
-    ensures fault { IfSome result (λ kind. HasFault (view net.now table.now.gates.items three) j def.now kind) }
+    requires judged { IsJudged (with_gates net.now table.now.gates.items three) j (trees heights.old) taken.old }
+    ensures fault { IfSome result (λ kind. HasFault (with_gates net.now table.now.gates.items three) j def.now kind) }
     ensures next { IsNone result
-        → IsJudged (view net.now table.now.gates.items three) (j + 1) (trees heights.new) taken.new }
+        → IsJudged (with_gates net.now table.now.gates.items three) (j + 1) (trees heights.new) taken.new }
 {
     let _gate = match checked(net, table, three, taken, j, def) {
         Ok(gate) => gate,
@@ -125,7 +127,7 @@ pub(crate) fn judge(
 /// The first fault of a definition, with its line.
 pub(crate) fn first_fault(
     net: &Netlist,
-    table: &Table,
+    table: &CellTable,
     three: bool,
     heights: &mut Heights,
     taken: &mut [bool],
@@ -133,10 +135,11 @@ pub(crate) fn first_fault(
 ) -> Option<(u64, CellFault)>
     requires table { IsTableOf net.now table.now.gates.items table.now.used.items table.now.shown.items }
     requires defs { defs.now ≡ net.now.defs }
-    requires start { IsJudged (view net.now table.now.gates.items three) 0 (trees heights.old) taken.old }
-    ensures fault { IfSome result (λ p. IsFaultOfDef (view net.now table.now.gates.items three) p.0 p.1) }
+    requires start { IsJudged (with_gates net.now table.now.gates.items three) 0 (trees heights.old) taken.old }
+    ensures fault { IfSome result (λ p. IsFaultOfDef (with_gates net.now table.now.gates.items three) p.0 p.1) }
     ensures none { IsNone result
-        → IsJudged (view net.now table.now.gates.items three) (length net.now.defs) (trees heights.new) taken.new }
+        → IsJudged (with_gates net.now table.now.gates.items three) (length net.now.defs) (trees heights.new)
+        taken.new }
 {
     net.known();
     for (j, def) in defs.iter().enumerate() {

@@ -2,10 +2,11 @@
 ghost use Rattle.std.specs.Prelude.{◌≡◌, ◌<◌, ◌^◌, ℕ, true, false, length, slice_index, suc, slice_get, Some};
 ghost use Rattle.height_trees.specs.Forests.{trees};
 ghost use Rattle.circuit.specs.declared.gate.Gate.{Gate as CellGate};
-ghost use Rattle.cell_netlist.specs.Code.Tables.{IsTableOf, view};
+ghost use Rattle.cell_netlist.specs.Tables.{IsTableOf};
+ghost use Rattle.cell_netlist.specs.Uses.{with_gates};
 ghost use Rattle.cell_netlist.specs.Code.Progress.{node_of, IsAdded, IsNotAdded, IsLevelled, HasNoLevels};
 
-use crate::counts::Table;
+use crate::counts::CellTable;
 use crate::names::is_name;
 use blif_read::{Def, Netlist};
 use circuit::Answers;
@@ -45,7 +46,7 @@ fn add_rises(heights: &mut Heights, inputs: u32, upper: u32, signals: &[u32]) ->
 pub(crate) fn add_cell(
     heights: &mut Heights,
     net: &Netlist,
-    table: &Table,
+    table: &CellTable,
     _three: bool,
     j: u32,
     def: &Def,
@@ -53,10 +54,10 @@ pub(crate) fn add_cell(
     requires table { IsTableOf net.now table.now.gates.items table.now.used.items table.now.shown.items }
     requires here { slice_get net.now.defs j ≡ Some def.now }
     requires gate { (gate : CellGate) × (slice_get table.now.gates.items j ≡ Some (Some gate)) }
-    requires levelled { IsLevelled (view net.now table.now.gates.items _three) j (trees heights.old) }
+    requires levelled { IsLevelled (with_gates net.now table.now.gates.items _three) j (trees heights.old) }
     ensures added { result ≡ true
-        → IsLevelled (view net.now table.now.gates.items _three) (suc j) (trees heights.new) }
-    ensures refused { result ≡ false → HasNoLevels (view net.now table.now.gates.items _three) (suc j) }
+        → IsLevelled (with_gates net.now table.now.gates.items _three) (suc j) (trees heights.new) }
+    ensures refused { result ≡ false → HasNoLevels (with_gates net.now table.now.gates.items _three) (suc j) }
 {
     net.known();
     let inputs = net.input_count();

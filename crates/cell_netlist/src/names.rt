@@ -1,17 +1,19 @@
 // Names, and the uses and inputs of cells.
-ghost use Rattle.std.specs.Prelude.{◌≡◌, ◌+◌, ◌<◌, ◌&&◌, Bool, true, false, length, nat_lt, slice_index_or, slice_set, Some};
+ghost use Rattle.std.specs.Prelude.{◌≡◌, ◌+◌, ◌<◌, ◌&&◌, Bool, true, false, length, nat_lt, slice_get, slice_index_or};
+ghost use Rattle.std.specs.Prelude.{slice_set, Some};
 ghost use Rattle.std.specs.List.{list_any};
-ghost use Rattle.cell_netlist.specs.Uses.{gate_of, is_buffer, is_buffer_of_buffer, is_name, may_have};
+ghost use Rattle.cell_netlist.specs.Uses.{gate_of, is_buffer, is_buffer_of_buffer, is_name, may_have, with_gates};
 ghost use Rattle.cell_netlist.specs.Faults.{is_fed_well};
-ghost use Rattle.cell_netlist.specs.Code.Tables.{IsTableOf, view, shares, take_all};
+ghost use Rattle.cell_netlist.specs.Tables.{IsTableOf};
+ghost use Rattle.cell_netlist.specs.Code.Tables.{shares, take_all};
 
-use crate::counts::Table;
+use crate::counts::CellTable;
 use blif_read::{Def, Netlist};
 use circuit::{Answers, Gate};
 
 /// The gate of a signal; none of an input.
-pub(crate) fn gate_of(net: &Netlist, table: &Table, signal: u32) -> Option<Gate>
-    ensures { (three : Bool) → result ≡ gate_of (view net.now table.now.gates.items three) signal }
+pub fn gate_of(net: &Netlist, table: &CellTable, signal: u32) -> Option<Gate>
+    ensures { (three : Bool) → result ≡ gate_of (with_gates net.now table.now.gates.items three) signal }
 {
     let inputs = net.input_count();
     if signal < inputs {
@@ -34,8 +36,9 @@ pub(crate) fn is_buffer(gate: Option<Gate>) -> bool
 }
 
 /// Whether a gate is a buffer of a buffer.
-fn buffers_buffer(net: &Netlist, table: &Table, gate: Gate) -> bool
-    ensures { (three : Bool) → result ≡ is_buffer_of_buffer (view net.now table.now.gates.items three) (Some gate) }
+fn buffers_buffer(net: &Netlist, table: &CellTable, gate: Gate) -> bool
+    ensures { (three : Bool)
+        → result ≡ is_buffer_of_buffer (with_gates net.now table.now.gates.items three) (Some gate) }
 {
     match gate {
         Gate::Buf(x) => is_buffer(gate_of(net, table, x)),
@@ -44,8 +47,8 @@ fn buffers_buffer(net: &Netlist, table: &Table, gate: Gate) -> bool
 }
 
 /// Whether there is a gate, and it is a buffer of a buffer.
-fn is_buffer_of_buffer(net: &Netlist, table: &Table, gate: Option<Gate>) -> bool
-    ensures { (three : Bool) → result ≡ is_buffer_of_buffer (view net.now table.now.gates.items three) gate }
+fn is_buffer_of_buffer(net: &Netlist, table: &CellTable, gate: Option<Gate>) -> bool
+    ensures { (three : Bool) → result ≡ is_buffer_of_buffer (with_gates net.now table.now.gates.items three) gate }
 {
     match gate {
         Some(gate) => buffers_buffer(net, table, gate),
@@ -54,10 +57,10 @@ fn is_buffer_of_buffer(net: &Netlist, table: &Table, gate: Option<Gate>) -> bool
 }
 
 /// Whether a signal is a name.
-pub(crate) fn is_name(net: &Netlist, table: &Table, signal: u32) -> bool
+pub fn is_name(net: &Netlist, table: &CellTable, signal: u32) -> bool
     requires table { IsTableOf net.now table.now.gates.items table.now.used.items table.now.shown.items }
     requires signal { signal < net.now.inputs + length net.now.defs }
-    ensures { (three : Bool) → result ≡ is_name (view net.now table.now.gates.items three) signal }
+    ensures { (three : Bool) → result ≡ is_name (with_gates net.now table.now.gates.items three) signal }
 {
     let buffers = is_buffer_of_buffer(net, table, gate_of(net, table, signal));
     let once = table.shown[signal as usize] == 1;
@@ -73,8 +76,14 @@ fn all_three(a: bool, b: bool, c: bool) -> bool
 }
 
 /// Whether a cell may have so many uses.
-pub(crate) fn may_have(net: &Netlist, _table: &Table, three: bool, gate: Gate, uses: u32) -> bool
-    ensures { result ≡ may_have (view net.now _table.now.gates.items three) gate uses }
+pub(crate) fn may_have(
+    net: &Netlist,
+    _table: &CellTable,
+    three: bool,
+    gate: Gate,
+    uses: u32,
+) -> bool
+    ensures { result ≡ may_have (with_gates net.now _table.now.gates.items three) gate uses }
 {
     let most = if three { 3 } else { 2 };
     match gate {
@@ -83,11 +92,16 @@ pub(crate) fn may_have(net: &Netlist, _table: &Table, three: bool, gate: Gate, u
     }
 }
 
-/// Whether a gate is a buffer, or none of its signals is an input.
-pub(crate) fn is_fed_well(net: &Netlist, _table: &Table, def: &Def, gate: Gate) -> bool
-    ensures { (three : Bool) → result ≡ is_fed_well (view net.now _table.now.gates.items three) def.now gate }
+/// Whether definition `j` is a buffer and no splitter, or none of its signals is an input.
+pub(crate) fn is_fed_well(net: &Netlist, table: &CellTable, j: u32, def: &Def, gate: Gate) -> bool
+    requires table { IsTableOf net.now table.now.gates.items table.now.used.items table.now.shown.items }
+    requires here { slice_get net.now.defs j ≡ Some def.now }
+    ensures { (three : Bool)
+        → result ≡ is_fed_well (with_gates net.now table.now.gates.items three) j def.now gate }
 {
-    is_buffer(Some(gate)) || !reads_input(net, def)
+    net.known();
+    let few = table.used[(net.input_count() + j) as usize] <= 1;
+    (is_buffer(Some(gate)) && few) || !reads_input(net, def)
 }
 
 /// Whether a definition names an input.

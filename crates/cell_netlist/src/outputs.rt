@@ -3,10 +3,12 @@ ghost use Rattle.std.specs.Prelude.{◌≡◌, ◌+◌, ◌<◌, ◌^◌, ℕ, B
 ghost use Rattle.std.specs.List.{list_all};
 ghost use Rattle.height_trees.specs.Forests.{trees};
 ghost use Rattle.cell_netlist.specs.Levels.{buffered, shown_by, is_shown};
-ghost use Rattle.cell_netlist.specs.Code.Tables.{IsTableOf, view};
-ghost use Rattle.cell_netlist.specs.Code.Progress.{node_of, HasUnused, AreAllUsed, IsAligned, IsNotAligned, AreShownNodes};
+ghost use Rattle.cell_netlist.specs.Tables.{IsTableOf};
+ghost use Rattle.cell_netlist.specs.Uses.{with_gates};
+ghost use Rattle.cell_netlist.specs.Code.Progress.{node_of, HasUnused, AreAllUsed, IsAligned, IsNotAligned};
+ghost use Rattle.cell_netlist.specs.Code.Progress.{AreShownNodes};
 
-use crate::counts::Table;
+use crate::counts::CellTable;
 use crate::judge::uses_of;
 use crate::levels::node_of;
 use crate::names::{gate_of, is_name};
@@ -17,11 +19,11 @@ use height_trees::Heights;
 use std::alloc::Global;
 
 /// Whether each input has a use.
-pub(crate) fn are_used(net: &Netlist, table: &Table, _three: bool, inputs: u32) -> bool
+pub(crate) fn are_used(net: &Netlist, table: &CellTable, _three: bool, inputs: u32) -> bool
     requires table { IsTableOf net.now table.now.gates.items table.now.used.items table.now.shown.items }
     requires inputs { inputs ≡ net.now.inputs }
-    ensures yes { result ≡ true → AreAllUsed (view net.now table.now.gates.items _three) }
-    ensures no { result ≡ false → HasUnused (view net.now table.now.gates.items _three) }
+    ensures yes { result ≡ true → AreAllUsed (with_gates net.now table.now.gates.items _three) }
+    ensures no { result ≡ false → HasUnused (with_gates net.now table.now.gates.items _three) }
 {
     for input in 0..inputs {
         let uses = uses_of(net, table, _three, input);
@@ -43,10 +45,10 @@ fn buffered(gate: Option<Gate>, other: u32) -> u32
 }
 
 /// The buffer that an output is a name of.
-fn shown_by(net: &Netlist, table: &Table, _three: bool, signal: u32) -> u32
+pub fn shown_by(net: &Netlist, table: &CellTable, _three: bool, signal: u32) -> u32
     requires table { IsTableOf net.now table.now.gates.items table.now.used.items table.now.shown.items }
     requires signal { signal < net.now.inputs + length net.now.defs }
-    ensures is { result ≡ shown_by (view net.now table.now.gates.items _three) signal }
+    ensures is { result ≡ shown_by (with_gates net.now table.now.gates.items _three) signal }
     ensures within { result < net.now.inputs + length net.now.defs }
 {
     net.known();
@@ -54,10 +56,10 @@ fn shown_by(net: &Netlist, table: &Table, _three: bool, signal: u32) -> u32
 }
 
 /// Whether an output is a name of a buffer that has no other use.
-fn is_shown(net: &Netlist, table: &Table, three: bool, signal: u32) -> bool
+fn is_shown(net: &Netlist, table: &CellTable, three: bool, signal: u32) -> bool
     requires table { IsTableOf net.now table.now.gates.items table.now.used.items table.now.shown.items }
     requires signal { signal < net.now.inputs + length net.now.defs }
-    ensures { result ≡ is_shown (view net.now table.now.gates.items three) signal }
+    ensures { result ≡ is_shown (with_gates net.now table.now.gates.items three) signal }
 {
     let name = is_name(net, table, signal);
     let uses = uses_of(net, table, three, shown_by(net, table, three, signal));
@@ -65,11 +67,11 @@ fn is_shown(net: &Netlist, table: &Table, three: bool, signal: u32) -> bool
 }
 
 /// Whether all these outputs are shown.
-pub(crate) fn are_shown(net: &Netlist, table: &Table, three: bool, outputs: &[u32]) -> bool
+pub(crate) fn are_shown(net: &Netlist, table: &CellTable, three: bool, outputs: &[u32]) -> bool
     requires table { IsTableOf net.now table.now.gates.items table.now.used.items table.now.shown.items }
     requires outputs { (k : ℕ) → k < length outputs.now
         → slice_index outputs.now k < net.now.inputs + length net.now.defs }
-    ensures { result ≡ list_all (is_shown (view net.now table.now.gates.items three)) outputs.now }
+    ensures { result ≡ list_all (is_shown (with_gates net.now table.now.gates.items three)) outputs.now }
 {
     for output in outputs {
         let shown = is_shown(net, table, three, *output);
@@ -84,7 +86,7 @@ pub(crate) fn are_shown(net: &Netlist, table: &Table, three: bool, outputs: &[u3
 pub(crate) fn shown_nodes(
     alloc: Global,
     net: &Netlist,
-    table: &Table,
+    table: &CellTable,
     three: bool,
     inputs: u32,
     outputs: &[u32],
@@ -93,8 +95,8 @@ pub(crate) fn shown_nodes(
     requires inputs { inputs ≡ net.now.inputs }
     requires outputs { (k : ℕ) → k < length outputs.now
         → slice_index outputs.now k < net.now.inputs + length net.now.defs }
-    ensures { IfOk result (λ nodes. AreShownNodes (view net.now table.now.gates.items three) outputs.now nodes.items
-        (length outputs.now)) }
+    ensures { IfOk result (λ nodes. AreShownNodes (with_gates net.now table.now.gates.items three) outputs.now
+        nodes.items (length outputs.now)) }
 {
     net.known();
     let mut nodes = Vec::with_capacity(alloc, outputs.len())?;

@@ -109,6 +109,11 @@ fn first_faults(rt: HostRuntime) -> Result<(), Fail> {
             ".inputs a\n.outputs y\n.names a m\n1 1\n.names a n\n1 1\n.names m b\n1 1\n.names b y\n1 1\n",
             "line 5: uses",
         ),
+        // a splitter that an input feeds
+        (
+            ".inputs a\n.outputs x y\n.names a s\n1 1\n.names s p\n1 1\n.names s q\n1 1\n.names p x\n1 1\n.names q y\n1 1\n",
+            "line 3: level",
+        ),
         // an inverter with two uses
         (
             ".outputs x y\n.names k\n.names k n\n0 1\n.names n p\n1 1\n.names n q\n1 1\n.names p x\n1 1\n.names q y\n1 1\n",
@@ -157,8 +162,8 @@ fn first_faults(rt: HostRuntime) -> Result<(), Fail> {
 #[test]
 fn splitters_of_three(rt: HostRuntime) -> Result<(), Fail> {
     let text =
-        b".inputs a\n.outputs x y z\n.names a s\n1 1\n.names s p\n1 1\n.names s q\n1 1\n.names s r\n1 1\n.names p x\n1 1\n.names q y\n1 1\n.names r z\n1 1\n";
-    for (three, want) in [(true, "0 1 1 1 0 0 0 to 1"), (false, "line 3: uses")] {
+        b".inputs a\n.outputs x y z\n.names a m\n1 1\n.names m s\n1 1\n.names s p\n1 1\n.names s q\n1 1\n.names s r\n1 1\n.names p x\n1 1\n.names q y\n1 1\n.names r z\n1 1\n";
+    for (three, want) in [(true, "0 1 2 2 2 0 0 0 to 2"), (false, "line 5: uses")] {
         match told_of(rt.alloc(), text, three)? {
             Some(told) => assert_eq!(rt; told.as_str(), want),
             None => assert!(rt; false),

@@ -116,7 +116,8 @@ made_fresh parent n made some = record {
   count_is = made.long;
   parent_is = made.each;
   above_is = λ s lt. get_or-replicate n s n 0 lt;
-  height_0 = get_or-set_same (replicate {A = ℕ} n 1) 0 0 0 (let long = length-replicate {A = ℕ} n 1 in omega (arith, long));
+  height_0 =
+      get_or-set_same (replicate {A = ℕ} n 1) 0 0 0 (let long = length-replicate {A = ℕ} n 1 in omega (arith, long));
   height_is = λ s pos lt.
       get_or-set_other (replicate {A = ℕ} n 1) 0 s 0 0 (λ z. absurd (omega (arith, z))) ∙ get_or-replicate n s 1 0 lt;
   size_is = λ s lt. get_or-replicate n s 1 0 lt;

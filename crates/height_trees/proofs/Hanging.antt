@@ -1,4 +1,5 @@
--- One tree is hung on the root of another, both lifted as a whole: what the tables keep then, and what heights they allow.
+-- One tree is hung on the root of another, both lifted as a whole: what the tables keep then, and what heights they
+-- allow.
 use Rattle.std.proofs.Common.{◌≡◌, ℕ, ◌+◌, ◌<◌, ◌≤◌, cond, List, length, arith, refl, ap, sym, ◌∙◌, subst, inl, inr}
 use Rattle.std.specs.Prelude.{eqb, slice_index, slice_set}
 use Rattle.std.proofs.lemmas.Bool.{cond-true, cond-false, cases_eq}
@@ -331,7 +332,8 @@ new_in_root f g h root r c yr yc shaped may hung s lt = elim (cases_eq s r) [
       let here = hung.size_other s ne in
       elim (cases_eq (root s) c) [
         | inl e ↦
-            let new : g.size (moved root r c s) ≡ f.size r + f.size c = ap g.size (moved_c root r c s e) ∙ hung.size_r in
+            let new : g.size (moved root r c s) ≡ f.size r + f.size c =
+            ap g.size (moved_c root r c s e) ∙ hung.size_r in
             let at_c : f.size (root s) ≡ f.size c = ap f.size e in
             omega (arith, old, here, new, at_c)
         | inr nc ↦
@@ -478,7 +480,8 @@ hung_shape f g h root r c yr yc shaped may hung =
             let is = hung.parent_other s ne in
             let b = shaped.parent_below s (omega (arith, n)) in omega (arith, is, n, b)
       ];
-      root_below = λ s lt. let b = new_root_below f h root r c yr yc shaped may s (omega (arith, n)) in omega (arith, n, b);
+      root_below = λ s lt.
+          let b = new_root_below f h root r c yr yc shaped may s (omega (arith, n)) in omega (arith, n, b);
       root_is = λ s lt. new_root_is f g h root r c yr yc shaped may hung s (omega (arith, n));
       along = λ s lt. new_along f g h root r c yr yc shaped may hung s (omega (arith, n));
       at_root = λ s lt. new_at_root f g h root r c yr yc shaped may hung s (omega (arith, n));

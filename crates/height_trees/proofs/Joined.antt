@@ -15,7 +15,8 @@ pub record Ends (f : Forest) (upper lower rise a b e d base : ℕ) : Type 0 wher
   pub low : IsFound f lower b d
   pub is_ground : (h root : ℕ → ℕ) → IsShaped f h root → root 0 ≡ base
 
-node_positive : (f : Forest) (h root : ℕ → ℕ) → IsShaped f h root → (s : ℕ) → s < f.count → (root s ≡ root 0 → ⊥) → 0 < h s
+node_positive : (f : Forest) (h root : ℕ → ℕ) → IsShaped f h root → (s : ℕ) → s < f.count → (root s ≡ root 0 → ⊥)
+    → 0 < h s
 node_positive f h root shaped s lt apart = elim (cases_eq s 0) [
   | inl e ↦ absurd (apart (ap root e))
   | inr ne ↦ shaped.obeys.positive s (omega (arith, ne)) lt

@@ -30,7 +30,8 @@ pub record Tables : Type 0 where
 abbrev pub trees : Tables → Forest
 trees t = forest t.parent t.above t.height t.size
 
--- these heights obey the trees: node 0 is the ground, no other is as low, and each is as much above its parent as is told
+-- these heights obey the trees: node 0 is the ground, no other is as low, and each is as much above its parent as is
+-- told
 pub record Obeys (f : Forest) (h : ℕ → ℕ) : Type 0 where
   pub base : h 0 ≡ 0
   pub positive : (s : ℕ) → 0 < s → s < f.count → 0 < h s

@@ -1,5 +1,6 @@
 // Heights of nodes, of which some are known to differ by none or one.
-ghost use Rattle.std.specs.Prelude.{◌≡◌, ◌≤◌, ◌<◌, ◌^◌, ℕ, length, true, false, slice_index, slice_set, replicate, IfOk};
+ghost use Rattle.std.specs.Prelude.{◌≡◌, ◌≤◌, ◌<◌, ◌^◌, ℕ, length, true, false, slice_index, slice_set, replicate};
+ghost use Rattle.std.specs.Prelude.{IfOk};
 ghost use Rattle.height_trees.specs.Forests.{trees, Obeys, HasHeights, IsJoined, IsRefused, AreLeast};
 
 use crate::tables::{join, least};
@@ -9,8 +10,8 @@ use std::marker::Model;
 
 /// Nodes, and which of them are known to be higher than another one, and by how much. Node 0 is the ground, at height
 /// 0, and all others are higher. There are heights that are as is known. Nodes whose heights hang together are a tree,
-/// in which each tells how much higher it is than its parent; the smaller of two trees is hung on the root of the larger
-/// one, so each root is few steps away.
+/// in which each tells how much higher it is than its parent; the smaller of two trees is hung on the root of the
+/// larger one, so each root is few steps away.
 #[derive(Drop)]
 pub struct Heights {
     parent: Vec<u32>,
@@ -25,7 +26,12 @@ impl Model for Heights {
 
     ghost Value = { Tables };
 
-    ghost view = { λ t. record { parent = t.parent.items; above = t.above.items; height = t.height.items; size = t.size.items } };
+    ghost view = { λ t. record {
+      parent = t.parent.items;
+      above = t.above.items;
+      height = t.height.items;
+      size = t.size.items;
+    } };
 
     ghost invariant = { λ t. AreTables t.parent.items t.above.items t.height.items t.size.items };
 }

@@ -89,8 +89,8 @@ fn hang_smaller(
     }
 }
 
-/// How much the trees of two nodes rise so that the first is at the height that is wanted; `None` where the ground would
-/// have to.
+/// How much the trees of two nodes rise so that the first is at the height that is wanted; `None` where the ground
+/// would have to.
 fn rises(high: Found, low: Found, wanted: u64, base: u32) -> Option<(Lifted, Lifted)>
     requires { high.height < 2 ^ 62 }
     ensures some { IfSome result (λ rises. Rises high.root low.root high.height wanted base

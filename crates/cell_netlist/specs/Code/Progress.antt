@@ -1,6 +1,7 @@
 -- What is known after some definitions: their levels as heights of nodes. Node 0 is the ground, where inputs stand, and
 -- node j + 1 is that of definition j, one higher than its level.
-use Rattle.std.specs.Prelude.{◌≡◌, ℕ, zero, suc, ◌+◌, ◌-◌, ◌<◌, cond, nat_lt, Bool, true, List, length, take, Some, slice_get, slice_index}
+use Rattle.std.specs.Prelude.{◌≡◌, ℕ, zero, suc, ◌+◌, ◌-◌, ◌<◌, cond, nat_lt, Bool, true, List, length, take, Some}
+use Rattle.std.specs.Prelude.{slice_get, slice_index}
 use Rattle.std.specs.List.{list_all}
 use Rattle.height_trees.specs.Forests.{Forest, Obeys, AreLeast}
 use Rattle.blif_read.specs.declared.netlist.Def.{Def}
@@ -59,7 +60,7 @@ pub record IsJudged (d : CellView) (n : ℕ) (f : Forest) (taken : List Bool) : 
 pub record IsSoundGate (d : CellView) (j : ℕ) (def : Def) (gate : Gate) : Type 0 where
   pub there : slice_get d.gates j ≡ Some (Some gate)
   pub used_well : is_used_well d j def gate ≡ true
-  pub fed_well : is_fed_well d def gate ≡ true
+  pub fed_well : is_fed_well d j def gate ≡ true
 
 -- the second trees allow the heights that the first do and at which the first n nodes are as high as another one
 pub record IsAligned (f g : Forest) (first : ℕ) (nodes : List ℕ) (n : ℕ) : Type 0 where

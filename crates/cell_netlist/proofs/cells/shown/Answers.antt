@@ -1,5 +1,5 @@
 use Rattle.std.proofs.Common.{refl, sym, ◌∙◌}
-use Rattle.cell_netlist.specs.Code.Tables.{view}
+use Rattle.cell_netlist.specs.Uses.{with_gates}
 use Rattle.cell_netlist.proofs.Shown.{unshown_none}
 use Rattle.cell_netlist.proofs.Ended.{nearly_of}
 use Rattle.cell_netlist.proofs.cells.shown.Goals as goal
@@ -7,7 +7,7 @@ use Rattle.cell_netlist.proofs.cells.shown.Goals as goal
 pub returns-then-not-all-clause-fault : goal.returns-then-not-all-clause-fault
 returns-then-not-all-clause-fault c = (
   refl,
-  unshown_none (view c.args.net.now c.args.table.now.gates.items c.args.three) c.requires.fed
+  unshown_none (with_gates c.args.net.now c.args.table.now.gates.items c.args.three) c.requires.fed
       (sym (rw c.requires.outputs at c.are_shown-all.ensures) ∙ c.if-not-all.true),
 )
 

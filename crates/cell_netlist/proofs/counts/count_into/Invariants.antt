@@ -1,5 +1,5 @@
 use Rattle.std.proofs.Common.{length, take}
-use Rattle.cell_netlist.specs.Code.Tables.{AreCounts}
+use Rattle.cell_netlist.specs.Tables.{AreCounts}
 use Rattle.cell_netlist.proofs.counts.count_into.Given as goal
 
 abbrev pub invariant-loop-number : goal.invariant-loop-number

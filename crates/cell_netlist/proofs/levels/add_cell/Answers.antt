@@ -1,6 +1,7 @@
 use Rattle.std.proofs.Common.{arith, add-one, sym, ◌∙◌}
-use Rattle.cell_netlist.specs.Code.Tables.{view}
-use Rattle.cell_netlist.proofs.Levelled.{here_of, cell_of, computes_there, cell_levelled, cell_none, name_levelled, signal_below}
+use Rattle.cell_netlist.specs.Uses.{with_gates}
+use Rattle.cell_netlist.proofs.Levelled.{here_of, cell_of, computes_there, cell_levelled, cell_none, name_levelled}
+use Rattle.cell_netlist.proofs.Levelled.{signal_below}
 use Rattle.cell_netlist.proofs.levels.add_cell.Goals as goal
 
 pub overflow_add-inputs : goal.overflow_add-inputs
@@ -15,7 +16,7 @@ overflow_add-j c =
 
 pub returns-then-name-clause-added : goal.returns-then-name-clause-added
 returns-then-name-clause-added c is =
-    name_levelled (view c.args.net.now c.args.table.now.gates.items c.args._three) c.args.j _
+    name_levelled (with_gates c.args.net.now c.args.table.now.gates.items c.args._three) c.args.j _
     (sym (rw c.input_count-inputs.ensures.count at (c.is_name-name.ensures c.args._three)) ∙ c.if-name.true)
     c.requires.levelled
 
@@ -34,7 +35,7 @@ pub add_rises-requires-clause-signals : goal.add_rises-requires-clause-signals
 add_rises-requires-clause-signals c =
     let h = here_of c.args.net.now c.args.j c.args.def.now c.known.ensures c.requires.here in
     rw (c.as_slice.ensures, c.input_count-inputs.ensures.count)
-    (λ k lt. signal_below (view c.args.net.now c.args.table.now.gates.items c.args._three) _ _ c.requires.levelled
+    (λ k lt. signal_below (with_gates c.args.net.now c.args.table.now.gates.items c.args._three) _ _ c.requires.levelled
     (h.within k lt))
 
 pub returns-clause-added : goal.returns-clause-added
@@ -42,7 +43,7 @@ returns-clause-added c is =
     let h = here_of c.args.net.now c.args.j c.args.def.now c.known.ensures c.requires.here in
     let computes = computes_there _ _ _ _ c.args.j c.args.def.now c.requires.gate.0 c.requires.table c.requires.here
     c.requires.gate.1 in
-    cell_levelled (view c.args.net.now c.args.table.now.gates.items c.args._three) c.args.j c.args.def.now
+    cell_levelled (with_gates c.args.net.now c.args.table.now.gates.items c.args._three) c.args.j c.args.def.now
     c.requires.gate.0 _ _
     (cell_of c.args.net.now c.args.table.now.gates.items c.args._three c.args.j c.args.def.now c.requires.gate.0 h
     c.requires.gate.1 computes)
@@ -55,7 +56,7 @@ returns-clause-refused c is =
     let h = here_of c.args.net.now c.args.j c.args.def.now c.known.ensures c.requires.here in
     let computes = computes_there _ _ _ _ c.args.j c.args.def.now c.requires.gate.0 c.requires.table c.requires.here
     c.requires.gate.1 in
-    cell_none (view c.args.net.now c.args.table.now.gates.items c.args._three) c.args.j c.args.def.now
+    cell_none (with_gates c.args.net.now c.args.table.now.gates.items c.args._three) c.args.j c.args.def.now
     c.requires.gate.0 _
     (cell_of c.args.net.now c.args.table.now.gates.items c.args._three c.args.j c.args.def.now c.requires.gate.0 h
     c.requires.gate.1 computes)

@@ -33,9 +33,11 @@ overflow_add-result c =
 pub overflow_sub-result : goal.overflow_sub-result
 overflow_sub-result c =
     (at_the_root (forest c.args.parent.now c.args.above.now c.args.height.now c.args._size.now) c.args.node
-    c.loop-at.at c.loop-at.gained c.requires.tables.known c.requires.node c.loop-at.invariant c.loop-at-test.false).least
+    c.loop-at.at c.loop-at.gained c.requires.tables.known c.requires.node c.loop-at.invariant
+    c.loop-at-test.false).least
 
 pub returns : goal.returns
 returns c =
     (at_the_root (forest c.args.parent.now c.args.above.now c.args.height.now c.args._size.now) c.args.node
-    c.loop-at.at c.loop-at.gained c.requires.tables.known c.requires.node c.loop-at.invariant c.loop-at-test.false).found
+    c.loop-at.at c.loop-at.gained c.requires.tables.known c.requires.node c.loop-at.invariant
+    c.loop-at-test.false).found

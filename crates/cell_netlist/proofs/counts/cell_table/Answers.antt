@@ -1,6 +1,6 @@
 use Rattle.std.proofs.Common.{◌∙◌}
 use Rattle.cell_netlist.proofs.Gated.{signals_few}
-use Rattle.cell_netlist.proofs.counts.table_of.Goals as goal
+use Rattle.cell_netlist.proofs.counts.cell_table.Goals as goal
 
 pub counts-requires : goal.counts-requires
 counts-requires c =
