@@ -13,8 +13,6 @@ ghost use Rattle.std.specs.Prelude.{
   slice_index,
   MatchOption,
 };
-ghost use Rattle.std.specs.List.{list_all};
-ghost use Rattle.std.specs.Char.{is_ascii_digit};
 ghost use Rattle.layout_rules.specs.Labels.{letter_i, is_decimal, tail, is_numbered, number_of_label};
 
 use aq_base::read_decimal;
@@ -36,18 +34,6 @@ fn tail(label: &Label) -> &[u8]
     if text.is_empty() { text } else { &text[1..] }
 }
 
-/// Whether all bytes are digits. It looks at each, which compilers make many bytes a step: many labels may show one
-/// long text.
-fn are_digits(text: &[u8]) -> bool
-    ensures { result ≡ list_all is_ascii_digit text.now }
-{
-    let mut all = true;
-    for byte in text {
-        all &= byte.is_ascii_digit();
-    }
-    all
-}
-
 /// Whether the text is one byte, or longer and doesn't begin with a zero.
 fn is_led(text: &[u8]) -> bool
     ensures { result ≡ (length text.now == 1 || (nat_lt 1 (length text.now) && not (slice_index text.now 0 == 48))) }
@@ -55,11 +41,12 @@ fn is_led(text: &[u8]) -> bool
     text.len() == 1 || (text.len() > 1 && text[0] != b'0')
 }
 
-/// Whether the text is a number in decimal digits, with no zero before others.
-fn is_decimal(text: &[u8]) -> bool
-    ensures { result ≡ is_decimal text.now }
+/// Whether a decimal number stands after the first byte. That digits follow was found when the text was made: many
+/// labels may show one long text.
+fn has_decimal(label: &Label) -> bool
+    ensures { result ≡ is_decimal (tail label.now.text) }
 {
-    are_digits(text) && is_led(text)
+    label.text.digits_follow() && is_led(tail(label))
 }
 
 /// Whether the label names an input.
@@ -73,7 +60,7 @@ pub fn names_input(label: &Label) -> bool
 pub fn is_numbered(label: &Label) -> bool
     ensures { result ≡ is_numbered label.now }
 {
-    (letter(label) == b'I' || letter(label) == b'O') && is_decimal(tail(label))
+    (letter(label) == b'I' || letter(label) == b'O') && has_decimal(label)
 }
 
 /// The number of a label that has one, where it is below 2^64.
