@@ -24,9 +24,9 @@
 #
 # Prints for each the seconds of processor time and the megabytes of memory at most, the same of the ordinary input, the
 # two ratios, and whether they are within three times, five for labels on one pin, 2.5 for twice the keys, ten for the
-# comparison of many searches, whose work is bounded by counts. Where the time grows with pairs that touch, or with the
-# places of a long text, that is said. The status is 1 where one is above, or a comparison is answered otherwise. Needs
-# GNU time, cc and python3; SECONDS_EACH, by default 300, is when a run is cut off.
+# comparison of many searches, whose work is bounded by counts. Where the time grows with pairs that touch, that is said.
+# The status is 1 where one is above, or a comparison is answered otherwise. Needs GNU time, cc and python3;
+# SECONDS_EACH, by default 300, is when a run is cut off.
 set -u
 here=$(cd -P "$(dirname "$0")/.." && pwd)
 seconds=${SECONDS_EACH:-300}
@@ -412,7 +412,7 @@ CASES
 make short_labels 1000 "$work/letter.gds"
 make long_labels 1000 "$work/hostile.gds"
 compare "stream long_labels, 1000000 labels, $(wc -c <"$work/hostile.gds") bytes" \
-    "$(check "$work/hostile.gds" "$work/words")" "$(check "$work/letter.gds" "$work/words")" 1 places
+    "$(check "$work/hostile.gds" "$work/words")" "$(check "$work/letter.gds" "$work/words")" 1 3
 make letter 20000 "$work/letter.gds"
 make text 20000 "$work/hostile.gds"
 compare "stream text, 20000 labels, $(wc -c <"$work/hostile.gds") bytes" \
