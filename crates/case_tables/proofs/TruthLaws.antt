@@ -1,7 +1,6 @@
 -- The recipe of a function's truth number computes the function, since truth tables of one length that have one number
 -- are one.
-use Rattle.std.specs.Prelude.{◌≡◌, ◌<◌, ◌≤◌, Bool, true, false, cond, List, [], ◌∷◌, length}
-use Rattle.std.proofs.Common.{refl, ap, arith}
+use Rattle.std.proofs.Common.{◌≡◌, ◌<◌, ◌≤◌, Bool, true, false, cond, List, [], ◌∷◌, length, refl, ap, arith}
 use Rattle.case_tables.specs.Recipes.{number, values2, values3, recipe_value}
 use Rattle.case_tables.specs.Tables.{two_recipe, three_recipe}
 use Rattle.case_tables.proofs.EntryLaws.{two_entry, three_entry}

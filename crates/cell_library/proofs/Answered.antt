@@ -1,6 +1,5 @@
 -- What a judgement of the table of a text says of the text.
-use Rattle.std.proofs.Common.{ℕ, ◌≡◌, ◌⊎◌, inl, inr, List, Some, None, Result, Ok, Err, refl, sym, ap, subst, ◌∙◌, ◌<◌, arith}
-use Rattle.std.specs.Prelude.{IsUtf8}
+use Rattle.std.proofs.Common.{ℕ, ◌≡◌, ◌⊎◌, inl, inr, List, Some, None, Result, Ok, Err, refl, sym, ap, subst, ◌∙◌, ◌<◌, arith, IsUtf8}
 use Rattle.std.proofs.lemmas.Bool.{cases_lt}
 use Rattle.toml.specs.Data.{Members}
 use Rattle.toml.specs.Parse.{parse_document}
@@ -43,16 +42,6 @@ not_both : (text : List ℕ) (fault : LibraryFault) (l : LibraryView) → HasFau
 not_both text fault l h s =
     let same : h.table ≡ s.table = one_table text h.table s.table h.document s.document in
     excludes s.table fault l (subst (λ (ms : Members). LibFault ms fault) same h.first) s.faultless s.values s.laws
-
--- a text that says a library
-pub said_answer : (text : List ℕ) (result : Result LibraryView LibraryRefusal) (l : LibraryView) → Answers text result → SaysLibrary text l → (result ≡ Ok l) ⊎ (result ≡ Err Memory)
-said_answer text (Ok found) l answer s = inl (ap (λ x. Ok x) (answer.values ∙ (ap library_of (one_table text answer.table s.table answer.document s.document) ∙ sym s.values)))
-said_answer text (Err (Bad Text)) l answer s = absurd (not_refused text s.table s.document answer)
-said_answer text (Err (Bad (Key key))) l answer s = absurd (not_both text (Key key) l answer s)
-said_answer text (Err (Bad (Value key z))) l answer s = absurd (not_both text (Value key z) l answer s)
-said_answer text (Err (Bad (Law number))) l answer s = absurd (not_both text (Law number) l answer s)
-said_answer text (Err (Bad (Missing kind))) l answer s = absurd (not_both text (Missing kind) l answer s)
-said_answer text (Err Memory) l answer s = inr refl
 
 -- two first broken laws have one number
 lower_broken : (l : LibraryView) (m n : ℕ) (x : BreaksFirst l m) (y : BreaksFirst l n) → m < n → ⊥

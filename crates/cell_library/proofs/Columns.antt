@@ -1,6 +1,5 @@
 -- Integers that are all columns.
-use Rattle.std.proofs.Common.{ℕ, ℤ, pos, negsuc, ◌≡◌, Bool, true, false, ◌&&◌, cond, List, [], ◌∷◌, map, Option, Some, None, refl}
-use Rattle.std.specs.Prelude.{find, filter_map, is_none, nat_le}
+use Rattle.std.proofs.Common.{ℕ, ℤ, pos, negsuc, ◌≡◌, Bool, true, false, ◌&&◌, cond, List, [], ◌∷◌, map, Option, Some, None, refl, find, filter_map, is_none, nat_le}
 use Rattle.std.specs.List.{cons_option}
 use Rattle.cell_library.specs.Documents.{natural_within}
 use Rattle.cell_library.specs.Says.{natural}

@@ -1,6 +1,5 @@
 -- The faults before the laws are faults of keys, values and kinds: none is of the text or of a law.
-use Rattle.std.proofs.Common.{ℕ, ℤ, ◌≡◌, List, [], ◌∷◌, map, Option, Some, None, option_map, option_and_then, subst, Err}
-use Rattle.std.specs.Prelude.{IfSome, find, is_none, codes}
+use Rattle.std.proofs.Common.{ℕ, ℤ, ◌≡◌, List, [], ◌∷◌, map, Option, Some, None, option_map, option_and_then, subst, Err, IfSome, find, is_none, codes}
 use Rattle.std.specs.Option.{option_or}
 use Rattle.std.specs.List.{AllByRecursion}
 use Rattle.toml.specs.Data.{Data, Members, get_member}

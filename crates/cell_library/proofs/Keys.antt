@@ -1,6 +1,5 @@
 -- The least key of a table that is none of some, found in the order of the map.
-use Rattle.std.proofs.Common.{ℕ, ◌≡◌, Bool, true, false, not, cond, List, [], ◌∷◌, map, filter, Option, Some, None, option_map, String, Global, BTreeMap, Bor, string_bytes, nat_cmp, refl, sym, ap, ◌∙◌, Less}
-use Rattle.std.specs.Prelude.{find, IfSome, option_copied}
+use Rattle.std.proofs.Common.{ℕ, ◌≡◌, Bool, true, false, not, cond, List, [], ◌∷◌, map, filter, Option, Some, None, option_map, String, Global, BTreeMap, Bor, string_bytes, nat_cmp, refl, sym, ap, ◌∙◌, Less, find, IfSome, option_copied}
 use Rattle.std.specs.Option.{option_map_or}
 use Rattle.std.specs.Ordering.{is_lt}
 use Rattle.std.specs.List.{AllByRecursion}

@@ -8,16 +8,6 @@ use Rattle.cell_library.specs.declared.laws.Law.TheVariants.{EvenSizes, EvenColu
 use Rattle.cell_library.specs.Kinds.{all_kinds}
 use Rattle.cell_library.specs.Laws.{law_number}
 
--- what holds at each place of the list of kinds holds of each kind
-pub each_kind : (P : CellKind → Type 0) → ((k : ℕ) → k < 7 → P (get_or all_kinds k Buffer)) → (kind : CellKind) → P kind
-each_kind P h Buffer = h 0 (omega arith)
-each_kind P h Inverter = h 1 (omega arith)
-each_kind P h Zero = h 2 (omega arith)
-each_kind P h One = h 3 (omega arith)
-each_kind P h Split2 = h 4 (omega arith)
-each_kind P h Split3 = h 5 (omega arith)
-each_kind P h Majority = h 6 (omega arith)
-
 abbrev pub all_laws : List Law
 all_laws = EvenSizes ∷ EvenColumns ∷ ViaInWire ∷ TracksApart ∷ PinsApart ∷ OfPins Counts ∷ OfPins InputSlots ∷ OfPins OutputSlots ∷ OfPins OddInputs ∷ OfPins EvenOutputs ∷ Reach ∷ WireInPin ∷ WidestCell ∷ Capacity ∷ []
 

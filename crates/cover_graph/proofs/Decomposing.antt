@@ -8,7 +8,7 @@ use Rattle.std.proofs.lemmas.List.{length-map}
 use Rattle.std.proofs.lemmas.Option.{slice_get-map, get_or_from_slice_get, same_Some}
 use Rattle.circuit.specs.Function.{majority}
 use Rattle.maj_graph.specs.Graphs.{literal_value, node_value, Fits, turned}
-use Rattle.maj_graph.specs.Building.{BuilderView, Grown, Gives, limit, AllThere}
+use Rattle.maj_graph.specs.Building.{BuilderView, Grown, Gives, AllThere}
 use Rattle.maj_graph.proofs.Built.{gives_later, limit_grows}
 use Rattle.maj_graph.proofs.Folded.{turned_value, turned_below}
 use Rattle.bit_tables.specs.Tables.{holds, index}
@@ -181,12 +181,6 @@ pub there_later : (a b : BuilderView) (inputs : List ℕ) → Grown a b → AllT
 there_later a b [] grown there = tt
 there_later a b (x ∷ xs) grown there =
     (let one = there.0 in let two = limit_grows a b grown in omega arith, there_later a b xs grown there.1)
-
-pub there_at : (b : BuilderView) (inputs : List ℕ) (k x : ℕ) → AllThere b inputs → slice_get inputs k ≡ Some x
-    → x < limit b
-there_at b [] k x there is = absurd (cc)
-there_at b (y ∷ ys) zero x there is = subst (λ z. z < limit b) (same_Some y x is) there.0
-there_at b (y ∷ ys) (suc k) x there is = there_at b ys k x there.1 is
 
 at_end : (memo : List Known) (one other : Known) (k : ℕ) → slice_get (memo ++ one ∷ []) k ≡ Some other
     → (slice_get memo k ≡ Some other) ⊎ (one ≡ other)

@@ -1,7 +1,6 @@
 -- What the operations on literals give.
-use Rattle.std.specs.Prelude.{◌≡◌, ℕ, ◌&&◌, ◌||◌, Bool, true, false, not, cond, List, Result, Ok, Err, Option, Some}
-use Rattle.std.specs.Prelude.{None, IfOk, IfSome}
-use Rattle.std.proofs.Common.{refl, ap, ◌∙◌}
+use Rattle.std.proofs.Common.{◌≡◌, ℕ, ◌&&◌, ◌||◌, Bool, true, false, not, cond, List, Result, Ok, Err, Option, Some}
+use Rattle.std.proofs.Common.{None, IfOk, IfSome, refl, ap, ◌∙◌}
 use Rattle.circuit.specs.Function.{majority}
 use Rattle.maj_graph.specs.Graphs.{literal_value, node_value, Fits, turned}
 use Rattle.maj_graph.specs.Building.{BuilderView, Grown, Gives}

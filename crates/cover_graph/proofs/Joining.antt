@@ -9,7 +9,7 @@ use Rattle.blif_read.specs.declared.netlist.Cube.{Cube}
 use Rattle.blif_read.specs.declared.netlist.Def.{Def}
 use Rattle.maj_graph.specs.Graphs.{literal_value, Fits, turned}
 use Rattle.maj_graph.specs.Building.{BuilderView, Grown, Gives, limit, AllThere}
-use Rattle.maj_graph.proofs.Built.{gives_later, grown_same, grown_then, fits_before}
+use Rattle.maj_graph.proofs.Built.{gives_later, grown_then, fits_before}
 use Rattle.maj_graph.proofs.Folded.{turned_value, turned_below}
 use Rattle.cover_graph.specs.declared.fold.Join.{Join}
 use Rattle.cover_graph.specs.declared.fold.Join.TheVariants.{And, Or}
@@ -23,11 +23,6 @@ use Rattle.cover_graph.proofs.Decomposing.{there_later}
 pub there_append : (b : BuilderView) (xs ys : List ℕ) → AllThere b xs → AllThere b ys → AllThere b (xs ++ ys)
 there_append b [] ys p q = q
 there_append b (x ∷ xs) ys p q = (p.0, there_append b xs ys p.1 q)
-
-pub there_take : (b : BuilderView) (k : ℕ) (xs : List ℕ) → AllThere b xs → AllThere b (take k xs)
-there_take b zero xs p = tt
-there_take b (suc k) [] p = tt
-there_take b (suc k) (x ∷ xs) p = (p.0, there_take b k xs p.1)
 
 pub there_drop : (b : BuilderView) (k : ℕ) (xs : List ℕ) → AllThere b xs → AllThere b (drop k xs)
 there_drop b zero xs p = p
@@ -44,12 +39,6 @@ assoc Or false b c = refl
 none_left : (which : Join) (a : Bool) → join which (none which) a ≡ a
 none_left And a = refl
 none_left Or a = refl
-
-none_right : (which : Join) (a : Bool) → join which a (none which) ≡ a
-none_right And true = refl
-none_right And false = refl
-none_right Or true = refl
-none_right Or false = refl
 
 pub joined_append : (which : Join) (xs ys : List Bool)
     → joined which (xs ++ ys) ≡ join which (joined which xs) (joined which ys)
@@ -82,14 +71,6 @@ gives_none_joined b Or l xs e is = subst (λ k. Gives b k (λ v. joined Or (map 
       shows = λ word v fit. zero_value v fit.none
           ∙ ap (λ ys. joined Or (map (literal_value v) ys)) (sym e);
     })
-
-pub gives_one_joined : (b : BuilderView) (which : Join) (l : ℕ) (xs : List ℕ) → xs ≡ l ∷ [] → AllThere b xs
-    → Gives b l (λ v. joined which (map (literal_value v) xs))
-gives_one_joined b which l xs e there = record {
-  below = (subst (AllThere b) e there).0;
-  shows = λ word v fit. sym (none_right which (literal_value v l))
-      ∙ ap (λ ys. joined which (map (literal_value v) ys)) (sym e);
-}
 
 -- the halves joined
 pub fold_value : (which : Join) (b1 b2 b3 : BuilderView) (k first second : ℕ) (xs left right : List ℕ)
@@ -150,13 +131,6 @@ pub record Literals (plane inputs made : List ℕ) (k : ℕ) : Type 0 where
   pub value : (v : ℕ → Bool) → v 0 ≡ false
       → (joined And (map (literal_value v) made) && takes_all (drop k plane) (map (literal_value v) (drop k inputs))) ≡
       takes_all plane (map (literal_value v) inputs)
-
-pub no_literals : (plane inputs made : List ℕ) → made ≡ [] → Literals plane inputs made 0
-no_literals plane inputs made e = record {
-  there = λ b all. subst (AllThere b) (sym e) tt;
-  value = λ v none. ap
-      (λ xs. joined And (map (literal_value v) xs) && takes_all plane (map (literal_value v) inputs)) e;
-}
 
 there_get : (b : BuilderView) (xs : List ℕ) (k x : ℕ) → AllThere b xs → slice_get xs k ≡ Some x → x < limit b
 there_get b [] k x there is = absurd (cc)
@@ -226,15 +200,6 @@ pub record Cubes (first b : BuilderView) (made : List ℕ) (cubes : List Cube) (
   pub value : (word : List Bool) (v : ℕ → Bool) → Fits b.inputs b.nodes word v
       → (joined Or (map (literal_value v) made) || some_takes (drop k cubes) (map (literal_value v) inputs)) ≡
       some_takes cubes (map (literal_value v) inputs)
-
-pub no_cubes : (b : BuilderView) (made : List ℕ) (cubes : List Cube) (inputs : List ℕ) → made ≡ []
-    → Cubes b b made cubes inputs 0
-no_cubes b made cubes inputs e = record {
-  grown = grown_same b b refl;
-  there = subst (AllThere b) (sym e) tt;
-  value = λ word v fit. ap
-      (λ xs. joined Or (map (literal_value v) xs) || some_takes cubes (map (literal_value v) inputs)) e;
-}
 
 pub one_cube : (first before b : BuilderView) (made more : List ℕ) (cubes : List Cube) (inputs plane : List ℕ)
     (k l : ℕ) (d : Cube) → k < length cubes → more ≡ made ++ l ∷ []

@@ -10,7 +10,7 @@ use Rattle.blif_read.specs.Equations.{takes}
 use Rattle.blif_read.specs.declared.netlist.Cube.{Cube}
 use Rattle.blif_read.specs.declared.netlist.Def.{Def}
 use Rattle.bit_tables.specs.Tables.{holds, mask, index}
-use Rattle.cover_graph.specs.Code.Covers.{takes_all, some_takes, cover, plane_at, some_at, cover_at, AreNarrow}
+use Rattle.cover_graph.specs.Code.Covers.{takes_all, some_takes, cover, plane_at, some_at, cover_at}
 use Rattle.cover_graph.specs.Code.Covers.{HavePlanes}
 use Rattle.bit_tables.proofs.Bits.{holds_and, holds_or, holds_not, holds_none, holds_mask, holds_index, index_below}
 
@@ -30,19 +30,11 @@ pub at_other : (b : ℕ) (x : Bool) → b ≢ 45 → b ≢ 49 → b ≢ 48 → t
 at_other b true p q r = ap (λ t. t || (b == 49)) (ne_eqb b 45 p) ∙ ne_eqb b 49 q
 at_other b false p q r = ap (λ t. t || (b == 48)) (ne_eqb b 45 p) ∙ ne_eqb b 48 r
 
-and_true : (a : Bool) → a ≡ (a && true)
-and_true true = refl
-and_true false = refl
-
 and_false : (a : Bool) → false ≡ (a && false)
 and_false true = refl
 and_false false = refl
 
 -- one byte
-pub dash_narrows : (t b p i : ℕ) → b ≡ 45 → holds t i ≡ (holds t i && takes b (holds i p))
-dash_narrows t b p i e = and_true (holds t i)
-    ∙ ap (λ x. holds t i && x) (sym (ap (λ c. takes c (holds i p)) e ∙ at_dash (holds i p)))
-
 pub one_narrows : (t m b p i : ℕ) → b ≡ 49 → m ≡ mask p → p < 6 → i < 64
     → holds (bit_and t m) i ≡ (holds t i && takes b (holds i p))
 one_narrows t m b p i e is low lt =
@@ -62,25 +54,9 @@ pub other_narrows : (t b p i : ℕ) → b ≢ 45 → b ≢ 49 → b ≢ 48 → h
 other_narrows t b p i x y z = holds_none i ∙ and_false (holds t i)
     ∙ ap (λ x. holds t i && x) (sym (at_other b (holds i p) x y z))
 
-and_assoc : (a b c : Bool) → ((a && b) && c) ≡ (a && (b && c))
-and_assoc true b c = refl
-and_assoc false b c = refl
-
 or_assoc : (a b c : Bool) → ((a || b) || c) ≡ (a || (b || c))
 or_assoc true b c = refl
 or_assoc false b c = refl
-
--- one more byte of a plane
-pub one_byte : (plane : List ℕ) (k d before after i : ℕ) → k < length plane
-    → (holds before i && plane_at (drop k plane) k i) ≡ plane_at plane 0 i
-    → holds after i ≡ (holds before i && takes (get_or plane k d) (holds i k))
-    → (holds after i && plane_at (drop (k + 1) plane) (k + 1) i) ≡ plane_at plane 0 i
-one_byte plane k d before after i lt so_far is =
-    ap (λ j. holds after i && plane_at (drop j plane) j i) (add-one k)
-    ∙ ap (λ t. t && plane_at (drop (suc k) plane) (suc k) i) is
-    ∙ and_assoc (holds before i) (takes (get_or plane k d) (holds i k)) (plane_at (drop (suc k) plane) (suc k) i)
-    ∙ ap (λ bs. holds before i && plane_at bs k i) (sym (drop-cons plane k d lt))
-    ∙ so_far
 
 -- one more plane
 pub one_plane : (cubes : List Cube) (k before one after i : ℕ) (c : Cube) → k < length cubes
@@ -149,9 +125,6 @@ narrow : (n k : ℕ) (cubes : List Cube) → n ≤ k → HavePlanes n cubes
     → AllByRecursion (λ cube. length cube.plane ≤ k) cubes
 narrow n k [] le h = tt
 narrow n k (c ∷ cs) le h = ((let e = h.0 in omega arith), narrow n k cs le h.1)
-
-pub are_narrow : (n : ℕ) (cubes : List Cube) → n ≤ 6 → HavePlanes n cubes → AreNarrow cubes
-are_narrow n cubes few h = narrow n 6 cubes few h
 
 -- the table of a cover at the values of literals
 pub table_value : (def : Def) (table n : ℕ) (xs : List Bool) → n ≡ length xs → n ≤ 6 → HavePlanes n def.cubes

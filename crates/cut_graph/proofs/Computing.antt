@@ -2,9 +2,9 @@
 use Rattle.std.specs.Prelude.{◌≡◌, ℕ, zero, suc, ◌+◌, ◌-◌, ◌/◌, ◌%◌, ◌<◌, ◌≤◌, ◌==◌, Bool, true, false, not, cond, List}
 use Rattle.std.specs.Prelude.{[], ◌∷◌, ◌++◌, length, map, Some, slice_get}
 use Rattle.std.specs.Option.{option_map}
-use Rattle.std.proofs.Common.{refl, sym, ap, ◌∙◌, subst, arith, get_or, length-append}
+use Rattle.std.proofs.Common.{refl, sym, ap, ◌∙◌, subst, arith, length-append}
 use Rattle.std.proofs.lemmas.List.{length-map, get_or_append_left}
-use Rattle.std.proofs.lemmas.Option.{slice_get-map, get_or_from_slice_get, slice_get_within, slice_get-get_or}
+use Rattle.std.proofs.lemmas.Option.{slice_get-map, get_or_from_slice_get, slice_get_within}
 use Rattle.circuit.specs.Function.{majority}
 use Rattle.bit_tables.specs.Tables.{holds, index, mask}
 use Rattle.bit_tables.proofs.Bits.{holds_none, holds_mask, holds_index, index_below}
@@ -173,15 +173,6 @@ pub entries_more : (b : BuilderView) (leaves : List ℕ) (es : List Entry) (e : 
     → IsEntry b leaves e → AreEntries b leaves (es ++ e ∷ [])
 entries_more b leaves [] e all one = (one, tt)
 entries_more b leaves (f ∷ fs) e all one = (all.0, entries_more b leaves fs e all.1 one)
-
-pub entry_is : (b : BuilderView) (leaves : List ℕ) (es : List Entry) (k : ℕ) (e : Entry) → AreEntries b leaves es
-    → slice_get es k ≡ Some e → IsEntry b leaves e
-entry_is b leaves [] k e all is = absurd (cc)
-entry_is b leaves (f ∷ fs) zero e all is = (let same : f ≡ e = cc in subst (IsEntry b leaves) same all.0)
-entry_is b leaves (f ∷ fs) (suc k) e all is = entry_is b leaves fs k e all.1 is
-
-pub read_at : {A : Type 0} (xs : List A) (k : ℕ) (x : A) → k < length xs → x ≡ get_or xs k x → slice_get xs k ≡ Some x
-read_at xs k x lt is = slice_get-get_or xs k x lt ∙ ap Some (sym is)
 
 pub three_there : (b : BuilderView) (leaves : List ℕ) (x y z : Entry) → length leaves ≤ 6 → IsEntry b leaves x
     → IsEntry b leaves y → IsEntry b leaves z

@@ -1,21 +1,18 @@
 -- A diagram with one more node.
-use Rattle.std.proofs.Common.{◌≡◌, ℕ, zero, suc, ◌+◌, ◌<◌, ◌≤◌, ◌⊎◌, Bool, List, [], ◌∷◌, ◌++◌, length, get_or, slice_get, Some, refl, sym, ap, ◌∙◌, subst, arith, inl, inr, length-append}
+use Rattle.std.proofs.Common.{◌≡◌, ℕ, zero, suc, ◌+◌, ◌<◌, ◌≤◌, ◌⊎◌, Bool, List, [], ◌∷◌, ◌++◌, length, get_or, slice_get, Some, refl, sym, ap, ◌∙◌, subst, arith, inl, inr, length-append, true, false, if◌then◌else◌, ◌&&◌, eqb, Result, Ok, Err, OnOk, OnErr}
 use Rattle.std.proofs.lemmas.Bool.{cases_lt, eq-eqb}
 use Rattle.std.proofs.Math.Seq.{get_or-append_seam}
 use Rattle.std.proofs.lemmas.List.{get_or_append_left}
 use Rattle.std.proofs.lemmas.Option.{slice_get-get_or, get_or_from_slice_get, slice_get_within}
 use Rattle.std.proofs.lemmas.List.Folds.{list_any_at}
 use Rattle.std.specs.List.{list_any}
-use Rattle.std.proofs.Common.{true, false, if◌then◌else◌, ◌&&◌, eqb}
 use Rattle.std.proofs.Math.Bool.{beq}
 use Rattle.decide.specs.declared.edge.Edge.{Edge}
 use Rattle.decide.specs.declared.edge.Node.{Node}
 use Rattle.decide.specs.Code.Diagrams.{no_node, flip, node_at, level_of, IsNode, IsDiagram}
-use Rattle.decide.specs.Code.Grown.{Grows, Adds}
-use Rattle.decide.specs.Code.Grown.{Represents}
+use Rattle.decide.specs.Code.Grown.{Grows, Adds, Represents}
 use Rattle.decide.specs.Code.Named.{IsNamed, AreNamed}
 use Rattle.circuit.specs.PlainNets.{PlainView}
-use Rattle.std.proofs.Common.{Result, Ok, Err, OnOk, OnErr}
 use Rattle.decide.proofs.Functions.{edge_same}
 use Rattle.decide.proofs.Choosing.{grows_same, named_more}
 
@@ -87,12 +84,6 @@ module _ (old new : List Node) (t : Node) (adds : Adds old t new) where
   adds_grows = elim adds [
     | inl same ↦ subst (λ ns. Grows old ns) (sym same) (grows_same old)
     | inr more ↦ subst (λ ns. Grows old ns) (sym more.0) (grows_more old t)
-  ]
-
-  pub adds_one : length new ≤ length old + 1
-  adds_one = elim adds [
-    | inl same ↦ (let e = ap (λ (ns : List Node). length ns) same in omega arith)
-    | inr more ↦ (let e = ap (λ (ns : List Node). length ns) more.0 in let s = size_more old t in omega arith)
   ]
 
   pub adds_diagram : IsDiagram old → length old ≤ 1000001 → IsNode old (length old) t → IsDiagram new

@@ -1,12 +1,11 @@
 -- What the edge to a test gives, and what one more node does to a diagram.
-use Rattle.std.proofs.Common.{◌≡◌, ℕ, zero, suc, ◌+◌, ◌<◌, ◌≤◌, Bool, true, false, cond, List, length, get_or, refl, sym, ap, ◌∙◌, subst, arith, inl, inr}
+use Rattle.std.proofs.Common.{◌≡◌, ℕ, zero, suc, ◌+◌, ◌<◌, ◌≤◌, Bool, true, false, cond, List, length, get_or, refl, sym, ap, ◌∙◌, subst, arith, inl, inr, Result, Ok, Err, IfErr, IsErrAnd}
 use Rattle.std.proofs.lemmas.Bool.{cases_lt}
 use Rattle.circuit.specs.PlainNets.{PlainView}
 use Rattle.decide.specs.declared.edge.Edge.{Edge}
 use Rattle.decide.specs.declared.edge.Node.{Node}
-use Rattle.decide.specs.Code.Diagrams.{flip, node_at, level_of, choice_value, node_value, edge_value, IsDiagram}
+use Rattle.decide.specs.Code.Diagrams.{flip, node_at, choice_value, node_value, edge_value, IsDiagram}
 use Rattle.decide.specs.Code.Grown.{Grows, Represents, choice, IsFull}
-use Rattle.std.proofs.Common.{Result, Ok, Err, IfErr, IsErrAnd}
 use Rattle.decide.specs.declared.refusal.DecideRefusal.{DecideRefusal}
 use Rattle.decide.specs.declared.refusal.DecideRefusal.TheVariants.{Memory}
 use Rattle.decide.specs.Code.Named.{IsNamed, AreNamed}
@@ -67,18 +66,6 @@ module _ (old new : List Node) (ok : IsDiagram old) (ok' : IsDiagram new) (grows
             ∙ ap (λ b. cond (get_or x level false) b (flip low.complemented (node_value new x low.node))) (grown_value x high inside')
             ∙ ap (cond (get_or x level false) (edge_value old x high)) (grown_value x low inside);
       }
-
-  -- where both functions are the same, so is their choice
-  pub chosen_same : (level : ℕ) (low high : Edge) → low ≡ high → low.node < length old → level < level_of old low.node → Represents old level (choice old level low high) low
-  chosen_same level low high same inside below = record {
-    inside = inside;
-    from = omega arith;
-    value = λ x. both (get_or x level false) (edge_value old x low) (edge_value old x high) (ap (edge_value old x) same);
-  }
-    where
-      both : (b p q : Bool) → p ≡ q → p ≡ cond b q p
-      both true p q e = e
-      both false p q e = refl
 
   -- each node is named where the old ones are, and the new one
   pub named_more : (a b : PlainView) (f : List Bool → Bool) (bound : ℕ) (e : Edge) → AreNamed a b old → IsNamed a b f → Represents new bound f e → length new ≤ length old + 1 → e.node ≡ length old → AreNamed a b new

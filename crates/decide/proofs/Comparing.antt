@@ -1,5 +1,5 @@
 -- From equal edges to equal answers, and from different ones to the least difference.
-use Rattle.std.proofs.Common.{◌≡◌, ℕ, zero, suc, ◌<◌, Bool, List, [], ◌∷◌, length, map, get_or, refl, sym, ap, ◌∙◌, subst, arith}
+use Rattle.std.proofs.Common.{◌≡◌, ℕ, zero, suc, ◌<◌, Bool, List, [], ◌∷◌, length, map, get_or, refl, sym, ap, ◌∙◌, subst, arith, Result, Ok, Err, IfErr, IsErrAnd}
 use Rattle.std.specs.List.{AllByRecursion}
 use Rattle.circuit.specs.PlainNets.{PlainView}
 use Rattle.circuit.specs.declared.gate.Gate.{Gate}
@@ -7,7 +7,6 @@ use Rattle.decide.specs.declared.edge.Edge.{Edge}
 use Rattle.decide.specs.declared.edge.Node.{Node}
 use Rattle.decide.specs.declared.refusal.DecideRefusal.{DecideRefusal}
 use Rattle.decide.specs.declared.refusal.DecideRefusal.TheVariants.{TooMany, Memory}
-use Rattle.std.proofs.Common.{Result, Ok, Err, IfErr, IsErrAnd}
 use Rattle.circuit.specs.CellNets.{IsCells, value}
 use Rattle.circuit.proofs.CellAnswers.{value_fits, the_answer}
 use Rattle.decide.specs.Verdicts.{shown, answer_alike, IsLeastDifference, IsRefusal}
@@ -69,12 +68,6 @@ module _ (nodes : List Node) (read : List Bool → List Bool) (a b : PlainView) 
 
   abbrev pub right : ℕ → Edge
   right k = output_edge second b.outputs k
-
-  pub left_inside : (k : ℕ) → k < length a.outputs → (left k).node < length nodes
-  left_inside k lt = values.inside (get_or a.outputs k 0) (output_within a cells k lt)
-
-  pub right_inside : (k : ℕ) → k < length a.outputs → (right k).node < length nodes
-  right_inside k lt = values'.inside (get_or b.outputs k 0) (output_within b cells' k (omega arith))
 
   left_shown : (k : ℕ) → k < length a.outputs → (x : List Bool) → edge_value nodes (read x) (left k) ≡ shown a k x
   left_shown k lt x = values.values (get_or a.outputs k 0) (output_within a cells k lt) x

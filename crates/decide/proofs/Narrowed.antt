@@ -1,8 +1,9 @@
 -- The search for the least word in the inputs' own order, in a diagram of another variable order.
-use Rattle.std.proofs.Common.{◌≡◌, ◌≢◌, ℕ, ◌+◌, ◌<◌, ◌⊎◌, ◌&&◌, Bool, true, false, not, cond, List, [], ◌∷◌, ◌++◌, length, take, get_or, refl, sym, ap, ◌∙◌, subst, arith, inl, inr, length-append}
-use Rattle.std.specs.Prelude.{MatchBool}
+use Rattle.std.proofs.Common.{◌≡◌, ◌≢◌, ℕ, ◌+◌, ◌<◌, ◌⊎◌, ◌&&◌, Bool, true, false, not, cond, List, [], ◌∷◌, ◌++◌, length, take, get_or, refl, sym, ap, ◌∙◌, subst, arith, inl, inr, length-append, MatchBool}
 use Rattle.std.proofs.lemmas.List.{take_more, length-take-le, length-map, get_or-map, ext_get_or}
 use Rattle.std.proofs.Math.Seq.{take-length}
+use Rattle.std.proofs.lemmas.Bool.{cases_Bool}
+use Rattle.std.specs.Cmp.{first_so, second_so}
 use Rattle.circuit.specs.Function.{majority}
 use Rattle.decide.specs.declared.edge.Edge.{Edge}
 use Rattle.decide.specs.declared.edge.Node.{Node}
@@ -93,14 +94,6 @@ pub narrowed_inside : (old new : List Node) → IsDiagram old → IsDiagram new 
 narrowed_inside old new ok ok' grows true e low e' p q is = subst (λ (f : Edge). f.node < length new) (sym is) (inside_grown old new ok ok' grows e.node p)
 narrowed_inside old new ok ok' grows false e low e' p q is = subst (λ (f : Edge). f.node < length new) (sym is) q
 
-bool_cases : (b : Bool) → (b ≡ true) ⊎ (b ≡ false)
-bool_cases true = inl refl
-bool_cases false = inr refl
-
-not_true : (b : Bool) → b ≢ true → b ≡ false
-not_true true other = absurd (other refl)
-not_true false other = refl
-
 flip_differ : (a b : Bool) → flip a b ≡ true → a ≢ b
 flip_differ true true e same = clash false e refl
 flip_differ true false e same = clash false (sym same) refl
@@ -112,14 +105,6 @@ differ_flip true true other = absurd (other refl)
 differ_flip true false other = refl
 differ_flip false true other = refl
 differ_flip false false other = absurd (other refl)
-
-and_first : (a b : Bool) → (a && b) ≡ true → a ≡ true
-and_first true b e = refl
-and_first false b e = e
-
-and_second : (a b : Bool) → (a && b) ≡ true → b ≡ true
-and_second true b e = e
-and_second false b e = clash false e refl
 
 not_false : (b : Bool) → not b ≡ true → b ≡ false
 not_false true e = clash false e refl
@@ -169,9 +154,6 @@ module _ (n : ℕ) (order rank : List ℕ) (is : IsOrder n order rank) (si : IsO
         not_not true z other e = refl
         not_not false z other e = absurd (other (sym e))
 
-    pub false_nowhere : (e : Edge) (y : List Bool) → edge_value nodes y e ≡ true → e ≢ regular 0
-    false_nowhere e y holds same = clash (edge_value nodes y e) holds (ap (λ (f : Edge). edge_value nodes y f) same ∙ zero_value nodes ok y)
-
   -- at first: the difference of two functions
   pub narrowed_begins : (old nodes : List Node) → IsDiagram old → IsDiagram nodes → inputs_of old ≡ n → (f g e : Edge) (word : List Bool) → word ≡ [] → f.node < length old → g.node < length old → f ≢ g
       → Represents nodes 0 (differs_at old f g) e
@@ -206,7 +188,7 @@ module _ (n : ℕ) (order rank : List ℕ) (is : IsOrder n order rank) (si : IsO
 
     -- the low part is false everywhere: the input is true
     where_true : low ≡ regular 0 → (x : List Bool) → edge_value old (arranged order x) e ≡ true → get_or x count false ≡ true
-    where_true none x holds = elim (bool_cases (get_or x count false)) [
+    where_true none x holds = elim (cases_Bool (get_or x count false)) [
       | inl p ↦ p
       | inr p ↦ clash (edge_value new (arranged order x) low) (low_true x holds p) (ap (λ (h : Edge). edge_value new (arranged order x) h) none ∙ zero_value new ok' (arranged order x))
     ]
@@ -252,8 +234,8 @@ module _ (n : ℕ) (order rank : List ℕ) (is : IsOrder n order rank) (si : IsO
       some = some;
       holds = λ x long true_at.
           (let both = sym (low_value x) ∙ true_at in
-          let h = narrowed.holds x long (and_first (edge_value old (arranged order x) e) (not (get_or x count false)) both) in
-          (h.0, joined x long false h.1 (not_false (get_or x count false) (and_second (edge_value old (arranged order x) e) (not (get_or x count false)) both))));
+          let h = narrowed.holds x long (first_so (edge_value old (arranged order x) e) (not (get_or x count false)) both) in
+          (h.0, joined x long false h.1 (not_false (get_or x count false) (second_so (edge_value old (arranged order x) e) (not (get_or x count false)) both))));
       covers = λ x long differ same. (let s = split x long false same in low_true x (narrowed.covers x long differ s.0) s.1);
       before = λ x long before. elim (earlier x long false before) [
         | inl less ↦ narrowed.before x long less

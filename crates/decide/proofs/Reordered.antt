@@ -75,10 +75,6 @@ module _ (n : ℕ) (order rank : List ℕ) (is : IsOrder n order rank) where
   pub reads_again : (gates read : List Gate) → AreCells n gates → read ≡ map (renumber rank) gates → AreCells n read
   reads_again gates read ok is = subst (λ (gs : List Gate). AreCells n gs) (sym is) (again_read gates ok)
 
-  -- an input's level is one of the diagram
-  pub levels_within : (k : ℕ) → k < length rank → get_or rank k 0 < length rank
-  levels_within k lt = (let r = is.ranks in let s = is.size in let w = (is.stands k (omega arith)).within in omega arith)
-
 -- an order that undoes its ranks is as long as they are
 pub undone_order : (order rank : List ℕ) → IsOrder (length rank) order rank → IsOrder (length order) rank order → IsOrder (length rank) rank order
 undone_order order rank is si = subst (λ n. IsOrder n rank order) is.size si

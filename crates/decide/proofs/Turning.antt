@@ -1,5 +1,5 @@
 -- The loop that makes a majority: what holds at each turn.
-use Rattle.std.proofs.Common.{◌≡◌, Bool, List, [], ◌∷◌, ◌++◌, length, reverse, refl, sym, ◌∙◌, subst, arith}
+use Rattle.std.proofs.Common.{◌≡◌, Bool, List, [], ◌∷◌, ◌++◌, reverse, refl, sym, ◌∙◌, subst, arith}
 use Rattle.circuit.specs.PlainNets.{PlainView}
 use Rattle.decide.specs.declared.edge.Edge.{Edge}
 use Rattle.decide.specs.declared.edge.Triple.{Triple}
@@ -34,15 +34,6 @@ run_begins nodes stack operands edges empty = record {
 module _ (start now : List Node) (stack : List Frame) (turn : Turn) (operands : Triple) (run : IsRun start now stack turn operands) where
   pub run_edges : (triple : Triple) → turn ≡ Make triple → AreEdges now triple
   run_edges triple is = (subst (λ t. Waits now stack t (majority_value start operands)) is run.waits).fits.0
-
-  -- the same diagram, at another turn
-  pub run_turned : (triple : Triple) (after : List Frame) (next : Turn) → turn ≡ Make triple
-      → ((last : List Bool → Bool) → Waits now stack (Make triple) last → Waits now after next last) → IsRun start now after next operands
-  run_turned triple after next is step = record {
-    grows = run.grows;
-    waits = step (majority_value start operands) (subst (λ t. Waits now stack t (majority_value start operands)) is run.waits);
-    named = run.named;
-  }
 
   waits_made : (e : Edge) → turn ≡ Made e → Waits now stack (Made e) (majority_value start operands)
   waits_made e is = subst (λ t. Waits now stack t (majority_value start operands)) is run.waits
@@ -90,10 +81,3 @@ module _ (start now : List Node) (stack : List Frame) (turn : Turn) (operands : 
       waits = waits (majority_value start operands) run_rest;
       named = run_named new ok ok' step;
     }
-
-pub no_items : {A : Type 0} (xs : List A) → length xs ≡ 0 → xs ≡ []
-no_items [] e = refl
-no_items (x ∷ xs) e = absurd (omega arith)
-
-pub run_moved : (start a b : List Node) (s s' : List Frame) (t t' : Turn) (operands : Triple) → b ≡ a → s' ≡ s → t' ≡ t → IsRun start a s t operands → IsRun start b s' t' operands
-run_moved start a b s s' t t' operands p q r run = rw (p, q, r) run

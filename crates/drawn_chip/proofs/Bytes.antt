@@ -7,7 +7,7 @@ use Rattle.std.specs.List.{flat_map}
 use Rattle.std.specs.Int.{w16, to_be_bytes}
 use Rattle.std.proofs.lemmas.Fmt.{length-decimal-le}
 use Rattle.std.proofs.lemmas.Grind.{flat_map-append}
-use Rattle.std.proofs.lemmas.List.{length-map}
+use Rattle.std.proofs.lemmas.List.{length-map, map-append}
 use Rattle.std.proofs.lemmas.List.Sums.{length-filter, count_by-le-length}
 use Rattle.circuit.specs.CellKinds.{inputs_of, outputs_of}
 use Rattle.circuit.specs.declared.cell_kind.CellKind.{CellKind}
@@ -34,10 +34,6 @@ use Rattle.layout_make.specs.Spots.{spots}
 use Rattle.layout_make.specs.Tags.{sheet, cell_tags, wire_tags, line_tags}
 use Rattle.layout_make.specs.declared.spots.Spot.{Spot}
 use Rattle.drawn_chip.proofs.Counts.{cell_shapes}
-
-map_append : {A B : Type 0} (f : A → B) (xs ys : List A) → map f (xs ++ ys) ≡ map f xs ++ map f ys
-map_append f [] ys = refl
-map_append f (x ∷ xs) ys = ap (λ rest. f x ∷ rest) (map_append f xs ys)
 
 -- ---- records
 
@@ -193,7 +189,7 @@ module _ (p : PlacedView) (l : LibraryView) (few_inputs : p.net.inputs < 2 ^ 32)
   all_labels_small =
       subst (IsSmall names)
       (sym
-      (map_append (λ b. Text b) (map (Draw.input_label p l) (numbers 0 p.net.inputs))
+      (map-append (λ b. Text b) (map (Draw.input_label p l) (numbers 0 p.net.inputs))
       (map (Draw.output_label p l) (numbers 0 p.net.outputs))))
       (small_append names (map (λ b. Text b) (map (Draw.input_label p l) (numbers 0 p.net.inputs)))
       (map (λ b. Text b) (map (Draw.output_label p l) (numbers 0 p.net.outputs)))

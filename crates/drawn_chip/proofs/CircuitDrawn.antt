@@ -1,8 +1,7 @@
 -- The circuit of a drawing's flat form.
 use Rattle.std.proofs.Common.{◌≡◌, ℕ, zero, suc, pred, ◌+◌, ◌%◌, ◌<◌, ◌≤◌, ◌^◌, Bool, true, false, ◌&&◌, ◌||◌, ◌==◌}
 use Rattle.std.proofs.Common.{cond, refl, sym, ap, subst, ◌∙◌, arith, ◌⊎◌, inl, inr, List, [], ◌∷◌, length, map, Option}
-use Rattle.std.proofs.Common.{Some, None, is_some, ltb}
-use Rattle.std.specs.Prelude.{slice_get, count_by, int_lt, nat_lt}
+use Rattle.std.proofs.Common.{Some, None, is_some, ltb, slice_get, count_by, int_lt, nat_lt}
 use Rattle.std.specs.Ordering.{int_eq}
 use Rattle.std.specs.List.{flat_map, AllZip}
 use Rattle.std.proofs.lemmas.Option.{same_Some, slice_get_within}

@@ -1,7 +1,6 @@
 -- How many shapes and labels a drawing has, by the cells, wires and ports of its placed net.
 use Rattle.std.proofs.Common.{◌≡◌, ℕ, zero, suc, ◌+◌, ◌*◌, ◌≤◌, Bool, cond, ltb, refl, ap, ◌∙◌, arith, List, [], ◌∷◌}
-use Rattle.std.proofs.Common.{◌++◌, length, length-append, map, Option, Some, None, is_some}
-use Rattle.std.specs.Prelude.{slice_get, slice_index_or}
+use Rattle.std.proofs.Common.{◌++◌, length, length-append, map, Option, Some, None, is_some, slice_get, slice_index_or}
 use Rattle.std.specs.List.{flat_map}
 use Rattle.std.proofs.lemmas.List.{length-map}
 use Rattle.circuit.specs.CellKinds.{inputs_of, outputs_of, slots_of}

@@ -1,6 +1,5 @@
 -- The circuit of a drawing, with what it answers.
-use Rattle.std.proofs.Common.{ℕ, List}
-use Rattle.std.specs.Prelude.{count_by}
+use Rattle.std.proofs.Common.{ℕ, List, count_by}
 use Rattle.layout_rules.specs.Nets.{AreNets}
 use Rattle.rowed.specs.PlacedNets.{PlacedView}
 use Rattle.cell_library.specs.Library.{LibraryView}

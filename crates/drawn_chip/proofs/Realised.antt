@@ -1,7 +1,6 @@
 -- The drawing of a net realises it.
 use Rattle.std.proofs.Common.{◌≡◌, ℕ, suc, ◌+◌, ◌*◌, ◌-◌, ◌<◌, ◌≤◌, ◌^◌, refl, sym, ap, ◌∙◌, arith, Bool, List, [], ◌∷◌}
-use Rattle.std.proofs.Common.{length}
-use Rattle.std.specs.Prelude.{count_by, All}
+use Rattle.std.proofs.Common.{length, count_by, All}
 use Rattle.std.specs.List.{AllZip}
 use Rattle.std.proofs.lemmas.List.{length-map}
 use Rattle.cell_library.specs.Library.{LibraryView, limits_of}
@@ -23,7 +22,7 @@ use Rattle.shape_extract.specs.Extracts.{KeepsFive}
 use Rattle.pulse_sim.specs.Shows.{Shows}
 use Rattle.pulse_sim.specs.Clocked.{ShowsByClocks}
 use Rattle.layout_make.specs.Draw.{draw, top_elements}
-use Rattle.layout_make.specs.CellsAreDrawn.{CellsAreDrawn, row_edges}
+use Rattle.layout_make.specs.CellsAreDrawn.{CellsAreDrawn}
 use Rattle.layout_make.specs.Laws.{flat_shapes}
 use Rattle.layout_make.specs.MayDraw.{MayDraw}
 use Rattle.layout_make.specs.Sheet.{shape_of}

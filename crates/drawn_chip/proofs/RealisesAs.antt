@@ -1,6 +1,5 @@
 -- A chip that realises one relation of words and answers realises each other one that has the same answers.
-use Rattle.std.proofs.Common.{◌≡◌, ℕ, suc, sym, ◌∙◌, arith, Bool, List, [], ◌∷◌, length}
-use Rattle.std.specs.Prelude.{All}
+use Rattle.std.proofs.Common.{◌≡◌, ℕ, suc, sym, ◌∙◌, arith, Bool, List, [], ◌∷◌, length, All}
 use Rattle.std.specs.List.{AllZip}
 use Rattle.circuit.specs.SameAnswers.{SameAnswers}
 use Rattle.layout_rules.specs.Limits.{Limits}

@@ -1,6 +1,5 @@
 -- The shapes and labels of the first chip, by computation.
-use Rattle.std.specs.Prelude.{◌≡◌}
-use Rattle.std.proofs.Common.{refl}
+use Rattle.std.proofs.Common.{◌≡◌, refl}
 use Rattle.geom.specs.FlatForm.{flat_of}
 use Rattle.geom.specs.FirstChip.{first_layout, first_flat, first_buffer, first_top}
 

@@ -1,6 +1,5 @@
 -- The first chip can be written.
-use Rattle.std.proofs.Common.{◌≡◌, ◌≢◌, ℕ, zero, suc, ◌<◌, ◌^◌, List, [], ◌∷◌, length, Bool, true, false, lit<, lit≤, refl, arith, T, ltb, leb, eqb, ◌||◌}
-use Rattle.std.specs.Prelude.{All, AllPairs, int_lt}
+use Rattle.std.proofs.Common.{◌≡◌, ◌≢◌, ℕ, zero, suc, ◌<◌, ◌^◌, List, [], ◌∷◌, length, Bool, true, false, lit<, lit≤, refl, arith, T, ltb, leb, eqb, ◌||◌, All, AllPairs, int_lt}
 use Rattle.std.specs.List.{AllByRecursion}
 use Rattle.std.specs.Int.Signed.{mag}
 use Rattle.std.proofs.Math.Facts.{sfits_lit}

@@ -1,7 +1,6 @@
 -- Two proper rectangles share a point exactly where their intervals meet in both directions.
-use Rattle.std.proofs.Common.{◌≡◌, ◌↔◌, ℤ, int_le, Bool, true, false, IsTrue, refl, arith}
+use Rattle.std.proofs.Common.{◌≡◌, ◌↔◌, ℤ, int_le, Bool, true, false, IsTrue, refl, arith, ◌<ℤ◌, ◌≤ℤ◌, ◌&&◌}
 use Rattle.std.proofs.lemmas.Int.{ints, by_lt_z}
-use Rattle.std.specs.Prelude.{◌<ℤ◌, ◌≤ℤ◌, ◌&&◌}
 use Rattle.geom.specs.Rectangle.{Rectangle, IsProper, SharePoint, share_x, share_y, share_point}
 
 -- a number in both intervals

@@ -1,5 +1,5 @@
 -- Rules E1, G4 and G5 of a drawing: frames, the pins in them, and the metal over them.
-use Rattle.std.proofs.Common.{◌≡◌, ℕ, suc, ◌+◌, ◌*◌, ◌/◌, ◌<◌, ◌≤◌, refl, sym, ap, subst, arith, inl, inr, List}
+use Rattle.std.proofs.Common.{◌≡◌, ℕ, suc, ◌+◌, ◌*◌, ◌/◌, ◌<◌, ◌≤◌, sym, ap, subst, arith, inl, inr, List}
 use Rattle.std.proofs.Math.Nat.{mul-le-mul_right}
 use Rattle.std.proofs.lemmas.Bool.{cases_order, cases_lt}
 use Rattle.cell_library.specs.Library.{LibraryView, IsGiven, input_column_of, output_column_of}
@@ -128,17 +128,6 @@ one_frame s ts has i j r c a b k m ai aj ca cb = elim (has.frames_apart i j r a 
   ]
 ]
 
--- E1: each pin is inside one frame alone
-pub one_cell_of_input : (s : Sheet) (ts : List Tag) → IsDrawn s ts → HasCells s ts
-    → (i j r q u c n a b : ℕ) (k m : CellKind) → At ts i (Frame q a k) → At ts j (Frame u b m)
-    → Inside (area s (InPin r c n)) (area s (Frame q a k)) → Inside (area s (InPin r c n)) (area s (Frame u b m))
-    → i ≡ j
-one_cell_of_input s ts is has i j r q u c n a b k m ai aj hi hj =
-    let x = input_of_frame s is.routed.laws r q c n a k hi in
-    let y = input_of_frame s is.routed.laws r u c n b m hj in
-    one_frame s ts has i j r c a b k m (subst (λ (z : ℕ). At ts i (Frame z a k)) (sym x.0) ai)
-    (subst (λ (z : ℕ). At ts j (Frame z b m)) (sym y.0) aj) x.1 y.1
-
 -- G5: frames do not overlap, and heights that meet are of one row
 pub frames_overlap : (s : Sheet) (ts : List Tag) → IsDrawn s ts → HasCells s ts → (i j r q a b : ℕ) (k m : CellKind)
     → At ts i (Frame r a k) → At ts j (Frame q b m) → Overlaps (area s (Frame r a k)) (area s (Frame q b m)) → i ≡ j
@@ -202,13 +191,6 @@ fall_over s laws r c q slot k w h =
       ],
       x,
     )
-
--- the part of a rise over its frame's row is its output pin's rectangle
-pub rise_part : (s : Sheet) → (r c o : ℕ) → ((area s (Rise r c)).low ≡ (area s (OutPin r c o)).low)
-    × ((area s (OutPin r c o)).high ≡ lower_edge s r + s.library.height)
-    × ((area s (Rise r c)).left ≡ (area s (OutPin r c o)).left)
-    × ((area s (Rise r c)).right ≡ (area s (OutPin r c o)).right)
-rise_part s r c o = (refl, refl, refl, refl)
 
 -- G4: M2 and vias overlap no frame
 pub across_over : (s : Sheet) → IsLawful s.library → (r c q slot : ℕ) (k : CellKind) (a : Area) → IsWire s r c

@@ -1,7 +1,6 @@
 -- The cells of every placed net are drawn, with every library.
 use Rattle.std.proofs.Common.{◌≡◌, ℕ, zero, suc, ◌+◌, ◌*◌, ◌<◌, ◌≤◌, ◌⊎◌, inl, inr, true, refl, sym, ap, subst, ◌∙◌}
-use Rattle.std.proofs.Common.{arith, List, [], ◌∷◌, map, length, Some}
-use Rattle.std.specs.Prelude.{slice_get, pos, int_lt}
+use Rattle.std.proofs.Common.{arith, List, [], ◌∷◌, map, length, Some, slice_get, pos, int_lt}
 use Rattle.std.proofs.Math.Nat.{mul-le-mul_right}
 use Rattle.std.proofs.lemmas.Option.{same_Some}
 use Rattle.std.proofs.lemmas.Bool.Decides.{nat_tests}
@@ -20,7 +19,7 @@ use Rattle.rowed.specs.RowNets.{last_of}
 use Rattle.list_orders.specs.Numbers.{numbers}
 use Rattle.layout_rules.specs.Rows.{AreRows}
 use Rattle.layout_make.proofs.RouteRule.{E2}
-use Rattle.layout_make.specs.Laws.{FrameAt}
+use Rattle.layout_make.specs.Laws.{FrameAt, flat_shapes}
 use Rattle.layout_make.specs.CellsAreDrawn.{Before, CellsAreDrawn}
 use Rattle.layout_make.proofs.FlatLaw.{flat_is_tags, labels_flat}
 use Rattle.layout_make.proofs.Joins.{to_map}
@@ -28,7 +27,6 @@ use Rattle.layout_make.proofs.ChannelWires.{packed_apart}
 use Rattle.layout_make.proofs.Origins.{frame_stands}
 use Rattle.layout_make.proofs.Whole.{drawn, has_cells, spot_row, frame_from}
 use Rattle.layout_make.proofs.DrawnRules.{frame_at}
-use Rattle.layout_make.specs.Laws.{flat_shapes}
 use Rattle.layout_make.proofs.KeptLines.{frame_excited}
 use Rattle.layout_make.proofs.LineAll.{drawn_e2, drawn_rows, edges_of, at_edge, edge_rises, shape_at, slot_wide}
 use Rattle.layout_make.proofs.Labelled.{input_marked, output_marked}

@@ -1,7 +1,6 @@
 -- The wires of a channel: one for each pin of the upper row that is fed, each told by its pin and by its source.
 use Rattle.std.proofs.Common.{◌≡◌, ℕ, zero, suc, ◌+◌, ◌*◌, ◌<◌, ◌≤◌, min, refl, sym, ap, subst, ◌∙◌, arith, ◌⊎◌, inl}
-use Rattle.std.proofs.Common.{inr, List, [], ◌∷◌, Option, Some, None}
-use Rattle.std.specs.Prelude.{slice_get}
+use Rattle.std.proofs.Common.{inr, List, [], ◌∷◌, Option, Some, None, slice_get}
 use Rattle.std.specs.List.{AllByRecursion}
 use Rattle.std.proofs.Math.Nat.{mul-le-mul_right}
 use Rattle.std.proofs.lemmas.Option.{same_Some}
@@ -339,17 +338,6 @@ same_pin p l r w v a b e f =
     ∙ ap (λ (s : Source). wire_to l (Some b.from) s.output a.spot a.pin) source
     ∙ ap (λ (z : Spot). wire_to l (Some b.from) b.source.output z a.pin) spot
     ∙ ap (λ (n : ℕ). wire_to l (Some b.from) b.source.output b.spot n) f ∙ sym b.wire_is
-
-pub to_slot_tells : (p : PlacedView) (l : LibraryView) → IsReady p l → (r : ℕ) (w v : Wire) → In w (channel p l r)
-    → In v (channel p l r) → w.to_slot ≡ v.to_slot → w ≡ v
-to_slot_tells p l is r w v hw hv e =
-    let a = wire_of p l is r w hw in
-    let b = wire_of p l is r v hv in
-    let m = inputs_slots a.spot.cell.kind in let n = inputs_slots b.spot.cell.kind in
-    let la = a.pin_below in let lb = b.pin_below in
-    let k = slot_tells (spots p (suc r)) a.cell b.cell a.pin b.pin a.spot b.spot (is.packed (suc r)) a.at b.at
-    (omega arith) (omega arith) (sym (ap to_slot a.wire_is) ∙ e ∙ ap to_slot b.wire_is) in
-    same_pin p l r w v a b k.0 k.1
 
 pub to_tells : (p : PlacedView) (l : LibraryView) → IsReady p l → IsLawful l → (r : ℕ) (w v : Wire)
     → In w (channel p l r) → In v (channel p l r) → w.to_column ≡ v.to_column → w ≡ v

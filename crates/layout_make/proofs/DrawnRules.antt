@@ -5,11 +5,10 @@ use Rattle.std.specs.Prelude.{pos, ◌-ℤ◌, ℤ, int_le, int_lt, nat_lt}
 use Rattle.std.proofs.lemmas.Bool.Decides.{nat_tests}
 use Rattle.std.proofs.lemmas.Int.{ints}
 use Rattle.std.specs.Int.{int_min, int_max}
-use Rattle.geom.specs.Rectangle.{common}
+use Rattle.geom.specs.Rectangle.{common, Rectangle, overlap, within, width, height, grown}
 use Rattle.cell_library.specs.Library.{limits_of}
 use Rattle.layout_make.proofs.Lawful.{IsLawful}
 use Rattle.circuit.specs.declared.cell_kind.CellKind.{CellKind}
-use Rattle.geom.specs.Rectangle.{Rectangle, overlap, within, width, height, grown}
 use Rattle.geom.specs.declared.shapes.Shape.{Shape}
 use Rattle.layout_rules.specs.GeometryRules.{are_too_close, is_below, is_too_small}
 use Rattle.layout_make.specs.Sheet.{Sheet, Tag, Area, Frame, InPin, OutPin, Lead, Bar, Rise, Fall, Across, FromVia}

@@ -1,6 +1,5 @@
 -- A structure of a kind, moved, is the cell in its place.
-use Rattle.std.proofs.Common.{◌≡◌, ℕ, ◌+◌, ◌*◌, refl, sym, ap, ◌∙◌, arith, List, [], ◌∷◌, ◌++◌, map}
-use Rattle.std.specs.Prelude.{pos, ℤ}
+use Rattle.std.proofs.Common.{◌≡◌, ℕ, ◌+◌, ◌*◌, refl, sym, ap, ◌∙◌, arith, List, [], ◌∷◌, ◌++◌, map, pos, ℤ}
 use Rattle.std.proofs.lemmas.List.{map-append}
 use Rattle.circuit.specs.declared.cell_kind.CellKind.{CellKind}
 use Rattle.circuit.specs.CellKinds.{inputs_of, outputs_of}

@@ -1,7 +1,6 @@
 -- The flat form of a drawing is its tags, each as its shape, and its labels.
 use Rattle.std.proofs.Common.{◌≡◌, ℕ, zero, suc, ◌*◌, Bool, true, false, refl, sym, ap, ◌∙◌, ◌⊎◌, inl, inr, List, []}
-use Rattle.std.proofs.Common.{◌∷◌, ◌++◌, map, length, append_assoc, Some}
-use Rattle.std.specs.Prelude.{pos, slice_get}
+use Rattle.std.proofs.Common.{◌∷◌, ◌++◌, map, length, append_assoc, Some, pos, slice_get}
 use Rattle.std.specs.List.{flat_map, filter, list_any}
 use Rattle.std.proofs.lemmas.Bool.{eq-eqb, or_left, or_right}
 use Rattle.std.proofs.lemmas.List.{map-append, append-nil}

@@ -1,7 +1,6 @@
 -- Joined shapes are of one net, and a wire's shapes are joined with its two pins.
 use Rattle.std.proofs.Common.{◌≡◌, ℕ, zero, suc, ◌+◌, ◌<◌, min, max, Bool, true, false, ◌&&◌, refl, sym, ap, subst, ◌∙◌}
-use Rattle.std.proofs.Common.{arith, List, [], ◌∷◌, map, Some}
-use Rattle.std.specs.Prelude.{slice_get}
+use Rattle.std.proofs.Common.{arith, List, [], ◌∷◌, map, Some, slice_get}
 use Rattle.std.proofs.lemmas.Option.{same_Some}
 use Rattle.layout_make.proofs.Lawful.{IsLawful}
 use Rattle.geom.specs.Rectangle.{Rectangle, share_point}

@@ -1,13 +1,12 @@
 -- What is kept of the rules of geometry, as the rules report it.
 use Rattle.std.proofs.Common.{◌≡◌, ℕ, ◌+◌, Bool, true, not, ◌&&◌, ◌||◌, ◌==◌, refl, ap, ◌∙◌, arith, inl, inr, List, []}
-use Rattle.std.proofs.Common.{◌∷◌}
-use Rattle.std.specs.Prelude.{slice_index, int_lt, ℤ, zip}
+use Rattle.std.proofs.Common.{◌∷◌, slice_index, int_lt, ℤ, zip}
 use Rattle.std.specs.Ordering.{int_eq}
 use Rattle.std.proofs.lemmas.Bool.{both_ways, and_parts, and_from, or_cases, eqb-true, eq-eqb}
 use Rattle.std.proofs.lemmas.Bool.Decides.{Decides-int_eq}
 use Rattle.std.proofs.lemmas.List.Sums.{sum_by-cons}
 use Rattle.geom.specs.declared.shapes.Shape.{Shape}
-use Rattle.geom.specs.Rectangle.{within, overlap, meet_y, grown}
+use Rattle.geom.specs.Rectangle.{within, overlap, meet_y, grown, common}
 use Rattle.layout_rules.specs.declared.layers.TheConstants.{M1, M2}
 use Rattle.layout_rules.specs.Layers.{is_frame, is_pin, is_via, is_upper}
 use Rattle.layout_rules.specs.Pins.{lies_in}
@@ -15,7 +14,6 @@ use Rattle.layout_rules.specs.Reports.{ReportsNone}
 use Rattle.layout_rules.proofs.PlaceLaws.{list_any-at}
 use Rattle.layout_rules.specs.GeometryRules.{is_too_small, SizesBroken, are_too_close, SpacingBroken, is_covered}
 use Rattle.layout_rules.specs.GeometryRules.{EnclosureBroken, is_at_pin, CoverBroken, FramesBroken}
-use Rattle.geom.specs.Rectangle.{common}
 use Rattle.layout_rules.specs.LengthRule.{length_in, net_length, LengthsBroken}
 use Rattle.cell_library.specs.Library.{LibraryView, limits_of}
 use Rattle.layout_make.proofs.KeptRules.{G1, G2, G3, G4, G5, Encloses, OverPin}

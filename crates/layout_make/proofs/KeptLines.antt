@@ -1,20 +1,17 @@
 -- What is kept of the rule of excitation lines, as the rule reports it.
 use Rattle.std.proofs.Common.{◌≡◌, ℕ, ◌-◌, ◌%◌, ◌<◌, Bool, true, false, not, ◌&&◌, ◌||◌, ◌==◌, refl, sym, ap, ◌∙◌}
-use Rattle.std.proofs.Common.{arith, ◌⊎◌, inl, inr, List, [], ◌∷◌, Some, if◌then◌else◌}
-use Rattle.std.specs.Prelude.{slice_get, nat_lt, ℤ}
+use Rattle.std.proofs.Common.{arith, ◌⊎◌, inl, inr, List, [], ◌∷◌, Some, if◌then◌else◌, slice_get, nat_lt, ℤ}
 use Rattle.std.proofs.lemmas.Option.{same_Some}
 use Rattle.std.proofs.lemmas.Bool.{both_ways, and_parts, and_from, or_cases, eqb-true, eq-eqb}
 use Rattle.std.proofs.lemmas.Bool.Decides.{nat_tests}
 use Rattle.geom.specs.declared.shapes.Shape.{Shape}
-use Rattle.geom.specs.Rectangle.{share_point, overlap, within}
+use Rattle.geom.specs.Rectangle.{share_point, overlap, within, left_edge, right_edge}
 use Rattle.layout_rules.specs.Layers.{is_frame}
 use Rattle.layout_rules.specs.Rows.{AreRows, row_of}
 use Rattle.layout_rules.proofs.RowLaws.{row_of-certified}
 use Rattle.layout_rules.specs.Reports.{ReportsNone, Passes}
 use Rattle.layout_rules.proofs.ReportLaws.{Afterwards-none}
-use Rattle.layout_rules.specs.ExcitationLines.{Contact, IsPart, IsChain, enters}
-use Rattle.geom.specs.Rectangle.{left_edge, right_edge}
-use Rattle.layout_rules.specs.ExcitationLines.{leaves, phase_of}
+use Rattle.layout_rules.specs.ExcitationLines.{Contact, IsPart, IsChain, enters, leaves, phase_of}
 use Rattle.layout_rules.specs.ExcitationRule.{is_no_part, LacksOneStart, IsMisjoined, IsCutOff}
 use Rattle.layout_rules.specs.ExcitationRule.{IsExcited, ExcitationBroken}
 use Rattle.layout_rules.specs.Code.ChainRule.{ChainsBroken, IsChainUncrossed, IsChainExcited, IsChainUnexcited}

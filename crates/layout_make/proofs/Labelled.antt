@@ -1,7 +1,6 @@
 -- The labels of a drawing mark the pins of its inputs and outputs.
 use Rattle.std.proofs.Common.{◌≡◌, ℕ, zero, suc, ◌+◌, ◌-◌, ◌*◌, ◌/◌, ◌<◌, ◌≤◌, Bool, true, false, ◌&&◌, ◌==◌, refl, sym}
-use Rattle.std.proofs.Common.{ap, subst, ◌∙◌, arith, inl, inr, List, [], ◌∷◌, Option, Some}
-use Rattle.std.specs.Prelude.{pos, int_le, slice_get}
+use Rattle.std.proofs.Common.{ap, subst, ◌∙◌, arith, inl, inr, List, [], ◌∷◌, Option, Some, pos, int_le, slice_get}
 use Rattle.std.proofs.lemmas.Option.{same_Some}
 use Rattle.std.proofs.lemmas.Bool.{cases_order, and_parts}
 use Rattle.std.proofs.lemmas.Bool.Decides.{nat_tests}

@@ -1,7 +1,6 @@
 -- Rule E2 of a drawing, in full.
 use Rattle.std.proofs.Common.{◌≡◌, ◌≢◌, ℕ, zero, suc, ◌+◌, ◌*◌, ◌%◌, ◌<◌, ◌≤◌, Bool, true, false, not, ◌&&◌, refl, sym}
-use Rattle.std.proofs.Common.{ap, subst, ◌∙◌, arith, ◌⊎◌, inl, inr, List, [], ◌∷◌, map, Some}
-use Rattle.std.specs.Prelude.{pos, ℤ, int_lt, slice_get}
+use Rattle.std.proofs.Common.{ap, subst, ◌∙◌, arith, ◌⊎◌, inl, inr, List, [], ◌∷◌, map, Some, pos, ℤ, int_lt, slice_get}
 use Rattle.std.proofs.Math.Nat.{mul-le-mul_right}
 use Rattle.std.proofs.lemmas.Option.{same_Some}
 use Rattle.std.proofs.lemmas.Bool.{eqb-true, cases_order, cases_lt}
@@ -10,14 +9,13 @@ use Rattle.layout_make.proofs.Lawful.{IsLawful}
 use Rattle.circuit.specs.declared.cell_kind.CellKind.{CellKind}
 use Rattle.circuit.specs.CellKinds.{slots_of}
 use Rattle.geom.specs.declared.shapes.Shape.{Shape}
-use Rattle.geom.specs.Rectangle.{share_point, overlap, within}
+use Rattle.geom.specs.Rectangle.{share_point, overlap, within, left_edge, right_edge}
 use Rattle.layout_make.specs.Sheet.{Sheet, Tag, Frame, InPin, OutPin, Lead, Bar, Rise, Fall, Across, FromVia, ToVia}
 use Rattle.layout_make.specs.Sheet.{turns_right, lead_use, layer_of, datatype_of, place_of, shape_of, lower_edge}
 use Rattle.layout_make.proofs.SheetKeeps.{Fits, IsDrawn, HasCells}
 use Rattle.layout_make.specs.Tags.{At}
 use Rattle.list_orders.specs.Numbers.{numbers}
 use Rattle.layout_make.proofs.RouteRule.{is_line, Contact, IsOf, IsRoute, phase_of, IsLineAt, E2}
-use Rattle.geom.specs.Rectangle.{left_edge, right_edge}
 use Rattle.layout_rules.specs.Rows.{AreRows}
 use Rattle.layout_make.proofs.Columns.{next_edge, edges_apart}
 use Rattle.layout_make.proofs.Joins.{from_map, to_map, shapes_of, same_at}
@@ -59,15 +57,6 @@ line_of s ts i a h =
     let t = tag_of s ts i a h.0 in
     let u = line_tag t.0 (ap (λ (x : Shape). is_line x.layer) t.2 ∙ h.1) in
     record { row = u.0; tag = t.0; at = t.1; is = u.1; shape = t.2 }
-
-lead_is : (s : Sheet) (ts : List Tag) (i r : ℕ) → At ts i (Lead r) → IsOf (shapes_of s ts) (lead_use r) i
-lead_is s ts i r at =
-    record {
-      shape = shape_of s (Lead r);
-      at = to_map (shape_of s) ts i (Lead r) at;
-      of_line = line_rows r;
-      used_so = refl;
-    }
 
 bar_is : (s : Sheet) (ts : List Tag) (i r : ℕ) → At ts i (Bar r) → IsOf (shapes_of s ts) 0 i
 bar_is s ts i r at =

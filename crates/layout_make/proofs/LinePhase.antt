@@ -1,15 +1,13 @@
 -- Rule E2 (e), (f): the edges of bars, directions and phases, and the one bar of each frame.
 use Rattle.std.proofs.Common.{◌≡◌, ℕ, ◌+◌, ◌-◌, ◌*◌, ◌%◌, ◌<◌, ◌≤◌, Bool, true, false, not, ◌&&◌, refl, ap, ◌∙◌, arith}
-use Rattle.std.proofs.Common.{◌⊎◌, inl, inr, if◌then◌else◌}
-use Rattle.std.specs.Prelude.{pos, neg_ℤ, int_le, int_lt, nat_lt}
+use Rattle.std.proofs.Common.{◌⊎◌, inl, inr, if◌then◌else◌, pos, neg_ℤ, int_le, int_lt, nat_lt}
 use Rattle.std.proofs.lemmas.Bool.{cases_order, cases_lt}
 use Rattle.std.proofs.lemmas.Bool.Decides.{nat_tests}
 use Rattle.circuit.specs.CellKinds.{slots_of}
-use Rattle.geom.specs.Rectangle.{meet_y, share_point, share_x, share_y, overlap, within}
+use Rattle.geom.specs.Rectangle.{meet_y, share_point, share_x, share_y, overlap, within, left_edge, right_edge}
 use Rattle.layout_make.specs.Sheet.{Sheet, Frame, Lead, Bar, Flank, LeftOf, Over, RightOf, turns_right, lead_flank}
 use Rattle.layout_make.specs.Sheet.{lead_first, line_rect, place_of, shape_of, lower_edge}
 use Rattle.layout_make.proofs.SheetKeeps.{Fits, IsRouted}
-use Rattle.geom.specs.Rectangle.{left_edge, right_edge}
 use Rattle.layout_make.proofs.RouteRule.{phase_of}
 use Rattle.layout_make.proofs.Columns.{next_edge, edges_apart}
 use Rattle.layout_make.proofs.LineShapes.{spans_share, below_zero, bar_lead, is_le}

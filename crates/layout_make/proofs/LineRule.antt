@@ -1,5 +1,5 @@
 -- Rule E2 holds of a drawing: starts, contacts, joined lines, the shape before each bar, directions.
-use Rattle.std.proofs.Common.{◌≡◌, ◌≢◌, ℕ, zero, suc, ◌+◌, ◌%◌, ◌<◌, true, false, refl, sym, ap, subst, ◌∙◌, arith, ◌⊎◌}
+use Rattle.std.proofs.Common.{◌≡◌, ◌≢◌, ℕ, zero, suc, ◌+◌, ◌%◌, ◌<◌, true, refl, sym, ap, subst, ◌∙◌, arith, ◌⊎◌}
 use Rattle.std.proofs.Common.{inl, inr, List, [], ◌∷◌}
 use Rattle.std.proofs.lemmas.Option.{same_Some}
 use Rattle.geom.specs.declared.shapes.Shape.{Shape}
@@ -75,9 +75,6 @@ start_row : (q : ℕ) → lead_use q ≡ 2 → q < 2
 start_row zero e = omega arith
 start_row (suc zero) e = omega arith
 start_row (suc (suc q)) e = absurd (omega arith)
-
-not_line : (r n : ℕ) → is_line n ≡ false → is_line n ≡ true → ⊥
-not_line r n e f = absurd (let k : true ≡ false = sym f ∙ e in cc)
 
 pub a_start : (s : Sheet) (ts : List Tag) (i : ℕ) → IsOf (shapes_of s ts) 2 i → (q : ℕ) × At ts i (Lead q) × (q < 2)
 a_start s ts i h =

@@ -1,7 +1,6 @@
 -- The excitation lines of a drawing.
 use Rattle.std.proofs.Common.{◌≡◌, ℕ, zero, suc, ◌+◌, ◌*◌, ◌%◌, ◌<◌, ◌≤◌, Bool, true, false, ◌&&◌, leb, refl, sym, ap}
-use Rattle.std.proofs.Common.{◌∙◌, arith, ◌⊎◌, inl, inr, if◌then◌else◌}
-use Rattle.std.specs.Prelude.{pos, negsuc, neg_ℤ, ℤ, int_le, nat_lt}
+use Rattle.std.proofs.Common.{◌∙◌, arith, ◌⊎◌, inl, inr, if◌then◌else◌, pos, neg_ℤ, ℤ, int_le, nat_lt}
 use Rattle.std.proofs.lemmas.Bool.{cases_order, cases_lt}
 use Rattle.std.proofs.lemmas.Bool.Decides.{nat_tests}
 use Rattle.layout_make.proofs.Lawful.{IsLawful}
@@ -26,14 +25,6 @@ below_zero (suc n) = refl
 pub below_all : (n m : ℕ) → int_le (neg_ℤ (pos n)) (pos m) ≡ true
 below_all zero m = grind (arith, nat_tests)
 below_all (suc n) m = refl
-
-above_none : (n m : ℕ) → 1 ≤ m → int_le (pos m) (neg_ℤ (pos n)) ≡ false
-above_none zero m h = grind (arith, nat_tests)
-above_none (suc n) m h = refl
-
-self_le : (z : ℤ) → int_le z z ≡ true
-self_le (pos n) = grind (arith, nat_tests)
-self_le (negsuc n) = grind (arith, nat_tests)
 
 pub flanks_share : (s : Sheet) → 1 ≤ s.right → (f g : Flank) (a b c d : ℕ)
     → share_x (line_rect s f a b) (line_rect s g c d) ≡ beside f g

@@ -1,14 +1,13 @@
 -- Rule E5 of a drawing.
 use Rattle.std.proofs.Common.{◌≡◌, ℕ, zero, suc, ◌+◌, ◌-◌, ◌*◌, ◌%◌, ◌<◌, ◌≤◌, min, max, Bool, true, false, ◌&&◌, ◌==◌}
 use Rattle.std.proofs.Common.{refl, sym, ap, subst, ◌∙◌, arith, ◌⊎◌, inl, inr, List, [], ◌∷◌, length, Some, get_or}
-use Rattle.std.proofs.Common.{if◌then◌else◌}
-use Rattle.std.specs.Prelude.{slice_get, pos, ◌-ℤ◌}
+use Rattle.std.proofs.Common.{if◌then◌else◌, slice_get, pos, ◌-ℤ◌}
 use Rattle.std.proofs.lemmas.Option.{same_Some, slice_get_within}
 use Rattle.std.proofs.lemmas.Bool.{cases_lt}
 use Rattle.std.proofs.lemmas.Bool.Decides.{nat_tests}
 use Rattle.layout_make.proofs.Lawful.{IsLawful}
 use Rattle.geom.specs.declared.shapes.Shape.{Shape}
-use Rattle.layout_rules.specs.Touch.{Touching, IsPath, touch}
+use Rattle.layout_rules.specs.Touch.{IsPath}
 use Rattle.geom.specs.Rectangle.{positive_part}
 use Rattle.layout_make.specs.Sheet.{Sheet, Tag, Area, Frame, InPin, OutPin, Lead, Bar, Rise, Fall, Across, FromVia}
 use Rattle.layout_make.specs.Sheet.{ToVia, area, layer_of, rect_of, place_of, shape_of}
@@ -135,17 +134,6 @@ wire_long s laws r c w =
     omega arith
 
 -- a path the other way, and one after another
-
-touch_sym : (shapes : List Shape) → ((a b : Shape) → touch a b ≡ touch b a) → (i j : ℕ) → Touching shapes i j
-    → Touching shapes j i
-touch_sym shapes back i j t =
-    record {
-      first = t.second;
-      second = t.first;
-      first_is = t.second_is;
-      second_is = t.first_is;
-      touch_so = back t.second t.first ∙ t.touch_so;
-    }
 
 -- metal is a rise, a fall or across
 pub metal_tag : (s : Sheet) (t : Tag) → Fits s t → is_metal (layer_of t) ≡ true → (r c : ℕ) × IsWire s r c

@@ -140,10 +140,6 @@ output_stands p l r x o lt h lo =
 
 -- each tag fits its sheet
 
-sheet_library : (p : PlacedView) (l : LibraryView) → (sheet p l).library ≡ l
-unfolding sheet
-sheet_library p l = refl
-
 cell_fits : (p : PlacedView) (l : LibraryView) → IsReady p l → IsLawful l → (r : ℕ) (x : Spot) (t : Tag)
     → r < length p.net.rows → In x (spots p r) → CellPart l r x t → Fits (sheet p l) t
 unfolding sheet

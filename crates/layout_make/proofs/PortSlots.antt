@@ -1,7 +1,6 @@
 -- The slots of ports as the code finds them.
 use Rattle.std.proofs.Common.{◌≡◌, ℕ, zero, suc, ◌+◌, ◌-◌, ◌<◌, ◌≤◌, Bool, true, false, refl, sym, ap, ◌∙◌, arith, List}
-use Rattle.std.proofs.Common.{◌∷◌, length, map, drop, Option, Some, None, get_or, replicate}
-use Rattle.std.specs.Prelude.{slice_get, slice_set}
+use Rattle.std.proofs.Common.{◌∷◌, length, map, drop, Option, Some, None, get_or, replicate, slice_get, slice_set}
 use Rattle.std.proofs.lemmas.Bool.{eq-eqb, ne_eqb}
 use Rattle.list_orders.specs.Numbers.{numbers}
 use Rattle.layout_make.specs.Spots.{Spot, has_port}

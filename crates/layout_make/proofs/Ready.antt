@@ -1,7 +1,6 @@
 -- Every placed net and every library keep what the drawing uses.
 use Rattle.std.proofs.Common.{◌≡◌, ℕ, zero, suc, pred, ◌+◌, ◌<◌, ◌≤◌, true, ltb, refl, sym, ap, subst, ◌∙◌, arith, List}
-use Rattle.std.proofs.Common.{[], ◌∷◌, length, Option, Some, None, is_some}
-use Rattle.std.specs.Prelude.{slice_get, slice_index_or}
+use Rattle.std.proofs.Common.{[], ◌∷◌, length, Option, Some, None, is_some, slice_get, slice_index_or}
 use Rattle.std.specs.List.{AllByRecursion}
 use Rattle.std.proofs.lemmas.Option.{same_Some}
 use Rattle.std.proofs.lemmas.Bool.{eq-eqb, eqb-true}

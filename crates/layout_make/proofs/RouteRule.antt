@@ -1,8 +1,7 @@
 -- The rule of excitation lines by routes, part by part, as it is shown of a drawing.
 use Rattle.std.specs.Prelude.{◌≡◌, ◌≢◌, ℕ, ◌-◌, ◌%◌, ◌<◌, ◌⊎◌, true, List, [], ◌∷◌, slice_get, Some, if◌then◌else◌, not}
 use Rattle.std.specs.Prelude.{ℤ, Bool, ◌==◌, ◌||◌}
-use Rattle.geom.specs.Rectangle.{share_point, overlap, within}
-use Rattle.geom.specs.Rectangle.{left_edge, right_edge}
+use Rattle.geom.specs.Rectangle.{share_point, overlap, within, left_edge, right_edge}
 use Rattle.layout_rules.specs.declared.layers.TheConstants.{EVEN_LINE, ODD_LINE}
 use Rattle.geom.specs.declared.shapes.Shape.{Shape}
 

@@ -1,7 +1,6 @@
 -- What the code reads of a row.
-use Rattle.std.proofs.Common.{◌≡◌, ℕ, zero, suc, ◌<◌, refl, ap, ◌∙◌, ◌+◌, ◌≤◌, arith, List, [], ◌∷◌, length}
-use Rattle.std.proofs.Common.{drop, Some}
-use Rattle.std.specs.Prelude.{slice_get, slice_index_or}
+use Rattle.std.proofs.Common.{◌≡◌, ℕ, zero, suc, ◌<◌, refl, ap, ◌∙◌, ◌+◌, ◌≤◌, arith, List, [], ◌∷◌, length, drop, Some}
+use Rattle.std.proofs.Common.{slice_get, slice_index_or}
 use Rattle.std.proofs.lemmas.Option.{same_Some}
 use Rattle.rowed.specs.declared.row_cell.RowCell.{RowCell}
 use Rattle.layout_make.specs.Spots.{Spot, spots_of}

@@ -1,8 +1,7 @@
 -- What the code adds for a row is what is drawn of it.
-use Rattle.std.proofs.Common.{◌≡◌, ℕ, zero, suc, min, Option, None, ◌+◌, ◌-◌, ◌*◌, ◌<◌, ◌≤◌, refl, sym, ap, subst}
-use Rattle.std.proofs.Common.{◌∙◌, arith, List, [], ◌∷◌, ◌++◌, length, map, append_assoc, Some, Result, Err}
-use Rattle.std.proofs.Common.{IfErr}
-use Rattle.std.specs.Prelude.{slice_get, slice_index_or}
+use Rattle.std.proofs.Common.{◌≡◌, ℕ, zero, suc, min, Option, None, ◌+◌, ◌-◌, ◌*◌, ◌<◌, ◌≤◌, refl, sym, ap, subst, ◌∙◌}
+use Rattle.std.proofs.Common.{arith, List, [], ◌∷◌, ◌++◌, length, map, append_assoc, Some, Result, Err, IfErr}
+use Rattle.std.proofs.Common.{slice_get, slice_index_or}
 use Rattle.std.specs.List.{flat_map}
 use Rattle.std.proofs.Math.Nat.{mul-le-mul_right}
 use Rattle.std.proofs.lemmas.Option.{same_Some}

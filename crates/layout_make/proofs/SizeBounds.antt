@@ -1,6 +1,6 @@
 -- The number of elements of a drawing is far below 2^63.
 use Rattle.std.proofs.Common.{ℕ, ◌+◌, ◌*◌, ◌<◌, ◌≤◌, ◌^◌, max, arith, List, [], ◌∷◌, length, Option, Some, None}
-use Rattle.std.proofs.Math.Nat.{mul-le-mul_right}
+use Rattle.std.proofs.lemmas.Nat.{mul-le}
 use Rattle.circuit.specs.CellKinds.{slots_of}
 use Rattle.rowed.specs.declared.source.Source.{Source}
 use Rattle.rowed.specs.declared.row_cell.RowCell.{RowCell}
@@ -45,12 +45,6 @@ wires_most : (rows : List (List RowCell)) → wires_in rows ≤ 3 * cells_in row
 wires_most [] = omega arith
 wires_most (row ∷ rows) = let k = wires_most rows in let r = row_most row in omega arith
 
-times_least : (a b c d : ℕ) → a ≤ c → b ≤ d → a * b ≤ c * d
-times_least a b c d p q =
-    let x : a * b ≤ c * b = mul-le-mul_right b p in
-    let y : b * c ≤ d * c = mul-le-mul_right c q in
-    omega arith
-
 pub number_small : (p : PlacedView) (l : LibraryView) → MayDraw p l → element_number p < 2 ^ 63
 number_small p l may =
     let laws = lawful l may.library in
@@ -59,12 +53,12 @@ number_small p l may =
     let a = laws.wire_even in let b = laws.encloses in let c = laws.via_some in let d = laws.spaced in
     let e = laws.space_some in let f = laws.pitch_even in
     let g = laws.columns_even in let h = laws.columns_some in let i = laws.tall in let j = laws.pin_wide in
-    let wide : 2 * 4 ≤ l.columns * l.pitch = times_least 2 4 l.columns l.pitch (omega arith) (omega arith) in
-    let width : w * 8 ≤ w * (l.columns * l.pitch) = times_least w 8 w (l.columns * l.pitch) (omega arith)
+    let wide : 2 * 4 ≤ l.columns * l.pitch = mul-le 2 4 l.columns l.pitch (omega arith) (omega arith) in
+    let width : w * 8 ≤ w * (l.columns * l.pitch) = mul-le w 8 w (l.columns * l.pitch) (omega arith)
     (omega arith) in
-    let height : n * 5 ≤ n * l.height = times_least n 5 n l.height (omega arith) (omega arith) in
+    let height : n * 5 ≤ n * l.height = mul-le n 5 n l.height (omega arith) (omega arith) in
     let narrow = may.narrow in let low = may.low in
-    let most : n * w ≤ 429496729 * 250000000 = times_least n w 429496729 250000000 (omega arith) (omega arith) in
+    let most : n * w ≤ 429496729 * 250000000 = mul-le n w 429496729 250000000 (omega arith) (omega arith) in
     let cells = cells_within w p.net.rows p.slots may.placed.seated (omega arith) in
     let wires = wires_most p.net.rows in
     let ins = may.few_inputs in let outs = may.few_outputs in

@@ -1,9 +1,9 @@
 -- Rule G2: shapes of one group share a point or are a space apart.
 use Rattle.std.proofs.Common.{◌≡◌, ℕ, ◌-◌, ◌≤◌, max, Bool, true, false, not, ◌||◌, ◌&&◌, ◌==◌, refl, ap, ◌∙◌, arith}
-use Rattle.std.proofs.Common.{◌⊎◌, inl, inr}
-use Rattle.std.specs.Prelude.{pos, negsuc, ℤ, ◌-ℤ◌, nat_lt}
+use Rattle.std.proofs.Common.{◌⊎◌, inl, inr, pos, negsuc, ℤ, ◌-ℤ◌, nat_lt}
 use Rattle.std.proofs.lemmas.Bool.Decides.{nat_tests}
 use Rattle.std.proofs.lemmas.Int.{ints}
+use Rattle.std.proofs.lemmas.Bool.{or_left, or_right}
 use Rattle.layout_make.proofs.Lawful.{IsLawful}
 use Rattle.geom.specs.Rectangle.{Rectangle, share_point, positive_part, gap_x, gap_y}
 use Rattle.geom.specs.declared.shapes.Shape.{Shape}
@@ -72,14 +72,6 @@ apart x p q r e = grind arith
 groups : (la lb a11 b11 a12 b12 : Bool) → ((la && lb) || (a11 && b11) || (a12 && b12)) ≡ true
     → ((la ≡ true) × (lb ≡ true)) ⊎ (((a11 ≡ true) × (b11 ≡ true)) ⊎ ((a12 ≡ true) × (b12 ≡ true)))
 groups la lb a11 b11 a12 b12 e = grind arith
-
-or_left : (x y : Bool) → x ≡ true → (x || y) ≡ true
-or_left true y e = refl
-or_left false y e = absurd cc
-
-or_right : (x y : Bool) → y ≡ true → (x || y) ≡ true
-or_right true y e = refl
-or_right false y e = e
 
 -- two pieces of M1 or pins of one post
 lower_near : (s : Sheet) → IsLawful s.library → (t u : Tag) → HasPost s t → HasPost s u → is_lower (layer_of t) ≡ true

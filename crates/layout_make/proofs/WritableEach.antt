@@ -1,8 +1,7 @@
 -- Each structure of a drawing can be written.
 use Rattle.std.proofs.Common.{◌≡◌, ℕ, zero, suc, ◌+◌, ◌-◌, ◌*◌, ◌/◌, ◌<◌, ◌≤◌, ◌^◌, refl, sym, subst, arith, lit<, lit≤}
 use Rattle.std.proofs.Common.{T, ltb, leb, inl, inr, List, [], ◌∷◌, ◌++◌, length, length-append, map, Bool, true, false}
-use Rattle.std.proofs.Common.{◌==◌, Some, None}
-use Rattle.std.specs.Prelude.{slice_get, cond, All, pos, FitsSigned}
+use Rattle.std.proofs.Common.{◌==◌, Some, None, slice_get, cond, All, pos, FitsSigned}
 use Rattle.std.specs.Int.{w32}
 use Rattle.std.specs.Fmt.{decimal}
 use Rattle.std.specs.List.{flat_map, AllByRecursion}

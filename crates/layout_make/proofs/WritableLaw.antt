@@ -9,6 +9,7 @@ use Rattle.std.proofs.lemmas.Bool.{cases_lt, eq-eqb}
 use Rattle.std.proofs.lemmas.List.{length-map}
 use Rattle.std.proofs.lemmas.List.Kept.{AllPairs-cons}
 use Rattle.std.proofs.lemmas.Option.{same_Some}
+use Rattle.std.proofs.Math.Bool.{or-false}
 use Rattle.circuit.specs.CellKinds.{number_of}
 use Rattle.circuit.specs.declared.cell_kind.CellKind.{CellKind}
 use Rattle.circuit.specs.declared.cell_kind.CellKind.TheVariants.{Buffer, Inverter, Zero, One, Split2, Split3, Majority}
@@ -202,10 +203,6 @@ only_top l n [] t = refl
 only_top l n (k ∷ ks) t = ap (λ (b : Bool). b || is_referenced n (map (Draw.cell_structure l) ks ++ t ∷ []))
     (boxes_refer n (Draw.alone l) (cell_tags l 0 0 k)) ∙ only_top l n ks t
 
-or_false : (b : Bool) → (b || false) ≡ b
-or_false true = refl
-or_false false = refl
-
 module _ (p : PlacedView) (l : LibraryView) where
   abbrev kinds : List CellKind
   kinds = Draw.used_kinds p
@@ -221,7 +218,7 @@ module _ (p : PlacedView) (l : LibraryView) where
 
   of_kind : (n : ℕ) → is_referenced n all ≡ true → OfKind n
   of_kind n e =
-      go (refers_in n (Draw.top_elements p l) (sym (or_false (refers_to n (Draw.top_elements p l)))
+      go (refers_in n (Draw.top_elements p l) (sym (or-false (refers_to n (Draw.top_elements p l)))
       ∙ sym (only_top l n kinds (Draw.top_of p l)) ∙ e))
     where
       in_row : (r : ℕ) (x y : ℤ) → In (Place n x y) (Draw.row_elements p l r) → OfKind n
@@ -328,7 +325,7 @@ module _ (p : PlacedView) (l : LibraryView) (law : TracksLaw) (may : MayDraw p l
       let in_top = in_left (Draw.place_of_spot p l row.0 x.0)
       (flat_map (Draw.row_elements p l) (numbers 0 (length p.net.rows)))
       (map (λ (b : Label). Text b) (Draw.labels p l)) in_rows in
-      only_top l n ks (Draw.top_of p l) ∙ or_false (refers_to n (Draw.top_elements p l))
+      only_top l n ks (Draw.top_of p l) ∙ or-false (refers_to n (Draw.top_elements p l))
       ∙ ap (λ (m : ℕ). refers_to m (Draw.top_elements p l)) (sym same) ∙ in_refers _ _ _ (Draw.top_elements p l)
       in_top.0 in_top.1
 

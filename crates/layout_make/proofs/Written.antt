@@ -1,7 +1,6 @@
 -- What is drawn fits the numbers of a stream.
 use Rattle.std.proofs.Common.{◌≡◌, ℕ, zero, suc, ◌+◌, ◌*◌, ◌/◌, ◌<◌, ◌≤◌, ◌^◌, min, max, sym, ap, subst, ◌∙◌, arith}
-use Rattle.std.proofs.Common.{lt→ltb, inl, inr}
-use Rattle.std.specs.Prelude.{pos, negsuc, neg_ℤ, ◌<ℤ◌, FitsSigned}
+use Rattle.std.proofs.Common.{lt→ltb, inl, inr, pos, negsuc, neg_ℤ, ◌<ℤ◌, FitsSigned}
 use Rattle.std.specs.Int.{w32}
 use Rattle.std.proofs.lemmas.Int.{fits_signed_from_abs}
 use Rattle.std.proofs.Math.Nat.{mul-le-mul_right}

@@ -1,8 +1,7 @@
 -- The verdict on a chip, computed: what is told first of its rules is the first that is broken. Nets are given with the
 -- numbers, and what excitation lines break with them, since neither is cheap to find.
-use Rattle.std.proofs.Common.{◌≡◌, ℕ, suc, ◌+◌, true, List, [], ◌∷◌, length, Option, Some, None, sym, subst}
-use Rattle.std.proofs.Common.{arith, inl, inr}
-use Rattle.std.specs.Prelude.{◌==◌}
+use Rattle.std.proofs.Common.{◌≡◌, ℕ, suc, ◌+◌, true, List, [], ◌∷◌, length, Option, Some, None, sym, subst, arith, inl}
+use Rattle.std.proofs.Common.{inr, ◌==◌}
 use Rattle.std.proofs.lemmas.Bool.{and_parts, eqb-true}
 use Rattle.std.proofs.lemmas.Option.{same_Some}
 use Rattle.geom.specs.declared.shapes.Flat.{Flat}

@@ -1,9 +1,7 @@
 -- Facts that are decided: each of them holds, or is refuted.
 use Rattle.std.proofs.Common.{◌≡◌, ℕ, zero, suc, ◌<◌, ◌≤◌, ◌⊎◌, Bool, true, false, List, length, Option, Some, None}
-use Rattle.std.proofs.Common.{refl, sym, subst, ◌∙◌, arith, inl, inr}
-use Rattle.std.specs.Prelude.{slice_get}
+use Rattle.std.proofs.Common.{refl, sym, subst, ◌∙◌, arith, inl, inr, slice_get, eqb, ltb, leb}
 use Rattle.std.proofs.lemmas.Bool.{cases_eq, cases_lt, eqb-true, eqb-false, ltb-true, ltb-false, leb-true, leb-false}
-use Rattle.std.proofs.Common.{eqb, ltb, leb}
 use Rattle.std.proofs.lemmas.Option.{same_Some, slice_get_within}
 
 -- a fact is decided where another one is that says the same

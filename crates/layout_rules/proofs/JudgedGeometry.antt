@@ -1,6 +1,5 @@
 -- The rules of geometry and of lengths are judged: each looks at shapes, one or two at a time.
-use Rattle.std.proofs.Common.{◌≡◌, ℕ, ◌<◌, ◌≤◌, Bool, List, length, subst}
-use Rattle.std.specs.Prelude.{slice_index}
+use Rattle.std.proofs.Common.{◌≡◌, ℕ, ◌<◌, ◌≤◌, Bool, List, length, subst, slice_index}
 use Rattle.geom.specs.declared.shapes.Shape.{Shape}
 use Rattle.layout_rules.specs.Layers.{is_metal}
 use Rattle.layout_rules.specs.Limits.{Limits}

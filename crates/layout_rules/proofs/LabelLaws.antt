@@ -1,6 +1,5 @@
 -- A label's number is the one that its digits write.
-use Rattle.std.proofs.Common.{◌≡◌, ℕ, ◌<◌, ◌^◌, Bool, true, ◌&&◌, ◌||◌, List, [], ◌∷◌, ◌+◌, length, sym, ap, subst, ◌∙◌, arith, rules, eq-eqb, inl, inr}
-use Rattle.std.specs.Prelude.{slice_index, nat_lt, ◌==◌, not}
+use Rattle.std.proofs.Common.{◌≡◌, ℕ, ◌<◌, ◌^◌, Bool, true, ◌&&◌, ◌||◌, List, [], ◌∷◌, ◌+◌, length, sym, ap, subst, ◌∙◌, arith, rules, eq-eqb, inl, inr, slice_index, nat_lt, ◌==◌, not}
 use Rattle.std.specs.List.{list_all}
 use Rattle.std.specs.Char.{is_ascii_digit}
 use Rattle.std.specs.Fmt.{decimal}

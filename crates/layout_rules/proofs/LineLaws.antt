@@ -1,6 +1,5 @@
 -- Laws of excitation lines.
-use Rattle.std.proofs.Common.{◌≡◌, ℕ, ◌&&◌, true, List, sym, ap, ◌∙◌, eq-eqb}
-use Rattle.std.specs.Prelude.{◌==◌}
+use Rattle.std.proofs.Common.{◌≡◌, ℕ, ◌&&◌, true, List, sym, ap, ◌∙◌, eq-eqb, ◌==◌}
 use Rattle.std.proofs.lemmas.Bool.{eqb-true, and_parts, and_from}
 use Rattle.geom.specs.declared.shapes.Shape.{Shape}
 use Rattle.geom.specs.Rectangle.{share_point}

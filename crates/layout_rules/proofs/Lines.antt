@@ -1,6 +1,5 @@
 -- When two lines, each of a start and one bar, excite the rows, computed.
-use Rattle.std.proofs.Common.{◌≡◌, ◌≢◌, ℕ, length, ◌<◌, suc, zero, ◌&&◌, ◌||◌, Bool, true, false, List, [], ◌∷◌, Some, sym, ap, subst, ◌∙◌, arith, eq-eqb, inl, inr}
-use Rattle.std.specs.Prelude.{slice_get, slice_index, ◌==◌, ◌%◌, not, count_by}
+use Rattle.std.proofs.Common.{◌≡◌, ◌≢◌, ℕ, length, ◌<◌, suc, zero, ◌&&◌, ◌||◌, Bool, true, false, List, [], ◌∷◌, Some, sym, ap, subst, ◌∙◌, arith, eq-eqb, inl, inr, slice_get, slice_index, ◌==◌, ◌%◌, not, count_by}
 use Rattle.std.proofs.lemmas.Bool.{both_ways, and_from, and_parts, or_cases, eqb-true, false_from_ne_true, not_from_false}
 use Rattle.std.proofs.lemmas.Option.{same_Some}
 use Rattle.geom.specs.declared.shapes.Shape.{Shape}

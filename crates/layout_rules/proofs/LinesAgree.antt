@@ -190,9 +190,6 @@ module _ (shapes : List Shape) where
   pub excitation_none : ReportsNone (ChainsBroken shapes) → ReportsNone (ExcitationBroken shapes)
   excitation_none none a b h = none a b (by_chains a b h)
 
-  pub chains_none : ReportsNone (ExcitationBroken shapes) → ReportsNone (ChainsBroken shapes)
-  chains_none none a b h = none a b (by_paths a b h)
-
   pub excitation_first : (a b : ℕ) → IsFirstReport (ChainsBroken shapes) a b → IsFirstReport (ExcitationBroken shapes) a b
   excitation_first a b first = record { reported = by_paths a b first.reported; least = λ c d h. first.least c d (by_chains c d h) }
 

@@ -1,19 +1,13 @@
 -- Laws of touch, paths and nets.
-use Rattle.std.proofs.Common.{◌≡◌, ℕ, ◌<◌, ◌≤◌, Bool, true, false, ◌&&◌, ◌||◌, List, [], ◌∷◌, length, refl, sym, ap, subst, ◌∙◌, arith}
-use Rattle.std.specs.Prelude.{slice_index, int_le}
+use Rattle.std.proofs.Common.{◌≡◌, ℕ, ◌<◌, ◌≤◌, Bool, true, false, ◌&&◌, ◌||◌, List, [], ◌∷◌, length, refl, sym, ap, subst, ◌∙◌, arith, slice_index, int_le}
 use Rattle.std.proofs.lemmas.Option.{slice_get_within}
 use Rattle.std.proofs.lemmas.Grind.{same_number_lists}
+use Rattle.std.proofs.Math.Bool.{and_comm}
 use Rattle.geom.specs.declared.shapes.Shape.{Shape}
 use Rattle.geom.specs.Rectangle.{Rectangle, share_x, share_y, share_point}
 use Rattle.layout_rules.specs.Layers.{is_lower, is_upper, is_via}
 use Rattle.layout_rules.specs.Touch.{conducts, touch, Touching, IsPath, Joined}
 use Rattle.layout_rules.specs.Nets.{AreNets, Certifies}
-
-and_comm : (x y : Bool) → (x && y) ≡ (y && x)
-and_comm true true = refl
-and_comm true false = refl
-and_comm false true = refl
-and_comm false false = refl
 
 or_swap : (x y z : Bool) → ((x || y) || z) ≡ ((x || z) || y)
 or_swap true true true = refl

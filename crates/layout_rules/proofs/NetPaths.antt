@@ -1,6 +1,5 @@
 -- When numbers are those of nets, computed: each comes with a path to its shape.
-use Rattle.std.proofs.Common.{◌≡◌, ℕ, zero, suc, ◌+◌, ◌<◌, ◌≤◌, ◌&&◌, Bool, true, false, List, [], ◌∷◌, length, Option, None, Some, refl, sym, subst, arith, inl, inr}
-use Rattle.std.specs.Prelude.{slice_get, slice_index, zip, ◌==◌, not, nat_lt}
+use Rattle.std.proofs.Common.{◌≡◌, ℕ, zero, suc, ◌+◌, ◌<◌, ◌≤◌, ◌&&◌, Bool, true, false, List, [], ◌∷◌, length, Option, None, Some, refl, sym, subst, arith, inl, inr, slice_get, slice_index, zip, ◌==◌, not, nat_lt}
 use Rattle.std.specs.List.{list_any}
 use Rattle.std.proofs.lemmas.Bool.{eqb-true, ltb-true, not-false, and_cases, and_parts, both_ways, false_from_ne_true}
 use Rattle.geom.specs.declared.shapes.Shape.{Shape}

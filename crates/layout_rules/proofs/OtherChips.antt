@@ -1,6 +1,5 @@
 -- What the rules report of chips with one fault.
-use Rattle.std.proofs.Common.{◌≡◌, ℕ, ◌<◌, ◌≤◌, ◌⊎◌, Some, refl, sym, arith, inl, inr, eq-eqb}
-use Rattle.std.specs.Prelude.{slice_get, ◌==◌}
+use Rattle.std.proofs.Common.{◌≡◌, ℕ, ◌<◌, ◌≤◌, ◌⊎◌, Some, refl, sym, arith, inl, inr, eq-eqb, slice_get, ◌==◌}
 use Rattle.geom.specs.declared.shapes.Shape.{Shape}
 use Rattle.geom.specs.FirstChip.{first_flat}
 use Rattle.layout_rules.specs.declared.layers.TheConstants.{EVEN_LINE, START}

@@ -1,6 +1,5 @@
 -- At which places of a written-out list a test is passed, computed.
-use Rattle.std.proofs.Common.{◌≡◌, ℕ, zero, suc, ◌+◌, ◌⊎◌, Bool, true, false, List, [], ◌∷◌, length, Some, refl, sym, ap, subst, ◌∙◌, arith, inl, inr}
-use Rattle.std.specs.Prelude.{slice_get, slice_index, zip}
+use Rattle.std.proofs.Common.{◌≡◌, ℕ, zero, suc, ◌+◌, ◌⊎◌, Bool, true, false, List, [], ◌∷◌, length, Some, refl, sym, ap, subst, ◌∙◌, arith, inl, inr, slice_get, slice_index, zip}
 use Rattle.std.specs.List.{list_any}
 use Rattle.std.proofs.lemmas.Option.{same_Some}
 use Rattle.geom.specs.declared.shapes.Shape.{Shape}
@@ -62,22 +61,12 @@ at_one P n [] h all = absurd h
 at_one P n (k ∷ ks) (inl e) all = subst P (sym e) all.0
 at_one P n (k ∷ ks) (inr h) all = at_one P n ks h all.1
 
--- no shape has a partner
-pub no_partner : (test : Shape → Shape → Bool) (shapes : List Shape) → places (λ s. list_any (test s) shapes) shapes ≡ [] → (a b : ℕ) → PassTogether test shapes a b → ⊥
-no_partner test shapes none a b pair =
-    let some : IsOneOf a (places (λ s. list_any (test s) shapes) shapes) = place_at (λ s. list_any (test s) shapes) shapes a pair.first pair.first_is (list_any-at (test pair.first) shapes b pair.second pair.second_is pair.passes_so) in
-    subst (IsOneOf a) none some
-
 -- a pair of a shape and its number stands at its place in the zipped list
 pub zip_at : (shapes : List Shape) (nets : List ℕ) (n : ℕ) (s : Shape) → length nets ≡ length shapes → slice_get shapes n ≡ Some s → slice_get (zip shapes nets) n ≡ Some (s, slice_index nets n)
 zip_at [] nets n s long p = absurd cc
 zip_at (t ∷ ts) [] n s long p = absurd (let k : suc (length ts) ≡ 0 = sym long in omega arith)
 zip_at (t ∷ ts) (m ∷ nets) zero s long p = ap (λ (x : Shape). Some (x, m)) (same_Some t s p)
 zip_at (t ∷ ts) (m ∷ nets) (suc n) s long p = zip_at ts nets n s (let k : suc (length nets) ≡ suc (length ts) = long in omega arith) p
-
--- the first of two that pass together, and the second beside a known first
-pub first_place : (test : Shape → Shape → Bool) (shapes : List Shape) (a b : ℕ) → PassTogether test shapes a b → IsOneOf a (places (λ s. list_any (test s) shapes) shapes)
-first_place test shapes a b pair = place_at (λ s. list_any (test s) shapes) shapes a pair.first pair.first_is (list_any-at (test pair.first) shapes b pair.second pair.second_is pair.passes_so)
 
 pub second_place : (test : Shape → Shape → Bool) (shapes : List Shape) (a b : ℕ) (s : Shape) → slice_get shapes a ≡ Some s → PassTogether test shapes a b → IsOneOf b (places (test s) shapes)
 second_place test shapes a b s p pair =

@@ -1,6 +1,5 @@
 -- The first broken rule and its report are one, and whoever keeps all rules has none.
-use Rattle.std.proofs.Common.{◌≡◌, ℕ, suc, ◌<◌, ◌≤◌, ◌⊎◌, Bool, true, ◌&&◌, List, [], ◌∷◌, Some, length, refl, sym, ap, ◌∙◌, subst, arith, inl, inr}
-use Rattle.std.specs.Prelude.{slice_get, ◌==◌}
+use Rattle.std.proofs.Common.{◌≡◌, ℕ, suc, ◌<◌, ◌≤◌, ◌⊎◌, Bool, true, ◌&&◌, List, [], ◌∷◌, Some, length, refl, sym, ap, ◌∙◌, subst, arith, inl, inr, slice_get, ◌==◌}
 use Rattle.std.proofs.lemmas.Bool.{cases_order, cases_lt}
 use Rattle.std.proofs.lemmas.Option.{same_Some, slice_get_within}
 use Rattle.geom.specs.declared.shapes.Flat.{Flat}
@@ -65,10 +64,6 @@ FirstBroken-once flat limits rule other a b c d one two = elim (cases_order (pla
   ]
 ]
 
--- where all rules are kept, none is the first that is broken
-pub KeepsRules-none : (flat : Flat) (limits : Limits) (rule : Rule) (a b : ℕ) → KeepsRules flat limits → FirstBroken flat limits rule a b → ⊥
-KeepsRules-none flat limits rule a b kept first = kept rule a b first.report.reported
-
 -- the rules with a place below n are kept
 abbrev pub KeepsBelow : ℕ → Flat → Limits → Type 0
 KeepsBelow n flat limits = (rule : Rule) → place rule < n → Keeps rule flat limits
@@ -94,33 +89,3 @@ pub KeepsBefore-next : (flat : Flat) (limits : Limits) (rule next : Rule) → pl
     → KeepsBefore rule flat limits → Keeps rule flat limits → KeepsBefore next flat limits
 KeepsBefore-next flat limits rule next e before kept =
     subst (λ (n : ℕ). KeepsBelow n flat limits) (sym e) (KeepsBelow-more flat limits (place rule) rule refl before kept)
-
-pub KeepsRules-last : (flat : Flat) (limits : Limits) (rule : Rule) → length rules ≡ suc (place rule)
-    → KeepsBefore rule flat limits → Keeps rule flat limits → KeepsRules flat limits
-KeepsRules-last flat limits rule e before kept = KeepsRules-below flat limits
-    (subst (λ (n : ℕ). KeepsBelow n flat limits) (sym e) (KeepsBelow-more flat limits (place rule) rule refl before kept))
-
--- all rules are those of the circuit and those of geometry
-pub KeepsRules-both : (flat : Flat) (limits : Limits) → KeepsCircuitRules flat limits → KeepsGeometryRules flat limits → KeepsRules flat limits
-KeepsRules-both flat limits circuit geometry rule = elim (cases_lt (place rule) first_of_geometry) [ inl less ↦ circuit rule less | inr more ↦ geometry rule more ]
-
--- what the rules of geometry report first is the first report, where the circuit's rules are kept
-pub FirstBroken-from_geometry : (flat : Flat) (limits : Limits) (rule : Rule) (a b : ℕ) → KeepsCircuitRules flat limits → FirstBrokenOfGeometry flat limits rule a b → FirstBroken flat limits rule a b
-FirstBroken-from_geometry flat limits rule a b circuit first = record {
-  report = first.report;
-  kept_before = λ other h. elim (cases_lt (place other) first_of_geometry) [ inl less ↦ circuit other less | inr more ↦ first.kept_before other more h ];
-}
-
--- the circuit's rules don't read the limits
-pub Keeps-any_limits : (flat : Flat) (limits others : Limits) (rule : Rule) → place rule < first_of_geometry → Keeps rule flat limits → Keeps rule flat others
-Keeps-any_limits flat limits others E1 h kept = kept
-Keeps-any_limits flat limits others E2 h kept = kept
-Keeps-any_limits flat limits others E3 h kept = kept
-Keeps-any_limits flat limits others E4 h kept = kept
-Keeps-any_limits flat limits others E5 h kept = absurd (omega arith)
-Keeps-any_limits flat limits others E6 h kept = kept
-Keeps-any_limits flat limits others G1 h kept = absurd (omega arith)
-Keeps-any_limits flat limits others G2 h kept = absurd (omega arith)
-Keeps-any_limits flat limits others G3 h kept = absurd (omega arith)
-Keeps-any_limits flat limits others G4 h kept = absurd (omega arith)
-Keeps-any_limits flat limits others G5 h kept = absurd (omega arith)

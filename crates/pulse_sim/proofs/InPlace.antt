@@ -1,6 +1,5 @@
 -- The settled tick in place: switching one cell after another, and then relaxing one after another, gives the state that is computed from the state before.
-use Rattle.std.proofs.Common.{◌≡◌, ◌≢◌, ℕ, suc, ◌+◌, ◌%◌, ◌<◌, ◌≤◌, Bool, true, false, eqb, List, [], ◌∷◌, ◌++◌, length, get_or, set, Option, Some, refl, sym, ap, subst, ◌∙◌, arith, inl, inr}
-use Rattle.std.specs.Prelude.{slice_get, slice_index, ◌==◌}
+use Rattle.std.proofs.Common.{◌≡◌, ◌≢◌, ℕ, suc, ◌+◌, ◌%◌, ◌<◌, ◌≤◌, Bool, true, false, eqb, List, [], ◌∷◌, ◌++◌, length, get_or, set, Option, Some, refl, sym, ap, subst, ◌∙◌, arith, inl, inr, slice_get, slice_index, ◌==◌}
 use Rattle.std.proofs.lemmas.List.{get_or-set_other, get_or-set_same, length-set, ext_get_or}
 use Rattle.std.proofs.Math.ListN.{get_or-append, length-append}
 use Rattle.std.proofs.Math.Seq.{get_or-append_seam}
@@ -26,9 +25,6 @@ off_set state j c flux ne = get_or-set_other state j c flux Off ne
 
 -- ---- one cell more
 
-pub relaxed_none : (numbers : List ℕ) (old : List Flux) → AreRelaxed numbers 0 old old
-relaxed_none numbers old = record { long = refl; gone = λ p lp. absurd (omega arith); kept = λ c none. refl }
-
 pub relaxed_more : (numbers : List ℕ) (n : ℕ) (old new : List Flux) → AreRelaxed numbers n old new → slice_index numbers n < length old → AreRelaxed numbers (n + 1) old (set new (slice_index numbers n) Off)
 relaxed_more numbers n old new are lt =
     let j : ℕ = slice_index numbers n in
@@ -44,9 +40,6 @@ relaxed_more numbers n old new are lt =
       ];
       kept = λ c none. off_set new j c Off (λ e. none n (omega arith) (sym e)) ∙ are.kept c (λ p lp. none p (omega arith));
     }
-
-pub switched_none : (cells : List ExCell) (word : Option (List Bool)) (numbers : List ℕ) (old : List Flux) → AreSwitched cells word numbers 0 old old
-switched_none cells word numbers old = record { long = refl; taken = λ p cell lp at. absurd (omega arith); kept = λ c none. refl }
 
 module _ (cells : List ExCell) (word : Option (List Bool)) (numbers : List ℕ) (quiet : IsQuiet cells numbers) (n : ℕ) (old new : List Flux) (are : AreSwitched cells word numbers n old new) (lt : n < length numbers) where
   same_feed : (feed : Feed) → ((q output : ℕ) → q < length numbers → feed ≡ Pin (slice_index numbers q) output → ⊥) → feed_flux word new feed ≡ feed_flux word old feed
@@ -153,9 +146,6 @@ pub record AreInPhaseBelow (n : ℕ) (cells : List ExCell) (phase : ℕ) (number
   pub each : (p : ℕ) → p < length numbers → IsInPhase cells phase (slice_index numbers p)
   pub complete : (c : ℕ) → c < n → IsInPhase cells phase c → (p : ℕ) × ((p < length numbers) × (slice_index numbers p ≡ c))
 
-pub listed_none : (cells : List ExCell) (phase : ℕ) → AreInPhaseBelow 0 cells phase []
-listed_none cells phase = record { each = λ p lp. absurd (omega arith); complete = λ c lc is. absurd (omega arith) }
-
 pub listed_more : (cells : List ExCell) (phase n : ℕ) (numbers : List ℕ) (d : ExCell) → AreInPhaseBelow n cells phase numbers → n < length cells → (get_or cells n d).phase ≡ phase → AreInPhaseBelow (n + 1) cells phase (numbers ++ (n ∷ []))
 listed_more cells phase n numbers d are lt of =
     let long : length (numbers ++ (n ∷ [])) ≡ suc (length numbers) = omega (arith, length-append numbers (n ∷ [])) in
@@ -192,9 +182,6 @@ listed_all cells phase n numbers all are = record { each = are.each; complete = 
 pub record AreByPhaseBelow (n : ℕ) (cells : List ExCell) (phases : List (List ℕ)) : Type 0 where
   pub long : length phases ≡ n
   pub each_phase : (phase : ℕ) (numbers : List ℕ) → slice_get phases phase ≡ Some numbers → AreInPhase cells phase numbers
-
-pub phases_none : (cells : List ExCell) → AreByPhaseBelow 0 cells []
-phases_none cells = record { long = refl; each_phase = λ phase numbers is. absurd cc }
 
 pub phases_more : (cells : List ExCell) (n : ℕ) (phases : List (List ℕ)) (numbers : List ℕ) → AreByPhaseBelow n cells phases → AreInPhase cells n numbers → AreByPhaseBelow (n + 1) cells (phases ++ (numbers ∷ []))
 phases_more cells n phases numbers are more = record {

@@ -1,12 +1,9 @@
 -- A circuit shows one list of answers at most, since it has a run of every length.
-use Rattle.std.proofs.Common.{◌≡◌, ℕ, suc, ◌+◌, ◌*◌, ◌<◌, Bool, true, false, List, [], ◌∷◌, length, map, get_or, Some}
-use Rattle.std.proofs.Common.{refl, sym, ap, ◌∙◌, arith}
-use Rattle.std.specs.Prelude.{slice_get}
+use Rattle.std.proofs.Common.{◌≡◌, ℕ, suc, ◌+◌, ◌*◌, Bool, true, false, List, [], ◌∷◌, map, get_or}
+use Rattle.std.proofs.Common.{refl, sym, ◌∙◌, arith}
 use Rattle.std.proofs.lemmas.List.{ext_get_or}
 use Rattle.std.proofs.lemmas.Option.{slice_get-get_or}
 use Rattle.chip_circuit.specs.Circuits.{CircuitView, KeepsFacts}
-use Rattle.pulse_sim.specs.declared.flux.Flux.{Flux}
-use Rattle.pulse_sim.specs.declared.flux.Flux.TheVariants.{Minus, Plus}
 use Rattle.pulse_sim.specs.Fluxes.{sign}
 use Rattle.pulse_sim.specs.Shows.{Shows}
 use Rattle.pulse_sim.specs.Settled.{settled_run}

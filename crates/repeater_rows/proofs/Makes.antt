@@ -2,10 +2,9 @@
 use Rattle.std.specs.Prelude.{◌≡◌, ℕ, ◌-◌, ◌<◌, Bool, true, List, ◌++◌, drop}
 use Rattle.rowed.specs.declared.source.Source.{Source}
 use Rattle.rowed.specs.declared.row_cell.RowCell.{RowCell}
-use Rattle.rowed.specs.PlacedNets.{PlacedRow, PlacedView, placed_rows}
+use Rattle.rowed.specs.PlacedNets.{PlacedRow, PlacedView, placed_rows, row_of}
 use Rattle.repeater_rows.specs.Repeaters.{added_rows, last_source, rows_above, repeated_rows}
 use Rattle.rowed.proofs.RowsAboveLaws.{cells_of, slots_in}
-use Rattle.rowed.specs.PlacedNets.{row_of}
 use Rattle.repeater_rows.specs.Code.Opening.{AreDestinations}
 use Rattle.repeater_rows.specs.Code.Counts.{rounds_left}
 

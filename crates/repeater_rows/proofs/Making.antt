@@ -7,13 +7,12 @@ use Rattle.std.proofs.lemmas.List.Elements.{All-from_recursion}
 use Rattle.rowed.specs.declared.source.Source.{Source}
 use Rattle.rowed.specs.declared.row_cell.RowCell.{RowCell}
 use Rattle.rowed.specs.Slots.{slot_limit}
-use Rattle.rowed.specs.PlacedNets.{PlacedRow, PlacedView, IsPlaced, placed_rows}
+use Rattle.rowed.specs.PlacedNets.{PlacedRow, PlacedView, IsPlaced, placed_rows, row_of}
 use Rattle.rowed.specs.Channels.{Link, pin_link, links, channel_links, channel_slots}
 use Rattle.repeater_rows.specs.Destinations.{is_end, destinations}
 use Rattle.repeater_rows.specs.Rounds.{is_far, round, rounds, all_rounds, window_size}
 use Rattle.repeater_rows.specs.Repeaters.{buffer_from, carried, carrier_slots, added, source_to, source_above, added_rows, last_source, fed_from, cell_from, cells_from, channel_rounds, channel_rows, rows_above, repeated_rows}
 use Rattle.rowed.proofs.RowsAboveLaws.{cells_of, slots_in}
-use Rattle.rowed.specs.PlacedNets.{row_of}
 use Rattle.rowed.proofs.NeighbourLaws.{seated_at, slots_below}
 use Rattle.rowed.specs.Counts.{cells_in}
 use Rattle.repeater_rows.specs.Code.Opening.{AreDestinations}

@@ -9,7 +9,7 @@ use Rattle.rowed.specs.PlacedNets.{PlacedRow}
 use Rattle.rowed.specs.Channels.{Link, channel_links, channel_slots}
 use Rattle.list_orders.specs.Numbers.{numbers, IsOrder}
 use Rattle.list_orders.proofs.NumbersLaws.{length-numbers}
-use Rattle.repeater_rows.specs.Destinations.{destinations, end_from, is_end, completed}
+use Rattle.repeater_rows.specs.Destinations.{destinations, is_end, completed}
 use Rattle.repeater_rows.specs.Repeaters.{no_source, source_to, carrier_slots}
 use Rattle.repeater_rows.specs.Local.{UnwiredRise}
 use Rattle.repeater_rows.proofs.LocalLaws.{destinations_rise}
@@ -63,9 +63,6 @@ module _ (lower upper : PlacedRow) (near : AreNeighbours lower upper) (n : ℕ) 
 
   pub wired_length : length wired ≡ n
   wired_length = ap length read.each_wired ∙ length-map (numbers 0 n) (is_end (channel_links lower upper)) ∙ length-numbers 0 n
-
-  pub ends_length : length ends ≡ n
-  ends_length = ap length read.each_end ∙ length-map (numbers 0 n) (end_from (channel_links lower upper)) ∙ length-numbers 0 n
 
   below : AllByRecursion (λ (w : Link). w.to < n) (channel_links lower upper)
   below = subst (λ (m : ℕ). AllByRecursion (λ (w : Link). w.to < m) (channel_links lower upper)) (sym is) near.channel.to_below

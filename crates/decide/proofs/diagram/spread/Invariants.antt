@@ -1,5 +1,4 @@
-use Rattle.std.proofs.Common.{◌<◌, List, length}
-use Rattle.std.specs.Prelude.{All}
+use Rattle.std.proofs.Common.{◌<◌, List, length, All}
 use Rattle.decide.specs.declared.edge.Node.{Node}
 use Rattle.decide.specs.declared.diagram.TheConstants.{NOTHING}
 use Rattle.decide.specs.Code.Majorities.{IsEntry}

@@ -1,5 +1,4 @@
-use Rattle.std.proofs.Common.{ℕ, ◌/◌, ◌∙◌, ap, sym, length, arith, []}
-use Rattle.std.specs.Prelude.{slice_index_or}
+use Rattle.std.proofs.Common.{ℕ, ◌/◌, ◌∙◌, ap, sym, length, arith, [], slice_index_or}
 use Rattle.rowed.specs.RowNets.{row_at}
 use Rattle.rowed.proofs.SpanLaws.{long_row}
 use Rattle.circuit.specs.declared.cell_kind.CellKind.TheVariants.{Buffer}

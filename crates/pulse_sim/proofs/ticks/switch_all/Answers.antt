@@ -1,5 +1,4 @@
-use Rattle.std.proofs.Common.{◌<◌, length, arith}
-use Rattle.std.specs.Prelude.{slice_index}
+use Rattle.std.proofs.Common.{◌<◌, length, arith, slice_index}
 use Rattle.pulse_sim.proofs.InPlace.{switched_at}
 use Rattle.pulse_sim.proofs.ticks.switch_all.Goals as goal
 

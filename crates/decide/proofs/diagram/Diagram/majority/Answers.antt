@@ -1,7 +1,8 @@
 use Rattle.std.proofs.Common.{refl, arith}
+use Rattle.std.proofs.lemmas.List.{nil_from_length}
 use Rattle.decide.proofs.Counting.{falls_moved}
 use Rattle.decide.proofs.Choosing.{grows_then, full_memory}
-use Rattle.decide.proofs.Turning.{run_begins, run_edges, run_ends, run_joins, run_named, run_given, no_items}
+use Rattle.decide.proofs.Turning.{run_begins, run_edges, run_ends, run_joins, run_named, run_given}
 use Rattle.decide.proofs.diagram.Diagram.majority.Goals as goal
 
 pub loop-turn-init : goal.loop-turn-init
@@ -23,7 +24,7 @@ pub returns-in-None-clause-grows : goal.returns-in-None-clause-grows
 returns-in-None-clause-grows c = c.loop-turn.invariant.grows
 
 pub returns-in-None-clause-has : goal.returns-in-None-clause-has
-returns-in-None-clause-has c = run_ends _ _ _ _ _ c.loop-turn.invariant c.in-Made.edge c.in-Made.is (no_items _ (let n = c.in-None.ensures.cases.0 in let l = c.loop-turn.stack.ok.0 in omega arith))
+returns-in-None-clause-has c = run_ends _ _ _ _ _ c.loop-turn.invariant c.in-Made.edge c.in-Made.is (nil_from_length _ (let n = c.in-None.ensures.cases.0 in let l = c.loop-turn.stack.ok.0 in omega arith))
 
 pub returns-in-None-clause-named : goal.returns-in-None-clause-named
 returns-in-None-clause-named c = c.loop-turn.invariant.named

@@ -1,5 +1,4 @@
-use Rattle.std.proofs.Common.{List, sym, subst}
-use Rattle.std.specs.Prelude.{All}
+use Rattle.std.proofs.Common.{List, sym, subst, All}
 use Rattle.decide.specs.declared.diagram.Entry.{Entry}
 use Rattle.decide.specs.Code.Majorities.{IsEntry}
 use Rattle.decide.proofs.Remembering.{nothing_is}

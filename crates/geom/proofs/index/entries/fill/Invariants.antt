@@ -1,5 +1,4 @@
-use Rattle.std.proofs.Common.{◌≡◌, ℕ, ◌<◌, ◌≤◌, ◌+◌, ◌-◌, length, vec_len}
-use Rattle.std.specs.Prelude.{slice_index}
+use Rattle.std.proofs.Common.{◌≡◌, ℕ, ◌<◌, ◌≤◌, ◌+◌, ◌-◌, length, vec_len, slice_index}
 use Rattle.geom.proofs.index.entries.fill.Given as goal
 
 abbrev pub invariant-loop-starts : goal.invariant-loop-starts

@@ -1,5 +1,4 @@
-use Rattle.std.proofs.Common.{◌≤◌, subst, sym, ℕ}
-use Rattle.std.specs.Prelude.{All}
+use Rattle.std.proofs.Common.{◌≤◌, subst, sym, ℕ, All}
 use Rattle.geom.specs.Code.Grids.{end_of}
 use Rattle.geom.proofs.Filing.{grids_closed}
 use Rattle.geom.proofs.index.survey.grids_for.Goals as goal

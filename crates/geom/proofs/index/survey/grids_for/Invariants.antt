@@ -1,5 +1,4 @@
-use Rattle.std.proofs.Common.{◌≤◌, ◌*◌, ◌^◌}
-use Rattle.std.specs.Prelude.{All}
+use Rattle.std.proofs.Common.{◌≤◌, ◌*◌, ◌^◌, All}
 use Rattle.geom.specs.Code.Grids.{end_of}
 use Rattle.geom.proofs.index.survey.grids_for.Given as goal
 

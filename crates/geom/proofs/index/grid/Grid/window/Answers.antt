@@ -1,5 +1,4 @@
-use Rattle.std.proofs.Common.{◌≡◌, rules, arith}
-use Rattle.std.specs.Prelude.{◌-ℤ◌}
+use Rattle.std.proofs.Common.{◌≡◌, rules, arith, ◌-ℤ◌}
 use Rattle.geom.specs.Rectangle.{positive_part}
 use Rattle.geom.proofs.Filing.{between_x, between_y}
 use Rattle.geom.proofs.index.grid.Grid.window.Goals as goal
