@@ -1,7 +1,6 @@
 // Calls that are counted, some of which are to fail.
 ghost use Rattle.std.specs.Prelude.{◌≡◌, ◌∷◌, ◌++◌, [], take, OnOk, OnErr};
-ghost use Rattle.aq_base.specs.Causes.{counted};
-ghost use Rattle.aq_base.specs.Failing.{keep_of};
+ghost use Rattle.aq_base.specs.Failing.{counted, keep_of};
 
 use std::alloc::{AllocError, Global};
 

@@ -73,4 +73,4 @@ A status above 0 comes with one line on standard error.
 ";
 
 /// The program's name and version.
-pub const VERSION: &str = "aqfp 0.3.2\n";
+pub const VERSION: &str = "aqfp 0.3.3\n";

@@ -1,11 +1,12 @@
 -- How each step may end a check.
-use Rattle.std.proofs.Common.{ℕ, ◌≡◌, ◌≤◌, Bool, List, [], ◌∷◌, length, Option, Some, None, Result, IfErr, OnOk, OnErr, All, refl, sym, subst, inl, inr}
+use Rattle.std.proofs.Common.{ℕ, ◌≡◌, ◌≤◌, Bool, List, [], ◌∷◌, length, Option, Some, None, Result, IfErr, All, refl, sym, subst, inl, inr}
 use Rattle.std.specs.Result.{result_err}
-use Rattle.aq_base.specs.Causes.{Rose}
-use Rattle.aq_base.specs.Store.{Contents, gained, GainsPrefix}
+use Rattle.aq_base.specs.Output.{Output}
+use Rattle.aqfp_top.specs.Code.Printing.{PrintsText}
+use Rattle.aq_base.specs.Heard.{Event}
+use Rattle.aq_base.specs.Store.{Contents}
 use Rattle.chip_circuit.specs.Circuits.{CircuitView, KeepsFacts}
 use Rattle.chip_texts.specs.WordsText.{words_of, SaysWords}
-use Rattle.aqfp_top.specs.Counted.{Counts, HasFaults, FailedLoad}
 use Rattle.aqfp_top.specs.Loads.{gds_limit, lib_limit, words_limit, check_loads}
 use Rattle.aqfp_top.specs.Stages as stage
 use Rattle.aqfp_top.specs.Stages.{Stage, IsFirst, Answers}
@@ -13,14 +14,15 @@ use Rattle.aqfp_top.specs.Due.{bytes_at, judging_stages, check_stages}
 use Rattle.aqfp_top.specs.Faults.{IsCheckFault}
 use Rattle.aqfp_top.specs.Code.Loading.{IsFaultOfLoads}
 use Rattle.aqfp_top.specs.Code.Staging.{ToldAnswers}
-use Rattle.aqfp_top.specs.Code.Building.{IsOutOrMemory, IsReadOf}
+use Rattle.aqfp_top.specs.Code.Building.{IsOutOrMemory}
+use Rattle.aqfp_top.specs.Code.Printing.{OutFails}
 use Rattle.aqfp_top.specs.Code.Checking.{chip_stages, circuit_then, IsCircuitFault, IsJudgingFault}
 use Rattle.aqfp_top.specs.Checks.{ToldTexts, MakesCircuit, IsSound, CheckPrints, IsPrintedOf, text_of}
 use Rattle.aqfp_top.specs.declared.check.Printing.{Printing}
 use Rattle.aqfp_top.specs.declared.fault.Fault.{Fault}
+use Rattle.aqfp_top.proofs.OutEnds.{each_text}
 use Rattle.aqfp_top.proofs.EachFault.{each_of_loads, each_circuit, each_judging, each_out}
 use Rattle.aqfp_top.proofs.Staging.{load_stage, past, file_loads, held_bytes}
-use Rattle.aqfp_top.proofs.Steps.{print_counts}
 
 -- the stages of the texts of the files
 abbrev pub texts_at : Contents → List (List ℕ) → List Stage
@@ -40,11 +42,10 @@ circuit_judges fault wrong = each_circuit IsJudgingFault (λ o k. tt) (λ n. tt)
 pub loads_check : (fault : Fault) → IsFaultOfLoads check_loads fault → IsCheckFault fault
 loads_check fault only = each_of_loads IsCheckFault check_loads (λ p l. l) (λ p t l. l) (λ p l. l) tt fault only
 
-pub loads_count : (before after : Counts) (fault : Fault) → IsFaultOfLoads check_loads fault → IsReadOf (Rose before.reads after.reads) fault → HasFaults before after (Some fault)
-loads_count before after fault only =
-    each_of_loads (λ f. IsReadOf (Rose before.reads after.reads) f → HasFaults before after (Some f)) check_loads (λ p l r. tt) (λ p t l r. tt) (λ p l r. r) (λ r. tt) fault only
+pub loads_fail : (shown shown' : List Event) (fault : Fault) → IsFaultOfLoads check_loads fault → OutFails shown shown' (Some fault)
+loads_fail shown shown' fault only = each_of_loads (λ f. OutFails shown shown' (Some f)) check_loads (λ p l. tt) (λ p t l. tt) (λ p l. tt) tt fault only
 
-pub loads_check_print : (printing : Printing) (told : Option Contents) (words : List (List ℕ)) (held : Option (List ℕ)) (fault : Fault) → IsFaultOfLoads check_loads fault → CheckPrints printing told words held held (Some fault)
+pub loads_check_print : (printing : Printing) (told : Option Contents) (words : List (List ℕ)) (held : Output) (fault : Fault) → IsFaultOfLoads check_loads fault → CheckPrints printing told words held held (Some fault)
 loads_check_print printing told words held fault only =
     each_of_loads (λ f. CheckPrints printing told words held held (Some f)) check_loads (λ p l. refl) (λ p t l. refl) (λ p l. refl) (inl refl) fault only
 
@@ -53,13 +54,10 @@ loads_check_print printing told words held fault only =
 pub unsound_is_check : (fault : Fault) → IsJudgingFault fault → IsCheckFault fault
 unsound_is_check fault wrong = each_judging IsCheckFault (λ o k. tt) (λ n. tt) (λ f. tt) (λ k. tt) (λ r a b. tt) (λ l. tt) tt fault wrong
 
-pub unsound_counts : (before after : Counts) (fault : Fault) → IsJudgingFault fault → HasFaults before after (Some fault)
-unsound_counts before after fault wrong = each_judging (λ f. HasFaults before after (Some f)) (λ o k. tt) (λ n. tt) (λ f. tt) (λ k. tt) (λ r a b. tt) (λ l. tt) tt fault wrong
+pub unsound_fails : (shown shown' : List Event) (fault : Fault) → IsJudgingFault fault → OutFails shown shown' (Some fault)
+unsound_fails shown shown' fault wrong = each_judging (λ f. OutFails shown shown' (Some f)) (λ o k. tt) (λ n. tt) (λ f. tt) (λ k. tt) (λ r a b. tt) (λ l. tt) tt fault wrong
 
-pub unsound_failed : (name : Option (List ℕ)) (words : List (List ℕ)) (fault : Fault) → IsJudgingFault fault → FailedLoad name words (Some fault)
-unsound_failed name words fault wrong = each_judging (λ f. FailedLoad name words (Some f)) (λ o k. tt) (λ n. tt) (λ f. tt) (λ k. tt) (λ r a b. tt) (λ l. tt) tt fault wrong
-
-pub unsound_prints : (printing : Printing) (told : Option Contents) (words : List (List ℕ)) (held : Option (List ℕ)) (fault : Fault) → IsJudgingFault fault → CheckPrints printing told words held held (Some fault)
+pub unsound_prints : (printing : Printing) (told : Option Contents) (words : List (List ℕ)) (held : Output) (fault : Fault) → IsJudgingFault fault → CheckPrints printing told words held held (Some fault)
 unsound_prints printing told words held fault wrong =
     each_judging (λ f. CheckPrints printing told words held held (Some f)) (λ o k. refl) (λ n. refl) (λ f. refl) (λ k. refl) (λ r a b. refl) (λ l. refl) (inl refl) fault wrong
 
@@ -114,12 +112,12 @@ texts_sound told words gds lib text lib' text' result held a b c l t well only =
 pub out_is_check : (result : Result (Unit {0}) Fault) → IfErr result IsOutOrMemory → IfErr result IsCheckFault
 out_is_check result only = each_out (λ r. IfErr r IsCheckFault) tt refl tt result only
 
-pub out_check_prints : (printing : Printing) (told : Option Contents) (words : List (List ℕ)) (before after : Option (List ℕ)) (gds lib text : List ℕ) (circuit : CircuitView) (given : List (List Bool)) (result : Result (Unit {0}) Fault) →
-    ToldTexts told words gds lib text → IsSound gds lib text circuit → KeepsFacts circuit → given ≡ words_of text → All (λ word. length word ≡ circuit.inputs) given → IfErr result IsOutOrMemory →
-    OnOk result (after ≡ gained before (text_of printing circuit given)) → OnErr result (GainsPrefix before after (text_of printing circuit given)) → CheckPrints printing told words before after (result_err result)
-out_check_prints printing told words before after gds lib text circuit given result held sound keeps same wide only =
-    each_out (λ r. OnOk r (after ≡ gained before (text_of printing circuit given)) → OnErr r (GainsPrefix before after (text_of printing circuit given)) → CheckPrints printing told words before after (result_err r))
-    (λ added prefix. made added) (λ added prefix. made prefix) (λ added prefix. inr (made prefix)) result only
+pub out_check_prints : (printing : Printing) (told : Option Contents) (words : List (List ℕ)) (before after : Output) (gds lib text : List ℕ) (circuit : CircuitView) (given : List (List Bool)) (result : Result (Unit {0}) Fault) →
+    ToldTexts told words gds lib text → IsSound gds lib text circuit → KeepsFacts circuit → given ≡ words_of text → All (λ word. length word ≡ circuit.inputs) given →
+    PrintsText (text_of printing circuit given) before after result → CheckPrints printing told words before after (result_err result)
+out_check_prints printing told words before after gds lib text circuit given result held sound keeps same wide prints =
+    each_text (λ r. CheckPrints printing told words before after (result_err r)) (text_of printing circuit given) before after
+    (λ p. made p) (λ p. made p) (λ p. inr (made p)) result prints
   where
     made : {Printed : List ℕ → Type 0} → Printed (text_of printing circuit given) → IsPrintedOf printing told words Printed
     made {Printed} printed = record {
@@ -135,14 +133,11 @@ out_check_prints printing told words before after gds lib text circuit given res
     }
 
 -- the same of texts that are these
-pub texts_check_print : (printing : Printing) (told : Option Contents) (words : List (List ℕ)) (before after : Option (List ℕ)) (gds lib text lib' text' : List ℕ) (circuit : CircuitView) (given : List (List Bool)) (result : Result (Unit {0}) Fault) →
-    ToldTexts told words gds lib text → lib' ≡ lib → text' ≡ text → MakesCircuit gds lib' circuit → SaysWords circuit.inputs text' → KeepsFacts circuit → given ≡ words_of text' → All (λ word. length word ≡ circuit.inputs) given → IfErr result IsOutOrMemory →
-    OnOk result (after ≡ gained before (text_of printing circuit given)) → OnErr result (GainsPrefix before after (text_of printing circuit given)) → CheckPrints printing told words before after (result_err result)
-texts_check_print printing told words before after gds lib text lib' text' circuit given result held l t makes says keeps same wide only added prefix =
+pub texts_check_print : (printing : Printing) (told : Option Contents) (words : List (List ℕ)) (before after : Output) (gds lib text lib' text' : List ℕ) (circuit : CircuitView) (given : List (List Bool)) (result : Result (Unit {0}) Fault) →
+    ToldTexts told words gds lib text → lib' ≡ lib → text' ≡ text → MakesCircuit gds lib' circuit → SaysWords circuit.inputs text' → KeepsFacts circuit → given ≡ words_of text' → All (λ word. length word ≡ circuit.inputs) given →
+    PrintsText (text_of printing circuit given) before after result → CheckPrints printing told words before after (result_err result)
+texts_check_print printing told words before after gds lib text lib' text' circuit given result held l t makes says keeps same wide prints =
     let sound : IsSound gds lib text circuit = record { makes = subst (λ x. MakesCircuit gds x circuit) l makes; says = subst (SaysWords circuit.inputs) t says } in
-    out_check_prints printing told words before after gds lib text circuit given result held sound keeps (subst (λ x. given ≡ words_of x) t same) wide only added prefix
+    out_check_prints printing told words before after gds lib text circuit given result held sound keeps (subst (λ x. given ≡ words_of x) t same) wide prints
 
-pub print_failed : (name : Option (List ℕ)) (words : List (List ℕ)) (result : Result (Unit {0}) Fault) → IfErr result IsOutOrMemory → FailedLoad name words (result_err result)
-print_failed name words result only = each_out (λ r. FailedLoad name words (result_err r)) tt tt tt result only
-
-pub ruleset ends = (loads_answer, circuit_judges, loads_check, loads_count, loads_check_print, unsound_is_check, unsound_counts, unsound_failed, unsound_prints, told_unsound, told_sound, out_is_check, out_check_prints, print_counts, print_failed)
+pub ruleset ends = (loads_answer, circuit_judges, loads_check, loads_fail, loads_check_print, unsound_is_check, unsound_fails, unsound_prints, told_unsound)

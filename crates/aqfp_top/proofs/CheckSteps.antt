@@ -10,7 +10,7 @@ use Rattle.aqfp_top.specs.Code.Staging.{ToldAnswers}
 use Rattle.aqfp_top.specs.Code.Checking.{chip_stages}
 use Rattle.aqfp_top.specs.declared.fault.Fault.{Fault}
 use Rattle.aqfp_top.proofs.Staging.{load_stage, past, load_found, load_past}
-use Rattle.aqfp_top.proofs.Steps.{load_is_first, load_is_second, load_is_third, load_rose, load_failed}
+use Rattle.aqfp_top.proofs.Steps.{load_is_first, load_is_second, load_is_third}
 
 pub told_gds : (told : Option Contents) (words : List (List ℕ)) (fault : Fault) → IsFaultOfLoad 1 gds_limit fault → ToldLoadsWord told words 1 gds_limit (Err fault) → (rest : Contents → List (List ℕ) → List Stage) → ToldAnswers (chip_stages rest) told words (Some fault)
 told_gds None words fault only loads rest = tt
@@ -37,4 +37,4 @@ pub told_all : (told : Option Contents) (words : List (List ℕ)) (gds lib text 
 told_all None words gds lib text first second third = tt
 told_all (Some files) words gds lib text first second third = (first.0, second.0, third.0)
 
-pub ruleset loads = (load_is_first, load_is_second, load_is_third, load_rose, load_failed, told_gds, told_lib, told_words, told_all)
+pub ruleset loads = (load_is_first, load_is_second, load_is_third, told_gds, told_lib, told_words, told_all)

@@ -1,15 +1,16 @@
 -- From the clauses of the steps of a comparison to its own.
-use Rattle.std.proofs.Common.{ℕ, ◌≡◌, ◌≤◌, List, [], ◌∷◌, length, Option, Some, None, Result, Ok, Err, IfOk, IfErr, OnOk, OnErr, refl, sym, subst, inl, inr}
+use Rattle.std.proofs.Common.{ℕ, ◌≡◌, ◌≤◌, List, [], ◌∷◌, length, Option, Some, None, Result, Ok, Err, IfOk, IfErr, OnOk, refl, sym, subst, inl, inr}
 use Rattle.std.specs.Result.{result_err}
-use Rattle.aq_base.specs.Causes.{Rose}
-use Rattle.aq_base.specs.Store.{Contents, gained, GainsPrefix}
+use Rattle.aq_base.specs.Output.{Output}
+use Rattle.aqfp_top.specs.Code.Printing.{PrintsText}
+use Rattle.aq_base.specs.Heard.{Event}
+use Rattle.aq_base.specs.Store.{Contents}
 use Rattle.blif_read.specs.Parts.{NetView}
 use Rattle.blif_read.specs.Netlist.{IsNetlist}
 use Rattle.blif_flat.specs.DesignText as netlist
 use Rattle.chip_circuit.specs.Circuits.{CircuitView, KeepsFacts}
 use Rattle.decide.specs.declared.verdict.Verdict.{Verdict}
 use Rattle.aqfp_top.specs.Loads.{gds_limit, lib_limit, net_limit, words_limit, check_loads}
-use Rattle.aqfp_top.specs.Counted.{Counts, HasFaults, FailedLoad}
 use Rattle.aqfp_top.specs.Designs.{IsNetlistFault}
 use Rattle.aqfp_top.specs.Checks.{ToldTexts, MakesCircuit}
 use Rattle.aqfp_top.specs.Stages as stage
@@ -19,16 +20,17 @@ use Rattle.aqfp_top.specs.Faults.{IsEqualFault}
 use Rattle.aqfp_top.specs.Comparing.{MakesBoth, HasWidths, IsTrueOf, HasVerdict, IsToldOf, EqualPrints, verdict_text}
 use Rattle.aqfp_top.specs.Code.Staging.{OrMemory, ToldAnswers}
 use Rattle.aqfp_top.specs.Code.Loading.{IsFaultOfLoads}
-use Rattle.aqfp_top.specs.Code.Building.{IsOutOrMemory, IsReadOf}
+use Rattle.aqfp_top.specs.Code.Building.{IsOutOrMemory}
+use Rattle.aqfp_top.specs.Code.Printing.{OutFails}
 use Rattle.aqfp_top.specs.Code.Checking.{chip_stages, circuit_then, IsCircuitFault}
 use Rattle.aqfp_top.specs.Code.Comparing.{both_stages, AreWidths, AreOtherWidths, IsManyFault, IsComparingFault}
 use Rattle.aqfp_top.specs.declared.fault.Large.TheVariants.{Functions, Design}
 use Rattle.aqfp_top.specs.declared.fault.Fault.{Fault}
 use Rattle.aqfp_top.specs.declared.fault.Fault.TheVariants.{BadBlif, BadDesign, TooLarge, Widths, Memory}
+use Rattle.aqfp_top.proofs.OutEnds.{each_text}
 use Rattle.aqfp_top.proofs.EachFault.{each_of_loads, each_circuit, each_comparing, each_out}
 use Rattle.aqfp_top.proofs.Staging.{load_stage, past, past_all, found, file_loads, held_bytes}
-use Rattle.aqfp_top.proofs.Steps.{print_counts}
-use Rattle.aqfp_top.proofs.CheckEnds.{print_failed}
+use Rattle.aqfp_top.proofs.CheckEnds.{loads_fail}
 use Rattle.aqfp_top.proofs.OneFault.{says_no_fault}
 
 -- The kinds of faults.
@@ -142,11 +144,7 @@ loads_answer (Some files) words fault bad = bad (λ files words. comparing_stage
 pub loads_equal : (fault : Fault) → IsFaultOfLoads check_loads fault → IsEqualFault fault
 loads_equal fault only = each_of_loads IsEqualFault check_loads (λ p l. l) (λ p t l. l) (λ p l. l) tt fault only
 
-pub loads_count : (before after : Counts) (fault : Fault) → IsFaultOfLoads check_loads fault → IsReadOf (Rose before.reads after.reads) fault → HasFaults before after (Some fault)
-loads_count before after fault only =
-    each_of_loads (λ f. IsReadOf (Rose before.reads after.reads) f → HasFaults before after (Some f)) check_loads (λ p l r. tt) (λ p t l r. tt) (λ p l r. r) (λ r. tt) fault only
-
-pub loads_equal_print : (told : Option Contents) (words : List (List ℕ)) (held : Option (List ℕ)) (fault : Fault) → IsFaultOfLoads check_loads fault → EqualPrints told words held held (Some fault)
+pub loads_equal_print : (told : Option Contents) (words : List (List ℕ)) (held : Output) (fault : Fault) → IsFaultOfLoads check_loads fault → EqualPrints told words held held (Some fault)
 loads_equal_print told words held fault only =
     each_of_loads (λ f. EqualPrints told words held held (Some f)) check_loads (λ p l. refl) (λ p t l. refl) (λ p l. refl) (inl refl) fault only
 
@@ -158,23 +156,18 @@ circuit_equal fault wrong = each_circuit IsEqualFault (λ o k. tt) (λ n. tt) (�
 pub wrong_is_equal : (fault : Fault) → IsComparingFault fault → IsEqualFault fault
 wrong_is_equal fault wrong = each_comparing IsEqualFault circuit_equal (λ f. tt) (λ l k. tt) (λ n. tt) (λ a b c d. tt) refl fault wrong
 
-circuit_counts : (before after : Counts) (fault : Fault) → IsCircuitFault fault → HasFaults before after (Some fault)
-circuit_counts before after fault wrong = each_circuit (λ f. HasFaults before after (Some f)) (λ o k. tt) (λ n. tt) (λ f. tt) (λ k. tt) (λ r a b. tt) tt fault wrong
+circuit_fails : (shown shown' : List Event) (fault : Fault) → IsCircuitFault fault → OutFails shown shown' (Some fault)
+circuit_fails shown shown' fault wrong = each_circuit (λ f. OutFails shown shown' (Some f)) (λ o k. tt) (λ n. tt) (λ f. tt) (λ k. tt) (λ r a b. tt) tt fault wrong
 
-pub wrong_counts : (before after : Counts) (fault : Fault) → IsComparingFault fault → HasFaults before after (Some fault)
-wrong_counts before after fault wrong = each_comparing (λ f. HasFaults before after (Some f)) (circuit_counts before after) (λ f. tt) (λ l k. tt) (λ n. tt) (λ a b c d. tt) tt fault wrong
+pub wrong_fails : (shown shown' : List Event) (fault : Fault) → IsComparingFault fault → OutFails shown shown' (Some fault)
+wrong_fails shown shown' fault wrong =
+    each_comparing (λ f. OutFails shown shown' (Some f)) (circuit_fails shown shown') (λ f. tt) (λ l k. tt) (λ n. tt) (λ a b c d. tt) tt fault wrong
 
-circuit_failed : (name : Option (List ℕ)) (words : List (List ℕ)) (fault : Fault) → IsCircuitFault fault → FailedLoad name words (Some fault)
-circuit_failed name words fault wrong = each_circuit (λ f. FailedLoad name words (Some f)) (λ o k. tt) (λ n. tt) (λ f. tt) (λ k. tt) (λ r a b. tt) tt fault wrong
-
-pub wrong_failed : (name : Option (List ℕ)) (words : List (List ℕ)) (fault : Fault) → IsComparingFault fault → FailedLoad name words (Some fault)
-wrong_failed name words fault wrong = each_comparing (λ f. FailedLoad name words (Some f)) (circuit_failed name words) (λ f. tt) (λ l k. tt) (λ n. tt) (λ a b c d. tt) tt fault wrong
-
-circuit_prints : (told : Option Contents) (words : List (List ℕ)) (held : Option (List ℕ)) (fault : Fault) → IsCircuitFault fault → EqualPrints told words held held (Some fault)
+circuit_prints : (told : Option Contents) (words : List (List ℕ)) (held : Output) (fault : Fault) → IsCircuitFault fault → EqualPrints told words held held (Some fault)
 circuit_prints told words held fault wrong =
     each_circuit (λ f. EqualPrints told words held held (Some f)) (λ o k. refl) (λ n. refl) (λ f. refl) (λ k. refl) (λ r a b. refl) (inl refl) fault wrong
 
-pub wrong_prints : (told : Option Contents) (words : List (List ℕ)) (held : Option (List ℕ)) (fault : Fault) → IsComparingFault fault → EqualPrints told words held held (Some fault)
+pub wrong_prints : (told : Option Contents) (words : List (List ℕ)) (held : Output) (fault : Fault) → IsComparingFault fault → EqualPrints told words held held (Some fault)
 wrong_prints told words held fault wrong =
     each_comparing (λ f. EqualPrints told words held held (Some f)) (circuit_prints told words held) (λ f. refl) (λ l k. refl) (λ n. refl) (λ a b c d. refl) refl fault wrong
 
@@ -217,22 +210,22 @@ texts_well told words gds lib net lib' net' result held a b c l t well only =
 pub out_is_equal : (result : Result (Unit {0}) Fault) → IfErr result IsOutOrMemory → IfErr result IsEqualFault
 out_is_equal result only = each_out (λ r. IfErr r IsEqualFault) tt refl tt result only
 
-pub out_equal_prints : (told : Option Contents) (words : List (List ℕ)) (before after : Option (List ℕ)) (gds lib net : List ℕ) (verdict : Verdict) (result : Result (Unit {0}) Fault) →
-    ToldTexts told words gds lib net → HasVerdict gds lib net verdict → IfErr result IsOutOrMemory →
-    OnOk result (after ≡ gained before (verdict_text verdict)) → OnErr result (GainsPrefix before after (verdict_text verdict)) → EqualPrints told words before after (result_err result)
-out_equal_prints told words before after gds lib net verdict result held found only =
-    each_out (λ r. OnOk r (after ≡ gained before (verdict_text verdict)) → OnErr r (GainsPrefix before after (verdict_text verdict)) → EqualPrints told words before after (result_err r))
-    (λ added prefix. made added) (λ added prefix. made prefix) (λ added prefix. inr (made prefix)) result only
+pub out_equal_prints : (told : Option Contents) (words : List (List ℕ)) (before after : Output) (gds lib net : List ℕ) (verdict : Verdict) (result : Result (Unit {0}) Fault) →
+    ToldTexts told words gds lib net → HasVerdict gds lib net verdict →
+    PrintsText (verdict_text verdict) before after result → EqualPrints told words before after (result_err result)
+out_equal_prints told words before after gds lib net verdict result held found prints =
+    each_text (λ r. EqualPrints told words before after (result_err r)) (verdict_text verdict) before after
+    (λ p. made p) (λ p. made p) (λ p. inr (made p)) result prints
   where
     made : {Printed : List ℕ → Type 0} → Printed (verdict_text verdict) → IsToldOf told words Printed
     made {Printed} printed = record { gds = gds; lib = lib; net = net; held = held; verdict = verdict; found = found; printed = printed }
 
 -- the same of texts that are these
-pub texts_print : (told : Option Contents) (words : List (List ℕ)) (before after : Option (List ℕ)) (gds lib net lib' net' : List ℕ) (verdict : Verdict) (result : Result (Unit {0}) Fault) →
-    ToldTexts told words gds lib net → lib' ≡ lib → net' ≡ net → HasVerdict gds lib' net' verdict → IfErr result IsOutOrMemory →
-    OnOk result (after ≡ gained before (verdict_text verdict)) → OnErr result (GainsPrefix before after (verdict_text verdict)) → EqualPrints told words before after (result_err result)
-texts_print told words before after gds lib net lib' net' verdict result held l t found only added prefix =
+pub texts_print : (told : Option Contents) (words : List (List ℕ)) (before after : Output) (gds lib net lib' net' : List ℕ) (verdict : Verdict) (result : Result (Unit {0}) Fault) →
+    ToldTexts told words gds lib net → lib' ≡ lib → net' ≡ net → HasVerdict gds lib' net' verdict →
+    PrintsText (verdict_text verdict) before after result → EqualPrints told words before after (result_err result)
+texts_print told words before after gds lib net lib' net' verdict result held l t found prints =
     out_equal_prints told words before after gds lib net verdict result held
-    (subst (λ x. HasVerdict gds x net verdict) l (subst (λ x. HasVerdict gds lib' x verdict) t found)) only added prefix
+    (subst (λ x. HasVerdict gds x net verdict) l (subst (λ x. HasVerdict gds lib' x verdict) t found)) prints
 
-pub ruleset ends = (loads_answer, loads_equal, loads_count, loads_equal_print, wrong_is_equal, wrong_counts, wrong_failed, wrong_prints, told_wrong, out_is_equal, out_equal_prints, print_counts, print_failed)
+pub ruleset ends = (loads_answer, loads_equal, loads_fail, loads_equal_print, wrong_is_equal, wrong_fails, wrong_prints, told_wrong)

@@ -5,6 +5,8 @@ use Rattle.std.specs.Result.{result_err}
 use Rattle.aq_base.specs.declared.store.StoreRefusal.TheVariants as store
 use Rattle.aq_base.specs.declared.store.StoreRefusal.{StoreRefusal}
 use Rattle.aq_base.specs.Heard.{Event, Loaded, Created, NotCreated, NotAppended, NotClosed, took}
+use Rattle.aq_base.specs.Outside.{Outside}
+use Rattle.aq_base.specs.Output.{Output}
 use Rattle.gds_records.specs.Writing.{bytes_of}
 use Rattle.aqfp_top.specs.Words.{word_at, IsMakeBy, IsVerify, IsTrace, IsEqual, IsWrite, IsReport, IsShapesOf, IsSampleOf, HasForm}
 use Rattle.aqfp_top.specs.Loads.{Load, net_limit, lib_limit, gds_limit, words_limit}
@@ -17,6 +19,8 @@ use Rattle.aqfp_top.specs.HeardDue.{TakesFirst, StoresOut, LeavesOut, CutsOut, E
 use Rattle.aqfp_top.specs.HeardDue.{DueOfOne, DueOfTwo, ReadsTwo, DueOfReading, DueByForm, HearsDue}
 use Rattle.aqfp_top.specs.Code.Hearing.{IsLeft, HeardStored, ReadsDue}
 use Rattle.aqfp_top.specs.Code.Building.{IsMakeFault, IsStoreFault, IsOutOrMemory}
+use Rattle.aqfp_top.specs.Code.Printing.{PrintsText}
+use Rattle.aqfp_top.specs.Code.Storing.{Stores}
 use Rattle.aqfp_top.specs.Code.Writing.{IsReadingFault}
 use Rattle.aqfp_top.specs.Code.Designing.{MakesChip}
 use Rattle.aqfp_top.specs.declared.planner.Planner.{Planner}
@@ -25,8 +29,8 @@ use Rattle.aqfp_top.specs.declared.words.Form.TheVariants.{Make, Verify, Trace, 
 use Rattle.aqfp_top.specs.declared.fault.Fault.{Fault}
 use Rattle.aqfp_top.specs.declared.fault.Fault.TheVariants.{Usage, Memory}
 use Rattle.aqfp_top.proofs.Forms.{one_form}
-use Rattle.aqfp_top.proofs.Hearing.{heard_built}
-use Rattle.aqfp_top.proofs.HearingNetlists.{heard_written}
+use Rattle.aqfp_top.proofs.OutEnds.{text_only}
+use Rattle.aqfp_top.proofs.Storing.{stores_heard, stores_refused, stores_only}
 use Rattle.aqfp_top.proofs.Staging.{load_at}
 use Rattle.aqfp_top.proofs.EachFault.{each_circuit, each_made, each_reading, each_store, each_out}
 
@@ -353,34 +357,41 @@ stored_after IsDue now heard' words name bytes fault only due same =
     (memory_ends IsDue now heard' words name bytes due same) fault only
 
 pub store_ends : (loads : List Load) (limit : ℕ) (stages : List ℕ → List ℕ → List Stage)
-    (IsDue : List ℕ → List ℕ → List ℕ → Type 0) (heard now heard' : List Event) (words : List (List ℕ))
-    (name bytes : List ℕ) (fault : Fault) → ReadsDue limit stages IsDue heard now words bytes
-    → IsStoreFault fault → name ≡ word_at words 3 → HeardStored now heard' name bytes fault
-    → DueOfTwo loads limit stages IsDue heard heard' words (Some fault)
-store_ends loads limit stages IsDue heard now heard' words name bytes fault reads only same after =
-    read_then loads limit stages IsDue heard now heard' words bytes (Some fault) reads
+    (IsDue : List ℕ → List ℕ → List ℕ → Type 0) (heard : List Event) (now o' : Outside) (words : List (List ℕ))
+    (name bytes : List ℕ) (fault : Fault) → ReadsDue limit stages IsDue heard now.heard words bytes
+    → name ≡ word_at words 3 → Stores name bytes now o' (Err fault)
+    → DueOfTwo loads limit stages IsDue heard o'.heard words (Some fault)
+store_ends loads limit stages IsDue heard now o' words name bytes fault reads same stores =
+    let only : IsStoreFault fault = stores_only name bytes now o' (Err fault) stores in
+    read_then loads limit stages IsDue heard now.heard o'.heard words bytes (Some fault) reads
     (each_store (λ f. Answers (stages reads.first reads.lib) (Some f)) reads.answers reads.answers reads.answers tt
     fault only)
-    (stored_after (IsDue reads.first reads.lib) now heard' words name bytes fault only reads.due same after)
+    (stored_after (IsDue reads.first reads.lib) now.heard o'.heard words name bytes fault only reads.due same
+    (stores_refused name bytes now o' (Err fault) stores))
 
 -- it was stored, and the counts were printed or not
 pub counts_end : (loads : List Load) (limit : ℕ) (stages : List ℕ → List ℕ → List Stage)
-    (IsDue : List ℕ → List ℕ → List ℕ → Type 0) (heard now heard' : List Event) (words : List (List ℕ))
-    (name bytes : List ℕ) (result : Result (Unit {0}) Fault) → ReadsDue limit stages IsDue heard now words bytes
-    → name ≡ word_at words 3 → heard' ≡ stored now name bytes → IfErr result IsOutOrMemory
-    → DueOfTwo loads limit stages IsDue heard heard' words (result_err result)
-counts_end loads limit stages IsDue heard now heard' words name bytes result reads same is only =
+    (IsDue : List ℕ → List ℕ → List ℕ → Type 0) (heard : List Event) (now o' : Outside) (words : List (List ℕ))
+    (name bytes text : List ℕ) (shown shown' : Output) (done : Unit {0}) (result : Result (Unit {0}) Fault)
+    → ReadsDue limit stages IsDue heard now.heard words bytes → name ≡ word_at words 3
+    → Stores name bytes now o' (Ok done) → PrintsText text shown shown' result
+    → DueOfTwo loads limit stages IsDue heard o'.heard words (result_err result)
+counts_end loads limit stages IsDue heard now o' words name bytes text shown shown' done result reads same stores prints =
     let bytes_due : List ℕ → Type 0 = IsDue reads.first reads.lib in
-    let out : StoresOut bytes_due now heard' words =
-    record { bytes = bytes; due = reads.due; heard_is = is ∙ ap (λ n. stored now n bytes) same } in
-    read_then loads limit stages IsDue heard now heard' words bytes (result_err result) reads
+    let only : IfErr result IsOutOrMemory = text_only text shown shown' result prints in
+    let out : StoresOut bytes_due now.heard o'.heard words = record {
+      bytes = bytes;
+      due = reads.due;
+      heard_is = stores_heard name bytes now o' (Ok done) stores ∙ ap (λ n. stored now.heard n bytes) same;
+    } in
+    read_then loads limit stages IsDue heard now.heard o'.heard words bytes (result_err result) reads
     (out_answers (stages reads.first reads.lib) result reads.answers only)
-    (each_out (λ r. HeardAfter bytes_due now heard' words (result_err r)) out out
+    (each_out (λ r. HeardAfter bytes_due now.heard o'.heard words (result_err r)) out out
     (inr (inr (inr (inr (inr out))))) result only)
 
-pub ruleset build_dues = (heard_built, design_ends, store_ends, counts_end)
+pub ruleset build_dues = (design_ends, store_ends)
 
-pub ruleset write_dues = (heard_written, circuit_ends, store_ends, counts_end)
+pub ruleset write_dues = (circuit_ends, store_ends)
 
 -- Each command.
 

@@ -1,28 +1,25 @@
 -- How text that waits on a page goes on.
-use Rattle.std.proofs.Common.{ℕ, suc, ◌≡◌, ◌<◌, ◌+◌, List, [], ◌∷◌, ◌++◌, length, get_or, take, drop, Option, Some, None, refl, sym, ap, ◌∙◌, append_assoc, append-nil}
+use Rattle.std.proofs.Common.{ℕ, suc, ◌≡◌, ◌<◌, ◌+◌, List, [], ◌∷◌, ◌++◌, length, get_or, take, drop, refl, sym, ap, ◌∙◌, append_assoc, append-nil}
 use Rattle.std.specs.List.{flat_map}
 use Rattle.std.proofs.lemmas.Fmt.{decimal_digit, decimal_step}
 use Rattle.std.proofs.lemmas.List.{take-append-drop, take_more}
 use Rattle.std.proofs.lemmas.List.Concat.{flat_map-append}
 use Rattle.std.proofs.Math.Seq.{drop-cons}
-use Rattle.aq_base.specs.Store.{gained, GainsPrefix}
-use Rattle.aq_base.proofs.Gains.{gained-append, prefix_of_first, prefix_of_second}
+use Rattle.aq_base.specs.declared.store.StoreRefusal.{StoreRefusal}
+use Rattle.aq_base.specs.Output.{Output, printed, PrintsPart}
+use Rattle.aq_base.proofs.Printed.{printed_nothing, printed_twice, part_of_first, part_of_second}
 use Rattle.aqfp_top.specs.Code.Pages.{Pends}
 
-pub gained-nothing : (old : Option (List ℕ)) → old ≡ gained old []
-gained-nothing None = refl
-gained-nothing (Some bytes) = ap (λ b. Some b) (sym (append-nil bytes))
-
 -- nothing was put
-pub pends_all : (old : Option (List ℕ)) (page : List ℕ) → Pends old old page page
-pends_all old page = record { put = []; gain = gained-nothing old; whole = refl }
+pub pends_all : (old : Output) (page : List ℕ) → Pends old old page page
+pends_all old page = record { put = []; gain = printed_nothing old; whole = refl }
 
 -- the page was put
-pub pends_none : (old new : Option (List ℕ)) (page : List ℕ) → new ≡ gained old page → Pends old new [] page
+pub pends_none : (old new : Output) (page : List ℕ) → new ≡ printed page old → Pends old new [] page
 pends_none old new page h = record { put = page; gain = h; whole = sym (append-nil page) }
 
 -- more text on the page
-pub pends_longer : {old new : Option (List ℕ)} {page text : List ℕ} (more : List ℕ) → Pends old new page text
+pub pends_longer : {old new : Output} {page text : List ℕ} (more : List ℕ) → Pends old new page text
     → Pends old new (page ++ more) (text ++ more)
 pends_longer {page = page} {text = text} more p = record {
   put = p.put;
@@ -31,31 +28,31 @@ pends_longer {page = page} {text = text} more p = record {
 }
 
 -- more text, of which some may have been put
-pub pends_more : {old middle new : Option (List ℕ)} {page page' text : List ℕ} (more : List ℕ)
+pub pends_more : {old middle new : Output} {page page' text : List ℕ} (more : List ℕ)
     → Pends old middle page text → Pends middle new page' (page ++ more) → Pends old new page' (text ++ more)
 pends_more {old} {middle} {new} {page} {page'} {text} more p q = record {
   put = p.put ++ q.put;
-  gain = q.gain ∙ (ap (λ m. gained m q.put) p.gain ∙ gained-append old p.put q.put);
+  gain = q.gain ∙ (ap (printed q.put) p.gain ∙ printed_twice old p.put q.put);
   whole = ap (λ t. t ++ more) p.whole ∙ (append_assoc p.put page more
       ∙ (ap (λ t. p.put ++ t) q.whole ∙ sym (append_assoc p.put q.put page')));
 }
 
 -- more text, some first bytes of which were put
-pub prefix_of_more : {old middle new : Option (List ℕ)} {page text : List ℕ} (more : List ℕ)
-    → Pends old middle page text → GainsPrefix middle new (page ++ more) → GainsPrefix old new (text ++ more)
-prefix_of_more {page = page} more p q = rw (p.whole, append_assoc p.put page more) (prefix_of_second p.put p.gain q)
+pub part_of_more : {old middle new : Output} {page text : List ℕ} {why : StoreRefusal} (more : List ℕ)
+    → Pends old middle page text → PrintsPart middle new (page ++ more) why → PrintsPart old new (text ++ more) why
+part_of_more {page = page} more p q = rw (p.whole, append_assoc p.put page more) (part_of_second p.put p.gain q)
 
 -- what waited was put
-pub all_put : {old middle new : Option (List ℕ)} {page text : List ℕ} → Pends old middle page text → new ≡ gained middle page
-    → new ≡ gained old text
-all_put {old} {page = page} p h = rw (h, p.gain, gained-append, ← p.whole) refl
+pub all_put : {old middle new : Output} {page text : List ℕ} → Pends old middle page text → new ≡ printed page middle
+    → new ≡ printed text old
+all_put {old} {page = page} p h = h ∙ (ap (printed page) p.gain ∙ (printed_twice old p.put page ∙ ap (λ t. printed t old) (sym p.whole)))
 
 -- some first bytes of what waited were put
-pub prefix_of_all : {old middle new : Option (List ℕ)} {page text : List ℕ} → Pends old middle page text
-    → GainsPrefix middle new page → GainsPrefix old new text
-prefix_of_all {page = page} p q = rw p.whole (prefix_of_second p.put p.gain q)
+pub part_of_all : {old middle new : Output} {page text : List ℕ} {why : StoreRefusal} → Pends old middle page text
+    → PrintsPart middle new page why → PrintsPart old new text why
+part_of_all {page = page} p q = rw p.whole (part_of_second p.put p.gain q)
 
-module _ {old middle new : Option (List ℕ)} {page : List ℕ} (before text : List ℕ) (i x : ℕ) (within : i < length text)
+module _ {old middle new : Output} {page : List ℕ} (before text : List ℕ) (i x : ℕ) (within : i < length text)
     (at : x ≡ get_or text i x) (pends : Pends old middle page (before ++ take i text)) where
   -- one byte more of a text
   pub pends_byte : {page' : List ℕ} → Pends middle new page' (page ++ x ∷ [])
@@ -67,17 +64,17 @@ module _ {old middle new : Option (List ℕ)} {page : List ℕ} (before text : L
       rw (taken, ← append_assoc before (take i text) (x ∷ [])) (pends_more (x ∷ []) pends q)
 
   -- and some first bytes of it
-  pub prefix_byte : GainsPrefix middle new (page ++ x ∷ []) → GainsPrefix old new (before ++ text)
-  prefix_byte q =
+  pub part_byte : {why : StoreRefusal} → PrintsPart middle new (page ++ x ∷ []) why → PrintsPart old new (before ++ text) why
+  part_byte q =
       let whole : text ≡ (take i text ++ x ∷ []) ++ drop (suc i) text =
       sym (take-append-drop i text) ∙ (ap (λ d. take i text ++ d) (drop-cons text i x within)
       ∙ (ap (λ y. take i text ++ y ∷ drop (suc i) text) (sym at)
       ∙ sym (append_assoc (take i text) (x ∷ []) (drop (suc i) text))))
       in
-      let more = prefix_of_first (drop (suc i) text) (prefix_of_more (x ∷ []) pends q) in
+      let more = part_of_first (drop (suc i) text) (part_of_more (x ∷ []) pends q) in
       rw (whole, ← append_assoc before (take i text ++ x ∷ []) (drop (suc i) text), ← append_assoc before (take i text) (x ∷ [])) more
 
-module _ {X : Type 0} {old middle new : Option (List ℕ)} {page : List ℕ} (before : List ℕ) (f : X → List ℕ) (xs : List X)
+module _ {X : Type 0} {old middle new : Output} {page : List ℕ} (before : List ℕ) (f : X → List ℕ) (xs : List X)
     (i : ℕ) (x : X) (within : i < length xs) (at : x ≡ get_or xs i x)
     (pends : Pends old middle page (before ++ flat_map f (take i xs))) where
   -- the text of one item more
@@ -93,8 +90,8 @@ module _ {X : Type 0} {old middle new : Option (List ℕ)} {page : List ℕ} (be
       rw (taken, ← append_assoc before (flat_map f (take i xs)) (f x)) (pends_more (f x) pends q)
 
   -- and some first bytes of it
-  pub prefix_item : GainsPrefix middle new (page ++ f x) → GainsPrefix old new (before ++ flat_map f xs)
-  prefix_item q =
+  pub part_item : {why : StoreRefusal} → PrintsPart middle new (page ++ f x) why → PrintsPart old new (before ++ flat_map f xs) why
+  part_item q =
       let rest = flat_map f (drop (suc i) xs) in
       let whole : flat_map f xs ≡ (flat_map f (take i xs) ++ f x) ++ rest =
       ap (flat_map f) (sym (take-append-drop i xs))
@@ -103,40 +100,40 @@ module _ {X : Type 0} {old middle new : Option (List ℕ)} {page : List ℕ} (be
       ∙ (ap (λ y. flat_map f (take i xs) ++ (f y ++ rest)) (sym at)
       ∙ sym (append_assoc (flat_map f (take i xs)) (f x) rest))))
       in
-      let more = prefix_of_first rest (prefix_of_more (f x) pends q) in
+      let more = part_of_first rest (part_of_more (f x) pends q) in
       rw (whole, ← append_assoc before (flat_map f (take i xs) ++ f x) rest, ← append_assoc before (flat_map f (take i xs)) (f x)) more
 
 -- two texts one after the other
-pub pends_two : {old middle new : Option (List ℕ)} {page page' : List ℕ} (base first second : List ℕ)
+pub pends_two : {old middle new : Output} {page page' : List ℕ} (base first second : List ℕ)
     → Pends old middle page (base ++ first) → Pends middle new page' (page ++ second)
     → Pends old new page' (base ++ (first ++ second))
 pends_two base first second p q = rw (← append_assoc base first second) (pends_more second p q)
 
-pub prefix_of_two : {old middle new : Option (List ℕ)} {page : List ℕ} (base first second : List ℕ)
-    → Pends old middle page (base ++ first) → GainsPrefix middle new (page ++ second)
-    → GainsPrefix old new (base ++ (first ++ second))
-prefix_of_two base first second p q = rw (← append_assoc base first second) (prefix_of_more second p q)
+pub part_of_two : {old middle new : Output} {page : List ℕ} {why : StoreRefusal} (base first second : List ℕ)
+    → Pends old middle page (base ++ first) → PrintsPart middle new (page ++ second) why
+    → PrintsPart old new (base ++ (first ++ second)) why
+part_of_two base first second p q = rw (← append_assoc base first second) (part_of_more second p q)
 
 -- the first of two failed
-pub prefix_of_one : {old new : Option (List ℕ)} (base first second : List ℕ) → GainsPrefix old new (base ++ first)
-    → GainsPrefix old new (base ++ (first ++ second))
-prefix_of_one base first second p = rw (← append_assoc base first second) (prefix_of_first second p)
+pub part_of_one : {old new : Output} {why : StoreRefusal} (base first second : List ℕ) → PrintsPart old new (base ++ first) why
+    → PrintsPart old new (base ++ (first ++ second)) why
+part_of_one base first second p = rw (← append_assoc base first second) (part_of_first second p)
 
 -- a byte, and then a text
-pub pends_after_byte : {old middle new : Option (List ℕ)} {page page' : List ℕ} (base : List ℕ) (c : ℕ) (second : List ℕ)
+pub pends_after_byte : {old middle new : Output} {page page' : List ℕ} (base : List ℕ) (c : ℕ) (second : List ℕ)
     → Pends old middle page (base ++ c ∷ []) → Pends middle new page' (page ++ second)
     → Pends old new page' (base ++ c ∷ second)
 pends_after_byte base c second p q = pends_two base (c ∷ []) second p q
 
-pub prefix_after_byte : {old middle new : Option (List ℕ)} {page : List ℕ} (base : List ℕ) (c : ℕ) (second : List ℕ)
-    → Pends old middle page (base ++ c ∷ []) → GainsPrefix middle new (page ++ second)
-    → GainsPrefix old new (base ++ c ∷ second)
-prefix_after_byte base c second p q = prefix_of_two base (c ∷ []) second p q
+pub part_after_byte : {old middle new : Output} {page : List ℕ} {why : StoreRefusal} (base : List ℕ) (c : ℕ) (second : List ℕ)
+    → Pends old middle page (base ++ c ∷ []) → PrintsPart middle new (page ++ second) why
+    → PrintsPart old new (base ++ c ∷ second) why
+part_after_byte base c second p q = part_of_two base (c ∷ []) second p q
 
-pub prefix_of_byte : {old new : Option (List ℕ)} (base : List ℕ) (c : ℕ) (second : List ℕ)
-    → GainsPrefix old new (base ++ c ∷ []) → GainsPrefix old new (base ++ c ∷ second)
-prefix_of_byte base c second p = prefix_of_one base (c ∷ []) second p
+pub part_of_byte : {old new : Output} {why : StoreRefusal} (base : List ℕ) (c : ℕ) (second : List ℕ)
+    → PrintsPart old new (base ++ c ∷ []) why → PrintsPart old new (base ++ c ∷ second) why
+part_of_byte base c second p = part_of_one base (c ∷ []) second p
 
-pub ruleset numbers = (decimal_digit, decimal_step, pends_two, prefix_of_two, prefix_of_one, pends_after_byte, prefix_after_byte, prefix_of_byte)
+pub ruleset numbers = (decimal_digit, decimal_step, pends_two, part_of_two, part_of_one, pends_after_byte, part_after_byte, part_of_byte)
 
-pub ruleset pending = (pends_all, pends_none, pends_longer, pends_more, prefix_of_more, prefix_of_first, all_put, prefix_of_all)
+pub ruleset pending = (pends_all, pends_none, pends_longer, pends_more, part_of_more, part_of_first, all_put, part_of_all)

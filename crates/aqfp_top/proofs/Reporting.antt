@@ -2,8 +2,8 @@
 use Rattle.std.proofs.Common.{ℕ, ◌≡◌, ◌≤◌, ◌<◌, ◌^◌, List, length, Option, Some, None, Result, Ok, Err, IfErr, OnOk}
 use Rattle.std.proofs.Common.{refl, ap, subst}
 use Rattle.std.specs.Result.{result_err}
-use Rattle.aq_base.specs.Causes.{Rose}
 use Rattle.aq_base.specs.Heard.{Event}
+use Rattle.aq_base.specs.Output.{Output}
 use Rattle.aq_base.specs.Store.{Contents}
 use Rattle.geom.specs.declared.shapes.Flat.{Flat}
 use Rattle.geom.specs.FlatForm.{flat_count}
@@ -18,7 +18,6 @@ use Rattle.chip_circuit.specs.Circuits.{CircuitView}
 use Rattle.shape_extract.specs.Extraction.{IsCircuitOf}
 use Rattle.shape_extract.specs.Extracts.{Extracts}
 use Rattle.layout_report.specs.ReportText.{report_text}
-use Rattle.aqfp_top.specs.Counted.{Counts, HasFaults, FailedLoad}
 use Rattle.aqfp_top.specs.Loads.{gds_limit, lib_limit, write_loads}
 use Rattle.aqfp_top.specs.Stages.{IsFirst, Answers}
 use Rattle.aqfp_top.specs.Due.{circuit_stages, write_stages}
@@ -29,14 +28,13 @@ use Rattle.aqfp_top.specs.Reported.{IsReport, IsReportOf, HearsReport}
 use Rattle.aqfp_top.specs.Writing.{ToldTexts}
 use Rattle.aqfp_top.specs.Code.Loading.{IsFaultOfLoads}
 use Rattle.aqfp_top.specs.Code.Staging.{ToldAnswers}
-use Rattle.aqfp_top.specs.Code.Building.{IsOutOrMemory, IsReadOf}
+use Rattle.aqfp_top.specs.Code.Printing.{PrintsText, OutFails}
 use Rattle.aqfp_top.specs.Code.Checking.{IsRuled, IsCircuitFault}
 use Rattle.aqfp_top.specs.Code.Reporting.{IsJudged, IsLayoutFault, IsPrintingFault}
 use Rattle.aqfp_top.specs.declared.chip_report.JudgedChip.{JudgedChip}
-use Rattle.aqfp_top.specs.declared.fault.WriteCall.TheVariants.{Out}
 use Rattle.aqfp_top.specs.declared.fault.Fault.{Fault}
-use Rattle.aqfp_top.specs.declared.fault.Fault.TheVariants.{WriteFault}
-use Rattle.aqfp_top.proofs.EachFault.{each_of_loads, each_circuit, each_layout, each_printing, each_out}
+use Rattle.aqfp_top.proofs.EachFault.{each_of_loads, each_circuit, each_layout, each_printing}
+use Rattle.aqfp_top.proofs.OutEnds.{each_text, text_fails}
 use Rattle.aqfp_top.proofs.Judging.{IsRead, circuit_is_well}
 use Rattle.aqfp_top.proofs.Printing.{prints_more, loads_print}
 use Rattle.aqfp_top.proofs.WriteSteps.{told_answer}
@@ -94,30 +92,33 @@ pub circuit_printing : (fault : Fault) → IsCircuitFault fault → IsPrintingFa
 circuit_printing fault wrong =
     each_circuit IsPrintingFault (λ o k. tt) (λ n. tt) (λ f. tt) (λ k. tt) (λ r a b. tt) tt fault wrong
 
-pub out_printing : (result : Result (Unit {0}) Fault) → IfErr result IsOutOrMemory → IfErr result IsPrintingFault
-out_printing result only = each_out (λ r. IfErr r IsPrintingFault) tt tt tt result only
+pub out_printing : (text : List ℕ) (shown shown' : Output) (result : Result (Unit {0}) Fault)
+    → PrintsText text shown shown' result → IfErr result IsPrintingFault
+out_printing text shown shown' result prints =
+    each_text (λ r. IfErr r IsPrintingFault) text shown shown' (λ p. tt) (λ p. tt) (λ p. tt) result prints
 
-pub no_out : (Risen : Type 0) (fault : Fault) → IsCircuitFault fault → fault ≡ WriteFault Out → Risen
-no_out Risen fault wrong =
-    each_circuit (λ f. f ≡ WriteFault Out → Risen) (λ o k e. cc) (λ n e. cc) (λ f e. cc) (λ k e. cc) (λ r a b e. cc)
-    (λ e. cc) fault wrong
+pub layout_fails : (shown shown' : List Event) (fault : Fault) → IsLayoutFault fault → OutFails shown shown' (Some fault)
+layout_fails shown shown' fault wrong = each_layout (λ f. OutFails shown shown' (Some f)) (λ o k. tt) (λ n. tt) tt fault wrong
 
-pub ruleset prints = (layout_printing, circuit_printing, out_printing)
+pub circuit_fails : (shown shown' : List Event) (fault : Fault) → IsCircuitFault fault → OutFails shown shown' (Some fault)
+circuit_fails shown shown' fault wrong =
+    each_circuit (λ f. OutFails shown shown' (Some f)) (λ o k. tt) (λ n. tt) (λ f. tt) (λ k. tt) (λ r a b. tt) tt fault wrong
+
+pub ruleset prints = (layout_printing, circuit_printing, out_printing, layout_fails, text_fails)
 
 -- The whole report.
 
 pub loads_report : (fault : Fault) → IsFaultOfLoads write_loads fault → IsReportFault fault
 loads_report fault only = each_of_loads IsReportFault write_loads (λ p l. l) (λ p t l. l) (λ p l. l) tt fault only
 
-pub loads_report_print : (told : Option Contents) (words : List (List ℕ)) (held : Option (List ℕ)) (fault : Fault)
+pub loads_report_print : (told : Option Contents) (words : List (List ℕ)) (held : Output) (fault : Fault)
     → IsFaultOfLoads write_loads fault → TextPrints (IsReportOf told words) held held (Some fault)
 loads_report_print told words held fault only = loads_print (IsReportOf told words) write_loads held fault only
 
-pub loads_report_count : (before after : Counts) (fault : Fault) → IsFaultOfLoads write_loads fault
-    → IsReadOf (Rose before.reads after.reads) fault → HasFaults before after (Some fault)
-loads_report_count before after fault only =
-    each_of_loads (λ f. IsReadOf (Rose before.reads after.reads) f → HasFaults before after (Some f)) write_loads
-    (λ p l r. tt) (λ p t l r. tt) (λ p l r. r) (λ r. tt) fault only
+pub loads_report_fail : (shown shown' : List Event) (fault : Fault) → IsFaultOfLoads write_loads fault
+    → OutFails shown shown' (Some fault)
+loads_report_fail shown shown' fault only =
+    each_of_loads (λ f. OutFails shown shown' (Some f)) write_loads (λ p l. tt) (λ p t l. tt) (λ p l. tt) tt fault only
 
 pub report_only : (result : Result (Unit {0}) Fault) → IfErr result IsPrintingFault → IfErr result IsReportFault
 report_only (Ok x) only = tt
@@ -125,25 +126,8 @@ report_only (Err fault) only =
     each_printing IsReportFault refl
     (each_circuit IsReportFault (λ o k. tt) (λ n. tt) (λ f. tt) (λ k. tt) (λ r a b. tt) tt) fault only
 
-pub report_counts : (before after : Counts) (result : Result (Unit {0}) Fault) → IfErr result IsPrintingFault
-    → (result ≡ Err (WriteFault Out) → Rose before.outs after.outs) → HasFaults before after (result_err result)
-report_counts before after (Ok x) only = λ cause. tt
-report_counts before after (Err fault) only =
-    each_printing (λ f. (◌≡◌ {A = Result (Unit {0}) Fault} (Err f) (Err (WriteFault Out)) → Rose before.outs after.outs)
-    → HasFaults before after (Some f)) (λ cause. cause refl)
-    (λ f wrong cause. each_circuit (λ f. HasFaults before after (Some f)) (λ o k. tt) (λ n. tt) (λ f. tt) (λ k. tt)
-    (λ r a b. tt) tt f wrong) fault only
-
-pub report_failed : (name : Option (List ℕ)) (words : List (List ℕ)) (result : Result (Unit {0}) Fault)
-    → IfErr result IsPrintingFault → FailedLoad name words (result_err result)
-report_failed name words (Ok x) only = tt
-report_failed name words (Err fault) only =
-    each_printing (λ f. FailedLoad name words (Some f)) tt
-    (each_circuit (λ f. FailedLoad name words (Some f)) (λ o k. tt) (λ n. tt) (λ f. tt) (λ k. tt) (λ r a b. tt) tt)
-    fault only
-
 -- the report of the texts of the files
-pub texts_report : (told : Option Contents) (words : List (List ℕ)) (gds lib lib' : List ℕ) (before after : Option (List ℕ))
+pub texts_report : (told : Option Contents) (words : List (List ℕ)) (gds lib lib' : List ℕ) (before after : Output)
     (fault : Option Fault) → ToldTexts told words gds lib → lib' ≡ lib → TextPrints (IsReport gds lib') before after fault
     → TextPrints (IsReportOf told words) before after fault
 texts_report told words gds lib lib' before after fault held same prints =
@@ -152,7 +136,7 @@ texts_report told words gds lib lib' before after fault held same prints =
     record { gds = gds; lib = lib; held = held; report = subst (λ l. IsReport gds l text) same report }) prints
 
 pub heard_report : (heard heard' : List Event) (words : List (List ℕ)) (gds lib lib' : List ℕ)
-    (before after : Option (List ℕ)) (result : Result (Unit {0}) Fault) → heard' ≡ loaded heard words gds lib → lib' ≡ lib
+    (before after : Output) (result : Result (Unit {0}) Fault) → heard' ≡ loaded heard words gds lib → lib' ≡ lib
     → TextPrints (IsReport gds lib') before after (result_err result)
     → OnOk result (HearsReport heard heard' words before after)
 heard_report heard heard' words gds lib lib' before after (Ok x) is same prints = record {
@@ -172,4 +156,4 @@ pub told_report : (told : Option Contents) (words : List (List ℕ)) (gds lib li
 told_report told words gds lib lib' result held a b same answers =
     told_answer told words gds lib lib' (result_err result) held a b same answers
 
-pub ruleset ends = (loads_report, loads_report_print, loads_report_count)
+pub ruleset ends = (loads_report, loads_report_print, loads_report_fail)

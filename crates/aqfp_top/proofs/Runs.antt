@@ -1,6 +1,8 @@
 -- From the clauses of each command to those of a run.
 use Rattle.std.proofs.Common.{ℕ, ◌≡◌, ◌<◌, ◌≤◌, List, length, arith, Option, Some, None, Result, Ok, Err, IfOk, IfErr, OnOk, inl, inr, refl, subst}
+use Rattle.aq_base.specs.Output.{Output}
 use Rattle.aq_base.specs.Store.{Contents}
+use Rattle.aq_base.specs.Outside.{Outside}
 use Rattle.aqfp_top.specs.Words.{IsMake, IsMakeBy, IsVerify, IsTrace, IsEqual, IsWrite, IsReport, IsShapesOf, IsShapes, IsCheck, IsSampleOf, HasForm}
 use Rattle.aqfp_top.specs.Loads.{build_loads, check_loads, write_loads, shapes_loads, IsLoaded, IsPast}
 use Rattle.aqfp_top.specs.Stages.{Answers as StagesAnswer}
@@ -17,12 +19,13 @@ use Rattle.aqfp_top.specs.Printed.{TextPrints}
 use Rattle.aqfp_top.specs.Reported.{IsReportOf}
 use Rattle.aqfp_top.specs.Shown.{IsShownOf}
 use Rattle.aqfp_top.specs.Code.Staging.{ToldAnswers, ToldMayAnswer}
+use Rattle.aqfp_top.specs.Code.Standing.{standing}
 use Rattle.aqfp_top.specs.declared.planner.Planner.{Planner}
 use Rattle.aqfp_top.specs.declared.words.Form.TheVariants.{Make, Verify, Trace, Equal, Write, Report, Shapes, Sample, Wrong}
 use Rattle.aqfp_top.specs.declared.check.Printing.TheVariants.{Answers, Fluxes}
 use Rattle.aqfp_top.specs.declared.fault.Fault.{Fault}
 use Rattle.aqfp_top.specs.declared.fault.Fault.TheVariants.{Usage, Absent, TooLong, ReadFault}
-use Rattle.aqfp_top.proofs.Sampling.{sample_failed}
+use Rattle.aqfp_top.proofs.Standing.{stands_told, stands_shut}
 use Rattle.aqfp_top.proofs.Forms.{is_make, one_planner, four_words, make_not_sample, make_not_check, make_not_verify, make_not_trace}
 use Rattle.aqfp_top.proofs.Forms.{make_not_equal, make_not_write, verify_not_sample, trace_not_sample, check_not_sample}
 use Rattle.aqfp_top.proofs.Forms.{verify_not_trace, verify_not_equal, trace_not_equal, check_not_equal, equal_not_sample}
@@ -85,32 +88,32 @@ build_leaves planner before after words fault form stands = record {
   otherwise = λ none other. absurd (none (is_make planner words form));
 }
 
-pub verify_leaves : (before after : Option Contents) (words : List (List ℕ)) (fault : Option Fault) → IsVerify words → after ≡ before → RunStands before after words fault
-verify_leaves before after words fault form same = record { make = λ p b. absurd (make_not_verify words (is_make p words b) form); write = λ w. absurd (verify_not_write words form w); otherwise = λ none other. same }
+pub verify_leaves : (o o' : Outside) (words : List (List ℕ)) (fault : Option Fault) → IsVerify words → standing o' ≡ standing o → RunStands o.told o'.told words fault
+verify_leaves o o' words fault form kept = record { make = λ p b. absurd (make_not_verify words (is_make p words b) form); write = λ w. absurd (verify_not_write words form w); otherwise = λ none other. stands_told o o' kept }
 
-pub trace_leaves : (before after : Option Contents) (words : List (List ℕ)) (fault : Option Fault) → IsTrace words → after ≡ before → RunStands before after words fault
-trace_leaves before after words fault form same = record { make = λ p b. absurd (make_not_trace words (is_make p words b) form); write = λ w. absurd (trace_not_write words form w); otherwise = λ none other. same }
+pub trace_leaves : (o o' : Outside) (words : List (List ℕ)) (fault : Option Fault) → IsTrace words → standing o' ≡ standing o → RunStands o.told o'.told words fault
+trace_leaves o o' words fault form kept = record { make = λ p b. absurd (make_not_trace words (is_make p words b) form); write = λ w. absurd (trace_not_write words form w); otherwise = λ none other. stands_told o o' kept }
 
-pub equal_leaves : (before after : Option Contents) (words : List (List ℕ)) (fault : Option Fault) → IsEqual words → after ≡ before → RunStands before after words fault
-equal_leaves before after words fault form same = record { make = λ p b. absurd (make_not_equal words (is_make p words b) form); write = λ w. absurd (equal_not_write words form w); otherwise = λ none other. same }
+pub equal_leaves : (o o' : Outside) (words : List (List ℕ)) (fault : Option Fault) → IsEqual words → standing o' ≡ standing o → RunStands o.told o'.told words fault
+equal_leaves o o' words fault form kept = record { make = λ p b. absurd (make_not_equal words (is_make p words b) form); write = λ w. absurd (equal_not_write words form w); otherwise = λ none other. stands_told o o' kept }
 
 pub write_leaves : (before after : Option Contents) (words : List (List ℕ)) (fault : Option Fault) → IsWrite words → WriteStands before after words fault → RunStands before after words fault
 write_leaves before after words fault form stands = record { make = λ p b. absurd (make_not_write words (is_make p words b) form); write = λ w. stands; otherwise = λ none other. absurd (other form) }
 
-pub report_leaves : (before after : Option Contents) (words : List (List ℕ)) (fault : Option Fault) → IsReport words
-    → after ≡ before → RunStands before after words fault
-report_leaves before after words fault form same = record {
+pub report_leaves : (o o' : Outside) (words : List (List ℕ)) (fault : Option Fault) → IsReport words
+    → standing o' ≡ standing o → RunStands o.told o'.told words fault
+report_leaves o o' words fault form kept = record {
   make = λ p b. absurd (make_not_report words (is_make p words b) form);
   write = λ w. absurd (four_not_report words w.0 form);
-  otherwise = λ none other. same;
+  otherwise = λ none other. stands_told o o' kept;
 }
 
-pub shapes_leaves : (before after : Option Contents) (words : List (List ℕ)) (first second : ℕ) (fault : Option Fault)
-    → IsShapesOf words first second → after ≡ before → RunStands before after words fault
-shapes_leaves before after words first second fault form same = record {
+pub shapes_leaves : (o o' : Outside) (words : List (List ℕ)) (first second : ℕ) (fault : Option Fault)
+    → IsShapesOf words first second → standing o' ≡ standing o → RunStands o.told o'.told words fault
+shapes_leaves o o' words first second fault form kept = record {
   make = λ p b. absurd (make_not_shapes words first second (is_make p words b) form);
   write = λ w. absurd (write_not_shapes words first second w form);
-  otherwise = λ none other. same;
+  otherwise = λ none other. stands_told o o' kept;
 }
 
 pub sample_leaves : (held : Option Contents) (words : List (List ℕ)) (bits : ℕ) (fault : Option Fault) → IsSampleOf words bits → RunStands held held words fault
@@ -121,7 +124,7 @@ usage_leaves held words fault form = record { make = λ p b. absurd (form (inl (
 
 -- what is printed
 
-pub build_prints : (planner : Planner) (told : Option Contents) (words : List (List ℕ)) (before after : Option (List ℕ))
+pub build_prints : (planner : Planner) (told : Option Contents) (words : List (List ℕ)) (before after : Output)
     (fault : Option Fault) → IsMakeBy planner words → BuildPrints planner told words before after fault
     → RunPrints told words before after fault
 build_prints planner told words before after fault form prints =
@@ -139,7 +142,7 @@ build_prints planner told words before after fault form prints =
       otherwise = λ none. absurd (none (inl is));
     }
 
-pub verify_prints : (told : Option Contents) (words : List (List ℕ)) (before after : Option (List ℕ)) (fault : Option Fault) → IsVerify words → CheckPrints Answers told words before after fault → RunPrints told words before after fault
+pub verify_prints : (told : Option Contents) (words : List (List ℕ)) (before after : Output) (fault : Option Fault) → IsVerify words → CheckPrints Answers told words before after fault → RunPrints told words before after fault
 verify_prints told words before after fault form prints = record {
   make = λ p b. absurd (make_not_verify words (is_make p words b) form);
   verify = λ v. prints;
@@ -152,7 +155,7 @@ verify_prints told words before after fault form prints = record {
   otherwise = λ none. absurd (none (inr (inl (inl form))));
 }
 
-pub trace_prints : (told : Option Contents) (words : List (List ℕ)) (before after : Option (List ℕ)) (fault : Option Fault) → IsTrace words → CheckPrints Fluxes told words before after fault → RunPrints told words before after fault
+pub trace_prints : (told : Option Contents) (words : List (List ℕ)) (before after : Output) (fault : Option Fault) → IsTrace words → CheckPrints Fluxes told words before after fault → RunPrints told words before after fault
 trace_prints told words before after fault form prints = record {
   make = λ p b. absurd (make_not_trace words (is_make p words b) form);
   verify = λ v. absurd (verify_not_trace words v form);
@@ -165,7 +168,7 @@ trace_prints told words before after fault form prints = record {
   otherwise = λ none. absurd (none (inr (inl (inr form))));
 }
 
-pub equal_prints : (told : Option Contents) (words : List (List ℕ)) (before after : Option (List ℕ)) (fault : Option Fault) → IsEqual words → EqualPrints told words before after fault → RunPrints told words before after fault
+pub equal_prints : (told : Option Contents) (words : List (List ℕ)) (before after : Output) (fault : Option Fault) → IsEqual words → EqualPrints told words before after fault → RunPrints told words before after fault
 equal_prints told words before after fault form prints = record {
   make = λ p b. absurd (make_not_equal words (is_make p words b) form);
   verify = λ v. absurd (verify_not_equal words v form);
@@ -178,7 +181,7 @@ equal_prints told words before after fault form prints = record {
   otherwise = λ none. absurd (none (inr (inr (inr (inl form)))));
 }
 
-pub write_prints : (told : Option Contents) (words : List (List ℕ)) (before after : Option (List ℕ)) (fault : Option Fault) → IsWrite words → WritePrints told words before after fault → RunPrints told words before after fault
+pub write_prints : (told : Option Contents) (words : List (List ℕ)) (before after : Output) (fault : Option Fault) → IsWrite words → WritePrints told words before after fault → RunPrints told words before after fault
 write_prints told words before after fault form prints = record {
   make = λ p b. absurd (make_not_write words (is_make p words b) form);
   verify = λ v. absurd (verify_not_write words v form);
@@ -191,7 +194,7 @@ write_prints told words before after fault form prints = record {
   otherwise = λ none. absurd (none (inr (inr (inr (inr (inl form))))));
 }
 
-pub sample_prints : (told : Option Contents) (words : List (List ℕ)) (bits : ℕ) (before after : Option (List ℕ)) (fault : Option Fault) → IsSampleOf words bits → SamplePrints bits before after fault → RunPrints told words before after fault
+pub sample_prints : (told : Option Contents) (words : List (List ℕ)) (bits : ℕ) (before after : Output) (fault : Option Fault) → IsSampleOf words bits → SamplePrints bits before after fault → RunPrints told words before after fault
 sample_prints told words bits before after fault form prints = record {
   make = λ p b. absurd (make_not_sample words bits (is_make p words b) form);
   verify = λ v. absurd (verify_not_sample words bits v form);
@@ -204,7 +207,7 @@ sample_prints told words bits before after fault form prints = record {
   otherwise = λ none. absurd (none (inr (inr (inl (record { bits = bits; of_bits = form })))));
 }
 
-pub report_prints : (told : Option Contents) (words : List (List ℕ)) (before after : Option (List ℕ)) (fault : Option Fault)
+pub report_prints : (told : Option Contents) (words : List (List ℕ)) (before after : Output) (fault : Option Fault)
     → IsReport words → TextPrints (IsReportOf told words) before after fault → RunPrints told words before after fault
 report_prints told words before after fault form prints = record {
   make = λ p b. absurd (make_not_report words (is_make p words b) form);
@@ -218,7 +221,7 @@ report_prints told words before after fault form prints = record {
   otherwise = λ none. absurd (none (inr (inr (inr (inr (inr (inl form)))))));
 }
 
-pub shapes_prints : (told : Option Contents) (words : List (List ℕ)) (first second : ℕ) (before after : Option (List ℕ))
+pub shapes_prints : (told : Option Contents) (words : List (List ℕ)) (first second : ℕ) (before after : Output)
     (fault : Option Fault) → IsShapesOf words first second → TextPrints (IsShownOf told words first second) before after fault
     → RunPrints told words before after fault
 shapes_prints told words first second before after fault form prints = record {
@@ -240,7 +243,7 @@ shapes_prints told words first second before after fault form prints = record {
   }))))))));
 }
 
-pub usage_prints : (told : Option Contents) (words : List (List ℕ)) (held : Option (List ℕ)) (fault : Option Fault) → ¬ HasForm words → RunPrints told words held held fault
+pub usage_prints : (told : Option Contents) (words : List (List ℕ)) (held : Output) (fault : Option Fault) → ¬ HasForm words → RunPrints told words held held fault
 usage_prints told words held fault form = record {
   make = λ p b. absurd (form (inl (is_make p words b)));
   verify = λ v. absurd (form (inr (inl (inl v))));
@@ -558,7 +561,7 @@ pub ruleset runs = (
   report_only,
   shapes_only,
   sample_only,
-  sample_failed,
+  stands_shut,
   usage_only,
   build_answers,
   verify_answers,

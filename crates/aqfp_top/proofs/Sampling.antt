@@ -1,10 +1,14 @@
 -- From the clauses of the steps to those of a sample.
-use Rattle.std.proofs.Common.{ℕ, ◌≡◌, ◌<◌, ◌≤◌, ◌+◌, ◌*◌, ◌^◌, ◌++◌, Bool, List, [], ◌∷◌, length, take, get_or, All, Option, Some, None, Result, Ok, Err, IfErr, inl, refl, sym, ap, subst, arith, ◌∙◌}
+use Rattle.std.proofs.Common.{ℕ, ◌≡◌, ◌<◌, ◌≤◌, ◌+◌, ◌*◌, ◌^◌, ◌++◌, Bool, List, [], ◌∷◌, length, take, get_or, All, Some, None, Result, IfErr, inl, inr, refl, sym, ap, subst, arith, ◌∙◌}
 use Rattle.std.specs.Result.{result_err}
 use Rattle.std.specs.List.{AllZip}
 use Rattle.std.proofs.lemmas.List.{take_more}
 use Rattle.std.proofs.lemmas.List.Elements.{AllZip-push}
-use Rattle.aq_base.specs.Causes.{Rose}
+use Rattle.aq_base.specs.Output as output
+use Rattle.aqfp_top.specs.Printed.{PrintsFirst}
+use Rattle.aq_base.specs.declared.store.StoreRefusal.TheVariants as store
+use Rattle.aq_base.specs.Heard.{Event}
+use Rattle.aq_base.specs.Output.{Output}
 use Rattle.blif_read.specs.Parts.{NetView}
 use Rattle.blif_read.specs.Says as netlist
 use Rattle.blif_read.specs.Equations.{IsAnswer}
@@ -14,25 +18,24 @@ use Rattle.layout_make.specs.Size.{element_number, element_limit}
 use Rattle.chip_plan.specs.Plans.{chip_of}
 use Rattle.sample_adder.specs.Adder.{adder}
 use Rattle.sample_adder.specs.EightWords.{eight}
+use Rattle.sample_adder.specs.SampleText.{sample_text}
 use Rattle.aqfp_top.specs.Designs.{KeepsLimits, IsPlainFault, IsPlanFault}
 use Rattle.aqfp_top.specs.Stages as stage
 use Rattle.aqfp_top.specs.Stages.{Finds, FindsNone, IsFirst, Answers}
 use Rattle.aqfp_top.specs.Due.{sample_stages}
 use Rattle.aqfp_top.specs.Faults.{IsSampleFault}
-use Rattle.aqfp_top.specs.Samples.{SamplePrints}
-use Rattle.aqfp_top.specs.Counted.{Counts, HasFaults, FailedLoad}
+use Rattle.aqfp_top.specs.Samples.{text_of, IsSampled, SamplePrints}
 use Rattle.aqfp_top.specs.Code.Staging.{OrMemory}
-use Rattle.aqfp_top.specs.Code.Building.{IsOutOrMemory}
 use Rattle.aqfp_top.specs.Code.Designing.{AreCountsOf, IsChipOf, PassesNone}
-use Rattle.aqfp_top.specs.Code.Sampling.{IsSampleOfBits, IsMakingFault}
+use Rattle.aqfp_top.specs.Code.Printing.{PrintsText, OutFails}
+use Rattle.aqfp_top.specs.Code.Sampling.{IsSampleOfBits, text_in, IsMakingFault}
 use Rattle.aqfp_top.specs.declared.planner.Planner.TheVariants.{Layered}
 use Rattle.aqfp_top.specs.declared.sample.SampleResult.{SampleResult}
 use Rattle.aqfp_top.specs.declared.design.Chip.{Chip}
 use Rattle.aqfp_top.specs.declared.fault.Large.TheVariants.{Slots, Rows, Cells, Elements, Shapes}
-use Rattle.aqfp_top.specs.declared.fault.WriteCall.TheVariants.{Create, Append, Close, Out}
 use Rattle.aqfp_top.specs.declared.fault.Fault.{Fault}
-use Rattle.aqfp_top.specs.declared.fault.Fault.TheVariants.{WriteFault, BadBlif, TooLarge, Memory}
-use Rattle.aqfp_top.proofs.EachFault.{each_out}
+use Rattle.aqfp_top.specs.declared.fault.Fault.TheVariants.{BadBlif, TooLarge, Memory}
+use Rattle.aqfp_top.proofs.OutEnds.{each_text, text_fails}
 use Rattle.aqfp_top.proofs.Staging.{past, found}
 use Rattle.aqfp_top.proofs.OneFault.{says_no_plain_fault, one_plain}
 
@@ -120,40 +123,46 @@ making_is_sample (TooLarge Shapes count) only = absurd only
 making_is_sample Memory only = tt
 making_is_sample _ only = absurd only
 
-pub making_prints : (bits : ℕ) (held : Option (List ℕ)) (fault : Fault) → IsMakingFault fault → SamplePrints bits held held (Some fault)
+pub making_prints : (bits : ℕ) (held : Output) (fault : Fault) → IsMakingFault fault → SamplePrints bits held held (Some fault)
 making_prints bits held (BadBlif fault) only = refl
 making_prints bits held (TooLarge what count) only = refl
 making_prints bits held Memory only = inl refl
 making_prints bits held _ only = absurd only
 
-pub printing_answers : (bits : ℕ) (result : Result (Unit {0}) Fault) → IsFirst (sample_stages bits) None → IfErr result IsOutOrMemory → Answers (sample_stages bits) (result_err result)
-printing_answers bits result well only = each_out (λ r. Answers (sample_stages bits) (result_err r)) well well tt result only
+pub printing_answers : (bits : ℕ) (text : List ℕ) (shown shown' : Output) (result : Result (Unit {0}) Fault) → IsFirst (sample_stages bits) None → PrintsText text shown shown' result → Answers (sample_stages bits) (result_err result)
+printing_answers bits text shown shown' result well prints =
+    each_text (λ r. Answers (sample_stages bits) (result_err r)) text shown shown' (λ p. well) (λ p. well) (λ p. tt) result prints
 
-pub printing_is_sample : (result : Result (Unit {0}) Fault) → IfErr result IsOutOrMemory → IfErr result IsSampleFault
-printing_is_sample result only = each_out (λ r. IfErr r IsSampleFault) tt refl tt result only
+pub printing_is_sample : (text : List ℕ) (shown shown' : Output) (result : Result (Unit {0}) Fault) → PrintsText text shown shown' result → IfErr result IsSampleFault
+printing_is_sample text shown shown' result prints = each_text (λ r. IfErr r IsSampleFault) text shown shown' (λ p. tt) (λ p. refl) (λ p. tt) result prints
 
-pub making_no_write : (Risen : Type 0) (fault : Fault) → IsMakingFault fault → ◌≡◌ {A = Result (Unit {0}) Fault} (Err fault) (Err (WriteFault Out)) → Risen
-making_no_write Risen fault only is = let e : fault ≡ WriteFault Out = cc in absurd (subst IsMakingFault e only)
+sampled : (bits : ℕ) (sample : SampleResult) (Printed : List ℕ → Type 0) → IsSampleOfBits bits sample → Printed (text_in bits sample) → IsSampled bits Printed
+sampled bits sample Printed is prints =
+    let chip = chip_of library_a_view is.equations in
+    let same : text_in bits sample ≡ text_of bits chip sample.answers =
+    λ i. sample_text bits (is.counts.rows i) (is.counts.cells i) (is.counts.wires i) sample.answers in
+    record {
+      equations = is.equations;
+      says = is.says;
+      limits = is.limits;
+      answers = sample.answers;
+      are_answers = is.are_answers;
+      printed = subst Printed same prints;
+    }
 
-pub ruleset ends = (making_is_sample, making_prints, printing_answers, printing_is_sample, making_no_write)
+pub printing_prints : (bits : ℕ) (sample : SampleResult) (shown shown' : Output) (result : Result (Unit {0}) Fault) → IsSampleOfBits bits sample
+    → PrintsText (text_in bits sample) shown shown' result → SamplePrints bits shown shown' (result_err result)
+printing_prints bits sample shown shown' result is prints =
+    let text = text_in bits sample in
+    each_text (λ r. SamplePrints bits shown shown' (result_err r)) text shown shown'
+    (sampled bits sample (λ t. shown' ≡ output.printed t shown) is)
+    (sampled bits sample (PrintsFirst store.Failed shown shown') is)
+    (λ p. inr (sampled bits sample (PrintsFirst store.Memory shown shown') is p)) result prints
 
--- A sample shows no fault of a file.
+pub making_fails : (shown shown' : List Event) (fault : Fault) → IsMakingFault fault → OutFails shown shown' (Some fault)
+making_fails shown shown' (BadBlif fault) only = tt
+making_fails shown shown' (TooLarge what count) only = tt
+making_fails shown shown' Memory only = tt
+making_fails shown shown' _ only = absurd only
 
-pub sample_counts : (before after : Counts) (result : Result (Unit {0}) Fault) → IfErr result IsSampleFault → (result ≡ Err (WriteFault Out) → Rose before.outs after.outs) → HasFaults before after (result_err result)
-sample_counts before after (Ok x) only cause = tt
-sample_counts before after (Err (WriteFault Out)) only cause = cause refl
-sample_counts before after (Err (WriteFault Create)) only cause = cc
-sample_counts before after (Err (WriteFault Append)) only cause = cc
-sample_counts before after (Err (WriteFault Close)) only cause = cc
-sample_counts before after (Err (BadBlif fault)) only cause = tt
-sample_counts before after (Err (TooLarge what count)) only cause = tt
-sample_counts before after (Err Memory) only cause = tt
-sample_counts before after (Err _) only cause = absurd only
-
-pub sample_failed : (name : Option (List ℕ)) (words : List (List ℕ)) (result : Result (Unit {0}) Fault) → IfErr result IsSampleFault → FailedLoad name words (result_err result)
-sample_failed name words (Ok x) only = tt
-sample_failed name words (Err (WriteFault call)) only = tt
-sample_failed name words (Err (BadBlif fault)) only = tt
-sample_failed name words (Err (TooLarge what count)) only = tt
-sample_failed name words (Err Memory) only = tt
-sample_failed name words (Err _) only = absurd only
+pub ruleset ends = (making_is_sample, making_prints, printing_answers, printing_is_sample, printing_prints, making_fails, text_fails)

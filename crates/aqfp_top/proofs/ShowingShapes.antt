@@ -3,9 +3,9 @@ use Rattle.std.proofs.Common.{ℕ, ◌≡◌, ◌≤◌, ◌<◌, ◌⊎◌, Lis
 use Rattle.std.proofs.Common.{OnOk, Vec, refl, sym, subst, inl, inr, arith}
 use Rattle.std.specs.Result.{result_err}
 use Rattle.std.specs.declared.alloc.Global.{Global}
-use Rattle.aq_base.specs.Causes.{Rose}
 use Rattle.aq_base.specs.Heard.{Event, Loaded}
-use Rattle.aq_base.specs.Store.{Contents, gained, GainsPrefix}
+use Rattle.aq_base.specs.Store.{Contents}
+use Rattle.aq_base.specs.Output.{Output}
 use Rattle.geom.specs.declared.shapes.Flat.{Flat}
 use Rattle.geom.specs.FlatForm.{flat_count}
 use Rattle.poly_cut.specs.declared.layout.WideLayout.{WideLayout}
@@ -13,7 +13,6 @@ use Rattle.poly_cut.specs.FlatForm.{wide_flat}
 use Rattle.gds_records.specs.Stream.{IsWideStream}
 use Rattle.layout_report.specs.ShapeLines.{shape_line}
 use Rattle.aqfp_top.specs.Words.{word_at}
-use Rattle.aqfp_top.specs.Counted.{Counts, HasFaults, FailedLoad}
 use Rattle.aqfp_top.specs.Loads.{gds_limit}
 use Rattle.aqfp_top.specs.Stages as stage
 use Rattle.aqfp_top.specs.Stages.{Stage, FindsNone, IsFirst, Answers}
@@ -23,20 +22,22 @@ use Rattle.aqfp_top.specs.Printed.{TextPrints}
 use Rattle.aqfp_top.specs.Shown.{IsNoShape, HasLines, AreShapes, ToldLayout, IsShownOf, HearsShapes}
 use Rattle.aqfp_top.specs.Code.Loading.{ToldLoadsWord, IsFaultOfLoad}
 use Rattle.aqfp_top.specs.Code.Staging.{ToldAnswers}
+use Rattle.aqfp_top.specs.Code.Printing.{PrintsText, OutFails}
 use Rattle.aqfp_top.specs.Code.Reporting.{IsLayoutFault, IsPastFault, IsNamingFault, IsShowingFault}
 use Rattle.aqfp_top.specs.declared.fault.WriteCall.TheVariants.{Create, Append, Close, Out}
 use Rattle.aqfp_top.specs.declared.fault.Fault.{Fault}
-use Rattle.aqfp_top.specs.declared.fault.Fault.TheVariants.{ReadFault, WriteFault, NoShape, Memory}
+use Rattle.aqfp_top.specs.declared.fault.Fault.TheVariants.{WriteFault, NoShape, Memory}
 use Rattle.aqfp_top.proofs.EachFault.{each_load, each_layout, each_showing}
 use Rattle.aqfp_top.proofs.Judging.{IsRead}
-use Rattle.aqfp_top.proofs.Printing.{prints_more}
+use Rattle.aqfp_top.proofs.OutEnds.{each_text, text_fails}
+use Rattle.aqfp_top.proofs.Printing.{prints_more, text_prints}
 use Rattle.aqfp_top.proofs.Staging.{load_stage, past, past_all, found, load_found, file_loads, held_bytes}
 
 -- The lines.
 
 -- where a number is past the shapes nothing is printed
 
-pub past_prints : (flat : Flat) (first second : ℕ) (Means : List ℕ → Type 0) (held : Option (List ℕ)) (fault : Fault)
+pub past_prints : (flat : Flat) (first second : ℕ) (Means : List ℕ → Type 0) (held : Output) (fault : Fault)
     → IsPastFault flat first second fault → TextPrints Means held held (Some fault)
 past_prints flat first second Means held (NoShape number count) past = refl
 past_prints flat first second Means held _ past = absurd past
@@ -46,38 +47,34 @@ pub past_naming : (flat : Flat) (first second : ℕ) (fault : Fault) → IsPastF
 past_naming flat first second (NoShape number count) past = past
 past_naming flat first second _ past = absurd past
 
-pub lines_printed : (flat : Flat) (first second : ℕ) (before after : Option (List ℕ)) → first < flat_count flat
-    → second < flat_count flat → after ≡ gained before (shape_line flat first ++ shape_line flat second)
-    → TextPrints (HasLines flat first second) before after None
-lines_printed flat first second before after one other added = record {
-  text = shape_line flat first ++ shape_line flat second;
-  means = record { first_there = one; second_there = other; text_is = refl };
-  printed = added;
-}
+pub past_fails : (flat : Flat) (first second : ℕ) (shown shown' : List Event) (fault : Fault)
+    → IsPastFault flat first second fault → OutFails shown shown' (Some fault)
+past_fails flat first second shown shown' (NoShape number count) past = tt
+past_fails flat first second shown shown' _ past = absurd past
 
-pub lines_failed : (flat : Flat) (first second : ℕ) (before after : Option (List ℕ)) → first < flat_count flat
-    → second < flat_count flat → GainsPrefix before after (shape_line flat first ++ shape_line flat second)
-    → TextPrints (HasLines flat first second) before after (Some (WriteFault Out))
-lines_failed flat first second before after one other prefix = record {
-  text = shape_line flat first ++ shape_line flat second;
-  means = record { first_there = one; second_there = other; text_is = refl };
-  printed = prefix;
-}
+-- the lines, or some first bytes of them
+abbrev both : Flat → ℕ → ℕ → List ℕ
+both flat first second = shape_line flat first ++ shape_line flat second
 
-pub lines_refused : (flat : Flat) (first second : ℕ) (before after : Option (List ℕ)) → first < flat_count flat
-    → second < flat_count flat → GainsPrefix before after (shape_line flat first ++ shape_line flat second)
-    → TextPrints (HasLines flat first second) before after (Some Memory)
-lines_refused flat first second before after one other prefix = inr (record {
-  text = shape_line flat first ++ shape_line flat second;
-  means = record { first_there = one; second_there = other; text_is = refl };
-  printed = prefix;
-})
+pub both_print : (flat : Flat) (first second : ℕ) (shown shown' : Output) (result : Result (Unit {0}) Fault)
+    → first < flat_count flat → second < flat_count flat → PrintsText (both flat first second) shown shown' result
+    → TextPrints (HasLines flat first second) shown shown' (result_err result)
+both_print flat first second shown shown' result one other prints =
+    text_prints (HasLines flat first second) (both flat first second) shown shown' result
+    (record { first_there = one; second_there = other; text_is = refl }) prints
 
-pub ruleset lines = (past_prints, past_naming, lines_printed, lines_failed, lines_refused)
+pub both_naming : (flat : Flat) (first second : ℕ) (text : List ℕ) (shown shown' : Output)
+    (result : Result (Unit {0}) Fault) → PrintsText text shown shown' result
+    → IfErr result (IsNamingFault flat first second)
+both_naming flat first second text shown shown' result prints =
+    each_text (λ r. IfErr r (IsNamingFault flat first second)) text shown shown' (λ p. tt) (λ p. tt) (λ p. tt) result
+    prints
+
+pub ruleset lines = (past_prints, past_naming, past_fails, both_print, both_naming, text_fails)
 
 -- The layout.
 
-pub same_prints : (flat whole : Flat) (first second : ℕ) (before after : Option (List ℕ)) (fault : Option Fault)
+pub same_prints : (flat whole : Flat) (first second : ℕ) (before after : Output) (fault : Option Fault)
     → flat ≡ whole → TextPrints (HasLines flat first second) before after fault
     → TextPrints (HasLines whole first second) before after fault
 same_prints flat whole first second before after fault same prints =
@@ -115,7 +112,7 @@ well one_layout gds layout first second text is lines =
 
 -- what the layout's lines may answer the stages may
 pub shown_answers : (one_layout : (bytes : List ℕ) (layout other : WideLayout) → IsWideStream bytes layout → IsWideStream bytes other → layout ≡ other)
-    (gds : List ℕ) (layout : WideLayout) (first second : ℕ) (before after : Option (List ℕ))
+    (gds : List ℕ) (layout : WideLayout) (first second : ℕ) (before after : Output)
     (result : Result (Unit {0}) Fault) → IsRead gds layout
     → TextPrints (HasLines (wide_flat layout) first second) before after (result_err result)
     → IfErr result (IsNamingFault (wide_flat layout) first second)
@@ -135,7 +132,7 @@ shown_answers one_layout gds layout first second before after (Err (WriteFault C
 shown_answers one_layout gds layout first second before after (Err Memory) is prints bad = tt
 shown_answers one_layout gds layout first second before after (Err _) is prints bad = absurd bad
 
-pub shown_prints : (gds : List ℕ) (layout : WideLayout) (first second : ℕ) (before after : Option (List ℕ))
+pub shown_prints : (gds : List ℕ) (layout : WideLayout) (first second : ℕ) (before after : Output)
     (fault : Option Fault) → IsRead gds layout → TextPrints (HasLines (wide_flat layout) first second) before after fault
     → TextPrints (AreShapes gds first second) before after fault
 shown_prints gds layout first second before after fault is prints =
@@ -167,23 +164,25 @@ layout_answers gds gds' first second fault same bad =
     let rest = stage.Numbers gds first second ∷ [] in
     subst (λ g. Answers (stage.Stream g ∷ stage.Size g ∷ rest) (Some fault)) same (bad rest)
 
-pub ruleset shows = layout_showing
+pub layout_fails : (shown shown' : List Event) (fault : Fault) → IsLayoutFault fault → OutFails shown shown' (Some fault)
+layout_fails shown shown' fault wrong = each_layout (λ f. OutFails shown shown' (Some f)) (λ o k. tt) (λ n. tt) tt fault wrong
+
+pub ruleset shows = (layout_showing, layout_fails)
 
 -- The whole.
 
 pub load_shapes : (fault : Fault) → IsFaultOfLoad 1 gds_limit fault → IsShapesFault fault
 load_shapes fault only = each_load IsShapesFault 1 gds_limit (inl refl) (λ taken more. inl (refl, more)) (inl refl) tt fault only
 
-pub load_prints : (Means : List ℕ → Type 0) (held : Option (List ℕ)) (fault : Fault) → IsFaultOfLoad 1 gds_limit fault
+pub load_prints : (Means : List ℕ → Type 0) (held : Output) (fault : Fault) → IsFaultOfLoad 1 gds_limit fault
     → TextPrints Means held held (Some fault)
 load_prints Means held fault only =
     each_load (λ f. TextPrints Means held held (Some f)) 1 gds_limit refl (λ taken more. refl) refl (inl refl) fault only
 
-pub load_counts : (before after : Counts) (fault : Fault) → IsFaultOfLoad 1 gds_limit fault
-    → (fault ≡ ReadFault 1 → Rose before.reads after.reads) → HasFaults before after (Some fault)
-load_counts before after fault only =
-    each_load (λ f. (f ≡ ReadFault 1 → Rose before.reads after.reads) → HasFaults before after (Some f)) 1 gds_limit
-    (λ rose. tt) (λ taken more rose. tt) (λ rose. rose refl) (λ rose. tt) fault only
+pub load_fails : (shown shown' : List Event) (fault : Fault) → IsFaultOfLoad 1 gds_limit fault
+    → OutFails shown shown' (Some fault)
+load_fails shown shown' fault only =
+    each_load (λ f. OutFails shown shown' (Some f)) 1 gds_limit tt (λ taken more. tt) tt tt fault only
 
 pub load_answers : (told : Option Contents) (words : List (List ℕ)) (first second : ℕ) (fault : Fault)
     → IsFaultOfLoad 1 gds_limit fault → ToldLoadsWord told words 1 gds_limit (Err fault)
@@ -214,7 +213,7 @@ told_shapes (Some files) words gds first second answer loads answers =
     file_shapes files words gds.items first second answer loads.0 loads.1 answers
 
 pub whole_prints : (told : Option Contents) (words : List (List ℕ)) (gds : List ℕ) (first second : ℕ)
-    (before after : Option (List ℕ)) (fault : Option Fault) → ToldLayout told words gds
+    (before after : Output) (fault : Option Fault) → ToldLayout told words gds
     → TextPrints (AreShapes gds first second) before after fault
     → TextPrints (IsShownOf told words first second) before after fault
 whole_prints told words gds first second before after fault held prints =
@@ -222,7 +221,7 @@ whole_prints told words gds first second before after fault held prints =
     (λ text shapes. record { gds = gds; held = held; shapes = shapes }) prints
 
 pub heard_shapes : (heard heard' : List Event) (words : List (List ℕ)) (gds : List ℕ) (first second : ℕ)
-    (before after : Option (List ℕ)) (result : Result (Unit {0}) Fault) → heard' ≡ Loaded (word_at words 1) gds ∷ heard
+    (before after : Output) (result : Result (Unit {0}) Fault) → heard' ≡ Loaded (word_at words 1) gds ∷ heard
     → TextPrints (AreShapes gds first second) before after (result_err result)
     → OnOk result (HearsShapes heard heard' words first second before after)
 heard_shapes heard heard' words gds first second before after (Ok x) is prints = record {
@@ -239,19 +238,4 @@ showing_only (Ok x) only = tt
 showing_only (Err fault) only =
     each_showing IsShapesFault refl (λ n m. tt) (each_layout IsShapesFault (λ o k. tt) (λ n. tt) tt) fault only
 
-pub showing_counts : (before after : Counts) (result : Result (Unit {0}) Fault) → IfErr result IsShowingFault
-    → (result ≡ Err (WriteFault Out) → Rose before.outs after.outs) → HasFaults before after (result_err result)
-showing_counts before after (Ok x) only = λ cause. tt
-showing_counts before after (Err fault) only =
-    each_showing (λ f. (◌≡◌ {A = Result (Unit {0}) Fault} (Err f) (Err (WriteFault Out)) → Rose before.outs after.outs)
-    → HasFaults before after (Some f)) (λ cause. cause refl) (λ n m cause. tt)
-    (λ f wrong cause. each_layout (λ f. HasFaults before after (Some f)) (λ o k. tt) (λ n. tt) tt f wrong) fault only
-
-pub showing_failed : (name : Option (List ℕ)) (words : List (List ℕ)) (result : Result (Unit {0}) Fault)
-    → IfErr result IsShowingFault → FailedLoad name words (result_err result)
-showing_failed name words (Ok x) only = tt
-showing_failed name words (Err fault) only =
-    each_showing (λ f. FailedLoad name words (Some f)) tt (λ n m. tt)
-    (each_layout (λ f. FailedLoad name words (Some f)) (λ o k. tt) (λ n. tt) tt) fault only
-
-pub ruleset ends = (load_shapes, load_prints, load_counts, load_answers)
+pub ruleset ends = (load_shapes, load_prints, load_fails, load_answers)

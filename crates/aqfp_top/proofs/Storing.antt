@@ -1,175 +1,225 @@
 -- From the calls that store a file to what stands and what was heard.
-use Rattle.std.proofs.Common.{ℕ, ◌≡◌, ◌≤◌, List, [], ◌∷◌, ◌++◌, length, take, Option, Some, Result, Ok, Err, IfErr, OnOk}
-use Rattle.std.proofs.Common.{refl, ap, inl, inr, ◌∙◌, arith}
-use Rattle.std.specs.Prelude.{IsErrOf}
-use Rattle.aq_base.specs.Causes.{Rose}
+use Rattle.std.proofs.Common.{ℕ, ◌≡◌, ◌≤◌, List, [], ◌∷◌, ◌++◌, length, take, Option, None, Result, Ok, Err, IfErr, OnOk, IsSome}
+use Rattle.std.proofs.Common.{refl, sym, ap, subst, inl, inr, ◌∙◌}
 use Rattle.aq_base.specs.Store.{Contents, told_with, StoresPrefix}
 use Rattle.aq_base.specs.declared.store.StoreRefusal.{StoreRefusal}
 use Rattle.aq_base.specs.declared.store.StoreRefusal.TheVariants as store
-use Rattle.aq_base.specs.Heard.{Event, Created, NotAppended, close_event, took}
+use Rattle.aq_base.specs.Heard.{Event, Created, NotCreated, NotAppended, close_event, took}
+use Rattle.aq_base.specs.Outside.{Outside, after_create, after_close, grown, Stops, StopsWithin}
 use Rattle.aq_base.proofs.Stored.{stored_whole}
-use Rattle.gds_records.specs.Flow.{Outside, grown, Stops, StopsWithin}
 use Rattle.aqfp_top.specs.Histories.{stored}
 use Rattle.aqfp_top.specs.HeardDue.{TakesFirst}
-use Rattle.aqfp_top.specs.Code.Building.{StandsStored, StoreCause, IsStoreFault, end_of}
-use Rattle.aqfp_top.specs.Code.Hearing.{HeardStored, HeardUnmade}
-use Rattle.aqfp_top.specs.declared.fault.WriteCall.TheVariants.{Create, Append, Close, Out}
+use Rattle.aqfp_top.specs.Code.Building.{StandsStored, IsStoreFault}
+use Rattle.aqfp_top.specs.Code.Hearing.{HeardStored}
+use Rattle.aqfp_top.specs.Code.Storing.{made, unmade, IsUnmade, Writes, Closes, Stores, end_of}
+use Rattle.aqfp_top.specs.declared.fault.WriteCall.TheVariants.{Create}
 use Rattle.aqfp_top.specs.declared.fault.Fault.{Fault}
 use Rattle.aqfp_top.specs.declared.fault.Fault.TheVariants.{WriteFault, Memory}
-use Rattle.aqfp_top.proofs.Steps.{whole_prefix}
+use Rattle.std.proofs.Math.Seq.{take-length}
 
--- ---- the file was not made
+-- the whole file is some first bytes of it
+pub whole_prefix : (told after : Option Contents) (name bytes : List ℕ) → after ≡ told_with told name bytes → StoresPrefix told after name bytes
+whole_prefix told after name bytes is = record { count = length bytes; stored = rw take-length is }
 
-each_unmade : (P : Fault → Type 0) (heard heard' : List Event) (name : List ℕ)
-    → (HeardUnmade heard heard' name (WriteFault Create) → P (WriteFault Create))
-    → (HeardUnmade heard heard' name Memory → P Memory)
-    → (fault : Fault) → HeardUnmade heard heard' name fault → P fault
-each_unmade P heard heard' name create memory (WriteFault Create) h = create h
-each_unmade P heard heard' name create memory (WriteFault Append) h = absurd h
-each_unmade P heard heard' name create memory (WriteFault Close) h = absurd h
-each_unmade P heard heard' name create memory (WriteFault Out) h = absurd h
-each_unmade P heard heard' name create memory Memory h = memory h
-each_unmade P heard heard' name create memory _ h = absurd h
+-- ---- the calls
 
-pub unmade_stands : (told told' : Option Contents) (heard heard' : List Event) (name bytes : List ℕ) (fault : Fault)
-    → told' ≡ told → HeardUnmade heard heard' name fault → StandsStored told told' name bytes (Err fault)
-unmade_stands told told' heard heard' name bytes fault same =
-    each_unmade (λ f. StandsStored told told' name bytes (Err f)) heard heard' name (λ h. same) (λ h. inl same) fault
+pub unmade_failed : (name : List ℕ) (o o' : Outside) → o' ≡ after_create name (Err store.Failed) o
+    → IsUnmade name o o' (Err (WriteFault Create))
+unmade_failed name o o' is = record { why = store.Failed; refused = is; ends = refl }
 
-pub unmade_heard : (heard heard' : List Event) (name bytes : List ℕ) (fault : Fault)
-    → HeardUnmade heard heard' name fault → HeardStored heard heard' name bytes fault
-unmade_heard heard heard' name bytes fault =
-    each_unmade (HeardStored heard heard' name bytes) heard heard' name (λ h. h) (λ h. inl h) fault
+pub unmade_memory : (name : List ℕ) (o o' : Outside) → o' ≡ after_create name (Err store.Memory) o
+    → IsUnmade name o o' (Err Memory)
+unmade_memory name o o' is = record { why = store.Memory; refused = is; ends = refl }
 
-pub unmade_only : (heard heard' : List Event) (name : List ℕ) (fault : Fault)
-    → HeardUnmade heard heard' name fault → IsStoreFault fault
-unmade_only heard heard' name fault = each_unmade IsStoreFault heard heard' name (λ h. tt) (λ h. tt) fault
+pub ruleset makes = (unmade_failed, unmade_memory)
 
--- the answer is that making the file failed
-abbrev FailsToMake : Fault → Type 0
-FailsToMake fault = ◌≡◌ {A = Result (Unit {0}) Fault} (Err fault) (Err (WriteFault Create))
+pub closed_by : (written answer : Result (Unit {0}) StoreRefusal) (o o' : Outside) (result : Result (Unit {0}) Fault)
+    → o' ≡ after_close answer o → result ≡ end_of written answer → Closes written o o' result
+closed_by written answer o o' result is ends = record { answer = answer; closed = is; ends = ends }
 
-pub unmade_cause : (heard heard' : List Event) (name : List ℕ) (writes writes' closes closes' : ℕ) (fault : Fault)
-    → (FailsToMake fault → Rose writes writes') → HeardUnmade heard heard' name fault
-    → StoreCause writes writes' closes closes' (Err fault)
-unmade_cause heard heard' name writes writes' closes closes' fault risen h =
-    each_unmade (λ f. (FailsToMake f → Rose writes writes') → StoreCause writes writes' closes closes' (Err f))
-    heard heard' name (λ h r. r refl) (λ h r. tt) fault h risen
+pub ruleset closes = closed_by
 
--- ---- the file was made
+pub made_open : (name : List ℕ) (o o' : Outside) → o' ≡ made name o → IsSome o'.opened
+made_open name o o' is = subst (λ (x : Outside). IsSome x.opened) (sym is) refl
 
--- what is told does not change where no more is taken
+-- what is told does not change where no more is taken, nor what is open
 stops_told : (why : StoreRefusal) (o o' : Outside) → Stops why o o' → o'.told ≡ o.told
 stops_told store.Failed o o' s = ap (λ (x : Outside). x.told) s
 stops_told store.Memory o o' (inl s) = ap (λ (x : Outside). x.told) s
 stops_told store.Memory o o' (inr s) = ap (λ (x : Outside). x.told) s
 
-whole_told : (told told' : Option Contents) (o o' : Outside) (name bytes : List ℕ) → o.told ≡ told_with told name []
-    → o.opened ≡ Some name → o' ≡ grown bytes o → told' ≡ o'.told → told' ≡ told_with told name bytes
-whole_told told told' o o' name bytes made opened grows same =
-    same ∙ stored_whole told name bytes made opened (ap (λ (x : Outside). x.told) grows)
+stops_opened : (why : StoreRefusal) (o o' : Outside) → Stops why o o' → o'.opened ≡ o.opened
+stops_opened store.Failed o o' s = ap (λ (x : Outside). x.opened) s
+stops_opened store.Memory o o' (inl s) = ap (λ (x : Outside). x.opened) s
+stops_opened store.Memory o o' (inr s) = ap (λ (x : Outside). x.opened) s
 
-part_told : (told told' : Option Contents) (o o' : Outside) (name bytes : List ℕ) (why : StoreRefusal)
-    → o.told ≡ told_with told name [] → o.opened ≡ Some name → StopsWithin o o' bytes why → told' ≡ o'.told
-    → StoresPrefix told told' name bytes
-part_told told told' o o' name bytes why made opened part same = record {
+writes_opened : (bytes : List ℕ) (o o' : Outside) (answer : Result (Unit {0}) StoreRefusal) → Writes bytes o o' answer
+    → o'.opened ≡ o.opened
+writes_opened bytes o o' (Ok _) is = ap (λ (x : Outside). x.opened) is
+writes_opened bytes o o' (Err why) part = stops_opened why (grown (take part.count bytes) o) o' part.stops
+
+pub writes_open : (bytes : List ℕ) (o o' : Outside) (answer : Result (Unit {0}) StoreRefusal) → IsSome o.opened
+    → Writes bytes o o' answer → IsSome o'.opened
+writes_open bytes o o' answer some writes = subst IsSome (sym (writes_opened bytes o o' answer writes)) some
+
+pub unmade_stores : (name bytes : List ℕ) (o o' : Outside) (result : Result (Unit {0}) Fault)
+    → IsUnmade name o o' result → Stores name bytes o o' result
+unfolding Stores
+unmade_stores name bytes o o' result u = inl u
+
+pub written_stores : (name bytes : List ℕ) (o now later o' : Outside) (written : Result (Unit {0}) StoreRefusal)
+    (result : Result (Unit {0}) Fault) → now ≡ made name o → Writes bytes now later written
+    → Closes written later o' result → Stores name bytes o o' result
+unfolding Stores
+written_stores name bytes o now later o' written result is writes closes = inr (record {
+  written = written;
+  now = later;
+  writes = subst (λ x. Writes bytes x later written) is writes;
+  closes = closes;
+})
+
+pub ruleset stores = (made_open, writes_open)
+
+-- ---- what stands
+
+whole_told : (name bytes : List ℕ) (o now : Outside) → now ≡ grown bytes (made name o)
+    → now.told ≡ told_with o.told name bytes
+whole_told name bytes o now grows = stored_whole o.told name bytes refl refl (ap (λ (x : Outside). x.told) grows)
+
+part_told : (name bytes : List ℕ) (o now : Outside) (why : StoreRefusal) → StopsWithin (made name o) now bytes why
+    → StoresPrefix o.told now.told name bytes
+part_told name bytes o now why part = record {
   count = part.count;
-  stored = same ∙ stored_whole told name (take part.count bytes) made opened
-      (stops_told why (grown (take part.count bytes) o) o' part.stops);
+  stored = stored_whole o.told name (take part.count bytes) refl refl
+      (stops_told why (grown (take part.count bytes) (made name o)) now part.stops);
 }
 
-pub ended_stands : (told told' : Option Contents) (o o' : Outside) (name bytes : List ℕ)
-    (written closed : Result (Unit {0}) StoreRefusal) → o.told ≡ told_with told name [] → o.opened ≡ Some name
-    → OnOk written (o' ≡ grown bytes o) → IfErr written (StopsWithin o o' bytes) → told' ≡ o'.told
-    → StandsStored told told' name bytes (end_of written closed)
-ended_stands told told' o o' name bytes (Ok _) (Ok _) made opened grows part same =
-    whole_told told told' o o' name bytes made opened grows same
-ended_stands told told' o o' name bytes (Ok _) (Err store.Failed) made opened grows part same =
-    whole_told told told' o o' name bytes made opened grows same
-ended_stands told told' o o' name bytes (Ok _) (Err store.Memory) made opened grows part same =
-    inr (whole_prefix told told' name bytes (whole_told told told' o o' name bytes made opened grows same))
-ended_stands told told' o o' name bytes (Err store.Failed) closed made opened grows part same =
-    part_told told told' o o' name bytes store.Failed made opened part same
-ended_stands told told' o o' name bytes (Err store.Memory) closed made opened grows part same =
-    inr (part_told told told' o o' name bytes store.Memory made opened part same)
+ended_stands : (name bytes : List ℕ) (o now : Outside) (written closed : Result (Unit {0}) StoreRefusal)
+    → Writes bytes (made name o) now written → StandsStored o.told now.told name bytes (end_of written closed)
+ended_stands name bytes o now (Ok _) (Ok _) grows = whole_told name bytes o now grows
+ended_stands name bytes o now (Ok _) (Err store.Failed) grows = whole_told name bytes o now grows
+ended_stands name bytes o now (Ok _) (Err store.Memory) grows =
+    inr (whole_prefix o.told now.told name bytes (whole_told name bytes o now grows))
+ended_stands name bytes o now (Err store.Failed) closed part = part_told name bytes o now store.Failed part
+ended_stands name bytes o now (Err store.Memory) closed part = inr (part_told name bytes o now store.Memory part)
 
--- what was heard of all bytes, and then
-whole_heard : (heard heard' : List Event) (o o' : Outside) (name bytes : List ℕ) (event : Event)
-    → o.heard ≡ Created name ∷ heard → o' ≡ grown bytes o → heard' ≡ event ∷ o'.heard
-    → heard' ≡ event ∷ took bytes (Created name ∷ heard)
-whole_heard heard heard' o o' name bytes event made grows is =
-    is ∙ ap (λ h. event ∷ h) (ap (λ (x : Outside). x.heard) grows ∙ ap (took bytes) made)
+unmade_stands : (name bytes : List ℕ) (o : Outside) (told : _) (why : StoreRefusal) → told ≡ o.told
+    → StandsStored o.told told name bytes (Err (unmade why))
+unmade_stands name bytes o told store.Failed same = same
+unmade_stands name bytes o told store.Memory same = inl same
+
+pub stores_stands : (name bytes : List ℕ) (o o' : Outside) (result : Result (Unit {0}) Fault)
+    → Stores name bytes o o' result → StandsStored o.told o'.told name bytes result
+unfolding Stores
+stores_stands name bytes o o' result (inl u) =
+    subst (StandsStored o.told o'.told name bytes) (sym u.ends)
+    (unmade_stands name bytes o o'.told u.why (ap (λ (x : Outside). x.told) u.refused))
+stores_stands name bytes o o' result (inr s) =
+    let c = s.closes in
+    subst (StandsStored o.told o'.told name bytes) (sym c.ends)
+    (subst (λ t. StandsStored o.told t name bytes (end_of s.written c.answer)) (sym (ap (λ (x : Outside). x.told) c.closed))
+    (ended_stands name bytes o s.now s.written c.answer s.writes))
+
+-- ---- what was heard
+
+-- of all bytes, and then
+whole_heard : (name bytes : List ℕ) (o now : Outside) (heard' : List Event) (event : Event)
+    → now ≡ grown bytes (made name o) → heard' ≡ event ∷ now.heard
+    → heard' ≡ event ∷ took bytes (Created name ∷ o.heard)
+whole_heard name bytes o now heard' event grows is = is ∙ ap (λ (x : Outside). event ∷ x.heard) grows
 
 -- and of a part
-first_heard : (then_heard heard heard' : List Event) (o o' : Outside) (name bytes : List ℕ) (count : ℕ)
-    (closed : Result (Unit {0}) StoreRefusal) → count ≤ length bytes → o.heard ≡ Created name ∷ heard
-    → o'.heard ≡ then_heard ++ took (take count bytes) o.heard → heard' ≡ close_event closed ∷ o'.heard
-    → TakesFirst then_heard heard heard' name bytes
-first_heard then_heard heard heard' o o' name bytes count closed within made ends is = record {
+first_heard : (then_heard : List Event) (name bytes : List ℕ) (o now : Outside) (heard' : List Event) (count : ℕ)
+    (closed : Result (Unit {0}) StoreRefusal) → count ≤ length bytes
+    → now.heard ≡ then_heard ++ took (take count bytes) (Created name ∷ o.heard)
+    → heard' ≡ close_event closed ∷ now.heard → TakesFirst then_heard o.heard heard' name bytes
+first_heard then_heard name bytes o now heard' count closed within ends is = record {
   count = count;
   within = within;
   closing = closed;
-  heard_is = is ∙ ap (λ h. close_event closed ∷ h)
-      (ends ∙ ap (λ h. then_heard ++ took (take count bytes) h) made);
+  heard_is = is ∙ ap (λ h. close_event closed ∷ h) ends;
 }
 
-pub ended_heard : (heard heard' : List Event) (o o' : Outside) (name bytes : List ℕ)
-    (written closed : Result (Unit {0}) StoreRefusal) → o.heard ≡ Created name ∷ heard
-    → OnOk written (o' ≡ grown bytes o) → heard' ≡ close_event closed ∷ o'.heard
-    → OnOk (end_of written closed) (heard' ≡ stored heard name bytes)
-ended_heard heard heard' o o' name bytes (Ok _) (Ok _) made grows is =
-    whole_heard heard heard' o o' name bytes _ made grows is
-ended_heard heard heard' o o' name bytes (Ok _) (Err store.Failed) made grows is = tt
-ended_heard heard heard' o o' name bytes (Ok _) (Err store.Memory) made grows is = tt
-ended_heard heard heard' o o' name bytes (Err store.Failed) closed made grows is = tt
-ended_heard heard heard' o o' name bytes (Err store.Memory) closed made grows is = tt
+ended_heard : (name bytes : List ℕ) (o now : Outside) (heard' : List Event)
+    (written closed : Result (Unit {0}) StoreRefusal) → Writes bytes (made name o) now written
+    → heard' ≡ close_event closed ∷ now.heard → OnOk (end_of written closed) (heard' ≡ stored o.heard name bytes)
+ended_heard name bytes o now heard' (Ok _) (Ok _) grows is = whole_heard name bytes o now heard' _ grows is
+ended_heard name bytes o now heard' (Ok _) (Err store.Failed) grows is = tt
+ended_heard name bytes o now heard' (Ok _) (Err store.Memory) grows is = tt
+ended_heard name bytes o now heard' (Err store.Failed) closed part is = tt
+ended_heard name bytes o now heard' (Err store.Memory) closed part is = tt
 
-memory_heard : (heard heard' : List Event) (o o' : Outside) (name bytes : List ℕ) (count : ℕ)
-    (closed : Result (Unit {0}) StoreRefusal) → o.heard ≡ Created name ∷ heard → count ≤ length bytes
-    → Stops store.Memory (grown (take count bytes) o) o' → heard' ≡ close_event closed ∷ o'.heard
-    → HeardStored heard heard' name bytes Memory
-memory_heard heard heard' o o' name bytes count closed made within (inl s) is =
-    inr (inl (first_heard [] heard heard' o o' name bytes count closed within made (ap (λ (x : Outside). x.heard) s) is))
-memory_heard heard heard' o o' name bytes count closed made within (inr s) is =
-    inr (inr (inl (first_heard (NotAppended store.Memory ∷ []) heard heard' o o' name bytes count closed within made
+memory_heard : (name bytes : List ℕ) (o now : Outside) (heard' : List Event) (count : ℕ)
+    (closed : Result (Unit {0}) StoreRefusal) → count ≤ length bytes
+    → Stops store.Memory (grown (take count bytes) (made name o)) now → heard' ≡ close_event closed ∷ now.heard
+    → HeardStored o.heard heard' name bytes Memory
+memory_heard name bytes o now heard' count closed within (inl s) is =
+    inr (inl (first_heard [] name bytes o now heard' count closed within (ap (λ (x : Outside). x.heard) s) is))
+memory_heard name bytes o now heard' count closed within (inr s) is =
+    inr (inr (inl (first_heard (NotAppended store.Memory ∷ []) name bytes o now heard' count closed within
     (ap (λ (x : Outside). x.heard) s) is)))
 
-pub ended_refused : (heard heard' : List Event) (o o' : Outside) (name bytes : List ℕ)
-    (written closed : Result (Unit {0}) StoreRefusal) → o.heard ≡ Created name ∷ heard
-    → OnOk written (o' ≡ grown bytes o) → IfErr written (StopsWithin o o' bytes)
-    → heard' ≡ close_event closed ∷ o'.heard
-    → IfErr (end_of written closed) (HeardStored heard heard' name bytes)
-ended_refused heard heard' o o' name bytes (Ok _) (Ok _) made grows part is = tt
-ended_refused heard heard' o o' name bytes (Ok _) (Err store.Failed) made grows part is =
-    whole_heard heard heard' o o' name bytes _ made grows is
-ended_refused heard heard' o o' name bytes (Ok _) (Err store.Memory) made grows part is =
-    inr (inr (inr (whole_heard heard heard' o o' name bytes _ made grows is)))
-ended_refused heard heard' o o' name bytes (Err store.Failed) closed made grows part is =
-    first_heard (NotAppended store.Failed ∷ []) heard heard' o o' name bytes part.count closed part.within made
+ended_refused : (name bytes : List ℕ) (o now : Outside) (heard' : List Event)
+    (written closed : Result (Unit {0}) StoreRefusal) → Writes bytes (made name o) now written
+    → heard' ≡ close_event closed ∷ now.heard → IfErr (end_of written closed) (HeardStored o.heard heard' name bytes)
+ended_refused name bytes o now heard' (Ok _) (Ok _) grows is = tt
+ended_refused name bytes o now heard' (Ok _) (Err store.Failed) grows is =
+    whole_heard name bytes o now heard' _ grows is
+ended_refused name bytes o now heard' (Ok _) (Err store.Memory) grows is =
+    inr (inr (inr (whole_heard name bytes o now heard' _ grows is)))
+ended_refused name bytes o now heard' (Err store.Failed) closed part is =
+    first_heard (NotAppended store.Failed ∷ []) name bytes o now heard' part.count closed part.within
     (ap (λ (x : Outside). x.heard) part.stops) is
-ended_refused heard heard' o o' name bytes (Err store.Memory) closed made grows part is =
-    memory_heard heard heard' o o' name bytes part.count closed made part.within part.stops is
+ended_refused name bytes o now heard' (Err store.Memory) closed part is =
+    memory_heard name bytes o now heard' part.count closed part.within part.stops is
 
-pub ended_only : (written closed : Result (Unit {0}) StoreRefusal) → IfErr (end_of written closed) IsStoreFault
+unmade_refused : (name bytes : List ℕ) (heard heard' : List Event) (why : StoreRefusal)
+    → heard' ≡ NotCreated name why ∷ heard → IfErr {T = Unit {0}} (Err (unmade why)) (HeardStored heard heard' name bytes)
+unmade_refused name bytes heard heard' store.Failed is = is
+unmade_refused name bytes heard heard' store.Memory is = inl is
+
+pub stores_heard : (name bytes : List ℕ) (o o' : Outside) (result : Result (Unit {0}) Fault)
+    → Stores name bytes o o' result → OnOk result (o'.heard ≡ stored o.heard name bytes)
+unfolding Stores
+stores_heard name bytes o o' result (inl u) = subst (λ r. OnOk r (o'.heard ≡ stored o.heard name bytes)) (sym u.ends) tt
+stores_heard name bytes o o' result (inr s) =
+    let c = s.closes in
+    subst (λ r. OnOk r (o'.heard ≡ stored o.heard name bytes)) (sym c.ends)
+    (ended_heard name bytes o s.now o'.heard s.written c.answer s.writes (ap (λ (x : Outside). x.heard) c.closed))
+
+pub stores_refused : (name bytes : List ℕ) (o o' : Outside) (result : Result (Unit {0}) Fault)
+    → Stores name bytes o o' result → IfErr result (HeardStored o.heard o'.heard name bytes)
+unfolding Stores
+stores_refused name bytes o o' result (inl u) =
+    subst (λ r. IfErr r (HeardStored o.heard o'.heard name bytes)) (sym u.ends)
+    (unmade_refused name bytes o.heard o'.heard u.why (ap (λ (x : Outside). x.heard) u.refused))
+stores_refused name bytes o o' result (inr s) =
+    let c = s.closes in
+    subst (λ r. IfErr r (HeardStored o.heard o'.heard name bytes)) (sym c.ends)
+    (ended_refused name bytes o s.now o'.heard s.written c.answer s.writes (ap (λ (x : Outside). x.heard) c.closed))
+
+-- ---- how it ended, and that nothing is open
+
+ended_only : (written closed : Result (Unit {0}) StoreRefusal) → IfErr (end_of written closed) IsStoreFault
 ended_only (Ok _) (Ok _) = tt
 ended_only (Ok _) (Err store.Failed) = tt
 ended_only (Ok _) (Err store.Memory) = tt
 ended_only (Err store.Failed) closed = tt
 ended_only (Err store.Memory) closed = tt
 
-pub ended_cause : (writes writes' closes closes' : ℕ) (written closed : Result (Unit {0}) StoreRefusal)
-    → (IsErrOf written store.Failed → Rose writes writes') → (IsErrOf closed store.Failed → Rose closes closes')
-    → StoreCause writes writes' closes closes' (end_of written closed)
-ended_cause writes writes' closes closes' (Ok _) (Ok _) w k = tt
-ended_cause writes writes' closes closes' (Ok _) (Err store.Failed) w k = k refl
-ended_cause writes writes' closes closes' (Ok _) (Err store.Memory) w k = tt
-ended_cause writes writes' closes closes' (Err store.Failed) closed w k = w refl
-ended_cause writes writes' closes closes' (Err store.Memory) closed w k = tt
+unmade_only : (why : StoreRefusal) → IsStoreFault (unmade why)
+unmade_only store.Failed = tt
+unmade_only store.Memory = tt
 
--- ---- a count that has risen in one of the calls has risen in all of them
+pub stores_only : (name bytes : List ℕ) (o o' : Outside) (result : Result (Unit {0}) Fault)
+    → Stores name bytes o o' result → IfErr result IsStoreFault
+unfolding Stores
+stores_only name bytes o o' result (inl u) = subst (λ r. IfErr r IsStoreFault) (sym u.ends) (unmade_only u.why)
+stores_only name bytes o o' result (inr s) =
+    subst (λ r. IfErr r IsStoreFault) (sym s.closes.ends) (ended_only s.written s.closes.answer)
 
-pub rose_between : (a b c d : ℕ) → a ≤ b → Rose b c → d ≡ c → Rose a d
-rose_between a b c d later rose same = omega (arith, later, rose, same)
-
-pub rose_there : (a b c d : ℕ) → b ≡ a → c ≡ b → Rose c d → Rose a d
-rose_there a b c d first second rose = omega (arith, first, second, rose)
+pub stores_shut : (name bytes : List ℕ) (o o' : Outside) (result : Result (Unit {0}) Fault)
+    → Stores name bytes o o' result → o'.opened ≡ None
+unfolding Stores
+stores_shut name bytes o o' result (inl u) = ap (λ (x : Outside). x.opened) u.refused
+stores_shut name bytes o o' result (inr s) = ap (λ (x : Outside). x.opened) s.closes.closed

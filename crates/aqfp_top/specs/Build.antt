@@ -1,6 +1,11 @@
 -- What stands after a chip was made, and what was printed.
 use Rattle.std.specs.Prelude.{ℕ, ◌≡◌, ◌⊎◌, ◌≤◌, List, length, Option, Some, None}
-use Rattle.aq_base.specs.Store.{Contents, told_with, StoresPrefix, gained, GainsPrefix}
+use Rattle.aq_base.specs.declared.store.StoreRefusal.{StoreRefusal}
+use Rattle.aq_base.specs.declared.store.StoreRefusal.TheVariants as store
+use Rattle.aq_base.specs.Output.{Output}
+use Rattle.aq_base.specs.Output as output
+use Rattle.aqfp_top.specs.Printed.{PrintsFirst}
+use Rattle.aq_base.specs.Store.{Contents, told_with, StoresPrefix}
 use Rattle.blif_read.specs.Parts.{NetView}
 use Rattle.cell_library.specs.Library.{LibraryView}
 use Rattle.rowed.specs.PlacedNets.{PlacedView}
@@ -53,22 +58,24 @@ BuildStands planner before after words (Some (WriteFault Out)) = StoresChip plan
 BuildStands planner before after words (Some Memory) = (after ≡ before) ⊎ StoresSome planner before after words
 BuildStands planner before after words (Some _) = after ≡ before
 
--- `out` gained some first bytes of the counts line of the chip
-abbrev pub PrintsSome : Planner → Option Contents → List (List ℕ) → Option (List ℕ) → Option (List ℕ) → Type 0
-PrintsSome planner told words before after =
-    IsBuilt planner told words (λ chip cells. GainsPrefix before after (counts_of chip))
+-- `out` took some first bytes of the counts line of the chip, and then printing ended for this reason
+abbrev pub PrintsSome : StoreRefusal → Planner → Option Contents → List (List ℕ) → Output → Output → Type 0
+PrintsSome why planner told words before after =
+    IsBuilt planner told words (λ chip cells. PrintsFirst why before after (counts_of chip))
 
 -- what `out` gains: the counts line of the chip, or some first bytes of it where the fault is its own or want of memory
-abbrev pub BuildPrints : Planner → Option Contents → List (List ℕ) → Option (List ℕ) → Option (List ℕ) → Option Fault
+abbrev pub BuildPrints : Planner → Option Contents → List (List ℕ) → Output → Output → Option Fault
     → Type 0
 BuildPrints planner told words before after None =
-    IsBuilt planner told words (λ chip cells. after ≡ gained before (counts_of chip))
-BuildPrints planner told words before after (Some (WriteFault Out)) = PrintsSome planner told words before after
-BuildPrints planner told words before after (Some Memory) = (after ≡ before) ⊎ PrintsSome planner told words before after
+    IsBuilt planner told words (λ chip cells. after ≡ output.printed (counts_of chip) before)
+BuildPrints planner told words before after (Some (WriteFault Out)) =
+    PrintsSome store.Failed planner told words before after
+BuildPrints planner told words before after (Some Memory) =
+    (after ≡ before) ⊎ PrintsSome store.Memory planner told words before after
 BuildPrints planner told words before after (Some _) = after ≡ before
 
 -- what was done where it ends well, all of one chip and one library
 pub record IsDone (before after : Option Contents) (words : List (List ℕ))
-    (printed_before printed_after : Option (List ℕ)) (chip : PlacedView) (cells : LibraryView) : Type 0 where
+    (out out' : Output) (chip : PlacedView) (cells : LibraryView) : Type 0 where
   pub stored : after ≡ told_with before (word_at words 3) (stream_of chip cells)
-  pub printed : printed_after ≡ gained printed_before (counts_of chip)
+  pub printed : out' ≡ output.printed (counts_of chip) out

@@ -1,7 +1,11 @@
 -- What verify and trace make of the texts of a layout, of a library and of words: their circuit, or a fault of the
 -- stream, of its size, of the rules or of the words; and what they print.
 use Rattle.std.specs.Prelude.{ℕ, ◌≡◌, ◌⊎◌, ◌≤◌, Bool, All, List, length, Option, Some, None}
-use Rattle.aq_base.specs.Store.{Contents, gained, GainsPrefix}
+use Rattle.aq_base.specs.declared.store.StoreRefusal.TheVariants as store
+use Rattle.aq_base.specs.Output.{Output}
+use Rattle.aq_base.specs.Output as output
+use Rattle.aqfp_top.specs.Printed.{PrintsFirst}
+use Rattle.aq_base.specs.Store.{Contents}
 use Rattle.geom.specs.FlatForm.{flat_count}
 use Rattle.poly_cut.specs.declared.layout.WideLayout.{WideLayout}
 use Rattle.poly_cut.specs.FlatForm.{wide_flat}
@@ -106,11 +110,10 @@ pub record IsPrintedOf (printing : Printing) (told : Option Contents) (words : L
   pub printed : Printed (text_of printing circuit (words_of text))
 
 -- what `out` gains: the whole text, or some first bytes of it where the fault is its own or want of memory
-abbrev pub CheckPrints : Printing → Option Contents → List (List ℕ) → Option (List ℕ) → Option (List ℕ)
-    → Option Fault → Type 0
-CheckPrints printing told words before after None = IsPrintedOf printing told words (λ text. after ≡ gained before text)
+abbrev pub CheckPrints : Printing → Option Contents → List (List ℕ) → Output → Output → Option Fault → Type 0
+CheckPrints printing told words before after None = IsPrintedOf printing told words (λ text. after ≡ output.printed text before)
 CheckPrints printing told words before after (Some (WriteFault call)) =
-    IsPrintedOf printing told words (GainsPrefix before after)
+    IsPrintedOf printing told words (PrintsFirst store.Failed before after)
 CheckPrints printing told words before after (Some Memory) =
-    (after ≡ before) ⊎ IsPrintedOf printing told words (GainsPrefix before after)
+    (after ≡ before) ⊎ IsPrintedOf printing told words (PrintsFirst store.Memory before after)
 CheckPrints printing told words before after (Some fault) = after ≡ before

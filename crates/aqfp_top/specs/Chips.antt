@@ -1,7 +1,9 @@
 -- What a `build` or a `compact` that ends well has made: a chip of NET's netlist under OUT, which keeps the rules with
 -- the numbers of LIB, and its counts on `out`.
 use Rattle.std.specs.Prelude.{◌≡◌, ◌<◌, ◌≤◌, ℕ, List, length, Option, Some}
-use Rattle.aq_base.specs.Store.{Contents, with_file, gained}
+use Rattle.aq_base.specs.Output.{Output}
+use Rattle.aq_base.specs.Output as output
+use Rattle.aq_base.specs.Store.{Contents, with_file}
 use Rattle.geom.specs.FlatForm.{flat_of, flat_count}
 use Rattle.blif_read.specs.Parts.{NetView}
 use Rattle.blif_read.specs.Netlist.{IsNetlist}
@@ -17,19 +19,19 @@ use Rattle.aqfp_top.specs.Words.{word_at}
 -- The bytes realise the equations with the library's numbers, in every order of switching and by every clock whose
 -- windows keep clear; they and their shapes are few enough to be read back; and `out` has the counts of their circuit.
 pub record IsChipOfNet (equations : NetView) (cells : LibraryView) (bytes : List ℕ)
-    (printed_before printed_after : Option (List ℕ)) : Type 0 where
+    (out out' : Output) : Type 0 where
   pub circuit : CircuitView
   pub circuit_keeps : KeepsFacts circuit
   pub realises : Realises bytes (limits_of cells) equations.inputs (length equations.outputs)
       (IsAnswer equations) circuit (delay_of circuit)
   pub short : length bytes < 130000000
   pub small : flat_count (flat_of realises.layout) ≤ 8000000
-  pub printed : printed_after ≡ gained printed_before (counts_line circuit)
+  pub printed : out' ≡ output.printed (counts_line circuit) out
 
 -- The texts are those that NET and LIB held at the beginning, though OUT may have the name of one of them. No other
 -- name than OUT has changed. The netlist's equations have exactly one answer to each word.
 pub record BuildsChip (held : Contents) (after : Option Contents) (words : List (List ℕ))
-    (printed_before printed_after : Option (List ℕ)) : Type 0 where
+    (out out' : Output) : Type 0 where
   pub net : List ℕ
   pub lib : List ℕ
   pub net_held : held (word_at words 1) ≡ Some net
@@ -41,4 +43,4 @@ pub record BuildsChip (held : Contents) (after : Option Contents) (words : List 
   pub lib_says : library.SaysLibrary lib cells
   pub bytes : List ℕ
   pub stored : after ≡ Some (with_file held (word_at words 3) bytes)
-  pub chip : IsChipOfNet equations cells bytes printed_before printed_after
+  pub chip : IsChipOfNet equations cells bytes out out'

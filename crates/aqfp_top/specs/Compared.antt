@@ -1,7 +1,9 @@
 -- What an `equal` that ends well has shown of the chip under GDS and of the netlist under NET.
-use Rattle.std.specs.Prelude.{◌≡◌, ℕ, Bool, All, List, length, Option, Some}
+use Rattle.std.specs.Prelude.{◌≡◌, ℕ, Bool, All, List, length, Some}
 use Rattle.std.specs.List.{AllZip}
-use Rattle.aq_base.specs.Store.{Contents, gained}
+use Rattle.aq_base.specs.Output.{Output}
+use Rattle.aq_base.specs.Output as output
+use Rattle.aq_base.specs.Store.{Contents}
 use Rattle.poly_cut.specs.declared.layout.WideLayout.{WideLayout}
 use Rattle.poly_cut.specs.FlatForm.{wide_flat}
 use Rattle.gds_records.specs.Stream.{IsWideStream}
@@ -34,7 +36,7 @@ pub record ShowsNet (circuit : CircuitView) (equations : NetView) (given : List 
 -- numbers and make this circuit, and the text under NET says these equations. What was printed is true of the two: they
 -- answer every word alike, and so the chip shows the netlist's answers in every run; or this is the least output, and
 -- its least word, at which they differ; or, where they are too large to be compared, some output and word at which they do.
-pub record ComparesChip (held : Contents) (words : List (List ℕ)) (before after : Option (List ℕ)) : Type 0 where
+pub record ComparesChip (held : Contents) (words : List (List ℕ)) (before after : Output) : Type 0 where
   pub gds : List ℕ
   pub lib : List ℕ
   pub net : List ℕ
@@ -56,4 +58,4 @@ pub record ComparesChip (held : Contents) (words : List (List ℕ)) (before afte
   pub holds : IsTrueOf circuit equations verdict
   pub shown : verdict ≡ Equal → (given : List (List Bool)) → All (λ word. length word ≡ circuit.inputs) given
       → ShowsNet circuit equations given
-  pub printed : after ≡ gained before (verdict_text verdict)
+  pub printed : after ≡ output.printed (verdict_text verdict) before

@@ -3,7 +3,11 @@
 use Rattle.std.specs.Prelude.{ℕ, ◌≡◌, ◌≢◌, ◌⊎◌, ◌<◌, ◌++◌, Bool, false, List, length, codes, Option, Some, None}
 use Rattle.std.specs.Prelude.{slice_index_or, map}
 use Rattle.std.specs.Fmt.{decimal}
-use Rattle.aq_base.specs.Store.{Contents, gained, GainsPrefix}
+use Rattle.aq_base.specs.declared.store.StoreRefusal.TheVariants as store
+use Rattle.aq_base.specs.Output.{Output}
+use Rattle.aq_base.specs.Output as output
+use Rattle.aqfp_top.specs.Printed.{PrintsFirst}
+use Rattle.aq_base.specs.Store.{Contents}
 use Rattle.circuit.specs.SameAnswers.{SameAnswers}
 use Rattle.blif_read.specs.Parts.{NetView}
 use Rattle.blif_read.specs.Netlist.{IsNetlist}
@@ -125,8 +129,8 @@ pub record IsToldOf (told : Option Contents) (words : List (List ℕ)) (Printed 
   pub printed : Printed (verdict_text verdict)
 
 -- what `out` gains: the whole line, or some first bytes of it where the fault is its own or want of memory
-abbrev pub EqualPrints : Option Contents → List (List ℕ) → Option (List ℕ) → Option (List ℕ) → Option Fault → Type 0
-EqualPrints told words before after None = IsToldOf told words (λ text. after ≡ gained before text)
-EqualPrints told words before after (Some (WriteFault call)) = IsToldOf told words (GainsPrefix before after)
-EqualPrints told words before after (Some Memory) = (after ≡ before) ⊎ IsToldOf told words (GainsPrefix before after)
+abbrev pub EqualPrints : Option Contents → List (List ℕ) → Output → Output → Option Fault → Type 0
+EqualPrints told words before after None = IsToldOf told words (λ text. after ≡ output.printed text before)
+EqualPrints told words before after (Some (WriteFault call)) = IsToldOf told words (PrintsFirst store.Failed before after)
+EqualPrints told words before after (Some Memory) = (after ≡ before) ⊎ IsToldOf told words (PrintsFirst store.Memory before after)
 EqualPrints told words before after (Some fault) = after ≡ before

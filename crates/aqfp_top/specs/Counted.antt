@@ -1,6 +1,7 @@
--- The counts of faults of the store and of `out` that an ending shows.
-use Rattle.std.specs.Prelude.{ℕ, ◌≡◌, List, Option, Some}
-use Rattle.aq_base.specs.Causes.{Rose}
+-- The counts of faults of the store and of `out` that an ending shows, by what was heard of the two.
+use Rattle.std.specs.Prelude.{ℕ, ◌≡◌, ◌<◌, List, Option, Some}
+use Rattle.aq_base.specs.Heard.{Event}
+use Rattle.aq_base.specs.FaultCounts.{read_faults, write_faults, close_faults}
 use Rattle.aqfp_top.specs.Words.{word_at}
 use Rattle.aqfp_top.specs.declared.fault.WriteCall.TheVariants.{Create, Append, Close, Out}
 use Rattle.aqfp_top.specs.declared.fault.Fault.{Fault}
@@ -13,21 +14,30 @@ pub record Counts : Type 0 where
   pub closes : ℕ
   pub outs : ℕ
 
+-- how often the store and `out` were heard to fail
+abbrev pub counts_of : List Event → List Event → Counts
+counts_of heard shown = record {
+  reads = read_faults heard;
+  writes = write_faults heard;
+  closes = close_faults heard;
+  outs = write_faults shown;
+}
+
 -- the count of the fault rose
 abbrev pub HasFaults : Counts → Counts → Option Fault → Type 0
-HasFaults before after (Some (ReadFault place)) = Rose before.reads after.reads
-HasFaults before after (Some (WriteFault Create)) = Rose before.writes after.writes
-HasFaults before after (Some (WriteFault Append)) = Rose before.writes after.writes
-HasFaults before after (Some (WriteFault Close)) = Rose before.closes after.closes
-HasFaults before after (Some (WriteFault Out)) = Rose before.outs after.outs
+HasFaults before after (Some (ReadFault place)) = before.reads < after.reads
+HasFaults before after (Some (WriteFault Create)) = before.writes < after.writes
+HasFaults before after (Some (WriteFault Append)) = before.writes < after.writes
+HasFaults before after (Some (WriteFault Close)) = before.closes < after.closes
+HasFaults before after (Some (WriteFault Out)) = before.outs < after.outs
 HasFaults before after _ = Unit {0}
 
 -- no fault rose
 pub record NoFaults (before after : Counts) : Type 0 where
-  pub reads : ¬ Rose before.reads after.reads
-  pub writes : ¬ Rose before.writes after.writes
-  pub closes : ¬ Rose before.closes after.closes
-  pub outs : ¬ Rose before.outs after.outs
+  pub reads : ¬ (before.reads < after.reads)
+  pub writes : ¬ (before.writes < after.writes)
+  pub closes : ¬ (before.closes < after.closes)
+  pub outs : ¬ (before.outs < after.outs)
 
 -- a failed load was of the name at the fault's place
 abbrev pub FailedLoad : Option (List ℕ) → List (List ℕ) → Option Fault → Type 0

@@ -1,10 +1,11 @@
 -- What any store hears of a `sample` that ends well, and what it prints.
-use Rattle.std.specs.Prelude.{ℕ, ◌≡◌, List, Option}
+use Rattle.std.specs.Prelude.{ℕ, ◌≡◌, List}
+use Rattle.aq_base.specs.Output.{Output}
+use Rattle.aq_base.specs.Output as output
 use Rattle.aq_base.specs.Heard.{Event}
-use Rattle.aq_base.specs.Store.{gained}
 use Rattle.aqfp_top.specs.Samples.{IsSampled}
 
 -- The store heard nothing: no file is asked for. `out` gained the text of the sample, and nothing else.
-pub record HearsSample (bits : ℕ) (heard heard' : List Event) (before after : Option (List ℕ)) : Type 0 where
+pub record HearsSample (bits : ℕ) (heard heard' : List Event) (before after : Output) : Type 0 where
   pub heard_is : heard' ≡ heard
-  pub sampled : IsSampled bits (λ text. after ≡ gained before text)
+  pub sampled : IsSampled bits (λ text. after ≡ output.printed text before)

@@ -1,8 +1,10 @@
 -- The line that each fault puts to `err`.
-use Rattle.std.specs.Prelude.{ℕ, suc, ◌≡◌, ◌<◌, ◌≤◌, take, length, List, ◌∷◌, ◌++◌, codes, Option, Some, None, ℤ, pos}
+use Rattle.std.specs.Prelude.{ℕ, suc, ◌≡◌, ◌<◌, ◌≤◌, ◌⊎◌, take, length, List, ◌∷◌, ◌++◌, codes, Option, Some, None, ℤ, pos}
 use Rattle.std.specs.Prelude.{negsuc}
 use Rattle.std.specs.List.{flat_map}
 use Rattle.std.specs.Fmt.{decimal}
+use Rattle.aq_base.specs.Heard.{Event}
+use Rattle.aq_base.specs.FaultCounts.{write_faults, memory_refusals}
 use Rattle.aq_base.specs.Store.{gained}
 use Rattle.circuit.specs.declared.cell_kind.CellKind.{CellKind}
 use Rattle.cell_library.specs.Kinds.{key_of}
@@ -135,6 +137,11 @@ line_of words (Widths chip_inputs chip_outputs net_inputs net_outputs) =
 line_of words (NoShape number count) =
     codes "aqfp: no shape " ++ decimal number ++ codes " of " ++ decimal count ++ codes "\n"
 line_of words Memory = codes "aqfp: out of memory\n"
+
+-- a sink was heard to refuse a piece: it failed, or memory was wanted
+abbrev pub HearsRefusals : List Event → List Event → Type 0
+HearsRefusals heard heard' =
+    (write_faults heard < write_faults heard') ⊎ (memory_refusals heard < memory_refusals heard')
 
 -- some first bytes of the text were put, and all of them unless the sink refused
 pub record Puts (before after : Option (List ℕ)) (text : List ℕ) (Refused : Type 0) : Type 0 where

@@ -1,6 +1,8 @@
 -- What `report` prints of the texts of a layout and of a library.
 use Rattle.std.specs.Prelude.{ℕ, ◌≡◌, List, Option, Some}
-use Rattle.aq_base.specs.Store.{Contents, gained}
+use Rattle.aq_base.specs.Output.{Output}
+use Rattle.aq_base.specs.Output as output
+use Rattle.aq_base.specs.Store.{Contents}
 use Rattle.aq_base.specs.Heard.{Event}
 use Rattle.poly_cut.specs.FlatForm.{wide_flat}
 use Rattle.chip_circuit.specs.Circuits.{CircuitView}
@@ -24,21 +26,21 @@ pub record IsReportOf (told : Option Contents) (words : List (List ℕ)) (text :
   pub report : IsReport gds lib text
 
 -- what a `report` that ends well has printed: the report of the chip of the bytes under GDS and LIB
-pub record ReportsChip (held : Contents) (words : List (List ℕ)) (before after : Option (List ℕ)) : Type 0 where
+pub record ReportsChip (held : Contents) (words : List (List ℕ)) (before after : Output) : Type 0 where
   pub gds : List ℕ
   pub lib : List ℕ
   pub gds_held : held (word_at words 1) ≡ Some gds
   pub lib_held : held (word_at words 2) ≡ Some lib
   pub text : List ℕ
   pub report : IsReport gds lib text
-  pub printed : after ≡ gained before text
+  pub printed : after ≡ output.printed text before
 
 -- what any store hears of it: GDS and LIB gave these bytes, and nothing else was asked or given
-pub record HearsReport (heard heard' : List Event) (words : List (List ℕ)) (before after : Option (List ℕ))
+pub record HearsReport (heard heard' : List Event) (words : List (List ℕ)) (before after : Output)
     : Type 0 where
   pub gds : List ℕ
   pub lib : List ℕ
   pub heard_is : heard' ≡ loaded heard words gds lib
   pub text : List ℕ
   pub report : IsReport gds lib text
-  pub printed : after ≡ gained before text
+  pub printed : after ≡ output.printed text before

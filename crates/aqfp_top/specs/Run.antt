@@ -1,5 +1,6 @@
 -- What a run leaves in the store and prints, by its command.
 use Rattle.std.specs.Prelude.{◌≡◌, ℕ, List, Option}
+use Rattle.aq_base.specs.Output.{Output}
 use Rattle.aq_base.specs.Store.{Contents}
 use Rattle.aqfp_top.specs.Words.{IsMake, IsMakeBy, IsVerify, IsTrace, IsEqual, IsWrite, IsReport, IsShapesOf, IsSampleOf}
 use Rattle.aqfp_top.specs.Words.{HasForm}
@@ -22,7 +23,7 @@ pub record RunStands (before after : Option Contents) (words : List (List ℕ)) 
   pub otherwise : ¬ IsMake words → ¬ IsWrite words → after ≡ before
 
 -- what `out` gains, by the command; nothing where there is none
-pub record RunPrints (told : Option Contents) (words : List (List ℕ)) (before after : Option (List ℕ))
+pub record RunPrints (told : Option Contents) (words : List (List ℕ)) (before after : Output)
     (fault : Option Fault) : Type 0 where
   pub make : (planner : Planner) → IsMakeBy planner words → BuildPrints planner told words before after fault
   pub verify : IsVerify words → CheckPrints Answers told words before after fault

@@ -1,7 +1,10 @@
 -- What a sample prints: the counts of the chip of its adder with library A, and the adder's answers to eight words.
 use Rattle.std.specs.Prelude.{ℕ, ◌≡◌, ◌⊎◌, Bool, List, length, Option, Some, None}
 use Rattle.std.specs.List.{AllZip}
-use Rattle.aq_base.specs.Store.{gained, GainsPrefix}
+use Rattle.aq_base.specs.declared.store.StoreRefusal.TheVariants as store
+use Rattle.aq_base.specs.Output.{Output}
+use Rattle.aq_base.specs.Output as output
+use Rattle.aqfp_top.specs.Printed.{PrintsFirst}
 use Rattle.blif_read.specs.Parts.{NetView}
 use Rattle.blif_read.specs.Says as netlist
 use Rattle.blif_read.specs.Equations.{IsAnswer}
@@ -32,8 +35,8 @@ pub record IsSampled (bits : ℕ) (Printed : List ℕ → Type 0) : Type 0 where
   pub printed : Printed (text_of bits (chip_of library_a_view equations) answers)
 
 -- what `out` gains: the whole text, or some first bytes of it where the fault is its own or want of memory
-abbrev pub SamplePrints : ℕ → Option (List ℕ) → Option (List ℕ) → Option Fault → Type 0
-SamplePrints bits before after None = IsSampled bits (λ text. after ≡ gained before text)
-SamplePrints bits before after (Some (WriteFault call)) = IsSampled bits (GainsPrefix before after)
-SamplePrints bits before after (Some Memory) = (after ≡ before) ⊎ IsSampled bits (GainsPrefix before after)
+abbrev pub SamplePrints : ℕ → Output → Output → Option Fault → Type 0
+SamplePrints bits before after None = IsSampled bits (λ text. after ≡ output.printed text before)
+SamplePrints bits before after (Some (WriteFault call)) = IsSampled bits (PrintsFirst store.Failed before after)
+SamplePrints bits before after (Some Memory) = (after ≡ before) ⊎ IsSampled bits (PrintsFirst store.Memory before after)
 SamplePrints bits before after (Some fault) = after ≡ before

@@ -1,6 +1,8 @@
 -- What `shapes` prints of the text of a layout: the shapes or labels of two numbers.
 use Rattle.std.specs.Prelude.{ℕ, ◌≡◌, ◌<◌, ◌≤◌, ◌⊎◌, List, ◌∷◌, ◌++◌, Option, Some, None}
-use Rattle.aq_base.specs.Store.{Contents, gained}
+use Rattle.aq_base.specs.Output.{Output}
+use Rattle.aq_base.specs.Output as output
+use Rattle.aq_base.specs.Store.{Contents}
 use Rattle.aq_base.specs.Heard.{Event, Loaded}
 use Rattle.geom.specs.declared.shapes.Flat.{Flat}
 use Rattle.geom.specs.FlatForm.{flat_count}
@@ -54,19 +56,19 @@ pub record IsShownOf (told : Option Contents) (words : List (List ℕ)) (first s
   pub shapes : AreShapes gds first second text
 
 -- what a `shapes` that ends well has printed: the two lines, of the bytes under GDS
-pub record ShowsShapes (held : Contents) (words : List (List ℕ)) (first second : ℕ) (before after : Option (List ℕ))
+pub record ShowsShapes (held : Contents) (words : List (List ℕ)) (first second : ℕ) (before after : Output)
     : Type 0 where
   pub gds : List ℕ
   pub gds_held : held (word_at words 1) ≡ Some gds
   pub text : List ℕ
   pub shapes : AreShapes gds first second text
-  pub printed : after ≡ gained before text
+  pub printed : after ≡ output.printed text before
 
 -- what any store hears of it: GDS gave these bytes, and nothing else was asked or given
 pub record HearsShapes (heard heard' : List Event) (words : List (List ℕ)) (first second : ℕ)
-    (before after : Option (List ℕ)) : Type 0 where
+    (before after : Output) : Type 0 where
   pub gds : List ℕ
   pub heard_is : heard' ≡ Loaded (word_at words 1) gds ∷ heard
   pub text : List ℕ
   pub shapes : AreShapes gds first second text
-  pub printed : after ≡ gained before text
+  pub printed : after ≡ output.printed text before

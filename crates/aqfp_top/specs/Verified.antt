@@ -1,6 +1,8 @@
 -- What a verify or a trace that ends well has shown of the chip under GDS.
-use Rattle.std.specs.Prelude.{◌≡◌, ℕ, Bool, List, Option, Some}
-use Rattle.aq_base.specs.Store.{Contents, gained}
+use Rattle.std.specs.Prelude.{◌≡◌, ℕ, Bool, List, Some}
+use Rattle.aq_base.specs.Output.{Output}
+use Rattle.aq_base.specs.Output as output
+use Rattle.aq_base.specs.Store.{Contents}
 use Rattle.poly_cut.specs.declared.layout.WideLayout.{WideLayout}
 use Rattle.poly_cut.specs.FlatForm.{wide_flat}
 use Rattle.gds_records.specs.Stream.{IsWideStream}
@@ -38,18 +40,18 @@ pub record ChecksChip (held : Contents) (words : List (List ℕ)) (circuit : Cir
 
 -- The chip's counts were printed, and for each word the answer that the circuit shows in every order of switching, and
 -- by every clock whose windows keep clear at each cell and its feeds.
-pub record VerifiesChip (held : Contents) (words : List (List ℕ)) (before after : Option (List ℕ)) : Type 0 where
+pub record VerifiesChip (held : Contents) (words : List (List ℕ)) (before after : Output) : Type 0 where
   pub circuit : CircuitView
   pub given : List (List Bool)
   pub checks : ChecksChip held words circuit given
   pub answers : List (List Bool)
   pub shows : Shows circuit (delay_of circuit) given answers
   pub by_clocks : ShowsByClocks circuit (delay_of circuit) given answers
-  pub printed : after ≡ gained before (answers_text circuit answers)
+  pub printed : after ≡ output.printed (answers_text circuit answers) before
 
 -- The chip's counts were printed, and the flux of each cell at each time of the settled run.
-pub record TracesChip (held : Contents) (words : List (List ℕ)) (before after : Option (List ℕ)) : Type 0 where
+pub record TracesChip (held : Contents) (words : List (List ℕ)) (before after : Output) : Type 0 where
   pub circuit : CircuitView
   pub given : List (List Bool)
   pub checks : ChecksChip held words circuit given
-  pub printed : after ≡ gained before (trace_text circuit given)
+  pub printed : after ≡ output.printed (trace_text circuit given) before

@@ -1,7 +1,12 @@
 -- What `netlist` makes of the texts of a layout and of a library: the circuit of the chip, whose netlist it stores, and
 -- whose counts it prints.
 use Rattle.std.specs.Prelude.{ℕ, ◌≡◌, ◌⊎◌, List, Option, Some, None}
-use Rattle.aq_base.specs.Store.{Contents, told_with, StoresPrefix, gained, GainsPrefix}
+use Rattle.aq_base.specs.declared.store.StoreRefusal.{StoreRefusal}
+use Rattle.aq_base.specs.declared.store.StoreRefusal.TheVariants as store
+use Rattle.aq_base.specs.Output.{Output}
+use Rattle.aq_base.specs.Output as output
+use Rattle.aqfp_top.specs.Printed.{PrintsFirst}
+use Rattle.aq_base.specs.Store.{Contents, told_with, StoresPrefix}
 use Rattle.chip_circuit.specs.Circuits.{CircuitView, KeepsFacts}
 use Rattle.chip_texts.specs.Counts.{counts_line}
 use Rattle.blif_flat.specs.BlifText.{blif_text}
@@ -50,20 +55,22 @@ WriteStands before after words (Some (WriteFault Out)) = StoresNetlist before af
 WriteStands before after words (Some Memory) = (after ≡ before) ⊎ StoresSome before after words
 WriteStands before after words (Some _) = after ≡ before
 
--- `out` gained some first bytes of the circuit's counts line
-abbrev pub PrintsSome : Option Contents → List (List ℕ) → Option (List ℕ) → Option (List ℕ) → Type 0
-PrintsSome told words before after = IsRead told words (λ circuit. GainsPrefix before after (counts_line circuit))
+-- `out` took some first bytes of the circuit's counts line, and then printing ended for this reason
+abbrev pub PrintsSome : StoreRefusal → Option Contents → List (List ℕ) → Output → Output → Type 0
+PrintsSome why told words before after =
+    IsRead told words (λ circuit. PrintsFirst why before after (counts_line circuit))
 
 -- what `out` gains: the circuit's counts line, or some first bytes of it where the fault is its own or want of memory
-abbrev pub WritePrints : Option Contents → List (List ℕ) → Option (List ℕ) → Option (List ℕ) → Option Fault → Type 0
+abbrev pub WritePrints : Option Contents → List (List ℕ) → Output → Output → Option Fault → Type 0
 WritePrints told words before after None =
-    IsRead told words (λ circuit. after ≡ gained before (counts_line circuit))
-WritePrints told words before after (Some (WriteFault Out)) = PrintsSome told words before after
-WritePrints told words before after (Some Memory) = (after ≡ before) ⊎ PrintsSome told words before after
+    IsRead told words (λ circuit. after ≡ output.printed (counts_line circuit) before)
+WritePrints told words before after (Some (WriteFault Out)) = PrintsSome store.Failed told words before after
+WritePrints told words before after (Some Memory) =
+    (after ≡ before) ⊎ PrintsSome store.Memory told words before after
 WritePrints told words before after (Some _) = after ≡ before
 
 -- what a run that ends well has done, all of one circuit
 pub record IsWritten (before after : Option Contents) (words : List (List ℕ))
-    (printed_before printed_after : Option (List ℕ)) (circuit : CircuitView) : Type 0 where
+    (out out' : Output) (circuit : CircuitView) : Type 0 where
   pub stored : after ≡ told_with before (word_at words 3) (blif_text circuit)
-  pub printed : printed_after ≡ gained printed_before (counts_line circuit)
+  pub printed : out' ≡ output.printed (counts_line circuit) out

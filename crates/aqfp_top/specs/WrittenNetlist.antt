@@ -1,6 +1,8 @@
 -- What a `netlist` that ends well has stored and printed: the circuit of the chip under GDS, and its counts.
 use Rattle.std.specs.Prelude.{◌≡◌, ℕ, List, Option, Some}
-use Rattle.aq_base.specs.Store.{Contents, with_file, gained}
+use Rattle.aq_base.specs.Output.{Output}
+use Rattle.aq_base.specs.Output as output
+use Rattle.aq_base.specs.Store.{Contents, with_file}
 use Rattle.poly_cut.specs.declared.layout.WideLayout.{WideLayout}
 use Rattle.poly_cut.specs.FlatForm.{wide_flat}
 use Rattle.gds_records.specs.Stream.{IsWideStream}
@@ -19,7 +21,7 @@ use Rattle.aqfp_top.specs.Words.{word_at}
 -- OUT holds the circuit's text, and no other name has changed; the text says a netlist that answers every word as the
 -- circuit.
 pub record WritesNetlist (held : Contents) (after : Option Contents) (words : List (List ℕ))
-    (printed_before printed_after : Option (List ℕ)) : Type 0 where
+    (out out' : Output) : Type 0 where
   pub gds : List ℕ
   pub lib : List ℕ
   pub gds_held : held (word_at words 1) ≡ Some gds
@@ -34,4 +36,4 @@ pub record WritesNetlist (held : Contents) (after : Option Contents) (words : Li
   pub circuit_keeps : KeepsFacts circuit
   pub stored : after ≡ Some (with_file held (word_at words 3) (blif_text circuit))
   pub answers : AnswersAsWritten circuit
-  pub printed : printed_after ≡ gained printed_before (counts_line circuit)
+  pub printed : out' ≡ output.printed (counts_line circuit) out

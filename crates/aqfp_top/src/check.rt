@@ -1,11 +1,8 @@
 // `verify GDS LIB WORDS` and `trace GDS LIB WORDS`.
-ghost use Rattle.std.specs.Prelude.{◌≡◌, ◌^◌, ◌<◌, ℕ, All, List, Some, None, length, IsErrOf, IsSome, IfOk, IfErr, OnOk, OnErr};
+ghost use Rattle.std.specs.Prelude.{◌≡◌, ◌^◌, ◌<◌, ℕ, All, List, Some, None, length, IfOk, IfErr, OnOk};
 ghost use Rattle.std.specs.Result.{result_err};
-ghost use Rattle.aq_base.specs.Causes.{Rose};
-ghost use Rattle.aq_base.specs.Store.{gained, GainsPrefix};
 ghost use Rattle.chip_texts.specs.WordsText.{words_of, SaysWords};
 ghost use Rattle.aqfp_top.specs.Words.{spelled};
-ghost use Rattle.aqfp_top.specs.Counted.{HasFaults, FailedLoad};
 ghost use Rattle.aqfp_top.specs.Stages.{IsFirst, Answers};
 ghost use Rattle.aqfp_top.specs.Loads.{check_loads};
 ghost use Rattle.aqfp_top.specs.Due.{check_stages, circuit_stages, judging_stages};
@@ -14,12 +11,14 @@ ghost use Rattle.aqfp_top.specs.Histories.{HeardChecked};
 ghost use Rattle.aqfp_top.specs.HeardDue.{DueOfThree};
 ghost use Rattle.aqfp_top.specs.Checks.{MakesCircuit, CheckPrints, text_of};
 ghost use Rattle.aqfp_top.specs.Code.Staging.{ToldAnswers};
-ghost use Rattle.aqfp_top.specs.Code.Building.{IsOutOrMemory};
+ghost use Rattle.aqfp_top.specs.Code.Printing.{PrintsText, OutFails};
+ghost use Rattle.aqfp_top.specs.Code.Standing.{standing};
 ghost use Rattle.aqfp_top.specs.Code.Checking.{IsJudgingFault};
 
-use crate::fault::{Fault, WriteCall};
+use crate::fault::Fault;
+use crate::out::out_end;
 use crate::reading::{load_texts, read_circuit};
-use aq_base::{Files, Sink, StoreRefusal};
+use aq_base::{Files, Sink};
 use chip_texts::{GivenWords, print_answers, print_fluxes, read_words};
 use gds_records::one_wide_reading;
 use shape_extract::{Extracted, one_circuit};
@@ -54,6 +53,7 @@ fn words_for<'a>(text: &'a [u8], circuit: &Extracted) -> Result<GivenWords<'a>, 
     }
 }
 
+#[tactic(auto, using(crate::proofs::OutEnds::ends_text))]
 fn print<O: Sink>(
     alloc: Global,
     printing: Printing,
@@ -62,22 +62,13 @@ fn print<O: Sink>(
     out: &mut O,
 ) -> Result<(), Fault>
     requires { All (λ word. length word ≡ circuit.now.inputs) words.now }
-    ensures added { OnOk result (O.written out.new ≡ gained (O.written out.old) (text_of printing circuit.now words.now)) }
-    ensures prefix { OnErr result (GainsPrefix (O.written out.old) (O.written out.new) (text_of printing circuit.now words.now)) }
-    ensures cause { IsErrOf result (Fault.WriteFault WriteCall.Out) → Rose (O.faults out.old) (O.faults out.new) }
-    ensures only { IfErr result IsOutOrMemory }
+    ensures { PrintsText (text_of printing circuit.now words.now) (O.output out.old) (O.output out.new) result }
 {
     let printed = match printing {
         Printing::Answers => print_answers(alloc, circuit, words, out),
         Printing::Fluxes => print_fluxes(alloc, circuit, words, out),
     };
-    match printed {
-        Ok(()) => Ok(()),
-        Err(StoreRefusal::Failed) => Err(Fault::WriteFault {
-            call: WriteCall::Out,
-        }),
-        Err(StoreRefusal::Memory) => Err(Fault::Memory),
-    }
+    out_end(printed)
 }
 
 /// Judges a chip's stream, a library and words, and prints the chip's counts and what its circuit shows.
@@ -90,17 +81,14 @@ pub fn check<F: Files, O: Sink>(
     out: &mut O,
 ) -> Result<(), Fault>
     requires { length words.now ≡ 4 }
-    ensures answer { ToldAnswers check_stages (F.told files.old) (spelled words.now) (result_err result) }
-    ensures prints { CheckPrints printing (F.told files.old) (spelled words.now) (O.written out.old) (O.written out.new) (result_err result) }
-    ensures faults { HasFaults (record { reads = F.read_faults files.old; writes = F.write_faults files.old; closes = F.close_faults files.old; outs = O.faults out.old })
-        (record { reads = F.read_faults files.new; writes = F.write_faults files.new; closes = F.close_faults files.new; outs = O.faults out.new }) (result_err result) }
-    ensures failed { IsSome (F.told files.old) → FailedLoad (F.load_failed files.new) (spelled words.now) (result_err result) }
-    ensures heard { OnOk result (HeardChecked printing (F.heard files.old) (F.heard files.new) (spelled words.now) (O.written out.old) (O.written out.new)) }
-    ensures due { DueOfThree check_loads judging_stages (F.heard files.old) (F.heard files.new) (spelled words.now)
+    ensures answer { ToldAnswers check_stages (F.outside files.old).told (spelled words.now) (result_err result) }
+    ensures prints { CheckPrints printing (F.outside files.old).told (spelled words.now) (O.output out.old) (O.output out.new) (result_err result) }
+    ensures fails { OutFails (O.output out.old).heard (O.output out.new).heard (result_err result) }
+    ensures heard { OnOk result (HeardChecked printing (F.outside files.old).heard (F.outside files.new).heard (spelled words.now) (O.output out.old) (O.output out.new)) }
+    ensures due { DueOfThree check_loads judging_stages (F.outside files.old).heard (F.outside files.new).heard (spelled words.now)
         (result_err result) }
     ensures only { IfErr result IsCheckFault }
-    ensures told { F.told files.new ≡ F.told files.old }
-    ensures name { F.opened files.new ≡ F.opened files.old }
+    ensures kept { standing (F.outside files.new) ≡ standing (F.outside files.old) }
 {
     let texts = load_texts(alloc, files, words)?;
     let circuit = read_circuit(alloc, texts.gds, &texts.lib)?;

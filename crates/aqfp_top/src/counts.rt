@@ -1,16 +1,15 @@
 // The counts of a chip, and their line.
-ghost use Rattle.std.specs.Prelude.{◌≡◌, ◌<◌, ◌^◌, OnOk, OnErr, IsErrOf, IfErr};
-ghost use Rattle.aq_base.specs.Causes.{Rose};
-ghost use Rattle.aq_base.specs.Store.{gained, GainsPrefix};
+ghost use Rattle.std.specs.Prelude.{◌<◌, ◌^◌};
 ghost use Rattle.rowed.specs.Counts.{cells_in, wires_in};
 ghost use Rattle.chip_texts.specs.Counts.{counts_text};
-ghost use Rattle.aqfp_top.specs.Code.Building.{IsOutOrMemory};
 ghost use Rattle.aqfp_top.specs.Code.Designing.{AreCountsOf};
+ghost use Rattle.aqfp_top.specs.Code.Printing.{PrintsText};
 ghost use Rattle.aqfp_top.specs.Code.Writing.{AreCircuitCounts};
 
-use crate::fault::{Fault, WriteCall};
+use crate::fault::Fault;
+use crate::out::out_end;
 use crate::pieces::{Piece, put_pieces};
-use aq_base::{Sink, StoreRefusal};
+use aq_base::Sink;
 use rowed::Placed;
 use shape_extract::Extracted;
 
@@ -49,11 +48,10 @@ pub fn circuit_counts(circuit: &Extracted) -> ChipCounts
 }
 
 /// Puts the counts line.
+#[tactic(auto, using(crate::proofs::OutEnds::ends_text, chip_texts::proofs::Pages::put_within))]
 pub fn put_counts<O: Sink>(counts: &ChipCounts, out: &mut O) -> Result<(), Fault>
-    ensures added { OnOk result (O.written out.new ≡ gained (O.written out.old) (counts_text counts.now.rows counts.now.cells counts.now.wires)) }
-    ensures prefix { OnErr result (GainsPrefix (O.written out.old) (O.written out.new) (counts_text counts.now.rows counts.now.cells counts.now.wires)) }
-    ensures cause { IsErrOf result (Fault.WriteFault WriteCall.Out) → Rose (O.faults out.old) (O.faults out.new) }
-    ensures only { IfErr result IsOutOrMemory }
+    ensures { PrintsText (counts_text counts.now.rows counts.now.cells counts.now.wires)
+        (O.output out.old) (O.output out.new) result }
 {
     let pieces = [
         Piece::Text(b"rows "),
@@ -66,11 +64,5 @@ pub fn put_counts<O: Sink>(counts: &ChipCounts, out: &mut O) -> Result<(), Fault
         Piece::Number(counts.rows.saturating_sub(1)),
         Piece::Text(b"\n"),
     ];
-    match put_pieces(out, &pieces) {
-        Ok(()) => Ok(()),
-        Err(StoreRefusal::Failed) => Err(Fault::WriteFault {
-            call: WriteCall::Out,
-        }),
-        Err(StoreRefusal::Memory) => Err(Fault::Memory),
-    }
+    out_end(put_pieces(out, &pieces))
 }

@@ -5,22 +5,24 @@ ghost use Rattle.cell_library.specs.Library.{limits_of};
 ghost use Rattle.layout_rules.specs.Limits.{Limits};
 ghost use Rattle.layout_rules.specs.Rules.{KeepsRules};
 ghost use Rattle.shape_extract.specs.Extracts.{Extracts};
+ghost use Rattle.shape_extract.specs.Filed.{IsFiled};
 ghost use Rattle.aqfp_top.specs.Code.Checking.{IsBroken};
 
 use crate::fault::Fault;
 use cell_library::Library;
 use geom::Flat;
-use rule_check::{CheckRefusal, check};
-use shape_extract::{ExtractRefusal, Extracted, extract};
+use rule_check::{CheckRefusal, check_filed};
+use shape_extract::{ExtractRefusal, Extracted, FiledShapes, extract_filed, file_kinds};
 use std::alloc::Global;
 
 /// The circuit of the shapes, where they keep the rules that make one; else the first of these that is broken.
-pub fn extracted(alloc: Global, flat: &Flat) -> Result<Extracted, Fault>
-    requires { flat_count flat.now < 2 ^ 32 }
+fn extracted(alloc: Global, flat: &Flat, filed: &FiledShapes) -> Result<Extracted, Fault>
+    requires few { flat_count flat.now < 2 ^ 32 }
+    requires filed { IsFiled flat.now.shapes filed.now }
     ensures ok { IfOk result (Extracts flat.now) }
     ensures bad { IfErr result (λ fault. (limits : Limits) → IsBroken flat.now limits fault) }
 {
-    match extract(alloc, flat) {
+    match extract_filed(alloc, flat, filed) {
         Ok(circuit) => Ok(circuit),
         Err(
             ExtractRefusal::Broken {
@@ -39,18 +41,20 @@ pub fn extracted(alloc: Global, flat: &Flat) -> Result<Extracted, Fault>
 
 /// Whether the shapes, whose circuit this is, keep all rules with the numbers of the library; else the first that is
 /// broken.
-pub fn check_geometry(
+fn check_geometry(
     alloc: Global,
     flat: &Flat,
+    filed: &FiledShapes,
     circuit: &Extracted,
     cells: &Library,
 ) -> Result<(), Fault>
     requires few { flat_count flat.now < 2 ^ 32 }
+    requires filed { IsFiled flat.now.shapes filed.now }
     requires circuit { Extracts flat.now circuit.now }
     ensures ok { OnOk result (KeepsRules flat.now (limits_of cells.now)) }
     ensures bad { IfErr result (IsBroken flat.now (limits_of cells.now)) }
 {
-    match check(alloc, flat, circuit, cells) {
+    match check_filed(alloc, flat, filed, circuit, cells) {
         Ok(()) => Ok(()),
         Err(
             CheckRefusal::Broken {
@@ -65,4 +69,37 @@ pub fn check_geometry(
         }),
         Err(CheckRefusal::Memory) => Err(Fault::Memory),
     }
+}
+
+/// The circuit of shapes that are filed, where they keep all rules with the numbers of the library; else the first that
+/// is broken.
+fn judge_filed(
+    alloc: Global,
+    flat: &Flat,
+    filed: &FiledShapes,
+    cells: &Library,
+) -> Result<Extracted, Fault>
+    requires few { flat_count flat.now < 2 ^ 32 }
+    requires filed { IsFiled flat.now.shapes filed.now }
+    ensures rules { OnOk result (KeepsRules flat.now (limits_of cells.now)) }
+    ensures circuit { IfOk result (Extracts flat.now) }
+    ensures bad { IfErr result (IsBroken flat.now (limits_of cells.now)) }
+{
+    let circuit = extracted(alloc, flat, filed)?;
+    check_geometry(alloc, flat, filed, &circuit, cells)?;
+    Ok(circuit)
+}
+
+/// The circuit of the shapes, where they keep all rules with the numbers of the library; else the first that is broken.
+/// The shapes are filed once for all rules.
+pub fn judge_shapes(alloc: Global, flat: &Flat, cells: &Library) -> Result<Extracted, Fault>
+    requires { flat_count flat.now < 2 ^ 32 }
+    ensures rules { OnOk result (KeepsRules flat.now (limits_of cells.now)) }
+    ensures circuit { IfOk result (Extracts flat.now) }
+    ensures bad { IfErr result (IsBroken flat.now (limits_of cells.now)) }
+{
+    let Ok(filed) = file_kinds(alloc, flat.shapes.as_slice()) else {
+        return Err(Fault::Memory);
+    };
+    judge_filed(alloc, flat, &filed, cells)
 }

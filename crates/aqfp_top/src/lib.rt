@@ -13,6 +13,7 @@ mod fault;
 mod joined;
 mod judge;
 mod load;
+mod out;
 mod page;
 mod pieces;
 mod planner;

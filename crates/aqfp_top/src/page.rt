@@ -1,8 +1,7 @@
 // A page of text that waits to be put, so that a line of many signals is put by few calls. It stands on the stack: the
 // line that tells a fault takes no memory.
-ghost use Rattle.std.specs.Prelude.{◌≡◌, ◌∷◌, ◌++◌, ◌<◌, ◌≤◌, ℕ, List, [], length, take, OnOk, OnErr, IsErrOf, MatchBool};
-ghost use Rattle.aq_base.specs.Causes.{HasCause};
-ghost use Rattle.aq_base.specs.Store.{gained, GainsPrefix};
+ghost use Rattle.std.specs.Prelude.{◌≡◌, ◌∷◌, ◌++◌, ◌<◌, ◌≤◌, ℕ, List, [], length, take, OnOk, IfErr, MatchBool};
+ghost use Rattle.aq_base.specs.Output.{printed, PrintsPart};
 ghost use Rattle.aqfp_top.specs.Code.Pages.{Pends};
 
 use aq_base::{Sink, StoreRefusal};
@@ -68,11 +67,9 @@ impl Page {
 
 /// Puts what stands on the page, and clears it.
 pub fn put_page<S: Sink>(sink: &mut S, page: &mut Page) -> Result<(), StoreRefusal>
-    ensures added { OnOk result (S.written sink.new ≡ gained (S.written sink.old) page.old) }
+    ensures added { OnOk result (S.output sink.new ≡ printed page.old (S.output sink.old)) }
     ensures empty { OnOk result (page.new ≡ []) }
-    ensures prefix { OnErr result (GainsPrefix (S.written sink.old) (S.written sink.new) page.old) }
-    ensures faults { HasCause (S.faults sink.old) (S.faults sink.new) (IsErrOf result StoreRefusal.Failed) }
-    ensures refused { HasCause (S.refused sink.old) (S.refused sink.new) (IsErrOf result StoreRefusal.Memory) }
+    ensures part { IfErr result (PrintsPart (S.output sink.old) (S.output sink.new) page.old) }
 {
     sink.put(page.as_slice())?;
     page.clear();
@@ -82,10 +79,8 @@ pub fn put_page<S: Sink>(sink: &mut S, page: &mut Page) -> Result<(), StoreRefus
 /// Adds a byte to the page, which is put before if it is full.
 #[tactic(auto, using(crate::proofs::Pending::pending))]
 pub fn add_byte<S: Sink>(sink: &mut S, page: &mut Page, byte: u8) -> Result<(), StoreRefusal>
-    ensures pends { OnOk result (Pends (S.written sink.old) (S.written sink.new) page.new (page.old ++ byte ∷ [])) }
-    ensures prefix { OnErr result (GainsPrefix (S.written sink.old) (S.written sink.new) (page.old ++ byte ∷ [])) }
-    ensures faults { HasCause (S.faults sink.old) (S.faults sink.new) (IsErrOf result StoreRefusal.Failed) }
-    ensures refused { HasCause (S.refused sink.old) (S.refused sink.new) (IsErrOf result StoreRefusal.Memory) }
+    ensures pends { OnOk result (Pends (S.output sink.old) (S.output sink.new) page.new (page.old ++ byte ∷ [])) }
+    ensures part { IfErr result (PrintsPart (S.output sink.old) (S.output sink.new) (page.old ++ byte ∷ [])) }
 {
     if page.is_full() {
         put_page(sink, page)?;
@@ -97,10 +92,8 @@ pub fn add_byte<S: Sink>(sink: &mut S, page: &mut Page, byte: u8) -> Result<(), 
 /// Adds a text to the page, which is put each time that it is full.
 #[tactic(auto, using(crate::proofs::Pending::pending))]
 pub fn add_text<S: Sink>(sink: &mut S, page: &mut Page, text: &[u8]) -> Result<(), StoreRefusal>
-    ensures pends { OnOk result (Pends (S.written sink.old) (S.written sink.new) page.new (page.old ++ text.now)) }
-    ensures prefix { OnErr result (GainsPrefix (S.written sink.old) (S.written sink.new) (page.old ++ text.now)) }
-    ensures faults { HasCause (S.faults sink.old) (S.faults sink.new) (IsErrOf result StoreRefusal.Failed) }
-    ensures refused { HasCause (S.refused sink.old) (S.refused sink.new) (IsErrOf result StoreRefusal.Memory) }
+    ensures pends { OnOk result (Pends (S.output sink.old) (S.output sink.new) page.new (page.old ++ text.now)) }
+    ensures part { IfErr result (PrintsPart (S.output sink.old) (S.output sink.new) (page.old ++ text.now)) }
 {
     for byte in text {
         add_byte(sink, page, *byte)?;

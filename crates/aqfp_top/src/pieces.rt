@@ -1,8 +1,7 @@
 // Texts that are put piece by piece, without taking memory: they wait on a page of the stack.
-ghost use Rattle.std.specs.Prelude.{◌≡◌, ◌∷◌, ◌++◌, ◌<◌, OnOk, OnErr, IsErrOf};
+ghost use Rattle.std.specs.Prelude.{◌≡◌, ◌∷◌, ◌++◌, ◌<◌, OnOk, IfErr};
 ghost use Rattle.std.specs.Fmt.{decimal};
-ghost use Rattle.aq_base.specs.Causes.{HasCause};
-ghost use Rattle.aq_base.specs.Store.{gained, GainsPrefix};
+ghost use Rattle.aq_base.specs.Output.{printed, PrintsPart};
 ghost use Rattle.aqfp_top.specs.Lines.{signals_text, integer_text, pair_text};
 ghost use Rattle.aqfp_top.specs.Code.Pages.{Pends};
 ghost use Rattle.aqfp_top.specs.Code.Pieces.{piece_text, pieces_text};
@@ -29,10 +28,8 @@ pub enum Piece<'a> {
 // Adds a number in decimal digits.
 #[tactic(auto, using(crate::proofs::Pending::numbers))]
 fn add_decimal<S: Sink>(sink: &mut S, page: &mut Page, n: u64) -> Result<(), StoreRefusal>
-    ensures pends { OnOk result (Pends (S.written sink.old) (S.written sink.new) page.new (page.old ++ decimal n)) }
-    ensures prefix { OnErr result (GainsPrefix (S.written sink.old) (S.written sink.new) (page.old ++ decimal n)) }
-    ensures faults { HasCause (S.faults sink.old) (S.faults sink.new) (IsErrOf result StoreRefusal.Failed) }
-    ensures refused { HasCause (S.refused sink.old) (S.refused sink.new) (IsErrOf result StoreRefusal.Memory) }
+    ensures pends { OnOk result (Pends (S.output sink.old) (S.output sink.new) page.new (page.old ++ decimal n)) }
+    ensures part { IfErr result (PrintsPart (S.output sink.old) (S.output sink.new) (page.old ++ decimal n)) }
 {
     if n < 10 {
         return add_byte(sink, page, b'0' + n as u8);
@@ -44,10 +41,8 @@ fn add_decimal<S: Sink>(sink: &mut S, page: &mut Page, n: u64) -> Result<(), Sto
 // Adds an integer in decimal digits, after a minus sign where it is negative.
 #[tactic(auto, using(crate::proofs::Pending::numbers))]
 fn add_integer<S: Sink>(sink: &mut S, page: &mut Page, n: i64) -> Result<(), StoreRefusal>
-    ensures pends { OnOk result (Pends (S.written sink.old) (S.written sink.new) page.new (page.old ++ integer_text n)) }
-    ensures prefix { OnErr result (GainsPrefix (S.written sink.old) (S.written sink.new) (page.old ++ integer_text n)) }
-    ensures faults { HasCause (S.faults sink.old) (S.faults sink.new) (IsErrOf result StoreRefusal.Failed) }
-    ensures refused { HasCause (S.refused sink.old) (S.refused sink.new) (IsErrOf result StoreRefusal.Memory) }
+    ensures pends { OnOk result (Pends (S.output sink.old) (S.output sink.new) page.new (page.old ++ integer_text n)) }
+    ensures part { IfErr result (PrintsPart (S.output sink.old) (S.output sink.new) (page.old ++ integer_text n)) }
 {
     if n >= 0 {
         return add_decimal(sink, page, n as u64);
@@ -59,10 +54,8 @@ fn add_integer<S: Sink>(sink: &mut S, page: &mut Page, n: i64) -> Result<(), Sto
 // Adds a number, after a blank.
 #[tactic(auto, using(crate::proofs::Pending::numbers))]
 fn add_after_blank<S: Sink>(sink: &mut S, page: &mut Page, number: u32) -> Result<(), StoreRefusal>
-    ensures pends { OnOk result (Pends (S.written sink.old) (S.written sink.new) page.new (page.old ++ 32 ∷ decimal number)) }
-    ensures prefix { OnErr result (GainsPrefix (S.written sink.old) (S.written sink.new) (page.old ++ 32 ∷ decimal number)) }
-    ensures faults { HasCause (S.faults sink.old) (S.faults sink.new) (IsErrOf result StoreRefusal.Failed) }
-    ensures refused { HasCause (S.refused sink.old) (S.refused sink.new) (IsErrOf result StoreRefusal.Memory) }
+    ensures pends { OnOk result (Pends (S.output sink.old) (S.output sink.new) page.new (page.old ++ 32 ∷ decimal number)) }
+    ensures part { IfErr result (PrintsPart (S.output sink.old) (S.output sink.new) (page.old ++ 32 ∷ decimal number)) }
 {
     add_byte(sink, page, b' ')?;
     add_decimal(sink, page, u64::from(number))
@@ -76,10 +69,8 @@ fn add_pair<S: Sink>(
     first: u32,
     second: u32,
 ) -> Result<(), StoreRefusal>
-    ensures pends { OnOk result (Pends (S.written sink.old) (S.written sink.new) page.new (page.old ++ pair_text first second)) }
-    ensures prefix { OnErr result (GainsPrefix (S.written sink.old) (S.written sink.new) (page.old ++ pair_text first second)) }
-    ensures faults { HasCause (S.faults sink.old) (S.faults sink.new) (IsErrOf result StoreRefusal.Failed) }
-    ensures refused { HasCause (S.refused sink.old) (S.refused sink.new) (IsErrOf result StoreRefusal.Memory) }
+    ensures pends { OnOk result (Pends (S.output sink.old) (S.output sink.new) page.new (page.old ++ pair_text first second)) }
+    ensures part { IfErr result (PrintsPart (S.output sink.old) (S.output sink.new) (page.old ++ pair_text first second)) }
 {
     add_decimal(sink, page, u64::from(first))?;
     add_after_blank(sink, page, second)
@@ -92,10 +83,8 @@ fn add_signal<S: Sink>(
     page: &mut Page,
     signal: &ShortBytes,
 ) -> Result<(), StoreRefusal>
-    ensures pends { OnOk result (Pends (S.written sink.old) (S.written sink.new) page.new (page.old ++ 32 ∷ signal.now)) }
-    ensures prefix { OnErr result (GainsPrefix (S.written sink.old) (S.written sink.new) (page.old ++ 32 ∷ signal.now)) }
-    ensures faults { HasCause (S.faults sink.old) (S.faults sink.new) (IsErrOf result StoreRefusal.Failed) }
-    ensures refused { HasCause (S.refused sink.old) (S.refused sink.new) (IsErrOf result StoreRefusal.Memory) }
+    ensures pends { OnOk result (Pends (S.output sink.old) (S.output sink.new) page.new (page.old ++ 32 ∷ signal.now)) }
+    ensures part { IfErr result (PrintsPart (S.output sink.old) (S.output sink.new) (page.old ++ 32 ∷ signal.now)) }
 {
     add_byte(sink, page, b' ')?;
     add_text(sink, page, signal.as_slice())
@@ -108,10 +97,8 @@ fn add_signals<S: Sink>(
     page: &mut Page,
     signals: &List<ShortBytes>,
 ) -> Result<(), StoreRefusal>
-    ensures pends { OnOk result (Pends (S.written sink.old) (S.written sink.new) page.new (page.old ++ signals_text signals.now)) }
-    ensures prefix { OnErr result (GainsPrefix (S.written sink.old) (S.written sink.new) (page.old ++ signals_text signals.now)) }
-    ensures faults { HasCause (S.faults sink.old) (S.faults sink.new) (IsErrOf result StoreRefusal.Failed) }
-    ensures refused { HasCause (S.refused sink.old) (S.refused sink.new) (IsErrOf result StoreRefusal.Memory) }
+    ensures pends { OnOk result (Pends (S.output sink.old) (S.output sink.new) page.new (page.old ++ signals_text signals.now)) }
+    ensures part { IfErr result (PrintsPart (S.output sink.old) (S.output sink.new) (page.old ++ signals_text signals.now)) }
 {
     for signal in signals.as_slice() {
         add_signal(sink, page, signal)?;
@@ -122,10 +109,8 @@ fn add_signals<S: Sink>(
 // Adds a piece.
 #[tactic(auto, using(crate::proofs::Pending::numbers))]
 fn add_piece<S: Sink>(sink: &mut S, page: &mut Page, piece: &Piece<'_>) -> Result<(), StoreRefusal>
-    ensures pends { OnOk result (Pends (S.written sink.old) (S.written sink.new) page.new (page.old ++ piece_text piece.now)) }
-    ensures prefix { OnErr result (GainsPrefix (S.written sink.old) (S.written sink.new) (page.old ++ piece_text piece.now)) }
-    ensures faults { HasCause (S.faults sink.old) (S.faults sink.new) (IsErrOf result StoreRefusal.Failed) }
-    ensures refused { HasCause (S.refused sink.old) (S.refused sink.new) (IsErrOf result StoreRefusal.Memory) }
+    ensures pends { OnOk result (Pends (S.output sink.old) (S.output sink.new) page.new (page.old ++ piece_text piece.now)) }
+    ensures part { IfErr result (PrintsPart (S.output sink.old) (S.output sink.new) (page.old ++ piece_text piece.now)) }
 {
     match piece {
         Piece::Text(text) => add_text(sink, page, text),
@@ -143,10 +128,8 @@ fn add_pieces<S: Sink>(
     page: &mut Page,
     pieces: &[Piece<'_>],
 ) -> Result<(), StoreRefusal>
-    ensures pends { OnOk result (Pends (S.written sink.old) (S.written sink.new) page.new (page.old ++ pieces_text pieces.now)) }
-    ensures prefix { OnErr result (GainsPrefix (S.written sink.old) (S.written sink.new) (page.old ++ pieces_text pieces.now)) }
-    ensures faults { HasCause (S.faults sink.old) (S.faults sink.new) (IsErrOf result StoreRefusal.Failed) }
-    ensures refused { HasCause (S.refused sink.old) (S.refused sink.new) (IsErrOf result StoreRefusal.Memory) }
+    ensures pends { OnOk result (Pends (S.output sink.old) (S.output sink.new) page.new (page.old ++ pieces_text pieces.now)) }
+    ensures part { IfErr result (PrintsPart (S.output sink.old) (S.output sink.new) (page.old ++ pieces_text pieces.now)) }
 {
     for piece in pieces {
         add_piece(sink, page, piece)?;
@@ -157,10 +140,8 @@ fn add_pieces<S: Sink>(
 /// Puts the pieces one after another, as far as the sink takes them.
 #[tactic(auto, using(crate::proofs::Pending::pending))]
 pub fn put_pieces<S: Sink>(sink: &mut S, pieces: &[Piece<'_>]) -> Result<(), StoreRefusal>
-    ensures added { OnOk result (S.written sink.new ≡ gained (S.written sink.old) (pieces_text pieces.now)) }
-    ensures prefix { OnErr result (GainsPrefix (S.written sink.old) (S.written sink.new) (pieces_text pieces.now)) }
-    ensures faults { HasCause (S.faults sink.old) (S.faults sink.new) (IsErrOf result StoreRefusal.Failed) }
-    ensures refused { HasCause (S.refused sink.old) (S.refused sink.new) (IsErrOf result StoreRefusal.Memory) }
+    ensures added { OnOk result (S.output sink.new ≡ printed (pieces_text pieces.now) (S.output sink.old)) }
+    ensures part { IfErr result (PrintsPart (S.output sink.old) (S.output sink.new) (pieces_text pieces.now)) }
 {
     let mut page = Page::new();
     add_pieces(sink, &mut page, pieces)?;

@@ -1,8 +1,7 @@
 // The line that a fault puts to `err`.
-ghost use Rattle.std.specs.Prelude.{◌≡◌, ◌<◌, ◌⊎◌, length};
-ghost use Rattle.aq_base.specs.Causes.{Rose};
+ghost use Rattle.std.specs.Prelude.{◌≡◌, ◌<◌, length};
 ghost use Rattle.aqfp_top.specs.Words.{spelled};
-ghost use Rattle.aqfp_top.specs.Lines.{line_of, netlist_line, library_line, missing_line, line_kind_text, design_kind_text, large_text, stream_kind_text, named as named_line, Puts, HasPlace};
+ghost use Rattle.aqfp_top.specs.Lines.{line_of, netlist_line, library_line, missing_line, line_kind_text, design_kind_text, large_text, stream_kind_text, named as named_line, Puts, HearsRefusals, HasPlace};
 ghost use Rattle.cell_library.specs.Kinds.{key_of};
 ghost use Rattle.layout_rules.specs.RuleTable.{name_of};
 ghost use Rattle.aqfp_top.specs.Code.Pieces.{pieces_text};
@@ -269,8 +268,8 @@ fn pieces_of<'a>(words: &'a [String], fault: &'a Fault) -> [Piece<'a>; 5]
 /// Puts the line of the fault, as far as the sink takes it; it takes no memory.
 pub fn say<E: Sink>(words: &[String], fault: &Fault, err: &mut E)
     requires { HasPlace (spelled words.now) fault.now }
-    ensures { Puts (E.written err.old) (E.written err.new) (line_of (spelled words.now) fault.now)
-        (Rose (E.faults err.old) (E.faults err.new) ⊎ Rose (E.refused err.old) (E.refused err.new)) }
+    ensures { Puts (E.output err.old).written (E.output err.new).written (line_of (spelled words.now) fault.now)
+        (HearsRefusals (E.output err.old).heard (E.output err.new).heard) }
 {
     let pieces = pieces_of(words, fault);
     let _ = put_pieces(err, &pieces);

@@ -1,14 +1,14 @@
 // The top call.
-ghost use Rattle.std.specs.Prelude.{◌≡◌, ◌⊎◌, ℕ, Some, None, IsSome, IfSome, IfOk, IfErr};
+ghost use Rattle.std.specs.Prelude.{◌≡◌, ℕ, Some, None, IfSome, IfOk, IfErr};
 ghost use Rattle.std.specs.Result.{result_err};
-ghost use Rattle.aq_base.specs.Causes.{Rose};
+ghost use Rattle.aq_base.specs.FaultCounts.{load_failed};
 ghost use Rattle.aq_base.specs.Store.{Contents};
 ghost use Rattle.aqfp_top.specs.Words.{spelled, IsMakeBy, IsVerify, IsTrace, IsEqual, IsWrite, IsReport, IsShapesOf, IsSampleOf, HasForm};
 ghost use Rattle.aqfp_top.specs.Statuses.{status_of};
-ghost use Rattle.aqfp_top.specs.Lines.{Reports};
+ghost use Rattle.aqfp_top.specs.Lines.{Reports, HearsRefusals};
 ghost use Rattle.aqfp_top.specs.Due.{MayAnswer};
 ghost use Rattle.aqfp_top.specs.Faults.{RunsOnly};
-ghost use Rattle.aqfp_top.specs.Counted.{HasFaults, FailedLoad};
+ghost use Rattle.aqfp_top.specs.Counted.{counts_of, HasFaults, FailedLoad};
 ghost use Rattle.aqfp_top.specs.Build.{IsBuilt, IsDone};
 ghost use Rattle.aqfp_top.specs.Chips.{BuildsChip};
 ghost use Rattle.aqfp_top.specs.Histories.{HeardBuilt, HearsChip, HeardWritten, HearsNetlist, HeardChecked, HearsAnswers, HearsFluxes, HeardCompared, HearsVerdict};
@@ -23,6 +23,7 @@ ghost use Rattle.aqfp_top.specs.WrittenNetlist.{WritesNetlist};
 ghost use Rattle.aqfp_top.specs.Reported.{ReportsChip, HearsReport};
 ghost use Rattle.aqfp_top.specs.Shown.{ShowsShapes, HearsShapes};
 ghost use Rattle.aqfp_top.specs.Run.{RunStands, RunPrints};
+ghost use Rattle.aqfp_top.specs.Code.Printing.{OutFails};
 ghost use Rattle.aqfp_top.specs.Code.Staging.{ToldMayAnswer};
 ghost use Rattle.aqfp_top.specs.declared.fault.Fault.{Fault};
 
@@ -59,26 +60,24 @@ fn work<F: Files, O: Sink>(
     files: &mut F,
     out: &mut O,
 ) -> Result<(), Fault>
-    requires { F.opened files.old ≡ None }
-    ensures answer { ToldMayAnswer (F.told files.old) (spelled words.now) (result_err result) }
+    requires { (F.outside files.old).opened ≡ None }
+    ensures answer { ToldMayAnswer (F.outside files.old).told (spelled words.now) (result_err result) }
     ensures usage { ¬ HasForm (spelled words.now) → result_err result ≡ Some Fault.Usage }
-    ensures stands { RunStands (F.told files.old) (F.told files.new) (spelled words.now) (result_err result) }
-    ensures prints { RunPrints (F.told files.old) (spelled words.now) (O.written out.old) (O.written out.new) (result_err result) }
-    ensures faults { HasFaults (record { reads = F.read_faults files.old; writes = F.write_faults files.old; closes = F.close_faults files.old; outs = O.faults out.old })
-        (record { reads = F.read_faults files.new; writes = F.write_faults files.new; closes = F.close_faults files.new; outs = O.faults out.new }) (result_err result) }
-    ensures failed { IsSome (F.told files.old) → FailedLoad (F.load_failed files.new) (spelled words.now) (result_err result) }
-    ensures done { IfOk result (λ _. (planner : Planner) → IsMakeBy planner (spelled words.now) → IsBuilt planner (F.told files.old) (spelled words.now) (IsDone (F.told files.old) (F.told files.new) (spelled words.now) (O.written out.old) (O.written out.new))) }
-    ensures written { IfOk result (λ _. IsWrite (spelled words.now) → IsRead (F.told files.old) (spelled words.now) (IsWritten (F.told files.old) (F.told files.new) (spelled words.now) (O.written out.old) (O.written out.new))) }
-    ensures built { IfOk result (λ _. (planner : Planner) → IsMakeBy planner (spelled words.now) → HeardBuilt planner (F.heard files.old) (F.heard files.new) (spelled words.now) (O.written out.old) (O.written out.new)) }
-    ensures checked { IfOk result (λ _. IsVerify (spelled words.now) → HeardChecked Printing.Answers (F.heard files.old) (F.heard files.new) (spelled words.now) (O.written out.old) (O.written out.new)) }
-    ensures traced { IfOk result (λ _. IsTrace (spelled words.now) → HeardChecked Printing.Fluxes (F.heard files.old) (F.heard files.new) (spelled words.now) (O.written out.old) (O.written out.new)) }
-    ensures compared { IfOk result (λ _. IsEqual (spelled words.now) → HeardCompared (F.heard files.old) (F.heard files.new) (spelled words.now) (O.written out.old) (O.written out.new)) }
-    ensures netlisted { IfOk result (λ _. IsWrite (spelled words.now) → HeardWritten (F.heard files.old) (F.heard files.new) (spelled words.now) (O.written out.old) (O.written out.new)) }
-    ensures reported { IfOk result (λ _. IsReport (spelled words.now) → HearsReport (F.heard files.old) (F.heard files.new) (spelled words.now) (O.written out.old) (O.written out.new)) }
-    ensures shown { IfOk result (λ _. (first second : ℕ) → IsShapesOf (spelled words.now) first second → HearsShapes (F.heard files.old) (F.heard files.new) (spelled words.now) first second (O.written out.old) (O.written out.new)) }
-    ensures due { HearsDue (F.heard files.old) (F.heard files.new) (spelled words.now) (result_err result) }
+    ensures stands { RunStands (F.outside files.old).told (F.outside files.new).told (spelled words.now) (result_err result) }
+    ensures prints { RunPrints (F.outside files.old).told (spelled words.now) (O.output out.old) (O.output out.new) (result_err result) }
+    ensures fails { OutFails (O.output out.old).heard (O.output out.new).heard (result_err result) }
+    ensures done { IfOk result (λ _. (planner : Planner) → IsMakeBy planner (spelled words.now) → IsBuilt planner (F.outside files.old).told (spelled words.now) (IsDone (F.outside files.old).told (F.outside files.new).told (spelled words.now) (O.output out.old) (O.output out.new))) }
+    ensures written { IfOk result (λ _. IsWrite (spelled words.now) → IsRead (F.outside files.old).told (spelled words.now) (IsWritten (F.outside files.old).told (F.outside files.new).told (spelled words.now) (O.output out.old) (O.output out.new))) }
+    ensures built { IfOk result (λ _. (planner : Planner) → IsMakeBy planner (spelled words.now) → HeardBuilt planner (F.outside files.old).heard (F.outside files.new).heard (spelled words.now) (O.output out.old) (O.output out.new)) }
+    ensures checked { IfOk result (λ _. IsVerify (spelled words.now) → HeardChecked Printing.Answers (F.outside files.old).heard (F.outside files.new).heard (spelled words.now) (O.output out.old) (O.output out.new)) }
+    ensures traced { IfOk result (λ _. IsTrace (spelled words.now) → HeardChecked Printing.Fluxes (F.outside files.old).heard (F.outside files.new).heard (spelled words.now) (O.output out.old) (O.output out.new)) }
+    ensures compared { IfOk result (λ _. IsEqual (spelled words.now) → HeardCompared (F.outside files.old).heard (F.outside files.new).heard (spelled words.now) (O.output out.old) (O.output out.new)) }
+    ensures netlisted { IfOk result (λ _. IsWrite (spelled words.now) → HeardWritten (F.outside files.old).heard (F.outside files.new).heard (spelled words.now) (O.output out.old) (O.output out.new)) }
+    ensures reported { IfOk result (λ _. IsReport (spelled words.now) → HearsReport (F.outside files.old).heard (F.outside files.new).heard (spelled words.now) (O.output out.old) (O.output out.new)) }
+    ensures shown { IfOk result (λ _. (first second : ℕ) → IsShapesOf (spelled words.now) first second → HearsShapes (F.outside files.old).heard (F.outside files.new).heard (spelled words.now) first second (O.output out.old) (O.output out.new)) }
+    ensures due { HearsDue (F.outside files.old).heard (F.outside files.new).heard (spelled words.now) (result_err result) }
     ensures only { IfErr result (RunsOnly (spelled words.now)) }
-    ensures shut { F.opened files.new ≡ None }
+    ensures shut { (F.outside files.new).opened ≡ None }
 {
     match form_of(words) {
         Form::Make { planner } => build(alloc, planner, words, files, out),
@@ -94,7 +93,7 @@ fn work<F: Files, O: Sink>(
 }
 
 /// Does what the words of a command line say.
-#[tactic(auto, using(crate::proofs::Runs::told_due))]
+#[tactic(auto, using(crate::proofs::Runs::told_due, crate::proofs::Counting::has_faults, crate::proofs::Counting::failed_load))]
 pub fn aqfp_run<F: Files, O: Sink, E: Sink>(
     alloc: Global,
     words: &[String],
@@ -102,89 +101,89 @@ pub fn aqfp_run<F: Files, O: Sink, E: Sink>(
     out: &mut O,
     err: &mut E,
 ) -> Ending
-    requires { F.opened files.old ≡ None }
+    requires { (F.outside files.old).opened ≡ None }
 
     ensures status { result.status ≡ status_of result.fault }
 
     // The answer is what is due, of which there is one (`one_answer_is_due`), or want of memory, or a failed load,
     // write or close: a load that the work comes to, a write or close where nothing is due. The count of the failure
-    // rose, and the load is the last that failed.
-    ensures due { (held : Contents) → F.told files.old ≡ Some held → MayAnswer held (spelled words.now) result.fault }
-    ensures faults { HasFaults (record { reads = F.read_faults files.old; writes = F.write_faults files.old; closes = F.close_faults files.old; outs = O.faults out.old })
-        (record { reads = F.read_faults files.new; writes = F.write_faults files.new; closes = F.close_faults files.new; outs = O.faults out.new }) result.fault }
-    ensures failed { IsSome (F.told files.old) → FailedLoad (F.load_failed files.new) (spelled words.now) result.fault }
+    // rose by what was heard, and the load is the last that failed.
+    ensures due { (held : Contents) → (F.outside files.old).told ≡ Some held → MayAnswer held (spelled words.now) result.fault }
+    ensures faults { HasFaults (counts_of (F.outside files.old).heard (O.output out.old).heard)
+        (counts_of (F.outside files.new).heard (O.output out.new).heard) result.fault }
+    ensures failed { FailedLoad (load_failed (F.outside files.new).heard) (spelled words.now) result.fault }
 
     // The same of any store, the system's files too. By what was heard the answer says why a load was refused, or it is
     // what the texts may answer that all loads gave; and of the bytes that were due OUT took what that answer tells.
-    ensures hears_due { HearsDue (F.heard files.old) (F.heard files.new) (spelled words.now) result.fault }
+    ensures hears_due { HearsDue (F.outside files.old).heard (F.outside files.new).heard (spelled words.now) result.fault }
 
     // Which faults a command may answer, whatever the store tells; the usage where there is none.
     ensures only { IfSome result.fault (RunsOnly (spelled words.now)) }
     ensures usage { ¬ HasForm (spelled words.now) → result.fault ≡ Some Fault.Usage }
 
     // What a `build` or a `compact` that ends well has made: a chip of its netlist, whatever the order of switching.
-    ensures chip { (held : Contents) (planner : Planner) → F.told files.old ≡ Some held → IsMakeBy planner (spelled words.now) → result.fault ≡ None
-        → BuildsChip held (F.told files.new) (spelled words.now) (O.written out.old) (O.written out.new) }
+    ensures chip { (held : Contents) (planner : Planner) → (F.outside files.old).told ≡ Some held → IsMakeBy planner (spelled words.now) → result.fault ≡ None
+        → BuildsChip held (F.outside files.new).told (spelled words.now) (O.output out.old) (O.output out.new) }
 
     // The same of any store, the system's files too: what NET and LIB gave, and what OUT took.
     ensures hears { (planner : Planner) → IsMakeBy planner (spelled words.now) → result.fault ≡ None
-        → HearsChip (F.heard files.old) (F.heard files.new) (spelled words.now) (O.written out.old) (O.written out.new) }
+        → HearsChip (F.outside files.old).heard (F.outside files.new).heard (spelled words.now) (O.output out.old) (O.output out.new) }
 
     // And by which plan: the defined one, or one that is no larger.
     ensures planned { (planner : Planner) → IsMakeBy planner (spelled words.now) → result.fault ≡ None
-        → HeardBuilt planner (F.heard files.old) (F.heard files.new) (spelled words.now) (O.written out.old) (O.written out.new) }
+        → HeardBuilt planner (F.outside files.old).heard (F.outside files.new).heard (spelled words.now) (O.output out.old) (O.output out.new) }
 
     // What a check that ends well has shown: the answers to the words, whatever the order of switching and by every
     // clock whose windows keep clear, or the fluxes.
-    ensures verified { (held : Contents) → F.told files.old ≡ Some held → IsVerify (spelled words.now) → result.fault ≡ None
-        → VerifiesChip held (spelled words.now) (O.written out.old) (O.written out.new) }
-    ensures traced { (held : Contents) → F.told files.old ≡ Some held → IsTrace (spelled words.now) → result.fault ≡ None
-        → TracesChip held (spelled words.now) (O.written out.old) (O.written out.new) }
+    ensures verified { (held : Contents) → (F.outside files.old).told ≡ Some held → IsVerify (spelled words.now) → result.fault ≡ None
+        → VerifiesChip held (spelled words.now) (O.output out.old) (O.output out.new) }
+    ensures traced { (held : Contents) → (F.outside files.old).told ≡ Some held → IsTrace (spelled words.now) → result.fault ≡ None
+        → TracesChip held (spelled words.now) (O.output out.old) (O.output out.new) }
 
     // The same of any store: what GDS, LIB and WORDS gave.
     ensures hears_answers { IsVerify (spelled words.now) → result.fault ≡ None
-        → HearsAnswers (F.heard files.old) (F.heard files.new) (spelled words.now) (O.written out.old) (O.written out.new) }
+        → HearsAnswers (F.outside files.old).heard (F.outside files.new).heard (spelled words.now) (O.output out.old) (O.output out.new) }
     ensures hears_fluxes { IsTrace (spelled words.now) → result.fault ≡ None
-        → HearsFluxes (F.heard files.old) (F.heard files.new) (spelled words.now) (O.written out.old) (O.written out.new) }
+        → HearsFluxes (F.outside files.old).heard (F.outside files.new).heard (spelled words.now) (O.output out.old) (O.output out.new) }
 
     // What a comparison that ends well has shown: that chip and netlist answer every word alike, or where first not.
-    ensures compared { (held : Contents) → F.told files.old ≡ Some held → IsEqual (spelled words.now) → result.fault ≡ None
-        → ComparesChip held (spelled words.now) (O.written out.old) (O.written out.new) }
+    ensures compared { (held : Contents) → (F.outside files.old).told ≡ Some held → IsEqual (spelled words.now) → result.fault ≡ None
+        → ComparesChip held (spelled words.now) (O.output out.old) (O.output out.new) }
 
     // The same of any store: what GDS, LIB and NET gave.
     ensures hears_verdict { IsEqual (spelled words.now) → result.fault ≡ None
-        → HearsVerdict (F.heard files.old) (F.heard files.new) (spelled words.now) (O.written out.old) (O.written out.new) }
+        → HearsVerdict (F.outside files.old).heard (F.outside files.new).heard (spelled words.now) (O.output out.old) (O.output out.new) }
 
     // What a `netlist` that ends well has stored: the chip's circuit as a netlist that answers every word as it does.
-    ensures written { (held : Contents) → F.told files.old ≡ Some held → IsWrite (spelled words.now) → result.fault ≡ None
-        → WritesNetlist held (F.told files.new) (spelled words.now) (O.written out.old) (O.written out.new) }
+    ensures written { (held : Contents) → (F.outside files.old).told ≡ Some held → IsWrite (spelled words.now) → result.fault ≡ None
+        → WritesNetlist held (F.outside files.new).told (spelled words.now) (O.output out.old) (O.output out.new) }
 
     // The same of any store, the system's files too: what GDS and LIB gave, and what OUT took.
     ensures hears_netlist { IsWrite (spelled words.now) → result.fault ≡ None
-        → HearsNetlist (F.heard files.old) (F.heard files.new) (spelled words.now) (O.written out.old) (O.written out.new) }
+        → HearsNetlist (F.outside files.old).heard (F.outside files.new).heard (spelled words.now) (O.output out.old) (O.output out.new) }
 
     // What a sample that ends well has printed. It asks nothing of the store.
     ensures hears_sample { (bits : ℕ) → IsSampleOf (spelled words.now) bits → result.fault ≡ None
-        → HearsSample bits (F.heard files.old) (F.heard files.new) (O.written out.old) (O.written out.new) }
+        → HearsSample bits (F.outside files.old).heard (F.outside files.new).heard (O.output out.old) (O.output out.new) }
 
     // What a `report` that ends well has printed: the counts of the chip, its cells by kind, its size and its wires.
-    ensures reported { (held : Contents) → F.told files.old ≡ Some held → IsReport (spelled words.now) → result.fault ≡ None
-        → ReportsChip held (spelled words.now) (O.written out.old) (O.written out.new) }
+    ensures reported { (held : Contents) → (F.outside files.old).told ≡ Some held → IsReport (spelled words.now) → result.fault ≡ None
+        → ReportsChip held (spelled words.now) (O.output out.old) (O.output out.new) }
     ensures hears_report { IsReport (spelled words.now) → result.fault ≡ None
-        → HearsReport (F.heard files.old) (F.heard files.new) (spelled words.now) (O.written out.old) (O.written out.new) }
+        → HearsReport (F.outside files.old).heard (F.outside files.new).heard (spelled words.now) (O.output out.old) (O.output out.new) }
 
     // What a `shapes` that ends well has printed: the lines of the shapes or labels of two numbers.
-    ensures shown { (held : Contents) (first second : ℕ) → F.told files.old ≡ Some held → IsShapesOf (spelled words.now) first second → result.fault ≡ None
-        → ShowsShapes held (spelled words.now) first second (O.written out.old) (O.written out.new) }
+    ensures shown { (held : Contents) (first second : ℕ) → (F.outside files.old).told ≡ Some held → IsShapesOf (spelled words.now) first second → result.fault ≡ None
+        → ShowsShapes held (spelled words.now) first second (O.output out.old) (O.output out.new) }
     ensures hears_shapes { (first second : ℕ) → IsShapesOf (spelled words.now) first second → result.fault ≡ None
-        → HearsShapes (F.heard files.old) (F.heard files.new) (spelled words.now) first second (O.written out.old) (O.written out.new) }
+        → HearsShapes (F.outside files.old).heard (F.outside files.new).heard (spelled words.now) first second (O.output out.old) (O.output out.new) }
 
     // What is left.
-    ensures stands { RunStands (F.told files.old) (F.told files.new) (spelled words.now) result.fault }
-    ensures prints { RunPrints (F.told files.old) (spelled words.now) (O.written out.old) (O.written out.new) result.fault }
-    ensures shut { F.opened files.new ≡ None }
-    ensures reports { Reports (E.written err.old) (E.written err.new) (spelled words.now) result.fault
-        (Rose (E.faults err.old) (E.faults err.new) ⊎ Rose (E.refused err.old) (E.refused err.new)) }
+    ensures stands { RunStands (F.outside files.old).told (F.outside files.new).told (spelled words.now) result.fault }
+    ensures prints { RunPrints (F.outside files.old).told (spelled words.now) (O.output out.old) (O.output out.new) result.fault }
+    ensures shut { (F.outside files.new).opened ≡ None }
+    ensures reports { Reports (E.output err.old).written (E.output err.new).written (spelled words.now) result.fault
+        (HearsRefusals (E.output err.old).heard (E.output err.new).heard) }
 {
     drawing_laws();
     written_is_read();

@@ -1,8 +1,7 @@
 // `sample N`.
-ghost use Rattle.std.specs.Prelude.{◌≡◌, ◌≤◌, ◌^◌, Some, None, IfOk, IfErr, OnOk, IsErrOf, All, length};
+ghost use Rattle.std.specs.Prelude.{◌≡◌, ◌≤◌, ◌^◌, Some, None, IfOk, IfErr, OnOk, All, length};
 ghost use Rattle.std.specs.List.{AllZip};
 ghost use Rattle.std.specs.Result.{result_err};
-ghost use Rattle.aq_base.specs.Causes.{Rose};
 ghost use Rattle.blif_read.specs.Says as netlist;
 ghost use Rattle.blif_read.specs.Equations.{IsAnswer};
 ghost use Rattle.sample_adder.specs.Adder.{adder};
@@ -13,15 +12,16 @@ ghost use Rattle.aqfp_top.specs.Due.{sample_stages};
 ghost use Rattle.aqfp_top.specs.Faults.{IsSampleFault};
 ghost use Rattle.aqfp_top.specs.Samples.{SamplePrints};
 ghost use Rattle.aqfp_top.specs.Code.Staging.{OrMemory};
-ghost use Rattle.aqfp_top.specs.Code.Building.{IsOutOrMemory};
-ghost use Rattle.aqfp_top.specs.Code.Sampling.{IsSampleOfBits, IsMakingFault};
+ghost use Rattle.aqfp_top.specs.Code.Printing.{PrintsText, OutFails};
+ghost use Rattle.aqfp_top.specs.Code.Sampling.{IsSampleOfBits, text_in, IsMakingFault};
 ghost use Rattle.aqfp_top.specs.declared.fault.Fault.{Fault};
 
 use crate::counts::ChipCounts;
 use crate::design::Chip;
-use crate::fault::{Fault, WriteCall};
+use crate::fault::Fault;
+use crate::out::out_end;
 use crate::planner::Planner;
-use aq_base::{List, Memory, Sink, StoreRefusal};
+use aq_base::{List, Memory, Sink};
 use blif_read::{BlifRefusal, Netlist, blif_read};
 use cell_library::library_a;
 use circuit::{Word, answer_word};
@@ -112,11 +112,10 @@ fn make(alloc: Global, bits: u32) -> Result<SampleResult, Fault>
     })
 }
 
+#[tactic(auto, using(crate::proofs::OutEnds::ends_text))]
 fn print<O: Sink>(alloc: Global, bits: u32, sample: &SampleResult, out: &mut O) -> Result<(), Fault>
     requires { IsSampleOfBits bits sample.now }
-    ensures prints { SamplePrints bits (O.written out.old) (O.written out.new) (result_err result) }
-    ensures cause { IsErrOf result (Fault.WriteFault WriteCall.Out) → Rose (O.faults out.old) (O.faults out.new) }
-    ensures only { IfErr result IsOutOrMemory }
+    ensures { PrintsText (text_in bits sample.now) (O.output out.old) (O.output out.new) result }
 {
     let counts = &sample.counts;
     let printed = print_sample(
@@ -128,13 +127,7 @@ fn print<O: Sink>(alloc: Global, bits: u32, sample: &SampleResult, out: &mut O) 
         &sample.answers,
         out,
     );
-    match printed {
-        Ok(()) => Ok(()),
-        Err(StoreRefusal::Failed) => Err(Fault::WriteFault {
-            call: WriteCall::Out,
-        }),
-        Err(StoreRefusal::Memory) => Err(Fault::Memory),
-    }
+    out_end(printed)
 }
 
 /// Makes the adder of so many bits, 1 to 64, and its chip with library A, evaluates it on eight words, and prints the
@@ -144,8 +137,8 @@ pub fn sample<O: Sink>(alloc: Global, bits: u32, out: &mut O) -> Result<(), Faul
     requires some { 1 ≤ bits }
     requires most { bits ≤ 64 }
     ensures answer { Answers (sample_stages bits) (result_err result) }
-    ensures prints { SamplePrints bits (O.written out.old) (O.written out.new) (result_err result) }
-    ensures cause { IsErrOf result (Fault.WriteFault WriteCall.Out) → Rose (O.faults out.old) (O.faults out.new) }
+    ensures prints { SamplePrints bits (O.output out.old) (O.output out.new) (result_err result) }
+    ensures fails { OutFails (O.output out.old).heard (O.output out.new).heard (result_err result) }
     ensures only { IfErr result IsSampleFault }
 {
     let made = make(alloc, bits)?;

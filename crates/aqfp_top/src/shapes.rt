@@ -1,26 +1,29 @@
 // `shapes GDS A B`.
-ghost use Rattle.std.specs.Prelude.{◌≡◌, ◌++◌, ◌∷◌, ◌<◌, ◌≤◌, ◌^◌, length, IsErrOf, IsSome, IfOk, IfErr, OnOk, OnErr};
+ghost use Rattle.std.specs.Prelude.{◌≡◌, ◌++◌, ◌∷◌, ◌<◌, ◌≤◌, ◌^◌, length, IfOk, IfErr, OnOk};
 ghost use Rattle.std.specs.Result.{result_err};
-ghost use Rattle.aq_base.specs.Causes.{Rose, HasCause};
 ghost use Rattle.aq_base.specs.Heard.{Loaded};
-ghost use Rattle.aq_base.specs.Store.{gained, GainsPrefix};
+ghost use Rattle.aq_base.specs.Output.{printed};
 ghost use Rattle.geom.specs.FlatForm.{flat_count};
 ghost use Rattle.poly_cut.specs.Conditions.{IsFlattenable};
 ghost use Rattle.poly_cut.specs.FlatForm.{wide_flat};
+ghost use Rattle.chip_texts.specs.Printing.{PrintsWithin};
 ghost use Rattle.layout_report.specs.ShapeLines.{shape_line};
 ghost use Rattle.aqfp_top.specs.Words.{spelled, word_at};
-ghost use Rattle.aqfp_top.specs.Counted.{HasFaults, FailedLoad};
 ghost use Rattle.aqfp_top.specs.Stages.{Answers};
 ghost use Rattle.aqfp_top.specs.Due.{showing_stages, shapes_stages};
 ghost use Rattle.aqfp_top.specs.Faults.{IsShapesFault};
 ghost use Rattle.aqfp_top.specs.HeardDue.{DueOfOne};
+ghost use Rattle.aqfp_top.specs.Loads.{gds_limit};
 ghost use Rattle.aqfp_top.specs.Printed.{TextPrints};
 ghost use Rattle.aqfp_top.specs.Shown.{HasLines, AreShapes, IsShownOf, HearsShapes};
 ghost use Rattle.aqfp_top.specs.Code.Staging.{ToldAnswers};
+ghost use Rattle.aqfp_top.specs.Code.Printing.{PrintsText, OutFails};
+ghost use Rattle.aqfp_top.specs.Code.Standing.{standing};
 ghost use Rattle.aqfp_top.specs.Code.Reporting.{IsPastFault, IsNamingFault, IsShowingFault};
 
-use crate::fault::{Fault, WriteCall};
+use crate::fault::Fault;
 use crate::load::{GDS_LIMIT, load_word};
+use crate::out::out_end;
 use crate::reading::read_layout;
 use aq_base::{Files, Sink, StoreRefusal};
 use gds_records::one_wide_reading;
@@ -53,7 +56,7 @@ fn check_numbers(flat: &Flat, first: u64, second: u64) -> Result<(), Fault>
 }
 
 // Puts the two lines.
-#[tactic(auto, using(aq_base::proofs::Gains::gains))]
+#[tactic(auto, using(chip_texts::proofs::Pages::texts))]
 fn put_lines<O: Sink>(
     alloc: Global,
     flat: &Flat,
@@ -63,12 +66,30 @@ fn put_lines<O: Sink>(
 ) -> Result<(), StoreRefusal>
     requires one { first < flat_count flat.now }
     requires other { second < flat_count flat.now }
-    ensures added { OnOk result (O.written out.new ≡ gained (O.written out.old) (shape_line flat.now first ++ shape_line flat.now second)) }
-    ensures prefix { OnErr result (GainsPrefix (O.written out.old) (O.written out.new) (shape_line flat.now first ++ shape_line flat.now second)) }
-    ensures faults { HasCause (O.faults out.old) (O.faults out.new) (IsErrOf result StoreRefusal.Failed) }
+    ensures added { OnOk result (O.output out.new
+        ≡ printed (shape_line flat.now first ++ shape_line flat.now second) (O.output out.old)) }
+    ensures part { IfErr result (PrintsWithin (O.output out.old) (O.output out.new)
+        (shape_line flat.now first ++ shape_line flat.now second)) }
 {
     print_shape(alloc, flat, first, out)?;
     print_shape(alloc, flat, second, out)
+}
+
+#[tactic(auto, using(crate::proofs::OutEnds::ends_text))]
+fn print_both<O: Sink>(
+    alloc: Global,
+    flat: &Flat,
+    first: u64,
+    second: u64,
+    out: &mut O,
+) -> Result<(), Fault>
+    requires one { first < flat_count flat.now }
+    requires other { second < flat_count flat.now }
+    ensures { PrintsText (shape_line flat.now first ++ shape_line flat.now second)
+        (O.output out.old) (O.output out.new) result }
+{
+    let printed = put_lines(alloc, flat, first, second, out);
+    out_end(printed)
 }
 
 // Prints the lines of the two shapes or labels.
@@ -81,18 +102,12 @@ fn print_lines<O: Sink>(
     out: &mut O,
 ) -> Result<(), Fault>
     requires { flat_count flat.now < 2 ^ 32 }
-    ensures prints { TextPrints (HasLines flat.now first second) (O.written out.old) (O.written out.new) (result_err result) }
-    ensures cause { IsErrOf result (Fault.WriteFault WriteCall.Out) → Rose (O.faults out.old) (O.faults out.new) }
+    ensures prints { TextPrints (HasLines flat.now first second) (O.output out.old) (O.output out.new) (result_err result) }
+    ensures fails { OutFails (O.output out.old).heard (O.output out.new).heard (result_err result) }
     ensures bad { IfErr result (IsNamingFault flat.now first second) }
 {
     check_numbers(flat, first, second)?;
-    match put_lines(alloc, flat, first, second, out) {
-        Ok(()) => Ok(()),
-        Err(StoreRefusal::Failed) => Err(Fault::WriteFault {
-            call: WriteCall::Out,
-        }),
-        Err(StoreRefusal::Memory) => Err(Fault::Memory),
-    }
+    print_both(alloc, flat, first, second, out)
 }
 
 // The same of the layout's shapes and labels. The layout is let go as soon as it is flat.
@@ -104,8 +119,8 @@ fn show_layout<O: Sink>(
     out: &mut O,
 ) -> Result<(), Fault>
     requires { IsFlattenable layout }
-    ensures prints { TextPrints (HasLines (wide_flat layout) first second) (O.written out.old) (O.written out.new) (result_err result) }
-    ensures cause { IsErrOf result (Fault.WriteFault WriteCall.Out) → Rose (O.faults out.old) (O.faults out.new) }
+    ensures prints { TextPrints (HasLines (wide_flat layout) first second) (O.output out.old) (O.output out.new) (result_err result) }
+    ensures fails { OutFails (O.output out.old).heard (O.output out.new).heard (result_err result) }
     ensures bad { IfErr result (IsNamingFault (wide_flat layout) first second) }
 {
     count_is_exact();
@@ -126,9 +141,10 @@ fn show<O: Sink>(
     second: u64,
     out: &mut O,
 ) -> Result<(), Fault>
+    requires { length gds.items ≤ gds_limit }
     ensures answer { Answers (showing_stages gds.items first second) (result_err result) }
-    ensures prints { TextPrints (AreShapes gds.items first second) (O.written out.old) (O.written out.new) (result_err result) }
-    ensures cause { IsErrOf result (Fault.WriteFault WriteCall.Out) → Rose (O.faults out.old) (O.faults out.new) }
+    ensures prints { TextPrints (AreShapes gds.items first second) (O.output out.old) (O.output out.new) (result_err result) }
+    ensures fails { OutFails (O.output out.old).heard (O.output out.new).heard (result_err result) }
     ensures only { IfErr result IsShowingFault }
 {
     one_wide_reading();
@@ -148,17 +164,14 @@ pub fn shapes<F: Files, O: Sink>(
     out: &mut O,
 ) -> Result<(), Fault>
     requires { length words.now ≡ 4 }
-    ensures answer { ToldAnswers (shapes_stages first second) (F.told files.old) (spelled words.now) (result_err result) }
-    ensures prints { TextPrints (IsShownOf (F.told files.old) (spelled words.now) first second) (O.written out.old) (O.written out.new) (result_err result) }
-    ensures faults { HasFaults (record { reads = F.read_faults files.old; writes = F.write_faults files.old; closes = F.close_faults files.old; outs = O.faults out.old })
-        (record { reads = F.read_faults files.new; writes = F.write_faults files.new; closes = F.close_faults files.new; outs = O.faults out.new }) (result_err result) }
-    ensures failed { IsSome (F.told files.old) → FailedLoad (F.load_failed files.new) (spelled words.now) (result_err result) }
-    ensures due { DueOfOne (λ gds. showing_stages gds first second) (F.heard files.old) (F.heard files.new)
+    ensures answer { ToldAnswers (shapes_stages first second) (F.outside files.old).told (spelled words.now) (result_err result) }
+    ensures prints { TextPrints (IsShownOf (F.outside files.old).told (spelled words.now) first second) (O.output out.old) (O.output out.new) (result_err result) }
+    ensures fails { OutFails (O.output out.old).heard (O.output out.new).heard (result_err result) }
+    ensures due { DueOfOne (λ gds. showing_stages gds first second) (F.outside files.old).heard (F.outside files.new).heard
         (spelled words.now) (result_err result) }
-    ensures heard { OnOk result (HearsShapes (F.heard files.old) (F.heard files.new) (spelled words.now) first second (O.written out.old) (O.written out.new)) }
+    ensures heard { OnOk result (HearsShapes (F.outside files.old).heard (F.outside files.new).heard (spelled words.now) first second (O.output out.old) (O.output out.new)) }
     ensures only { IfErr result IsShapesFault }
-    ensures told { F.told files.new ≡ F.told files.old }
-    ensures name { F.opened files.new ≡ F.opened files.old }
+    ensures kept { standing (F.outside files.new) ≡ standing (F.outside files.old) }
 {
     let gds = load_word(alloc, files, words, 1, GDS_LIMIT)?;
     show(alloc, gds, first, second, out)

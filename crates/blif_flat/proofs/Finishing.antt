@@ -1,8 +1,8 @@
 -- What is finished of a design's wires and definitions is the netlist that its text says, and its refusals are those of
 -- that text.
-use Rattle.std.proofs.Common.{◌≡◌, ◌<◌, ◌≤◌, ◌^◌, ℕ, List, map, Result, Ok, Err, IfOk, IfErr, OnOk, None, length, refl, sym, ap, ◌∙◌, subst, inr}
+use Rattle.std.proofs.Common.{◌≡◌, ◌<◌, ◌≤◌, ◌^◌, ℕ, List, map, Result, Ok, Err, IfOk, IfErr, OnOk, None, length, refl, sym, ap, ◌∙◌, subst, inr, arith}
 use Rattle.std.specs.Prelude.{slice_index_or}
-use Rattle.std.proofs.lemmas.List.{get_or_default}
+use Rattle.std.proofs.lemmas.List.{get_or_default, length-map}
 use Rattle.blif_read.specs.Parts.{NetView}
 use Rattle.blif_read.specs.Models.{SaysModels}
 use Rattle.blif_read.specs.Netlist.{AreParts}
@@ -17,7 +17,11 @@ use Rattle.blif_flat.specs.declared.design.FlatRefusal.{FlatRefusal}
 use Rattle.blif_flat.specs.declared.design.FlatRefusal.TheVariants.{Text, Design, TooMany, Memory}
 use Rattle.blif_flat.specs.Code.Building.{IsModelsRefusal}
 use Rattle.blif_flat.specs.Code.Finished.{net_of, closed, IsUnfinished}
+use Rattle.blif_flat.specs.declared.expansion.wires.Place.{Place}
+use Rattle.blif_flat.specs.Code.Wired.{wire_of, wires_of}
 use Rattle.blif_flat.proofs.ExpandedParts.{said_parts}
+use Rattle.blif_flat.proofs.ExpandedSize.{wires_count}
+use Rattle.blif_flat.proofs.KeptNames.{kept_count}
 
 -- the expansion, by its parts
 pub record AreExpanded (models : List BlifModel) (inputs : ℕ) (ws : List Wire) (defs : List Def) (outputs : List ℕ)
@@ -114,3 +118,33 @@ module _ (models : List BlifModel) (inputs : ℕ) (ws : List Wire) (defs : List 
       → IfErr r (IsModelsRefusal models)
   expand_err (Ok net) refused = tt
   expand_err (Err refusal) refused = told_models refusal refused
+
+-- ---- 32 bits hold the numbers of wires
+
+few_kept : (inputs : ℕ) (ws : List Wire) (defs : List Def) (outputs : List ℕ) → AreParts (net_of inputs ws defs outputs) → length ws < 2 ^ 28
+few_kept inputs ws defs outputs parts = let small = parts.small in omega (arith, small, kept_count 0 ws)
+
+pub few_named : (inputs : ℕ) (places : List Place) (defs : List Def) (outputs : List ℕ) → AreParts (net_of inputs (wires_of places) defs outputs)
+    → length places < 2 ^ 32
+few_named inputs places defs outputs parts =
+    let few = few_kept inputs (wires_of places) defs outputs parts in
+    omega (arith, few, length-map places wire_of)
+
+few_wires : (models : List BlifModel) → AreParts (expansion models) → length (wires models) < 2 ^ 28
+unfolding expansion
+few_wires models parts = let small = parts.small in omega (arith, small, kept_count 0 (wires models))
+
+pub few_places : (models : List BlifModel) (places : List Place) → AreParts (expansion models) → wires_of places ≡ wires models
+    → length places < 2 ^ 32
+few_places models places parts are =
+    let size = ap (λ (ws : List Wire). length ws) are in
+    let few = few_wires models parts in
+    omega (arith, few, size, length-map places wire_of)
+
+pub few_inputs : (models : List BlifModel) (first : BlifModel) (n : ℕ) → AreParts (expansion models) → 0 < length models
+    → first ≡ slice_index_or models 0 first → n ≡ length first.inputs → n < 2 ^ 32
+few_inputs models first n parts some at count =
+    let same : first ≡ first_model models = at ∙ get_or_default models 0 first no_model some in
+    let inputs = ap (λ (m : BlifModel). length m.inputs) same in
+    let few = few_wires models parts in
+    omega (arith, few, inputs, count, wires_count models)

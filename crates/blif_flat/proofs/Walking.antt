@@ -1,14 +1,16 @@
 -- The walk that lists the wires of a design by its links: what it lists from its frames on, step by step.
-use Rattle.std.proofs.Common.{◌≡◌, ℕ, ◌+◌, ◌*◌, ◌<◌, List, [], ◌∷◌, ◌++◌, map, length, reverse, Option, Some, None, Bor, true, refl, sym, ap, ◌∙◌, subst, arith, append_assoc, append-nil, flat_map}
+use Rattle.std.proofs.Common.{◌≡◌, ℕ, zero, suc, ◌+◌, ◌*◌, ◌<◌, ◌≤◌, List, [], ◌∷◌, ◌++◌, map, length, reverse, Option, Some, None, Bor, true, refl, sym, ap, ◌∙◌, subst, arith, append_assoc, append-nil, flat_map, sum_by}
 use Rattle.std.specs.Prelude.{slice_index_or}
 use Rattle.std.specs.List.{AllByRecursion}
 use Rattle.std.proofs.lemmas.List.Sums.{sum_by-cons}
 use Rattle.blif_read.specs.Walk.{on}
 use Rattle.blif_read.specs.Walked.{Settled}
 use Rattle.blif_read.proofs.Turns.{reverse_push}
+use Rattle.blif_read.specs.declared.models.Call.{Call}
 use Rattle.blif_read.specs.declared.models.BlifModel.{BlifModel}
 use Rattle.blif_flat.specs.Designs.{model_number, model_at, called, actual_of, joined_outputs, first_model}
 use Rattle.blif_flat.specs.DesignFaults.{number_in as listed, callees}
+use Rattle.blif_flat.specs.DesignSize.{call_size, model_size, design_size, size_limit}
 use Rattle.blif_flat.specs.Expansion.{Wire, wire, calls_within, wires}
 use Rattle.blif_flat.specs.declared.models.links.Link.{Link}
 use Rattle.blif_flat.specs.declared.expansion.wires.Frame.{Frame}
@@ -75,6 +77,37 @@ module _ (models : List BlifModel) where
       let d = ap (λ ls. call_count models (calls_in ls)) r in
       omega (arith, w, s, a, b, d, sum_by-cons turn inner (outer ∷ fs), sum_by-cons turn outer fs, sum_by-cons turn f fs)
 
+  -- a model has no more calls than its size
+
+  fewer : (steps : ℕ) → ((m : BlifModel) → calls_within steps models m ≤ model_size steps models m) → (calls : List Call)
+      → sum_by (λ c. 1 + calls_within steps models (called models c)) calls ≤ sum_by (call_size (model_size steps models) models) calls
+  fewer steps inner [] = omega arith
+  fewer steps inner (call ∷ calls) =
+      let one = inner (called models call) in
+      let more = fewer steps inner calls in
+      omega (
+        arith,
+        one,
+        more,
+        sum_by-cons (λ c. 1 + calls_within steps models (called models c)) call calls,
+        sum_by-cons (call_size (model_size steps models) models) call calls,
+      )
+
+  few_calls : (steps : ℕ) (m : BlifModel) → calls_within steps models m ≤ model_size steps models m
+  few_calls zero m = omega arith
+  few_calls (suc steps) m = let calls = fewer steps (few_calls steps) m.calls in omega (arith, calls)
+
+  few_in_all : design_size models ≤ size_limit → calls_within (length models) models (first_model models) ≤ size_limit
+  unfolding design_size
+  few_in_all small = let few = few_calls (length models) (first_model models) in omega (arith, few, small)
+
+  pub walk_shorter : (frames rest : List Frame) (f : Frame) → frames ≡ rest ++ f ∷ []
+      → turns_from models (reverse rest) ≤ turns_from models (reverse frames)
+  walk_shorter frames rest f e =
+      let turns = ap (turns_from models) (ap reverse e ∙ reverse_push rest f) in
+      let one = sum_by-cons (λ (g : Frame). 1 + 2 * call_count models (calls_in g.rest.now)) f (reverse rest) in
+      omega (arith, turns, one)
+
   -- ---- links of models that stand in an order
 
   module _ (done : List ℕ) where
@@ -134,6 +167,23 @@ module _ (models : List BlifModel) where
                 ∙ sym (block_begins models (length models) 0 first ok),
             subst (AllByRecursion HasReachedCalls) (sym back) (subst (AllByRecursion IsReached) (sym c) links.1, tt),
           )
+
+      pub walk_counted : (none frames : List Frame) (f : Frame) → IsSound (length models) models (first_model models)
+          → on done 0 ≡ true → none ≡ [] → frames ≡ none ++ f ∷ [] → f.rest.now ≡ links_at table (Some 0)
+          → design_size models ≤ size_limit → turns_from models (reverse frames) + 0 ≤ 1 + 2 * size_limit
+      walk_counted none frames f ok rooted n e c small =
+          let first = first_model models in
+          let turn = λ (g : Frame). 1 + 2 * call_count models (calls_in g.rest.now) in
+          let back : reverse frames ≡ f ∷ [] = ap reverse e ∙ reverse_push none f ∙ ap (λ fs. f ∷ reverse fs) n in
+          let links = found_links (Some 0) (rooted, tt) ok in
+          let calls : calls_in f.rest.now ≡ first.calls = ap calls_in c ∙ links.0 in
+          let turns = ap (turns_from models) back in
+          let none_left : sum_by turn [] ≡ 0 = refl in
+          let one = sum_by-cons turn f [] in
+          let count = ap (call_count models) calls in
+          let within = within_counts models (length models) first ok in
+          let few = few_in_all small in
+          omega (arith, turns, none_left, one, count, within, few)
 
       module _ (frames rest middle after : List Frame) (f outer inner : Frame) (link : Bor Link) (more : List Link)
           (popped : frames ≡ rest ++ f ∷ []) (left : middle ≡ rest ++ outer ∷ []) (begins : after ≡ middle ++ inner ∷ [])

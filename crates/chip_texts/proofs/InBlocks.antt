@@ -1,19 +1,20 @@
 -- Blocks of words: their lines are read, and the lines of their answers are printed.
-use Rattle.std.proofs.Common.{◌≡◌, ◌≢◌, ℕ, zero, suc, ◌+◌, ◌*◌, ◌-◌, ◌<◌, ◌≤◌, Bool, List, [], ◌∷◌, ◌++◌, All, length, drop, get_or, Option, refl, sym, ap, subst, ◌∙◌, arith, inl, inr, append_assoc, append-nil, add-one}
+use Rattle.std.proofs.Common.{◌≡◌, ◌≢◌, ℕ, zero, suc, ◌+◌, ◌*◌, ◌-◌, ◌<◌, ◌≤◌, Bool, List, [], ◌∷◌, ◌++◌, All, length, drop, get_or, refl, sym, ap, subst, ◌∙◌, arith, inl, inr, append_assoc, append-nil, add-one}
 use Rattle.std.specs.Str.Lines.{lines}
 use Rattle.std.proofs.lemmas.Bool.{cases_eq}
 use Rattle.std.proofs.lemmas.List.Elements.{All-drop}
 use Rattle.std.proofs.lemmas.Option.{get_or_from_slice_get}
-use Rattle.aq_base.specs.Store.{GainsPrefix}
-use Rattle.aq_base.proofs.Gains.{prefix_of_first}
+use Rattle.aq_base.specs.Output.{Output}
+use Rattle.aq_base.specs.declared.store.StoreRefusal.{StoreRefusal}
 use Rattle.chip_circuit.specs.Answers.{IsAnswer}
 use Rattle.chip_circuit.specs.Circuits.{CircuitView}
 use Rattle.chip_texts.specs.Code.Lanes.{in_lane, lines_of}
 use Rattle.chip_texts.specs.Counts.{delay_of}
-use Rattle.chip_texts.specs.Printing.{IsPrinted, PrintsLine, RefusesLine}
+use Rattle.chip_texts.specs.Printing.{PrintsWithin, IsPrinted, PrintsLine, RefusesLine}
 use Rattle.chip_texts.specs.WordLines.{word_line, values_at, first_answers, answers_text}
 use Rattle.chip_texts.specs.WordsText.{word_of}
 use Rattle.chip_texts.proofs.Answering.{Begins, answers_more}
+use Rattle.chip_texts.proofs.Pages.{within_first}
 use Rattle.chip_texts.proofs.Reading.{drop_step, get_step, first_fits}
 
 -- ---- reading
@@ -62,16 +63,16 @@ lines_begin word k (suc m) =
           ∙ (ap (λ t. t ++ word_line (word (k + m))) one.whole_is ∙ append_assoc (lines_of word k) one.rest (word_line (word (k + m))));
     }
 
-pub lines_more : (word : ℕ → List Bool) (k : ℕ) (first old new : Option (List ℕ)) (page left more : List ℕ) → PrintsLine first old page left (lines_of word k) → PrintsLine old new left more (word_line (word k)) → PrintsLine first new page more (lines_of word (k + 1))
+pub lines_more : (word : ℕ → List Bool) (k : ℕ) (first old new : Output) (page left more : List ℕ) → PrintsLine first old page left (lines_of word k) → PrintsLine old new left more (word_line (word k)) → PrintsLine first new page more (lines_of word (k + 1))
 lines_more word k first old new page left more so_far one = λ before text printed.
     subst (IsPrinted before new more) (append_assoc text (lines_of word k) (word_line (word k)) ∙ ap (λ n. text ++ lines_of word n) (sym (add-one k))) (one before (text ++ lines_of word k) (so_far before text printed))
 
-pub lines_refused : (word : ℕ → List Bool) (k n : ℕ) (first old now : Option (List ℕ)) (page left : List ℕ) → k < n → PrintsLine first old page left (lines_of word k) → RefusesLine old now left (word_line (word k)) → RefusesLine first now page (lines_of word n)
-lines_refused word k n first old now page left lt so_far refused = λ before text printed.
+pub lines_refused : (word : ℕ → List Bool) (k n : ℕ) (first old now : Output) (page left : List ℕ) (why : StoreRefusal) → k < n → PrintsLine first old page left (lines_of word k) → RefusesLine old now left (word_line (word k)) why → RefusesLine first now page (lines_of word n) why
+lines_refused word k n first old now page left why lt so_far refused = λ before text printed.
     let more : Begins (lines_of word (suc k)) (lines_of word (suc k + (n - suc k))) = lines_begin word (suc k) (n - suc k) in
     let whole : lines_of word n ≡ lines_of word (suc k) ++ more.rest = (let same : ◌≡◌ {A = ℕ} n (suc k + (n - suc k)) = omega (arith, lt) in ap (lines_of word) same) ∙ more.whole_is in
-    let some : GainsPrefix before now (text ++ lines_of word (suc k)) = subst (GainsPrefix before now) (append_assoc text (lines_of word k) (word_line (word k))) (refused before (text ++ lines_of word k) (so_far before text printed)) in
-    subst (GainsPrefix before now) (append_assoc text (lines_of word (suc k)) more.rest ∙ ap (λ t. text ++ t) (sym whole)) (prefix_of_first more.rest some)
+    let some : PrintsWithin before now (text ++ lines_of word (suc k)) why = subst (λ t. PrintsWithin before now t why) (append_assoc text (lines_of word k) (word_line (word k))) (refused before (text ++ lines_of word k) (so_far before text printed)) in
+    subst (λ t. PrintsWithin before now t why) (append_assoc text (lines_of word (suc k)) more.rest ∙ ap (λ t. text ++ t) (sym whole)) (within_first more.rest some)
 
 -- the lines of a block of answers come behind those of the first answers
 pub block_text : (circuit : CircuitView) (words : List (List Bool)) (k n : ℕ) →

@@ -1,12 +1,10 @@
 -- 128 words at once: what stands in a lane.
 use Rattle.std.proofs.Common.{◌≡◌, ◌≢◌, ℕ, zero, suc, ◌+◌, ◌*◌, ◌^◌, ◌/◌, ◌%◌, ◌==◌, ◌<◌, ◌≤◌, Bool, true, false, not, List, [], ◌∷◌, ◌++◌, length, get_or, set, take, map, Some, slice_get, refl, sym, ap, subst, ◌∙◌, arith, inl, inr, ◌-◌, bit_and, bit_or}
-use Rattle.std.specs.Int.{w128}
+use Rattle.std.specs.Int.{w128, bit_at, bit_not}
 use Rattle.std.specs.List.Sorted.{IsNonDecreasingBy}
-use Rattle.std.specs.Int.{bit_at, bit_not}
 use Rattle.std.proofs.Math.ListN.{get_or-append, length-append}
-use Rattle.std.proofs.Math.Seq.{get_or-append_seam}
+use Rattle.std.proofs.Math.Seq.{get_or-append_seam, map-set_same}
 use Rattle.std.proofs.lemmas.Bool.{cases_eq, cases_lt}
-use Rattle.std.proofs.Math.Seq.{map-set_same}
 use Rattle.std.proofs.lemmas.List.{length-map, map-set}
 use Rattle.std.proofs.lemmas.Nat.Bits.{bit_at_not, bit_at_ones, bit_at-lt, shr_and_one, bit_at_set_same, bit_at_set_other, bit_at_clear_same, bit_at_clear_other}
 use Rattle.std.proofs.lemmas.Option.{same_Some, slice_get_within, slice_get-get_or, get_or_from_slice_get}
@@ -132,9 +130,6 @@ module _ (cells : List ExCell) (word : List Bool) (before : AreFedBefore cells) 
 pub record AreLanes (n : ℕ) (cells : List ExCell) (words values : List ℕ) : Type 0 where
   pub long : length values ≡ n
   pub each : (l : ℕ) → l < 128 → FitsBelow n cells (in_lane l words) (lane_value l values)
-
-pub lanes_none : (cells : List ExCell) (words : List ℕ) → AreLanes 0 cells words []
-lanes_none cells words = record { long = refl; each = λ l lane c cell lt. absurd (omega arith) }
 
 pub lanes_more : (cells : List ExCell) (words values more : List ℕ) (n number : ℕ) (d : ExCell) → AreFedBefore cells → n < length cells →
     ((l : ℕ) → l < 128 → holds number l ≡ cell_value (in_lane l words) (lane_value l values) (get_or cells n d)) → more ≡ values ++ number ∷ [] → AreLanes n cells words values → AreLanes (n + 1) cells words more

@@ -1,5 +1,5 @@
 -- Reading a words text line by line.
-use Rattle.std.proofs.Common.{◌≡◌, ℕ, zero, suc, ◌+◌, ◌-◌, ◌<◌, ◌≤◌, ◌/◌, ◌%◌, Bool, true, false, List, [], ◌∷◌, ◌++◌, length, take, drop, map, get_or, slice_get, Some, All, set, add-one, refl, sym, ap, subst, ◌∙◌, arith}
+use Rattle.std.proofs.Common.{◌≡◌, ℕ, zero, suc, ◌+◌, ◌-◌, ◌<◌, ◌≤◌, ◌/◌, ◌%◌, Bool, true, false, List, [], ◌∷◌, ◌++◌, length, take, drop, map, get_or, slice_get, Some, All, set, add-one, sym, ap, subst, ◌∙◌, arith}
 use Rattle.std.specs.Option.{option_map}
 use Rattle.std.specs.Str.Lines.{lines}
 use Rattle.std.proofs.lemmas.List.{drop-drop, length-drop, take_all, take_more, get_or-drop, length-map, drop_all, get_or-map, take_more_set}
@@ -37,9 +37,6 @@ pub record IsReadTo (width : ℕ) (text rest : List ℕ) (count : ℕ) : Type 0 
   pub good : All (λ line. is_word width line ≡ true) (take count (lines text))
   pub within : count ≤ length (lines text)
   pub room : count + length rest ≤ length text
-
-pub read_none : (width : ℕ) (text : List ℕ) → IsReadTo width text text 0
-read_none width text = record { left = refl; good = λ k d lt. absurd (omega arith); within = omega arith; room = omega arith }
 
 one_word : (width : ℕ) (line : List ℕ) → is_word width line ≡ true → (k : ℕ) (d : List ℕ) → k < length (line ∷ []) → is_word width (get_or (line ∷ []) k d) ≡ true
 one_word width line good zero d lt = good

@@ -1,23 +1,22 @@
 -- Printing fluxes row by row and time by time.
-use Rattle.std.proofs.Common.{◌≡◌, ◌≢◌, ℕ, zero, suc, ◌+◌, ◌-◌, ◌<◌, ◌≤◌, ◌==◌, Bool, true, false, inl, inr, List, [], ◌∷◌, ◌++◌, length, map, take, drop, get_or, slice_get, Option, Some, Result, Ok, Err, OnOk, OnErr, refl, sym, ap, subst, ◌∙◌, arith, append_assoc, append-nil, add-one}
+use Rattle.std.proofs.Common.{◌≡◌, ◌≢◌, ℕ, zero, suc, ◌+◌, ◌-◌, ◌<◌, ◌≤◌, ◌==◌, Bool, true, false, inl, inr, List, [], ◌∷◌, ◌++◌, length, map, take, drop, get_or, slice_get, Some, Result, Ok, Err, OnOk, IfErr, refl, sym, ap, subst, ◌∙◌, arith, append_assoc, append-nil, add-one}
 use Rattle.std.proofs.lemmas.Bool.Decides.{nat_tests}
 use Rattle.std.specs.List.Sorted.{IsNonDecreasingBy}
 use Rattle.std.proofs.lemmas.Bool.{cases_lt}
 use Rattle.std.proofs.Math.Seq.{drop-nil, take-nil}
 use Rattle.std.proofs.lemmas.List.{take_more, get_or-drop, length-drop, map-append}
 use Rattle.std.proofs.lemmas.Option.{get_or_from_slice_get, slice_get-get_or, slice_get_within}
-use Rattle.aq_base.specs.Store.{gained, GainsPrefix}
+use Rattle.aq_base.specs.Output.{Output, printed}
 use Rattle.aq_base.specs.declared.store.StoreRefusal.{StoreRefusal}
-use Rattle.aq_base.proofs.Gains.{prefix_of_first}
 use Rattle.chip_circuit.specs.declared.cells.ExCell.{ExCell}
 use Rattle.chip_circuit.specs.Circuits.{CircuitView}
 use Rattle.pulse_sim.specs.declared.flux.Flux.{Flux}
 use Rattle.pulse_sim.specs.Settled.{settled_run}
 use Rattle.chip_texts.specs.Counts.{counts_line, delay_of}
 use Rattle.chip_texts.specs.FluxLines.{sign_of, signs_in, row_lines, time_lines, ticks_for, trace_text}
-use Rattle.chip_texts.specs.Printing.{IsPrinted, PutsPage, RefusesPage}
+use Rattle.chip_texts.specs.Printing.{PrintsWithin, IsPrinted, PutsPage, RefusesPage}
 use Rattle.chip_texts.specs.RowStarts.{IsRowStart, StandsIn}
-use Rattle.chip_texts.proofs.Pages.{nothing_printed, all_put}
+use Rattle.chip_texts.proofs.Pages.{within_first, nothing_printed, all_put}
 
 -- the cells from one number up to another stand in this row
 abbrev pub AreInRow : List ExCell → ℕ → ℕ → ℕ → Type 0
@@ -168,29 +167,29 @@ begins_more circuit words k (suc m) =
     }
 
 -- some first bytes of the first times' text are some of the whole
-pub prefix_of_trace : (circuit : CircuitView) (words : List (List Bool)) (k n : ℕ) (before now : Option (List ℕ)) → k ≤ n → GainsPrefix before now (trace_to circuit words k) → GainsPrefix before now (trace_to circuit words n)
-prefix_of_trace circuit words k n before now le prefix =
+pub prefix_of_trace : (circuit : CircuitView) (words : List (List Bool)) (k n : ℕ) (before now : Output) (why : StoreRefusal) → k ≤ n → PrintsWithin before now (trace_to circuit words k) why → PrintsWithin before now (trace_to circuit words n) why
+prefix_of_trace circuit words k n before now why le part =
     let more : Begins (trace_to circuit words k) (trace_to circuit words (k + (n - k))) = begins_more circuit words k (n - k) in
     let whole : trace_to circuit words n ≡ trace_to circuit words k ++ more.rest = (let same : ◌≡◌ {A = ℕ} n (k + (n - k)) = omega (arith, le) in ap (trace_to circuit words) same) ∙ more.whole_is in
-    rw whole (prefix_of_first more.rest prefix)
+    rw whole (within_first more.rest part)
 
 pub trace_whole : (circuit : CircuitView) (words : List (List Bool)) (n : ℕ) → n ≡ ticks_for (delay_of circuit) (length words) → trace_to circuit words n ≡ trace_text circuit words
 unfolding trace_to trace_text
 trace_whole circuit words n e = ap (λ t. counts_line circuit ++ time_lines circuit words t) e
 
 -- before the first time the page has the counts line
-pub trace_begins : (old : Option (List ℕ)) (page : List ℕ) (circuit : CircuitView) (words : List (List Bool)) → page ≡ counts_line circuit → IsPrinted old old page (trace_to circuit words 0)
+pub trace_begins : (old : Output) (page : List ℕ) (circuit : CircuitView) (words : List (List Bool)) → page ≡ counts_line circuit → IsPrinted old old page (trace_to circuit words 0)
 unfolding trace_to
 trace_begins old page circuit words made = nothing_printed old page (counts_line circuit ++ []) (append-nil (counts_line circuit) ∙ sym made)
 
 -- the last page is put
-pub all_traced : (circuit : CircuitView) (words : List (List Bool)) (before old now : Option (List ℕ)) (page left : List ℕ) (time : ℕ) (result : Result (Unit {0}) StoreRefusal) → time ≡ ticks_for (delay_of circuit) (length words) →
-    IsPrinted before old page (trace_to circuit words time) → OnOk result (PutsPage old now page left) → OnOk result (left ≡ []) → OnOk result (now ≡ gained before (trace_text circuit words))
-all_traced circuit words before old now page left time (Ok x) end printed put empty =
-    all_put before now (trace_text circuit words) (subst (IsPrinted before now []) (trace_whole circuit words time end) (subst (λ l. IsPrinted before now l (trace_to circuit words time)) empty (put before (trace_to circuit words time) printed)))
-all_traced circuit words before old now page left time (Err e) end printed put empty = tt
+pub all_traced : (circuit : CircuitView) (words : List (List Bool)) (before old now : Output) (page left : List ℕ) (time : ℕ) (result : Result (Unit {0}) StoreRefusal) → time ≡ ticks_for (delay_of circuit) (length words) →
+    IsPrinted before old page (trace_to circuit words time) → OnOk result (PutsPage old now page left) → OnOk result (left ≡ []) → OnOk result (now ≡ printed (trace_text circuit words) before)
+all_traced circuit words before old now page left time (Ok x) end is put empty =
+    all_put before now (trace_text circuit words) (subst (IsPrinted before now []) (trace_whole circuit words time end) (subst (λ l. IsPrinted before now l (trace_to circuit words time)) empty (put before (trace_to circuit words time) is)))
+all_traced circuit words before old now page left time (Err e) end is put empty = tt
 
-pub trace_refused : (circuit : CircuitView) (words : List (List Bool)) (before old now : Option (List ℕ)) (page : List ℕ) (time : ℕ) (result : Result (Unit {0}) StoreRefusal) → time ≡ ticks_for (delay_of circuit) (length words) →
-    IsPrinted before old page (trace_to circuit words time) → OnErr result (RefusesPage old now page) → OnErr result (GainsPrefix before now (trace_text circuit words))
-trace_refused circuit words before old now page time (Ok x) end printed refused = tt
-trace_refused circuit words before old now page time (Err e) end printed refused = subst (GainsPrefix before now) (trace_whole circuit words time end) (refused before (trace_to circuit words time) printed)
+pub trace_refused : (circuit : CircuitView) (words : List (List Bool)) (before old now : Output) (page : List ℕ) (time : ℕ) (result : Result (Unit {0}) StoreRefusal) → time ≡ ticks_for (delay_of circuit) (length words) →
+    IsPrinted before old page (trace_to circuit words time) → IfErr result (RefusesPage old now page) → IfErr result (PrintsWithin before now (trace_text circuit words))
+trace_refused circuit words before old now page time (Ok x) end is refused = tt
+trace_refused circuit words before old now page time (Err why) end is refused = subst (λ t. PrintsWithin before now t why) (trace_whole circuit words time end) (refused before (trace_to circuit words time) is)

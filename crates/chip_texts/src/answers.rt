@@ -1,8 +1,8 @@
 // The answers of a circuit to words, line by line.
-ghost use Rattle.std.specs.Prelude.{◌≡◌, ◌++◌, ◌+◌, ◌<◌, ◌≤◌, All, length, IfOk, OnOk, OnErr, IsErrOf};
-ghost use Rattle.aq_base.specs.Causes.{HasCause};
-ghost use Rattle.aq_base.specs.Store.{gained, GainsPrefix};
+ghost use Rattle.std.specs.Prelude.{◌≡◌, ◌++◌, ◌+◌, ◌<◌, ◌≤◌, All, length, IfOk, OnOk, IfErr};
+ghost use Rattle.aq_base.specs.Output.{printed};
 ghost use Rattle.chip_texts.specs.Counts.{counts_line};
+ghost use Rattle.chip_texts.specs.Printing.{PrintsWithin};
 ghost use Rattle.chip_texts.specs.WordLines.{word_line, answers_to, answers_text};
 
 use crate::blocks::{digit_of, enter_block, print_block};
@@ -64,9 +64,10 @@ pub fn print_answers<O: Sink>(
     out: &mut O,
 ) -> Result<(), StoreRefusal>
     requires { All (λ word. length word ≡ circuit.now.inputs) words.now }
-    ensures added { OnOk result (O.written out.new ≡ gained (O.written out.old) (answers_text circuit.now (answers_to circuit.now words.now))) }
-    ensures prefix { OnErr result (GainsPrefix (O.written out.old) (O.written out.new) (answers_text circuit.now (answers_to circuit.now words.now))) }
-    ensures faults { HasCause (O.faults out.old) (O.faults out.new) (IsErrOf result StoreRefusal.Failed) }
+    ensures added { OnOk result (O.output out.new
+        ≡ printed (answers_text circuit.now (answers_to circuit.now words.now)) (O.output out.old)) }
+    ensures part { IfErr result (PrintsWithin (O.output out.old) (O.output out.new)
+        (answers_text circuit.now (answers_to circuit.now words.now))) }
 {
     circuit.known();
     answers_are_shown();

@@ -1,7 +1,6 @@
 // Blocks of up to 128 words: they are read off lines, and their answers are printed as lines.
-ghost use Rattle.std.specs.Prelude.{◌≡◌, ◌≢◌, ◌<◌, ◌≤◌, ◌++◌, ℕ, List, Bool, All, length, drop, slice_index_or, OnOk, OnErr, IsErrOf, []};
+ghost use Rattle.std.specs.Prelude.{◌≡◌, ◌≢◌, ◌<◌, ◌≤◌, ◌++◌, ℕ, List, Bool, All, length, drop, slice_index_or, OnOk, IfErr, []};
 ghost use Rattle.std.specs.Str.Lines.{lines};
-ghost use Rattle.aq_base.specs.Causes.{HasCause};
 ghost use Rattle.bit_tables.specs.Tables.{holds};
 ghost use Rattle.chip_circuit.specs.Answers.{IsAnswer};
 ghost use Rattle.chip_texts.specs.Code.Lanes.{in_lane, lines_of};
@@ -104,9 +103,10 @@ fn print_lane<O: Sink>(
     out: &mut O,
 ) -> Result<(), StoreRefusal>
     requires { lane < 128 }
-    ensures put { OnOk result (PrintsLine (O.written out.old) (O.written out.new) page.old.items page.new.items (word_line (in_lane lane numbers.now))) }
-    ensures refused { OnErr result (RefusesLine (O.written out.old) (O.written out.new) page.old.items (word_line (in_lane lane numbers.now))) }
-    ensures faults { HasCause (O.faults out.old) (O.faults out.new) (IsErrOf result StoreRefusal.Failed) }
+    ensures put { OnOk result (PrintsLine (O.output out.old) (O.output out.new) page.old.items page.new.items
+        (word_line (in_lane lane numbers.now))) }
+    ensures refused { IfErr result (RefusesLine (O.output out.old) (O.output out.new) page.old.items
+        (word_line (in_lane lane numbers.now))) }
 {
     match add_lane(numbers, lane, page) {
         Ok(()) => put_full_page(out, page),
@@ -122,9 +122,10 @@ fn print_lanes<O: Sink>(
     out: &mut O,
 ) -> Result<(), StoreRefusal>
     requires { count ≤ 128 }
-    ensures put { OnOk result (PrintsLine (O.written out.old) (O.written out.new) page.old.items page.new.items (lines_of (λ l. in_lane l numbers.now) count)) }
-    ensures refused { OnErr result (RefusesLine (O.written out.old) (O.written out.new) page.old.items (lines_of (λ l. in_lane l numbers.now) count)) }
-    ensures faults { HasCause (O.faults out.old) (O.faults out.new) (IsErrOf result StoreRefusal.Failed) }
+    ensures put { OnOk result (PrintsLine (O.output out.old) (O.output out.new) page.old.items page.new.items
+        (lines_of (λ l. in_lane l numbers.now) count)) }
+    ensures refused { IfErr result (RefusesLine (O.output out.old) (O.output out.new) page.old.items
+        (lines_of (λ l. in_lane l numbers.now) count)) }
 {
     for lane in 0..count {
         print_lane(numbers, lane, page, out)?;
@@ -143,10 +144,9 @@ pub fn print_block<O: Sink>(
     requires { count ≤ 128 }
     ensures words { lanes.new.words.items ≡ lanes.old.words.items }
     ensures put { (answer : ℕ → List Bool) → ((l : ℕ) → l < count → IsAnswer circuit.now (in_lane l lanes.old.words.items) (answer l))
-        → OnOk result (PrintsLine (O.written out.old) (O.written out.new) page.old.items page.new.items (lines_of answer count)) }
+        → OnOk result (PrintsLine (O.output out.old) (O.output out.new) page.old.items page.new.items (lines_of answer count)) }
     ensures refused { (answer : ℕ → List Bool) → ((l : ℕ) → l < count → IsAnswer circuit.now (in_lane l lanes.old.words.items) (answer l))
-        → OnErr result (RefusesLine (O.written out.old) (O.written out.new) page.old.items (lines_of answer count)) }
-    ensures faults { HasCause (O.faults out.old) (O.faults out.new) (IsErrOf result StoreRefusal.Failed) }
+        → IfErr result (RefusesLine (O.output out.old) (O.output out.new) page.old.items (lines_of answer count)) }
 {
     circuit.known();
     one_answer();

@@ -1,13 +1,12 @@
 // The fluxes of a circuit's cells, row by row and time by time.
-ghost use Rattle.std.specs.Prelude.{◌≡◌, ◌++◌, ◌+◌, ◌^◌, ◌<◌, ◌≤◌, ℕ, All, length, codes, IfOk, OnOk, OnErr, IsErrOf};
+ghost use Rattle.std.specs.Prelude.{◌≡◌, ◌++◌, ◌+◌, ◌^◌, ◌<◌, ◌≤◌, ℕ, All, length, codes, IfOk, OnOk, IfErr};
 ghost use Rattle.std.specs.Fmt.{decimal};
 ghost use Rattle.std.specs.List.Sorted.{IsNonDecreasingBy};
-ghost use Rattle.aq_base.specs.Causes.{HasCause};
-ghost use Rattle.aq_base.specs.Store.{gained, GainsPrefix};
+ghost use Rattle.aq_base.specs.Output.{printed};
 ghost use Rattle.pulse_sim.specs.Settled.{settled_run};
 ghost use Rattle.chip_texts.specs.Counts.{counts_line};
 ghost use Rattle.chip_texts.specs.FluxLines.{sign_of, flux_line, signs_in, row_lines, ticks_for, trace_text};
-ghost use Rattle.chip_texts.specs.Printing.{PrintsLine, RefusesLine};
+ghost use Rattle.chip_texts.specs.Printing.{PrintsWithin, PrintsLine, RefusesLine};
 ghost use Rattle.chip_texts.specs.RowStarts.{IsRowStart, StandsIn};
 
 use crate::counts::add_counts;
@@ -115,9 +114,10 @@ fn print_rows<O: Sink>(
 ) -> Result<(), StoreRefusal>
     requires circuit { run.now.circuit ≡ circuit.now }
     requires time { run.now.time ≡ time + 1 }
-    ensures put { OnOk result (PrintsLine (O.written out.old) (O.written out.new) page.old.items page.new.items (row_lines circuit.now time (settled_run circuit.now run.now.words (time + 1)) circuit.now.rows)) }
-    ensures refused { OnErr result (RefusesLine (O.written out.old) (O.written out.new) page.old.items (row_lines circuit.now time (settled_run circuit.now run.now.words (time + 1)) circuit.now.rows)) }
-    ensures faults { HasCause (O.faults out.old) (O.faults out.new) (IsErrOf result StoreRefusal.Failed) }
+    ensures put { OnOk result (PrintsLine (O.output out.old) (O.output out.new) page.old.items page.new.items
+        (row_lines circuit.now time (settled_run circuit.now run.now.words (time + 1)) circuit.now.rows)) }
+    ensures refused { IfErr result (RefusesLine (O.output out.old) (O.output out.new) page.old.items
+        (row_lines circuit.now time (settled_run circuit.now run.now.words (time + 1)) circuit.now.rows)) }
 {
     match add_rows(alloc, circuit, run, time, page) {
         Ok(()) => put_full_page(out, page),
@@ -170,9 +170,8 @@ pub fn print_fluxes<O: Sink>(
     out: &mut O,
 ) -> Result<(), StoreRefusal>
     requires { All (λ word. length word ≡ circuit.now.inputs) words.now }
-    ensures added { OnOk result (O.written out.new ≡ gained (O.written out.old) (trace_text circuit.now words.now)) }
-    ensures prefix { OnErr result (GainsPrefix (O.written out.old) (O.written out.new) (trace_text circuit.now words.now)) }
-    ensures faults { HasCause (O.faults out.old) (O.faults out.new) (IsErrOf result StoreRefusal.Failed) }
+    ensures added { OnOk result (O.output out.new ≡ printed (trace_text circuit.now words.now) (O.output out.old)) }
+    ensures part { IfErr result (PrintsWithin (O.output out.old) (O.output out.new) (trace_text circuit.now words.now)) }
 {
     circuit.known();
     let Ok(tracing) = begin(alloc, circuit, words) else {

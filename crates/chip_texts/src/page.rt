@@ -1,6 +1,5 @@
 // A page of text, which is put once it is full.
-ghost use Rattle.std.specs.Prelude.{◌≡◌, ◌++◌, ℕ, List, OnOk, OnErr, IsErrOf, []};
-ghost use Rattle.aq_base.specs.Causes.{HasCause};
+ghost use Rattle.std.specs.Prelude.{◌≡◌, ◌++◌, ℕ, List, OnOk, IfErr, []};
 ghost use Rattle.chip_texts.specs.Printing.{PutsPage, RefusesPage};
 
 use aq_base::{Sink, StoreRefusal};
@@ -10,10 +9,9 @@ const PAGE: usize = 65_536;
 
 /// Puts what stands on the page, and clears it.
 pub fn put_page<O: Sink>(out: &mut O, page: &mut Vec<u8>) -> Result<(), StoreRefusal>
-    ensures put { OnOk result (PutsPage (O.written out.old) (O.written out.new) page.old.items page.new.items) }
+    ensures put { OnOk result (PutsPage (O.output out.old) (O.output out.new) page.old.items page.new.items) }
     ensures empty { OnOk result (page.new.items ≡ []) }
-    ensures refused { OnErr result (RefusesPage (O.written out.old) (O.written out.new) page.old.items) }
-    ensures faults { HasCause (O.faults out.old) (O.faults out.new) (IsErrOf result StoreRefusal.Failed) }
+    ensures refused { IfErr result (RefusesPage (O.output out.old) (O.output out.new) page.old.items) }
 {
     out.put(page.as_slice())?;
     page.clear();
@@ -22,9 +20,8 @@ pub fn put_page<O: Sink>(out: &mut O, page: &mut Vec<u8>) -> Result<(), StoreRef
 
 /// Puts the page if it is full.
 pub fn put_full_page<O: Sink>(out: &mut O, page: &mut Vec<u8>) -> Result<(), StoreRefusal>
-    ensures put { OnOk result (PutsPage (O.written out.old) (O.written out.new) page.old.items page.new.items) }
-    ensures refused { OnErr result (RefusesPage (O.written out.old) (O.written out.new) page.old.items) }
-    ensures faults { HasCause (O.faults out.old) (O.faults out.new) (IsErrOf result StoreRefusal.Failed) }
+    ensures put { OnOk result (PutsPage (O.output out.old) (O.output out.new) page.old.items page.new.items) }
+    ensures refused { IfErr result (RefusesPage (O.output out.old) (O.output out.new) page.old.items) }
 {
     if page.len() < PAGE {
         return Ok(());

@@ -1,17 +1,15 @@
 -- Bytes that pass through a buffer, one part after another.
-use Rattle.std.proofs.Common.{◌≡◌, ℕ, ◌+◌, ◌-◌, ◌<◌, ◌≤◌, List, [], ◌∷◌, ◌++◌, Bool, true, false, cond, take, drop, length, Option, Some, None, option_map, append_assoc, append-nil, refl, ap, sym, subst, inl, inr, ◌∙◌, arith}
+use Rattle.std.proofs.Common.{◌≡◌, ℕ, ◌+◌, ◌-◌, ◌<◌, ◌≤◌, List, [], ◌∷◌, ◌++◌, take, drop, length, append_assoc, append-nil, refl, ap, sym, subst, inl, ◌∙◌, arith}
 use Rattle.std.specs.List.{copy_within}
 use Rattle.std.proofs.lemmas.List.{take-append-drop, length-append, length-drop, take_more}
 use Rattle.std.proofs.lemmas.List.Edits.{paste_all}
 use Rattle.std.proofs.Math.Seq.{take-append_seam, take-length}
-use Rattle.std.specs.Prelude.{Result, IfErr, IsErrAnd}
+use Rattle.std.specs.Prelude.{Result, IfErr, IsErrAnd, IsSome}
 use Rattle.std.proofs.lemmas.Result.{err_from_is_err_and}
-use Rattle.std.specs.Str.{bytes_eq}
-use Rattle.aq_base.specs.Store.{Contents, with_growth, told_grown}
-use Rattle.aq_base.specs.Heard.{Event, took, TakesPart}
+use Rattle.aq_base.specs.Outside.{Outside, grown, Stops, StopsWithin}
 use Rattle.aq_base.specs.declared.store.StoreRefusal.{StoreRefusal}
 use Rattle.aq_base.specs.declared.store.StoreRefusal.TheVariants as store
-use Rattle.aq_base.proofs.Hearing.{took-took}
+use Rattle.aq_base.proofs.Growing.{grown_nothing, grown_twice}
 use Rattle.std.specs.Prelude.{slice_index_or}
 use Rattle.std.specs.List.{flat_map}
 use Rattle.std.proofs.lemmas.List.Concat.{flat_map-append}
@@ -23,51 +21,8 @@ use Rattle.gds_records.specs.Codes.{BGNSTR, STRNAME, ENDSTR, ENDLIB, NO_DATA, TW
 use Rattle.gds_records.specs.Records.{Record, record_with, spelled}
 use Rattle.gds_records.specs.Writing.{padded, dates, element_records, structure_records, library_head, bytes_of}
 use Rattle.gds_records.specs.Buffer.{Gains}
-use Rattle.gds_records.specs.Flow.{Outside, grown, Stops, StopsWithin, Flows, FlowsPart}
+use Rattle.gds_records.specs.Flow.{Flows, FlowsPart}
 use Rattle.gds_records.specs.Refusal.{refusal_of, cause_of}
-
-abbrev Made : Option Contents → List Event → Option (List ℕ) → Outside
-Made told heard opened = record { told = told; heard = heard; opened = opened }
-
-no_growth : (b : Bool) (x : Option (List ℕ)) → cond b (option_map (λ b. b ++ []) x) x ≡ x
-no_growth true None = refl
-no_growth true (Some bytes) = ap (λ b. Some b) (append-nil bytes)
-no_growth false x = refl
-
-told_nothing : (told : Option Contents) (name : Option (List ℕ)) → told ≡ told_grown told name []
-unfolding with_growth
-told_nothing None name = refl
-told_nothing (Some files) None = refl
-told_nothing (Some files) (Some name) = ap (λ (f : Contents). Some f) (λ i other. sym (no_growth (bytes_eq name other) (files other)) i)
-
-grows_twice : (b : Bool) (p q : List ℕ) (x : Option (List ℕ)) → cond b (option_map (λ b. b ++ q) (cond b (option_map (λ b. b ++ p) x) x)) (cond b (option_map (λ b. b ++ p) x) x) ≡ cond b (option_map (λ b. b ++ (p ++ q)) x) x
-grows_twice true p q None = refl
-grows_twice true p q (Some bytes) = ap (λ b. Some b) (append_assoc bytes p q)
-grows_twice false p q x = refl
-
-told_twice : (told : Option Contents) (name : Option (List ℕ)) (p q : List ℕ) → told_grown (told_grown told name p) name q ≡ told_grown told name (p ++ q)
-unfolding with_growth
-told_twice None name p q = refl
-told_twice (Some files) None p q = refl
-told_twice (Some files) (Some name) p q = ap (λ (f : Contents). Some f) (λ i other. grows_twice (bytes_eq name other) p q (files other) i)
-
--- ---- what is taken one behind the other
-
-pub grown_nothing : (o : Outside) → o ≡ grown [] o
-grown_nothing o = λ i. record { told = told_nothing o.told o.opened i; heard = o.heard; opened = o.opened }
-
-pub grown_twice : (o : Outside) (p q : List ℕ) → grown q (grown p o) ≡ grown (p ++ q) o
-grown_twice o p q = λ i. record { told = told_twice o.told o.opened p q i; heard = took-took o.heard p q i; opened = o.opened }
-
--- by what the store says of a call
-pub grown_by : (t t' : Option Contents) (h h' : List Event) (n n' : Option (List ℕ)) (piece : List ℕ) → t' ≡ told_grown t n piece → h' ≡ took piece h → n' ≡ n
-    → Made t' h' n' ≡ grown piece (Made t h n)
-grown_by t t' h h' n n' piece a b c = λ i. record { told = a i; heard = b i; opened = c i }
-
-pub stops_by : {t t' : Option Contents} {h h' : List Event} {n n' : Option (List ℕ)} {piece : List ℕ} (why : StoreRefusal) → TakesPart t t' n h h' piece why → n' ≡ n
-    → StopsWithin (Made t h n) (Made t' h' n') piece why
-stops_by {t = t} {h = h} {n = n} {piece = piece} store.Failed p c = record { count = p.count; within = p.within; stops = λ i. record { told = p.growth i; heard = p.taken i; opened = c i } }
-stops_by {t = t} {h = h} {n = n} {piece = piece} store.Memory p c = record { count = p.count; within = p.within; stops = inr (λ i. record { told = p.growth i; heard = p.taken i; opened = c i }) }
 
 -- ---- through a buffer
 
@@ -136,6 +91,12 @@ piece_part {held = held} count piece e p = record {
 
 pub fewer_held : (count : ℕ) (held held' : List ℕ) → 0 < count → count ≤ length held → held' ≡ drop count held → length held' < length held
 fewer_held count held held' h fit e = omega (arith, length-drop count held, ap (λ (x : List ℕ). length x) e)
+
+-- the file stays open
+pub flows_open : {o o' : Outside} {held held' bytes : List ℕ} → Flows o o' held held' bytes → IsSome o.opened → IsSome o'.opened
+flows_open f open_is = subst (λ (x : Outside). IsSome x.opened) (sym f.grows) open_is
+
+pub ruleset still_open = flows_open
 
 -- ---- refusals that a `?` hands on
 

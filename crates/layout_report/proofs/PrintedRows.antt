@@ -1,17 +1,16 @@
 -- Printing the report row by row.
-use Rattle.std.proofs.Common.{◌≡◌, ℕ, zero, suc, ◌+◌, ◌-◌, ◌<◌, ◌≤◌, List, [], ◌++◌, length, Option, Result, Ok, Err}
+use Rattle.std.proofs.Common.{◌≡◌, ℕ, zero, suc, ◌+◌, ◌-◌, ◌<◌, ◌≤◌, List, [], ◌++◌, length, Result, Ok, Err}
 use Rattle.std.proofs.Common.{OnOk}
-use Rattle.std.proofs.Common.{OnErr, refl, sym, ap, subst, ◌∙◌, arith, append_assoc, append-nil, add-one}
+use Rattle.std.proofs.Common.{IfErr, refl, sym, ap, subst, ◌∙◌, arith, append_assoc, append-nil, add-one}
 use Rattle.std.specs.Prelude.{slice_index, Bool}
-use Rattle.aq_base.specs.Store.{gained, GainsPrefix}
+use Rattle.aq_base.specs.Output.{Output, printed}
 use Rattle.aq_base.specs.declared.store.StoreRefusal.{StoreRefusal}
-use Rattle.aq_base.proofs.Gains.{prefix_of_first}
 use Rattle.geom.specs.declared.shapes.Flat.{Flat}
 use Rattle.chip_circuit.specs.Circuits.{CircuitView}
 use Rattle.chip_texts.specs.Counts.{counts_line}
 use Rattle.chip_texts.specs.WordLines.{answers_text, answers_to}
-use Rattle.chip_texts.specs.Printing.{IsPrinted, PutsPage, RefusesPage}
-use Rattle.chip_texts.proofs.Pages.{nothing_printed, all_put}
+use Rattle.chip_texts.specs.Printing.{PrintsWithin, IsPrinted, PutsPage, RefusesPage}
+use Rattle.chip_texts.proofs.Pages.{within_first, nothing_printed, all_put}
 use Rattle.layout_report.specs.declared.figures.Figures.{Figures}
 use Rattle.layout_report.specs.declared.kinds.Kinds.{Kinds}
 use Rattle.layout_report.specs.declared.tables.RowTable.{RowTable}
@@ -23,7 +22,7 @@ use Rattle.layout_report.specs.ReportText.{row_lines, head_text, report_text}
 use Rattle.layout_report.specs.Code.Figures.{AreFigures, head_of, row_of_table, rows_of_table, text_of}
 
 -- before the first row
-pub text_begins : (old : Option (List ℕ)) (page : List ℕ) (figures : Figures) (limit : ℕ) → page ≡ head_of figures limit
+pub text_begins : (old : Output) (page : List ℕ) (figures : Figures) (limit : ℕ) → page ≡ head_of figures limit
     → IsPrinted old old page (text_of figures limit 0)
 text_begins old page figures limit made =
     nothing_printed old page (head_of figures limit ++ []) (append-nil (head_of figures limit) ∙ sym made)
@@ -55,9 +54,9 @@ rows_after table k (suc m) =
           ∙ append_assoc (rows_of_table table k) one.rest (row_of_table table (k + m)));
     }
 
-pub prefix_of_rows : (figures : Figures) (limit k n : ℕ) (before now : Option (List ℕ)) → k ≤ n
-    → GainsPrefix before now (text_of figures limit k) → GainsPrefix before now (text_of figures limit n)
-prefix_of_rows figures limit k n before now le prefix =
+pub prefix_of_rows : (figures : Figures) (limit k n : ℕ) (before now : Output) (why : StoreRefusal) → k ≤ n
+    → PrintsWithin before now (text_of figures limit k) why → PrintsWithin before now (text_of figures limit n) why
+prefix_of_rows figures limit k n before now why le part =
     let more : Begins (rows_of_table figures.rows k) (rows_of_table figures.rows (k + (n - k))) =
     rows_after figures.rows k (n - k) in
     let same : ◌≡◌ {A = ℕ} n (k + (n - k)) = omega arith in
@@ -65,27 +64,27 @@ prefix_of_rows figures limit k n before now le prefix =
     ap (λ (m : ℕ). text_of figures limit m) same
     ∙ (ap (λ (t : List ℕ). head_of figures limit ++ t) more.whole_is
     ∙ sym (append_assoc (head_of figures limit) (rows_of_table figures.rows k) more.rest)) in
-    rw whole (prefix_of_first more.rest prefix)
+    rw whole (within_first more.rest part)
 
 -- the last page is put
-pub all_rows : (figures : Figures) (limit rows k : ℕ) (before old now : Option (List ℕ)) (page left : List ℕ)
+pub all_rows : (figures : Figures) (limit rows k : ℕ) (before old now : Output) (page left : List ℕ)
     (result : Result (Unit {0}) StoreRefusal) → k ≡ rows → IsPrinted before old page (text_of figures limit k)
     → OnOk result (PutsPage old now page left) → OnOk result (left ≡ [])
-    → OnOk result (now ≡ gained before (text_of figures limit rows))
-all_rows figures limit rows k before old now page left (Ok x) end printed put empty =
+    → OnOk result (now ≡ printed (text_of figures limit rows) before)
+all_rows figures limit rows k before old now page left (Ok x) end is put empty =
     all_put before now (text_of figures limit rows)
     (subst (λ (n : ℕ). IsPrinted before now [] (text_of figures limit n)) end
     (subst (λ (l : List ℕ). IsPrinted before now l (text_of figures limit k)) empty
-    (put before (text_of figures limit k) printed)))
-all_rows figures limit rows k before old now page left (Err e) end printed put empty = tt
+    (put before (text_of figures limit k) is)))
+all_rows figures limit rows k before old now page left (Err e) end is put empty = tt
 
-pub rows_refused : (figures : Figures) (limit rows k : ℕ) (before old now : Option (List ℕ)) (page : List ℕ)
+pub rows_refused : (figures : Figures) (limit rows k : ℕ) (before old now : Output) (page : List ℕ)
     (result : Result (Unit {0}) StoreRefusal) → k ≡ rows → IsPrinted before old page (text_of figures limit k)
-    → OnErr result (RefusesPage old now page) → OnErr result (GainsPrefix before now (text_of figures limit rows))
-rows_refused figures limit rows k before old now page (Ok x) end printed refused = tt
-rows_refused figures limit rows k before old now page (Err e) end printed refused =
-    subst (λ (n : ℕ). GainsPrefix before now (text_of figures limit n)) end
-    (refused before (text_of figures limit k) printed)
+    → IfErr result (RefusesPage old now page) → IfErr result (PrintsWithin before now (text_of figures limit rows))
+rows_refused figures limit rows k before old now page (Ok x) end is refused = tt
+rows_refused figures limit rows k before old now page (Err why) end is refused =
+    subst (λ (n : ℕ). PrintsWithin before now (text_of figures limit n) why) end
+    (refused before (text_of figures limit k) is)
 
 -- where no word is given, the counts line alone is printed
 pub counts_alone : (circuit : CircuitView) (words : List (List Bool)) → words ≡ []

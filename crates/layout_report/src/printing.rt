@@ -1,14 +1,13 @@
 // The report of a chip, line by line.
-ghost use Rattle.std.specs.Prelude.{◌≡◌, ◌++◌, ◌<◌, ◌≤◌, ◌^◌, length, OnOk, OnErr, IsErrOf};
+ghost use Rattle.std.specs.Prelude.{◌≡◌, ◌++◌, ◌<◌, ◌≤◌, ◌^◌, length, OnOk, IfErr};
 ghost use Rattle.std.specs.Fmt.{decimal};
-ghost use Rattle.aq_base.specs.Causes.{HasCause};
-ghost use Rattle.aq_base.specs.Store.{gained, GainsPrefix};
+ghost use Rattle.aq_base.specs.Output.{printed};
 ghost use Rattle.geom.specs.FlatForm.{flat_count};
 ghost use Rattle.cell_library.specs.Library.{limits_of};
 ghost use Rattle.layout_rules.specs.Rules.{KeepsRules};
 ghost use Rattle.shape_extract.specs.Extracts.{Extracts};
 ghost use Rattle.chip_texts.specs.Counts.{counts_line};
-ghost use Rattle.chip_texts.specs.Printing.{PrintsLine, RefusesLine};
+ghost use Rattle.chip_texts.specs.Printing.{PrintsWithin, PrintsLine, RefusesLine};
 ghost use Rattle.layout_report.specs.ReportText.{small_cells, splitters_head, majorities_end, kinds_line};
 ghost use Rattle.layout_report.specs.ReportText.{junctions_line, size_line, longest_line};
 ghost use Rattle.layout_report.specs.ReportText.{row_head, row_counts, report_text};
@@ -168,11 +167,10 @@ fn print_row<O: Sink>(
     requires cells { row < length table.now.cells.items }
     requires wires { row < length table.now.wires.items }
     requires longest { row < length table.now.longest.items }
-    ensures put { OnOk result (PrintsLine (O.written out.old) (O.written out.new) page.old.items page.new.items
+    ensures put { OnOk result (PrintsLine (O.output out.old) (O.output out.new) page.old.items page.new.items
         (row_of_table table.now row)) }
-    ensures refused { OnErr result (RefusesLine (O.written out.old) (O.written out.new) page.old.items
+    ensures refused { IfErr result (RefusesLine (O.output out.old) (O.output out.new) page.old.items
         (row_of_table table.now row)) }
-    ensures faults { HasCause (O.faults out.old) (O.faults out.new) (IsErrOf result StoreRefusal.Failed) }
 {
     match add_row(alloc, table, row, page) {
         Ok(()) => put_full_page(out, page),
@@ -191,10 +189,10 @@ fn print_figures<O: Sink>(
     requires cells { rows ≤ length figures.now.rows.cells.items }
     requires wires { rows ≤ length figures.now.rows.wires.items }
     requires longest { rows ≤ length figures.now.rows.longest.items }
-    ensures added { OnOk result (O.written out.new ≡ gained (O.written out.old) (text_of figures.now limit rows)) }
-    ensures prefix { OnErr result (GainsPrefix (O.written out.old) (O.written out.new)
+    ensures added { OnOk result (O.output out.new
+        ≡ printed (text_of figures.now limit rows) (O.output out.old)) }
+    ensures part { IfErr result (PrintsWithin (O.output out.old) (O.output out.new)
         (text_of figures.now limit rows)) }
-    ensures faults { HasCause (O.faults out.old) (O.faults out.new) (IsErrOf result StoreRefusal.Failed) }
 {
     let mut page = Vec::new(alloc);
     let Ok(()) = add_head(alloc, figures, limit, &mut page) else {
@@ -212,9 +210,9 @@ fn print_counts<O: Sink>(
     circuit: &Extracted,
     out: &mut O,
 ) -> Result<(), StoreRefusal>
-    ensures added { OnOk result (O.written out.new ≡ gained (O.written out.old) (counts_line circuit.now)) }
-    ensures prefix { OnErr result (GainsPrefix (O.written out.old) (O.written out.new) (counts_line circuit.now)) }
-    ensures faults { HasCause (O.faults out.old) (O.faults out.new) (IsErrOf result StoreRefusal.Failed) }
+    ensures added { OnOk result (O.output out.new
+        ≡ printed (counts_line circuit.now) (O.output out.old)) }
+    ensures part { IfErr result (PrintsWithin (O.output out.old) (O.output out.new) (counts_line circuit.now)) }
 {
     match read_words(b"", circuit.inputs) {
         Ok(words) => print_answers(alloc, circuit, &words, out),
@@ -223,7 +221,7 @@ fn print_counts<O: Sink>(
 }
 
 /// Prints the counts line, and then all others.
-#[tactic(auto, using(aq_base::proofs::Gains::gains))]
+#[tactic(auto, using(chip_texts::proofs::Pages::texts))]
 fn print_lines<O: Sink>(
     alloc: Global,
     circuit: &Extracted,
@@ -234,11 +232,10 @@ fn print_lines<O: Sink>(
     requires cells { circuit.now.rows ≤ length figures.now.rows.cells.items }
     requires wires { circuit.now.rows ≤ length figures.now.rows.wires.items }
     requires longest { circuit.now.rows ≤ length figures.now.rows.longest.items }
-    ensures added { OnOk result (O.written out.new
-        ≡ gained (O.written out.old) (counts_line circuit.now ++ text_of figures.now limit circuit.now.rows)) }
-    ensures prefix { OnErr result (GainsPrefix (O.written out.old) (O.written out.new)
+    ensures added { OnOk result (O.output out.new
+        ≡ printed (counts_line circuit.now ++ text_of figures.now limit circuit.now.rows) (O.output out.old)) }
+    ensures part { IfErr result (PrintsWithin (O.output out.old) (O.output out.new)
         (counts_line circuit.now ++ text_of figures.now limit circuit.now.rows)) }
-    ensures faults { HasCause (O.faults out.old) (O.faults out.new) (IsErrOf result StoreRefusal.Failed) }
 {
     print_counts(alloc, circuit, out)?;
     print_figures(alloc, figures, limit, circuit.rows, out)
@@ -257,11 +254,10 @@ pub fn print_report<O: Sink>(
     requires few { flat_count flat.now < 2 ^ 32 }
     requires circuit { Extracts flat.now circuit.now }
     requires rules { KeepsRules flat.now (limits_of library.now) }
-    ensures added { OnOk result (O.written out.new
-        ≡ gained (O.written out.old) (report_text flat.now circuit.now library.now.limit)) }
-    ensures prefix { OnErr result (GainsPrefix (O.written out.old) (O.written out.new)
+    ensures added { OnOk result (O.output out.new
+        ≡ printed (report_text flat.now circuit.now library.now.limit) (O.output out.old)) }
+    ensures part { IfErr result (PrintsWithin (O.output out.old) (O.output out.new)
         (report_text flat.now circuit.now library.now.limit)) }
-    ensures faults { HasCause (O.faults out.old) (O.faults out.new) (IsErrOf result StoreRefusal.Failed) }
 {
     let limit = library.limit();
     let Ok(figures) = read_figures(alloc, flat, circuit) else {

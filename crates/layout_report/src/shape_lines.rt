@@ -1,9 +1,9 @@
 // The line of a shape or a label.
-ghost use Rattle.std.specs.Prelude.{◌≡◌, ◌++◌, ◌<◌, OnOk, OnErr, IsErrOf};
+ghost use Rattle.std.specs.Prelude.{◌≡◌, ◌++◌, ◌<◌, OnOk, IfErr};
 ghost use Rattle.std.specs.Fmt.{signed_decimal};
-ghost use Rattle.aq_base.specs.Causes.{HasCause};
-ghost use Rattle.aq_base.specs.Store.{gained, GainsPrefix};
+ghost use Rattle.aq_base.specs.Output.{printed};
 ghost use Rattle.geom.specs.FlatForm.{flat_count};
+ghost use Rattle.chip_texts.specs.Printing.{PrintsWithin};
 ghost use Rattle.layout_report.specs.ShapeLines.{point_text, corners_text, box_head, box_line, label_head};
 ghost use Rattle.layout_report.specs.ShapeLines.{label_line, shape_line};
 
@@ -111,6 +111,7 @@ fn add_line(alloc: Global, flat: &Flat, number: u64, line: &mut Vec<u8>) -> Resu
 
 /// Prints the line of the shape or label of a number in the flat form, where labels are counted after all shapes; the
 /// number is below that of all these. On a refusal some first bytes of the line were put.
+#[tactic(auto, using(chip_texts::proofs::Pages::texts))]
 pub fn print_shape<O: Sink>(
     alloc: Global,
     flat: &Flat,
@@ -118,9 +119,9 @@ pub fn print_shape<O: Sink>(
     out: &mut O,
 ) -> Result<(), StoreRefusal>
     requires { number < flat_count flat.now }
-    ensures added { OnOk result (O.written out.new ≡ gained (O.written out.old) (shape_line flat.now number)) }
-    ensures prefix { OnErr result (GainsPrefix (O.written out.old) (O.written out.new) (shape_line flat.now number)) }
-    ensures faults { HasCause (O.faults out.old) (O.faults out.new) (IsErrOf result StoreRefusal.Failed) }
+    ensures added { OnOk result (O.output out.new
+        ≡ printed (shape_line flat.now number) (O.output out.old)) }
+    ensures part { IfErr result (PrintsWithin (O.output out.old) (O.output out.new) (shape_line flat.now number)) }
 {
     let mut line = Vec::new(alloc);
     match add_line(alloc, flat, number, &mut line) {

@@ -1,5 +1,6 @@
 // The netlist of the first chip.
 ghost use Rattle.std.specs.Prelude.{IsSome};
+ghost use Rattle.aq_base.specs.MemoryStore.{store_of};
 
 use aq_base::{Files, MemFiles};
 use blif_flat::{WriteBlifRefusal, write_blif, written_answers};
@@ -10,7 +11,7 @@ const FIRST: &[u8] =
     b".model aqfp\n.inputs I0\n.outputs O0\n.names I0 n0\n1 1\n.names n0 n1\n1 1\n.names n1 O0\n1 1\n.end\n";
 
 fn written(alloc: Global, files: &mut MemFiles) -> Result<(), WriteBlifRefusal>
-    requires { IsSome (MemFiles.opened files.old) }
+    requires { IsSome (store_of files.old).opened }
 {
     written_answers();
     let circuit = two_buffers(alloc)?;

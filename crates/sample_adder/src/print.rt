@@ -1,8 +1,8 @@
 // The text of the sample.
-ghost use Rattle.std.specs.Prelude.{◌≡◌, ◌++◌, ◌≤◌, IfOk, OnOk, OnErr, IsErrOf};
+ghost use Rattle.std.specs.Prelude.{◌≡◌, ◌++◌, ◌≤◌, IfOk, OnOk, IfErr};
 ghost use Rattle.std.specs.List.{flat_map};
-ghost use Rattle.aq_base.specs.Causes.{HasCause};
-ghost use Rattle.aq_base.specs.Store.{gained, GainsPrefix};
+ghost use Rattle.aq_base.specs.Output.{printed};
+ghost use Rattle.chip_texts.specs.Printing.{PrintsWithin};
 ghost use Rattle.chip_texts.specs.WordLines.{word_line};
 ghost use Rattle.sample_adder.specs.SampleText.{sample_line, sample_text};
 
@@ -63,7 +63,7 @@ fn text_of(
 
 /// Prints the text of the sample for so many bits: the counts of its chip, which has at least one row, and a line for
 /// each answer. On a refusal some first bytes of that text were put.
-#[tactic(auto, using(chip_texts::proofs::Pages::gains_none))]
+#[tactic(auto, using(chip_texts::proofs::Pages::texts))]
 pub fn print_sample<O: Sink>(
     alloc: Global,
     bits: u32,
@@ -74,11 +74,10 @@ pub fn print_sample<O: Sink>(
     out: &mut O,
 ) -> Result<(), StoreRefusal>
     requires { 1 ≤ rows }
-    ensures added { OnOk result (O.written out.new
-        ≡ gained (O.written out.old) (sample_text bits rows cells wires answers.now)) }
-    ensures prefix { OnErr result (GainsPrefix (O.written out.old) (O.written out.new)
+    ensures added { OnOk result (O.output out.new
+        ≡ printed (sample_text bits rows cells wires answers.now) (O.output out.old)) }
+    ensures part { IfErr result (PrintsWithin (O.output out.old) (O.output out.new)
         (sample_text bits rows cells wires answers.now)) }
-    ensures faults { HasCause (O.faults out.old) (O.faults out.new) (IsErrOf result StoreRefusal.Failed) }
 {
     match text_of(alloc, bits, rows, cells, wires, answers) {
         Ok(text) => out.put(text.as_slice()),

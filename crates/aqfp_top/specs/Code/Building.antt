@@ -1,10 +1,7 @@
 -- The words of the steps of a build: loading, making the chip, storing and printing.
 use Rattle.std.specs.Prelude.{ℕ, ◌≡◌, ◌≤◌, ◌⊎◌, List, length, Option, Result, Ok, Err}
-use Rattle.aq_base.specs.Causes.{Rose}
 use Rattle.aq_base.specs.Heard.{Event}
 use Rattle.aq_base.specs.Store.{Contents, told_with, StoresPrefix}
-use Rattle.aq_base.specs.declared.store.StoreRefusal.{StoreRefusal}
-use Rattle.aq_base.specs.declared.store.StoreRefusal.TheVariants as store
 use Rattle.aqfp_top.specs.Build.{IsBuilt}
 use Rattle.aqfp_top.specs.Faults.{IsBuildFault}
 use Rattle.aqfp_top.specs.Loads.{net_limit, lib_limit}
@@ -14,7 +11,7 @@ use Rattle.aqfp_top.specs.declared.planner.Planner.{Planner}
 use Rattle.aqfp_top.specs.declared.design.Chip.{Chip}
 use Rattle.aqfp_top.specs.declared.fault.WriteCall.TheVariants.{Create, Append, Close, Out}
 use Rattle.aqfp_top.specs.declared.fault.Fault.{Fault}
-use Rattle.aqfp_top.specs.declared.fault.Fault.TheVariants.{ReadFault, WriteFault, Memory}
+use Rattle.aqfp_top.specs.declared.fault.Fault.TheVariants.{WriteFault, Memory}
 
 -- what stands in the store after a file was to be stored under a name
 abbrev pub StandsStored : Option Contents → Option Contents → List ℕ → List ℕ → Result (Unit {0}) Fault → Type 0
@@ -25,21 +22,6 @@ StandsStored before after name bytes (Err (WriteFault Close)) = after ≡ told_w
 StandsStored before after name bytes (Err (WriteFault Out)) = ⊥
 StandsStored before after name bytes (Err Memory) = (after ≡ before) ⊎ StoresPrefix before after name bytes
 StandsStored before after name bytes (Err _) = ⊥
-
--- how storing ends, by how writing and closing do
-abbrev pub end_of : Result (Unit {0}) StoreRefusal → Result (Unit {0}) StoreRefusal → Result (Unit {0}) Fault
-end_of (Ok _) (Ok _) = Ok tt
-end_of (Ok _) (Err store.Failed) = Err (WriteFault Close)
-end_of (Ok _) (Err store.Memory) = Err Memory
-end_of (Err store.Failed) closed = Err (WriteFault Append)
-end_of (Err store.Memory) closed = Err Memory
-
--- the counts of write and close faults that a refused store shows
-abbrev pub StoreCause : ℕ → ℕ → ℕ → ℕ → Result (Unit {0}) Fault → Type 0
-StoreCause writes writes' closes closes' (Err (WriteFault Create)) = Rose writes writes'
-StoreCause writes writes' closes closes' (Err (WriteFault Append)) = Rose writes writes'
-StoreCause writes writes' closes closes' (Err (WriteFault Close)) = Rose closes closes'
-StoreCause writes writes' closes closes' _ = Unit {0}
 
 -- the faults of a build before anything is stored
 abbrev pub IsMakeFault : Fault → Type 0
@@ -59,11 +41,6 @@ IsStoreFault (WriteFault Append) = Unit {0}
 IsStoreFault (WriteFault Close) = Unit {0}
 IsStoreFault Memory = Unit {0}
 IsStoreFault _ = ⊥
-
--- a fault of a load that failed comes only where this holds
-abbrev pub IsReadOf : Type 0 → Fault → Type 0
-IsReadOf Risen (ReadFault place) = Risen
-IsReadOf Risen _ = Unit {0}
 
 -- the chip is one of the texts of NET and LIB by this plan
 abbrev pub IsMade : Planner → Option Contents → List (List ℕ) → Chip → Type 0

@@ -11,12 +11,6 @@ use Rattle.aqfp_top.specs.declared.fault.WriteCall.TheVariants.{Create, Append, 
 use Rattle.aqfp_top.specs.declared.fault.Fault.{Fault}
 use Rattle.aqfp_top.specs.declared.fault.Fault.TheVariants.{WriteFault, Memory}
 
--- what was heard where the file was not made
-abbrev pub HeardUnmade : List Event → List Event → List ℕ → Fault → Type 0
-HeardUnmade heard heard' name (WriteFault Create) = heard' ≡ NotCreated name store.Failed ∷ heard
-HeardUnmade heard heard' name Memory = heard' ≡ NotCreated name store.Memory ∷ heard
-HeardUnmade heard heard' name _ = ⊥
-
 -- closing was refused after all bytes were taken
 abbrev pub IsLeft : StoreRefusal → List Event → List Event → List ℕ → List ℕ → Type 0
 IsLeft why heard heard' name bytes = heard' ≡ NotClosed why ∷ took bytes (Created name ∷ heard)

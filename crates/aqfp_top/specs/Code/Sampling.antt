@@ -1,5 +1,5 @@
 -- The steps of a sample.
-use Rattle.std.specs.Prelude.{ℕ}
+use Rattle.std.specs.Prelude.{ℕ, List}
 use Rattle.std.specs.List.{AllZip}
 use Rattle.blif_read.specs.Parts.{NetView}
 use Rattle.blif_read.specs.Says as netlist
@@ -8,6 +8,7 @@ use Rattle.cell_library.specs.LibraryA.{library_a_view}
 use Rattle.chip_plan.specs.Plans.{chip_of}
 use Rattle.sample_adder.specs.Adder.{adder}
 use Rattle.sample_adder.specs.EightWords.{eight}
+use Rattle.sample_adder.specs.SampleText.{sample_text}
 use Rattle.aqfp_top.specs.Designs.{KeepsLimits}
 use Rattle.aqfp_top.specs.Code.Designing.{AreCountsOf}
 use Rattle.aqfp_top.specs.declared.sample.SampleResult.{SampleResult}
@@ -22,6 +23,11 @@ pub record IsSampleOfBits (bits : ℕ) (sample : SampleResult) : Type 0 where
   pub limits : KeepsLimits equations library_a_view
   pub counts : AreCountsOf (chip_of library_a_view equations) sample.counts
   pub are_answers : AllZip (IsAnswer equations) (eight bits) sample.answers
+
+-- the text of the sample
+abbrev pub text_in : ℕ → SampleResult → List ℕ
+text_in bits sample =
+    sample_text bits sample.counts.rows sample.counts.cells sample.counts.wires sample.answers
 
 -- the faults of making a sample
 abbrev pub IsMakingFault : Fault → Type 0

@@ -93,7 +93,7 @@ fn push_defs(
 }
 
 /// The actual of a port; empty where none is there.
-fn first_actual(call: &Call, port: Option<u32>) -> &[u8]
+fn first_actual(call: &Call, port: Option<usize>) -> &[u8]
     ensures { result.now ≡ first_actual call.now port }
 {
     match actual_in(call, port) {
@@ -108,7 +108,7 @@ fn push_entries(
     places: &Numbers<'_>,
     width: u32,
     call: &Call,
-    ports: &[Option<u32>],
+    ports: &[Option<usize>],
     pieces: &mut Block,
 ) -> Result<(), Memory>
     ensures { (names : Items (Maybe (Items ℕ))) → ArePlaces places.now.entries width names → OnOk result (pieces.new
@@ -126,7 +126,7 @@ fn push_entries(
 fn push_exit(
     alloc: Global,
     line: u64,
-    port: Option<u32>,
+    port: Option<usize>,
     from: u32,
     exit: u32,
     count: u32,
@@ -155,7 +155,7 @@ fn exit_at(exits: &[u32], at: usize) -> u32
 fn push_exits(
     alloc: Global,
     line: u64,
-    ports: &[Option<u32>],
+    ports: &[Option<usize>],
     from: u32,
     exits: &[u32],
     pieces: &mut Block,

@@ -1,5 +1,5 @@
 // The numbers of a design's outputs.
-ghost use Rattle.std.specs.Prelude.{◌≡◌, ℕ, List as Items, map, length, IfOk, OnOk};
+ghost use Rattle.std.specs.Prelude.{◌≡◌, ◌<◌, ◌^◌, ℕ, List as Items, map, length, IfOk, OnOk};
 ghost use Rattle.blif_flat.specs.Designs.{names_in};
 ghost use Rattle.blif_flat.specs.Expansion.{wire, number};
 ghost use Rattle.blif_flat.specs.declared.expansion.wires.Place.{Place as ThePlace};
@@ -7,7 +7,7 @@ ghost use Rattle.blif_flat.specs.Code.Numbering.{IsNumbering, number_in, number_
 ghost use Rattle.blif_flat.specs.Code.Wired.{wires_of, is_own};
 
 use crate::expansion::wires::Place;
-use crate::models::numbers::{Numbers, add, number_of, small_number};
+use crate::models::numbers::{Numbers, add, narrow, number_of};
 use aq_base::{List, Memory};
 use blif_read::Named;
 use indexmap::IndexMap;
@@ -31,12 +31,12 @@ fn own_numbers<'a>(
     hash: NameHash,
     places: &[Place<'a>],
 ) -> Result<Numbers<'a>, Memory>
+    requires { length places.now < 2 ^ 32 }
     ensures { IfOk result (λ numbers. IsNumbering is_own numbers.entries places.now) }
 {
     let mut numbers = IndexMap::with_hasher(alloc, hash);
     for (number, place) in places.iter().enumerate() {
-        let number = small_number(number)?;
-        add_own(&mut numbers, number, place)?;
+        add_own(&mut numbers, narrow(number), place)?;
     }
     Ok(numbers)
 }
@@ -59,11 +59,12 @@ pub fn output_numbers(
     places: &[Place<'_>],
     outputs: &[Named],
 ) -> Result<List<u32>, Memory>
+    requires { length places.now < 2 ^ 32 }
     ensures { IfOk result (λ numbers. numbers
         ≡ map (λ o. number (wires_of places.now) (wire 0 o)) (names_in outputs.now)) }
 {
     let numbers = own_numbers(alloc, hash, places)?;
-    let count = small_number(places.len())?;
+    let count = narrow(places.len());
     let mut list = List::new(alloc);
     for output in outputs {
         list.push(own_number(&numbers, count, output.name.as_slice()))?;

@@ -12,7 +12,7 @@ use crate::expansion::finish::finish;
 use crate::expansion::tables::definitions_of;
 use crate::expansion::wires::wires;
 use crate::models::indexed::Design;
-use crate::models::numbers::small_number;
+use crate::models::numbers::narrow;
 use blif_read::{BlifModel, Netlist};
 use name_hash::NameHash;
 use std::alloc::Global;
@@ -37,6 +37,6 @@ pub fn expand(
     let places = wires(alloc, design, models, order)?;
     let defs = definitions_of(alloc, hash, design, models, order)?;
     let outputs = output_numbers(alloc, hash, places.as_slice(), first.outputs.as_slice())?;
-    let inputs = small_number(first.inputs.len())?;
+    let inputs = narrow(first.inputs.len());
     finish(alloc, inputs, places.as_slice(), &defs, &outputs)
 }

@@ -1,11 +1,11 @@
 // The names of wires: those that the netlist keeps, and those that a fault tells.
-ghost use Rattle.std.specs.Prelude.{◌≡◌, ◌++◌, [], ◌∷◌, map, IfOk, OnOk, slice_index_or};
+ghost use Rattle.std.specs.Prelude.{◌≡◌, ◌<◌, ◌^◌, ◌++◌, [], ◌∷◌, length, map, IfOk, OnOk, slice_index_or};
 ghost use Rattle.std.specs.Fmt.{decimal};
 ghost use Rattle.blif_flat.specs.Expansion.{wire, kept_name, kept_names, told_name};
 ghost use Rattle.blif_flat.specs.Code.Wired.{wire_of, wires_of};
 
 use crate::expansion::wires::Place;
-use crate::models::numbers::small_number;
+use crate::models::numbers::narrow;
 use aq_base::{List, Memory};
 use short_bytes::ShortBytes;
 use std::alloc::Global;
@@ -47,11 +47,12 @@ fn told_name(alloc: Global, place: &Place<'_>) -> Result<ShortBytes, Memory>
 
 /// The names that the netlist keeps of these wires, which are all.
 pub fn kept_names(alloc: Global, places: &[Place<'_>]) -> Result<List<ShortBytes>, Memory>
+    requires { length places.now < 2 ^ 32 }
     ensures { IfOk result (λ names. names ≡ kept_names 0 (wires_of places.now)) }
 {
     let mut names = List::new(alloc);
     for (number, place) in places.iter().enumerate() {
-        let name = kept_name(alloc, small_number(number)?, place)?;
+        let name = kept_name(alloc, narrow(number), place)?;
         names.push(name)?;
     }
     Ok(names)

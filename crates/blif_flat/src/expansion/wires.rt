@@ -1,6 +1,7 @@
 // All wires of a design's netlist, in the order of their numbers.
-ghost use Rattle.std.specs.Prelude.{◌≡◌, ◌+◌, ◌++◌, ◌<◌, length, reverse, IfOk, OnOk, MatchOption};
+ghost use Rattle.std.specs.Prelude.{◌≡◌, ◌+◌, ◌++◌, ◌<◌, ◌≤◌, ◌^◌, length, reverse, IfOk, OnOk, MatchOption};
 ghost use Rattle.blif_flat.specs.Designs.{model_at, no_model};
+ghost use Rattle.blif_flat.specs.DesignSize.{design_size, size_limit};
 ghost use Rattle.blif_flat.specs.DesignText.{IsLaidOut};
 ghost use Rattle.blif_flat.specs.Expansion.{wires};
 ghost use Rattle.blif_flat.specs.Code.Calls.{IsCallOrder};
@@ -91,11 +92,12 @@ fn links_at<'a, 'b>(table: &'b [Links<'a>], model: Option<u32>) -> &'b [Link<'a>
     }
 }
 
-/// The number of the next call; there is no memory for more than 2^32 - 1.
-fn next_call(calls: u32) -> Result<u32, Memory>
-    ensures { IfOk result (λ next. next ≡ calls + 1) }
+/// The number of the next call.
+fn next_call(calls: u32) -> u32
+    requires { calls + 1 < 2 ^ 32 }
+    ensures { result ≡ calls + 1 }
 {
-    calls.checked_add(1).ok_or(Memory)
+    calls + 1
 }
 
 /// All wires, by the links of the models that the first one leads to.
@@ -106,6 +108,7 @@ fn linked_wires<'a>(
     order: &[u32],
 ) -> Result<Vec<Place<'a>>, Memory>
     requires laid_out { IsLaidOut models.now }
+    requires small { design_size models.now ≤ size_limit }
     requires some { 0 < length models.now }
     requires order { IsCallOrder models.now order.now }
     requires links { HasLinks models.now (reverse order.now) table.now }
@@ -128,7 +131,7 @@ fn linked_wires<'a>(
                 left: Some(link),
                 rest,
             })?;
-            calls = next_call(calls)?;
+            calls = next_call(calls);
             begin_called(models, &mut places, calls, link.model)?;
             frames.push(Frame {
                 call: calls,
@@ -150,6 +153,7 @@ pub fn wires<'a>(
 ) -> Result<Vec<Place<'a>>, Memory>
     requires same { design.now ≡ models.now }
     requires laid_out { IsLaidOut models.now }
+    requires small { design_size models.now ≤ size_limit }
     requires some { 0 < length models.now }
     requires order { IsCallOrder models.now order.now }
     ensures { IfOk result (λ places. wires_of places.items ≡ wires models.now) }

@@ -8,7 +8,7 @@ ghost use Rattle.blif_flat.specs.Code.Blocks.{is_that};
 ghost use Rattle.blif_flat.specs.Code.Joins.{ports_for, noted, actual_in, actuals_in, ArePlaces};
 
 use crate::models::indexed::Names;
-use crate::models::numbers::{Numbers, add, number_of, small_number};
+use crate::models::numbers::{Numbers, add, number_of};
 use aq_base::Memory;
 use blif_read::Call;
 use std::alloc::Global;
@@ -21,7 +21,7 @@ fn number_among(names: &Names<'_>, name: &[u8]) -> Option<usize>
 }
 
 /// Notes a port at a place, where none is yet.
-fn note(ports: &mut Vec<Option<u32>>, at: Option<usize>, port: u32)
+fn note(ports: &mut Vec<Option<usize>>, at: Option<usize>, port: usize)
     requires { IfSome at (λ place. place < length ports.old.items) }
     ensures { ports.new.items ≡ noted ports.old.items at port }
 {
@@ -33,7 +33,7 @@ fn note(ports: &mut Vec<Option<u32>>, at: Option<usize>, port: u32)
 }
 
 /// So many places without a port.
-fn no_ports(alloc: Global, count: usize) -> Result<Vec<Option<u32>>, Memory>
+fn no_ports(alloc: Global, count: usize) -> Result<Vec<Option<usize>>, Memory>
     ensures { IfOk result (λ ports. ports.items ≡ replicate count None) }
 {
     let mut ports = Vec::with_capacity(alloc, count)?;
@@ -44,12 +44,15 @@ fn no_ports(alloc: Global, count: usize) -> Result<Vec<Option<u32>>, Memory>
 }
 
 /// For each of the names the port of a call that has it for its formal, if one has.
-pub fn ports_for(alloc: Global, names: &Names<'_>, call: &Call) -> Result<Vec<Option<u32>>, Memory>
+pub fn ports_for(
+    alloc: Global,
+    names: &Names<'_>,
+    call: &Call,
+) -> Result<Vec<Option<usize>>, Memory>
     ensures { IfOk result (λ ports. ports.items ≡ ports_for (texts names.now.keys) (formals call.now)) }
 {
     let mut ports = no_ports(alloc, names.len())?;
     for (number, port) in call.ports.as_slice().iter().enumerate() {
-        let number = small_number(number)?;
         let at = number_among(names, port.formal.as_slice());
         note(&mut ports, at, number);
     }
@@ -83,12 +86,12 @@ pub fn pass(places: &Numbers<'_>, count: u32, by: u32) -> Result<u32, Memory>
 }
 
 /// The actual of a port.
-pub fn actual_in<'a>(call: &'a Call, port: Option<u32>) -> Option<&'a [u8]>
+pub fn actual_in<'a>(call: &'a Call, port: Option<usize>) -> Option<&'a [u8]>
     ensures { MatchOption result (actual_in call.now port ≡ []) (λ actual. actual_in call.now port
         ≡ actual.now ∷ []) }
 {
     match port {
-        Some(port) => match call.ports.as_slice().get(port as usize) {
+        Some(port) => match call.ports.as_slice().get(port) {
             Some(port) => Some(port.actual.as_slice()),
             None => None,
         },
@@ -100,7 +103,7 @@ fn add_actual<'a>(
     places: &mut Numbers<'a>,
     count: u32,
     call: &'a Call,
-    port: Option<u32>,
+    port: Option<usize>,
 ) -> Result<u32, Memory>
     ensures { IfOk result (λ next. (names : Items (Maybe (Items ℕ))) → ArePlaces places.old.entries count names
         → ArePlaces places.new.entries next (names ++ map (λ n. Some n) (actual_in call.now port))) }
@@ -119,7 +122,7 @@ pub fn add_actuals<'a>(
     places: &mut Numbers<'a>,
     count: u32,
     call: &'a Call,
-    ports: &[Option<u32>],
+    ports: &[Option<usize>],
 ) -> Result<u32, Memory>
     ensures { IfOk result (λ next. (names : Items (Maybe (Items ℕ))) → ArePlaces places.old.entries count names
         → ArePlaces places.new.entries next (names ++ map (λ n. Some n) (actuals_in call.now ports.now))) }

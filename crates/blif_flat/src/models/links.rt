@@ -31,7 +31,7 @@ pub type Links<'a> = List<Link<'a>>;
 fn push_actual<'a>(
     names: &mut Vec<&'a [u8]>,
     call: &'a Call,
-    port: Option<u32>,
+    port: Option<usize>,
 ) -> Result<(), Memory>
     ensures { OnOk result (texts names.new.items ≡ texts names.old.items ++ actual_in call.now port) }
 {

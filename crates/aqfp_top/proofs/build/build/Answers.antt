@@ -1,14 +1,55 @@
-use Rattle.std.proofs.lemmas.Result.{on_ok_weaker}
 use Rattle.aqfp_top.specs.Words.{spelled}
-use Rattle.aqfp_top.proofs.Steps.{print_counts}
-use Rattle.aqfp_top.proofs.Hearing.{heard_built}
+use Rattle.aqfp_top.specs.Loads.{net_limit, build_loads}
+use Rattle.aqfp_top.specs.Due.{design_stages}
+use Rattle.aqfp_top.specs.HeardDue.{IsStreamBy}
+use Rattle.aqfp_top.proofs.Steps.{build_answers, build_stands, build_prints, build_only, build_done}
+use Rattle.aqfp_top.proofs.Storing.{stores_shut}
+use Rattle.aqfp_top.proofs.OutEnds.{text_fails}
+use Rattle.aqfp_top.proofs.Hearing.{build_heard}
+use Rattle.aqfp_top.proofs.HearingDue.{counts_end}
 use Rattle.aqfp_top.proofs.build.build.Goals as goal
 
-pub returns-clause-faults : goal.returns-clause-faults
-returns-clause-faults g c = print_counts _ _ c.put_counts.result c.put_counts.ensures.only c.put_counts.ensures.cause
+pub returns-in_err-store-clause-shut : goal.returns-in_err-store-clause-shut
+returns-in_err-store-clause-shut g c = stores_shut _ _ _ _ _ c.in_err-store.ensures
+
+pub returns-clause-answer : goal.returns-clause-answer
+returns-clause-answer g c =
+    build_answers c.args.planner (g.F.Files.outside c.args.files.now).told (spelled c.args.words.now) _ _ _ c.put_counts.result c.in_ok-chip.ensures.well
+    c.put_counts.ensures
+
+pub returns-clause-stands : goal.returns-clause-stands
+returns-clause-stands g c =
+    build_stands c.args.planner (g.F.Files.outside c.args.files.now) (g.F.Files.outside c.make.new.files) _ (spelled c.args.words.now) _ c.in_ok-chip.chip _ _ _ _
+    c.put_counts.result c.in_ok-chip.ensures.made c.in_ok-chip.ensures.kept c.word.ensures c.in_ok-store.ensures
+    c.put_counts.ensures
+
+pub returns-clause-prints : goal.returns-clause-prints
+returns-clause-prints g c =
+    build_prints c.args.planner (g.F.Files.outside c.args.files.now).told (spelled c.args.words.now) c.in_ok-chip.chip _ _ c.put_counts.result
+    c.in_ok-chip.ensures.made c.put_counts.ensures
+
+pub returns-clause-fails : goal.returns-clause-fails
+returns-clause-fails g c = text_fails _ _ _ c.put_counts.result c.put_counts.ensures
+
+pub returns-clause-done : goal.returns-clause-done
+returns-clause-done g c =
+    build_done c.args.planner (g.F.Files.outside c.args.files.now) (g.F.Files.outside c.make.new.files) _ (spelled c.args.words.now) _ c.in_ok-chip.chip _ _ _
+    c.put_counts.result c.in_ok-chip.ensures.made c.in_ok-chip.ensures.kept c.word.ensures c.in_ok-store.ensures
+    c.put_counts.ensures
 
 pub returns-clause-heard : goal.returns-clause-heard
 returns-clause-heard g c =
-    on_ok_weaker c.put_counts.result (λ prints. heard_built c.args.planner _ _ _ (spelled c.args.words.now) _
-    c.in_ok-chip.chip _ _ c.in_ok-chip.ensures.heard c.word.ensures c.in_ok-store.ensures.heard prints)
-    c.put_counts.ensures.added
+    build_heard c.args.planner _ (g.F.Files.outside c.make.new.files) _ (spelled c.args.words.now) _ c.in_ok-chip.chip _ _ _
+    c.put_counts.result c.in_ok-chip.ensures.heard c.word.ensures c.in_ok-store.ensures c.put_counts.ensures
+
+pub returns-clause-due : goal.returns-clause-due
+returns-clause-due g c =
+    counts_end build_loads net_limit (design_stages c.args.planner) (IsStreamBy c.args.planner) _
+    (g.F.Files.outside c.make.new.files) _ (spelled c.args.words.now) _ _ _ _ _ _ c.put_counts.result
+    c.in_ok-chip.ensures.heard_well c.word.ensures c.in_ok-store.ensures c.put_counts.ensures
+
+pub returns-clause-only : goal.returns-clause-only
+returns-clause-only g c = build_only _ _ _ c.put_counts.result c.put_counts.ensures
+
+pub returns-clause-shut : goal.returns-clause-shut
+returns-clause-shut g c = stores_shut _ _ _ _ _ c.in_ok-store.ensures

@@ -3,26 +3,20 @@ use Rattle.aqfp_top.specs.Words.{spelled}
 use Rattle.aqfp_top.specs.Loads.{gds_limit, write_loads}
 use Rattle.aqfp_top.specs.Due.{circuit_stages}
 use Rattle.aqfp_top.proofs.HearingDue.{reads_two, due_of_reading}
-use Rattle.aqfp_top.proofs.Reporting.{told_report, texts_report, heard_report, report_counts, report_failed, report_only}
+use Rattle.aqfp_top.proofs.Reporting.{told_report, texts_report, heard_report, report_only}
 use Rattle.aqfp_top.proofs.chip_report.report.Goals as goal
 
 pub returns-clause-answer : goal.returns-clause-answer
 returns-clause-answer g c =
     let texts = c.in_ok-texts.texts in
-    told_report (g.F.Files.told c.args.files.now) (spelled c.args.words.now) texts.gds.items texts.lib.items c.deref.result.now c.report_texts.result
+    told_report (g.F.Files.outside c.args.files.now).told (spelled c.args.words.now) texts.gds.items texts.lib.items c.deref.result.now c.report_texts.result
     c.in_ok-texts.ensures.texts c.in_ok-texts.ensures.gds_fits c.in_ok-texts.ensures.lib_fits c.deref.ensures.value c.report_texts.ensures.answer
 
 pub returns-clause-prints : goal.returns-clause-prints
 returns-clause-prints g c =
     let texts = c.in_ok-texts.texts in
-    texts_report (g.F.Files.told c.args.files.now) (spelled c.args.words.now) texts.gds.items texts.lib.items c.deref.result.now _ _ _
+    texts_report (g.F.Files.outside c.args.files.now).told (spelled c.args.words.now) texts.gds.items texts.lib.items c.deref.result.now _ _ _
     c.in_ok-texts.ensures.texts c.deref.ensures.value c.report_texts.ensures.prints
-
-pub returns-clause-faults : goal.returns-clause-faults
-returns-clause-faults g c = report_counts _ _ c.report_texts.result c.report_texts.ensures.only c.report_texts.ensures.cause
-
-pub returns-clause-failed : goal.returns-clause-failed
-returns-clause-failed g c = λ told. report_failed _ _ c.report_texts.result c.report_texts.ensures.only
 
 pub returns-clause-only : goal.returns-clause-only
 returns-clause-only g c = report_only c.report_texts.result c.report_texts.ensures.only

@@ -3,11 +3,7 @@ use Rattle.aqfp_top.proofs.Forms.{is_make, make_not_verify, make_not_trace, make
 use Rattle.aqfp_top.proofs.Forms.{four_not_report, make_not_report, sample_not_report, shapes_not_report, make_not_shapes}
 use Rattle.aqfp_top.proofs.Forms.{verify_not_shapes, trace_not_shapes, equal_not_shapes, write_not_shapes, sample_not_shapes}
 use Rattle.aqfp_top.proofs.Runs.{made_by, heard_by, never_made, never, never_shown, shown_by}
-use Rattle.aqfp_top.proofs.Sampling.{sample_counts}
 use Rattle.aqfp_top.proofs.run.work.Goals as goal
-
-pub returns-in-Sample-clause-faults : goal.returns-in-Sample-clause-faults
-returns-in-Sample-clause-faults g c = sample_counts _ _ c.sample.result c.sample.ensures.only c.sample.ensures.cause
 
 pub returns-in-Make-clause-done : goal.returns-in-Make-clause-done
 returns-in-Make-clause-done g c =

@@ -14,7 +14,7 @@ returns-in_err-layout-clause-answer g c =
 
 pub returns-in_err-layout-clause-prints : goal.returns-in_err-layout-clause-prints
 returns-in_err-layout-clause-prints g c =
-    let none = layout_prints (AreShapes c.args.gds.items c.args.first c.args.second) (g.O.Sink.written c.args.out.now) c.in_err-layout.field-0.0 c.in_err-layout.ensures.only in
+    let none = layout_prints (AreShapes c.args.gds.items c.args.first c.args.second) (g.O.Sink.output c.args.out.now) c.in_err-layout.field-0.0 c.in_err-layout.ensures.only in
     let p = err_from_is_err_and c.from_residual.result c.from_residual.ensures.1 in
     rw (p.1, p.2) none
 

@@ -1,27 +1,56 @@
-use Rattle.std.proofs.lemmas.Result.{on_ok_weaker}
 use Rattle.aqfp_top.specs.Words.{spelled}
-use Rattle.aqfp_top.proofs.Steps.{print_counts}
-use Rattle.aqfp_top.proofs.WriteSteps.{netlist_prints, is_written}
-use Rattle.aqfp_top.proofs.HearingNetlists.{heard_written}
+use Rattle.aqfp_top.specs.Loads.{gds_limit, write_loads}
+use Rattle.aqfp_top.specs.Due.{circuit_stages}
+use Rattle.aqfp_top.specs.HeardDue.{IsTextOf}
+use Rattle.aqfp_top.proofs.WriteSteps.{write_answers, write_stands, write_prints, write_only, write_done}
+use Rattle.aqfp_top.proofs.Storing.{stores_shut}
+use Rattle.aqfp_top.proofs.OutEnds.{text_fails}
+use Rattle.aqfp_top.proofs.HearingNetlists.{write_heard}
+use Rattle.aqfp_top.proofs.HearingDue.{counts_end}
 use Rattle.aqfp_top.proofs.write.write_netlist.Goals as goal
 
-pub returns-clause-faults : goal.returns-clause-faults
-returns-clause-faults g c = print_counts _ _ c.put_counts.result c.put_counts.ensures.only c.put_counts.ensures.cause
+pub returns-in_err-store_netlist-clause-shut : goal.returns-in_err-store_netlist-clause-shut
+returns-in_err-store_netlist-clause-shut g c = stores_shut _ _ _ _ _ c.in_err-store_netlist.ensures
+
+pub returns-clause-answer : goal.returns-clause-answer
+returns-clause-answer g c =
+    write_answers (g.F.Files.outside c.args.files.now).told (spelled c.args.words.now) _ _ _ c.put_counts.result c.in_ok-circuit.ensures.well
+    c.put_counts.ensures
+
+pub returns-clause-stands : goal.returns-clause-stands
+returns-clause-stands g c =
+    write_stands (g.F.Files.outside c.args.files.now) (g.F.Files.outside c.read_chip.new.files) _ (spelled c.args.words.now) _ c.in_ok-circuit.circuit _ _ _ _
+    c.put_counts.result c.in_ok-circuit.ensures.reads c.in_ok-circuit.ensures.kept c.word.ensures
+    c.in_ok-store_netlist.ensures c.put_counts.ensures
 
 pub returns-clause-prints : goal.returns-clause-prints
 returns-clause-prints g c =
-    netlist_prints _ (spelled c.args.words.now) c.in_ok-circuit.circuit c.circuit_counts.result _ _ c.put_counts.result
-    c.in_ok-circuit.ensures.reads c.circuit_counts.ensures c.put_counts.ensures.only c.put_counts.ensures.added
-    c.put_counts.ensures.prefix
+    write_prints (g.F.Files.outside c.args.files.now).told (spelled c.args.words.now) c.in_ok-circuit.circuit c.circuit_counts.result _ _ c.put_counts.result
+    c.in_ok-circuit.ensures.reads c.circuit_counts.ensures c.put_counts.ensures
+
+pub returns-clause-fails : goal.returns-clause-fails
+returns-clause-fails g c = text_fails _ _ _ c.put_counts.result c.put_counts.ensures
 
 pub returns-clause-written : goal.returns-clause-written
 returns-clause-written g c =
-    on_ok_weaker c.put_counts.result (λ prints. is_written _ _ _ (spelled c.args.words.now) _ c.in_ok-circuit.circuit
-    c.circuit_counts.result _ _ c.in_ok-circuit.ensures.reads c.circuit_counts.ensures c.in_ok-circuit.ensures.told
-    c.word.ensures c.in_ok-store_netlist.ensures.stands prints) c.put_counts.ensures.added
+    write_done (g.F.Files.outside c.args.files.now) (g.F.Files.outside c.read_chip.new.files) _ (spelled c.args.words.now) _ c.in_ok-circuit.circuit
+    c.circuit_counts.result _ _ _ c.put_counts.result c.in_ok-circuit.ensures.reads c.circuit_counts.ensures
+    c.in_ok-circuit.ensures.kept c.word.ensures c.in_ok-store_netlist.ensures c.put_counts.ensures
 
 pub returns-clause-heard : goal.returns-clause-heard
 returns-clause-heard g c =
-    on_ok_weaker c.put_counts.result (λ prints. heard_written _ _ _ (spelled c.args.words.now) _
-    c.in_ok-circuit.circuit c.circuit_counts.result _ _ c.in_ok-circuit.ensures.heard c.circuit_counts.ensures
-    c.word.ensures c.in_ok-store_netlist.ensures.heard prints) c.put_counts.ensures.added
+    write_heard _ (g.F.Files.outside c.read_chip.new.files) _ (spelled c.args.words.now) _ c.in_ok-circuit.circuit
+    c.circuit_counts.result _ _ _ c.put_counts.result c.in_ok-circuit.ensures.heard c.circuit_counts.ensures
+    c.word.ensures c.in_ok-store_netlist.ensures c.put_counts.ensures
+
+pub returns-clause-due : goal.returns-clause-due
+returns-clause-due g c =
+    counts_end write_loads gds_limit circuit_stages IsTextOf _ (g.F.Files.outside c.read_chip.new.files) _
+    (spelled c.args.words.now) _ _ _ _ _ _ c.put_counts.result c.in_ok-circuit.ensures.heard_well c.word.ensures
+    c.in_ok-store_netlist.ensures c.put_counts.ensures
+
+pub returns-clause-only : goal.returns-clause-only
+returns-clause-only g c = write_only _ _ _ c.put_counts.result c.put_counts.ensures
+
+pub returns-clause-shut : goal.returns-clause-shut
+returns-clause-shut g c = stores_shut _ _ _ _ _ c.in_ok-store_netlist.ensures

@@ -1,6 +1,7 @@
-use Rattle.std.proofs.Common.{◌≡◌, ◌∙◌, ℕ, List, ap, subst, arith, OnOk, OnErr}
-use Rattle.aq_base.specs.Store.{gained, GainsPrefix}
+use Rattle.std.proofs.Common.{◌≡◌, ◌∙◌, ℕ, List, ap, subst, arith, OnOk, IfErr}
+use Rattle.aq_base.specs.Output.{printed}
 use Rattle.cell_library.specs.Library.{limits_of}
+use Rattle.chip_texts.specs.Printing.{PrintsWithin}
 use Rattle.layout_report.specs.ReportText.{report_text}
 use Rattle.layout_report.proofs.Kept.{order_from, short_from}
 use Rattle.layout_report.proofs.PrintedRows.{report_is}
@@ -18,15 +19,15 @@ read_figures-requires-clause-short g c =
 pub returns-clause-added : goal.returns-clause-added
 returns-clause-added g c =
     subst (λ (t : List ℕ). OnOk c.print_lines.result
-    (g.O.Sink.written c.print_lines.new.out ≡ gained (g.O.Sink.written c.args.out.now) t))
+    (g.O.Sink.output c.print_lines.new.out ≡ printed t (g.O.Sink.output c.args.out.now)))
     (report_is c.args.flat.now c.args.circuit.now c.in-Ok.figures c.limit-limit.result c.in-Ok.ensures
     ∙ ap (λ (n : ℕ). report_text c.args.flat.now c.args.circuit.now n) c.limit-limit.ensures)
     c.print_lines.ensures.added
 
-pub returns-clause-prefix : goal.returns-clause-prefix
-returns-clause-prefix g c =
-    subst (λ (t : List ℕ). OnErr c.print_lines.result
-    (GainsPrefix (g.O.Sink.written c.args.out.now) (g.O.Sink.written c.print_lines.new.out) t))
+pub returns-clause-part : goal.returns-clause-part
+returns-clause-part g c =
+    subst (λ (t : List ℕ). IfErr c.print_lines.result
+    (PrintsWithin (g.O.Sink.output c.args.out.now) (g.O.Sink.output c.print_lines.new.out) t))
     (report_is c.args.flat.now c.args.circuit.now c.in-Ok.figures c.limit-limit.result c.in-Ok.ensures
     ∙ ap (λ (n : ℕ). report_text c.args.flat.now c.args.circuit.now n) c.limit-limit.ensures)
-    c.print_lines.ensures.prefix
+    c.print_lines.ensures.part

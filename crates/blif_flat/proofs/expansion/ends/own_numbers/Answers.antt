@@ -3,5 +3,5 @@ use Rattle.blif_flat.proofs.expansion.ends.own_numbers.Goals as goal
 
 pub loop-number-preserved : goal.loop-number-preserved
 loop-number-preserved c = own_more c.args.places.now c.loop-number.number _ c.loop-number.numbers.entries
-    c.add_own.new.numbers.entries c.in_ok-number.number c.loop-number-test.true c.in_ok-number.ensures
+    c.add_own.new.numbers.entries c.narrow.result c.loop-number-test.true c.narrow.ensures
     c.loop-number.invariant c.in_ok-add_own.ensures

@@ -1,0 +1,54 @@
+-- What a store of files is seen as from outside, and what each call makes of it.
+use Rattle.std.specs.Prelude.{ℕ, ◌≡◌, ◌≤◌, ◌⊎◌, List, [], ◌∷◌, length, take, Option, Some, None, Result, Ok, Err}
+use Rattle.aq_base.specs.declared.store.LoadRefusal.{LoadRefusal}
+use Rattle.aq_base.specs.declared.store.StoreRefusal.{StoreRefusal}
+use Rattle.aq_base.specs.declared.store.StoreRefusal.TheVariants as store
+use Rattle.aq_base.specs.Store.{Contents, told_with, told_grown}
+use Rattle.aq_base.specs.Heard.{Event, Created, NotCreated, NotAppended, load_event, close_event, took}
+
+-- a store as it is seen
+pub record Outside : Type 0 where
+  -- the file of each name, if the store tells it
+  pub told : Option Contents
+  -- each call so far with its answer, and what it was given or gave, the newest first
+  pub heard : List Event
+  -- the name that is open for appending, if any
+  pub opened : Option (List ℕ)
+
+-- a load of the name gave these bytes, or was refused
+abbrev pub after_load : List ℕ → List ℕ → Result (Unit {0}) LoadRefusal → Outside → Outside
+after_load name bytes result o = record { told = o.told; heard = load_event name bytes result ∷ o.heard; opened = o.opened }
+
+-- the name's file was made empty and is open, or nothing is open
+abbrev pub after_create : List ℕ → Result (Unit {0}) StoreRefusal → Outside → Outside
+after_create name (Ok _) o = record { told = told_with o.told name []; heard = Created name ∷ o.heard; opened = Some name }
+after_create name (Err why) o = record { told = o.told; heard = NotCreated name why ∷ o.heard; opened = None }
+
+-- the open file was closed, or that failed; nothing is open
+abbrev pub after_close : Result (Unit {0}) StoreRefusal → Outside → Outside
+after_close result o = record { told = o.told; heard = close_event result ∷ o.heard; opened = None }
+
+-- the open file has taken a piece
+abbrev pub grown : List ℕ → Outside → Outside
+grown piece o = record { told = told_grown o.told o.opened piece; heard = took piece o.heard; opened = o.opened }
+
+-- and then it took no more
+abbrev pub cut_off : StoreRefusal → Outside → Outside
+cut_off why o = record { told = o.told; heard = NotAppended why ∷ o.heard; opened = o.opened }
+
+-- the open file took some first bytes of the piece, and then no more
+pub record TakesPart (o o' : Outside) (piece : List ℕ) (why : StoreRefusal) : Type 0 where
+  pub count : ℕ
+  pub within : count ≤ length piece
+  pub taken : o' ≡ cut_off why (grown (take count piece) o)
+
+-- writing ended there for this reason: the store took no more; or memory was refused before the store was asked
+abbrev pub Stops : StoreRefusal → Outside → Outside → Type 0
+Stops store.Failed o o' = o' ≡ cut_off store.Failed o
+Stops store.Memory o o' = (o' ≡ o) ⊎ (o' ≡ cut_off store.Memory o)
+
+-- some first bytes of these were taken, and writing ended there
+pub record StopsWithin (o o' : Outside) (bytes : List ℕ) (why : StoreRefusal) : Type 0 where
+  pub count : ℕ
+  pub within : count ≤ length bytes
+  pub stops : Stops why (grown (take count bytes) o) o'

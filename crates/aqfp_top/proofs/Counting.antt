@@ -1,0 +1,205 @@
+-- The counts of faults that an ending shows, and the name of a failed load, follow from what was heard.
+use Rattle.std.proofs.Common.{ℕ, suc, ◌≡◌, ◌<◌, List, [], ◌∷◌, take, Option, Some, None, inl, inr, refl, sym, ap, subst, ◌∙◌, arith}
+use Rattle.aq_base.specs.declared.store.StoreRefusal.{StoreRefusal}
+use Rattle.aq_base.specs.Heard.{Event, Created, close_event}
+use Rattle.aq_base.specs.FaultCounts.{read_faults, write_faults, close_faults, load_failed}
+use Rattle.aq_base.proofs.Counting.{took_writes, took_closes}
+use Rattle.std.specs.Prelude.{Result, Ok, Err, IfSome}
+use Rattle.aqfp_top.specs.Words.{word_at, IsOfForm}
+use Rattle.aqfp_top.specs.Loads.{Load, build_loads, check_loads, equal_loads, write_loads, shapes_loads}
+use Rattle.aqfp_top.specs.Stages.{Stage, LoadsAt, IsReached}
+use Rattle.aqfp_top.specs.Due.{design_stages, circuit_stages, judging_stages, comparing_stages, showing_stages, sample_stages}
+use Rattle.aqfp_top.specs.Counted.{counts_of, HasFaults, FailedLoad}
+use Rattle.aqfp_top.specs.Faults.{RunsOnly}
+use Rattle.aqfp_top.specs.HeardDue.{RefusesOne, DueOfOne, DueOfTwo, DueOfThree, DueOfReading, HeardAfter, DueByForm, HearsDue}
+use Rattle.aqfp_top.specs.Code.Printing.{OutFails}
+use Rattle.aqfp_top.specs.declared.planner.Planner.{Planner}
+use Rattle.aqfp_top.specs.declared.words.Form.{Form}
+use Rattle.aqfp_top.specs.declared.words.Form.TheVariants.{Make, Verify, Trace, Equal, Write, Report, Shapes, Sample, Wrong}
+use Rattle.aqfp_top.specs.declared.fault.WriteCall.{WriteCall}
+use Rattle.aqfp_top.specs.declared.fault.WriteCall.TheVariants.{Create, Append, Close, Out}
+use Rattle.aqfp_top.specs.declared.fault.Fault.{Fault}
+use Rattle.aqfp_top.specs.declared.fault.Fault.TheVariants.{ReadFault, WriteFault}
+
+-- ---- a failed load
+
+-- one more load failed, of this name
+record FailsLoad (heard heard' : List Event) (name : List ℕ) : Type 0 where
+  more : read_faults heard' ≡ suc (read_faults heard)
+  name_is : load_failed heard' ≡ Some name
+
+refuses_read : (loads : List Load) (words : List (List ℕ)) (heard heard' : List Event) (place : ℕ)
+    → RefusesOne loads words heard heard' (ReadFault place) → FailsLoad heard heard' (word_at words place)
+unfolding RefusesOne
+refuses_read [] words heard heard' place refused = absurd refused
+refuses_read (load ∷ loads) words heard heard' place (inl refused) = record {
+  more = ap read_faults refused.1;
+  name_is = ap load_failed refused.1 ∙ ap (λ p. Some (word_at words p)) (sym refused.0);
+}
+refuses_read (load ∷ loads) words heard heard' place (inr gives) =
+    let fails = refuses_read loads words _ heard' place gives.holds in
+    record { more = fails.more; name_is = fails.name_is }
+
+-- no stage of texts is a load
+abbrev LoadsNone : List Stage → ℕ → Type 0
+LoadsNone [] place = Unit {0}
+LoadsNone (stage ∷ stages) place = (LoadsAt stage place → ⊥) × LoadsNone stages place
+
+not_reached : (stages : List Stage) (place : ℕ) → LoadsNone stages place → IsReached stages place → ⊥
+not_reached [] place none reached = reached
+not_reached (stage ∷ stages) place none (inl at) = none.0 at
+not_reached (stage ∷ stages) place none (inr later) = not_reached stages place none.1 later.1
+
+abbrev Fails : List (List ℕ) → List Event → List Event → ℕ → Type 0
+Fails words heard heard' place = FailsLoad heard heard' (word_at words place)
+
+read_two : (planner : Planner) (words : List (List ℕ)) (heard heard' : List Event) (place : ℕ)
+    → DueByForm (Make planner) heard heard' words (Some (ReadFault place)) → Fails words heard heard' place
+unfolding DueOfTwo
+read_two planner words heard heard' place (inl refused) = refuses_read build_loads words heard heard' place refused
+read_two planner words heard heard' place (inr j) = absurd (not_reached (design_stages planner j.first j.lib) place ((λ l. l), ((λ l. l), ((λ l. l), tt))) j.answers)
+
+read_check : (words : List (List ℕ)) (heard heard' : List Event) (place : ℕ)
+    → DueByForm Verify heard heard' words (Some (ReadFault place)) → Fails words heard heard' place
+unfolding DueOfThree
+read_check words heard heard' place (inl refused) = refuses_read check_loads words heard heard' place refused
+read_check words heard heard' place (inr j) =
+    absurd (not_reached (judging_stages j.gds j.lib j.third) place ((λ l. l), ((λ l. l), ((λ l. l), ((λ l. l), ((λ l. l), tt))))) j.answers)
+
+read_equal : (words : List (List ℕ)) (heard heard' : List Event) (place : ℕ)
+    → DueByForm Equal heard heard' words (Some (ReadFault place)) → Fails words heard heard' place
+unfolding DueOfThree
+read_equal words heard heard' place (inl refused) = refuses_read equal_loads words heard heard' place refused
+read_equal words heard heard' place (inr j) =
+    absurd (not_reached (comparing_stages j.gds j.lib j.third) place
+    ((λ l. l), ((λ l. l), ((λ l. l), ((λ l. l), ((λ l. l), ((λ l. l), ((λ l. l), tt))))))) j.answers)
+
+read_write : (words : List (List ℕ)) (heard heard' : List Event) (place : ℕ)
+    → DueByForm Write heard heard' words (Some (ReadFault place)) → Fails words heard heard' place
+unfolding DueOfTwo
+read_write words heard heard' place (inl refused) = refuses_read write_loads words heard heard' place refused
+read_write words heard heard' place (inr j) =
+    absurd (not_reached (circuit_stages j.first j.lib) place ((λ l. l), ((λ l. l), ((λ l. l), ((λ l. l), tt)))) j.answers)
+
+read_report : (words : List (List ℕ)) (heard heard' : List Event) (place : ℕ)
+    → DueByForm Report heard heard' words (Some (ReadFault place)) → Fails words heard heard' place
+unfolding DueOfReading
+read_report words heard heard' place (inl refused) = refuses_read write_loads words heard heard' place refused
+read_report words heard heard' place (inr j) =
+    absurd (not_reached (circuit_stages j.first j.lib) place ((λ l. l), ((λ l. l), ((λ l. l), ((λ l. l), tt)))) j.answers)
+
+read_shapes : (first second : ℕ) (words : List (List ℕ)) (heard heard' : List Event) (place : ℕ)
+    → DueByForm (Shapes first second) heard heard' words (Some (ReadFault place)) → Fails words heard heard' place
+unfolding DueOfOne
+read_shapes first second words heard heard' place (inl refused) = refuses_read shapes_loads words heard heard' place refused
+read_shapes first second words heard heard' place (inr j) =
+    absurd (not_reached (showing_stages j.gds first second) place ((λ l. l), ((λ l. l), ((λ l. l), tt))) j.answers)
+
+fails_load : (form : Form) (words : List (List ℕ)) (heard heard' : List Event) (place : ℕ)
+    → DueByForm form heard heard' words (Some (ReadFault place)) → Fails words heard heard' place
+fails_load (Make planner) words heard heard' place due = read_two planner words heard heard' place due
+fails_load Verify words heard heard' place due = read_check words heard heard' place due
+fails_load Trace words heard heard' place due = read_check words heard heard' place due
+fails_load Equal words heard heard' place due = read_equal words heard heard' place due
+fails_load Write words heard heard' place due = read_write words heard heard' place due
+fails_load Report words heard heard' place due = read_report words heard heard' place due
+fails_load (Shapes first second) words heard heard' place due = read_shapes first second words heard heard' place due
+fails_load (Sample bits) words heard heard' place due = absurd (not_reached (sample_stages bits) place ((λ l. l), ((λ l. l), tt)) due.1)
+fails_load Wrong words heard heard' place due = cc
+
+-- ---- a failed write or close
+
+refuses_no_write : (loads : List Load) (words : List (List ℕ)) (heard heard' : List Event) (call : WriteCall)
+    → RefusesOne loads words heard heard' (WriteFault call) → ⊥
+unfolding RefusesOne
+refuses_no_write [] words heard heard' call refused = refused
+refuses_no_write (load ∷ loads) words heard heard' call (inl refused) = refused
+refuses_no_write (load ∷ loads) words heard heard' call (inr gives) = refuses_no_write loads words _ heard' call gives.holds
+
+-- one more call of this kind failed
+abbrev FailsCall : List Event → List Event → WriteCall → Type 0
+FailsCall heard heard' Create = write_faults heard < write_faults heard'
+FailsCall heard heard' Append = write_faults heard < write_faults heard'
+FailsCall heard heard' Close = close_faults heard < close_faults heard'
+FailsCall heard heard' Out = Unit {0}
+
+closing_writes : (answer : Result (Unit {0}) StoreRefusal) (heard : List Event)
+    → write_faults (close_event answer ∷ heard) ≡ write_faults heard
+closing_writes (Ok x) heard = refl
+closing_writes (Err why) heard = refl
+
+more : (a b : ℕ) → b ≡ suc a → a < b
+more a b is = omega (arith, is)
+
+after_fails : (IsDue : List ℕ → Type 0) (heard heard' : List Event) (words : List (List ℕ)) (call : WriteCall)
+    → HeardAfter IsDue heard heard' words (Some (WriteFault call)) → FailsCall heard heard' call
+after_fails IsDue heard heard' words Create after = more _ _ (ap write_faults after)
+after_fails IsDue heard heard' words Append after =
+    let first = after.first in
+    let made : List Event = Created (word_at words 3) ∷ heard in
+    more _ _ (ap write_faults first.heard_is ∙ closing_writes first.closing _
+    ∙ ap suc (took_writes (take first.count after.bytes) made))
+after_fails IsDue heard heard' words Close after =
+    let made : List Event = Created (word_at words 3) ∷ heard in
+    more _ _ (ap close_faults after.heard_is ∙ ap suc (took_closes after.bytes made))
+after_fails IsDue heard heard' words Out after = tt
+
+call_make : (planner : Planner) (words : List (List ℕ)) (heard heard' : List Event) (call : WriteCall)
+    → DueByForm (Make planner) heard heard' words (Some (WriteFault call)) → FailsCall heard heard' call
+unfolding DueOfTwo
+call_make planner words heard heard' call (inl refused) =
+    absurd (refuses_no_write build_loads words heard heard' call refused)
+call_make planner words heard heard' call (inr j) = after_fails _ _ heard' words call j.heard_is
+
+call_write : (words : List (List ℕ)) (heard heard' : List Event) (call : WriteCall)
+    → DueByForm Write heard heard' words (Some (WriteFault call)) → FailsCall heard heard' call
+unfolding DueOfTwo
+call_write words heard heard' call (inl refused) =
+    absurd (refuses_no_write write_loads words heard heard' call refused)
+call_write words heard heard' call (inr j) = after_fails _ _ heard' words call j.heard_is
+
+call_out : (heard heard' : List Event) (call : WriteCall) → call ≡ Out → FailsCall heard heard' call
+call_out heard heard' call is = subst (FailsCall heard heard') (sym is) tt
+
+-- a command that writes no file may answer a fault of `out` alone
+fails_call : (form : Form) (words : List (List ℕ)) (heard heard' : List Event) (call : WriteCall) → IsOfForm words form
+    → RunsOnly words (WriteFault call) → DueByForm form heard heard' words (Some (WriteFault call))
+    → FailsCall heard heard' call
+fails_call (Make planner) words heard heard' call is only due = call_make planner words heard heard' call due
+fails_call Verify words heard heard' call is only due = call_out heard heard' call (only.check (inl is))
+fails_call Trace words heard heard' call is only due = call_out heard heard' call (only.check (inr is))
+fails_call Equal words heard heard' call is only due = call_out heard heard' call (only.equal is)
+fails_call Write words heard heard' call is only due = call_write words heard heard' call due
+fails_call Report words heard heard' call is only due = call_out heard heard' call (only.report is)
+fails_call (Shapes first second) words heard heard' call is only due =
+    call_out heard heard' call (only.shapes (record { first = first; second = second; of_numbers = is }))
+fails_call (Sample bits) words heard heard' call is only due =
+    call_out heard heard' call (only.sample (record { bits = bits; of_bits = is }))
+fails_call Wrong words heard heard' call is only due = cc
+
+-- ---- what an ending shows
+
+by_call : (heard heard' shown shown' : List Event) (call : WriteCall) → FailsCall heard heard' call
+    → OutFails shown shown' (Some (WriteFault call))
+    → HasFaults (counts_of heard shown) (counts_of heard' shown') (Some (WriteFault call))
+by_call heard heard' shown shown' Create fails out = fails
+by_call heard heard' shown shown' Append fails out = fails
+by_call heard heard' shown shown' Close fails out = fails
+by_call heard heard' shown shown' Out fails out = out
+
+pub has_faults : (words : List (List ℕ)) (heard heard' shown shown' : List Event) (answer : Option Fault)
+    → HearsDue heard heard' words answer → IfSome answer (RunsOnly words) → OutFails shown shown' answer
+    → HasFaults (counts_of heard shown) (counts_of heard' shown') answer
+has_faults words heard heard' shown shown' None hears only out = tt
+has_faults words heard heard' shown shown' (Some (ReadFault place)) hears only out =
+    more _ _ (fails_load hears.form words heard heard' place hears.due).more
+has_faults words heard heard' shown shown' (Some (WriteFault call)) hears only out =
+    by_call heard heard' shown shown' call (fails_call hears.form words heard heard' call hears.is_form only hears.due) out
+has_faults words heard heard' shown shown' (Some _) hears only out = tt
+
+pub failed_load : (words : List (List ℕ)) (heard heard' : List Event) (answer : Option Fault)
+    → HearsDue heard heard' words answer → FailedLoad (load_failed heard') words answer
+failed_load words heard heard' None hears = tt
+failed_load words heard heard' (Some (ReadFault place)) hears =
+    (fails_load hears.form words heard heard' place hears.due).name_is
+failed_load words heard heard' (Some _) hears = tt

@@ -1,0 +1,29 @@
+-- Printing to `out`: how it ends.
+use Rattle.std.specs.Prelude.{ℕ, ◌≡◌, ◌<◌, List, Option, Some, Result, Ok, Err}
+use Rattle.aq_base.specs.declared.store.StoreRefusal.{StoreRefusal}
+use Rattle.aq_base.specs.declared.store.StoreRefusal.TheVariants as store
+use Rattle.aq_base.specs.Heard.{Event}
+use Rattle.aq_base.specs.FaultCounts.{write_faults}
+use Rattle.aq_base.specs.Output.{Output, printed}
+use Rattle.chip_texts.specs.Printing.{PrintsWithin}
+use Rattle.aqfp_top.specs.declared.fault.WriteCall.TheVariants.{Out}
+use Rattle.aqfp_top.specs.declared.fault.Fault.{Fault}
+use Rattle.aqfp_top.specs.declared.fault.Fault.TheVariants.{WriteFault, Memory}
+
+-- how printing ends, by what the sink or a printer answered
+abbrev pub end_of_out : Result (Unit {0}) StoreRefusal → Result (Unit {0}) Fault
+end_of_out (Ok _) = Ok tt
+end_of_out (Err store.Failed) = Err (WriteFault Out)
+end_of_out (Err store.Memory) = Err Memory
+
+-- `out` took the text; or some first bytes of it, where it failed or memory was wanted
+abbrev pub PrintsText : List ℕ → Output → Output → Result (Unit {0}) Fault → Type 0
+PrintsText text o o' (Ok _) = o' ≡ printed text o
+PrintsText text o o' (Err (WriteFault Out)) = PrintsWithin o o' text store.Failed
+PrintsText text o o' (Err Memory) = PrintsWithin o o' text store.Memory
+PrintsText text o o' (Err _) = ⊥
+
+-- `out` was heard to fail, where the fault is its own
+abbrev pub OutFails : List Event → List Event → Option Fault → Type 0
+OutFails heard heard' (Some (WriteFault Out)) = write_faults heard < write_faults heard'
+OutFails heard heard' _ = Unit {0}
