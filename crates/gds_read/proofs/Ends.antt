@@ -1,34 +1,20 @@
 -- What the steps of a reader tell of the scan of records.
-use Rattle.std.proofs.Common.{◌≡◌, ℕ, suc, ◌+◌, ◌<◌, ◌≤◌, List, [], ◌∷◌, ◌++◌, map, take, drop, length, Bool, true, false, eqb, Option, Some, None, refl, sym, ap, subst, ◌∙◌, arith, inl, inr}
+use Rattle.std.proofs.Common.{◌≡◌, ℕ, suc, ◌+◌, ◌<◌, ◌≤◌, List, [], ◌∷◌, ◌++◌, map, take, drop, length, Bool, true, false, eqb, Option, Some, None, refl, sym, ap, subst, ◌∙◌, arith}
 use Rattle.std.specs.List.{flat_map, AllByRecursion}
-use Rattle.std.proofs.lemmas.List.{take_at, length-map}
-use Rattle.geom.specs.declared.layout.Layout.{Layout}
-use Rattle.geom.specs.declared.layout.Structure.{Structure}
+use Rattle.std.proofs.lemmas.List.{take_at}
 use Rattle.gds_records.specs.declared.fault.StreamKind.{StreamKind}
 use Rattle.gds_records.specs.declared.fault.StreamKind.TheVariants.{Value}
-use Rattle.gds_records.specs.Profiles.{Profile as Streams, IsProfile, strict}
+use Rattle.gds_records.specs.Profiles.{wide}
 use Rattle.gds_records.specs.Records.{Record, spelled}
-use Rattle.gds_records.specs.Drawing.{starts, name_of, names_of, structure_of, structures_of}
-use Rattle.gds_records.specs.Whole.{Use, Outline, is_used, all_uses, outlines, tops, top_in, top_fault, top_of, last_place, whole_fault}
-use Rattle.gds_records.specs.Stream.{layout_of, IsStream}
+use Rattle.gds_records.specs.Drawing.{starts, name_of, names_of}
+use Rattle.gds_records.specs.Whole.{Use, Outline, is_used, outlines, tops, top_in, top_fault}
+use Rattle.gds_records.specs.WideWhole.{wide_whole_fault}
 use Rattle.gds_records.specs.Profiled.{AreGoodIn, are_zero, IsReadIn, IsFirstFaultIn, at_end, zeros_before}
 use Rattle.gds_records.specs.Profiled.{Scanned, Faulty, Whole, Unfinished, scan_in, found_in, first_fault_in}
 use Rattle.gds_records.specs.Steps.{Stopped, Ended, all_steps, told}
-use Rattle.gds_read.specs.declared.outline.NamedOutline.{NamedOutline}
-use Rattle.gds_read.specs.declared.profile.Profile.{Profile}
-use Rattle.gds_read.specs.declared.profile.Profile.TheVariants.{Strict, Wide}
-use Rattle.gds_read.specs.declared.refusal.StreamRefusal.{StreamRefusal}
-use Rattle.gds_read.specs.declared.refusal.StreamRefusal.TheVariants.{Bad, TooManyShapes, Memory}
-use Rattle.gds_read.specs.Reading.{IsRefusedFor}
-use Rattle.gds_read.specs.Code.Profiles.{profile_of}
-use Rattle.gds_read.specs.Code.Outlining.{outline_of, names_in}
 use Rattle.gds_read.specs.Code.Decoding.{IsShortRecord, IsSpelled, records_in}
-use Rattle.gds_read.specs.Code.Bodies.{IsBody, IsFirstRefusal}
+use Rattle.gds_read.specs.Code.Bodies.{IsBody}
 use Rattle.gds_read.proofs.Decoded.{records_are}
-
-pub one_of_two : (x : Profile) → IsProfile (profile_of x)
-one_of_two Strict = inl refl
-one_of_two Wide = inr refl
 
 faulty_of : (s : Scanned) (o : ℕ) (k : StreamKind) → told s ≡ Stopped o k → s ≡ Faulty o k
 faulty_of (Faulty p j) o k e = cc
@@ -45,35 +31,35 @@ whole_of (Faulty p j) o rest e = absurd cc
 whole_of (Whole rs more) o rest e = let q : more ≡ rest = cc in record { records = rs; whole = ap (λ (x : List ℕ). Whole rs x) q; place = cc }
 whole_of Unfinished o rest e = absurd cc
 
-module _ (p : Streams) (bytes : List ℕ) (law : all_steps p bytes ≡ told (scan_in p (suc (length bytes)) [] bytes)) where
-  pub stopped_at : (o : ℕ) (k : StreamKind) → all_steps p bytes ≡ Stopped o k → first_fault_in p bytes ≡ Some (o, k)
+module _ (bytes : List ℕ) (law : all_steps wide bytes ≡ told (scan_in wide (suc (length bytes)) [] bytes)) where
+  pub stopped_at : (o : ℕ) (k : StreamKind) → all_steps wide bytes ≡ Stopped o k → first_fault_in wide bytes ≡ Some (o, k)
   stopped_at o k e =
-      ap (λ (s : Scanned). found_in p s) (faulty_of (scan_in p (suc (length bytes)) [] bytes) o k (sym law ∙ e))
+      ap (λ (s : Scanned). found_in wide s) (faulty_of (scan_in wide (suc (length bytes)) [] bytes) o k (sym law ∙ e))
 
-  ended_at : (o : ℕ) (rest : List ℕ) → all_steps p bytes ≡ Ended o rest
-      → IsWhole (scan_in p (suc (length bytes)) [] bytes) o rest
-  ended_at o rest e = whole_of (scan_in p (suc (length bytes)) [] bytes) o rest (sym law ∙ e)
+  ended_at : (o : ℕ) (rest : List ℕ) → all_steps wide bytes ≡ Ended o rest
+      → IsWhole (scan_in wide (suc (length bytes)) [] bytes) o rest
+  ended_at o rest e = whole_of (scan_in wide (suc (length bytes)) [] bytes) o rest (sym law ∙ e)
 
   nonzero_end : (t : Bool) (f : Option (ℕ × StreamKind)) (q : ℕ × StreamKind) → t ≡ false
       → (elim t as (λ (x : Bool). Option (ℕ × StreamKind)) [ false ↦ Some q | true ↦ f ]) ≡ Some q
   nonzero_end true f q e = absurd cc
   nonzero_end false f q e = refl
 
-  pub other_at : (o : ℕ) (rest : List ℕ) (place : ℕ) → all_steps p bytes ≡ Ended o rest → are_zero rest ≡ false
-      → place ≡ zeros_before rest → first_fault_in p bytes ≡ Some (o + place, Value)
+  pub other_at : (o : ℕ) (rest : List ℕ) (place : ℕ) → all_steps wide bytes ≡ Ended o rest → are_zero rest ≡ false
+      → place ≡ zeros_before rest → first_fault_in wide bytes ≡ Some (o + place, Value)
   other_at o rest place e z q =
       let w = ended_at o rest e in
       let found : ℕ × StreamKind = (length (flat_map spelled w.records) + zeros_before rest, Value) in
-      ap (λ (s : Scanned). found_in p s) w.whole ∙ nonzero_end (are_zero rest) (p.whole_fault w.records) found z
+      ap (λ (s : Scanned). found_in wide s) w.whole ∙ nonzero_end (are_zero rest) (wide_whole_fault w.records) found z
       ∙ ap (λ (x : ℕ). Some (x + zeros_before rest, Value)) (sym w.place) ∙ ap (λ (x : ℕ). Some (o + x, Value)) (sym q)
 
-  good_short : (before rs : List Record) → AreGoodIn p before rs → AllByRecursion IsShortRecord rs
+  good_short : (before rs : List Record) → AreGoodIn wide before rs → AllByRecursion IsShortRecord rs
   good_short before [] g = tt
   good_short before (r ∷ rs) g = (g.0.short, good_short (before ++ r ∷ []) rs g.1)
 
-  pub body_of : (o : ℕ) → o ≤ length bytes → all_steps p bytes ≡ Ended o (drop o bytes) → are_zero (drop o bytes) ≡ true
-      → ((rs : List Record) (rest : List ℕ) → scan_in p (suc (length bytes)) [] bytes ≡ Whole rs rest → IsReadIn p bytes rs rest)
-      → IsBody p bytes o
+  pub body_of : (o : ℕ) → o ≤ length bytes → all_steps wide bytes ≡ Ended o (drop o bytes) → are_zero (drop o bytes) ≡ true
+      → ((rs : List Record) (rest : List ℕ) → scan_in wide (suc (length bytes)) [] bytes ≡ Whole rs rest → IsReadIn wide bytes rs rest)
+      → IsBody bytes o
   body_of o h e z read =
       let w = ended_at o (drop o bytes) e in
       let r = read w.records (drop o bytes) w.whole in
@@ -82,35 +68,27 @@ module _ (p : Streams) (bytes : List ℕ) (law : all_steps p bytes ≡ told (sca
       record {
         within = h;
         whole = s;
-        read = subst (λ (x : List Record). IsReadIn p bytes x (drop o bytes)) (sym (records_are (take o bytes) s)) r;
+        read = subst (λ (x : List Record). IsReadIn wide bytes x (drop o bytes)) (sym (records_are (take o bytes) s)) r;
         zeros = z;
       }
 
 -- ---- the whole stream
 
-pub refused_first : (bytes : List ℕ) (refusal : StreamRefusal) → IsFirstRefusal strict bytes refusal → IsRefusedFor bytes refusal
-refused_first bytes (Bad offset kind) f = f
-refused_first bytes (TooManyShapes count) f = absurd f
-refused_first bytes Memory f = tt
-
 fault_at_end : (t : Bool) (f : Option (ℕ × StreamKind)) (p q : ℕ × StreamKind) → t ≡ true → f ≡ Some q → (elim t as (λ (x : Bool). Option (ℕ × StreamKind)) [ false ↦ Some p | true ↦ f ]) ≡ Some q
 fault_at_end true f p q e g = g
 fault_at_end false f p q e g = absurd cc
 
-pub faulty_whole : (p : Streams) (bytes : List ℕ) (end offset : ℕ) (kind : StreamKind) → IsBody p bytes end
-    → p.whole_fault (records_in (take end bytes)) ≡ Some (offset, kind) → IsFirstFaultIn p bytes offset kind
-faulty_whole p bytes end offset kind b e =
+pub faulty_whole : (bytes : List ℕ) (end offset : ℕ) (kind : StreamKind) → IsBody bytes end
+    → wide_whole_fault (records_in (take end bytes)) ≡ Some (offset, kind) → IsFirstFaultIn wide bytes offset kind
+faulty_whole bytes end offset kind b e =
     let rs = records_in (take end bytes) in
     at_end (record {
       records = rs;
       rest = drop end bytes;
       read = b.read;
-      fault = fault_at_end (are_zero (drop end bytes)) (p.whole_fault rs)
+      fault = fault_at_end (are_zero (drop end bytes)) (wide_whole_fault rs)
           (length (flat_map spelled rs) + zeros_before (drop end bytes), Value) (offset, kind) b.zeros e;
     })
-
-pub a_stream : (bytes : List ℕ) (end : ℕ) (layout : Layout) → IsBody strict bytes end → layout ≡ layout_of (records_in (take end bytes)) → whole_fault (records_in (take end bytes)) ≡ None → IsStream bytes layout
-a_stream bytes end layout b e n = record { records = records_in (take end bytes); rest = drop end bytes; read = b.read; zeros = b.zeros; conditions = n; says = e }
 
 -- ---- the layout
 
@@ -122,14 +100,6 @@ names_same o (r ∷ rs) = turn (eqb r.kind 5) (outlines (o + (4 + length r.conte
         → map (λ s. s.name) (elim z as (λ (x : Bool). List Outline) [ true ↦ record { place = o; name = name_of rs; uses = us } ∷ ss | false ↦ ss ]) ≡ map name_of (elim z as (λ (x : Bool). List (List Record)) [ true ↦ rs ∷ ps | false ↦ ps ])
     turn true ss ps us e = ap (λ (x : List (List ℕ)). name_of rs ∷ x) e
     turn false ss ps us e = e
-
-pub layout_made : (rs : List Record) (found seen : List NamedOutline) (structures : List Structure) (top made : ℕ) → map outline_of found ≡ outlines 0 rs → seen ≡ found
-    → structures ≡ map (structure_of (names_in seen)) (starts rs) → made ≡ top_of rs → top ≡ made → ◌≡◌ {A = Layout} (record { structures = structures; top = top }) (layout_of rs)
-layout_made rs found seen structures top made e s m t q =
-    let names : names_in seen ≡ names_of rs = ap (λ (x : List NamedOutline). names_in x) s ∙ ap (λ (x : List Outline). map (λ o. o.name) x) e ∙ names_same 0 rs in
-    let w : structures ≡ structures_of rs = m ∙ ap (λ (x : List (List ℕ)). map (structure_of x) (starts rs)) names in
-    let u : top ≡ top_of rs = q ∙ t in
-    λ i. record { structures = w i; top = u i }
 
 tops_low : (n : ℕ) (us : List Use) (ss : List Outline) (t : ℕ × ℕ) (ts : List (ℕ × ℕ)) → tops n us ss ≡ t ∷ ts → t.0 < n + length ss
 tops_low n us [] t ts e = absurd cc
@@ -149,13 +119,3 @@ pub parts_none : (u d : Option ℕ) (t : Option (ℕ × StreamKind)) (f g : ℕ 
 parts_none (Some p) d t f g e = absurd cc
 parts_none None (Some p) t f g e = absurd cc
 parts_none None None t f g e = (refl, refl, e)
-
-outlines_length : (o : ℕ) (rs : List Record) → length (outlines o rs) ≡ length (structures_of rs)
-outlines_length o rs =
-    sym (length-map (outlines o rs) (λ s. s.name)) ∙ ap (λ (x : List (List ℕ)). length x) (names_same o rs) ∙ length-map (starts rs) name_of ∙ sym (length-map (starts rs) (structure_of (names_of rs)))
-
-pub top_stands : (rs : List Record) → whole_fault rs ≡ None → top_of rs < length (structures_of rs)
-top_stands rs e =
-    let p = parts_none _ _ (top_fault (last_place 0 rs) (tops 0 (all_uses (outlines 0 rs)) (outlines 0 rs))) _ _ e in
-    let h = top_low (last_place 0 rs) (all_uses (outlines 0 rs)) (outlines 0 rs) (tops 0 (all_uses (outlines 0 rs)) (outlines 0 rs)) refl p.2 in
-    omega (arith, h, outlines_length 0 rs)

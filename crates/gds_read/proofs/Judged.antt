@@ -1,6 +1,6 @@
 -- The conditions on the whole stream, structure by structure.
-use Rattle.std.proofs.Common.{◌≡◌, ℕ, suc, ◌+◌, ◌<◌, List, [], ◌∷◌, ◌++◌, map, take, drop, length, Bool, true, false, cond, eqb, ◌&&◌, ◌||◌, Option, Some, None, Bor, refl, sym, ap, ◌∙◌, arith, append_assoc}
-use Rattle.std.specs.Prelude.{not, is_some, is_none, slice_index_or, Result, Ok, Err, IfOk, IfErr}
+use Rattle.std.proofs.Common.{◌≡◌, ℕ, suc, ◌+◌, ◌<◌, List, [], ◌∷◌, ◌++◌, map, take, drop, length, Bool, true, false, cond, ◌||◌, Option, Some, None, Bor, refl, sym, ap, ◌∙◌, arith, append_assoc}
+use Rattle.std.specs.Prelude.{is_some, is_none, slice_index_or}
 use Rattle.std.specs.List.{list_any}
 use Rattle.std.specs.Str.{bytes_eq}
 use Rattle.indexmap.specs.IndexSet.{insert_key}
@@ -9,7 +9,7 @@ use Rattle.gds_records.specs.declared.fault.StreamKind.{StreamKind}
 use Rattle.gds_records.specs.declared.fault.StreamKind.TheVariants.{UnknownName, Unsupported, NoTop, SeveralTops}
 use Rattle.gds_records.specs.Records.{Record, same}
 use Rattle.gds_records.specs.Steps.{is_listed}
-use Rattle.gds_records.specs.Whole.{Use, Outline, is_used, all_uses, outlines, last_place, deep, tops, top_in, top_fault, outlines_fault, whole_fault, top_of}
+use Rattle.gds_records.specs.Whole.{Use, Outline, is_used, all_uses, outlines, last_place, tops, top_in, top_fault, top_of}
 use Rattle.gds_records.specs.WideWhole.{first_of, first_loop, first_long, wide_outlines_fault, wide_whole_fault}
 use Rattle.gds_read.specs.declared.outline.NamedUse.{NamedUse}
 use Rattle.gds_read.specs.declared.outline.NamedOutline.{NamedOutline}
@@ -121,37 +121,9 @@ module _ (f : List ℕ → Option ℕ) where
   unknown_later ss i s total h q e w =
       ap (λ (x : Option ℕ). or_else x (unnumbered f (all_uses (map outline_of (drop (i + 1) ss))))) w ∙ sym (split_first ss i s h q) ∙ e
 
--- ---- the first that is too deep, and the tops
+-- ---- the tops
 
 module _ (used : List (List ℕ)) (us : List Use) (are : AreUsed used us) (ss : List NamedOutline) (i : ℕ) (s : NamedOutline) (h : i < length ss) (q : s ≡ slice_index_or ss i s) where
-  deep_is : (b : Bool) (r : Option ℕ) → b ≡ true → (elim b as (λ (x : Bool). Option ℕ) [ true ↦ Some s.place | false ↦ r ]) ≡ Some s.place
-  deep_is true r e = refl
-  deep_is false r e = absurd cc
-
-  deep_not : (b : Bool) (r : Option ℕ) → b ≡ false → (elim b as (λ (x : Bool). Option ℕ) [ true ↦ Some s.place | false ↦ r ]) ≡ r
-  deep_not true r e = absurd cc
-  deep_not false r e = refl
-
-  length_uses : length (map use_of s.uses) ≡ length s.uses
-  length_uses = length_map s.uses
-    where
-      length_map : (xs : List NamedUse) → length (map use_of xs) ≡ length xs
-      length_map [] = refl
-      length_map (x ∷ xs) = ap (λ (n : ℕ). suc n) (length_map xs)
-
-  test_is : (is_used s.name.now us && not (eqb (length (map use_of s.uses)) 0)) ≡ (is_listed s.name.now used && not (eqb (length s.uses) 0))
-  test_is = ap (λ (b : Bool). b && not (eqb (length (map use_of s.uses)) 0)) (sym (are s.name.now)) ∙ ap (λ (n : ℕ). is_listed s.name.now used && not (eqb n 0)) length_uses
-
-  pub deep_here : (b : Bool) (total : Option ℕ) → deep us (map outline_of (drop i ss)) ≡ total → b ≡ (is_listed s.name.now used && not (eqb (length s.uses) 0)) → b ≡ true → Some s.place ≡ total
-  deep_here b total e w t =
-      sym (deep_is (is_used s.name.now us && not (eqb (length (map use_of s.uses)) 0)) (deep us (map outline_of (drop (i + 1) ss))) (test_is ∙ sym w ∙ t))
-      ∙ ap (λ (x : List NamedOutline). deep us (map outline_of x)) (sym (next_item ss i s h q)) ∙ e
-
-  pub deep_next : (b : Bool) (total : Option ℕ) → deep us (map outline_of (drop i ss)) ≡ total → b ≡ (is_listed s.name.now used && not (eqb (length s.uses) 0)) → b ≡ false → deep us (map outline_of (drop (i + 1) ss)) ≡ total
-  deep_next b total e w t =
-      sym (deep_not (is_used s.name.now us && not (eqb (length (map use_of s.uses)) 0)) (deep us (map outline_of (drop (i + 1) ss))) (test_is ∙ sym w ∙ t))
-      ∙ ap (λ (x : List NamedOutline). deep us (map outline_of x)) (sym (next_item ss i s h q)) ∙ e
-
   tops_is : (b : Bool) (r : List (ℕ × ℕ)) (n : ℕ) → b ≡ false → (elim b as (λ (x : Bool). List (ℕ × ℕ)) [ true ↦ r | false ↦ (n, s.place) ∷ r ]) ≡ (n, s.place) ∷ r
   tops_is true r n e = absurd cc
   tops_is false r n e = refl
@@ -191,32 +163,7 @@ module _ (used : List (List ℕ)) (us : List Use) (are : AreUsed used us) (ss : 
   tops_second (Some n) total b e w t z = ap (λ (x : List (ℕ × ℕ)). further_tops (Some n) x) (sym (tops_here b w t)) ∙ e
   tops_second None total b e w t z = absurd cc
 
--- ---- all three
-
-pub ok_more : {A E : Type 0} (r : Result A E) {P Q : A → Type 0} → ((a : A) → P a → Q a) → IfOk r P → IfOk r Q
-ok_more (Ok a) f h = f a h
-ok_more (Err e) f h = tt
-
-pub err_more : {A E : Type 0} (r : Result A E) {P Q : E → Type 0} → ((e : E) → P e → Q e) → IfErr r P → IfErr r Q
-err_more (Ok a) f h = tt
-err_more (Err e) f h = f e h
-
-abbrev judged : Option ℕ → Option ℕ → Option (ℕ × StreamKind) → Option (ℕ × StreamKind)
-judged u d t = elim u as (λ (x : Option ℕ). Option (ℕ × StreamKind)) [ Some p ↦ Some (p, UnknownName) | None ↦ elim d as (λ (x : Option ℕ). Option (ℕ × StreamKind)) [ Some p ↦ Some (p, Unsupported) | None ↦ t ] ]
-
-judged_unknown : (u d : Option ℕ) (t : Option (ℕ × StreamKind)) (p : ℕ) → u ≡ Some p → judged u d t ≡ Some (p, UnknownName)
-judged_unknown (Some q) d t p e = let w : q ≡ p = cc in rw w refl
-judged_unknown None d t p e = absurd cc
-
-judged_deep : (u d : Option ℕ) (t : Option (ℕ × StreamKind)) (p : ℕ) → u ≡ None → d ≡ Some p → judged u d t ≡ Some (p, Unsupported)
-judged_deep (Some q) d t p e f = absurd cc
-judged_deep None (Some q) t p e f = let w : q ≡ p = cc in rw w refl
-judged_deep None None t p e f = absurd cc
-
-judged_top : (u d : Option ℕ) (t : Option (ℕ × StreamKind)) → u ≡ None → d ≡ None → judged u d t ≡ t
-judged_top (Some q) d t e f = absurd cc
-judged_top None (Some q) t e f = absurd cc
-judged_top None None t e f = refl
+-- ---- the searches together
 
 pub not_some : (o : Option ℕ) → ((p : ℕ) → o ≡ Some p → ⊥) → o ≡ None
 not_some (Some p) h = absurd (h p refl)
@@ -241,29 +188,12 @@ either_first : (l d : Option ℕ) (t : Option (ℕ × StreamKind)) → first_of 
 either_first (Some p) d t = refl
 either_first None d t = refl
 
--- what the three searches answer over the outlines of records
+-- what the searches answer over the outlines of records
 module _ (rs : List Record) (structures : List NamedOutline) (entries : List (Bor (List ℕ) × ℕ)) (same : map outline_of structures ≡ outlines 0 rs)
     (numbers : IsNumbering entries (map (λ s. s.name) (map outline_of structures))) where
   abbrev us : List Use
   us = all_uses (map outline_of structures)
 
-  fault_is : whole_fault rs ≡ judged (unnumbered (number_in entries) us) (deep us (map outline_of structures)) (top_fault (last_place 0 rs) (tops 0 us (map outline_of structures)))
-  fault_is =
-      ap (λ (x : List Outline). outlines_fault (last_place 0 rs) (all_uses x) x) (sym same)
-      ∙ ap (λ (x : Option ℕ). judged x (deep us (map outline_of structures)) (top_fault (last_place 0 rs) (tops 0 us (map outline_of structures)))) (unknown_so (number_in entries) (map outline_of structures) numbers us)
-
-  pub fault_unknown : (p : ℕ) → Some p ≡ unnumbered (number_in entries) us → whole_fault rs ≡ Some (p, UnknownName)
-  fault_unknown p e = fault_is ∙ judged_unknown (unnumbered (number_in entries) us) (deep us (map outline_of structures)) (top_fault (last_place 0 rs) (tops 0 us (map outline_of structures))) p (sym e)
-
-  pub fault_deep : (o : Option ℕ) (p : ℕ) → o ≡ unnumbered (number_in entries) us → ((q : ℕ) → o ≡ Some q → ⊥) → Some p ≡ deep us (map outline_of structures) → whole_fault rs ≡ Some (p, Unsupported)
-  fault_deep o p e n f = fault_is ∙ judged_deep (unnumbered (number_in entries) us) (deep us (map outline_of structures)) (top_fault (last_place 0 rs) (tops 0 us (map outline_of structures))) p (sym e ∙ not_some o n) (sym f)
-
-  pub fault_top : (o d : Option ℕ) → o ≡ unnumbered (number_in entries) us → ((q : ℕ) → o ≡ Some q → ⊥) → d ≡ deep us (map outline_of structures) → ((q : ℕ) → d ≡ Some q → ⊥)
-      → (total : Option (ℕ × StreamKind)) → top_fault (last_place 0 rs) (tops 0 us (map outline_of structures)) ≡ total → whole_fault rs ≡ total
-  fault_top o d e n f m total t =
-      fault_is ∙ judged_top (unnumbered (number_in entries) us) (deep us (map outline_of structures)) (top_fault (last_place 0 rs) (tops 0 us (map outline_of structures))) (sym e ∙ not_some o n) (sym f ∙ not_some d m) ∙ t
-
-  -- the same of a wide stream
   wide_is : wide_whole_fault rs ≡ first_of (unnumbered (number_in entries) us) UnknownName
       (first_of (first_loop (map outline_of structures) (map outline_of structures)) Unsupported
       (first_of (first_long (map outline_of structures) (map outline_of structures)) Unsupported (top_fault (last_place 0 rs) (tops 0 us (map outline_of structures)))))
@@ -271,7 +201,7 @@ module _ (rs : List Record) (structures : List NamedOutline) (entries : List (Bo
       ap (λ (x : List Outline). wide_outlines_fault (last_place 0 rs) x) (sym same)
       ∙ ap (λ (x : Option ℕ). first_of x UnknownName (first_of (first_loop (map outline_of structures) (map outline_of structures)) Unsupported
       (first_of (first_long (map outline_of structures) (map outline_of structures)) Unsupported (top_fault (last_place 0 rs) (tops 0 us (map outline_of structures))))))
-      (unknown_so (number_in entries) (map outline_of structures) numbers us)
+      (unknown_so (number_in entries) (map outline_of structures) numbers.each us)
 
   joined : wide_whole_fault rs ≡ first_of (unnumbered (number_in entries) us) UnknownName
       (first_of (loop_or_long (map outline_of structures)) Unsupported (top_fault (last_place 0 rs) (tops 0 us (map outline_of structures))))

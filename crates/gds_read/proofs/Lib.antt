@@ -3,7 +3,6 @@ pub mod FewBytes
 pub mod Named
 pub mod Turns
 pub mod Moving
-pub mod Flattens
 pub mod Decoded
 pub mod Cursors
 pub mod Walks
@@ -16,7 +15,6 @@ pub mod Walking
 pub mod LoopWays
 pub mod Parts
 pub mod Elements
-pub mod FlatSizes
 pub mod Ends
 pub mod Words
 pub mod Kept
@@ -26,7 +24,6 @@ pub mod Valued
 pub mod WidePlaced
 pub mod Distinct
 pub mod WideReads
-pub mod Exact
 pub mod WideExact
 pub mod WideFlat
 pub mod WideFields

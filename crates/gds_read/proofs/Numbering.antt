@@ -1,7 +1,7 @@
 -- Numbers of names, as they are added one by one.
-use Rattle.std.proofs.Common.{◌≡◌, ℕ, suc, ◌+◌, ◌<◌, List, [], ◌∷◌, ◌++◌, map, take, length, subst, arith, Bool, true, false, cond, ◌||◌, Option, Some, None, Bor, refl, sym, ap, ◌∙◌}
+use Rattle.std.proofs.Common.{◌≡◌, ℕ, suc, ◌+◌, ◌<◌, ◌^◌, List, [], ◌∷◌, ◌++◌, map, take, length, subst, arith, Bool, true, false, cond, ◌||◌, Option, Some, None, Bor, refl, sym, ap, ◌∙◌}
 use Rattle.std.specs.Prelude.{is_some, slice_index_or}
-use Rattle.std.proofs.lemmas.List.{map-append, length-map, length-take}
+use Rattle.std.proofs.lemmas.List.{map-append, length-append, length-map, length-take}
 use Rattle.std.specs.Str.{bytes_eq}
 use Rattle.std.specs.Map.{lookup}
 use Rattle.gds_records.specs.Records.{same}
@@ -52,23 +52,26 @@ found_more t (x ∷ ns) n = turn (same t x) (found t (ns ++ n ∷ [])) (found t 
     turn false f g e = ap (λ (x : Option ℕ). next x) e ∙ next_or g (same t n) (length ns)
 
 -- the numbers of some names, and of one more
-pub numbered_more : (old new : List (Bor (List ℕ) × ℕ)) (names : List (List ℕ)) (name : List ℕ) → IsNumbering old names
+pub numbered_more : (old new : List (Bor (List ℕ) × ℕ)) (names : List (List ℕ)) (name : List ℕ) → length (names ++ name ∷ []) < 2 ^ 32 → IsNumbering old names
     → ((t : List ℕ) → number_in new t ≡ number_or (number_in old t) (bytes_eq name t) (length names)) → IsNumbering new (names ++ name ∷ [])
-numbered_more old new names name i h t =
-    h t ∙ ap (λ (x : Option ℕ). number_or x (bytes_eq name t) (length names)) (i t ∙ found_so t names)
-    ∙ ap (λ (b : Bool). number_or (found t names) b (length names)) (sym (same_back t name)) ∙ sym (found_more t names name) ∙ sym (found_so t (names ++ name ∷ []))
+numbered_more old new names name few i h = record {
+  few = few;
+  each = λ t. h t ∙ ap (λ (x : Option ℕ). number_or x (bytes_eq name t) (length names)) (i.each t ∙ found_so t names)
+      ∙ ap (λ (b : Bool). number_or (found t names) b (length names)) (sym (same_back t name)) ∙ sym (found_more t names name) ∙ sym (found_so t (names ++ name ∷ []));
+}
 
 -- the same, over structures in outline
-pub numbered_at : (ss : List NamedOutline) (i : ℕ) (s : NamedOutline) (old new : List (Bor (List ℕ) × ℕ)) (number : ℕ) → i < length ss → s ≡ slice_index_or ss i s → number ≡ i
+pub numbered_at : (ss : List NamedOutline) (i : ℕ) (s : NamedOutline) (old new : List (Bor (List ℕ) × ℕ)) (number : ℕ) → length ss < 2 ^ 32 → i < length ss → s ≡ slice_index_or ss i s → number ≡ i
     → IsNumbering old (map (λ o. o.name) (map outline_of (take i ss))) → ((t : List ℕ) → number_in new t ≡ number_or (number_in old t) (bytes_eq s.name.now t) number)
     → IsNumbering new (map (λ o. o.name) (map outline_of (take (i + 1) ss)))
-numbered_at ss i s old new number h q n is add =
+numbered_at ss i s old new number low h q n is add =
     let names : List (List ℕ) = map (λ o. o.name) (map outline_of (take i ss)) in
     let size : number ≡ length names = n ∙ sym (omega (arith, length-map (map outline_of (take i ss)) (λ (o : Outline). o.name), length-map (take i ss) outline_of, length-take i ss)) in
     let more : names ++ s.name.now ∷ [] ≡ map (λ o. o.name) (map outline_of (take (i + 1) ss)) =
     sym (ap (λ (x : List NamedOutline). map (λ o. o.name) (map outline_of x)) (one_more ss i s h q) ∙ ap (λ (x : List Outline). map (λ o. o.name) x) (map-append outline_of (take i ss) (s ∷ []))
     ∙ map-append (λ o. o.name) (map outline_of (take i ss)) (outline_of s ∷ [])) in
-    subst (λ (x : List (List ℕ)). IsNumbering new x) more (numbered_more old new names s.name.now is (λ t. add t ∙ ap (λ (k : ℕ). number_or (number_in old t) (bytes_eq s.name.now t) k) size))
+    let few : length (names ++ s.name.now ∷ []) < 2 ^ 32 = omega (arith, length-append names (s.name.now ∷ []), size, n, h, low) in
+    subst (λ (x : List (List ℕ)). IsNumbering new x) more (numbered_more old new names s.name.now few is (λ t. add t ∙ ap (λ (k : ℕ). number_or (number_in old t) (bytes_eq s.name.now t) k) size))
 
 -- ---- one entry more
 

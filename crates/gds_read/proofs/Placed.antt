@@ -1,35 +1,27 @@
--- The layout of a stream has a flat form: references name structures that hold none, and coordinates have four bytes.
-use Rattle.std.proofs.Common.{◌≡◌, ℕ, zero, suc, ◌+◌, ◌*◌, ◌<◌, ◌≤◌, List, [], ◌∷◌, ◌++◌, map, take, drop, length, Bool, true, false, eqb, ◌&&◌, ◌||◌, Option, Some, None, ℤ, FitsSigned, All, refl, sym, ap, subst, ◌∙◌, arith}
-use Rattle.std.specs.Prelude.{not, int_le, IfOk, Result, Ok, Err}
+-- Bytes and coordinates of records have their sizes, and in a strict stream what is referenced holds no reference.
+use Rattle.std.proofs.Common.{◌≡◌, ℕ, zero, suc, ◌+◌, ◌*◌, ◌<◌, List, [], ◌∷◌, ◌++◌, map, take, drop, length, Bool, true, false, eqb, ◌&&◌, ◌||◌, Option, Some, None, FitsSigned, refl, sym, ap, subst, ◌∙◌, arith}
+use Rattle.std.specs.Prelude.{not}
 use Rattle.std.specs.Int.{w32, from_be_bytes, cast_signed}
 use Rattle.std.specs.List.{flat_map, AllByRecursion}
-use Rattle.std.proofs.lemmas.List.{length-map}
 use Rattle.std.proofs.lemmas.List.Concat.{flat_map-cons}
-use Rattle.std.proofs.lemmas.List.Elements.{All-from_recursion}
 use Rattle.std.proofs.lemmas.Int.{ints}
 use Rattle.std.proofs.lemmas.Bool.{eqb-true}
 use Rattle.std.proofs.lemmas.Bool.Decides.{nat_tests}
 use Rattle.geom.specs.declared.layout.Element.{Element}
 use Rattle.geom.specs.declared.layout.Element.TheVariants.{Box, Place, Text}
-use Rattle.geom.specs.declared.layout.Structure.{Structure}
-use Rattle.geom.specs.declared.layout.Layout.{Layout}
-use Rattle.geom.specs.FlatForm.{elements_at, flat_of, flat_count}
+use Rattle.geom.specs.FlatForm.{elements_at}
 use Rattle.geom.specs.Writable.{refers_to, is_referenced, holds_reference}
 use Rattle.gds_records.specs.Records.{Record, spelled, number, trimmed, same}
 use Rattle.gds_records.specs.Values.{is_rectangle}
-use Rattle.gds_records.specs.Drawing.{starts, up_to, parts, field, has, coordinate, lesser, greater, box_of, place_of, element_of, name_of, element_parts, structure_of, names_of, structures_of}
+use Rattle.gds_records.specs.Drawing.{starts, up_to, parts, field, has, coordinate, box_of, place_of, element_of, name_of, element_parts, structure_of, names_of, structures_of}
 use Rattle.gds_records.specs.Whole.{Use, Outline, uses_from, outlines, is_defined, is_used, all_uses, unknown, deep, tops, top_fault, last_place, whole_fault}
 use Rattle.gds_records.specs.Steps.{is_listed}
 use Rattle.gds_records.specs.Scan.{IsBytes}
-use Rattle.gds_records.specs.Stream.{layout_of, IsStream}
-use Rattle.gds_read.specs.declared.refusal.StreamRefusal.{StreamRefusal}
-use Rattle.gds_read.specs.Flattening.{IsNarrow, IsPlaced, IsFlattenable}
-use Rattle.gds_read.specs.Reading.{IsReadAs}
 use Rattle.gds_read.proofs.Named.{same_texts}
 use Rattle.gds_read.proofs.Numbering.{defined_listed}
 use Rattle.gds_read.proofs.Judged.{used_append}
-use Rattle.gds_read.proofs.Ends.{parts_none, names_same, top_stands}
-use Rattle.gds_read.proofs.Shaped.{Covered, IsShaped, all_weaker, sentence_shaped}
+use Rattle.gds_read.proofs.Ends.{parts_none, names_same}
+use Rattle.gds_read.proofs.Shaped.{Covered, IsShaped, all_weaker}
 
 -- ---- bytes in the data of records
 
@@ -118,28 +110,6 @@ signed_fits n h = omega (arith, ints)
 pub coordinate_fits : (xy : List ℕ) (i : ℕ) → IsBytes xy → FitsSigned w32 (coordinate xy i)
 coordinate_fits xy i f = signed_fits (from_be_bytes w32 (take 4 (drop (4 * i) xy))) (four_low (drop (4 * i) xy) (drop_is_bytes (4 * i) xy f))
 
-lesser_fits : (a b : ℤ) → FitsSigned w32 a → FitsSigned w32 b → FitsSigned w32 (lesser a b)
-lesser_fits a b f g = turn (int_le a b)
-  where
-    turn : (z : Bool) → FitsSigned w32 (elim z as (λ (x : Bool). ℤ) [ true ↦ a | false ↦ b ])
-    turn true = f
-    turn false = g
-
-greater_fits : (a b : ℤ) → FitsSigned w32 a → FitsSigned w32 b → FitsSigned w32 (greater a b)
-greater_fits a b f g = turn (int_le a b)
-  where
-    turn : (z : Bool) → FitsSigned w32 (elim z as (λ (x : Bool). ℤ) [ true ↦ b | false ↦ a ])
-    turn true = g
-    turn false = f
-
-box_narrow : (xy : List ℕ) → IsBytes xy → IsNarrow (box_of xy)
-box_narrow xy f = record {
-  left = lesser_fits (coordinate xy 0) (coordinate xy 4) (coordinate_fits xy 0 f) (coordinate_fits xy 4 f);
-  bottom = lesser_fits (coordinate xy 1) (coordinate xy 5) (coordinate_fits xy 1 f) (coordinate_fits xy 5 f);
-  right = greater_fits (coordinate xy 0) (coordinate xy 4) (coordinate_fits xy 0 f) (coordinate_fits xy 4 f);
-  above = greater_fits (coordinate xy 1) (coordinate xy 5) (coordinate_fits xy 1 f) (coordinate_fits xy 5 f);
-}
-
 -- ---- elements
 
 pub place_low : (t : List ℕ) (ns : List (List ℕ)) → is_listed t ns ≡ true → place_of t ns < length ns
@@ -149,35 +119,6 @@ place_low t (n ∷ ns) e = turn (same t n) (place_low t ns) e
     turn : (z : Bool) → (is_listed t ns ≡ true → place_of t ns < length ns) → (z || is_listed t ns) ≡ true → (elim z as (λ (x : Bool). ℕ) [ true ↦ 0 | false ↦ suc (place_of t ns) ]) < suc (length ns)
     turn true f g = omega arith
     turn false f g = let h : place_of t ns < length ns = f g in omega arith
-
-module _ (names : List (List ℕ)) where
-  element_placed : (q : List Record) → AllByRecursion HasBytes q → (has 10 q ≡ true → is_listed (trimmed (field 18 q)) names ≡ true) → IsPlaced (length names) (element_of names q)
-  element_placed q bytes known = turn (has 8 q && is_rectangle (field 16 q)) (has 10 q) known
-    where
-      turn : (z s : Bool) → (s ≡ true → is_listed (trimmed (field 18 q)) names ≡ true)
-          → IsPlaced (length names) (elim z as (λ (x : Bool). Element) [
-            | true ↦ Box (record { layer = number (field 13 q); datatype = number (field 14 q); rect = box_of (field 16 q) })
-            | false ↦ elim s as (λ (x : Bool). Element) [
-              | true ↦ Place (place_of (trimmed (field 18 q)) names) (coordinate (field 16 q) 0) (coordinate (field 16 q) 1)
-              | false ↦ Text (record { layer = number (field 13 q); x = coordinate (field 16 q) 0; y = coordinate (field 16 q) 1; text = trimmed (field 25 q) })
-            ]
-          ])
-      turn true s f = box_narrow (field 16 q) (field_bytes 16 q bytes)
-      turn false true f = (place_low (trimmed (field 18 q)) names (f refl), coordinate_fits (field 16 q) 0 (field_bytes 16 q bytes), coordinate_fits (field 16 q) 1 (field_bytes 16 q bytes))
-      turn false false f = (coordinate_fits (field 16 q) 0 (field_bytes 16 q bytes), coordinate_fits (field 16 q) 1 (field_bytes 16 q bytes))
-
-  elements_placed : (qs : List (List Record)) → AllByRecursion (AllByRecursion HasBytes) qs → AllByRecursion (Covered names) qs → AllByRecursion (IsPlaced (length names)) (map (element_of names) qs)
-  elements_placed [] b c = tt
-  elements_placed (q ∷ qs) b c = (element_placed q b.0 c.0, elements_placed qs b.1 c.1)
-
-  -- the parts of a structure have their names among all
-  abbrev NamesKnown : List Record → Type 0
-  NamesKnown p = AllByRecursion (Covered names) (element_parts p)
-
-  structures_placed : (ps : List (List Record)) → AllByRecursion (AllByRecursion HasBytes) ps → AllByRecursion NamesKnown ps → AllByRecursion (λ (s : Structure). All (IsPlaced (length names)) s.elements) (map (structure_of names) ps)
-  structures_placed [] b c = tt
-  structures_placed (p ∷ ps) b c =
-      (All-from_recursion (IsPlaced (length names)) (map (element_of names) (element_parts p)) (elements_placed (element_parts p) (element_bytes p b.0) c.0), structures_placed ps b.1 c.1)
 
 -- ---- names that are used
 
@@ -346,31 +287,3 @@ shallow_of rs shapes e n f =
     let m = structures_named (names_of rs) (all_uses (outlines 0 rs)) n (starts rs) (uses_known rs 0 shapes) f in
     subst (λ (k : ℕ). holds_reference (elements_at (structures_of rs) k) ≡ false) (sym m.place)
     (shallow_at (names_of rs) (all_uses (outlines 0 rs)) m.name m.used rs 0 shapes p.1 (known_names rs p.0 m.name m.used))
-
-placed : (rs : List Record) → AllByRecursion HasBytes rs → AllByRecursion IsShaped (starts rs) → whole_fault rs ≡ None → flat_count (flat_of (layout_of rs)) ≤ 8000000 → IsFlattenable (layout_of rs)
-placed rs bytes shapes e within =
-    let p = parts_none (unknown (all_uses (outlines 0 rs)) (outlines 0 rs)) (deep (all_uses (outlines 0 rs)) (outlines 0 rs)) (top_fault (last_place 0 rs) (tops 0 (all_uses (outlines 0 rs)) (outlines 0 rs))) _ _ e in
-    let uses = uses_known rs 0 shapes in
-    let known : AllByRecursion (NamesKnown (names_of rs)) (starts rs) =
-    all_weaker (UsesKnown (all_uses (outlines 0 rs))) (NamesKnown (names_of rs))
-    (λ q k. all_weaker (λ x. has 10 x ≡ true → is_used (trimmed (field 18 x)) (all_uses (outlines 0 rs)) ≡ true) (Covered (names_of rs)) (λ x f g. known_names rs p.0 (trimmed (field 18 x)) (f g)) (element_parts q) k) (starts rs) uses in
-    let size : length (names_of rs) ≡ length (structures_of rs) = length-map (starts rs) name_of ∙ sym (length-map (starts rs) (structure_of (names_of rs))) in
-    record {
-      top_stands = top_stands rs e;
-      each = subst (λ (n : ℕ). All (λ (s : Structure). All (IsPlaced n) s.elements) (structures_of rs)) size
-          (All-from_recursion (λ (s : Structure). All (IsPlaced (length (names_of rs))) s.elements) (structures_of rs) (structures_placed (names_of rs) (starts rs) (starts_bytes rs bytes) known));
-      shallow = shallow_of rs shapes e;
-      within = within;
-    }
-
--- a stream's layout whose flat form is small enough has one that can be made
-pub stream_flattens : (bytes : List ℕ) (layout : Layout) → IsBytes bytes → IsStream bytes layout → flat_count (flat_of layout) ≤ 8000000 → IsFlattenable layout
-stream_flattens bytes layout fits s within =
-    let w : IsBytes (flat_map spelled s.records ++ s.rest) = subst (λ (x : List ℕ). IsBytes x) s.read.whole fits in
-    let f = placed s.records (all_bytes s.records (bytes_front (flat_map spelled s.records) s.rest w)) (sentence_shaped s.records s.read.grammar) s.conditions (subst (λ (l : Layout). flat_count (flat_of l) ≤ 8000000) s.says within) in
-    subst (λ (l : Layout). IsFlattenable l) (sym s.says) f
-
-pub read_so : (bytes : List ℕ) (layout : Layout) (r : Result Layout StreamRefusal) → IfOk r (λ taken. taken ≡ layout) → IfOk r (λ taken. flat_count (flat_of layout) ≤ 8000000)
-    → (flat_count (flat_of layout) ≤ 8000000 → IsReadAs bytes layout) → IfOk r (λ taken. IsReadAs bytes taken)
-read_so bytes layout (Ok taken) same within f = subst (λ (l : Layout). IsReadAs bytes l) (sym same) (f within)
-read_so bytes layout (Err refusal) same within f = tt

@@ -13,104 +13,81 @@ use Rattle.gds_records.specs.declared.fault.StreamKind.TheVariants.{Order, Value
 use Rattle.gds_records.specs.Language.{Language, Nothing}
 use Rattle.gds_records.specs.Derivative.{after}
 use Rattle.gds_records.specs.Records.{Record, record_with, trimmed}
-use Rattle.gds_records.specs.Table.{has_length_in}
-use Rattle.gds_records.specs.Values.{unsigned_value, is_text, is_name, is_nanometre, is_rectangle, has_value, value_fault_in}
-use Rattle.gds_records.specs.WideValues.{last_colrow, rule, refers, points, is_ring, is_path, is_lattice, columns, rows}
+use Rattle.gds_records.specs.Table.{wide_table, has_length_in}
+use Rattle.gds_records.specs.Values.{unsigned_value, is_text, is_name, is_nanometre, has_value}
+use Rattle.gds_records.specs.WideValues.{wide_opener, last_colrow, rule, refers, points, is_ring, is_path, is_lattice, columns, rows}
 use Rattle.gds_records.specs.WideValues.{is_width, is_flip, is_one, is_turn, is_colrow, wide_fault_in}
-use Rattle.gds_records.specs.Profiles.{Profile as Streams}
+use Rattle.gds_records.specs.Profiles.{wide}
 use Rattle.gds_records.specs.Profiled.{own_fault_in, kind_of, form_of, length_of, here_record, alive, fault_of}
 use Rattle.gds_records.specs.Steps.{is_listed, names_with, Kept, kept_with, value_here, step_fault, Told, Stopped, Ended, steps}
 use Rattle.gds_read.specs.declared.place.Place.{Place}
 use Rattle.gds_read.specs.declared.place.Place.TheVariants as places
-use Rattle.gds_read.specs.declared.profile.Profile.{Profile}
-use Rattle.gds_read.specs.declared.profile.Profile.TheVariants.{Strict, Wide}
-use Rattle.gds_read.specs.Code.Profiles.{profile_of}
 use Rattle.gds_read.specs.Code.Places.{rest_of}
 use Rattle.gds_read.specs.Code.Fronts.{IsWhole}
 use Rattle.gds_read.specs.Code.Steps.{GoesOn, kept}
 use Rattle.gds_read.proofs.Named.{listed_any}
 
-pub data_long : (p : Streams) (b held : List ℕ) → IsWhole p b → held ≡ drop 4 (take (length_of b) b)
-    → has_length_in p.records (kind_of b) (4 + length held) ≡ true
-data_long p b held w e =
+pub data_long : (b held : List ℕ) → IsWhole b → held ≡ drop 4 (take (length_of b) b)
+    → has_length_in wide_table (kind_of b) (4 + length held) ≡ true
+data_long b held w e =
     let n : 4 + length held ≡ length_of b
     = omega (arith, ap (λ (x : List ℕ). length x) e, length-drop 4 (take (length_of b) b), length-take (length_of b) b, w.least, w.enough) in
-    ap (λ (k : ℕ). has_length_in p.records (kind_of b) k) n ∙ w.long
+    ap (λ (k : ℕ). has_length_in wide_table (kind_of b) k) n ∙ w.long
 
-reference_alive : (x : Profile) → alive (rest_of x places.Reference) ≡ true
-reference_alive Strict = refl
-reference_alive Wide = refl
-
-referenceFlags_alive : (x : Profile) → alive (rest_of x places.ReferenceFlags) ≡ true
-referenceFlags_alive Strict = refl
-referenceFlags_alive Wide = refl
-
-referencePlex_alive : (x : Profile) → alive (rest_of x places.ReferencePlex) ≡ true
-referencePlex_alive Strict = refl
-referencePlex_alive Wide = refl
-
-referenceName_alive : (x : Profile) → alive (rest_of x places.ReferenceName) ≡ true
-referenceName_alive Strict = refl
-referenceName_alive Wide = refl
-
-referenceTransform_alive : (x : Profile) → alive (rest_of x places.ReferenceTransform) ≡ true
-referenceTransform_alive Strict = refl
-referenceTransform_alive Wide = refl
-
-pub place_alive : (x : Profile) (p : Place) → alive (rest_of x p) ≡ true
-place_alive x places.Start = refl
-place_alive x places.Header = refl
-place_alive x places.Library = refl
-place_alive x places.LibraryName = refl
-place_alive x places.ReferenceLibraries = refl
-place_alive x places.Fonts = refl
-place_alive x places.AttributeTable = refl
-place_alive x places.Generations = refl
-place_alive x places.Structures = refl
-place_alive x places.Structure = refl
-place_alive x places.Inside = refl
-place_alive x places.Done = refl
-place_alive x places.Boundary = refl
-place_alive x places.BoundaryFlags = refl
-place_alive x places.BoundaryPlex = refl
-place_alive x places.BoundaryLayer = refl
-place_alive x places.BoundaryDatatype = refl
-place_alive x places.Tail = refl
-place_alive x places.Property = refl
-place_alive x places.Reference = reference_alive x
-place_alive x places.ReferenceFlags = referenceFlags_alive x
-place_alive x places.ReferencePlex = referencePlex_alive x
-place_alive x places.ReferenceName = referenceName_alive x
-place_alive x places.ReferenceTransform = referenceTransform_alive x
-place_alive x places.ReferenceMagnified = refl
-place_alive x places.ReferenceAngle = refl
-place_alive x places.Text = refl
-place_alive x places.TextFlags = refl
-place_alive x places.TextPlex = refl
-place_alive x places.TextLayer = refl
-place_alive x places.TextType = refl
-place_alive x places.TextPresentation = refl
-place_alive x places.TextPathType = refl
-place_alive x places.TextWidth = refl
-place_alive x places.TextTransform = refl
-place_alive x places.TextMagnified = refl
-place_alive x places.TextAngle = refl
-place_alive x places.TextPoint = refl
-place_alive x places.Path = refl
-place_alive x places.PathFlags = refl
-place_alive x places.PathPlex = refl
-place_alive x places.PathLayer = refl
-place_alive x places.PathDatatype = refl
-place_alive x places.PathPathType = refl
-place_alive x places.PathWidth = refl
-place_alive x places.Array = refl
-place_alive x places.ArrayFlags = refl
-place_alive x places.ArrayPlex = refl
-place_alive x places.ArrayName = refl
-place_alive x places.ArrayTransform = refl
-place_alive x places.ArrayMagnified = refl
-place_alive x places.ArrayAngle = refl
-place_alive x places.ArrayColrow = refl
+pub place_alive : (p : Place) → alive (rest_of p) ≡ true
+place_alive places.Start = refl
+place_alive places.Header = refl
+place_alive places.Library = refl
+place_alive places.LibraryName = refl
+place_alive places.ReferenceLibraries = refl
+place_alive places.Fonts = refl
+place_alive places.AttributeTable = refl
+place_alive places.Generations = refl
+place_alive places.Structures = refl
+place_alive places.Structure = refl
+place_alive places.Inside = refl
+place_alive places.Done = refl
+place_alive places.Boundary = refl
+place_alive places.BoundaryFlags = refl
+place_alive places.BoundaryPlex = refl
+place_alive places.BoundaryLayer = refl
+place_alive places.BoundaryDatatype = refl
+place_alive places.Tail = refl
+place_alive places.Property = refl
+place_alive places.Reference = refl
+place_alive places.ReferenceFlags = refl
+place_alive places.ReferencePlex = refl
+place_alive places.ReferenceName = refl
+place_alive places.ReferenceTransform = refl
+place_alive places.ReferenceMagnified = refl
+place_alive places.ReferenceAngle = refl
+place_alive places.Text = refl
+place_alive places.TextFlags = refl
+place_alive places.TextPlex = refl
+place_alive places.TextLayer = refl
+place_alive places.TextType = refl
+place_alive places.TextPresentation = refl
+place_alive places.TextPathType = refl
+place_alive places.TextWidth = refl
+place_alive places.TextTransform = refl
+place_alive places.TextMagnified = refl
+place_alive places.TextAngle = refl
+place_alive places.TextPoint = refl
+place_alive places.Path = refl
+place_alive places.PathFlags = refl
+place_alive places.PathPlex = refl
+place_alive places.PathLayer = refl
+place_alive places.PathDatatype = refl
+place_alive places.PathPathType = refl
+place_alive places.PathWidth = refl
+place_alive places.Array = refl
+place_alive places.ArrayFlags = refl
+place_alive places.ArrayPlex = refl
+place_alive places.ArrayName = refl
+place_alive places.ArrayTransform = refl
+place_alive places.ArrayMagnified = refl
+place_alive places.ArrayAngle = refl
+place_alive places.ArrayColrow = refl
 
 fault_own : (t : Option StreamKind) (f : Bool) (v : Option StreamKind) (k : StreamKind) → t ≡ Some k → fault_of t f v ≡ Some k
 fault_own t f v k e = rw e refl
@@ -154,18 +131,10 @@ only_names s t kind form held same = turn (eqb kind 6) refl
         ]) (choice (eqb kind 6) e)
 
 -- only a structure's name may be taken
-untaken : (x : Profile) (element : ℕ) (colrow : List ℕ) (s t : Bool) (kind form : ℕ) (held : List ℕ) → (kind ≡ 6 → s ≡ t)
-    → (profile_of x).value_at element colrow s (record_with kind form held)
-    ≡ (profile_of x).value_at element colrow t (record_with kind form held)
-untaken Strict element colrow s t kind form held same =
-    ap (λ (v : Bool). elim (eqb kind 0x1A && eqb element 0x0A) as (λ (x : Bool). Option StreamKind) [
-      | true ↦ elim (eqb (unsigned_value 0 held) 0) as (λ (x : Bool). Option StreamKind) [ true ↦ None | false ↦ Some Unsupported ]
-      | false ↦ elim (eqb kind 0x10 && eqb element 0x08) as (λ (x : Bool). Option StreamKind) [
-        | true ↦ elim (is_rectangle held) as (λ (x : Bool). Option StreamKind) [ true ↦ None | false ↦ Some NotRectangle ]
-        | false ↦ elim v as (λ (x : Bool). Option StreamKind) [ true ↦ None | false ↦ Some Value ]
-      ]
-    ]) (only_names s t kind form held same)
-untaken Wide element colrow s t kind form held same =
+untaken : (element : ℕ) (colrow : List ℕ) (s t : Bool) (kind form : ℕ) (held : List ℕ) → (kind ≡ 6 → s ≡ t)
+    → wide_fault_in element colrow s (record_with kind form held)
+    ≡ wide_fault_in element colrow t (record_with kind form held)
+untaken element colrow s t kind form held same =
     ap (λ (v : Bool). rule (eqb kind 0x1A && refers element) (is_flip held) Unsupported
     (rule (eqb kind 0x1B && refers element) (is_one held) Unsupported
     (rule (eqb kind 0x1C && refers element) (is_turn held) Unsupported
@@ -178,29 +147,29 @@ untaken Wide element colrow s t kind form held same =
     (rule true v Value None)))))))))) (only_names s t kind form held same)
 
 -- the value of the record at the front, by its data, and by its name where it is one
-pub value_is : (x : Profile) (element : ℕ) (colrow : List ℕ) (names : List (List ℕ)) (taken : Bool) (b held : List ℕ)
+pub value_is : (element : ℕ) (colrow : List ℕ) (names : List (List ℕ)) (taken : Bool) (b held : List ℕ)
     → held ≡ (here_record b).content → (kind_of b ≡ 6 → taken ≡ is_listed (trimmed held) names)
-    → (profile_of x).value_at element colrow taken (record_with (kind_of b) (form_of b) held)
-    ≡ value_here (profile_of x) (kept element colrow names) b
-value_is x element colrow names taken b held e named =
-    untaken x element colrow taken (is_listed (trimmed held) names) (kind_of b) (form_of b) held named
-    ∙ ap (λ (h : List ℕ). (profile_of x).value_at element colrow (is_listed (trimmed h) names) (record_with (kind_of b) (form_of b) h)) e
+    → wide_fault_in element colrow taken (record_with (kind_of b) (form_of b) held)
+    ≡ value_here wide (kept element colrow names) b
+value_is element colrow names taken b held e named =
+    untaken element colrow taken (is_listed (trimmed held) names) (kind_of b) (form_of b) held named
+    ∙ ap (λ (h : List ℕ). wide_fault_in element colrow (is_listed (trimmed h) names) (record_with (kind_of b) (form_of b) h)) e
 
 -- ---- the fault of a step
 
-module _ (p : Streams) (l : Language) (k : Kept) (b : List ℕ) where
-  pub step_own : (f : StreamKind) → own_fault_in p b ≡ Some f → step_fault p l k b ≡ Some f
-  step_own f e = fault_own (own_fault_in p b) (alive (after (kind_of b) l)) (value_here p k b) f e
+module _ (l : Language) (k : Kept) (b : List ℕ) where
+  pub step_own : (f : StreamKind) → own_fault_in wide b ≡ Some f → step_fault wide l k b ≡ Some f
+  step_own f e = fault_own (own_fault_in wide b) (alive (after (kind_of b) l)) (value_here wide k b) f e
 
-  pub step_order : own_fault_in p b ≡ None → after (kind_of b) l ≡ Nothing → step_fault p l k b ≡ Some Order
+  pub step_order : own_fault_in wide b ≡ None → after (kind_of b) l ≡ Nothing → step_fault wide l k b ≡ Some Order
   step_order a e =
-      fault_order (own_fault_in p b) (alive (after (kind_of b) l)) (value_here p k b) a (ap (λ (x : Language). alive x) e)
+      fault_order (own_fault_in wide b) (alive (after (kind_of b) l)) (value_here wide k b) a (ap (λ (x : Language). alive x) e)
 
-  pub step_value : (x : Profile) (q : Place) (v : Option StreamKind) → own_fault_in p b ≡ None
-      → after (kind_of b) l ≡ rest_of x q → v ≡ value_here p k b → step_fault p l k b ≡ v
-  step_value x q v a e w =
-      fault_rest (own_fault_in p b) (alive (after (kind_of b) l)) (value_here p k b) a
-      (ap (λ (y : Language). alive y) e ∙ place_alive x q) ∙ sym w
+  pub step_value : (q : Place) (v : Option StreamKind) → own_fault_in wide b ≡ None
+      → after (kind_of b) l ≡ rest_of q → v ≡ value_here wide k b → step_fault wide l k b ≡ v
+  step_value q v a e w =
+      fault_rest (own_fault_in wide b) (alive (after (kind_of b) l)) (value_here wide k b) a
+      (ap (λ (y : Language). alive y) e ∙ place_alive q) ∙ sym w
 
 -- ---- turns of the steps
 
@@ -220,27 +189,27 @@ turn_end o t z e rest a b = rw (a, b, turn) refl
 turn_on : (o : ℕ) (t : Option StreamKind) (z : Bool) (e rest : Told) → t ≡ None → z ≡ false → turn o t z e rest ≡ rest
 turn_on o t z e rest a b = rw (a, b, turn) refl
 
-module _ (p : Streams) (l : Language) (kept : Kept) (o : ℕ) (b : List ℕ) where
+module _ (l : Language) (kept : Kept) (o : ℕ) (b : List ℕ) where
   abbrev here : ℕ → Told
-  here n = steps p n (after (kind_of b) l) (kept_with p kept (here_record b)) (o + length_of b) (drop (length_of b) b)
+  here n = steps wide n (after (kind_of b) l) (kept_with wide kept (here_record b)) (o + length_of b) (drop (length_of b) b)
 
   abbrev ended : Told
   ended = Ended (o + length_of b) (drop (length_of b) b)
 
-  steps_stop : (n : ℕ) (k : StreamKind) → 0 < n → step_fault p l kept b ≡ Some k → steps p n l kept o b ≡ Stopped o k
+  steps_stop : (n : ℕ) (k : StreamKind) → 0 < n → step_fault wide l kept b ≡ Some k → steps wide n l kept o b ≡ Stopped o k
   steps_stop zero k h e = absurd (omega arith)
-  steps_stop (suc n) k h e = turn_stop o (step_fault p l kept b) (eqb (kind_of b) 4) ended (here n) k e
+  steps_stop (suc n) k h e = turn_stop o (step_fault wide l kept b) (eqb (kind_of b) 4) ended (here n) k e
 
-  steps_end : (n : ℕ) → 0 < n → step_fault p l kept b ≡ None → eqb (kind_of b) 4 ≡ true → steps p n l kept o b ≡ ended
+  steps_end : (n : ℕ) → 0 < n → step_fault wide l kept b ≡ None → eqb (kind_of b) 4 ≡ true → steps wide n l kept o b ≡ ended
   steps_end zero h e f = absurd (omega arith)
-  steps_end (suc n) h e f = turn_end o (step_fault p l kept b) (eqb (kind_of b) 4) ended (here n) e f
+  steps_end (suc n) h e f = turn_end o (step_fault wide l kept b) (eqb (kind_of b) 4) ended (here n) e f
 
-  steps_on : (n : ℕ) → 0 < n → step_fault p l kept b ≡ None → eqb (kind_of b) 4 ≡ false
-      → steps p n l kept o b ≡ here (n - 1)
+  steps_on : (n : ℕ) → 0 < n → step_fault wide l kept b ≡ None → eqb (kind_of b) 4 ≡ false
+      → steps wide n l kept o b ≡ here (n - 1)
   steps_on zero h e f = absurd (omega arith)
   steps_on (suc n) h e f =
       let m : n ≡ suc n - 1 = omega arith in
-      turn_on o (step_fault p l kept b) (eqb (kind_of b) 4) ended (here n) e f ∙ ap here m
+      turn_on o (step_fault wide l kept b) (eqb (kind_of b) 4) ended (here n) e f ∙ ap here m
 
 -- ---- a turn of the reader
 
@@ -249,18 +218,10 @@ none_value (Some k) f v e = absurd cc
 none_value None false v e = absurd cc
 none_value None true v e = e
 
-has_none : (h : Bool) → (elim h as (λ (x : Bool). Option StreamKind) [ true ↦ None | false ↦ Some Value ]) ≡ None → h ≡ true
-has_none true e = refl
-has_none false e = absurd cc
-
 both_true : (a b : Bool) → (a && not b) ≡ true → b ≡ false
 both_true true true e = absurd cc
 both_true true false e = refl
 both_true false b e = absurd cc
-
-strict_name : (element : ℕ) (taken : Bool) (form : ℕ) (held : List ℕ)
-    → value_fault_in element taken (record_with 6 form held) ≡ None → taken ≡ false
-strict_name element taken form held e = both_true (is_name held) taken (has_none (is_name held && not taken) e)
 
 wide_name : (element : ℕ) (colrow : List ℕ) (taken : Bool) (form : ℕ) (held : List ℕ)
     → wide_fault_in element colrow taken (record_with 6 form held) ≡ None → taken ≡ false
@@ -272,20 +233,14 @@ wide_name element colrow taken form held e =
     rule_none false e = absurd cc
 
 -- the name of a structure is new where it is no fault
-name_value : (x : Profile) (element : ℕ) (colrow : List ℕ) (taken : Bool) (form : ℕ) (held : List ℕ)
-    → (profile_of x).value_at element colrow taken (record_with 6 form held) ≡ None → taken ≡ false
-name_value Strict element colrow taken form held e = strict_name element taken form held e
-name_value Wide element colrow taken form held e = wide_name element colrow taken form held e
-
-fresh_name : (x : Profile) (l : Language) (kept : Kept) (b : List ℕ) → step_fault (profile_of x) l kept b ≡ None
+fresh_name : (l : Language) (kept : Kept) (b : List ℕ) → step_fault wide l kept b ≡ None
     → kind_of b ≡ 6 → is_listed (trimmed (here_record b).content) kept.names ≡ false
-fresh_name x l kept b e k =
-    let p = profile_of x in
+fresh_name l kept b e k =
     let taken = is_listed (trimmed (here_record b).content) kept.names in
-    let v = none_value (own_fault_in p b) (alive (after (kind_of b) l)) (value_here p kept b) e in
-    let w : p.value_at kept.element kept.colrow taken (record_with 6 (form_of b) (here_record b).content) ≡ None
-    = ap (λ (y : ℕ). p.value_at kept.element kept.colrow taken (record_with y (form_of b) (here_record b).content)) (sym k) ∙ v in
-    name_value x kept.element kept.colrow taken (form_of b) (here_record b).content w
+    let v = none_value (own_fault_in wide b) (alive (after (kind_of b) l)) (value_here wide kept b) e in
+    let w : wide_fault_in kept.element kept.colrow taken (record_with 6 (form_of b) (here_record b).content) ≡ None
+    = ap (λ (y : ℕ). wide_fault_in kept.element kept.colrow taken (record_with y (form_of b) (here_record b).content)) (sym k) ∙ v in
+    wide_name kept.element kept.colrow taken (form_of b) (here_record b).content w
 
 with_name : (z : Bool) (names : List (List ℕ)) (t : List ℕ) → z ≡ true
     → (elim z as (λ (x : Bool). List (List ℕ)) [ true ↦ names ++ t ∷ [] | false ↦ names ]) ≡ names ++ t ∷ []
@@ -299,13 +254,13 @@ not_there : (t : Bool) (names : List (List ℕ)) (k : List ℕ) → t ≡ false 
 not_there t names k e = rw e refl
 
 -- the names after a structure's name, as a reader has them
-pub named : (x : Profile) (l : Language) (kept : Kept) (names : List (List ℕ)) (b name : List ℕ)
-    → step_fault (profile_of x) l kept b ≡ None → kind_of b ≡ 6 → name ≡ trimmed (here_record b).content
+pub named : (l : Language) (kept : Kept) (names : List (List ℕ)) (b name : List ℕ)
+    → step_fault wide l kept b ≡ None → kind_of b ≡ 6 → name ≡ trimmed (here_record b).content
     → names ≡ insert_key bytes_eq kept.names name → names ≡ names_with kept.names (here_record b)
-named x l kept names b name e k n i =
+named l kept names b name e k n i =
     let t = trimmed (here_record b).content in
     i ∙ ap (λ (y : List ℕ). insert_key bytes_eq kept.names y) n
-    ∙ not_there (list_any (bytes_eq t) kept.names) kept.names t (sym (listed_any t kept.names) ∙ fresh_name x l kept b e k)
+    ∙ not_there (list_any (bytes_eq t) kept.names) kept.names t (sym (listed_any t kept.names) ∙ fresh_name l kept b e k)
     ∙ sym (with_name (eqb (kind_of b) 6) kept.names t (ap (λ (y : ℕ). eqb y 6) k))
 
 pub unnamed : (names : List (List ℕ)) (b : List ℕ) → kind_of b ≢ 6 → names ≡ names_with names (here_record b)
@@ -313,57 +268,47 @@ unnamed names b h =
     let z : eqb (kind_of b) 6 ≡ false = grind (arith, nat_tests) in
     sym (without_name (eqb (kind_of b) 6) names (trimmed (here_record b).content) z)
 
-pub begins : (x : Profile) → (profile_of x).language ≡ rest_of x places.Start
-begins Strict = refl
-begins Wide = refl
-
--- an opener, by its kind alone
-pub opened_by : (x : Profile) (element : ℕ) (r : Record)
-    → (profile_of x).opener element (record_with r.kind 0 [] ∷ []) ≡ (profile_of x).opener element (r ∷ [])
-opened_by Strict element r = refl
-opened_by Wide element r = refl
-
 -- what is kept, part by part
-pub kept_is : (p : Streams) (old new : Kept) (r : Record) → new.element ≡ p.opener old.element (r ∷ [])
-    → new.colrow ≡ last_colrow old.colrow (r ∷ []) → new.names ≡ names_with old.names r → new ≡ kept_with p old r
-kept_is p old new r e f g i = record { element = e i; colrow = f i; names = g i }
+pub kept_is : (old new : Kept) (r : Record) → new.element ≡ wide_opener old.element (r ∷ [])
+    → new.colrow ≡ last_colrow old.colrow (r ∷ []) → new.names ≡ names_with old.names r → new ≡ kept_with wide old r
+kept_is old new r e f g i = record { element = e i; colrow = f i; names = g i }
 
 -- a reader of these bytes, that stands at this place and has come so far
-pub record Stands (p : Streams) (total : Told) (n : ℕ) (l : Language) (kept : Kept) (at : ℕ) (bytes rest : List ℕ) : Type 0 where
+pub record Stands (total : Told) (n : ℕ) (l : Language) (kept : Kept) (at : ℕ) (bytes rest : List ℕ) : Type 0 where
   pub here : rest ≡ drop at bytes
   pub enough : length bytes - at < n
-  pub same : total ≡ steps p n l kept at (drop at bytes)
+  pub same : total ≡ steps wide n l kept at (drop at bytes)
 
-module _ (p : Streams) (total : Told) (n : ℕ) (l : Language) (kept : Kept) (at : ℕ) (bytes rest : List ℕ)
-    (s : Stands p total n l kept at bytes rest) where
-  so_far : total ≡ steps p n l kept at rest
-  so_far = s.same ∙ ap (λ (x : List ℕ). steps p n l kept at x) (sym s.here)
+module _ (total : Told) (n : ℕ) (l : Language) (kept : Kept) (at : ℕ) (bytes rest : List ℕ)
+    (s : Stands total n l kept at bytes rest) where
+  so_far : total ≡ steps wide n l kept at rest
+  so_far = s.same ∙ ap (λ (x : List ℕ). steps wide n l kept at x) (sym s.here)
 
   some_turn : 0 < n
   some_turn = let h = s.enough in omega arith
 
-  pub stopped_here : (k : StreamKind) → step_fault p l kept rest ≡ Some k → total ≡ Stopped at k
-  stopped_here k e = so_far ∙ steps_stop p l kept at rest n k some_turn e
+  pub stopped_here : (k : StreamKind) → step_fault wide l kept rest ≡ Some k → total ≡ Stopped at k
+  stopped_here k e = so_far ∙ steps_stop l kept at rest n k some_turn e
 
   moved : (size : ℕ) → size ≡ length_of rest → drop (length_of rest) rest ≡ drop (at + size) bytes
   moved size e =
       ap (λ (k : ℕ). drop k rest) (sym e) ∙ ap (λ (x : List ℕ). drop size x) s.here ∙ drop-drop size at bytes
 
-  pub ended_here : (next : Language) (size : ℕ) → GoesOn p l kept rest next → kind_of rest ≡ 4 → size ≡ length_of rest
+  pub ended_here : (next : Language) (size : ℕ) → GoesOn l kept rest next → kind_of rest ≡ 4 → size ≡ length_of rest
       → total ≡ Ended (at + size) (drop (at + size) bytes)
   ended_here next size g k e =
-      so_far ∙ steps_end p l kept at rest n some_turn g.sound (ap (λ (x : ℕ). eqb x 4) k)
+      so_far ∙ steps_end l kept at rest n some_turn g.sound (ap (λ (x : ℕ). eqb x 4) k)
       ∙ (λ i. Ended (at + sym e i) (moved size e i))
 
-  pub goes_on : (next : Language) (size : ℕ) (new : Kept) → GoesOn p l kept rest next → kind_of rest ≢ 4
-      → size ≡ length_of rest → new ≡ kept_with p kept (here_record rest)
-      → total ≡ steps p (n - 1) next new (at + size) (drop (at + size) bytes)
+  pub goes_on : (next : Language) (size : ℕ) (new : Kept) → GoesOn l kept rest next → kind_of rest ≢ 4
+      → size ≡ length_of rest → new ≡ kept_with wide kept (here_record rest)
+      → total ≡ steps wide (n - 1) next new (at + size) (drop (at + size) bytes)
   goes_on next size new g k e w =
       let z : eqb (kind_of rest) 4 ≡ false = grind (arith, nat_tests) in
-      so_far ∙ steps_on p l kept at rest n some_turn g.sound z
-      ∙ (λ i. steps p (n - 1) (g.follows i) (sym w i) (at + sym e i) (moved size e i))
+      so_far ∙ steps_on l kept at rest n some_turn g.sound z
+      ∙ (λ i. steps wide (n - 1) (g.follows i) (sym w i) (at + sym e i) (moved size e i))
 
-  pub fits_here : (next : Language) (size : ℕ) → GoesOn p l kept rest next → at ≤ length bytes → size ≡ length_of rest
+  pub fits_here : (next : Language) (size : ℕ) → GoesOn l kept rest next → at ≤ length bytes → size ≡ length_of rest
       → (at + size ≤ length bytes) × (0 < size)
   fits_here next size g w e =
       let f = g.whole.enough in

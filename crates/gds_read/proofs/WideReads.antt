@@ -250,7 +250,7 @@ module _ (rs : List Record) (shapes : AllByRecursion (IsShapedIn wide_element) (
       }
 
 -- what is read is a wide stream, and has a flat form
-pub wide_read : (bytes : List ℕ) (end : ℕ) (records : List ℕ) (layout : WideLayout) (r : Result WideLayout StreamRefusal) → IsBytes bytes → IsBody wide bytes end → records ≡ take end bytes
+pub wide_read : (bytes : List ℕ) (end : ℕ) (records : List ℕ) (layout : WideLayout) (r : Result WideLayout StreamRefusal) → IsBytes bytes → IsBody bytes end → records ≡ take end bytes
     → layout ≡ wide_layout_of (records_in records) → wide_whole_fault (records_in records) ≡ None → AreOutlined (records_in records)
     → IfOk r (λ taken. taken ≡ layout) → IfOk r (λ taken. wide_count layout ≤ 8000000) → IfOk r (λ taken. IsWideReadAs bytes taken)
 wide_read bytes end records layout (Err refusal) fits b front says none outlined same within = tt

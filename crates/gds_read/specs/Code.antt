@@ -1,5 +1,4 @@
--- Words of the code alone: places of the reader, records of bytes, outlines, numbers of names, references, and sizes.
-pub mod Profiles
+-- Words of the code alone: places of the reader, records of bytes, outlines, numbers of names, and references.
 pub mod Places
 pub mod Fronts
 pub mod Texts
@@ -13,4 +12,3 @@ pub mod Components
 pub mod Chains
 pub mod Tops
 pub mod Ways
-pub mod Sizes

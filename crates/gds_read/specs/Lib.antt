@@ -1,4 +1,2 @@
-pub mod Flattening
-pub mod Reading
 pub mod WideReading
 pub mod Code

@@ -3,7 +3,7 @@ ghost use Rattle.std.specs.Prelude.{◌≡◌, ℕ, map, true, false, slice_inde
 ghost use Rattle.gds_records.specs.WideWhole.{first_long};
 ghost use Rattle.gds_read.specs.Code.Numbering.{IsNumbering};
 ghost use Rattle.gds_read.specs.Code.Outlining.{names_in, outline_of};
-ghost use Rattle.gds_read.specs.Code.Graphs.{graph_of, targets_at, some_target, is_long};
+ghost use Rattle.gds_read.specs.Code.Graphs.{graph_of, some_target, is_long, targets_at};
 
 use crate::element::named;
 use crate::numbers::Numbers;
@@ -86,16 +86,16 @@ pub fn first_long(
     structures: &[NamedOutline<'_>],
     numbers: &Numbers<'_>,
     long: &[bool],
-) -> Result<Option<usize>, Memory>
+) -> Option<usize>
     requires numbers { IsNumbering numbers.now.entries (names_in structures.now) }
     requires marks { (n : ℕ) → slice_index_or long.now n false ≡ is_long (graph_of structures.now) n }
-    ensures { IfOk result (λ place. place ≡ first_long (map outline_of structures.now) (map outline_of structures.now)) }
+    ensures { result ≡ first_long (map outline_of structures.now) (map outline_of structures.now) }
 {
     for outline in structures {
-        let number = named(structures, numbers, outline.name)?;
+        let number = named(structures, numbers, outline.name);
         if mark_at(long, number) {
-            return Ok(Some(outline.place));
+            return Some(outline.place);
         }
     }
-    Ok(None)
+    None
 }

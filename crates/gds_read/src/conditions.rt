@@ -1,10 +1,9 @@
 // The conditions on the whole stream.
-ghost use Rattle.std.specs.Prelude.{◌≡◌, ◌&&◌, ◌==◌, not, length, map, Some, None, IfOk, IfErr};
-ghost use Rattle.gds_records.specs.Steps.{is_listed};
-ghost use Rattle.gds_records.specs.Whole.{all_uses, unknown, deep, tops, top_in, top_fault, last_place, outlines, whole_fault, top_of};
+ghost use Rattle.std.specs.Prelude.{◌≡◌, ◌<◌, length, map, Some, None, IfOk, IfErr};
+ghost use Rattle.gds_records.specs.Whole.{all_uses, tops, top_in, top_fault, last_place};
 ghost use Rattle.gds_read.specs.Code.Decoding.{IsSpelled, records_in};
 ghost use Rattle.gds_read.specs.Code.Outlining.{use_of, outline_of};
-ghost use Rattle.gds_read.specs.Code.Numbering.{number_in, IsNumbering, AreUsed, unnumbered};
+ghost use Rattle.gds_read.specs.Code.Numbering.{number_in, AreUsed, unnumbered};
 ghost use Rattle.gds_read.specs.Code.Texts.{texts};
 ghost use Rattle.gds_read.specs.Code.Tops.{told_tops};
 
@@ -55,26 +54,6 @@ pub fn first_unknown(structures: &[NamedOutline<'_>], numbers: &Numbers<'_>) -> 
     None
 }
 
-// Whether a structure is referred to, and refers.
-fn is_deep(outline: &NamedOutline<'_>, used: &Names<'_>) -> bool
-    ensures { result ≡ (is_listed outline.now.name.now (texts used.now.keys) && not (length outline.now.uses == 0)) }
-{
-    is_taken(used, outline.name) && outline.uses.len() != 0
-}
-
-// The place of the first structure that is referred to, and refers.
-fn first_deep(structures: &[NamedOutline<'_>], used: &Names<'_>) -> Option<usize>
-    requires { AreUsed (texts used.now.keys) (all_uses (map outline_of structures.now)) }
-    ensures { result ≡ deep (all_uses (map outline_of structures.now)) (map outline_of structures.now) }
-{
-    for outline in structures {
-        if is_deep(outline, used) {
-            return Some(outline.place);
-        }
-    }
-    None
-}
-
 fn find_tops(structures: &[NamedOutline<'_>], used: &Names<'_>) -> Tops
     requires { AreUsed (texts used.now.keys) (all_uses (map outline_of structures.now)) }
     ensures { result ≡ told_tops (tops 0 (all_uses (map outline_of structures.now)) (map outline_of structures.now)) }
@@ -107,6 +86,7 @@ pub fn one_top(
         (tops 0 (all_uses (map outline_of structures.now)) (map outline_of structures.now)) ≡ None) }
     ensures top { IfOk result (λ top. top
         ≡ top_in (tops 0 (all_uses (map outline_of structures.now)) (map outline_of structures.now))) }
+    ensures within { IfOk result (λ top. top < length structures.now) }
     ensures fault { IfErr result (λ fault. top_fault (last_place 0 (records_in bytes.now))
         (tops 0 (all_uses (map outline_of structures.now)) (map outline_of structures.now)) ≡ Some (fault.offset, fault.kind)) }
 {
@@ -122,30 +102,4 @@ pub fn one_top(
             Err(Fault { offset, kind })
         }
     }
-}
-
-/// The number of the top, or what is wrong with the whole stream.
-pub fn top_or_fault(
-    bytes: &[u8],
-    structures: &[NamedOutline<'_>],
-    numbers: &Numbers<'_>,
-    used: &Names<'_>,
-) -> Result<usize, Fault>
-    requires spelled { IsSpelled bytes.now }
-    requires outlines { map outline_of structures.now ≡ outlines 0 (records_in bytes.now) }
-    requires numbers { IsNumbering numbers.now.entries (map (λ s. s.name) (map outline_of structures.now)) }
-    requires used { AreUsed (texts used.now.keys) (all_uses (map outline_of structures.now)) }
-    ensures none { IfOk result (λ top. whole_fault (records_in bytes.now) ≡ None) }
-    ensures top { IfOk result (λ top. top ≡ top_of (records_in bytes.now)) }
-    ensures fault { IfErr result (λ fault. whole_fault (records_in bytes.now) ≡ Some (fault.offset, fault.kind)) }
-{
-    if let Some(offset) = first_unknown(structures, numbers) {
-        let kind = StreamKind::UnknownName;
-        return Err(Fault { offset, kind });
-    }
-    if let Some(offset) = first_deep(structures, used) {
-        let kind = StreamKind::Unsupported;
-        return Err(Fault { offset, kind });
-    }
-    one_top(bytes, structures, used)
 }

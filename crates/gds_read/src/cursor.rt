@@ -1,5 +1,5 @@
 // Records that are known to be whole, one after another.
-ghost use Rattle.std.specs.Prelude.{◌≡◌, ◌+◌, ◌<◌, ◌≤◌, length, take, drop};
+ghost use Rattle.std.specs.Prelude.{◌≡◌, ◌+◌, ◌<◌, ◌≤◌, length, drop};
 ghost use Rattle.gds_records.specs.Faults.{here_record, kind_of, length_of};
 ghost use Rattle.gds_records.specs.Drawing.{field, has};
 ghost use Rattle.gds_records.specs.Whole.{last_place};
@@ -36,6 +36,19 @@ pub fn behind(bytes: &[u8]) -> &[u8]
 {
     let (_, rest) = bytes.split_at(record_length(bytes));
     rest
+}
+
+/// What stands behind the record at the front, if there is one.
+pub fn behind_first(bytes: &[u8]) -> &[u8]
+    requires { IsSpelled bytes.now }
+    ensures spelled { IsSpelled result.now }
+    ensures records { records_in result.now ≡ drop 1 (records_in bytes.now) }
+{
+    if bytes.is_empty() {
+        bytes
+    } else {
+        behind(bytes)
+    }
 }
 
 /// The data of the record at the front.

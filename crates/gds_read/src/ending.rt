@@ -2,9 +2,7 @@
 ghost use Rattle.std.specs.Prelude.{◌≡◌, ◌<◌, length, true, false, IfOk, IfErr, IfNone, IfSome};
 ghost use Rattle.gds_records.specs.Profiled.{are_zero, zeros_before};
 ghost use Rattle.gds_read.specs.Code.Bodies.{IsBody, IsFirstRefusal};
-ghost use Rattle.gds_read.specs.Code.Profiles.{profile_of};
 
-use crate::profile::Profile;
 use crate::refusal::StreamRefusal;
 use crate::scan::{Outcome, scan};
 use gds_records::{StreamKind, found_is_fault, steps_tell_scan, whole_is_read};
@@ -28,20 +26,15 @@ fn first_other(bytes: &[u8]) -> Option<usize>
 }
 
 /// The place behind ENDLIB, where all records up to it are without fault and only zero bytes follow.
-pub fn end_of_records(
-    alloc: Global,
-    profile: Profile,
-    hash: NameHash,
-    bytes: &[u8],
-) -> Result<usize, StreamRefusal>
-    ensures ok { IfOk result (λ end. IsBody (profile_of profile) bytes.now end) }
-    ensures err { IfErr result (λ refusal. IsFirstRefusal (profile_of profile) bytes.now refusal) }
+pub fn end_of_records(alloc: Global, hash: NameHash, bytes: &[u8]) -> Result<usize, StreamRefusal>
+    ensures ok { IfOk result (λ end. IsBody bytes.now end) }
+    ensures err { IfErr result (λ refusal. IsFirstRefusal bytes.now refusal) }
 {
     found_is_fault();
     steps_tell_scan();
     whole_is_read();
     let mut names = IndexSet::with_hasher(alloc, hash);
-    match scan(alloc, profile, bytes, &mut names)? {
+    match scan(alloc, bytes, &mut names)? {
         Outcome::Stopped { offset, kind } => Err(StreamRefusal::bad(offset, kind)),
         Outcome::Ended { offset } => {
             let (_, rest) = bytes.split_at(offset);

@@ -1,11 +1,9 @@
-// Numbers and rectangles in the data of records.
-ghost use Rattle.std.specs.Prelude.{◌≡◌, ◌≢◌, ◌+◌, ◌*◌, ◌^◌, ◌<◌, ◌<ℤ◌, true, slice_index, ◌==◌};
+// Numbers in the data of records.
+ghost use Rattle.std.specs.Prelude.{◌≡◌, ◌*◌, ◌^◌, ◌<◌, slice_index, ◌==◌};
 ghost use Rattle.std.specs.Int.{w32, cast_unsigned};
 ghost use Rattle.gds_records.specs.Records.{number};
-ghost use Rattle.gds_records.specs.Values.{at, is_rectangle, unsigned_value};
-ghost use Rattle.gds_records.specs.Drawing.{coordinate, lesser, greater, box_of};
-
-use geom::Rect;
+ghost use Rattle.gds_records.specs.Values.{at, unsigned_value};
+ghost use Rattle.gds_records.specs.Drawing.{coordinate};
 
 // A byte of the data, and 0 behind its end.
 fn byte(content: &[u8], k: usize) -> u8
@@ -63,31 +61,4 @@ pub fn is_number(bytes: &[u8], number: u64) -> bool
         so_far = so_far * 256 + u64::from(*b);
     }
     so_far == number
-}
-
-// The two ends of a side, the lower first.
-fn ends(xy: &[u8], i: usize) -> (i64, i64)
-    requires small { i < 900 }
-    requires apart { at xy.now i ≢ at xy.now (i + 4) }
-    ensures low { result.0 ≡ lesser (coordinate xy.now i) (coordinate xy.now (i + 4)) }
-    ensures high { result.1 ≡ greater (coordinate xy.now i) (coordinate xy.now (i + 4)) }
-    ensures order { result.0 <ℤ result.1 }
-{
-    let first = coordinate(xy, i);
-    let third = coordinate(xy, i + 4);
-    if first <= third {
-        (first, third)
-    } else {
-        (third, first)
-    }
-}
-
-/// The rectangle of an XY that is one.
-pub fn rectangle(xy: &[u8]) -> Rect
-    requires { is_rectangle xy.now ≡ true }
-    ensures { result ≡ box_of xy.now }
-{
-    let (x0, x1) = ends(xy, 0);
-    let (y0, y1) = ends(xy, 1);
-    Rect { x0, y0, x1, y1 }
 }

@@ -1,10 +1,9 @@
 // The record at the front of bytes.
 ghost use Rattle.std.specs.Prelude.{◌≡◌, ◌≤◌, length, Some, None, IfNone};
-ghost use Rattle.gds_records.specs.Profiled.{own_fault_in, length_of, kind_of, form_of};
-ghost use Rattle.gds_read.specs.Code.Profiles.{profile_of};
+ghost use Rattle.gds_records.specs.Profiled.{own_fault_in, length_of};
+ghost use Rattle.gds_records.specs.Profiles.{wide};
 ghost use Rattle.gds_read.specs.Code.Fronts.{IsWhole, code_fault};
 
-use crate::profile::Profile;
 use crate::table::{is_form, is_known, is_length};
 use gds_records::StreamKind;
 
@@ -17,14 +16,14 @@ pub fn record_length(bytes: &[u8]) -> usize
 }
 
 /// What is wrong with the record's type, data type or length.
-fn code_fault(profile: Profile, kind: u8, form: u8, length: usize) -> Option<StreamKind>
-    ensures { result ≡ code_fault (profile_of profile).records kind form length }
+fn code_fault(kind: u8, form: u8, length: usize) -> Option<StreamKind>
+    ensures { result ≡ code_fault kind form length }
 {
-    if !is_known(profile, kind) {
+    if !is_known(kind) {
         Some(StreamKind::Unsupported)
-    } else if !is_form(profile, kind, form) {
+    } else if !is_form(kind, form) {
         Some(StreamKind::DataType)
-    } else if !is_length(profile, kind, length) {
+    } else if !is_length(kind, length) {
         Some(StreamKind::Length)
     } else {
         None
@@ -32,9 +31,9 @@ fn code_fault(profile: Profile, kind: u8, form: u8, length: usize) -> Option<Str
 }
 
 /// What is wrong with the record that stands here, whatever came before it.
-pub fn fault_at_front(profile: Profile, bytes: &[u8]) -> Option<StreamKind>
-    ensures fault { result ≡ own_fault_in (profile_of profile) bytes.now }
-    ensures whole { IfNone result (IsWhole (profile_of profile) bytes.now) }
+pub fn fault_at_front(bytes: &[u8]) -> Option<StreamKind>
+    ensures fault { result ≡ own_fault_in wide bytes.now }
+    ensures whole { IfNone result (IsWhole bytes.now) }
 {
     if bytes.len() < 4 {
         return Some(StreamKind::Truncated);
@@ -46,5 +45,5 @@ pub fn fault_at_front(profile: Profile, bytes: &[u8]) -> Option<StreamKind>
     if bytes.len() < length {
         return Some(StreamKind::Truncated);
     }
-    code_fault(profile, bytes[2], bytes[3], length)
+    code_fault(bytes[2], bytes[3], length)
 }

@@ -23,7 +23,7 @@ fn targets(
 {
     let mut found = List::new(alloc);
     for item in uses {
-        found.push(named(structures, numbers, item.name)?)?;
+        found.push(named(structures, numbers, item.name))?;
     }
     Ok(found)
 }

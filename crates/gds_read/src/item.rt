@@ -156,7 +156,7 @@ pub fn item(
     }
     let xy = field(part, XY);
     if has(part, SREF) || has(part, AREF) {
-        let structure = named(structures, numbers, trimmed(field(part, SNAME)))?;
+        let structure = named(structures, numbers, trimmed(field(part, SNAME)));
         return Ok(Item::Place {
             structure,
             at: first_point(xy),

@@ -1,41 +1,19 @@
 // Laws of reading, for the crates above.
 ghost use Rattle.std.specs.Prelude.{◌≡◌, ◌⊎◌, ◌<◌, ◌≤◌, ℕ, List};
 ghost use Rattle.geom.specs.declared.layout.Layout.{Layout};
-ghost use Rattle.geom.specs.FlatForm.{flat_of, flat_count};
+ghost use Rattle.geom.specs.FlatForm.{flat_of};
 ghost use Rattle.gds_records.specs.declared.fault.StreamKind.{StreamKind};
 ghost use Rattle.gds_records.specs.Stream.{IsStream, IsWideStream};
 ghost use Rattle.gds_records.specs.Scan.{IsBytes, wide_layout_in};
 ghost use Rattle.poly_cut.specs.FlatForm.{wide_flat};
 ghost use Rattle.poly_cut.specs.declared.layout.WideLayout.{WideLayout};
 ghost use Rattle.poly_cut.specs.Counts.{wide_count, told};
-ghost use Rattle.gds_records.specs.Faults.{StreamFault, WideFault};
+ghost use Rattle.gds_records.specs.Faults.{WideFault};
 ghost use Rattle.gds_read.specs.declared.refusal.StreamRefusal.{StreamRefusal};
 ghost use Rattle.gds_read.specs.declared.refusal.StreamRefusal.TheVariants.{Bad, TooManyShapes, Memory};
-ghost use Rattle.gds_read.specs.Reading.{IsReadAs, IsRefusedFor};
 ghost use Rattle.gds_read.specs.WideReading.{IsWideReadAs, IsWideRefusedFor};
 
-use gds_records::{
-    one_layout, one_of_both, one_wide_reading, rectangles_are_rings, strict_streams_are_wide,
-};
-
-/// Want of memory apart, each answer of `read_stream` comes exactly where it may: a stream of a size that is taken is
-/// not refused, a larger one only by its number of shapes, and bytes with a fault are refused by the first one alone.
-pub fn reading_is_exact()
-    ensures taken { (bytes : List ℕ) (layout : Layout) (refusal : StreamRefusal)
-        → IsStream bytes layout → flat_count (flat_of layout) ≤ 8000000 → IsRefusedFor bytes refusal → refusal ≡ Memory }
-    ensures large { (bytes : List ℕ) (layout : Layout) (refusal : StreamRefusal)
-        → IsStream bytes layout → 8000000 < flat_count (flat_of layout) → IsRefusedFor bytes refusal
-        → (refusal ≡ TooManyShapes (flat_count (flat_of layout))) ⊎ (refusal ≡ Memory) }
-    ensures faulty { (bytes : List ℕ) (offset : ℕ) (kind : StreamKind) (refusal : StreamRefusal)
-        → StreamFault bytes offset kind → IsRefusedFor bytes refusal → (refusal ≡ Bad offset kind) ⊎ (refusal ≡ Memory) }
-    ensures unread_large { (bytes : List ℕ) (layout other : Layout)
-        → IsStream bytes layout → 8000000 < flat_count (flat_of layout) → IsReadAs bytes other → ⊥ }
-    ensures unread_faulty { (bytes : List ℕ) (offset : ℕ) (kind : StreamKind) (layout : Layout)
-        → StreamFault bytes offset kind → IsReadAs bytes layout → ⊥ }
-{
-    one_layout();
-    one_of_both();
-}
+use gds_records::{one_wide_reading, rectangles_are_rings, strict_streams_are_wide};
 
 /// Want of memory apart, each answer of `read_wide` comes exactly where it may: a wide stream of a size that is taken is
 /// not refused, a larger one only by its number of shapes, and bytes with a fault are refused by the first one alone.

@@ -1,4 +1,4 @@
-//! The reader of streams, and the flat form of a layout.
+//! The reader of streams.
 #![tactic(auto)]
 
 mod chains;
@@ -8,7 +8,6 @@ mod cursor;
 mod element;
 mod ending;
 mod fields;
-mod flat;
 mod front;
 mod graph;
 mod item;
@@ -20,12 +19,8 @@ mod numbers;
 mod outline;
 mod place;
 mod points;
-mod profile;
-mod read;
 mod refusal;
 mod scan;
-mod size;
-mod structures;
 mod table;
 mod values;
 mod ways;
@@ -34,9 +29,7 @@ mod wide_conditions;
 mod wide_structures;
 mod wide_values;
 
-pub use flat::flatten;
 pub use gds_records::StreamKind;
-pub use laws::{reading_is_exact, strict_reading_is_wide, wide_reading_is_exact};
-pub use read::read_stream;
+pub use laws::{strict_reading_is_wide, wide_reading_is_exact};
 pub use refusal::StreamRefusal;
 pub use wide::read_wide;

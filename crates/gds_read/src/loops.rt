@@ -45,7 +45,7 @@ pub fn first_loop(
 {
     let ranks = components(alloc, graph)?;
     for outline in structures {
-        let number = named(structures, numbers, outline.name)?;
+        let number = named(structures, numbers, outline.name);
         if !falls(graph, ranks.as_slice(), number) {
             return Ok(Some(outline.place));
         }

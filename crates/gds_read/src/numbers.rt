@@ -1,5 +1,5 @@
 // Numbers of structures, by their names.
-ghost use Rattle.std.specs.Prelude.{◌≡◌, ℕ, List, map, IfOk, OnOk};
+ghost use Rattle.std.specs.Prelude.{◌≡◌, ◌<◌, ◌^◌, ℕ, List, length, map, IfOk, OnOk};
 ghost use Rattle.std.specs.Str.{bytes_eq};
 ghost use Rattle.gds_read.specs.Code.Outlining.{outline_of};
 ghost use Rattle.gds_read.specs.Code.Numbering.{number_in, number_or, IsNumbering};
@@ -12,13 +12,6 @@ use std::alloc::Global;
 
 /// The number of each name: of structures of one name, that of the first. The hash is keyed by all names of the stream.
 pub type Numbers<'a> = IndexMap<&'a [u8], u32, NameHash>;
-
-/// A number of structures, of which there is no memory for more than 2^32 - 1.
-pub fn small_number(number: usize) -> Result<u32, Memory>
-    ensures { IfOk result (λ small. small ≡ number) }
-{
-    u32::try_from(number).map_err(|_| Memory)
-}
 
 /// The number of a name.
 pub fn number_of(numbers: &Numbers<'_>, name: &[u8]) -> Option<u32>
@@ -39,18 +32,18 @@ fn add<'a>(numbers: &mut Numbers<'a>, name: &'a [u8], number: u32) -> Result<(),
     Ok(())
 }
 
-/// The numbers of structures by their names.
+/// The numbers of structures by their names. There are fewer than 2^32.
 pub fn numbers<'a>(
     alloc: Global,
     hash: NameHash,
     outlines: &[NamedOutline<'a>],
 ) -> Result<Numbers<'a>, Memory>
+    requires { length outlines.now < 2 ^ 32 }
     ensures { IfOk result (λ numbers. IsNumbering numbers.entries (map (λ s. s.name) (map outline_of outlines.now))) }
 {
     let mut numbers = IndexMap::with_hasher(alloc, hash);
     for (number, outline) in outlines.iter().enumerate() {
-        let number = small_number(number)?;
-        add(&mut numbers, outline.name, number)?;
+        add(&mut numbers, outline.name, number as u32)?;
     }
     Ok(numbers)
 }

@@ -1,5 +1,5 @@
 // Structures in outline: their names, and the names that they refer to.
-ghost use Rattle.std.specs.Prelude.{◌≡◌, ◌+◌, ◌<◌, ◌^◌, ◌++◌, map, length, IfOk, OnOk};
+ghost use Rattle.std.specs.Prelude.{◌≡◌, ◌+◌, ◌<◌, ◌≤◌, ◌^◌, ◌++◌, map, length, IfOk, OnOk};
 ghost use Rattle.gds_records.specs.Faults.{here_record, kind_of};
 ghost use Rattle.gds_records.specs.Records.{trimmed};
 ghost use Rattle.gds_records.specs.Drawing.{name_of};
@@ -79,10 +79,11 @@ fn outline_at<'a>(
     Ok(NamedOutline { place, name, uses })
 }
 
-/// The structures of records in outline.
+/// The structures of records in outline. They are no more than the bytes.
 pub fn outlines_in(alloc: Global, bytes: &[u8]) -> Result<List<NamedOutline<'_>>, Memory>
     requires { IsSpelled bytes.now }
-    ensures { IfOk result (λ found. map outline_of found ≡ outlines 0 (records_in bytes.now)) }
+    ensures same { IfOk result (λ found. map outline_of found ≡ outlines 0 (records_in bytes.now)) }
+    ensures few { IfOk result (λ found. length found ≤ length bytes.now) }
 {
     let mut found = List::new(alloc);
     let mut at: usize = 0;

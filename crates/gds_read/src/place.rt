@@ -1,11 +1,10 @@
-// The places of a reader of strict or of wide streams: what it has read, as far as this says what may follow.
+// The places of a reader of streams: what it has read, as far as this says what may follow.
 ghost use Rattle.std.specs.Prelude.{◌≡◌, MatchOption};
 ghost use Rattle.gds_records.specs.Language.{Nothing};
 ghost use Rattle.gds_records.specs.Derivative.{after};
 ghost use Rattle.gds_read.specs.Code.Places.{rest_of};
-ghost use Rattle.gds_read.specs.declared.place.Place.TheVariants.{Inside, ReferenceTransform};
+ghost use Rattle.gds_read.specs.declared.place.Place.TheVariants.{Inside};
 
-use crate::profile::Profile;
 use gds_records::codes::{
     ANGLE, AREF, ATTRTABLE, BGNLIB, BGNSTR, BOUNDARY, COLROW, DATATYPE, ELFLAGS, ENDEL, ENDLIB,
     ENDSTR, FONTS, GENERATIONS, HEADER, LAYER, LIBNAME, MAG, PATH, PATHTYPE, PLEX, PRESENTATION,
@@ -72,40 +71,25 @@ pub enum Place {
 }
 
 // The place after a record of this type between elements.
-fn next_element(profile: Profile, kind: u8) -> Option<Place>
-    ensures { MatchOption result (after kind (rest_of profile Inside) ≡ Nothing)
-        (λ next. after kind (rest_of profile Inside) ≡ rest_of profile next) }
+fn next_element(kind: u8) -> Option<Place>
+    ensures { MatchOption result (after kind (rest_of Inside) ≡ Nothing)
+        (λ next. after kind (rest_of Inside) ≡ rest_of next) }
 {
-    let wide = matches!(profile, Profile::Wide);
     match kind {
         BOUNDARY => Some(Place::Boundary),
-        PATH if wide => Some(Place::Path),
+        PATH => Some(Place::Path),
         SREF => Some(Place::Reference),
-        AREF if wide => Some(Place::Array),
+        AREF => Some(Place::Array),
         TEXT => Some(Place::Text),
         ENDSTR => Some(Place::Structures),
         _ => None,
     }
 }
 
-// The place after a record of this type behind a reference's STRANS.
-fn behind_strans(profile: Profile, kind: u8) -> Option<Place>
-    ensures { MatchOption result (after kind (rest_of profile ReferenceTransform) ≡ Nothing)
-        (λ next. after kind (rest_of profile ReferenceTransform) ≡ rest_of profile next) }
-{
-    let wide = matches!(profile, Profile::Wide);
-    match kind {
-        MAG if wide => Some(Place::ReferenceMagnified),
-        ANGLE if wide => Some(Place::ReferenceAngle),
-        XY => Some(Place::Tail),
-        _ => None,
-    }
-}
-
 /// The place after a record of this type, if it may stand here.
-pub fn next(profile: Profile, place: Place, kind: u8) -> Option<Place>
-    ensures { MatchOption result (after kind (rest_of profile place) ≡ Nothing)
-        (λ next. after kind (rest_of profile place) ≡ rest_of profile next) }
+pub fn next(place: Place, kind: u8) -> Option<Place>
+    ensures { MatchOption result (after kind (rest_of place) ≡ Nothing)
+        (λ next. after kind (rest_of place) ≡ rest_of next) }
 {
     match (place, kind) {
         (Place::Start, HEADER) => Some(Place::Header),
@@ -131,7 +115,7 @@ pub fn next(profile: Profile, place: Place, kind: u8) -> Option<Place>
         (Place::Structures, BGNSTR) => Some(Place::Structure),
         (Place::Structures, ENDLIB) => Some(Place::Done),
         (Place::Structure, STRNAME) => Some(Place::Inside),
-        (Place::Inside, _) => next_element(profile, kind),
+        (Place::Inside, _) => next_element(kind),
         (Place::Boundary, ELFLAGS) => Some(Place::BoundaryFlags),
         (Place::Boundary | Place::BoundaryFlags, PLEX) => Some(Place::BoundaryPlex),
         (Place::Boundary | Place::BoundaryFlags | Place::BoundaryPlex, LAYER) => Some(
@@ -148,11 +132,17 @@ pub fn next(profile: Profile, place: Place, kind: u8) -> Option<Place>
             Place::ReferenceName,
         ),
         (Place::ReferenceName, STRANS) => Some(Place::ReferenceTransform),
-        (Place::ReferenceTransform, _) => behind_strans(profile, kind),
-        (Place::ReferenceMagnified, ANGLE) => Some(Place::ReferenceAngle),
-        (Place::ReferenceName | Place::ReferenceMagnified | Place::ReferenceAngle, XY) => Some(
-            Place::Tail,
+        (Place::ReferenceTransform, MAG) => Some(Place::ReferenceMagnified),
+        (Place::ReferenceTransform | Place::ReferenceMagnified, ANGLE) => Some(
+            Place::ReferenceAngle,
         ),
+        (
+            Place::ReferenceName
+            | Place::ReferenceTransform
+            | Place::ReferenceMagnified
+            | Place::ReferenceAngle,
+            XY,
+        ) => Some(Place::Tail),
         (Place::Text, ELFLAGS) => Some(Place::TextFlags),
         (Place::Text | Place::TextFlags, PLEX) => Some(Place::TextPlex),
         (Place::Text | Place::TextFlags | Place::TextPlex, LAYER) => Some(Place::TextLayer),

@@ -1,5 +1,4 @@
 // Why bytes are not read as a stream.
-use crate::conditions::Fault;
 use aq_base::Memory;
 use gds_records::StreamKind;
 
@@ -37,16 +36,5 @@ impl From<Memory> for StreamRefusal {
 
     fn from(_: Memory) -> Self {
         StreamRefusal::Memory
-    }
-}
-
-impl From<Fault> for StreamRefusal {
-    ghost use Rattle.std.specs.Prelude.{◌≡◌};
-    ghost use Rattle.gds_read.specs.declared.refusal.StreamRefusal.{StreamRefusal};
-
-    ghost from_gives = { λ f e. e ≡ StreamRefusal.Bad f.offset f.kind };
-
-    fn from(fault: Fault) -> Self {
-        StreamRefusal::bad(fault.offset, fault.kind)
     }
 }

@@ -1,13 +1,12 @@
 // The records of a stream, one after another, up to ENDLIB or to the first fault.
-ghost use Rattle.std.specs.Prelude.{◌≡◌, ◌≤◌, ◌+◌, ◌∷◌, [], length, take, drop, map, Some, IfOk, IfErr, true};
-ghost use Rattle.gds_records.specs.Profiled.{here_record, kind_of, length_of};
+ghost use Rattle.std.specs.Prelude.{◌≡◌, ◌≤◌, ◌+◌, ◌∷◌, [], length, take, drop, Some, IfOk};
+ghost use Rattle.gds_records.specs.Profiled.{here_record, length_of};
+ghost use Rattle.gds_records.specs.Profiles.{wide};
 ghost use Rattle.gds_records.specs.Records.{record_with};
-ghost use Rattle.gds_records.specs.Values.{opener};
 ghost use Rattle.gds_records.specs.WideValues.{wide_opener, last_colrow};
-ghost use Rattle.gds_records.specs.Steps.{step_fault, value_here, all_steps};
+ghost use Rattle.gds_records.specs.Steps.{value_here, all_steps};
 ghost use Rattle.gds_read.specs.declared.scan.Step.TheVariants.{On, Fault};
 ghost use Rattle.gds_read.specs.Code.Fronts.{IsWhole};
-ghost use Rattle.gds_read.specs.Code.Profiles.{profile_of};
 ghost use Rattle.gds_read.specs.Code.Places.{rest_of};
 ghost use Rattle.gds_read.specs.Code.Steps.{kept, IsStep, told_as, offset_of};
 ghost use Rattle.gds_read.specs.Code.Texts.{texts};
@@ -15,8 +14,8 @@ ghost use Rattle.gds_read.specs.Code.Texts.{texts};
 use crate::front::{fault_at_front, record_length};
 use crate::names::{Names, add, is_taken};
 use crate::place::{Place, next};
-use crate::profile::Profile;
-use crate::values::{trimmed, value_fault};
+use crate::values::trimmed;
+use crate::wide_values::wide_fault;
 use aq_base::Memory;
 use gds_records::StreamKind;
 use gds_records::codes::{AREF, BOUNDARY, COLROW, ENDLIB, PATH, SREF, STRNAME, TEXT};
@@ -47,33 +46,13 @@ pub fn content(bytes: &[u8]) -> &[u8]
     content
 }
 
-// BOUNDARY, SREF or TEXT, whichever came last.
-fn strict_opener(element: u8, kind: u8) -> u8
-    ensures { result ≡ opener element (record_with kind 0 [] ∷ []) }
-{
-    match kind {
-        BOUNDARY | SREF | TEXT => kind,
-        _ => element,
-    }
-}
-
-// BOUNDARY, PATH, SREF, AREF or TEXT, whichever came last.
-fn wide_opener(element: u8, kind: u8) -> u8
+// The record that opened the element, behind one of this type: BOUNDARY, PATH, SREF, AREF or TEXT, whichever came last.
+fn opener_after(element: u8, kind: u8) -> u8
     ensures { result ≡ wide_opener element (record_with kind 0 [] ∷ []) }
 {
     match kind {
         BOUNDARY | PATH | SREF | AREF | TEXT => kind,
         _ => element,
-    }
-}
-
-// The record that opened the element, behind one of this type.
-fn opener_after(profile: Profile, element: u8, kind: u8) -> u8
-    ensures { result ≡ (profile_of profile).opener element (record_with kind 0 [] ∷ []) }
-{
-    match profile {
-        Profile::Strict => strict_opener(element, kind),
-        Profile::Wide => wide_opener(element, kind),
     }
 }
 
@@ -93,40 +72,38 @@ fn colrow_after<'a>(colrow: &'a [u8], bytes: &'a [u8]) -> &'a [u8]
 // What is wrong with the value of the record at the front.
 fn value_here(
     alloc: Global,
-    profile: Profile,
     element: u8,
     colrow: &[u8],
     names: &Names<'_>,
     bytes: &[u8],
 ) -> Result<Option<StreamKind>, Memory>
-    requires { IsWhole (profile_of profile) bytes.now }
-    ensures { IfOk result (λ fault. fault ≡ value_here (profile_of profile) (kept element colrow.now (texts names.now.keys)) bytes.now) }
+    requires { IsWhole bytes.now }
+    ensures { IfOk result (λ fault. fault ≡ value_here wide (kept element colrow.now (texts names.now.keys)) bytes.now) }
 {
     let data = content(bytes);
     let taken = bytes[2] == STRNAME && is_taken(names, trimmed(data));
-    value_fault(alloc, profile, element, colrow, taken, bytes[2], data)
+    wide_fault(alloc, element, colrow, taken, bytes[2], data)
 }
 
 // The place after the record at the front, or what is wrong with it.
 fn next_step(
     alloc: Global,
-    profile: Profile,
     place: Place,
     element: u8,
     colrow: &[u8],
     names: &Names<'_>,
     bytes: &[u8],
 ) -> Result<Step, Memory>
-    ensures { IfOk result (λ step. IsStep (profile_of profile) (rest_of profile place)
-        (kept element colrow.now (texts names.now.keys)) bytes.now (rest_of profile) step) }
+    ensures { IfOk result (λ step. IsStep (rest_of place)
+        (kept element colrow.now (texts names.now.keys)) bytes.now rest_of step) }
 {
-    if let Some(kind) = fault_at_front(profile, bytes) {
+    if let Some(kind) = fault_at_front(bytes) {
         return Ok(Step::Fault(kind));
     }
-    let Some(after) = next(profile, place, bytes[2]) else {
+    let Some(after) = next(place, bytes[2]) else {
         return Ok(Step::Fault(StreamKind::Order));
     };
-    match value_here(alloc, profile, element, colrow, names, bytes)? {
+    match value_here(alloc, element, colrow, names, bytes)? {
         Some(kind) => Ok(Step::Fault(kind)),
         None => Ok(Step::On(after)),
     }
@@ -134,14 +111,9 @@ fn next_step(
 
 /// Reads the records of a stream up to ENDLIB, or up to the first fault at one. Behind an end, the names are those of
 /// the structures.
-pub fn scan<'a>(
-    alloc: Global,
-    profile: Profile,
-    bytes: &'a [u8],
-    names: &mut Names<'a>,
-) -> Result<Outcome, Memory>
+pub fn scan<'a>(alloc: Global, bytes: &'a [u8], names: &mut Names<'a>) -> Result<Outcome, Memory>
     requires { texts names.old.keys ≡ [] }
-    ensures told { IfOk result (λ outcome. all_steps (profile_of profile) bytes.now ≡ told_as bytes.now outcome) }
+    ensures told { IfOk result (λ outcome. all_steps wide bytes.now ≡ told_as bytes.now outcome) }
     ensures within { IfOk result (λ outcome. offset_of outcome ≤ length bytes.now) }
 {
     let mut at: usize = 0;
@@ -150,7 +122,7 @@ pub fn scan<'a>(
     let mut colrow: &[u8] = &[];
     'records: loop {
         let (_, rest) = bytes.split_at(at);
-        let next = match next_step(alloc, profile, place, element, colrow, names, rest)? {
+        let next = match next_step(alloc, place, element, colrow, names, rest)? {
             Step::On(next) => next,
             Step::Fault(kind) => return Ok(Outcome::Stopped { offset: at, kind }),
         };
@@ -162,7 +134,7 @@ pub fn scan<'a>(
         if kind == STRNAME {
             add(names, trimmed(content(rest)))?;
         }
-        element = opener_after(profile, element, kind);
+        element = opener_after(element, kind);
         colrow = colrow_after(colrow, rest);
         place = next;
     }

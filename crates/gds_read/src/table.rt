@@ -1,28 +1,18 @@
-// The tables of records.
-ghost use Rattle.std.specs.Prelude.{◌≡◌, ◌<◌, ◌^◌, true};
-ghost use Rattle.gds_records.specs.Table.{known_in, has_form_in, has_length_in};
-ghost use Rattle.gds_read.specs.Code.Profiles.{profile_of};
-
-use crate::profile::Profile;
+// The table of records.
+ghost use Rattle.std.specs.Prelude.{◌≡◌, true};
+ghost use Rattle.gds_records.specs.Table.{wide_table, known_in, has_form_in, has_length_in};
 
 /// Whether the record type is one that is read.
-pub fn is_known(profile: Profile, kind: u8) -> bool
-    ensures { result ≡ known_in (profile_of profile).records kind }
+pub fn is_known(kind: u8) -> bool
+    ensures { result ≡ known_in wide_table kind }
 {
-    match profile {
-        Profile::Strict => {
-            matches!(kind, 0..=8 | 10 | 12..=18 | 22 | 23 | 25..=28 | 31..=35 | 38 | 43 | 44 | 47)
-        }
-        Profile::Wide => {
-            matches!(kind, 0..=19 | 22 | 23 | 25..=28 | 31..=35 | 38 | 43 | 44 | 47)
-        }
-    }
+    matches!(kind, 0..=19 | 22 | 23 | 25..=28 | 31..=35 | 38 | 43 | 44 | 47)
 }
 
 /// Whether records of this known type have this data type.
-pub fn is_form(profile: Profile, kind: u8, form: u8) -> bool
-    requires { known_in (profile_of profile).records kind ≡ true }
-    ensures { result ≡ has_form_in (profile_of profile).records kind form }
+pub fn is_form(kind: u8, form: u8) -> bool
+    requires { known_in wide_table kind ≡ true }
+    ensures { result ≡ has_form_in wide_table kind form }
 {
     match kind {
         0 | 1 | 5 | 13 | 14 | 19 | 22 | 33 | 34 | 43 => form == 2,
@@ -35,9 +25,9 @@ pub fn is_form(profile: Profile, kind: u8, form: u8) -> bool
 }
 
 /// Whether records of this known type may have this length, the head counted.
-pub fn is_length(profile: Profile, kind: u8, length: usize) -> bool
-    requires { known_in (profile_of profile).records kind ≡ true }
-    ensures { result ≡ has_length_in (profile_of profile).records kind length }
+pub fn is_length(kind: u8, length: usize) -> bool
+    requires { known_in wide_table kind ≡ true }
+    ensures { result ≡ has_length_in wide_table kind length }
 {
     match kind {
         2 | 6 | 18 | 25 | 31 | 32 | 35 | 44 => length % 2 == 0,

@@ -1,16 +1,9 @@
 // The values that records must have.
-ghost use Rattle.std.specs.Prelude.{◌≡◌, ℕ, ◌+◌, ◌*◌, ◌≤◌, ◌&&◌, length, drop, true, not, ◌==◌, IfOk};
+ghost use Rattle.std.specs.Prelude.{◌≡◌, ℕ, ◌+◌, ◌*◌, ◌≤◌, ◌&&◌, length, drop, not};
 ghost use Rattle.gds_records.specs.Records.{record_with, trimmed};
-ghost use Rattle.gds_records.specs.Table.{has_length, has_length_in};
-ghost use Rattle.gds_records.specs.Values.{at, one_x, one_y, is_rectangle, holds_zero, is_text, is_name, is_nanometre, unsigned_value, has_value, value_fault_in};
-ghost use Rattle.gds_read.specs.Code.Profiles.{profile_of};
+ghost use Rattle.gds_records.specs.Values.{at, one_x, one_y, is_rectangle, holds_zero, is_text, is_name, is_nanometre, unsigned_value, has_value};
 
-use crate::profile::Profile;
-use crate::wide_values::wide_fault;
-use aq_base::Memory;
-use gds_records::StreamKind;
-use gds_records::codes::{BOUNDARY, LIBNAME, SNAME, SREF, STRANS, STRING, STRNAME, UNITS, XY};
-use std::alloc::Global;
+use gds_records::codes::{LIBNAME, SNAME, STRING, STRNAME, UNITS, XY};
 
 /// A text without its trailing zero bytes.
 pub fn trimmed(content: &[u8]) -> &[u8]
@@ -139,60 +132,6 @@ pub fn flag_bits(flags: &[u8]) -> u16
     ensures { result ≡ unsigned_value 0 flags.now }
 {
     u16::from_be_bytes([flags[0], flags[1]])
-}
-
-fn is_zero(flags: &[u8]) -> bool
-    requires { length flags.now ≡ 2 }
-    ensures { result ≡ (unsigned_value 0 flags.now == 0) }
-{
-    flag_bits(flags) == 0
-}
-
-/// What is wrong with the value of a record of this type and data, in an element that this record opened and behind this
-/// COLROW. A ring's squares are looked for in memory.
-pub fn value_fault(
-    alloc: Global,
-    profile: Profile,
-    element: u8,
-    colrow: &[u8],
-    taken: bool,
-    kind: u8,
-    content: &[u8],
-) -> Result<Option<StreamKind>, Memory>
-    requires { has_length_in (profile_of profile).records kind (4 + length content.now) ≡ true }
-    ensures { IfOk result (λ fault. (form : ℕ)
-        → fault ≡ (profile_of profile).value_at element colrow.now taken (record_with kind form content.now)) }
-{
-    match profile {
-        Profile::Strict => Ok(strict_fault(element, taken, kind, content)),
-        Profile::Wide => wide_fault(alloc, element, colrow, taken, kind, content),
-    }
-}
-
-// What is wrong with the value of a record in an element that this record opened.
-fn strict_fault(element: u8, taken: bool, kind: u8, content: &[u8]) -> Option<StreamKind>
-    requires { has_length kind (4 + length content.now) ≡ true }
-    ensures { (form : ℕ) → result ≡ value_fault_in element taken (record_with kind form content.now) }
-{
-    if kind == STRANS && element == SREF {
-        return if is_zero(content) {
-            None
-        } else {
-            Some(StreamKind::Unsupported)
-        };
-    }
-    if kind == XY && element == BOUNDARY {
-        return if is_rectangle(content) {
-            None
-        } else {
-            Some(StreamKind::NotRectangle)
-        };
-    }
-    if is_value(taken, kind, content) {
-        None
-    } else {
-        Some(StreamKind::Value)
-    }
 }
 
 /// Whether the value of a record is as it must be in any element; a structure's name may not be taken.

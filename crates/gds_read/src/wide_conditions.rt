@@ -1,6 +1,5 @@
 // The conditions on the whole of a wide stream.
-ghost use Rattle.std.specs.Prelude.{◌≡◌, map, None, IfOk, IfErr};
-ghost use Rattle.gds_records.specs.Profiles.{wide};
+ghost use Rattle.std.specs.Prelude.{◌≡◌, ◌<◌, length, map, None, IfOk, IfErr};
 ghost use Rattle.gds_records.specs.Whole.{all_uses, outlines, top_of};
 ghost use Rattle.gds_records.specs.WideWhole.{wide_whole_fault};
 ghost use Rattle.gds_read.specs.Code.Bodies.{IsWholeRefusal};
@@ -35,7 +34,7 @@ fn loop_or_long(
     loops_are_long();
     let graph = graph(alloc, structures, numbers)?;
     let long = long_chains(alloc, graph.as_slice())?;
-    let Some(place) = first_long(structures, numbers, long.as_slice())? else {
+    let Some(place) = first_long(structures, numbers, long.as_slice()) else {
         return Ok(None);
     };
     match first_loop(alloc, structures, numbers, graph.as_slice())? {
@@ -58,7 +57,8 @@ pub fn wide_top_or_fault(
     requires used { AreUsed (texts used.now.keys) (all_uses (map outline_of structures.now)) }
     ensures none { IfOk result (λ top. wide_whole_fault (records_in bytes.now) ≡ None) }
     ensures top { IfOk result (λ top. top ≡ top_of (records_in bytes.now)) }
-    ensures err { IfErr result (λ refusal. IsWholeRefusal wide (records_in bytes.now) refusal) }
+    ensures within { IfOk result (λ top. top < length structures.now) }
+    ensures err { IfErr result (λ refusal. IsWholeRefusal (records_in bytes.now) refusal) }
 {
     if let Some(place) = first_unknown(structures, numbers) {
         return Err(StreamRefusal::bad(place, StreamKind::UnknownName));

@@ -6,12 +6,11 @@ ghost use Rattle.gds_read.specs.Code.Decoding.{IsSpelled, records_in};
 ghost use Rattle.gds_read.specs.Code.Numbering.{IsNumbering};
 ghost use Rattle.gds_read.specs.Code.Outlining.{names_in};
 
-use crate::cursor::{behind, field, kind_at, length_at};
+use crate::cursor::{behind, behind_first, field, kind_at, length_at};
 use crate::element::copied;
 use crate::item::item;
 use crate::numbers::Numbers;
 use crate::outline::NamedOutline;
-use crate::structures::behind_first;
 use crate::values::trimmed;
 use aq_base::{List, Memory};
 use gds_records::codes::{BGNSTR, ENDEL, ENDSTR, STRNAME};

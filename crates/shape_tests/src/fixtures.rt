@@ -1,11 +1,14 @@
 // The first chip, a buffer in each of two rows: its stream, its shapes, and chips with some of both changed.
-ghost use Rattle.std.specs.Prelude.{◌+◌, ◌<◌, length};
+ghost use Rattle.std.specs.Prelude.{◌+◌, ◌<◌, length, IfOk};
+ghost use Rattle.gds_read.specs.WideReading.{IsWideReadAs};
 
 use aq_base::{List, Memory, Text};
+use gds_read::{StreamKind, StreamRefusal, read_wide};
 use geom::{Flat, Label, Rect, Shape};
 use layout_rules::layers::{
     BAR, EVEN_LINE, FRAME, INPUT_PIN, LABELS, M1, M2, ODD_LINE, OUTPUT_PIN, START, VIA,
 };
+use poly_cut::{WideLayout, flatten_wide};
 use shape_extract::{ExtractRefusal, Rule, extract};
 use std::alloc::{AllocError, Global};
 use std::process::Abort;
@@ -102,6 +105,35 @@ pub fn edited(alloc: Global, bytes: &[u8], edit: Edit<'_>) -> Result<Vec<u8>, Al
         new.extend_from_slice(edit.put)?;
     }
     Ok(new)
+}
+
+/// The layout of a stream, which is far shorter here than the reader asks for.
+pub fn read(alloc: Global, bytes: &[u8]) -> Result<WideLayout, StreamRefusal>
+    ensures { IfOk result (λ layout. IsWideReadAs bytes.now layout) }
+{
+    if bytes.len() > 268_435_456 {
+        return Err(StreamRefusal::Memory);
+    }
+    read_wide(alloc, bytes)
+}
+
+/// The flat form of a stream.
+pub fn flat(alloc: Global, bytes: &[u8]) -> Result<Flat, StreamRefusal> {
+    let wide = read(alloc, bytes)?;
+    Ok(flatten_wide(alloc, &wide)?)
+}
+
+/// Whether a stream is refused for this.
+pub fn is_refused(alloc: Global, bytes: &[u8], refusal: StreamRefusal) -> bool {
+    match read(alloc, bytes) {
+        Err(found) => found == refusal,
+        Ok(_) => false,
+    }
+}
+
+/// Whether a stream is refused for its first fault, which is this one.
+pub fn is_bad(alloc: Global, bytes: &[u8], offset: u64, kind: StreamKind) -> bool {
+    is_refused(alloc, bytes, StreamRefusal::Bad { offset, kind })
 }
 
 /// A rectangle by its lower left corner, its width and its height.

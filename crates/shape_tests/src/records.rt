@@ -1,5 +1,6 @@
 // Tests of the writer on the first chip, a buffer in each of two rows.
 ghost use Rattle.std.specs.Prelude.{◌≡◌, IfOk, IsSome};
+ghost use Rattle.aq_base.specs.MemoryStore.{store_of};
 ghost use Rattle.geom.specs.FirstChip.{first_layout, first_buffer, first_top};
 
 use crate::fixtures::FIRST;
@@ -196,7 +197,7 @@ fn first(alloc: Global) -> Result<Layout, Memory>
 }
 
 fn written(alloc: Global, files: &mut MemFiles) -> Result<(), WriteRefusal>
-    requires { IsSome (MemFiles.opened files.old) }
+    requires { IsSome (store_of files.old).opened }
 {
     geom::first_chip_is_writable();
     let layout = first(alloc)?;

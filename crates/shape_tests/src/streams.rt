@@ -1,35 +1,47 @@
 // Tests of the reader on the first chip, a buffer in each of two rows, and on what becomes of its bytes.
-use crate::fixtures::{Edit, FIRST, edited};
-use gds_read::{StreamKind, StreamRefusal, flatten, read_stream};
+use crate::fixtures::{Edit, FIRST, edited, flat, is_bad, is_refused, read};
+use gds_read::{StreamKind, StreamRefusal};
 use std::alloc::{AllocError, Global};
 use std::test::Fail;
 
-fn is_refused(alloc: Global, bytes: &[u8], offset: u64, kind: StreamKind) -> bool {
-    match read_stream(alloc, bytes) {
-        Err(refusal) => refusal == StreamRefusal::Bad { offset, kind },
-        Ok(_) => false,
-    }
-}
-
-// Whether the bytes are read as the first chip is.
+// Whether the bytes have the flat form of the first chip.
 fn is_first(alloc: Global, bytes: &[u8]) -> bool {
-    match (read_stream(alloc, bytes), read_stream(alloc, &FIRST)) {
-        (Ok(layout), Ok(first)) => layout == first,
+    match (flat(alloc, bytes), flat(alloc, &FIRST)) {
+        (Ok(chip), Ok(first)) => chip == first,
         _ => false,
     }
 }
 
 #[test]
 fn first_chip_is_read(rt: HostRuntime) -> Result<(), Fail> {
-    let layout = read_stream(rt.alloc(), &FIRST)?;
+    let layout = read(rt.alloc(), &FIRST)?;
     assert_eq!(rt; layout.structures.len(), 2);
     assert_eq!(rt; layout.top, 1);
-    let flat = flatten(rt.alloc(), &layout)?;
+    let flat = flat(rt.alloc(), &FIRST)?;
     assert_eq!(rt; flat.shapes.len(), 15);
     assert_eq!(rt; flat.labels.len(), 2);
     let pin = flat.shapes.get(12);
     assert_eq!(rt; (pin.layer, pin.rect.x0, pin.rect.y1), (22, 4500, 24_000));
     assert_eq!(rt; flat.labels.get(1).text.as_slice(), b"O0".as_slice());
+    Ok(())
+}
+
+// The first reference is to the buffer, whose first shape is its frame, at (0, 0).
+#[test]
+fn a_mirrored_reference_is_read(rt: HostRuntime) -> Result<(), Fail> {
+    let edit = Edit {
+        at: 342,
+        taken: 0,
+        put: &[0x00, 0x06, 0x1A, 0x01, 0x80, 0x00],
+    };
+    let bytes = edited(rt.alloc(), &FIRST, edit)?;
+    let flat = flat(rt.alloc(), bytes.as_slice())?;
+    assert_eq!(rt; flat.shapes.len(), 15);
+    let frame = flat.shapes.get(0).rect;
+    assert_eq!(rt;
+        (frame.x0, frame.y0, frame.x1, frame.y1),
+        (0, -10_000, 8_000, 0)
+    );
     Ok(())
 }
 
@@ -40,7 +52,7 @@ fn a_cut_is_truncated_at_its_record(rt: HostRuntime) {
         for length in window[0]..window[1] {
             let (cut, _) = FIRST.split_at(length);
             assert!(rt;
-                is_refused(rt.alloc(), cut, window[0] as u64, StreamKind::Truncated),
+                is_bad(rt.alloc(), cut, window[0] as u64, StreamKind::Truncated),
                 "{length}"
             );
         }
@@ -50,7 +62,7 @@ fn a_cut_is_truncated_at_its_record(rt: HostRuntime) {
 #[test]
 fn faults_are_found_at_their_places(rt: HostRuntime) -> Result<(), Fail> {
     let none: &[u8] = &[];
-    let rows: [(usize, usize, &[u8], u64, StreamKind); 13] = [
+    let rows: [(usize, usize, &[u8], u64, StreamKind); 14] = [
         (0, 1046, none, 0, StreamKind::Truncated),
         (0, 1046, &[0x00, 0x03, 0x00, 0x02], 0, StreamKind::Length),
         (0, 1046, &[0x00, 0x04, 0x00, 0x02], 0, StreamKind::Length),
@@ -65,14 +77,16 @@ fn faults_are_found_at_their_places(rt: HostRuntime) -> Result<(), Fail> {
         (42, 20, none, 42, StreamKind::Order),
         (54, 1, &[0x3A], 42, StreamKind::Value),
         (62, 984, &[0x00, 0x04, 0x04, 0x00], 62, StreamKind::NoTop),
-        (100, 1, &[0x09], 98, StreamKind::Unsupported),
+        // A PATH has a WIDTH before its XY; a NODE is no record of these streams.
+        (100, 1, &[0x09], 114, StreamKind::Order),
+        (100, 1, &[0x15], 98, StreamKind::Unsupported),
         (133, 1, &[0x01], 114, StreamKind::NotRectangle),
         (326, 3, b"BUF", 322, StreamKind::Value),
         (340, 1, b"G", 334, StreamKind::UnknownName),
         (
             342,
             0,
-            &[0x00, 0x06, 0x1A, 0x01, 0x80, 0x00],
+            &[0x00, 0x06, 0x1A, 0x01, 0x80, 0x04],
             342,
             StreamKind::Unsupported,
         ),
@@ -80,7 +94,7 @@ fn faults_are_found_at_their_places(rt: HostRuntime) -> Result<(), Fail> {
     for (at, taken, put, offset, kind) in rows {
         let bytes = edited(rt.alloc(), &FIRST, Edit { at, taken, put })?;
         assert!(rt;
-            is_refused(rt.alloc(), bytes.as_slice(), offset, kind),
+            is_bad(rt.alloc(), bytes.as_slice(), offset, kind),
             "{kind:?} at {offset}"
         );
     }
@@ -113,7 +127,7 @@ fn faults_of_the_whole_are_found(rt: HostRuntime) -> Result<(), Fail> {
         };
         let bytes = edited(rt.alloc(), once.as_slice(), edit)?;
         assert!(rt;
-            is_refused(rt.alloc(), bytes.as_slice(), offset, kind),
+            is_bad(rt.alloc(), bytes.as_slice(), offset, kind),
             "{kind:?} at {offset}"
         );
     }
@@ -123,7 +137,7 @@ fn faults_of_the_whole_are_found(rt: HostRuntime) -> Result<(), Fail> {
         put: &[0x01],
     };
     let bytes = edited(rt.alloc(), &FIRST, edit)?;
-    assert!(rt; is_refused(rt.alloc(), bytes.as_slice(), 1046, StreamKind::Value));
+    assert!(rt; is_bad(rt.alloc(), bytes.as_slice(), 1046, StreamKind::Value));
     Ok(())
 }
 
@@ -195,14 +209,10 @@ fn crowded(alloc: Global, references: usize) -> Result<Vec<u8>, AllocError> {
 #[test]
 fn too_many_shapes_are_counted(rt: HostRuntime) -> Result<(), Fail> {
     let enough = crowded(rt.alloc(), 2_000)?;
-    let layout = read_stream(rt.alloc(), enough.as_slice())?;
+    let layout = read(rt.alloc(), enough.as_slice())?;
     assert_eq!(rt; layout.structures.len(), 2);
     let more = crowded(rt.alloc(), 2_001)?;
-    match read_stream(rt.alloc(), more.as_slice()) {
-        Ok(_) => assert!(rt; false, "read"),
-        Err(refusal) => {
-            assert_eq!(rt; refusal, StreamRefusal::TooManyShapes { count: 8_004_000 });
-        }
-    }
+    let many = StreamRefusal::TooManyShapes { count: 8_004_000 };
+    assert!(rt; is_refused(rt.alloc(), more.as_slice(), many));
     Ok(())
 }

@@ -1,8 +1,7 @@
 // Tests of wide streams: their figures, placements and texts, chains and loops of references, and their faults.
-use crate::fixtures::{Edit, FIRST, edited};
-use gds_read::{StreamKind, StreamRefusal, read_wide};
-use geom::{Flat, Rect};
-use poly_cut::flatten_wide;
+use crate::fixtures::{Edit, FIRST, edited, flat, is_bad, is_refused, read};
+use gds_read::{StreamKind, StreamRefusal};
+use geom::Rect;
 use std::alloc::{AllocError, Global};
 use std::test::Fail;
 
@@ -38,23 +37,6 @@ fn stream(alloc: Global, element: &[u8]) -> Result<Vec<u8>, AllocError> {
     bytes.extend_from_slice(element)?;
     bytes.extend_from_slice(&FIRST[1038..1046])?;
     Ok(bytes)
-}
-
-fn is_refused(alloc: Global, bytes: &[u8], refusal: StreamRefusal) -> bool {
-    match read_wide(alloc, bytes) {
-        Err(found) => found == refusal,
-        Ok(_) => false,
-    }
-}
-
-fn is_bad(alloc: Global, bytes: &[u8], offset: u64, kind: StreamKind) -> bool {
-    is_refused(alloc, bytes, StreamRefusal::Bad { offset, kind })
-}
-
-// The flat form of a wide stream.
-fn flat(alloc: Global, bytes: &[u8]) -> Result<Flat, StreamRefusal> {
-    let wide = read_wide(alloc, bytes)?;
-    Ok(flatten_wide(alloc, &wide)?)
 }
 
 // The edges of a rectangle: left, lower, right, upper.
@@ -260,14 +242,6 @@ fn too_many_placements_are_counted(rt: HostRuntime) -> Result<(), Fail> {
     Ok(())
 }
 
-#[test]
-fn the_first_chip_is_read(rt: HostRuntime) -> Result<(), Fail> {
-    let flat = flat(rt.alloc(), &FIRST)?;
-    assert_eq!(rt; flat.shapes.len(), 15);
-    assert_eq!(rt; flat.labels.len(), 2);
-    Ok(())
-}
-
 // ---- chains and loops
 
 // Adds a structure of this name, of one letter, with a reference to each of these.
@@ -313,7 +287,7 @@ fn deep_references_are_read(rt: HostRuntime) -> Result<(), Fail> {
     ];
     for (last, more) in rows {
         let bytes = linked(rt.alloc(), last, more)?;
-        let wide = read_wide(rt.alloc(), bytes.as_slice())?;
+        let wide = read(rt.alloc(), bytes.as_slice())?;
         assert!(rt; wide.structures.len() > 1, "{last}");
     }
     Ok(())
@@ -322,7 +296,7 @@ fn deep_references_are_read(rt: HostRuntime) -> Result<(), Fail> {
 #[test]
 fn faults_of_the_whole_are_found(rt: HostRuntime) -> Result<(), Fail> {
     // A chain of so many structures, more structures, and the fault. A structure has 38 bytes, and each reference 26.
-    let rows: [(u8, &[(u8, &[u8])], u64, StreamKind); 10] = [
+    let rows: [(u8, &[(u8, &[u8])], u64, StreamKind); 9] = [
         (66, &[], 62, StreamKind::Unsupported),
         (
             66,
@@ -357,7 +331,6 @@ fn faults_of_the_whole_are_found(rt: HostRuntime) -> Result<(), Fail> {
             StreamKind::SeveralTops,
         ),
         (0, &[(b'A', b""), (b'A', b"")], 128, StreamKind::Value),
-        (0, &[], 62, StreamKind::NoTop),
     ];
     for (last, more, offset, kind) in rows {
         let bytes = linked(rt.alloc(), last, more)?;
@@ -373,13 +346,12 @@ fn faults_of_the_whole_are_found(rt: HostRuntime) -> Result<(), Fail> {
 
 #[test]
 fn wide_faults_are_found_at_their_places(rt: HostRuntime) -> Result<(), Fail> {
-    let rows: [(&[u8], usize, usize, &[u8], u64, StreamKind); 14] = [
+    let rows: [(&[u8], usize, usize, &[u8], u64, StreamKind); 13] = [
         (&PATH, 121, 1, &[0xE9], 114, StreamKind::Value),
         (&PATH, 120, 2, &[0x00, 0x00], 114, StreamKind::Value),
         (&BEND, 119, 1, &[0x01], 114, StreamKind::Unsupported),
         (&BEND, 143, 1, &[0x96], 128, StreamKind::Value),
         (&PATH, 129, 1, &[0x89], 122, StreamKind::Value),
-        (&PATH, 114, 8, &[], 114, StreamKind::Order),
         (&RING, 129, 1, &[0x01], 114, StreamKind::NotRectangle),
         (&RING, 141, 1, &[0x00], 114, StreamKind::NotRectangle),
         (&ARRAY, 114, 1, &[0x81], 110, StreamKind::Unsupported),

@@ -1,5 +1,5 @@
 -- The numbers of structures by their names: of each name the first that has it.
-use Rattle.std.specs.Prelude.{◌≡◌, ℕ, List, [], ◌∷◌, Bool, true, false, Option, Some, None}
+use Rattle.std.specs.Prelude.{◌≡◌, ℕ, ◌<◌, ◌^◌, length, List, [], ◌∷◌, Bool, true, false, Option, Some, None}
 use Rattle.std.specs.Str.{bytes_eq}
 use Rattle.std.specs.Map.{lookup}
 use Rattle.std.proofs.Common.{Bor}
@@ -15,9 +15,11 @@ number_in entries t = lookup (λ k. bytes_eq t k.now) entries
 abbrev pub first_place : List ℕ → List (List ℕ) → Option ℕ
 first_place t names = elim (is_listed t names) [ true ↦ Some (place_of t names) | false ↦ None ]
 
--- a map gives each of these names its first place among them, and no other name a number
-abbrev pub IsNumbering : List (Bor (List ℕ) × ℕ) → List (List ℕ) → Type 0
-IsNumbering entries names = (t : List ℕ) → number_in entries t ≡ first_place t names
+-- a map gives each of these names, of which there are fewer than 2^32, its first place among them, and no other name a
+-- number
+pub record IsNumbering (entries : List (Bor (List ℕ) × ℕ)) (names : List (List ℕ)) : Type 0 where
+  pub few : length names < 2 ^ 32
+  pub each : (t : List ℕ) → number_in entries t ≡ first_place t names
 
 -- a number that is there, or this one where the name is this one
 abbrev pub number_or : Option ℕ → Bool → ℕ → Option ℕ

@@ -2,7 +2,7 @@
 use Rattle.std.specs.Prelude.{◌≡◌, ℕ, List, drop, Some, None}
 use Rattle.gds_records.specs.Language.{Language}
 use Rattle.gds_records.specs.Derivative.{after}
-use Rattle.gds_records.specs.Profiles.{Profile}
+use Rattle.gds_records.specs.Profiles.{wide}
 use Rattle.gds_records.specs.Profiled.{kind_of}
 use Rattle.gds_records.specs.Steps.{Kept, step_fault, Told, Stopped, Ended}
 use Rattle.gds_read.specs.declared.scan.Outcome.{Outcome}
@@ -13,15 +13,15 @@ use Rattle.gds_read.specs.declared.place.Place.{Place}
 use Rattle.gds_read.specs.Code.Fronts.{IsWhole}
 
 -- the record at the front is whole and without fault, and this is what may follow it
-pub record GoesOn (p : Profile) (l : Language) (kept : Kept) (b : List ℕ) (next : Language) : Type 0 where
-  pub sound : step_fault p l kept b ≡ None
+pub record GoesOn (l : Language) (kept : Kept) (b : List ℕ) (next : Language) : Type 0 where
+  pub sound : step_fault wide l kept b ≡ None
   pub follows : after (kind_of b) l ≡ next
-  pub whole : IsWhole p b
+  pub whole : IsWhole b
 
 -- what may follow at the place after the record at the front, or its fault; places stand for what may follow at them
-abbrev pub IsStep : Profile → Language → Kept → List ℕ → (Place → Language) → Step → Type 0
-IsStep p l kept b rest_of (On next) = GoesOn p l kept b (rest_of next)
-IsStep p l kept b rest_of (Fault kind) = step_fault p l kept b ≡ Some kind
+abbrev pub IsStep : Language → Kept → List ℕ → (Place → Language) → Step → Type 0
+IsStep l kept b rest_of (On next) = GoesOn l kept b (rest_of next)
+IsStep l kept b rest_of (Fault kind) = step_fault wide l kept b ≡ Some kind
 
 -- what is kept, as a reader has it
 abbrev pub kept : ℕ → List ℕ → List (List ℕ) → Kept

@@ -1,4 +1,4 @@
-use Rattle.std.proofs.Common.{◌≡◌, ◌+◌, ◌<◌, ◌^◌, ◌++◌, map, length}
+use Rattle.std.proofs.Common.{◌≡◌, ◌+◌, ◌<◌, ◌≤◌, ◌^◌, ◌++◌, map, length}
 use Rattle.gds_records.specs.Whole.{outlines}
 use Rattle.gds_read.specs.Code.Decoding.{IsSpelled, records_in}
 use Rattle.gds_read.specs.Code.Outlining.{outline_of}
@@ -8,6 +8,7 @@ abbrev pub invariant-records : goal.invariant-records
 invariant-records l = record {
   whole : IsSpelled l.rest;
   fits : l.at + length l.rest < 2 ^ 64;
+  few : length l.found + length l.rest ≤ length l.bytes;
   same : map outline_of l.found ++ outlines l.at (records_in l.rest) ≡ outlines 0 (records_in l.bytes);
 }
 

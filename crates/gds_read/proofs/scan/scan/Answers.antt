@@ -3,11 +3,12 @@ use Rattle.gds_records.specs.Records.{trimmed}
 use Rattle.gds_records.specs.Profiled.{here_record}
 use Rattle.gds_records.specs.Steps.{steps, all_steps}
 use Rattle.gds_read.specs.declared.scan.Step.{Step}
-use Rattle.gds_read.specs.Code.Profiles.{profile_of}
+use Rattle.gds_records.specs.Profiles.{wide}
+use Rattle.gds_read.specs.declared.place.Place.TheVariants as places
 use Rattle.gds_read.specs.Code.Places.{rest_of}
 use Rattle.gds_read.specs.Code.Steps.{kept, IsStep}
 use Rattle.gds_read.specs.Code.Texts.{texts}
-use Rattle.gds_read.proofs.Turns.{begins, Stands, stopped_here, ended_here, goes_on, fits_here, opened_by, kept_is, named, unnamed}
+use Rattle.gds_read.proofs.Turns.{Stands, stopped_here, ended_here, goes_on, fits_here, kept_is, named, unnamed}
 use Rattle.gds_read.proofs.scan.scan.Goals as goal
 use Rattle.gds_read.proofs.scan.scan.Goals.{then-kind-eq-STRNAME+in_ok-add, else-kind-eq-STRNAME}
 
@@ -19,58 +20,55 @@ records-init c =
       within = omega arith;
       turns = n;
       enough = omega arith;
-      same = λ i. steps (profile_of c.args.profile) n (begins c.args.profile i) (kept 0 [] (sym c.requires i)) 0 c.args.bytes.now;
+      same = λ i. steps wide n (rest_of places.Start) (kept 0 [] (sym c.requires i)) 0 c.args.bytes.now;
     }
 
 pub returns-in-Fault-clause-told : goal.returns-in-Fault-clause-told
 returns-in-Fault-clause-told c =
     let i = c.records.invariant in
-    let p = profile_of c.args.profile in
-    let l = rest_of c.args.profile c.records.place in
+    let l = rest_of c.records.place in
     let k = kept c.records.element c.records.colrow.now (texts c.records.names.keys) in
     let rest = c.split_at.result.1.now in
-    stopped_here p _ i.turns l k c.records.at c.args.bytes.now rest
+    stopped_here _ i.turns l k c.records.at c.args.bytes.now rest
     (record { here = c.split_at.ensures.back; enough = i.enough; same = i.same }) c.in-Fault.kind
-    (subst (λ (s : Step). IsStep p l k rest (rest_of c.args.profile) s) c.in-Fault.is c.in_ok-next.ensures)
+    (subst (λ (s : Step). IsStep l k rest rest_of s) c.in-Fault.is c.in_ok-next.ensures)
 
 pub returns-then-kind-eq-ENDLIB-clause-told : goal.returns-then-kind-eq-ENDLIB-clause-told
 returns-then-kind-eq-ENDLIB-clause-told c =
     let i = c.records.invariant in
-    let p = profile_of c.args.profile in
-    let l = rest_of c.args.profile c.records.place in
+    let l = rest_of c.records.place in
     let k = kept c.records.element c.records.colrow.now (texts c.records.names.keys) in
     let rest = c.split_at.result.1.now in
-    ended_here p _ i.turns l k c.records.at c.args.bytes.now rest
+    ended_here _ i.turns l k c.records.at c.args.bytes.now rest
     (record { here = c.split_at.ensures.back; enough = i.enough; same = i.same })
-    (rest_of c.args.profile c.in-On.next) c.record_length-at.result
-    (subst (λ (s : Step). IsStep p l k rest (rest_of c.args.profile) s) c.in-On.is c.in_ok-next.ensures)
+    (rest_of c.in-On.next) c.record_length-at.result
+    (subst (λ (s : Step). IsStep l k rest rest_of s) c.in-On.is c.in_ok-next.ensures)
     c.if-kind-eq-ENDLIB.true c.record_length-at.ensures
 
 pub records-preserved : goal.records-preserved
 records-preserved c =
     let i = c.records.invariant in
-    let p = profile_of c.args.profile in
-    let l = rest_of c.args.profile c.records.place in
-    let next = rest_of c.args.profile c.in-On.next in
+    let l = rest_of c.records.place in
+    let next = rest_of c.in-On.next in
     let k = kept c.records.element c.records.colrow.now (texts c.records.names.keys) in
     let rest = c.split_at.result.1.now in
-    let s : Stands p _ i.turns l k c.records.at c.args.bytes.now rest
+    let s : Stands _ i.turns l k c.records.at c.args.bytes.now rest
     = record { here = c.split_at.ensures.back; enough = i.enough; same = i.same } in
-    let g = subst (λ (s : Step). IsStep p l k rest (rest_of c.args.profile) s) c.in-On.is c.in_ok-next.ensures in
-    let f = fits_here p _ i.turns l k c.records.at c.args.bytes.now rest s next c.record_length-at.result g i.within
+    let g = subst (λ (s : Step). IsStep l k rest rest_of s) c.in-On.is c.in_ok-next.ensures in
+    let f = fits_here _ i.turns l k c.records.at c.args.bytes.now rest s next c.record_length-at.result g i.within
     c.record_length-at.ensures in
     let new = kept c.opener_after-element.result c.colrow_after-colrow.result.now (texts c.if-kind-eq-STRNAME.names.keys) in
     record {
       within = f.0;
       turns = i.turns - 1;
       enough = omega (arith, f, i.enough);
-      same = goes_on p _ i.turns l k c.records.at c.args.bytes.now rest s next c.record_length-at.result new g
+      same = goes_on _ i.turns l k c.records.at c.args.bytes.now rest s next c.record_length-at.result new g
           c.if-kind-eq-ENDLIB.false c.record_length-at.ensures
-          (kept_is p k new (here_record rest) (c.opener_after-element.ensures ∙ opened_by c.args.profile c.records.element (here_record rest))
+          (kept_is k new (here_record rest) c.opener_after-element.ensures
           c.colrow_after-colrow.ensures
           (elim c.if-kind-eq-STRNAME.branch [
             | then-kind-eq-STRNAME+in_ok-add w ↦ rw w.names-is
-                (named c.args.profile l k _ rest w.trimmed.result.now g.sound w.if-kind-eq-STRNAME.true
+                (named l k _ rest w.trimmed.result.now g.sound w.if-kind-eq-STRNAME.true
                 (w.trimmed.ensures ∙ ap (λ (t : List ℕ). trimmed t) w.content.ensures) w.in_ok-add.ensures)
             | else-kind-eq-STRNAME w ↦ rw w.names-is (unnamed (texts c.records.names.keys) rest w.if-kind-eq-STRNAME.false)
           ]));

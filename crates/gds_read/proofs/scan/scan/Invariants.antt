@@ -1,6 +1,6 @@
 use Rattle.std.proofs.Common.{◌≡◌, ℕ, ◌-◌, ◌<◌, ◌≤◌, length, drop}
 use Rattle.gds_records.specs.Steps.{steps, all_steps}
-use Rattle.gds_read.specs.Code.Profiles.{profile_of}
+use Rattle.gds_records.specs.Profiles.{wide}
 use Rattle.gds_read.specs.Code.Places.{rest_of}
 use Rattle.gds_read.specs.Code.Steps.{kept}
 use Rattle.gds_read.specs.Code.Texts.{texts}
@@ -11,8 +11,8 @@ invariant-records l = record {
   within : l.at ≤ length l.bytes;
   turns : ℕ;
   enough : length l.bytes - l.at < turns;
-  same : all_steps (profile_of l.profile) l.bytes
-      ≡ steps (profile_of l.profile) turns (rest_of l.profile l.place) (kept l.element l.colrow (texts l.names.keys)) l.at
+  same : all_steps wide l.bytes
+      ≡ steps wide turns (rest_of l.place) (kept l.element l.colrow (texts l.names.keys)) l.at
       (drop l.at l.bytes);
 }
 

@@ -3,14 +3,13 @@ use Rattle.std.proofs.lemmas.Result.{IfOk-weaker}
 use Rattle.gds_records.specs.Profiled.{kind_of, form_of}
 use Rattle.gds_records.specs.Steps.{is_listed}
 use Rattle.gds_records.specs.Records.{trimmed}
-use Rattle.gds_read.specs.Code.Profiles.{profile_of}
 use Rattle.gds_read.specs.Code.Texts.{texts}
 use Rattle.gds_read.proofs.Turns.{data_long, value_is}
 use Rattle.gds_read.proofs.scan.value_here.Goals as goal
 use Rattle.gds_read.proofs.scan.value_here.Goals.{then-bytes-eq-STRNAME, else-bytes-eq-STRNAME}
 
-pub value_fault-requires : goal.value_fault-requires
-value_fault-requires c = data_long (profile_of c.args.profile) c.args.bytes.now _ c.requires c.content-data.ensures
+pub wide_fault-requires : goal.wide_fault-requires
+wide_fault-requires c = data_long c.args.bytes.now _ c.requires c.content-data.ensures
 
 pub returns : goal.returns
 returns c =
@@ -22,6 +21,6 @@ returns c =
       | then-bytes-eq-STRNAME w ↦ (λ e. w.taken-is ∙ w.is_taken-taken.ensures ∙ ap (λ (t : List ℕ). is_listed t names) w.trimmed.ensures)
       | else-bytes-eq-STRNAME w ↦ (λ e. absurd (w.if-bytes-eq-STRNAME.false e))
     ] in
-    IfOk-weaker c.value_fault.result _ _
-    (λ fault h. h (form_of b) ∙ value_is c.args.profile c.args.element c.args.colrow.now names _ b held c.content-data.ensures named)
-    c.value_fault.ensures
+    IfOk-weaker c.wide_fault.result _ _
+    (λ fault h. h (form_of b) ∙ value_is c.args.element c.args.colrow.now names _ b held c.content-data.ensures named)
+    c.wide_fault.ensures

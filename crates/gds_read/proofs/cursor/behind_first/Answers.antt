@@ -1,7 +1,7 @@
 use Rattle.std.proofs.Common.{length, drop, List, sym, ap, ◌∙◌, rules, ◌≡◌}
 use Rattle.gds_records.specs.Records.{Record}
 use Rattle.gds_read.proofs.Cursors.{none_left}
-use Rattle.gds_read.proofs.structures.behind_first.Goals as goal
+use Rattle.gds_read.proofs.cursor.behind_first.Goals as goal
 
 pub returns-then-is_empty-clause-records : goal.returns-then-is_empty-clause-records
 returns-then-is_empty-clause-records c =

@@ -1,8 +1,0 @@
-use Rattle.gds_read.specs.Code.Decoding.{records_in}
-use Rattle.gds_read.proofs.Ends.{layout_made}
-use Rattle.gds_read.proofs.read.layout_of.Goals as goal
-
-pub returns-clause-layout : goal.returns-clause-layout
-returns-clause-layout c =
-    layout_made (records_in c.args.bytes.now) c.in_ok-outlines.outlines c.as_slice-4.result.now c.in_ok-structures.structures c.in_ok-top-2.top c.in_ok-top.top c.in_ok-outlines.ensures c.as_slice-4.ensures
-    c.in_ok-structures.ensures c.in_ok-top.ensures.top c.in_ok-top-2.ensures
