@@ -1,5 +1,6 @@
 -- The inputs of a net, made one after the other.
-use Rattle.std.proofs.Common.{◌≡◌, ℕ, zero, suc, ◌+◌, ◌-◌, ◌<◌, ◌≤◌, List, [], ◌∷◌, ◌++◌, replicate, Option, Some, None, refl, sym, ap, ◌∙◌, arith, append_assoc, append-nil, add-one}
+use Rattle.std.proofs.Common.{◌≡◌, ℕ, zero, suc, ◌+◌, ◌-◌, ◌<◌, ◌≤◌, List, [], ◌∷◌, ◌++◌, replicate, Option, Some, None, refl, sym, ap, ◌∙◌, arith, append_assoc, append-nil, add-one, length, length-append}
+use Rattle.circuit.specs.declared.gate.Gate.{Gate}
 use Rattle.circuit.specs.declared.gate.Gate.TheVariants.{Input}
 use Rattle.maj_mapping.specs.Plan.{input_gates, input_names}
 use Rattle.maj_mapping.specs.Code.MakerView.{MakerView, with_gates}
@@ -51,3 +52,18 @@ one_none n k before after b is = is ∙ ap (λ xs. xs ++ None ∷ []) b ∙ appe
     last : (k : ℕ) → replicate {A = Option ℕ} k None ++ None ∷ [] ≡ None ∷ replicate {A = Option ℕ} k None
     last zero = refl
     last (suc k) = ap (λ (xs : List (Option ℕ)). None ∷ xs) (last k)
+
+-- how many gates there are before an input
+pub begun_size : (inputs input : ℕ) (maker : MakerView) → Begins inputs input maker → length maker.gates + (inputs - input) ≡ inputs
+begun_size inputs input maker b =
+    let all = ap (λ (gs : List Gate). length gs) b.gates in
+    let parts = length-append maker.gates (input_gates input (inputs - input)) in
+    omega (arith, all, parts, input_size input (inputs - input), input_size 0 inputs)
+  where
+    input_size : (i k : ℕ) → length (input_gates i k) ≡ k
+    input_size i zero = refl
+    input_size i (suc k) = ap suc (input_size (suc i) k)
+
+-- and after one more
+pub one_longer : (before after : MakerView) (g : Gate) → after ≡ with_gates before (before.gates ++ g ∷ []) → length after.gates ≡ length before.gates + 1
+one_longer before after g is = ap (λ (m : MakerView). length m.gates) is ∙ length-append before.gates (g ∷ [])

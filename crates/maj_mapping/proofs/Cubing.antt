@@ -18,6 +18,7 @@ use Rattle.maj_mapping.specs.Counts.{AllBelow}
 use Rattle.maj_mapping.proofs.Below.{below_more}
 use Rattle.maj_mapping.proofs.Right.{inv_is_right}
 use Rattle.maj_mapping.proofs.CoverRight.{cube_is_right, any_is_right}
+use Rattle.maj_mapping.proofs.Growing.{literals_grow, cubes_grow, any_within}
 
 -- gates that were made before the others
 abbrev pub after : List ℕ → MadeAll → MadeAll
@@ -198,3 +199,42 @@ pub by_cubes_off : (maker two : MakerView) (xs : List ℕ) (d : Def) (any : ℕ)
 by_cubes_off maker two xs d any on m =
     let whole = off_is d.on (fold Or maker.inputs (cubes_made maker.inputs maker.gates xs d.cubes).gates (cubes_made maker.inputs maker.gates xs d.cubes).ats) _ on in
     ((rw (m.is, m.at) refl) ∙ sym whole, rw m.is refl)
+
+-- each part has at most the gates of the whole
+pub literal_room : (start : MakerView) (bs xs : List ℕ) (maker : MakerView) (made : List ℕ) (k x most : ℕ) → k < length bs → k < length xs → x ≡ get_or xs k x → Literals start bs xs maker made k
+    → length (literals start.inputs start.gates bs xs).gates < most → length (literal maker.inputs maker.gates (get_or bs k 0) x).gates < most
+literal_room start bs xs maker made k x most lb lx at m few =
+    let n = start.inputs in
+    let b = get_or bs k 0 in
+    let l = literal n maker.gates b x in
+    let bs' = drop (k + 1) bs in
+    let xs' = drop (k + 1) xs in
+    let same_made : literal maker.inputs maker.gates b x ≡ l = ap (λ i. literal i maker.gates b x) m.same in
+    let size = ap (λ (t : MadeAll). length t.gates) same_made in
+    let rest_b : drop k bs ≡ b ∷ bs' = drop-cons bs k 0 lb ∙ ap (λ j. b ∷ drop j bs) (sym (add-one k)) in
+    let rest_x : drop k xs ≡ x ∷ xs' = drop-cons xs k x lx ∙ ap (λ t. t ∷ drop (suc k) xs) (sym at) ∙ ap (λ j. x ∷ drop j xs) (sym (add-one k)) in
+    let whole : length (literals n maker.gates (drop k bs) (drop k xs)).gates ≡ length (literals n start.gates bs xs).gates = ap (λ (t : MadeAll). length t.gates) m.left in
+    let first_b : length (literals n maker.gates (b ∷ bs') (x ∷ xs')).gates ≡ length (literals n maker.gates (drop k bs) (drop k xs)).gates =
+    rw (rest_b, rest_x) refl in
+    let one : length (literals n l.gates bs' xs').gates ≡ length (literals n maker.gates (b ∷ bs') (x ∷ xs')).gates =
+    ap (λ (t : MadeAll). length t.gates) (literal_first n maker.gates b x bs' xs') in
+    omega (arith, size, whole, first_b, one, literals_grow n l.gates bs' xs', few)
+
+pub cube_room : (start : MakerView) (xs : List ℕ) (cs : List Cube) (maker : MakerView) (made plane : List ℕ) (k most : ℕ) (c : Cube) → k < length cs → c ≡ get_or cs k c → plane ≡ c.plane → Cubes start xs cs maker made k
+    → length (cubes_made start.inputs start.gates xs cs).gates < most → length (cube_made maker.inputs maker.gates xs plane).gates < most
+cube_room start xs cs maker made read k most c lt at r m few =
+    let n = start.inputs in
+    let l = cube_made n maker.gates xs c.plane in
+    let cs' = drop (k + 1) cs in
+    let same_made : cube_made maker.inputs maker.gates xs read ≡ l = ap (cube_made maker.inputs maker.gates xs) r ∙ ap (λ i. cube_made i maker.gates xs c.plane) m.same in
+    let size = ap (λ (t : Made). length t.gates) same_made in
+    let rest : drop k cs ≡ c ∷ cs' = drop-cons cs k c lt ∙ ap (λ (t : Cube). t ∷ drop (suc k) cs) (sym at) ∙ ap (λ j. c ∷ drop j cs) (sym (add-one k)) in
+    let whole : length (cubes_made n maker.gates xs (drop k cs)).gates ≡ length (cubes_made n start.gates xs cs).gates = ap (λ (t : MadeAll). length t.gates) m.left in
+    let one : length (cubes_made n l.gates xs cs').gates ≡ length (cubes_made n maker.gates xs (drop k cs)).gates =
+    ap (λ cc. length (cubes_made n maker.gates xs cc).gates) (sym rest) in
+    omega (arith, size, whole, one, cubes_grow n l.gates xs cs', few)
+
+pub any_room : (maker one : MakerView) (xs ats read : List ℕ) (d : Def) (cs : List Cube) (most : ℕ) → cs ≡ d.cubes
+    → one ≡ with_gates maker (cubes_made maker.inputs maker.gates xs cs).gates → ats ≡ (cubes_made maker.inputs maker.gates xs cs).ats → read ≡ ats
+    → length (by_cubes maker.inputs maker.gates xs d).gates < most → length (fold Or one.inputs one.gates read).gates < most
+any_room maker one xs ats read d cs most c e a r few = rw (r, a, e, c) (let within = any_within maker.inputs maker.gates xs d in omega (arith, within, few))

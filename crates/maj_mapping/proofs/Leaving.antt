@@ -12,7 +12,7 @@ use Rattle.maj_mapping.specs.Counts.{AllBelow}
 use Rattle.maj_mapping.specs.Operations.{Made}
 use Rattle.maj_mapping.specs.Covers.{define}
 use Rattle.maj_mapping.specs.Code.MakerView.{MakerView, with_gates}
-use Rattle.maj_mapping.specs.Plan.{gate_at, gate_or, leave, leave_by, signals}
+use Rattle.maj_mapping.specs.Plan.{Mapping, gate_at, gate_or, leave, leave_by, signals}
 use Rattle.maj_mapping.proofs.Ordered.{IsOrdered}
 use Rattle.maj_mapping.proofs.Right.{past_constants}
 use Rattle.maj_mapping.proofs.DefineRight.{define_is_right}
@@ -74,3 +74,15 @@ leaves net ok maker after gate_of next read signal gate d above lt h found r is 
             ]);
       };
     }
+
+-- a definition has at most the gates that are there when its signal is left
+pub define_room : (net : NetView) (maker : MakerView) (gate_of : List (Option ℕ)) (read : List ℕ) (signal most : ℕ) (d : Def) → net.inputs ≤ signal → IsStanding net maker gate_of
+    → slice_get net.defs (signal - net.inputs) ≡ Some d → read ≡ map (gate_or gate_of) d.inputs
+    → length (leave net (mapping maker gate_of) signal).gates < most → length (define maker.inputs maker.gates read d).gates < most
+unfolding leave_by
+define_room net maker gate_of read signal most d above h found r few =
+    let left = ap (leave_by net (mapping maker gate_of) signal) (def_of_is net signal above ∙ found) in
+    let sizes : length (leave net (mapping maker gate_of) signal).gates ≡ length (define net.inputs maker.gates (map (gate_or gate_of) d.inputs) d).gates = ap (λ (t : Mapping). length t.gates) left in
+    let same_made : define maker.inputs maker.gates read d ≡ define net.inputs maker.gates (map (gate_or gate_of) d.inputs) d = rw (r, h.same) refl in
+    let size = ap (λ (t : Made). length t.gates) same_made in
+    omega (arith, sizes, size, few)

@@ -1,4 +1,5 @@
 mod Grown
+mod Growing
 mod Below
 mod ValueLaws
 mod MakerLaws

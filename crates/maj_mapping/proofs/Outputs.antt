@@ -12,6 +12,8 @@ use Rattle.maj_mapping.specs.Plan.{Mapping, visit, start, first_gates, first_map
 use Rattle.maj_mapping.proofs.Ordered.{IsOrdered}
 use Rattle.maj_mapping.proofs.SoundWalks.{start_right}
 use Rattle.maj_mapping.proofs.MappedNets.{is_plain}
+use Rattle.maj_mapping.proofs.FewGates.{few_gates}
+use Rattle.maj_mapping.proofs.Growing.{visit_grows, walks_grow}
 use Rattle.maj_mapping.specs.Code.Walks.{deep, walk, mapping, IsStanding}
 
 pub record Mapped (net : NetView) (outputs : List ℕ) (maker : MakerView) (gate_of : List (Option ℕ)) (k : ℕ) : Type 0 where
@@ -69,3 +71,15 @@ all_outputs net outputs maker gate_of given k n shown signals gates m past e g o
 
 pub made_plain : (net : NetView) (made : PlainView) → IsNetlist net → made ≡ map_net net → length made.gates < 2 ^ 32 → IsPlainNet made
 made_plain net made ok is few = subst IsPlainNet (sym is) (is_plain net ok (subst (λ (o : PlainView). length o.gates < 2 ^ 32) is few))
+
+-- each walk has at most the gates of the whole net, which 32 bits number
+pub output_room : (net : NetView) (outputs : List ℕ) (maker : MakerView) (gate_of : List (Option ℕ)) (k : ℕ) → IsNetlist net → k < length outputs → Mapped net outputs maker gate_of k
+    → length (walk net (mapping maker gate_of) (get_or outputs k 0)).gates < 2 ^ 32
+unfolding map_net
+output_room net outputs maker gate_of k ok lt m =
+    let next = walk net (mapping maker gate_of) (get_or outputs k 0) in
+    let rest : drop k outputs ≡ get_or outputs k 0 ∷ drop (k + 1) outputs = drop-cons outputs k 0 lt ∙ ap (λ j. get_or outputs k 0 ∷ drop j outputs) (sym (add-one k)) in
+    let all : fold (visit net (deep net)) next (drop (k + 1) outputs) ≡ mapped net = ap (fold (visit net (deep net)) (mapping maker gate_of)) (sym rest) ∙ m.left in
+    let sizes = ap (λ (t : Mapping). length t.gates) all in
+    let few : length (mapped net).gates < 2 ^ 32 = few_gates net ok in
+    omega (arith, sizes, walks_grow (visit net (deep net)) (visit_grows net (deep net)) next (drop (k + 1) outputs), few)

@@ -11,6 +11,7 @@ use Rattle.maj_mapping.specs.Code.MakerView.{MakerView, with_gates}
 use Rattle.maj_mapping.specs.Counts.{AllBelow}
 use Rattle.maj_mapping.proofs.Below.{below_more, below_append}
 use Rattle.maj_mapping.proofs.RightAll.{names_inside, step_is_right}
+use Rattle.maj_mapping.proofs.Growing.{steps_grow}
 
 -- from the maker `first` on, with k steps done
 pub record Running (first : MakerView) (a b c : ℕ) (steps whole : List Step) (maker : MakerView) (done : List ℕ) (k : ℕ) : Type 0 where
@@ -70,3 +71,21 @@ no_steps first a b c steps whole done good s d = record {
   below = subst (AllBelow (length first.gates)) (sym d) tt;
   left = ap (λ ds. steps_made first.inputs first.gates (names first.inputs a b c) ds steps) d ∙ ap (λ ss. steps_made first.inputs first.gates (names first.inputs a b c) [] ss) s;
 }
+
+-- a step has at most the gates of the whole
+pub step_room : (first : MakerView) (a b c : ℕ) (steps whole : List Step) (maker : MakerView) (done read : List ℕ) (k most : ℕ) (d : Step)
+    → Running first a b c steps whole maker done k → k < length steps → read ≡ done
+    → length (steps_made first.inputs first.gates (names first.inputs a b c) [] whole).gates < most
+    → length (step_made maker.inputs maker.gates (names maker.inputs a b c) read (get_or steps k d)).gates < most
+step_room first a b c steps whole maker done read k most d r lt e few =
+    let n = first.inputs in
+    let named = names n a b c in
+    let step = get_or steps k d in
+    let made = step_made n maker.gates named done step in
+    let same_made : step_made maker.inputs maker.gates (names maker.inputs a b c) read step ≡ made = rw (r.same, e) refl in
+    let size = ap (λ (t : Made). length t.gates) same_made in
+    let rest : drop k steps ≡ step ∷ drop (k + 1) steps = drop-cons steps k d lt ∙ ap (λ j. step ∷ drop j steps) (sym (add-one k)) in
+    let all : steps_made n made.gates named (done ++ made.at ∷ []) (drop (k + 1) steps) ≡ steps_made n first.gates named [] whole =
+    ap (steps_made n maker.gates named done) (sym rest) ∙ r.left in
+    let sizes = ap (λ (t : MadeAll). length t.gates) all in
+    omega (arith, size, sizes, steps_grow n made.gates named (done ++ made.at ∷ []) (drop (k + 1) steps), few)

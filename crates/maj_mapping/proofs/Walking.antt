@@ -13,6 +13,7 @@ use Rattle.maj_mapping.specs.Code.MakerView.{MakerView}
 use Rattle.maj_mapping.specs.Plan.{Mapping, gate_at, def_of, inputs_by, leave, visit, signals}
 use Rattle.maj_mapping.proofs.Ordered.{IsOrdered, RanksBelow}
 use Rattle.maj_mapping.proofs.SoundWalks.{def_of_is}
+use Rattle.maj_mapping.proofs.Growing.{leave_grows, visit_grows, walks_grow}
 use Rattle.maj_mapping.specs.Code.Walks.{deep, walk, mapping, IsStanding}
 
 abbrev pub inputs_of : NetView → ℕ → List ℕ
@@ -56,6 +57,14 @@ turns_push net m (x ∷ vs) v =
     let a = turns_push net m vs v in
     let b = ap (λ (t : Mapping). turns_all net t (drop x.at (inputs_of net x.signal))) (finish_push net m vs v) in
     omega arith
+
+-- what is left to do takes no gate away
+finish_grows : (net : NetView) (m : Mapping) (vs : List Visit) → length m.gates ≤ length (finish net m vs).gates
+finish_grows net m [] = omega arith
+finish_grows net m (v ∷ vs) =
+    let t = finish net m vs in
+    let ss = drop v.at (inputs_of net v.signal) in
+    omega (arith, finish_grows net m vs, walks_grow (visit net (deep net)) (visit_grows net (deep net)) t ss, leave_grows net (walk_all net t ss) v.signal)
 
 -- the ranks of a signal's inputs are below its own
 ranks_of : (net : NetView) (ok : IsOrdered net) (s : ℕ) → RanksBelow ok.rank (ok.rank s) (inputs_of net s)
@@ -224,6 +233,15 @@ module _ (net : NetView) (ok : IsOrdered net) (goal : Mapping) (maker : MakerVie
         walking = record { left = ap (λ (k : Mapping). finish net k vs) made ∙ turn.same ∙ ap (finish net m) (sym is) ∙ h.left; standing = standing; visits = t.0 };
         fewer = (let a = turn.fewer in let b = ap (λ (k : Mapping). turns_left net k vs) made in let c = ap (turns_left net m) is in omega arith);
       }
+
+  pub leave_room : (d : Def) (most : ℕ) → slice_get net.defs (v.signal - net.inputs) ≡ Some d → length d.inputs ≤ v.at → length goal.gates < most → length (leave net m v.signal).gates < most
+  leave_room d most e le few =
+      let t = top_visit in
+      let same = inputs_are net v.signal d t.1 e in
+      let turn = turn_leave net m vs v (let z = ap (λ (xs : List ℕ). length xs) same in omega arith) in
+      let all : finish net (leave net m v.signal) vs ≡ goal = turn.same ∙ ap (finish net m) (sym is) ∙ h.left in
+      let sizes = ap (λ (k : Mapping). length k.gates) all in
+      omega (arith, sizes, finish_grows net (leave net m v.signal) vs, few)
 
   pub next_known : (d : Def) (x : ℕ) (o : Option ℕ) (b : Bool) → slice_get net.defs (v.signal - net.inputs) ≡ Some d → slice_get d.inputs v.at ≡ Some x → slice_get gate_of x ≡ Some o → is_some o ≡ not b → b ≡ false
       → Next net goal maker gate_of stack maker gate_of (vs ++ further v ∷ [])

@@ -1,5 +1,5 @@
 // The gates of a definition by its cubes.
-ghost use Rattle.std.specs.Prelude.{◌≡◌, ◌<◌, ◌++◌, length, IfOk, OnOk};
+ghost use Rattle.std.specs.Prelude.{◌≡◌, ◌<◌, ◌^◌, ◌++◌, length, IfOk, OnOk};
 ghost use Rattle.circuit.specs.PlainNets.{AreGates};
 ghost use Rattle.maj_mapping.specs.Code.MakerView.{with_gates};
 ghost use Rattle.maj_mapping.specs.Code.Literals.{literal};
@@ -19,7 +19,8 @@ fn push_literal(
     byte: u8,
     input: u32,
 ) -> Result<(), Memory>
-    requires { input < length maker.old.gates }
+    requires inside { input < length maker.old.gates }
+    requires room { length (literal maker.old.inputs maker.old.gates byte input).gates < 2 ^ 32 }
     ensures gates { OnOk result (maker.new
         ≡ with_gates maker.old (literal maker.old.inputs maker.old.gates byte input).gates) }
     ensures more { OnOk result (literals.new.items
@@ -46,6 +47,7 @@ fn literals(
 ) -> Result<Vec<u32>, Memory>
     requires good { AreGates maker.old.inputs maker.old.gates }
     requires below { AllBelow (length maker.old.gates) inputs.now }
+    requires room { length (literals maker.old.inputs maker.old.gates plane.now inputs.now).gates < 2 ^ 32 }
     ensures gates { OnOk result (maker.new
         ≡ with_gates maker.old (literals maker.old.inputs maker.old.gates plane.now inputs.now).gates) }
     ensures all { IfOk result (λ r. r.items ≡ (literals maker.old.inputs maker.old.gates plane.now inputs.now).ats) }
@@ -64,6 +66,7 @@ fn literals(
 fn cube(alloc: Global, maker: &mut Maker, plane: &[u8], inputs: &[u32]) -> Result<u32, Memory>
     requires good { AreGates maker.old.inputs maker.old.gates }
     requires below { AllBelow (length maker.old.gates) inputs.now }
+    requires room { length (cube_made maker.old.inputs maker.old.gates inputs.now plane.now).gates < 2 ^ 32 }
     ensures gates { OnOk result (maker.new
         ≡ with_gates maker.old (cube_made maker.old.inputs maker.old.gates inputs.now plane.now).gates) }
     ensures at { IfOk result (λ r. r ≡ (cube_made maker.old.inputs maker.old.gates inputs.now plane.now).at) }
@@ -82,6 +85,7 @@ fn cubes(
     requires good { AreGates maker.old.inputs maker.old.gates }
     requires below { AllBelow (length maker.old.gates) inputs.now }
     requires planes { HasPlanes cubes.now }
+    requires room { length (cubes_made maker.old.inputs maker.old.gates inputs.now cubes.now).gates < 2 ^ 32 }
     ensures gates { OnOk result (maker.new
         ≡ with_gates maker.old (cubes_made maker.old.inputs maker.old.gates inputs.now cubes.now).gates) }
     ensures all { IfOk result (λ r. r.items ≡ (cubes_made maker.old.inputs maker.old.gates inputs.now cubes.now).ats) }
@@ -99,6 +103,7 @@ pub fn by_cubes(alloc: Global, maker: &mut Maker, def: &Def, inputs: &[u32]) -> 
     requires good { AreGates maker.old.inputs maker.old.gates }
     requires below { AllBelow (length maker.old.gates) inputs.now }
     requires planes { HasPlanes def.now.cubes }
+    requires room { length (by_cubes maker.old.inputs maker.old.gates inputs.now def.now).gates < 2 ^ 32 }
     ensures gates { OnOk result (maker.new
         ≡ with_gates maker.old (by_cubes maker.old.inputs maker.old.gates inputs.now def.now).gates) }
     ensures at { IfOk result (λ r. r ≡ (by_cubes maker.old.inputs maker.old.gates inputs.now def.now).at) }

@@ -1,5 +1,5 @@
 // The gates of one definition.
-ghost use Rattle.std.specs.Prelude.{◌≡◌, ◌+◌, IfOk, OnOk, length, cond};
+ghost use Rattle.std.specs.Prelude.{◌≡◌, ◌<◌, ◌+◌, ◌^◌, IfOk, OnOk, length, cond};
 ghost use Rattle.circuit.specs.PlainNets.{AreGates};
 ghost use Rattle.maj_mapping.specs.Code.MakerView.{with_gates};
 ghost use Rattle.maj_mapping.specs.Covers.{define};
@@ -26,6 +26,7 @@ pub fn define(
     requires good { AreGates maker.old.inputs maker.old.gates }
     requires below { AllBelow (length maker.old.gates) inputs.now }
     requires planes { HasPlanes def.now.cubes }
+    requires room { length (define maker.old.inputs maker.old.gates inputs.now def.now).gates < 2 ^ 32 }
     ensures gates { OnOk result (maker.new
         ≡ with_gates maker.old (define maker.old.inputs maker.old.gates inputs.now def.now).gates) }
     ensures at { IfOk result (λ r. r ≡ (define maker.old.inputs maker.old.gates inputs.now def.now).at) }

@@ -50,7 +50,7 @@ impl Model for Maker {
 impl Maker {
     /// The inputs and the two constants.
     pub fn new(alloc: Global, inputs: u32) -> Result<Self, Memory>
-        requires { inputs + 1 < 2 ^ 32 }
+        requires { inputs + 2 < 2 ^ 32 }
         ensures { IfOk result (λ m. m ≡ record { inputs = inputs; gates = first_gates inputs }) }
     {
         let mut maker = Maker {
@@ -100,25 +100,21 @@ impl Maker {
         }
     }
 
-    /// The number of the next gate. A number past 32 bits is want of memory.
-    fn next(&self) -> Result<u32, Memory>
-        ensures { IfOk result (λ at. record { is : at ≡ length self.now.gates; room : at + 1 < 2 ^ 32 }) }
+    /// The number of the next gate.
+    fn next(&self) -> u32
+        ensures { result ≡ length self.now.gates }
     {
-        let at = self.gates.len();
-        if at < u32::MAX as usize {
-            Ok(at as u32)
-        } else {
-            Err(Memory)
-        }
+        self.gates.len() as u32
     }
 
     /// Adds a gate that is no inverter.
     fn make(&mut self, gate: Gate) -> Result<u32, Memory>
-        requires { NoInverter gate }
+        requires plain { NoInverter gate }
+        requires room { length self.old.gates + 1 < 2 ^ 32 }
         ensures gates { OnOk result (self.new ≡ with_gates self.old (self.old.gates ++ gate ∷ [])) }
         ensures at { IfOk result (λ r. r ≡ length self.old.gates) }
     {
-        let at = self.next()?;
+        let at = self.next();
         self.inverters.push(None)?;
         self.gates.push(gate)?;
         Ok(at)
@@ -128,10 +124,11 @@ impl Maker {
     fn invert(&mut self, x: u32) -> Result<u32, Memory>
         requires inside { x < length self.old.gates }
         requires free { inverter_from x 0 self.old.gates ≡ None }
+        requires room { length self.old.gates + 1 < 2 ^ 32 }
         ensures gates { OnOk result (self.new ≡ with_gates self.old (self.old.gates ++ gates.Inv x ∷ [])) }
         ensures at { IfOk result (λ r. r ≡ length self.old.gates) }
     {
-        let at = self.next()?;
+        let at = self.next();
         self.inverters.push(None)?;
         self.gates.push(Gate::Inv(x))?;
         self.inverters.set(x as usize, Some(at));
@@ -140,7 +137,8 @@ impl Maker {
 
     /// The inverse of a gate.
     pub fn inv(&mut self, x: u32) -> Result<u32, Memory>
-        requires { x < length self.old.gates }
+        requires inside { x < length self.old.gates }
+        requires room { length (inv self.old.inputs self.old.gates x).gates < 2 ^ 32 }
         ensures gates { OnOk result (self.new ≡ with_gates self.old (inv self.old.inputs self.old.gates x).gates) }
         ensures at { IfOk result (λ r. r ≡ (inv self.old.inputs self.old.gates x).at) }
     {
@@ -159,6 +157,7 @@ impl Maker {
 
     /// The gate that is true where both gates are: one that is there, or a new majority with Zero.
     pub fn and(&mut self, x: u32, y: u32) -> Result<u32, Memory>
+        requires { length (and self.old.inputs self.old.gates x y).gates < 2 ^ 32 }
         ensures gates { OnOk result (self.new ≡ with_gates self.old (and self.old.inputs self.old.gates x y).gates) }
         ensures at { IfOk result (λ r. r ≡ (and self.old.inputs self.old.gates x y).at) }
     {
@@ -179,6 +178,7 @@ impl Maker {
 
     /// The gate that is true where one of the gates is: one that is there, or a new majority with One.
     pub fn or(&mut self, x: u32, y: u32) -> Result<u32, Memory>
+        requires { length (or self.old.inputs self.old.gates x y).gates < 2 ^ 32 }
         ensures gates { OnOk result (self.new ≡ with_gates self.old (or self.old.inputs self.old.gates x y).gates) }
         ensures at { IfOk result (λ r. r ≡ (or self.old.inputs self.old.gates x y).at) }
     {
@@ -200,6 +200,7 @@ impl Maker {
 
     /// The value that at least two of three gates have.
     pub fn maj(&mut self, x: u32, y: u32, z: u32) -> Result<u32, Memory>
+        requires { length (maj self.old.inputs self.old.gates x y z).gates < 2 ^ 32 }
         ensures gates { OnOk result (self.new ≡ with_gates self.old (maj self.old.inputs self.old.gates x y z).gates) }
         ensures at { IfOk result (λ r. r ≡ (maj self.old.inputs self.old.gates x y z).at) }
     {
@@ -223,6 +224,7 @@ impl Maker {
     }
 
     fn join(&mut self, which: Join, x: u32, y: u32) -> Result<u32, Memory>
+        requires { length (join which self.old.inputs self.old.gates x y).gates < 2 ^ 32 }
         ensures gates { OnOk result (self.new
             ≡ with_gates self.old (join which self.old.inputs self.old.gates x y).gates) }
         ensures at { IfOk result (λ r. r ≡ (join which self.old.inputs self.old.gates x y).at) }
@@ -245,6 +247,7 @@ impl Maker {
 
     /// The operands joined: the first half, rounded up, then the rest, and then both.
     pub fn fold(&mut self, which: Join, operands: &[u32]) -> Result<u32, Memory>
+        requires { length (fold which self.old.inputs self.old.gates operands.now).gates < 2 ^ 32 }
         ensures gates { OnOk result (self.new
             ≡ with_gates self.old (fold which self.old.inputs self.old.gates operands.now).gates) }
         ensures at { IfOk result (λ r. r ≡ (fold which self.old.inputs self.old.gates operands.now).at) }

@@ -1,5 +1,5 @@
 // Runs recipes over gates.
-ghost use Rattle.std.specs.Prelude.{◌≡◌, ◌<◌, length, IfOk, OnOk};
+ghost use Rattle.std.specs.Prelude.{◌≡◌, ◌<◌, ◌^◌, length, IfOk, OnOk};
 ghost use Rattle.circuit.specs.PlainNets.{AreGates};
 ghost use Rattle.case_tables.specs.Recipes.{operand_is};
 ghost use Rattle.maj_mapping.specs.Code.MakerView.{with_gates};
@@ -41,6 +41,8 @@ fn make_step(maker: &mut Maker, inputs: Inputs, done: &[u32], step: Step) -> Res
     requires b { inputs.b < length maker.old.gates }
     requires c { inputs.c < length maker.old.gates }
     requires done { AllBelow (length maker.old.gates) done.now }
+    requires room { length (step_made maker.old.inputs maker.old.gates
+        (names maker.old.inputs inputs.a inputs.b inputs.c) done.now step).gates < 2 ^ 32 }
     ensures gates { OnOk result (maker.new
         ≡ with_gates maker.old (step_made maker.old.inputs maker.old.gates
         (names maker.old.inputs inputs.a inputs.b inputs.c) done.now step).gates) }
@@ -78,6 +80,8 @@ pub fn run(alloc: Global, maker: &mut Maker, inputs: Inputs, recipe: &Recipe) ->
     requires a { inputs.a < length maker.old.gates }
     requires b { inputs.b < length maker.old.gates }
     requires c { inputs.c < length maker.old.gates }
+    requires room { length (run maker.old.inputs maker.old.gates
+        (names maker.old.inputs inputs.a inputs.b inputs.c) recipe.now).gates < 2 ^ 32 }
     ensures gates { OnOk result (maker.new
         ≡ with_gates maker.old (run maker.old.inputs maker.old.gates
         (names maker.old.inputs inputs.a inputs.b inputs.c) recipe.now).gates) }

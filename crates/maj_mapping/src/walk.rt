@@ -1,5 +1,5 @@
 // The depth-first walk over the definitions, with a stack of its own.
-ghost use Rattle.std.specs.Prelude.{◌≡◌, ◌<◌, ◌≤◌, ◌+◌, map, IfOk, OnOk};
+ghost use Rattle.std.specs.Prelude.{◌≡◌, ◌<◌, ◌≤◌, ◌+◌, ◌^◌, length, map, IfOk, OnOk};
 ghost use Rattle.blif_read.specs.Netlist.{IsNetlist};
 ghost use Rattle.maj_mapping.specs.Plan.{gate_or, signals, leave};
 ghost use Rattle.maj_mapping.specs.Code.Walks.{walk, mapping, IsStanding};
@@ -54,6 +54,7 @@ fn leave(
     requires defined { net.now.inputs ≤ signal }
     requires within { signal < signals net.now }
     requires standing { IsStanding net.now maker.old gate_of.old }
+    requires room { length (leave net.now (mapping maker.old gate_of.old) signal).gates < 2 ^ 32 }
     ensures left { OnOk result (mapping maker.new gate_of.new ≡ leave net.now (mapping maker.old gate_of.old) signal) }
     ensures standing { OnOk result (IsStanding net.now maker.new gate_of.new) }
 {
@@ -76,6 +77,7 @@ pub fn walk(
     requires net { IsNetlist net.now }
     requires root { root < signals net.now }
     requires standing { IsStanding net.now maker.old gate_of.old }
+    requires room { length (walk net.now (mapping maker.old gate_of.old) root).gates < 2 ^ 32 }
     ensures walked { OnOk result (mapping maker.new gate_of.new ≡ walk net.now (mapping maker.old gate_of.old) root) }
     ensures standing { OnOk result (IsStanding net.now maker.new gate_of.new) }
 {

@@ -1,4 +1,4 @@
-use Rattle.std.proofs.Common.{◌≡◌, ◌≢◌, ◌<◌, length, sym, ap, subst, arith, OnOk, IfOk, refl}
+use Rattle.std.proofs.Common.{◌≡◌, ◌≢◌, ◌<◌, ◌^◌, length, sym, ap, subst, arith, OnOk, IfOk, refl}
 use Rattle.case_tables.proofs.TruthLaws.{below_256}
 use Rattle.maj_mapping.specs.Code.MakerView.{with_gates}
 use Rattle.maj_mapping.specs.Operations.{Made}
@@ -53,3 +53,20 @@ returns-in_default-clause-at c =
     let two : length c.args.inputs.now ≢ 2 = omega arith in
     let three : length c.args.inputs.now ≢ 3 = omega arith in
     subst (λ (g : Made). IfOk c.by_cubes.result (λ r. r ≡ g.at)) (define_more c.args.maker.now.inputs c.args.maker.now.gates c.args.inputs.now c.args.def.now none one two three) c.by_cubes.ensures.at
+
+pub run-requires-clause-room : goal.run-requires-clause-room
+run-requires-clause-room c = subst (λ (g : Made). length g.gates < 2 ^ 32) (sym (define_one c.args.maker.now.inputs c.args.maker.now.gates c.args.inputs.now c.args.def.now _ _ _ c.of_two-recipe.result.now c.in-1.is refl c.zero-zero.ensures c.number_of_one.ensures c.of_two-recipe.ensures)) c.requires.room
+
+pub run-requires-in-2-clause-room : goal.run-requires-in-2-clause-room
+run-requires-in-2-clause-room c = subst (λ (g : Made). length g.gates < 2 ^ 32) (sym (define_two c.args.maker.now.inputs c.args.maker.now.gates c.args.inputs.now c.args.def.now _ _ _ _ c.of_two-recipe-in-2.result.now c.in-2.is refl refl c.zero-zero.ensures c.number_of_two.ensures c.of_two-recipe-in-2.ensures)) c.requires.room
+
+pub run-requires-in-3-clause-room : goal.run-requires-in-3-clause-room
+run-requires-in-3-clause-room c = subst (λ (g : Made). length g.gates < 2 ^ 32) (sym (define_three c.args.maker.now.inputs c.args.maker.now.gates c.args.inputs.now c.args.def.now _ _ _ _ c.of_three-recipe.result.now c.in-3.is refl refl refl c.number_of_three.ensures c.of_three-recipe.ensures)) c.requires.room
+
+pub by_cubes-requires-clause-room : goal.by_cubes-requires-clause-room
+by_cubes-requires-clause-room c =
+    let none : length c.args.inputs.now ≢ 0 = omega arith in
+    let one : length c.args.inputs.now ≢ 1 = omega arith in
+    let two : length c.args.inputs.now ≢ 2 = omega arith in
+    let three : length c.args.inputs.now ≢ 3 = omega arith in
+    subst (λ (g : Made). length g.gates < 2 ^ 32) (sym (define_more c.args.maker.now.inputs c.args.maker.now.gates c.args.inputs.now c.args.def.now none one two three)) c.requires.room

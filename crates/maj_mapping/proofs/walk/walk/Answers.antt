@@ -2,7 +2,7 @@
 use Rattle.std.proofs.Common.{arith}
 use Rattle.maj_mapping.proofs.Ordered.{ordered}
 use Rattle.maj_mapping.proofs.Leaving.{found_at}
-use Rattle.maj_mapping.proofs.Walking.{top_visit, next_leave, next_known, next_new, begin_known, begin_new, input_signal}
+use Rattle.maj_mapping.proofs.Walking.{top_visit, leave_room, next_leave, next_known, next_new, begin_known, begin_new, input_signal}
 use Rattle.maj_mapping.proofs.walk.walk.Goals as goal
 use Rattle.maj_mapping.proofs.walk.walk.Goals.{then-is_none+in_ok-push, else-is_none}
 
@@ -56,3 +56,6 @@ loop-visit-smaller c = (next_leave _ (ordered c.args.net.now c.requires.net) _ _
 
 pub loop-visit-preserved : goal.loop-visit-preserved
 loop-visit-preserved c = (next_leave _ (ordered c.args.net.now c.requires.net) _ _ _ _ _ _ c.in-Some.ensures.items c.loop-visit.invariant _ _ _ (found_at c.args.net.now _ _ c.in-Some.visit.signal _ c.defs.ensures c.input_count-inputs.ensures.count c.get-in-Some.ensures) (let size = c.len.ensures in let past = c.if-visit-len.false in omega arith) c.in_ok-leave.ensures.left c.in_ok-leave.ensures.standing).walking
+
+pub leave-requires-clause-room : goal.leave-requires-clause-room
+leave-requires-clause-room c = leave_room _ (ordered c.args.net.now c.requires.net) _ _ _ _ _ _ c.in-Some.ensures.items c.loop-visit.invariant _ _ (found_at c.args.net.now _ _ c.in-Some.visit.signal _ c.defs.ensures c.input_count-inputs.ensures.count c.get-in-Some.ensures) (let size = c.len.ensures in let past = c.if-visit-len.false in omega arith) c.requires.room

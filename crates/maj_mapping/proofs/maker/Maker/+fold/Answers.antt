@@ -1,8 +1,8 @@
-use Rattle.std.proofs.Common.{◌≡◌, ℕ, arith, subst, OnOk, IfOk, refl}
+use Rattle.std.proofs.Common.{◌≡◌, ◌<◌, ◌^◌, ℕ, length, arith, sym, subst, OnOk, IfOk, refl}
 use Rattle.maj_mapping.specs.Code.MakerView.{with_gates}
 use Rattle.maj_mapping.specs.Operations.{Made}
 use Rattle.maj_mapping.specs.Covers.{join}
-use Rattle.maj_mapping.proofs.Halving.{fold_whole}
+use Rattle.maj_mapping.proofs.Halving.{fold_whole, first_room, second_room}
 use Rattle.maj_mapping.proofs.maker.Maker.+fold.Goals as goal
 
 pub returns-clause-gates : goal.returns-clause-gates
@@ -15,3 +15,20 @@ pub returns-clause-at : goal.returns-clause-at
 returns-clause-at t c =
     let w = fold_whole c.args.which c.args.self.now _ _ _ c.args.operands.now _ _ _ _ (omega arith) refl c.split_at.ensures.front c.split_at.ensures.back c.in_ok-first.ensures.gates c.in_ok-first.ensures.at c.in_ok-second.ensures.gates c.in_ok-second.ensures.at in
     subst (λ (g : Made). IfOk c.join.result (λ r. r ≡ g.at)) w.0 c.join.ensures.at
+
+pub fold-requires : goal.fold-requires
+fold-requires t c = (
+  let a = c.split_at.ensures.front_len in let b = c.if-operands-eq1.false in let d = c.if-operands-eq0.false in omega arith,
+  first_room c.args.which c.args.self.now _ _ c.args.operands.now _ (omega arith) refl c.split_at.ensures.front c.requires,
+)
+
+pub fold-requires-2 : goal.fold-requires-2
+fold-requires-2 t c = (
+  let a = c.split_at.ensures.back_len in let b = c.if-operands-eq1.false in let d = c.if-operands-eq0.false in omega arith,
+  second_room c.args.which c.args.self.now _ _ _ c.args.operands.now _ _ (omega arith) refl c.split_at.ensures.front c.split_at.ensures.back c.in_ok-first.ensures.gates c.requires,
+)
+
+pub join-requires : goal.join-requires
+join-requires t c =
+    let w = fold_whole c.args.which c.args.self.now _ _ _ c.args.operands.now _ _ _ _ (omega arith) refl c.split_at.ensures.front c.split_at.ensures.back c.in_ok-first.ensures.gates c.in_ok-first.ensures.at c.in_ok-second.ensures.gates c.in_ok-second.ensures.at in
+    subst (λ (g : Made). length g.gates < 2 ^ 32) (sym w.0) c.requires

@@ -6,11 +6,8 @@ use Rattle.maj_mapping.proofs.maker.Maker.invert.Goals as goal
 
 pub invariant_of-self-2 : goal.invariant_of-self-2
 invariant_of-self-2 c =
-    let n = c.in_ok-at.ensures in
-    let is = n.is in
-    let fits = n.room in
-    let at : c.in_ok-at.at ≡ length c.self.inside.gates = is ∙ ap (λ m. length m.gates) (sym c.self.view_is) in
-    let room : length c.self.inside.gates + 1 < 2 ^ 32 = subst (λ m. length m.gates + 1 < 2 ^ 32) (sym c.self.view_is) (omega arith) in
+    let at : c.next-at.result ≡ length c.self.inside.gates = c.next-at.ensures ∙ ap (λ m. length m.gates) (sym c.self.view_is) in
+    let room : length c.self.inside.gates + 1 < 2 ^ 32 = subst (λ m. length m.gates + 1 < 2 ^ 32) (sym c.self.view_is) c.requires.room in
     let inside : c.args.x < length c.self.inside.gates = subst (λ m. c.args.x < length m.gates) (sym c.self.view_is) c.requires.inside in
     let free : inverter_from c.args.x 0 c.self.inside.gates ≡ None = subst (λ m. inverter_from c.args.x 0 m.gates ≡ None) (sym c.self.view_is) c.requires.free in
     let known = c.self.invariant.known in
