@@ -12,8 +12,7 @@ use Rattle.blif_read.specs.Netlist.{def_size, IsNetlist}
 use Rattle.blif_read.specs.Parts.{NetView}
 use Rattle.cell_netlist.specs.Kinds.{IsGateOf, AreGatesOf}
 use Rattle.cell_netlist.specs.Uses.{CellView, named, uses, gate_of, is_name, is_buffer_of_buffer}
-use Rattle.cell_netlist.specs.Tables.{AreCounts}
-use Rattle.cell_netlist.specs.Code.Tables.{IsBumped}
+use Rattle.cell_netlist.specs.Tables.{AreCounts, IsBumped}
 
 zip_pushed : (defs : List Def) (gates : List (Option Gate)) (i : ℕ) (def : Def) (gate : Option Gate)
     → AreGatesOf (take i defs) gates → def ≡ get_or defs i def → i < length defs → IsGateOf def gate

@@ -1,8 +1,7 @@
 // How often signals are named, and how often they are outputs.
 ghost use Rattle.std.specs.Prelude.{◌≡◌, ◌+◌, ◌<◌, ◌^◌, ℕ, [], length, slice_index, IfOk};
 ghost use Rattle.cell_netlist.specs.Uses.{named};
-ghost use Rattle.cell_netlist.specs.Tables.{AreCounts, IsTableOf};
-ghost use Rattle.cell_netlist.specs.Code.Tables.{IsBumped};
+ghost use Rattle.cell_netlist.specs.Tables.{AreCounts, IsBumped, IsTableOf};
 
 use crate::covers::gates_of;
 use aq_base::Memory;
@@ -21,8 +20,8 @@ fn named(alloc: Global, defs: &[Def]) -> Result<Vec<u32>, Memory>
     Ok(signals)
 }
 
-/// One more at a number, if there is such a place.
-fn bump(counts: &mut [u32], number: u32)
+/// One more at a number, if there is such a place. The caller sees to it that each count has room for one more.
+pub fn bump(counts: &mut [u32], number: u32)
     requires { (s : ℕ) → s < length counts.old → slice_index counts.old s + 1 < 2 ^ 32 }
     ensures { IsBumped counts.old counts.new number }
 {

@@ -12,7 +12,7 @@ mod names;
 mod outputs;
 
 pub use cells::{CellLevels, cell_levels};
-pub use counts::{CellTable, cell_table};
+pub use counts::{CellTable, bump, cell_table};
 pub use fault::{CellFault, CellsRefusal};
 pub use judge::uses_of;
 pub use laws::one_first_fault;

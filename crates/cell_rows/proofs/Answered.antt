@@ -1,18 +1,17 @@
 -- The rows of a netlist of cells answer each word as the netlist does.
-use Rattle.std.proofs.Common.{◌≡◌, ℕ, zero, suc, ◌+◌, ◌-◌, ◌<◌, ◌≤◌, Bool, true, false, cond, not, List, [], ◌∷◌}
-use Rattle.std.proofs.Common.{length, map, Option, Some, None, refl, ap, sym, ◌∙◌, subst, arith, inl, inr}
+use Rattle.std.proofs.Common.{◌≡◌, ℕ, suc, ◌+◌, ◌-◌, Bool, true, false, cond, not, List, [], ◌∷◌}
+use Rattle.std.proofs.Common.{length, map, Option, Some, None, refl, ap, sym, ◌∙◌, subst, arith}
 use Rattle.std.specs.Prelude.{pred, slice_get, slice_index, slice_index_or, eqb, option_map}
-use Rattle.std.proofs.lemmas.Bool.{cases_eq, cond-true, cond-false, ltb-true}
-use Rattle.std.proofs.lemmas.Option.{slice_get_within, same_Some, none-some, slice_get-map, get_or_from_slice_get}
+use Rattle.std.proofs.lemmas.Bool.{ltb-true}
+use Rattle.std.proofs.lemmas.Option.{none-some, slice_get-map, get_or_from_slice_get}
 use Rattle.std.proofs.lemmas.List.{length-map}
 use Rattle.circuit.specs.Function.{value_of, majority}
 use Rattle.circuit.specs.Gates.{gate_value}
 use Rattle.circuit.specs.SameAnswers.{SameAnswers}
 use Rattle.circuit.specs.declared.gate.Gate.{Gate}
 use Rattle.circuit.specs.declared.gate.Gate.TheVariants.{Input, Zero, One, Buf, Inv, Maj}
-use Rattle.circuit.specs.declared.cell_kind.CellKind.{CellKind}
 use Rattle.circuit.specs.declared.cell_kind.CellKind.TheVariants as kinds
-use Rattle.blif_read.specs.Equations.{cover_value, Fits}
+use Rattle.blif_read.specs.Equations.{Fits}
 use Rattle.blif_read.specs.Equations.{IsAnswer as IsNetlistAnswer}
 use Rattle.blif_read.proofs.OneAnswer.{netlist_once}
 use Rattle.rowed.specs.declared.source.Source.{Source}
@@ -25,15 +24,15 @@ use Rattle.cell_netlist.specs.Uses.{CellView, uses, is_input, is_buffer, gate_of
 use Rattle.cell_netlist.specs.Levels.{shown_by}
 use Rattle.cell_rows.specs.Laws.{AreCells}
 use Rattle.cell_rows.specs.Members.{stands_in, members, place_of}
-use Rattle.cell_rows.specs.CellRows.{kind_giving, source_of, kind_of, fed_by, input_of, output_of, cell_of, row_cell}
+use Rattle.cell_rows.specs.CellRows.{kind_giving, source_of, cell_of}
 use Rattle.cell_rows.specs.CellRows.{row_of, rows_of}
 use Rattle.cell_rows.proofs.Listed.{listed_long, passing_at}
-use Rattle.cell_rows.proofs.Defined.{Defined, defined, gate_is, past_inputs, IsCell, names_cell, reads_input}
+use Rattle.cell_rows.proofs.Defined.{Defined, defined, gate_is, past_inputs, IsCell, names_cell}
 use Rattle.cell_rows.proofs.Defined.{reads_cell}
 use Rattle.cell_rows.proofs.Defined.{name_is, shown_is, output_below, same_gate}
 use Rattle.cell_rows.proofs.Rows.{stands, shown_of, gate_past_inputs}
-use Rattle.cell_rows.proofs.Standing.{cell_is, At, at_cell, reads_none}
-use Rattle.cell_rows.proofs.Ends.{IsOutput, output_is}
+use Rattle.cell_rows.proofs.Standing.{cell_is, at_cell, reads_none}
+use Rattle.cell_rows.proofs.Ends.{output_is}
 use Rattle.cell_rows.proofs.Netted.{row_net}
 
 -- the values of a row's cells are those of their definitions

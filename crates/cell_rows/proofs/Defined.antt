@@ -1,11 +1,11 @@
 -- The definitions of a netlist of cells: gates, names, uses and levels.
-use Rattle.std.proofs.Common.{◌≡◌, ℕ, zero, suc, ◌+◌, ◌-◌, ◌<◌, ◌≤◌, Bool, true, false, cond, not, List, [], ◌∷◌}
-use Rattle.std.proofs.Common.{length, take, Option, Some, None, refl, ap, sym, ◌∙◌, subst, arith, inl, inr, ◌⊎◌}
-use Rattle.std.specs.Prelude.{◌&&◌, ◌||◌, slice_get, slice_index, slice_index_or, nat_lt, nat_le, nat_eq, eqb}
+use Rattle.std.proofs.Common.{◌≡◌, ℕ, zero, suc, ◌+◌, ◌-◌, ◌<◌, Bool, true, false, not, List, [], ◌∷◌}
+use Rattle.std.proofs.Common.{length, take, Option, Some, None, refl, ap, sym, ◌∙◌, subst, arith}
+use Rattle.std.specs.Prelude.{◌&&◌, ◌||◌, slice_get, slice_index, slice_index_or, nat_eq, eqb}
 use Rattle.std.specs.List.{AllByRecursion, count_by, list_all}
-use Rattle.std.proofs.lemmas.Bool.{cases_eq, cases_lt, cond-true, cond-false, and_parts, eqb-true, eq-eqb, ltb-true}
+use Rattle.std.proofs.lemmas.Bool.{cond-true, cond-false, and_parts, eqb-true}
 use Rattle.std.proofs.lemmas.Bool.{ltb-false}
-use Rattle.std.proofs.lemmas.Bool.{lt-ltb, le-ltb, leb-true}
+use Rattle.std.proofs.lemmas.Bool.{le-ltb}
 use Rattle.std.proofs.lemmas.Option.{none-some, same_Some, slice_get_within, get_or_from_slice_get}
 use Rattle.circuit.specs.declared.gate.Gate.{Gate}
 use Rattle.circuit.specs.declared.gate.Gate.TheVariants.{Input, Zero, One, Buf, Inv, Maj}
@@ -13,11 +13,11 @@ use Rattle.blif_read.specs.declared.netlist.Def.{Def}
 use Rattle.cell_netlist.specs.Kinds.{Computes, operands_of}
 use Rattle.cell_netlist.specs.Uses.{CellView, named, uses, is_input, gate_of, is_name, is_buffer, is_buffer_of_buffer}
 use Rattle.cell_netlist.specs.Uses.{may_have, is_used_well, shares_input}
-use Rattle.cell_netlist.specs.Levels.{above, buffered, shown_by, is_shown, level_in}
+use Rattle.cell_netlist.specs.Levels.{above, buffered, shown_by, level_in}
 use Rattle.cell_netlist.specs.Faults.{is_fed_well}
 use Rattle.cell_netlist.proofs.Levelled.{gate_there, here_of}
 use Rattle.cell_rows.specs.Laws.{AreCells}
-use Rattle.cell_rows.proofs.Counted.{Use, count_place, before_all}
+use Rattle.cell_rows.proofs.Counted.{count_place, before_all}
 
 pub some_at : {A : Type 0} (xs : List A) (j : ℕ) → j < length xs → (x : A) × (slice_get xs j ≡ Some x)
 some_at [] j lt = absurd (omega (arith, lt))

@@ -1,17 +1,17 @@
 -- The inputs and outputs of rows of cells: each is shown by one cell.
-use Rattle.std.proofs.Common.{◌≡◌, ℕ, zero, suc, ◌+◌, ◌-◌, ◌<◌, ◌≤◌, Bool, true, false, cond, not, List, [], ◌∷◌}
+use Rattle.std.proofs.Common.{◌≡◌, ℕ, zero, suc, ◌+◌, ◌-◌, ◌<◌, Bool, true, false, not, List, [], ◌∷◌}
 use Rattle.std.proofs.Common.{length, take, get_or, Option, Some, None, refl, ap, sym, ◌∙◌, subst, arith, inl, inr}
-use Rattle.std.specs.Prelude.{◌&&◌, ◌||◌, slice_get, slice_index, slice_index_or, nat_lt, nat_le, nat_eq, eqb, is_some}
-use Rattle.std.specs.List.{count_by, list_any, position, position_or_len}
+use Rattle.std.specs.Prelude.{◌&&◌, ◌||◌, slice_get, slice_index_or, nat_lt, nat_eq, eqb}
+use Rattle.std.specs.List.{count_by, list_any, position_or_len}
 use Rattle.std.proofs.lemmas.Bool.{cases_eq, cases_lt, cond-true, cond-false, and_parts, eqb-true, eq-eqb, ltb-true}
-use Rattle.std.proofs.lemmas.Bool.{lt-ltb, le-ltb}
+use Rattle.std.proofs.lemmas.Bool.{lt-ltb}
 use Rattle.std.proofs.lemmas.Option.{slice_get_within, same_Some, none-some, slice_get-get_or, get_or_from_slice_get}
 use Rattle.std.proofs.lemmas.List.Sums.{fails_before_first}
 use Rattle.std.proofs.lemmas.List.Quantifiers.{position-Some}
 use Rattle.circuit.specs.declared.gate.Gate.{Gate}
 use Rattle.circuit.specs.declared.gate.Gate.TheVariants.{Input, Zero, One, Buf, Inv, Maj}
 use Rattle.rowed.specs.declared.row_cell.RowCell.{RowCell}
-use Rattle.rowed.specs.RowNets.{row_at, cell_at, input_at, output_at, ExactlyOne}
+use Rattle.rowed.specs.RowNets.{cell_at, input_at, output_at, ExactlyOne}
 use Rattle.blif_read.specs.declared.netlist.Def.{Def}
 use Rattle.cell_netlist.specs.Kinds.{operands_of}
 use Rattle.cell_netlist.specs.Uses.{CellView, named, uses, is_input, is_name, is_buffer, gate_of, may_have}
@@ -19,13 +19,13 @@ use Rattle.cell_netlist.specs.Uses.{shares_input}
 use Rattle.cell_netlist.specs.Levels.{shown_by}
 use Rattle.cell_rows.specs.Laws.{AreCells}
 use Rattle.cell_rows.specs.Members.{place_of}
-use Rattle.cell_rows.specs.CellRows.{input_of, output_of, cell_of, row_cell, rows_of}
+use Rattle.cell_rows.specs.CellRows.{input_of, output_of, rows_of}
 use Rattle.cell_rows.proofs.Counted.{Use, use_of, count_some, count_first, count_place, before_more, one_user}
-use Rattle.cell_rows.proofs.Defined.{Defined, defined, gate_is, gate_past, past_inputs, IsCell, some_at, one_signal}
-use Rattle.cell_rows.proofs.Defined.{name_is, no_name, shown_is, reads_input, output_below, output_level, Shows}
+use Rattle.cell_rows.proofs.Defined.{Defined, defined, gate_is, past_inputs, IsCell, some_at, one_signal}
+use Rattle.cell_rows.proofs.Defined.{name_is, shown_is, reads_input, output_below}
 use Rattle.cell_rows.proofs.Defined.{same_gate}
-use Rattle.cell_rows.proofs.Rows.{Shown, shown_of, gate_past_inputs}
-use Rattle.cell_rows.proofs.Standing.{cell_is, cell_there, At, at_cell, reads_buffer, any_of}
+use Rattle.cell_rows.proofs.Rows.{shown_of, gate_past_inputs}
+use Rattle.cell_rows.proofs.Standing.{cell_is, cell_there, at_cell, reads_buffer, any_of}
 
 -- the cell of an input
 

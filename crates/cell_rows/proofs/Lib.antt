@@ -6,3 +6,6 @@ pub mod Standing
 pub mod Ends
 pub mod Netted
 pub mod Answered
+pub mod Laid
+pub mod Used
+pub mod Made

@@ -1,38 +1,35 @@
 -- The rows of a netlist of cells are a net in rows.
-use Rattle.std.proofs.Common.{◌≡◌, ℕ, zero, suc, ◌+◌, ◌-◌, ◌<◌, ◌≤◌, ◌^◌, Bool, true, false, cond, not, List, [], ◌∷◌}
-use Rattle.std.proofs.Common.{length, take, map, Option, Some, None, refl, ap, sym, ◌∙◌, subst, arith, inl, inr}
-use Rattle.std.specs.Prelude.{pred, slice_get, slice_index, nat_eq, eqb, ltb, is_some, option_map}
-use Rattle.std.specs.List.{count_by}
+use Rattle.std.proofs.Common.{◌≡◌, ℕ, zero, suc, ◌+◌, ◌-◌, ◌<◌, ◌≤◌, ◌^◌, Bool, true, false, cond, List, [], ◌∷◌}
+use Rattle.std.proofs.Common.{length, Option, Some, None, refl, ap, sym, ◌∙◌, subst, arith, inl, inr}
+use Rattle.std.specs.Prelude.{pred, slice_get, slice_index, eqb, ltb, is_some, option_map}
 use Rattle.std.proofs.lemmas.Bool.{cases_eq, cases_lt, cond-true, cond-false, eq-eqb, eqb-true, lt-ltb, le-ltb}
 use Rattle.std.proofs.lemmas.Bool.{ltb-true}
 use Rattle.std.proofs.lemmas.Bool.{ltb-false}
 use Rattle.std.proofs.lemmas.List.{length-map}
 use Rattle.std.proofs.lemmas.Bool.Decides.{eqb_tells}
-use Rattle.std.proofs.lemmas.Option.{slice_get_within, same_Some, none-some, slice_get_cases}
+use Rattle.std.proofs.lemmas.Option.{slice_get_within, same_Some, none-some}
 use Rattle.circuit.specs.declared.gate.Gate.{Gate}
 use Rattle.circuit.specs.declared.gate.Gate.TheVariants.{Input, Zero, One, Buf, Inv, Maj}
 use Rattle.circuit.specs.declared.cell_kind.CellKind.{CellKind}
 use Rattle.circuit.specs.declared.cell_kind.CellKind.TheVariants as kinds
-use Rattle.circuit.specs.CellKinds.{inputs_of}
 use Rattle.rowed.specs.declared.source.Source.{Source}
 use Rattle.rowed.specs.declared.row_cell.RowCell.{RowCell}
 use Rattle.rowed.specs.RowCells.{source_at}
-use Rattle.rowed.specs.RowNets.{row_at, cell_at, fed_at, pins_at, IsBefore, MayStand, EachFeedsOne, last_of, IsRowNet}
-use Rattle.rowed.specs.RowNets.{input_at, output_at, ExactlyOne}
+use Rattle.rowed.specs.RowNets.{row_at, cell_at, fed_at, pins_at, MayStand, EachFeedsOne, last_of, IsRowNet}
+use Rattle.rowed.specs.RowNets.{output_at, ExactlyOne}
 use Rattle.rowed.specs.RowNets.{is_input as shows_input}
 use Rattle.cell_netlist.specs.Kinds.{operands_of, IsCellGate}
 use Rattle.cell_netlist.specs.Uses.{CellView, uses, is_input, gate_of}
-use Rattle.cell_netlist.specs.Levels.{shown_by}
 use Rattle.cell_rows.specs.Laws.{AreCells}
-use Rattle.cell_rows.specs.Members.{listed, members, place_of, uses_before}
+use Rattle.cell_rows.specs.Members.{members, place_of, uses_before}
 use Rattle.cell_rows.specs.CellRows.{kind_giving, source_of, kind_of, fed_by, input_of, output_of, cell_of, row_cell}
 use Rattle.cell_rows.specs.CellRows.{row_of, rows_of}
 use Rattle.cell_rows.proofs.Listed.{listed_long}
 use Rattle.cell_rows.proofs.Counted.{before_more}
 use Rattle.cell_rows.proofs.Defined.{Defined, defined, gate_is, past_inputs, reads_input, reads_cell, IsCell}
-use Rattle.cell_rows.proofs.Defined.{no_input, output_level, same_gate}
+use Rattle.cell_rows.proofs.Defined.{output_level, same_gate}
 use Rattle.cell_rows.proofs.Rows.{last_shows, shown_of, row_some, row_few, rows_few}
-use Rattle.cell_rows.proofs.Standing.{row_there, row_past, cell_is, At, at_cell, same_cell, reads_none, reads_buffer}
+use Rattle.cell_rows.proofs.Standing.{row_there, row_past, cell_is, at_cell, same_cell, reads_buffer}
 use Rattle.cell_rows.proofs.Standing.{Fed, fed_is}
 use Rattle.cell_rows.proofs.Standing.{source_is, Below, below_pin}
 use Rattle.cell_rows.proofs.Ends.{input_below, each_input, output_is, output_some, each_output}

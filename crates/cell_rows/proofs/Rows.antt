@@ -1,10 +1,8 @@
 -- Levels of a netlist of cells: none past the last, none without a cell.
 use Rattle.std.proofs.Common.{◌≡◌, ℕ, zero, suc, ◌+◌, ◌-◌, ◌<◌, ◌≤◌, Bool, true, false, cond, not, List, [], ◌∷◌}
-use Rattle.std.proofs.Common.{length, Option, Some, None, refl, ap, sym, ◌∙◌, subst, arith, inl, inr}
+use Rattle.std.proofs.Common.{length, Option, Some, None, refl, ap, sym, ◌∙◌, arith, inl, inr}
 use Rattle.std.specs.Prelude.{◌&&◌, slice_get, slice_index, slice_index_or, nat_lt, eqb}
-use Rattle.std.specs.List.{AllByRecursion}
 use Rattle.std.proofs.lemmas.Bool.{cases_eq, cases_lt, cond-true, cond-false, and_parts, eqb-true, eq-eqb, ltb-true}
-use Rattle.std.proofs.lemmas.Bool.{ltb-false}
 use Rattle.std.proofs.lemmas.Bool.{lt-ltb, le-ltb}
 use Rattle.std.proofs.lemmas.Option.{slice_get_within, same_Some, none-some}
 use Rattle.circuit.specs.declared.gate.Gate.{Gate}
@@ -16,10 +14,10 @@ use Rattle.cell_netlist.specs.Levels.{above, shown_by, is_shown, LevelsFit, Leve
 use Rattle.cell_rows.specs.Laws.{AreCells}
 use Rattle.cell_rows.specs.Members.{passing_below, stands_in, members}
 use Rattle.cell_rows.proofs.Listed.{passing_long, passing_at, passing_is, passing_one_fewer}
-use Rattle.cell_rows.proofs.Counted.{Use, use_of, count_some}
-use Rattle.cell_rows.proofs.Defined.{some_at, all_get, all_from, list_all_get, same_gate, Defined, defined, no_input}
+use Rattle.cell_rows.proofs.Counted.{Use, use_of}
+use Rattle.cell_rows.proofs.Defined.{some_at, all_get, all_from, list_all_get, same_gate, Defined, defined}
 use Rattle.cell_rows.proofs.Defined.{level_past, past_inputs}
-use Rattle.cell_rows.proofs.Defined.{named_below, output_below, name_is, no_name, shown_is, gate_is, unused_is}
+use Rattle.cell_rows.proofs.Defined.{named_below, name_is, no_name, shown_is, gate_is, unused_is}
 use Rattle.cell_rows.proofs.Defined.{reads_input, reads_cell, Shows, output_level, shows_named, IsCell, names_cell}
 
 -- a number that no element of a list passes

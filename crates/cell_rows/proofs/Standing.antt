@@ -1,36 +1,30 @@
 -- Where each cell stands, and what feeds it.
-use Rattle.std.proofs.Common.{◌≡◌, ℕ, zero, suc, ◌+◌, ◌-◌, ◌<◌, ◌≤◌, ◌^◌, Bool, true, false, cond, not, List, [], ◌∷◌}
-use Rattle.std.proofs.Common.{length, take, map, Option, Some, None, refl, ap, sym, ◌∙◌, subst, arith, inl, inr}
-use Rattle.std.specs.Prelude.{◌&&◌, ◌||◌, slice_get, slice_index, slice_index_or, nat_lt, nat_le, nat_eq, eqb, ltb}
-use Rattle.std.specs.Prelude.{is_some, option_map}
-use Rattle.std.specs.List.{AllByRecursion, count_by, list_any, position, position_or_len}
-use Rattle.std.proofs.lemmas.Bool.{cases_eq, cases_lt, cond-true, cond-false, and_parts, eqb-true, eq-eqb, ltb-true}
-use Rattle.std.proofs.lemmas.Bool.{ltb-false}
-use Rattle.std.proofs.lemmas.Bool.{lt-ltb, le-ltb, leb-true}
-use Rattle.std.proofs.lemmas.Option.{slice_get_within, same_Some, none-some, slice_get-map, slice_get_past}
-use Rattle.std.proofs.lemmas.Option.{get_or_from_slice_get}
+use Rattle.std.proofs.Common.{◌≡◌, ℕ, zero, suc, ◌+◌, ◌-◌, ◌<◌, ◌≤◌, Bool, true, false, cond, not, List, [], ◌∷◌}
+use Rattle.std.proofs.Common.{length, Option, Some, None, refl, ap, sym, ◌∙◌, subst, arith, inl, inr}
+use Rattle.std.specs.Prelude.{◌&&◌, ◌||◌, slice_get, slice_index, nat_le, eqb}
+use Rattle.std.specs.Prelude.{option_map}
+use Rattle.std.specs.List.{list_any}
+use Rattle.std.proofs.lemmas.Bool.{cases_lt, and_parts, eqb-true}
+use Rattle.std.proofs.lemmas.Bool.{leb-true}
+use Rattle.std.proofs.lemmas.Option.{same_Some, none-some, slice_get-map, slice_get_past}
 use Rattle.std.proofs.lemmas.List.{get_or_past}
 use Rattle.circuit.specs.declared.gate.Gate.{Gate}
 use Rattle.circuit.specs.declared.gate.Gate.TheVariants.{Input, Zero, One, Buf, Inv, Maj}
-use Rattle.circuit.specs.CellKinds.{inputs_of, outputs_of}
-use Rattle.circuit.specs.declared.cell_kind.CellKind.{CellKind}
+use Rattle.circuit.specs.CellKinds.{outputs_of}
 use Rattle.rowed.specs.declared.source.Source.{Source}
 use Rattle.rowed.specs.declared.row_cell.RowCell.{RowCell}
 use Rattle.rowed.specs.RowCells.{source_at}
-use Rattle.rowed.specs.RowNets.{row_at, cell_at, pins_at, outputs_at, IsBefore}
-use Rattle.rowed.specs.RowNets.{is_input as shows_input}
-use Rattle.cell_netlist.specs.Kinds.{operands_of, IsCellGate}
-use Rattle.cell_netlist.specs.Uses.{CellView, uses, is_input, is_name, is_buffer, gate_of, may_have}
-use Rattle.cell_netlist.specs.Faults.{is_fed_well}
-use Rattle.cell_netlist.specs.Levels.{shown_by}
+use Rattle.rowed.specs.RowNets.{row_at, cell_at, outputs_at, IsBefore}
+use Rattle.cell_netlist.specs.Kinds.{operands_of}
+use Rattle.cell_netlist.specs.Uses.{CellView, uses, is_input, is_buffer, may_have}
 use Rattle.cell_rows.specs.Laws.{AreCells}
 use Rattle.cell_rows.specs.Members.{passing_below, listed, stands_in, members, place_of, uses_before}
-use Rattle.cell_rows.specs.CellRows.{kind_giving, source_of, kind_of, fed_by, input_of, output_of, cell_of, cell_by}
+use Rattle.cell_rows.specs.CellRows.{source_of, kind_of, fed_by, cell_of, cell_by}
 use Rattle.cell_rows.specs.CellRows.{row_cell}
 use Rattle.cell_rows.specs.CellRows.{row_of, rows_of}
-use Rattle.cell_rows.proofs.Listed.{listed_long, listed_read, passing_at, passing_is, IsPassing}
+use Rattle.cell_rows.proofs.Listed.{listed_long, listed_read, passing_at, passing_is}
 use Rattle.cell_rows.proofs.Counted.{before_all}
-use Rattle.cell_rows.proofs.Defined.{Defined, defined, gate_is, past_inputs, may_be_used, reads_input, reads_cell}
+use Rattle.cell_rows.proofs.Defined.{Defined, defined, gate_is, past_inputs, may_be_used, reads_cell}
 use Rattle.cell_rows.proofs.Defined.{IsCell}
 use Rattle.cell_rows.proofs.Defined.{names_cell}
 use Rattle.cell_rows.proofs.Rows.{level_low, stands, standing}

@@ -1,3 +1,4 @@
 pub mod Members
 pub mod CellRows
 pub mod Laws
+pub mod Code

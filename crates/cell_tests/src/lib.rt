@@ -3,3 +3,9 @@
 
 #[cfg(test)]
 mod cells;
+#[cfg(test)]
+mod chips;
+#[cfg(test)]
+mod packs;
+#[cfg(test)]
+mod rows;

@@ -1,17 +1,6 @@
--- What is counted of a netlist.
-use Rattle.std.specs.Prelude.{◌≡◌, ℕ, ◌+◌, ◌<◌, Bool, true, false, nat_eq, List, [], ◌∷◌, length}
-use Rattle.std.specs.Prelude.{Option, slice_index, slice_index_or, slice_set}
-use Rattle.std.specs.List.{count_by, list_any}
-use Rattle.circuit.specs.declared.gate.Gate.{Gate}
-use Rattle.blif_read.specs.Parts.{NetView}
-use Rattle.cell_netlist.specs.Kinds.{AreGatesOf}
-use Rattle.cell_netlist.specs.Uses.{CellView, named}
-
--- the second list tells one more at a number, where it has that place
-pub record IsBumped (old new : List ℕ) (x : ℕ) : Type 0 where
-  pub long : length new ≡ length old
-  pub at : x < length old → slice_index new x ≡ slice_index old x + 1
-  pub other : (s : ℕ) → (s ≡ x → ⊥) → slice_index new s ≡ slice_index old s
+-- Inputs that definitions have taken.
+use Rattle.std.specs.Prelude.{◌≡◌, ℕ, ◌<◌, Bool, true, false, nat_eq, List, [], ◌∷◌, length, slice_index_or, slice_set}
+use Rattle.std.specs.List.{list_any}
 
 -- one of the signals is taken
 abbrev pub shares : List Bool → List ℕ → Bool

@@ -1,0 +1,3 @@
+pub mod Packed
+mod Seats
+mod Worked
