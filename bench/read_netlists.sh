@@ -3,7 +3,9 @@
 # cover of eight inputs, as rows of two bytes of a constant, as rows of four bytes of a buffer, as a chain of definitions,
 # as one line of inputs, as one line of inputs with names of three and four bytes, and as definitions of such names: of no
 # input and without rows, of no input and with a row, and of one input; and then as designs of as many models, of which the
-# first calls none, or all. Each is read whole, and then the library, which is empty, is refused. Prints the seconds of
+# first calls none, or all. Each is read whole, and then the library, which is empty, is refused. Then with library A, so
+# that gates are made and the cells of the plan are counted, which are too many, or else the netlist has too many
+# elements: the same rows, rows of all eight inputs, rows of 1,000 inputs, and the chain. Prints the seconds of
 # processor time, their ratios, twice the text against once, and the memory at most in times of the text, which is counted
 # too. Needs GNU time; AQFP is the program, by default the one that ./aqfp runs.
 set -u
@@ -76,6 +78,21 @@ feeds() {
     names "$1" '\n.names ~ '
 }
 
+# Rows of so many inputs, each with a digit for every one.
+cover() {
+    awk -v bytes="$1" -v wide="$2" 'BEGIN { names = ""
+        for (i = 0; i < wide; i++) names = names " i" i
+        printf ".inputs%s\n.outputs y\n.names%s y\n", names, names
+        for (left = bytes - 14 * wide - 40; left > 0; left -= wide + 3) {
+            row = ""
+            for (i = 0; i < wide; i++) row = row (rand() < 0.5)
+            print row " 1" } }'
+}
+
+eight() { cover "$1" 8; }
+
+thousand() { cover "$1" 1000; }
+
 uncalled() {
     printf '.model top\n.inputs a\n.outputs a'
     names "$1" '\n.model m' '\n.inputs a\n.outputs y\n.names a y\n1 1'
@@ -88,18 +105,26 @@ called() {
     names $(($1 / 64 * 48)) '\n.model m' '\n.inputs a\n.outputs y\n.names a y\n1 1'
 }
 
-for shape in rows ones buffers chain inputs short definitions constants feeds uncalled called; do
+# Builds a netlist of this shape, of 2, 4, 8 and 16 MB, with this library.
+measure() {
     before=
     for megabytes in 2 4 8 16; do
-        $shape $((megabytes * 1000000)) >"$work/net.blif"
+        "$1" $((megabytes * 1000000)) >"$work/net.blif"
         /usr/bin/time -q -f '%U %S %M' -o "$work/time" \
-            "$program" build "$work/net.blif" "$work/none.toml" "$work/out.gds" >/dev/null 2>"$work/err"
+            "$program" build "$work/net.blif" "$2" "$work/out.gds" >/dev/null 2>"$work/err"
         took=$(awk 'END { print $1 + $2 }' "$work/time")
-        awk -v name="$shape $megabytes MB" -v took="$took" -v before="$before" -v bytes="$(wc -c <"$work/net.blif")" '
+        awk -v name="$1$3 $megabytes MB" -v took="$took" -v before="$before" -v bytes="$(wc -c <"$work/net.blif")" '
             END {
                 ratio = (before + 0 > 0) ? sprintf("%.2f", took / before) : "-"
                 printf "%s: %.2f s, ratio %s, memory %.1f times the text\n", name, took, ratio, $3 * 1024 / bytes
             }' "$work/time"
         before=$took
     done
+}
+
+for shape in rows ones buffers chain inputs short definitions constants feeds uncalled called; do
+    measure $shape "$work/none.toml" ""
+done
+for shape in rows eight thousand chain; do
+    measure $shape "$here/libraries/a.toml" ", with library A"
 done
