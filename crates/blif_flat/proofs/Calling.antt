@@ -9,7 +9,7 @@ use Rattle.std.proofs.lemmas.Option.{slice_get-map}
 use Rattle.std.proofs.lemmas.List.{length-map, take_more, length-take}
 use Rattle.blif_read.specs.Parts.{operands, operands_at}
 use Rattle.blif_read.specs.Walk.{closes}
-use Rattle.blif_read.specs.Walked.{IsWithin, Settled}
+use Rattle.blif_read.specs.Walked.{IsWithin, Settled, AreLedTo}
 use Rattle.blif_read.specs.Walked.{IsOrderFrom, IsLedFrom, cycle_in}
 use Rattle.blif_read.specs.declared.walk.Walked.{Walked}
 use Rattle.blif_read.specs.declared.walk.Walked.TheVariants.{Order, Cycle}
@@ -91,6 +91,7 @@ order_of_calls models order o = record {
   settled = subst (λ reads. Settled 0 reads (reverse order)) (same_reads models) o.settled;
   bounded = subst (λ n. AllByRecursion (λ s. s < n) (reverse order)) (length-map models (call_def models)) o.bounded;
   rooted = o.rooted;
+  led = subst (λ reads. AreLedTo reads 0 (reverse order)) (same_reads models) o.led;
 }
 
 pub loop_same : (models : List BlifModel) → closes (operands 0 (call_defs models)) (length (call_defs models) + 1) [] 0 ≡ loop_of models

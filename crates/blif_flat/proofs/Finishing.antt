@@ -130,7 +130,7 @@ few_named inputs places defs outputs parts =
     let few = few_kept inputs (wires_of places) defs outputs parts in
     omega (arith, few, length-map places wire_of)
 
-few_wires : (models : List BlifModel) → AreParts (expansion models) → length (wires models) < 2 ^ 28
+pub few_wires : (models : List BlifModel) → AreParts (expansion models) → length (wires models) < 2 ^ 28
 unfolding expansion
 few_wires models parts = let small = parts.small in omega (arith, small, kept_count 0 (wires models))
 

@@ -1,5 +1,5 @@
 -- Ports of calls by names, and places of names, one by one.
-use Rattle.std.proofs.Common.{◌≡◌, ℕ, zero, suc, ◌+◌, ◌<◌, ◌≤◌, ◌||◌, Bool, true, false, not, cond, List, [], ◌∷◌, ◌++◌, map, length, take, get_or, slice_get, filter, IfSome, refl, sym, ap, ◌∙◌, subst, arith, inl, inr, Option, Some, None, replicate, Bor, append_assoc, length-append}
+use Rattle.std.proofs.Common.{◌≡◌, ℕ, zero, suc, ◌+◌, ◌<◌, ◌≤◌, ◌^◌, ◌||◌, Bool, true, false, not, cond, List, [], ◌∷◌, ◌++◌, map, length, take, drop, get_or, slice_get, filter, IfSome, refl, sym, ap, ◌∙◌, subst, arith, inl, inr, Option, Some, None, replicate, Bor, append_assoc, length-append, drop-cons, add-one}
 use Rattle.std.specs.Prelude.{nat_lt, slice_index_or}
 use Rattle.std.specs.List.{AllByRecursion, IsDistinct, list_any, position, position_or_len, flat_map}
 use Rattle.std.specs.Str.{bytes_eq}
@@ -95,7 +95,7 @@ place_found entries count name names place e is = some_is (nat_lt (position_or_l
     some_is true n e = cc
     some_is false n e = absurd (cc)
 
-first_at_most : (p : Option (List ℕ) → Bool) (xs : List (Option (List ℕ))) → position_or_len p xs ≤ length xs
+pub first_at_most : (p : Option (List ℕ) → Bool) (xs : List (Option (List ℕ))) → position_or_len p xs ≤ length xs
 first_at_most p [] = omega arith
 first_at_most p (x ∷ xs) = turn (p x) (position_or_len p xs) (length xs) (first_at_most p xs)
   where
@@ -114,6 +114,27 @@ place_missing entries count name names e is = elim (cases_Bool (nat_lt (position
 pub flat_append : {X Y : Type 0} (f : X → List Y) (xs ys : List X) → flat_map f (xs ++ ys) ≡ flat_map f xs ++ flat_map f ys
 flat_append f [] ys = refl
 flat_append f (x ∷ xs) ys = ap (λ back. f x ++ back) (flat_append f xs ys) ∙ sym (append_assoc (f x) (flat_map f xs) (flat_map f ys))
+
+-- what the next item gives, and what those behind it give
+pub rest_taken : {X Y : Type 0} (f : X → List Y) (xs : List X) (i : ℕ) (d : X) → i < length xs
+    → length (flat_map f (drop i xs)) ≡ length (f (get_or xs i d)) + length (flat_map f (drop (i + 1) xs))
+rest_taken f xs i d lt =
+    ap (λ ys. length (flat_map f ys)) (drop-cons xs i d lt ∙ ap (λ k. get_or xs i d ∷ drop k xs) (sym (add-one i)))
+    ∙ length-append (f (get_or xs i d)) (flat_map f (drop (i + 1) xs))
+
+-- how many there are with those that are left to take
+pub room_taken : {X Y : Type 0} (f : X → List Y) (xs : List X) (i : ℕ) (d x : X) (before next whole : ℕ) → i < length xs → x ≡ get_or xs i d → next ≡ before + length (f x)
+    → before + length (flat_map f (drop i xs)) ≡ whole → next + length (flat_map f (drop (i + 1) xs)) ≡ whole
+room_taken f xs i d x before next whole lt is n room =
+    let rest = rest_taken f xs i d lt in
+    let here = ap (λ y. length (f y)) is in
+    omega arith
+
+pub room_left : {X Y : Type 0} (f : X → List Y) (xs : List X) (i : ℕ) (d x : X) (before whole : ℕ) → i < length xs → x ≡ get_or xs i d
+    → before + length (flat_map f (drop i xs)) ≡ whole → whole < 2 ^ 32 → before + length (f x) < 2 ^ 32
+room_left f xs i d x before whole lt is room few =
+    let behind = room_taken f xs i d x before (before + length (f x)) whole lt is refl room in
+    omega arith
 
 abbrev somes : List (List ℕ) → List (Option (List ℕ))
 somes names = map (λ n. Some n) names

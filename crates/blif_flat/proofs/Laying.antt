@@ -1,20 +1,26 @@
 -- The walk that lays out blocks, turn by turn: the nearest frame is last in its vector.
-use Rattle.std.proofs.Common.{◌≡◌, ℕ, suc, ◌+◌, ◌<◌, ◌≤◌, List, [], ◌∷◌, ◌++◌, length, drop, get_or, reverse, sym, ap, ◌∙◌, subst, arith, add-one, drop-cons, append_assoc}
+use Rattle.std.proofs.Common.{◌≡◌, ℕ, suc, ◌+◌, ◌<◌, ◌≤◌, ◌^◌, List, [], ◌∷◌, ◌++◌, length, drop, get_or, reverse, sym, ap, ◌∙◌, subst, arith, add-one, drop-cons, append_assoc}
 use Rattle.std.specs.Prelude.{slice_index_or}
-use Rattle.std.specs.List.{flat_map, sum_by}
+use Rattle.std.specs.List.{flat_map, sum_by, AllByRecursion}
 use Rattle.std.proofs.lemmas.List.{reverse-append, append-nil, drop_all}
 use Rattle.std.proofs.lemmas.List.Sums.{sum_by-cons}
 use Rattle.blif_read.specs.declared.netlist.Def.{Def}
 use Rattle.blif_flat.specs.declared.expansion.pieces.Piece.{Piece}
 use Rattle.blif_flat.specs.declared.expansion.pieces.Piece.TheVariants.{Own, Inner}
 use Rattle.blif_flat.specs.declared.expansion.layout.Frame.{Frame}
-use Rattle.blif_flat.specs.Code.Blocks.{moved, of_piece, laid_out, piece_turns, turns, AreStraight, still, turns_left}
+use Rattle.blif_flat.specs.Code.Blocks.{moved, of_piece, laid_out, piece_turns, turns, AreStraight, FitsIn, HaveRoom, still, turns_left}
+use Rattle.blif_flat.proofs.Members.{all_weaker}
+use Rattle.blif_flat.proofs.Outlining.{all_at}
 
 abbrev pub frame : ℕ → ℕ → ℕ → Frame
 frame model base next = record { model = model; base = base; next = next }
 
 reverse_push : {X : Type 0} (xs : List X) (x : X) → reverse (xs ++ x ∷ []) ≡ x ∷ reverse xs
 reverse_push xs x = reverse-append xs (x ∷ [])
+
+-- 32 bits hold the wires of a frame's block
+abbrev pub HasRoom : (ℕ → ℕ) → Frame → Type 0
+HasRoom width f = f.base + width f.model < 2 ^ 32
 
 module _ (blocks : List (List Piece)) where
   abbrev of : ℕ → ℕ → List Def
@@ -108,6 +114,59 @@ module _ (blocks : List (List Piece)) where
       let one : piece_turns (turns blocks (length blocks)) p ≡ 1 + turns blocks (length blocks) model = ap (piece_turns (turns blocks (length blocks))) inner in
       let ends = s.ends model in
       omega arith
+
+  -- ---- room for the wires of frames
+
+  pub room_first : (fit : HaveRoom blocks) (none frames : List Frame) → none ≡ [] → frames ≡ none ++ frame 0 0 0 ∷ [] → AllByRecursion (HasRoom fit.width) (reverse frames)
+  room_first fit none frames n f =
+      let few = fit.few in
+      subst (AllByRecursion (HasRoom fit.width)) (sym (ap reverse (f ∙ ap (λ fs. fs ++ frame 0 0 0 ∷ []) n))) (omega arith, tt)
+
+  room_popped : (width : ℕ → ℕ) (f : Frame) (rest frames : List Frame) → frames ≡ rest ++ f ∷ [] → AllByRecursion (HasRoom width) (reverse frames)
+      → HasRoom width f × AllByRecursion (HasRoom width) (reverse rest)
+  room_popped width f rest frames e h = subst (AllByRecursion (HasRoom width)) (ap reverse e ∙ reverse_push rest f) h
+
+  room_pushed : (width : ℕ → ℕ) (f : Frame) (rest frames : List Frame) → frames ≡ rest ++ f ∷ [] → HasRoom width f → AllByRecursion (HasRoom width) (reverse rest)
+      → AllByRecursion (HasRoom width) (reverse frames)
+  room_pushed width f rest frames e here h = subst (AllByRecursion (HasRoom width)) (sym (ap reverse e ∙ reverse_push rest f)) (here, h)
+
+  pub room_done : (fit : HaveRoom blocks) (f : Frame) (rest frames : List Frame) → frames ≡ rest ++ f ∷ [] → AllByRecursion (HasRoom fit.width) (reverse frames)
+      → AllByRecursion (HasRoom fit.width) (reverse rest)
+  room_done fit f rest frames e h = (room_popped fit.width f rest frames e h).1
+
+  pub room_taken : (fit : HaveRoom blocks) (f : Frame) (rest frames after : List Frame) → frames ≡ rest ++ f ∷ [] → after ≡ rest ++ frame f.model f.base (f.next + 1) ∷ []
+      → AllByRecursion (HasRoom fit.width) (reverse frames) → AllByRecursion (HasRoom fit.width) (reverse after)
+  room_taken fit f rest frames after e a h =
+      let both = room_popped fit.width f rest frames e h in
+      room_pushed fit.width (frame f.model f.base (f.next + 1)) rest after a both.0 both.1
+
+  -- what is taken of a block fits in it
+  piece_fits : (fit : HaveRoom blocks) (f : Frame) (xs : List Piece) (p q : Piece) → xs ≡ at f.model → f.next < length xs → p ≡ get_or xs f.next p → p ≡ q → FitsIn fit.width (fit.width f.model) q
+  piece_fits fit f xs p q same lt is what = subst (FitsIn fit.width (fit.width f.model)) what
+      (all_at (FitsIn fit.width (fit.width f.model)) xs f.next p (subst (AllByRecursion (FitsIn fit.width (fit.width f.model))) (sym same) (fit.fits f.model)) lt is)
+
+  pub own_room : (fit : HaveRoom blocks) (f : Frame) (rest frames : List Frame) (xs : List Piece) (p : Piece) (def : Def) → frames ≡ rest ++ f ∷ []
+      → xs ≡ at f.model → f.next < length xs → p ≡ get_or xs f.next p → p ≡ Own def → AllByRecursion (HasRoom fit.width) (reverse frames)
+      → AllByRecursion (λ s. f.base + s < 2 ^ 32) def.inputs
+  own_room fit f rest frames xs p def e same lt is own h =
+      let here : f.base + fit.width f.model < 2 ^ 32 = (room_popped fit.width f rest frames e h).0 in
+      all_weaker (λ s. s ≤ fit.width f.model) (λ s. f.base + s < 2 ^ 32) (λ s le. omega arith) def.inputs (piece_fits fit f xs p (Own def) same lt is own)
+
+  pub inner_room : (fit : HaveRoom blocks) (f : Frame) (rest frames : List Frame) (xs : List Piece) (p : Piece) (model start : ℕ) → frames ≡ rest ++ f ∷ []
+      → xs ≡ at f.model → f.next < length xs → p ≡ get_or xs f.next p → p ≡ Inner model start → AllByRecursion (HasRoom fit.width) (reverse frames)
+      → f.base + start + fit.width model < 2 ^ 32
+  inner_room fit f rest frames xs p model start e same lt is inner h =
+      let here : f.base + fit.width f.model < 2 ^ 32 = (room_popped fit.width f rest frames e h).0 in
+      let ends : start + fit.width model ≤ fit.width f.model = piece_fits fit f xs p (Inner model start) same lt is inner in
+      omega arith
+
+  pub room_begun : (fit : HaveRoom blocks) (f : Frame) (rest frames middle after : List Frame) (xs : List Piece) (p : Piece) (model start base : ℕ) → frames ≡ rest ++ f ∷ []
+      → middle ≡ rest ++ frame f.model f.base (f.next + 1) ∷ [] → after ≡ middle ++ frame model base 0 ∷ []
+      → xs ≡ at f.model → f.next < length xs → p ≡ get_or xs f.next p → p ≡ Inner model start → base ≡ f.base + start
+      → AllByRecursion (HasRoom fit.width) (reverse frames) → AllByRecursion (HasRoom fit.width) (reverse after)
+  room_begun fit f rest frames middle after xs p model start base e m a same lt is inner b h =
+      let room = inner_room fit f rest frames xs p model start e same lt is inner h in
+      room_pushed fit.width (frame model base 0) middle after a (omega arith) (room_taken fit f rest frames middle e m h)
 
   -- no frame is left
   pub lay_all : (frames : List Frame) (defs whole : List Def) → length frames ≡ 0 → defs ++ still blocks (reverse frames) ≡ whole → defs ≡ whole

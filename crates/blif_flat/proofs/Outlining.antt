@@ -1,8 +1,8 @@
 -- The places of a model's signals, part by part of its block.
-use Rattle.std.proofs.Common.{◌≡◌, ℕ, zero, suc, ◌+◌, ◌<◌, ◌≤◌, List, [], ◌∷◌, ◌++◌, map, length, take, get_or, slice_get, refl, sym, ap, ◌∙◌, subst, arith, Option, Some, None, replicate, Bor, append_assoc, flat_map, filter}
+use Rattle.std.proofs.Common.{◌≡◌, ℕ, zero, suc, ◌+◌, ◌<◌, ◌≤◌, List, [], ◌∷◌, ◌++◌, map, length, take, get_or, slice_get, refl, sym, ap, ◌∙◌, subst, arith, Option, Some, None, replicate, Bor, append_assoc, length-append, flat_map, filter}
 use Rattle.std.specs.Prelude.{slice_index_or}
 use Rattle.std.specs.List.{AllByRecursion}
-use Rattle.std.proofs.lemmas.List.{map-append, append-nil, take_more, take_all}
+use Rattle.std.proofs.lemmas.List.{map-append, append-nil, take_more, take_all, length-map, length-replicate}
 use Rattle.blif_read.specs.declared.models.Call.{Call}
 use Rattle.blif_read.specs.declared.models.Named.{Named}
 use Rattle.blif_read.specs.declared.models.NamedDef.{NamedDef}
@@ -68,6 +68,18 @@ call_places models n call outline keys ports seen old new count inner next at is
     append_assoc names (replicate outline.width None) (somes (actuals_in call seen))
     ∙ ap (λ back. names ++ back) (call_adds models n call outline keys seen is k (s ∙ p) ∙ ap (names_at models call) (sym at) ∙ names_are models call) in
     subst (ArePlaces new next) whole (adds (names ++ replicate outline.width None) (passes names places))
+
+-- how much a call adds
+pub call_places_count : (models : List BlifModel) (n : ℕ) (call : Call) (outline : Outline) (keys : List (List ℕ)) (ports seen : List (Option ℕ)) → model_number models call.model ≡ Some n
+    → IsOutline models (slice_index_or models n no_model) outline → keys ≡ distinct_outputs (slice_index_or models n no_model) → seen ≡ ports → ports ≡ ports_for keys (formals call)
+    → outline.width + length (actuals_in call seen) ≡ length (call_names (wide models) models call)
+call_places_count models n call outline keys ports seen at is k s p =
+    let whole : length (replicate outline.width None ++ somes (actuals_in call seen)) ≡ length (call_names (wide models) models call) =
+    ap length (call_adds models n call outline keys seen is k (s ∙ p) ∙ ap (names_at models call) (sym at) ∙ names_are models call) in
+    let parts = length-append (replicate {A = Option (List ℕ)} outline.width None) (somes (actuals_in call seen)) in
+    let inner = length-replicate {A = Option (List ℕ)} outline.width None in
+    let outer = length-map (actuals_in call seen) (λ n. Some n) in
+    omega arith
 
 -- ---- one part more
 

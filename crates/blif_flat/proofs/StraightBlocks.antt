@@ -136,13 +136,17 @@ module _ (models : List BlifModel) (done : List ℕ) (blocks : List (List Piece)
   pub straight : 0 < length models → AreStraight blocks
   straight some = record { laid = straight_models some (length blocks) has.size; ends = straight_turns some (length blocks) has.size }
 
-  pub planned : (steps n : ℕ) → on done n ≡ true → ArePlanned models (wide models) blocks steps n
-  planned zero n e = tt
-  planned (suc steps) n e = (
-    record { wide = width_is models done n settled e fits; held = has.held n e },
-    subst (AllByRecursion (ArePlanned models (wide models) blocks steps)) (callees_at models n)
-        (all_weaker (λ q. on done q ≡ true) (ArePlanned models (wide models) blocks steps) (planned steps) (callees models n) (reads_done (callees models) done n settled e)),
-  )
+-- blocks that a table has for the models of an order are planned
+pub planned : (models : List BlifModel) (done : List ℕ) (blocks : List (List Piece)) → Settled 0 (callees models) done → AllByRecursion (λ n. n < length models) done
+    → ((n : ℕ) → on done n ≡ true → slice_index_or blocks n [] ≡ pieces (wide models) models (at models n))
+    → (steps n : ℕ) → on done n ≡ true → ArePlanned models (wide models) blocks steps n
+planned models done blocks settled bounded held zero n e = tt
+planned models done blocks settled bounded held (suc steps) n e = (
+  record { wide = width_is models done n settled e (order_fits (callees models) (length models) done settled bounded); held = held n e },
+  subst (AllByRecursion (ArePlanned models (wide models) blocks steps)) (callees_at models n)
+      (all_weaker (λ q. on done q ≡ true) (ArePlanned models (wide models) blocks steps) (planned models done blocks settled bounded held steps) (callees models n)
+      (reads_done (callees models) done n settled e)),
+)
 
 -- a design's definitions, by its table of blocks
 pub design_laid : (models : List BlifModel) (order : List ℕ) (blocks : List (List Piece)) → IsLaidOut models → 0 < length models → IsCallOrder models order → HasBlocks models (reverse order) blocks
@@ -150,4 +154,4 @@ pub design_laid : (models : List BlifModel) (order : List ℕ) (blocks : List (L
 design_laid models order blocks ok some o has =
     ap (λ n. laid_out blocks n 0 0) has.size
     ∙ sym (definitions_laid models (wide models) blocks (none_width (length models) models) (first_is_sound models ok some)
-    (planned models (reverse order) blocks o.settled o.bounded has (length models) 0 o.rooted))
+    (planned models (reverse order) blocks o.settled o.bounded has.held (length models) 0 o.rooted))

@@ -1,5 +1,5 @@
 -- Tables of blocks, model by model in the order of calls.
-use Rattle.std.proofs.Common.{◌≡◌, ℕ, zero, suc, ◌+◌, ◌<◌, ◌||◌, true, false, List, [], ◌∷◌, ◌++◌, map, length, take, get_or, slice_get, set, reverse, refl, sym, ap, ◌∙◌, subst, arith, inl, inr, Option, Some, None, flat_map, replicate, Bor, get_or-set_other, get_or-set_same, length-set}
+use Rattle.std.proofs.Common.{◌≡◌, ℕ, zero, suc, ◌+◌, ◌<◌, ◌^◌, ◌||◌, true, false, List, [], ◌∷◌, ◌++◌, map, length, take, get_or, slice_get, set, reverse, refl, sym, ap, ◌∙◌, subst, arith, inl, inr, Option, Some, None, flat_map, replicate, Bor, get_or-set_other, get_or-set_same, length-set}
 use Rattle.std.specs.Prelude.{nat_eq}
 use Rattle.std.specs.List.{AllByRecursion, IsDistinct}
 use Rattle.std.specs.Str.{bytes_eq}
@@ -15,7 +15,7 @@ use Rattle.blif_flat.specs.DesignFaults.{AreJoined, number_in as listed, callees
 use Rattle.blif_flat.specs.declared.expansion.pieces.Piece.{Piece}
 use Rattle.blif_flat.specs.declared.models.outlines.Outline.{Outline}
 use Rattle.blif_flat.specs.Code.Calls.{IsCallOrder}
-use Rattle.blif_flat.specs.Code.Blocks.{wide, block_names, pieces, HasBlocks}
+use Rattle.blif_flat.specs.Code.Blocks.{wide, block_names, pieces, AreNarrow, HasBlocks}
 use Rattle.blif_flat.specs.Code.Joins.{ArePlaces}
 use Rattle.blif_flat.specs.Code.Outlines.{IsOutline, HasOutline, IsOutlined, AreOutlined}
 use Rattle.blif_flat.proofs.Members.{AreApart, other_bytes, apart_front, all_weaker}
@@ -103,13 +103,22 @@ module _ (models : List BlifModel) (order : List ℕ) (i : ℕ) (o : IsCallOrder
   calls_outlined outlines known = outlined_calls models (reverse (take i order)) outlines known (at models here).calls
       (subst (AllByRecursion (λ q. on (reverse (take i order)) q ≡ true)) (callees_at models here) (next_reads (callees models) order i 0 lt o.settled))
 
-  pub wide_is : (entries : List (Bor (List ℕ) × ℕ)) (width : ℕ) → ArePlaces entries width (block_names (wide models) models (at models here)) → width ≡ wide models (at models here)
-  wide_is entries width places =
+  full_here : wide models (at models here) ≡ length (block_names (wide models) models (at models here))
+  full_here =
       let whole = next_done order i 0 lt in
       let s = subst (Settled 0 (callees models)) whole (settled_to (callees models) order (i + 1) o.settled) in
       let b = subst (AllByRecursion (λ n. n < length models)) whole (all_to (λ n. n < length models) order (i + 1) o.bounded) in
       let fits = order_fits (callees models) (length models) (here ∷ reverse (take i order)) s b in
-      sym (width_is models (here ∷ reverse (take i order)) here s (let same = same_is here in rw same refl) fits ∙ places.count)
+      width_is models (here ∷ reverse (take i order)) here s (let same = same_is here in rw same refl) fits
+
+  pub few_names : AreNarrow models (reverse order) → length (block_names (wide models) models (at models here)) < 2 ^ 32
+  few_names narrow =
+      let few : wide models (at models here) < 2 ^ 32 = in_order (λ n. wide models (at models n) < 2 ^ 32) order i 0 lt narrow in
+      let full = full_here in
+      omega arith
+
+  pub wide_is : (entries : List (Bor (List ℕ) × ℕ)) (width : ℕ) → ArePlaces entries width (block_names (wide models) models (at models here)) → width ≡ wide models (at models here)
+  wide_is entries width places = sym (full_here ∙ places.count)
 
   pub inputs_distinct : AreJoined models → IsDistinct bytes_eq (names_in (at models here).inputs)
   inputs_distinct joined =

@@ -1,9 +1,9 @@
 -- The wires of a model in one block: its inputs, what it defines, and then, call by call, the block of the called model
 -- and the signals that its outputs are joined to. Places are counted from the block's first wire, so that one list of
 -- definitions by places serves each call of a model.
-use Rattle.std.specs.Prelude.{◌≡◌, ℕ, zero, suc, ◌+◌, Bool, true, false, List, [], ◌∷◌, ◌++◌, codes, map, length, drop}
-use Rattle.std.specs.Prelude.{replicate, Option, Some, None, slice_index_or}
-use Rattle.std.specs.List.{flat_map, position_or_len, sum_by}
+use Rattle.std.specs.Prelude.{◌≡◌, ℕ, zero, suc, ◌+◌, ◌<◌, ◌≤◌, ◌^◌, Bool, true, false, List, [], ◌∷◌, ◌++◌, codes}
+use Rattle.std.specs.Prelude.{map, length, drop, replicate, Option, Some, None, slice_index_or}
+use Rattle.std.specs.List.{flat_map, position_or_len, sum_by, AllByRecursion}
 use Rattle.std.specs.Str.{bytes_eq}
 use Rattle.blif_read.specs.declared.netlist.Def.{Def}
 use Rattle.blif_read.specs.declared.models.Call.{Call}
@@ -104,6 +104,17 @@ pub record AreStraight (blocks : List (List Piece)) : Type 0 where
   pub ends : (n : ℕ) → turns blocks (length blocks) n
       ≡ 1 + sum_by (piece_turns (turns blocks (length blocks))) (slice_index_or blocks n [])
 
+-- a piece names places up to this one, and a block inside ends there too, where blocks are so wide
+abbrev pub FitsIn : (ℕ → ℕ) → ℕ → Piece → Type 0
+FitsIn width total (Own def) = AllByRecursion (λ p. p ≤ total) def.inputs
+FitsIn width total (Inner n start) = start + width n ≤ total
+
+-- each block is so wide that its pieces fit in it, and 32 bits hold the places of the first
+pub record HaveRoom (blocks : List (List Piece)) : Type 0 where
+  pub width : ℕ → ℕ
+  pub fits : (n : ℕ) → AllByRecursion (FitsIn width (width n)) (slice_index_or blocks n [])
+  pub few : width 0 < 2 ^ 32
+
 -- what a walk has still to lay out from its frames on, nearest first
 abbrev pub still : List (List Piece) → List Frame → List Def
 still blocks [] = []
@@ -121,6 +132,10 @@ turns_left blocks (f ∷ fs) =
 -- the width of a model's block
 abbrev pub wide : List BlifModel → BlifModel → ℕ
 wide models model = block_width (length models) models model
+
+-- 32 bits hold the places of each of these models
+abbrev pub AreNarrow : List BlifModel → List ℕ → Type 0
+AreNarrow models done = AllByRecursion (λ n. wide models (slice_index_or models n no_model) < 2 ^ 32) done
 
 -- a table has the pieces of these models' blocks, and nothing for others
 pub record HasBlocks (models : List BlifModel) (done : List ℕ) (blocks : List (List Piece)) : Type 0 where

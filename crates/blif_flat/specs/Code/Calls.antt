@@ -3,7 +3,7 @@ use Rattle.std.specs.Prelude.{◌≡◌, ℕ, ◌<◌, Bool, true, List, [], map
 use Rattle.std.specs.List.{flat_map, AllByRecursion}
 use Rattle.std.specs.Str.{bytes_eq}
 use Rattle.blif_read.specs.Walk.{on}
-use Rattle.blif_read.specs.Walked.{Settled}
+use Rattle.blif_read.specs.Walked.{Settled, AreLedTo}
 use Rattle.blif_read.specs.declared.netlist.Def.{Def}
 use Rattle.blif_read.specs.declared.models.BlifModel.{BlifModel}
 use Rattle.blif_flat.specs.Designs.{model_number}
@@ -26,8 +26,9 @@ call_def models model = record {
 abbrev pub call_defs : List BlifModel → List Def
 call_defs models = map (call_def models) models
 
--- the first model and those that its calls lead to, each after those that it calls
+-- the first model and those that its calls lead to, and no others, each after those that it calls
 pub record IsCallOrder (models : List BlifModel) (order : List ℕ) : Type 0 where
   pub settled : Settled 0 (callees models) (reverse order)
   pub bounded : AllByRecursion (λ n. n < length models) (reverse order)
   pub rooted : on (reverse order) 0 ≡ true
+  pub led : AreLedTo (callees models) 0 (reverse order)

@@ -1,19 +1,20 @@
 -- What a table keeps of models for their callers.
-use Rattle.std.specs.Prelude.{◌≡◌, ℕ, List, [], map, Option, Some, None, slice_get, slice_index_or}
+use Rattle.std.specs.Prelude.{◌≡◌, ℕ, List, [], map, length, Option, Some, None, slice_get, slice_index_or}
 use Rattle.std.specs.List.{AllByRecursion}
 use Rattle.std.specs.Str.{bytes_eq}
 use Rattle.indexmap.specs.IndexSet.{insert_all}
 use Rattle.blif_read.specs.declared.models.Call.{Call}
 use Rattle.blif_read.specs.declared.models.BlifModel.{BlifModel}
 use Rattle.blif_flat.specs.Designs.{names_in, model_number, no_model, distinct_outputs}
-use Rattle.blif_flat.specs.Code.Blocks.{wide, place}
+use Rattle.blif_flat.specs.Code.Blocks.{wide, block_names, place}
 use Rattle.blif_flat.specs.declared.models.outlines.Outline.{Outline}
 
--- the inputs of a model differ; the places of its outputs, each once, and its width
+-- the inputs of a model differ; the places of its outputs, each once, and its width, which is that of its block
 pub record IsOutline (models : List BlifModel) (model : BlifModel) (outline : Outline) : Type 0 where
   pub inputs : insert_all bytes_eq [] (names_in model.inputs) ≡ names_in model.inputs
   pub exits : outline.exits.items ≡ map (place (wide models) models model) (distinct_outputs model)
   pub width : outline.width ≡ wide models model
+  pub full : length (block_names (wide models) models model) ≡ wide models model
 
 -- the outline of a number in a table
 pub record HasOutline (models : List BlifModel) (outlines : List Outline) (n : ℕ) : Type 0 where

@@ -1,6 +1,6 @@
 // The blocks of models.
-ghost use Rattle.std.specs.Prelude.{◌≡◌, ℕ, ◌+◌, ◌∷◌, ◌++◌, [], List as Items, map, length, Option as Maybe, IfOk, OnOk, slice_index_or};
-ghost use Rattle.std.specs.List.{position_or_len};
+ghost use Rattle.std.specs.Prelude.{◌≡◌, ℕ, ◌+◌, ◌<◌, ◌^◌, ◌∷◌, ◌++◌, [], List as Items, map, length, Option as Maybe, IfOk, OnOk, slice_index_or};
+ghost use Rattle.std.specs.List.{position_or_len, AllByRecursion};
 ghost use Rattle.blif_read.specs.declared.models.BlifModel.{BlifModel as Model};
 ghost use Rattle.blif_flat.specs.Designs.{model_number};
 ghost use Rattle.blif_flat.specs.declared.expansion.pieces.Piece.TheVariants.{Own};
@@ -10,8 +10,8 @@ ghost use Rattle.blif_flat.specs.Code.Outlines.{IsOutlined, AreOutlined};
 
 use crate::expansion::pieces::{Block, Piece};
 use crate::models::indexed::Design;
-use crate::models::joins::{actual_in, more, place_of, ports_for};
-use crate::models::numbers::{Numbers, small_number};
+use crate::models::joins::{actual_in, place_of, ports_for};
+use crate::models::numbers::{Numbers, narrow};
 use crate::models::outlines::{Outline, outline_at};
 use aq_base::{List, Memory};
 use blif_read::{BlifModel, Call, Cube, Def, NamedDef};
@@ -132,6 +132,8 @@ fn push_exit(
     count: u32,
     pieces: &mut Block,
 ) -> Result<u32, Memory>
+    requires few { count + length (exits_in (port ∷ []) (exit ∷ [])) < 2 ^ 32 }
+    requires reach { from + exit < 2 ^ 32 }
     ensures count { IfOk result (λ next. next ≡ count + length (exits_in (port ∷ []) (exit ∷ []))) }
     ensures pieces { OnOk result (pieces.new
         ≡ pieces.old ++ map (λ e. Own (buffer_of line (from + e))) (exits_in (port ∷ []) (exit ∷ []))) }
@@ -139,9 +141,9 @@ fn push_exit(
     if port.is_none() {
         return Ok(count);
     }
-    let def = buffer(alloc, line, more(from, exit)?)?;
+    let def = buffer(alloc, line, from + exit)?;
     pieces.push(Piece::Own(def))?;
-    let next = more(count, 1)?;
+    let next = count + 1;
     Ok(next)
 }
 
@@ -160,6 +162,8 @@ fn push_exits(
     exits: &[u32],
     pieces: &mut Block,
 ) -> Result<u32, Memory>
+    requires few { length (exits_in ports.now exits.now) < 2 ^ 32 }
+    requires reach { AllByRecursion (λ e. from + e < 2 ^ 32) exits.now }
     ensures count { IfOk result (λ count. count ≡ length (exits_in ports.now exits.now)) }
     ensures pieces { OnOk result (pieces.new
         ≡ pieces.old ++ map (λ e. Own (buffer_of line (from + e))) (exits_in ports.now exits.now)) }
@@ -182,11 +186,11 @@ fn push_call(
     start: u32,
     pieces: &mut Block,
 ) -> Result<u32, Memory>
-    ensures pieces { (model : Model) → IsOutlined design.now outlines.now (model_number design.now call.now.model)
-        → ArePlaces places.now.entries width (block_names (wide design.now) design.now model)
+    requires outlined { IsOutlined design.now outlines.now (model_number design.now call.now.model) }
+    requires room { start + length (call_names (wide design.now) design.now call.now) < 2 ^ 32 }
+    ensures pieces { (model : Model) → ArePlaces places.now.entries width (block_names (wide design.now) design.now model)
         → OnOk result (pieces.new ≡ pieces.old ++ call_pieces (wide design.now) design.now model start call.now) }
-    ensures next { IsOutlined design.now outlines.now (model_number design.now call.now.model)
-        → IfOk result (λ next. next ≡ start + length (call_names (wide design.now) design.now call.now)) }
+    ensures next { IfOk result (λ next. next ≡ start + length (call_names (wide design.now) design.now call.now)) }
 {
     let Some((number, model)) = design.found(call) else {
         return Ok(start);
@@ -209,8 +213,8 @@ fn push_call(
         outline.exits.as_slice(),
         pieces,
     )?;
-    let inner = more(start, outline.width)?;
-    let next = more(inner, count)?;
+    let inner = start + outline.width;
+    let next = inner + count;
     Ok(next)
 }
 
@@ -223,15 +227,15 @@ pub fn block_of(
     width: u32,
     model: &BlifModel,
 ) -> Result<Block, Memory>
-    ensures { AreOutlined design.now outlines.now model.now.calls
-        → ArePlaces places.now.entries width (block_names (wide design.now) design.now model.now)
-        → IfOk result (λ block. block ≡ pieces (wide design.now) design.now model.now) }
+    requires outlined { AreOutlined design.now outlines.now model.now.calls }
+    requires places { ArePlaces places.now.entries width (block_names (wide design.now) design.now model.now) }
+    ensures { IfOk result (λ block. block ≡ pieces (wide design.now) design.now model.now) }
 {
     let mut block = List::new(alloc);
     push_defs(alloc, places, width, model.defs.as_slice(), &mut block)?;
-    let inputs = small_number(model.inputs.len())?;
-    let defs = small_number(model.defs.len())?;
-    let mut start = more(inputs, defs)?;
+    let inputs = narrow(model.inputs.len());
+    let defs = narrow(model.defs.len());
+    let mut start = inputs + defs;
     for call in model.calls.as_slice() {
         start = push_call(
             alloc, design, outlines, places, width, call, start, &mut block,

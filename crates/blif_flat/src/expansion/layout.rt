@@ -1,6 +1,7 @@
 // Blocks of models laid out as definitions, with a stack of calls of its own.
-ghost use Rattle.std.specs.Prelude.{◌≡◌, ◌+◌, [], length, IfOk, slice_index_or};
-ghost use Rattle.blif_flat.specs.Code.Blocks.{moved, laid_out, AreStraight};
+ghost use Rattle.std.specs.Prelude.{◌≡◌, ◌+◌, ◌<◌, ◌^◌, [], length, IfOk, slice_index_or};
+ghost use Rattle.std.specs.List.{AllByRecursion};
+ghost use Rattle.blif_flat.specs.Code.Blocks.{moved, laid_out, AreStraight, HaveRoom};
 
 use crate::expansion::pieces::{Block, Piece};
 use aq_base::{List, Memory};
@@ -26,20 +27,22 @@ fn pieces_of(blocks: &[Block], model: u32) -> &[Piece]
     }
 }
 
-/// The number of the wire at a place; there is no memory for more than 2^32 - 1.
-fn wire_at(base: u32, place: u32) -> Result<u32, Memory>
-    ensures { IfOk result (λ wire. wire ≡ base + place) }
+/// The number of the wire at a place.
+fn wire_at(base: u32, place: u32) -> u32
+    requires { base + place < 2 ^ 32 }
+    ensures { result ≡ base + place }
 {
-    base.checked_add(place).ok_or(Memory)
+    base + place
 }
 
 /// A definition of a block, with numbers of wires in place of places.
 fn moved(alloc: Global, base: u32, def: &Def) -> Result<Def, Memory>
+    requires { AllByRecursion (λ p. base + p < 2 ^ 32) def.now.inputs }
     ensures { IfOk result (λ d. d ≡ moved base def.now) }
 {
     let mut inputs = List::new(alloc);
     for place in def.inputs.as_slice() {
-        inputs.push(wire_at(base, *place)?)?;
+        inputs.push(wire_at(base, *place))?;
     }
     Ok(Def {
         line: def.line,
@@ -51,7 +54,8 @@ fn moved(alloc: Global, base: u32, def: &Def) -> Result<Def, Memory>
 
 /// The definitions of the first model's block, where each call is the block of the model that it names.
 pub fn lay_out(alloc: Global, blocks: &[Block]) -> Result<List<Def>, Memory>
-    requires { AreStraight blocks.now }
+    requires straight { AreStraight blocks.now }
+    requires room { HaveRoom blocks.now }
     ensures { IfOk result (λ defs. defs ≡ laid_out blocks.now (length blocks.now) 0 0) }
 {
     let mut defs = List::new(alloc);
@@ -77,7 +81,7 @@ pub fn lay_out(alloc: Global, blocks: &[Block]) -> Result<List<Def>, Memory>
                 defs.push(def)?;
             }
             Piece::Inner { model, start } => {
-                let base = wire_at(frame.base, *start)?;
+                let base = wire_at(frame.base, *start);
                 frames.push(Frame {
                     model: *model,
                     base,

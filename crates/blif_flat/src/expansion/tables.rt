@@ -3,13 +3,14 @@ ghost use Rattle.std.specs.Prelude.{◌≡◌, ℕ, ◌<◌, List as Items, [], 
 ghost use Rattle.std.specs.List.{position_or_len, IsDistinct};
 ghost use Rattle.std.specs.Str.{bytes_eq};
 ghost use Rattle.blif_read.specs.Code.Seen.{texts};
+ghost use Rattle.blif_read.specs.Netlist.{AreParts};
 ghost use Rattle.blif_read.specs.declared.models.BlifModel.{BlifModel as Model};
 ghost use Rattle.blif_flat.specs.Designs.{names_in};
 ghost use Rattle.blif_flat.specs.DesignFaults.{AreJoined};
 ghost use Rattle.blif_flat.specs.DesignText.{IsLaidOut};
 ghost use Rattle.blif_flat.specs.Expansion.{expansion};
 ghost use Rattle.blif_flat.specs.Code.Calls.{IsCallOrder};
-ghost use Rattle.blif_flat.specs.Code.Blocks.{is_that, wide, block_names, HasBlocks};
+ghost use Rattle.blif_flat.specs.Code.Blocks.{is_that, wide, block_names, AreNarrow, HasBlocks};
 ghost use Rattle.blif_flat.specs.Code.Joins.{ArePlaces};
 ghost use Rattle.blif_flat.specs.Code.Outlines.{IsOutline};
 
@@ -102,6 +103,7 @@ pub fn blocks_of(
     requires same { design.now ≡ models.now }
     requires order { IsCallOrder models.now order.now }
     requires joined { AreJoined models.now }
+    requires narrow { AreNarrow models.now (reverse order.now) }
     ensures { IfOk result (λ blocks. HasBlocks models.now (reverse order.now) blocks) }
 {
     let mut outlines = empty_outlines(alloc, models.len())?;
@@ -132,6 +134,7 @@ pub fn definitions_of(
     requires some { 0 < length models.now }
     requires order { IsCallOrder models.now order.now }
     requires laid_out { IsLaidOut models.now }
+    requires parts { AreParts (expansion models.now) }
     ensures { IfOk result (λ defs. defs ≡ (expansion models.now).defs) }
 {
     let blocks = blocks_of(alloc, hash, design, models, order)?;

@@ -1,5 +1,5 @@
 // The ports of calls, and the places of signals in a block.
-ghost use Rattle.std.specs.Prelude.{◌≡◌, ℕ, ◌+◌, ◌<◌, ◌∷◌, ◌++◌, [], List as Items, map, length, replicate, Option as Maybe, Some, None, IfOk, IfSome, MatchOption};
+ghost use Rattle.std.specs.Prelude.{◌≡◌, ℕ, ◌+◌, ◌<◌, ◌^◌, ◌∷◌, ◌++◌, [], List as Items, map, length, replicate, Option as Maybe, Some, None, IfOk, IfSome, MatchOption};
 ghost use Rattle.std.specs.List.{position, position_or_len};
 ghost use Rattle.std.specs.Str.{bytes_eq};
 ghost use Rattle.blif_read.specs.Code.Seen.{texts};
@@ -59,30 +59,26 @@ pub fn ports_for(
     Ok(ports)
 }
 
-/// One more; there is no memory for more than 2^32 - 1.
-pub fn more(count: u32, by: u32) -> Result<u32, Memory>
-    ensures { IfOk result (λ sum. sum ≡ count + by) }
-{
-    count.checked_add(by).ok_or(Memory)
-}
-
 /// Gives a name the next place, unless it has one, and answers how many there are then.
 pub fn add_name<'a>(places: &mut Numbers<'a>, count: u32, name: &'a [u8]) -> Result<u32, Memory>
-    ensures { IfOk result (λ next. (names : Items (Maybe (Items ℕ))) → ArePlaces places.old.entries count names
+    requires { count + 1 < 2 ^ 32 }
+    ensures next { IfOk result (λ next. next ≡ count + 1) }
+    ensures places { IfOk result (λ next. (names : Items (Maybe (Items ℕ))) → ArePlaces places.old.entries count names
         → ArePlaces places.new.entries next (names ++ Some name.now ∷ [])) }
 {
     add(places, name, count)?;
-    let next = more(count, 1)?;
+    let next = count + 1;
     Ok(next)
 }
 
 /// Passes over so many places.
-pub fn pass(places: &Numbers<'_>, count: u32, by: u32) -> Result<u32, Memory>
-    ensures { IfOk result (λ next. (names : Items (Maybe (Items ℕ))) → ArePlaces places.now.entries count names
-        → ArePlaces places.now.entries next (names ++ replicate by None)) }
+pub fn pass(places: &Numbers<'_>, count: u32, by: u32) -> u32
+    requires { count + by < 2 ^ 32 }
+    ensures next { result ≡ count + by }
+    ensures places { (names : Items (Maybe (Items ℕ))) → ArePlaces places.now.entries count names
+        → ArePlaces places.now.entries result (names ++ replicate by None) }
 {
-    let next = more(count, by)?;
-    Ok(next)
+    count + by
 }
 
 /// The actual of a port.
@@ -105,7 +101,9 @@ fn add_actual<'a>(
     call: &'a Call,
     port: Option<usize>,
 ) -> Result<u32, Memory>
-    ensures { IfOk result (λ next. (names : Items (Maybe (Items ℕ))) → ArePlaces places.old.entries count names
+    requires { count + length (actual_in call.now port) < 2 ^ 32 }
+    ensures next { IfOk result (λ next. next ≡ count + length (actual_in call.now port)) }
+    ensures places { IfOk result (λ next. (names : Items (Maybe (Items ℕ))) → ArePlaces places.old.entries count names
         → ArePlaces places.new.entries next (names ++ map (λ n. Some n) (actual_in call.now port))) }
 {
     match actual_in(call, port) {
@@ -124,7 +122,9 @@ pub fn add_actuals<'a>(
     call: &'a Call,
     ports: &[Option<usize>],
 ) -> Result<u32, Memory>
-    ensures { IfOk result (λ next. (names : Items (Maybe (Items ℕ))) → ArePlaces places.old.entries count names
+    requires { count + length (actuals_in call.now ports.now) < 2 ^ 32 }
+    ensures next { IfOk result (λ next. next ≡ count + length (actuals_in call.now ports.now)) }
+    ensures places { IfOk result (λ next. (names : Items (Maybe (Items ℕ))) → ArePlaces places.old.entries count names
         → ArePlaces places.new.entries next (names ++ map (λ n. Some n) (actuals_in call.now ports.now))) }
 {
     let mut next = count;

@@ -1,5 +1,5 @@
 // Numbers of names.
-ghost use Rattle.std.specs.Prelude.{◌≡◌, ℕ, ◌<◌, ◌^◌, List, IfOk, OnOk};
+ghost use Rattle.std.specs.Prelude.{◌≡◌, ℕ, ◌<◌, ◌^◌, List, OnOk};
 ghost use Rattle.std.specs.Str.{bytes_eq};
 ghost use Rattle.blif_flat.specs.Code.Numbering.{number_in, number_or};
 
@@ -9,13 +9,6 @@ use name_hash::NameHash;
 
 /// The number of each name. The hash is keyed by the text that the names stand in.
 pub type Numbers<'a> = IndexMap<&'a [u8], u32, NameHash>;
-
-/// A number of items, of which there is no memory for more than 2^32 - 1.
-pub fn small_number(number: usize) -> Result<u32, Memory>
-    ensures { IfOk result (λ small. small ≡ number) }
-{
-    u32::try_from(number).map_err(|_| Memory)
-}
 
 /// A number of items that 32 bits hold.
 pub fn narrow(number: usize) -> u32

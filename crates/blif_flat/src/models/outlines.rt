@@ -1,5 +1,5 @@
 // The places of a model's signals in its block.
-ghost use Rattle.std.specs.Prelude.{◌≡◌, ℕ, ◌∷◌, ◌++◌, [], List as Items, map, Option as Maybe, Some, None, slice_get, IfOk};
+ghost use Rattle.std.specs.Prelude.{◌≡◌, ℕ, ◌+◌, ◌<◌, ◌^◌, ◌∷◌, ◌++◌, [], List as Items, map, length, Option as Maybe, Some, None, slice_get, IfOk};
 ghost use Rattle.std.specs.Option.{option_copied};
 ghost use Rattle.blif_flat.specs.Designs.{names_in, model_number};
 ghost use Rattle.blif_flat.specs.Code.Blocks.{call_names, block_names, wide};
@@ -40,8 +40,10 @@ fn add_call<'a>(
     places: &mut Numbers<'a>,
     count: u32,
 ) -> Result<u32, Memory>
-    ensures { IsOutlined design.now outlines.now (model_number design.now call.now.model)
-        → IfOk result (λ next. (names : Items (Maybe (Items ℕ))) → ArePlaces places.old.entries count names
+    requires outlined { IsOutlined design.now outlines.now (model_number design.now call.now.model) }
+    requires room { count + length (call_names (wide design.now) design.now call.now) < 2 ^ 32 }
+    ensures next { IfOk result (λ next. next ≡ count + length (call_names (wide design.now) design.now call.now)) }
+    ensures places { IfOk result (λ next. (names : Items (Maybe (Items ℕ))) → ArePlaces places.old.entries count names
         → ArePlaces places.new.entries next (names ++ call_names (wide design.now) design.now call.now)) }
 {
     let Some((number, model)) = design.found(call) else {
@@ -51,14 +53,16 @@ fn add_call<'a>(
         return Ok(count);
     };
     let ports = ports_for(alloc, model.outputs(), call)?;
-    let inner = pass(places, count, outline.width)?;
+    let inner = pass(places, count, outline.width);
     let next = add_actuals(places, inner, call, &ports)?;
     Ok(next)
 }
 
 /// Gives the next places to names.
 fn add_inputs<'a>(inputs: &'a [Named], places: &mut Numbers<'a>, count: u32) -> Result<u32, Memory>
-    ensures { IfOk result (λ next. (names : Items (Maybe (Items ℕ))) → ArePlaces places.old.entries count names
+    requires { count + length inputs.now < 2 ^ 32 }
+    ensures next { IfOk result (λ next. next ≡ count + length inputs.now) }
+    ensures places { IfOk result (λ next. (names : Items (Maybe (Items ℕ))) → ArePlaces places.old.entries count names
         → ArePlaces places.new.entries next (names ++ flat_map (λ n. Some n.name ∷ []) inputs.now)) }
 {
     let mut next = count;
@@ -70,7 +74,9 @@ fn add_inputs<'a>(inputs: &'a [Named], places: &mut Numbers<'a>, count: u32) -> 
 
 /// Gives the next places to what definitions define.
 fn add_defs<'a>(defs: &'a [NamedDef], places: &mut Numbers<'a>, count: u32) -> Result<u32, Memory>
-    ensures { IfOk result (λ next. (names : Items (Maybe (Items ℕ))) → ArePlaces places.old.entries count names
+    requires { count + length defs.now < 2 ^ 32 }
+    ensures next { IfOk result (λ next. next ≡ count + length defs.now) }
+    ensures places { IfOk result (λ next. (names : Items (Maybe (Items ℕ))) → ArePlaces places.old.entries count names
         → ArePlaces places.new.entries next (names ++ flat_map (λ d. Some d.output ∷ []) defs.now)) }
 {
     let mut next = count;
@@ -89,8 +95,9 @@ fn add_calls<'a>(
     places: &mut Numbers<'a>,
     count: u32,
 ) -> Result<u32, Memory>
-    ensures { AreOutlined design.now outlines.now calls.now
-        → IfOk result (λ next. (names : Items (Maybe (Items ℕ))) → ArePlaces places.old.entries count names
+    requires outlined { AreOutlined design.now outlines.now calls.now }
+    requires room { count + length (flat_map (call_names (wide design.now) design.now) calls.now) < 2 ^ 32 }
+    ensures { IfOk result (λ next. (names : Items (Maybe (Items ℕ))) → ArePlaces places.old.entries count names
         → ArePlaces places.new.entries next (names ++ flat_map (call_names (wide design.now) design.now) calls.now)) }
 {
     let mut next = count;
@@ -108,8 +115,9 @@ pub fn places_of<'a>(
     outlines: &[Outline],
     model: &'a BlifModel,
 ) -> Result<(Numbers<'a>, u32), Memory>
-    ensures { AreOutlined design.now outlines.now model.now.calls
-        → IfOk result (λ r. ArePlaces r.0.entries r.1 (block_names (wide design.now) design.now model.now)) }
+    requires outlined { AreOutlined design.now outlines.now model.now.calls }
+    requires room { length (block_names (wide design.now) design.now model.now) < 2 ^ 32 }
+    ensures { IfOk result (λ r. ArePlaces r.0.entries r.1 (block_names (wide design.now) design.now model.now)) }
 {
     let mut places = IndexMap::with_hasher(alloc, hash);
     let inputs = add_inputs(model.inputs.as_slice(), &mut places, 0)?;
