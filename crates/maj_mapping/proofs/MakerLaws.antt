@@ -1,12 +1,12 @@
 -- What a maker of gates keeps.
-use Rattle.std.specs.Prelude.{◌≡◌, ℕ, zero, suc, ◌+◌, ◌<◌, ◌^◌, Bool, true, false, List, [], ◌∷◌, ◌++◌, length, slice_index_or, slice_set, Option, Some, None}
+use Rattle.std.specs.Prelude.{◌≡◌, ℕ, suc, ◌+◌, ◌<◌, ◌^◌, Bool, true, false, List, [], ◌∷◌, ◌++◌, length, slice_index_or, slice_set, Option, Some, None}
 use Rattle.std.proofs.Common.{refl, sym, ap, ◌∙◌, subst, arith, inl, inr, length-append, lit<}
 use Rattle.std.proofs.lemmas.Bool.{cases_eq, ne_eqb, eq-eqb}
-use Rattle.std.proofs.lemmas.List.{length-set, get_or-set_same, get_or-set_other}
+use Rattle.std.proofs.lemmas.List.{get_or-set_same, get_or-set_other}
 use Rattle.circuit.specs.declared.gate.Gate.{Gate}
 use Rattle.circuit.specs.declared.gate.Gate.TheVariants.{Inv}
 use Rattle.maj_mapping.specs.Operations.{inverts, inverter_from}
-use Rattle.maj_mapping.specs.Code.Makers.{IsMaker, NoInverter}
+use Rattle.maj_mapping.specs.Code.Makers.{not_made, made_by, IsMaker, NoInverter}
 
 -- the index with one more gate
 abbrev pub or_then : Option ℕ → Bool → ℕ → Option ℕ
@@ -27,38 +27,33 @@ inverter_after x i (h ∷ gs) g j e = go (inverts x h) (inverter_after x (suc i)
     go true r = refl
     go false r = r
 
-pushed_none : (xs : List (Option ℕ)) (x : ℕ) → slice_index_or (xs ++ None ∷ []) x None ≡ slice_index_or xs x None
-pushed_none [] zero = refl
-pushed_none [] (suc x) = refl
-pushed_none (y ∷ ys) zero = refl
-pushed_none (y ∷ ys) (suc x) = pushed_none ys x
+made_is : (at : ℕ) → at + 1 < 2 ^ 32 → made_by at ≡ Some at
+made_is at lt = rw (ne_eqb at not_made (λ e. omega arith), made_by) refl
 
 or_none : (o : Option ℕ) (j : ℕ) → or_then o false j ≡ o
 or_none None j = refl
 or_none (Some k) j = refl
 
-pub maker_room : (n : ℕ) (gs : List Gate) (is : List (Option ℕ)) → IsMaker n gs is → IsMaker n gs (is ++ None ∷ [])
-maker_room n gs is ok = record { known = simp length-append (let k = ok.known in omega arith); index = λ x. pushed_none is x ∙ ok.index x; numbered = ok.numbered; small = ok.small }
+pub maker_same : (n : ℕ) (gs : List Gate) (is is' : List ℕ) → ((x : ℕ) → slice_index_or is' x not_made ≡ slice_index_or is x not_made) → IsMaker n gs is → IsMaker n gs is'
+maker_same n gs is is' same ok = record { index = λ x. ap made_by (same x) ∙ ok.index x; numbered = ok.numbered; small = ok.small }
 
-pub maker_make : (n : ℕ) (gs : List Gate) (is : List (Option ℕ)) (g : Gate) → IsMaker n gs is → length gs < length is → NoInverter g → length gs + 1 < 2 ^ 32 → IsMaker n (gs ++ g ∷ []) is
-maker_make n gs is g ok lt plain room = record {
-  known = simp length-append (omega arith);
+pub maker_make : (n : ℕ) (gs : List Gate) (is : List ℕ) (g : Gate) → IsMaker n gs is → NoInverter g → length gs + 1 < 2 ^ 32 → IsMaker n (gs ++ g ∷ []) is
+maker_make n gs is g ok plain room = record {
   index = λ x. ok.index x ∙ sym (inverter_after x 0 gs g (length gs) (omega arith) ∙ ap (λ (b : Bool). or_then (inverter_from x 0 gs) b (length gs)) (plain x) ∙ or_none (inverter_from x 0 gs) (length gs));
   numbered = ok.numbered;
   small = simp length-append (omega arith);
 }
 
-pub maker_invert : (n : ℕ) (gs : List Gate) (is : List (Option ℕ)) (x : ℕ) → IsMaker n gs is → length gs < length is → x < length gs → inverter_from x 0 gs ≡ None → length gs + 1 < 2 ^ 32 → IsMaker n (gs ++ Inv x ∷ []) (slice_set is x (Some (length gs)))
-maker_invert n gs is x ok lt low free room = record {
-  known = simp (length-append, length-set) (omega arith);
+pub maker_invert : (n : ℕ) (gs : List Gate) (is : List ℕ) (x : ℕ) → IsMaker n gs is → x < length is → inverter_from x 0 gs ≡ None → length gs + 1 < 2 ^ 32 → IsMaker n (gs ++ Inv x ∷ []) (slice_set is x (length gs))
+maker_invert n gs is x ok low free room = record {
   index = λ y. elim (cases_eq y x) [
     | inl same ↦
-        (let a : slice_index_or (slice_set is x (Some (length gs))) x None ≡ Some (length gs) = get_or-set_same is x (Some (length gs)) None (omega arith) in
+        (let a : made_by (slice_index_or (slice_set is x (length gs)) x not_made) ≡ Some (length gs) = ap made_by (get_or-set_same is x (length gs) not_made low) ∙ made_is (length gs) room in
         let b : inverts x (Inv x) ≡ true = eq-eqb x x refl in
         let c : inverter_from x 0 (gs ++ Inv x ∷ []) ≡ Some (length gs) = inverter_after x 0 gs (Inv x) (length gs) (omega arith) ∙ ap (λ (o : Option ℕ). or_then o (inverts x (Inv x)) (length gs)) free ∙ ap (λ (t : Bool). or_then None t (length gs)) b in
-        subst (λ z. slice_index_or (slice_set is x (Some (length gs))) z None ≡ inverter_from z 0 (gs ++ Inv x ∷ [])) (sym same) (a ∙ sym c))
+        subst (λ z. made_by (slice_index_or (slice_set is x (length gs)) z not_made) ≡ inverter_from z 0 (gs ++ Inv x ∷ [])) (sym same) (a ∙ sym c))
     | inr other ↦
-        get_or-set_other is x y (Some (length gs)) None other ∙ ok.index y
+        ap made_by (get_or-set_other is x y (length gs) not_made other) ∙ ok.index y
         ∙ sym (inverter_after y 0 gs (Inv x) (length gs) (omega arith) ∙ ap (λ (t : Bool). or_then (inverter_from y 0 gs) t (length gs)) (ne_eqb y x other) ∙ or_none (inverter_from y 0 gs) (length gs))
   ];
   numbered = ok.numbered;
@@ -66,4 +61,4 @@ maker_invert n gs is x ok lt low free room = record {
 }
 
 pub maker_begins : (n : ℕ) → n + 1 < 2 ^ 32 → IsMaker n [] []
-maker_begins n fits = record { known = omega arith; index = λ x. refl; numbered = fits; small = lit< tt }
+maker_begins n fits = record { index = λ x. refl; numbered = fits; small = lit< tt }

@@ -1,9 +1,9 @@
 // Makes gates: each operation in constant time, with its simplifications.
-ghost use Rattle.std.specs.Prelude.{◌≡◌, ◌<◌, ◌+◌, ◌^◌, ◌∷◌, ◌++◌, [], length, IfOk, OnOk, None};
+ghost use Rattle.std.specs.Prelude.{◌≡◌, ℕ, ◌<◌, ◌+◌, ◌^◌, ◌∷◌, ◌++◌, [], length, slice_index_or, IfOk, OnOk, None};
 ghost use Rattle.circuit.specs.declared.gate.Gate.TheVariants as gates;
 ghost use Rattle.maj_mapping.specs.Code.MakerView.{MakerView, with_gates};
 ghost use Rattle.maj_mapping.specs.Operations.{side, inv, and, or, maj, inverter_from};
-ghost use Rattle.maj_mapping.specs.Code.Makers.{NoInverter};
+ghost use Rattle.maj_mapping.specs.Code.Makers.{NoInverter, not_made};
 ghost use Rattle.maj_mapping.specs.Covers.{join, fold, none};
 ghost use Rattle.maj_mapping.specs.Plan.{first_gates};
 
@@ -27,12 +27,15 @@ pub enum Join {
     Or,
 }
 
-/// The gates so far, and for each gate its inverter, if one was made.
+/// Stands for an inverter that was not made: no gate has this number.
+const NOT_MADE: u32 = u32::MAX;
+
+/// The gates so far, and their inverters. The index is as long as the last gate needs that has one.
 #[derive(Drop)]
 pub struct Maker {
     inputs: u32,
     gates: List<Gate>,
-    inverters: List<Option<u32>>,
+    inverters: Vec<u32>,
 }
 
 impl Model for Maker {
@@ -44,7 +47,19 @@ impl Model for Maker {
 
     ghost use Rattle.maj_mapping.specs.Code.Makers.{IsMaker};
 
-    ghost invariant = { λ m. IsMaker m.inputs m.gates m.inverters };
+    ghost invariant = { λ m. IsMaker m.inputs m.gates m.inverters.items };
+}
+
+/// Makes a place in an index, if it has none, which holds no inverter.
+fn make_place(index: &mut Vec<u32>, place: usize) -> Result<(), Memory>
+    requires { place < 2 ^ 32 }
+    ensures same { (x : ℕ) → slice_index_or index.new.items x not_made ≡ slice_index_or index.old.items x not_made }
+    ensures there { OnOk result (place < length index.new.items) }
+{
+    if index.len() <= place {
+        index.resize(place + 1, NOT_MADE)?;
+    }
+    Ok(())
 }
 
 impl Maker {
@@ -56,7 +71,7 @@ impl Maker {
         let mut maker = Maker {
             inputs,
             gates: List::new(alloc),
-            inverters: List::new(alloc),
+            inverters: Vec::new(alloc),
         };
         for input in 0..inputs {
             maker.make(Gate::Input(input))?;
@@ -115,9 +130,16 @@ impl Maker {
         ensures at { IfOk result (λ r. r ≡ length self.old.gates) }
     {
         let at = self.next();
-        self.inverters.push(None)?;
         self.gates.push(gate)?;
         Ok(at)
+    }
+
+    /// The inverter of a gate, if one was made.
+    fn inverter(&self, x: u32) -> Option<u32>
+        ensures { result ≡ inverter_from x 0 self.now.gates }
+    {
+        let at = self.inverters.get(x as usize).copied().unwrap_or(NOT_MADE);
+        if at == NOT_MADE { None } else { Some(at) }
     }
 
     /// Adds the inverter of a gate that has none.
@@ -129,9 +151,9 @@ impl Maker {
         ensures at { IfOk result (λ r. r ≡ length self.old.gates) }
     {
         let at = self.next();
-        self.inverters.push(None)?;
+        make_place(&mut self.inverters, x as usize)?;
         self.gates.push(Gate::Inv(x))?;
-        self.inverters.set(x as usize, Some(at));
+        self.inverters[x as usize] = at;
         Ok(at)
     }
 
@@ -147,7 +169,7 @@ impl Maker {
             Side::IsOne => Ok(self.inputs),
             Side::Neither => match *self.gates.get(x as usize) {
                 Gate::Inv(y) => Ok(y),
-                _ => match *self.inverters.get(x as usize) {
+                _ => match self.inverter(x) {
                     Some(made) => Ok(made),
                     None => self.invert(x),
                 },
