@@ -3,5 +3,6 @@ mod Chips
 mod FewElements
 mod Sizes
 mod Steps
-mod OneNet
-mod OneChip
+pub mod OneNet
+pub mod OneChip
+mod DrawnRows

@@ -17,7 +17,7 @@ use Rattle.cell_plan.proofs.OneNet.{one_net, cells_of}
 use Rattle.cell_plan.proofs.Sizes.{past_size, one_size}
 
 module _ (l : LibraryView) (net : NetView) where
-  one_rows : (rows others : RowView) → AreCellRows l net rows → AreCellRows l net others → rows ≡ others
+  pub one_rows : (rows others : RowView) → AreCellRows l net rows → AreCellRows l net others → rows ≡ others
   one_rows rows others a b =
       one_net net (three_of l) a.levels b.levels a.last b.last rows others a.rows_are b.rows_are
 

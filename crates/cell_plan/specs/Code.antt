@@ -1,2 +1,3 @@
 -- Words of the crate's own code.
 pub mod Steps
+pub mod Found

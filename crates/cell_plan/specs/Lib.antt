@@ -1,3 +1,4 @@
 pub mod CellPlans
 pub mod Refusals
+pub mod DrawnChips
 pub mod Code

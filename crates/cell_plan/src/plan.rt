@@ -26,7 +26,11 @@ use std::alloc::Global;
 const ELEMENT_LIMIT: u64 = 2_000_000;
 
 /// The rows of a netlist of cells, by the levels of its cells, or the first fault of one that is none of cells.
-fn rows_of(alloc: Global, library: &Library, net: &Netlist) -> Result<RowNet, CellPlanRefusal>
+pub(crate) fn rows_of(
+    alloc: Global,
+    library: &Library,
+    net: &Netlist,
+) -> Result<RowNet, CellPlanRefusal>
     ensures rows { IfOk result (AreCellRows library.now net.now) }
     ensures refused { IfErr result (RefusesCells library.now net.now) }
 {
@@ -83,13 +87,22 @@ fn counted(_library: &Library, _net: &Netlist, chip: Placed) -> Result<Placed, C
     Ok(chip)
 }
 
-/// The packed rows of a netlist of cells, unless one of them is too wide.
-fn packed_rows(alloc: Global, library: &Library, net: &Netlist) -> Result<Placed, CellPlanRefusal>
-    ensures packed { IfOk result (IsPackedCells library.now net.now) }
+/// The chip of these rows, packed, unless it passes a limit.
+pub(crate) fn packed_chip(
+    alloc: Global,
+    library: &Library,
+    net: &Netlist,
+    rows: RowNet,
+) -> Result<Placed, CellPlanRefusal>
+    requires { AreCellRows library.now net.now rows }
+    ensures chip { IfOk result (IsCellChip library.now net.now) }
     ensures refused { IfErr result (RefusesCells library.now net.now) }
 {
-    let rows = rows_of(alloc, library, net)?;
-    packed(alloc, library, net, rows)
+    library.known();
+    net.known();
+    let placed = packed(alloc, library, net, rows)?;
+    let chip = shortened(alloc, library, net, &placed)?;
+    counted(library, net, chip)
 }
 
 /// The chip of a netlist of cells with a library: its cells as they stand, in the rows of their levels and there in the
@@ -111,7 +124,6 @@ pub fn plan_cells(
 {
     library.known();
     net.known();
-    let placed = packed_rows(alloc, library, net)?;
-    let chip = shortened(alloc, library, net, &placed)?;
-    counted(library, net, chip)
+    let rows = rows_of(alloc, library, net)?;
+    packed_chip(alloc, library, net, rows)
 }

@@ -4,12 +4,12 @@ use crate::cells::make_cells;
 use crate::chip::{Chip, make_chip};
 use crate::drafts::make_draft;
 use crate::effort::{Effort, Steps};
-use crate::graph::GraphParts;
+use crate::graph::{GraphParts, UseLists};
 use crate::growing::{MOST_CELLS, finish, trim};
 use crate::levels::Levels;
 use crate::lining::line_up;
-use crate::signs::{Signed, sign};
-use crate::starting::place;
+use crate::signs::sign;
+use crate::starting::{Hints, place};
 use aq_base::Memory;
 use draft_check::Draft;
 use maj_graph::Graph;
@@ -43,14 +43,18 @@ fn parts_of(graph: &Graph) -> GraphParts<'_> {
 }
 
 /// The place of each node in a line, if the effort asks for it.
-fn line_of(alloc: Global, signed: &Signed, effort: Effort) -> Result<Option<Vec<u32>>, Memory> {
+pub(crate) fn line_of(
+    alloc: Global,
+    parts: &GraphParts,
+    uses: &UseLists,
+    effort: Effort,
+) -> Result<Option<Vec<u32>>, Memory> {
     if effort.line_rounds == 0 {
         return Ok(None);
     }
-    let parts = signed.parts();
     let most = MOST_MOVES.checked_div(parts.count()).unwrap_or(0).max(10);
     let rounds = effort.line_rounds.min(most);
-    Ok(Some(line_up(alloc, &parts, &signed.uses, rounds)?))
+    Ok(Some(line_up(alloc, parts, uses, rounds)?))
 }
 
 /// The chip of a graph, if it has fewer cells than the best one so far.
@@ -70,7 +74,7 @@ fn make_unplaced(
     }
     let made = make_cells(alloc, &levels)?;
     let chip = make_chip(alloc, &made, levels.last)?;
-    let line = line_of(alloc, &signed, effort)?;
+    let line = line_of(alloc, &signed.parts(), &signed.uses, effort)?;
     Ok(Some(Unplaced {
         graph: number,
         chip,
@@ -92,8 +96,13 @@ fn find(
         let parts = parts_of(graph);
         if let Some(one) = make_unplaced(work.alloc, number, &parts, three, least, effort)? {
             work.steps = Steps::new(&effort, one.chip.count());
-            let line = one.line.as_deref();
-            let candidate = place(work, one.graph, &one.chip, line, effort)?;
+            let line = one.line.as_deref().unwrap_or(&[]);
+            let hints = Hints {
+                line,
+                outputs: &[],
+                turns: 0,
+            };
+            let candidate = place(work, one.graph, &one.chip, &hints, effort)?;
             if candidate.total < least {
                 least = candidate.total;
                 best = Some(candidate);

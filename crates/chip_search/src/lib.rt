@@ -15,6 +15,8 @@ mod levels;
 mod lining;
 mod places;
 mod pulling;
+mod row_chips;
+mod row_slots;
 mod signs;
 mod starting;
 mod trimming;
@@ -22,3 +24,4 @@ mod walk;
 
 pub use effort::Effort;
 pub use finding::{Found, search};
+pub use row_slots::find_slots;

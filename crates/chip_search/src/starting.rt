@@ -6,15 +6,61 @@ use crate::effort::Effort;
 use crate::places::Places;
 use aq_base::Memory;
 
+/// What is known of a chip where its cells are first placed.
+#[derive(Clone, Copy)]
+pub(crate) struct Hints<'a> {
+    /// The place of each node in a line; empty where there is none.
+    pub(crate) line: &'a [u32],
+    /// The slot that each cell of the last row wants; its place in the row where it has none here.
+    pub(crate) outputs: &'a [u32],
+    /// How many times what a start led to is settled by means, a little more each time, and settled again.
+    pub(crate) turns: u32,
+}
+
 /// Where the cells of a chip stand at first.
 #[derive(Clone, Copy)]
 enum Start<'a> {
-    /// By the wires above them, from the last row down.
-    Down,
+    /// By the wires above them, from the last row down. Its cells want these slots.
+    Down(&'a [u32]),
     /// By the wires below them, from the first row up.
     Up,
     /// By the places of their nodes in a line.
     Line(&'a [u32]),
+    /// In the order of their numbers, from slot 0 on.
+    Packed,
+}
+
+/// The candidate after its rows were settled by means, the more often the later the turn, and settled again.
+fn turn_once(
+    work: &mut Work,
+    candidate: &Candidate,
+    turn: u32,
+    effort: Effort,
+) -> Result<Candidate, Memory> {
+    let mut chip = candidate.chip.copy(work.alloc)?;
+    let mut places = candidate.places.copy(work.alloc)?;
+    let sweeps = turn.saturating_add(1).saturating_mul(2);
+    let sweeps = work.steps.take(chip.count(), sweeps);
+    places.smooth(&mut chip, sweeps, effort.matches)?;
+    Candidate::settled(work, candidate.graph, chip, places, effort.sweeps, effort)
+}
+
+/// The candidate after so many turns, each kept where it is better.
+fn take_turns(
+    work: &mut Work,
+    candidate: Candidate,
+    turns: u32,
+    effort: Effort,
+) -> Result<Candidate, Memory> {
+    let mut best = candidate;
+    for turn in 0..turns {
+        if best.missing == 0 || !work.steps.are_left(best.chip.count()) {
+            break;
+        }
+        let next = turn_once(work, &best, turn, effort)?;
+        best = better(best, next);
+    }
+    Ok(best)
 }
 
 /// The chip placed from one start.
@@ -23,19 +69,22 @@ fn place_from(
     graph: usize,
     chip: &Chip,
     start: Start,
+    turns: u32,
     effort: Effort,
 ) -> Result<Candidate, Memory> {
     let mut chip = chip.copy(work.alloc)?;
     let slots = vec![in work.alloc; 0; chip.count() as usize]?;
     let mut places = Places::new(work.alloc, slots, chip.widest(), work.move_limit);
     match start {
-        Start::Down => places.start_down(&chip)?,
+        Start::Down(outputs) => places.start_down(&chip, outputs)?,
         Start::Up => places.start_up(&chip)?,
         Start::Line(line) => places.start_by(&chip, line, narrow(line.len()))?,
+        Start::Packed => places.start_packed(&chip),
     }
     let smooth_sweeps = work.steps.take(chip.count(), effort.smooth_sweeps);
     places.smooth(&mut chip, smooth_sweeps, effort.matches)?;
-    Candidate::settled(work, graph, chip, places, effort.sweeps, effort)
+    let settled = Candidate::settled(work, graph, chip, places, effort.sweeps, effort)?;
+    take_turns(work, settled, turns, effort)
 }
 
 /// The chip with the best of some starts.
@@ -43,38 +92,51 @@ fn place_once(
     work: &mut Work,
     graph: usize,
     chip: &Chip,
-    line: Option<&[u32]>,
+    hints: &Hints,
     effort: Effort,
 ) -> Result<Candidate, Memory> {
-    let mut best = place_from(work, graph, chip, Start::Down, effort)?;
+    let turns = hints.turns;
+    let down = Start::Down(hints.outputs);
+    let mut best = place_from(work, graph, chip, down, turns, effort)?;
     if best.missing > 0 {
-        let up = place_from(work, graph, chip, Start::Up, effort)?;
+        let up = place_from(work, graph, chip, Start::Up, turns, effort)?;
         best = better(best, up);
     }
-    if let Some(line) = line {
-        if best.missing > 0 {
-            let lined = place_from(work, graph, chip, Start::Line(line), effort)?;
-            best = better(best, lined);
-        }
+    if best.missing > 0 && !hints.line.is_empty() {
+        let line = Start::Line(hints.line);
+        let lined = place_from(work, graph, chip, line, turns, effort)?;
+        best = better(best, lined);
     }
     Ok(best)
 }
 
-/// The chip with the best of some starts, and of the same with means first. The line has a place for each node, if
-/// there is one.
-pub(crate) fn place(
+/// The chip with its cells packed in the order of their numbers, and settled from there where wires move too far.
+pub(crate) fn place_packed(
     work: &mut Work,
     graph: usize,
     chip: &Chip,
-    line: Option<&[u32]>,
+    turns: u32,
     effort: Effort,
 ) -> Result<Candidate, Memory> {
     let mut sharp = effort;
     sharp.smooth_sweeps = 0;
-    let first = place_once(work, graph, chip, line, sharp)?;
+    place_from(work, graph, chip, Start::Packed, turns, sharp)
+}
+
+/// The chip with the best of some starts, and of the same with means first.
+pub(crate) fn place(
+    work: &mut Work,
+    graph: usize,
+    chip: &Chip,
+    hints: &Hints,
+    effort: Effort,
+) -> Result<Candidate, Memory> {
+    let mut sharp = effort;
+    sharp.smooth_sweeps = 0;
+    let first = place_once(work, graph, chip, hints, sharp)?;
     if first.missing == 0 || effort.smooth_sweeps == 0 {
         return Ok(first);
     }
-    let second = place_once(work, graph, chip, line, effort)?;
+    let second = place_once(work, graph, chip, hints, effort)?;
     Ok(better(first, second))
 }

@@ -1,29 +1,24 @@
 -- A chip that was found, from the search to what is taken.
-use Rattle.std.proofs.Common.{ℕ, ◌≡◌, ◌≤◌, List, length, map, None, inl, inr, sym, ap, subst, ◌∙◌}
+use Rattle.std.proofs.Common.{◌≡◌, ◌≤◌, List, length, map, None, inl, inr, sym, ap, subst, ◌∙◌}
 use Rattle.std.proofs.Common.{arith}
 use Rattle.blif_read.specs.Parts.{NetView}
-use Rattle.blif_read.specs.Netlist.{IsNetlist}
 use Rattle.blif_read.specs.Equations.{IsAnswer as IsNetAnswer}
 use Rattle.maj_graph.specs.Graphs.{GraphView}
 use Rattle.graph_variants.specs.Variants.{AreGraphsOf}
 use Rattle.small_chip.specs.Chips.{AnswersAsOneOf}
 use Rattle.small_chip.proofs.Chosen.{answers_as_all}
 use Rattle.rowed.specs.PlacedNets.{PlacedRow, PlacedView, IsPlaced, placed_rows}
-use Rattle.rowed.specs.Short.{AreShort}
 use Rattle.rowed.specs.Counts.{cells_in}
 use Rattle.rowed.specs.Extent.{cell_limit}
 use Rattle.rowed.specs.declared.row_cell.RowCell.{RowCell}
 use Rattle.rowed.proofs.RowsAboveLaws.{placed_again}
-use Rattle.repeater_rows.specs.Repeaters.{repeated}
-use Rattle.repeater_rows.specs.Passes.{AreRepeated, cells_past}
+use Rattle.repeater_rows.specs.Passes.{cells_past}
 use Rattle.cell_library.specs.Library.{LibraryView}
-use Rattle.cell_library.specs.Laws.{IsLibrary}
-use Rattle.cell_library.specs.Reach.{reach_of}
-use Rattle.chip_plan.specs.Plans.{IsWithin, chip_of, channel_of}
+use Rattle.chip_plan.specs.Plans.{IsWithin, chip_of}
 use Rattle.chip_plan.specs.Laws.{AnswersAs}
-use Rattle.chip_plan.proofs.SameThen.{same_then}
+use Rattle.drawable_chip.specs.Drawable.{IsDrawable}
 use Rattle.compact_plan.specs.Compact.{IsNoLarger, IsPlanned, IsCompactChip}
-use Rattle.compact_plan.specs.Code.Candidates.{IsShortened, IsDrawable, IsCandidate}
+use Rattle.compact_plan.specs.Code.Candidates.{IsCandidate}
 
 -- the placed net that was found answers as one of the graphs, and so as the netlist
 pub searched_answers : (net : NetView) (graphs : List GraphView) (chip : PlacedView) → AreGraphsOf net graphs
@@ -34,42 +29,10 @@ searched_answers net graphs chip of_net one =
 pub ruleset searches = (searched_answers)
 
 -- with its repeaters
-pub is_shortened : (l : LibraryView) (net : NetView) (p out : PlacedView) (reach height channel : ℕ)
-    → reach ≡ reach_of l → height ≡ l.height → channel ≡ channel_of l → 2 ≤ reach_of l
-    → AnswersAs net p → AreRepeated p reach height channel out
-    → ((p : PlacedView) (reach : ℕ) → IsPlaced p → 2 ≤ reach → AreShort reach (placed_rows (repeated p reach)))
-    → ((p out : PlacedView) (reach height channel : ℕ) → AreRepeated p reach height channel out
-    → cells_in out.net.rows ≤ cell_limit)
-    → IsShortened l net out
-is_shortened l net p out reach height channel r h c two answers given shorts few =
-    let is : AreRepeated p (reach_of l) l.height (channel_of l) out =
-    subst (λ n. AreRepeated p (reach_of l) l.height n out) c
-    (subst (λ n. AreRepeated p (reach_of l) n channel out) h (subst (λ n. AreRepeated p n height channel out) r given)) in
-    record {
-      placed = is.out_keeps;
-      answers = same_then _ _ _ _ _ _ _ _ _ answers is.same;
-      short = subst (λ (q : PlacedView). AreShort (reach_of l) (placed_rows q)) (sym is.is_plan)
-          (shorts p (reach_of l) is.net_keeps two);
-      few_cells = few p out (reach_of l) l.height (channel_of l) is;
-      low = is.not_tall;
-    }
-
-pub is_candidate : (l : LibraryView) (net : NetView) (chip : PlacedView) → IsLibrary l → IsNetlist net
-    → IsShortened l net chip → IsDrawable l chip → IsCandidate l net chip
-is_candidate l net chip lawful keeps short drawable = record {
-  draws = record {
-    placed = short.placed;
-    library = lawful;
-    given = drawable.given;
-    short = short.short;
-    narrow = drawable.narrow;
-    low = short.low;
-    few_inputs = omega (arith, short.answers.same_inputs, keeps.count, keeps.small);
-    few_outputs = omega (arith, short.answers.same_outputs, keeps.small);
-  };
-  answers = short.answers;
-  few = drawable.few;
-}
+pub is_candidate : (l : LibraryView) (net : NetView) (placed chip : PlacedView) → IsDrawable l net placed chip
+    → IsCandidate l net chip
+is_candidate l net placed chip drawable =
+    record { draws = drawable.draws; answers = drawable.answers; few = drawable.few }
 
 pub ruleset candidates = (is_candidate)
 

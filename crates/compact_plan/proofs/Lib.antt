@@ -1,4 +1,2 @@
 pub mod FewJunctions
-pub mod Given
-pub mod FewElements
 pub mod Candidates

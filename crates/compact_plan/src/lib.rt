@@ -3,7 +3,6 @@
 #![tactic(auto)]
 
 mod compact;
-mod drawable;
 mod search;
 mod sizes;
 

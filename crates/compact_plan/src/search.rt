@@ -1,17 +1,14 @@
 // The search for a small chip of a netlist.
-ghost use Rattle.std.specs.Prelude.{◌≡◌, IfOk, IfSome};
+ghost use Rattle.std.specs.Prelude.{IfOk, IfSome};
 ghost use Rattle.rowed.specs.PlacedNets.{IsPlaced};
 ghost use Rattle.chip_plan.specs.Laws.{AnswersAs};
-ghost use Rattle.compact_plan.specs.Code.Candidates.{IsShortened, IsCandidate};
+ghost use Rattle.compact_plan.specs.Code.Candidates.{IsCandidate};
 
-use crate::drawable::may_be_drawn;
 use aq_base::Memory;
 use blif_read::Netlist;
 use cell_library::Library;
-use chip_plan::repeating;
-use circuit::Pass;
+use drawable_chip::drawable_chip;
 use graph_variants::graph_variants;
-use repeater_rows::{RepeatRefusal, repeaters_count, repeaters_short};
 use rowed::Placed;
 use small_chip::{Effort, small_chip};
 use std::alloc::Global;
@@ -27,42 +24,13 @@ fn searched(alloc: Global, library: &Library, net: &Netlist) -> Result<Option<Pl
     small_chip(alloc, &graphs, library.has_three(), reach, &Effort::full())
 }
 
-/// The chip with rows of repeaters where its wires are too long, unless it has too many cells then or is too high.
-fn shortened(
-    alloc: Global,
-    library: &Library,
-    _net: &Netlist,
-    chip: &Placed,
-) -> Result<Option<Placed>, Memory>
-    requires placed { IsPlaced chip.now }
-    requires answers { AnswersAs _net.now chip.now }
-    ensures { IfOk result (λ found. IfSome found (λ chip. IsShortened library.now _net.now chip)) }
-{
-    repeaters_short();
-    repeaters_count();
-    match repeating(library).run(alloc, chip) {
-        Ok(chip) => Ok(Some(chip)),
-        Err(RepeatRefusal::Memory) => Err(Memory),
-        Err(RepeatRefusal::TooManyCells { .. } | RepeatRefusal::TooTall { .. }) => Ok(None),
-    }
-}
-
 /// A chip of the netlist that was found, if it may be drawn with the library.
 #[tactic(auto, using(crate::proofs::Candidates::candidates))]
 pub fn found_chip(alloc: Global, library: &Library, net: &Netlist) -> Result<Option<Placed>, Memory>
     ensures { IfOk result (λ found. IfSome found (λ chip. IsCandidate library.now net.now chip)) }
 {
-    library.known();
-    net.known();
-    let Some(found) = searched(alloc, library, net)? else {
-        return Ok(None);
-    };
-    let Some(chip) = shortened(alloc, library, net, &found)? else {
-        return Ok(None);
-    };
-    if may_be_drawn(library, net, &chip) {
-        Ok(Some(chip))
-    } else {
-        Ok(None)
+    match searched(alloc, library, net)? {
+        Some(found) => drawable_chip(alloc, library, net, &found),
+        None => Ok(None),
     }
 }

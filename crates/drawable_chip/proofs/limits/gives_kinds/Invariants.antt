@@ -2,7 +2,7 @@ use Rattle.std.proofs.Common.{◌≡◌, ◌<◌, ℕ, Some}
 use Rattle.rowed.specs.declared.row_cell.RowCell.{RowCell}
 use Rattle.rowed.specs.RowNets.{cell_at}
 use Rattle.cell_library.specs.Library.{IsGiven}
-use Rattle.compact_plan.proofs.drawable.gives_kinds.Given as goal
+use Rattle.drawable_chip.proofs.limits.gives_kinds.Given as goal
 
 abbrev pub invariant-loop-number : goal.invariant-loop-number
 invariant-loop-number l =

@@ -1,6 +1,6 @@
 use Rattle.std.proofs.Common.{arith}
-use Rattle.compact_plan.proofs.Given.{gives_kinds}
-use Rattle.compact_plan.proofs.drawable.gives_kinds.Goals as goal
+use Rattle.drawable_chip.proofs.Given.{gives_kinds}
+use Rattle.drawable_chip.proofs.limits.gives_kinds.Goals as goal
 
 pub returns : goal.returns
 returns c = λ _.

@@ -1,7 +1,7 @@
 use Rattle.std.proofs.Common.{◌≡◌, ◌<◌, ℕ, Some, slice_get}
 use Rattle.rowed.specs.declared.row_cell.RowCell.{RowCell}
 use Rattle.cell_library.specs.Library.{IsGiven}
-use Rattle.compact_plan.proofs.drawable.gives_row.Given as goal
+use Rattle.drawable_chip.proofs.limits.gives_row.Given as goal
 
 abbrev pub invariant-loop-cell : goal.invariant-loop-cell
 invariant-loop-cell l =

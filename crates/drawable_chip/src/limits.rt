@@ -5,7 +5,7 @@ ghost use Rattle.rowed.specs.RowNets.{cell_at};
 ghost use Rattle.cell_library.specs.Library.{IsGiven};
 ghost use Rattle.cell_library.specs.Reach.{slot_width_of};
 ghost use Rattle.layout_make.specs.MayDraw.{GivesKinds};
-ghost use Rattle.compact_plan.specs.Code.Candidates.{IsShortened, IsDrawable};
+ghost use Rattle.drawable_chip.specs.Code.Limits.{IsShortened, KeepsLimits};
 
 use blif_read::Netlist;
 use cell_library::Library;
@@ -51,9 +51,14 @@ fn slot_width(library: &Library) -> u64
 /// Whether a chip with short wires, few cells and little height may be drawn: its kinds are given, it is narrow enough,
 /// and it has few enough elements.
 #[tactic(auto, using(crate::proofs::FewElements::drawable))]
-pub fn may_be_drawn(library: &Library, _net: &Netlist, chip: &Placed) -> bool
-    requires { IsShortened library.now _net.now chip.now }
-    ensures { IsTrue result → IsDrawable library.now chip.now }
+pub(crate) fn may_be_drawn(
+    library: &Library,
+    _net: &Netlist,
+    _placed: &Placed,
+    chip: &Placed,
+) -> bool
+    requires { IsShortened library.now _net.now _placed.now chip.now }
+    ensures { IsTrue result → KeepsLimits library.now chip.now }
 {
     library.known();
     _net.known();

@@ -13,7 +13,7 @@ use Rattle.cell_library.specs.Laws.{IsLibrary}
 use Rattle.cell_library.specs.Reach.{slot_width_of}
 use Rattle.layout_make.specs.MayDraw.{GivesKinds}
 use Rattle.layout_make.specs.Size.{element_number, element_limit}
-use Rattle.compact_plan.specs.Code.Candidates.{IsShortened, IsDrawable}
+use Rattle.drawable_chip.specs.Code.Limits.{IsShortened, KeepsLimits}
 
 fed_most : (o : Option Source) → fed o ≤ 1
 fed_most None = omega arith
@@ -28,9 +28,9 @@ wires_most : (rows : List (List RowCell)) → wires_in rows ≤ 3 * cells_in row
 wires_most [] = omega arith
 wires_most (row ∷ rows) = let k = wires_most rows in let r = row_most row in omega arith
 
-pub few_elements : (l : LibraryView) (net : NetView) (chip : PlacedView) → IsLibrary l → IsNetlist net
-    → IsShortened l net chip → element_number chip < 2 ^ 63
-few_elements l net chip known keeps short =
+pub few_elements : (l : LibraryView) (net : NetView) (placed chip : PlacedView) → IsLibrary l → IsNetlist net
+    → IsShortened l net placed chip → element_number chip < 2 ^ 63
+few_elements l net placed chip known keeps short =
     let wires = wires_most chip.net.rows in
     let cells = short.few_cells in
     let some : 1 ≤ l.height = known.draft.ranges.height_some in
@@ -41,9 +41,9 @@ few_elements l net chip known keeps short =
     let outputs = short.answers.same_outputs in
     omega (arith, wires, cells, rows, low, inputs, outputs, keeps.count, keeps.small)
 
-pub is_drawable : (l : LibraryView) (chip : PlacedView) → GivesKinds l chip.net.rows
+pub keeps_limits : (l : LibraryView) (chip : PlacedView) → GivesKinds l chip.net.rows
     → KeepsWidth (widest (placed_rows chip)) (slot_width_of l) → element_number chip ≤ element_limit
-    → IsDrawable l chip
-is_drawable l chip given narrow few = record { given = given; narrow = narrow; few = few }
+    → KeepsLimits l chip
+keeps_limits l chip given narrow few = record { given = given; narrow = narrow; few = few }
 
-pub ruleset drawable = (few_elements, is_drawable)
+pub ruleset drawable = (few_elements, keeps_limits)

@@ -1,0 +1,82 @@
+// The search for slots of the cells of a net in rows.
+use crate::arrays::at;
+use crate::candidate::{Candidate, Work, better};
+use crate::chip::Chip;
+use crate::effort::{Effort, Steps};
+use crate::finding::line_of;
+use crate::row_chips::RowChip;
+use crate::starting::{Hints, place, place_packed};
+use aq_base::{List, Memory};
+use rowed::RowNet;
+use std::alloc::Global;
+
+/// A drawing has at most so many elements: one for each cell, five for each wire, and others.
+const MOST_ELEMENTS: u64 = 2_000_000;
+
+/// So many turns are taken after each start.
+const TURNS: u32 = 6;
+
+/// The chip of a net in rows with its cells placed: packed as they stand, where no start is better.
+fn place_rows(work: &mut Work, made: &RowChip, effort: Effort) -> Result<Candidate, Memory> {
+    let packed = place_packed(work, 0, &made.chip, TURNS, effort)?;
+    if packed.missing == 0 {
+        return Ok(packed);
+    }
+    let uses = made.uses(work.alloc)?;
+    let line = line_of(work.alloc, &made.graph(), &uses, effort)?;
+    let line = line.as_deref().unwrap_or(&[]);
+    let outputs = made.outputs.as_slice();
+    let hints = Hints {
+        line,
+        outputs,
+        turns: TURNS,
+    };
+    let placed = place(work, 0, &made.chip, &hints, effort)?;
+    Ok(better(packed, placed))
+}
+
+/// Whether the cells and wires are too many to be drawn.
+fn is_too_large(chip: &Chip) -> bool {
+    let wires = (chip.wires.len() as u64).saturating_mul(5);
+    wires.saturating_add(u64::from(chip.count())) > MOST_ELEMENTS
+}
+
+/// The slots of the cells of each row.
+fn slots_by_row(alloc: Global, chip: &Chip, slots: &[u32]) -> Result<List<List<u32>>, Memory> {
+    let mut found = List::new(alloc);
+    for row in 0..chip.rows() {
+        let (first, end) = chip.bounds(row);
+        let mut lefts = Vec::with_capacity(alloc, end.saturating_sub(first) as usize)?;
+        for cell in first..end {
+            lefts.push(at(slots, cell))?;
+        }
+        found.push(List::from_vec(lefts))?;
+    }
+    Ok(found)
+}
+
+/// Searches slots for the cells of a net in rows, so that its wires move at most `reach - 1` slots, or else few rows of
+/// repeaters are wanted: a list for each row, in the order of its cells. They are those of the cells packed in this
+/// order where that has no wire that moves further, or nothing better is found. There are none where the net has too
+/// many cells and wires to be drawn. Nothing is promised of what is found: a check takes it or not. The search fails
+/// for want of memory alone.
+pub fn find_slots(
+    alloc: Global,
+    net: &RowNet,
+    reach: u32,
+    effort: &Effort,
+) -> Result<List<List<u32>>, Memory> {
+    let mut effort = *effort;
+    effort.matches = false;
+    let made = RowChip::new(alloc, net)?;
+    if is_too_large(&made.chip) {
+        return Ok(List::new(alloc));
+    }
+    let mut work = Work {
+        alloc,
+        move_limit: reach.saturating_sub(1).max(1),
+        steps: Steps::new(&effort, made.chip.count()),
+    };
+    let placed = place_rows(&mut work, &made, effort)?;
+    slots_by_row(alloc, &made.chip, &placed.places.slots)
+}

@@ -1,0 +1,2 @@
+-- Words of the crate's own code.
+pub mod Limits
