@@ -1,17 +1,25 @@
 -- Standard error is never refused memory, so what it refuses has failed.
-use Rattle.std.proofs.Common.{ℕ, ◌≡◌, ◌<◌, ◌⊎◌, inl, inr, List, [], Option, Some, None, arith}
-use Rattle.aq_base.specs.Heard.{Event}
-use Rattle.aq_base.specs.FaultCounts.{write_faults, Remembers}
+use Rattle.std.proofs.Common.{ℕ, suc, ◌≡◌, inl, inr, List, Option, Some, None, take, ap, arith}
+use Rattle.aq_base.specs.declared.store.StoreRefusal.{StoreRefusal}
+use Rattle.aq_base.specs.declared.store.StoreRefusal.TheVariants.{Failed, Memory}
+use Rattle.aq_base.specs.Heard.{took}
+use Rattle.aq_base.specs.FaultCounts.{memory_refusals, Remembers}
+use Rattle.aq_base.specs.Output.{Output, PrintsPart}
 use Rattle.aqfp_top.specs.declared.fault.Fault.{Fault}
-use Rattle.aqfp_top.specs.Lines.{Reports, HearsRefusals}
+use Rattle.aqfp_top.specs.Lines.{Reports, IsCutShort}
+use Rattle.aqfp_top.specs.Printed.{PrintsFirst}
 
-only_fails : (heard : List Event) → Remembers heard → HearsRefusals [] heard → 0 < write_faults heard
-only_fails heard remembers (inl failed) = failed
-only_fails heard remembers (inr refused) = omega (arith, remembers, refused)
+only_fails : (before after : Output) (line : List ℕ) (why : StoreRefusal) → Remembers after.heard
+    → PrintsPart before after line why → PrintsFirst Failed before after line
+only_fails before after line Failed remembers part = record { count = part.count; within = part.within; halts = part.taken }
+only_fails before after line Memory remembers part =
+    let refused : memory_refusals after.heard ≡ suc (memory_refusals (took (take part.count line) before.heard)) =
+    ap (λ (x : Output). memory_refusals x.heard) part.taken in
+    absurd (omega (arith, remembers, refused))
 
-pub reports_faults : (before after : Option (List ℕ)) (words : List (List ℕ)) (fault : Option Fault) (heard : List Event)
-    → Remembers heard → Reports before after words fault (HearsRefusals [] heard)
-    → Reports before after words fault (0 < write_faults heard)
-reports_faults before after words None heard remembers same = same
-reports_faults before after words (Some fault) heard remembers puts =
-    record { count = puts.count; within = puts.within; gain = puts.gain; whole = λ short. only_fails heard remembers (puts.whole short) }
+pub reports_failures : (before after : Output) (words : List (List ℕ)) (fault : Option Fault) → Remembers after.heard
+    → Reports IsCutShort before after words fault → Reports (PrintsFirst Failed) before after words fault
+reports_failures before after words None remembers same = same
+reports_failures before after words (Some fault) remembers (inl whole) = inl whole
+reports_failures before after words (Some fault) remembers (inr cut) =
+    inr (only_fails before after _ cut.why remembers cut.part)

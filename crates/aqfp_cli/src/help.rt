@@ -5,6 +5,7 @@ pub const HELP: &str = "aqfp - physical design of adiabatic quantum-flux-paramet
 
 usage: aqfp build NET LIB OUT
        aqfp compact NET LIB OUT
+       aqfp draw NET LIB OUT
        aqfp verify GDS LIB WORDS
        aqfp trace GDS LIB WORDS
        aqfp sample N
@@ -20,6 +21,10 @@ build   reads the netlist NET with the cells of the library LIB, stores the
         and wires and its delay in phases. OUT may have the name of NET or LIB.
 compact the same, but searches for a smaller chip: one that answers as the
         netlist does and is no larger than that of build.
+draw    the same of a netlist whose definitions are the chip's cells: buffers,
+        splitters, inverters, constants and majorities, each one row above what
+        it names. They are kept as they are; their order is searched for, and
+        rows of buffers are added where wires are too long.
 verify  reads the layout GDS, tries all rules of layouts with the numbers
         of the library LIB, and prints the counts and, for each word of WORDS,
         the answer that the chip's pulses show.
@@ -69,8 +74,9 @@ status  0  done
        16  the models and calls of the netlist have a fault
        17  chip and netlist have other numbers of inputs or outputs
        18  the layout has no shape or label of a number
+       19  the netlist that is to be drawn is none of cells
 A status above 0 comes with one line on standard error.
 ";
 
 /// The program's name and version.
-pub const VERSION: &str = "aqfp 0.3.3\n";
+pub const VERSION: &str = "aqfp 0.4.0\n";

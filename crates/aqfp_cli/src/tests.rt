@@ -7,6 +7,7 @@ fn help_has_each_command_and_each_status(rt: HostRuntime) -> Result<(), Fail> {
     let commands = [
         "build NET LIB OUT",
         "compact NET LIB OUT",
+        "draw NET LIB OUT",
         "verify GDS LIB WORDS",
         "trace GDS LIB WORDS",
         "sample N",
@@ -36,6 +37,7 @@ fn help_has_each_command_and_each_status(rt: HostRuntime) -> Result<(), Fail> {
         "16  the models",
         "17  chip and netlist",
         "18  the layout has no shape",
+        "19  the netlist that is to be drawn",
     ];
     for status in statuses {
         assert!(rt; HELP.contains(status), "{status}");

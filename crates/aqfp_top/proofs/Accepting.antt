@@ -19,7 +19,7 @@ use Rattle.layout_rules.specs.Rules.{Keeps, KeepsRules, FirstBroken}
 use Rattle.chip_circuit.specs.Circuits.{CircuitView}
 use Rattle.shape_extract.specs.Extraction.{IsCircuitOf}
 use Rattle.drawn_chip.specs.RealisesNet.{most_bytes}
-use Rattle.aqfp_top.specs.Words.{word_at, IsCheck, IsCompact, IsEqual, IsWrite, IsReport, IsShapesOf, IsSampleOf}
+use Rattle.aqfp_top.specs.Words.{word_at, IsCheck, IsSearch, IsEqual, IsWrite, IsReport, IsShapesOf, IsSampleOf}
 use Rattle.aqfp_top.specs.Loads.{gds_limit, lib_limit, net_limit, words_limit}
 use Rattle.aqfp_top.specs.Checks.{IsLayoutOf, IsUnruly, SaysSound, IsRuleFault}
 use Rattle.aqfp_top.specs.Comparing.{MakesBoth}
@@ -36,7 +36,7 @@ use Rattle.aqfp_top.specs.declared.fault.Large.TheVariants.{Slots, Rows, Cells, 
 use Rattle.aqfp_top.specs.declared.fault.Fault.{Fault}
 use Rattle.aqfp_top.specs.declared.fault.Fault.TheVariants.{Usage, Absent, TooLong, ReadFault, WriteFault, BadBlif}
 use Rattle.aqfp_top.specs.declared.fault.Fault.TheVariants.{BadDesign, BadLibrary, MissingCell, TooLarge, BadStream}
-use Rattle.aqfp_top.specs.declared.fault.Fault.TheVariants.{RuleBroken, BadWords, Widths, NoShape, Memory}
+use Rattle.aqfp_top.specs.declared.fault.Fault.TheVariants.{RuleBroken, BadWords, Widths, NoShape, NotCells, Memory}
 use Rattle.aqfp_top.proofs.Forms.{make_not_check, make_not_equal, make_not_write, make_not_sample, check_not_equal}
 use Rattle.aqfp_top.proofs.Forms.{equal_not_write, equal_not_sample, four_not_report, make_not_report}
 use Rattle.aqfp_top.proofs.Forms.{equal_not_shapes, make_not_shapes}
@@ -186,65 +186,67 @@ no_answer : (fault : Fault) → ◌≡◌ {A = Option Fault} (Some fault) None �
 no_answer fault e = cc
 
 -- two commands alone may give up
-no_size : (words : List (List ℕ)) (what : Large) → (IsEqual words → ⊥) → (IsCompact words → ⊥) → MayGiveUp words what
+no_size : (words : List (List ℕ)) (what : Large) → (IsEqual words → ⊥) → (IsSearch words → ⊥) → MayGiveUp words what
     → ⊥
-no_size words Functions equal compact give = equal give
-no_size words _ equal compact give = compact give
+no_size words Functions equal search give = equal give
+no_size words _ equal search give = search give
 
-done : (words : List (List ℕ)) (answer : Option Fault) → (IsEqual words → ⊥) → (IsCompact words → ⊥)
+done : (words : List (List ℕ)) (answer : Option Fault) → (IsEqual words → ⊥) → (IsSearch words → ⊥)
     → IsDueOrYields words None answer → IsDoneOrOutside answer
-done words None equal compact d = tt
-done words (Some Memory) equal compact d = tt
-done words (Some (ReadFault place)) equal compact d = tt
-done words (Some (WriteFault call)) equal compact d = tt
-done words (Some (TooLarge what count)) equal compact (inl same) = no_answer (TooLarge what count) same
-done words (Some (TooLarge what count)) equal compact (inr give) = no_size words what equal compact give.0
-done words (Some Usage) equal compact d = no_answer Usage d
-done words (Some (Absent place)) equal compact d = no_answer (Absent place) d
-done words (Some (TooLong place taken)) equal compact d = no_answer (TooLong place 0) d
-done words (Some (BadBlif fault)) equal compact d = no_answer (BadBlif fault) d
-done words (Some (BadDesign line kind)) equal compact d = no_answer (BadDesign line kind) d
-done words (Some (BadLibrary fault)) equal compact d = no_answer (BadLibrary fault) d
-done words (Some (MissingCell kind)) equal compact d = no_answer (MissingCell kind) d
-done words (Some (BadStream offset kind)) equal compact d = no_answer (BadStream offset kind) d
-done words (Some (RuleBroken rule first second)) equal compact d = no_answer (RuleBroken rule first second) d
-done words (Some (BadWords line)) equal compact d = no_answer (BadWords line) d
-done words (Some (Widths a b c e)) equal compact d = no_answer (Widths a b c e) d
-done words (Some (NoShape number count)) equal compact d = no_answer (NoShape number count) d
+done words None equal search d = tt
+done words (Some Memory) equal search d = tt
+done words (Some (ReadFault place)) equal search d = tt
+done words (Some (WriteFault call)) equal search d = tt
+done words (Some (TooLarge what count)) equal search (inl same) = no_answer (TooLarge what count) same
+done words (Some (TooLarge what count)) equal search (inr give) = no_size words what equal search give.0
+done words (Some Usage) equal search d = no_answer Usage d
+done words (Some (Absent place)) equal search d = no_answer (Absent place) d
+done words (Some (TooLong place taken)) equal search d = no_answer (TooLong place 0) d
+done words (Some (BadBlif fault)) equal search d = no_answer (BadBlif fault) d
+done words (Some (BadDesign line kind)) equal search d = no_answer (BadDesign line kind) d
+done words (Some (BadLibrary fault)) equal search d = no_answer (BadLibrary fault) d
+done words (Some (MissingCell kind)) equal search d = no_answer (MissingCell kind) d
+done words (Some (BadStream offset kind)) equal search d = no_answer (BadStream offset kind) d
+done words (Some (RuleBroken rule first second)) equal search d = no_answer (RuleBroken rule first second) d
+done words (Some (BadWords line)) equal search d = no_answer (BadWords line) d
+done words (Some (Widths a b c e)) equal search d = no_answer (Widths a b c e) d
+done words (Some (NoShape number count)) equal search d = no_answer (NoShape number count) d
+done words (Some (NotCells line kind)) equal search d = no_answer (NotCells line kind) d
 
 -- a comparison may give up for one size
-compared : (files : Contents) (words : List (List ℕ)) (answer : Option Fault) → (IsCompact words → ⊥)
+compared : (files : Contents) (words : List (List ℕ)) (answer : Option Fault) → (IsSearch words → ⊥)
     → ((count : ℕ) → answer ≡ Some (TooLarge Functions count) → IsPastComparing files words count)
     → IsDueOrYields words None answer → IsComparedOrOutside files words answer
-compared files words None compact many d = tt
-compared files words (Some Memory) compact many d = tt
-compared files words (Some (ReadFault place)) compact many d = tt
-compared files words (Some (WriteFault call)) compact many d = tt
-compared files words (Some (TooLarge Functions count)) compact many d = many count refl
-compared files words (Some (TooLarge Slots count)) compact many (inl same) = no_answer (TooLarge Slots count) same
-compared files words (Some (TooLarge Slots count)) compact many (inr give) = compact give.0
-compared files words (Some (TooLarge Rows count)) compact many (inl same) = no_answer (TooLarge Rows count) same
-compared files words (Some (TooLarge Rows count)) compact many (inr give) = compact give.0
-compared files words (Some (TooLarge Cells count)) compact many (inl same) = no_answer (TooLarge Cells count) same
-compared files words (Some (TooLarge Cells count)) compact many (inr give) = compact give.0
-compared files words (Some (TooLarge Elements count)) compact many (inl same) = no_answer (TooLarge Elements count) same
-compared files words (Some (TooLarge Elements count)) compact many (inr give) = compact give.0
-compared files words (Some (TooLarge Shapes count)) compact many (inl same) = no_answer (TooLarge Shapes count) same
-compared files words (Some (TooLarge Shapes count)) compact many (inr give) = compact give.0
-compared files words (Some (TooLarge Design count)) compact many (inl same) = no_answer (TooLarge Design count) same
-compared files words (Some (TooLarge Design count)) compact many (inr give) = compact give.0
-compared files words (Some Usage) compact many d = no_answer Usage d
-compared files words (Some (Absent place)) compact many d = no_answer (Absent place) d
-compared files words (Some (TooLong place taken)) compact many d = no_answer (TooLong place 0) d
-compared files words (Some (BadBlif fault)) compact many d = no_answer (BadBlif fault) d
-compared files words (Some (BadDesign line kind)) compact many d = no_answer (BadDesign line kind) d
-compared files words (Some (BadLibrary fault)) compact many d = no_answer (BadLibrary fault) d
-compared files words (Some (MissingCell kind)) compact many d = no_answer (MissingCell kind) d
-compared files words (Some (BadStream offset kind)) compact many d = no_answer (BadStream offset kind) d
-compared files words (Some (RuleBroken rule first second)) compact many d = no_answer (RuleBroken rule first second) d
-compared files words (Some (BadWords line)) compact many d = no_answer (BadWords line) d
-compared files words (Some (Widths a b c e)) compact many d = no_answer (Widths a b c e) d
-compared files words (Some (NoShape number count)) compact many d = no_answer (NoShape number count) d
+compared files words None search many d = tt
+compared files words (Some Memory) search many d = tt
+compared files words (Some (ReadFault place)) search many d = tt
+compared files words (Some (WriteFault call)) search many d = tt
+compared files words (Some (TooLarge Functions count)) search many d = many count refl
+compared files words (Some (TooLarge Slots count)) search many (inl same) = no_answer (TooLarge Slots count) same
+compared files words (Some (TooLarge Slots count)) search many (inr give) = search give.0
+compared files words (Some (TooLarge Rows count)) search many (inl same) = no_answer (TooLarge Rows count) same
+compared files words (Some (TooLarge Rows count)) search many (inr give) = search give.0
+compared files words (Some (TooLarge Cells count)) search many (inl same) = no_answer (TooLarge Cells count) same
+compared files words (Some (TooLarge Cells count)) search many (inr give) = search give.0
+compared files words (Some (TooLarge Elements count)) search many (inl same) = no_answer (TooLarge Elements count) same
+compared files words (Some (TooLarge Elements count)) search many (inr give) = search give.0
+compared files words (Some (TooLarge Shapes count)) search many (inl same) = no_answer (TooLarge Shapes count) same
+compared files words (Some (TooLarge Shapes count)) search many (inr give) = search give.0
+compared files words (Some (TooLarge Design count)) search many (inl same) = no_answer (TooLarge Design count) same
+compared files words (Some (TooLarge Design count)) search many (inr give) = search give.0
+compared files words (Some Usage) search many d = no_answer Usage d
+compared files words (Some (Absent place)) search many d = no_answer (Absent place) d
+compared files words (Some (TooLong place taken)) search many d = no_answer (TooLong place 0) d
+compared files words (Some (BadBlif fault)) search many d = no_answer (BadBlif fault) d
+compared files words (Some (BadDesign line kind)) search many d = no_answer (BadDesign line kind) d
+compared files words (Some (BadLibrary fault)) search many d = no_answer (BadLibrary fault) d
+compared files words (Some (MissingCell kind)) search many d = no_answer (MissingCell kind) d
+compared files words (Some (BadStream offset kind)) search many d = no_answer (BadStream offset kind) d
+compared files words (Some (RuleBroken rule first second)) search many d = no_answer (RuleBroken rule first second) d
+compared files words (Some (BadWords line)) search many d = no_answer (BadWords line) d
+compared files words (Some (Widths a b c e)) search many d = no_answer (Widths a b c e) d
+compared files words (Some (NoShape number count)) search many d = no_answer (NoShape number count) d
+compared files words (Some (NotCells line kind)) search many d = no_answer (NotCells line kind) d
 
 module _ (comes : (files : Contents) (words : List (List ℕ)) (due answer : Option Fault) → Due files words due
     → MayAnswer files words answer → IsDueOrYields words due answer) where

@@ -1,5 +1,6 @@
 -- From the clauses of the steps to those of a chip that is made of two texts.
-use Rattle.std.proofs.Common.{ℕ, ◌≡◌, ◌<◌, ◌≤◌, ◌^◌, List, [], ◌∷◌, length, Some, None, inl, inr, subst, sym, ap, ◌∙◌}
+use Rattle.std.proofs.Common.{ℕ, ◌≡◌, ◌<◌, ◌≤◌, ◌^◌, ◌⊎◌, List, [], ◌∷◌, length, Some, None, inl, inr, refl, subst, sym}
+use Rattle.std.proofs.Common.{ap, ◌∙◌}
 use Rattle.std.proofs.Common.{arith, le_refl}
 use Rattle.blif_read.specs.Parts.{NetView}
 use Rattle.blif_flat.specs.DesignText as netlist
@@ -15,50 +16,83 @@ use Rattle.chip_plan.specs.Refusals.{Refuses}
 use Rattle.chip_plan.specs.declared.refusal.PlanRefusal.{PlanRefusal}
 use Rattle.chip_plan.specs.declared.refusal.PlanRefusal.TheVariants as refusal
 use Rattle.compact_plan.specs.Compact.{IsNoLarger, IsPlanned}
+use Rattle.cell_plan.specs.DrawnChips.{IsDrawnChip}
+use Rattle.cell_plan.specs.Refusals.{RefusesCells}
+use Rattle.cell_plan.specs.declared.refusal.CellPlanRefusal.{CellPlanRefusal}
+use Rattle.cell_plan.specs.declared.refusal.CellPlanRefusal.TheVariants as own
 use Rattle.aqfp_top.specs.Designs.{SaysDesign, KeepsLimits, HasManyElements, IsNetlistFault, IsCellsFault, IsPlanFault}
-use Rattle.aqfp_top.specs.Designs.{IsChipFor, IsPlanBy, stream_of}
+use Rattle.aqfp_top.specs.Designs.{IsChipFor, IsPlanBy, KeepsPlan, PlanFinds, PlanGivesUp, HasTooMuch, HasTooMuchOfOwn}
+use Rattle.aqfp_top.specs.Designs.{HasDesign, stream_of}
 use Rattle.aqfp_top.specs.Stages as stage
 use Rattle.aqfp_top.specs.Stages.{Finds, FindsNone, IsFirst, Answers}
 use Rattle.aqfp_top.specs.Due.{design_stages}
 use Rattle.aqfp_top.specs.Code.Staging.{OrMemory}
-use Rattle.aqfp_top.specs.Code.Designing.{IsDesignFault, AreCountsOf, IsDrawn, IsChipOf, MakesChip, PassesNone, IsPlannedBy}
+use Rattle.aqfp_top.specs.Code.Designing.{IsDesignFault, AreCountsOf, IsDrawn, IsChipOf, MakesChip, PlanRefuses, IsPlannedBy}
 use Rattle.aqfp_top.specs.Code.Designing.{IsWellPlanned}
 use Rattle.aqfp_top.specs.Code.Designing as designing
 use Rattle.aqfp_top.specs.declared.planner.Planner.{Planner}
-use Rattle.aqfp_top.specs.declared.planner.Planner.TheVariants.{Layered, Compact}
+use Rattle.aqfp_top.specs.declared.planner.Planner.TheVariants.{Layered, Compact, Given}
 use Rattle.aqfp_top.specs.declared.counts.ChipCounts.{ChipCounts}
+use Rattle.aqfp_top.specs.declared.fault.Large.{Large}
 use Rattle.aqfp_top.specs.declared.fault.Large.TheVariants.{Slots, Rows, Cells, Elements, Shapes, Functions, Design}
 use Rattle.aqfp_top.proofs.Staging.{past, found}
 use Rattle.aqfp_top.proofs.OneFault.{says_no_fault, says_no_cells_fault, same_said, one_netlist}
+use Rattle.aqfp_top.proofs.OwnCells.{rows_no_fault, large_no_fault, chip_no_fault}
 use Rattle.aqfp_top.specs.declared.design.Chip.{Chip}
 use Rattle.aqfp_top.specs.declared.fault.Fault.{Fault}
-use Rattle.aqfp_top.specs.declared.fault.Fault.TheVariants.{BadBlif, BadDesign, BadLibrary, MissingCell, TooLarge, Memory}
+use Rattle.aqfp_top.specs.declared.fault.Fault.TheVariants.{BadBlif, BadDesign, BadLibrary, MissingCell, TooLarge, NotCells, Memory}
 
 -- the kinds of faults
 
-pub netlist_fault : (net : List ℕ) (fault : Fault) → OrMemory (IsNetlistFault net) fault → IsDesignFault fault
-netlist_fault net (BadBlif fault) bad = tt
-netlist_fault net (BadDesign line kind) bad = tt
-netlist_fault net (TooLarge Design count) bad = tt
-netlist_fault net Memory bad = tt
-netlist_fault net _ bad = absurd bad
+pub netlist_fault : (planner : Planner) (net : List ℕ) (fault : Fault) → OrMemory (IsNetlistFault net) fault
+    → IsDesignFault planner fault
+netlist_fault planner net (BadBlif fault) bad = tt
+netlist_fault planner net (BadDesign line kind) bad = tt
+netlist_fault planner net (TooLarge Design count) bad = tt
+netlist_fault planner net Memory bad = tt
+netlist_fault planner net _ bad = absurd bad
 
-pub cells_fault : (lib : List ℕ) (fault : Fault) → OrMemory (IsCellsFault lib) fault → IsDesignFault fault
-cells_fault lib (BadLibrary fault) bad = tt
-cells_fault lib (MissingCell kind) bad = tt
-cells_fault lib Memory bad = tt
-cells_fault lib _ bad = absurd bad
+pub cells_fault : (planner : Planner) (lib : List ℕ) (fault : Fault) → OrMemory (IsCellsFault lib) fault
+    → IsDesignFault planner fault
+cells_fault planner lib (BadLibrary fault) bad = tt
+cells_fault planner lib (MissingCell kind) bad = tt
+cells_fault planner lib Memory bad = tt
+cells_fault planner lib _ bad = absurd bad
 
-pub plan_fault : (equations : NetView) (cells : LibraryView) (fault : Fault) → OrMemory (IsPlanFault equations cells) fault → IsDesignFault fault
-plan_fault equations cells (TooLarge Slots count) bad = tt
-plan_fault equations cells (TooLarge Rows count) bad = tt
-plan_fault equations cells (TooLarge Cells count) bad = tt
-plan_fault equations cells (TooLarge Elements count) bad = tt
-plan_fault equations cells (TooLarge Shapes count) bad = absurd bad
-plan_fault equations cells (TooLarge Functions count) bad = absurd bad
-plan_fault equations cells (TooLarge Design count) bad = absurd bad
-plan_fault equations cells Memory bad = tt
-plan_fault equations cells _ bad = absurd bad
+-- a size that no plan refuses
+no_size : (planner : Planner) (n : NetView) (l : LibraryView) (what : Large) (count : ℕ) → (HasTooMuch n l what count → ⊥)
+    → (HasTooMuchOfOwn n l what count → ⊥)
+    → PlanFinds planner n l (TooLarge what count) ⊎ PlanGivesUp planner n l what count → ⊥
+no_size Layered n l what count plain own (inl bad) = plain bad
+no_size Layered n l what count plain own (inr bad) = bad
+no_size Compact n l what count plain own (inl bad) = bad
+no_size Compact n l what count plain own (inr bad) = plain bad
+no_size Given n l what count plain own (inl bad) = bad
+no_size Given n l what count plain own (inr bad) = own bad
+
+-- only own cells are none
+only_own : (planner : Planner) (n : NetView) (l : LibraryView) (line : ℕ) (kind : _)
+    → PlanFinds planner n l (NotCells line kind) → planner ≡ Given
+only_own Layered n l line kind bad = absurd bad
+only_own Compact n l line kind bad = absurd bad
+only_own Given n l line kind bad = refl
+
+pub plan_fault : (planner : Planner) (equations : NetView) (cells : LibraryView) (fault : Fault)
+    → OrMemory (PlanRefuses planner equations cells) fault → IsDesignFault planner fault
+plan_fault planner equations cells (TooLarge Slots count) bad = tt
+plan_fault planner equations cells (TooLarge Rows count) bad = tt
+plan_fault planner equations cells (TooLarge Cells count) bad = tt
+plan_fault planner equations cells (TooLarge Elements count) bad = tt
+plan_fault planner equations cells (TooLarge Shapes count) bad =
+    no_size planner equations cells Shapes count (λ x. x) (λ x. x) bad
+plan_fault planner equations cells (TooLarge Functions count) bad =
+    no_size planner equations cells Functions count (λ x. x) (λ x. x) bad
+plan_fault planner equations cells (TooLarge Design count) bad = tt
+plan_fault planner equations cells (NotCells line kind) bad = only_own planner equations cells line kind bad
+plan_fault planner equations cells Memory bad = tt
+plan_fault Layered equations cells _ bad = absurd bad
+plan_fault Compact equations cells _ bad = absurd bad
+plan_fault Given equations cells _ bad = absurd bad
 
 -- from the faults of the steps to what the stages answer
 
@@ -74,57 +108,74 @@ cells_answer planner net lib view fault says bad =
 says_design : (net lib : List ℕ) (equations : NetView) (cells : LibraryView) → netlist.SaysNetlist net equations → library.SaysLibrary lib cells → SaysDesign net lib equations cells
 says_design net lib equations cells net_says lib_says = record { net_says = net_says; lib_says = lib_says }
 
-plan_finds : (net lib : List ℕ) (equations : NetView) (cells : LibraryView) (fault : Fault) → netlist.SaysNetlist net equations → library.SaysLibrary lib cells
-    → OrMemory (IsPlanFault equations cells) fault → OrMemory (Finds (stage.Plan Layered net lib)) fault
-plan_finds net lib equations cells (TooLarge what count) n l bad =
-    record { equations = equations; cells = cells; says = says_design net lib equations cells n l; holds = bad }
-plan_finds net lib equations cells Memory n l bad = tt
-plan_finds net lib equations cells _ n l bad = absurd bad
+-- what holds of the plan of the netlist and the library holds of the texts
+of_texts : (net lib : List ℕ) (equations : NetView) (cells : LibraryView) (Holds : NetView → LibraryView → Type 0)
+    → netlist.SaysNetlist net equations → library.SaysLibrary lib cells → Holds equations cells
+    → HasDesign net lib Holds
+of_texts net lib equations cells Holds n l holds =
+    record { equations = equations; cells = cells; says = says_design net lib equations cells n l; holds = holds }
 
-no_fault : (fault : Fault) → ⊥ → ⊥
-no_fault fault bad = bad
+-- and the other way round
+of_plan : (net lib : List ℕ) (equations : NetView) (cells : LibraryView) (Holds : NetView → LibraryView → Type 0)
+    → netlist.SaysNetlist net equations → library.SaysLibrary lib cells → HasDesign net lib Holds
+    → Holds equations cells
+of_plan net lib equations cells Holds n l has =
+    subst (λ l. Holds equations l) (same_said lib has.cells cells has.says.lib_says l)
+    (subst (λ n. Holds n has.cells) (one_netlist net has.equations equations has.says.net_says n) has.holds)
 
--- what the plan of a compact chip answers, where the defined plan passes a limit
-gives_up : (net lib : List ℕ) (equations : NetView) (cells : LibraryView) (fault : Fault)
-    → netlist.SaysNetlist net equations → library.SaysLibrary lib cells → OrMemory (IsPlanFault equations cells) fault
-    → Answers (stage.Plan Compact net lib ∷ []) (Some fault)
-gives_up net lib equations cells (TooLarge what count) n l bad =
+-- where a search gives up its plan finds nothing
+none_found : (planner : Planner) (n : NetView) (l : LibraryView) (what : Large) (count : ℕ)
+    → PlanGivesUp planner n l what count → IsWellPlanned planner n l
+none_found Layered n l what count large fault bad = large
+none_found Compact n l what count large fault bad = bad
+none_found Given n l what count large fault bad = large_no_fault n l what count large fault bad
+
+plan_finds_none : (planner : Planner) (net lib : List ℕ) (equations : NetView) (cells : LibraryView)
+    → netlist.SaysNetlist net equations → library.SaysLibrary lib cells → IsWellPlanned planner equations cells
+    → FindsNone (stage.Plan planner net lib)
+plan_finds_none planner net lib equations cells n l none fault bad =
+    none fault (of_plan net lib equations cells (λ e c. PlanFinds planner e c fault) n l bad)
+
+-- what the stage of a plan answers, where the plan finds this, and where it gives up
+finds_stage : (planner : Planner) (net lib : List ℕ) (equations : NetView) (cells : LibraryView) (fault : Fault)
+    → netlist.SaysNetlist net equations → library.SaysLibrary lib cells → PlanFinds planner equations cells fault
+    → Finds (stage.Plan planner net lib) fault
+finds_stage planner net lib equations cells fault n l bad =
+    of_texts net lib equations cells (λ e c. PlanFinds planner e c fault) n l bad
+
+large_stage : (planner : Planner) (net lib : List ℕ) (equations : NetView) (cells : LibraryView) (what : Large) (count : ℕ)
+    → netlist.SaysNetlist net equations → library.SaysLibrary lib cells
+    → PlanFinds planner equations cells (TooLarge what count) ⊎ PlanGivesUp planner equations cells what count
+    → Answers (stage.Plan planner net lib ∷ []) (Some (TooLarge what count))
+large_stage planner net lib equations cells what count n l (inl bad) =
+    inl (inl (finds_stage planner net lib equations cells (TooLarge what count) n l bad))
+large_stage planner net lib equations cells what count n l (inr large) =
     inr (
-      (no_fault, tt),
-      inl (record {
-        equations = equations;
-        cells = cells;
-        says = says_design net lib equations cells n l;
-        holds = bad;
-      }),
+      (plan_finds_none planner net lib equations cells n l (none_found planner equations cells what count large), tt),
+      inl (of_texts net lib equations cells (λ e c. PlanGivesUp planner e c what count) n l large),
     )
-gives_up net lib equations cells Memory n l bad = tt
-gives_up net lib equations cells _ n l bad = absurd bad
 
 plan_stage : (planner : Planner) (net lib : List ℕ) (equations : NetView) (cells : LibraryView) (fault : Fault)
-    → netlist.SaysNetlist net equations → library.SaysLibrary lib cells → OrMemory (IsPlanFault equations cells) fault
-    → Answers (stage.Plan planner net lib ∷ []) (Some fault)
-plan_stage Layered net lib equations cells fault n l bad =
-    found (stage.Plan Layered net lib) [] fault (plan_finds net lib equations cells fault n l bad)
-plan_stage Compact net lib equations cells fault n l bad = gives_up net lib equations cells fault n l bad
+    → netlist.SaysNetlist net equations → library.SaysLibrary lib cells
+    → OrMemory (PlanRefuses planner equations cells) fault → Answers (stage.Plan planner net lib ∷ []) (Some fault)
+plan_stage planner net lib equations cells (TooLarge what count) n l bad =
+    large_stage planner net lib equations cells what count n l bad
+plan_stage planner net lib equations cells (NotCells line kind) n l bad =
+    inl (finds_stage planner net lib equations cells (NotCells line kind) n l bad)
+plan_stage planner net lib equations cells Memory n l bad = tt
+plan_stage Layered net lib equations cells _ n l bad = absurd bad
+plan_stage Compact net lib equations cells _ n l bad = absurd bad
+plan_stage Given net lib equations cells _ n l bad = absurd bad
 
 pub plan_answers : (planner : Planner) (net lib : List ℕ) (equations : NetView) (cells : LibraryView) (fault : Fault)
-    → netlist.SaysNetlist net equations → library.SaysLibrary lib cells → OrMemory (IsPlanFault equations cells) fault
-    → Answers (design_stages planner net lib) (Some fault)
+    → netlist.SaysNetlist net equations → library.SaysLibrary lib cells
+    → OrMemory (PlanRefuses planner equations cells) fault → Answers (design_stages planner net lib) (Some fault)
 plan_answers planner net lib equations cells fault n l bad =
     past (stage.Netlist net) (stage.Cells lib ∷ stage.Plan planner net lib ∷ []) (Some fault) (says_no_fault net equations n)
     (past (stage.Cells lib) (stage.Plan planner net lib ∷ []) (Some fault) (says_no_cells_fault lib cells l)
     (plan_stage planner net lib equations cells fault n l bad))
 
--- where no limit is passed nothing is due
-plan_finds_none : (planner : Planner) (net lib : List ℕ) (equations : NetView) (cells : LibraryView)
-    → netlist.SaysNetlist net equations → library.SaysLibrary lib cells → IsWellPlanned planner equations cells
-    → FindsNone (stage.Plan planner net lib)
-plan_finds_none Layered net lib equations cells n l none fault bad =
-    none fault (subst (λ l. IsPlanFault equations l fault) (same_said lib bad.cells cells bad.says.lib_says l)
-    (subst (λ n. IsPlanFault n bad.cells fault) (one_netlist net bad.equations equations bad.says.net_says n) bad.holds))
-plan_finds_none Compact net lib equations cells n l none fault bad = bad
-
+-- where the plan finds nothing, nothing is due
 pub design_is_well : (planner : Planner) (net lib : List ℕ) (equations : NetView) (cells : LibraryView)
     → netlist.SaysNetlist net equations → library.SaysLibrary lib cells → IsWellPlanned planner equations cells
     → IsFirst (design_stages planner net lib) None
@@ -136,19 +187,36 @@ design_is_well planner net lib equations cells n l none = (
   ),
 )
 
--- the plan tells its limits
+-- the defined plan finds the limit that it passes
 pub refused_plan : (equations : NetView) (cells : LibraryView) (refused : PlanRefusal) → Refuses cells equations refused
-    → OrMemory (IsPlanFault equations cells) (designing.plan_fault refused)
-refused_plan equations cells (refusal.Slots span) bad = bad
-refused_plan equations cells (refusal.Rows rows) bad = bad
-refused_plan equations cells (refusal.Cells count) bad = bad
+    → OrMemory (PlanRefuses Layered equations cells) (designing.plan_fault refused)
+refused_plan equations cells (refusal.Slots span) bad = inl bad
+refused_plan equations cells (refusal.Rows rows) bad = inl bad
+refused_plan equations cells (refusal.Cells count) bad = inl bad
 refused_plan equations cells refusal.Memory bad = tt
+
+-- a search gives up for it
+pub refused_search : (equations : NetView) (cells : LibraryView) (refused : PlanRefusal) → Refuses cells equations refused
+    → OrMemory (PlanRefuses Compact equations cells) (designing.plan_fault refused)
+refused_search equations cells (refusal.Slots span) bad = inr bad
+refused_search equations cells (refusal.Rows rows) bad = inr bad
+refused_search equations cells (refusal.Cells count) bad = inr bad
+refused_search equations cells refusal.Memory bad = tt
+
+pub refused_own : (equations : NetView) (cells : LibraryView) (refused : CellPlanRefusal)
+    → RefusesCells cells equations refused → OrMemory (PlanRefuses Given equations cells) (designing.own_fault refused)
+refused_own equations cells (own.NotCells line kind) bad = bad
+refused_own equations cells (own.Slots span) bad = inr bad
+refused_own equations cells (own.Cells count) bad = inr bad
+refused_own equations cells (own.Rows rows) bad = inr bad
+refused_own equations cells (own.Elements elements) bad = inr bad
+refused_own equations cells own.Memory bad = tt
 
 pub layered_plan : (equations : NetView) (cells : LibraryView) (placed : PlacedView) → placed ≡ chip_of cells equations
     → IsWithin cells equations → IsPlannedBy Layered equations cells placed
 layered_plan equations cells placed is within = record { is = is; within = within }
 
-pub ruleset plans = (refused_plan, layered_plan)
+pub ruleset plans = (refused_plan, refused_search, refused_own, layered_plan)
 
 many_elements : (equations : NetView) (cells : LibraryView) (chip : PlacedView) (count : ℕ)
     → IsPlanned cells equations chip → count ≡ element_number chip → element_limit < count
@@ -162,13 +230,15 @@ few_and_many n count few is above = omega arith
 -- only the chip of the defined plan may have too many elements
 pub too_many : (planner : Planner) (equations : NetView) (cells : LibraryView) (chip : PlacedView) (count : ℕ)
     → IsPlannedBy planner equations cells chip → count ≡ element_number chip → element_limit < count
-    → HasManyElements equations cells count
+    → PlanRefuses planner equations cells (TooLarge Elements count)
 too_many Layered equations cells chip count planned number above =
-    many_elements equations cells chip count planned number above
+    inl (many_elements equations cells chip count planned number above)
 too_many Compact equations cells chip count (inl planned) number above =
-    many_elements equations cells chip count planned number above
+    inr (many_elements equations cells chip count planned number above)
 too_many Compact equations cells chip count (inr found) number above =
     absurd (few_and_many (element_number chip) count found.few number above)
+too_many Given equations cells chip count drawn number above =
+    absurd (few_and_many (element_number chip) count drawn.few number above)
 
 -- what is drawn has few cells and wires
 pub few_cells : (chip : PlacedView) → element_number chip ≤ element_limit → cells_in chip.net.rows < 2 ^ 63
@@ -185,6 +255,7 @@ plan_by Compact equations cells placed (inl planned) =
     λ within. subst (λ p. IsNoLarger p (chip_of cells equations)) (sym planned.is)
     (record { cells = le_refl _; junctions = le_refl _ })
 plan_by Compact equations cells placed (inr found) = found.no_larger
+plan_by Given equations cells placed drawn = drawn
 
 pub drawn : (cells : LibraryView) (placed : PlacedView) (chip : Chip) → chip.layout ≡ draw placed cells
     → AreCountsOf placed chip.counts → IsDrawn placed cells chip
@@ -208,17 +279,22 @@ keeps_limits equations cells placed planned small =
 
 -- a chip within the limits was planned well
 pub planned_well : (planner : Planner) (equations : NetView) (cells : LibraryView) (placed : PlacedView)
-    → (KeepsLimits equations cells → PassesNone equations cells)
+    → (KeepsLimits equations cells → (fault : Fault) → ¬ IsPlanFault equations cells fault)
     → IsPlannedBy planner equations cells placed → element_number placed ≤ element_limit
     → IsWellPlanned planner equations cells
 planned_well Layered equations cells placed passes planned small =
     passes (keeps_limits equations cells placed planned small)
-planned_well Compact equations cells placed passes planned small = tt
+planned_well Compact equations cells placed passes planned small = λ fault bad. bad
+planned_well Given equations cells placed passes drawn small =
+    rows_no_fault equations cells drawn.rows drawn.of_net
 
-pub planner_well : (planner : Planner) (equations : NetView) (cells : LibraryView) → PassesNone equations cells
-    → IsWellPlanned planner equations cells
-planner_well Layered equations cells none = none
-planner_well Compact equations cells none = tt
+-- and so is a plan that keeps them
+pub planner_well : (planner : Planner) (equations : NetView) (cells : LibraryView)
+    → (KeepsLimits equations cells → (fault : Fault) → ¬ IsPlanFault equations cells fault)
+    → KeepsPlan planner equations cells → IsWellPlanned planner equations cells
+planner_well Layered equations cells passes keeps = passes keeps
+planner_well Compact equations cells passes keeps = λ fault bad. bad
+planner_well Given equations cells passes keeps = chip_no_fault equations cells keeps
 
 -- a placed net has some row
 pub some_row : (placed : PlacedView) (counts : ChipCounts) → IsPlaced placed → counts.rows ≡ length placed.net.rows

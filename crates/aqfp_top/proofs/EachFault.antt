@@ -1,5 +1,5 @@
 -- The faults of each step of a command: what holds of each of its kinds holds of every fault of the step.
-use Rattle.std.proofs.Common.{ℕ, ◌<◌, List, Result, Ok, Err, IfErr, sym, subst}
+use Rattle.std.proofs.Common.{ℕ, ◌≡◌, ◌<◌, List, Result, Ok, Err, IfErr, sym, subst}
 use Rattle.aqfp_top.specs.Loads.{Load, build_loads, write_loads, IsLoaded, IsPast}
 use Rattle.aqfp_top.specs.Code.Designing.{IsDesignFault}
 use Rattle.aqfp_top.specs.Code.Checking.{IsCircuitFault, IsJudgingFault}
@@ -8,10 +8,12 @@ use Rattle.aqfp_top.specs.Code.Writing.{IsReadingFault}
 use Rattle.aqfp_top.specs.Code.Reporting.{IsLayoutFault, IsPrintingFault, IsShowingFault}
 use Rattle.aqfp_top.specs.Code.Loading.{IsFaultOfLoad, IsFaultOfLoads}
 use Rattle.aqfp_top.specs.Code.Building.{IsMakeFault, IsStoreFault, IsOutOrMemory}
+use Rattle.aqfp_top.specs.declared.planner.Planner.{Planner}
+use Rattle.aqfp_top.specs.declared.planner.Planner.TheVariants.{Given}
 use Rattle.aqfp_top.specs.declared.fault.WriteCall.TheVariants.{Create, Append, Close, Out}
 use Rattle.aqfp_top.specs.declared.fault.Large.TheVariants.{Slots, Rows, Cells, Elements, Shapes, Functions, Design}
 use Rattle.aqfp_top.specs.declared.fault.Fault.{Fault}
-use Rattle.aqfp_top.specs.declared.fault.Fault.TheVariants.{Absent, TooLong, ReadFault, WriteFault, BadBlif, BadDesign, BadLibrary, MissingCell, TooLarge, BadStream, RuleBroken, BadWords, Widths, NoShape, Memory}
+use Rattle.aqfp_top.specs.declared.fault.Fault.TheVariants.{Absent, TooLong, ReadFault, WriteFault, BadBlif, BadDesign, BadLibrary, MissingCell, TooLarge, BadStream, RuleBroken, BadWords, Widths, NoShape, NotCells, Memory}
 
 -- a load
 pub each_load : (P : Fault → Type 0) (place limit : ℕ) → P (Absent place) → ((taken : ℕ) → limit < taken → P (TooLong place taken)) → P (ReadFault place) → P Memory →
@@ -33,22 +35,23 @@ each_of_loads P loads absent long failed memory Memory only = memory
 each_of_loads P loads absent long failed memory _ only = absurd only
 
 -- the texts of a netlist and of a library
-pub each_design : (P : Fault → Type 0) → ((fault : _) → P (BadBlif fault)) → ((line : ℕ) (kind : _) → P (BadDesign line kind)) → ((fault : _) → P (BadLibrary fault)) → ((kind : _) → P (MissingCell kind)) →
-    ((count : ℕ) → P (TooLarge Slots count)) → ((count : ℕ) → P (TooLarge Rows count)) → ((count : ℕ) → P (TooLarge Cells count)) → ((count : ℕ) → P (TooLarge Elements count)) → ((count : ℕ) → P (TooLarge Design count)) → P Memory →
-    (fault : Fault) → IsDesignFault fault → P fault
-each_design P blif design library missing slots rows cells elements size memory (BadBlif fault) wrong = blif fault
-each_design P blif design library missing slots rows cells elements size memory (BadDesign line kind) wrong = design line kind
-each_design P blif design library missing slots rows cells elements size memory (BadLibrary fault) wrong = library fault
-each_design P blif design library missing slots rows cells elements size memory (MissingCell kind) wrong = missing kind
-each_design P blif design library missing slots rows cells elements size memory (TooLarge Slots count) wrong = slots count
-each_design P blif design library missing slots rows cells elements size memory (TooLarge Rows count) wrong = rows count
-each_design P blif design library missing slots rows cells elements size memory (TooLarge Cells count) wrong = cells count
-each_design P blif design library missing slots rows cells elements size memory (TooLarge Elements count) wrong = elements count
-each_design P blif design library missing slots rows cells elements size memory (TooLarge Shapes count) wrong = absurd wrong
-each_design P blif design library missing slots rows cells elements size memory (TooLarge Functions count) wrong = absurd wrong
-each_design P blif design library missing slots rows cells elements size memory (TooLarge Design count) wrong = size count
-each_design P blif design library missing slots rows cells elements size memory Memory wrong = memory
-each_design P blif design library missing slots rows cells elements size memory _ wrong = absurd wrong
+pub each_design : (planner : Planner) (P : Fault → Type 0) → ((fault : _) → P (BadBlif fault)) → ((line : ℕ) (kind : _) → P (BadDesign line kind)) → ((fault : _) → P (BadLibrary fault)) → ((kind : _) → P (MissingCell kind)) →
+    ((count : ℕ) → P (TooLarge Slots count)) → ((count : ℕ) → P (TooLarge Rows count)) → ((count : ℕ) → P (TooLarge Cells count)) → ((count : ℕ) → P (TooLarge Elements count)) → ((count : ℕ) → P (TooLarge Design count)) → ((line : ℕ) (kind : _) → planner ≡ Given → P (NotCells line kind)) → P Memory →
+    (fault : Fault) → IsDesignFault planner fault → P fault
+each_design planner P blif design library missing slots rows cells elements size own memory (BadBlif fault) wrong = blif fault
+each_design planner P blif design library missing slots rows cells elements size own memory (BadDesign line kind) wrong = design line kind
+each_design planner P blif design library missing slots rows cells elements size own memory (BadLibrary fault) wrong = library fault
+each_design planner P blif design library missing slots rows cells elements size own memory (MissingCell kind) wrong = missing kind
+each_design planner P blif design library missing slots rows cells elements size own memory (TooLarge Slots count) wrong = slots count
+each_design planner P blif design library missing slots rows cells elements size own memory (TooLarge Rows count) wrong = rows count
+each_design planner P blif design library missing slots rows cells elements size own memory (TooLarge Cells count) wrong = cells count
+each_design planner P blif design library missing slots rows cells elements size own memory (TooLarge Elements count) wrong = elements count
+each_design planner P blif design library missing slots rows cells elements size own memory (TooLarge Shapes count) wrong = absurd wrong
+each_design planner P blif design library missing slots rows cells elements size own memory (TooLarge Functions count) wrong = absurd wrong
+each_design planner P blif design library missing slots rows cells elements size own memory (TooLarge Design count) wrong = size count
+each_design planner P blif design library missing slots rows cells elements size own memory (NotCells line kind) wrong = own line kind wrong
+each_design planner P blif design library missing slots rows cells elements size own memory Memory wrong = memory
+each_design planner P blif design library missing slots rows cells elements size own memory _ wrong = absurd wrong
 
 -- the texts of a layout and of a library
 pub each_circuit : (P : Fault → Type 0) → ((offset : ℕ) (kind : _) → P (BadStream offset kind)) → ((count : ℕ) → P (TooLarge Shapes count)) → ((fault : _) → P (BadLibrary fault)) → ((kind : _) → P (MissingCell kind)) →
@@ -90,23 +93,24 @@ each_judging P stream large library missing rules words memory Memory wrong = me
 each_judging P stream large library missing rules words memory _ wrong = absurd wrong
 
 -- all that comes before anything is stored
-pub each_made : (P : Fault → Type 0) → ((place : ℕ) → IsLoaded build_loads place → P (Absent place)) → ((place taken : ℕ) → IsPast build_loads place taken → P (TooLong place taken)) →
+pub each_made : (planner : Planner) (P : Fault → Type 0) → ((place : ℕ) → IsLoaded build_loads place → P (Absent place)) → ((place taken : ℕ) → IsPast build_loads place taken → P (TooLong place taken)) →
     ((place : ℕ) → IsLoaded build_loads place → P (ReadFault place)) → ((fault : _) → P (BadBlif fault)) → ((line : ℕ) (kind : _) → P (BadDesign line kind)) → ((fault : _) → P (BadLibrary fault)) → ((kind : _) → P (MissingCell kind)) →
-    ((count : ℕ) → P (TooLarge Slots count)) → ((count : ℕ) → P (TooLarge Rows count)) → ((count : ℕ) → P (TooLarge Cells count)) → ((count : ℕ) → P (TooLarge Elements count)) → ((count : ℕ) → P (TooLarge Design count)) → P Memory → (fault : Fault) → IsMakeFault fault → P fault
-each_made P absent long failed blif design library missing slots rows cells elements size memory (Absent place) only = absent place only
-each_made P absent long failed blif design library missing slots rows cells elements size memory (TooLong place taken) only = long place taken only
-each_made P absent long failed blif design library missing slots rows cells elements size memory (ReadFault place) only = failed place only
-each_made P absent long failed blif design library missing slots rows cells elements size memory (BadBlif fault) only = blif fault
-each_made P absent long failed blif design library missing slots rows cells elements size memory (BadDesign line kind) only = design line kind
-each_made P absent long failed blif design library missing slots rows cells elements size memory (TooLarge Design count) only = size count
-each_made P absent long failed blif design library missing slots rows cells elements size memory (BadLibrary fault) only = library fault
-each_made P absent long failed blif design library missing slots rows cells elements size memory (MissingCell kind) only = missing kind
-each_made P absent long failed blif design library missing slots rows cells elements size memory (TooLarge Slots count) only = slots count
-each_made P absent long failed blif design library missing slots rows cells elements size memory (TooLarge Rows count) only = rows count
-each_made P absent long failed blif design library missing slots rows cells elements size memory (TooLarge Cells count) only = cells count
-each_made P absent long failed blif design library missing slots rows cells elements size memory (TooLarge Elements count) only = elements count
-each_made P absent long failed blif design library missing slots rows cells elements size memory Memory only = memory
-each_made P absent long failed blif design library missing slots rows cells elements size memory _ only = absurd only
+    ((count : ℕ) → P (TooLarge Slots count)) → ((count : ℕ) → P (TooLarge Rows count)) → ((count : ℕ) → P (TooLarge Cells count)) → ((count : ℕ) → P (TooLarge Elements count)) → ((count : ℕ) → P (TooLarge Design count)) → ((line : ℕ) (kind : _) → planner ≡ Given → P (NotCells line kind)) → P Memory → (fault : Fault) → IsMakeFault planner fault → P fault
+each_made planner P absent long failed blif design library missing slots rows cells elements size own memory (Absent place) only = absent place only
+each_made planner P absent long failed blif design library missing slots rows cells elements size own memory (TooLong place taken) only = long place taken only
+each_made planner P absent long failed blif design library missing slots rows cells elements size own memory (ReadFault place) only = failed place only
+each_made planner P absent long failed blif design library missing slots rows cells elements size own memory (BadBlif fault) only = blif fault
+each_made planner P absent long failed blif design library missing slots rows cells elements size own memory (BadDesign line kind) only = design line kind
+each_made planner P absent long failed blif design library missing slots rows cells elements size own memory (TooLarge Design count) only = size count
+each_made planner P absent long failed blif design library missing slots rows cells elements size own memory (BadLibrary fault) only = library fault
+each_made planner P absent long failed blif design library missing slots rows cells elements size own memory (MissingCell kind) only = missing kind
+each_made planner P absent long failed blif design library missing slots rows cells elements size own memory (TooLarge Slots count) only = slots count
+each_made planner P absent long failed blif design library missing slots rows cells elements size own memory (TooLarge Rows count) only = rows count
+each_made planner P absent long failed blif design library missing slots rows cells elements size own memory (TooLarge Cells count) only = cells count
+each_made planner P absent long failed blif design library missing slots rows cells elements size own memory (TooLarge Elements count) only = elements count
+each_made planner P absent long failed blif design library missing slots rows cells elements size own memory (NotCells line kind) only = own line kind only
+each_made planner P absent long failed blif design library missing slots rows cells elements size own memory Memory only = memory
+each_made planner P absent long failed blif design library missing slots rows cells elements size own memory _ only = absurd only
 
 -- all that comes before a netlist is stored
 pub each_reading : (P : Fault → Type 0) → ((place : ℕ) → IsLoaded write_loads place → P (Absent place)) → ((place taken : ℕ) → IsPast write_loads place taken → P (TooLong place taken)) →

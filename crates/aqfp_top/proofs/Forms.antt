@@ -1,9 +1,9 @@
 -- A command line has one form.
 use Rattle.std.proofs.Common.{ℕ, ◌≡◌, ◌≤◌, List, length, inl, inr, refl, sym, ap, ◌∙◌, arith, get_or}
 use Rattle.std.proofs.lemmas.Fmt.{decimal_injective}
-use Rattle.aqfp_top.specs.Words.{IsMake, IsMakeBy, IsBuild, IsCompact, IsVerify, IsTrace, IsEqual, IsWrite, IsReport, IsNumber, IsShapesOf, IsCheck, IsSampleSize, IsSampleOf, HasForm, IsOfForm, word_at}
+use Rattle.aqfp_top.specs.Words.{IsMake, IsMakeBy, IsBuild, IsCompact, IsDraw, IsVerify, IsTrace, IsEqual, IsWrite, IsReport, IsNumber, IsShapesOf, IsCheck, IsSampleSize, IsSampleOf, HasForm, IsOfForm, word_at}
 use Rattle.aqfp_top.specs.declared.planner.Planner.{Planner}
-use Rattle.aqfp_top.specs.declared.planner.Planner.TheVariants.{Layered, Compact}
+use Rattle.aqfp_top.specs.declared.planner.Planner.TheVariants.{Layered, Compact, Given}
 use Rattle.aqfp_top.specs.declared.words.Form.{Form}
 use Rattle.aqfp_top.specs.declared.words.Form.TheVariants.{Make, Verify, Trace, Equal, Write, Report, Shapes, Sample, Wrong}
 
@@ -11,27 +11,44 @@ build_not_compact : (words : List (List ℕ)) → IsBuild words → IsCompact wo
 build_not_compact words form compact =
     let first : ◌≡◌ {A = ℕ} 99 98 = ap (λ xs. get_or xs 0 0) (sym compact.1 ∙ form.1) in omega (arith, first)
 
--- the words of either command that makes a chip
+build_not_draw : (words : List (List ℕ)) → IsBuild words → IsDraw words → ⊥
+build_not_draw words form draw =
+    let first : ◌≡◌ {A = ℕ} 100 98 = ap (λ xs. get_or xs 0 0) (sym draw.1 ∙ form.1) in omega (arith, first)
+
+compact_not_draw : (words : List (List ℕ)) → IsCompact words → IsDraw words → ⊥
+compact_not_draw words form draw =
+    let first : ◌≡◌ {A = ℕ} 100 99 = ap (λ xs. get_or xs 0 0) (sym draw.1 ∙ form.1) in omega (arith, first)
+
+-- the words of any command that makes a chip
 pub is_make : (planner : Planner) (words : List (List ℕ)) → IsMakeBy planner words → IsMake words
 is_make Layered words form = inl form
-is_make Compact words form = inr form
+is_make Compact words form = inr (inl form)
+is_make Given words form = inr (inr form)
 
 pub one_planner : (words : List (List ℕ)) (p q : Planner) → IsMakeBy p words → IsMakeBy q words → p ≡ q
 one_planner words Layered Layered a b = refl
 one_planner words Layered Compact a b = absurd (build_not_compact words a b)
+one_planner words Layered Given a b = absurd (build_not_draw words a b)
 one_planner words Compact Layered a b = absurd (build_not_compact words b a)
 one_planner words Compact Compact a b = refl
+one_planner words Compact Given a b = absurd (compact_not_draw words a b)
+one_planner words Given Layered a b = absurd (build_not_draw words b a)
+one_planner words Given Compact a b = absurd (compact_not_draw words b a)
+one_planner words Given Given a b = refl
 
 pub four_words : (words : List (List ℕ)) → IsMake words → length words ≡ 4
 four_words words (inl form) = form.0
-four_words words (inr form) = form.0
+four_words words (inr (inl form)) = form.0
+four_words words (inr (inr form)) = form.0
 
--- the first letter of a command that makes a chip is b or c
-first_letter : (words : List (List ℕ)) (letter : ℕ) → IsMake words → get_or (word_at words 0) 0 0 ≡ letter → 100 ≤ letter → ⊥
+-- the first letter of a command that makes a chip is b, c or d
+first_letter : (words : List (List ℕ)) (letter : ℕ) → IsMake words → get_or (word_at words 0) 0 0 ≡ letter → 101 ≤ letter → ⊥
 first_letter words letter (inl form) is past =
     let own : ◌≡◌ {A = ℕ} 98 letter = ap (λ xs. get_or xs 0 0) (sym form.1) ∙ is in omega (arith, own, past)
-first_letter words letter (inr form) is past =
+first_letter words letter (inr (inl form)) is past =
     let own : ◌≡◌ {A = ℕ} 99 letter = ap (λ xs. get_or xs 0 0) (sym form.1) ∙ is in omega (arith, own, past)
+first_letter words letter (inr (inr form)) is past =
+    let own : ◌≡◌ {A = ℕ} 100 letter = ap (λ xs. get_or xs 0 0) (sym form.1) ∙ is in omega (arith, own, past)
 
 pub make_not_sample : (words : List (List ℕ)) (bits : ℕ) → IsMake words → IsSampleOf words bits → ⊥
 make_not_sample words bits form sample =

@@ -259,12 +259,12 @@ circuit_after IsDue heard heard' words same fault only =
     (each_circuit (λ f. HeardAfter IsDue heard heard' words (Some f)) (λ o k. same) (λ n. same) (λ f. same) (λ k. same)
     (λ x a b. same) (inl same)) fault only
 
-design_after : (IsDue : List ℕ → Type 0) (heard heard' : List Event) (words : List (List ℕ)) → heard' ≡ heard
-    → (fault : Fault) → IsMakeFault fault → HeardAfter IsDue heard heard' words (Some fault)
-design_after IsDue heard heard' words same fault only =
-    each_made (λ f. HeardAfter IsDue heard heard' words (Some f)) (λ p l. same) (λ p t l. same) (λ p l. same)
+design_after : (planner : Planner) (IsDue : List ℕ → Type 0) (heard heard' : List Event) (words : List (List ℕ))
+    → heard' ≡ heard → (fault : Fault) → IsMakeFault planner fault → HeardAfter IsDue heard heard' words (Some fault)
+design_after planner IsDue heard heard' words same fault only =
+    each_made planner (λ f. HeardAfter IsDue heard heard' words (Some f)) (λ p l. same) (λ p t l. same) (λ p l. same)
     (λ f. same) (λ l k. same) (λ f. same) (λ k. same) (λ n. same) (λ n. same) (λ n. same) (λ n. same) (λ n. same)
-    (inl same) fault only
+    (λ l k given. same) (inl same) fault only
 
 read_ends : (loads : List Load) (limit : ℕ) (stages : List ℕ → List ℕ → List Stage)
     (IsDue : List ℕ → List ℕ → List ℕ → Type 0) (heard heard' : List Event) (words : List (List ℕ)) (fault : Fault)
@@ -282,13 +282,13 @@ read_ends loads limit stages IsDue heard heard' words fault after (inr reads) = 
   heard_is = after (IsDue reads.first reads.lib) (loaded heard words reads.first reads.lib) reads.heard_is;
 })
 
-pub design_ends : (loads : List Load) (limit : ℕ) (stages : List ℕ → List ℕ → List Stage)
+pub design_ends : (planner : Planner) (loads : List Load) (limit : ℕ) (stages : List ℕ → List ℕ → List Stage)
     (IsDue : List ℕ → List ℕ → List ℕ → Type 0) (heard heard' : List Event) (words : List (List ℕ)) (fault : Fault)
-    → IsMakeFault fault → DueOfReading loads limit stages heard heard' words (Some fault)
+    → IsMakeFault planner fault → DueOfReading loads limit stages heard heard' words (Some fault)
     → DueOfTwo loads limit stages IsDue heard heard' words (Some fault)
-design_ends loads limit stages IsDue heard heard' words fault only due =
+design_ends planner loads limit stages IsDue heard heard' words fault only due =
     read_ends loads limit stages IsDue heard heard' words fault
-    (λ bytes_due h same. design_after bytes_due h heard' words same fault only) due
+    (λ bytes_due h same. design_after planner bytes_due h heard' words same fault only) due
 
 pub circuit_ends : (loads : List Load) (limit : ℕ) (stages : List ℕ → List ℕ → List Stage)
     (IsDue : List ℕ → List ℕ → List ℕ → Type 0) (heard heard' : List Event) (words : List (List ℕ)) (fault : Fault)
@@ -389,7 +389,7 @@ counts_end loads limit stages IsDue heard now o' words name bytes text shown sho
     (each_out (λ r. HeardAfter bytes_due now.heard o'.heard words (result_err r)) out out
     (inr (inr (inr (inr (inr out))))) result only)
 
-pub ruleset build_dues = (design_ends, store_ends)
+pub ruleset build_dues = (store_ends)
 
 pub ruleset write_dues = (circuit_ends, store_ends)
 

@@ -1,15 +1,18 @@
 -- One answer is due, and it comes.
 use Rattle.std.proofs.Common.{ℕ, ◌≡◌, ◌⊎◌, List, [], ◌∷◌, Option, Some, None, inl, inr, refl, sym, ap, subst, ◌∙◌}
 use Rattle.aq_base.specs.Store.{Contents}
-use Rattle.aqfp_top.specs.Words.{IsCompact, IsEqual, HasForm, IsOfForm}
+use Rattle.blif_read.specs.Parts.{NetView}
+use Rattle.cell_library.specs.Library.{LibraryView}
+use Rattle.aqfp_top.specs.Words.{IsMakeBy, IsSearch, IsEqual, HasForm, IsOfForm}
 use Rattle.aqfp_top.specs.Loads.{Load}
 use Rattle.aqfp_top.specs.Stages.{Stage, Finds, FindsNone, IsFirst, IsLoadFault, IsFormFault, GivesUp, SomeGivesUp, Answers}
 use Rattle.aqfp_top.specs.Stages as stage
-use Rattle.aqfp_top.specs.Designs.{HasDesign, HasTooMuch}
+use Rattle.aqfp_top.specs.Designs.{HasDesign, PlanGivesUp}
 use Rattle.aqfp_top.specs.Due.{stages_of, bytes_at, Due, MayAnswer, MayGiveUp, untaken, IsSameAnswer, IsDueOrYields}
 use Rattle.aqfp_top.specs.Due.{IsPastSize, IsDoneOrMemory}
 use Rattle.aqfp_top.specs.Counted.{Counts, HasFaults, NoFaults}
-use Rattle.aqfp_top.specs.declared.planner.Planner.TheVariants.{Layered, Compact}
+use Rattle.aqfp_top.specs.declared.planner.Planner.{Planner}
+use Rattle.aqfp_top.specs.declared.planner.Planner.TheVariants.{Layered, Compact, Given}
 use Rattle.aqfp_top.specs.declared.words.Form.{Form}
 use Rattle.aqfp_top.specs.declared.words.Form.TheVariants.{Make, Verify, Trace, Equal, Write, Report, Sample, Wrong}
 use Rattle.aqfp_top.specs.declared.words.Form.TheVariants as form
@@ -17,7 +20,7 @@ use Rattle.aqfp_top.specs.declared.fault.Large.{Large}
 use Rattle.aqfp_top.specs.declared.fault.Large.TheVariants.{Slots, Rows, Cells, Elements, Shapes, Functions, Design}
 use Rattle.aqfp_top.specs.declared.fault.WriteCall.TheVariants.{Create, Append, Close, Out}
 use Rattle.aqfp_top.specs.declared.fault.Fault.{Fault}
-use Rattle.aqfp_top.specs.declared.fault.Fault.TheVariants.{Usage, Absent, TooLong, ReadFault, WriteFault, BadBlif, BadDesign, BadLibrary, MissingCell, TooLarge, BadStream, RuleBroken, BadWords, Widths, NoShape, Memory}
+use Rattle.aqfp_top.specs.declared.fault.Fault.TheVariants.{Usage, Absent, TooLong, ReadFault, WriteFault, BadBlif, BadDesign, BadLibrary, MissingCell, TooLarge, BadStream, RuleBroken, BadWords, Widths, NoShape, NotCells, Memory}
 use Rattle.aqfp_top.proofs.Files.{gone_not_there}
 use Rattle.aqfp_top.proofs.Forms.{one_form}
 
@@ -67,6 +70,7 @@ done files words before after (Some (RuleBroken rule a b)) large comes rose none
 done files words before after (Some (BadWords line)) large comes rose none = cc
 done files words before after (Some (Widths a_inputs a_outputs b_inputs b_outputs)) large comes rose none = cc
 done files words before after (Some (NoShape number count)) large comes rose none = cc
+done files words before after (Some (NotCells line kind)) large comes rose none = cc
 
 -- a comparison alone may give up, and the search for a compact chip
 rest : {A : Type 0} → ⊥ ⊎ A → A
@@ -84,22 +88,28 @@ comparing files words Elements count is many = absurd many
 comparing files words Shapes count is many = absurd many
 comparing files words Design count is many = absurd many
 
-planning : (files : Contents) (words : List (List ℕ)) (what : Large) (count : ℕ) → IsCompact words
-    → HasDesign (bytes_at files words 1) (bytes_at files words 2) (λ equations cells. HasTooMuch equations cells what count)
-    → IsPastSize files words what count
-planning files words Functions count is many = absurd many.holds
-planning files words Slots count is many = record { form = is; many = many }
-planning files words Rows count is many = record { form = is; many = many }
-planning files words Cells count is many = record { form = is; many = many }
-planning files words Elements count is many = record { form = is; many = many }
-planning files words Shapes count is many = absurd many.holds
-planning files words Design count is many = absurd many.holds
+-- none gives up for a number of subfunctions
+no_functions : (planner : Planner) (n : NetView) (l : LibraryView) (count : ℕ) → PlanGivesUp planner n l Functions count → ⊥
+no_functions Layered n l count many = many
+no_functions Compact n l count many = many
+no_functions Given n l count many = many
+
+planning : (planner : Planner) (files : Contents) (words : List (List ℕ)) (what : Large) (count : ℕ)
+    → IsMakeBy planner words → HasDesign (bytes_at files words 1) (bytes_at files words 2)
+    (λ equations cells. PlanGivesUp planner equations cells what count) → IsPastSize files words what count
+planning planner files words Functions count is many =
+    absurd (no_functions planner many.equations many.cells count many.holds)
+planning planner files words Slots count is many = record { planner = planner; form = is; many = many }
+planning planner files words Rows count is many = record { planner = planner; form = is; many = many }
+planning planner files words Cells count is many = record { planner = planner; form = is; many = many }
+planning planner files words Elements count is many = record { planner = planner; form = is; many = many }
+planning planner files words Shapes count is many = record { planner = planner; form = is; many = many }
+planning planner files words Design count is many = record { planner = planner; form = is; many = many }
 
 gives_up : (files : Contents) (words : List (List ℕ)) (form : Form) (what : Large) (count : ℕ) → IsOfForm words form
     → SomeGivesUp (stages_of form files words) what count → IsPastSize files words what count
-gives_up files words (Make Layered) what count is some = absurd (rest (rest (rest (rest (rest some)))))
-gives_up files words (Make Compact) what count is some = elim (rest (rest (rest (rest some)))) [
-  | inl many ↦ planning files words what count is many
+gives_up files words (Make planner) what count is some = elim (rest (rest (rest (rest some)))) [
+  | inl many ↦ planning planner files words what count is many
   | inr none ↦ absurd none
 ]
 gives_up files words Verify what count is some = absurd (rest (rest (rest (rest (rest (rest (rest (rest some))))))))
@@ -114,15 +124,27 @@ gives_up files words (form.Shapes first second) what count is some = absurd (res
 gives_up files words (Sample bits) what count is some = absurd (rest (rest some))
 gives_up files words Wrong what count is some = absurd (rest some)
 
+is_search : (planner : Planner) (words : List (List ℕ)) (n : NetView) (l : LibraryView) (what : Large) (count : ℕ)
+    → IsMakeBy planner words → PlanGivesUp planner n l what count → IsSearch words
+is_search Layered words n l what count form many = absurd many
+is_search Compact words n l what count form many = inl form
+is_search Given words n l what count form many = inr form
+
 may_give_up : (files : Contents) (words : List (List ℕ)) (what : Large) (count : ℕ) → IsPastSize files words what count
     → MayGiveUp words what
 may_give_up files words Functions count past = past.form
-may_give_up files words Slots count past = past.form
-may_give_up files words Rows count past = past.form
-may_give_up files words Cells count past = past.form
-may_give_up files words Elements count past = past.form
-may_give_up files words Shapes count past = past.form
-may_give_up files words Design count past = past.form
+may_give_up files words Slots count past =
+    is_search past.planner words past.many.equations past.many.cells Slots count past.form past.many.holds
+may_give_up files words Rows count past =
+    is_search past.planner words past.many.equations past.many.cells Rows count past.form past.many.holds
+may_give_up files words Cells count past =
+    is_search past.planner words past.many.equations past.many.cells Cells count past.form past.many.holds
+may_give_up files words Elements count past =
+    is_search past.planner words past.many.equations past.many.cells Elements count past.form past.many.holds
+may_give_up files words Shapes count past =
+    is_search past.planner words past.many.equations past.many.cells Shapes count past.form past.many.holds
+may_give_up files words Design count past =
+    is_search past.planner words past.many.equations past.many.cells Design count past.form past.many.holds
 
 -- some answer is first, and so some answer is due
 
@@ -138,7 +160,8 @@ some_first (s ∷ stages) never =
 
 no_form : (words : List (List ℕ)) → ((form : Form) → ¬ IsOfForm words form) → ¬ HasForm words
 no_form words never (inl (inl build)) = never (Make Layered) build
-no_form words never (inl (inr compact)) = never (Make Compact) compact
+no_form words never (inl (inr (inl compact))) = never (Make Compact) compact
+no_form words never (inl (inr (inr draw))) = never (Make Given) draw
 no_form words never (inr (inl (inl verify))) = never Verify verify
 no_form words never (inr (inl (inr trace))) = never Trace trace
 no_form words never (inr (inr (inl sample))) = never (Sample sample.bits) sample.of_bits
@@ -206,6 +229,8 @@ module _ (once : (stage : Stage) (f g : Fault) → Finds stage f → Finds stage
       first_once (stages_of form files words) (Some (Widths a b c d)) due q p
   first_comes files words form due (Some (NoShape number count)) is p q =
       first_once (stages_of form files words) (Some (NoShape number count)) due q p
+  first_comes files words form due (Some (NotCells line kind)) is p q =
+      first_once (stages_of form files words) (Some (NotCells line kind)) due q p
   first_comes files words form due (Some Memory) is p q = tt
 
   -- where nothing is due, a size comes of a stage that gives up

@@ -23,7 +23,10 @@ use Rattle.chip_plan.specs.Plans.{IsWithin, chip_of}
 use Rattle.chip_plan.specs.Refusals.{Refuses}
 use Rattle.chip_plan.specs.declared.refusal.PlanRefusal.{PlanRefusal}
 use Rattle.chip_plan.specs.declared.refusal.PlanRefusal.TheVariants as plan
-use Rattle.aqfp_top.specs.Designs.{SaysLibrary, HasNetlist, HasDesign, KeepsLimits, HasManyElements, HasTooMuch, IsCellFault, IsNetlistFault, IsPlainFault, IsCellsFault, IsPlanFault}
+use Rattle.aqfp_top.specs.Designs.{SaysLibrary, HasNetlist, HasDesign, KeepsLimits, HasManyElements, HasTooMuch, IsCellFault, IsNetlistFault, IsPlainFault, IsCellsFault, IsPlanFault, PlanFinds}
+use Rattle.aqfp_top.specs.declared.planner.Planner.{Planner}
+use Rattle.aqfp_top.specs.declared.planner.Planner.TheVariants.{Layered, Compact, Given}
+use Rattle.aqfp_top.proofs.OwnCells.{one_own_fault}
 use Rattle.aqfp_top.specs.declared.fault.Large.{Large}
 use Rattle.aqfp_top.specs.declared.fault.Large.TheVariants.{Slots, Rows, Cells, Elements, Shapes, Functions, Design}
 use Rattle.aqfp_top.specs.declared.fault.Fault.{Fault}
@@ -260,11 +263,19 @@ module _ (past : (l : LibraryView) (net : NetView) (refusal : PlanRefusal) → r
   pub passes_none : (n : NetView) (l : LibraryView) → KeepsLimits n l → (fault : Fault) → ¬ IsPlanFault n l fault
   passes_none n l keeps fault bad = each_plan (λ f. ⊥) n l (λ what count x. not_large n l what count keeps x) fault bad
 
-  pub one_plan_fault : (net lib : List ℕ) (f g : Fault) → HasDesign net lib (λ n l. IsPlanFault n l f) → HasDesign net lib (λ n l. IsPlanFault n l g) → f ≡ g
-  one_plan_fault net lib f g p q =
+  one_found : (planner : Planner) (n : NetView) (l : LibraryView) (f g : Fault) → PlanFinds planner n l f
+      → PlanFinds planner n l g → f ≡ g
+  one_found Layered n l f g p q = one_limit n l f g p q
+  one_found Compact n l f g p q = absurd p
+  one_found Given n l f g p q = one_own_fault n l f g p q
+
+  pub one_plan_fault : (planner : Planner) (net lib : List ℕ) (f g : Fault) → HasDesign net lib (λ n l. PlanFinds planner n l f)
+      → HasDesign net lib (λ n l. PlanFinds planner n l g) → f ≡ g
+  one_plan_fault planner net lib f g p q =
       let n : q.equations ≡ p.equations = one_netlist net q.equations p.equations q.says.net_says p.says.net_says in
       let l : q.cells ≡ p.cells = same_said lib q.cells p.cells q.says.lib_says p.says.lib_says in
-      one_limit p.equations p.cells f g p.holds (subst (λ l. IsPlanFault p.equations l g) l (subst (λ n. IsPlanFault n q.cells g) n q.holds))
+      one_found planner p.equations p.cells f g p.holds
+      (subst (λ l. PlanFinds planner p.equations l g) l (subst (λ n. PlanFinds planner n q.cells g) n q.holds))
 
   pub one_own_plan_fault : (net : List ℕ) (l : LibraryView) (f g : Fault) → HasNetlist net (λ n. IsPlanFault n l f) → HasNetlist net (λ n. IsPlanFault n l g) → f ≡ g
   one_own_plan_fault net l f g p q =

@@ -21,7 +21,6 @@ use Rattle.chip_plan.specs.declared.refusal.PlanRefusal.TheVariants as plan
 use Rattle.aqfp_top.specs.Stages as stage
 use Rattle.aqfp_top.specs.Stages.{Stage, Finds}
 use Rattle.aqfp_top.specs.Due.{untaken}
-use Rattle.aqfp_top.specs.declared.planner.Planner.TheVariants.{Layered, Compact}
 use Rattle.aqfp_top.specs.declared.fault.Fault.{Fault}
 use Rattle.aqfp_top.proofs.OneDue.{one_form_fault, one_load_fault}
 use Rattle.aqfp_top.proofs.OneFault.{one_netlist_fault, one_plain_fault, one_cells_fault, one_plan_fault, one_own_plan_fault}
@@ -41,8 +40,7 @@ module _ (past : (l : LibraryView) (net : NetView) (refusal : PlanRefusal) → r
   once (stage.Netlist net) f g p q = ap untaken (one_netlist_fault net f g p q)
   once (stage.Plain net) f g p q = ap untaken (one_plain_fault net f g p q)
   once (stage.Cells lib) f g p q = ap untaken (one_cells_fault lib f g p q)
-  once (stage.Plan Layered net lib) f g p q = ap untaken (one_plan_fault past only net lib f g p q)
-  once (stage.Plan Compact net lib) f g p q = absurd p
+  once (stage.Plan planner net lib) f g p q = ap untaken (one_plan_fault past only planner net lib f g p q)
   once (stage.PlanWith net cells) f g p q = ap untaken (one_own_plan_fault past only net cells f g p q)
   once (stage.Stream gds) f g p q = ap untaken (one_stream_fault one_fault gds f g p q)
   once (stage.Size gds) f g p q = ap untaken (one_size_fault one_layout gds f g p q)

@@ -283,11 +283,12 @@ check_past words place taken four (inr (inl two)) = four_place words place 2 fou
 check_past words place taken four (inr (inr (inl three))) = four_place words place 3 four (omega arith) three.0
 check_past words place taken four (inr (inr (inr none))) = absurd none
 
-build_place : (words : List (List ℕ)) (fault : Fault) → length words ≡ 4 → IsBuildFault fault → HasPlace words fault
-build_place words (Absent place) four only = build_loaded words place four only
-build_place words (TooLong place taken) four only = build_past words place taken four only
-build_place words (ReadFault place) four only = build_loaded words place four only
-build_place words _ four only = tt
+build_place : (planner : Planner) (words : List (List ℕ)) (fault : Fault) → length words ≡ 4 → IsBuildFault planner fault
+    → HasPlace words fault
+build_place planner words (Absent place) four only = build_loaded words place four only
+build_place planner words (TooLong place taken) four only = build_past words place taken four only
+build_place planner words (ReadFault place) four only = build_loaded words place four only
+build_place planner words _ four only = tt
 
 write_loaded : (words : List (List ℕ)) (place : ℕ) → length words ≡ 4 → IsLoaded write_loads place → place < length words
 write_loaded words place four (inl one) = four_place words place 1 four (omega arith) one
@@ -359,12 +360,12 @@ sample_place words _ only = tt
 -- the faults of each form
 
 pub build_only : (planner : Planner) (words : List (List ℕ)) (result : Result (Unit {0}) Fault) → IsMakeBy planner words
-    → IfErr result IsBuildFault → IfErr result (RunsOnly words)
+    → IfErr result (IsBuildFault planner) → IfErr result (RunsOnly words)
 build_only planner words (Ok x) form only = tt
 build_only planner words (Err fault) form only =
     let is : IsMake words = is_make planner words form in
     record {
-      make = λ b. only;
+      make = λ other b. subst (λ p. IsBuildFault p fault) (one_planner words planner other form b) only;
       check = λ c. absurd (make_not_check words is c);
       sample = λ s. absurd (make_not_sample words s.bits is s.of_bits);
       equal = λ e. absurd (make_not_equal words is e);
@@ -372,13 +373,13 @@ build_only planner words (Err fault) form only =
       report = λ r. absurd (make_not_report words is r);
       shapes = λ s. absurd (make_not_shapes words s.first s.second is s.of_numbers);
       otherwise = λ none. absurd (none (inl is));
-      place = build_place words fault (four_words words is) only;
+      place = build_place planner words fault (four_words words is) only;
     }
 
 check_only : (words : List (List ℕ)) (result : Result (Unit {0}) Fault) → length words ≡ 4 → IsCheck words → IfErr result IsCheckFault → IfErr result (RunsOnly words)
 check_only words (Ok x) four form only = tt
 check_only words (Err fault) four form only = record {
-  make = λ b. absurd (make_not_check words b form);
+  make = λ p b. absurd (make_not_check words (is_make p words b) form);
   check = λ c. only;
   sample = λ s. absurd (check_not_sample words s.bits form s.of_bits);
   equal = λ e. absurd (check_not_equal words form e);
@@ -398,7 +399,7 @@ trace_only words result form only = check_only words result form.0 (inr form) on
 pub sample_only : (words : List (List ℕ)) (bits : ℕ) (result : Result (Unit {0}) Fault) → IsSampleOf words bits → IfErr result IsSampleFault → IfErr result (RunsOnly words)
 sample_only words bits (Ok x) form only = tt
 sample_only words bits (Err fault) form only = record {
-  make = λ b. absurd (make_not_sample words bits b form);
+  make = λ p b. absurd (make_not_sample words bits (is_make p words b) form);
   check = λ c. absurd (check_not_sample words bits c form);
   sample = λ s. only;
   equal = λ e. absurd (equal_not_sample words bits e form);
@@ -412,7 +413,7 @@ sample_only words bits (Err fault) form only = record {
 pub equal_only : (words : List (List ℕ)) (result : Result (Unit {0}) Fault) → IsEqual words → IfErr result IsEqualFault → IfErr result (RunsOnly words)
 equal_only words (Ok x) form only = tt
 equal_only words (Err fault) form only = record {
-  make = λ b. absurd (make_not_equal words b form);
+  make = λ p b. absurd (make_not_equal words (is_make p words b) form);
   check = λ c. absurd (check_not_equal words c form);
   sample = λ s. absurd (equal_not_sample words s.bits form s.of_bits);
   equal = λ e. only;
@@ -426,7 +427,7 @@ equal_only words (Err fault) form only = record {
 pub write_only : (words : List (List ℕ)) (result : Result (Unit {0}) Fault) → IsWrite words → IfErr result IsWritingFault → IfErr result (RunsOnly words)
 write_only words (Ok x) form only = tt
 write_only words (Err fault) form only = record {
-  make = λ b. absurd (make_not_write words b form);
+  make = λ p b. absurd (make_not_write words (is_make p words b) form);
   check = λ c. absurd (check_not_write words c form);
   sample = λ s. absurd (write_not_sample words s.bits form s.of_bits);
   equal = λ e. absurd (equal_not_write words e form);
@@ -441,7 +442,7 @@ pub report_only : (words : List (List ℕ)) (result : Result (Unit {0}) Fault) �
     → IfErr result (RunsOnly words)
 report_only words (Ok x) form only = tt
 report_only words (Err fault) form only = record {
-  make = λ b. absurd (make_not_report words b form);
+  make = λ p b. absurd (make_not_report words (is_make p words b) form);
   check = λ c. absurd (check_not_report words c form);
   sample = λ s. absurd (sample_not_report words s.bits s.of_bits form);
   equal = λ e. absurd (four_not_report words e.0 form);
@@ -456,7 +457,7 @@ pub shapes_only : (words : List (List ℕ)) (first second : ℕ) (result : Resul
     → IfErr result IsShapesFault → IfErr result (RunsOnly words)
 shapes_only words first second (Ok x) form only = tt
 shapes_only words first second (Err fault) form only = record {
-  make = λ b. absurd (make_not_shapes words first second b form);
+  make = λ p b. absurd (make_not_shapes words first second (is_make p words b) form);
   check = λ c. absurd (check_not_shapes words first second c form);
   sample = λ s. absurd (sample_not_shapes words s.bits first second s.of_bits form);
   equal = λ e. absurd (equal_not_shapes words first second e form);
@@ -473,7 +474,7 @@ shapes_only words first second (Err fault) form only = record {
 
 pub usage_only : (words : List (List ℕ)) → ¬ HasForm words → RunsOnly words Usage
 usage_only words none = record {
-  make = λ b. absurd (none (inl b));
+  make = λ p b. absurd (none (inl (is_make p words b)));
   check = λ c. absurd (none (inr (inl c)));
   sample = λ s. absurd (none (inr (inr (inl s))));
   equal = λ e. absurd (none (inr (inr (inr (inl e)))));

@@ -26,7 +26,7 @@ use Rattle.aqfp_top.specs.Due.{sample_stages}
 use Rattle.aqfp_top.specs.Faults.{IsSampleFault}
 use Rattle.aqfp_top.specs.Samples.{text_of, IsSampled, SamplePrints}
 use Rattle.aqfp_top.specs.Code.Staging.{OrMemory}
-use Rattle.aqfp_top.specs.Code.Designing.{AreCountsOf, IsChipOf, PassesNone}
+use Rattle.aqfp_top.specs.Code.Designing.{AreCountsOf, IsChipOf, PlanRefuses, IsWellPlanned}
 use Rattle.aqfp_top.specs.Code.Printing.{PrintsText, OutFails}
 use Rattle.aqfp_top.specs.Code.Sampling.{IsSampleOfBits, text_in, IsMakingFault}
 use Rattle.aqfp_top.specs.declared.planner.Planner.TheVariants.{Layered}
@@ -67,17 +67,28 @@ plan_finds bits equations (TooLarge what count) says bad = record { equations = 
 plan_finds bits equations Memory says bad = tt
 plan_finds bits equations _ says bad = absurd bad
 
-pub planning_answers : (bits : ℕ) (equations : NetView) (cells : LibraryView) (fault : Fault) → netlist.SaysNet (adder bits) equations → cells ≡ library_a_view → OrMemory (IsPlanFault equations cells) fault → Answers (sample_stages bits) (Some fault)
-planning_answers bits equations cells fault says is bad =
+-- the defined plan refuses what it finds
+plan_refuses : (equations : NetView) (cells : LibraryView) (fault : Fault) → OrMemory (PlanRefuses Layered equations cells) fault
+    → OrMemory (IsPlanFault equations cells) fault
+plan_refuses equations cells (TooLarge what count) (inl bad) = bad
+plan_refuses equations cells (TooLarge what count) (inr none) = absurd none
+plan_refuses equations cells Memory bad = tt
+plan_refuses equations cells _ bad = absurd bad
+
+pub planning_answers : (bits : ℕ) (equations : NetView) (cells : LibraryView) (fault : Fault)
+    → netlist.SaysNet (adder bits) equations → cells ≡ library_a_view
+    → OrMemory (PlanRefuses Layered equations cells) fault → Answers (sample_stages bits) (Some fault)
+planning_answers bits equations cells fault says is refused =
+    let bad = plan_refuses equations cells fault refused in
     past (stage.Plain (adder bits)) (stage.PlanWith (adder bits) library_a_view ∷ []) (Some fault) (says_no_plain_fault (adder bits) equations says)
     (found (stage.PlanWith (adder bits) library_a_view) [] fault (plan_finds bits equations fault says (subst (λ l. OrMemory (IsPlanFault equations l) fault) is bad)))
 
-own_plan_none : (bits : ℕ) (equations : NetView) → netlist.SaysNet (adder bits) equations → PassesNone equations library_a_view → FindsNone (stage.PlanWith (adder bits) library_a_view)
+own_plan_none : (bits : ℕ) (equations : NetView) → netlist.SaysNet (adder bits) equations → IsWellPlanned Layered equations library_a_view → FindsNone (stage.PlanWith (adder bits) library_a_view)
 own_plan_none bits equations says none fault bad = none fault (subst (λ n. IsPlanFault n library_a_view fault) (one_plain (adder bits) bad.equations equations bad.says says) bad.holds)
 
-pub sample_is_well : (bits : ℕ) (equations : NetView) (cells : LibraryView) → netlist.SaysNet (adder bits) equations → cells ≡ library_a_view → PassesNone equations cells → IsFirst (sample_stages bits) None
+pub sample_is_well : (bits : ℕ) (equations : NetView) (cells : LibraryView) → netlist.SaysNet (adder bits) equations → cells ≡ library_a_view → IsWellPlanned Layered equations cells → IsFirst (sample_stages bits) None
 sample_is_well bits equations cells says is none =
-    (says_no_plain_fault (adder bits) equations says, (own_plan_none bits equations says (subst (λ l. PassesNone equations l) is none), tt))
+    (says_no_plain_fault (adder bits) equations says, (own_plan_none bits equations says (subst (λ l. IsWellPlanned Layered equations l) is none), tt))
 
 pub sample_is_made : (bits : ℕ) (equations : NetView) (cells : LibraryView) (chip : Chip) (sample : SampleResult)
     → netlist.SaysNet (adder bits) equations → cells ≡ library_a_view → IsChipOf Layered equations cells chip
@@ -100,14 +111,20 @@ reading_fault bits (BadBlif fault) bad = tt
 reading_fault bits Memory bad = tt
 reading_fault bits _ bad = absurd bad
 
-pub planning_fault : (equations : NetView) (cells : LibraryView) (fault : Fault) → OrMemory (IsPlanFault equations cells) fault → IsMakingFault fault
-planning_fault equations cells (TooLarge Slots count) bad = tt
-planning_fault equations cells (TooLarge Rows count) bad = tt
-planning_fault equations cells (TooLarge Cells count) bad = tt
-planning_fault equations cells (TooLarge Elements count) bad = tt
-planning_fault equations cells (TooLarge Shapes count) bad = absurd bad
-planning_fault equations cells Memory bad = tt
-planning_fault equations cells _ bad = absurd bad
+own_planning_fault : (equations : NetView) (cells : LibraryView) (fault : Fault) → OrMemory (IsPlanFault equations cells) fault
+    → IsMakingFault fault
+own_planning_fault equations cells (TooLarge Slots count) bad = tt
+own_planning_fault equations cells (TooLarge Rows count) bad = tt
+own_planning_fault equations cells (TooLarge Cells count) bad = tt
+own_planning_fault equations cells (TooLarge Elements count) bad = tt
+own_planning_fault equations cells (TooLarge Shapes count) bad = absurd bad
+own_planning_fault equations cells Memory bad = tt
+own_planning_fault equations cells _ bad = absurd bad
+
+pub planning_fault : (equations : NetView) (cells : LibraryView) (fault : Fault)
+    → OrMemory (PlanRefuses Layered equations cells) fault → IsMakingFault fault
+planning_fault equations cells fault refused =
+    own_planning_fault equations cells fault (plan_refuses equations cells fault refused)
 
 pub ruleset makes = (reading_answers, planning_answers, sample_is_well, sample_is_made, reading_fault, planning_fault)
 

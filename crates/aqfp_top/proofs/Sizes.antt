@@ -35,7 +35,8 @@ are_shapes words first second four named one other =
 -- words that are none of a build or of a check have no form where they are none of a sample
 pub two_words : (words : List (List ℕ)) → length words ≡ 2 → ((bits : ℕ) → IsSampleOf words bits → ⊥) → ¬ HasForm words
 two_words words two none (inl (inl build)) = let four = build.0 in omega (arith, two, four)
-two_words words two none (inl (inr compact)) = let four = compact.0 in omega (arith, two, four)
+two_words words two none (inl (inr (inl compact))) = let four = compact.0 in omega (arith, two, four)
+two_words words two none (inl (inr (inr draw))) = let four = draw.0 in omega (arith, two, four)
 two_words words two none (inr (inl (inl verify))) = let four = verify.0 in omega (arith, two, four)
 two_words words two none (inr (inl (inr trace))) = let four = trace.0 in omega (arith, two, four)
 two_words words two none (inr (inr (inl sample))) = none sample.bits sample.of_bits

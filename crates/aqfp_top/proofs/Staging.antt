@@ -9,10 +9,10 @@ use Rattle.aqfp_top.specs.Stages.{Stage, Finds, FindsNone, IsFirst, IsLoadFault,
 use Rattle.aqfp_top.specs.Due.{file_at, bytes_at}
 use Rattle.aqfp_top.specs.Code.Staging.{OrMemory}
 use Rattle.aqfp_top.specs.Code.Loading.{LoadsWord, IsFaultOfLoad}
-use Rattle.aqfp_top.specs.declared.planner.Planner.TheVariants.{Layered, Compact}
+use Rattle.aqfp_top.specs.declared.planner.Planner.TheVariants.{Layered, Compact, Given}
 use Rattle.aqfp_top.specs.declared.fault.WriteCall.{WriteCall}
 use Rattle.aqfp_top.specs.declared.fault.Fault.{Fault}
-use Rattle.aqfp_top.specs.declared.fault.Fault.TheVariants.{Usage, Absent, TooLong, ReadFault, WriteFault, BadBlif, BadDesign, BadLibrary, MissingCell, TooLarge, BadStream, RuleBroken, BadWords, Widths, NoShape, Memory}
+use Rattle.aqfp_top.specs.declared.fault.Fault.TheVariants.{Usage, Absent, TooLong, ReadFault, WriteFault, BadBlif, BadDesign, BadLibrary, MissingCell, TooLarge, BadStream, RuleBroken, BadWords, Widths, NoShape, NotCells, Memory}
 use Rattle.aqfp_top.proofs.Files.{long_not_short, held_short}
 
 -- a stage that finds none leaves the answer to those after it
@@ -34,6 +34,7 @@ past s stages (Some (RuleBroken rule first second)) none a = inr (none, a)
 past s stages (Some (BadWords line)) none a = inr (none, a)
 past s stages (Some (Widths a_inputs a_outputs b_inputs b_outputs)) none a = inr (none, a)
 past s stages (Some (NoShape number count)) none a = inr (none, a)
+past s stages (Some (NotCells line kind)) none a = inr (none, a)
 past s stages (Some Memory) none a = tt
 
 -- so do stages of which none finds one
@@ -49,7 +50,8 @@ no_read (stage.Netlist net) place found = found
 no_read (stage.Plain net) place found = found
 no_read (stage.Cells lib) place found = found
 no_read (stage.Plan Layered net lib) place found = found.holds
-no_read (stage.Plan Compact net lib) place found = found
+no_read (stage.Plan Compact net lib) place found = found.holds
+no_read (stage.Plan Given net lib) place found = found.holds
 no_read (stage.PlanWith net cells) place found = found.holds
 no_read (stage.Stream gds) place found = found
 no_read (stage.Size gds) place found = found
@@ -66,7 +68,8 @@ no_write (stage.Netlist net) call found = found
 no_write (stage.Plain net) call found = found
 no_write (stage.Cells lib) call found = found
 no_write (stage.Plan Layered net lib) call found = found.holds
-no_write (stage.Plan Compact net lib) call found = found
+no_write (stage.Plan Compact net lib) call found = found.holds
+no_write (stage.Plan Given net lib) call found = found.holds
 no_write (stage.PlanWith net cells) call found = found.holds
 no_write (stage.Stream gds) call found = found
 no_write (stage.Size gds) call found = found
@@ -93,6 +96,7 @@ found s stages (RuleBroken rule first second) finds = inl finds
 found s stages (BadWords line) finds = inl finds
 found s stages (Widths a_inputs a_outputs b_inputs b_outputs) finds = inl finds
 found s stages (NoShape number count) finds = inl finds
+found s stages (NotCells line kind) finds = inl finds
 found s stages Memory finds = tt
 
 -- Loads.

@@ -1,5 +1,5 @@
--- What a `build` or a `compact` that ends well has made: a chip of NET's netlist under OUT, which keeps the rules with
--- the numbers of LIB, and its counts on `out`.
+-- What a `build`, a `compact` or a `draw` that ends well has made: a chip of NET's netlist under OUT, which keeps the
+-- rules with the numbers of LIB, and its counts on `out`.
 use Rattle.std.specs.Prelude.{◌≡◌, ◌<◌, ◌≤◌, ℕ, List, length, Option, Some}
 use Rattle.aq_base.specs.Output.{Output}
 use Rattle.aq_base.specs.Output as output

@@ -19,16 +19,21 @@ use Rattle.layout_make.specs.Draw.{draw}
 use Rattle.layout_make.specs.Size.{element_number, element_limit}
 use Rattle.layout_make.specs.MayDraw.{MayDraw}
 use Rattle.chip_plan.specs.Laws.{AnswersAs}
-use Rattle.chip_plan.specs.Plans.{IsWithin, chip_of}
+use Rattle.chip_plan.specs.Plans.{IsWithin, chip_of, three_of}
 use Rattle.chip_plan.specs.Refusals.{Refuses}
 use Rattle.chip_plan.specs.declared.refusal.PlanRefusal.TheVariants as plan
 use Rattle.compact_plan.specs.Compact.{IsNoLarger}
+use Rattle.cell_netlist.specs.Told.{HasFirstFault}
+use Rattle.cell_plan.specs.CellPlans.{IsCellChip}
+use Rattle.cell_plan.specs.DrawnChips.{IsDrawnChip}
+use Rattle.cell_plan.specs.Refusals.{RefusesCells}
+use Rattle.cell_plan.specs.declared.refusal.CellPlanRefusal.TheVariants as own
 use Rattle.aqfp_top.specs.declared.planner.Planner.{Planner}
-use Rattle.aqfp_top.specs.declared.planner.Planner.TheVariants.{Layered, Compact}
+use Rattle.aqfp_top.specs.declared.planner.Planner.TheVariants.{Layered, Compact, Given}
 use Rattle.aqfp_top.specs.declared.fault.Large.{Large}
 use Rattle.aqfp_top.specs.declared.fault.Large.TheVariants.{Slots, Rows, Cells, Elements, Shapes, Functions, Design}
 use Rattle.aqfp_top.specs.declared.fault.Fault.{Fault}
-use Rattle.aqfp_top.specs.declared.fault.Fault.TheVariants.{BadBlif, BadDesign, BadLibrary, MissingCell, TooLarge}
+use Rattle.aqfp_top.specs.declared.fault.Fault.TheVariants.{BadBlif, BadDesign, BadLibrary, MissingCell, TooLarge, NotCells}
 
 -- the text says some library
 pub record SaysLibrary (text : List ℕ) : Type 0 where
@@ -58,11 +63,17 @@ pub record KeepsLimits (equations : NetView) (cells : LibraryView) : Type 0 wher
   pub within : IsWithin cells equations
   pub small : element_number (chip_of cells equations) ≤ element_limit
 
+-- the netlist is one of cells, and the chip of these cells, where they stand as plainly as can be, keeps all limits
+pub record HasCellChip (equations : NetView) (cells : LibraryView) : Type 0 where
+  pub chip : PlacedView
+  pub of_cells : IsCellChip cells equations chip
+
 -- the chip is the one that the defined plan makes of the netlist, which keeps all limits; or one that was searched for,
--- which is no larger than that one, if that one keeps all limits
+-- which is no larger than that one, if that one keeps all limits; or the netlist's own cells
 abbrev pub IsPlanBy : Planner → NetView → LibraryView → PlacedView → Type 0
 IsPlanBy Layered equations cells chip = (chip ≡ chip_of cells equations) × IsWithin cells equations
 IsPlanBy Compact equations cells chip = IsWithin cells equations → IsNoLarger chip (chip_of cells equations)
+IsPlanBy Given equations cells chip = IsDrawnChip cells equations chip
 
 -- a chip of a netlist: rows of placed cells that may be drawn with the library and answer every word as the netlist
 -- does, with few enough elements
@@ -102,6 +113,23 @@ abbrev pub IsCellFault : List ℕ → LibraryFault → Type 0
 IsCellFault text Text = library.IsRefused text
 IsCellFault text fault = library.HasFault text fault
 
+-- of what the chip of the netlist's own cells has too much, where they stand as plainly as can be
+abbrev pub HasTooMuchOfOwn : NetView → LibraryView → Large → ℕ → Type 0
+HasTooMuchOfOwn equations cells Slots count = RefusesCells cells equations (own.Slots count)
+HasTooMuchOfOwn equations cells Rows count = RefusesCells cells equations (own.Rows count)
+HasTooMuchOfOwn equations cells Cells count = RefusesCells cells equations (own.Cells count)
+HasTooMuchOfOwn equations cells Elements count = RefusesCells cells equations (own.Elements count)
+HasTooMuchOfOwn equations cells Shapes count = ⊥
+HasTooMuchOfOwn equations cells Functions count = ⊥
+HasTooMuchOfOwn equations cells Design count = ⊥
+
+-- the plan finds no fault and keeps all limits: the defined one, also where a smaller chip is searched for; or that of the
+-- netlist's own cells
+abbrev pub KeepsPlan : Planner → NetView → LibraryView → Type 0
+KeepsPlan Layered equations cells = KeepsLimits equations cells
+KeepsPlan Compact equations cells = KeepsLimits equations cells
+KeepsPlan Given equations cells = HasCellChip equations cells
+
 -- this is wrong with a netlist's text first: a line or a cycle, or its models and calls, or their size
 abbrev pub IsNetlistFault : List ℕ → Fault → Type 0
 IsNetlistFault text (BadBlif fault) = netlist.IsNetlistRefusal text (refusal.Text fault)
@@ -125,3 +153,21 @@ IsCellsFault text _ = ⊥
 abbrev pub IsPlanFault : NetView → LibraryView → Fault → Type 0
 IsPlanFault equations cells (TooLarge what count) = HasTooMuch equations cells what count
 IsPlanFault equations cells _ = ⊥
+
+-- the netlist is none of cells: its first fault
+abbrev pub IsOwnFault : NetView → LibraryView → Fault → Type 0
+IsOwnFault equations cells (NotCells line kind) = HasFirstFault equations (three_of cells) line kind
+IsOwnFault equations cells _ = ⊥
+
+-- what is wrong with a plan: the first limit that the defined one passes, or that a netlist is none of cells; a search
+-- finds nothing wrong
+abbrev pub PlanFinds : Planner → NetView → LibraryView → Fault → Type 0
+PlanFinds Layered equations cells fault = IsPlanFault equations cells fault
+PlanFinds Compact equations cells fault = ⊥
+PlanFinds Given equations cells fault = IsOwnFault equations cells fault
+
+-- the limit for which a search gives up: the first that the chip passes that is made where it finds none
+abbrev pub PlanGivesUp : Planner → NetView → LibraryView → Large → ℕ → Type 0
+PlanGivesUp Layered equations cells what count = ⊥
+PlanGivesUp Compact equations cells what count = HasTooMuch equations cells what count
+PlanGivesUp Given equations cells what count = HasTooMuchOfOwn equations cells what count

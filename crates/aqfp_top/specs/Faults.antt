@@ -1,30 +1,34 @@
 -- Which faults the commands may answer, whatever the store tells.
 use Rattle.std.specs.Prelude.{ℕ, ◌≡◌, List}
 use Rattle.aqfp_top.specs.Loads.{build_loads, check_loads, equal_loads, write_loads, shapes_loads, IsLoaded, IsPast}
-use Rattle.aqfp_top.specs.Words.{IsMake, IsCheck, IsEqual, IsWrite, IsReport, IsShapes, IsSample, HasForm}
+use Rattle.aqfp_top.specs.Words.{IsMakeBy, IsCheck, IsEqual, IsWrite, IsReport, IsShapes, IsSample, HasForm}
 use Rattle.aqfp_top.specs.Lines.{HasPlace}
+use Rattle.aqfp_top.specs.declared.planner.Planner.{Planner}
+use Rattle.aqfp_top.specs.declared.planner.Planner.TheVariants.{Given}
 use Rattle.aqfp_top.specs.declared.fault.Large.TheVariants.{Shapes, Functions, Design}
 use Rattle.aqfp_top.specs.declared.fault.WriteCall.TheVariants.{Out}
 use Rattle.aqfp_top.specs.declared.fault.Fault.{Fault}
 use Rattle.aqfp_top.specs.declared.fault.Fault.TheVariants.{Usage, Absent, TooLong, ReadFault, WriteFault, BadBlif}
 use Rattle.aqfp_top.specs.declared.fault.Fault.TheVariants.{BadDesign, BadLibrary, MissingCell, TooLarge, BadStream}
-use Rattle.aqfp_top.specs.declared.fault.Fault.TheVariants.{RuleBroken, BadWords, Widths, NoShape, Memory}
+use Rattle.aqfp_top.specs.declared.fault.Fault.TheVariants.{RuleBroken, BadWords, Widths, NoShape, NotCells, Memory}
 
--- of making a chip: none of words, of a stream or of rules
-abbrev pub IsBuildFault : Fault → Type 0
-IsBuildFault (Absent place) = IsLoaded build_loads place
-IsBuildFault (TooLong place taken) = IsPast build_loads place taken
-IsBuildFault (ReadFault place) = IsLoaded build_loads place
-IsBuildFault (WriteFault call) = Unit {0}
-IsBuildFault (BadBlif fault) = Unit {0}
-IsBuildFault (BadDesign line kind) = Unit {0}
-IsBuildFault (BadLibrary fault) = Unit {0}
-IsBuildFault (MissingCell kind) = Unit {0}
-IsBuildFault (TooLarge Shapes count) = ⊥
-IsBuildFault (TooLarge Functions count) = ⊥
-IsBuildFault (TooLarge what count) = Unit {0}
-IsBuildFault Memory = Unit {0}
-IsBuildFault _ = ⊥
+-- of making a chip by this plan: none of words, of a stream or of rules; and that a netlist is none of cells where its
+-- own cells are drawn
+abbrev pub IsBuildFault : Planner → Fault → Type 0
+IsBuildFault planner (Absent place) = IsLoaded build_loads place
+IsBuildFault planner (TooLong place taken) = IsPast build_loads place taken
+IsBuildFault planner (ReadFault place) = IsLoaded build_loads place
+IsBuildFault planner (WriteFault call) = Unit {0}
+IsBuildFault planner (BadBlif fault) = Unit {0}
+IsBuildFault planner (BadDesign line kind) = Unit {0}
+IsBuildFault planner (BadLibrary fault) = Unit {0}
+IsBuildFault planner (MissingCell kind) = Unit {0}
+IsBuildFault planner (TooLarge Shapes count) = ⊥
+IsBuildFault planner (TooLarge Functions count) = ⊥
+IsBuildFault planner (TooLarge what count) = Unit {0}
+IsBuildFault planner (NotCells line kind) = planner ≡ Given
+IsBuildFault planner Memory = Unit {0}
+IsBuildFault planner _ = ⊥
 
 -- a check's: none of a netlist or of a plan, nor of writing but to `out`
 abbrev pub IsCheckFault : Fault → Type 0
@@ -104,7 +108,7 @@ IsSampleFault _ = ⊥
 
 -- the faults that words may lead to; the place that one names is one of the words
 pub record RunsOnly (words : List (List ℕ)) (fault : Fault) : Type 0 where
-  pub make : IsMake words → IsBuildFault fault
+  pub make : (planner : Planner) → IsMakeBy planner words → IsBuildFault planner fault
   pub check : IsCheck words → IsCheckFault fault
   pub sample : IsSample words → IsSampleFault fault
   pub equal : IsEqual words → IsEqualFault fault

@@ -1,4 +1,4 @@
--- What `verify` finds and prints of a chip that `build` or `compact` stored, with the library that it was made with.
+-- What `verify` finds and prints of a chip that was stored, with the library that it was made with.
 use Rattle.std.specs.Prelude.{◌≡◌, ℕ, ◌<◌, Bool, List, ◌++◌, length}
 use Rattle.std.specs.List.{AllZip, flat_map}
 use Rattle.blif_read.specs.Parts.{NetView}

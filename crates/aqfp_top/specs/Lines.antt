@@ -1,11 +1,10 @@
 -- The line that each fault puts to `err`.
-use Rattle.std.specs.Prelude.{ℕ, suc, ◌≡◌, ◌<◌, ◌≤◌, ◌⊎◌, take, length, List, ◌∷◌, ◌++◌, codes, Option, Some, None, ℤ, pos}
+use Rattle.std.specs.Prelude.{ℕ, suc, ◌≡◌, ◌<◌, ◌⊎◌, length, List, ◌∷◌, ◌++◌, codes, Option, Some, None, ℤ, pos}
 use Rattle.std.specs.Prelude.{negsuc}
 use Rattle.std.specs.List.{flat_map}
 use Rattle.std.specs.Fmt.{decimal}
-use Rattle.aq_base.specs.Heard.{Event}
-use Rattle.aq_base.specs.FaultCounts.{write_faults, memory_refusals}
-use Rattle.aq_base.specs.Store.{gained}
+use Rattle.aq_base.specs.declared.store.StoreRefusal.{StoreRefusal}
+use Rattle.aq_base.specs.Output.{Output, printed, PrintsPart}
 use Rattle.circuit.specs.declared.cell_kind.CellKind.{CellKind}
 use Rattle.cell_library.specs.Kinds.{key_of}
 use Rattle.blif_read.specs.declared.netlist.LineKind.{LineKind}
@@ -15,6 +14,8 @@ use Rattle.blif_read.specs.declared.netlist.BlifFault.{BlifFault}
 use Rattle.blif_read.specs.declared.netlist.BlifFault.TheVariants as blif
 use Rattle.blif_flat.specs.declared.design.FlatKind.{FlatKind}
 use Rattle.blif_flat.specs.declared.design.FlatKind.TheVariants as flat
+use Rattle.cell_netlist.specs.declared.fault.CellFault.{CellFault}
+use Rattle.cell_netlist.specs.declared.fault.CellFault.TheVariants as cells
 use Rattle.cell_library.specs.declared.fault.LibraryFault.{LibraryFault}
 use Rattle.cell_library.specs.declared.fault.LibraryFault.TheVariants as library
 use Rattle.gds_records.specs.declared.fault.StreamKind.{StreamKind}
@@ -26,7 +27,7 @@ use Rattle.aqfp_top.specs.Words.{word_at}
 use Rattle.aqfp_top.specs.declared.fault.Fault.{Fault}
 use Rattle.aqfp_top.specs.declared.fault.Fault.TheVariants.{Usage, Absent, TooLong, ReadFault, WriteFault, BadBlif}
 use Rattle.aqfp_top.specs.declared.fault.Fault.TheVariants.{BadDesign, BadLibrary, MissingCell, TooLarge, BadStream}
-use Rattle.aqfp_top.specs.declared.fault.Fault.TheVariants.{RuleBroken, BadWords, Widths, NoShape, Memory}
+use Rattle.aqfp_top.specs.declared.fault.Fault.TheVariants.{RuleBroken, BadWords, Widths, NoShape, NotCells, Memory}
 
 -- the line about the file that a word names
 abbrev pub named : List (List ℕ) → ℕ → List ℕ → List ℕ
@@ -53,6 +54,13 @@ design_kind_text flat.Duplicate = codes "duplicate"
 design_kind_text flat.Undefined = codes "undefined"
 design_kind_text flat.Recursive = codes "recursive"
 design_kind_text flat.NoOutputs = codes "no outputs"
+
+-- why a netlist is none of cells
+abbrev pub cell_fault_text : CellFault → List ℕ
+cell_fault_text cells.Cover = codes "cover"
+cell_fault_text cells.Uses = codes "uses"
+cell_fault_text cells.Level = codes "level"
+cell_fault_text cells.Outputs = codes "outputs"
 
 -- the signals, each after a blank
 abbrev pub signals_text : List (List ℕ) → List ℕ
@@ -113,7 +121,7 @@ pair_text first second = decimal first ++ 32 ∷ decimal second
 -- the whole line of a fault
 abbrev pub line_of : List (List ℕ) → Fault → List ℕ
 line_of words Usage =
-    codes "aqfp: usage: build NET LIB OUT, compact NET LIB OUT, verify GDS LIB WORDS, "
+    codes "aqfp: usage: build NET LIB OUT, compact NET LIB OUT, draw NET LIB OUT, verify GDS LIB WORDS, "
     ++ codes "trace GDS LIB WORDS, sample N, netlist GDS LIB OUT, equal GDS LIB NET, report GDS LIB, shapes GDS A B\n"
 line_of words (Absent place) = named words place (codes ": absent\n")
 line_of words (TooLong place taken) = named words place (codes ": too long\n")
@@ -136,19 +144,14 @@ line_of words (Widths chip_inputs chip_outputs net_inputs net_outputs) =
     ++ codes "\n"
 line_of words (NoShape number count) =
     codes "aqfp: no shape " ++ decimal number ++ codes " of " ++ decimal count ++ codes "\n"
+line_of words (NotCells line kind) =
+    codes "aqfp: line " ++ decimal line ++ codes ": cells " ++ cell_fault_text kind ++ codes "\n"
 line_of words Memory = codes "aqfp: out of memory\n"
 
--- a sink was heard to refuse a piece: it failed, or memory was wanted
-abbrev pub HearsRefusals : List Event → List Event → Type 0
-HearsRefusals heard heard' =
-    (write_faults heard < write_faults heard') ⊎ (memory_refusals heard < memory_refusals heard')
-
--- some first bytes of the text were put, and all of them unless the sink refused
-pub record Puts (before after : Option (List ℕ)) (text : List ℕ) (Refused : Type 0) : Type 0 where
-  pub count : ℕ
-  pub within : count ≤ length text
-  pub gain : after ≡ gained before (take count text)
-  pub whole : count < length text → Refused
+-- some first bytes of the line were taken, and then the sink took no more, for some reason
+pub record IsCutShort (before after : Output) (line : List ℕ) : Type 0 where
+  pub why : StoreRefusal
+  pub part : PrintsPart before after line why
 
 -- the place that a fault names is one of the words
 abbrev pub HasPlace : List (List ℕ) → Fault → Type 0
@@ -157,7 +160,8 @@ HasPlace words (TooLong place taken) = place < length words
 HasPlace words (ReadFault place) = place < length words
 HasPlace words _ = Unit {0}
 
--- what `err` gains: nothing after a success, and otherwise the fault's line, unless the sink refuses
-abbrev pub Reports : Option (List ℕ) → Option (List ℕ) → List (List ℕ) → Option Fault → Type 0 → Type 0
-Reports before after words None Refused = after ≡ before
-Reports before after words (Some fault) Refused = Puts before after (line_of words fault) Refused
+-- what `err` gains: nothing after a success, and otherwise the fault's line, which it takes whole or cut in this way
+abbrev pub Reports : (Output → Output → List ℕ → Type 0) → Output → Output → List (List ℕ) → Option Fault → Type 0
+Reports Cut before after words None = after ≡ before
+Reports Cut before after words (Some fault) =
+    (after ≡ printed (line_of words fault) before) ⊎ Cut before after (line_of words fault)

@@ -2,13 +2,12 @@
 use Rattle.std.specs.Prelude.{ℕ, ◌≡◌, ◌⊎◌, ◌<◌, List, [], ◌∷◌, length, Option, Some, None, IsSomeAnd}
 use Rattle.cell_library.specs.Library.{LibraryView}
 use Rattle.aqfp_top.specs.Loads.{Load}
-use Rattle.aqfp_top.specs.Designs.{HasNetlist, HasDesign, HasTooMuch, IsNetlistFault, IsPlainFault, IsCellsFault}
-use Rattle.aqfp_top.specs.Designs.{IsPlanFault}
+use Rattle.aqfp_top.specs.Designs.{HasNetlist, HasDesign, IsNetlistFault, IsPlainFault, IsCellsFault}
+use Rattle.aqfp_top.specs.Designs.{IsPlanFault, PlanFinds, PlanGivesUp}
 use Rattle.aqfp_top.specs.Checks.{IsStreamFault, IsSizeFault, IsRuleFault, IsWordsFault}
 use Rattle.aqfp_top.specs.Shown.{IsNumberFault}
 use Rattle.aqfp_top.specs.Comparing.{IsWidthsFault, HasManyFunctions}
 use Rattle.aqfp_top.specs.declared.planner.Planner.{Planner}
-use Rattle.aqfp_top.specs.declared.planner.Planner.TheVariants.{Layered, Compact}
 use Rattle.aqfp_top.specs.declared.fault.Large.{Large}
 use Rattle.aqfp_top.specs.declared.fault.Large.TheVariants.{Functions}
 use Rattle.aqfp_top.specs.declared.fault.Fault.{Fault}
@@ -18,7 +17,8 @@ use Rattle.aqfp_top.specs.declared.fault.Fault.TheVariants.{Memory}
 -- A stage, and what it judges: the words, which have no form; a file, if there is one under its name; or texts, which
 -- are the bytes of files. A sample has a text of one model without calls, and plans with a library that is known. A
 -- comparison finds no fault, and may give up; nor does the search for a compact chip, which may give up where the
--- defined plan passes a limit.
+-- defined plan passes a limit. The search for the order of a netlist's own cells finds that it is none of cells, and may
+-- give up where the plain order passes a limit.
 pub data Stage : Type 0 where
   Form : Stage
   Loading : (load : Load) (file : Option (List ℕ)) → Stage
@@ -54,8 +54,7 @@ Finds (Loading load file) fault = IsLoadFault load file fault
 Finds (Netlist net) fault = IsNetlistFault net fault
 Finds (Plain net) fault = IsPlainFault net fault
 Finds (Cells lib) fault = IsCellsFault lib fault
-Finds (Plan Layered net lib) fault = HasDesign net lib (λ equations cells. IsPlanFault equations cells fault)
-Finds (Plan Compact net lib) fault = ⊥
+Finds (Plan planner net lib) fault = HasDesign net lib (λ equations cells. PlanFinds planner equations cells fault)
 Finds (PlanWith net cells) fault = HasNetlist net (λ equations. IsPlanFault equations cells fault)
 Finds (Stream gds) fault = IsStreamFault gds fault
 Finds (Size gds) fault = IsSizeFault gds fault
@@ -87,10 +86,11 @@ IsReached [] place = ⊥
 IsReached (stage ∷ stages) place = LoadsAt stage place ⊎ (FindsNone stage × IsReached stages place)
 
 -- the stage gives up for a size: it is a comparison of two circuits with more subfunctions than are compared, or the
--- search for the chip of a netlist whose defined plan passes this limit first
+-- search for a chip where the one that is made without it passes this limit first
 abbrev pub GivesUp : Stage → Large → ℕ → Type 0
 GivesUp (Comparison gds lib net) Functions count = HasManyFunctions gds lib net count
-GivesUp (Plan Compact net lib) what count = HasDesign net lib (λ equations cells. HasTooMuch equations cells what count)
+GivesUp (Plan planner net lib) what count =
+    HasDesign net lib (λ equations cells. PlanGivesUp planner equations cells what count)
 GivesUp _ what count = ⊥
 
 -- so does one of the stages

@@ -3,7 +3,7 @@ use Rattle.std.specs.Prelude.{ℕ, Option, Some, None}
 use Rattle.aqfp_top.specs.declared.fault.Fault.{Fault}
 use Rattle.aqfp_top.specs.declared.fault.Fault.TheVariants.{Usage, Absent, TooLong, ReadFault, WriteFault, BadBlif}
 use Rattle.aqfp_top.specs.declared.fault.Fault.TheVariants.{BadDesign, BadLibrary, MissingCell, TooLarge, BadStream}
-use Rattle.aqfp_top.specs.declared.fault.Fault.TheVariants.{RuleBroken, BadWords, Widths, NoShape, Memory}
+use Rattle.aqfp_top.specs.declared.fault.Fault.TheVariants.{RuleBroken, BadWords, Widths, NoShape, NotCells, Memory}
 
 -- the exit status of the command: 0 for success, and for each kind of fault a number of its own
 abbrev pub status_of : Option Fault → ℕ
@@ -24,3 +24,4 @@ status_of (Some Memory) = 14
 status_of (Some (BadDesign line kind)) = 16
 status_of (Some (Widths chip_inputs chip_outputs net_inputs net_outputs)) = 17
 status_of (Some (NoShape number count)) = 18
+status_of (Some (NotCells line kind)) = 19

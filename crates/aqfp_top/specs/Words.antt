@@ -4,7 +4,7 @@ use Rattle.std.specs.Fmt.{decimal}
 use Rattle.std.specs.String.{string_bytes}
 use Rattle.std.specs.declared.alloc.Global.{Global}
 use Rattle.aqfp_top.specs.declared.planner.Planner.{Planner}
-use Rattle.aqfp_top.specs.declared.planner.Planner.TheVariants.{Layered, Compact}
+use Rattle.aqfp_top.specs.declared.planner.Planner.TheVariants.{Layered, Compact, Given}
 use Rattle.aqfp_top.specs.declared.words.Form.{Form}
 use Rattle.aqfp_top.specs.declared.words.Form.TheVariants.{Make, Verify, Trace, Equal, Write, Report, Shapes, Sample, Wrong}
 
@@ -24,14 +24,23 @@ IsBuild words = (length words ≡ 4) × (word_at words 0 ≡ codes "build")
 abbrev pub IsCompact : List (List ℕ) → Type 0
 IsCompact words = (length words ≡ 4) × (word_at words 0 ≡ codes "compact")
 
+-- draw NET LIB OUT
+abbrev pub IsDraw : List (List ℕ) → Type 0
+IsDraw words = (length words ≡ 4) × (word_at words 0 ≡ codes "draw")
+
 -- the command that makes a chip by this plan
 abbrev pub IsMakeBy : Planner → List (List ℕ) → Type 0
 IsMakeBy Layered words = IsBuild words
 IsMakeBy Compact words = IsCompact words
+IsMakeBy Given words = IsDraw words
 
--- one of the two commands that make a chip
+-- one of the two commands that search for a chip
+abbrev pub IsSearch : List (List ℕ) → Type 0
+IsSearch words = IsCompact words ⊎ IsDraw words
+
+-- one of the three commands that make a chip
 abbrev pub IsMake : List (List ℕ) → Type 0
-IsMake words = IsBuild words ⊎ IsCompact words
+IsMake words = IsBuild words ⊎ IsSearch words
 
 -- verify GDS LIB WORDS
 abbrev pub IsVerify : List (List ℕ) → Type 0
@@ -92,7 +101,7 @@ pub record IsSample (words : List (List ℕ)) : Type 0 where
   pub bits : ℕ
   pub of_bits : IsSampleOf words bits
 
--- the words are one of the nine commands with its arguments, the number of a sample being from 1 to 64
+-- the words are one of the ten commands with its arguments, the number of a sample being from 1 to 64
 abbrev pub HasForm : List (List ℕ) → Type 0
 HasForm words =
     IsMake words ⊎ (IsCheck words ⊎ (IsSample words ⊎ (IsEqual words ⊎ (IsWrite words

@@ -7,8 +7,8 @@ ghost use Rattle.layout_make.specs.Draw.{draw as drawing};
 ghost use Rattle.layout_make.specs.MayDraw.{MayDraw};
 ghost use Rattle.layout_make.specs.Size.{element_number, element_limit};
 ghost use Rattle.chip_plan.specs.Laws.{AnswersAs};
-ghost use Rattle.aqfp_top.specs.Designs.{IsNetlistFault, IsCellsFault, IsPlanFault};
-ghost use Rattle.aqfp_top.specs.Code.Designing.{IsPlannedBy, plan_fault};
+ghost use Rattle.aqfp_top.specs.Designs.{IsNetlistFault, IsCellsFault};
+ghost use Rattle.aqfp_top.specs.Code.Designing.{IsPlannedBy, PlanRefuses, plan_fault, own_fault};
 ghost use Rattle.aqfp_top.specs.Code.Staging.{OrMemory};
 
 use crate::counts::{ChipCounts, counts_of};
@@ -17,6 +17,7 @@ use crate::planner::Planner;
 use blif_flat::{FlatRefusal, read_design};
 use blif_read::Netlist;
 use cell_library::{Library, LibraryFault, LibraryRefusal, read_library};
+use cell_plan::{CellPlanRefusal, draw_cells};
 use chip_plan::{PlanRefusal, plan_chip, plan_laws};
 use compact_plan::compact_chip;
 use geom::Layout;
@@ -80,21 +81,44 @@ fn limit_fault(refusal: &PlanRefusal) -> Fault
     }
 }
 
+// What tells why there is no chip of the netlist's own cells.
+fn cells_fault(refusal: &CellPlanRefusal) -> Fault
+    ensures { result ≡ own_fault refusal.now }
+{
+    match refusal {
+        CellPlanRefusal::NotCells { line, kind } => Fault::NotCells {
+            line: *line,
+            kind: *kind,
+        },
+        CellPlanRefusal::Slots { span } => too_large(Large::Slots, *span),
+        CellPlanRefusal::Cells { cells } => too_large(Large::Cells, *cells),
+        CellPlanRefusal::Rows { rows } => too_large(Large::Rows, *rows),
+        CellPlanRefusal::Elements { elements } => too_large(Large::Elements, *elements),
+        CellPlanRefusal::Memory => Fault::Memory,
+    }
+}
+
 // The rows of a chip of the netlist.
 #[tactic(auto, using(crate::proofs::Designing::plans))]
 fn plan(alloc: Global, planner: Planner, cells: &Library, net: &Netlist) -> Result<Placed, Fault>
     ensures draws { IfOk result (λ chip. MayDraw chip cells.now) }
     ensures answers { IfOk result (λ chip. AnswersAs net.now chip) }
     ensures planned { IfOk result (IsPlannedBy planner net.now cells.now) }
-    ensures bad { IfErr result (OrMemory (IsPlanFault net.now cells.now)) }
+    ensures bad { IfErr result (OrMemory (PlanRefuses planner net.now cells.now)) }
 {
-    let placed = match planner {
-        Planner::Layered => plan_chip(alloc, cells, net),
-        Planner::Compact => compact_chip(alloc, cells, net),
-    };
-    match placed {
-        Ok(placed) => Ok(placed),
-        Err(refusal) => Err(limit_fault(&refusal)),
+    match planner {
+        Planner::Layered => match plan_chip(alloc, cells, net) {
+            Ok(placed) => Ok(placed),
+            Err(refusal) => Err(limit_fault(&refusal)),
+        },
+        Planner::Compact => match compact_chip(alloc, cells, net) {
+            Ok(placed) => Ok(placed),
+            Err(refusal) => Err(limit_fault(&refusal)),
+        },
+        Planner::Given => match draw_cells(alloc, cells, net) {
+            Ok(placed) => Ok(placed),
+            Err(refusal) => Err(cells_fault(&refusal)),
+        },
     }
 }
 
@@ -112,7 +136,7 @@ fn lay_out(
     ensures drawn { IfOk result (λ layout. layout ≡ drawing chip.now cells.now) }
     ensures writable { IfOk result IsWritable }
     ensures small { OnOk result (element_number chip.now ≤ element_limit) }
-    ensures bad { IfErr result (OrMemory (IsPlanFault _net.now cells.now)) }
+    ensures bad { IfErr result (OrMemory (PlanRefuses _planner _net.now cells.now)) }
 {
     match draw(alloc, chip, cells) {
         Ok(layout) => Ok(layout),
@@ -124,14 +148,12 @@ fn lay_out(
 impl Chip {
     ghost use Rattle.std.specs.Prelude.{◌≤◌, ◌^◌, Some, None, length, OnOk, IfOk, IfErr};
     ghost use Rattle.geom.specs.Writable.{IsWritable};
-    ghost use Rattle.aqfp_top.specs.Designs.{IsPlanFault};
     ghost use Rattle.aqfp_top.specs.Stages.{IsFirst, Answers};
     ghost use Rattle.aqfp_top.specs.Due.{design_stages};
     ghost use Rattle.aqfp_top.specs.Code.Staging.{OrMemory};
-    ghost use Rattle.aqfp_top.specs.Code.Designing.{IsDesignFault, IsChipOf, MakesChip, IsWellPlanned};
+    ghost use Rattle.aqfp_top.specs.Code.Designing.{IsDesignFault, IsChipOf, MakesChip, IsWellPlanned, PlanRefuses};
 
-    /// A chip of the netlist with the cells of the library by a plan, and otherwise the first limit that the defined
-    /// plan passes.
+    /// A chip of the netlist with the cells of the library by a plan, and otherwise why the plan has none.
     #[tactic(auto, using(crate::proofs::Designing::limits))]
     pub fn of_net(
         alloc: Global,
@@ -142,7 +164,7 @@ impl Chip {
         ensures made { IfOk result (IsChipOf planner net.now cells.now) }
         ensures passes { OnOk result (IsWellPlanned planner net.now cells.now) }
         ensures writable { IfOk result (λ chip. IsWritable chip.layout) }
-        ensures bad { IfErr result (OrMemory (IsPlanFault net.now cells.now)) }
+        ensures bad { IfErr result (OrMemory (PlanRefuses planner net.now cells.now)) }
     {
         plan_laws();
         net.known();
@@ -168,7 +190,7 @@ impl Chip {
         ensures writable { IfOk result (λ chip. IsWritable chip.layout) }
         ensures well { OnOk result (IsFirst (design_stages planner net.now lib.now) None) }
         ensures bad { IfErr result (λ fault. Answers (design_stages planner net.now lib.now) (Some fault)) }
-        ensures only { IfErr result IsDesignFault }
+        ensures only { IfErr result (IsDesignFault planner) }
     {
         let net = read_netlist(alloc, net)?;
         let cells = read_cells(alloc, lib)?;

@@ -4,6 +4,7 @@ ghost use Rattle.std.specs.Prelude.{◌≡◌, Some};
 use blif_flat::FlatKind;
 use blif_read::BlifFault;
 use cell_library::LibraryFault;
+use cell_netlist::CellFault;
 use circuit::CellKind;
 use gds_records::StreamKind;
 use layout_rules::Rule;
@@ -111,6 +112,12 @@ pub enum Fault {
         number: u64,
         count: u64,
     },
+    /// The netlist is none of cells: the first fault, with the line of its definition, counted from 1; 0 where it is none
+    /// of a definition.
+    NotCells {
+        line: u64,
+        kind: CellFault,
+    },
     /// Want of memory.
     Memory,
 }
@@ -139,6 +146,7 @@ impl Fault {
             Fault::BadDesign { .. } => 16,
             Fault::Widths { .. } => 17,
             Fault::NoShape { .. } => 18,
+            Fault::NotCells { .. } => 19,
         }
     }
 }

@@ -7,4 +7,6 @@ pub enum Planner {
     Layered,
     /// The plan that is searched for, as `compact` does it.
     Compact,
+    /// The cells of the netlist as they are given, in an order that is searched for, as `draw` does it.
+    Given,
 }

@@ -1,7 +1,7 @@
 // The line that a fault puts to `err`.
-ghost use Rattle.std.specs.Prelude.{◌≡◌, ◌<◌, length};
+ghost use Rattle.std.specs.Prelude.{◌≡◌, ◌<◌, length, Some};
 ghost use Rattle.aqfp_top.specs.Words.{spelled};
-ghost use Rattle.aqfp_top.specs.Lines.{line_of, netlist_line, library_line, missing_line, line_kind_text, design_kind_text, large_text, stream_kind_text, named as named_line, Puts, HearsRefusals, HasPlace};
+ghost use Rattle.aqfp_top.specs.Lines.{line_of, netlist_line, library_line, missing_line, line_kind_text, design_kind_text, cell_fault_text, large_text, stream_kind_text, named as named_line, Reports, IsCutShort, HasPlace};
 ghost use Rattle.cell_library.specs.Kinds.{key_of};
 ghost use Rattle.layout_rules.specs.RuleTable.{name_of};
 ghost use Rattle.aqfp_top.specs.Code.Pieces.{pieces_text};
@@ -13,6 +13,7 @@ use aq_base::Sink;
 use blif_flat::FlatKind;
 use blif_read::{BlifFault, LineKind};
 use cell_library::{LibraryFault, kind_key};
+use cell_netlist::CellFault;
 use circuit::CellKind;
 use gds_records::StreamKind;
 use layout_rules::Rule;
@@ -44,6 +45,17 @@ fn design_kind(kind: &FlatKind) -> &[u8]
         FlatKind::Undefined => b"undefined",
         FlatKind::Recursive => b"recursive",
         FlatKind::NoOutputs => b"no outputs",
+    }
+}
+
+fn cell_fault(kind: &CellFault) -> &[u8]
+    ensures { result.now ≡ cell_fault_text kind.now }
+{
+    match kind {
+        CellFault::Cover => b"cover",
+        CellFault::Uses => b"uses",
+        CellFault::Level => b"level",
+        CellFault::Outputs => b"outputs",
     }
 }
 
@@ -189,7 +201,7 @@ fn pieces_of<'a>(words: &'a [String], fault: &'a Fault) -> [Piece<'a>; 5]
     match fault {
         Fault::Usage => [
             Piece::Text(
-                b"aqfp: usage: build NET LIB OUT, compact NET LIB OUT, verify GDS LIB WORDS, ",
+                b"aqfp: usage: build NET LIB OUT, compact NET LIB OUT, draw NET LIB OUT, verify GDS LIB WORDS, ",
             ),
             Piece::Text(b"trace GDS LIB WORDS, sample N, netlist GDS LIB OUT, equal GDS LIB NET, "),
             Piece::Text(b"report GDS LIB, shapes GDS A B\n"),
@@ -261,6 +273,13 @@ fn pieces_of<'a>(words: &'a [String], fault: &'a Fault) -> [Piece<'a>; 5]
             Piece::Number(*count),
             Piece::Text(b"\n"),
         ],
+        Fault::NotCells { line, kind } => [
+            Piece::Text(b"aqfp: line "),
+            Piece::Number(*line),
+            Piece::Text(b": cells "),
+            Piece::Text(cell_fault(kind)),
+            Piece::Text(b"\n"),
+        ],
         Fault::Memory => text(fault, b"aqfp: out of memory\n"),
     }
 }
@@ -268,8 +287,7 @@ fn pieces_of<'a>(words: &'a [String], fault: &'a Fault) -> [Piece<'a>; 5]
 /// Puts the line of the fault, as far as the sink takes it; it takes no memory.
 pub fn say<E: Sink>(words: &[String], fault: &Fault, err: &mut E)
     requires { HasPlace (spelled words.now) fault.now }
-    ensures { Puts (E.output err.old).written (E.output err.new).written (line_of (spelled words.now) fault.now)
-        (HearsRefusals (E.output err.old).heard (E.output err.new).heard) }
+    ensures { Reports IsCutShort (E.output err.old) (E.output err.new) (spelled words.now) (Some fault.now) }
 {
     let pieces = pieces_of(words, fault);
     let _ = put_pieces(err, &pieces);

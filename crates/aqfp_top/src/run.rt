@@ -5,7 +5,7 @@ ghost use Rattle.aq_base.specs.FaultCounts.{load_failed};
 ghost use Rattle.aq_base.specs.Store.{Contents};
 ghost use Rattle.aqfp_top.specs.Words.{spelled, IsMakeBy, IsVerify, IsTrace, IsEqual, IsWrite, IsReport, IsShapesOf, IsSampleOf, HasForm};
 ghost use Rattle.aqfp_top.specs.Statuses.{status_of};
-ghost use Rattle.aqfp_top.specs.Lines.{Reports, HearsRefusals};
+ghost use Rattle.aqfp_top.specs.Lines.{Reports, IsCutShort};
 ghost use Rattle.aqfp_top.specs.Due.{MayAnswer};
 ghost use Rattle.aqfp_top.specs.Faults.{RunsOnly};
 ghost use Rattle.aqfp_top.specs.Counted.{counts_of, HasFaults, FailedLoad};
@@ -121,7 +121,8 @@ pub fn aqfp_run<F: Files, O: Sink, E: Sink>(
     ensures only { IfSome result.fault (RunsOnly (spelled words.now)) }
     ensures usage { ¬ HasForm (spelled words.now) → result.fault ≡ Some Fault.Usage }
 
-    // What a `build` or a `compact` that ends well has made: a chip of its netlist, whatever the order of switching.
+    // What a command that makes a chip has made where it ends well: a chip of its netlist, whatever the order of
+    // switching.
     ensures chip { (held : Contents) (planner : Planner) → (F.outside files.old).told ≡ Some held → IsMakeBy planner (spelled words.now) → result.fault ≡ None
         → BuildsChip held (F.outside files.new).told (spelled words.now) (O.output out.old) (O.output out.new) }
 
@@ -129,7 +130,7 @@ pub fn aqfp_run<F: Files, O: Sink, E: Sink>(
     ensures hears { (planner : Planner) → IsMakeBy planner (spelled words.now) → result.fault ≡ None
         → HearsChip (F.outside files.old).heard (F.outside files.new).heard (spelled words.now) (O.output out.old) (O.output out.new) }
 
-    // And by which plan: the defined one, or one that is no larger.
+    // And by which plan: the defined one, or one that is no larger, or that of the netlist's own cells.
     ensures planned { (planner : Planner) → IsMakeBy planner (spelled words.now) → result.fault ≡ None
         → HeardBuilt planner (F.outside files.old).heard (F.outside files.new).heard (spelled words.now) (O.output out.old) (O.output out.new) }
 
@@ -182,8 +183,7 @@ pub fn aqfp_run<F: Files, O: Sink, E: Sink>(
     ensures stands { RunStands (F.outside files.old).told (F.outside files.new).told (spelled words.now) result.fault }
     ensures prints { RunPrints (F.outside files.old).told (spelled words.now) (O.output out.old) (O.output out.new) result.fault }
     ensures shut { (F.outside files.new).opened ≡ None }
-    ensures reports { Reports (E.output err.old).written (E.output err.new).written (spelled words.now) result.fault
-        (HearsRefusals (E.output err.old).heard (E.output err.new).heard) }
+    ensures reports { Reports IsCutShort (E.output err.old) (E.output err.new) (spelled words.now) result.fault }
 {
     drawing_laws();
     written_is_read();

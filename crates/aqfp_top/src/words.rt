@@ -8,7 +8,7 @@ use aq_base::read_decimal;
 /// Which form a command line has.
 #[derive(Clone, Copy, PartialEq, Eq)]
 pub enum Form {
-    /// `build NET LIB OUT` or `compact NET LIB OUT`, by the plan.
+    /// `build NET LIB OUT`, `compact NET LIB OUT` or `draw NET LIB OUT`, by the plan.
     Make { planner: Planner },
     /// `verify GDS LIB WORDS`.
     Verify,
@@ -97,6 +97,11 @@ fn form_of_four(words: &[String]) -> Form
     if is_word(words, 0, "compact") {
         return Form::Make {
             planner: Planner::Compact,
+        };
+    }
+    if is_word(words, 0, "draw") {
+        return Form::Make {
+            planner: Planner::Given,
         };
     }
     if is_word(words, 0, "verify") {

@@ -160,7 +160,7 @@ fn a_sample_is_printed(rt: HostRuntime) -> Result<(), Fail> {
 fn what_is_wrong_is_told(rt: HostRuntime) -> Result<(), Fail> {
     let alloc = rt.alloc();
     let usage =
-        "aqfp: usage: build NET LIB OUT, compact NET LIB OUT, verify GDS LIB WORDS, trace GDS LIB WORDS, sample N, netlist GDS LIB OUT, equal GDS LIB NET, report GDS LIB, shapes GDS A B\n";
+        "aqfp: usage: build NET LIB OUT, compact NET LIB OUT, draw NET LIB OUT, verify GDS LIB WORDS, trace GDS LIB WORDS, sample N, netlist GDS LIB OUT, equal GDS LIB NET, report GDS LIB, shapes GDS A B\n";
     let four = ".inputs a b c d\n.outputs a b c d\n";
     let cycle =
         ".model t\n.inputs a\n.outputs y\n.names q y\n1 1\n.names r q\n1 1\n.names y a r\n11 1\n.end\n";

@@ -16,6 +16,8 @@ mod compared;
 #[cfg(test)]
 mod designs;
 #[cfg(test)]
+mod drawn;
+#[cfg(test)]
 mod fixtures;
 #[cfg(test)]
 mod large;

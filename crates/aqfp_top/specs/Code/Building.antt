@@ -24,9 +24,9 @@ StandsStored before after name bytes (Err Memory) = (after ≡ before) ⊎ Store
 StandsStored before after name bytes (Err _) = ⊥
 
 -- the faults of a build before anything is stored
-abbrev pub IsMakeFault : Fault → Type 0
-IsMakeFault (WriteFault call) = ⊥
-IsMakeFault fault = IsBuildFault fault
+abbrev pub IsMakeFault : Planner → Fault → Type 0
+IsMakeFault planner (WriteFault call) = ⊥
+IsMakeFault planner fault = IsBuildFault planner fault
 
 -- the faults of printing
 abbrev pub IsOutOrMemory : Fault → Type 0

@@ -1,5 +1,5 @@
 -- The chip that the steps from texts to a layout make.
-use Rattle.std.specs.Prelude.{ℕ, ◌≡◌, ◌≤◌, List, length}
+use Rattle.std.specs.Prelude.{ℕ, ◌≡◌, ◌≤◌, ◌⊎◌, List, length}
 use Rattle.blif_read.specs.Parts.{NetView}
 use Rattle.cell_library.specs.Library.{LibraryView}
 use Rattle.gds_records.specs.Writing.{bytes_of}
@@ -8,15 +8,18 @@ use Rattle.rowed.specs.Counts.{cells_in, wires_in}
 use Rattle.chip_plan.specs.declared.refusal.PlanRefusal.{PlanRefusal}
 use Rattle.chip_plan.specs.declared.refusal.PlanRefusal.TheVariants as refusal
 use Rattle.compact_plan.specs.Compact.{IsPlanned, IsCompactChip}
-use Rattle.aqfp_top.specs.Designs.{SaysDesign, IsChipFor, IsPlanBy, IsPlanFault, stream_of}
+use Rattle.cell_plan.specs.DrawnChips.{IsDrawnChip}
+use Rattle.cell_plan.specs.declared.refusal.CellPlanRefusal.{CellPlanRefusal}
+use Rattle.cell_plan.specs.declared.refusal.CellPlanRefusal.TheVariants as own
+use Rattle.aqfp_top.specs.Designs.{SaysDesign, IsChipFor, IsPlanBy, PlanFinds, PlanGivesUp, stream_of}
 use Rattle.aqfp_top.specs.declared.planner.Planner.{Planner}
-use Rattle.aqfp_top.specs.declared.planner.Planner.TheVariants.{Layered, Compact}
+use Rattle.aqfp_top.specs.declared.planner.Planner.TheVariants.{Layered, Compact, Given}
 use Rattle.aqfp_top.specs.declared.counts.ChipCounts.{ChipCounts}
 use Rattle.aqfp_top.specs.declared.design.Chip.{Chip}
-use Rattle.aqfp_top.specs.declared.fault.Large.TheVariants.{Slots, Rows, Cells, Shapes, Functions}
+use Rattle.aqfp_top.specs.declared.fault.Large.TheVariants.{Slots, Rows, Cells, Elements, Shapes, Functions}
 use Rattle.aqfp_top.specs.declared.fault.Fault.{Fault}
 use Rattle.aqfp_top.specs.declared.fault.Fault.TheVariants.{BadBlif, BadDesign, BadLibrary, MissingCell, TooLarge}
-use Rattle.aqfp_top.specs.declared.fault.Fault.TheVariants.{Memory}
+use Rattle.aqfp_top.specs.declared.fault.Fault.TheVariants.{NotCells, Memory}
 
 -- these are the counts of a placed net, which has some row
 pub record AreCountsOf (placed : PlacedView) (counts : ChipCounts) : Type 0 where
@@ -44,10 +47,11 @@ pub record MakesChip (planner : Planner) (net lib : List ℕ) (chip : Chip) : Ty
   pub says : SaysDesign net lib equations cells
   pub made : IsChipOf planner equations cells chip
 
--- the placed net was planned: it is that of the defined plan, or one that was searched for
+-- the placed net was planned: it is that of the defined plan, or one that was searched for, or of the netlist's own cells
 abbrev pub IsPlannedBy : Planner → NetView → LibraryView → PlacedView → Type 0
 IsPlannedBy Layered equations cells placed = IsPlanned cells equations placed
 IsPlannedBy Compact equations cells placed = IsCompactChip cells equations placed
+IsPlannedBy Given equations cells placed = IsDrawnChip cells equations placed
 
 -- the fault that tells a plan's refusal
 abbrev pub plan_fault : PlanRefusal → Fault
@@ -56,23 +60,34 @@ plan_fault (refusal.Rows rows) = TooLarge Rows rows
 plan_fault (refusal.Cells cells) = TooLarge Cells cells
 plan_fault refusal.Memory = Memory
 
--- no limit is passed
-abbrev pub PassesNone : NetView → LibraryView → Type 0
-PassesNone equations cells = (fault : Fault) → ¬ IsPlanFault equations cells fault
+-- the fault that tells a refusal of the netlist's own cells
+abbrev pub own_fault : CellPlanRefusal → Fault
+own_fault (own.NotCells line kind) = NotCells line kind
+own_fault (own.Slots span) = TooLarge Slots span
+own_fault (own.Cells cells) = TooLarge Cells cells
+own_fault (own.Rows rows) = TooLarge Rows rows
+own_fault (own.Elements elements) = TooLarge Elements elements
+own_fault own.Memory = Memory
 
--- what the plan leaves to be told: nothing, or for a compact chip no fault at all
+-- what a plan refuses: what it finds, or the limit for which it gives up
+abbrev pub PlanRefuses : Planner → NetView → LibraryView → Fault → Type 0
+PlanRefuses planner equations cells (TooLarge what count) =
+    PlanFinds planner equations cells (TooLarge what count) ⊎ PlanGivesUp planner equations cells what count
+PlanRefuses planner equations cells fault = PlanFinds planner equations cells fault
+
+-- the plan finds nothing
 abbrev pub IsWellPlanned : Planner → NetView → LibraryView → Type 0
-IsWellPlanned Layered equations cells = PassesNone equations cells
-IsWellPlanned Compact equations cells = Unit {0}
+IsWellPlanned planner equations cells = (fault : Fault) → ¬ PlanFinds planner equations cells fault
 
 -- the faults of reading a netlist and a library and of planning
-abbrev pub IsDesignFault : Fault → Type 0
-IsDesignFault (BadBlif fault) = Unit {0}
-IsDesignFault (BadDesign line kind) = Unit {0}
-IsDesignFault (BadLibrary fault) = Unit {0}
-IsDesignFault (MissingCell kind) = Unit {0}
-IsDesignFault (TooLarge Shapes count) = ⊥
-IsDesignFault (TooLarge Functions count) = ⊥
-IsDesignFault (TooLarge what count) = Unit {0}
-IsDesignFault Memory = Unit {0}
-IsDesignFault _ = ⊥
+abbrev pub IsDesignFault : Planner → Fault → Type 0
+IsDesignFault planner (BadBlif fault) = Unit {0}
+IsDesignFault planner (BadDesign line kind) = Unit {0}
+IsDesignFault planner (BadLibrary fault) = Unit {0}
+IsDesignFault planner (MissingCell kind) = Unit {0}
+IsDesignFault planner (TooLarge Shapes count) = ⊥
+IsDesignFault planner (TooLarge Functions count) = ⊥
+IsDesignFault planner (TooLarge what count) = Unit {0}
+IsDesignFault planner (NotCells line kind) = planner ≡ Given
+IsDesignFault planner Memory = Unit {0}
+IsDesignFault planner _ = ⊥

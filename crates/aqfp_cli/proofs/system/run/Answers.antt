@@ -1,9 +1,10 @@
-use Rattle.std.proofs.Common.{List, [], Some, subst}
+use Rattle.std.proofs.Common.{List, Some, subst}
 use Rattle.aq_base.specs.Heard.{Event, all_taken}
-use Rattle.aq_base.specs.StandardStore.{sink_heard, written_of}
+use Rattle.aq_base.specs.StandardStore.{output_of}
 use Rattle.aqfp_top.specs.Words.{spelled}
-use Rattle.aqfp_top.specs.Lines.{Reports, HearsRefusals}
-use Rattle.aqfp_cli.proofs.Refusals.{reports_faults}
+use Rattle.aqfp_top.specs.Lines.{Reports, IsCutShort}
+use Rattle.aqfp_cli.specs.Quiet.{quiet}
+use Rattle.aqfp_cli.proofs.Refusals.{reports_failures}
 use Rattle.aqfp_cli.proofs.system.run.Goals as goal
 
 pub returns-clause-reports : goal.returns-clause-reports
@@ -11,6 +12,6 @@ returns-clause-reports g c =
     let words = spelled c.args.words.now in
     let fault = c.aqfp_run-ending.result.fault in
     let err = c.aqfp_run-ending.new.err in
-    reports_faults (Some []) (Some (written_of err)) words fault (sink_heard err) err.remembers
-    (subst (λ (h : List Event). Reports (Some (all_taken h)) (Some (written_of err)) words fault (HearsRefusals h (sink_heard err)))
+    reports_failures quiet (output_of err) words fault err.remembers
+    (subst (λ (h : List Event). Reports IsCutShort (record { written = Some (all_taken h); heard = h }) (output_of err) words fault)
     c.new-err.ensures c.aqfp_run-ending.ensures.reports)

@@ -1,3 +1,4 @@
+use Rattle.std.proofs.lemmas.Result.{err_from_is_err_and}
 use Rattle.aqfp_top.specs.Words.{spelled}
 use Rattle.aqfp_top.specs.Loads.{net_limit, build_loads}
 use Rattle.aqfp_top.specs.Due.{design_stages}
@@ -6,11 +7,19 @@ use Rattle.aqfp_top.proofs.Steps.{build_answers, build_stands, build_prints, bui
 use Rattle.aqfp_top.proofs.Storing.{stores_shut}
 use Rattle.aqfp_top.proofs.OutEnds.{text_fails}
 use Rattle.aqfp_top.proofs.Hearing.{build_heard}
-use Rattle.aqfp_top.proofs.HearingDue.{counts_end}
+use Rattle.aqfp_top.proofs.HearingDue.{design_ends, counts_end}
 use Rattle.aqfp_top.proofs.build.build.Goals as goal
 
 pub returns-in_err-store-clause-shut : goal.returns-in_err-store-clause-shut
 returns-in_err-store-clause-shut g c = stores_shut _ _ _ _ _ c.in_err-store.ensures
+
+pub returns-in_err-chip-clause-due : goal.returns-in_err-chip-clause-due
+returns-in_err-chip-clause-due g c =
+    let due = design_ends c.args.planner build_loads net_limit (design_stages c.args.planner) (IsStreamBy c.args.planner)
+    (g.F.Files.outside c.args.files.now).heard (g.F.Files.outside c.make.new.files).heard (spelled c.args.words.now)
+    c.in_err-chip.field-0.0 c.in_err-chip.ensures.only c.in_err-chip.ensures.heard_bad in
+    let p = err_from_is_err_and c.from_residual.result c.from_residual.ensures.1 in
+    rw (p.1, p.2) due
 
 pub returns-clause-answer : goal.returns-clause-answer
 returns-clause-answer g c =
@@ -49,7 +58,7 @@ returns-clause-due g c =
     c.in_ok-chip.ensures.heard_well c.word.ensures c.in_ok-store.ensures c.put_counts.ensures
 
 pub returns-clause-only : goal.returns-clause-only
-returns-clause-only g c = build_only _ _ _ c.put_counts.result c.put_counts.ensures
+returns-clause-only g c = build_only c.args.planner _ _ _ c.put_counts.result c.put_counts.ensures
 
 pub returns-clause-shut : goal.returns-clause-shut
 returns-clause-shut g c = stores_shut _ _ _ _ _ c.in_ok-store.ensures

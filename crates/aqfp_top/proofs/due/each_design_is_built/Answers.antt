@@ -11,8 +11,8 @@ use Rattle.aqfp_top.proofs.due.each_design_is_built.Goals as goal
 
 pub returns-clause-due : goal.returns-clause-due
 returns-clause-due c files words net lib equations cells planner form net_held lib_held net_fits lib_fits says limits =
-    let none = passes_none c.plan_laws.ensures.past c.plan_laws.ensures.only equations cells limits in
-    let well = design_is_well planner net lib equations cells says.net_says says.lib_says (planner_well planner equations cells none) in
+    let passes = passes_none c.plan_laws.ensures.past c.plan_laws.ensures.only equations cells in
+    let well = design_is_well planner net lib equations cells says.net_says says.lib_says (planner_well planner equations cells passes limits) in
     record {
       form = Make planner;
       is_form = form;

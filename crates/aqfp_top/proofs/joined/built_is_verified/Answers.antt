@@ -1,3 +1,5 @@
+use Rattle.std.proofs.Common.{◌≤◌, subst, sym}
+use Rattle.layout_make.specs.Size.{element_number, element_limit}
 use Rattle.aqfp_top.proofs.Joining.{Laws, verified}
 use Rattle.aqfp_top.proofs.joined.built_is_verified.Goals as goal
 
@@ -27,4 +29,16 @@ returns-clause-of_plan c net_text lib net cells short says limits =
       draws = c.plan_laws.ensures.draws cells net lawful keeps limits.within;
       answers = c.plan_laws.ensures.answers cells net lawful keeps limits.within;
       small = limits.small;
+    }
+
+pub returns-clause-of_cells : goal.returns-clause-of_cells
+returns-clause-of_cells c net_text lib net chip cells short says is =
+    let lawful = c.each_library.ensures lib cells says.lib_says in
+    let keeps = c.each_design.ensures.keeps net_text net short says.net_says in
+    record {
+      keeps = keeps;
+      lawful = lawful;
+      draws = c.cell_plan_laws.ensures.draws cells net chip lawful keeps is;
+      answers = c.cell_plan_laws.ensures.answers cells net chip lawful keeps is;
+      small = subst (λ p. element_number p ≤ element_limit) (sym is.is_chip) is.within.few_elements;
     }
