@@ -1,12 +1,12 @@
 #!/usr/bin/env python3
-"""Prints how large the chips of `build` and of `compact` are, side by side.
+"""Prints how large the chips are that several commands make of the same netlists, side by side.
 
-  compact.py PROGRAM LIBRARY NETLIST ..
+  compact.py PROGRAM LIBRARY COMMAND,COMMAND,.. NETLIST ..
 
 For each netlist a line for each command: cells, junctions (two a cell, six a majority), rows, wires, the area of the
 least rectangle that holds all frames in square millimetres, elements of the top structure, seconds, and what `equal`
-says of the stored chip and the netlist. Then the geometric mean of cells of `build` over cells of `compact`, over the
-netlists of which both are stored.
+says of the stored chip and the netlist. Then for each command but the last the geometric mean of its cells over those
+of the last one, over the netlists of which both are stored.
 """
 import math
 import os
@@ -90,29 +90,31 @@ def chip(program, command, net, library, folder):
 
 
 def main():
-    if len(sys.argv) < 4:
+    if len(sys.argv) < 5:
         sys.exit(__doc__.strip())
-    program, library, nets = sys.argv[1], sys.argv[2], sys.argv[3:]
-    print(f"{'netlist':<16} {'command':<8} {'cells':>8} {'JJ':>8} {'rows':>5} {'wires':>8} {'mm2':>8} {'elements':>8} "
+    program, library, commands, nets = sys.argv[1], sys.argv[2], sys.argv[3].split(","), sys.argv[4:]
+    print(f"{'netlist':<24} {'command':<8} {'cells':>8} {'JJ':>8} {'rows':>5} {'wires':>8} {'mm2':>8} {'elements':>8} "
           f"{'seconds':>8}  equal")
-    logs = []
+    logs = {command: [] for command in commands[:-1]}
     for net in nets:
         name = os.path.splitext(os.path.basename(net))[0]
         found = {}
         with tempfile.TemporaryDirectory() as folder:
-            for command in ("build", "compact"):
+            for command in commands:
                 figures, said = chip(program, command, net, library, folder)
                 if figures is None:
-                    print(f"{name:<16} {command:<8} {said}")
+                    print(f"{name:<24} {command:<8} {said}")
                     continue
                 found[command] = figures[0]
-                print(f"{name:<16} {command:<8} {figures[0]:>8} {figures[1]:>8} {figures[2]:>5} {figures[3]:>8} "
+                print(f"{name:<24} {command:<8} {figures[0]:>8} {figures[1]:>8} {figures[2]:>5} {figures[3]:>8} "
                       f"{figures[4]:>8.4f} {figures[5]:>8} {figures[6]:>8.3f}  {said}", flush=True)
-        if len(found) == 2:
-            logs.append(math.log(found["build"] / found["compact"]))
-    if logs:
-        print(f"{len(logs)} netlists of which both are stored: {math.exp(sum(logs) / len(logs)):.2f} times fewer cells "
-              "(geometric mean)")
+        for command in logs:
+            if command in found and commands[-1] in found:
+                logs[command].append(math.log(found[command] / found[commands[-1]]))
+    for command, each in logs.items():
+        if each:
+            print(f"{len(each)} netlists of which both are stored: {math.exp(sum(each) / len(each)):.2f} times fewer "
+                  f"cells by {commands[-1]} than by {command} (geometric mean)")
 
 
 main()

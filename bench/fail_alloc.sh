@@ -70,8 +70,8 @@ printf '.inputs a\n.outputs y\n.names a y\n0 1\n' >"$work/given/not.blif"
 printf '.inputs a b\n.outputs y\n.names a b y\n10 1\n01 1\n' >"$work/given/one.blif"
 printf '.inputs a b\n.outputs y\n.names a b o\n1- 1\n-1 1\n.names a b n\n11 0\n.names o n y\n11 1\n' \
     >"$work/given/two.blif"
-(cd "$work/given" && "$program" build wire.blif a.toml wire.gds && "$program" build one.blif a.toml one.gds) \
-    >/dev/null || exit 1
+(cd "$work/given" && "$program" build wire.blif a.toml wire.gds && "$program" build one.blif a.toml one.gds &&
+    "$program" netlist wire.gds a.toml cells.blif) >/dev/null || exit 1
 echo "what stood here before" >"$work/given/old.gds"
 
 python3 - "$program" "$work" <<'END'
@@ -85,6 +85,7 @@ COMMANDS = [
     ("build wire.blif a.toml old.gds", "old.gds"),
     ("build wire.blif a.toml new.gds", "new.gds"),
     ("compact wire.blif a.toml new.gds", "new.gds"),
+    ("draw cells.blif a.toml new.gds", "new.gds"),
     ("verify wire.gds a.toml wire.words", None),
     ("trace wire.gds a.toml wire.words", None),
     ("equal wire.gds a.toml wire.blif", None),

@@ -1,8 +1,9 @@
 #!/bin/sh
-# Writing OUT and syncing it, where the system fails: `build`, `compact` and `netlist` of the first chip, with fsync(2),
-# close(2) or write(2) failing for regular files. A failing fsync or write ends with status 5 and its line; a close that
-# fails after a good fsync, without undoing it, ends with status 0, and OUT is whole. A pipe and /dev/null, which can't
-# be synced, work as OUT. Prints a line for each case, and what was otherwise; the status is 1 where something was.
+# Writing OUT and syncing it, where the system fails: `build`, `compact`, `draw` and `netlist` of the first chip, with
+# fsync(2), close(2) or write(2) failing for regular files. A failing fsync or write ends with status 5 and its line; a
+# close that fails after a good fsync, without undoing it, ends with status 0, and OUT is whole. A pipe and /dev/null,
+# which can't be synced, work as OUT. Prints a line for each case, and what was otherwise; the status is 1 where
+# something was.
 #
 # The calls fail by a library that is loaded before the C library. Needs cc and python3. AQFP names another program.
 set -u
@@ -58,13 +59,15 @@ cc -O2 -shared -fPIC -o "$work/fail.so" "$work/fail.c" || exit 70
 
 mkdir "$work/room"
 cp "$here/libraries/a.toml" "$here/examples/wire.blif" "$work/room/"
-(cd "$work/room" && "$program" build wire.blif a.toml chip.gds >/dev/null) || exit 1
+(cd "$work/room" && "$program" build wire.blif a.toml chip.gds && "$program" netlist chip.gds a.toml cells.blif) \
+    >/dev/null || exit 1
 
 python3 - "$program" "$work" <<'END'
 import os, pathlib, subprocess, sys
 program, work = os.path.abspath(sys.argv[1]), pathlib.Path(sys.argv[2])
 room, mark = work / "room", work / "mark"
-COMMANDS = ["build wire.blif a.toml {}", "compact wire.blif a.toml {}", "netlist chip.gds a.toml {}"]
+COMMANDS = ["build wire.blif a.toml {}", "compact wire.blif a.toml {}", "draw cells.blif a.toml {}",
+            "netlist chip.gds a.toml {}"]
 OLD = b"what stood here before\n"
 failed = 0
 

@@ -6,14 +6,15 @@
 # Each netlist NAME.blif of this folder is built with library A as FOLDER/NAME.gds, is verified with NAME.words, and
 # what is printed is compared with NAME.answers; `equal` compares the chip with NAME.blif for all words, and where ABC
 # is installed, it compares the netlist of the chip's circuit with NAME.blif. The same is done with library B, as
-# NAME_b, with the chip of `compact`, as NAME_compact, and with netlists that other tools make of it: NAME_yosys, which
-# Yosys makes of NAME.v, with gates of two inputs and choices, NAME_and, with and, or and not alone, NAME_lut, with
-# tables of three inputs; and NAME_abc, which ABC makes of NAME.blif. Where KLayout is installed, it checks each chip by
-# share/aqfp.drc and makes a picture of it. Last come the layouts under layouts/, a trace, and a netlist that is
-# refused. A layout NETLIST_CHANGE.gds is verified with its words, and where there is a file NETLIST_CHANGE.compared,
-# that is what `equal` says of it and of NETLIST.blif. Then KLayout and Magic draw the full adder anew by the scripts
-# beside the layouts. A tool that is not installed is named, and its part is left out.
-# Prints a line for each chip. The status is 1 where something failed. AQFP names another program than the launcher.
+# NAME_b, with the chip of `compact`, as NAME_compact, of netlists of cells with that of `draw`, as NAME_draw, and with
+# netlists that other tools make of it: NAME_yosys, which Yosys makes of NAME.v, with gates of two inputs and choices,
+# NAME_and, with and, or and not alone, NAME_lut, with tables of three inputs; and NAME_abc, which ABC makes of
+# NAME.blif. Where KLayout is installed, it checks each chip by share/aqfp.drc and makes a picture of it. Last come the
+# layouts under layouts/, a trace, and a netlist that is refused. A layout NETLIST_CHANGE.gds is verified with its
+# words, and where there is a file NETLIST_CHANGE.compared, that is what `equal` says of it and of NETLIST.blif. Then
+# KLayout and Magic draw the full adder anew by the scripts beside the layouts. A tool that is not installed is named,
+# and its part is left out. Prints a line for each chip. The status is 1 where something failed. AQFP names another
+# program than the launcher.
 set -u
 here=$(cd -P "$(dirname "$0")" && pwd)
 top=$(dirname "$here")
@@ -122,6 +123,8 @@ for netlist in "$here"/*.blif; do
     library=$top/libraries/a.toml
     command=compact
     make_chip "${name}_compact" "$netlist" "$name"
+    command=draw
+    case $name in *_cells) make_chip "${name}_draw" "$netlist" "$name" ;; esac
     command=build
     if [ -f "$here/$name.v" ] && have yosys; then
         make_synthesised "$name" yosys "-g AND,OR,XOR,ANDNOT,ORNOT,MUX"

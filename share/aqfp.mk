@@ -1,6 +1,7 @@
 # Chips by GNU make. In a Makefile of one's own:
 #
 #   AQFP_LIB = b.toml                 # the library; a.toml of this folder if not given
+#   AQFP_MAKES = compact              # the command that makes chips; build if not given, draw for netlists of cells
 #   include /usr/share/aqfp/aqfp.mk
 #   all: adder.gds adder.printed adder.equal
 #
@@ -10,11 +11,12 @@
 .DELETE_ON_ERROR:
 
 AQFP ?= aqfp
+AQFP_MAKES ?= build
 AQFP_SHARE := $(dir $(lastword $(MAKEFILE_LIST)))
 AQFP_LIB ?= $(firstword $(wildcard $(AQFP_SHARE)a.toml $(AQFP_SHARE)../libraries/a.toml))
 
 %.gds: %.blif $(AQFP_LIB)
-	$(AQFP) build $< $(AQFP_LIB) $@
+	$(AQFP) $(AQFP_MAKES) $< $(AQFP_LIB) $@
 
 %.printed: %.gds %.words $(AQFP_LIB)
 	$(AQFP) verify $< $(AQFP_LIB) $*.words > $@

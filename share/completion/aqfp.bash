@@ -21,14 +21,15 @@ _aqfp() {
         words=("${COMP_WORDS[@]}")
     fi
     if [ "$cword" -eq 1 ]; then
-        mapfile -t COMPREPLY < <(compgen -W "build compact verify trace sample netlist equal report shapes --help --version" -- "$cur")
+        local commands="build compact draw verify trace sample netlist equal report shapes --help --version"
+        mapfile -t COMPREPLY < <(compgen -W "$commands" -- "$cur")
         return
     fi
     local endings
     case ${words[1]}:$cword in
-        build:2 | compact:2 | equal:4 | netlist:4) endings='blif' ;;
-        verify:2 | trace:2 | equal:2 | netlist:2 | report:2 | shapes:2 | build:4 | compact:4) endings='gds' ;;
-        build:3 | compact:3 | verify:3 | trace:3 | equal:3 | netlist:3 | report:3) endings='toml' ;;
+        build:2 | compact:2 | draw:2 | equal:4 | netlist:4) endings='blif' ;;
+        verify:2 | trace:2 | equal:2 | netlist:2 | report:2 | shapes:2 | build:4 | compact:4 | draw:4) endings='gds' ;;
+        build:3 | compact:3 | draw:3 | verify:3 | trace:3 | equal:3 | netlist:3 | report:3) endings='toml' ;;
         verify:4 | trace:4) endings='words|txt' ;;
         *) return ;;
     esac
