@@ -14,7 +14,7 @@ use Rattle.geom.specs.declared.shapes.Label.{Label}
 use Rattle.geom.specs.declared.layout.Element.{Element}
 use Rattle.geom.specs.declared.layout.Element.TheVariants.{Box, Place, Text}
 use Rattle.geom.specs.declared.layout.Structure.{Structure}
-use Rattle.gds_records.specs.Codes.{HEADER, BGNLIB, LIBNAME, UNITS, ENDLIB, BGNSTR, STRNAME, ENDSTR, BOUNDARY, SREF, TEXT, LAYER, DATATYPE, XY, ENDEL, SNAME, TEXTTYPE, STRING, NO_DATA, TWO_BYTE_INTEGER, FOUR_BYTE_INTEGER, EIGHT_BYTE_REAL, ASCII_STRING}
+use Rattle.gds_records.specs.declared.codes.TheConstants.{HEADER, BGNLIB, LIBNAME, UNITS, ENDLIB, BGNSTR, STRNAME, ENDSTR, BOUNDARY, SREF, TEXT, LAYER, DATATYPE, XY, ENDEL, SNAME, TEXTTYPE, STRING, NO_DATA, TWO_BYTE_INTEGER, FOUR_BYTE_INTEGER, EIGHT_BYTE_REAL, ASCII_STRING}
 use Rattle.gds_records.specs.Records.{Record, record_with, spelled}
 use Rattle.gds_records.specs.Profiled.{IsBytes}
 use Rattle.gds_records.specs.Writing.{bytes_of, records_of, library_head, structure_records, element_records, padded, two_bytes, dates, corner_bits, corners, point, units, library_name}

@@ -19,8 +19,9 @@ use Rattle.geom.specs.declared.shapes.Label.{Label}
 use Rattle.geom.specs.declared.layout.Element.{Element}
 use Rattle.geom.specs.declared.layout.Element.TheVariants.{Box, Place, Text}
 use Rattle.geom.specs.declared.layout.Structure.{Structure}
-use Rattle.gds_records.specs.Codes.{ENDLIB, BGNSTR, STRNAME, ENDSTR, SREF, TEXT, LAYER, XY, ENDEL, SNAME, TEXTTYPE}
-use Rattle.gds_records.specs.Codes.{STRING, NO_DATA, TWO_BYTE_INTEGER, FOUR_BYTE_INTEGER, ASCII_STRING}
+use Rattle.gds_records.specs.declared.codes.TheConstants.{ENDLIB, BGNSTR, STRNAME, ENDSTR, SREF, TEXT, LAYER, XY, ENDEL}
+use Rattle.gds_records.specs.declared.codes.TheConstants.{SNAME, TEXTTYPE, STRING, NO_DATA, TWO_BYTE_INTEGER}
+use Rattle.gds_records.specs.declared.codes.TheConstants.{FOUR_BYTE_INTEGER, ASCII_STRING}
 use Rattle.gds_records.specs.Records.{Record, record_with, spelled}
 use Rattle.gds_records.specs.Writing.{two_bytes, padded, point, dates, element_records, structure_records, library_head}
 use Rattle.gds_records.specs.Writing.{bytes_of}

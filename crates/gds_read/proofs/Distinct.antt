@@ -6,7 +6,7 @@ use Rattle.std.proofs.lemmas.Bool.{eqb-true}
 use Rattle.gds_records.specs.declared.fault.StreamKind.TheVariants.{Value}
 use Rattle.gds_records.specs.Language.{Language, One, Then, Many, Speaks, Repeats, none, more}
 use Rattle.gds_records.specs.Records.{Record, kinds, trimmed, same}
-use Rattle.gds_records.specs.Grammar.{structure_of_each, wide_stream, wide_element, maybe}
+use Rattle.gds_records.specs.Grammar.{structure_of_each, in_turn, library_front, wide_stream, wide_element}
 use Rattle.gds_records.specs.Drawing.{starts, field, place_of, name_of}
 use Rattle.gds_records.specs.Values.{is_structure_name, is_name}
 use Rattle.gds_records.specs.WideValues.{wide_opener, last_colrow, rule, wide_fault_in}
@@ -106,9 +106,6 @@ behind a b p q = record {
   each = λ w v h. ap (λ (x : List ℕ). paired (x ++ v) false) h.2 ∙ ap (λ (x : List ℕ). paired x false) (append_assoc h.0 h.1 v) ∙ p.each h.0 (h.1 ++ v) h.3 ∙ q.each h.1 v h.4;
 }
 
-skip : (a b : Language) → mentions 5 a ≡ false → mentions 6 a ≡ false → Passes b → Passes (Then a b)
-skip a b e f q = behind a b (plain a e f) q
-
 repeated : (a : Language) → Passes a → (w v : List ℕ) → Repeats (Speaks a) w → paired (w ++ v) false ≡ paired v false
 repeated a p w v (none w' e) = ap (λ (x : List ℕ). paired (x ++ v) false) e
 repeated a p w v (more w' front rest e h r) =
@@ -127,17 +124,26 @@ structure each e f = record {
       ∙ lacking rest.1 v (lacks 5 inner rest.1 (ap (λ (b : Bool). b || false) e) rest.4) (lacks 6 inner rest.1 (ap (λ (b : Bool). b || false) f) rest.4);
 }
 
+abbrev all_plain : List Language → Bool
+all_plain [] = true
+all_plain (a ∷ others) = not (mentions 5 a || mentions 6 a) && all_plain others
+
+plain_parts : (x y z : Bool) → (not (x || y) && z) ≡ true → (x ≡ false) × (y ≡ false) × (z ≡ true)
+plain_parts false false z e = (refl, refl, e)
+plain_parts false true z e = absurd cc
+plain_parts true y z e = absurd cc
+
+-- behind languages in turn that have neither record
+skip_all : (before : List Language) (b : Language) → all_plain before ≡ true → Passes b → Passes (in_turn before b)
+skip_all [] b e q = q
+skip_all (a ∷ before) b e q =
+    let p = plain_parts (mentions 5 a) (mentions 6 a) (all_plain before) e in
+    behind a (in_turn before b) (plain a p.0 p.1) (skip_all before b p.2 q)
+
 stream_passes : Passes wide_stream
 stream_passes =
-    skip (One 0) _ refl refl
-    (skip (One 1) _ refl refl
-    (skip (One 2) _ refl refl
-    (skip (maybe (One 0x1F)) _ refl refl
-    (skip (maybe (One 0x20)) _ refl refl
-    (skip (maybe (One 0x23)) _ refl refl
-    (skip (maybe (One 0x22)) _ refl refl
-    (skip (One 3) _ refl refl
-    (behind (Many (structure_of_each wide_element)) (One 4) (many (structure_of_each wide_element) (structure wide_element refl refl)) (plain (One 4) refl refl)))))))))
+    skip_all library_front (Then (Many (structure_of_each wide_element)) (One 4)) refl
+    (behind (Many (structure_of_each wide_element)) (One 4) (many (structure_of_each wide_element) (structure wide_element refl refl)) (plain (One 4) refl refl))
 
 all_paired : (rs : List Record) → Speaks wide_stream (kinds rs) → paired (kinds rs) false ≡ true
 all_paired rs h = ap (λ (x : List ℕ). paired x false) (sym (append-nil (kinds rs))) ∙ stream_passes.each (kinds rs) [] h

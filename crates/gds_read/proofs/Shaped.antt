@@ -1,12 +1,13 @@
 -- The records of a sentence: its structures with their references, and their elements.
 use Rattle.std.proofs.Common.{◌≡◌, ℕ, ◌+◌, List, [], ◌∷◌, ◌++◌, map, length, Bool, true, false, eqb, ◌||◌, refl, sym, ap, subst, ◌∙◌, append_assoc, inl, inr, arith}
+use Rattle.std.specs.Prelude.{not, ◌&&◌}
 use Rattle.std.specs.List.{flat_map, AllByRecursion}
 use Rattle.std.proofs.lemmas.List.{append-nil}
 use Rattle.std.proofs.lemmas.List.Concat.{flat_map-cons}
 use Rattle.std.proofs.lemmas.Bool.Decides.{nat_tests}
 use Rattle.gds_records.specs.Language.{Language, One, Then, Many, Speaks, Repeats, none, more}
 use Rattle.gds_records.specs.Records.{Record, kinds, trimmed, same}
-use Rattle.gds_records.specs.Grammar.{◌>>◌, flags, stream, stream_of_each, structure_of_each, element, boundary, reference, text, maybe}
+use Rattle.gds_records.specs.Grammar.{◌>>◌, flags, in_turn, library_front, stream, stream_of_each, structure_of_each, element, boundary, reference, text}
 use Rattle.gds_records.specs.Drawing.{starts, up_to, parts, field, has, element_parts}
 use Rattle.gds_records.specs.Whole.{Use, uses_from}
 use Rattle.gds_records.specs.Steps.{is_listed}
@@ -324,27 +325,24 @@ peel a b rs e p =
       same_starts = p.same_starts ∙ ap (λ (x : List Record). starts x) s.whole ∙ starts_none s.xs s.ys (ap (λ (x : List ℕ). has_kind 5 x) s.fronts ∙ lacks 5 a h.0 e h.3);
     }
 
--- what is left of a sentence's grammar, piece by piece
+abbrev all_lack : ℕ → List Language → Bool
+all_lack k [] = true
+all_lack k (a ∷ others) = not (mentions k a) && all_lack k others
+
+lack_parts : (x y : Bool) → (not x && y) ≡ true → (x ≡ false) × (y ≡ true)
+lack_parts false y e = (refl, e)
+lack_parts true y e = absurd cc
+
+-- the records behind parts in turn with no BGNSTR
+peel_all : (before : List Language) (b : Language) (rs : List Record) → all_lack 5 before ≡ true → Peeled (in_turn before b) rs → Peeled b rs
+peel_all [] b rs e p = p
+peel_all (a ∷ before) b rs e p =
+    let q = lack_parts (mentions 5 a) (all_lack 5 before) e in
+    peel_all before b rs q.1 (peel a (in_turn before b) rs q.0 p)
+
+-- the structures of a library, and its end
 abbrev body : Language → Language
 body each = Then (Many (structure_of_each each)) (One 4)
-
-abbrev from_units : Language → Language
-from_units each = Then (One 3) (body each)
-
-abbrev from_generations : Language → Language
-from_generations each = Then (maybe (One 0x22)) (from_units each)
-
-abbrev from_table : Language → Language
-from_table each = Then (maybe (One 0x23)) (from_generations each)
-
-abbrev from_fonts : Language → Language
-from_fonts each = Then (maybe (One 0x20)) (from_table each)
-
-abbrev from_libraries : Language → Language
-from_libraries each = Then (maybe (One 0x1F)) (from_fonts each)
-
-abbrev from_name : Language → Language
-from_name each = Then (One 2) (from_libraries each)
 
 module _ (each : Language) (last : ends_with 17 each ≡ true) (closed : mentions 7 each ≡ false) (flat : mentions 5 each ≡ false) where
   body_shaped : (rs : List Record) → Peeled (body each) rs → AllByRecursion (IsShapedIn each) (starts rs)
@@ -357,15 +355,7 @@ module _ (each : Language) (last : ends_with 17 each ≡ true) (closed : mention
 
   pub shaped_in : (rs : List Record) → Speaks (stream_of_each each) (kinds rs) → AllByRecursion (IsShapedIn each) (starts rs)
   shaped_in rs h =
-      body_shaped rs
-      (peel (One 3) (body each) rs refl
-      (peel (maybe (One 0x22)) (from_units each) rs refl
-      (peel (maybe (One 0x23)) (from_generations each) rs refl
-      (peel (maybe (One 0x20)) (from_table each) rs refl
-      (peel (maybe (One 0x1F)) (from_fonts each) rs refl
-      (peel (One 2) (from_libraries each) rs refl
-      (peel (One 1) (from_name each) rs refl
-      (peel (One 0) (Then (One 1) (from_name each)) rs refl (record { rest = rs; others = h; same_starts = refl })))))))))
+      body_shaped rs (peel_all library_front (body each) rs refl (record { rest = rs; others = h; same_starts = refl }))
 
 -- ---- strict streams
 

@@ -1,6 +1,6 @@
 // Parts of the element that some records say.
 ghost use Rattle.std.specs.Prelude.{◌≡◌, IfOk};
-ghost use Rattle.gds_records.specs.Codes.{LAYER, STRING};
+ghost use Rattle.gds_records.specs.declared.codes.TheConstants.{LAYER, STRING};
 ghost use Rattle.gds_records.specs.Records.{number, trimmed};
 ghost use Rattle.gds_records.specs.Drawing.{field, coordinate, place_of};
 ghost use Rattle.gds_read.specs.Code.Decoding.{IsSpelled, records_in};

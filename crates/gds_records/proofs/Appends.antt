@@ -2,7 +2,7 @@
 use Rattle.std.proofs.Common.{◌≡◌, ℕ, ℤ, List, [], ◌++◌, sym, ap, ◌∙◌, append_assoc, append-nil}
 use Rattle.std.specs.Int.{w32, to_be_bytes, cast_unsigned}
 use Rattle.geom.specs.Rectangle.{Rectangle}
-use Rattle.gds_records.specs.Codes.{XY, FOUR_BYTE_INTEGER, ASCII_STRING}
+use Rattle.gds_records.specs.declared.codes.TheConstants.{XY, FOUR_BYTE_INTEGER, ASCII_STRING}
 use Rattle.gds_records.specs.Records.{record_with, spelled}
 use Rattle.gds_records.specs.Writing.{corner_bits, corners, point, padded}
 use Rattle.gds_records.specs.Buffer.{Gains}

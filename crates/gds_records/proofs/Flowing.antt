@@ -17,7 +17,7 @@ use Rattle.geom.specs.Writable.{names_in}
 use Rattle.geom.specs.declared.layout.Element.{Element}
 use Rattle.geom.specs.declared.layout.Structure.{Structure}
 use Rattle.geom.specs.declared.layout.Layout.{Layout}
-use Rattle.gds_records.specs.Codes.{BGNSTR, STRNAME, ENDSTR, ENDLIB, NO_DATA, TWO_BYTE_INTEGER, ASCII_STRING}
+use Rattle.gds_records.specs.declared.codes.TheConstants.{BGNSTR, STRNAME, ENDSTR, ENDLIB, NO_DATA, TWO_BYTE_INTEGER, ASCII_STRING}
 use Rattle.gds_records.specs.Records.{Record, record_with, spelled}
 use Rattle.gds_records.specs.Writing.{padded, dates, element_records, structure_records, library_head, bytes_of}
 use Rattle.gds_records.specs.Buffer.{Gains}

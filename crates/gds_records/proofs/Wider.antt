@@ -8,8 +8,8 @@ use Rattle.std.proofs.lemmas.List.{append-nil}
 use Rattle.gds_records.specs.declared.fault.StreamKind.{StreamKind}
 use Rattle.gds_records.specs.declared.fault.StreamKind.TheVariants.{Unsupported, UnknownName}
 use Rattle.gds_records.specs.Language.{Language, One, Then, Many, Speaks, Repeats, none, more}
-use Rattle.gds_records.specs.Codes.{HEADER, BGNLIB, LIBNAME, UNITS, ENDLIB, REFLIBS, FONTS, ATTRTABLE, GENERATIONS, ELFLAGS, PLEX, SREF, SNAME, STRANS, XY, BGNSTR, STRNAME, ENDSTR}
-use Rattle.gds_records.specs.Grammar.{◌>>◌, maybe, tail, reference, turned, element, turned_reference, wide_element, structure_of_each, stream, wide_stream}
+use Rattle.gds_records.specs.declared.codes.TheConstants.{ENDLIB, ELFLAGS, PLEX, SREF, SNAME, STRANS, XY, BGNSTR, STRNAME, ENDSTR}
+use Rattle.gds_records.specs.Grammar.{◌>>◌, maybe, tail, reference, turned, element, turned_reference, wide_element, structure_of_each, in_turn, library_front, stream, wide_stream}
 use Rattle.gds_records.specs.Records.{Record, same}
 use Rattle.gds_records.specs.Whole.{Use, Outline, is_used, all_uses, unknown, deep, tops, top_fault, outlines, last_place, whole_fault}
 use Rattle.gds_records.specs.WideWhole.{uses_by, some_use, goes_down, leads, first_loop, first_long, first_of, wide_whole_fault}
@@ -58,10 +58,13 @@ element_within = record { says = turn }
 structure_within : Within (structure_of_each element) (structure_of_each wide_element)
 structure_within = second (One BGNSTR) (second (One STRNAME) (in_then (in_many element_within) (itself (One ENDSTR))))
 
+-- behind languages in turn
+seconds : {b d : Language} (before : List Language) → Within b d → Within (in_turn before b) (in_turn before d)
+seconds [] g = g
+seconds (a ∷ before) g = second a (seconds before g)
+
 stream_within : Within stream wide_stream
-stream_within =
-    second (One HEADER) (second (One BGNLIB) (second (One LIBNAME) (second (maybe (One REFLIBS)) (second (maybe (One FONTS)) (second (maybe (One ATTRTABLE)) (second (maybe (One GENERATIONS)) (second (One UNITS)
-    (in_then (in_many structure_within) (itself (One ENDLIB))))))))))
+stream_within = seconds library_front (in_then (in_many structure_within) (itself (One ENDLIB)))
 
 pub sentence_within : (w : List ℕ) → Speaks stream w → Speaks wide_stream w
 sentence_within w h = stream_within.says w h

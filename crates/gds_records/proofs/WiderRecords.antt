@@ -8,10 +8,12 @@ use Rattle.std.proofs.lemmas.List.{map-append}
 use Rattle.gds_records.specs.declared.fault.StreamKind.{StreamKind}
 use Rattle.gds_records.specs.declared.fault.StreamKind.TheVariants.{Unsupported, NotRectangle, Value}
 use Rattle.gds_records.specs.Language.{Language, Nothing, Empty, One, Then, Either, Many, Speaks, Repeats, none, more}
-use Rattle.gds_records.specs.Codes.{HEADER, BGNLIB, LIBNAME, UNITS, ENDLIB, REFLIBS, FONTS, ATTRTABLE, GENERATIONS, BGNSTR, STRNAME, ENDSTR, PATH, AREF, TEXT, COLROW, NO_DATA, TWO_BYTE_INTEGER}
-use Rattle.gds_records.specs.Grammar.{maybe, boundary, reference, stream}
+use Rattle.gds_records.specs.declared.codes.TheConstants.{ENDLIB, BGNSTR, STRNAME, ENDSTR, PATH, AREF, TEXT, COLROW, NO_DATA, TWO_BYTE_INTEGER}
+use Rattle.gds_records.specs.Grammar.{in_turn, library_front, boundary, reference, stream}
 use Rattle.gds_records.specs.Records.{Record, kinds, trimmed}
-use Rattle.gds_records.specs.Table.{Entry, Exactly, entry, entry_of, is_among, table, wide_table, known_in}
+use Rattle.gds_records.specs.declared.table.Entry.{Entry}
+use Rattle.gds_records.specs.declared.table.Lengths.TheVariants.{Exactly}
+use Rattle.gds_records.specs.Table.{entry_of, is_among, table, wide_table, known_in}
 use Rattle.gds_records.specs.Values.{at, unsigned_value, is_rectangle, is_structure_name, has_value, opener, value_fault_in}
 use Rattle.gds_records.specs.WideValues.{points, is_flip, is_one, is_turn, is_ring, is_path, is_lattice, columns, rows, is_width, is_colrow, wide_opener, last_colrow, rule, refers, wide_fault_in}
 use Rattle.gds_records.specs.WideDrawing.{AreFit}
@@ -132,13 +134,23 @@ by_kinds a e = record { says = λ w h last. quiet_calm w last (words_pass (λ k.
 in_text : (b : Language) → each_passes (λ k. not (opens k)) b ≡ true → Calm (Then (One TEXT) b)
 in_text b e = record { says = λ w h last. ap (λ (x : List ℕ). calm last x) (h.2 ∙ ap (λ (x : List ℕ). x ++ h.1) h.3) ∙ and_both (not (false && eqb last 0x0A)) (calm 0x0C h.1) refl (text_calm h.1 (words_pass (λ k. not (opens k)) b h.1 e h.4)) }
 
+abbrev all_quiet : List Language → Bool
+all_quiet [] = true
+all_quiet (a ∷ others) = each_passes (λ k. not (turns k)) a && all_quiet others
+
+-- behind languages in turn that have no such records
+calm_behind : {b : Language} (before : List Language) → all_quiet before ≡ true → Calm b → Calm (in_turn before b)
+calm_behind [] e f = f
+calm_behind (a ∷ before) e f =
+    let p = and_so (each_passes (λ k. not (turns k)) a) (all_quiet before) e in
+    calm_then (by_kinds a p.0) (calm_behind before p.1 f)
+
 stream_calm : Calm stream
 stream_calm =
-    calm_then (by_kinds (One HEADER) refl) (calm_then (by_kinds (One BGNLIB) refl) (calm_then (by_kinds (One LIBNAME) refl) (calm_then (by_kinds (maybe (One REFLIBS)) refl) (calm_then (by_kinds (maybe (One FONTS)) refl)
-    (calm_then (by_kinds (maybe (One ATTRTABLE)) refl) (calm_then (by_kinds (maybe (One GENERATIONS)) refl) (calm_then (by_kinds (One UNITS) refl)
+    calm_behind library_front refl
     (calm_then (calm_many (calm_then (by_kinds (One BGNSTR) refl) (calm_then (by_kinds (One STRNAME) refl)
     (calm_then (calm_many (calm_either (by_kinds boundary refl) (calm_either (by_kinds reference refl) (in_text _ refl)))) (by_kinds (One ENDSTR) refl)))))
-    (by_kinds (One ENDLIB) refl)))))))))
+    (by_kinds (One ENDLIB) refl))
 
 opener_kinds : (last : ℕ) (rs : List Record) → opener last rs ≡ opened last (kinds rs)
 opener_kinds last [] = refl
@@ -185,11 +197,15 @@ skip_entry e es k h = turn (eqb e.kind k) h
 flip_eqb : (k n : ℕ) → eqb k n ≡ false → eqb n k ≡ false
 flip_eqb k n h = grind (arith, nat_tests)
 
+-- a row of one length
+abbrev row : ℕ → ℕ → ℕ → Entry
+row kind form length = record { kind = kind; form = form; lengths = Exactly length }
+
 same_entry : (k : ℕ) → IsOld k → entry_of k wide_table ≡ entry_of k table
 same_entry k o =
-    skip_entry (entry PATH NO_DATA (Exactly 4)) (entry AREF NO_DATA (Exactly 4) ∷ entry COLROW TWO_BYTE_INTEGER (Exactly 8) ∷ table) k (flip_eqb k 0x09 o.path)
-    ∙ skip_entry (entry AREF NO_DATA (Exactly 4)) (entry COLROW TWO_BYTE_INTEGER (Exactly 8) ∷ table) k (flip_eqb k 0x0B o.array)
-    ∙ skip_entry (entry COLROW TWO_BYTE_INTEGER (Exactly 8)) table k (flip_eqb k 0x13 o.colrow)
+    skip_entry (row PATH NO_DATA 4) (row AREF NO_DATA 4 ∷ row COLROW TWO_BYTE_INTEGER 8 ∷ table) k (flip_eqb k 0x09 o.path)
+    ∙ skip_entry (row AREF NO_DATA 4) (row COLROW TWO_BYTE_INTEGER 8 ∷ table) k (flip_eqb k 0x0B o.array)
+    ∙ skip_entry (row COLROW TWO_BYTE_INTEGER 8) table k (flip_eqb k 0x13 o.colrow)
 
 -- ---- values
 

@@ -6,7 +6,8 @@ use Rattle.geom.specs.Rectangle.{Rectangle}
 use Rattle.geom.specs.declared.layout.Element.{Element}
 use Rattle.geom.specs.declared.layout.Element.TheVariants.{Box, Place, Text}
 use Rattle.geom.specs.declared.layout.Structure.{Structure}
-use Rattle.gds_records.specs.Codes.{BGNSTR, STRNAME, ENDSTR, BOUNDARY, SREF, LAYER, DATATYPE, XY, ENDEL, SNAME, STRING}
+use Rattle.gds_records.specs.declared.codes.TheConstants.{BGNSTR, STRNAME, ENDSTR, BOUNDARY, SREF, LAYER, DATATYPE, XY}
+use Rattle.gds_records.specs.declared.codes.TheConstants.{ENDEL, SNAME, STRING}
 use Rattle.gds_records.specs.Records.{Record, number, trimmed, same}
 use Rattle.gds_records.specs.Values.{is_rectangle}
 

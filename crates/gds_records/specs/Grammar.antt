@@ -1,10 +1,12 @@
 -- The grammar of streams, over record types (GDSII Stream Format manual, the syntax of a stream; here for libraries of
 -- boundaries, references and texts).
+use Rattle.std.specs.Prelude.{List, [], ◌∷◌}
 use Rattle.gds_records.specs.Language.{Language, Empty, One, Then, Either, Many}
-use Rattle.gds_records.specs.Codes.{HEADER, BGNLIB, LIBNAME, UNITS, ENDLIB, BGNSTR, STRNAME, ENDSTR, BOUNDARY, SREF}
-use Rattle.gds_records.specs.Codes.{TEXT, LAYER, DATATYPE, WIDTH, XY, ENDEL, SNAME, TEXTTYPE, PRESENTATION, STRING}
-use Rattle.gds_records.specs.Codes.{STRANS, MAG, ANGLE, REFLIBS, FONTS, PATHTYPE, GENERATIONS, ATTRTABLE, ELFLAGS}
-use Rattle.gds_records.specs.Codes.{PROPATTR, PROPVALUE, PLEX, PATH, AREF, COLROW}
+use Rattle.gds_records.specs.declared.codes.TheConstants.{HEADER, BGNLIB, LIBNAME, UNITS, ENDLIB, BGNSTR, STRNAME}
+use Rattle.gds_records.specs.declared.codes.TheConstants.{ENDSTR, BOUNDARY, SREF, TEXT, LAYER, DATATYPE, WIDTH, XY}
+use Rattle.gds_records.specs.declared.codes.TheConstants.{ENDEL, SNAME, TEXTTYPE, PRESENTATION, STRING, STRANS, MAG}
+use Rattle.gds_records.specs.declared.codes.TheConstants.{ANGLE, REFLIBS, FONTS, PATHTYPE, GENERATIONS, ATTRTABLE}
+use Rattle.gds_records.specs.declared.codes.TheConstants.{ELFLAGS, PROPATTR, PROPVALUE, PLEX, PATH, AREF, COLROW}
 
 infixr 5 ◌>>◌
 -- one language after another
@@ -48,10 +50,19 @@ element = Either boundary (Either reference text)
 abbrev pub structure_of_each : Language → Language
 structure_of_each each = One BGNSTR >> One STRNAME >> Many each >> One ENDSTR
 
+-- languages in turn, and then another
+abbrev pub in_turn : List Language → Language → Language
+in_turn [] last = last
+in_turn (a ∷ others) last = a >> in_turn others last
+
+-- what a library begins with
+abbrev pub library_front : List Language
+library_front = One HEADER ∷ One BGNLIB ∷ One LIBNAME ∷ maybe (One REFLIBS) ∷ maybe (One FONTS) ∷ maybe (One ATTRTABLE)
+    ∷ maybe (One GENERATIONS) ∷ One UNITS ∷ []
+
 -- a stream of such elements
 abbrev pub stream_of_each : Language → Language
-stream_of_each each = One HEADER >> One BGNLIB >> One LIBNAME >> maybe (One REFLIBS) >> maybe (One FONTS)
-    >> maybe (One ATTRTABLE) >> maybe (One GENERATIONS) >> One UNITS >> Many (structure_of_each each) >> One ENDLIB
+stream_of_each each = in_turn library_front (Many (structure_of_each each) >> One ENDLIB)
 
 -- a structure of a strict stream
 abbrev pub structure : Language

@@ -9,7 +9,7 @@ use Rattle.gds_records.specs.declared.fault.StreamKind.TheVariants.{Truncated, L
 use Rattle.gds_records.specs.declared.fault.StreamKind.TheVariants.{Value}
 use Rattle.gds_records.specs.Language.{Language, Nothing, Empty, One, Then, Either, Many, Speaks}
 use Rattle.gds_records.specs.Derivative.{after, after_all}
-use Rattle.gds_records.specs.Codes.{ENDLIB}
+use Rattle.gds_records.specs.declared.codes.TheConstants.{ENDLIB}
 use Rattle.gds_records.specs.Records.{Record, record_with, spelled, kinds}
 use Rattle.gds_records.specs.Table.{known_in, has_form_in, has_length_in}
 use Rattle.gds_records.specs.Profiles.{Profile, value_fault_of}

@@ -5,7 +5,8 @@ use Rattle.gds_records.specs.declared.fault.StreamKind.{StreamKind}
 use Rattle.gds_records.specs.Language.{Language}
 use Rattle.gds_records.specs.Records.{Record, trimmed}
 use Rattle.gds_records.specs.Grammar.{stream, wide_stream}
-use Rattle.gds_records.specs.Table.{Entry, table, wide_table}
+use Rattle.gds_records.specs.declared.table.Entry.{Entry}
+use Rattle.gds_records.specs.Table.{table, wide_table}
 use Rattle.gds_records.specs.Values.{opener, is_structure_name, value_fault_in}
 use Rattle.gds_records.specs.Whole.{whole_fault}
 use Rattle.gds_records.specs.WideValues.{wide_opener, last_colrow, wide_fault_in}

@@ -5,7 +5,7 @@ use Rattle.std.specs.List.{flat_map}
 use Rattle.gds_records.specs.declared.fault.StreamKind.{StreamKind}
 use Rattle.gds_records.specs.Language.{Language}
 use Rattle.gds_records.specs.Derivative.{after}
-use Rattle.gds_records.specs.Codes.{ENDLIB, STRNAME}
+use Rattle.gds_records.specs.declared.codes.TheConstants.{ENDLIB, STRNAME}
 use Rattle.gds_records.specs.Records.{Record, spelled, trimmed, same}
 use Rattle.gds_records.specs.WideValues.{last_colrow}
 use Rattle.gds_records.specs.Profiles.{Profile}

@@ -5,7 +5,8 @@ use Rattle.std.specs.Prelude.{take, drop, slice_index, Option, Some, None}
 use Rattle.std.specs.Int.{w32, from_be_bytes}
 use Rattle.gds_records.specs.declared.fault.StreamKind.{StreamKind}
 use Rattle.gds_records.specs.declared.fault.StreamKind.TheVariants.{Value, Unsupported, NotRectangle}
-use Rattle.gds_records.specs.Codes.{LIBNAME, UNITS, STRNAME, BOUNDARY, SREF, TEXT, XY, SNAME, STRING, STRANS}
+use Rattle.gds_records.specs.declared.codes.TheConstants.{LIBNAME, UNITS, STRNAME, BOUNDARY, SREF, TEXT, XY, SNAME}
+use Rattle.gds_records.specs.declared.codes.TheConstants.{STRING, STRANS}
 use Rattle.gds_records.specs.Records.{Record, trimmed, same}
 
 -- BOUNDARY, SREF or TEXT, whichever came last

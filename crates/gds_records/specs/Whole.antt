@@ -4,7 +4,7 @@ use Rattle.std.specs.Prelude.{ℕ, suc, ◌+◌, ◌==◌, ◌&&◌, ◌||◌, n
 use Rattle.std.specs.Prelude.{Option, Some, None}
 use Rattle.gds_records.specs.declared.fault.StreamKind.{StreamKind}
 use Rattle.gds_records.specs.declared.fault.StreamKind.TheVariants.{Unsupported, UnknownName, NoTop, SeveralTops}
-use Rattle.gds_records.specs.Codes.{ENDLIB, BGNSTR, ENDSTR, SNAME}
+use Rattle.gds_records.specs.declared.codes.TheConstants.{ENDLIB, BGNSTR, ENDSTR, SNAME}
 use Rattle.gds_records.specs.Records.{Record, trimmed, same}
 use Rattle.gds_records.specs.Drawing.{name_of}
 

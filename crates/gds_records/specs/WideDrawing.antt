@@ -10,8 +10,8 @@ use Rattle.poly_cut.specs.declared.layout.Item.{Item}
 use Rattle.poly_cut.specs.declared.layout.Item.TheVariants.{Draw, Place, Text}
 use Rattle.poly_cut.specs.declared.layout.WideStructure.{WideStructure}
 use Rattle.poly_cut.specs.Turns.{point}
-use Rattle.gds_records.specs.Codes.{BOUNDARY, PATH, SREF, AREF, LAYER, DATATYPE, XY, SNAME, STRING, STRANS, ANGLE}
-use Rattle.gds_records.specs.Codes.{PATHTYPE, WIDTH, COLROW}
+use Rattle.gds_records.specs.declared.codes.TheConstants.{BOUNDARY, PATH, SREF, AREF, LAYER, DATATYPE, XY, SNAME}
+use Rattle.gds_records.specs.declared.codes.TheConstants.{STRING, STRANS, ANGLE, PATHTYPE, WIDTH, COLROW}
 use Rattle.gds_records.specs.Records.{Record, number, trimmed}
 use Rattle.std.specs.List.{AllByRecursion}
 use Rattle.gds_records.specs.Values.{unsigned_value, at}

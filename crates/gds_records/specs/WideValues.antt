@@ -7,7 +7,8 @@ use Rattle.poly_cut.specs.declared.layout.Point.{Point}
 use Rattle.poly_cut.specs.Cuts.{ring_cut}
 use Rattle.gds_records.specs.declared.fault.StreamKind.{StreamKind}
 use Rattle.gds_records.specs.declared.fault.StreamKind.TheVariants.{Value, Unsupported, NotRectangle}
-use Rattle.gds_records.specs.Codes.{BOUNDARY, PATH, SREF, AREF, TEXT, XY, STRANS, MAG, ANGLE, PATHTYPE, WIDTH, COLROW}
+use Rattle.gds_records.specs.declared.codes.TheConstants.{BOUNDARY, PATH, SREF, AREF, TEXT, XY, STRANS, MAG, ANGLE}
+use Rattle.gds_records.specs.declared.codes.TheConstants.{PATHTYPE, WIDTH, COLROW}
 use Rattle.gds_records.specs.Records.{Record, number}
 use Rattle.gds_records.specs.Values.{unsigned_value, has_value}
 use Rattle.gds_records.specs.Drawing.{coordinate}

@@ -8,9 +8,10 @@ use Rattle.geom.specs.declared.layout.Element.{Element}
 use Rattle.geom.specs.declared.layout.Element.TheVariants.{Box, Place, Text}
 use Rattle.geom.specs.declared.layout.Structure.{Structure}
 use Rattle.geom.specs.declared.layout.Layout.{Layout}
-use Rattle.gds_records.specs.Codes.{HEADER, BGNLIB, LIBNAME, UNITS, ENDLIB, BGNSTR, STRNAME, ENDSTR, BOUNDARY, SREF}
-use Rattle.gds_records.specs.Codes.{TEXT, LAYER, DATATYPE, XY, ENDEL, SNAME, TEXTTYPE, STRING, NO_DATA}
-use Rattle.gds_records.specs.Codes.{TWO_BYTE_INTEGER, FOUR_BYTE_INTEGER, EIGHT_BYTE_REAL, ASCII_STRING}
+use Rattle.gds_records.specs.declared.codes.TheConstants.{HEADER, BGNLIB, LIBNAME, UNITS, ENDLIB, BGNSTR, STRNAME}
+use Rattle.gds_records.specs.declared.codes.TheConstants.{ENDSTR, BOUNDARY, SREF, TEXT, LAYER, DATATYPE, XY, ENDEL}
+use Rattle.gds_records.specs.declared.codes.TheConstants.{SNAME, TEXTTYPE, STRING, NO_DATA, TWO_BYTE_INTEGER}
+use Rattle.gds_records.specs.declared.codes.TheConstants.{FOUR_BYTE_INTEGER, EIGHT_BYTE_REAL, ASCII_STRING}
 use Rattle.gds_records.specs.Records.{Record, record_with, spelled}
 
 -- a number below 65,536 as two bytes, the high one first

@@ -1,6 +1,6 @@
 -- Structures in outline, as a reader keeps them.
 use Rattle.std.specs.Prelude.{ℕ, List, [], ◌∷◌, ◌==◌, true, false, map}
-use Rattle.gds_records.specs.Codes.{SNAME}
+use Rattle.gds_records.specs.declared.codes.TheConstants.{SNAME}
 use Rattle.gds_records.specs.Records.{Record, trimmed}
 use Rattle.gds_records.specs.Whole.{Use, Outline}
 use Rattle.gds_read.specs.declared.outline.NamedUse.{NamedUse}

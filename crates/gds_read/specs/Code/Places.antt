@@ -1,8 +1,8 @@
 -- What may follow at each place of a reader, by the grammar of wide streams.
 use Rattle.gds_records.specs.Language.{Language, Empty, One, Then, Many}
-use Rattle.gds_records.specs.Codes.{BGNLIB, LIBNAME, UNITS, ENDLIB, STRNAME, ENDSTR, LAYER, DATATYPE, WIDTH, XY, ENDEL}
-use Rattle.gds_records.specs.Codes.{SNAME, TEXTTYPE, PRESENTATION, STRING, STRANS, MAG, ANGLE, REFLIBS, FONTS, PATHTYPE}
-use Rattle.gds_records.specs.Codes.{GENERATIONS, ATTRTABLE, PROPATTR, PROPVALUE, PLEX, COLROW}
+use Rattle.gds_records.specs.declared.codes.TheConstants.{BGNLIB, LIBNAME, UNITS, ENDLIB, STRNAME, ENDSTR, LAYER, DATATYPE, WIDTH, XY, ENDEL}
+use Rattle.gds_records.specs.declared.codes.TheConstants.{SNAME, TEXTTYPE, PRESENTATION, STRING, STRANS, MAG, ANGLE, REFLIBS, FONTS, PATHTYPE}
+use Rattle.gds_records.specs.declared.codes.TheConstants.{GENERATIONS, ATTRTABLE, PROPATTR, PROPVALUE, PLEX, COLROW}
 use Rattle.gds_records.specs.Grammar.{◌>>◌, maybe, tail, flags, turned, wide_element, structure_of_each, wide_stream}
 use Rattle.gds_read.specs.declared.place.Place.{Place}
 use Rattle.gds_read.specs.declared.place.Place.TheVariants as places
