@@ -9,10 +9,10 @@ use Rattle.gds_records.specs.Records.{Record, spelled}
 use Rattle.gds_records.specs.Drawing.{starts, name_of, names_of}
 use Rattle.gds_records.specs.Whole.{Use, Outline, is_used, outlines, tops, top_in, top_fault}
 use Rattle.gds_records.specs.WideWhole.{wide_whole_fault}
-use Rattle.gds_records.specs.Profiled.{AreGoodIn, are_zero, IsReadIn, IsFirstFaultIn, at_end, zeros_before}
+use Rattle.gds_records.specs.Profiled.{AreGoodIn, are_zero, IsReadIn, zeros_before}
 use Rattle.gds_records.specs.Profiled.{Scanned, Faulty, Whole, Unfinished, scan_in, found_in, first_fault_in}
 use Rattle.gds_records.specs.Steps.{Stopped, Ended, all_steps, told}
-use Rattle.gds_read.specs.Code.Decoding.{IsShortRecord, IsSpelled, records_in}
+use Rattle.gds_read.specs.Code.Decoding.{IsShortRecord, IsSpelled}
 use Rattle.gds_read.specs.Code.Bodies.{IsBody}
 use Rattle.gds_read.proofs.Decoded.{records_are}
 
@@ -73,22 +73,6 @@ module _ (bytes : List ℕ) (law : all_steps wide bytes ≡ told (scan_in wide (
       }
 
 -- ---- the whole stream
-
-fault_at_end : (t : Bool) (f : Option (ℕ × StreamKind)) (p q : ℕ × StreamKind) → t ≡ true → f ≡ Some q → (elim t as (λ (x : Bool). Option (ℕ × StreamKind)) [ false ↦ Some p | true ↦ f ]) ≡ Some q
-fault_at_end true f p q e g = g
-fault_at_end false f p q e g = absurd cc
-
-pub faulty_whole : (bytes : List ℕ) (end offset : ℕ) (kind : StreamKind) → IsBody bytes end
-    → wide_whole_fault (records_in (take end bytes)) ≡ Some (offset, kind) → IsFirstFaultIn wide bytes offset kind
-faulty_whole bytes end offset kind b e =
-    let rs = records_in (take end bytes) in
-    at_end (record {
-      records = rs;
-      rest = drop end bytes;
-      read = b.read;
-      fault = fault_at_end (are_zero (drop end bytes)) (wide_whole_fault rs)
-          (length (flat_map spelled rs) + zeros_before (drop end bytes), Value) (offset, kind) b.zeros e;
-    })
 
 -- ---- the layout
 

@@ -1,6 +1,6 @@
 -- The conditions on the whole stream, structure by structure.
-use Rattle.std.proofs.Common.{◌≡◌, ℕ, suc, ◌+◌, ◌<◌, List, [], ◌∷◌, ◌++◌, map, take, drop, length, Bool, true, false, cond, ◌||◌, Option, Some, None, Bor, refl, sym, ap, ◌∙◌, arith, append_assoc}
-use Rattle.std.specs.Prelude.{is_some, is_none, slice_index_or}
+use Rattle.std.proofs.Common.{◌≡◌, ℕ, ◌+◌, ◌<◌, List, [], ◌∷◌, ◌++◌, map, take, drop, length, Bool, true, false, cond, ◌||◌, Option, Some, None, Bor, refl, sym, ap, ◌∙◌, append_assoc}
+use Rattle.std.specs.Prelude.{slice_index_or}
 use Rattle.std.specs.List.{list_any}
 use Rattle.std.specs.Str.{bytes_eq}
 use Rattle.indexmap.specs.IndexSet.{insert_key}
@@ -13,12 +13,11 @@ use Rattle.gds_records.specs.Whole.{Use, Outline, is_used, all_uses, outlines, l
 use Rattle.gds_records.specs.WideWhole.{first_of, first_loop, first_long, wide_outlines_fault, wide_whole_fault}
 use Rattle.gds_read.specs.declared.outline.NamedUse.{NamedUse}
 use Rattle.gds_read.specs.declared.outline.NamedOutline.{NamedOutline}
-use Rattle.gds_read.specs.declared.conditions.Tops.{Tops}
 use Rattle.gds_read.specs.declared.conditions.Tops.TheVariants.{Nothing, One, Several}
 use Rattle.gds_read.specs.Code.Outlining.{use_of, outline_of}
 use Rattle.gds_read.specs.Code.Numbering.{AreUsed, number_in, IsNumbering, unnumbered}
 use Rattle.gds_read.specs.Code.Chains.{or_else, loop_or_long}
-use Rattle.gds_read.specs.Code.Tops.{told_tops, further_tops}
+use Rattle.gds_read.specs.Code.Tops.{told_tops}
 use Rattle.gds_read.proofs.Named.{listed_any, same_texts}
 use Rattle.gds_read.proofs.Numbering.{unknown_so}
 use Rattle.gds_read.proofs.Items.{next_item, one_more}
@@ -77,26 +76,6 @@ used_more ss i s old new h q used add t =
 -- ---- the first unknown name
 
 module _ (f : List ℕ → Option ℕ) where
-  here_none : (o r : Option ℕ) (p : ℕ) → is_none o ≡ true → (elim o as (λ (x : Option ℕ). Option ℕ) [ Some n ↦ r | None ↦ Some p ]) ≡ Some p
-  here_none (Some n) r p e = absurd cc
-  here_none None r p e = refl
-
-  here_some : (o r : Option ℕ) (p : ℕ) → is_none o ≡ false → (elim o as (λ (x : Option ℕ). Option ℕ) [ Some n ↦ r | None ↦ Some p ]) ≡ r
-  here_some (Some n) r p e = refl
-  here_some None r p e = absurd cc
-
-  pub unknown_here : (us : List NamedUse) (i : ℕ) (u : NamedUse) (o total : Option ℕ) → i < length us → u ≡ slice_index_or us i u → unnumbered f (map use_of (drop i us)) ≡ total
-      → o ≡ f u.name.now → is_none o ≡ true → Some u.place ≡ total
-  unknown_here us i u o total h q e w n =
-      sym (here_none (f u.name.now) (unnumbered f (map use_of (drop (i + 1) us))) u.place (ap (λ (x : Option ℕ). is_none x) (sym w) ∙ n))
-      ∙ ap (λ (x : List NamedUse). unnumbered f (map use_of x)) (sym (next_item us i u h q)) ∙ e
-
-  pub unknown_next : (us : List NamedUse) (i : ℕ) (u : NamedUse) (o total : Option ℕ) → i < length us → u ≡ slice_index_or us i u → unnumbered f (map use_of (drop i us)) ≡ total
-      → o ≡ f u.name.now → is_none o ≡ false → unnumbered f (map use_of (drop (i + 1) us)) ≡ total
-  unknown_next us i u o total h q e w n =
-      sym (here_some (f u.name.now) (unnumbered f (map use_of (drop (i + 1) us))) u.place (ap (λ (x : Option ℕ). is_none x) (sym w) ∙ n))
-      ∙ ap (λ (x : List NamedUse). unnumbered f (map use_of x)) (sym (next_item us i u h q)) ∙ e
-
   unnumbered_append : (a b : List Use) → unnumbered f (a ++ b) ≡ or_else (unnumbered f a) (unnumbered f b)
   unnumbered_append [] b = refl
   unnumbered_append (u ∷ a) b = turn (f u.name) (unnumbered_append a b)
@@ -120,48 +99,6 @@ module _ (f : List ℕ → Option ℕ) where
       → None ≡ unnumbered f (map use_of s.uses) → unnumbered f (all_uses (map outline_of (drop (i + 1) ss))) ≡ total
   unknown_later ss i s total h q e w =
       ap (λ (x : Option ℕ). or_else x (unnumbered f (all_uses (map outline_of (drop (i + 1) ss))))) w ∙ sym (split_first ss i s h q) ∙ e
-
--- ---- the tops
-
-module _ (used : List (List ℕ)) (us : List Use) (are : AreUsed used us) (ss : List NamedOutline) (i : ℕ) (s : NamedOutline) (h : i < length ss) (q : s ≡ slice_index_or ss i s) where
-  tops_is : (b : Bool) (r : List (ℕ × ℕ)) (n : ℕ) → b ≡ false → (elim b as (λ (x : Bool). List (ℕ × ℕ)) [ true ↦ r | false ↦ (n, s.place) ∷ r ]) ≡ (n, s.place) ∷ r
-  tops_is true r n e = absurd cc
-  tops_is false r n e = refl
-
-  tops_not : (b : Bool) (r : List (ℕ × ℕ)) (n : ℕ) → b ≡ true → (elim b as (λ (x : Bool). List (ℕ × ℕ)) [ true ↦ r | false ↦ (n, s.place) ∷ r ]) ≡ r
-  tops_not true r n e = refl
-  tops_not false r n e = absurd cc
-
-  next_number : suc i ≡ i + 1
-  next_number = omega arith
-
-  tops_here : (b : Bool) → b ≡ is_listed s.name.now used → b ≡ false → tops i us (map outline_of (drop i ss)) ≡ (i, s.place) ∷ tops (i + 1) us (map outline_of (drop (i + 1) ss))
-  tops_here b w t =
-      ap (λ (x : List NamedOutline). tops i us (map outline_of x)) (next_item ss i s h q)
-      ∙ tops_is (is_used s.name.now us) (tops (suc i) us (map outline_of (drop (i + 1) ss))) i (sym (are s.name.now) ∙ sym w ∙ t)
-      ∙ ap (λ (k : ℕ). (i, s.place) ∷ tops k us (map outline_of (drop (i + 1) ss))) next_number
-
-  pub tops_skip : (first : Option ℕ) (total : Tops) (b : Bool) → further_tops first (tops i us (map outline_of (drop i ss))) ≡ total → b ≡ is_listed s.name.now used → b ≡ true
-      → further_tops first (tops (i + 1) us (map outline_of (drop (i + 1) ss))) ≡ total
-  tops_skip first total b e w t =
-      ap (λ (x : List (ℕ × ℕ)). further_tops first x)
-      (ap (λ (k : ℕ). tops k us (map outline_of (drop (i + 1) ss))) (sym next_number)
-      ∙ sym (tops_not (is_used s.name.now us) (tops (suc i) us (map outline_of (drop (i + 1) ss))) i (sym (are s.name.now) ∙ sym w ∙ t))
-      ∙ ap (λ (x : List NamedOutline). tops i us (map outline_of x)) (sym (next_item ss i s h q)))
-      ∙ e
-
-  pub tops_first : (first : Option ℕ) (total : Tops) (b : Bool) → further_tops first (tops i us (map outline_of (drop i ss))) ≡ total → b ≡ is_listed s.name.now used → b ≡ false → is_some first ≡ false
-      → further_tops (Some i) (tops (i + 1) us (map outline_of (drop (i + 1) ss))) ≡ total
-  tops_first (Some n) total b e w t z = absurd cc
-  tops_first None total b e w t z = start (tops (i + 1) us (map outline_of (drop (i + 1) ss))) ∙ ap (λ (x : List (ℕ × ℕ)). told_tops x) (sym (tops_here b w t)) ∙ e
-    where
-      start : (ts : List (ℕ × ℕ)) → further_tops (Some i) ts ≡ told_tops ((i, s.place) ∷ ts)
-      start [] = refl
-      start (t ∷ ts) = refl
-
-  pub tops_second : (first : Option ℕ) (total : Tops) (b : Bool) → further_tops first (tops i us (map outline_of (drop i ss))) ≡ total → b ≡ is_listed s.name.now used → b ≡ false → is_some first ≡ true → Several s.place ≡ total
-  tops_second (Some n) total b e w t z = ap (λ (x : List (ℕ × ℕ)). further_tops (Some n) x) (sym (tops_here b w t)) ∙ e
-  tops_second None total b e w t z = absurd cc
 
 -- ---- the searches together
 

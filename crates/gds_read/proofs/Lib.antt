@@ -1,6 +1,7 @@
 pub mod Trims
 pub mod FewBytes
 pub mod Named
+pub mod SequenceLaws
 pub mod Turns
 pub mod Moving
 pub mod Decoded

@@ -51,9 +51,6 @@ trim_end xs end last h p g z e =
 pub trim_none : (xs : List ℕ) (end : ℕ) → end ≡ 0 → trimmed (take end xs) ≡ trimmed xs → take end xs ≡ trimmed xs
 trim_none xs end z e = ap (λ (k : ℕ). take k xs) z ∙ sym (sym e ∙ ap (λ (k : ℕ). trimmed (take k xs)) z)
 
-pub trim_start : (xs : List ℕ) → trimmed (take (length xs) xs) ≡ trimmed xs
-trim_start xs = ap (λ (t : List ℕ). trimmed t) (take_all (length xs) xs (omega arith))
-
 none_append : (xs : List ℕ) (b : ℕ) → holds_zero xs ≡ false → b ≢ 0 → holds_zero (xs ++ b ∷ []) ≡ false
 none_append [] b e h = let f : eqb b 0 ≡ false = grind (arith, nat_tests) in rw f refl
 none_append (x ∷ xs) b e h = let p = parts (eqb x 0) (holds_zero xs) e in both (eqb x 0) (holds_zero (xs ++ b ∷ [])) p.0 (none_append xs b p.1 h)

@@ -9,8 +9,8 @@ use Rattle.std.proofs.Math.Seq.{drop-drop}
 use Rattle.std.proofs.lemmas.Bool.{eqb-true}
 use Rattle.std.proofs.lemmas.Bool.Decides.{nat_tests}
 use Rattle.gds_records.specs.declared.fault.StreamKind.{StreamKind}
-use Rattle.gds_records.specs.declared.fault.StreamKind.TheVariants.{Order, Value, Unsupported, NotRectangle}
-use Rattle.gds_records.specs.Language.{Language, Nothing}
+use Rattle.gds_records.specs.declared.fault.StreamKind.TheVariants.{Value, Unsupported, NotRectangle}
+use Rattle.gds_records.specs.Language.{Language}
 use Rattle.gds_records.specs.Derivative.{after}
 use Rattle.gds_records.specs.Records.{Record, record_with, trimmed}
 use Rattle.gds_records.specs.Table.{wide_table, has_length_in}
@@ -21,7 +21,6 @@ use Rattle.gds_records.specs.Profiles.{wide}
 use Rattle.gds_records.specs.Profiled.{own_fault_in, kind_of, form_of, length_of, here_record, alive, fault_of}
 use Rattle.gds_records.specs.Steps.{is_listed, names_with, Kept, kept_with, value_here, step_fault, Told, Stopped, Ended, steps}
 use Rattle.gds_read.specs.declared.place.Place.{Place}
-use Rattle.gds_read.specs.declared.place.Place.TheVariants as places
 use Rattle.gds_read.specs.Code.Places.{rest_of}
 use Rattle.gds_read.specs.Code.Fronts.{IsWhole}
 use Rattle.gds_read.specs.Code.Steps.{GoesOn, kept}
@@ -33,70 +32,6 @@ data_long b held w e =
     let n : 4 + length held ≡ length_of b
     = omega (arith, ap (λ (x : List ℕ). length x) e, length-drop 4 (take (length_of b) b), length-take (length_of b) b, w.least, w.enough) in
     ap (λ (k : ℕ). has_length_in wide_table (kind_of b) k) n ∙ w.long
-
-pub place_alive : (p : Place) → alive (rest_of p) ≡ true
-place_alive places.Start = refl
-place_alive places.Header = refl
-place_alive places.Library = refl
-place_alive places.LibraryName = refl
-place_alive places.ReferenceLibraries = refl
-place_alive places.Fonts = refl
-place_alive places.AttributeTable = refl
-place_alive places.Generations = refl
-place_alive places.Structures = refl
-place_alive places.Structure = refl
-place_alive places.Inside = refl
-place_alive places.Done = refl
-place_alive places.Boundary = refl
-place_alive places.BoundaryFlags = refl
-place_alive places.BoundaryPlex = refl
-place_alive places.BoundaryLayer = refl
-place_alive places.BoundaryDatatype = refl
-place_alive places.Tail = refl
-place_alive places.Property = refl
-place_alive places.Reference = refl
-place_alive places.ReferenceFlags = refl
-place_alive places.ReferencePlex = refl
-place_alive places.ReferenceName = refl
-place_alive places.ReferenceTransform = refl
-place_alive places.ReferenceMagnified = refl
-place_alive places.ReferenceAngle = refl
-place_alive places.Text = refl
-place_alive places.TextFlags = refl
-place_alive places.TextPlex = refl
-place_alive places.TextLayer = refl
-place_alive places.TextType = refl
-place_alive places.TextPresentation = refl
-place_alive places.TextPathType = refl
-place_alive places.TextWidth = refl
-place_alive places.TextTransform = refl
-place_alive places.TextMagnified = refl
-place_alive places.TextAngle = refl
-place_alive places.TextPoint = refl
-place_alive places.Path = refl
-place_alive places.PathFlags = refl
-place_alive places.PathPlex = refl
-place_alive places.PathLayer = refl
-place_alive places.PathDatatype = refl
-place_alive places.PathPathType = refl
-place_alive places.PathWidth = refl
-place_alive places.Array = refl
-place_alive places.ArrayFlags = refl
-place_alive places.ArrayPlex = refl
-place_alive places.ArrayName = refl
-place_alive places.ArrayTransform = refl
-place_alive places.ArrayMagnified = refl
-place_alive places.ArrayAngle = refl
-place_alive places.ArrayColrow = refl
-
-fault_own : (t : Option StreamKind) (f : Bool) (v : Option StreamKind) (k : StreamKind) → t ≡ Some k → fault_of t f v ≡ Some k
-fault_own t f v k e = rw e refl
-
-fault_order : (t : Option StreamKind) (f : Bool) (v : Option StreamKind) → t ≡ None → f ≡ false → fault_of t f v ≡ Some Order
-fault_order t f v a b = rw (a, b) refl
-
-fault_rest : (t : Option StreamKind) (f : Bool) (v : Option StreamKind) → t ≡ None → f ≡ true → fault_of t f v ≡ v
-fault_rest t f v a b = rw (a, b) refl
 
 -- ---- the value of a record, by its own bytes
 
@@ -154,22 +89,6 @@ pub value_is : (element : ℕ) (colrow : List ℕ) (names : List (List ℕ)) (ta
 value_is element colrow names taken b held e named =
     untaken element colrow taken (is_listed (trimmed held) names) (kind_of b) (form_of b) held named
     ∙ ap (λ (h : List ℕ). wide_fault_in element colrow (is_listed (trimmed h) names) (record_with (kind_of b) (form_of b) h)) e
-
--- ---- the fault of a step
-
-module _ (l : Language) (k : Kept) (b : List ℕ) where
-  pub step_own : (f : StreamKind) → own_fault_in wide b ≡ Some f → step_fault wide l k b ≡ Some f
-  step_own f e = fault_own (own_fault_in wide b) (alive (after (kind_of b) l)) (value_here wide k b) f e
-
-  pub step_order : own_fault_in wide b ≡ None → after (kind_of b) l ≡ Nothing → step_fault wide l k b ≡ Some Order
-  step_order a e =
-      fault_order (own_fault_in wide b) (alive (after (kind_of b) l)) (value_here wide k b) a (ap (λ (x : Language). alive x) e)
-
-  pub step_value : (q : Place) (v : Option StreamKind) → own_fault_in wide b ≡ None
-      → after (kind_of b) l ≡ rest_of q → v ≡ value_here wide k b → step_fault wide l k b ≡ v
-  step_value q v a e w =
-      fault_rest (own_fault_in wide b) (alive (after (kind_of b) l)) (value_here wide k b) a
-      (ap (λ (y : Language). alive y) e ∙ place_alive q) ∙ sym w
 
 -- ---- turns of the steps
 
@@ -294,21 +213,21 @@ module _ (total : Told) (n : ℕ) (l : Language) (kept : Kept) (at : ℕ) (bytes
   moved size e =
       ap (λ (k : ℕ). drop k rest) (sym e) ∙ ap (λ (x : List ℕ). drop size x) s.here ∙ drop-drop size at bytes
 
-  pub ended_here : (next : Language) (size : ℕ) → GoesOn l kept rest next → kind_of rest ≡ 4 → size ≡ length_of rest
+  pub ended_here : (next : Place) (size : ℕ) → GoesOn l kept rest next → kind_of rest ≡ 4 → size ≡ length_of rest
       → total ≡ Ended (at + size) (drop (at + size) bytes)
   ended_here next size g k e =
       so_far ∙ steps_end l kept at rest n some_turn g.sound (ap (λ (x : ℕ). eqb x 4) k)
       ∙ (λ i. Ended (at + sym e i) (moved size e i))
 
-  pub goes_on : (next : Language) (size : ℕ) (new : Kept) → GoesOn l kept rest next → kind_of rest ≢ 4
+  pub goes_on : (next : Place) (size : ℕ) (new : Kept) → GoesOn l kept rest next → kind_of rest ≢ 4
       → size ≡ length_of rest → new ≡ kept_with wide kept (here_record rest)
-      → total ≡ steps wide (n - 1) next new (at + size) (drop (at + size) bytes)
+      → total ≡ steps wide (n - 1) (rest_of next) new (at + size) (drop (at + size) bytes)
   goes_on next size new g k e w =
       let z : eqb (kind_of rest) 4 ≡ false = grind (arith, nat_tests) in
       so_far ∙ steps_on l kept at rest n some_turn g.sound z
-      ∙ (λ i. steps wide (n - 1) (g.follows i) (sym w i) (at + sym e i) (moved size e i))
+      ∙ (λ i. steps wide (n - 1) (g.next.follows i) (sym w i) (at + sym e i) (moved size e i))
 
-  pub fits_here : (next : Language) (size : ℕ) → GoesOn l kept rest next → at ≤ length bytes → size ≡ length_of rest
+  pub fits_here : (next : Place) (size : ℕ) → GoesOn l kept rest next → at ≤ length bytes → size ≡ length_of rest
       → (at + size ≤ length bytes) × (0 < size)
   fits_here next size g w e =
       let f = g.whole.enough in

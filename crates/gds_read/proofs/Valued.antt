@@ -48,9 +48,6 @@ colrow_more last (x ∷ xs) r = turn (eqb x.kind 0x13) (colrow_more x.content xs
     turn true e f = e
     turn false e f = f
 
-state_of : List Record → State
-state_of before = (wide_opener 0 before, last_colrow [] before)
-
 valued_from : (before rs : List Record) → AreGoodIn wide before rs → From next IsValued (wide_opener 0 before, last_colrow [] before) rs
 valued_from before [] g = tt
 valued_from before (r ∷ rs) g = (

@@ -7,7 +7,7 @@ use Rattle.std.proofs.lemmas.List.Sums.{sum_by-set}
 use Rattle.std.proofs.lemmas.Bool.Decides.{nat_tests}
 use Rattle.gds_read.specs.declared.components.Walk.{Walk}
 use Rattle.gds_read.specs.Code.Graphs.{targets_at, some_target, all_below, never_rises, refers}
-use Rattle.gds_read.specs.Code.Components.{Leads, here, along, AreComponents, IsLast, IsSeen, closed, above, IsWalk, Walks, Keeps, IsEntered, IsTop, IsFollowed, IsStepped, IsRankedAt, as_before, within, IsRanked, IsEnded}
+use Rattle.gds_read.specs.Code.Components.{Leads, here, along, AreComponents, IsLast, IsSeen, above, IsWalk, Walks, Keeps, IsEntered, IsTop, IsFollowed, IsStepped, IsRankedAt, as_before, within, IsRanked}
 use Rattle.gds_read.proofs.BlockSteps.{Pushed, pushed, Written, written, Front, front, below_or, same_or, last_or, led_by, stands_low, entered, joined, joined_seen, popped, counted, closed_block}
 
 walk_at : (g : List (List ℕ)) (m r l s b q m' r' l' s' b' q' : List ℕ) (c c' : ℕ) → m' ≡ m → r' ≡ r → l' ≡ l → s' ≡ s → b' ≡ b → q' ≡ q → c' ≡ c → IsWalk g m r l s b q c → IsWalk g m' r' l' s' b' q' c'
@@ -64,26 +64,6 @@ module _ (g : List (List ℕ)) (w now : Walk) (v : ℕ) (walks : Walks g w) (low
 -- ---- a reference is followed
 
 module _ (g : List (List ℕ)) (w : Walk) (from to : ℕ) (walks : Walks g w) (top : IsTop w from) (edge : refers g from to ≡ true) where
-  pub followed_past : length g ≤ to → IsFollowed g w from to w
-  followed_past h = record {
-    walks = walks;
-    seen = λ i m l. absurd (omega (arith, h, l));
-    open_still = top.unclosed;
-    left = refl;
-    few = omega arith;
-    keeps = λ v m. m;
-  }
-
-  pub followed_closed : get_or w.rank.items to 0 ≢ 0 → IsFollowed g w from to w
-  followed_closed h = record {
-    walks = walks;
-    seen = λ i m l. closed (some_so (get_or w.rank.items to 0) h);
-    open_still = top.unclosed;
-    left = refl;
-    few = omega arith;
-    keeps = λ v m. m;
-  }
-
   stands : (top.place < length w.stack.items) × (get_or w.stack.items top.place 0 ≡ from)
   stands = walks.found from top.place top.met top.unclosed
 
@@ -262,19 +242,6 @@ top_of g w start here' walks first last h = turn (get_or w.met.items here' 0) re
 
 -- ---- a block is closed
 
-pub none_ranked : (w : Walk) (s : ℕ) → IsRanked w s s w
-none_ranked w s = record {
-  members = λ i h l. absurd (omega (arith, h, l));
-  others = λ v. as_before refl;
-  size = refl;
-  closed = refl;
-  met = refl;
-  left = refl;
-  stack = refl;
-  starts = refl;
-  work = refl;
-}
-
 pub one_ranked : (w mid now : Walk) (s p x : ℕ) → IsRanked w s p mid → s ≤ p → p < length w.stack.items → get_or w.stack.items p 0 < length w.rank.items → x ≡ get_or mid.stack.items p 0
     → now.rank.items ≡ set mid.rank.items x (length w.closed.items + 1) → now.closed.items ≡ mid.closed.items ++ x ∷ [] → now.met.items ≡ mid.met.items → now.left.items ≡ mid.left.items
     → now.stack.items ≡ mid.stack.items → now.starts.items ≡ mid.starts.items → now.work.items ≡ mid.work.items → IsRanked w s (p + 1) now
@@ -362,13 +329,6 @@ stack_inside g w walks i h =
     omega (arith, b, c, d)
 
 -- ---- the whole walk
-
-pub ended_walk : (g : List (List ℕ)) (w now : Walk) → Walks g now → Keeps w now → length now.starts.items ≡ 0 → IsEnded g w now
-ended_walk g w now walks keeps e = record { walks = walks; closed = none_at (below_or 0 (length now.stack.items)); keeps = keeps }
-  where
-    none_at : (0 < length now.stack.items) ⊎ (length now.stack.items ≤ 0) → length now.stack.items ≡ 0
-    none_at (inl h) = let z = walks.some_start h in absurd (omega (arith, z, e))
-    none_at (inr h) = omega (arith, h)
 
 lt_true : (a b : ℕ) → a < b → nat_lt a b ≡ true
 lt_true a b h = grind (arith, nat_tests)

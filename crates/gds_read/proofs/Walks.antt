@@ -1,14 +1,13 @@
 -- One record after another: references and structures in outline.
 use Rattle.std.proofs.Common.{◌≡◌, ◌≢◌, ℕ, ◌+◌, ◌<◌, List, [], ◌∷◌, ◌++◌, map, drop, length, Bool, true, false, eqb, refl, sym, ap, ◌∙◌, append_assoc, arith}
-use Rattle.std.proofs.lemmas.List.{map-append, append-nil}
+use Rattle.std.proofs.lemmas.List.{append-nil}
 use Rattle.std.proofs.lemmas.Bool.Decides.{nat_tests}
 use Rattle.gds_records.specs.Records.{Record, trimmed}
 use Rattle.gds_records.specs.Faults.{here_record, kind_of, length_of}
 use Rattle.gds_records.specs.Drawing.{name_of, starts}
 use Rattle.gds_records.specs.Whole.{Use, Outline, uses_from, outlines, last_place}
-use Rattle.gds_read.specs.declared.outline.NamedOutline.{NamedOutline}
 use Rattle.gds_read.specs.Code.Decoding.{IsSpelled, records_in, Goes}
-use Rattle.gds_read.specs.Code.Outlining.{use_of, outline_of, uses_at}
+use Rattle.gds_read.specs.Code.Outlining.{uses_at}
 use Rattle.gds_read.proofs.Cursors.{none_left}
 use Rattle.gds_read.proofs.Decoded.{goes}
 
@@ -61,10 +60,6 @@ uses_end_at o b us total s h e same = sym (append-nil us) ∙ ap (λ (x : List U
 abbrev outline_turn : Bool → Outline → List Outline → List Outline
 outline_turn z s ss = elim z as (λ (x : Bool). List Outline) [ true ↦ s ∷ ss | false ↦ ss ]
 
-outline_here : (z : Bool) (s : Outline) (ss : List Outline) → z ≡ true → outline_turn z s ss ≡ s ∷ ss
-outline_here true s ss e = refl
-outline_here false s ss e = absurd cc
-
 outline_not : (z : Bool) (s : Outline) (ss : List Outline) → z ≡ false → outline_turn z s ss ≡ ss
 outline_not true s ss e = absurd cc
 outline_not false s ss e = refl
@@ -81,16 +76,6 @@ module _ (o : ℕ) (b rest : List ℕ) (g : Goes b rest) where
   pub outlines_skip : (n : ℕ) (found total : List Outline) → kind_of b ≢ 5 → n ≡ 4 + length (here_record b).content → found ++ outlines o (records_in b) ≡ total → found ++ outlines (o + n) (records_in rest) ≡ total
   outlines_skip n found total e size same =
       ap (λ (x : List Outline). found ++ x) (sym (turn_of n size ∙ outline_not (eqb (kind_of b) 5) (outline_from n) (outlines (o + n) (records_in rest)) (other (kind_of b) 5 e))) ∙ same
-
-  pub outlines_take : (n : ℕ) (found new : List NamedOutline) (s : NamedOutline) (total : List Outline) → kind_of b ≡ 5 → n ≡ 4 + length (here_record b).content → map outline_of found ++ outlines o (records_in b) ≡ total
-      → s.place ≡ o → s.name.now ≡ name_of (records_in rest) → map use_of s.uses ≡ uses_from (o + n) (records_in rest) → new ≡ found ++ s ∷ [] → map outline_of new ++ outlines (o + n) (records_in rest) ≡ total
-  outlines_take n found new s total e size same p q r add =
-      let w : outline_of s ≡ outline_from n = λ i. record { place = p i; name = q i; uses = r i } in
-      ap (λ (x : List NamedOutline). map outline_of x ++ outlines (o + n) (records_in rest)) add
-      ∙ ap (λ (x : List Outline). x ++ outlines (o + n) (records_in rest)) (map-append outline_of found (s ∷ []))
-      ∙ append_assoc (map outline_of found) (outline_of s ∷ []) (outlines (o + n) (records_in rest))
-      ∙ ap (λ (x : Outline). map outline_of found ++ x ∷ outlines (o + n) (records_in rest)) w
-      ∙ ap (λ (x : List Outline). map outline_of found ++ x) (sym (turn_of n size ∙ outline_here (eqb (kind_of b) 5) (outline_from n) (outlines (o + n) (records_in rest)) (one (kind_of b) 5 e))) ∙ same
 
 pub outlines_end : (o : ℕ) (b : List ℕ) (ss total : List Outline) → length b ≡ 0 → ss ++ outlines o (records_in b) ≡ total → ss ≡ total
 outlines_end o b ss total e same = sym (append-nil ss) ∙ ap (λ (x : List Record). ss ++ outlines o x) (sym (none_left b e)) ∙ same
@@ -119,31 +104,6 @@ pub end_none : (o : ℕ) (b : List ℕ) (total : ℕ) → length b ≡ 0 → las
 end_none o b total e same = ap (λ (x : List Record). last_place o x) (sym (none_left b e)) ∙ same
 
 -- ---- structures by what follows their first records
-
-abbrev starts_turn : Bool → List Record → List (List Record) → List (List Record)
-starts_turn z rs ss = elim z as (λ (x : Bool). List (List Record)) [ true ↦ rs ∷ ss | false ↦ ss ]
-
-start_here : (z : Bool) (rs : List Record) (ss : List (List Record)) → z ≡ true → starts_turn z rs ss ≡ rs ∷ ss
-start_here true rs ss e = refl
-start_here false rs ss e = absurd cc
-
-start_not : (z : Bool) (rs : List Record) (ss : List (List Record)) → z ≡ false → starts_turn z rs ss ≡ ss
-start_not true rs ss e = absurd cc
-start_not false rs ss e = refl
-
-module _ {A : Type 0} (f : List Record → A) (b rest : List ℕ) (g : Goes b rest) where
-  pub starts_skip : (found total : List A) → kind_of b ≢ 5 → found ++ map f (starts (records_in b)) ≡ total → found ++ map f (starts (records_in rest)) ≡ total
-  starts_skip found total e same =
-      ap (λ (x : List (List Record)). found ++ map f x)
-      (sym (ap (λ (x : List Record). starts x) g.records ∙ start_not (eqb (kind_of b) 5) (records_in rest) (starts (records_in rest)) (other (kind_of b) 5 e))) ∙ same
-
-  pub starts_take : (found new : List A) (s : A) (total : List A) → kind_of b ≡ 5 → s ≡ f (records_in rest) → new ≡ found ++ s ∷ [] → found ++ map f (starts (records_in b)) ≡ total
-      → new ++ map f (starts (records_in rest)) ≡ total
-  starts_take found new s total e made add same =
-      ap (λ (x : List A). x ++ map f (starts (records_in rest))) add ∙ append_assoc found (s ∷ []) (map f (starts (records_in rest)))
-      ∙ ap (λ (x : A). found ++ x ∷ map f (starts (records_in rest))) made
-      ∙ ap (λ (x : List (List Record)). found ++ map f x)
-      (sym (ap (λ (x : List Record). starts x) g.records ∙ start_here (eqb (kind_of b) 5) (records_in rest) (starts (records_in rest)) (one (kind_of b) 5 e))) ∙ same
 
 pub starts_end : {A : Type 0} (f : List Record → A) (b : List ℕ) (ss total : List A) → length b ≡ 0 → ss ++ map f (starts (records_in b)) ≡ total → ss ≡ total
 starts_end {A} f b ss total e same = sym (append-nil ss) ∙ ap (λ (x : List Record). ss ++ map f (starts x)) (sym (none_left b e)) ∙ same

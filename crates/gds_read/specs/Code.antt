@@ -1,4 +1,5 @@
 -- Words of the code alone: places of the reader, records of bytes, outlines, numbers of names, and references.
+pub mod Sequences
 pub mod Places
 pub mod Fronts
 pub mod Texts

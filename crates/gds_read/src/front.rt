@@ -4,7 +4,7 @@ ghost use Rattle.gds_records.specs.Profiled.{own_fault_in, length_of};
 ghost use Rattle.gds_records.specs.Profiles.{wide};
 ghost use Rattle.gds_read.specs.Code.Fronts.{IsWhole, code_fault};
 
-use crate::table::{is_form, is_known, is_length};
+use crate::table::{entry_of, is_among};
 use gds_records::StreamKind;
 
 /// The length that the head says.
@@ -19,11 +19,12 @@ pub fn record_length(bytes: &[u8]) -> usize
 fn code_fault(kind: u8, form: u8, length: usize) -> Option<StreamKind>
     ensures { result ≡ code_fault kind form length }
 {
-    if !is_known(kind) {
-        Some(StreamKind::Unsupported)
-    } else if !is_form(kind, form) {
+    let Some(entry) = entry_of(kind) else {
+        return Some(StreamKind::Unsupported);
+    };
+    if entry.form != form {
         Some(StreamKind::DataType)
-    } else if !is_length(kind, length) {
+    } else if !is_among(entry.lengths, length) {
         Some(StreamKind::Length)
     } else {
         None

@@ -21,6 +21,7 @@ mod place;
 mod points;
 mod refusal;
 mod scan;
+mod sequence;
 mod table;
 mod values;
 mod ways;

@@ -1,5 +1,5 @@
 // The records of a stream, one after another, up to ENDLIB or to the first fault.
-ghost use Rattle.std.specs.Prelude.{◌≡◌, ◌≤◌, ◌+◌, ◌∷◌, [], length, take, drop, Some, IfOk};
+ghost use Rattle.std.specs.Prelude.{◌≡◌, ◌≤◌, ◌+◌, ◌∷◌, [], length, take, drop, Some, true, IfOk};
 ghost use Rattle.gds_records.specs.Profiled.{here_record, length_of};
 ghost use Rattle.gds_records.specs.Profiles.{wide};
 ghost use Rattle.gds_records.specs.Records.{record_with};
@@ -7,13 +7,13 @@ ghost use Rattle.gds_records.specs.WideValues.{wide_opener, last_colrow};
 ghost use Rattle.gds_records.specs.Steps.{value_here, all_steps};
 ghost use Rattle.gds_read.specs.declared.scan.Step.TheVariants.{On, Fault};
 ghost use Rattle.gds_read.specs.Code.Fronts.{IsWhole};
-ghost use Rattle.gds_read.specs.Code.Places.{rest_of};
+ghost use Rattle.gds_read.specs.Code.Places.{rest_of, is_clear_place};
 ghost use Rattle.gds_read.specs.Code.Steps.{kept, IsStep, told_as, offset_of};
 ghost use Rattle.gds_read.specs.Code.Texts.{texts};
 
 use crate::front::{fault_at_front, record_length};
 use crate::names::{Names, add, is_taken};
-use crate::place::{Place, next};
+use crate::place::{Place, START, next};
 use crate::values::trimmed;
 use crate::wide_values::wide_fault;
 use aq_base::Memory;
@@ -29,7 +29,7 @@ pub enum Outcome {
 }
 
 /// The place after a record, or what is wrong with the record.
-#[derive(Clone, Copy, PartialEq, Eq)]
+#[derive(Clone, Copy)]
 enum Step {
     On(Place),
     Fault(StreamKind),
@@ -94,8 +94,9 @@ fn next_step(
     names: &Names<'_>,
     bytes: &[u8],
 ) -> Result<Step, Memory>
+    requires { is_clear_place place ≡ true }
     ensures { IfOk result (λ step. IsStep (rest_of place)
-        (kept element colrow.now (texts names.now.keys)) bytes.now rest_of step) }
+        (kept element colrow.now (texts names.now.keys)) bytes.now step) }
 {
     if let Some(kind) = fault_at_front(bytes) {
         return Ok(Step::Fault(kind));
@@ -117,7 +118,7 @@ pub fn scan<'a>(alloc: Global, bytes: &'a [u8], names: &mut Names<'a>) -> Result
     ensures within { IfOk result (λ outcome. offset_of outcome ≤ length bytes.now) }
 {
     let mut at: usize = 0;
-    let mut place = Place::Start;
+    let mut place = START;
     let mut element: u8 = 0;
     let mut colrow: &[u8] = &[];
     'records: loop {

@@ -40,43 +40,44 @@ macro_rules! row {
     };
 }
 
-// The rows of strict streams, behind some others.
+// The rows of strict streams, behind some others. A reader takes the first row that it finds, so those of boundaries, of
+// which a chip has most, come first.
 macro_rules! rows {
     ($($more:expr),*) => {
         &[
             $($more,)*
-            row!(HEADER, TWO_BYTE_INTEGER, Exactly(6)),
-            row!(BGNLIB, TWO_BYTE_INTEGER, Exactly(28)),
-            row!(LIBNAME, ASCII_STRING, Even),
-            row!(UNITS, EIGHT_BYTE_REAL, Exactly(20)),
-            row!(ENDLIB, NO_DATA, Exactly(4)),
-            row!(BGNSTR, TWO_BYTE_INTEGER, Exactly(28)),
-            row!(STRNAME, ASCII_STRING, Even),
-            row!(ENDSTR, NO_DATA, Exactly(4)),
             row!(BOUNDARY, NO_DATA, Exactly(4)),
-            row!(SREF, NO_DATA, Exactly(4)),
-            row!(TEXT, NO_DATA, Exactly(4)),
             row!(LAYER, TWO_BYTE_INTEGER, Exactly(6)),
             row!(DATATYPE, TWO_BYTE_INTEGER, Exactly(6)),
-            row!(WIDTH, FOUR_BYTE_INTEGER, Exactly(8)),
             row!(XY, FOUR_BYTE_INTEGER, Points),
             row!(ENDEL, NO_DATA, Exactly(4)),
-            row!(SNAME, ASCII_STRING, Even),
+            row!(TEXT, NO_DATA, Exactly(4)),
             row!(TEXTTYPE, TWO_BYTE_INTEGER, Exactly(6)),
-            row!(PRESENTATION, BIT_ARRAY, Exactly(6)),
             row!(STRING, ASCII_STRING, Even),
+            row!(SREF, NO_DATA, Exactly(4)),
+            row!(SNAME, ASCII_STRING, Even),
             row!(STRANS, BIT_ARRAY, Exactly(6)),
             row!(MAG, EIGHT_BYTE_REAL, Exactly(12)),
             row!(ANGLE, EIGHT_BYTE_REAL, Exactly(12)),
-            row!(REFLIBS, ASCII_STRING, Even),
-            row!(FONTS, ASCII_STRING, Even),
             row!(PATHTYPE, TWO_BYTE_INTEGER, Exactly(6)),
-            row!(GENERATIONS, TWO_BYTE_INTEGER, Exactly(6)),
-            row!(ATTRTABLE, ASCII_STRING, Even),
+            row!(WIDTH, FOUR_BYTE_INTEGER, Exactly(8)),
+            row!(PRESENTATION, BIT_ARRAY, Exactly(6)),
             row!(ELFLAGS, BIT_ARRAY, Exactly(6)),
+            row!(PLEX, FOUR_BYTE_INTEGER, Exactly(8)),
             row!(PROPATTR, TWO_BYTE_INTEGER, Exactly(6)),
             row!(PROPVALUE, ASCII_STRING, Even),
-            row!(PLEX, FOUR_BYTE_INTEGER, Exactly(8)),
+            row!(BGNSTR, TWO_BYTE_INTEGER, Exactly(28)),
+            row!(STRNAME, ASCII_STRING, Even),
+            row!(ENDSTR, NO_DATA, Exactly(4)),
+            row!(HEADER, TWO_BYTE_INTEGER, Exactly(6)),
+            row!(BGNLIB, TWO_BYTE_INTEGER, Exactly(28)),
+            row!(LIBNAME, ASCII_STRING, Even),
+            row!(REFLIBS, ASCII_STRING, Even),
+            row!(FONTS, ASCII_STRING, Even),
+            row!(ATTRTABLE, ASCII_STRING, Even),
+            row!(GENERATIONS, TWO_BYTE_INTEGER, Exactly(6)),
+            row!(UNITS, EIGHT_BYTE_REAL, Exactly(20)),
+            row!(ENDLIB, NO_DATA, Exactly(4)),
         ]
     };
 }

@@ -10,18 +10,19 @@ use Rattle.gds_read.specs.declared.scan.Outcome.TheVariants as outcomes
 use Rattle.gds_read.specs.declared.scan.Step.{Step}
 use Rattle.gds_read.specs.declared.scan.Step.TheVariants.{On, Fault}
 use Rattle.gds_read.specs.declared.place.Place.{Place}
+use Rattle.gds_read.specs.Code.Places.{IsAt}
 use Rattle.gds_read.specs.Code.Fronts.{IsWhole}
 
--- the record at the front is whole and without fault, and this is what may follow it
-pub record GoesOn (l : Language) (kept : Kept) (b : List ℕ) (next : Language) : Type 0 where
+-- the record at the front is whole and without fault, and this is the place after it
+pub record GoesOn (l : Language) (kept : Kept) (b : List ℕ) (to : Place) : Type 0 where
   pub sound : step_fault wide l kept b ≡ None
-  pub follows : after (kind_of b) l ≡ next
+  pub next : IsAt (after (kind_of b) l) to
   pub whole : IsWhole b
 
--- what may follow at the place after the record at the front, or its fault; places stand for what may follow at them
-abbrev pub IsStep : Language → Kept → List ℕ → (Place → Language) → Step → Type 0
-IsStep l kept b rest_of (On next) = GoesOn l kept b (rest_of next)
-IsStep l kept b rest_of (Fault kind) = step_fault wide l kept b ≡ Some kind
+-- the place after the record at the front, or its fault
+abbrev pub IsStep : Language → Kept → List ℕ → Step → Type 0
+IsStep l kept b (On to) = GoesOn l kept b to
+IsStep l kept b (Fault kind) = step_fault wide l kept b ≡ Some kind
 
 -- what is kept, as a reader has it
 abbrev pub kept : ℕ → List ℕ → List (List ℕ) → Kept
