@@ -33,7 +33,7 @@ pair_more v w ws i a b p =
       second = subst (λ (k : ℕ). slice_get (v ∷ w ∷ ws) (suc k) ≡ Some b) e p.second;
     }
 
-above_got : (a : ℤ) (ws : List ℤ) (k : ℕ) (w : ℤ) → Above a ws → slice_get ws k ≡ Some w → a <ℤ w
+pub above_got : (a : ℤ) (ws : List ℤ) (k : ℕ) (w : ℤ) → Above a ws → slice_get ws k ≡ Some w → a <ℤ w
 above_got a [] k w up e = absurd cc
 above_got a (v ∷ ws) zero w up e = let s : v ≡ w = same_Some v w e in subst (λ (x : ℤ). a <ℤ x) s up.0
 above_got a (v ∷ ws) (suc k) w up e = let h : v <ℤ w = above_got v ws k w up.1 e in omega (arith, ints, up.0, h)

@@ -15,22 +15,22 @@ use Rattle.poly_cut.specs.Code.Sweeping.{Above, Rising}
 use Rattle.poly_cut.proofs.Parity.{rising_of}
 use Rattle.poly_cut.proofs.Spans.{got_less}
 
-cmp_less : (x y : ℤ) → x <ℤ y → int_cmp x y ≡ Less
+pub cmp_less : (x y : ℤ) → x <ℤ y → int_cmp x y ≡ Less
 cmp_less x y h = grind (arith, ints)
 
-cmp_greater : (x y : ℤ) → y <ℤ x → int_cmp x y ≡ Greater
+pub cmp_greater : (x y : ℤ) → y <ℤ x → int_cmp x y ≡ Greater
 cmp_greater x y h = grind (arith, ints)
 
-cmp_self : (x : ℤ) → int_cmp x x ≡ Equal
+pub cmp_self : (x : ℤ) → int_cmp x x ≡ Equal
 cmp_self x = grind (arith, ints)
 
 cmp_equal : (x y : ℤ) → int_cmp x y ≡ Equal → x ≡ y
 cmp_equal x y h = grind (arith, ints)
 
-less_cmp : (x y : ℤ) → int_cmp x y ≡ Less → x <ℤ y
+pub less_cmp : (x y : ℤ) → int_cmp x y ≡ Less → x <ℤ y
 less_cmp x y h = grind (arith, ints)
 
-greater_cmp : (x y : ℤ) → int_cmp x y ≡ Greater → y <ℤ x
+pub greater_cmp : (x y : ℤ) → int_cmp x y ≡ Greater → y <ℤ x
 greater_cmp x y h = grind (arith, ints)
 
 not_less : (x y : ℤ) → x <ℤ y → is_lt (int_cmp y x) ≡ false
@@ -47,12 +47,12 @@ rising_sorted (w ∷ v ∷ ws) up (suc k) d lo hi =
 pub searchable : (ws : List ℤ) (x : ℤ) → Rising ws → IsNonDecreasingBy (λ y. ordering_index (int_cmp y x)) ws
 searchable ws x up = searchable_from_sorted int_cmp_total (λ y. y) ws x (rising_sorted ws up)
 
-by_order : Ordering → ℤ → ℤ → List ℤ → List ℤ
+unfoldable pub by_order : Ordering → ℤ → ℤ → List ℤ → List ℤ
 by_order Less x w ws = x ∷ w ∷ ws
 by_order Equal x w ws = ws
 by_order Greater x w ws = w ∷ toggled x ws
 
-toggled_so : (x w : ℤ) (ws : List ℤ) (o : Ordering) → int_cmp x w ≡ o → toggled x (w ∷ ws) ≡ by_order o x w ws
+pub toggled_so : (x w : ℤ) (ws : List ℤ) (o : Ordering) → int_cmp x w ≡ o → toggled x (w ∷ ws) ≡ by_order o x w ws
 unfolding by_order
 toggled_so x w ws o e = turn (int_cmp x w) ∙ ap (λ (k : Ordering). by_order k x w ws) e
   where

@@ -171,3 +171,9 @@ pub record AtLevel (rects : List Rectangle) (last : BTreeMap ℤ ℕ) (walls : L
   pub high : IsHigh rects level top
   pub low : BeginBelow rects level
   pub begun : (i : ℕ) (a b : ℤ) → IsPair walls i a b → IsOpen rects last a b top
+
+-- no wall stands at x, and one would stand at the k-th place
+pub record IsGap (ws : List ℤ) (k : ℕ) (x : ℤ) : Type 0 where
+  pub within : k ≤ length ws
+  pub before : (i : ℕ) (w : ℤ) → i < k → slice_get ws i ≡ Some w → w <ℤ x
+  pub behind : (w : ℤ) → slice_get ws k ≡ Some w → x <ℤ w
