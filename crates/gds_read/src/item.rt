@@ -25,7 +25,7 @@ use aq_base::Memory;
 use gds_records::codes::{
     ANGLE, AREF, BOUNDARY, COLROW, DATATYPE, LAYER, PATH, PATHTYPE, SNAME, SREF, STRANS, WIDTH, XY,
 };
-use poly_cut::{Figure, Grid, Item, Point, Turn};
+use poly_cut::{Figure, Grid, Item, Point, Ring, Turn};
 use std::alloc::Global;
 
 // The figure that records say.
@@ -35,7 +35,7 @@ fn figure(alloc: Global, part: &[u8]) -> Result<Figure, Memory>
 {
     let points = points(alloc, field(part, XY))?;
     if has(part, BOUNDARY) {
-        return Ok(Figure::Ring(points));
+        return Ok(Figure::Ring(Ring::new(alloc, points)?));
     }
     Ok(Figure::Path {
         extended: is_number(field(part, PATHTYPE), 2),

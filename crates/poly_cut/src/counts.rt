@@ -5,21 +5,10 @@ ghost use Rattle.poly_cut.specs.Figures.{cut_of};
 ghost use Rattle.poly_cut.specs.FlatForm.{items_at};
 ghost use Rattle.poly_cut.specs.Counts.{own_count, placed_count, count_of, wide_count, told, Tell};
 
-use crate::boxes::rectangle_of;
-use crate::cutting::{cut_ring, is_cut};
+use crate::cutting::is_cut;
 use crate::layout::{Figure, Grid, Item, Point, WideLayout, WideStructure};
 use aq_base::Memory;
 use std::alloc::Global;
-
-/// Into how many rectangles a ring is cut.
-fn ring_count(alloc: Global, ring: &[Point]) -> Result<usize, Memory>
-    ensures { IfOk result (λ count. count ≡ length (ring_cut ring.now)) }
-{
-    if rectangle_of(ring).is_some() {
-        return Ok(1);
-    }
-    Ok(cut_ring(alloc, ring)?.len())
-}
 
 /// Whether a ring has a square inside.
 pub fn has_squares(alloc: Global, ring: &[Point]) -> Result<bool, Memory>
@@ -29,35 +18,35 @@ pub fn has_squares(alloc: Global, ring: &[Point]) -> Result<bool, Memory>
 }
 
 /// How many rectangles a figure has.
-fn figure_count(alloc: Global, figure: &Figure) -> Result<usize, Memory>
-    ensures { IfOk result (λ count. count ≡ length (cut_of figure.now)) }
+fn figure_count(figure: &Figure) -> usize
+    ensures { result ≡ length (cut_of figure.now) }
 {
     match figure {
-        Figure::Ring(points) => ring_count(alloc, points.as_slice()),
-        Figure::Path { points, .. } => Ok(points.len().saturating_sub(1)),
+        Figure::Ring(ring) => ring.count(),
+        Figure::Path { points, .. } => points.len().saturating_sub(1),
     }
 }
 
 /// How many shapes and labels an item has itself.
-fn own_of_item(alloc: Global, item: &Item) -> Result<usize, Memory>
-    ensures { IfOk result (λ count. count ≡ own_count (item.now ∷ [])) }
+fn own_of_item(item: &Item) -> usize
+    ensures { result ≡ own_count (item.now ∷ []) }
 {
     match item {
-        Item::Draw { figure, .. } => figure_count(alloc, figure),
-        Item::Place { .. } => Ok(0),
-        Item::Text(_) => Ok(1),
+        Item::Draw { figure, .. } => figure_count(figure),
+        Item::Place { .. } => 0,
+        Item::Text(_) => 1,
     }
 }
 
 /// How many shapes and labels items have themselves; the greatest number stands for all above it.
-fn own_count(alloc: Global, items: &[Item]) -> Result<u64, Memory>
-    ensures { IfOk result (λ count. count ≡ told (own_count items.now)) }
+fn own_count(items: &[Item]) -> u64
+    ensures { result ≡ told (own_count items.now) }
 {
     let mut count: u64 = 0;
     for item in items {
-        count = count.saturating_add(own_of_item(alloc, item)? as u64);
+        count = count.saturating_add(own_of_item(item) as u64);
     }
-    Ok(count)
+    count
 }
 
 /// So of each structure.
@@ -66,7 +55,7 @@ fn own_counts(alloc: Global, structures: &[WideStructure]) -> Result<Vec<u64>, M
 {
     let mut counts = Vec::new(alloc);
     for structure in structures {
-        counts.push(own_count(alloc, structure.items.as_slice())?)?;
+        counts.push(own_count(structure.items.as_slice()))?;
     }
     Ok(counts)
 }

@@ -186,7 +186,7 @@ pub fn cut(alloc: Global, figure: &Figure) -> Result<List<Rect>, Memory>
     ensures { IfOk result (λ rects. rects ≡ cut_of figure.now) }
 {
     match figure {
-        Figure::Ring(points) => cut_ring(alloc, points.as_slice()),
+        Figure::Ring(ring) => ring.rects(alloc),
         Figure::Path {
             extended,
             half,

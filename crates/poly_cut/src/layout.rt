@@ -1,5 +1,6 @@
 // Layouts as other tools write them: boundaries with right angles, paths, and references that are turned and repeated (GDSII
 // Stream Format manual).
+use crate::kept::Ring;
 use aq_base::{Bytes, List};
 use geom::Label;
 
@@ -13,8 +14,8 @@ pub struct Point {
 /// What an element draws.
 #[derive(Clone, Drop, PartialEq)]
 pub enum Figure {
-    /// The corners of a boundary in turn, from a point back to it. Consecutive corners differ in at most one coordinate.
-    Ring(List<Point>),
+    /// The corners of a boundary. Consecutive corners differ in at most one coordinate.
+    Ring(Ring),
     /// The points at which a path begins, turns by a right angle, and ends. It is `half` wide to both sides, and goes `half`
     /// past its two ends where it is extended.
     Path {

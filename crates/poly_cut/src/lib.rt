@@ -10,6 +10,7 @@ mod ends;
 mod flat;
 mod grids;
 mod holding;
+mod kept;
 mod laws;
 mod layout;
 mod ready;
@@ -22,6 +23,7 @@ mod windows;
 pub use counts::{count_flat, has_squares};
 pub use cutting::cut;
 pub use flat::flatten_wide;
+pub use kept::Ring;
 pub use laws::{
     count_is_exact, flat_is_bounded, grids_are_near, rectangle_is_cut_whole, ring_is_covered,
     squares_are_turned, structure_is_covered,

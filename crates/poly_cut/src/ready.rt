@@ -54,7 +54,7 @@ fn boxed(figure: &Figure) -> Option<Rect>
     ensures { (rect : Rectangle) → result ≡ Some rect → cut_of figure.now ≡ rect ∷ [] }
 {
     match figure {
-        Figure::Ring(points) => rectangle_of(points.as_slice()),
+        Figure::Ring(ring) => rectangle_of(ring.as_slice()),
         Figure::Path { .. } => None,
     }
 }

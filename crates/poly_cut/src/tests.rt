@@ -3,7 +3,7 @@ ghost use Rattle.std.specs.Prelude.{◌≡◌, ◌<◌, ◌≤◌, ◌^◌, All}
 ghost use Rattle.poly_cut.specs.Figures.{IsBent, IsNarrow};
 
 use crate::cutting::{cut_path, cut_ring};
-use crate::{Figure, Grid, Item, Point, Turn, WideLayout, WideStructure, count_flat};
+use crate::{Figure, Grid, Item, Point, Ring, Turn, WideLayout, WideStructure, count_flat};
 use aq_base::{List, Memory};
 use geom::Rect;
 use std::alloc::Global;
@@ -122,7 +122,7 @@ fn tower(alloc: Global, above: u32, columns: u16, rows: u16) -> Result<WideLayou
         alloc,
         &[(0, 0), (4, 0), (4, 2), (2, 2), (2, 6), (0, 6), (0, 0)],
     )?;
-    let figure = Figure::Ring(List::from_vec(ring));
+    let figure = Figure::Ring(Ring::new(alloc, List::from_vec(ring))?);
     let draw = Item::Draw {
         layer: 1,
         datatype: 0,
@@ -177,5 +177,20 @@ fn counts(rt: HostRuntime) -> Result<(), Fail> {
         let layout = tower(rt.alloc(), above, columns, count_rows)?;
         assert_eq!(rt; count_flat(rt.alloc(), &layout)?, expected);
     }
+    Ok(())
+}
+
+#[test]
+fn rings_keep_their_cut(rt: HostRuntime) -> Result<(), Fail> {
+    let corners = points(
+        rt.alloc(),
+        &[(0, 0), (4, 0), (4, 2), (2, 2), (2, 6), (0, 6), (0, 0)],
+    )?;
+    let ring = Ring::new(rt.alloc(), List::from_vec(corners))?;
+    assert_eq!(rt; ring.count(), 2);
+    let copy = ring.clone()?;
+    assert!(rt; copy == ring);
+    let rects = copy.rects(rt.alloc())?;
+    assert!(rt; are(rects.as_slice(), &[(0, 0, 4, 2), (0, 2, 2, 6)]));
     Ok(())
 }
