@@ -1,5 +1,5 @@
 -- What the program tells of a text and of its models, step by step.
-use Rattle.std.proofs.Common.{◌≡◌, ℕ, zero, suc, ◌+◌, ◌-◌, ◌*◌, ◌<◌, ◌≤◌, ◌^◌, Bool, true, false, min, inl, inr, List, [], ◌∷◌, length, get_or, Option, Some, None, refl, sym, ap, ◌∙◌, subst, arith, lit<}
+use Rattle.std.proofs.Common.{◌≡◌, ℕ, ◌+◌, ◌*◌, ◌<◌, ◌≤◌, ◌^◌, Bool, true, false, inl, inr, List, [], ◌∷◌, length, refl, sym, ap, ◌∙◌, subst, arith}
 use Rattle.std.specs.Prelude.{Result, Ok, Err, IfOk, IfErr}
 use Rattle.std.specs.List.{AllByRecursion}
 use Rattle.std.proofs.lemmas.List.{length-map}
@@ -18,72 +18,13 @@ use Rattle.blif_read.specs.declared.texts.ReadText.{ReadText}
 use Rattle.blif_read.specs.declared.texts.ReadText.TheVariants.{Design as Models}
 use Rattle.blif_read.specs.declared.netlist.BlifFault.{BlifFault}
 use Rattle.blif_read.specs.declared.models.BlifModel.{BlifModel}
-use Rattle.blif_flat.specs.Designs.{first_model}
-use Rattle.blif_flat.specs.DesignFaults.{IsFirstFault, AreJoined, IsRecursive, loop_of}
-use Rattle.blif_flat.specs.DesignSize.{design_size}
-use Rattle.blif_flat.specs.DesignText.{SaysNetlist, IsNetlistRefusal, IsDesignRefusal, IsTextRefusal, IsLaidOut, IsBuildable, HasNoOutputs, IsToldLoop, IsToldFault, IsToldSize, OfModels, SaysExpansion}
+use Rattle.blif_flat.specs.DesignText.{SaysNetlist, IsNetlistRefusal, IsDesignRefusal, IsTextRefusal, IsBuildable, OfModels, SaysExpansion}
 use Rattle.blif_flat.specs.Expansion.{expansion}
-use Rattle.blif_flat.specs.Code.Joining.{IsTold}
 use Rattle.blif_flat.specs.Code.Building.{IsModelsRefusal}
-use Rattle.blif_flat.specs.declared.design.FlatKind.{FlatKind}
-use Rattle.blif_flat.specs.declared.design.FlatKind.TheVariants.{ModelTwice, UnknownModel, Ports, Duplicate, Undefined, Recursive, NoOutputs}
 use Rattle.blif_flat.specs.declared.design.FlatRefusal.{FlatRefusal}
 use Rattle.blif_flat.specs.declared.design.FlatRefusal.TheVariants.{Text, Design, TooMany, Memory}
-use Rattle.blif_flat.specs.declared.faults.order.Told.{Told}
 use Rattle.blif_flat.proofs.ExpandedParts.{each_has_a_byte, said_parts}
 use Rattle.blif_read.proofs.Counted.{text_is_cut}
-
-fault_of_line : (models : List BlifModel) (line : ℕ) (kind : FlatKind) → IsFirstFault models line kind → IsToldFault models line kind
-fault_of_line models line ModelTwice h = h
-fault_of_line models line UnknownModel h = h
-fault_of_line models line Ports h = h
-fault_of_line models line Duplicate h = h
-fault_of_line models line Undefined h = h
-fault_of_line models line Recursive h = absurd (h.is)
-fault_of_line models line NoOutputs h = absurd (h.is)
-
--- the fault that belongs to a line, or that there is none
-pub told_line : (models : List BlifModel) (o : Option Told) (told : Told) → IsTold models o → o ≡ Some told → IsToldFault models told.line told.kind
-told_line models o told h e = let f : IsTold models (Some told) = subst (IsTold models) e h in fault_of_line models told.line told.kind f
-
-pub told_none : (models : List BlifModel) (o : Option Told) → IsTold models o → o ≡ None → AreJoined models
-told_none models o h e = subst (IsTold models) e h
-
-pub straight_models : (models : List BlifModel) → AreJoined models → loop_of models ≡ None → IsLaidOut models
-straight_models models j s = record { joined = j; straight = s }
-
-pub looped_models : (models : List BlifModel) (line : ℕ) → AreJoined models → IsRecursive models line → IsToldLoop models line
-looped_models models line j r = record { joined = j; loop = r }
-
--- ---- outputs and the size
-
-first_same : (models : List BlifModel) (d : BlifModel) → 0 < length models → d ≡ get_or models 0 d → d ≡ first_model models
-first_same [] d lt e = absurd (omega arith)
-first_same (m ∷ ms) d lt e = e
-
-pub none_named : (models : List BlifModel) (d : BlifModel) (n : ℕ) → IsLaidOut models → 0 < length models → d ≡ get_or models 0 d → n ≡ length d.outputs → n ≡ 0 → HasNoOutputs models 0
-none_named models d n laid lt e l z = record { laid_out = laid; none = ap (λ (m : BlifModel). length m.outputs) (sym (first_same models d lt e)) ∙ sym l ∙ z; at = refl }
-
-some_named : (models : List BlifModel) (d : BlifModel) (n : ℕ) → 0 < length models → d ≡ get_or models 0 d → n ≡ length d.outputs → (n ≡ 0 → ⊥) → 0 < length (first_model models).outputs
-some_named models d n lt e l z = subst (λ (m : BlifModel). 0 < length m.outputs) (first_same models d lt e) (by n refl)
-  where
-    by : (k : ℕ) → n ≡ k → 0 < length d.outputs
-    by zero f = absurd (z f)
-    by (suc k) f = omega arith
-
-pub too_many : (models : List BlifModel) (d : BlifModel) (n size : ℕ) → IsLaidOut models → 0 < length models → d ≡ get_or models 0 d → n ≡ length d.outputs → (n ≡ 0 → ⊥)
-    → size ≡ min (design_size models) (2 ^ 64 - 1) → 16777216 < size → IsToldSize models size
-too_many models d n size laid lt e l z s large = record { laid_out = laid; some_output = some_named models d n lt e l z; large = above (design_size models) (2 ^ 64 - 1) size s large; told = s }
-  where
-    above : (m top size : ℕ) → size ≡ min m top → 16777216 < size → 16777216 < m
-    above m top size e lt = omega arith
-
-pub buildable : (models : List BlifModel) (d : BlifModel) (n size : ℕ) → IsLaidOut models → 0 < length models → d ≡ get_or models 0 d → n ≡ length d.outputs → (n ≡ 0 → ⊥)
-    → size ≡ min (design_size models) (2 ^ 64 - 1) → size ≤ 16777216 → IsBuildable models
-buildable models d n size laid lt e l z s le = record { laid_out = laid; some_output = some_named models d n lt e l z; small = below (design_size models) (2 ^ 64 - 1) size (lit< tt) s le }
-  where
-    below : (m top size : ℕ) → 16777216 < top → size ≡ min m top → size ≤ 16777216 → m ≤ 16777216
-    below m top size big e le = omega arith
 
 -- ---- the text
 

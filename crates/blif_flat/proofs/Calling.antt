@@ -17,7 +17,7 @@ use Rattle.blif_read.specs.declared.netlist.Def.{Def}
 use Rattle.blif_read.specs.declared.models.Call.{Call}
 use Rattle.blif_read.specs.declared.models.BlifModel.{BlifModel}
 use Rattle.blif_flat.specs.Designs.{model_number}
-use Rattle.blif_flat.specs.DesignFaults.{number_in as listed, callees, calls_of, loop_of, line_to, last_of_loop, loop_line, IsRecursive}
+use Rattle.blif_flat.specs.DesignFaults.{number_in as listed, callees, calls_of, loop_of, last_of_loop, loop_line, IsRecursive}
 use Rattle.blif_flat.specs.Code.Numbering.{number_in, number_or, IsNumbering}
 use Rattle.blif_flat.specs.Code.Calls.{has_name, call_def, call_defs, IsCallOrder}
 use Rattle.blif_flat.proofs.Numbering.{numbered_more, bytes_back}
@@ -35,10 +35,6 @@ model_at models i m old new number lt is n h add =
 pub number_at : (models : List BlifModel) (entries : List (Bor (List ℕ) × ℕ)) (name : List ℕ) → IsNumbering has_name entries models → (length name ≡ 0 → ⊥) → number_in entries name ≡ model_number models name
 number_at models entries [] is some = absurd (some refl)
 number_at models entries (b ∷ bs) is some = is (b ∷ bs)
-
-pub no_number : (models : List BlifModel) (name : List ℕ) → length name ≡ 0 → None ≡ model_number models name
-no_number models [] e = refl
-no_number models (b ∷ bs) e = absurd (omega arith)
 
 -- the number of a model is that of a model
 pub below : (models : List BlifModel) (name : List ℕ) → AllByRecursion (λ n. n < length models) (listed (model_number models name))
@@ -121,11 +117,3 @@ last_at [] n e = absurd (omega arith)
 last_at (x ∷ []) n e = let z : n ≡ 0 = omega arith in ap (λ k. get_or (x ∷ []) k 0) z
 last_at (x ∷ y ∷ xs) zero e = absurd (omega arith)
 last_at (x ∷ y ∷ xs) (suc n) e = last_at (y ∷ xs) n (omega arith)
-
--- the line of a loop, by the last of its models
-pub at_last : (models : List BlifModel) (signals : List ℕ) (o : Option BlifModel) (m : BlifModel) → slice_get models (last_of_loop signals) ≡ Some m
-    → line_to models (slice_index_or signals 0 0) m.calls ≡ loop_line models signals
-at_last models signals o m e = ap (λ (x : Option BlifModel). line_to models (slice_index_or signals 0 0) (elim x as (λ (y : Option BlifModel). List Call) [ None ↦ [] | Some model ↦ model.calls ])) (sym e)
-
-pub no_last : (models : List BlifModel) (signals : List ℕ) → slice_get models (last_of_loop signals) ≡ None → 0 ≡ loop_line models signals
-no_last models signals e = ap (λ (x : Option BlifModel). line_to models (slice_index_or signals 0 0) (elim x as (λ (y : Option BlifModel). List Call) [ None ↦ [] | Some model ↦ model.calls ])) (sym e)

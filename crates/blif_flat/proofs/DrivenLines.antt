@@ -21,9 +21,6 @@ lines_driven : (old new : List (Bor (List ℕ) × ℕ)) (name : Bor (List ℕ)) 
     → (q : List ℕ) → number_in new q ≡ driven_also (number_in old) (named line name.now) q
 lines_driven old new name line value v updates q = updates (record name { now = q }) ∙ line_at old name.now line value q (bytes_eq name.now q) refl v
 
-driving_with : (List ℕ → Option ℕ) → Option Told → Driving
-driving_with lines told = record { lines = lines; told = told }
-
 pub driven_one : (old new : List (Bor (List ℕ) × ℕ)) (name : Bor (List ℕ)) (line value : ℕ) (before after : Option Told) → value ≡ lower (number_in old name.now) line
     → ((q : Bor (List ℕ)) → lookup (λ k. bytes_eq q.now k.now) new ≡ cond (bytes_eq name.now q.now) (Some value) (lookup (λ k. bytes_eq q.now k.now) old))
     → after ≡ least_of before (again (number_in old name.now) line)

@@ -1,17 +1,16 @@
 -- What is finished of a design's wires and definitions is the netlist that its text says, and its refusals are those of
 -- that text.
-use Rattle.std.proofs.Common.{◌≡◌, ◌<◌, ◌≤◌, ◌^◌, ℕ, List, map, Result, Ok, Err, IfOk, IfErr, OnOk, None, length, refl, sym, ap, ◌∙◌, subst, inr, arith}
+use Rattle.std.proofs.Common.{◌≡◌, ◌<◌, ◌^◌, ℕ, List, map, Result, Ok, Err, IfOk, IfErr, OnOk, None, length, refl, sym, ap, ◌∙◌, arith}
 use Rattle.std.specs.Prelude.{slice_index_or}
 use Rattle.std.proofs.lemmas.List.{get_or_default, length-map}
 use Rattle.blif_read.specs.Parts.{NetView}
-use Rattle.blif_read.specs.Models.{SaysModels}
 use Rattle.blif_read.specs.Netlist.{AreParts}
 use Rattle.blif_read.specs.Walk.{first_cycle}
 use Rattle.blif_read.specs.declared.netlist.Def.{Def}
 use Rattle.blif_read.specs.declared.models.Named.{Named}
 use Rattle.blif_read.specs.declared.models.BlifModel.{BlifModel}
 use Rattle.blif_flat.specs.Designs.{names_in, no_model, first_model}
-use Rattle.blif_flat.specs.DesignText.{IsBuildable, SaysExpansion, IsDesignRefusal}
+use Rattle.blif_flat.specs.DesignText.{IsBuildable, SaysExpansion}
 use Rattle.blif_flat.specs.Expansion.{Wire, wire, wires, number, kept_names, expansion}
 use Rattle.blif_flat.specs.declared.design.FlatRefusal.{FlatRefusal}
 use Rattle.blif_flat.specs.declared.design.FlatRefusal.TheVariants.{Text, Design, TooMany, Memory}
@@ -19,7 +18,6 @@ use Rattle.blif_flat.specs.Code.Building.{IsModelsRefusal}
 use Rattle.blif_flat.specs.Code.Finished.{net_of, closed, IsUnfinished}
 use Rattle.blif_flat.specs.declared.expansion.wires.Place.{Place}
 use Rattle.blif_flat.specs.Code.Wired.{wire_of, wires_of}
-use Rattle.blif_flat.proofs.ExpandedParts.{said_parts}
 use Rattle.blif_flat.proofs.ExpandedSize.{wires_count}
 use Rattle.blif_flat.proofs.KeptNames.{kept_count}
 
@@ -47,11 +45,6 @@ module _ (models : List BlifModel) (inputs : ℕ) (ws : List Wire) (defs : List 
         outputs = ok.same_outputs i;
       }
 
-  -- a text's parts are those of a netlist
-  pub parts_of_text : (text : List ℕ) → length text ≤ 2 ^ 27 → SaysModels text models → IsBuildable models
-      → AreParts (net_of inputs ws defs outputs)
-  parts_of_text text few says buildable = subst AreParts (sym whole) (said_parts text models few says buildable)
-
   pub says_expansion : (net : NetView) → IsBuildable models → net ≡ net_of inputs ws defs outputs
       → first_cycle inputs defs ≡ None → SaysExpansion net models
   says_expansion net buildable is free = record {
@@ -59,24 +52,6 @@ module _ (models : List BlifModel) (inputs : ℕ) (ws : List Wire) (defs : List 
     no_cycle = sym (λ i. first_cycle (ok.same_inputs i) (ok.same_defs i)) ∙ free;
     is = is ∙ whole;
   }
-
-  -- and what is refused is a cycle of the expansion, or nothing but memory
-  pub told_refusal : (text : List ℕ) (refusal : FlatRefusal) → SaysModels text models → IsBuildable models
-      → IsUnfinished inputs ws defs refusal → IsDesignRefusal text refusal
-  told_refusal text Memory says buildable refused = tt
-  told_refusal text (Design line kind) says buildable refused = absurd refused
-  told_refusal text (TooMany size) says buildable refused = absurd refused
-  told_refusal text (Text fault) says buildable refused = inr (record {
-    models = models;
-    said = says;
-    fact = record {
-      buildable = buildable;
-      cycle = refused.cycle;
-      first = sym (λ i. first_cycle (ok.same_inputs i) (ok.same_defs i)) ∙ refused.first;
-      told = refused.told
-          ∙ (λ i. closed (ok.same_inputs i) (ok.same_wires i) (ok.same_defs i) refused.cycle);
-    };
-  })
 
 -- the parts as the program makes them
 pub are_expanded : (models : List BlifModel) (first : BlifModel) (inputs n : ℕ) (ws seen : List Wire) (defs : List Def)

@@ -87,14 +87,6 @@ passed_places entries count by total names more is = record {
   count = length-append names (replicate by None) ∙ (let c = is.count in let l : length (replicate {A = Option (List ℕ)} by None) ≡ by = length-replicate by None in omega arith);
 }
 
--- where a name stands
-pub place_found : (entries : List (Bor (List ℕ) × ℕ)) (count : ℕ) (name : List ℕ) (names : List (Option (List ℕ))) (place : ℕ) → number_in entries name ≡ Some place → ArePlaces entries count names → place ≡ position_or_len (is_that name) names
-place_found entries count name names place e is = some_is (nat_lt (position_or_len (is_that name) names) (length names)) (position_or_len (is_that name) names) (sym e ∙ is.found name)
-  where
-    some_is : (b : Bool) (n : ℕ) → Some place ≡ cond b (Some n) None → place ≡ n
-    some_is true n e = cc
-    some_is false n e = absurd (cc)
-
 pub first_at_most : (p : Option (List ℕ) → Bool) (xs : List (Option (List ℕ))) → position_or_len p xs ≤ length xs
 first_at_most p [] = omega arith
 first_at_most p (x ∷ xs) = turn (p x) (position_or_len p xs) (length xs) (first_at_most p xs)
@@ -138,15 +130,6 @@ room_left f xs i d x before whole lt is room few =
 
 abbrev somes : List (List ℕ) → List (Option (List ℕ))
 somes names = map (λ n. Some n) names
-
-pub one_actual : (old new : List (Bor (List ℕ) × ℕ)) (count total : ℕ) (actual : List ℕ) (found : List (List ℕ)) → found ≡ actual ∷ []
-    → ((names : List (Option (List ℕ))) → ArePlaces old count names → ArePlaces new total (names ++ Some actual ∷ []))
-    → (names : List (Option (List ℕ))) → ArePlaces old count names → ArePlaces new total (names ++ map (λ n. Some n) found)
-one_actual old new count total actual found e add names is = subst (λ ns. ArePlaces new total (names ++ somes ns)) (sym e) (add names is)
-
-pub no_actual : (old : List (Bor (List ℕ) × ℕ)) (count : ℕ) (found : List (List ℕ)) → found ≡ []
-    → (names : List (Option (List ℕ))) → ArePlaces old count names → ArePlaces old count (names ++ map (λ n. Some n) found)
-no_actual old count found e names is = subst (ArePlaces old count) (sym (ap (λ ns. names ++ somes ns) e ∙ append-nil names)) is
 
 pub actuals_more : (call : Call) (ports : List (Option ℕ)) (i : ℕ) (d : Option ℕ) → i < length ports → actuals_in call (take (i + 1) ports) ≡ actuals_in call (take i ports) ++ actual_in call (get_or ports i d)
 actuals_more call ports i d lt = ap (actuals_in call) (take_more ports i d lt) ∙ flat_append (actual_in call) (take i ports) (get_or ports i d ∷ []) ∙ ap (λ back. actuals_in call (take i ports) ++ back) (append-nil (actual_in call (get_or ports i d)))

@@ -1,14 +1,13 @@
 -- The walk that lays out blocks, turn by turn: the nearest frame is last in its vector.
 use Rattle.std.proofs.Common.{◌≡◌, ℕ, suc, ◌+◌, ◌<◌, ◌≤◌, ◌^◌, List, [], ◌∷◌, ◌++◌, length, drop, get_or, reverse, sym, ap, ◌∙◌, subst, arith, add-one, drop-cons, append_assoc}
 use Rattle.std.specs.Prelude.{slice_index_or}
-use Rattle.std.specs.List.{flat_map, sum_by, AllByRecursion}
+use Rattle.std.specs.List.{flat_map, AllByRecursion}
 use Rattle.std.proofs.lemmas.List.{reverse-append, append-nil, drop_all}
-use Rattle.std.proofs.lemmas.List.Sums.{sum_by-cons}
 use Rattle.blif_read.specs.declared.netlist.Def.{Def}
 use Rattle.blif_flat.specs.declared.expansion.pieces.Piece.{Piece}
 use Rattle.blif_flat.specs.declared.expansion.pieces.Piece.TheVariants.{Own, Inner}
 use Rattle.blif_flat.specs.declared.expansion.layout.Frame.{Frame}
-use Rattle.blif_flat.specs.Code.Blocks.{moved, of_piece, laid_out, piece_turns, turns, AreStraight, FitsIn, HaveRoom, still, turns_left}
+use Rattle.blif_flat.specs.Code.Blocks.{moved, of_piece, laid_out, AreStraight, FitsIn, HaveRoom, still}
 use Rattle.blif_flat.proofs.Members.{all_weaker}
 use Rattle.blif_flat.proofs.Outlining.{all_at}
 
@@ -36,10 +35,6 @@ module _ (blocks : List (List Piece)) where
   still_popped : (f : Frame) (rest frames : List Frame) → frames ≡ rest ++ f ∷ [] → still blocks (reverse frames) ≡ rest_of f ++ still blocks (reverse rest)
   still_popped f rest frames e = ap (still blocks) (ap reverse e ∙ reverse_push rest f)
 
-  turns_popped : (f : Frame) (rest frames : List Frame) → frames ≡ rest ++ f ∷ [] → turns_left blocks (reverse frames)
-      ≡ 1 + sum_by (piece_turns (turns blocks (length blocks))) (drop f.next (at f.model)) + turns_left blocks (reverse rest)
-  turns_popped f rest frames e = ap (turns_left blocks) (ap reverse e ∙ reverse_push rest f)
-
   -- a piece is taken
   taken : (f : Frame) (xs : List Piece) (p : Piece) → xs ≡ at f.model → f.next < length xs → p ≡ get_or xs f.next p → drop f.next (at f.model) ≡ p ∷ drop (f.next + 1) (at f.model)
   taken f xs p e lt is =
@@ -58,9 +53,6 @@ module _ (blocks : List (List Piece)) where
       let none : drop f.next (at f.model) ≡ [] = drop_all f.next (at f.model) (subst (λ ys. length ys ≤ f.next) same le) in
       sym (ap (λ ds. defs ++ ds) (still_popped f rest frames e ∙ ap (λ ps. flat_map (of_piece of f.base) ps ++ still blocks (reverse rest)) none)) ∙ w
 
-  pub done_sooner : (f : Frame) (rest frames : List Frame) → frames ≡ rest ++ f ∷ [] → turns_left blocks (reverse rest) < turns_left blocks (reverse frames)
-  done_sooner f rest frames e = let sum = turns_popped f rest frames e in omega arith
-
   -- a definition is laid out
   pub lay_own : (f : Frame) (rest frames after : List Frame) (defs more whole : List Def) (xs : List Piece) (p : Piece) (def moved_def : Def) → frames ≡ rest ++ f ∷ [] → after ≡ rest ++ frame f.model f.base (f.next + 1) ∷ []
       → xs ≡ at f.model → f.next < length xs → p ≡ get_or xs f.next p → p ≡ Own def → moved_def ≡ moved f.base def → more ≡ defs ++ moved_def ∷ []
@@ -72,21 +64,6 @@ module _ (blocks : List (List Piece)) where
       ∙ sym (ap (λ ds. defs ++ ds) (still_popped f rest frames e
       ∙ ap (λ ps. flat_map (of_piece of f.base) ps ++ still blocks (reverse rest)) (taken f xs p same lt is ∙ ap (λ q. q ∷ drop (f.next + 1) (at f.model)) own)))
       ∙ w
-
-  turn_taken : (f : Frame) (xs : List Piece) (p : Piece) → xs ≡ at f.model → f.next < length xs → p ≡ get_or xs f.next p
-      → sum_by (piece_turns (turns blocks (length blocks))) (drop f.next (at f.model))
-      ≡ piece_turns (turns blocks (length blocks)) p + sum_by (piece_turns (turns blocks (length blocks))) (drop (f.next + 1) (at f.model))
-  turn_taken f xs p same lt is = ap (sum_by (piece_turns (turns blocks (length blocks)))) (taken f xs p same lt is)
-      ∙ sum_by-cons (piece_turns (turns blocks (length blocks))) p (drop (f.next + 1) (at f.model))
-
-  pub own_sooner : (f : Frame) (rest frames after : List Frame) (xs : List Piece) (p : Piece) (def : Def) → frames ≡ rest ++ f ∷ [] → after ≡ rest ++ frame f.model f.base (f.next + 1) ∷ []
-      → xs ≡ at f.model → f.next < length xs → p ≡ get_or xs f.next p → p ≡ Own def → turns_left blocks (reverse after) < turns_left blocks (reverse frames)
-  own_sooner f rest frames after xs p def e a same lt is own =
-      let before = turns_popped f rest frames e in
-      let now = turns_popped (frame f.model f.base (f.next + 1)) rest after a in
-      let sum = turn_taken f xs p same lt is in
-      let one : piece_turns (turns blocks (length blocks)) p ≡ 1 = ap (piece_turns (turns blocks (length blocks))) own in
-      omega arith
 
   -- an inner block is begun
   pub lay_inner : AreStraight blocks → (f : Frame) (rest frames middle after : List Frame) (defs whole : List Def) (xs : List Piece) (p : Piece) (model start base : ℕ) → frames ≡ rest ++ f ∷ []
@@ -102,18 +79,6 @@ module _ (blocks : List (List Piece)) where
       ∙ sym (still_popped f rest frames e
       ∙ ap (λ ps. flat_map (of_piece of f.base) ps ++ still blocks (reverse rest)) (taken f xs p same lt is ∙ ap (λ q. q ∷ drop (f.next + 1) (at f.model)) inner)))
       ∙ w
-
-  pub inner_sooner : AreStraight blocks → (f : Frame) (rest frames middle after : List Frame) (xs : List Piece) (p : Piece) (model start base : ℕ) → frames ≡ rest ++ f ∷ []
-      → middle ≡ rest ++ frame f.model f.base (f.next + 1) ∷ [] → after ≡ middle ++ frame model base 0 ∷ []
-      → xs ≡ at f.model → f.next < length xs → p ≡ get_or xs f.next p → p ≡ Inner model start → turns_left blocks (reverse after) < turns_left blocks (reverse frames)
-  inner_sooner s f rest frames middle after xs p model start base e m a same lt is inner =
-      let before = turns_popped f rest frames e in
-      let between = turns_popped (frame f.model f.base (f.next + 1)) rest middle m in
-      let now = turns_popped (frame model base 0) middle after a in
-      let sum = turn_taken f xs p same lt is in
-      let one : piece_turns (turns blocks (length blocks)) p ≡ 1 + turns blocks (length blocks) model = ap (piece_turns (turns blocks (length blocks))) inner in
-      let ends = s.ends model in
-      omega arith
 
   -- ---- room for the wires of frames
 
@@ -167,8 +132,3 @@ module _ (blocks : List (List Piece)) where
   room_begun fit f rest frames middle after xs p model start base e m a same lt is inner b h =
       let room = inner_room fit f rest frames xs p model start e same lt is inner h in
       room_pushed fit.width (frame model base 0) middle after a (omega arith) (room_taken fit f rest frames middle e m h)
-
-  -- no frame is left
-  pub lay_all : (frames : List Frame) (defs whole : List Def) → length frames ≡ 0 → defs ++ still blocks (reverse frames) ≡ whole → defs ≡ whole
-  lay_all [] defs whole e w = sym (append-nil defs) ∙ w
-  lay_all (f ∷ fs) defs whole e w = absurd (omega arith)

@@ -80,10 +80,6 @@ tail_in x xs y c = Contains-append_right (x ∷ []) xs y c
 pub none_in : {X : Type 0} (y : X) → Contains [] y → ⊥
 none_in y c = let h = c.1 in omega arith
 
-least_told : (best : Option Told) (told : Told) → Told
-least_told None told = told
-least_told (Some best) told = cond (is_before best told) best told
-
 -- the best of one more is one of the two, and before both
 pub record IsLesser (best : Option Told) (told lesser : Told) : Type 0 where
   pub is : least best told ≡ Some lesser

@@ -299,8 +299,3 @@ pub contained : {X : Type 0} (xs : List X) (x : X) → Among x xs → Contains x
 contained [] x h = absurd h
 contained (y ∷ xs) x (inl e) = (0, omega arith, e)
 contained (y ∷ xs) x (inr h) = let more = contained xs x h in (suc more.0, omega (arith, more.1), more.2)
-
-pub among_contained : {X : Type 0} (xs : List X) (x : X) (k : ℕ) → k < length xs → slice_index_or xs k x ≡ x → Among x xs
-among_contained [] x k lt e = absurd (omega arith)
-among_contained (y ∷ xs) x zero lt e = inl e
-among_contained (y ∷ xs) x (suc k) lt e = inr (among_contained xs x k (omega arith) e)

@@ -60,11 +60,6 @@ put_there true None number h = refl
 put_there false (Some n) number h = refl
 put_there false None number h = refl
 
-kept_there : (b : Bool) (o : Option ℕ) (number n : ℕ) → (b ≡ true → o ≡ Some n) → o ≡ number_or o b number
-kept_there b (Some m) number n h = refl
-kept_there true None number n h = absurd (let e = h refl in cc)
-kept_there false None number n h = refl
-
 pub bytes_same : (x y : List ℕ) → bytes_eq x y ≡ true → x ≡ y
 bytes_same x y e = (bytes_eq-Decides x y).0 e
 
@@ -78,16 +73,6 @@ added_number old new name number none updates t =
     updates (record name { now = t })
     ∙ put_there (bytes_eq name.now t) (number_in old t) number (λ e. ap (λ (x : List ℕ). number_in old x) (sym (bytes_same name.now t e)) ∙ none)
 
-kept_number : (old : List (Bor (List ℕ) × ℕ)) (name : List ℕ) (number n : ℕ) → number_in old name ≡ Some n
-    → (t : List ℕ) → number_in old t ≡ number_or (number_in old t) (bytes_eq name t) number
-kept_number old name number n some t =
-    kept_there (bytes_eq name t) (number_in old t) number n (λ e. ap (λ (x : List ℕ). number_in old x) (sym (bytes_same name t e)) ∙ some)
-
 pub none_of : (o : Option ℕ) → is_some o ≡ false → o ≡ None
 none_of (Some n) e = absurd cc
 none_of None e = refl
-
-pub kept_some : (old : List (Bor (List ℕ) × ℕ)) (name : List ℕ) (number : ℕ) (o : Option ℕ) → o ≡ number_in old name → is_some o ≡ true
-    → (t : List ℕ) → number_in old t ≡ number_or (number_in old t) (bytes_eq name t) number
-kept_some old name number (Some n) e s = kept_number old name number n (sym e)
-kept_some old name number None e s = absurd cc

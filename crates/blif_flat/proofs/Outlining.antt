@@ -15,7 +15,6 @@ use Rattle.blif_flat.specs.Code.Joins.{ports_for, actuals_in, ArePlaces}
 use Rattle.blif_flat.specs.Code.Outlines.{IsOutline, HasOutline}
 use Rattle.blif_flat.proofs.Members.{map_map}
 use Rattle.blif_flat.proofs.Joining.{outputs_actuals, flat_append}
-use Rattle.blif_flat.proofs.BlockNames.{none_width}
 
 -- the outline that was found is that of the model
 pub found_outline : (models : List BlifModel) (outlines : List Outline) (n : ℕ) (outline : Outline) → Some outline ≡ slice_get outlines n
@@ -30,12 +29,6 @@ pub all_at : {X : Type 0} (P : X → Type 0) (xs : List X) (i : ℕ) (x : X) →
 all_at P [] i x all lt is = absurd (omega arith)
 all_at P (y ∷ xs) zero x all lt is = subst P (sym is) all.0
 all_at P (y ∷ xs) (suc i) x all lt is = all_at P xs i x all.1 (omega arith) is
-
--- a call that names no model adds nothing
-pub no_call_names : (models : List BlifModel) (call : Call) → model_number models call.model ≡ None → [] ≡ call_names (wide models) models call
-no_call_names models call none =
-    sym (ap (λ w. replicate w None) (none_width (length models) models)) ∙ sym (append-nil (replicate (wide models no_model) None))
-    ∙ ap (λ (x : Option ℕ). replicate (wide models (model_at models x)) None ++ map (λ o. Some (actual_of call o)) (filter (is_defined (formals call)) (distinct_outputs (model_at models x)))) (sym none)
 
 abbrev somes : List (List ℕ) → List (Option (List ℕ))
 somes names = map (λ n. Some n) names
@@ -91,9 +84,6 @@ part_more f xs i x old middle new count between next lt is before adds names pla
     let more : flat_map f (take (i + 1) xs) ≡ flat_map f (take i xs) ++ f x =
     ap (flat_map f) (take_more xs i x lt ∙ ap (λ y. take i xs ++ y ∷ []) (sym is)) ∙ flat_append f (take i xs) (x ∷ []) ∙ ap (λ back. flat_map f (take i xs) ++ back) (append-nil (f x)) in
     subst (ArePlaces new next) (append_assoc names (flat_map f (take i xs)) (f x) ∙ ap (λ back. names ++ back) (sym more)) (adds (names ++ flat_map f (take i xs)) (before names places))
-
-pub no_part : {X : Type 0} (f : X → List (Option (List ℕ))) (old : List (Bor (List ℕ) × ℕ)) (count : ℕ) (names : List (Option (List ℕ))) → ArePlaces old count names → ArePlaces old count (names ++ flat_map f [])
-no_part f old count names places = subst (ArePlaces old count) (sym (append-nil names)) places
 
 pub all_parts : {X : Type 0} (f : X → List (Option (List ℕ))) (xs ys : List X) (i : ℕ) (old new : List (Bor (List ℕ) × ℕ)) (count next : ℕ) → ys ≡ xs → length ys ≤ i
     → ((names : List (Option (List ℕ))) → ArePlaces old count names → ArePlaces new next (names ++ flat_map f (take i xs)))

@@ -1,16 +1,15 @@
 -- The numbers of a design's outputs: where the wires of the first model itself stand among all.
-use Rattle.std.proofs.Common.{◌≡◌, ℕ, suc, ◌+◌, ◌<◌, ◌≤◌, ◌⊎◌, inl, inr, Bool, true, false, not, cond, ◌&&◌, List, [], ◌∷◌, length, take, get_or, Bor, Option, Some, None, refl, sym, ap, ◌∙◌, subst, arith, length-take}
-use Rattle.std.specs.Prelude.{◌==◌, nat_lt}
+use Rattle.std.proofs.Common.{◌≡◌, ℕ, suc, ◌+◌, ◌<◌, ◌≤◌, ◌⊎◌, inl, inr, Bool, true, false, not, cond, List, [], ◌∷◌, length, take, get_or, Bor, Some, None, refl, sym, ap, ◌∙◌, subst, arith, length-take}
+use Rattle.std.specs.Prelude.{nat_lt}
 use Rattle.std.specs.List.{position_or_len}
-use Rattle.std.specs.Str.{bytes_eq}
-use Rattle.std.proofs.lemmas.Bool.{ne_eqb, cases_lt, lt-ltb}
+use Rattle.std.proofs.lemmas.Bool.{cases_lt, lt-ltb}
 use Rattle.std.proofs.lemmas.Option.{none-some}
 use Rattle.std.proofs.lemmas.List.{take_more}
 use Rattle.blif_flat.specs.Expansion.{wire, number}
 use Rattle.blif_flat.specs.declared.expansion.wires.Place.{Place}
 use Rattle.blif_flat.specs.Code.Numbering.{number_in, number_or, IsNumbering}
 use Rattle.blif_flat.specs.Code.Wired.{wires_of, is_own}
-use Rattle.blif_flat.proofs.Numbering.{numbered_more, bytes_back}
+use Rattle.blif_flat.proofs.Numbering.{numbered_more}
 
 -- one wire more
 pub own_more : (places : List Place) (i : ℕ) (d : Place) (old new : List (Bor (List ℕ) × ℕ)) (number : ℕ)
@@ -21,24 +20,6 @@ own_more places i d old new number lt n h add =
     let size : number ≡ length (take i places) = n ∙ sym (omega (arith, lt, length-take i places)) in
     subst (IsNumbering is_own new) (sym (take_more places i d lt))
     (numbered_more is_own old new (take i places) (get_or places i d) number h size add)
-
-none_added : (o : Option ℕ) (n : ℕ) → o ≡ number_or o false n
-none_added None n = refl
-none_added (Some m) n = refl
-
--- a wire of the first model, and one of a call
-pub own_added : (place : Place) (old new : List (Bor (List ℕ) × ℕ)) (n : ℕ) → place.call ≡ 0
-    → ((t : List ℕ) → number_in new t ≡ number_or (number_in old t) (bytes_eq place.name.now t) n)
-    → (t : List ℕ) → number_in new t ≡ number_or (number_in old t) (is_own t place) n
-own_added place old new n here add t = add t
-    ∙ ap (λ b. number_or (number_in old t) b n) (bytes_back place.name.now t
-    ∙ sym (ap (λ c. (0 == c) && bytes_eq t place.name.now) here))
-
-pub other_added : (place : Place) (old : List (Bor (List ℕ) × ℕ)) (n : ℕ) → (place.call ≡ 0 → ⊥)
-    → (t : List ℕ) → number_in old t ≡ number_or (number_in old t) (is_own t place) n
-other_added place old n there t = none_added (number_in old t) n
-    ∙ sym (ap (λ b. number_or (number_in old t) (b && bytes_eq t place.name.now) n)
-    (ne_eqb 0 place.call (λ e. there (sym e))))
 
 place_or : (n m k : ℕ) → cond (nat_lt n m) (Some n) None ≡ Some k → k ≡ n
 place_or n m k e = by (nat_lt n m) e

@@ -1,5 +1,5 @@
 -- Places of elements in lists, and the first model that has a name.
-use Rattle.std.proofs.Common.{◌≡◌, ◌≢◌, ℕ, zero, suc, ◌<◌, ◌≤◌, Bool, true, false, cond, ◌⊎◌, inl, inr, List, [], ◌∷◌, ◌++◌, length, Some, None, Contains, refl, sym, ap, ◌∙◌, arith, get_or}
+use Rattle.std.proofs.Common.{◌≡◌, ◌≢◌, ℕ, zero, suc, ◌<◌, ◌≤◌, true, false, cond, ◌⊎◌, inl, inr, List, [], ◌∷◌, ◌++◌, length, Some, None, Contains, refl, sym, ap, ◌∙◌, arith, get_or}
 use Rattle.std.specs.Prelude.{slice_get, nat_lt}
 use Rattle.std.specs.List.{position_or_len}
 use Rattle.std.specs.Str.{bytes_eq}
@@ -32,10 +32,6 @@ get_behind [] ys y = refl
 get_behind (x ∷ xs) ys y = get_behind xs ys y
 
 -- ---- the first model that has a name
-
-at_some : (b : Bool) (j i : ℕ) → cond b (Some j) None ≡ Some i → j ≡ i
-at_some true j i e = cc
-at_some false j i e = absurd (cc)
 
 -- the number of a name is that of a model that has it, and the name is not empty
 pub record IsNamed (models : List BlifModel) (name : List ℕ) (n : ℕ) : Type 0 where

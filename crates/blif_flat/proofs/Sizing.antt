@@ -21,9 +21,6 @@ use Rattle.blif_flat.proofs.Settling.{agrees, order_fits, next_done, next_reads,
 abbrev pub at : List BlifModel → ℕ → BlifModel
 at models n = slice_index_or models n no_model
 
-pub numbers_in : List BlifModel → List Call → List ℕ
-numbers_in models calls = flat_map (λ c. listed (model_number models c.model)) calls
-
 pub calls_at : (models : List BlifModel) (n : ℕ) → calls_of models n ≡ (at models n).calls
 calls_at [] n = refl
 calls_at (m ∷ ms) zero = refl

@@ -4,7 +4,7 @@ use Rattle.std.specs.Prelude.{nat_eq}
 use Rattle.std.specs.List.{AllByRecursion, IsDistinct}
 use Rattle.std.specs.Str.{bytes_eq}
 use Rattle.std.proofs.lemmas.Bool.{cases_Bool, eqb-true, eqb-false, true≢false}
-use Rattle.std.proofs.lemmas.List.{length-replicate, get_or_read}
+use Rattle.std.proofs.lemmas.List.{length-replicate}
 use Rattle.std.proofs.lemmas.List.Elements.{Contains-get_or}
 use Rattle.blif_read.specs.Walk.{on}
 use Rattle.blif_read.specs.Walked.{Settled}
@@ -95,9 +95,6 @@ module _ (models : List BlifModel) (order : List ℕ) (i : ℕ) (o : IsCallOrder
 
   pub small : here < length models
   small = in_order (λ n. n < length models) order i 0 lt o.bounded
-
-  pub model_is : (m : BlifModel) → m ≡ get_or models here m → m ≡ at models here
-  model_is m is = get_or_read models here m small is no_model
 
   pub calls_outlined : (outlines : List Outline) → Outlined models (reverse (take i order)) outlines → AreOutlined models outlines (at models here).calls
   calls_outlined outlines known = outlined_calls models (reverse (take i order)) outlines known (at models here).calls

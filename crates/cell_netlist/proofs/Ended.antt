@@ -1,11 +1,11 @@
 -- The levels that are told.
-use Rattle.std.proofs.Common.{◌≡◌, ℕ, zero, suc, ◌+◌, ◌-◌, ◌<◌, ◌≤◌, Bool, true, false, List, [], ◌∷◌, ◌++◌, length}
+use Rattle.std.proofs.Common.{◌≡◌, ℕ, zero, suc, ◌+◌, ◌-◌, ◌<◌, ◌≤◌, Bool, true, false, List, length}
 use Rattle.std.proofs.Common.{Option, refl, ap, sym, ◌∙◌, subst, arith, inl, inr}
 use Rattle.std.proofs.Math.Path.{fun_ext}
 use Rattle.std.specs.Prelude.{slice_index, slice_index_or, nat_lt, replicate}
 use Rattle.std.specs.List.{list_all}
-use Rattle.std.proofs.lemmas.Bool.{cases_eq, cases_lt, cond-true, cond-false}
-use Rattle.std.proofs.lemmas.List.{get_or_push, get_or_append_left, length_push, get_or_past, get_or-replicate}
+use Rattle.std.proofs.lemmas.Bool.{cases_lt, cond-true, cond-false}
+use Rattle.std.proofs.lemmas.List.{get_or_past, get_or-replicate}
 use Rattle.std.proofs.lemmas.List.{length-replicate}
 use Rattle.std.proofs.lemmas.Slice.Zip.{AllZip-long}
 use Rattle.height_trees.specs.Forests.{Forest, Obeys, AreLeast}
@@ -24,23 +24,6 @@ use Rattle.cell_netlist.specs.Code.Progress.{AreShownNodes, IsNearly, IsLast, Ar
 use Rattle.cell_netlist.proofs.Levelled.{side, all_at}
 use Rattle.cell_netlist.proofs.Levelled.Side.{before_cells, past_inputs}
 use Rattle.cell_netlist.proofs.Shown.{cell_net, unshown_grounded, node_low}
-
--- one more level
-
-pub level_more : (levels heights : List ℕ) (j x : ℕ) → suc (length levels) ≡ j
-    → ((k : ℕ) → k < length levels → slice_index levels k ≡ slice_index heights (suc k) - 1)
-    → x ≡ slice_index heights j - 1 → (k : ℕ) → k < length (levels ++ x ∷ [])
-    → slice_index (levels ++ x ∷ []) k ≡ slice_index heights (suc k) - 1
-level_more levels heights j x long each is k lt = elim (cases_eq k (length levels)) [
-  | inl e ↦
-      let at : suc k ≡ j = ap suc e ∙ long in
-      ap (slice_index (levels ++ x ∷ [])) e ∙ get_or_push levels x 0 (length levels) refl ∙ is
-      ∙ ap (λ (n : ℕ). slice_index heights n - 1) (sym at)
-  | inr ne ↦
-      let more = length_push levels x in
-      let low : k < length levels = omega (arith, ne, lt, more) in
-      get_or_append_left levels (x ∷ []) 0 k low ∙ each k low
-]
 
 -- each level that is told is that of a node
 

@@ -1,11 +1,10 @@
 -- The buffers that show outputs, on one level.
-use Rattle.std.proofs.Common.{◌≡◌, ℕ, zero, suc, ◌+◌, ◌-◌, ◌<◌, ◌≤◌, Bool, true, false, List, [], ◌∷◌, ◌++◌, length}
+use Rattle.std.proofs.Common.{◌≡◌, ℕ, zero, suc, ◌+◌, ◌-◌, ◌<◌, ◌≤◌, Bool, true, false, List, [], ◌∷◌, length}
 use Rattle.std.proofs.Common.{Option, Some, None, refl, ap, sym, ◌∙◌, subst, arith, inl, inr}
 use Rattle.std.specs.Prelude.{◌&&◌, eqb, slice_index, slice_index_or, slice_get, nat_lt, nat_eq}
 use Rattle.std.specs.List.{list_all, count_by}
 use Rattle.std.proofs.lemmas.Bool.{cases_eq, and_parts, eqb-true, cond-true, cond-false}
 use Rattle.std.proofs.lemmas.Option.{none-some, slice_get_within}
-use Rattle.std.proofs.lemmas.List.{get_or_push, get_or_append_left, length_push}
 use Rattle.height_trees.specs.Forests.{Forest, IsJoined, IsRefused, HasHeights}
 use Rattle.circuit.specs.declared.gate.Gate.{Gate}
 use Rattle.circuit.specs.declared.gate.Gate.TheVariants.{Input, Zero, One, Buf, Inv, Maj}
@@ -16,7 +15,7 @@ use Rattle.cell_netlist.specs.Uses.{CellView, uses, gate_of, is_buffer, is_buffe
 use Rattle.cell_netlist.specs.Levels.{above, LevelsFit, LevelsFitAll, buffered, shown_by, is_shown}
 use Rattle.cell_netlist.specs.Faults.{IsFed, IsUnfed, IsUnshown, IsCellNet}
 use Rattle.cell_netlist.specs.Tables.{IsTableOf}
-use Rattle.cell_netlist.specs.Code.Progress.{node_of, level_of, height_of, IsAligned, IsNotAligned, AreShownNodes}
+use Rattle.cell_netlist.specs.Code.Progress.{node_of, level_of, height_of, IsAligned, IsNotAligned}
 use Rattle.cell_netlist.specs.Code.Progress.{IsJudged, AreAllUsed, HasUnused, IsNearly, IsFoundLast}
 use Rattle.cell_netlist.proofs.Levelled.{here_of, computes_there, all_at, all_of, height_above, side}
 use Rattle.cell_netlist.proofs.Levelled.Side.{before_cells, past_inputs}
@@ -57,22 +56,6 @@ aligned_not f g first node nodes n aligned lt is refused = record {
       refused.none h (aligned.forth h known (λ m low. each m (omega arith)))
       (let one = each n lt in
       let here : h (slice_index nodes n) ≡ h node = ap h (sym is) in omega (arith, one, here));
-}
-
-pub nodes_more : (d : CellView) (outputs nodes : List ℕ) (n node shown : ℕ) → AreShownNodes d outputs nodes n
-    → node ≡ node_of d.net.inputs shown → shown ≡ shown_by d (slice_index outputs n)
-    → AreShownNodes d outputs (nodes ++ node ∷ []) (n + 1)
-nodes_more d outputs nodes n node shown known is by = record {
-  long = length_push nodes node ∙ ap (λ (m : ℕ). m + 1) known.long;
-  each = λ k lt. elim (cases_eq k n) [
-    | inl e ↦
-        ap (slice_index (nodes ++ node ∷ [])) e ∙ get_or_push nodes node 0 n known.long ∙ is
-        ∙ ap (node_of d.net.inputs) by
-        ∙ sym (ap (λ (m : ℕ). node_of d.net.inputs (shown_by d (slice_index outputs m))) e)
-    | inr ne ↦
-        let low : k < n = omega (arith, ne) in
-        get_or_append_left nodes (node ∷ []) 0 k (omega (arith, known.long)) ∙ known.each k low
-  ];
 }
 
 -- inputs with uses

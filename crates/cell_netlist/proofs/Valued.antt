@@ -174,22 +174,7 @@ three_none def x y z e none (Maj a b c) is =
     let apart = apart_of a b c x y z is.cell same.0 same.1 same.2 in
     none apart.0 apart.1 apart.2 (three_at def a b c is)
 
--- another number of inputs
-
-pub other_none : (def : Def) → (length def.inputs ≡ 0 → ⊥) → (length def.inputs ≡ 1 → ⊥) → (length def.inputs ≡ 3 → ⊥)
-    → (gate : Gate) → Computes def gate → ⊥
-other_none def n0 n1 n3 (Input i) is = is.cell
-other_none def n0 n1 n3 Zero is = n0 (named_long def Zero is)
-other_none def n0 n1 n3 One is = n0 (named_long def One is)
-other_none def n0 n1 n3 (Buf x) is = n1 (named_long def (Buf x) is)
-other_none def n0 n1 n3 (Inv x) is = n1 (named_long def (Inv x) is)
-other_none def n0 n1 n3 (Maj x y z) is = n3 (named_long def (Maj x y z) is)
-
 -- lists by their length and their items
-
-pub no_items : (ss : List ℕ) → length ss ≡ 0 → ss ≡ []
-no_items [] e = refl
-no_items (x ∷ ss) e = absurd (omega (arith, e))
 
 pub past : (plane : List ℕ) (values : List Bool) → values ≡ [] → takes_each plane values ≡ true
 past [] values e = refl

@@ -62,20 +62,6 @@ use_of (x ∷ defs) s some = elim (cases_eq (count_by (nat_eq s) x.inputs) 0) [
       record { j = 0; i = place.0; def = x; here = refl; at = place.1 }
 ]
 
--- later definitions have as many uses before them, and more where one between names the signal
-pub before_later : (defs : List Def) (s j m : ℕ) → j ≤ m
-    → count_by (nat_eq s) (named (take j defs)) ≤ count_by (nat_eq s) (named (take m defs))
-before_later [] s zero m le = omega arith
-before_later [] s (suc j) zero le = absurd (omega (arith, le))
-before_later [] s (suc j) (suc m) le = omega arith
-before_later (x ∷ defs) s zero m le = omega arith
-before_later (x ∷ defs) s (suc j) zero le = absurd (omega (arith, le))
-before_later (x ∷ defs) s (suc j) (suc m) le =
-    let a = count_append s x.inputs (named (take j defs)) in
-    let b = count_append s x.inputs (named (take m defs)) in
-    let rest = before_later defs s j m (omega (arith, le)) in
-    omega (arith, a, b, rest)
-
 pub before_more : (defs : List Def) (s j i m : ℕ) (def : Def) → slice_get defs j ≡ Some def
     → slice_get def.inputs i ≡ Some s → j < m
     → suc (count_by (nat_eq s) (named (take j defs))) ≤ count_by (nat_eq s) (named (take m defs))

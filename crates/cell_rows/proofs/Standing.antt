@@ -158,14 +158,6 @@ pub record Fed (d : CellView) (levels : List ℕ) (j : ℕ) (x : Defined d j) (i
   pub past : is_input d signal ≡ false
   pub is : s ≡ source_of d levels j signal
 
-few_operands : (g : Gate) → length (operands_of g) ≤ 3
-few_operands (Input i) = omega arith
-few_operands Zero = omega arith
-few_operands One = omega arith
-few_operands (Buf x) = omega arith
-few_operands (Inv x) = omega arith
-few_operands (Maj x y z) = omega arith
-
 few_fed : (d : CellView) (g : Gate) → length (fed_by d g) ≤ 3
 few_fed d (Input i) = omega arith
 few_fed d Zero = omega arith

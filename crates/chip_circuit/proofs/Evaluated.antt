@@ -19,9 +19,6 @@ pub record ValuesBelow (n : ℕ) (cells : List ExCell) (word values : List Bool)
   pub long : length values ≡ n
   pub each : (c : ℕ) (cell : ExCell) → c < n → slice_get cells c ≡ Some cell → valuation values c ≡ cell_value word (valuation values) cell
 
-pub values_none : (cells : List ExCell) (word : List Bool) → ValuesBelow 0 cells word []
-values_none cells word = record { long = refl; each = λ c cell lt. absurd (omega arith) }
-
 module _ (cells : List ExCell) (word : List Bool) (before : AreFedBefore cells) (n : ℕ) (values : List Bool) (b : Bool) (are : ValuesBelow n cells word values) where
   old : (c : ℕ) → c < n → valuation (values ++ b ∷ []) c ≡ valuation values c
   old c lt = get_or-append values (b ∷ []) false c (omega (arith, are.long))

@@ -134,9 +134,6 @@ in_row_more cells row first next so_far here c x ge lt at = elim (cases_lt c nex
   | inr late ↦ (let same : ◌≡◌ {A = ℕ} c next = omega (arith, lt, late) in here.1 x (subst (λ n. slice_get cells n ≡ Some x) same at))
 ]
 
-pub first_row : (cells : List ExCell) → IsRowStart cells 0 0
-first_row cells = record { within = omega arith; before = λ c x lt at. absurd (omega arith); from = λ c x ge at. omega arith }
-
 -- the text of the first times
 unfoldable pub trace_to : CircuitView → List (List Bool) → ℕ → List ℕ
 trace_to circuit words time = counts_line circuit ++ time_lines circuit words time

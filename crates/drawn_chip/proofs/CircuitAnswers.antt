@@ -198,9 +198,6 @@ module _ (p : PlacedView) (is : IsPlaced p) where
           answer_is = same_word word answer a value agrees;
         }
       where
-        sources : List Source
-        sources = map (output_source p) (numbers 0 p.net.outputs)
-
         same_word : (word answer : List Bool) (a : IsAnswer p.net word answer) (value : ℕ → Bool)
             → Agrees a.values value → answer ≡ values_at (map (output_source p) (numbers 0 p.net.outputs)) value
         same_word word answer a value agrees =

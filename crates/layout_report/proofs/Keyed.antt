@@ -5,9 +5,9 @@ use Rattle.std.proofs.Common.{append-nil}
 use Rattle.std.specs.Prelude.{slice_index, count_by, filter, map, max}
 use Rattle.std.proofs.lemmas.Bool.{cases_eq, ne_eqb}
 use Rattle.std.specs.Option.{is_some}
-use Rattle.std.proofs.lemmas.List.{take_all, take-append-le, length-take, map-append, get_or-set_same, get_or-set_other}
+use Rattle.std.proofs.lemmas.List.{take_all, take-append-le, map-append, get_or-set_same, get_or-set_other}
 use Rattle.std.proofs.lemmas.List.Elements.{filter_more}
-use Rattle.std.proofs.lemmas.List.Sums.{fold_push, count_by_more_yes, count_by_more_no, count_by-le-length}
+use Rattle.std.proofs.lemmas.List.Sums.{fold_push, count_by_more_yes, count_by_more_no}
 use Rattle.std.proofs.Math.ListN.{length-set}
 use Rattle.layout_report.specs.Wires.{greatest}
 use Rattle.layout_report.specs.Code.Sources.{is_row, is_some_row}
@@ -26,25 +26,6 @@ pub record MostBelow {X : Type 0} (n : ℕ) (row_of : X → Option ℕ) (number 
     : Type 0 where
   pub at : (row : ℕ) → row < length most
       → slice_index most row ≡ greatest (map number (filter (of_row row_of row) (take n items)))
-
-pub counts_none : {X : Type 0} (row_of : X → Option ℕ) (items : List X) (counts : List ℕ)
-    → ((row : ℕ) → slice_index counts row ≡ 0) → CountsBelow 0 row_of items counts
-counts_none row_of items counts none = record { at = λ row lt. none row }
-
-pub most_none : {X : Type 0} (row_of : X → Option ℕ) (number : X → ℕ) (items : List X) (most : List ℕ)
-    → ((row : ℕ) → slice_index most row ≡ 0) → MostBelow 0 row_of number items most
-most_none row_of number items most none = record { at = λ row lt. none row }
-
--- no count is above the number of items
-pub counts_few : {X : Type 0} (n : ℕ) (row_of : X → Option ℕ) (items : List X) (counts : List ℕ)
-    → CountsBelow n row_of items counts → (row : ℕ) → row < length counts → slice_index counts row ≤ n
-counts_few n row_of items counts below row lt =
-    omega (
-      arith,
-      below.at row lt,
-      count_by-le-length (of_row row_of row) (take n items),
-      length-take n items,
-    )
 
 pub counts_all : {X : Type 0} (n : ℕ) (row_of : X → Option ℕ) (items : List X) (counts : List ℕ) → length items ≤ n
     → CountsBelow n row_of items counts → AreCounts row_of items counts

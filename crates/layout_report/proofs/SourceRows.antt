@@ -59,18 +59,6 @@ pub record RowsBelow (n : ℕ) (shapes : List Shape) (nets : List ℕ) (rows : L
   pub only : (net row : ℕ) → slice_get rows net ≡ Some (Some row) → HasSource shapes nets net row
   pub within : (net row : ℕ) → slice_get rows net ≡ Some (Some row) → row < row_count shapes
 
-never : {A : Type 0} (row : ℕ) (o : Option ℕ) → o ≡ None → o ≡ Some row → A
-never row o none some = let e : None ≡ Some row = sym none ∙ some in absurd cc
-
-pub rows_none : (shapes : List Shape) (nets : List ℕ) (rows : List (Option ℕ)) → length rows ≡ length shapes
-    → ((net : ℕ) (row : Option ℕ) → slice_get rows net ≡ Some row → row ≡ None) → RowsBelow 0 shapes nets rows
-rows_none shapes nets rows long none = record {
-  long = long;
-  each = λ m pin row lt. absurd (omega arith);
-  only = λ net row at. never row (Some row) (none net (Some row) at) refl;
-  within = λ net row at. never row (Some row) (none net (Some row) at) refl;
-}
-
 module _ (flat : Flat) (nets : List ℕ) (order : AreInOrder flat nets) where
   -- output pins in one net are one
   pub one_output : (p q : ℕ) (pin other : Shape) → slice_get flat.shapes p ≡ Some pin

@@ -24,9 +24,6 @@ use Rattle.maj_mapping.proofs.Growing.{literals_grow, cubes_grow, any_within}
 abbrev pub after : List ℕ → MadeAll → MadeAll
 after ats m = record { gates = m.gates; ats = ats ++ m.ats }
 
-after_none : (m : MadeAll) → after [] m ≡ m
-after_none m = refl
-
 after_first : (ats : List ℕ) (x : ℕ) (m : MadeAll) → after (ats ++ x ∷ []) m ≡ after ats (first x m)
 after_first ats x m = ap (λ xs. record { gates = m.gates; ats = xs }) (append_assoc ats (x ∷ []) m.ats)
 
@@ -60,9 +57,6 @@ literal_first n gs b x bs xs = go (eqb b 49) (eqb b 48)
     go true q = refl
     go false true = refl
     go false false = refl
-
-pub no_literals : (start : MakerView) (bs xs made : List ℕ) → AreGates start.inputs start.gates → AllBelow (length start.gates) xs → made ≡ [] → Literals start bs xs start made 0
-no_literals start bs xs made good below e = record { same = refl; good = good; below = below; left = ap (λ ms. after ms (literals start.inputs start.gates bs xs)) e }
 
 pub one_literal : (start : MakerView) (bs xs : List ℕ) (maker next : MakerView) (made more : List ℕ) (k x : ℕ) → k < length bs → k < length xs → x ≡ get_or xs k x → Literals start bs xs maker made k
     → next ≡ with_gates maker (literal maker.inputs maker.gates (get_or bs k 0) x).gates
@@ -109,10 +103,6 @@ ended start xs whole rest maker made m e =
     let all : (record { gates = maker.gates; ats = made }) ≡ whole = ap (λ ms. record { gates = maker.gates; ats = ms }) (sym (append-nil made)) ∙ ap (after made) (sym e) ∙ m.left in
     (ap (λ i. with_gates (record { inputs = i; gates = maker.gates }) maker.gates) m.same ∙ ap (λ (t : MadeAll). with_gates start t.gates) all, ap (λ (t : MadeAll). t.ats) all)
 
-pub all_literals : (start : MakerView) (bs xs : List ℕ) (maker : MakerView) (made : List ℕ) (k : ℕ) → Literals start bs xs maker made k → length bs ≤ k
-    → (maker ≡ with_gates start (literals start.inputs start.gates bs xs).gates) × (made ≡ (literals start.inputs start.gates bs xs).ats)
-all_literals start bs xs maker made k m past = ended start xs _ (λ gs. literals start.inputs gs (drop k bs) (drop k xs)) maker made m (ap (λ bb. literals start.inputs maker.gates bb (drop k xs)) (drop_all k bs past))
-
 pub past_inputs : (start : MakerView) (bs xs : List ℕ) (maker : MakerView) (made : List ℕ) (k : ℕ) → Literals start bs xs maker made k → length xs ≤ k
     → (maker ≡ with_gates start (literals start.inputs start.gates bs xs).gates) × (made ≡ (literals start.inputs start.gates bs xs).ats)
 past_inputs start bs xs maker made k m past = ended start xs _ (λ gs. literals start.inputs gs (drop k bs) (drop k xs)) maker made m (no_inputs start.inputs maker.gates (drop k bs) (drop k xs) (drop_all k xs past))
@@ -125,9 +115,6 @@ planes_at : (cs : List Cube) (k : ℕ) (d : Cube) → k < length cs → HasPlane
 planes_at [] k d lt h = absurd (omega arith)
 planes_at (c ∷ cs) zero d lt h = h.0
 planes_at (c ∷ cs) (suc k) d lt h = planes_at cs k d (omega arith) h.1
-
-pub no_cubes : (start : MakerView) (xs made : List ℕ) (cs : List Cube) → AreGates start.inputs start.gates → AllBelow (length start.gates) xs → made ≡ [] → Cubes start xs cs start made 0
-no_cubes start xs made cs good below e = record { same = refl; good = good; below = below; left = ap (λ ms. after ms (cubes_made start.inputs start.gates xs cs)) e }
 
 pub one_cube : (start : MakerView) (xs : List ℕ) (cs : List Cube) (maker next : MakerView) (made more plane : List ℕ) (k gate : ℕ) (c : Cube) → HasPlanes cs → k < length cs → c ≡ get_or cs k c → plane ≡ c.plane → Cubes start xs cs maker made k
     → next ≡ with_gates maker (cube_made maker.inputs maker.gates xs plane).gates → gate ≡ (cube_made maker.inputs maker.gates xs plane).at → more ≡ made ++ gate ∷ []
@@ -151,10 +138,6 @@ one_cube start xs cs maker next made more read k gate c planes lt at r m is g ad
           ∙ ap (λ cc. after made (cubes_made n maker.gates xs cc)) (sym rest)
           ∙ m.left;
     }
-
-pub all_cubes : (start : MakerView) (xs : List ℕ) (cs : List Cube) (maker : MakerView) (made : List ℕ) (k : ℕ) → Cubes start xs cs maker made k → length cs ≤ k
-    → (maker ≡ with_gates start (cubes_made start.inputs start.gates xs cs).gates) × (made ≡ (cubes_made start.inputs start.gates xs cs).ats)
-all_cubes start xs cs maker made k m past = ended start xs _ (λ gs. cubes_made start.inputs gs xs (drop k cs)) maker made m (ap (cubes_made start.inputs maker.gates xs) (drop_all k cs past))
 
 -- the `and` of the literals, as the code has them
 pub cube_whole : (maker one : MakerView) (plane inputs ats read : List ℕ) → one ≡ with_gates maker (literals maker.inputs maker.gates plane inputs).gates

@@ -1,6 +1,6 @@
 -- What a maker of gates keeps.
 use Rattle.std.specs.Prelude.{◌≡◌, ℕ, suc, ◌+◌, ◌<◌, ◌^◌, Bool, true, false, List, [], ◌∷◌, ◌++◌, length, slice_index_or, slice_set, Option, Some, None}
-use Rattle.std.proofs.Common.{refl, sym, ap, ◌∙◌, subst, arith, inl, inr, length-append, lit<}
+use Rattle.std.proofs.Common.{refl, sym, ap, ◌∙◌, subst, arith, inl, inr, length-append}
 use Rattle.std.proofs.lemmas.Bool.{cases_eq, ne_eqb, eq-eqb}
 use Rattle.std.proofs.lemmas.List.{get_or-set_same, get_or-set_other}
 use Rattle.circuit.specs.declared.gate.Gate.{Gate}
@@ -59,6 +59,3 @@ maker_invert n gs is x ok low free room = record {
   numbered = ok.numbered;
   small = simp length-append (omega arith);
 }
-
-pub maker_begins : (n : ℕ) → n + 1 < 2 ^ 32 → IsMaker n [] []
-maker_begins n fits = record { index = λ x. refl; numbered = fits; small = lit< tt }

@@ -1,12 +1,11 @@
 -- The walks from the outputs, one after the other: what is left makes the whole.
-use Rattle.std.specs.Prelude.{◌≡◌, ℕ, zero, suc, ◌+◌, ◌<◌, ◌≤◌, ◌^◌, List, [], ◌∷◌, map, length, drop, Option, Some, None}
+use Rattle.std.specs.Prelude.{◌≡◌, ℕ, ◌+◌, ◌<◌, ◌≤◌, ◌^◌, List, ◌∷◌, map, length, drop, Option, Some, None}
 use Rattle.std.specs.List.{fold}
 use Rattle.std.proofs.Common.{refl, sym, ap, ◌∙◌, subst, arith, get_or, drop-cons, add-one}
 use Rattle.std.proofs.lemmas.List.{drop_all}
 use Rattle.blif_read.specs.Parts.{NetView}
 use Rattle.blif_read.specs.Netlist.{IsNetlist}
 use Rattle.circuit.specs.PlainNets.{PlainView, IsPlainNet}
-use Rattle.maj_mapping.specs.Counts.{AllBelow}
 use Rattle.maj_mapping.specs.Code.MakerView.{MakerView}
 use Rattle.maj_mapping.specs.Plan.{Mapping, visit, start, first_gates, first_map, mapped, map_net, gate_or, signals}
 use Rattle.maj_mapping.proofs.Ordered.{IsOrdered}
@@ -43,23 +42,6 @@ begins net ok outputs n defs maker gate_of o e d m g =
     no_gate : (o : Option ℕ) (g : ℕ) → o ≡ Some g → o ≡ None → ⊥
     no_gate None g e h = absurd (let z : None ≡ Some g = e in cc)
     no_gate (Some k) g e h = absurd (let z : Some k ≡ None = h in cc)
-
-pub output_below : (net : NetView) → IsOrdered net → (outputs : List ℕ) (k : ℕ) → outputs ≡ net.outputs → k < length outputs → get_or outputs k 0 < signals net
-output_below net ok outputs k o lt = go outputs k lt (subst (AllBelow (signals net)) (sym o) ok.shown)
-  where
-    go : (xs : List ℕ) (k : ℕ) → k < length xs → AllBelow (signals net) xs → get_or xs k 0 < signals net
-    go [] k lt h = absurd (omega arith)
-    go (x ∷ xs) zero lt h = h.0
-    go (x ∷ xs) (suc k) lt h = go xs k (omega arith) h.1
-
-pub one_output : (net : NetView) (outputs : List ℕ) (maker after : MakerView) (gate_of next : List (Option ℕ)) (k : ℕ) → k < length outputs → Mapped net outputs maker gate_of k
-    → mapping after next ≡ walk net (mapping maker gate_of) (get_or outputs k 0) → IsStanding net after next → Mapped net outputs after next (k + 1)
-one_output net outputs maker after gate_of next k lt m walked standing =
-    let rest : drop k outputs ≡ get_or outputs k 0 ∷ drop (k + 1) outputs = drop-cons outputs k 0 lt ∙ ap (λ j. get_or outputs k 0 ∷ drop j outputs) (sym (add-one k)) in
-    record {
-      left = ap (λ (t : Mapping). fold (visit net (deep net)) t (drop (k + 1) outputs)) walked ∙ ap (fold (visit net (deep net)) (mapping maker gate_of)) (sym rest) ∙ m.left;
-      standing = standing;
-    }
 
 pub all_outputs : (net : NetView) (outputs : List ℕ) (maker : MakerView) (gate_of given : List (Option ℕ)) (k n : ℕ) (shown signals : List ℕ) (gates : List _) → Mapped net outputs maker gate_of k → length outputs ≤ k
     → n ≡ net.inputs → given ≡ gate_of → signals ≡ net.outputs → shown ≡ map (gate_or given) signals → gates ≡ maker.gates

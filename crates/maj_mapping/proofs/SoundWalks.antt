@@ -45,10 +45,6 @@ after_same net m ok = record { sound = ok; earlier = λ word v fits. fits; kept 
 after_then : (net : NetView) (a b c : Mapping) → After net a b → After net b c → After net a c
 after_then net a b c f g = record { sound = g.sound; earlier = λ word v fits. f.earlier word v (g.earlier word v fits); kept = λ s h. g.kept s (f.kept s h) }
 
-all_kept : (net : NetView) (m m' : Mapping) → After net m m' → (ss : List ℕ) → AllMapped m ss → AllMapped m' ss
-all_kept net m m' a [] h = tt
-all_kept net m m' a (s ∷ ss) h = (a.kept s h.0, all_kept net m m' a ss h.1)
-
 gate_or_is : (m : Mapping) (s g : ℕ) → gate_at m.gate_of s ≡ Some g → gate_or m.gate_of s ≡ g
 gate_or_is m s g e = ap (λ (o : Option ℕ). unwrap_or o 0) e
 

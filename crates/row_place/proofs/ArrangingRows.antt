@@ -1,5 +1,5 @@
 -- Lemmas on the loop that arranges rows: so far they are those that are wanted, by the arrays of the row before.
-use Rattle.std.proofs.Common.{◌≡◌, ℕ, suc, ◌+◌, ◌<◌, ◌≤◌, ◌^◌, List, [], ◌∷◌, ◌++◌, length, drop, map, get_or, refl, sym}
+use Rattle.std.proofs.Common.{◌≡◌, ℕ, suc, ◌+◌, ◌<◌, ◌≤◌, ◌^◌, List, [], ◌∷◌, ◌++◌, length, drop, map, get_or, sym}
 use Rattle.std.proofs.Common.{◌∙◌, ap, subst, arith, add-one, drop-cons, append_assoc, length-append, true, false}
 use Rattle.std.proofs.lemmas.List.{append-nil, drop_all}
 use Rattle.rowed.specs.declared.row_cell.RowCell.{RowCell}
@@ -25,9 +25,6 @@ pub record ArrangedSo (rows : List (List RowCell)) (slots : List (List ℕ)) (r 
       ≡ row_cells (arranged_rows [] rows slots)
   pub slots_so : lists ++ row_slots (arranged_rows old (drop r rows) (drop r slots))
       ≡ row_slots (arranged_rows [] rows slots)
-
-pub none_arranged : (rows : List (List RowCell)) (slots : List (List ℕ)) → ArrangedSo rows slots 0 [] [] []
-none_arranged rows slots = record { old = []; inverse = λ c. refl; few = omega arith; cells_so = refl; slots_so = refl }
 
 -- one row more
 pub one_arranged : (rows : List (List RowCell)) (slots : List (List ℕ)) (r : ℕ) (d row : List RowCell)

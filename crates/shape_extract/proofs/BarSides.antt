@@ -56,9 +56,6 @@ module _ (shapes : List Shape) (contacts : List ℕ) (a b : ℕ) (are : AreThose
 -- ---- the answer for one shape
 
 module _ (shapes : List Shape) (before : List ℕ) (lines : AreLaidOut shapes) (w : AreWalked shapes before) (b : ℕ) (lt : b < length shapes) where
-  pub no_bar : (IsPart shapes BAR b → ⊥) → IsChainUncrossed shapes b → ⊥
-  no_bar not_so fault = not_so fault.bar
-
   pub not_come : (IsReached shapes b → ⊥) → IsChainUncrossed shapes b → ⊥
   not_come not_so fault = not_so (Before-reached shapes fault.before b fault.is_before)
 

@@ -1,7 +1,7 @@
 -- The feeds of cells, read from tables.
 use Rattle.std.proofs.Common.{◌≡◌, ℕ, ◌+◌, ◌<◌, ◌≤◌, inl, inr, Bool, true, false, ◌&&◌, List, length, Some, refl, sym, ap, ◌∙◌, arith, eq-eqb}
 use Rattle.std.specs.Prelude.{slice_get, slice_index, ◌==◌}
-use Rattle.std.proofs.lemmas.Bool.{cases_eq, and_parts, and_from, both_ways, eqb-true, or_left, or_right}
+use Rattle.std.proofs.lemmas.Bool.{cases_eq, and_parts, and_from, both_ways, eqb-true, or_right}
 use Rattle.std.proofs.lemmas.Option.{same_Some, slice_get_within, get_or_from_slice_get}
 use Rattle.geom.specs.declared.shapes.Shape.{Shape}
 use Rattle.geom.specs.declared.shapes.Flat.{Flat}
@@ -31,9 +31,6 @@ on_within flat layer p on = slice_get_within flat.shapes p on.shape on.shape_is
 pub output_passes : (flat : Flat) (p : ℕ) → IsOn flat OUTPUT_PIN p → Passes is_pin flat.shapes p
 output_passes flat p on = record { shape = on.shape; shape_is = on.shape_is; passes_so = or_right (on.shape.layer == INPUT_PIN) (on.shape.layer == OUTPUT_PIN) (eq-eqb on.shape.layer OUTPUT_PIN on.of_layer) }
 
-pub input_passes : (flat : Flat) (p : ℕ) → IsOn flat INPUT_PIN p → Passes is_pin flat.shapes p
-input_passes flat p on = record { shape = on.shape; shape_is = on.shape_is; passes_so = or_left (on.shape.layer == INPUT_PIN) (on.shape.layer == OUTPUT_PIN) (eq-eqb on.shape.layer INPUT_PIN on.of_layer) }
-
 pub frame_lies : (shapes : List Shape) (p f : ℕ) (lies : LiesIn shapes p f) → Passes is_frame shapes f
 frame_lies shapes p f lies = record { shape = lies.frame; shape_is = lies.frame_is; passes_so = (and_parts (is_pin lies.pin) (is_frame lies.frame) (and_parts (is_pin lies.pin && is_frame lies.frame) _ lies.lies_so).0).1 }
 
@@ -47,9 +44,6 @@ plain_input flat p on none = record { pin = on.shape; pin_is = on.shape_is; of_l
         none at.place (record { label = at.item; pin = on.shape; label_is = at.item_is; pin_is = on.shape_is; marks_so = at.passes_so })
         )
     by_test false e = e
-
-pub source_on : (flat : Flat) (p d : ℕ) → IsOnlySource flat.shapes p d → IsOn flat OUTPUT_PIN d
-source_on flat p d only = record { shape = only.source.pin; shape_is = only.source.pin_is; of_layer = only.source.of_layer }
 
 module _ (flat : Flat) (nets frames places drivers : List ℕ) (t : AreTables flat nets frames places drivers) where
   pub place_there : (p f : ℕ) → LiesIn flat.shapes p f → f < length places
@@ -129,6 +123,3 @@ fed_within flat frames kind f i p feed lt pin feeds = record { within = λ h. re
 
 pub fed_past : (flat : Flat) (frames : List ℕ) (kind : CellKind) (f i : ℕ) → inputs_of kind ≤ i → IsFeedOfInput flat frames kind f i Nothing
 fed_past flat frames kind f i ge = record { within = λ lt. absurd (omega arith); past = λ h. refl }
-
-pub pin_on : (flat : Flat) (f i p : ℕ) → IsPinOf flat.shapes f INPUT_PIN i p → IsOn flat INPUT_PIN p
-pin_on flat f i p pin = record { shape = pin.pin; shape_is = pin.pin_is; of_layer = pin.of_layer }

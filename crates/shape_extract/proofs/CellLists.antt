@@ -4,7 +4,7 @@ use Rattle.std.specs.Prelude.{slice_get, slice_index, not, int_lt}
 use Rattle.std.specs.List.{AllZip}
 use Rattle.std.proofs.Math.ListN.{length-append}
 use Rattle.std.proofs.lemmas.List.Sums.{count_by-le-length}
-use Rattle.std.proofs.lemmas.Option.{same_Some, slice_get-get_or, get_or_from_slice_get}
+use Rattle.std.proofs.lemmas.Option.{same_Some, get_or_from_slice_get}
 use Rattle.geom.specs.declared.shapes.Shape.{Shape}
 use Rattle.geom.specs.declared.shapes.Flat.{Flat}
 use Rattle.circuit.specs.declared.cell_kind.CellKind.{CellKind}
@@ -19,8 +19,6 @@ use Rattle.chip_circuit.specs.declared.cells.Feed.{Feed}
 use Rattle.chip_circuit.specs.declared.cells.Feed.TheVariants.{Nothing}
 use Rattle.chip_circuit.specs.declared.cells.ExCell.{ExCell}
 use Rattle.chip_circuit.specs.Circuits.{feed_at}
-use Rattle.shape_extract.specs.Code.Edges.{IsAmong}
-use Rattle.shape_extract.specs.Frames.{AreFrames}
 use Rattle.shape_extract.specs.Extraction.{IsFeedAt, IsInPhase, IsCellFrom}
 use Rattle.shape_extract.specs.Code.Tables.{IsFrameOf, IsFeedOfInput}
 use Rattle.layout_rules.specs.ExcitationRule.{IsExcitedAt}
@@ -53,9 +51,6 @@ row_small shapes y =
 module _ (shapes : List Shape) (edges : List ℤ) (rows : AreRows shapes edges) (f : ℕ) (s : Shape) (got : slice_get shapes f ≡ Some s) (passes : Passes is_frame shapes f) where
   frame_so : is_frame s ≡ true
   frame_so = ap is_frame (same_Some s passes.shape (sym got ∙ passes.shape_is)) ∙ passes.passes_so
-
-  pub edge_among : IsAmong edges s.rect.y0
-  edge_among = rows.each f s got frame_so
 
   pub row_there : (r : ℕ) → slice_get edges r ≡ Some s.rect.y0 → (t : Shape) → slice_get shapes f ≡ Some t → r ≡ row_of shapes t.rect.y0
   row_there r at t is = sym (row_of-certified shapes edges rows r s.rect.y0 at) ∙ ap (λ (x : Shape). row_of shapes x.rect.y0) (same_Some s t (sym got ∙ is))
@@ -118,9 +113,6 @@ pub record CellsBelow (n : ℕ) (flat : Flat) (frames : List ℕ) (cells : List 
   pub long : length cells ≡ n
   pub each : (k f : ℕ) (cell : ExCell) → slice_get cells k ≡ Some cell → slice_get frames k ≡ Some f → IsCellFrom flat frames cell f
 
-pub cells_none : (flat : Flat) (frames : List ℕ) → CellsBelow 0 flat frames []
-cells_none flat frames = record { long = refl; each = λ k f cell at. absurd cc }
-
 pub cells_more : (flat : Flat) (frames : List ℕ) (n : ℕ) (cells : List ExCell) (here : ExCell) → CellsBelow n flat frames cells → IsCellFrom flat frames here (slice_index frames n) → CellsBelow (n + 1) flat frames (cells ++ here ∷ [])
 cells_more flat frames n cells here below from = record {
   long = omega (arith, length-append cells (here ∷ []), below.long);
@@ -140,6 +132,3 @@ all_zip R (x ∷ xs) (y ∷ ys) e h = (h 0 x y refl refl, all_zip R xs ys (omega
 
 pub cells_all : (flat : Flat) (frames : List ℕ) (n : ℕ) (cells : List ExCell) → n ≡ length frames → CellsBelow n flat frames cells → AllZip (IsCellFrom flat frames) cells frames
 cells_all flat frames n cells e below = all_zip (IsCellFrom flat frames) cells frames (below.long ∙ e) (λ k cell f at is. below.each k f cell at is)
-
-pub frame_at : (shapes : List Shape) (frames : List ℕ) → AreFrames shapes frames → (k : ℕ) → k < length frames → Passes is_frame shapes (slice_index frames k)
-frame_at shapes frames are k lt = are.only k (slice_index frames k) (slice_get-get_or frames k 0 lt)

@@ -26,15 +26,6 @@ pub record CornersBelow (n : ℕ) (shapes : List Shape) (corners : List Corner) 
   pub once : (k l : ℕ) (c d : Corner) → slice_get corners k ≡ Some c → slice_get corners l ≡ Some d → c.number ≡ d.number → k ≡ l
   pub few : length corners ≤ n
 
-pub corners_none : (shapes : List Shape) → CornersBelow 0 shapes []
-corners_none shapes = record {
-  each = λ f frame lt. absurd (omega arith);
-  only = λ k corner is. absurd cc;
-  below = λ k corner is. absurd cc;
-  once = λ k l c d is. absurd cc;
-  few = omega arith;
-}
-
 module _ (shapes : List Shape) (n : ℕ) (corners : List Corner) (here : Shape) (are : CornersBelow n shapes corners) (got : slice_get shapes n ≡ Some here) where
   pub corners_more : is_frame here ≡ true → CornersBelow (n + 1) shapes (corners ++ corner_of here n ∷ [])
   corners_more frame_so = record {

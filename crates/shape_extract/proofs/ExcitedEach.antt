@@ -27,9 +27,6 @@ excited_in_phase shapes frame excited = record { number = excited.bar; bar = exc
 -- ---- one bar and one frame
 
 module _ (shapes : List Shape) (before : List ℕ) (lines : AreLaidOut shapes) (w : AreWalked shapes before) (b : ℕ) (lt : b < length shapes) (frame : Shape) where
-  pub no_bar_excites : (IsPart shapes BAR b → ⊥) → Excites shapes b frame → ⊥
-  no_bar_excites not_so excites = not_so excites.phase.is_bar
-
   pub not_come_excites : (IsReached shapes b → ⊥) → Excites shapes b frame → ⊥
   not_come_excites not_so excites = not_so (Before-reached shapes excites.phase.before b excites.phase.is_before)
 
@@ -117,9 +114,6 @@ module _ (shapes : List Shape) (f : ℕ) (here : Shape) (got : slice_get shapes 
   pub judged : is_frame here ≡ true → (excited : Bool) → ((frame : Shape) → slice_get shapes f ≡ Some frame → SaysWhether excited (IsChainExcited shapes frame)) → Judges shapes f (not excited)
   judged frame true says = λ s at so. says s at
   judged frame false says = record { frame = record { shape = here; shape_is = got; passes_so = frame }; not_so = says here got }
-
-  pub no_frame_judged : is_frame here ≡ false → Judges shapes f false
-  no_frame_judged no_so s at so = absurd (both_ways (is_frame here) no_so (ap is_frame (same_Some here s (sym got ∙ at)) ∙ so))
 
 pub judged_true : (shapes : List Shape) (f : ℕ) (answer : Bool) → Judges shapes f answer → answer ≡ true → IsChainUnexcited shapes f
 judged_true shapes f true judges e = judges

@@ -40,13 +40,6 @@ pub record AreNamedTo (n : ℕ) (numbers places found : List ℕ) : Type 0 where
       → slice_index found k ≡ slice_index numbers (slice_index places k)
   pub rest : (k : ℕ) → n ≤ k → k < length places → slice_index found k ≡ slice_index places k
 
-pub named_none : (numbers places : List ℕ) → AreNamedTo 0 numbers places places
-named_none numbers places = record {
-  long = refl;
-  named = λ k none lt lp. absurd (omega arith);
-  rest = λ k from lt. refl;
-}
-
 pub named_more : (n : ℕ) (numbers places found : List ℕ) (x : ℕ) → AreNamedTo n numbers places found
     → n < length places → x ≡ slice_index numbers (slice_index places n)
     → AreNamedTo (n + 1) numbers places (slice_set found n x)
@@ -71,11 +64,6 @@ named_same n numbers places found are past = record {
   ];
   rest = λ k from lk. are.rest k (omega arith) lk;
 }
-
-pub named_all : (n : ℕ) (numbers places found : List ℕ) → AreNamedTo n numbers places found → length places ≤ n
-    → AreNamed numbers places found
-named_all n numbers places found are all =
-    record { long = are.long; each = λ k lt lp. are.named k (omega arith) lt lp }
 
 -- ---- what a query of a plane finds
 

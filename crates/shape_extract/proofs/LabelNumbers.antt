@@ -99,15 +99,6 @@ pub record SeenBelow (n : ℕ) (flat : Flat) (entries exits : ℕ) (seen : List 
   pub each : (k : ℕ) (label : Label) → k < n → slice_get flat.labels k ≡ Some label → label.layer ≡ LABELS → is_seen seen (name_place entries label) ≡ true
   pub only : (place : ℕ) → is_seen seen place ≡ true → IsSeen flat entries n place
 
-pub seen_none : (flat : Flat) (entries exits : ℕ) (seen : List Bool) → length seen ≡ entries + exits → ((place : ℕ) → is_seen seen place ≡ false) → SeenBelow 0 flat entries exits seen
-seen_none flat entries exits seen long free = record {
-  long = long;
-  none = λ a lt b h. (let at = h.0.at in omega (arith, at.number_is));
-  fits = λ k label lt. absurd (omega arith);
-  each = λ k label lt. absurd (omega arith);
-  only = λ place e. absurd (both_ways (is_seen seen place) (free place) e);
-}
-
 module _ (flat : Flat) (entries exits : ℕ) (entries_is : entries ≡ entry_count flat.shapes) (exits_is : exits ≡ exit_count flat.shapes) (kept : ReportsNone (Alone (IsNoPortLabel flat))) where
   pub numbered : (k : ℕ) (label : Label) → slice_get flat.labels k ≡ Some label → label.layer ≡ LABELS → is_numbered label ≡ true
   numbered k label got layer =

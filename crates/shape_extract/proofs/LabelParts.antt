@@ -1,5 +1,5 @@
 -- What the rule of labels reports of a label by itself and of a port.
-use Rattle.std.proofs.Common.{◌≡◌, ◌≢◌, ℕ, ◌-◌, ◌<◌, ◌≤◌, Bool, true, false, ◌&&◌, List, length, get_or, Some, None, refl, sym, ap, subst, ◌∙◌, arith, eq-eqb}
+use Rattle.std.proofs.Common.{◌≡◌, ◌≢◌, ℕ, ◌-◌, ◌≤◌, Bool, true, false, ◌&&◌, List, length, get_or, Some, None, refl, sym, ap, subst, ◌∙◌, arith, eq-eqb}
 use Rattle.std.specs.Prelude.{slice_get, slice_index, count_by, ◌==◌}
 use Rattle.std.specs.List.{list_any}
 use Rattle.std.proofs.lemmas.Bool.{both_ways, and_parts, eqb-true, false_from_ne_true}
@@ -18,9 +18,6 @@ use Rattle.shape_extract.specs.declared.tables.ports.Port.{Port}
 use Rattle.shape_extract.specs.Code.Ports.{port_of, ports_of, crosses}
 use Rattle.shape_extract.proofs.PortPins.{port_got, crosses_port}
 use Rattle.shape_extract.proofs.Passing.{counted_one, found_one, any_of_one}
-
-pub not_numbered : (shapes : List Shape) (label : Label) → is_numbered label ≡ false → false ≡ is_port_label shapes label
-not_numbered shapes label e = rw e refl
 
 module _ (shapes : List Shape) (label : Label) (found : List ℕ) (are : AreThose (PassesIn (marks label) shapes) found) (numbered : is_numbered label ≡ true) where
   pub not_one : (length found ≡ 1 → ⊥) → false ≡ is_port_label shapes label
@@ -67,9 +64,6 @@ module _ (flat : Flat) (a : ℕ) (label : Label) (past : length flat.shapes ≤ 
 
   pub port_label : is_port_label flat.shapes label ≡ true → FindsAt (Alone (IsNoPortLabel flat)) a None
   port_label port = Alone-none (IsNoPortLabel flat) a (λ fault. both_ways (is_port_label flat.shapes label) (ap (is_port_label flat.shapes) (sym (place_is fault.at)) ∙ fault.not_so) port)
-
-pub no_shape_label : (flat : Flat) (a : ℕ) → a < length flat.shapes → FindsAt (Alone (IsNoPortLabel flat)) a None
-no_shape_label flat a lt = Alone-none (IsNoPortLabel flat) a (λ fault. (let at = fault.at in omega (arith, at.number_is)))
 
 -- ---- ports
 

@@ -93,9 +93,6 @@ module _ (shapes : List Shape) (order : List Sided) (in_order : AreInOrder shape
 
 -- ---- numbers that are their own heads
 
-pub own_none : (heads : List ℕ) → AreOwn heads []
-own_none heads k lt = absurd (omega arith)
-
 pub own_more : (heads numbers : List ℕ) (n : ℕ) → AreOwn heads numbers → slice_index heads n ≡ n
     → AreOwn heads (numbers ++ n ∷ [])
 own_more heads numbers n own here k lt = elim (cases_lt k (length numbers)) [

@@ -61,9 +61,6 @@ module _ (shapes : List Shape) (layer : ℕ) where
 
   -- ---- the report
 
-  pub no_shapes : ((i : ℕ) (s : Shape) → slice_get shapes i ≡ Some s → s.layer ≡ layer → ⊥) → ReportsNone (Alone (LacksOneStart shapes layer))
-  no_shapes none a b report = none a report.0.shape report.0.shape_is report.0.of_layer
-
   pub has_start : (count : ℕ) → count ≡ count_by (is_start_on layer) shapes → count ≡ 1 → ReportsNone (Alone (LacksOneStart shapes layer))
   has_start count counted one a b report = report.0.not_one (one_counted (sym counted ∙ one))
 

@@ -1,9 +1,8 @@
 -- Shapes of kinds: how they are listed, and that a query of the kinds finds all shapes that pass a test.
-use Rattle.std.proofs.Common.{◌≡◌, ℕ, suc, ◌+◌, ◌<◌, ◌≤◌, Bool, List, [], ◌∷◌, ◌++◌, length, Some, refl, sym, ap, subst, ◌∙◌, arith, inl, inr}
+use Rattle.std.proofs.Common.{◌≡◌, ℕ, ◌+◌, ◌<◌, ◌≤◌, Bool, List, length, Some, sym, ap, subst, ◌∙◌, arith, inl, inr}
 use Rattle.std.specs.Prelude.{slice_get, slice_index, slice_set, ◌↔◌, Contains}
 use Rattle.std.specs.List.Sorted.{IsStrictlyIncreasing}
-use Rattle.std.proofs.Math.ListN.{get_or-append, length-append, length-set}
-use Rattle.std.proofs.Math.Seq.{get_or-append_seam}
+use Rattle.std.proofs.Math.ListN.{length-set}
 use Rattle.std.proofs.lemmas.Bool.{cases_eq, cases_lt}
 use Rattle.std.proofs.lemmas.Grind.{get_or_default_zero}
 use Rattle.std.proofs.lemmas.List.{get_or-set_same, get_or-set_other}
@@ -13,24 +12,9 @@ use Rattle.geom.specs.declared.shapes.Shape.{Shape}
 use Rattle.layout_rules.specs.Reports.{PassTogether}
 use Rattle.shape_extract.specs.Searches.{AreThose}
 use Rattle.shape_extract.specs.Distinct.{AreAt, StandsFor, ArePlaces}
-use Rattle.shape_extract.specs.Chains.{IsNextFrom}
 use Rattle.shape_extract.specs.Passing.{PassesIn}
 use Rattle.shape_extract.specs.Filed.{AreFirsts}
 use Rattle.shape_extract.specs.Code.Filed.{IsOfKinds, IsFromOn, AddsRest, ListsMembers}
-
--- ---- numbers of kinds
-
-pub firsts_from : (shapes : List Shape) (numbers places : List ℕ) → ArePlaces shapes numbers places
-    → AreFirsts numbers places
-firsts_from shapes numbers places are = record {
-  below = λ k lt. omega (arith, are.below k lt, are.long);
-  rising = are.rising;
-  own = are.own;
-  within = λ n lt. (let stands : StandsFor shapes numbers n (slice_index places n) = are.each n
-      (omega (arith, are.long)) in stands.within);
-  least = λ n lt. (let stands : StandsFor shapes numbers n (slice_index places n) = are.each n
-      (omega (arith, are.long)) in stands.not_above);
-}
 
 -- ---- the others of a kind
 
@@ -46,76 +30,6 @@ pub record RestTo (places : List ℕ) (n later : ℕ) (old new : List ℕ) : Typ
       → slice_index places (slice_index new k) ≡ slice_index places n
   pub all : (m : ℕ) → n < m → m < later → slice_index places m ≡ slice_index places n → IsFromOn (length old) new m
 
-pub rest_begun : (places : List ℕ) (n y : ℕ) (old : List ℕ) → IsNextFrom places (n + 1) (slice_index places n) y
-    → RestTo places n y old old
-rest_begun places n y old next = record {
-  above = omega (arith, next.above);
-  end = next.within;
-  of_this = next.of_net;
-  longer = omega arith;
-  kept = λ k lt. refl;
-  within = λ k from lt. absurd (omega arith);
-  of_kind = λ k from lt. absurd (omega arith);
-  all = λ m more less same. absurd (next.none_between m (omega arith) less same);
-}
-
-module _ (places : List ℕ) (n b y : ℕ) (old new : List ℕ) (are : RestTo places n b old new) (lt : b < length places)
-    (next : IsNextFrom places (b + 1) (slice_index places b) y) where
-  one_more : length (new ++ b ∷ []) ≡ suc (length new)
-  one_more = omega (arith, length-append new (b ∷ []))
-
-  before : (k : ℕ) → k < length new → slice_index (new ++ b ∷ []) k ≡ slice_index new k
-  before k less = get_or-append new (b ∷ []) 0 k less
-
-  last : (k : ℕ) → k ≡ length new → slice_index (new ++ b ∷ []) k ≡ b
-  last k e = ap (slice_index (new ++ b ∷ [])) e ∙ get_or-append_seam new b [] 0
-
-  pub rest_more : RestTo places n y old (new ++ b ∷ [])
-  rest_more = record {
-    above = omega (arith, are.above, next.above);
-    end = next.within;
-    of_this = λ less. next.of_net less ∙ are.of_this lt;
-    longer = omega (arith, are.longer, one_more);
-    kept = λ k less. before k (omega (arith, are.longer)) ∙ are.kept k less;
-    within = λ k from less. elim (cases_lt k (length new)) [
-      | inl there ↦ omega (arith, before k there, are.within k from there)
-      | inr ge ↦ omega (arith, last k (omega (arith, one_more)))
-    ];
-    of_kind = λ k from less. elim (cases_lt k (length new)) [
-      | inl there ↦ ap (slice_index places) (before k there) ∙ are.of_kind k from there
-      | inr ge ↦ ap (slice_index places) (last k (omega (arith, one_more))) ∙ are.of_this lt
-    ];
-    all = λ m more less same. elim (cases_lt m b) [
-      | inl earlier ↦
-          let at : IsFromOn (length old) new m = are.all m more earlier same in
-          record {
-            place = at.place;
-            from_on = at.from_on;
-            within = omega (arith, one_more, at.within);
-            is_so = before at.place at.within ∙ at.is_so;
-          }
-      | inr ge ↦ elim (cases_eq m b) [
-        | inl e ↦ record {
-          place = length new;
-          from_on = are.longer;
-          within = omega (arith, one_more);
-          is_so = last (length new) refl ∙ sym e;
-        }
-        | inr ne ↦ absurd (next.none_between m (omega arith) less (same ∙ sym (are.of_this lt)))
-      ]
-    ];
-  }
-
-pub rest_all : (places : List ℕ) (n later : ℕ) (old new : List ℕ) → RestTo places n later old new
-    → length places ≤ later → AddsRest places n old new
-rest_all places n later old new are end = record {
-  longer = are.longer;
-  kept = are.kept;
-  within = are.within;
-  of_kind = are.of_kind;
-  all = λ m more lt same. are.all m more (omega arith) same;
-}
-
 -- ---- the shapes of kinds
 
 -- the first kinds have their first shape in their place, and the others behind all
@@ -126,15 +40,6 @@ pub record MembersTo (at : ℕ) (numbers places kinds found : List ℕ) : Type 0
   pub others : (k : ℕ) → length kinds ≤ k → k < length found → IsOfKinds places kinds (slice_index found k)
   pub all : (q m : ℕ) → q < at → q < length kinds → m < length places → slice_index places m ≡ slice_index kinds q
       → slice_index numbers (slice_index kinds q) < m → IsFromOn (length kinds) found m
-
-pub members_none : (numbers places kinds : List ℕ) → MembersTo 0 numbers places kinds kinds
-members_none numbers places kinds = record {
-  longer = omega arith;
-  rest = λ k from lt. refl;
-  firsts = λ k none lt. absurd (omega arith);
-  others = λ k from lt. absurd (omega arith);
-  all = λ q m none lq lm same more. absurd (omega arith);
-}
 
 module _ (at : ℕ) (numbers places kinds found more : List ℕ) (are_firsts : AreFirsts numbers places)
     (of_numbers : (k : ℕ) → k < length kinds → slice_index kinds k < length numbers)

@@ -1,5 +1,5 @@
 -- Pins in the net of a shape, and what the rule of nets reports.
-use Rattle.std.proofs.Common.{◌≡◌, ◌≢◌, ℕ, ◌+◌, ◌<◌, Bool, true, false, List, length, Option, Some, None, sym, ap, subst, ◌∙◌, arith, inl, inr}
+use Rattle.std.proofs.Common.{◌≡◌, ◌≢◌, ℕ, ◌<◌, Bool, true, false, List, length, Option, Some, None, sym, ap, subst, ◌∙◌, arith, inl, inr}
 use Rattle.std.specs.Prelude.{slice_get, slice_index}
 use Rattle.std.proofs.lemmas.Option.{same_Some}
 use Rattle.std.proofs.lemmas.Bool.{cases_eq, cases_lt, both_ways}
@@ -24,11 +24,6 @@ pin_in_net shapes nets layer a b are la pin = one_number shapes nets are a b la 
 
 pub pin_in_layer : (shapes : List Shape) (layer a b : ℕ) (s : Shape) → slice_get shapes b ≡ Some s → IsPinIn shapes layer a b → s.layer ≡ layer
 pin_in_layer shapes layer a b s got pin = ap (λ (x : Shape). x.layer) (same_Some s pin.pin (sym got ∙ pin.pin_is)) ∙ pin.of_layer
-
--- ---- the first other number
-
-pub other_next : (numbers : List ℕ) (a i : ℕ) → ((k : ℕ) → k < i → slice_index numbers k ≡ a) → slice_index numbers i ≡ a → (k : ℕ) → k < i + 1 → slice_index numbers k ≡ a
-other_next numbers a i before here k lt = elim (cases_eq k i) [ inl e ↦ ap (slice_index numbers) e ∙ here | inr ne ↦ before k (omega arith) ]
 
 -- ---- rivals
 

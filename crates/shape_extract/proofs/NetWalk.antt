@@ -9,11 +9,10 @@ use Rattle.std.proofs.lemmas.Bool.{cases_eq, cases_lt}
 use Rattle.std.proofs.lemmas.Bool.Decides.{nat_tests}
 use Rattle.std.proofs.lemmas.Option.{slice_get_within}
 use Rattle.geom.specs.declared.shapes.Shape.{Shape}
-use Rattle.layout_rules.specs.Touch.{touch, Touching, Joined}
-use Rattle.layout_rules.specs.Reports.{PassTogether}
+use Rattle.layout_rules.specs.Touch.{Touching, Joined}
 use Rattle.layout_rules.specs.Nets.{AreNets}
 use Rattle.layout_rules.proofs.NetLaws.{Touching-back, Touching-within, Joined-trans, Joined-touching, AreNets-certified}
-use Rattle.shape_extract.specs.Searches.{SaysWhether, AreThose}
+use Rattle.shape_extract.specs.Searches.{SaysWhether}
 use Rattle.shape_extract.specs.Code.Walk.{AreTouching, IsWalk, IsSpreadTo, IsDone, AreMarked, IsLowest, HasTouching, is_touched, IsTold, AreToldTo, AreTold, IsReached}
 
 pub sum_lowered : (ls : List ℕ) (i v : ℕ) → i < length ls → v < slice_index ls i → sum (set ls i v) < sum ls
@@ -244,12 +243,6 @@ root_done shapes labels order i w d li free = λ p j lp touching.
     let ne2 : slice_index order p ≢ i = λ f. absurd (let g : slice_index labels (slice_index order p) ≡ slice_index labels i = ap (λ (x : ℕ). slice_index labels x) f in omega arith) in
     off_set labels i i j ne ∙ e ∙ sym (off_set labels i i (slice_index order p) ne2) ∙ sym (ap (λ (x : ℕ). slice_index (set labels i i) x) (old_place order i p lp))
 
-pub root_marked : (labels order : List ℕ) (i : ℕ) → i < length labels → AreMarked (set labels i i) (order ++ (i ∷ [])) (length order) i
-root_marked labels order i li = λ p ge lp.
-    let e : p ≡ length order = omega (arith, long_more order i) in
-    let f : slice_index (order ++ (i ∷ [])) p ≡ i = ap (λ (x : ℕ). slice_index (order ++ (i ∷ [])) x) e ∙ new_place order i in
-    at_set labels i i (slice_index (order ++ (i ∷ [])) p) f li
-
 pub root_walk : (shapes : List Shape) (labels order : List ℕ) (i : ℕ) → IsWalk shapes labels order → i < length shapes → length shapes ≤ slice_index labels i → IsWalk shapes (set labels i i) (order ++ (i ∷ []))
 root_walk shapes labels order i w li free = walk_more shapes labels order i i w li li (omega arith) free ([], refl)
 
@@ -268,11 +261,4 @@ walk_none shapes labels e all = record {
   ordered = λ k lk mk. absurd (omega (arith, all k lk));
   within = λ p lp. absurd (omega arith);
   labelled = λ p lp. absurd (omega arith);
-}
-
--- the shapes that pass the test of touch are those that touch
-pub touching_from : (shapes : List Shape) (from : ℕ) (numbers : List ℕ) → AreThose (PassTogether touch shapes from) numbers → AreTouching shapes from numbers
-touching_from shapes from numbers are = record {
-  each = λ p lp. (let both : PassTogether touch shapes from (slice_index numbers p) = are.each p lp in record { first = both.first; second = both.second; first_is = both.first_is; second_is = both.second_is; touch_so = both.passes_so });
-  complete = λ j t. are.complete j (record { first = t.first; second = t.second; first_is = t.first_is; second_is = t.second_is; passes_so = t.touch_so });
 }

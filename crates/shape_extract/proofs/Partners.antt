@@ -1,6 +1,6 @@
 -- Shapes that pass a test together with one are those that pass among the near ones.
 use Rattle.std.proofs.Common.{◌≡◌, ℕ, zero, suc, ◌<◌, ◌⊎◌, Bool, true, false, List, [], ◌∷◌, length, get_or, drop, ◌&&◌, ℤ, Option, Some, None, refl, sym, ap, subst, ◌∙◌, arith, inl, inr}
-use Rattle.std.specs.Prelude.{◌==◌, slice_get, slice_index, Contains, int_le}
+use Rattle.std.specs.Prelude.{slice_get, slice_index, Contains, int_le}
 use Rattle.std.specs.List.Sorted.{IsStrictlyIncreasing}
 use Rattle.std.proofs.lemmas.Int.{ints}
 use Rattle.std.specs.List.{filter}
@@ -14,12 +14,8 @@ use Rattle.std.proofs.lemmas.Option.{same_Some, slice_get_within, slice_get-map}
 use Rattle.geom.specs.Rectangle.{Rectangle, IsProper, AreProper, holds_point, share_x, share_y, share_point}
 use Rattle.geom.specs.Near.{rects_of, IsClose, AreNear}
 use Rattle.geom.specs.declared.shapes.Shape.{Shape}
-use Rattle.geom.specs.declared.shapes.Label.{Label}
-use Rattle.layout_rules.specs.declared.layers.TheConstants.{LABELS}
-use Rattle.layout_rules.specs.Labels.{marks, marked_layer}
 use Rattle.layout_rules.specs.Reports.{PassTogether}
 use Rattle.shape_extract.specs.Passing.{PassesIn}
-use Rattle.shape_extract.proofs.Sharing.{sharing_close}
 use Rattle.shape_extract.specs.Searches.{AreThose, passes_in, passes_at, passes_with}
 
 -- ---- filters
@@ -116,14 +112,6 @@ those_near holds p near found filtered up sound complete passes = subst (AreThos
 pub passes_here : (test : Shape → Bool) (shapes : List Shape) (n : ℕ) → passes_at test shapes n ≡ true → PassesIn test shapes n
 passes_here test shapes n e = (let s : IsShapeAt test shapes n = shape_at test shapes n e in record { item = s.shape; item_is = s.shape_is; passes_so = s.passes_so })
 
--- the shapes that pass a test are those that pass it among the near ones
-pub passing_near : (test : Shape → Bool) (shapes : List Shape) (here : Rectangle) (margin : ℕ) (near found : List ℕ) → ((s : Shape) (n : ℕ) → slice_get shapes n ≡ Some s → test s ≡ true → IsClose here s.rect margin) → AreNear (rects_of shapes) here margin near → found ≡ filter (passes_at test shapes) near → AreThose (PassesIn test shapes) found
-passing_near test shapes here margin near found close are filtered =
-    those_near (PassesIn test shapes) (passes_at test shapes) near found filtered are.rising
-    (λ n e. (let s : IsShapeAt test shapes n = shape_at test shapes n e in record { item = s.shape; item_is = s.shape_is; passes_so = s.passes_so }))
-    (λ n h. are.complete n (record { other = h.item.rect; other_is = rect_at shapes n h.item h.item_is; close = close h.item n h.item_is h.passes_so }))
-    (λ n h. ap (passes_in test) h.item_is ∙ h.passes_so)
-
 -- ---- labels
 
 pub holding_share : (a b : Rectangle) (x y : ℤ) → holds_point a x y ≡ true → holds_point b x y ≡ true → share_point a b ≡ true
@@ -140,12 +128,6 @@ holding_share a b x y p q =
   where
     through : (u v w : ℤ) → int_le u v ≡ true → int_le v w ≡ true → int_le u w ≡ true
     through u v w e f = grind (arith, ints)
-
-pub marked_are : (shapes : List Shape) (label : Label) (here : Rectangle) (near found : List ℕ) → holds_point here label.x label.y ≡ true → AreNear (rects_of shapes) here 0 near → found ≡ filter (passes_at (marks label) shapes) near → AreThose (PassesIn (marks label) shapes) found
-marked_are shapes label here near found at are filtered =
-    passing_near (marks label) shapes here 0 near found
-    (λ s n is h. sharing_close here s.rect (holding_share here s.rect label.x label.y at (and_parts (label.layer == LABELS && s.layer == marked_layer label) (holds_point s.rect label.x label.y) h).1))
-    are filtered
 
 pub tested_at : (test : Shape → Bool) (s : Shape) (shapes : List Shape) (n : ℕ) (b : Bool) → slice_get shapes n ≡ Some s → test s ≡ b → passes_at test shapes n ≡ b
 tested_at test s shapes n b is e = ap (passes_in test) is ∙ e

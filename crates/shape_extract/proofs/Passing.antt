@@ -1,12 +1,12 @@
 -- Numbers of the items of a list that pass a test, and how many pass.
-use Rattle.std.proofs.Common.{◌≡◌, ℕ, suc, ◌+◌, ◌<◌, Bool, true, false, cond, ◌&&◌, List, [], ◌∷◌, length, get_or, Some, refl, sym, ap, subst, ◌∙◌, arith, inl, inr, eq-eqb}
-use Rattle.std.specs.Prelude.{slice_get, slice_index, count_by, ◌==◌}
+use Rattle.std.proofs.Common.{◌≡◌, ℕ, suc, ◌+◌, ◌<◌, Bool, true, false, cond, ◌&&◌, List, [], ◌∷◌, length, get_or, Some, refl, sym, ap, subst, ◌∙◌, arith, inl, inr}
+use Rattle.std.specs.Prelude.{slice_get, slice_index, count_by}
 use Rattle.std.specs.List.{list_any}
-use Rattle.std.proofs.lemmas.Bool.{cases_eq, cases_lt, both_ways, and_from, and_parts, ne_eqb, false_from_ne_true}
+use Rattle.std.proofs.lemmas.Bool.{cases_lt, both_ways, and_from, and_parts, false_from_ne_true}
 use Rattle.std.proofs.lemmas.List.Sums.{sum_by-cons}
-use Rattle.std.proofs.lemmas.Option.{same_Some, slice_get_within, slice_get-get_or, get_or_from_slice_get}
+use Rattle.std.proofs.lemmas.Option.{same_Some, slice_get-get_or, get_or_from_slice_get}
 use Rattle.layout_rules.proofs.PlaceLaws.{PassesAt, list_any-at, list_any-place, count_by-once, count_by-one}
-use Rattle.shape_extract.specs.Searches.{SaysWhether, AreThose}
+use Rattle.shape_extract.specs.Searches.{AreThose}
 use Rattle.shape_extract.specs.Passing.{PassesIn}
 
 pub read_at : {X : Type 0} (xs : List X) (n : ℕ) (x : X) → n < length xs → x ≡ get_or xs n x → slice_get xs n ≡ Some x
@@ -19,9 +19,6 @@ pub fails_here : {X : Type 0} (test : X → Bool) (xs : List X) (n : ℕ) (x : X
 fails_here test xs n x is e pass =
     let same : x ≡ pass.item = is ∙ get_or_from_slice_get xs n pass.item x pass.item_is in
     both_ways (test x) e (ap test same ∙ pass.passes_so)
-
-pub passes_within : {X : Type 0} (test : X → Bool) (xs : List X) (n : ℕ) → PassesIn test xs n → n < length xs
-passes_within test xs n pass = slice_get_within xs n pass.item pass.item_is
 
 some_passes : {X : Type 0} (test : X → Bool) (xs : List X) (n : ℕ) → count_by test xs ≡ suc n → PassesAt test xs
 some_passes test [] n e = absurd cc
@@ -82,13 +79,3 @@ module _ {X : Type 0} (test : X → Bool) (xs : List X) (found : List ℕ) (are 
           let same : x ≡ at.item = same_Some x at.item (sym got ∙ (ap (slice_get xs) place ∙ at.item_is)) in
           both_ways (other x) e (ap other same ∙ both.1)
           )) ∙ sym e
-
-pub one_said : {X : Type 0} (test : X → Bool) (xs : List X) (found : List ℕ) → AreThose (PassesIn test xs) found → (answer : Bool) → SaysWhether answer (length found ≡ 1) → SaysWhether answer (count_by test xs ≡ 1)
-one_said test xs found are true one = counted_one test xs found are one
-one_said test xs found are false more = λ one. more (found_one test xs found are one)
-
-pub says_one : (n : ℕ) → SaysWhether (n == 1) (n ≡ 1)
-says_one n = elim (cases_eq n 1) [
-  | inl e ↦ subst (λ (b : Bool). SaysWhether b (n ≡ 1)) (sym (eq-eqb n 1 e)) e
-  | inr ne ↦ subst (λ (b : Bool). SaysWhether b (n ≡ 1)) (sym (ne_eqb n 1 ne)) ne
-]

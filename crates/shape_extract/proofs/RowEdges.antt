@@ -42,9 +42,6 @@ pub record EdgesBelow (n : ℕ) (shapes : List Shape) (edges : List ℤ) : Type 
   pub each : (f : ℕ) (frame : Shape) → f < n → slice_get shapes f ≡ Some frame → is_frame frame ≡ true → IsAmong edges frame.rect.y0
   pub only : (y : ℤ) → IsAmong edges y → IsEdge shapes y
 
-pub edges_none : (shapes : List Shape) → EdgesBelow 0 shapes []
-edges_none shapes = record { each = λ f frame lt. absurd (omega arith); only = λ y among. absurd (let e = among.1 in cc) }
-
 module _ (shapes : List Shape) (n : ℕ) (edges : List ℤ) (here : Shape) (are : EdgesBelow n shapes edges) (got : slice_get shapes n ≡ Some here) where
   pub edges_more : is_frame here ≡ true → EdgesBelow (n + 1) shapes (edges ++ here.rect.y0 ∷ [])
   edges_more frame_so = record {
@@ -104,9 +101,6 @@ pub record DistinctBelow (n : ℕ) (sorted numbers : List ℤ) : Type 0 where
   pub rising : Rises numbers
   pub each : (k : ℕ) (y : ℤ) → k < n → slice_get sorted k ≡ Some y → IsAmong numbers y
   pub only : (r : ℕ) (y : ℤ) → slice_get numbers r ≡ Some y → (k : ℕ) × ((k < n) × (slice_get sorted k ≡ Some y))
-
-pub distinct_none : (sorted : List ℤ) → DistinctBelow 0 sorted []
-distinct_none sorted = record { rising = λ i j y z p q lt. absurd cc; each = λ k y lt. absurd (omega arith); only = λ r y p. absurd cc }
 
 module _ (sorted : List ℤ) (up : IsSorted int_cmp sorted) (n : ℕ) (numbers : List ℤ) (here : ℤ) (are : DistinctBelow n sorted numbers) (got : slice_get sorted n ≡ Some here) where
   -- every number that is there is below the next one, unless that is the last
@@ -192,9 +186,6 @@ ends_said numbers y true d some says =
 ends_said numbers y false d some says = λ ends.
     let e : ends.place ≡ length numbers - 1 = omega (arith, ends.last) in
     says (ap (λ (k : ℕ). get_or numbers k d) (sym e) ∙ get_or_from_slice_get numbers ends.place y d ends.number_is)
-
-pub ends_empty : (numbers : List ℤ) (y : ℤ) → length numbers ≡ 0 → EndsWith numbers y → ⊥
-ends_empty numbers y none ends = omega (arith, ends.last)
 
 -- ---- the place of an edge among rising edges
 

@@ -28,9 +28,6 @@ pub record RowsBelow (n : ℕ) (shapes : List Shape) (rows : List ℕ) : Type 0 
   pub long : length rows ≡ n
   pub each : (p : ℕ) → p < n → Passes is_pin shapes p → IsRowOf shapes p (slice_index rows p)
 
-pub rows_none : (shapes : List Shape) → RowsBelow 0 shapes []
-rows_none shapes = record { long = refl; each = λ p lt. absurd (omega arith) }
-
 pub rows_more : (n : ℕ) (shapes : List Shape) (rows : List ℕ) (row : ℕ) → RowsBelow n shapes rows → (Passes is_pin shapes n → IsRowOf shapes n row) → RowsBelow (n + 1) shapes (rows ++ row ∷ [])
 rows_more n shapes rows row are here =
     let last : slice_index (rows ++ row ∷ []) (length rows) ≡ row = get_or-append_seam rows row [] 0 in
@@ -51,9 +48,6 @@ rows_all n shapes rows all most are = record {
   long = omega (arith, are.long);
   each = λ p pin. (let lt : p < length shapes = slice_get_within shapes p pin.shape pin.shape_is in are.each p (omega arith) pin);
 }
-
-pub no_row : (shapes : List Shape) (p row : ℕ) (s : Shape) → slice_get shapes p ≡ Some s → is_pin s ≡ false → Passes is_pin shapes p → IsRowOf shapes p row
-no_row shapes p row s got not_so pin = absurd (both_ways (is_pin s) not_so (ap is_pin (same_Some s pin.shape (sym got ∙ pin.shape_is)) ∙ pin.passes_so))
 
 -- ---- a pin has one row
 

@@ -1,10 +1,10 @@
 -- Searches number by number.
-use Rattle.std.proofs.Common.{◌≡◌, ℕ, suc, ◌+◌, ◌<◌, ◌≤◌, Bool, true, false, List, [], ◌∷◌, ◌++◌, length, get_or, Option, Some, None, sym, ap, subst, ◌∙◌, arith, inl, inr}
+use Rattle.std.proofs.Common.{◌≡◌, ℕ, suc, ◌+◌, ◌<◌, ◌≤◌, Bool, true, false, List, [], ◌∷◌, ◌++◌, length, Option, Some, None, sym, ap, subst, ◌∙◌, arith, inl, inr}
 use Rattle.std.specs.Prelude.{slice_index}
 use Rattle.std.proofs.Math.ListN.{get_or-append, length-append}
 use Rattle.std.proofs.Math.Seq.{get_or-append_seam}
 use Rattle.std.proofs.lemmas.Bool.{cases_eq, cases_lt}
-use Rattle.std.proofs.lemmas.Option.{slice_get_within, slice_get-get_or, get_or_from_slice_get}
+use Rattle.std.proofs.lemmas.Option.{slice_get_within}
 use Rattle.geom.specs.declared.shapes.Shape.{Shape}
 use Rattle.layout_rules.specs.Reports.{ReportsNone, ReportsNoneAt, Alone, Afterwards, IsFirstReport, PassTogether}
 use Rattle.layout_rules.proofs.ReportLaws.{Alone-first, Alone-none, Afterwards-first, Afterwards-second, Afterwards-none}
@@ -29,14 +29,6 @@ pub record AreThoseBelow (n : ℕ) (holds : ℕ → Type 0) (numbers : List ℕ)
   pub complete : (m : ℕ) → m < n → holds m → (p : ℕ) × ((p < length numbers) × (slice_index numbers p ≡ m))
   pub below : (p : ℕ) → p < length numbers → slice_index numbers p < n
   pub rising : (p q : ℕ) → p < q → q < length numbers → slice_index numbers p < slice_index numbers q
-
-pub those_none : (holds : ℕ → Type 0) → AreThoseBelow 0 holds []
-those_none holds = record {
-  each = λ p lp. absurd (omega arith);
-  complete = λ m lm h. absurd (omega arith);
-  below = λ p lp. absurd (omega arith);
-  rising = λ p q lt lq. absurd (omega arith);
-}
 
 pub those_more : (holds : ℕ → Type 0) (n : ℕ) (numbers : List ℕ) → AreThoseBelow n holds numbers → holds n → AreThoseBelow (n + 1) holds (numbers ++ (n ∷ []))
 those_more holds n numbers are h =
@@ -88,22 +80,6 @@ said_false true fact says e = absurd cc
 said_false false fact says e = says
 
 -- ---- shapes that pass a test together
-
-pub together : (test : Shape → Shape → Bool) (shapes : List Shape) (a b : ℕ) (s t : Shape) → a < length shapes → b < length shapes → s ≡ get_or shapes a s → t ≡ get_or shapes b t → test s t ≡ true → PassTogether test shapes a b
-together test shapes a b s t la lb is js e = record {
-  first = s;
-  second = t;
-  first_is = slice_get-get_or shapes a s la ∙ sym (ap Some is);
-  second_is = slice_get-get_or shapes b t lb ∙ sym (ap Some js);
-  passes_so = e;
-}
-
-pub not_together : (test : Shape → Shape → Bool) (shapes : List Shape) (a b : ℕ) (s t : Shape) → s ≡ get_or shapes a s → t ≡ get_or shapes b t → test s t ≡ false → PassTogether test shapes a b → ⊥
-not_together test shapes a b s t is js e pass =
-    let x : s ≡ pass.first = is ∙ get_or_from_slice_get shapes a pass.first s pass.first_is in
-    let y : t ≡ pass.second = js ∙ get_or_from_slice_get shapes b pass.second t pass.second_is in
-    let k : true ≡ false = sym pass.passes_so ∙ (sym (ap (λ (v : Shape). test v pass.second) x) ∙ (sym (ap (λ (v : Shape). test s v) y) ∙ e)) in
-    absurd cc
 
 pub together_within : (test : Shape → Shape → Bool) (shapes : List Shape) (a b : ℕ) → PassTogether test shapes a b → b < length shapes
 together_within test shapes a b pass = slice_get_within shapes b pass.second pass.second_is

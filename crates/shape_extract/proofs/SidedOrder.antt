@@ -126,9 +126,6 @@ pub record SidedTo (n : ℕ) (shapes : List Shape) (order : List Sided) : Type 0
       → (k : ℕ) × (slice_get order k ≡ Some (sided_of s m))
   pub only : (k : ℕ) (x : Sided) → slice_get order k ≡ Some x → IsSided shapes x
 
-pub sided_none : (shapes : List Shape) → SidedTo 0 shapes []
-sided_none shapes = record { each = λ m s lt. absurd (omega arith); only = λ k x is. absurd cc }
-
 pub sided_more : (n : ℕ) (shapes : List Shape) (order : List Sided) (here : Shape) → SidedTo n shapes order
     → slice_get shapes n ≡ Some here → SidedTo (n + 1) shapes (order ++ sided_of here n ∷ [])
 sided_more n shapes order here are got = record {

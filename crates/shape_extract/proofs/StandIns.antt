@@ -1,80 +1,21 @@
 -- Of equal shapes the least number stands for all.
-use Rattle.std.proofs.Common.{◌≡◌, ℕ, zero, suc, ◌+◌, ◌<◌, ◌≤◌, List, [], ◌∷◌, ◌++◌, length, Some, refl, sym}
+use Rattle.std.proofs.Common.{◌≡◌, ℕ, suc, ◌+◌, ◌<◌, ◌≤◌, List, [], ◌∷◌, ◌++◌, length, refl, sym}
 use Rattle.std.proofs.Common.{ap, subst, ◌∙◌, arith, inl, inr}
-use Rattle.std.specs.Prelude.{slice_get, slice_index, slice_set}
-use Rattle.std.proofs.Math.ListN.{get_or-append, length-append, length-set}
+use Rattle.std.specs.Prelude.{slice_get, slice_index}
+use Rattle.std.proofs.Math.ListN.{get_or-append, length-append}
 use Rattle.std.proofs.Math.Seq.{get_or-append_seam}
 use Rattle.std.proofs.lemmas.Bool.{cases_eq, cases_lt}
-use Rattle.std.proofs.lemmas.List.{get_or-set_same, get_or-set_other}
 use Rattle.geom.specs.declared.shapes.Shape.{Shape}
 use Rattle.shape_extract.specs.Distinct.{AreAt, StandsFor, ArePlaces}
-use Rattle.shape_extract.specs.Code.DistinctShapes.{AreHeads, AreLeast, AreOwn}
+use Rattle.shape_extract.specs.Code.DistinctShapes.{AreLeast, AreOwn}
 use Rattle.shape_extract.specs.Distinct.{IsDistinct}
 use Rattle.shape_extract.proofs.LeastHeads.{own_first}
-use Rattle.shape_extract.proofs.RowEdges.{push_new}
-use Rattle.shape_extract.proofs.PinFrameLists.{NumbersTo}
-
--- ---- heads
-
-pub heads_own : (shapes : List Shape) (heads : List ℕ) (n : ℕ) → length shapes ≤ n → n ≤ length shapes
-    → NumbersTo (λ p m. m ≡ p) n heads → AreHeads shapes heads
-heads_own shapes heads n all most are = record {
-  long = omega (arith, are.long);
-  not_above = λ m lt. (let e : slice_index heads m ≡ m = are.each m (omega arith) in omega arith);
-  alike = λ m lt. ap (slice_get shapes) (are.each m (omega arith));
-}
-
--- the head of the one goes for the other, where it is lower and the shapes are equal
-pub heads_linked : (shapes : List Shape) (heads : List ℕ) (n head : ℕ) → AreHeads shapes heads → n < length shapes
-    → head < n → slice_get shapes head ≡ slice_get shapes n → AreHeads shapes (slice_set heads n head)
-heads_linked shapes heads n head are lt less same =
-    let ll : n < length heads = omega (arith, are.long) in
-    let here : slice_index (slice_set heads n head) n ≡ head = get_or-set_same heads n head 0 ll in
-    record {
-      long = length-set heads n head ∙ are.long;
-      not_above = λ m lm. elim (cases_eq m n) [
-        | inl e ↦ (let q : slice_index (slice_set heads n head) m ≡ head = ap (slice_index (slice_set heads n head)) e
-            ∙ here in omega arith)
-        | inr ne ↦ (let q : slice_index (slice_set heads n head) m ≡ slice_index heads m =
-            get_or-set_other heads n m head 0 ne in omega (arith, are.not_above m lm))
-      ];
-      alike = λ m lm. elim (cases_eq m n) [
-        | inl e ↦ ap (λ (k : ℕ). slice_get shapes (slice_index (slice_set heads n head) k)) e
-            ∙ (ap (slice_get shapes) here ∙ (same ∙ ap (slice_get shapes) (sym e)))
-        | inr ne ↦ ap (slice_get shapes) (get_or-set_other heads n m head 0 ne) ∙ are.alike m lm
-      ];
-    }
 
 -- ---- the shapes of numbers
 
 pub record AreAtTo (n : ℕ) (shapes : List Shape) (numbers : List ℕ) (some : List Shape) : Type 0 where
   pub long : length some ≡ n
   pub each : (k : ℕ) → k < n → slice_get some k ≡ slice_get shapes (slice_index numbers k)
-
-pub at_none : (shapes : List Shape) (numbers : List ℕ) → AreAtTo 0 shapes numbers []
-at_none shapes numbers = record { long = refl; each = λ k lt. absurd (omega arith) }
-
-pub at_more : (n : ℕ) (shapes : List Shape) (numbers : List ℕ) (some : List Shape) (s : Shape)
-    → AreAtTo n shapes numbers some → slice_get shapes (slice_index numbers n) ≡ Some s
-    → AreAtTo (n + 1) shapes numbers (some ++ s ∷ [])
-at_more n shapes numbers some s are here = record {
-  long = omega (arith, length-append some (s ∷ []), are.long);
-  each = λ k lt. elim (cases_eq k n) [
-    | inl e ↦ ap (slice_get (some ++ s ∷ [])) (e ∙ sym are.long)
-        ∙ (push_new some s ∙ (sym here ∙ ap (λ (m : ℕ). slice_get shapes (slice_index numbers m)) (sym e)))
-    | inr ne ↦ pushed_before some s k (omega (arith, are.long)) ∙ are.each k (omega arith)
-  ];
-}
-  where
-    pushed_before : (xs : List Shape) (y : Shape) (k : ℕ) → k < length xs → slice_get (xs ++ y ∷ []) k ≡ slice_get xs k
-    pushed_before [] y k lt = absurd (omega arith)
-    pushed_before (x ∷ xs) y zero lt = refl
-    pushed_before (x ∷ xs) y (suc k) lt = pushed_before xs y k (omega arith)
-
-pub at_all : (n : ℕ) (shapes : List Shape) (numbers : List ℕ) (some : List Shape) → length numbers ≤ n
-    → n ≤ length numbers → AreAtTo n shapes numbers some → AreAt shapes numbers some
-at_all n shapes numbers some all most are =
-    record { long = omega (arith, are.long); each = λ k lt. are.each k (omega arith) }
 
 -- ---- what stands for a shape
 
@@ -86,17 +27,6 @@ pub record PlacesTo (n : ℕ) (shapes : List Shape) (numbers places : List ℕ) 
   pub few : length numbers ≤ n
   pub long : length places ≡ n
   pub each : (m : ℕ) → m < n → StandsFor shapes numbers m (slice_index places m)
-
-pub places_none : (shapes : List Shape) (numbers places : List ℕ) → numbers ≡ [] → places ≡ []
-    → PlacesTo 0 shapes numbers places
-places_none shapes numbers places none no_places = record {
-  below = λ k lt. absurd (omega (arith, ap length none));
-  rising = λ j k less lt. absurd (omega (arith, ap length none));
-  own = λ k lt. absurd (omega (arith, ap length none));
-  few = omega (arith, ap length none);
-  long = ap length no_places;
-  each = λ m lt. absurd (omega arith);
-}
 
 module _ (n : ℕ) (shapes : List Shape) (numbers places : List ℕ) (are : PlacesTo n shapes numbers places) where
   one_more : (xs : List ℕ) (x : ℕ) → length (xs ++ x ∷ []) ≡ suc (length xs)
@@ -182,17 +112,6 @@ module _ (n : ℕ) (shapes : List Shape) (numbers places : List ℕ) (are : Plac
           (still m (slice_index places m) n (are.each m (omega arith)))
     ];
   }
-
-pub places_all : (n : ℕ) (shapes : List Shape) (numbers places : List ℕ) → PlacesTo n shapes numbers places
-    → length shapes ≤ n → n ≤ length shapes → ArePlaces shapes numbers places
-places_all n shapes numbers places are all most = record {
-  below = λ k lt. omega (arith, are.below k lt);
-  rising = are.rising;
-  own = are.own;
-  few = omega (arith, are.few);
-  long = omega (arith, are.long);
-  each = λ m lt. are.each m (omega arith);
-}
 
 pub distinct_from : (shapes : List Shape) (heads numbers places : List ℕ) (some : List Shape)
     → AreLeast shapes heads → AreOwn heads numbers → ArePlaces shapes numbers places → AreAt shapes numbers some
