@@ -15,4 +15,5 @@ mod words;
 pub use answers::{add_word, print_answers};
 pub use fluxes::print_fluxes;
 pub use laws::answers_are_shown;
+pub use page::{put_full_page, put_page};
 pub use words::{BadLine, GivenWords, read_words};

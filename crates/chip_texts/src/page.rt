@@ -1,5 +1,5 @@
 // A page of text, which is put once it is full.
-ghost use Rattle.std.specs.Prelude.{◌≡◌, ◌++◌, ℕ, List, OnOk, IfErr, []};
+ghost use Rattle.std.specs.Prelude.{◌≡◌, OnOk, IfErr, []};
 ghost use Rattle.chip_texts.specs.Printing.{PutsPage, RefusesPage};
 
 use aq_base::{Sink, StoreRefusal};
@@ -7,7 +7,7 @@ use aq_base::{Sink, StoreRefusal};
 /// A page is put when it has so many bytes.
 const PAGE: usize = 65_536;
 
-/// Puts what stands on the page, and clears it.
+/// Puts what stands on the page, and clears it. A refusal is the sink's: it has taken some first bytes of the page.
 pub fn put_page<O: Sink>(out: &mut O, page: &mut Vec<u8>) -> Result<(), StoreRefusal>
     ensures put { OnOk result (PutsPage (O.output out.old) (O.output out.new) page.old.items page.new.items) }
     ensures empty { OnOk result (page.new.items ≡ []) }
@@ -18,7 +18,7 @@ pub fn put_page<O: Sink>(out: &mut O, page: &mut Vec<u8>) -> Result<(), StoreRef
     Ok(())
 }
 
-/// Puts the page if it is full.
+/// Puts the page, and clears it, where it has 65,536 bytes or more. A refusal is the sink's, as that of `put_page`.
 pub fn put_full_page<O: Sink>(out: &mut O, page: &mut Vec<u8>) -> Result<(), StoreRefusal>
     ensures put { OnOk result (PutsPage (O.output out.old) (O.output out.new) page.old.items page.new.items) }
     ensures refused { IfErr result (RefusesPage (O.output out.old) (O.output out.new) page.old.items) }

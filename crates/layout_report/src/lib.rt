@@ -7,7 +7,6 @@ mod frames;
 mod kinds;
 mod laws;
 mod lengths;
-mod page;
 mod printing;
 mod rules;
 mod shape_lines;

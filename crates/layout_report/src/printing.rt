@@ -15,12 +15,11 @@ ghost use Rattle.layout_report.specs.Code.Figures.{head_of, row_of_table, text_o
 
 use crate::figures::{Figures, read_figures};
 use crate::kinds::Kinds;
-use crate::page::{put_full_page, put_page};
 use crate::tables::RowTable;
 use aq_base::{Memory, Sink, StoreRefusal};
 use cell_library::Library;
 use chip_circuit::Extracted;
-use chip_texts::{print_answers, read_words};
+use chip_texts::{print_answers, put_full_page, put_page, read_words};
 use geom::Flat;
 use std::alloc::Global;
 
