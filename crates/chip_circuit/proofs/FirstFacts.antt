@@ -28,7 +28,7 @@ rising (suc zero) (suc (suc j)) d le lt = absurd (omega arith)
 rising (suc (suc i)) j d le lt = absurd (omega arith)
 
 -- a cell with one feed
-one_input : (cell : ExCell) → cell.feed0 ≢ Nothing → cell.feed1 ≡ Nothing → cell.feed2 ≡ Nothing → (i : ℕ) → (feed_at cell i ≡ Nothing) ↔ (1 ≤ i)
+pub one_input : (cell : ExCell) → cell.feed0 ≢ Nothing → cell.feed1 ≡ Nothing → cell.feed2 ≡ Nothing → (i : ℕ) → (feed_at cell i ≡ Nothing) ↔ (1 ≤ i)
 one_input cell first second third zero = (λ e. absurd (first e), λ le. absurd (omega arith))
 one_input cell first second third (suc zero) = (λ e. omega arith, λ le. second)
 one_input cell first second third (suc (suc zero)) = (λ e. omega arith, λ le. third)
@@ -63,7 +63,7 @@ pub record IsFeed (c i : ℕ) (feed : Feed) (d : ℕ) (other : Feed) : Type 0 wh
 abbrev IsOneFeed : ℕ → ℕ → Feed → Type 0
 IsOneFeed c i feed = IsFeed c i feed 0 (Label 0) ⊎ IsFeed c i feed 1 (Pin 0 0)
 
-feed_of : (c i : ℕ) (cell : ExCell) (feed other : Feed) → feed ≢ Nothing → cell.feed0 ≡ other → cell.feed1 ≡ Nothing → cell.feed2 ≡ Nothing → feed_at cell i ≡ feed → IsFeed c i feed c other
+pub feed_of : (c i : ℕ) (cell : ExCell) (feed other : Feed) → feed ≢ Nothing → cell.feed0 ≡ other → cell.feed1 ≡ Nothing → cell.feed2 ≡ Nothing → feed_at cell i ≡ feed → IsFeed c i feed c other
 feed_of c zero cell feed other some first second third e = record { cell_is = refl; input_is = refl; feed_is = sym e ∙ first }
 feed_of c (suc zero) cell feed other some first second third e = absurd (some (sym e ∙ second))
 feed_of c (suc (suc zero)) cell feed other some first second third e = absurd (some (sym e ∙ third))

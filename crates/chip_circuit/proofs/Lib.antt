@@ -1,3 +1,3 @@
 pub mod Valuations
 mod Evaluated
-mod FirstFacts
+pub mod FirstFacts
