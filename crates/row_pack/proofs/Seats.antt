@@ -1,8 +1,7 @@
 -- Lemmas of the slots of packed cells: each is the sum of those that the cells before it take, and no span is greater
 -- than the widest row's.
 use Rattle.std.proofs.Common.{◌≡◌, ℕ, zero, suc, ◌+◌, ◌<◌, ◌≤◌, List, [], ◌∷◌, length, map, take, get_or, slice_get}
-use Rattle.std.proofs.Common.{Some, refl, ap, ◌∙◌, arith, inl, inr}
-use Rattle.std.proofs.lemmas.Bool.{cases_lt}
+use Rattle.std.proofs.Common.{Some, refl, ap, ◌∙◌, arith}
 use Rattle.std.proofs.lemmas.Option.{same_Some}
 use Rattle.circuit.specs.CellKinds.{slots_of}
 use Rattle.rowed.specs.declared.row_cell.RowCell.{RowCell}
@@ -11,6 +10,7 @@ use Rattle.rowed.specs.Slots.{span_of}
 use Rattle.rowed.specs.Extent.{packed_span, widest_packed}
 use Rattle.row_place.specs.Places.{packed}
 use Rattle.row_place.specs.Spans.{span_at, IsGreatestSpan}
+use Rattle.row_place.proofs.PlanSpans.{span_from, none_wider, as_wide}
 use Rattle.row_pack.specs.Packs.{pack, slot_in}
 
 -- the slots of one row
@@ -71,29 +71,12 @@ apart_is net r c d cell e past lt =
     omega (arith, sum_is net r d lt, sum_is net r c (omega arith), ended, later)
 
 -- a packed row spans the slots that its cells take
-span_from : (b : ℕ) (cell : RowCell) (cells : List RowCell)
-    → span_of (cell ∷ cells) (packed b (cell ∷ cells)) ≡ b + packed_span (cell ∷ cells)
-span_from b cell [] = omega arith
-span_from b cell (next ∷ cells) = omega (arith, span_from (b + slots_of cell.kind) next cells)
-
 span_packed : (cells : List RowCell) → span_of cells (packed 0 cells) ≡ packed_span cells
 span_packed [] = refl
 span_packed (cell ∷ cells) = omega (arith, span_from 0 cell cells)
 
 pub span_is : (net : RowView) (r : ℕ) → span_at (pack net) r ≡ packed_span (row_at net.rows r)
 span_is net r = ap (span_of (row_at net.rows r)) (row_packed net.rows r) ∙ span_packed (row_at net.rows r)
-
-none_wider : (rows : List (List RowCell)) (r : ℕ) → packed_span (row_at rows r) ≤ widest_packed rows
-none_wider [] r = omega arith
-none_wider (row ∷ rows) zero = omega arith
-none_wider (row ∷ rows) (suc r) = omega (arith, none_wider rows r)
-
-as_wide : (rows : List (List RowCell)) → (r : ℕ) × (packed_span (row_at rows r) ≡ widest_packed rows)
-as_wide [] = (0, refl)
-as_wide (row ∷ rows) = elim (cases_lt (packed_span row) (widest_packed rows)) [
-  | inl less ↦ let there = as_wide rows in (suc there.0, omega (arith, there.1))
-  | inr more ↦ (0, omega arith)
-]
 
 pub greatest_is : (net : RowView) → IsGreatestSpan (pack net) (widest_packed net.rows)
 greatest_is net =

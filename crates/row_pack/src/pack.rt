@@ -9,23 +9,9 @@ ghost use Rattle.row_place.specs.declared.pass.PlaceRefusal.TheVariants.{Memory 
 ghost use Rattle.row_pack.specs.Packs.{IsPacked};
 
 use aq_base::{List, Memory};
-use row_place::PlaceRefusal;
+use row_place::{PlaceRefusal, slots_of};
 use rowed::{Placed, RowCell, RowNet, is_too_wide};
 use std::alloc::Global;
-
-/// The slots of a row's cells, from slot 0 on, without gaps.
-fn slots_of(alloc: Global, cells: &[RowCell]) -> Result<Vec<u32>, Memory>
-    requires { packed_span cells.now ≤ slot_limit }
-    ensures { IfOk result (λ slots. slots.items ≡ packed 0 cells.now) }
-{
-    let mut slots = Vec::with_capacity(alloc, cells.len())?;
-    let mut slot = 0;
-    for cell in cells {
-        slots.push(slot)?;
-        slot += cell.kind.slots();
-    }
-    Ok(slots)
-}
 
 /// The slots of each row.
 fn each_slots(alloc: Global, rows: &[List<RowCell>]) -> Result<Vec<List<u32>>, Memory>

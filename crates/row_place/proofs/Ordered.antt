@@ -1,19 +1,19 @@
 -- Lemmas on the order of a row: it is that of the plan, it has each cell, it keeps the span, and cells are picked by it.
-use Rattle.std.proofs.Common.{◌≡◌, ℕ, suc, ◌+◌, ◌<◌, ◌≤◌, List, [], ◌∷◌, ◌++◌, Option, Some, None, Bool, true, false, length, drop, map, get_or, add-one, drop-cons, append_assoc, refl, sym, ◌∙◌, ap, subst, arith, leb, slice_get}
+use Rattle.std.proofs.Common.{◌≡◌, ℕ, suc, ◌+◌, ◌<◌, ◌≤◌, List, [], ◌∷◌, ◌++◌, Some, length, drop, map, get_or, add-one, drop-cons, append_assoc, refl, sym, ◌∙◌, ap, subst, arith, slice_get}
 use Rattle.std.proofs.Math.Path.{fun_ext}
 use Rattle.std.specs.List.{AllByRecursion}
 use Rattle.std.proofs.lemmas.Option.{slice_get-get_or}
 use Rattle.rowed.specs.declared.source.Source.{Source}
 use Rattle.rowed.specs.declared.row_cell.RowCell.{RowCell}
-use Rattle.list_orders.specs.Sorting.{by_key, put_by}
+use Rattle.list_orders.specs.Sorting.{by_key}
 use Rattle.list_orders.proofs.SortingLaws.{by_key_all}
 use Rattle.list_orders.specs.Numbers.{numbers}
 use Rattle.list_orders.proofs.NumbersLaws.{length-by_key_numbers}
 use Rattle.rowed.specs.Slots.{slot_limit}
 use Rattle.rowed.specs.Extent.{packed_span}
 use Rattle.row_place.specs.Keys.{key}
-use Rattle.row_place.specs.Places.{picked, and_cell}
-use Rattle.row_place.proofs.PlanSpans.{picked_all}
+use Rattle.row_place.specs.Places.{picked}
+use Rattle.row_place.proofs.PlanSpans.{picked_all, slots_by_key}
 use Rattle.row_place.specs.Code.Arrays.{moved_cell}
 use Rattle.list_orders.proofs.Inverted.{numbers_below}
 
@@ -33,23 +33,6 @@ order_length f n order e = ap length e ∙ length-by_key_numbers f n
 slots_moved : (places : List ℕ) (cells : List RowCell) → packed_span (map (moved_cell places) cells) ≡ packed_span cells
 slots_moved places [] = refl
 slots_moved places (cell ∷ cells) = let rest = slots_moved places cells in omega (arith, rest)
-
-slots_and : (o : Option RowCell) (cells : List RowCell) → packed_span (and_cell o cells) ≡ packed_span (and_cell o []) + packed_span cells
-slots_and None cells = omega arith
-slots_and (Some cell) cells = omega arith
-
-slots_put : (row : List RowCell) (f : ℕ → ℕ) (x : ℕ) (ys : List ℕ) → packed_span (picked row (put_by f x ys)) ≡ packed_span (picked row (x ∷ ys))
-slots_put row f x [] = refl
-slots_put row f x (y ∷ ys) = go (leb (f x) (f y)) refl (slots_put row f x ys)
-  where
-    go : (b : Bool) → leb (f x) (f y) ≡ b → packed_span (picked row (put_by f x ys)) ≡ packed_span (picked row (x ∷ ys)) → packed_span (picked row (put_by f x (y ∷ ys))) ≡ packed_span (picked row (x ∷ (y ∷ ys)))
-    go true q rest = rw q refl
-    go false q rest = rw q (
-        slots_and (slice_get row y) (picked row (put_by f x ys)) ∙ omega (arith, rest, slots_and (slice_get row x) (picked row ys), slots_and (slice_get row y) (picked row ys), slots_and (slice_get row x) (and_cell (slice_get row y) (picked row ys))))
-
-slots_by_key : (row : List RowCell) (f : ℕ → ℕ) (xs : List ℕ) → packed_span (picked row (by_key f xs)) ≡ packed_span (picked row xs)
-slots_by_key row f [] = refl
-slots_by_key row f (x ∷ xs) = slots_put row f x (by_key f xs) ∙ omega (arith, slots_by_key row f xs, slots_and (slice_get row x) (picked row xs), slots_and (slice_get row x) (picked row (by_key f xs)))
 
 -- a row takes as many slots in any order
 pub slots_kept : (places : List ℕ) (row cells : List RowCell) (f : ℕ → ℕ) (order : List ℕ) → order ≡ by_key f (numbers 0 (length row)) → cells ≡ map (moved_cell places) (picked row order) → packed_span row ≤ slot_limit → packed_span cells ≤ slot_limit

@@ -12,3 +12,4 @@ mod rows;
 pub use arranging::arrange;
 pub use laws::{places_answer, places_given, places_keep, places_rows, places_span, worked_places};
 pub use pass::{PlacePass, PlaceRefusal};
+pub use rows::slots_of;
