@@ -195,65 +195,47 @@ majority_yz false true false e0 = cc
 majority_yz false false true e0 = refl
 majority_yz false false false e0 = refl
 
+first_other : (x : Bool) → x ≡ majority x false true
+first_other true = refl
+first_other false = refl
+
 majority_first : (x y z : Bool) → y ≡ false → z ≡ true → x ≡ majority x y z
-majority_first true true true e0 e1 = refl
-majority_first true true false e0 e1 = refl
-majority_first true false true e0 e1 = refl
-majority_first true false false e0 e1 = cc
-majority_first false true true e0 e1 = cc
-majority_first false true false e0 e1 = refl
-majority_first false false true e0 e1 = refl
-majority_first false false false e0 e1 = refl
+majority_first x y z e f = rw (e, f) (first_other x)
+
+first_other_b : (x : Bool) → x ≡ majority x true false
+first_other_b true = refl
+first_other_b false = refl
 
 majority_first_b : (x y z : Bool) → y ≡ true → z ≡ false → x ≡ majority x y z
-majority_first_b true true true e0 e1 = refl
-majority_first_b true true false e0 e1 = refl
-majority_first_b true false true e0 e1 = refl
-majority_first_b true false false e0 e1 = cc
-majority_first_b false true true e0 e1 = cc
-majority_first_b false true false e0 e1 = refl
-majority_first_b false false true e0 e1 = refl
-majority_first_b false false false e0 e1 = refl
+majority_first_b x y z e f = rw (e, f) (first_other_b x)
+
+second_other : (y : Bool) → y ≡ majority false y true
+second_other true = refl
+second_other false = refl
 
 majority_second : (x y z : Bool) → x ≡ false → z ≡ true → y ≡ majority x y z
-majority_second true true true e0 e1 = refl
-majority_second true true false e0 e1 = refl
-majority_second true false true e0 e1 = cc
-majority_second true false false e0 e1 = refl
-majority_second false true true e0 e1 = refl
-majority_second false true false e0 e1 = cc
-majority_second false false true e0 e1 = refl
-majority_second false false false e0 e1 = refl
+majority_second x y z e f = rw (e, f) (second_other y)
+
+second_other_b : (y : Bool) → y ≡ majority true y false
+second_other_b true = refl
+second_other_b false = refl
 
 majority_second_b : (x y z : Bool) → x ≡ true → z ≡ false → y ≡ majority x y z
-majority_second_b true true true e0 e1 = refl
-majority_second_b true true false e0 e1 = refl
-majority_second_b true false true e0 e1 = cc
-majority_second_b true false false e0 e1 = refl
-majority_second_b false true true e0 e1 = refl
-majority_second_b false true false e0 e1 = cc
-majority_second_b false false true e0 e1 = refl
-majority_second_b false false false e0 e1 = refl
+majority_second_b x y z e f = rw (e, f) (second_other_b y)
+
+third_other : (z : Bool) → z ≡ majority false true z
+third_other true = refl
+third_other false = refl
 
 majority_third : (x y z : Bool) → x ≡ false → y ≡ true → z ≡ majority x y z
-majority_third true true true e0 e1 = refl
-majority_third true true false e0 e1 = cc
-majority_third true false true e0 e1 = refl
-majority_third true false false e0 e1 = refl
-majority_third false true true e0 e1 = refl
-majority_third false true false e0 e1 = refl
-majority_third false false true e0 e1 = cc
-majority_third false false false e0 e1 = refl
+majority_third x y z e f = rw (e, f) (third_other z)
+
+third_other_b : (z : Bool) → z ≡ majority true false z
+third_other_b true = refl
+third_other_b false = refl
 
 majority_third_b : (x y z : Bool) → x ≡ true → y ≡ false → z ≡ majority x y z
-majority_third_b true true true e0 e1 = refl
-majority_third_b true true false e0 e1 = cc
-majority_third_b true false true e0 e1 = refl
-majority_third_b true false false e0 e1 = refl
-majority_third_b false true true e0 e1 = refl
-majority_third_b false true false e0 e1 = refl
-majority_third_b false false true e0 e1 = cc
-majority_third_b false false false e0 e1 = refl
+majority_third_b x y z e f = rw (e, f) (third_other_b z)
 
 module _ (n : ℕ) (gs : List Gate) (ok : AreGates n gs) where
   and_unless : (x y : ℕ) → x < length gs → y < length gs → side n x ≡ Neither → side n y ≡ Neither → (b : Bool) → eqb x y ≡ b → Right n gs (unless_same gs x (Maj x n y) b) 1 (λ v. v x && v y)
