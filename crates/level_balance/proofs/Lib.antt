@@ -43,3 +43,4 @@ mod ByUsers
 mod Serving
 mod AtMost
 mod Rooms
+mod PagesJoined

@@ -6,3 +6,4 @@ pub mod Turns
 pub mod Outlines
 pub mod Served
 pub mod Rooms
+pub mod Pages

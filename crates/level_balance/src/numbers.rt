@@ -1,53 +1,43 @@
-// Numbers that are counted up and replaced, of half the size while they are small.
+// Numbers that are counted up and replaced, each in few bytes where it and its neighbours are small.
 ghost use Rattle.std.specs.Prelude.{◌≡◌, replicate, slice_index_or, slice_set, IfOk, OnOk};
 
+use crate::page::Page;
 use aq_base::Memory;
 use std::alloc::Global;
 use std::marker::Model;
 
-/// A list of numbers. Each takes 32 bits, until one is put in that needs more: from then on each takes 64.
+/// How many numbers a page has. The last may have fewer.
+const PAGE: usize = 4096;
+
+/// A list of numbers in pages. Each takes one byte, until one is put into its page that needs more.
 #[derive(Drop)]
 pub(crate) struct Numbers {
-    narrow: Vec<u32>,
-    wide: Vec<usize>,
-    is_wide: bool,
+    pages: Vec<Page>,
 }
 
 impl Model for Numbers {
-    ghost use Rattle.std.specs.Prelude.{ℕ, List, cond};
+    ghost use Rattle.std.specs.Prelude.{ℕ, List};
+    ghost use Rattle.std.specs.List.{concat};
+    ghost use Rattle.level_balance.specs.Code.Pages.{ArePages};
 
     ghost Value = { List ℕ };
 
-    ghost view = { λ n. cond n.is_wide n.wide.items n.narrow.items };
+    ghost view = { λ n. concat n.pages.items };
+
+    ghost invariant = { λ n. ArePages 4096 n.pages.items };
 }
 
-/// Copies numbers to where each takes 64 bits.
-fn widen(wide: &mut Vec<usize>, narrow: &[u32]) -> Result<(), Memory>
-    ensures { OnOk result (wide.new.items ≡ narrow.now) }
+/// So many pages of so many zeros.
+fn full_pages(alloc: Global, size: usize, count: usize) -> Result<Vec<Page>, Memory>
+    ensures { IfOk result (λ pages. pages.items ≡ replicate count (replicate size 0)) }
 {
-    wide.clear();
-    for number in narrow {
-        wide.push(*number as usize)?;
+    let mut pages = Vec::new(alloc);
+    let mut left = count;
+    while left > 0 {
+        left -= 1;
+        pages.push(Page::zeros(alloc, size)?)?;
     }
-    Ok(())
-}
-
-/// Puts a number of 32 bits at a place, if it is there.
-fn put_narrow(numbers: &mut Vec<u32>, place: usize, number: u32)
-    ensures { numbers.new.items ≡ slice_set numbers.old.items place number }
-{
-    if place < numbers.len() {
-        numbers[place] = number;
-    }
-}
-
-/// Puts a number of 64 bits at a place, if it is there.
-fn put_wide(numbers: &mut Vec<usize>, place: usize, number: usize)
-    ensures { numbers.new.items ≡ slice_set numbers.old.items place number }
-{
-    if place < numbers.len() {
-        numbers[place] = number;
-    }
+    Ok(pages)
 }
 
 impl Numbers {
@@ -55,21 +45,18 @@ impl Numbers {
     pub(crate) fn zeros(alloc: Global, count: usize) -> Result<Numbers, Memory>
         ensures { IfOk result (λ numbers. numbers ≡ replicate count 0) }
     {
-        Ok(Numbers {
-            narrow: vec![in alloc; 0; count]?,
-            wide: Vec::new(alloc),
-            is_wide: false,
-        })
+        let mut pages = full_pages(alloc, PAGE, count / PAGE)?;
+        pages.push(Page::zeros(alloc, count % PAGE)?)?;
+        Ok(Numbers { pages })
     }
 
     /// The number at a place, and 0 where none is.
     pub(crate) fn get(&self, place: usize) -> usize
         ensures { result ≡ slice_index_or self.now place 0 }
     {
-        if self.is_wide {
-            self.wide.get(place).copied().unwrap_or(0)
-        } else {
-            self.narrow.get(place).copied().unwrap_or(0) as usize
+        match self.pages.get(place / PAGE) {
+            Some(page) => page.get(place % PAGE),
+            None => 0,
         }
     }
 
@@ -77,17 +64,10 @@ impl Numbers {
     pub(crate) fn set(&mut self, place: usize, number: usize) -> Result<(), Memory>
         ensures { OnOk result (self.new ≡ slice_set self.old place number) }
     {
-        if self.is_wide {
-            put_wide(&mut self.wide, place, number);
-            return Ok(());
+        let at = place / PAGE;
+        if at < self.pages.len() {
+            self.pages[at].set(place % PAGE, number)?;
         }
-        if number <= u32::MAX as usize {
-            put_narrow(&mut self.narrow, place, number as u32);
-            return Ok(());
-        }
-        widen(&mut self.wide, &self.narrow)?;
-        self.is_wide = true;
-        put_wide(&mut self.wide, place, number);
         Ok(())
     }
 }
