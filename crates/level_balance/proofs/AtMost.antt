@@ -1,7 +1,8 @@
 -- How large the numbers of a plan are: uses, levels, and the rows where trees end.
-use Rattle.std.proofs.Common.{◌≡◌, ℕ, zero, suc, ◌+◌, ◌-◌, ◌*◌, ◌/◌, ◌<◌, ◌≤◌, ◌^◌, max, min, Bool, true, false, List, [], ◌∷◌, ◌++◌, length, drop, replicate, get_or, set, slice_index_or, slice_set, refl, sym, ap, ◌∙◌, subst, arith, inl, inr, drop-cons, add-one, le_trans, length-append}
+use Rattle.std.proofs.Common.{◌≡◌, ℕ, zero, suc, ◌+◌, ◌-◌, ◌*◌, ◌/◌, ◌<◌, ◌≤◌, ◌^◌, max, min, Bool, true, false, List, [], ◌∷◌, ◌++◌, length, drop, replicate, get_or, set, slice_index_or, slice_set, Option, Some, refl, sym, ap, ◌∙◌, subst, arith, inl, inr, drop-cons, add-one, le_trans, length-append}
 use Rattle.std.proofs.lemmas.Bool.{cases_eq, cases_lt}
 use Rattle.std.proofs.lemmas.List.{get_or-set_same, get_or-set_other, length-set}
+use Rattle.std.proofs.lemmas.Option.{slice_get-get_or}
 use Rattle.std.proofs.Math.Nat.{div-le_of_le-mul, pow-le-pow_left}
 use Rattle.circuit.specs.declared.gate.Gate.{Gate}
 use Rattle.circuit.specs.declared.gate.Gate.TheVariants as gates
@@ -11,7 +12,7 @@ use Rattle.level_balance.specs.Levels.{depth, user_rows_from}
 use Rattle.level_balance.specs.Code.Arrays.{greatest_by, level_by, levels_by}
 use Rattle.level_balance.specs.Counts.{capped}
 use Rattle.level_balance.specs.Code.Steps.{counted_operands}
-use Rattle.level_balance.specs.Code.Served.{used_each, raised_to, greatest_end, level_over, at_place, own_end, user_cells, users_cells, all_ends, IsAtMost}
+use Rattle.level_balance.specs.Code.Served.{used_each, counts_by, operands_used, used_below, raised_to, greatest_end, level_over, at_place, own_end, user_cells, users_cells, all_ends, IsAtMost}
 use Rattle.level_balance.proofs.Used.{uses_step}
 use Rattle.level_balance.proofs.Trees.{IsBase}
 use Rattle.level_balance.proofs.ShortestTrees.{least_exponent}
@@ -70,26 +71,46 @@ pub used_append : (fans xs ys : List ℕ) → used_each fans (xs ++ ys) ≡ used
 used_append fans [] ys = refl
 used_append fans (x ∷ xs) ys = used_append (slice_set fans x (suc (slice_index_or fans x 0))) xs ys
 
--- one gate of the walk that counts uses
-pub record FansSo (n : ℕ) (marks : List Bool) (gates : List Gate) (i : ℕ) (fans : List ℕ) : Type 0 where
-  pub few : IsAtMost (3 * i) fans
-  pub same : used_each fans (uses_from n marks i (drop i gates)) ≡ used_each (replicate (length gates) 0) (uses_from n marks 0 gates)
+few_used : (n fan i : ℕ) (g : Gate) → length (operands_used n fan i (Some g)) ≤ 3
+few_used n fan i g = go (counts_by n fan i)
+  where
+    go : (b : Bool) → length (elim b as (λ (t : Bool). List ℕ) [ true ↦ operands g | false ↦ [] ]) ≤ 3
+    go true = few_operands g
+    go false = omega arith
 
-pub fans_begin : (n : ℕ) (marks : List Bool) (gates : List Gate) → FansSo n marks gates 0 (replicate (length gates) 0)
-fans_begin n marks gates = record { few = zeros_at_most (length gates); same = refl }
+-- the walk that counts uses, where the gates below `left` are left
+pub record FansSo (n : ℕ) (gates : List Gate) (outs : List ℕ) (left : ℕ) (fans : List ℕ) : Type 0 where
+  pub within : left ≤ length gates
+  pub few : IsAtMost (2 ^ 32 + 3 * (length gates - left)) fans
+  pub same : used_below n left gates fans ≡ used_below n (length gates) gates (used_each (replicate (length gates) 0) outs)
 
-pub fans_turn : (n : ℕ) (marks : List Bool) (gates : List Gate) (d : Gate) (i : ℕ) (fans fans' : List ℕ) → i < length gates
-    → fans' ≡ used_each fans (counted_operands n marks i (get_or gates i d)) → FansSo n marks gates i fans → FansSo n marks gates (i + 1) fans'
-fans_turn n marks gates d i fans fans' lt is so =
-    let g = get_or gates i d in
-    let rest = uses_from n marks (suc i) (drop (suc i) gates) in
-    let count = few_counted n marks i g in
-    record {
-      few = subst (IsAtMost (3 * (i + 1))) (sym is) (more_at_most (3 * i + length (counted_operands n marks i g)) (3 * (i + 1)) _ (omega arith) (used_at_most (3 * i) fans (counted_operands n marks i g) so.few));
-      same = ap (λ (k : ℕ). used_each fans' (uses_from n marks k (drop k gates))) (add-one i)
-          ∙ ap (λ (a : List ℕ). used_each a rest) is ∙ sym (used_append fans (counted_operands n marks i g) rest)
-          ∙ ap (used_each fans) (sym (uses_step n marks i g (drop (suc i) gates)) ∙ ap (uses_from n marks i) (sym (drop-cons gates i d lt))) ∙ so.same;
-    }
+pub fans_begin : (n : ℕ) (gates : List Gate) (outs fans0 fans : List ℕ) → fans0 ≡ replicate (length gates) 0 → fans ≡ used_each fans0 outs → IsAtMost (2 ^ 32) fans → FansSo n gates outs (length gates) fans
+fans_begin n gates outs fans0 fans none is few = record {
+  within = omega arith;
+  few = more_at_most (2 ^ 32) (2 ^ 32 + 3 * (length gates - length gates)) fans (omega arith) few;
+  same = ap (used_below n (length gates) gates) (is ∙ ap (λ (xs : List ℕ). used_each xs outs) none);
+}
+
+pub fans_turn : (n : ℕ) (gates : List Gate) (outs : List ℕ) (d : Gate) (left : ℕ) (fans fans' : List ℕ) → 0 < left
+    → fans' ≡ used_each fans (operands_used n (at_place fans (left - 1)) (left - 1) (Some (get_or gates (left - 1) d))) → FansSo n gates outs left fans → FansSo n gates outs (left - 1) fans'
+fans_turn n gates outs d zero fans fans' lt is so = absurd (omega arith)
+fans_turn n gates outs d (suc k) fans fans' lt is so = subst Turns (let z : k ≡ suc k - 1 = omega arith in z) turn is
+  where
+    Turns : ℕ → Type 0
+    Turns j = fans' ≡ used_each fans (operands_used n (at_place fans j) j (Some (get_or gates j d))) → FansSo n gates outs j fans'
+
+    turn : Turns k
+    turn e =
+        let within = so.within in
+        let g = get_or gates k d in
+        let os = operands_used n (at_place fans k) k (Some g) in
+        let count = few_used n (at_place fans k) k g in
+        let most = 2 ^ 32 + 3 * (length gates - suc k) in
+        record {
+          within = omega arith;
+          few = subst (IsAtMost (2 ^ 32 + 3 * (length gates - k))) (sym e) (more_at_most (most + length os) (2 ^ 32 + 3 * (length gates - k)) (used_each fans os) (omega arith) (used_at_most most fans os so.few));
+          same = ap (used_below n k gates) (e ∙ ap (λ (o : Option Gate). used_each fans (operands_used n (at_place fans k) k o)) (sym (slice_get-get_or gates k d (omega arith)))) ∙ so.same;
+        }
 
 pub output_turn : (outs fans fans' : List ℕ) (i most : ℕ) (goal : List ℕ) → i < length outs → fans' ≡ slice_set fans (get_or outs i 0) (suc (slice_index_or fans (get_or outs i 0) 0))
     → IsAtMost (most + i) fans → used_each fans (drop i outs) ≡ goal → IsAtMost (most + (i + 1)) fans' × (used_each fans' (drop (i + 1) outs) ≡ goal)
@@ -153,17 +174,17 @@ times_low size (suc (suc (suc zero))) most three le = omega arith
 times_low size (suc (suc (suc (suc b)))) most three le = absurd (omega arith)
 
 -- one gate of the walk that counts cells
-pub record TotalSo (n b : ℕ) (marks : List Bool) (gates : List Gate) (fans : List ℕ) (i : ℕ) (ends : List ℕ) (total : ℕ) : Type 0 where
+pub record TotalSo (n b : ℕ) (gates : List Gate) (fans : List ℕ) (i : ℕ) (ends : List ℕ) (total : ℕ) : Type 0 where
   pub size : length ends ≡ length gates
   pub small : total < 2 ^ 64
   pub low : IsAtMost (2 ^ 35 + 41 * i) ends
-  pub cells : capped (total + users_cells n b marks ends i (drop i gates)) ≡ capped (users_cells n b marks fans 0 gates)
+  pub cells : capped (total + users_cells n b ends i (drop i gates)) ≡ capped (users_cells n b fans 0 gates)
   pub same : all_ends n b ends i (drop i gates) ≡ all_ends n b fans 0 gates
 
-pub total_turn : (n b : ℕ) (marks : List Bool) (gates : List Gate) (d : Gate) (fans : List ℕ) (i : ℕ) (ends ends' : List ℕ) (cells total total' : ℕ) → 2 ≤ b → b ≤ 3 → i < length gates → length gates < 2 ^ 32
-    → cells ≡ capped (user_cells n b marks ends i (get_or gates i d)) → ends' ≡ slice_set ends i (own_end n b ends i (get_or gates i d)) → total' ≡ min (total + cells) (2 ^ 64 - 1)
-    → TotalSo n b marks gates fans i ends total → TotalSo n b marks gates fans (i + 1) ends' total'
-total_turn n b marks gates d fans i ends ends' cells total total' two three lt most ce ee te so =
+pub total_turn : (n b : ℕ) (gates : List Gate) (d : Gate) (fans : List ℕ) (i : ℕ) (ends ends' : List ℕ) (cells total total' : ℕ) → 2 ≤ b → b ≤ 3 → i < length gates → length gates < 2 ^ 32
+    → cells ≡ capped (user_cells n b ends i (get_or gates i d)) → ends' ≡ slice_set ends i (own_end n b ends i (get_or gates i d)) → total' ≡ min (total + cells) (2 ^ 64 - 1)
+    → TotalSo n b gates fans i ends total → TotalSo n b gates fans (i + 1) ends' total'
+total_turn n b gates d fans i ends ends' cells total total' two three lt most ce ee te so =
     let g = get_or gates i d in
     let next = slice_set ends i (own_end n b ends i g) in
     let rest = drop (suc i) gates in
@@ -172,8 +193,8 @@ total_turn n b marks gates d fans i ends ends' cells total total' two three lt m
       size = ap length ee ∙ length-set ends i (own_end n b ends i g) ∙ so.size;
       small = omega arith;
       low = subst (IsAtMost (2 ^ 35 + 41 * (i + 1))) (sym ee) (more_at_most (2 ^ 35 + 41 * i + 41) (2 ^ 35 + 41 * (i + 1)) next (omega arith) (own_at_most n b ends i g (2 ^ 35 + 41 * i) two three (omega arith) so.low));
-      cells = ap (λ (k : ℕ). capped (total' + users_cells n b marks ends' k (drop k gates))) (add-one i) ∙ ap (λ (e : List ℕ). capped (total' + users_cells n b marks e (suc i) rest)) ee
-          ∙ summed total (user_cells n b marks ends i g) (users_cells n b marks next (suc i) rest) cells total' _ ce te (ap (λ (k : List Gate). capped (total + users_cells n b marks ends i k)) (sym list) ∙ so.cells);
+      cells = ap (λ (k : ℕ). capped (total' + users_cells n b ends' k (drop k gates))) (add-one i) ∙ ap (λ (e : List ℕ). capped (total' + users_cells n b e (suc i) rest)) ee
+          ∙ summed total (user_cells n b ends i g) (users_cells n b next (suc i) rest) cells total' _ ce te (ap (λ (k : List Gate). capped (total + users_cells n b ends i k)) (sym list) ∙ so.cells);
       same = ap (λ (k : ℕ). all_ends n b ends' k (drop k gates)) (add-one i) ∙ ap (λ (e : List ℕ). all_ends n b e (suc i) rest) ee ∙ ap (all_ends n b ends i) (sym list) ∙ so.same;
     }
   where

@@ -44,3 +44,5 @@ mod Serving
 mod AtMost
 mod Rooms
 mod PagesJoined
+mod UsedEach
+mod UsedBelow

@@ -1,56 +1,24 @@
 -- The walk that counts over one array: what it has at each gate is what the plan fixes.
-use Rattle.std.proofs.Common.{◌≡◌, ℕ, zero, suc, ◌+◌, ◌-◌, ◌<◌, ◌≤◌, ◌^◌, max, min, Bool, true, false, cond, List, [], ◌∷◌, length, drop, replicate, get_or, set, slice_get, slice_index_or, slice_set, Some, refl, sym, ap, ◌∙◌, subst, arith, inl, inr}
+use Rattle.std.proofs.Common.{◌≡◌, ℕ, suc, ◌+◌, ◌-◌, ◌<◌, ◌≤◌, ◌^◌, max, min, Bool, true, false, ◌&&◌, ◌||◌, not, ltb, cond, List, [], ◌∷◌, length, drop, replicate, get_or, slice_get, slice_set, Some, refl, sym, ap, ◌∙◌, subst, arith, inl, inr}
 use Rattle.std.proofs.lemmas.Bool.{cases_eq}
-use Rattle.std.proofs.lemmas.List.{length-set, get_or-set_same, get_or-set_other, length-replicate}
+use Rattle.std.proofs.lemmas.List.{length-set, get_or-set_same, get_or-set_other}
 use Rattle.std.proofs.lemmas.Option.{slice_get_within}
 use Rattle.circuit.specs.declared.gate.Gate.{Gate}
 use Rattle.circuit.specs.declared.gate.Gate.TheVariants as gates
 use Rattle.circuit.specs.PlainNets.{PlainView, is_constant, IsPlainNet}
-use Rattle.level_balance.specs.Uses.{operands, needed, counts, uses_from, uses, uses_of, use_count}
+use Rattle.level_balance.specs.Uses.{operands, counts, use_count}
 use Rattle.level_balance.specs.Levels.{depth, greatest, level_of}
 use Rattle.level_balance.specs.Plan.{Frame, frame}
 use Rattle.level_balance.specs.Counts.{tree_cells, cell_count, capped}
 use Rattle.level_balance.specs.Trees.{tree_rows, tree_end}
-use Rattle.level_balance.specs.Code.Served.{used_each, greatest_end, level_over, leads_cells, at_place, own_end, user_cells, users_cells, all_ends}
+use Rattle.level_balance.specs.Code.Served.{used_each, counts_by, used_below, greatest_end, level_over, leads_cells, at_place, own_end, user_cells, users_cells, all_ends}
 use Rattle.level_balance.proofs.LawOfLaying.{drop_step}
 use Rattle.level_balance.proofs.Frames.{IsPlain, lev, frame_fits}
 use Rattle.level_balance.proofs.Plain.{is_plain}
-use Rattle.level_balance.proofs.Linked.{uses_same, uses_other}
 use Rattle.level_balance.proofs.Outlined.{uses_low, all_out}
-use Rattle.level_balance.proofs.Marks.{AllIn}
-use Rattle.level_balance.proofs.AtMost.{used_append}
+use Rattle.level_balance.proofs.Marks.{AllIn, mark}
+use Rattle.level_balance.proofs.UsedBelow.{fans_length, needed_has_uses, fans_counted}
 use Rattle.level_balance.proofs.ByUsers.{by_users, same_cells}
-
--- the numbers of uses
-pub used_length : (fans xs : List ℕ) → length (used_each fans xs) ≡ length fans
-used_length fans [] = refl
-used_length fans (x ∷ xs) = used_length (slice_set fans x (suc (slice_index_or fans x 0))) xs ∙ length-set fans x (suc (slice_index_or fans x 0))
-
-used_at : (fans xs : List ℕ) (q j : ℕ) → j < length fans → get_or (used_each fans xs) j 0 ≡ get_or fans j 0 + length (uses_of j q xs)
-used_at fans [] q j lt = omega arith
-used_at fans (x ∷ xs) q j lt =
-    let more = suc (get_or fans x 0) in
-    let size = length-set fans x more in
-    let rest = used_at (set fans x more) xs (suc q) j (omega arith) in
-    elim (cases_eq x j) [
-      | inl same ↦
-          (let here : get_or (set fans x more) j 0 ≡ more = ap (λ (t : ℕ). get_or (set fans x more) t 0) (sym same) ∙ get_or-set_same fans x more 0 (omega arith) in
-          let count = ap length (uses_same j q x xs same) in
-          let old = ap (λ (t : ℕ). get_or fans t 0) same in omega arith)
-      | inr other ↦
-          (let here : get_or (set fans x more) j 0 ≡ get_or fans j 0 = get_or-set_other fans x j more 0 (λ e. other (sym e)) in
-          let count = ap length (uses_other j q x xs other) in omega arith)
-    ]
-
-none_at : (m j : ℕ) → get_or (replicate {A = ℕ} m 0) j 0 ≡ 0
-none_at zero j = refl
-none_at (suc m) zero = refl
-none_at (suc m) (suc j) = none_at m j
-
-pub fans_are : (m : ℕ) (us : List ℕ) (j : ℕ) → j < m → get_or (used_each (replicate m 0) us) j 0 ≡ use_count us j
-fans_are m us j lt =
-    let size : length (replicate {A = ℕ} m 0) ≡ m = length-replicate m 0 in
-    let a = used_at (replicate m 0) us 0 j (omega arith) in let b = none_at m j in omega arith
 
 -- levels from where trees end
 greatest_is : (f : Frame) (end : ℕ → ℕ) (xs : List ℕ) → AllIn (λ x. end x ≡ tree_end f x) xs → greatest_end f.inputs end xs ≡ greatest f.inputs f.base f.uses f.levels xs
@@ -88,7 +56,8 @@ pub record Reached (f : Frame) (m i : ℕ) (ends : List ℕ) : Type 0 where
   pub ahead : (j : ℕ) → i ≤ j → j < m → at_place ends j ≡ use_count f.uses j
 
 module _ (f : Frame) (net : PlainView) (plain : IsPlain net)
-    (levels_are : (i : ℕ) (g : Gate) → slice_get net.gates i ≡ Some g → get_or f.levels i 0 ≡ level_of f.inputs f.base f.uses f.levels g) where
+    (levels_are : (i : ℕ) (g : Gate) → slice_get net.gates i ≡ Some g → get_or f.levels i 0 ≡ level_of f.inputs f.base f.uses f.levels g)
+    (marks_are : (i : ℕ) → i < length net.gates → mark f.marks i ≡ ltb 0 (use_count f.uses i)) where
   abbrev m : ℕ
   m = length net.gates
 
@@ -108,6 +77,9 @@ module _ (f : Frame) (net : PlainView) (plain : IsPlain net)
 
     fan_here : at_place ends i ≡ use_count f.uses i
     fan_here = at.ahead i (omega arith) here
+
+    counts_here : counts_by f.inputs (at_place ends i) i ≡ counts f.inputs f.marks i
+    counts_here = ap (λ (b : Bool). ltb i f.inputs || (b && not (is_constant f.inputs i))) (ap (ltb 0) fan_here ∙ sym (marks_are i here))
 
     end_here : own_end f.inputs f.base ends i g ≡ tree_end f i
     end_here = ap (λ (t : ℕ). t + depth f.base (at_place ends i)) level_here ∙ ap (λ (t : ℕ). get_or f.levels i 0 + depth f.base t) fan_here
@@ -133,25 +105,26 @@ module _ (f : Frame) (net : PlainView) (plain : IsPlain net)
     abbrev cells_here : Bool → ℕ
     cells_here b = elim b [ true ↦ suc (tree_cells f.base (tree_rows f i) (use_count f.uses i)) + leads_cells f.inputs (tree_end f) (get_or f.levels i 0) (operands g) | false ↦ 0 ]
 
-    cells_are : user_cells f.inputs f.base f.marks ends i g ≡ cells_here (counts f.inputs f.marks i)
+    cells_are : user_cells f.inputs f.base ends i g ≡ cells_here (counts f.inputs f.marks i)
     cells_are =
         let fan = at_place ends i in
         let L = level_over f.inputs (at_place ends) g in
         let tree : suc (tree_cells f.base (depth f.base fan) fan) ≡ suc (tree_cells f.base (tree_rows f i) (use_count f.uses i)) = ap (λ (t : ℕ). suc (tree_cells f.base (depth f.base t) t)) fan_here in
         let lead : leads_cells f.inputs (at_place ends) L (operands g) ≡ leads_cells f.inputs (tree_end f) (get_or f.levels i 0) (operands g) =
         leads_same f (at_place ends) L (operands g) each_end ∙ ap (λ (t : ℕ). leads_cells f.inputs (tree_end f) t (operands g)) level_here in
-        ap (λ (t : ℕ). elim (counts f.inputs f.marks i) as (λ (b : Bool). ℕ) [ true ↦ t | false ↦ 0 ])
+        ap (λ (c : Bool). elim c as (λ (b : Bool). ℕ) [ true ↦ suc (tree_cells f.base (depth f.base fan) fan) + leads_cells f.inputs (at_place ends) L (operands g) | false ↦ 0 ]) counts_here
+        ∙ ap (λ (t : ℕ). elim (counts f.inputs f.marks i) as (λ (b : Bool). ℕ) [ true ↦ t | false ↦ 0 ])
         (let z : suc (tree_cells f.base (depth f.base fan) fan) + leads_cells f.inputs (at_place ends) L (operands g)
         ≡ suc (tree_cells f.base (tree_rows f i) (use_count f.uses i)) + leads_cells f.inputs (tree_end f) (get_or f.levels i 0) (operands g) = omega (arith, tree, lead) in z)
 
   all_served : (i : ℕ) (gs : List Gate) (ends : List ℕ) → drop i net.gates ≡ gs → i + length gs ≡ m → Reached f m i ends
-      → (users_cells f.inputs f.base f.marks ends i gs ≡ by_users f i gs) × Reached f m m (all_ends f.inputs f.base ends i gs)
+      → (users_cells f.inputs f.base ends i gs ≡ by_users f i gs) × Reached f m m (all_ends f.inputs f.base ends i gs)
   all_served i [] ends d size at = (refl, subst (λ (t : ℕ). Reached f m t ends) (let z : i ≡ m = omega arith in z) at)
   all_served i (g ∷ gs) ends d size at =
       let st = drop_step i net.gates g gs d in
       let next = reached_next i g ends st.0 at in
       let rest = all_served (suc i) gs (after i g ends st.0 at) st.1 (omega arith) next in (
-        ap (λ (t : ℕ). t + users_cells f.inputs f.base f.marks (after i g ends st.0 at) (suc i) gs) (cells_are i g ends st.0 at)
+        ap (λ (t : ℕ). t + users_cells f.inputs f.base (after i g ends st.0 at) (suc i) gs) (cells_are i g ends st.0 at)
             ∙ ap (λ (t : ℕ). cells_here i g ends st.0 at (counts f.inputs f.marks i) + t) rest.0
             ∙ go (counts f.inputs f.marks i),
         rest.1,
@@ -168,7 +141,7 @@ module _ (f : Frame) (net : PlainView) (plain : IsPlain net)
   -- all cells, where the array begins with the numbers of uses
   pub all_counted : (fans : List ℕ) → Reached f m 0 fans → AllIn (λ o. o < m) net.outputs → f.last ≡ suc (greatest f.inputs f.base f.uses f.levels net.outputs)
       → (let ends = at_place (all_ends f.inputs f.base fans 0 net.gates) in
-      users_cells f.inputs f.base f.marks fans 0 net.gates + leads_cells f.inputs ends (suc (greatest_end f.inputs ends net.outputs)) net.outputs
+      users_cells f.inputs f.base fans 0 net.gates + leads_cells f.inputs ends (suc (greatest_end f.inputs ends net.outputs)) net.outputs
       ≡ by_users f 0 net.gates + leads_cells f.inputs (tree_end f) f.last net.outputs)
   all_counted fans at shown last =
       let E = all_ends f.inputs f.base fans 0 net.gates in
@@ -179,51 +152,53 @@ module _ (f : Frame) (net : PlainView) (plain : IsPlain net)
       leads_same f (at_place E) _ net.outputs each ∙ ap (λ (t : ℕ). leads_cells f.inputs (tree_end f) t net.outputs) row in
       omega (arith, s.0, lead)
 
+-- the numbers of uses with which the walk begins
+abbrev pub first_fans : PlainView → List ℕ
+first_fans net = used_below net.inputs (length net.gates) net.gates (used_each (replicate (length net.gates) 0) net.outputs)
+
 -- the count over the array is that of the plan
-pub count_is : (net : PlainView) (three : Bool) → IsPlainNet net → (fans : List ℕ) → fans ≡ used_each (replicate (length net.gates) 0) (uses net (needed net))
+pub count_is : (net : PlainView) (three : Bool) → IsPlainNet net
     → (let b : ℕ = cond three 3 2 in
+    let fans = first_fans net in
     let ends = at_place (all_ends net.inputs b fans 0 net.gates) in
-    users_cells net.inputs b (needed net) fans 0 net.gates + leads_cells net.inputs ends (suc (greatest_end net.inputs ends net.outputs)) net.outputs + length net.outputs
+    users_cells net.inputs b fans 0 net.gates + leads_cells net.inputs ends (suc (greatest_end net.inputs ends net.outputs)) net.outputs + length net.outputs
     ≡ cell_count net three)
 unfolding frame cell_count
-count_is net three known fans is =
+count_is net three known =
     let f = frame net three in
     let plain = is_plain net known in
     let b : ℕ = cond three 3 2 in
-    let begun : Reached f (length net.gates) 0 fans = record {
-      size = ap length is ∙ used_length (replicate (length net.gates) 0) f.uses ∙ length-replicate (length net.gates) 0;
+    let begun : Reached f (length net.gates) 0 (first_fans net) = record {
+      size = fans_length net known;
       done = λ j lt within. absurd (omega arith);
-      ahead = λ j le within. ap (λ (t : List ℕ). at_place t j) is ∙ fans_are (length net.gates) f.uses j within;
+      ahead = λ j le within. fans_counted net known j within;
     } in
-    let a = all_counted f net plain (λ i g e. lev net plain b i g e) fans begun plain.shown refl in
+    let marks = λ (i : ℕ) (lt : i < length net.gates). needed_has_uses net known i ∙ ap (ltb 0) (fans_counted net known i lt) in
+    let a = all_counted f net plain (λ i g e. lev net plain b i g e) marks (first_fans net) begun plain.shown refl in
     let c = same_cells f net (frame_fits net three plain) (all_out (length net.gates) f.uses (uses_low net known f.marks f.uses refl)) in
     omega (arith, a, c)
 
-pub fans_length : (m : ℕ) (us outs fans fans' : List ℕ) → fans ≡ used_each (replicate m 0) us → fans' ≡ used_each fans outs → length fans' ≡ m
-fans_length m us outs fans fans' fe more = ap length more ∙ used_length fans outs ∙ ap length fe ∙ used_length (replicate m 0) us ∙ length-replicate m 0
+pub begun_length : (net : PlainView) → IsPlainNet net → (fans : List ℕ) → fans ≡ first_fans net → length fans ≡ length net.gates
+begun_length net known fans is = ap length is ∙ fans_length net known
 
 summed : (cells x leads y part total k : ℕ) → cells ≡ capped x → leads ≡ capped y → part ≡ min (cells + leads) (2 ^ 64 - 1) → total ≡ min (part + k) (2 ^ 64 - 1) → total ≡ capped (x + y + k)
 summed cells x leads y part total k ce le pe te = omega arith
 
--- the code's count: base, marks and how it reads them, numbers of uses, ends and how it reads them, and its sums
-pub counted_is : (net : PlainView) (three : Bool) → IsPlainNet net → (b : ℕ) (marks marks0 marks1 : List Bool) (fans fans' ends ends0 ends1 : List ℕ) (cells last leads part total : ℕ)
-    → b ≡ cond three 3 2 → marks ≡ needed net → marks0 ≡ marks → marks1 ≡ marks
-    → fans ≡ used_each (replicate (length net.gates) 0) (uses_from net.inputs marks0 0 net.gates) → fans' ≡ used_each fans net.outputs
-    → cells ≡ capped (users_cells net.inputs b marks1 fans' 0 net.gates) → ends ≡ all_ends net.inputs b fans' 0 net.gates → ends0 ≡ ends → ends1 ≡ ends
+-- the code's count: base, numbers of uses, ends and how it reads them, and its sums
+pub counted_is : (net : PlainView) (three : Bool) → IsPlainNet net → (b : ℕ) (fans ends ends0 ends1 : List ℕ) (cells last leads part total : ℕ)
+    → b ≡ cond three 3 2 → fans ≡ first_fans net
+    → cells ≡ capped (users_cells net.inputs b fans 0 net.gates) → ends ≡ all_ends net.inputs b fans 0 net.gates → ends0 ≡ ends → ends1 ≡ ends
     → last ≡ suc (greatest_end net.inputs (at_place ends0) net.outputs) → leads ≡ capped (leads_cells net.inputs (at_place ends1) last net.outputs)
     → part ≡ min (cells + leads) (2 ^ 64 - 1) → total ≡ min (part + length net.outputs) (2 ^ 64 - 1) → total ≡ capped (cell_count net three)
-counted_is net three known b marks marks0 marks1 fans fans' ends ends0 ends1 cells last leads part total be me r0 r1 fe more ce ee q0 q1 re le pe te =
+counted_is net three known b fans ends ends0 ends1 cells last leads part total be fe ce ee q0 q1 re le pe te =
     let n = net.inputs in
     let B : ℕ = cond three 3 2 in
-    let M = needed net in
-    let zeros : List ℕ = replicate (length net.gates) 0 in
-    let all : fans' ≡ used_each zeros (uses net M) =
-    more ∙ ap (λ (k : List ℕ). used_each k net.outputs) (fe ∙ ap (λ (k : List Bool). used_each zeros (uses_from n k 0 net.gates)) (r0 ∙ me)) ∙ sym (used_append zeros (uses_from n M 0 net.gates) net.outputs) in
-    let E = all_ends n B fans' 0 net.gates in
-    let end_is : ends ≡ E = ee ∙ ap (λ (k : ℕ). all_ends n k fans' 0 net.gates) be in
+    let F = first_fans net in
+    let E = all_ends n B F 0 net.gates in
+    let end_is : ends ≡ E = ee ∙ ap (λ (k : ℕ). all_ends n k fans 0 net.gates) be ∙ ap (λ (k : List ℕ). all_ends n B k 0 net.gates) fe in
     let last_is : last ≡ suc (greatest_end n (at_place E) net.outputs) = re ∙ ap (λ (k : List ℕ). suc (greatest_end n (at_place k) net.outputs)) (q0 ∙ end_is) in
-    let cells_is : cells ≡ capped (users_cells n B M fans' 0 net.gates) =
-    ce ∙ ap (λ (k : List Bool). capped (users_cells n b k fans' 0 net.gates)) (r1 ∙ me) ∙ ap (λ (k : ℕ). capped (users_cells n k M fans' 0 net.gates)) be in
+    let cells_is : cells ≡ capped (users_cells n B F 0 net.gates) =
+    ce ∙ ap (λ (k : ℕ). capped (users_cells n k fans 0 net.gates)) be ∙ ap (λ (k : List ℕ). capped (users_cells n B k 0 net.gates)) fe in
     let leads_is : leads ≡ capped (leads_cells n (at_place E) (suc (greatest_end n (at_place E) net.outputs)) net.outputs) =
     le ∙ ap (λ (k : List ℕ). capped (leads_cells n (at_place k) last net.outputs)) (q1 ∙ end_is) ∙ ap (λ (k : ℕ). capped (leads_cells n (at_place E) k net.outputs)) last_is in
-    summed cells _ leads _ part total (length net.outputs) cells_is leads_is pe te ∙ ap capped (count_is net three known fans' all)
+    summed cells _ leads _ part total (length net.outputs) cells_is leads_is pe te ∙ ap capped (count_is net three known)

@@ -1,16 +1,32 @@
 -- The count in the order of users: each gate has its cells, and those that lead its operands to it.
-use Rattle.std.specs.Prelude.{ℕ, suc, ◌+◌, ◌-◌, ◌≤◌, max, Bool, true, false, List, [], ◌∷◌, slice_index_or, slice_set}
+use Rattle.std.specs.Prelude.{ℕ, zero, suc, ◌+◌, ◌-◌, ◌≤◌, max, Bool, true, false, ltb, List, [], ◌∷◌}
+use Rattle.std.specs.Prelude.{slice_get, slice_index_or, slice_set, Option}
 use Rattle.circuit.specs.declared.gate.Gate.{Gate}
 use Rattle.circuit.specs.declared.gate.Gate.TheVariants as gates
 use Rattle.circuit.specs.PlainNets.{is_constant}
-use Rattle.level_balance.specs.Uses.{operands, counts}
+use Rattle.level_balance.specs.Uses.{operands, operands_by}
 use Rattle.level_balance.specs.Levels.{depth}
 use Rattle.level_balance.specs.Counts.{tree_cells}
+use Rattle.level_balance.specs.Code.Steps.{counts_if}
 
 -- each of these gates has one more use
 abbrev pub used_each : List ℕ → List ℕ → List ℕ
 used_each fans [] = fans
 used_each fans (x ∷ xs) = used_each (slice_set fans x (suc (slice_index_or fans x 0))) xs
+
+-- whether gate i counts, where outputs and gates that count use it so often
+abbrev pub counts_by : ℕ → ℕ → ℕ → Bool
+counts_by n fan i = counts_if n (ltb 0 fan) i
+
+-- the operands of gate i, if it counts
+abbrev pub operands_used : ℕ → ℕ → ℕ → Option Gate → List ℕ
+operands_used n fan i g = elim (counts_by n fan i) [ true ↦ operands_by g | false ↦ [] ]
+
+-- the operands of each gate below k that counts have one more use, from the highest gate down: uses are of lower gates
+abbrev pub used_below : ℕ → ℕ → List Gate → List ℕ → List ℕ
+used_below n zero gs fans = fans
+used_below n (suc k) gs fans =
+    used_below n k gs (used_each fans (operands_used n (slice_index_or fans k 0) k (slice_get gs k)))
 
 -- the greater of a number and of the row where the tree of a gate ends, if it is no constant
 abbrev pub raised_to : ℕ → (ℕ → ℕ) → ℕ → ℕ → ℕ
@@ -48,19 +64,19 @@ abbrev pub own_end : ℕ → ℕ → List ℕ → ℕ → Gate → ℕ
 own_end n b ends i g = level_over n (at_place ends) g + depth b (at_place ends i)
 
 -- the cells of gate i and of its operands' ways to it, if it counts
-abbrev pub user_cells : ℕ → ℕ → List Bool → List ℕ → ℕ → Gate → ℕ
-user_cells n b marks ends i g =
+abbrev pub user_cells : ℕ → ℕ → List ℕ → ℕ → Gate → ℕ
+user_cells n b ends i g =
     let fan = at_place ends i in
-    elim (counts n marks i) [
+    elim (counts_by n fan i) [
       | true ↦ suc (tree_cells b (depth b fan) fan) + leads_cells n (at_place ends) (level_over n (at_place ends) g) (operands g)
       | false ↦ 0
     ]
 
 -- the cells of the gates from gate i on
-abbrev pub users_cells : ℕ → ℕ → List Bool → List ℕ → ℕ → List Gate → ℕ
-users_cells n b marks ends i [] = 0
-users_cells n b marks ends i (g ∷ gs) =
-    user_cells n b marks ends i g + users_cells n b marks (slice_set ends i (own_end n b ends i g)) (suc i) gs
+abbrev pub users_cells : ℕ → ℕ → List ℕ → ℕ → List Gate → ℕ
+users_cells n b ends i [] = 0
+users_cells n b ends i (g ∷ gs) =
+    user_cells n b ends i g + users_cells n b (slice_set ends i (own_end n b ends i g)) (suc i) gs
 
 -- the rows where the trees of all gates end
 abbrev pub all_ends : ℕ → ℕ → List ℕ → ℕ → List Gate → List ℕ

@@ -1,10 +1,14 @@
 -- One turn of the walks over gates and signals.
-use Rattle.std.specs.Prelude.{ℕ, ◌+◌, max, Bool, true, false, List, [], length, replicate}
+use Rattle.std.specs.Prelude.{ℕ, ◌+◌, ◌&&◌, ◌||◌, max, Bool, true, false, not, ltb, List, [], length, replicate}
 use Rattle.std.specs.Prelude.{slice_index_or}
 use Rattle.circuit.specs.PlainNets.{is_constant}
 use Rattle.circuit.specs.declared.gate.Gate.{Gate}
 use Rattle.level_balance.specs.Levels.{depth}
 use Rattle.level_balance.specs.Uses.{operands, counts}
+
+-- whether gate i counts, if it is known whether an output needs it
+abbrev pub counts_if : ℕ → Bool → ℕ → Bool
+counts_if n is_needed i = ltb i n || (is_needed && not (is_constant n i))
 
 -- the operands of gate i, if it counts
 abbrev pub counted_operands : ℕ → List Bool → ℕ → Gate → List ℕ

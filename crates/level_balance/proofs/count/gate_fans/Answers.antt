@@ -1,5 +1,8 @@
-use Rattle.level_balance.proofs.AtMost.{fans_turn}
+use Rattle.level_balance.proofs.AtMost.{fans_begin, fans_turn}
 use Rattle.level_balance.proofs.count.gate_fans.Goals as goal
 
-pub loop-place-preserved : goal.loop-place-preserved
-loop-place-preserved c = fans_turn c.args.inputs c.args.marks.now c.args.gates.now _ c.loop-place.place c.loop-place.fans _ c.loop-place-test.true c.in_ok-add_counted.ensures c.loop-place.invariant
+pub loop-left-init : goal.loop-left-init
+loop-left-init c = fans_begin c.args.inputs c.args.gates.now c.args.outputs.now _ _ c.in_ok-fans.ensures c.in_ok-add_outputs.ensures.uses c.in_ok-add_outputs.ensures.few
+
+pub loop-left-preserved : goal.loop-left-preserved
+loop-left-preserved c = fans_turn c.args.inputs c.args.gates.now c.args.outputs.now _ c.loop-left.left c.loop-left.fans _ c.loop-left-test.true c.in_ok-add_counted.ensures c.loop-left.invariant
