@@ -1,5 +1,6 @@
 // The index: rectangles in the cells of grids, one grid for each kind of size, so that long and short ones don't meet.
 ghost use Rattle.std.specs.Prelude.{◌≡◌, ℕ, ◌+◌, ◌<◌, ◌≤◌, ◌^◌, ◌↔◌, All, Contains, length, IfOk, IsTrue};
+ghost use Rattle.std.specs.Prelude.{slice_index};
 ghost use Rattle.std.specs.List.Sorted.{IsStrictlyIncreasing};
 ghost use Rattle.geom.specs.Code.Grids.{end_of};
 ghost use Rattle.geom.specs.Rectangle.{AreProper};
@@ -131,6 +132,14 @@ fn list_among(
     Ok(())
 }
 
+/// Whether the entries of the grid's first cell begin where those of all its cells end: then nothing stands in it.
+fn is_bare(starts: &[u32], grid: &Grid) -> bool
+    requires { end_of grid.now < length starts.now }
+    ensures { IsTrue result ↔ slice_index starts.now grid.now.first ≡ slice_index starts.now (end_of grid.now) }
+{
+    starts[grid.first] == starts[grid.end()]
+}
+
 /// Lists the near ones in the cells of a grid where their corners can be.
 fn list_in(
     rects: &[Rect],
@@ -148,6 +157,9 @@ fn list_in(
     requires long { end_of grid.now < length starts.now }
     ensures { IfOk result (λ _. ListsIn rects.now entries.now grid.now rect.now margin found.old.items found.new.items) }
 {
+    if is_bare(starts, grid) {
+        return Ok(());
+    }
     let window = grid.window(rect, margin);
     for row in window.low..window.high + 1 {
         let from = starts[grid.cell_in(row, window.left)] as usize;

@@ -1,5 +1,5 @@
 use Rattle.std.proofs.Common.{arith}
-use Rattle.geom.proofs.Filing.{rows_more, rows_all}
+use Rattle.geom.proofs.Filing.{rows_more, rows_all, bare_all}
 use Rattle.geom.proofs.index.buckets.list_in.Goals as goal
 
 pub loop-row-preserved : goal.loop-row-preserved
@@ -9,3 +9,6 @@ loop-row-preserved c =
 
 pub returns : goal.returns
 returns c = rows_all _ _ _ _ _ _ _ _ _ c.window-window.ensures (omega arith) c.loop-row.invariant
+
+pub returns-then-is_bare : goal.returns-then-is_bare
+returns-then-is_bare c = bare_all _ _ c.args.starts.now _ _ _ _ c.requires.starts c.requires.long (c.is_bare.ensures.0 c.if-is_bare.true)
