@@ -2,3 +2,4 @@ pub mod Sharing
 pub mod FirstFlat
 pub mod FirstWritable
 pub mod Filing
+pub mod Zones

@@ -3,3 +3,4 @@ pub mod Grids
 pub mod Filed
 pub mod Windows
 pub mod Bounds
+pub mod Zones

@@ -37,7 +37,8 @@ impl Rect {
     }
 }
 
-fn at_most(a: i64, b: i64) -> bool
+/// Whether the first number is no greater than the second.
+pub(crate) fn at_most(a: i64, b: i64) -> bool
     ensures { result ≡ int_le a b }
 {
     a <= b

@@ -4,7 +4,7 @@ ghost use Rattle.std.specs.Prelude.{slice_index};
 ghost use Rattle.std.specs.List.Sorted.{IsStrictlyIncreasing};
 ghost use Rattle.geom.specs.Code.Grids.{end_of};
 ghost use Rattle.geom.specs.Rectangle.{AreProper};
-ghost use Rattle.geom.specs.Near.{rects_of, IsClose, IsNear, AreNear};
+ghost use Rattle.geom.specs.Near.{rects_of, IsNear, AreNear};
 ghost use Rattle.geom.specs.Code.Bounds.{AreBlocks, IsPassed};
 ghost use Rattle.geom.specs.Code.Filed.{NumbersBelow, AreStarts, ListsAmong, ListsIn, IsIndex};
 
@@ -12,7 +12,8 @@ use crate::index::blocks::{BLOCK_SIZE, Block, blocks};
 use crate::index::entries::{Entry, entries, starts};
 use crate::index::grid::Grid;
 use crate::index::survey::{cell_count, grids_for};
-use crate::rectangle::{Rect, gap_x, gap_y};
+use crate::index::zone::Zone;
+use crate::rectangle::Rect;
 use crate::shapes::Shape;
 use aq_base::{List, Memory};
 use std::alloc::Global;
@@ -81,22 +82,15 @@ pub fn file_shapes(alloc: Global, shapes: &List<Shape>) -> Result<Buckets, Memor
     file_rects(alloc, rects)
 }
 
-/// Whether the two are no further apart than the margin, in x and in y.
-fn is_close(rect: &Rect, other: &Rect, margin: u64) -> bool
-    ensures { IsTrue result ↔ IsClose rect.now other.now margin }
-{
-    gap_x(rect, other) <= margin && gap_y(rect, other) <= margin
-}
-
 /// The place that a walk goes on from after this one: past a block that begins here, where its bounds are far away.
-fn place_after(blocks: &[Block], place: usize, rect: &Rect, margin: u64) -> usize
+fn place_after(blocks: &[Block], place: usize, zone: &Zone) -> usize
     requires { place + 1 < 2 ^ 64 }
     ensures later { place < result }
-    ensures passed { place + 1 < result → IsPassed blocks.now place result rect.now margin }
+    ensures passed { place + 1 < result → IsPassed blocks.now place result zone.now.rect zone.now.margin }
 {
     if place % BLOCK_SIZE == 0 && place / BLOCK_SIZE < blocks.len() {
         let block = &blocks[place / BLOCK_SIZE];
-        if !is_close(rect, &block.bounds, margin) {
+        if !zone.meets(&block.bounds) {
             return block.past.max(place + 1);
         }
     }
@@ -110,23 +104,23 @@ fn list_among(
     blocks: &[Block],
     from: usize,
     to: usize,
-    rect: &Rect,
-    margin: u64,
+    zone: &Zone,
     found: &mut Vec<u32>,
 ) -> Result<(), Memory>
     requires within { to ≤ length entries.now }
     requires numbers { NumbersBelow (length rects.now) entries.now }
     requires blocks { AreBlocks rects.now entries.now blocks.now }
-    ensures { IfOk result (λ _. ListsAmong rects.now entries.now from to rect.now margin found.old.items found.new.items) }
+    ensures { IfOk result (λ _.
+        ListsAmong rects.now entries.now from to zone.now.rect zone.now.margin found.old.items found.new.items) }
 {
     let mut place = from;
     while place < to {
         let number = entries[place].number;
-        if is_close(rect, &rects[number as usize], margin) {
+        if zone.meets(&rects[number as usize]) {
             found.push(number)?;
             place += 1;
         } else {
-            place = place_after(blocks, place, rect, margin);
+            place = place_after(blocks, place, zone);
         }
     }
     Ok(())
@@ -147,24 +141,24 @@ fn list_in(
     blocks: &[Block],
     starts: &[u32],
     grid: &Grid,
-    rect: &Rect,
-    margin: u64,
+    zone: &Zone,
     found: &mut Vec<u32>,
 ) -> Result<(), Memory>
     requires numbers { NumbersBelow (length rects.now) entries.now }
     requires blocks { AreBlocks rects.now entries.now blocks.now }
     requires starts { AreStarts entries.now starts.now }
     requires long { end_of grid.now < length starts.now }
-    ensures { IfOk result (λ _. ListsIn rects.now entries.now grid.now rect.now margin found.old.items found.new.items) }
+    ensures { IfOk result (λ _.
+        ListsIn rects.now entries.now grid.now zone.now.rect zone.now.margin found.old.items found.new.items) }
 {
     if is_bare(starts, grid) {
         return Ok(());
     }
-    let window = grid.window(rect, margin);
+    let window = grid.window(&zone.rect, zone.margin);
     for row in window.low..window.high + 1 {
         let from = starts[grid.cell_in(row, window.left)] as usize;
         let to = starts[grid.cell_in(row, window.right) + 1] as usize;
-        list_among(rects, entries, blocks, from, to, rect, margin, found)?;
+        list_among(rects, entries, blocks, from, to, zone, found)?;
     }
     Ok(())
 }
@@ -176,17 +170,17 @@ fn list_all(
     entries: &[Entry],
     blocks: &[Block],
     starts: &[u32],
-    rect: &Rect,
-    margin: u64,
+    zone: &Zone,
     found: &mut Vec<u32>,
 ) -> Result<(), Memory>
     requires { IsIndex rects.now grids.now entries.now starts.now blocks.now }
-    ensures sound { IfOk result (λ _. All (IsNear rects.now rect.now margin) found.new.items) }
-    ensures complete { IfOk result (λ _. (n : ℕ) → IsNear rects.now rect.now margin n → Contains found.new.items n) }
+    ensures sound { IfOk result (λ _. All (IsNear rects.now zone.now.rect zone.now.margin) found.new.items) }
+    ensures complete { IfOk result (λ _.
+        (n : ℕ) → IsNear rects.now zone.now.rect zone.now.margin n → Contains found.new.items n) }
 {
     found.clear();
     for grid in grids {
-        list_in(rects, entries, blocks, starts, grid, rect, margin, found)?;
+        list_in(rects, entries, blocks, starts, grid, zone, found)?;
     }
     Ok(())
 }
@@ -222,14 +216,14 @@ impl Buckets {
         requires { margin ≤ 1000000 }
         ensures { IfOk result (λ _. AreNear self.now rect.now margin found.new.items) }
     {
+        let zone = Zone::around(rect, margin);
         list_all(
             self.rects.as_slice(),
             self.grids.as_slice(),
             self.entries.as_slice(),
             self.blocks.as_slice(),
             self.starts.as_slice(),
-            rect,
-            margin,
+            &zone,
             found,
         )?;
         make_rising(found);

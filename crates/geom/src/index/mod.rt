@@ -4,6 +4,7 @@ mod buckets;
 mod entries;
 mod grid;
 mod survey;
+mod zone;
 
 pub use buckets::{Buckets, file_shapes};
 

@@ -3,7 +3,7 @@ use Rattle.geom.specs.Code.Filed.{ListsAmong}
 use Rattle.geom.proofs.index.buckets.list_among.Given as goal
 
 abbrev pub invariant-loop-place : goal.invariant-loop-place
-invariant-loop-place l = ListsAmong l.rects l.entries l.from l.place l.rect l.margin l.fn.found.items l.found.items
+invariant-loop-place l = ListsAmong l.rects l.entries l.from l.place l.zone.rect l.zone.margin l.fn.found.items l.found.items
 
 abbrev pub decreases-loop-place : goal.decreases-loop-place
 decreases-loop-place l = l.to - l.place
