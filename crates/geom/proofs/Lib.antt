@@ -3,3 +3,4 @@ pub mod FirstFlat
 pub mod FirstWritable
 pub mod Filing
 pub mod Zones
+pub mod Arranging

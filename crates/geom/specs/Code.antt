@@ -4,3 +4,4 @@ pub mod Filed
 pub mod Windows
 pub mod Bounds
 pub mod Zones
+pub mod Chains

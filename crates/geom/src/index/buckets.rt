@@ -9,9 +9,10 @@ ghost use Rattle.geom.specs.Code.Bounds.{AreBlocks, IsPassed};
 ghost use Rattle.geom.specs.Code.Filed.{NumbersBelow, AreStarts, ListsAmong, ListsIn, IsIndex};
 
 use crate::index::blocks::{BLOCK_SIZE, Block, blocks};
-use crate::index::entries::{Entry, entries, starts};
+use crate::index::chains::{Arranged, file_entries};
+use crate::index::entries::Entry;
 use crate::index::grid::Grid;
-use crate::index::survey::{cell_count, grids_for};
+use crate::index::survey::grids_for;
 use crate::index::zone::Zone;
 use crate::rectangle::Rect;
 use crate::shapes::Shape;
@@ -59,10 +60,8 @@ fn file_rects(alloc: Global, rects: Vec<Rect>) -> Result<Buckets, Memory>
     let filed = rects.as_slice();
     let grids = grids_for(alloc, filed)?;
     let laid_out = grids.as_slice();
-    let entries = entries(alloc, filed, laid_out)?;
-    let sorted = entries.as_slice();
-    let starts = starts(alloc, sorted, cell_count(laid_out))?;
-    let blocks = blocks(alloc, filed, sorted)?;
+    let Arranged { entries, starts } = file_entries(alloc, filed, laid_out)?;
+    let blocks = blocks(alloc, filed, entries.as_slice())?;
     Ok(Buckets {
         rects,
         grids,

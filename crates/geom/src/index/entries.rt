@@ -1,9 +1,9 @@
 // Entries: which rectangles stand in which cells.
-ghost use Rattle.std.specs.Prelude.{◌≡◌, ◌+◌, ◌<◌, ◌≤◌, ◌^◌, ℕ, IfOk, All, Some, length, slice_get, slice_index};
+ghost use Rattle.std.specs.Prelude.{◌≡◌, ◌+◌, ◌<◌, ◌≤◌, ◌^◌, IfOk, Some, length, slice_get};
 ghost use Rattle.geom.specs.declared.index.grid.Grid.{Grid};
 ghost use Rattle.geom.specs.Rectangle.{AreProper, width, height};
 ghost use Rattle.geom.specs.Code.Grids.{AreGrids, Reaches};
-ghost use Rattle.geom.specs.Code.Filed.{AreFiled, NumbersBelow, CellsBelow, AreRising, IsFilled, AreStarts, key_of};
+ghost use Rattle.geom.specs.Code.Filed.{AreFiled, NumbersBelow, CellsBelow};
 
 use crate::index::grid::Grid;
 use crate::rectangle::{Rect, height, width};
@@ -17,13 +17,6 @@ pub struct Entry {
     /// Where in the cell: entries near each other there have orders near each other, mostly.
     pub order: u32,
     pub number: u32,
-}
-
-/// What entries are sorted by: the cell, and within it the order.
-fn key(entry: &Entry) -> u128
-    ensures { result ≡ key_of entry.now }
-{
-    entry.cell as u128 * 4_294_967_296 + u128::from(entry.order)
 }
 
 /// The place of the first grid in which the rectangle may stand.
@@ -43,7 +36,7 @@ fn grid_for(grids: &[Grid], rect: &Rect) -> usize
     last
 }
 
-/// An entry for each rectangle, by rising cell, and in a cell by rising order.
+/// An entry for each rectangle, in their order.
 pub fn entries(alloc: Global, rects: &[Rect], grids: &[Grid]) -> Result<Vec<Entry>, Memory>
     requires few { length rects.now < 2 ^ 32 }
     requires grids { AreGrids grids.now }
@@ -52,7 +45,6 @@ pub fn entries(alloc: Global, rects: &[Rect], grids: &[Grid]) -> Result<Vec<Entr
     ensures numbers { IfOk result (λ entries. NumbersBelow (length rects.now) entries.items) }
     ensures long { IfOk result (λ entries. length entries.items ≡ length rects.now) }
     ensures cells { IfOk result (λ entries. CellsBelow grids.now entries.items) }
-    ensures rising { IfOk result (λ entries. AreRising entries.items) }
 {
     let mut entries = Vec::with_capacity(alloc, rects.len())?;
     for (number, rect) in rects.iter().enumerate() {
@@ -64,32 +56,5 @@ pub fn entries(alloc: Global, rects: &[Rect], grids: &[Grid]) -> Result<Vec<Entr
             number: number as u32,
         })?;
     }
-    entries.sort_unstable_by_key(|entry| key(entry));
     Ok(entries)
-}
-
-/// Adds the place until there is one for each cell up to this one.
-fn fill(starts: &mut Vec<u32>, cell: usize, place: u32) -> Result<(), Memory>
-    ensures { IfOk result (λ _. IsFilled starts.old.items starts.new.items cell place) }
-{
-    while starts.len() <= cell {
-        starts.push(place)?;
-    }
-    Ok(())
-}
-
-/// For each cell up to the last one given, the place of the first entry in it or in a later one.
-pub fn starts(alloc: Global, entries: &[Entry], last: usize) -> Result<Vec<u32>, Memory>
-    requires few { length entries.now < 2 ^ 32 }
-    requires rising { AreRising entries.now }
-    requires below { All (λ e. e.cell < last) entries.now }
-    ensures are { IfOk result (λ starts. AreStarts entries.now starts.items) }
-    ensures long { IfOk result (λ starts. last < length starts.items) }
-{
-    let mut starts = Vec::new(alloc);
-    for (place, entry) in entries.iter().enumerate() {
-        fill(&mut starts, entry.cell, place as u32)?;
-    }
-    fill(&mut starts, last, entries.len() as u32)?;
-    Ok(starts)
 }

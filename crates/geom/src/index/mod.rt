@@ -1,6 +1,7 @@
 // An index over rectangles: which of a list are near one.
 mod blocks;
 mod buckets;
+mod chains;
 mod entries;
 mod grid;
 mod survey;

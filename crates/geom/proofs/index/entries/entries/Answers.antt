@@ -1,9 +1,7 @@
-use Rattle.std.proofs.Common.{◌≡◌, ◌<◌, ◌^◌, length, Some, rules, arith, slice_get}
-use Rattle.std.proofs.lemmas.List.Sorted.{IsNonDecreasingBy-from_sort_by_key, Contains-permutation, All-permutation}
+use Rattle.std.proofs.Common.{◌≡◌, ◌<◌, length, Some, rules, arith, slice_get}
 use Rattle.std.proofs.lemmas.Option.{slice_get_within}
-use Rattle.geom.specs.Code.Filed.{IsEntryOf, key_of}
-use Rattle.geom.specs.declared.index.entries.Entry.{Entry}
-use Rattle.geom.proofs.Filing.{read_at, filed_more, refiled, rising_cells}
+use Rattle.geom.specs.Code.Filed.{IsEntryOf}
+use Rattle.geom.proofs.Filing.{read_at, filed_more}
 use Rattle.geom.proofs.index.entries.entries.Goals as goal
 
 pub loop-number-preserved : goal.loop-number-preserved
@@ -15,23 +13,10 @@ loop-number-preserved c =
       cell_is = c.cell_of.ensures.value;
       number_is = search rules;
     } in
-    rw c.in_ok-push.ensures.items (filed_more _ _ _ _ _ _ _ _ got grid_is of_it c.cell_of.ensures.within (omega arith) c.known.ensures c.loop-number.invariant)
+    rw c.in_ok-push.ensures.items (filed_more _ _ _ _ _ _ _ _ got grid_is of_it c.cell_of.ensures.within c.known.ensures c.loop-number.invariant)
 
 pub returns-clause-filed : goal.returns-clause-filed
-returns-clause-filed c n r got =
-    let lt : n < length c.args.rects.now = slice_get_within _ n r got in
-    refiled _ _ _ _ _ (λ e h. Contains-permutation _ _ e c.sort_unstable_by_key.ensures.permutation h) (c.loop-number.invariant.filed n r (omega arith) got)
-
-pub returns-clause-numbers : goal.returns-clause-numbers
-returns-clause-numbers c = All-permutation (λ (e : Entry). e.number < length c.args.rects.now) _ _ c.sort_unstable_by_key.ensures.permutation c.loop-number.invariant.numbers
-
-pub returns-clause-rising : goal.returns-clause-rising
-returns-clause-rising c =
-    rising_cells _ (All-permutation (λ (e : Entry). e.order < 2 ^ 32) _ _ c.sort_unstable_by_key.ensures.permutation c.loop-number.invariant.orders)
-    (IsNonDecreasingBy-from_sort_by_key key_of _ c.sort_unstable_by_key.ensures.sorted (λ a r q k. search rules))
-
-pub returns-clause-cells : goal.returns-clause-cells
-returns-clause-cells c last ends = All-permutation (λ (e : Entry). e.cell < last) _ _ c.sort_unstable_by_key.ensures.permutation (c.loop-number.invariant.cells last ends)
+returns-clause-filed c n r got = (let lt : n < length c.args.rects.now = slice_get_within _ n r got in c.loop-number.invariant.filed n r (omega arith) got)
 
 pub returns-clause-proper : goal.returns-clause-proper
 returns-clause-proper c n r got = (let lt : n < length c.args.rects.now = slice_get_within _ n r got in c.loop-number.invariant.proper n r (omega arith) got)
