@@ -1,71 +1,15 @@
 // Small circuits whose comparison is known, and random ones of which all words are tried as well.
-ghost use Rattle.std.specs.Prelude.{◌≡◌, ◌<◌, ◌^◌, IsTrue, IfOk, IfSome, length};
-ghost use Rattle.std.specs.List.{AllByRecursion};
-ghost use Rattle.circuit.specs.CellNets.{Reads, AreCells};
+ghost use Rattle.std.specs.Prelude.{◌≡◌, ◌<◌, length};
 
-use aq_base::{List, Memory};
+use aq_base::Memory;
 use circuit::{Answers, Gate, Word, answer_word};
 use decide::{Cells, DecideRefusal, Verdict, decide};
+use made_circuits::{checked_cells, next_number, numbered_word, random_gate};
 use std::alloc::Global;
 use std::test::Fail;
 
 // An output and a word on which two circuits differ, or nothing where they are alike.
 type Difference = Option<(u32, Word)>;
-
-fn reads(inputs: u32, place: usize, gate: Gate) -> bool
-    ensures { IsTrue result → Reads inputs place gate }
-{
-    match gate {
-        Gate::Input(input) => input < inputs,
-        Gate::Zero | Gate::One => true,
-        Gate::Buf(x) | Gate::Inv(x) => (x as usize) < place,
-        Gate::Maj(x, y, z) => {
-            (x as usize) < place && (y as usize) < place && (z as usize) < place
-        }
-    }
-}
-
-fn all_read(inputs: u32, gates: &[Gate]) -> bool
-    ensures { IsTrue result → AreCells inputs gates.now }
-{
-    for place in 0..gates.len() {
-        if !reads(inputs, place, gates[place]) {
-            return false;
-        }
-    }
-    true
-}
-
-fn all_name(outputs: &[u32], count: usize) -> bool
-    ensures { IsTrue result → AllByRecursion (λ x. x < count) outputs.now }
-{
-    for place in 0..outputs.len() {
-        if outputs[place] as usize >= count {
-            return false;
-        }
-    }
-    true
-}
-
-// A circuit, where its gates name lower ones.
-fn cells(
-    alloc: Global,
-    inputs: u32,
-    gates: &[Gate],
-    outputs: &[u32],
-) -> Result<Option<Cells>, Memory>
-    ensures inputs { IfOk result (λ some. IfSome some (λ c. c.inputs ≡ inputs)) }
-    ensures outputs { IfOk result (λ some. IfSome some (λ c. length c.outputs ≡ length outputs.now)) }
-{
-    if !all_read(inputs, gates) || !all_name(outputs, gates.len()) || outputs.len() > 1_000 {
-        return Ok(None);
-    }
-    Ok(Some(Cells {
-        inputs,
-        gates: List::from_vec(Vec::from_slice(alloc, gates)?),
-        outputs: List::from_vec(Vec::from_slice(alloc, outputs)?),
-    }))
-}
 
 // What the comparison finds.
 fn found(alloc: Global, a: &Cells, b: &Cells) -> Result<Difference, DecideRefusal>
@@ -77,17 +21,6 @@ fn found(alloc: Global, a: &Cells, b: &Cells) -> Result<Difference, DecideRefusa
         Verdict::Differ { output, word } => Ok(Some((output, word))),
         Verdict::Differs { output, word } => Ok(Some((output, word))),
     }
-}
-
-// Word `number` of so many inputs, where input 0 is the highest digit.
-fn word(alloc: Global, inputs: u32, number: u32) -> Result<Word, Memory>
-    ensures { IfOk result (λ word. length word ≡ inputs) }
-{
-    let mut word = List::new(alloc);
-    for input in 0..inputs {
-        word.push((number >> ((inputs - 1 - input) % 32)) & 1 == 1)?;
-    }
-    Ok(word)
 }
 
 // The value of an output at a word.
@@ -103,7 +36,7 @@ fn least(alloc: Global, a: &Cells, b: &Cells, output: usize) -> Result<Option<Wo
     requires { b.now.inputs ≡ a.now.inputs }
 {
     for number in 0..1_u32 << (a.inputs % 16) {
-        let word = word(alloc, a.inputs, number)?;
+        let word = numbered_word(alloc, a.inputs, number)?;
         if shown(alloc, a, &word, output)? != shown(alloc, b, &word, output)? {
             return Ok(Some(word));
         }
@@ -166,7 +99,7 @@ fn compared_with(
     requires inputs { pair.inputs ≡ a.now.inputs }
     requires outputs { length pair.other_outputs.now ≡ length a.now.outputs }
 {
-    match cells(alloc, pair.inputs, pair.other_gates, pair.other_outputs)? {
+    match checked_cells(alloc, pair.inputs, pair.other_gates, pair.other_outputs)? {
         None => Ok(None),
         Some(b) => Ok(Some(found_and_tried(alloc, a, &b)?)),
     }
@@ -177,7 +110,7 @@ fn compared(alloc: Global, pair: Pair) -> Result<Option<(Difference, Difference)
     if pair.outputs.len() != pair.other_outputs.len() {
         return Ok(None);
     }
-    match cells(alloc, pair.inputs, pair.gates, pair.outputs)? {
+    match checked_cells(alloc, pair.inputs, pair.gates, pair.outputs)? {
         None => Ok(None),
         Some(a) => compared_with(alloc, &a, pair),
     }
@@ -220,28 +153,6 @@ fn at_word(alloc: Global, inputs: u32, number: u32) -> Result<Vec<Gate>, Memory>
     Ok(gates)
 }
 
-// A number from another, for random circuits.
-fn next(state: u64) -> u64 {
-    let state = state ^ (state << 13);
-    let state = state ^ (state >> 7);
-    state ^ (state << 17)
-}
-
-// A random gate that names some of `count` lower ones.
-fn random_gate(state: u64, count: u32) -> Gate {
-    let count = u64::from(count.max(1));
-    let (x, y, z) = (
-        (state >> 8) % count,
-        (state >> 24) % count,
-        (state >> 40) % count,
-    );
-    match state % 8 {
-        0 => Gate::Inv(x as u32),
-        1 => Gate::Buf(x as u32),
-        _ => Gate::Maj(x as u32, y as u32, z as u32),
-    }
-}
-
 // A random circuit of five inputs, both constants and so many more gates.
 fn random_gates(alloc: Global, seed: u64, count: u32) -> Result<Vec<Gate>, Memory> {
     let first = [
@@ -256,7 +167,7 @@ fn random_gates(alloc: Global, seed: u64, count: u32) -> Result<Vec<Gate>, Memor
     let mut gates = Vec::from_array(alloc, first)?;
     let mut state = seed;
     for place in 7..7 + count % 1_000 {
-        state = next(state);
+        state = next_number(state);
         gates.push(random_gate(state, place))?;
     }
     Ok(gates)
@@ -391,7 +302,7 @@ fn differences(rt: HostRuntime) -> Result<(), Fail> {
 // Whether a circuit that is true at one word alone is found to be no constant there.
 fn is_found(alloc: Global, number: u32) -> Result<bool, DecideRefusal> {
     let gates = at_word(alloc, 10, number)?;
-    let expected = word(alloc, 10, number)?;
+    let expected = numbered_word(alloc, 10, number)?;
     let pair = Pair {
         inputs: 10,
         gates: &gates,
@@ -415,7 +326,7 @@ fn with_gate_changed(alloc: Global, gates: &[Gate], seed: u64) -> Result<Vec<Gat
     let mut other = Vec::from_slice(alloc, gates)?;
     let place = 7 + (seed % 24) as usize;
     if place < other.len() {
-        let state = next(seed.wrapping_mul(0x1234_5678_9abc_def1));
+        let state = next_number(seed.wrapping_mul(0x1234_5678_9abc_def1));
         other[place] = random_gate(state, place as u32);
     }
     Ok(other)

@@ -28,7 +28,7 @@ mod Sound
 pub mod Origins
 mod Drawn
 pub mod Whole
-mod TestedDrawing
+pub mod TestedDrawing
 mod ChipsMayDraw
 mod FlatForm
 pub mod FlatLaw

@@ -3,6 +3,7 @@ use crate::pairs::{Found, Pair, compared};
 use aq_base::Memory;
 use circuit::Gate;
 use decide::DecideRefusal;
+use made_circuits::{next_number, random_gate};
 use std::alloc::Global;
 use std::test::Fail;
 
@@ -190,28 +191,6 @@ fn known_pairs(rt: HostRuntime) -> Result<(), Fail> {
     Ok(())
 }
 
-// A number from another, for random circuits.
-fn next(state: u64) -> u64 {
-    let state = state ^ (state << 13);
-    let state = state ^ (state >> 7);
-    state ^ (state << 17)
-}
-
-// A random gate that names some of `count` lower ones.
-fn random_gate(state: u64, count: u32) -> Gate {
-    let count = u64::from(count.max(1));
-    let (x, y, z) = (
-        (state >> 8) % count,
-        (state >> 24) % count,
-        (state >> 40) % count,
-    );
-    match state % 8 {
-        0 => Gate::Inv(x as u32),
-        1 => Gate::Buf(x as u32),
-        _ => Gate::Maj(x as u32, y as u32, z as u32),
-    }
-}
-
 // A random circuit of four inputs, both constants and sixteen more gates.
 fn random_gates(alloc: Global, seed: u64) -> Result<Vec<Gate>, Memory> {
     let first = [
@@ -225,7 +204,7 @@ fn random_gates(alloc: Global, seed: u64) -> Result<Vec<Gate>, Memory> {
     let mut gates = Vec::from_array(alloc, first)?;
     let mut state = seed;
     for place in 6..22 {
-        state = next(state);
+        state = next_number(state);
         gates.push(random_gate(state, place))?;
     }
     Ok(gates)
@@ -256,7 +235,7 @@ fn changed(
 fn random_pair(alloc: Global, seed: u64) -> Result<Option<(Found, bool)>, DecideRefusal> {
     let gates = random_gates(alloc, seed.wrapping_mul(0x9e37_79b9_7f4a_7c15))?;
     let place = 6 + (seed % 16) as u32;
-    let gate = random_gate(next(seed.wrapping_mul(0x1234_5678_9abc_def1)), place);
+    let gate = random_gate(next_number(seed.wrapping_mul(0x1234_5678_9abc_def1)), place);
     changed(alloc, &gates, place as usize, gate)
 }
 
