@@ -62,11 +62,10 @@ use Rattle.layout_make.proofs.CellsDrawn.{first_law}
 use Rattle.layout_make.proofs.KeptLines.{frame_excited}
 use Rattle.layout_make.proofs.Wiring.{flat, Ports, rows_are, labelled_row}
 use Rattle.layout_make.proofs.Wiring as wiring
-use Rattle.layout_make.proofs.LabelRule.{shape_is, in_columns, out_columns, rows_count, entries_are, exits_are}
+use Rattle.layout_make.proofs.LabelRule.{shape_is, rows_count, entries_are, exits_are}
 use Rattle.layout_make.proofs.LabelRule.{input_label_at, output_label_at, input_numbered, output_numbered}
 use Rattle.layout_make.proofs.LabelRule.{input_one_pin}
-use Rattle.layout_make.proofs.Pins.{input_lies, output_lies}
-use Rattle.layout_make.proofs.KeptCells.{pin_of}
+use Rattle.layout_make.proofs.PinsDrawn.{input_in_frame, output_in_frame}
 use Rattle.layout_make.proofs.AllRules.{ports_of}
 use Rattle.drawn_chip.proofs.CircuitAnswers.{number_cell, shown_at}
 
@@ -170,7 +169,7 @@ module _ (p : PlacedView) (l : LibraryView) (law : TracksLaw) (may : MayDraw p l
     where
       each : (f : ℕ) → Passes is_frame (flat_shapes p l) f → HasPlace (frame_numbers p l) f
       each f passes =
-          let first = first_law p l is laws ports.inputs ports.outputs in
+          let first = first_law p l is laws ports in
           let h = first.each_frame f passes.shape passes.shape_is (eqb-true passes.shape.layer 20 passes.passes_so) in
           let at = h.2 in
           let same : f ≡ frame_number p l h.0 at.spot = (drawn p l is laws).once f (frame_number p l h.0 at.spot)
@@ -198,7 +197,7 @@ module _ (p : PlacedView) (l : LibraryView) (law : TracksLaw) (may : MayDraw p l
           → slice_get (flat_shapes p l) f ≡ Some s → slice_get (flat_shapes p l) g ≡ Some t
           → comes_before s f t g ≡ true
       ordered c d f g s t lt a b es et =
-          let first = first_law p l is laws ports.inputs ports.outputs in
+          let first = first_law p l is laws ports in
           let fa : FrameAt p l a.row a.place
           f = record {
             spot = a.spot;
@@ -222,20 +221,12 @@ module _ (p : PlacedView) (l : LibraryView) (law : TracksLaw) (may : MayDraw p l
   -- pins in the frames of their cells
 
   pin_input : (r n i m : ℕ) (at : InAt p l r n i m) → IsPinOf (flat_shapes p l) (frame_number p l r at.spot) 21 i m
-  pin_input r n i m at =
-      let lies = input_lies (sheet p l) (tags p l) (drawn p l is laws) (frame_number p l r at.spot) m r at.spot.slot
-      (in_column l at.spot i) i at.spot.cell.kind (frame_place r n at.spot at.input.at) at.at
-      (in_columns p l is laws ports r n i m at) in
-      subst (λ (ss : List Shape). IsPinOf ss (frame_number p l r at.spot) 21 i m) (sym (flat_is_tags p l laws))
-      (pin_of _ (frame_number p l r at.spot) m 21 i refl lies)
+  pin_input r n i m at = input_in_frame p l is laws ports r n i (frame_number p l r at.spot) m
+      (record { spot = at.spot; place = at.input.at; at = frame_place r n at.spot at.input.at }) at
 
   pin_output : (r n o m : ℕ) (at : OutAt p l r n o m) → IsPinOf (flat_shapes p l) (frame_number p l r at.spot) 22 o m
-  pin_output r n o m at =
-      let lies = output_lies (sheet p l) (tags p l) (drawn p l is laws) (frame_number p l r at.spot) m r at.spot.slot
-      (out_column l at.spot o) o at.spot.cell.kind (frame_place r n at.spot at.output.at) at.at
-      (out_columns p l is laws ports r n o m at) in
-      subst (λ (ss : List Shape). IsPinOf ss (frame_number p l r at.spot) 22 o m) (sym (flat_is_tags p l laws))
-      (pin_of _ (frame_number p l r at.spot) m 22 o refl lies)
+  pin_output r n o m at = output_in_frame p l is laws ports r n o (frame_number p l r at.spot) m
+      (record { spot = at.spot; place = at.output.at; at = frame_place r n at.spot at.output.at }) at
 
   output_pin : (r n o m : ℕ) (at : OutAt p l r n o m) → IsOutputPin (flat p l) (frame_numbers p l)
       (record { cell = cells_below p r + n; output = o }) m

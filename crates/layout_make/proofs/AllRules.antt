@@ -59,8 +59,7 @@ module _ (p : PlacedView) (l : LibraryView) (law : TracksLaw) (may : MayDraw p l
   keeps_rules G5 = frames_kept (flat_shapes p l) (geometry_kept p l (may_ready p l law may) (lawful l may.library)).g5
 
   pub keeps_first : CellsAreDrawn p l
-  keeps_first = first_law p l (may_ready p l law may) (lawful l may.library) (input_ports p may.placed)
-      (output_ports p may.placed)
+  keeps_first = first_law p l (may_ready p l law may) (lawful l may.library) (ports_of p l may)
 
   pub keeps_second : WiresJoinPins p l
   keeps_second = second_law p l (may_ready p l law may) (lawful l may.library)

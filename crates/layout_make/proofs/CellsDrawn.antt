@@ -13,9 +13,8 @@ use Rattle.layout_make.specs.Sheet.{Tag, Frame, shape_of, place_of, lower_edge}
 use Rattle.layout_make.specs.Tags.{At, sheet, tags}
 use Rattle.layout_make.proofs.SheetKeeps.{IsDrawn}
 use Rattle.rowed.specs.PlacedNets.{PlacedView}
-use Rattle.layout_make.specs.Spots.{Spot, spots, input_port, output_port}
-use Rattle.layout_make.proofs.ReadyNets.{IsReady, HasPorts}
-use Rattle.rowed.specs.RowNets.{last_of}
+use Rattle.layout_make.specs.Spots.{Spot, spots}
+use Rattle.layout_make.proofs.ReadyNets.{IsReady}
 use Rattle.list_orders.specs.Numbers.{numbers}
 use Rattle.layout_rules.specs.Rows.{AreRows}
 use Rattle.layout_make.proofs.RouteRule.{E2}
@@ -30,6 +29,8 @@ use Rattle.layout_make.proofs.DrawnRules.{frame_at}
 use Rattle.layout_make.proofs.KeptLines.{frame_excited}
 use Rattle.layout_make.proofs.LineAll.{drawn_e2, drawn_rows, edges_of, at_edge, edge_rises, shape_at, slot_wide}
 use Rattle.layout_make.proofs.Labelled.{input_marked, output_marked}
+use Rattle.layout_make.proofs.PinsDrawn.{pins_drawn}
+use Rattle.layout_make.proofs.Wiring.{Ports}
 use Rattle.layout_make.proofs.PinCounts.{slots_some}
 
 length_count : (k n : ℕ) → length (numbers k n) ≡ n
@@ -76,9 +77,8 @@ rows_are : (p : PlacedView) (l : LibraryView) → (sheet p l).rows ≡ length p.
 unfolding sheet
 rows_are p l = refl
 
-pub first_law : (p : PlacedView) (l : LibraryView) → IsReady p l → IsLawful l → HasPorts p input_port 0 p.net.inputs
-    → HasPorts p output_port (last_of p.net.rows) p.net.outputs → CellsAreDrawn p l
-first_law p l is laws ins outs =
+pub first_law : (p : PlacedView) (l : LibraryView) → IsReady p l → IsLawful l → Ports p → CellsAreDrawn p l
+first_law p l is laws ports =
     let same = flat_is_tags p l laws in
     let whole = drawn p l is laws in
     let cells = has_cells p l is laws in
@@ -126,7 +126,8 @@ first_law p l is laws ins outs =
           subst (λ (z : Shape). Before a.rect z.rect) sb
           (subst (λ (z : Shape). Before z.rect (place_of (sheet p l) (Frame q g.spot.slot g.spot.cell.kind))) sa
           (ordered p l is laws r n q m f.spot g.spot f.place g.place o));
+      pins = pins_drawn p l is laws ports;
       labels_are = labels_flat p l;
-      inputs = input_marked p l is laws ins;
-      outputs = output_marked p l is laws outs;
+      inputs = input_marked p l is laws ports.inputs;
+      outputs = output_marked p l is laws ports.outputs;
     }

@@ -35,13 +35,14 @@ pub mod FlatLaw
 pub mod Ready
 pub mod WiresJoined
 pub mod Labelled
-pub mod CellsDrawn
 mod KeptGeometry
 pub mod KeptCells
 pub mod KeptLines
 pub mod Wiring
 mod Counting
 pub mod LabelRule
+pub mod PinsDrawn
+pub mod CellsDrawn
 mod WireLengths
 pub mod AllRules
 mod ChipsDrawn

@@ -1,4 +1,4 @@
--- The cells of a net are drawn: their rows, frames, excitation and labels.
+-- The cells of a net are drawn: their rows, frames, pins, excitation and labels.
 use Rattle.std.specs.Prelude.{◌≡◌, ℕ, ◌<◌, ◌⊎◌, true, List, length, slice_get, Some, int_lt, ℤ, map, pos}
 use Rattle.cell_library.specs.Library.{LibraryView}
 use Rattle.circuit.specs.CellKinds.{number_of}
@@ -13,7 +13,9 @@ use Rattle.layout_make.specs.Tags.{sheet}
 use Rattle.list_orders.specs.Numbers.{numbers}
 use Rattle.layout_rules.specs.Rows.{AreRows}
 use Rattle.layout_rules.specs.ExcitationRule.{IsExcitedAt}
+use Rattle.layout_rules.specs.declared.layers.TheConstants.{FRAME}
 use Rattle.layout_make.specs.Marks.{MarksOne}
+use Rattle.layout_make.specs.PinsAreDrawn.{PinsAreDrawn}
 use Rattle.layout_make.specs.Laws.{flat_shapes, FrameAt, InAt, OutAt}
 
 -- the heights of the lower edges of the rows
@@ -30,11 +32,11 @@ pub record IsFrameOf (p : PlacedView) (l : LibraryView) (edges : List ℤ) (r n 
   pub place : slice_get (spots p r) n ≡ Some spot
   pub shape : Shape
   pub at : slice_get (flat_shapes p l) m ≡ Some shape
-  pub of_layer : shape.layer ≡ 20
+  pub of_layer : shape.layer ≡ FRAME
   pub of_kind : shape.datatype ≡ number_of spot.cell.kind
   pub of_row : slice_get edges r ≡ Some shape.rect.y0
 
--- the rows, the frames in the order of the cells, each excited, and the labels, each at its own pin
+-- the rows, the frames in the order of the cells, each excited, their pins, and the labels, each at its own pin
 pub record CellsAreDrawn (p : PlacedView) (l : LibraryView) : Type 0 where
   pub rows : AreRows (flat_shapes p l) (row_edges p l)
   pub count : length (row_edges p l) ≡ length p.net.rows
@@ -42,11 +44,12 @@ pub record CellsAreDrawn (p : PlacedView) (l : LibraryView) : Type 0 where
   pub frame : (r n : ℕ) (x : Spot) → slice_get (spots p r) n ≡ Some x → (m : ℕ) × FrameAt p l r n m
   pub frame_once : (r n a b : ℕ) → FrameAt p l r n a → FrameAt p l r n b → a ≡ b
   pub frame_is : (r n m : ℕ) → FrameAt p l r n m → IsFrameOf p l (row_edges p l) r n m
-  pub each_frame : (m : ℕ) (a : Shape) → slice_get (flat_shapes p l) m ≡ Some a → a.layer ≡ 20
+  pub each_frame : (m : ℕ) (a : Shape) → slice_get (flat_shapes p l) m ≡ Some a → a.layer ≡ FRAME
       → (r n : ℕ) × FrameAt p l r n m
   pub ordered : (r n q m i j : ℕ) (a b : Shape) → FrameAt p l r n i → FrameAt p l q m j
       → slice_get (flat_shapes p l) i ≡ Some a → slice_get (flat_shapes p l) j ≡ Some b → (r < q) ⊎ ((r ≡ q) × (n < m))
       → Before a.rect b.rect
+  pub pins : PinsAreDrawn p l
   pub labels_are : (flat_of (draw p l)).labels ≡ labels p l
   pub inputs : (n : ℕ) → n < p.net.inputs → (k m : ℕ) × PortAt p input_port 0 n k × InAt p l 0 k 0 m
       × MarksOne (flat_shapes p l) (input_label p l n) m

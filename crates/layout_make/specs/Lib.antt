@@ -6,6 +6,7 @@ pub mod Nets
 pub mod Draw
 pub mod Marks
 pub mod Laws
+pub mod PinsAreDrawn
 pub mod CellsAreDrawn
 pub mod WireLaw
 pub mod MayDraw
