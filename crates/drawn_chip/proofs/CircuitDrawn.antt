@@ -35,7 +35,6 @@ use Rattle.shape_extract.specs.Frames.{comes_before, HasPlace, AreFrames}
 use Rattle.shape_extract.specs.Extraction.{IsNamed, IsOutputPin, IsDrivenBy, FeedsPin, IsFeedAt, IsInPhase, IsCellFrom}
 use Rattle.shape_extract.specs.Extraction.{IsOutputFrom, is_wired, IsCircuitOf}
 use Rattle.layout_make.proofs.Lawful.{IsLawful}
-use Rattle.layout_make.proofs.RouteRule as lines
 use Rattle.layout_make.specs.Sheet.{Tag, Frame, InPin, OutPin, Lead, Bar, Rise, Fall, Across, FromVia, ToVia, shape_of}
 use Rattle.layout_make.specs.Tags.{At, sheet, tags}
 use Rattle.layout_make.specs.Spots.{spots, input_port, PortAt}
@@ -49,18 +48,17 @@ use Rattle.drawn_chip.specs.DrawnCircuit.{cells_below, source_feed, port_feed, d
 use Rattle.drawn_chip.specs.DrawnCircuit.{drawn_circuit}
 use Rattle.drawn_chip.proofs.FrameNumbers.{is_frame_of, first_place, frame_number, frame_row, frame_numbers}
 use Rattle.layout_make.proofs.Member.{In, in_head, not_in_nil}
-use Rattle.layout_make.proofs.FlatLaw.{flat_is_tags, kinds_same}
+use Rattle.layout_make.proofs.FlatLaw.{kinds_same}
 use Rattle.layout_make.proofs.Joins.{from_map, to_map}
 use Rattle.drawn_chip.proofs.RowByRow.{item_at, item_from, in_order, same_place, length_all, zip_from}
 use Rattle.layout_make.proofs.Ready.{TracksLaw, may_ready, lawful, stands_at, port_is, some_true, pins_most}
 use Rattle.layout_make.proofs.Origins.{frame_stands, input_stands}
-use Rattle.layout_make.proofs.Whole.{drawn, has_cells, spot_row}
-use Rattle.layout_make.proofs.LineAll.{drawn_e2, edges_of}
+use Rattle.layout_make.proofs.Whole.{drawn, spot_row}
 use Rattle.layout_make.proofs.Labelled.{input_marked, output_marked}
 use Rattle.layout_make.proofs.WiresJoined.{second_law}
 use Rattle.layout_make.proofs.CellsDrawn.{first_law}
 use Rattle.layout_make.proofs.KeptLines.{frame_excited}
-use Rattle.layout_make.proofs.Wiring.{flat, Ports, rows_are, labelled_row}
+use Rattle.layout_make.proofs.Wiring.{flat, Ports, labelled_row}
 use Rattle.layout_make.proofs.Wiring as wiring
 use Rattle.layout_make.proofs.LabelRule.{shape_is, rows_count, entries_are, exits_are}
 use Rattle.layout_make.proofs.LabelRule.{input_label_at, output_label_at, input_numbered, output_numbered}
@@ -399,17 +397,12 @@ module _ (p : PlacedView) (l : LibraryView) (law : TracksLaw) (may : MayDraw p l
 
   -- phases
 
-  e2 : lines.E2 (flat_shapes p l) (edges_of (sheet p l))
-  e2 = subst (λ (ss : List Shape). lines.E2 ss (edges_of (sheet p l))) (sym (flat_is_tags p l laws))
-      (drawn_e2 (sheet p l) (tags p l) (drawn p l is laws) (has_cells p l is laws))
-
   in_phase : (r n : ℕ) (x : Spot) → slice_get (spots p r) n ≡ Some x
       → IsInPhase (flat_shapes p l) (shape_of (sheet p l) (Frame r x.slot x.cell.kind)) (r % 4)
   in_phase r n x e =
       let frame = shape_of (sheet p l) (Frame r x.slot x.cell.kind) in
       let f = frame_number p l r x in
-      let h = frame_excited (flat_shapes p l) (edges_of (sheet p l)) e2 (rows_are p l is laws) f frame
-      (frame_shape r n x e) refl in
+      let h = frame_excited p l is laws f frame (frame_shape r n x e) refl in
       let row = wiring.frame_row p l is laws f r x.slot x.cell.kind frame (frame_place r n x e) (frame_shape r n x e) in
       let in_row : (row_of (flat_shapes p l) frame.rect.y0) % 4 ≡ r % 4 = ap (λ (k : ℕ). k % 4) row in
       go h.bar (row_of (flat_shapes p l) frame.rect.y0 % 4) in_row h.phase h.over

@@ -1,22 +1,16 @@
 -- A drawing keeps all rules.
-use Rattle.std.proofs.Common.{sym, subst, arith, List}
-use Rattle.geom.specs.declared.shapes.Shape.{Shape}
+use Rattle.std.proofs.Common.{arith}
 use Rattle.layout_rules.specs.declared.rule.Rule.TheVariants.{E1, E2, E3, E4, E5, E6, G1, G2, G3, G4, G5}
 use Rattle.layout_rules.specs.Rules.{KeepsRules}
 use Rattle.rowed.specs.PlacedNets.{PlacedView}
 use Rattle.cell_library.specs.Library.{LibraryView, limits_of}
-use Rattle.layout_make.proofs.RouteRule as lines
 use Rattle.layout_make.specs.MayDraw.{MayDraw}
-use Rattle.layout_make.specs.Tags.{sheet, tags}
 use Rattle.layout_make.specs.Laws.{flat_shapes, WiresJoinPins}
 use Rattle.layout_make.specs.CellsAreDrawn.{CellsAreDrawn}
-use Rattle.layout_make.proofs.FlatLaw.{flat_is_tags}
-use Rattle.layout_make.proofs.Whole.{drawn, has_cells}
-use Rattle.layout_make.proofs.LineAll.{drawn_e2, edges_of}
 use Rattle.layout_make.proofs.Ready.{TracksLaw, may_ready, lawful, input_ports, output_ports, all_inputs, all_outputs}
 use Rattle.layout_make.proofs.WiresJoined.{second_law, geometry_kept}
 use Rattle.layout_make.proofs.CellsDrawn.{first_law}
-use Rattle.layout_make.proofs.Wiring.{flat, Ports, rows_are, nets_kept, wires_up}
+use Rattle.layout_make.proofs.Wiring.{flat, Ports, nets_kept, wires_up}
 use Rattle.layout_make.proofs.LabelRule.{labels_kept}
 use Rattle.layout_make.proofs.KeptCells.{cells_kept}
 use Rattle.layout_make.proofs.KeptLines.{excitation_kept}
@@ -36,12 +30,7 @@ ports_of p l may =
 module _ (p : PlacedView) (l : LibraryView) (law : TracksLaw) (may : MayDraw p l) where
   pub keeps_rules : KeepsRules (flat p l) (limits_of l)
   keeps_rules E1 = cells_kept (flat_shapes p l) (geometry_kept p l (may_ready p l law may) (lawful l may.library)).e1
-  keeps_rules E2 =
-      let is = may_ready p l law may in
-      let laws = lawful l may.library in
-      let e2 = subst (λ (ss : List Shape). lines.E2 ss (edges_of (sheet p l))) (sym (flat_is_tags p l laws))
-      (drawn_e2 (sheet p l) (tags p l) (drawn p l is laws) (has_cells p l is laws)) in
-      excitation_kept (flat_shapes p l) (edges_of (sheet p l)) e2 (rows_are p l is laws)
+  keeps_rules E2 = excitation_kept p l (may_ready p l law may) (lawful l may.library)
   keeps_rules E3 = nets_kept p l (may_ready p l law may) (lawful l may.library) (ports_of p l may)
   keeps_rules E4 = wires_up p l (may_ready p l law may) (lawful l may.library) (ports_of p l may)
   keeps_rules E5 =

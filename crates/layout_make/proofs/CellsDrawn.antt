@@ -17,7 +17,6 @@ use Rattle.layout_make.specs.Spots.{Spot, spots}
 use Rattle.layout_make.proofs.ReadyNets.{IsReady}
 use Rattle.list_orders.specs.Numbers.{numbers}
 use Rattle.layout_rules.specs.Rows.{AreRows}
-use Rattle.layout_make.proofs.RouteRule.{E2}
 use Rattle.layout_make.specs.Laws.{FrameAt, flat_shapes}
 use Rattle.layout_make.specs.CellsAreDrawn.{Before, CellsAreDrawn}
 use Rattle.layout_make.proofs.FlatLaw.{flat_is_tags, labels_flat}
@@ -27,7 +26,7 @@ use Rattle.layout_make.proofs.Origins.{frame_stands}
 use Rattle.layout_make.proofs.Whole.{drawn, has_cells, spot_row, frame_from}
 use Rattle.layout_make.proofs.DrawnRules.{frame_at}
 use Rattle.layout_make.proofs.KeptLines.{frame_excited}
-use Rattle.layout_make.proofs.LineAll.{drawn_e2, drawn_rows, edges_of, at_edge, edge_rises, shape_at, slot_wide}
+use Rattle.layout_make.proofs.LineAll.{drawn_rows, edges_of, at_edge, edge_rises, shape_at, slot_wide}
 use Rattle.layout_make.proofs.Labelled.{input_marked, output_marked}
 use Rattle.layout_make.proofs.PinsDrawn.{pins_drawn}
 use Rattle.layout_make.proofs.Wiring.{Ports}
@@ -87,11 +86,7 @@ first_law p l is laws ports =
           (drawn_rows (sheet p l) (tags p l) whole cells);
       count = length_map (λ r. pos (lower_edge (sheet p l) r)) (numbers 0 (sheet p l).rows)
           ∙ length_count 0 (sheet p l).rows ∙ rows_are p l;
-      excited = λ f frame at so. frame_excited (flat_shapes p l) (edges_of (sheet p l))
-          (subst (λ (ss : List Shape). E2 ss (edges_of (sheet p l))) (sym same)
-          (drawn_e2 (sheet p l) (tags p l) whole cells))
-          (subst (λ (ss : List Shape). AreRows ss (edges_of (sheet p l))) (sym same)
-          (drawn_rows (sheet p l) (tags p l) whole cells)) f frame at so;
+      excited = frame_excited p l is laws;
       frame = λ r n x at. (let f = frame_stands p l r x (spot_row p r x (n, at)) (n, at) in
           (f.0, record { spot = x; place = at; at = f.1 }));
       frame_once = λ r n a b f g. same_frame p l r n a b whole f g;

@@ -14,7 +14,7 @@ mod Spaced
 pub mod Joins
 mod ShapeSizes
 mod Cells
-pub mod RouteRule
+pub mod Routes
 mod LineShapes
 mod LineRule
 mod LinePhase

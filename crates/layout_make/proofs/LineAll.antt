@@ -1,9 +1,9 @@
--- Rule E2 of a drawing, in full.
+-- The rule of excitation lines of a drawing, in full.
 use Rattle.std.proofs.Common.{◌≡◌, ◌≢◌, ℕ, zero, suc, ◌+◌, ◌*◌, ◌%◌, ◌<◌, ◌≤◌, Bool, true, false, not, ◌&&◌, refl, sym}
-use Rattle.std.proofs.Common.{ap, subst, ◌∙◌, arith, ◌⊎◌, inl, inr, List, [], ◌∷◌, map, Some, pos, ℤ, int_lt, slice_get}
+use Rattle.std.proofs.Common.{ap, subst, ◌∙◌, arith, ◌⊎◌, inl, inr, List, [], ◌∷◌, map, Some, pos, ℤ, int_lt, nat_lt, slice_get}
 use Rattle.std.proofs.Math.Nat.{mul-le-mul_right}
 use Rattle.std.proofs.lemmas.Option.{same_Some}
-use Rattle.std.proofs.lemmas.Bool.{eqb-true, cases_order, cases_lt}
+use Rattle.std.proofs.lemmas.Bool.{both_ways, and_parts, eqb-true, cases_lt}
 use Rattle.std.proofs.lemmas.Bool.Decides.{nat_tests}
 use Rattle.layout_make.proofs.Lawful.{IsLawful}
 use Rattle.circuit.specs.declared.cell_kind.CellKind.{CellKind}
@@ -15,17 +15,26 @@ use Rattle.layout_make.specs.Sheet.{turns_right, lead_use, layer_of, datatype_of
 use Rattle.layout_make.proofs.SheetKeeps.{Fits, IsDrawn, HasCells}
 use Rattle.layout_make.specs.Tags.{At}
 use Rattle.list_orders.specs.Numbers.{numbers}
-use Rattle.layout_make.proofs.RouteRule.{is_line, Contact, IsOf, IsRoute, phase_of, IsLineAt, E2}
+use Rattle.layout_make.proofs.Routes.{on_line, IsRoute, IsLineAt, meets, AreWound}
 use Rattle.layout_rules.specs.Rows.{AreRows}
+use Rattle.layout_rules.specs.declared.layers.TheConstants.{EVEN_LINE, ODD_LINE, BAR, LINK, START, FRAME}
+use Rattle.layout_rules.specs.Layers.{is_line, is_frame}
+use Rattle.layout_rules.specs.Reports.{Passes}
+use Rattle.layout_rules.specs.ExcitationLines.{Contact, IsPart, enters, leaves}
+use Rattle.layout_rules.specs.ExcitationRule.{is_no_part, LacksOneStart, IsMisjoined, IsCutOff}
+use Rattle.layout_rules.specs.ExcitationRule.{HasStartContacts, HasLinkContacts, HasBarContacts}
+use Rattle.layout_rules.specs.Code.ChainRule.{IsChainUncrossed, IsChainExcited, IsChainUnexcited}
+use Rattle.layout_rules.proofs.RowLaws.{row_of-certified}
+use Rattle.layout_rules.proofs.ReportLaws.{Afterwards-none}
 use Rattle.layout_make.proofs.Columns.{next_edge, edges_apart}
 use Rattle.layout_make.proofs.Joins.{from_map, to_map, shapes_of, same_at}
 use Rattle.layout_make.proofs.LineRule.{line_rows, contact_linked, bar_contact, a_start, linked_from_lead}
 use Rattle.layout_make.proofs.LineRule.{linked_from_bar, lead_not_bar, before_bar, all_reached}
-use Rattle.layout_make.proofs.LinePhase.{lead_edges, turns_back, bar_phase, bar_frame, frame_in_bar, lead_frame}
+use Rattle.layout_make.proofs.LinePhase.{bar_entered, bar_left, bar_phase, bar_frame, frame_in_bar, lead_frame}
 use Rattle.layout_make.proofs.DrawnRules.{tag_of, frame_at}
 use Rattle.layout_make.proofs.PinCounts.{slots_some}
 
-pub line_tag : (t : Tag) → is_line (layer_of t) ≡ true → (r : ℕ) × ((t ≡ Lead r) ⊎ (t ≡ Bar r))
+pub line_tag : (t : Tag) → on_line (layer_of t) ≡ true → (r : ℕ) × ((t ≡ Lead r) ⊎ (t ≡ Bar r))
 line_tag (Lead r) e = (r, inl refl)
 line_tag (Bar r) e = (r, inr refl)
 line_tag (Frame r slot k) e = absurd cc
@@ -55,16 +64,16 @@ pub record LineOf (s : Sheet) (ts : List Tag) (i : ℕ) (a : Shape) : Type 0 whe
 line_of : (s : Sheet) (ts : List Tag) (i : ℕ) (a : Shape) → IsLineAt (shapes_of s ts) i a → LineOf s ts i a
 line_of s ts i a h =
     let t = tag_of s ts i a h.0 in
-    let u = line_tag t.0 (ap (λ (x : Shape). is_line x.layer) t.2 ∙ h.1) in
+    let u = line_tag t.0 (ap (λ (x : Shape). on_line x.layer) t.2 ∙ h.1) in
     record { row = u.0; tag = t.0; at = t.1; is = u.1; shape = t.2 }
 
-bar_is : (s : Sheet) (ts : List Tag) (i r : ℕ) → At ts i (Bar r) → IsOf (shapes_of s ts) 0 i
+bar_is : (s : Sheet) (ts : List Tag) (i r : ℕ) → At ts i (Bar r) → IsPart (shapes_of s ts) BAR i
 bar_is s ts i r at =
     record {
       shape = shape_of s (Bar r);
-      at = to_map (shape_of s) ts i (Bar r) at;
-      of_line = line_rows r;
-      used_so = refl;
+      shape_is = to_map (shape_of s) ts i (Bar r) at;
+      line_so = line_rows r;
+      datatype_is = refl;
     }
 
 uses : (r : ℕ) → (1 ≤ lead_use r) × (lead_use r < 3)
@@ -78,22 +87,22 @@ link_row (suc zero) e = absurd (omega arith)
 link_row (suc (suc r)) e = (r, omega arith)
 
 -- a shape of a use, by tag
-used_tag : (s : Sheet) (ts : List Tag) (i n : ℕ) → IsOf (shapes_of s ts) n i
+used_tag : (s : Sheet) (ts : List Tag) (i n : ℕ) → IsPart (shapes_of s ts) n i
     → ((r : ℕ) × At ts i (Lead r) × (lead_use r ≡ n)) ⊎ ((r : ℕ) × At ts i (Bar r) × (n ≡ 0))
 used_tag s ts i n h =
-    let x = line_of s ts i h.shape (h.at, h.of_line) in
+    let x = line_of s ts i h.shape (h.shape_is, h.line_so) in
     elim x.is [
       | inl e ↦ inl (
         x.row,
         subst (λ (t : Tag). At ts i t) e x.at,
         sym (ap datatype_of e)
-            ∙ ap (λ (y : Shape). y.datatype) x.shape ∙ h.used_so,
+            ∙ ap (λ (y : Shape). y.datatype) x.shape ∙ h.datatype_is,
       )
       | inr e ↦ inr (
         x.row,
         subst (λ (t : Tag). At ts i t) e x.at,
         sym
-            (sym (ap datatype_of e) ∙ ap (λ (y : Shape). y.datatype) x.shape ∙ h.used_so),
+            (sym (ap datatype_of e) ∙ ap (λ (y : Shape). y.datatype) x.shape ∙ h.datatype_is),
       )
     ]
 
@@ -135,89 +144,85 @@ pub shape_at : (s : Sheet) (ts : List Tag) (i : ℕ) (t : Tag) (a : Shape) → A
     → slice_get (shapes_of s ts) i ≡ Some a → shape_of s t ≡ a
 shape_at s ts i t a at is = same_Some _ _ (sym (to_map (shape_of s) ts i t at) ∙ is)
 
-start_bar : (s : Sheet) (ts : List Tag) → IsDrawn s ts → (i : ℕ) → IsOf (shapes_of s ts) 2 i
-    → (b : ℕ) × Contact (shapes_of s ts) i b × IsOf (shapes_of s ts) 0 b
-    × ((c : ℕ) → Contact (shapes_of s ts) i c → c ≡ b)
+start_bar : (s : Sheet) (ts : List Tag) → IsDrawn s ts → (i : ℕ) → IsPart (shapes_of s ts) START i
+    → HasStartContacts (shapes_of s ts) i
 start_bar s ts is i h =
     let x = a_start s ts i h in
     let rows = is.routed.rows_some in let less = x.2 in
-    let bar = is.bars x.0 (omega arith) in (
-      bar.0,
-      (bar_contact s ts is i bar.0 x.0 x.0 x.1 bar.1 (inl refl)).0,
-      bar_is s ts bar.0 x.0 bar.1,
-      λ c k. (let y = lead_contact s ts is i c x.0 x.1 k in
-          elim y.2 [ inl e ↦ bar_once s ts is c bar.0 y.0 x.0 y.1 bar.1 (sym e) | inr e ↦ absurd (omega arith) ]),
-    )
+    let bar = is.bars x.0 (omega arith) in
+    record {
+      bar = bar.0;
+      contact = (bar_contact s ts is i bar.0 x.0 x.0 x.1 bar.1 (inl refl)).0;
+      is_bar = bar_is s ts bar.0 x.0 bar.1;
+      only = λ c k. (let y = lead_contact s ts is i c x.0 x.1 k in
+          elim y.2 [ inl e ↦ bar_once s ts is c bar.0 y.0 x.0 y.1 bar.1 (sym e) | inr e ↦ absurd (omega arith) ]);
+    }
 
-link_bars : (s : Sheet) (ts : List Tag) → IsDrawn s ts → (i : ℕ) → IsOf (shapes_of s ts) 1 i
-    → (a b : ℕ) × Contact (shapes_of s ts) i a × Contact (shapes_of s ts) i b × (a ≢ b) × IsOf (shapes_of s ts) 0 a
-    × IsOf (shapes_of s ts) 0 b × ((c : ℕ) → Contact (shapes_of s ts) i c → (c ≡ a) ⊎ (c ≡ b))
-link_bars s ts is i h = elim (used_tag s ts i 1 h) [
+link_bars : (s : Sheet) (ts : List Tag) → IsDrawn s ts → (i : ℕ) → IsPart (shapes_of s ts) LINK i
+    → HasLinkContacts (shapes_of s ts) i
+link_bars s ts is i h = elim (used_tag s ts i LINK h) [
   | inr x ↦ absurd (let e = x.2 in omega arith)
   | inl x ↦
       let q = link_row x.0 x.2 in
       let lt = is.fits i (Lead x.0) x.1 in
       let e = q.1 in
       let low = is.bars q.0 (omega arith) in
-      let high = is.bars x.0 lt in (
-        low.0,
-        high.0,
-        (bar_contact s ts is i low.0 x.0 q.0 x.1 low.1 (inr e)).0,
-        (bar_contact s ts is i high.0 x.0 x.0 x.1 high.1 (inl refl)).0,
-        λ f. (let k : Bar q.0 ≡ Bar x.0 = same_at ts high.0 (Bar q.0) (Bar x.0)
-            (subst (λ (n : ℕ). At ts n (Bar q.0)) f low.1) high.1 in let m : q.0 ≡ x.0 = cc in omega arith),
-        bar_is s ts low.0 q.0 low.1,
-        bar_is s ts high.0 x.0 high.1,
-        λ c k. (let y = lead_contact s ts is i c x.0 x.1 k in elim y.2 [
+      let high = is.bars x.0 lt in
+      record {
+        one = low.0;
+        other = high.0;
+        one_contact = (bar_contact s ts is i low.0 x.0 q.0 x.1 low.1 (inr e)).0;
+        other_contact = (bar_contact s ts is i high.0 x.0 x.0 x.1 high.1 (inl refl)).0;
+        apart = λ f. (let k : Bar q.0 ≡ Bar x.0 = same_at ts high.0 (Bar q.0) (Bar x.0)
+            (subst (λ (n : ℕ). At ts n (Bar q.0)) f low.1) high.1 in let m : q.0 ≡ x.0 = cc in omega arith);
+        one_bar = bar_is s ts low.0 q.0 low.1;
+        other_bar = bar_is s ts high.0 x.0 high.1;
+        only = λ c k. (let y = lead_contact s ts is i c x.0 x.1 k in elim y.2 [
           | inl f ↦ inr (bar_once s ts is c high.0 y.0 x.0 y.1 high.1 (sym f))
           | inr f ↦ inl (bar_once s ts is c low.0 y.0 q.0 y.1 low.1 (omega arith))
-        ]),
-      )
+        ]);
+      }
 ]
 
-not_a_bar : (s : Sheet) (ts : List Tag) (c q : ℕ) → At ts c (Lead q) → IsOf (shapes_of s ts) 0 c → ⊥
-not_a_bar s ts c q at h = elim (used_tag s ts c 0 h) [
+not_a_bar : (s : Sheet) (ts : List Tag) (c q : ℕ) → At ts c (Lead q) → IsPart (shapes_of s ts) BAR c → ⊥
+not_a_bar s ts c q at h = elim (used_tag s ts c BAR h) [
   | inl x ↦ absurd (let e = x.2 in let f = (uses x.0).0 in omega arith)
   | inr x ↦ lead_not_bar ts c q x.0 at x.1
 ]
 
-bar_leads : (s : Sheet) (ts : List Tag) → IsDrawn s ts → (i : ℕ) → IsOf (shapes_of s ts) 0 i
-    → (a b : ℕ) × Contact (shapes_of s ts) i a
-    × ((c : ℕ) → Contact (shapes_of s ts) i c → ((c ≡ a) ⊎ (c ≡ b)) × (IsOf (shapes_of s ts) 0 c → ⊥))
-bar_leads s ts is i h = elim (used_tag s ts i 0 h) [
+bar_leads : (s : Sheet) (ts : List Tag) → IsDrawn s ts → (i : ℕ) → IsPart (shapes_of s ts) BAR i
+    → HasBarContacts (shapes_of s ts) i
+bar_leads s ts is i h = elim (used_tag s ts i BAR h) [
   | inl x ↦ absurd (let e = x.2 in let f = (uses x.0).0 in omega arith)
   | inr x ↦
       let lt = is.fits i (Bar x.0) x.1 in
       let lead = is.leads x.0 lt in
       let contact = (bar_contact s ts is lead.0 i x.0 x.0 lead.1 x.1 (inl refl)).1 in
+      let no_bar : (c : ℕ) → Contact (shapes_of s ts) i c → IsPart (shapes_of s ts) BAR c → ⊥ = λ c k.
+      (let y = bar_touches s ts is i c x.0 x.1 k in not_a_bar s ts c y.0 y.1) in
       elim (cases_lt (x.0 + 2) s.rows) [
         | inl more ↦
-            let next = is.leads (x.0 + 2) more in (
-              lead.0,
-              next.0,
-              contact,
-              λ c k. (let y = bar_touches s ts is i c x.0 x.1 k in (
-                elim y.2 [
-                  | inl f ↦ inl (lead_once s ts is c lead.0 y.0 x.0 y.1 lead.1 f)
-                  | inr f ↦ inr
-                      (lead_once s ts is c next.0 y.0 (x.0 + 2) y.1 next.1 f)
-                ],
-                not_a_bar s ts c y.0 y.1,
-              )),
-            )
-        | inr last ↦ (
-          lead.0,
-          lead.0,
-          contact,
-          λ c k. (let y = bar_touches s ts is i c x.0 x.1 k in (
-            elim y.2 [
-              | inl f ↦ inl (lead_once s ts is c lead.0 y.0 x.0 y.1 lead.1 f)
-              | inr
-                  f ↦ absurd (let z : y.0 < s.rows = is.fits c (Lead y.0) y.1 in omega arith)
-            ],
-            not_a_bar s ts c y.0 y.1,
-          )),
-        )
+            let next = is.leads (x.0 + 2) more in
+            record {
+              one = lead.0;
+              other = next.0;
+              one_contact = contact;
+              only = λ c k. (let y = bar_touches s ts is i c x.0 x.1 k in elim y.2 [
+                | inl f ↦ inl (lead_once s ts is c lead.0 y.0 x.0 y.1 lead.1 f)
+                | inr f ↦ inr (lead_once s ts is c next.0 y.0 (x.0 + 2) y.1 next.1 f)
+              ]);
+              no_bar = no_bar;
+            }
+        | inr last ↦ record {
+          one = lead.0;
+          other = lead.0;
+          one_contact = contact;
+          only = λ c k. (let y = bar_touches s ts is i c x.0 x.1 k in elim y.2 [
+            | inl f ↦ inl (lead_once s ts is c lead.0 y.0 x.0 y.1 lead.1 f)
+            | inr f ↦ absurd (let z : y.0 < s.rows = is.fits c (Lead y.0) y.1 in omega arith)
+          ]);
+          no_bar = no_bar;
+        }
       ]
 ]
 
@@ -229,22 +234,21 @@ bar_at s ts b a rest bar is route at e = go rest route
     found : Contact (shapes_of s ts) a b → (r : ℕ) × At ts b (Bar r)
     found h =
         let same : h.second ≡ bar = same_Some _ _ (sym h.second_is ∙ at) in
+        let m = meets h.first h.second h.meet_so in
         elim
-        (used_tag s ts b 0
+        (used_tag s ts b BAR
         (record {
           shape = bar;
-          at = at;
-          of_line = ap (λ (x : Shape). is_line x.layer) (sym same)
-              ∙ ap is_line (sym h.same_layer) ∙ h.of_line;
-          used_so = e;
+          shape_is = at;
+          line_so = ap (λ (x : Shape). on_line x.layer) (sym same) ∙ ap on_line (sym m.same_layer) ∙ m.of_line;
+          datatype_is = e;
         })) [
           | inl x ↦ absurd (let k = x.2 in let f = (uses x.0).0 in omega arith)
           | inr x ↦ (x.0, x.1)
         ]
 
     go : (rest : List ℕ) → IsRoute (shapes_of s ts) (b ∷ a ∷ rest) → (r : ℕ) × At ts b (Bar r) × At ts a (Lead r)
-    go [] route = let x = found route.0 in (x.0, x.1, before_bar s ts is b a x.0 [] route x.1)
-    go (c ∷ rest) route = let x = found route.0 in (x.0, x.1, before_bar s ts is b a x.0 (c ∷ rest) route x.1)
+    go rest route = let x = found route.chain.0 in (x.0, x.1, before_bar s ts is b a x.0 rest route x.1)
 
 -- the rows of a drawing
 
@@ -301,66 +305,57 @@ drawn_rows s ts is has = record {
       );
 }
 
--- a frame's row in the edges is the row of its tag
-pub frame_row : (s : Sheet) (ts : List Tag) → IsDrawn s ts → (r q : ℕ) (y : ℤ) → slice_get (edges_of s) r ≡ Some y
-    → pos (lower_edge s q) ≡ y → r ≡ q
-frame_row s ts is r q y e f =
-    let a = edge_at s r y e in
-    let same : lower_edge s q ≡ lower_edge s r = pos_same (lower_edge s q) (lower_edge s r) (f ∙ a.0) in
-    elim (cases_order r q) [
-      | inl k ↦ k
-      | inr o ↦ elim o [
-        | inl lt ↦ absurd (let x = edge_rises s is.routed.laws r q lt in omega arith)
-        | inr
-            lt ↦ absurd (let x = edge_rises s is.routed.laws q r lt in omega arith)
-      ]
-    ]
+-- a route leads to each bar by the lead of its row
+bar_before : (s : Sheet) (ts : List Tag) → IsDrawn s ts → (b r : ℕ) → At ts b (Bar r)
+    → (a : ℕ) × (rest : List ℕ) × At ts a (Lead r) × IsRoute (shapes_of s ts) (b ∷ a ∷ rest)
+bar_before s ts is b r at =
+    let l = (all_reached s ts is r (is.fits b (Bar r) at)).1 in
+    go l.1 (subst (λ (n : ℕ). IsRoute (shapes_of s ts) (n ∷ l.1)) (bar_once s ts is l.0 b r r l.2 at refl) l.3)
   where
-    pos_same : (a b : ℕ) → pos a ≡ pos b → a ≡ b
-    pos_same a b e = cc
+    go : (rest : List ℕ) → IsRoute (shapes_of s ts) (b ∷ rest)
+        → (a : ℕ) × (rest : List ℕ) × At ts a (Lead r) × IsRoute (shapes_of s ts) (b ∷ a ∷ rest)
+    go [] route = absurd (let x = a_start s ts b route.chain in lead_not_bar ts b x.0 r x.1 at)
+    go (a ∷ rest) route = (a, rest, before_bar s ts is b a r rest route at, route)
 
-frame_bar : (s : Sheet) (ts : List Tag) → IsDrawn s ts → (f r : ℕ) (frame : Shape)
-    → slice_get (shapes_of s ts) f ≡ Some frame → frame.layer ≡ 20 → slice_get (edges_of s) r ≡ Some frame.rect.y0
-    → (b : ℕ) × (bar : Shape) × IsLineAt (shapes_of s ts) b bar × (bar.datatype ≡ 0)
-    × (overlap bar.rect frame.rect ≡ true) × (within frame.rect bar.rect ≡ true)
-    × ((i : ℕ) (a : Shape) → IsLineAt (shapes_of s ts) i a → overlap a.rect frame.rect ≡ true → i ≡ b)
-    × ((a : ℕ) (rest : List ℕ) (lead : Shape) → IsRoute (shapes_of s ts) (b ∷ a ∷ rest)
-    → slice_get (shapes_of s ts) a ≡ Some lead → phase_of lead bar ≡ r % 4)
-frame_bar s ts is f r frame at l e =
-    let t = frame_at s ts f frame at l in
-    let row : r ≡ t.0 = frame_row s ts is r t.0 frame.rect.y0 e (ap (λ (x : Shape). x.rect.y0) t.4) in
-    let af : At ts f (Frame r t.1 t.2) = subst (λ (n : ℕ). At ts f (Frame n t.1 t.2)) (sym row) t.3 in
-    let shape : shape_of s (Frame r t.1 t.2) ≡ frame = shape_at s ts f (Frame r t.1 t.2) frame af at in
-    let fits = is.fits f (Frame r t.1 t.2) af in
-    let bar = is.bars r fits.0 in (
-      bar.0,
-      shape_of s (Bar r),
-      (to_map (shape_of s) ts bar.0 (Bar r) bar.1, line_rows r),
-      refl,
-      sym (ap (λ (x : Shape). overlap (place_of s (Bar r)) x.rect) shape) ∙ over r t.1 t.2 fits,
-      sym (ap (λ (x : Shape). within x.rect (place_of s (Bar r))) shape) ∙ frame_in_bar s r t.1 t.2 fits,
-      λ i a li o. (
-          let x = line_of s ts i a li in
+frame_bar : (s : Sheet) (ts : List Tag) → IsDrawn s ts → HasCells s ts → (f : ℕ) (frame : Shape)
+    → slice_get (shapes_of s ts) f ≡ Some frame → is_frame frame ≡ true → IsChainExcited (shapes_of s ts) frame
+unfolding bar_is
+frame_bar s ts is has f frame at so =
+    let t = frame_at s ts f frame at (eqb-true frame.layer FRAME so) in
+    let fits = is.fits f (Frame t.0 t.1 t.2) t.3 in
+    let bar = is.bars t.0 fits.0 in
+    let lead = bar_before s ts is bar.0 t.0 bar.1 in
+    let edge : slice_get (edges_of s) t.0 ≡ Some frame.rect.y0 = at_edge s t.0 fits.0
+    ∙ ap (λ (x : Shape). Some x.rect.y0) t.4 in
+    let row = row_of-certified (shapes_of s ts) (edges_of s) (drawn_rows s ts is has) t.0 frame.rect.y0 edge in
+    record {
+      bar = bar.0;
+      phase = record {
+        is_bar = bar_is s ts bar.0 t.0 bar.1;
+        before = lead.0;
+        before_shape = shape_of s (Lead t.0);
+        before_shape_is = to_map (shape_of s) ts lead.0 (Lead t.0) lead.2;
+        is_before = record { rest = lead.1; chain = lead.3.chain; onward = lead.3.onward };
+        phase_is = bar_phase s is.routed t.0 ∙ ap (λ (n : ℕ). n % 4) (sym row);
+      };
+      over = sym (ap (λ (x : Shape). overlap (place_of s (Bar t.0)) x.rect) t.4) ∙ over t.0 t.1 t.2 fits;
+      contains = sym (ap (λ (x : Shape). within x.rect (place_of s (Bar t.0))) t.4) ∙ frame_in_bar s t.0 t.1 t.2 fits;
+      only = λ i a is_a line o.
+          let x = line_of s ts i a (is_a, line) in
           let o' : overlap (place_of s x.tag)
-          (place_of s (Frame r t.1 t.2)) ≡ true = ap (λ (y : Shape). overlap y.rect (place_of s (Frame r t.1 t.2)))
-          x.shape ∙ ap (λ (y : Shape). overlap a.rect y.rect) shape ∙ o in
+          (place_of s (Frame t.0 t.1 t.2)) ≡ true = ap (λ (y : Shape). overlap y.rect (place_of s (Frame t.0 t.1 t.2)))
+          x.shape ∙ ap (λ (y : Shape). overlap a.rect y.rect) t.4 ∙ o in
           elim x.is [
-            | inl lead ↦ absurd (let p = lead_frame s x.row r t.1 t.2 fits in
+            | inl lead ↦ absurd (let p = lead_frame s x.row t.0 t.1 t.2 fits in
                 let q : overlap (place_of s (Lead x.row))
-                (place_of s (Frame r t.1 t.2)) ≡ true =
-                ap (λ (y : Tag). overlap (place_of s y) (place_of s (Frame r t.1 t.2))) (sym lead) ∙ o' in
+                (place_of s (Frame t.0 t.1 t.2)) ≡ true =
+                ap (λ (y : Tag). overlap (place_of s y) (place_of s (Frame t.0 t.1 t.2))) (sym lead) ∙ o' in
                 let z : true ≡ false = sym q ∙ p in cc)
-            | inr b ↦ bar_once s ts is i bar.0 x.row r (subst (λ (y : Tag). At ts i y) b x.at) bar.1
-                (bar_frame s is.routed x.row r t.1 t.2
-                (ap (λ (y : Tag). overlap (place_of s y) (place_of s (Frame r t.1 t.2))) (sym b) ∙ o'))
-          ]
-          ),
-      λ a rest lead route al. (
-          let x = before_bar s ts is bar.0 a r rest route bar.1 in
-          sym (ap (λ (y : Shape). phase_of y (shape_of s (Bar r))) (shape_at s ts a (Lead r) lead x al))
-          ∙ bar_phase s is.routed r
-          ),
-    )
+            | inr b ↦ bar_once s ts is i bar.0 x.row t.0 (subst (λ (y : Tag). At ts i y) b x.at) bar.1
+                (bar_frame s is.routed x.row t.0 t.1 t.2
+                (ap (λ (y : Tag). overlap (place_of s y) (place_of s (Frame t.0 t.1 t.2))) (sym b) ∙ o'))
+          ];
+    }
   where
     over : (r slot : ℕ) (k : CellKind) → Fits s (Frame r slot k)
         → overlap (place_of s (Bar r)) (place_of s (Frame r slot k)) ≡ true
@@ -383,93 +378,123 @@ frame_bar s ts is f r frame at l e =
             = mul-le-mul_right (s.library.columns * s.library.pitch) (let k : a + 1 ≤ a + n = omega arith in k) in
             omega arith
 
-pub drawn_e2 : (s : Sheet) (ts : List Tag) → IsDrawn s ts → HasCells s ts → E2 (shapes_of s ts) (edges_of s)
-drawn_e2 s ts is has = record {
-  used = λ i a h. (let x = line_of s ts i a h in elim x.is [
-    | inl e ↦ (let k : a.datatype ≡ lead_use x.row = sym (ap (λ (y : Shape). y.datatype) x.shape) ∙ ap datatype_of e in
-        let f = (uses x.row).1 in omega arith)
-    | inr e ↦ (let k : a.datatype ≡ 0 = sym (ap (λ (y : Shape). y.datatype) x.shape) ∙ ap datatype_of e in omega arith)
-  ]);
-  start = λ i a h.
-      let x = line_of s ts i a h in
-      let rows = is.routed.rows_some in
-      let lead = is.leads (x.row % 2) (omega arith) in (
-        lead.0,
-        shape_of s (Lead (x.row % 2)),
-        (to_map (shape_of s) ts lead.0 (Lead (x.row % 2)) lead.1, line_rows (x.row % 2)),
-        (let k : 14 + x.row % 2 % 2 ≡ 14 + x.row % 2 = omega arith in k) ∙ sym (layer_row s ts i a x),
-        first_use
-            (x.row % 2) (omega arith),
-      );
-  one_start = λ i j a b ha hb same ea eb.
-      let x = a_start s ts i (record { shape = a; at = ha.0; of_line = ha.1; used_so = ea }) in
-      let y = a_start s ts j (record { shape = b; at = hb.0; of_line = hb.1; used_so = eb }) in
-      let la : 14 + x.0 % 2 ≡ a.layer = ap (λ (z : Shape). z.layer) (shape_at s ts i (Lead x.0) a x.1 ha.0) in
-      let lb : 14 + y.0 % 2 ≡ b.layer = ap (λ (z : Shape). z.layer) (shape_at s ts j (Lead y.0) b y.1 hb.0) in
-      let xl = x.2 in let yl = y.2 in
-      lead_once s ts is i j x.0 y.0 x.1 y.1 (omega arith);
-  start_contact = start_bar s ts is;
-  link_contacts = link_bars s ts is;
-  bar_contacts = bar_leads s ts is;
-  joined = λ i a h.
-      let x = line_of s ts i a h in
-      let all = all_reached s ts is x.row (row_below s ts is i a x) in
+-- the parts of the rule
+
+module _ (s : Sheet) (ts : List Tag) (is : IsDrawn s ts) (has : HasCells s ts) where
+  parts_kept : (i : ℕ) → Passes is_no_part (shapes_of s ts) i → ⊥
+  parts_kept i p =
+      let a = and_parts (is_line p.shape) (nat_lt START p.shape.datatype) p.passes_so in
+      let x = line_of s ts i p.shape (p.shape_is, a.0) in
+      let k : 2 < p.shape.datatype = more START p.shape.datatype a.1 in
       elim x.is [
-        | inl e ↦ let l = all.0 in (
-          l.1,
-          subst (λ (n : ℕ). IsRoute (shapes_of s ts) (n ∷ l.1))
-              (lead_once s ts is l.0 i x.row x.row l.2 (subst (λ (t : Tag). At ts i t) e x.at) refl) l.3,
-        )
-        | inr e ↦ let l = all.1 in (
-          l.1,
-          subst (λ (n : ℕ). IsRoute (shapes_of s ts) (n ∷ l.1))
-              (bar_once s ts is l.0 i x.row x.row l.2 (subst (λ (t : Tag). At ts i t) e x.at) refl) l.3,
-        )
-      ];
-  before = λ b a rest bar lead route bb al e.
-      let x = bar_at s ts b a rest bar is route bb e in
-      let sb = shape_at s ts b (Bar x.0) bar x.1 bb in
-      let sl = shape_at s ts a (Lead x.0) lead x.2 al in
-      let k = lead_edges s is.routed x.0 x.0 (inl refl) in
-      let left : share_point lead.rect (left_edge bar.rect) ≡ not (turns_right x.0) = sym
-      (ap (λ (z : Shape). share_point z.rect (left_edge bar.rect)) sl)
-      ∙ sym (ap (λ (z : Shape). share_point (place_of s (Lead x.0)) (left_edge z.rect)) sb) ∙ k.0 in
-      let right : share_point lead.rect (right_edge bar.rect) ≡ turns_right x.0 = sym
-      (ap (λ (z : Shape). share_point z.rect (right_edge bar.rect)) sl)
-      ∙ sym (ap (λ (z : Shape). share_point (place_of s (Lead x.0)) (right_edge z.rect)) sb) ∙ k.1 in
-      left ∙ ap (λ (z : Bool). not z) (sym right);
-  after = λ b a c rest bar lead next route bb al e h ne cn.
-      let x = bar_at s ts b a rest bar is route bb e in
-      let y = bar_touches s ts is b c x.0 x.1 h in
-      let up : y.0 ≡ x.0 + 2 = not_own c a y.0 x.0 (λ m. ne (lead_once s ts is c a y.0 x.0 y.1 x.2 m)) y.2 in
-      let sb = shape_at s ts b (Bar x.0) bar x.1 bb in
-      let sl = shape_at s ts a (Lead x.0) lead x.2 al in
-      let sn = shape_at s ts c (Lead (x.0 + 2)) next (subst (λ (n : ℕ). At ts c (Lead n)) up y.1) cn in
-      let k = lead_edges s is.routed x.0 x.0 (inl refl) in
-      let m = lead_edges s is.routed (x.0 + 2) x.0 (inr refl) in
-      let t = turns_back x.0 in (
-        sym (ap (λ (z : Shape). share_point z.rect (left_edge bar.rect)) sn)
-            ∙ sym (ap (λ (z : Shape). share_point (place_of s (Lead (x.0 + 2))) (left_edge z.rect)) sb) ∙ m.0
-            ∙ ap (λ (z : Bool). not z) t ∙ twice (turns_right x.0) ∙ sym k.1
-            ∙ ap (λ (z : Shape). share_point z.rect (right_edge (place_of s (Bar x.0)))) sl
-            ∙ ap (λ (z : Shape). share_point lead.rect (right_edge z.rect)) sb,
-        sym (ap (λ (z : Shape). share_point z.rect (right_edge bar.rect)) sn)
-            ∙ sym (ap (λ (z : Shape). share_point (place_of s (Lead (x.0 + 2))) (right_edge z.rect)) sb) ∙ m.1 ∙ t
-            ∙ sym k.0 ∙ ap (λ (z : Shape). share_point z.rect (left_edge (place_of s (Bar x.0)))) sl
-            ∙ ap (λ (z : Shape). share_point lead.rect (left_edge z.rect)) sb,
-      );
-  frames = frame_bar s ts is;
-}
-  where
-    first_use : (r : ℕ) → r < 2 → lead_use r ≡ 2
-    first_use zero h = refl
-    first_use (suc zero) h = refl
-    first_use (suc (suc r)) h = absurd (omega arith)
+        | inl e ↦ absurd (let d : p.shape.datatype ≡ lead_use x.row = sym (ap (λ (y : Shape). y.datatype) x.shape)
+            ∙ ap datatype_of e in let f = (uses x.row).1 in omega arith)
+        | inr e ↦ absurd (let d : p.shape.datatype ≡ 0 = sym (ap (λ (y : Shape). y.datatype) x.shape)
+            ∙ ap datatype_of e in omega arith)
+      ]
+    where
+      more : (a b : ℕ) → nat_lt a b ≡ true → a < b
+      more a b e = grind (arith, nat_tests)
 
-    twice : (b : Bool) → not (not b) ≡ b
-    twice true = refl
-    twice false = refl
+  starts_kept : (layer : ℕ) → on_line layer ≡ true → (a : ℕ) → LacksOneStart (shapes_of s ts) layer a → ⊥
+  starts_kept layer line a h =
+      let x = line_of s ts a h.shape (h.shape_is, ap on_line h.of_layer ∙ line) in
+      let rows = is.routed.rows_some in
+      let lead = is.leads (x.row % 2) (omega arith) in
+      let same : 14 + x.row % 2 % 2 ≡ layer = (let k : 14 + x.row % 2 % 2 ≡ 14 + x.row % 2 = omega arith in k)
+      ∙ sym (layer_row s ts a h.shape x) ∙ h.of_layer in
+      h.not_one (record {
+        number = lead.0;
+        start =
+            record {
+              start = record {
+                shape = shape_of s (Lead (x.row % 2));
+                shape_is = to_map (shape_of s) ts lead.0 (Lead (x.row % 2)) lead.1;
+                line_so = line_rows (x.row % 2);
+                datatype_is = first_use (x.row % 2) (omega arith);
+              };
+              of_layer = same;
+            };
+        only = λ i t. one i t.start lead.0 (x.row % 2) lead.1 (omega arith) (t.of_layer ∙ sym same);
+      })
+    where
+      first_use : (r : ℕ) → r < 2 → lead_use r ≡ 2
+      first_use zero h = refl
+      first_use (suc zero) h = refl
+      first_use (suc (suc r)) h = absurd (omega arith)
 
-    not_own : (c a q r : ℕ) → (q ≡ r → ⊥) → (q ≡ r) ⊎ (q ≡ r + 2) → q ≡ r + 2
-    not_own c a q r f (inl e) = absurd (f e)
-    not_own c a q r f (inr e) = e
+      one : (i : ℕ) (t : IsPart (shapes_of s ts) START i) (j r : ℕ) → At ts j (Lead r) → r < 2
+          → t.shape.layer ≡ 14 + r % 2 → i ≡ j
+      one i t j r at less layer =
+          let y = a_start s ts i t in
+          let ly : 14 + y.0 % 2 ≡ t.shape.layer = ap (λ (z : Shape). z.layer)
+          (shape_at s ts i (Lead y.0) t.shape y.1 t.shape_is) in
+          let below = y.2 in
+          lead_once s ts is i j y.0 r y.1 at (omega arith)
+
+  contacts_kept : (i : ℕ) → IsMisjoined (shapes_of s ts) i → ⊥
+  contacts_kept i h =
+      h.not_so (record { start = start_bar s ts is i; link = link_bars s ts is i; bar = bar_leads s ts is i })
+
+  reach_kept : (i : ℕ) → IsCutOff (shapes_of s ts) i → ⊥
+  reach_kept i h =
+      let x = line_of s ts i h.part.shape (h.part.shape_is, h.part.passes_so) in
+      let all = all_reached s ts is x.row (row_below s ts is i h.part.shape x) in
+      elim x.is [
+        | inl e ↦ let l = all.0 in
+            by_route l.1 (subst (λ (n : ℕ). IsRoute (shapes_of s ts) (n ∷ l.1))
+            (lead_once s ts is l.0 i x.row x.row l.2 (subst (λ (t : Tag). At ts i t) e x.at) refl) l.3)
+        | inr e ↦ let l = all.1 in
+            by_route l.1 (subst (λ (n : ℕ). IsRoute (shapes_of s ts) (n ∷ l.1))
+            (bar_once s ts is l.0 i x.row x.row l.2 (subst (λ (t : Tag). At ts i t) e x.at) refl) l.3)
+      ]
+    where
+      by_route : (rest : List ℕ) → IsRoute (shapes_of s ts) (i ∷ rest) → ⊥
+      by_route rest route = h.not_reached (record { rest = rest; chain = route.chain })
+
+  crossed_kept : (b : ℕ) → IsChainUncrossed (shapes_of s ts) b → ⊥
+  crossed_kept b h =
+      let bar = h.bar.shape in
+      let lead = h.before_shape in
+      let x = bar_at s ts b h.before h.is_before.rest bar is
+      (record { chain = h.is_before.chain; onward = h.is_before.onward }) h.bar.shape_is h.bar.datatype_is in
+      let sb = shape_at s ts b (Bar x.0) bar x.1 h.bar.shape_is in
+      let sl = shape_at s ts h.before (Lead x.0) lead x.2 h.before_shape_is in
+      elim h.wrong [
+        | inl w ↦ both_ways (enters lead bar) w
+            (sym (ap (λ (z : Shape). enters z bar) sl) ∙ sym (ap (λ (z : Shape). enters (shape_of s (Lead x.0)) z) sb)
+            ∙ bar_entered s is.routed x.0)
+        | inr w ↦
+            let y = bar_touches s ts is b w.after x.0 x.1 w.contact in
+            let up : y.0 ≡ x.0 + 2 = not_own y.0 x.0
+            (λ m. w.onward (lead_once s ts is w.after h.before y.0 x.0 y.1 x.2 m)) y.2 in
+            let sn = shape_at s ts w.after (Lead (x.0 + 2)) w.contact.second
+            (subst (λ (n : ℕ). At ts w.after (Lead n)) up y.1) w.contact.second_is in
+            both_ways (leaves lead bar w.contact.second) w.wrong
+            (sym (ap (λ (z : Shape). leaves z bar w.contact.second) sl)
+            ∙ sym (ap (λ (z : Shape). leaves (shape_of s (Lead x.0)) z w.contact.second) sb)
+            ∙ sym (ap (λ (z : Shape). leaves (shape_of s (Lead x.0)) (shape_of s (Bar x.0)) z) sn)
+            ∙ bar_left s is.routed x.0)
+      ]
+    where
+      not_own : (q r : ℕ) → (q ≡ r → ⊥) → (q ≡ r) ⊎ (q ≡ r + 2) → q ≡ r + 2
+      not_own q r f (inl e) = absurd (f e)
+      not_own q r f (inr e) = e
+
+  excited_kept : (f : ℕ) → IsChainUnexcited (shapes_of s ts) f → ⊥
+  excited_kept f h = h.not_so (frame_bar s ts is has f h.frame.shape h.frame.shape_is h.frame.passes_so)
+
+  alone : {P : ℕ → Type 0} → ((a : ℕ) → P a → ⊥) → (a b : ℕ) → P a × (b ≡ a) → ⊥
+  alone none a b h = none a h.0
+
+  pub drawn_lines : AreWound (shapes_of s ts)
+  drawn_lines = record {
+    none =
+        Afterwards-none _ _ (alone parts_kept)
+        (Afterwards-none _ _ (alone (starts_kept EVEN_LINE refl))
+        (Afterwards-none _ _ (alone (starts_kept ODD_LINE refl))
+        (Afterwards-none _ _ (alone contacts_kept)
+        (Afterwards-none _ _ (alone reach_kept)
+        (Afterwards-none _ _ (alone crossed_kept) (alone excited_kept))))));
+    excited = frame_bar s ts is has;
+  }

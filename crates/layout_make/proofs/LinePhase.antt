@@ -1,5 +1,6 @@
 -- Rule E2 (e), (f): the edges of bars, directions and phases, and the one bar of each frame.
-use Rattle.std.proofs.Common.{◌≡◌, ℕ, ◌+◌, ◌-◌, ◌*◌, ◌%◌, ◌<◌, ◌≤◌, Bool, true, false, not, ◌&&◌, refl, ap, ◌∙◌, arith}
+use Rattle.std.proofs.Common.{◌≡◌, ℕ, zero, suc, ◌+◌, ◌*◌, ◌%◌, ◌<◌, ◌≤◌, Bool, true, false, not, ◌&&◌, ◌||◌, ◌==◌}
+use Rattle.std.proofs.Common.{refl, ap, ◌∙◌, arith}
 use Rattle.std.proofs.Common.{◌⊎◌, inl, inr, if◌then◌else◌, pos, neg_ℤ, int_le, int_lt, nat_lt}
 use Rattle.std.proofs.lemmas.Bool.{cases_order, cases_lt}
 use Rattle.std.proofs.lemmas.Bool.Decides.{nat_tests}
@@ -8,7 +9,7 @@ use Rattle.geom.specs.Rectangle.{meet_y, share_point, share_x, share_y, overlap,
 use Rattle.layout_make.specs.Sheet.{Sheet, Frame, Lead, Bar, Flank, LeftOf, Over, RightOf, turns_right, lead_flank}
 use Rattle.layout_make.specs.Sheet.{lead_first, line_rect, place_of, shape_of, lower_edge}
 use Rattle.layout_make.proofs.SheetKeeps.{Fits, IsRouted}
-use Rattle.layout_make.proofs.RouteRule.{phase_of}
+use Rattle.layout_rules.specs.ExcitationLines.{enters, leaves, phase_of}
 use Rattle.layout_make.proofs.Columns.{next_edge, edges_apart}
 use Rattle.layout_make.proofs.LineShapes.{spans_share, below_zero, bar_lead, is_le}
 use Rattle.layout_make.proofs.Comparing.{four, lt_of}
@@ -83,23 +84,42 @@ turns_back r =
     plain a b (inl h) = grind (arith, nat_tests)
     plain a b (inr h) = grind (arith, nat_tests)
 
+-- a line comes to a bar by its lead, and leaves it by the next one at the other edge
+pub bar_entered : (s : Sheet) → IsRouted s → (r : ℕ) → enters (shape_of s (Lead r)) (shape_of s (Bar r)) ≡ true
+bar_entered s is r = let k = lead_edges s is r r (inl refl) in plain _ _ (turns_right r) k.0 k.1
+  where
+    plain : (x y t : Bool) → x ≡ not t → y ≡ t → ((x && not y) || (y && not x)) ≡ true
+    plain x y true e f = rw (e, f) refl
+    plain x y false e f = rw (e, f) refl
+
+pub bar_left : (s : Sheet) → IsRouted s → (r : ℕ)
+    → leaves (shape_of s (Lead r)) (shape_of s (Bar r)) (shape_of s (Lead (r + 2))) ≡ true
+bar_left s is r =
+    let k = lead_edges s is r r (inl refl) in
+    let m = lead_edges s is (r + 2) r (inr refl) in
+    plain _ _ _ (turns_right r) k.0 (m.0 ∙ ap (λ (b : Bool). not b) (turns_back r)) (m.1 ∙ turns_back r)
+  where
+    plain : (x u v t : Bool) → x ≡ not t → u ≡ not (not t) → v ≡ not t
+        → (if x then v && not u else u && not v) ≡ true
+    plain x u v true e f g = rw (e, f, g) refl
+    plain x u v false e f g = rw (e, f, g) refl
+
 -- the phase of a bar is its row mod 4
 pub bar_phase : (s : Sheet) → IsRouted s → (r : ℕ) → phase_of (shape_of s (Lead r)) (shape_of s (Bar r)) ≡ r % 4
-bar_phase s is r = ap (λ (b : Bool). if b then (14 + r % 2) - 14 else (14 + r % 2) - 12)
-    (lead_edges s is r r (inl refl)).0 ∙ plain r
+bar_phase s is r =
+    ap (λ (b : Bool). if (14 + r % 2) == 14 then (if b then 0 else 2) else (if b then 1 else 3))
+    (lead_edges s is r r (inl refl)).0
+    ∙ ap (λ (n : ℕ). if (14 + n) == 14 then (if not (nat_lt 1 (r % 4)) then 0 else 2)
+    else (if not (nat_lt 1 (r % 4)) then 1 else 3)) (let k : r % 2 ≡ r % 4 % 2 = omega arith in k)
+    ∙ plain (r % 4) (omega arith)
   where
-    one : (r : ℕ) (b : Bool) → nat_lt 1 (r % 4) ≡ b → (if not b then (14 + r % 2) - 14 else (14 + r % 2) - 12) ≡ r % 4
-    one r true e = let k : 1 < r % 4 = from_test (r % 4) e in omega arith
-      where
-        from_test : (n : ℕ) → nat_lt 1 n ≡ true → 1 < n
-        from_test n e = grind (arith, nat_tests)
-    one r false e = let k : r % 4 ≤ 1 = from_test (r % 4) e in omega arith
-      where
-        from_test : (n : ℕ) → nat_lt 1 n ≡ false → n ≤ 1
-        from_test n e = grind (arith, nat_tests)
-
-    plain : (r : ℕ) → (if not (turns_right r) then (14 + r % 2) - 14 else (14 + r % 2) - 12) ≡ r % 4
-    plain r = one r (turns_right r) refl
+    plain : (n : ℕ) → n < 4 → (if (14 + n % 2) == 14 then (if not (nat_lt 1 n) then 0 else 2)
+        else (if not (nat_lt 1 n) then 1 else 3)) ≡ n
+    plain zero h = refl
+    plain (suc zero) h = refl
+    plain (suc (suc zero)) h = refl
+    plain (suc (suc (suc zero))) h = refl
+    plain (suc (suc (suc (suc n)))) h = absurd (omega arith)
 
 -- E2 (f): a bar overlaps the frames of its own row alone, and contains them; a lead overlaps none
 

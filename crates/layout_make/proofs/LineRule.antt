@@ -8,14 +8,16 @@ use Rattle.layout_make.specs.Sheet.{Sheet, Tag, Frame, InPin, OutPin, Lead, Bar,
 use Rattle.layout_make.specs.Sheet.{lead_use, layer_of, datatype_of, place_of, shape_of}
 use Rattle.layout_make.specs.Tags.{At}
 use Rattle.layout_make.proofs.SheetKeeps.{IsDrawn}
-use Rattle.layout_make.proofs.RouteRule.{is_line, Contact, IsOf, IsRoute}
+use Rattle.layout_rules.specs.ExcitationLines.{Contact, IsPart}
+use Rattle.layout_rules.specs.declared.layers.TheConstants.{START}
+use Rattle.layout_make.proofs.Routes.{on_line, IsRoute, meets, they_meet}
 use Rattle.layout_make.proofs.Joins.{from_map, to_map, shapes_of, same_at}
 use Rattle.layout_make.proofs.LineShapes.{Linked, linked, bar_over}
 
-pub line_rows : (r : ℕ) → is_line (14 + r % 2) ≡ true
+pub line_rows : (r : ℕ) → on_line (14 + r % 2) ≡ true
 line_rows r = plain (r % 2) (omega arith)
   where
-    plain : (n : ℕ) → n < 2 → is_line (14 + n) ≡ true
+    plain : (n : ℕ) → n < 2 → on_line (14 + n) ≡ true
     plain zero h = refl
     plain (suc zero) h = refl
     plain (suc (suc n)) h = absurd (omega arith)
@@ -23,13 +25,14 @@ line_rows r = plain (r % 2) (omega arith)
 pub contact_linked : (s : Sheet) (ts : List Tag) → IsDrawn s ts → (i j : ℕ) (t u : Tag) → At ts i t → At ts j u
     → Contact (shapes_of s ts) i j → Linked t u
 contact_linked s ts is i j t u at au h =
+    let m = meets h.first h.second h.meet_so in
     let e : shape_of s t ≡ h.first = same_Some _ _ (sym (to_map (shape_of s) ts i t at) ∙ h.first_is) in
     let f : shape_of s u ≡ h.second = same_Some _ _ (sym (to_map (shape_of s) ts j u au) ∙ h.second_is) in
-    let li : is_line (layer_of t) ≡ true = ap (λ (x : Shape). is_line x.layer) e ∙ h.of_line in
-    let sa : layer_of t ≡ layer_of u = ap (λ (x : Shape). x.layer) e ∙ h.same_layer
+    let li : on_line (layer_of t) ≡ true = ap (λ (x : Shape). on_line x.layer) e ∙ m.of_line in
+    let sa : layer_of t ≡ layer_of u = ap (λ (x : Shape). x.layer) e ∙ m.same_layer
     ∙ sym (ap (λ (x : Shape). x.layer) f) in
     let sh : share_point (place_of s t) (place_of s u) ≡ true = ap (λ (x : Shape). share_point x.rect (place_of s u)) e
-    ∙ ap (λ (x : Shape). share_point h.first.rect x.rect) f ∙ h.shared in
+    ∙ ap (λ (x : Shape). share_point h.first.rect x.rect) f ∙ m.shared in
     elim (linked s is.routed t u li sa sh) [
       | inl same ↦ absurd (h.apart (is.once i j u (subst (λ (x : Tag). At ts i x) same at) au))
       | inr l ↦ l
@@ -52,10 +55,12 @@ bar_contact s ts is i j q r at au l =
         second = shape_of s (Bar r);
         first_is = to_map (shape_of s) ts i (Lead q) at;
         second_is = to_map (shape_of s) ts j (Bar r) au;
-        of_line = line_rows q;
-        same_layer =
-            ap (λ (n : ℕ). 14 + n) (parity_linked q r l);
-        shared = over.0;
+        meet_so =
+            they_meet (shape_of s (Lead q)) (shape_of s (Bar r)) (record {
+              of_line = line_rows q;
+              same_layer = ap (λ (n : ℕ). 14 + n) (parity_linked q r l);
+              shared = over.0;
+            });
       },
       record {
         apart = λ e. lead_not_bar ts i q r at (subst (λ (n : ℕ). At ts n (Bar r)) e au);
@@ -63,10 +68,12 @@ bar_contact s ts is i j q r at au l =
         second = shape_of s (Lead q);
         first_is = to_map (shape_of s) ts j (Bar r) au;
         second_is = to_map (shape_of s) ts i (Lead q) at;
-        of_line = line_rows r;
-        same_layer =
-            ap (λ (n : ℕ). 14 + n) (sym (parity_linked q r l));
-        shared = over.1;
+        meet_so =
+            they_meet (shape_of s (Bar r)) (shape_of s (Lead q)) (record {
+              of_line = line_rows r;
+              same_layer = ap (λ (n : ℕ). 14 + n) (sym (parity_linked q r l));
+              shared = over.1;
+            });
       },
     )
 
@@ -76,13 +83,13 @@ start_row zero e = omega arith
 start_row (suc zero) e = omega arith
 start_row (suc (suc q)) e = absurd (omega arith)
 
-pub a_start : (s : Sheet) (ts : List Tag) (i : ℕ) → IsOf (shapes_of s ts) 2 i → (q : ℕ) × At ts i (Lead q) × (q < 2)
+pub a_start : (s : Sheet) (ts : List Tag) (i : ℕ) → IsPart (shapes_of s ts) START i → (q : ℕ) × At ts i (Lead q) × (q < 2)
 a_start s ts i h =
-    let found = from_map (shape_of s) ts i h.shape h.at in
-    by_tag found.0 found.1 (ap (λ (x : Shape). is_line x.layer) found.2 ∙ h.of_line)
-    (ap (λ (x : Shape). x.datatype) found.2 ∙ h.used_so)
+    let found = from_map (shape_of s) ts i h.shape h.shape_is in
+    by_tag found.0 found.1 (ap (λ (x : Shape). on_line x.layer) found.2 ∙ h.line_so)
+    (ap (λ (x : Shape). x.datatype) found.2 ∙ h.datatype_is)
   where
-    by_tag : (t : Tag) → At ts i t → is_line (layer_of t) ≡ true → datatype_of t ≡ 2 → (q : ℕ) × At ts i (Lead q)
+    by_tag : (t : Tag) → At ts i t → on_line (layer_of t) ≡ true → datatype_of t ≡ 2 → (q : ℕ) × At ts i (Lead q)
         × (q < 2)
     by_tag (Lead q) at l d = (q, at, start_row q d)
     by_tag (Bar r) at l d = absurd (omega arith)
@@ -155,16 +162,17 @@ after_bar s ts is b a r at h back =
 pub route_sound : (s : Sheet) (ts : List Tag) → IsDrawn s ts → (path : List ℕ) → IsRoute (shapes_of s ts) path
     → Sound ts path
 route_sound s ts is [] h = tt
-route_sound s ts is (a ∷ []) h = a_start s ts a h
-route_sound s ts is (b ∷ a ∷ []) h = let start = a_start s ts a h.1 in
-    inl (after_lead s ts is b a start.0 start.1 h.0 (λ r e at. absurd (let k = start.2 in omega arith)))
-route_sound s ts is (b ∷ a ∷ c ∷ rest) h = go (route_sound s ts is (a ∷ c ∷ rest) h.2)
+route_sound s ts is (a ∷ []) h = a_start s ts a h.chain
+route_sound s ts is (b ∷ a ∷ []) h = let start = a_start s ts a h.chain.1 in
+    inl (after_lead s ts is b a start.0 start.1 h.chain.0 (λ r e at. absurd (let k = start.2 in omega arith)))
+route_sound s ts is (b ∷ a ∷ c ∷ rest) h =
+    go (route_sound s ts is (a ∷ c ∷ rest) (record { chain = h.chain.1; onward = h.onward.1 }))
   where
     go : Sound ts (a ∷ c ∷ rest) → Sound ts (b ∷ a ∷ c ∷ rest)
-    go (inl (r, at, before)) = inr (after_bar s ts is b a r at h.0 (λ back. h.1 (is.once b c (Lead r) back before)))
+    go (inl (r, at, before)) = inr (after_bar s ts is b a r at h.chain.0 (λ back. h.onward.0 (is.once b c (Lead r) back before)))
     go (inr (r, at, before)) =
-        inl (after_lead s ts is b a (r + 2) at h.0
-        (λ q e back. h.1
+        inl (after_lead s ts is b a (r + 2) at h.chain.0
+        (λ q e back. h.onward.0
         (is.once b c (Bar r) (subst (λ (n : ℕ). At ts b (Bar n)) (let k : q ≡ r = omega arith in k) back) before)))
 
 -- E2 (e): the shape before a bar is the lead of its row
@@ -187,8 +195,8 @@ NotBack b (c ∷ rest) = b ≢ c
 
 extend : (shapes : List Shape) (b a : ℕ) (rest : List ℕ) → IsRoute shapes (a ∷ rest) → Contact shapes a b
     → NotBack b rest → IsRoute shapes (b ∷ a ∷ rest)
-extend shapes b a [] route h n = (h, route)
-extend shapes b a (c ∷ rest) route h n = (h, n, route)
+extend shapes b a [] route h n = record { chain = (h, route.chain); onward = tt }
+extend shapes b a (c ∷ rest) route h n = record { chain = (h, route.chain); onward = (n, route.onward) }
 
 bars_differ : (ts : List Tag) (b c r q : ℕ) → At ts b (Bar r) → At ts c (Bar q) → r ≡ q + 2 → b ≢ c
 bars_differ ts b c r q at au e f = let k : Bar r ≡ Bar q = same_at ts c (Bar r) (Bar q)
@@ -243,10 +251,13 @@ start_reached s ts is r lt e =
       [],
       lead.1,
       record {
-        shape = shape_of s (Lead r);
-        at = to_map (shape_of s) ts lead.0 (Lead r) lead.1;
-        of_line = line_rows r;
-        used_so = e;
+        chain = record {
+          shape = shape_of s (Lead r);
+          shape_is = to_map (shape_of s) ts lead.0 (Lead r) lead.1;
+          line_so = line_rows r;
+          datatype_is = e;
+        };
+        onward = tt;
       },
     )
 

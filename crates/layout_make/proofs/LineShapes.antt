@@ -9,7 +9,7 @@ use Rattle.layout_make.specs.Sheet.{Sheet, Tag, Frame, InPin, OutPin, Lead, Bar,
 use Rattle.layout_make.specs.Sheet.{Flank, LeftOf, Over, RightOf, turns_right, lead_flank, lead_first, line_rect}
 use Rattle.layout_make.specs.Sheet.{layer_of, place_of, lower_edge}
 use Rattle.layout_make.proofs.SheetKeeps.{IsRouted}
-use Rattle.layout_make.proofs.RouteRule.{is_line}
+use Rattle.layout_make.proofs.Routes.{on_line}
 use Rattle.layout_make.proofs.Columns.{next_edge, edges_apart}
 
 -- flanks that meet
@@ -180,7 +180,7 @@ same_rows : (r q : ℕ) → 14 + r % 2 ≡ 14 + q % 2 → r % 2 ≡ q % 2
 same_rows r q e = omega arith
 
 -- two lines of one layer that share a point are one, or linked
-pub linked : (s : Sheet) → IsRouted s → (t u : Tag) → is_line (layer_of t) ≡ true → layer_of t ≡ layer_of u
+pub linked : (s : Sheet) → IsRouted s → (t u : Tag) → on_line (layer_of t) ≡ true → layer_of t ≡ layer_of u
     → share_point (place_of s t) (place_of s u) ≡ true → (t ≡ u) ⊎ Linked t u
 linked s is (Lead r) (Lead q) li e h =
     let k = ands3 (beside (lead_flank r) (lead_flank q)) (leb (lead_first r) q) (leb (lead_first q) r)
