@@ -55,8 +55,8 @@ use Rattle.layout_make.proofs.Ready.{TracksLaw, may_ready, lawful, stands_at, po
 use Rattle.layout_make.proofs.Origins.{frame_stands, input_stands}
 use Rattle.layout_make.proofs.Whole.{drawn, spot_row}
 use Rattle.layout_make.proofs.Labelled.{input_marked, output_marked}
-use Rattle.layout_make.proofs.WiresJoined.{second_law}
-use Rattle.layout_make.proofs.CellsDrawn.{first_law}
+use Rattle.layout_make.proofs.WiresJoined.{wires_joined}
+use Rattle.layout_make.proofs.CellsDrawn.{cells_drawn}
 use Rattle.layout_make.proofs.KeptLines.{frame_excited}
 use Rattle.layout_make.proofs.Wiring.{flat, Ports, labelled_row}
 use Rattle.layout_make.proofs.Wiring as wiring
@@ -167,8 +167,8 @@ module _ (p : PlacedView) (l : LibraryView) (law : TracksLaw) (may : MayDraw p l
     where
       each : (f : ℕ) → Passes is_frame (flat_shapes p l) f → HasPlace (frame_numbers p l) f
       each f passes =
-          let first = first_law p l is laws ports in
-          let h = first.each_frame f passes.shape passes.shape_is (eqb-true passes.shape.layer 20 passes.passes_so) in
+          let cells = cells_drawn p l is laws ports in
+          let h = cells.each_frame f passes.shape passes.shape_is (eqb-true passes.shape.layer 20 passes.passes_so) in
           let at = h.2 in
           let same : f ≡ frame_number p l h.0 at.spot = (drawn p l is laws).once f (frame_number p l h.0 at.spot)
           (Frame h.0 at.spot.slot at.spot.cell.kind) at.at (frame_place h.0 h.1 at.spot at.place) in
@@ -195,7 +195,7 @@ module _ (p : PlacedView) (l : LibraryView) (law : TracksLaw) (may : MayDraw p l
           → slice_get (flat_shapes p l) f ≡ Some s → slice_get (flat_shapes p l) g ≡ Some t
           → comes_before s f t g ≡ true
       ordered c d f g s t lt a b es et =
-          let first = first_law p l is laws ports in
+          let cells = cells_drawn p l is laws ports in
           let fa : FrameAt p l a.row a.place
           f = record {
             spot = a.spot;
@@ -214,7 +214,7 @@ module _ (p : PlacedView) (l : LibraryView) (law : TracksLaw) (may : MayDraw p l
           let order = in_order (spots p) (cells_below p) refl (λ r. refl) (length p.net.rows) a.row a.place b.row
           b.place (slice_get_within (spots p a.row) a.place a.spot a.there)
           (slice_get_within (spots p b.row) b.place b.spot b.there) (omega arith) in
-          before_so s t f g (first.ordered a.row a.place b.row b.place f g s t fa fb es et order)
+          before_so s t f g (cells.ordered a.row a.place b.row b.place f g s t fa fb es et order)
 
   -- pins in the frames of their cells
 
@@ -290,7 +290,7 @@ module _ (p : PlacedView) (l : LibraryView) (law : TracksLaw) (may : MayDraw p l
   driven_by : (q n i m : ℕ) → (at : InAt p l (suc q) n i m) → (s : Source) × (source_at at.spot.cell i ≡ Some s)
       × IsDrivenBy (flat p l) (frame_numbers p l) (record { cell = cells_below p q + s.cell; output = s.output }) m
   driven_by q n i m at =
-      let d = (second_law p l is laws).drives q n i m at in
+      let d = (wires_joined p l is laws).drives q n i m at in
       let same : d.spot ≡ at.spot = same_Some _ _ (sym d.place ∙ at.input.at) in
       let a = shape_of (sheet p l) (InPin (suc q) (in_column l at.spot i) i) in
       let out = shape_of (sheet p l) (OutPin q (out_column l d.out_at.spot d.source.output) d.source.output) in (

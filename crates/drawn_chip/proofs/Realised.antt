@@ -45,7 +45,7 @@ use Rattle.drawn_chip.proofs.Wires.{wires_are}
 pub record CrateLaws (p : PlacedView) (l : LibraryView) : Type 0 where
   pub tracks : TracksLaw
   pub rules : KeepsRules (flat p l) (limits_of l)
-  pub first : CellsAreDrawn p l
+  pub cells : CellsAreDrawn p l
   pub size : length (top_elements p l) ≡ element_number p
   pub stream : IsStream (bytes_of (draw p l)) (draw p l)
   pub keeps : (flat : Flat) (circuit : CircuitView) → length flat.shapes < 2 ^ 32 → length circuit.cells < 2 ^ 32
@@ -79,7 +79,7 @@ module _ (p : PlacedView) (l : LibraryView) (law : CrateLaws p l) (may : MayDraw
     nets = law.rules E3;
     rows = law.rules E4;
     labels = law.rules E6;
-    excited = law.first.excited;
+    excited = law.cells.excited;
   }
 
   -- ---- sizes
@@ -88,7 +88,7 @@ module _ (p : PlacedView) (l : LibraryView) (law : CrateLaws p l) (may : MayDraw
   shapes_and_labels =
       let a : length (flat p l).shapes ≡ length (tags p l) = ap length (flat_is_tags p l (lawful l may.library))
       ∙ length-map (tags p l) (shape_of (sheet p l)) in
-      let b = ap (λ (labels : List Label). length labels) law.first.labels_are in
+      let b = ap (λ (labels : List Label). length labels) law.cells.labels_are in
       let c = few_shapes p l may.placed law.size in
       omega arith
 

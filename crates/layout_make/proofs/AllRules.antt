@@ -8,8 +8,8 @@ use Rattle.layout_make.specs.MayDraw.{MayDraw}
 use Rattle.layout_make.specs.Laws.{flat_shapes, WiresJoinPins}
 use Rattle.layout_make.specs.CellsAreDrawn.{CellsAreDrawn}
 use Rattle.layout_make.proofs.Ready.{TracksLaw, may_ready, lawful, input_ports, output_ports, all_inputs, all_outputs}
-use Rattle.layout_make.proofs.WiresJoined.{second_law, geometry_kept}
-use Rattle.layout_make.proofs.CellsDrawn.{first_law}
+use Rattle.layout_make.proofs.WiresJoined.{wires_joined, geometry_kept}
+use Rattle.layout_make.proofs.CellsDrawn.{cells_drawn}
 use Rattle.layout_make.proofs.Wiring.{flat, Ports, nets_kept, wires_up}
 use Rattle.layout_make.proofs.LabelRule.{labels_kept}
 use Rattle.layout_make.proofs.KeptCells.{cells_kept}
@@ -47,8 +47,8 @@ module _ (p : PlacedView) (l : LibraryView) (law : TracksLaw) (may : MayDraw p l
   keeps_rules G4 = cover_kept (flat_shapes p l) (geometry_kept p l (may_ready p l law may) (lawful l may.library)).g4
   keeps_rules G5 = frames_kept (flat_shapes p l) (geometry_kept p l (may_ready p l law may) (lawful l may.library)).g5
 
-  pub keeps_first : CellsAreDrawn p l
-  keeps_first = first_law p l (may_ready p l law may) (lawful l may.library) (ports_of p l may)
+  pub keeps_cells : CellsAreDrawn p l
+  keeps_cells = cells_drawn p l (may_ready p l law may) (lawful l may.library) (ports_of p l may)
 
-  pub keeps_second : WiresJoinPins p l
-  keeps_second = second_law p l (may_ready p l law may) (lawful l may.library)
+  pub keeps_joined : WiresJoinPins p l
+  keeps_joined = wires_joined p l (may_ready p l law may) (lawful l may.library)

@@ -76,8 +76,8 @@ rows_are : (p : PlacedView) (l : LibraryView) → (sheet p l).rows ≡ length p.
 unfolding sheet
 rows_are p l = refl
 
-pub first_law : (p : PlacedView) (l : LibraryView) → IsReady p l → IsLawful l → Ports p → CellsAreDrawn p l
-first_law p l is laws ports =
+pub cells_drawn : (p : PlacedView) (l : LibraryView) → IsReady p l → IsLawful l → Ports p → CellsAreDrawn p l
+cells_drawn p l is laws ports =
     let same = flat_is_tags p l laws in
     let whole = drawn p l is laws in
     let cells = has_cells p l is laws in

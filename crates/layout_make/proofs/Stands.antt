@@ -57,6 +57,12 @@ pin_above l used laws (suc r) c odd = let f = centre_least l c in
     let g = next_edge l used r in
     record { left_so = omega arith; right_so = omega arith; parity_so = odd; between = (omega arith, omega arith) }
 
+-- no excitation line is on a layer of posts
+pub no_post : (n : ℕ) → n < 2 → post_layer (14 + n) ≡ true → ⊥
+no_post zero lt e = cc
+no_post (suc zero) lt e = cc
+no_post (suc (suc n)) lt e = omega arith
+
 pub has_post : (s : Sheet) → IsLawful s.library → (tag : Tag) → Fits s tag → post_layer (layer_of tag) ≡ true
     → HasPost s tag
 has_post s laws (InPin r c i) fits is =
@@ -165,17 +171,7 @@ has_post s laws (ToVia r c) fits is = let f = centre_least s.library (s.to r c) 
     }
 has_post s laws (Frame r slot kind) fits is = absurd cc
 has_post s laws (Lead r) fits is = absurd (no_post (r % 2) (omega arith) is)
-  where
-    no_post : (n : ℕ) → n < 2 → post_layer (14 + n) ≡ true → ⊥
-    no_post zero lt e = cc
-    no_post (suc zero) lt e = cc
-    no_post (suc (suc n)) lt e = omega arith
 has_post s laws (Bar r) fits is = absurd (no_post (r % 2) (omega arith) is)
-  where
-    no_post : (n : ℕ) → n < 2 → post_layer (14 + n) ≡ true → ⊥
-    no_post zero lt e = cc
-    no_post (suc zero) lt e = cc
-    no_post (suc (suc n)) lt e = omega arith
 has_post s laws (Across r c) fits is = absurd cc
 
 -- on track t above row r, over the columns from c to d
@@ -242,6 +238,12 @@ pub record HasRun (s : Sheet) (tag : Tag) : Type 0 where
   pub low_held : (area s tag).low ≤ track_centre s.library s.used row (s.track row column)
   pub high_held : track_centre s.library s.used row (s.track row column) ≤ (area s tag).high
   pub whole : (layer_of tag == 12) ≡ true → least ≡ min column (s.to row column)
+
+-- no excitation line is on a layer of runs
+pub no_run : (n : ℕ) → n < 2 → run_layer (14 + n) ≡ true → ⊥
+no_run zero lt e = cc
+no_run (suc zero) lt e = cc
+no_run (suc (suc n)) lt e = omega arith
 
 pub has_run : (s : Sheet) → IsLawful s.library → (tag : Tag) → Fits s tag → run_layer (layer_of tag) ≡ true
     → HasRun s tag
@@ -324,14 +326,4 @@ has_run s laws (Rise r c) fits is = absurd cc
 has_run s laws (Fall r c) fits is = absurd cc
 has_run s laws (Frame r slot kind) fits is = absurd cc
 has_run s laws (Lead r) fits is = absurd (no_run (r % 2) (omega arith) is)
-  where
-    no_run : (n : ℕ) → n < 2 → run_layer (14 + n) ≡ true → ⊥
-    no_run zero lt e = cc
-    no_run (suc zero) lt e = cc
-    no_run (suc (suc n)) lt e = omega arith
 has_run s laws (Bar r) fits is = absurd (no_run (r % 2) (omega arith) is)
-  where
-    no_run : (n : ℕ) → n < 2 → run_layer (14 + n) ≡ true → ⊥
-    no_run zero lt e = cc
-    no_run (suc zero) lt e = cc
-    no_run (suc (suc n)) lt e = omega arith

@@ -11,7 +11,8 @@ use Rattle.layout_make.specs.Sheet.{ToVia, area, layer_of, rect_of, place_of, sh
 use Rattle.layout_make.specs.Nets.{Into, net_of}
 use Rattle.layout_make.proofs.SheetKeeps.{IsWire, Fits, Far, IsRouted}
 use Rattle.layout_make.proofs.Posts.{Side, posts_far}
-use Rattle.layout_make.proofs.Stands.{post_layer, run_layer, post_net, HasPost, has_post, HasRun, has_run, runs_far}
+use Rattle.layout_make.proofs.Stands.{post_layer, run_layer, no_post, no_run, post_net, HasPost, has_post, HasRun, has_run}
+use Rattle.layout_make.proofs.Stands.{runs_far}
 
 pub far_apart : (n : ℕ) (a b : Area) → 1 ≤ n → Far n a b → share_point (rect_of a) (rect_of b) ≡ true → ⊥
 far_apart n a b some (inl h) e = grind (arith, nat_tests)
@@ -32,11 +33,6 @@ conducting a b e = by_layers (is_lower a) (is_lower b) (eqb a 12) (eqb b 12) (eq
 -- only leads reach left of the origin
 pub placed_post : (s : Sheet) (tag : Tag) → post_layer (layer_of tag) ≡ true → place_of s tag ≡ rect_of (area s tag)
 placed_post s (Lead r) e = absurd (no_post (r % 2) (omega arith) e)
-  where
-    no_post : (n : ℕ) → n < 2 → post_layer (14 + n) ≡ true → ⊥
-    no_post zero lt e = cc
-    no_post (suc zero) lt e = cc
-    no_post (suc (suc n)) lt e = omega arith
 placed_post s (Frame r slot kind) e = refl
 placed_post s (InPin r c i) e = refl
 placed_post s (OutPin r c i) e = refl
@@ -49,11 +45,6 @@ placed_post s (ToVia r c) e = refl
 
 pub placed_run : (s : Sheet) (tag : Tag) → run_layer (layer_of tag) ≡ true → place_of s tag ≡ rect_of (area s tag)
 placed_run s (Lead r) e = absurd (no_run (r % 2) (omega arith) e)
-  where
-    no_run : (n : ℕ) → n < 2 → run_layer (14 + n) ≡ true → ⊥
-    no_run zero lt e = cc
-    no_run (suc zero) lt e = cc
-    no_run (suc (suc n)) lt e = omega arith
 placed_run s (Frame r slot kind) e = refl
 placed_run s (InPin r c i) e = refl
 placed_run s (OutPin r c i) e = refl

@@ -146,8 +146,8 @@ drawn_drives p l is laws same r n i m at =
           (net ∙ sym (wired_net p l r (out_column l w.spot w.source.output) w.wire));
     }
 
-pub second_law : (p : PlacedView) (l : LibraryView) → IsReady p l → IsLawful l → WiresJoinPins p l
-second_law p l is laws =
+pub wires_joined : (p : PlacedView) (l : LibraryView) → IsReady p l → IsLawful l → WiresJoinPins p l
+wires_joined p l is laws =
     let same = flat_is_tags p l laws in
     let whole = drawn p l is laws in
     record {

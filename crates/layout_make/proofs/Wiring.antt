@@ -36,7 +36,7 @@ use Rattle.layout_make.proofs.Joins.{to_map}
 use Rattle.layout_make.proofs.Member.{In, in_append, in_map, map_in, in_left, in_upto, upto_in}
 use Rattle.layout_make.proofs.Whole.{drawn, has_cells, input_from}
 use Rattle.layout_make.proofs.Labelled.{input_marked, output_marked}
-use Rattle.layout_make.proofs.WiresJoined.{second_law, in_tag_at}
+use Rattle.layout_make.proofs.WiresJoined.{wires_joined, in_tag_at}
 use Rattle.layout_make.proofs.LineAll.{shape_at, at_edge, edges_of, drawn_rows}
 use Rattle.layout_make.proofs.Pins.{input_of, output_of}
 use Rattle.layout_make.proofs.KeptCells.{lies_of}
@@ -163,7 +163,7 @@ pin_layers n e = elim (or_cases (n == 21) (n == 22) e) [ inl h ↦ inl (eqb-true
 no_rival : (p : PlacedView) (l : LibraryView) → IsReady p l → IsLawful l → (a b : ℕ) → HasRival (flat_shapes p l) a b
     → ⊥
 no_rival p l is laws a b h =
-    let law = second_law p l is laws in
+    let law = wires_joined p l is laws in
     elim (pin_layers h.pin.shape.layer h.pin.passes_so) [
       | inl e ↦ h.apart (law.one_input a b h.pin.shape h.other h.pin.shape_is h.other_is e (sym h.one_layer ∙ e)
           h.joined)
@@ -181,7 +181,7 @@ driven p l is laws ports a h = go n.row n.in_at
     go zero at = both_ways (is_labelled (flat p l) h.input.pin) h.input.labelled_so
         (row_labelled p l is laws ports n.cell n.pin a h.input.pin at h.input.pin_is)
     go (suc r) at =
-        let d = (second_law p l is laws).drives r n.cell n.pin a at in
+        let d = (wires_joined p l is laws).drives r n.cell n.pin a at in
         let out = shape_of (sheet p l) (OutPin r (out_column l d.out_at.spot d.source.output) d.source.output) in
         h.none d.pin
         (record {
@@ -199,7 +199,7 @@ not_driven p l is laws ports a b h =
     let n = input_number p l laws a h.input.pin h.input.pin_is h.input.of_layer in
     let row = labelled_row p l is laws ports n.row n.cell n.pin a h.input.pin n.in_at h.input.pin_is h.input.of_layer
     h.input.labelled_so in
-    (second_law p l is laws).lone n.cell n.pin a b h.source.pin
+    (wires_joined p l is laws).lone n.cell n.pin a b h.source.pin
     (subst (λ (r : ℕ). InAt p l r n.cell n.pin a) row n.in_at) h.source.pin_is h.source.of_layer
     (Joined-back (flat_shapes p l) a b h.source.joined)
 
@@ -266,7 +266,7 @@ wires_up p l is laws ports a b h = go n.row n.in_at
     go zero at = both_ways (is_labelled (flat p l) h.input.pin) h.input.labelled_so
         (row_labelled p l is laws ports n.cell n.pin a h.input.pin at h.input.pin_is)
     go (suc r) at =
-        let d = (second_law p l is laws).drives r n.cell n.pin a at in
+        let d = (wires_joined p l is laws).drives r n.cell n.pin a at in
         let same : b ≡ d.pin = d.only b h.source.pin h.source.pin_is h.source.of_layer
         (Joined-back (flat_shapes p l) a b h.source.joined) in
         let out = subst (λ (m : ℕ). OutAt p l r d.source.cell d.source.output m) (sym same) d.out_at in

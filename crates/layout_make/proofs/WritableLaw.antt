@@ -1,7 +1,7 @@
 -- A drawing can be written: its names are distinct, what is referenced holds no reference, and every structure but the
 -- top is
 -- referenced.
-use Rattle.std.proofs.Common.{◌≡◌, ◌≢◌, ℕ, zero, suc, ◌<◌, ◌==◌, ◌||◌, refl, sym, ap, subst, ◌∙◌, arith, inl, inr, List}
+use Rattle.std.proofs.Common.{◌≡◌, ◌≢◌, ℕ, zero, suc, ◌+◌, ◌<◌, ◌==◌, ◌||◌, refl, sym, ap, subst, ◌∙◌, arith, inl, inr, List}
 use Rattle.std.proofs.Common.{[], ◌∷◌, ◌++◌, length, length-append, map, Bool, true, false, Some}
 use Rattle.std.specs.Prelude.{slice_get, slice_index_or, cond, AllPairs, codes, ℤ}
 use Rattle.std.specs.List.{flat_map, filter, list_any}
@@ -42,56 +42,26 @@ use Rattle.layout_make.proofs.WritableEach.{all_of, each_written}
 
 -- names
 
+-- a number of a name, by its first sign and its fourth, and the kind that it tells
+abbrev name_number : List ℕ → ℕ
+name_number name = slice_index_or name 0 0 + slice_index_or name 3 0
+
+abbrev kind_at : ℕ → CellKind
+kind_at n =
+    cond (n == 66) Buffer (cond (n == 73) Inverter (cond (n == 169) Zero (cond (n == 79) One
+    (cond (n == 133) Split2 (cond (n == 134) Split3 Majority)))))
+
+kind_back : (k : CellKind) → kind_at (name_number (Draw.kind_name k)) ≡ k
+kind_back Buffer = refl
+kind_back Inverter = refl
+kind_back Zero = refl
+kind_back One = refl
+kind_back Split2 = refl
+kind_back Split3 = refl
+kind_back Majority = refl
+
 name_told : (a b : CellKind) → Draw.kind_name a ≡ Draw.kind_name b → a ≡ b
-name_told Buffer Buffer e = refl
-name_told Buffer Inverter e = absurd (let k : 66 ≡ 73 = ap (λ (t : List ℕ). slice_index_or t 0 0) e in omega arith)
-name_told Buffer Zero e = absurd (let k : 66 ≡ 90 = ap (λ (t : List ℕ). slice_index_or t 0 0) e in omega arith)
-name_told Buffer One e = absurd (let k : 66 ≡ 79 = ap (λ (t : List ℕ). slice_index_or t 0 0) e in omega arith)
-name_told Buffer Split2 e = absurd (let k : 66 ≡ 83 = ap (λ (t : List ℕ). slice_index_or t 0 0) e in omega arith)
-name_told Buffer Split3 e = absurd (let k : 66 ≡ 83 = ap (λ (t : List ℕ). slice_index_or t 0 0) e in omega arith)
-name_told Buffer Majority e = absurd (let k : 66 ≡ 77 = ap (λ (t : List ℕ). slice_index_or t 0 0) e in omega arith)
-name_told Inverter Buffer e = absurd (let k : 73 ≡ 66 = ap (λ (t : List ℕ). slice_index_or t 0 0) e in omega arith)
-name_told Inverter Inverter e = refl
-name_told Inverter Zero e = absurd (let k : 73 ≡ 90 = ap (λ (t : List ℕ). slice_index_or t 0 0) e in omega arith)
-name_told Inverter One e = absurd (let k : 73 ≡ 79 = ap (λ (t : List ℕ). slice_index_or t 0 0) e in omega arith)
-name_told Inverter Split2 e = absurd (let k : 73 ≡ 83 = ap (λ (t : List ℕ). slice_index_or t 0 0) e in omega arith)
-name_told Inverter Split3 e = absurd (let k : 73 ≡ 83 = ap (λ (t : List ℕ). slice_index_or t 0 0) e in omega arith)
-name_told Inverter Majority e = absurd (let k : 73 ≡ 77 = ap (λ (t : List ℕ). slice_index_or t 0 0) e in omega arith)
-name_told Zero Buffer e = absurd (let k : 90 ≡ 66 = ap (λ (t : List ℕ). slice_index_or t 0 0) e in omega arith)
-name_told Zero Inverter e = absurd (let k : 90 ≡ 73 = ap (λ (t : List ℕ). slice_index_or t 0 0) e in omega arith)
-name_told Zero Zero e = refl
-name_told Zero One e = absurd (let k : 90 ≡ 79 = ap (λ (t : List ℕ). slice_index_or t 0 0) e in omega arith)
-name_told Zero Split2 e = absurd (let k : 90 ≡ 83 = ap (λ (t : List ℕ). slice_index_or t 0 0) e in omega arith)
-name_told Zero Split3 e = absurd (let k : 90 ≡ 83 = ap (λ (t : List ℕ). slice_index_or t 0 0) e in omega arith)
-name_told Zero Majority e = absurd (let k : 90 ≡ 77 = ap (λ (t : List ℕ). slice_index_or t 0 0) e in omega arith)
-name_told One Buffer e = absurd (let k : 79 ≡ 66 = ap (λ (t : List ℕ). slice_index_or t 0 0) e in omega arith)
-name_told One Inverter e = absurd (let k : 79 ≡ 73 = ap (λ (t : List ℕ). slice_index_or t 0 0) e in omega arith)
-name_told One Zero e = absurd (let k : 79 ≡ 90 = ap (λ (t : List ℕ). slice_index_or t 0 0) e in omega arith)
-name_told One One e = refl
-name_told One Split2 e = absurd (let k : 79 ≡ 83 = ap (λ (t : List ℕ). slice_index_or t 0 0) e in omega arith)
-name_told One Split3 e = absurd (let k : 79 ≡ 83 = ap (λ (t : List ℕ). slice_index_or t 0 0) e in omega arith)
-name_told One Majority e = absurd (let k : 79 ≡ 77 = ap (λ (t : List ℕ). slice_index_or t 0 0) e in omega arith)
-name_told Split2 Buffer e = absurd (let k : 83 ≡ 66 = ap (λ (t : List ℕ). slice_index_or t 0 0) e in omega arith)
-name_told Split2 Inverter e = absurd (let k : 83 ≡ 73 = ap (λ (t : List ℕ). slice_index_or t 0 0) e in omega arith)
-name_told Split2 Zero e = absurd (let k : 83 ≡ 90 = ap (λ (t : List ℕ). slice_index_or t 0 0) e in omega arith)
-name_told Split2 One e = absurd (let k : 83 ≡ 79 = ap (λ (t : List ℕ). slice_index_or t 0 0) e in omega arith)
-name_told Split2 Split2 e = refl
-name_told Split2 Split3 e = absurd (let k : 50 ≡ 51 = ap (λ (t : List ℕ). slice_index_or t 3 0) e in omega arith)
-name_told Split2 Majority e = absurd (let k : 83 ≡ 77 = ap (λ (t : List ℕ). slice_index_or t 0 0) e in omega arith)
-name_told Split3 Buffer e = absurd (let k : 83 ≡ 66 = ap (λ (t : List ℕ). slice_index_or t 0 0) e in omega arith)
-name_told Split3 Inverter e = absurd (let k : 83 ≡ 73 = ap (λ (t : List ℕ). slice_index_or t 0 0) e in omega arith)
-name_told Split3 Zero e = absurd (let k : 83 ≡ 90 = ap (λ (t : List ℕ). slice_index_or t 0 0) e in omega arith)
-name_told Split3 One e = absurd (let k : 83 ≡ 79 = ap (λ (t : List ℕ). slice_index_or t 0 0) e in omega arith)
-name_told Split3 Split2 e = absurd (let k : 51 ≡ 50 = ap (λ (t : List ℕ). slice_index_or t 3 0) e in omega arith)
-name_told Split3 Split3 e = refl
-name_told Split3 Majority e = absurd (let k : 83 ≡ 77 = ap (λ (t : List ℕ). slice_index_or t 0 0) e in omega arith)
-name_told Majority Buffer e = absurd (let k : 77 ≡ 66 = ap (λ (t : List ℕ). slice_index_or t 0 0) e in omega arith)
-name_told Majority Inverter e = absurd (let k : 77 ≡ 73 = ap (λ (t : List ℕ). slice_index_or t 0 0) e in omega arith)
-name_told Majority Zero e = absurd (let k : 77 ≡ 90 = ap (λ (t : List ℕ). slice_index_or t 0 0) e in omega arith)
-name_told Majority One e = absurd (let k : 77 ≡ 79 = ap (λ (t : List ℕ). slice_index_or t 0 0) e in omega arith)
-name_told Majority Split2 e = absurd (let k : 77 ≡ 83 = ap (λ (t : List ℕ). slice_index_or t 0 0) e in omega arith)
-name_told Majority Split3 e = absurd (let k : 77 ≡ 83 = ap (λ (t : List ℕ). slice_index_or t 0 0) e in omega arith)
-name_told Majority Majority e = refl
+name_told a b e = sym (kind_back a) ∙ ap (λ (t : List ℕ). kind_at (name_number t)) e ∙ kind_back b
 
 not_top : (a : CellKind) → Draw.kind_name a ≡ codes "TOP" → ⊥
 not_top Buffer e = absurd (let k : 66 ≡ 84 = ap (λ (t : List ℕ). slice_index_or t 0 0) e in omega arith)

@@ -8,8 +8,8 @@ use Rattle.layout_make.specs.Laws.{flat_shapes, FrameAt, InAt, OutAt}
 use Rattle.layout_make.specs.Spots.{Spot, IsInput, IsOutput}
 use Rattle.rowed.specs.PlacedNets.{PlacedView}
 
--- each pin of a cell has one shape, which lies in the cell's frame under the pin's number, and each shape of a pin layer
--- is that of one of them
+-- each pin of a cell has one shape, which lies in the cell's frame and has the pin's number, and each shape on a layer
+-- of pins is that of one of them
 pub record PinsAreDrawn (p : PlacedView) (l : LibraryView) : Type 0 where
   pub input : (r n i : ℕ) (x : Spot) → IsInput p r n i x → (m : ℕ) × InAt p l r n i m
   pub input_once : (r n i a b : ℕ) → InAt p l r n i a → InAt p l r n i b → a ≡ b

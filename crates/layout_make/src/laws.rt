@@ -21,13 +21,13 @@ ghost use Rattle.layout_make.specs.Chips.{least_library, least_flat, wide_librar
 
 use channel_route::tracks_are_fewest;
 
-/// A drawing keeps all rules. Its frames, lines and labels are those of the cells, rows and ports, and its
+/// A drawing keeps all rules. Its frames, pins, lines and labels are those of the cells, rows and ports, and its
 /// wires join each input pin with its source, and nothing else. Its layout is writable, and the top has as many
 /// elements as are counted.
 pub fn drawing_laws()
     ensures rules { (p : PlacedView) (l : LibraryView) → MayDraw p l → KeepsRules (flat_of (draw p l)) (limits_of l) }
-    ensures first { (p : PlacedView) (l : LibraryView) → MayDraw p l → CellsAreDrawn p l }
-    ensures second { (p : PlacedView) (l : LibraryView) → MayDraw p l → WiresJoinPins p l }
+    ensures cells { (p : PlacedView) (l : LibraryView) → MayDraw p l → CellsAreDrawn p l }
+    ensures joined { (p : PlacedView) (l : LibraryView) → MayDraw p l → WiresJoinPins p l }
     ensures writable { (p : PlacedView) (l : LibraryView) → MayDraw p l → IsWritable (draw p l) }
     ensures size { (p : PlacedView) (l : LibraryView) → IsPlaced p → length (top_elements p l) ≡ element_number p }
     ensures wires { (p : PlacedView) (l : LibraryView) → MayDraw p l → WireLaw p l }

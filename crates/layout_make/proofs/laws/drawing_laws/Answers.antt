@@ -1,4 +1,4 @@
-use Rattle.layout_make.proofs.AllRules.{keeps_rules, keeps_first, keeps_second}
+use Rattle.layout_make.proofs.AllRules.{keeps_rules, keeps_cells, keeps_joined}
 use Rattle.layout_make.proofs.Ready.{lawful, may_ready}
 use Rattle.layout_make.proofs.SizeLaw.{size_law}
 use Rattle.layout_make.proofs.WritableLaw.{writable}
@@ -8,11 +8,11 @@ use Rattle.layout_make.proofs.laws.drawing_laws.Goals as goal
 pub returns-clause-rules : goal.returns-clause-rules
 returns-clause-rules c p l may = keeps_rules p l c.tracks_are_fewest.ensures.plan may
 
-pub returns-clause-first : goal.returns-clause-first
-returns-clause-first c p l may = keeps_first p l c.tracks_are_fewest.ensures.plan may
+pub returns-clause-cells : goal.returns-clause-cells
+returns-clause-cells c p l may = keeps_cells p l c.tracks_are_fewest.ensures.plan may
 
-pub returns-clause-second : goal.returns-clause-second
-returns-clause-second c p l may = keeps_second p l c.tracks_are_fewest.ensures.plan may
+pub returns-clause-joined : goal.returns-clause-joined
+returns-clause-joined c p l may = keeps_joined p l c.tracks_are_fewest.ensures.plan may
 
 pub returns-clause-wires : goal.returns-clause-wires
 returns-clause-wires c p l may = wire_law p l (may_ready p l c.tracks_are_fewest.ensures.plan may)
