@@ -16,6 +16,7 @@ import pya
 
 NAMES = 430  # the width of the names of layers, in pixels
 ROWS = 150  # the width of the names of rows, in pixels
+LABEL = 20  # pixels of a label at the upper edge, which KLayout writes above its point
 PHASES = ("#ffc4c4", "#ffe9a8", "#c4e2ff", "#c4ecc4")  # the colours of phases 0 to 3
 SHADE = """ <properties>
   <frame-color>{0}</frame-color>
@@ -178,7 +179,7 @@ def main():
         raise Stop(f"{gds} shows no layer of klayout.lyp" + (" in the box" if part is not None else ""))
     if "names" in WORDS:
         whole += add_names(view, area, pixel)
-    whole = whole.enlarged(whole.width() * 0.02, whole.height() * 0.02)
+    whole = whole.enlarged(whole.width() * 0.02, max(whole.height() * 0.02, LABEL * pixel))
     view.zoom_box(whole)
     height = max(1, round(width * whole.height() / whole.width()))
     if height > 20000:
