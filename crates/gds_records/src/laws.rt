@@ -7,7 +7,7 @@ ghost use Rattle.poly_cut.specs.FlatForm.{wide_flat};
 ghost use Rattle.gds_records.specs.Stream.{IsStream, IsWideStream, wide_layout_of};
 ghost use Rattle.gds_records.specs.Records.{Record, kinds};
 ghost use Rattle.gds_records.specs.WideDrawing.{AreFit};
-ghost use Rattle.gds_records.specs.Faults.{StreamFault, WideFault};
+ghost use Rattle.gds_records.specs.Faults.{StreamFault, IsStreamOrFaulty, WideFault};
 ghost use Rattle.gds_records.specs.Writing.{bytes_of};
 ghost use Rattle.gds_records.specs.Scan.{first_fault, layout_in, wide_layout_in, IsBytes, Whole};
 ghost use Rattle.poly_cut.specs.declared.layout.WideLayout.{WideLayout};
@@ -72,6 +72,13 @@ pub fn written_is_read()
 /// Bytes are a stream of one layout at most.
 pub fn one_layout()
     ensures { (bytes : List ℕ) (layout other : Layout) → IsStream bytes layout → IsStream bytes other → layout ≡ other }
+{}
+
+/// Bytes are a stream or have a fault, never both, and they have one first fault.
+pub fn one_of_both()
+    ensures some { (bytes : List ℕ) → IsBytes bytes → IsStreamOrFaulty bytes }
+    ensures one { (bytes : List ℕ) (layout : Layout) (offset : ℕ) (kind : StreamKind) → IsStream bytes layout → StreamFault bytes offset kind → ⊥ }
+    ensures fault { (bytes : List ℕ) (offset other : ℕ) (kind second : StreamKind) → StreamFault bytes offset kind → StreamFault bytes other second → (offset ≡ other) × (kind ≡ second) }
 {}
 
 /// The first chip, a buffer in each of two rows: the bytes of its layout, of which they are a stream.
