@@ -5,7 +5,8 @@
 # input and without rows, of no input and with a row, and of one input; and then as designs of as many models, of which the
 # first calls none, or all. Each is read whole, and then the library, which is empty, is refused. Then with library A, so
 # that gates are made and the cells of the plan are counted, which are too many, or else the netlist has too many
-# elements: the same rows, rows of all eight inputs, rows of 1,000 inputs, and the chain. Prints the seconds of
+# elements: the same rows, rows of all eight inputs, rows of 1,000 inputs, the same above a chain of 300 gates, and the
+# chain. Prints the seconds of
 # processor time, their ratios, twice the text against once, and the memory at most in times of the text, which is counted
 # too. Needs GNU time; AQFP is the program, by default the one that ./aqfp runs.
 set -u
@@ -93,6 +94,18 @@ eight() { cover "$1" 8; }
 
 thousand() { cover "$1" 1000; }
 
+# The same rows of 1,000 signals that stand above a chain of 300 gates: so each gate's level takes more than a byte.
+deep() {
+    awk 'BEGIN { printf ".inputs a"; for (i = 0; i < 1000; i++) printf " i%d", i; print "\n.outputs y"; last = "a"
+        for (i = 0; i < 300; i++) { printf ".names %s i%d z%d\n11 1\n", last, i, i; last = "z" i }
+        for (i = 0; i < 1000; i++) printf ".names %s i%d j%d\n10 1\n01 1\n", last, i, i
+        printf ".names"; for (i = 0; i < 1000; i++) printf " j%d", i; print " y" }'
+    awk -v bytes="$1" 'BEGIN { for (left = bytes - 50000; left > 0; left -= 1003) {
+            row = ""
+            for (i = 0; i < 1000; i++) row = row (rand() < 0.5)
+            print row " 1" } }'
+}
+
 uncalled() {
     printf '.model top\n.inputs a\n.outputs a'
     names "$1" '\n.model m' '\n.inputs a\n.outputs y\n.names a y\n1 1'
@@ -125,6 +138,6 @@ measure() {
 for shape in rows ones buffers chain inputs short definitions constants feeds uncalled called; do
     measure $shape "$work/none.toml" ""
 done
-for shape in rows eight thousand chain; do
+for shape in rows eight thousand deep chain; do
     measure $shape "$here/libraries/a.toml" ", with library A"
 done
