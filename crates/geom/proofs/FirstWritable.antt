@@ -1,11 +1,13 @@
 -- The first chip can be written.
-use Rattle.std.proofs.Common.{◌≡◌, ◌≢◌, ℕ, zero, suc, ◌<◌, ◌^◌, List, [], ◌∷◌, length, Bool, true, false, lit<, lit≤, refl, arith, T, ltb, leb, eqb, ◌||◌, All, AllPairs, int_lt}
+use Rattle.std.proofs.Common.{◌≡◌, ◌≢◌, ℕ, zero, suc, ◌<◌, ◌^◌, List, [], ◌∷◌, length, Bool, true, false, lit<, lit≤}
+use Rattle.std.proofs.Common.{refl, arith, T, ltb, leb, eqb, ◌||◌, All, AllPairs, int_lt}
 use Rattle.std.specs.List.{AllByRecursion}
 use Rattle.std.specs.Int.Signed.{mag}
 use Rattle.std.proofs.Math.Facts.{sfits_lit}
 use Rattle.std.proofs.lemmas.Bool.Decides.{nat_tests}
 use Rattle.geom.specs.FlatForm.{elements_at}
-use Rattle.geom.specs.Writable.{IsWritableText, IsWritableShape, IsWritableElement, IsWritableStructure, IsWritable, is_referenced, holds_reference}
+use Rattle.geom.specs.Writable.{IsWritableText, IsWritableShape, IsWritableElement, IsWritableStructure, IsWritable}
+use Rattle.geom.specs.Writable.{is_referenced, holds_reference}
 use Rattle.geom.specs.declared.shapes.Shape.{Shape}
 use Rattle.geom.specs.FirstChip.{first_layout, first_buffer, first_top}
 
@@ -14,12 +16,15 @@ all_of P [] all k d h = absurd (omega arith)
 all_of P (x ∷ xs) all zero d h = all.0
 all_of P (x ∷ xs) all (suc k) d h = all_of P xs all.1 k d (omega arith)
 
-text_of : (t : List ℕ) → T (ltb 0 (length t)) → T (leb (length t) 512) → AllByRecursion (λ b. 0 < b) t → IsWritableText t
+text_of : (t : List ℕ) → T (ltb 0 (length t)) → T (leb (length t) 512)
+    → AllByRecursion (λ b. 0 < b) t → IsWritableText t
 text_of t p q all = record { some = lit< p; short = lit≤ q; without_zeros = all_of (λ b. 0 < b) t all }
 
 -- a shape, by tests that compute
-a_shape : (s : Shape) → T (ltb s.layer (2 ^ 16)) → T (ltb s.datatype (2 ^ 16)) → T (int_lt s.rect.x0 s.rect.x1) → T (int_lt s.rect.y0 s.rect.y1)
-    → T (ltb (mag s.rect.x0) (2 ^ 31)) → T (ltb (mag s.rect.y0) (2 ^ 31)) → T (ltb (mag s.rect.x1) (2 ^ 31)) → T (ltb (mag s.rect.y1) (2 ^ 31)) → IsWritableShape s
+a_shape : (s : Shape) → T (ltb s.layer (2 ^ 16)) → T (ltb s.datatype (2 ^ 16)) → T (int_lt s.rect.x0 s.rect.x1)
+    → T (int_lt s.rect.y0 s.rect.y1)
+    → T (ltb (mag s.rect.x0) (2 ^ 31)) → T (ltb (mag s.rect.y0) (2 ^ 31)) → T (ltb (mag s.rect.x1) (2 ^ 31))
+    → T (ltb (mag s.rect.y1) (2 ^ 31)) → IsWritableShape s
 a_shape s a b c d e f g h = record {
   layer = lit< a;
   datatype = lit< b;
@@ -34,7 +39,8 @@ buffer_is : IsWritableStructure 2 first_buffer
 unfolding first_buffer
 buffer_is = record {
   name = text_of _ tt tt (lit< tt, (lit< tt, (lit< tt, tt)));
-  elements = all_of (IsWritableElement 2) first_buffer.elements (a_shape _ tt tt tt tt tt tt tt tt, (a_shape _ tt tt tt tt tt tt tt tt, (a_shape _ tt tt tt tt tt tt tt tt, tt)));
+  elements = all_of (IsWritableElement 2) first_buffer.elements
+      (a_shape _ tt tt tt tt tt tt tt tt, (a_shape _ tt tt tt tt tt tt tt tt, (a_shape _ tt tt tt tt tt tt tt tt, tt)));
 }
 
 top_is : IsWritableStructure 2 first_top
@@ -64,9 +70,21 @@ top_is = record {
                       (
                         a_shape _ tt tt tt tt tt tt tt tt,
                         (
-                          record { layer = lit< tt; x = sfits_lit tt; y = sfits_lit tt; written = text_of _ tt tt (lit< tt, (lit< tt, tt)) },
+                          record {
+                            layer = lit< tt;
+                            x = sfits_lit tt;
+                            y = sfits_lit tt;
+                            written = text_of _ tt tt
+                                (lit< tt, (lit< tt, tt));
+                          },
                           (
-                            record { layer = lit< tt; x = sfits_lit tt; y = sfits_lit tt; written = text_of _ tt tt (lit< tt, (lit< tt, tt)) },
+                            record {
+                              layer = lit< tt;
+                              x = sfits_lit tt;
+                              y = sfits_lit tt;
+                              written = text_of _ tt tt
+                                  (lit< tt, (lit< tt, tt));
+                            },
                             tt,
                           ),
                         ),
@@ -102,7 +120,8 @@ some_true : (t : Bool) → ((t || (t || false)) || false) ≡ true → t ≡ tru
 some_true true e = refl
 some_true false e = absurd cc
 
-holds_none : (n : ℕ) → is_referenced n (first_buffer ∷ first_top ∷ []) ≡ true → holds_reference (elements_at (first_buffer ∷ first_top ∷ []) n) ≡ false
+holds_none : (n : ℕ) → is_referenced n (first_buffer ∷ first_top ∷ []) ≡ true
+    → holds_reference (elements_at (first_buffer ∷ first_top ∷ []) n) ≡ false
 unfolding first_buffer first_top
 holds_none zero e = refl
 holds_none (suc n) e = absurd (let f = some_true (eqb 0 (suc n)) e in let g = not_zero n in cc)

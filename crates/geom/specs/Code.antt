@@ -1,6 +1,7 @@
--- Words of the index alone: its grids, its entries, and where it looks.
+-- Words of the index alone: its grids, its entries and spots, and where it looks.
 pub mod Grids
 pub mod Filed
+pub mod Spots
 pub mod Windows
 pub mod Bounds
 pub mod Zones

@@ -1,8 +1,8 @@
--- Rectangles that hold those of many entries, by which a walk passes over all of them.
+-- Rectangles that hold many others, by which a walk passes over all of them.
 use Rattle.std.specs.Prelude.{◌≡◌, ℕ, ◌*◌, ◌/◌, ◌<◌, ◌≤◌, ◌≤ℤ◌, List, slice_get, Some}
 use Rattle.geom.specs.Rectangle.{Rectangle}
 use Rattle.geom.specs.Near.{IsClose}
-use Rattle.geom.specs.declared.index.entries.Entry.{Entry}
+use Rattle.geom.specs.declared.index.spots.Spot.{Spot}
 use Rattle.geom.specs.declared.index.blocks.Block.{Block}
 
 -- the inner rectangle lies in the outer one, edges counted
@@ -12,15 +12,15 @@ pub record Holds (outer inner : Rectangle) : Type 0 where
   pub right : inner.x1 ≤ℤ outer.x1
   pub top : inner.y1 ≤ℤ outer.y1
 
--- the rectangles of the entries from one place up to another lie in this one
-abbrev pub HoldsEntries : List Rectangle → List Entry → ℕ → ℕ → Rectangle → Type 0
-HoldsEntries rects entries from past bounds = (p : ℕ) (e : Entry) (r : Rectangle) → from ≤ p → p < past
-    → slice_get entries p ≡ Some e → slice_get rects e.number ≡ Some r → Holds bounds r
+-- the rectangles from one place up to another lie in this one
+abbrev pub HoldsSpots : List Spot → ℕ → ℕ → Rectangle → Type 0
+HoldsSpots spots from past bounds = (p : ℕ) (s : Spot) → from ≤ p → p < past → slice_get spots p ≡ Some s
+    → Holds bounds s.rect
 
--- each block holds the entries that follow its place
-abbrev pub AreBlocks : List Rectangle → List Entry → List Block → Type 0
-AreBlocks rects entries blocks = (b : ℕ) (block : Block) → slice_get blocks b ≡ Some block
-    → HoldsEntries rects entries (b * 8) block.past block.bounds
+-- each block holds what follows its place
+abbrev pub AreBlocks : List Spot → List Block → Type 0
+AreBlocks spots blocks = (b : ℕ) (block : Block) → slice_get blocks b ≡ Some block
+    → HoldsSpots spots (b * 8) block.past block.bounds
 
 -- the block that begins at this place is far away, and holds what lies before the other one
 pub record IsPassed (blocks : List Block) (place past : ℕ) (rect : Rectangle) (margin : ℕ) : Type 0 where

@@ -3,6 +3,7 @@ use Rattle.std.specs.Prelude.{ℕ, ◌<◌, ◌≤◌, ◌-ℤ◌}
 use Rattle.geom.specs.Rectangle.{Rectangle, positive_part, width, height}
 use Rattle.geom.specs.Near.{IsClose}
 use Rattle.geom.specs.Code.Grids.{column_at, row_at, Reaches}
+use Rattle.geom.specs.Code.Zones.{AreWords}
 use Rattle.geom.specs.declared.index.grid.Grid.{Grid}
 use Rattle.geom.specs.declared.index.grid.Window.{Window}
 
@@ -18,4 +19,4 @@ pub record IsWindow (g : Grid) (rect : Rectangle) (margin : ℕ) (w : Window) : 
   pub left_within : w.left < g.columns
   pub right_within : w.right < g.columns
   pub high_within : w.high < g.rows
-  pub holds : (r : Rectangle) → IsClose rect r margin → Reaches g (width r) (height r) → StandsIn g w r
+  pub holds : (r : Rectangle) → AreWords r → IsClose rect r margin → Reaches g (width r) (height r) → StandsIn g w r

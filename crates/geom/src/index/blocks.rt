@@ -1,9 +1,8 @@
-// Blocks: where many entries stand in one cell, those that lie together are passed over at once.
-ghost use Rattle.std.specs.Prelude.{◌≡◌, ◌<◌, ◌≤◌, ◌<ℤ◌, ◌≤ℤ◌, ◌^◌, length, IfOk};
-ghost use Rattle.geom.specs.Code.Filed.{NumbersBelow};
-ghost use Rattle.geom.specs.Code.Bounds.{Holds, HoldsEntries, AreBlocks};
+// Blocks: where many rectangles stand in one cell, those that lie together are passed over at once.
+ghost use Rattle.std.specs.Prelude.{◌≡◌, ◌+◌, ◌*◌, ◌<◌, ◌≤◌, ◌<ℤ◌, ◌≤ℤ◌, ◌^◌, length, IfOk};
+ghost use Rattle.geom.specs.Code.Bounds.{Holds, HoldsSpots, AreBlocks};
 
-use crate::index::entries::Entry;
+use crate::index::spots::Spot;
 use crate::rectangle::Rect;
 use aq_base::Memory;
 use std::alloc::Global;
@@ -11,7 +10,7 @@ use std::alloc::Global;
 /// A block begins at each place that is a multiple of this.
 pub const BLOCK_SIZE: usize = 8;
 
-/// Entries from a place on, by the place past the last, and a rectangle that holds theirs.
+/// What stands from a place on, by the place past the last, and a rectangle that holds it.
 #[derive(Clone, Copy)]
 pub struct Block {
     pub past: usize,
@@ -50,21 +49,20 @@ fn around(a: &Rect, b: &Rect) -> Rect
     Rect { x0, y0, x1, y1 }
 }
 
-/// The least rectangle that holds those of the entries between two places.
-fn bounds(rects: &[Rect], entries: &[Entry], from: usize, past: usize) -> Rect
+/// The least rectangle that holds those between two places.
+fn bounds(spots: &[Spot], from: usize, past: usize) -> Rect
     requires some { from < past }
-    requires within { past ≤ length entries.now }
-    requires numbers { NumbersBelow (length rects.now) entries.now }
-    ensures { HoldsEntries rects.now entries.now from past result }
+    requires within { past ≤ length spots.now }
+    ensures { HoldsSpots spots.now from past result }
 {
-    let mut bounds = rects[entries[from].number as usize];
+    let mut bounds = spots[from].rect;
     for place in from + 1..past {
-        bounds = around(&bounds, &rects[entries[place].number as usize]);
+        bounds = around(&bounds, &spots[place].rect);
     }
     bounds
 }
 
-/// The place past a block that begins here: it has as many entries as the greatest power of 2 that divides the place.
+/// The place past a block that begins here: it has as many places as the greatest power of 2 that divides the place.
 fn past_block(from: usize, count: usize) -> usize
     requires { from < count }
     ensures some { from < result }
@@ -74,22 +72,56 @@ fn past_block(from: usize, count: usize) -> usize
     from.saturating_add(size).max(from + 1).min(count)
 }
 
-/// The blocks of the entries, in their order. Each ends where another ends or begins, so those in a block lie in
-/// larger and larger ones, and a walk passes over what is far away in a number of steps that grows as the logarithm.
-pub fn blocks(alloc: Global, rects: &[Rect], entries: &[Entry]) -> Result<Vec<Block>, Memory>
-    requires few { length entries.now < 2 ^ 32 }
-    requires numbers { NumbersBelow (length rects.now) entries.now }
-    ensures { IfOk result (λ blocks. AreBlocks rects.now entries.now blocks.items) }
+/// The block of this number. The blocks after it are read one after another: each begins where the one before it ends.
+fn block_at(spots: &[Spot], blocks: &[Block], number: usize) -> Block
+    requires some { number * 8 < length spots.now }
+    requires long { length spots.now ≤ length blocks.now * 8 }
+    requires blocks { AreBlocks spots.now blocks.now }
+    ensures { HoldsSpots spots.now (number * 8) result.past result.bounds }
 {
-    let mut blocks = Vec::new(alloc);
-    let mut from = 0;
-    while from < entries.len() {
-        let past = past_block(from, entries.len());
-        blocks.push(Block {
-            past,
-            bounds: bounds(rects, entries, from, past),
-        })?;
-        from += BLOCK_SIZE;
+    let from = number * BLOCK_SIZE;
+    let most = past_block(from, spots.len());
+    let mut past = from.saturating_add(BLOCK_SIZE).min(spots.len());
+    let mut bounds = bounds(spots, from, past);
+    while past < most {
+        let next = &blocks[past / BLOCK_SIZE];
+        if next.past <= past {
+            break;
+        }
+        bounds = around(&bounds, &next.bounds);
+        past = next.past;
+    }
+    Block { past, bounds }
+}
+
+/// As many blocks as the places have, of which each holds nothing.
+fn no_blocks(alloc: Global, spots: &[Spot]) -> Result<Vec<Block>, Memory>
+    ensures long { IfOk result (λ blocks. length spots.now ≤ length blocks.items * 8) }
+    ensures few { IfOk result (λ blocks. length blocks.items * 8 < length spots.now + 8) }
+    ensures blocks { IfOk result (λ blocks. AreBlocks spots.now blocks.items) }
+{
+    let bounds = Rect {
+        x0: 0,
+        y0: 0,
+        x1: 1,
+        y1: 1,
+    };
+    let blocks = vec![in alloc; Block { past: 0, bounds }; spots.len().div_ceil(BLOCK_SIZE)]?;
+    Ok(blocks)
+}
+
+/// The blocks, in their order. Each ends where another ends or begins, so those in a block lie in larger and larger
+/// ones, and a walk passes over what is far away in a number of steps that grows as the logarithm. The last one is made
+/// first, so that each rectangle is looked at once.
+pub fn blocks(alloc: Global, spots: &[Spot]) -> Result<Vec<Block>, Memory>
+    ensures { IfOk result (λ blocks. AreBlocks spots.now blocks.items) }
+{
+    let mut blocks = no_blocks(alloc, spots)?;
+    let mut number = blocks.len();
+    while number > 0 {
+        number -= 1;
+        let block = block_at(spots, blocks.as_slice(), number);
+        blocks[number] = block;
     }
     Ok(blocks)
 }

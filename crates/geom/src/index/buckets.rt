@@ -2,16 +2,17 @@
 ghost use Rattle.std.specs.Prelude.{◌≡◌, ℕ, ◌+◌, ◌<◌, ◌≤◌, ◌^◌, ◌↔◌, All, Contains, length, IfOk, IsTrue};
 ghost use Rattle.std.specs.Prelude.{slice_index};
 ghost use Rattle.std.specs.List.Sorted.{IsStrictlyIncreasing};
-ghost use Rattle.geom.specs.Code.Grids.{end_of};
+ghost use Rattle.geom.specs.Code.Grids.{AreGrids, end_of};
 ghost use Rattle.geom.specs.Rectangle.{AreProper};
-ghost use Rattle.geom.specs.Near.{rects_of, IsNear, AreNear};
+ghost use Rattle.geom.specs.Near.{rects_of, AreNear};
 ghost use Rattle.geom.specs.Code.Bounds.{AreBlocks, IsPassed};
-ghost use Rattle.geom.specs.Code.Filed.{NumbersBelow, AreStarts, ListsAmong, ListsIn, IsIndex};
+ghost use Rattle.geom.specs.Code.Spots.{unfiled, AreOrdered, IsPlaced, KeepsFilled, ListsAmong, ListsIn, ListsGrids};
+ghost use Rattle.geom.specs.Code.Spots.{IsIndex};
 
 use crate::index::blocks::{BLOCK_SIZE, Block, blocks};
 use crate::index::chains::{Arranged, file_entries};
-use crate::index::entries::Entry;
 use crate::index::grid::Grid;
+use crate::index::spots::{Spot, spots};
 use crate::index::survey::grids_for;
 use crate::index::zone::Zone;
 use crate::rectangle::Rect;
@@ -24,9 +25,9 @@ use std::marker::Model;
 /// lower left corner, in a grid of rectangles of like size. A query looks where the corners of near ones can be.
 #[derive(Drop)]
 pub struct Buckets {
-    rects: Vec<Rect>,
+    count: usize,
     grids: Vec<Grid>,
-    entries: Vec<Entry>,
+    spots: Vec<Spot>,
     starts: Vec<u32>,
     blocks: Vec<Block>,
 }
@@ -35,13 +36,21 @@ impl Model for Buckets {
     ghost use Rattle.std.specs.Prelude.{List};
     ghost use Rattle.geom.specs.Rectangle.{Rectangle};
     ghost use Rattle.geom.specs.Code.Bounds.{AreBlocks, IsPassed};
-    ghost use Rattle.geom.specs.Code.Filed.{IsIndex};
+    ghost use Rattle.geom.specs.Code.Spots.{unfiled, IsIndex};
 
     ghost Value = { List Rectangle };
 
-    ghost view = { λ b. b.rects.items };
+    ghost view = { λ b. unfiled b.count b.spots.items };
 
-    ghost invariant = { λ b. IsIndex b.rects.items b.grids.items b.entries.items b.starts.items b.blocks.items };
+    ghost invariant = { λ b.
+        IsIndex (unfiled b.count b.spots.items) b.grids.items b.spots.items b.starts.items b.blocks.items };
+}
+
+/// Spots by rising cell, and where each cell's start.
+#[derive(Drop)]
+struct Placed {
+    spots: Vec<Spot>,
+    starts: Vec<u32>,
 }
 
 /// The rectangles of the shapes, in their order.
@@ -52,20 +61,52 @@ fn list_rects(alloc: Global, shapes: &[Shape]) -> Result<Vec<Rect>, Memory>
     Ok(rects)
 }
 
-/// The index over these rectangles.
-fn file_rects(alloc: Global, rects: Vec<Rect>) -> Result<Buckets, Memory>
-    requires { length rects.items < 2 ^ 32 }
-    ensures { IfOk result (λ buckets. buckets ≡ rects.items) }
+/// The spots of the rectangles. What is needed on the way alone is let go.
+fn place_rects(alloc: Global, rects: &[Rect], grids: &[Grid]) -> Result<Placed, Memory>
+    requires few { length rects.now < 2 ^ 32 }
+    requires grids { AreGrids grids.now }
+    ensures { IfOk result (λ placed. IsPlaced rects.now grids.now placed.spots.items placed.starts.items) }
 {
-    let filed = rects.as_slice();
-    let grids = grids_for(alloc, filed)?;
-    let laid_out = grids.as_slice();
-    let Arranged { entries, starts } = file_entries(alloc, filed, laid_out)?;
-    let blocks = blocks(alloc, filed, entries.as_slice())?;
+    let Arranged { entries, starts } = file_entries(alloc, rects, grids)?;
+    let spots = spots(alloc, rects, entries.as_slice())?;
+    Ok(Placed { spots, starts })
+}
+
+/// Whether the entries of the grid's first cell begin where those of all its cells end: then nothing stands in it.
+fn is_bare(starts: &[u32], grid: &Grid) -> bool
+    requires { end_of grid.now < length starts.now }
+    ensures { IsTrue result ↔ slice_index starts.now grid.now.first ≡ slice_index starts.now (end_of grid.now) }
+{
+    starts[grid.first] == starts[grid.end()]
+}
+
+/// The grids in which something stands: a query looks at these alone.
+fn filled_grids(alloc: Global, grids: &[Grid], starts: &[u32]) -> Result<Vec<Grid>, Memory>
+    requires { All (λ g. end_of g < length starts.now) grids.now }
+    ensures { IfOk result (λ kept. KeepsFilled grids.now starts.now (length grids.now) kept.items) }
+{
+    let mut kept = Vec::new(alloc);
+    for grid in grids {
+        if !is_bare(starts, grid) {
+            kept.push(*grid)?;
+        }
+    }
+    Ok(kept)
+}
+
+/// The index over these rectangles.
+fn file_rects(alloc: Global, rects: &[Rect]) -> Result<Buckets, Memory>
+    requires { length rects.now < 2 ^ 32 }
+    ensures { IfOk result (λ buckets. buckets ≡ rects.now) }
+{
+    let laid_out = grids_for(alloc, rects)?;
+    let Placed { spots, starts } = place_rects(alloc, rects, laid_out.as_slice())?;
+    let grids = filled_grids(alloc, laid_out.as_slice(), starts.as_slice())?;
+    let blocks = blocks(alloc, spots.as_slice())?;
     Ok(Buckets {
-        rects,
+        count: rects.len(),
         grids,
-        entries,
+        spots,
         starts,
         blocks,
     })
@@ -78,7 +119,7 @@ pub fn file_shapes(alloc: Global, shapes: &List<Shape>) -> Result<Buckets, Memor
     ensures { IfOk result (λ buckets. buckets ≡ rects_of shapes.now) }
 {
     let rects = list_rects(alloc, shapes.as_slice())?;
-    file_rects(alloc, rects)
+    file_rects(alloc, rects.as_slice())
 }
 
 /// The place that a walk goes on from after this one: past a block that begins here, where its bounds are far away.
@@ -96,27 +137,25 @@ fn place_after(blocks: &[Block], place: usize, zone: &Zone) -> usize
     place + 1
 }
 
-/// Lists the near ones among the entries between two places.
+/// Lists the near ones between two places.
 fn list_among(
-    rects: &[Rect],
-    entries: &[Entry],
+    spots: &[Spot],
     blocks: &[Block],
     from: usize,
     to: usize,
     zone: &Zone,
     found: &mut Vec<u32>,
 ) -> Result<(), Memory>
-    requires within { to ≤ length entries.now }
-    requires numbers { NumbersBelow (length rects.now) entries.now }
-    requires blocks { AreBlocks rects.now entries.now blocks.now }
+    requires within { to ≤ length spots.now }
+    requires blocks { AreBlocks spots.now blocks.now }
     ensures { IfOk result (λ _.
-        ListsAmong rects.now entries.now from to zone.now.rect zone.now.margin found.old.items found.new.items) }
+        ListsAmong spots.now from to zone.now.rect zone.now.margin found.old.items found.new.items) }
 {
     let mut place = from;
     while place < to {
-        let number = entries[place].number;
-        if zone.meets(&rects[number as usize]) {
-            found.push(number)?;
+        let spot = &spots[place];
+        if zone.meets(&spot.rect) {
+            found.push(spot.number)?;
             place += 1;
         } else {
             place = place_after(blocks, place, zone);
@@ -125,63 +164,62 @@ fn list_among(
     Ok(())
 }
 
-/// Whether the entries of the grid's first cell begin where those of all its cells end: then nothing stands in it.
-fn is_bare(starts: &[u32], grid: &Grid) -> bool
-    requires { end_of grid.now < length starts.now }
-    ensures { IsTrue result ↔ slice_index starts.now grid.now.first ≡ slice_index starts.now (end_of grid.now) }
-{
-    starts[grid.first] == starts[grid.end()]
-}
-
 /// Lists the near ones in the cells of a grid where their corners can be.
 fn list_in(
-    rects: &[Rect],
-    entries: &[Entry],
+    spots: &[Spot],
     blocks: &[Block],
     starts: &[u32],
     grid: &Grid,
     zone: &Zone,
     found: &mut Vec<u32>,
 ) -> Result<(), Memory>
-    requires numbers { NumbersBelow (length rects.now) entries.now }
-    requires blocks { AreBlocks rects.now entries.now blocks.now }
-    requires starts { AreStarts entries.now starts.now }
+    requires blocks { AreBlocks spots.now blocks.now }
+    requires order { AreOrdered starts.now (length spots.now) }
     requires long { end_of grid.now < length starts.now }
-    ensures { IfOk result (λ _.
-        ListsIn rects.now entries.now grid.now zone.now.rect zone.now.margin found.old.items found.new.items) }
+    ensures { IfOk result (λ _. ListsIn spots.now starts.now grid.now zone.now.rect zone.now.margin found.old.items
+        found.new.items) }
 {
-    if is_bare(starts, grid) {
-        return Ok(());
-    }
-    let window = grid.window(&zone.rect, zone.margin);
+    let window = grid.window(zone);
     for row in window.low..window.high + 1 {
         let from = starts[grid.cell_in(row, window.left)] as usize;
         let to = starts[grid.cell_in(row, window.right) + 1] as usize;
-        list_among(rects, entries, blocks, from, to, zone, found)?;
+        list_among(spots, blocks, from, to, zone, found)?;
     }
     Ok(())
 }
 
 /// Lists the near ones grid by grid, some twice maybe.
 fn list_all(
-    rects: &[Rect],
-    grids: &[Grid],
-    entries: &[Entry],
+    spots: &[Spot],
     blocks: &[Block],
     starts: &[u32],
+    grids: &[Grid],
     zone: &Zone,
     found: &mut Vec<u32>,
 ) -> Result<(), Memory>
-    requires { IsIndex rects.now grids.now entries.now starts.now blocks.now }
-    ensures sound { IfOk result (λ _. All (IsNear rects.now zone.now.rect zone.now.margin) found.new.items) }
-    ensures complete { IfOk result (λ _.
-        (n : ℕ) → IsNear rects.now zone.now.rect zone.now.margin n → Contains found.new.items n) }
+    requires blocks { AreBlocks spots.now blocks.now }
+    requires order { AreOrdered starts.now (length spots.now) }
+    requires long { All (λ g. end_of g < length starts.now) grids.now }
+    ensures { IfOk result (λ _. ListsGrids spots.now starts.now grids.now (length grids.now) zone.now.rect
+        zone.now.margin found.new.items) }
 {
     found.clear();
     for grid in grids {
-        list_in(rects, entries, blocks, starts, grid, zone, found)?;
+        list_in(spots, blocks, starts, grid, zone, found)?;
     }
     Ok(())
+}
+
+/// Whether each number is above the one before it, as in most answers: they are short.
+fn is_rising(numbers: &[u32]) -> bool
+    ensures { IsTrue result → IsStrictlyIncreasing numbers.now }
+{
+    for place in 1..numbers.len() {
+        if numbers[place] <= numbers[place - 1] {
+            return false;
+        }
+    }
+    true
 }
 
 /// The numbers by rising order, each once.
@@ -189,8 +227,10 @@ fn make_rising(numbers: &mut Vec<u32>)
     ensures rising { IsStrictlyIncreasing numbers.new.items }
     ensures same { (n : ℕ) → Contains numbers.old.items n ↔ Contains numbers.new.items n }
 {
-    numbers.sort_unstable();
-    numbers.dedup();
+    if !is_rising(numbers.as_slice()) {
+        numbers.sort_unstable();
+        numbers.dedup();
+    }
 }
 
 impl Buckets {
@@ -198,14 +238,14 @@ impl Buckets {
     pub fn known(&self)
         ensures { AreProper self.now }
     {
-        let _rects = &self.rects;
+        let _spots = &self.spots;
     }
 
     /// How many rectangles are filed.
     pub fn len(&self) -> usize
         ensures { result ≡ length self.now }
     {
-        self.rects.len()
+        self.count
     }
 
     /// Leaves in `found` the numbers of exactly the rectangles that are no further from this one than the margin, in x
@@ -217,11 +257,10 @@ impl Buckets {
     {
         let zone = Zone::around(rect, margin);
         list_all(
-            self.rects.as_slice(),
-            self.grids.as_slice(),
-            self.entries.as_slice(),
+            self.spots.as_slice(),
             self.blocks.as_slice(),
             self.starts.as_slice(),
+            self.grids.as_slice(),
             &zone,
             found,
         )?;

@@ -3,6 +3,7 @@ ghost use Rattle.std.specs.Prelude.{◌≡◌, ◌+◌, ◌<◌, ◌≤◌, ◌^
 ghost use Rattle.geom.specs.declared.index.grid.Grid.{Grid};
 ghost use Rattle.geom.specs.Rectangle.{AreProper, width, height};
 ghost use Rattle.geom.specs.Code.Grids.{AreGrids, Reaches};
+ghost use Rattle.geom.specs.Code.Zones.{AreWords};
 ghost use Rattle.geom.specs.Code.Filed.{AreFiled, NumbersBelow, CellsBelow};
 
 use crate::index::grid::Grid;
@@ -36,6 +37,16 @@ fn grid_for(grids: &[Grid], rect: &Rect) -> usize
     last
 }
 
+/// What the coordinates of every rectangle keep: they are numbers of 64 bits. It does nothing else.
+fn known_words(rect: &Rect)
+    ensures { AreWords rect.now }
+{
+    let _x0 = rect.x0;
+    let _y0 = rect.y0;
+    let _x1 = rect.x1;
+    let _y1 = rect.y1;
+}
+
 /// An entry for each rectangle, in their order.
 pub fn entries(alloc: Global, rects: &[Rect], grids: &[Grid]) -> Result<Vec<Entry>, Memory>
     requires few { length rects.now < 2 ^ 32 }
@@ -49,6 +60,7 @@ pub fn entries(alloc: Global, rects: &[Rect], grids: &[Grid]) -> Result<Vec<Entr
     let mut entries = Vec::with_capacity(alloc, rects.len())?;
     for (number, rect) in rects.iter().enumerate() {
         rect.known();
+        known_words(rect);
         let grid = &grids[grid_for(grids, rect)];
         entries.push(Entry {
             cell: grid.cell_of(rect),

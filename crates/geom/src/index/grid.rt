@@ -1,6 +1,8 @@
 // Grids: the lower left corners of rectangles of like size stand in the cells of one.
 ghost use Rattle.std.specs.Prelude.{◌≡◌, ℕ, ◌+◌, ◌<◌, ◌≤◌, ◌^◌, ◌↔◌, ◌-ℤ◌, IsTrue};
+ghost use Rattle.geom.specs.Code.Zones.{IsReached};
 
+use crate::index::zone::Zone;
 use crate::rectangle::{Rect, excess};
 
 /// The most columns that a grid has.
@@ -27,6 +29,9 @@ pub struct Grid {
     /// The width of the widest rectangle, and the height of the highest, that may stand in it.
     pub reach_x: u64,
     pub reach_y: u64,
+    /// How far those can reach that stand at the left edge, and at the lower edge.
+    pub reached_x: i64,
+    pub reached_y: i64,
 
     ghost some_columns: { 0 < columns },
     ghost some_rows: { 0 < rows },
@@ -35,6 +40,8 @@ pub struct Grid {
     ghost few_before: { first ≤ 2 ^ 40 },
     ghost short_x: { shift_x < 64 },
     ghost short_y: { shift_y < 64 },
+    ghost reached_x_so: { IsReached reached_x left reach_x },
+    ghost reached_y_so: { IsReached reached_y bottom reach_y },
 }
 
 /// Columns from the left one to the right one, and rows from the low one to the high one.
@@ -44,6 +51,16 @@ pub struct Window {
     pub right: usize,
     pub low: usize,
     pub high: usize,
+}
+
+/// How far a side of this length reaches from the edge, or the greatest number where that is further.
+pub fn reached(edge: i64, reach: u64) -> i64
+    ensures { IsReached result edge reach }
+{
+    match edge.checked_add_unsigned(reach) {
+        Some(end) => end,
+        None => i64::MAX,
+    }
 }
 
 /// The number's lower 16 bits, each with a 0 above it.
@@ -63,6 +80,8 @@ impl Grid {
     pub fn column_at(&self, offset: u64) -> usize
         ensures value { result ≡ column_at self.now offset }
         ensures within { result < self.now.columns }
+        ensures first { (at : ℕ) → offset ≤ at → result ≤ column_at self.now at }
+        ensures last { (at : ℕ) → at ≤ offset → column_at self.now at ≤ result }
     {
         let column = (offset >> self.shift_x) as usize;
         column.min(self.columns - 1)
@@ -72,6 +91,8 @@ impl Grid {
     pub fn row_at(&self, offset: u64) -> usize
         ensures value { result ≡ row_at self.now offset }
         ensures within { result < self.now.rows }
+        ensures first { (at : ℕ) → offset ≤ at → result ≤ row_at self.now at }
+        ensures last { (at : ℕ) → at ≤ offset → row_at self.now at ≤ result }
     {
         let row = (offset >> self.shift_y) as usize;
         row.min(self.rows - 1)
@@ -133,53 +154,15 @@ impl Grid {
         self.first + self.rows * self.columns
     }
 
-    /// The first column in which a corner can be from which this offset is no further than the margin and the reach.
-    fn first_column(&self, offset: u64, margin: u64) -> usize
-        ensures within { result < self.now.columns }
-        ensures first { (at : ℕ) → offset ≤ at + (margin + self.now.reach_x) → result ≤ column_at self.now at }
-    {
-        self.column_at(offset.saturating_sub(margin.saturating_add(self.reach_x)))
-    }
-
-    /// The last column in which a corner can be that is no further than the margin from this offset.
-    fn last_column(&self, offset: u64, margin: u64) -> usize
-        ensures within { result < self.now.columns }
-        ensures last { (at : ℕ) → at ≤ offset + margin → column_at self.now at ≤ result }
-    {
-        match offset.checked_add(margin) {
-            Some(furthest) => self.column_at(furthest),
-            None => self.columns - 1,
-        }
-    }
-
-    /// The first row in which a corner can be from which this offset is no further than the margin and the reach.
-    fn first_row(&self, offset: u64, margin: u64) -> usize
-        ensures within { result < self.now.rows }
-        ensures first { (at : ℕ) → offset ≤ at + (margin + self.now.reach_y) → result ≤ row_at self.now at }
-    {
-        self.row_at(offset.saturating_sub(margin.saturating_add(self.reach_y)))
-    }
-
-    /// The last row in which a corner can be that is no further than the margin from this offset.
-    fn last_row(&self, offset: u64, margin: u64) -> usize
-        ensures within { result < self.now.rows }
-        ensures last { (at : ℕ) → at ≤ offset + margin → row_at self.now at ≤ result }
-    {
-        match offset.checked_add(margin) {
-            Some(furthest) => self.row_at(furthest),
-            None => self.rows - 1,
-        }
-    }
-
-    /// Where the corners of those of its rectangles can be that are no further from this one than the margin.
-    pub fn window(&self, rect: &Rect, margin: u64) -> Window
-        ensures { IsWindow self.now rect.now margin result }
+    /// Where the corners of those of its rectangles can be that are in the zone.
+    pub fn window(&self, zone: &Zone) -> Window
+        ensures { IsWindow self.now zone.now.rect zone.now.margin result }
     {
         Window {
-            left: self.first_column(self.right_of(rect.x0), margin),
-            right: self.last_column(self.right_of(rect.x1), margin),
-            low: self.first_row(self.above(rect.y0), margin),
-            high: self.last_row(self.above(rect.y1), margin),
+            left: self.column_at(excess(zone.left, self.reached_x)),
+            right: self.column_at(excess(zone.right, self.left)),
+            low: self.row_at(excess(zone.bottom, self.reached_y)),
+            high: self.row_at(excess(zone.top, self.bottom)),
         }
     }
 }

@@ -4,6 +4,7 @@ mod buckets;
 mod chains;
 mod entries;
 mod grid;
+mod spots;
 mod survey;
 mod zone;
 

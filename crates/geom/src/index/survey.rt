@@ -2,7 +2,7 @@
 ghost use Rattle.std.specs.Prelude.{◌≡◌, ◌+◌, ◌<◌, ◌≤◌, ◌^◌, All, IfOk};
 ghost use Rattle.geom.specs.Code.Grids.{AreGrids, end_of};
 
-use crate::index::grid::{Grid, MOST_COLUMNS, MOST_ROWS};
+use crate::index::grid::{Grid, MOST_COLUMNS, MOST_ROWS, reached};
 use crate::rectangle::{Rect, height, width};
 use aq_base::Memory;
 use std::alloc::Global;
@@ -165,16 +165,20 @@ impl Survey {
             shift_for(spread_y, self.highest, MOST_ROWS),
             self.count.saturating_mul(4).saturating_add(9),
         );
+        let left = edge_before(self.left, lines.shift_x);
+        let bottom = edge_before(self.bottom, lines.shift_y);
         Grid {
             first,
             columns: lines.columns as usize,
             rows: lines.rows as usize,
-            left: edge_before(self.left, lines.shift_x),
-            bottom: edge_before(self.bottom, lines.shift_y),
+            left,
+            bottom,
             shift_x: lines.shift_x,
             shift_y: lines.shift_y,
             reach_x: self.widest,
             reach_y: self.highest,
+            reached_x: reached(left, self.widest),
+            reached_y: reached(bottom, self.highest),
         }
     }
 }
@@ -196,6 +200,8 @@ fn grid_for_all(first: usize) -> Grid
         shift_y: 0,
         reach_x: u64::MAX,
         reach_y: u64::MAX,
+        reached_x: reached(0, u64::MAX),
+        reached_y: reached(0, u64::MAX),
     }
 }
 

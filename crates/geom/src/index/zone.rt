@@ -12,10 +12,10 @@ use crate::rectangle::{Rect, at_most};
 pub struct Zone {
     pub rect: Rect,
     pub margin: u64,
-    left: i64,
-    bottom: i64,
-    right: i64,
-    top: i64,
+    pub left: i64,
+    pub bottom: i64,
+    pub right: i64,
+    pub top: i64,
 
     ghost left_so: { IsLowEnd left rect.x0 margin },
     ghost bottom_so: { IsLowEnd bottom rect.y0 margin },

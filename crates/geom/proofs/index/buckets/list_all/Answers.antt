@@ -1,8 +1,7 @@
-use Rattle.geom.proofs.Filing.{read_at, grids_more, grids_all}
+use Rattle.geom.proofs.Filing.{read_at}
+use Rattle.geom.proofs.Finding.{grids_more}
 use Rattle.geom.proofs.index.buckets.list_all.Goals as goal
 
 pub loop-grid-preserved : goal.loop-grid-preserved
-loop-grid-preserved c = grids_more _ _ _ _ _ _ _ _ _ (read_at _ _ _ c.loop-grid-test.true c.grid-item.is) c.loop-grid.invariant c.in_ok-list_in.ensures
-
-pub returns-clause-complete : goal.returns-clause-complete
-returns-clause-complete c = grids_all _ _ _ _ _ _ _ _ _ c.requires c.loop-grid-test.false c.loop-grid.invariant
+loop-grid-preserved c = grids_more _ _ _ _ _ _ _ _ _
+    (read_at _ _ _ c.loop-grid-test.true c.grid-item.is) c.loop-grid.invariant c.in_ok-list_in.ensures

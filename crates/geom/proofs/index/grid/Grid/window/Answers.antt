@@ -1,24 +1,51 @@
 use Rattle.std.proofs.Common.{◌≡◌, rules, arith, ◌-ℤ◌}
+use Rattle.std.proofs.lemmas.Int.{to_z-of_z}
 use Rattle.geom.specs.Rectangle.{positive_part}
-use Rattle.geom.proofs.Filing.{between_x, between_y}
+use Rattle.geom.proofs.Filing.{corner_from, corner_to}
 use Rattle.geom.proofs.index.grid.Grid.window.Goals as goal
 
 pub returns : goal.returns
-returns c = record {
-  left_within = c.first_column.ensures.within;
-  right_within = c.last_column.ensures.within;
-  high_within = c.last_row.ensures.within;
-  holds = λ r close reaches.
-      let left : c.right_of.result ≡ positive_part (c.args.rect.now.x0 -ℤ c.args.self.now.left) = search rules in
-      let right : c.right_of-2.result ≡ positive_part (c.args.rect.now.x1 -ℤ c.args.self.now.left) = search rules in
-      let low : c.above.result ≡ positive_part (c.args.rect.now.y0 -ℤ c.args.self.now.bottom) = search rules in
-      let high : c.above-2.result ≡ positive_part (c.args.rect.now.y1 -ℤ c.args.self.now.bottom) = search rules in
-      let x = between_x c.args.self.now.left c.args.rect.now r c.args.margin c.args.self.now.reach_x close reaches.in_x in
-      let y = between_y c.args.self.now.bottom c.args.rect.now r c.args.margin c.args.self.now.reach_y close reaches.in_y in
-      record {
-        from_left = c.first_column.ensures.first _ (omega (arith, left, x.from));
-        to_right = c.last_column.ensures.last _ (omega (arith, right, x.to));
-        from_low = c.first_row.ensures.first _ (omega (arith, low, y.from));
-        to_high = c.last_row.ensures.last _ (omega (arith, high, y.to));
+returns c =
+    let left : c.excess.result ≡ positive_part (c.args.zone.now.left -ℤ c.args.self.now.reached_x) =
+    search (rules, to_z-of_z) in
+    let right : c.excess-2.result ≡ positive_part (c.args.zone.now.right -ℤ c.args.self.now.left) =
+    search (rules, to_z-of_z) in
+    let low : c.excess-3.result ≡ positive_part (c.args.zone.now.bottom -ℤ c.args.self.now.reached_y) =
+    search (rules, to_z-of_z) in
+    let high : c.excess-4.result ≡ positive_part (c.args.zone.now.top -ℤ c.args.self.now.bottom) =
+    search (rules, to_z-of_z) in
+    record {
+      left_within = c.column_at.ensures.within;
+      right_within = c.column_at-2.ensures.within;
+      high_within = c.row_at-2.ensures.within;
+      holds = λ r words close reaches. record {
+        from_left = c.column_at.ensures.first _
+            (omega (
+              arith,
+              left,
+              corner_from _ _ _ _ _ _ _ _ _ _ c.args.zone.now.left_so c.args.zone.now.right_so
+                  c.args.self.now.reached_x_so words.x0 words.x1 close.in_x reaches.in_x,
+            ));
+        to_right = c.column_at-2.ensures.last _
+            (omega (
+              arith,
+              right,
+              corner_to _ _ _ _ _ _ _ _ _ _ c.args.zone.now.left_so c.args.zone.now.right_so
+                  c.args.self.now.reached_x_so words.x0 words.x1 close.in_x,
+            ));
+        from_low = c.row_at.ensures.first _
+            (omega (
+              arith,
+              low,
+              corner_from _ _ _ _ _ _ _ _ _ _ c.args.zone.now.bottom_so c.args.zone.now.top_so
+                  c.args.self.now.reached_y_so words.y0 words.y1 close.in_y reaches.in_y,
+            ));
+        to_high = c.row_at-2.ensures.last _
+            (omega (
+              arith,
+              high,
+              corner_to _ _ _ _ _ _ _ _ _ _ c.args.zone.now.bottom_so c.args.zone.now.top_so
+                  c.args.self.now.reached_y_so words.y0 words.y1 close.in_y,
+            ));
       };
-}
+    }
