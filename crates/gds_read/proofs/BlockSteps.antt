@@ -1,96 +1,18 @@
 -- The steps of the walk that finds components keep what it keeps.
-use Rattle.std.proofs.Common.{◌≡◌, ◌≢◌, ℕ, zero, suc, ◌+◌, ◌<◌, ◌≤◌, List, [], ◌∷◌, ◌++◌, take, length, get_or, Bool, true, false, eqb, ◌||◌, ◌⊎◌, inl, inr, refl, sym, ap, subst, ◌∙◌, arith}
-use Rattle.std.specs.Prelude.{nat_lt}
-use Rattle.std.proofs.Math.ListN.{set}
-use Rattle.std.proofs.Math.Seq.{get_or-append_seam}
-use Rattle.std.proofs.lemmas.List.{length-append, length-take, length-set, get_or-set_same, get_or-set_other, get_or_append_left, get_or_past, get_or-take}
-use Rattle.std.proofs.lemmas.Bool.{eqb-true}
-use Rattle.std.proofs.lemmas.Bool.Decides.{nat_tests}
+use Rattle.std.proofs.Common.{◌≡◌, ◌≢◌, ℕ, zero, suc, ◌+◌, ◌<◌, ◌≤◌, List, [], ◌∷◌, length, get_or, Bool}
+use Rattle.std.proofs.Common.{true, false, eqb, ◌||◌, ◌⊎◌, inl, inr, refl, sym, ap, subst, ◌∙◌, arith}
+use Rattle.std.proofs.lemmas.List.{get_or_past}
+use Rattle.std.proofs.lemmas.Bool.{eqb-true, cases_lt, cases_eq}
 use Rattle.gds_read.specs.Code.Graphs.{targets_at, some_target, refers}
-use Rattle.gds_read.specs.Code.Components.{Leads, here, along, Below, IsSeen, closed, above, IsDone, none_left, waits, IsWalk, IsRankedAt, as_before, within}
-
--- ---- numbers and lists
-
-lt_so : (a b : ℕ) → nat_lt a b ≡ true → a < b
-lt_so a b e = grind (arith, nat_tests)
-
-not_lt_so : (a b : ℕ) → nat_lt a b ≡ false → b ≤ a
-not_lt_so a b e = grind (arith, nat_tests)
-
-pub below_or : (a b : ℕ) → (a < b) ⊎ (b ≤ a)
-below_or a b = turn (nat_lt a b) refl
-  where
-    turn : (z : Bool) → nat_lt a b ≡ z → (a < b) ⊎ (b ≤ a)
-    turn true e = inl (lt_so a b e)
-    turn false e = inr (not_lt_so a b e)
-
-eqb_false : (a b : ℕ) → eqb a b ≡ false → a ≢ b
-eqb_false a b e = λ q. grind (arith, nat_tests)
-
-pub same_or : (a b : ℕ) → (a ≡ b) ⊎ (a ≢ b)
-same_or a b = turn (eqb a b) refl
-  where
-    turn : (z : Bool) → eqb a b ≡ z → (a ≡ b) ⊎ (a ≢ b)
-    turn true e = inl (eqb-true a b e)
-    turn false e = inr (eqb_false a b e)
-
-pub last_or : (i n m : ℕ) → i < m → m ≡ suc n → (i < n) ⊎ (i ≡ n)
-last_or i n m h e = turn (below_or i n)
-  where
-    turn : (i < n) ⊎ (n ≤ i) → (i < n) ⊎ (i ≡ n)
-    turn (inl p) = inl p
-    turn (inr p) = inr (omega (arith, h, e, p))
-
--- one number more at the end of a list
-pub record Pushed (xs : List ℕ) (x : ℕ) (ys : List ℕ) : Type 0 where
-  pub size : length ys ≡ suc (length xs)
-  pub last : get_or ys (length xs) 0 ≡ x
-  pub old : (i : ℕ) → i < length xs → get_or ys i 0 ≡ get_or xs i 0
-
-pub pushed : (xs : List ℕ) (x : ℕ) (ys : List ℕ) → ys ≡ xs ++ x ∷ [] → Pushed xs x ys
-pushed xs x ys e = subst (λ (zs : List ℕ). Pushed xs x zs) (sym e) (record {
-  size = (let h = length-append xs (x ∷ []) in omega (arith, h));
-  last = get_or-append_seam xs x [] 0;
-  old = λ i h. get_or_append_left xs (x ∷ []) 0 i h;
-})
-
--- one number of a list was written
-pub record Written (xs : List ℕ) (i x : ℕ) (ys : List ℕ) : Type 0 where
-  pub size : length ys ≡ length xs
-  pub here : get_or ys i 0 ≡ x
-  pub others : (j : ℕ) → j ≢ i → get_or ys j 0 ≡ get_or xs j 0
-
-pub written : (xs : List ℕ) (i x : ℕ) (ys : List ℕ) → i < length xs → ys ≡ set xs i x → Written xs i x ys
-written xs i x ys h e = subst (λ (zs : List ℕ). Written xs i x zs) (sym e) (record {
-  size = length-set xs i x;
-  here = get_or-set_same xs i x 0 h;
-  others = λ j n. get_or-set_other xs i j x 0 n;
-})
-
--- some numbers of a list were kept from the front
-pub record Front (xs : List ℕ) (n : ℕ) (ys : List ℕ) : Type 0 where
-  pub size : length ys ≡ n
-  pub fits : n ≤ length xs
-  pub old : (i : ℕ) → i < n → get_or ys i 0 ≡ get_or xs i 0
-
-pub front : (xs : List ℕ) (n : ℕ) (ys : List ℕ) → n ≤ length xs → ys ≡ take n xs → Front xs n ys
-front xs n ys h e = subst (λ (zs : List ℕ). Front xs n zs) (sym e) (record {
-  size = (let s = length-take n xs in omega (arith, s, h));
-  fits = h;
-  old = λ i l. get_or-take n xs i 0 l;
-})
-
-pub stands_low : (xs : List ℕ) (i : ℕ) → 0 < get_or xs i 0 → i < length xs
-stands_low xs i h = turn (below_or i (length xs))
-  where
-    turn : (i < length xs) ⊎ (length xs ≤ i) → i < length xs
-    turn (inl p) = p
-    turn (inr p) = absurd (let q = get_or_past xs i 0 p in omega (arith, h, q))
+use Rattle.gds_read.specs.Code.Components.{Leads, here, along, Below, IsSeen, closed, above, IsDone, none_left, waits}
+use Rattle.gds_read.specs.Code.Components.{IsWalk, IsRankedAt, as_before, within}
+use Rattle.gds_read.proofs.ListSteps.{Pushed, Written, Front, last_or}
 
 pub refl_at : (v : ℕ) {graph : List (List ℕ)} → Leads graph v v
 refl_at v = here v refl
 
-pub onward : (graph : List (List ℕ)) (to next from : ℕ) → Leads graph next from → Leads graph to next → Leads graph to from
+pub onward : (graph : List (List ℕ)) (to next from : ℕ) → Leads graph next from → Leads graph to next
+    → Leads graph to from
 onward graph to next from (here f e) l = subst (λ (x : ℕ). Leads graph to x) (sym e) l
 onward graph to next from (along f n r k) l = along f n r (onward graph to next n k l)
 
@@ -98,21 +20,27 @@ pub led_by : (graph : List (List ℕ)) (a b x y : ℕ) → x ≡ a → y ≡ b �
 led_by graph a b x y p q l = subst (λ (u : ℕ). Leads graph u y) (sym p) (subst (λ (v : ℕ). Leads graph a v) (sym q) l)
 
 same_place : (met : List ℕ) (a b i j : ℕ) → get_or met a 0 ≡ suc i → get_or met b 0 ≡ suc j → a ≡ b → i ≡ j
-same_place met a b i j p q e = let r : get_or met a 0 ≡ get_or met b 0 = ap (λ (x : ℕ). get_or met x 0) e in omega (arith, p, q, r)
+same_place met a b i j p q e = let r : get_or met a 0 ≡ get_or met b 0 = ap (λ (x : ℕ). get_or met x 0) e in
+    omega (arith, p, q, r)
 
-module _ (g : List (List ℕ)) (met rank left stack starts work : List ℕ) (count : ℕ) (w : IsWalk g met rank left stack starts work count) where
+module _ (g : List (List ℕ)) (met rank left stack starts work : List ℕ) (count : ℕ)
+    (w : IsWalk g met rank left stack starts work count) where
   -- ---- a structure is met
   module _ (v : ℕ) (met' stack' starts' work' : List ℕ) (low : v < length g) (new : get_or met v 0 ≡ 0)
       (leads : (i : ℕ) → i < length stack → Leads g v (get_or stack i 0))
-      (m : Written met v (suc (length stack)) met') (s : Pushed stack v stack') (b : Pushed starts (length stack) starts') (q : Pushed work v work') where
+      (m : Written met v (suc (length stack)) met') (s : Pushed stack v stack')
+      (b : Pushed starts (length stack) starts') (q : Pushed work v work') where
     apart : (i : ℕ) → i < length stack → get_or stack i 0 ≢ v
-    apart i h e = let p = w.stands i h in let r : get_or met (get_or stack i 0) 0 ≡ get_or met v 0 = ap (λ (x : ℕ). get_or met x 0) e in omega (arith, p, r, new)
+    apart i h e = let p = w.stands i h in let r : get_or met (get_or stack i 0) 0 ≡ get_or met v 0 =
+        ap (λ (x : ℕ). get_or met x 0) e in omega (arith, p, r, new)
 
     met_of : (x : ℕ) → 0 < get_or met x 0 → get_or met' x 0 ≡ get_or met x 0
-    met_of x h = m.others x (λ e. let r : get_or met x 0 ≡ get_or met v 0 = ap (λ (y : ℕ). get_or met y 0) e in omega (arith, r, new, h))
+    met_of x h = m.others x
+        (λ e. let r : get_or met x 0 ≡ get_or met v 0 = ap (λ (y : ℕ). get_or met y 0) e in omega (arith, r, new, h))
 
     on_stack : (i : ℕ) → i < length stack → get_or met' (get_or stack' i 0) 0 ≡ suc i
-    on_stack i h = let p = w.stands i h in ap (λ (x : ℕ). get_or met' x 0) (s.old i h) ∙ met_of (get_or stack i 0) (omega (arith, p)) ∙ p
+    on_stack i h = let p = w.stands i h in ap (λ (x : ℕ). get_or met' x 0) (s.old i h)
+        ∙ met_of (get_or stack i 0) (omega (arith, p)) ∙ p
 
     on_top : (i : ℕ) → i ≡ length stack → get_or stack' i 0 ≡ v
     on_top i e = ap (λ (x : ℕ). get_or stack' x 0) e ∙ s.last
@@ -122,20 +50,23 @@ module _ (g : List (List ℕ)) (met rank left stack starts work : List ℕ) (cou
       where
         turn : (k < length starts) ⊎ (k ≡ length starts) → get_or starts' k 0 ≤ j
         turn (inl p) = let o = b.old k p in let r = f k p (omega (arith, o, e)) in omega (arith, o, r)
-        turn (inr p) = let o : get_or starts' k 0 ≡ length stack = ap (λ (x : ℕ). get_or starts' x 0) p ∙ b.last in absurd (omega (arith, o, e, h))
+        turn (inr p) = let o : get_or starts' k 0 ≡ length stack = ap (λ (x : ℕ). get_or starts' x 0) p ∙ b.last in
+            absurd (omega (arith, o, e, h))
 
     was_below : (i j : ℕ) → Below starts' i j → Below starts i j
-    was_below i j f k l e = let o = b.old k l in let z = b.size in let r = f k (omega (arith, l, z)) (omega (arith, o, e)) in omega (arith, o, r)
+    was_below i j f k l e = let o = b.old k l in let z = b.size in
+        let r = f k (omega (arith, l, z)) (omega (arith, o, e)) in omega (arith, o, r)
 
     below_top : (i : ℕ) → i < length stack → Below starts' i (length stack)
     below_top i h k l e = turn (last_or k (length starts) (length starts') l b.size)
       where
         turn : (k < length starts) ⊎ (k ≡ length starts) → get_or starts' k 0 ≤ length stack
         turn (inl p) = let o = b.old k p in omega (arith, o, e, h)
-        turn (inr p) = let o : get_or starts' k 0 ≡ length stack = ap (λ (x : ℕ). get_or starts' x 0) p ∙ b.last in omega (arith, o)
+        turn (inr p) = let o : get_or starts' k 0 ≡ length stack = ap (λ (x : ℕ). get_or starts' x 0) p ∙ b.last in
+            omega (arith, o)
 
     found_at : (x i : ℕ) → get_or met' x 0 ≡ suc i → get_or rank x 0 ≡ 0 → (i < length stack') × (get_or stack' i 0 ≡ x)
-    found_at x i e r = turn (same_or x v)
+    found_at x i e r = turn (cases_eq x v)
       where
         turn : (x ≡ v) ⊎ (x ≢ v) → (i < length stack') × (get_or stack' i 0 ≡ x)
         turn (inl p) =
@@ -149,37 +80,48 @@ module _ (g : List (List ℕ)) (met rank left stack starts work : List ℕ) (cou
             let low = f.0 in
             (omega (arith, low, size), s.old i f.0 ∙ f.1)
 
-    links : (i j : ℕ) → i < length stack' → j < length stack' → Below starts' i j → Leads g (get_or stack' j 0) (get_or stack' i 0)
-    links i j h l f = turn (last_or i (length stack) (length stack') h s.size) (last_or j (length stack) (length stack') l s.size)
+    links : (i j : ℕ) → i < length stack' → j < length stack' → Below starts' i j
+        → Leads g (get_or stack' j 0) (get_or stack' i 0)
+    links i j h l f = turn (last_or i (length stack) (length stack') h s.size)
+        (last_or j (length stack) (length stack') l s.size)
       where
-        turn : (i < length stack) ⊎ (i ≡ length stack) → (j < length stack) ⊎ (j ≡ length stack) → Leads g (get_or stack' j 0) (get_or stack' i 0)
-        turn (inl p) (inl r) = led_by g (get_or stack j 0) (get_or stack i 0) (get_or stack' j 0) (get_or stack' i 0) (s.old j r) (s.old i p) (w.linked i j p r (was_below i j f))
-        turn (inl p) (inr r) = led_by g v (get_or stack i 0) (get_or stack' j 0) (get_or stack' i 0) (on_top j r) (s.old i p) (leads i p)
+        turn : (i < length stack) ⊎ (i ≡ length stack) → (j < length stack) ⊎ (j ≡ length stack)
+            → Leads g (get_or stack' j 0) (get_or stack' i 0)
+        turn (inl p) (inl r) = led_by g (get_or stack j 0) (get_or stack i 0) (get_or stack' j 0) (get_or stack' i 0)
+            (s.old j r) (s.old i p) (w.linked i j p r (was_below i j f))
+        turn (inl p) (inr r) = led_by g v (get_or stack i 0) (get_or stack' j 0) (get_or stack' i 0) (on_top j r)
+            (s.old i p) (leads i p)
         turn (inr p) (inl r) =
             let size = b.size in
             let o = b.last in
             let n = f (length starts) (omega (arith, size)) (omega (arith, o, p)) in
             absurd (omega (arith, o, n, r))
-        turn (inr p) (inr r) = led_by g v v (get_or stack' j 0) (get_or stack' i 0) (on_top j r) (on_top i p) (refl_at v)
+        turn (inr p) (inr r) = led_by g v v (get_or stack' j 0) (get_or stack' i 0) (on_top j r)
+            (on_top i p) (refl_at v)
 
     seen_still : (i t : ℕ) → i < length stack → IsSeen met rank starts i t → IsSeen met' rank starts' i t
     seen_still i t h (closed c) = closed c
     seen_still i t h (above j e f) = above j (met_of t (omega (arith, e)) ∙ e) (still_below i j h f)
 
-    scans : (i e : ℕ) → i < length stack' → get_or left (get_or stack' i 0) 0 ≤ e → e < length (targets_at g (get_or stack' i 0))
-        → get_or (targets_at g (get_or stack' i 0)) e 0 < length g → IsSeen met' rank starts' i (get_or (targets_at g (get_or stack' i 0)) e 0)
+    scans : (i e : ℕ) → i < length stack' → get_or left (get_or stack' i 0) 0 ≤ e
+        → e < length (targets_at g (get_or stack' i 0))
+        → get_or (targets_at g (get_or stack' i 0)) e 0 < length g
+        → IsSeen met' rank starts' i (get_or (targets_at g (get_or stack' i 0)) e 0)
     scans i e h l k t = turn (last_or i (length stack) (length stack') h s.size)
       where
-        turn : (i < length stack) ⊎ (i ≡ length stack) → IsSeen met' rank starts' i (get_or (targets_at g (get_or stack' i 0)) e 0)
+        turn : (i < length stack) ⊎ (i ≡ length stack) → IsSeen met' rank starts' i
+            (get_or (targets_at g (get_or stack' i 0)) e 0)
         turn (inl p) =
             let o : get_or stack' i 0 ≡ get_or stack i 0 = s.old i p in
             subst (λ (x : ℕ). IsSeen met' rank starts' i (get_or (targets_at g x) e 0)) (sym o)
             (seen_still i (get_or (targets_at g (get_or stack i 0)) e 0) p
-            (w.scanned i e p (subst (λ (x : ℕ). get_or left x 0 ≤ e) o l) (subst (λ (x : ℕ). e < length (targets_at g x)) o k)
+            (w.scanned i e p (subst (λ (x : ℕ). get_or left x 0 ≤ e) o l)
+            (subst (λ (x : ℕ). e < length (targets_at g x)) o k)
             (subst (λ (x : ℕ). get_or (targets_at g x) e 0 < length g) o t)))
         turn (inr p) =
             let o : get_or stack' i 0 ≡ v = on_top i p in
-            let a : get_or left (get_or stack' i 0) 0 ≡ length (targets_at g (get_or stack' i 0)) = subst (λ (x : ℕ). get_or left x 0 ≡ length (targets_at g x)) (sym o) (w.new_left v new) in
+            let a : get_or left (get_or stack' i 0) 0 ≡ length (targets_at g (get_or stack' i 0)) =
+            subst (λ (x : ℕ). get_or left x 0 ≡ length (targets_at g x)) (sym o) (w.new_left v new) in
             absurd (omega (arith, a, l, k))
 
     dones : (i : ℕ) → i < length stack' → IsDone left work' (get_or stack' i 0)
@@ -187,19 +129,21 @@ module _ (g : List (List ℕ)) (met rank left stack starts work : List ℕ) (cou
       where
         still : (x : ℕ) → IsDone left work x → IsDone left work' x
         still x (none_left e) = none_left e
-        still x (waits f) = let size = q.size in let l = f.low in waits (record { place = f.place; low = omega (arith, l, size); is = q.old f.place f.low ∙ f.is })
+        still x (waits f) = let size = q.size in let l = f.low in
+            waits (record { place = f.place; low = omega (arith, l, size); is = q.old f.place f.low ∙ f.is })
 
         turn : (i < length stack) ⊎ (i ≡ length stack) → IsDone left work' (get_or stack' i 0)
         turn (inl p) = subst (λ (x : ℕ). IsDone left work' x) (sym (s.old i p)) (still (get_or stack i 0) (w.done i p))
-        turn (inr p) = let size = q.size in waits (record { place = length work; low = omega (arith, size); is = q.last ∙ sym (on_top i p) })
+        turn (inr p) = let size = q.size in
+            waits (record { place = length work; low = omega (arith, size); is = q.last ∙ sym (on_top i p) })
 
     pub entered : IsWalk g met' rank left stack' starts' work' count
     entered = record {
       met_size = m.size ∙ w.met_size;
       rank_size = w.rank_size;
       left_size = w.left_size;
-      new_open = λ x e. new_at x e (same_or x v);
-      new_left = λ x e. left_at x e (same_or x v);
+      new_open = λ x e. new_at x e (cases_eq x v);
+      new_left = λ x e. left_at x e (cases_eq x v);
       left_fits = w.left_fits;
       stands = λ i h. stands_at i (last_or i (length stack) (length stack') h s.size);
       unclosed = λ i h. unclosed_at i (last_or i (length stack) (length stack') h s.size);
@@ -213,18 +157,20 @@ module _ (g : List (List ℕ)) (met rank left stack starts work : List ℕ) (cou
       starts_low = λ k h. low_at k (last_or k (length starts) (length starts') h b.size);
       rising = λ j k l h. rises_at j k l (last_or k (length starts) (length starts') h b.size);
       some_start = λ h. let size = b.size in omega (arith, size);
-      lowest = lowest_at (below_or 0 (length starts));
+      lowest = lowest_at (cases_lt 0 (length starts));
       work_open = λ a h. open_at a (last_or a (length work) (length work') h q.size);
       work_met = λ a h. met_at a (last_or a (length work) (length work') h q.size);
       work_rising = λ a c l h. work_at a c l (last_or c (length work) (length work') h q.size);
     }
       where
         new_at : (x : ℕ) → get_or met' x 0 ≡ 0 → (x ≡ v) ⊎ (x ≢ v) → get_or rank x 0 ≡ 0
-        new_at x e (inl p) = let z : get_or met' x 0 ≡ suc (length stack) = ap (λ (y : ℕ). get_or met' y 0) p ∙ m.here in absurd (omega (arith, z, e))
+        new_at x e (inl p) = let z : get_or met' x 0 ≡ suc (length stack) = ap (λ (y : ℕ). get_or met' y 0) p
+            ∙ m.here in absurd (omega (arith, z, e))
         new_at x e (inr p) = w.new_open x (sym (m.others x p) ∙ e)
 
         left_at : (x : ℕ) → get_or met' x 0 ≡ 0 → (x ≡ v) ⊎ (x ≢ v) → get_or left x 0 ≡ length (targets_at g x)
-        left_at x e (inl p) = let z : get_or met' x 0 ≡ suc (length stack) = ap (λ (y : ℕ). get_or met' y 0) p ∙ m.here in absurd (omega (arith, z, e))
+        left_at x e (inl p) = let z : get_or met' x 0 ≡ suc (length stack) = ap (λ (y : ℕ). get_or met' y 0) p
+            ∙ m.here in absurd (omega (arith, z, e))
         left_at x e (inr p) = w.new_left x (sym (m.others x p) ∙ e)
 
         stands_at : (i : ℕ) → (i < length stack) ⊎ (i ≡ length stack) → get_or met' (get_or stack' i 0) 0 ≡ suc i
@@ -236,11 +182,15 @@ module _ (g : List (List ℕ)) (met rank left stack starts work : List ℕ) (cou
         unclosed_at i (inr p) = ap (λ (x : ℕ). get_or rank x 0) (on_top i p) ∙ w.new_open v new
 
         low_at : (k : ℕ) → (k < length starts) ⊎ (k ≡ length starts) → get_or starts' k 0 < length stack'
-        low_at k (inl p) = let o = b.old k p in let l = w.starts_low k p in let size = s.size in omega (arith, o, l, size)
-        low_at k (inr p) = let o : get_or starts' k 0 ≡ length stack = ap (λ (x : ℕ). get_or starts' x 0) p ∙ b.last in let size = s.size in omega (arith, o, size)
+        low_at k (inl p) = let o = b.old k p in let l = w.starts_low k p in let size = s.size in
+            omega (arith, o, l, size)
+        low_at k (inr p) = let o : get_or starts' k 0 ≡ length stack = ap (λ (x : ℕ). get_or starts' x 0) p ∙ b.last in
+            let size = s.size in omega (arith, o, size)
 
-        rises_at : (j k : ℕ) → j < k → (k < length starts) ⊎ (k ≡ length starts) → get_or starts' j 0 < get_or starts' k 0
-        rises_at j k l (inl p) = let o = b.old k p in let a = b.old j (omega (arith, l, p)) in let r = w.rising j k l p in omega (arith, o, a, r)
+        rises_at : (j k : ℕ) → j < k → (k < length starts) ⊎ (k ≡ length starts)
+            → get_or starts' j 0 < get_or starts' k 0
+        rises_at j k l (inl p) = let o = b.old k p in let a = b.old j (omega (arith, l, p)) in
+            let r = w.rising j k l p in omega (arith, o, a, r)
         rises_at j k l (inr p) =
             let o : get_or starts' k 0 ≡ length stack = ap (λ (x : ℕ). get_or starts' x 0) p ∙ b.last in
             let a = b.old j (omega (arith, l, p)) in
@@ -251,7 +201,7 @@ module _ (g : List (List ℕ)) (met rank left stack starts work : List ℕ) (cou
         lowest_at (inl p) = b.old 0 p ∙ w.lowest
         lowest_at (inr p) =
             let e : length starts ≡ 0 = omega (arith, p) in
-            let none : length stack ≡ 0 = empty_at (below_or 0 (length stack)) in
+            let none : length stack ≡ 0 = empty_at (cases_lt 0 (length stack)) in
             ap (λ (x : ℕ). get_or starts' x 0) (sym e) ∙ b.last ∙ none
           where
             empty_at : (0 < length stack) ⊎ (length stack ≤ 0) → length stack ≡ 0
@@ -260,15 +210,18 @@ module _ (g : List (List ℕ)) (met rank left stack starts work : List ℕ) (cou
 
         open_at : (a : ℕ) → (a < length work) ⊎ (a ≡ length work) → get_or rank (get_or work' a 0) 0 ≡ 0
         open_at a (inl p) = ap (λ (x : ℕ). get_or rank x 0) (q.old a p) ∙ w.work_open a p
-        open_at a (inr p) = ap (λ (x : ℕ). get_or rank x 0) (ap (λ (x : ℕ). get_or work' x 0) p ∙ q.last) ∙ w.new_open v new
+        open_at a (inr p) = ap (λ (x : ℕ). get_or rank x 0) (ap (λ (x : ℕ). get_or work' x 0) p ∙ q.last)
+            ∙ w.new_open v new
 
         met_at : (a : ℕ) → (a < length work) ⊎ (a ≡ length work) → 0 < get_or met' (get_or work' a 0) 0
         met_at a (inl p) =
-            let o : get_or met' (get_or work' a 0) 0 ≡ get_or met (get_or work a 0) 0 = ap (λ (x : ℕ). get_or met' x 0) (q.old a p) ∙ met_of (get_or work a 0) (w.work_met a p) in
+            let o : get_or met' (get_or work' a 0) 0 ≡ get_or met (get_or work a 0) 0 =
+            ap (λ (x : ℕ). get_or met' x 0) (q.old a p) ∙ met_of (get_or work a 0) (w.work_met a p) in
             let h = w.work_met a p in
             omega (arith, o, h)
         met_at a (inr p) =
-            let o : get_or met' (get_or work' a 0) 0 ≡ suc (length stack) = ap (λ (x : ℕ). get_or met' x 0) (ap (λ (x : ℕ). get_or work' x 0) p ∙ q.last) ∙ m.here in
+            let o : get_or met' (get_or work' a 0) 0 ≡ suc (length stack) =
+            ap (λ (x : ℕ). get_or met' x 0) (ap (λ (x : ℕ). get_or work' x 0) p ∙ q.last) ∙ m.here in
             omega (arith, o)
 
         -- what waits is open, so it stands on the stack
@@ -279,24 +232,32 @@ module _ (g : List (List ℕ)) (met rank left stack starts work : List ℕ) (cou
             turn zero e = omega arith
             turn (suc i) e = let f = w.found (get_or work a 0) i e (w.work_open a h) in let l = f.0 in omega (arith, l)
 
-        work_at : (a c : ℕ) → a < c → (c < length work) ⊎ (c ≡ length work) → get_or met' (get_or work' a 0) 0 < get_or met' (get_or work' c 0) 0
+        work_at : (a c : ℕ) → a < c → (c < length work) ⊎ (c ≡ length work)
+            → get_or met' (get_or work' a 0) 0 < get_or met' (get_or work' c 0) 0
         work_at a c l (inl p) =
             let h : a < length work = omega (arith, l, p) in
-            let o : get_or met' (get_or work' a 0) 0 ≡ get_or met (get_or work a 0) 0 = ap (λ (x : ℕ). get_or met' x 0) (q.old a h) ∙ met_of (get_or work a 0) (w.work_met a h) in
-            let n : get_or met' (get_or work' c 0) 0 ≡ get_or met (get_or work c 0) 0 = ap (λ (x : ℕ). get_or met' x 0) (q.old c p) ∙ met_of (get_or work c 0) (w.work_met c p) in
+            let o : get_or met' (get_or work' a 0) 0 ≡ get_or met (get_or work a 0) 0 =
+            ap (λ (x : ℕ). get_or met' x 0) (q.old a h) ∙ met_of (get_or work a 0) (w.work_met a h) in
+            let n : get_or met' (get_or work' c 0) 0 ≡ get_or met (get_or work c 0) 0 =
+            ap (λ (x : ℕ). get_or met' x 0) (q.old c p) ∙ met_of (get_or work c 0) (w.work_met c p) in
             let r = w.work_rising a c l p in
             omega (arith, o, n, r)
         work_at a c l (inr p) =
             let h : a < length work = omega (arith, l, p) in
-            let o : get_or met' (get_or work' a 0) 0 ≡ get_or met (get_or work a 0) 0 = ap (λ (x : ℕ). get_or met' x 0) (q.old a h) ∙ met_of (get_or work a 0) (w.work_met a h) in
-            let n : get_or met' (get_or work' c 0) 0 ≡ suc (length stack) = ap (λ (x : ℕ). get_or met' x 0) (ap (λ (x : ℕ). get_or work' x 0) p ∙ q.last) ∙ m.here in
+            let o : get_or met' (get_or work' a 0) 0 ≡ get_or met (get_or work a 0) 0 =
+            ap (λ (x : ℕ). get_or met' x 0) (q.old a h) ∙ met_of (get_or work a 0) (w.work_met a h) in
+            let n : get_or met' (get_or work' c 0) 0 ≡ suc (length stack) =
+            ap (λ (x : ℕ). get_or met' x 0) (ap (λ (x : ℕ). get_or work' x 0) p ∙ q.last) ∙ m.here in
             let r = work_low a h in
             omega (arith, o, n, r)
 
   -- ---- a reference leads down the stack, and the blocks from there on are joined
-  module _ (u t pu pt n : ℕ) (starts' : List ℕ) (f : Front starts n starts') (mu : get_or met u 0 ≡ suc pu) (ru : get_or rank u 0 ≡ 0)
-      (highest : (k : ℕ) → k < length starts → get_or starts k 0 ≤ pu) (edge : refers g u t ≡ true) (mt : get_or met t 0 ≡ suc pt) (rt : get_or rank t 0 ≡ 0)
-      (kept : (k : ℕ) → suc k ≡ n → get_or starts k 0 < suc pt) (gone : (k : ℕ) → n ≤ k → k < length starts → suc pt ≤ get_or starts k 0) where
+  module _ (u t pu pt n : ℕ) (starts' : List ℕ) (f : Front starts n starts') (mu : get_or met u 0 ≡ suc pu)
+      (ru : get_or rank u 0 ≡ 0)
+      (highest : (k : ℕ) → k < length starts → get_or starts k 0 ≤ pu) (edge : refers g u t ≡ true)
+      (mt : get_or met t 0 ≡ suc pt) (rt : get_or rank t 0 ≡ 0)
+      (kept : (k : ℕ) → suc k ≡ n → get_or starts k 0 < suc pt)
+      (gone : (k : ℕ) → n ≤ k → k < length starts → suc pt ≤ get_or starts k 0) where
     at_u : (pu < length stack) × (get_or stack pu 0 ≡ u)
     at_u = w.found u pu mu ru
 
@@ -308,7 +269,7 @@ module _ (g : List (List ℕ)) (met rank left stack starts work : List ℕ) (cou
     before_of k (suc c) h = (c, refl)
 
     low_kept : (k : ℕ) → k < n → get_or starts k 0 ≤ pt
-    low_kept k h = turn (below_or (suc k) n)
+    low_kept k h = turn (cases_lt (suc k) n)
       where
         turn : (suc k < n) ⊎ (n ≤ suc k) → get_or starts k 0 ≤ pt
         turn (inl p) =
@@ -321,20 +282,24 @@ module _ (g : List (List ℕ)) (met rank left stack starts work : List ℕ) (cou
         turn (inr p) = let l = kept k (omega (arith, p, h)) in omega (arith, l)
 
     low_of : (i j : ℕ) → Below starts' i j → (k : ℕ) → k < n → get_or starts k 0 ≤ i → get_or starts k 0 ≤ j
-    low_of i j b k l e = let o = f.old k l in let size = f.size in let r = b k (omega (arith, l, size)) (omega (arith, o, e)) in omega (arith, o, r)
+    low_of i j b k l e = let o = f.old k l in let size = f.size in
+        let r = b k (omega (arith, l, size)) (omega (arith, o, e)) in omega (arith, o, r)
 
     first_gone : (k : ℕ) → n ≤ k → k < length starts → get_or starts n 0 ≤ get_or starts k 0
-    first_gone k h l = turn (below_or n k)
+    first_gone k h l = turn (cases_lt n k)
       where
         turn : (n < k) ⊎ (k ≤ n) → get_or starts n 0 ≤ get_or starts k 0
         turn (inl p) = let r = w.rising n k p l in omega (arith, r)
-        turn (inr p) = let e : n ≡ k = omega (arith, h, p) in let r = ap (λ (x : ℕ). get_or starts x 0) e in omega (arith, r)
+        turn (inr p) = let e : n ≡ k = omega (arith, h, p) in let r = ap (λ (x : ℕ). get_or starts x 0) e in
+            omega (arith, r)
 
-    joins : (i j : ℕ) → i < length stack → j < length stack → Below starts' i j → Leads g (get_or stack j 0) (get_or stack i 0)
-    joins i j h l b = turn (below_or n (length starts)) (below_or i (get_or starts n 0))
+    joins : (i j : ℕ) → i < length stack → j < length stack → Below starts' i j
+        → Leads g (get_or stack j 0) (get_or stack i 0)
+    joins i j h l b = turn (cases_lt n (length starts)) (cases_lt i (get_or starts n 0))
       where
-        below_t : n < length starts → get_or starts n 0 ≤ i → (k : ℕ) → k < length starts → get_or starts k 0 ≤ pt → get_or starts k 0 ≤ j
-        below_t p q k s e = at_k (below_or k n)
+        below_t : n < length starts → get_or starts n 0 ≤ i → (k : ℕ) → k < length starts → get_or starts k 0 ≤ pt
+            → get_or starts k 0 ≤ j
+        below_t p q k s e = at_k (cases_lt k n)
           where
             at_k : (k < n) ⊎ (n ≤ k) → get_or starts k 0 ≤ j
             at_k (inl r) = let z = w.rising k n r p in low_of i j b k r (omega (arith, z, q))
@@ -342,18 +307,22 @@ module _ (g : List (List ℕ)) (met rank left stack starts work : List ℕ) (cou
 
         through : n < length starts → get_or starts n 0 ≤ i → Leads g (get_or stack j 0) (get_or stack i 0)
         through p q =
-            let a : Leads g u (get_or stack i 0) = led_by g (get_or stack pu 0) (get_or stack i 0) u (get_or stack i 0) (sym at_u.1) refl (w.linked i pu h at_u.0 (λ k s e. highest k s)) in
-            let c : Leads g (get_or stack j 0) t = led_by g (get_or stack j 0) (get_or stack pt 0) (get_or stack j 0) t refl (sym at_t.1) (w.linked pt j at_t.0 l (below_t p q)) in
+            let a : Leads g u (get_or stack i 0) = led_by g (get_or stack pu 0) (get_or stack i 0) u (get_or stack i 0)
+            (sym at_u.1) refl (w.linked i pu h at_u.0 (λ k s e. highest k s)) in
+            let c : Leads g (get_or stack j 0) t = led_by g (get_or stack j 0) (get_or stack pt 0)
+            (get_or stack j 0) t refl (sym at_t.1) (w.linked pt j at_t.0 l (below_t p q)) in
             onward g (get_or stack j 0) u (get_or stack i 0) a (along u t edge c)
 
-        inside : ((k : ℕ) → n ≤ k → k < length starts → i < get_or starts k 0) → Leads g (get_or stack j 0) (get_or stack i 0)
-        inside none = w.linked i j h l (λ k s e. at_k k s e (below_or k n))
+        inside : ((k : ℕ) → n ≤ k → k < length starts → i < get_or starts k 0)
+            → Leads g (get_or stack j 0) (get_or stack i 0)
+        inside none = w.linked i j h l (λ k s e. at_k k s e (cases_lt k n))
           where
             at_k : (k : ℕ) → k < length starts → get_or starts k 0 ≤ i → (k < n) ⊎ (n ≤ k) → get_or starts k 0 ≤ j
             at_k k s e (inl r) = low_of i j b k r e
             at_k k s e (inr r) = let z = none k r s in absurd (omega (arith, z, e))
 
-        turn : (n < length starts) ⊎ (length starts ≤ n) → (i < get_or starts n 0) ⊎ (get_or starts n 0 ≤ i) → Leads g (get_or stack j 0) (get_or stack i 0)
+        turn : (n < length starts) ⊎ (length starts ≤ n) → (i < get_or starts n 0) ⊎ (get_or starts n 0 ≤ i)
+            → Leads g (get_or stack j 0) (get_or stack i 0)
         turn (inl p) (inl q) = inside (λ k r s. let z = first_gone k r s in omega (arith, z, q))
         turn (inl p) (inr q) = through p q
         turn (inr p) q = inside (λ k r s. absurd (omega (arith, p, r, s)))
@@ -371,7 +340,7 @@ module _ (g : List (List ℕ)) (met rank left stack starts work : List ℕ) (cou
     seen_front i x (above j e b) = above j e (below_front i j b)
 
     some_kept : 0 < n
-    some_kept = turn (below_or 0 n)
+    some_kept = turn (cases_lt 0 n)
       where
         turn : (0 < n) ⊎ (n ≤ 0) → 0 < n
         turn (inl p) = p
@@ -398,7 +367,8 @@ module _ (g : List (List ℕ)) (met rank left stack starts work : List ℕ) (cou
       linked = joins;
       scanned = λ i e h l k s. seen_front i (get_or (targets_at g (get_or stack i 0)) e 0) (w.scanned i e h l k s);
       done = w.done;
-      starts_low = λ k h. let size = f.size in let fits = f.fits in let o = f.old k (omega (arith, h, size)) in let r = w.starts_low k (omega (arith, h, size, fits)) in omega (arith, o, r);
+      starts_low = λ k h. let size = f.size in let fits = f.fits in let o = f.old k (omega (arith, h, size)) in
+          let r = w.starts_low k (omega (arith, h, size, fits)) in omega (arith, o, r);
       rising = λ j k l h.
           let size = f.size in
           let fits = f.fits in
@@ -414,7 +384,8 @@ module _ (g : List (List ℕ)) (met rank left stack starts work : List ℕ) (cou
     }
 
     pub joined_seen : IsSeen met rank starts' pu t
-    joined_seen = above pt mt (λ k s e. let size = f.size in let o = f.old k (omega (arith, s, size)) in let r = low_kept k (omega (arith, s, size)) in omega (arith, o, r))
+    joined_seen = above pt mt (λ k s e. let size = f.size in let o = f.old k (omega (arith, s, size)) in
+        let r = low_kept k (omega (arith, s, size)) in omega (arith, o, r))
 
   -- ---- nothing is left to be followed from the last structure that waits
   module _ (x : ℕ) (work' : List ℕ) (q : Pushed work' x work) (none : get_or left x 0 ≡ 0) where
@@ -424,7 +395,8 @@ module _ (g : List (List ℕ)) (met rank left stack starts work : List ℕ) (cou
       where
         turn : (s.place < length work') ⊎ (s.place ≡ length work') → IsDone left work' v
         turn (inl p) = waits (record { place = s.place; low = p; is = sym (q.old s.place p) ∙ s.is })
-        turn (inr p) = none_left (ap (λ (y : ℕ). get_or left y 0) (sym s.is ∙ ap (λ (y : ℕ). get_or work y 0) p ∙ q.last) ∙ none)
+        turn (inr p) = none_left
+            (ap (λ (y : ℕ). get_or left y 0) (sym s.is ∙ ap (λ (y : ℕ). get_or work y 0) p ∙ q.last) ∙ none)
 
     pub popped : IsWalk g met rank left stack starts work' count
     popped = record {
@@ -449,7 +421,8 @@ module _ (g : List (List ℕ)) (met rank left stack starts work : List ℕ) (cou
       lowest = w.lowest;
       work_open = λ a h. ap (λ (y : ℕ). get_or rank y 0) (sym (q.old a h)) ∙ w.work_open a (longer a h);
       work_met = λ a h. let o = met_old a h in let r = w.work_met a (longer a h) in omega (arith, o, r);
-      work_rising = λ a b l h. let o = met_old b h in let m = met_old a (omega (arith, l, h)) in let r = w.work_rising a b l (longer b h) in omega (arith, o, m, r);
+      work_rising = λ a b l h. let o = met_old b h in let m = met_old a (omega (arith, l, h)) in
+          let r = w.work_rising a b l (longer b h) in omega (arith, o, m, r);
     }
       where
         longer : (a : ℕ) → a < length work' → a < length work
@@ -459,30 +432,38 @@ module _ (g : List (List ℕ)) (met rank left stack starts work : List ℕ) (cou
         met_old a h = ap (λ (y : ℕ). get_or met y 0) (q.old a h)
 
   -- ---- a reference was followed
-  module _ (u l : ℕ) (left' : List ℕ) (p : Written left u l left') (was : get_or left u 0 ≡ suc l) (mu : 0 < get_or met u 0)
-      (seen : (i : ℕ) → get_or met u 0 ≡ suc i → get_or (targets_at g u) l 0 < length g → IsSeen met rank starts i (get_or (targets_at g u) l 0)) where
+  module _ (u l : ℕ) (left' : List ℕ) (p : Written left u l left') (was : get_or left u 0 ≡ suc l)
+      (mu : 0 < get_or met u 0)
+      (seen : (i : ℕ) → get_or met u 0 ≡ suc i → get_or (targets_at g u) l 0 < length g
+      → IsSeen met rank starts i (get_or (targets_at g u) l 0)) where
     new_same : (v : ℕ) → get_or met v 0 ≡ 0 → v ≢ u
     new_same v e q = let r = ap (λ (y : ℕ). get_or met y 0) q in omega (arith, e, r, mu)
 
     still_done : (v : ℕ) → IsDone left work v → IsDone left' work v
-    still_done v (none_left e) = none_left (p.others v (λ q. let r = ap (λ (y : ℕ). get_or left y 0) q in omega (arith, e, r, was)) ∙ e)
+    still_done v (none_left e) = none_left
+        (p.others v (λ q. let r = ap (λ (y : ℕ). get_or left y 0) q in omega (arith, e, r, was)) ∙ e)
     still_done v (waits s) = waits s
 
-    follows : (i e : ℕ) → i < length stack → get_or left' (get_or stack i 0) 0 ≤ e → e < length (targets_at g (get_or stack i 0))
-        → get_or (targets_at g (get_or stack i 0)) e 0 < length g → IsSeen met rank starts i (get_or (targets_at g (get_or stack i 0)) e 0)
-    follows i e h s k t = turn (same_or (get_or stack i 0) u)
+    follows : (i e : ℕ) → i < length stack → get_or left' (get_or stack i 0) 0 ≤ e
+        → e < length (targets_at g (get_or stack i 0))
+        → get_or (targets_at g (get_or stack i 0)) e 0 < length g
+        → IsSeen met rank starts i (get_or (targets_at g (get_or stack i 0)) e 0)
+    follows i e h s k t = turn (cases_eq (get_or stack i 0) u)
       where
-        here_at : get_or stack i 0 ≡ u → (l < e) ⊎ (e ≤ l) → IsSeen met rank starts i (get_or (targets_at g (get_or stack i 0)) e 0)
+        here_at : get_or stack i 0 ≡ u → (l < e) ⊎ (e ≤ l)
+            → IsSeen met rank starts i (get_or (targets_at g (get_or stack i 0)) e 0)
         here_at q (inl r) = w.scanned i e h (let z = ap (λ (y : ℕ). get_or left y 0) q in omega (arith, z, was, r)) k t
         here_at q (inr r) =
             let z : get_or left' (get_or stack i 0) 0 ≡ l = ap (λ (y : ℕ). get_or left' y 0) q ∙ p.here in
             let c : e ≡ l = omega (arith, z, r, s) in
-            let b : get_or (targets_at g (get_or stack i 0)) e 0 ≡ get_or (targets_at g u) l 0 = λ j. get_or (targets_at g (q j)) (c j) 0 in
+            let b : get_or (targets_at g (get_or stack i 0)) e 0 ≡ get_or (targets_at g u) l 0 =
+            λ j. get_or (targets_at g (q j)) (c j) 0 in
             subst (λ (y : ℕ). IsSeen met rank starts i y) (sym b)
             (seen i (ap (λ (y : ℕ). get_or met y 0) (sym q) ∙ w.stands i h) (subst (λ (y : ℕ). y < length g) b t))
 
-        turn : (get_or stack i 0 ≡ u) ⊎ (get_or stack i 0 ≢ u) → IsSeen met rank starts i (get_or (targets_at g (get_or stack i 0)) e 0)
-        turn (inl q) = here_at q (below_or l e)
+        turn : (get_or stack i 0 ≡ u) ⊎ (get_or stack i 0 ≢ u)
+            → IsSeen met rank starts i (get_or (targets_at g (get_or stack i 0)) e 0)
+        turn (inl q) = here_at q (cases_lt l e)
         turn (inr q) = w.scanned i e h (let z = p.others (get_or stack i 0) q in omega (arith, z, s)) k t
 
     pub counted : IsWalk g met rank left' stack starts work count
@@ -492,7 +473,7 @@ module _ (g : List (List ℕ)) (met rank left stack starts work : List ℕ) (cou
       left_size = p.size ∙ w.left_size;
       new_open = w.new_open;
       new_left = λ v e. p.others v (new_same v e) ∙ w.new_left v e;
-      left_fits = λ v. fits_at v (same_or v u);
+      left_fits = λ v. fits_at v (cases_eq v u);
       stands = w.stands;
       unclosed = w.unclosed;
       found = w.found;
@@ -520,22 +501,27 @@ module _ (g : List (List ℕ)) (met rank left stack starts work : List ℕ) (cou
         fits_at v (inr q) = let z = p.others v q in let f = w.left_fits v in omega (arith, z, f)
 
   -- ---- the uppermost block is a component
-  target_index : (ns : List ℕ) (t : ℕ) → some_target (λ n. eqb n t) ns ≡ true → (e : ℕ) × (e < length ns) × (get_or ns e 0 ≡ t)
+  target_index : (ns : List ℕ) (t : ℕ) → some_target (λ n. eqb n t) ns ≡ true
+      → (e : ℕ) × (e < length ns) × (get_or ns e 0 ≡ t)
   target_index [] t h = absurd cc
   target_index (n ∷ ns) t h = turn (eqb n t) refl h (target_index ns t)
     where
-      further : (e : ℕ) × (e < length ns) × (get_or ns e 0 ≡ t) → (e : ℕ) × (e < suc (length ns)) × (get_or (n ∷ ns) e 0 ≡ t)
+      further : (e : ℕ) × (e < length ns) × (get_or ns e 0 ≡ t) → (e : ℕ) × (e < suc (length ns))
+          × (get_or (n ∷ ns) e 0 ≡ t)
       further i = let l = i.1 in (suc i.0, omega (arith, l), i.2)
 
-      turn : (z : Bool) → eqb n t ≡ z → (z || some_target (λ m. eqb m t) ns) ≡ true → (some_target (λ m. eqb m t) ns ≡ true → (e : ℕ) × (e < length ns) × (get_or ns e 0 ≡ t))
+      turn : (z : Bool) → eqb n t ≡ z → (z || some_target (λ m. eqb m t) ns) ≡ true
+          → (some_target (λ m. eqb m t) ns ≡ true → (e : ℕ) × (e < length ns) × (get_or ns e 0 ≡ t))
           → (e : ℕ) × (e < suc (length ns)) × (get_or (n ∷ ns) e 0 ≡ t)
       turn true e f r = (0, omega arith, eqb-true n t e)
       turn false e f r = further (r f)
 
-  module _ (s top count' : ℕ) (rank' stack' starts' : List ℕ) (size : length starts ≡ suc top) (is : get_or starts top 0 ≡ s)
+  module _ (s top count' : ℕ) (rank' stack' starts' : List ℕ) (size : length starts ≡ suc top)
+      (is : get_or starts top 0 ≡ s)
       (idle : (a : ℕ) → a < length work → get_or met (get_or work a 0) 0 ≤ s)
       (members : (i : ℕ) → s ≤ i → i < length stack → get_or rank' (get_or stack i 0) 0 ≡ suc count)
-      (others : (v : ℕ) → IsRankedAt rank stack s (length stack) rank' v) (rank_same : length rank' ≡ length rank) (counts : count' + s ≡ count + length stack)
+      (others : (v : ℕ) → IsRankedAt rank stack s (length stack) rank' v) (rank_same : length rank' ≡ length rank)
+      (counts : count' + s ≡ count + length stack)
       (fs : Front stack s stack') (fb : Front starts top starts') where
     start_low : s < length stack
     start_low = let l = w.starts_low top (omega (arith, size)) in omega (arith, l, is)
@@ -582,11 +568,12 @@ module _ (g : List (List ℕ)) (met rank left stack starts work : List ℕ) (cou
     Fallen u t = (0 < get_or rank' t 0) × (get_or rank' t 0 ≤ get_or rank' u 0)
 
     closed_target : (u t : ℕ) → get_or rank' u 0 ≡ suc count → 0 < get_or rank t 0 → Fallen u t
-    closed_target u t e h = let k = kept_rank t h in let b = w.bounded t in (omega (arith, k, h), omega (arith, k, b, e))
+    closed_target u t e h = let k = kept_rank t h in let b = w.bounded t in
+        (omega (arith, k, h), omega (arith, k, b, e))
 
     seen_target : (i u t : ℕ) → s ≤ i → get_or rank' u 0 ≡ suc count → IsSeen met rank starts i t → Fallen u t
     seen_target i u t h e (closed c) = closed_target u t e c
-    seen_target i u t h e (above j m b) = turn (below_or 0 (get_or rank t 0))
+    seen_target i u t h e (above j m b) = turn (cases_lt 0 (get_or rank t 0))
       where
         turn : (0 < get_or rank t 0) ⊎ (get_or rank t 0 ≤ 0) → Fallen u t
         turn (inl p) = closed_target u t e p
@@ -599,14 +586,18 @@ module _ (g : List (List ℕ)) (met rank left stack starts work : List ℕ) (cou
     falls_now : (u t : ℕ) → 0 < get_or rank' u 0 → refers g u t ≡ true → t < length g → Fallen u t
     falls_now u t h edge low = turn (others u)
       where
-        at_place : (i : ℕ) → s ≤ i → i < length stack → get_or stack i 0 ≡ u → IsDone left work (get_or stack i 0) → Fallen u t
+        at_place : (i : ℕ) → s ≤ i → i < length stack → get_or stack i 0 ≡ u → IsDone left work (get_or stack i 0)
+            → Fallen u t
         at_place i a b e (none_left z) =
             let o = target_index (targets_at g u) t edge in
             let d = o.1 in
-            let k : get_or (targets_at g (get_or stack i 0)) o.0 0 ≡ t = ap (λ (y : ℕ). get_or (targets_at g y) o.0 0) e ∙ o.2 in
-            let n : length (targets_at g (get_or stack i 0)) ≡ length (targets_at g u) = ap (λ (y : ℕ). length (targets_at g y)) e in
+            let k : get_or (targets_at g (get_or stack i 0)) o.0 0 ≡ t =
+            ap (λ (y : ℕ). get_or (targets_at g y) o.0 0) e ∙ o.2 in
+            let n : length (targets_at g (get_or stack i 0)) ≡ length (targets_at g u) =
+            ap (λ (y : ℕ). length (targets_at g y)) e in
             seen_target i u t a (rank_now i u a b e)
-            (subst (λ (y : ℕ). IsSeen met rank starts i y) k (w.scanned i o.0 b (omega (arith, z)) (omega (arith, d, n)) (omega (arith, k, low))))
+            (subst (λ (y : ℕ). IsSeen met rank starts i y) k
+            (w.scanned i o.0 b (omega (arith, z)) (omega (arith, d, n)) (omega (arith, k, low))))
         at_place i a b e (waits v) =
             let m : get_or met (get_or work v.place 0) 0 ≡ suc i = ap (λ (y : ℕ). get_or met y 0) v.is ∙ w.stands i b in
             let l = idle v.place v.low in
@@ -624,18 +615,23 @@ module _ (g : List (List ℕ)) (met rank left stack starts work : List ℕ) (cou
     alike_now : (u v : ℕ) → 0 < get_or rank' u 0 → get_or rank' u 0 ≡ get_or rank' v 0 → Leads g v u
     alike_now u v h e = turn (others u) (others v)
       where
-        turn : IsRankedAt rank stack s (length stack) rank' u → IsRankedAt rank stack s (length stack) rank' v → Leads g v u
+        turn : IsRankedAt rank stack s (length stack) rank' u → IsRankedAt rank stack s (length stack) rank' v
+            → Leads g v u
         turn (as_before a) (as_before b) = w.alike u v (omega (arith, a, h)) (sym a ∙ e ∙ b)
-        turn (as_before a) (within j p q r) = let n = rank_now j v p q r in let b = w.bounded u in absurd (omega (arith, n, b, a, e))
-        turn (within i p q r) (as_before a) = let n = rank_now i u p q r in let b = w.bounded v in absurd (omega (arith, n, b, a, e))
+        turn (as_before a) (within j p q r) = let n = rank_now j v p q r in let b = w.bounded u in
+            absurd (omega (arith, n, b, a, e))
+        turn (within i p q r) (as_before a) = let n = rank_now i u p q r in let b = w.bounded v in
+            absurd (omega (arith, n, b, a, e))
         turn (within i p q r) (within j a b c) =
-            led_by g (get_or stack j 0) (get_or stack i 0) v u (sym c) (sym r) (w.linked i j q b (λ k l z. let t = top_start k l in omega (arith, t, a)))
+            led_by g (get_or stack j 0) (get_or stack i 0) v u (sym c) (sym r)
+            (w.linked i j q b (λ k l z. let t = top_start k l in omega (arith, t, a)))
 
     below_now : (i j : ℕ) → i < s → Below starts' i j → Below starts i j
     below_now i j h b k l e = turn (last_or k top (length starts) l size)
       where
         turn : (k < top) ⊎ (k ≡ top) → get_or starts k 0 ≤ j
-        turn (inl p) = let o = fb.old k p in let n = fb.size in let r = b k (omega (arith, p, n)) (omega (arith, o, e)) in omega (arith, o, r)
+        turn (inl p) = let o = fb.old k p in let n = fb.size in
+            let r = b k (omega (arith, p, n)) (omega (arith, o, e)) in omega (arith, o, r)
         turn (inr p) = let r = ap (λ (y : ℕ). get_or starts y 0) p in absurd (omega (arith, r, is, e, h))
 
     front_below : (i j : ℕ) → Below starts i j → Below starts' i j
@@ -670,19 +666,22 @@ module _ (g : List (List ℕ)) (met rank left stack starts work : List ℕ) (cou
       stands = λ i h. ap (λ (y : ℕ). get_or met y 0) (same_at i h) ∙ w.stands i (on_stack_before i h);
       unclosed = λ i h.
           let z = low_place i h in
-          ap (λ (y : ℕ). get_or rank' y 0) (same_at i h) ∙ kept_zero (get_or stack i 0) (suc i) (w.stands i (on_stack_before i h)) (omega (arith, z)) (w.unclosed i (on_stack_before i h));
-      found = λ v i e r. found_now v i r (w.found v i e (old_zero v r)) (below_or i s);
+          ap (λ (y : ℕ). get_or rank' y 0) (same_at i h) ∙ kept_zero (get_or stack i 0) (suc i)
+          (w.stands i (on_stack_before i h)) (omega (arith, z)) (w.unclosed i (on_stack_before i h));
+      found = λ v i e r. found_now v i r (w.found v i e (old_zero v r)) (cases_lt i s);
       falls = falls_now;
       bounded = λ v. bounded_now v (others v);
       alike = alike_now;
       linked = λ i j h l b.
-          led_by g (get_or stack j 0) (get_or stack i 0) (get_or stack' j 0) (get_or stack' i 0) (same_at j l) (same_at i h)
+          led_by g (get_or stack j 0) (get_or stack i 0) (get_or stack' j 0) (get_or stack' i 0) (same_at j l)
+          (same_at i h)
           (w.linked i j (on_stack_before i h) (on_stack_before j l) (below_now i j (low_place i h) b));
       scanned = λ i e h l k t.
           let o : get_or stack' i 0 ≡ get_or stack i 0 = same_at i h in
           subst (λ (x : ℕ). IsSeen met rank' starts' i (get_or (targets_at g x) e 0)) (sym o)
           (seen_now i (get_or (targets_at g (get_or stack i 0)) e 0)
-          (w.scanned i e (on_stack_before i h) (subst (λ (x : ℕ). get_or left x 0 ≤ e) o l) (subst (λ (x : ℕ). e < length (targets_at g x)) o k)
+          (w.scanned i e (on_stack_before i h) (subst (λ (x : ℕ). get_or left x 0 ≤ e) o l)
+          (subst (λ (x : ℕ). e < length (targets_at g x)) o k)
           (subst (λ (x : ℕ). get_or (targets_at g x) e 0 < length g) o t)));
       done = λ i h. subst (λ (x : ℕ). IsDone left work x) (sym (same_at i h)) (w.done i (on_stack_before i h));
       starts_low = λ k h.
@@ -697,14 +696,15 @@ module _ (g : List (List ℕ)) (met rank left stack starts work : List ℕ) (cou
           let a = fb.old j (omega (arith, l, h, n)) in
           let r = w.rising j k l (omega (arith, h, n, size)) in
           omega (arith, o, a, r);
-      some_start = λ h. some_now (below_or 0 top) (let m = fs.size in omega (arith, h, m));
-      lowest = lowest_now (below_or 0 top);
+      some_start = λ h. some_now (cases_lt 0 top) (let m = fs.size in omega (arith, h, m));
+      lowest = lowest_now (cases_lt 0 top);
       work_open = λ a h. kept_zero (get_or work a 0) (get_or met (get_or work a 0) 0) refl (idle a h) (w.work_open a h);
       work_met = w.work_met;
       work_rising = w.work_rising;
     }
       where
-        found_now : (v i : ℕ) → get_or rank' v 0 ≡ 0 → (i < length stack) × (get_or stack i 0 ≡ v) → (i < s) ⊎ (s ≤ i) → (i < length stack') × (get_or stack' i 0 ≡ v)
+        found_now : (v i : ℕ) → get_or rank' v 0 ≡ 0 → (i < length stack) × (get_or stack i 0 ≡ v) → (i < s) ⊎ (s ≤ i)
+            → (i < length stack') × (get_or stack' i 0 ≡ v)
         found_now v i r f (inl p) = let n = fs.size in (omega (arith, p, n), fs.old i p ∙ f.1)
         found_now v i r f (inr p) = let n = rank_now i v p f.0 f.1 in absurd (omega (arith, n, r))
 

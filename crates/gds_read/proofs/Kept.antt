@@ -27,7 +27,9 @@ module _ {S : Type 0} (next : S → Record → S) (Fact : S → Record → Type 
   starts_kept s [] g = tt
   starts_kept s (r ∷ rs) g = turn (eqb r.kind 5) (starts_kept (next s r) rs g.1)
     where
-      turn : (z : Bool) → AllByRecursion (Kept next Fact) (starts rs) → AllByRecursion (Kept next Fact) (elim z as (λ (x : Bool). List (List Record)) [ true ↦ rs ∷ starts rs | false ↦ starts rs ])
+      turn : (z : Bool) → AllByRecursion (Kept next Fact) (starts rs)
+          → AllByRecursion (Kept next Fact)
+          (elim z as (λ (x : Bool). List (List Record)) [ true ↦ rs ∷ starts rs | false ↦ starts rs ])
       turn true h = (record { state = next s r; good = g.1 }, h)
       turn false h = h
 
@@ -35,19 +37,27 @@ module _ {S : Type 0} (next : S → Record → S) (Fact : S → Record → Type 
   up_to_kept k s [] g = tt
   up_to_kept k s (r ∷ rs) g = turn (eqb r.kind k) (up_to_kept k (next s r) rs g.1)
     where
-      turn : (z : Bool) → From next Fact (next s r) (up_to k rs) → From next Fact s (elim z as (λ (x : Bool). List Record) [ true ↦ [] | false ↦ r ∷ up_to k rs ])
+      turn : (z : Bool) → From next Fact (next s r) (up_to k rs)
+          → From next Fact s (elim z as (λ (x : Bool). List Record) [ true ↦ [] | false ↦ r ∷ up_to k rs ])
       turn true h = tt
       turn false h = (g.0, h)
 
-  parts_kept : (k : ℕ) (s : S) (front rs : List Record) → From next Fact s (front ++ rs) → AllByRecursion (Kept next Fact) (parts k front rs)
+  parts_kept : (k : ℕ) (s : S) (front rs : List Record) → From next Fact s (front ++ rs)
+      → AllByRecursion (Kept next Fact) (parts k front rs)
   parts_kept k s front [] g = tt
   parts_kept k s front (r ∷ rs) g =
-      let h : From next Fact s ((front ++ r ∷ []) ++ rs) = subst (λ (x : List Record). From next Fact s x) (sym (append_assoc front (r ∷ []) rs)) g in
+      let h : From next Fact s ((front ++ r ∷ []) ++ rs) = subst (λ (x : List Record). From next Fact s x)
+      (sym (append_assoc front (r ∷ []) rs)) g in
       let b = back_kept s (front ++ r ∷ []) rs h in
       turn (eqb r.kind k) h (parts_kept k b.state [] rs b.good) (parts_kept k s (front ++ r ∷ []) rs h)
     where
-      turn : (z : Bool) → From next Fact s ((front ++ r ∷ []) ++ rs) → AllByRecursion (Kept next Fact) (parts k [] rs) → AllByRecursion (Kept next Fact) (parts k (front ++ r ∷ []) rs)
-          → AllByRecursion (Kept next Fact) (elim z as (λ (x : Bool). List (List Record)) [ true ↦ (front ++ r ∷ []) ∷ parts k [] rs | false ↦ parts k (front ++ r ∷ []) rs ])
+      turn : (z : Bool) → From next Fact s ((front ++ r ∷ []) ++ rs) → AllByRecursion (Kept next Fact) (parts k [] rs)
+          → AllByRecursion (Kept next Fact) (parts k (front ++ r ∷ []) rs)
+          → AllByRecursion (Kept next Fact)
+          (elim z as (λ (x : Bool). List (List Record)) [
+            | true ↦ (front ++ r ∷ []) ∷ parts k [] rs
+            | false ↦ parts k (front ++ r ∷ []) rs
+          ])
       turn true h a b = (record { state = s; good = front_kept s (front ++ r ∷ []) rs h }, a)
       turn false h a b = b
 

@@ -11,6 +11,7 @@ pub mod Items
 pub mod Numbering
 pub mod Judged
 pub mod Graphs
+pub mod ListSteps
 pub mod BlockSteps
 pub mod Walking
 pub mod LoopWays

@@ -1,7 +1,7 @@
 -- What a record comes to at the front of a sequence, and at a place, is what the language there says.
 use Rattle.std.proofs.Common.{◌≡◌, ℕ, List, [], ◌∷◌, Bool, true, false, eqb}
 use Rattle.std.proofs.Common.{◌&&◌, Option, Some, None, refl, sym, ap, subst, ◌∙◌, arith}
-use Rattle.std.proofs.lemmas.Bool.{eqb-true}
+use Rattle.std.proofs.lemmas.Bool.{eqb-true, and_parts, and_right}
 use Rattle.std.proofs.lemmas.Bool.Decides.{nat_tests}
 use Rattle.gds_records.specs.Language.{Language, Nothing, Empty, One, Then, Either, Many}
 use Rattle.gds_records.specs.Derivative.{speaks_nothing, then, either, after}
@@ -18,10 +18,6 @@ use Rattle.gds_read.specs.declared.place.Place.{Place}
 use Rattle.gds_read.specs.Code.Sequences.{part, in_parts, in_sequence, choices, pick, Followed, On}
 use Rattle.gds_read.specs.Code.Sequences.{Past, Barred, follow, followed, is_nothing, bars, each_kind, is_clear}
 use Rattle.gds_read.specs.Code.Places.{inside, behind, and_then, at_level, rest_of, is_clear_place, IsAt}
-
-and_true : (a b : Bool) → (a && b) ≡ true → (a ≡ true) × (b ≡ true)
-and_true true b e = (refl, e)
-and_true false b e = absurd cc
 
 -- ---- parts
 
@@ -73,26 +69,29 @@ module _ (test : ℕ → Bool) (k : ℕ) (q : Part) where
       → (test k ≡ true) × (each_kind test q ≡ true)
   picked [] g e = absurd cc
   picked (c ∷ cs) g e =
-      let p = and_true (test c.0 && each_kind test c.1) (good cs) g in
-      turn (eqb c.0 k) refl (and_true (test c.0) (each_kind test c.1) p.0) (picked cs p.1) e
+      let p = and_parts (test c.0 && each_kind test c.1) (good cs) g in
+      turn (eqb c.0 k) refl (and_parts (test c.0) (each_kind test c.1) p.0) (picked cs p.1) e
     where
       turn : (z : Bool) → eqb c.0 k ≡ z → (test c.0 ≡ true) × (each_kind test c.1 ≡ true)
           → (pick k cs ≡ Some q → (test k ≡ true) × (each_kind test q ≡ true))
           → (elim z as (λ (x : Bool). Option Part) [ true ↦ Some c.1 | false ↦ pick k cs ]) ≡ Some q
           → (test k ≡ true) × (each_kind test q ≡ true)
       turn true f h more i =
-          let same : c.1 ≡ q = cc in
-          (subst (λ (x : ℕ). test x ≡ true) (eqb-true c.0 k f) h.0, subst (λ (x : Part). each_kind test x ≡ true) same h.1)
+          let same : c.1 ≡ q = cc in (
+            subst (λ (x : ℕ). test x ≡ true) (eqb-true c.0 k f) h.0,
+            subst
+                (λ (x : Part). each_kind test x ≡ true) same h.1,
+          )
       turn false f h more i = more i
 
   all_good : (p : Part) → each_kind test p ≡ true → good (choices p) ≡ true
   all_good Over e = refl
   all_good (Must j) e = rw e refl
   all_good (May j) e = rw e refl
-  all_good Flags e = let p = and_true (test 0x26) (test 0x2F) e in rw (p.0, p.1) refl
-  all_good Turn e = let p = and_true (test 0x1A) (test 0x1B && test 0x1C) e in
-      let r = and_true (test 0x1B) (test 0x1C) p.1 in rw (p.0, r.0, r.1) refl
-  all_good Turned e = let p = and_true (test 0x1B) (test 0x1C) e in rw (p.0, p.1) refl
+  all_good Flags e = let p = and_parts (test 0x26) (test 0x2F) e in rw (p.0, p.1) refl
+  all_good Turn e = let p = and_parts (test 0x1A) (test 0x1B && test 0x1C) e in
+      let r = and_parts (test 0x1B) (test 0x1C) p.1 in rw (p.0, r.0, r.1) refl
+  all_good Turned e = let p = and_parts (test 0x1B) (test 0x1C) e in rw (p.0, p.1) refl
 
 -- ---- sequences
 
@@ -137,9 +136,10 @@ module _ (k : ℕ) (l : Language) where
   parts_follow : (ps : List Part) → is_clear ps l ≡ true → Follows (in_parts ps l) (follow k ps)
   parts_follow [] e = record { follows = refl; clear = refl }
   parts_follow (p ∷ ps) e =
-      let c = and_true (each_kind (bars (in_parts ps l)) p) (is_clear ps l) e in
+      let c = and_parts (each_kind (bars (in_parts ps l)) p) (is_clear ps l) e in
       turn (pick k (choices p)) (speaks_nothing (part p)) (part_after k p) refl
-      (λ q i. picked (bars (in_parts ps l)) k q (choices p) (all_good (bars (in_parts ps l)) k q p c.0) i) c.1 (parts_follow ps c.1)
+      (λ q i. picked (bars (in_parts ps l)) k q (choices p) (all_good (bars (in_parts ps l)) k q p c.0) i) c.1
+      (parts_follow ps c.1)
     where
       x : Language
       x = in_parts ps l
@@ -152,11 +152,16 @@ module _ (k : ℕ) (l : Language) where
             | None ↦ elim z as (λ (t : Bool). Followed) [ true ↦ follow k ps | false ↦ Barred ]
           ])
       turn None false d n g c later = record { follows = after_two k (part p) x false n ∙ rw d refl; clear = refl }
-      turn None true d n g c later = record { follows = after_two k (part p) x true n ∙ rw d later.follows; clear = later.clear }
+      turn None true d n g c later = record {
+        follows = after_two k (part p) x true n
+            ∙ rw d later.follows;
+        clear = later.clear;
+      }
       turn (Some q) false d n g c later =
           record { follows = after_two k (part p) x false n ∙ rw d refl; clear = rw ((g q refl).1, c) refl }
       turn (Some q) true d n g c later = record {
-        follows = after_two k (part p) x true n ∙ rw (d, no_words (after k x) (g q refl).0) (either_nothing (then (part q) x));
+        follows = after_two k (part p) x true n ∙ rw (d, no_words (after k x) (g q refl).0)
+            (either_nothing (then (part q) x));
         clear = rw ((g q refl).1, c) refl;
       }
 
@@ -170,10 +175,6 @@ module _ (k : ℕ) (l : Language) where
   begun Turned a = refl
 
 -- ---- words of sequences
-
-and_false : (a b : Bool) → b ≡ false → (a && b) ≡ false
-and_false true b e = e
-and_false false b e = refl
 
 then_silent : (a b : Language) → speaks_nothing (then a b) ≡ (speaks_nothing a && speaks_nothing b)
 then_silent Nothing b = refl
@@ -202,7 +203,7 @@ part_alive Turned = refl
 module _ (l : Language) where
   parts_loud : (ps : List Part) → speaks_nothing l ≡ false → speaks_nothing (in_parts ps l) ≡ false
   parts_loud [] e = e
-  parts_loud (p ∷ ps) e = and_false (speaks_nothing (part p)) (speaks_nothing (in_parts ps l)) (parts_loud ps e)
+  parts_loud (p ∷ ps) e = and_right (speaks_nothing (part p)) (speaks_nothing (in_parts ps l)) (parts_loud ps e)
 
   loud : (s : Sequence) → speaks_nothing l ≡ false → speaks_nothing (in_sequence s l) ≡ false
   loud s e = then_silent (part s.front) (in_parts s.behind.now l) ∙ parts_loud (s.front ∷ s.behind.now) e
@@ -228,7 +229,8 @@ nothing_then (b ∷ bs) = nothing_then bs
 after_all_of : (k : ℕ) (a : Language) (bs : List Language) → speaks_nothing a ≡ false
     → after k (and_then a bs) ≡ then_all (after k a) bs
 after_all_of k a [] e = refl
-after_all_of k a (b ∷ bs) e = after_all_of k (Then a b) bs (rw e refl) ∙ ap (λ (x : Language). then_all x bs) (after_two k a b false e)
+after_all_of k a (b ∷ bs) e = after_all_of k (Then a b) bs (rw e refl)
+    ∙ ap (λ (x : Language). then_all x bs) (after_two k a b false e)
 
 -- where a language has words, and not only the empty one, nothing is left out
 then_is : (a b : Language) → alive a ≡ true → speaks_nothing a ≡ false → then a b ≡ Then a b

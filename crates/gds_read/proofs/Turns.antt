@@ -14,12 +14,14 @@ use Rattle.gds_records.specs.Language.{Language}
 use Rattle.gds_records.specs.Derivative.{after}
 use Rattle.gds_records.specs.Records.{Record, record_with, trimmed}
 use Rattle.gds_records.specs.Table.{wide_table, has_length_in}
-use Rattle.gds_records.specs.Values.{unsigned_value, is_text, is_name, is_nanometre, has_value}
-use Rattle.gds_records.specs.WideValues.{wide_opener, last_colrow, rule, refers, points, is_ring, is_path, is_lattice, columns, rows}
+use Rattle.gds_records.specs.Values.{unsigned_value, is_text, is_name, is_nanometre, has_value, rule}
+use Rattle.gds_records.specs.WideValues.{wide_opener, last_colrow, refers, points, is_ring, is_path, is_lattice}
+use Rattle.gds_records.specs.WideValues.{columns, rows}
 use Rattle.gds_records.specs.WideValues.{is_width, is_flip, is_one, is_turn, is_colrow, wide_fault_in}
 use Rattle.gds_records.specs.Profiles.{wide}
 use Rattle.gds_records.specs.Profiled.{own_fault_in, kind_of, form_of, length_of, here_record, alive, fault_of}
-use Rattle.gds_records.specs.Steps.{is_listed, names_with, Kept, kept_with, value_here, step_fault, Told, Stopped, Ended, steps}
+use Rattle.gds_records.specs.Steps.{is_listed, names_with, Kept, kept_with, value_here, step_fault, Told, Stopped}
+use Rattle.gds_records.specs.Steps.{Ended, steps}
 use Rattle.gds_read.specs.declared.place.Place.{Place}
 use Rattle.gds_read.specs.Code.Places.{rest_of}
 use Rattle.gds_read.specs.Code.Fronts.{IsWhole}
@@ -30,7 +32,15 @@ pub data_long : (b held : List ℕ) → IsWhole b → held ≡ drop 4 (take (len
     → has_length_in wide_table (kind_of b) (4 + length held) ≡ true
 data_long b held w e =
     let n : 4 + length held ≡ length_of b
-    = omega (arith, ap (λ (x : List ℕ). length x) e, length-drop 4 (take (length_of b) b), length-take (length_of b) b, w.least, w.enough) in
+    = omega (
+      arith,
+      ap (λ (x : List ℕ). length x) e,
+      length-drop 4 (take (length_of b) b),
+      length-take
+          (length_of b) b,
+      w.least,
+      w.enough,
+    ) in
     ap (λ (k : ℕ). has_length_in wide_table (kind_of b) k) n ∙ w.long
 
 -- ---- the value of a record, by its own bytes
@@ -39,31 +49,18 @@ only_names : (s t : Bool) (kind form : ℕ) (held : List ℕ) → (kind ≡ 6 �
     → has_value s (record_with kind form held) ≡ has_value t (record_with kind form held)
 only_names s t kind form held same = turn (eqb kind 6) refl
   where
-    choice : (z : Bool) → z ≡ false
-        → (elim z as (λ (x : Bool). Bool) [
-          | true ↦ is_name held && not s
-          | false ↦ elim (eqb kind 0x12) as (λ (x : Bool). Bool) [
-            | true ↦ is_name held
-            | false ↦ elim (eqb kind 0x10) as (λ (x : Bool). Bool) [ true ↦ eqb (length held) 8 | false ↦ true ]
-          ]
-        ])
-        ≡ (elim z as (λ (x : Bool). Bool) [
-          | true ↦ is_name held && not t
-          | false ↦ elim (eqb kind 0x12) as (λ (x : Bool). Bool) [
-            | true ↦ is_name held
-            | false ↦ elim (eqb kind 0x10) as (λ (x : Bool). Bool) [ true ↦ eqb (length held) 8 | false ↦ true ]
-          ]
-        ])
-    choice true e = absurd cc
-    choice false e = refl
+    choice : (z others : Bool) → z ≡ false → cond z (is_name held && not s) others ≡ cond z
+        (is_name held && not t) others
+    choice true others e = absurd cc
+    choice false others e = refl
 
-    turn : (z : Bool) → eqb kind 6 ≡ z → has_value s (record_with kind form held) ≡ has_value t (record_with kind form held)
+    turn : (z : Bool) → eqb kind 6 ≡ z → has_value s (record_with kind form held) ≡ has_value t
+        (record_with kind form held)
     turn true e = ap (λ (b : Bool). has_value b (record_with kind form held)) (same (eqb-true kind 6 e))
     turn false e =
-        ap (λ (v : Bool). elim (eqb kind 0x02 || eqb kind 0x19) as (λ (x : Bool). Bool) [
-          | true ↦ is_text held
-          | false ↦ elim (eqb kind 0x03) as (λ (x : Bool). Bool) [ true ↦ is_nanometre held | false ↦ v ]
-        ]) (choice (eqb kind 6) e)
+        ap (λ (v : Bool). cond (eqb kind 0x02 || eqb kind 0x19) (is_text held)
+        (cond (eqb kind 0x03) (is_nanometre held) v))
+        (choice (eqb kind 6) (cond (eqb kind 0x12) (is_name held) (cond (eqb kind 0x10) (eqb (length held) 8) true)) e)
 
 -- only a structure's name may be taken
 untaken : (element : ℕ) (colrow : List ℕ) (s t : Bool) (kind form : ℕ) (held : List ℕ) → (kind ≡ 6 → s ≡ t)
@@ -73,7 +70,8 @@ untaken element colrow s t kind form held same =
     ap (λ (v : Bool). rule (eqb kind 0x1A && refers element) (is_flip held) Unsupported
     (rule (eqb kind 0x1B && refers element) (is_one held) Unsupported
     (rule (eqb kind 0x1C && refers element) (is_turn held) Unsupported
-    (rule (eqb kind 0x21 && eqb element 0x09) (eqb (unsigned_value 0 held) 0 || eqb (unsigned_value 0 held) 2) Unsupported
+    (rule (eqb kind 0x21 && eqb element 0x09) (eqb (unsigned_value 0 held) 0
+    || eqb (unsigned_value 0 held) 2) Unsupported
     (rule (eqb kind 0x10 && eqb element 0x08) (is_ring (points held)) NotRectangle
     (rule (eqb kind 0x10 && eqb element 0x09) (is_path (points held)) Value
     (rule (eqb kind 0x10 && eqb element 0x0B) (is_lattice (columns colrow) (rows colrow) (points held)) Value
@@ -88,7 +86,8 @@ pub value_is : (element : ℕ) (colrow : List ℕ) (names : List (List ℕ)) (ta
     ≡ value_here wide (kept element colrow names) b
 value_is element colrow names taken b held e named =
     untaken element colrow taken (is_listed (trimmed held) names) (kind_of b) (form_of b) held named
-    ∙ ap (λ (h : List ℕ). wide_fault_in element colrow (is_listed (trimmed h) names) (record_with (kind_of b) (form_of b) h)) e
+    ∙ ap (λ (h : List ℕ). wide_fault_in element colrow (is_listed (trimmed h) names)
+    (record_with (kind_of b) (form_of b) h)) e
 
 -- ---- turns of the steps
 
@@ -110,16 +109,19 @@ turn_on o t z e rest a b = rw (a, b, turn) refl
 
 module _ (l : Language) (kept : Kept) (o : ℕ) (b : List ℕ) where
   abbrev here : ℕ → Told
-  here n = steps wide n (after (kind_of b) l) (kept_with wide kept (here_record b)) (o + length_of b) (drop (length_of b) b)
+  here n = steps wide n (after (kind_of b) l) (kept_with wide kept (here_record b)) (o + length_of b)
+      (drop (length_of b) b)
 
   abbrev ended : Told
   ended = Ended (o + length_of b) (drop (length_of b) b)
 
-  steps_stop : (n : ℕ) (k : StreamKind) → 0 < n → step_fault wide l kept b ≡ Some k → steps wide n l kept o b ≡ Stopped o k
+  steps_stop : (n : ℕ) (k : StreamKind) → 0 < n → step_fault wide l kept b ≡ Some k
+      → steps wide n l kept o b ≡ Stopped o k
   steps_stop zero k h e = absurd (omega arith)
   steps_stop (suc n) k h e = turn_stop o (step_fault wide l kept b) (eqb (kind_of b) 4) ended (here n) k e
 
-  steps_end : (n : ℕ) → 0 < n → step_fault wide l kept b ≡ None → eqb (kind_of b) 4 ≡ true → steps wide n l kept o b ≡ ended
+  steps_end : (n : ℕ) → 0 < n → step_fault wide l kept b ≡ None → eqb (kind_of b) 4 ≡ true
+      → steps wide n l kept o b ≡ ended
   steps_end zero h e f = absurd (omega arith)
   steps_end (suc n) h e f = turn_end o (step_fault wide l kept b) (eqb (kind_of b) 4) ended (here n) e f
 
@@ -158,7 +160,8 @@ fresh_name l kept b e k =
     let taken = is_listed (trimmed (here_record b).content) kept.names in
     let v = none_value (own_fault_in wide b) (alive (after (kind_of b) l)) (value_here wide kept b) e in
     let w : wide_fault_in kept.element kept.colrow taken (record_with 6 (form_of b) (here_record b).content) ≡ None
-    = ap (λ (y : ℕ). wide_fault_in kept.element kept.colrow taken (record_with y (form_of b) (here_record b).content)) (sym k) ∙ v in
+    = ap (λ (y : ℕ). wide_fault_in kept.element kept.colrow taken (record_with y (form_of b) (here_record b).content))
+    (sym k) ∙ v in
     wide_name kept.element kept.colrow taken (form_of b) (here_record b).content w
 
 with_name : (z : Bool) (names : List (List ℕ)) (t : List ℕ) → z ≡ true
@@ -169,7 +172,8 @@ without_name : (z : Bool) (names : List (List ℕ)) (t : List ℕ) → z ≡ fal
     → (elim z as (λ (x : Bool). List (List ℕ)) [ true ↦ names ++ t ∷ [] | false ↦ names ]) ≡ names
 without_name z names t e = rw e refl
 
-not_there : (t : Bool) (names : List (List ℕ)) (k : List ℕ) → t ≡ false → cond t names (names ++ k ∷ []) ≡ names ++ k ∷ []
+not_there : (t : Bool) (names : List (List ℕ)) (k : List ℕ) → t ≡ false
+    → cond t names (names ++ k ∷ []) ≡ names ++ k ∷ []
 not_there t names k e = rw e refl
 
 -- the names after a structure's name, as a reader has them
@@ -179,7 +183,8 @@ pub named : (l : Language) (kept : Kept) (names : List (List ℕ)) (b name : Lis
 named l kept names b name e k n i =
     let t = trimmed (here_record b).content in
     i ∙ ap (λ (y : List ℕ). insert_key bytes_eq kept.names y) n
-    ∙ not_there (list_any (bytes_eq t) kept.names) kept.names t (sym (listed_any t kept.names) ∙ fresh_name l kept b e k)
+    ∙ not_there (list_any (bytes_eq t) kept.names) kept.names t
+    (sym (listed_any t kept.names) ∙ fresh_name l kept b e k)
     ∙ sym (with_name (eqb (kind_of b) 6) kept.names t (ap (λ (y : ℕ). eqb y 6) k))
 
 pub unnamed : (names : List (List ℕ)) (b : List ℕ) → kind_of b ≢ 6 → names ≡ names_with names (here_record b)

@@ -1,6 +1,8 @@
 -- The points, grids and rings of a wide stream's fields.
-use Rattle.std.proofs.Common.{◌≡◌, ◌≢◌, ℕ, zero, suc, ◌+◌, ◌*◌, ◌/◌, ◌^◌, ◌<◌, ◌≤◌, List, [], ◌∷◌, ◌++◌, Bool, true, false}
-use Rattle.std.proofs.Common.{drop-cons, get_or, length, drop, refl, sym, ap, ◌∙◌, arith, ℤ, pos, ◌-ℤ◌, FitsSigned, of_z, to_z, append_assoc, nat_eq}
+use Rattle.std.proofs.Common.{◌≡◌, ◌≢◌, ℕ, zero, suc, ◌+◌, ◌*◌, ◌/◌, ◌^◌, ◌<◌, ◌≤◌, List, [], ◌∷◌, ◌++◌, Bool, true}
+use Rattle.std.proofs.Common.{false}
+use Rattle.std.proofs.Common.{drop-cons, get_or, length, drop, refl, sym, ap, ◌∙◌, arith, ℤ, pos, ◌-ℤ◌, FitsSigned}
+use Rattle.std.proofs.Common.{of_z, to_z, append_assoc, nat_eq}
 use Rattle.std.specs.Prelude.{◌&&◌, int_rem, unsigned_abs}
 use Rattle.std.specs.Int.{w32, w64}
 use Rattle.std.specs.Ordering.{int_eq}
@@ -18,7 +20,8 @@ use Rattle.gds_read.proofs.Placed.{four_low, drop_is_bytes, coordinate_fits}
 
 -- ---- points
 
-pub points_more : (xy : List ℕ) → 8 ≤ length xy → points xy ≡ point (coordinate xy 0) (coordinate xy 1) ∷ points (drop 8 xy)
+pub points_more : (xy : List ℕ) → 8 ≤ length xy → points xy ≡ point (coordinate xy 0) (coordinate xy 1)
+    ∷ points (drop 8 xy)
 points_more xy h =
     let e : length xy / 8 ≡ suc (length (drop 8 xy) / 8) = omega (arith, length-drop 8 xy) in
     ap (λ (n : ℕ). some_points n xy) e
@@ -42,7 +45,8 @@ further_twice : (xy : List ℕ) (i : ℕ) → coordinate (drop 8 (drop 8 xy)) i 
 further_twice xy i = further (drop 8 xy) i ∙ further xy (i + 2)
 
 three_points : (xy : List ℕ) → length xy / 8 ≡ 3
-    → points xy ≡ point (coordinate xy 0) (coordinate xy 1) ∷ point (coordinate xy 2) (coordinate xy 3) ∷ point (coordinate xy 4) (coordinate xy 5) ∷ []
+    → points xy ≡ point (coordinate xy 0) (coordinate xy 1) ∷ point (coordinate xy 2) (coordinate xy 3)
+    ∷ point (coordinate xy 4) (coordinate xy 5) ∷ []
 three_points xy e =
     ap (λ (n : ℕ). some_points n xy) e
     ∙ (λ k. point (coordinate xy 0) (coordinate xy 1) ∷ point (further xy 0 k) (further xy 1 k)
@@ -75,10 +79,13 @@ and_so : (s t u : Bool) → s ≡ true → u ≡ t → u ≡ (s && t)
 and_so s t u e f = f ∙ (λ k. sym e k && t)
 
 -- a coordinate as it is passed on
-pub passed : (xy : List ℕ) → IsBytes xy → (i : ℕ) (a : ℤ) → a ≡ coordinate xy i → to_z w32 (of_z w32 a) ≡ coordinate xy i
-passed xy bytes i a e = ap (λ (z : ℤ). to_z w32 (of_z w32 z)) e ∙ passed_on (coordinate xy i) (coordinate_fits xy i bytes)
+pub passed : (xy : List ℕ) → IsBytes xy → (i : ℕ) (a : ℤ) → a ≡ coordinate xy i
+    → to_z w32 (of_z w32 a) ≡ coordinate xy i
+passed xy bytes i a e = ap (λ (z : ℤ). to_z w32 (of_z w32 z)) e
+    ∙ passed_on (coordinate xy i) (coordinate_fits xy i bytes)
 
-pub both_multiples : (n : ℕ) (xy : List ℕ) (bytes : IsBytes xy) (i : ℕ) (a x b y : ℤ) (s u : Bool) → a ≡ coordinate xy 0 → x ≡ coordinate xy i
+pub both_multiples : (n : ℕ) (xy : List ℕ) (bytes : IsBytes xy) (i : ℕ) (a x b y : ℤ) (s u : Bool) → a ≡ coordinate xy 0
+    → x ≡ coordinate xy i
     → b ≡ coordinate xy 1 → y ≡ coordinate xy (i + 1)
     → s ≡ is_multiple n (to_z w32 (of_z w32 a)) (to_z w32 (of_z w32 x)) → s ≡ true
     → u ≡ is_multiple n (to_z w32 (of_z w32 b)) (to_z w32 (of_z w32 y))
@@ -91,7 +98,8 @@ both_multiples n xy bytes i a x b y s u p q r t e f g =
 
 pub lattice_three : (columns rows : ℕ) (xy : List ℕ) → length xy / 8 ≡ 3
     → is_lattice columns rows (points xy)
-    ≡ ((is_multiple columns (coordinate xy 0) (coordinate xy 2) && is_multiple columns (coordinate xy 1) (coordinate xy 3))
+    ≡ ((is_multiple columns (coordinate xy 0) (coordinate xy 2) && is_multiple columns (coordinate xy 1)
+    (coordinate xy 3))
     && (is_multiple rows (coordinate xy 0) (coordinate xy 4) && is_multiple rows (coordinate xy 1) (coordinate xy 5)))
 lattice_three columns rows xy e = ap (λ (ps : List Point). is_lattice columns rows ps) (three_points xy e)
 

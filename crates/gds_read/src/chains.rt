@@ -55,7 +55,8 @@ fn with_targets(alloc: Global, graph: &[List<u32>]) -> Result<Vec<bool>, Memory>
 
 // Marks the structures that reference a marked one.
 fn above(alloc: Global, graph: &[List<u32>], marks: &[bool]) -> Result<Vec<bool>, Memory>
-    ensures { IfOk result (λ above. above.items ≡ map (λ ns. some_target (λ n. slice_index_or marks.now n false) ns) graph.now) }
+    ensures { IfOk result
+        (λ above. above.items ≡ map (λ ns. some_target (λ n. slice_index_or marks.now n false) ns) graph.now) }
 {
     let mut above = Vec::new(alloc);
     for targets in graph {

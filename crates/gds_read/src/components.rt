@@ -2,9 +2,11 @@
 // of structures that lead to each other stand on a stack, each block leads to the next one, and a reference that leads
 // down the stack joins all blocks from there on. When nothing is left to be followed from the uppermost block, it is a
 // component.
-ghost use Rattle.std.specs.Prelude.{◌≡◌, ℕ, ◌+◌, ◌<◌, ◌≤◌, length, map, true, suc, slice_index, IfOk, OnOk, IfSome, IfNone};
+ghost use Rattle.std.specs.Prelude.{◌≡◌, ℕ, ◌+◌, ◌<◌, ◌≤◌, length, map, true, suc, slice_index, IfOk, OnOk, IfSome};
+ghost use Rattle.std.specs.Prelude.{IfNone};
 ghost use Rattle.gds_read.specs.Code.Graphs.{targets_at, refers};
-ghost use Rattle.gds_read.specs.Code.Components.{AreComponents, IsLast, Walks, Keeps, IsEntered, IsTop, IsFollowed, IsStepped, IsRanked, IsEnded};
+ghost use Rattle.gds_read.specs.Code.Components.{AreComponents, IsLast, Walks, Keeps, IsEntered, IsTop, IsFollowed};
+ghost use Rattle.gds_read.specs.Code.Components.{IsStepped, IsRanked, IsEnded};
 
 use aq_base::{List, Memory};
 use std::alloc::Global;
@@ -137,7 +139,8 @@ impl Walk {
     /// Gives the structures from a place of the stack on the number of the next component.
     fn number_from(&mut self, start: usize) -> Result<(), Memory>
         requires low { start ≤ length self.old.stack.items }
-        requires inside { (i : ℕ) → i < length self.old.stack.items → slice_index self.old.stack.items i < length self.old.rank.items }
+        requires inside { (i : ℕ) → i < length self.old.stack.items
+            → slice_index self.old.stack.items i < length self.old.rank.items }
         ensures { OnOk result (IsRanked self.old start (length self.old.stack.items) self.new) }
     {
         let rank = self.closed.len() + 1;
@@ -169,7 +172,8 @@ impl Walk {
     fn top(&self, start: usize) -> Option<usize>
         ensures last { IfSome result (λ here. IsLast self.now.work.items here) }
         ensures above { IfSome result (λ here. start < slice_index self.now.met.items here) }
-        ensures none { IfNone result ((here : ℕ) → IsLast self.now.work.items here → slice_index self.now.met.items here ≤ start) }
+        ensures none { IfNone result ((here : ℕ) → IsLast self.now.work.items here
+            → slice_index self.now.met.items here ≤ start) }
     {
         let Some(here) = last_of(self.work.as_slice()) else {
             return None;

@@ -88,7 +88,8 @@ pub fn one_top(
         ≡ top_in (tops 0 (all_uses (map outline_of structures.now)) (map outline_of structures.now))) }
     ensures within { IfOk result (λ top. top < length structures.now) }
     ensures fault { IfErr result (λ fault. top_fault (last_place 0 (records_in bytes.now))
-        (tops 0 (all_uses (map outline_of structures.now)) (map outline_of structures.now)) ≡ Some (fault.offset, fault.kind)) }
+        (tops 0 (all_uses (map outline_of structures.now)) (map outline_of structures.now))
+        ≡ Some (fault.offset, fault.kind)) }
 {
     match find_tops(structures, used) {
         Tops::One(top) => Ok(top),

@@ -1,5 +1,6 @@
 // The item that some records of a wide stream say.
-ghost use Rattle.std.specs.Prelude.{◌≡◌, ℕ, ◌+◌, ◌<◌, ◌/◌, ◌==◌, ◌||◌, ◌-ℤ◌, pos, map, suc, nat_abs, int_div, true, false, IfOk};
+ghost use Rattle.std.specs.Prelude.{◌≡◌, ℕ, ◌+◌, ◌<◌, ◌/◌, ◌==◌, ◌||◌, ◌-ℤ◌, pos, map, suc, nat_abs, int_div, true};
+ghost use Rattle.std.specs.Prelude.{false, IfOk};
 ghost use Rattle.gds_records.specs.declared.codes.TheConstants.{LAYER, DATATYPE, XY, PATHTYPE, WIDTH};
 ghost use Rattle.gds_records.specs.Records.{number};
 ghost use Rattle.gds_records.specs.Values.{unsigned_value};

@@ -15,8 +15,9 @@ ghost use Rattle.gds_read.specs.WideReading.{IsWideReadAs, IsWideRefusedFor};
 
 use gds_records::{one_wide_reading, rectangles_are_rings, strict_streams_are_wide};
 
-/// Want of memory apart, each answer of `read_wide` comes exactly where it may: a wide stream of a size that is taken is
-/// not refused, a larger one only by its number of shapes, and bytes with a fault are refused by the first one alone.
+/// Want of memory apart, each answer of `read_wide` comes exactly where it may: a wide stream of a size that is taken
+/// is not refused, a larger one only by its number of shapes, and bytes with a fault are refused by the first one
+/// alone.
 pub fn wide_reading_is_exact()
     ensures taken { (bytes : List ℕ) (layout : WideLayout) (refusal : StreamRefusal)
         → IsWideStream bytes layout → wide_count layout ≤ 8000000 → IsWideRefusedFor bytes refusal → refusal ≡ Memory }
@@ -24,7 +25,8 @@ pub fn wide_reading_is_exact()
         → IsWideStream bytes layout → 8000000 < wide_count layout → IsWideRefusedFor bytes refusal
         → (refusal ≡ TooManyShapes (told (wide_count layout))) ⊎ (refusal ≡ Memory) }
     ensures faulty { (bytes : List ℕ) (offset : ℕ) (kind : StreamKind) (refusal : StreamRefusal)
-        → WideFault bytes offset kind → IsWideRefusedFor bytes refusal → (refusal ≡ Bad offset kind) ⊎ (refusal ≡ Memory) }
+        → WideFault bytes offset kind → IsWideRefusedFor bytes refusal
+        → (refusal ≡ Bad offset kind) ⊎ (refusal ≡ Memory) }
     ensures unread_large { (bytes : List ℕ) (layout other : WideLayout)
         → IsWideStream bytes layout → 8000000 < wide_count layout → IsWideReadAs bytes other → ⊥ }
     ensures unread_faulty { (bytes : List ℕ) (offset : ℕ) (kind : StreamKind) (layout : WideLayout)
@@ -35,8 +37,10 @@ pub fn wide_reading_is_exact()
 
 /// A strict stream is a wide one, with the same flat form.
 pub fn strict_reading_is_wide()
-    ensures stream { (bytes : List ℕ) (layout : Layout) → IsBytes bytes → IsStream bytes layout → IsWideStream bytes (wide_layout_in bytes) }
-    ensures flat { (bytes : List ℕ) (layout : Layout) → IsBytes bytes → IsStream bytes layout → wide_flat (wide_layout_in bytes) ≡ flat_of layout }
+    ensures stream { (bytes : List ℕ) (layout : Layout) → IsBytes bytes → IsStream bytes layout
+        → IsWideStream bytes (wide_layout_in bytes) }
+    ensures flat { (bytes : List ℕ) (layout : Layout) → IsBytes bytes → IsStream bytes layout
+        → wide_flat (wide_layout_in bytes) ≡ flat_of layout }
 {
     rectangles_are_rings();
     strict_streams_are_wide();

@@ -41,7 +41,8 @@ pub fn first_loop(
 ) -> Result<Option<usize>, Memory>
     requires numbers { IsNumbering numbers.now.entries (names_in structures.now) }
     requires graph { graph.now ≡ graph_of structures.now }
-    ensures { IfOk result (λ place. place ≡ first_loop (map outline_of structures.now) (map outline_of structures.now)) }
+    ensures { IfOk result (λ place. place ≡ first_loop (map outline_of structures.now)
+        (map outline_of structures.now)) }
 {
     let ranks = components(alloc, graph)?;
     for outline in structures {

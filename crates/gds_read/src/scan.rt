@@ -78,7 +78,8 @@ fn value_here(
     bytes: &[u8],
 ) -> Result<Option<StreamKind>, Memory>
     requires { IsWhole bytes.now }
-    ensures { IfOk result (λ fault. fault ≡ value_here wide (kept element colrow.now (texts names.now.keys)) bytes.now) }
+    ensures { IfOk result
+        (λ fault. fault ≡ value_here wide (kept element colrow.now (texts names.now.keys)) bytes.now) }
 {
     let data = content(bytes);
     let taken = bytes[2] == STRNAME && is_taken(names, trimmed(data));

@@ -1,7 +1,8 @@
 // The values that records must have.
 ghost use Rattle.std.specs.Prelude.{◌≡◌, ℕ, ◌+◌, ◌*◌, ◌≤◌, ◌&&◌, length, drop, not};
 ghost use Rattle.gds_records.specs.Records.{record_with, trimmed};
-ghost use Rattle.gds_records.specs.Values.{at, one_x, one_y, is_rectangle, holds_zero, is_text, is_name, is_nanometre, unsigned_value, has_value};
+ghost use Rattle.gds_records.specs.Values.{at, one_x, one_y, is_rectangle, holds_zero, is_text, is_name, is_nanometre};
+ghost use Rattle.gds_records.specs.Values.{unsigned_value, has_value};
 
 use gds_records::codes::{LIBNAME, SNAME, STRING, STRNAME, UNITS, XY};
 

@@ -1,7 +1,8 @@
 // The steps of figures: round by right angles, or along a path.
 ghost use Rattle.std.specs.Prelude.{◌≡◌, ◌&&◌, ◌||◌, IfOk};
 ghost use Rattle.std.specs.Ordering.{int_eq};
-ghost use Rattle.gds_records.specs.WideValues.{way, is_straight, is_same, back, is_round, goes_on, is_path, turns, Still as still};
+ghost use Rattle.gds_records.specs.WideValues.{way, is_straight, is_same, back, is_round, goes_on, is_path, turns};
+ghost use Rattle.gds_records.specs.WideValues.{Still as still};
 ghost use Rattle.gds_read.specs.Code.Ways.{way_of};
 
 use aq_base::{List, Memory};

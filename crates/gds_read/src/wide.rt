@@ -58,10 +58,10 @@ fn within_size(alloc: Global, layout: WideLayout) -> Result<WideLayout, StreamRe
 }
 
 /// The layout whose wide stream the bytes are, or why they are not read: figures with right angles, and references that
-/// are turned, repeated and nested down to 64. Bytes that are a wide stream have one layout, and all others a first fault;
-/// want of memory apart, a wide stream is read exactly where its flat form is of a size that is taken. Coordinates are in
-/// nanometres; the offset of a fault counts bytes from 0. The number of shapes and labels that are too many is exact, and
-/// `u64::MAX` stands for all above it. The bytes are fewer than 2^32.
+/// are turned, repeated and nested down to 64. Bytes that are a wide stream have one layout, and all others a first
+/// fault; want of memory apart, a wide stream is read exactly where its flat form is of a size that is taken.
+/// Coordinates are in nanometres; the offset of a fault counts bytes from 0. The number of shapes and labels that are
+/// too many is exact, and `u64::MAX` stands for all above it. The bytes are fewer than 2^32.
 pub fn read_wide(alloc: Global, bytes: &[u8]) -> Result<WideLayout, StreamRefusal>
     requires { length bytes.now < 2 ^ 32 }
     ensures ok { IfOk result (λ layout. IsWideReadAs bytes.now layout) }

@@ -21,8 +21,9 @@ use aq_base::Memory;
 use gds_records::{StreamKind, loops_are_long};
 use std::alloc::Global;
 
-// The place of the first structure in a loop of references, or else of the first from which a chain of more than 64 goes
-// down. From a structure in a loop chains of any length go down, so loops are looked for only where there is such a chain.
+// The place of the first structure in a loop of references, or else of the first from which a chain of more than 64
+// goes down. From a structure in a loop chains of any length go down, so loops are looked for only where there is such
+// a chain.
 fn loop_or_long(
     alloc: Global,
     structures: &[NamedOutline<'_>],

@@ -3,9 +3,11 @@ ghost use Rattle.std.specs.Prelude.{◌≡◌, ℕ, suc, ◌+◌, ◌<◌, ◌-�
 ghost use Rattle.gds_records.specs.declared.fault.StreamKind.TheVariants.{Unsupported};
 ghost use Rattle.gds_records.specs.Records.{record_with};
 ghost use Rattle.gds_records.specs.Table.{wide_table, has_length_in};
-ghost use Rattle.gds_records.specs.Values.{unsigned_value};
+ghost use Rattle.gds_records.specs.Values.{unsigned_value, rule};
 ghost use Rattle.gds_records.specs.Drawing.{coordinate};
-ghost use Rattle.gds_records.specs.WideValues.{points, is_ring, is_path, is_width, is_flip, is_one, quarters, is_turn, columns, rows, is_count, is_colrow, is_multiple, is_lattice, rule, refers, wide_fault_in};
+ghost use Rattle.gds_records.specs.WideValues.{points, is_ring, is_path, is_width, is_flip, is_one, quarters, is_turn};
+ghost use Rattle.gds_records.specs.WideValues.{columns, rows, is_count, is_colrow, is_multiple, is_lattice, refers};
+ghost use Rattle.gds_records.specs.WideValues.{wide_fault_in};
 
 use crate::fields::{narrow, number};
 use crate::points::points;
@@ -192,7 +194,8 @@ fn xy_fault(
     colrow: &[u8],
     xy: &[u8],
 ) -> Result<Option<StreamKind>, Memory>
-    ensures { IfOk result (λ fault. (form : ℕ) (taken : Bool) → fault ≡ wide_fault_in element colrow.now taken (record_with XY form xy.now)) }
+    ensures { IfOk result (λ fault. (form : ℕ) (taken : Bool)
+        → fault ≡ wide_fault_in element colrow.now taken (record_with XY form xy.now)) }
 {
     match element {
         BOUNDARY => Ok(unless(is_ring(alloc, xy)?, StreamKind::NotRectangle)),
@@ -227,7 +230,8 @@ pub fn wide_fault(
     content: &[u8],
 ) -> Result<Option<StreamKind>, Memory>
     requires { has_length_in wide_table kind (4 + length content.now) ≡ true }
-    ensures { IfOk result (λ fault. (form : ℕ) → fault ≡ wide_fault_in element colrow.now taken (record_with kind form content.now)) }
+    ensures { IfOk result (λ fault. (form : ℕ) → fault ≡ wide_fault_in element colrow.now taken
+        (record_with kind form content.now)) }
 {
     match kind {
         STRANS => Ok(transform_fault(element, is_flip(content))),

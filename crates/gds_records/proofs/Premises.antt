@@ -32,10 +32,12 @@ pub record IsBox (r : Rectangle) : Type 0 where
 abbrev pub IsWritableElement : List (List ℕ) → Element → Type 0
 IsWritableElement names (Box s) = (s.layer < 2 ^ 16) × (s.datatype < 2 ^ 16) × IsBox s.rect
 IsWritableElement names (Place n x y) = (n < length names) × FitsSigned w32 x × FitsSigned w32 y
-IsWritableElement names (Text l) = (l.layer < 2 ^ 16) × FitsSigned w32 l.x × FitsSigned w32 l.y × IsText l.text × IsShort l.text
+IsWritableElement names (Text l) = (l.layer < 2 ^ 16) × FitsSigned w32 l.x × FitsSigned w32 l.y × IsText l.text
+    × IsShort l.text
 
 abbrev pub IsWritableStructure : List (List ℕ) → Structure → Type 0
-IsWritableStructure names s = IsText s.name × AllByRecursion (IsWritableElement names) s.elements × IsShort s.name × (0 < length s.name)
+IsWritableStructure names s = IsText s.name × AllByRecursion (IsWritableElement names) s.elements × IsShort s.name
+    × (0 < length s.name)
 
 -- ---- the conditions on the whole, by name
 
@@ -54,9 +56,12 @@ layout_outlines ss = map (outline (names_in ss)) ss
 -- each name stands in its own first place
 pub record IsOutlined (layout : Layout) : Type 0 where
   pub each : AllByRecursion (IsWritableStructure (names_in layout.structures)) layout.structures
-  pub distinct : (n : ℕ) → n < length layout.structures → place_of (slice_index_or (names_in layout.structures) n []) (names_in layout.structures) ≡ n
-  pub conditions : outlines_fault 0 (all_uses (layout_outlines layout.structures)) (layout_outlines layout.structures) ≡ None
-  pub top : layout.top ≡ top_in (tops 0 (all_uses (layout_outlines layout.structures)) (layout_outlines layout.structures))
+  pub distinct : (n : ℕ) → n < length layout.structures → place_of (slice_index_or (names_in layout.structures) n [])
+      (names_in layout.structures) ≡ n
+  pub conditions : outlines_fault 0 (all_uses (layout_outlines layout.structures))
+      (layout_outlines layout.structures) ≡ None
+  pub top : layout.top ≡ top_in (tops 0 (all_uses (layout_outlines layout.structures))
+      (layout_outlines layout.structures))
 
 -- ---- the same by number
 
@@ -68,10 +73,14 @@ AreFlat k all (s ∷ ss) = (is_referenced k all ≡ true → holds_reference s.e
 -- the numbers from k on that nothing references
 abbrev pub unreferenced : ℕ → List Structure → List Structure → List ℕ
 unreferenced k all [] = []
-unreferenced k all (s ∷ ss) = elim (is_referenced k all) [ true ↦ unreferenced (suc k) all ss | false ↦ k ∷ unreferenced (suc k) all ss ]
+unreferenced k all (s ∷ ss) = elim (is_referenced k all) [
+  | true ↦ unreferenced (suc k) all ss
+  | false ↦ k ∷ unreferenced (suc k) all ss
+]
 
 pub record IsTree (layout : Layout) : Type 0 where
   pub each : AllByRecursion (IsWritableStructure (names_in layout.structures)) layout.structures
-  pub distinct : (n : ℕ) → n < length layout.structures → place_of (slice_index_or (names_in layout.structures) n []) (names_in layout.structures) ≡ n
+  pub distinct : (n : ℕ) → n < length layout.structures → place_of (slice_index_or (names_in layout.structures) n [])
+      (names_in layout.structures) ≡ n
   pub flat : AreFlat 0 layout.structures layout.structures
   pub alone : unreferenced 0 layout.structures layout.structures ≡ layout.top ∷ []

@@ -36,18 +36,27 @@ or_group false y z = refl
 
 listed_append : (t : List ℕ) (ns ms : List (List ℕ)) → is_listed t (ns ++ ms) ≡ (is_listed t ns || is_listed t ms)
 listed_append t [] ms = refl
-listed_append t (n ∷ ns) ms = ap (λ (x : Bool). same t n || x) (listed_append t ns ms) ∙ or_group (same t n) (is_listed t ns) (is_listed t ms)
+listed_append t (n ∷ ns) ms = ap (λ (x : Bool). same t n || x) (listed_append t ns ms)
+    ∙ or_group (same t n) (is_listed t ns) (is_listed t ms)
 
-named_append : (t : List ℕ) (a b : List Record) → is_structure_name t (a ++ b) ≡ (is_structure_name t a || is_structure_name t b)
+named_append : (t : List ℕ) (a b : List Record) → is_structure_name t
+    (a ++ b) ≡ (is_structure_name t a || is_structure_name t b)
 named_append t [] b = refl
-named_append t (x ∷ a) b = ap (λ (y : Bool). eqb x.kind 6 && same t (trimmed x.content) || y) (named_append t a b) ∙ or_group (eqb x.kind 6 && same t (trimmed x.content)) (is_structure_name t a) (is_structure_name t b)
+named_append t (x ∷ a) b = ap (λ (y : Bool). eqb x.kind 6 && same t (trimmed x.content) || y) (named_append t a b)
+    ∙ or_group (eqb x.kind 6 && same t (trimmed x.content)) (is_structure_name t a) (is_structure_name t b)
 
-one_more : (t : List ℕ) (names : List (List ℕ)) (r : Record) (z : Bool) → is_listed t (elim z as (λ (x : Bool). List (List ℕ)) [ true ↦ names ++ trimmed r.content ∷ [] | false ↦ names ]) ≡ (is_listed t names || (z && same t (trimmed r.content) || false))
+one_more : (t : List ℕ) (names : List (List ℕ)) (r : Record) (z : Bool)
+    → is_listed t
+    (elim z as (λ (x : Bool). List (List ℕ)) [ true ↦ names ++ trimmed r.content ∷ [] | false ↦ names ]) ≡ (is_listed t
+    names || (z && same t (trimmed r.content) || false))
 one_more t names r true = listed_append t names (trimmed r.content ∷ [])
 one_more t names r false = sym (or_false (is_listed t names))
 
-lists_more : (names : List (List ℕ)) (before : List Record) (r : Record) → Lists names before → Lists (names_with names r) (before ++ r ∷ [])
-lists_more names before r h t = one_more t names r (eqb r.kind 6) ∙ ap (λ (x : Bool). x || (eqb r.kind 6 && same t (trimmed r.content) || false)) (h t) ∙ sym (named_append t before (r ∷ []))
+lists_more : (names : List (List ℕ)) (before : List Record) (r : Record) → Lists names before
+    → Lists (names_with names r) (before ++ r ∷ [])
+lists_more names before r h t = one_more t names r (eqb r.kind 6)
+    ∙ ap (λ (x : Bool). x || (eqb r.kind 6 && same t (trimmed r.content) || false)) (h t)
+    ∙ sym (named_append t before (r ∷ []))
 
 own_of : (t : Option StreamKind) (f : Bool) (v : Option StreamKind) → fault_of t f v ≡ None → t ≡ None
 own_of (Some k) f v e = absurd cc
@@ -55,7 +64,8 @@ own_of None f v e = refl
 
 -- ---- what is kept of records, one more at a time
 
-wide_opener_last : (l : ℕ) (a : List Record) (r : Record) → wide_opener l (a ++ r ∷ []) ≡ wide_opener (wide_opener l a) (r ∷ [])
+wide_opener_last : (l : ℕ) (a : List Record) (r : Record)
+    → wide_opener l (a ++ r ∷ []) ≡ wide_opener (wide_opener l a) (r ∷ [])
 wide_opener_last l [] r = refl
 wide_opener_last l (x ∷ a) r =
     by_kind (wide_opener_last x.kind a r) (wide_opener_last l a r)
@@ -63,12 +73,16 @@ wide_opener_last l (x ∷ a) r =
   where
     by_kind : wide_opener x.kind (a ++ r ∷ []) ≡ wide_opener (wide_opener x.kind a) (r ∷ [])
         → wide_opener l (a ++ r ∷ []) ≡ wide_opener (wide_opener l a) (r ∷ []) → (t : Bool)
-        → (elim t as (λ (y : Bool). ℕ) [ true ↦ wide_opener x.kind (a ++ r ∷ []) | false ↦ wide_opener l (a ++ r ∷ []) ])
+        → (elim t as (λ (y : Bool). ℕ) [
+          | true ↦ wide_opener x.kind (a ++ r ∷ [])
+          | false ↦ wide_opener l (a ++ r ∷ [])
+        ])
         ≡ wide_opener (elim t as (λ (y : Bool). ℕ) [ true ↦ wide_opener x.kind a | false ↦ wide_opener l a ]) (r ∷ [])
     by_kind p q true = p
     by_kind p q false = q
 
-colrow_last : (l : List ℕ) (a : List Record) (r : Record) → last_colrow l (a ++ r ∷ []) ≡ last_colrow (last_colrow l a) (r ∷ [])
+colrow_last : (l : List ℕ) (a : List Record) (r : Record)
+    → last_colrow l (a ++ r ∷ []) ≡ last_colrow (last_colrow l a) (r ∷ [])
 colrow_last l [] r = refl
 colrow_last l (x ∷ a) r = by_kind (colrow_last x.content a r) (colrow_last l a r) (eqb x.kind 0x13)
   where
@@ -78,11 +92,14 @@ colrow_last l (x ∷ a) r = by_kind (colrow_last x.content a r) (colrow_last l a
           | true ↦ last_colrow x.content (a ++ r ∷ [])
           | false ↦ last_colrow l (a ++ r ∷ [])
         ])
-        ≡ last_colrow (elim t as (λ (y : Bool). List ℕ) [ true ↦ last_colrow x.content a | false ↦ last_colrow l a ]) (r ∷ [])
+        ≡ last_colrow (elim t as (λ (y : Bool). List ℕ) [ true ↦ last_colrow x.content a | false ↦ last_colrow l a ])
+        (r ∷ [])
     by_kind p q true = p
     by_kind p q false = q
 
-module _ (profile : Profile) (opener_more : (l : ℕ) (a : List Record) (r : Record) → profile.opener l (a ++ r ∷ []) ≡ profile.opener (profile.opener l a) (r ∷ []))
+module _ (profile : Profile)
+    (opener_more : (l : ℕ) (a : List Record) (r : Record)
+    → profile.opener l (a ++ r ∷ []) ≡ profile.opener (profile.opener l a) (r ∷ []))
     (opener_first : 0 ≡ profile.opener 0 []) where
   pub record Keeps (before : List Record) (l : Language) (kept : Kept) (o : ℕ) : Type 0 where
     pub language : l ≡ after_all (kinds before) profile.language
@@ -101,20 +118,32 @@ module _ (profile : Profile) (opener_more : (l : ℕ) (a : List Record) (r : Rec
   same_fault before l kept o b k i =
       fault_of (own_fault_in profile b) (alive (after (kind_of b) (k.language i))) (same_value before l kept o b k i)
 
-  place_more : (before : List Record) (o : ℕ) (b : List ℕ) → records.Sound profile b → o ≡ length (flat_map spelled before)
+  place_more : (before : List Record) (o : ℕ) (b : List ℕ) → records.Sound profile b
+      → o ≡ length (flat_map spelled before)
       → o + length_of b ≡ length (flat_map spelled (before ++ here_record b ∷ []))
   place_more before o b s e =
-      omega (arith, ap (λ (x : List ℕ). length x) (flat_more before (here_record b)), length-append (flat_map spelled before) (spelled (here_record b)), records.spelled_length profile (here_record b), records.length_here profile b s)
+      omega (
+        arith,
+        ap (λ (x : List ℕ). length x) (flat_more before (here_record b)),
+        length-append
+            (flat_map spelled before) (spelled (here_record b)),
+        records.spelled_length profile
+            (here_record b),
+        records.length_here profile b s,
+      )
 
   keeps_more : (before : List Record) (l : Language) (kept : Kept) (o : ℕ) (b : List ℕ) → records.Sound profile b
       → Keeps before l kept o
-      → Keeps (before ++ here_record b ∷ []) (after (kind_of b) l) (kept_with profile kept (here_record b)) (o + length_of b)
+      → Keeps (before ++ here_record b ∷ []) (after (kind_of b) l) (kept_with profile kept (here_record b))
+      (o + length_of b)
   keeps_more before l kept o b s k = record {
     language = ap (λ (x : Language). after (kind_of b) x) k.language
-        ∙ sym (ap (λ (ks : List ℕ). after_all ks profile.language) (map-append (λ x. x.kind) before (here_record b ∷ []))
+        ∙ sym (ap (λ (ks : List ℕ). after_all ks profile.language)
+        (map-append (λ x. x.kind) before (here_record b ∷ []))
         ∙ after_more (kinds before) (kind_of b) profile.language);
     last = ap (λ (x : ℕ). profile.opener x (here_record b ∷ [])) k.last ∙ sym (opener_more 0 before (here_record b));
-    colrow = ap (λ (x : List ℕ). last_colrow x (here_record b ∷ [])) k.colrow ∙ sym (colrow_last [] before (here_record b));
+    colrow = ap (λ (x : List ℕ). last_colrow x (here_record b ∷ [])) k.colrow
+        ∙ sym (colrow_last [] before (here_record b));
     listed = lists_more kept.names before (here_record b) k.listed;
     place = place_more before o b s k.place;
   }
@@ -123,23 +152,30 @@ module _ (profile : Profile) (opener_more : (l : ℕ) (a : List Record) (r : Rec
       → steps profile n l kept o b ≡ told (scan_in profile n before b)
   steps_so zero before l kept o b k = refl
   steps_so (suc n) before l kept o b k =
-      cases (step_fault profile l kept b) (fault_here_in profile before b) (same_fault before l kept o b k) refl (eqb (kind_of b) 4)
+      cases (step_fault profile l kept b) (fault_here_in profile before b) (same_fault before l kept o b k) refl
+      (eqb (kind_of b) 4)
       (λ s. steps_so n (before ++ here_record b ∷ []) (after (kind_of b) l) (kept_with profile kept (here_record b))
       (o + length_of b) (drop (length_of b) b) (keeps_more before l kept o b s k))
     where
       behind : Told
-      behind = steps profile n (after (kind_of b) l) (kept_with profile kept (here_record b)) (o + length_of b) (drop (length_of b) b)
+      behind = steps profile n (after (kind_of b) l) (kept_with profile kept (here_record b)) (o + length_of b)
+          (drop (length_of b) b)
 
       sound : fault_here_in profile before b ≡ None → records.Sound profile b
       sound f =
           records.parts_of profile b
-          (own_of (own_fault_in profile b) (may_follow_in profile before (kind_of b)) (value_fault_of profile before (here_record b)) f)
+          (own_of (own_fault_in profile b) (may_follow_in profile before (kind_of b))
+          (value_fault_of profile before (here_record b)) f)
 
       cases : (t u : Option StreamKind) → t ≡ u → fault_here_in profile before b ≡ u → (z : Bool)
-          → (records.Sound profile b → behind ≡ told (scan_in profile n (before ++ here_record b ∷ []) (drop (length_of b) b)))
+          → (records.Sound profile b
+          → behind ≡ told (scan_in profile n (before ++ here_record b ∷ []) (drop (length_of b) b)))
           → (elim t as (λ (x : Option StreamKind). Told) [
             | Some x ↦ Stopped o x
-            | None ↦ elim z as (λ (x : Bool). Told) [ true ↦ Ended (o + length_of b) (drop (length_of b) b) | false ↦ behind ]
+            | None ↦ elim z as (λ (x : Bool). Told) [
+              | true ↦ Ended (o + length_of b) (drop (length_of b) b)
+              | false ↦ behind
+            ]
           ])
           ≡ told (elim u as (λ (x : Option StreamKind). Scanned) [
             | Some x ↦ Faulty (length (flat_map spelled before)) x
@@ -153,7 +189,8 @@ module _ (profile : Profile) (opener_more : (l : ℕ) (a : List Record) (r : Rec
           ap (λ (p : ℕ). Stopped p x) k.place ∙ ap (λ (w : StreamKind). Stopped (length (flat_map spelled before)) w) q
       cases (Some x) None e f z g = absurd cc
       cases None (Some y) e f z g = absurd cc
-      cases None None e f true g = ap (λ (p : ℕ). Ended p (drop (length_of b) b)) (place_more before o b (sound f) k.place)
+      cases None None e f true g = ap (λ (p : ℕ). Ended p (drop (length_of b) b))
+          (place_more before o b (sound f) k.place)
       cases None None e f false g = g (sound f)
 
   told_so : (bytes : List ℕ) → all_steps profile bytes ≡ told (scan_in profile (suc (length bytes)) [] bytes)

@@ -1,5 +1,6 @@
 -- What is strict is wide: sentences, and the conditions on the whole.
-use Rattle.std.proofs.Common.{◌≡◌, ℕ, zero, suc, List, [], ◌∷◌, ◌++◌, Bool, true, false, length, eqb, Option, Some, None, refl, sym, ap, subst, ◌∙◌, arith, append_assoc, inl, inr}
+use Rattle.std.proofs.Common.{◌≡◌, ℕ, zero, suc, List, [], ◌∷◌, ◌++◌, Bool, true, false, length, eqb, Option, Some}
+use Rattle.std.proofs.Common.{None, refl, sym, ap, subst, ◌∙◌, arith, append_assoc, inl, inr}
 use Rattle.std.specs.Prelude.{not, ◌&&◌, ◌||◌}
 use Rattle.std.specs.List.{AllByRecursion}
 use Rattle.std.proofs.lemmas.Bool.{eqb-true}
@@ -8,11 +9,15 @@ use Rattle.std.proofs.lemmas.List.{append-nil}
 use Rattle.gds_records.specs.declared.fault.StreamKind.{StreamKind}
 use Rattle.gds_records.specs.declared.fault.StreamKind.TheVariants.{Unsupported, UnknownName}
 use Rattle.gds_records.specs.Language.{Language, One, Then, Many, Speaks, Repeats, none, more}
-use Rattle.gds_records.specs.declared.codes.TheConstants.{ENDLIB, ELFLAGS, PLEX, SREF, SNAME, STRANS, XY, BGNSTR, STRNAME, ENDSTR}
-use Rattle.gds_records.specs.Grammar.{◌>>◌, maybe, tail, reference, turned, element, turned_reference, wide_element, structure_of_each, in_turn, library_front, stream, wide_stream}
+use Rattle.gds_records.specs.declared.codes.TheConstants.{ENDLIB, ELFLAGS, PLEX, SREF, SNAME, STRANS, XY, BGNSTR}
+use Rattle.gds_records.specs.declared.codes.TheConstants.{STRNAME, ENDSTR}
+use Rattle.gds_records.specs.Grammar.{◌>>◌, maybe, tail, reference, turned, element, turned_reference, wide_element}
+use Rattle.gds_records.specs.Grammar.{structure_of_each, in_turn, library_front, stream, wide_stream}
 use Rattle.gds_records.specs.Records.{Record, same}
-use Rattle.gds_records.specs.Whole.{Use, Outline, is_used, all_uses, unknown, deep, tops, top_fault, outlines, last_place, whole_fault}
-use Rattle.gds_records.specs.WideWhole.{uses_by, some_use, goes_down, leads, first_loop, first_long, first_of, wide_whole_fault}
+use Rattle.gds_records.specs.Whole.{Use, Outline, is_used, all_uses, unknown, deep, tops, top_fault, outlines}
+use Rattle.gds_records.specs.Whole.{last_place, whole_fault}
+use Rattle.gds_records.specs.WideWhole.{uses_by, some_use, goes_down, leads, first_loop, first_long, first_of}
+use Rattle.gds_records.specs.WideWhole.{wide_whole_fault}
 
 -- ---- sentences
 
@@ -45,7 +50,9 @@ strans_within = record { says = turn }
     turn w (inr h) = inr h
 
 reference_within : Within reference turned_reference
-reference_within = second (One SREF) (second (maybe (One ELFLAGS) >> maybe (One PLEX)) (second (One SNAME) (in_then strans_within (itself (One XY >> tail)))))
+reference_within = second (One SREF)
+    (second (maybe (One ELFLAGS) >> maybe (One PLEX))
+    (second (One SNAME) (in_then strans_within (itself (One XY >> tail)))))
 
 element_within : Within element wide_element
 element_within = record { says = turn }
@@ -78,7 +85,8 @@ same_itself : (a : List ℕ) → same a a ≡ true
 same_itself [] = refl
 same_itself (x ∷ a) = turn (eqb x x) (eqb_same x) (same_itself a)
   where
-    turn : (t : Bool) → t ≡ true → same a a ≡ true → (elim t as (λ (b : Bool). Bool) [ true ↦ same a a | false ↦ false ]) ≡ true
+    turn : (t : Bool) → t ≡ true → same a a ≡ true
+        → (elim t as (λ (b : Bool). Bool) [ true ↦ same a a | false ↦ false ]) ≡ true
     turn true e ih = ih
     turn false e ih = absurd cc
 
@@ -88,7 +96,8 @@ same_so [] (y ∷ b) e = absurd cc
 same_so (x ∷ a) [] e = absurd cc
 same_so (x ∷ a) (y ∷ b) e = turn (eqb x y) refl e (λ h. same_so a b h)
   where
-    turn : (t : Bool) → eqb x y ≡ t → (elim t as (λ (k : Bool). Bool) [ true ↦ same a b | false ↦ false ]) ≡ true → (same a b ≡ true → a ≡ b) → x ∷ a ≡ y ∷ b
+    turn : (t : Bool) → eqb x y ≡ t → (elim t as (λ (k : Bool). Bool) [ true ↦ same a b | false ↦ false ]) ≡ true
+        → (same a b ≡ true → a ≡ b) → x ∷ a ≡ y ∷ b
     turn true q e ih = λ i. eqb-true x y q i ∷ ih e i
     turn false q e ih = absurd cc
 
@@ -96,9 +105,12 @@ same_so (x ∷ a) (y ∷ b) e = turn (eqb x y) refl e (λ h. same_so a b h)
 
 empty_so : (us : List Use) → not (eqb (length us) 0) ≡ false → us ≡ []
 empty_so [] e = refl
-empty_so (u ∷ us) e = absurd (let z : eqb (suc (length us)) 0 ≡ false = grind (arith, nat_tests) in let h : true ≡ false = sym (ap (λ (b : Bool). not b) z) ∙ e in cc)
+empty_so (u ∷ us) e = absurd
+    (let z : eqb (suc (length us)) 0 ≡ false = grind (arith, nat_tests) in
+    let h : true ≡ false = sym (ap (λ (b : Bool). not b) z) ∙ e in cc)
 
-first_none : (b : Bool) (p : ℕ) (r : Option ℕ) → (elim b as (λ (x : Bool). Option ℕ) [ true ↦ Some p | false ↦ r ]) ≡ None → (b ≡ false) × (r ≡ None)
+first_none : (b : Bool) (p : ℕ) (r : Option ℕ)
+    → (elim b as (λ (x : Bool). Option ℕ) [ true ↦ Some p | false ↦ r ]) ≡ None → (b ≡ false) × (r ≡ None)
 first_none true p r e = absurd cc
 first_none false p r e = (refl, e)
 
@@ -107,14 +119,18 @@ used_not true b e h = e
 used_not false b e h = absurd cc
 
 -- a structure that is used references nothing
-used_empty : (us : List Use) (name : List ℕ) (ss : List Outline) → deep us ss ≡ None → is_used name us ≡ true → uses_by name ss ≡ []
+used_empty : (us : List Use) (name : List ℕ) (ss : List Outline) → deep us ss ≡ None → is_used name us ≡ true
+    → uses_by name ss ≡ []
 used_empty us name [] d u = refl
 used_empty us name (s ∷ ss) d u =
     let f = first_none (is_used s.name us && not (eqb (length s.uses) 0)) s.place (deep us ss) d in
     turn (same name s.name) refl f.0 (used_empty us name ss f.1 u)
   where
-    turn : (t : Bool) → same name s.name ≡ t → (is_used s.name us && not (eqb (length s.uses) 0)) ≡ false → uses_by name ss ≡ [] → (elim t as (λ (x : Bool). List Use) [ true ↦ s.uses | false ↦ uses_by name ss ]) ≡ []
-    turn true e h ih = empty_so s.uses (used_not (is_used s.name us) (not (eqb (length s.uses) 0)) h (ap (λ (n : List ℕ). is_used n us) (sym (same_so name s.name e)) ∙ u))
+    turn : (t : Bool) → same name s.name ≡ t → (is_used s.name us && not (eqb (length s.uses) 0)) ≡ false
+        → uses_by name ss ≡ [] → (elim t as (λ (x : Bool). List Use) [ true ↦ s.uses | false ↦ uses_by name ss ]) ≡ []
+    turn true e h ih = empty_so s.uses
+        (used_not (is_used s.name us) (not (eqb (length s.uses) 0)) h
+        (ap (λ (n : List ℕ). is_used n us) (sym (same_so name s.name e)) ∙ u))
     turn false e h ih = ih
 
 or_right : (a b : Bool) → b ≡ true → (a || b) ≡ true
@@ -129,7 +145,8 @@ used_left : (name : List ℕ) (us vs : List Use) → is_used name us ≡ true �
 used_left name [] vs e = absurd cc
 used_left name (u ∷ us) vs e = turn (same name u.name) e (λ h. used_left name us vs h)
   where
-    turn : (t : Bool) → (t || is_used name us) ≡ true → (is_used name us ≡ true → is_used name (us ++ vs) ≡ true) → (t || is_used name (us ++ vs)) ≡ true
+    turn : (t : Bool) → (t || is_used name us) ≡ true → (is_used name us ≡ true → is_used name (us ++ vs) ≡ true)
+        → (t || is_used name (us ++ vs)) ≡ true
     turn true e ih = refl
     turn false e ih = ih e
 
@@ -145,7 +162,8 @@ unfolding AreUsed
 their_own before [] = tt
 their_own before (u ∷ us) = (
   used_right u.name before (u ∷ us) (or_left (same u.name u.name) (is_used u.name us) (same_itself u.name)),
-  subst (λ (all : List Use). AllByRecursion (λ v. is_used v.name all ≡ true) us) (append_assoc before (u ∷ []) us) (their_own (before ++ u ∷ []) us),
+  subst (λ (all : List Use). AllByRecursion (λ v. is_used v.name all ≡ true) us) (append_assoc before (u ∷ []) us)
+      (their_own (before ++ u ∷ []) us),
 )
 
 more_used : (before all us : List Use) → AreUsed all us → AreUsed (before ++ all) us
@@ -164,11 +182,14 @@ unfolding AreUsed
 uses_used name [] = tt
 uses_used name (s ∷ ss) = turn (same name s.name) (uses_used name ss)
   where
-    turn : (t : Bool) → AreUsed (all_uses ss) (uses_by name ss) → AreUsed (s.uses ++ all_uses ss) (elim t as (λ (x : Bool). List Use) [ true ↦ s.uses | false ↦ uses_by name ss ])
+    turn : (t : Bool) → AreUsed (all_uses ss) (uses_by name ss)
+        → AreUsed (s.uses ++ all_uses ss)
+        (elim t as (λ (x : Bool). List Use) [ true ↦ s.uses | false ↦ uses_by name ss ])
     turn true ih = kept_used s.uses (all_uses ss) s.uses (their_own [] s.uses)
     turn false ih = more_used s.uses (all_uses ss) (uses_by name ss) ih
 
-none_use : (test : List ℕ → Bool) (all us : List Use) → AreUsed all us → ((name : List ℕ) → is_used name all ≡ true → test name ≡ false) → some_use test us ≡ false
+none_use : (test : List ℕ → Bool) (all us : List Use) → AreUsed all us
+    → ((name : List ℕ) → is_used name all ≡ true → test name ≡ false) → some_use test us ≡ false
 unfolding AreUsed
 none_use test all [] h f = refl
 none_use test all (u ∷ us) h f = ap (λ (b : Bool). b || some_use test us) (f u.name h.0) ∙ none_use test all us h.1 f
@@ -178,34 +199,44 @@ module _ (ss : List Outline) (shallow : deep (all_uses ss) ss ≡ None) where
   ends_here name u = used_empty (all_uses ss) name ss shallow u
 
   short : (n : ℕ) (name : List ℕ) → goes_down (suc (suc n)) ss name ≡ false
-  short n name = none_use (goes_down (suc n) ss) (all_uses ss) (uses_by name ss) (uses_used name ss) (λ m u. ap (λ (us : List Use). some_use (goes_down n ss) us) (ends_here m u))
+  short n name = none_use (goes_down (suc n) ss) (all_uses ss) (uses_by name ss) (uses_used name ss)
+      (λ m u. ap (λ (us : List Use). some_use (goes_down n ss) us) (ends_here m u))
 
   leads_nowhere : (n : ℕ) (name to : List ℕ) → is_used name (all_uses ss) ≡ true → leads n ss name to ≡ false
   leads_nowhere zero name to u = refl
-  leads_nowhere (suc n) name to u = ap (λ (us : List Use). some_use (λ m. same m to || leads n ss m to) us) (ends_here name u)
+  leads_nowhere (suc n) name to u = ap (λ (us : List Use). some_use (λ m. same m to || leads n ss m to) us)
+      (ends_here name u)
 
   -- a structure that used itself would reference nothing
   no_loop : (n : ℕ) (name : List ℕ) → leads n ss name name ≡ false
   no_loop zero name = refl
   no_loop (suc n) name = turn (uses_by name ss) refl
     where
-      back : (us : List Use) → uses_by name ss ≡ us → (m : List ℕ) → is_used m (all_uses ss) ≡ true → (v : Use) (vs : List Use) → us ≡ v ∷ vs → same m name ≡ false
+      back : (us : List Use) → uses_by name ss ≡ us → (m : List ℕ) → is_used m (all_uses ss) ≡ true
+          → (v : Use) (vs : List Use) → us ≡ v ∷ vs → same m name ≡ false
       back us e m u v vs f = pick (same m name) refl
         where
           pick : (t : Bool) → same m name ≡ t → same m name ≡ false
           pick false q = q
-          pick true q = absurd (let k : m ≡ name = same_so m name q in let z : v ∷ vs ≡ [] = sym f ∙ sym e ∙ ap (λ (x : List ℕ). uses_by x ss) (sym k) ∙ ends_here m u in cc)
+          pick true q = absurd
+              (let k : m ≡ name = same_so m name q in let z : v ∷ vs ≡ [] = sym f ∙ sym e
+              ∙ ap (λ (x : List ℕ). uses_by x ss) (sym k) ∙ ends_here m u in cc)
 
-      turn : (us : List Use) → uses_by name ss ≡ us → some_use (λ m. same m name || leads n ss m name) (uses_by name ss) ≡ false
+      turn : (us : List Use) → uses_by name ss ≡ us → some_use (λ m. same m name || leads n ss m name)
+          (uses_by name ss) ≡ false
       turn [] e = ap (λ (us : List Use). some_use (λ m. same m name || leads n ss m name) us) e
-      turn (v ∷ vs) e = none_use (λ m. same m name || leads n ss m name) (all_uses ss) (uses_by name ss) (uses_used name ss)
+      turn (v ∷ vs) e = none_use (λ m. same m name || leads n ss m name) (all_uses ss) (uses_by name ss)
+          (uses_used name ss)
           (λ m u. (λ i. back (v ∷ vs) e m u v vs refl i || leads_nowhere n m name u i))
 
   no_first_loop : (all : List Outline) → all ≡ ss → (rest : List Outline) → first_loop all rest ≡ None
   no_first_loop all e [] = refl
-  no_first_loop all e (s ∷ rest) = turn (leads (length all) all s.name s.name) (ap (λ (x : List Outline). leads (length all) x s.name s.name) e ∙ no_loop (length all) s.name) (no_first_loop all e rest)
+  no_first_loop all e (s ∷ rest) = turn (leads (length all) all s.name s.name)
+      (ap (λ (x : List Outline). leads (length all) x s.name s.name) e ∙ no_loop (length all) s.name)
+      (no_first_loop all e rest)
     where
-      turn : (t : Bool) → t ≡ false → first_loop all rest ≡ None → (elim t as (λ (x : Bool). Option ℕ) [ true ↦ Some s.place | false ↦ first_loop all rest ]) ≡ None
+      turn : (t : Bool) → t ≡ false → first_loop all rest ≡ None
+          → (elim t as (λ (x : Bool). Option ℕ) [ true ↦ Some s.place | false ↦ first_loop all rest ]) ≡ None
       turn true q ih = absurd cc
       turn false q ih = ih
 
@@ -213,22 +244,31 @@ module _ (ss : List Outline) (shallow : deep (all_uses ss) ss ≡ None) where
   no_first_long [] = refl
   no_first_long (s ∷ rest) = turn (goes_down 65 ss s.name) (short 63 s.name) (no_first_long rest)
     where
-      turn : (t : Bool) → t ≡ false → first_long ss rest ≡ None → (elim t as (λ (x : Bool). Option ℕ) [ true ↦ Some s.place | false ↦ first_long ss rest ]) ≡ None
+      turn : (t : Bool) → t ≡ false → first_long ss rest ≡ None
+          → (elim t as (λ (x : Bool). Option ℕ) [ true ↦ Some s.place | false ↦ first_long ss rest ]) ≡ None
       turn true q ih = absurd cc
       turn false q ih = ih
 
 -- ---- the conditions on the whole
 
-none_parts : (u d : Option ℕ) (t : Option (ℕ × StreamKind)) → (elim u as (λ (x : Option ℕ). Option (ℕ × StreamKind)) [ Some p ↦ Some (p, UnknownName) | None ↦ elim d as (λ (x : Option ℕ). Option (ℕ × StreamKind)) [ Some p ↦ Some (p, Unsupported) | None ↦ t ] ]) ≡ None → (u ≡ None) × (d ≡ None) × (t ≡ None)
+none_parts : (u d : Option ℕ) (t : Option (ℕ × StreamKind))
+    → (elim u as (λ (x : Option ℕ). Option (ℕ × StreamKind)) [
+      | Some p ↦ Some (p, UnknownName)
+      | None ↦ elim d as (λ (x : Option ℕ). Option (ℕ × StreamKind)) [ Some p ↦ Some (p, Unsupported) | None ↦ t ]
+    ]) ≡ None → (u ≡ None) × (d ≡ None) × (t ≡ None)
 none_parts (Some p) d t e = absurd cc
 none_parts None (Some p) t e = absurd cc
 none_parts None None t e = (refl, refl, e)
 
-none_of : (a b c : Option ℕ) (t : Option (ℕ × StreamKind)) → a ≡ None → b ≡ None → c ≡ None → t ≡ None → first_of a UnknownName (first_of b Unsupported (first_of c Unsupported t)) ≡ None
+none_of : (a b c : Option ℕ) (t : Option (ℕ × StreamKind)) → a ≡ None → b ≡ None → c ≡ None → t ≡ None
+    → first_of a UnknownName (first_of b Unsupported (first_of c Unsupported t)) ≡ None
 none_of a b c t p q r s = rw (p, q, r) s
 
 pub whole_within : (rs : List Record) → whole_fault rs ≡ None → wide_whole_fault rs ≡ None
 whole_within rs h =
     let ss = outlines 0 rs in
-    let n = none_parts (unknown (all_uses ss) ss) (deep (all_uses ss) ss) (top_fault (last_place 0 rs) (tops 0 (all_uses ss) ss)) h in
-    none_of (unknown (all_uses ss) ss) (first_loop ss ss) (first_long ss ss) (top_fault (last_place 0 rs) (tops 0 (all_uses ss) ss)) n.0 (no_first_loop ss n.1 ss refl ss) (no_first_long ss n.1 ss) n.2
+    let n = none_parts (unknown (all_uses ss) ss) (deep (all_uses ss) ss)
+    (top_fault (last_place 0 rs) (tops 0 (all_uses ss) ss)) h in
+    none_of (unknown (all_uses ss) ss) (first_loop ss ss) (first_long ss ss)
+    (top_fault (last_place 0 rs) (tops 0 (all_uses ss) ss)) n.0 (no_first_loop ss n.1 ss refl ss)
+    (no_first_long ss n.1 ss) n.2

@@ -1,5 +1,6 @@
 -- A strict stream is a wide one.
-use Rattle.std.proofs.Common.{◌≡◌, ℕ, zero, suc, ◌+◌, ◌*◌, ◌^◌, ◌<◌, List, [], ◌∷◌, ◌++◌, take, drop, length, None, refl, subst, arith}
+use Rattle.std.proofs.Common.{◌≡◌, ℕ, zero, suc, ◌+◌, ◌*◌, ◌^◌, ◌<◌, List, [], ◌∷◌, ◌++◌, take, drop, length, None}
+use Rattle.std.proofs.Common.{refl, subst, arith}
 use Rattle.std.specs.List.{AllByRecursion, flat_map}
 use Rattle.std.specs.Int.{w32, from_be_bytes, to_be_bytes, w16}
 use Rattle.geom.specs.declared.layout.Layout.{Layout}
@@ -49,14 +50,17 @@ are_fit rs rest f = turn rs (before (flat_map spelled rs) rest f)
     turn : (rs : List Record) → AreBytes (flat_map spelled rs) → AreFit rs
     turn [] f = tt
     turn (r ∷ rs) f = (
-      (λ k. four_fit (drop (4 * k) r.content) (dropped (4 * k) r.content (content_bytes r (before (spelled r) (flat_map spelled rs) f)))),
+      (λ k. four_fit (drop (4 * k) r.content)
+          (dropped (4 * k) r.content (content_bytes r (before (spelled r) (flat_map spelled rs) f)))),
       turn rs (behind (spelled r) (flat_map spelled rs) f),
     )
 
 pub stream_within :
-    ((w : List ℕ) → Speaks stream w → Speaks wide_stream w) → ((rs : List Record) → whole_fault rs ≡ None → wide_whole_fault rs ≡ None)
+    ((w : List ℕ) → Speaks stream w → Speaks wide_stream w)
+    → ((rs : List Record) → whole_fault rs ≡ None → wide_whole_fault rs ≡ None)
     → ((rs : List Record) → Speaks stream (kinds rs) → AreFit rs → AreGoodIn strict [] rs → AreGoodIn wide [] rs)
-    → (bytes : List ℕ) (layout : Layout) → IsBytes bytes → (s : IsStream bytes layout) → IsWideStream bytes (wide_layout_of s.records)
+    → (bytes : List ℕ) (layout : Layout) → IsBytes bytes → (s : IsStream bytes layout)
+    → IsWideStream bytes (wide_layout_of s.records)
 stream_within sentence whole good bytes layout fits s =
     record {
       records = s.records;
@@ -64,7 +68,9 @@ stream_within sentence whole good bytes layout fits s =
       read = record {
         whole = s.read.whole;
         grammar = sentence (kinds s.records) s.read.grammar;
-        good = good s.records s.read.grammar (are_fit s.records s.rest (subst (λ (x : List ℕ). AreBytes x) s.read.whole (each_byte bytes fits))) s.read.good;
+        good = good s.records s.read.grammar
+            (are_fit s.records s.rest (subst (λ (x : List ℕ). AreBytes x) s.read.whole (each_byte bytes fits)))
+            s.read.good;
       };
       zeros = s.zeros;
       conditions = whole s.records s.conditions;

@@ -1,5 +1,5 @@
 -- What the records of a stream say: its structures in order, with their elements in order.
-use Rattle.std.specs.Prelude.{ℕ, suc, ◌*◌, ◌==◌, ◌&&◌, List, [], ◌∷◌, ◌++◌, Bool, true, false, map, take, drop, ℤ}
+use Rattle.std.specs.Prelude.{ℕ, suc, ◌*◌, ◌==◌, List, [], ◌∷◌, ◌++◌, Bool, true, false, map, take, drop, ℤ}
 use Rattle.std.specs.Prelude.{int_le}
 use Rattle.std.specs.Int.{w32, from_be_bytes, cast_signed}
 use Rattle.geom.specs.Rectangle.{Rectangle}
@@ -9,7 +9,6 @@ use Rattle.geom.specs.declared.layout.Structure.{Structure}
 use Rattle.gds_records.specs.declared.codes.TheConstants.{BGNSTR, STRNAME, ENDSTR, BOUNDARY, SREF, LAYER, DATATYPE, XY}
 use Rattle.gds_records.specs.declared.codes.TheConstants.{ENDEL, SNAME, STRING}
 use Rattle.gds_records.specs.Records.{Record, number, trimmed, same}
-use Rattle.gds_records.specs.Values.{is_rectangle}
 
 -- what follows each BGNSTR
 abbrev pub starts : List Record → List (List Record)
@@ -65,10 +64,9 @@ abbrev pub place_of : List ℕ → List (List ℕ) → ℕ
 place_of name [] = 0
 place_of name (n ∷ ns) = elim (same name n) [ true ↦ 0 | false ↦ suc (place_of name ns) ]
 
--- the element that its records say, where the structures have these names; a boundary's XY is that of a rectangle in
--- every stream
+-- the element that its records say, where the structures have these names
 abbrev pub element_of : List (List ℕ) → List Record → Element
-element_of names rs = elim (has BOUNDARY rs && is_rectangle (field XY rs)) [
+element_of names rs = elim (has BOUNDARY rs) [
   | true ↦ Box (record {
     layer = number (field LAYER rs);
     datatype = number (field DATATYPE rs);

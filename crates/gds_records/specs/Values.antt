@@ -1,7 +1,7 @@
 -- The values that a record must have, after the records before it (GDSII Stream Format manual; that a database unit is
 -- one nanometre, that boundaries are rectangles and that references are not turned is this project's own profile).
-use Rattle.std.specs.Prelude.{ℕ, ◌+◌, ◌*◌, ◌==◌, ◌&&◌, ◌||◌, not, nat_lt, List, [], ◌∷◌, Bool, true, false, length}
-use Rattle.std.specs.Prelude.{take, drop, slice_index, Option, Some, None}
+use Rattle.std.specs.Prelude.{ℕ, ◌+◌, ◌*◌, ◌==◌, ◌&&◌, ◌||◌, not, cond, nat_lt, List, [], ◌∷◌, Bool, true, false}
+use Rattle.std.specs.Prelude.{length, take, drop, slice_index, Option, Some, None}
 use Rattle.std.specs.Int.{w32, from_be_bytes}
 use Rattle.gds_records.specs.declared.fault.StreamKind.{StreamKind}
 use Rattle.gds_records.specs.declared.fault.StreamKind.TheVariants.{Value, Unsupported, NotRectangle}
@@ -69,27 +69,21 @@ is_rectangle xy =
 -- the values of records but a reference's STRANS and a boundary's XY; a structure's name may not be taken
 abbrev pub has_value : Bool → Record → Bool
 has_value taken r =
-    elim (r.kind == LIBNAME || r.kind == STRING) [
-      | true ↦ is_text r.content
-      | false ↦ elim (r.kind == UNITS) [
-        | true ↦ is_nanometre r.content
-        | false ↦ elim (r.kind == STRNAME) [
-          | true ↦ is_name r.content && not taken
-          | false ↦ elim (r.kind == SNAME) [
-            | true ↦ is_name r.content
-            | false ↦ elim (r.kind == XY) [ true ↦ length r.content == 8 | false ↦ true ]
-          ]
-        ]
-      ]
-    ]
+    cond (r.kind == LIBNAME || r.kind == STRING) (is_text r.content)
+    (cond (r.kind == UNITS) (is_nanometre r.content)
+    (cond (r.kind == STRNAME) (is_name r.content && not taken)
+    (cond (r.kind == SNAME) (is_name r.content)
+    (cond (r.kind == XY) (length r.content == 8) true))))
+
+-- where it speaks of the record, its test or this fault; otherwise what else is wrong
+abbrev pub rule : Bool → Bool → StreamKind → Option StreamKind → Option StreamKind
+rule true true k others = None
+rule true false k others = Some k
+rule false good k others = others
 
 -- what is wrong with a record's value in an element that this record opened
 abbrev pub value_fault_in : ℕ → Bool → Record → Option StreamKind
 value_fault_in element taken r =
-    elim (r.kind == STRANS && element == SREF) [
-      | true ↦ elim (unsigned_value 0 r.content == 0) [ true ↦ None | false ↦ Some Unsupported ]
-      | false ↦ elim (r.kind == XY && element == BOUNDARY) [
-        | true ↦ elim (is_rectangle r.content) [ true ↦ None | false ↦ Some NotRectangle ]
-        | false ↦ elim (has_value taken r) [ true ↦ None | false ↦ Some Value ]
-      ]
-    ]
+    rule (r.kind == STRANS && element == SREF) (unsigned_value 0 r.content == 0) Unsupported
+    (rule (r.kind == XY && element == BOUNDARY) (is_rectangle r.content) NotRectangle
+    (rule true (has_value taken r) Value None))

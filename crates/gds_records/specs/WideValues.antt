@@ -10,7 +10,7 @@ use Rattle.gds_records.specs.declared.fault.StreamKind.TheVariants.{Value, Unsup
 use Rattle.gds_records.specs.declared.codes.TheConstants.{BOUNDARY, PATH, SREF, AREF, TEXT, XY, STRANS, MAG, ANGLE}
 use Rattle.gds_records.specs.declared.codes.TheConstants.{PATHTYPE, WIDTH, COLROW}
 use Rattle.gds_records.specs.Records.{Record, number}
-use Rattle.gds_records.specs.Values.{unsigned_value, has_value}
+use Rattle.gds_records.specs.Values.{unsigned_value, has_value, rule}
 use Rattle.gds_records.specs.Drawing.{coordinate}
 
 -- ---- the points of an XY
@@ -186,12 +186,6 @@ wide_opener last (r ∷ rs) =
 abbrev pub last_colrow : List ℕ → List Record → List ℕ
 last_colrow last [] = last
 last_colrow last (r ∷ rs) = elim (r.kind == COLROW) [ true ↦ last_colrow r.content rs | false ↦ last_colrow last rs ]
-
--- where it speaks of the record, its test or this fault; otherwise what else is wrong
-abbrev pub rule : Bool → Bool → StreamKind → Option StreamKind → Option StreamKind
-rule true true k others = None
-rule true false k others = Some k
-rule false good k others = others
 
 -- the element is a reference: SREF or AREF
 abbrev pub refers : ℕ → Bool

@@ -56,12 +56,14 @@ pub fn stream_is_found()
 
 /// A fault is the one that the scan finds, so there is one at most, and none in a stream.
 pub fn fault_is_found()
-    ensures { (bytes : List ℕ) (offset : ℕ) (kind : StreamKind) → StreamFault bytes offset kind → first_fault bytes ≡ Some (offset, kind) }
+    ensures { (bytes : List ℕ) (offset : ℕ) (kind : StreamKind) → StreamFault bytes offset kind
+        → first_fault bytes ≡ Some (offset, kind) }
 {}
 
 /// A scan is told by its steps, which keep no records.
 pub fn steps_tell_scan()
-    ensures { (p : Profile) (bytes : List ℕ) → IsProfile p → all_steps p bytes ≡ told (scan_in p (suc (length bytes)) [] bytes) }
+    ensures { (p : Profile) (bytes : List ℕ) → IsProfile p
+        → all_steps p bytes ≡ told (scan_in p (suc (length bytes)) [] bytes) }
 {}
 
 /// The bytes of a layout that can be written are a stream of it.
@@ -77,8 +79,10 @@ pub fn one_layout()
 /// Bytes are a stream or have a fault, never both, and they have one first fault.
 pub fn one_of_both()
     ensures some { (bytes : List ℕ) → IsBytes bytes → IsStreamOrFaulty bytes }
-    ensures one { (bytes : List ℕ) (layout : Layout) (offset : ℕ) (kind : StreamKind) → IsStream bytes layout → StreamFault bytes offset kind → ⊥ }
-    ensures fault { (bytes : List ℕ) (offset other : ℕ) (kind second : StreamKind) → StreamFault bytes offset kind → StreamFault bytes other second → (offset ≡ other) × (kind ≡ second) }
+    ensures one { (bytes : List ℕ) (layout : Layout) (offset : ℕ) (kind : StreamKind) → IsStream bytes layout
+        → StreamFault bytes offset kind → ⊥ }
+    ensures fault { (bytes : List ℕ) (offset other : ℕ) (kind second : StreamKind) → StreamFault bytes offset kind
+        → StreamFault bytes other second → (offset ≡ other) × (kind ≡ second) }
 {}
 
 /// The first chip, a buffer in each of two rows: the bytes of its layout, of which they are a stream.
@@ -93,11 +97,16 @@ pub fn first_chip_is_stream()
 
 /// Bytes are a wide stream of one layout, which a scan finds, or have one first fault, which it finds, and never both.
 pub fn one_wide_reading()
-    ensures stream { (bytes : List ℕ) → IsBytes bytes → first_fault_in wide bytes ≡ None → IsWideStream bytes (wide_layout_in bytes) }
-    ensures layout { (bytes : List ℕ) (layout : WideLayout) → IsWideStream bytes layout → layout ≡ wide_layout_in bytes }
-    ensures no_fault { (bytes : List ℕ) (layout : WideLayout) → IsWideStream bytes layout → first_fault_in wide bytes ≡ None }
-    ensures fault { (bytes : List ℕ) (offset : ℕ) (kind : StreamKind) → IsBytes bytes → first_fault_in wide bytes ≡ Some (offset, kind) → WideFault bytes offset kind }
-    ensures one_fault { (bytes : List ℕ) (offset : ℕ) (kind : StreamKind) → WideFault bytes offset kind → first_fault_in wide bytes ≡ Some (offset, kind) }
+    ensures stream { (bytes : List ℕ) → IsBytes bytes → first_fault_in wide bytes ≡ None
+        → IsWideStream bytes (wide_layout_in bytes) }
+    ensures layout { (bytes : List ℕ) (layout : WideLayout) → IsWideStream bytes layout
+        → layout ≡ wide_layout_in bytes }
+    ensures no_fault { (bytes : List ℕ) (layout : WideLayout) → IsWideStream bytes layout
+        → first_fault_in wide bytes ≡ None }
+    ensures fault { (bytes : List ℕ) (offset : ℕ) (kind : StreamKind) → IsBytes bytes
+        → first_fault_in wide bytes ≡ Some (offset, kind) → WideFault bytes offset kind }
+    ensures one_fault { (bytes : List ℕ) (offset : ℕ) (kind : StreamKind) → WideFault bytes offset kind
+        → first_fault_in wide bytes ≡ Some (offset, kind) }
 {}
 
 /// The first chip is a wide stream too, with the same flat form.
@@ -110,7 +119,8 @@ pub fn first_chip_is_wide()
 pub fn wide_values_are_drawn()
     ensures ring { (ps : List Point) → is_ring ps ≡ true → IsFigure (Ring ps) }
     ensures path { (ps : List Point) → is_path ps ≡ true → IsBent (turns ps) }
-    ensures grid { (n : ℕ) (p q : Point) → is_multiple n p.x q.x ≡ true → is_multiple n p.y q.y ≡ true → far n (step n p q) p ≡ q }
+    ensures grid { (n : ℕ) (p q : Point) → is_multiple n p.x q.x ≡ true → is_multiple n p.y q.y ≡ true
+        → far n (step n p q) p ≡ q }
 {}
 
 /// A strict sentence is a wide one, and records that meet the strict conditions on the whole meet the wide ones.
@@ -121,7 +131,8 @@ pub fn strict_is_within_wide()
 
 /// A boundary that is a rectangle is a ring that is cut into that rectangle alone.
 pub fn rectangles_are_rings()
-    ensures cut { (xy : List ℕ) → ((k : ℕ) → at xy k < 2 ^ 32) → is_rectangle xy ≡ true → ring_cut (points xy) ≡ box_of xy ∷ [] }
+    ensures cut { (xy : List ℕ) → ((k : ℕ) → at xy k < 2 ^ 32) → is_rectangle xy ≡ true
+        → ring_cut (points xy) ≡ box_of xy ∷ [] }
     ensures ring { (xy : List ℕ) → ((k : ℕ) → at xy k < 2 ^ 32) → is_rectangle xy ≡ true → is_ring (points xy) ≡ true }
 {
     poly_cut::rectangle_is_cut_whole();
@@ -129,14 +140,16 @@ pub fn rectangles_are_rings()
 
 /// Records of a strict stream, whose coordinates have four bytes, are good in a wide one.
 pub fn strict_records_are_good()
-    ensures { (rs : List Record) → Speaks stream (kinds rs) → AreFit rs → AreGoodIn strict [] rs → AreGoodIn wide [] rs }
+    ensures { (rs : List Record) → Speaks stream (kinds rs) → AreFit rs → AreGoodIn strict [] rs
+        → AreGoodIn wide [] rs }
 {
     rectangles_are_rings();
 }
 
 /// A strict stream is a wide one.
 pub fn strict_streams_are_wide()
-    ensures { (bytes : List ℕ) (layout : Layout) → IsBytes bytes → (s : IsStream bytes layout) → IsWideStream bytes (wide_layout_of s.records) }
+    ensures { (bytes : List ℕ) (layout : Layout) → IsBytes bytes → (s : IsStream bytes layout)
+        → IsWideStream bytes (wide_layout_of s.records) }
 {
     strict_is_within_wide();
     strict_records_are_good();
@@ -150,7 +163,8 @@ pub fn loops_are_long()
 /// Loops are told by numbers and by ways: where numbers never rise along references, a structure whose references all
 /// fall leads not back to itself, and one with a way back of at most so many references does.
 pub fn loops_are_told()
-    ensures none { (rank : List ℕ → ℕ) (ss : List Outline) (k : ℕ) (name : List ℕ) → NeverRises rank ss → Falls rank ss name
+    ensures none { (rank : List ℕ → ℕ) (ss : List Outline) (k : ℕ) (name : List ℕ) → NeverRises rank ss
+        → Falls rank ss name
         → leads k ss name name ≡ false }
     ensures some { (ss : List Outline) (name : List ℕ) (more : List (List ℕ)) (k : ℕ) → length more < k
         → IsWay ss name more name → leads k ss name name ≡ true }

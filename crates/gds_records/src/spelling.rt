@@ -2,9 +2,10 @@
 ghost use Rattle.std.specs.Prelude.{◌≡◌, ◌+◌, ◌<◌, ◌≤◌, ◌++◌, ◌∷◌, [], length, OnOk, FitsSigned, All};
 ghost use Rattle.std.specs.Int.{w32, to_be_bytes, cast_unsigned};
 ghost use Rattle.std.specs.List.{flat_map};
-ghost use Rattle.geom.specs.Writable.{names_in, IsWritableShape, IsWritableLabel, IsWritableElement, IsWritableStructure, IsWritableText};
+ghost use Rattle.geom.specs.Writable.{names_in, IsWritableShape, IsWritableLabel, IsWritableElement};
+ghost use Rattle.geom.specs.Writable.{IsWritableStructure, IsWritableText};
 ghost use Rattle.gds_records.specs.Records.{record_with, spelled};
-ghost use Rattle.gds_records.specs.Buffer.{Gains};
+ghost use Rattle.gds_records.specs.Code.Buffer.{Gains};
 ghost use Rattle.gds_records.specs.Writing.{two_bytes, padded, corner_bits, element_records, dates, library_head};
 
 use crate::codes::{
@@ -37,7 +38,8 @@ fn put_head(into: &mut Vec<u8>, length: u16, kind: u8, form: u8) -> Result<(), M
 }
 
 fn put_number(into: &mut Vec<u8>, kind: u8, number: u16) -> Result<(), Memory>
-    ensures { OnOk result (Gains into.old.items into.new.items (spelled (record_with kind TWO_BYTE_INTEGER (two_bytes number)))) }
+    ensures { OnOk result
+        (Gains into.old.items into.new.items (spelled (record_with kind TWO_BYTE_INTEGER (two_bytes number)))) }
 {
     put_head(into, 6, kind, TWO_BYTE_INTEGER)?;
     put(into, &number.to_be_bytes())
@@ -59,7 +61,9 @@ fn put_point(into: &mut Vec<u8>, x: u32, y: u32) -> Result<(), Memory>
 }
 
 fn put_place(into: &mut Vec<u8>, x: u32, y: u32) -> Result<(), Memory>
-    ensures { OnOk result (Gains into.old.items into.new.items (spelled (record_with XY FOUR_BYTE_INTEGER (to_be_bytes w32 x ++ to_be_bytes w32 y)))) }
+    ensures { OnOk result
+        (Gains into.old.items into.new.items
+        (spelled (record_with XY FOUR_BYTE_INTEGER (to_be_bytes w32 x ++ to_be_bytes w32 y)))) }
 {
     put_head(into, 12, XY, FOUR_BYTE_INTEGER)?;
     put_point(into, x, y)
@@ -67,7 +71,8 @@ fn put_place(into: &mut Vec<u8>, x: u32, y: u32) -> Result<(), Memory>
 
 fn put_text(into: &mut Vec<u8>, kind: u8, text: &[u8]) -> Result<(), Memory>
     requires { length text.now ≤ 512 }
-    ensures { OnOk result (Gains into.old.items into.new.items (spelled (record_with kind ASCII_STRING (padded text.now)))) }
+    ensures { OnOk result
+        (Gains into.old.items into.new.items (spelled (record_with kind ASCII_STRING (padded text.now)))) }
 {
     let odd = text.len() % 2;
     put_head(into, (4 + text.len() + odd) as u16, kind, ASCII_STRING)?;
@@ -76,7 +81,8 @@ fn put_text(into: &mut Vec<u8>, kind: u8, text: &[u8]) -> Result<(), Memory>
 }
 
 fn put_corners(into: &mut Vec<u8>, x0: u32, y0: u32, x1: u32, y1: u32) -> Result<(), Memory>
-    ensures { OnOk result (Gains into.old.items into.new.items (spelled (record_with XY FOUR_BYTE_INTEGER (corner_bits x0 y0 x1 y1)))) }
+    ensures { OnOk result
+        (Gains into.old.items into.new.items (spelled (record_with XY FOUR_BYTE_INTEGER (corner_bits x0 y0 x1 y1)))) }
 {
     put_head(into, 44, XY, FOUR_BYTE_INTEGER)?;
     put_point(into, x0, y0)?;
@@ -89,7 +95,8 @@ fn put_corners(into: &mut Vec<u8>, x0: u32, y0: u32, x1: u32, y1: u32) -> Result
 
 fn put_box(into: &mut Vec<u8>, shape: &Shape) -> Result<(), Memory>
     requires { IsWritableShape shape.now }
-    ensures { OnOk result (Gains into.old.items into.new.items (flat_map spelled (element_records [] (Element.Box shape.now)))) }
+    ensures { OnOk result
+        (Gains into.old.items into.new.items (flat_map spelled (element_records [] (Element.Box shape.now)))) }
 {
     put_mark(into, BOUNDARY)?;
     put_number(into, LAYER, shape.layer)?;
@@ -104,7 +111,9 @@ fn put_reference(into: &mut Vec<u8>, name: &[u8], x: i64, y: i64) -> Result<(), 
     requires name { length name.now ≤ 512 }
     requires x { FitsSigned w32 x }
     requires y { FitsSigned w32 y }
-    ensures { OnOk result (Gains into.old.items into.new.items (flat_map spelled (element_records (name.now ∷ []) (Element.Place 0 x y)))) }
+    ensures { OnOk result
+        (Gains into.old.items into.new.items
+        (flat_map spelled (element_records (name.now ∷ []) (Element.Place 0 x y)))) }
 {
     put_mark(into, SREF)?;
     put_text(into, SNAME, name)?;
@@ -115,7 +124,8 @@ fn put_reference(into: &mut Vec<u8>, name: &[u8], x: i64, y: i64) -> Result<(), 
 
 fn put_label(into: &mut Vec<u8>, label: &Label) -> Result<(), Memory>
     requires { IsWritableLabel label.now }
-    ensures { OnOk result (Gains into.old.items into.new.items (flat_map spelled (element_records [] (Element.Text label.now)))) }
+    ensures { OnOk result
+        (Gains into.old.items into.new.items (flat_map spelled (element_records [] (Element.Text label.now)))) }
 {
     put_mark(into, TEXT)?;
     put_number(into, LAYER, label.layer)?;
@@ -134,7 +144,9 @@ pub fn put_element(
 ) -> Result<(), Memory>
     requires element { IsWritableElement (length structures.now) element.now }
     requires names { All (IsWritableStructure (length structures.now)) structures.now }
-    ensures { OnOk result (Gains into.old.items into.new.items (flat_map spelled (element_records (names_in structures.now) element.now))) }
+    ensures { OnOk result
+        (Gains into.old.items into.new.items
+        (flat_map spelled (element_records (names_in structures.now) element.now))) }
 {
     match element {
         Element::Box(shape) => put_box(into, shape),
@@ -159,7 +171,10 @@ fn put_dates(into: &mut Vec<u8>, kind: u8) -> Result<(), Memory>
 /// What stands before the elements of a structure.
 pub fn put_structure_head(into: &mut Vec<u8>, name: &[u8]) -> Result<(), Memory>
     requires { length name.now ≤ 512 }
-    ensures { OnOk result (Gains into.old.items into.new.items (spelled (record_with BGNSTR TWO_BYTE_INTEGER dates) ++ spelled (record_with STRNAME ASCII_STRING (padded name.now)))) }
+    ensures { OnOk result
+        (Gains into.old.items into.new.items
+        (spelled (record_with BGNSTR TWO_BYTE_INTEGER dates)
+        ++ spelled (record_with STRNAME ASCII_STRING (padded name.now)))) }
 {
     put_dates(into, BGNSTR)?;
     put_text(into, STRNAME, name)?;

@@ -40,8 +40,8 @@ macro_rules! row {
     };
 }
 
-// The rows of strict streams, behind some others. A reader takes the first row that it finds, so those of boundaries, of
-// which a chip has most, come first.
+// The rows of strict streams, behind some others. A reader takes the first row that it finds, so those of boundaries,
+// of which a chip has most, come first.
 macro_rules! rows {
     ($($more:expr),*) => {
         &[

@@ -24,7 +24,8 @@ five (a ∷ b ∷ c ∷ e ∷ f ∷ []) d is = refl
 five (a ∷ b ∷ c ∷ e ∷ f ∷ g ∷ ps) d is = absurd (omega (arith, is))
 
 -- such a ring
-pub boxed_ring : (ring : List Point) (a b c d e : Point) (r : Rectangle) → ring ≡ a ∷ b ∷ c ∷ d ∷ e ∷ [] → e.x ≡ a.x → e.y ≡ a.y
+pub boxed_ring : (ring : List Point) (a b c d e : Point) (r : Rectangle) → ring ≡ a ∷ b ∷ c ∷ d ∷ e ∷ []
+    → e.x ≡ a.x → e.y ≡ a.y
     → AreCorners a.x b.x c.x d.x a.y b.y c.y d.y ⊎ AreCorners a.y b.y c.y d.y a.x b.x c.x d.x → IsBox a c r
     → ring_cut ring ≡ r ∷ []
 boxed_ring ring a b c d e r is ex ey (inl x) so =
@@ -41,8 +42,10 @@ boxed_ring ring a b c d e r is ex ey (inr y) so =
     ∙ cut_along_y a.x c.x a.y c.y so.wide so.high ∙ ap (λ (k : Rectangle). k ∷ []) (sym so.is)
 
 -- where a search answers one
-pub boxed_answer : (ring : List Point) (a b c d e : Point) (found : Option Rectangle) → ring ≡ a ∷ b ∷ c ∷ d ∷ e ∷ [] → e.x ≡ a.x
-    → e.y ≡ a.y → AreCorners a.x b.x c.x d.x a.y b.y c.y d.y ⊎ AreCorners a.y b.y c.y d.y a.x b.x c.x d.x → IsBoxOf a c found
+pub boxed_answer : (ring : List Point) (a b c d e : Point) (found : Option Rectangle)
+    → ring ≡ a ∷ b ∷ c ∷ d ∷ e ∷ [] → e.x ≡ a.x
+    → e.y ≡ a.y → AreCorners a.x b.x c.x d.x a.y b.y c.y d.y ⊎ AreCorners a.y b.y c.y d.y a.x b.x c.x d.x
+    → IsBoxOf a c found
     → (r : Rectangle) → found ≡ Some r → ring_cut ring ≡ r ∷ []
 boxed_answer ring a b c d e None is ex ey corners so r found = cc
 boxed_answer ring a b c d e (Some s) is ex ey corners so r found =
@@ -59,14 +62,16 @@ pub rising : (a c : Point) (r : Rectangle) → a.x <ℤ c.x → a.y <ℤ c.y →
 rising a c r x y is = record {
   wide = λ e. omega (arith, ints, x, e);
   high = λ e. omega (arith, ints, y, e);
-  is = is ∙ (let lx = less_first a.x c.x x in let ly = less_first a.y c.y y in same_sides (sym lx.0) (sym ly.0) (sym lx.1) (sym ly.1));
+  is = is ∙ (let lx = less_first a.x c.x x in let ly = less_first a.y c.y y in
+      same_sides (sym lx.0) (sym ly.0) (sym lx.1) (sym ly.1));
 }
 
 pub falling : (a c : Point) (r : Rectangle) → a.x <ℤ c.x → c.y <ℤ a.y → r ≡ box a.x c.y c.x a.y → IsBox a c r
 falling a c r x y is = record {
   wide = λ e. omega (arith, ints, x, e);
   high = λ e. omega (arith, ints, y, e);
-  is = is ∙ (let lx = less_first a.x c.x x in let ly = less_second a.y c.y y in same_sides (sym lx.0) (sym ly.0) (sym lx.1) (sym ly.1));
+  is = is ∙ (let lx = less_first a.x c.x x in let ly = less_second a.y c.y y in
+      same_sides (sym lx.0) (sym ly.0) (sym lx.1) (sym ly.1));
 }
 
 -- the same from the other corner
@@ -74,14 +79,16 @@ pub rising_back : (a c : Point) (r : Rectangle) → a.x <ℤ c.x → a.y <ℤ c.
 rising_back a c r x y is = record {
   wide = λ e. omega (arith, ints, x, e);
   high = λ e. omega (arith, ints, y, e);
-  is = is ∙ (let lx = less_second c.x a.x x in let ly = less_second c.y a.y y in same_sides (sym lx.0) (sym ly.0) (sym lx.1) (sym ly.1));
+  is = is ∙ (let lx = less_second c.x a.x x in let ly = less_second c.y a.y y in
+      same_sides (sym lx.0) (sym ly.0) (sym lx.1) (sym ly.1));
 }
 
 pub falling_back : (a c : Point) (r : Rectangle) → a.x <ℤ c.x → c.y <ℤ a.y → r ≡ box a.x c.y c.x a.y → IsBox c a r
 falling_back a c r x y is = record {
   wide = λ e. omega (arith, ints, x, e);
   high = λ e. omega (arith, ints, y, e);
-  is = is ∙ (let lx = less_second c.x a.x x in let ly = less_first c.y a.y y in same_sides (sym lx.0) (sym ly.0) (sym lx.1) (sym ly.1));
+  is = is ∙ (let lx = less_second c.x a.x x in let ly = less_first c.y a.y y in
+      same_sides (sym lx.0) (sym ly.0) (sym lx.1) (sym ly.1));
 }
 
 pub ruleset corners = (rising, falling, rising_back, falling_back)

@@ -1,5 +1,6 @@
 -- Walls of a slab, pair by pair.
-use Rattle.std.proofs.Common.{◌≡◌, ℕ, zero, suc, ◌+◌, ◌<◌, ◌≤◌, ℤ, pos, ◌+ℤ◌, ◌<ℤ◌, ◌≤ℤ◌, List, [], ◌∷◌, length, drop, Option, Some, None, refl, sym, subst, ◌∙◌, arith}
+use Rattle.std.proofs.Common.{◌≡◌, ℕ, zero, suc, ◌+◌, ◌<◌, ◌≤◌, ℤ, pos, ◌+ℤ◌, ◌<ℤ◌, ◌≤ℤ◌, List, [], ◌∷◌, length, drop}
+use Rattle.std.proofs.Common.{Option, Some, None, refl, sym, subst, ◌∙◌, arith}
 use Rattle.std.specs.Prelude.{slice_get}
 use Rattle.std.proofs.lemmas.Int.{ints}
 use Rattle.std.proofs.lemmas.Option.{same_Some}
@@ -32,10 +33,12 @@ past_all (v ∷ ws) up = (beyond v ws, λ k w e. turn k w e)
     turn zero w e = subst (λ (x : ℤ). x <ℤ beyond v ws) (same_Some v w e) (beyond_first v ws up)
     turn (suc k) w e = beyond_all v ws k w up e
 
-not_less : (ws : List ℤ) (k i : ℕ) (v w : ℤ) → Rising ws → k ≤ i → slice_get ws k ≡ Some v → slice_get ws i ≡ Some w → v ≤ℤ w
+not_less : (ws : List ℤ) (k i : ℕ) (v w : ℤ) → Rising ws → k ≤ i → slice_get ws k ≡ Some v
+    → slice_get ws i ≡ Some w → v ≤ℤ w
 not_less [] k i v w up le p q = absurd cc
 not_less (u ∷ ws) zero zero v w up le p q = (let e : v ≡ w = same_Some v w (sym p ∙ q) in omega (arith, ints, e))
-not_less (u ∷ ws) zero (suc i) v w up le p q = (let h : v <ℤ w = got_less (u ∷ ws) 0 (suc i) v w up (omega arith) p q in omega (arith, ints, h))
+not_less (u ∷ ws) zero (suc i) v w up le p q =
+    (let h : v <ℤ w = got_less (u ∷ ws) 0 (suc i) v w up (omega arith) p q in omega (arith, ints, h))
 not_less (u ∷ ws) (suc k) zero v w up le p q = absurd (omega arith)
 not_less (u ∷ []) (suc k) (suc i) v w up le p q = absurd cc
 not_less (u ∷ t ∷ ws) (suc k) (suc i) v w up le p q = not_less (t ∷ ws) k i v w up.1 (omega arith) p q
@@ -51,15 +54,25 @@ cut_exists ws h up = turn (slice_get ws (h + h)) refl
     none (v ∷ ws) (suc n) (suc k) w le e g = none ws n k w (omega (arith, le)) e g
 
     turn : (o : Option ℤ) → slice_get ws (h + h) ≡ o → (c : ℤ) × IsCut ws h c
-    turn (Some c) e = (c, record { right = λ k w lt g. got_less ws k (h + h) w c up lt g e; left = λ k w le g. not_less ws (h + h) k c w up le e g })
-    turn None e = (let p = past_all ws up in (p.0, record { right = λ k w lt g. p.1 k w g; left = λ k w le g. absurd (none ws (h + h) k w le e g) }))
+    turn (Some c) e = (
+      c,
+      record {
+        right = λ k w lt g. got_less ws k (h + h) w c up lt g e;
+        left =
+            λ k w le g. not_less ws (h + h) k c w up le e g;
+      },
+    )
+    turn None e = (let p = past_all ws up in
+        (p.0, record { right = λ k w lt g. p.1 k w g; left = λ k w le g. absurd (none ws (h + h) k w le e g) }))
 
 -- ---- what is left from a pair on
 
 pub pair_drop : (ws : List ℤ) (h : ℕ) (a b : ℤ) → IsPair ws h a b → drop (h + h) ws ≡ a ∷ b ∷ drop (suc h + suc h) ws
-pair_drop ws h a b p = let e : suc h + suc h ≡ suc (suc (h + h)) = omega arith in rw e (turn ws (h + h) p.first p.second)
+pair_drop ws h a b p = let e : suc h + suc h ≡ suc (suc (h + h)) = omega arith in
+    rw e (turn ws (h + h) p.first p.second)
   where
-    turn : (l : List ℤ) (n : ℕ) → slice_get l n ≡ Some a → slice_get l (suc n) ≡ Some b → drop n l ≡ a ∷ b ∷ drop (suc (suc n)) l
+    turn : (l : List ℤ) (n : ℕ) → slice_get l n ≡ Some a → slice_get l (suc n) ≡ Some b
+        → drop n l ≡ a ∷ b ∷ drop (suc (suc n)) l
     turn [] n p q = absurd cc
     turn (u ∷ []) zero p q = absurd cc
     turn (u ∷ v ∷ l) zero p q = λ k. same_Some u a p k ∷ same_Some v b q k ∷ l
@@ -73,7 +86,8 @@ none_left (w ∷ v ∷ ws) zero bottom top le = absurd (omega arith)
 none_left (w ∷ ws) (suc n) bottom top le = none_left ws n bottom top (omega arith)
 
 pub pair_there : (ws : List ℤ) (h : ℕ) → suc (h + h) < length ws → (a : ℤ) × ((b : ℤ) × IsPair ws h a b)
-pair_there ws h lt = (let a = got ws (h + h) (omega arith) in let b = got ws (suc (h + h)) lt in (a.0, (b.0, record { first = a.1; second = b.1 })))
+pair_there ws h lt = (let a = got ws (h + h) (omega arith) in let b = got ws (suc (h + h)) lt in
+    (a.0, (b.0, record { first = a.1; second = b.1 })))
   where
     got : (l : List ℤ) (n : ℕ) → n < length l → (w : ℤ) × (slice_get l n ≡ Some w)
     got [] n lt = absurd (omega arith)

@@ -1,5 +1,6 @@
 -- Windows between the ends at a level, and what toggling all ends does to the pairs of walls that are off them.
-use Rattle.std.proofs.Common.{◌≡◌, ◌⊎◌, ℕ, zero, suc, ◌+◌, ◌<◌, ◌≤◌, ℤ, pos, ◌+ℤ◌, ◌-ℤ◌, ◌<ℤ◌, ◌≤ℤ◌, List, [], ◌∷◌, Bool, true, false, length, drop, Some, refl, sym, ap, subst, ◌∙◌, arith, inl, inr}
+use Rattle.std.proofs.Common.{◌≡◌, ◌⊎◌, ℕ, zero, suc, ◌+◌, ◌<◌, ◌≤◌, ℤ, pos, ◌+ℤ◌, ◌-ℤ◌, ◌<ℤ◌, ◌≤ℤ◌, List, [], ◌∷◌}
+use Rattle.std.proofs.Common.{Bool, true, false, length, drop, Some, refl, sym, ap, subst, ◌∙◌, arith, inl, inr}
 use Rattle.std.specs.Prelude.{slice_get, int_le}
 use Rattle.std.proofs.lemmas.Int.{ints}
 use Rattle.std.proofs.lemmas.Option.{same_Some}
@@ -23,16 +24,19 @@ pub record Toggled (ws : List ℤ) (rest : List End) (old : List ℤ) (ends : Li
   pub rising : Rising ws
   pub same : all_toggled rest ws ≡ all_toggled ends old
 
-pub toggled_one : (ws : List ℤ) (rest : List End) (old : List ℤ) (ends : List End) (e : End) (new : List ℤ) → Toggled ws (e ∷ rest) old ends → new ≡ toggled e.x ws → Toggled new rest old ends
+pub toggled_one : (ws : List ℤ) (rest : List End) (old : List ℤ) (ends : List End) (e : End) (new : List ℤ)
+    → Toggled ws (e ∷ rest) old ends → new ≡ toggled e.x ws → Toggled new rest old ends
 toggled_one ws rest old ends e new t is = rw is (record { rising = toggled_rising e.x ws t.rising; same = t.same })
 
 pub all_rising : (ends : List End) (ws : List ℤ) → Rising ws → Rising (all_toggled ends ws)
 all_rising [] ws up = up
 all_rising (e ∷ es) ws up = all_rising es (toggled e.x ws) (toggled_rising e.x ws up)
 
-pub all_odd : (ends : List End) (ws : List ℤ) (i : ℤ) → odd_upto (all_toggled ends ws) i ≡ differ (odd_ends ends i) (odd_upto ws i)
+pub all_odd : (ends : List End) (ws : List ℤ) (i : ℤ) → odd_upto (all_toggled ends ws) i ≡ differ (odd_ends ends i)
+    (odd_upto ws i)
 all_odd [] ws i = refl
-all_odd (e ∷ es) ws i = all_odd es (toggled e.x ws) i ∙ ap (λ (b : Bool). differ (odd_ends es i) b) (toggled_odd e.x ws i) ∙ swap (odd_ends es i) (int_le e.x i) (odd_upto ws i)
+all_odd (e ∷ es) ws i = all_odd es (toggled e.x ws) i ∙ ap (λ (b : Bool). differ (odd_ends es i) b)
+    (toggled_odd e.x ws i) ∙ swap (odd_ends es i) (int_le e.x i) (odd_upto ws i)
   where
     swap : (a b c : Bool) → differ a (differ b c) ≡ differ (differ b a) c
     swap true true true = refl
@@ -46,45 +50,63 @@ all_odd (e ∷ es) ws i = all_odd es (toggled e.x ws) i ∙ ap (λ (b : Bool). d
 left_rest : (e : End) (es : List End) → FromLeft (e ∷ es) → FromLeft es
 left_rest e es up i j f g le p q = up (suc i) (suc j) f g (omega arith) p q
 
-clear_even : (ends : List End) (a b i : ℤ) → FromLeft ends → Clear ends a b → a ≤ℤ (i +ℤ pos 1) → i ≤ℤ b → odd_ends ends i ≡ false
+clear_even : (ends : List End) (a b i : ℤ) → FromLeft ends → Clear ends a b → a ≤ℤ (i +ℤ pos 1) → i ≤ℤ b
+    → odd_ends ends i ≡ false
 clear_even [] a b i up c lo hi = refl
 clear_even (t ∷ []) a b i up c lo hi = ap (λ (k : Bool). differ k false) (le_not t.x i (omega (arith, ints, c, hi)))
-clear_even (t ∷ u ∷ ts) a b i up c lo hi = turn c.0 (clear_even ts a b i (left_rest u ts (left_rest t (u ∷ ts) up)) c.1 lo hi)
+clear_even (t ∷ u ∷ ts) a b i up c lo hi = turn c.0
+    (clear_even ts a b i (left_rest u ts (left_rest t (u ∷ ts) up)) c.1 lo hi)
   where
     tu : t.x ≤ℤ u.x
     tu = up 0 1 t u (omega arith) refl refl
 
-    turn : (b <ℤ t.x) ⊎ (u.x <ℤ a) → odd_ends ts i ≡ false → differ (int_le t.x i) (differ (int_le u.x i) (odd_ends ts i)) ≡ false
-    turn (inl h) ih = (λ n. differ (le_not t.x i (omega (arith, ints, h, hi)) n) (differ (le_not u.x i (omega (arith, ints, h, hi, tu)) n) (ih n)))
-    turn (inr h) ih = (λ n. differ (le_is t.x i (omega (arith, ints, h, lo, tu)) n) (differ (le_is u.x i (omega (arith, ints, h, lo)) n) (ih n)))
+    turn : (b <ℤ t.x) ⊎ (u.x <ℤ a) → odd_ends ts i ≡ false
+        → differ (int_le t.x i) (differ (int_le u.x i) (odd_ends ts i)) ≡ false
+    turn (inl h) ih = (λ n. differ (le_not t.x i (omega (arith, ints, h, hi)) n)
+        (differ (le_not u.x i (omega (arith, ints, h, hi, tu)) n) (ih n)))
+    turn (inr h) ih = (λ n. differ (le_is t.x i (omega (arith, ints, h, lo, tu)) n)
+        (differ (le_is u.x i (omega (arith, ints, h, lo)) n) (ih n)))
 
-span_on : (ends : List End) (ws vs : List ℤ) (a b : ℤ) → FromLeft ends → Clear ends a b → ((i : ℤ) → odd_ends ends i ≡ false → odd_upto vs i ≡ odd_upto ws i) → IsSpan ws a b → IsSpan vs a b
+span_on : (ends : List End) (ws vs : List ℤ) (a b : ℤ) → FromLeft ends → Clear ends a b
+    → ((i : ℤ) → odd_ends ends i ≡ false → odd_upto vs i ≡ odd_upto ws i) → IsSpan ws a b → IsSpan vs a b
 span_on ends ws vs a b up c same s = record {
   wide = s.wide;
-  before = same (a -ℤ pos 1) (clear_even ends a b (a -ℤ pos 1) up c (omega (arith, ints)) (let k = s.wide in omega (arith, ints, k))) ∙ s.before;
-  inside = λ i le lt. same i (clear_even ends a b i up c (omega (arith, ints, le)) (omega (arith, ints, lt))) ∙ s.inside i le lt;
-  after = same b (clear_even ends a b b up c (let k = s.wide in omega (arith, ints, k)) (omega (arith, ints))) ∙ s.after;
+  before = same (a -ℤ pos 1) (clear_even ends a b (a -ℤ pos 1) up c (omega (arith, ints))
+      (let k = s.wide in omega (arith, ints, k))) ∙ s.before;
+  inside = λ i le lt. same i (clear_even ends a b i up c (omega (arith, ints, le)) (omega (arith, ints, lt)))
+      ∙ s.inside i le lt;
+  after = same b (clear_even ends a b b up c (let k = s.wide in omega (arith, ints, k)) (omega (arith, ints)))
+      ∙ s.after;
 }
 
-pub pair_stays : (ends : List End) (ws : List ℤ) (i : ℕ) (a b : ℤ) → Rising ws → FromLeft ends → Clear ends a b → IsPair ws i a b → (k : ℕ) × IsPair (all_toggled ends ws) k a b
+pub pair_stays : (ends : List End) (ws : List ℤ) (i : ℕ) (a b : ℤ) → Rising ws → FromLeft ends → Clear ends a b
+    → IsPair ws i a b → (k : ℕ) × IsPair (all_toggled ends ws) k a b
 pair_stays ends ws i a b up left c p =
     span_pair (all_toggled ends ws) a b (all_rising ends ws up)
-    (span_on ends ws (all_toggled ends ws) a b left c (λ k e. all_odd ends ws k ∙ ap (λ (x : Bool). differ x (odd_upto ws k)) e) (pair_span ws i a b up p))
+    (span_on ends ws (all_toggled ends ws) a b left c
+    (λ k e. all_odd ends ws k ∙ ap (λ (x : Bool). differ x (odd_upto ws k)) e) (pair_span ws i a b up p))
 
-pub pair_was : (ends : List End) (ws : List ℤ) (i : ℕ) (a b : ℤ) → Rising ws → FromLeft ends → Clear ends a b → IsPair (all_toggled ends ws) i a b → (k : ℕ) × IsPair ws k a b
+pub pair_was : (ends : List End) (ws : List ℤ) (i : ℕ) (a b : ℤ) → Rising ws → FromLeft ends → Clear ends a b
+    → IsPair (all_toggled ends ws) i a b → (k : ℕ) × IsPair ws k a b
 pair_was ends ws i a b up left c p =
     span_pair ws a b up
-    (span_on ends (all_toggled ends ws) ws a b left c (λ k e. sym (all_odd ends ws k ∙ ap (λ (x : Bool). differ x (odd_upto ws k)) e)) (pair_span (all_toggled ends ws) i a b (all_rising ends ws up) p))
+    (span_on ends (all_toggled ends ws) ws a b left c
+    (λ k e. sym (all_odd ends ws k ∙ ap (λ (x : Bool). differ x (odd_upto ws k)) e))
+    (pair_span (all_toggled ends ws) i a b (all_rising ends ws up) p))
 
 -- ---- the windows from the k-th end on
 
-pub clear_left : (ends : List End) (e : End) (a b : ℤ) → FromLeft ends → slice_get ends 0 ≡ Some e → b <ℤ e.x → Clear ends a b
+pub clear_left : (ends : List End) (e : End) (a b : ℤ) → FromLeft ends → slice_get ends 0 ≡ Some e → b <ℤ e.x
+    → Clear ends a b
 clear_left [] e a b up at lt = tt
-clear_left (t ∷ []) e a b up at lt = (let h : e.x ≤ℤ t.x = up 0 0 e t (omega arith) at refl in omega (arith, ints, lt, h))
-clear_left (t ∷ u ∷ []) e a b up at lt = (inl (let h : e.x ≤ℤ t.x = up 0 0 e t (omega arith) at refl in omega (arith, ints, lt, h)), tt)
+clear_left (t ∷ []) e a b up at lt =
+    (let h : e.x ≤ℤ t.x = up 0 0 e t (omega arith) at refl in omega (arith, ints, lt, h))
+clear_left (t ∷ u ∷ []) e a b up at lt =
+    (inl (let h : e.x ≤ℤ t.x = up 0 0 e t (omega arith) at refl in omega (arith, ints, lt, h)), tt)
 clear_left (t ∷ u ∷ v ∷ ts) e a b up at lt = (
   inl (let h : e.x ≤ℤ t.x = up 0 0 e t (omega arith) at refl in omega (arith, ints, lt, h)),
-  clear_left (v ∷ ts) v a b (left_rest u (v ∷ ts) (left_rest t (u ∷ v ∷ ts) up)) refl (let h : e.x ≤ℤ v.x = up 0 2 e v (omega arith) at refl in omega (arith, ints, lt, h)),
+  clear_left (v ∷ ts) v a b (left_rest u (v ∷ ts) (left_rest t (u ∷ v ∷ ts) up)) refl
+      (let h : e.x ≤ℤ v.x = up 0 2 e v (omega arith) at refl in omega (arith, ints, lt, h)),
 )
 
 pub off_left : (ends : List End) (e : End) (a b : ℤ) → slice_get ends 0 ≡ Some e → b <ℤ e.x → Off ends a b
@@ -107,7 +129,8 @@ clear_rest ends n a b c = let e : n + 2 ≡ suc (suc n) = omega arith in rw e (t
     turn (t ∷ u ∷ ts) zero c = c.1
     turn (t ∷ l) (suc n) c = turn l n c
 
-pub clear_all : (ends : List End) (n : ℕ) (a b : ℤ) → Off (drop n ends) a b → Clear (drop (n + 2) ends) a b → Clear (drop n ends) a b
+pub clear_all : (ends : List End) (n : ℕ) (a b : ℤ) → Off (drop n ends) a b → Clear (drop (n + 2) ends) a b
+    → Clear (drop n ends) a b
 clear_all ends n a b o c = let e : n + 2 ≡ suc (suc n) = omega arith in turn ends n o (rw e at c)
   where
     turn : (l : List End) (n : ℕ) → Off (drop n l) a b → Clear (drop (suc (suc n)) l) a b → Clear (drop n l) a b
@@ -140,7 +163,8 @@ past_off (t ∷ []) a b x p le = absurd p
 past_off (t ∷ u ∷ ts) a b x p le = inr (omega (arith, ints, p, le))
 
 -- what meets the first window isn't off it
-pub met : (ends : List End) (e : End) (a b : ℤ) → slice_get ends 0 ≡ Some e → Reached ends a → e.x ≤ℤ b → Off ends a b → ⊥
+pub met : (ends : List End) (e : End) (a b : ℤ) → slice_get ends 0 ≡ Some e → Reached ends a → e.x ≤ℤ b
+    → Off ends a b → ⊥
 met [] e a b at r le o = r
 met (t ∷ []) e a b at r le o = (let h : t.x ≡ e.x = same t e at in omega (arith, ints, h, le, o))
   where

@@ -1,5 +1,6 @@
 -- Rising walls and levels: parities, and what toggling and placing do.
-use Rattle.std.proofs.Common.{◌≡◌, ℤ, ◌<ℤ◌, ◌≤ℤ◌, ◌⊎◌, List, [], ◌∷◌, Bool, true, false, refl, sym, ap, subst, ◌∙◌, arith, inl, inr}
+use Rattle.std.proofs.Common.{◌≡◌, ℤ, ◌<ℤ◌, ◌≤ℤ◌, ◌⊎◌, List, [], ◌∷◌, Bool, true, false, refl, sym, ap, subst, ◌∙◌}
+use Rattle.std.proofs.Common.{arith, inl, inr}
 use Rattle.std.specs.Prelude.{not, ◌&&◌, ◌||◌, int_le, int_lt}
 use Rattle.std.specs.declared.cmp.Ordering.{Ordering}
 use Rattle.std.specs.declared.cmp.Ordering.TheVariants.{Less, Equal, Greater}
@@ -142,20 +143,28 @@ toggled_by Greater x w ws = w ∷ toggled x ws
 by_cases : (x w : ℤ) (ws : List ℤ) → toggled x (w ∷ ws) ≡ toggled_by (int_cmp x w) x w ws
 by_cases x w ws = turn (int_cmp x w)
   where
-    turn : (o : Ordering) → (elim o as (λ (k : Ordering). List ℤ) [ Less ↦ x ∷ w ∷ ws | Equal ↦ ws | Greater ↦ w ∷ toggled x ws ]) ≡ toggled_by o x w ws
+    turn : (o : Ordering)
+        → (elim o as (λ (k : Ordering). List ℤ) [
+          | Less ↦ x ∷ w ∷ ws
+          | Equal ↦ ws
+          | Greater ↦ w ∷ toggled x ws
+        ]) ≡ toggled_by o x w ws
     turn Less = refl
     turn Equal = refl
     turn Greater = refl
 
 pub toggled_odd : (x : ℤ) (ws : List ℤ) (i : ℤ) → odd_upto (toggled x ws) i ≡ differ (int_le x i) (odd_upto ws i)
 toggled_odd x [] i = refl
-toggled_odd x (w ∷ ws) i = ap (λ (l : List ℤ). odd_upto l i) (by_cases x w ws) ∙ turn (int_cmp x w) (int_ranked x w (int_cmp x w) refl) (toggled_odd x ws i)
+toggled_odd x (w ∷ ws) i = ap (λ (l : List ℤ). odd_upto l i) (by_cases x w ws)
+    ∙ turn (int_cmp x w) (int_ranked x w (int_cmp x w) refl) (toggled_odd x ws i)
   where
-    turn : (o : Ordering) → MatchOrdering o (x <ℤ w) (x ≡ w) (w <ℤ x) → odd_upto (toggled x ws) i ≡ differ (int_le x i) (odd_upto ws i)
+    turn : (o : Ordering) → MatchOrdering o (x <ℤ w) (x ≡ w) (w <ℤ x)
+        → odd_upto (toggled x ws) i ≡ differ (int_le x i) (odd_upto ws i)
         → odd_upto (toggled_by o x w ws) i ≡ differ (int_le x i) (differ (int_le w i) (odd_upto ws i))
     turn Less h ih = refl
     turn Equal h ih = rw h (sym (differ_twice (int_le w i) (odd_upto ws i)))
-    turn Greater h ih = ap (λ (b : Bool). differ (int_le w i) b) ih ∙ differ_swap (int_le w i) (int_le x i) (odd_upto ws i)
+    turn Greater h ih = ap (λ (b : Bool). differ (int_le w i) b) ih
+        ∙ differ_swap (int_le w i) (int_le x i) (odd_upto ws i)
 
 pub toggled_length : (x : ℤ) (ws : List ℤ) → is_odd (toggled x ws) ≡ not (is_odd ws)
 toggled_length x [] = refl
@@ -165,23 +174,27 @@ toggled_length x (w ∷ ws) = ap (λ (l : List ℤ). is_odd l) (by_cases x w ws)
     not_not true = refl
     not_not false = refl
 
-    turn : (o : Ordering) → is_odd (toggled x ws) ≡ not (is_odd ws) → is_odd (toggled_by o x w ws) ≡ not (not (is_odd ws))
+    turn : (o : Ordering) → is_odd (toggled x ws) ≡ not (is_odd ws)
+        → is_odd (toggled_by o x w ws) ≡ not (not (is_odd ws))
     turn Less ih = refl
     turn Equal ih = not_not (is_odd ws)
     turn Greater ih = ap (λ (b : Bool). not b) ih
 
 pub toggled_above : (a x : ℤ) (ws : List ℤ) → a <ℤ x → Above a ws → Above a (toggled x ws)
 toggled_above a x [] lt h = (lt, tt)
-toggled_above a x (w ∷ ws) lt h = subst (λ (l : List ℤ). Above a l) (sym (by_cases x w ws)) (turn (int_cmp x w) (int_ranked x w (int_cmp x w) refl) (λ m. toggled_above w x ws m h.1))
+toggled_above a x (w ∷ ws) lt h = subst (λ (l : List ℤ). Above a l) (sym (by_cases x w ws))
+    (turn (int_cmp x w) (int_ranked x w (int_cmp x w) refl) (λ m. toggled_above w x ws m h.1))
   where
-    turn : (o : Ordering) → MatchOrdering o (x <ℤ w) (x ≡ w) (w <ℤ x) → (w <ℤ x → Above w (toggled x ws)) → Above a (toggled_by o x w ws)
+    turn : (o : Ordering) → MatchOrdering o (x <ℤ w) (x ≡ w) (w <ℤ x) → (w <ℤ x → Above w (toggled x ws))
+        → Above a (toggled_by o x w ws)
     turn Less m ih = (lt, (m, h.1))
     turn Equal m ih = above_lower a w ws h.0 h.1
     turn Greater m ih = (h.0, ih m)
 
 pub toggled_rising : (x : ℤ) (ws : List ℤ) → Rising ws → Rising (toggled x ws)
 toggled_rising x [] h = tt
-toggled_rising x (w ∷ ws) h = subst (λ (l : List ℤ). Rising l) (sym (by_cases x w ws)) (turn (int_cmp x w) (int_ranked x w (int_cmp x w) refl))
+toggled_rising x (w ∷ ws) h = subst (λ (l : List ℤ). Rising l) (sym (by_cases x w ws))
+    (turn (int_cmp x w) (int_ranked x w (int_cmp x w) refl))
   where
     turn : (o : Ordering) → MatchOrdering o (x <ℤ w) (x ≡ w) (w <ℤ x) → Rising (toggled_by o x w ws)
     turn Less m = (m, h)
@@ -198,23 +211,31 @@ placed_by Greater y l ls = l ∷ placed y ls
 placed_cases : (y l : ℤ) (ls : List ℤ) → placed y (l ∷ ls) ≡ placed_by (int_cmp y l) y l ls
 placed_cases y l ls = turn (int_cmp y l)
   where
-    turn : (o : Ordering) → (elim o as (λ (k : Ordering). List ℤ) [ Less ↦ y ∷ l ∷ ls | Equal ↦ l ∷ ls | Greater ↦ l ∷ placed y ls ]) ≡ placed_by o y l ls
+    turn : (o : Ordering)
+        → (elim o as (λ (k : Ordering). List ℤ) [
+          | Less ↦ y ∷ l ∷ ls
+          | Equal ↦ l ∷ ls
+          | Greater ↦ l ∷ placed y ls
+        ]) ≡ placed_by o y l ls
     turn Less = refl
     turn Equal = refl
     turn Greater = refl
 
 pub placed_above : (a y : ℤ) (ls : List ℤ) → a <ℤ y → Above a ls → Above a (placed y ls)
 placed_above a y [] lt h = (lt, tt)
-placed_above a y (l ∷ ls) lt h = subst (λ (x : List ℤ). Above a x) (sym (placed_cases y l ls)) (turn (int_cmp y l) (int_ranked y l (int_cmp y l) refl) (λ m. placed_above l y ls m h.1))
+placed_above a y (l ∷ ls) lt h = subst (λ (x : List ℤ). Above a x) (sym (placed_cases y l ls))
+    (turn (int_cmp y l) (int_ranked y l (int_cmp y l) refl) (λ m. placed_above l y ls m h.1))
   where
-    turn : (o : Ordering) → MatchOrdering o (y <ℤ l) (y ≡ l) (l <ℤ y) → (l <ℤ y → Above l (placed y ls)) → Above a (placed_by o y l ls)
+    turn : (o : Ordering) → MatchOrdering o (y <ℤ l) (y ≡ l) (l <ℤ y) → (l <ℤ y → Above l (placed y ls))
+        → Above a (placed_by o y l ls)
     turn Less m ih = (lt, (m, h.1))
     turn Equal m ih = h
     turn Greater m ih = (h.0, ih m)
 
 pub placed_rising : (y : ℤ) (ls : List ℤ) → Rising ls → Rising (placed y ls)
 placed_rising y [] h = tt
-placed_rising y (l ∷ ls) h = subst (λ (x : List ℤ). Rising x) (sym (placed_cases y l ls)) (turn (int_cmp y l) (int_ranked y l (int_cmp y l) refl))
+placed_rising y (l ∷ ls) h = subst (λ (x : List ℤ). Rising x) (sym (placed_cases y l ls))
+    (turn (int_cmp y l) (int_ranked y l (int_cmp y l) refl))
   where
     turn : (o : Ordering) → MatchOrdering o (y <ℤ l) (y ≡ l) (l <ℤ y) → Rising (placed_by o y l ls)
     turn Less m = (m, h)
@@ -223,7 +244,8 @@ placed_rising y (l ∷ ls) h = subst (λ (x : List ℤ). Rising x) (sym (placed_
 
 pub in_placed : (y : ℤ) (ls : List ℤ) → In y (placed y ls)
 in_placed y [] = inl refl
-in_placed y (l ∷ ls) = subst (λ (x : List ℤ). In y x) (sym (placed_cases y l ls)) (turn (int_cmp y l) (int_ranked y l (int_cmp y l) refl) (in_placed y ls))
+in_placed y (l ∷ ls) = subst (λ (x : List ℤ). In y x) (sym (placed_cases y l ls))
+    (turn (int_cmp y l) (int_ranked y l (int_cmp y l) refl) (in_placed y ls))
   where
     turn : (o : Ordering) → MatchOrdering o (y <ℤ l) (y ≡ l) (l <ℤ y) → In y (placed y ls) → In y (placed_by o y l ls)
     turn Less m ih = inl refl
@@ -232,7 +254,8 @@ in_placed y (l ∷ ls) = subst (λ (x : List ℤ). In y x) (sym (placed_cases y 
 
 pub in_still : (v y : ℤ) (ls : List ℤ) → In v ls → In v (placed y ls)
 in_still v y [] i = absurd i
-in_still v y (l ∷ ls) i = subst (λ (x : List ℤ). In v x) (sym (placed_cases y l ls)) (turn (int_cmp y l) i (λ j. in_still v y ls j))
+in_still v y (l ∷ ls) i = subst (λ (x : List ℤ). In v x) (sym (placed_cases y l ls))
+    (turn (int_cmp y l) i (λ j. in_still v y ls j))
   where
     turn : (o : Ordering) → In v (l ∷ ls) → (In v ls → In v (placed y ls)) → In v (placed_by o y l ls)
     turn Less i ih = inr i
@@ -246,7 +269,9 @@ pub walls_odd : (es : List Edge) (i j : ℤ) → odd_upto (walls es j) i ≡ odd
 walls_odd [] i j = refl
 walls_odd (e ∷ es) i j = turn (covers e j) (walls_odd es i j)
   where
-    turn : (b : Bool) → odd_upto (walls es j) i ≡ odd_left es i j → odd_upto (elim b as (λ (k : Bool). List ℤ) [ true ↦ toggled e.x (walls es j) | false ↦ walls es j ]) i ≡ differ (int_le e.x i && b) (odd_left es i j)
+    turn : (b : Bool) → odd_upto (walls es j) i ≡ odd_left es i j
+        → odd_upto (elim b as (λ (k : Bool). List ℤ) [ true ↦ toggled e.x (walls es j) | false ↦ walls es j ])
+        i ≡ differ (int_le e.x i && b) (odd_left es i j)
     turn true ih = toggled_odd e.x (walls es j) i ∙ (λ k. differ (sym (and_true (int_le e.x i)) k) (ih k))
     turn false ih = ih ∙ sym (ap (λ (b : Bool). differ b (odd_left es i j)) (and_false (int_le e.x i)))
 
@@ -254,7 +279,8 @@ pub walls_rising : (es : List Edge) (j : ℤ) → Rising (walls es j)
 walls_rising [] j = tt
 walls_rising (e ∷ es) j = turn (covers e j) (walls_rising es j)
   where
-    turn : (b : Bool) → Rising (walls es j) → Rising (elim b as (λ (k : Bool). List ℤ) [ true ↦ toggled e.x (walls es j) | false ↦ walls es j ])
+    turn : (b : Bool) → Rising (walls es j)
+        → Rising (elim b as (λ (k : Bool). List ℤ) [ true ↦ toggled e.x (walls es j) | false ↦ walls es j ])
     turn true ih = toggled_rising e.x (walls es j) ih
     turn false ih = ih
 
@@ -267,16 +293,20 @@ pub walls_even : (es : List Edge) (j : ℤ) → is_odd (walls es j) ≡ odd_cove
 walls_even [] j = refl
 walls_even (e ∷ es) j = turn (covers e j) (walls_even es j)
   where
-    turn : (b : Bool) → is_odd (walls es j) ≡ odd_cover es j → is_odd (elim b as (λ (k : Bool). List ℤ) [ true ↦ toggled e.x (walls es j) | false ↦ walls es j ]) ≡ differ b (odd_cover es j)
+    turn : (b : Bool) → is_odd (walls es j) ≡ odd_cover es j
+        → is_odd (elim b as (λ (k : Bool). List ℤ) [ true ↦ toggled e.x (walls es j) | false ↦ walls es j ]) ≡ differ b
+        (odd_cover es j)
     turn true ih = toggled_length e.x (walls es j) ∙ ap (λ (b : Bool). not b) ih
     turn false ih = ih
 
 pub in_placed_cases : (v y : ℤ) (ls : List ℤ) → In v (placed y ls) → (v ≡ y) ⊎ In v ls
 in_placed_cases v y [] (inl e) = inl e
 in_placed_cases v y [] (inr i) = absurd i
-in_placed_cases v y (l ∷ ls) i = turn (int_cmp y l) (subst (λ (x : List ℤ). In v x) (placed_cases y l ls) i) (λ j. in_placed_cases v y ls j)
+in_placed_cases v y (l ∷ ls) i = turn (int_cmp y l) (subst (λ (x : List ℤ). In v x) (placed_cases y l ls) i)
+    (λ j. in_placed_cases v y ls j)
   where
-    turn : (o : Ordering) → In v (placed_by o y l ls) → (In v (placed y ls) → (v ≡ y) ⊎ In v ls) → (v ≡ y) ⊎ In v (l ∷ ls)
+    turn : (o : Ordering) → In v (placed_by o y l ls) → (In v (placed y ls) → (v ≡ y) ⊎ In v ls)
+        → (v ≡ y) ⊎ In v (l ∷ ls)
     turn Less (inl e) ih = inl e
     turn Less (inr i) ih = inr i
     turn Equal i ih = inr i

@@ -1,5 +1,6 @@
 -- What is made ready of items adds what the items add.
-use Rattle.std.specs.Prelude.{◌≡◌, ◌⊎◌, ℕ, zero, suc, ◌+◌, ◌-◌, ◌≤◌, ◌<◌, ◌++◌, List, [], ◌∷◌, length, map, Option, Some, IfOk, slice_get, slice_index_or, Bool, false}
+use Rattle.std.specs.Prelude.{◌≡◌, ◌⊎◌, ℕ, zero, suc, ◌+◌, ◌-◌, ◌≤◌, ◌<◌, ◌++◌, List, [], ◌∷◌, length, map, Option}
+use Rattle.std.specs.Prelude.{Some, IfOk, slice_get, slice_index_or, Bool, false}
 use Rattle.std.specs.List.{flat_map, AllByRecursion}
 use Rattle.std.proofs.Common.{Result, Ok, Err, inl, inr, refl, sym, ap, ◌∙◌, subst, arith, take, get_or}
 use Rattle.std.proofs.lemmas.List.{take_more}
@@ -21,14 +22,18 @@ use Rattle.poly_cut.specs.Figures.{cut_of}
 use Rattle.poly_cut.specs.Conditions.{IsPlaced}
 use Rattle.poly_cut.specs.FlatForm.{shape, item_shapes, item_labels, shapes_of, labels_of, items_in, items_at, DEPTH}
 use Rattle.poly_cut.specs.Code.Holding.{MarksAll}
-use Rattle.poly_cut.specs.Code.Readied.{ready_shapes, ready_labels, IsReady, IsDrawing, AddsItem, AddsNothing, AddsAs, GainsItem, IsEntry, IsTable}
+use Rattle.poly_cut.specs.Code.Readied.{ready_shapes, ready_labels, IsReady, IsDrawing, AddsItem, AddsNothing, AddsAs}
+use Rattle.poly_cut.specs.Code.Readied.{GainsItem, IsEntry, IsTable}
 use Rattle.poly_cut.proofs.Placed.{no_shapes, no_labels}
 
 -- one more at the end of a list
-at_end : {A B : Type 0} (f : A → List B) (xs ys : List A) (x : A) → ys ≡ xs ++ x ∷ [] → flat_map f ys ≡ flat_map f xs ++ f x
-at_end f xs ys x is = ap (flat_map f) is ∙ flat_map-append f xs (x ∷ []) ∙ ap (λ l. flat_map f xs ++ l) (append-nil (f x))
+at_end : {A B : Type 0} (f : A → List B) (xs ys : List A) (x : A) → ys ≡ xs ++ x ∷ []
+    → flat_map f ys ≡ flat_map f xs ++ f x
+at_end f xs ys x is = ap (flat_map f) is ∙ flat_map-append f xs (x ∷ [])
+    ∙ ap (λ l. flat_map f xs ++ l) (append-nil (f x))
 
-all_more : {A : Type 0} (P : A → Type 0) (xs : List A) (x : A) → AllByRecursion P xs → P x → AllByRecursion P (xs ++ x ∷ [])
+all_more : {A : Type 0} (P : A → Type 0) (xs : List A) (x : A) → AllByRecursion P xs → P x
+    → AllByRecursion P (xs ++ x ∷ [])
 all_more P [] x all p = (p, tt)
 all_more P (y ∷ xs) x all p = (all.0, all_more P xs x all.1 p)
 
@@ -42,21 +47,25 @@ put ss item r old new is adds = record {
   labels = λ depth small.
       at_end (ready_labels (labels_of depth ss)) old new r is
       ∙ ap (λ l. flat_map (ready_labels (labels_of depth ss)) old ++ l) (adds.labels (labels_of depth ss));
-  each = λ all. subst (AllByRecursion (IsReady (length ss))) (sym is) (all_more (IsReady (length ss)) old r all adds.each);
+  each = λ all. subst (AllByRecursion (IsReady (length ss))) (sym is)
+      (all_more (IsReady (length ss)) old r all adds.each);
 }
 
 -- where an item adds nothing, a list that stays as it is gains it
 with_none : {A : Type 0} (old xs : List A) → xs ≡ [] → old ≡ old ++ xs
 with_none old xs e = sym (ap (λ l. old ++ l) e ∙ append-nil old)
 
-pub left_out : (ss : List WideStructure) (item : Item) (old new : List Ready) → new ≡ old → AddsNothing ss item → GainsItem ss item old new
+pub left_out : (ss : List WideStructure) (item : Item) (old new : List Ready) → new ≡ old → AddsNothing ss item
+    → GainsItem ss item old new
 left_out ss item old new is nothing = record {
   shapes = λ depth small.
       ap (flat_map (ready_shapes (shapes_of depth ss))) is
-      ∙ with_none (flat_map (ready_shapes (shapes_of depth ss)) old) (item_shapes (shapes_of depth ss) item) (nothing.shapes depth small);
+      ∙ with_none (flat_map (ready_shapes (shapes_of depth ss)) old) (item_shapes (shapes_of depth ss) item)
+      (nothing.shapes depth small);
   labels = λ depth small.
       ap (flat_map (ready_labels (labels_of depth ss))) is
-      ∙ with_none (flat_map (ready_labels (labels_of depth ss)) old) (item_labels (labels_of depth ss) item) (nothing.labels depth small);
+      ∙ with_none (flat_map (ready_labels (labels_of depth ss)) old) (item_labels (labels_of depth ss) item)
+      (nothing.labels depth small);
   each = λ all. subst (AllByRecursion (IsReady (length ss))) (sym is) all;
 }
 
@@ -74,7 +83,8 @@ pub none : (ss : List WideStructure) → AddsAs ss [] []
 none ss = record { shapes = λ depth small. refl; labels = λ depth small. refl; each = tt }
 
 -- one item more
-pub more : (ss : List WideStructure) (items items' : List Item) (item : Item) (old new : List Ready) → items' ≡ items ++ item ∷ []
+pub more : (ss : List WideStructure) (items items' : List Item) (item : Item) (old new : List Ready)
+    → items' ≡ items ++ item ∷ []
     → AddsAs ss items old → GainsItem ss item old new → AddsAs ss items' new
 more ss items items' item old new is so gain = record {
   shapes = λ depth small.
@@ -87,14 +97,17 @@ more ss items items' item old new is so gain = record {
 }
 
 -- the item at a place
-pub more_at : (ss : List WideStructure) (items : List Item) (i : ℕ) (item : Item) (old new : List Ready) → i < length items
-    → item ≡ get_or items i item → AddsAs ss (take i items) old → GainsItem ss item old new → AddsAs ss (take (i + 1) items) new
+pub more_at : (ss : List WideStructure) (items : List Item) (i : ℕ) (item : Item) (old new : List Ready)
+    → i < length items
+    → item ≡ get_or items i item → AddsAs ss (take i items) old → GainsItem ss item old new
+    → AddsAs ss (take (i + 1) items) new
 more_at ss items i item old new within at so gain =
     more ss (take i items) (take (i + 1) items) item old new
     (take_more items i item within ∙ ap (λ x. take i items ++ x ∷ []) (sym at)) so gain
 
 -- a placement of what holds nothing adds nothing
-pub placed_nothing : (ss : List WideStructure) (marks : List Bool) (item : Item) (n : ℕ) (at : Point) (t : Turn) (g : Grid)
+pub placed_nothing : (ss : List WideStructure) (marks : List Bool) (item : Item) (n : ℕ) (at : Point)
+    (t : Turn) (g : Grid)
     → item ≡ Place n at t g → MarksAll ss marks → slice_index_or marks n false ≡ false → AddsNothing ss item
 placed_nothing ss marks item n at t g is empty none_so = record {
   shapes = λ depth small.
@@ -134,7 +147,8 @@ entered ss table new i s entry is size within at so this n other e =
     ]
 
 -- what a structure's items add is its part of the flat form
-pub part_shapes : {P E : Type 0} (f : P → List Shape) (r : Result P E) (ss : List WideStructure) (n depth : ℕ) (ready given : List Ready)
+pub part_shapes : {P E : Type 0} (f : P → List Shape) (r : Result P E) (ss : List WideStructure) (n depth : ℕ)
+    (ready given : List Ready)
     → 0 < depth → depth ≤ DEPTH → AddsAs ss (items_at ss n) ready → given ≡ ready
     → IfOk r (λ part. f part ≡ flat_map (ready_shapes (shapes_of (depth - 1) ss)) given)
     → IfOk r (λ part. f part ≡ shapes_of depth ss n)
@@ -145,7 +159,8 @@ part_shapes f (Ok part) ss n (suc depth) ready given some small adds is so =
     so ∙ ap (λ (k : ℕ). flat_map (ready_shapes (shapes_of k ss)) given) e
     ∙ ap (flat_map (ready_shapes (shapes_of depth ss))) is ∙ adds.shapes depth (omega (arith, small))
 
-pub part_labels : {P E : Type 0} (f : P → List Label) (r : Result P E) (ss : List WideStructure) (n depth : ℕ) (ready given : List Ready)
+pub part_labels : {P E : Type 0} (f : P → List Label) (r : Result P E) (ss : List WideStructure) (n depth : ℕ)
+    (ready given : List Ready)
     → 0 < depth → depth ≤ DEPTH → AddsAs ss (items_at ss n) ready → given ≡ ready
     → IfOk r (λ part. f part ≡ flat_map (ready_labels (labels_of (depth - 1) ss)) given)
     → IfOk r (λ part. f part ≡ labels_of depth ss n)
@@ -157,24 +172,31 @@ part_labels f (Ok part) ss n (suc depth) ready given some small adds is so =
     ∙ ap (flat_map (ready_labels (labels_of depth ss))) is ∙ adds.labels depth (omega (arith, small))
 
 -- and so is what they add one by one
-pub own_shapes : {P E : Type 0} (f : P → List Shape) (r : Result P E) (ss : List WideStructure) (n depth : ℕ) (items : List Item)
-    → 0 < depth → items ≡ items_at ss n → IfOk r (λ part. f part ≡ flat_map (item_shapes (shapes_of (depth - 1) ss)) items)
+pub own_shapes : {P E : Type 0} (f : P → List Shape) (r : Result P E) (ss : List WideStructure) (n depth : ℕ)
+    (items : List Item)
+    → 0 < depth → items ≡ items_at ss n
+    → IfOk r (λ part. f part ≡ flat_map (item_shapes (shapes_of (depth - 1) ss)) items)
     → IfOk r (λ part. f part ≡ shapes_of depth ss n)
 own_shapes f (Err e) ss n depth items some is so = tt
 own_shapes f (Ok part) ss n zero items some is so = absurd (omega (arith, some))
 own_shapes f (Ok part) ss n (suc depth) items some is so =
     let e : suc depth - 1 ≡ depth = omega arith in
-    so ∙ ap (λ (k : ℕ). flat_map (item_shapes (shapes_of k ss)) items) e ∙ ap (flat_map (item_shapes (shapes_of depth ss))) is
+    so ∙ ap (λ (k : ℕ). flat_map (item_shapes (shapes_of k ss)) items) e
+    ∙ ap (flat_map (item_shapes (shapes_of depth ss))) is
 
-pub own_labels : {P E : Type 0} (f : P → List Label) (r : Result P E) (ss : List WideStructure) (n depth : ℕ) (items : List Item)
-    → 0 < depth → items ≡ items_at ss n → IfOk r (λ part. f part ≡ flat_map (item_labels (labels_of (depth - 1) ss)) items)
+pub own_labels : {P E : Type 0} (f : P → List Label) (r : Result P E) (ss : List WideStructure) (n depth : ℕ)
+    (items : List Item)
+    → 0 < depth → items ≡ items_at ss n
+    → IfOk r (λ part. f part ≡ flat_map (item_labels (labels_of (depth - 1) ss)) items)
     → IfOk r (λ part. f part ≡ labels_of depth ss n)
 own_labels f (Err e) ss n depth items some is so = tt
 own_labels f (Ok part) ss n zero items some is so = absurd (omega (arith, some))
 own_labels f (Ok part) ss n (suc depth) items some is so =
     let e : suc depth - 1 ≡ depth = omega arith in
-    so ∙ ap (λ (k : ℕ). flat_map (item_labels (labels_of k ss)) items) e ∙ ap (flat_map (item_labels (labels_of depth ss))) is
+    so ∙ ap (λ (k : ℕ). flat_map (item_labels (labels_of k ss)) items) e
+    ∙ ap (flat_map (item_labels (labels_of depth ss))) is
 
 -- the items of the structure at a place
-pub items_there : (ss : List WideStructure) (n : ℕ) (s : WideStructure) → n < length ss → s ≡ get_or ss n s → items_at ss n ≡ s.items
+pub items_there : (ss : List WideStructure) (n : ℕ) (s : WideStructure) → n < length ss → s ≡ get_or ss n s
+    → items_at ss n ≡ s.items
 items_there ss n s within at = ap items_in (slice_get-get_or ss n s within ∙ ap Some (sym at))

@@ -1,5 +1,6 @@
 -- The sorted ends of a ring have the levels of its points.
-use Rattle.std.proofs.Common.{◌≡◌, ◌<◌, ◌++◌, ℤ, ◌<ℤ◌, ◌≤ℤ◌, ◌⊎◌, List, [], ◌∷◌, Bool, true, false, length, get_or, refl, sym, ap, subst, ◌∙◌, arith, inl, inr}
+use Rattle.std.proofs.Common.{◌≡◌, ◌<◌, ◌++◌, ℤ, ◌<ℤ◌, ◌≤ℤ◌, ◌⊎◌, List, [], ◌∷◌, Bool, true, false, length, get_or}
+use Rattle.std.proofs.Common.{refl, sym, ap, subst, ◌∙◌, arith, inl, inr}
 use Rattle.std.specs.Prelude.{◌||◌, int_le, IsPermutation, IsSorted}
 use Rattle.std.specs.List.{list_any}
 use Rattle.std.specs.declared.cmp.Ordering.{Ordering}
@@ -28,7 +29,10 @@ abbrev end_cmp : End → End → Ordering
 end_cmp a b = ordering_then (int_cmp a.y b.y) (int_cmp a.x b.x)
 
 not_below : (v y : ℤ) (o : Ordering) → is_lt (ordering_then (int_cmp v y) o) ≡ false → y ≤ℤ v
-not_below v y o h = by_lt_z v y (λ lt. absurd (let e : int_cmp v y ≡ Less = less v y lt in let k : true ≡ false = sym (ap (λ (p : Ordering). is_lt (ordering_then p o)) e) ∙ h in cc)) (λ le. le)
+not_below v y o h = by_lt_z v y
+    (λ lt. absurd
+    (let e : int_cmp v y ≡ Less = less v y lt in let k : true ≡ false =
+    sym (ap (λ (p : Ordering). is_lt (ordering_then p o)) e) ∙ h in cc)) (λ le. le)
   where
     less : (x y : ℤ) → x <ℤ y → int_cmp x y ≡ Less
     less x y h = grind (arith, ints)
@@ -38,7 +42,10 @@ from_sort ends up i j e f le p q =
     let lt : j < length ends = slice_get_within ends j f q in
     let a : get_or ends i e ≡ e = get_or_from_slice_get ends i e e p in
     let b : get_or ends j e ≡ f = get_or_from_slice_get ends j f e q in
-    let far : is_lt (end_cmp (get_or ends j e) (get_or ends i e)) ≡ false = sorted_far (λ u v. is_lt (end_cmp u v)) (ranks_by (then_total (on_total (λ (k : End). k.y) int_cmp_total) (on_total (λ (k : End). k.x) int_cmp_total)) (λ u. u)) ends up i j e le lt in
+    let far : is_lt (end_cmp (get_or ends j e) (get_or ends i e)) ≡ false =
+    sorted_far (λ u v. is_lt (end_cmp u v))
+    (ranks_by (then_total (on_total (λ (k : End). k.y) int_cmp_total) (on_total (λ (k : End). k.x) int_cmp_total))
+    (λ u. u)) ends up i j e le lt in
     not_below f.y e.y (int_cmp f.x e.x) (sym (λ n. is_lt (end_cmp (b n) (a n))) ∙ far)
 
 not_left : (v y w x : ℤ) → v ≡ y → is_lt (ordering_then (int_cmp v y) (int_cmp w x)) ≡ false → x ≤ℤ w
@@ -57,7 +64,10 @@ left_sort ends up i j e f le p q same =
     let lt : j < length ends = slice_get_within ends j f q in
     let a : get_or ends i e ≡ e = get_or_from_slice_get ends i e e p in
     let b : get_or ends j e ≡ f = get_or_from_slice_get ends j f e q in
-    let far : is_lt (end_cmp (get_or ends j e) (get_or ends i e)) ≡ false = sorted_far (λ u v. is_lt (end_cmp u v)) (ranks_by (then_total (on_total (λ (k : End). k.y) int_cmp_total) (on_total (λ (k : End). k.x) int_cmp_total)) (λ u. u)) ends up i j e le lt in
+    let far : is_lt (end_cmp (get_or ends j e) (get_or ends i e)) ≡ false =
+    sorted_far (λ u v. is_lt (end_cmp u v))
+    (ranks_by (then_total (on_total (λ (k : End). k.y) int_cmp_total) (on_total (λ (k : End). k.x) int_cmp_total))
+    (λ u. u)) ends up i j e le lt in
     not_left f.y e.y f.x e.x (sym same) (sym (λ n. is_lt (end_cmp (b n) (a n))) ∙ far)
 
 -- ---- what is among the levels
@@ -116,9 +126,12 @@ one_level v p (q ∷ qs) none i = turn (int_eq p.y q.y) refl (λ e k. one_level 
       | inl h ↦ h
       | inr h ↦ rest (sym (steep_level (edge_of p q) (edges_from q qs) e) ∙ none) h ∙ sym (eq_so p.y q.y e)
     ]
-    turn false e rest = absurd (let h : edge_of p q ∷ steep (edges_from q qs) ≡ [] = sym (steep_edge (edge_of p q) (edges_from q qs) e) ∙ none in cc)
+    turn false e rest = absurd
+        (let h : edge_of p q ∷ steep (edges_from q qs) ≡ [] = sym (steep_edge (edge_of p q) (edges_from q qs) e)
+        ∙ none in cc)
 
-points_end : (v : ℤ) (p : Point) (qs : List Point) → In v (levels (p ∷ qs)) → (list_any (at v) (ends_of (steep (edges_from p qs))) ≡ true) ⊎ (steep (edges_from p qs) ≡ [])
+points_end : (v : ℤ) (p : Point) (qs : List Point) → In v (levels (p ∷ qs))
+    → (list_any (at v) (ends_of (steep (edges_from p qs))) ≡ true) ⊎ (steep (edges_from p qs) ≡ [])
 points_end v p [] i = inr refl
 points_end v p (q ∷ qs) i = turn (int_eq p.y q.y) refl (λ k. points_end v q qs k)
   where
@@ -128,18 +141,27 @@ points_end v p (q ∷ qs) i = turn (int_eq p.y q.y) refl (λ k. points_end v q q
       | inr h ↦ h
     ]
 
-    found : In v (levels (q ∷ qs)) → (list_any (at v) (ends_of (steep (edges_from q qs))) ≡ true) ⊎ (steep (edges_from q qs) ≡ []) → list_any (at v) (end p.y p.x ∷ end q.y p.x ∷ ends_of (steep (edges_from q qs))) ≡ true
+    found : In v (levels (q ∷ qs)) → (list_any (at v) (ends_of (steep (edges_from q qs))) ≡ true)
+        ⊎ (steep (edges_from q qs) ≡ []) → list_any (at v)
+        (end p.y p.x ∷ end q.y p.x ∷ ends_of (steep (edges_from q qs))) ≡ true
     found k r = elim r [
-      | inl h ↦ later_end v (end p.y p.x) (end q.y p.x ∷ ends_of (steep (edges_from q qs))) (later_end v (end q.y p.x) (ends_of (steep (edges_from q qs))) h)
-      | inr none ↦ later_end v (end p.y p.x) (end q.y p.x ∷ ends_of (steep (edges_from q qs))) (first_end v q.y p.x (ends_of (steep (edges_from q qs))) (one_level v q qs none k))
+      | inl h ↦ later_end v (end p.y p.x) (end q.y p.x ∷ ends_of (steep (edges_from q qs)))
+          (later_end v (end q.y p.x) (ends_of (steep (edges_from q qs))) h)
+      | inr none ↦ later_end v (end p.y p.x) (end q.y p.x ∷ ends_of (steep (edges_from q qs)))
+          (first_end v q.y p.x (ends_of (steep (edges_from q qs))) (one_level v q qs none k))
     ]
 
-    turn : (b : Bool) → int_eq p.y q.y ≡ b → (In v (levels (q ∷ qs)) → (list_any (at v) (ends_of (steep (edges_from q qs))) ≡ true) ⊎ (steep (edges_from q qs) ≡ [])) → (list_any (at v) (ends_of (steep (edges_from p (q ∷ qs)))) ≡ true) ⊎ (steep (edges_from p (q ∷ qs)) ≡ [])
-    turn true e later = subst (λ (es : List Edge). (list_any (at v) (ends_of es) ≡ true) ⊎ (es ≡ [])) (sym (steep_level (edge_of p q) (edges_from q qs) e)) (later (level e))
-    turn false e later = inl (ap (λ (es : List Edge). list_any (at v) (ends_of es)) (steep_edge (edge_of p q) (edges_from q qs) e) ∙ elim (in_placed_cases v p.y (levels (q ∷ qs)) i) [
-      | inl h ↦ first_end v p.y p.x (end q.y p.x ∷ ends_of (steep (edges_from q qs))) h
-      | inr h ↦ found h (later h)
-    ])
+    turn : (b : Bool) → int_eq p.y q.y ≡ b
+        → (In v (levels (q ∷ qs)) → (list_any (at v) (ends_of (steep (edges_from q qs))) ≡ true)
+        ⊎ (steep (edges_from q qs) ≡ [])) → (list_any (at v) (ends_of (steep (edges_from p (q ∷ qs)))) ≡ true)
+        ⊎ (steep (edges_from p (q ∷ qs)) ≡ [])
+    turn true e later = subst (λ (es : List Edge). (list_any (at v) (ends_of es) ≡ true) ⊎ (es ≡ []))
+        (sym (steep_level (edge_of p q) (edges_from q qs) e)) (later (level e))
+    turn false e later = inl (ap (λ (es : List Edge). list_any (at v) (ends_of es))
+        (steep_edge (edge_of p q) (edges_from q qs) e) ∙ elim (in_placed_cases v p.y (levels (q ∷ qs)) i) [
+          | inl h ↦ first_end v p.y p.x (end q.y p.x ∷ ends_of (steep (edges_from q qs))) h
+          | inr h ↦ found h (later h)
+        ])
 
 ends_point : (v : ℤ) (ls : List ℤ) (es : List Edge) → AreAmong ls es → list_any (at v) (ends_of es) ≡ true → In v ls
 ends_point v ls [] a h = absurd cc
@@ -159,10 +181,16 @@ among_steep ls (e ∷ es) a = turn (int_eq e.start e.stop) refl (among_steep ls 
     turn true is rest = subst (λ (l : List Edge). AreAmong ls l) (sym (steep_level e es is)) rest
     turn false is rest = subst (λ (l : List Edge). AreAmong ls l) (sym (steep_edge e es is)) (a.0, a.1, rest)
 
-levels_same : (p : Point) (qs : List Point) (ends : List End) (e : Edge) (es : List Edge) → steep (edges_from p qs) ≡ e ∷ es → IsPermutation (ends_of (steep (edges_from p qs))) ends → levels_of ends ≡ levels (p ∷ qs)
-levels_same p qs ends e es some perm = same_members (levels_of ends) (levels (p ∷ qs)) (levels_rise ends) (levels_rising (p ∷ qs))
-    (λ v i. ends_point v (levels (p ∷ qs)) (steep (edges_from p qs)) (among_steep (levels (p ∷ qs)) (edges_from p qs) (edges_among p qs)) (list_any-IsPermutation (at v) (ends_of (steep (edges_from p qs))) ends perm ∙ some_end v ends i))
-    (λ v i. in_levels v ends (sym (list_any-IsPermutation (at v) (ends_of (steep (edges_from p qs))) ends perm) ∙ elim (points_end v p qs i) [
+levels_same : (p : Point) (qs : List Point) (ends : List End) (e : Edge) (es : List Edge)
+    → steep (edges_from p qs) ≡ e ∷ es → IsPermutation (ends_of (steep (edges_from p qs))) ends
+    → levels_of ends ≡ levels (p ∷ qs)
+levels_same p qs ends e es some perm = same_members (levels_of ends) (levels (p ∷ qs)) (levels_rise ends)
+    (levels_rising (p ∷ qs))
+    (λ v i. ends_point v (levels (p ∷ qs)) (steep (edges_from p qs))
+    (among_steep (levels (p ∷ qs)) (edges_from p qs) (edges_among p qs))
+    (list_any-IsPermutation (at v) (ends_of (steep (edges_from p qs))) ends perm ∙ some_end v ends i))
+    (λ v i. in_levels v ends (sym (list_any-IsPermutation (at v) (ends_of (steep (edges_from p qs))) ends perm)
+    ∙ elim (points_end v p qs i) [
       | inl h ↦ h
       | inr none ↦ absurd (let h : e ∷ es ≡ [] = sym some ∙ none in cc)
     ]))
@@ -180,16 +208,24 @@ walls_steep : (es : List Edge) (j : ℤ) → walls (steep es) j ≡ walls es j
 walls_steep [] j = refl
 walls_steep (e ∷ es) j = turn (int_eq e.start e.stop) refl (walls_steep es j)
   where
-    with : (vs ws : List ℤ) (b : Bool) → vs ≡ ws → (elim b as (λ (t : Bool). List ℤ) [ true ↦ toggled e.x vs | false ↦ vs ]) ≡ (elim b as (λ (t : Bool). List ℤ) [ true ↦ toggled e.x ws | false ↦ ws ])
+    with : (vs ws : List ℤ) (b : Bool) → vs ≡ ws
+        → (elim b as (λ (t : Bool). List ℤ) [
+          | true ↦ toggled e.x vs
+          | false ↦ vs
+        ]) ≡ (elim b as (λ (t : Bool). List ℤ) [ true ↦ toggled e.x ws | false ↦ ws ])
     with vs ws b same = ap (λ (l : List ℤ). elim b as (λ (t : Bool). List ℤ) [ true ↦ toggled e.x l | false ↦ l ]) same
 
-    off : (ws : List ℤ) (b : Bool) → b ≡ false → ws ≡ (elim b as (λ (t : Bool). List ℤ) [ true ↦ toggled e.x ws | false ↦ ws ])
+    off : (ws : List ℤ) (b : Bool) → b ≡ false
+        → ws ≡ (elim b as (λ (t : Bool). List ℤ) [ true ↦ toggled e.x ws | false ↦ ws ])
     off ws true h = absurd cc
     off ws false h = refl
 
-    turn : (b : Bool) → int_eq e.start e.stop ≡ b → walls (steep es) j ≡ walls es j → walls (steep (e ∷ es)) j ≡ walls (e ∷ es) j
-    turn true is rest = ap (λ (l : List Edge). walls l j) (steep_level e es is) ∙ rest ∙ off (walls es j) (covers e j) (covers_level e j (eq_so e.start e.stop is))
-    turn false is rest = ap (λ (l : List Edge). walls l j) (steep_edge e es is) ∙ with (walls (steep es) j) (walls es j) (covers e j) rest
+    turn : (b : Bool) → int_eq e.start e.stop ≡ b → walls (steep es) j ≡ walls es j
+        → walls (steep (e ∷ es)) j ≡ walls (e ∷ es) j
+    turn true is rest = ap (λ (l : List Edge). walls l j) (steep_level e es is) ∙ rest
+        ∙ off (walls es j) (covers e j) (covers_level e j (eq_so e.start e.stop is))
+    turn false is rest = ap (λ (l : List Edge). walls l j) (steep_edge e es is)
+        ∙ with (walls (steep es) j) (walls es j) (covers e j) rest
 
 slabs_from_steep : (es : List Edge) (y : ℤ) (ls : List ℤ) → slabs_from (steep es) y ls ≡ slabs_from es y ls
 slabs_from_steep es y [] = refl
@@ -207,12 +243,16 @@ no_slabs : (ls : List ℤ) → slabs [] ls ≡ []
 no_slabs [] = refl
 no_slabs (y ∷ ys) = none_from y ys
 
-pub swept_cut : (ring : List Point) (ends : List End) (rects : List Rectangle) → IsPermutation (ends_of (steep (edges ring))) ends → rects ≡ all_joined [] (slabs (steep (edges ring)) (levels_of ends)) → rects ≡ ring_cut ring
+pub swept_cut : (ring : List Point) (ends : List End) (rects : List Rectangle)
+    → IsPermutation (ends_of (steep (edges ring))) ends → rects ≡ all_joined []
+    (slabs (steep (edges ring)) (levels_of ends)) → rects ≡ ring_cut ring
 unfolding ring_cut
 swept_cut [] ends rects p e = e ∙ ap (λ (l : List Rectangle). all_joined [] l) (no_slabs (levels_of ends))
-swept_cut (q ∷ qs) ends rects p e = e ∙ ap (λ (l : List Rectangle). all_joined [] l) (turn (steep (edges_from q qs)) refl ∙ slabs_steep (edges_from q qs) (levels (q ∷ qs)))
+swept_cut (q ∷ qs) ends rects p e = e ∙ ap (λ (l : List Rectangle). all_joined [] l)
+    (turn (steep (edges_from q qs)) refl ∙ slabs_steep (edges_from q qs) (levels (q ∷ qs)))
   where
-    turn : (es : List Edge) → steep (edges_from q qs) ≡ es → slabs (steep (edges_from q qs)) (levels_of ends) ≡ slabs (steep (edges_from q qs)) (levels (q ∷ qs))
+    turn : (es : List Edge) → steep (edges_from q qs) ≡ es
+        → slabs (steep (edges_from q qs)) (levels_of ends) ≡ slabs (steep (edges_from q qs)) (levels (q ∷ qs))
     turn [] is =
         ap (λ (l : List Edge). slabs l (levels_of ends)) is ∙ no_slabs (levels_of ends)
         ∙ sym (ap (λ (l : List Edge). slabs l (levels (q ∷ qs))) is ∙ no_slabs (levels (q ∷ qs)))

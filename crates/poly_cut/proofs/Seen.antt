@@ -38,10 +38,12 @@ cut_below y r = turn (int_le y r.y1) refl
         less a b e = grind (arith, ints)
 
 pub seen_left : (c y z : ℤ) (r : Rectangle) → r.x0 <ℤ c → seen c y z r ≡ cut_off z r
-seen_left c y z r h = ap (λ (k : Bool). cut_off (elim k as (λ (x : Bool). ℤ) [ true ↦ z | false ↦ y ]) r) (lt_is r.x0 c h)
+seen_left c y z r h = ap (λ (k : Bool). cut_off (elim k as (λ (x : Bool). ℤ) [ true ↦ z | false ↦ y ]) r)
+    (lt_is r.x0 c h)
 
 pub seen_right : (c y z : ℤ) (r : Rectangle) → c ≤ℤ r.x0 → seen c y z r ≡ cut_off y r
-seen_right c y z r h = ap (λ (k : Bool). cut_off (elim k as (λ (x : Bool). ℤ) [ true ↦ z | false ↦ y ]) r) (lt_not r.x0 c h)
+seen_right c y z r h = ap (λ (k : Bool). cut_off (elim k as (λ (x : Bool). ℤ) [ true ↦ z | false ↦ y ]) r)
+    (lt_not r.x0 c h)
 
 -- what ends below both levels is seen whole
 pub seen_low : (c y z : ℤ) (r : Rectangle) → y <ℤ z → r.y1 ≤ℤ y → seen c y z r ≡ r

@@ -1,5 +1,6 @@
 -- The sweep over ends from below.
-use Rattle.std.proofs.Common.{◌≡◌, ℕ, zero, suc, ◌+◌, ◌-◌, ◌<◌, ◌≤◌, ℤ, ◌<ℤ◌, ◌≤ℤ◌, List, [], ◌∷◌, ◌++◌, Bool, true, false, length, map, take, drop, Some, None, refl, sym, ap, subst, ◌∙◌, arith, inl, inr}
+use Rattle.std.proofs.Common.{◌≡◌, ℕ, zero, suc, ◌+◌, ◌-◌, ◌<◌, ◌≤◌, ℤ, ◌<ℤ◌, ◌≤ℤ◌, List, [], ◌∷◌, ◌++◌, Bool, true}
+use Rattle.std.proofs.Common.{false, length, map, take, drop, Some, None, refl, sym, ap, subst, ◌∙◌, arith, inl, inr}
 use Rattle.std.specs.Prelude.{slice_get, not, ◌&&◌, ◌==◌, int_le, int_lt, IsPermutation}
 use Rattle.std.specs.List.{sum_by}
 use Rattle.std.specs.BTreeMap.{BTreeMap}
@@ -21,7 +22,8 @@ use Rattle.poly_cut.specs.Code.Levels.{cut_off, FromLeft, LevelsFromLeft, AtLeve
 use Rattle.poly_cut.proofs.OffWindows.{odd_ends, all_odd, all_rising}
 use Rattle.poly_cut.proofs.Endings.{by_place}
 use Rattle.poly_cut.proofs.Seen.{cut_low}
-use Rattle.poly_cut.proofs.Parity.{differ_false, differ_twice, differ_swap, le_is, le_not, rising_of, In, in_above, odd_upto, none_upto, walls_odd, walls_rising, placed_rising}
+use Rattle.poly_cut.proofs.Parity.{differ_false, differ_twice, differ_swap, le_is, le_not, rising_of, In, in_above}
+use Rattle.poly_cut.proofs.Parity.{odd_upto, none_upto, walls_odd, walls_rising, placed_rising}
 
 -- ---- rising numbers are told by their parities, and by what is among them
 
@@ -38,21 +40,25 @@ pub same_parity : (vs ws : List ℤ) → Rising vs → Rising ws → ((i : ℤ) 
 same_parity [] [] p q e = refl
 same_parity [] (b ∷ ws) p q e = absurd (let h : false ≡ true = e b ∙ first_odd b ws q in cc)
 same_parity (a ∷ vs) [] p q e = absurd (let h : true ≡ false = sym (first_odd a vs p) ∙ e a in cc)
-same_parity (a ∷ vs) (b ∷ ws) p q e = turn (int_cmp a b) (int_ranked a b (int_cmp a b) refl) (λ s. same_parity vs ws (rising_of a vs p) (rising_of b ws q) (tails s))
+same_parity (a ∷ vs) (b ∷ ws) p q e = turn (int_cmp a b) (int_ranked a b (int_cmp a b) refl)
+    (λ s. same_parity vs ws (rising_of a vs p) (rising_of b ws q) (tails s))
   where
     tails : a ≡ b → (i : ℤ) → odd_upto vs i ≡ odd_upto ws i
-    tails s i = differ_same (int_le a i) (odd_upto vs i) (odd_upto ws i) (e i ∙ ap (λ (x : ℤ). differ (int_le x i) (odd_upto ws i)) (sym s))
+    tails s i = differ_same (int_le a i) (odd_upto vs i) (odd_upto ws i)
+        (e i ∙ ap (λ (x : ℤ). differ (int_le x i) (odd_upto ws i)) (sym s))
 
     turn : (o : Ordering) → MatchOrdering o (a <ℤ b) (a ≡ b) (b <ℤ a) → (a ≡ b → vs ≡ ws) → a ∷ vs ≡ b ∷ ws
     turn Less m ih = absurd (let h : true ≡ false = sym (first_odd a vs p) ∙ e a ∙ before_first a b ws m q in cc)
     turn Equal m ih = λ n. m n ∷ ih m n
     turn Greater m ih = absurd (let h : false ≡ true = sym (before_first b a vs m p) ∙ e b ∙ first_odd b ws q in cc)
 
-pub same_members : (vs ws : List ℤ) → Rising vs → Rising ws → ((v : ℤ) → In v vs → In v ws) → ((v : ℤ) → In v ws → In v vs) → vs ≡ ws
+pub same_members : (vs ws : List ℤ) → Rising vs → Rising ws → ((v : ℤ) → In v vs → In v ws)
+    → ((v : ℤ) → In v ws → In v vs) → vs ≡ ws
 same_members [] [] p q f g = refl
 same_members [] (b ∷ ws) p q f g = absurd (g b (inl refl))
 same_members (a ∷ vs) [] p q f g = absurd (f a (inl refl))
-same_members (a ∷ vs) (b ∷ ws) p q f g = λ n. heads n ∷ same_members vs ws (rising_of a vs p) (rising_of b ws q) (λ v i. tail_f v i (f v (inr i))) (λ v i. tail_g v i (g v (inr i))) n
+same_members (a ∷ vs) (b ∷ ws) p q f g = λ n. heads n ∷ same_members vs ws (rising_of a vs p) (rising_of b ws q)
+    (λ v i. tail_f v i (f v (inr i))) (λ v i. tail_g v i (g v (inr i))) n
   where
     heads : a ≡ b
     heads = both (f a (inl refl)) (g b (inl refl))
@@ -60,7 +66,8 @@ same_members (a ∷ vs) (b ∷ ws) p q f g = λ n. heads n ∷ same_members vs w
         both : In a (b ∷ ws) → In b (a ∷ vs) → a ≡ b
         both (inl e) j = e
         both (inr i) (inl e) = sym e
-        both (inr i) (inr j) = absurd (let h : b <ℤ a = in_above a b ws q i in let k : a <ℤ b = in_above b a vs p j in omega (arith, ints, h, k))
+        both (inr i) (inr j) = absurd
+            (let h : b <ℤ a = in_above a b ws q i in let k : a <ℤ b = in_above b a vs p j in omega (arith, ints, h, k))
 
     tail_f : (v : ℤ) → In v vs → In v (b ∷ ws) → In v ws
     tail_f v i (inr j) = j
@@ -87,7 +94,8 @@ two_ends false s t r = refl
 ends_parity : (es : List Edge) (i j : ℤ) → odd_below (ends_of es) i j ≡ odd_left es i j
 ends_parity [] i j = refl
 ends_parity (e ∷ es) i j =
-    two_ends (int_le e.x i) (int_le e.start j) (int_le e.stop j) (odd_below (ends_of es) i j) ∙ ap (λ (b : Bool). differ (int_le e.x i && covers e j) b) (ends_parity es i j)
+    two_ends (int_le e.x i) (int_le e.start j) (int_le e.stop j) (odd_below (ends_of es) i j)
+    ∙ ap (λ (b : Bool). differ (int_le e.x i && covers e j) b) (ends_parity es i j)
 
 odd : ℕ → Bool
 odd zero = false
@@ -103,21 +111,28 @@ below_bit i j e = bit (int_le e.x i && int_le e.y j)
 count_parity : (es : List End) (i j : ℤ) → odd (sum_by (below_bit i j) es) ≡ odd_below es i j
 unfolding odd bit below_bit
 count_parity [] i j = refl
-count_parity (e ∷ es) i j = ap odd (sum_by-cons (below_bit i j) e es) ∙ turn (int_le e.x i && int_le e.y j) (count_parity es i j)
+count_parity (e ∷ es) i j = ap odd (sum_by-cons (below_bit i j) e es)
+    ∙ turn (int_le e.x i && int_le e.y j) (count_parity es i j)
   where
-    turn : (b : Bool) → odd (sum_by (below_bit i j) es) ≡ odd_below es i j → odd (bit b + sum_by (below_bit i j) es) ≡ differ b (odd_below es i j)
-    turn true ih = (let n : 1 + sum_by (below_bit i j) es ≡ suc (sum_by (below_bit i j) es) = omega arith in ap odd n ∙ ap (λ (b : Bool). not b) ih)
+    turn : (b : Bool) → odd (sum_by (below_bit i j) es) ≡ odd_below es i j
+        → odd (bit b + sum_by (below_bit i j) es) ≡ differ b (odd_below es i j)
+    turn true ih =
+        (let n : 1 + sum_by (below_bit i j) es ≡ suc (sum_by (below_bit i j) es) = omega arith in
+        ap odd n ∙ ap (λ (b : Bool). not b) ih)
     turn false ih = (let n : 0 + sum_by (below_bit i j) es ≡ sum_by (below_bit i j) es = omega arith in ap odd n ∙ ih)
 
 moved_parity : (es fs : List End) (i j : ℤ) → IsPermutation es fs → odd_below fs i j ≡ odd_below es i j
-moved_parity es fs i j p = sym (count_parity fs i j) ∙ ap odd (sum_by-IsPermutation (below_bit i j) es fs p) ∙ count_parity es i j
+moved_parity es fs i j p = sym (count_parity fs i j) ∙ ap odd (sum_by-IsPermutation (below_bit i j) es fs p)
+    ∙ count_parity es i j
 
 -- the first m ends are at most at j, and the others are above it
-cut_parity : (es : List End) (m : ℕ) (i j : ℤ) → ((k : ℕ) (e : End) → k < m → slice_get es k ≡ Some e → e.y ≤ℤ j) → ((k : ℕ) (e : End) → m ≤ k → slice_get es k ≡ Some e → j <ℤ e.y) → odd_below es i j ≡ odd_ends (take m es) i
+cut_parity : (es : List End) (m : ℕ) (i j : ℤ) → ((k : ℕ) (e : End) → k < m → slice_get es k ≡ Some e → e.y ≤ℤ j)
+    → ((k : ℕ) (e : End) → m ≤ k → slice_get es k ≡ Some e → j <ℤ e.y) → odd_below es i j ≡ odd_ends (take m es) i
 cut_parity [] zero i j low high = refl
 cut_parity [] (suc m) i j low high = refl
 cut_parity (e ∷ es) zero i j low high =
-    (λ n. differ (int_le e.x i && le_not e.y j (high 0 e (omega arith) refl) n) (cut_parity es 0 i j (λ k f lt. absurd (omega arith)) (λ k f le g. high (suc k) f (omega arith) g) n))
+    (λ n. differ (int_le e.x i && le_not e.y j (high 0 e (omega arith) refl) n)
+    (cut_parity es 0 i j (λ k f lt. absurd (omega arith)) (λ k f le g. high (suc k) f (omega arith) g) n))
     ∙ last (int_le e.x i) es
   where
     last : (b : Bool) (es : List End) → differ (b && false) (odd_ends (take 0 es) i) ≡ false
@@ -126,7 +141,9 @@ cut_parity (e ∷ es) zero i j low high =
     last false [] = refl
     last false (f ∷ es) = refl
 cut_parity (e ∷ es) (suc m) i j low high =
-    (λ n. differ (int_le e.x i && le_is e.y j (low 0 e (omega arith) refl) n) (cut_parity es m i j (λ k f lt g. low (suc k) f (omega arith) g) (λ k f le g. high (suc k) f (omega arith) g) n))
+    (λ n. differ (int_le e.x i && le_is e.y j (low 0 e (omega arith) refl) n)
+    (cut_parity es m i j (λ k f lt g. low (suc k) f (omega arith) g)
+    (λ k f le g. high (suc k) f (omega arith) g) n))
     ∙ ap (λ (b : Bool). differ b (odd_ends (take m es) i)) (keep (int_le e.x i))
   where
     keep : (b : Bool) → (b && true) ≡ b
@@ -135,7 +152,8 @@ cut_parity (e ∷ es) (suc m) i j low high =
 
 odd_append : (es : List End) (e : End) (i : ℤ) → odd_ends (es ++ e ∷ []) i ≡ differ (int_le e.x i) (odd_ends es i)
 odd_append [] e i = refl
-odd_append (f ∷ es) e i = ap (λ (b : Bool). differ (int_le f.x i) b) (odd_append es e i) ∙ differ_swap (int_le f.x i) (int_le e.x i) (odd_ends es i)
+odd_append (f ∷ es) e i = ap (λ (b : Bool). differ (int_le f.x i) b) (odd_append es e i)
+    ∙ differ_swap (int_le f.x i) (int_le e.x i) (odd_ends es i)
 
 -- ---- levels of ends
 
@@ -148,7 +166,9 @@ placed_so : (y l : ℤ) (ls : List ℤ) (o : Ordering) → int_cmp y l ≡ o →
 unfolding by
 placed_so y l ls o e = turn (int_cmp y l) ∙ ap (λ (k : Ordering). by k y l ls) e
   where
-    turn : (k : Ordering) → (elim k as (λ (t : Ordering). List ℤ) [ Less ↦ y ∷ l ∷ ls | Equal ↦ l ∷ ls | Greater ↦ l ∷ placed y ls ]) ≡ by k y l ls
+    turn : (k : Ordering)
+        → (elim k as (λ (t : Ordering). List ℤ) [ Less ↦ y ∷ l ∷ ls | Equal ↦ l ∷ ls | Greater ↦ l ∷ placed y ls ]) ≡ by
+        k y l ls
     turn Less = refl
     turn Equal = refl
     turn Greater = refl
@@ -166,12 +186,24 @@ from_tail e es up i j f g le p q = up (suc i) (suc j) f g (omega arith) p q
 first_level : (e : End) (es : List End) → FromBelow (e ∷ es) → (zs : List ℤ) × (levels_of (e ∷ es) ≡ e.y ∷ zs)
 unfolding by
 first_level e [] up = ([], refl)
-first_level e (f ∷ es) up = turn (first_level f es (from_tail e (f ∷ es) up)) (int_cmp e.y f.y) (int_ranked e.y f.y (int_cmp e.y f.y) refl)
+first_level e (f ∷ es) up = turn (first_level f es (from_tail e (f ∷ es) up)) (int_cmp e.y f.y)
+    (int_ranked e.y f.y (int_cmp e.y f.y) refl)
   where
-    turn : ((zs : List ℤ) × (levels_of (f ∷ es) ≡ f.y ∷ zs)) → (o : Ordering) → MatchOrdering o (e.y <ℤ f.y) (e.y ≡ f.y) (f.y <ℤ e.y) → (zs : List ℤ) × (placed e.y (levels_of (f ∷ es)) ≡ e.y ∷ zs)
-    turn (zs, p) Less m = (f.y ∷ zs, ap (λ (l : List ℤ). placed e.y l) p ∙ placed_so e.y f.y zs Less (cmp_less e.y f.y m))
-    turn (zs, p) Equal m = (zs, ap (λ (l : List ℤ). placed e.y l) p ∙ ap (λ (y : ℤ). placed e.y (y ∷ zs)) (sym m) ∙ placed_so e.y e.y zs Equal (cmp_self e.y))
-    turn (zs, p) Greater m = absurd (let h : e.y ≤ℤ f.y = up 0 1 e f (omega arith) refl refl in omega (arith, ints, h, m))
+    turn : ((zs : List ℤ) × (levels_of (f ∷ es) ≡ f.y ∷ zs)) → (o : Ordering)
+        → MatchOrdering o (e.y <ℤ f.y) (e.y ≡ f.y) (f.y <ℤ e.y) → (zs : List ℤ)
+        × (placed e.y (levels_of (f ∷ es)) ≡ e.y ∷ zs)
+    turn (zs, p) Less m = (
+      f.y ∷ zs,
+      ap (λ (l : List ℤ). placed e.y l) p
+          ∙ placed_so e.y f.y zs Less (cmp_less e.y f.y m),
+    )
+    turn (zs, p) Equal m = (
+      zs,
+      ap (λ (l : List ℤ). placed e.y l) p ∙ ap (λ (y : ℤ). placed e.y (y ∷ zs)) (sym m)
+          ∙ placed_so e.y e.y zs Equal (cmp_self e.y),
+    )
+    turn (zs, p) Greater m = absurd
+        (let h : e.y ≤ℤ f.y = up 0 1 e f (omega arith) refl refl in omega (arith, ints, h, m))
 
 -- an end at the level of the next adds no level
 same_level : (e f : End) (es : List End) → FromBelow (f ∷ es) → e.y ≡ f.y → levels_of (e ∷ f ∷ es) ≡ levels_of (f ∷ es)
@@ -181,11 +213,13 @@ same_level e f es up h =
     ap (λ (l : List ℤ). placed e.y l) z.1 ∙ placed_so e.y f.y z.0 Equal (rw h (cmp_self f.y)) ∙ sym z.1
 
 -- one below the next adds its own
-new_level : (e f : End) (es : List End) → FromBelow (f ∷ es) → e.y <ℤ f.y → levels_of (e ∷ f ∷ es) ≡ e.y ∷ levels_of (f ∷ es)
+new_level : (e f : End) (es : List End) → FromBelow (f ∷ es) → e.y <ℤ f.y
+    → levels_of (e ∷ f ∷ es) ≡ e.y ∷ levels_of (f ∷ es)
 unfolding by
 new_level e f es up h =
     let z = first_level f es up in
-    ap (λ (l : List ℤ). placed e.y l) z.1 ∙ placed_so e.y f.y z.0 Less (cmp_less e.y f.y h) ∙ ap (λ (l : List ℤ). e.y ∷ l) (sym z.1)
+    ap (λ (l : List ℤ). placed e.y l) z.1 ∙ placed_so e.y f.y z.0 Less (cmp_less e.y f.y h)
+    ∙ ap (λ (l : List ℤ). e.y ∷ l) (sym z.1)
 
 pub levels_rise : (es : List End) → Rising (levels_of es)
 levels_rise [] = tt
@@ -196,14 +230,17 @@ joined_append rs [] us = refl
 joined_append rs (t ∷ ts) us = joined_append (joined rs t) ts us
 
 -- the levels of ends at one level, and of those above them
-group_levels : (l : List End) (m : ℕ) (e f : End) → FromBelow l → slice_get l 0 ≡ Some e → ((i : ℕ) (g : End) → i < suc m → slice_get l i ≡ Some g → g.y ≤ℤ e.y) → slice_get l (suc m) ≡ Some f → e.y <ℤ f.y
+group_levels : (l : List End) (m : ℕ) (e f : End) → FromBelow l → slice_get l 0 ≡ Some e
+    → ((i : ℕ) (g : End) → i < suc m → slice_get l i ≡ Some g → g.y ≤ℤ e.y) → slice_get l (suc m) ≡ Some f → e.y <ℤ f.y
     → levels_of l ≡ e.y ∷ levels_of (drop (suc m) l)
 group_levels [] m e f up p low q lt = absurd cc
 group_levels (d ∷ []) m e f up p low q lt = absurd cc
 group_levels (d ∷ g ∷ l) zero e f up p low q lt =
     let a : d ≡ e = same_Some d e p in
     let b : g ≡ f = same_Some g f q in
-    new_level d g l (from_tail d (g ∷ l) up) (subst (λ (k : End). k.y <ℤ g.y) (sym a) (subst (λ (k : End). e.y <ℤ k.y) (sym b) lt)) ∙ ap (λ (k : End). k.y ∷ levels_of (g ∷ l)) a
+    new_level d g l (from_tail d (g ∷ l) up)
+    (subst (λ (k : End). k.y <ℤ g.y) (sym a) (subst (λ (k : End). e.y <ℤ k.y) (sym b) lt))
+    ∙ ap (λ (k : End). k.y ∷ levels_of (g ∷ l)) a
 group_levels (d ∷ g ∷ l) (suc m) e f up p low q lt =
     let a : d ≡ e = same_Some d e p in
     let le : g.y ≤ℤ e.y = low 1 g (omega arith) refl in
@@ -211,13 +248,16 @@ group_levels (d ∷ g ∷ l) (suc m) e f up p low q lt =
     let same : d.y ≡ g.y = equal d.y g.y ge (subst (λ (k : End). g.y ≤ℤ k.y) (sym a) le) in
     let first : g.y ≡ e.y = sym same ∙ ap (λ (k : End). k.y) a in
     same_level d g l (from_tail d (g ∷ l) up) same
-    ∙ group_levels (g ∷ l) m g f (from_tail d (g ∷ l) up) refl (λ i h less r. (let k : h.y ≤ℤ e.y = low (suc i) h (omega (arith, less)) r in omega (arith, ints, k, first))) q (omega (arith, ints, first, lt))
+    ∙ group_levels (g ∷ l) m g f (from_tail d (g ∷ l) up) refl
+    (λ i h less r. (let k : h.y ≤ℤ e.y = low (suc i) h (omega (arith, less)) r in omega (arith, ints, k, first))) q
+    (omega (arith, ints, first, lt))
     ∙ ap (λ (y : ℤ). y ∷ levels_of (drop (suc m) (g ∷ l))) first
   where
     equal : (a b : ℤ) → a ≤ℤ b → b ≤ℤ a → a ≡ b
     equal a b h k = grind (arith, ints)
 
-one_level : (l : List End) (e : End) → FromBelow l → slice_get l 0 ≡ Some e → ((i : ℕ) (g : End) → slice_get l i ≡ Some g → g.y ≤ℤ e.y) → levels_of l ≡ e.y ∷ []
+one_level : (l : List End) (e : End) → FromBelow l → slice_get l 0 ≡ Some e
+    → ((i : ℕ) (g : End) → slice_get l i ≡ Some g → g.y ≤ℤ e.y) → levels_of l ≡ e.y ∷ []
 one_level [] e up p low = absurd cc
 one_level (d ∷ []) e up p low = ap (λ (k : End). k.y ∷ []) (same_Some d e p)
 one_level (d ∷ g ∷ l) e up p low =
@@ -227,7 +267,8 @@ one_level (d ∷ g ∷ l) e up p low =
     let same : d.y ≡ g.y = equal d.y g.y ge (subst (λ (k : End). g.y ≤ℤ k.y) (sym a) le) in
     let first : g.y ≡ e.y = sym same ∙ ap (λ (k : End). k.y) a in
     same_level d g l (from_tail d (g ∷ l) up) same
-    ∙ one_level (g ∷ l) g (from_tail d (g ∷ l) up) refl (λ i h r. (let k : h.y ≤ℤ e.y = low (suc i) h r in omega (arith, ints, k, first)))
+    ∙ one_level (g ∷ l) g (from_tail d (g ∷ l) up) refl
+    (λ i h r. (let k : h.y ≤ℤ e.y = low (suc i) h r in omega (arith, ints, k, first)))
     ∙ ap (λ (y : ℤ). y ∷ []) first
   where
     equal : (a b : ℤ) → a ≤ℤ b → b ≤ℤ a → a ≡ b
@@ -235,7 +276,8 @@ one_level (d ∷ g ∷ l) e up p low =
 
 -- ---- parts of ends
 
-odd_split : (l : List End) (k m : ℕ) (i : ℤ) → odd_ends (take (k + m) l) i ≡ differ (odd_ends (take m (drop k l)) i) (odd_ends (take k l) i)
+odd_split : (l : List End) (k m : ℕ) (i : ℤ) → odd_ends (take (k + m) l) i ≡ differ (odd_ends (take m (drop k l)) i)
+    (odd_ends (take k l) i)
 odd_split l zero m i = let e : 0 + m ≡ m = omega arith in rw e (turn l)
   where
     turn : (l : List End) → odd_ends (take m l) i ≡ differ (odd_ends (take m (drop 0 l)) i) (odd_ends (take 0 l) i)
@@ -252,7 +294,8 @@ odd_split [] (suc k) m i = let e : suc k + m ≡ suc (k + m) = omega arith in rw
     none (suc m) = refl
 odd_split (e ∷ l) (suc k) m i =
     let n : suc k + m ≡ suc (k + m) = omega arith in
-    rw n (ap (λ (b : Bool). differ (int_le e.x i) b) (odd_split l k m i) ∙ differ_swap (int_le e.x i) (odd_ends (take m (drop k l)) i) (odd_ends (take k l) i))
+    rw n (ap (λ (b : Bool). differ (int_le e.x i) b) (odd_split l k m i)
+    ∙ differ_swap (int_le e.x i) (odd_ends (take m (drop k l)) i) (odd_ends (take k l) i))
 
 dropped_up : (m : ℕ) (l : List End) → FromBelow l → FromBelow (drop m l)
 dropped_up zero [] up = up
@@ -290,7 +333,9 @@ took (suc m) (g ∷ l) zero e q = (omega arith, q)
 took (suc m) (g ∷ l) (suc i) e q = (let t = took m l i e q in (let lt = t.0 in omega (arith, lt), t.1))
 
 -- the ends of a group rise along x
-pub group_left : (k m : ℕ) (ends : List End) (e : End) → FromBelow ends → LevelsFromLeft ends → slice_get ends k ≡ Some e → ((i : ℕ) (g : End) → k ≤ i → i < k + m → slice_get ends i ≡ Some g → g.y ≤ℤ e.y) → FromLeft (take m (drop k ends))
+pub group_left : (k m : ℕ) (ends : List End) (e : End) → FromBelow ends → LevelsFromLeft ends
+    → slice_get ends k ≡ Some e → ((i : ℕ) (g : End) → k ≤ i → i < k + m → slice_get ends i ≡ Some g → g.y ≤ℤ e.y)
+    → FromLeft (take m (drop k ends))
 group_left k m ends e up left at_e level i j f g le p q =
     let a = took m (drop k ends) i f p in
     let b = took m (drop k ends) j g q in
@@ -308,29 +353,46 @@ group_left k m ends e up left at_e level i j f g le p q =
     equal a b c h k m n = grind (arith, ints)
 
 -- below the top there is a next level
-pub next_within : (k next : ℕ) (ends : List End) (e t : End) → next ≤ length ends → slice_get ends k ≡ Some e → slice_get ends (length ends - 1) ≡ Some t → k < length ends → e.y <ℤ t.y
+pub next_within : (k next : ℕ) (ends : List End) (e t : End) → next ≤ length ends → slice_get ends k ≡ Some e
+    → slice_get ends (length ends - 1) ≡ Some t → k < length ends → e.y <ℤ t.y
     → ((i : ℕ) (g : End) → k ≤ i → i < next → slice_get ends i ≡ Some g → g.y ≤ℤ e.y) → next < length ends
 next_within k next ends e t le at_e at_t lt below level = by_place next (length ends)
     (λ less. less)
-    (λ same. absurd (let h : t.y ≤ℤ e.y = level (length ends - 1) t (omega (arith, lt)) (omega (arith, lt, same)) at_t in omega (arith, ints, h, below)))
+    (λ same. absurd
+    (let h : t.y ≤ℤ e.y = level (length ends - 1) t (omega (arith, lt)) (omega (arith, lt, same)) at_t in
+    omega (arith, ints, h, below)))
     (λ gt. absurd (omega (arith, gt, le)))
 
 -- the first k ends have been toggled, and slabs joined up to the level of the next
-pub record Swept (k : ℕ) (ends : List End) (top : ℤ) (ws : List ℤ) (rects : List Rectangle) (last : BTreeMap ℤ ℕ) : Type 0 where
+pub record Swept (k : ℕ) (ends : List End) (top : ℤ) (ws : List ℤ) (rects : List Rectangle)
+    (last : BTreeMap ℤ ℕ) : Type 0 where
   pub within : k < length ends
   pub parity : (i : ℤ) → odd_upto ws i ≡ odd_ends (take k ends) i
   pub at : (e : End) → slice_get ends k ≡ Some e → AtLevel rects last ws e.y top
   pub rest : (e : End) → slice_get ends k ≡ Some e → (es : List Edge) → IsPermutation (ends_of es) ends
-      → all_joined (map (cut_off e.y) rects) (slabs es (levels_of (drop k ends))) ≡ all_joined [] (slabs es (levels_of ends))
+      → all_joined (map (cut_off e.y) rects) (slabs es (levels_of (drop k ends))) ≡ all_joined []
+      (slabs es (levels_of ends))
 
-pub none_swept : (ends : List End) (top : ℤ) (last : BTreeMap ℤ ℕ) → 0 < length ends → ((x : ℤ) → last_at last x ≡ None) → Swept 0 ends top [] [] last
+pub none_swept : (ends : List End) (top : ℤ) (last : BTreeMap ℤ ℕ) → 0 < length ends → ((x : ℤ) → last_at last x ≡ None)
+    → Swept 0 ends top [] [] last
 none_swept ends top last some none = record {
   within = some;
   parity = λ i. zero_of ends i;
   at = λ e p. record {
     rising = tt;
-    reaches = record { stand = λ x n q. absurd (let h = none x in cc); found = λ n r q. absurd cc; lower = λ n r q. absurd cc };
-    standing = record { stand = λ x n q. absurd (let h = none x in cc); own = λ x n r q g. absurd cc; found = λ n r g. absurd cc; paired = λ n r g. absurd cc };
+    reaches = record {
+      stand = λ x n q. absurd (let h = none x in cc);
+      found = λ n r q. absurd cc;
+      lower =
+          λ n r q. absurd cc;
+    };
+    standing = record {
+      stand = λ x n q. absurd (let h = none x in cc);
+      own = λ x n r q g. absurd cc;
+      found =
+          λ n r g. absurd cc;
+      paired = λ n r g. absurd cc;
+    };
     high = λ n r g. absurd cc;
     low = λ n r g. absurd cc;
     begun = λ i a b q. absurd (let h = q.first in cc);
@@ -346,20 +408,26 @@ none_swept ends top last some none = record {
     none_dropped [] = refl
     none_dropped (e ∷ ends) = refl
 
-module _ (k next : ℕ) (ends : List End) (top : ℤ) (ws : List ℤ) (rects : List Rectangle) (last : BTreeMap ℤ ℕ) (up : FromBelow ends) (done : Swept k ends top ws rects last) (e f : End) (at_e : slice_get ends k ≡ Some e) (at_f : slice_get ends next ≡ Some f) (more : k < next) (level : (i : ℕ) (g : End) → k ≤ i → i < next → slice_get ends i ≡ Some g → g.y ≤ℤ e.y) (above : e.y <ℤ f.y) (new : List ℤ) (toggles : new ≡ all_toggled (take (next - k) (drop k ends)) ws) where
+module _ (k next : ℕ) (ends : List End) (top : ℤ) (ws : List ℤ) (rects : List Rectangle) (last : BTreeMap ℤ ℕ)
+    (up : FromBelow ends) (done : Swept k ends top ws rects last) (e f : End) (at_e : slice_get ends k ≡ Some e)
+    (at_f : slice_get ends next ≡ Some f) (more : k < next)
+    (level : (i : ℕ) (g : End) → k ≤ i → i < next → slice_get ends i ≡ Some g → g.y ≤ℤ e.y) (above : e.y <ℤ f.y)
+    (new : List ℤ) (toggles : new ≡ all_toggled (take (next - k) (drop k ends)) ws) where
   new_rising : Rising new
   new_rising = rw toggles (all_rising (take (next - k) (drop k ends)) ws (done.at e at_e).rising)
 
   new_parity : (i : ℤ) → odd_upto new i ≡ odd_ends (take next ends) i
   new_parity i =
       let n : k + (next - k) ≡ next = omega arith in
-      ap (λ (l : List ℤ). odd_upto l i) toggles ∙ all_odd (take (next - k) (drop k ends)) ws i ∙ ap (λ (b : Bool). differ (odd_ends (take (next - k) (drop k ends)) i) b) (done.parity i)
+      ap (λ (l : List ℤ). odd_upto l i) toggles ∙ all_odd (take (next - k) (drop k ends)) ws i
+      ∙ ap (λ (b : Bool). differ (odd_ends (take (next - k) (drop k ends)) i) b) (done.parity i)
       ∙ sym (odd_split ends k (next - k) i) ∙ ap (λ (m : ℕ). odd_ends (take m ends) i) n
 
   walls_are : (es : List Edge) → IsPermutation (ends_of es) ends → walls es e.y ≡ new
   walls_are es p = same_parity (walls es e.y) new (walls_rising es e.y) new_rising (λ i.
       walls_odd es i e.y ∙ sym (ends_parity es i e.y) ∙ sym (moved_parity (ends_of es) ends i e.y p)
-      ∙ cut_parity ends next i e.y lower (λ j g h q. (let m : f.y ≤ℤ g.y = up next j f g h at_f q in omega (arith, ints, m, above)))
+      ∙ cut_parity ends next i e.y lower
+      (λ j g h q. (let m : f.y ≤ℤ g.y = up next j f g h at_f q in omega (arith, ints, m, above)))
       ∙ sym (new_parity i))
     where
       lower : (j : ℕ) (g : End) → j < next → slice_get ends j ≡ Some g → g.y ≤ℤ e.y
@@ -372,43 +440,60 @@ module _ (k next : ℕ) (ends : List End) (top : ℤ) (ws : List ℤ) (rects : L
   levels_are =
       let m : k + suc (next - k - 1) ≡ next = omega arith in
       let z : k + 0 ≡ k = omega arith in
-      group_levels (drop k ends) (next - k - 1) e f (dropped_up k ends up) (dropped_at ends k 0 ∙ ap (λ (n : ℕ). slice_get ends n) z ∙ at_e)
+      group_levels (drop k ends) (next - k - 1) e f (dropped_up k ends up)
+      (dropped_at ends k 0 ∙ ap (λ (n : ℕ). slice_get ends n) z ∙ at_e)
       (λ i g lt q. level (k + i) g (omega arith) (omega (arith, lt)) (sym (dropped_at ends k i) ∙ q))
       (dropped_at ends k (suc (next - k - 1)) ∙ ap (λ (n : ℕ). slice_get ends n) m ∙ at_f) above
-      ∙ ap (λ (l : List End). e.y ∷ levels_of l) (dropped_twice ends k (suc (next - k - 1)) ∙ ap (λ (n : ℕ). drop n ends) m)
+      ∙ ap (λ (l : List End). e.y ∷ levels_of l) (dropped_twice ends k (suc (next - k - 1))
+      ∙ ap (λ (n : ℕ). drop n ends) m)
 
   -- the levels from the next group on begin with its own
   next_levels : (zs : List ℤ) × (levels_of (drop next ends) ≡ f.y ∷ zs)
   next_levels = turn next ends at_f up
     where
-      turn : (n : ℕ) (l : List End) → slice_get l n ≡ Some f → FromBelow l → (zs : List ℤ) × (levels_of (drop n l) ≡ f.y ∷ zs)
+      turn : (n : ℕ) (l : List End) → slice_get l n ≡ Some f → FromBelow l
+          → (zs : List ℤ) × (levels_of (drop n l) ≡ f.y ∷ zs)
       turn n [] q u = absurd cc
       turn zero (g ∷ l) q u = (let z = first_level g l u in (z.0, z.1 ∙ ap (λ (k : End). k.y ∷ z.0) (same_Some g f q)))
       turn (suc n) (g ∷ l) q u = turn n l q (from_tail g l u)
 
-  pub level_swept : (rects' : List Rectangle) (last' : BTreeMap ℤ ℕ) → AtLevel rects' last' new f.y top → map (cut_off f.y) rects' ≡ all_joined (map (cut_off e.y) rects) (between e.y f.y new) → Swept next ends top new rects' last'
+  pub level_swept : (rects' : List Rectangle) (last' : BTreeMap ℤ ℕ) → AtLevel rects' last' new f.y top
+      → map (cut_off f.y) rects' ≡ all_joined (map (cut_off e.y) rects) (between e.y f.y new)
+      → Swept next ends top new rects' last'
   level_swept rects' last' at joins = record {
     within = slice_get_within ends next f at_f;
     parity = new_parity;
     at = λ g q. subst (λ (h : End). AtLevel rects' last' new h.y top) (same_Some f g (sym at_f ∙ q)) at;
-    rest = λ g q es p. subst (λ (h : End). all_joined (map (cut_off h.y) rects') (slabs es (levels_of (drop next ends))) ≡ all_joined [] (slabs es (levels_of ends))) (same_Some f g (sym at_f ∙ q)) (whole es p);
+    rest = λ g q es p. subst (λ (h : End). all_joined (map (cut_off h.y) rects')
+        (slabs es (levels_of (drop next ends))) ≡ all_joined [] (slabs es (levels_of ends)))
+        (same_Some f g (sym at_f ∙ q)) (whole es p);
   }
     where
-      whole : (es : List Edge) → IsPermutation (ends_of es) ends → all_joined (map (cut_off f.y) rects') (slabs es (levels_of (drop next ends))) ≡ all_joined [] (slabs es (levels_of ends))
+      whole : (es : List Edge) → IsPermutation (ends_of es) ends
+          → all_joined (map (cut_off f.y) rects') (slabs es (levels_of (drop next ends))) ≡ all_joined []
+          (slabs es (levels_of ends))
       whole es p =
           let z = next_levels in
           ap (λ (l : List ℤ). all_joined (map (cut_off f.y) rects') (slabs es l)) z.1
-          ∙ ap (λ (l : List Rectangle). all_joined l (slabs_from es f.y z.0)) (joins ∙ ap (λ (l : List ℤ). all_joined (map (cut_off e.y) rects) (between e.y f.y l)) (sym (walls_are es p)))
+          ∙ ap (λ (l : List Rectangle). all_joined l (slabs_from es f.y z.0))
+          (joins ∙ ap (λ (l : List ℤ). all_joined (map (cut_off e.y) rects) (between e.y f.y l))
+          (sym (walls_are es p)))
           ∙ sym (joined_append (map (cut_off e.y) rects) (between e.y f.y (walls es e.y)) (slabs_from es f.y z.0))
-          ∙ ap (λ (l : List ℤ). all_joined (map (cut_off e.y) rects) (slabs es l)) (sym (levels_are ∙ ap (λ (l : List ℤ). e.y ∷ l) z.1))
+          ∙ ap (λ (l : List ℤ). all_joined (map (cut_off e.y) rects) (slabs es l))
+          (sym (levels_are ∙ ap (λ (l : List ℤ). e.y ∷ l) z.1))
           ∙ done.rest e at_e es p
 
 -- at the top nothing goes on, and there is no slab
-pub all_swept : (k : ℕ) (ends : List End) (top : ℤ) (ws : List ℤ) (rects : List Rectangle) (last : BTreeMap ℤ ℕ) (e t : End) → FromBelow ends → Swept k ends top ws rects last → slice_get ends k ≡ Some e → top ≡ t.y → slice_get ends (length ends - 1) ≡ Some t
-    → int_lt e.y t.y ≡ false → (es : List Edge) → IsPermutation (ends_of es) ends → rects ≡ all_joined [] (slabs es (levels_of ends))
+pub all_swept : (k : ℕ) (ends : List End) (top : ℤ) (ws : List ℤ) (rects : List Rectangle) (last : BTreeMap ℤ ℕ)
+    (e t : End) → FromBelow ends → Swept k ends top ws rects last → slice_get ends k ≡ Some e → top ≡ t.y
+    → slice_get ends (length ends - 1) ≡ Some t
+    → int_lt e.y t.y ≡ false → (es : List Edge) → IsPermutation (ends_of es) ends
+    → rects ≡ all_joined [] (slabs es (levels_of ends))
 all_swept k ends top ws rects last e t up done at_e is at_t not_below es p =
     sym (same_self rects)
-    ∙ ap (λ (l : List ℤ). all_joined (map (cut_off e.y) rects) (slabs es l)) (sym (one_level (drop k ends) e (dropped_up k ends up) (dropped_at ends k 0 ∙ ap (λ (n : ℕ). slice_get ends n) z ∙ at_e) low))
+    ∙ ap (λ (l : List ℤ). all_joined (map (cut_off e.y) rects) (slabs es l))
+    (sym (one_level (drop k ends) e (dropped_up k ends up)
+    (dropped_at ends k 0 ∙ ap (λ (n : ℕ). slice_get ends n) z ∙ at_e) low))
     ∙ done.rest e at_e es p
   where
     z : k + 0 ≡ k
@@ -428,9 +513,14 @@ all_swept k ends top ws rects last e t up done at_e is at_t not_below es p =
         omega (arith, ints, h, le)
 
     same_self : (l : List Rectangle) → map (cut_off e.y) rects ≡ rects
-    same_self l = mapped rects (λ n r g. cut_low e.y r (by_lt_z e.y r.y1 (λ hi. absurd (let h : r.y1 ≡ top = (done.at e at_e).high n r g hi in omega (arith, ints, h, hi, is, le))) (λ below. below)))
+    same_self l = mapped rects
+        (λ n r g. cut_low e.y r
+        (by_lt_z e.y r.y1
+        (λ hi. absurd (let h : r.y1 ≡ top = (done.at e at_e).high n r g hi in omega (arith, ints, h, hi, is, le)))
+        (λ below. below)))
       where
-        mapped : (l : List Rectangle) → ((n : ℕ) (r : Rectangle) → slice_get l n ≡ Some r → cut_off e.y r ≡ r) → map (cut_off e.y) l ≡ l
+        mapped : (l : List Rectangle) → ((n : ℕ) (r : Rectangle) → slice_get l n ≡ Some r → cut_off e.y r ≡ r)
+            → map (cut_off e.y) l ≡ l
         mapped [] h = refl
         mapped (r ∷ l) h = λ j. h 0 r refl j ∷ mapped l (λ n s. h (suc n) s) j
 
@@ -440,7 +530,9 @@ joined_some : (rs : List Rectangle) (t : Rectangle) → 0 < length (joined rs t)
 joined_some [] t = omega arith
 joined_some (r ∷ rs) t = turn (stands_on r t)
   where
-    turn : (k : Bool) → 0 < length (elim k as (λ (x : Bool). List Rectangle) [ true ↦ box r.x0 r.y0 r.x1 t.y1 ∷ rs | false ↦ r ∷ joined rs t ])
+    turn : (k : Bool)
+        → 0 < length
+        (elim k as (λ (x : Bool). List Rectangle) [ true ↦ box r.x0 r.y0 r.x1 t.y1 ∷ rs | false ↦ r ∷ joined rs t ])
     turn true = omega arith
     turn false = omega arith
 
@@ -466,10 +558,16 @@ test_none false f false e h = refl
 not_none : (n : ℕ) → 0 < n → (n == 0) ≡ false
 not_none n lt = grind arith
 
-pub some_swept : (k : ℕ) (ends : List End) (top : ℤ) (ws : List ℤ) (rects : List Rectangle) (last : BTreeMap ℤ ℕ) (e t : End) (first : Bool) → FromBelow ends → Swept k ends top ws rects last → slice_get ends k ≡ Some e → top ≡ t.y
-    → slice_get ends (length ends - 1) ≡ Some t → (int_lt e.y t.y && not (first && not (length rects == 0))) ≡ false → (es : List Edge) → IsPermutation (ends_of es) ends → (length rects == 0) ≡ (length (all_joined [] (slabs es (levels_of ends))) == 0)
+pub some_swept : (k : ℕ) (ends : List End) (top : ℤ) (ws : List ℤ) (rects : List Rectangle) (last : BTreeMap ℤ ℕ)
+    (e t : End) (first : Bool) → FromBelow ends → Swept k ends top ws rects last → slice_get ends k ≡ Some e → top ≡ t.y
+    → slice_get ends (length ends - 1) ≡ Some t → (int_lt e.y t.y && not (first && not (length rects == 0))) ≡ false
+    → (es : List Edge) → IsPermutation (ends_of es) ends
+    → (length rects == 0) ≡ (length (all_joined [] (slabs es (levels_of ends))) == 0)
 some_swept k ends top ws [] last e t first up done at_e is at_t stop es p =
-    ap (λ (l : List Rectangle). length l == 0) (all_swept k ends top ws [] last e t up done at_e is at_t (test_none (int_lt e.y t.y) first false refl stop) es p)
+    ap (λ (l : List Rectangle). length l == 0)
+    (all_swept k ends top ws [] last e t up done at_e is at_t (test_none (int_lt e.y t.y) first false refl stop) es p)
 some_swept k ends top ws (r ∷ rs) last e t first up done at_e is at_t stop es p =
     not_none (length (r ∷ rs)) (omega arith)
-    ∙ sym (not_none (length (all_joined [] (slabs es (levels_of ends)))) (subst (λ (l : List Rectangle). 0 < length l) (done.rest e at_e es p) (all_joined_some (map (cut_off e.y) (r ∷ rs)) (slabs es (levels_of (drop k ends))) (omega arith))))
+    ∙ sym (not_none (length (all_joined [] (slabs es (levels_of ends))))
+    (subst (λ (l : List Rectangle). 0 < length l) (done.rest e at_e es p)
+    (all_joined_some (map (cut_off e.y) (r ∷ rs)) (slabs es (levels_of (drop k ends))) (omega arith))))

@@ -1,5 +1,5 @@
 -- How many shapes and labels a flat form has, counted structure by structure.
-use Rattle.std.specs.Prelude.{◌≡◌, ℕ, zero, suc, ◌+◌, ◌-◌, ◌*◌, ◌^◌, min, List, [], ◌∷◌, length, slice_index}
+use Rattle.std.specs.Prelude.{ℕ, zero, suc, ◌+◌, ◌-◌, ◌*◌, ◌^◌, min, List, [], ◌∷◌, length}
 use Rattle.poly_cut.specs.declared.layout.Item.{Item}
 use Rattle.poly_cut.specs.declared.layout.Item.TheVariants.{Draw, Place, Text}
 use Rattle.poly_cut.specs.declared.layout.WideStructure.{WideStructure}
@@ -33,7 +33,3 @@ wide_count w = count_of DEPTH w.structures w.top
 -- a number as 64 bits tell it: the greatest of them stands for all above it
 abbrev pub told : ℕ → ℕ
 told n = min n (2 ^ 64 - 1)
-
--- these are the counts of all structures, as 64 bits tell them
-abbrev pub Tell : List ℕ → (ℕ → ℕ) → Type 0
-Tell counts of = (n : ℕ) → slice_index counts n ≡ told (of n)

@@ -6,7 +6,7 @@ use Rattle.poly_cut.specs.declared.layout.Point.{Point}
 use Rattle.poly_cut.specs.declared.layout.Figure.{Figure}
 use Rattle.poly_cut.specs.declared.layout.Figure.TheVariants.{Ring, Path}
 use Rattle.poly_cut.specs.Squares.{union_holds}
-use Rattle.poly_cut.specs.Rings.{ring_holds}
+use Rattle.poly_cut.specs.Rings.{ring_holds, HasSquare}
 use Rattle.poly_cut.specs.Cuts.{ring_cut}
 use Rattle.poly_cut.specs.Paths.{path_cut}
 
@@ -48,7 +48,7 @@ IsBent (p ∷ q ∷ qs) = GoesInTurn true p (q ∷ qs) ⊎ GoesInTurn false p (q
 
 -- a ring with a square inside, or a path of some width
 abbrev pub IsFigure : Figure → Type 0
-IsFigure (Ring ps) = IsRound ps × (ring_cut ps ≢ [])
+IsFigure (Ring ps) = IsRound ps × HasSquare ps
 IsFigure (Path extended half ps) = (0 < half) × (half ≤ 2 ^ 30) × IsBent ps
 
 -- a point whose coordinates are signed numbers of four bytes

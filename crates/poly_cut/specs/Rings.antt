@@ -1,5 +1,5 @@
 -- The squares inside a ring, by its vertical edges (the even-odd rule).
-use Rattle.std.specs.Prelude.{List, [], ◌∷◌, Bool, false, ◌&&◌, ℤ, int_le}
+use Rattle.std.specs.Prelude.{◌≡◌, List, [], ◌∷◌, Bool, true, false, ◌&&◌, ℤ, int_le}
 use Rattle.poly_cut.specs.Squares.{differ}
 use Rattle.poly_cut.specs.declared.layout.Point.{Point}
 
@@ -31,3 +31,9 @@ odd_left (e ∷ es) i j = differ (int_le e.x i && covers e j) (odd_left es i j)
 -- the squares inside: an odd number of edges stand to their left
 abbrev pub ring_holds : List Point → ℤ → ℤ → Bool
 ring_holds ps i j = odd_left (edges ps) i j
+
+-- some square is inside
+pub record HasSquare (ps : List Point) : Type 0 where
+  pub i : ℤ
+  pub j : ℤ
+  pub inside : ring_holds ps i j ≡ true

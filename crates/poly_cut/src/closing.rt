@@ -28,7 +28,8 @@ fn cut_off(rect: &Rect, level: &Level) -> Rect
 fn end_at(rects: &mut List<Rect>, last: &BTreeMap<i64, usize>, left: i64, level: &Level)
     requires stand { (x : ℤ) (n : ℕ) → last_at last.now x ≡ Some n → n < length rects.old }
     requires low { BeginBelow rects.old level.now.y }
-    ensures some { (n : ℕ) (r : Rectangle) → last_at last.now left ≡ Some n → slice_get rects.old n ≡ Some r → rects.new ≡ slice_set rects.old n (cut_off level.now.y r) }
+    ensures some { (n : ℕ) (r : Rectangle) → last_at last.now left ≡ Some n → slice_get rects.old n ≡ Some r
+        → rects.new ≡ slice_set rects.old n (cut_off level.now.y r) }
     ensures none { last_at last.now left ≡ None → rects.new ≡ rects.old }
 {
     if let Some(number) = last.get(&left) {

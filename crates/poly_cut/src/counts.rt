@@ -3,7 +3,8 @@ ghost use Rattle.std.specs.Prelude.{◌≡◌, ◌+◌, ◌*◌, ◌∷◌, [], 
 ghost use Rattle.poly_cut.specs.Cuts.{ring_cut};
 ghost use Rattle.poly_cut.specs.Figures.{cut_of};
 ghost use Rattle.poly_cut.specs.FlatForm.{items_at};
-ghost use Rattle.poly_cut.specs.Counts.{own_count, placed_count, count_of, wide_count, told, Tell};
+ghost use Rattle.poly_cut.specs.Counts.{own_count, placed_count, count_of, wide_count, told};
+ghost use Rattle.poly_cut.specs.Code.Counted.{Tell};
 
 use crate::cutting::is_cut;
 use crate::layout::{Figure, Grid, Item, Point, WideLayout, WideStructure};

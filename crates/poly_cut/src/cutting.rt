@@ -1,5 +1,7 @@
 // Figures cut into rectangles.
-ghost use Rattle.std.specs.Prelude.{◌≡◌, ◌&&◌, ◌==◌, not, false, ◌+◌, ◌<◌, ◌≤◌, ◌^◌, [], List as Items, ℕ, ℤ, ◌<ℤ◌, ◌≤ℤ◌, length, drop, map, slice_get, Some, pos, All, IfOk, OnOk, IsPermutation, int_lt};
+ghost use Rattle.std.specs.Prelude.{◌≡◌, ◌&&◌, ◌==◌, not, false, ◌+◌, ◌<◌, ◌≤◌, ◌^◌, [], List as Items, ℕ, ℤ, ◌<ℤ◌};
+ghost use Rattle.std.specs.Prelude.{◌≤ℤ◌, length, drop, map, slice_get, Some, pos, All, IfOk, OnOk, IsPermutation};
+ghost use Rattle.std.specs.Prelude.{int_lt};
 ghost use Rattle.poly_cut.specs.Rings.{Edge};
 ghost use Rattle.poly_cut.specs.Cuts.{ring_cut, slabs, between, all_joined};
 ghost use Rattle.poly_cut.specs.Paths.{path_cut, past, end_of, before_of};
@@ -32,7 +34,8 @@ fn next_level(ends: &[End], number: usize) -> usize
     requires { number < length ends.now }
     ensures more { number < result }
     ensures within { result ≤ length ends.now }
-    ensures level { (i : ℕ) (e f : End) → slice_get ends.now number ≡ Some e → number ≤ i → i < result → slice_get ends.now i ≡ Some f → f.y ≤ℤ e.y }
+    ensures level { (i : ℕ) (e f : End) → slice_get ends.now number ≡ Some e → number ≤ i → i < result
+        → slice_get ends.now i ≡ Some f → f.y ≤ℤ e.y }
     ensures above { (e f : End) → slice_get ends.now number ≡ Some e → slice_get ends.now result ≡ Some f → e.y <ℤ f.y }
 {
     let mut next = number + 1;
@@ -59,8 +62,11 @@ fn rise(stack: &mut Stack, walls: &mut Vec<i64>, ends: &[End], level: &Level) ->
     requires left { FromLeft ends.now }
     requires at { AtLevel stack.old.rects stack.old.last walls.old.items level.now.y level.now.top }
     ensures walls { OnOk result (walls.new.items ≡ all_toggled ends.now walls.old.items) }
-    ensures at { OnOk result ((z : ℤ) → level.now.y <ℤ z → z ≤ℤ level.now.top → AtLevel stack.new.rects stack.new.last walls.new.items z level.now.top) }
-    ensures joined { OnOk result ((z : ℤ) → level.now.y <ℤ z → z ≤ℤ level.now.top → map (cut_off z) stack.new.rects ≡ all_joined (map (cut_off level.now.y) stack.old.rects) (between level.now.y z walls.new.items)) }
+    ensures at { OnOk result ((z : ℤ) → level.now.y <ℤ z → z ≤ℤ level.now.top
+        → AtLevel stack.new.rects stack.new.last walls.new.items z level.now.top) }
+    ensures joined { OnOk result ((z : ℤ) → level.now.y <ℤ z → z ≤ℤ level.now.top
+        → map (cut_off z) stack.new.rects ≡ all_joined (map (cut_off level.now.y) stack.old.rects)
+        (between level.now.y z walls.new.items)) }
 {
     end_level(&mut stack.rects, &stack.last, walls.as_slice(), ends, level);
     toggle_all(walls, ends)?;
@@ -74,13 +80,15 @@ fn goes_on(lower: &End, top: &End, stack: &Stack, first: bool) -> bool
     is_below(lower, top) && !(first && stack.rects.len() != 0)
 }
 
-/// The rectangles of the slabs of edges with these ends, from below, or where the first is enough those up to the slab in
-/// which it begins.
+/// The rectangles of the slabs of edges with these ends, from below, or where the first is enough those up to the slab
+/// in which it begins.
 fn sweep(alloc: Global, ends: &[End], first: bool) -> Result<List<Rect>, Memory>
     requires below { FromBelow ends.now }
     requires left { LevelsFromLeft ends.now }
-    ensures whole { IfOk result (λ rects. first ≡ false → (es : Items Edge) → IsPermutation (ends_of es) ends.now → rects ≡ all_joined [] (slabs es (levels_of ends.now))) }
-    ensures some { IfOk result (λ rects. (es : Items Edge) → IsPermutation (ends_of es) ends.now → (length rects == 0) ≡ (length (all_joined [] (slabs es (levels_of ends.now))) == 0)) }
+    ensures whole { IfOk result (λ rects. first ≡ false → (es : Items Edge) → IsPermutation (ends_of es) ends.now
+        → rects ≡ all_joined [] (slabs es (levels_of ends.now))) }
+    ensures some { IfOk result (λ rects. (es : Items Edge) → IsPermutation (ends_of es) ends.now
+        → (length rects == 0) ≡ (length (all_joined [] (slabs es (levels_of ends.now))) == 0)) }
 {
     let mut walls = Vec::new(alloc);
     let mut stack = empty(alloc);
@@ -179,8 +187,8 @@ pub fn cut_path(
     Ok(rects)
 }
 
-/// The rectangles into which a figure is cut: those of a path's segments, in order, or those of a ring, by lower edge and
-/// then by left edge. Together they hold what the figure holds.
+/// The rectangles into which a figure is cut: those of a path's segments, in order, or those of a ring, by lower edge
+/// and then by left edge. Together they hold what the figure holds.
 pub fn cut(alloc: Global, figure: &Figure) -> Result<List<Rect>, Memory>
     requires { IsDrawn figure.now }
     ensures { IfOk result (λ rects. rects ≡ cut_of figure.now) }

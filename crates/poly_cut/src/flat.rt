@@ -92,8 +92,10 @@ fn add_copies(flat: &mut Part, part: &Part, turn: &Turn, points: &[Point]) -> Re
     requires labels { All (IsLabelWithin (2 ^ 40)) part.now.labels }
     requires turn { turn.now.quarter < 4 }
     requires points { All (IsNear (2 ^ 40)) points.now }
-    ensures shapes { OnOk result (flat.new.shapes ≡ flat.old.shapes ++ flat_map (λ p. map (placed_shape turn.now p) part.now.shapes) points.now) }
-    ensures labels { OnOk result (flat.new.labels ≡ flat.old.labels ++ flat_map (λ p. map (placed_label turn.now p) part.now.labels) points.now) }
+    ensures shapes { OnOk result (flat.new.shapes ≡ flat.old.shapes ++ flat_map
+        (λ p. map (placed_shape turn.now p) part.now.shapes) points.now) }
+    ensures labels { OnOk result (flat.new.labels ≡ flat.old.labels ++ flat_map
+        (λ p. map (placed_label turn.now p) part.now.labels) points.now) }
 {
     for point in points {
         add_shapes(&mut flat.shapes, part.shapes.as_slice(), turn, point)?;
@@ -118,8 +120,10 @@ fn add_item(
     requires marks { MarksAll structures.now marks.now }
     requires table { IsTable structures.now table.now }
     requires item { IsReady (length structures.now) item.now }
-    ensures shapes { OnOk result (flat.new.shapes ≡ flat.old.shapes ++ ready_shapes (shapes_of depth structures.now) item.now) }
-    ensures labels { OnOk result (flat.new.labels ≡ flat.old.labels ++ ready_labels (labels_of depth structures.now) item.now) }
+    ensures shapes { OnOk result (flat.new.shapes ≡ flat.old.shapes ++ ready_shapes
+        (shapes_of depth structures.now) item.now) }
+    ensures labels { OnOk result (flat.new.labels ≡ flat.old.labels ++ ready_labels
+        (labels_of depth structures.now) item.now) }
 {
     match item {
         Ready::Boxed(shape) => flat.shapes.push(*shape),
@@ -157,8 +161,10 @@ fn part_with(
     requires marks { MarksAll structures.now marks.now }
     requires table { IsTable structures.now table.now }
     requires each { AllByRecursion (IsReady (length structures.now)) items.now }
-    ensures shapes { IfOk result (λ part. part.shapes ≡ flat_map (ready_shapes (shapes_of depth structures.now)) items.now) }
-    ensures labels { IfOk result (λ part. part.labels ≡ flat_map (ready_labels (labels_of depth structures.now)) items.now) }
+    ensures shapes { IfOk result
+        (λ part. part.shapes ≡ flat_map (ready_shapes (shapes_of depth structures.now)) items.now) }
+    ensures labels { IfOk result
+        (λ part. part.labels ≡ flat_map (ready_labels (labels_of depth structures.now)) items.now) }
 {
     let mut part = nothing(alloc);
     for item in items {
@@ -183,8 +189,10 @@ fn add_own(
     requires marks { MarksAll structures.now marks.now }
     requires table { IsTable structures.now table.now }
     requires item { IsItem (length structures.now) item.now }
-    ensures shapes { OnOk result (flat.new.shapes ≡ flat.old.shapes ++ item_shapes (shapes_of depth structures.now) item.now) }
-    ensures labels { OnOk result (flat.new.labels ≡ flat.old.labels ++ item_labels (labels_of depth structures.now) item.now) }
+    ensures shapes { OnOk result (flat.new.shapes ≡ flat.old.shapes ++ item_shapes
+        (shapes_of depth structures.now) item.now) }
+    ensures labels { OnOk result (flat.new.labels ≡ flat.old.labels ++ item_labels
+        (labels_of depth structures.now) item.now) }
 {
     match ready_item(alloc, structures, marks, item)? {
         Some(ready) => add_item(alloc, structures, marks, table, depth, &ready, flat),
@@ -207,8 +215,10 @@ fn part_from(
     requires marks { MarksAll structures.now marks.now }
     requires table { IsTable structures.now table.now }
     requires each { AllByRecursion (IsItem (length structures.now)) items.now }
-    ensures shapes { IfOk result (λ part. part.shapes ≡ flat_map (item_shapes (shapes_of depth structures.now)) items.now) }
-    ensures labels { IfOk result (λ part. part.labels ≡ flat_map (item_labels (labels_of depth structures.now)) items.now) }
+    ensures shapes { IfOk result
+        (λ part. part.shapes ≡ flat_map (item_shapes (shapes_of depth structures.now)) items.now) }
+    ensures labels { IfOk result
+        (λ part. part.labels ≡ flat_map (item_labels (labels_of depth structures.now)) items.now) }
 {
     let mut part = nothing(alloc);
     for item in items {
@@ -217,7 +227,8 @@ fn part_from(
     Ok(part)
 }
 
-/// The flat form of a structure, down chains of fewer references than this: so at most 65 structures stand on one another.
+/// The flat form of a structure, down chains of fewer references than this: so at most 65 structures stand on one
+/// another.
 #[cycle(flatten)]
 fn part_of(
     alloc: Global,
@@ -251,8 +262,8 @@ fn part_of(
     )
 }
 
-/// The flat form of a wide layout: that of the top structure, where a reference stands at each point of its grid for what its
-/// structure holds, turned and moved. Coordinates are in nanometres.
+/// The flat form of a wide layout: that of the top structure, where a reference stands at each point of its grid for
+/// what its structure holds, turned and moved. Coordinates are in nanometres.
 pub fn flatten_wide(alloc: Global, wide: &WideLayout) -> Result<Flat, Memory>
     requires { IsFlattenable wide.now }
     ensures { IfOk result (λ flat. flat ≡ wide_flat wide.now) }

@@ -15,8 +15,8 @@ use std::alloc::{AllocError, Global};
 use std::marker::Model;
 
 /// The corners of a boundary in turn, from a point back to it, in nanometres. The rectangles into which it is cut are
-/// counted and kept, so that it is cut once. They are not kept where they are more than twice as many as the corners, so
-/// that memory stays in proportion to these, nor of a plain rectangle, which is cut at once.
+/// counted and kept, so that it is cut once. They are not kept where they are more than twice as many as the corners,
+/// so that memory stays in proportion to these, nor of a plain rectangle, which is cut at once.
 #[derive(Drop)]
 pub struct Ring {
     points: List<Point>,

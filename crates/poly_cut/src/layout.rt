@@ -1,5 +1,5 @@
-// Layouts as other tools write them: boundaries with right angles, paths, and references that are turned and repeated (GDSII
-// Stream Format manual).
+// Layouts as other tools write them: boundaries with right angles, paths, and references that are turned and repeated
+// (GDSII Stream Format manual).
 use crate::kept::Ring;
 use aq_base::{Bytes, List};
 use geom::Label;
@@ -16,8 +16,8 @@ pub struct Point {
 pub enum Figure {
     /// The corners of a boundary. Consecutive corners differ in at most one coordinate.
     Ring(Ring),
-    /// The points at which a path begins, turns by a right angle, and ends. It is `half` wide to both sides, and goes `half`
-    /// past its two ends where it is extended.
+    /// The points at which a path begins, turns by a right angle, and ends. It is `half` wide to both sides, and goes
+    /// `half` past its two ends where it is extended.
     Path {
         extended: bool,
         half: u32,
@@ -32,8 +32,8 @@ pub struct Turn {
     pub quarter: u8,
 }
 
-/// The points at which a structure is repeated: `columns` by `rows` of them, each from 1 to 32,767. The steps are taken as
-/// they stand, whatever the turn.
+/// The points at which a structure is repeated: `columns` by `rows` of them, each from 1 to 32,767. The steps are taken
+/// as they stand, whatever the turn.
 #[derive(Clone, Copy, PartialEq, Eq)]
 pub struct Grid {
     pub columns: u16,
@@ -67,8 +67,8 @@ pub struct WideStructure {
     pub items: List<Item>,
 }
 
-/// The structures of a stream in order, and the number of the top, which no structure refers to. Structures are numbered
-/// from 0.
+/// The structures of a stream in order, and the number of the top, which no structure refers to. Structures are
+/// numbered from 0.
 #[derive(Clone, Drop, PartialEq)]
 pub struct WideLayout {
     pub structures: List<WideStructure>,

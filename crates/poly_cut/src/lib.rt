@@ -1,5 +1,5 @@
-//! Boundaries and paths cut into rectangles, and layouts with turned and repeated references flattened. Coordinates are in
-//! database units of one nanometre.
+//! Boundaries and paths cut into rectangles, and layouts with turned and repeated references flattened. Coordinates are
+//! in database units of one nanometre.
 #![tactic(auto)]
 
 mod boxes;

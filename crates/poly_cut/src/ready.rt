@@ -170,8 +170,8 @@ fn note_visit(visits: &mut Vec<u8>, waiting: &mut Vec<u32>, structure: u32) -> R
     Ok(())
 }
 
-/// How often each structure is visited from the top down, as far as two: once for each item that places it in each visit
-/// to the structure of that item. No clause rests on it: what it misses is made ready at each visit.
+/// How often each structure is visited from the top down, as far as two: once for each item that places it in each
+/// visit to the structure of that item. No clause rests on it: what it misses is made ready at each visit.
 fn visits(alloc: Global, structures: &[WideStructure], top: u32) -> Result<Vec<u8>, Memory> {
     let mut visits = Vec::with_capacity(alloc, structures.len())?;
     for _ in 0..structures.len() {

@@ -1,9 +1,13 @@
-// The rectangles of slabs, one on another. One that goes on through many slabs is touched where it begins and where it ends.
-ghost use Rattle.std.specs.Prelude.{◌≡◌, [], List as Items, ◌<◌, ◌≤◌, ◌⊎◌, ℕ, ℤ, ◌<ℤ◌, ◌≤ℤ◌, length, map, slice_get, drop, Some, None, IfOk, OnOk};
+// The rectangles of slabs, one on another. One that goes on through many slabs is touched where it begins and where it
+// ends.
+ghost use Rattle.std.specs.Prelude.{◌≡◌, [], List as Items, ◌<◌, ◌≤◌, ◌⊎◌, ℕ, ℤ, ◌<ℤ◌, ◌≤ℤ◌, length, map, slice_get};
+ghost use Rattle.std.specs.Prelude.{drop, Some, None, IfOk, OnOk};
 ghost use Rattle.geom.specs.Rectangle.{Rectangle};
 ghost use Rattle.poly_cut.specs.Cuts.{box};
 ghost use Rattle.poly_cut.specs.Code.Sweeping.{Rising, ReachesUp, last_at};
-ghost use Rattle.poly_cut.specs.Code.Levels.{cut_off, IsPair, Clear, IsOpen, FromLeft, Standing, IsHigh, BeginBelow, Opening, Whole, Behind, OffFrom, Risen, Goes, Begins, IsSupport, IsReached};
+ghost use Rattle.poly_cut.specs.Code.Levels.{cut_off, IsPair, Clear, IsOpen, FromLeft, Standing, IsHigh, BeginBelow};
+ghost use Rattle.poly_cut.specs.Code.Levels.{Opening, Whole, Behind, OffFrom, Risen, Goes, Begins, IsSupport};
+ghost use Rattle.poly_cut.specs.Code.Levels.{IsReached};
 
 use crate::ends::End;
 use crate::windows::{Level, first_pair, is_past};
@@ -12,8 +16,8 @@ use geom::Rect;
 use std::alloc::Global;
 use std::collections::BTreeMap;
 
-/// The rectangles so far, and at each left edge the number of the one that was begun last. Those that have not ended go up
-/// to the top of the ring.
+/// The rectangles so far, and at each left edge the number of the one that was begun last. Those that have not ended go
+/// up to the top of the ring.
 #[derive(Drop)]
 pub struct Stack {
     pub rects: List<Rect>,
@@ -69,7 +73,8 @@ fn raised(lower: &Rect, upper: &Rect) -> Rect
 fn join(stack: &mut Stack, upper: Rect) -> Result<(), Memory>
     requires stand { (x : ℤ) (n : ℕ) → last_at stack.old.last x ≡ Some n → n < length stack.old.rects }
     requires low { (n : ℕ) (r : Rectangle) → slice_get stack.old.rects n ≡ Some r → r.y0 ≤ℤ upper.y0 }
-    ensures { OnOk result (Goes stack.old.rects stack.old.last upper stack.new.rects stack.new.last ⊎ Begins stack.old.rects stack.old.last upper stack.new.rects stack.new.last) }
+    ensures { OnOk result (Goes stack.old.rects stack.old.last upper stack.new.rects stack.new.last
+        ⊎ Begins stack.old.rects stack.old.last upper stack.new.rects stack.new.last) }
 {
     upper.known();
     match support(stack, &upper) {
@@ -99,8 +104,8 @@ fn between(left: i64, right: i64, level: &Level) -> Rect
     }
 }
 
-/// Begins the rectangles of the window which begins at the end of this number, of those pairs of walls that have not been
-/// looked at, and counts those that have.
+/// Begins the rectangles of the window which begins at the end of this number, of those pairs of walls that have not
+/// been looked at, and counts those that have.
 fn begin_window(
     stack: &mut Stack,
     walls: &[i64],
@@ -115,8 +120,11 @@ fn begin_window(
     requires high { level.now.y <ℤ level.now.top }
     requires before { Opening from ends.now walls.now level.now.y level.now.top stack.old.rects stack.old.last }
     requires behind { Behind from walls.now (drop number ends.now) ends.now }
-    ensures after { IfOk result (λ n. Opening n ends.now walls.now level.now.y level.now.top stack.new.rects stack.new.last) }
-    ensures whole { IfOk result (λ n. (whole : ℤ → Items Rectangle) → Whole from walls.now level.now.y level.now.top stack.old.rects whole → Whole n walls.now level.now.y level.now.top stack.new.rects whole) }
+    ensures after { IfOk result
+        (λ n. Opening n ends.now walls.now level.now.y level.now.top stack.new.rects stack.new.last) }
+    ensures whole { IfOk result (λ n. (whole : ℤ → Items Rectangle)
+        → Whole from walls.now level.now.y level.now.top stack.old.rects whole
+        → Whole n walls.now level.now.y level.now.top stack.new.rects whole) }
     ensures more { IfOk result (λ n. from ≤ n) }
     ensures off { IfOk result (λ n. OffFrom n walls.now (drop number ends.now)) }
 {
@@ -145,7 +153,8 @@ pub fn begin_level(
     requires reaches { ReachesUp (map (cut_off level.now.y) stack.old.rects) stack.old.last level.now.y }
     requires standing { Standing stack.old.rects stack.old.last walls.now level.now.y }
     requires whole { IsHigh stack.old.rects level.now.y level.now.top }
-    requires clear { (i : ℕ) (a b : ℤ) → IsPair walls.now i a b → Clear ends.now a b → IsOpen stack.old.rects stack.old.last a b level.now.top }
+    requires clear { (i : ℕ) (a b : ℤ) → IsPair walls.now i a b → Clear ends.now a b
+        → IsOpen stack.old.rects stack.old.last a b level.now.top }
     ensures { OnOk result (Risen stack.old.rects walls.now level.now.y level.now.top stack.new.rects stack.new.last) }
 {
     let mut from: usize = 0;

@@ -23,7 +23,8 @@ fn across(low: &Point, high: &Point, reach: &Reach) -> Rect
     requires reach { IsReach reach.now }
     requires x { low.now.x <ℤ high.now.x }
     requires y { low.now.y ≤ℤ high.now.y }
-    ensures { result ≡ box (low.now.x -ℤ reach.now.under) (low.now.y -ℤ reach.now.half) (high.now.x +ℤ reach.now.over) (high.now.y +ℤ reach.now.half) }
+    ensures { result ≡ box (low.now.x -ℤ reach.now.under) (low.now.y -ℤ reach.now.half) (high.now.x +ℤ reach.now.over)
+        (high.now.y +ℤ reach.now.half) }
 {
     Rect {
         x0: low.x - reach.under,
@@ -40,7 +41,8 @@ fn upright(low: &Point, high: &Point, reach: &Reach) -> Rect
     requires reach { IsReach reach.now }
     requires x { low.now.x ≤ℤ high.now.x }
     requires y { low.now.y <ℤ high.now.y }
-    ensures { result ≡ box (low.now.x -ℤ reach.now.half) (low.now.y -ℤ reach.now.under) (high.now.x +ℤ reach.now.half) (high.now.y +ℤ reach.now.over) }
+    ensures { result ≡ box (low.now.x -ℤ reach.now.half) (low.now.y -ℤ reach.now.under) (high.now.x +ℤ reach.now.half)
+        (high.now.y +ℤ reach.now.over) }
 {
     Rect {
         x0: low.x - reach.half,

@@ -1,6 +1,7 @@
 // Shapes, labels and points that are turned and moved.
 ghost use Rattle.std.specs.Prelude.{◌≡◌, ◌<◌, ◌^◌, IfOk};
-ghost use Rattle.poly_cut.specs.Turns.{mirrored, quarter, turned, mirrored_point, quarter_point, turned_point, added, placed_shape, placed_label};
+ghost use Rattle.poly_cut.specs.Turns.{mirrored, quarter, turned, mirrored_point, quarter_point, turned_point, added};
+ghost use Rattle.poly_cut.specs.Turns.{placed_shape, placed_label};
 ghost use Rattle.poly_cut.specs.Bounds.{IsWithin, IsShapeWithin, IsLabelWithin, IsNear};
 ghost use Rattle.geom.specs.Rectangle.{moved};
 

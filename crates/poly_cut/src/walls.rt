@@ -1,5 +1,6 @@
 // The walls of a row.
-ghost use Rattle.std.specs.Prelude.{◌≡◌, ◌+◌, ◌<◌, ◌≤◌, ◌<ℤ◌, ◌∷◌, ◌++◌, ℤ, Some, IsTrue, take, drop, length, slice_get, OnOk};
+ghost use Rattle.std.specs.Prelude.{◌≡◌, ◌+◌, ◌<◌, ◌≤◌, ◌<ℤ◌, ◌∷◌, ◌++◌, ℤ, Some, IsTrue, take, drop, length};
+ghost use Rattle.std.specs.Prelude.{slice_get, OnOk};
 ghost use Rattle.poly_cut.specs.Cuts.{toggled};
 ghost use Rattle.poly_cut.specs.Code.Sweeping.{Rising};
 ghost use Rattle.poly_cut.specs.Code.Levels.{IsGap, all_toggled};
@@ -24,7 +25,8 @@ pub fn toggle(walls: &mut Vec<i64>, end: &End) -> Result<(), Memory>
 /// Puts walls at a place, at the x of two ends. Those behind it move once.
 fn put_two(walls: &mut Vec<i64>, place: usize, first: &End, second: &End) -> Result<(), Memory>
     requires { place ≤ length walls.old.items }
-    ensures { OnOk result (walls.new.items ≡ take place walls.old.items ++ first.now.x ∷ second.now.x ∷ drop place walls.old.items) }
+    ensures { OnOk result (walls.new.items ≡ take place walls.old.items
+        ++ first.now.x ∷ second.now.x ∷ drop place walls.old.items) }
 {
     let count = walls.len();
     walls.push(first.x)?;
@@ -106,7 +108,8 @@ fn toggle_absent(
     toggle(walls, second)
 }
 
-/// Toggles two ends, one after the other. Where their walls are neighbours, what stands right of them moves once at most.
+/// Toggles two ends, one after the other. Where their walls are neighbours, what stands right of them moves once at
+/// most.
 fn toggle_two(walls: &mut Vec<i64>, first: &End, second: &End) -> Result<(), Memory>
     requires { Rising walls.old.items }
     ensures { OnOk result (walls.new.items ≡ toggled second.now.x (toggled first.now.x walls.old.items)) }

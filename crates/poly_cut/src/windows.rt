@@ -1,5 +1,6 @@
 // Where walls change at a level.
-ghost use Rattle.std.specs.Prelude.{◌≡◌, ◌<◌, ◌≤◌, ℕ, suc, ◌+◌, length, slice_get, Some, drop, IsTrue, IsFalse, ℤ, ◌<ℤ◌, ◌≤ℤ◌};
+ghost use Rattle.std.specs.Prelude.{◌≡◌, ◌<◌, ◌≤◌, ℕ, suc, ◌+◌, length, slice_get, Some, drop, IsTrue, IsFalse, ℤ};
+ghost use Rattle.std.specs.Prelude.{◌<ℤ◌, ◌≤ℤ◌};
 ghost use Rattle.poly_cut.specs.Code.Sweeping.{Rising};
 ghost use Rattle.poly_cut.specs.Code.Levels.{Past, Reached};
 

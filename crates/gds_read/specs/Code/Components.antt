@@ -1,5 +1,6 @@
 -- Components of structures that lead to one another, and the walk that finds them.
-use Rattle.std.specs.Prelude.{◌≡◌, ℕ, suc, ◌+◌, ◌*◌, ◌<◌, ◌≤◌, List, [], ◌∷◌, ◌++◌, length, sum_by, true, slice_index, slice_set}
+use Rattle.std.specs.Prelude.{◌≡◌, ℕ, suc, ◌+◌, ◌*◌, ◌<◌, ◌≤◌, List, [], ◌∷◌, ◌++◌, length, sum_by, true, slice_index}
+use Rattle.std.specs.Prelude.{slice_set}
 use Rattle.gds_read.specs.declared.components.Walk.{Walk}
 use Rattle.gds_read.specs.Code.Graphs.{targets_at, refers, never_rises}
 
@@ -42,8 +43,8 @@ pub data IsDone (left work : List ℕ) (v : ℕ) : Type 0 where
   none_left : slice_index left v ≡ 0 → IsDone left work v
   waits : StandsIn work v → IsDone left work v
 
--- what the walk keeps: structures are not met, open on the stack or closed. Places on the stack lead to those in the same
--- block and above; what was followed leads nowhere below; closed ones lead to closed ones of no greater number.
+-- what the walk keeps: structures are not met, open on the stack or closed. Places on the stack lead to those in the
+-- same block and above; what was followed leads nowhere below; closed ones lead to closed ones of no greater number.
 pub record IsWalk (graph : List (List ℕ)) (met rank left stack starts work : List ℕ) (count : ℕ) : Type 0 where
   pub met_size : length met ≡ length graph
   pub rank_size : length rank ≡ length graph
@@ -53,7 +54,8 @@ pub record IsWalk (graph : List (List ℕ)) (met rank left stack starts work : L
   pub left_fits : (v : ℕ) → slice_index left v ≤ length (targets_at graph v)
   pub stands : (i : ℕ) → i < length stack → slice_index met (slice_index stack i) ≡ suc i
   pub unclosed : (i : ℕ) → i < length stack → slice_index rank (slice_index stack i) ≡ 0
-  pub found : (v i : ℕ) → slice_index met v ≡ suc i → slice_index rank v ≡ 0 → (i < length stack) × (slice_index stack i ≡ v)
+  pub found : (v i : ℕ) → slice_index met v ≡ suc i → slice_index rank v ≡ 0
+      → (i < length stack) × (slice_index stack i ≡ v)
   pub falls : (u t : ℕ) → 0 < slice_index rank u → refers graph u t ≡ true → t < length graph
       → (0 < slice_index rank t) × (slice_index rank t ≤ slice_index rank u)
   pub bounded : (v : ℕ) → slice_index rank v ≤ count
@@ -75,7 +77,8 @@ pub record IsWalk (graph : List (List ℕ)) (met rank left stack starts work : L
       → slice_index met (slice_index work a) < slice_index met (slice_index work b)
 
 abbrev pub Walks : List (List ℕ) → Walk → Type 0
-Walks graph w = IsWalk graph w.met.items w.rank.items w.left.items w.stack.items w.starts.items w.work.items (length w.closed.items)
+Walks graph w = IsWalk graph w.met.items w.rank.items w.left.items w.stack.items w.starts.items w.work.items
+    (length w.closed.items)
 
 -- ---- its steps
 
@@ -127,7 +130,8 @@ pub data IsRankedAt (rank stack : List ℕ) (low high : ℕ) (now : List ℕ) (v
 
 -- the structures between two places of the stack were given the next number
 pub record IsRanked (w : Walk) (low high : ℕ) (now : Walk) : Type 0 where
-  pub members : (i : ℕ) → low ≤ i → i < high → slice_index now.rank.items (slice_index w.stack.items i) ≡ length w.closed.items + 1
+  pub members : (i : ℕ) → low ≤ i → i < high → slice_index now.rank.items
+      (slice_index w.stack.items i) ≡ length w.closed.items + 1
   pub others : (v : ℕ) → IsRankedAt w.rank.items w.stack.items low high now.rank.items v
   pub size : length now.rank.items ≡ length w.rank.items
   pub closed : length now.closed.items + low ≡ length w.closed.items + high

@@ -1,5 +1,6 @@
 -- What changes at a level of a sweep.
-use Rattle.std.specs.Prelude.{◌≡◌, ◌⊎◌, ℕ, suc, ◌+◌, ◌<◌, ◌≤◌, Option, Bool, List, [], ◌∷◌, ◌++◌, Some, None, true, false, slice_get, slice_set, length, map, drop, ℤ, ◌<ℤ◌, ◌≤ℤ◌, int_lt, cond}
+use Rattle.std.specs.Prelude.{◌≡◌, ◌⊎◌, ℕ, suc, ◌+◌, ◌<◌, ◌≤◌, Option, Bool, List, [], ◌∷◌, ◌++◌, Some, None, true}
+use Rattle.std.specs.Prelude.{false, slice_get, slice_set, length, map, drop, ℤ, ◌<ℤ◌, ◌≤ℤ◌, int_lt, cond}
 use Rattle.std.specs.Ordering.{int_cmp, is_eq}
 use Rattle.std.specs.BTreeMap.{BTreeMap}
 use Rattle.geom.specs.Rectangle.{Rectangle}
@@ -22,7 +23,8 @@ FromLeft ends = (i j : ℕ) (e f : End) → i ≤ j → slice_get ends i ≡ Som
 
 -- so for the ends at one level
 abbrev pub LevelsFromLeft : List End → Type 0
-LevelsFromLeft ends = (i j : ℕ) (e f : End) → i ≤ j → slice_get ends i ≡ Some e → slice_get ends j ≡ Some f → e.y ≡ f.y → e.x ≤ℤ f.x
+LevelsFromLeft ends = (i j : ℕ) (e f : End) → i ≤ j → slice_get ends i ≡ Some e → slice_get ends j ≡ Some f → e.y ≡ f.y
+    → e.x ≤ℤ f.x
 
 -- from a to b lies left of the first window, which goes from the first end to the second, or right of it; a window with
 -- one end has no right side
@@ -95,7 +97,8 @@ pub record EndsLevel (ends : List End) (level : ℤ) (old new : List Rectangle) 
 
 -- t stands on a rectangle that was begun last at its left edge and reaches it, and that one goes on up to t's top; or t
 -- is added
-pub record Goes (rects : List Rectangle) (last : BTreeMap ℤ ℕ) (t : Rectangle) (new : List Rectangle) (after : BTreeMap ℤ ℕ) : Type 0 where
+pub record Goes (rects : List Rectangle) (last : BTreeMap ℤ ℕ) (t : Rectangle) (new : List Rectangle)
+    (after : BTreeMap ℤ ℕ) : Type 0 where
   pub place : ℕ
   pub rect : Rectangle
   pub found : last_at last t.x0 ≡ Some place
@@ -106,7 +109,8 @@ pub record Goes (rects : List Rectangle) (last : BTreeMap ℤ ℕ) (t : Rectangl
   pub rects_are : new ≡ slice_set rects place (box rect.x0 rect.y0 rect.x1 t.y1)
   pub last_is : (x : ℤ) → last_at after x ≡ last_at last x
 
-pub record Begins (rects : List Rectangle) (last : BTreeMap ℤ ℕ) (t : Rectangle) (new : List Rectangle) (after : BTreeMap ℤ ℕ) : Type 0 where
+pub record Begins (rects : List Rectangle) (last : BTreeMap ℤ ℕ) (t : Rectangle) (new : List Rectangle)
+    (after : BTreeMap ℤ ℕ) : Type 0 where
   pub none : (n : ℕ) (r : Rectangle) → last_at last t.x0 ≡ Some n → slice_get rects n ≡ Some r → r.x0 ≡ t.x0
       → r.x1 ≡ t.x1 → r.y1 <ℤ t.y0
   pub rects_are : new ≡ rects ++ t ∷ []
@@ -127,7 +131,8 @@ Whole h walls level top rects whole = (z c : ℤ) → level <ℤ z → z ≤ℤ 
     → all_joined (map (seen c level z) rects) (between level z (drop (h + h) walls)) ≡ whole z
 
 -- the rectangles of h pairs go on from the level, and all that are clear of the windows do so already
-pub record Opening (h : ℕ) (ends : List End) (walls : List ℤ) (level top : ℤ) (rects : List Rectangle) (last : BTreeMap ℤ ℕ) : Type 0 where
+pub record Opening (h : ℕ) (ends : List End) (walls : List ℤ) (level top : ℤ) (rects : List Rectangle)
+    (last : BTreeMap ℤ ℕ) : Type 0 where
   pub within : h + h ≤ length walls
   pub slab : (z c : ℤ) → level <ℤ z → z ≤ℤ top → IsCut walls h c → InSlab (map (seen c level z) rects) last level z c
   pub standing : Standing rects last walls level
@@ -145,8 +150,10 @@ abbrev pub OffFrom : ℕ → List ℤ → List End → Type 0
 OffFrom h walls rest = (i : ℕ) (a b : ℤ) → IsPair walls i a b → h ≤ i → Off rest a b
 
 -- the rectangles of the walls have begun at the level, or go on from it
-pub record Risen (old : List Rectangle) (walls : List ℤ) (level top : ℤ) (rects : List Rectangle) (last : BTreeMap ℤ ℕ) : Type 0 where
-  pub whole : (z : ℤ) → level <ℤ z → z ≤ℤ top → map (cut_off z) rects ≡ all_joined (map (cut_off level) old) (between level z walls)
+pub record Risen (old : List Rectangle) (walls : List ℤ) (level top : ℤ) (rects : List Rectangle)
+    (last : BTreeMap ℤ ℕ) : Type 0 where
+  pub whole : (z : ℤ) → level <ℤ z → z ≤ℤ top → map (cut_off z) rects ≡ all_joined (map (cut_off level) old)
+      (between level z walls)
   pub reaches : (z : ℤ) → level <ℤ z → z ≤ℤ top → ReachesUp (map (cut_off z) rects) last z
   pub standing : Standing rects last walls level
   pub high : IsHigh rects level top
@@ -160,10 +167,13 @@ IsReached r t false = r.x0 ≡ t.x0 → r.x1 ≡ t.x1 → r.y1 <ℤ t.y0
 
 -- a rectangle that was begun last at t's left edge and reaches t, or that there is none
 abbrev pub IsSupport : List Rectangle → BTreeMap ℤ ℕ → Rectangle → Option ℕ → Type 0
-IsSupport rects last t (Some n) = (last_at last t.x0 ≡ Some n) × ((r : Rectangle) → slice_get rects n ≡ Some r → IsReached r t true)
-IsSupport rects last t None = (n : ℕ) (r : Rectangle) → last_at last t.x0 ≡ Some n → slice_get rects n ≡ Some r → IsReached r t false
+IsSupport rects last t (Some n) = (last_at last t.x0 ≡ Some n)
+    × ((r : Rectangle) → slice_get rects n ≡ Some r → IsReached r t true)
+IsSupport rects last t None = (n : ℕ) (r : Rectangle) → last_at last t.x0 ≡ Some n → slice_get rects n ≡ Some r
+    → IsReached r t false
 
--- at a level: the rectangles reach it, those that are open stand between the pairs of walls below it, and none begins there
+-- at a level: the rectangles reach it, those that are open stand between the pairs of walls below it, and none begins
+-- there
 pub record AtLevel (rects : List Rectangle) (last : BTreeMap ℤ ℕ) (walls : List ℤ) (level top : ℤ) : Type 0 where
   pub rising : Rising walls
   pub reaches : ReachesUp (map (cut_off level) rects) last level

@@ -4,4 +4,6 @@ use Rattle.gds_read.specs.Code.Outlining.{outline_of}
 use Rattle.gds_read.proofs.chains.first_long.Given as goal
 
 abbrev pub invariant-loop-outline : goal.invariant-loop-outline
-invariant-loop-outline l = first_long (map outline_of l.structures) (map outline_of (drop l.outline-index l.structures)) ≡ first_long (map outline_of l.structures) (map outline_of l.structures)
+invariant-loop-outline l = first_long (map outline_of l.structures)
+    (map outline_of (drop l.outline-index l.structures)) ≡ first_long (map outline_of l.structures)
+    (map outline_of l.structures)

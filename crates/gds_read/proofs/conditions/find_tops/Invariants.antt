@@ -6,4 +6,6 @@ use Rattle.gds_read.proofs.conditions.find_tops.Given as goal
 
 abbrev pub invariant-loop-number : goal.invariant-loop-number
 invariant-loop-number l =
-    further_tops l.first (tops l.number (all_uses (map outline_of l.structures)) (map outline_of (drop l.number l.structures))) ≡ told_tops (tops 0 (all_uses (map outline_of l.structures)) (map outline_of l.structures))
+    further_tops l.first (tops l.number (all_uses (map outline_of l.structures))
+    (map outline_of (drop l.number l.structures))) ≡ told_tops
+    (tops 0 (all_uses (map outline_of l.structures)) (map outline_of l.structures))

@@ -5,4 +5,6 @@ use Rattle.gds_read.specs.Code.Outlining.{outline_of}
 use Rattle.gds_read.proofs.conditions.first_unknown.Given as goal
 
 abbrev pub invariant-loop-outline : goal.invariant-loop-outline
-invariant-loop-outline l = unnumbered (number_in l.numbers.entries) (all_uses (map outline_of (drop l.outline-index l.structures))) ≡ unnumbered (number_in l.numbers.entries) (all_uses (map outline_of l.structures))
+invariant-loop-outline l = unnumbered (number_in l.numbers.entries)
+    (all_uses (map outline_of (drop l.outline-index l.structures))) ≡ unnumbered (number_in l.numbers.entries)
+    (all_uses (map outline_of l.structures))

@@ -4,7 +4,11 @@ use Rattle.gds_read.specs.Code.Decoding.{IsSpelled, records_in}
 use Rattle.gds_read.proofs.cursor.field.Given as goal
 
 abbrev pub invariant-records : goal.invariant-records
-invariant-records l = record { whole : IsSpelled l.rest; same : field l.kind (records_in l.rest) ≡ field l.kind (records_in l.bytes) }
+invariant-records l = record {
+  whole : IsSpelled l.rest;
+  same : field l.kind (records_in l.rest) ≡ field l.kind
+      (records_in l.bytes);
+}
 
 abbrev pub decreases-records : goal.decreases-records
 decreases-records l = length l.rest

@@ -11,7 +11,16 @@ pub returns : goal.returns
 returns c =
     let f = front c.args.bytes.now c.requires.spelled c.requires.some in
     record {
-      value = omega (arith, f.least, f.enough, c.record_length.ensures, length-drop 4 (take (length_of c.args.bytes.now) c.args.bytes.now), length-take (length_of c.args.bytes.now) c.args.bytes.now);
+      value = omega (
+        arith,
+        f.least,
+        f.enough,
+        c.record_length.ensures,
+        length-drop 4
+            (take (length_of c.args.bytes.now) c.args.bytes.now),
+        length-take
+            (length_of c.args.bytes.now) c.args.bytes.now,
+      );
       within = omega (arith, f.enough, c.record_length.ensures);
       head = c.record_length.ensures;
     }

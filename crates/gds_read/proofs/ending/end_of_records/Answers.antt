@@ -14,7 +14,8 @@ returns-in-Stopped-clause-err c =
     let b = c.args.bytes.now in
     let known : IsProfile wide = inr refl in
     subst (λ (r : StreamRefusal). IsFirstRefusal b r) (sym c.bad.ensures)
-    (c.found_is_fault.ensures wide b c.in-Stopped.offset c.in-Stopped.kind known (λ i. omega (arith, c.type_inv.bytes i))
+    (c.found_is_fault.ensures wide b c.in-Stopped.offset c.in-Stopped.kind known
+    (λ i. omega (arith, c.type_inv.bytes i))
     (stopped_at b (c.steps_tell_scan.ensures wide b known) c.in-Stopped.offset c.in-Stopped.kind
     (c.in_ok-offset.ensures.told ∙ ap (λ (o : Outcome). told_as b o) c.in-Stopped.is)))
 

@@ -10,6 +10,9 @@ returns c =
     let wide = c.strict_streams_are_wide.ensures in
     let one = c.one_wide_reading.ensures.layout in
     record {
-      stream = λ bytes layout fits s. subst (λ (w : WideLayout). IsWideStream bytes w) (one bytes (wide_layout_of s.records) (wide bytes layout fits s)) (wide bytes layout fits s);
-      flat = λ bytes layout fits s. ap (λ (w : WideLayout). wide_flat w) (sym (one bytes (wide_layout_of s.records) (wide bytes layout fits s))) ∙ same_flat c.rectangles_are_rings.ensures.cut bytes layout fits s;
+      stream = λ bytes layout fits s. subst (λ (w : WideLayout). IsWideStream bytes w)
+          (one bytes (wide_layout_of s.records) (wide bytes layout fits s)) (wide bytes layout fits s);
+      flat = λ bytes layout fits s. ap (λ (w : WideLayout). wide_flat w)
+          (sym (one bytes (wide_layout_of s.records) (wide bytes layout fits s)))
+          ∙ same_flat c.rectangles_are_rings.ensures.cut bytes layout fits s;
     }

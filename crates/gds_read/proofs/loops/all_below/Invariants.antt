@@ -4,4 +4,5 @@ use Rattle.gds_read.specs.Code.Graphs.{all_below}
 use Rattle.gds_read.proofs.loops.all_below.Given as goal
 
 abbrev pub invariant-loop-target : goal.invariant-loop-target
-invariant-loop-target l = all_below (slice_index l.ranks) l.bound (drop l.target-index l.targets) ≡ all_below (slice_index l.ranks) l.bound l.targets
+invariant-loop-target l = all_below (slice_index l.ranks) l.bound (drop l.target-index l.targets) ≡ all_below
+    (slice_index l.ranks) l.bound l.targets

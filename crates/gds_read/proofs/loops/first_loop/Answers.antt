@@ -12,16 +12,21 @@ returns-then-not-falls c =
     let n = c.named-number.result in
     let ranks = c.as_slice.result.now in
     let are = subst (λ (r : List ℕ). AreComponents g r) (sym c.as_slice.ensures.value) c.in_ok-ranks.ensures in
-    loop_here c.args.structures.now c.loop-outline.outline-index c.outline-item.result c.loop-outline-test.true c.outline-item.is _ c.loop-outline.invariant true
+    loop_here c.args.structures.now c.loop-outline.outline-index c.outline-item.result c.loop-outline-test.true
+    c.outline-item.is _ c.loop-outline.invariant true
     (subst (λ (m : ℕ). IsBack (graph_of c.args.structures.now) m true) c.named-number.ensures
-    (subst (λ (x : List (List ℕ)). IsBack x n true) c.requires.graph (rises_back g ranks n are (sym c.falls.ensures ∙ c.if-not-falls.true)))) refl
+    (subst (λ (x : List (List ℕ)). IsBack x n true) c.requires.graph
+    (rises_back g ranks n are (sym c.falls.ensures ∙ c.if-not-falls.true)))) refl
 
 pub loop-outline-preserved : goal.loop-outline-preserved
 loop-outline-preserved c =
     let g = c.args.graph.now in
     let n = c.named-number.result in
     let ranks = c.as_slice.result.now in
-    let are : AreComponents g ranks = subst (λ (r : List ℕ). AreComponents g r) (sym c.as_slice.ensures.value) c.in_ok-ranks.ensures in
-    loop_next c.args.structures.now c.loop-outline.outline-index c.outline-item.result c.loop-outline-test.true c.outline-item.is _ c.loop-outline.invariant false
+    let are : AreComponents g ranks = subst (λ (r : List ℕ). AreComponents g r)
+    (sym c.as_slice.ensures.value) c.in_ok-ranks.ensures in
+    loop_next c.args.structures.now c.loop-outline.outline-index c.outline-item.result c.loop-outline-test.true
+    c.outline-item.is _ c.loop-outline.invariant false
     (subst (λ (m : ℕ). IsBack (graph_of c.args.structures.now) m false) c.named-number.ensures
-    (subst (λ (x : List (List ℕ)). IsBack x n false) c.requires.graph (falls_back g (slice_index ranks) n are.never (sym c.falls.ensures ∙ c.if-not-falls.false)))) refl
+    (subst (λ (x : List (List ℕ)). IsBack x n false) c.requires.graph
+    (falls_back g (slice_index ranks) n are.never (sym c.falls.ensures ∙ c.if-not-falls.false)))) refl

@@ -9,4 +9,6 @@ pub loop-item-preserved : goal.loop-item-preserved
 loop-item-preserved c t =
     let none : NamedUse = record { place = 0; name = record { ref_ptr = (0, 0); now = [] } } in
     let item : NamedUse = get_or c.args.uses.now c.loop-item.item-index none in
-    uses_more t c.args.uses.now c.loop-item.item-index item (texts c.args.used.now.keys) _ _ c.loop-item-test.true (any_default c.args.uses.now c.loop-item.item-index none item c.loop-item-test.true) (c.loop-item.invariant t) c.in_ok-add.ensures
+    uses_more t c.args.uses.now c.loop-item.item-index item (texts c.args.used.now.keys) _ _ c.loop-item-test.true
+    (any_default c.args.uses.now c.loop-item.item-index none item c.loop-item-test.true)
+    (c.loop-item.invariant t) c.in_ok-add.ensures

@@ -11,9 +11,18 @@ records-preserved c =
     let size = c.length_at-at.ensures in
     record {
       whole = g.spelled_rest;
-      fits = omega (arith, i.fits, size.head, size.within, ap (λ (x : List ℕ). length x) g.behind, length-drop (length_of c.records.rest.now) c.records.rest.now);
+      fits = omega (
+        arith,
+        i.fits,
+        size.head,
+        size.within,
+        ap (λ (x : List ℕ). length x) g.behind,
+        length-drop
+            (length_of c.records.rest.now) c.records.rest.now,
+      );
       few = omega (arith, i.few, g.less);
-      same = outlines_skip c.records.at c.records.rest.now _ g c.length_at-at.result _ _ (λ e. c.if-kind-eq-BGNSTR.false (c.kind_at-kind.ensures ∙ e)) size.value i.same;
+      same = outlines_skip c.records.at c.records.rest.now _ g c.length_at-at.result _ _
+          (λ e. c.if-kind-eq-BGNSTR.false (c.kind_at-kind.ensures ∙ e)) size.value i.same;
     }
 
 pub returns-clause-same : goal.returns-clause-same

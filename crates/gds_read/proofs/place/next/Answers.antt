@@ -11,7 +11,8 @@ returns-in-On c = goes_on c.args.kind c.args.place c.follow.result c.requires c.
 pub returns-in-Past : goal.returns-in-Past
 returns-in-Past c =
     subst (λ (l : Language). MatchOption c.next_at.result (l ≡ Nothing) (IsAt l))
-    (sym (goes_past c.args.kind c.args.place c.follow.result c.requires c.follow.ensures c.in-Past.is)) c.next_at.ensures
+    (sym (goes_past c.args.kind c.args.place c.follow.result c.requires c.follow.ensures c.in-Past.is))
+    c.next_at.ensures
 
 pub returns-in-Barred : goal.returns-in-Barred
 returns-in-Barred c = may_not c.args.kind c.args.place c.follow.result c.requires c.follow.ensures c.in-Barred.is

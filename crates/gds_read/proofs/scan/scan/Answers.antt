@@ -55,9 +55,11 @@ records-preserved c =
     let s : Stands _ i.turns l k c.records.at c.args.bytes.now rest
     = record { here = c.split_at.ensures.back; enough = i.enough; same = i.same } in
     let g = subst (λ (s : Step). IsStep l k rest s) c.in-On.is c.in_ok-next.ensures in
-    let f = fits_here _ i.turns l k c.records.at c.args.bytes.now rest s c.in-On.next c.record_length-at.result g i.within
+    let f = fits_here _ i.turns l k c.records.at c.args.bytes.now rest s c.in-On.next
+    c.record_length-at.result g i.within
     c.record_length-at.ensures in
-    let new = kept c.opener_after-element.result c.colrow_after-colrow.result.now (texts c.if-kind-eq-STRNAME.names.keys) in
+    let new = kept c.opener_after-element.result c.colrow_after-colrow.result.now
+    (texts c.if-kind-eq-STRNAME.names.keys) in
     record {
       within = f.0;
       clear = g.next.clear;
@@ -71,6 +73,7 @@ records-preserved c =
             | then-kind-eq-STRNAME+in_ok-add w ↦ rw w.names-is
                 (named l k _ rest w.trimmed.result.now g.sound w.if-kind-eq-STRNAME.true
                 (w.trimmed.ensures ∙ ap (λ (t : List ℕ). trimmed t) w.content.ensures) w.in_ok-add.ensures)
-            | else-kind-eq-STRNAME w ↦ rw w.names-is (unnamed (texts c.records.names.keys) rest w.if-kind-eq-STRNAME.false)
+            | else-kind-eq-STRNAME w ↦ rw w.names-is
+                (unnamed (texts c.records.names.keys) rest w.if-kind-eq-STRNAME.false)
           ]));
     }

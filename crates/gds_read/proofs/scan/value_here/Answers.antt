@@ -18,7 +18,8 @@ returns c =
     let held = c.content-data.result.now in
     let named : kind_of b ≡ 6 → c.if-bytes-eq-STRNAME.taken ≡ is_listed (trimmed held) names
     = elim c.if-bytes-eq-STRNAME.branch [
-      | then-bytes-eq-STRNAME w ↦ (λ e. w.taken-is ∙ w.is_taken-taken.ensures ∙ ap (λ (t : List ℕ). is_listed t names) w.trimmed.ensures)
+      | then-bytes-eq-STRNAME w ↦ (λ e. w.taken-is ∙ w.is_taken-taken.ensures
+          ∙ ap (λ (t : List ℕ). is_listed t names) w.trimmed.ensures)
       | else-bytes-eq-STRNAME w ↦ (λ e. absurd (w.if-bytes-eq-STRNAME.false e))
     ] in
     IfOk-weaker c.wide_fault.result _ _

@@ -12,6 +12,7 @@ pub returns : goal.returns
 returns c =
     let i = c.zeros.invariant in
     c.split_at.ensures.front ∙ elim c.zeros-test.branch [
-      | then-zeros-test+else-content-end-eq0 w ↦ trim_end _ _ _ i.within (omega arith) refl w.if-content-end-eq0.false i.same
+      | then-zeros-test+else-content-end-eq0 w ↦ trim_end _ _ _ i.within
+          (omega arith) refl w.if-content-end-eq0.false i.same
       | else-zeros-test w ↦ trim_none _ _ (omega arith) i.same
     ]

@@ -11,7 +11,8 @@ invariant-records l = record {
   within : l.size ≤ length l.part;
   passed : IsSpelled (take l.size l.part);
   left : IsSpelled (drop l.size l.part);
-  same : l.items ++ map (item_of (names_in l.structures)) (left_parts l.part l.size) ≡ map (item_of (names_in l.structures)) (element_parts (records_in l.bytes));
+  same : l.items ++ map (item_of (names_in l.structures)) (left_parts l.part l.size) ≡ map
+      (item_of (names_in l.structures)) (element_parts (records_in l.bytes));
 }
 
 abbrev pub decreases-records : goal.decreases-records

@@ -5,4 +5,5 @@ use Rattle.gds_read.proofs.Walks.{starts_end}
 use Rattle.gds_read.proofs.wide_structures.wide_structures.Goals as goal
 
 pub returns : goal.returns
-returns c = starts_end (wide_structure_of (names_in c.args.outlines.now)) c.records.rest.now _ _ (search rules) c.records.invariant.same
+returns c = starts_end (wide_structure_of (names_in c.args.outlines.now)) c.records.rest.now _ _
+    (search rules) c.records.invariant.same

@@ -8,7 +8,8 @@ use Rattle.gds_read.proofs.wide_structures.wide_structures.Given as goal
 abbrev pub invariant-records : goal.invariant-records
 invariant-records l = record {
   whole : IsSpelled l.rest;
-  same : l.found ++ map (wide_structure_of (names_in l.outlines)) (starts (records_in l.rest)) ≡ map (wide_structure_of (names_in l.outlines)) (starts (records_in l.bytes));
+  same : l.found ++ map (wide_structure_of (names_in l.outlines)) (starts (records_in l.rest)) ≡ map
+      (wide_structure_of (names_in l.outlines)) (starts (records_in l.bytes));
 }
 
 abbrev pub decreases-records : goal.decreases-records

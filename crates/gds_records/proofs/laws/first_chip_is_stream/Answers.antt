@@ -6,4 +6,5 @@ use Rattle.gds_records.proofs.laws.first_chip_is_stream.Goals as goal
 
 pub returns-clause-stream : goal.returns-clause-stream
 returns-clause-stream c =
-    subst (λ (b : List ℕ). IsStream b first_layout) first_written (c.written_is_read.ensures first_layout c.first_chip_is_writable.ensures)
+    subst (λ (b : List ℕ). IsStream b first_layout) first_written
+    (c.written_is_read.ensures first_layout c.first_chip_is_writable.ensures)

@@ -1,4 +1,5 @@
-use Rattle.gds_records.proofs.Found.{wide_no_fault, wide_stream_layout, wide_stream_no_fault, wide_found, wide_fault_found}
+use Rattle.gds_records.proofs.Found.{wide_no_fault, wide_stream_layout, wide_stream_no_fault, wide_found}
+use Rattle.gds_records.proofs.Found.{wide_fault_found}
 use Rattle.gds_records.proofs.laws.one_wide_reading.Goals as goal
 
 pub returns-clause-stream : goal.returns-clause-stream

@@ -7,5 +7,6 @@ returns c =
     then c.in_ok-put_mark.ensures
     (then c.in_ok-put_number.ensures
     (then c.in_ok-put_number-2.ensures
-    (then (corners_at c.bits.result c.bits-2.result c.bits-3.result c.bits-4.result c.args.shape.now.rect (search rules) (search rules) (search rules) (search rules) c.in_ok-put_corners.ensures)
+    (then (corners_at c.bits.result c.bits-2.result c.bits-3.result c.bits-4.result c.args.shape.now.rect (search rules)
+    (search rules) (search rules) (search rules) c.in_ok-put_corners.ensures)
     (last c.in_ok-put_mark-2.ensures))))

@@ -6,5 +6,6 @@ pub returns : goal.returns
 returns c =
     then c.in_ok-put_mark.ensures
     (then c.in_ok-put_text.ensures
-    (then (point_at c.bits.result c.bits-2.result c.args.x c.args.y (search rules) (search rules) c.in_ok-put_place.ensures)
+    (then (point_at c.bits.result c.bits-2.result c.args.x c.args.y (search rules)
+    (search rules) c.in_ok-put_place.ensures)
     (last c.in_ok-put_mark-2.ensures)))

@@ -7,7 +7,8 @@ abbrev pub invariant-ends : goal.invariant-ends
 invariant-ends l = record {
   more : l.number < l.next;
   within : l.next ≤ length l.ends;
-  level : (i : ℕ) (e f : End) → slice_get l.ends l.number ≡ Some e → l.number ≤ i → i < l.next → slice_get l.ends i ≡ Some f → f.y ≤ℤ e.y;
+  level : (i : ℕ) (e f : End) → slice_get l.ends l.number ≡ Some e → l.number ≤ i → i < l.next
+      → slice_get l.ends i ≡ Some f → f.y ≤ℤ e.y;
 }
 
 abbrev pub decreases-ends : goal.decreases-ends

@@ -5,7 +5,8 @@ use Rattle.poly_cut.proofs.grids.push_row.Given as goal
 
 abbrev pub invariant-columns : goal.invariant-columns
 invariant-columns l = record {
-  whole : l.points.items ++ row_points l.left l.step l.at ≡ l.initial.points.items ++ row_points l.columns l.step l.start;
+  whole : l.points.items ++ row_points l.left l.step l.at ≡ l.initial.points.items
+      ++ row_points l.columns l.step l.start;
   row : IsRow l.left l.step l.at;
 }
 

@@ -22,6 +22,7 @@ returns-in-Some c =
       left = on.0;
       right = on.1.0;
       level = on.1.1;
-      rects_are = c.set.ensures ∙ ap (λ (r : Rectangle). slice_set c.args.stack.now.rects c.in-Some.number r) c.raised-whole.ensures;
+      rects_are = c.set.ensures ∙ ap (λ (r : Rectangle). slice_set c.args.stack.now.rects c.in-Some.number r)
+          c.raised-whole.ensures;
       last_is = λ x. refl;
     })

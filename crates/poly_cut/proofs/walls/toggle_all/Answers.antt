@@ -11,7 +11,9 @@ pairs-preserved c =
     record {
       within = omega (arith, lt);
       toggled =
-          toggled_two c.pairs.walls.items (drop (c.pairs.number + 2) c.args.ends.now) c.args.walls.now.items c.args.ends.now _ _ c.toggle_two.new.walls.items
-          (subst (λ (l : List End). Toggled c.pairs.walls.items l c.args.walls.now.items c.args.ends.now) (two_more c.args.ends.now c.pairs.number (end (pos 0) (pos 0)) lt) c.pairs.invariant.toggled)
+          toggled_two c.pairs.walls.items (drop (c.pairs.number + 2) c.args.ends.now) c.args.walls.now.items
+          c.args.ends.now _ _ c.toggle_two.new.walls.items
+          (subst (λ (l : List End). Toggled c.pairs.walls.items l c.args.walls.now.items c.args.ends.now)
+          (two_more c.args.ends.now c.pairs.number (end (pos 0) (pos 0)) lt) c.pairs.invariant.toggled)
           c.in_ok-toggle_two.ensures;
     }

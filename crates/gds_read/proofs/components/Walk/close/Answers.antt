@@ -9,5 +9,7 @@ pub returns : goal.returns
 returns c =
     let e = ap (λ (xs : List ℕ). length xs) c.in_ok-number_from.ensures.starts in
     let l = c.requires.last.size in
-    closed_step c.args.graph.now c.args.self.now c.number_from.new.self _ c.args.start (c.len-count.result - 1) c.requires.walks c.requires.last c.requires.idle c.in_ok-number_from.ensures
-    (omega (arith, e, l, c.len-count.ensures)) refl refl refl c.truncate.ensures.items c.truncate-2.ensures.items refl refl
+    closed_step c.args.graph.now c.args.self.now c.number_from.new.self _ c.args.start
+    (c.len-count.result - 1) c.requires.walks c.requires.last c.requires.idle c.in_ok-number_from.ensures
+    (omega (arith, e, l, c.len-count.ensures)) refl refl refl c.truncate.ensures.items
+    c.truncate-2.ensures.items refl refl

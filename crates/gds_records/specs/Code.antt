@@ -1,0 +1,2 @@
+-- Words of the code alone: what a buffer gains.
+pub mod Buffer
