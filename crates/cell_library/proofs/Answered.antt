@@ -1,5 +1,6 @@
 -- What a judgement of the table of a text says of the text.
-use Rattle.std.proofs.Common.{ℕ, ◌≡◌, ◌⊎◌, inl, inr, List, Some, None, Result, Ok, Err, refl, sym, ap, subst, ◌∙◌, ◌<◌, arith, IsUtf8}
+use Rattle.std.proofs.Common.{ℕ, ◌≡◌, ◌⊎◌, inl, inr, List, Some, None, Result, Ok, Err, refl, sym, ap, subst, ◌∙◌, ◌<◌}
+use Rattle.std.proofs.Common.{arith, IsUtf8}
 use Rattle.std.proofs.lemmas.Bool.{cases_lt}
 use Rattle.toml.specs.Data.{Members}
 use Rattle.toml.specs.Parse.{parse_document}
@@ -15,7 +16,8 @@ use Rattle.cell_library.specs.Says.{library_of, LibFault, IsDocument, SaysLibrar
 use Rattle.cell_library.specs.Code.Stages.{IsJudged}
 
 -- the answer on a text that is a document
-pub answered : (text : List ℕ) (ms : Members) (result : Result LibraryView LibraryRefusal) → IsDocument text ms → IsJudged ms result → Answers text result
+pub answered : (text : List ℕ) (ms : Members) (result : Result LibraryView LibraryRefusal) → IsDocument text ms
+    → IsJudged ms result → Answers text result
 answered text ms (Ok l) d j = record { table = ms; document = d; faultless = j.0; values = j.1; laws = j.2 }
 answered text ms (Err (Bad Text)) d j = absurd j
 answered text ms (Err (Bad (Key key))) d j = record { table = ms; document = d; first = j }
@@ -31,12 +33,14 @@ not_refused : (text : List ℕ) (ms : Members) → IsDocument text ms → (IsUtf
 not_refused text ms d refused = let e : Some ms ≡ None = sym d.parsed ∙ refused d.utf8 in cc
 
 -- a table with a fault is no library
-excludes : (ms : Members) (fault : LibraryFault) (l : LibraryView) → LibFault ms fault → table_fault ms ≡ None → l ≡ library_of ms → ((law : LawName) → Holds law l) → ⊥
+excludes : (ms : Members) (fault : LibraryFault) (l : LibraryView) → LibFault ms fault → table_fault ms ≡ None
+    → l ≡ library_of ms → ((law : LawName) → Holds law l) → ⊥
 excludes ms Text l first none values laws = first
 excludes ms (Key key) l first none values laws = let e : Some (Key key) ≡ None = sym first ∙ none in cc
 excludes ms (Value key z) l first none values laws = let e : Some (Value key z) ≡ None = sym first ∙ none in cc
 excludes ms (Missing kind) l first none values laws = let e : Some (Missing kind) ≡ None = sym first ∙ none in cc
-excludes ms (Law number) l first none values laws = first.1.broken (subst (λ (x : LibraryView). Holds first.1.law x) values (laws first.1.law))
+excludes ms (Law number) l first none values laws = first.1.broken
+    (subst (λ (x : LibraryView). Holds first.1.law x) values (laws first.1.law))
 
 not_both : (text : List ℕ) (fault : LibraryFault) (l : LibraryView) → HasFault text fault → SaysLibrary text l → ⊥
 not_both text fault l h s =
@@ -62,7 +66,8 @@ abbrev IsBroken : LibraryView → LibraryFault → Type 0
 IsBroken l (Law number) = BreaksFirst l number
 IsBroken l fault = ⊥
 
-early_or_law : (ms : Members) (fault : LibraryFault) → LibFault ms fault → (table_fault ms ≡ Some fault) ⊎ ((table_fault ms ≡ None) × IsBroken (library_of ms) fault)
+early_or_law : (ms : Members) (fault : LibraryFault) → LibFault ms fault → (table_fault ms ≡ Some fault)
+    ⊎ ((table_fault ms ≡ None) × IsBroken (library_of ms) fault)
 early_or_law ms Text first = absurd first
 early_or_law ms (Key key) first = inl first
 early_or_law ms (Value key z) first = inl first
@@ -94,13 +99,15 @@ one_fault ms f g hf hg =
       ]
     ]
 
-same_fault : (text : List ℕ) (f g : LibraryFault) → HasFault text f → HasFault text g → ◌≡◌ {A = Result LibraryView LibraryRefusal} (Err (Bad f)) (Err (Bad g))
+same_fault : (text : List ℕ) (f g : LibraryFault) → HasFault text f → HasFault text g
+    → ◌≡◌ {A = Result LibraryView LibraryRefusal} (Err (Bad f)) (Err (Bad g))
 same_fault text f g a b =
     let same : a.table ≡ b.table = one_table text a.table b.table a.document b.document in
     ap (λ x. Err (Bad x)) (one_fault b.table f g (subst (λ (ms : Members). LibFault ms f) same a.first) b.first)
 
 -- a text with a fault
-pub faulty_answer : (text : List ℕ) (result : Result LibraryView LibraryRefusal) (fault : LibraryFault) → Answers text result → HasFault text fault → (result ≡ Err (Bad fault)) ⊎ (result ≡ Err Memory)
+pub faulty_answer : (text : List ℕ) (result : Result LibraryView LibraryRefusal) (fault : LibraryFault)
+    → Answers text result → HasFault text fault → (result ≡ Err (Bad fault)) ⊎ (result ≡ Err Memory)
 faulty_answer text (Ok l) fault answer h = absurd (not_both text fault l h answer)
 faulty_answer text (Err (Bad Text)) fault answer h = absurd (not_refused text h.table h.document answer)
 faulty_answer text (Err (Bad (Key key))) fault answer h = inl (same_fault text (Key key) fault answer h)

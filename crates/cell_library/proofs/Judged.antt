@@ -1,5 +1,6 @@
 -- The faults before the laws are faults of keys, values and kinds: none is of the text or of a law.
-use Rattle.std.proofs.Common.{ℕ, ℤ, ◌≡◌, List, [], ◌∷◌, map, Option, Some, None, option_map, option_and_then, subst, Err, IfSome, find, is_none, codes}
+use Rattle.std.proofs.Common.{ℕ, ℤ, ◌≡◌, List, [], ◌∷◌, map, Option, Some, None, option_map, option_and_then, subst}
+use Rattle.std.proofs.Common.{Err, IfSome, find, is_none, codes}
 use Rattle.std.specs.Option.{option_or}
 use Rattle.std.specs.List.{AllByRecursion}
 use Rattle.toml.specs.Data.{Data, Members, get_member}
@@ -9,7 +10,10 @@ use Rattle.cell_library.specs.declared.fault.LibraryFault.TheVariants.{Text, Key
 use Rattle.cell_library.specs.Kinds.{all_kinds, mandatory_kinds, key_of}
 use Rattle.cell_library.specs.Numbers.{Number, numbers}
 use Rattle.cell_library.specs.Documents.{integer_under, integers_under, table_under, natural_within, other_keys, least}
-use Rattle.cell_library.specs.Faults.{first_some, top_keys, pins_keys, unknown_key_fault, range_fault, integer_fault, number_fault, numbers_fault, missing_fault, dotted, columns_fault_of, columns_fault, inner_key_fault, inner_fault, given_fault, kind_fault, kinds_fault, table_fault}
+use Rattle.cell_library.specs.Faults.{first_some, top_keys, pins_keys, unknown_key_fault, range_fault, integer_fault}
+use Rattle.cell_library.specs.Faults.{number_fault, numbers_fault, missing_fault, dotted, columns_fault_of}
+use Rattle.cell_library.specs.Faults.{columns_fault, inner_key_fault, inner_fault, given_fault, kind_fault, kinds_fault}
+use Rattle.cell_library.specs.Faults.{table_fault}
 use Rattle.cell_library.specs.declared.fault.LibraryRefusal.{LibraryRefusal}
 use Rattle.cell_library.specs.declared.fault.LibraryRefusal.TheVariants.{Bad, Memory}
 use Rattle.cell_library.specs.Library.{LibraryView}
@@ -30,11 +34,13 @@ first : (os : List (Option LibraryFault)) → AllByRecursion (λ o. IfSome o IsE
 first [] all = tt
 first (o ∷ os) all = either o (first_some os) all.0 (first os all.1)
 
-mapped : {X : Type 0} (f : X → LibraryFault) (o : Option X) → ((x : X) → IsEarly (f x)) → IfSome (option_map f o) IsEarly
+mapped : {X : Type 0} (f : X → LibraryFault) (o : Option X) → ((x : X) → IsEarly (f x))
+    → IfSome (option_map f o) IsEarly
 mapped f None h = tt
 mapped f (Some x) h = h x
 
-each : {X : Type 0} (f : X → Option LibraryFault) (xs : List X) → ((x : X) → IfSome (f x) IsEarly) → AllByRecursion (λ o. IfSome o IsEarly) (map f xs)
+each : {X : Type 0} (f : X → Option LibraryFault) (xs : List X) → ((x : X) → IfSome (f x) IsEarly)
+    → AllByRecursion (λ o. IfSome o IsEarly) (map f xs)
 each f [] h = tt
 each f (x ∷ xs) h = (h x, each f xs h)
 
@@ -56,10 +62,14 @@ of_side inner kind part = of_columns (dotted kind part) (integers_under inner pa
 of_inner : (kind : CellKind) (o : Option Members) → IfSome (inner_fault kind o) IsEarly
 of_inner kind None = tt
 of_inner kind (Some inner) =
-    first (inner_key_fault inner kind ∷ columns_fault inner kind (codes "inputs") ∷ columns_fault inner kind (codes "outputs") ∷ [])
-    (mapped (λ key. Key (dotted kind key)) (least (other_keys pins_keys inner)) (λ key. tt), (of_side inner kind (codes "inputs"), (of_side inner kind (codes "outputs"), tt)))
+    first (inner_key_fault inner kind ∷ columns_fault inner kind
+    (codes "inputs") ∷ columns_fault inner kind (codes "outputs") ∷ []) (
+      mapped (λ key. Key (dotted kind key)) (least (other_keys pins_keys inner)) (λ key. tt),
+      (of_side inner kind (codes "inputs"), (of_side inner kind (codes "outputs"), tt)),
+    )
 
-of_value : (ms : Members) (kind : CellKind) (value : Option Data) → IfSome (option_and_then (λ v. given_fault ms kind) value) IsEarly
+of_value : (ms : Members) (kind : CellKind) (value : Option Data)
+    → IfSome (option_and_then (λ v. given_fault ms kind) value) IsEarly
 of_value ms kind None = tt
 of_value ms kind (Some value) = of_inner kind (table_under ms (key_of kind))
 
@@ -68,10 +78,16 @@ early ms =
     first (unknown_key_fault ms ∷ numbers_fault ms ∷ missing_fault ms ∷ kinds_fault ms ∷ []) (
       mapped (λ key. Key key) (least (other_keys top_keys ms)) (λ key. tt),
       (
-        first (map (number_fault ms) numbers) (each (number_fault ms) numbers (λ number. of_integer number (integer_under ms number.key))),
+        first (map (number_fault ms) numbers)
+            (each (number_fault ms) numbers (λ number. of_integer number (integer_under ms number.key))),
         (
-          mapped (λ kind. Missing kind) (find (λ kind. is_none (get_member (key_of kind) ms)) mandatory_kinds) (λ kind. tt),
-          (first (map (kind_fault ms) all_kinds) (each (kind_fault ms) all_kinds (λ kind. of_value ms kind (get_member (key_of kind) ms))), tt),
+          mapped (λ kind. Missing kind)
+              (find (λ kind. is_none (get_member (key_of kind) ms)) mandatory_kinds) (λ kind. tt),
+          (
+            first (map (kind_fault ms) all_kinds)
+                (each (kind_fault ms) all_kinds (λ kind. of_value ms kind (get_member (key_of kind) ms))),
+            tt,
+          ),
         ),
       ),
     )
@@ -79,12 +95,14 @@ early ms =
 -- the first fault before the laws is the first
 pub early_first : (ms : Members) (fault : LibraryFault) → table_fault ms ≡ Some fault → LibFault ms fault
 early_first ms Text e = let h : ⊥ = subst (λ (o : Option LibraryFault). IfSome o IsEarly) e (early ms) in h
-early_first ms (Law number) e = let h : ⊥ = subst (λ (o : Option LibraryFault). IfSome o IsEarly) e (early ms) in absurd h
+early_first ms (Law number) e = let h : ⊥ =
+    subst (λ (o : Option LibraryFault). IfSome o IsEarly) e (early ms) in absurd h
 early_first ms (Key key) e = e
 early_first ms (Value key z) e = e
 early_first ms (Missing kind) e = e
 
 -- a refusal before the laws
-pub refused_early : (ms : Members) (P : LibraryView → Type 0) (refusal : LibraryRefusal) → Judges (table_fault ms) P (Err refusal) → IsJudged ms (Err refusal)
+pub refused_early : (ms : Members) (P : LibraryView → Type 0) (refusal : LibraryRefusal)
+    → Judges (table_fault ms) P (Err refusal) → IsJudged ms (Err refusal)
 refused_early ms P (Bad fault) j = early_first ms fault j
 refused_early ms P Memory j = tt

@@ -1,15 +1,14 @@
--- The kinds and the laws in the order of their numbers: each stands at its number.
+-- The laws in the order of their numbers: each stands at its number.
 use Rattle.std.proofs.Common.{ℕ, ◌≡◌, ◌<◌, ◌+◌, ◌-◌, List, [], ◌∷◌, zero, suc, get_or, length, arith, refl}
-use Rattle.circuit.specs.declared.cell_kind.CellKind.{CellKind}
-use Rattle.circuit.specs.declared.cell_kind.CellKind.TheVariants.{Buffer, Inverter, Zero, One, Split2, Split3, Majority}
 use Rattle.cell_library.specs.declared.laws.PinLaw.TheVariants.{Counts, InputSlots, OutputSlots, OddInputs, EvenOutputs}
 use Rattle.cell_library.specs.declared.laws.Law.{Law}
-use Rattle.cell_library.specs.declared.laws.Law.TheVariants.{EvenSizes, EvenColumns, ViaInWire, TracksApart, PinsApart, OfPins, Reach, WireInPin, WidestCell, Capacity}
-use Rattle.cell_library.specs.Kinds.{all_kinds}
+use Rattle.cell_library.specs.declared.laws.Law.TheVariants.{EvenSizes, EvenColumns, ViaInWire, TracksApart, PinsApart}
+use Rattle.cell_library.specs.declared.laws.Law.TheVariants.{OfPins, Reach, WireInPin, WidestCell, Capacity}
 use Rattle.cell_library.specs.Laws.{law_number}
 
 abbrev pub all_laws : List Law
-all_laws = EvenSizes ∷ EvenColumns ∷ ViaInWire ∷ TracksApart ∷ PinsApart ∷ OfPins Counts ∷ OfPins InputSlots ∷ OfPins OutputSlots ∷ OfPins OddInputs ∷ OfPins EvenOutputs ∷ Reach ∷ WireInPin ∷ WidestCell ∷ Capacity ∷ []
+all_laws = EvenSizes ∷ EvenColumns ∷ ViaInWire ∷ TracksApart ∷ PinsApart ∷ OfPins Counts ∷ OfPins InputSlots ∷ OfPins
+    OutputSlots ∷ OfPins OddInputs ∷ OfPins EvenOutputs ∷ Reach ∷ WireInPin ∷ WidestCell ∷ Capacity ∷ []
 
 -- each law stands one place before its number
 pub law_at : (law : Law) → get_or all_laws (law_number law - 1) EvenSizes ≡ law
@@ -54,15 +53,22 @@ abbrev AreNumbered : ℕ → List Law → Type 0
 AreNumbered n [] = Unit {0}
 AreNumbered n (law ∷ laws) = (law_number law ≡ n) × AreNumbered (n + 1) laws
 
-number_at : (laws : List Law) (n k : ℕ) → AreNumbered n laws → k < length laws → law_number (get_or laws k EvenSizes) ≡ n + k
+number_at : (laws : List Law) (n k : ℕ) → AreNumbered n laws → k < length laws
+    → law_number (get_or laws k EvenSizes) ≡ n + k
 number_at [] n k numbered within = absurd (omega arith)
 number_at (law ∷ laws) n zero numbered within = omega (arith, numbered.0)
 number_at (law ∷ laws) n (suc k) numbered within = omega (arith, number_at laws (n + 1) k numbered.1 (omega arith))
 
 -- the law at a place has the next number
 pub law_number_at : (k : ℕ) → k < 14 → law_number (get_or all_laws k EvenSizes) ≡ k + 1
-law_number_at k within = omega (arith, number_at all_laws 1 k (refl, (refl, (refl, (refl, (refl, (refl, (refl, (refl, (refl, (refl, (refl, (refl, (refl, (refl, tt)))))))))))))) within)
+law_number_at k within = omega (
+  arith,
+  number_at all_laws 1 k
+      (refl, (refl, (refl, (refl, (refl, (refl, (refl, (refl, (refl, (refl, (refl, (refl, (refl, (refl, tt))))))))))))))
+      within,
+)
 
 -- what holds at each place of the list of laws holds of each law
-pub each_law : (P : Law → Type 0) (n : ℕ) → ((k : ℕ) → k < n → P (get_or all_laws k EvenSizes)) → (law : Law) → law_number law < n + 1 → P law
+pub each_law : (P : Law → Type 0) (n : ℕ) → ((k : ℕ) → k < n → P (get_or all_laws k EvenSizes)) → (law : Law)
+    → law_number law < n + 1 → P law
 each_law P n h law below = let numbers = law_numbers law in rw (law_at law) at (h (law_number law - 1) (omega arith))

@@ -1,5 +1,5 @@
 -- Every library places its pins in their slots.
-use Rattle.std.specs.Prelude.{ℕ, ◌≡◌, ◌<◌, ◌≤◌, ◌+◌, ◌*◌, ◌%◌, Option, Some, None, IsSome, refl}
+use Rattle.std.specs.Prelude.{◌≡◌, Option, Some, None, IsSome, refl}
 use Rattle.std.proofs.Common.{arith}
 use Rattle.cell_library.specs.declared.draft.Pins.{Pins}
 use Rattle.cell_library.specs.declared.laws.PinLaw.TheVariants.{Counts, InputSlots, OutputSlots, OddInputs, EvenOutputs}

@@ -1,16 +1,15 @@
 -- A text that says a library says one that keeps the facts of libraries.
-use Rattle.std.proofs.Common.{ℕ, ℤ, pos, negsuc, ◌≡◌, ◌≢◌, ◌≤◌, inl, inr, Option, Some, None, refl, sym, subst}
+use Rattle.std.proofs.Common.{ℕ, ℤ, pos, negsuc, ◌≡◌, ◌≤◌, inl, inr, Option, Some, None, refl, sym, subst}
 use Rattle.std.specs.Prelude.{nat_le, ◌&&◌, unwrap_or, List, [], ◌∷◌, map}
 use Rattle.std.specs.List.{AllByRecursion}
 use Rattle.std.proofs.lemmas.Bool.{and_parts, leb-true, cases_Bool}
 use Rattle.toml.specs.Data.{Members}
 use Rattle.cell_library.specs.Numbers.{Number, numbers}
 use Rattle.cell_library.specs.Documents.{integer_under, natural_within}
-use Rattle.cell_library.specs.Faults.{range_fault, integer_fault, number_fault, numbers_fault, unknown_key_fault, missing_fault, kinds_fault}
-use Rattle.circuit.specs.declared.cell_kind.CellKind.{CellKind}
-use Rattle.circuit.specs.declared.cell_kind.CellKind.TheVariants.{Split3}
-use Rattle.cell_library.specs.Library.{LibraryView, IsGiven}
-use Rattle.cell_library.specs.Laws.{InRanges, IsDraft, IsLibrary}
+use Rattle.cell_library.specs.Faults.{range_fault, integer_fault, number_fault, numbers_fault, unknown_key_fault}
+use Rattle.cell_library.specs.Faults.{missing_fault, kinds_fault}
+use Rattle.cell_library.specs.Library.{LibraryView}
+use Rattle.cell_library.specs.Laws.{InRanges, IsDraft, GivesMandatory, IsLibrary}
 use Rattle.cell_library.specs.Says.{SaysLibrary, natural, number_under, library_of}
 use Rattle.cell_library.proofs.Given.{first_nones, all_given}
 
@@ -77,7 +76,6 @@ said_keeps text library says =
     ∷ kinds_fault says.table ∷ []) says.faultless in
     record {
       draft = subst IsDraft (sym says.values) (record { ranges = in_ranges says.table faults.1.0; kinds = refl });
-      given = subst (λ (l : LibraryView). (kind : CellKind) → kind ≢ Split3 → IsGiven l kind) (sym says.values)
-          (all_given says.table faults.1.1.0 faults.1.1.1.0);
+      given = subst GivesMandatory (sym says.values) (all_given says.table faults.1.1.0 faults.1.1.1.0);
       laws = says.laws;
     }

@@ -1,16 +1,19 @@
 -- Libraries with the same numbers and pins are the same.
-use Rattle.std.proofs.Common.{ℕ, zero, suc, ◌-◌, ◌≡◌, ◌<◌, List, [], ◌∷◌, length, Option, None, refl, ap, arith, sym, ◌∙◌}
-use Rattle.std.specs.Prelude.{slice_get, unwrap_or}
+use Rattle.std.proofs.Common.{ℕ, zero, suc, ◌-◌, ◌≡◌, ◌<◌, List, [], ◌∷◌, length, Option, None, refl, ap, arith, sym}
+use Rattle.std.proofs.Common.{◌∙◌}
+use Rattle.std.specs.Prelude.{slice_get, unwrap_or, get_or}
 use Rattle.circuit.specs.CellKinds.{number_of}
 use Rattle.circuit.specs.declared.cell_kind.CellKind.{CellKind}
-use Rattle.circuit.specs.declared.cell_kind.CellKind.TheVariants.{Buffer, Inverter, Zero, One, Split2, Split3, Majority}
+use Rattle.circuit.specs.declared.cell_kind.CellKind.TheVariants.{Buffer}
 use Rattle.cell_library.specs.declared.draft.Numbers.{Numbers}
 use Rattle.cell_library.specs.declared.draft.Pins.{Pins}
+use Rattle.cell_library.specs.Kinds.{all_kinds}
 use Rattle.cell_library.specs.Library.{LibraryView, pins_of}
 use Rattle.cell_library.specs.Laws.{IsDraft}
 use Rattle.cell_library.specs.Code.Drafts.{drafted}
 
-same_places : (xs ys : List (Option Pins)) → length xs ≡ length ys → ((k : ℕ) → k < length xs → unwrap_or (slice_get xs k) None ≡ unwrap_or (slice_get ys k) None) → xs ≡ ys
+same_places : (xs ys : List (Option Pins)) → length xs ≡ length ys
+    → ((k : ℕ) → k < length xs → unwrap_or (slice_get xs k) None ≡ unwrap_or (slice_get ys k) None) → xs ≡ ys
 same_places [] [] long each = refl
 same_places [] (y ∷ ys) long each = absurd (omega arith)
 same_places (x ∷ xs) [] long each = absurd (omega arith)
@@ -19,19 +22,20 @@ same_places (x ∷ xs) (y ∷ ys) long each =
     let tail : xs ≡ ys = same_places xs ys (omega arith) (λ k h. each (suc k) (omega arith)) in
     λ i. head i ∷ tail i
 
-pub same_list : (l m : LibraryView) → IsDraft l → IsDraft m →
-    (pins_of l Buffer ≡ pins_of m Buffer) × (pins_of l Inverter ≡ pins_of m Inverter) × (pins_of l Zero ≡ pins_of m Zero) × (pins_of l One ≡ pins_of m One) →
-    pins_of l Split2 ≡ pins_of m Split2 → pins_of l Split3 ≡ pins_of m Split3 → pins_of l Majority ≡ pins_of m Majority → l.pins ≡ m.pins
-same_list l m dl dm gates split2 split3 majority = same_places l.pins m.pins (dl.kinds ∙ sym dm.kinds) (λ k h. at k (omega (arith, dl.kinds)))
+-- two drafts with the same pins of each kind
+pub same_list : (l m : LibraryView) → IsDraft l → IsDraft m
+    → ((k : ℕ) → k < 7 → pins_of l (get_or all_kinds k Buffer) ≡ pins_of m (get_or all_kinds k Buffer))
+    → l.pins ≡ m.pins
+same_list l m dl dm each = same_places l.pins m.pins (dl.kinds ∙ sym dm.kinds) (λ k h. at k (omega (arith, dl.kinds)))
   where
     at : (k : ℕ) → k < 7 → unwrap_or (slice_get l.pins k) None ≡ unwrap_or (slice_get m.pins k) None
-    at zero h = gates.0
-    at (suc zero) h = gates.1
-    at (suc (suc zero)) h = gates.2
-    at (suc (suc (suc zero))) h = gates.3
-    at (suc (suc (suc (suc zero)))) h = split2
-    at (suc (suc (suc (suc (suc zero))))) h = split3
-    at (suc (suc (suc (suc (suc (suc zero)))))) h = majority
+    at zero h = each 0 (omega arith)
+    at (suc zero) h = each 1 (omega arith)
+    at (suc (suc zero)) h = each 2 (omega arith)
+    at (suc (suc (suc zero))) h = each 3 (omega arith)
+    at (suc (suc (suc (suc zero)))) h = each 4 (omega arith)
+    at (suc (suc (suc (suc (suc zero))))) h = each 5 (omega arith)
+    at (suc (suc (suc (suc (suc (suc zero)))))) h = each 6 (omega arith)
     at (suc (suc (suc (suc (suc (suc (suc k))))))) h = absurd (omega arith)
 
 -- equal lists of pins give each kind the same
@@ -58,10 +62,12 @@ pub drafted_same : (a b : Numbers) (p q : List (Option Pins)) → a ≡ b → p 
 drafted_same a b p q e f = λ i. drafted (e i) (f i)
 
 -- two views are the same where numbers and pins are
-pub same_views : (l m : LibraryView) (a b : Numbers) → l ≡ drafted a l.pins → m ≡ drafted b m.pins → a ≡ b → l.pins ≡ m.pins → l ≡ m
+pub same_views : (l m : LibraryView) (a b : Numbers) → l ≡ drafted a l.pins → m ≡ drafted b m.pins → a ≡ b
+    → l.pins ≡ m.pins → l ≡ m
 same_views l m a b le me ab pins = le ∙ (drafted_same a b l.pins m.pins ab pins ∙ sym me)
 
-pub views_same_numbers : (l m : LibraryView) (a b : Numbers) → l ≡ drafted a l.pins → m ≡ drafted b m.pins → l ≡ m → a ≡ b
+pub views_same_numbers : (l m : LibraryView) (a b : Numbers) → l ≡ drafted a l.pins
+    → m ≡ drafted b m.pins → l ≡ m → a ≡ b
 views_same_numbers l m a b le me e = numbers_of_same a b l.pins m.pins (sym le ∙ (e ∙ me))
 
 pub ruleset same_libraries = (same_views, views_same_numbers)

@@ -95,6 +95,10 @@ pub record IsDraft (l : LibraryView) : Type 0 where
   pub ranges : InRanges l
   pub kinds : length l.pins ≡ 7
 
+-- each kind is given that no library leaves out
+abbrev pub GivesMandatory : LibraryView → Type 0
+GivesMandatory l = (kind : CellKind) → kind ≢ Split3 → IsGiven l kind
+
 -- what every library keeps
 pub record IsLibrary (l : LibraryView) : Type 0 where
   pub draft : IsDraft l

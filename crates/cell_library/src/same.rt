@@ -3,6 +3,7 @@ ghost use Rattle.std.specs.Prelude.{◌≡◌, ◌↔◌, IsTrue, option_map};
 ghost use Rattle.cell_library.specs.Library.{pins_of};
 
 use crate::draft::{Draft, Numbers, Pins};
+use crate::kinds::KINDS;
 use aq_base::List;
 use circuit::CellKind;
 
@@ -34,18 +35,6 @@ fn same_kind(a: &Draft, b: &Draft, kind: CellKind) -> bool
     same_given(a.pins(kind), b.pins(kind))
 }
 
-fn same_gates(a: &Draft, b: &Draft) -> bool
-    ensures { IsTrue result ↔ ((pins_of a.now CellKind.Buffer ≡ pins_of b.now CellKind.Buffer)
-        × (pins_of a.now CellKind.Inverter ≡ pins_of b.now CellKind.Inverter)
-        × (pins_of a.now CellKind.Zero ≡ pins_of b.now CellKind.Zero)
-        × (pins_of a.now CellKind.One ≡ pins_of b.now CellKind.One)) }
-{
-    same_kind(a, b, CellKind::Buffer)
-        && same_kind(a, b, CellKind::Inverter)
-        && same_kind(a, b, CellKind::Zero)
-        && same_kind(a, b, CellKind::One)
-}
-
 /// Whether the two have the same pins.
 #[tactic(auto, using(crate::proofs::Sameness::same_lists))]
 pub fn same_pins(a: &Draft, b: &Draft) -> bool
@@ -53,16 +42,12 @@ pub fn same_pins(a: &Draft, b: &Draft) -> bool
 {
     let _a = a.numbers();
     let _b = b.numbers();
-    if !same_gates(a, b) {
-        return false;
+    for kind in KINDS {
+        if !same_kind(a, b, kind) {
+            return false;
+        }
     }
-    if !same_kind(a, b, CellKind::Split2) {
-        return false;
-    }
-    if !same_kind(a, b, CellKind::Split3) {
-        return false;
-    }
-    same_kind(a, b, CellKind::Majority)
+    true
 }
 
 fn same_sizes(a: &Numbers, b: &Numbers) -> bool

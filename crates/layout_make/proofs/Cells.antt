@@ -2,16 +2,17 @@
 use Rattle.std.proofs.Common.{◌≡◌, ℕ, suc, ◌+◌, ◌*◌, ◌/◌, ◌<◌, ◌≤◌, sym, ap, subst, arith, inl, inr, List}
 use Rattle.std.proofs.Math.Nat.{mul-le-mul_right}
 use Rattle.std.proofs.lemmas.Bool.{cases_order, cases_lt}
-use Rattle.cell_library.specs.Library.{LibraryView, IsGiven, input_column_of, output_column_of}
+use Rattle.cell_library.specs.Library.{LibraryView, IsGiven}
 use Rattle.layout_make.proofs.Lawful.{IsLawful}
 use Rattle.circuit.specs.declared.cell_kind.CellKind.{CellKind}
-use Rattle.circuit.specs.CellKinds.{inputs_of, outputs_of, slots_of}
-use Rattle.layout_make.specs.Sheet.{Sheet, Tag, Area, Frame, InPin, OutPin, Rise, Fall, area, centre, lower_edge}
-use Rattle.layout_make.specs.Sheet.{track_of}
-use Rattle.layout_make.proofs.SheetKeeps.{IsWire, IsDrawn, HasCells, input_at, output_at}
+use Rattle.circuit.specs.CellKinds.{slots_of}
+use Rattle.layout_make.specs.Sheet.{Sheet, Tag, Area, Frame, Rise, Fall, area, centre, lower_edge, track_of}
+use Rattle.layout_make.specs.declared.marks.Ports.{Ports as Side}
+use Rattle.layout_make.specs.declared.marks.Ports.TheVariants.{Inputs, Outputs}
+use Rattle.layout_make.proofs.SheetKeeps.{IsWire, IsDrawn, HasCells, column_at}
 use Rattle.layout_make.specs.Tags.{At}
 use Rattle.layout_make.proofs.Columns.{centre_least, next_edge, edges_apart, track_above, track_below}
-use Rattle.layout_make.proofs.PinCounts.{inputs_slots, outputs_slots}
+use Rattle.layout_make.proofs.Sides.{pins_on, column_on, pin_tag, in_slot, pins_slots}
 
 -- within, and sharing an inner point
 pub record Inside (a b : Area) : Type 0 where
@@ -72,48 +73,42 @@ column_in c s n i col lt least most = let k : (i + 1) * c ≤ n * c = mul-le-mul
 abbrev pub Columns : Sheet → ℕ → CellKind → ℕ → Type 0
 Columns s slot k c = (slot * s.library.columns ≤ c) × (c < (slot + slots_of k) * s.library.columns)
 
-pub input_columns : (s : Sheet) → IsLawful s.library → (slot i : ℕ) (k : CellKind) → IsGiven s.library k
-    → i < inputs_of k → Columns s slot k (input_at s slot k i)
-input_columns s laws slot i k given lt = let m = inputs_slots k in
-    column_in s.library.columns slot (slots_of k) i (input_column_of s.library k i) (omega arith)
-    (laws.input_least k i given lt) (laws.input_most k i given lt)
-
-pub output_columns : (s : Sheet) → IsLawful s.library → (slot i : ℕ) (k : CellKind) → IsGiven s.library k
-    → i < outputs_of k → Columns s slot k (output_at s slot k i)
-output_columns s laws slot i k given lt = let m = outputs_slots k in
-    column_in s.library.columns slot (slots_of k) i (output_column_of s.library k i) (omega arith)
-    (laws.output_least k i given lt) (laws.output_most k i given lt)
+pub pin_columns : (s : Sheet) → IsLawful s.library → (side : Side) (slot i : ℕ) (k : CellKind) → IsGiven s.library k
+    → i < pins_on side k → Columns s slot k (column_at s side slot k i)
+pin_columns s laws side slot i k given lt =
+    let m = pins_slots side k in
+    let own = in_slot s.library laws side k i given lt in
+    column_in s.library.columns slot (slots_of k) i (column_on s.library side k i) (omega arith) own.0 own.1
 
 -- E1: a pin is inside its own cell's frame
-pub input_inside : (s : Sheet) → IsLawful s.library → (r c i slot : ℕ) (k : CellKind) → Columns s slot k c
-    → Inside (area s (InPin r c i)) (area s (Frame r slot k))
-input_inside s laws r c i slot k col = let x = strip_in s.library laws slot (slot + slots_of k) c col.0 col.1 in
-    record { left_so = omega arith; low_so = omega arith; right_so = omega arith; high_so = omega arith }
-
-pub output_inside : (s : Sheet) → IsLawful s.library → (r c i slot : ℕ) (k : CellKind) → Columns s slot k c
-    → Inside (area s (OutPin r c i)) (area s (Frame r slot k))
-output_inside s laws r c i slot k col = let x = strip_in s.library laws slot (slot + slots_of k) c col.0 col.1 in
-    record { left_so = omega arith; low_so = omega arith; right_so = omega arith; high_so = omega arith }
+pub pin_inside : (s : Sheet) → IsLawful s.library → (side : Side) (r c i slot : ℕ) (k : CellKind) → Columns s slot k c
+    → Inside (area s (pin_tag side r c i)) (area s (Frame r slot k))
+pin_inside s laws side r c i slot k col = go side (strip_in s.library laws slot (slot + slots_of k) c col.0 col.1)
+  where
+    go : (side : Side) → (slot * (s.library.columns * s.library.pitch) + s.library.wire / 2 ≤ centre s.library c)
+        × (centre s.library c + s.library.wire / 2 ≤ (slot + slots_of k) * (s.library.columns * s.library.pitch))
+        → Inside (area s (pin_tag side r c i)) (area s (Frame r slot k))
+    go Inputs x = record { left_so = omega arith; low_so = omega arith; right_so = omega arith; high_so = omega arith }
+    go Outputs x = record { left_so = omega arith; low_so = omega arith; right_so = omega arith; high_so = omega arith }
 
 -- a pin inside a frame is in its row and in its columns
 wire_wide : (l : LibraryView) → IsLawful l → 1 ≤ l.wire / 2
 wire_wide l laws = omega arith
 
-pub input_of_frame : (s : Sheet) → IsLawful s.library → (r q c i slot : ℕ) (k : CellKind)
-    → Inside (area s (InPin r c i)) (area s (Frame q slot k)) → (r ≡ q) × Columns s slot k c
-input_of_frame s laws r q c i slot k h =
+pub pin_of_frame : (s : Sheet) → IsLawful s.library → (side : Side) (r q c i slot : ℕ) (k : CellKind)
+    → Inside (area s (pin_tag side r c i)) (area s (Frame q slot k)) → (r ≡ q) × Columns s slot k c
+pin_of_frame s laws Inputs r q c i slot k h =
     let w = wire_wide s.library laws in
-    let f = centre_least s.library c in
-    let x = strip_meets s.library laws slot (slot + slots_of k) c (omega arith) (omega arith) in
-    (rows_meet s r q (omega arith) (omega arith), x)
-
-pub output_of_frame : (s : Sheet) → IsLawful s.library → (r q c i slot : ℕ) (k : CellKind)
-    → Inside (area s (OutPin r c i)) (area s (Frame q slot k)) → (r ≡ q) × Columns s slot k c
-output_of_frame s laws r q c i slot k h =
+    let f = centre_least s.library c in (
+      rows_meet s r q (omega arith) (omega arith),
+      strip_meets s.library laws slot (slot + slots_of k) c (omega arith) (omega arith),
+    )
+pin_of_frame s laws Outputs r q c i slot k h =
     let w = wire_wide s.library laws in
-    let f = centre_least s.library c in
-    let x = strip_meets s.library laws slot (slot + slots_of k) c (omega arith) (omega arith) in
-    (rows_meet s r q (omega arith) (omega arith), x)
+    let f = centre_least s.library c in (
+      rows_meet s r q (omega arith) (omega arith),
+      strip_meets s.library laws slot (slot + slots_of k) c (omega arith) (omega arith),
+    )
 
 -- two frames of one row with a common column are one
 pub one_frame : (s : Sheet) (ts : List Tag) → HasCells s ts → (i j r c a b : ℕ) (k m : CellKind)

@@ -17,7 +17,7 @@ use Rattle.layout_make.specs.Spots.{Spot, spots}
 use Rattle.layout_make.proofs.ReadyNets.{IsReady}
 use Rattle.list_orders.specs.Numbers.{numbers}
 use Rattle.layout_rules.specs.Rows.{AreRows}
-use Rattle.layout_make.specs.Laws.{FrameAt, flat_shapes}
+use Rattle.layout_make.specs.Laws.{FrameAt}
 use Rattle.layout_make.specs.CellsAreDrawn.{Before, CellsAreDrawn}
 use Rattle.layout_make.proofs.FlatLaw.{flat_is_tags, labels_flat}
 use Rattle.layout_make.proofs.Joins.{to_map}

@@ -13,12 +13,15 @@ use Rattle.rowed.specs.PlacedNets.{PlacedView}
 use Rattle.rowed.proofs.SpanLaws.{at_most_three}
 use Rattle.list_orders.specs.Sorting.{EachPair, Rising}
 use Rattle.list_orders.proofs.SortingLaws.{by_key_all, all_by_key, by_key_pairs}
-use Rattle.cell_library.specs.Library.{LibraryView, input_column_of, output_column_of}
+use Rattle.cell_library.specs.Library.{LibraryView}
 use Rattle.layout_make.proofs.Lawful.{IsLawful}
 use Rattle.layout_make.specs.Spots.{Spot, spots, AreGiven, IsInput}
 use Rattle.layout_make.proofs.ReadyNets.{Packed, IsReady}
-use Rattle.layout_make.specs.Channel.{in_column, out_column, wire_to, pin_wire, wires_into, from_of, channel}
+use Rattle.layout_make.specs.Channel.{wire_to, pin_wire, wires_into, from_of, channel}
 use Rattle.layout_make.proofs.Member.{In, in_head, not_in_nil, all_in, in_all}
+use Rattle.layout_make.specs.declared.marks.Ports.{Ports as Side}
+use Rattle.layout_make.specs.declared.marks.Ports.TheVariants.{Inputs, Outputs}
+use Rattle.layout_make.proofs.Sides.{pins_on, column_on, pin_column, in_slot, pins_slots}
 use Rattle.layout_make.proofs.PinCounts.{inputs_slots, outputs_slots}
 
 -- columns tell cells and pins apart
@@ -73,27 +76,16 @@ slot_tells xs d e i j y z p a b li lj same = elim (cases_order d e) [
   ]
 ]
 
-pub out_tells : (l : LibraryView) → IsLawful l → (xs : List Spot) → AreGiven l xs → (d e o q : ℕ) (y z : Spot)
-    → Packed 0 xs → slice_get xs d ≡ Some y → slice_get xs e ≡ Some z → o < outputs_of y.cell.kind
-    → q < outputs_of z.cell.kind → out_column l y o ≡ out_column l z q → (d ≡ e) × (o ≡ q)
-out_tells l laws xs given d e o q y z p a b lo lq same =
-    let gy = given d y a in let gz = given e z b in
-    let k = same_block l.columns y.slot o (output_column_of l y.cell.kind o) z.slot q
-    (output_column_of l z.cell.kind q) (laws.output_least y.cell.kind o gy lo)
-    (laws.output_most y.cell.kind o gy lo) (laws.output_least z.cell.kind q gz lq)
-    (laws.output_most z.cell.kind q gz lq) same in
-    let m = outputs_slots y.cell.kind in let n = outputs_slots z.cell.kind in
-    slot_tells xs d e o q y z p a b (omega arith) (omega arith) k
-
-pub in_tells : (l : LibraryView) → IsLawful l → (xs : List Spot) → AreGiven l xs → (d e i j : ℕ) (y z : Spot)
-    → Packed 0 xs → slice_get xs d ≡ Some y → slice_get xs e ≡ Some z → i < inputs_of y.cell.kind
-    → j < inputs_of z.cell.kind → in_column l y i ≡ in_column l z j → (d ≡ e) × (i ≡ j)
-in_tells l laws xs given d e i j y z p a b li lj same =
-    let gy = given d y a in let gz = given e z b in
-    let k = same_block l.columns y.slot i (input_column_of l y.cell.kind i) z.slot j (input_column_of l z.cell.kind j)
-    (laws.input_least y.cell.kind i gy li) (laws.input_most y.cell.kind i gy li)
-    (laws.input_least z.cell.kind j gz lj) (laws.input_most z.cell.kind j gz lj) same in
-    let m = inputs_slots y.cell.kind in let n = inputs_slots z.cell.kind in
+-- pins of one side in one column are one pin of one cell
+pub pin_tells : (l : LibraryView) → IsLawful l → (side : Side) (xs : List Spot) → AreGiven l xs → (d e i j : ℕ)
+    (y z : Spot) → Packed 0 xs → slice_get xs d ≡ Some y → slice_get xs e ≡ Some z → i < pins_on side y.cell.kind
+    → j < pins_on side z.cell.kind → pin_column l side y i ≡ pin_column l side z j → (d ≡ e) × (i ≡ j)
+pin_tells l laws side xs given d e i j y z p a b li lj same =
+    let own = in_slot l laws side y.cell.kind i (given d y a) li in
+    let other = in_slot l laws side z.cell.kind j (given e z b) lj in
+    let k = same_block l.columns y.slot i (column_on l side y.cell.kind i) z.slot j (column_on l side z.cell.kind j)
+    own.0 own.1 other.0 other.1 same in
+    let m = pins_slots side y.cell.kind in let n = pins_slots side z.cell.kind in
     slot_tells xs d e i j y z p a b (omega arith) (omega arith) k
 
 -- a wire, by the pin where it ends
@@ -344,7 +336,7 @@ pub to_tells : (p : PlacedView) (l : LibraryView) → IsReady p l → IsLawful l
 to_tells p l is laws r w v hw hv e =
     let a = wire_of p l is r w hw in
     let b = wire_of p l is r v hv in
-    let k = in_tells l laws (spots p (suc r)) (is.given (suc r)) a.cell b.cell a.pin b.pin a.spot b.spot
+    let k = pin_tells l laws Inputs (spots p (suc r)) (is.given (suc r)) a.cell b.cell a.pin b.pin a.spot b.spot
     (is.packed (suc r)) a.at b.at a.pin_below b.pin_below (sym (ap (λ (z : Wire). z.to_column) a.wire_is) ∙ e
     ∙ ap (λ (z : Wire). z.to_column) b.wire_is) in
     same_pin p l r w v a b k.0 k.1
@@ -381,7 +373,7 @@ pub from_tells : (p : PlacedView) (l : LibraryView) → IsReady p l → IsLawful
 from_tells p l is laws r w v hw hv e =
     let a = wire_of p l is r w hw in
     let b = wire_of p l is r v hv in
-    let k = out_tells l laws (spots p r) (is.given r) a.source.cell b.source.cell a.source.output b.source.output
-    a.from b.from (is.packed r) a.from_at b.from_at a.output_below b.output_below
+    let k = pin_tells l laws Outputs (spots p r) (is.given r) a.source.cell b.source.cell a.source.output
+    b.source.output a.from b.from (is.packed r) a.from_at b.from_at a.output_below b.output_below
     (sym (ap from_of a.wire_is) ∙ e ∙ ap from_of b.wire_is) in
     same_source p l is r w v a b k.0 k.1

@@ -1,25 +1,28 @@
 -- The tags of a placed net stand once, and keep wires and cells whole.
-use Rattle.std.proofs.Common.{◌≡◌, ◌≢◌, ℕ, ◌+◌, refl, sym, ap, ◌∙◌, arith, inl, inr, List, [], ◌∷◌, ◌++◌, map, length}
+use Rattle.std.proofs.Common.{◌≡◌, ◌≢◌, ℕ, ◌+◌, ◌<◌, refl, sym, ap, subst, ◌∙◌, arith, inl, inr, List, [], ◌∷◌, ◌++◌}
+use Rattle.std.proofs.Common.{length}
 use Rattle.std.specs.Prelude.{slice_get}
 use Rattle.std.specs.List.{flat_map}
 use Rattle.std.proofs.lemmas.Option.{same_Some}
 use Rattle.cell_library.specs.Library.{LibraryView}
 use Rattle.layout_make.proofs.Lawful.{IsLawful}
 use Rattle.circuit.specs.declared.cell_kind.CellKind.{CellKind}
-use Rattle.circuit.specs.CellKinds.{inputs_of, outputs_of}
 use Rattle.layout_make.specs.Sheet.{Tag, Frame, InPin, OutPin, Lead, Bar, Rise, Fall, Across, FromVia, ToVia}
 use Rattle.rowed.specs.PlacedNets.{PlacedView}
 use Rattle.layout_make.specs.Spots.{Spot, spots, AreGiven}
 use Rattle.layout_make.proofs.ReadyNets.{Packed, IsReady}
 use Rattle.rowed.specs.declared.wire.Wire.{Wire}
 use Rattle.list_orders.specs.Numbers.{numbers}
-use Rattle.layout_make.specs.Channel.{channel, in_column, out_column}
+use Rattle.layout_make.specs.Channel.{channel}
 use Rattle.layout_make.specs.Tags.{spot_tags, wire_tags, line_tags, row_tags, tags}
+use Rattle.layout_make.specs.declared.marks.Ports.{Ports as Side}
+use Rattle.layout_make.specs.declared.marks.Ports.TheVariants.{Inputs, Outputs}
+use Rattle.layout_make.proofs.Sides.{pins_on, pin_column, pin_tag, side_tags, pin_told, no_pin}
 use Rattle.layout_make.proofs.Member.{In, in_head, not_in_nil, in_append, in_map, in_flat_map, Once, once_nil}
 use Rattle.layout_make.proofs.Member.{once_cons, once_append, once_flat_map, once_map, once_count, all_in}
-use Rattle.layout_make.proofs.ChannelWires.{PinsApart, channel_pairs, from_tells, in_tells, out_tells, slot_tells}
+use Rattle.layout_make.proofs.ChannelWires.{PinsApart, channel_pairs, from_tells, pin_tells, slot_tells}
 use Rattle.layout_make.proofs.PinCounts.{slots_some}
-use Rattle.layout_make.proofs.Origins.{CellPart, TheFrame, AnInput, AnOutput, WirePart, TheRise, TheFall, TheAcross}
+use Rattle.layout_make.proofs.Origins.{CellPart, TheFrame, APin, WirePart, TheRise, TheFall, TheAcross}
 use Rattle.layout_make.proofs.Origins.{TheFromVia, TheToVia, RowPart, OfCell, TheLead, TheBar, OfWire, cell_part}
 use Rattle.layout_make.proofs.Origins.{wire_part, row_part}
 
@@ -70,8 +73,8 @@ from_of t = 0
 cell_row : (l : LibraryView) (r : ℕ) (x : Spot) (t : Tag) → CellPart l r x t → (row_of t ≡ r) × (part_of t ≡ 0)
 unfolding row_of part_of
 cell_row l r x t (TheFrame e) = (ap row_of e, ap part_of e)
-cell_row l r x t (AnInput i lt e) = (ap row_of e, ap part_of e)
-cell_row l r x t (AnOutput o lt e) = (ap row_of e, ap part_of e)
+cell_row l r x t (APin Inputs i lt e) = (ap row_of e, ap part_of e)
+cell_row l r x t (APin Outputs o lt e) = (ap row_of e, ap part_of e)
 
 wire_row : (r c : ℕ) (t : Tag) → WirePart r c t → (row_of t ≡ r) × (part_of t ≡ 3) × (from_of t ≡ c)
 unfolding row_of part_of from_of
@@ -91,33 +94,30 @@ row_row p l r t (OfWire w h part) = (wire_row r w.from_column t part).0
 -- the tags of one cell
 once_cell : (l : LibraryView) (r : ℕ) (x : Spot) → Once (spot_tags l r x)
 once_cell l r x =
-    let ins = map (λ i. InPin r (in_column l x i) i) (numbers 0 (inputs_of x.cell.kind)) in
-    let outs = map (λ o. OutPin r (out_column l x o) o) (numbers 0 (outputs_of x.cell.kind)) in
+    let ins = side_tags l r Inputs x in
+    let outs = side_tags l r Outputs x in
     once_cons (Frame r x.slot x.cell.kind) (ins ++ outs)
-    (λ h. elim (in_append (Frame r x.slot x.cell.kind) ins outs h) [
-      | inl k ↦ let m = in_map (λ i. InPin r (in_column l x i) i) (Frame r x.slot x.cell.kind)
-          (numbers 0 (inputs_of x.cell.kind)) k in absurd (let e = m.2 in cc)
-      | inr k ↦ let m = in_map (λ o. OutPin r (out_column l x o) o) (Frame r x.slot x.cell.kind)
-          (numbers 0 (outputs_of x.cell.kind)) k in absurd (let e = m.2 in cc)
-    ])
-    (once_append ins outs
-    (once_map (λ i. InPin r (in_column l x i) i) (numbers 0 (inputs_of x.cell.kind))
-    (λ i j e. input_number r (in_column l x i) i (in_column l x j) j e) (once_count 0 (inputs_of x.cell.kind)))
-    (once_map (λ o. OutPin r (out_column l x o) o) (numbers 0 (outputs_of x.cell.kind))
-    (λ i j e. output_number r (out_column l x i) i (out_column l x j) j e) (once_count 0 (outputs_of x.cell.kind)))
+    (λ h. elim (in_append (Frame r x.slot x.cell.kind) ins outs h)
+    [ inl k ↦ no_frame Inputs k | inr k ↦ no_frame Outputs k ])
+    (once_append ins outs (once_side Inputs) (once_side Outputs)
     (λ t h k.
-    let m = in_map (λ i. InPin r (in_column l x i) i) t (numbers 0 (inputs_of x.cell.kind)) h in
-    let n = in_map (λ o. OutPin r (out_column l x o) o) t (numbers 0 (outputs_of x.cell.kind)) k in
-    not_both r (in_column l x m.0) m.0 (out_column l x n.0) n.0 (sym m.2 ∙ n.2)))
+    let m = from_side Inputs t h in
+    let n = from_side Outputs t k in
+    absurd (let e = (pin_told Inputs Outputs r _ m.0 r _ n.0 (sym m.2 ∙ n.2)).0 in cc)))
   where
-    input_number : (r c i d j : ℕ) → InPin r c i ≡ InPin r d j → i ≡ j
-    input_number r c i d j e = cc
+    from_side : (side : Side) (t : Tag) → In t (side_tags l r side x)
+        → (i : ℕ) × In i (numbers 0 (pins_on side x.cell.kind)) × (t ≡ pin_tag side r (pin_column l side x i) i)
+    from_side side t k = in_map (λ i. pin_tag side r (pin_column l side x i) i) t
+        (numbers 0 (pins_on side x.cell.kind)) k
 
-    output_number : (r c i d j : ℕ) → OutPin r c i ≡ OutPin r d j → i ≡ j
-    output_number r c i d j e = cc
+    no_frame : (side : Side) → In (Frame r x.slot x.cell.kind) (side_tags l r side x) → ⊥
+    no_frame side k = let m = from_side side (Frame r x.slot x.cell.kind) k in no_pin side r _ m.0 _ refl (sym m.2)
 
-    not_both : (r c i d j : ℕ) → InPin r c i ≡ OutPin r d j → ⊥
-    not_both r c i d j e = cc
+    once_side : (side : Side) → Once (side_tags l r side x)
+    once_side side =
+        once_map (λ i. pin_tag side r (pin_column l side x i) i) (numbers 0 (pins_on side x.cell.kind))
+        (λ i j e. (pin_told side side r (pin_column l side x i) i r (pin_column l side x j) j e).3)
+        (once_count 0 (pins_on side x.cell.kind))
 
 same_spot : (l : LibraryView) → IsLawful l → (r : ℕ) (xs : List Spot) → AreGiven l xs → (x z : Spot) (t : Tag)
     → Packed 0 xs → In x xs → In z xs → CellPart l r x t → CellPart l r z t → x ≡ z
@@ -126,32 +126,21 @@ same_spot l laws r xs given x z t p hx hz (TheFrame e) (TheFrame f) =
   where
     frames : (r a : ℕ) (k : CellKind) (b : ℕ) (m : CellKind) → Frame r a k ≡ Frame r b m → a ≡ b
     frames r a k b m e = cc
-same_spot l laws r xs given x z t p hx hz (TheFrame e) (AnInput i lt f) =
-    absurd (let k : Frame r x.slot x.cell.kind ≡ InPin r (in_column l z i) i = sym e ∙ f in cc)
-same_spot l laws r xs given x z t p hx hz (TheFrame e) (AnOutput i lt f) =
-    absurd (let k : Frame r x.slot x.cell.kind ≡ OutPin r (out_column l z i) i = sym e ∙ f in cc)
-same_spot l laws r xs given x z t p hx hz (AnInput i lt e) (TheFrame f) =
-    absurd (let k : InPin r (in_column l x i) i ≡ Frame r z.slot z.cell.kind = sym e ∙ f in cc)
-same_spot l laws r xs given x z t p hx hz (AnInput i lt e) (AnInput j lt' f) =
-    let k = columns r (in_column l x i) i (in_column l z j) j (sym e ∙ f) in
-    let m = in_tells l laws xs given hx.0 hz.0 i j x z p hx.1 hz.1 lt lt' k in
-    same_Some _ _ (sym hx.1 ∙ ap (λ (n : ℕ). slice_get xs n) m.0 ∙ hz.1)
+same_spot l laws r xs given x z t p hx hz (TheFrame e) (APin side i lt f) =
+    absurd (no_pin side r _ i _ refl (sym f ∙ e))
+same_spot l laws r xs given x z t p hx hz (APin side i lt e) (TheFrame f) =
+    absurd (no_pin side r _ i _ refl (sym e ∙ f))
+same_spot l laws r xs given x z t p hx hz (APin a i lt e) (APin b j lt' f) =
+    subst Same (pin_told a b r (pin_column l a x i) i r (pin_column l b z j) j (sym e ∙ f)).0 one_side lt' f
   where
-    columns : (r c i d j : ℕ) → InPin r c i ≡ InPin r d j → c ≡ d
-    columns r c i d j e = cc
-same_spot l laws r xs given x z t p hx hz (AnInput i lt e) (AnOutput j lt' f) =
-    absurd (let k : InPin r (in_column l x i) i ≡ OutPin r (out_column l z j) j = sym e ∙ f in cc)
-same_spot l laws r xs given x z t p hx hz (AnOutput i lt e) (TheFrame f) =
-    absurd (let k : OutPin r (out_column l x i) i ≡ Frame r z.slot z.cell.kind = sym e ∙ f in cc)
-same_spot l laws r xs given x z t p hx hz (AnOutput i lt e) (AnInput j lt' f) =
-    absurd (let k : OutPin r (out_column l x i) i ≡ InPin r (in_column l z j) j = sym e ∙ f in cc)
-same_spot l laws r xs given x z t p hx hz (AnOutput i lt e) (AnOutput j lt' f) =
-    let k = columns r (out_column l x i) i (out_column l z j) j (sym e ∙ f) in
-    let m = out_tells l laws xs given hx.0 hz.0 i j x z p hx.1 hz.1 lt lt' k in
-    same_Some _ _ (sym hx.1 ∙ ap (λ (n : ℕ). slice_get xs n) m.0 ∙ hz.1)
-  where
-    columns : (r c i d j : ℕ) → OutPin r c i ≡ OutPin r d j → c ≡ d
-    columns r c i d j e = cc
+    Same : Side → Type 0
+    Same b = j < pins_on b z.cell.kind → t ≡ pin_tag b r (pin_column l b z j) j → x ≡ z
+
+    one_side : Same a
+    one_side lt' f =
+        let k = (pin_told a a r (pin_column l a x i) i r (pin_column l a z j) j (sym e ∙ f)).2 in
+        let m = pin_tells l laws a xs given hx.0 hz.0 i j x z p hx.1 hz.1 lt lt' k in
+        same_Some _ _ (sym hx.1 ∙ ap (λ (n : ℕ). slice_get xs n) m.0 ∙ hz.1)
 
 once_cells : (l : LibraryView) → IsLawful l → (r : ℕ) (xs : List Spot) → AreGiven l xs → Packed 0 xs
     → Once (flat_map (spot_tags l r) xs)

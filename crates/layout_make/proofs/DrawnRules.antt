@@ -13,6 +13,9 @@ use Rattle.geom.specs.declared.shapes.Shape.{Shape}
 use Rattle.layout_rules.specs.GeometryRules.{are_too_close, is_below, is_too_small}
 use Rattle.layout_make.specs.Sheet.{Sheet, Tag, Area, Frame, InPin, OutPin, Lead, Bar, Rise, Fall, Across, FromVia}
 use Rattle.layout_make.specs.Sheet.{ToVia, area, layer_of, rect_of, place_of, shape_of, lower_edge}
+use Rattle.layout_make.specs.declared.marks.Ports.{Ports as Side}
+use Rattle.layout_make.specs.declared.marks.Ports.TheVariants.{Inputs, Outputs}
+use Rattle.layout_make.proofs.Sides.{pin_tag, layer_on}
 use Rattle.layout_make.proofs.SheetKeeps.{IsWire, Fits, Stands, IsDrawn, HasCells}
 use Rattle.layout_make.specs.Tags.{At}
 use Rattle.layout_make.specs.Laws.{Is}
@@ -21,9 +24,9 @@ use Rattle.layout_make.proofs.Layered.{is_pin}
 use Rattle.layout_make.proofs.Joins.{from_map, to_map, shapes_of}
 use Rattle.layout_make.proofs.Spaced.{difference, spaced}
 use Rattle.layout_make.proofs.ShapeSizes.{Sized, rise_sized, fall_sized, across_sized, from_sized, to_sized}
-use Rattle.layout_make.proofs.ShapeSizes.{input_sized, output_sized, Covers, rise_covers, fall_covers}
+use Rattle.layout_make.proofs.ShapeSizes.{pin_sized, Covers, rise_covers, fall_covers}
 use Rattle.layout_make.proofs.ShapeSizes.{across_covers_from, across_covers_to}
-use Rattle.layout_make.proofs.Cells.{Inside, Overlaps, input_inside, output_inside, frames_overlap, rise_over}
+use Rattle.layout_make.proofs.Cells.{Inside, Overlaps, pin_inside, frames_overlap, rise_over}
 use Rattle.layout_make.proofs.Cells.{fall_over, across_over, rows_meet}
 use Rattle.layout_make.proofs.Columns.{track_above}
 use Rattle.layout_make.proofs.Comparing.{four, le_of, lt_of}
@@ -91,9 +94,9 @@ pub sized : (s : Sheet) → IsLawful s.library → (t : Tag) → Fits s t
     → is_too_small (limits_of s.library) (shape_of s t) ≡ false
 sized s laws (Frame r slot k) fits = refl
 sized s laws (InPin r c i) fits = sized_test s.library.wire s.library.pin (area s (InPin r c i))
-    (input_sized s laws r c i)
+    (pin_sized s laws Inputs r c i)
 sized s laws (OutPin r c i) fits = sized_test s.library.wire s.library.pin (area s (OutPin r c i))
-    (output_sized s laws r c i)
+    (pin_sized s laws Outputs r c i)
 sized s laws (Rise r c) fits = none (is_below s.library.wire s.library.wire (place_of s (Rise r c)))
     (sized_test s.library.wire s.library.wire (area s (Rise r c)) (rise_sized s laws r c))
   where
@@ -166,77 +169,46 @@ line_not r n e f g = go (r % 2) (omega arith) e
     go (suc zero) h e = g (sym e)
     go (suc (suc m)) h e = omega arith
 
+pin_layers : (side : Side) → 21 ≤ layer_on side
+pin_layers Inputs = omega arith
+pin_layers Outputs = omega arith
+
 pub frame_tag : (t : Tag) → layer_of t ≡ 20 → (r slot : ℕ) × (k : CellKind) × (t ≡ Frame r slot k)
 frame_tag (Frame r slot k) e = (r, slot, k, refl)
 frame_tag (Lead r) e = absurd (line_not r 20 e (λ x. omega arith) (λ x. omega arith))
 frame_tag (Bar r) e = absurd (line_not r 20 e (λ x. omega arith) (λ x. omega arith))
-frame_tag (InPin r c i) e = absurd (omega arith)
-frame_tag (OutPin r c i) e = absurd (omega arith)
-frame_tag (Rise r c) e = absurd (omega arith)
-frame_tag (Fall r c) e = absurd (omega arith)
-frame_tag (Across r c) e = absurd (omega arith)
-frame_tag (FromVia r c) e = absurd (omega arith)
-frame_tag (ToVia r c) e = absurd (omega arith)
+frame_tag t e = absurd (omega arith)
 
-pub input_tag : (t : Tag) → layer_of t ≡ 21 → (r c i : ℕ) × (t ≡ InPin r c i)
-input_tag (InPin r c i) e = (r, c, i, refl)
-input_tag (Lead r) e = absurd (line_not r 21 e (λ x. omega arith) (λ x. omega arith))
-input_tag (Bar r) e = absurd (line_not r 21 e (λ x. omega arith) (λ x. omega arith))
-input_tag (Frame r slot k) e = absurd (omega arith)
-input_tag (OutPin r c i) e = absurd (omega arith)
-input_tag (Rise r c) e = absurd (omega arith)
-input_tag (Fall r c) e = absurd (omega arith)
-input_tag (Across r c) e = absurd (omega arith)
-input_tag (FromVia r c) e = absurd (omega arith)
-input_tag (ToVia r c) e = absurd (omega arith)
-
-pub output_tag : (t : Tag) → layer_of t ≡ 22 → (r c i : ℕ) × (t ≡ OutPin r c i)
-output_tag (OutPin r c i) e = (r, c, i, refl)
-output_tag (Lead r) e = absurd (line_not r 22 e (λ x. omega arith) (λ x. omega arith))
-output_tag (Bar r) e = absurd (line_not r 22 e (λ x. omega arith) (λ x. omega arith))
-output_tag (Frame r slot k) e = absurd (omega arith)
-output_tag (InPin r c i) e = absurd (omega arith)
-output_tag (Rise r c) e = absurd (omega arith)
-output_tag (Fall r c) e = absurd (omega arith)
-output_tag (Across r c) e = absurd (omega arith)
-output_tag (FromVia r c) e = absurd (omega arith)
-output_tag (ToVia r c) e = absurd (omega arith)
+pub pin_of_layer : (side : Side) (t : Tag) → layer_of t ≡ layer_on side → (r c i : ℕ) × (t ≡ pin_tag side r c i)
+pin_of_layer Inputs (InPin r c i) e = (r, c, i, refl)
+pin_of_layer Outputs (InPin r c i) e = absurd (omega arith)
+pin_of_layer Outputs (OutPin r c i) e = (r, c, i, refl)
+pin_of_layer Inputs (OutPin r c i) e = absurd (omega arith)
+pin_of_layer side (Lead r) e = absurd (let k = pin_layers side in line_not r (layer_on side) e (λ x. omega arith)
+    (λ x. omega arith))
+pin_of_layer side (Bar r) e = absurd (let k = pin_layers side in line_not r (layer_on side) e (λ x. omega arith)
+    (λ x. omega arith))
+pin_of_layer side t e = absurd (let k = pin_layers side in omega arith)
 
 pub via_tag : (t : Tag) → layer_of t ≡ 11 → (r c : ℕ) × ((t ≡ FromVia r c) ⊎ (t ≡ ToVia r c))
 via_tag (FromVia r c) e = (r, c, inl refl)
 via_tag (ToVia r c) e = (r, c, inr refl)
 via_tag (Lead r) e = absurd (line_not r 11 e (λ x. omega arith) (λ x. omega arith))
 via_tag (Bar r) e = absurd (line_not r 11 e (λ x. omega arith) (λ x. omega arith))
-via_tag (Frame r slot k) e = absurd (omega arith)
-via_tag (InPin r c i) e = absurd (omega arith)
-via_tag (OutPin r c i) e = absurd (omega arith)
-via_tag (Rise r c) e = absurd (omega arith)
-via_tag (Fall r c) e = absurd (omega arith)
-via_tag (Across r c) e = absurd (omega arith)
+via_tag t e = absurd (omega arith)
 
 pub across_tag : (t : Tag) → layer_of t ≡ 12 → (r c : ℕ) × (t ≡ Across r c)
 across_tag (Across r c) e = (r, c, refl)
 across_tag (Lead r) e = absurd (line_not r 12 e (λ x. omega arith) (λ x. omega arith))
 across_tag (Bar r) e = absurd (line_not r 12 e (λ x. omega arith) (λ x. omega arith))
-across_tag (Frame r slot k) e = absurd (omega arith)
-across_tag (InPin r c i) e = absurd (omega arith)
-across_tag (OutPin r c i) e = absurd (omega arith)
-across_tag (Rise r c) e = absurd (omega arith)
-across_tag (Fall r c) e = absurd (omega arith)
-across_tag (FromVia r c) e = absurd (omega arith)
-across_tag (ToVia r c) e = absurd (omega arith)
+across_tag t e = absurd (omega arith)
 
 pub lower_tag : (t : Tag) → layer_of t ≡ 10 → (r c : ℕ) × ((t ≡ Rise r c) ⊎ (t ≡ Fall r c))
 lower_tag (Rise r c) e = (r, c, inl refl)
 lower_tag (Fall r c) e = (r, c, inr refl)
 lower_tag (Lead r) e = absurd (line_not r 10 e (λ x. omega arith) (λ x. omega arith))
 lower_tag (Bar r) e = absurd (line_not r 10 e (λ x. omega arith) (λ x. omega arith))
-lower_tag (Frame r slot k) e = absurd (omega arith)
-lower_tag (InPin r c i) e = absurd (omega arith)
-lower_tag (OutPin r c i) e = absurd (omega arith)
-lower_tag (Across r c) e = absurd (omega arith)
-lower_tag (FromVia r c) e = absurd (omega arith)
-lower_tag (ToVia r c) e = absurd (omega arith)
+lower_tag t e = absurd (omega arith)
 
 -- G3
 encloses : (s : Sheet) (ts : List Tag) (layer : ℕ) (v : Shape) (t u : Tag) → shape_of s t ≡ v
@@ -368,7 +340,7 @@ g4_rise s ts is has a f i r c q slot k at ea ef e =
     let pin = has.wire_begins r c w in
     let ef' : shape_of s (Frame r slot k) ≡ f = ap (λ (n : ℕ). shape_of s (Frame n slot k)) x.0 ∙ ef in
     over_pin s ts a f (OutPin r c pin.0) (Rise r c) r slot k ea ef' refl refl refl pin.1
-    (output_inside s is.routed.laws r c pin.0 slot k x.1)
+    (pin_inside s is.routed.laws Outputs r c pin.0 slot k x.1)
     (common_test (area s (Rise r c)) (area s (Frame r slot k)) (area s (OutPin r c pin.0)) (omega arith)
     (inl (omega arith)) (omega arith) (inr (omega arith)))
 
@@ -382,7 +354,7 @@ g4_fall s ts is has a f i r c q slot k at ea ef e =
     let pin = has.wire_ends r c w in
     let ef' : shape_of s (Frame (suc r) slot k) ≡ f = ap (λ (n : ℕ). shape_of s (Frame n slot k)) x.0 ∙ ef in
     over_pin s ts a f (InPin (suc r) (s.to r c) pin.0) (Fall r c) (suc r) slot k ea ef' refl refl refl pin.1
-    (input_inside s is.routed.laws (suc r) (s.to r c) pin.0 slot k x.1)
+    (pin_inside s is.routed.laws Inputs (suc r) (s.to r c) pin.0 slot k x.1)
     (common_test (area s (Fall r c)) (area s (Frame (suc r) slot k)) (area s (InPin (suc r) (s.to r c) pin.0))
     (omega arith) (inr (omega arith)) (omega arith) (inl (omega arith)))
 
@@ -404,6 +376,13 @@ frame_at s ts j f at l =
     let t = tag_of s ts j f at in
     let u = frame_tag t.0 (ap (λ (x : Shape). x.layer) t.2 ∙ l) in
     (u.0, u.1, u.2, subst (λ (x : Tag). At ts j x) u.3 t.1, sym (ap (shape_of s) u.3) ∙ t.2)
+
+pub pin_tag_at : (s : Sheet) (ts : List Tag) (side : Side) (i : ℕ) (a : Shape) → Is (shapes_of s ts) i a
+    → a.layer ≡ layer_on side → (r c n : ℕ) × At ts i (pin_tag side r c n) × (shape_of s (pin_tag side r c n) ≡ a)
+pin_tag_at s ts side i a at e =
+    let t = tag_of s ts i a at in
+    let u = pin_of_layer side t.0 (ap (λ (x : Shape). x.layer) t.2 ∙ e) in
+    (u.0, u.1, u.2, subst (λ (x : Tag). At ts i x) u.3 t.1, sym (ap (shape_of s) u.3) ∙ t.2)
 
 pub drawn_g4 : (s : Sheet) (ts : List Tag) → IsDrawn s ts → HasCells s ts → G4 (shapes_of s ts)
 drawn_g4 s ts is has = record {

@@ -1,11 +1,12 @@
 -- The flat form of a drawing is its tags, each as its shape, and its labels.
-use Rattle.std.proofs.Common.{◌≡◌, ℕ, zero, suc, ◌*◌, Bool, true, false, refl, sym, ap, ◌∙◌, ◌⊎◌, inl, inr, List, []}
-use Rattle.std.proofs.Common.{◌∷◌, ◌++◌, map, length, append_assoc, Some, pos, slice_get}
+use Rattle.std.proofs.Common.{◌≡◌, ℕ, zero, suc, ◌-◌, ◌*◌, Bool, true, false, refl, sym, ap, ◌∙◌, ◌⊎◌, inl, inr, List}
+use Rattle.std.proofs.Common.{[]}
+use Rattle.std.proofs.Common.{◌∷◌, ◌++◌, map, length, append_assoc, Some, pos, slice_get, get_or}
 use Rattle.std.specs.List.{flat_map, filter, list_any}
 use Rattle.std.proofs.lemmas.Bool.{eq-eqb, or_left, or_right}
 use Rattle.std.proofs.lemmas.List.{map-append, append-nil}
 use Rattle.circuit.specs.declared.cell_kind.CellKind.{CellKind}
-use Rattle.circuit.specs.declared.cell_kind.CellKind.TheVariants.{Buffer, Inverter, Zero, One, Split2, Split3, Majority}
+use Rattle.circuit.specs.declared.cell_kind.CellKind.TheVariants.{Buffer}
 use Rattle.circuit.specs.CellKinds.{number_of}
 use Rattle.geom.specs.declared.shapes.Shape.{Shape}
 use Rattle.geom.specs.declared.shapes.Label.{Label}
@@ -66,23 +67,11 @@ pub kinds_same : (a b : CellKind) → number_of a ≡ number_of b → a ≡ b
 kinds_same a b e = sym (back a) ∙ ap kind_of e ∙ back b
   where
     kind_of : ℕ → CellKind
-    kind_of zero = Buffer
-    kind_of (suc zero) = Buffer
-    kind_of (suc (suc zero)) = Inverter
-    kind_of (suc (suc (suc zero))) = Zero
-    kind_of (suc (suc (suc (suc zero)))) = One
-    kind_of (suc (suc (suc (suc (suc zero))))) = Split2
-    kind_of (suc (suc (suc (suc (suc (suc zero)))))) = Split3
-    kind_of (suc (suc (suc (suc (suc (suc (suc n))))))) = Majority
+    kind_of n = get_or all_kinds (n - 1) Buffer
 
     back : (k : CellKind) → kind_of (number_of k) ≡ k
     back Buffer = refl
-    back Inverter = refl
-    back Zero = refl
-    back One = refl
-    back Split2 = refl
-    back Split3 = refl
-    back Majority = refl
+    back k = refl
 
 pub in_filter : {A : Type 0} (test : A → Bool) (x : A) (xs : List A) → In x xs → test x ≡ true → In x (filter test xs)
 in_filter test x [] h e = absurd (not_in_nil x h)
@@ -96,12 +85,7 @@ in_filter {A} test x (y ∷ xs) h e = go (test y) refl (in_head x y xs h) (λ k.
 
 all_in_kinds : (k : CellKind) → In k all_kinds
 all_in_kinds Buffer = (0, refl)
-all_in_kinds Inverter = (1, refl)
-all_in_kinds Zero = (2, refl)
-all_in_kinds One = (3, refl)
-all_in_kinds Split2 = (4, refl)
-all_in_kinds Split3 = (5, refl)
-all_in_kinds Majority = (6, refl)
+all_in_kinds k = (number_of k - 1, refl)
 
 any_in : {A : Type 0} (test : A → Bool) (x : A) (xs : List A) → In x xs → test x ≡ true → list_any test xs ≡ true
 any_in test x [] h e = absurd (not_in_nil x h)

@@ -1,5 +1,5 @@
 -- What is kept of the rule of excitation lines, as the rule reports it.
-use Rattle.std.proofs.Common.{◌≡◌, ℕ, true, List, Some, sym, subst, slice_get}
+use Rattle.std.proofs.Common.{◌≡◌, ℕ, true, Some, sym, subst, slice_get}
 use Rattle.cell_library.specs.Library.{LibraryView}
 use Rattle.geom.specs.declared.shapes.Shape.{Shape}
 use Rattle.layout_rules.specs.Layers.{is_frame}

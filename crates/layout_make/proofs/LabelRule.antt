@@ -1,12 +1,13 @@
 -- What is kept of the rule of labels, as the rule reports it.
-use Rattle.std.proofs.Common.{◌≡◌, ℕ, zero, suc, pred, ◌+◌, ◌-◌, ◌<◌, ◌≤◌, ◌^◌, true, ◌&&◌, ◌==◌, refl, sym, ap, subst}
+use Rattle.std.proofs.Common.{◌≡◌, ℕ, zero, suc, pred, ◌+◌, ◌-◌, ◌<◌, ◌≤◌, ◌^◌, Bool, true, ◌&&◌, ◌==◌, refl, sym, ap}
+use Rattle.std.proofs.Common.{subst}
 use Rattle.std.proofs.Common.{◌∙◌, arith, ◌⊎◌, inl, inr, List, [], ◌∷◌, ◌++◌, map, length, Option, Some, None}
 use Rattle.std.specs.Prelude.{slice_get, slice_index, count_by, pos}
 use Rattle.std.specs.List.{list_any}
 use Rattle.std.proofs.lemmas.Option.{same_Some}
 use Rattle.std.proofs.lemmas.Bool.{both_ways, and_parts, and_from, or_cases, or_left, or_right, eqb-true, eq-eqb}
 use Rattle.circuit.specs.declared.cell_kind.CellKind.{CellKind}
-use Rattle.circuit.specs.CellKinds.{inputs_of, outputs_of}
+use Rattle.circuit.specs.declared.cell_kind.CellKind.TheVariants.{Buffer}
 use Rattle.geom.specs.declared.shapes.Shape.{Shape}
 use Rattle.geom.specs.declared.shapes.Label.{Label}
 use Rattle.layout_rules.specs.Rows.{row_of, row_count}
@@ -24,51 +25,29 @@ use Rattle.list_orders.specs.Numbers.{numbers}
 use Rattle.rowed.specs.RowNets.{last_of}
 use Rattle.cell_library.specs.Library.{LibraryView}
 use Rattle.layout_make.proofs.Lawful.{IsLawful}
-use Rattle.layout_make.specs.Sheet.{Tag, Frame, InPin, OutPin, shape_of, lower_edge}
+use Rattle.layout_make.specs.Sheet.{Tag, shape_of, lower_edge}
 use Rattle.layout_make.specs.Tags.{At, sheet, tags}
-use Rattle.layout_make.specs.Spots.{Spot, spots, has_port, PortAt, input_port, output_port}
-use Rattle.layout_make.proofs.ReadyNets.{IsReady}
-use Rattle.layout_make.specs.Channel.{in_column, out_column}
+use Rattle.layout_make.specs.Spots.{Spot, spots, has_port, PortAt}
+use Rattle.layout_make.proofs.ReadyNets.{IsReady, PortsAll}
+use Rattle.layout_make.specs.declared.marks.Ports.{Ports as Side}
+use Rattle.layout_make.specs.declared.marks.Ports.TheVariants.{Inputs, Outputs}
+use Rattle.layout_make.proofs.Sides.{pins_on, pin_column, pin_told, pin_layer, layer_on, layer_pin, PinAt, PinPlace}
+use Rattle.layout_make.proofs.Sides.{placed_pin}
 use Rattle.layout_make.specs.Draw.{labels, input_label, output_label}
 use Rattle.layout_make.specs.Marks.{MarksOne}
-use Rattle.layout_make.specs.Laws.{Is, flat_shapes, InAt, OutAt}
+use Rattle.layout_make.specs.Laws.{Is, flat_shapes}
 use Rattle.layout_make.proofs.FlatLaw.{flat_is_tags, labels_flat}
 use Rattle.layout_make.proofs.Joins.{to_map}
 use Rattle.layout_make.proofs.Counting.{count_numbered}
-use Rattle.layout_make.proofs.ChannelWires.{in_tells, out_tells}
+use Rattle.layout_make.proofs.ChannelWires.{pin_tells}
 use Rattle.layout_make.proofs.Origins.{frame_stands}
-use Rattle.layout_make.proofs.Whole.{drawn, spot_row, output_from}
-use Rattle.layout_make.proofs.Labelled.{input_marked, output_marked}
+use Rattle.layout_make.proofs.Whole.{drawn, spot_row}
+use Rattle.layout_make.proofs.Labelled.{port_row, ports_on, port_on, label_on, buffer_pin, port_marked}
 use Rattle.layout_make.proofs.LineAll.{edges_of}
-use Rattle.layout_make.proofs.Cells.{Columns, input_columns, output_columns}
-use Rattle.layout_make.proofs.Pins.{input_lies, output_lies}
+use Rattle.layout_make.proofs.Cells.{Columns, pin_columns}
+use Rattle.layout_make.proofs.Pins.{pin_lies}
 use Rattle.layout_make.proofs.KeptCells.{of_lies}
-use Rattle.layout_make.proofs.WiresJoined.{out_tag_at}
-use Rattle.layout_make.proofs.Wiring.{flat, Ports, input_number, same_in, tag_layer, rows_are, input_row, output_row}
-
--- an output pin by its cell
-pub record OutputNumber (p : PlacedView) (l : LibraryView) (m : ℕ) : Type 0 where
-  pub row : ℕ
-  pub cell : ℕ
-  pub pin : ℕ
-  pub out_at : OutAt p l row cell pin m
-
-pub output_number : (p : PlacedView) (l : LibraryView) → IsLawful l → (i : ℕ) (a : Shape) → Is (flat_shapes p l) i a
-    → a.layer ≡ 22 → OutputNumber p l i
-output_number p l laws i a at e =
-    let u = out_tag_at p l i a (subst (λ (ss : List Shape). Is ss i a) (flat_is_tags p l laws) at) e in
-    let f = output_from p l i u.0 u.1 u.2 u.3 in
-    record {
-      row = u.0;
-      cell = f.place.0;
-      pin = u.2;
-      out_at =
-          record {
-            spot = f.spot;
-            output = record { at = f.place.1; below = f.below };
-            at = subst (λ (c : ℕ). At (tags p l) i (OutPin u.0 c u.2)) f.column_so u.3;
-          };
-    }
+use Rattle.layout_make.proofs.Wiring.{flat, Ports, has_ports, cell_of_pin, same_pin, tag_layer, rows_are, pin_row}
 
 -- where a pin's frame is
 
@@ -77,41 +56,22 @@ module _ (p : PlacedView) (l : LibraryView) (is : IsReady p l) (laws : IsLawful 
   shape_is m t at = ap (λ (ss : List Shape). slice_get ss m) (flat_is_tags p l laws)
       ∙ to_map (shape_of (sheet p l)) (tags p l) m t at
 
-  pub in_columns : (r k i m : ℕ) (at : InAt p l r k i m) → Columns (sheet p l) at.spot.slot at.spot.cell.kind
-      (in_column l at.spot i)
+  pub own_columns : (side : Side) (r k i m : ℕ) (at : PinPlace p l side r k i m)
+      → Columns (sheet p l) at.spot.slot at.spot.cell.kind (pin_column l side at.spot i)
   unfolding sheet
-  in_columns r k i m at = input_columns (sheet p l) laws at.spot.slot i at.spot.cell.kind
-      (is.given r k at.spot at.input.at) at.input.below
-
-  pub out_columns : (r k o m : ℕ) (at : OutAt p l r k o m) → Columns (sheet p l) at.spot.slot at.spot.cell.kind
-      (out_column l at.spot o)
-  unfolding sheet
-  out_columns r k o m at = output_columns (sheet p l) laws at.spot.slot o at.spot.cell.kind
-      (is.given r k at.spot at.output.at) at.output.below
+  own_columns side r k i m at = pin_columns (sheet p l) laws side at.spot.slot i at.spot.cell.kind
+      (is.given r k at.spot at.at) at.below
 
   -- the frame of a pin's cell
-  pub input_frame : (r k i m : ℕ) (at : InAt p l r k i m)
-      → (f : ℕ) × At (tags p l) f (Frame r at.spot.slot at.spot.cell.kind) × LiesIn (flat_shapes p l) m f
-  input_frame r k i m at =
-      let f = frame_stands p l r at.spot (spot_row p r at.spot (k, at.input.at)) (k, at.input.at) in
-      let lies = input_lies (sheet p l) (tags p l) (drawn p l is laws) f.0 m r at.spot.slot (in_column l at.spot i) i
-      at.spot.cell.kind f.1 at.at (in_columns r k i m at) in (
+  pub pin_frame : (side : Side) (r k i m : ℕ) → PinAt p l side r k i m → (f : ℕ) × LiesIn (flat_shapes p l) m f
+  pin_frame side r k i m pin =
+      let at = placed_pin p l side r k i m pin in
+      let f = frame_stands p l r at.spot (spot_row p r at.spot (k, at.at)) (k, at.at) in
+      let lies = pin_lies (sheet p l) (tags p l) (drawn p l is laws) side f.0 m r at.spot.slot
+      (pin_column l side at.spot i) i at.spot.cell.kind f.1 at.tag_at (own_columns side r k i m at) in (
         f.0,
-        f.1,
         subst (λ (ss : List Shape). LiesIn ss m f.0) (sym (flat_is_tags p l laws))
-            (of_lies _ f.0 m 21 i refl lies),
-      )
-
-  pub output_frame : (r k o m : ℕ) (at : OutAt p l r k o m)
-      → (f : ℕ) × At (tags p l) f (Frame r at.spot.slot at.spot.cell.kind) × LiesIn (flat_shapes p l) m f
-  output_frame r k o m at =
-      let f = frame_stands p l r at.spot (spot_row p r at.spot (k, at.output.at)) (k, at.output.at) in
-      let lies = output_lies (sheet p l) (tags p l) (drawn p l is laws) f.0 m r at.spot.slot (out_column l at.spot o) o
-      at.spot.cell.kind f.1 at.at (out_columns r k o m at) in (
-        f.0,
-        f.1,
-        subst (λ (ss : List Shape). LiesIn ss m f.0) (sym (flat_is_tags p l laws))
-            (of_lies _ f.0 m 22 o refl lies),
+            (of_lies _ f.0 m (layer_on side) i (layer_pin side) lies),
       )
 
   -- the pin stands in its row
@@ -160,163 +120,124 @@ module _ (p : PlacedView) (l : LibraryView) (is : IsReady p l) (laws : IsLawful 
 
   -- entries and exits are the pins of the ports
 
-  pub entry_of : (k i m : ℕ) (a : Shape) → InAt p l 0 k i m → Is (flat_shapes p l) m a
-      → is_entry (flat_shapes p l) a ≡ true
-  entry_of k i m a at is_a =
-      let f = input_frame 0 k i m at in
-      and_from (a.layer == 21) (stands_in (flat_shapes p l) 0 a)
-      (eq-eqb a.layer 21 (sym (tag_layer p l m _ a laws at.at is_a)))
-      (stands m f.0 0 a is_a f.2 (input_row p l is laws 0 k i m f.0 at f.2))
+  abbrev row_on : Side → ℕ
+  row_on Inputs = 0
+  row_on Outputs = row_count (flat_shapes p l) - 1
 
-  pub of_entry : (m : ℕ) (a : Shape) → Is (flat_shapes p l) m a → is_entry (flat_shapes p l) a ≡ true
-      → (k i : ℕ) × InAt p l 0 k i m
-  of_entry m a is_a e =
-      let parts = and_parts (a.layer == 21) (stands_in (flat_shapes p l) 0 a) e in
-      let n = input_number p l laws m a is_a (eqb-true a.layer 21 parts.0) in
-      let f = stands_frame m 0 a is_a parts.1 in
-      let row : n.row ≡ 0 = sym (input_row p l is laws n.row n.cell n.pin m f.0 n.in_at f.1) ∙ f.2 in
-      (n.cell, n.pin, subst (λ (r : ℕ). InAt p l r n.cell n.pin m) row n.in_at)
+  -- an entry, or an exit
+  abbrev pub is_on : Side → Shape → Bool
+  is_on side a = a.layer == layer_on side && stands_in (flat_shapes p l) (row_on side) a
 
-  pub exit_of : (k o m : ℕ) (a : Shape) → OutAt p l (last_of p.net.rows) k o m → Is (flat_shapes p l) m a
-      → is_exit (flat_shapes p l) a ≡ true
-  exit_of k o m a at is_a =
-      let f = output_frame (last_of p.net.rows) k o m at in
-      and_from (a.layer == 22) (stands_in (flat_shapes p l) (row_count (flat_shapes p l) - 1) a)
-      (eq-eqb a.layer 22 (sym (tag_layer p l m _ a laws at.at is_a)))
-      (stands m f.0 (row_count (flat_shapes p l) - 1) a is_a f.2
-      (output_row p l is laws (last_of p.net.rows) k o m f.0 at f.2 ∙ sym last_is))
+  row_is : (side : Side) → row_on side ≡ port_row p side
+  row_is Inputs = refl
+  row_is Outputs = last_is
 
-  pub of_exit : (m : ℕ) (a : Shape) → Is (flat_shapes p l) m a → is_exit (flat_shapes p l) a ≡ true
-      → (k o : ℕ) × OutAt p l (last_of p.net.rows) k o m
-  of_exit m a is_a e =
-      let parts = and_parts (a.layer == 22) (stands_in (flat_shapes p l) (row_count (flat_shapes p l) - 1) a) e in
-      let n = output_number p l laws m a is_a (eqb-true a.layer 22 parts.0) in
-      let f = stands_frame m (row_count (flat_shapes p l) - 1) a is_a parts.1 in
-      let row : n.row ≡ last_of p.net.rows = sym (output_row p l is laws n.row n.cell n.pin m f.0 n.out_at f.1) ∙ f.2
-      ∙ last_is in
-      (n.cell, n.pin, subst (λ (r : ℕ). OutAt p l r n.cell n.pin m) row n.out_at)
+  on_port : (side : Side) (k i m : ℕ) (a : Shape) → PinAt p l side (port_row p side) k i m → Is (flat_shapes p l) m a
+      → is_on side a ≡ true
+  on_port side k i m a at is_a =
+      let row = port_row p side in
+      let f = pin_frame side row k i m at in
+      let tag = (placed_pin p l side row k i m at).tag_at in
+      and_from (a.layer == layer_on side) (stands_in (flat_shapes p l) (row_on side) a)
+      (eq-eqb a.layer (layer_on side) (sym (tag_layer p l m _ a laws tag is_a) ∙ pin_layer side row _ i))
+      (stands m f.0 (row_on side) a is_a f.1 (pin_row p l is laws side row k i m f.0 at f.1 ∙ sym (row_is side)))
+
+  of_port : (side : Side) (m : ℕ) (a : Shape) → Is (flat_shapes p l) m a → is_on side a ≡ true
+      → (k i : ℕ) × PinAt p l side (port_row p side) k i m
+  of_port side m a is_a e =
+      let parts = and_parts (a.layer == layer_on side) (stands_in (flat_shapes p l) (row_on side) a) e in
+      let n = cell_of_pin p l laws side m a is_a (eqb-true a.layer (layer_on side) parts.0) in
+      let f = stands_frame m (row_on side) a is_a parts.1 in
+      let row : n.row ≡ port_row p side = sym (pin_row p l is laws side n.row n.cell n.pin m f.0 n.pin_at f.1) ∙ f.2
+      ∙ row_is side in
+      (n.cell, n.pin, subst (λ (r : ℕ). PinAt p l side r n.cell n.pin m) row n.pin_at)
 
   -- the pins of the ports have the ports' numbers
 
-  abbrev pub IsInputPin : ℕ → ℕ → Type 0
-  IsInputPin m n = (k : ℕ) × PortAt p input_port 0 n k × InAt p l 0 k 0 m
+  abbrev pub IsPortPin : Side → ℕ → ℕ → Type 0
+  IsPortPin side m n =
+      (k : ℕ) × PortAt p (port_on side) (port_row p side) n k × PinAt p l side (port_row p side) k 0 m
 
-  abbrev pub IsOutputPin : ℕ → ℕ → Type 0
-  IsOutputPin m n = (k : ℕ) × PortAt p output_port (last_of p.net.rows) n k × OutAt p l (last_of p.net.rows) k 0 m
+  all_ports : (side : Side) → PortsAll p (port_on side) (λ c. pins_on side c.kind) (port_row p side) (ports_on p side)
+  all_ports Inputs = ports.all_inputs
+  all_ports Outputs = ports.all_outputs
 
   one_port : (o : Option ℕ) (m n : ℕ) → has_port o m ≡ true → has_port o n ≡ true → m ≡ n
   one_port None m n a b = absurd cc
   one_port (Some k) m n a b = sym (eqb-true k m a) ∙ eqb-true k n b
 
-  in_same : (r c i q d j : ℕ) → InPin r c i ≡ InPin q d j → (c ≡ d) × (i ≡ j)
-  in_same r c i q d j e = (cc, cc)
+  pin_cell : (side : Side) (r k j i q m : ℕ) → PinAt p l side r k i m → PinAt p l side r j q m → k ≡ j
+  pin_cell side r k j i q m x y =
+      let a = placed_pin p l side r k i m x in
+      let b = placed_pin p l side r j q m y in
+      (pin_tells l laws side (spots p r) (is.given r) k j i q a.spot b.spot (is.packed r) a.at b.at a.below b.below
+      (pin_told side side r _ _ r _ _ (same_Some _ _ (sym a.tag_at ∙ b.tag_at))).2).0
 
-  out_same : (r c i q d j : ℕ) → OutPin r c i ≡ OutPin q d j → (c ≡ d) × (i ≡ j)
-  out_same r c i q d j e = (cc, cc)
+  one_number : (side : Side) (m a b : ℕ) → IsPortPin side m a → IsPortPin side m b → a ≡ b
+  one_number side m a b x y =
+      let row = port_row p side in
+      let cell = pin_cell side row x.0 y.0 0 0 m x.2 y.2 in
+      let same : x.1.spot ≡ y.1.spot = same_Some _ _
+      (sym x.1.at ∙ ap (λ (n : ℕ). slice_get (spots p row) n) cell ∙ y.1.at) in
+      one_port (port_on side y.1.spot.cell) a b (ap (λ (z : Spot). has_port (port_on side z.cell) a) (sym same)
+      ∙ x.1.has) y.1.has
 
-  pub in_cell : (r k j i q m : ℕ) → InAt p l r k i m → InAt p l r j q m → k ≡ j
-  in_cell r k j i q m a b =
-      (in_tells l laws (spots p r) (is.given r) k j i q a.spot b.spot (is.packed r) a.input.at b.input.at a.input.below
-      b.input.below (in_same r _ _ r _ _ (same_Some _ _ (sym a.at ∙ b.at))).0).0
+  one_place : (side : Side) (m j n : ℕ) → IsPortPin side m n → IsPortPin side j n → m ≡ j
+  one_place side m j n x y =
+      let cell : x.0 ≡ y.0 = (has_ports p ports side).once n x.0 y.0 x.1.spot y.1.spot x.1.at y.1.at x.1.has y.1.has in
+      same_pin p l (drawn p l is laws) side (port_row p side) y.0 0 m j
+      (subst (λ (k : ℕ). PinAt p l side (port_row p side) k 0 m) cell x.2) y.2
 
-  pub out_cell : (r k j o q m : ℕ) → OutAt p l r k o m → OutAt p l r j q m → k ≡ j
-  out_cell r k j o q m a b =
-      (out_tells l laws (spots p r) (is.given r) k j o q a.spot b.spot (is.packed r) a.output.at b.output.at
-      a.output.below b.output.below (out_same r _ _ r _ _ (same_Some _ _ (sym a.at ∙ b.at))).0).0
-
-  same_spot : (r k j : ℕ) (x y : Spot) → k ≡ j → slice_get (spots p r) k ≡ Some x → slice_get (spots p r) j ≡ Some y
-      → x ≡ y
-  same_spot r k j x y e a b = same_Some _ _ (sym a ∙ ap (λ (n : ℕ). slice_get (spots p r) n) e ∙ b)
-
-  input_one_number : (m a b : ℕ) → IsInputPin m a → IsInputPin m b → a ≡ b
-  input_one_number m a b x y =
-      let same = same_spot 0 x.0 y.0 x.1.spot y.1.spot (in_cell 0 x.0 y.0 0 0 m x.2 y.2) x.1.at y.1.at in
-      one_port y.1.spot.cell.input a b (ap (λ (z : Spot). has_port z.cell.input a) (sym same) ∙ x.1.has) y.1.has
-
-  pub input_one_pin : (m j n : ℕ) → IsInputPin m n → IsInputPin j n → m ≡ j
-  input_one_pin m j n x y =
-      let cell : x.0 ≡ y.0 = ports.inputs.once n x.0 y.0 x.1.spot y.1.spot x.1.at y.1.at x.1.has y.1.has in
-      same_in p l (drawn p l is laws) 0 y.0 0 m j (subst (λ (k : ℕ). InAt p l 0 k 0 m) cell x.2) y.2
-
-  output_one_number : (m a b : ℕ) → IsOutputPin m a → IsOutputPin m b → a ≡ b
-  output_one_number m a b x y =
-      let same = same_spot (last_of p.net.rows) x.0 y.0 x.1.spot y.1.spot
-      (out_cell (last_of p.net.rows) x.0 y.0 0 0 m x.2 y.2) x.1.at y.1.at in
-      one_port y.1.spot.cell.output a b (ap (λ (z : Spot). has_port z.cell.output a) (sym same) ∙ x.1.has) y.1.has
-
-  same_out : (r k o a b : ℕ) → OutAt p l r k o a → OutAt p l r k o b → a ≡ b
-  same_out r k o a b f g =
-      let e : f.spot ≡ g.spot = same_spot r k k f.spot g.spot refl f.output.at g.output.at in
-      (drawn p l is laws).once a b (OutPin r (out_column l g.spot o) o)
-      (subst (λ (x : Spot). At (tags p l) a (OutPin r (out_column l x o) o)) e f.at) g.at
-
-  pub output_one_pin : (m j n : ℕ) → IsOutputPin m n → IsOutputPin j n → m ≡ j
-  output_one_pin m j n x y =
-      let cell : x.0 ≡ y.0 = ports.outputs.once n x.0 y.0 x.1.spot y.1.spot x.1.at y.1.at x.1.has y.1.has in
-      same_out (last_of p.net.rows) y.0 0 m j (subst (λ (k : ℕ). OutAt p l (last_of p.net.rows) k 0 m) cell x.2) y.2
+  pub input_one_pin : (m j n : ℕ) → IsPortPin Inputs m n → IsPortPin Inputs j n → m ≡ j
+  input_one_pin = one_place Inputs
 
   -- the number of an entry, and of an exit
-  pub entry_number : (m : ℕ) (a : Shape) → Is (flat_shapes p l) m a → is_entry (flat_shapes p l) a ≡ true
-      → (n : ℕ) × (n < p.net.inputs) × IsInputPin m n
-  entry_number m a is_a e =
-      let h = of_entry m a is_a e in
-      let below = h.2.input.below in
-      let port = ports.all_inputs h.0 h.2.spot h.2.input.at (omega arith) in
-      let zero_pin : h.1 ≡ 0 = (let b : h.1 < 1 = subst (λ (k : CellKind). h.1 < inputs_of k) port.3 below in
-      omega arith) in (
+  port_number : (side : Side) (m : ℕ) (a : Shape) → Is (flat_shapes p l) m a → is_on side a ≡ true
+      → (n : ℕ) × (n < ports_on p side) × IsPortPin side m n
+  port_number side m a is_a e =
+      let row = port_row p side in
+      let h = of_port side m a is_a e in
+      let at = placed_pin p l side row h.0 h.1 m h.2 in
+      let below = at.below in
+      let port = all_ports side h.0 at.spot at.at (omega arith) in
+      let zero_pin : h.1 ≡ 0 = (let b : h.1 < pins_on side Buffer = subst (λ (k : CellKind). h.1 < pins_on side k)
+      port.3 below in let one = buffer_pin side in omega arith) in (
         port.0,
         port.1,
         (
           h.0,
-          record { spot = h.2.spot; at = h.2.input.at; has = port.2; buffer = port.3 },
-          subst (λ (i : ℕ). InAt p l 0 h.0 i m) zero_pin h.2,
+          record { spot = at.spot; at = at.at; has = port.2; buffer = port.3 },
+          subst (λ (i : ℕ). PinAt p l side row h.0 i m) zero_pin h.2,
         ),
       )
 
-  exit_number : (m : ℕ) (a : Shape) → Is (flat_shapes p l) m a → is_exit (flat_shapes p l) a ≡ true
-      → (n : ℕ) × (n < p.net.outputs) × IsOutputPin m n
-  exit_number m a is_a e =
-      let h = of_exit m a is_a e in
-      let below = h.2.output.below in
-      let port = ports.all_outputs h.0 h.2.spot h.2.output.at (omega arith) in
-      let zero_pin : h.1 ≡ 0 = (let b : h.1 < 1 = subst (λ (k : CellKind). h.1 < outputs_of k) port.3 below in
-      omega arith) in (
-        port.0,
-        port.1,
-        (
-          h.0,
-          record { spot = h.2.spot; at = h.2.output.at; has = port.2; buffer = port.3 },
-          subst (λ (o : ℕ). OutAt p l (last_of p.net.rows) h.0 o m) zero_pin h.2,
-        ),
-      )
+  ports_are : (side : Side) → count_by (is_on side) (flat_shapes p l) ≡ ports_on p side
+  ports_are side = count_numbered (IsPortPin side) (one_place side) (one_number side) (is_on side) (flat_shapes p l)
+      (ports_on p side) (port_number side)
+      (λ n lt. let mark = port_marked p l is laws side (has_ports p ports side) n lt in (
+        mark.1,
+        mark.4.pin,
+        mark.4.pin_is,
+        on_port side mark.0 0 mark.1 mark.4.pin mark.3 mark.4.pin_is,
+        (mark.0, mark.2, mark.3),
+      ))
 
   pub entries_are : entry_count (flat_shapes p l) ≡ p.net.inputs
-  entries_are = count_numbered IsInputPin input_one_pin input_one_number (is_entry (flat_shapes p l)) (flat_shapes p l)
-      p.net.inputs entry_number
-      (λ n lt. let mark = input_marked p l is laws ports.inputs n lt in (
-        mark.1,
-        mark.4.pin,
-        mark.4.pin_is,
-        entry_of mark.0 0 mark.1 mark.4.pin mark.3 mark.4.pin_is,
-        (mark.0, mark.2, mark.3),
-      ))
+  entries_are = ports_are Inputs
 
   pub exits_are : exit_count (flat_shapes p l) ≡ p.net.outputs
-  exits_are = count_numbered IsOutputPin output_one_pin output_one_number (is_exit (flat_shapes p l)) (flat_shapes p l)
-      p.net.outputs exit_number
-      (λ n lt. let mark = output_marked p l is laws ports.outputs n lt in (
-        mark.1,
-        mark.4.pin,
-        mark.4.pin_is,
-        exit_of mark.0 0 mark.1 mark.4.pin mark.3 mark.4.pin_is,
-        (mark.0, mark.2, mark.3),
-      ))
+  exits_are = ports_are Outputs
 
   -- the labels by their places
 
-  pub data LabelAt (q : ℕ) (b : Label) : Type 0 where
-    AnInput : q < p.net.inputs → b ≡ input_label p l q → LabelAt q b
-    AnOutput : (n : ℕ) → n < p.net.outputs → q ≡ p.net.inputs + n → b ≡ output_label p l n → LabelAt q b
+  -- outputs stand after the inputs
+  abbrev label_place : Side → ℕ → ℕ
+  label_place Inputs n = n
+  label_place Outputs n = p.net.inputs + n
+
+  data LabelAt (q : ℕ) (b : Label) : Type 0 where
+    OfPort : (side : Side) (n : ℕ) → n < ports_on p side → q ≡ label_place side n → b ≡ label_on p l side n
+        → LabelAt q b
 
   at_append : (xs ys : List Label) (q : ℕ) (b : Label) → slice_get (xs ++ ys) q ≡ Some b → (slice_get xs q ≡ Some b)
       ⊎ ((n : ℕ) × (q ≡ length xs + n) × (slice_get ys n ≡ Some b))
@@ -336,15 +257,15 @@ module _ (p : PlacedView) (l : LibraryView) (is : IsReady p l) (laws : IsLawful 
   long f k zero = refl
   long f k (suc n) = let h = long f (suc k) n in omega arith
 
-  pub label_at : (q : ℕ) (b : Label) → slice_get (flat p l).labels q ≡ Some b → LabelAt q b
+  label_at : (q : ℕ) (b : Label) → slice_get (flat p l).labels q ≡ Some b → LabelAt q b
   label_at q b e =
       elim (at_append (map (input_label p l) (numbers 0 p.net.inputs))
       (map (output_label p l) (numbers 0 p.net.outputs)) q b
       (ap (λ (bs : List Label). slice_get bs q) (sym (labels_flat p l)) ∙ e)) [
         | inl h ↦ let k = at_number (input_label p l) 0 p.net.inputs q b h in
-            AnInput k.0 (k.1 ∙ ap (input_label p l) (omega arith))
+            OfPort Inputs q k.0 refl (k.1 ∙ ap (input_label p l) (omega arith))
         | inr h ↦ let k = at_number (output_label p l) 0 p.net.outputs h.0 b h.2 in
-            AnOutput h.0 k.0 (h.1 ∙ ap (λ (n : ℕ). n + h.0) (long (input_label p l) 0 p.net.inputs))
+            OfPort Outputs h.0 k.0 (h.1 ∙ ap (λ (n : ℕ). n + h.0) (long (input_label p l) 0 p.net.inputs))
             (k.1 ∙ ap (output_label p l) (omega arith))
       ]
 
@@ -388,6 +309,24 @@ module _ (p : PlacedView) (l : LibraryView) (is : IsReady p l) (laws : IsLawful 
     pub output_numbered : (n : ℕ) → n < p.net.outputs → IsNumbered (output_label p l n) letter_o n
     output_numbered n lt = IsNumbered-decimal (output_label p l n) letter_o n (omega arith) refl
 
+    label_numbered : (side : Side) (n : ℕ) → n < ports_on p side
+        → (is_numbered (label_on p l side n) ≡ true) × (number_of_label (label_on p l side n) ≡ n)
+    label_numbered Inputs n lt = let k = input_numbered n lt in (k.decimal_so, k.number_is)
+    label_numbered Outputs n lt = let k = output_numbered n lt in (k.decimal_so, k.number_is)
+
+    label_there : (side : Side) (n : ℕ) → n < ports_on p side
+        → slice_get (flat p l).labels (label_place side n) ≡ Some (label_on p l side n)
+    label_there Inputs = input_label_at
+    label_there Outputs = output_label_at
+
+    side_port : (side : Side) (a : Shape) → is_on side a ≡ true → is_port (flat_shapes p l) a ≡ true
+    side_port Inputs a e = or_left (is_entry (flat_shapes p l) a) (is_exit (flat_shapes p l) a) e
+    side_port Outputs a e = or_right (is_entry (flat_shapes p l) a) (is_exit (flat_shapes p l) a) e
+
+    port_side : (a : Shape) → is_port (flat_shapes p l) a ≡ true → (side : Side) × (is_on side a ≡ true)
+    port_side a e = elim (or_cases (is_entry (flat_shapes p l) a) (is_exit (flat_shapes p l) a) e)
+        [ inl entry ↦ (Inputs, entry) | inr exit ↦ (Outputs, exit) ]
+
     -- a label on one pin, which is a port
     marked_port : (b : Label) (m : ℕ) → is_numbered b ≡ true → (mark : MarksOne (flat_shapes p l) b m)
         → is_port (flat_shapes p l) mark.pin ≡ true → is_port_label (flat_shapes p l) b ≡ true
@@ -401,131 +340,94 @@ module _ (p : PlacedView) (l : LibraryView) (is : IsReady p l) (laws : IsLawful 
         mark.pin_is (and_from (marks b mark.pin) (is_port (flat_shapes p l) mark.pin) mark.marked port))
 
     port_label : (q : ℕ) (b : Label) → LabelAt q b → is_port_label (flat_shapes p l) b ≡ true
-    port_label q b (AnInput lt e) =
-        let mark = input_marked p l is laws ports.inputs q lt in
-        let port = or_left (is_entry (flat_shapes p l) mark.4.pin) (is_exit (flat_shapes p l) mark.4.pin)
-        (entry_of mark.0 0 mark.1 mark.4.pin mark.3 mark.4.pin_is) in
-        ap (is_port_label (flat_shapes p l)) e ∙ marked_port (input_label p l q) mark.1
-        (input_numbered q lt).decimal_so mark.4 port
-    port_label q b (AnOutput n lt at e) =
-        let mark = output_marked p l is laws ports.outputs n lt in
-        let port = or_right (is_entry (flat_shapes p l) mark.4.pin) (is_exit (flat_shapes p l) mark.4.pin)
-        (exit_of mark.0 0 mark.1 mark.4.pin mark.3 mark.4.pin_is) in
-        ap (is_port_label (flat_shapes p l)) e ∙ marked_port (output_label p l n) mark.1
-        (output_numbered n lt).decimal_so mark.4 port
+    port_label q b (OfPort side n lt at e) =
+        let mark = port_marked p l is laws side (has_ports p ports side) n lt in
+        ap (is_port_label (flat_shapes p l)) e ∙ marked_port (label_on p l side n) mark.1 (label_numbered side n lt).0
+        mark.4 (side_port side mark.4.pin (on_port side mark.0 0 mark.1 mark.4.pin mark.3 mark.4.pin_is))
 
     labels_stand : (a : ℕ) → IsNoPortLabel (flat p l) a → ⊥
     labels_stand a h = both_ways (is_port_label (flat_shapes p l) h.at.label) h.not_so
         (port_label h.at.place h.at.label (label_at h.at.place h.at.label h.at.label_is))
 
-    -- the layers of marked pins
-    input_mark : (m n : ℕ) (a : Shape) (lt : n < p.net.inputs) → Is (flat_shapes p l) m a
-        → marks (input_label p l n) a ≡ true → IsInputPin m n
-    input_mark m n a lt is_a e =
-        let mark = input_marked p l is laws ports.inputs n lt in
-        (mark.0, mark.2, subst (λ (k : ℕ). InAt p l 0 mark.0 0 k) (sym (mark.4.only m a is_a e)) mark.3)
-
-    output_mark : (m n : ℕ) (a : Shape) (lt : n < p.net.outputs) → Is (flat_shapes p l) m a
-        → marks (output_label p l n) a ≡ true → IsOutputPin m n
-    output_mark m n a lt is_a e =
-        let mark = output_marked p l is laws ports.outputs n lt in (
+    -- the port of a marked pin
+    port_mark : (side : Side) (m n : ℕ) (a : Shape) (lt : n < ports_on p side) → Is (flat_shapes p l) m a
+        → marks (label_on p l side n) a ≡ true → IsPortPin side m n
+    port_mark side m n a lt is_a e =
+        let mark = port_marked p l is laws side (has_ports p ports side) n lt in (
           mark.0,
           mark.2,
-          subst (λ (k : ℕ). OutAt p l (last_of p.net.rows) mark.0 0 k) (sym (mark.4.only m a is_a e))
-              mark.3,
+          subst (λ (k : ℕ). PinAt p l side (port_row p side) mark.0 0 k) (sym (mark.4.only m a is_a e)) mark.3,
         )
 
-    not_both : (m n k : ℕ) → IsInputPin m n → IsOutputPin m k → ⊥
-    not_both m n k x y = clash _ _ _ _ _ _ (same_Some _ _ (sym x.2.at ∙ y.2.at))
-      where
-        clash : (r c i q d o : ℕ) → InPin r c i ≡ OutPin q d o → ⊥
-        clash r c i q d o e = cc
+    one_side : (a b : Side) (m n k : ℕ) → IsPortPin a m n → IsPortPin b m k → a ≡ b
+    one_side a b m n k x y =
+        let f = placed_pin p l a (port_row p a) x.0 0 m x.2 in
+        let g = placed_pin p l b (port_row p b) y.0 0 m y.2 in
+        (pin_told a b _ _ _ _ _ _ (same_Some _ _ (sym f.tag_at ∙ g.tag_at))).0
 
     one_label : (m : ℕ) (a : Shape) → Is (flat_shapes p l) m a → is_port (flat_shapes p l) a ≡ true
         → count_by (λ label. marks label a) (flat p l).labels ≡ 1
-    one_label m a is_a e = elim (or_cases (is_entry (flat_shapes p l) a) (is_exit (flat_shapes p l) a) e) [
-      | inl entry ↦
-          let n = entry_number m a is_a entry in
-          let mark = input_marked p l is laws ports.inputs n.0 n.1 in
-          let pin : m ≡ mark.1 = input_one_pin m mark.1 n.0 n.2 (mark.0, mark.2, mark.3) in
-          let shape : mark.4.pin ≡ a = same_Some _ _
-          (sym mark.4.pin_is ∙ ap (λ (k : ℕ). slice_get (flat_shapes p l) k) (sym pin) ∙ is_a) in
-          count_by-once (λ (label : Label). marks label a) (flat p l).labels n.0 (input_label p l n.0)
-          (input_label_at n.0 n.1) (ap (marks (input_label p l n.0)) (sym shape) ∙ mark.4.marked)
-          (λ q b is_b t. entry_only m n.0 q b a is_a n.2 (label_at q b is_b) t)
-      | inr exit ↦
-          let n = exit_number m a is_a exit in
-          let mark = output_marked p l is laws ports.outputs n.0 n.1 in
-          let pin : m ≡ mark.1 = output_one_pin m mark.1 n.0 n.2 (mark.0, mark.2, mark.3) in
-          let shape : mark.4.pin ≡ a = same_Some _ _
-          (sym mark.4.pin_is ∙ ap (λ (k : ℕ). slice_get (flat_shapes p l) k) (sym pin) ∙ is_a) in
-          count_by-once (λ (label : Label). marks label a) (flat p l).labels (p.net.inputs + n.0)
-          (output_label p l n.0) (output_label_at n.0 n.1) (ap (marks (output_label p l n.0)) (sym shape)
-          ∙ mark.4.marked) (λ q b is_b t. exit_only m n.0 q b a is_a n.2 (label_at q b is_b) t)
-    ]
+    one_label m a is_a e =
+        let c = port_side a e in
+        let side = c.0 in
+        let n = port_number side m a is_a c.1 in
+        let mark = port_marked p l is laws side (has_ports p ports side) n.0 n.1 in
+        let pin : m ≡ mark.1 = one_place side m mark.1 n.0 n.2 (mark.0, mark.2, mark.3) in
+        let shape : mark.4.pin ≡ a = same_Some _ _
+        (sym mark.4.pin_is ∙ ap (λ (k : ℕ). slice_get (flat_shapes p l) k) (sym pin) ∙ is_a) in
+        count_by-once (λ (label : Label). marks label a) (flat p l).labels (label_place side n.0)
+        (label_on p l side n.0) (label_there side n.0 n.1) (ap (marks (label_on p l side n.0)) (sym shape)
+        ∙ mark.4.marked) (λ q b is_b t. only side n.0 n.2 q b (label_at q b is_b) t)
       where
-        entry_only : (m n q : ℕ) (b : Label) (a : Shape) → Is (flat_shapes p l) m a → IsInputPin m n → LabelAt q b
-            → marks b a ≡ true → q ≡ n
-        entry_only m n q b a is_a pin (AnInput lt e) t =
-            input_one_number m q n (input_mark m q a lt is_a (ap (λ (x : Label). marks x a) (sym e) ∙ t)) pin
-        entry_only m n q b a is_a pin (AnOutput k lt at e) t =
-            absurd (not_both m n k pin (output_mark m k a lt is_a (ap (λ (x : Label). marks x a) (sym e) ∙ t)))
-
-        exit_only : (m n q : ℕ) (b : Label) (a : Shape) → Is (flat_shapes p l) m a → IsOutputPin m n → LabelAt q b
-            → marks b a ≡ true → q ≡ p.net.inputs + n
-        exit_only m n q b a is_a pin (AnInput lt e) t =
-            absurd (not_both m q n (input_mark m q a lt is_a (ap (λ (x : Label). marks x a) (sym e) ∙ t)) pin)
-        exit_only m n q b a is_a pin (AnOutput k lt at e) t =
-            at ∙ ap (λ (x : ℕ). p.net.inputs + x)
-            (output_one_number m k n (output_mark m k a lt is_a (ap (λ (x : Label). marks x a) (sym e) ∙ t)) pin)
+        only : (side : Side) (n : ℕ) → IsPortPin side m n → (q : ℕ) (b : Label) → LabelAt q b → marks b a ≡ true
+            → q ≡ label_place side n
+        only side n x q b (OfPort other k lt at e) t =
+            let y = port_mark other m k a lt is_a (ap (λ (z : Label). marks z a) (sym e) ∙ t) in
+            subst (λ (z : Side). IsPortPin z m k → q ≡ label_place z k → q ≡ label_place side n)
+            (one_side side other m n k x y) (λ y at. at ∙ ap (label_place side) (one_number side m k n y x)) y at
 
     ports_labelled : (a : ℕ) → IsUnlabelledPort (flat p l) a → ⊥
     ports_labelled a h = h.not_one (one_label a h.port.shape h.port.shape_is h.port.passes_so)
 
+    counted : (side : Side) (n : ℕ) → port_count (flat_shapes p l) (label_on p l side n) ≡ ports_on p side
+    counted Inputs n = entries_are
+    counted Outputs n = exits_are
+
+    letters_told : (a b : Side) (n m : ℕ) → slice_index (label_on p l a n).text 0 ≡ slice_index (label_on p l b m).text
+        0 → a ≡ b
+    letters_told Inputs Inputs n m e = refl
+    letters_told Outputs Outputs n m e = refl
+    letters_told Inputs Outputs n m e = absurd (omega arith)
+    letters_told Outputs Inputs n m e = absurd (omega arith)
+
     well_numbered : (q : ℕ) (b : Label) → LabelAt q b → (port_count (flat_shapes p l) b ≤ number_of_label b)
         ⊎ IsRepeated (flat p l) q b → ⊥
-    well_numbered q b (AnInput lt e) (inl more) =
-        let count : port_count (flat_shapes p l) b ≡ p.net.inputs = ap (port_count (flat_shapes p l)) e ∙ entries_are in
-        let number : number_of_label b ≡ q = ap number_of_label e ∙ (input_numbered q lt).number_is in
-        absurd (omega arith)
-    well_numbered q b (AnOutput n lt at e) (inl more) =
-        let count : port_count (flat_shapes p l) b ≡ p.net.outputs = ap (port_count (flat_shapes p l)) e ∙ exits_are in
-        let number : number_of_label b ≡ n = ap number_of_label e ∙ (output_numbered n lt).number_is in
+    well_numbered q b (OfPort side n lt at e) (inl more) =
+        let count : port_count (flat_shapes p l) b ≡ ports_on p side = ap (port_count (flat_shapes p l)) e
+        ∙ counted side n in
+        let number : number_of_label b ≡ n = ap number_of_label e ∙ (label_numbered side n lt).1 in
         absurd (omega arith)
     well_numbered q b at (inr h) = repeated q b at h.earlier h.other (label_at h.earlier h.other h.other_is) h.before
         h.one_name
       where
-        letters : (x y : Label) → have_one_name x y ≡ true → (slice_index x.text 0 ≡ slice_index y.text 0)
-            × (number_of_label x ≡ number_of_label y)
-        letters x y e = let k = and_parts (slice_index x.text 0 == slice_index y.text 0)
-            (number_of_label x == number_of_label y) e in (
-              eqb-true (slice_index x.text 0) (slice_index y.text 0) k.0,
-              eqb-true (number_of_label x)
-                  (number_of_label y) k.1,
-            )
+        place_less : (side : Side) (n m : ℕ) → m ≡ n → label_place side m < label_place side n → ⊥
+        place_less side n m e less = let k = ap (label_place side) e in omega arith
 
         repeated : (q : ℕ) (b : Label) → LabelAt q b → (r : ℕ) (c : Label) → LabelAt r c → r < q
             → have_one_name c b ≡ true → ⊥
-        repeated q b (AnInput lq eq) r c (AnInput lr er) less same =
-            let k : number_of_label c ≡ number_of_label b = (letters c b same).1 in
-            let x : number_of_label b ≡ q = ap number_of_label eq ∙ (input_numbered q lq).number_is in
-            let y : number_of_label c ≡ r = ap number_of_label er ∙ (input_numbered r lr).number_is in
-            absurd (omega arith)
-        repeated q b (AnInput lq eq) r c (AnOutput n lr at er) less same =
-            let k : slice_index c.text 0 ≡ slice_index b.text 0 = (letters c b same).0 in
-            let x : slice_index b.text 0 ≡ 73 = ap (λ (z : Label). slice_index z.text 0) eq in
-            let y : slice_index c.text 0 ≡ 79 = ap (λ (z : Label). slice_index z.text 0) er in
-            absurd (omega arith)
-        repeated q b (AnOutput n lq at eq) r c (AnInput lr er) less same =
-            let k : slice_index c.text 0 ≡ slice_index b.text 0 = (letters c b same).0 in
-            let x : slice_index b.text 0 ≡ 79 = ap (λ (z : Label). slice_index z.text 0) eq in
-            let y : slice_index c.text 0 ≡ 73 = ap (λ (z : Label). slice_index z.text 0) er in
-            absurd (omega arith)
-        repeated q b (AnOutput n lq at eq) r c (AnOutput m lr ar er) less same =
-            let k : number_of_label c ≡ number_of_label b = (letters c b same).1 in
-            let x : number_of_label b ≡ n = ap number_of_label eq ∙ (output_numbered n lq).number_is in
-            let y : number_of_label c ≡ m = ap number_of_label er ∙ (output_numbered m lr).number_is in
-            absurd (omega arith)
+        repeated q b (OfPort side n lq at eq) r c (OfPort other m lr ar er) less same =
+            let k = and_parts (slice_index c.text 0 == slice_index b.text 0) (number_of_label c == number_of_label b)
+            same in
+            let letter : slice_index c.text 0 ≡ slice_index b.text 0 = eqb-true (slice_index c.text 0)
+            (slice_index b.text 0) k.0 in
+            let number : number_of_label c ≡ number_of_label b = eqb-true (number_of_label c) (number_of_label b) k.1 in
+            let told = letters_told side other n m (sym (ap (λ (z : Label). slice_index z.text 0) eq) ∙ sym letter
+            ∙ ap (λ (z : Label). slice_index z.text 0) er) in
+            let x : number_of_label b ≡ n = ap number_of_label eq ∙ (label_numbered side n lq).1 in
+            let y : number_of_label c ≡ m = ap number_of_label er ∙ (label_numbered other m lr).1 in
+            let less : label_place other m < label_place side n = omega arith in
+            place_less side n m (omega arith)
+            (subst (λ (z : Side). label_place z m < label_place side n) (sym told) less)
 
     numbers_kept : (a : ℕ) → IsMisnumbered (flat p l) a → ⊥
     numbers_kept a h = well_numbered h.at.place h.at.label (label_at h.at.place h.at.label h.at.label_is) h.wrong

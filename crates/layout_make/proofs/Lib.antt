@@ -6,6 +6,7 @@ pub mod ReadyNets
 mod Lengths
 mod Comparing
 mod PinCounts
+pub mod Sides
 mod Columns
 mod Posts
 mod Stands

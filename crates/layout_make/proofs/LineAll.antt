@@ -1,6 +1,7 @@
 -- The rule of excitation lines of a drawing, in full.
-use Rattle.std.proofs.Common.{◌≡◌, ◌≢◌, ℕ, zero, suc, ◌+◌, ◌*◌, ◌%◌, ◌<◌, ◌≤◌, Bool, true, false, not, ◌&&◌, refl, sym}
-use Rattle.std.proofs.Common.{ap, subst, ◌∙◌, arith, ◌⊎◌, inl, inr, List, [], ◌∷◌, map, Some, pos, ℤ, int_lt, nat_lt, slice_get}
+use Rattle.std.proofs.Common.{◌≡◌, ℕ, zero, suc, ◌+◌, ◌*◌, ◌%◌, ◌<◌, ◌≤◌, true, false, ◌&&◌, refl, sym}
+use Rattle.std.proofs.Common.{ap, subst, ◌∙◌, arith, ◌⊎◌, inl, inr, List, [], ◌∷◌, map, Some, pos, ℤ, int_lt, nat_lt}
+use Rattle.std.proofs.Common.{slice_get}
 use Rattle.std.proofs.Math.Nat.{mul-le-mul_right}
 use Rattle.std.proofs.lemmas.Option.{same_Some}
 use Rattle.std.proofs.lemmas.Bool.{both_ways, and_parts, eqb-true, cases_lt}
@@ -9,9 +10,9 @@ use Rattle.layout_make.proofs.Lawful.{IsLawful}
 use Rattle.circuit.specs.declared.cell_kind.CellKind.{CellKind}
 use Rattle.circuit.specs.CellKinds.{slots_of}
 use Rattle.geom.specs.declared.shapes.Shape.{Shape}
-use Rattle.geom.specs.Rectangle.{share_point, overlap, within, left_edge, right_edge}
-use Rattle.layout_make.specs.Sheet.{Sheet, Tag, Frame, InPin, OutPin, Lead, Bar, Rise, Fall, Across, FromVia, ToVia}
-use Rattle.layout_make.specs.Sheet.{turns_right, lead_use, layer_of, datatype_of, place_of, shape_of, lower_edge}
+use Rattle.geom.specs.Rectangle.{overlap, within}
+use Rattle.layout_make.specs.Sheet.{Sheet, Tag, Frame, Lead, Bar}
+use Rattle.layout_make.specs.Sheet.{lead_use, layer_of, datatype_of, place_of, shape_of, lower_edge}
 use Rattle.layout_make.proofs.SheetKeeps.{Fits, IsDrawn, HasCells}
 use Rattle.layout_make.specs.Tags.{At}
 use Rattle.list_orders.specs.Numbers.{numbers}
@@ -37,14 +38,7 @@ use Rattle.layout_make.proofs.PinCounts.{slots_some}
 pub line_tag : (t : Tag) → on_line (layer_of t) ≡ true → (r : ℕ) × ((t ≡ Lead r) ⊎ (t ≡ Bar r))
 line_tag (Lead r) e = (r, inl refl)
 line_tag (Bar r) e = (r, inr refl)
-line_tag (Frame r slot k) e = absurd cc
-line_tag (InPin r c i) e = absurd cc
-line_tag (OutPin r c i) e = absurd cc
-line_tag (Rise r c) e = absurd cc
-line_tag (Fall r c) e = absurd cc
-line_tag (Across r c) e = absurd cc
-line_tag (FromVia r c) e = absurd cc
-line_tag (ToVia r c) e = absurd cc
+line_tag t e = absurd cc
 
 pub slot_wide : (s : Sheet) → IsLawful s.library → 1 ≤ s.library.columns * s.library.pitch
 slot_wide s laws =

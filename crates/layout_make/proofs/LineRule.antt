@@ -4,7 +4,7 @@ use Rattle.std.proofs.Common.{inl, inr, List, [], ◌∷◌}
 use Rattle.std.proofs.lemmas.Option.{same_Some}
 use Rattle.geom.specs.declared.shapes.Shape.{Shape}
 use Rattle.geom.specs.Rectangle.{share_point}
-use Rattle.layout_make.specs.Sheet.{Sheet, Tag, Frame, InPin, OutPin, Lead, Bar, Rise, Fall, Across, FromVia, ToVia}
+use Rattle.layout_make.specs.Sheet.{Sheet, Tag, Lead, Bar}
 use Rattle.layout_make.specs.Sheet.{lead_use, layer_of, datatype_of, place_of, shape_of}
 use Rattle.layout_make.specs.Tags.{At}
 use Rattle.layout_make.proofs.SheetKeeps.{IsDrawn}
@@ -83,7 +83,8 @@ start_row zero e = omega arith
 start_row (suc zero) e = omega arith
 start_row (suc (suc q)) e = absurd (omega arith)
 
-pub a_start : (s : Sheet) (ts : List Tag) (i : ℕ) → IsPart (shapes_of s ts) START i → (q : ℕ) × At ts i (Lead q) × (q < 2)
+pub a_start : (s : Sheet) (ts : List Tag) (i : ℕ) → IsPart (shapes_of s ts) START i → (q : ℕ)
+    × At ts i (Lead q) × (q < 2)
 a_start s ts i h =
     let found = from_map (shape_of s) ts i h.shape h.shape_is in
     by_tag found.0 found.1 (ap (λ (x : Shape). on_line x.layer) found.2 ∙ h.line_so)
@@ -93,14 +94,7 @@ a_start s ts i h =
         × (q < 2)
     by_tag (Lead q) at l d = (q, at, start_row q d)
     by_tag (Bar r) at l d = absurd (omega arith)
-    by_tag (Frame r slot kind) at l d = absurd cc
-    by_tag (InPin r c n) at l d = absurd cc
-    by_tag (OutPin r c n) at l d = absurd cc
-    by_tag (Rise r c) at l d = absurd cc
-    by_tag (Fall r c) at l d = absurd cc
-    by_tag (Across r c) at l d = absurd cc
-    by_tag (FromVia r c) at l d = absurd cc
-    by_tag (ToVia r c) at l d = absurd cc
+    by_tag t at l d = absurd cc
 
 -- what stands first and second on a route
 abbrev pub Sound : List Tag → List ℕ → Type 0
@@ -111,27 +105,11 @@ Sound ts (b ∷ a ∷ rest) = ((r : ℕ) × At ts b (Bar r) × At ts a (Lead r))
 
 pub linked_from_lead : (q : ℕ) (u : Tag) → Linked (Lead q) u → (r : ℕ) × (u ≡ Bar r) × ((q ≡ r) ⊎ (q ≡ r + 2))
 linked_from_lead q (Bar r) l = (r, refl, l)
-linked_from_lead q (Lead r) l = absurd l
-linked_from_lead q (Frame r slot kind) l = absurd l
-linked_from_lead q (InPin r c n) l = absurd l
-linked_from_lead q (OutPin r c n) l = absurd l
-linked_from_lead q (Rise r c) l = absurd l
-linked_from_lead q (Fall r c) l = absurd l
-linked_from_lead q (Across r c) l = absurd l
-linked_from_lead q (FromVia r c) l = absurd l
-linked_from_lead q (ToVia r c) l = absurd l
+linked_from_lead q u l = absurd l
 
 pub linked_from_bar : (r : ℕ) (u : Tag) → Linked (Bar r) u → (q : ℕ) × (u ≡ Lead q) × ((q ≡ r) ⊎ (q ≡ r + 2))
 linked_from_bar r (Lead q) l = (q, refl, l)
-linked_from_bar r (Bar q) l = absurd l
-linked_from_bar r (Frame q slot kind) l = absurd l
-linked_from_bar r (InPin q c n) l = absurd l
-linked_from_bar r (OutPin q c n) l = absurd l
-linked_from_bar r (Rise q c) l = absurd l
-linked_from_bar r (Fall q c) l = absurd l
-linked_from_bar r (Across q c) l = absurd l
-linked_from_bar r (FromVia q c) l = absurd l
-linked_from_bar r (ToVia q c) l = absurd l
+linked_from_bar r u l = absurd l
 
 tag_at : (s : Sheet) (ts : List Tag) (i j : ℕ) → Contact (shapes_of s ts) i j → (u : Tag) × At ts j u
 tag_at s ts i j h = let found = from_map (shape_of s) ts j h.second h.second_is in (found.0, found.1)
@@ -169,7 +147,8 @@ route_sound s ts is (b ∷ a ∷ c ∷ rest) h =
     go (route_sound s ts is (a ∷ c ∷ rest) (record { chain = h.chain.1; onward = h.onward.1 }))
   where
     go : Sound ts (a ∷ c ∷ rest) → Sound ts (b ∷ a ∷ c ∷ rest)
-    go (inl (r, at, before)) = inr (after_bar s ts is b a r at h.chain.0 (λ back. h.onward.0 (is.once b c (Lead r) back before)))
+    go (inl (r, at, before)) =
+        inr (after_bar s ts is b a r at h.chain.0 (λ back. h.onward.0 (is.once b c (Lead r) back before)))
     go (inr (r, at, before)) =
         inl (after_lead s ts is b a (r + 2) at h.chain.0
         (λ q e back. h.onward.0

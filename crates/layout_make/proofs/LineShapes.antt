@@ -5,7 +5,7 @@ use Rattle.std.proofs.lemmas.Bool.{cases_order, cases_lt}
 use Rattle.std.proofs.lemmas.Bool.Decides.{nat_tests}
 use Rattle.layout_make.proofs.Lawful.{IsLawful}
 use Rattle.geom.specs.Rectangle.{share_point, share_x, share_y}
-use Rattle.layout_make.specs.Sheet.{Sheet, Tag, Frame, InPin, OutPin, Lead, Bar, Rise, Fall, Across, FromVia, ToVia}
+use Rattle.layout_make.specs.Sheet.{Sheet, Tag, Lead, Bar}
 use Rattle.layout_make.specs.Sheet.{Flank, LeftOf, Over, RightOf, turns_right, lead_flank, lead_first, line_rect}
 use Rattle.layout_make.specs.Sheet.{layer_of, place_of, lower_edge}
 use Rattle.layout_make.proofs.SheetKeeps.{IsRouted}
@@ -199,22 +199,8 @@ linked s is (Bar r) (Bar q) li e h =
     let k = ands3 (beside Over Over) (leb r q) (leb q r) (sym (lines_share s is Over Over r r q q) ∙ h) in
     let a = le_true r q k.1 in let b = le_true q r k.2 in
     inl (ap Bar (omega arith))
-linked s is (Lead r) (Frame q slot kind) li e h = absurd (let x : r % 2 < 2 = omega arith in omega arith)
-linked s is (Lead r) (InPin q c i) li e h = absurd (let x : r % 2 < 2 = omega arith in omega arith)
-linked s is (Lead r) (OutPin q c i) li e h = absurd (let x : r % 2 < 2 = omega arith in omega arith)
-linked s is (Lead r) (Rise q c) li e h = absurd (let x : r % 2 < 2 = omega arith in omega arith)
-linked s is (Lead r) (Fall q c) li e h = absurd (let x : r % 2 < 2 = omega arith in omega arith)
-linked s is (Lead r) (Across q c) li e h = absurd (let x : r % 2 < 2 = omega arith in omega arith)
-linked s is (Lead r) (FromVia q c) li e h = absurd (let x : r % 2 < 2 = omega arith in omega arith)
-linked s is (Lead r) (ToVia q c) li e h = absurd (let x : r % 2 < 2 = omega arith in omega arith)
-linked s is (Bar r) (Frame q slot kind) li e h = absurd (let x : r % 2 < 2 = omega arith in omega arith)
-linked s is (Bar r) (InPin q c i) li e h = absurd (let x : r % 2 < 2 = omega arith in omega arith)
-linked s is (Bar r) (OutPin q c i) li e h = absurd (let x : r % 2 < 2 = omega arith in omega arith)
-linked s is (Bar r) (Rise q c) li e h = absurd (let x : r % 2 < 2 = omega arith in omega arith)
-linked s is (Bar r) (Fall q c) li e h = absurd (let x : r % 2 < 2 = omega arith in omega arith)
-linked s is (Bar r) (Across q c) li e h = absurd (let x : r % 2 < 2 = omega arith in omega arith)
-linked s is (Bar r) (FromVia q c) li e h = absurd (let x : r % 2 < 2 = omega arith in omega arith)
-linked s is (Bar r) (ToVia q c) li e h = absurd (let x : r % 2 < 2 = omega arith in omega arith)
+linked s is (Lead r) u li e h = absurd (let x : r % 2 < 2 = omega arith in omega arith)
+linked s is (Bar r) u li e h = absurd (let x : r % 2 < 2 = omega arith in omega arith)
 linked s is t u li e h = absurd cc
 
 pub bar_over : (s : Sheet) → IsRouted s → (q r : ℕ) → (q ≡ r) ⊎ (q ≡ r + 2)

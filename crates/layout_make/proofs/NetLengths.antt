@@ -9,8 +9,8 @@ use Rattle.layout_make.proofs.Lawful.{IsLawful}
 use Rattle.geom.specs.declared.shapes.Shape.{Shape}
 use Rattle.layout_rules.specs.Touch.{IsPath}
 use Rattle.geom.specs.Rectangle.{positive_part}
-use Rattle.layout_make.specs.Sheet.{Sheet, Tag, Area, Frame, InPin, OutPin, Lead, Bar, Rise, Fall, Across, FromVia}
-use Rattle.layout_make.specs.Sheet.{ToVia, area, layer_of, rect_of, place_of, shape_of}
+use Rattle.layout_make.specs.Sheet.{Sheet, Tag, Area, Lead, Bar, Rise, Fall, Across}
+use Rattle.layout_make.specs.Sheet.{area, layer_of, rect_of, place_of, shape_of}
 use Rattle.layout_make.specs.Nets.{Into, net_of}
 use Rattle.layout_make.proofs.SheetKeeps.{IsWire, Fits, IsDrawn, WiresShort}
 use Rattle.layout_make.specs.Tags.{At}
@@ -141,11 +141,6 @@ pub metal_tag : (s : Sheet) (t : Tag) → Fits s t → is_metal (layer_of t) ≡
 metal_tag s (Rise r c) fits e = (r, c, fits, inl refl)
 metal_tag s (Fall r c) fits e = (r, c, fits, inr (inl refl))
 metal_tag s (Across r c) fits e = (r, c, fits, inr (inr refl))
-metal_tag s (FromVia r c) fits e = absurd cc
-metal_tag s (ToVia r c) fits e = absurd cc
-metal_tag s (InPin r c i) fits e = absurd cc
-metal_tag s (OutPin r c i) fits e = absurd cc
-metal_tag s (Frame r slot k) fits e = absurd cc
 metal_tag s (Lead r) fits e = absurd (no (r % 2) (omega arith) e)
   where
     no : (n : ℕ) → n < 2 → is_metal (14 + n) ≡ true → ⊥
@@ -158,6 +153,7 @@ metal_tag s (Bar r) fits e = absurd (no (r % 2) (omega arith) e)
     no zero h e = cc
     no (suc zero) h e = cc
     no (suc (suc n)) h e = omega arith
+metal_tag s t fits e = absurd cc
 
 metal_net : (s : Sheet) (t : Tag) (r c : ℕ) → (t ≡ Rise r c) ⊎ ((t ≡ Fall r c) ⊎ (t ≡ Across r c))
     → net_of s t ≡ Into (suc r) (s.to r c)

@@ -1,11 +1,14 @@
 -- Where each tag of a drawing comes from, and that each shape has its tag.
-use Rattle.std.proofs.Common.{◌≡◌, ℕ, zero, suc, ◌<◌, refl, sym, subst, inl, inr, ◌∷◌, ◌++◌, map, length}
+use Rattle.std.proofs.Common.{◌≡◌, ℕ, zero, suc, ◌<◌, refl, sym, subst, inl, inr, ◌∷◌, ◌++◌, length}
 use Rattle.std.specs.List.{flat_map}
 use Rattle.std.proofs.lemmas.Option.{same_Some}
 use Rattle.cell_library.specs.Library.{LibraryView}
 use Rattle.layout_make.proofs.Lawful.{IsLawful}
-use Rattle.circuit.specs.CellKinds.{inputs_of, outputs_of}
-use Rattle.layout_make.specs.Sheet.{Tag, Frame, InPin, OutPin, Lead, Bar, Rise, Fall, Across, FromVia, ToVia}
+use Rattle.circuit.specs.CellKinds.{inputs_of}
+use Rattle.layout_make.specs.Sheet.{Tag, Frame, InPin, Lead, Bar, Rise, Fall, Across, FromVia, ToVia}
+use Rattle.layout_make.specs.declared.marks.Ports.{Ports as Side}
+use Rattle.layout_make.specs.declared.marks.Ports.TheVariants.{Inputs, Outputs}
+use Rattle.layout_make.proofs.Sides.{pins_on, pin_column, pin_tag, side_tags}
 use Rattle.layout_make.proofs.SheetKeeps.{IsWire, Fits, Stands}
 use Rattle.layout_make.specs.Tags.{At, sheet, spot_tags, wire_tags, line_tags, row_tags, tags}
 use Rattle.rowed.specs.PlacedNets.{PlacedView}
@@ -13,7 +16,7 @@ use Rattle.layout_make.specs.Spots.{Spot, spots}
 use Rattle.layout_make.proofs.ReadyNets.{IsReady}
 use Rattle.rowed.specs.declared.wire.Wire.{Wire}
 use Rattle.list_orders.specs.Numbers.{numbers}
-use Rattle.layout_make.specs.Channel.{channel, in_column, out_column}
+use Rattle.layout_make.specs.Channel.{channel, in_column}
 use Rattle.layout_make.proofs.Member.{In, in_head, in_append, in_left, in_right, in_map, map_in, in_flat_map}
 use Rattle.layout_make.proofs.Member.{flat_map_in, in_upto, upto_in}
 use Rattle.layout_make.proofs.Sound.{wire_is, frame_fits, in_odd, out_even}
@@ -21,8 +24,8 @@ use Rattle.layout_make.proofs.Sound.{wire_is, frame_fits, in_odd, out_even}
 -- what a cell draws
 pub data CellPart (l : LibraryView) (r : ℕ) (x : Spot) (t : Tag) : Type 0 where
   TheFrame : t ≡ Frame r x.slot x.cell.kind → CellPart l r x t
-  AnInput : (i : ℕ) → i < inputs_of x.cell.kind → t ≡ InPin r (in_column l x i) i → CellPart l r x t
-  AnOutput : (o : ℕ) → o < outputs_of x.cell.kind → t ≡ OutPin r (out_column l x o) o → CellPart l r x t
+  APin : (side : Side) (i : ℕ) → i < pins_on side x.cell.kind → t ≡ pin_tag side r (pin_column l side x i) i
+      → CellPart l r x t
 
 -- what a wire draws
 pub data WirePart (r c : ℕ) (t : Tag) : Type 0 where
@@ -40,18 +43,15 @@ pub data RowPart (p : PlacedView) (l : LibraryView) (r : ℕ) (t : Tag) : Type 0
 
 pub cell_part : (l : LibraryView) (r : ℕ) (x : Spot) (t : Tag) → In t (spot_tags l r x) → CellPart l r x t
 cell_part l r x t h =
-    elim (in_head t (Frame r x.slot x.cell.kind)
-    (map (λ i. InPin r (in_column l x i) i) (numbers 0 (inputs_of x.cell.kind))
-    ++ map (λ o. OutPin r (out_column l x o) o) (numbers 0 (outputs_of x.cell.kind))) h) [
+    elim (in_head t (Frame r x.slot x.cell.kind) (side_tags l r Inputs x ++ side_tags l r Outputs x) h) [
       | inl e ↦ TheFrame e
-      | inr k ↦ elim (in_append t (map (λ i. InPin r (in_column l x i) i) (numbers 0 (inputs_of x.cell.kind)))
-          (map (λ o. OutPin r (out_column l x o) o) (numbers 0 (outputs_of x.cell.kind))) k) [
-            | inl m ↦ let n = in_map (λ i. InPin r (in_column l x i) i) t (numbers 0 (inputs_of x.cell.kind)) m in
-                AnInput n.0 (in_upto (inputs_of x.cell.kind) n.0 n.1) n.2
-            | inr m ↦ let n = in_map (λ o. OutPin r (out_column l x o) o) t (numbers 0 (outputs_of x.cell.kind)) m in
-                AnOutput n.0 (in_upto (outputs_of x.cell.kind) n.0 n.1) n.2
-          ]
+      | inr k ↦ elim (in_append t (side_tags l r Inputs x) (side_tags l r Outputs x) k)
+          [ inl m ↦ of_side Inputs m | inr m ↦ of_side Outputs m ]
     ]
+  where
+    of_side : (side : Side) → In t (side_tags l r side x) → CellPart l r x t
+    of_side side m = let n = in_map (λ i. pin_tag side r (pin_column l side x i) i) t
+        (numbers 0 (pins_on side x.cell.kind)) m in APin side n.0 (in_upto (pins_on side x.cell.kind) n.0 n.1) n.2
 
 pub wire_part : (r : ℕ) (w : Wire) (t : Tag) → In t (wire_tags r w) → WirePart r w.from_column t
 wire_part r w t (zero, e) = TheRise (sym (same_Some _ _ e))
@@ -118,25 +118,22 @@ pub frame_stands : (p : PlacedView) (l : LibraryView) (r : ℕ) (x : Spot) → r
     → Stands (tags p l) (Frame r x.slot x.cell.kind)
 frame_stands p l r x lt h = cell_stands p l r x (Frame r x.slot x.cell.kind) lt h (0, refl)
 
+pub pin_stands : (p : PlacedView) (l : LibraryView) (side : Side) (r : ℕ) (x : Spot) (i : ℕ) → r < length p.net.rows
+    → In x (spots p r) → i < pins_on side x.cell.kind
+    → Stands (tags p l) (pin_tag side r (pin_column l side x i) i)
+pin_stands p l side r x i lt h below =
+    let k = of_cell side (map_in (λ i. pin_tag side r (pin_column l side x i) i) i
+    (numbers 0 (pins_on side x.cell.kind)) (upto_in (pins_on side x.cell.kind) i below)) in
+    cell_stands p l r x (pin_tag side r (pin_column l side x i) i) lt h (suc k.0, k.1)
+  where
+    of_cell : {t : Tag} (side : Side) → In t (side_tags l r side x)
+        → In t (side_tags l r Inputs x ++ side_tags l r Outputs x)
+    of_cell {t} Inputs k = in_left t (side_tags l r Inputs x) (side_tags l r Outputs x) k
+    of_cell {t} Outputs k = in_right t (side_tags l r Inputs x) (side_tags l r Outputs x) k
+
 pub input_stands : (p : PlacedView) (l : LibraryView) (r : ℕ) (x : Spot) (i : ℕ) → r < length p.net.rows
     → In x (spots p r) → i < inputs_of x.cell.kind → Stands (tags p l) (InPin r (in_column l x i) i)
-input_stands p l r x i lt h li =
-    let k = in_left (InPin r (in_column l x i) i)
-    (map (λ i. InPin r (in_column l x i) i) (numbers 0 (inputs_of x.cell.kind)))
-    (map (λ o. OutPin r (out_column l x o) o) (numbers 0 (outputs_of x.cell.kind)))
-    (map_in (λ i. InPin r (in_column l x i) i) i (numbers 0 (inputs_of x.cell.kind))
-    (upto_in (inputs_of x.cell.kind) i li)) in
-    cell_stands p l r x (InPin r (in_column l x i) i) lt h (suc k.0, k.1)
-
-pub output_stands : (p : PlacedView) (l : LibraryView) (r : ℕ) (x : Spot) (o : ℕ) → r < length p.net.rows
-    → In x (spots p r) → o < outputs_of x.cell.kind → Stands (tags p l) (OutPin r (out_column l x o) o)
-output_stands p l r x o lt h lo =
-    let k = in_right (OutPin r (out_column l x o) o)
-    (map (λ i. InPin r (in_column l x i) i) (numbers 0 (inputs_of x.cell.kind)))
-    (map (λ o. OutPin r (out_column l x o) o) (numbers 0 (outputs_of x.cell.kind)))
-    (map_in (λ o. OutPin r (out_column l x o) o) o (numbers 0 (outputs_of x.cell.kind))
-    (upto_in (outputs_of x.cell.kind) o lo)) in
-    cell_stands p l r x (OutPin r (out_column l x o) o) lt h (suc k.0, k.1)
+input_stands p l r x i lt h below = pin_stands p l Inputs r x i lt h below
 
 -- each tag fits its sheet
 
@@ -145,9 +142,9 @@ cell_fits : (p : PlacedView) (l : LibraryView) → IsReady p l → IsLawful l �
 unfolding sheet
 cell_fits p l is laws r x t lt h (TheFrame e) =
     subst (Fits (sheet p l)) (sym e) (lt, frame_fits p l r x h, is.given r h.0 x h.1)
-cell_fits p l is laws r x t lt h (AnInput i li e) =
+cell_fits p l is laws r x t lt h (APin Inputs i li e) =
     subst (Fits (sheet p l)) (sym e) (in_odd p l is laws r h.0 x i h.1 li)
-cell_fits p l is laws r x t lt h (AnOutput o lo e) =
+cell_fits p l is laws r x t lt h (APin Outputs o lo e) =
     subst (Fits (sheet p l)) (sym e) (out_even p l is laws r h.0 x o h.1 lo)
 
 wire_fits : (p : PlacedView) (l : LibraryView) (r c : ℕ) (t : Tag) → IsWire (sheet p l) r c → WirePart r c t

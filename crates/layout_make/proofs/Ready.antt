@@ -7,7 +7,7 @@ use Rattle.std.proofs.lemmas.Bool.{eq-eqb, eqb-true}
 use Rattle.std.proofs.lemmas.Bool.Decides.{nat_tests}
 use Rattle.circuit.specs.CellKinds.{inputs_of, outputs_of, slots_of}
 use Rattle.circuit.specs.declared.cell_kind.CellKind.{CellKind}
-use Rattle.circuit.specs.declared.cell_kind.CellKind.TheVariants.{Buffer, Inverter, Zero, One, Split2, Split3, Majority}
+use Rattle.circuit.specs.declared.cell_kind.CellKind.TheVariants.{Buffer}
 use Rattle.rowed.specs.declared.source.Source.{Source}
 use Rattle.rowed.specs.declared.row_cell.RowCell.{RowCell}
 use Rattle.rowed.specs.declared.wire.Wire.{Wire}
@@ -99,12 +99,7 @@ stands_at p is r n x e = is.net_keeps.stands r n x.cell (cell_of p r n x e)
 
 pub pins_most : (r : ℕ) (k : CellKind) → pins_at r k ≤ inputs_of k
 pins_most zero Buffer = omega arith
-pins_most zero Inverter = omega arith
-pins_most zero Zero = omega arith
-pins_most zero One = omega arith
-pins_most zero Split2 = omega arith
-pins_most zero Split3 = omega arith
-pins_most zero Majority = omega arith
+pins_most zero k = omega arith
 pins_most (suc r) k = omega arith
 
 pub some_value : {A : Type 0} (o : Option A) → is_some o ≡ true → (x : A) × (o ≡ Some x)
@@ -177,12 +172,7 @@ is_port o n e = ap (λ (q : Option ℕ). has_port q n) e ∙ eq-eqb n n refl
 
 pub buffer_of : (k : CellKind) → is_input 0 k ≡ true → k ≡ Buffer
 buffer_of Buffer e = refl
-buffer_of Inverter e = absurd cc
-buffer_of Zero e = absurd cc
-buffer_of One e = absurd cc
-buffer_of Split2 e = absurd cc
-buffer_of Split3 e = absurd cc
-buffer_of Majority e = absurd cc
+buffer_of k e = absurd cc
 
 choice_at : (choose : RowCell → Option ℕ) → Option RowCell → Option ℕ
 choice_at choose None = None
@@ -282,12 +272,7 @@ all_inputs p is k x at some =
   where
     enters : (k : CellKind) → 0 < inputs_of k → (0 < pins_at 0 k → ⊥) → is_input 0 k ≡ true
     enters Buffer lt none = refl
-    enters Inverter lt none = absurd (none (omega arith))
-    enters Zero lt none = absurd (omega arith)
-    enters One lt none = absurd (omega arith)
-    enters Split2 lt none = absurd (none (omega arith))
-    enters Split3 lt none = absurd (none (omega arith))
-    enters Majority lt none = absurd (none (omega arith))
+    enters k lt none = absurd (none (omega arith))
 
 pub all_outputs : (p : PlacedView) → IsPlaced p → PortsAll p output_port (λ c. outputs_of c.kind) (last_of p.net.rows)
     p.net.outputs

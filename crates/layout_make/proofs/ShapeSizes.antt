@@ -1,7 +1,10 @@
 -- Rules G1 and G3 of a drawing: sides, and the metal around vias.
 use Rattle.std.proofs.Common.{ℕ, ◌+◌, ◌≤◌, min, max, arith}
 use Rattle.layout_make.proofs.Lawful.{IsLawful}
-use Rattle.layout_make.specs.Sheet.{Sheet, Area, InPin, OutPin, Rise, Fall, Across, FromVia, ToVia, area}
+use Rattle.layout_make.specs.Sheet.{Sheet, Area, Rise, Fall, Across, FromVia, ToVia, area}
+use Rattle.layout_make.specs.declared.marks.Ports.{Ports as Side}
+use Rattle.layout_make.specs.declared.marks.Ports.TheVariants.{Inputs, Outputs}
+use Rattle.layout_make.proofs.Sides.{pin_tag}
 use Rattle.layout_make.proofs.SheetKeeps.{IsWire}
 use Rattle.layout_make.proofs.Columns.{centre_least, centre_rises, track_above, track_below}
 
@@ -34,13 +37,10 @@ pub to_sized : (s : Sheet) → IsLawful s.library → (r c : ℕ) → Sized s.li
 to_sized s laws r c = let f = centre_least s.library (s.to r c) in
     let k = track_above s.library s.used r (s.track r c) in record { wide = omega arith; high = omega arith }
 
-pub input_sized : (s : Sheet) → IsLawful s.library → (r c i : ℕ)
-    → Sized s.library.wire s.library.pin (area s (InPin r c i))
-input_sized s laws r c i = let f = centre_least s.library c in record { wide = omega arith; high = omega arith }
-
-pub output_sized : (s : Sheet) → IsLawful s.library → (r c i : ℕ)
-    → Sized s.library.wire s.library.pin (area s (OutPin r c i))
-output_sized s laws r c i = let f = centre_least s.library c in record { wide = omega arith; high = omega arith }
+pub pin_sized : (s : Sheet) → IsLawful s.library → (side : Side) (r c i : ℕ)
+    → Sized s.library.wire s.library.pin (area s (pin_tag side r c i))
+pin_sized s laws Inputs r c i = let f = centre_least s.library c in record { wide = omega arith; high = omega arith }
+pin_sized s laws Outputs r c i = let f = centre_least s.library c in record { wide = omega arith; high = omega arith }
 
 -- m contains v grown by n
 pub record Covers (n : ℕ) (v m : Area) : Type 0 where

@@ -1,12 +1,14 @@
 -- What a sheet and a list of tags keep so that wires and cells are whole, and what is far apart.
 use Rattle.std.specs.Prelude.{◌≡◌, ℕ, suc, ◌+◌, ◌-◌, ◌*◌, ◌%◌, ◌<◌, ◌≤◌, ◌⊎◌, min, max, true, List}
-use Rattle.circuit.specs.CellKinds.{slots_of, inputs_of, outputs_of}
+use Rattle.circuit.specs.CellKinds.{slots_of}
 use Rattle.circuit.specs.declared.cell_kind.CellKind.{CellKind}
-use Rattle.cell_library.specs.Library.{IsGiven, input_column_of, output_column_of}
+use Rattle.cell_library.specs.Library.{IsGiven}
 use Rattle.layout_make.specs.Sheet.{Sheet, Tag, Area, Frame, InPin, OutPin, Lead, Bar, Rise, Fall, Across, FromVia}
 use Rattle.layout_make.specs.Sheet.{ToVia}
 use Rattle.layout_make.specs.Tags.{At}
+use Rattle.layout_make.specs.declared.marks.Ports.{Ports as Side}
 use Rattle.layout_make.proofs.Lawful.{IsLawful}
+use Rattle.layout_make.proofs.Sides.{pins_on, column_on, pin_tag}
 
 -- what a sheet keeps of a wire
 pub record IsWire (s : Sheet) (r c : ℕ) : Type 0 where
@@ -59,13 +61,9 @@ pub record IsDrawn (s : Sheet) (ts : List Tag) : Type 0 where
   pub leads : (r : ℕ) → r < s.rows → Stands ts (Lead r)
   pub bars : (r : ℕ) → r < s.rows → Stands ts (Bar r)
 
--- the column of an input pin of a cell in a slot
-abbrev pub input_at : Sheet → ℕ → CellKind → ℕ → ℕ
-input_at s slot k i = slot * s.library.columns + input_column_of s.library k i
-
--- the column of an output pin
-abbrev pub output_at : Sheet → ℕ → CellKind → ℕ → ℕ
-output_at s slot k o = slot * s.library.columns + output_column_of s.library k o
+-- the column of a pin of a cell in a slot
+abbrev pub column_at : Sheet → Side → ℕ → CellKind → ℕ → ℕ
+column_at s side slot k i = slot * s.library.columns + column_on s.library side k i
 
 -- the cell that a pin belongs to
 pub record Owner (ts : List Tag) (r : ℕ) : Type 0 where
@@ -76,14 +74,10 @@ pub record Owner (ts : List Tag) (r : ℕ) : Type 0 where
 -- what a list of tags keeps of cells and their pins
 pub record HasCells (s : Sheet) (ts : List Tag) : Type 0 where
   pub frames_some : (r : ℕ) → r < s.rows → Owner ts r
-  pub inputs_owned : (j r c i : ℕ) → At ts j (InPin r c i) → (o : Owner ts r) × (i < inputs_of o.kind)
-      × (c ≡ input_at s o.slot o.kind i)
-  pub outputs_owned : (j r c i : ℕ) → At ts j (OutPin r c i) → (o : Owner ts r) × (i < outputs_of o.kind)
-      × (c ≡ output_at s o.slot o.kind i)
-  pub inputs_there : (r slot i : ℕ) (k : CellKind) → Stands ts (Frame r slot k) → i < inputs_of k
-      → Stands ts (InPin r (input_at s slot k i) i)
-  pub outputs_there : (r slot i : ℕ) (k : CellKind) → Stands ts (Frame r slot k) → i < outputs_of k
-      → Stands ts (OutPin r (output_at s slot k i) i)
+  pub pins_owned : (side : Side) (j r c i : ℕ) → At ts j (pin_tag side r c i) → (o : Owner ts r)
+      × (i < pins_on side o.kind) × (c ≡ column_at s side o.slot o.kind i)
+  pub pins_there : (side : Side) (r slot i : ℕ) (k : CellKind) → Stands ts (Frame r slot k) → i < pins_on side k
+      → Stands ts (pin_tag side r (column_at s side slot k i) i)
   pub frames_apart : (i j r a b : ℕ) (k m : CellKind) → At ts i (Frame r a k) → At ts j (Frame r b m)
       → (i ≡ j) ⊎ ((a + slots_of k ≤ b) ⊎ (b + slots_of m ≤ a))
   pub wire_begins : (r c : ℕ) → IsWire s r c → (o : ℕ) × Stands ts (OutPin r c o)

@@ -6,7 +6,7 @@ use Rattle.std.proofs.lemmas.Bool.{cases_order, cases_lt}
 use Rattle.cell_library.specs.Library.{LibraryView}
 use Rattle.layout_make.proofs.Lawful.{IsLawful}
 use Rattle.layout_make.proofs.Layered.{is_lower}
-use Rattle.layout_make.specs.Sheet.{Sheet, Tag, Area, Frame, InPin, OutPin, Lead, Bar, Rise, Fall, Across, FromVia}
+use Rattle.layout_make.specs.Sheet.{Sheet, Tag, Area, InPin, OutPin, Lead, Bar, Rise, Fall, Across, FromVia}
 use Rattle.layout_make.specs.Sheet.{ToVia, area, layer_of, centre, edge, track_centre, lower_edge}
 use Rattle.layout_make.specs.Nets.{Net, Into, From, output_net, net_of}
 use Rattle.layout_make.proofs.SheetKeeps.{IsWire, Fits, Far}
@@ -169,10 +169,9 @@ has_post s laws (ToVia r c) fits is = let f = centre_least s.library (s.to r c) 
       right_held = omega arith;
       joint_held = λ e. absurd cc;
     }
-has_post s laws (Frame r slot kind) fits is = absurd cc
 has_post s laws (Lead r) fits is = absurd (no_post (r % 2) (omega arith) is)
 has_post s laws (Bar r) fits is = absurd (no_post (r % 2) (omega arith) is)
-has_post s laws (Across r c) fits is = absurd cc
+has_post s laws tag fits is = absurd cc
 
 -- on track t above row r, over the columns from c to d
 pub record LiesOn (l : LibraryView) (used : ℕ → ℕ) (r t c d : ℕ) (a : Area) : Type 0 where
@@ -320,10 +319,6 @@ has_run s laws (ToVia r c) fits is = let f = centre_least s.library (s.to r c) i
       high_held = omega arith;
       whole = λ e. absurd cc;
     }
-has_run s laws (InPin r c i) fits is = absurd cc
-has_run s laws (OutPin r c i) fits is = absurd cc
-has_run s laws (Rise r c) fits is = absurd cc
-has_run s laws (Fall r c) fits is = absurd cc
-has_run s laws (Frame r slot kind) fits is = absurd cc
 has_run s laws (Lead r) fits is = absurd (no_run (r % 2) (omega arith) is)
 has_run s laws (Bar r) fits is = absurd (no_run (r % 2) (omega arith) is)
+has_run s laws tag fits is = absurd cc

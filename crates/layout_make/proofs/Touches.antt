@@ -1,17 +1,18 @@
 -- Shapes that touch are of one net.
-use Rattle.std.proofs.Common.{◌≡◌, ℕ, zero, suc, ◌+◌, ◌%◌, ◌<◌, ◌≤◌, min, max, Bool, true, ◌||◌, ◌&&◌, eqb, refl}
+use Rattle.std.proofs.Common.{◌≡◌, ℕ, suc, ◌%◌, ◌≤◌, min, max, Bool, true, ◌||◌, ◌&&◌, eqb, refl}
 use Rattle.std.proofs.Common.{sym, ap, subst, ◌∙◌, arith, ◌⊎◌, inl, inr}
 use Rattle.std.proofs.lemmas.Bool.Decides.{nat_tests}
 use Rattle.std.proofs.lemmas.Bool.{and_parts}
 use Rattle.geom.specs.Rectangle.{Rectangle, share_point}
 use Rattle.layout_make.proofs.Layered.{is_lower, conduct}
 use Rattle.layout_rules.specs.Touch.{touch}
-use Rattle.layout_make.specs.Sheet.{Sheet, Tag, Area, Frame, InPin, OutPin, Lead, Bar, Rise, Fall, Across, FromVia}
-use Rattle.layout_make.specs.Sheet.{ToVia, area, layer_of, rect_of, place_of, shape_of}
+use Rattle.layout_make.specs.Sheet.{Sheet, Tag, Area, Lead}
+use Rattle.layout_make.specs.Sheet.{area, layer_of, rect_of, place_of, shape_of}
 use Rattle.layout_make.specs.Nets.{Into, net_of}
 use Rattle.layout_make.proofs.SheetKeeps.{IsWire, Fits, Far, IsRouted}
 use Rattle.layout_make.proofs.Posts.{Side, posts_far}
-use Rattle.layout_make.proofs.Stands.{post_layer, run_layer, no_post, no_run, post_net, HasPost, has_post, HasRun, has_run}
+use Rattle.layout_make.proofs.Stands.{post_layer, run_layer, no_post, no_run, post_net, HasPost, has_post, HasRun}
+use Rattle.layout_make.proofs.Stands.{has_run}
 use Rattle.layout_make.proofs.Stands.{runs_far}
 
 pub far_apart : (n : ℕ) (a b : Area) → 1 ≤ n → Far n a b → share_point (rect_of a) (rect_of b) ≡ true → ⊥
@@ -33,27 +34,11 @@ conducting a b e = by_layers (is_lower a) (is_lower b) (eqb a 12) (eqb b 12) (eq
 -- only leads reach left of the origin
 pub placed_post : (s : Sheet) (tag : Tag) → post_layer (layer_of tag) ≡ true → place_of s tag ≡ rect_of (area s tag)
 placed_post s (Lead r) e = absurd (no_post (r % 2) (omega arith) e)
-placed_post s (Frame r slot kind) e = refl
-placed_post s (InPin r c i) e = refl
-placed_post s (OutPin r c i) e = refl
-placed_post s (Bar r) e = refl
-placed_post s (Rise r c) e = refl
-placed_post s (Fall r c) e = refl
-placed_post s (Across r c) e = refl
-placed_post s (FromVia r c) e = refl
-placed_post s (ToVia r c) e = refl
+placed_post s tag e = refl
 
 pub placed_run : (s : Sheet) (tag : Tag) → run_layer (layer_of tag) ≡ true → place_of s tag ≡ rect_of (area s tag)
 placed_run s (Lead r) e = absurd (no_run (r % 2) (omega arith) e)
-placed_run s (Frame r slot kind) e = refl
-placed_run s (InPin r c i) e = refl
-placed_run s (OutPin r c i) e = refl
-placed_run s (Bar r) e = refl
-placed_run s (Rise r c) e = refl
-placed_run s (Fall r c) e = refl
-placed_run s (Across r c) e = refl
-placed_run s (FromVia r c) e = refl
-placed_run s (ToVia r c) e = refl
+placed_run s tag e = refl
 
 by_posts : (s : Sheet) → IsRouted s → (t u : Tag) → HasPost s t → HasPost s u
     → Far s.library.space (area s t) (area s u) ⊎ (net_of s t ≡ net_of s u)

@@ -1,13 +1,17 @@
 -- A drawing keeps its wires and cells whole.
-use Rattle.std.proofs.Common.{◌≡◌, ℕ, zero, suc, ◌+◌, ◌*◌, ◌<◌, ◌≤◌, refl, sym, ap, subst, ◌∙◌, arith, ◌⊎◌, inl, inr}
+use Rattle.std.proofs.Common.{◌≡◌, ℕ, zero, suc, ◌+◌, ◌*◌, ◌<◌, ◌≤◌, false, refl, sym, ap, subst, ◌∙◌, arith, ◌⊎◌, inl}
+use Rattle.std.proofs.Common.{inr}
 use Rattle.std.proofs.Common.{List, [], ◌∷◌, length, get_or, Some, slice_get, slice_index_or}
 use Rattle.std.proofs.lemmas.Option.{same_Some}
 use Rattle.std.proofs.lemmas.Bool.{cases_order}
-use Rattle.cell_library.specs.Library.{LibraryView, input_column_of, output_column_of}
+use Rattle.cell_library.specs.Library.{LibraryView}
 use Rattle.layout_make.proofs.Lawful.{IsLawful}
 use Rattle.circuit.specs.declared.cell_kind.CellKind.{CellKind}
-use Rattle.circuit.specs.CellKinds.{inputs_of, outputs_of, slots_of}
+use Rattle.circuit.specs.CellKinds.{outputs_of, slots_of}
 use Rattle.layout_make.specs.Sheet.{Tag, Frame, InPin, OutPin, Rise, Fall, Across, FromVia, ToVia}
+use Rattle.layout_make.specs.declared.marks.Ports.{Ports as Side}
+use Rattle.layout_make.specs.declared.marks.Ports.TheVariants.{Inputs, Outputs}
+use Rattle.layout_make.proofs.Sides.{pins_on, column_on, pin_column, pin_tag, pin_told, is_pin_tag, no_pin}
 use Rattle.layout_make.proofs.SheetKeeps.{IsWire, Stands, IsDrawn, Owner, HasCells}
 use Rattle.layout_make.specs.Tags.{At, sheet, wire_tags, tags}
 use Rattle.rowed.specs.PlacedNets.{PlacedView}
@@ -21,9 +25,9 @@ use Rattle.layout_make.specs.Channel.{channel, in_column, out_column, wire_to}
 use Rattle.layout_make.proofs.Member.{In}
 use Rattle.layout_make.proofs.ChannelWires.{wire_of, pin_channel, packed_apart}
 use Rattle.layout_make.proofs.Sound.{wire_is, wired_wire, routed}
-use Rattle.layout_make.proofs.Origins.{TheFrame, AnInput, AnOutput, TheRise, TheFall, TheAcross, TheFromVia, TheToVia}
+use Rattle.layout_make.proofs.Origins.{TheFrame, APin, TheRise, TheFall, TheAcross, TheFromVia, TheToVia}
 use Rattle.layout_make.proofs.Origins.{RowPart, OfCell, TheLead, TheBar, OfWire, tag_part, lead_stands, bar_stands}
-use Rattle.layout_make.proofs.Origins.{wire_stands, frame_stands, input_stands, output_stands, all_fit}
+use Rattle.layout_make.proofs.Origins.{wire_stands, frame_stands, pin_stands, all_fit}
 use Rattle.layout_make.proofs.Drawn.{once_tags}
 
 pub row_there : (rows : List (List RowCell)) (r : ℕ) (slots : List ℕ) (i : ℕ) (x : Spot)
@@ -84,8 +88,7 @@ frame_from p l j r slot k at = let m = tag_part p l (Frame r slot k) (j, at) in 
 
     go : (q : ℕ) → RowPart p l q (Frame r slot k) → FrameFrom p r slot k
     go q (OfCell x h (TheFrame e)) = same r slot k q x h e
-    go q (OfCell x h (AnInput i lt e)) = absurd cc
-    go q (OfCell x h (AnOutput i lt e)) = absurd cc
+    go q (OfCell x h (APin side i lt e)) = absurd (no_pin side q _ i _ refl (sym e))
     go q (TheLead e) = absurd cc
     go q (TheBar e) = absurd cc
     go q (OfWire w h (TheRise e)) = absurd cc
@@ -94,72 +97,43 @@ frame_from p l j r slot k at = let m = tag_part p l (Frame r slot k) (j, at) in 
     go q (OfWire w h (TheFromVia e)) = absurd cc
     go q (OfWire w h (TheToVia e)) = absurd cc
 
-pub record InputFrom (p : PlacedView) (l : LibraryView) (r c i : ℕ) : Type 0 where
+pub record PinFrom (p : PlacedView) (l : LibraryView) (side : Side) (r c i : ℕ) : Type 0 where
   pub spot : Spot
   pub place : In spot (spots p r)
-  pub below : i < inputs_of spot.cell.kind
-  pub column_so : c ≡ in_column l spot i
+  pub below : i < pins_on side spot.cell.kind
+  pub column_so : c ≡ pin_column l side spot i
 
-pub input_from : (p : PlacedView) (l : LibraryView) (j r c i : ℕ) → At (tags p l) j (InPin r c i) → InputFrom p l r c i
-input_from p l j r c i at = let m = tag_part p l (InPin r c i) (j, at) in go m.0 m.2
+pub pin_from : (p : PlacedView) (l : LibraryView) (side : Side) (j r c i : ℕ) → At (tags p l) j (pin_tag side r c i)
+    → PinFrom p l side r c i
+pin_from p l side j r c i at = let m = tag_part p l (pin_tag side r c i) (j, at) in go m.0 m.2
   where
-    same : (r c i q d n : ℕ) (x : Spot) → In x (spots p q) → n < inputs_of x.cell.kind → d ≡ in_column l x n
-        → InPin r c i ≡ InPin q d n → InputFrom p l r c i
-    same r c i q d n x h lt f e = let a : q ≡ r = cc in let b : n ≡ i = cc in
-        let k : c ≡ d = cc in
+    Found : ℕ → ℕ → Spot → Side → Type 0
+    Found q n x b = n < pins_on b x.cell.kind → pin_tag side r c i ≡ pin_tag b q (pin_column l b x n) n
+        → PinFrom p l side r c i
+
+    same : (q n : ℕ) (x : Spot) → In x (spots p q) → Found q n x side
+    same q n x h lt e = let k = pin_told side side r c i q (pin_column l side x n) n e in
         record {
           spot = x;
-          place = subst (λ (m : ℕ). In x (spots p m)) a h;
-          below = subst (λ (m : ℕ). m < inputs_of x.cell.kind) b lt;
-          column_so = k ∙ f
-              ∙ ap (λ (m : ℕ). in_column l x m) b;
+          place = subst (λ (m : ℕ). In x (spots p m)) (sym k.1) h;
+          below = subst (λ (m : ℕ). m < pins_on side x.cell.kind) (sym k.3) lt;
+          column_so = k.2 ∙ ap (λ (m : ℕ). pin_column l side x m) (sym k.3);
         }
 
-    go : (q : ℕ) → RowPart p l q (InPin r c i) → InputFrom p l r c i
-    go q (OfCell x h (TheFrame e)) = absurd cc
-    go q (OfCell x h (AnInput n lt e)) = same r c i q (in_column l x n) n x h lt refl e
-    go q (OfCell x h (AnOutput n lt e)) = absurd cc
-    go q (TheLead e) = absurd cc
-    go q (TheBar e) = absurd cc
-    go q (OfWire w h (TheRise e)) = absurd cc
-    go q (OfWire w h (TheFall e)) = absurd cc
-    go q (OfWire w h (TheAcross e)) = absurd cc
-    go q (OfWire w h (TheFromVia e)) = absurd cc
-    go q (OfWire w h (TheToVia e)) = absurd cc
+    other : (t : Tag) → is_pin_tag t ≡ false → pin_tag side r c i ≡ t → PinFrom p l side r c i
+    other t off e = absurd (no_pin side r c i t off e)
 
-pub record OutputFrom (p : PlacedView) (l : LibraryView) (r c i : ℕ) : Type 0 where
-  pub spot : Spot
-  pub place : In spot (spots p r)
-  pub below : i < outputs_of spot.cell.kind
-  pub column_so : c ≡ out_column l spot i
-
-pub output_from : (p : PlacedView) (l : LibraryView) (j r c i : ℕ) → At (tags p l) j (OutPin r c i)
-    → OutputFrom p l r c i
-output_from p l j r c i at = let m = tag_part p l (OutPin r c i) (j, at) in go m.0 m.2
-  where
-    same : (r c i q d n : ℕ) (x : Spot) → In x (spots p q) → n < outputs_of x.cell.kind → d ≡ out_column l x n
-        → OutPin r c i ≡ OutPin q d n → OutputFrom p l r c i
-    same r c i q d n x h lt f e = let a : q ≡ r = cc in let b : n ≡ i = cc in
-        let k : c ≡ d = cc in
-        record {
-          spot = x;
-          place = subst (λ (m : ℕ). In x (spots p m)) a h;
-          below = subst (λ (m : ℕ). m < outputs_of x.cell.kind) b lt;
-          column_so = k ∙ f
-              ∙ ap (λ (m : ℕ). out_column l x m) b;
-        }
-
-    go : (q : ℕ) → RowPart p l q (OutPin r c i) → OutputFrom p l r c i
-    go q (OfCell x h (TheFrame e)) = absurd cc
-    go q (OfCell x h (AnInput n lt e)) = absurd cc
-    go q (OfCell x h (AnOutput n lt e)) = same r c i q (out_column l x n) n x h lt refl e
-    go q (TheLead e) = absurd cc
-    go q (TheBar e) = absurd cc
-    go q (OfWire w h (TheRise e)) = absurd cc
-    go q (OfWire w h (TheFall e)) = absurd cc
-    go q (OfWire w h (TheAcross e)) = absurd cc
-    go q (OfWire w h (TheFromVia e)) = absurd cc
-    go q (OfWire w h (TheToVia e)) = absurd cc
+    go : (q : ℕ) → RowPart p l q (pin_tag side r c i) → PinFrom p l side r c i
+    go q (OfCell x h (TheFrame e)) = other _ refl e
+    go q (OfCell x h (APin b n lt e)) =
+        subst (Found q n x) (pin_told side b r c i q (pin_column l b x n) n e).0 (same q n x h) lt e
+    go q (TheLead e) = other _ refl e
+    go q (TheBar e) = other _ refl e
+    go q (OfWire w h (TheRise e)) = other _ refl e
+    go q (OfWire w h (TheFall e)) = other _ refl e
+    go q (OfWire w h (TheAcross e)) = other _ refl e
+    go q (OfWire w h (TheFromVia e)) = other _ refl e
+    go q (OfWire w h (TheToVia e)) = other _ refl e
 
 abbrev owner : (p : PlacedView) (l : LibraryView) (r : ℕ) (x : Spot) → In x (spots p r) → Owner (tags p l) r
 owner p l r x h = record { slot = x.slot; kind = x.cell.kind; stands = frame_stands p l r x (spot_row p r x h) h }
@@ -193,25 +167,16 @@ pub has_cells : (p : PlacedView) (l : LibraryView) → IsReady p l → IsLawful 
 unfolding sheet
 has_cells p l is laws = record {
   frames_some = λ r lt. let x = is.some_cell r lt in owner p l r x.0 (0, x.1);
-  inputs_owned = λ j r c i at. let f = input_from p l j r c i at in (owner p l r f.spot f.place, f.below, f.column_so);
-  outputs_owned = λ j r c i at. let f = output_from p l j r c i at in
+  pins_owned = λ side j r c i at. let f = pin_from p l side j r c i at in
       (owner p l r f.spot f.place, f.below, f.column_so);
-  inputs_there = λ r slot i k stands lt.
+  pins_there = λ side r slot i k stands lt.
       let f = frame_from p l stands.0 r slot k stands.1 in
-      let below : i < inputs_of f.spot.cell.kind = subst (λ (m : CellKind). i < inputs_of m) (sym f.kind_so) lt in
-      let column : in_column l f.spot i ≡ slot * l.columns + input_column_of l k
-      i = ap (λ (m : ℕ). m * l.columns + input_column_of l f.spot.cell.kind i) f.slot_so
-      ∙ ap (λ (m : CellKind). slot * l.columns + input_column_of l m i) f.kind_so in
-      subst (λ (m : ℕ). Stands (tags p l) (InPin r m i)) column
-      (input_stands p l r f.spot i (spot_row p r f.spot f.place) f.place below);
-  outputs_there = λ r slot i k stands lt.
-      let f = frame_from p l stands.0 r slot k stands.1 in
-      let below : i < outputs_of f.spot.cell.kind = subst (λ (m : CellKind). i < outputs_of m) (sym f.kind_so) lt in
-      let column : out_column l f.spot i ≡ slot * l.columns + output_column_of l k
-      i = ap (λ (m : ℕ). m * l.columns + output_column_of l f.spot.cell.kind i) f.slot_so
-      ∙ ap (λ (m : CellKind). slot * l.columns + output_column_of l m i) f.kind_so in
-      subst (λ (m : ℕ). Stands (tags p l) (OutPin r m i)) column
-      (output_stands p l r f.spot i (spot_row p r f.spot f.place) f.place below);
+      let below : i < pins_on side f.spot.cell.kind = subst (λ (m : CellKind). i < pins_on side m) (sym f.kind_so) lt in
+      let column : pin_column l side f.spot i ≡ slot * l.columns + column_on l side k
+      i = ap (λ (m : ℕ). m * l.columns + column_on l side f.spot.cell.kind i) f.slot_so
+      ∙ ap (λ (m : CellKind). slot * l.columns + column_on l side m i) f.kind_so in
+      subst (λ (m : ℕ). Stands (tags p l) (pin_tag side r m i)) column
+      (pin_stands p l side r f.spot i (spot_row p r f.spot f.place) f.place below);
   frames_apart = λ i j r a b k m ai aj. frames_part i j r a b k m ai aj (frame_from p l i r a k ai)
       (frame_from p l j r b m aj);
   wire_begins = λ r c wire.
@@ -220,7 +185,7 @@ has_cells p l is laws = record {
       let from : out_column l x.from x.source.output ≡ c = sym (ap (λ (v : Wire). v.from_column) x.wire_is) ∙ w.2 in (
         x.source.output,
         subst (λ (m : ℕ). Stands (tags p l) (OutPin r m x.source.output)) from
-            (output_stands p l r x.from x.source.output (wire_row p l is r w.0 w.1).0 (x.source.cell, x.from_at)
+            (pin_stands p l Outputs r x.from x.source.output (wire_row p l is r w.0 w.1).0 (x.source.cell, x.from_at)
             x.output_below),
       );
   wire_ends = λ r c wire.
@@ -230,10 +195,10 @@ has_cells p l is laws = record {
       ∙ sym (wire_is p l is laws r w.0 w.1).1 ∙ ap (λ (m : ℕ). (sheet p l).to r m) w.2 in (
         x.pin,
         subst (λ (m : ℕ). Stands (tags p l) (InPin (suc r) m x.pin)) to
-            (input_stands p l (suc r) x.spot x.pin (wire_row p l is r w.0 w.1).1 (x.cell, x.at) x.pin_below),
+            (pin_stands p l Inputs (suc r) x.spot x.pin (wire_row p l is r w.0 w.1).1 (x.cell, x.at) x.pin_below),
       );
   inputs_wired = λ j r c i at.
-      let f = input_from p l j (suc r) c i at in
+      let f = pin_from p l Inputs j (suc r) c i at in
       let w = input_wire p l is laws r f.place.0 i f.spot (record { at = f.place.1; below = f.below }) in
       (out_column l w.spot w.source.output, w.wire, w.to_so ∙ sym f.column_so);
 }

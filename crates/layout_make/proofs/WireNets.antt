@@ -5,7 +5,7 @@ use Rattle.layout_make.proofs.Lawful.{IsLawful}
 use Rattle.geom.specs.declared.shapes.Shape.{Shape}
 use Rattle.layout_rules.specs.Touch.{touch, Joined}
 use Rattle.layout_rules.proofs.NetLaws.{Joined-self, Joined-touching, Joined-trans, Joined-back}
-use Rattle.layout_make.specs.Sheet.{Tag, Frame, InPin, OutPin, Lead, Bar, Rise, Fall, Across, FromVia, ToVia, shape_of}
+use Rattle.layout_make.specs.Sheet.{Tag, InPin, OutPin, Rise, Fall, Across, FromVia, ToVia, shape_of}
 use Rattle.layout_make.specs.Nets.{Net, Into, From, NoNet, net_of, output_net}
 use Rattle.layout_make.proofs.SheetKeeps.{IsWire, IsDrawn}
 use Rattle.layout_make.specs.Tags.{At, sheet, tags}
@@ -15,7 +15,8 @@ use Rattle.layout_make.specs.WireLaw.{WireLaw}
 use Rattle.layout_make.proofs.FlatLaw.{flat_is_tags}
 use Rattle.layout_make.proofs.Joins.{shapes_of, step, joined_net, pins_joined, rise_via, via_across, across_via}
 use Rattle.layout_make.proofs.Joins.{via_fall, fall_in}
-use Rattle.layout_make.proofs.WiresJoined.{one_in, one_out, wires_all}
+use Rattle.layout_make.specs.declared.marks.Ports.TheVariants.{Inputs, Outputs}
+use Rattle.layout_make.proofs.WiresJoined.{one_pin, wires_all}
 use Rattle.layout_make.proofs.Whole.{drawn, has_cells}
 
 module _ (p : PlacedView) (l : LibraryView) (is : IsReady p l) (laws : IsLawful l) where
@@ -95,9 +96,6 @@ module _ (p : PlacedView) (l : LibraryView) (is : IsReady p l) (laws : IsLawful 
       go false w e = no_so e
 
   find_end : (q d i : ℕ) (t : Tag) → At (tags p l) i t → net_of (sheet p l) t ≡ Into (suc q) d → End q d
-  find_end q d i (Frame r slot kind) at e = absurd cc
-  find_end q d i (Lead r) at e = absurd cc
-  find_end q d i (Bar r) at e = absurd cc
   find_end q d i (InPin r c n) at e = let row : r ≡ suc q = cc in
       let column : c ≡ d = cc in
       record {
@@ -112,14 +110,13 @@ module _ (p : PlacedView) (l : LibraryView) (is : IsReady p l) (laws : IsLawful 
   find_end q d i (Across r c) at e = wire_end q d r c (whole.fits i (Across r c) at) e
   find_end q d i (FromVia r c) at e = wire_end q d r c (whole.fits i (FromVia r c) at) e
   find_end q d i (ToVia r c) at e = wire_end q d r c (whole.fits i (ToVia r c) at) e
+  find_end q d i t at e = absurd cc
 
   reach : (q d n i m : ℕ) (t : Tag) → At (tags p l) i t → net_of (sheet p l) t ≡ Into (suc q) d
       → At (tags p l) m (InPin (suc q) d n) → Joined all i m
-  reach q d n i m (Frame r slot kind) at e end = absurd cc
-  reach q d n i m (Lead r) at e end = absurd cc
-  reach q d n i m (Bar r) at e end = absurd cc
   reach q d n i m (InPin r c o) at e end = let row : r ≡ suc q = cc in
-      let column : c ≡ d = cc in subst (Joined all i) (one_in p l is laws i m r c o (suc q) d n at end row column)
+      let column : c ≡ d = cc in
+      subst (Joined all i) (one_pin p l is laws Inputs i m r c o (suc q) d n at end row column)
       (Joined-self all i)
   reach q d n i m (OutPin r c o) at e end =
       wired_or r c (Into (suc q) d) e
@@ -131,36 +128,22 @@ module _ (p : PlacedView) (l : LibraryView) (is : IsReady p l) (laws : IsLawful 
   reach q d n i m (FromVia r c) at e end = from_via r c n i m (whole.fits i (FromVia r c) at) at
       (own_end q d r c n m e end)
   reach q d n i m (ToVia r c) at e end = from_end r c n i m (whole.fits i (ToVia r c) at) at (own_end q d r c n m e end)
+  reach q d n i m t at e end = absurd cc
 
   -- nets of one pin
 
   low_pin : (c i j n : ℕ) (u : Tag) → At (tags p l) i (InPin 0 c n) → At (tags p l) j u
       → net_of (sheet p l) u ≡ Into 0 c → i ≡ j
-  low_pin c i j n (Frame r slot kind) at au e = absurd cc
-  low_pin c i j n (Lead r) at au e = absurd cc
-  low_pin c i j n (Bar r) at au e = absurd cc
   low_pin c i j n (InPin r d o) at au e = let row : 0 ≡ r = cc in
-      let column : c ≡ d = cc in one_in p l is laws i j 0 c n r d o at au row column
+      let column : c ≡ d = cc in one_pin p l is laws Inputs i j 0 c n r d o at au row column
   low_pin c i j n (OutPin r d o) at au e = wired_or r d (Into 0 c) e (λ w f. absurd cc) (λ f. absurd cc)
-  low_pin c i j n (Rise r d) at au e = absurd cc
-  low_pin c i j n (Fall r d) at au e = absurd cc
-  low_pin c i j n (Across r d) at au e = absurd cc
-  low_pin c i j n (FromVia r d) at au e = absurd cc
-  low_pin c i j n (ToVia r d) at au e = absurd cc
+  low_pin c i j n u at au e = absurd cc
 
   out_pin : (r c i j o : ℕ) (u : Tag) → At (tags p l) i (OutPin r c o) → At (tags p l) j u
       → net_of (sheet p l) u ≡ From r c → i ≡ j
-  out_pin r c i j o (Frame q slot kind) at au e = absurd cc
-  out_pin r c i j o (Lead q) at au e = absurd cc
-  out_pin r c i j o (Bar q) at au e = absurd cc
-  out_pin r c i j o (InPin q d n) at au e = absurd cc
   out_pin r c i j o (OutPin q d n) at au e = wired_or q d (From r c) e (λ w f. absurd cc) (λ f. let row : r ≡ q = cc in
-      let column : c ≡ d = cc in one_out p l is laws i j r c o q d n at au row column)
-  out_pin r c i j o (Rise q d) at au e = absurd cc
-  out_pin r c i j o (Fall q d) at au e = absurd cc
-  out_pin r c i j o (Across q d) at au e = absurd cc
-  out_pin r c i j o (FromVia q d) at au e = absurd cc
-  out_pin r c i j o (ToVia q d) at au e = absurd cc
+      let column : c ≡ d = cc in one_pin p l is laws Outputs i j r c o q d n at au row column)
+  out_pin r c i j o u at au e = absurd cc
 
   same_joined : (i j : ℕ) → i ≡ j → Joined all i j
   same_joined i j e = subst (Joined all i) e (Joined-self all i)
@@ -179,25 +162,10 @@ module _ (p : PlacedView) (l : LibraryView) (is : IsReady p l) (laws : IsLawful 
       (subst (λ (x : ℕ). At (tags p l) i (InPin r x n)) column at)) au f)
   joins i j (OutPin r c o) u at au (Into zero d) e f some =
       wired_or r c (Into 0 d) e (λ w g. absurd cc) (λ g. absurd cc)
-  joins i j (Frame r slot kind) u at au (Into zero d) e f some = absurd cc
-  joins i j (Lead r) u at au (Into zero d) e f some = absurd cc
-  joins i j (Bar r) u at au (Into zero d) e f some = absurd cc
-  joins i j (Rise r c) u at au (Into zero d) e f some = absurd cc
-  joins i j (Fall r c) u at au (Into zero d) e f some = absurd cc
-  joins i j (Across r c) u at au (Into zero d) e f some = absurd cc
-  joins i j (FromVia r c) u at au (Into zero d) e f some = absurd cc
-  joins i j (ToVia r c) u at au (Into zero d) e f some = absurd cc
   joins i j (OutPin q d o) u at au (From r c) e f some =
       wired_or q d (From r c) e (λ w g. absurd cc) (λ g. same_joined i j (out_pin q d i j o u at au (f ∙ sym g)))
-  joins i j (InPin q d n) u at au (From r c) e f some = absurd cc
-  joins i j (Frame q slot kind) u at au (From r c) e f some = absurd cc
-  joins i j (Lead q) u at au (From r c) e f some = absurd cc
-  joins i j (Bar q) u at au (From r c) e f some = absurd cc
-  joins i j (Rise q d) u at au (From r c) e f some = absurd cc
-  joins i j (Fall q d) u at au (From r c) e f some = absurd cc
-  joins i j (Across q d) u at au (From r c) e f some = absurd cc
-  joins i j (FromVia q d) u at au (From r c) e f some = absurd cc
-  joins i j (ToVia q d) u at au (From r c) e f some = absurd cc
+  joins i j t u at au (Into zero d) e f some = absurd cc
+  joins i j t u at au (From r c) e f some = absurd cc
 
   net_told : (i j : ℕ) (t u : Tag) → At (tags p l) i t → At (tags p l) j u → Joined all i j
       → net_of (sheet p l) t ≡ net_of (sheet p l) u

@@ -17,12 +17,14 @@ use Rattle.layout_make.proofs.Lengths.{NetsShort}
 use Rattle.layout_make.proofs.FlatLaw.{flat_is_tags}
 use Rattle.layout_make.proofs.Joins.{shapes_of, joined_net, pins_joined}
 use Rattle.layout_make.specs.Channel.{in_column, out_column}
-use Rattle.layout_make.proofs.ChannelWires.{out_tells, in_tells}
+use Rattle.layout_make.specs.declared.marks.Ports.{Ports as Side}
+use Rattle.layout_make.specs.declared.marks.Ports.TheVariants.{Inputs, Outputs}
+use Rattle.layout_make.proofs.Sides.{pin_tag}
+use Rattle.layout_make.proofs.ChannelWires.{pin_tells}
 use Rattle.layout_make.proofs.Sound.{wired_column, wire_is}
-use Rattle.layout_make.proofs.Origins.{output_stands}
-use Rattle.layout_make.proofs.Whole.{drawn, has_cells, input_wire, spot_row, output_from, input_from}
-use Rattle.layout_make.proofs.DrawnRules.{tag_of, input_tag, output_tag, drawn_g1, drawn_g2, drawn_g3, drawn_g4}
-use Rattle.layout_make.proofs.DrawnRules.{drawn_g5}
+use Rattle.layout_make.proofs.Origins.{pin_stands}
+use Rattle.layout_make.proofs.Whole.{drawn, has_cells, input_wire, spot_row, pin_from}
+use Rattle.layout_make.proofs.DrawnRules.{pin_tag_at, drawn_g1, drawn_g2, drawn_g3, drawn_g4, drawn_g5}
 use Rattle.layout_make.proofs.Pins.{drawn_e1}
 use Rattle.layout_make.proofs.NetLengths.{drawn_short}
 
@@ -62,49 +64,25 @@ wires_all p l is laws r c e =
 abbrev drawn_shapes : PlacedView → LibraryView → List Shape
 drawn_shapes p l = shapes_of (sheet p l) (tags p l)
 
-pub out_tag_at : (p : PlacedView) (l : LibraryView) (i : ℕ) (a : Shape) → Is (drawn_shapes p l) i a → a.layer ≡ 22
-    → (r c n : ℕ) × At (tags p l) i (OutPin r c n)
-out_tag_at p l i a at e =
-    let t = tag_of (sheet p l) (tags p l) i a at in
-    let u = output_tag t.0 (ap (λ (x : Shape). x.layer) t.2 ∙ e) in
-    (u.0, u.1, u.2, subst (λ (x : Tag). At (tags p l) i x) u.3 t.1)
-
-pub in_tag_at : (p : PlacedView) (l : LibraryView) (i : ℕ) (a : Shape) → Is (drawn_shapes p l) i a → a.layer ≡ 21
-    → (r c n : ℕ) × At (tags p l) i (InPin r c n)
-in_tag_at p l i a at e =
-    let t = tag_of (sheet p l) (tags p l) i a at in
-    let u = input_tag t.0 (ap (λ (x : Shape). x.layer) t.2 ∙ e) in
-    (u.0, u.1, u.2, subst (λ (x : Tag). At (tags p l) i x) u.3 t.1)
-
--- output pins of one column are one
-pub one_out : (p : PlacedView) (l : LibraryView) → IsReady p l → IsLawful l → (i j r c m q d n : ℕ)
-    → At (tags p l) i (OutPin r c m) → At (tags p l) j (OutPin q d n) → r ≡ q → c ≡ d → i ≡ j
-one_out p l is laws i j r c m q d n ai aj er ec =
-    let aj' : At (tags p l) j (OutPin r c n) = subst (λ (t : Tag). At (tags p l) j t)
-    (ap (λ (x : ℕ). OutPin x d n) (sym er) ∙ ap (λ (x : ℕ). OutPin r x n) (sym ec)) aj in
-    let a = output_from p l i r c m ai in
-    let b = output_from p l j r c n aj' in
-    let k = out_tells l laws (spots p r) (is.given r) a.place.0 b.place.0 m n a.spot b.spot (is.packed r) a.place.1
+-- pins of one side in one column are one
+pub one_pin : (p : PlacedView) (l : LibraryView) → IsReady p l → IsLawful l → (side : Side) (i j r c m q d n : ℕ)
+    → At (tags p l) i (pin_tag side r c m) → At (tags p l) j (pin_tag side q d n) → r ≡ q → c ≡ d → i ≡ j
+one_pin p l is laws side i j r c m q d n ai aj er ec =
+    let aj' : At (tags p l) j (pin_tag side r c n) = subst (λ (t : Tag). At (tags p l) j t)
+    (ap (λ (x : ℕ). pin_tag side x d n) (sym er) ∙ ap (λ (x : ℕ). pin_tag side r x n) (sym ec)) aj in
+    let a = pin_from p l side i r c m ai in
+    let b = pin_from p l side j r c n aj' in
+    let k = pin_tells l laws side (spots p r) (is.given r) a.place.0 b.place.0 m n a.spot b.spot (is.packed r) a.place.1
     b.place.1 a.below b.below (sym a.column_so ∙ b.column_so) in
-    (drawn p l is laws).once i j (OutPin r c n) (subst (λ (x : ℕ). At (tags p l) i (OutPin r c x)) k.1 ai) aj'
-
-pub one_in : (p : PlacedView) (l : LibraryView) → IsReady p l → IsLawful l → (i j r c m q d n : ℕ)
-    → At (tags p l) i (InPin r c m) → At (tags p l) j (InPin q d n) → r ≡ q → c ≡ d → i ≡ j
-one_in p l is laws i j r c m q d n ai aj er ec =
-    let aj' : At (tags p l) j (InPin r c n) = subst (λ (t : Tag). At (tags p l) j t)
-    (ap (λ (x : ℕ). InPin x d n) (sym er) ∙ ap (λ (x : ℕ). InPin r x n) (sym ec)) aj in
-    let a = input_from p l i r c m ai in
-    let b = input_from p l j r c n aj' in
-    let k = in_tells l laws (spots p r) (is.given r) a.place.0 b.place.0 m n a.spot b.spot (is.packed r) a.place.1
-    b.place.1 a.below b.below (sym a.column_so ∙ b.column_so) in
-    (drawn p l is laws).once i j (InPin r c n) (subst (λ (x : ℕ). At (tags p l) i (InPin r c x)) k.1 ai) aj'
+    (drawn p l is laws).once i j (pin_tag side r c n)
+    (subst (λ (x : ℕ). At (tags p l) i (pin_tag side r c x)) k.1 ai) aj'
 
 joined_outs : (p : PlacedView) (l : LibraryView) → IsReady p l → IsLawful l → (i j r c m q d n : ℕ)
     → At (tags p l) i (OutPin r c m) → At (tags p l) j (OutPin q d n) → output_net (sheet p l) r c ≡ output_net
     (sheet p l) q d → i ≡ j
 joined_outs p l is laws i j r c m q d n ai aj e =
     let k = same_output_net p l (drawn p l is laws).routed (wires_all p l is laws) r c q d e in
-    one_out p l is laws i j r c m q d n ai aj k.0 k.1
+    one_pin p l is laws Outputs i j r c m q d n ai aj k.0 k.1
 
 wired_net : (p : PlacedView) (l : LibraryView) (r c : ℕ) → IsWire (sheet p l) r c
     → output_net (sheet p l) r c ≡ Into (suc r) ((sheet p l).to r c)
@@ -122,7 +100,7 @@ drawn_drives : (p : PlacedView) (l : LibraryView) → IsReady p l → IsLawful l
     → (r n i m : ℕ) → InAt p l (suc r) n i m → Drives p l r n i m
 drawn_drives p l is laws same r n i m at =
     let w = input_wire p l is laws r n i at.spot at.input in
-    let out = output_stands p l r w.spot w.source.output (spot_row p r w.spot (w.source.cell, w.place))
+    let out = pin_stands p l Outputs r w.spot w.source.output (spot_row p r w.spot (w.source.cell, w.place))
     (w.source.cell, w.place) w.below in
     let whole = drawn p l is laws in
     let at' : At (tags p l) m (InPin (suc r) ((sheet p l).to r (out_column l w.spot w.source.output)) i) = subst
@@ -138,7 +116,7 @@ drawn_drives p l is laws same r n i m at =
       out_at = record { spot = w.spot; output = record { at = w.place; below = w.below }; at = out.1 };
       joined = subst (λ (ss : List Shape). Joined ss out.0 m) (sym same) joined;
       only = λ q b is_b e j.
-          let u = out_tag_at p l q b (subst (λ (ss : List Shape). Is ss q b) same is_b) e in
+          let u = pin_tag_at (sheet p l) (tags p l) Outputs q b (subst (λ (ss : List Shape). Is ss q b) same is_b) e in
           let net = joined_net (sheet p l) (tags p l) whole q m (OutPin u.0 u.1 u.2)
           (InPin (suc r) ((sheet p l).to r (out_column l w.spot w.source.output)) i) u.3 at'
           (subst (λ (ss : List Shape). Joined ss q m) same j) in
@@ -153,23 +131,23 @@ wires_joined p l is laws =
     record {
       drives = drawn_drives p l is laws same;
       lone = λ n i m q b at is_b e j.
-          let u = out_tag_at p l q b (subst (λ (ss : List Shape). Is ss q b) same is_b) e in
+          let u = pin_tag_at (sheet p l) (tags p l) Outputs q b (subst (λ (ss : List Shape). Is ss q b) same is_b) e in
           no_output p l u.0 u.1 (in_column l at.spot i)
           (joined_net (sheet p l) (tags p l) whole q m (OutPin u.0 u.1 u.2) (InPin 0 (in_column l at.spot i) i) u.3
           at.at (subst (λ (ss : List Shape). Joined ss q m) same j));
       one_output = λ i j a b ia jb ea eb h.
-          let u = out_tag_at p l i a (subst (λ (ss : List Shape). Is ss i a) same ia) ea in
-          let v = out_tag_at p l j b (subst (λ (ss : List Shape). Is ss j b) same jb) eb in
+          let u = pin_tag_at (sheet p l) (tags p l) Outputs i a (subst (λ (ss : List Shape). Is ss i a) same ia) ea in
+          let v = pin_tag_at (sheet p l) (tags p l) Outputs j b (subst (λ (ss : List Shape). Is ss j b) same jb) eb in
           joined_outs p l is laws i j u.0 u.1 u.2 v.0 v.1 v.2 u.3 v.3
           (joined_net (sheet p l) (tags p l) whole i j (OutPin u.0 u.1 u.2) (OutPin v.0 v.1 v.2) u.3 v.3
           (subst (λ (ss : List Shape). Joined ss i j) same h));
       one_input = λ i j a b ia jb ea eb h.
-          let u = in_tag_at p l i a (subst (λ (ss : List Shape). Is ss i a) same ia) ea in
-          let v = in_tag_at p l j b (subst (λ (ss : List Shape). Is ss j b) same jb) eb in
+          let u = pin_tag_at (sheet p l) (tags p l) Inputs i a (subst (λ (ss : List Shape). Is ss i a) same ia) ea in
+          let v = pin_tag_at (sheet p l) (tags p l) Inputs j b (subst (λ (ss : List Shape). Is ss j b) same jb) eb in
           let k = net_parts u.0 u.1 v.0 v.1
           (joined_net (sheet p l) (tags p l) whole i j (InPin u.0 u.1 u.2) (InPin v.0 v.1 v.2) u.3 v.3
           (subst (λ (ss : List Shape). Joined ss i j) same h)) in
-          one_in p l is laws i j u.0 u.1 u.2 v.0 v.1 v.2 u.3 v.3 k.0 k.1;
+          one_pin p l is laws Inputs i j u.0 u.1 u.2 v.0 v.1 v.2 u.3 v.3 k.0 k.1;
     }
 
 -- the six rules of geometry

@@ -22,27 +22,58 @@ use Rattle.list_orders.specs.Numbers.{numbers}
 use Rattle.rowed.specs.RowNets.{last_of}
 use Rattle.cell_library.specs.Library.{LibraryView}
 use Rattle.layout_make.proofs.Lawful.{IsLawful}
-use Rattle.layout_make.specs.Sheet.{Tag, Frame, InPin, OutPin, layer_of, shape_of}
+use Rattle.layout_make.specs.Sheet.{Tag, Frame, OutPin, layer_of, shape_of}
 use Rattle.layout_make.specs.Tags.{At, sheet, tags}
+use Rattle.layout_make.specs.declared.marks.Ports.{Ports as Side}
+use Rattle.layout_make.specs.declared.marks.Ports.TheVariants.{Inputs, Outputs}
+use Rattle.layout_make.proofs.Sides.{pin_column, pin_tag, pin_told, pin_layer, layer_on}
+use Rattle.layout_make.proofs.Sides.{PinAt, placed_pin, pin_placed}
 use Rattle.layout_make.proofs.SheetKeeps.{IsDrawn}
 use Rattle.layout_make.specs.Spots.{Spot, input_port, output_port}
 use Rattle.layout_make.proofs.ReadyNets.{IsReady, HasPorts, PortsAll}
-use Rattle.layout_make.specs.Channel.{in_column, out_column}
+use Rattle.layout_make.specs.Channel.{out_column}
 use Rattle.layout_make.specs.Draw.{draw, labels, input_label, output_label}
 use Rattle.layout_make.specs.Laws.{Is, flat_shapes, InAt, OutAt}
 use Rattle.layout_make.proofs.KeptRules as kept
 use Rattle.layout_make.proofs.FlatLaw.{flat_is_tags, labels_flat}
 use Rattle.layout_make.proofs.Joins.{to_map}
 use Rattle.layout_make.proofs.Member.{In, in_append, in_map, map_in, in_left, in_upto, upto_in}
-use Rattle.layout_make.proofs.Whole.{drawn, has_cells, input_from}
-use Rattle.layout_make.proofs.Labelled.{input_marked, output_marked}
-use Rattle.layout_make.proofs.WiresJoined.{wires_joined, in_tag_at}
+use Rattle.layout_make.proofs.Whole.{drawn, has_cells, pin_from}
+use Rattle.layout_make.proofs.Labelled.{port_row, ports_on, port_on, label_on, port_marked}
+use Rattle.layout_make.proofs.DrawnRules.{pin_tag_at}
+use Rattle.layout_make.proofs.WiresJoined.{wires_joined}
 use Rattle.layout_make.proofs.LineAll.{shape_at, at_edge, edges_of, drawn_rows}
-use Rattle.layout_make.proofs.Pins.{input_of, output_of}
+use Rattle.layout_make.proofs.Pins.{pin_of}
 use Rattle.layout_make.proofs.KeptCells.{lies_of}
 
 abbrev pub flat : PlacedView → LibraryView → Flat
 flat p l = flat_of (draw p l)
+
+-- a pin by its cell
+pub record PinNumber (p : PlacedView) (l : LibraryView) (side : Side) (m : ℕ) : Type 0 where
+  pub row : ℕ
+  pub cell : ℕ
+  pub pin : ℕ
+  pub pin_at : PinAt p l side row cell pin m
+
+pub cell_of_pin : (p : PlacedView) (l : LibraryView) → IsLawful l → (side : Side) (i : ℕ) (a : Shape)
+    → Is (flat_shapes p l) i a → a.layer ≡ layer_on side → PinNumber p l side i
+cell_of_pin p l laws side i a at e =
+    let u = pin_tag_at (sheet p l) (tags p l) side i a
+    (subst (λ (ss : List Shape). Is ss i a) (flat_is_tags p l laws) at) e in
+    let f = pin_from p l side i u.0 u.1 u.2 u.3 in
+    record {
+      row = u.0;
+      cell = f.place.0;
+      pin = u.2;
+      pin_at = pin_placed p l side u.0 f.place.0 u.2 i
+          (record {
+            spot = f.spot;
+            at = f.place.1;
+            below = f.below;
+            tag_at = subst (λ (c : ℕ). At (tags p l) i (pin_tag side u.0 c u.2)) f.column_so u.3;
+          });
+    }
 
 -- an input pin by its cell
 pub record InputNumber (p : PlacedView) (l : LibraryView) (m : ℕ) : Type 0 where
@@ -53,33 +84,20 @@ pub record InputNumber (p : PlacedView) (l : LibraryView) (m : ℕ) : Type 0 whe
 
 pub input_number : (p : PlacedView) (l : LibraryView) → IsLawful l → (i : ℕ) (a : Shape) → Is (flat_shapes p l) i a
     → a.layer ≡ 21 → InputNumber p l i
-input_number p l laws i a at e =
-    let u = in_tag_at p l i a (subst (λ (ss : List Shape). Is ss i a) (flat_is_tags p l laws) at) e in
-    let f = input_from p l i u.0 u.1 u.2 u.3 in
-    record {
-      row = u.0;
-      cell = f.place.0;
-      pin = u.2;
-      in_at =
-          record {
-            spot = f.spot;
-            input = record { at = f.place.1; below = f.below };
-            at = subst (λ (c : ℕ). At (tags p l) i (InPin u.0 c u.2)) f.column_so u.3;
-          };
-    }
+input_number p l laws i a at e = let n = cell_of_pin p l laws Inputs i a at e in
+    record { row = n.row; cell = n.cell; pin = n.pin; in_at = n.pin_at }
 
 -- the labels of a drawing
 
 label_cases : (p : PlacedView) (l : LibraryView) (b : Label) → In b (labels p l)
-    → ((n : ℕ) × (n < p.net.inputs) × (b ≡ input_label p l n))
-    ⊎ ((n : ℕ) × (n < p.net.outputs) × (b ≡ output_label p l n))
+    → (side : Side) × (n : ℕ) × (n < ports_on p side) × (b ≡ label_on p l side n)
 label_cases p l b h =
     elim (in_append b (map (input_label p l) (numbers 0 p.net.inputs))
     (map (output_label p l) (numbers 0 p.net.outputs)) h) [
       | inl k ↦ let m = in_map (input_label p l) b (numbers 0 p.net.inputs) k in
-          inl (m.0, in_upto p.net.inputs m.0 m.1, m.2)
+          (Inputs, m.0, in_upto p.net.inputs m.0 m.1, m.2)
       | inr k ↦ let m = in_map (output_label p l) b (numbers 0 p.net.outputs) k in
-          inr (m.0, in_upto p.net.outputs m.0 m.1, m.2)
+          (Outputs, m.0, in_upto p.net.outputs m.0 m.1, m.2)
     ]
 
 input_label_in : (p : PlacedView) (l : LibraryView) (n : ℕ) → n < p.net.inputs → In (input_label p l n) (labels p l)
@@ -94,13 +112,20 @@ pub record Ports (p : PlacedView) : Type 0 where
   pub all_inputs : PortsAll p input_port (λ c. inputs_of c.kind) 0 p.net.inputs
   pub all_outputs : PortsAll p output_port (λ c. outputs_of c.kind) (last_of p.net.rows) p.net.outputs
 
+pub has_ports : (p : PlacedView) → Ports p → (side : Side)
+    → HasPorts p (port_on side) (port_row p side) (ports_on p side)
+has_ports p ports Inputs = ports.inputs
+has_ports p ports Outputs = ports.outputs
+
 -- one pin has one number
-pub same_in : (p : PlacedView) (l : LibraryView) → IsDrawn (sheet p l) (tags p l) → (r k i a b : ℕ) → InAt p l r k i a
-    → InAt p l r k i b → a ≡ b
-same_in p l is r k i a b f g =
-    let e : f.spot ≡ g.spot = same_Some _ _ (sym f.input.at ∙ g.input.at) in
-    is.once a b (InPin r (in_column l g.spot i) i)
-    (subst (λ (x : Spot). At (tags p l) a (InPin r (in_column l x i) i)) e f.at) g.at
+pub same_pin : (p : PlacedView) (l : LibraryView) → IsDrawn (sheet p l) (tags p l) → (side : Side) (r k i a b : ℕ)
+    → PinAt p l side r k i a → PinAt p l side r k i b → a ≡ b
+same_pin p l is side r k i a b x y =
+    let f = placed_pin p l side r k i a x in
+    let g = placed_pin p l side r k i b y in
+    let e : f.spot ≡ g.spot = same_Some _ _ (sym f.at ∙ g.at) in
+    is.once a b (pin_tag side r (pin_column l side g.spot i) i)
+    (subst (λ (x : Spot). At (tags p l) a (pin_tag side r (pin_column l side x i) i)) e f.tag_at) g.tag_at
 
 -- the inputs of the first row are labelled
 pub row_labelled : (p : PlacedView) (l : LibraryView) → IsReady p l → IsLawful l → Ports p → (k i m : ℕ) (a : Shape)
@@ -108,13 +133,13 @@ pub row_labelled : (p : PlacedView) (l : LibraryView) → IsReady p l → IsLawf
 row_labelled p l is laws ports k i m a at is_a =
     let below = at.input.below in
     let port = ports.all_inputs k at.spot at.input.at (omega arith) in
-    let mark = input_marked p l is laws ports.inputs port.0 port.1 in
+    let mark = port_marked p l is laws Inputs ports.inputs port.0 port.1 in
     let cell : mark.0 ≡ k = ports.inputs.once port.0 mark.0 k mark.2.spot at.spot mark.2.at at.input.at mark.2.has
     port.2 in
     let zero_pin : i ≡ 0 = (let b : i < 1 = subst (λ (n : CellKind). i < inputs_of n) port.3 below in omega arith) in
     let there : InAt p l 0 k 0 mark.1 = subst (λ (n : ℕ). InAt p l 0 n 0 mark.1) cell mark.3 in
     let here : InAt p l 0 k 0 m = subst (λ (n : ℕ). InAt p l 0 k n m) zero_pin at in
-    let e : m ≡ mark.1 = same_in p l (drawn p l is laws) 0 k 0 m mark.1 here there in
+    let e : m ≡ mark.1 = same_pin p l (drawn p l is laws) Inputs 0 k 0 m mark.1 here there in
     let shape : mark.4.pin ≡ a = same_Some _ _
     (sym mark.4.pin_is ∙ ap (λ (n : ℕ). slice_get (flat_shapes p l) n) (sym e) ∙ is_a) in
     let found = input_label_in p l port.0 port.1 in
@@ -128,32 +153,19 @@ tag_layer p l m t a laws at is_a =
     ap (λ (x : Shape). x.layer)
     (shape_at (sheet p l) (tags p l) m t a at (subst (λ (ss : List Shape). Is ss m a) (flat_is_tags p l laws) is_a))
 
-rows_told : (r q c d i j : ℕ) → InPin r c i ≡ InPin q d j → r ≡ q
-rows_told r q c d i j e = cc
-
-outs_told : (r q c d i j : ℕ) → OutPin r c i ≡ OutPin q d j → r ≡ q
-outs_told r q c d i j e = cc
-
 -- a labelled input is one of the first row
 pub labelled_row : (p : PlacedView) (l : LibraryView) → IsReady p l → IsLawful l → Ports p → (r k i m : ℕ) (a : Shape)
     → InAt p l r k i m → Is (flat_shapes p l) m a → a.layer ≡ 21 → is_labelled (flat p l) a ≡ true → r ≡ 0
 labelled_row p l is laws ports r k i m a at is_a la lab =
     let h = list_any-place (λ (label : Label). marks label a) (flat p l).labels lab in
-    elim (label_cases p l h.item (
-      h.place,
-      ap (λ (bs : List Label). slice_get bs h.place) (sym (labels_flat p l))
-          ∙ h.item_is,
-    )) [
-      | inl x ↦
-          let mark = input_marked p l is laws ports.inputs x.0 x.1 in
-          let e : m ≡ mark.1 = mark.4.only m a is_a (ap (λ (b : Label). marks b a) (sym x.2) ∙ h.passes_so) in
-          rows_told r 0 _ _ _ _ (same_Some _ _ (sym at.at ∙ ap (λ (n : ℕ). slice_get (tags p l) n) e ∙ mark.3.at))
-      | inr x ↦
-          let mark = output_marked p l is laws ports.outputs x.0 x.1 in
-          let e : m ≡ mark.1 = mark.4.only m a is_a (ap (λ (b : Label). marks b a) (sym x.2) ∙ h.passes_so) in
-          absurd (let y : 22 ≡ a.layer = tag_layer p l mark.1 _ a laws mark.3.at
-          (subst (λ (n : ℕ). Is (flat_shapes p l) n a) e is_a) in omega arith)
-    ]
+    let x = label_cases p l h.item
+    (h.place, ap (λ (bs : List Label). slice_get bs h.place) (sym (labels_flat p l)) ∙ h.item_is) in
+    let mark = port_marked p l is laws x.0 (has_ports p ports x.0) x.1 x.2 in
+    let e : m ≡ mark.1 = mark.4.only m a is_a (ap (λ (b : Label). marks b a) (sym x.3) ∙ h.passes_so) in
+    let there = placed_pin p l x.0 (port_row p x.0) mark.0 0 mark.1 mark.3 in
+    let told = pin_told Inputs x.0 r _ _ _ _ _
+    (same_Some _ _ (sym at.at ∙ ap (λ (n : ℕ). slice_get (tags p l) n) e ∙ there.tag_at)) in
+    told.1 ∙ sym (ap (port_row p) told.0)
 
 -- nets
 
@@ -227,33 +239,19 @@ frame_row p l is laws f r slot k frame at is_f =
     (at_edge (sheet p l) r fits.0 ∙ ap (λ (s : Shape). Some s.rect.y0) shape)
 
 -- a pin's frame is of the pin's row
-pub input_row : (p : PlacedView) (l : LibraryView) → IsReady p l → IsLawful l → (r k i a f : ℕ) → InAt p l r k i a
-    → (lies : LiesIn (flat_shapes p l) a f) → row_of (flat_shapes p l) lies.frame.rect.y0 ≡ r
-input_row p l is laws r k i a f at lies =
-    let whole = drawn p l is laws in
-    let same = flat_is_tags p l laws in
-    let h = subst (λ (ss : List Shape). kept.LiesIn ss f a lies.pin.layer lies.pin.datatype) same
+pub pin_row : (p : PlacedView) (l : LibraryView) → IsReady p l → IsLawful l → (side : Side) (r k i a f : ℕ)
+    → PinAt p l side r k i a → (lies : LiesIn (flat_shapes p l) a f)
+    → row_of (flat_shapes p l) lies.frame.rect.y0 ≡ r
+pin_row p l is laws side r k i a f pin lies =
+    let at = placed_pin p l side r k i a pin in
+    let h = subst (λ (ss : List Shape). kept.LiesIn ss f a lies.pin.layer lies.pin.datatype) (flat_is_tags p l laws)
     (lies_of (flat_shapes p l) a f lies) in
-    let layer : lies.pin.layer ≡ 21 = sym
-    (tag_layer p l a (InPin r (in_column l at.spot i) i) lies.pin laws at.at lies.pin_is) in
-    let x = input_of (sheet p l) (tags p l) whole f a lies.pin.datatype
+    let layer : lies.pin.layer ≡ layer_on side = sym (tag_layer p l a _ lies.pin laws at.tag_at lies.pin_is)
+    ∙ pin_layer side r (pin_column l side at.spot i) i in
+    let x = pin_of (sheet p l) (tags p l) (drawn p l is laws) side f a lies.pin.datatype
     (subst (λ (n : ℕ). kept.LiesIn _ f a n lies.pin.datatype) layer h) in
     frame_row p l is laws f x.row x.slot x.kind lies.frame x.frame_at lies.frame_is
-    ∙ rows_told x.row r _ _ _ _ (same_Some _ _ (sym x.pin_at ∙ at.at))
-
-pub output_row : (p : PlacedView) (l : LibraryView) → IsReady p l → IsLawful l → (r k o b f : ℕ) → OutAt p l r k o b
-    → (lies : LiesIn (flat_shapes p l) b f) → row_of (flat_shapes p l) lies.frame.rect.y0 ≡ r
-output_row p l is laws r k o b f at lies =
-    let whole = drawn p l is laws in
-    let same = flat_is_tags p l laws in
-    let h = subst (λ (ss : List Shape). kept.LiesIn ss f b lies.pin.layer lies.pin.datatype) same
-    (lies_of (flat_shapes p l) b f lies) in
-    let layer : lies.pin.layer ≡ 22 = sym
-    (tag_layer p l b (OutPin r (out_column l at.spot o) o) lies.pin laws at.at lies.pin_is) in
-    let x = output_of (sheet p l) (tags p l) whole f b lies.pin.datatype
-    (subst (λ (n : ℕ). kept.LiesIn _ f b n lies.pin.datatype) layer h) in
-    frame_row p l is laws f x.row x.slot x.kind lies.frame x.frame_at lies.frame_is
-    ∙ outs_told x.row r _ _ _ _ (same_Some _ _ (sym x.pin_at ∙ at.at))
+    ∙ (pin_told side side x.row _ _ r _ _ (same_Some _ _ (sym x.pin_at ∙ at.tag_at))).1
 
 pub wires_up : (p : PlacedView) (l : LibraryView) → IsReady p l → IsLawful l → Ports p
     → ReportsNone (RowsBroken (flat p l))
@@ -270,5 +268,5 @@ wires_up p l is laws ports a b h = go n.row n.in_at
         let same : b ≡ d.pin = d.only b h.source.pin h.source.pin_is h.source.of_layer
         (Joined-back (flat_shapes p l) a b h.source.joined) in
         let out = subst (λ (m : ℕ). OutAt p l r d.source.cell d.source.output m) (sym same) d.out_at in
-        h.not_above (input_row p l is laws (suc r) n.cell n.pin a h.upper at h.in_upper
-        ∙ sym (ap suc (output_row p l is laws r d.source.cell d.source.output b h.lower out h.in_lower)))
+        h.not_above (pin_row p l is laws Inputs (suc r) n.cell n.pin a h.upper at h.in_upper
+        ∙ sym (ap suc (pin_row p l is laws Outputs r d.source.cell d.source.output b h.lower out h.in_lower)))

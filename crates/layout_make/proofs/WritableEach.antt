@@ -10,7 +10,7 @@ use Rattle.std.proofs.lemmas.Fmt.{length-decimal-le, decimal_digit, decimal-digi
 use Rattle.std.proofs.lemmas.List.{length-map}
 use Rattle.circuit.specs.CellKinds.{number_of, slots_of}
 use Rattle.circuit.specs.declared.cell_kind.CellKind.{CellKind}
-use Rattle.circuit.specs.declared.cell_kind.CellKind.TheVariants.{Buffer, Inverter, Zero, One, Split2, Split3, Majority}
+use Rattle.circuit.specs.declared.cell_kind.CellKind.TheVariants.{Buffer}
 use Rattle.geom.specs.declared.shapes.Label.{Label}
 use Rattle.geom.specs.declared.layout.Element.{Element}
 use Rattle.geom.specs.declared.layout.Element.TheVariants.{Box, Text}
@@ -55,14 +55,19 @@ text_of : (t : List ℕ) → T (ltb 0 (length t)) → T (leb (length t) 512) →
     → IsWritableText t
 text_of t p q all = record { some = lit< p; short = lit≤ q; without_zeros = all_of (λ b. 0 < b) t all }
 
+abbrev are_positive : List ℕ → Bool
+are_positive [] = true
+are_positive (zero ∷ t) = false
+are_positive (suc b ∷ t) = are_positive t
+
+positive : (t : List ℕ) → T (are_positive t) → AllByRecursion (λ b. 0 < b) t
+positive [] e = tt
+positive (zero ∷ t) e = absurd e
+positive (suc b ∷ t) e = (omega arith, positive t e)
+
 named : (k : CellKind) → IsWritableText (Draw.kind_name k)
-named Buffer = text_of _ tt tt (lit< tt, (lit< tt, (lit< tt, tt)))
-named Inverter = text_of _ tt tt (lit< tt, (lit< tt, (lit< tt, tt)))
-named Zero = text_of _ tt tt (lit< tt, (lit< tt, (lit< tt, (lit< tt, tt))))
-named One = text_of _ tt tt (lit< tt, (lit< tt, (lit< tt, tt)))
-named Split2 = text_of _ tt tt (lit< tt, (lit< tt, (lit< tt, (lit< tt, tt))))
-named Split3 = text_of _ tt tt (lit< tt, (lit< tt, (lit< tt, (lit< tt, tt))))
-named Majority = text_of _ tt tt (lit< tt, (lit< tt, (lit< tt, tt)))
+named Buffer = text_of _ tt tt (positive (Draw.kind_name Buffer) tt)
+named k = text_of _ tt tt (positive (Draw.kind_name k) tt)
 
 digits : (n : ℕ) → n < 2 ^ 32 → AllByRecursion (λ b. 0 < b) (decimal n)
 digits zero lt = subst (AllByRecursion (λ b. 0 < b)) (sym (decimal_digit 0 (omega arith))) (omega arith, tt)

@@ -1,8 +1,9 @@
 -- A drawing can be written: its names are distinct, what is referenced holds no reference, and every structure but the
 -- top is
 -- referenced.
-use Rattle.std.proofs.Common.{◌≡◌, ◌≢◌, ℕ, zero, suc, ◌+◌, ◌<◌, ◌==◌, ◌||◌, refl, sym, ap, subst, ◌∙◌, arith, inl, inr, List}
-use Rattle.std.proofs.Common.{[], ◌∷◌, ◌++◌, length, length-append, map, Bool, true, false, Some}
+use Rattle.std.proofs.Common.{◌≡◌, ◌≢◌, ℕ, zero, suc, ◌+◌, ◌<◌, ◌==◌, ◌||◌, refl, sym, ap, subst, ◌∙◌, arith, inl, inr}
+use Rattle.std.proofs.Common.{List}
+use Rattle.std.proofs.Common.{[], ◌∷◌, ◌++◌, length, length-append, map, Bool, true, false, Some, get_or}
 use Rattle.std.specs.Prelude.{slice_get, slice_index_or, cond, AllPairs, codes, ℤ}
 use Rattle.std.specs.List.{flat_map, filter, list_any}
 use Rattle.std.proofs.lemmas.Bool.{cases_lt, eq-eqb}
@@ -12,7 +13,7 @@ use Rattle.std.proofs.lemmas.Option.{same_Some}
 use Rattle.std.proofs.Math.Bool.{or-false}
 use Rattle.circuit.specs.CellKinds.{number_of}
 use Rattle.circuit.specs.declared.cell_kind.CellKind.{CellKind}
-use Rattle.circuit.specs.declared.cell_kind.CellKind.TheVariants.{Buffer, Inverter, Zero, One, Split2, Split3, Majority}
+use Rattle.circuit.specs.declared.cell_kind.CellKind.TheVariants.{Buffer}
 use Rattle.geom.specs.FlatForm.{elements_at}
 use Rattle.geom.specs.declared.shapes.Label.{Label}
 use Rattle.geom.specs.declared.layout.Element.{Element}
@@ -20,7 +21,7 @@ use Rattle.geom.specs.declared.layout.Element.TheVariants.{Box, Place, Text}
 use Rattle.geom.specs.declared.layout.Structure.{Structure}
 use Rattle.geom.specs.Writable.{IsWritable, refers_to, is_referenced, holds_reference, names_in}
 use Rattle.rowed.specs.declared.row_cell.RowCell.{RowCell}
-use Rattle.list_orders.specs.Numbers.{numbers}
+use Rattle.list_orders.specs.Numbers.{numbers, place_of}
 use Rattle.rowed.specs.PlacedNets.{PlacedView}
 use Rattle.rowed.proofs.SpanLaws.{got_at}
 use Rattle.cell_library.specs.Kinds.{all_kinds}
@@ -42,35 +43,26 @@ use Rattle.layout_make.proofs.WritableEach.{all_of, each_written}
 
 -- names
 
--- a number of a name, by its first sign and its fourth, and the kind that it tells
+-- a number of a name, by its first sign and its fourth
 abbrev name_number : List ℕ → ℕ
 name_number name = slice_index_or name 0 0 + slice_index_or name 3 0
 
+-- the kind that it tells
 abbrev kind_at : ℕ → CellKind
-kind_at n =
-    cond (n == 66) Buffer (cond (n == 73) Inverter (cond (n == 169) Zero (cond (n == 79) One
-    (cond (n == 133) Split2 (cond (n == 134) Split3 Majority)))))
+kind_at n = get_or all_kinds (place_of (map (λ k. name_number (Draw.kind_name k)) all_kinds) n) Buffer
 
 kind_back : (k : CellKind) → kind_at (name_number (Draw.kind_name k)) ≡ k
 kind_back Buffer = refl
-kind_back Inverter = refl
-kind_back Zero = refl
-kind_back One = refl
-kind_back Split2 = refl
-kind_back Split3 = refl
-kind_back Majority = refl
+kind_back k = refl
 
 name_told : (a b : CellKind) → Draw.kind_name a ≡ Draw.kind_name b → a ≡ b
 name_told a b e = sym (kind_back a) ∙ ap (λ (t : List ℕ). kind_at (name_number t)) e ∙ kind_back b
 
 not_top : (a : CellKind) → Draw.kind_name a ≡ codes "TOP" → ⊥
 not_top Buffer e = absurd (let k : 66 ≡ 84 = ap (λ (t : List ℕ). slice_index_or t 0 0) e in omega arith)
-not_top Inverter e = absurd (let k : 73 ≡ 84 = ap (λ (t : List ℕ). slice_index_or t 0 0) e in omega arith)
-not_top Zero e = absurd (let k : 90 ≡ 84 = ap (λ (t : List ℕ). slice_index_or t 0 0) e in omega arith)
-not_top One e = absurd (let k : 79 ≡ 84 = ap (λ (t : List ℕ). slice_index_or t 0 0) e in omega arith)
-not_top Split2 e = absurd (let k : 83 ≡ 84 = ap (λ (t : List ℕ). slice_index_or t 0 0) e in omega arith)
-not_top Split3 e = absurd (let k : 83 ≡ 84 = ap (λ (t : List ℕ). slice_index_or t 0 0) e in omega arith)
-not_top Majority e = absurd (let k : 77 ≡ 84 = ap (λ (t : List ℕ). slice_index_or t 0 0) e in omega arith)
+not_top a e =
+    absurd (let k : slice_index_or (Draw.kind_name a) 0 0 ≡ 84 = ap (λ (t : List ℕ). slice_index_or t 0 0) e in
+    omega arith)
 
 -- kinds are used once
 

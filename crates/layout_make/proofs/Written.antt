@@ -7,7 +7,7 @@ use Rattle.std.proofs.Math.Nat.{mul-le-mul_right}
 use Rattle.std.proofs.lemmas.Bool.{cases_lt}
 use Rattle.circuit.specs.CellKinds.{number_of, slots_of, inputs_of, outputs_of}
 use Rattle.circuit.specs.declared.cell_kind.CellKind.{CellKind}
-use Rattle.circuit.specs.declared.cell_kind.CellKind.TheVariants.{Buffer, Inverter, Zero, One, Split2, Split3, Majority}
+use Rattle.circuit.specs.declared.cell_kind.CellKind.TheVariants.{Buffer}
 use Rattle.geom.specs.Writable.{IsWritableShape}
 use Rattle.rowed.specs.declared.wire.Wire.{Wire}
 use Rattle.rowed.specs.PlacedNets.{PlacedView, placed_rows}
@@ -19,6 +19,7 @@ use Rattle.layout_make.proofs.Lawful.{IsLawful}
 use Rattle.layout_make.specs.Code.Sizes.{AreSizes}
 use Rattle.layout_make.specs.Sheet.{Sheet, Tag, Area, Frame, InPin, OutPin, centre, edge, rect_of, shape_of, lower_edge}
 use Rattle.layout_make.specs.Sheet.{flank_rect, Flank, LeftOf, Over, RightOf, lead_use}
+use Rattle.layout_make.specs.declared.marks.Ports.TheVariants.{Inputs, Outputs}
 use Rattle.layout_make.proofs.SheetKeeps.{IsWire}
 use Rattle.layout_make.specs.Spots.{Spot}
 use Rattle.layout_make.proofs.ReadyNets.{IsReady}
@@ -28,7 +29,7 @@ use Rattle.layout_make.proofs.ChannelWires.{wire_of}
 use Rattle.layout_make.proofs.Columns.{centre_rises, track_above, track_below}
 use Rattle.layout_make.proofs.Member.{In}
 use Rattle.layout_make.proofs.Origins.{WirePart, TheRise, TheFall, TheAcross, TheFromVia, TheToVia, CellPart, TheFrame}
-use Rattle.layout_make.proofs.Origins.{AnInput, AnOutput}
+use Rattle.layout_make.proofs.Origins.{APin}
 use Rattle.layout_make.proofs.PinCounts.{outputs_slots, inputs_slots, slots_some}
 use Rattle.layout_make.proofs.Sound.{widest_most}
 use Rattle.layout_make.proofs.WireLengths.{wire_within}
@@ -168,12 +169,7 @@ flank_written l layer datatype right first row RightOf a b some few tall wide na
 
 number_small : (k : CellKind) → number_of k < 2 ^ 16
 number_small Buffer = omega arith
-number_small Inverter = omega arith
-number_small Zero = omega arith
-number_small One = omega arith
-number_small Split2 = omega arith
-number_small Split3 = omega arith
-number_small Majority = omega arith
+number_small k = omega arith
 
 column_right : (l : LibraryView) (k : CellKind) (i column : ℕ) → slots_of k * (l.columns * l.pitch) ≤ width_limit
     → i < slots_of k → column < (i + 1) * l.columns → (0 * l.columns + column + 1) * l.pitch ≤ width_limit
@@ -202,7 +198,7 @@ cell_written l laws sizes k given fits x at is t (TheFrame e) =
         let n : 1 * (l.columns * l.pitch) ≤ slots_of k * (l.columns * l.pitch) = mul-le-mul_right (l.columns * l.pitch)
         a in
         omega arith
-cell_written l laws sizes k given fits x at is t (AnInput i lt e) =
+cell_written l laws sizes k given fits x at is t (APin Inputs i lt e) =
     subst (λ (u : Tag). IsWritableShape (shape_of (alone l) u))
     (sym (e ∙ ap (λ (n : ℕ). InPin 0 (n * l.columns + input_column_of l x.cell.kind i) i) at
     ∙ ap (λ (j : CellKind). InPin 0 (0 * l.columns + input_column_of l j i) i) is)) (
@@ -212,7 +208,7 @@ cell_written l laws sizes k given fits x at is t (AnInput i lt e) =
     let right = strip_right l laws (0 * l.columns + input_column_of l k i)
     (column_right l k i (input_column_of l k i) fits (omega arith) (laws.input_most k i given below)) in
     area_writable _ _ _ (omega arith) (omega arith) (omega arith) (omega arith) (omega arith) (omega arith))
-cell_written l laws sizes k given fits x at is t (AnOutput i lt e) =
+cell_written l laws sizes k given fits x at is t (APin Outputs i lt e) =
     subst (λ (u : Tag). IsWritableShape (shape_of (alone l) u))
     (sym (e ∙ ap (λ (n : ℕ). OutPin 0 (n * l.columns + output_column_of l x.cell.kind i) i) at
     ∙ ap (λ (j : CellKind). OutPin 0 (0 * l.columns + output_column_of l j i) i) is)) (

@@ -1,14 +1,12 @@
 -- What a stage of the reader answers: the first fault that it looks for, or what it read.
-use Rattle.std.specs.Prelude.{◌≡◌, ◌≢◌, Option, Some, None, Result, Ok, Err, []}
+use Rattle.std.specs.Prelude.{◌≡◌, Option, Some, None, Result, Ok, Err, []}
 use Rattle.toml.specs.Data.{Members}
 use Rattle.cell_library.specs.declared.draft.Numbers.{Numbers}
 use Rattle.cell_library.specs.Code.Drafts.{drafted}
-use Rattle.cell_library.specs.Laws.{InRanges, Holds}
-use Rattle.cell_library.specs.Library.{LibraryView, IsGiven}
+use Rattle.cell_library.specs.Laws.{InRanges, Holds, GivesMandatory}
+use Rattle.cell_library.specs.Library.{LibraryView}
 use Rattle.cell_library.specs.Faults.{table_fault}
 use Rattle.cell_library.specs.declared.laws.Law.{Law as LawName}
-use Rattle.circuit.specs.declared.cell_kind.CellKind.{CellKind}
-use Rattle.circuit.specs.declared.cell_kind.CellKind.TheVariants.{Split3}
 use Rattle.cell_library.specs.Says.{library_of, LibFault}
 use Rattle.cell_library.specs.declared.fault.LibraryFault.{LibraryFault}
 use Rattle.cell_library.specs.declared.fault.LibraryRefusal.{LibraryRefusal}
@@ -33,7 +31,7 @@ pub record IsNumbersOf (ms : Members) (numbers : Numbers) : Type 0 where
 -- the draft is that of the table, and gives each kind that no library leaves out
 pub record IsDraftOf (ms : Members) (draft : LibraryView) : Type 0 where
   pub values : draft ≡ library_of ms
-  pub given : (kind : CellKind) → kind ≢ Split3 → IsGiven draft kind
+  pub given : GivesMandatory draft
 
 -- a table is a library, or has a first fault
 abbrev pub IsJudged : Members → Result LibraryView LibraryRefusal → Type 0

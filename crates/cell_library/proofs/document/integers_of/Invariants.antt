@@ -4,4 +4,5 @@ use Rattle.cell_library.specs.Documents.{integers_of}
 use Rattle.cell_library.proofs.document.integers_of.Given as goal
 
 abbrev pub invariant-loop-item : goal.invariant-loop-item
-invariant-loop-item l = integers_of (items_view l.items) ≡ option_map (λ zs. l.all.items ++ zs) (integers_of (items_view (drop l.item-index l.items)))
+invariant-loop-item l = integers_of (items_view l.items) ≡ option_map (λ zs. l.all.items ++ zs)
+    (integers_of (items_view (drop l.item-index l.items)))

@@ -20,4 +20,5 @@ pub loop-law-preserved : goal.loop-law-preserved
 loop-law-preserved c = below_more _ _ c.loop-law.invariant (c.holds.ensures.0 c.if-not-holds.false)
 
 pub returns-clause-lawful : goal.returns-clause-lawful
-returns-clause-lawful c = λ _ law. let numbers = law_numbers law in each_law (λ law. Holds law c.args.draft.now) c.loop-law.law-index c.loop-law.invariant law (omega arith)
+returns-clause-lawful c = λ _ law. let numbers = law_numbers law in each_law
+    (λ law. Holds law c.args.draft.now) c.loop-law.law-index c.loop-law.invariant law (omega arith)

@@ -8,5 +8,8 @@ returns c =
     let keys = c.in_ok-no_unknown_key.ensures in
     let numbers = c.in_ok-numbers.ensures in
     let missing = c.in_ok-no_missing_kind.ensures in
-    let kinds = c.in_ok-pins.ensures in
-    (faultless_table ms keys.0 numbers.0 missing.0 kinds.0, rw c.new.ensures (drafted_of ms c.in_ok-numbers.numbers c.in_ok-pins.pins.items numbers.1 missing.0 kinds.0 kinds.1))
+    let kinds = c.in_ok-pins.ensures in (
+      faultless_table ms keys.0 numbers.0 missing.0 kinds.0,
+      rw c.new.ensures
+          (drafted_of ms c.in_ok-numbers.numbers c.in_ok-pins.pins.items numbers.1 missing.0 kinds.0 kinds.1),
+    )

@@ -8,5 +8,6 @@ use Rattle.cell_library.proofs.read.read_kinds.Given as goal
 abbrev pub invariant-loop-kind : goal.invariant-loop-kind
 invariant-loop-kind l = record {
   read : l.all.items ≡ map (pins_under (table_view l.table)) (take l.kind-index all_kinds);
-  faultless : kinds_fault (table_view l.table) ≡ first_some (map (kind_fault (table_view l.table)) (drop l.kind-index all_kinds));
+  faultless : kinds_fault (table_view l.table) ≡ first_some
+      (map (kind_fault (table_view l.table)) (drop l.kind-index all_kinds));
 }

@@ -11,5 +11,6 @@ invariant-loop-kind l = record {
   items : l.kind-items ≡ all_kinds;
   columns : l.columns ≡ l.draft.columns;
   few : l.columns ≤ 1000;
-  so_far : (k : ℕ) → k < l.kind-index → (pins : Pins) → pins_of l.draft (get_or all_kinds k Buffer) ≡ Some pins → KindKeeps l.self l.draft.columns (get_or all_kinds k Buffer) pins;
+  so_far : (k : ℕ) → k < l.kind-index → (pins : Pins) → pins_of l.draft (get_or all_kinds k Buffer) ≡ Some pins
+      → KindKeeps l.self l.draft.columns (get_or all_kinds k Buffer) pins;
 }
