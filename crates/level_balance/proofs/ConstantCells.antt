@@ -1,5 +1,6 @@
 -- The plan has a cell of a constant for each use of it.
-use Rattle.std.specs.Prelude.{◌≡◌, ℕ, suc, ◌+◌, ◌||◌, Bool, true, false, eqb, List, [], ◌∷◌, ◌++◌, length, drop, slice_get, Some}
+use Rattle.std.specs.Prelude.{◌≡◌, ℕ, suc, ◌+◌, ◌||◌, Bool, true, false, eqb, List, [], ◌∷◌, ◌++◌, length, drop}
+use Rattle.std.specs.Prelude.{slice_get, Some}
 use Rattle.std.proofs.Common.{refl, sym, ◌∙◌, arith}
 use Rattle.std.proofs.lemmas.Bool.{eqb-true, eq-eqb, or_left, or_right}
 use Rattle.circuit.specs.declared.cell_kind.CellKind.{CellKind}
@@ -20,7 +21,8 @@ zero_uses n q (x ∷ xs) = go (eqb x n) (eqb x (n + 1)) (zero_uses n (suc q) xs)
   where
     go : (a b : Bool) → constants_of Zero n xs ≡ length (uses_of n (suc q) xs)
         → (elim (a || b) as (λ (t : Bool). ℕ) [
-          | true ↦ one_of Zero (elim a as (λ (t : Bool). CellKind) [ true ↦ Zero | false ↦ One ]) + constants_of Zero n xs
+          | true ↦ one_of Zero (elim a as (λ (t : Bool). CellKind) [ true ↦ Zero | false ↦ One ]) + constants_of Zero n
+              xs
           | false ↦ constants_of Zero n xs
         ])
         ≡ length (elim a as (λ (t : Bool). List ℕ) [ true ↦ q ∷ uses_of n (suc q) xs | false ↦ uses_of n (suc q) xs ])
@@ -37,7 +39,11 @@ one_uses n q (x ∷ xs) = go (eqb x n) (eqb x (n + 1)) refl refl (one_uses n (su
           | true ↦ one_of One (elim a as (λ (t : Bool). CellKind) [ true ↦ Zero | false ↦ One ]) + constants_of One n xs
           | false ↦ constants_of One n xs
         ])
-        ≡ length (elim b as (λ (t : Bool). List ℕ) [ true ↦ q ∷ uses_of (n + 1) (suc q) xs | false ↦ uses_of (n + 1) (suc q) xs ])
+        ≡ length (elim b as (λ (t : Bool). List ℕ) [
+          | true ↦ q ∷ uses_of (n + 1)
+              (suc q) xs
+          | false ↦ uses_of (n + 1) (suc q) xs
+        ])
     go true true e d h = absurd (let i = eqb-true x n e in let j = eqb-true x (n + 1) d in omega arith)
     go true false e d h = omega arith
     go false true e d h = omega arith
@@ -63,39 +69,72 @@ module _ (k : CellKind) (alone : IsConstants k) where
   constants_append n (x ∷ xs) ys = go (is_constant n x) (constants_append n xs ys)
     where
       go : (b : Bool) → constants_of k n (xs ++ ys) ≡ constants_of k n xs + constants_of k n ys
-          → (elim b as (λ (t : Bool). ℕ) [ true ↦ one_of k (constant_kind n x) + constants_of k n (xs ++ ys) | false ↦ constants_of k n (xs ++ ys) ])
-          ≡ (elim b as (λ (t : Bool). ℕ) [ true ↦ one_of k (constant_kind n x) + constants_of k n xs | false ↦ constants_of k n xs ]) + constants_of k n ys
+          → (elim b as (λ (t : Bool). ℕ) [
+            | true ↦ one_of k (constant_kind n x) + constants_of k n
+                (xs ++ ys)
+            | false ↦ constants_of k n (xs ++ ys)
+          ])
+          ≡ (elim b as (λ (t : Bool). ℕ) [
+            | true ↦ one_of k
+                (constant_kind n x) + constants_of k n xs
+            | false ↦ constants_of k n xs
+          ]) + constants_of k n ys
       go true h = omega arith
       go false h = h
 
-  gates_constants : (f : Frame) (all : List Gate) → ((i : ℕ) (g : Gate) → slice_get all i ≡ Some g → MayStand f.inputs i g) → (i : ℕ) (gs : List Gate) → drop i all ≡ gs
+  gates_constants : (f : Frame) (all : List Gate)
+      → ((i : ℕ) (g : Gate) → slice_get all i ≡ Some g → MayStand f.inputs i g)
+      → (i : ℕ) (gs : List Gate) → drop i all ≡ gs
       → gates_cells_of k f i gs ≡ constants_of k f.inputs (uses_from f.inputs f.marks i gs)
   gates_constants f all stands i [] d = refl
   gates_constants f all stands i (g ∷ gs) d =
       let st = drop_step i all g gs d in
       go (counts f.inputs f.marks i) refl (stands i g st.0) (gates_constants f all stands (suc i) gs st.1)
     where
-      go : (b : Bool) → counts f.inputs f.marks i ≡ b → MayStand f.inputs i g → gates_cells_of k f (suc i) gs ≡ constants_of k f.inputs (uses_from f.inputs f.marks (suc i) gs)
-          → (elim b as (λ (t : Bool). ℕ) [ true ↦ constants_of k f.inputs (operands g) + one_of k (gate_kind g) + gates_cells_of k f (suc i) gs | false ↦ gates_cells_of k f (suc i) gs ])
-          ≡ constants_of k f.inputs (elim b as (λ (t : Bool). List ℕ) [ true ↦ operands g ++ uses_from f.inputs f.marks (suc i) gs | false ↦ uses_from f.inputs f.marks (suc i) gs ])
+      go : (b : Bool) → counts f.inputs f.marks i ≡ b → MayStand f.inputs i g
+          → gates_cells_of k f (suc i) gs ≡ constants_of k f.inputs (uses_from f.inputs f.marks (suc i) gs)
+          → (elim b as (λ (t : Bool). ℕ) [
+            | true ↦ constants_of k f.inputs (operands g) + one_of k
+                (gate_kind g) + gates_cells_of k f (suc i) gs
+            | false ↦ gates_cells_of k f (suc i) gs
+          ])
+          ≡ constants_of k f.inputs
+          (elim b as (λ (t : Bool). List ℕ) [
+            | true ↦ operands g ++ uses_from f.inputs f.marks
+                (suc i) gs
+            | false ↦ uses_from f.inputs f.marks (suc i) gs
+          ])
       go true c may h =
           let own = own_other f.inputs i g may (counts_free f.inputs f.marks i c) in
           let both = constants_append f.inputs (operands g) (uses_from f.inputs f.marks (suc i) gs) in omega arith
       go false c may h = h
 
-  constant_cells : (net : PlainView) (three : Bool) → IsPlainNet net → cells_of k (level_net net three).rows ≡ constants_of k net.inputs (uses net (needed net))
+  constant_cells : (net : PlainView) (three : Bool) → IsPlainNet net
+      → cells_of k (level_net net three).rows ≡ constants_of k net.inputs (uses net (needed net))
   unfolding frame
   constant_cells net three known =
       let a = plan_of_kind k alone.apart net three known in
       let b = gates_constants (frame net three) net.gates known.gates_stand.stands 0 net.gates refl in
       let c = constants_append net.inputs (uses_from net.inputs (needed net) 0 net.gates) net.outputs in omega arith
 
-pub zero_cells : (net : PlainView) (three : Bool) → IsPlainNet net → cells_of Zero (level_net net three).rows ≡ use_count (uses net (needed net)) net.inputs
+pub zero_cells : (net : PlainView) (three : Bool) → IsPlainNet net
+    → cells_of Zero (level_net net three).rows ≡ use_count (uses net (needed net)) net.inputs
 zero_cells net three known =
-    constant_cells Zero (record { apart = record { buffer = refl; two = refl; three = refl }; inverter_other = refl; majority_other = refl }) net three known
+    constant_cells Zero (record {
+      apart = record { buffer = refl; two = refl; three = refl };
+      inverter_other =
+          refl;
+      majority_other = refl;
+    }) net three known
     ∙ zero_uses net.inputs 0 (uses net (needed net))
 
-pub one_cells : (net : PlainView) (three : Bool) → IsPlainNet net → cells_of One (level_net net three).rows ≡ use_count (uses net (needed net)) (net.inputs + 1)
+pub one_cells : (net : PlainView) (three : Bool) → IsPlainNet net
+    → cells_of One (level_net net three).rows ≡ use_count (uses net (needed net)) (net.inputs + 1)
 one_cells net three known =
-    constant_cells One (record { apart = record { buffer = refl; two = refl; three = refl }; inverter_other = refl; majority_other = refl }) net three known
+    constant_cells One (record {
+      apart = record { buffer = refl; two = refl; three = refl };
+      inverter_other =
+          refl;
+      majority_other = refl;
+    }) net three known
     ∙ one_uses net.inputs 0 (uses net (needed net))

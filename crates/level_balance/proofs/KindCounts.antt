@@ -1,5 +1,6 @@
 -- How many cells of a kind the plan has, where neither buffers nor splitters are of it: gates that count and constants.
-use Rattle.std.specs.Prelude.{◌≡◌, ℕ, zero, suc, pred, ◌+◌, ◌-◌, ◌<◌, Bool, true, false, eqb, List, [], ◌∷◌, ◌++◌, length, drop, replicate, slice_get, slice_index_or, slice_set, Some}
+use Rattle.std.specs.Prelude.{◌≡◌, ℕ, zero, suc, pred, ◌+◌, ◌-◌, ◌<◌, Bool, true, false, eqb, List, [], ◌∷◌, ◌++◌}
+use Rattle.std.specs.Prelude.{length, drop, replicate, slice_get, slice_index_or, slice_set, Some}
 use Rattle.std.proofs.Common.{refl, ap, ◌∙◌, arith}
 use Rattle.circuit.specs.declared.cell_kind.CellKind.{CellKind}
 use Rattle.circuit.specs.declared.cell_kind.CellKind.TheVariants.{Buffer, Split2, Split3, Inverter, Majority, Zero, One}
@@ -12,7 +13,8 @@ use Rattle.rowed.specs.MadeCells.{cell, output_cell, source}
 use Rattle.level_balance.specs.Uses.{operands, needed, counts, uses_of, use_count}
 use Rattle.level_balance.specs.Levels.{depth, tree_sizes}
 use Rattle.level_balance.specs.Laying.{put, next, giving, Signals, tree_row, tree, chain}
-use Rattle.level_balance.specs.Plan.{Frame, frame, Laid, constant_kind, sources, gate_cell, lead_each, lay_gate, lay_gates, lay_outputs, laid, level_net}
+use Rattle.level_balance.specs.Plan.{Frame, frame, Laid, constant_kind, sources, gate_cell, lead_each, lay_gate}
+use Rattle.level_balance.specs.Plan.{lay_gates, lay_outputs, laid, level_net}
 use Rattle.level_balance.specs.Kinds.{one_of, row_cells_of, cells_of, gate_kind, gates_of}
 use Rattle.level_balance.proofs.Carries.{put_length}
 use Rattle.level_balance.proofs.LawOfLaying.{drop_step, GateFits, level}
@@ -48,12 +50,14 @@ module _ (k : CellKind) where
   row_put [] c = omega arith
   row_put (x ∷ row) c = let h = row_put row c in omega arith
 
-  kind_put : (rows : List (List RowCell)) (r : ℕ) (c : RowCell) → r < length rows → cells_of k (put rows r c) ≡ cells_of k rows + one_of k c.kind
+  kind_put : (rows : List (List RowCell)) (r : ℕ) (c : RowCell) → r < length rows
+      → cells_of k (put rows r c) ≡ cells_of k rows + one_of k c.kind
   kind_put [] r c lt = absurd (omega arith)
   kind_put (row ∷ rows) zero c lt = let h = row_put row c in omega arith
   kind_put (row ∷ rows) (suc r) c lt = let h = kind_put rows r c (omega arith) in omega arith
 
-  other_put : (rows : List (List RowCell)) (r : ℕ) (c : RowCell) → one_of k c.kind ≡ 0 → cells_of k (put rows r c) ≡ cells_of k rows
+  other_put : (rows : List (List RowCell)) (r : ℕ) (c : RowCell) → one_of k c.kind ≡ 0
+      → cells_of k (put rows r c) ≡ cells_of k rows
   other_put [] r c e = refl
   other_put (row ∷ rows) zero c e = let h = row_put row c in omega arith
   other_put (row ∷ rows) (suc r) c e = let h = other_put rows r c e in omega arith
@@ -65,21 +69,33 @@ module _ (k : CellKind) where
   others_put done = refl
   others_put {a = a} (more r c e p) = others_put p ∙ other_put a r c e
 
-  sources_kind : (n r : ℕ) (ends : List Source) (rows : List (List RowCell)) (q : ℕ) (xs : List ℕ) → r < length rows → cells_of k (sources n r ends rows q xs).rows ≡ cells_of k rows + constants_of k n xs
+  sources_kind : (n r : ℕ) (ends : List Source) (rows : List (List RowCell)) (q : ℕ) (xs : List ℕ) → r < length rows
+      → cells_of k (sources n r ends rows q xs).rows ≡ cells_of k rows + constants_of k n xs
   sources_kind n r ends rows q [] lt = omega arith
   sources_kind n r ends rows q (x ∷ xs) lt =
       let size = put_length rows r (cell (constant_kind n x) []) in
-      go (is_constant n x) (kind_put rows r (cell (constant_kind n x) []) lt) (sources_kind n r ends (put rows r (cell (constant_kind n x) [])) (suc q) xs (omega arith)) (sources_kind n r ends rows (suc q) xs lt)
+      go (is_constant n x) (kind_put rows r (cell (constant_kind n x) []) lt)
+      (sources_kind n r ends (put rows r (cell (constant_kind n x) [])) (suc q) xs (omega arith))
+      (sources_kind n r ends rows (suc q) xs lt)
     where
-      go : (b : Bool) → cells_of k (put rows r (cell (constant_kind n x) [])) ≡ cells_of k rows + one_of k (constant_kind n x)
-          → cells_of k (sources n r ends (put rows r (cell (constant_kind n x) [])) (suc q) xs).rows ≡ cells_of k (put rows r (cell (constant_kind n x) [])) + constants_of k n xs
+      go : (b : Bool) → cells_of k
+          (put rows r (cell (constant_kind n x) [])) ≡ cells_of k rows + one_of k (constant_kind n x)
+          → cells_of k (sources n r ends (put rows r (cell (constant_kind n x) [])) (suc q) xs).rows ≡ cells_of k
+          (put rows r (cell (constant_kind n x) [])) + constants_of k n xs
           → cells_of k (sources n r ends rows (suc q) xs).rows ≡ cells_of k rows + constants_of k n xs
           → cells_of k (elim b as (λ (t : Bool). Signals) [
-            | true ↦ (let rest = sources n r ends (put rows r (cell (constant_kind n x) [])) (suc q) xs in record { rows = rest.rows; signals = source (next rows r) 0 ∷ rest.signals })
-            | false ↦ (let rest = sources n r ends rows (suc q) xs in record { rows = rest.rows; signals = slice_index_or ends q (source 0 0) ∷ rest.signals })
+            | true ↦ (let rest = sources n r ends (put rows r (cell (constant_kind n x) []))
+                (suc q) xs in record { rows = rest.rows; signals = source (next rows r) 0 ∷ rest.signals })
+            | false ↦ (let rest = sources n r ends rows
+                (suc q) xs in record { rows = rest.rows; signals = slice_index_or ends q (source 0 0) ∷ rest.signals })
           ]).rows
-          ≡ cells_of k rows + (elim b as (λ (t : Bool). ℕ) [ true ↦ one_of k (constant_kind n x) + constants_of k n xs | false ↦ constants_of k n xs ])
-      go true one a b = a ∙ ap (λ (t : ℕ). t + constants_of k n xs) one ∙ plus_assoc (cells_of k rows) (one_of k (constant_kind n x)) (constants_of k n xs)
+          ≡ cells_of k rows + (elim b as (λ (t : Bool). ℕ) [
+            | true ↦ one_of k
+                (constant_kind n x) + constants_of k n xs
+            | false ↦ constants_of k n xs
+          ])
+      go true one a b = a ∙ ap (λ (t : ℕ). t + constants_of k n xs) one
+          ∙ plus_assoc (cells_of k rows) (one_of k (constant_kind n x)) (constants_of k n xs)
         where
           plus_assoc : (a b c : ℕ) → a + b + c ≡ a + (b + c)
           plus_assoc a b c = omega arith
@@ -89,7 +105,9 @@ module _ (k : CellKind) (apart : IsApart k) where
   giving_other : (c : ℕ) → one_of k (giving c) ≡ 0
   giving_other c = go (eqb c 1) (eqb c 2)
     where
-      go : (a b : Bool) → one_of k (elim a as (λ (t : Bool). CellKind) [ true ↦ Buffer | false ↦ elim b as (λ (t : Bool). CellKind) [ true ↦ Split2 | false ↦ Split3 ] ]) ≡ 0
+      go : (a b : Bool) → one_of k
+          (elim a as (λ (t : Bool). CellKind)
+          [ true ↦ Buffer | false ↦ elim b as (λ (t : Bool). CellKind) [ true ↦ Split2 | false ↦ Split3 ] ]) ≡ 0
       go true b = apart.buffer
       go false true = apart.two
       go false false = apart.three
@@ -97,13 +115,16 @@ module _ (k : CellKind) (apart : IsApart k) where
   tree_others : (b r : ℕ) (at : Signals) (cs : List ℕ) → Puts (Other k) at.rows (tree b r at cs).rows
   tree_others b r at [] = done
   tree_others b r at (c ∷ cs) =
-      puts_then (tree_row_puts (Other k) b r at.rows at.signals c (λ j s. giving_other j)) (tree_others b (suc r) (tree_row b r at.rows at.signals c) cs)
+      puts_then (tree_row_puts (Other k) b r at.rows at.signals c (λ j s. giving_other j))
+      (tree_others b (suc r) (tree_row b r at.rows at.signals c) cs)
 
   chain_others : (j r : ℕ) (rows : List (List RowCell)) (s : Source) → Puts (Other k) rows (chain j r rows s).rows
   chain_others zero r rows s = done
-  chain_others (suc j) r rows s = more r (cell Buffer (s ∷ [])) apart.buffer (chain_others j (suc r) (put rows r (cell Buffer (s ∷ []))) (source (next rows r) 0))
+  chain_others (suc j) r rows s = more r (cell Buffer (s ∷ [])) apart.buffer
+      (chain_others j (suc r) (put rows r (cell Buffer (s ∷ []))) (source (next rows r) 0))
 
-  lead_others : (f : Frame) (leaf : ℕ) (rows : List (List RowCell)) (ends leaves : List Source) (qs : List ℕ) → Puts (Other k) rows (lead_each f leaf rows ends leaves qs).rows
+  lead_others : (f : Frame) (leaf : ℕ) (rows : List (List RowCell)) (ends leaves : List Source) (qs : List ℕ)
+      → Puts (Other k) rows (lead_each f leaf rows ends leaves qs).rows
   lead_others f leaf rows ends leaves [] = done
   lead_others f leaf rows ends [] (q ∷ qs) = done
   lead_others f leaf rows ends (s ∷ ss) (q ∷ qs) =
@@ -120,7 +141,8 @@ module _ (k : CellKind) (apart : IsApart k) where
   own_kind (gates.Maj x y z) ss = refl
 
   gate_of_kind : (f : Frame) (i : ℕ) (g : Gate) (at : Laid) → GateFits f i g → length at.rows ≡ suc f.last
-      → cells_of k (lay_gate f i g at).rows ≡ cells_of k at.rows + (constants_of k f.inputs (operands g) + one_of k (gate_kind g))
+      → cells_of k (lay_gate f i g at).rows ≡ cells_of k at.rows + (constants_of k f.inputs
+      (operands g) + one_of k (gate_kind g))
   gate_of_kind f i g at fits rows =
       let l = level f i in
       let fan = use_count f.uses i in
@@ -131,61 +153,91 @@ module _ (k : CellKind) (apart : IsApart k) where
       let root : Signals = record { rows = put ss.rows l x; signals = source (next ss.rows l) 0 ∷ [] } in
       let cs = tree_sizes f.base t fan [] in
       let leaves = tree f.base (suc l) root cs in
-      let taken : length ss.rows ≡ length at.rows = sources_rows f.inputs (pred l) at.ends at.rows at.use_at (operands g) in
+      let taken : length ss.rows ≡ length at.rows = sources_rows f.inputs
+      (pred l) at.ends at.rows at.use_at (operands g) in
       let one = sources_kind k f.inputs (pred l) at.ends at.rows at.use_at (operands g) (omega arith) in
       let two = kind_put k ss.rows l x (omega arith) in
       let own = own_kind g ss.signals in
-      let rest = others_put k (puts_then (tree_others f.base (suc l) root cs) (lead_others f (l + t) leaves.rows at.ends leaves.signals (uses_of i 0 f.uses))) in
-      sum_up (cells_of k at.rows) (constants_of k f.inputs (operands g)) (one_of k (gate_kind g)) _ _ _ _ one own two rest
+      let rest = others_put k (puts_then (tree_others f.base (suc l) root cs)
+      (lead_others f (l + t) leaves.rows at.ends leaves.signals (uses_of i 0 f.uses))) in
+      sum_up (cells_of k at.rows) (constants_of k f.inputs (operands g))
+      (one_of k (gate_kind g)) _ _ _ _ one own two rest
     where
       sum_up : (a c o s p x e : ℕ) → s ≡ a + c → x ≡ o → p ≡ s + x → e ≡ p → e ≡ a + (c + o)
       sum_up a c o s p x e one own two rest = omega arith
 
   module _ (f : Frame) (all : List Gate) (outs : List ℕ) (facts : PlanFacts f all outs) where
-    gates_of_kind : (i : ℕ) (at : Laid) (gs : List Gate) → drop i all ≡ gs → length at.rows ≡ suc f.last → cells_of k (lay_gates f i at gs).rows ≡ cells_of k at.rows + gates_cells_of k f i gs
+    gates_of_kind : (i : ℕ) (at : Laid) (gs : List Gate) → drop i all ≡ gs → length at.rows ≡ suc f.last
+        → cells_of k (lay_gates f i at gs).rows ≡ cells_of k at.rows + gates_cells_of k f i gs
     gates_of_kind i at [] d rows = omega arith
     gates_of_kind i at (g ∷ gs) d rows =
         let st = drop_step i all g gs d in
-        go (counts f.inputs f.marks i) refl st.0 (gates_of_kind (suc i) (lay_gate f i g at) gs st.1 (lay_gate_rows f i g at ∙ rows)) (gates_of_kind (suc i) at gs st.1 rows)
+        go (counts f.inputs f.marks i) refl st.0
+        (gates_of_kind (suc i) (lay_gate f i g at) gs st.1 (lay_gate_rows f i g at ∙ rows))
+        (gates_of_kind (suc i) at gs st.1 rows)
       where
         sum_up : (a c s e : ℕ) (r : ℕ) → s ≡ a + c → e ≡ s + r → e ≡ a + (c + r)
         sum_up a c s e r one rest = omega arith
 
         go : (b : Bool) → counts f.inputs f.marks i ≡ b → slice_get all i ≡ Some g
-            → cells_of k (lay_gates f (suc i) (lay_gate f i g at) gs).rows ≡ cells_of k (lay_gate f i g at).rows + gates_cells_of k f (suc i) gs
+            → cells_of k (lay_gates f (suc i) (lay_gate f i g at) gs).rows ≡ cells_of k
+            (lay_gate f i g at).rows + gates_cells_of k f (suc i) gs
             → cells_of k (lay_gates f (suc i) at gs).rows ≡ cells_of k at.rows + gates_cells_of k f (suc i) gs
-            → cells_of k (elim b as (λ (t : Bool). Laid) [ true ↦ lay_gates f (suc i) (lay_gate f i g at) gs | false ↦ lay_gates f (suc i) at gs ]).rows
+            → cells_of k (elim b as (λ (t : Bool). Laid) [
+              | true ↦ lay_gates f (suc i)
+                  (lay_gate f i g at) gs
+              | false ↦ lay_gates f (suc i) at gs
+            ]).rows
             ≡ cells_of k at.rows + (elim b as (λ (t : Bool). ℕ) [
               | true ↦ constants_of k f.inputs (operands g) + one_of k (gate_kind g) + gates_cells_of k f (suc i) gs
               | false ↦ gates_cells_of k f (suc i) gs
             ])
         go true c here a b =
-            sum_up (cells_of k at.rows) (constants_of k f.inputs (operands g) + one_of k (gate_kind g)) _ _ (gates_cells_of k f (suc i) gs) (gate_of_kind f i g at (facts.each i g here c).fits rows) a
+            sum_up (cells_of k at.rows) (constants_of k f.inputs (operands g) + one_of k (gate_kind g)) _ _
+            (gates_cells_of k f (suc i) gs) (gate_of_kind f i g at (facts.each i g here c).fits rows) a
         go false c here a b = b
 
-    outputs_of_kind : (j : ℕ) (at : Laid) (os : List ℕ) → length at.rows ≡ suc f.last → cells_of k (lay_outputs f j at os).rows ≡ cells_of k at.rows + constants_of k f.inputs os
+    outputs_of_kind : (j : ℕ) (at : Laid) (os : List ℕ) → length at.rows ≡ suc f.last
+        → cells_of k (lay_outputs f j at os).rows ≡ cells_of k at.rows + constants_of k f.inputs os
     outputs_of_kind j at [] rows = omega arith
     outputs_of_kind j at (o ∷ os) rows =
         let ss = sources f.inputs (pred f.last) at.ends at.rows at.use_at (o ∷ []) in
         let x = output_cell (slice_index_or ss.signals 0 (source 0 0)) j in
-        let size : length ss.rows ≡ length at.rows = sources_rows f.inputs (pred f.last) at.ends at.rows at.use_at (o ∷ []) in
+        let size : length ss.rows ≡ length at.rows = sources_rows f.inputs
+        (pred f.last) at.ends at.rows at.use_at (o ∷ []) in
         let one = sources_kind k f.inputs (pred f.last) at.ends at.rows at.use_at (o ∷ []) (omega arith) in
         let two = other_put k ss.rows f.last x apart.buffer in
-        let rest = outputs_of_kind (suc j) (record { rows = put ss.rows f.last x; ends = at.ends; use_at = suc at.use_at }) os (put_length ss.rows f.last x ∙ size ∙ rows) in
-        sum_up (cells_of k at.rows) (constants_of k f.inputs (o ∷ [])) (constants_of k f.inputs os) _ _ _ (constants_of k f.inputs (o ∷ os)) one two rest (split (is_constant f.inputs o))
+        let rest = outputs_of_kind (suc j)
+        (record { rows = put ss.rows f.last x; ends = at.ends; use_at = suc at.use_at }) os
+        (put_length ss.rows f.last x ∙ size ∙ rows) in
+        sum_up (cells_of k at.rows) (constants_of k f.inputs (o ∷ [])) (constants_of k f.inputs os) _ _ _
+        (constants_of k f.inputs (o ∷ os)) one two rest (split (is_constant f.inputs o))
       where
         sum_up : (a c d s p e w : ℕ) → s ≡ a + c → p ≡ s → e ≡ p + d → w ≡ c + d → e ≡ a + w
         sum_up a c d s p e w one two rest whole = omega arith
 
-        split : (b : Bool) → (elim b as (λ (t : Bool). ℕ) [ true ↦ one_of k (constant_kind f.inputs o) + constants_of k f.inputs os | false ↦ constants_of k f.inputs os ])
-            ≡ (elim b as (λ (t : Bool). ℕ) [ true ↦ one_of k (constant_kind f.inputs o) + 0 | false ↦ 0 ]) + constants_of k f.inputs os
+        split : (b : Bool) → (elim b as (λ (t : Bool). ℕ) [
+          | true ↦ one_of k
+              (constant_kind f.inputs o) + constants_of k f.inputs os
+          | false ↦ constants_of k f.inputs os
+        ])
+            ≡ (elim b as (λ (t : Bool). ℕ) [ true ↦ one_of k (constant_kind f.inputs o) + 0 | false ↦ 0 ])
+            + constants_of k f.inputs os
         split true = omega arith
         split false = omega arith
 
-    final_of_kind : cells_of k (lay_outputs f 0 (lay_gates f 0 (record { rows = replicate (suc f.last) []; ends = replicate (length f.uses) (source 0 0); use_at = 0 }) all) outs).rows
+    final_of_kind : cells_of k
+        (lay_outputs f 0 (lay_gates f 0
+        (record { rows = replicate (suc f.last) []; ends = replicate (length f.uses) (source 0 0); use_at = 0 }) all)
+        outs).rows
         ≡ gates_cells_of k f 0 all + constants_of k f.inputs outs
     final_of_kind =
-        let start : Laid = record { rows = replicate (suc f.last) []; ends = replicate (length f.uses) (source 0 0); use_at = 0 } in
+        let start : Laid = record {
+          rows = replicate (suc f.last) [];
+          ends = replicate (length f.uses)
+              (source 0 0);
+          use_at = 0;
+        } in
         let a = gates_of_kind 0 start all refl (start_rows f all outs facts) in
         let b = outputs_of_kind 0 (lay_gates f 0 start all) outs (gone_rows f all outs facts) in
         let c = none_of (suc f.last) in omega arith
@@ -194,7 +246,9 @@ module _ (k : CellKind) (apart : IsApart k) where
         none_of zero = refl
         none_of (suc m) = let h = none_of m in omega arith
 
-  pub plan_of_kind : (net : PlainView) (three : Bool) → IsPlainNet net → cells_of k (level_net net three).rows ≡ gates_cells_of k (frame net three) 0 net.gates + constants_of k (frame net three).inputs net.outputs
+  pub plan_of_kind : (net : PlainView) (three : Bool) → IsPlainNet net
+      → cells_of k (level_net net three).rows ≡ gates_cells_of k (frame net three) 0 net.gates + constants_of k
+      (frame net three).inputs net.outputs
   unfolding level_net laid
   plan_of_kind net three known = final_of_kind (frame net three) net.gates net.outputs (plan_facts net three known)
 
@@ -210,30 +264,50 @@ module _ (k : CellKind) (logic : IsLogic k) where
   no_constant n (x ∷ xs) = go (is_constant n x) (eqb x n) (no_constant n xs)
     where
       go : (b t : Bool) → constants_of k n xs ≡ 0
-          → (elim b as (λ (t : Bool). ℕ) [ true ↦ one_of k (elim t as (λ (t : Bool). CellKind) [ true ↦ Zero | false ↦ One ]) + constants_of k n xs | false ↦ constants_of k n xs ]) ≡ 0
+          → (elim b as (λ (t : Bool). ℕ) [
+            | true ↦ one_of k
+                (elim t as (λ (t : Bool). CellKind) [ true ↦ Zero | false ↦ One ]) + constants_of k n xs
+            | false ↦
+                constants_of k n xs
+          ]) ≡ 0
       go true true h = let z = logic.zero_other in omega arith
       go true false h = let z = logic.one_other in omega arith
       go false t h = h
 
   gates_alone : (f : Frame) (i : ℕ) (gs : List Gate) → gates_cells_of k f i gs ≡ gates_of k f.inputs f.marks i gs
   gates_alone f i [] = refl
-  gates_alone f i (g ∷ gs) = go (counts f.inputs f.marks i) (no_constant f.inputs (operands g)) (gates_alone f (suc i) gs)
+  gates_alone f i (g ∷ gs) = go (counts f.inputs f.marks i) (no_constant f.inputs (operands g))
+      (gates_alone f (suc i) gs)
     where
-      go : (b : Bool) → constants_of k f.inputs (operands g) ≡ 0 → gates_cells_of k f (suc i) gs ≡ gates_of k f.inputs f.marks (suc i) gs
-          → (elim b as (λ (t : Bool). ℕ) [ true ↦ constants_of k f.inputs (operands g) + one_of k (gate_kind g) + gates_cells_of k f (suc i) gs | false ↦ gates_cells_of k f (suc i) gs ])
-          ≡ (elim b as (λ (t : Bool). ℕ) [ true ↦ one_of k (gate_kind g) + gates_of k f.inputs f.marks (suc i) gs | false ↦ gates_of k f.inputs f.marks (suc i) gs ])
+      go : (b : Bool) → constants_of k f.inputs (operands g) ≡ 0
+          → gates_cells_of k f (suc i) gs ≡ gates_of k f.inputs f.marks (suc i) gs
+          → (elim b as (λ (t : Bool). ℕ) [
+            | true ↦ constants_of k f.inputs (operands g) + one_of k
+                (gate_kind g) + gates_cells_of k f (suc i) gs
+            | false ↦ gates_cells_of k f (suc i) gs
+          ])
+          ≡ (elim b as (λ (t : Bool). ℕ) [
+            | true ↦ one_of k (gate_kind g) + gates_of k f.inputs f.marks
+                (suc i) gs
+            | false ↦ gates_of k f.inputs f.marks (suc i) gs
+          ])
       go true z h = omega arith
       go false z h = h
 
-  logic_cells : (net : PlainView) (three : Bool) → IsPlainNet net → cells_of k (level_net net three).rows ≡ gates_of k net.inputs (needed net) 0 net.gates
+  logic_cells : (net : PlainView) (three : Bool) → IsPlainNet net
+      → cells_of k (level_net net three).rows ≡ gates_of k net.inputs (needed net) 0 net.gates
   unfolding frame
   logic_cells net three known =
       let a = plan_of_kind k logic.apart net three known in
       let b = gates_alone (frame net three) 0 net.gates in
       let c = no_constant net.inputs net.outputs in omega arith
 
-pub inverter_cells : (net : PlainView) (three : Bool) → IsPlainNet net → cells_of Inverter (level_net net three).rows ≡ gates_of Inverter net.inputs (needed net) 0 net.gates
-inverter_cells = logic_cells Inverter (record { apart = record { buffer = refl; two = refl; three = refl }; zero_other = refl; one_other = refl })
+pub inverter_cells : (net : PlainView) (three : Bool) → IsPlainNet net
+    → cells_of Inverter (level_net net three).rows ≡ gates_of Inverter net.inputs (needed net) 0 net.gates
+inverter_cells = logic_cells Inverter
+    (record { apart = record { buffer = refl; two = refl; three = refl }; zero_other = refl; one_other = refl })
 
-pub majority_cells : (net : PlainView) (three : Bool) → IsPlainNet net → cells_of Majority (level_net net three).rows ≡ gates_of Majority net.inputs (needed net) 0 net.gates
-majority_cells = logic_cells Majority (record { apart = record { buffer = refl; two = refl; three = refl }; zero_other = refl; one_other = refl })
+pub majority_cells : (net : PlainView) (three : Bool) → IsPlainNet net
+    → cells_of Majority (level_net net three).rows ≡ gates_of Majority net.inputs (needed net) 0 net.gates
+majority_cells = logic_cells Majority
+    (record { apart = record { buffer = refl; two = refl; three = refl }; zero_other = refl; one_other = refl })

@@ -13,12 +13,14 @@ use Rattle.level_balance.specs.Plan.{level_net}
 use Rattle.level_balance.proofs.Frames.{level_law}
 use Rattle.level_balance.proofs.Plain.{is_plain}
 
-shown_cell : (o : Option RowCell) (i : ℕ) → output_at o ≡ Some i → (cell : RowCell) × (o ≡ Some cell) × (cell.output ≡ Some i)
+shown_cell : (o : Option RowCell) (i : ℕ) → output_at o ≡ Some i → (cell : RowCell)
+    × (o ≡ Some cell) × (cell.output ≡ Some i)
 shown_cell None i e = absurd (none-some i e)
 shown_cell (Some cell) i e = (cell, refl, e)
 
 -- the answers of both are one
-one_of_both : (net : PlainView) (three : Bool) → IsPlainNet net → IsRowNet (level_net net three) → (word a b : List Bool) → IsGatesAnswer net word a → IsAnswer (level_net net three) word b → a ≡ b
+one_of_both : (net : PlainView) (three : Bool) → IsPlainNet net → IsRowNet (level_net net three)
+    → (word a b : List Bool) → IsGatesAnswer net word a → IsAnswer (level_net net three) word b → a ≡ b
 unfolding level_net
 one_of_both net three known kept word a b p q =
     let rows = (level_net net three).rows in
@@ -29,11 +31,13 @@ one_of_both net three known kept word a b p q =
     let o = get_or net.outputs i 0 in
     let here : slice_get net.outputs i ≡ Some o = slice_get-get_or net.outputs i 0 (omega arith) in
     ap (λ (t : List Bool). get_or t i false) p.shown ∙ get_or-map p.values net.outputs i 0 false (omega arith)
-    ∙ sym (level_law net three (is_plain net known) word p.values q.values p.fit q.fit (last_of rows) one.which x.0 i o x.1 x.2 here)
+    ∙ sym (level_law net three (is_plain net known) word p.values q.values p.fit q.fit
+    (last_of rows) one.which x.0 i o x.1 x.2 here)
     ∙ sym (get_or_from_slice_get b i (q.values (last_of rows) one.which) false (q.shown one.which i one.there)))
 
 pub same_answers : (net : PlainView) (three : Bool) → IsPlainNet net → IsRowNet (level_net net three)
-    → SameAnswers net.inputs (level_net net three).inputs (length net.outputs) (level_net net three).outputs (IsGatesAnswer net) (IsAnswer (level_net net three))
+    → SameAnswers net.inputs (level_net net three).inputs (length net.outputs) (level_net net three).outputs
+    (IsGatesAnswer net) (IsAnswer (level_net net three))
 unfolding level_net
 same_answers net three known kept = record {
   same_inputs = refl;

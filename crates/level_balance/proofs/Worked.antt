@@ -8,7 +8,8 @@ unfolding sizes exclusive_or
 xor_sizes = refl
 
 pub xor_kinds : row_kinds exclusive_or true
-    ≡ (Buffer ∷ Buffer ∷ []) ∷ (Split2 ∷ Split2 ∷ One ∷ Zero ∷ []) ∷ (Majority ∷ Majority ∷ []) ∷ (Buffer ∷ Inverter ∷ Zero ∷ []) ∷ (Majority ∷ []) ∷ (Buffer ∷ []) ∷ []
+    ≡ (Buffer ∷ Buffer ∷ []) ∷ (Split2 ∷ Split2 ∷ One ∷ Zero ∷ []) ∷ (Majority ∷ Majority ∷ [])
+    ∷ (Buffer ∷ Inverter ∷ Zero ∷ []) ∷ (Majority ∷ []) ∷ (Buffer ∷ []) ∷ []
 unfolding row_kinds exclusive_or
 xor_kinds = refl
 
@@ -16,6 +17,7 @@ pub wide_splitter : row_kinds three_outputs true ≡ (Buffer ∷ []) ∷ (Split3
 unfolding row_kinds three_outputs
 wide_splitter = refl
 
-pub narrow_splitters : row_kinds three_outputs false ≡ (Buffer ∷ []) ∷ (Split2 ∷ []) ∷ (Split2 ∷ Buffer ∷ []) ∷ (Buffer ∷ Buffer ∷ Buffer ∷ []) ∷ []
+pub narrow_splitters : row_kinds three_outputs
+    false ≡ (Buffer ∷ []) ∷ (Split2 ∷ []) ∷ (Split2 ∷ Buffer ∷ []) ∷ (Buffer ∷ Buffer ∷ Buffer ∷ []) ∷ []
 unfolding row_kinds three_outputs
 narrow_splitters = refl

@@ -11,13 +11,16 @@ use std::marker::Model;
 enum Kept {
     /// One byte each.
     Bytes(Vec<u8>),
+    /// Two bytes each.
+    Halves(Vec<u16>),
     /// Four bytes each.
     Words(Vec<u32>),
     /// Eight bytes each.
     Wide(Vec<usize>),
 }
 
-/// A list of numbers. Each takes one byte, until one is put in that needs more: from then on each takes four, or eight.
+/// A list of numbers. Each takes one byte, until one is put in that needs more: from then on each takes two, four or
+/// eight.
 #[derive(Drop)]
 pub(crate) struct Page {
     kept: Kept,
@@ -32,13 +35,24 @@ impl Model for Page {
     ghost view = { λ page. kept_numbers page.kept };
 }
 
-/// The same numbers of four bytes each.
-fn words_of(alloc: Global, bytes: &[u8]) -> Result<Vec<u32>, Memory>
-    ensures { IfOk result (λ words. words.items ≡ bytes.now) }
+/// The same numbers of two bytes each.
+fn halves_of(alloc: Global, bytes: &[u8]) -> Result<Vec<u16>, Memory>
+    ensures { IfOk result (λ halves. halves.items ≡ bytes.now) }
 {
-    let mut words = Vec::with_capacity(alloc, bytes.len())?;
+    let mut halves = Vec::with_capacity(alloc, bytes.len())?;
     for byte in bytes {
-        words.push(*byte as u32)?;
+        halves.push(*byte as u16)?;
+    }
+    Ok(halves)
+}
+
+/// The same numbers of four bytes each.
+fn words_of(alloc: Global, halves: &[u16]) -> Result<Vec<u32>, Memory>
+    ensures { IfOk result (λ words. words.items ≡ halves.now) }
+{
+    let mut words = Vec::with_capacity(alloc, halves.len())?;
+    for half in halves {
+        words.push(*half as u32)?;
     }
     Ok(words)
 }
@@ -54,8 +68,41 @@ fn wide_of(alloc: Global, words: &[u32]) -> Result<Vec<usize>, Memory>
     Ok(wide)
 }
 
+/// The same numbers of four bytes each, or of eight where this one needs them.
+fn words_for(alloc: Global, halves: &[u16], number: usize) -> Result<Kept, Memory>
+    ensures same { IfOk result (λ kept. kept_numbers kept ≡ halves.now) }
+    ensures fits { IfOk result (λ kept. number ≤ most_kept kept) }
+{
+    let words = words_of(alloc, halves)?;
+    if number <= u32::MAX as usize {
+        return Ok(Kept::Words(words));
+    }
+    Ok(Kept::Wide(wide_of(alloc, &words)?))
+}
+
+/// The same numbers of two bytes each, or of more where this one needs them.
+fn halves_for(alloc: Global, bytes: &[u8], number: usize) -> Result<Kept, Memory>
+    ensures same { IfOk result (λ kept. kept_numbers kept ≡ bytes.now) }
+    ensures fits { IfOk result (λ kept. number ≤ most_kept kept) }
+{
+    let halves = halves_of(alloc, bytes)?;
+    if number <= u16::MAX as usize {
+        return Ok(Kept::Halves(halves));
+    }
+    words_for(alloc, &halves, number)
+}
+
 /// Puts a number of one byte at a place, if it is there.
 fn put_byte(numbers: &mut Vec<u8>, place: usize, number: u8)
+    ensures { numbers.new.items ≡ slice_set numbers.old.items place number }
+{
+    if place < numbers.len() {
+        numbers[place] = number;
+    }
+}
+
+/// Puts a number of two bytes at a place, if it is there.
+fn put_half(numbers: &mut Vec<u16>, place: usize, number: u16)
     ensures { numbers.new.items ≡ slice_set numbers.old.items place number }
 {
     if place < numbers.len() {
@@ -89,13 +136,12 @@ fn fit(kept: &mut Kept, number: usize) -> Result<(), Memory>
     match kept {
         Kept::Bytes(bytes) => {
             if number > u8::MAX as usize {
-                let alloc = *bytes.allocator();
-                let words = words_of(alloc, bytes)?;
-                *kept = if number > u32::MAX as usize {
-                    Kept::Wide(wide_of(alloc, &words)?)
-                } else {
-                    Kept::Words(words)
-                };
+                *kept = halves_for(*bytes.allocator(), bytes, number)?;
+            }
+        }
+        Kept::Halves(halves) => {
+            if number > u16::MAX as usize {
+                *kept = words_for(*halves.allocator(), halves, number)?;
             }
         }
         Kept::Words(words) => {
@@ -115,6 +161,7 @@ fn put(kept: &mut Kept, place: usize, number: usize)
 {
     match kept {
         Kept::Bytes(numbers) => put_byte(numbers, place, number as u8),
+        Kept::Halves(numbers) => put_half(numbers, place, number as u16),
         Kept::Words(numbers) => put_word(numbers, place, number as u32),
         Kept::Wide(numbers) => put_wide(numbers, place, number),
     }
@@ -137,6 +184,7 @@ impl Page {
     {
         match &self.kept {
             Kept::Bytes(numbers) => numbers.get(place).copied().unwrap_or(0) as usize,
+            Kept::Halves(numbers) => numbers.get(place).copied().unwrap_or(0) as usize,
             Kept::Words(numbers) => numbers.get(place).copied().unwrap_or(0) as usize,
             Kept::Wide(numbers) => numbers.get(place).copied().unwrap_or(0),
         }

@@ -6,12 +6,14 @@ use Rattle.level_balance.specs.declared.page.Kept.TheVariants as kept
 -- the numbers of a page
 abbrev pub kept_numbers : Kept → List ℕ
 kept_numbers (kept.Bytes numbers) = numbers.items
+kept_numbers (kept.Halves numbers) = numbers.items
 kept_numbers (kept.Words numbers) = numbers.items
 kept_numbers (kept.Wide numbers) = numbers.items
 
 -- the greatest number that a page can take as it is
 abbrev pub most_kept : Kept → ℕ
 most_kept (kept.Bytes numbers) = 2 ^ 8 - 1
+most_kept (kept.Halves numbers) = 2 ^ 16 - 1
 most_kept (kept.Words numbers) = 2 ^ 32 - 1
 most_kept (kept.Wide numbers) = 2 ^ 64 - 1
 

@@ -11,5 +11,6 @@ gates_total-requires-clause-size c =
 pub returns : goal.returns
 returns c =
     let net : PlainView = record { inputs = c.args.inputs; gates = c.args.gates.now; outputs = c.args.outputs.now } in
-    counted_is net c.args.three c.requires _ _ _ _ _ _ _ _ _ _ c.splitter_base-base.ensures.base c.in_ok-ends.ensures.uses c.in_ok-cells.ensures.cells c.in_ok-cells.ensures.ends refl refl
+    counted_is net c.args.three c.requires _ _ _ _ _ _ _ _ _ _ c.splitter_base-base.ensures.base
+    c.in_ok-ends.ensures.uses c.in_ok-cells.ensures.cells c.in_ok-cells.ensures.ends refl refl
     c.last_row-last.ensures.is c.outputs_total-leads.ensures c.saturating_add.ensures c.saturating_add-2.ensures

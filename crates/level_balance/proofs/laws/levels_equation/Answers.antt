@@ -1,4 +1,5 @@
-use Rattle.level_balance.proofs.LevelEquation.{low_level, one_above_operands, one_above_outputs, last_of_constants, levels_room, lowest}
+use Rattle.level_balance.proofs.LevelEquation.{low_level, one_above_operands, one_above_outputs, last_of_constants}
+use Rattle.level_balance.proofs.LevelEquation.{levels_room, lowest}
 use Rattle.level_balance.proofs.laws.levels_equation.Goals as goal
 
 pub returns : goal.returns
