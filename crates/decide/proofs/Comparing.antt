@@ -1,5 +1,6 @@
 -- From equal edges to equal answers, and from different ones to the least difference.
-use Rattle.std.proofs.Common.{◌≡◌, ℕ, zero, suc, ◌<◌, Bool, List, [], ◌∷◌, length, map, get_or, refl, sym, ap, ◌∙◌, subst, arith, Result, Ok, Err, IfErr, IsErrAnd}
+use Rattle.std.proofs.Common.{◌≡◌, ℕ, zero, suc, ◌<◌, Bool, List, [], ◌∷◌, length, map, get_or, refl, sym, ap, ◌∙◌}
+use Rattle.std.proofs.Common.{subst, arith, Result, Ok, Err, IfErr, IsErrAnd}
 use Rattle.std.specs.List.{AllByRecursion}
 use Rattle.circuit.specs.PlainNets.{PlainView}
 use Rattle.circuit.specs.declared.gate.Gate.{Gate}
@@ -21,7 +22,9 @@ use Rattle.decide.proofs.Remembering.{inside_grown}
 use Rattle.decide.proofs.Naming.{no_more}
 
 -- gates keep their edges as the diagram grows
-pub values_grown : (old new : List Node) → IsDiagram old → IsDiagram new → Grows old new → (edges : List Edge) (gates : List Gate) (count : ℕ) → AreValues old edges gates count → AreValues new edges gates count
+pub values_grown : (old new : List Node) → IsDiagram old → IsDiagram new → Grows old new
+    → (edges : List Edge) (gates : List Gate) (count : ℕ) → AreValues old edges gates count
+    → AreValues new edges gates count
 values_grown old new ok ok' grows edges gates count values = record {
   size = values.size;
   inside = λ i lt. inside_grown old new ok ok' grows (edge_of edges i).node (values.inside i lt);
@@ -33,36 +36,47 @@ all_at P [] all k lt = absurd (omega arith)
 all_at P (x ∷ xs) all zero lt = all.0
 all_at P (x ∷ xs) all (suc k) lt = all_at P xs all.1 k (omega arith)
 
-pub output_within : (net : PlainView) → IsCells net → (k : ℕ) → k < length net.outputs → get_or net.outputs k 0 < length net.gates
+pub output_within : (net : PlainView) → IsCells net → (k : ℕ) → k < length net.outputs
+    → get_or net.outputs k 0 < length net.gates
 output_within net ok k lt = all_at (λ x. x < length net.gates) net.outputs ok.each_output k lt
 
-same_maps : (f g : ℕ → Bool) (xs ys : List ℕ) → length ys ≡ length xs → ((k : ℕ) → k < length xs → f (get_or xs k 0) ≡ g (get_or ys k 0)) → map f xs ≡ map g ys
+same_maps : (f g : ℕ → Bool) (xs ys : List ℕ) → length ys ≡ length xs
+    → ((k : ℕ) → k < length xs → f (get_or xs k 0) ≡ g (get_or ys k 0)) → map f xs ≡ map g ys
 same_maps f g [] [] long same = refl
 same_maps f g [] (y ∷ ys) long same = absurd (omega arith)
 same_maps f g (x ∷ xs) [] long same = absurd (omega arith)
-same_maps f g (x ∷ xs) (y ∷ ys) long same = ap (λ (b : Bool). b ∷ map f xs) (same 0 (omega arith)) ∙ ap (λ (bs : List Bool). g y ∷ bs) (same_maps f g xs ys (omega arith) (λ k lt. same (suc k) (omega arith)))
+same_maps f g (x ∷ xs) (y ∷ ys) long same = ap (λ (b : Bool). b ∷ map f xs) (same 0 (omega arith))
+    ∙ ap (λ (bs : List Bool). g y ∷ bs) (same_maps f g xs ys (omega arith) (λ k lt. same (suc k) (omega arith)))
 
 -- gates read their own word, where the inputs stand in their own order
-pub read_values : (nodes : List Node) (edges : List Edge) (gates : List Gate) → AreValues nodes edges gates (length gates) → ReadValues nodes (λ x. x) edges gates
+pub read_values : (nodes : List Node) (edges : List Edge) (gates : List Gate)
+    → AreValues nodes edges gates (length gates) → ReadValues nodes (λ x. x) edges gates
 read_values nodes edges gates values = record { size = values.size; inside = values.inside; values = values.values }
 
 -- each output names a gate that has an edge
-pub outputs_inside : (net : PlainView) (edges : List Edge) → IsCells net → length edges ≡ length net.gates → AllByRecursion (λ x. x < length edges) net.outputs
+pub outputs_inside : (net : PlainView) (edges : List Edge) → IsCells net → length edges ≡ length net.gates
+    → AllByRecursion (λ x. x < length edges) net.outputs
 outputs_inside net edges ok size = subst (λ m. AllByRecursion (λ x. x < m) net.outputs) (sym size) ok.each_output
 
 -- the edge of an output, as the code reads it
-pub edge_read : (edges read : List Edge) (outputs : List ℕ) (k : ℕ) (e : Edge) → e ≡ edge_of read (get_or outputs k 0) → read ≡ edges → e ≡ output_edge edges outputs k
+pub edge_read : (edges read : List Edge) (outputs : List ℕ) (k : ℕ) (e : Edge) → e ≡ edge_of read (get_or outputs k 0)
+    → read ≡ edges → e ≡ output_edge edges outputs k
 edge_read edges read outputs k e is same = is ∙ ap (λ (es : List Edge). edge_of es (get_or outputs k 0)) same
 
 -- the least word for two edges is that for the same edges
-pub same_least : (n : ℕ) (nodes : List Node) (read : List Bool → List Bool) (l l' r r' : Edge) (word : List Bool) → l ≡ l' → r ≡ r'
-    → IsLeastWord n (λ x. edge_value nodes (read x) l) (λ x. edge_value nodes (read x) r) word → IsLeastWord n (λ x. edge_value nodes (read x) l') (λ x. edge_value nodes (read x) r') word
+pub same_least : (n : ℕ) (nodes : List Node) (read : List Bool → List Bool) (l l' r r' : Edge)
+    (word : List Bool) → l ≡ l' → r ≡ r'
+    → IsLeastWord n (λ x. edge_value nodes (read x) l) (λ x. edge_value nodes (read x) r) word
+    → IsLeastWord n (λ x. edge_value nodes (read x) l') (λ x. edge_value nodes (read x) r') word
 same_least n nodes read l l' r r' word p q least =
     subst (λ (e : Edge). IsLeastWord n (λ x. edge_value nodes (read x) e) (λ x. edge_value nodes (read x) r') word) p
-    (subst (λ (e : Edge). IsLeastWord n (λ x. edge_value nodes (read x) l) (λ x. edge_value nodes (read x) e) word) q least)
+    (subst (λ (e : Edge). IsLeastWord n (λ x. edge_value nodes (read x) l)
+    (λ x. edge_value nodes (read x) e) word) q least)
 
-module _ (nodes : List Node) (read : List Bool → List Bool) (a b : PlainView) (cells : IsCells a) (cells' : IsCells b) (first second : List Edge)
-    (values : ReadValues nodes read first a.gates) (values' : ReadValues nodes read second b.gates) (outputs : length b.outputs ≡ length a.outputs) where
+module _ (nodes : List Node) (read : List Bool → List Bool) (a b : PlainView) (cells : IsCells a) (cells' : IsCells b)
+    (first second : List Edge)
+    (values : ReadValues nodes read first a.gates) (values' : ReadValues nodes read second b.gates)
+    (outputs : length b.outputs ≡ length a.outputs) where
   abbrev pub left : ℕ → Edge
   left k = output_edge first a.outputs k
 
@@ -80,16 +94,29 @@ module _ (nodes : List Node) (read : List Bool → List Bool) (a b : PlainView) 
 
   pub all_alike : b.inputs ≡ a.inputs → ((k : ℕ) → k < length a.outputs → left k ≡ right k) → answer_alike a b
   all_alike inputs same =
-      let maps : (x : List Bool) → map (value a.gates x) a.outputs ≡ map (value b.gates x) b.outputs = λ x. same_maps (value a.gates x) (value b.gates x) a.outputs b.outputs outputs (λ k lt. shown_alike k lt (same k lt) x) in
+      let maps : (x : List Bool) → map (value a.gates x) a.outputs ≡ map (value b.gates x) b.outputs =
+      λ x. same_maps (value a.gates x) (value b.gates x) a.outputs b.outputs outputs
+      (λ k lt. shown_alike k lt (same k lt) x) in
       record {
         same_inputs = inputs;
         same_outputs = outputs;
-        there = λ x y long answer. record { values = value b.gates x; fit = value_fits b.inputs b.gates cells'.gates_read x; shown = the_answer a x y cells answer ∙ maps x };
-        back = λ x y long answer. record { values = value a.gates x; fit = value_fits a.inputs a.gates cells.gates_read x; shown = the_answer b x y cells' answer ∙ sym (maps x) };
+        there = λ x y long answer. record {
+          values = value b.gates x;
+          fit =
+              value_fits b.inputs b.gates cells'.gates_read x;
+          shown = the_answer a x y cells answer ∙ maps x;
+        };
+        back = λ x y long answer. record {
+          values = value a.gates x;
+          fit =
+              value_fits a.inputs a.gates cells.gates_read x;
+          shown = the_answer b x y cells' answer ∙ sym (maps x);
+        };
       }
 
   pub least_difference : (k : ℕ) (word : List Bool) → k < length a.outputs → ((j : ℕ) → j < k → left j ≡ right j)
-      → IsLeastWord a.inputs (λ x. edge_value nodes (read x) (left k)) (λ x. edge_value nodes (read x) (right k)) word → IsLeastDifference a b k word
+      → IsLeastWord a.inputs (λ x. edge_value nodes (read x) (left k)) (λ x. edge_value nodes (read x) (right k)) word
+      → IsLeastDifference a b k word
   least_difference k word lt before least = record {
     output_within = lt;
     long = least.long;
@@ -102,10 +129,12 @@ module _ (nodes : List Node) (read : List Bool → List Bool) (a b : PlainView) 
 pub none_named : (a b : PlainView) (nodes : List Node) → length nodes ≡ 1 → AreNamed a b nodes
 none_named a b nodes size i some within = absurd (omega arith)
 
-pub refused : (a b : PlainView) (nodes : List Node) (r : DecideRefusal) → IsDiagram nodes → inputs_of nodes ≡ a.inputs → AreNamed a b nodes → IsFull nodes r → IsRefusal a b r
+pub refused : (a b : PlainView) (nodes : List Node) (r : DecideRefusal) → IsDiagram nodes → inputs_of nodes ≡ a.inputs
+    → AreNamed a b nodes → IsFull nodes r → IsRefusal a b r
 refused a b nodes (TooMany functions) ok inputs named full = (full.0, no_more a b nodes 1000000 ok inputs named full.1)
 refused a b nodes Memory ok inputs named full = tt
 
-pub err_is : {A : Type 0} (P : DecideRefusal → Type 0) (r : Result A DecideRefusal) (e : DecideRefusal) → IsErrAnd r (λ x. x ≡ e) → P e → IfErr r P
+pub err_is : {A : Type 0} (P : DecideRefusal → Type 0) (r : Result A DecideRefusal) (e : DecideRefusal)
+    → IsErrAnd r (λ x. x ≡ e) → P e → IfErr r P
 err_is P (Ok x) e h p = tt
 err_is P (Err x) e h p = subst P (sym h) p

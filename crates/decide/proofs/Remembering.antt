@@ -1,5 +1,6 @@
 -- What is remembered stays right, and which majorities read an input.
-use Rattle.std.proofs.Common.{◌≡◌, ◌≢◌, ℕ, ◌<◌, ◌≤◌, ◌⊎◌, Bool, true, false, List, length, get_or, refl, sym, ap, ◌∙◌, subst, arith, inl, inr, All}
+use Rattle.std.proofs.Common.{◌≡◌, ◌≢◌, ℕ, ◌<◌, ◌≤◌, ◌⊎◌, Bool, true, false, List, length, get_or, refl, sym, ap, ◌∙◌}
+use Rattle.std.proofs.Common.{subst, arith, inl, inr, All}
 use Rattle.std.proofs.lemmas.Bool.{cases_eq}
 use Rattle.circuit.specs.Function.{majority}
 use Rattle.decide.specs.declared.edge.Node.{Node}
@@ -26,7 +27,12 @@ module _ (old new : List Node) (ok : IsDiagram old) (ok' : IsDiagram new) (grows
   inside_grown i lt = let l = grows.longer in omega arith
 
   pub edges_grown : (t : Triple) → AreEdges old t → AreEdges new t
-  edges_grown t e = record { first = inside_grown t.first.node e.first; second = inside_grown t.second.node e.second; third = inside_grown t.third.node e.third }
+  edges_grown t e = record {
+    first = inside_grown t.first.node e.first;
+    second =
+        inside_grown t.second.node e.second;
+    third = inside_grown t.third.node e.third;
+  }
 
   pub from_grown : (v : ℕ) (t : Triple) → AreEdges old t → AreFrom old v t → AreFrom new v t
   from_grown v t e f = record {
@@ -43,7 +49,8 @@ module _ (old new : List Node) (ok : IsDiagram old) (ok' : IsDiagram new) (grows
   }
 
   pub majority_grown : (t : Triple) → AreEdges old t → (x : List Bool) → majority_value new t x ≡ majority_value old t x
-  majority_grown t e x = majority_same _ _ _ _ _ _ (grown_value old new ok ok' grows x t.first e.first) (grown_value old new ok ok' grows x t.second e.second) (grown_value old new ok ok' grows x t.third e.third)
+  majority_grown t e x = majority_same _ _ _ _ _ _ (grown_value old new ok ok' grows x t.first e.first)
+      (grown_value old new ok ok' grows x t.second e.second) (grown_value old new ok ok' grows x t.third e.third)
 
   entry_grown : (entry : Entry) → IsEntry old entry → IsEntry new entry
   entry_grown entry right =
@@ -53,8 +60,10 @@ module _ (old new : List Node) (ok : IsDiagram old) (ok' : IsDiagram new) (grows
         operands = edges_grown t right.operands;
         is = record {
           inside = inside_grown entry.result.node is.inside;
-          from = λ v f. subst (λ n. v ≤ n) (sym (level_same entry.result.node is.inside)) (is.from v (from_shrunk v t right.operands f));
-          value = λ x. grown_value old new ok ok' grows x entry.result is.inside ∙ is.value x ∙ sym (majority_grown t right.operands x);
+          from = λ v f. subst (λ n. v ≤ n) (sym (level_same entry.result.node is.inside))
+              (is.from v (from_shrunk v t right.operands f));
+          value = λ x. grown_value old new ok ok' grows x entry.result is.inside ∙ is.value x
+              ∙ sym (majority_grown t right.operands x);
         };
       }
 
@@ -70,7 +79,8 @@ two_of_three false true false = inr (inl refl)
 two_of_three false false c = inl refl
 
 -- of three edges that are not the same, one reads an input
-pub reads_some : (nodes : List Node) (t : Triple) → IsDiagram nodes → AreEdges nodes t → t.first ≢ t.second → t.first ≢ t.third → t.second ≢ t.third → least_of nodes t < inputs_of nodes
+pub reads_some : (nodes : List Node) (t : Triple) → IsDiagram nodes → AreEdges nodes t → t.first ≢ t.second
+    → t.first ≢ t.third → t.second ≢ t.third → least_of nodes t < inputs_of nodes
 reads_some nodes t ok edges p q r =
     let f = at_most_inputs nodes ok t.first.node edges.first in
     let s = at_most_inputs nodes ok t.second.node edges.second in

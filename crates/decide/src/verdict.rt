@@ -102,41 +102,6 @@ fn compare_in(
     }
 }
 
-/// The comparison in a variable order that is mostly a good one, and only where its diagram does not suffice in rising
-/// order, by which alone a refusal is justified.
-fn compare_twice(
-    alloc: Global,
-    inputs: u32,
-    gates: &[Gate],
-    outputs: &[u32],
-    other_gates: &[Gate],
-    other_outputs: &[u32],
-) -> Result<Verdict, DecideRefusal>
-    requires first { IsCells (circuit inputs gates.now outputs.now) }
-    requires second { IsCells (circuit inputs other_gates.now other_outputs.now) }
-    requires outputs { length other_outputs.now ≡ length outputs.now }
-    ensures verdict { IfOk result
-        (IsVerdict (circuit inputs gates.now outputs.now) (circuit inputs other_gates.now other_outputs.now)) }
-    ensures refusal { IfErr result
-        (IsRefusal (circuit inputs gates.now outputs.now) (circuit inputs other_gates.now other_outputs.now)) }
-{
-    let order = walked(alloc, inputs, gates, outputs)?;
-    let rank = ranks(alloc, inputs, &order)?;
-    let found = compare_in(
-        alloc,
-        &order,
-        &rank,
-        gates,
-        outputs,
-        other_gates,
-        other_outputs,
-    )?;
-    match found {
-        Some(verdict) => Ok(verdict),
-        None => compare(alloc, inputs, gates, outputs, other_gates, other_outputs),
-    }
-}
-
 /// Whether two circuits of the same counts answer every word alike, and where they do not, the least output on which
 /// some word gives different values, and the least such word. `TooMany` comes only where the two circuits have more
 /// than 1,000,000 subfunctions. `Memory` comes also where more than 2^25 majorities would have to be made in rising
@@ -147,12 +112,21 @@ pub fn decide(alloc: Global, a: &Cells, b: &Cells) -> Result<Verdict, DecideRefu
     ensures verdict { IfOk result (IsVerdict a.now b.now) }
     ensures refusal { IfErr result (IsRefusal a.now b.now) }
 {
-    compare_twice(
+    let (gates, outputs) = (a.gates.as_slice(), a.outputs.as_slice());
+    let (other_gates, other_outputs) = (b.gates.as_slice(), b.outputs.as_slice());
+    // A diagram in an order that is mostly a good one; a refusal is justified by rising order alone.
+    let order = walked(alloc, a.inputs, gates, outputs)?;
+    let rank = ranks(alloc, a.inputs, &order)?;
+    match compare_in(
         alloc,
-        a.inputs,
-        a.gates.as_slice(),
-        a.outputs.as_slice(),
-        b.gates.as_slice(),
-        b.outputs.as_slice(),
-    )
+        &order,
+        &rank,
+        gates,
+        outputs,
+        other_gates,
+        other_outputs,
+    )? {
+        Some(verdict) => Ok(verdict),
+        None => compare(alloc, a.inputs, gates, outputs, other_gates, other_outputs),
+    }
 }

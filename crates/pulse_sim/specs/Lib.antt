@@ -5,7 +5,7 @@ pub mod Runs
 pub mod Shows
 pub mod Settled
 pub mod Pulsing
-pub mod Steps
+pub mod Code
 pub mod Stepping
 pub mod Skewed
 pub mod Clocked

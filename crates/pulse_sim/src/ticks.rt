@@ -6,7 +6,7 @@ ghost use Rattle.pulse_sim.specs.declared.flux.Flux.TheVariants.{Off};
 ghost use Rattle.pulse_sim.specs.Fluxes.{sign, amount};
 ghost use Rattle.pulse_sim.specs.Settled.{settled_sign, settled_take, input_flux, feed_flux, feed_sum, settled_tick};
 ghost use Rattle.pulse_sim.specs.Pulsing.{AreByPhase};
-ghost use Rattle.pulse_sim.specs.Steps.{IsQuiet, AreSwitched, AreRelaxed};
+ghost use Rattle.pulse_sim.specs.Code.Steps.{IsQuiet, AreSwitched, AreRelaxed};
 
 use crate::flux::Flux;
 use aq_base::List;

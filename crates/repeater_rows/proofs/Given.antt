@@ -15,41 +15,62 @@ use Rattle.repeater_rows.specs.Passes.{AreRepeated, IsTooLarge, cells_past, heig
 use Rattle.repeater_rows.specs.declared.pass.RepeatRefusal.{RepeatRefusal}
 use Rattle.repeater_rows.specs.declared.pass.RepeatRefusal.TheVariants.{TooManyCells, TooTall}
 
-pub made_is : (p : PlacedView) (reach inputs outputs : ℕ) (cells : List (List RowCell)) (slots : List (List ℕ)) → inputs ≡ p.net.inputs → outputs ≡ p.net.outputs
-    → cells ≡ map (λ (row : PlacedRow). row.cells) (repeated_rows reach (placed_rows p)) → slots ≡ map (λ (row : PlacedRow). row.slots) (repeated_rows reach (placed_rows p))
+pub made_is : (p : PlacedView) (reach inputs outputs : ℕ) (cells : List (List RowCell)) (slots : List (List ℕ))
+    → inputs ≡ p.net.inputs → outputs ≡ p.net.outputs
+    → cells ≡ map (λ (row : PlacedRow). row.cells) (repeated_rows reach (placed_rows p))
+    → slots ≡ map (λ (row : PlacedRow). row.slots) (repeated_rows reach (placed_rows p))
     → record { net = record { inputs = inputs; outputs = outputs; rows = cells }; slots = slots } ≡ repeated p reach
 unfolding repeated
 made_is p reach inputs outputs cells slots i o c s =
     ap (λ (x : ℕ). record { net = record { inputs = x; outputs = outputs; rows = cells }; slots = slots }) i
     ∙ ap (λ (x : ℕ). record { net = record { inputs = p.net.inputs; outputs = x; rows = cells }; slots = slots }) o
-    ∙ ap (λ (x : List (List RowCell)). record { net = record { inputs = p.net.inputs; outputs = p.net.outputs; rows = x }; slots = slots }) c
-    ∙ ap (λ (x : List (List ℕ)). record { net = record { inputs = p.net.inputs; outputs = p.net.outputs; rows = map (λ (row : PlacedRow). row.cells) (repeated_rows reach (placed_rows p)) }; slots = x }) s
+    ∙ ap (λ (x : List (List RowCell)). record {
+      net =
+          record { inputs = p.net.inputs; outputs = p.net.outputs; rows = x };
+      slots = slots;
+    }) c
+    ∙ ap (λ (x : List (List ℕ)). record {
+      net =
+          record {
+            inputs = p.net.inputs;
+            outputs = p.net.outputs;
+            rows = map (λ (row : PlacedRow). row.cells)
+                (repeated_rows reach (placed_rows p));
+          };
+      slots = x;
+    }) s
 
 rows_of_plan : (p : PlacedView) (reach : ℕ) → placed_rows (repeated p reach) ≡ repeated_rows reach (placed_rows p)
 unfolding repeated
 rows_of_plan p reach = placed_rows_of p.net.inputs p.net.outputs (repeated_rows reach (placed_rows p))
 
-many_of_plan : (p : PlacedView) (reach : ℕ) → length (repeated p reach).net.rows ≡ length (repeated_rows reach (placed_rows p))
+many_of_plan : (p : PlacedView) (reach : ℕ)
+    → length (repeated p reach).net.rows ≡ length (repeated_rows reach (placed_rows p))
 unfolding repeated
 many_of_plan p reach = length-map (repeated_rows reach (placed_rows p)) (λ (row : PlacedRow). row.cells)
 
-given_by : (p : PlacedView) (reach height channel rows : ℕ) (out : PlacedView) → IsPlaced p → 2 ≤ reach → out ≡ repeated p reach
-    → rows ≡ length (repeated_rows reach (placed_rows p)) → cells_past 0 (repeated_rows reach (placed_rows p)) ≡ None → height_of height channel rows ≤ height_limit
+given_by : (p : PlacedView) (reach height channel rows : ℕ) (out : PlacedView) → IsPlaced p
+    → 2 ≤ reach → out ≡ repeated p reach
+    → rows ≡ length (repeated_rows reach (placed_rows p)) → cells_past 0 (repeated_rows reach (placed_rows p)) ≡ None
+    → height_of height channel rows ≤ height_limit
     → AreRepeated p reach height channel out
 given_by p reach height channel rows out known two is count few low = record {
   net_keeps = known;
   out_keeps = subst IsPlaced (sym is) (repeaters_keep p reach known two few);
   is_plan = is;
   few_cells = ap (λ (q : PlacedView). cells_past 0 (placed_rows q)) is ∙ ap (cells_past 0) (rows_of_plan p reach) ∙ few;
-  not_tall = subst (λ (n : ℕ). height_of height channel n ≤ height_limit) (count ∙ sym (ap (λ (q : PlacedView). length q.net.rows) is ∙ many_of_plan p reach)) low;
-  same = subst (λ (q : PlacedView). SameAnswers p.net.inputs q.net.inputs p.net.outputs q.net.outputs (IsAnswer p.net) (IsAnswer q.net)) (sym is)
+  not_tall = subst (λ (n : ℕ). height_of height channel n ≤ height_limit)
+      (count ∙ sym (ap (λ (q : PlacedView). length q.net.rows) is ∙ many_of_plan p reach)) low;
+  same = subst (λ (q : PlacedView). SameAnswers p.net.inputs q.net.inputs p.net.outputs q.net.outputs (IsAnswer p.net)
+      (IsAnswer q.net)) (sym is)
       (repeaters_answer p reach known (repeaters_keep p reach known two few));
 }
 
 pub given_unless_refused : (p : PlacedView) (reach height channel : ℕ) → IsPlaced p → 2 ≤ reach
     → ((refusal : RepeatRefusal) → IsTooLarge p reach height channel refusal → ⊥)
     → AreRepeated p reach height channel (repeated p reach)
-given_unless_refused p reach height channel known two none = within (cells_past 0 (repeated_rows reach (placed_rows p))) refl
+given_unless_refused p reach height channel known two none =
+    within (cells_past 0 (repeated_rows reach (placed_rows p))) refl
   where
     rows : ℕ
     rows = length (repeated_rows reach (placed_rows p))
@@ -62,11 +83,16 @@ given_unless_refused p reach height channel known two none = within (cells_past 
       | inr low ↦ given_by p reach height channel rows (repeated p reach) known two refl refl e low
     ]
 
-pub given_repeated : (p : PlacedView) (reach height channel rows inputs outputs : ℕ) (cells : List (List RowCell)) (slots : List (List ℕ)) → IsPlaced p → 2 ≤ reach
+pub given_repeated : (p : PlacedView) (reach height channel rows inputs outputs : ℕ) (cells : List (List RowCell))
+    (slots : List (List ℕ)) → IsPlaced p → 2 ≤ reach
     → inputs ≡ p.net.inputs → outputs ≡ p.net.outputs
-    → cells ≡ map (λ (row : PlacedRow). row.cells) (repeated_rows reach (placed_rows p)) → slots ≡ map (λ (row : PlacedRow). row.slots) (repeated_rows reach (placed_rows p))
-    → rows ≡ length (repeated_rows reach (placed_rows p)) → cells_past 0 (repeated_rows reach (placed_rows p)) ≡ None → height_of height channel rows ≤ height_limit
-    → AreRepeated p reach height channel (record { net = record { inputs = inputs; outputs = outputs; rows = cells }; slots = slots })
+    → cells ≡ map (λ (row : PlacedRow). row.cells) (repeated_rows reach (placed_rows p))
+    → slots ≡ map (λ (row : PlacedRow). row.slots) (repeated_rows reach (placed_rows p))
+    → rows ≡ length (repeated_rows reach (placed_rows p)) → cells_past 0 (repeated_rows reach (placed_rows p)) ≡ None
+    → height_of height channel rows ≤ height_limit
+    → AreRepeated p reach height channel
+    (record { net = record { inputs = inputs; outputs = outputs; rows = cells }; slots = slots })
 given_repeated p reach height channel rows inputs outputs cells slots known two i o c s =
-    given_by p reach height channel rows (record { net = record { inputs = inputs; outputs = outputs; rows = cells }; slots = slots }) known two
+    given_by p reach height channel rows
+    (record { net = record { inputs = inputs; outputs = outputs; rows = cells }; slots = slots }) known two
     (made_is p reach inputs outputs cells slots i o c s)

@@ -5,7 +5,8 @@ use Rattle.list_orders.specs.Sorting.{in_order, passing}
 use Rattle.list_orders.specs.Numbers.{Same}
 use Rattle.list_orders.specs.Inversions.{inversions}
 use Rattle.list_orders.proofs.SortingLaws.{by_key_passing, by_key_in_order}
-use Rattle.list_orders.proofs.InversionLaws.{across, inversions-append, across-same, across-in_order, passing-append, none_in_order, in_order_same}
+use Rattle.list_orders.proofs.InversionLaws.{across, inversions-append, across-same, across-in_order, passing-append}
+use Rattle.list_orders.proofs.InversionLaws.{none_in_order, in_order_same}
 use Rattle.repeater_rows.specs.Rounds.{windows}
 
 -- the inversions inside the first n windows
@@ -26,7 +27,8 @@ windows_same e (suc n) xs p =
 pub windows_lower : (e n : ℕ) (xs : List ℕ) → inversions (windows e n xs) + inside e n xs ≡ inversions xs
 windows_lower e zero xs = omega arith
 windows_lower e (suc n) xs =
-    let here : inversions (in_order (take e xs)) ≡ 0 = none_in_order 0 (in_order (take e xs)) (by_key_in_order (λ n. n) (take e xs)) in
+    let here : inversions (in_order (take e xs)) ≡ 0 = none_in_order 0 (in_order (take e xs))
+    (by_key_in_order (λ n. n) (take e xs)) in
     let a = inversions-append (in_order (take e xs)) (windows e n (drop e xs)) in
     let b : across (in_order (take e xs)) (windows e n (drop e xs)) ≡ across (take e xs) (drop e xs) =
     across-in_order (take e xs) (windows e n (drop e xs))

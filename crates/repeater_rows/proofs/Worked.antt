@@ -60,6 +60,7 @@ pub four_rounds : all_rounds 4 (is_end four_wires) (destinations four_wires 8)
     ≡ (1 ∷ 3 ∷ 5 ∷ 7 ∷ 0 ∷ 2 ∷ 4 ∷ 6 ∷ []) ∷ (1 ∷ 3 ∷ 0 ∷ 2 ∷ 5 ∷ 7 ∷ 4 ∷ 6 ∷ []) ∷ []
 four_rounds = refl
 
-pub four_carried : map (carrier_slots (is_end four_wires) 0) (all_rounds 4 (is_end four_wires) (destinations four_wires 8))
+pub four_carried : map (carrier_slots (is_end four_wires) 0)
+    (all_rounds 4 (is_end four_wires) (destinations four_wires 8))
     ≡ (2 ∷ 3 ∷ 4 ∷ 5 ∷ []) ∷ (2 ∷ 3 ∷ 4 ∷ 5 ∷ []) ∷ []
 four_carried = refl

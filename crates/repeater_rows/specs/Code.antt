@@ -3,3 +3,4 @@ pub mod Reading
 pub mod Looking
 pub mod Opening
 pub mod Counts
+pub mod Works

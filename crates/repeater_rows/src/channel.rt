@@ -3,14 +3,13 @@ ghost use Rattle.std.specs.Prelude.{◌≡◌, ℕ, ◌<◌, ◌≤◌, ◌+◌,
 ghost use Rattle.std.specs.List.{All};
 ghost use Rattle.circuit.specs.Gates.{valuation};
 ghost use Rattle.rowed.specs.Slots.{slot_limit};
-ghost use Rattle.rowed.specs.Channels.{channel_links, channel_slots};
 ghost use Rattle.rowed.specs.PlacedNets.{PlacedRow, IsPlaced};
 ghost use Rattle.rowed.specs.PlacedNets.{row_of};
-ghost use Rattle.repeater_rows.specs.Destinations.{destinations, is_end};
-ghost use Rattle.repeater_rows.specs.Rounds.{is_far, round, window_size};
-ghost use Rattle.repeater_rows.specs.Repeaters.{source_to, added, source_above, cells_from};
+ghost use Rattle.repeater_rows.specs.Rounds.{is_far};
+ghost use Rattle.repeater_rows.specs.Repeaters.{added, source_above, cells_from};
 ghost use Rattle.repeater_rows.specs.Code.Reading.{source_in};
-ghost use Rattle.repeater_rows.specs.Code.Opening.{AreNeighbours, AreDestinations, at_slot};
+ghost use Rattle.repeater_rows.specs.Code.Opening.{AreNeighbours, AreDestinations, IsOpened, at_slot};
+ghost use Rattle.repeater_rows.specs.Code.Works.{IsTurned};
 
 use crate::cells::{buffers, cell_from, raise};
 use crate::destinations::{any_far, carried, carriers, completed, copy_of, spare_slots};
@@ -42,26 +41,8 @@ pub(crate) fn open(
     upper_slots: &[u32],
 ) -> Result<Channel, Memory>
     requires { AreNeighbours (record { cells = lower.now; slots = lower_slots.now }) (record { cells = upper.now; slots = upper_slots.now }) }
-    ensures known { IfOk result (λ channel.
-        let below : PlacedRow = record { cells = lower.now; slots = lower_slots.now } in
-        let above : PlacedRow = record { cells = upper.now; slots = upper_slots.now } in
-        AreDestinations (valuation channel.wired.items) (channel_slots below above) channel.to.items channel.carriers.items) }
-    ensures to { IfOk result (λ channel.
-        let below : PlacedRow = record { cells = lower.now; slots = lower_slots.now } in
-        let above : PlacedRow = record { cells = upper.now; slots = upper_slots.now } in
-        channel.to.items ≡ destinations (channel_links below above) (channel_slots below above)) }
-    ensures wired { IfOk result (λ channel.
-        let below : PlacedRow = record { cells = lower.now; slots = lower_slots.now } in
-        let above : PlacedRow = record { cells = upper.now; slots = upper_slots.now } in
-        valuation channel.wired.items ≡ is_end (channel_links below above)) }
-    ensures sources { IfOk result (λ channel.
-        let below : PlacedRow = record { cells = lower.now; slots = lower_slots.now } in
-        let above : PlacedRow = record { cells = upper.now; slots = upper_slots.now } in
-        source_in channel.sources.items ≡ source_to (channel_links below above)) }
-    ensures long { IfOk result (λ channel.
-        let below : PlacedRow = record { cells = lower.now; slots = lower_slots.now } in
-        let above : PlacedRow = record { cells = upper.now; slots = upper_slots.now } in
-        length channel.sources.items ≡ channel_slots below above) }
+    ensures { IfOk result
+        (IsOpened (record { cells = lower.now; slots = lower_slots.now }) (record { cells = upper.now; slots = upper_slots.now })) }
 {
     let slots = span(lower, lower_slots).max(span(upper, upper_slots));
     let pins = read(alloc, lower_slots, upper, upper_slots, slots)?;
@@ -97,17 +78,7 @@ pub(crate) fn slots_at(net: &Placed, number: usize) -> &[u32]
 pub(crate) fn open_at(alloc: Global, net: &Placed, number: usize) -> Result<Channel, Memory>
     requires known { IsPlaced net.now }
     requires number { number + 1 < length net.now.net.rows }
-    ensures known { IfOk result (λ channel. AreDestinations (valuation channel.wired.items)
-        (channel_slots (row_of net.now number) (row_of net.now (number + 1))) channel.to.items channel.carriers.items) }
-    ensures to { IfOk result (λ channel. channel.to.items ≡ destinations
-        (channel_links (row_of net.now number) (row_of net.now (number + 1)))
-        (channel_slots (row_of net.now number) (row_of net.now (number + 1)))) }
-    ensures wired { IfOk result (λ channel.
-        valuation channel.wired.items ≡ is_end (channel_links (row_of net.now number) (row_of net.now (number + 1)))) }
-    ensures sources { IfOk result (λ channel.
-        source_in channel.sources.items ≡ source_to (channel_links (row_of net.now number) (row_of net.now (number + 1)))) }
-    ensures long { IfOk result (λ channel.
-        length channel.sources.items ≡ channel_slots (row_of net.now number) (row_of net.now (number + 1))) }
+    ensures { IfOk result (IsOpened (row_of net.now number) (row_of net.now (number + 1))) }
 {
     open(
         alloc,
@@ -149,11 +120,7 @@ impl Channel {
     pub(crate) fn round(&mut self, alloc: Global, reach: u64, first: bool) -> Result<(), Memory>
         requires reach { 2 ≤ reach }
         requires known { (slots : ℕ) × AreDestinations (valuation self.old.wired.items) slots self.old.to.items self.old.carriers.items }
-        ensures known { OnOk result ((slots : ℕ) → AreDestinations (valuation self.old.wired.items) slots self.old.to.items self.old.carriers.items
-            → AreDestinations (valuation self.old.wired.items) slots self.new.to.items self.new.carriers.items) }
-        ensures round { OnOk result (self.new.to.items ≡ round (window_size reach) first self.old.to.items) }
-        ensures wired { self.new.wired ≡ self.old.wired }
-        ensures sources { self.new.sources ≡ self.old.sources }
+        ensures { OnOk result (IsTurned reach first self.old self.new) }
     {
         let size = (reach - reach % 2) as usize;
         let carriers = put_in_order(

@@ -2,14 +2,13 @@
 ghost use Rattle.std.specs.Prelude.{◌≡◌, ℕ, ◌+◌, ◌<◌, ◌≤◌, ◌^◌, ◌++◌, [], ◌∷◌, true, None, length, map, IfOk, IfErr, OnOk};
 ghost use Rattle.circuit.specs.Gates.{valuation};
 ghost use Rattle.rowed.specs.PlacedNets.{PlacedRow, IsPlaced, placed_rows};
-ghost use Rattle.repeater_rows.specs.Rounds.{all_rounds};
-ghost use Rattle.repeater_rows.specs.Repeaters.{added_rows, last_source, channel_rounds, channel_rows, repeated_rows};
+ghost use Rattle.repeater_rows.specs.Repeaters.{channel_rounds, channel_rows, repeated_rows};
 ghost use Rattle.rowed.specs.Extent.{cell_limit};
 ghost use Rattle.repeater_rows.specs.Passes.{cells_past};
-ghost use Rattle.repeater_rows.specs.Code.Reading.{source_in};
 ghost use Rattle.rowed.specs.PlacedNets.{row_of};
 ghost use Rattle.repeater_rows.specs.Code.Opening.{AreDestinations};
 ghost use Rattle.repeater_rows.specs.Code.Counts.{AreCounted, ArePast, IsPastLimit};
+ghost use Rattle.repeater_rows.specs.Code.Works.{AllMade, listed, fed_by, rows_of};
 ghost use Rattle.repeater_rows.specs.declared.pass.RepeatRefusal.TheVariants.{TooManyCells};
 
 use crate::channel::{Channel, cells_at, open_at, slots_at};
@@ -69,19 +68,11 @@ fn add_rounds(
     requires reach { 2 ≤ reach }
     requires known { AreDestinations (valuation channel.old.wired.items) (length channel.old.sources.items) channel.old.to.items channel.old.carriers.items }
     requires counted { AreCounted made.old.cells.items made.old.count }
-    ensures rows { OnOk result (made.new.cells.items ≡ made.old.cells.items ++ map (λ (row : PlacedRow). row.cells)
-        (added_rows (valuation channel.old.wired.items) (source_in channel.old.sources.items)
-        (all_rounds reach (valuation channel.old.wired.items) channel.old.to.items))) }
-    ensures slots { OnOk result (made.new.slots.items ≡ made.old.slots.items ++ map (λ (row : PlacedRow). row.slots)
-        (added_rows (valuation channel.old.wired.items) (source_in channel.old.sources.items)
-        (all_rounds reach (valuation channel.old.wired.items) channel.old.to.items))) }
-    ensures sources { OnOk result ((d : ℕ) → valuation channel.old.wired.items d ≡ true
-        → source_in channel.new.sources.items d ≡ last_source (valuation channel.old.wired.items) (source_in channel.old.sources.items)
-        (all_rounds reach (valuation channel.old.wired.items) channel.old.to.items) d) }
+    ensures made { OnOk result
+        (AllMade (record { reach = reach; channel = channel.old; below = made.old }) (fed_by channel.new) (listed made.new)) }
     ensures counted { OnOk result (AreCounted made.new.cells.items made.new.count) }
     ensures err { IfErr result (λ refusal. ArePast (made.old.cells.items ++ map (λ (row : PlacedRow). row.cells)
-        (added_rows (valuation channel.old.wired.items) (source_in channel.old.sources.items)
-        (all_rounds reach (valuation channel.old.wired.items) channel.old.to.items))) refusal) }
+        (rows_of (record { reach = reach; channel = channel.old; below = made.old }))) refusal) }
 {
     let count = channel.to.len() as u64;
     let mut first = true;

@@ -13,7 +13,8 @@ loop-entry-init c = record {
 pub loop-entry-preserved : goal.loop-entry-preserved
 loop-entry-preserved c = record {
   some = subst (λ n. 0 < n) (sym (length-set c.loop-entry.more.items c.place-at.result _)) c.loop-entry.invariant.some;
-  each = λ nodes nothing all. All-set (IsEntry nodes) c.loop-entry.more.items c.place-at.result _ (all c.loop-entry.entry-index _ c.loop-entry-test.true) (c.loop-entry.invariant.each nodes nothing all);
+  each = λ nodes nothing all. All-set (IsEntry nodes) c.loop-entry.more.items c.place-at.result _
+      (all c.loop-entry.entry-index _ c.loop-entry-test.true) (c.loop-entry.invariant.each nodes nothing all);
 }
 
 pub returns-clause-each : goal.returns-clause-each

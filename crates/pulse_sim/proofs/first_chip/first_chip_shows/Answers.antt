@@ -23,13 +23,16 @@ answer [] wide = absurd cc
 answer (bit ∷ []) wide = record { value = λ c. bit; fits = fits bit; answer_is = refl }
 answer (bit ∷ other ∷ word) wide = absurd (omega arith)
 
-answers : (words : List (List Bool)) → AllByRecursion (λ word. length word ≡ 1) words → AllZip (IsAnswer first_circuit) words words
+answers : (words : List (List Bool)) → AllByRecursion (λ word. length word ≡ 1) words
+    → AllZip (IsAnswer first_circuit) words words
 answers [] wide = tt
 answers (word ∷ words) wide = (answer word wide.0, answers words wide.1)
 
-shown : KeepsFacts first_circuit → (words : List (List Bool)) → All (λ word. length word ≡ 1) words → Shows first_circuit 1 words words
+shown : KeepsFacts first_circuit → (words : List (List Bool)) → All (λ word. length word ≡ 1) words
+    → Shows first_circuit 1 words words
 unfolding first_circuit
-shown keeps words wide = shows first_circuit words words keeps wide (answers words (recursion_from_All (λ word. length word ≡ 1) words wide))
+shown keeps words wide = shows first_circuit words words keeps wide
+    (answers words (recursion_from_All (λ word. length word ≡ 1) words wide))
 
 pub returns : goal.returns
 returns c = shown c.first_circuit_keeps.ensures

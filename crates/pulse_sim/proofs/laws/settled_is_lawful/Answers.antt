@@ -8,7 +8,8 @@ pub returns-clause-exists : goal.returns-clause-exists
 returns-clause-exists c = λ circuit word time old keeps long. exists circuit keeps word time old long
 
 pub returns-clause-any_order : goal.returns-clause-any_order
-returns-clause-any_order c = λ circuit word time old new keeps long tick. one_state circuit keeps word time old long new tick
+returns-clause-any_order c =
+    λ circuit word time old new keeps long tick. one_state circuit keeps word time old long new tick
 
 pub returns-clause-legal : goal.returns-clause-legal
 returns-clause-legal c = λ circuit words n keeps. legal circuit keeps words n

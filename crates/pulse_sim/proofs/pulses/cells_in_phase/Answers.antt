@@ -6,8 +6,10 @@ use Rattle.pulse_sim.proofs.pulses.cells_in_phase.Goals.{then-cell-phase+in_ok-p
 pub loop-number-preserved : goal.loop-number-preserved
 loop-number-preserved c = elim c.if-cell-phase.branch [
   | then-cell-phase+in_ok-push w ↦
-      let longer : w.push.new.self.items ≡ c.loop-number.numbers.items ++ (c.loop-number.number ∷ []) = w.in_ok-push.ensures.items in
-      rw (w.numbers-is, longer) (listed_more _ _ _ _ _ c.loop-number.invariant c.loop-number-test.true w.if-cell-phase.true)
+      let longer : w.push.new.self.items ≡ c.loop-number.numbers.items ++ (c.loop-number.number ∷ []) =
+      w.in_ok-push.ensures.items in
+      rw (w.numbers-is, longer)
+      (listed_more _ _ _ _ _ c.loop-number.invariant c.loop-number-test.true w.if-cell-phase.true)
   | else-cell-phase w ↦ rw w.numbers-is (listed_same _ _ _ _ _ c.loop-number.invariant w.if-cell-phase.false)
 ]
 

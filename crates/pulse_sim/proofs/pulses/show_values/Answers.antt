@@ -7,7 +7,9 @@ pub loop-place-init : goal.loop-place-init
 loop-place-init c = shown_none _ _ _ c.requires
 
 pub loop-place-preserved : goal.loop-place-preserved
-loop-place-preserved c = rw c.set.ensures (shown_more _ _ _ _ _ _ c.loop-place.invariant c.loop-place-test.true (c.shows_true-value.ensures ∙ ap is_plus c.flux_at.ensures))
+loop-place-preserved c = rw c.set.ensures
+    (shown_more _ _ _ _ _ _ c.loop-place.invariant c.loop-place-test.true (c.shows_true-value.ensures
+    ∙ ap is_plus c.flux_at.ensures))
 
 pub returns : goal.returns
 returns c = shown_all _ _ _ _ c.loop-place-test.false c.loop-place.invariant

@@ -1,4 +1,4 @@
-use Rattle.pulse_sim.specs.Steps.{AreRelaxed}
+use Rattle.pulse_sim.specs.Code.Steps.{AreRelaxed}
 use Rattle.pulse_sim.proofs.ticks.relax_all.Given as goal
 
 abbrev pub invariant-loop-number : goal.invariant-loop-number

@@ -1,5 +1,5 @@
 use Rattle.std.specs.Option.{option_copied}
-use Rattle.pulse_sim.specs.Steps.{AreSwitched}
+use Rattle.pulse_sim.specs.Code.Steps.{AreSwitched}
 use Rattle.pulse_sim.proofs.ticks.switch_all.Given as goal
 
 abbrev pub invariant-loop-number : goal.invariant-loop-number
