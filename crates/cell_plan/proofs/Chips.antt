@@ -36,6 +36,7 @@ use Rattle.chip_plan.specs.Laws.{AnswersAs}
 use Rattle.chip_plan.proofs.SameThen.{same_then}
 use Rattle.chip_plan.proofs.CellSizes.{some_width}
 use Rattle.chip_plan.proofs.KeptKinds.{repeaters_keep_kinds}
+use Rattle.chip_plan.proofs.ChipLaws.{narrow_widest}
 use Rattle.cell_plan.specs.CellPlans.{AreCellRows, chip_of_rows, KeepsSize, IsCellChip}
 use Rattle.cell_plan.proofs.GivenKinds.{kinds_given}
 
@@ -49,10 +50,6 @@ narrow_packed : (width : ℕ) (rows : List (List RowCell)) → widest_packed row
 narrow_packed width [] le = tt
 narrow_packed width (row ∷ rows) le =
     ((omega (arith, span_from 0 row, le)), narrow_packed width rows (omega (arith, le)))
-
-narrow_widest : (width : ℕ) (rows : List PlacedRow) → AreNarrow width rows → widest rows ≤ width
-narrow_widest width [] narrow = omega arith
-narrow_widest width (row ∷ rows) narrow = omega (arith, narrow.0, narrow_widest width rows narrow.1)
 
 -- the chip has the rows that its limits speak of
 pub same_placed : (l : LibraryView) (rows : RowView)

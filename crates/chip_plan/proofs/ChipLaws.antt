@@ -48,7 +48,7 @@ narrow_from width [] slots at = tt
 narrow_from width (row ∷ rows) [] at = tt
 narrow_from width (row ∷ rows) (s ∷ slots) at = (at 0, narrow_from width rows slots (λ r. at (suc r)))
 
-narrow_widest : (width : ℕ) (rows : List PlacedRow) → AreNarrow width rows → widest rows ≤ width
+pub narrow_widest : (width : ℕ) (rows : List PlacedRow) → AreNarrow width rows → widest rows ≤ width
 narrow_widest width [] narrow = omega arith
 narrow_widest width (row ∷ rows) narrow = omega (arith, narrow.0, narrow_widest width rows narrow.1)
 

@@ -13,7 +13,8 @@ use Rattle.rowed.specs.Slots.{EachSeated}
 use Rattle.rowed.specs.PlacedNets.{PlacedRow, PlacedView, paired, placed_rows}
 use Rattle.level_balance.specs.Plan.{level_net}
 use Rattle.level_balance.proofs.Narrow.{no_wide_splitter}
-use Rattle.row_place.specs.Places.{Order, renumbered_cell, order_of, and_cell, picked, place_rows, head_row, order_after, no_order, place}
+use Rattle.row_place.specs.Places.{Order, renumbered_cell, order_of, and_cell, picked, place_rows, head_row}
+use Rattle.row_place.specs.Places.{order_after, no_order, place}
 use Rattle.repeater_rows.specs.Inserted.{AreBuffers, AreRaised, AreInserted}
 use Rattle.cell_library.specs.declared.draft.Pins.{Pins}
 use Rattle.cell_library.specs.Library.{LibraryView, pins_of, IsGiven}

@@ -20,7 +20,7 @@ use Rattle.chip_plan.specs.Plans.{chip_of, cells_before, span_before, rows_heigh
 use Rattle.chip_plan.specs.declared.refusal.PlanRefusal.{PlanRefusal}
 use Rattle.chip_plan.specs.declared.refusal.PlanRefusal.TheVariants.{Slots, Rows, Cells, Memory}
 
--- the refusals of the passes, as one
+-- the refusal of levels: too many cells, or want of memory
 abbrev pub of_levels : LevelRefusal → PlanRefusal
 of_levels (levels.TooManyCells cells) = Cells cells
 of_levels levels.Memory = Memory
@@ -44,7 +44,7 @@ refusal_of (First (First (Second refusal))) = of_levels refusal
 refusal_of (First (Second refusal)) = of_places refusal
 refusal_of (Second refusal) = of_repeats refusal
 
--- the rows have too many cells before they get repeaters, or else keep the width and have too many with them
+-- the rows have too many cells before they get repeaters: this many, or the greatest number of 64 bits for more
 abbrev pub HasManyBefore : LibraryView → NetView → ℕ → Type 0
 HasManyBefore l net cells = (cell_limit < cells_before l net) × (cells ≡ capped (cells_before l net))
 

@@ -24,7 +24,8 @@ use Rattle.compact_plan.specs.Code.Candidates.{IsCandidate}
 pub searched_answers : (net : NetView) (graphs : List GraphView) (chip : PlacedView) → AreGraphsOf net graphs
     → AnswersAsOneOf graphs chip → AnswersAs net chip
 searched_answers net graphs chip of_net one =
-    answers_as_all net.inputs (length net.outputs) (IsNetAnswer net) graphs chip (λ k g at. (of_net.each k g at).same) one
+    answers_as_all net.inputs (length net.outputs) (IsNetAnswer net) graphs chip
+    (λ k g at. (of_net.each k g at).same) one
 
 pub ruleset searches = (searched_answers)
 
@@ -70,6 +71,7 @@ is_planned l net chip is within = record { is = is; within = within }
 -- where the plan is refused
 pub found_alone : (l : LibraryView) (net : NetView) (chip : PlacedView) → IsCandidate l net chip
     → (IsWithin l net → ⊥) → IsCompactChip l net chip
-found_alone l net chip found not_within = inr (record { few = found.few; no_larger = λ within. absurd (not_within within) })
+found_alone l net chip found not_within =
+    inr (record { few = found.few; no_larger = λ within. absurd (not_within within) })
 
 pub ruleset chosen = (found_is_few, plan_is_few, found_is_smaller, plan_is_compact, is_planned)

@@ -1,7 +1,7 @@
 -- Few cells have few junctions.
 use Rattle.std.proofs.Common.{◌*◌, ◌<◌, ◌≤◌, ◌^◌, List, [], ◌∷◌, length, arith}
 use Rattle.circuit.specs.declared.cell_kind.CellKind.{CellKind}
-use Rattle.circuit.specs.declared.cell_kind.CellKind.TheVariants.{Buffer, Inverter, Zero, One, Split2, Split3, Majority}
+use Rattle.circuit.specs.declared.cell_kind.CellKind.TheVariants.{Buffer}
 use Rattle.rowed.specs.declared.row_cell.RowCell.{RowCell}
 use Rattle.rowed.specs.PlacedNets.{PlacedView}
 use Rattle.rowed.specs.Counts.{cells_in}
@@ -11,12 +11,7 @@ use Rattle.compact_plan.specs.Compact.{IsNoLarger}
 
 kind_most : (kind : CellKind) → kind_junctions kind ≤ 6
 kind_most Buffer = omega arith
-kind_most Inverter = omega arith
-kind_most Zero = omega arith
-kind_most One = omega arith
-kind_most Split2 = omega arith
-kind_most Split3 = omega arith
-kind_most Majority = omega arith
+kind_most k = omega arith
 
 row_most : (cells : List RowCell) → row_junctions cells ≤ 6 * length cells
 row_most [] = omega arith

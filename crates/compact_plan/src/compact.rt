@@ -34,9 +34,9 @@ fn smaller(_library: &Library, _net: &Netlist, found: Placed, planned: Placed) -
     }
 }
 
-/// The chip of a netlist with a library, as small as it was found. It can be drawn, and answers every word as the
-/// netlist does. It is that of the defined plan, or else has few enough elements, and at most as many cells and
-/// junctions as that, if that keeps its limits. A refusal is the plan's.
+/// The chip of a netlist with a library: one that was found, or else that of the defined plan. It can be drawn, and
+/// answers every word as the netlist does. A chip that was found has few enough elements, and, where the plan keeps its
+/// limits, at most as many cells and junctions as the plan's chip. A refusal is the plan's.
 #[tactic(auto, using(crate::proofs::Candidates::chosen))]
 pub fn compact_chip(alloc: Global, library: &Library, net: &Netlist) -> Result<Placed, PlanRefusal>
     ensures draws { IfOk result (λ chip. MayDraw chip library.now) }

@@ -30,7 +30,8 @@ pub is_shortened : (l : LibraryView) (net : NetView) (p out : PlacedView) (reach
 is_shortened l net p out reach height channel r h c known answers given shorts few =
     let is : AreRepeated p (reach_of l) l.height (channel_of l) out =
     subst (λ n. AreRepeated p (reach_of l) l.height n out) c
-    (subst (λ n. AreRepeated p (reach_of l) n channel out) h (subst (λ n. AreRepeated p n height channel out) r given)) in
+    (subst (λ n. AreRepeated p (reach_of l) n channel out) h
+    (subst (λ n. AreRepeated p n height channel out) r given)) in
     record {
       is_chip = is.is_plan;
       keeps = is.out_keeps;

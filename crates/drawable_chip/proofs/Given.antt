@@ -17,4 +17,5 @@ row_within (row ∷ rows) (suc r) c cell is = let more = row_within rows r c cel
 pub gives_kinds : (l : LibraryView) (chip : PlacedView)
     → ((r c : ℕ) (x : RowCell) → r < length chip.net.rows → cell_at chip.net.rows r c ≡ Some x → IsGiven l x.kind)
     → GivesKinds l chip.net.rows
-gives_kinds l chip each = rows_from (IsGiven l) chip.net.rows (λ r c x at. each r c x (row_within chip.net.rows r c x at) at)
+gives_kinds l chip each = rows_from (IsGiven l) chip.net.rows
+    (λ r c x at. each r c x (row_within chip.net.rows r c x at) at)

@@ -11,7 +11,7 @@ use Rattle.std.proofs.lemmas.List.{length-map, map-append}
 use Rattle.std.proofs.lemmas.List.Sums.{length-filter, count_by-le-length}
 use Rattle.circuit.specs.CellKinds.{inputs_of, outputs_of}
 use Rattle.circuit.specs.declared.cell_kind.CellKind.{CellKind}
-use Rattle.circuit.specs.declared.cell_kind.CellKind.TheVariants.{Buffer, Inverter, Zero, One, Split2, Split3, Majority}
+use Rattle.circuit.specs.declared.cell_kind.CellKind.TheVariants.{Buffer}
 use Rattle.cell_library.specs.Kinds.{all_kinds}
 use Rattle.cell_library.specs.Library.{LibraryView}
 use Rattle.geom.specs.Writable.{names_in}
@@ -226,21 +226,11 @@ structure_bytes names s short small =
 
 kind_short : (k : CellKind) → length (Draw.kind_name k) ≤ 4
 kind_short Buffer = omega arith
-kind_short Inverter = omega arith
-kind_short Zero = omega arith
-kind_short One = omega arith
-kind_short Split2 = omega arith
-kind_short Split3 = omega arith
-kind_short Majority = omega arith
+kind_short k = omega arith
 
 pins_most : (k : CellKind) → inputs_of k + outputs_of k ≤ 4
 pins_most Buffer = omega arith
-pins_most Inverter = omega arith
-pins_most Zero = omega arith
-pins_most One = omega arith
-pins_most Split2 = omega arith
-pins_most Split3 = omega arith
-pins_most Majority = omega arith
+pins_most k = omega arith
 
 -- the structure of a kind has at most five shapes
 kind_bytes : (names : List (List ℕ)) (l : LibraryView) (k : CellKind)

@@ -8,9 +8,10 @@ use Rattle.std.proofs.lemmas.Option.{same_Some, slice_get_within}
 use Rattle.std.proofs.lemmas.List.{length-map}
 use Rattle.std.proofs.lemmas.Bool.{and_parts, and_from, or_left, or_right, eqb-true, eq-eqb, false_from_ne_true}
 use Rattle.std.proofs.lemmas.Bool.Decides.{nat_tests, Decides-int_eq}
+use Rattle.shape_extract.proofs.CellLists.{all_zip}
 use Rattle.circuit.specs.CellKinds.{number_of, inputs_of}
 use Rattle.circuit.specs.declared.cell_kind.CellKind.{CellKind}
-use Rattle.circuit.specs.declared.cell_kind.CellKind.TheVariants.{Buffer, Inverter, Zero, One, Split2, Split3, Majority}
+use Rattle.circuit.specs.declared.cell_kind.CellKind.TheVariants.{Buffer}
 use Rattle.geom.specs.declared.shapes.Shape.{Shape}
 use Rattle.geom.specs.Rectangle.{overlap}
 use Rattle.layout_rules.specs.ExcitationLines.{BarHasPhase}
@@ -50,7 +51,7 @@ use Rattle.drawn_chip.proofs.FrameNumbers.{is_frame_of, first_place, frame_numbe
 use Rattle.layout_make.proofs.Member.{In, in_head, not_in_nil}
 use Rattle.layout_make.proofs.FlatLaw.{kinds_same}
 use Rattle.layout_make.proofs.Joins.{from_map, to_map}
-use Rattle.drawn_chip.proofs.RowByRow.{item_at, item_from, in_order, same_place, length_all, zip_from}
+use Rattle.drawn_chip.proofs.RowByRow.{item_at, item_from, in_order, same_place, length_all}
 use Rattle.layout_make.proofs.Ready.{TracksLaw, may_ready, lawful, stands_at, port_is, some_true, pins_most}
 use Rattle.layout_make.proofs.Origins.{frame_stands, input_stands}
 use Rattle.layout_make.proofs.Whole.{drawn, spot_row}
@@ -374,12 +375,7 @@ module _ (p : PlacedView) (l : LibraryView) (law : TracksLaw) (may : MayDraw p l
     where
       buffer_input : (r : ℕ) (k : CellKind) → is_input r k ≡ true → 0 < inputs_of k
       buffer_input zero Buffer e = omega arith
-      buffer_input zero Inverter e = absurd cc
-      buffer_input zero Zero e = absurd cc
-      buffer_input zero One e = absurd cc
-      buffer_input zero Split2 e = absurd cc
-      buffer_input zero Split3 e = absurd cc
-      buffer_input zero Majority e = absurd cc
+      buffer_input zero k e = absurd cc
       buffer_input (suc r) k e = absurd cc
 
       later : (i : ℕ) → 0 < i → source_at x.cell i ≡ None → feed_at (drawn_cell p r x) i ≡ Nothing
@@ -441,7 +437,7 @@ module _ (p : PlacedView) (l : LibraryView) (law : TracksLaw) (may : MayDraw p l
 
   cells_from : AllZip (IsCellFrom (flat p l) (frame_numbers p l))
       (flat_map (drawn_row p) (numbers 0 (length p.net.rows))) (frame_numbers p l)
-  cells_from = zip_from (IsCellFrom (flat p l) (frame_numbers p l))
+  cells_from = all_zip (IsCellFrom (flat p l) (frame_numbers p l))
       (flat_map (drawn_row p) (numbers 0 (length p.net.rows))) (frame_numbers p l)
       (length_all (drawn_row p) (cells_below p) refl
       (λ r. ap (λ (n : ℕ). cells_below p r + n) (sym (length-map (spots p r) (drawn_cell p r))))

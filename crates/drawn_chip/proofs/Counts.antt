@@ -3,16 +3,19 @@ use Rattle.std.proofs.Common.{◌≡◌, ℕ, zero, suc, ◌+◌, ◌*◌, ◌�
 use Rattle.std.proofs.Common.{◌++◌, length, length-append, map, Option, Some, None, is_some, slice_get, slice_index_or}
 use Rattle.std.specs.List.{flat_map}
 use Rattle.std.proofs.lemmas.List.{length-map}
+use Rattle.rowed.proofs.SpanLaws.{long_row}
+use Rattle.shape_extract.proofs.CellLists.{few_inputs}
+use Rattle.list_orders.proofs.NumbersLaws.{length-numbers}
 use Rattle.circuit.specs.CellKinds.{inputs_of, outputs_of, slots_of}
 use Rattle.circuit.specs.declared.cell_kind.CellKind.{CellKind}
-use Rattle.circuit.specs.declared.cell_kind.CellKind.TheVariants.{Buffer, Inverter, Zero, One, Split2, Split3, Majority}
+use Rattle.circuit.specs.declared.cell_kind.CellKind.TheVariants.{Buffer}
 use Rattle.cell_library.specs.Library.{LibraryView, input_column_of, output_column_of}
 use Rattle.geom.specs.declared.layout.Element.{Element}
 use Rattle.list_orders.specs.Numbers.{numbers}
 use Rattle.rowed.specs.PlacedNets.{PlacedView, IsPlaced}
 use Rattle.rowed.specs.RowCells.{source_at}
 use Rattle.rowed.specs.RowNets.{row_at, pins_at}
-use Rattle.rowed.specs.Slots.{AreSeated, EachSeated}
+use Rattle.rowed.specs.Slots.{AreSeated}
 use Rattle.rowed.specs.declared.row_cell.RowCell.{RowCell}
 use Rattle.rowed.specs.declared.source.Source.{Source}
 use Rattle.rowed.specs.Counts.{fed, cell_feeds, row_feeds, cells_in, wires_in}
@@ -25,21 +28,7 @@ use Rattle.layout_make.specs.declared.spots.Spot.{Spot}
 use Rattle.layout_make.specs.Tags.{sheet, tags, cell_tags, spot_tags, wire_tags, line_tags, row_tags}
 use Rattle.layout_make.proofs.Ready.{stands_at, pins_most}
 
--- how many numbers a range has
-pub numbers_long : (k n : ℕ) → length (numbers k n) ≡ n
-numbers_long k zero = refl
-numbers_long k (suc n) = ap suc (numbers_long (suc k) n)
-
 -- ---- pins and feeds of a cell
-
-three_inputs : (k : CellKind) → inputs_of k ≤ 3
-three_inputs Buffer = omega arith
-three_inputs Inverter = omega arith
-three_inputs Zero = omega arith
-three_inputs One = omega arith
-three_inputs Split2 = omega arith
-three_inputs Split3 = omega arith
-three_inputs Majority = omega arith
 
 fed_is : (o : Option Source) → fed o ≡ cond (is_some o) 1 0
 fed_is None = refl
@@ -65,25 +54,15 @@ pub feeds_at : (p : PlacedView) → IsPlaced p → (r n : ℕ) (x : Spot) → sl
     → cell_feeds x.cell ≡ pins_at r x.cell.kind
 feeds_at p is r n x e =
     let most = pins_most r x.cell.kind in
-    let three = three_inputs x.cell.kind in
+    let three = few_inputs x.cell.kind in
     feeds_are x.cell (pins_at r x.cell.kind) (omega arith) (stands_at p is r n x e).fed
 
 -- so a cell has at most three shapes beside its frame and its fed pins
 pins_over : (r : ℕ) (k : CellKind) → inputs_of k + outputs_of k ≤ 3 + pins_at r k
 pins_over zero Buffer = omega arith
-pins_over zero Inverter = omega arith
-pins_over zero Zero = omega arith
-pins_over zero One = omega arith
-pins_over zero Split2 = omega arith
-pins_over zero Split3 = omega arith
-pins_over zero Majority = omega arith
+pins_over zero k = omega arith
 pins_over (suc r) Buffer = omega arith
-pins_over (suc r) Inverter = omega arith
-pins_over (suc r) Zero = omega arith
-pins_over (suc r) One = omega arith
-pins_over (suc r) Split2 = omega arith
-pins_over (suc r) Split3 = omega arith
-pins_over (suc r) Majority = omega arith
+pins_over (suc r) k = omega arith
 
 -- ---- the cells of a row
 
@@ -92,14 +71,6 @@ seats_long [] [] b seats = refl
 seats_long [] (s ∷ slots) b seats = absurd seats
 seats_long (c ∷ cells) [] b seats = absurd seats
 seats_long (c ∷ cells) (s ∷ slots) b seats = ap suc (seats_long cells slots (s + slots_of c.kind) seats.2)
-
-row_seats : (rows : List (List RowCell)) (slots : List (List ℕ)) (r : ℕ) → EachSeated rows slots
-    → length (slice_index_or slots r []) ≡ length (row_at rows r)
-row_seats [] [] r seats = refl
-row_seats [] (s ∷ slots) r seats = absurd seats
-row_seats (row ∷ rows) [] r seats = absurd seats
-row_seats (row ∷ rows) (s ∷ slots) zero seats = seats_long row s 0 seats.0
-row_seats (row ∷ rows) (s ∷ slots) (suc r) seats = row_seats rows slots r seats.1
 
 abbrev pub spot_feeds : List Spot → ℕ
 spot_feeds [] = 0
@@ -120,11 +91,11 @@ spots_feed (c ∷ cells) (s ∷ slots) e = ap (λ (n : ℕ). cell_feeds c + n) (
 module _ (p : PlacedView) (is : IsPlaced p) where
   pub spots_long : (r : ℕ) → length (spots p r) ≡ length (row_at p.net.rows r)
   spots_long r = spots_count (row_at p.net.rows r) (slice_index_or p.slots r [])
-      (row_seats p.net.rows p.slots r is.seated)
+      (long_row p.net.rows p.slots r is.seated)
 
   pub row_feeds_are : (r : ℕ) → spot_feeds (spots p r) ≡ row_feeds (row_at p.net.rows r)
   row_feeds_are r = spots_feed (row_at p.net.rows r) (slice_index_or p.slots r [])
-      (row_seats p.net.rows p.slots r is.seated)
+      (long_row p.net.rows p.slots r is.seated)
 
 -- ---- the shapes of a row
 
@@ -133,8 +104,8 @@ pins_count f g n m =
     let a = length-append (map f (numbers 0 n)) (map g (numbers 0 m)) in
     let b = length-map (numbers 0 n) f in
     let c = length-map (numbers 0 m) g in
-    let d = numbers_long 0 n in
-    let e = numbers_long 0 m in
+    let d = length-numbers 0 n in
+    let e = length-numbers 0 m in
     omega arith
 
 pub cell_shapes : (l : LibraryView) (r slot : ℕ) (k : CellKind) → length (cell_tags l r slot k) ≡ 1 + inputs_of

@@ -1,7 +1,7 @@
 -- Lists row by row: where the items of each row stand.
 use Rattle.std.proofs.Common.{◌≡◌, ℕ, zero, suc, ◌+◌, ◌-◌, ◌<◌, ◌≤◌, refl, sym, ap, ◌∙◌, arith, ◌⊎◌, inl, inr, List, []}
 use Rattle.std.proofs.Common.{◌∷◌, ◌++◌, length, Some, slice_get}
-use Rattle.std.specs.List.{flat_map, AllZip}
+use Rattle.std.specs.List.{flat_map}
 use Rattle.std.proofs.lemmas.Option.{slice_get_within}
 use Rattle.std.proofs.lemmas.Bool.{cases_lt, cases_order}
 use Rattle.list_orders.specs.Numbers.{numbers}
@@ -160,11 +160,3 @@ module _ {A : Type 0} (of_row : ℕ → List A) (count : ℕ → ℕ) (zero_is :
 
   pub length_all : length (flat_map of_row (numbers 0 rows)) ≡ count rows
   length_all = length_before 0 rows ∙ below_is of_row count zero_is next rows
-
-pub zip_from : {A B : Type 0} (R : A → B → Type 0) (xs : List A) (ys : List B) → length xs ≡ length ys
-    → ((i : ℕ) (x : A) (y : B) → slice_get xs i ≡ Some x → slice_get ys i ≡ Some y → R x y) → AllZip R xs ys
-zip_from R [] [] e each = tt
-zip_from R [] (y ∷ ys) e each = absurd (omega arith)
-zip_from R (x ∷ xs) [] e each = absurd (omega arith)
-zip_from R (x ∷ xs) (y ∷ ys) e each =
-    (each 0 x y refl refl, zip_from R xs ys (omega arith) (λ i a b p q. each (suc i) a b p q))

@@ -10,6 +10,7 @@ use Rattle.std.proofs.lemmas.Bool.Decides.{Decides-int_eq}
 use Rattle.std.proofs.lemmas.Int.{ints}
 use Rattle.std.proofs.lemmas.List.Sums.{sum_by-cons, length-filter, count_by-le-length}
 use Rattle.std.proofs.lemmas.Option.{slice_get_within}
+use Rattle.shape_extract.proofs.SameShapes.{int_itself}
 use Rattle.geom.specs.declared.shapes.Shape.{Shape}
 use Rattle.geom.specs.declared.shapes.Flat.{Flat}
 use Rattle.layout_rules.specs.declared.layers.TheConstants.{INPUT_PIN, OUTPUT_PIN}
@@ -24,13 +25,14 @@ use Rattle.layout_rules.specs.Rules.{KeepsRules}
 use Rattle.layout_rules.specs.CircuitRules.{IsInput, IsSource}
 use Rattle.layout_rules.proofs.NetLaws.{one_number}
 use Rattle.layout_rules.proofs.PlaceLaws.{PassesAt, list_any-at, list_any-place}
+use Rattle.layout_rules.proofs.Places.{zip_at as zip_put}
 use Rattle.chip_circuit.specs.Circuits.{CircuitView}
 use Rattle.shape_extract.specs.Extraction.{IsCircuitOf, is_wired}
 use Rattle.layout_report.specs.Wires.{wires, wires_from, wires_of_rows, leaves, shapes_in_nets}
 use Rattle.layout_report.specs.Code.Sources.{AreInOrder, HasSource}
 use Rattle.layout_report.proofs.PinRows.{pin_so, frame_of}
 use Rattle.layout_report.proofs.Wired.{leaves_q, leaves_one}
-use Rattle.layout_report.proofs.Zipped.{zip_at, zip_put}
+use Rattle.layout_report.proofs.Zipped.{zip_at}
 use Rattle.shape_extract.specs.Code.PinRows.{IsRowOf}
 
 -- ---- items that are of one row each
@@ -173,15 +175,12 @@ row_below (s ∷ ss) y h =
     by_test false e below (inr later) =
         subst (AreSomeBelow y) (sym (edges_by s ss false e)) (below y later)
 
-edge_self : (y : ℤ) → int_eq y y ≡ true
-edge_self y = grind (arith, ints)
-
 frame_row : (shapes : List Shape) (f : ℕ) (frame : Shape) → slice_get shapes f ≡ Some frame → is_frame frame ≡ true
     → row_of shapes frame.rect.y0 < row_count shapes
 frame_row shapes f frame is so =
     row_below shapes frame.rect.y0
     (list_any-at (λ s. is_frame s && int_eq s.rect.y0 frame.rect.y0) shapes f frame is
-    (and_from (is_frame frame) (int_eq frame.rect.y0 frame.rect.y0) so (edge_self frame.rect.y0)))
+    (and_from (is_frame frame) (int_eq frame.rect.y0 frame.rect.y0) so (int_itself frame.rect.y0)))
 
 -- ---- a wire leaves one row
 
@@ -249,7 +248,8 @@ module _ (flat : Flat) (circuit : CircuitView) (order : AreInOrder flat circuit.
       } in
       record {
         row = row;
-        within = frame_row flat.shapes lies.0 lies.1.frame lies.1.frame_is (framed lies.1.pin lies.1.frame lies.1.lies_so);
+        within = frame_row flat.shapes lies.0 lies.1.frame lies.1.frame_is
+            (framed lies.1.pin lies.1.frame lies.1.lies_so);
         is_of = leaves_q flat circuit order n wire is row source;
         one = leaves_one flat circuit order n wire is row source;
       }

@@ -14,7 +14,7 @@ use Rattle.shape_extract.specs.Code.Edges.{Rises}
 use Rattle.shape_extract.proofs.RowEdges.{sorted_from_rises}
 use Rattle.layout_report.specs.Code.Heights.{BelongsTo}
 
-at_self : (y : ℤ) → int_le y y ≡ true
+pub at_self : (y : ℤ) → int_le y y ≡ true
 at_self y = grind (arith, ints)
 
 -- at or above an edge that is at or above another, which is above the height: that can't be

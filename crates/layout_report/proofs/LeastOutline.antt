@@ -6,6 +6,7 @@ use Rattle.std.proofs.lemmas.Bool.{and_parts, and_from}
 use Rattle.std.proofs.lemmas.Int.{ints}
 use Rattle.std.proofs.lemmas.List.Elements.{All-nil, All-cons, All-head, All-tail}
 use Rattle.std.proofs.lemmas.Option.{same_Some}
+use Rattle.layout_report.proofs.Heights.{at_self}
 use Rattle.geom.specs.declared.shapes.Shape.{Shape}
 use Rattle.geom.specs.Rectangle.{Rectangle, within}
 use Rattle.layout_rules.specs.Layers.{is_frame}
@@ -28,9 +29,6 @@ min_least x y z h k = grind (arith, ints)
 
 max_least : (x y z : ℤ) → int_le x z ≡ true → int_le y z ≡ true → int_le (int_max x y) z ≡ true
 max_least x y z h k = grind (arith, ints)
-
-le_self : (x : ℤ) → int_le x x ≡ true
-le_self x = grind (arith, ints)
 
 le_through : (x y z : ℤ) → int_le x y ≡ true → int_le y z ≡ true → int_le x z ≡ true
 le_through x y z h k = grind (arith, ints)
@@ -60,7 +58,7 @@ within_from a b s =
 
 within_self : (a : Rectangle) → within a a ≡ true
 within_self a =
-    within_from a a (record { left = le_self a.x0; right = le_self a.x1; low = le_self a.y0; high = le_self a.y1 })
+    within_from a a (record { left = at_self a.x0; right = at_self a.x1; low = at_self a.y0; high = at_self a.y1 })
 
 within_through : (a b c : Rectangle) → within a b ≡ true → within b c ≡ true → within a c ≡ true
 within_through a b c h k =

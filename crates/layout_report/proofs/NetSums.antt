@@ -6,6 +6,7 @@ use Rattle.std.specs.List.{list_any}
 use Rattle.std.proofs.lemmas.Bool.{cases_lt, both_ways, or_cases, and_parts, and_from, eqb-true}
 use Rattle.std.proofs.lemmas.List.Sums.{sum_by-cons}
 use Rattle.std.proofs.lemmas.Option.{same_Some}
+use Rattle.layout_rules.proofs.Places.{zip_at as zip_put}
 use Rattle.geom.specs.declared.shapes.Shape.{Shape}
 use Rattle.layout_rules.specs.Layers.{is_metal}
 use Rattle.layout_rules.specs.Limits.{Limits}
@@ -14,11 +15,12 @@ use Rattle.layout_rules.specs.Nets.{AreNets}
 use Rattle.layout_rules.specs.Reports.{ReportsNone}
 use Rattle.shape_extract.specs.Lengths.{AreLengths}
 use Rattle.layout_report.specs.Code.Tables.{AreNetLengths}
-use Rattle.layout_report.proofs.Zipped.{zip_at, zip_put}
+use Rattle.layout_report.proofs.Zipped.{zip_at}
 
 -- none is held where all are short
 pub lengths_whole : (shapes : List Shape) (nets lengths : List ℕ) → length lengths ≡ length shapes
-    → AreLengths shapes nets lengths → ((net : ℕ) → net_length shapes nets net < 2 ^ 64) → AreNetLengths shapes nets lengths
+    → AreLengths shapes nets lengths → ((net : ℕ) → net_length shapes nets net < 2 ^ 64)
+    → AreNetLengths shapes nets lengths
 lengths_whole shapes nets lengths long held short = record {
   long = long;
   at = λ net lt. omega (arith, held net lt, short net);

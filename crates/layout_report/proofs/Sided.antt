@@ -1,15 +1,11 @@
 -- All shapes are proper, shape by shape.
-use Rattle.std.proofs.Common.{◌≡◌, ℕ, ◌+◌, ◌<◌, ◌≤◌, inl, inr, List, length, get_or, Some, sym, ap, subst, ◌∙◌, arith}
+use Rattle.std.proofs.Common.{◌≡◌, ℕ, ◌+◌, ◌<◌, ◌≤◌, inl, inr, List, length, Some, sym, ap, subst, ◌∙◌, arith}
 use Rattle.std.specs.Prelude.{slice_get}
 use Rattle.std.proofs.lemmas.Bool.{cases_eq}
-use Rattle.std.proofs.lemmas.Option.{same_Some, slice_get_within, slice_get-get_or}
+use Rattle.std.proofs.lemmas.Option.{same_Some, slice_get_within}
 use Rattle.geom.specs.declared.shapes.Shape.{Shape}
 use Rattle.geom.specs.Rectangle.{IsProper}
 use Rattle.layout_report.specs.Code.Sources.{HaveSides}
-
--- what was read at a number stands there
-pub read_at : {X : Type 0} (xs : List X) (n : ℕ) (x : X) → n < length xs → x ≡ get_or xs n x → slice_get xs n ≡ Some x
-read_at xs n x lt is = slice_get-get_or xs n x lt ∙ sym (ap Some is)
 
 abbrev pub HaveSidesTo : ℕ → List Shape → Type 0
 HaveSidesTo n shapes = (k : ℕ) (s : Shape) → k < n → slice_get shapes k ≡ Some s → IsProper s.rect

@@ -1,12 +1,14 @@
 -- The rows of the sources of nets, written pin by pin.
-use Rattle.std.proofs.Common.{◌≡◌, ◌≢◌, ℕ, ◌+◌, ◌<◌, ◌≤◌, inl, inr, List, length, Option, Some, None, refl, sym, ap}
+use Rattle.std.proofs.Common.{◌≡◌, ◌≢◌, ℕ, ◌+◌, ◌<◌, ◌≤◌, inl, inr, List, length, Option, Some, sym, ap}
 use Rattle.std.proofs.Common.{subst}
-use Rattle.std.proofs.Common.{◌∙◌, arith, zero, suc, [], ◌∷◌, Bool, true, false, ◌&&◌}
+use Rattle.std.proofs.Common.{◌∙◌, arith, suc, [], ◌∷◌, Bool, true, false, ◌&&◌}
 use Rattle.std.specs.Prelude.{slice_get, slice_index, slice_set, ℤ, ◌⊎◌, not}
 use Rattle.std.proofs.Math.ListN.{length-set}
 use Rattle.std.proofs.lemmas.Bool.{cases_eq, cases_lt}
-use Rattle.std.proofs.lemmas.List.{get_or-set_same, get_or-set_other}
-use Rattle.std.proofs.lemmas.Option.{same_Some, slice_get_within, slice_get-get_or}
+use Rattle.std.proofs.lemmas.List.{get_or-set_other}
+use Rattle.std.proofs.lemmas.Option.{same_Some, slice_get_within, slice_get-get_or, slice_get_past}
+use Rattle.shape_extract.proofs.FramePlaces.{read_same}
+use Rattle.shape_extract.proofs.NetDrivers.{net_below}
 use Rattle.geom.specs.declared.shapes.Shape.{Shape}
 use Rattle.geom.specs.declared.shapes.Flat.{Flat}
 use Rattle.layout_rules.specs.declared.layers.TheConstants.{OUTPUT_PIN}
@@ -15,26 +17,13 @@ use Rattle.layout_rules.specs.Nets.{AreNets}
 use Rattle.layout_rules.specs.Pins.{LiesIn}
 use Rattle.layout_rules.specs.Rows.{AreRows, has_edge, lower_edges, row_of, row_count}
 use Rattle.layout_rules.specs.Reports.{Passes}
-use Rattle.layout_rules.proofs.NetLaws.{Joined-within, one_net}
+use Rattle.layout_rules.proofs.NetLaws.{one_net}
 use Rattle.layout_rules.proofs.Deciding.{settled}
 use Rattle.layout_rules.proofs.RowLaws.{row_count-certified}
 use Rattle.shape_extract.specs.Code.PinRows.{IsRowOf}
 use Rattle.layout_report.specs.Code.Heights.{BelongsTo}
 use Rattle.layout_report.specs.Code.Sources.{AreInOrder, AreSourceRows, HasSource, HaveSides}
 use Rattle.layout_report.proofs.PinRows.{pin_so, frame_of, row_is, row_within, belongs}
-
--- a list that was written at one place
-pub read_same : {X : Type 0} (xs : List X) (i j : ℕ) (v : X) → i < length xs → j ≡ i
-    → slice_get (slice_set xs i v) j ≡ Some v
-read_same xs i j v lt e =
-    ap (slice_get (slice_set xs i v)) e
-    ∙ (slice_get-get_or (slice_set xs i v) i v (omega (arith, length-set xs i v))
-    ∙ ap Some (get_or-set_same xs i v v lt))
-
-slice_get_past : {X : Type 0} (xs : List X) (j : ℕ) → length xs ≤ j → slice_get xs j ≡ None
-slice_get_past [] j le = refl
-slice_get_past (x ∷ xs) zero le = absurd (omega arith)
-slice_get_past (x ∷ xs) (suc j) le = slice_get_past xs j (omega arith)
 
 pub read_other : {X : Type 0} (xs : List X) (i j : ℕ) (v : X) → j ≢ i
     → slice_get (slice_set xs i v) j ≡ slice_get xs j
@@ -46,10 +35,6 @@ read_other xs i j v ne = by_length (cases_lt j (length xs))
         ∙ (ap Some (get_or-set_other xs i j v v ne) ∙ sym (slice_get-get_or xs j v lt))
     by_length (inr ge) =
         slice_get_past (slice_set xs i v) j (omega (arith, length-set xs i v)) ∙ sym (slice_get_past xs j ge)
-
-pub net_below : (shapes : List Shape) (nets : List ℕ) → AreNets shapes nets → (n : ℕ) → n < length shapes
-    → slice_index nets n < length shapes
-net_below shapes nets are n lt = Joined-within shapes n (slice_index nets n) lt (are.joined n lt)
 
 -- the rows of the first n shapes that are output pins are written
 pub record RowsBelow (n : ℕ) (shapes : List Shape) (nets : List ℕ) (rows : List (Option ℕ)) : Type 0 where

@@ -5,6 +5,7 @@ use Rattle.std.specs.Prelude.{slice_get, slice_index, not, ◌==◌, if◌then�
 use Rattle.std.proofs.lemmas.Bool.{both_ways, and_parts, and_from, false_from_ne_true, eqb-true}
 use Rattle.std.proofs.lemmas.List.Sums.{length-filter}
 use Rattle.std.proofs.lemmas.Option.{same_Some, slice_get_within}
+use Rattle.shape_extract.proofs.NetDrivers.{net_below}
 use Rattle.geom.specs.declared.shapes.Shape.{Shape}
 use Rattle.geom.specs.declared.shapes.Flat.{Flat}
 use Rattle.layout_rules.specs.declared.layers.TheConstants.{INPUT_PIN, OUTPUT_PIN}
@@ -16,6 +17,7 @@ use Rattle.layout_rules.specs.Reports.{Passes}
 use Rattle.layout_rules.specs.CircuitRules.{IsInput, IsSource}
 use Rattle.layout_rules.proofs.NetLaws.{one_net, one_number}
 use Rattle.layout_rules.proofs.PlaceLaws.{PassesAt, list_any-at, list_any-place}
+use Rattle.layout_rules.proofs.Places.{zip_at as zip_put}
 use Rattle.chip_circuit.specs.Circuits.{CircuitView}
 use Rattle.shape_extract.specs.Extraction.{is_wired}
 use Rattle.shape_extract.specs.Code.PinRows.{IsRowOf}
@@ -27,8 +29,8 @@ use Rattle.layout_report.specs.Code.Tables.{AreCounts, AreGreatest, AreNetLength
 use Rattle.layout_report.proofs.Chosen.{AgreeOn, filter_same, map_same, filter_twice}
 use Rattle.layout_report.proofs.Keyed.{of_row}
 use Rattle.layout_report.proofs.PinRows.{pin_so, frame_of, row_is}
-use Rattle.layout_report.proofs.SourceRows.{net_below, one_output}
-use Rattle.layout_report.proofs.Zipped.{zip_at, zip_put}
+use Rattle.layout_report.proofs.SourceRows.{one_output}
+use Rattle.layout_report.proofs.Zipped.{zip_at}
 
 -- a row that is left stands in the table
 pub left_from : (rows : List (Option ℕ)) (wire : Shape × ℕ) (q : ℕ) → row_left rows wire ≡ Some q
@@ -162,7 +164,8 @@ module _ (flat : Flat) (circuit : CircuitView) (order : AreInOrder flat circuit.
       let stands : IsRowOf flat.shapes b row = record { frame = lies.0; lies = lies.1; row_is = refl } in
       let same : slice_index circuit.nets n ≡ slice_index circuit.nets b =
       one_number flat.shapes circuit.nets order.are_nets n b (within flat circuit order n wire is) source.joined in
-      none row (subst (λ (net : ℕ). slice_get rows net ≡ Some (Some row)) (sym same ∙ net_is flat circuit order n wire is)
+      none row (subst (λ (net : ℕ). slice_get rows net ≡ Some (Some row))
+      (sym same ∙ net_is flat circuit order n wire is)
       (sources.each b source.pin row source.pin_is source.of_layer stands))
 
   -- so without one the pin is labelled
@@ -188,7 +191,8 @@ module _ (flat : Flat) (circuit : CircuitView) (order : AreInOrder flat circuit.
       (is_labelled flat wire.0) refl)
   wired_as true e (Some (Some q)) at =
       ap (λ (v : Bool). v && not (is_labelled flat wire.0)) e
-      ∙ ap not (unlabelled flat circuit order n wire is q (sources.only wire.1 q at) (eqb-true wire.0.layer INPUT_PIN e) (is_labelled flat
+      ∙ ap not (unlabelled flat circuit order n wire is q (sources.only wire.1 q at)
+      (eqb-true wire.0.layer INPUT_PIN e) (is_labelled flat
       wire.0) refl)
 
   leaves_as : (row : ℕ) (b : Bool) → (wire.0.layer == INPUT_PIN) ≡ b → (o : Option (Option ℕ))

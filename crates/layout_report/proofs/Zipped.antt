@@ -26,10 +26,3 @@ zip_at (s ∷ ss) (m ∷ ms) zero pair e =
     let same : (s, m) ≡ pair = same_Some (s, m) pair e in
     (ap (λ (p : Shape × ℕ). Some p.0) same, ap (λ (p : Shape × ℕ). p.1) same)
 zip_at (s ∷ ss) (m ∷ ms) (suc n) pair e = zip_at ss ms n pair e
-
-pub zip_put : (shapes : List Shape) (nets : List ℕ) (n : ℕ) (s : Shape) → length nets ≡ length shapes
-    → slice_get shapes n ≡ Some s → slice_get (zip shapes nets) n ≡ Some (s, slice_index nets n)
-zip_put [] nets n s long e = absurd cc
-zip_put (t ∷ ss) [] n s long e = absurd (omega (arith, long))
-zip_put (t ∷ ss) (m ∷ ms) zero s long e = ap (λ (u : Shape). Some (u, m)) (same_Some t s e)
-zip_put (t ∷ ss) (m ∷ ms) (suc n) s long e = zip_put ss ms n s (omega (arith, long)) e

@@ -1,5 +1,5 @@
 -- Frames that collide: those near, and those whose bands meet.
-use Rattle.std.proofs.Common.{◌≡◌, ◌≢◌, ℕ, ◌+◌, ◌<◌, ◌≤◌, Bool, true, false, ◌&&◌, ◌||◌, not, List, length, get_or}
+use Rattle.std.proofs.Common.{◌≡◌, ◌≢◌, ℕ, ◌+◌, ◌<◌, ◌≤◌, true, false, ◌&&◌, ◌||◌, List, length, get_or}
 use Rattle.std.proofs.Common.{◌-◌, Some, refl, sym, ap, subst, ◌∙◌, arith, inl, inr}
 use Rattle.std.specs.Prelude.{slice_get, slice_index, Contains, int_le, int_lt}
 use Rattle.std.proofs.lemmas.Bool.{cases_eq, cases_lt, both_ways, and_parts, and_from, or_cases}
@@ -153,10 +153,6 @@ own_overlap r proper =
     let y : int_lt r.y0 r.y1 ≡ true = grind (arith, ints, proper.high) in
     and_from (int_lt r.x0 r.x1 && int_lt r.x0 r.x1) (int_lt r.y0 r.y1 && int_lt r.y0 r.y1)
     (and_from (int_lt r.x0 r.x1) (int_lt r.x0 r.x1) x x) (and_from (int_lt r.y0 r.y1) (int_lt r.y0 r.y1) y y)
-
-pub not_so : (b : Bool) → not b ≡ true → b ≡ false
-not_so true h = absurd cc
-not_so false h = refl
 
 pub free_none : (shapes : List Shape) (a : ℕ) → CollidesWithNone shapes a → (b : ℕ) → FramesBroken shapes a b → ⊥
 free_none shapes a free b h = free b (λ e. (let lt : a < b = h.0 in absurd (omega arith))) h.1

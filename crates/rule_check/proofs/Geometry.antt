@@ -3,15 +3,14 @@ use Rattle.std.proofs.Common.{◌≡◌, ℕ, zero, suc, ◌+◌, ◌<◌, ◌�
 use Rattle.std.proofs.Common.{length, get_or, eq-eqb, Option, Some, None, refl, sym, ap, subst, ◌∙◌, arith, inl, inr}
 use Rattle.std.specs.Prelude.{◌==◌, slice_get, slice_index, nat_lt}
 use Rattle.std.proofs.lemmas.Bool.{cases_eq, cases_lt, both_ways, or_left, or_right, or_cases, false_from_ne_true}
+use Rattle.std.proofs.lemmas.Bool.{or_from}
 use Rattle.std.proofs.lemmas.Bool.{ne_eqb, and_parts, eqb-true}
-use Rattle.std.proofs.lemmas.Option.{same_Some, slice_get_within, slice_get-get_or}
+use Rattle.std.proofs.lemmas.Option.{same_Some, slice_get_within}
 use Rattle.geom.specs.declared.shapes.Shape.{Shape}
-use Rattle.std.proofs.lemmas.List.{length-map}
-use Rattle.geom.specs.Near.{rects_of, AreNear}
-use Rattle.geom.specs.Rectangle.{Rectangle, IsProper, grown, gap_x, gap_y, share_point, within}
+use Rattle.geom.proofs.Filing.{read_at}
+use Rattle.geom.specs.Rectangle.{IsProper, grown, gap_x, gap_y, share_point, within}
 use Rattle.layout_rules.proofs.PlaceLaws.{PassesAt, list_any-at, list_any-place}
-use Rattle.layout_rules.specs.Reports.{Alone, Passes, PassTogether}
-use Rattle.layout_rules.proofs.ReportLaws.{Alone-first, Alone-none}
+use Rattle.layout_rules.specs.Reports.{Passes, PassTogether}
 use Rattle.layout_rules.specs.declared.layers.TheConstants.{M1, VIA, M2, INPUT_PIN, OUTPUT_PIN}
 use Rattle.layout_rules.specs.Layers.{is_lower, is_pin, is_upper, is_via}
 use Rattle.layout_rules.specs.Limits.{Limits}
@@ -25,15 +24,6 @@ use Rattle.shape_extract.specs.declared.planes.Plane.{Plane}
 use Rattle.shape_extract.specs.declared.planes.Plane.TheVariants.{Lower, Vias, Upper}
 use Rattle.shape_extract.specs.Passing.{PassesIn}
 use Rattle.shape_extract.specs.Planes.{in_plane}
-
-pub read_at : {X : Type 0} (xs : List X) (n : ℕ) (x : X) → n < length xs → x ≡ get_or xs n x → slice_get xs n ≡ Some x
-read_at xs n x lt is = slice_get-get_or xs n x lt ∙ sym (ap Some is)
-
-pub alone_yes : (fault : ℕ → Type 0) (a : ℕ) → fault a → FindsAt (Alone fault) a (Some a)
-alone_yes fault a h = Alone-first fault a h
-
-pub alone_no : (fault : ℕ → Type 0) (a : ℕ) → (fault a → ⊥) → FindsAt (Alone fault) a None
-alone_no fault a h = Alone-none fault a h
 
 pub passes_not : (test : Shape → Bool) (shapes : List Shape) (n : ℕ) (s : Shape) → slice_get shapes n ≡ Some s
     → test s ≡ false → Passes test shapes n → ⊥
@@ -129,14 +119,11 @@ none_more test shapes ns i before here k lt =
       | inr ne ↦ before k (omega arith)
     ]
 
-or_none : (x y : Bool) → x ≡ false → y ≡ false → (x || y) ≡ false
-or_none x y p q = rw (p, q) refl
-
 pub any_at_none : (test : Shape → Bool) (shapes : List Shape) (ns : List ℕ) (n : ℕ) → length ns ≤ n
     → NoneAt test shapes ns n → any_at test shapes ns ≡ false
 any_at_none test shapes [] n all none = refl
 any_at_none test shapes (m ∷ ns) n all none =
-    or_none (passes_in test (slice_get shapes m)) (any_at test shapes ns) (none 0 (omega arith))
+    or_from (passes_in test (slice_get shapes m)) (any_at test shapes ns) (none 0 (omega arith))
     (any_at_none test shapes ns (length ns) (omega arith) (λ k lt. none (suc k) (omega arith)))
 
 -- some number passes
@@ -152,28 +139,11 @@ pub passes_at : (test : Shape → Bool) (shapes : List Shape) (n : ℕ) (s : Sha
     → b ≡ test s → (c : Bool) → b ≡ c → passes_in test (slice_get shapes n) ≡ c
 passes_at test shapes n s b is e c h = ap (passes_in test) is ∙ (sym e ∙ h)
 
-pub shape_of : (shapes : List Shape) (n : ℕ) → n < length shapes → (s : Shape) × (slice_get shapes n ≡ Some s)
-shape_of [] n lt = absurd (omega arith)
-shape_of (s ∷ ss) zero lt = (s, refl)
-shape_of (s ∷ ss) (suc n) lt = shape_of ss n (omega arith)
-
 -- the shape of a number of the list, as it is read
 pub read_through : (test : Shape → Bool) (shapes : List Shape) (ns : List ℕ) (k : ℕ) (s : Shape) (b : Bool)
     → k < length ns → get_or ns k 0 < length shapes → s ≡ get_or shapes (get_or ns k 0) s → test s ≡ b
     → passes_in test (slice_get shapes (get_or ns k 0)) ≡ b
 read_through test shapes ns k s b lt within is e = ap (passes_in test) (read_at shapes (get_or ns k 0) s within is) ∙ e
-
--- numbers of near ones are numbers of shapes
-pub near_within : (shapes : List Shape) (rect : Rectangle) (margin : ℕ) (near : List ℕ)
-    → AreNear (rects_of shapes) rect margin near → (k d : ℕ) → k < length near → get_or near k d < length shapes
-near_within shapes rect margin near are k d lt =
-    (let at = are.each k d lt in
-    omega (
-      arith,
-      slice_get_within (rects_of shapes) (get_or near k d) at.other at.other_is,
-      length-map shapes
-          (λ (t : Shape). t.rect),
-    ))
 
 -- ---- shapes of no group
 
@@ -201,7 +171,8 @@ HaveSidesTo n shapes = (k : ℕ) (s : Shape) → k < n → slice_get shapes k �
 pub sides_more : (n : ℕ) (shapes : List Shape) (s : Shape) → HaveSidesTo n shapes → slice_get shapes n ≡ Some s
     → IsProper s.rect → HaveSidesTo (n + 1) shapes
 sides_more n shapes s before is proper k t lt at = elim (cases_eq k n) [
-  | inl e ↦ subst (λ (u : Shape). IsProper u.rect) (same_Some s t (sym is ∙ (ap (slice_get shapes) (sym e) ∙ at))) proper
+  | inl e ↦ subst (λ (u : Shape). IsProper u.rect)
+      (same_Some s t (sym is ∙ (ap (slice_get shapes) (sym e) ∙ at))) proper
   | inr ne ↦ before k t (omega arith) at
 ]
 

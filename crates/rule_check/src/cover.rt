@@ -100,6 +100,9 @@ fn first_trespass(shapes: &[Shape], frames: &[u32], pins: &[u32], s: &Shape) -> 
     None
 }
 
+/// Room for the pins near a wire, so that the list of them mostly doesn't grow.
+const FEW: usize = 4;
+
 /// Whether the shape is of a layer that may trespass.
 fn may_trespass(s: &Shape) -> bool
     ensures { result ≡ may_trespass s.now }
@@ -129,7 +132,7 @@ fn find_trespass(
     if frames.is_empty() {
         return Ok(None);
     }
-    let mut pins = Vec::new(alloc);
+    let mut pins = Vec::with_capacity(alloc, FEW)?;
     planes.list_near(Plane::Pins, &s.rect, 0, &mut pins)?;
     let frame = first_trespass(shapes, frames, pins.as_slice(), s);
     Ok(frame)

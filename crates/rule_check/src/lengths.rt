@@ -17,7 +17,7 @@ fn first_long(shapes: &[Shape], nets: &[u32], lengths: &[u64], limits: &Limits) 
     requires few { length shapes.now < 2 ^ 32 }
     requires nets { AreNets shapes.now nets.now }
     requires lengths { AreLengths shapes.now nets.now lengths.now }
-    requires long { length lengths.now ≡ length shapes.now }
+    requires each { length lengths.now ≡ length shapes.now }
     requires limit { limits.now.limit < 2 ^ 64 - 1 }
     ensures { Finds (LengthsBroken (limits_seen limits.now) shapes.now) result }
 {

@@ -22,9 +22,11 @@ rows_few flat edges rows =
     let h : length (lower_edges flat.shapes) ≤ length flat.shapes = few_edges flat.shapes in
     omega arith
 
-module _ (flat : Flat) (nets : List ℕ) (edges : List ℤ) (cells : List ExCell) (inputs : ℕ) (outputs : List Source) (wires : ℕ) (nets_are : AreNets flat.shapes nets) (rows : AreRows flat.shapes edges)
+module _ (flat : Flat) (nets : List ℕ) (edges : List ℤ) (cells : List ExCell) (inputs : ℕ) (outputs : List Source)
+    (wires : ℕ) (nets_are : AreNets flat.shapes nets) (rows : AreRows flat.shapes edges)
     (parts : AreParts flat cells inputs outputs) (wires_are : wires ≡ count_by (is_wired flat) flat.shapes) where
-  pub assembled : IsCircuitOf flat (record { cells = cells; inputs = inputs; outputs = outputs; rows = length edges; wires = wires; nets = nets })
+  pub assembled : IsCircuitOf flat
+      (record { cells = cells; inputs = inputs; outputs = outputs; rows = length edges; wires = wires; nets = nets })
   assembled = record {
     frames = parts.frames;
     are_frames = parts.are_frames;
@@ -37,8 +39,27 @@ module _ (flat : Flat) (nets : List ℕ) (edges : List ℤ) (cells : List ExCell
     nets = nets_are;
   }
 
-  pub assembled_keeps : KeepsFive flat → flat_count flat < 2 ^ 32 → KeepsFacts (record { cells = cells; inputs = inputs; outputs = outputs; rows = length edges; wires = wires; nets = nets })
+  pub assembled_keeps : KeepsFive flat → flat_count flat < 2 ^ 32
+      → KeepsFacts (record {
+        cells = cells;
+        inputs = inputs;
+        outputs = outputs;
+        rows =
+            length edges;
+        wires = wires;
+        nets = nets;
+      })
   assembled_keeps five few =
-      let e : length cells ≡ length parts.frames = zip_long (IsCellFrom flat parts.frames) cells parts.frames parts.cells_are in
+      let e : length cells ≡ length parts.frames = zip_long
+      (IsCellFrom flat parts.frames) cells parts.frames parts.cells_are in
       let h : length parts.frames ≤ length flat.shapes = parts.fewer in
-      keeps_facts flat five edges rows (record { cells = cells; inputs = inputs; outputs = outputs; rows = length edges; wires = wires; nets = nets }) assembled (omega arith) (omega arith)
+      keeps_facts flat five edges rows
+      (record {
+        cells = cells;
+        inputs = inputs;
+        outputs = outputs;
+        rows = length edges;
+        wires = wires;
+        nets =
+            nets;
+      }) assembled (omega arith) (omega arith)

@@ -8,12 +8,15 @@ abbrev pub EachFrom : {X : Type 0} → (ℕ → X → Type 0) → ℕ → List X
 EachFrom P k [] = Unit {0}
 EachFrom P k (x ∷ xs) = P k x × EachFrom P (suc k) xs
 
-from_at : {X : Type 0} (P : ℕ → X → Type 0) (k : ℕ) (xs : List X) → EachFrom P k xs → (i : ℕ) (x : X) → slice_get xs i ≡ Some x → P (k + i) x
+from_at : {X : Type 0} (P : ℕ → X → Type 0) (k : ℕ) (xs : List X) → EachFrom P k xs → (i : ℕ) (x : X)
+    → slice_get xs i ≡ Some x → P (k + i) x
 from_at P k [] all i x is = absurd cc
 from_at P k (y ∷ xs) all zero x is = rw add-zero (subst (P k) (same_Some y x is) all.0)
-from_at P k (y ∷ xs) all (suc i) x is = let e : k + suc i ≡ suc k + i = omega arith in rw e (from_at P (suc k) xs all.1 i x is)
+from_at P k (y ∷ xs) all (suc i) x is = let e : k + suc i ≡ suc k + i = omega arith in rw e
+    (from_at P (suc k) xs all.1 i x is)
 
-pub each_at : {X : Type 0} (P : ℕ → X → Type 0) (xs : List X) → EachFrom P 0 xs → (i : ℕ) (x : X) → slice_get xs i ≡ Some x → P i x
+pub each_at : {X : Type 0} (P : ℕ → X → Type 0) (xs : List X) → EachFrom P 0 xs → (i : ℕ) (x : X)
+    → slice_get xs i ≡ Some x → P i x
 each_at P xs all i x is = let e : 0 + i ≡ i = omega arith in rw e at (from_at P 0 xs all i x is)
 
 pub item_at : {X : Type 0} (xs : List X) (i : ℕ) → i < length xs → (x : X) × (slice_get xs i ≡ Some x)

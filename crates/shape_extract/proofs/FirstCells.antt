@@ -1,5 +1,6 @@
 -- The circuit of the first chip is that of its two frames.
-use Rattle.std.proofs.Common.{◌≡◌, ◌≢◌, ℕ, zero, suc, ◌<◌, ◌≤◌, true, false, List, [], ◌∷◌, Some, refl, sym, ap, subst, ◌∙◌, arith, eqb, eq-eqb}
+use Rattle.std.proofs.Common.{◌≡◌, ◌≢◌, ℕ, zero, suc, ◌<◌, ◌≤◌, true, false, List, [], ◌∷◌, Some, refl, sym, ap, subst}
+use Rattle.std.proofs.Common.{◌∙◌, arith, eqb, eq-eqb}
 use Rattle.std.specs.Prelude.{slice_get, slice_index, pos}
 use Rattle.std.proofs.lemmas.Option.{same_Some}
 use Rattle.circuit.specs.CellKinds.{inputs_of}
@@ -23,7 +24,8 @@ use Rattle.chip_circuit.specs.declared.cells.Feed.TheVariants.{Nothing}
 use Rattle.chip_circuit.specs.declared.cells.ExCell.{ExCell}
 use Rattle.chip_circuit.specs.Circuits.{feed_at}
 use Rattle.shape_extract.specs.Frames.{comes_before, HasPlace, AreFrames}
-use Rattle.shape_extract.specs.Extraction.{IsNamed, IsDrivenBy, IsFeedAt, IsInPhase, IsCellFrom, IsOutputFrom, IsCircuitOf}
+use Rattle.shape_extract.specs.Extraction.{IsNamed, IsDrivenBy, IsFeedAt, IsInPhase, IsCellFrom, IsOutputFrom}
+use Rattle.shape_extract.specs.Extraction.{IsCircuitOf}
 use Rattle.chip_circuit.specs.FirstCircuit.{lower_buffer, upper_buffer, upper_output, first_nets, first_circuit}
 use Rattle.shape_extract.proofs.Each.{EachFrom, each_at}
 use Rattle.shape_extract.proofs.FirstNets.{first_nets_are}
@@ -84,18 +86,25 @@ each_placed = (
 
 only_frames : (c f : ℕ) → slice_get frames c ≡ Some f → Passes is_frame first_flat.shapes f
 unfolding first_flat
-only_frames zero f is = subst (Passes is_frame first_flat.shapes) (same_Some 0 f is) (record { shape = _; shape_is = refl; passes_so = refl })
-only_frames (suc zero) f is = subst (Passes is_frame first_flat.shapes) (same_Some 10 f is) (record { shape = _; shape_is = refl; passes_so = refl })
+only_frames zero f is = subst (Passes is_frame first_flat.shapes) (same_Some 0 f is)
+    (record { shape = _; shape_is = refl; passes_so = refl })
+only_frames (suc zero) f is = subst (Passes is_frame first_flat.shapes) (same_Some 10 f is)
+    (record { shape = _; shape_is = refl; passes_so = refl })
 only_frames (suc (suc c)) f is = absurd cc
 
-in_order : (c d f g : ℕ) (s t : Shape) → c < d → slice_get frames c ≡ Some f → slice_get frames d ≡ Some g → slice_get first_flat.shapes f ≡ Some s → slice_get first_flat.shapes g ≡ Some t → comes_before s f t g ≡ true
+in_order : (c d f g : ℕ) (s t : Shape) → c < d → slice_get frames c ≡ Some f → slice_get frames d ≡ Some g
+    → slice_get first_flat.shapes f ≡ Some s → slice_get first_flat.shapes g ≡ Some t → comes_before s f t g ≡ true
 unfolding first_flat
 in_order zero zero f g s t lt at_c at_d at_f at_g = absurd (omega arith)
 in_order zero (suc zero) f g s t lt at_c at_d at_f at_g =
-    let lower : slice_get first_flat.shapes 0 ≡ Some s = subst (λ (n : ℕ). slice_get first_flat.shapes n ≡ Some s) (sym (same_Some 0 f at_c)) at_f in
-    let upper : slice_get first_flat.shapes 10 ≡ Some t = subst (λ (n : ℕ). slice_get first_flat.shapes n ≡ Some t) (sym (same_Some 10 g at_d)) at_g in
-    ap (λ (n : ℕ). comes_before s n t g) (sym (same_Some 0 f at_c)) ∙ ap (λ (n : ℕ). comes_before s 0 t n) (sym (same_Some 10 g at_d))
-    ∙ ap (λ (x : Shape). comes_before x 0 t 10) (sym (same_Some lower_frame s lower)) ∙ ap (λ (x : Shape). comes_before lower_frame 0 x 10) (sym (same_Some upper_frame t upper))
+    let lower : slice_get first_flat.shapes 0 ≡ Some s = subst (λ (n : ℕ). slice_get first_flat.shapes n ≡ Some s)
+    (sym (same_Some 0 f at_c)) at_f in
+    let upper : slice_get first_flat.shapes 10 ≡ Some t = subst (λ (n : ℕ). slice_get first_flat.shapes n ≡ Some t)
+    (sym (same_Some 10 g at_d)) at_g in
+    ap (λ (n : ℕ). comes_before s n t g) (sym (same_Some 0 f at_c))
+    ∙ ap (λ (n : ℕ). comes_before s 0 t n) (sym (same_Some 10 g at_d))
+    ∙ ap (λ (x : Shape). comes_before x 0 t 10) (sym (same_Some lower_frame s lower))
+    ∙ ap (λ (x : Shape). comes_before lower_frame 0 x 10) (sym (same_Some upper_frame t upper))
 in_order zero (suc (suc d)) f g s t lt at_c at_d at_f at_g = absurd cc
 in_order (suc c) zero f g s t lt at_c at_d at_f at_g = absurd (omega arith)
 in_order (suc zero) (suc zero) f g s t lt at_c at_d at_f at_g = absurd (omega arith)
@@ -111,12 +120,17 @@ frames_are = record {
 
 -- ---- pins, bars and labels
 
-pin_of : (f layer number p : ℕ) (pin frame : Shape) → slice_get first_flat.shapes p ≡ Some pin → slice_get first_flat.shapes f ≡ Some frame → lies_in pin frame ≡ true → pin.layer ≡ layer → pin.datatype ≡ number → IsPinOf first_flat.shapes f layer number p
-pin_of f layer number p pin frame a b c d e = record { pin = pin; frame = frame; pin_is = a; frame_is = b; lies_so = c; of_layer = d; of_number = e }
+pin_of : (f layer number p : ℕ) (pin frame : Shape) → slice_get first_flat.shapes p ≡ Some pin
+    → slice_get first_flat.shapes f ≡ Some frame → lies_in pin frame ≡ true → pin.layer ≡ layer → pin.datatype ≡ number
+    → IsPinOf first_flat.shapes f layer number p
+pin_of f layer number p pin frame a b c d e =
+    record { pin = pin; frame = frame; pin_is = a; frame_is = b; lies_so = c; of_layer = d; of_number = e }
 
 -- the bar b after the start a
-excited : (a b phase : ℕ) (start bar frame : Shape) → a ≢ b → slice_get first_flat.shapes a ≡ Some start → slice_get first_flat.shapes b ≡ Some bar
-    → is_line start ≡ true → start.datatype ≡ START → is_line bar ≡ true → bar.datatype ≡ BAR → meet start bar ≡ true → phase_of start bar ≡ phase → overlap bar.rect frame.rect ≡ true
+excited : (a b phase : ℕ) (start bar frame : Shape) → a ≢ b → slice_get first_flat.shapes a ≡ Some start
+    → slice_get first_flat.shapes b ≡ Some bar
+    → is_line start ≡ true → start.datatype ≡ START → is_line bar ≡ true → bar.datatype ≡ BAR → meet start bar ≡ true
+    → phase_of start bar ≡ phase → overlap bar.rect frame.rect ≡ true
     → IsInPhase first_flat.shapes frame phase
 excited a b phase start bar frame apart at_a at_b start_line start_part bar_line bar_part meets phase_is over = record {
   number = b;
@@ -125,21 +139,23 @@ excited a b phase start bar frame apart at_a at_b start_line start_part bar_line
     before = a;
     before_shape = start;
     before_shape_is = at_a;
-    is_before = path_from_chain first_flat.shapes (laid_out first_flat.shapes lines_kept) (none_cut_off first_flat.shapes lines_kept) a b (record {
-      rest = [];
-      chain = (
-        record { apart = apart; first = start; second = bar; first_is = at_a; second_is = at_b; meet_so = meets },
-        record { shape = start; shape_is = at_a; line_so = start_line; datatype_is = start_part },
-      );
-      onward = tt;
-    });
+    is_before = path_from_chain first_flat.shapes (laid_out first_flat.shapes lines_kept)
+        (none_cut_off first_flat.shapes lines_kept) a b (record {
+          rest = [];
+          chain = (
+            record { apart = apart; first = start; second = bar; first_is = at_a; second_is = at_b; meet_so = meets },
+            record { shape = start; shape_is = at_a; line_so = start_line; datatype_is = start_part },
+          );
+          onward = tt;
+        });
     phase_is = phase_is;
   };
   over = over;
 }
 
 -- a buffer has no feed past its first
-no_more : (cell : ExCell) → cell.feed1 ≡ Nothing → cell.feed2 ≡ Nothing → (i : ℕ) → inputs_of Buffer ≤ i → feed_at cell i ≡ Nothing
+no_more : (cell : ExCell) → cell.feed1 ≡ Nothing → cell.feed2 ≡ Nothing → (i : ℕ) → inputs_of Buffer ≤ i
+    → feed_at cell i ≡ Nothing
 no_more cell second third zero le = absurd (omega arith)
 no_more cell second third (suc zero) le = second
 no_more cell second third (suc (suc zero)) le = third
@@ -157,7 +173,12 @@ lower_named = record {
 
 lower_feeds : (i : ℕ) → i < inputs_of Buffer → IsFeedAt first_flat frames 0 i (feed_at lower_buffer i)
 unfolding first_flat
-lower_feeds zero lt = record { number = 1; pin = pin_of 0 INPUT_PIN 0 1 _ _ refl refl refl refl refl; feeds = lower_named }
+lower_feeds zero lt = record {
+  number = 1;
+  pin =
+      pin_of 0 INPUT_PIN 0 1 _ _ refl refl refl refl refl;
+  feeds = lower_named;
+}
 lower_feeds (suc i) lt = absurd (omega arith)
 
 lower_cell : IsCellFrom first_flat frames lower_buffer 0
@@ -208,7 +229,13 @@ each_alone = (
                     other_layer 11 refl,
                     (
                       other_layer 20 refl,
-                      (other_layer 21 refl, (λ e n. absurd (omega arith), (other_layer 15 refl, (other_layer 15 refl, tt)))),
+                      (
+                        other_layer 21 refl,
+                        (
+                          λ e n. absurd (omega arith),
+                          (other_layer 15 refl, (other_layer 15 refl, tt)),
+                        ),
+                      ),
                     ),
                   ),
                 ),
@@ -223,7 +250,8 @@ each_alone = (
 
 one_driver : (q : ℕ) → IsSource first_flat.shapes 11 q → q ≡ 2
 unfolding first_flat
-one_driver q is = each_at IsAlone first_flat.shapes each_alone q is.pin is.pin_is is.of_layer (one_number first_flat.shapes first_nets first_nets_are 11 q (omega arith) is.joined)
+one_driver q is = each_at IsAlone first_flat.shapes each_alone q is.pin is.pin_is is.of_layer
+    (one_number first_flat.shapes first_nets first_nets_are 11 q (omega arith) is.joined)
 
 upper_driven : IsDrivenBy first_flat frames (record { cell = 0; output = 0 }) 11
 unfolding first_flat
@@ -237,7 +265,12 @@ upper_driven = record {
 
 upper_feeds : (i : ℕ) → i < inputs_of Buffer → IsFeedAt first_flat frames 10 i (feed_at upper_buffer i)
 unfolding first_flat
-upper_feeds zero lt = record { number = 11; pin = pin_of 10 INPUT_PIN 0 11 _ _ refl refl refl refl refl; feeds = upper_driven }
+upper_feeds zero lt = record {
+  number = 11;
+  pin =
+      pin_of 10 INPUT_PIN 0 11 _ _ refl refl refl refl refl;
+  feeds = upper_driven;
+}
 upper_feeds (suc i) lt = absurd (omega arith)
 
 upper_cell : IsCellFrom first_flat frames upper_buffer 10
@@ -266,7 +299,8 @@ upper_shown = record {
   output = record { frame = 10; frame_is = refl; pin = pin_of 10 OUTPUT_PIN 0 12 _ _ refl refl refl refl refl };
 }
 
-outputs : (n : ℕ) (source : Source) → slice_get first_circuit.outputs n ≡ Some source → IsOutputFrom first_flat frames n source
+outputs : (n : ℕ) (source : Source) → slice_get first_circuit.outputs n ≡ Some source
+    → IsOutputFrom first_flat frames n source
 unfolding first_circuit
 outputs zero source is = subst (IsOutputFrom first_flat frames 0) (same_Some upper_output source is) upper_shown
 outputs (suc n) source is = absurd cc

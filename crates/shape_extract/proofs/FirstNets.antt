@@ -1,5 +1,6 @@
 -- The nets of the first chip.
-use Rattle.std.proofs.Common.{◌≡◌, ℕ, zero, suc, ◌<◌, ◌≤◌, Bool, true, false, cond, eqb, ◌&&◌, List, [], ◌∷◌, length, Some, refl, sym, ap, ◌∙◌, arith}
+use Rattle.std.proofs.Common.{◌≡◌, ℕ, zero, suc, ◌<◌, ◌≤◌, Bool, true, false, cond, eqb, ◌&&◌, List, [], ◌∷◌, length}
+use Rattle.std.proofs.Common.{Some, refl, sym, ap, ◌∙◌, arith}
 use Rattle.std.specs.Prelude.{slice_get, slice_index}
 use Rattle.std.proofs.lemmas.Bool.{eqb-true, and_parts}
 use Rattle.std.proofs.lemmas.Option.{same_Some}
@@ -22,20 +23,25 @@ all_agree [] ns shapes nets = true
 all_agree (s ∷ ss) [] shapes nets = false
 all_agree (s ∷ ss) (n ∷ ns) shapes nets = agrees s n shapes nets && all_agree ss ns shapes nets
 
-agrees_at : (s : Shape) (n : ℕ) (ts : List Shape) (ms : List ℕ) (j : ℕ) (t : Shape) → agrees s n ts ms ≡ true → slice_get ts j ≡ Some t → touch s t ≡ true → n ≡ slice_index ms j
+agrees_at : (s : Shape) (n : ℕ) (ts : List Shape) (ms : List ℕ) (j : ℕ) (t : Shape) → agrees s n ts ms ≡ true
+    → slice_get ts j ≡ Some t → touch s t ≡ true → n ≡ slice_index ms j
 agrees_at s n [] ms j t e is touching = absurd cc
 agrees_at s n (u ∷ ts) [] j t e is touching = absurd cc
 agrees_at s n (u ∷ ts) (m ∷ ms) zero t e is touching =
     let both = and_parts (cond (touch s u) (eqb n m) true) (agrees s n ts ms) e in
     let same : touch s u ≡ true = ap (touch s) (same_Some u t is) ∙ touching in
     eqb-true n m (sym (ap (λ (b : Bool). cond b (eqb n m) true) same) ∙ both.0)
-agrees_at s n (u ∷ ts) (m ∷ ms) (suc j) t e is touching = agrees_at s n ts ms j t (and_parts (cond (touch s u) (eqb n m) true) (agrees s n ts ms) e).1 is touching
+agrees_at s n (u ∷ ts) (m ∷ ms) (suc j) t e is touching = agrees_at s n ts ms j t
+    (and_parts (cond (touch s u) (eqb n m) true) (agrees s n ts ms) e).1 is touching
 
-all_at : (ss : List Shape) (ns : List ℕ) (shapes : List Shape) (nets : List ℕ) (i : ℕ) (s : Shape) → all_agree ss ns shapes nets ≡ true → slice_get ss i ≡ Some s → agrees s (slice_index ns i) shapes nets ≡ true
+all_at : (ss : List Shape) (ns : List ℕ) (shapes : List Shape) (nets : List ℕ) (i : ℕ) (s : Shape)
+    → all_agree ss ns shapes nets ≡ true → slice_get ss i ≡ Some s → agrees s (slice_index ns i) shapes nets ≡ true
 all_at [] ns shapes nets i s e is = absurd cc
 all_at (t ∷ ss) [] shapes nets i s e is = absurd cc
-all_at (t ∷ ss) (n ∷ ns) shapes nets zero s e is = ap (λ (x : Shape). agrees x n shapes nets) (sym (same_Some t s is)) ∙ (and_parts (agrees t n shapes nets) (all_agree ss ns shapes nets) e).0
-all_at (t ∷ ss) (n ∷ ns) shapes nets (suc i) s e is = all_at ss ns shapes nets i s (and_parts (agrees t n shapes nets) (all_agree ss ns shapes nets) e).1 is
+all_at (t ∷ ss) (n ∷ ns) shapes nets zero s e is = ap (λ (x : Shape). agrees x n shapes nets) (sym (same_Some t s is))
+    ∙ (and_parts (agrees t n shapes nets) (all_agree ss ns shapes nets) e).0
+all_at (t ∷ ss) (n ∷ ns) shapes nets (suc i) s e is = all_at ss ns shapes nets i s
+    (and_parts (agrees t n shapes nets) (all_agree ss ns shapes nets) e).1 is
 
 -- computed: touching shapes of the first chip have one net
 agree : all_agree first_flat.shapes first_nets first_flat.shapes first_nets ≡ true
@@ -43,8 +49,11 @@ unfolding first_flat
 agree = refl
 
 -- from a shape to one that touches it, and on
-step : (i j k : ℕ) (a b : Shape) → slice_get first_flat.shapes i ≡ Some a → slice_get first_flat.shapes j ≡ Some b → touch a b ≡ true → Joined first_flat.shapes j k → Joined first_flat.shapes i k
-step i j k a b p q t joined = Joined-trans first_flat.shapes i j k (Joined-touching first_flat.shapes i j (record { first = a; second = b; first_is = p; second_is = q; touch_so = t })) joined
+step : (i j k : ℕ) (a b : Shape) → slice_get first_flat.shapes i ≡ Some a → slice_get first_flat.shapes j ≡ Some b
+    → touch a b ≡ true → Joined first_flat.shapes j k → Joined first_flat.shapes i k
+step i j k a b p q t joined = Joined-trans first_flat.shapes i j k
+    (Joined-touching first_flat.shapes i j
+    (record { first = a; second = b; first_is = p; second_is = q; touch_so = t })) joined
 
 -- the wire: metal at the lower pin, via, upper metal, via, metal at the upper pin
 from_lower_metal : Joined first_flat.shapes 5 2
@@ -101,7 +110,10 @@ each_joined = (
                     (from_second_via, omega arith),
                     (
                       (self 10, omega arith),
-                      ((from_pin, omega arith), ((self 12, omega arith), ((self 13, omega arith), ((self 14, omega arith), tt)))),
+                      (
+                        (from_pin, omega arith),
+                        ((self 12, omega arith), ((self 13, omega arith), ((self 14, omega arith), tt))),
+                      ),
                     ),
                   ),
                 ),
@@ -114,8 +126,10 @@ each_joined = (
   ),
 )
 
-joined_there : (i : ℕ) → i < length first_flat.shapes → Joined first_flat.shapes i (slice_index first_nets i) × (slice_index first_nets i ≤ i)
-joined_there i lt = let s = item_at first_flat.shapes i lt in each_at IsJoinedThere first_flat.shapes each_joined i s.0 s.1
+joined_there : (i : ℕ) → i < length first_flat.shapes → Joined first_flat.shapes i (slice_index first_nets i)
+    × (slice_index first_nets i ≤ i)
+joined_there i lt = let s =
+    item_at first_flat.shapes i lt in each_at IsJoinedThere first_flat.shapes each_joined i s.0 s.1
 
 nets_long : length first_nets ≡ length first_flat.shapes
 unfolding first_flat
@@ -126,5 +140,7 @@ first_nets_are = AreNets-certified first_flat.shapes first_nets (record {
   long = nets_long;
   joined = λ i lt. (joined_there i lt).0;
   not_above = λ i lt. (joined_there i lt).1;
-  agree = λ i j t. agrees_at t.first (slice_index first_nets i) first_flat.shapes first_nets j t.second (all_at first_flat.shapes first_nets first_flat.shapes first_nets i t.first agree t.first_is) t.second_is t.touch_so;
+  agree = λ i j t. agrees_at t.first (slice_index first_nets i) first_flat.shapes first_nets j t.second
+      (all_at first_flat.shapes first_nets first_flat.shapes first_nets i t.first agree t.first_is) t.second_is
+      t.touch_so;
 })

@@ -32,12 +32,14 @@ all_kept flat five limits G4 h = absurd (omega arith)
 all_kept flat five limits G5 h = absurd (omega arith)
 
 -- a search that finds nothing
-pub found_none : (report : ℕ → ℕ → Type 0) (found : Option Report) → Finds report found → ((r : Report) → found ≡ Some r → ⊥) → ReportsNone report
+pub found_none : (report : ℕ → ℕ → Type 0) (found : Option Report) → Finds report found
+    → ((r : Report) → found ≡ Some r → ⊥) → ReportsNone report
 found_none report None finds none = finds
 found_none report (Some r) finds none = absurd (none r refl)
 
 -- where nothing is found, all frames are excited
-pub excites_none : (shapes : List Shape) (found : Option Report) → ExcitesFrames shapes found → ((r : Report) → found ≡ Some r → ⊥) → (f : ℕ) → IsExcitedAt shapes f
+pub excites_none : (shapes : List Shape) (found : Option Report) → ExcitesFrames shapes found
+    → ((r : Report) → found ≡ Some r → ⊥) → (f : ℕ) → IsExcitedAt shapes f
 excites_none shapes None excites none = excites
 excites_none shapes (Some r) excites none = absurd (none r refl)
 
@@ -45,32 +47,39 @@ abbrev told : Rule → Report → BrokenRule
 told rule r = record { rule = rule; first = r.first; second = r.second }
 
 -- a search that finds the first report of a rule where those before it are kept
-pub breaks : (flat : Flat) (rule : Rule) (found : Option Report) (r : Report) (b : BrokenRule) → place rule < first_of_geometry
+pub breaks : (flat : Flat) (rule : Rule) (found : Option Report) (r : Report) (b : BrokenRule)
+    → place rule < first_of_geometry
     → ((limits : Limits) → Finds (Broken rule flat limits) found) → found ≡ Some r → b ≡ told rule r
     → ((limits : Limits) → KeepsBelow (place rule) flat limits) → BreaksCircuit flat b.rule b.first b.second
 breaks flat rule found r b h finds e is before =
     subst (λ (x : BrokenRule). BreaksCircuit flat x.rule x.first x.second) (sym is) (record {
       of_circuit = h;
-      first = λ limits. record { report = subst (λ (o : Option Report). Finds (Broken rule flat limits) o) e (finds limits); kept_before = before limits };
+      first = λ limits. record {
+        report = subst (λ (o : Option Report). Finds (Broken rule flat limits) o) e
+            (finds limits);
+        kept_before = before limits;
+      };
     })
 
--- the rules up to one
-pub none_below : (flat : Flat) (limits : Limits) → KeepsBelow 0 flat limits
-none_below flat limits = KeepsBelow-none flat limits
-
 pub cells_below : (flat : Flat) (limits : Limits) → Keeps E1 flat limits → KeepsBelow 1 flat limits
-cells_below flat limits one = KeepsBelow-more flat limits 0 E1 (omega arith) (none_below flat limits) one
+cells_below flat limits one = KeepsBelow-more flat limits 0 E1 (omega arith) (KeepsBelow-none flat limits) one
 
-pub lines_below : (flat : Flat) (limits : Limits) → Keeps E1 flat limits → Keeps E2 flat limits → KeepsBelow 2 flat limits
+pub lines_below : (flat : Flat) (limits : Limits) → Keeps E1 flat limits → Keeps E2 flat limits
+    → KeepsBelow 2 flat limits
 lines_below flat limits one two = KeepsBelow-more flat limits 1 E2 (omega arith) (cells_below flat limits one) two
 
-pub nets_below : (flat : Flat) (limits : Limits) → Keeps E1 flat limits → Keeps E2 flat limits → Keeps E3 flat limits → KeepsBelow 3 flat limits
-nets_below flat limits one two three = KeepsBelow-more flat limits 2 E3 (omega arith) (lines_below flat limits one two) three
+pub nets_below : (flat : Flat) (limits : Limits) → Keeps E1 flat limits → Keeps E2 flat limits → Keeps E3 flat limits
+    → KeepsBelow 3 flat limits
+nets_below flat limits one two three = KeepsBelow-more flat limits 2 E3 (omega arith)
+    (lines_below flat limits one two) three
 
-pub rows_below : (flat : Flat) (limits : Limits) → Keeps E1 flat limits → Keeps E2 flat limits → Keeps E3 flat limits → Keeps E4 flat limits → KeepsBelow 4 flat limits
-rows_below flat limits one two three four = KeepsBelow-more flat limits 3 E4 (omega arith) (nets_below flat limits one two three) four
+pub rows_below : (flat : Flat) (limits : Limits) → Keeps E1 flat limits → Keeps E2 flat limits → Keeps E3 flat limits
+    → Keeps E4 flat limits → KeepsBelow 4 flat limits
+rows_below flat limits one two three four = KeepsBelow-more flat limits 3 E4 (omega arith)
+    (nets_below flat limits one two three) four
 
 -- no rule is broken first
-pub none_found : (flat : Flat) (found : Option BrokenRule) → FindsRule flat found → ((b : BrokenRule) → found ≡ Some b → ⊥) → KeepsFive flat
+pub none_found : (flat : Flat) (found : Option BrokenRule) → FindsRule flat found
+    → ((b : BrokenRule) → found ≡ Some b → ⊥) → KeepsFive flat
 none_found flat None finds none = finds
 none_found flat (Some b) finds none = absurd (none b refl)

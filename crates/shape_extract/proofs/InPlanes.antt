@@ -1,9 +1,10 @@
 -- A query of a plane: what it finds, and that shapes that pass a test of that plane are among them.
-use Rattle.std.proofs.Common.{◌≡◌, ℕ, zero, suc, ◌+◌, ◌<◌, ◌≤◌, ◌⊎◌, ◌&&◌, ◌||◌, Bool, true, false, List, [], ◌++◌, length, Some, refl, sym, ap, subst, ◌∙◌, arith, inl, inr}
+use Rattle.std.proofs.Common.{◌≡◌, ℕ, zero, suc, ◌+◌, ◌<◌, ◌≤◌, ◌&&◌, ◌||◌, Bool, true, false, List, [], ◌++◌, length}
+use Rattle.std.proofs.Common.{Some, refl, sym, ap, subst, ◌∙◌, arith, inl, inr}
 use Rattle.std.specs.Prelude.{◌-◌, ◌==◌, slice_get, slice_index, slice_set, All, Contains}
 use Rattle.std.specs.List.{filter}
 use Rattle.std.proofs.Math.ListN.{get_or-append, length-append, length-set}
-use Rattle.std.proofs.lemmas.Bool.{cases_eq, cases_lt, and_from, and_parts, eqb-true}
+use Rattle.std.proofs.lemmas.Bool.{cases_eq, cases_lt, and_from, and_parts, eqb-true, or_cases}
 use Rattle.std.proofs.lemmas.Grind.{get_or_default_zero}
 use Rattle.std.proofs.lemmas.List.{get_or-append-add, get_or-set_same, get_or-set_other, length-map}
 use Rattle.std.proofs.lemmas.Option.{same_Some, slice_get_within}
@@ -90,7 +91,8 @@ module _ (plane : Plane) (shapes : List Shape) (filed : FiledPlane) (is : IsPlan
   found_within : (k : ℕ) → k < length found → slice_index found k < length shapes
   found_within k lt =
       let lk : k < length near = omega (arith, named.long) in
-      let e : slice_index found k ≡ slice_index filed.numbers.items (slice_index near k) = named.each k lk (place_within k lk) in
+      let e : slice_index found k ≡ slice_index filed.numbers.items (slice_index near k) =
+      named.each k lk (place_within k lk) in
       let p : PassesIn (in_plane plane) shapes (slice_index filed.numbers.items (slice_index near k)) =
       is.those.each (slice_index near k) (place_within k lk) in
       omega (arith, slice_get_within shapes (slice_index filed.numbers.items (slice_index near k)) p.item p.item_is)
@@ -121,8 +123,10 @@ module _ (plane : Plane) (shapes : List Shape) (filed : FiledPlane) (is : IsPlan
     rising = λ k lt.
         let lk : k + 1 < length near = omega (arith, named.long) in
         let less : slice_index near k < slice_index near (k + 1) = are.rising k lk in
-        let a : slice_index found k ≡ slice_index filed.numbers.items (slice_index near k) = named.each k (omega arith) (place_within k (omega arith)) in
-        let b : slice_index found (k + 1) ≡ slice_index filed.numbers.items (slice_index near (k + 1)) = named.each (k + 1) lk (place_within (k + 1) lk) in
+        let a : slice_index found k ≡ slice_index filed.numbers.items (slice_index near k) = named.each k (omega arith)
+        (place_within k (omega arith)) in
+        let b : slice_index found (k + 1) ≡ slice_index filed.numbers.items (slice_index near (k + 1)) = named.each
+        (k + 1) lk (place_within (k + 1) lk) in
         omega (arith, is.those.rising (slice_index near k) (slice_index near (k + 1)) less (place_within (k + 1) lk));
     proper = λ n s at in_it.
         let p = own_place n s at in_it in
@@ -160,10 +164,6 @@ passing_in_plane test plane shapes here margin near found of_plane close are fil
 
 -- ---- which plane a test asks for
 
-or_cases : (a b : Bool) → (a || b) ≡ true → (a ≡ true) ⊎ (b ≡ true)
-or_cases true b h = inl refl
-or_cases false b h = inr h
-
 pub pin_pinned : (frame pin : Shape) → holds_pin frame pin ≡ true → in_plane Pins pin ≡ true
 pin_pinned frame pin h =
     let p = and_parts (is_pin pin && is_frame frame) (within pin.rect frame.rect) h in
@@ -194,7 +194,8 @@ output_pinned layer e = rw e refl
 
 pub marked_pinned : (label : Label) (pin : Shape) → marks label pin ≡ true → in_plane Pins pin ≡ true
 marked_pinned label pin h =
-    let p = and_parts (label.layer == LABELS && pin.layer == marked_layer label) (holds_point pin.rect label.x label.y) h in
+    let p = and_parts (label.layer == LABELS && pin.layer == marked_layer label)
+    (holds_point pin.rect label.x label.y) h in
     let q = and_parts (label.layer == LABELS) (pin.layer == marked_layer label) p.0 in
     by_letter (slice_index label.text 0 == letter_i) refl (eqb-true pin.layer (marked_layer label) q.1)
   where
@@ -261,10 +262,12 @@ module _ (shapes : List Shape) (from : ℕ) (first : Shape) (is : slice_get shap
       }
 
   at_lower : (p : ℕ) → p < length lower → slice_index ((lower ++ vias) ++ upper) p ≡ slice_index lower p
-  at_lower p lt = get_or-append (lower ++ vias) upper 0 p (omega (arith, length-append lower vias)) ∙ get_or-append lower vias 0 p lt
+  at_lower p lt = get_or-append (lower ++ vias) upper 0 p (omega (arith, length-append lower vias))
+      ∙ get_or-append lower vias 0 p lt
 
   at_vias : (p : ℕ) → p < length vias → slice_index ((lower ++ vias) ++ upper) (length lower + p) ≡ slice_index vias p
-  at_vias p lt = get_or-append (lower ++ vias) upper 0 (length lower + p) (omega (arith, length-append lower vias)) ∙ get_or-append-add lower vias p 0
+  at_vias p lt = get_or-append (lower ++ vias) upper 0 (length lower + p) (omega (arith, length-append lower vias))
+      ∙ get_or-append-add lower vias p 0
 
   at_upper : (p : ℕ) → p < length upper
       → slice_index ((lower ++ vias) ++ upper) (length (lower ++ vias) + p) ≡ slice_index upper p
@@ -322,8 +325,10 @@ module _ (shapes : List Shape) (from : ℕ) (first : Shape) (is : slice_get shap
               (length lower + k.0, (omega (arith, long, k.1.0), at_vias k.0 k.1.0 ∙ k.1.1))
         ]
         | inr h ↦
-            let k = in_upper.complete n (wanted_in (is_upper first || is_via first) Upper n s at h t) in
-            (length (lower ++ vias) + k.0, (omega (arith, long, length-append lower vias, k.1.0), at_upper k.0 k.1.0 ∙ k.1.1))
+            let k = in_upper.complete n (wanted_in (is_upper first || is_via first) Upper n s at h t) in (
+              length (lower ++ vias) + k.0,
+              (omega (arith, long, length-append lower vias, k.1.0), at_upper k.0 k.1.0 ∙ k.1.1),
+            )
       ]
 
   pub touching_from : AreTouching shapes from ((lower ++ vias) ++ upper)
@@ -348,10 +353,12 @@ none_wanted plane from shapes found none = subst (AreThose (PassesIn (touches_in
 -- ---- how many shapes lie in a plane
 
 -- a number at a place is no less than the place, where the numbers rise
-place_below : (numbers : List ℕ) → ((p q : ℕ) → p < q → q < length numbers → slice_index numbers p < slice_index numbers q)
+place_below : (numbers : List ℕ)
+    → ((p q : ℕ) → p < q → q < length numbers → slice_index numbers p < slice_index numbers q)
     → (k : ℕ) → k < length numbers → k ≤ slice_index numbers k
 place_below numbers rising zero lt = omega arith
-place_below numbers rising (suc k) lt = omega (arith, place_below numbers rising k (omega arith), rising k (suc k) (omega arith) lt)
+place_below numbers rising (suc k) lt =
+    omega (arith, place_below numbers rising k (omega arith), rising k (suc k) (omega arith) lt)
 
 pub few_in_plane : (test : Shape → Bool) (shapes : List Shape) (numbers : List ℕ) (some : List Shape)
     → AreThose (PassesIn test shapes) numbers → AreAt shapes numbers some → length some ≤ length shapes

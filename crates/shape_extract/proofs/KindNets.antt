@@ -1,12 +1,14 @@
 -- The nets of all shapes by those of their kinds: shapes of one kind are joined where some shape touches them.
-use Rattle.std.proofs.Common.{◌≡◌, ℕ, ◌<◌, ◌≤◌, Bool, true, false, cond, List, [], ◌∷◌, length, Some, refl, sym, ap, subst, ◌∙◌, arith, inl, inr}
+use Rattle.std.proofs.Common.{◌≡◌, ℕ, ◌<◌, ◌≤◌, Bool, true, false, cond, List, [], ◌∷◌, length, Some, refl, sym, ap}
+use Rattle.std.proofs.Common.{subst, ◌∙◌, arith, inl, inr}
 use Rattle.std.specs.Prelude.{slice_get, slice_index}
 use Rattle.std.proofs.lemmas.Bool.{cases_eq}
 use Rattle.std.proofs.lemmas.Option.{slice_get_within}
 use Rattle.geom.specs.declared.shapes.Shape.{Shape}
 use Rattle.layout_rules.specs.Touch.{Touching, IsPath, Joined}
 use Rattle.layout_rules.specs.Nets.{AreNets}
-use Rattle.layout_rules.proofs.NetLaws.{Touching-back, Touching-within, Joined-self, Joined-trans, Joined-touching, Joined-within, one_number, AreNets-certified}
+use Rattle.layout_rules.proofs.NetLaws.{Touching-back, Touching-within, Joined-self, Joined-trans, Joined-touching}
+use Rattle.layout_rules.proofs.NetLaws.{Joined-within, one_number, AreNets-certified}
 use Rattle.shape_extract.specs.Searches.{SaysWhether}
 use Rattle.shape_extract.specs.Distinct.{AreAt, StandsFor, ArePlaces}
 use Rattle.shape_extract.specs.Code.Walk.{HasTouching, is_touched, AreTold, net_at}

@@ -1,11 +1,11 @@
 -- Going through the shapes in order, each takes the least number of its kind for its head.
-use Rattle.std.proofs.Common.{◌≡◌, ◌≢◌, ℕ, ◌+◌, ◌-◌, ◌<◌, ◌≤◌, inl, inr, List, [], ◌∷◌, ◌++◌, length, get_or, Some}
+use Rattle.std.proofs.Common.{◌≡◌, ◌≢◌, ℕ, ◌+◌, ◌-◌, ◌<◌, ◌≤◌, inl, inr, List, [], ◌∷◌, ◌++◌, length, Some}
 use Rattle.std.proofs.Common.{sym, ap, subst, ◌∙◌, arith}
 use Rattle.std.specs.Prelude.{slice_get, slice_index}
 use Rattle.std.proofs.Math.ListN.{get_or-append, length-append}
 use Rattle.std.proofs.Math.Seq.{get_or-append_seam}
 use Rattle.std.proofs.lemmas.Bool.{cases_eq, cases_lt}
-use Rattle.std.proofs.lemmas.Option.{same_Some, slice_get_within, slice_get-get_or}
+use Rattle.std.proofs.lemmas.Option.{same_Some, slice_get_within}
 use Rattle.geom.specs.declared.shapes.Shape.{Shape}
 use Rattle.shape_extract.specs.declared.distinct_shapes.Sided.{Sided}
 use Rattle.shape_extract.specs.Distinct.{IsFirst}
@@ -21,11 +21,6 @@ first_least shapes heads n are lt first m within e = elim (cases_lt m n) [
 ]
 
 -- ---- all of them in order
-
--- the shape that an index gives
-pub sided_at : (order : List Sided) (k : ℕ) (s : Sided) → k < length order → s ≡ get_or order k s
-    → slice_get order k ≡ Some s
-sided_at order k s lt is = slice_get-get_or order k s lt ∙ sym (ap Some is)
 
 -- the heads of the first n shapes in order are the least
 pub record HeadsTo (n : ℕ) (shapes : List Shape) (order : List Sided) (heads : List ℕ) : Type 0 where

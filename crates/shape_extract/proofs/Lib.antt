@@ -1,4 +1,4 @@
-mod Each
+pub mod Each
 mod FirstNets
 mod FirstCells
 mod Kept
@@ -25,17 +25,17 @@ pub mod RowEdges
 mod NetLengths
 mod NetWalk
 mod KindNets
-mod FiveRules
+pub mod FiveRules
 mod CornerLists
-mod FramePlaces
+pub mod FramePlaces
 mod Taken
 mod KeptPins
 mod Entries
 mod KeptFacts
-mod NetDrivers
+pub mod NetDrivers
 mod PinMarks
 mod CellFeeds
-mod CellLists
+pub mod CellLists
 mod OutputLists
 mod LineRoutes
 mod LineReach
@@ -43,7 +43,7 @@ mod BarSides
 mod ExcitedEach
 mod LineTurns
 mod Assembled
-mod Partners
+pub mod Partners
 mod MarkTable
 mod PinFrameLists
 mod FramesExist

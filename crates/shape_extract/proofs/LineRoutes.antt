@@ -1,5 +1,6 @@
 -- What the walk along lines keeps, and the routes that it leaves.
-use Rattle.std.proofs.Common.{◌≡◌, ◌≢◌, ℕ, zero, suc, ◌+◌, ◌<◌, ◌≤◌, ◌⊎◌, inl, inr, List, [], ◌∷◌, ◌++◌, length, set, refl, sym, ap, subst, ◌∙◌, arith}
+use Rattle.std.proofs.Common.{◌≡◌, ◌≢◌, ℕ, zero, suc, ◌+◌, ◌<◌, ◌≤◌, ◌⊎◌, inl, inr, List, [], ◌∷◌, ◌++◌, length, set}
+use Rattle.std.proofs.Common.{refl, sym, ap, subst, ◌∙◌, arith}
 use Rattle.std.specs.Prelude.{slice_index}
 use Rattle.std.proofs.lemmas.List.{length-set}
 use Rattle.std.proofs.lemmas.Bool.{cases_eq, cases_lt}
@@ -17,35 +18,45 @@ use Rattle.shape_extract.proofs.NetWalk.{sum_lowered, long_more, old_place, new_
 
 -- what is asked of the shape j that is reached from m
 abbrev Comes : List Shape → List ℕ → ℕ → ℕ → Type 0
-Comes shapes order j m = IsPart shapes START j ⊎ ((p : ℕ) × ((p < length order) × ((slice_index order p ≡ m) × Contact shapes m j)))
+Comes shapes order j m = IsPart shapes START j
+    ⊎ ((p : ℕ) × ((p < length order) × ((slice_index order p ≡ m) × Contact shapes m j)))
 
-module _ (shapes : List Shape) (before order : List ℕ) (j m : ℕ) (w : IsLineWalk shapes before order) (lj : j < length shapes) (lm : m < length shapes) (free : length shapes ≤ slice_index before j) where
+module _ (shapes : List Shape) (before order : List ℕ) (j m : ℕ) (w : IsLineWalk shapes before order)
+    (lj : j < length shapes) (lm : m < length shapes) (free : length shapes ≤ slice_index before j) where
   lj2 : j < length before
   lj2 = omega (arith, w.long)
 
   -- no shape of the order is new
   not_new : (p : ℕ) → p < length order → slice_index order p ≢ j
-  not_new p lp e = absurd (let f : slice_index before (slice_index order p) ≡ slice_index before j = ap (slice_index before) e in omega (arith, w.reached p lp))
+  not_new p lp e = absurd (let f : slice_index before (slice_index order p) ≡ slice_index before j =
+      ap (slice_index before) e in omega (arith, w.reached p lp))
 
   last_is : (p : ℕ) → length order ≤ p → p < length (order ++ (j ∷ [])) → slice_index (order ++ (j ∷ [])) p ≡ j
-  last_is p ge lp = let e : p ≡ length order = omega (arith, long_more order j) in ap (slice_index (order ++ (j ∷ []))) e ∙ new_place order j
+  last_is p ge lp = let e : p ≡ length order =
+      omega (arith, long_more order j) in ap (slice_index (order ++ (j ∷ []))) e ∙ new_place order j
 
-  same_before : (p : ℕ) → p < length order → slice_index (set before j m) (slice_index (order ++ (j ∷ [])) p) ≡ slice_index before (slice_index order p)
-  same_before p lt = ap (slice_index (set before j m)) (old_place order j p lt) ∙ off_set before j m (slice_index order p) (not_new p lt)
+  same_before : (p : ℕ) → p < length order
+      → slice_index (set before j m) (slice_index (order ++ (j ∷ [])) p) ≡ slice_index before (slice_index order p)
+  same_before p lt = ap (slice_index (set before j m)) (old_place order j p lt)
+      ∙ off_set before j m (slice_index order p) (not_new p lt)
 
-  still_follows : (p : ℕ) → p < length order → Follows shapes before order p → Follows shapes (set before j m) (order ++ (j ∷ [])) p
+  still_follows : (p : ℕ) → p < length order → Follows shapes before order p
+      → Follows shapes (set before j m) (order ++ (j ∷ [])) p
   still_follows p lt f =
       let earlier : f.earlier < length order = omega (arith, f.is_earlier) in
-      let there : slice_index (order ++ (j ∷ [])) f.earlier ≡ slice_index order f.earlier = old_place order j f.earlier earlier in
+      let there : slice_index (order ++ (j ∷ [])) f.earlier ≡ slice_index order f.earlier =
+      old_place order j f.earlier earlier in
       let here : slice_index (order ++ (j ∷ [])) p ≡ slice_index order p = old_place order j p lt in
       record {
         earlier = f.earlier;
         is_earlier = f.is_earlier;
         number_is = there ∙ (f.number_is ∙ sym (same_before p lt));
-        contact = subst (λ (x : ℕ). Contact shapes x (slice_index (order ++ (j ∷ [])) p)) (sym there) (subst (λ (x : ℕ). Contact shapes (slice_index order f.earlier) x) (sym here) f.contact);
+        contact = subst (λ (x : ℕ). Contact shapes x (slice_index (order ++ (j ∷ [])) p)) (sym there)
+            (subst (λ (x : ℕ). Contact shapes (slice_index order f.earlier) x) (sym here) f.contact);
       }
 
-  new_comes : Comes shapes order j m → (p : ℕ) → length order ≤ p → p < length (order ++ (j ∷ [])) → IsPart shapes START (slice_index (order ++ (j ∷ [])) p) ⊎ Follows shapes (set before j m) (order ++ (j ∷ [])) p
+  new_comes : Comes shapes order j m → (p : ℕ) → length order ≤ p → p < length (order ++ (j ∷ []))
+      → IsPart shapes START (slice_index (order ++ (j ∷ [])) p) ⊎ Follows shapes (set before j m) (order ++ (j ∷ [])) p
   new_comes comes p ge lp = elim comes [
     | inl start ↦ inl (subst (IsPart shapes START) (sym (last_is p ge lp)) start)
     | inr from ↦
@@ -54,7 +65,8 @@ module _ (shapes : List Shape) (before order : List ℕ) (j m : ℕ) (w : IsLine
           earlier = from.0;
           is_earlier = omega (arith, from.1.0);
           number_is = there ∙ sym (at_set before j m (slice_index (order ++ (j ∷ [])) p) (last_is p ge lp) lj2);
-          contact = subst (λ (x : ℕ). Contact shapes x (slice_index (order ++ (j ∷ [])) p)) (sym there) (subst (λ (x : ℕ). Contact shapes m x) (sym (last_is p ge lp)) from.1.1.1);
+          contact = subst (λ (x : ℕ). Contact shapes x (slice_index (order ++ (j ∷ [])) p)) (sym there)
+              (subst (λ (x : ℕ). Contact shapes m x) (sym (last_is p ge lp)) from.1.1.1);
         })
   ]
 
@@ -77,7 +89,8 @@ module _ (shapes : List Shape) (before order : List ℕ) (j m : ℕ) (w : IsLine
     ];
     once = λ p q lt lq. elim (cases_lt q (length order)) [
       | inl less ↦ λ e. w.once p q lt less (sym (old_place order j p (omega arith)) ∙ (e ∙ old_place order j q less))
-      | inr ge ↦ λ e. (let lp : p < length order = omega (arith, long_more order j) in not_new p lp (sym (old_place order j p lp) ∙ (e ∙ last_is q ge lq)))
+      | inr ge ↦ λ e. (let lp : p < length order = omega (arith, long_more order j) in not_new p lp
+          (sym (old_place order j p lp) ∙ (e ∙ last_is q ge lq)))
     ];
     come = λ p lp. elim (cases_lt p (length order)) [
       | inl lt ↦ elim (w.come p lt) [
@@ -90,12 +103,24 @@ module _ (shapes : List Shape) (before order : List ℕ) (j m : ℕ) (w : IsLine
 
 -- ---- the contacts of one shape
 
-pub spread_none : (shapes : List Shape) (numbers before order : List ℕ) → IsLineWalk shapes before order → IsSpreadAlong 0 shapes numbers before order before order
-spread_none shapes numbers before order w = record { walk = w; kept = λ k lk. refl; reached = λ p lp. absurd (omega arith); longer = omega arith; prefix = λ p lp. refl; less = omega arith }
+pub spread_none : (shapes : List Shape) (numbers before order : List ℕ) → IsLineWalk shapes before order
+    → IsSpreadAlong 0 shapes numbers before order before order
+spread_none shapes numbers before order w = record {
+  walk = w;
+  kept = λ k lk. refl;
+  reached =
+      λ p lp. absurd (omega arith);
+  longer = omega arith;
+  prefix = λ p lp. refl;
+  less = omega arith;
+}
 
-module _ (shapes : List Shape) (numbers before order new more : List ℕ) (from i : ℕ) (s : IsSpreadAlong i shapes numbers before order new more) where
-  pub spread_new : from < length shapes → slice_index before from < length shapes → length shapes ≤ slice_index new (slice_index numbers i) → Contact shapes from (slice_index numbers i)
-      → IsSpreadAlong (i + 1) shapes numbers before order (set new (slice_index numbers i) from) (more ++ (slice_index numbers i ∷ []))
+module _ (shapes : List Shape) (numbers before order new more : List ℕ) (from i : ℕ)
+    (s : IsSpreadAlong i shapes numbers before order new more) where
+  pub spread_new : from < length shapes → slice_index before from < length shapes
+      → length shapes ≤ slice_index new (slice_index numbers i) → Contact shapes from (slice_index numbers i)
+      → IsSpreadAlong (i + 1) shapes numbers before order (set new (slice_index numbers i) from)
+      (more ++ (slice_index numbers i ∷ []))
   spread_new lf reached free contact =
       let j : ℕ = slice_index numbers i in
       let lj : j < length shapes = slice_get_within shapes j contact.second contact.second_is in
@@ -104,7 +129,9 @@ module _ (shapes : List Shape) (numbers before order new more : List ℕ) (from 
       let at = s.walk.placed from lf (omega arith) in
       record {
         walk = reach shapes new more j from s.walk lj lf free (inr (at.0, (at.1.0, (at.1.1, contact))));
-        kept = λ k lk. off_set new j from k (λ e. absurd (let f : slice_index new k ≡ slice_index new j = ap (slice_index new) e in omega (arith, s.kept k lk))) ∙ s.kept k lk;
+        kept = λ k lk. off_set new j from k
+            (λ e. absurd (let f : slice_index new k ≡ slice_index new j = ap (slice_index new) e in omega
+            (arith, s.kept k lk))) ∙ s.kept k lk;
         reached = λ p lp. elim (cases_eq (slice_index numbers p) j) [
           | inl e ↦ omega (arith, at_set new j from (slice_index numbers p) e ln)
           | inr ne ↦ elim (cases_eq p i) [
@@ -117,11 +144,16 @@ module _ (shapes : List Shape) (numbers before order new more : List ℕ) (from 
         less = omega (arith, long_more more j, sum_lowered new j from ln (omega arith), s.less);
       }
 
-  pub spread_old : slice_index new (slice_index numbers i) < length shapes → IsSpreadAlong (i + 1) shapes numbers before order new more
+  pub spread_old : slice_index new (slice_index numbers i) < length shapes
+      → IsSpreadAlong (i + 1) shapes numbers before order new more
   spread_old here = record {
     walk = s.walk;
     kept = s.kept;
-    reached = λ p lp. elim (cases_eq p i) [ inl e ↦ subst (λ (x : ℕ). slice_index new (slice_index numbers x) < length shapes) (sym e) here | inr ne ↦ s.reached p (omega arith) ];
+    reached = λ p lp. elim (cases_eq p i) [
+      | inl e ↦ subst (λ (x : ℕ). slice_index new (slice_index numbers x) < length shapes)
+          (sym e) here
+      | inr ne ↦ s.reached p (omega arith)
+    ];
     longer = s.longer;
     prefix = s.prefix;
     less = s.less;
@@ -129,11 +161,14 @@ module _ (shapes : List Shape) (numbers before order new more : List ℕ) (from 
 
 -- ---- the contacts of the next shape of the order
 
-pub contacts_more : (shapes : List Shape) (numbers before order new more : List ℕ) (done : ℕ) → IsLineWalk shapes before order → HasContacts shapes before order done → done < length order
-    → AreThose (Contact shapes (slice_index order done)) numbers → IsSpreadAlong (length numbers) shapes numbers before order new more → HasContacts shapes new more (done + 1)
+pub contacts_more : (shapes : List Shape) (numbers before order new more : List ℕ) (done : ℕ)
+    → IsLineWalk shapes before order → HasContacts shapes before order done → done < length order
+    → AreThose (Contact shapes (slice_index order done)) numbers
+    → IsSpreadAlong (length numbers) shapes numbers before order new more → HasContacts shapes new more (done + 1)
 contacts_more shapes numbers before order new more done w so_far ld are s p j lp contact =
     let lo : p < length order = omega arith in
-    let there : Contact shapes (slice_index order p) j = subst (λ (x : ℕ). Contact shapes x j) (s.prefix p lo) contact in
+    let there : Contact shapes (slice_index order p) j = subst (λ (x : ℕ). Contact shapes x j)
+    (s.prefix p lo) contact in
     elim (cases_eq p done) [
       | inl e ↦
           let k = are.complete j (subst (λ (x : ℕ). Contact shapes (slice_index order x) j) e there) in
@@ -141,8 +176,10 @@ contacts_more shapes numbers before order new more done w so_far ld are s p j lp
       | inr ne ↦ let known = so_far p j (omega arith) there in omega (arith, s.kept j known)
     ]
 
-pub starts_still : (shapes : List Shape) (numbers before order new more : List ℕ) (n : ℕ) → HasStarts shapes before → IsSpreadAlong n shapes numbers before order new more → HasStarts shapes new
-starts_still shapes numbers before order new more n starts s i start = let known = starts i start in omega (arith, s.kept i known)
+pub starts_still : (shapes : List Shape) (numbers before order new more : List ℕ) (n : ℕ) → HasStarts shapes before
+    → IsSpreadAlong n shapes numbers before order new more → HasStarts shapes new
+starts_still shapes numbers before order new more n starts s i start = let known =
+    starts i start in omega (arith, s.kept i known)
 
 -- ---- the starts
 
@@ -151,7 +188,8 @@ pub record IsBegunTo (n : ℕ) (shapes : List Shape) (before order : List ℕ) :
   pub starts : (k : ℕ) → k < n → IsPart shapes START k → slice_index before k < length shapes
   pub later : (k : ℕ) → n ≤ k → k < length shapes → slice_index before k ≡ length shapes
 
-pub begun_none : (shapes : List Shape) (before order : List ℕ) → length order ≡ 0 → length before ≡ length shapes → ((k : ℕ) → k < length shapes → slice_index before k ≡ length shapes) → IsBegunTo 0 shapes before order
+pub begun_none : (shapes : List Shape) (before order : List ℕ) → length order ≡ 0 → length before ≡ length shapes
+    → ((k : ℕ) → k < length shapes → slice_index before k ≡ length shapes) → IsBegunTo 0 shapes before order
 begun_none shapes before order empty long none = record {
   walk = record {
     long = long;
@@ -165,7 +203,8 @@ begun_none shapes before order empty long none = record {
   later = λ k ge lk. none k lk;
 }
 
-module _ (shapes : List Shape) (before order : List ℕ) (n : ℕ) (b : IsBegunTo n shapes before order) (ln : n < length shapes) where
+module _ (shapes : List Shape) (before order : List ℕ) (n : ℕ) (b : IsBegunTo n shapes before order)
+    (ln : n < length shapes) where
   pub begun_start : IsPart shapes START n → IsBegunTo (n + 1) shapes (set before n n) (order ++ (n ∷ []))
   begun_start start =
       let lb : n < length before = omega (arith, b.walk.long) in
@@ -181,19 +220,26 @@ module _ (shapes : List Shape) (before order : List ℕ) (n : ℕ) (b : IsBegunT
   pub begun_other : (IsPart shapes START n → ⊥) → IsBegunTo (n + 1) shapes before order
   begun_other not_so = record {
     walk = b.walk;
-    starts = λ k lk is. elim (cases_eq k n) [ inl e ↦ absurd (not_so (subst (IsPart shapes START) e is)) | inr ne ↦ b.starts k (omega arith) is ];
+    starts = λ k lk is. elim (cases_eq k n) [
+      | inl e ↦ absurd
+          (not_so (subst (IsPart shapes START) e is))
+      | inr ne ↦ b.starts k (omega arith) is
+    ];
     later = λ k ge lk. b.later k (omega arith) lk;
   }
 
-pub begun_all : (shapes : List Shape) (before order : List ℕ) (n : ℕ) → length shapes ≤ n → IsBegunTo n shapes before order → IsBegun shapes before order
+pub begun_all : (shapes : List Shape) (before order : List ℕ) (n : ℕ) → length shapes ≤ n
+    → IsBegunTo n shapes before order → IsBegun shapes before order
 begun_all shapes before order n all b = record {
   walk = b.walk;
-  starts = λ i start. (let lt : i < length shapes = slice_get_within shapes i start.shape start.shape_is in b.starts i (omega arith) start);
+  starts = λ i start. (let lt : i < length shapes =
+      slice_get_within shapes i start.shape start.shape_is in b.starts i (omega arith) start);
 }
 
 -- ---- routes
 
-onward_more : (b a : ℕ) (rest : List ℕ) → NeverTurnsBack (a ∷ rest) → ((c : ℕ) (more : List ℕ) → rest ≡ c ∷ more → b ≢ c) → NeverTurnsBack (b ∷ a ∷ rest)
+onward_more : (b a : ℕ) (rest : List ℕ) → NeverTurnsBack (a ∷ rest)
+    → ((c : ℕ) (more : List ℕ) → rest ≡ c ∷ more → b ≢ c) → NeverTurnsBack (b ∷ a ∷ rest)
 onward_more b a [] onward apart = tt
 onward_more b a (c ∷ rest) onward apart = (apart c rest refl, onward)
 
@@ -205,7 +251,8 @@ module _ (shapes : List Shape) (before order : List ℕ) (w : IsLineWalk shapes 
     pub onward : NeverTurnsBack (slice_index order p ∷ rest)
     pub back : (c : ℕ) (more : List ℕ) → rest ≡ c ∷ more → (q : ℕ) × ((q < p) × (slice_index order q ≡ c))
 
-  before_from : (p : ℕ) → p < length order → (f : Follows shapes before order p) → Route f.earlier → ChainBefore shapes (slice_index order f.earlier) (slice_index order p)
+  before_from : (p : ℕ) → p < length order → (f : Follows shapes before order p) → Route f.earlier
+      → ChainBefore shapes (slice_index order f.earlier) (slice_index order p)
   before_from p lp f r = record {
     rest = r.rest;
     chain = (f.contact, r.chain);
@@ -228,14 +275,17 @@ module _ (shapes : List Shape) (before order : List ℕ) (w : IsLineWalk shapes 
         }
   ]
 
-  come_from : (p : ℕ) → p < length order → IsPart shapes START (slice_index order p) ⊎ ChainBefore shapes (slice_index before (slice_index order p)) (slice_index order p)
+  come_from : (p : ℕ) → p < length order → IsPart shapes START (slice_index order p)
+      ⊎ ChainBefore shapes (slice_index before (slice_index order p)) (slice_index order p)
   come_from p lp = elim (w.come p lp) [
     | inl start ↦ inl start
-    | inr f ↦ inr (subst (λ (x : ℕ). ChainBefore shapes x (slice_index order p)) f.number_is (before_from p lp f (route (suc f.earlier) f.earlier (omega arith) (omega (arith, f.is_earlier)))))
+    | inr f ↦ inr (subst (λ (x : ℕ). ChainBefore shapes x (slice_index order p)) f.number_is
+        (before_from p lp f (route (suc f.earlier) f.earlier (omega arith) (omega (arith, f.is_earlier)))))
   ]
 
   -- what a chain leads to is reached
-  chain_reached : HasStarts shapes before → HasContacts shapes before order (length order) → (i : ℕ) (rest : List ℕ) → IsChain shapes (i ∷ rest) → slice_index before i < length shapes
+  chain_reached : HasStarts shapes before → HasContacts shapes before order (length order) → (i : ℕ) (rest : List ℕ)
+      → IsChain shapes (i ∷ rest) → slice_index before i < length shapes
   chain_reached starts contacts i [] start = starts i start
   chain_reached starts contacts b (a ∷ rest) chain =
       let known : slice_index before a < length shapes = chain_reached starts contacts a rest chain.1 in
@@ -243,12 +293,14 @@ module _ (shapes : List Shape) (before order : List ℕ) (w : IsLineWalk shapes 
       let p = w.placed a la known in
       contacts p.0 b p.1.0 (subst (λ (x : ℕ). Contact shapes x b) (sym p.1.1) chain.0)
 
-  pub walked : HasStarts shapes before → (done : ℕ) → length order ≤ done → HasContacts shapes before order done → AreWalked shapes before
+  pub walked : HasStarts shapes before → (done : ℕ) → length order ≤ done → HasContacts shapes before order done
+      → AreWalked shapes before
   walked starts done all contacts = record {
     long = w.long;
     all = λ i reached. chain_reached starts (λ p j lp k. contacts p j (omega arith) k) i reached.rest reached.chain;
     come = λ i known li. (
         let p = w.placed i li known in
-        subst (λ (x : ℕ). IsPart shapes START x ⊎ ChainBefore shapes (slice_index before x) x) p.1.1 (come_from p.0 p.1.0)
+        subst (λ (x : ℕ). IsPart shapes START x
+        ⊎ ChainBefore shapes (slice_index before x) x) p.1.1 (come_from p.0 p.1.0)
         );
   }

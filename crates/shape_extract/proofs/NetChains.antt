@@ -21,10 +21,12 @@ pub record LinkedFrom (n : ℕ) (nets heads next : List ℕ) : Type 0 where
   pub each : (x : ℕ) → n ≤ x → x < length nets → IsNextFrom nets (x + 1) (slice_index nets x) (slice_index next x)
 
 -- each net goes by the number of a shape
-pub net_within : (shapes : List Shape) (nets : List ℕ) → AreNets shapes nets → (x : ℕ) → x < length nets → slice_index nets x < length nets
+pub net_within : (shapes : List Shape) (nets : List ℕ) → AreNets shapes nets → (x : ℕ) → x < length nets
+    → slice_index nets x < length nets
 net_within shapes nets are x lt =
     let x_lt : x < length shapes = omega (arith, are.long) in
-    let net_lt : slice_index nets x < length shapes = Joined-within shapes x (slice_index nets x) x_lt (are.joined x x_lt) in
+    let net_lt : slice_index nets x < length shapes = Joined-within shapes x
+    (slice_index nets x) x_lt (are.joined x x_lt) in
     omega (arith, are.long)
 
 -- ---- the walk along a chain
@@ -35,22 +37,28 @@ pub record WalkedTo (shapes : List Shape) (nets : List ℕ) (layer a b : ℕ) (f
   pub within : b ≤ length shapes
   pub those : AreThoseBelow b (IsPinIn shapes layer a) found
 
-module _ (shapes : List Shape) (nets : List ℕ) (are_nets : AreNets shapes nets) (layer a : ℕ) (a_lt : a < length shapes) where
+module _ (shapes : List Shape) (nets : List ℕ) (are_nets : AreNets shapes nets) (layer a : ℕ)
+    (a_lt : a < length shapes) where
   pub walk_begun : WalkedTo shapes nets layer a (slice_index nets a) []
   walk_begun = record {
     of_net = λ lt. sym (one_number shapes nets are_nets a (slice_index nets a) a_lt (are_nets.joined a a_lt));
-    within = (let lt : slice_index nets a < length shapes = Joined-within shapes a (slice_index nets a) a_lt (are_nets.joined a a_lt) in omega arith);
+    within = (let lt : slice_index nets a < length shapes = Joined-within shapes a (slice_index nets a) a_lt
+        (are_nets.joined a a_lt) in omega arith);
     those = record {
       each = λ p lp. absurd (omega arith);
-      complete = λ m lm pin. absurd (let least : slice_index nets a ≤ m = are_nets.least a m a_lt pin.joined in omega arith);
+      complete = λ m lm pin. absurd
+          (let least : slice_index nets a ≤ m = are_nets.least a m a_lt pin.joined in omega arith);
       below = λ p lp. absurd (omega arith);
       rising = λ p q lt lq. absurd (omega arith);
     };
   }
 
-  module _ (b : ℕ) (found : List ℕ) (walked : WalkedTo shapes nets layer a b found) (b_lt : b < length shapes) (here : Shape) (got : slice_get shapes b ≡ Some here) (y : ℕ) (next : IsNextFrom nets (b + 1) (slice_index nets b) y) where
+  module _ (b : ℕ) (found : List ℕ) (walked : WalkedTo shapes nets layer a b found) (b_lt : b < length shapes)
+      (here : Shape) (got : slice_get shapes b ≡ Some here) (y : ℕ)
+      (next : IsNextFrom nets (b + 1) (slice_index nets b) y) where
     -- nothing of the net is between
-    gone_on : (more : List ℕ) → AreThoseBelow (b + 1) (IsPinIn shapes layer a) more → WalkedTo shapes nets layer a y more
+    gone_on : (more : List ℕ) → AreThoseBelow (b + 1) (IsPinIn shapes layer a) more
+        → WalkedTo shapes nets layer a y more
     gone_on more those = record {
       of_net = λ lt. next.of_net (omega (arith, are_nets.long)) ∙ walked.of_net b_lt;
       within = omega (arith, next.within, are_nets.long);
@@ -58,7 +66,8 @@ module _ (shapes : List Shape) (nets : List ℕ) (are_nets : AreNets shapes nets
         each = those.each;
         complete = λ m lm pin. elim (cases_lt m (b + 1)) [
           | inl less ↦ those.complete m less pin
-          | inr more_than ↦ absurd (next.none_between m more_than lm (sym (pin_in_net shapes nets layer a m are_nets a_lt pin) ∙ sym (walked.of_net b_lt)))
+          | inr more_than ↦ absurd (next.none_between m more_than lm
+              (sym (pin_in_net shapes nets layer a m are_nets a_lt pin) ∙ sym (walked.of_net b_lt)))
         ];
         below = λ p lp. omega (arith, those.below p lp, next.above);
         rising = those.rising;
@@ -66,10 +75,16 @@ module _ (shapes : List Shape) (nets : List ℕ) (are_nets : AreNets shapes nets
     }
 
     pub walked_more : here.layer ≡ layer → WalkedTo shapes nets layer a y (found ++ b ∷ [])
-    walked_more of = gone_on (found ++ b ∷ []) (those_more (IsPinIn shapes layer a) b found walked.those (pin_in_yes shapes nets layer a b here are_nets a_lt b_lt got of (sym (walked.of_net b_lt))))
+    walked_more of = gone_on (found ++ b ∷ [])
+        (those_more (IsPinIn shapes layer a) b found walked.those
+        (pin_in_yes shapes nets layer a b here are_nets a_lt b_lt got of (sym (walked.of_net b_lt))))
 
     pub walked_past : here.layer ≢ layer → WalkedTo shapes nets layer a y found
-    walked_past ne = gone_on found (those_same (IsPinIn shapes layer a) b found walked.those (λ pin. ne (pin_in_layer shapes layer a b here got pin)))
+    walked_past ne = gone_on found
+        (those_same (IsPinIn shapes layer a) b found walked.those
+        (λ pin. ne (pin_in_layer shapes layer a b here got pin)))
 
-  pub walked_all : (b : ℕ) (found : List ℕ) → length shapes ≤ b → WalkedTo shapes nets layer a b found → AreThose (IsPinIn shapes layer a) found
-  walked_all b found all walked = those_all (IsPinIn shapes layer a) (length shapes) b found walked.those all (λ m pin. slice_get_within shapes m pin.pin pin.pin_is)
+  pub walked_all : (b : ℕ) (found : List ℕ) → length shapes ≤ b → WalkedTo shapes nets layer a b found
+      → AreThose (IsPinIn shapes layer a) found
+  walked_all b found all walked = those_all (IsPinIn shapes layer a) (length shapes) b found walked.those all
+      (λ m pin. slice_get_within shapes m pin.pin pin.pin_is)

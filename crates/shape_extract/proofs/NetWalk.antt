@@ -1,5 +1,6 @@
 -- What the walk over touching shapes keeps.
-use Rattle.std.proofs.Common.{◌≡◌, ◌≢◌, ℕ, suc, ◌+◌, ◌<◌, ◌≤◌, Bool, true, false, List, [], ◌∷◌, length, set, ◌++◌, refl, sym, ap, subst, ◌∙◌, arith, inl, inr}
+use Rattle.std.proofs.Common.{◌≡◌, ◌≢◌, ℕ, suc, ◌+◌, ◌<◌, ◌≤◌, Bool, true, false, List, [], ◌∷◌, length, set, ◌++◌}
+use Rattle.std.proofs.Common.{refl, sym, ap, subst, ◌∙◌, arith, inl, inr}
 use Rattle.std.specs.Prelude.{nat_lt, slice_index, slice_set, sum}
 use Rattle.std.proofs.lemmas.List.{get_or-set_other, get_or-set_same, length-set}
 use Rattle.std.proofs.Math.ListN.{get_or-append, length-append}
@@ -11,9 +12,11 @@ use Rattle.std.proofs.lemmas.Option.{slice_get_within}
 use Rattle.geom.specs.declared.shapes.Shape.{Shape}
 use Rattle.layout_rules.specs.Touch.{Touching, Joined}
 use Rattle.layout_rules.specs.Nets.{AreNets}
-use Rattle.layout_rules.proofs.NetLaws.{Touching-back, Touching-within, Joined-trans, Joined-touching, AreNets-certified}
+use Rattle.layout_rules.proofs.NetLaws.{Touching-back, Touching-within, Joined-trans, Joined-touching}
+use Rattle.layout_rules.proofs.NetLaws.{AreNets-certified}
 use Rattle.shape_extract.specs.Searches.{SaysWhether}
-use Rattle.shape_extract.specs.Code.Walk.{AreTouching, IsWalk, IsSpreadTo, IsDone, AreMarked, IsLowest, HasTouching, is_touched, IsTold, AreToldTo, AreTold, IsReached}
+use Rattle.shape_extract.specs.Code.Walk.{AreTouching, IsWalk, IsSpreadTo, IsDone, AreMarked, IsLowest, HasTouching}
+use Rattle.shape_extract.specs.Code.Walk.{is_touched, IsTold, AreToldTo, AreTold, IsReached}
 
 pub sum_lowered : (ls : List ℕ) (i v : ℕ) → i < length ls → v < slice_index ls i → sum (set ls i v) < sum ls
 sum_lowered ls i v lt less = omega (arith, sum_by-set (λ x. x) ls i v 0 lt)
@@ -34,15 +37,19 @@ pub off_set : (ls : List ℕ) (j m k : ℕ) → k ≢ j → slice_index (set ls 
 off_set ls j m k ne = get_or-set_other ls j k m 0 ne
 
 -- one more shape is labelled
-pub walk_more : (shapes : List Shape) (labels order : List ℕ) (j m : ℕ) → IsWalk shapes labels order → j < length shapes → m < length shapes → m ≤ j → length shapes ≤ slice_index labels j → Joined shapes j m → IsWalk shapes (set labels j m) (order ++ (j ∷ []))
+pub walk_more : (shapes : List Shape) (labels order : List ℕ) (j m : ℕ) → IsWalk shapes labels order → j < length shapes
+    → m < length shapes → m ≤ j → length shapes ≤ slice_index labels j → Joined shapes j m
+    → IsWalk shapes (set labels j m) (order ++ (j ∷ []))
 walk_more shapes labels order j m w lj marked low free r =
     let lj2 : j < length labels = omega (arith, w.long) in
     record {
       long = length-set labels j m ∙ w.long;
       joined = λ k lk mk. elim (cases_eq k j) [
         | inl e ↦
-            subst (λ (x : ℕ). Joined shapes k x) (sym (at_set labels j m k e lj2)) (subst (λ (x : ℕ). Joined shapes x m) (sym e) r)
-        | inr ne ↦ subst (λ (x : ℕ). Joined shapes k x) (sym (off_set labels j m k ne)) (w.joined k lk (omega (arith, off_set labels j m k ne)))
+            subst (λ (x : ℕ). Joined shapes k x) (sym (at_set labels j m k e lj2))
+            (subst (λ (x : ℕ). Joined shapes x m) (sym e) r)
+        | inr ne ↦ subst (λ (x : ℕ). Joined shapes k x) (sym (off_set labels j m k ne))
+            (w.joined k lk (omega (arith, off_set labels j m k ne)))
       ];
       lower = λ k lk mk. elim (cases_eq k j) [
         | inl e ↦ omega (arith, at_set labels j m k e lj2)
@@ -56,36 +63,52 @@ walk_more shapes labels order j m w lj marked low free r =
       ];
       within = λ p lp. elim (cases_lt p (length order)) [
         | inl lt ↦ omega (arith, old_place order j p lt, w.within p lt)
-        | inr ge ↦ let e : p ≡ length order = omega (arith, long_more order j) in let f : slice_index (order ++ (j ∷ [])) p ≡ j = ap (λ (x : ℕ). slice_index (order ++ (j ∷ [])) x) e ∙ new_place order j in omega arith
+        | inr ge ↦ let e : p ≡ length order = omega (arith, long_more order j) in let f : slice_index
+            (order ++ (j ∷ [])) p ≡ j = ap (λ (x : ℕ). slice_index (order ++ (j ∷ [])) x) e
+            ∙ new_place order j in omega arith
       ];
       labelled = λ p lp. elim (cases_lt p (length order)) [
         | inl lt ↦
             let old = old_place order j p lt in
             let was = w.labelled p lt in
-            let ne : slice_index order p ≢ j = λ e. absurd (let f : slice_index labels (slice_index order p) ≡ slice_index labels j = ap (λ (x : ℕ). slice_index labels x) e in omega arith) in
-            subst (λ (x : ℕ). slice_index (set labels j m) x < length shapes) (sym old) (omega (arith, off_set labels j m (slice_index order p) ne, was))
+            let ne : slice_index order p ≢ j =
+            λ e. absurd (let f : slice_index labels (slice_index order p) ≡ slice_index labels j =
+            ap (λ (x : ℕ). slice_index labels x) e in omega arith) in
+            subst (λ (x : ℕ). slice_index (set labels j m) x < length shapes) (sym old)
+            (omega (arith, off_set labels j m (slice_index order p) ne, was))
         | inr ge ↦
             let e : p ≡ length order = omega (arith, long_more order j) in
-            let f : slice_index (order ++ (j ∷ [])) p ≡ j = ap (λ (x : ℕ). slice_index (order ++ (j ∷ [])) x) e ∙ new_place order j in
+            let f : slice_index (order ++ (j ∷ [])) p ≡ j = ap (λ (x : ℕ). slice_index (order ++ (j ∷ [])) x) e
+            ∙ new_place order j in
             omega (arith, at_set labels j m (slice_index (order ++ (j ∷ [])) p) f lj2)
       ];
     }
 
-pub spread_more : (shapes : List Shape) (numbers labels order new more : List ℕ) (from i : ℕ) → IsSpreadTo i shapes numbers labels order new more from
+pub spread_more : (shapes : List Shape) (numbers labels order new more : List ℕ) (from i : ℕ)
+    → IsSpreadTo i shapes numbers labels order new more from
     → IsLowest shapes labels (slice_index labels from) → from < length shapes → slice_index labels from < length shapes
     → length shapes ≤ slice_index new (slice_index numbers i) → Touching shapes from (slice_index numbers i)
-    → IsSpreadTo (i + 1) shapes numbers labels order (set new (slice_index numbers i) (slice_index labels from)) (more ++ (slice_index numbers i ∷ [])) from
+    → IsSpreadTo (i + 1) shapes numbers labels order (set new (slice_index numbers i) (slice_index labels from))
+    (more ++ (slice_index numbers i ∷ [])) from
 spread_more shapes numbers labels order new more from i s below lf marked free t =
     let j : ℕ = slice_index numbers i in
     let m : ℕ = slice_index labels from in
     let lj : j < length shapes = (Touching-within t).1 in
-    let low : m ≤ j = elim (cases_lt j m) [ inl lt ↦ absurd (omega (arith, below j lt, s.kept j (below j lt))) | inr ge ↦ ge ] in
+    let low : m ≤ j = elim (cases_lt j m) [
+      | inl lt ↦ absurd
+          (omega (arith, below j lt, s.kept j (below j lt)))
+      | inr ge ↦ ge
+    ] in
     let is_new : slice_index new from ≡ m = s.kept from marked in
     let lj2 : j < length new = omega (arith, s.walk.long) in
-    let joined_so : Joined shapes j m = subst (λ (x : ℕ). Joined shapes j x) is_new (Joined-trans shapes j from (slice_index new from) (Joined-touching shapes j from (Touching-back t)) (s.walk.joined from lf (omega arith))) in
+    let joined_so : Joined shapes j m = subst (λ (x : ℕ). Joined shapes j x) is_new
+    (Joined-trans shapes j from (slice_index new from) (Joined-touching shapes j from (Touching-back t))
+    (s.walk.joined from lf (omega arith))) in
     record {
       walk = walk_more shapes new more j m s.walk lj marked low free joined_so;
-      kept = λ k lk. off_set new j m k (λ e. absurd (let f : slice_index new k ≡ slice_index new j = ap (λ (x : ℕ). slice_index new x) e in omega (arith, s.kept k lk))) ∙ s.kept k lk;
+      kept = λ k lk. off_set new j m k
+          (λ e. absurd (let f : slice_index new k ≡ slice_index new j = ap (λ (x : ℕ). slice_index new x) e in omega
+          (arith, s.kept k lk))) ∙ s.kept k lk;
       reached = λ p lp. elim (cases_eq (slice_index numbers p) j) [
         | inl e ↦ omega (arith, at_set new j m (slice_index numbers p) e lj2)
         | inr ne ↦ elim (cases_eq p i) [
@@ -97,33 +120,46 @@ spread_more shapes numbers labels order new more from i s below lf marked free t
       prefix = λ p lp. old_place more j p (omega (arith, s.longer)) ∙ s.prefix p lp;
       marked = λ p ge lp. elim (cases_lt p (length more)) [
         | inl lt ↦
-            let ne : slice_index more p ≢ j = λ e. absurd (let f : slice_index new (slice_index more p) ≡ slice_index new j = ap (λ (x : ℕ). slice_index new x) e in omega (arith, s.walk.labelled p lt)) in
-            ap (λ (x : ℕ). slice_index (set new j m) x) (old_place more j p lt) ∙ off_set new j m (slice_index more p) ne ∙ s.marked p ge lt
+            let ne : slice_index more p ≢ j =
+            λ e. absurd (let f : slice_index new (slice_index more p) ≡ slice_index new j =
+            ap (λ (x : ℕ). slice_index new x) e in omega (arith, s.walk.labelled p lt)) in
+            ap (λ (x : ℕ). slice_index (set new j m) x) (old_place more j p lt)
+            ∙ off_set new j m (slice_index more p) ne ∙ s.marked p ge lt
         | inr h ↦
             let e : p ≡ length more = omega (arith, long_more more j) in
-            let f : slice_index (more ++ (j ∷ [])) p ≡ j = ap (λ (x : ℕ). slice_index (more ++ (j ∷ [])) x) e ∙ new_place more j in
+            let f : slice_index (more ++ (j ∷ [])) p ≡ j = ap (λ (x : ℕ). slice_index (more ++ (j ∷ [])) x) e
+            ∙ new_place more j in
             at_set new j m (slice_index (more ++ (j ∷ [])) p) f lj2
       ];
       less = omega (arith, long_more more j, sum_lowered new j m lj2 (omega arith), s.less);
     }
 
-pub spread_same : (shapes : List Shape) (numbers labels order new more : List ℕ) (from i : ℕ) → IsSpreadTo i shapes numbers labels order new more from
-    → slice_index new (slice_index numbers i) < length shapes → IsSpreadTo (i + 1) shapes numbers labels order new more from
+pub spread_same : (shapes : List Shape) (numbers labels order new more : List ℕ) (from i : ℕ)
+    → IsSpreadTo i shapes numbers labels order new more from
+    → slice_index new (slice_index numbers i) < length shapes
+    → IsSpreadTo (i + 1) shapes numbers labels order new more from
 spread_same shapes numbers labels order new more from i s here = record {
   walk = s.walk;
   kept = s.kept;
-  reached = λ p lp. elim (cases_eq p i) [ inl e ↦ subst (λ (x : ℕ). slice_index new (slice_index numbers x) < length shapes) (sym e) here | inr ne ↦ s.reached p (omega arith) ];
+  reached = λ p lp. elim (cases_eq p i) [
+    | inl e ↦ subst (λ (x : ℕ). slice_index new (slice_index numbers x) < length shapes)
+        (sym e) here
+    | inr ne ↦ s.reached p (omega arith)
+  ];
   longer = s.longer;
   prefix = s.prefix;
   marked = s.marked;
   less = s.less;
 }
 
-pub reached_now : (shapes : List Shape) (labels order new more numbers : List ℕ) (from : ℕ) → AreTouching shapes from numbers → IsSpreadTo (length numbers) shapes numbers labels order new more from → IsReached shapes labels order new more from
+pub reached_now : (shapes : List Shape) (labels order new more numbers : List ℕ) (from : ℕ)
+    → AreTouching shapes from numbers → IsSpreadTo (length numbers) shapes numbers labels order new more from
+    → IsReached shapes labels order new more from
 reached_now shapes labels order new more numbers from are s = record {
   walk = s.walk;
   kept = s.kept;
-  all_reached = λ j t. (let n = are.complete j t in subst (λ (x : ℕ). slice_index new x < length shapes) n.1.1 (s.reached n.0 n.1.0));
+  all_reached = λ j t. (let n =
+      are.complete j t in subst (λ (x : ℕ). slice_index new x < length shapes) n.1.1 (s.reached n.0 n.1.0));
   longer = s.longer;
   prefix = s.prefix;
   marked = s.marked;
@@ -133,59 +169,92 @@ reached_now shapes labels order new more numbers from are s = record {
 -- ---- what is told of shapes: whether some shape touches them
 
 -- where touching shapes are listed, some touch
-some_listed : (shapes : List Shape) (from : ℕ) (numbers : List ℕ) → AreTouching shapes from numbers → (b : Bool) → nat_lt 0 (length numbers) ≡ b → SaysWhether b (HasTouching shapes from)
-some_listed shapes from numbers are true e = (let some : 0 < length numbers = grind (arith, nat_tests) in (slice_index numbers 0, are.each 0 some))
-some_listed shapes from numbers are false e = λ h. (let none : length numbers ≤ 0 = grind (arith, nat_tests) in let k = are.complete h.0 h.1 in absurd (omega (arith, k.1.0)))
+some_listed : (shapes : List Shape) (from : ℕ) (numbers : List ℕ) → AreTouching shapes from numbers → (b : Bool)
+    → nat_lt 0 (length numbers) ≡ b → SaysWhether b (HasTouching shapes from)
+some_listed shapes from numbers are true e =
+    (let some : 0 < length numbers = grind (arith, nat_tests) in (slice_index numbers 0, are.each 0 some))
+some_listed shapes from numbers are false e =
+    λ h. (let none : length numbers ≤ 0 = grind (arith, nat_tests) in let k =
+    are.complete h.0 h.1 in absurd (omega (arith, k.1.0)))
 
-pub told_now : (shapes : List Shape) (from : ℕ) (numbers : List ℕ) (touched new : List Bool) → AreTouching shapes from numbers → from < length touched → new ≡ slice_set touched from (nat_lt 0 (length numbers)) → IsTold shapes from touched new
+pub told_now : (shapes : List Shape) (from : ℕ) (numbers : List ℕ) (touched new : List Bool)
+    → AreTouching shapes from numbers → from < length touched → new ≡ slice_set touched from (nat_lt 0 (length numbers))
+    → IsTold shapes from touched new
 told_now shapes from numbers touched new are lt is = subst (IsTold shapes from touched) (sym is) (record {
   long = length-set touched from (nat_lt 0 (length numbers));
-  here = subst (λ (x : Bool). SaysWhether x (HasTouching shapes from)) (sym (get_or-set_same touched from (nat_lt 0 (length numbers)) false lt)) (some_listed shapes from numbers are (nat_lt 0 (length numbers)) refl);
+  here = subst (λ (x : Bool). SaysWhether x (HasTouching shapes from))
+      (sym (get_or-set_same touched from (nat_lt 0 (length numbers)) false lt))
+      (some_listed shapes from numbers are (nat_lt 0 (length numbers)) refl);
   kept = λ d ne. get_or-set_other touched from d (nat_lt 0 (length numbers)) false ne;
 })
 
-told_of : (shapes : List Shape) (touched : List Bool) (d e : ℕ) → d ≡ e → SaysWhether (is_touched touched d) (HasTouching shapes d) → SaysWhether (is_touched touched e) (HasTouching shapes e)
+told_of : (shapes : List Shape) (touched : List Bool) (d e : ℕ) → d ≡ e
+    → SaysWhether (is_touched touched d) (HasTouching shapes d)
+    → SaysWhether (is_touched touched e) (HasTouching shapes e)
 told_of shapes touched d e same h = subst (λ (x : ℕ). SaysWhether (is_touched touched x) (HasTouching shapes x)) same h
 
 -- the order has grown
-pub told_longer : (n : ℕ) (shapes : List Shape) (order more : List ℕ) (touched : List Bool) → AreToldTo n shapes order touched → ((p : ℕ) → p < n → slice_index more p ≡ slice_index order p) → AreToldTo n shapes more touched
-told_longer n shapes order more touched are prefix = record { long = are.long; each = λ p lt. told_of shapes touched (slice_index order p) (slice_index more p) (sym (prefix p lt)) (are.each p lt) }
+pub told_longer : (n : ℕ) (shapes : List Shape) (order more : List ℕ) (touched : List Bool)
+    → AreToldTo n shapes order touched → ((p : ℕ) → p < n → slice_index more p ≡ slice_index order p)
+    → AreToldTo n shapes more touched
+told_longer n shapes order more touched are prefix =
+    record {
+      long = are.long;
+      each = λ p lt. told_of shapes touched (slice_index order p) (slice_index more p)
+          (sym (prefix p lt)) (are.each p lt);
+    }
 
 -- the next of the order is told of
-pub told_more : (n : ℕ) (shapes : List Shape) (order more : List ℕ) (touched new : List Bool) → AreToldTo n shapes order touched → n < length order → ((p : ℕ) → p < length order → slice_index more p ≡ slice_index order p) → IsTold shapes (slice_index order n) touched new → AreToldTo (n + 1) shapes more new
+pub told_more : (n : ℕ) (shapes : List Shape) (order more : List ℕ) (touched new : List Bool)
+    → AreToldTo n shapes order touched → n < length order
+    → ((p : ℕ) → p < length order → slice_index more p ≡ slice_index order p)
+    → IsTold shapes (slice_index order n) touched new → AreToldTo (n + 1) shapes more new
 told_more n shapes order more touched new are lt prefix told = record {
   long = told.long ∙ are.long;
-  each = λ p lp. told_of shapes new (slice_index order p) (slice_index more p) (sym (prefix p (omega arith))) (elim (cases_eq (slice_index order p) (slice_index order n)) [
-    | inl same ↦ told_of shapes new (slice_index order n) (slice_index order p) (sym same) told.here
-    | inr ne ↦
-        let before : p < n = elim (cases_eq p n) [ inl e ↦ absurd (ne (ap (slice_index order) e)) | inr other ↦ omega arith ] in
-        subst (λ (b : Bool). SaysWhether b (HasTouching shapes (slice_index order p))) (sym (told.kept (slice_index order p) ne)) (are.each p before)
-  ]);
+  each = λ p lp. told_of shapes new (slice_index order p) (slice_index more p) (sym (prefix p (omega arith)))
+      (elim (cases_eq (slice_index order p) (slice_index order n)) [
+        | inl same ↦ told_of shapes new (slice_index order n) (slice_index order p) (sym same) told.here
+        | inr ne ↦
+            let before : p < n = elim (cases_eq p n) [
+              | inl e ↦ absurd
+                  (ne (ap (slice_index order) e))
+              | inr other ↦ omega arith
+            ] in
+            subst (λ (b : Bool). SaysWhether b (HasTouching shapes (slice_index order p)))
+            (sym (told.kept (slice_index order p) ne)) (are.each p before)
+      ]);
 }
 
-pub told_all : (shapes : List Shape) (labels order : List ℕ) (touched : List Bool) → IsWalk shapes labels order → ((k : ℕ) → k < length shapes → slice_index labels k < length shapes) → AreToldTo (length order) shapes order touched → AreTold shapes touched
+pub told_all : (shapes : List Shape) (labels order : List ℕ) (touched : List Bool) → IsWalk shapes labels order
+    → ((k : ℕ) → k < length shapes → slice_index labels k < length shapes)
+    → AreToldTo (length order) shapes order touched → AreTold shapes touched
 told_all shapes labels order touched w all are = record {
   long = are.long;
-  each = λ d lt. (let p = w.ordered d lt (all d lt) in told_of shapes touched (slice_index order p.0) d p.1.1 (are.each p.0 p.1.0));
+  each = λ d lt. (let p = w.ordered d lt (all d lt) in told_of shapes touched
+      (slice_index order p.0) d p.1.1 (are.each p.0 p.1.0));
 }
 
 -- ---- the order
 
 -- the next of the order is done
-pub done_more : (shapes : List Shape) (labels order new more : List ℕ) (done m : ℕ) → IsWalk shapes labels order → IsDone shapes labels order done → AreMarked labels order done m → done < length order → IsReached shapes labels order new more (slice_index order done) → IsDone shapes new more (done + 1)
+pub done_more : (shapes : List Shape) (labels order new more : List ℕ) (done m : ℕ) → IsWalk shapes labels order
+    → IsDone shapes labels order done → AreMarked labels order done m → done < length order
+    → IsReached shapes labels order new more (slice_index order done) → IsDone shapes new more (done + 1)
 done_more shapes labels order new more done m w d marks ld s = λ p j lp touching.
     let lp2 : p < length order = omega arith in
     let same_place : slice_index more p ≡ slice_index order p = s.prefix p lp2 in
     let t : Touching shapes (slice_index order p) j = subst (λ (x : ℕ). Touching shapes x j) same_place touching in
     let lj : j < length shapes = slice_get_within shapes j t.second t.second_is in
-    let here : slice_index new (slice_index more p) ≡ slice_index labels (slice_index order p) = ap (λ (x : ℕ). slice_index new x) same_place ∙ s.kept (slice_index order p) (w.labelled p lp2) in
+    let here : slice_index new (slice_index more p) ≡ slice_index labels (slice_index order p) =
+    ap (λ (x : ℕ). slice_index new x) same_place ∙ s.kept (slice_index order p) (w.labelled p lp2) in
     elim (cases_lt p done) [
       | inl lt ↦
           let e : slice_index labels j ≡ slice_index labels (slice_index order p) = d p j lt t in
           s.kept j (omega (arith, w.labelled p lp2)) ∙ e ∙ sym here
       | inr ge ↦
           let e : p ≡ done = omega arith in
-          let u : Touching shapes (slice_index order done) j = subst (λ (x : ℕ). Touching shapes (slice_index order x) j) e t in
+          let u : Touching shapes (slice_index order done) j =
+          subst (λ (x : ℕ). Touching shapes (slice_index order x) j) e t in
           let mp : slice_index labels (slice_index order p) ≡ m = marks p ge lp2 in
           let from_is : slice_index labels (slice_index order done) ≡ m = marks done (omega arith) ld in
           let goal_is : slice_index new j ≡ m = elim (cases_lt (slice_index labels j) (length shapes)) [
@@ -193,34 +262,45 @@ done_more shapes labels order new more done m w d marks ld s = λ p j lp touchin
                 let q = w.ordered j lj known in
                 elim (cases_lt q.0 done) [
                   | inl before ↦
-                      let back : Touching shapes (slice_index order q.0) (slice_index order done) = subst (λ (x : ℕ). Touching shapes x (slice_index order done)) (sym q.1.1) (Touching-back u) in
+                      let back : Touching shapes (slice_index order q.0) (slice_index order done) =
+                      subst (λ (x : ℕ). Touching shapes x (slice_index order done)) (sym q.1.1) (Touching-back u) in
                       let f = d q.0 (slice_index order done) before back in
-                      let g : slice_index labels (slice_index order q.0) ≡ slice_index labels j = ap (λ (x : ℕ). slice_index labels x) q.1.1 in
+                      let g : slice_index labels (slice_index order q.0) ≡ slice_index labels j =
+                      ap (λ (x : ℕ). slice_index labels x) q.1.1 in
                       s.kept j known ∙ sym g ∙ sym f ∙ from_is
                   | inr after ↦
-                      let g : slice_index labels (slice_index order q.0) ≡ slice_index labels j = ap (λ (x : ℕ). slice_index labels x) q.1.1 in
+                      let g : slice_index labels (slice_index order q.0) ≡ slice_index labels j =
+                      ap (λ (x : ℕ). slice_index labels x) q.1.1 in
                       s.kept j known ∙ sym g ∙ marks q.0 after q.1.0
                 ]
             | inr free ↦
                 let here : slice_index new j < length shapes = s.all_reached j u in
                 let q = s.walk.ordered j lj here in
-                let g : slice_index new (slice_index more q.0) ≡ slice_index new j = ap (λ (x : ℕ). slice_index new x) q.1.1 in
+                let g : slice_index new (slice_index more q.0) ≡ slice_index new j =
+                ap (λ (x : ℕ). slice_index new x) q.1.1 in
                 elim (cases_lt q.0 (length order)) [
-                  | inl before ↦ absurd (let f : slice_index labels (slice_index order q.0) ≡ slice_index labels j = ap (λ (x : ℕ). slice_index labels x) (sym (s.prefix q.0 before) ∙ q.1.1) in omega (arith, w.labelled q.0 before))
+                  | inl before ↦ absurd (let f : slice_index labels (slice_index order q.0) ≡ slice_index labels j =
+                      ap (λ (x : ℕ). slice_index labels x) (sym (s.prefix q.0 before) ∙ q.1.1) in omega
+                      (arith, w.labelled q.0 before))
                   | inr after ↦ sym g ∙ s.marked q.0 after q.1.0 ∙ from_is
                 ]
           ] in
           goal_is ∙ sym mp ∙ sym here
     ]
 
-pub marks_more : (shapes : List Shape) (labels order new more : List ℕ) (done m : ℕ) → IsWalk shapes labels order → AreMarked labels order done m → done < length order → IsReached shapes labels order new more (slice_index order done) → AreMarked new more (done + 1) m
+pub marks_more : (shapes : List Shape) (labels order new more : List ℕ) (done m : ℕ) → IsWalk shapes labels order
+    → AreMarked labels order done m → done < length order
+    → IsReached shapes labels order new more (slice_index order done) → AreMarked new more (done + 1) m
 marks_more shapes labels order new more done m w marks ld s = λ p ge lp. elim (cases_lt p (length order)) [
-  | inl before ↦ ap (λ (x : ℕ). slice_index new x) (s.prefix p before) ∙ s.kept (slice_index order p) (w.labelled p before) ∙ marks p (omega arith) before
+  | inl before ↦ ap (λ (x : ℕ). slice_index new x) (s.prefix p before)
+      ∙ s.kept (slice_index order p) (w.labelled p before) ∙ marks p (omega arith) before
   | inr after ↦ s.marked p after lp ∙ marks done (omega arith) ld
 ]
 
 -- a walk that is done and has labelled each shape gives the nets
-pub nets_from_walk : (shapes : List Shape) (labels order : List ℕ) → IsWalk shapes labels order → IsDone shapes labels order (length order) → ((k : ℕ) → k < length shapes → slice_index labels k < length shapes) → AreNets shapes labels
+pub nets_from_walk : (shapes : List Shape) (labels order : List ℕ) → IsWalk shapes labels order
+    → IsDone shapes labels order (length order)
+    → ((k : ℕ) → k < length shapes → slice_index labels k < length shapes) → AreNets shapes labels
 nets_from_walk shapes labels order w d all = AreNets-certified shapes labels (record {
   long = w.long;
   joined = λ i li. w.joined i li (all i li);
@@ -229,31 +309,47 @@ nets_from_walk shapes labels order w d all = AreNets-certified shapes labels (re
       let li : i < length shapes = (Touching-within t).0 in
       let q = w.ordered i li (all i li) in
       let f = d q.0 j q.1.0 (subst (λ (x : ℕ). Touching shapes x j) (sym q.1.1) t) in
-      let g : slice_index labels (slice_index order q.0) ≡ slice_index labels i = ap (λ (x : ℕ). slice_index labels x) q.1.1 in
+      let g : slice_index labels (slice_index order q.0) ≡ slice_index labels i =
+      ap (λ (x : ℕ). slice_index labels x) q.1.1 in
       sym g ∙ sym f;
 })
 
 -- a shape that is not reached begins a net
-pub root_done : (shapes : List Shape) (labels order : List ℕ) (i : ℕ) → IsWalk shapes labels order → IsDone shapes labels order (length order) → i < length shapes → length shapes ≤ slice_index labels i → IsDone shapes (set labels i i) (order ++ (i ∷ [])) (length order)
+pub root_done : (shapes : List Shape) (labels order : List ℕ) (i : ℕ) → IsWalk shapes labels order
+    → IsDone shapes labels order (length order) → i < length shapes → length shapes ≤ slice_index labels i
+    → IsDone shapes (set labels i i) (order ++ (i ∷ [])) (length order)
 root_done shapes labels order i w d li free = λ p j lp touching.
-    let t : Touching shapes (slice_index order p) j = subst (λ (x : ℕ). Touching shapes x j) (old_place order i p lp) touching in
+    let t : Touching shapes (slice_index order p) j = subst (λ (x : ℕ). Touching shapes x j)
+    (old_place order i p lp) touching in
     let e : slice_index labels j ≡ slice_index labels (slice_index order p) = d p j lp t in
     let known = w.labelled p lp in
-    let ne : j ≢ i = λ f. absurd (let g : slice_index labels j ≡ slice_index labels i = ap (λ (x : ℕ). slice_index labels x) f in omega arith) in
-    let ne2 : slice_index order p ≢ i = λ f. absurd (let g : slice_index labels (slice_index order p) ≡ slice_index labels i = ap (λ (x : ℕ). slice_index labels x) f in omega arith) in
-    off_set labels i i j ne ∙ e ∙ sym (off_set labels i i (slice_index order p) ne2) ∙ sym (ap (λ (x : ℕ). slice_index (set labels i i) x) (old_place order i p lp))
+    let ne : j ≢ i = λ f. absurd
+    (let g : slice_index labels j ≡ slice_index labels i = ap (λ (x : ℕ). slice_index labels x) f in omega arith) in
+    let ne2 : slice_index order p ≢ i =
+    λ f. absurd (let g : slice_index labels (slice_index order p) ≡ slice_index labels i =
+    ap (λ (x : ℕ). slice_index labels x) f in omega arith) in
+    off_set labels i i j ne ∙ e ∙ sym (off_set labels i i (slice_index order p) ne2)
+    ∙ sym (ap (λ (x : ℕ). slice_index (set labels i i) x) (old_place order i p lp))
 
-pub root_walk : (shapes : List Shape) (labels order : List ℕ) (i : ℕ) → IsWalk shapes labels order → i < length shapes → length shapes ≤ slice_index labels i → IsWalk shapes (set labels i i) (order ++ (i ∷ []))
+pub root_walk : (shapes : List Shape) (labels order : List ℕ) (i : ℕ) → IsWalk shapes labels order → i < length shapes
+    → length shapes ≤ slice_index labels i → IsWalk shapes (set labels i i) (order ++ (i ∷ []))
 root_walk shapes labels order i w li free = walk_more shapes labels order i i w li li (omega arith) free ([], refl)
 
-pub root_kept : (n : ℕ) (labels : List ℕ) (i k : ℕ) → i < n → i < length labels → slice_index labels k < n → slice_index (set labels i i) k < n
-root_kept n labels i k ln li lk = elim (cases_eq k i) [ inl e ↦ omega (arith, at_set labels i i k e li) | inr ne ↦ omega (arith, off_set labels i i k ne) ]
+pub root_kept : (n : ℕ) (labels : List ℕ) (i k : ℕ) → i < n → i < length labels → slice_index labels k < n
+    → slice_index (set labels i i) k < n
+root_kept n labels i k ln li lk =
+    elim (cases_eq k i) [
+      | inl e ↦ omega (arith, at_set labels i i k e li)
+      | inr ne ↦ omega
+          (arith, off_set labels i i k ne)
+    ]
 
 pub root_self : (labels : List ℕ) (i : ℕ) → i < length labels → slice_index (set labels i i) i ≡ i
 root_self labels i li = at_set labels i i i refl li
 
 -- no shape is labelled
-pub walk_none : (shapes : List Shape) (labels : List ℕ) → length labels ≡ length shapes → ((k : ℕ) → k < length shapes → slice_index labels k ≡ length shapes) → IsWalk shapes labels []
+pub walk_none : (shapes : List Shape) (labels : List ℕ) → length labels ≡ length shapes
+    → ((k : ℕ) → k < length shapes → slice_index labels k ≡ length shapes) → IsWalk shapes labels []
 walk_none shapes labels e all = record {
   long = e;
   joined = λ k lk mk. absurd (omega (arith, all k lk));

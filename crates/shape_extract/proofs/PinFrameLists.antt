@@ -1,5 +1,6 @@
 -- Lists of numbers that are filled from the first place on, and the frames of pins as such a list.
-use Rattle.std.proofs.Common.{◌≡◌, ℕ, ◌+◌, ◌<◌, ◌≤◌, inl, inr, false, List, [], ◌∷◌, ◌++◌, length, Some, refl, sym, ap, subst, ◌∙◌, arith}
+use Rattle.std.proofs.Common.{◌≡◌, ℕ, ◌+◌, ◌<◌, ◌≤◌, inl, inr, false, List, [], ◌∷◌, ◌++◌, length, Some, refl, sym, ap}
+use Rattle.std.proofs.Common.{subst, ◌∙◌, arith}
 use Rattle.std.specs.Prelude.{slice_get, slice_index}
 use Rattle.std.proofs.Math.ListN.{get_or-append, length-append}
 use Rattle.std.proofs.Math.Seq.{get_or-append_seam}
@@ -19,15 +20,18 @@ pub record NumbersTo (fact : ℕ → ℕ → Type 0) (n : ℕ) (numbers : List �
 pub numbers_none : (fact : ℕ → ℕ → Type 0) → NumbersTo fact 0 []
 numbers_none fact = record { long = refl; each = λ p lt. absurd (omega arith) }
 
-pub numbers_more : (fact : ℕ → ℕ → Type 0) (n : ℕ) (numbers : List ℕ) (number : ℕ) → NumbersTo fact n numbers → fact n number → NumbersTo fact (n + 1) (numbers ++ number ∷ [])
+pub numbers_more : (fact : ℕ → ℕ → Type 0) (n : ℕ) (numbers : List ℕ) (number : ℕ) → NumbersTo fact n numbers
+    → fact n number → NumbersTo fact (n + 1) (numbers ++ number ∷ [])
 numbers_more fact n numbers number are here = record {
   long = omega (arith, length-append numbers (number ∷ []), are.long);
   each = λ p lt. elim (cases_eq p n) [
     | inl e ↦
-        let last : slice_index (numbers ++ number ∷ []) p ≡ number = ap (slice_index (numbers ++ number ∷ [])) (e ∙ sym are.long) ∙ get_or-append_seam numbers number [] 0 in
+        let last : slice_index (numbers ++ number ∷ []) p ≡ number = ap (slice_index (numbers ++ number ∷ []))
+        (e ∙ sym are.long) ∙ get_or-append_seam numbers number [] 0 in
         subst (fact p) (sym last) (subst (λ (q : ℕ). fact q number) (sym e) here)
     | inr ne ↦
-        let old : slice_index (numbers ++ number ∷ []) p ≡ slice_index numbers p = get_or-append numbers (number ∷ []) 0 p (omega (arith, are.long)) in
+        let old : slice_index (numbers ++ number ∷ []) p ≡ slice_index numbers p = get_or-append numbers
+        (number ∷ []) 0 p (omega (arith, are.long)) in
         subst (fact p) (sym old) (are.each p (omega arith))
   ];
 }
@@ -36,11 +40,15 @@ numbers_more fact n numbers number are here = record {
 abbrev pub IsFrameNumber : List Shape → ℕ → ℕ → Type 0
 IsFrameNumber shapes p f = Passes is_pin shapes p → LiesIn shapes p f
 
-pub frames_all : (n : ℕ) (shapes : List Shape) (frames : List ℕ) → length shapes ≤ n → n ≤ length shapes → NumbersTo (IsFrameNumber shapes) n frames → ArePinFrames shapes frames
+pub frames_all : (n : ℕ) (shapes : List Shape) (frames : List ℕ) → length shapes ≤ n → n ≤ length shapes
+    → NumbersTo (IsFrameNumber shapes) n frames → ArePinFrames shapes frames
 frames_all n shapes frames all most are = record {
   long = omega (arith, are.long);
-  each = λ p pin. (let lt : p < length shapes = slice_get_within shapes p pin.shape pin.shape_is in are.each p (omega arith) pin);
+  each = λ p pin. (let lt : p < length shapes =
+      slice_get_within shapes p pin.shape pin.shape_is in are.each p (omega arith) pin);
 }
 
-pub no_frame : (shapes : List Shape) (p f : ℕ) (s : Shape) → slice_get shapes p ≡ Some s → is_pin s ≡ false → Passes is_pin shapes p → LiesIn shapes p f
-no_frame shapes p f s got not_so pin = absurd (both_ways (is_pin s) not_so (ap is_pin (same_Some s pin.shape (sym got ∙ pin.shape_is)) ∙ pin.passes_so))
+pub no_frame : (shapes : List Shape) (p f : ℕ) (s : Shape) → slice_get shapes p ≡ Some s → is_pin s ≡ false
+    → Passes is_pin shapes p → LiesIn shapes p f
+no_frame shapes p f s got not_so pin =
+    absurd (both_ways (is_pin s) not_so (ap is_pin (same_Some s pin.shape (sym got ∙ pin.shape_is)) ∙ pin.passes_so))

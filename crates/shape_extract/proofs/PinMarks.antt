@@ -19,10 +19,12 @@ use Rattle.shape_extract.proofs.KeptPins.{decimal_marked, input_named, output_na
 
 -- ---- what the table of labels says of a pin
 
-module _ (flat : Flat) (marking : List Mark) (are : AreMarks flat.shapes flat.labels marking) (p : ℕ) (pin : Passes is_pin flat.shapes p) where
+module _ (flat : Flat) (marking : List Mark) (are : AreMarks flat.shapes flat.labels marking) (p : ℕ)
+    (pin : Passes is_pin flat.shapes p) where
   module _ (l : ℕ) (e : label_in (get_or marking p Unmarked) ≡ Some l) where
     here : PassesIn (λ label. marks label pin.shape) flat.labels l
-    here = label_at flat.labels pin.shape (get_or marking p Unmarked) l (mark_of flat marking are p pin.shape pin.shape_is) e
+    here = label_at flat.labels pin.shape (get_or marking p Unmarked) l
+        (mark_of flat marking are p pin.shape pin.shape_is) e
 
     pub label_there : l < length flat.labels
     unfolding here
@@ -30,14 +32,19 @@ module _ (flat : Flat) (marking : List Mark) (are : AreMarks flat.shapes flat.la
 
     pub label_marks : (label : Label) → slice_get flat.labels l ≡ Some label → marks label pin.shape ≡ true
     unfolding here
-    label_marks label is = ap (λ (x : Label). marks x pin.shape) (same_Some label here.item (sym is ∙ here.item_is)) ∙ here.passes_so
+    label_marks label is = ap (λ (x : Label). marks x pin.shape) (same_Some label here.item (sym is ∙ here.item_is))
+        ∙ here.passes_so
 
   pub no_label : label_in (get_or marking p Unmarked) ≡ None → (l : ℕ) → Marks flat l p → ⊥
-  no_label e l m = none_at flat.labels pin.shape (get_or marking p Unmarked) (mark_of flat marking are p pin.shape pin.shape_is) e l m.label m.label_is (ap (marks m.label) (same_Some pin.shape m.pin (sym pin.shape_is ∙ m.pin_is)) ∙ m.marks_so)
+  no_label e l m = none_at flat.labels pin.shape (get_or marking p Unmarked)
+      (mark_of flat marking are p pin.shape pin.shape_is) e l m.label m.label_is
+      (ap (marks m.label) (same_Some pin.shape m.pin (sym pin.shape_is ∙ m.pin_is)) ∙ m.marks_so)
 
 -- ---- what a label on a pin says
 
-module _ (flat : Flat) (kept : ReportsNone (LabelsBroken flat)) (p l : ℕ) (pin : Shape) (label : Label) (pin_is : slice_get flat.shapes p ≡ Some pin) (label_is : slice_get flat.labels l ≡ Some label) (so : marks label pin ≡ true) where
+module _ (flat : Flat) (kept : ReportsNone (LabelsBroken flat)) (p l : ℕ) (pin : Shape) (label : Label)
+    (pin_is : slice_get flat.shapes p ≡ Some pin) (label_is : slice_get flat.labels l ≡ Some label)
+    (so : marks label pin ≡ true) where
   mark : Marks flat l p
   mark = record { label = label; pin = pin; label_is = label_is; pin_is = pin_is; marks_so = so }
 
@@ -52,6 +59,8 @@ module _ (flat : Flat) (kept : ReportsNone (LabelsBroken flat)) (p l : ℕ) (pin
   pub name_so : IsNameOf flat p (number_of_label label)
   unfolding mark
   name_so = record {
-    input = λ on. input_named flat kept l p mark (ap (λ (s : Shape). s.layer) (same_Some pin on.shape (sym pin_is ∙ on.shape_is)) ∙ on.of_layer);
-    output = λ on. output_named flat kept l p mark (ap (λ (s : Shape). s.layer) (same_Some pin on.shape (sym pin_is ∙ on.shape_is)) ∙ on.of_layer);
+    input = λ on. input_named flat kept l p mark
+        (ap (λ (s : Shape). s.layer) (same_Some pin on.shape (sym pin_is ∙ on.shape_is)) ∙ on.of_layer);
+    output = λ on. output_named flat kept l p mark
+        (ap (λ (s : Shape). s.layer) (same_Some pin on.shape (sym pin_is ∙ on.shape_is)) ∙ on.of_layer);
   }

@@ -1,5 +1,5 @@
 -- Shapes that are sorted with their numbers are in order: equal ones come one after the other, by rising number.
-use Rattle.std.proofs.Common.{◌≡◌, ℕ, zero, suc, ◌+◌, ◌<◌, ◌≤◌, inl, inr, ℤ, true, false, eqb, List, [], ◌∷◌, ◌++◌}
+use Rattle.std.proofs.Common.{◌≡◌, ℕ, ◌+◌, ◌<◌, ◌≤◌, inl, inr, ℤ, true, false, eqb, List, [], ◌∷◌, ◌++◌}
 use Rattle.std.proofs.Common.{length, get_or, Some, refl, sym, ap, subst, ◌∙◌, arith}
 use Rattle.std.specs.Prelude.{slice_get, IsPermutation, IsSorted, Contains}
 use Rattle.std.specs.declared.cmp.Ordering.{Ordering}
@@ -17,6 +17,7 @@ use Rattle.shape_extract.specs.declared.distinct_shapes.Sided.{Sided}
 use Rattle.shape_extract.specs.Code.DistinctShapes.{sided_of, AreAlike, AreInOrder}
 use Rattle.shape_extract.proofs.RowEdges.{push_old, push_new, push_cases}
 use Rattle.shape_extract.proofs.SameShapes.{same_shape}
+use Rattle.shape_extract.proofs.Each.{item_at}
 
 -- ---- shapes compare by their fields, then by their numbers
 
@@ -165,11 +166,6 @@ sided_moved n shapes order sorted same are = record {
       are.only old.0 x old.1);
 }
 
-shape_there : (xs : List Shape) (k : ℕ) → k < length xs → (s : Shape) × (slice_get xs k ≡ Some s)
-shape_there [] k lt = absurd (omega arith)
-shape_there (x ∷ xs) zero lt = (x, refl)
-shape_there (x ∷ xs) (suc k) lt = shape_there xs k (omega arith)
-
 module _ (shapes : List Shape) (order : List Sided) (n : ℕ) (are : SidedTo n shapes order)
     (up : IsSorted sided_cmp order) where
   far : (i j : ℕ) (x y : Sided) → i ≤ j → slice_get order i ≡ Some x → slice_get order j ≡ Some y
@@ -224,7 +220,7 @@ module _ (shapes : List Shape) (order : List Sided) (n : ℕ) (are : SidedTo n s
   in_order all = record {
     within = λ k s is. (let a = are.only k s is in slice_get_within shapes s.number a.shape a.shape_is);
     all = λ m lt. (
-        let s = shape_there shapes m lt in
+        let s = item_at shapes m lt in
         let k = are.each m s.0 (omega arith) s.1 in
         record { place = k.0; sided = sided_of s.0 m; there = k.1; number_is = refl });
     together = between;

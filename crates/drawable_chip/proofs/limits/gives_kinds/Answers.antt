@@ -5,4 +5,5 @@ use Rattle.drawable_chip.proofs.limits.gives_kinds.Goals as goal
 pub returns : goal.returns
 returns c = λ _.
     gives_kinds c.args.library.now c.args.chip.now (λ r x cell within at.
-    c.loop-number.invariant r x cell (omega (arith, within, c.loop-number-test.false, c.row_count-number-end.ensures)) at)
+    c.loop-number.invariant r x cell
+    (omega (arith, within, c.loop-number-test.false, c.row_count-number-end.ensures)) at)

@@ -11,8 +11,10 @@ loop-row-init g c = text_begins _ _ c.args.figures.now c.args.limit (search rule
 pub returns-in_err-print_row-clause-part : goal.returns-in_err-print_row-clause-part
 returns-in_err-print_row-clause-part g c =
     let p = err_from_is_err_and c.from_residual.result c.from_residual.ensures.1 in
-    rw (p.1, p.2) (prefix_of_rows c.args.figures.now c.args.limit (c.loop-row.row + 1) c.args.rows _ _ _ (search (rules, arith))
-    (subst (λ t. PrintsWithin (g.O.Sink.output c.args.out.now) (g.O.Sink.output c.print_row.new.out) t c.in_err-print_row.field-0.0)
+    rw (p.1, p.2) (prefix_of_rows c.args.figures.now c.args.limit
+    (c.loop-row.row + 1) c.args.rows _ _ _ (search (rules, arith))
+    (subst (λ t. PrintsWithin (g.O.Sink.output c.args.out.now)
+    (g.O.Sink.output c.print_row.new.out) t c.in_err-print_row.field-0.0)
     (text_more c.args.figures.now c.args.limit c.loop-row.row)
     (c.in_err-print_row.ensures.refused _ _ c.loop-row.invariant)))
 

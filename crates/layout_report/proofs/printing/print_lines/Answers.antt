@@ -19,5 +19,6 @@ returns-clause-part g c =
     second_within (g.O.Sink.output c.args.out.now) middle last
     (counts_line c.args.circuit.now) (text_of c.args.figures.now c.args.limit c.args.circuit.now.rows)
     c.print_figures.result c.in_ok-print_counts.ensures.added
-    (subst (λ (v : CircuitView). IfErr c.print_figures.result (PrintsWithin middle last (text_of c.args.figures.now c.args.limit v.rows)))
+    (subst (λ (v : CircuitView). IfErr c.print_figures.result
+    (PrintsWithin middle last (text_of c.args.figures.now c.args.limit v.rows)))
     c.circuit.view_is c.print_figures.ensures.part)

@@ -1,4 +1,5 @@
-use Rattle.layout_report.proofs.Sided.{read_at, sides_more, sides_all}
+use Rattle.layout_report.proofs.Sided.{sides_more, sides_all}
+use Rattle.geom.proofs.Filing.{read_at}
 use Rattle.layout_report.proofs.rules.known.Goals as goal
 
 pub loop-shape-preserved : goal.loop-shape-preserved

@@ -1,7 +1,8 @@
 use Rattle.std.proofs.Common.{◌≡◌, ◌<◌, length, arith, Some}
 use Rattle.std.specs.Prelude.{slice_get}
-use Rattle.layout_report.proofs.Sided.{read_at}
-use Rattle.layout_report.proofs.SourceRows.{net_below, rows_same, rows_more, rows_all}
+use Rattle.shape_extract.proofs.NetDrivers.{net_below}
+use Rattle.geom.proofs.Filing.{read_at}
+use Rattle.layout_report.proofs.SourceRows.{rows_same, rows_more, rows_all}
 use Rattle.layout_report.proofs.sources.write_rows.Goals as goal
 use Rattle.layout_report.proofs.sources.write_rows.Goals.{then-shape-eq-OUTPUT_PIN, else-shape-eq-OUTPUT_PIN}
 

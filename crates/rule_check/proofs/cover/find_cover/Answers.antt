@@ -6,7 +6,8 @@ pub named-requires : goal.named-requires
 named-requires c =
     rw c.as_slice-2.ensures.value (places_of c.args.sheet.now.kinds.numbers.items (CoverBroken c.args.shapes.now)
     (CoverBroken c.args.sheet.now.kinds.shapes) c.in_ok-found.found
-    (cover_represents c.args.shapes.now c.args.sheet.now.kinds.numbers.items c.args.sheet.now.kinds.shapes c.requires.distinct)
+    (cover_represents c.args.shapes.now c.args.sheet.now.kinds.numbers.items
+    c.args.sheet.now.kinds.shapes c.requires.distinct)
     (rw c.as_slice.ensures at c.in_ok-found.ensures))
 
 pub returns : goal.returns
@@ -14,5 +15,6 @@ returns c =
     rw (c.named.ensures, c.as_slice-2.ensures.value)
     (finds_named c.args.sheet.now.kinds.numbers.items (CoverBroken c.args.shapes.now)
     (CoverBroken c.args.sheet.now.kinds.shapes) c.in_ok-found.found c.requires.distinct.rising
-    (cover_represents c.args.shapes.now c.args.sheet.now.kinds.numbers.items c.args.sheet.now.kinds.shapes c.requires.distinct)
+    (cover_represents c.args.shapes.now c.args.sheet.now.kinds.numbers.items
+    c.args.sheet.now.kinds.shapes c.requires.distinct)
     (rw c.as_slice.ensures at c.in_ok-found.ensures))

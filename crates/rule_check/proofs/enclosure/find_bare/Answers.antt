@@ -8,14 +8,17 @@ named-requires c =
     rw c.as_slice-2.ensures.value
     (places_of c.args.sheet.now.kinds.numbers.items (EnclosureBroken (limits_seen c.args.limits.now) c.args.shapes.now)
     (EnclosureBroken (limits_seen c.args.limits.now) c.args.sheet.now.kinds.shapes) c.in_ok-found.found
-    (enclosure_represents c.args.shapes.now c.args.sheet.now.kinds.numbers.items c.args.sheet.now.kinds.shapes c.requires.distinct
+    (enclosure_represents c.args.shapes.now c.args.sheet.now.kinds.numbers.items
+    c.args.sheet.now.kinds.shapes c.requires.distinct
     (limits_seen c.args.limits.now)) (rw c.as_slice.ensures at c.in_ok-found.ensures))
 
 pub returns : goal.returns
 returns c =
     rw (c.named.ensures, c.as_slice-2.ensures.value)
-    (finds_named c.args.sheet.now.kinds.numbers.items (EnclosureBroken (limits_seen c.args.limits.now) c.args.shapes.now)
+    (finds_named c.args.sheet.now.kinds.numbers.items
+    (EnclosureBroken (limits_seen c.args.limits.now) c.args.shapes.now)
     (EnclosureBroken (limits_seen c.args.limits.now) c.args.sheet.now.kinds.shapes) c.in_ok-found.found
     c.requires.distinct.rising
-    (enclosure_represents c.args.shapes.now c.args.sheet.now.kinds.numbers.items c.args.sheet.now.kinds.shapes c.requires.distinct
+    (enclosure_represents c.args.shapes.now c.args.sheet.now.kinds.numbers.items
+    c.args.sheet.now.kinds.shapes c.requires.distinct
     (limits_seen c.args.limits.now)) (rw c.as_slice.ensures at c.in_ok-found.ensures))

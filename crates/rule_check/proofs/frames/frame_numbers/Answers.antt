@@ -1,10 +1,11 @@
 use Rattle.std.proofs.Common.{◌≡◌, ◌∙◌, sym, [], ◌∷◌, ◌++◌, Some}
 use Rattle.std.specs.Prelude.{slice_get}
 use Rattle.std.proofs.lemmas.Option.{slice_get_within}
+use Rattle.geom.proofs.Filing.{read_at}
 use Rattle.layout_rules.specs.Layers.{is_frame}
 use Rattle.layout_rules.specs.Reports.{Passes}
 use Rattle.shape_extract.proofs.Searching.{those_more, those_same, those_all}
-use Rattle.rule_check.proofs.Geometry.{read_at, passes_not}
+use Rattle.rule_check.proofs.Geometry.{passes_not}
 use Rattle.rule_check.proofs.frames.frame_numbers.Goals as goal
 use Rattle.rule_check.proofs.frames.frame_numbers.Goals.{then-is_frame+in_ok-push, else-is_frame}
 

@@ -1,14 +1,16 @@
 use Rattle.std.proofs.Common.{◌≡◌, List, true, Some, subst, sym, ap, ◌∙◌, arith}
 use Rattle.std.specs.Prelude.{slice_get}
 use Rattle.std.proofs.lemmas.Option.{same_Some}
+use Rattle.std.proofs.lemmas.Bool.{not-true}
+use Rattle.shape_extract.proofs.Partners.{near_within}
+use Rattle.geom.proofs.Filing.{read_at}
 use Rattle.layout_rules.specs.Layers.{is_frame}
 use Rattle.geom.specs.declared.shapes.Shape.{Shape}
 use Rattle.geom.specs.Rectangle.{Rectangle, IsProper}
 use Rattle.geom.specs.Near.{rects_of, AreNear}
 use Rattle.rule_check.specs.Code.Bands.{band_of, collide_across}
 use Rattle.rule_check.specs.Code.Cover.{any_at}
-use Rattle.rule_check.proofs.Geometry.{read_at, near_within}
-use Rattle.rule_check.proofs.Colliding.{frame_free, not_so, own_overlap}
+use Rattle.rule_check.proofs.Colliding.{frame_free, own_overlap}
 use Rattle.rule_check.proofs.frames.is_free.Goals as goal
 
 pub any_across-requires : goal.any_across-requires
@@ -42,5 +44,5 @@ returns c free =
     frame_free c.args.rows.now.shapes.now c.args.rows.now.bands.now c.args.a s c.as_slice-partners.result.now
     c.as_slice.result.now got frame_so c.requires.rows.bands_so
     (rw c.as_slice-partners.ensures.value c.in_ok-list_partners.ensures) (omega arith) near
-    (sym across ∙ not_so c.any_across.result free)
+    (sym across ∙ not-true c.any_across.result free)
     (own_overlap s.rect (subst (λ (t : Shape). IsProper t.rect) (sym c.index-rows-a.is) c.known.ensures))

@@ -1,4 +1,5 @@
-use Rattle.rule_check.proofs.Geometry.{read_at, sides_more, sides_all}
+use Rattle.rule_check.proofs.Geometry.{sides_more, sides_all}
+use Rattle.geom.proofs.Filing.{read_at}
 use Rattle.rule_check.proofs.sheet.known.Goals as goal
 
 pub loop-shape-preserved : goal.loop-shape-preserved

@@ -1,6 +1,7 @@
 use Rattle.std.proofs.Common.{◌≡◌, ℕ, ◌-◌, ◌++◌, length, take, drop, ap, ◌∙◌, arith}
 use Rattle.std.proofs.Math.Seq.{take-append_seam}
-use Rattle.shape_extract.proofs.LeastHeads.{heads_first, sided_at, goes_on, heads_more, heads_all}
+use Rattle.geom.proofs.Filing.{read_at}
+use Rattle.shape_extract.proofs.LeastHeads.{heads_first, goes_on, heads_more, heads_all}
 use Rattle.shape_extract.proofs.distinct_shapes.heads.Goals as goal
 
 pub loop-place-init : goal.loop-place-init
@@ -10,19 +11,19 @@ pub link-requires-clause-before : goal.link-requires-clause-before
 link-requires-clause-before c =
     let order = c.in_ok-order.order.items in
     c.in_ok-order.ensures.within (c.loop-place.place - 1) c.index.result.now
-    (sided_at order (c.loop-place.place - 1) c.index.result.now (omega arith) c.index.ensures)
+    (read_at order (c.loop-place.place - 1) c.index.result.now (omega arith) c.index.ensures)
 
 pub link-requires-clause-within : goal.link-requires-clause-within
 link-requires-clause-within c =
     let order = c.in_ok-order.order.items in
     c.in_ok-order.ensures.within c.loop-place.place c.index-in-loop-place.result.now
-    (sided_at order c.loop-place.place c.index-in-loop-place.result.now (omega arith) c.index-in-loop-place.ensures)
+    (read_at order c.loop-place.place c.index-in-loop-place.result.now (omega arith) c.index-in-loop-place.ensures)
 
 pub loop-place-preserved : goal.loop-place-preserved
 loop-place-preserved c =
     let order = c.in_ok-order.order.items in
-    let before = sided_at order (c.loop-place.place - 1) c.index.result.now (omega arith) c.index.ensures in
-    let here = sided_at order c.loop-place.place c.index-in-loop-place.result.now (omega arith)
+    let before = read_at order (c.loop-place.place - 1) c.index.result.now (omega arith) c.index.ensures in
+    let here = read_at order c.loop-place.place c.index-in-loop-place.result.now (omega arith)
     c.index-in-loop-place.ensures in
     let new = c.link.new.heads in
     let behind = drop (length new) c.loop-place.heads.items in

@@ -4,7 +4,8 @@ use Rattle.std.proofs.lemmas.Grind.{get_or_default_zero}
 use Rattle.shape_extract.proofs.LeastHeads.{own_more}
 use Rattle.shape_extract.proofs.StandIns.{place_shared, place_own}
 use Rattle.shape_extract.proofs.distinct_shapes.stand_ins.Goals as goal
-use Rattle.shape_extract.proofs.distinct_shapes.stand_ins.Goals.{then-head-n+in_ok-push, else-head-n+in_ok-push-2+in_ok-push-3}
+use Rattle.shape_extract.proofs.distinct_shapes.stand_ins.Goals.{then-head-n+in_ok-push}
+use Rattle.shape_extract.proofs.distinct_shapes.stand_ins.Goals.{else-head-n+in_ok-push-2+in_ok-push-3}
 
 pub loop-n-preserved : goal.loop-n-preserved
 loop-n-preserved c = elim c.if-head-n.branch [

@@ -1,7 +1,7 @@
 use Rattle.shape_extract.specs.Searches.{AreThose}
 use Rattle.shape_extract.specs.Passing.{PassesIn}
-use Rattle.shape_extract.proofs.Passing.{read_at}
 use Rattle.shape_extract.proofs.Members.{passing_within, passing_all, together_from}
+use Rattle.geom.proofs.Filing.{read_at}
 use Rattle.shape_extract.proofs.pairs.list_filed_partners.Goals as goal
 
 pub list_passing-requires-clause-planes : goal.list_passing-requires-clause-planes

@@ -1,7 +1,7 @@
 use Rattle.std.proofs.Common.{List, sym, subst}
+use Rattle.geom.proofs.Filing.{read_at}
 use Rattle.geom.specs.Rectangle.{Rectangle, AreProper}
 use Rattle.geom.specs.Near.{rects_of, AreNear, IsClose}
-use Rattle.shape_extract.proofs.Passing.{read_at}
 use Rattle.shape_extract.proofs.Partners.{partners_are, near_within}
 use Rattle.shape_extract.proofs.pairs.list_partners.Goals as goal
 

@@ -3,7 +3,8 @@ use Rattle.shape_extract.proofs.FramePlaces.{frame_within, places_more, places_a
 use Rattle.shape_extract.proofs.circuits.frames.places_of.Goals as goal
 
 pub index_mut-requires : goal.index_mut-requires
-index_mut-requires c = omega (arith, frame_within _ _ c.requires.frames _ c.loop-place-test.true, c.loop-place.invariant.long)
+index_mut-requires c = omega
+    (arith, frame_within _ _ c.requires.frames _ c.loop-place-test.true, c.loop-place.invariant.long)
 
 pub loop-place-preserved : goal.loop-place-preserved
 loop-place-preserved c = places_more _ _ _ _ c.requires.frames c.loop-place-test.true c.loop-place.invariant

@@ -1,5 +1,5 @@
-use Rattle.shape_extract.proofs.Passing.{read_at}
 use Rattle.shape_extract.proofs.InPlanes.{touching_from}
+use Rattle.geom.proofs.Filing.{read_at}
 use Rattle.shape_extract.proofs.connectivity.neighbours.list_touching.Goals as goal
 
 pub returns : goal.returns

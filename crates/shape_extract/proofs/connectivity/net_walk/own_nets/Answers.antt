@@ -4,7 +4,10 @@ use Rattle.shape_extract.proofs.PinFrameLists.{numbers_more}
 use Rattle.shape_extract.proofs.connectivity.net_walk.own_nets.Goals as goal
 
 pub net_of-requires-clause-label : goal.net_of-requires-clause-label
-net_of-requires-clause-label c = label_within c.args.shapes.now c.args.kinds.now.numbers.items c.args.kinds.now.places.items c.args.kinds.now.shapes c.requires.distinct.those c.requires.places c.args.walked.now.labels.items c.args.walked.now.touched.items c.requires.nets c.requires.told c.loop-n.n (omega arith)
+net_of-requires-clause-label c =
+    label_within c.args.shapes.now c.args.kinds.now.numbers.items c.args.kinds.now.places.items c.args.kinds.now.shapes
+    c.requires.distinct.those c.requires.places c.args.walked.now.labels.items c.args.walked.now.touched.items
+    c.requires.nets c.requires.told c.loop-n.n (omega arith)
 
 pub loop-n-preserved : goal.loop-n-preserved
 loop-n-preserved c =
@@ -12,4 +15,7 @@ loop-n-preserved c =
     rw longer (numbers_more _ c.loop-n.n c.loop-n.nets.items c.net_of.result c.loop-n.invariant c.net_of.ensures)
 
 pub returns : goal.returns
-returns c = nets_by_kinds c.args.shapes.now c.args.kinds.now.numbers.items c.args.kinds.now.places.items c.args.kinds.now.shapes c.requires.distinct.those c.requires.places c.args.walked.now.labels.items c.args.walked.now.touched.items c.requires.nets c.requires.told c.loop-n.nets.items (omega (arith, c.loop-n.invariant.long)) (λ n lt. c.loop-n.invariant.each n (omega arith))
+returns c = nets_by_kinds c.args.shapes.now c.args.kinds.now.numbers.items c.args.kinds.now.places.items
+    c.args.kinds.now.shapes c.requires.distinct.those c.requires.places c.args.walked.now.labels.items
+    c.args.walked.now.touched.items c.requires.nets c.requires.told c.loop-n.nets.items
+    (omega (arith, c.loop-n.invariant.long)) (λ n lt. c.loop-n.invariant.each n (omega arith))

@@ -4,4 +4,5 @@ use Rattle.shape_extract.proofs.ExcitedEach.{judged}
 use Rattle.shape_extract.proofs.lines.excited_frames.is_unexcited.Goals as goal
 
 pub returns : goal.returns
-returns c = judged _ _ _ (got_at _ _ _ c.requires.within c.index-shapes-f.is) (sym c.is_frame.ensures ∙ c.if-not-is_frame.false) _ c.in_ok-excited.ensures
+returns c = judged _ _ _ (got_at _ _ _ c.requires.within c.index-shapes-f.is) (sym c.is_frame.ensures
+    ∙ c.if-not-is_frame.false) _ c.in_ok-excited.ensures

@@ -11,9 +11,11 @@ pub loop-n-preserved : goal.loop-n-preserved
 loop-n-preserved c = elim c.if-is_part.branch [
   | then-is_part+in_ok-push w ↦
       let longer : w.push.new.self.items ≡ c.loop-n.order.items ++ (c.loop-n.n ∷ []) = w.in_ok-push.ensures.items in
-      rw (w.before-is, w.order-is, longer) (begun_start _ _ _ _ c.loop-n.invariant (omega arith) (said_true _ _ c.is_part.ensures w.if-is_part.true))
+      rw (w.before-is, w.order-is, longer)
+      (begun_start _ _ _ _ c.loop-n.invariant (omega arith) (said_true _ _ c.is_part.ensures w.if-is_part.true))
   | else-is_part w ↦
-      rw (w.before-is, w.order-is) (begun_other _ _ _ _ c.loop-n.invariant (omega arith) (said_false _ _ c.is_part.ensures w.if-is_part.false))
+      rw (w.before-is, w.order-is)
+      (begun_other _ _ _ _ c.loop-n.invariant (omega arith) (said_false _ _ c.is_part.ensures w.if-is_part.false))
 ]
 
 pub returns : goal.returns

@@ -10,11 +10,15 @@ use Rattle.shape_extract.proofs.lines.line_walk.follow.Goals as goal
 pub loop-done-preserved : goal.loop-done-preserved
 loop-done-preserved c =
     let lt : c.loop-done.done < length c.loop-done.order.items = omega arith in
-    let from_is : c.index-from.result.now ≡ slice_index c.loop-done.order.items c.loop-done.done = c.index-from.ensures ∙ get_or_default_zero c.loop-done.order.items c.loop-done.done c.index-from.result.now lt in
-    let are : AreThose (Contact c.args.shapes.now (slice_index c.loop-done.order.items c.loop-done.done)) c.as_slice.result.now =
+    let from_is : c.index-from.result.now ≡ slice_index c.loop-done.order.items c.loop-done.done = c.index-from.ensures
+    ∙ get_or_default_zero c.loop-done.order.items c.loop-done.done c.index-from.result.now lt in
+    let are : AreThose (Contact c.args.shapes.now
+    (slice_index c.loop-done.order.items c.loop-done.done)) c.as_slice.result.now =
     subst (λ (x : ℕ). AreThose (Contact c.args.shapes.now x) c.as_slice.result.now) from_is
-    (subst (λ (x : List ℕ). AreThose (Contact c.args.shapes.now c.index-from.result.now) x) (sym c.as_slice.ensures.value) c.in_ok-list_contacts.ensures) in
-    let s : IsSpreadAlong (length c.as_slice.result.now) c.args.shapes.now c.as_slice.result.now c.loop-done.before c.loop-done.order.items c.spread.new.before c.spread.new.order.items = c.in_ok-spread.ensures in
+    (subst (λ (x : List ℕ). AreThose (Contact c.args.shapes.now c.index-from.result.now) x)
+    (sym c.as_slice.ensures.value) c.in_ok-list_contacts.ensures) in
+    let s : IsSpreadAlong (length c.as_slice.result.now) c.args.shapes.now c.as_slice.result.now c.loop-done.before
+    c.loop-done.order.items c.spread.new.before c.spread.new.order.items = c.in_ok-spread.ensures in
     record {
       walk = s.walk;
       starts = starts_still _ _ _ _ _ _ _ c.loop-done.invariant.starts s;
@@ -23,4 +27,5 @@ loop-done-preserved c =
     }
 
 pub returns : goal.returns
-returns c = walked _ _ _ c.loop-done.invariant.walk c.loop-done.invariant.starts c.loop-done.done (omega arith) c.loop-done.invariant.contacts
+returns c = walked _ _ _ c.loop-done.invariant.walk c.loop-done.invariant.starts c.loop-done.done
+    (omega arith) c.loop-done.invariant.contacts

@@ -1,31 +1,47 @@
 use Rattle.std.proofs.Common.{◌≡◌, ◌≤◌, Some, length}
 use Rattle.std.specs.Prelude.{slice_get}
-use Rattle.shape_extract.proofs.Passing.{read_at}
+use Rattle.geom.proofs.Filing.{read_at}
 use Rattle.shape_extract.proofs.LabelNumbers.{decimal_tail, seen_skip, seen_take, refused_first, seen_all}
 use Rattle.shape_extract.proofs.rules.label_numbers.first_misnumbered.Goals as goal
-use Rattle.shape_extract.proofs.rules.label_numbers.first_misnumbered.Goals.{else-label-eq-LABELS-via-then-label-eq-LABELS+else-not-take_name, else-label-eq-LABELS-via-else-label-eq-LABELS}
+use Rattle.shape_extract.proofs.rules.label_numbers.first_misnumbered.Goals.{else-label-eq-LABELS-via-then-label-eq-LABELS+else-not-take_name}
+use Rattle.shape_extract.proofs.rules.label_numbers.first_misnumbered.Goals.{else-label-eq-LABELS-via-else-label-eq-LABELS}
 
 pub take_name-requires-clause-numbered : goal.take_name-requires-clause-numbered
 take_name-requires-clause-numbered c =
-    let got : slice_get c.args.flat.now.labels c.loop-place.place ≡ Some c.index-labels-place.result = rw c.as_slice-labels.ensures at (read_at c.as_slice-labels.result.now _ _ c.loop-place-test.true c.index-labels-place.is) in
-    decimal_tail c.args.flat.now c.args.entries c.args.exits c.requires.entries c.requires.exits c.requires.kept c.loop-place.place c.index-labels-place.result got c.if-label-eq-LABELS.true
+    let got : slice_get c.args.flat.now.labels c.loop-place.place ≡ Some c.index-labels-place.result =
+    rw c.as_slice-labels.ensures at
+    (read_at c.as_slice-labels.result.now _ _ c.loop-place-test.true c.index-labels-place.is) in
+    decimal_tail c.args.flat.now c.args.entries c.args.exits c.requires.entries c.requires.exits c.requires.kept
+    c.loop-place.place c.index-labels-place.result got c.if-label-eq-LABELS.true
 
 pub returns-then-not-take_name : goal.returns-then-not-take_name
 returns-then-not-take_name c =
-    let got : slice_get c.args.flat.now.labels c.loop-place.place ≡ Some c.index-labels-place.result = rw c.as_slice-labels.ensures at (read_at c.as_slice-labels.result.now _ _ c.loop-place-test.true c.index-labels-place.is) in
-    rw c.len-shape_count.ensures (refused_first c.args.flat.now c.args.entries c.args.exits c.requires.entries c.requires.exits c.requires.kept c.loop-place.place c.loop-place.seen c.loop-place.invariant c.index-labels-place.result got c.if-label-eq-LABELS.true c.take_name.new.seen c.if-not-take_name.ensures)
+    let got : slice_get c.args.flat.now.labels c.loop-place.place ≡ Some c.index-labels-place.result =
+    rw c.as_slice-labels.ensures at
+    (read_at c.as_slice-labels.result.now _ _ c.loop-place-test.true c.index-labels-place.is) in
+    rw c.len-shape_count.ensures
+    (refused_first c.args.flat.now c.args.entries c.args.exits c.requires.entries c.requires.exits c.requires.kept
+    c.loop-place.place c.loop-place.seen c.loop-place.invariant c.index-labels-place.result got
+    c.if-label-eq-LABELS.true c.take_name.new.seen c.if-not-take_name.ensures)
 
 pub loop-place-preserved : goal.loop-place-preserved
 loop-place-preserved c =
-    let got : slice_get c.args.flat.now.labels c.loop-place.place ≡ Some c.index-labels-place.result = rw c.as_slice-labels.ensures at (read_at c.as_slice-labels.result.now _ _ c.loop-place-test.true c.index-labels-place.is) in
+    let got : slice_get c.args.flat.now.labels c.loop-place.place ≡ Some c.index-labels-place.result =
+    rw c.as_slice-labels.ensures at
+    (read_at c.as_slice-labels.result.now _ _ c.loop-place-test.true c.index-labels-place.is) in
     elim c.else-label-eq-LABELS.branch [
       | else-label-eq-LABELS-via-then-label-eq-LABELS+else-not-take_name w ↦
-          rw w.seen-is (seen_take c.args.flat.now c.args.entries c.args.exits c.requires.entries c.requires.exits c.requires.kept c.loop-place.place c.loop-place.seen c.loop-place.invariant c.index-labels-place.result got w.if-label-eq-LABELS.true w.take_name.new.seen w.if-not-take_name.ensures)
+          rw w.seen-is (seen_take c.args.flat.now c.args.entries c.args.exits c.requires.entries c.requires.exits
+          c.requires.kept c.loop-place.place c.loop-place.seen c.loop-place.invariant c.index-labels-place.result
+          got w.if-label-eq-LABELS.true w.take_name.new.seen w.if-not-take_name.ensures)
       | else-label-eq-LABELS-via-else-label-eq-LABELS w ↦
-          rw w.seen-is (seen_skip c.args.flat.now c.args.entries c.args.exits c.requires.entries c.requires.exits c.requires.kept c.loop-place.place c.loop-place.seen c.loop-place.invariant c.index-labels-place.result got w.if-label-eq-LABELS.false)
+          rw w.seen-is (seen_skip c.args.flat.now c.args.entries c.args.exits c.requires.entries c.requires.exits
+          c.requires.kept c.loop-place.place c.loop-place.seen c.loop-place.invariant c.index-labels-place.result
+          got w.if-label-eq-LABELS.false)
     ]
 
 pub returns : goal.returns
 returns c =
-    let all : length c.args.flat.now.labels ≤ c.loop-place.place = rw c.as_slice-labels.ensures at c.loop-place-test.false in
+    let all : length c.args.flat.now.labels ≤ c.loop-place.place =
+    rw c.as_slice-labels.ensures at c.loop-place-test.false in
     seen_all c.args.flat.now c.args.entries c.args.exits c.loop-place.place c.loop-place.seen all c.loop-place.invariant

@@ -12,21 +12,32 @@ use Rattle.shape_extract.proofs.rules.net_rule.source_fault.Goals as goal
 pub returns : goal.returns
 returns c =
     let within : c.args.a < length c.as_slice-shapes.result.now = rw c.as_slice-shapes.ensures c.requires.within in
-    let got : slice_get c.args.flat.now.shapes c.args.a ≡ Some c.index-shapes-a.result = rw c.as_slice-shapes.ensures at (got_at c.as_slice-shapes.result.now _ _ within c.index-shapes-a.is) in
-    let are : AreThose (IsPinIn c.args.flat.now.shapes OUTPUT_PIN c.args.a) c.as_slice.result.now = rw c.as_slice.ensures.value (rw c.as_slice-shapes.ensures at c.in_ok-list_in_net.ensures) in
-    let unmarked : is_labelled c.args.flat.now c.index-shapes-a.result ≡ false = sym (labelled_at c.args.flat.now c.args.marking.now c.requires.marking c.args.a c.index-shapes-a.result got) ∙ (sym c.has_label.ensures ∙ c.if-has_label.false) in
-    rw c.lone-fault.ensures (plain_source c.args.flat.now c.args.a c.index-shapes-a.result c.as_slice.result.now c.first_number-source.result got c.if-shape-ne-INPUT_PIN.false are unmarked c.first_number-source.ensures)
+    let got : slice_get c.args.flat.now.shapes c.args.a ≡ Some c.index-shapes-a.result = rw c.as_slice-shapes.ensures at
+    (got_at c.as_slice-shapes.result.now _ _ within c.index-shapes-a.is) in
+    let are : AreThose (IsPinIn c.args.flat.now.shapes OUTPUT_PIN c.args.a) c.as_slice.result.now =
+    rw c.as_slice.ensures.value (rw c.as_slice-shapes.ensures at c.in_ok-list_in_net.ensures) in
+    let unmarked : is_labelled c.args.flat.now c.index-shapes-a.result ≡ false =
+    sym (labelled_at c.args.flat.now c.args.marking.now c.requires.marking c.args.a c.index-shapes-a.result got)
+    ∙ (sym c.has_label.ensures ∙ c.if-has_label.false) in
+    rw c.lone-fault.ensures (plain_source c.args.flat.now c.args.a c.index-shapes-a.result c.as_slice.result.now
+    c.first_number-source.result got c.if-shape-ne-INPUT_PIN.false are unmarked c.first_number-source.ensures)
 
 pub returns-then-has_label : goal.returns-then-has_label
 returns-then-has_label c =
     let within : c.args.a < length c.as_slice-shapes.result.now = rw c.as_slice-shapes.ensures c.requires.within in
-    let got : slice_get c.args.flat.now.shapes c.args.a ≡ Some c.index-shapes-a.result = rw c.as_slice-shapes.ensures at (got_at c.as_slice-shapes.result.now _ _ within c.index-shapes-a.is) in
-    let are : AreThose (IsPinIn c.args.flat.now.shapes OUTPUT_PIN c.args.a) c.as_slice.result.now = rw c.as_slice.ensures.value (rw c.as_slice-shapes.ensures at c.in_ok-list_in_net.ensures) in
-    let marked : is_labelled c.args.flat.now c.index-shapes-a.result ≡ true = sym (labelled_at c.args.flat.now c.args.marking.now c.requires.marking c.args.a c.index-shapes-a.result got) ∙ (sym c.has_label.ensures ∙ c.if-has_label.true) in
-    labelled_source c.args.flat.now c.args.a c.index-shapes-a.result c.as_slice.result.now c.first_number-source.result got c.if-shape-ne-INPUT_PIN.false are marked c.first_number-source.ensures
+    let got : slice_get c.args.flat.now.shapes c.args.a ≡ Some c.index-shapes-a.result = rw c.as_slice-shapes.ensures at
+    (got_at c.as_slice-shapes.result.now _ _ within c.index-shapes-a.is) in
+    let are : AreThose (IsPinIn c.args.flat.now.shapes OUTPUT_PIN c.args.a) c.as_slice.result.now =
+    rw c.as_slice.ensures.value (rw c.as_slice-shapes.ensures at c.in_ok-list_in_net.ensures) in
+    let marked : is_labelled c.args.flat.now c.index-shapes-a.result ≡ true =
+    sym (labelled_at c.args.flat.now c.args.marking.now c.requires.marking c.args.a c.index-shapes-a.result got)
+    ∙ (sym c.has_label.ensures ∙ c.if-has_label.true) in
+    labelled_source c.args.flat.now c.args.a c.index-shapes-a.result c.as_slice.result.now c.first_number-source.result
+    got c.if-shape-ne-INPUT_PIN.false are marked c.first_number-source.ensures
 
 pub returns-then-shape-ne-INPUT_PIN : goal.returns-then-shape-ne-INPUT_PIN
 returns-then-shape-ne-INPUT_PIN c =
     let within : c.args.a < length c.as_slice-shapes.result.now = rw c.as_slice-shapes.ensures c.requires.within in
-    let got : slice_get c.args.flat.now.shapes c.args.a ≡ Some c.index-shapes-a.result = rw c.as_slice-shapes.ensures at (got_at c.as_slice-shapes.result.now _ _ within c.index-shapes-a.is) in
+    let got : slice_get c.args.flat.now.shapes c.args.a ≡ Some c.index-shapes-a.result = rw c.as_slice-shapes.ensures at
+    (got_at c.as_slice-shapes.result.now _ _ within c.index-shapes-a.is) in
     no_input c.args.flat.now c.args.a c.index-shapes-a.result got c.if-shape-ne-INPUT_PIN.true

@@ -7,7 +7,8 @@ loop-p-init c = rw c.new-frames.ensures.items (numbers_none _)
 
 pub loop-p-preserved : goal.loop-p-preserved
 loop-p-preserved c =
-    let longer : c.push.new.self.items ≡ c.loop-p.frames.items ++ (c.in_ok-frame_or_zero.field-0 ∷ []) = c.in_ok-push.ensures.items in
+    let longer : c.push.new.self.items ≡ c.loop-p.frames.items ++ (c.in_ok-frame_or_zero.field-0 ∷ []) =
+    c.in_ok-push.ensures.items in
     rw longer (numbers_more _ _ _ _ c.loop-p.invariant c.in_ok-frame_or_zero.ensures)
 
 pub returns : goal.returns

@@ -5,4 +5,5 @@ use Rattle.shape_extract.proofs.tables.ports.ports.Goals as goal
 pub loop-p-preserved : goal.loop-p-preserved
 loop-p-preserved c =
     let longer : c.push.new.self.items ≡ c.loop-p.ports.items ++ (c.port_at.result ∷ []) = c.in_ok-push.ensures.items in
-    rw longer (ports_more c.args.shapes.now c.loop-p.ports.items c.loop-p.p c.port_at.result c.loop-p-test.true c.loop-p.invariant c.port_at.ensures)
+    rw longer (ports_more c.args.shapes.now c.loop-p.ports.items c.loop-p.p c.port_at.result c.loop-p-test.true
+    c.loop-p.invariant c.port_at.ensures)

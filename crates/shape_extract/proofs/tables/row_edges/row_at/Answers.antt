@@ -12,4 +12,5 @@ returns-in-Ok c =
 pub returns-in-Err : goal.returns-in-Err
 returns-in-Err c =
     let same : to_z w64 (of_z w64 c.args.y) ≡ c.args.y = search (rules, to_z-of_z) in
-    absurd (row_missed c.args.edges.now (to_z w64 (of_z w64 c.args.y)) c.in-Err.row c.requires.rising (subst (IsAmong c.args.edges.now) (sym same) c.requires.among) c.in-Err.ensures.position)
+    absurd (row_missed c.args.edges.now (to_z w64 (of_z w64 c.args.y)) c.in-Err.row c.requires.rising
+    (subst (IsAmong c.args.edges.now) (sym same) c.requires.among) c.in-Err.ensures.position)

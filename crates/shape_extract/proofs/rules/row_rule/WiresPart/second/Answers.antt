@@ -8,28 +8,42 @@ use Rattle.shape_extract.proofs.Marked.{got_at}
 use Rattle.shape_extract.proofs.MarkTable.{labelled_at}
 use Rattle.shape_extract.proofs.RowPins.{are_rowed, astray_said, not_astray}
 use Rattle.shape_extract.proofs.rules.row_rule.WiresPart.second.Goals as goal
-use Rattle.shape_extract.proofs.rules.row_rule.WiresPart.second.Goals.{then-shape-ne-INPUT_PIN-via-then-shape-ne-INPUT_PIN, then-shape-ne-INPUT_PIN-via-else-shape-ne-INPUT_PIN+then-has_label}
+use Rattle.shape_extract.proofs.rules.row_rule.WiresPart.second.Goals.{then-shape-ne-INPUT_PIN-via-then-shape-ne-INPUT_PIN}
+use Rattle.shape_extract.proofs.rules.row_rule.WiresPart.second.Goals.{then-shape-ne-INPUT_PIN-via-else-shape-ne-INPUT_PIN+then-has_label}
 
 pub returns-then-shape-ne-INPUT_PIN : goal.returns-then-shape-ne-INPUT_PIN
 returns-then-shape-ne-INPUT_PIN c =
     let within : c.args.a < length c.as_slice-shapes.result.now = rw c.as_slice-shapes.ensures c.requires.within in
-    let got : slice_get c.args.self.now.flat.now.shapes c.args.a ≡ Some c.index-shapes-a.result = rw c.as_slice-shapes.ensures at (got_at c.as_slice-shapes.result.now _ _ within c.index-shapes-a.is) in
-    not_astray c.args.self.now.flat.now c.args.a c.index-shapes-a.result got (λ layer. elim c.then-shape-ne-INPUT_PIN.branch [
+    let got : slice_get c.args.self.now.flat.now.shapes c.args.a ≡ Some c.index-shapes-a.result =
+    rw c.as_slice-shapes.ensures at (got_at c.as_slice-shapes.result.now _ _ within c.index-shapes-a.is) in
+    not_astray c.args.self.now.flat.now c.args.a c.index-shapes-a.result got
+    (λ layer. elim c.then-shape-ne-INPUT_PIN.branch [
       | then-shape-ne-INPUT_PIN-via-then-shape-ne-INPUT_PIN w ↦ absurd (w.if-shape-ne-INPUT_PIN.true layer)
-      | then-shape-ne-INPUT_PIN-via-else-shape-ne-INPUT_PIN+then-has_label w ↦ sym (labelled_at c.args.self.now.flat.now c.args.self.now.marking.now c.requires.valid.5 c.args.a c.index-shapes-a.result got) ∙ (sym w.has_label.ensures ∙ w.if-has_label.true)
+      | then-shape-ne-INPUT_PIN-via-else-shape-ne-INPUT_PIN+then-has_label w ↦ sym
+          (labelled_at c.args.self.now.flat.now c.args.self.now.marking.now c.requires.valid.5 c.args.a
+          c.index-shapes-a.result got) ∙ (sym w.has_label.ensures ∙ w.if-has_label.true)
     ])
 
 pub first_astray-astray-requires : goal.first_astray-astray-requires
 first_astray-astray-requires c =
     let within : c.args.a < length c.as_slice-shapes.result.now = rw c.as_slice-shapes.ensures c.requires.within in
-    let got : slice_get c.args.self.now.flat.now.shapes c.args.a ≡ Some c.index-shapes-a.result = rw c.as_slice-shapes.ensures at (got_at c.as_slice-shapes.result.now _ _ within c.index-shapes-a.is) in
-    let are : AreThose (IsPinIn c.args.self.now.flat.now.shapes OUTPUT_PIN c.args.a) c.as_slice.result.now = rw c.as_slice.ensures.value (rw c.as_slice-shapes.ensures at c.in_ok-list_in_net.ensures) in
-    are_rowed c.args.self.now.flat.now c.requires.valid.3 c.args.self.now.rows.now c.requires.valid.2 c.args.a c.index-shapes-a.result got c.if-shape-ne-INPUT_PIN.false c.as_slice.result.now are
+    let got : slice_get c.args.self.now.flat.now.shapes c.args.a ≡ Some c.index-shapes-a.result =
+    rw c.as_slice-shapes.ensures at (got_at c.as_slice-shapes.result.now _ _ within c.index-shapes-a.is) in
+    let are : AreThose (IsPinIn c.args.self.now.flat.now.shapes OUTPUT_PIN c.args.a) c.as_slice.result.now =
+    rw c.as_slice.ensures.value (rw c.as_slice-shapes.ensures at c.in_ok-list_in_net.ensures) in
+    are_rowed c.args.self.now.flat.now c.requires.valid.3 c.args.self.now.rows.now c.requires.valid.2 c.args.a
+    c.index-shapes-a.result got c.if-shape-ne-INPUT_PIN.false c.as_slice.result.now are
 
 pub returns : goal.returns
 returns c =
     let within : c.args.a < length c.as_slice-shapes.result.now = rw c.as_slice-shapes.ensures c.requires.within in
-    let got : slice_get c.args.self.now.flat.now.shapes c.args.a ≡ Some c.index-shapes-a.result = rw c.as_slice-shapes.ensures at (got_at c.as_slice-shapes.result.now _ _ within c.index-shapes-a.is) in
-    let are : AreThose (IsPinIn c.args.self.now.flat.now.shapes OUTPUT_PIN c.args.a) c.as_slice.result.now = rw c.as_slice.ensures.value (rw c.as_slice-shapes.ensures at c.in_ok-list_in_net.ensures) in
-    let unmarked : is_labelled c.args.self.now.flat.now c.index-shapes-a.result ≡ false = sym (labelled_at c.args.self.now.flat.now c.args.self.now.marking.now c.requires.valid.5 c.args.a c.index-shapes-a.result got) ∙ (sym c.has_label.ensures ∙ c.if-has_label.false) in
-    astray_said c.args.self.now.flat.now c.requires.valid.3 c.args.self.now.rows.now c.requires.valid.2 c.args.a c.index-shapes-a.result got c.if-shape-ne-INPUT_PIN.false c.as_slice.result.now are c.first_astray-astray.result unmarked c.first_astray-astray.ensures
+    let got : slice_get c.args.self.now.flat.now.shapes c.args.a ≡ Some c.index-shapes-a.result =
+    rw c.as_slice-shapes.ensures at (got_at c.as_slice-shapes.result.now _ _ within c.index-shapes-a.is) in
+    let are : AreThose (IsPinIn c.args.self.now.flat.now.shapes OUTPUT_PIN c.args.a) c.as_slice.result.now =
+    rw c.as_slice.ensures.value (rw c.as_slice-shapes.ensures at c.in_ok-list_in_net.ensures) in
+    let unmarked : is_labelled c.args.self.now.flat.now c.index-shapes-a.result ≡ false =
+    sym (labelled_at c.args.self.now.flat.now c.args.self.now.marking.now c.requires.valid.5 c.args.a
+    c.index-shapes-a.result got) ∙ (sym c.has_label.ensures ∙ c.if-has_label.false) in
+    astray_said c.args.self.now.flat.now c.requires.valid.3 c.args.self.now.rows.now c.requires.valid.2 c.args.a
+    c.index-shapes-a.result got c.if-shape-ne-INPUT_PIN.false c.as_slice.result.now are c.first_astray-astray.result
+    unmarked c.first_astray-astray.ensures
