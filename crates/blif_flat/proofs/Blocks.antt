@@ -2,13 +2,16 @@
 use Rattle.std.proofs.Common.{◌≡◌, ℕ, zero, suc, ◌+◌, List, [], ◌∷◌, ◌++◌, map, sym, ap, ◌∙◌, subst, inl, inr, flat_map}
 use Rattle.std.specs.List.{AllByRecursion}
 use Rattle.std.proofs.lemmas.List.{map-append}
+use Rattle.blif_read.proofs.Within.{all_join}
 use Rattle.blif_read.specs.declared.models.Port.{Port}
 use Rattle.blif_read.specs.declared.models.Call.{Call}
 use Rattle.blif_read.specs.declared.models.NamedDef.{NamedDef}
 use Rattle.blif_read.specs.declared.models.BlifModel.{BlifModel}
 use Rattle.blif_flat.specs.Designs.{names_in, called, output_ports, actual_of, joined_outputs}
-use Rattle.blif_flat.specs.Expansion.{Wire, wire, WireDef, own, buffer, calls_within, expanded_call, expanded_calls, expanded}
-use Rattle.blif_flat.proofs.Members.{Among, among_left, among_right, among_parts, among_map, image, in_one, at_among, all_from, all_both, all_mapped, all_weaker}
+use Rattle.blif_flat.specs.Expansion.{Wire, wire, WireDef, own, buffer, calls_within, expanded_call, expanded_calls}
+use Rattle.blif_flat.specs.Expansion.{expanded}
+use Rattle.blif_flat.proofs.Members.{Among, among_left, among_right, among_parts, among_map, image, in_one, at_among}
+use Rattle.blif_flat.proofs.Members.{all_from, all_mapped, all_weaker}
 use Rattle.blif_flat.proofs.JoinedModels.{driven_names, IsJoinedCall, port_actual, port_joined, joined_is_output}
 use Rattle.blif_flat.proofs.SoundModels.{IsSound}
 
@@ -36,7 +39,8 @@ module _ (models : List BlifModel) where
   has_expansion steps k n (c ∷ calls) call (inl e) = record {
     number = n;
     there = λ d h. among_left d (expanded_call models (expanded steps models) k n c)
-        (expanded_calls steps models (expanded steps models) k (n + 1 + calls_within steps models (called models c)) calls)
+        (expanded_calls steps models (expanded steps models) k
+        (n + 1 + calls_within steps models (called models c)) calls)
         (subst (λ x. Among d (expanded_call models (expanded steps models) k n x)) (sym e) h);
   }
   has_expansion steps k n (c ∷ calls) call (inr m) =
@@ -77,13 +81,15 @@ module _ (models : List BlifModel) where
         | inr port ↦
             let of = in_one (λ c. map (λ p. p.actual) (output_ports models c)) model.calls s port in
             let at = image (λ (p : Port). p.actual) (output_ports models of.of) s of.inside in
-            let ok_call = at_among (IsJoinedCall models (driven_names models model)) model.calls of.of ok.0.calls of.there in
+            let ok_call = at_among (IsJoinedCall models (driven_names models model)) model.calls
+            of.of ok.0.calls of.there in
             let has = has_expansion steps k (k + 1) model.calls of.of of.there in
             let n = has.number in
             let called_is = called models of.of in
             let to = λ (o : List ℕ). buffer of.of.line (wire n o) (wire k (actual_of of.of o)) in
             let joined = joined_outputs models of.of in
-            let ins = map (λ i. buffer of.of.line (wire k (actual_of of.of i)) (wire n i)) (names_in called_is.inputs) in
+            let ins = map (λ i. buffer of.of.line (wire k (actual_of of.of i)) (wire n i))
+            (names_in called_is.inputs) in
             let body = expanded steps models n called_is in
             let d = to at.of.formal in
             defined d
@@ -106,7 +112,8 @@ module _ (models : List BlifModel) where
     abbrev Has : List Wire → Type 0
     Has xs = (x : Wire) → Among x xs → Among x ws
 
-    call_reads : (steps k n : ℕ) (names : List (List ℕ)) (call : Call) → ((s : List ℕ) → Among s names → Among (wire k s) ws)
+    call_reads : (steps k n : ℕ) (names : List (List ℕ)) (call : Call)
+        → ((s : List ℕ) → Among s names → Among (wire k s) ws)
         → IsJoinedCall models names call → IsSound steps models (called models call)
         → (Has (block steps models n (called models call)) → Reads (expanded steps models n (called models call)))
         → Has (defined_in (expanded_call models (expanded steps models) k n call))
@@ -126,13 +133,14 @@ module _ (models : List BlifModel) where
           | inl a ↦
               let at = image (wire n) (names_in model.inputs) x a in
               subst (λ y. Among y ws) at.is
-              (front (from at.of) (among_left (from at.of) ins body (among_map from at.of (names_in model.inputs) at.there)))
+              (front (from at.of) (among_left (from at.of) ins body
+              (among_map from at.of (names_in model.inputs) at.there)))
           | inr b ↦
               let at = image (λ (e : WireDef). e.output) body x b in
               subst (λ y. Among y ws) at.is (front at.of (among_right at.of ins body at.there))
         ] in
-        all_both (λ d. AllByRecursion (λ x. Among x ws) d.inputs) (ins ++ body) outs
-        (all_both (λ d. AllByRecursion (λ x. Among x ws) d.inputs) ins body
+        all_join (λ d. AllByRecursion (λ x. Among x ws) d.inputs) (ins ++ body) outs
+        (all_join (λ d. AllByRecursion (λ x. Among x ws) d.inputs) ins body
         (all_mapped (λ d. AllByRecursion (λ x. Among x ws) d.inputs) from (names_in model.inputs)
         (all_weaker (λ i. Among (actual_of call i) names) (λ i. AllByRecursion (λ x. Among x ws) (from i).inputs)
         (λ i h. (signals (actual_of call i) h, tt)) (names_in model.inputs) ok.given))
@@ -159,7 +167,7 @@ module _ (models : List BlifModel) where
         let here = expanded_call models (expanded steps models) k n call in
         let rest = expanded_calls steps models (expanded steps models) k next calls in
         let two = map-append (λ (d : WireDef). d.output) here rest in
-        all_both (λ d. AllByRecursion (λ x. Among x ws) d.inputs) here rest
+        all_join (λ d. AllByRecursion (λ x. Among x ws) d.inputs) here rest
         (call_reads steps k n names call signals ok.0 sound.0 (inner.0 n)
         (λ x h. holds x (subst (Among x) (sym two) (among_left x (defined_in here) (defined_in rest) h))))
         (calls_read steps k next names calls signals ok.1 sound.1 inner.1
@@ -174,7 +182,7 @@ module _ (models : List BlifModel) where
         let below = expanded_calls steps models (expanded steps models) k (k + 1) model.calls in
         let signals : (s : List ℕ) → Among s (driven_names models model) → Among (wire k s) ws =
         λ s h. holds (wire k s) (driven_is_there (suc steps) k model ok s h) in
-        all_both (λ d. AllByRecursion (λ x. Among x ws) d.inputs) owned below
+        all_join (λ d. AllByRecursion (λ x. Among x ws) d.inputs) owned below
         (all_mapped (λ d. AllByRecursion (λ x. Among x ws) d.inputs) (own k) model.defs
         (all_weaker (λ d. AllByRecursion (λ s. Among s (driven_names models model)) d.inputs)
         (λ d. AllByRecursion (λ x. Among x ws) (own k d).inputs)

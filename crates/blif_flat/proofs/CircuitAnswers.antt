@@ -1,5 +1,6 @@
 -- The netlist of a circuit's definitions answers each word as the circuit does.
-use Rattle.std.proofs.Common.{◌≡◌, ℕ, zero, suc, ◌+◌, ◌-◌, ◌<◌, ◌≤◌, ◌||◌, ◌&&◌, not, Bool, true, false, List, [], ◌∷◌, ◌++◌, length, map, Some, refl, sym, ap, ◌∙◌, subst, arith, inl, inr}
+use Rattle.std.proofs.Common.{◌≡◌, ℕ, zero, suc, ◌+◌, ◌-◌, ◌<◌, ◌≤◌, ◌||◌, ◌&&◌, not, Bool, true, false, List, [], ◌∷◌}
+use Rattle.std.proofs.Common.{◌++◌, length, map, Some, refl, sym, ap, ◌∙◌, subst, arith, inl, inr}
 use Rattle.std.specs.Prelude.{slice_get, slice_index_or}
 use Rattle.std.specs.List.{list_any, flat_map, AllByRecursion, range_with_len}
 use Rattle.std.proofs.lemmas.Bool.{cases_lt}
@@ -30,7 +31,9 @@ use Rattle.blif_flat.proofs.DefinedLines.{read_as, all_read}
 use Rattle.blif_flat.proofs.DefinedNet.{net_of, text_says, some_fits}
 use Rattle.blif_flat.proofs.FewInputs.{few_inputs}
 use Rattle.blif_flat.proofs.CircuitNames.{are_names}
-use Rattle.blif_flat.proofs.CircuitLines.{feed_signal, cell_definition, output_definition, definitions_of, IsBelow, IsPlaced, IsWritable, name_of, outputs_of as output_signals, lines_are, are_defined, read_by, some_feed, feeds_are}
+use Rattle.blif_flat.proofs.CircuitLines.{feed_signal, cell_definition, output_definition, definitions_of, IsBelow}
+use Rattle.blif_flat.proofs.CircuitLines.{IsPlaced, IsWritable, name_of, outputs_of as output_signals, lines_are}
+use Rattle.blif_flat.proofs.CircuitLines.{are_defined, read_by, some_feed, feeds_are}
 
 -- ---- what every extracted circuit keeps
 

@@ -1,8 +1,10 @@
 -- The lines of a circuit's netlist are those of its definitions: a definition for each cell, and one for each output.
-use Rattle.std.proofs.Common.{◌≡◌, ℕ, zero, suc, ◌+◌, ◌<◌, ◌≤◌, List, [], ◌∷◌, ◌++◌, length, map, Some, refl, sym, ap, ◌∙◌, subst, arith, codes, append_assoc}
+use Rattle.std.proofs.Common.{◌≡◌, ℕ, zero, suc, ◌+◌, ◌<◌, ◌≤◌, List, [], ◌∷◌, ◌++◌, length, map, Some, refl, sym, ap}
+use Rattle.std.proofs.Common.{◌∙◌, subst, arith, codes, append_assoc}
 use Rattle.std.specs.Prelude.{slice_get, ◌↔◌}
 use Rattle.std.specs.List.{AllByRecursion, range_with_len}
 use Rattle.std.proofs.lemmas.List.{map-append}
+use Rattle.blif_read.proofs.Within.{all_join}
 use Rattle.circuit.specs.CellKinds.{inputs_of}
 use Rattle.circuit.specs.declared.cell_kind.CellKind.{CellKind}
 use Rattle.circuit.specs.declared.cell_kind.CellKind.TheVariants.{Buffer, Inverter, Zero, One, Split2, Split3, Majority}
@@ -11,8 +13,9 @@ use Rattle.chip_circuit.specs.declared.cells.Feed.{Feed}
 use Rattle.chip_circuit.specs.declared.cells.Feed.TheVariants.{Nothing, Pin, Label}
 use Rattle.chip_circuit.specs.declared.cells.ExCell.{ExCell}
 use Rattle.chip_circuit.specs.Circuits.{CircuitView, feed_at}
-use Rattle.blif_flat.specs.BlifText.{input_name, cell_name, output_name, feed_names, names_of_feeds, row, rows_of, cell_lines, cells_from, outputs_from, end_line, netlist_lines}
-use Rattle.blif_flat.proofs.Definitions.{Definition, IsRow, IsDefinition, AreDefined, names_tokens, body, whole, all_append}
+use Rattle.blif_flat.specs.BlifText.{input_name, cell_name, output_name, feed_names, names_of_feeds, row, rows_of}
+use Rattle.blif_flat.specs.BlifText.{cell_lines, cells_from, outputs_from, end_line, netlist_lines}
+use Rattle.blif_flat.proofs.Definitions.{Definition, IsRow, IsDefinition, AreDefined, names_tokens, body, whole}
 use Rattle.blif_flat.proofs.CircuitNames.{signal_name, named_input, named_cell, named_output}
 
 -- the signal of a feed
@@ -270,8 +273,8 @@ cell_defined inputs c cell is =
     ∙ read_count cell.kind (feed_signal inputs cell.feed0) (feed_signal inputs cell.feed1)
     (feed_signal inputs cell.feed2) in
     record {
-      feeds = all_append P (a ++ b) (feed_signals inputs cell.feed2)
-          (all_append P a b (feed_below inputs c cell.feed0 (is.below 0))
+      feeds = all_join P (a ++ b) (feed_signals inputs cell.feed2)
+          (all_join P a b (feed_below inputs c cell.feed0 (is.below 0))
           (feed_below inputs c cell.feed1 (is.below 1))) (feed_below inputs c cell.feed2 (is.below 2));
       rows = subst (λ w. AllByRecursion (IsRow w) (rows_of cell.kind)) (sym count) (rows_fit cell.kind);
     }

@@ -1,20 +1,26 @@
 -- No name in the models of a text holds a number sign, since comments are dropped before lines are cut into tokens.
-use Rattle.std.proofs.Common.{◌≡◌, ℕ, zero, suc, ◌+◌, ◌-◌, Bool, true, false, not, cond, List, [], ◌∷◌, ◌++◌, map, length, take, drop, filter, flat_map, Some, None, refl, subst, arith}
+use Rattle.std.proofs.Common.{◌≡◌, ℕ, zero, suc, ◌+◌, ◌-◌, Bool, true, false, not, cond, List, [], ◌∷◌, ◌++◌, map}
+use Rattle.std.proofs.Common.{length, take, drop, filter, flat_map, Some, None, refl, subst, arith}
 use Rattle.std.specs.Prelude.{slice_index}
 use Rattle.std.specs.List.{AllByRecursion, slice_split, onto_first, before_first, position_or_len}
 use Rattle.std.proofs.lemmas.Bool.{eqb-false}
-use Rattle.blif_read.specs.Lines.{Line, is_number_sign, is_backslash, is_blank, is_token, cut, has_tokens, physical_lines, without_comment, joined_to, before_lines, joined, logical_lines}
+use Rattle.blif_read.proofs.Within.{all_join}
+use Rattle.blif_read.specs.Lines.{Line, is_number_sign, is_backslash, is_blank, is_token, cut, has_tokens}
+use Rattle.blif_read.specs.Lines.{physical_lines, without_comment, joined_to, before_lines, joined, logical_lines}
 use Rattle.blif_read.specs.Statements.{word, arguments, is_model, last_of, inputs_in}
 use Rattle.blif_read.specs.Parts.{rows_before_others}
-use Rattle.blif_read.specs.Models.{onto, ended, parts_behind, parts_of, first_name, named, named_inputs, formal_in, named_definition, named_definition_at, named_definitions, is_port, port_of, ports_in, call_of, calls_in, model_of}
+use Rattle.blif_read.specs.Models.{onto, ended, parts_behind, parts_of, first_name, named, named_inputs, formal_in}
+use Rattle.blif_read.specs.Models.{named_definition, named_definition_at, named_definitions, is_port, port_of, ports_in}
+use Rattle.blif_read.specs.Models.{call_of, calls_in, model_of}
 use Rattle.blif_read.specs.declared.words.Statement.{Statement}
-use Rattle.blif_read.specs.declared.words.Statement.TheVariants.{Model, Inputs, Outputs, Names, Subckt, End, Passed, Other, Row}
+use Rattle.blif_read.specs.declared.words.Statement.TheVariants.{Model, Inputs, Outputs, Names, Subckt, End, Passed}
+use Rattle.blif_read.specs.declared.words.Statement.TheVariants.{Other, Row}
 use Rattle.blif_read.specs.declared.models.Named.{Named}
 use Rattle.blif_read.specs.declared.models.Call.{Call}
 use Rattle.blif_read.specs.declared.models.NamedDef.{NamedDef}
 use Rattle.blif_read.specs.declared.models.BlifModel.{BlifModel}
 use Rattle.blif_flat.specs.Designs.{names_in, output_ports}
-use Rattle.blif_flat.proofs.Members.{all_from, all_both, all_mapped, all_weaker, at_among, passes}
+use Rattle.blif_flat.proofs.Members.{all_from, all_mapped, all_weaker, at_among, passes}
 use Rattle.blif_flat.proofs.JoinedModels.{driven_names}
 
 -- a text without a number sign
@@ -38,10 +44,11 @@ all_last P [] h = tt
 all_last P (x ∷ []) h = h
 all_last P (x ∷ y ∷ xs) h = all_last P (y ∷ xs) h.1
 
-all_flat : {X Y : Type 0} (P : Y → Type 0) (f : X → List Y) (xs : List X) → AllByRecursion (λ x. AllByRecursion P (f x)) xs
+all_flat : {X Y : Type 0} (P : Y → Type 0) (f : X → List Y) (xs : List X)
+    → AllByRecursion (λ x. AllByRecursion P (f x)) xs
     → AllByRecursion P (flat_map f xs)
 all_flat P f [] h = tt
-all_flat P f (x ∷ xs) h = all_both P (f x) (flat_map f xs) h.0 (all_flat P f xs h.1)
+all_flat P f (x ∷ xs) h = all_join P (f x) (flat_map f xs) h.0 (all_flat P f xs h.1)
 
 pub all_filtered : {X : Type 0} (P : X → Type 0) (t : X → Bool) (xs : List X) → AllByRecursion P xs
     → AllByRecursion P (filter t xs)
@@ -73,7 +80,8 @@ clean_split p (x ∷ xs) h = by (p x) (slice_split p xs) (clean_split p xs h.1)
 abbrev IsCleanLine : ℕ × List ℕ → Type 0
 IsCleanLine line = IsClean line.1
 
-clean_joined : (n : ℕ) (lines : List (List ℕ)) → AllByRecursion IsClean lines → AllByRecursion IsCleanLine (joined n lines)
+clean_joined : (n : ℕ) (lines : List (List ℕ)) → AllByRecursion IsClean lines
+    → AllByRecursion IsCleanLine (joined n lines)
 clean_joined n [] h = tt
 clean_joined n (line ∷ lines) h = by (is_backslash (slice_index line (length line - 1))) (joined (n + 1) lines)
     (clean_joined (n + 1) lines h.1)
@@ -81,12 +89,12 @@ clean_joined n (line ∷ lines) h = by (is_backslash (slice_index line (length l
     to : (front : List ℕ) (rest : List (ℕ × List ℕ)) → IsClean front → AllByRecursion IsCleanLine rest
         → AllByRecursion IsCleanLine (joined_to n front rest)
     to front [] f more = (f, tt)
-    to front (next ∷ rest) f more = (all_both (λ b. b ≡ 35 → ⊥) front next.1 f more.0, more.1)
+    to front (next ∷ rest) f more = (all_join (λ b. b ≡ 35 → ⊥) front next.1 f more.0, more.1)
 
     by : (b : Bool) (rest : List (ℕ × List ℕ)) → AllByRecursion IsCleanLine rest
         → AllByRecursion IsCleanLine (before_lines n line (cond b (Some (take (length line - 1) line)) None) rest)
     by true rest more = to (take (length line - 1) line ++ 32 ∷ []) rest
-        (all_both (λ b. b ≡ 35 → ⊥) (take (length line - 1) line) (32 ∷ [])
+        (all_join (λ b. b ≡ 35 → ⊥) (take (length line - 1) line) (32 ∷ [])
         (all_taken (λ b. b ≡ 35 → ⊥) (length line - 1) line h.0) (λ e. omega (arith, e), tt)) more
     by false rest more = (h.0, more)
 
@@ -147,7 +155,8 @@ input_word Other names h = tt
 input_word Row names h = tt
 
 definition_word : (w : Statement) (def : NamedDef) → IsClean def.output
-    → AllByRecursion (λ d. IsClean d.output) (elim w as (λ (x : Statement). List NamedDef) [ Names ↦ def ∷ [] | _ ↦ [] ])
+    → AllByRecursion (λ d. IsClean d.output)
+    (elim w as (λ (x : Statement). List NamedDef) [ Names ↦ def ∷ [] | _ ↦ [] ])
 definition_word Names def h = (h, tt)
 definition_word Model def h = tt
 definition_word Inputs def h = tt
@@ -189,7 +198,7 @@ clean_definitions : (lines : List Line) → AllByRecursion HasCleanTokens lines
     → AllByRecursion (λ d. IsClean d.output) (named_definitions lines)
 clean_definitions [] h = tt
 clean_definitions (line ∷ lines) h =
-    all_both (λ d. IsClean d.output) (named_definition_at line lines) (named_definitions lines)
+    all_join (λ d. IsClean d.output) (named_definition_at line lines) (named_definitions lines)
     (definition_word (word line) (named_definition line.number (arguments line) (rows_before_others lines))
     (clean_first (last_of (arguments line)) (all_last IsClean (arguments line) (clean_arguments line h.0))))
     (clean_definitions lines h.1)
@@ -219,9 +228,9 @@ clean_models text = all_mapped IsCleanModel model_of (parts_of (logical_lines te
 pub clean_driven : (models : List BlifModel) (model : BlifModel) → IsCleanModel model
     → AllByRecursion IsClean (driven_names models model)
 clean_driven models model ok =
-    all_both IsClean (names_in model.inputs ++ map (λ d. d.output) model.defs)
+    all_join IsClean (names_in model.inputs ++ map (λ d. d.output) model.defs)
     (flat_map (λ c. map (λ p. p.actual) (output_ports models c)) model.calls)
-    (all_both IsClean (names_in model.inputs) (map (λ d. d.output) model.defs)
+    (all_join IsClean (names_in model.inputs) (map (λ d. d.output) model.defs)
     (all_mapped IsClean (λ n. n.name) model.inputs ok.inputs)
     (all_mapped IsClean (λ d. d.output) model.defs ok.outputs))
     (all_flat IsClean (λ c. map (λ p. p.actual) (output_ports models c)) model.calls

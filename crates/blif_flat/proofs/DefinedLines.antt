@@ -1,16 +1,21 @@
 -- What the lines of a netlist say that is written definition by definition: it has no fault, and it is its definitions.
-use Rattle.std.proofs.Common.{◌≡◌, ℕ, zero, suc, ◌+◌, ◌<◌, ◌≤◌, not, true, false, List, [], ◌∷◌, ◌++◌, length, map, None, refl, sym, ap, ◌∙◌, subst, arith, codes, append-nil}
+use Rattle.std.proofs.Common.{◌≡◌, ℕ, zero, suc, ◌+◌, ◌<◌, ◌≤◌, not, true, false, List, [], ◌∷◌, ◌++◌, length, map}
+use Rattle.std.proofs.Common.{None, refl, sym, ap, ◌∙◌, subst, arith, codes, append-nil}
 use Rattle.std.specs.List.{list_any, list_all, flat_map, AllByRecursion, range_with_len}
 use Rattle.std.proofs.lemmas.Bool.{and_from}
+use Rattle.blif_read.proofs.Within.{all_join}
 use Rattle.blif_read.specs.Lines.{Line}
 use Rattle.blif_read.specs.Statements.{word, front_of, inputs_in, outputs_in, defined_in, used_in}
-use Rattle.blif_read.specs.Parts.{signals, number, is_defined, rows_before_others, plane, is_false, says_zero, definition, definition_at, definitions}
+use Rattle.blif_read.specs.Parts.{signals, number, is_defined, rows_before_others, plane, is_false, says_zero}
+use Rattle.blif_read.specs.Parts.{definition, definition_at, definitions}
 use Rattle.blif_read.specs.Faults.{is_control, before_of, adds_again, line_fault, undefined_fault}
 use Rattle.blif_read.specs.declared.words.Statement.TheVariants.{Row}
 use Rattle.blif_read.specs.declared.netlist.Def.{Def}
 use Rattle.blif_flat.proofs.WrittenLines.{IsToken, IsWritten, numbered}
 use Rattle.blif_flat.proofs.NumberedNames.{AreNames, IsEarlier, in_order, all_earlier, numbers_are, defined_is}
-use Rattle.blif_flat.proofs.Definitions.{Definition, line, IsRow, IsDefinition, AreDefined, names_tokens, body, whole, front_is, last_is, all_append, passes, no_kind, clear_line, off_both, names_written, tokens_are, within, body_passes}
+use Rattle.blif_flat.proofs.Definitions.{Definition, line, IsRow, IsDefinition, AreDefined, names_tokens, body, whole}
+use Rattle.blif_flat.proofs.Definitions.{front_is, last_is, passes, no_kind, clear_line, off_both, names_written}
+use Rattle.blif_flat.proofs.Definitions.{tokens_are, within, body_passes}
 
 rows_written : (width : ℕ) (rows : List (List (List ℕ))) → AllByRecursion (IsRow width) rows
     → AllByRecursion IsWritten rows
@@ -166,7 +171,7 @@ module _ (name : ℕ → List ℕ) (total : ℕ) (names : AreNames name total) w
   body_written s [] h each = ((refl, tt), tt)
   body_written s (d ∷ ds) h each = (
     names_written name total names s d (omega arith) each.0,
-    all_append IsWritten d.rows (body name (s + 1) ds) (rows_written (length d.feeds) d.rows each.0.rows)
+    all_join IsWritten d.rows (body name (s + 1) ds) (rows_written (length d.feeds) d.rows each.0.rows)
         (body_written (s + 1) ds (omega arith) each.1),
   )
 

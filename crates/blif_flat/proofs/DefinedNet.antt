@@ -1,5 +1,7 @@
 -- The netlist that is said by lines that are written definition by definition, and that its text says it.
-use Rattle.std.proofs.Common.{◌≡◌, ℕ, zero, suc, ◌+◌, ◌-◌, ◌<◌, ◌≤◌, ◌||◌, cond, nat_lt, Bool, true, false, List, [], ◌∷◌, ◌++◌, length, map, Option, Some, None, refl, sym, ap, ◌∙◌, subst, arith, inl, inr, codes, append-nil}
+use Rattle.std.proofs.Common.{◌≡◌, ℕ, zero, suc, ◌+◌, ◌-◌, ◌<◌, ◌≤◌, ◌||◌, cond, nat_lt, Bool, true, false, List, []}
+use Rattle.std.proofs.Common.{◌∷◌, ◌++◌, length, map, Option, Some, None, refl, sym, ap, ◌∙◌, subst, arith, inl, inr}
+use Rattle.std.proofs.Common.{codes, append-nil}
 use Rattle.std.specs.Prelude.{slice_get, nat_eq}
 use Rattle.std.specs.List.{flat_map, AllByRecursion, range_with_len}
 use Rattle.std.specs.Option.{option_or, option_map}
@@ -22,7 +24,8 @@ use Rattle.blif_flat.specs.BlifText.{line_text}
 use Rattle.blif_flat.proofs.WrittenLines.{IsToken, IsWritten, numbered, written_lines}
 use Rattle.blif_flat.proofs.NumberedNames.{AreNames, numbers_are, range_apart}
 use Rattle.blif_flat.proofs.Definitions.{Definition, line, AreDefined, body, whole, tokens_are}
-use Rattle.blif_flat.proofs.DefinedLines.{all_read, body_inputs, body_outputs, body_defined, body_read, body_used, body_written, head_passes, all_defined, skips}
+use Rattle.blif_flat.proofs.DefinedLines.{all_read, body_inputs, body_outputs, body_defined, body_read, body_used}
+use Rattle.blif_flat.proofs.DefinedLines.{body_written, head_passes, all_defined, skips}
 
 -- the netlist of the definitions
 abbrev pub net_of : (ℕ → List ℕ) → ℕ → List Definition → List ℕ → NetView

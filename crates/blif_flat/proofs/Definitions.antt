@@ -1,6 +1,7 @@
 -- A netlist that is written definition by definition, where each signal is defined by earlier ones: no line of it has a
 -- fault, and its lines say its definitions.
-use Rattle.std.proofs.Common.{◌≡◌, ℕ, ◌+◌, ◌<◌, ◌≤◌, ◌||◌, ◌&&◌, ◌==◌, not, cond, nat_lt, Bool, true, false, List, [], ◌∷◌, ◌++◌, length, map, Option, Some, None, refl, sym, ap, ◌∙◌, subst, arith, codes}
+use Rattle.std.proofs.Common.{◌≡◌, ℕ, ◌+◌, ◌<◌, ◌≤◌, ◌||◌, ◌&&◌, ◌==◌, not, cond, nat_lt, Bool, true, false, List, []}
+use Rattle.std.proofs.Common.{◌∷◌, ◌++◌, length, map, Option, Some, None, refl, sym, ap, ◌∙◌, subst, arith, codes}
 use Rattle.std.specs.List.{list_any, list_all, flat_map, AllByRecursion, range_with_len}
 use Rattle.std.specs.Option.{option_or}
 use Rattle.std.proofs.lemmas.Bool.{and_parts, ltb-true, le-ltb}
@@ -8,11 +9,14 @@ use Rattle.std.proofs.lemmas.List.{length-map}
 use Rattle.blif_read.specs.Lines.{Line, is_empty}
 use Rattle.blif_read.specs.Statements.{word, arguments, is_names, is_end, is_row, front_of, last_of, truth}
 use Rattle.blif_read.specs.Parts.{signals}
-use Rattle.blif_read.specs.Faults.{cover_above, before_of, is_control, is_token_fault, is_second_model, is_unsupported, has_shape, is_same, row_fault, kind_in, added_in, adds_again, duplicate_in, kind_of, at_line, line_fault}
+use Rattle.blif_read.specs.Faults.{cover_above, before_of, is_control, is_token_fault, is_second_model, is_unsupported}
+use Rattle.blif_read.specs.Faults.{has_shape, is_same, row_fault, kind_in, added_in, adds_again, duplicate_in, kind_of}
+use Rattle.blif_read.specs.Faults.{at_line, line_fault}
 use Rattle.blif_read.specs.declared.words.Statement.TheVariants.{Row}
 use Rattle.blif_read.specs.declared.before.Before.{Before}
 use Rattle.blif_read.specs.declared.netlist.LineKind.TheVariants.{Duplicate}
 use Rattle.blif_read.proofs.PlainLines.{is_inked}
+use Rattle.blif_read.proofs.Within.{all_join}
 use Rattle.blif_flat.proofs.WrittenLines.{IsToken, IsWritten, numbered}
 use Rattle.blif_flat.proofs.NumberedNames.{AreNames, IsEarlier, fresh, one_more}
 
@@ -107,11 +111,6 @@ clear_tokens (token ∷ tokens) each = off_both (list_any is_control token) (lis
 pub clear_line : (tokens : List (List ℕ)) → IsWritten tokens → list_any (list_any is_control) tokens ≡ false
 clear_line [] is = absurd is
 clear_line (token ∷ tokens) is = clear_tokens (token ∷ tokens) (is.0, is.1)
-
-pub all_append : {X : Type 0} (P : X → Type 0) (xs ys : List X) → AllByRecursion P xs → AllByRecursion P ys
-    → AllByRecursion P (xs ++ ys)
-all_append P [] ys a b = b
-all_append P (x ∷ xs) ys a b = (a.0, all_append P xs ys a.1 b)
 
 -- ---- the fault of a line
 
@@ -208,7 +207,7 @@ module _ (name : ℕ → List ℕ) (total : ℕ) (names : AreNames name total) w
   pub names_written : (s : ℕ) (d : Definition) → s < total → IsDefinition s d → IsWritten (names_tokens name s d)
   names_written s d p is = (
     refl,
-    all_append IsToken (map name d.feeds) (name s ∷ [])
+    all_join IsToken (map name d.feeds) (name s ∷ [])
         (tokens_are d.feeds (within s total (omega arith) d.feeds is.feeds)) (names.token s p, tt),
   )
 

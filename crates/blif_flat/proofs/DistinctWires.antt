@@ -1,15 +1,20 @@
--- The wires of an expanded model are all different: those of each call stand in its own range of numbers, and those of the
+-- The wires of an expanded model are all different: those of each call stand in its own range of numbers, and those of
+-- the
 -- model itself have the names that it drives.
-use Rattle.std.proofs.Common.{◌≡◌, ℕ, zero, suc, ◌+◌, ◌<◌, ◌≤◌, ◌⊎◌, List, [], ◌∷◌, ◌++◌, map, refl, sym, ap, ◌∙◌, subst, arith, inl, inr, sum_by, append_assoc}
+use Rattle.std.proofs.Common.{◌≡◌, ℕ, zero, suc, ◌+◌, ◌<◌, ◌≤◌, ◌⊎◌, List, [], ◌∷◌, ◌++◌, map, refl, sym, ap, ◌∙◌}
+use Rattle.std.proofs.Common.{subst, arith, inl, inr, sum_by, append_assoc}
 use Rattle.std.specs.List.{AllByRecursion}
 use Rattle.std.proofs.lemmas.List.{map-append}
 use Rattle.std.proofs.lemmas.List.Sums.{sum_by-cons}
+use Rattle.blif_read.proofs.Within.{all_join}
 use Rattle.blif_read.specs.declared.models.Call.{Call}
 use Rattle.blif_read.specs.declared.models.NamedDef.{NamedDef}
 use Rattle.blif_read.specs.declared.models.BlifModel.{BlifModel}
 use Rattle.blif_flat.specs.Designs.{names_in, called, output_ports, actual_of, joined_outputs}
-use Rattle.blif_flat.specs.Expansion.{Wire, wire, WireDef, own, buffer, calls_within, expanded_call, expanded_calls, expanded}
-use Rattle.blif_flat.proofs.Members.{Among, AreApart, among_left, among_right, among_parts, image, at_among, all_from, all_both, all_weaker, apart_join, apart_front, apart_back, apart_across, apart_map, map_map}
+use Rattle.blif_flat.specs.Expansion.{Wire, wire, WireDef, own, buffer, calls_within, expanded_call, expanded_calls}
+use Rattle.blif_flat.specs.Expansion.{expanded}
+use Rattle.blif_flat.proofs.Members.{Among, AreApart, among_left, among_right, among_parts, image, at_among, all_from}
+use Rattle.blif_flat.proofs.Members.{all_weaker, apart_join, apart_front, apart_back, apart_across, apart_map, map_map}
 use Rattle.blif_flat.proofs.JoinedModels.{driven_names, IsJoinedCall, actual_is_driven, actuals_apart}
 use Rattle.blif_flat.proofs.SoundModels.{IsSound}
 use Rattle.blif_flat.proofs.Blocks.{defined_in, block, driven_by}
@@ -105,7 +110,8 @@ module _ (models : List BlifModel) where
       let at = at_among (IsOf k mine) joined y of_mine g in
       let same : x.call ≡ k = ap (λ (w : Wire). w.call) e ∙ at.here in
       omega (arith, low.above, same, after))) in
-      let off_block : (x y : Wire) → Among x first → Lies k next (next + within_calls steps calls) others y → x ≡ y → ⊥ =
+      let off_block : (x y : Wire) → Among x first
+      → Lies k next (next + within_calls steps calls) others y → x ≡ y → ⊥ =
       λ x y h lies e.
       (let low = at_among (IsFrom n next) first x own_block.lie h in
       let same : x.call ≡ y.call = ap (λ (w : Wire). w.call) e in
@@ -113,7 +119,8 @@ module _ (models : List BlifModel) where
         | inl far ↦ let l = low.below in let f = far.above in omega (arith, l, f, same)
         | inr near ↦ let l = low.above in let f = near.here in omega (arith, l, f, same, after)
       ]) in
-      let off_joined : (x y : Wire) → Among x joined → Lies k next (next + within_calls steps calls) others y → x ≡ y → ⊥ =
+      let off_joined : (x y : Wire) → Among x joined
+      → Lies k next (next + within_calls steps calls) others y → x ≡ y → ⊥ =
       λ x y h lies e.
       (let at = at_among (IsOf k mine) joined x of_mine h in
       let same : x.call ≡ y.call = ap (λ (w : Wire). w.call) e in
@@ -125,14 +132,15 @@ module _ (models : List BlifModel) where
       record {
         apart = subst AreApart (sym whole) (apart_join (first ++ joined) (defined_in rest) front more.apart
             (λ x y h g e.
-            (let lies = at_among (Lies k next (next + within_calls steps calls) others) (defined_in rest) y more.lie g in
+            (let lies = at_among (Lies k next (next + within_calls steps calls) others)
+            (defined_in rest) y more.lie g in
             elim (among_parts x first joined h) [
               | inl a ↦ off_block x y a lies e
               | inr b ↦ off_joined x y b lies e
             ])));
         lie = subst (AllByRecursion (Lies k n end (mine ++ others))) (sym whole)
-            (all_both (Lies k n end (mine ++ others)) (first ++ joined) (defined_in rest)
-            (all_both (Lies k n end (mine ++ others)) first joined
+            (all_join (Lies k n end (mine ++ others)) (first ++ joined) (defined_in rest)
+            (all_join (Lies k n end (mine ++ others)) first joined
             (all_weaker (IsFrom n next) (Lies k n end (mine ++ others))
             (λ x f. inl (record { above = f.above; below = (let b = f.below in omega (arith, b, sum)) })) first
             own_block.lie)
@@ -194,7 +202,7 @@ module _ (models : List BlifModel) where
               | inr near ↦ apart_across names ports y.name ok.0.apart
                   (subst (λ s. Among s names) (ap (λ (w : Wire). w.name) (at.is ∙ e)) at.there) near.named
             ]));
-        lie = all_both (IsFrom k end) (map (wire k) names) below
+        lie = all_join (IsFrom k end) (map (wire k) names) below
             (all_from (IsFrom k end) (map (wire k) names)
             (λ x h.
             (let at = image (wire k) names x h in
@@ -223,7 +231,7 @@ module _ (models : List BlifModel) where
       (λ c there m. is_block steps m (called models c)
       (at_among (λ e. IsSound steps models (called models e)) model.calls c ok.1 there))) in
       subst (AllByRecursion P) (sym (block_parts steps k model))
-      (all_both P (map (wire k) names) below
+      (all_join P (map (wire k) names) below
       (all_from P (map (wire k) names)
       (λ x h here.
       (let at = image (wire k) names x h in

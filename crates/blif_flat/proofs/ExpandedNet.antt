@@ -1,5 +1,6 @@
 -- The netlist of a design answers each word as its first model does.
-use Rattle.std.proofs.Common.{◌≡◌, ℕ, zero, suc, ◌+◌, ◌<◌, ◌==◌, ◌&&◌, ◌||◌, Bool, true, false, not, List, [], ◌∷◌, ◌++◌, map, length, Some, refl, sym, ap, ◌∙◌, subst, arith, length-append}
+use Rattle.std.proofs.Common.{◌≡◌, ℕ, zero, suc, ◌+◌, ◌<◌, ◌==◌, ◌&&◌, ◌||◌, Bool, true, false, not, List, [], ◌∷◌}
+use Rattle.std.proofs.Common.{◌++◌, map, length, Some, refl, sym, ap, ◌∙◌, subst, arith, length-append}
 use Rattle.std.specs.Prelude.{slice_get, slice_index_or}
 use Rattle.std.specs.List.{list_any, AllByRecursion}
 use Rattle.std.specs.Str.{bytes_eq}
@@ -18,16 +19,19 @@ use Rattle.blif_flat.specs.DesignText.{is_design, IsBuildable, OfModels, SaysExp
 use Rattle.blif_flat.specs.NetMeaning.{NetMeans}
 use Rattle.blif_flat.specs.Expansion.{Wire, wire, same_wire, WireDef, definitions, wires, number, numbered, expansion}
 use Rattle.blif_flat.specs.Meaning.{takes_all, DesignAnswers}
-use Rattle.blif_flat.proofs.Members.{Among, AreApart, all_from, at_among, map_map, map_same, Picks, at_place, place_of, there, same_bytes, bytes_same}
+use Rattle.blif_flat.proofs.Members.{Among, AreApart, all_from, at_among, map_map, map_same, Picks, at_place, place_of}
+use Rattle.blif_flat.proofs.Members.{there, same_bytes}
 use Rattle.blif_flat.proofs.SoundModels.{IsSound, some_model, first_is_sound}
 use Rattle.blif_flat.proofs.HeldWires.{Values, at, held_value, Holds, means_from_wires}
 use Rattle.blif_flat.proofs.WiresOfMeaning.{IsSolved, wires_from_meaning}
 use Rattle.blif_flat.proofs.Blocks.{block_reads, output_is_there}
 use Rattle.blif_flat.proofs.DistinctWires.{block_apart}
+use Rattle.blif_flat.proofs.Numbering.{bytes_same}
 
 pub picks_wire : (x : Wire) → Picks (same_wire x) x
 picks_wire x = record {
-  yes = and_from (x.call == x.call) (bytes_eq x.name x.name) (eq-eqb x.call x.call refl) (same_bytes x.name x.name refl);
+  yes = and_from (x.call == x.call) (bytes_eq x.name x.name) (eq-eqb x.call x.call refl)
+      (same_bytes x.name x.name refl);
   alone = λ y e.
       (let both = and_parts (x.call == y.call) (bytes_eq x.name y.name) e in
       let calls = eqb-true x.call y.call both.0 in
@@ -46,7 +50,8 @@ same_match (b ∷ plane) ws (x ∷ xs) v w h = λ i. takes b (h.0 i) && same_mat
 
 some_match : (cubes : List Cube) (ws : List Wire) (xs : List Wire) (v : ℕ → Bool) (w : Values)
     → AllByRecursion (λ x. v (number ws x) ≡ at w x) xs
-    → list_any (λ c. matches c.plane (map (number ws) xs) v) cubes ≡ list_any (λ c. takes_all c.plane (map (at w) xs)) cubes
+    → list_any (λ c. matches c.plane (map (number ws) xs) v) cubes ≡ list_any
+    (λ c. takes_all c.plane (map (at w) xs)) cubes
 some_match [] ws xs v w h = refl
 some_match (c ∷ cubes) ws xs v w h = λ i. same_match c.plane ws xs v w h i || some_match cubes ws xs v w h i
 
@@ -171,7 +176,8 @@ module _ (models : List BlifModel) (sound : IsSound (length models) models (firs
       at_front (map (wire 0) inputs) (map (λ x. x.output) ds) i (wire 0 []) within
       ∙ mapped_at (wire 0) inputs i [] (wire 0 []) (omega (arith, count, lt))
 
-  output_at : (j : ℕ) (d : WireDef) → slice_get ds j ≡ Some d → wire_at (length (first_model models).inputs + j) ≡ d.output
+  output_at : (j : ℕ) (d : WireDef) → slice_get ds j ≡ Some d
+      → wire_at (length (first_model models).inputs + j) ≡ d.output
   output_at j d e = ap (λ n. wire_at (n + j)) (sym input_count)
       ∙ at_back (map (wire 0) inputs) (map (λ x. x.output) ds) j d.output (wire 0 [])
       (get_mapped (λ (x : WireDef). x.output) ds j d e)
@@ -230,7 +236,8 @@ module _ (models : List BlifModel) (sound : IsSound (length models) models (firs
       length-append (map (wire 0) inputs) (map (λ x. x.output) ds) in
       let bit : (i : ℕ) → i < length (map (w 0) inputs)
       → slice_index_or (map (w 0) inputs) i false ≡ slice_index_or word i false = λ i lt.
-      (let short : i < length (first_model models).inputs = (let n = length-map inputs (w 0) in omega (arith, n, count, lt)) in
+      (let short : i < length (first_model models).inputs =
+      (let n = length-map inputs (w 0) in omega (arith, n, count, lt)) in
       let within : i < length ws = (let n = input_count in omega (arith, n, whole, short)) in
       mapped_at (w 0) inputs i [] false (omega (arith, count, short))
       ∙ ap v (place_of (same_wire (wire 0 (slice_index_or inputs i []))) (wire 0 (slice_index_or inputs i []))
@@ -254,7 +261,11 @@ net_means models ok word answer size =
 pub said_means : (text : List ℕ) (net : NetView) → is_design (logical_lines text) ≡ true → SaysNetlist text net
     → OfModels text (λ models. NetMeans models net)
 said_means text net design says =
-    let of = subst (λ b. elim b as (λ (x : Bool). Type 0) [ true ↦ OfModels text (SaysExpansion net) | false ↦ SaysNet text net ])
+    let of = subst (λ b. elim b as (λ (x : Bool). Type 0) [
+      | true ↦ OfModels text
+          (SaysExpansion net)
+      | false ↦ SaysNet text net
+    ])
     design says in
     record {
       models = of.models;

@@ -1,5 +1,6 @@
 -- The netlist of a design that a text says has the parts of a netlist.
-use Rattle.std.proofs.Common.{◌≡◌, ℕ, zero, suc, ◌+◌, ◌<◌, ◌≤◌, ◌^◌, Bool, true, false, drop, List, [], ◌∷◌, ◌++◌, map, length, Option, Some, None, refl, sym, subst, arith, flat_map, length-append}
+use Rattle.std.proofs.Common.{◌≡◌, ℕ, zero, suc, ◌+◌, ◌<◌, ◌≤◌, ◌^◌, Bool, true, false, drop, List, [], ◌∷◌, ◌++◌, map}
+use Rattle.std.proofs.Common.{length, Option, Some, None, refl, sym, subst, arith, flat_map, length-append}
 use Rattle.std.specs.Prelude.{slice_index_or}
 use Rattle.std.specs.List.{AllByRecursion}
 use Rattle.std.proofs.lemmas.List.{length-map}
@@ -7,25 +8,29 @@ use Rattle.std.proofs.lemmas.List.Sums.{sum_by-cons}
 use Rattle.blif_read.specs.Lines.{Line, logical_lines}
 use Rattle.blif_read.specs.Statements.{word, arguments, inputs_in, outputs_in, is_model}
 use Rattle.blif_read.specs.Parts.{NetView}
-use Rattle.blif_read.specs.Models.{onto, ended, parts_behind, parts_of, named, named_inputs, named_outputs, model_of, SaysModels}
+use Rattle.blif_read.specs.Models.{onto, ended, parts_behind, parts_of, named, named_inputs, named_outputs, model_of}
+use Rattle.blif_read.specs.Models.{SaysModels}
 use Rattle.blif_read.specs.Netlist.{IsPlane, IsDef, AreParts, IsNetlist}
 use Rattle.blif_read.specs.Code.Size.{bytes_of, token_bytes, IsCut}
 use Rattle.blif_read.specs.declared.words.Statement.{Statement}
-use Rattle.blif_read.specs.declared.words.Statement.TheVariants.{Model, Inputs, Outputs, Names, Subckt, End, Passed, Other, Row}
+use Rattle.blif_read.specs.declared.words.Statement.TheVariants.{Model, Inputs, Outputs, Names, Subckt, End, Passed}
+use Rattle.blif_read.specs.declared.words.Statement.TheVariants.{Other, Row}
 use Rattle.blif_read.specs.Walk.{first_cycle}
-use Rattle.blif_read.proofs.Counted.{text_is_cut}
+use Rattle.blif_read.proofs.Counted.{text_is_cut, token_each}
 use Rattle.blif_read.proofs.Depths.{no_cycle}
 use Rattle.blif_read.proofs.Whole.{within}
-use Rattle.blif_read.proofs.Within.{IsWithinDef}
+use Rattle.blif_read.proofs.Within.{IsWithinDef, all_join}
 use Rattle.blif_read.specs.declared.netlist.Def.{Def}
 use Rattle.blif_read.specs.declared.models.Call.{Call}
 use Rattle.blif_read.specs.declared.models.NamedDef.{NamedDef}
 use Rattle.blif_read.specs.declared.models.BlifModel.{BlifModel}
-use Rattle.blif_flat.specs.Designs.{names_in, model_number, model_at, called, no_model, actual_of, joined_outputs, first_model}
+use Rattle.blif_flat.specs.Designs.{names_in, model_number, model_at, called, no_model, actual_of, joined_outputs}
+use Rattle.blif_flat.specs.Designs.{first_model}
 use Rattle.blif_flat.specs.DesignSize.{design_size}
 use Rattle.blif_flat.specs.DesignText.{IsBuildable}
-use Rattle.blif_flat.specs.Expansion.{Wire, wire, same_wire, WireDef, own, buffer, calls_within, expanded_calls, expanded, definitions, wires, number, numbered, kept_names, expansion}
-use Rattle.blif_flat.proofs.Members.{Among, all_from, all_both, all_mapped, all_weaker, at_among, place_below}
+use Rattle.blif_flat.specs.Expansion.{Wire, wire, same_wire, WireDef, own, buffer, calls_within, expanded_calls}
+use Rattle.blif_flat.specs.Expansion.{expanded, definitions, wires, number, numbered, kept_names, expansion}
+use Rattle.blif_flat.proofs.Members.{Among, all_from, all_mapped, all_weaker, at_among, place_below}
 use Rattle.blif_flat.proofs.JoinedModels.{driven_names}
 use Rattle.blif_flat.proofs.SoundModels.{IsSound, some_model, first_is_sound}
 use Rattle.blif_flat.proofs.Blocks.{block_reads, output_is_there}
@@ -77,9 +82,9 @@ module _ (models : List BlifModel) (covers : AllByRecursion HasCovers models) wh
       let ins = map from (names_in model.inputs) in
       let body = expanded steps models n model in
       let outs = map to (joined_outputs models call) in
-      all_both IsCoveredWire (ins ++ body ++ outs) (expanded_calls steps models (expanded steps models) k next calls)
-      (all_both IsCoveredWire (ins ++ body) outs
-      (all_both IsCoveredWire ins body
+      all_join IsCoveredWire (ins ++ body ++ outs) (expanded_calls steps models (expanded steps models) k next calls)
+      (all_join IsCoveredWire (ins ++ body) outs
+      (all_join IsCoveredWire ins body
       (all_mapped IsCoveredWire from (names_in model.inputs)
       (all_from (λ i. IsCoveredWire (from i)) (names_in model.inputs)
       (λ i h. buffer_is_covered call.line (wire k (actual_of call i)) (wire n i))))
@@ -93,7 +98,7 @@ module _ (models : List BlifModel) (covers : AllByRecursion HasCovers models) wh
       → AllByRecursion IsCoveredWire (expanded steps models k model)
   model_covered zero k model ok = tt
   model_covered (suc steps) k model ok =
-      all_both IsCoveredWire (map (own k) model.defs)
+      all_join IsCoveredWire (map (own k) model.defs)
       (expanded_calls steps models (expanded steps models) k (k + 1) model.calls)
       (all_mapped IsCoveredWire (own k) model.defs
       (all_weaker IsCovered (λ d. IsCoveredWire (own k d)) (owned_is_covered k) model.defs ok))
@@ -125,7 +130,8 @@ module _ (models : List BlifModel) (sound : IsSound (length models) models (firs
   each_def n count = all_mapped (IsDef n) (numbered ws) ds
       (all_from (λ d. IsDef n (numbered ws d)) ds
       (λ d h.
-      (let ok = at_among IsCoveredWire ds d (model_covered models covers (length models) 0 (first_model models) first_covers) h in
+      (let ok = at_among IsCoveredWire ds d
+      (model_covered models covers (length models) 0 (first_model models) first_covers) h in
       let reads = at_among (λ e. AllByRecursion (λ x. Among x ws) e.inputs) ds d
       (block_reads models ws (length models) 0 (first_model models) sound (λ x there. there)) h in
       record {
@@ -179,7 +185,8 @@ onto_bytes : (line : Line) (parts : List (List Line))
 onto_bytes line [] = sum_by-cons (λ (l : Line). token_bytes l.tokens) line []
 onto_bytes line (part ∷ parts) = sum_by-cons (λ (l : Line). token_bytes l.tokens) line part
 
-ended_bytes : (b : Bool) (parts : List (List Line)) → bytes_of (first_part (ended b parts)) ≤ bytes_of (first_part parts)
+ended_bytes : (b : Bool) (parts : List (List Line))
+    → bytes_of (first_part (ended b parts)) ≤ bytes_of (first_part parts)
 ended_bytes true parts = omega arith
 ended_bytes false parts = omega arith
 
@@ -199,7 +206,13 @@ part_bytes : (lines : List Line) → bytes_of (first_part (parts_of lines)) ≤ 
 part_bytes [] = omega arith
 part_bytes (line ∷ lines) =
     let more = behind_bytes lines in
-    omega (arith, more, onto_bytes line (parts_behind lines), sum_by-cons (λ (l : Line). token_bytes l.tokens) line lines)
+    omega (
+      arith,
+      more,
+      onto_bytes line (parts_behind lines),
+      sum_by-cons
+          (λ (l : Line). token_bytes l.tokens) line lines,
+    )
 
 named_in : (w : Statement) (names : List (List ℕ)) (n : ℕ) → length names ≤ n
     → length (elim w as (λ (x : Statement). List (List ℕ)) [ Inputs ↦ names | _ ↦ [] ])
@@ -214,17 +227,10 @@ named_in Passed names n h = omega arith
 named_in Other names n h = omega arith
 named_in Row names n h = omega arith
 
-pub each_has_a_byte : (tokens : List (List ℕ)) → AllByRecursion (λ t. 0 < length t) tokens → length tokens ≤ token_bytes tokens
-each_has_a_byte [] h = omega arith
-each_has_a_byte (t ∷ tokens) h =
-    let more = each_has_a_byte tokens h.1 in
-    let here = h.0 in
-    omega (arith, more, here, sum_by-cons (λ (x : List ℕ). length x) t tokens)
-
 arguments_below : (tokens : List (List ℕ)) → AllByRecursion (λ t. 0 < length t) tokens
     → length (drop 1 tokens) ≤ token_bytes tokens
 arguments_below [] h = omega arith
-arguments_below (t ∷ tokens) h = let all = each_has_a_byte (t ∷ tokens) h in omega (arith, all)
+arguments_below (t ∷ tokens) h = let all = token_each (t ∷ tokens) h in omega (arith, all)
 
 few_ends : (lines : List Line) → AllByRecursion IsCut lines
     → length (flat_map named_inputs lines) + length (flat_map named_outputs lines) ≤ bytes_of lines
@@ -257,7 +263,8 @@ few_ends_of : (lines : List Line) → AllByRecursion IsCut lines
     + length (first_model (map model_of (parts_of lines))).outputs ≤ bytes_of lines
 few_ends_of lines cut =
     let part = first_part (parts_of lines) in
-    let each : AllByRecursion IsCut part = at_index (AllByRecursion IsCut) (parts_of lines) 0 [] (all_parts IsCut lines cut) tt in
+    let each : AllByRecursion IsCut part = at_index (AllByRecursion IsCut) (parts_of lines) 0 []
+    (all_parts IsCut lines cut) tt in
     let few = few_ends part each in
     let bytes = part_bytes lines in
     subst (λ (m : BlifModel). length m.inputs + length m.outputs ≤ bytes_of lines) (sym (first_is lines))
@@ -271,7 +278,8 @@ said_parts text models few says ok =
     let lines = logical_lines text in
     let parts = parts_of lines in
     let sound = first_is_sound models ok.laid_out (some_model models ok.some_output) in
-    let clean = at_index IsCleanModel models 0 no_model (subst (AllByRecursion IsCleanModel) (sym says.each) (clean_models text))
+    let clean = at_index IsCleanModel models 0 no_model
+    (subst (AllByRecursion IsCleanModel) (sym says.each) (clean_models text))
     (record { inputs = tt; outputs = tt; actuals = tt }) in
     let covers = subst (AllByRecursion HasCovers) (sym says.each) (covered_models parts says.sound) in
     let cut = text_is_cut text in

@@ -1,5 +1,6 @@
 -- The netlist of a design is no larger than the design, but for its inputs and outputs.
-use Rattle.std.proofs.Common.{◌≡◌, ℕ, zero, suc, ◌+◌, ◌*◌, ◌≤◌, Bool, true, false, cond, List, [], ◌∷◌, ◌++◌, map, length, filter, refl, arith, sum_by, length-append}
+use Rattle.std.proofs.Common.{◌≡◌, ℕ, zero, suc, ◌+◌, ◌*◌, ◌≤◌, Bool, true, false, cond, List, [], ◌∷◌, ◌++◌, map}
+use Rattle.std.proofs.Common.{length, filter, refl, arith, sum_by, length-append}
 use Rattle.std.proofs.lemmas.List.{length-map}
 use Rattle.std.proofs.lemmas.List.Sums.{sum_by-cons, sum_by-append}
 use Rattle.blif_read.specs.Parts.{is_defined}
@@ -10,7 +11,8 @@ use Rattle.blif_read.specs.declared.models.NamedDef.{NamedDef}
 use Rattle.blif_read.specs.declared.models.BlifModel.{BlifModel}
 use Rattle.blif_flat.specs.Designs.{names_in, called, formals, actual_of, distinct_outputs, joined_outputs, first_model}
 use Rattle.blif_flat.specs.DesignSize.{definition_size, call_size, model_size, design_size}
-use Rattle.blif_flat.specs.Expansion.{Wire, wire, WireDef, own, buffer, calls_within, expanded_call, expanded_calls, expanded, definitions, wires, number, numbered, expansion}
+use Rattle.blif_flat.specs.Expansion.{Wire, wire, WireDef, own, buffer, calls_within, expanded_call, expanded_calls}
+use Rattle.blif_flat.specs.Expansion.{expanded, definitions, wires, number, numbered, expansion}
 use Rattle.blif_flat.proofs.KeptNames.{kept_count}
 
 -- a definition with its signal, its inputs, and its rows and their bytes
@@ -95,7 +97,8 @@ module _ (models : List BlifModel) where
         sum_by-cons (call_size (model_size steps models) models) call calls,
       )
 
-  model_total : (steps k : ℕ) (model : BlifModel) → total (expanded steps models k model) ≤ model_size steps models model
+  model_total : (steps k : ℕ) (model : BlifModel)
+      → total (expanded steps models k model) ≤ model_size steps models model
   model_total zero k model = omega arith
   model_total (suc steps) k model =
       let calls = calls_total steps k (k + 1) model.calls (model_total steps) in

@@ -1,9 +1,10 @@
 -- A circuit has few inputs: each is taken by an input of a cell, which takes no other.
-use Rattle.std.proofs.Common.{◌≡◌, ℕ, zero, suc, ◌+◌, ◌*◌, ◌<◌, ◌≤◌, ◌^◌, false, List, [], ◌∷◌, length, Some, refl, sym, ap, ◌∙◌, arith}
+use Rattle.std.proofs.Common.{◌≡◌, ℕ, zero, suc, ◌+◌, ◌*◌, ◌<◌, ◌≤◌, ◌^◌, false, List, [], ◌∷◌, length, refl, sym, ap}
+use Rattle.std.proofs.Common.{◌∙◌, arith}
 use Rattle.std.specs.Prelude.{slice_get, nat_eq}
 use Rattle.std.specs.List.{AllByRecursion}
 use Rattle.std.proofs.lemmas.Bool.{ne_eqb}
-use Rattle.std.proofs.lemmas.Option.{slice_get_within}
+use Rattle.std.proofs.lemmas.Option.{slice_get_within, same_Some}
 use Rattle.blif_read.specs.Walk.{on}
 use Rattle.blif_read.specs.Code.Marking.{Apart}
 use Rattle.blif_read.proofs.Closing.{path_fits}
@@ -12,16 +13,13 @@ use Rattle.chip_circuit.specs.declared.cells.ExCell.{ExCell}
 use Rattle.chip_circuit.specs.Circuits.{CircuitView, IsFed, KeepsFacts, feed_at}
 use Rattle.blif_flat.proofs.Definitions.{off_both}
 
-same_cell : (x y : ExCell) → Some x ≡ Some y → x ≡ y
-same_cell x y e = cc
-
 same_label : (n m : ℕ) → Label n ≡ Label m → n ≡ m
 same_label n m e = cc
 
 fed_once : (circuit : CircuitView) (a b i j n m : ℕ) → IsFed circuit a i (Label n) → IsFed circuit b j (Label m)
     → a ≡ b → i ≡ j → n ≡ m
 fed_once circuit a b i j n m p q e f =
-    let cells : p.cell ≡ q.cell = same_cell p.cell q.cell (sym p.cell_is ∙ ap (slice_get circuit.cells) e
+    let cells : p.cell ≡ q.cell = same_Some p.cell q.cell (sym p.cell_is ∙ ap (slice_get circuit.cells) e
     ∙ q.cell_is) in
     same_label n m (sym p.feed_is ∙ (λ k. feed_at (cells k) (f k)) ∙ q.feed_is)
 

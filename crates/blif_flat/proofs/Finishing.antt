@@ -1,6 +1,7 @@
 -- What is finished of a design's wires and definitions is the netlist that its text says, and its refusals are those of
 -- that text.
-use Rattle.std.proofs.Common.{◌≡◌, ◌<◌, ◌^◌, ℕ, List, map, Result, Ok, Err, IfOk, IfErr, OnOk, None, length, refl, sym, ap, ◌∙◌, arith}
+use Rattle.std.proofs.Common.{◌≡◌, ◌<◌, ◌^◌, ℕ, List, map, Result, Ok, Err, IfOk, IfErr, OnOk, None, length, refl, sym}
+use Rattle.std.proofs.Common.{ap, ◌∙◌, arith}
 use Rattle.std.specs.Prelude.{slice_index_or}
 use Rattle.std.proofs.lemmas.List.{get_or_default, length-map}
 use Rattle.blif_read.specs.Parts.{NetView}
@@ -96,10 +97,12 @@ module _ (models : List BlifModel) (inputs : ℕ) (ws : List Wire) (defs : List 
 
 -- ---- 32 bits hold the numbers of wires
 
-few_kept : (inputs : ℕ) (ws : List Wire) (defs : List Def) (outputs : List ℕ) → AreParts (net_of inputs ws defs outputs) → length ws < 2 ^ 28
+few_kept : (inputs : ℕ) (ws : List Wire) (defs : List Def) (outputs : List ℕ)
+    → AreParts (net_of inputs ws defs outputs) → length ws < 2 ^ 28
 few_kept inputs ws defs outputs parts = let small = parts.small in omega (arith, small, kept_count 0 ws)
 
-pub few_named : (inputs : ℕ) (places : List Place) (defs : List Def) (outputs : List ℕ) → AreParts (net_of inputs (wires_of places) defs outputs)
+pub few_named : (inputs : ℕ) (places : List Place) (defs : List Def) (outputs : List ℕ)
+    → AreParts (net_of inputs (wires_of places) defs outputs)
     → length places < 2 ^ 32
 few_named inputs places defs outputs parts =
     let few = few_kept inputs (wires_of places) defs outputs parts in
@@ -109,7 +112,8 @@ pub few_wires : (models : List BlifModel) → AreParts (expansion models) → le
 unfolding expansion
 few_wires models parts = let small = parts.small in omega (arith, small, kept_count 0 (wires models))
 
-pub few_places : (models : List BlifModel) (places : List Place) → AreParts (expansion models) → wires_of places ≡ wires models
+pub few_places : (models : List BlifModel) (places : List Place) → AreParts (expansion models)
+    → wires_of places ≡ wires models
     → length places < 2 ^ 32
 few_places models places parts are =
     let size = ap (λ (ws : List Wire). length ws) are in

@@ -1,5 +1,6 @@
 -- Values of wires that hold the definitions of an expanded model are what the models mean, and the other way round.
-use Rattle.std.proofs.Common.{◌≡◌, ℕ, zero, suc, ◌+◌, ◌<◌, ◌||◌, ◌&&◌, Bool, true, false, not, List, [], ◌∷◌, ◌++◌, map, length, refl, sym, ap, ◌∙◌, subst, arith}
+use Rattle.std.proofs.Common.{◌≡◌, ℕ, zero, suc, ◌+◌, ◌<◌, ◌||◌, ◌&&◌, Bool, true, false, not, List, [], ◌∷◌, ◌++◌, map}
+use Rattle.std.proofs.Common.{length, refl, sym, ap, ◌∙◌, subst, arith}
 use Rattle.std.specs.Prelude.{slice_index_or}
 use Rattle.std.specs.List.{list_any, position_or_len, AllByRecursion}
 use Rattle.std.specs.Str.{bytes_eq}
@@ -8,9 +9,11 @@ use Rattle.blif_read.specs.declared.models.Call.{Call}
 use Rattle.blif_read.specs.declared.models.NamedDef.{NamedDef}
 use Rattle.blif_read.specs.declared.models.BlifModel.{BlifModel}
 use Rattle.blif_flat.specs.Designs.{names_in, called, output_ports, actual_of, joined_outputs}
-use Rattle.blif_flat.specs.Expansion.{Wire, wire, WireDef, own, buffer, calls_within, expanded_call, expanded_calls, expanded}
+use Rattle.blif_flat.specs.Expansion.{Wire, wire, WireDef, own, buffer, calls_within, expanded_call, expanded_calls}
+use Rattle.blif_flat.specs.Expansion.{expanded}
 use Rattle.blif_flat.specs.Meaning.{takes_all, named_value, answer_at, Shows, Means}
-use Rattle.blif_flat.proofs.Members.{Among, all_from, all_front, all_back, all_unmapped, all_weaker, at_among, map_map, map_same, at_place, place_below, picks_name}
+use Rattle.blif_flat.proofs.Members.{Among, all_from, all_front, all_back, all_unmapped, all_weaker, at_among, map_map}
+use Rattle.blif_flat.proofs.Members.{map_same, at_place, place_below, picks_name}
 use Rattle.blif_flat.proofs.JoinedModels.{driven_names, IsJoinedCall, port_actual, port_joined, joined_is_output}
 use Rattle.blif_flat.proofs.SoundModels.{IsSound}
 

@@ -1,6 +1,7 @@
 -- What each model keeps where no line of a design has a fault: what it drives differs, what it uses is driven, and the
 -- ports of its calls fit.
-use Rattle.std.proofs.Common.{◌≡◌, ℕ, ◌⊎◌, ◌&&◌, Bool, true, false, not, cond, max, List, [], ◌∷◌, ◌++◌, map, refl, sym, ap, ◌∙◌, subst, inl, inr, Contains, filter, flat_map}
+use Rattle.std.proofs.Common.{◌≡◌, ℕ, ◌⊎◌, ◌&&◌, Bool, true, false, not, cond, max, List, [], ◌∷◌, ◌++◌, map, refl, sym}
+use Rattle.std.proofs.Common.{ap, ◌∙◌, subst, inl, inr, Contains, filter, flat_map}
 use Rattle.std.specs.Prelude.{slice_index_or}
 use Rattle.std.specs.List.{list_any, list_all, AllByRecursion}
 use Rattle.std.specs.Str.{bytes_eq}
@@ -15,10 +16,15 @@ use Rattle.blif_read.specs.declared.models.Port.{Port}
 use Rattle.blif_read.specs.declared.models.Call.{Call}
 use Rattle.blif_read.specs.declared.models.NamedDef.{NamedDef}
 use Rattle.blif_read.specs.declared.models.BlifModel.{BlifModel}
-use Rattle.blif_flat.specs.Designs.{names_in, called, input_ports, output_ports, actuals, driven, used, distinct_outputs, formals, actual_of, joined_outputs}
+use Rattle.blif_flat.specs.Designs.{names_in, called, input_ports, output_ports, actuals, driven, used}
+use Rattle.blif_flat.specs.Designs.{distinct_outputs, formals, actual_of, joined_outputs}
 use Rattle.blif_flat.specs.DesignFaults.{fits, AreJoined}
 use Rattle.blif_flat.specs.declared.design.FlatKind.TheVariants.{Ports, Duplicate, Undefined}
-use Rattle.blif_flat.proofs.Members.{Among, AreApart, among_left, among_right, among_parts, among_map, image, among_flat, at_among, all_from, among_filter, passes, same_bytes, bytes_same, among_any, any_among, apart_join, apart_map, apart_filter, one_image, apart_from_places, map_map, contained}
+use Rattle.blif_flat.proofs.Members.{Among, AreApart, among_left, among_right, among_parts, among_map, image}
+use Rattle.blif_flat.proofs.Members.{among_flat, at_among, all_from, among_filter, passes, same_bytes, among_any}
+use Rattle.blif_flat.proofs.Members.{any_among, apart_join, apart_map, apart_filter, one_image, apart_from_places}
+use Rattle.blif_flat.proofs.Members.{map_map, contained}
+use Rattle.blif_flat.proofs.Numbering.{bytes_same}
 
 -- the names that a model drives
 abbrev pub driven_names : List BlifModel → BlifModel → List (List ℕ)
@@ -172,7 +178,8 @@ module _ (models : List BlifModel) (call : Call) (apart : AreApart (formals call
 
 -- ---- what a model keeps where no line has a fault
 
-flat_names : {X : Type 0} (f : X → List Named) (g : X → List (List ℕ)) → ((x : X) → names_in (f x) ≡ g x) → (xs : List X)
+flat_names : {X : Type 0} (f : X → List Named) (g : X → List (List ℕ))
+    → ((x : X) → names_in (f x) ≡ g x) → (xs : List X)
     → names_in (flat_map f xs) ≡ flat_map g xs
 flat_names f g same [] = refl
 flat_names f g same (x ∷ xs) = map-append (λ (n : Named). n.name) (f x) (flat_map f xs)
@@ -200,7 +207,8 @@ again_apart known (n ∷ names) e =
     let both = or_parts (list_any (bytes_eq n) known) (adds_again (n ∷ known) names) e in
     let more = again_apart (n ∷ known) names both.1 in (
       (
-        all_from (λ m. n ≡ m → ⊥) names (λ m h same. at_among (λ x. Among x (n ∷ known) → ⊥) names m more.1 h (inl same)),
+        all_from (λ m. n ≡ m → ⊥) names
+            (λ m h same. at_among (λ x. Among x (n ∷ known) → ⊥) names m more.1 h (inl same)),
         more.0,
       ),
       (

@@ -1,5 +1,6 @@
 -- The fault that is told of a list is one of the list, and comes before each of them.
-use Rattle.std.proofs.Common.{◌≡◌, ℕ, zero, suc, ◌<◌, ◌≤◌, ◌||◌, ◌&&◌, Bool, true, false, cond, ◌⊎◌, inl, inr, List, [], ◌∷◌, ◌++◌, map, length, Option, Some, None, Contains, refl, sym, ap, ◌∙◌, subst, arith}
+use Rattle.std.proofs.Common.{◌≡◌, ℕ, zero, suc, ◌<◌, ◌≤◌, ◌||◌, ◌&&◌, Bool, true, false, cond, ◌⊎◌, inl, inr, List, []}
+use Rattle.std.proofs.Common.{◌∷◌, ◌++◌, map, length, Option, Some, None, Contains, refl, sym, ap, ◌∙◌, subst, arith}
 use Rattle.std.specs.Prelude.{nat_lt, nat_le, ◌==◌, slice_index_or}
 use Rattle.std.specs.List.{flat_map}
 use Rattle.std.proofs.lemmas.Bool.{ltb-true, leb-true, eqb-true}
@@ -18,7 +19,8 @@ IsBefore a b = IsToldBefore a.line a.kind b.line b.kind
 before_from : (l m r s : ℕ) → nat_lt l m || (l == m && nat_le r s) ≡ true → (l < m) ⊎ ((l ≡ m) × (r ≤ s))
 before_from l m r s e = by (nat_lt l m) (l == m) (nat_le r s) refl refl refl e
   where
-    by : (a b c : Bool) → nat_lt l m ≡ a → (l == m) ≡ b → nat_le r s ≡ c → a || (b && c) ≡ true → (l < m) ⊎ ((l ≡ m) × (r ≤ s))
+    by : (a b c : Bool) → nat_lt l m ≡ a → (l == m) ≡ b → nat_le r s ≡ c → a || (b && c) ≡ true
+        → (l < m) ⊎ ((l ≡ m) × (r ≤ s))
     by true b c p q t e = inl (ltb-true l m p)
     by false true true p q t e = inr (eqb-true l m q, leb-true r s t)
     by false true false p q t e = absurd (cc)
@@ -27,10 +29,13 @@ before_from l m r s e = by (nat_lt l m) (l == m) (nat_le r s) refl refl refl e
 before_else : (l m r s : ℕ) → nat_lt l m || (l == m && nat_le r s) ≡ false → (m < l) ⊎ ((m ≡ l) × (s ≤ r))
 before_else l m r s e = by (eqb_tells l m) (leb_tells r s) (leb_tells (suc l) m)
   where
-    by : ((l == m) ≡ true) × (l ≡ m) ⊎ ((l == m) ≡ false) × (l ≡ m → ⊥) → (nat_le r s ≡ true) × (r ≤ s) ⊎ (nat_le r s ≡ false) × (s < r)
+    by : ((l == m) ≡ true) × (l ≡ m) ⊎ ((l == m) ≡ false) × (l ≡ m → ⊥) → (nat_le r s ≡ true) × (r ≤ s)
+        ⊎ (nat_le r s ≡ false) × (s < r)
         → (nat_lt l m ≡ true) × (suc l ≤ m) ⊎ (nat_lt l m ≡ false) × (m < suc l) → (m < l) ⊎ ((m ≡ l) × (s ≤ r))
-    by a b (inl c) = absurd (let f : nat_lt l m || (l == m && nat_le r s) ≡ true = ap (λ x. x || (l == m && nat_le r s)) c.0 in cc)
-    by (inl a) (inl b) (inr c) = absurd (let f : nat_lt l m || (l == m && nat_le r s) ≡ true = rw (c.0, a.0, b.0) refl in cc)
+    by a b (inl c) = absurd (let f : nat_lt l m || (l == m && nat_le r s) ≡ true =
+        ap (λ x. x || (l == m && nat_le r s)) c.0 in cc)
+    by (inl a) (inl b) (inr c) =
+        absurd (let f : nat_lt l m || (l == m && nat_le r s) ≡ true = rw (c.0, a.0, b.0) refl in cc)
     by (inl a) (inr b) (inr c) = inr (sym a.1, omega arith)
     by (inr a) b (inr c) = inl (omega (arith, a.1))
 
@@ -40,7 +45,8 @@ is_before_true a b e = before_from a.line b.line (rank a.kind) (rank b.kind) e
 pub is_before_false : (a b : Told) → is_before a b ≡ false → IsBefore b a
 is_before_false a b e = before_else a.line b.line (rank a.kind) (rank b.kind) e
 
-before_chain : (l m n r s t : ℕ) → (l < m) ⊎ ((l ≡ m) × (r ≤ s)) → (m < n) ⊎ ((m ≡ n) × (s ≤ t)) → (l < n) ⊎ ((l ≡ n) × (r ≤ t))
+before_chain : (l m n r s t : ℕ) → (l < m) ⊎ ((l ≡ m) × (r ≤ s)) → (m < n) ⊎ ((m ≡ n) × (s ≤ t))
+    → (l < n) ⊎ ((l ≡ n) × (r ≤ t))
 before_chain l m n r s t (inl a) (inl b) = inl (omega arith)
 before_chain l m n r s t (inl a) (inr b) = inl (omega arith)
 before_chain l m n r s t (inr a) (inl b) = inl (omega arith)
@@ -88,7 +94,16 @@ pub record IsLesser (best : Option Told) (told lesser : Told) : Type 0 where
   pub before_told : IsBefore lesser told
 
 pub lesser : (best : Option Told) (told : Told) → (x : Told) × IsLesser best told x
-lesser None told = (told, record { is = refl; one = inr refl; before_best = λ other e. absurd (cc); before_told = before_itself told })
+lesser None told = (
+  told,
+  record {
+    is = refl;
+    one = inr refl;
+    before_best =
+        λ other e. absurd (cc);
+    before_told = before_itself told;
+  },
+)
 lesser (Some best) told = by (is_before best told) refl
   where
     by : (b : Bool) → is_before best told ≡ b → (x : Told) × IsLesser (Some best) told x
@@ -111,7 +126,8 @@ lesser (Some best) told = by (is_before best told) refl
       },
     )
 
-best_more : (best : Option Told) (told : Told) (list : List Told) (x : Told) → IsLesser best told x → (r : Option Told) → IsBestOf (Some x) list r → IsBestOf best (told ∷ list) r
+best_more : (best : Option Told) (told : Told) (list : List Told) (x : Told) → IsLesser best told x → (r : Option Told)
+    → IsBestOf (Some x) list r → IsBestOf best (told ∷ list) r
 best_more best told list x l None h = absurd (let e = h.0 in cc)
 best_more best told list x l (Some r) h = record {
   from = by h.from l.one;
@@ -152,7 +168,8 @@ least_append best (x ∷ xs) ys = least_append (least best x) xs ys
 
 -- ---- elements of lists
 
-pub in_where : (b : Bool) (line : ℕ) (kind : FlatKind) (told : Told) → Contains (where_so b line kind) told → (b ≡ true) × (at_line line kind ≡ told)
+pub in_where : (b : Bool) (line : ℕ) (kind : FlatKind) (told : Told) → Contains (where_so b line kind) told → (b ≡ true)
+    × (at_line line kind ≡ told)
 in_where true line kind told c = by (head_or (at_line line kind) [] told c)
   where
     by : (at_line line kind ≡ told) ⊎ Contains [] told → (true ≡ true) × (at_line line kind ≡ told)
@@ -161,7 +178,8 @@ in_where true line kind told c = by (head_or (at_line line kind) [] told c)
 in_where false line kind told c = absurd (none_in told c)
 
 pub where_in : (b : Bool) (line : ℕ) (kind : FlatKind) → b ≡ true → Contains (where_so b line kind) (at_line line kind)
-where_in b line kind e = subst (λ x. Contains (where_so x line kind) (at_line line kind)) (sym e) (head_in (at_line line kind) [])
+where_in b line kind e = subst (λ x. Contains (where_so x line kind) (at_line line kind)) (sym e)
+    (head_in (at_line line kind) [])
 
 pub record FromOne {X Y : Type 0} (f : X → List Y) (xs : List X) (y : Y) : Type 0 where
   pub one : X
@@ -172,11 +190,13 @@ pub in_flat : {X Y : Type 0} (f : X → List Y) (xs : List X) (y : Y) → Contai
 in_flat {X} {Y} f [] y c = absurd (none_in y c)
 in_flat {X} {Y} f (x ∷ xs) y c = by (λ d. in_flat f xs y d) (Contains-append_cases (f x) (flat_map f xs) y c)
   where
-    by : (Contains (flat_map f xs) y → FromOne f xs y) → Contains (f x) y ⊎ Contains (flat_map f xs) y → FromOne f (x ∷ xs) y
+    by : (Contains (flat_map f xs) y → FromOne f xs y) → Contains (f x) y
+        ⊎ Contains (flat_map f xs) y → FromOne f (x ∷ xs) y
     by more (inl d) = record { one = x; among = head_in x xs; there = d }
     by more (inr d) = let r = more d in record { one = r.one; among = tail_in x xs r.one r.among; there = r.there }
 
-pub flat_in : {X Y : Type 0} (f : X → List Y) (xs : List X) (x : X) (y : Y) → Contains xs x → Contains (f x) y → Contains (flat_map f xs) y
+pub flat_in : {X Y : Type 0} (f : X → List Y) (xs : List X) (x : X) (y : Y) → Contains xs x → Contains (f x) y
+    → Contains (flat_map f xs) y
 flat_in {X} {Y} f [] x y c d = absurd (none_in x c)
 flat_in {X} {Y} f (z ∷ xs) x y c d = by (λ e. flat_in f xs x y e d) (head_or z xs x c)
   where
@@ -204,10 +224,3 @@ from_map {X} {Y} f (z ∷ xs) y c = by (λ d. from_map f xs y d) (head_or (f z) 
     by : (Contains (map f xs) y → FromMap f xs y) → (f z ≡ y) ⊎ Contains (map f xs) y → FromMap f (z ∷ xs) y
     by more (inl e) = record { one = z; among = head_in z xs; is = e }
     by more (inr d) = let r = more d in record { one = r.one; among = tail_in z xs r.one r.among; is = r.is }
-
-pub lt_or_ge : (a b : ℕ) → (a < b) ⊎ (b ≤ a)
-lt_or_ge a b = by (leb_tells (suc a) b)
-  where
-    by : (nat_lt a b ≡ true) × (suc a ≤ b) ⊎ (nat_lt a b ≡ false) × (b < suc a) → (a < b) ⊎ (b ≤ a)
-    by (inl p) = inl (omega arith)
-    by (inr p) = inr (omega arith)

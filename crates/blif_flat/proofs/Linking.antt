@@ -1,5 +1,6 @@
 -- Tables of links, call by call and model by model.
-use Rattle.std.proofs.Common.{◌≡◌, ℕ, ◌+◌, ◌<◌, ◌||◌, true, List, [], ◌∷◌, length, take, get_or, set, reverse, sym, ◌∙◌, subst, arith, inl, inr, length-set, get_or-set_other, get_or-set_same}
+use Rattle.std.proofs.Common.{◌≡◌, ℕ, ◌+◌, ◌<◌, ◌||◌, true, List, [], ◌∷◌, length, take, get_or, set, reverse, sym, ◌∙◌}
+use Rattle.std.proofs.Common.{subst, arith, inl, inr, length-set, get_or-set_other, get_or-set_same}
 use Rattle.std.specs.Prelude.{nat_eq}
 use Rattle.std.proofs.lemmas.Bool.{cases_Bool, eqb-true, eqb-false}
 use Rattle.blif_read.specs.Walk.{on}
@@ -37,4 +38,5 @@ module _ (models : List BlifModel) (order : List ℕ) (i : ℕ) (o : IsCallOrder
       → AreLinks models (at models (get_or order i 0)).calls links
       → HasLinks models (reverse (take (i + 1) order)) (set table (get_or order i 0) links)
   links_next table links has are = subst (λ done. HasLinks models done (set table (get_or order i 0) links))
-      (sym (next_done order i 0 lt)) (has_more models (reverse (take i order)) table (get_or order i 0) links has small are)
+      (sym (next_done order i 0 lt))
+      (has_more models (reverse (take i order)) table (get_or order i 0) links has small are)

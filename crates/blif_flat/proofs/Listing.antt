@@ -1,5 +1,6 @@
 -- The wires of a call: its own, and then what its calls define, step by step.
-use Rattle.std.proofs.Common.{◌≡◌, ℕ, zero, suc, ◌+◌, List, [], ◌∷◌, ◌++◌, map, length, refl, sym, ap, ◌∙◌, sum_by, append_assoc}
+use Rattle.std.proofs.Common.{◌≡◌, ℕ, zero, suc, ◌+◌, List, [], ◌∷◌, ◌++◌, map, length, refl, sym, ap, ◌∙◌, sum_by}
+use Rattle.std.proofs.Common.{append_assoc}
 use Rattle.std.specs.List.{AllByRecursion}
 use Rattle.std.proofs.lemmas.List.{map-append}
 use Rattle.std.proofs.lemmas.List.Sums.{sum_by-cons}
@@ -99,6 +100,7 @@ module _ (models : List BlifModel) where
       map-append (λ (d : WireDef). d.output) here rest
       ∙ ap (λ front. front ++ defined_in rest)
       (call_defines models steps k n call ∙ ap (λ front. front ++ ended models k call) (block_begins steps n model ok))
-      ∙ append_assoc (begun n model ++ called_wires models n (n + 1) model.calls) (ended models k call) (defined_in rest)
+      ∙ append_assoc (begun n model ++ called_wires models n (n + 1) model.calls)
+      (ended models k call) (defined_in rest)
       ∙ ap (λ w. begun n model ++ called_wires models n (n + 1) model.calls
       ++ (ended models k call ++ called_wires models k (n + 1 + w) calls)) (within_counts steps model ok)

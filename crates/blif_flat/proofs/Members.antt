@@ -1,10 +1,14 @@
 -- Members of lists, lists whose members are all different, and the place of a member.
-use Rattle.std.proofs.Common.{◌≡◌, ℕ, zero, suc, ◌+◌, ◌<◌, ◌⊎◌, ◌||◌, Bool, true, false, not, cond, List, [], ◌∷◌, ◌++◌, map, length, Some, refl, sym, ap, ◌∙◌, subst, arith, inl, inr, Contains, filter, flat_map}
+use Rattle.std.proofs.Common.{◌≡◌, ℕ, zero, suc, ◌+◌, ◌<◌, ◌⊎◌, ◌||◌, Bool, true, false, not, cond, List, [], ◌∷◌, ◌++◌}
+use Rattle.std.proofs.Common.{map, length, Some, refl, sym, ap, ◌∙◌, subst, arith, inl, inr, Contains, filter, flat_map}
+use Rattle.std.proofs.Common.{one-add}
 use Rattle.std.specs.Prelude.{slice_get, slice_index_or}
 use Rattle.std.specs.List.{list_any, position_or_len, AllByRecursion}
 use Rattle.std.specs.Str.{bytes_eq}
 use Rattle.std.proofs.lemmas.Bool.{cases_Bool, or_cases, true≢false}
 use Rattle.std.proofs.lemmas.Slice.Eq.{bytes_eq-Decides}
+use Rattle.blif_flat.proofs.Numbering.{bytes_same}
+use Rattle.blif_read.proofs.Within.{all_join}
 
 abbrev pub Among : {X : Type 0} → X → List X → Type 0
 Among x [] = ⊥
@@ -83,11 +87,6 @@ pub all_back : {X : Type 0} (P : X → Type 0) (xs ys : List X) → AllByRecursi
 all_back P [] ys h = h
 all_back P (x ∷ xs) ys h = all_back P xs ys h.1
 
-pub all_both : {X : Type 0} (P : X → Type 0) (xs ys : List X) → AllByRecursion P xs → AllByRecursion P ys
-    → AllByRecursion P (xs ++ ys)
-all_both P [] ys p q = q
-all_both P (x ∷ xs) ys p q = (p.0, all_both P xs ys p.1 q)
-
 pub all_mapped : {X Y : Type 0} (P : Y → Type 0) (f : X → Y) (xs : List X) → AllByRecursion (λ x. P (f x)) xs
     → AllByRecursion P (map f xs)
 all_mapped P f [] h = tt
@@ -134,9 +133,6 @@ passes t (y ∷ xs) x h = passed t x y xs (filter t xs) (t y) refl (passes t xs 
 pub same_bytes : (a b : List ℕ) → a ≡ b → bytes_eq a b ≡ true
 same_bytes a b e = (bytes_eq-Decides a b).1 e
 
-pub bytes_same : (a b : List ℕ) → bytes_eq a b ≡ true → a ≡ b
-bytes_same a b e = (bytes_eq-Decides a b).0 e
-
 pub other_bytes : (a b : List ℕ) → (a ≡ b → ⊥) → bytes_eq a b ≡ false
 other_bytes a b n = elim (cases_Bool (bytes_eq a b)) [ inl e ↦ absurd (n (bytes_same a b e)) | inr e ↦ e ]
 
@@ -162,7 +158,7 @@ pub apart_join : {X : Type 0} (xs ys : List X) → AreApart xs → AreApart ys
     → ((x y : X) → Among x xs → Among y ys → x ≡ y → ⊥) → AreApart (xs ++ ys)
 apart_join [] ys a b off = b
 apart_join (x ∷ xs) ys a b off = (
-  all_both (λ y. x ≡ y → ⊥) xs ys a.0 (all_from (λ y. x ≡ y → ⊥) ys (λ y h. off x y (inl refl) h)),
+  all_join (λ y. x ≡ y → ⊥) xs ys a.0 (all_from (λ y. x ≡ y → ⊥) ys (λ y h. off x y (inl refl) h)),
   apart_join xs ys a.1 b (λ u v h k. off u v (inr h) k),
 )
 
@@ -184,7 +180,8 @@ pub apart_map : {X Y : Type 0} (f : X → Y) (xs : List X) → ((x y : X) → Am
 apart_map f [] same a = tt
 apart_map f (x ∷ xs) same a = (
   all_mapped (λ y. f x ≡ y → ⊥) f xs
-      (all_from (λ y. f x ≡ f y → ⊥) xs (λ y h e. at_among (λ z. x ≡ z → ⊥) xs y a.0 h (same x y (inl refl) (inr h) e))),
+      (all_from (λ y. f x ≡ f y → ⊥) xs
+      (λ y h e. at_among (λ z. x ≡ z → ⊥) xs y a.0 h (same x y (inl refl) (inr h) e))),
   apart_map f xs (λ u v h k. same u v (inr h) (inr k)) a.1,
 )
 
@@ -249,9 +246,6 @@ later : {X : Type 0} (t : X → Bool) (x y : X) (ys : List X) → Picks t x → 
 later t x y ys is off (inl e) = absurd (true≢false (sym is.yes ∙ (ap t (sym e) ∙ off)))
 later t x y ys is off (inr h) = h
 
-one_on : (n : ℕ) → 1 + n ≡ suc n
-one_on n = omega arith
-
 -- what stands at the first place where x is picked is x
 pub at_place : {X : Type 0} (t : X → Bool) (x d : X) → Picks t x → (xs : List X) → Among x xs
     → slice_index_or xs (position_or_len t xs) d ≡ x
@@ -261,7 +255,7 @@ at_place {X = X} t x d is (y ∷ ys) h = by (t y) refl (λ m. at_place t x d is 
     by : (b : Bool) → t y ≡ b → (Among x ys → slice_index_or ys (position_or_len t ys) d ≡ x)
         → slice_index_or (y ∷ ys) (cond (not b) (1 + position_or_len t ys) 0) d ≡ x
     by true e more = is.alone y e
-    by false e more = ap (λ n. slice_index_or (y ∷ ys) n d) (one_on (position_or_len t ys))
+    by false e more = ap (λ n. slice_index_or (y ∷ ys) n d) (one-add (position_or_len t ys))
         ∙ more (later t x y ys is e h)
 
 pub place_below : {X : Type 0} (t : X → Bool) (x : X) → Picks t x → (xs : List X) → Among x xs
@@ -290,7 +284,7 @@ place_of t x is (y ∷ ys) (suc j) a at = by (t y) refl (place_of t x is ys j a.
   where
     by : (b : Bool) → t y ≡ b → position_or_len t ys ≡ j → cond (not b) (1 + position_or_len t ys) 0 ≡ suc j
     by true e more = absurd (at_among (λ z. y ≡ z → ⊥) ys x a.0 (there ys j x at) (is.alone y e))
-    by false e more = one_on (position_or_len t ys) ∙ ap suc more
+    by false e more = one-add (position_or_len t ys) ∙ ap suc more
 
 pub picks_name : (name : List ℕ) → Picks (bytes_eq name) name
 picks_name name = record { yes = same_bytes name name refl; alone = λ y e. sym (bytes_same name y e) }

@@ -9,13 +9,15 @@ use Rattle.blif_read.specs.Models.{models_fault, named_definition, named_definit
 use Rattle.blif_read.specs.Netlist.{IsPlane}
 use Rattle.blif_read.specs.declared.before.Cover.{Cover}
 use Rattle.blif_read.specs.declared.words.Statement.{Statement}
-use Rattle.blif_read.specs.declared.words.Statement.TheVariants.{Model, Inputs, Outputs, Names, Subckt, End, Passed, Other, Row}
+use Rattle.blif_read.specs.declared.words.Statement.TheVariants.{Model, Inputs, Outputs, Names, Subckt, End, Passed}
+use Rattle.blif_read.specs.declared.words.Statement.TheVariants.{Other, Row}
 use Rattle.blif_read.specs.declared.models.NamedDef.{NamedDef}
 use Rattle.blif_read.specs.declared.models.BlifModel.{BlifModel}
 use Rattle.blif_read.proofs.Closing.{first_of_or}
 use Rattle.blif_read.proofs.Distinct.{none_or}
 use Rattle.blif_read.proofs.Shapes.{rows_fit, plane_fits}
-use Rattle.blif_flat.proofs.Members.{all_both, all_mapped, all_weaker}
+use Rattle.blif_read.proofs.Within.{all_join}
+use Rattle.blif_flat.proofs.Members.{all_mapped, all_weaker}
 
 -- planes that fit a definition, which without planes has `on`
 pub record IsCovered (def : NamedDef) : Type 0 where
@@ -62,7 +64,7 @@ all_covered : (done lines : List Line) → line_fault true done lines ≡ None
 all_covered done [] e = tt
 all_covered done (l ∷ ls) e =
     let later = (none_or (at_line l.number (kind_of true done l)) (line_fault true (l ∷ done) ls) e).1 in
-    all_both IsCovered (named_definition_at l ls) (named_definitions ls)
+    all_join IsCovered (named_definition_at l ls) (named_definitions ls)
     (at_word (word l) (named_definition l.number (arguments l) (rows_before_others ls))
     (λ w. covered l.number (arguments l) (rows_before_others ls)
     (rows_fit true (l ∷ done) ls (record { width = length (front_of (arguments l)); first = None })

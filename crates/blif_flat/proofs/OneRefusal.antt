@@ -13,14 +13,16 @@ use Rattle.blif_flat.specs.Designs.{first_model}
 use Rattle.blif_flat.specs.DesignFaults.{IsFirstFault, IsToldBefore, AreJoined, loop_of, loop_line, rank}
 use Rattle.blif_flat.specs.DesignSize.{design_size, size_limit}
 use Rattle.blif_flat.specs.Expansion.{expansion}
-use Rattle.blif_flat.specs.DesignText.{is_design, IsLaidOut, IsBuildable, HasNoOutputs, IsToldLoop, IsToldFault, IsToldSize, IsToldCycle}
+use Rattle.blif_flat.specs.DesignText.{is_design, IsLaidOut, IsBuildable, HasNoOutputs, IsToldLoop, IsToldFault}
+use Rattle.blif_flat.specs.DesignText.{IsToldSize, IsToldCycle}
 use Rattle.blif_flat.specs.DesignText.{told_names, OfModels, IsDesignRefusal, IsTextRefusal, IsNetlistRefusal}
 use Rattle.blif_flat.specs.declared.design.FlatKind.{FlatKind}
-use Rattle.blif_flat.specs.declared.design.FlatKind.TheVariants.{ModelTwice, UnknownModel, Ports, Duplicate, Undefined, Recursive, NoOutputs}
+use Rattle.blif_flat.specs.declared.design.FlatKind.TheVariants.{ModelTwice, UnknownModel, Ports, Duplicate, Undefined}
+use Rattle.blif_flat.specs.declared.design.FlatKind.TheVariants.{Recursive, NoOutputs}
 use Rattle.blif_flat.specs.declared.design.FlatRefusal.{FlatRefusal}
 use Rattle.blif_flat.specs.declared.design.FlatRefusal.TheVariants.{Text, Design, TooMany, Memory}
 
-same_some : {X : Type 0} (a b : X) (x : Option X) → x ≡ Some a → x ≡ Some b → a ≡ b
+pub same_some : {X : Type 0} (a b : X) (x : Option X) → x ≡ Some a → x ≡ Some b → a ≡ b
 same_some a b x p q = cc
 
 none_and_some : {X : Type 0} (a : X) (x : Option X) → x ≡ None → x ≡ Some a → ⊥
@@ -63,7 +65,8 @@ design_same line other kind late e f = λ i. Design (e i) (f i)
 module _ (models : List BlifModel) where
   first_once : (line : ℕ) (kind : FlatKind) (other : ℕ) (late : FlatKind) →
       IsFirstFault models line kind → IsFirstFault models other late → (line ≡ other) × (kind ≡ late)
-  first_once line kind other late p q = same_place line kind other late (p.first other late q.is) (q.first line kind p.is)
+  first_once line kind other late p q = same_place line kind other late
+      (p.first other late q.is) (q.first line kind p.is)
 
   -- the tests that a design passes in turn
   abbrev Passes : ℕ → Type 0
@@ -155,7 +158,8 @@ module _ (models : List BlifModel) where
   stops Memory t = absurd t
 
   -- a line fault, whatever its kind
-  line_fault : (line : ℕ) (kind : FlatKind) → IsToldFault models line kind → level (Design line kind) ≡ 0 → IsFirstFault models line kind
+  line_fault : (line : ℕ) (kind : FlatKind) → IsToldFault models line kind → level (Design line kind) ≡ 0
+      → IsFirstFault models line kind
   line_fault line ModelTwice t e = t
   line_fault line UnknownModel t e = t
   line_fault line Ports t e = t
@@ -248,10 +252,11 @@ module _ (models : List BlifModel) where
   one_told r s p q = same_told r s p q (one_stop (level r) (level s) (stops r p) (stops s q))
 
 -- a text says one list of models, and then has no fault of its models alone
-one_list : (text : List ℕ) (a b : List BlifModel) → SaysModels text a → SaysModels text b → a ≡ b
+pub one_list : (text : List ℕ) (a b : List BlifModel) → SaysModels text a → SaysModels text b → a ≡ b
 one_list text a b p q = p.each ∙ sym q.each
 
-sound_models : (text : List ℕ) (models : List BlifModel) (fault : BlifFault) → SaysModels text models → ModelsFault text fault → ⊥
+sound_models : (text : List ℕ) (models : List BlifModel) (fault : BlifFault) → SaysModels text models
+    → ModelsFault text fault → ⊥
 sound_models text models fault p q = none_and_some fault _ p.sound q
 
 -- a refusal of a design is told of its models, or is a fault of one of them

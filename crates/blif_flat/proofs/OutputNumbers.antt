@@ -1,5 +1,6 @@
 -- The numbers of a design's outputs: where the wires of the first model itself stand among all.
-use Rattle.std.proofs.Common.{◌≡◌, ℕ, suc, ◌+◌, ◌<◌, ◌≤◌, ◌⊎◌, inl, inr, Bool, true, false, not, cond, List, [], ◌∷◌, length, take, get_or, Bor, Some, None, refl, sym, ap, ◌∙◌, subst, arith, length-take}
+use Rattle.std.proofs.Common.{◌≡◌, ℕ, suc, ◌+◌, ◌<◌, ◌≤◌, ◌⊎◌, inl, inr, Bool, true, false, not, cond, List, [], ◌∷◌}
+use Rattle.std.proofs.Common.{length, take, get_or, Bor, Some, None, refl, sym, ap, ◌∙◌, subst, arith, length-take}
 use Rattle.std.specs.Prelude.{nat_lt}
 use Rattle.std.specs.List.{position_or_len}
 use Rattle.std.proofs.lemmas.Bool.{cases_lt, lt-ltb}
@@ -28,7 +29,8 @@ place_or n m k e = by (nat_lt n m) e
     by true f = cc
     by false f = absurd (cc)
 
-own_places : (t : List ℕ) (places : List Place) → position_or_len (is_own t) places ≡ number (wires_of places) (wire 0 t)
+own_places : (t : List ℕ) (places : List Place)
+    → position_or_len (is_own t) places ≡ number (wires_of places) (wire 0 t)
 own_places t [] = refl
 own_places t (p ∷ places) = ap (λ n. cond (not (is_own t p)) (1 + n) 0) (own_places t places)
 

@@ -1,20 +1,24 @@
--- A text says at most one netlist, which keeps what netlists do, and one that says a netlist is refused for want of memory
+-- A text says at most one netlist, which keeps what netlists do, and one that says a netlist is refused for want of
+-- memory
 -- alone.
-use Rattle.std.proofs.Common.{◌≡◌, ℕ, ◌≤◌, ◌^◌, Bool, true, false, List, length, refl, sym, ap, ◌∙◌, subst, arith, inl, inr}
+use Rattle.std.proofs.Common.{◌≡◌, ℕ, ◌≤◌, ◌^◌, Bool, true, false, List, length, refl, sym, ap, ◌∙◌, subst, arith, inl}
+use Rattle.std.proofs.Common.{inr}
 use Rattle.blif_read.specs.Lines.{logical_lines}
 use Rattle.blif_read.specs.Parts.{NetView}
 use Rattle.blif_read.specs.Says.{SaysNet}
-use Rattle.blif_read.specs.Models.{SaysModels}
 use Rattle.blif_read.specs.Netlist.{IsNetlist}
 use Rattle.blif_read.proofs.Said.{said_keeps}
 use Rattle.blif_read.specs.declared.models.BlifModel.{BlifModel}
-use Rattle.blif_flat.specs.DesignText.{is_design, IsBuildable, IsToldFault, OfModels, SaysExpansion, SaysNetlist, IsDesignRefusal, IsTextRefusal, IsNetlistRefusal}
+use Rattle.blif_flat.specs.DesignText.{is_design, IsBuildable, IsToldFault, OfModels, SaysExpansion, SaysNetlist}
+use Rattle.blif_flat.specs.DesignText.{IsDesignRefusal, IsTextRefusal, IsNetlistRefusal}
 use Rattle.blif_flat.specs.Expansion.{expansion}
 use Rattle.blif_flat.specs.declared.design.FlatKind.{FlatKind}
-use Rattle.blif_flat.specs.declared.design.FlatKind.TheVariants.{ModelTwice, UnknownModel, Ports, Duplicate, Undefined, Recursive, NoOutputs}
+use Rattle.blif_flat.specs.declared.design.FlatKind.TheVariants.{ModelTwice, UnknownModel, Ports, Duplicate, Undefined}
+use Rattle.blif_flat.specs.declared.design.FlatKind.TheVariants.{Recursive, NoOutputs}
 use Rattle.blif_flat.specs.declared.design.FlatRefusal.{FlatRefusal}
 use Rattle.blif_flat.specs.declared.design.FlatRefusal.TheVariants.{Text, Design, TooMany, Memory}
 use Rattle.blif_flat.proofs.ExpandedParts.{said_parts, netlist_from_parts}
+use Rattle.blif_flat.proofs.OneRefusal.{one_list}
 
 -- what a text says, by whether it is a design
 abbrev SaysBy : Bool → List ℕ → NetView → Type 0
@@ -32,12 +36,8 @@ keeps_by false text net few says = said_keeps text net (omega (arith, few)) says
 pub net_keeps : (text : List ℕ) (net : NetView) → length text ≤ 2 ^ 27 → SaysNetlist text net → IsNetlist net
 net_keeps text net few says = keeps_by (is_design (logical_lines text)) text net few says
 
--- the models that a text says are one list
-same_models : (text : List ℕ) (a b : List BlifModel) → SaysModels text a → SaysModels text b → a ≡ b
-same_models text a b p q = p.each ∙ sym q.each
-
 one_by : (b : Bool) (text : List ℕ) (net other : NetView) → SaysBy b text net → SaysBy b text other → net ≡ other
-one_by true text net other p q = p.fact.is ∙ ap expansion (same_models text p.models q.models p.said q.said)
+one_by true text net other p q = p.fact.is ∙ ap expansion (one_list text p.models q.models p.said q.said)
     ∙ sym q.fact.is
 one_by false text net other p q = p.parts ∙ sym q.parts
 
@@ -45,7 +45,8 @@ pub one_net : (text : List ℕ) (net other : NetView) → SaysNetlist text net �
 one_net text net other p q = one_by (is_design (logical_lines text)) text net other p q
 
 -- models that a netlist is built from have no fault that is told
-no_fault : (models : List BlifModel) (line : ℕ) (kind : FlatKind) → IsBuildable models → IsToldFault models line kind → ⊥
+no_fault : (models : List BlifModel) (line : ℕ) (kind : FlatKind) → IsBuildable models
+    → IsToldFault models line kind → ⊥
 no_fault models line ModelTwice ok told = ok.laid_out.joined line ModelTwice told.is
 no_fault models line UnknownModel ok told = ok.laid_out.joined line UnknownModel told.is
 no_fault models line Ports ok told = ok.laid_out.joined line Ports told.is
@@ -65,16 +66,16 @@ design_by : (text : List ℕ) (net : NetView) (refusal : FlatRefusal) → OfMode
 design_by text net Memory says refused = refl
 design_by text net (Text fault) says (inl early) = absurd (let none = says.said.sound in cc)
 design_by text net (Text fault) says (inr late) =
-    let same = same_models text says.models late.models says.said late.said in
+    let same = one_list text says.models late.models says.said late.said in
     let none = subst (λ models. SaysExpansion net models) same says.fact in
     let free = none.no_cycle in
     let some = late.fact.first in
     absurd (cc)
 design_by text net (Design line kind) says refused =
-    let same = same_models text says.models refused.models says.said refused.said in
+    let same = one_list text says.models refused.models says.said refused.said in
     absurd (no_fault refused.models line kind (subst IsBuildable same says.fact.buildable) refused.fact)
 design_by text net (TooMany size) says refused =
-    let same = same_models text says.models refused.models says.said refused.said in
+    let same = one_list text says.models refused.models says.said refused.said in
     let small = (subst IsBuildable same says.fact.buildable).small in
     let large = refused.fact.large in
     absurd (omega (arith, small, large))

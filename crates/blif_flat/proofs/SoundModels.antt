@@ -1,6 +1,8 @@
--- Where no walk comes back to a model that it is in, a chain of calls has no more models than there are, and each of them
+-- Where no walk comes back to a model that it is in, a chain of calls has no more models than there are, and each of
+-- them
 -- keeps what models without faults do.
-use Rattle.std.proofs.Common.{◌≡◌, ℕ, zero, suc, ◌+◌, ◌<◌, List, [], ◌∷◌, length, Option, Some, None, refl, sym, ap, ◌∙◌, subst, arith, inl, inr}
+use Rattle.std.proofs.Common.{◌≡◌, ℕ, zero, suc, ◌+◌, ◌<◌, List, [], ◌∷◌, length, Option, Some, None, refl, sym, ap}
+use Rattle.std.proofs.Common.{◌∙◌, subst, arith, inl, inr}
 use Rattle.std.specs.Prelude.{slice_index_or}
 use Rattle.std.specs.List.{AllByRecursion}
 use Rattle.std.specs.Str.{bytes_eq}
@@ -92,7 +94,8 @@ module _ (models : List BlifModel) (joined : AreJoined models) where
               subst (λ o. IsSound steps models (model_at models o)) (sym has.is)
               (sound steps (n ∷ path) has.number (number_below models c.model has.number has.is) (small, below)
               (new, apart) (omega (arith, count))
-              (at_among (λ q. closes (callees models) (suc steps) (n ∷ path) q ≡ None) (callees models n) has.number each
+              (at_among (λ q. closes (callees models) (suc steps) (n ∷ path) q ≡ None)
+              (callees models n) has.number each
               (among_callees n small c h has.number has.is))))),
         )
   ]

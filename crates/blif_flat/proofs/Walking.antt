@@ -1,5 +1,7 @@
 -- The walk that lists the wires of a design by its links: what it lists from its frames on, step by step.
-use Rattle.std.proofs.Common.{◌≡◌, ℕ, zero, suc, ◌+◌, ◌*◌, ◌<◌, ◌≤◌, List, [], ◌∷◌, ◌++◌, map, length, reverse, Option, Some, None, Bor, true, refl, sym, ap, ◌∙◌, subst, arith, append_assoc, append-nil, flat_map, sum_by}
+use Rattle.std.proofs.Common.{◌≡◌, ℕ, zero, suc, ◌+◌, ◌*◌, ◌<◌, ◌≤◌, List, [], ◌∷◌, ◌++◌, map, length, reverse, Option}
+use Rattle.std.proofs.Common.{Some, None, Bor, true, refl, sym, ap, ◌∙◌, subst, arith, append_assoc, append-nil}
+use Rattle.std.proofs.Common.{flat_map, sum_by}
 use Rattle.std.specs.Prelude.{slice_index_or}
 use Rattle.std.specs.List.{AllByRecursion}
 use Rattle.std.proofs.lemmas.List.Sums.{sum_by-cons}
@@ -15,7 +17,8 @@ use Rattle.blif_flat.specs.Expansion.{Wire, wire, calls_within, wires}
 use Rattle.blif_flat.specs.declared.models.links.Link.{Link}
 use Rattle.blif_flat.specs.declared.expansion.wires.Frame.{Frame}
 use Rattle.blif_flat.specs.Code.Linked.{IsLink, HasLinks, calls_in}
-use Rattle.blif_flat.specs.Code.Wired.{begun, ended, put_in, links_at, called_wires, call_count, listed_from, turns_from}
+use Rattle.blif_flat.specs.Code.Wired.{begun, ended, put_in, links_at, called_wires, call_count, listed_from}
+use Rattle.blif_flat.specs.Code.Wired.{turns_from}
 use Rattle.blif_flat.proofs.Members.{all_front, all_back, map_map}
 use Rattle.blif_flat.proofs.Settling.{reads_done}
 use Rattle.blif_flat.proofs.Sizing.{at, callees_at}
@@ -51,8 +54,10 @@ module _ (models : List BlifModel) where
       omega (arith, w, s)) in
       let tail : List Wire = listed_from models last fs in
       let parts : called_wires models k n (call ∷ calls_in rest) ≡ start ++ below ++ (out ++ more) =
-      first_call models k n call (calls_in rest) ok ∙ ap (λ o. start ++ below ++ (o ++ more)) (sym (put_is k link is)) in
-      let split : over ++ (start ++ below ++ (out ++ more)) ++ tail ≡ over ++ start ++ (below ++ (out ++ more ++ tail)) =
+      first_call models k n call (calls_in rest) ok
+      ∙ ap (λ o. start ++ below ++ (o ++ more)) (sym (put_is k link is)) in
+      let split : over ++ (start ++ below ++ (out ++ more)) ++ tail ≡ over ++ start
+      ++ (below ++ (out ++ more ++ tail)) =
       append_assoc over (start ++ below ++ (out ++ more)) tail
       ∙ ap (λ xs. over ++ xs) (append_assoc (start ++ below) (out ++ more) tail
       ∙ append_assoc start below (out ++ more ++ tail))
@@ -71,16 +76,30 @@ module _ (models : List BlifModel) where
   turns_first link rest f inner outer fs ok whole c r =
       let turn = λ (g : Frame). 1 + 2 * call_count models (calls_in g.rest.now) in
       let w = within_counts models (length models) (called models link.now.call.now) ok in
-      let s = sum_by-cons (λ c. 1 + calls_within (length models) models (called models c)) link.now.call.now (calls_in rest) in
+      let s = sum_by-cons (λ c. 1 + calls_within (length models) models (called models c))
+      link.now.call.now (calls_in rest) in
       let a = ap (λ ls. call_count models (calls_in ls)) whole in
       let b = ap (call_count models) c in
       let d = ap (λ ls. call_count models (calls_in ls)) r in
-      omega (arith, w, s, a, b, d, sum_by-cons turn inner (outer ∷ fs), sum_by-cons turn outer fs, sum_by-cons turn f fs)
+      omega (
+        arith,
+        w,
+        s,
+        a,
+        b,
+        d,
+        sum_by-cons turn inner
+            (outer ∷ fs),
+        sum_by-cons turn outer fs,
+        sum_by-cons turn f fs,
+      )
 
   -- a model has no more calls than its size
 
-  fewer : (steps : ℕ) → ((m : BlifModel) → calls_within steps models m ≤ model_size steps models m) → (calls : List Call)
-      → sum_by (λ c. 1 + calls_within steps models (called models c)) calls ≤ sum_by (call_size (model_size steps models) models) calls
+  fewer : (steps : ℕ) → ((m : BlifModel) → calls_within steps models m ≤ model_size steps models m)
+      → (calls : List Call)
+      → sum_by (λ c. 1 + calls_within steps models (called models c)) calls ≤ sum_by
+      (call_size (model_size steps models) models) calls
   fewer steps inner [] = omega arith
   fewer steps inner (call ∷ calls) =
       let one = inner (called models call) in
@@ -116,7 +135,8 @@ module _ (models : List BlifModel) where
     IsReached link = IsLink models link × IsSound (length models) models (called models link.call.now)
         × AllByRecursion (λ q. on done q ≡ true) (listed (model_number models link.call.now.model))
 
-    all_reached : (links : List Link) → AllByRecursion (IsLink models) links → Sounds models (length models) (calls_in links)
+    all_reached : (links : List Link) → AllByRecursion (IsLink models) links
+        → Sounds models (length models) (calls_in links)
         → AllByRecursion (λ q. on done q ≡ true) (flat_map (λ c. listed (model_number models c.model)) (calls_in links))
         → AllByRecursion IsReached links
     all_reached [] is sound there = tt
@@ -130,7 +150,8 @@ module _ (models : List BlifModel) where
     abbrev pub HasReachedCalls : Frame → Type 0
     HasReachedCalls f = AllByRecursion IsReached f.rest.now
 
-    module _ (table : List (List Link)) (settled : Settled 0 (callees models) done) (has : HasLinks models done table) where
+    module _ (table : List (List Link)) (settled : Settled 0 (callees models) done)
+        (has : HasLinks models done table) where
       -- the links of a model that stands in the order
       pub found_links : (o : Option ℕ) → AllByRecursion (λ q. on done q ≡ true) (listed o)
           → IsSound (length models) models (model_at models o)
@@ -142,8 +163,10 @@ module _ (models : List BlifModel) where
           (reads_done (callees models) done n settled there.0) in (
             are.whole,
             all_reached (slice_index_or table n []) are.each
-                (subst (Sounds models (length models)) (sym are.whole) (calls_sound models (length models) (at models n) ok))
-                (subst (λ cs. AllByRecursion (λ q. on done q ≡ true) (flat_map (λ c. listed (model_number models c.model)) cs))
+                (subst (Sounds models (length models)) (sym are.whole)
+                (calls_sound models (length models) (at models n) ok))
+                (subst (λ cs. AllByRecursion (λ q. on done q ≡ true)
+                (flat_map (λ c. listed (model_number models c.model)) cs))
                 (sym are.whole) reads),
           )
 
@@ -186,7 +209,8 @@ module _ (models : List BlifModel) where
           omega (arith, turns, none_left, one, count, within, few)
 
       module _ (frames rest middle after : List Frame) (f outer inner : Frame) (link : Bor Link) (more : List Link)
-          (popped : frames ≡ rest ++ f ∷ []) (left : middle ≡ rest ++ outer ∷ []) (begins : after ≡ middle ++ inner ∷ [])
+          (popped : frames ≡ rest ++ f ∷ []) (left : middle ≡ rest ++ outer ∷ [])
+          (begins : after ≡ middle ++ inner ∷ [])
           (split : f.rest.now ≡ link.now ∷ more) (outer_rest : outer.rest.now ≡ more)
           (inner_rest : inner.rest.now ≡ links_at table link.now.model)
           (reached : AllByRecursion HasReachedCalls (reverse frames)) where
@@ -226,18 +250,21 @@ module _ (models : List BlifModel) where
             → left_behind ≡ old ++ put_in f.call f.left
             → new ≡ left_behind ++ begun n (model_at models link.now.model)
             → old ++ listed_from models (calls + 1) (reverse frames) ≡ whole
-            → (new ++ listed_from models (n + 1) (reverse after) ≡ whole) × AllByRecursion HasReachedCalls (reverse after)
+            → (new ++ listed_from models (n + 1) (reverse after) ≡ whole)
+            × AllByRecursion HasReachedCalls (reverse after)
         walk_goes calls n old left_behind new whole number a b c d leaves starts so_far =
             let over = put_in f.call f.left in
             let start = begun n (called models link.now.call.now) in
             let fs = reverse rest in
             let tail = listed_from models (n + 1) (inner ∷ outer ∷ fs) in
             let all : new ≡ old ++ over ++ start =
-            starts ∙ (λ i. left_behind ++ begun n (model_at models (here.0.0.model i))) ∙ ap (λ ws. ws ++ start) leaves in
+            starts ∙ (λ i. left_behind ++ begun n (model_at models (here.0.0.model i)))
+            ∙ ap (λ ws. ws ++ start) leaves in
             let first : listed_from models (calls + 1) (f ∷ fs) ≡ over ++ start ++ tail =
             (λ i. over ++ called_wires models f.call (sym number i) (calls_in (split i))
             ++ listed_from models (sym number i + call_count models (calls_in (split i))) fs)
-            ∙ listed_first f.call n f.left link more fs inner outer here.0.0 here.0.1 c d inner_links.0 a b outer_rest in (
+            ∙ listed_first f.call n f.left link more fs inner outer here.0.0 here.0.1 c d
+            inner_links.0 a b outer_rest in (
               (λ i. all i ++ listed_from models (n + 1) (after_is i))
                   ∙ ap (λ ws. ws ++ tail) (append_assoc old over start) ∙ append_assoc old (over ++ start) tail
                   ∙ sym (ap (λ ws. old ++ ws) (ap (listed_from models (calls + 1)) before_is ∙ first)) ∙ so_far,

@@ -1,5 +1,6 @@
 -- The names that the netlist keeps, one by one.
-use Rattle.std.proofs.Common.{◌≡◌, ℕ, suc, ◌+◌, ◌<◌, List, [], ◌∷◌, ◌++◌, length, take, get_or, sym, ap, ◌∙◌, arith, length-take}
+use Rattle.std.proofs.Common.{◌≡◌, ℕ, suc, ◌+◌, ◌<◌, List, [], ◌∷◌, ◌++◌, length, take, get_or, sym, ap, ◌∙◌, arith}
+use Rattle.std.proofs.Common.{length-take}
 use Rattle.std.proofs.lemmas.List.{length-map, map_more}
 use Rattle.blif_flat.specs.Expansion.{Wire, kept_name, kept_names}
 use Rattle.blif_flat.specs.declared.expansion.wires.Place.{Place}

@@ -1,15 +1,17 @@
 -- What models mean gives values of wires that hold the definitions of the expanded model: those of each call in its own
 -- range of numbers.
-use Rattle.std.proofs.Common.{◌≡◌, ℕ, zero, suc, ◌+◌, ◌<◌, ◌≤◌, Bool, false, cond, List, [], ◌∷◌, ◌++◌, map, refl, sym, ap, ◌∙◌, subst, arith, sum_by, nat_lt, ◌==◌}
+use Rattle.std.proofs.Common.{◌≡◌, ℕ, zero, suc, ◌+◌, ◌<◌, ◌≤◌, Bool, false, cond, List, [], ◌∷◌, ◌++◌, map, refl, sym}
+use Rattle.std.proofs.Common.{ap, ◌∙◌, subst, arith, sum_by, nat_lt, ◌==◌}
 use Rattle.std.specs.List.{AllByRecursion}
 use Rattle.std.proofs.lemmas.Bool.{lt-ltb, le-ltb, eq-eqb, ne_eqb}
 use Rattle.std.proofs.lemmas.List.Sums.{sum_by-cons}
+use Rattle.blif_read.proofs.Within.{all_join}
 use Rattle.blif_read.specs.declared.models.Call.{Call}
 use Rattle.blif_read.specs.declared.models.BlifModel.{BlifModel}
 use Rattle.blif_flat.specs.Designs.{names_in, called, output_ports, actual_of, joined_outputs}
 use Rattle.blif_flat.specs.Expansion.{wire, own, buffer, calls_within, expanded_call, expanded_calls, expanded}
 use Rattle.blif_flat.specs.Meaning.{named_value, answer_at, Shows, Means}
-use Rattle.blif_flat.proofs.Members.{Among, all_from, all_both, all_mapped, all_weaker, at_among, all_from_map}
+use Rattle.blif_flat.proofs.Members.{Among, all_from, all_mapped, all_weaker, at_among, all_from_map}
 use Rattle.blif_flat.proofs.JoinedModels.{driven_names, IsJoinedCall, joined_is_output, joined_port, joined_actual}
 use Rattle.blif_flat.proofs.SoundModels.{IsSound}
 use Rattle.blif_flat.proofs.HeldWires.{Values, Holds, buffer_holds, own_value, answer_is}
@@ -90,7 +92,7 @@ module _ (models : List BlifModel) where
       ∙ ap (λ a. answer_at model a port.port.formal) s.shown
       ∙ answer_is model (s.values n) port.port.formal named
       ∙ ap (s.values n) port.formal ∙ (λ j. sym inner j o))))) in
-      all_both (Holds u) (ins ++ body) outs (all_both (Holds u) ins body into (s.hold u agree)) out_of
+      all_join (Holds u) (ins ++ body) outs (all_join (Holds u) ins body into (s.hold u agree)) out_of
 
   calls_solved : (steps k n : ℕ) (names : List (List ℕ)) (v : List ℕ → Bool) (calls : List Call)
       → AllByRecursion (IsJoinedCall models names) calls
@@ -107,7 +109,7 @@ module _ (models : List BlifModel) where
       let sum = sum_by-cons (λ c. 1 + calls_within steps models (called models c)) call calls in
       record {
         values = joined_at next s.values more.values;
-        hold = λ u caller agree. all_both (Holds u)
+        hold = λ u caller agree. all_join (Holds u)
             (expanded_call models (expanded steps models) k n call)
             (expanded_calls steps models (expanded steps models) k next calls)
             (call_holds steps k n names call v shows.0.answer ok.0 shows.0.joined s u caller
@@ -133,7 +135,7 @@ module _ (models : List BlifModel) where
         values = w;
         hold = λ u agree.
             (let caller : u k ≡ v = agree k (omega arith) (omega arith) ∙ here in
-            all_both (Holds u) (map (own k) model.defs)
+            all_join (Holds u) (map (own k) model.defs)
             (expanded_calls steps models (expanded steps models) k (k + 1) model.calls)
             (all_mapped (Holds u) (own k) model.defs
             (all_weaker (λ d. v d.output ≡ named_value d v) (λ d. Holds u (own k d))

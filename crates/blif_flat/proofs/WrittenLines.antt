@@ -4,7 +4,8 @@ use Rattle.std.specs.List.{filter, list_all, flat_map, AllByRecursion}
 use Rattle.std.proofs.lemmas.Bool.{and_from}
 use Rattle.std.proofs.lemmas.List.Folds.{list_all-append}
 use Rattle.blif_read.specs.Lines.{Line, cut, tokens_of, has_tokens, logical_lines}
-use Rattle.blif_read.proofs.PlainLines.{is_inked, is_plain, lines_from, first_line, tokens_apart, one_token, inked_plain}
+use Rattle.blif_read.proofs.PlainLines.{is_inked, is_plain, lines_from, first_line, tokens_apart, one_token}
+use Rattle.blif_read.proofs.PlainLines.{inked_plain}
 use Rattle.blif_flat.specs.BlifText.{spaced, line_text}
 
 -- bytes that are one token of a line

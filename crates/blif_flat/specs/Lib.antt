@@ -1,6 +1,5 @@
 pub mod BlifText
 pub mod Written
-pub mod Refusal
 pub mod Designs
 pub mod DesignFaults
 pub mod DesignSize

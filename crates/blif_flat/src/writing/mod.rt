@@ -1,4 +1,3 @@
 // A chip's circuit, written as a netlist.
 pub mod lines;
-pub mod refusal;
 pub mod writer;

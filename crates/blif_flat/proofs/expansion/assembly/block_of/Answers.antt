@@ -28,7 +28,9 @@ loop-call-init c =
     let inputs = c.narrow-inputs.ensures ∙ c.len.ensures in
     let defs = c.narrow-defs.ensures ∙ c.len-2.ensures in
     record {
-      whole = block_begun c.args.design.now c.args.model.now _ _ _ _ _ _ c.new-block.ensures c.as_slice.ensures (c.in_ok-push_defs.ensures (block_names (wide c.args.design.now) c.args.design.now c.args.model.now) c.requires.places) inputs defs refl;
+      whole = block_begun c.args.design.now c.args.model.now _ _ _ _ _ _ c.new-block.ensures c.as_slice.ensures
+          (c.in_ok-push_defs.ensures (block_names (wide c.args.design.now) c.args.design.now c.args.model.now)
+          c.requires.places) inputs defs refl;
       room = omega (arith, room, inputs, defs);
     }
 
@@ -36,24 +38,35 @@ pub push_call-requires : goal.push_call-requires
 push_call-requires c =
     let models = c.args.design.now in
     let lt = subst (λ cs. c.loop-call.call-index < length cs) c.as_slice-call-items.ensures c.loop-call-test.true in
-    let is = subst (λ cs. c.call-item.result ≡ get_or cs c.loop-call.call-index c.call-item.result) c.as_slice-call-items.ensures c.call-item.is in
+    let is = subst (λ cs. c.call-item.result ≡ get_or cs c.loop-call.call-index c.call-item.result)
+    c.as_slice-call-items.ensures c.call-item.is in
     record {
-      outlined = all_at (λ call. IsOutlined models c.args.outlines.now (model_number models call.model)) c.args.model.now.calls c.loop-call.call-index c.call-item.result c.requires.outlined lt is;
-      room = room_left (call_names (wide models) models) c.args.model.now.calls c.loop-call.call-index c.call-item.result c.call-item.result c.loop-call.start c.args.width lt is c.loop-call.invariant.room (omega (arith, c.ranges.width));
+      outlined = all_at (λ call. IsOutlined models c.args.outlines.now (model_number models call.model))
+          c.args.model.now.calls c.loop-call.call-index c.call-item.result c.requires.outlined lt is;
+      room = room_left (call_names (wide models) models) c.args.model.now.calls c.loop-call.call-index
+          c.call-item.result c.call-item.result c.loop-call.start c.args.width lt is c.loop-call.invariant.room
+          (omega (arith, c.ranges.width));
     }
 
 pub loop-call-preserved : goal.loop-call-preserved
 loop-call-preserved c =
     let models = c.args.design.now in
     let lt = subst (λ cs. c.loop-call.call-index < length cs) c.as_slice-call-items.ensures c.loop-call-test.true in
-    let is = subst (λ cs. c.call-item.result ≡ get_or cs c.loop-call.call-index c.call-item.result) c.as_slice-call-items.ensures c.call-item.is in
+    let is = subst (λ cs. c.call-item.result ≡ get_or cs c.loop-call.call-index c.call-item.result)
+    c.as_slice-call-items.ensures c.call-item.is in
     record {
-      whole = call_taken models c.args.model.now c.args.model.now.calls c.loop-call.call-index c.call-item.result c.loop-call.start c.in_ok-start.start c.loop-call.block _ _ lt is
-          (c.in_ok-start.ensures.pieces c.args.model.now c.requires.places) c.in_ok-start.ensures.next c.loop-call.invariant.whole;
-      room = room_taken (call_names (wide models) models) c.args.model.now.calls c.loop-call.call-index c.call-item.result c.call-item.result c.loop-call.start c.in_ok-start.start c.args.width lt is c.in_ok-start.ensures.next c.loop-call.invariant.room;
+      whole = call_taken models c.args.model.now c.args.model.now.calls c.loop-call.call-index c.call-item.result
+          c.loop-call.start c.in_ok-start.start c.loop-call.block _ _ lt is
+          (c.in_ok-start.ensures.pieces c.args.model.now c.requires.places) c.in_ok-start.ensures.next
+          c.loop-call.invariant.whole;
+      room = room_taken (call_names (wide models) models) c.args.model.now.calls c.loop-call.call-index
+          c.call-item.result c.call-item.result c.loop-call.start c.in_ok-start.start c.args.width lt is
+          c.in_ok-start.ensures.next c.loop-call.invariant.room;
     }
 
 pub returns : goal.returns
 returns c =
-    calls_done c.args.design.now c.args.model.now c.args.model.now.calls c.loop-call.call-index c.loop-call.start c.loop-call.block (pieces (wide c.args.design.now) c.args.design.now c.args.model.now)
-    (subst (λ cs. length cs ≤ c.loop-call.call-index) c.as_slice-call-items.ensures c.loop-call-test.false) c.loop-call.invariant.whole
+    calls_done c.args.design.now c.args.model.now c.args.model.now.calls c.loop-call.call-index c.loop-call.start
+    c.loop-call.block (pieces (wide c.args.design.now) c.args.design.now c.args.model.now)
+    (subst (λ cs. length cs ≤ c.loop-call.call-index) c.as_slice-call-items.ensures c.loop-call-test.false)
+    c.loop-call.invariant.whole

@@ -6,4 +6,5 @@ use Rattle.blif_flat.proofs.expansion.assembly.placed.Goals as goal
 
 pub returns : goal.returns
 returns c = λ names places.
-    def_same c.args.def.now.line _ _ c.args.def.now.on _ _ (c.in_ok-inputs.ensures names places ∙ ap (map (λ t. position_or_len (is_that t) names)) c.as_slice.ensures) c.in_ok-cubes.ensures
+    def_same c.args.def.now.line _ _ c.args.def.now.on _ _ (c.in_ok-inputs.ensures names places
+    ∙ ap (map (λ t. position_or_len (is_that t) names)) c.as_slice.ensures) c.in_ok-cubes.ensures

@@ -3,7 +3,8 @@ use Rattle.blif_flat.proofs.OutputNumbers.{own_number_some, own_number_none}
 use Rattle.blif_flat.proofs.expansion.ends.own_number.Goals as goal
 
 pub returns-in-Some : goal.returns-in-Some
-returns-in-Some c = λ places is size. own_number_some c.args.numbers.now.entries places c.args.name.now c.in-Some.number is
+returns-in-Some c = λ places is size. own_number_some c.args.numbers.now.entries places
+    c.args.name.now c.in-Some.number is
     (sym c.number_of.ensures ∙ c.in-Some.is)
 
 pub returns-in-None : goal.returns-in-None

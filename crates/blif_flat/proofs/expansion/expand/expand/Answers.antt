@@ -11,7 +11,8 @@ finish-requires c =
     (are_expanded c.args.models.now c.index-models-0.result c.narrow-inputs.result c.len.result
     (wires_of c.as_slice-3.result.now) (wires_of c.as_slice.result.now) c.in_ok-defs.defs c.in_ok-outputs.outputs
     c.as_slice-2.result.now c.requires.some c.index-models-0.is c.narrow-inputs.ensures c.len.ensures
-    (ap wires_of c.as_slice-3.ensures.value ∙ c.in_ok-places.ensures) (ap wires_of c.as_slice.ensures.value ∙ c.in_ok-places.ensures)
+    (ap wires_of c.as_slice-3.ensures.value ∙ c.in_ok-places.ensures) (ap wires_of c.as_slice.ensures.value
+    ∙ c.in_ok-places.ensures)
     c.in_ok-defs.ensures c.in_ok-outputs.ensures c.as_slice-2.ensures))) c.requires.parts
 
 pub returns-clause-ok : goal.returns-clause-ok
@@ -21,7 +22,8 @@ returns-clause-ok c =
     (are_expanded c.args.models.now c.index-models-0.result c.narrow-inputs.result c.len.result
     (wires_of c.as_slice-3.result.now) (wires_of c.as_slice.result.now) c.in_ok-defs.defs c.in_ok-outputs.outputs
     c.as_slice-2.result.now c.requires.some c.index-models-0.is c.narrow-inputs.ensures c.len.ensures
-    (ap wires_of c.as_slice-3.ensures.value ∙ c.in_ok-places.ensures) (ap wires_of c.as_slice.ensures.value ∙ c.in_ok-places.ensures)
+    (ap wires_of c.as_slice-3.ensures.value ∙ c.in_ok-places.ensures) (ap wires_of c.as_slice.ensures.value
+    ∙ c.in_ok-places.ensures)
     c.in_ok-defs.ensures c.in_ok-outputs.ensures c.as_slice-2.ensures)
     c.requires.buildable c.finish.result c.finish.ensures.ok c.finish.ensures.sound
 
@@ -32,7 +34,8 @@ returns-clause-err c =
     (are_expanded c.args.models.now c.index-models-0.result c.narrow-inputs.result c.len.result
     (wires_of c.as_slice-3.result.now) (wires_of c.as_slice.result.now) c.in_ok-defs.defs c.in_ok-outputs.outputs
     c.as_slice-2.result.now c.requires.some c.index-models-0.is c.narrow-inputs.ensures c.len.ensures
-    (ap wires_of c.as_slice-3.ensures.value ∙ c.in_ok-places.ensures) (ap wires_of c.as_slice.ensures.value ∙ c.in_ok-places.ensures)
+    (ap wires_of c.as_slice-3.ensures.value ∙ c.in_ok-places.ensures) (ap wires_of c.as_slice.ensures.value
+    ∙ c.in_ok-places.ensures)
     c.in_ok-defs.ensures c.in_ok-outputs.ensures c.as_slice-2.ensures)
     c.requires.buildable c.finish.result c.finish.ensures.refused
 
@@ -43,5 +46,6 @@ output_numbers-requires c =
 
 pub narrow-inputs-requires : goal.narrow-inputs-requires
 narrow-inputs-requires c =
-    few_inputs c.args.models.now c.index-models-0.result c.len.result c.requires.parts c.requires.some c.index-models-0.is
+    few_inputs c.args.models.now c.index-models-0.result c.len.result c.requires.parts
+    c.requires.some c.index-models-0.is
     c.len.ensures

@@ -13,7 +13,8 @@ loop-frame-init c =
     let w = walk_starts c.args.models.now (reverse c.args.order.now) c.args.table.now c.requires.order.settled
     c.requires.links c.new-frames.result.items c.push.new.self.items _
     (wires_of c.begin.new.places.items) (wires_of c.new-places.result.items)
-    (first_is_sound c.args.models.now c.requires.laid_out c.requires.some) c.requires.order.rooted c.new-frames.ensures.items
+    (first_is_sound c.args.models.now c.requires.laid_out c.requires.some) c.requires.order.rooted
+    c.new-frames.ensures.items
     c.in_ok-push.ensures.items refl refl c.links_at.ensures (ap wires_of c.new-places.ensures.items)
     (c.in_ok-begin.ensures ∙ ap (λ (m : BlifModel). wires_of c.new-places.result.items ++ begun 0 m)
     (get_or_read c.args.models.now 0 c.index-models-0.result c.requires.some c.index-models-0.is no_model)) in
@@ -51,7 +52,12 @@ loop-frame-preserved-in-Continue-branch-6 c =
     c.in-Some-split_first.link c.in-Some-split_first.rest.now c.in-Some.ensures.items c.in_ok-push-2.ensures.items
     c.in_ok-push-3.ensures.items c.in-Some-split_first.ensures.cases.0 refl c.links_at-in-Some-split_first.ensures
     c.loop-frame.invariant.reached in
-    record { whole = w.0; reached = w.1; counted = omega (arith, sooner, c.next_call-calls.ensures, c.loop-frame.invariant.counted) }
+    record {
+      whole = w.0;
+      reached = w.1;
+      counted =
+          omega (arith, sooner, c.next_call-calls.ensures, c.loop-frame.invariant.counted);
+    }
 
 pub loop-frame-preserved : goal.loop-frame-preserved
 loop-frame-preserved c =

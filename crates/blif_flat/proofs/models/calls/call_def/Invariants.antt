@@ -9,4 +9,5 @@ use Rattle.blif_flat.proofs.models.calls.call_def.Given as goal
 
 abbrev pub invariant-loop-call : goal.invariant-loop-call
 invariant-loop-call l = (models : List BlifModel) → IsNumbering has_name l.numbers.entries models
-    → l.inputs ++ flat_map (λ c. listed (model_number models c.model)) (drop l.call-index l.model.calls) ≡ flat_map (λ c. listed (model_number models c.model)) l.model.calls
+    → l.inputs ++ flat_map (λ c. listed (model_number models c.model)) (drop l.call-index l.model.calls) ≡ flat_map
+    (λ c. listed (model_number models c.model)) l.model.calls

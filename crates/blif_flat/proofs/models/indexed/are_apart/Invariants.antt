@@ -5,4 +5,5 @@ use Rattle.blif_read.specs.Code.Seen.{texts}
 use Rattle.blif_flat.proofs.models.indexed.are_apart.Given as goal
 
 abbrev pub invariant-loop-input : goal.invariant-loop-input
-invariant-loop-input l = list_all (λ n. not (is_defined (texts l.outputs.keys) n.name)) (drop l.input-index l.inputs) ≡ list_all (λ n. not (is_defined (texts l.outputs.keys) n.name)) l.inputs
+invariant-loop-input l = list_all (λ n. not (is_defined (texts l.outputs.keys) n.name))
+    (drop l.input-index l.inputs) ≡ list_all (λ n. not (is_defined (texts l.outputs.keys) n.name)) l.inputs

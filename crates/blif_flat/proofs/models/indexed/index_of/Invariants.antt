@@ -6,4 +6,5 @@ use Rattle.blif_flat.specs.Designs.{names_in}
 use Rattle.blif_flat.proofs.models.indexed.index_of.Given as goal
 
 abbrev pub invariant-loop-named : goal.invariant-loop-named
-invariant-loop-named l = insert_all bytes_eq (texts l.index.keys) (names_in (drop l.named-index l.names)) ≡ insert_all bytes_eq [] (names_in l.names)
+invariant-loop-named l = insert_all bytes_eq (texts l.index.keys)
+    (names_in (drop l.named-index l.names)) ≡ insert_all bytes_eq [] (names_in l.names)

@@ -7,6 +7,7 @@ use Rattle.blif_flat.proofs.models.links.actuals_of.Goals as goal
 
 pub returns : goal.returns
 returns c = c.loop-port.invariant
-    ∙ ap (actuals_in c.args.call.now) (take_all c.loop-port.port-index c.deref-port-items.result.now c.loop-port-test.false
+    ∙ ap (actuals_in c.args.call.now)
+    (take_all c.loop-port.port-index c.deref-port-items.result.now c.loop-port-test.false
     ∙ c.deref-port-items.ensures.value ∙ c.in_ok-ports.ensures)
     ∙ outputs_actuals c.args.call.now (texts c.args.outputs.now.keys)

@@ -8,11 +8,13 @@ use Rattle.blif_flat.proofs.Linking.{small, links_next}
 use Rattle.blif_flat.proofs.models.links.link_table.Goals as goal
 
 pub bounds-models-at : goal.bounds-models-at
-bounds-models-at c = small c.args.models.now c.args.order.now c.loop-number.number-index c.requires.order c.loop-number-test.true
+bounds-models-at c = small c.args.models.now c.args.order.now c.loop-number.number-index
+    c.requires.order c.loop-number-test.true
 
 pub set-requires : goal.set-requires
 set-requires c =
-    let few = small c.args.models.now c.args.order.now c.loop-number.number-index c.requires.order c.loop-number-test.true in
+    let few = small c.args.models.now c.args.order.now c.loop-number.number-index c.requires.order
+    c.loop-number-test.true in
     let size = c.loop-number.invariant.size in
     omega arith
 

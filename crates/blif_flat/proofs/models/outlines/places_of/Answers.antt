@@ -28,10 +28,21 @@ add_calls-requires c =
     let calls = ap (λ cs. length (flat_map (call_names (wide models) models) cs)) c.as_slice-3.ensures in
     record {
       outlined = subst (AreOutlined models c.args.outlines.now) (sym c.as_slice-3.ensures) c.requires.outlined;
-      room = omega (arith, size, inputs, defs, calls, c.in_ok-inputs.ensures.next, c.in_ok-own.ensures.next, c.requires.room);
+      room = omega (
+        arith,
+        size,
+        inputs,
+        defs,
+        calls,
+        c.in_ok-inputs.ensures.next,
+        c.in_ok-own.ensures.next,
+        c.requires.room,
+      );
     }
 
 pub returns : goal.returns
 returns c =
-    places_whole c.args.design.now c.args.model.now _ _ _ c.with_hasher-places.result.entries _ _ _ _ _ _ c.as_slice.ensures c.as_slice-2.ensures c.as_slice-3.ensures c.with_hasher-places.ensures.empty c.in_ok-inputs.ensures.places c.in_ok-own.ensures.places
+    places_whole c.args.design.now c.args.model.now _ _ _ c.with_hasher-places.result.entries _ _ _ _ _ _
+    c.as_slice.ensures c.as_slice-2.ensures c.as_slice-3.ensures c.with_hasher-places.ensures.empty
+    c.in_ok-inputs.ensures.places c.in_ok-own.ensures.places
     c.in_ok-width.ensures

@@ -10,4 +10,5 @@ use Rattle.blif_flat.proofs.models.sizes.model_size.Given as goal
 
 abbrev pub invariant-loop-call : goal.invariant-loop-call
 invariant-loop-call l = (models : List BlifModel) → IsNumbering has_name l.numbers.entries models
-    → l.size ≡ told (sum_by definition_size l.model.defs + sum_by (λ c. told_at l.table (model_number models c.model)) (take l.call-index l.model.calls))
+    → l.size ≡ told (sum_by definition_size l.model.defs + sum_by (λ c. told_at l.table (model_number models c.model))
+    (take l.call-index l.model.calls))

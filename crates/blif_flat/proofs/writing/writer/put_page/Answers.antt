@@ -1,6 +1,6 @@
-use Rattle.gds_records.proofs.Flowing.{on_same}
+use Rattle.gds_records.proofs.Flowing.{on_same, as_told}
 use Rattle.aq_base.proofs.Growing.{part_stops}
-use Rattle.blif_flat.proofs.Sending.{as_told, page_taken, page_stops}
+use Rattle.blif_flat.proofs.Sending.{page_taken, page_stops}
 use Rattle.blif_flat.proofs.writing.writer.put_page.Goals as goal
 
 pub returns-in_err-append-clause-err : goal.returns-in_err-append-clause-err

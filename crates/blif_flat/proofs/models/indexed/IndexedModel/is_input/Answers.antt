@@ -8,5 +8,6 @@ use Rattle.blif_flat.proofs.models.indexed.IndexedModel.is_input.Goals as goal
 
 pub returns : goal.returns
 returns c = c.is_among.ensures
-    ∙ index_defines (texts c.self.inside.inputs.keys) (names_in c.self.inside.model.now.inputs) c.args.name.now c.self.invariant.has_inputs
+    ∙ index_defines (texts c.self.inside.inputs.keys)
+    (names_in c.self.inside.model.now.inputs) c.args.name.now c.self.invariant.has_inputs
     ∙ ap (λ (m : BlifModel). is_defined (names_in m.inputs) c.args.name.now) c.self.view_is

@@ -8,5 +8,6 @@ use Rattle.blif_flat.proofs.models.indexed.IndexedModel.is_output.Goals as goal
 
 pub returns : goal.returns
 returns c = c.is_among.ensures
-    ∙ index_defines (texts c.self.inside.outputs.keys) (names_in c.self.inside.model.now.outputs) c.args.name.now c.self.invariant.has_outputs
+    ∙ index_defines (texts c.self.inside.outputs.keys)
+    (names_in c.self.inside.model.now.outputs) c.args.name.now c.self.invariant.has_outputs
     ∙ ap (λ (m : BlifModel). is_defined (names_in m.outputs) c.args.name.now) c.self.view_is

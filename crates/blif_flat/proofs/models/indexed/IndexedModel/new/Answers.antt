@@ -10,9 +10,13 @@ use Rattle.blif_flat.proofs.models.indexed.IndexedModel.new.Goals as goal
 
 pub invariant_of-result : goal.invariant_of-result
 invariant_of-result c =
-    let outputs = c.in_ok-outputs.ensures ∙ ap (λ ns. insert_all bytes_eq [] (names_in ns)) c.as_slice-2.ensures in record {
+    let outputs = c.in_ok-outputs.ensures
+    ∙ ap (λ ns. insert_all bytes_eq [] (names_in ns)) c.as_slice-2.ensures in record {
       has_inputs = c.in_ok-inputs.ensures ∙ ap (λ ns. insert_all bytes_eq [] (names_in ns)) c.as_slice.ensures;
       has_outputs = outputs;
-      is_apart = c.are_apart-apart.ensures ∙ ap (list_all (λ n. not (is_defined (texts c.in_ok-outputs.outputs.keys) n.name))) c.as_slice-3.ensures
-          ∙ all_same _ _ (λ n. ap not (index_defines (texts c.in_ok-outputs.outputs.keys) (names_in c.args.model.now.outputs) n.name outputs)) c.args.model.now.inputs;
+      is_apart = c.are_apart-apart.ensures
+          ∙ ap (list_all (λ n. not (is_defined (texts c.in_ok-outputs.outputs.keys) n.name))) c.as_slice-3.ensures
+          ∙ all_same _ _ (λ n. ap not
+          (index_defines (texts c.in_ok-outputs.outputs.keys) (names_in c.args.model.now.outputs) n.name outputs))
+          c.args.model.now.inputs;
     }
