@@ -45,9 +45,7 @@ use Rattle.aqfp_top.proofs.OneCheck.{stream_none, size_none, words_none}
 use Rattle.aqfp_top.proofs.OneComparison.{widths_none}
 use Rattle.aqfp_top.proofs.Judging.{words_are_well}
 use Rattle.aqfp_top.proofs.Comparing.{both_well, compared_well}
-use Rattle.aqfp_top.proofs.Comparing as comparing
-use Rattle.aqfp_top.proofs.CheckEnds.{judging_answers}
-use Rattle.aqfp_top.proofs.WriteSteps as writing
+use Rattle.aqfp_top.proofs.LoadedTexts.{two_answer, three_answer}
 use Rattle.aqfp_top.proofs.ShowingShapes as showing
 use Rattle.aqfp_top.proofs.BuildEnds.{no_counts, none_rose}
 
@@ -127,12 +125,12 @@ pub check_due : (files : Contents) (words : List (List ℕ)) (gds lib text : Lis
 check_due files words gds lib text (inl form) a b c d e f well = record {
   form = Verify;
   is_form = form;
-  first = judging_answers files words gds lib text None (a, b, c) d e f well;
+  first = three_answer words_limit judging_stages files words gds lib text None (a, b, c) d e f well;
 }
 check_due files words gds lib text (inr form) a b c d e f well = record {
   form = Trace;
   is_form = form;
-  first = judging_answers files words gds lib text None (a, b, c) d e f well;
+  first = three_answer words_limit judging_stages files words gds lib text None (a, b, c) d e f well;
 }
 
 pub equal_due : (files : Contents) (words : List (List ℕ)) (gds lib net : List ℕ) → IsEqual words
@@ -142,7 +140,7 @@ pub equal_due : (files : Contents) (words : List (List ℕ)) (gds lib net : List
 equal_due files words gds lib net form a b c d e f well = record {
   form = Equal;
   is_form = form;
-  first = comparing.texts_answer files words gds lib net None (a, b, c) d e f well;
+  first = three_answer net_limit comparing_stages files words gds lib net None (a, b, c) d e f well;
 }
 
 pub write_due : (files : Contents) (words : List (List ℕ)) (gds lib : List ℕ) → IsWrite words
@@ -151,7 +149,7 @@ pub write_due : (files : Contents) (words : List (List ℕ)) (gds lib : List ℕ
 write_due files words gds lib form a b d e well = record {
   form = Write;
   is_form = form;
-  first = writing.texts_answer files words gds lib None (a, b) d e well;
+  first = two_answer gds_limit circuit_stages files words gds lib None (a, b) d e well;
 }
 
 pub report_due : (files : Contents) (words : List (List ℕ)) (gds lib : List ℕ) → IsReport words
@@ -160,7 +158,7 @@ pub report_due : (files : Contents) (words : List (List ℕ)) (gds lib : List �
 report_due files words gds lib is a b d e well = record {
   form = Report;
   is_form = is;
-  first = writing.texts_answer files words gds lib None (a, b) d e well;
+  first = two_answer gds_limit circuit_stages files words gds lib None (a, b) d e well;
 }
 
 pub shapes_due : (files : Contents) (words : List (List ℕ)) (gds : List ℕ) (first second : ℕ)

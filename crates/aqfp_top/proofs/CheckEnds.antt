@@ -1,5 +1,6 @@
 -- How each step may end a check.
-use Rattle.std.proofs.Common.{ℕ, ◌≡◌, ◌≤◌, Bool, List, [], ◌∷◌, length, Option, Some, None, Result, IfErr, All, refl, sym, subst, inl, inr}
+use Rattle.std.proofs.Common.{ℕ, ◌≡◌, ◌≤◌, Bool, List, [], ◌∷◌, length, Option, Some, None, Result, IfErr, All, refl}
+use Rattle.std.proofs.Common.{subst, inl, inr}
 use Rattle.std.specs.Result.{result_err}
 use Rattle.aq_base.specs.Output.{Output}
 use Rattle.aqfp_top.specs.Code.Printing.{PrintsText}
@@ -9,7 +10,7 @@ use Rattle.chip_circuit.specs.Circuits.{CircuitView, KeepsFacts}
 use Rattle.chip_texts.specs.WordsText.{words_of, SaysWords}
 use Rattle.aqfp_top.specs.Loads.{gds_limit, lib_limit, words_limit, check_loads}
 use Rattle.aqfp_top.specs.Stages as stage
-use Rattle.aqfp_top.specs.Stages.{Stage, IsFirst, Answers}
+use Rattle.aqfp_top.specs.Stages.{Stage, Answers}
 use Rattle.aqfp_top.specs.Due.{bytes_at, judging_stages, check_stages}
 use Rattle.aqfp_top.specs.Faults.{IsCheckFault}
 use Rattle.aqfp_top.specs.Code.Loading.{IsFaultOfLoads}
@@ -22,104 +23,85 @@ use Rattle.aqfp_top.specs.declared.check.Printing.{Printing}
 use Rattle.aqfp_top.specs.declared.fault.Fault.{Fault}
 use Rattle.aqfp_top.proofs.OutEnds.{each_text}
 use Rattle.aqfp_top.proofs.EachFault.{each_of_loads, each_circuit, each_judging, each_out}
-use Rattle.aqfp_top.proofs.Staging.{load_stage, past, file_loads, held_bytes}
+use Rattle.aqfp_top.proofs.LoadedTexts.{told_three_answer}
 
 -- the stages of the texts of the files
 abbrev pub texts_at : Contents → List (List ℕ) → List Stage
 texts_at files words = judging_stages (bytes_at files words 1) (bytes_at files words 2) (bytes_at files words 3)
 
 -- a load that ends a check
-pub loads_answer : (told : Option Contents) (words : List (List ℕ)) (fault : Fault) → ((rest : Contents → List (List ℕ) → List Stage) → ToldAnswers (chip_stages rest) told words (Some fault)) → ToldAnswers check_stages told words (Some fault)
+pub loads_answer : (told : Option Contents) (words : List (List ℕ)) (fault : Fault)
+    → ((rest : Contents → List (List ℕ) → List Stage) → ToldAnswers (chip_stages rest) told words (Some fault))
+    → ToldAnswers check_stages told words (Some fault)
 loads_answer None words fault bad = tt
 loads_answer (Some files) words fault bad = bad texts_at
 
 -- what judging a layout and a library may find, judging words too may find
 pub circuit_judges : (fault : Fault) → IsCircuitFault fault → IsJudgingFault fault
-circuit_judges fault wrong = each_circuit IsJudgingFault (λ o k. tt) (λ n. tt) (λ f. tt) (λ k. tt) (λ r a b. tt) tt fault wrong
+circuit_judges fault wrong = each_circuit IsJudgingFault (λ o k. tt) (λ n. tt) (λ f. tt) (λ k. tt)
+    (λ r a b. tt) tt fault wrong
 
 -- Where a load ends a check nothing is printed.
 
 pub loads_check : (fault : Fault) → IsFaultOfLoads check_loads fault → IsCheckFault fault
 loads_check fault only = each_of_loads IsCheckFault check_loads (λ p l. l) (λ p t l. l) (λ p l. l) tt fault only
 
-pub loads_fail : (shown shown' : List Event) (fault : Fault) → IsFaultOfLoads check_loads fault → OutFails shown shown' (Some fault)
-loads_fail shown shown' fault only = each_of_loads (λ f. OutFails shown shown' (Some f)) check_loads (λ p l. tt) (λ p t l. tt) (λ p l. tt) tt fault only
+pub loads_fail : (shown shown' : List Event) (fault : Fault) → IsFaultOfLoads check_loads fault
+    → OutFails shown shown' (Some fault)
+loads_fail shown shown' fault only = each_of_loads (λ f. OutFails shown shown' (Some f)) check_loads (λ p l. tt)
+    (λ p t l. tt) (λ p l. tt) tt fault only
 
-pub loads_check_print : (printing : Printing) (told : Option Contents) (words : List (List ℕ)) (held : Output) (fault : Fault) → IsFaultOfLoads check_loads fault → CheckPrints printing told words held held (Some fault)
+pub loads_check_print : (printing : Printing) (told : Option Contents) (words : List (List ℕ)) (held : Output)
+    (fault : Fault) → IsFaultOfLoads check_loads fault → CheckPrints printing told words held held (Some fault)
 loads_check_print printing told words held fault only =
-    each_of_loads (λ f. CheckPrints printing told words held held (Some f)) check_loads (λ p l. refl) (λ p t l. refl) (λ p l. refl) (inl refl) fault only
+    each_of_loads (λ f. CheckPrints printing told words held held (Some f)) check_loads (λ p l. refl) (λ p t l. refl)
+    (λ p l. refl) (inl refl) fault only
 
 -- Where the texts end a check nothing is printed.
 
 pub unsound_is_check : (fault : Fault) → IsJudgingFault fault → IsCheckFault fault
-unsound_is_check fault wrong = each_judging IsCheckFault (λ o k. tt) (λ n. tt) (λ f. tt) (λ k. tt) (λ r a b. tt) (λ l. tt) tt fault wrong
+unsound_is_check fault wrong = each_judging IsCheckFault (λ o k. tt) (λ n. tt) (λ f. tt) (λ k. tt)
+    (λ r a b. tt) (λ l. tt) tt fault wrong
 
-pub unsound_fails : (shown shown' : List Event) (fault : Fault) → IsJudgingFault fault → OutFails shown shown' (Some fault)
-unsound_fails shown shown' fault wrong = each_judging (λ f. OutFails shown shown' (Some f)) (λ o k. tt) (λ n. tt) (λ f. tt) (λ k. tt) (λ r a b. tt) (λ l. tt) tt fault wrong
+pub unsound_fails : (shown shown' : List Event) (fault : Fault) → IsJudgingFault fault
+    → OutFails shown shown' (Some fault)
+unsound_fails shown shown' fault wrong = each_judging (λ f. OutFails shown shown' (Some f)) (λ o k. tt) (λ n. tt)
+    (λ f. tt) (λ k. tt) (λ r a b. tt) (λ l. tt) tt fault wrong
 
-pub unsound_prints : (printing : Printing) (told : Option Contents) (words : List (List ℕ)) (held : Output) (fault : Fault) → IsJudgingFault fault → CheckPrints printing told words held held (Some fault)
+pub unsound_prints : (printing : Printing) (told : Option Contents) (words : List (List ℕ)) (held : Output)
+    (fault : Fault) → IsJudgingFault fault → CheckPrints printing told words held held (Some fault)
 unsound_prints printing told words held fault wrong =
-    each_judging (λ f. CheckPrints printing told words held held (Some f)) (λ o k. refl) (λ n. refl) (λ f. refl) (λ k. refl) (λ r a b. refl) (λ l. refl) (inl refl) fault wrong
+    each_judging (λ f. CheckPrints printing told words held held (Some f)) (λ o k. refl) (λ n. refl) (λ f. refl)
+    (λ k. refl) (λ r a b. refl) (λ l. refl) (inl refl) fault wrong
 
--- what the texts may answer the whole check may answer
-pub judging_answers : (files : Contents) (words : List (List ℕ)) (gds lib text : List ℕ) (answer : Option Fault)
-    → ToldTexts (Some files) words gds lib text
-    → length gds ≤ gds_limit → length lib ≤ lib_limit → length text ≤ words_limit
-    → Answers (judging_stages gds lib text) answer → Answers (check_stages files words) answer
-judging_answers files words gds lib text answer held a b c answers =
-    past (load_stage files words 1 gds_limit) (load_stage files words 2 lib_limit ∷ load_stage files words 3 words_limit ∷ texts_at files words) answer (file_loads files words 1 gds_limit gds held.0 a)
-    (past (load_stage files words 2 lib_limit) (load_stage files words 3 words_limit ∷ texts_at files words) answer (file_loads files words 2 lib_limit lib held.1 b)
-    (past (load_stage files words 3 words_limit) (texts_at files words) answer (file_loads files words 3 words_limit text held.2 c)
-    (subst (λ g. Answers (judging_stages g (bytes_at files words 2) (bytes_at files words 3)) answer) (sym (held_bytes files words 1 gds held.0))
-    (subst (λ l. Answers (judging_stages gds l (bytes_at files words 3)) answer) (sym (held_bytes files words 2 lib held.1))
-    (subst (λ t. Answers (judging_stages gds lib t) answer) (sym (held_bytes files words 3 text held.2)) answers)))))
-
-pub told_unsound : (told : Option Contents) (words : List (List ℕ)) (gds lib text : List ℕ) (fault : Fault) → ToldTexts told words gds lib text →
-    length gds ≤ gds_limit → length lib ≤ lib_limit → length text ≤ words_limit → Answers (judging_stages gds lib text) (Some fault) → ToldAnswers check_stages told words (Some fault)
-told_unsound None words gds lib text fault held a b c wrong = tt
-told_unsound (Some files) words gds lib text fault held a b c wrong = judging_answers files words gds lib text (Some fault) held a b c wrong
-
--- the same of texts that are these
-pub texts_unsound : (told : Option Contents) (words : List (List ℕ)) (gds lib text lib' text' : List ℕ) (fault : Fault) → ToldTexts told words gds lib text →
-    length gds ≤ gds_limit → length lib ≤ lib_limit → length text ≤ words_limit → lib' ≡ lib → text' ≡ text → Answers (judging_stages gds lib' text') (Some fault) → ToldAnswers check_stages told words (Some fault)
-texts_unsound told words gds lib text lib' text' fault held a b c l t wrong =
-    told_unsound told words gds lib text fault held a b c
-    (subst (λ x. Answers (judging_stages gds x text) (Some fault)) l (subst (λ x. Answers (judging_stages gds lib' x) (Some fault)) t wrong))
-
--- the same of a library's text that is this
-pub told_no_circuit : (told : Option Contents) (words : List (List ℕ)) (gds lib text lib' : List ℕ) (fault : Fault) → ToldTexts told words gds lib text →
-    length gds ≤ gds_limit → length lib ≤ lib_limit → length text ≤ words_limit → lib' ≡ lib → ((rest : List Stage) → Answers (circuit_then gds lib' rest) (Some fault)) → ToldAnswers check_stages told words (Some fault)
+-- the texts of the files
+pub told_no_circuit : (told : Option Contents) (words : List (List ℕ)) (gds lib text lib' : List ℕ) (fault : Fault)
+    → ToldTexts told words gds lib text →
+    length gds ≤ gds_limit → length lib ≤ lib_limit → length text ≤ words_limit → lib' ≡ lib
+    → ((rest : List Stage) → Answers (circuit_then gds lib' rest) (Some fault))
+    → ToldAnswers check_stages told words (Some fault)
 told_no_circuit told words gds lib text lib' fault held a b c l wrong =
-    told_unsound told words gds lib text fault held a b c (subst (λ x. Answers (judging_stages gds x text) (Some fault)) l (wrong (stage.Words gds lib' text ∷ [])))
+    told_three_answer words_limit judging_stages told words gds lib text lib' text (Some fault) held a b c l refl
+    (wrong (stage.Words gds lib' text ∷ []))
 
 -- Where the texts are sound the check comes to printing.
-
-pub told_sound : (told : Option Contents) (words : List (List ℕ)) (gds lib text : List ℕ) (result : Result (Unit {0}) Fault) → ToldTexts told words gds lib text →
-    length gds ≤ gds_limit → length lib ≤ lib_limit → length text ≤ words_limit → IsFirst (judging_stages gds lib text) None → IfErr result IsOutOrMemory → ToldAnswers check_stages told words (result_err result)
-told_sound None words gds lib text result held a b c well only = tt
-told_sound (Some files) words gds lib text result held a b c well only =
-    let none : IsFirst (check_stages files words) None = judging_answers files words gds lib text None held a b c well in
-    each_out (λ r. Answers (check_stages files words) (result_err r)) none none tt result only
-
--- the same of texts that are these
-pub texts_sound : (told : Option Contents) (words : List (List ℕ)) (gds lib text lib' text' : List ℕ) (result : Result (Unit {0}) Fault) → ToldTexts told words gds lib text →
-    length gds ≤ gds_limit → length lib ≤ lib_limit → length text ≤ words_limit → lib' ≡ lib → text' ≡ text → IsFirst (judging_stages gds lib' text') None → IfErr result IsOutOrMemory
-    → ToldAnswers check_stages told words (result_err result)
-texts_sound told words gds lib text lib' text' result held a b c l t well only =
-    told_sound told words gds lib text result held a b c
-    (subst (λ x. IsFirst (judging_stages gds x text) None) l (subst (λ x. IsFirst (judging_stages gds lib' x) None) t well)) only
 
 pub out_is_check : (result : Result (Unit {0}) Fault) → IfErr result IsOutOrMemory → IfErr result IsCheckFault
 out_is_check result only = each_out (λ r. IfErr r IsCheckFault) tt refl tt result only
 
-pub out_check_prints : (printing : Printing) (told : Option Contents) (words : List (List ℕ)) (before after : Output) (gds lib text : List ℕ) (circuit : CircuitView) (given : List (List Bool)) (result : Result (Unit {0}) Fault) →
-    ToldTexts told words gds lib text → IsSound gds lib text circuit → KeepsFacts circuit → given ≡ words_of text → All (λ word. length word ≡ circuit.inputs) given →
-    PrintsText (text_of printing circuit given) before after result → CheckPrints printing told words before after (result_err result)
+pub out_check_prints : (printing : Printing) (told : Option Contents) (words : List (List ℕ)) (before after : Output)
+    (gds lib text : List ℕ) (circuit : CircuitView) (given : List (List Bool)) (result : Result (Unit {0}) Fault) →
+    ToldTexts told words gds lib text → IsSound gds lib text circuit → KeepsFacts circuit → given ≡ words_of text
+    → All (λ word. length word ≡ circuit.inputs) given →
+    PrintsText (text_of printing circuit given) before after result
+    → CheckPrints printing told words before after (result_err result)
 out_check_prints printing told words before after gds lib text circuit given result held sound keeps same wide prints =
-    each_text (λ r. CheckPrints printing told words before after (result_err r)) (text_of printing circuit given) before after
+    each_text (λ r. CheckPrints printing told words before after (result_err r))
+    (text_of printing circuit given) before after
     (λ p. made p) (λ p. made p) (λ p. inr (made p)) result prints
   where
-    made : {Printed : List ℕ → Type 0} → Printed (text_of printing circuit given) → IsPrintedOf printing told words Printed
+    made : {Printed : List ℕ → Type 0} → Printed (text_of printing circuit given)
+        → IsPrintedOf printing told words Printed
     made {Printed} printed = record {
       gds = gds;
       lib = lib;
@@ -133,11 +115,32 @@ out_check_prints printing told words before after gds lib text circuit given res
     }
 
 -- the same of texts that are these
-pub texts_check_print : (printing : Printing) (told : Option Contents) (words : List (List ℕ)) (before after : Output) (gds lib text lib' text' : List ℕ) (circuit : CircuitView) (given : List (List Bool)) (result : Result (Unit {0}) Fault) →
-    ToldTexts told words gds lib text → lib' ≡ lib → text' ≡ text → MakesCircuit gds lib' circuit → SaysWords circuit.inputs text' → KeepsFacts circuit → given ≡ words_of text' → All (λ word. length word ≡ circuit.inputs) given →
-    PrintsText (text_of printing circuit given) before after result → CheckPrints printing told words before after (result_err result)
-texts_check_print printing told words before after gds lib text lib' text' circuit given result held l t makes says keeps same wide prints =
-    let sound : IsSound gds lib text circuit = record { makes = subst (λ x. MakesCircuit gds x circuit) l makes; says = subst (SaysWords circuit.inputs) t says } in
-    out_check_prints printing told words before after gds lib text circuit given result held sound keeps (subst (λ x. given ≡ words_of x) t same) wide prints
+pub texts_check_print : (printing : Printing) (told : Option Contents) (words : List (List ℕ)) (before after : Output)
+    (gds lib text lib' text' : List ℕ) (circuit : CircuitView) (given : List (List Bool))
+    (result : Result (Unit {0}) Fault) →
+    ToldTexts told words gds lib text → lib' ≡ lib → text' ≡ text → MakesCircuit gds lib' circuit
+    → SaysWords circuit.inputs text' → KeepsFacts circuit → given ≡ words_of text'
+    → All (λ word. length word ≡ circuit.inputs) given →
+    PrintsText (text_of printing circuit given) before after result
+    → CheckPrints printing told words before after (result_err result)
+texts_check_print printing told words before after gds lib text lib' text' circuit given result held l t makes
+    says keeps same wide prints =
+    let sound : IsSound gds lib text circuit =
+    record {
+      makes = subst (λ x. MakesCircuit gds x circuit) l makes;
+      says =
+          subst (SaysWords circuit.inputs) t says;
+    } in
+    out_check_prints printing told words before after gds lib text circuit given result held sound keeps
+    (subst (λ x. given ≡ words_of x) t same) wide prints
 
-pub ruleset ends = (loads_answer, circuit_judges, loads_check, loads_fail, loads_check_print, unsound_is_check, unsound_fails, unsound_prints, told_unsound)
+pub ruleset ends = (
+  loads_answer,
+  circuit_judges,
+  loads_check,
+  loads_fail,
+  loads_check_print,
+  unsound_is_check,
+  unsound_fails,
+  unsound_prints,
+)

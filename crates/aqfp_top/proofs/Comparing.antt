@@ -1,5 +1,6 @@
 -- From the clauses of the steps of a comparison to its own.
-use Rattle.std.proofs.Common.{ℕ, ◌≡◌, ◌≤◌, List, [], ◌∷◌, length, Option, Some, None, Result, Ok, Err, IfOk, IfErr, OnOk, refl, sym, subst, inl, inr}
+use Rattle.std.proofs.Common.{ℕ, ◌≡◌, ◌≤◌, List, [], ◌∷◌, length, Option, Some, None, Result, Ok, Err, IfOk, IfErr}
+use Rattle.std.proofs.Common.{OnOk, refl, subst, inl, inr}
 use Rattle.std.specs.Result.{result_err}
 use Rattle.aq_base.specs.Output.{Output}
 use Rattle.aqfp_top.specs.Code.Printing.{PrintsText}
@@ -29,14 +30,17 @@ use Rattle.aqfp_top.specs.declared.fault.Fault.{Fault}
 use Rattle.aqfp_top.specs.declared.fault.Fault.TheVariants.{BadBlif, BadDesign, TooLarge, Widths, Memory}
 use Rattle.aqfp_top.proofs.OutEnds.{each_text}
 use Rattle.aqfp_top.proofs.EachFault.{each_of_loads, each_circuit, each_comparing, each_out}
-use Rattle.aqfp_top.proofs.Staging.{load_stage, past, past_all, found, file_loads, held_bytes}
+use Rattle.aqfp_top.proofs.Staging.{past_all, found}
+use Rattle.aqfp_top.proofs.LoadedTexts.{told_three_answer}
 use Rattle.aqfp_top.proofs.CheckEnds.{loads_fail}
 use Rattle.aqfp_top.proofs.OneFault.{says_no_fault}
+use Rattle.aqfp_top.proofs.Reporting.{circuit_fails}
 
 -- The kinds of faults.
 
 pub circuit_compares : (fault : Fault) → IsCircuitFault fault → IsComparingFault fault
-circuit_compares fault wrong = each_circuit IsComparingFault (λ o k. tt) (λ n. tt) (λ f. tt) (λ k. tt) (λ r a b. tt) tt fault wrong
+circuit_compares fault wrong = each_circuit IsComparingFault (λ o k. tt) (λ n. tt) (λ f. tt) (λ k. tt)
+    (λ r a b. tt) tt fault wrong
 
 pub netlist_compares : (net : List ℕ) (fault : Fault) → OrMemory (IsNetlistFault net) fault → IsComparingFault fault
 netlist_compares net (BadBlif fault) bad = tt
@@ -45,36 +49,47 @@ netlist_compares net (TooLarge Design count) bad = tt
 netlist_compares net Memory bad = tt
 netlist_compares net _ bad = absurd bad
 
-pub widths_compare : (circuit : CircuitView) (view : NetView) (fault : Fault) → AreOtherWidths circuit view fault → IsComparingFault fault
+pub widths_compare : (circuit : CircuitView) (view : NetView) (fault : Fault)
+    → AreOtherWidths circuit view fault → IsComparingFault fault
 widths_compare circuit view (Widths a b c d) bad = tt
 widths_compare circuit view _ bad = absurd bad
 
-pub functions_compare : (circuit : CircuitView) (view : NetView) (fault : Fault) → OrMemory (IsManyFault circuit view) fault → IsComparingFault fault
+pub functions_compare : (circuit : CircuitView) (view : NetView) (fault : Fault)
+    → OrMemory (IsManyFault circuit view) fault → IsComparingFault fault
 functions_compare circuit view (TooLarge Functions count) bad = bad.0
 functions_compare circuit view Memory bad = tt
 functions_compare circuit view _ bad = absurd bad
 
 -- Reading the chip and the netlist.
 
-pub makes_both : (gds lib net : List ℕ) (circuit : CircuitView) (view : NetView) → MakesCircuit gds lib circuit → netlist.SaysNetlist net view → MakesBoth gds lib net circuit view
+pub makes_both : (gds lib net : List ℕ) (circuit : CircuitView) (view : NetView) → MakesCircuit gds lib circuit
+    → netlist.SaysNetlist net view → MakesBoth gds lib net circuit view
 makes_both gds lib net circuit view makes says = record { makes = makes; says = says }
 
-pub both_well : (gds lib net : List ℕ) (view : NetView) → IsFirst (circuit_stages gds lib) None → netlist.SaysNetlist net view → IsFirst (both_stages gds lib net) None
-both_well gds lib net view before says = (before.0, (before.1.0, (before.1.1.0, (before.1.1.1.0, (says_no_fault net view says, tt)))))
+pub both_well : (gds lib net : List ℕ) (view : NetView) → IsFirst (circuit_stages gds lib) None
+    → netlist.SaysNetlist net view → IsFirst (both_stages gds lib net) None
+both_well gds lib net view before says =
+    (before.0, (before.1.0, (before.1.1.0, (before.1.1.1.0, (says_no_fault net view says, tt)))))
 
-pub circuit_answers : (gds lib net : List ℕ) (fault : Fault) → ((rest : List Stage) → Answers (circuit_then gds lib rest) (Some fault)) → Answers (comparing_stages gds lib net) (Some fault)
-circuit_answers gds lib net fault bad = bad (stage.Netlist net ∷ stage.Counts gds lib net ∷ stage.Comparison gds lib net ∷ [])
+pub circuit_answers : (gds lib net : List ℕ) (fault : Fault)
+    → ((rest : List Stage) → Answers (circuit_then gds lib rest) (Some fault))
+    → Answers (comparing_stages gds lib net) (Some fault)
+circuit_answers gds lib net fault bad =
+    bad (stage.Netlist net ∷ stage.Counts gds lib net ∷ stage.Comparison gds lib net ∷ [])
 
-pub netlist_answers : (gds lib net : List ℕ) (fault : Fault) → IsFirst (circuit_stages gds lib) None → OrMemory (IsNetlistFault net) fault → Answers (comparing_stages gds lib net) (Some fault)
+pub netlist_answers : (gds lib net : List ℕ) (fault : Fault) → IsFirst (circuit_stages gds lib) None
+    → OrMemory (IsNetlistFault net) fault → Answers (comparing_stages gds lib net) (Some fault)
 netlist_answers gds lib net fault before bad =
-    past_all (circuit_stages gds lib) (stage.Netlist net ∷ stage.Counts gds lib net ∷ stage.Comparison gds lib net ∷ []) (Some fault) before
+    past_all (circuit_stages gds lib)
+    (stage.Netlist net ∷ stage.Counts gds lib net ∷ stage.Comparison gds lib net ∷ []) (Some fault) before
     (found (stage.Netlist net) (stage.Counts gds lib net ∷ stage.Comparison gds lib net ∷ []) fault bad)
 
 pub ruleset reads = (circuit_compares, netlist_compares, makes_both, both_well, circuit_answers, netlist_answers)
 
 -- Comparing them.
 
-has_widths : (gds lib net : List ℕ) (circuit : CircuitView) (view : NetView) (a b c d : ℕ) → MakesBoth gds lib net circuit view → AreWidths circuit view a b c d → HasWidths gds lib net a b c d
+has_widths : (gds lib net : List ℕ) (circuit : CircuitView) (view : NetView) (a b c d : ℕ)
+    → MakesBoth gds lib net circuit view → AreWidths circuit view a b c d → HasWidths gds lib net a b c d
 has_widths gds lib net circuit view a b c d both w = record {
   circuit = circuit;
   view = view;
@@ -86,38 +101,54 @@ has_widths gds lib net circuit view a b c d both w = record {
   other = w.other;
 }
 
-widths_found : (gds lib net : List ℕ) (circuit : CircuitView) (view : NetView) (fault : Fault) → MakesBoth gds lib net circuit view → AreOtherWidths circuit view fault
+widths_found : (gds lib net : List ℕ) (circuit : CircuitView) (view : NetView) (fault : Fault)
+    → MakesBoth gds lib net circuit view → AreOtherWidths circuit view fault
     → OrMemory (stage.Finds (stage.Counts gds lib net)) fault
 widths_found gds lib net circuit view (Widths a b c d) both bad = has_widths gds lib net circuit view a b c d both bad
 widths_found gds lib net circuit view _ both bad = absurd bad
 
-pub widths_answer : (gds lib net : List ℕ) (circuit : CircuitView) (view : NetView) (fault : Fault) → MakesBoth gds lib net circuit view → IsFirst (both_stages gds lib net) None → AreOtherWidths circuit view fault
+pub widths_answer : (gds lib net : List ℕ) (circuit : CircuitView) (view : NetView) (fault : Fault)
+    → MakesBoth gds lib net circuit view → IsFirst (both_stages gds lib net) None → AreOtherWidths circuit view fault
     → Answers (comparing_stages gds lib net) (Some fault)
 widths_answer gds lib net circuit view fault both before bad =
-    past_all (both_stages gds lib net) (stage.Counts gds lib net ∷ stage.Comparison gds lib net ∷ []) (Some fault) before
-    (found (stage.Counts gds lib net) (stage.Comparison gds lib net ∷ []) fault (widths_found gds lib net circuit view fault both bad))
+    past_all (both_stages gds lib net)
+    (stage.Counts gds lib net ∷ stage.Comparison gds lib net ∷ []) (Some fault) before
+    (found (stage.Counts gds lib net) (stage.Comparison gds lib net ∷ []) fault
+    (widths_found gds lib net circuit view fault both bad))
 
-pub compared_well : (gds lib net : List ℕ) → IsFirst (both_stages gds lib net) None → FindsNone (stage.Counts gds lib net) → IsFirst (comparing_stages gds lib net) None
-compared_well gds lib net before none = (before.0, (before.1.0, (before.1.1.0, (before.1.1.1.0, (before.1.1.1.1.0, (none, ((λ fault found. found), tt)))))))
+pub compared_well : (gds lib net : List ℕ) → IsFirst (both_stages gds lib net) None
+    → FindsNone (stage.Counts gds lib net) → IsFirst (comparing_stages gds lib net) None
+compared_well gds lib net before none =
+    (before.0, (before.1.0, (before.1.1.0, (before.1.1.1.0, (before.1.1.1.1.0, (none, ((λ fault found. found), tt)))))))
 
 -- whatever the comparison finds
-pub always_well : (gds lib net : List ℕ) (result : Result Verdict Fault) → IsFirst (both_stages gds lib net) None → FindsNone (stage.Counts gds lib net) → OnOk result (IsFirst (comparing_stages gds lib net) None)
+pub always_well : (gds lib net : List ℕ) (result : Result Verdict Fault) → IsFirst (both_stages gds lib net) None
+    → FindsNone (stage.Counts gds lib net) → OnOk result (IsFirst (comparing_stages gds lib net) None)
 always_well gds lib net (Ok verdict) before none = compared_well gds lib net before none
 always_well gds lib net (Err fault) before none = tt
 
-pub functions_answer : (gds lib net : List ℕ) (circuit : CircuitView) (view : NetView) (fault : Fault) → MakesBoth gds lib net circuit view → IsFirst (both_stages gds lib net) None → FindsNone (stage.Counts gds lib net)
+pub functions_answer : (gds lib net : List ℕ) (circuit : CircuitView) (view : NetView) (fault : Fault)
+    → MakesBoth gds lib net circuit view → IsFirst (both_stages gds lib net) None → FindsNone (stage.Counts gds lib net)
     → OrMemory (IsManyFault circuit view) fault → Answers (comparing_stages gds lib net) (Some fault)
 functions_answer gds lib net circuit view (TooLarge Functions count) both before none bad =
-    inr (compared_well gds lib net before none, inr (inr (inr (inr (inr (inr (inl (record { circuit = circuit; view = view; both = both; many = bad }))))))))
+    inr (
+      compared_well gds lib net before none,
+      inr
+          (inr (inr (inr (inr (inr (inl (record { circuit = circuit; view = view; both = both; many = bad }))))))),
+    )
 functions_answer gds lib net circuit view Memory both before none bad = tt
 functions_answer gds lib net circuit view _ both before none bad = absurd bad
 
-pub comparison_answers : (gds lib net : List ℕ) (circuit : CircuitView) (view : NetView) (result : Result Verdict Fault) → MakesBoth gds lib net circuit view → IsFirst (both_stages gds lib net) None → FindsNone (stage.Counts gds lib net)
-    → IfErr result (OrMemory (IsManyFault circuit view)) → IfErr result (λ fault. Answers (comparing_stages gds lib net) (Some fault))
+pub comparison_answers : (gds lib net : List ℕ) (circuit : CircuitView) (view : NetView) (result : Result Verdict Fault)
+    → MakesBoth gds lib net circuit view → IsFirst (both_stages gds lib net) None → FindsNone (stage.Counts gds lib net)
+    → IfErr result (OrMemory (IsManyFault circuit view))
+    → IfErr result (λ fault. Answers (comparing_stages gds lib net) (Some fault))
 comparison_answers gds lib net circuit view (Ok verdict) both before none bad = tt
-comparison_answers gds lib net circuit view (Err fault) both before none bad = functions_answer gds lib net circuit view fault both before none bad
+comparison_answers gds lib net circuit view (Err fault) both before none bad =
+    functions_answer gds lib net circuit view fault both before none bad
 
-has_verdict : (gds lib net : List ℕ) (circuit : CircuitView) (view : NetView) (verdict : Verdict) → MakesBoth gds lib net circuit view → KeepsFacts circuit → IsNetlist view → IsTrueOf circuit view verdict
+has_verdict : (gds lib net : List ℕ) (circuit : CircuitView) (view : NetView) (verdict : Verdict)
+    → MakesBoth gds lib net circuit view → KeepsFacts circuit → IsNetlist view → IsTrueOf circuit view verdict
     → HasVerdict gds lib net verdict
 has_verdict gds lib net circuit view verdict both circuit_keeps net_keeps holds = record {
   circuit = circuit;
@@ -128,89 +159,74 @@ has_verdict gds lib net circuit view verdict both circuit_keeps net_keeps holds 
   holds = holds;
 }
 
-pub verdicts : (gds lib net : List ℕ) (circuit : CircuitView) (view : NetView) (result : Result Verdict Fault) → MakesBoth gds lib net circuit view → KeepsFacts circuit → IsNetlist view → IfOk result (IsTrueOf circuit view)
+pub verdicts : (gds lib net : List ℕ) (circuit : CircuitView) (view : NetView) (result : Result Verdict Fault)
+    → MakesBoth gds lib net circuit view → KeepsFacts circuit → IsNetlist view → IfOk result (IsTrueOf circuit view)
     → IfOk result (HasVerdict gds lib net)
-verdicts gds lib net circuit view (Ok verdict) both circuit_keeps net_keeps holds = has_verdict gds lib net circuit view verdict both circuit_keeps net_keeps holds
+verdicts gds lib net circuit view (Ok verdict) both circuit_keeps net_keeps holds =
+    has_verdict gds lib net circuit view verdict both circuit_keeps net_keeps holds
 verdicts gds lib net circuit view (Err fault) both circuit_keeps net_keeps holds = tt
 
 pub ruleset compares = (widths_compare, functions_compare)
 
 -- Where a load ends a comparison nothing is printed.
 
-pub loads_answer : (told : Option Contents) (words : List (List ℕ)) (fault : Fault) → ((rest : Contents → List (List ℕ) → List Stage) → ToldAnswers (chip_stages rest) told words (Some fault)) → ToldAnswers equal_stages told words (Some fault)
+pub loads_answer : (told : Option Contents) (words : List (List ℕ)) (fault : Fault)
+    → ((rest : Contents → List (List ℕ) → List Stage) → ToldAnswers (chip_stages rest) told words (Some fault))
+    → ToldAnswers equal_stages told words (Some fault)
 loads_answer None words fault bad = tt
-loads_answer (Some files) words fault bad = bad (λ files words. comparing_stages (bytes_at files words 1) (bytes_at files words 2) (bytes_at files words 3))
+loads_answer (Some files) words fault bad =
+    bad (λ files words. comparing_stages (bytes_at files words 1) (bytes_at files words 2) (bytes_at files words 3))
 
 pub loads_equal : (fault : Fault) → IsFaultOfLoads check_loads fault → IsEqualFault fault
 loads_equal fault only = each_of_loads IsEqualFault check_loads (λ p l. l) (λ p t l. l) (λ p l. l) tt fault only
 
-pub loads_equal_print : (told : Option Contents) (words : List (List ℕ)) (held : Output) (fault : Fault) → IsFaultOfLoads check_loads fault → EqualPrints told words held held (Some fault)
+pub loads_equal_print : (told : Option Contents) (words : List (List ℕ)) (held : Output) (fault : Fault)
+    → IsFaultOfLoads check_loads fault → EqualPrints told words held held (Some fault)
 loads_equal_print told words held fault only =
-    each_of_loads (λ f. EqualPrints told words held held (Some f)) check_loads (λ p l. refl) (λ p t l. refl) (λ p l. refl) (inl refl) fault only
+    each_of_loads (λ f. EqualPrints told words held held (Some f)) check_loads (λ p l. refl) (λ p t l. refl)
+    (λ p l. refl) (inl refl) fault only
 
 -- Where the texts end a comparison nothing is printed.
 
 circuit_equal : (fault : Fault) → IsCircuitFault fault → IsEqualFault fault
-circuit_equal fault wrong = each_circuit IsEqualFault (λ o k. tt) (λ n. tt) (λ f. tt) (λ k. tt) (λ r a b. tt) tt fault wrong
+circuit_equal fault wrong = each_circuit IsEqualFault (λ o k. tt) (λ n. tt) (λ f. tt) (λ k. tt)
+    (λ r a b. tt) tt fault wrong
 
 pub wrong_is_equal : (fault : Fault) → IsComparingFault fault → IsEqualFault fault
-wrong_is_equal fault wrong = each_comparing IsEqualFault circuit_equal (λ f. tt) (λ l k. tt) (λ n. tt) (λ a b c d. tt) refl fault wrong
+wrong_is_equal fault wrong = each_comparing IsEqualFault circuit_equal (λ f. tt) (λ l k. tt) (λ n. tt)
+    (λ a b c d. tt) refl fault wrong
 
-circuit_fails : (shown shown' : List Event) (fault : Fault) → IsCircuitFault fault → OutFails shown shown' (Some fault)
-circuit_fails shown shown' fault wrong = each_circuit (λ f. OutFails shown shown' (Some f)) (λ o k. tt) (λ n. tt) (λ f. tt) (λ k. tt) (λ r a b. tt) tt fault wrong
-
-pub wrong_fails : (shown shown' : List Event) (fault : Fault) → IsComparingFault fault → OutFails shown shown' (Some fault)
+pub wrong_fails : (shown shown' : List Event) (fault : Fault) → IsComparingFault fault
+    → OutFails shown shown' (Some fault)
 wrong_fails shown shown' fault wrong =
-    each_comparing (λ f. OutFails shown shown' (Some f)) (circuit_fails shown shown') (λ f. tt) (λ l k. tt) (λ n. tt) (λ a b c d. tt) tt fault wrong
+    each_comparing (λ f. OutFails shown shown' (Some f)) (circuit_fails shown shown') (λ f. tt) (λ l k. tt) (λ n. tt)
+    (λ a b c d. tt) tt fault wrong
 
-circuit_prints : (told : Option Contents) (words : List (List ℕ)) (held : Output) (fault : Fault) → IsCircuitFault fault → EqualPrints told words held held (Some fault)
+circuit_prints : (told : Option Contents) (words : List (List ℕ)) (held : Output) (fault : Fault) → IsCircuitFault fault
+    → EqualPrints told words held held (Some fault)
 circuit_prints told words held fault wrong =
-    each_circuit (λ f. EqualPrints told words held held (Some f)) (λ o k. refl) (λ n. refl) (λ f. refl) (λ k. refl) (λ r a b. refl) (inl refl) fault wrong
+    each_circuit (λ f. EqualPrints told words held held (Some f)) (λ o k. refl) (λ n. refl) (λ f. refl) (λ k. refl)
+    (λ r a b. refl) (inl refl) fault wrong
 
-pub wrong_prints : (told : Option Contents) (words : List (List ℕ)) (held : Output) (fault : Fault) → IsComparingFault fault → EqualPrints told words held held (Some fault)
+pub wrong_prints : (told : Option Contents) (words : List (List ℕ)) (held : Output) (fault : Fault)
+    → IsComparingFault fault → EqualPrints told words held held (Some fault)
 wrong_prints told words held fault wrong =
-    each_comparing (λ f. EqualPrints told words held held (Some f)) (circuit_prints told words held) (λ f. refl) (λ l k. refl) (λ n. refl) (λ a b c d. refl) refl fault wrong
+    each_comparing (λ f. EqualPrints told words held held (Some f)) (circuit_prints told words held) (λ f. refl)
+    (λ l k. refl) (λ n. refl) (λ a b c d. refl) refl fault wrong
 
--- what the texts may answer the whole comparison may answer
-pub texts_answer : (files : Contents) (words : List (List ℕ)) (gds lib net : List ℕ) (answer : Option Fault)
-    → ToldTexts (Some files) words gds lib net
-    → length gds ≤ gds_limit → length lib ≤ lib_limit → length net ≤ words_limit
-    → Answers (comparing_stages gds lib net) answer → Answers (equal_stages files words) answer
-texts_answer files words gds lib net answer held a b c answers =
-    let rest = comparing_stages (bytes_at files words 1) (bytes_at files words 2) (bytes_at files words 3) in
-    past (load_stage files words 1 gds_limit) (load_stage files words 2 lib_limit ∷ load_stage files words 3 net_limit ∷ rest) answer (file_loads files words 1 gds_limit gds held.0 a)
-    (past (load_stage files words 2 lib_limit) (load_stage files words 3 net_limit ∷ rest) answer (file_loads files words 2 lib_limit lib held.1 b)
-    (past (load_stage files words 3 net_limit) rest answer (file_loads files words 3 net_limit net held.2 c)
-    (subst (λ g. Answers (comparing_stages g (bytes_at files words 2) (bytes_at files words 3)) answer) (sym (held_bytes files words 1 gds held.0))
-    (subst (λ l. Answers (comparing_stages gds l (bytes_at files words 3)) answer) (sym (held_bytes files words 2 lib held.1))
-    (subst (λ t. Answers (comparing_stages gds lib t) answer) (sym (held_bytes files words 3 net held.2)) answers)))))
-
-pub told_wrong : (told : Option Contents) (words : List (List ℕ)) (gds lib net : List ℕ) (fault : Fault) → ToldTexts told words gds lib net →
-    length gds ≤ gds_limit → length lib ≤ lib_limit → length net ≤ words_limit → Answers (comparing_stages gds lib net) (Some fault) → ToldAnswers equal_stages told words (Some fault)
-told_wrong None words gds lib net fault held a b c wrong = tt
-told_wrong (Some files) words gds lib net fault held a b c wrong = texts_answer files words gds lib net (Some fault) held a b c wrong
+pub told_wrong : (told : Option Contents) (words : List (List ℕ)) (gds lib net : List ℕ) (fault : Fault)
+    → ToldTexts told words gds lib net → length gds ≤ gds_limit → length lib ≤ lib_limit → length net ≤ words_limit
+    → Answers (comparing_stages gds lib net) (Some fault) → ToldAnswers equal_stages told words (Some fault)
+told_wrong told words gds lib net fault held a b c wrong =
+    told_three_answer net_limit comparing_stages told words gds lib net lib net (Some fault) held a b c refl refl wrong
 
 -- Where nothing is wrong with the texts the comparison comes to printing.
-
-told_well : (told : Option Contents) (words : List (List ℕ)) (gds lib net : List ℕ) (result : Result (Unit {0}) Fault) → ToldTexts told words gds lib net →
-    length gds ≤ gds_limit → length lib ≤ lib_limit → length net ≤ words_limit → IsFirst (comparing_stages gds lib net) None → IfErr result IsOutOrMemory → ToldAnswers equal_stages told words (result_err result)
-told_well None words gds lib net result held a b c well only = tt
-told_well (Some files) words gds lib net result held a b c well only =
-    let none : IsFirst (equal_stages files words) None = texts_answer files words gds lib net None held a b c well in
-    each_out (λ r. Answers (equal_stages files words) (result_err r)) none none tt result only
-
--- the same of texts that are these
-pub texts_well : (told : Option Contents) (words : List (List ℕ)) (gds lib net lib' net' : List ℕ) (result : Result (Unit {0}) Fault) → ToldTexts told words gds lib net →
-    length gds ≤ gds_limit → length lib ≤ lib_limit → length net ≤ words_limit → lib' ≡ lib → net' ≡ net → IsFirst (comparing_stages gds lib' net') None → IfErr result IsOutOrMemory
-    → ToldAnswers equal_stages told words (result_err result)
-texts_well told words gds lib net lib' net' result held a b c l t well only =
-    told_well told words gds lib net result held a b c
-    (subst (λ x. IsFirst (comparing_stages gds x net) None) l (subst (λ x. IsFirst (comparing_stages gds lib' x) None) t well)) only
 
 pub out_is_equal : (result : Result (Unit {0}) Fault) → IfErr result IsOutOrMemory → IfErr result IsEqualFault
 out_is_equal result only = each_out (λ r. IfErr r IsEqualFault) tt refl tt result only
 
-pub out_equal_prints : (told : Option Contents) (words : List (List ℕ)) (before after : Output) (gds lib net : List ℕ) (verdict : Verdict) (result : Result (Unit {0}) Fault) →
+pub out_equal_prints : (told : Option Contents) (words : List (List ℕ)) (before after : Output) (gds lib net : List ℕ)
+    (verdict : Verdict) (result : Result (Unit {0}) Fault) →
     ToldTexts told words gds lib net → HasVerdict gds lib net verdict →
     PrintsText (verdict_text verdict) before after result → EqualPrints told words before after (result_err result)
 out_equal_prints told words before after gds lib net verdict result held found prints =
@@ -218,14 +234,33 @@ out_equal_prints told words before after gds lib net verdict result held found p
     (λ p. made p) (λ p. made p) (λ p. inr (made p)) result prints
   where
     made : {Printed : List ℕ → Type 0} → Printed (verdict_text verdict) → IsToldOf told words Printed
-    made {Printed} printed = record { gds = gds; lib = lib; net = net; held = held; verdict = verdict; found = found; printed = printed }
+    made {Printed} printed = record {
+      gds = gds;
+      lib = lib;
+      net = net;
+      held = held;
+      verdict = verdict;
+      found =
+          found;
+      printed = printed;
+    }
 
 -- the same of texts that are these
-pub texts_print : (told : Option Contents) (words : List (List ℕ)) (before after : Output) (gds lib net lib' net' : List ℕ) (verdict : Verdict) (result : Result (Unit {0}) Fault) →
+pub texts_print : (told : Option Contents) (words : List (List ℕ)) (before after : Output)
+    (gds lib net lib' net' : List ℕ) (verdict : Verdict) (result : Result (Unit {0}) Fault) →
     ToldTexts told words gds lib net → lib' ≡ lib → net' ≡ net → HasVerdict gds lib' net' verdict →
     PrintsText (verdict_text verdict) before after result → EqualPrints told words before after (result_err result)
 texts_print told words before after gds lib net lib' net' verdict result held l t found prints =
     out_equal_prints told words before after gds lib net verdict result held
     (subst (λ x. HasVerdict gds x net verdict) l (subst (λ x. HasVerdict gds lib' x verdict) t found)) prints
 
-pub ruleset ends = (loads_answer, loads_equal, loads_fail, loads_equal_print, wrong_is_equal, wrong_fails, wrong_prints, told_wrong)
+pub ruleset ends = (
+  loads_answer,
+  loads_equal,
+  loads_fail,
+  loads_equal_print,
+  wrong_is_equal,
+  wrong_fails,
+  wrong_prints,
+  told_wrong,
+)

@@ -1,5 +1,6 @@
 -- The counts of faults that an ending shows, and the name of a failed load, follow from what was heard.
-use Rattle.std.proofs.Common.{ℕ, suc, ◌≡◌, ◌<◌, List, [], ◌∷◌, take, Option, Some, None, inl, inr, refl, sym, ap, subst, ◌∙◌, arith}
+use Rattle.std.proofs.Common.{ℕ, suc, ◌≡◌, ◌<◌, List, [], ◌∷◌, take, Option, Some, None, inl, inr, refl, sym, ap, subst}
+use Rattle.std.proofs.Common.{◌∙◌, arith}
 use Rattle.aq_base.specs.declared.store.StoreRefusal.{StoreRefusal}
 use Rattle.aq_base.specs.Heard.{Event, Created, close_event}
 use Rattle.aq_base.specs.FaultCounts.{read_faults, write_faults, close_faults, load_failed}
@@ -8,14 +9,17 @@ use Rattle.std.specs.Prelude.{Result, Ok, Err, IfSome}
 use Rattle.aqfp_top.specs.Words.{word_at, IsOfForm}
 use Rattle.aqfp_top.specs.Loads.{Load, build_loads, check_loads, equal_loads, write_loads, shapes_loads}
 use Rattle.aqfp_top.specs.Stages.{Stage, LoadsAt, IsReached}
-use Rattle.aqfp_top.specs.Due.{design_stages, circuit_stages, judging_stages, comparing_stages, showing_stages, sample_stages}
+use Rattle.aqfp_top.specs.Due.{design_stages, circuit_stages, judging_stages, comparing_stages, showing_stages}
+use Rattle.aqfp_top.specs.Due.{sample_stages}
 use Rattle.aqfp_top.specs.Counted.{counts_of, HasFaults, FailedLoad}
 use Rattle.aqfp_top.specs.Faults.{RunsOnly}
-use Rattle.aqfp_top.specs.HeardDue.{RefusesOne, DueOfOne, DueOfTwo, DueOfThree, DueOfReading, HeardAfter, DueByForm, HearsDue}
+use Rattle.aqfp_top.specs.HeardDue.{RefusesOne, DueOfOne, DueOfTwo, DueOfThree, DueOfReading, HeardAfter, DueByForm}
+use Rattle.aqfp_top.specs.HeardDue.{HearsDue}
 use Rattle.aqfp_top.specs.Code.Printing.{OutFails}
 use Rattle.aqfp_top.specs.declared.planner.Planner.{Planner}
 use Rattle.aqfp_top.specs.declared.words.Form.{Form}
-use Rattle.aqfp_top.specs.declared.words.Form.TheVariants.{Make, Verify, Trace, Equal, Write, Report, Shapes, Sample, Wrong}
+use Rattle.aqfp_top.specs.declared.words.Form.TheVariants.{Make, Verify, Trace, Equal, Write, Report, Shapes, Sample}
+use Rattle.aqfp_top.specs.declared.words.Form.TheVariants.{Wrong}
 use Rattle.aqfp_top.specs.declared.fault.WriteCall.{WriteCall}
 use Rattle.aqfp_top.specs.declared.fault.WriteCall.TheVariants.{Create, Append, Close, Out}
 use Rattle.aqfp_top.specs.declared.fault.Fault.{Fault}
@@ -57,14 +61,16 @@ read_two : (planner : Planner) (words : List (List ℕ)) (heard heard' : List Ev
     → DueByForm (Make planner) heard heard' words (Some (ReadFault place)) → Fails words heard heard' place
 unfolding DueOfTwo
 read_two planner words heard heard' place (inl refused) = refuses_read build_loads words heard heard' place refused
-read_two planner words heard heard' place (inr j) = absurd (not_reached (design_stages planner j.first j.lib) place ((λ l. l), ((λ l. l), ((λ l. l), tt))) j.answers)
+read_two planner words heard heard' place (inr j) =
+    absurd (not_reached (design_stages planner j.first j.lib) place ((λ l. l), ((λ l. l), ((λ l. l), tt))) j.answers)
 
 read_check : (words : List (List ℕ)) (heard heard' : List Event) (place : ℕ)
     → DueByForm Verify heard heard' words (Some (ReadFault place)) → Fails words heard heard' place
 unfolding DueOfThree
 read_check words heard heard' place (inl refused) = refuses_read check_loads words heard heard' place refused
 read_check words heard heard' place (inr j) =
-    absurd (not_reached (judging_stages j.gds j.lib j.third) place ((λ l. l), ((λ l. l), ((λ l. l), ((λ l. l), ((λ l. l), tt))))) j.answers)
+    absurd (not_reached (judging_stages j.gds j.lib j.third) place
+    ((λ l. l), ((λ l. l), ((λ l. l), ((λ l. l), ((λ l. l), tt))))) j.answers)
 
 read_equal : (words : List (List ℕ)) (heard heard' : List Event) (place : ℕ)
     → DueByForm Equal heard heard' words (Some (ReadFault place)) → Fails words heard heard' place
@@ -79,19 +85,22 @@ read_write : (words : List (List ℕ)) (heard heard' : List Event) (place : ℕ)
 unfolding DueOfTwo
 read_write words heard heard' place (inl refused) = refuses_read write_loads words heard heard' place refused
 read_write words heard heard' place (inr j) =
-    absurd (not_reached (circuit_stages j.first j.lib) place ((λ l. l), ((λ l. l), ((λ l. l), ((λ l. l), tt)))) j.answers)
+    absurd (not_reached (circuit_stages j.first j.lib) place
+    ((λ l. l), ((λ l. l), ((λ l. l), ((λ l. l), tt)))) j.answers)
 
 read_report : (words : List (List ℕ)) (heard heard' : List Event) (place : ℕ)
     → DueByForm Report heard heard' words (Some (ReadFault place)) → Fails words heard heard' place
 unfolding DueOfReading
 read_report words heard heard' place (inl refused) = refuses_read write_loads words heard heard' place refused
 read_report words heard heard' place (inr j) =
-    absurd (not_reached (circuit_stages j.first j.lib) place ((λ l. l), ((λ l. l), ((λ l. l), ((λ l. l), tt)))) j.answers)
+    absurd (not_reached (circuit_stages j.first j.lib) place
+    ((λ l. l), ((λ l. l), ((λ l. l), ((λ l. l), tt)))) j.answers)
 
 read_shapes : (first second : ℕ) (words : List (List ℕ)) (heard heard' : List Event) (place : ℕ)
     → DueByForm (Shapes first second) heard heard' words (Some (ReadFault place)) → Fails words heard heard' place
 unfolding DueOfOne
-read_shapes first second words heard heard' place (inl refused) = refuses_read shapes_loads words heard heard' place refused
+read_shapes first second words heard heard' place (inl refused) =
+    refuses_read shapes_loads words heard heard' place refused
 read_shapes first second words heard heard' place (inr j) =
     absurd (not_reached (showing_stages j.gds first second) place ((λ l. l), ((λ l. l), ((λ l. l), tt))) j.answers)
 
@@ -104,7 +113,8 @@ fails_load Equal words heard heard' place due = read_equal words heard heard' pl
 fails_load Write words heard heard' place due = read_write words heard heard' place due
 fails_load Report words heard heard' place due = read_report words heard heard' place due
 fails_load (Shapes first second) words heard heard' place due = read_shapes first second words heard heard' place due
-fails_load (Sample bits) words heard heard' place due = absurd (not_reached (sample_stages bits) place ((λ l. l), ((λ l. l), tt)) due.1)
+fails_load (Sample bits) words heard heard' place due =
+    absurd (not_reached (sample_stages bits) place ((λ l. l), ((λ l. l), tt)) due.1)
 fails_load Wrong words heard heard' place due = cc
 
 -- ---- a failed write or close
@@ -114,7 +124,8 @@ refuses_no_write : (loads : List Load) (words : List (List ℕ)) (heard heard' :
 unfolding RefusesOne
 refuses_no_write [] words heard heard' call refused = refused
 refuses_no_write (load ∷ loads) words heard heard' call (inl refused) = refused
-refuses_no_write (load ∷ loads) words heard heard' call (inr gives) = refuses_no_write loads words _ heard' call gives.holds
+refuses_no_write (load ∷ loads) words heard heard' call (inr gives) =
+    refuses_no_write loads words _ heard' call gives.holds
 
 -- one more call of this kind failed
 abbrev FailsCall : List Event → List Event → WriteCall → Type 0
@@ -194,7 +205,8 @@ has_faults words heard heard' shown shown' None hears only out = tt
 has_faults words heard heard' shown shown' (Some (ReadFault place)) hears only out =
     more _ _ (fails_load hears.form words heard heard' place hears.due).more
 has_faults words heard heard' shown shown' (Some (WriteFault call)) hears only out =
-    by_call heard heard' shown shown' call (fails_call hears.form words heard heard' call hears.is_form only hears.due) out
+    by_call heard heard' shown shown' call
+    (fails_call hears.form words heard heard' call hears.is_form only hears.due) out
 has_faults words heard heard' shown shown' (Some _) hears only out = tt
 
 pub failed_load : (words : List (List ℕ)) (heard heard' : List Event) (answer : Option Fault)

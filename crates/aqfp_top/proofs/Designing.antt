@@ -2,6 +2,7 @@
 use Rattle.std.proofs.Common.{ℕ, ◌≡◌, ◌<◌, ◌≤◌, ◌^◌, ◌⊎◌, List, [], ◌∷◌, length, Some, None, inl, inr, refl, subst, sym}
 use Rattle.std.proofs.Common.{ap, ◌∙◌}
 use Rattle.std.proofs.Common.{arith, le_refl}
+use Rattle.blif_flat.proofs.SaidNets.{one_net}
 use Rattle.blif_read.specs.Parts.{NetView}
 use Rattle.blif_flat.specs.DesignText as netlist
 use Rattle.rowed.specs.PlacedNets.{PlacedView, IsPlaced}
@@ -16,7 +17,6 @@ use Rattle.chip_plan.specs.Refusals.{Refuses}
 use Rattle.chip_plan.specs.declared.refusal.PlanRefusal.{PlanRefusal}
 use Rattle.chip_plan.specs.declared.refusal.PlanRefusal.TheVariants as refusal
 use Rattle.compact_plan.specs.Compact.{IsNoLarger, IsPlanned}
-use Rattle.cell_plan.specs.DrawnChips.{IsDrawnChip}
 use Rattle.cell_plan.specs.Refusals.{RefusesCells}
 use Rattle.cell_plan.specs.declared.refusal.CellPlanRefusal.{CellPlanRefusal}
 use Rattle.cell_plan.specs.declared.refusal.CellPlanRefusal.TheVariants as own
@@ -27,7 +27,8 @@ use Rattle.aqfp_top.specs.Stages as stage
 use Rattle.aqfp_top.specs.Stages.{Finds, FindsNone, IsFirst, Answers}
 use Rattle.aqfp_top.specs.Due.{design_stages}
 use Rattle.aqfp_top.specs.Code.Staging.{OrMemory}
-use Rattle.aqfp_top.specs.Code.Designing.{IsDesignFault, AreCountsOf, IsDrawn, IsChipOf, MakesChip, PlanRefuses, IsPlannedBy}
+use Rattle.aqfp_top.specs.Code.Designing.{IsDesignFault, AreCountsOf, IsDrawn, IsChipOf, MakesChip, PlanRefuses}
+use Rattle.aqfp_top.specs.Code.Designing.{IsPlannedBy}
 use Rattle.aqfp_top.specs.Code.Designing.{IsWellPlanned}
 use Rattle.aqfp_top.specs.Code.Designing as designing
 use Rattle.aqfp_top.specs.declared.planner.Planner.{Planner}
@@ -36,11 +37,12 @@ use Rattle.aqfp_top.specs.declared.counts.ChipCounts.{ChipCounts}
 use Rattle.aqfp_top.specs.declared.fault.Large.{Large}
 use Rattle.aqfp_top.specs.declared.fault.Large.TheVariants.{Slots, Rows, Cells, Elements, Shapes, Functions, Design}
 use Rattle.aqfp_top.proofs.Staging.{past, found}
-use Rattle.aqfp_top.proofs.OneFault.{says_no_fault, says_no_cells_fault, same_said, one_netlist}
+use Rattle.aqfp_top.proofs.OneFault.{says_no_fault, says_no_cells_fault, same_said, many_and_few}
 use Rattle.aqfp_top.proofs.OwnCells.{rows_no_fault, large_no_fault, chip_no_fault}
 use Rattle.aqfp_top.specs.declared.design.Chip.{Chip}
 use Rattle.aqfp_top.specs.declared.fault.Fault.{Fault}
-use Rattle.aqfp_top.specs.declared.fault.Fault.TheVariants.{BadBlif, BadDesign, BadLibrary, MissingCell, TooLarge, NotCells, Memory}
+use Rattle.aqfp_top.specs.declared.fault.Fault.TheVariants.{BadBlif, BadDesign, BadLibrary, MissingCell, TooLarge}
+use Rattle.aqfp_top.specs.declared.fault.Fault.TheVariants.{NotCells, Memory}
 
 -- the kinds of faults
 
@@ -60,7 +62,8 @@ cells_fault planner lib Memory bad = tt
 cells_fault planner lib _ bad = absurd bad
 
 -- a size that no plan refuses
-no_size : (planner : Planner) (n : NetView) (l : LibraryView) (what : Large) (count : ℕ) → (HasTooMuch n l what count → ⊥)
+no_size : (planner : Planner) (n : NetView) (l : LibraryView) (what : Large) (count : ℕ)
+    → (HasTooMuch n l what count → ⊥)
     → (HasTooMuchOfOwn n l what count → ⊥)
     → PlanFinds planner n l (TooLarge what count) ⊎ PlanGivesUp planner n l what count → ⊥
 no_size Layered n l what count plain own (inl bad) = plain bad
@@ -96,16 +99,21 @@ plan_fault Given equations cells _ bad = absurd bad
 
 -- from the faults of the steps to what the stages answer
 
-pub netlist_answers : (planner : Planner) (net lib : List ℕ) (fault : Fault) → OrMemory (IsNetlistFault net) fault → Answers (design_stages planner net lib) (Some fault)
+pub netlist_answers : (planner : Planner) (net lib : List ℕ) (fault : Fault) → OrMemory (IsNetlistFault net) fault
+    → Answers (design_stages planner net lib) (Some fault)
 netlist_answers planner net lib fault bad =
     found (stage.Netlist net) (stage.Cells lib ∷ stage.Plan planner net lib ∷ []) fault bad
 
-pub cells_answer : (planner : Planner) (net lib : List ℕ) (view : NetView) (fault : Fault) → netlist.SaysNetlist net view → OrMemory (IsCellsFault lib) fault → Answers (design_stages planner net lib) (Some fault)
+pub cells_answer : (planner : Planner) (net lib : List ℕ) (view : NetView) (fault : Fault)
+    → netlist.SaysNetlist net view → OrMemory (IsCellsFault lib) fault
+    → Answers (design_stages planner net lib) (Some fault)
 cells_answer planner net lib view fault says bad =
-    past (stage.Netlist net) (stage.Cells lib ∷ stage.Plan planner net lib ∷ []) (Some fault) (says_no_fault net view says)
+    past (stage.Netlist net) (stage.Cells lib ∷ stage.Plan planner net lib ∷ []) (Some fault)
+    (says_no_fault net view says)
     (found (stage.Cells lib) (stage.Plan planner net lib ∷ []) fault bad)
 
-says_design : (net lib : List ℕ) (equations : NetView) (cells : LibraryView) → netlist.SaysNetlist net equations → library.SaysLibrary lib cells → SaysDesign net lib equations cells
+says_design : (net lib : List ℕ) (equations : NetView) (cells : LibraryView) → netlist.SaysNetlist net equations
+    → library.SaysLibrary lib cells → SaysDesign net lib equations cells
 says_design net lib equations cells net_says lib_says = record { net_says = net_says; lib_says = lib_says }
 
 -- what holds of the plan of the netlist and the library holds of the texts
@@ -121,7 +129,7 @@ of_plan : (net lib : List ℕ) (equations : NetView) (cells : LibraryView) (Hold
     → Holds equations cells
 of_plan net lib equations cells Holds n l has =
     subst (λ l. Holds equations l) (same_said lib has.cells cells has.says.lib_says l)
-    (subst (λ n. Holds n has.cells) (one_netlist net has.equations equations has.says.net_says n) has.holds)
+    (subst (λ n. Holds n has.cells) (one_net net has.equations equations has.says.net_says n) has.holds)
 
 -- where a search gives up its plan finds nothing
 none_found : (planner : Planner) (n : NetView) (l : LibraryView) (what : Large) (count : ℕ)
@@ -143,7 +151,8 @@ finds_stage : (planner : Planner) (net lib : List ℕ) (equations : NetView) (ce
 finds_stage planner net lib equations cells fault n l bad =
     of_texts net lib equations cells (λ e c. PlanFinds planner e c fault) n l bad
 
-large_stage : (planner : Planner) (net lib : List ℕ) (equations : NetView) (cells : LibraryView) (what : Large) (count : ℕ)
+large_stage : (planner : Planner) (net lib : List ℕ) (equations : NetView) (cells : LibraryView)
+    (what : Large) (count : ℕ)
     → netlist.SaysNetlist net equations → library.SaysLibrary lib cells
     → PlanFinds planner equations cells (TooLarge what count) ⊎ PlanGivesUp planner equations cells what count
     → Answers (stage.Plan planner net lib ∷ []) (Some (TooLarge what count))
@@ -171,7 +180,8 @@ pub plan_answers : (planner : Planner) (net lib : List ℕ) (equations : NetView
     → netlist.SaysNetlist net equations → library.SaysLibrary lib cells
     → OrMemory (PlanRefuses planner equations cells) fault → Answers (design_stages planner net lib) (Some fault)
 plan_answers planner net lib equations cells fault n l bad =
-    past (stage.Netlist net) (stage.Cells lib ∷ stage.Plan planner net lib ∷ []) (Some fault) (says_no_fault net equations n)
+    past (stage.Netlist net) (stage.Cells lib ∷ stage.Plan planner net lib ∷ []) (Some fault)
+    (says_no_fault net equations n)
     (past (stage.Cells lib) (stage.Plan planner net lib ∷ []) (Some fault) (says_no_cells_fault lib cells l)
     (plan_stage planner net lib equations cells fault n l bad))
 
@@ -196,7 +206,8 @@ refused_plan equations cells (refusal.Cells count) bad = inl bad
 refused_plan equations cells refusal.Memory bad = tt
 
 -- a search gives up for it
-pub refused_search : (equations : NetView) (cells : LibraryView) (refused : PlanRefusal) → Refuses cells equations refused
+pub refused_search : (equations : NetView) (cells : LibraryView) (refused : PlanRefusal)
+    → Refuses cells equations refused
     → OrMemory (PlanRefuses Compact equations cells) (designing.plan_fault refused)
 refused_search equations cells (refusal.Slots span) bad = inr bad
 refused_search equations cells (refusal.Rows rows) bad = inr bad
@@ -224,9 +235,6 @@ many_elements : (equations : NetView) (cells : LibraryView) (chip : PlacedView) 
 many_elements equations cells chip count planned number above =
     record { within = planned.within; count_is = number ∙ ap element_number planned.is; above = above }
 
-few_and_many : (n count : ℕ) → n ≤ element_limit → count ≡ n → element_limit < count → ⊥
-few_and_many n count few is above = omega arith
-
 -- only the chip of the defined plan may have too many elements
 pub too_many : (planner : Planner) (equations : NetView) (cells : LibraryView) (chip : PlacedView) (count : ℕ)
     → IsPlannedBy planner equations cells chip → count ≡ element_number chip → element_limit < count
@@ -236,9 +244,9 @@ too_many Layered equations cells chip count planned number above =
 too_many Compact equations cells chip count (inl planned) number above =
     inr (many_elements equations cells chip count planned number above)
 too_many Compact equations cells chip count (inr found) number above =
-    absurd (few_and_many (element_number chip) count found.few number above)
+    absurd (many_and_few (element_number chip) count found.few number above)
 too_many Given equations cells chip count drawn number above =
-    absurd (few_and_many (element_number chip) count drawn.few number above)
+    absurd (many_and_few (element_number chip) count drawn.few number above)
 
 -- what is drawn has few cells and wires
 pub few_cells : (chip : PlacedView) → element_number chip ≤ element_limit → cells_in chip.net.rows < 2 ^ 63

@@ -1,5 +1,6 @@
 -- The stream of a drawing is made of bytes: its names and labels are letters and digits.
-use Rattle.std.proofs.Common.{◌≡◌, ℕ, zero, suc, ◌+◌, ◌<◌, ◌^◌, ◌%◌, ◌/◌, ◌==◌, List, [], ◌∷◌, ◌++◌, Bool, true, false, length, map, refl, arith}
+use Rattle.std.proofs.Common.{◌≡◌, ℕ, zero, suc, ◌+◌, ◌<◌, ◌^◌, ◌%◌, ◌/◌, ◌==◌, List, [], ◌∷◌, ◌++◌, Bool, true, false}
+use Rattle.std.proofs.Common.{length, map, refl, arith}
 use Rattle.std.specs.Prelude.{slice_index, slice_index_or, if◌then◌else◌, nat_lt, nat_le, ◌&&◌, ◌||◌, not}
 use Rattle.std.specs.Char.{is_ascii_digit}
 use Rattle.std.specs.Fmt.{decimal}
@@ -7,17 +8,22 @@ use Rattle.std.specs.Int.{w16, byte_at, bytes_high_first, to_be_bytes, cast_unsi
 use Rattle.std.specs.List.{AllByRecursion, flat_map, list_all}
 use Rattle.std.proofs.lemmas.Bool.{and_parts}
 use Rattle.std.proofs.lemmas.Bool.Decides.{nat_tests}
+use Rattle.blif_read.proofs.Within.{all_join}
 use Rattle.circuit.specs.declared.cell_kind.CellKind.{CellKind}
-use Rattle.circuit.specs.declared.cell_kind.CellKind.TheVariants.{Buffer, Inverter, Zero, One, Split2, Split3, Majority}
+use Rattle.circuit.specs.declared.cell_kind.CellKind.TheVariants.{Buffer}
 use Rattle.geom.specs.Writable.{names_in}
 use Rattle.geom.specs.declared.shapes.Label.{Label}
 use Rattle.geom.specs.declared.layout.Element.{Element}
 use Rattle.geom.specs.declared.layout.Element.TheVariants.{Box, Place, Text}
 use Rattle.geom.specs.declared.layout.Structure.{Structure}
-use Rattle.gds_records.specs.declared.codes.TheConstants.{HEADER, BGNLIB, LIBNAME, UNITS, ENDLIB, BGNSTR, STRNAME, ENDSTR, BOUNDARY, SREF, TEXT, LAYER, DATATYPE, XY, ENDEL, SNAME, TEXTTYPE, STRING, NO_DATA, TWO_BYTE_INTEGER, FOUR_BYTE_INTEGER, EIGHT_BYTE_REAL, ASCII_STRING}
+use Rattle.gds_records.specs.declared.codes.TheConstants.{HEADER, BGNLIB, LIBNAME, UNITS, ENDLIB, BGNSTR, STRNAME}
+use Rattle.gds_records.specs.declared.codes.TheConstants.{ENDSTR, BOUNDARY, SREF, TEXT, LAYER, DATATYPE, XY, ENDEL}
+use Rattle.gds_records.specs.declared.codes.TheConstants.{SNAME, TEXTTYPE, STRING, NO_DATA, TWO_BYTE_INTEGER}
+use Rattle.gds_records.specs.declared.codes.TheConstants.{FOUR_BYTE_INTEGER, EIGHT_BYTE_REAL, ASCII_STRING}
 use Rattle.gds_records.specs.Records.{Record, record_with, spelled}
 use Rattle.gds_records.specs.Profiled.{IsBytes}
-use Rattle.gds_records.specs.Writing.{bytes_of, records_of, library_head, structure_records, element_records, padded, two_bytes, dates, corner_bits, corners, point, units, library_name}
+use Rattle.gds_records.specs.Writing.{bytes_of, records_of, library_head, structure_records, element_records, padded}
+use Rattle.gds_records.specs.Writing.{two_bytes, dates, corner_bits, corners, point, units, library_name}
 use Rattle.layout_rules.specs.Labels.{letter_i, letter_o, is_decimal}
 use Rattle.layout_rules.proofs.LabelLaws.{is_decimal-decimal}
 use Rattle.list_orders.specs.Numbers.{numbers}
@@ -33,15 +39,13 @@ use Rattle.layout_make.specs.MayDraw.{MayDraw}
 
 -- ---- lists of which each element has something
 
-all_joined : {X : Type 0} (P : X → Type 0) (xs ys : List X) → AllByRecursion P xs → AllByRecursion P ys → AllByRecursion P (xs ++ ys)
-all_joined P [] ys p q = q
-all_joined P (x ∷ xs) ys p q = (p.0, all_joined P xs ys p.1 q)
-
-all_flat : {X Y : Type 0} (Q : X → Type 0) (P : Y → Type 0) (f : X → List Y) → ((x : X) → Q x → AllByRecursion P (f x)) → (xs : List X) → AllByRecursion Q xs → AllByRecursion P (flat_map f xs)
+all_flat : {X Y : Type 0} (Q : X → Type 0) (P : Y → Type 0) (f : X → List Y) → ((x : X) → Q x → AllByRecursion P (f x))
+    → (xs : List X) → AllByRecursion Q xs → AllByRecursion P (flat_map f xs)
 all_flat Q P f each [] all = tt
-all_flat Q P f each (x ∷ xs) all = all_joined P (f x) (flat_map f xs) (each x all.0) (all_flat Q P f each xs all.1)
+all_flat Q P f each (x ∷ xs) all = all_join P (f x) (flat_map f xs) (each x all.0) (all_flat Q P f each xs all.1)
 
-all_mapped : {X Y : Type 0} (Q : X → Type 0) (P : Y → Type 0) (f : X → Y) → ((x : X) → Q x → P (f x)) → (xs : List X) → AllByRecursion Q xs → AllByRecursion P (map f xs)
+all_mapped : {X Y : Type 0} (Q : X → Type 0) (P : Y → Type 0) (f : X → Y) → ((x : X) → Q x → P (f x)) → (xs : List X)
+    → AllByRecursion Q xs → AllByRecursion P (map f xs)
 all_mapped Q P f each [] all = tt
 all_mapped Q P f each (x ∷ xs) all = (each x all.0, all_mapped Q P f each xs all.1)
 
@@ -50,9 +54,11 @@ all_whatever : {X : Type 0} (xs : List X) → AllByRecursion (λ x. Unit {0}) xs
 all_whatever [] = tt
 all_whatever (x ∷ xs) = (tt, all_whatever xs)
 
-numbers_below : (P : ℕ → Type 0) (first count : ℕ) → ((n : ℕ) → n < first + count → P n) → AllByRecursion P (numbers first count)
+numbers_below : (P : ℕ → Type 0) (first count : ℕ) → ((n : ℕ) → n < first + count → P n)
+    → AllByRecursion P (numbers first count)
 numbers_below P first zero each = tt
-numbers_below P first (suc count) each = (each first (omega arith), numbers_below P (suc first) count (λ n lt. each n (omega arith)))
+numbers_below P first (suc count) each =
+    (each first (omega arith), numbers_below P (suc first) count (λ n lt. each n (omega arith)))
 
 -- ---- bytes
 
@@ -98,22 +104,24 @@ digits_small (b ∷ bs) e = let both = and_parts _ _ e in (digit_small b both.0,
 abbrev AreSpelled : List Record → Type 0
 AreSpelled rs = AllByRecursion (λ r. AreBytes (spelled r)) rs
 
-spells : (kind form : ℕ) (content : List ℕ) → nat_lt kind 256 ≡ true → nat_lt form 256 ≡ true → AreBytes content → AreBytes (spelled (record_with kind form content))
+spells : (kind form : ℕ) (content : List ℕ) → nat_lt kind 256 ≡ true → nat_lt form 256 ≡ true → AreBytes content
+    → AreBytes (spelled (record_with kind form content))
 spells kind form content k f all =
-    all_joined (λ b. b < 256) (to_be_bytes w16 (4 + length content)) (kind ∷ form ∷ content) (high_first 2 (4 + length content)) (is_less kind k, (is_less form f, all))
+    all_join (λ b. b < 256) (to_be_bytes w16 (4 + length content)) (kind ∷ form ∷ content)
+    (high_first 2 (4 + length content)) (is_less kind k, (is_less form f, all))
 
 filled : (b : Bool) → AreBytes (if b then [] else (0 ∷ []))
 filled true = tt
 filled false = (omega arith, tt)
 
 padded_bytes : (text : List ℕ) → AreBytes text → AreBytes (padded text)
-padded_bytes text all = all_joined (λ b. b < 256) text _ all (filled (length text % 2 == 0))
+padded_bytes text all = all_join (λ b. b < 256) text _ all (filled (length text % 2 == 0))
 
 four : (n : ℕ) → AreBytes (bytes_high_first 4 n)
 four n = high_first 4 n
 
 point_bytes : (a b : ℕ) → AreBytes (bytes_high_first 4 a ++ bytes_high_first 4 b)
-point_bytes a b = all_joined (λ b. b < 256) (bytes_high_first 4 a) (bytes_high_first 4 b) (four a) (four b)
+point_bytes a b = all_join (λ b. b < 256) (bytes_high_first 4 a) (bytes_high_first 4 b) (four a) (four b)
 
 record Made (bs : List ℕ) : Type 0 where
   pub all : AreBytes bs
@@ -122,7 +130,7 @@ last_made : (n : ℕ) → Made (bytes_high_first 4 n)
 last_made n = record { all = four n }
 
 made : {bs : List ℕ} (n : ℕ) → Made bs → Made (bytes_high_first 4 n ++ bs)
-made {bs} n is = record { all = all_joined (λ b. b < 256) (bytes_high_first 4 n) bs (four n) is.all }
+made {bs} n is = record { all = all_join (λ b. b < 256) (bytes_high_first 4 n) bs (four n) is.all }
 
 corner_bytes : (a b c d : ℕ) → AreBytes (corner_bits a b c d)
 corner_bytes a b c d =
@@ -140,7 +148,8 @@ HasText (Box s) = Unit {0}
 HasText (Place n x y) = Unit {0}
 HasText (Text l) = AreBytes l.text
 
-element_spelled : (names : List (List ℕ)) → AllByRecursion AreBytes names → (e : Element) → HasText e → AreSpelled (element_records names e)
+element_spelled : (names : List (List ℕ)) → AllByRecursion AreBytes names → (e : Element) → HasText e
+    → AreSpelled (element_records names e)
 element_spelled names all (Box s) has = (
   spells BOUNDARY NO_DATA [] refl refl tt,
   (
@@ -148,7 +157,9 @@ element_spelled names all (Box s) has = (
     (
       spells DATATYPE TWO_BYTE_INTEGER (two_bytes s.datatype) refl refl (high_first 2 s.datatype),
       (
-        spells XY FOUR_BYTE_INTEGER (corners s.rect) refl refl (corner_bytes (cast_unsigned w32 s.rect.x0) (cast_unsigned w32 s.rect.y0) (cast_unsigned w32 s.rect.x1) (cast_unsigned w32 s.rect.y1)),
+        spells XY FOUR_BYTE_INTEGER (corners s.rect) refl refl
+            (corner_bytes (cast_unsigned w32 s.rect.x0) (cast_unsigned w32 s.rect.y0) (cast_unsigned w32 s.rect.x1)
+            (cast_unsigned w32 s.rect.y1)),
         (spells ENDEL NO_DATA [] refl refl tt, tt),
       ),
     ),
@@ -157,8 +168,12 @@ element_spelled names all (Box s) has = (
 element_spelled names all (Place n x y) has = (
   spells SREF NO_DATA [] refl refl tt,
   (
-    spells SNAME ASCII_STRING (padded (slice_index_or names n [])) refl refl (padded_bytes (slice_index_or names n []) (name_at names all n)),
-    (spells XY FOUR_BYTE_INTEGER (point x y) refl refl (point_bytes (cast_unsigned w32 x) (cast_unsigned w32 y)), (spells ENDEL NO_DATA [] refl refl tt, tt)),
+    spells SNAME ASCII_STRING (padded (slice_index_or names n [])) refl refl
+        (padded_bytes (slice_index_or names n []) (name_at names all n)),
+    (
+      spells XY FOUR_BYTE_INTEGER (point x y) refl refl (point_bytes (cast_unsigned w32 x) (cast_unsigned w32 y)),
+      (spells ENDEL NO_DATA [] refl refl tt, tt),
+    ),
   ),
 )
 element_spelled names all (Text l) has = (
@@ -168,8 +183,12 @@ element_spelled names all (Text l) has = (
     (
       spells TEXTTYPE TWO_BYTE_INTEGER (two_bytes 0) refl refl (high_first 2 0),
       (
-        spells XY FOUR_BYTE_INTEGER (point l.x l.y) refl refl (point_bytes (cast_unsigned w32 l.x) (cast_unsigned w32 l.y)),
-        (spells STRING ASCII_STRING (padded l.text) refl refl (padded_bytes l.text has), (spells ENDEL NO_DATA [] refl refl tt, tt)),
+        spells XY FOUR_BYTE_INTEGER (point l.x l.y) refl refl
+            (point_bytes (cast_unsigned w32 l.x) (cast_unsigned w32 l.y)),
+        (
+          spells STRING ASCII_STRING (padded l.text) refl refl (padded_bytes l.text has),
+          (spells ENDEL NO_DATA [] refl refl tt, tt),
+        ),
       ),
     ),
   ),
@@ -180,13 +199,16 @@ record HasTexts (s : Structure) : Type 0 where
   pub name : AreBytes s.name
   pub elements : AllByRecursion HasText s.elements
 
-structure_spelled : (names : List (List ℕ)) → AllByRecursion AreBytes names → (s : Structure) → HasTexts s → AreSpelled (structure_records names s)
+structure_spelled : (names : List (List ℕ)) → AllByRecursion AreBytes names → (s : Structure) → HasTexts s
+    → AreSpelled (structure_records names s)
 structure_spelled names all s has = (
   spells BGNSTR TWO_BYTE_INTEGER dates refl refl (by_test dates refl),
   (
     spells STRNAME ASCII_STRING (padded s.name) refl refl (padded_bytes s.name has.name),
-    all_joined (λ r. AreBytes (spelled r)) (flat_map (element_records names) s.elements) (record_with ENDSTR NO_DATA [] ∷ [])
-        (all_flat HasText (λ r. AreBytes (spelled r)) (element_records names) (element_spelled names all) s.elements has.elements)
+    all_join (λ r. AreBytes (spelled r)) (flat_map (element_records names) s.elements)
+        (record_with ENDSTR NO_DATA [] ∷ [])
+        (all_flat HasText (λ r. AreBytes (spelled r)) (element_records names)
+        (element_spelled names all) s.elements has.elements)
         (spells ENDSTR NO_DATA [] refl refl tt, tt),
   ),
 )
@@ -206,28 +228,27 @@ head_spelled = (
 records_spelled : (ss : List Structure) → AllByRecursion HasTexts ss → AreBytes (flat_map spelled (records_of ss))
 records_spelled ss all =
     let names = all_mapped HasTexts AreBytes (λ (s : Structure). s.name) (λ s has. has.name) ss all in
-    let each = all_flat HasTexts (λ r. AreBytes (spelled r)) (structure_records (names_in ss)) (structure_spelled (names_in ss) names) ss all in
+    let each = all_flat HasTexts (λ r. AreBytes (spelled r)) (structure_records (names_in ss))
+    (structure_spelled (names_in ss) names) ss all in
     let end : AreSpelled (record_with ENDLIB NO_DATA [] ∷ []) = (spells ENDLIB NO_DATA [] refl refl tt, tt) in
     all_flat (λ r. AreBytes (spelled r)) (λ b. b < 256) spelled (λ r spelt. spelt) (records_of ss)
-    (all_joined (λ r. AreBytes (spelled r)) library_head (flat_map (structure_records (names_in ss)) ss ++ record_with ENDLIB NO_DATA [] ∷ []) head_spelled
-    (all_joined (λ r. AreBytes (spelled r)) (flat_map (structure_records (names_in ss)) ss) (record_with ENDLIB NO_DATA [] ∷ []) each end))
+    (all_join (λ r. AreBytes (spelled r)) library_head
+    (flat_map (structure_records (names_in ss)) ss ++ record_with ENDLIB NO_DATA [] ∷ []) head_spelled
+    (all_join (λ r. AreBytes (spelled r)) (flat_map (structure_records (names_in ss)) ss)
+    (record_with ENDLIB NO_DATA [] ∷ []) each end))
 
 -- ---- the drawing
 
 kind_named : (k : CellKind) → AreBytes (Draw.kind_name k)
 kind_named Buffer = by_test (Draw.kind_name Buffer) refl
-kind_named Inverter = by_test (Draw.kind_name Inverter) refl
-kind_named Zero = by_test (Draw.kind_name Zero) refl
-kind_named One = by_test (Draw.kind_name One) refl
-kind_named Split2 = by_test (Draw.kind_name Split2) refl
-kind_named Split3 = by_test (Draw.kind_name Split3) refl
-kind_named Majority = by_test (Draw.kind_name Majority) refl
+kind_named k = by_test (Draw.kind_name k) refl
 
 boxes_have : (s : Sheet) (ts : List Tag) → AllByRecursion HasText (Draw.boxes s ts)
 boxes_have s [] = tt
 boxes_have s (t ∷ ts) = (tt, boxes_have s ts)
 
-cells_have : {X : Type 0} (f : X → Element) → ((x : X) → HasText (f x)) → (xs : List X) → AllByRecursion HasText (map f xs)
+cells_have : {X : Type 0} (f : X → Element) → ((x : X) → HasText (f x)) → (xs : List X)
+    → AllByRecursion HasText (map f xs)
 cells_have f each [] = tt
 cells_have f each (x ∷ xs) = (each x, cells_have f each xs)
 
@@ -237,7 +258,7 @@ cell_has l k = record { name = kind_named k; elements = boxes_have (Draw.alone l
 row_has : (p : PlacedView) (l : LibraryView) (r : ℕ) → AllByRecursion HasText (Draw.row_elements p l r)
 row_has p l r =
     let tags = line_tags r ++ flat_map (wire_tags r) (channel p l r) in
-    all_joined HasText (map (Draw.place_of_spot p l r) (spots p r)) (Draw.boxes (sheet p l) tags)
+    all_join HasText (map (Draw.place_of_spot p l r) (spots p r)) (Draw.boxes (sheet p l) tags)
     (cells_have (Draw.place_of_spot p l r) (λ x. tt) (spots p r)) (boxes_have (sheet p l) tags)
 
 all_digits : (text : List ℕ) → is_decimal text ≡ true → list_all is_ascii_digit text ≡ true
@@ -245,25 +266,35 @@ all_digits text e = (and_parts (list_all is_ascii_digit text)
     (length text == 1 || (nat_lt 1 (length text) && not (slice_index text 0 == 48))) e).0
 
 numbered : (letter n : ℕ) → nat_lt letter 256 ≡ true → n < 2 ^ 32 → AreBytes (letter ∷ decimal n)
-numbered letter n small few =
-    (is_less letter small, digits_small (decimal n) (all_digits (decimal n) (is_decimal-decimal n (omega (arith, few)))))
+numbered letter n small few = (
+  is_less letter small,
+  digits_small (decimal n)
+      (all_digits (decimal n) (is_decimal-decimal n (omega (arith, few)))),
+)
 
-labels_have : (p : PlacedView) (l : LibraryView) → MayDraw p l → AllByRecursion (λ (b : Label). AreBytes b.text) (Draw.labels p l)
+labels_have : (p : PlacedView) (l : LibraryView) → MayDraw p l
+    → AllByRecursion (λ (b : Label). AreBytes b.text) (Draw.labels p l)
 labels_have p l may =
     let inputs = may.few_inputs in
     let outputs = may.few_outputs in
-    all_joined (λ (b : Label). AreBytes b.text) (map (Draw.input_label p l) (numbers 0 p.net.inputs)) (map (Draw.output_label p l) (numbers 0 p.net.outputs))
-    (all_mapped (λ n. n < p.net.inputs) (λ (b : Label). AreBytes b.text) (Draw.input_label p l) (λ n lt. numbered letter_i n refl (omega (arith, lt, inputs))) (numbers 0 p.net.inputs)
+    all_join (λ (b : Label). AreBytes b.text) (map (Draw.input_label p l) (numbers 0 p.net.inputs))
+    (map (Draw.output_label p l) (numbers 0 p.net.outputs))
+    (all_mapped (λ n. n < p.net.inputs) (λ (b : Label). AreBytes b.text) (Draw.input_label p l)
+    (λ n lt. numbered letter_i n refl (omega (arith, lt, inputs))) (numbers 0 p.net.inputs)
     (numbers_below (λ n. n < p.net.inputs) 0 p.net.inputs (λ n lt. omega (arith, lt))))
-    (all_mapped (λ n. n < p.net.outputs) (λ (b : Label). AreBytes b.text) (Draw.output_label p l) (λ n lt. numbered letter_o n refl (omega (arith, lt, outputs))) (numbers 0 p.net.outputs)
+    (all_mapped (λ n. n < p.net.outputs) (λ (b : Label). AreBytes b.text) (Draw.output_label p l)
+    (λ n lt. numbered letter_o n refl (omega (arith, lt, outputs))) (numbers 0 p.net.outputs)
     (numbers_below (λ n. n < p.net.outputs) 0 p.net.outputs (λ n lt. omega (arith, lt))))
 
 top_has : (p : PlacedView) (l : LibraryView) → MayDraw p l → HasTexts (Draw.top_of p l)
 top_has p l may = record {
   name = by_test (Draw.top_of p l).name refl;
-  elements = all_joined HasText (flat_map (Draw.row_elements p l) (numbers 0 (length p.net.rows))) (map (λ b. Text b) (Draw.labels p l))
-      (all_flat (λ r. Unit {0}) HasText (Draw.row_elements p l) (λ r any. row_has p l r) (numbers 0 (length p.net.rows)) (all_whatever (numbers 0 (length p.net.rows))))
-      (all_mapped (λ (b : Label). AreBytes b.text) HasText (λ (b : Label). Text b) (λ b has. has) (Draw.labels p l) (labels_have p l may));
+  elements = all_join HasText (flat_map (Draw.row_elements p l) (numbers 0 (length p.net.rows)))
+      (map (λ b. Text b) (Draw.labels p l))
+      (all_flat (λ r. Unit {0}) HasText (Draw.row_elements p l) (λ r any. row_has p l r) (numbers 0 (length p.net.rows))
+      (all_whatever (numbers 0 (length p.net.rows))))
+      (all_mapped (λ (b : Label). AreBytes b.text) HasText (λ (b : Label). Text b) (λ b has. has)
+      (Draw.labels p l) (labels_have p l may));
 }
 
 pub drawn_bytes : (p : PlacedView) (l : LibraryView) → MayDraw p l → IsBytes (bytes_of (draw p l))
@@ -271,7 +302,8 @@ unfolding bytes_of draw
 drawn_bytes p l may =
     let kinds = Draw.used_kinds p in
     let structures = map (Draw.cell_structure l) kinds ++ Draw.top_of p l ∷ [] in
-    let each = all_mapped (λ k. Unit {0}) HasTexts (Draw.cell_structure l) (λ k any. cell_has l k) kinds (all_whatever kinds) in
+    let each = all_mapped (λ k. Unit {0}) HasTexts (Draw.cell_structure l)
+    (λ k any. cell_has l k) kinds (all_whatever kinds) in
     is_bytes (flat_map spelled (records_of structures))
     (records_spelled structures
-    (all_joined HasTexts (map (Draw.cell_structure l) kinds) (Draw.top_of p l ∷ []) each (top_has p l may, tt)))
+    (all_join HasTexts (map (Draw.cell_structure l) kinds) (Draw.top_of p l ∷ []) each (top_has p l may, tt)))

@@ -1,11 +1,14 @@
 -- A command line has one form.
 use Rattle.std.proofs.Common.{ℕ, ◌≡◌, ◌≤◌, List, length, inl, inr, refl, sym, ap, ◌∙◌, arith, get_or}
 use Rattle.std.proofs.lemmas.Fmt.{decimal_injective}
-use Rattle.aqfp_top.specs.Words.{IsMake, IsMakeBy, IsBuild, IsCompact, IsDraw, IsVerify, IsTrace, IsEqual, IsWrite, IsReport, IsNumber, IsShapesOf, IsCheck, IsSampleSize, IsSampleOf, HasForm, IsOfForm, word_at}
+use Rattle.aqfp_top.specs.Words.{IsMake, IsMakeBy, IsBuild, IsCompact, IsDraw, IsVerify, IsTrace, IsEqual, IsWrite}
+use Rattle.aqfp_top.specs.Words.{IsReport, IsNumber, IsShapesOf, IsCheck, IsSampleSize, IsSampleOf, HasForm, IsOfForm}
+use Rattle.aqfp_top.specs.Words.{word_at}
 use Rattle.aqfp_top.specs.declared.planner.Planner.{Planner}
 use Rattle.aqfp_top.specs.declared.planner.Planner.TheVariants.{Layered, Compact, Given}
 use Rattle.aqfp_top.specs.declared.words.Form.{Form}
-use Rattle.aqfp_top.specs.declared.words.Form.TheVariants.{Make, Verify, Trace, Equal, Write, Report, Shapes, Sample, Wrong}
+use Rattle.aqfp_top.specs.declared.words.Form.TheVariants.{Make, Verify, Trace, Equal, Write, Report, Shapes, Sample}
+use Rattle.aqfp_top.specs.declared.words.Form.TheVariants.{Wrong}
 
 build_not_compact : (words : List (List ℕ)) → IsBuild words → IsCompact words → ⊥
 build_not_compact words form compact =
@@ -42,7 +45,8 @@ four_words words (inr (inl form)) = form.0
 four_words words (inr (inr form)) = form.0
 
 -- the first letter of a command that makes a chip is b, c or d
-first_letter : (words : List (List ℕ)) (letter : ℕ) → IsMake words → get_or (word_at words 0) 0 0 ≡ letter → 101 ≤ letter → ⊥
+first_letter : (words : List (List ℕ)) (letter : ℕ) → IsMake words
+    → get_or (word_at words 0) 0 0 ≡ letter → 101 ≤ letter → ⊥
 first_letter words letter (inl form) is past =
     let own : ◌≡◌ {A = ℕ} 98 letter = ap (λ xs. get_or xs 0 0) (sym form.1) ∙ is in omega (arith, own, past)
 first_letter words letter (inr (inl form)) is past =
@@ -81,16 +85,19 @@ check_not_sample words bits (inl verify) sample = verify_not_sample words bits v
 check_not_sample words bits (inr trace) sample = trace_not_sample words bits trace sample
 
 pub verify_not_trace : (words : List (List ℕ)) → IsVerify words → IsTrace words → ⊥
-verify_not_trace words verify trace = let first : ◌≡◌ {A = ℕ} 118 116 = ap (λ xs. get_or xs 0 0) (sym verify.1 ∙ trace.1) in omega (arith, first)
+verify_not_trace words verify trace = let first : ◌≡◌ {A = ℕ} 118 116 = ap (λ xs. get_or xs 0 0)
+    (sym verify.1 ∙ trace.1) in omega (arith, first)
 
 pub equal_not_sample : (words : List (List ℕ)) (bits : ℕ) → IsEqual words → IsSampleOf words bits → ⊥
 equal_not_sample words bits form sample = let four = form.0 in let two = sample.two in omega (arith, four, two)
 
 pub verify_not_equal : (words : List (List ℕ)) → IsVerify words → IsEqual words → ⊥
-verify_not_equal words form equal = let first : ◌≡◌ {A = ℕ} 101 118 = ap (λ xs. get_or xs 0 0) (sym equal.1 ∙ form.1) in omega (arith, first)
+verify_not_equal words form equal = let first : ◌≡◌ {A = ℕ} 101 118 = ap (λ xs. get_or xs 0 0)
+    (sym equal.1 ∙ form.1) in omega (arith, first)
 
 pub trace_not_equal : (words : List (List ℕ)) → IsTrace words → IsEqual words → ⊥
-trace_not_equal words form equal = let first : ◌≡◌ {A = ℕ} 101 116 = ap (λ xs. get_or xs 0 0) (sym equal.1 ∙ form.1) in omega (arith, first)
+trace_not_equal words form equal = let first : ◌≡◌ {A = ℕ} 101 116 = ap (λ xs. get_or xs 0 0)
+    (sym equal.1 ∙ form.1) in omega (arith, first)
 
 pub check_not_equal : (words : List (List ℕ)) → IsCheck words → IsEqual words → ⊥
 check_not_equal words (inl verify) equal = verify_not_equal words verify equal
@@ -100,17 +107,20 @@ pub write_not_sample : (words : List (List ℕ)) (bits : ℕ) → IsWrite words 
 write_not_sample words bits form sample = let four = form.0 in let two = sample.two in omega (arith, four, two)
 
 pub verify_not_write : (words : List (List ℕ)) → IsVerify words → IsWrite words → ⊥
-verify_not_write words form write = let first : ◌≡◌ {A = ℕ} 110 118 = ap (λ xs. get_or xs 0 0) (sym write.1 ∙ form.1) in omega (arith, first)
+verify_not_write words form write = let first : ◌≡◌ {A = ℕ} 110 118 = ap (λ xs. get_or xs 0 0)
+    (sym write.1 ∙ form.1) in omega (arith, first)
 
 pub trace_not_write : (words : List (List ℕ)) → IsTrace words → IsWrite words → ⊥
-trace_not_write words form write = let first : ◌≡◌ {A = ℕ} 110 116 = ap (λ xs. get_or xs 0 0) (sym write.1 ∙ form.1) in omega (arith, first)
+trace_not_write words form write = let first : ◌≡◌ {A = ℕ} 110 116 = ap (λ xs. get_or xs 0 0)
+    (sym write.1 ∙ form.1) in omega (arith, first)
 
 pub check_not_write : (words : List (List ℕ)) → IsCheck words → IsWrite words → ⊥
 check_not_write words (inl verify) write = verify_not_write words verify write
 check_not_write words (inr trace) write = trace_not_write words trace write
 
 pub equal_not_write : (words : List (List ℕ)) → IsEqual words → IsWrite words → ⊥
-equal_not_write words form write = let first : ◌≡◌ {A = ℕ} 110 101 = ap (λ xs. get_or xs 0 0) (sym write.1 ∙ form.1) in omega (arith, first)
+equal_not_write words form write = let first : ◌≡◌ {A = ℕ} 110 101 = ap (λ xs. get_or xs 0 0)
+    (sym write.1 ∙ form.1) in omega (arith, first)
 
 -- a report has three words
 pub four_not_report : (words : List (List ℕ)) → length words ≡ 4 → IsReport words → ⊥

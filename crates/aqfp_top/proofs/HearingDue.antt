@@ -1,5 +1,6 @@
 -- From what the steps of a command hear to which answer is due by it.
-use Rattle.std.proofs.Common.{ℕ, ◌≡◌, ◌≤◌, List, [], ◌∷◌, length, Option, Some, None, Result, Ok, Err, IfOk, IfErr, OnOk}
+use Rattle.std.proofs.Common.{ℕ, ◌≡◌, ◌≤◌, List, [], ◌∷◌, length, Option, Some, None, Result, Ok, Err, IfOk, IfErr}
+use Rattle.std.proofs.Common.{OnOk}
 use Rattle.std.proofs.Common.{refl, ap, subst, inl, inr, ◌∙◌}
 use Rattle.std.specs.Result.{result_err}
 use Rattle.aq_base.specs.declared.store.StoreRefusal.TheVariants as store
@@ -8,11 +9,13 @@ use Rattle.aq_base.specs.Heard.{Event, Loaded, Created, NotCreated, NotAppended,
 use Rattle.aq_base.specs.Outside.{Outside}
 use Rattle.aq_base.specs.Output.{Output}
 use Rattle.gds_records.specs.Writing.{bytes_of}
-use Rattle.aqfp_top.specs.Words.{word_at, IsMakeBy, IsVerify, IsTrace, IsEqual, IsWrite, IsReport, IsShapesOf, IsSampleOf, HasForm}
+use Rattle.aqfp_top.specs.Words.{word_at, IsMakeBy, IsVerify, IsTrace, IsEqual, IsWrite, IsReport, IsShapesOf}
+use Rattle.aqfp_top.specs.Words.{IsSampleOf, HasForm}
 use Rattle.aqfp_top.specs.Loads.{Load, net_limit, lib_limit, gds_limit, words_limit}
 use Rattle.aqfp_top.specs.Loads.{build_loads, check_loads, equal_loads, write_loads}
 use Rattle.aqfp_top.specs.Stages.{Stage, IsFirst, Answers}
-use Rattle.aqfp_top.specs.Due.{design_stages, circuit_stages, judging_stages, comparing_stages, showing_stages, sample_stages}
+use Rattle.aqfp_top.specs.Due.{design_stages, circuit_stages, judging_stages, comparing_stages, showing_stages}
+use Rattle.aqfp_top.specs.Due.{sample_stages}
 use Rattle.aqfp_top.specs.Histories.{loaded, loaded_three, stored}
 use Rattle.aqfp_top.specs.HeardDue.{HearsRefusal, RefusesOne, DueOfThree, IsStreamBy, IsTextOf}
 use Rattle.aqfp_top.specs.HeardDue.{TakesFirst, StoresOut, LeavesOut, CutsOut, EndsForMemory, HeardAfter}
@@ -25,96 +28,16 @@ use Rattle.aqfp_top.specs.Code.Writing.{IsReadingFault}
 use Rattle.aqfp_top.specs.Code.Designing.{MakesChip}
 use Rattle.aqfp_top.specs.declared.planner.Planner.{Planner}
 use Rattle.aqfp_top.specs.declared.design.Chip.{Chip}
-use Rattle.aqfp_top.specs.declared.words.Form.TheVariants.{Make, Verify, Trace, Equal, Write, Report, Shapes, Sample, Wrong}
+use Rattle.aqfp_top.specs.declared.words.Form.TheVariants.{Make, Verify, Trace, Equal, Write, Report, Shapes, Sample}
+use Rattle.aqfp_top.specs.declared.words.Form.TheVariants.{Wrong}
 use Rattle.aqfp_top.specs.declared.fault.Fault.{Fault}
 use Rattle.aqfp_top.specs.declared.fault.Fault.TheVariants.{Usage, Memory}
 use Rattle.aqfp_top.proofs.Forms.{one_form}
 use Rattle.aqfp_top.proofs.OutEnds.{text_only}
+use Rattle.aqfp_top.proofs.Printing.{out_answers}
 use Rattle.aqfp_top.proofs.Storing.{stores_heard, stores_refused, stores_only}
-use Rattle.aqfp_top.proofs.Staging.{load_at}
 use Rattle.aqfp_top.proofs.EachFault.{each_circuit, each_made, each_reading, each_store, each_out}
-
--- Loads that were refused.
-
-refused_now : (load : Load) (loads : List Load) (words : List (List ℕ)) (heard heard' : List Event) (fault : Fault)
-    → HearsRefusal load.place load.limit words heard heard' fault → RefusesOne (load ∷ loads) words heard heard' fault
-unfolding RefusesOne
-refused_now load loads words heard heard' fault refused = inl refused
-
-refused_later : (load : Load) (loads : List Load) (words : List (List ℕ)) (heard now heard' : List Event)
-    (bytes : List ℕ) (fault : Fault) → length bytes ≤ load.limit → now ≡ Loaded (word_at words load.place) bytes ∷ heard
-    → RefusesOne loads words now heard' fault → RefusesOne (load ∷ loads) words heard heard' fault
-unfolding RefusesOne
-refused_later load loads words heard now heard' bytes fault fits is refused = inr (record {
-  bytes = bytes;
-  fits = fits;
-  holds = subst (λ h. RefusesOne loads words h heard' fault) is refused;
-})
-
--- the first load
-first_refused : (place limit : ℕ) (loads : List Load) (words : List (List ℕ)) (heard heard' : List Event)
-    (fault : Fault) → HearsRefusal place limit words heard heard' fault
-    → RefusesOne (load_at place limit ∷ loads) words heard heard' fault
-first_refused place limit loads words heard heard' fault refused =
-    refused_now (load_at place limit) loads words heard heard' fault refused
-
--- the second, or one behind it
-second_refused : (limit : ℕ) (loads : List Load) (words : List (List ℕ)) (heard now heard' : List Event)
-    (bytes : List ℕ) (fault : Fault) → length bytes ≤ limit → now ≡ Loaded (word_at words 1) bytes ∷ heard
-    → RefusesOne loads words now heard' fault → RefusesOne (load_at 1 limit ∷ loads) words heard heard' fault
-second_refused limit loads words heard now heard' bytes fault fits is refused =
-    refused_later (load_at 1 limit) loads words heard now heard' bytes fault fits is refused
-
-pub net_refused : (words : List (List ℕ)) (heard heard' : List Event) (fault : Fault)
-    → HearsRefusal 1 net_limit words heard heard' fault → RefusesOne build_loads words heard heard' fault
-net_refused words heard heard' fault refused =
-    first_refused 1 net_limit (load_at 2 lib_limit ∷ []) words heard heard' fault refused
-
-pub net_lib_refused : (words : List (List ℕ)) (heard now heard' : List Event) (net : List ℕ) (fault : Fault)
-    → length net ≤ net_limit → now ≡ Loaded (word_at words 1) net ∷ heard
-    → HearsRefusal 2 lib_limit words now heard' fault → RefusesOne build_loads words heard heard' fault
-net_lib_refused words heard now heard' net fault fits is refused =
-    second_refused net_limit (load_at 2 lib_limit ∷ []) words heard now heard' net fault fits is
-    (first_refused 2 lib_limit [] words now heard' fault refused)
-
-pub chip_refused : (words : List (List ℕ)) (heard heard' : List Event) (fault : Fault)
-    → HearsRefusal 1 gds_limit words heard heard' fault → RefusesOne write_loads words heard heard' fault
-chip_refused words heard heard' fault refused =
-    first_refused 1 gds_limit (load_at 2 lib_limit ∷ []) words heard heard' fault refused
-
-pub chip_lib_refused : (words : List (List ℕ)) (heard now heard' : List Event) (gds : List ℕ) (fault : Fault)
-    → length gds ≤ gds_limit → now ≡ Loaded (word_at words 1) gds ∷ heard
-    → HearsRefusal 2 lib_limit words now heard' fault → RefusesOne write_loads words heard heard' fault
-chip_lib_refused words heard now heard' gds fault fits is refused =
-    second_refused gds_limit (load_at 2 lib_limit ∷ []) words heard now heard' gds fault fits is
-    (first_refused 2 lib_limit [] words now heard' fault refused)
-
-pub gds_refused : (words : List (List ℕ)) (heard heard' : List Event) (fault : Fault)
-    → HearsRefusal 1 gds_limit words heard heard' fault → RefusesOne check_loads words heard heard' fault
-gds_refused words heard heard' fault refused =
-    first_refused 1 gds_limit (load_at 2 lib_limit ∷ load_at 3 words_limit ∷ []) words heard heard' fault refused
-
-pub lib_refused : (words : List (List ℕ)) (heard now heard' : List Event) (gds : List ℕ) (fault : Fault)
-    → length gds ≤ gds_limit → now ≡ Loaded (word_at words 1) gds ∷ heard
-    → HearsRefusal 2 lib_limit words now heard' fault → RefusesOne check_loads words heard heard' fault
-lib_refused words heard now heard' gds fault fits is refused =
-    second_refused gds_limit (load_at 2 lib_limit ∷ load_at 3 words_limit ∷ []) words heard now heard' gds fault fits is
-    (first_refused 2 lib_limit (load_at 3 words_limit ∷ []) words now heard' fault refused)
-
-pub third_refused : (words : List (List ℕ)) (heard now later heard' : List Event) (gds lib : List ℕ) (fault : Fault)
-    → length gds ≤ gds_limit → now ≡ Loaded (word_at words 1) gds ∷ heard
-    → length lib ≤ lib_limit → later ≡ Loaded (word_at words 2) lib ∷ now
-    → HearsRefusal 3 words_limit words later heard' fault → RefusesOne check_loads words heard heard' fault
-third_refused words heard now later heard' gds lib fault fits is lib_fits lib_is refused =
-    second_refused gds_limit (load_at 2 lib_limit ∷ load_at 3 words_limit ∷ []) words heard now heard' gds fault fits is
-    (refused_later (load_at 2 lib_limit) (load_at 3 words_limit ∷ []) words now later heard' lib fault lib_fits lib_is
-    (first_refused 3 words_limit [] words later heard' fault refused))
-
-pub ruleset build_refusals = (net_refused, net_lib_refused)
-
-pub ruleset write_refusals = (chip_refused, chip_lib_refused)
-
-pub ruleset check_refusals = (gds_refused, lib_refused, third_refused)
+use Rattle.aqfp_top.proofs.Printing.{out_answers}
 
 -- Three texts.
 
@@ -141,11 +64,6 @@ judged_three loads stages heard heard' words gds lib third lib' third' answer is
   answers = subst (λ x. Answers (stages gds x third) answer) l
       (subst (λ x. Answers (stages gds lib' x) answer) t answers);
 })
-
--- what printing answers, where nothing was due
-out_answers : (stages : List Stage) (result : Result (Unit {0}) Fault) → IsFirst stages None
-    → IfErr result IsOutOrMemory → Answers stages (result_err result)
-out_answers stages result well only = each_out (λ r. Answers stages (result_err r)) well well tt result only
 
 pub printed_three : (loads : List Load) (stages : List ℕ → List ℕ → List ℕ → List Stage) (heard heard' : List Event)
     (words : List (List ℕ)) (gds lib third lib' third' : List ℕ) (result : Result (Unit {0}) Fault)
@@ -376,7 +294,8 @@ pub counts_end : (loads : List Load) (limit : ℕ) (stages : List ℕ → List �
     → ReadsDue limit stages IsDue heard now.heard words bytes → name ≡ word_at words 3
     → Stores name bytes now o' (Ok done) → PrintsText text shown shown' result
     → DueOfTwo loads limit stages IsDue heard o'.heard words (result_err result)
-counts_end loads limit stages IsDue heard now o' words name bytes text shown shown' done result reads same stores prints =
+counts_end loads limit stages IsDue heard now o' words name bytes text shown shown' done result
+    reads same stores prints =
     let bytes_due : List ℕ → Type 0 = IsDue reads.first reads.lib in
     let only : IfErr result IsOutOrMemory = text_only text shown shown' result prints in
     let out : StoresOut bytes_due now.heard o'.heard words = record {

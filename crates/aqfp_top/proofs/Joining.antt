@@ -70,12 +70,14 @@ pub record Laws : Type 0 where
   pub shown_once : (circuit : CircuitView) (d : ℕ) (words answers others : List (List Bool)) → KeepsFacts circuit
       → Shows circuit d words answers → Shows circuit d words others → answers ≡ others
 
-module _ (laws : Laws) (net : NetView) (placed : PlacedView) (cells : LibraryView) (is : IsChipFor net cells placed) where
+module _ (laws : Laws) (net : NetView) (placed : PlacedView) (cells : LibraryView)
+    (is : IsChipFor net cells placed) where
   abbrev made : RealisesNet placed cells
   made = laws.realised placed cells is.draws is.small
 
   -- the stored bytes realise the netlist, and are a stream of the drawing alone
-  chip : Realises (stream_of placed cells) (limits_of cells) net.inputs (length net.outputs) (IsNetAnswer net) made.circuit
+  chip : Realises (stream_of placed cells) (limits_of cells) net.inputs (length net.outputs)
+      (IsNetAnswer net) made.circuit
       (delay_of made.circuit)
   unfolding stream_of
   chip = realises_as net.inputs placed.net.inputs (length net.outputs) placed.net.outputs

@@ -1,5 +1,6 @@
 -- From the faults of the steps that judge a chip's texts to what the stages answer.
-use Rattle.std.proofs.Common.{ℕ, List, [], ◌∷◌, Some, None, Result, Ok, Err, IfOk, IfErr, OnOk, subst, sym, ◌≡◌, ◌≤◌, ◌<◌, ◌^◌, arith}
+use Rattle.std.proofs.Common.{ℕ, List, [], ◌∷◌, Some, None, Result, Ok, Err, IfOk, IfErr, OnOk, subst, sym, ◌≡◌, ◌≤◌}
+use Rattle.std.proofs.Common.{◌<◌, ◌^◌, arith}
 use Rattle.geom.specs.FlatForm.{flat_count}
 use Rattle.poly_cut.specs.declared.layout.WideLayout.{WideLayout}
 use Rattle.poly_cut.specs.Conditions.{IsFlattenable}
@@ -29,32 +30,41 @@ use Rattle.aqfp_top.specs.Stages as stage
 use Rattle.aqfp_top.specs.Stages.{Stage, FindsNone, IsFirst, Answers}
 use Rattle.aqfp_top.specs.Due.{circuit_stages, judging_stages}
 use Rattle.aqfp_top.specs.Code.Staging.{OrMemory}
-use Rattle.aqfp_top.specs.Code.Checking.{IsRuled, IsBroken, IsCircuitFault, circuit_then}
+use Rattle.aqfp_top.specs.Code.Checking.{IsRuled, IsBroken, IsCircuitFault, circuit_then, IsJudged}
 use Rattle.aqfp_top.proofs.Staging.{past, past_all, found}
 use Rattle.aqfp_top.proofs.OneFault.{says_no_cells_fault}
 use Rattle.aqfp_top.proofs.OneCheck.{stream_none, rules_none}
 use Rattle.aqfp_top.specs.declared.fault.Large.TheVariants.{Shapes}
+use Rattle.aqfp_top.specs.declared.judge.JudgedChip.{JudgedChip}
 use Rattle.aqfp_top.specs.declared.fault.Fault.{Fault}
-use Rattle.aqfp_top.specs.declared.fault.Fault.TheVariants.{BadLibrary, MissingCell, TooLarge, RuleBroken, BadWords, Memory}
+use Rattle.aqfp_top.specs.declared.fault.Fault.TheVariants.{BadLibrary, MissingCell, TooLarge, RuleBroken, BadWords}
+use Rattle.aqfp_top.specs.declared.fault.Fault.TheVariants.{Memory}
 
 -- Reading the layout.
 
 -- what the reader gives
-pub is_layout_of : ((layout : WideLayout) → wide_count layout ≡ flat_count (wide_flat layout)) → (gds : List ℕ) (layout : WideLayout) → IsWideReadAs gds layout → IsLayoutOf gds layout
-is_layout_of exact gds layout read = record { stream = read.stream; within = subst (λ n. n ≤ 8000000) (exact layout) read.flattenable.within }
+pub is_layout_of : ((layout : WideLayout) → wide_count layout ≡ flat_count (wide_flat layout))
+    → (gds : List ℕ) (layout : WideLayout) → IsWideReadAs gds layout → IsLayoutOf gds layout
+is_layout_of exact gds layout read =
+    record { stream = read.stream; within = subst (λ n. n ≤ 8000000) (exact layout) read.flattenable.within }
 
-pub few_shapes : ((layout : WideLayout) → wide_count layout ≡ flat_count (wide_flat layout)) → (layout : WideLayout) (flat : Flat) → IsFlattenable layout → flat ≡ wide_flat layout → flat_count flat < 2 ^ 32
+pub few_shapes : ((layout : WideLayout) → wide_count layout ≡ flat_count (wide_flat layout))
+    → (layout : WideLayout) (flat : Flat) → IsFlattenable layout → flat ≡ wide_flat layout → flat_count flat < 2 ^ 32
 few_shapes exact layout flat can is =
     let few : flat_count (wide_flat layout) ≤ 8000000 = subst (λ n. n ≤ 8000000) (exact layout) can.within in
     subst (λ f. flat_count f < 2 ^ 32) (sym is) (omega (arith, few))
 
-pub too_large : (gds : List ℕ) (refusal : StreamRefusal) (count : ℕ) → refusal ≡ TooManyShapes count → IsWideRefusedFor gds refusal → IsWideTooLarge gds count
+pub too_large : (gds : List ℕ) (refusal : StreamRefusal) (count : ℕ) → refusal ≡ TooManyShapes count
+    → IsWideRefusedFor gds refusal → IsWideTooLarge gds count
 too_large gds refusal count is refused = subst (IsWideRefusedFor gds) is refused
 
-pub size_answers : ((bytes : List ℕ) (layout : WideLayout) (offset : ℕ) (kind : StreamKind) → IsWideStream bytes layout → WideFault bytes offset kind → ⊥) →
-    (gds : List ℕ) (count : ℕ) → IsWideTooLarge gds count → (rest : List Stage) → Answers (stage.Stream gds ∷ stage.Size gds ∷ rest) (Some (TooLarge Shapes count))
+pub size_answers : ((bytes : List ℕ) (layout : WideLayout) (offset : ℕ) (kind : StreamKind) → IsWideStream bytes layout
+    → WideFault bytes offset kind → ⊥) →
+    (gds : List ℕ) (count : ℕ) → IsWideTooLarge gds count → (rest : List Stage)
+    → Answers (stage.Stream gds ∷ stage.Size gds ∷ rest) (Some (TooLarge Shapes count))
 size_answers not_both gds count large rest =
-    past (stage.Stream gds) (stage.Size gds ∷ rest) (Some (TooLarge Shapes count)) (stream_none not_both gds large.layout large.stream) (found (stage.Size gds) rest (TooLarge Shapes count) large)
+    past (stage.Stream gds) (stage.Size gds ∷ rest) (Some (TooLarge Shapes count))
+    (stream_none not_both gds large.layout large.stream) (found (stage.Size gds) rest (TooLarge Shapes count) large)
 
 -- the kinds of faults
 
@@ -63,7 +73,8 @@ broken_fault flat limits (RuleBroken rule first second) bad = tt
 broken_fault flat limits Memory bad = tt
 broken_fault flat limits _ bad = absurd bad
 
-pub broken_faults : {A : Type 0} (flat : Flat) (limits : Limits) (result : Result A Fault) → IfErr result (IsBroken flat limits) → IfErr result IsCircuitFault
+pub broken_faults : {A : Type 0} (flat : Flat) (limits : Limits) (result : Result A Fault)
+    → IfErr result (IsBroken flat limits) → IfErr result IsCircuitFault
 broken_faults flat limits (Ok x) bad = tt
 broken_faults flat limits (Err fault) bad = broken_fault flat limits fault bad
 
@@ -74,28 +85,45 @@ cells_fault lib Memory bad = tt
 cells_fault lib _ bad = absurd bad
 
 -- the first broken rule of circuits is the first of all, whatever the numbers
-pub rule_broken : (flat : Flat) (refusal : ExtractRefusal) (rule : Rule) (first second : ℕ) → refusal ≡ Broken rule first second → IfBroken refusal (BreaksCircuit flat)
+pub rule_broken : (flat : Flat) (refusal : ExtractRefusal) (rule : Rule) (first second : ℕ)
+    → refusal ≡ Broken rule first second → IfBroken refusal (BreaksCircuit flat)
     → (limits : Limits) → FirstBroken flat limits rule first second
 rule_broken flat refusal rule first second is bad limits =
-    let broken : BreaksCircuit flat rule first second = subst (λ r. IfBroken r (BreaksCircuit flat)) is bad in broken.first limits
+    let broken : BreaksCircuit flat rule first second =
+    subst (λ r. IfBroken r (BreaksCircuit flat)) is bad in broken.first limits
 
 -- The shapes of the layout.
 
-pub is_ruled : (flat whole : Flat) (limits : Limits) (circuit : CircuitView) → flat ≡ whole → KeepsRules flat limits → Extracts flat circuit → IsRuled whole limits circuit
-is_ruled flat whole limits circuit same rules extracts = record {
-  rules = subst (λ f. KeepsRules f limits) same rules;
-  circuit_is = subst (λ f. IsCircuitOf f circuit) same extracts.circuit_is;
+-- they and the circuit are those of the layout
+pub is_judged : (flat whole : Flat) (limits : Limits) (circuit : CircuitView) → flat ≡ whole → flat_count flat < 2 ^ 32
+    → KeepsRules flat limits → Extracts flat circuit
+    → IsJudged whole limits (record { flat = flat; circuit = circuit })
+is_judged flat whole limits circuit same few rules extracts =
+    record { flat_is = same; keeps = record { few = few; rules = rules; extracts = extracts } }
+
+-- they keep the rules, and make the circuit
+pub is_ruled : (whole : Flat) (limits : Limits) (chip : JudgedChip) → IsJudged whole limits chip
+    → IsRuled whole limits chip.circuit
+is_ruled whole limits chip judged = record {
+  rules = subst (λ f. KeepsRules f limits) judged.flat_is judged.keeps.rules;
+  circuit_is = subst (λ f. IsCircuitOf f chip.circuit) judged.flat_is judged.keeps.extracts.circuit_is;
 }
 
-pub is_broken : (flat whole : Flat) (limits : Limits) (fault : Fault) → flat ≡ whole → IsBroken flat limits fault → IsBroken whole limits fault
+pub is_broken : (flat whole : Flat) (limits : Limits) (fault : Fault) → flat ≡ whole → IsBroken flat limits fault
+    → IsBroken whole limits fault
 is_broken flat whole limits fault same bad = subst (λ f. IsBroken f limits fault) same bad
 
-rule_is_wrong : (gds lib : List ℕ) (layout : WideLayout) (view : LibraryView) (fault : Fault) → IsLayoutOf gds layout → library.SaysLibrary lib view → IsBroken (wide_flat layout) (limits_of view) fault → OrMemory (IsRuleFault gds lib) fault
-rule_is_wrong gds lib layout view (RuleBroken rule first second) read says bad = record { layout = layout; read = read; library = record { view = view; says = says }; broken = bad }
+rule_is_wrong : (gds lib : List ℕ) (layout : WideLayout) (view : LibraryView) (fault : Fault) → IsLayoutOf gds layout
+    → library.SaysLibrary lib view → IsBroken (wide_flat layout) (limits_of view) fault
+    → OrMemory (IsRuleFault gds lib) fault
+rule_is_wrong gds lib layout view (RuleBroken rule first second) read says bad =
+    record { layout = layout; read = read; library = record { view = view; says = says }; broken = bad }
 rule_is_wrong gds lib layout view Memory read says bad = tt
 rule_is_wrong gds lib layout view _ read says bad = absurd bad
 
-circuit_is_made : (gds lib : List ℕ) (layout : WideLayout) (view : LibraryView) (circuit : CircuitView) → IsLayoutOf gds layout → library.SaysLibrary lib view → IsRuled (wide_flat layout) (limits_of view) circuit → MakesCircuit gds lib circuit
+circuit_is_made : (gds lib : List ℕ) (layout : WideLayout) (view : LibraryView) (circuit : CircuitView)
+    → IsLayoutOf gds layout → library.SaysLibrary lib view → IsRuled (wide_flat layout) (limits_of view) circuit
+    → MakesCircuit gds lib circuit
 circuit_is_made gds lib layout view circuit read says ruled = record {
   layout = layout;
   read = read;
@@ -107,7 +135,9 @@ circuit_is_made gds lib layout view circuit read says ruled = record {
 -- From the faults of the steps to what the stages answer.
 
 -- the bytes are these
-pub layout_answers : (gds gds' lib : List ℕ) (fault : Fault) → gds' ≡ gds → ((rest : List Stage) → Answers (stage.Stream gds' ∷ stage.Size gds' ∷ rest) (Some fault)) → (rest : List Stage) → Answers (circuit_then gds lib rest) (Some fault)
+pub layout_answers : (gds gds' lib : List ℕ) (fault : Fault) → gds' ≡ gds
+    → ((rest : List Stage) → Answers (stage.Stream gds' ∷ stage.Size gds' ∷ rest) (Some fault)) → (rest : List Stage)
+    → Answers (circuit_then gds lib rest) (Some fault)
 layout_answers gds gds' lib fault same bad rest =
     let after = stage.Cells lib ∷ stage.Rules gds lib ∷ rest in
     subst (λ g. Answers (stage.Stream g ∷ stage.Size g ∷ after) (Some fault)) same (bad after)
@@ -118,47 +148,72 @@ pub record IsRead (gds : List ℕ) (layout : WideLayout) : Type 0 where
   pub stream : FindsNone (stage.Stream gds)
   pub size : FindsNone (stage.Size gds)
 
-pub is_read : (gds gds' : List ℕ) (layout : WideLayout) → gds' ≡ gds → IsLayoutOf gds' layout → FindsNone (stage.Stream gds') → FindsNone (stage.Size gds') → IsRead gds layout
+pub is_read : (gds gds' : List ℕ) (layout : WideLayout) → gds' ≡ gds → IsLayoutOf gds' layout
+    → FindsNone (stage.Stream gds') → FindsNone (stage.Size gds') → IsRead gds layout
 is_read gds gds' layout same read stream size = record {
   read = subst (λ g. IsLayoutOf g layout) same read;
   stream = subst (λ g. FindsNone (stage.Stream g)) same stream;
   size = subst (λ g. FindsNone (stage.Size g)) same size;
 }
 
-pub cells_answer : (gds lib : List ℕ) (layout : WideLayout) (fault : Fault) → IsRead gds layout → OrMemory (IsCellsFault lib) fault → (rest : List Stage) → Answers (circuit_then gds lib rest) (Some fault)
+pub cells_answer : (gds lib : List ℕ) (layout : WideLayout) (fault : Fault) → IsRead gds layout
+    → OrMemory (IsCellsFault lib) fault → (rest : List Stage) → Answers (circuit_then gds lib rest) (Some fault)
 cells_answer gds lib layout fault is bad rest =
-    past_all (stage.Stream gds ∷ stage.Size gds ∷ []) (stage.Cells lib ∷ stage.Rules gds lib ∷ rest) (Some fault) (is.stream, (is.size, tt)) (found (stage.Cells lib) (stage.Rules gds lib ∷ rest) fault bad)
+    past_all (stage.Stream gds ∷ stage.Size gds ∷ []) (stage.Cells lib ∷ stage.Rules gds lib ∷ rest) (Some fault)
+    (is.stream, (is.size, tt)) (found (stage.Cells lib) (stage.Rules gds lib ∷ rest) fault bad)
 
-rules_answer : (gds lib : List ℕ) (layout : WideLayout) (view : LibraryView) (fault : Fault) → IsRead gds layout → library.SaysLibrary lib view → OrMemory (IsRuleFault gds lib) fault → (rest : List Stage) → Answers (circuit_then gds lib rest) (Some fault)
+rules_answer : (gds lib : List ℕ) (layout : WideLayout) (view : LibraryView) (fault : Fault) → IsRead gds layout
+    → library.SaysLibrary lib view → OrMemory (IsRuleFault gds lib) fault → (rest : List Stage)
+    → Answers (circuit_then gds lib rest) (Some fault)
 rules_answer gds lib layout view fault is says bad rest =
-    past_all (stage.Stream gds ∷ stage.Size gds ∷ stage.Cells lib ∷ []) (stage.Rules gds lib ∷ rest) (Some fault) (is.stream, (is.size, (says_no_cells_fault lib view says, tt))) (found (stage.Rules gds lib) rest fault bad)
+    past_all (stage.Stream gds ∷ stage.Size gds ∷ stage.Cells lib ∷ []) (stage.Rules gds lib ∷ rest) (Some fault)
+    (is.stream, (is.size, (says_no_cells_fault lib view says, tt))) (found (stage.Rules gds lib) rest fault bad)
 
-pub circuit_answers : {A : Type 0} (gds lib : List ℕ) (layout : WideLayout) (view : LibraryView) (result : Result A Fault) → IsRead gds layout → library.SaysLibrary lib view → IfErr result (IsBroken (wide_flat layout) (limits_of view))
+pub circuit_answers : {A : Type 0} (gds lib : List ℕ) (layout : WideLayout) (view : LibraryView)
+    (result : Result A Fault) → IsRead gds layout → library.SaysLibrary lib view
+    → IfErr result (IsBroken (wide_flat layout) (limits_of view))
     → IfErr result (λ fault. (rest : List Stage) → Answers (circuit_then gds lib rest) (Some fault))
 circuit_answers gds lib layout view (Ok x) is says bad = tt
-circuit_answers gds lib layout view (Err fault) is says bad = rules_answer gds lib layout view fault is says (rule_is_wrong gds lib layout view fault is.read says bad)
+circuit_answers gds lib layout view (Err fault) is says bad = rules_answer gds lib layout view fault is says
+    (rule_is_wrong gds lib layout view fault is.read says bad)
 
-pub circuits_made : (gds lib : List ℕ) (layout : WideLayout) (view : LibraryView) (result : Result CircuitView Fault) → IsRead gds layout → library.SaysLibrary lib view → IfOk result (IsRuled (wide_flat layout) (limits_of view)) → IfOk result (MakesCircuit gds lib)
-circuits_made gds lib layout view (Ok circuit) is says ruled = circuit_is_made gds lib layout view circuit is.read says ruled
+pub circuits_made : (gds lib : List ℕ) (layout : WideLayout) (view : LibraryView) (result : Result CircuitView Fault)
+    → IsRead gds layout → library.SaysLibrary lib view → IfOk result (IsRuled (wide_flat layout) (limits_of view))
+    → IfOk result (MakesCircuit gds lib)
+circuits_made gds lib layout view (Ok circuit) is says ruled =
+    circuit_is_made gds lib layout view circuit is.read says ruled
 circuits_made gds lib layout view (Err fault) is says ruled = tt
 
-pub circuit_is_well : (one_layout : (bytes : List ℕ) (layout other : WideLayout) → IsWideStream bytes layout → IsWideStream bytes other → layout ≡ other)
-    (gds lib : List ℕ) (layout : WideLayout) (view : LibraryView) (result : Result CircuitView Fault) → IsRead gds layout → library.SaysLibrary lib view → IfOk result (IsRuled (wide_flat layout) (limits_of view))
+pub circuit_is_well : (one_layout : (bytes : List ℕ) (layout other : WideLayout) → IsWideStream bytes layout
+    → IsWideStream bytes other → layout ≡ other)
+    (gds lib : List ℕ) (layout : WideLayout) (view : LibraryView) (result : Result CircuitView Fault)
+    → IsRead gds layout → library.SaysLibrary lib view → IfOk result (IsRuled (wide_flat layout) (limits_of view))
     → OnOk result (IsFirst (circuit_stages gds lib) None)
-circuit_is_well one_layout gds lib layout view (Ok circuit) is says ruled =
-    (is.stream, (is.size, (says_no_cells_fault lib view says, (rules_none one_layout gds lib circuit (circuit_is_made gds lib layout view circuit is.read says ruled), tt))))
+circuit_is_well one_layout gds lib layout view (Ok circuit) is says ruled = (
+  is.stream,
+  (
+    is.size,
+    (
+      says_no_cells_fault lib view says,
+      (rules_none one_layout gds lib circuit (circuit_is_made gds lib layout view circuit is.read says ruled), tt),
+    ),
+  ),
+)
 circuit_is_well one_layout gds lib layout view (Err fault) is says ruled = tt
 
-pub words_are_well : (gds lib text : List ℕ) → IsFirst (circuit_stages gds lib) None → FindsNone (stage.Words gds lib text) → IsFirst (judging_stages gds lib text) None
+pub words_are_well : (gds lib text : List ℕ) → IsFirst (circuit_stages gds lib) None
+    → FindsNone (stage.Words gds lib text) → IsFirst (judging_stages gds lib text) None
 words_are_well gds lib text before none = (before.0, (before.1.0, (before.1.1.0, (before.1.1.1.0, (none, tt)))))
 
-pub misworded_answers : (gds lib text : List ℕ) (circuit : CircuitView) (line : ℕ) → MakesCircuit gds lib circuit → IsFirst (circuit_stages gds lib) None → IsBadLine circuit.inputs text line
+pub misworded_answers : (gds lib text : List ℕ) (circuit : CircuitView) (line : ℕ) → MakesCircuit gds lib circuit
+    → IsFirst (circuit_stages gds lib) None → IsBadLine circuit.inputs text line
     → Answers (judging_stages gds lib text) (Some (BadWords line))
 misworded_answers gds lib text circuit line makes before bad =
     past_all (circuit_stages gds lib) (stage.Words gds lib text ∷ []) (Some (BadWords line)) before
     (found (stage.Words gds lib text) [] (BadWords line) (record { circuit = circuit; makes = makes; bad = bad }))
 
-pub is_sound : (gds lib text : List ℕ) (circuit : CircuitView) → MakesCircuit gds lib circuit → SaysWords circuit.inputs text → IsSound gds lib text circuit
+pub is_sound : (gds lib text : List ℕ) (circuit : CircuitView) → MakesCircuit gds lib circuit
+    → SaysWords circuit.inputs text → IsSound gds lib text circuit
 is_sound gds lib text circuit makes says = record { makes = makes; says = says }
 
 pub ruleset judges = cells_fault

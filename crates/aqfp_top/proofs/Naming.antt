@@ -19,7 +19,8 @@ same_which first second count a b p q (inl x) (inr y) = let less = y.0 in omega 
 same_which first second count a b p q (inr x) (inl y) = let less = x.0 in omega (arith, q, y, less)
 same_which first second count a b p q (inr x) (inr y) = x.1 ∙ sym y.1
 
-module _ (one_layout : (bytes : List ℕ) (layout other : WideLayout) → IsWideStream bytes layout → IsWideStream bytes other → layout ≡ other) where
+module _ (one_layout : (bytes : List ℕ) (layout other : WideLayout) → IsWideStream bytes layout
+    → IsWideStream bytes other → layout ≡ other) where
   pub one_number_fault : (gds : List ℕ) (first second : ℕ) (f g : Fault) → IsNumberFault gds first second f
       → IsNumberFault gds first second g → f ≡ g
   one_number_fault gds first second (NoShape a n) (NoShape b m) p q =

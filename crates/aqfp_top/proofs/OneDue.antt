@@ -5,7 +5,8 @@ use Rattle.blif_read.specs.Parts.{NetView}
 use Rattle.cell_library.specs.Library.{LibraryView}
 use Rattle.aqfp_top.specs.Words.{IsMakeBy, IsSearch, IsEqual, HasForm, IsOfForm}
 use Rattle.aqfp_top.specs.Loads.{Load}
-use Rattle.aqfp_top.specs.Stages.{Stage, Finds, FindsNone, IsFirst, IsLoadFault, IsFormFault, GivesUp, SomeGivesUp, Answers}
+use Rattle.aqfp_top.specs.Stages.{Stage, Finds, FindsNone, IsFirst, IsLoadFault, IsFormFault, GivesUp, SomeGivesUp}
+use Rattle.aqfp_top.specs.Stages.{Answers}
 use Rattle.aqfp_top.specs.Stages as stage
 use Rattle.aqfp_top.specs.Designs.{HasDesign, PlanGivesUp}
 use Rattle.aqfp_top.specs.Due.{stages_of, bytes_at, Due, MayAnswer, MayGiveUp, untaken, IsSameAnswer, IsDueOrYields}
@@ -20,7 +21,9 @@ use Rattle.aqfp_top.specs.declared.fault.Large.{Large}
 use Rattle.aqfp_top.specs.declared.fault.Large.TheVariants.{Slots, Rows, Cells, Elements, Shapes, Functions, Design}
 use Rattle.aqfp_top.specs.declared.fault.WriteCall.TheVariants.{Create, Append, Close, Out}
 use Rattle.aqfp_top.specs.declared.fault.Fault.{Fault}
-use Rattle.aqfp_top.specs.declared.fault.Fault.TheVariants.{Usage, Absent, TooLong, ReadFault, WriteFault, BadBlif, BadDesign, BadLibrary, MissingCell, TooLarge, BadStream, RuleBroken, BadWords, Widths, NoShape, NotCells, Memory}
+use Rattle.aqfp_top.specs.declared.fault.Fault.TheVariants.{Usage, Absent, TooLong, ReadFault, WriteFault, BadBlif}
+use Rattle.aqfp_top.specs.declared.fault.Fault.TheVariants.{BadDesign, BadLibrary, MissingCell, TooLarge, BadStream}
+use Rattle.aqfp_top.specs.declared.fault.Fault.TheVariants.{RuleBroken, BadWords, Widths, NoShape, NotCells, Memory}
 use Rattle.aqfp_top.proofs.Files.{gone_not_there}
 use Rattle.aqfp_top.proofs.Forms.{one_form}
 
@@ -31,7 +34,8 @@ one_form_fault Usage Usage p q = refl
 one_form_fault Usage _ p q = absurd q
 one_form_fault _ g p q = absurd p
 
-pub one_load_fault : (load : Load) (file : Option (List ℕ)) (f g : Fault) → IsLoadFault load file f → IsLoadFault load file g → untaken f ≡ untaken g
+pub one_load_fault : (load : Load) (file : Option (List ℕ)) (f g : Fault) → IsLoadFault load file f
+    → IsLoadFault load file g → untaken f ≡ untaken g
 one_load_fault load file (Absent a) (Absent b) p q = ap Absent (p.0 ∙ sym q.0)
 one_load_fault load file (Absent a) (TooLong b taken) p q = absurd (gone_not_there _ file p.1 q.1)
 one_load_fault load file (Absent a) _ p q = absurd q
@@ -89,7 +93,8 @@ comparing files words Shapes count is many = absurd many
 comparing files words Design count is many = absurd many
 
 -- none gives up for a number of subfunctions
-no_functions : (planner : Planner) (n : NetView) (l : LibraryView) (count : ℕ) → PlanGivesUp planner n l Functions count → ⊥
+no_functions : (planner : Planner) (n : NetView) (l : LibraryView) (count : ℕ)
+    → PlanGivesUp planner n l Functions count → ⊥
 no_functions Layered n l count many = many
 no_functions Compact n l count many = many
 no_functions Given n l count many = many
@@ -114,10 +119,11 @@ gives_up files words (Make planner) what count is some = elim (rest (rest (rest 
 ]
 gives_up files words Verify what count is some = absurd (rest (rest (rest (rest (rest (rest (rest (rest some))))))))
 gives_up files words Trace what count is some = absurd (rest (rest (rest (rest (rest (rest (rest (rest some))))))))
-gives_up files words Equal what count is some = elim (rest (rest (rest (rest (rest (rest (rest (rest (rest some))))))))) [
-  | inl many ↦ comparing files words what count is many
-  | inr none ↦ absurd none
-]
+gives_up files words Equal what count is some =
+    elim (rest (rest (rest (rest (rest (rest (rest (rest (rest some))))))))) [
+      | inl many ↦ comparing files words what count is many
+      | inr none ↦ absurd none
+    ]
 gives_up files words Write what count is some = absurd (rest (rest (rest (rest (rest (rest some))))))
 gives_up files words Report what count is some = absurd (rest (rest (rest (rest (rest (rest some))))))
 gives_up files words (form.Shapes first second) what count is some = absurd (rest (rest (rest (rest some))))
@@ -148,7 +154,8 @@ may_give_up files words Design count past =
 
 -- some answer is first, and so some answer is due
 
-first_after : (s : Stage) (stages : List Stage) (answer : Option Fault) → FindsNone s → IsFirst stages answer → IsFirst (s ∷ stages) answer
+first_after : (s : Stage) (stages : List Stage) (answer : Option Fault) → FindsNone s → IsFirst stages answer
+    → IsFirst (s ∷ stages) answer
 first_after s stages None none first = (none, first)
 first_after s stages (Some fault) none first = inr (none, first)
 
@@ -173,7 +180,8 @@ no_form words never (inr (inr (inr (inr (inr (inr shapes)))))) =
 
 pub some_due : (files : Contents) (words : List (List ℕ)) → ((answer : Option Fault) → ¬ Due files words answer) → ⊥
 some_due files words never =
-    let none : (form : Form) → ¬ IsOfForm words form = λ form is. some_first (stages_of form files words) (λ answer first. never answer (record { form = form; is_form = is; first = first })) in
+    let none : (form : Form) → ¬ IsOfForm words form = λ form is. some_first (stages_of form files words)
+    (λ answer first. never answer (record { form = form; is_form = is; first = first })) in
     none Wrong (no_form words none)
 
 -- where each stage finds one fault, one answer is first
@@ -192,7 +200,8 @@ module _ (once : (stage : Stage) (f g : Fault) → Finds stage f → Finds stage
   first_once (s ∷ stages) (Some f) (Some g) (inr p) (inl y) = absurd (p.0 g y)
   first_once (s ∷ stages) (Some f) (Some g) (inr p) (inr q) = first_once stages (Some f) (Some g) p.1 q.1
 
-  first_comes : (files : Contents) (words : List (List ℕ)) (form : Form) (due answer : Option Fault) → IsOfForm words form
+  first_comes : (files : Contents) (words : List (List ℕ)) (form : Form)
+      (due answer : Option Fault) → IsOfForm words form
       → IsFirst (stages_of form files words) due → Answers (stages_of form files words) answer
       → IsDueOrYields words due answer
   first_comes files words form due None is p q = first_once (stages_of form files words) None due q p
@@ -234,7 +243,8 @@ module _ (once : (stage : Stage) (f g : Fault) → Finds stage f → Finds stage
   first_comes files words form due (Some Memory) is p q = tt
 
   -- where nothing is due, a size comes of a stage that gives up
-  first_large : (files : Contents) (words : List (List ℕ)) (form : Form) (what : Large) (count : ℕ) → IsOfForm words form
+  first_large : (files : Contents) (words : List (List ℕ)) (form : Form) (what : Large)
+      (count : ℕ) → IsOfForm words form
       → IsFirst (stages_of form files words) None → Answers (stages_of form files words) (Some (TooLarge what count))
       → IsPastSize files words what count
   first_large files words form what count is p (inl q) =
@@ -242,15 +252,19 @@ module _ (once : (stage : Stage) (f g : Fault) → Finds stage f → Finds stage
       first_once (stages_of form files words) None (Some (TooLarge what count)) p q in cc
   first_large files words form what count is p (inr q) = gives_up files words form what count is q.1
 
-  pub due_once : (files : Contents) (words : List (List ℕ)) (one other : Option Fault) → Due files words one → Due files words other → IsSameAnswer one other
+  pub due_once : (files : Contents) (words : List (List ℕ)) (one other : Option Fault) → Due files words one
+      → Due files words other → IsSameAnswer one other
   due_once files words one other p q =
       first_once (stages_of p.form files words) one other p.first
-      (subst (λ form. IsFirst (stages_of form files words) other) (one_form words q.form p.form q.is_form p.is_form) q.first)
+      (subst (λ form. IsFirst (stages_of form files words) other)
+      (one_form words q.form p.form q.is_form p.is_form) q.first)
 
-  pub due_comes : (files : Contents) (words : List (List ℕ)) (due answer : Option Fault) → Due files words due → MayAnswer files words answer → IsDueOrYields words due answer
+  pub due_comes : (files : Contents) (words : List (List ℕ)) (due answer : Option Fault) → Due files words due
+      → MayAnswer files words answer → IsDueOrYields words due answer
   due_comes files words due answer p q =
       first_comes files words p.form due answer p.is_form p.first
-      (subst (λ form. Answers (stages_of form files words) answer) (one_form words q.form p.form q.is_form p.is_form) q.answers)
+      (subst (λ form. Answers (stages_of form files words) answer)
+      (one_form words q.form p.form q.is_form p.is_form) q.answers)
 
   pub due_large : (files : Contents) (words : List (List ℕ)) (what : Large) (count : ℕ) → Due files words None
       → MayAnswer files words (Some (TooLarge what count)) → IsPastSize files words what count

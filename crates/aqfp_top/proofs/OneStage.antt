@@ -23,17 +23,25 @@ use Rattle.aqfp_top.specs.Stages.{Stage, Finds}
 use Rattle.aqfp_top.specs.Due.{untaken}
 use Rattle.aqfp_top.specs.declared.fault.Fault.{Fault}
 use Rattle.aqfp_top.proofs.OneDue.{one_form_fault, one_load_fault}
-use Rattle.aqfp_top.proofs.OneFault.{one_netlist_fault, one_plain_fault, one_cells_fault, one_plan_fault, one_own_plan_fault}
+use Rattle.aqfp_top.proofs.OneFault.{one_netlist_fault, one_plain_fault, one_cells_fault, one_plan_fault}
+use Rattle.aqfp_top.proofs.OneFault.{one_own_plan_fault}
 use Rattle.aqfp_top.proofs.OneCheck.{one_stream_fault, one_size_fault, one_rule_fault, one_words_fault}
 use Rattle.aqfp_top.proofs.OneComparison.{one_widths_fault}
 use Rattle.aqfp_top.proofs.Naming.{one_number_fault}
 
-module _ (past : (l : LibraryView) (net : NetView) (refusal : PlanRefusal) → refusal ≢ plan.Memory → Refuses l net refusal → IsWithin l net → ⊥)
-    (only : (l : LibraryView) (net : NetView) (one other : PlanRefusal) → one ≢ plan.Memory → other ≢ plan.Memory → Refuses l net one → Refuses l net other → one ≡ other)
-    (one_layout : (bytes : List ℕ) (layout other : WideLayout) → IsWideStream bytes layout → IsWideStream bytes other → layout ≡ other)
-    (one_fault : (bytes : List ℕ) (offset other : ℕ) (kind second : StreamKind) → WideFault bytes offset kind → WideFault bytes other second → (offset ≡ other) × (kind ≡ second))
-    (broken_once : (flat : Flat) (limits : Limits) (rule other : Rule) (a b c d : ℕ) → FirstBroken flat limits rule a b → FirstBroken flat limits other c d → IsOneReport rule other a b c d)
-    (one_circuit : (flat : Flat) (limits : Limits) (first second : CircuitView) → Keeps E1 flat limits → Keeps E2 flat limits → Keeps E6 flat limits → IsCircuitOf flat first → IsCircuitOf flat second → first ≡ second) where
+module _ (past : (l : LibraryView) (net : NetView) (refusal : PlanRefusal) → refusal ≢ plan.Memory
+    → Refuses l net refusal → IsWithin l net → ⊥)
+    (only : (l : LibraryView) (net : NetView) (one other : PlanRefusal) → one ≢ plan.Memory → other ≢ plan.Memory
+    → Refuses l net one → Refuses l net other → one ≡ other)
+    (one_layout : (bytes : List ℕ) (layout other : WideLayout) → IsWideStream bytes layout
+    → IsWideStream bytes other → layout ≡ other)
+    (one_fault : (bytes : List ℕ) (offset other : ℕ) (kind second : StreamKind) → WideFault bytes offset kind
+    → WideFault bytes other second → (offset ≡ other) × (kind ≡ second))
+    (broken_once : (flat : Flat) (limits : Limits) (rule other : Rule) (a b c d : ℕ) → FirstBroken flat limits rule a b
+    → FirstBroken flat limits other c d → IsOneReport rule other a b c d)
+    (one_circuit : (flat : Flat) (limits : Limits) (first second : CircuitView) → Keeps E1 flat limits
+    → Keeps E2 flat limits → Keeps E6 flat limits → IsCircuitOf flat first
+    → IsCircuitOf flat second → first ≡ second) where
   pub once : (s : Stage) (f g : Fault) → Finds s f → Finds s g → untaken f ≡ untaken g
   once stage.Form f g p q = ap untaken (one_form_fault f g p q)
   once (stage.Loading load file) f g p q = one_load_fault load file f g p q

@@ -23,7 +23,8 @@ ends_text text o o' (Err store.Failed) added part = part
 ends_text text o o' (Err store.Memory) added part = part
 
 -- each way to end
-pub each_text : (P : Result (Unit {0}) Fault → Type 0) (text : List ℕ) (o o' : Output) → (o' ≡ printed text o → P (Ok tt))
+pub each_text : (P : Result (Unit {0}) Fault → Type 0) (text : List ℕ) (o o' : Output)
+    → (o' ≡ printed text o → P (Ok tt))
     → (PrintsWithin o o' text store.Failed → P (Err (WriteFault Out)))
     → (PrintsWithin o o' text store.Memory → P (Err Memory))
     → (result : Result (Unit {0}) Fault) → PrintsText text o o' result → P result

@@ -1,5 +1,6 @@
 -- How text that waits on a page goes on.
-use Rattle.std.proofs.Common.{ℕ, suc, ◌≡◌, ◌<◌, ◌+◌, List, [], ◌∷◌, ◌++◌, length, get_or, take, drop, refl, sym, ap, ◌∙◌, append_assoc, append-nil}
+use Rattle.std.proofs.Common.{ℕ, suc, ◌≡◌, ◌<◌, ◌+◌, List, [], ◌∷◌, ◌++◌, length, get_or, take, drop, refl, sym, ap}
+use Rattle.std.proofs.Common.{◌∙◌, append_assoc, append-nil}
 use Rattle.std.specs.List.{flat_map}
 use Rattle.std.proofs.lemmas.Fmt.{decimal_digit, decimal_step}
 use Rattle.std.proofs.lemmas.List.{take-append-drop, take_more}
@@ -45,7 +46,8 @@ part_of_more {page = page} more p q = rw (p.whole, append_assoc p.put page more)
 -- what waited was put
 pub all_put : {old middle new : Output} {page text : List ℕ} → Pends old middle page text → new ≡ printed page middle
     → new ≡ printed text old
-all_put {old} {page = page} p h = h ∙ (ap (printed page) p.gain ∙ (printed_twice old p.put page ∙ ap (λ t. printed t old) (sym p.whole)))
+all_put {old} {page = page} p h = h
+    ∙ (ap (printed page) p.gain ∙ (printed_twice old p.put page ∙ ap (λ t. printed t old) (sym p.whole)))
 
 -- some first bytes of what waited were put
 pub part_of_all : {old middle new : Output} {page text : List ℕ} {why : StoreRefusal} → Pends old middle page text
@@ -64,7 +66,8 @@ module _ {old middle new : Output} {page : List ℕ} (before text : List ℕ) (i
       rw (taken, ← append_assoc before (take i text) (x ∷ [])) (pends_more (x ∷ []) pends q)
 
   -- and some first bytes of it
-  pub part_byte : {why : StoreRefusal} → PrintsPart middle new (page ++ x ∷ []) why → PrintsPart old new (before ++ text) why
+  pub part_byte : {why : StoreRefusal} → PrintsPart middle new (page ++ x ∷ []) why
+      → PrintsPart old new (before ++ text) why
   part_byte q =
       let whole : text ≡ (take i text ++ x ∷ []) ++ drop (suc i) text =
       sym (take-append-drop i text) ∙ (ap (λ d. take i text ++ d) (drop-cons text i x within)
@@ -72,7 +75,12 @@ module _ {old middle new : Output} {page : List ℕ} (before text : List ℕ) (i
       ∙ sym (append_assoc (take i text) (x ∷ []) (drop (suc i) text))))
       in
       let more = part_of_first (drop (suc i) text) (part_of_more (x ∷ []) pends q) in
-      rw (whole, ← append_assoc before (take i text ++ x ∷ []) (drop (suc i) text), ← append_assoc before (take i text) (x ∷ [])) more
+      rw (
+        whole,
+        ← append_assoc before (take i text ++ x ∷ []) (drop (suc i) text),
+        ← append_assoc before
+            (take i text) (x ∷ []),
+      ) more
 
 module _ {X : Type 0} {old middle new : Output} {page : List ℕ} (before : List ℕ) (f : X → List ℕ) (xs : List X)
     (i : ℕ) (x : X) (within : i < length xs) (at : x ≡ get_or xs i x)
@@ -90,7 +98,8 @@ module _ {X : Type 0} {old middle new : Output} {page : List ℕ} (before : List
       rw (taken, ← append_assoc before (flat_map f (take i xs)) (f x)) (pends_more (f x) pends q)
 
   -- and some first bytes of it
-  pub part_item : {why : StoreRefusal} → PrintsPart middle new (page ++ f x) why → PrintsPart old new (before ++ flat_map f xs) why
+  pub part_item : {why : StoreRefusal} → PrintsPart middle new (page ++ f x) why
+      → PrintsPart old new (before ++ flat_map f xs) why
   part_item q =
       let rest = flat_map f (drop (suc i) xs) in
       let whole : flat_map f xs ≡ (flat_map f (take i xs) ++ f x) ++ rest =
@@ -101,7 +110,12 @@ module _ {X : Type 0} {old middle new : Output} {page : List ℕ} (before : List
       ∙ sym (append_assoc (flat_map f (take i xs)) (f x) rest))))
       in
       let more = part_of_first rest (part_of_more (f x) pends q) in
-      rw (whole, ← append_assoc before (flat_map f (take i xs) ++ f x) rest, ← append_assoc before (flat_map f (take i xs)) (f x)) more
+      rw (
+        whole,
+        ← append_assoc before (flat_map f (take i xs) ++ f x) rest,
+        ← append_assoc before
+            (flat_map f (take i xs)) (f x),
+      ) more
 
 -- two texts one after the other
 pub pends_two : {old middle new : Output} {page page' : List ℕ} (base first second : List ℕ)
@@ -115,7 +129,8 @@ pub part_of_two : {old middle new : Output} {page : List ℕ} {why : StoreRefusa
 part_of_two base first second p q = rw (← append_assoc base first second) (part_of_more second p q)
 
 -- the first of two failed
-pub part_of_one : {old new : Output} {why : StoreRefusal} (base first second : List ℕ) → PrintsPart old new (base ++ first) why
+pub part_of_one : {old new : Output} {why : StoreRefusal} (base first second : List ℕ)
+    → PrintsPart old new (base ++ first) why
     → PrintsPart old new (base ++ (first ++ second)) why
 part_of_one base first second p = rw (← append_assoc base first second) (part_of_first second p)
 
@@ -125,7 +140,8 @@ pub pends_after_byte : {old middle new : Output} {page page' : List ℕ} (base :
     → Pends old new page' (base ++ c ∷ second)
 pends_after_byte base c second p q = pends_two base (c ∷ []) second p q
 
-pub part_after_byte : {old middle new : Output} {page : List ℕ} {why : StoreRefusal} (base : List ℕ) (c : ℕ) (second : List ℕ)
+pub part_after_byte : {old middle new : Output} {page : List ℕ} {why : StoreRefusal} (base : List ℕ)
+    (c : ℕ) (second : List ℕ)
     → Pends old middle page (base ++ c ∷ []) → PrintsPart middle new (page ++ second) why
     → PrintsPart old new (base ++ c ∷ second) why
 part_after_byte base c second p q = part_of_two base (c ∷ []) second p q
@@ -134,6 +150,24 @@ pub part_of_byte : {old new : Output} {why : StoreRefusal} (base : List ℕ) (c 
     → PrintsPart old new (base ++ c ∷ []) why → PrintsPart old new (base ++ c ∷ second) why
 part_of_byte base c second p = part_of_one base (c ∷ []) second p
 
-pub ruleset numbers = (decimal_digit, decimal_step, pends_two, part_of_two, part_of_one, pends_after_byte, part_after_byte, part_of_byte)
+pub ruleset numbers = (
+  decimal_digit,
+  decimal_step,
+  pends_two,
+  part_of_two,
+  part_of_one,
+  pends_after_byte,
+  part_after_byte,
+  part_of_byte,
+)
 
-pub ruleset pending = (pends_all, pends_none, pends_longer, pends_more, part_of_more, part_of_first, all_put, part_of_all)
+pub ruleset pending = (
+  pends_all,
+  pends_none,
+  pends_longer,
+  pends_more,
+  part_of_more,
+  part_of_first,
+  all_put,
+  part_of_all,
+)

@@ -49,7 +49,8 @@ out_answers stages result none only = each_out (λ r. Answers stages (result_err
 pub loads_print : (Means : List ℕ → Type 0) (loads : List Load) (held : Output) (fault : Fault)
     → IsFaultOfLoads loads fault → TextPrints Means held held (Some fault)
 loads_print Means loads held fault only =
-    each_of_loads (λ f. TextPrints Means held held (Some f)) loads (λ p l. refl) (λ p t l. refl) (λ p l. refl) (inl refl)
+    each_of_loads (λ f. TextPrints Means held held (Some f)) loads (λ p l. refl)
+    (λ p t l. refl) (λ p l. refl) (inl refl)
     fault only
 
 pub circuit_prints : (Means : List ℕ → Type 0) (held : Output) (fault : Fault) → IsCircuitFault fault

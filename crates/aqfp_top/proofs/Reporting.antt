@@ -1,67 +1,44 @@
 -- From the clauses of the steps of a report to its own.
-use Rattle.std.proofs.Common.{ℕ, ◌≡◌, ◌≤◌, ◌<◌, ◌^◌, List, length, Option, Some, None, Result, Ok, Err, IfErr, OnOk}
+use Rattle.std.proofs.Common.{ℕ, ◌≡◌, ◌≤◌, List, length, Option, Some, None, Result, Ok, Err, IfErr, OnOk}
 use Rattle.std.proofs.Common.{refl, ap, subst}
 use Rattle.std.specs.Result.{result_err}
 use Rattle.aq_base.specs.Heard.{Event}
 use Rattle.aq_base.specs.Output.{Output}
 use Rattle.aq_base.specs.Store.{Contents}
-use Rattle.geom.specs.declared.shapes.Flat.{Flat}
-use Rattle.geom.specs.FlatForm.{flat_count}
 use Rattle.poly_cut.specs.declared.layout.WideLayout.{WideLayout}
 use Rattle.poly_cut.specs.FlatForm.{wide_flat}
 use Rattle.gds_records.specs.Stream.{IsWideStream}
 use Rattle.cell_library.specs.Library.{LibraryView, limits_of}
 use Rattle.cell_library.specs.Says as library
-use Rattle.layout_rules.specs.Limits.{Limits}
-use Rattle.layout_rules.specs.Rules.{KeepsRules}
-use Rattle.chip_circuit.specs.Circuits.{CircuitView}
-use Rattle.shape_extract.specs.Extraction.{IsCircuitOf}
-use Rattle.shape_extract.specs.Extracts.{Extracts}
 use Rattle.layout_report.specs.ReportText.{report_text}
-use Rattle.aqfp_top.specs.Loads.{gds_limit, lib_limit, write_loads}
+use Rattle.aqfp_top.specs.Loads.{gds_limit, lib_limit, write_loads, ToldTwo}
 use Rattle.aqfp_top.specs.Stages.{IsFirst, Answers}
 use Rattle.aqfp_top.specs.Due.{circuit_stages, write_stages}
 use Rattle.aqfp_top.specs.Faults.{IsReportFault}
 use Rattle.aqfp_top.specs.Histories.{loaded}
 use Rattle.aqfp_top.specs.Printed.{TextPrints}
 use Rattle.aqfp_top.specs.Reported.{IsReport, IsReportOf, HearsReport}
-use Rattle.aqfp_top.specs.Writing.{ToldTexts}
 use Rattle.aqfp_top.specs.Code.Loading.{IsFaultOfLoads}
 use Rattle.aqfp_top.specs.Code.Staging.{ToldAnswers}
 use Rattle.aqfp_top.specs.Code.Printing.{PrintsText, OutFails}
-use Rattle.aqfp_top.specs.Code.Checking.{IsRuled, IsCircuitFault}
-use Rattle.aqfp_top.specs.Code.Reporting.{IsJudged, IsLayoutFault, IsPrintingFault}
-use Rattle.aqfp_top.specs.declared.chip_report.JudgedChip.{JudgedChip}
+use Rattle.aqfp_top.specs.Code.Checking.{IsCircuitFault, IsJudged}
+use Rattle.aqfp_top.specs.Code.Reporting.{IsLayoutFault, IsPrintingFault}
+use Rattle.aqfp_top.specs.declared.judge.JudgedChip.{JudgedChip}
 use Rattle.aqfp_top.specs.declared.fault.Fault.{Fault}
 use Rattle.aqfp_top.proofs.EachFault.{each_of_loads, each_circuit, each_layout, each_printing}
 use Rattle.aqfp_top.proofs.OutEnds.{each_text, text_fails}
-use Rattle.aqfp_top.proofs.Judging.{IsRead, circuit_is_well}
+use Rattle.aqfp_top.proofs.Judging.{IsRead, is_ruled, circuit_is_well}
 use Rattle.aqfp_top.proofs.Printing.{prints_more, loads_print}
-use Rattle.aqfp_top.proofs.WriteSteps.{told_answer}
+use Rattle.aqfp_top.proofs.LoadedTexts.{told_two_answer}
 
 -- The chip of the texts.
-
--- the shapes and the circuit are those of the layout
-pub is_judged : (flat whole : Flat) (limits : Limits) (circuit : CircuitView) → flat ≡ whole → flat_count flat < 2 ^ 32
-    → KeepsRules flat limits → Extracts flat circuit
-    → IsJudged whole limits (record { flat = flat; circuit = circuit })
-is_judged flat whole limits circuit same few rules extracts =
-    record { flat_is = same; keeps = record { few = few; rules = rules; extracts = extracts } }
-
--- they keep the rules, and make the circuit
-is_ruled : (layout : WideLayout) (limits : Limits) (chip : JudgedChip) → IsJudged (wide_flat layout) limits chip
-    → IsRuled (wide_flat layout) limits chip.circuit
-is_ruled layout limits chip judged = record {
-  rules = subst (λ f. KeepsRules f limits) judged.flat_is judged.keeps.rules;
-  circuit_is = subst (λ f. IsCircuitOf f chip.circuit) judged.flat_is judged.keeps.extracts.circuit_is;
-}
 
 -- the text is the report of the chip of the texts
 pub is_report : (gds lib : List ℕ) (layout : WideLayout) (view : LibraryView) (chip : JudgedChip) → IsRead gds layout
     → library.SaysLibrary lib view → IsJudged (wide_flat layout) (limits_of view) chip
     → IsReport gds lib (report_text chip.flat chip.circuit view.limit)
 is_report gds lib layout view chip is says judged =
-    let ruled = is_ruled layout (limits_of view) chip judged in
+    let ruled = is_ruled (wide_flat layout) (limits_of view) chip judged in
     record {
       circuit = chip.circuit;
       makes = record {
@@ -75,13 +52,14 @@ is_report gds lib layout view chip is says judged =
     }
 
 -- nothing is wrong with the texts
-pub chip_is_well : (one_layout : (bytes : List ℕ) (layout other : WideLayout) → IsWideStream bytes layout → IsWideStream bytes other → layout ≡ other)
+pub chip_is_well : (one_layout : (bytes : List ℕ) (layout other : WideLayout) → IsWideStream bytes layout
+    → IsWideStream bytes other → layout ≡ other)
     (gds lib : List ℕ) (layout : WideLayout) (view : LibraryView) (chip : JudgedChip) → IsRead gds layout
     → library.SaysLibrary lib view → IsJudged (wide_flat layout) (limits_of view) chip
     → IsFirst (circuit_stages gds lib) None
 chip_is_well one_layout gds lib layout view chip is says judged =
     circuit_is_well one_layout gds lib layout view (Ok chip.circuit) is says
-    (is_ruled layout (limits_of view) chip judged)
+    (is_ruled (wide_flat layout) (limits_of view) chip judged)
 
 -- Printing it.
 
@@ -97,12 +75,16 @@ pub out_printing : (text : List ℕ) (shown shown' : Output) (result : Result (U
 out_printing text shown shown' result prints =
     each_text (λ r. IfErr r IsPrintingFault) text shown shown' (λ p. tt) (λ p. tt) (λ p. tt) result prints
 
-pub layout_fails : (shown shown' : List Event) (fault : Fault) → IsLayoutFault fault → OutFails shown shown' (Some fault)
-layout_fails shown shown' fault wrong = each_layout (λ f. OutFails shown shown' (Some f)) (λ o k. tt) (λ n. tt) tt fault wrong
+pub layout_fails : (shown shown' : List Event) (fault : Fault) → IsLayoutFault fault
+    → OutFails shown shown' (Some fault)
+layout_fails shown shown' fault wrong = each_layout (λ f. OutFails shown shown' (Some f))
+    (λ o k. tt) (λ n. tt) tt fault wrong
 
-pub circuit_fails : (shown shown' : List Event) (fault : Fault) → IsCircuitFault fault → OutFails shown shown' (Some fault)
+pub circuit_fails : (shown shown' : List Event) (fault : Fault) → IsCircuitFault fault
+    → OutFails shown shown' (Some fault)
 circuit_fails shown shown' fault wrong =
-    each_circuit (λ f. OutFails shown shown' (Some f)) (λ o k. tt) (λ n. tt) (λ f. tt) (λ k. tt) (λ r a b. tt) tt fault wrong
+    each_circuit (λ f. OutFails shown shown' (Some f)) (λ o k. tt) (λ n. tt) (λ f. tt) (λ k. tt)
+    (λ r a b. tt) tt fault wrong
 
 pub ruleset prints = (layout_printing, circuit_printing, out_printing, layout_fails, text_fails)
 
@@ -128,7 +110,7 @@ report_only (Err fault) only =
 
 -- the report of the texts of the files
 pub texts_report : (told : Option Contents) (words : List (List ℕ)) (gds lib lib' : List ℕ) (before after : Output)
-    (fault : Option Fault) → ToldTexts told words gds lib → lib' ≡ lib → TextPrints (IsReport gds lib') before after fault
+    (fault : Option Fault) → ToldTwo told words gds lib → lib' ≡ lib → TextPrints (IsReport gds lib') before after fault
     → TextPrints (IsReportOf told words) before after fault
 texts_report told words gds lib lib' before after fault held same prints =
     prints_more (IsReport gds lib') (IsReportOf told words) before after fault
@@ -150,10 +132,10 @@ heard_report heard heard' words gds lib lib' before after (Ok x) is same prints 
 heard_report heard heard' words gds lib lib' before after (Err fault) is same prints = tt
 
 pub told_report : (told : Option Contents) (words : List (List ℕ)) (gds lib lib' : List ℕ)
-    (result : Result (Unit {0}) Fault) → ToldTexts told words gds lib → length gds ≤ gds_limit → length lib ≤ lib_limit
+    (result : Result (Unit {0}) Fault) → ToldTwo told words gds lib → length gds ≤ gds_limit → length lib ≤ lib_limit
     → lib' ≡ lib → Answers (circuit_stages gds lib') (result_err result)
     → ToldAnswers write_stages told words (result_err result)
 told_report told words gds lib lib' result held a b same answers =
-    told_answer told words gds lib lib' (result_err result) held a b same answers
+    told_two_answer gds_limit circuit_stages told words gds lib lib' (result_err result) held a b same answers
 
 pub ruleset ends = (loads_report, loads_report_print, loads_report_fail)

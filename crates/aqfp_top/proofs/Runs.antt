@@ -1,13 +1,17 @@
 -- From the clauses of each command to those of a run.
-use Rattle.std.proofs.Common.{ℕ, ◌≡◌, ◌<◌, ◌≤◌, List, length, arith, Option, Some, None, Result, Ok, Err, IfOk, IfErr, OnOk, inl, inr, refl, subst}
+use Rattle.std.proofs.Common.{ℕ, ◌≡◌, ◌<◌, ◌≤◌, List, length, arith, Option, Some, None, Result, Ok, Err, IfOk, IfErr}
+use Rattle.std.proofs.Common.{OnOk, inl, inr, refl, subst}
 use Rattle.aq_base.specs.Output.{Output}
 use Rattle.aq_base.specs.Store.{Contents}
 use Rattle.aq_base.specs.Outside.{Outside}
-use Rattle.aqfp_top.specs.Words.{IsMake, IsMakeBy, IsVerify, IsTrace, IsEqual, IsWrite, IsReport, IsShapesOf, IsShapes, IsCheck, IsSampleOf, HasForm}
+use Rattle.aqfp_top.specs.Words.{IsMake, IsMakeBy, IsVerify, IsTrace, IsEqual, IsWrite, IsReport, IsShapesOf, IsShapes}
+use Rattle.aqfp_top.specs.Words.{IsCheck, IsSampleOf, HasForm}
 use Rattle.aqfp_top.specs.Loads.{build_loads, check_loads, write_loads, shapes_loads, IsLoaded, IsPast}
 use Rattle.aqfp_top.specs.Stages.{Answers as StagesAnswer}
-use Rattle.aqfp_top.specs.Due.{MayAnswer, make_stages, check_stages, equal_stages, write_stages, shapes_stages, sample_stages}
-use Rattle.aqfp_top.specs.Faults.{IsBuildFault, IsCheckFault, IsEqualFault, IsWritingFault, IsReportFault, IsShapesFault, IsSampleFault, RunsOnly}
+use Rattle.aqfp_top.specs.Due.{MayAnswer, make_stages, check_stages, equal_stages, write_stages, shapes_stages}
+use Rattle.aqfp_top.specs.Due.{sample_stages}
+use Rattle.aqfp_top.specs.Faults.{IsBuildFault, IsCheckFault, IsEqualFault, IsWritingFault, IsReportFault}
+use Rattle.aqfp_top.specs.Faults.{IsShapesFault, IsSampleFault, RunsOnly}
 use Rattle.aqfp_top.specs.Run.{RunStands, RunPrints}
 use Rattle.aqfp_top.specs.Lines.{HasPlace}
 use Rattle.aqfp_top.specs.Build.{BuildStands, BuildPrints}
@@ -21,16 +25,20 @@ use Rattle.aqfp_top.specs.Shown.{IsShownOf}
 use Rattle.aqfp_top.specs.Code.Staging.{ToldAnswers, ToldMayAnswer}
 use Rattle.aqfp_top.specs.Code.Standing.{standing}
 use Rattle.aqfp_top.specs.declared.planner.Planner.{Planner}
-use Rattle.aqfp_top.specs.declared.words.Form.TheVariants.{Make, Verify, Trace, Equal, Write, Report, Shapes, Sample, Wrong}
+use Rattle.aqfp_top.specs.declared.words.Form.TheVariants.{Make, Verify, Trace, Equal, Write, Report, Shapes, Sample}
+use Rattle.aqfp_top.specs.declared.words.Form.TheVariants.{Wrong}
 use Rattle.aqfp_top.specs.declared.check.Printing.TheVariants.{Answers, Fluxes}
 use Rattle.aqfp_top.specs.declared.fault.Fault.{Fault}
 use Rattle.aqfp_top.specs.declared.fault.Fault.TheVariants.{Usage, Absent, TooLong, ReadFault}
 use Rattle.aqfp_top.proofs.Standing.{stands_told, stands_shut}
-use Rattle.aqfp_top.proofs.Forms.{is_make, one_planner, four_words, make_not_sample, make_not_check, make_not_verify, make_not_trace}
+use Rattle.aqfp_top.proofs.Forms.{is_make, one_planner, four_words, make_not_sample, make_not_check, make_not_verify}
+use Rattle.aqfp_top.proofs.Forms.{make_not_trace}
 use Rattle.aqfp_top.proofs.Forms.{make_not_equal, make_not_write, verify_not_sample, trace_not_sample, check_not_sample}
-use Rattle.aqfp_top.proofs.Forms.{verify_not_trace, verify_not_equal, trace_not_equal, check_not_equal, equal_not_sample}
+use Rattle.aqfp_top.proofs.Forms.{verify_not_trace, verify_not_equal, trace_not_equal, check_not_equal}
+use Rattle.aqfp_top.proofs.Forms.{equal_not_sample}
 use Rattle.aqfp_top.proofs.Forms.{verify_not_write, trace_not_write, check_not_write, equal_not_write, write_not_sample}
-use Rattle.aqfp_top.proofs.Forms.{one_size, one_pair, four_not_report, make_not_report, check_not_report, sample_not_report}
+use Rattle.aqfp_top.proofs.Forms.{one_size, one_pair, four_not_report, make_not_report, check_not_report}
+use Rattle.aqfp_top.proofs.Forms.{sample_not_report}
 use Rattle.aqfp_top.proofs.Forms.{shapes_not_report, make_not_shapes, verify_not_shapes, trace_not_shapes}
 use Rattle.aqfp_top.proofs.Forms.{check_not_shapes, equal_not_shapes, write_not_shapes, sample_not_shapes}
 
@@ -42,19 +50,23 @@ build_answers planner None words answer form answers = tt
 build_answers planner (Some files) words answer form answers =
     record { form = Make planner; is_form = form; answers = answers }
 
-pub verify_answers : (told : Option Contents) (words : List (List ℕ)) (answer : Option Fault) → IsVerify words → ToldAnswers check_stages told words answer → ToldMayAnswer told words answer
+pub verify_answers : (told : Option Contents) (words : List (List ℕ)) (answer : Option Fault) → IsVerify words
+    → ToldAnswers check_stages told words answer → ToldMayAnswer told words answer
 verify_answers None words answer form answers = tt
 verify_answers (Some files) words answer form answers = record { form = Verify; is_form = form; answers = answers }
 
-pub trace_answers : (told : Option Contents) (words : List (List ℕ)) (answer : Option Fault) → IsTrace words → ToldAnswers check_stages told words answer → ToldMayAnswer told words answer
+pub trace_answers : (told : Option Contents) (words : List (List ℕ)) (answer : Option Fault) → IsTrace words
+    → ToldAnswers check_stages told words answer → ToldMayAnswer told words answer
 trace_answers None words answer form answers = tt
 trace_answers (Some files) words answer form answers = record { form = Trace; is_form = form; answers = answers }
 
-pub equal_answers : (told : Option Contents) (words : List (List ℕ)) (answer : Option Fault) → IsEqual words → ToldAnswers equal_stages told words answer → ToldMayAnswer told words answer
+pub equal_answers : (told : Option Contents) (words : List (List ℕ)) (answer : Option Fault) → IsEqual words
+    → ToldAnswers equal_stages told words answer → ToldMayAnswer told words answer
 equal_answers None words answer form answers = tt
 equal_answers (Some files) words answer form answers = record { form = Equal; is_form = form; answers = answers }
 
-pub write_answers : (told : Option Contents) (words : List (List ℕ)) (answer : Option Fault) → IsWrite words → ToldAnswers write_stages told words answer → ToldMayAnswer told words answer
+pub write_answers : (told : Option Contents) (words : List (List ℕ)) (answer : Option Fault) → IsWrite words
+    → ToldAnswers write_stages told words answer → ToldMayAnswer told words answer
 write_answers None words answer form answers = tt
 write_answers (Some files) words answer form answers = record { form = Write; is_form = form; answers = answers }
 
@@ -70,11 +82,14 @@ shapes_answers None words first second answer form answers = tt
 shapes_answers (Some files) words first second answer form answers =
     record { form = Shapes first second; is_form = form; answers = answers }
 
-pub sample_answers : (told : Option Contents) (words : List (List ℕ)) (bits : ℕ) (answer : Option Fault) → IsSampleOf words bits → StagesAnswer (sample_stages bits) answer → ToldMayAnswer told words answer
+pub sample_answers : (told : Option Contents) (words : List (List ℕ)) (bits : ℕ) (answer : Option Fault)
+    → IsSampleOf words bits → StagesAnswer (sample_stages bits) answer → ToldMayAnswer told words answer
 sample_answers None words bits answer form answers = tt
-sample_answers (Some files) words bits answer form answers = record { form = Sample bits; is_form = form; answers = answers }
+sample_answers (Some files) words bits answer form answers =
+    record { form = Sample bits; is_form = form; answers = answers }
 
-pub usage_answers : (told : Option Contents) (words : List (List ℕ)) → ¬ HasForm words → ToldMayAnswer told words (Some Usage)
+pub usage_answers : (told : Option Contents) (words : List (List ℕ)) → ¬ HasForm words
+    → ToldMayAnswer told words (Some Usage)
 usage_answers None words form = tt
 usage_answers (Some files) words form = record { form = Wrong; is_form = form; answers = inl tt }
 
@@ -88,17 +103,45 @@ build_leaves planner before after words fault form stands = record {
   otherwise = λ none other. absurd (none (is_make planner words form));
 }
 
-pub verify_leaves : (o o' : Outside) (words : List (List ℕ)) (fault : Option Fault) → IsVerify words → standing o' ≡ standing o → RunStands o.told o'.told words fault
-verify_leaves o o' words fault form kept = record { make = λ p b. absurd (make_not_verify words (is_make p words b) form); write = λ w. absurd (verify_not_write words form w); otherwise = λ none other. stands_told o o' kept }
+pub verify_leaves : (o o' : Outside) (words : List (List ℕ)) (fault : Option Fault) → IsVerify words
+    → standing o' ≡ standing o → RunStands o.told o'.told words fault
+verify_leaves o o' words fault form kept =
+    record {
+      make = λ p b. absurd (make_not_verify words (is_make p words b) form);
+      write =
+          λ w. absurd (verify_not_write words form w);
+      otherwise = λ none other. stands_told o o' kept;
+    }
 
-pub trace_leaves : (o o' : Outside) (words : List (List ℕ)) (fault : Option Fault) → IsTrace words → standing o' ≡ standing o → RunStands o.told o'.told words fault
-trace_leaves o o' words fault form kept = record { make = λ p b. absurd (make_not_trace words (is_make p words b) form); write = λ w. absurd (trace_not_write words form w); otherwise = λ none other. stands_told o o' kept }
+pub trace_leaves : (o o' : Outside) (words : List (List ℕ)) (fault : Option Fault) → IsTrace words
+    → standing o' ≡ standing o → RunStands o.told o'.told words fault
+trace_leaves o o' words fault form kept =
+    record {
+      make = λ p b. absurd (make_not_trace words (is_make p words b) form);
+      write =
+          λ w. absurd (trace_not_write words form w);
+      otherwise = λ none other. stands_told o o' kept;
+    }
 
-pub equal_leaves : (o o' : Outside) (words : List (List ℕ)) (fault : Option Fault) → IsEqual words → standing o' ≡ standing o → RunStands o.told o'.told words fault
-equal_leaves o o' words fault form kept = record { make = λ p b. absurd (make_not_equal words (is_make p words b) form); write = λ w. absurd (equal_not_write words form w); otherwise = λ none other. stands_told o o' kept }
+pub equal_leaves : (o o' : Outside) (words : List (List ℕ)) (fault : Option Fault) → IsEqual words
+    → standing o' ≡ standing o → RunStands o.told o'.told words fault
+equal_leaves o o' words fault form kept =
+    record {
+      make = λ p b. absurd (make_not_equal words (is_make p words b) form);
+      write =
+          λ w. absurd (equal_not_write words form w);
+      otherwise = λ none other. stands_told o o' kept;
+    }
 
-pub write_leaves : (before after : Option Contents) (words : List (List ℕ)) (fault : Option Fault) → IsWrite words → WriteStands before after words fault → RunStands before after words fault
-write_leaves before after words fault form stands = record { make = λ p b. absurd (make_not_write words (is_make p words b) form); write = λ w. stands; otherwise = λ none other. absurd (other form) }
+pub write_leaves : (before after : Option Contents) (words : List (List ℕ)) (fault : Option Fault) → IsWrite words
+    → WriteStands before after words fault → RunStands before after words fault
+write_leaves before after words fault form stands =
+    record {
+      make = λ p b. absurd (make_not_write words (is_make p words b) form);
+      write = λ w. stands;
+      otherwise =
+          λ none other. absurd (other form);
+    }
 
 pub report_leaves : (o o' : Outside) (words : List (List ℕ)) (fault : Option Fault) → IsReport words
     → standing o' ≡ standing o → RunStands o.told o'.told words fault
@@ -116,11 +159,24 @@ shapes_leaves o o' words first second fault form kept = record {
   otherwise = λ none other. stands_told o o' kept;
 }
 
-pub sample_leaves : (held : Option Contents) (words : List (List ℕ)) (bits : ℕ) (fault : Option Fault) → IsSampleOf words bits → RunStands held held words fault
-sample_leaves held words bits fault form = record { make = λ p b. absurd (make_not_sample words bits (is_make p words b) form); write = λ w. absurd (write_not_sample words bits w form); otherwise = λ none other. refl }
+pub sample_leaves : (held : Option Contents) (words : List (List ℕ)) (bits : ℕ) (fault : Option Fault)
+    → IsSampleOf words bits → RunStands held held words fault
+sample_leaves held words bits fault form =
+    record {
+      make = λ p b. absurd (make_not_sample words bits (is_make p words b) form);
+      write =
+          λ w. absurd (write_not_sample words bits w form);
+      otherwise = λ none other. refl;
+    }
 
-pub usage_leaves : (held : Option Contents) (words : List (List ℕ)) (fault : Option Fault) → ¬ HasForm words → RunStands held held words fault
-usage_leaves held words fault form = record { make = λ p b. absurd (form (inl (is_make p words b))); write = λ w. absurd (form (inr (inr (inr (inr (inl w)))))); otherwise = λ none other. refl }
+pub usage_leaves : (held : Option Contents) (words : List (List ℕ)) (fault : Option Fault) → ¬ HasForm words
+    → RunStands held held words fault
+usage_leaves held words fault form = record {
+  make = λ p b. absurd (form (inl (is_make p words b)));
+  write =
+      λ w. absurd (form (inr (inr (inr (inr (inl w))))));
+  otherwise = λ none other. refl;
+}
 
 -- what is printed
 
@@ -142,7 +198,8 @@ build_prints planner told words before after fault form prints =
       otherwise = λ none. absurd (none (inl is));
     }
 
-pub verify_prints : (told : Option Contents) (words : List (List ℕ)) (before after : Output) (fault : Option Fault) → IsVerify words → CheckPrints Answers told words before after fault → RunPrints told words before after fault
+pub verify_prints : (told : Option Contents) (words : List (List ℕ)) (before after : Output) (fault : Option Fault)
+    → IsVerify words → CheckPrints Answers told words before after fault → RunPrints told words before after fault
 verify_prints told words before after fault form prints = record {
   make = λ p b. absurd (make_not_verify words (is_make p words b) form);
   verify = λ v. prints;
@@ -155,7 +212,8 @@ verify_prints told words before after fault form prints = record {
   otherwise = λ none. absurd (none (inr (inl (inl form))));
 }
 
-pub trace_prints : (told : Option Contents) (words : List (List ℕ)) (before after : Output) (fault : Option Fault) → IsTrace words → CheckPrints Fluxes told words before after fault → RunPrints told words before after fault
+pub trace_prints : (told : Option Contents) (words : List (List ℕ)) (before after : Output) (fault : Option Fault)
+    → IsTrace words → CheckPrints Fluxes told words before after fault → RunPrints told words before after fault
 trace_prints told words before after fault form prints = record {
   make = λ p b. absurd (make_not_trace words (is_make p words b) form);
   verify = λ v. absurd (verify_not_trace words v form);
@@ -168,7 +226,8 @@ trace_prints told words before after fault form prints = record {
   otherwise = λ none. absurd (none (inr (inl (inr form))));
 }
 
-pub equal_prints : (told : Option Contents) (words : List (List ℕ)) (before after : Output) (fault : Option Fault) → IsEqual words → EqualPrints told words before after fault → RunPrints told words before after fault
+pub equal_prints : (told : Option Contents) (words : List (List ℕ)) (before after : Output) (fault : Option Fault)
+    → IsEqual words → EqualPrints told words before after fault → RunPrints told words before after fault
 equal_prints told words before after fault form prints = record {
   make = λ p b. absurd (make_not_equal words (is_make p words b) form);
   verify = λ v. absurd (verify_not_equal words v form);
@@ -181,7 +240,8 @@ equal_prints told words before after fault form prints = record {
   otherwise = λ none. absurd (none (inr (inr (inr (inl form)))));
 }
 
-pub write_prints : (told : Option Contents) (words : List (List ℕ)) (before after : Output) (fault : Option Fault) → IsWrite words → WritePrints told words before after fault → RunPrints told words before after fault
+pub write_prints : (told : Option Contents) (words : List (List ℕ)) (before after : Output) (fault : Option Fault)
+    → IsWrite words → WritePrints told words before after fault → RunPrints told words before after fault
 write_prints told words before after fault form prints = record {
   make = λ p b. absurd (make_not_write words (is_make p words b) form);
   verify = λ v. absurd (verify_not_write words v form);
@@ -194,7 +254,9 @@ write_prints told words before after fault form prints = record {
   otherwise = λ none. absurd (none (inr (inr (inr (inr (inl form))))));
 }
 
-pub sample_prints : (told : Option Contents) (words : List (List ℕ)) (bits : ℕ) (before after : Output) (fault : Option Fault) → IsSampleOf words bits → SamplePrints bits before after fault → RunPrints told words before after fault
+pub sample_prints : (told : Option Contents) (words : List (List ℕ)) (bits : ℕ) (before after : Output)
+    (fault : Option Fault) → IsSampleOf words bits → SamplePrints bits before after fault
+    → RunPrints told words before after fault
 sample_prints told words bits before after fault form prints = record {
   make = λ p b. absurd (make_not_sample words bits (is_make p words b) form);
   verify = λ v. absurd (verify_not_sample words bits v form);
@@ -222,7 +284,8 @@ report_prints told words before after fault form prints = record {
 }
 
 pub shapes_prints : (told : Option Contents) (words : List (List ℕ)) (first second : ℕ) (before after : Output)
-    (fault : Option Fault) → IsShapesOf words first second → TextPrints (IsShownOf told words first second) before after fault
+    (fault : Option Fault) → IsShapesOf words first second
+    → TextPrints (IsShownOf told words first second) before after fault
     → RunPrints told words before after fault
 shapes_prints told words first second before after fault form prints = record {
   make = λ p b. absurd (make_not_shapes words first second (is_make p words b) form);
@@ -243,7 +306,8 @@ shapes_prints told words first second before after fault form prints = record {
   }))))))));
 }
 
-pub usage_prints : (told : Option Contents) (words : List (List ℕ)) (held : Output) (fault : Option Fault) → ¬ HasForm words → RunPrints told words held held fault
+pub usage_prints : (told : Option Contents) (words : List (List ℕ)) (held : Output) (fault : Option Fault)
+    → ¬ HasForm words → RunPrints told words held held fault
 usage_prints told words held fault form = record {
   make = λ p b. absurd (form (inl (is_make p words b)));
   verify = λ v. absurd (form (inr (inl (inl v))));
@@ -251,7 +315,8 @@ usage_prints told words held fault form = record {
   equal = λ e. absurd (form (inr (inr (inr (inl e)))));
   write = λ w. absurd (form (inr (inr (inr (inr (inl w))))));
   report = λ r. absurd (form (inr (inr (inr (inr (inr (inl r)))))));
-  shapes = λ a b s. absurd (form (inr (inr (inr (inr (inr (inr (record { first = a; second = b; of_numbers = s }))))))));
+  shapes = λ a b s. absurd (form
+      (inr (inr (inr (inr (inr (inr (record { first = a; second = b; of_numbers = s }))))))));
   sample = λ bits s. absurd (form (inr (inr (inl (record { bits = bits; of_bits = s })))));
   otherwise = λ none. refl;
 }
@@ -261,41 +326,48 @@ usage_prints told words held fault form = record {
 four_place : (words : List (List ℕ)) (place low : ℕ) → length words ≡ 4 → low ≤ 3 → place ≡ low → place < length words
 four_place words place low four most is = omega arith
 
-build_loaded : (words : List (List ℕ)) (place : ℕ) → length words ≡ 4 → IsLoaded build_loads place → place < length words
+build_loaded : (words : List (List ℕ)) (place : ℕ) → length words ≡ 4
+    → IsLoaded build_loads place → place < length words
 build_loaded words place four (inl one) = four_place words place 1 four (omega arith) one
 build_loaded words place four (inr (inl two)) = four_place words place 2 four (omega arith) two
 build_loaded words place four (inr (inr none)) = absurd none
 
-build_past : (words : List (List ℕ)) (place taken : ℕ) → length words ≡ 4 → IsPast build_loads place taken → place < length words
+build_past : (words : List (List ℕ)) (place taken : ℕ) → length words ≡ 4
+    → IsPast build_loads place taken → place < length words
 build_past words place taken four (inl one) = four_place words place 1 four (omega arith) one.0
 build_past words place taken four (inr (inl two)) = four_place words place 2 four (omega arith) two.0
 build_past words place taken four (inr (inr none)) = absurd none
 
-check_loaded : (words : List (List ℕ)) (place : ℕ) → length words ≡ 4 → IsLoaded check_loads place → place < length words
+check_loaded : (words : List (List ℕ)) (place : ℕ) → length words ≡ 4
+    → IsLoaded check_loads place → place < length words
 check_loaded words place four (inl one) = four_place words place 1 four (omega arith) one
 check_loaded words place four (inr (inl two)) = four_place words place 2 four (omega arith) two
 check_loaded words place four (inr (inr (inl three))) = four_place words place 3 four (omega arith) three
 check_loaded words place four (inr (inr (inr none))) = absurd none
 
-check_past : (words : List (List ℕ)) (place taken : ℕ) → length words ≡ 4 → IsPast check_loads place taken → place < length words
+check_past : (words : List (List ℕ)) (place taken : ℕ) → length words ≡ 4
+    → IsPast check_loads place taken → place < length words
 check_past words place taken four (inl one) = four_place words place 1 four (omega arith) one.0
 check_past words place taken four (inr (inl two)) = four_place words place 2 four (omega arith) two.0
 check_past words place taken four (inr (inr (inl three))) = four_place words place 3 four (omega arith) three.0
 check_past words place taken four (inr (inr (inr none))) = absurd none
 
-build_place : (planner : Planner) (words : List (List ℕ)) (fault : Fault) → length words ≡ 4 → IsBuildFault planner fault
+build_place : (planner : Planner) (words : List (List ℕ)) (fault : Fault) → length words ≡ 4
+    → IsBuildFault planner fault
     → HasPlace words fault
 build_place planner words (Absent place) four only = build_loaded words place four only
 build_place planner words (TooLong place taken) four only = build_past words place taken four only
 build_place planner words (ReadFault place) four only = build_loaded words place four only
 build_place planner words _ four only = tt
 
-write_loaded : (words : List (List ℕ)) (place : ℕ) → length words ≡ 4 → IsLoaded write_loads place → place < length words
+write_loaded : (words : List (List ℕ)) (place : ℕ) → length words ≡ 4
+    → IsLoaded write_loads place → place < length words
 write_loaded words place four (inl one) = four_place words place 1 four (omega arith) one
 write_loaded words place four (inr (inl two)) = four_place words place 2 four (omega arith) two
 write_loaded words place four (inr (inr none)) = absurd none
 
-write_past : (words : List (List ℕ)) (place taken : ℕ) → length words ≡ 4 → IsPast write_loads place taken → place < length words
+write_past : (words : List (List ℕ)) (place taken : ℕ) → length words ≡ 4
+    → IsPast write_loads place taken → place < length words
 write_past words place taken four (inl one) = four_place words place 1 four (omega arith) one.0
 write_past words place taken four (inr (inl two)) = four_place words place 2 four (omega arith) two.0
 write_past words place taken four (inr (inr none)) = absurd none
@@ -309,12 +381,14 @@ write_place words _ four only = tt
 three_place : (words : List (List ℕ)) (place low : ℕ) → length words ≡ 3 → low ≤ 2 → place ≡ low → place < length words
 three_place words place low three most is = omega arith
 
-report_loaded : (words : List (List ℕ)) (place : ℕ) → length words ≡ 3 → IsLoaded write_loads place → place < length words
+report_loaded : (words : List (List ℕ)) (place : ℕ) → length words ≡ 3
+    → IsLoaded write_loads place → place < length words
 report_loaded words place three (inl one) = three_place words place 1 three (omega arith) one
 report_loaded words place three (inr (inl two)) = three_place words place 2 three (omega arith) two
 report_loaded words place three (inr (inr none)) = absurd none
 
-report_past : (words : List (List ℕ)) (place taken : ℕ) → length words ≡ 3 → IsPast write_loads place taken → place < length words
+report_past : (words : List (List ℕ)) (place taken : ℕ) → length words ≡ 3
+    → IsPast write_loads place taken → place < length words
 report_past words place taken three (inl one) = three_place words place 1 three (omega arith) one.0
 report_past words place taken three (inr (inl two)) = three_place words place 2 three (omega arith) two.0
 report_past words place taken three (inr (inr none)) = absurd none
@@ -325,11 +399,13 @@ report_place words (TooLong place taken) three only = report_past words place ta
 report_place words (ReadFault place) three only = report_loaded words place three only
 report_place words _ three only = tt
 
-shapes_loaded : (words : List (List ℕ)) (place : ℕ) → length words ≡ 4 → IsLoaded shapes_loads place → place < length words
+shapes_loaded : (words : List (List ℕ)) (place : ℕ) → length words ≡ 4
+    → IsLoaded shapes_loads place → place < length words
 shapes_loaded words place four (inl one) = four_place words place 1 four (omega arith) one
 shapes_loaded words place four (inr none) = absurd none
 
-shapes_past : (words : List (List ℕ)) (place taken : ℕ) → length words ≡ 4 → IsPast shapes_loads place taken → place < length words
+shapes_past : (words : List (List ℕ)) (place taken : ℕ) → length words ≡ 4
+    → IsPast shapes_loads place taken → place < length words
 shapes_past words place taken four (inl one) = four_place words place 1 four (omega arith) one.0
 shapes_past words place taken four (inr none) = absurd none
 
@@ -376,7 +452,8 @@ build_only planner words (Err fault) form only =
       place = build_place planner words fault (four_words words is) only;
     }
 
-check_only : (words : List (List ℕ)) (result : Result (Unit {0}) Fault) → length words ≡ 4 → IsCheck words → IfErr result IsCheckFault → IfErr result (RunsOnly words)
+check_only : (words : List (List ℕ)) (result : Result (Unit {0}) Fault) → length words ≡ 4 → IsCheck words
+    → IfErr result IsCheckFault → IfErr result (RunsOnly words)
 check_only words (Ok x) four form only = tt
 check_only words (Err fault) four form only = record {
   make = λ p b. absurd (make_not_check words (is_make p words b) form);
@@ -390,13 +467,16 @@ check_only words (Err fault) four form only = record {
   place = check_place words fault four only;
 }
 
-pub verify_only : (words : List (List ℕ)) (result : Result (Unit {0}) Fault) → IsVerify words → IfErr result IsCheckFault → IfErr result (RunsOnly words)
+pub verify_only : (words : List (List ℕ)) (result : Result (Unit {0}) Fault) → IsVerify words
+    → IfErr result IsCheckFault → IfErr result (RunsOnly words)
 verify_only words result form only = check_only words result form.0 (inl form) only
 
-pub trace_only : (words : List (List ℕ)) (result : Result (Unit {0}) Fault) → IsTrace words → IfErr result IsCheckFault → IfErr result (RunsOnly words)
+pub trace_only : (words : List (List ℕ)) (result : Result (Unit {0}) Fault) → IsTrace words → IfErr result IsCheckFault
+    → IfErr result (RunsOnly words)
 trace_only words result form only = check_only words result form.0 (inr form) only
 
-pub sample_only : (words : List (List ℕ)) (bits : ℕ) (result : Result (Unit {0}) Fault) → IsSampleOf words bits → IfErr result IsSampleFault → IfErr result (RunsOnly words)
+pub sample_only : (words : List (List ℕ)) (bits : ℕ) (result : Result (Unit {0}) Fault) → IsSampleOf words bits
+    → IfErr result IsSampleFault → IfErr result (RunsOnly words)
 sample_only words bits (Ok x) form only = tt
 sample_only words bits (Err fault) form only = record {
   make = λ p b. absurd (make_not_sample words bits (is_make p words b) form);
@@ -410,7 +490,8 @@ sample_only words bits (Err fault) form only = record {
   place = sample_place words fault only;
 }
 
-pub equal_only : (words : List (List ℕ)) (result : Result (Unit {0}) Fault) → IsEqual words → IfErr result IsEqualFault → IfErr result (RunsOnly words)
+pub equal_only : (words : List (List ℕ)) (result : Result (Unit {0}) Fault) → IsEqual words → IfErr result IsEqualFault
+    → IfErr result (RunsOnly words)
 equal_only words (Ok x) form only = tt
 equal_only words (Err fault) form only = record {
   make = λ p b. absurd (make_not_equal words (is_make p words b) form);
@@ -424,7 +505,8 @@ equal_only words (Err fault) form only = record {
   place = equal_place words fault form.0 only;
 }
 
-pub write_only : (words : List (List ℕ)) (result : Result (Unit {0}) Fault) → IsWrite words → IfErr result IsWritingFault → IfErr result (RunsOnly words)
+pub write_only : (words : List (List ℕ)) (result : Result (Unit {0}) Fault) → IsWrite words
+    → IfErr result IsWritingFault → IfErr result (RunsOnly words)
 write_only words (Ok x) form only = tt
 write_only words (Err fault) form only = record {
   make = λ p b. absurd (make_not_write words (is_make p words b) form);
@@ -438,7 +520,8 @@ write_only words (Err fault) form only = record {
   place = write_place words fault form.0 only;
 }
 
-pub report_only : (words : List (List ℕ)) (result : Result (Unit {0}) Fault) → IsReport words → IfErr result IsReportFault
+pub report_only : (words : List (List ℕ)) (result : Result (Unit {0}) Fault) → IsReport words
+    → IfErr result IsReportFault
     → IfErr result (RunsOnly words)
 report_only words (Ok x) form only = tt
 report_only words (Err fault) form only = record {
@@ -453,7 +536,8 @@ report_only words (Err fault) form only = record {
   place = report_place words fault form.0 only;
 }
 
-pub shapes_only : (words : List (List ℕ)) (first second : ℕ) (result : Result (Unit {0}) Fault) → IsShapesOf words first second
+pub shapes_only : (words : List (List ℕ)) (first second : ℕ) (result : Result (Unit {0}) Fault)
+    → IsShapesOf words first second
     → IfErr result IsShapesFault → IfErr result (RunsOnly words)
 shapes_only words first second (Ok x) form only = tt
 shapes_only words first second (Err fault) form only = record {
@@ -491,22 +575,28 @@ pub build_no_usage : (planner : Planner) (words : List (List ℕ)) (answer : Opt
     → ¬ HasForm words → answer ≡ Some Usage
 build_no_usage planner words answer form none = absurd (none (inl (is_make planner words form)))
 
-pub verify_no_usage : (words : List (List ℕ)) (answer : Option Fault) → IsVerify words → ¬ HasForm words → answer ≡ Some Usage
+pub verify_no_usage : (words : List (List ℕ)) (answer : Option Fault) → IsVerify words
+    → ¬ HasForm words → answer ≡ Some Usage
 verify_no_usage words answer form none = absurd (none (inr (inl (inl form))))
 
-pub trace_no_usage : (words : List (List ℕ)) (answer : Option Fault) → IsTrace words → ¬ HasForm words → answer ≡ Some Usage
+pub trace_no_usage : (words : List (List ℕ)) (answer : Option Fault) → IsTrace words
+    → ¬ HasForm words → answer ≡ Some Usage
 trace_no_usage words answer form none = absurd (none (inr (inl (inr form))))
 
-pub sample_no_usage : (words : List (List ℕ)) (bits : ℕ) (answer : Option Fault) → IsSampleOf words bits → ¬ HasForm words → answer ≡ Some Usage
+pub sample_no_usage : (words : List (List ℕ)) (bits : ℕ) (answer : Option Fault) → IsSampleOf words bits
+    → ¬ HasForm words → answer ≡ Some Usage
 sample_no_usage words bits answer form none = absurd (none (inr (inr (inl (record { bits = bits; of_bits = form })))))
 
-pub equal_no_usage : (words : List (List ℕ)) (answer : Option Fault) → IsEqual words → ¬ HasForm words → answer ≡ Some Usage
+pub equal_no_usage : (words : List (List ℕ)) (answer : Option Fault) → IsEqual words
+    → ¬ HasForm words → answer ≡ Some Usage
 equal_no_usage words answer form none = absurd (none (inr (inr (inr (inl form)))))
 
-pub write_no_usage : (words : List (List ℕ)) (answer : Option Fault) → IsWrite words → ¬ HasForm words → answer ≡ Some Usage
+pub write_no_usage : (words : List (List ℕ)) (answer : Option Fault) → IsWrite words
+    → ¬ HasForm words → answer ≡ Some Usage
 write_no_usage words answer form none = absurd (none (inr (inr (inr (inr (inl form))))))
 
-pub report_no_usage : (words : List (List ℕ)) (answer : Option Fault) → IsReport words → ¬ HasForm words → answer ≡ Some Usage
+pub report_no_usage : (words : List (List ℕ)) (answer : Option Fault) → IsReport words
+    → ¬ HasForm words → answer ≡ Some Usage
 report_no_usage words answer form none = absurd (none (inr (inr (inr (inr (inr (inl form)))))))
 
 pub shapes_no_usage : (words : List (List ℕ)) (first second : ℕ) (answer : Option Fault) → IsShapesOf words first second
@@ -602,5 +692,6 @@ pub ruleset runs = (
 )
 
 -- where the store is told
-pub told_due : (told : Option Contents) (words : List (List ℕ)) (answer : Option Fault) → ToldMayAnswer told words answer → (held : Contents) → told ≡ Some held → MayAnswer held words answer
+pub told_due : (told : Option Contents) (words : List (List ℕ)) (answer : Option Fault)
+    → ToldMayAnswer told words answer → (held : Contents) → told ≡ Some held → MayAnswer held words answer
 told_due told words answer may held is = subst (λ t. ToldMayAnswer t words answer) is may

@@ -1,5 +1,6 @@
 -- From the clauses of the steps to those of a sample.
-use Rattle.std.proofs.Common.{ℕ, ◌≡◌, ◌<◌, ◌≤◌, ◌+◌, ◌*◌, ◌^◌, ◌++◌, Bool, List, [], ◌∷◌, length, take, get_or, All, Some, None, Result, IfErr, inl, inr, refl, sym, ap, subst, arith, ◌∙◌}
+use Rattle.std.proofs.Common.{ℕ, ◌≡◌, ◌<◌, ◌≤◌, ◌+◌, ◌*◌, ◌^◌, ◌++◌, Bool, List, [], ◌∷◌, length, take, get_or, All}
+use Rattle.std.proofs.Common.{Some, None, Result, IfErr, inl, inr, refl, sym, ap, subst, arith, ◌∙◌}
 use Rattle.std.specs.Result.{result_err}
 use Rattle.std.specs.List.{AllZip}
 use Rattle.std.proofs.lemmas.List.{take_more}
@@ -41,34 +42,46 @@ use Rattle.aqfp_top.proofs.OneFault.{says_no_plain_fault, one_plain}
 
 -- Reading.
 
-pub few_bytes : (text : List ℕ) (bits : ℕ) → text ≡ adder bits → ((n : ℕ) → n ≤ 64 → length (adder n) ≤ 16777216) → bits ≤ 64 → length text ≤ 2 ^ 28
-few_bytes text bits is size few = let short : length text ≤ 16777216 = subst (λ t. length t ≤ 16777216) (sym is) (size bits few) in omega (arith, short)
+pub few_bytes : (text : List ℕ) (bits : ℕ) → text ≡ adder bits → ((n : ℕ) → n ≤ 64 → length (adder n) ≤ 16777216)
+    → bits ≤ 64 → length text ≤ 2 ^ 28
+few_bytes text bits is size few = let short : length text ≤ 16777216 = subst (λ t. length t ≤ 16777216) (sym is)
+    (size bits few) in omega (arith, short)
 
 pub ruleset reads = (few_bytes)
 
 -- Answering.
 
-pub next_answer : (net : NetView) (words answers : List (List Bool)) (i : ℕ) (word answer : List Bool) → i < length words → word ≡ get_or words i word → AllZip (IsAnswer net) (take i words) answers → IsAnswer net word answer
+pub next_answer : (net : NetView) (words answers : List (List Bool)) (i : ℕ) (word answer : List Bool)
+    → i < length words → word ≡ get_or words i word → AllZip (IsAnswer net) (take i words) answers
+    → IsAnswer net word answer
     → AllZip (IsAnswer net) (take (i + 1) words) (answers ++ answer ∷ [])
 next_answer net words answers i word answer within at so_far next =
-    subst (λ ws. AllZip (IsAnswer net) ws (answers ++ answer ∷ [])) (sym (take_more words i word within ∙ ap (λ w. take i words ++ w ∷ []) (sym at)))
+    subst (λ ws. AllZip (IsAnswer net) ws (answers ++ answer ∷ []))
+    (sym (take_more words i word within ∙ ap (λ w. take i words ++ w ∷ []) (sym at)))
     (AllZip-push (IsAnswer net) (take i words) answers word answer so_far next)
 
-pub wide_words : (words : List (List Bool)) (bits inputs : ℕ) → words ≡ eight bits → All (λ word. length word ≡ 2 * bits) (eight bits) → inputs ≡ 2 * bits → All (λ word. length word ≡ inputs) words
-wide_words words bits inputs is wide same = subst (λ ws. All (λ word. length word ≡ inputs) ws) (sym is) (subst (λ n. All (λ word. length word ≡ n) (eight bits)) (sym same) wide)
+pub wide_words : (words : List (List Bool)) (bits inputs : ℕ) → words ≡ eight bits
+    → All (λ word. length word ≡ 2 * bits) (eight bits) → inputs ≡ 2 * bits → All (λ word. length word ≡ inputs) words
+wide_words words bits inputs is wide same = subst (λ ws. All (λ word. length word ≡ inputs) ws) (sym is)
+    (subst (λ n. All (λ word. length word ≡ n) (eight bits)) (sym same) wide)
 
 -- Making.
 
-pub reading_answers : (bits : ℕ) (fault : Fault) → OrMemory (IsPlainFault (adder bits)) fault → Answers (sample_stages bits) (Some fault)
-reading_answers bits fault bad = found (stage.Plain (adder bits)) (stage.PlanWith (adder bits) library_a_view ∷ []) fault bad
+pub reading_answers : (bits : ℕ) (fault : Fault) → OrMemory (IsPlainFault (adder bits)) fault
+    → Answers (sample_stages bits) (Some fault)
+reading_answers bits fault bad = found (stage.Plain (adder bits))
+    (stage.PlanWith (adder bits) library_a_view ∷ []) fault bad
 
-plan_finds : (bits : ℕ) (equations : NetView) (fault : Fault) → netlist.SaysNet (adder bits) equations → OrMemory (IsPlanFault equations library_a_view) fault → OrMemory (Finds (stage.PlanWith (adder bits) library_a_view)) fault
+plan_finds : (bits : ℕ) (equations : NetView) (fault : Fault) → netlist.SaysNet (adder bits) equations
+    → OrMemory (IsPlanFault equations library_a_view) fault
+    → OrMemory (Finds (stage.PlanWith (adder bits) library_a_view)) fault
 plan_finds bits equations (TooLarge what count) says bad = record { equations = equations; says = says; holds = bad }
 plan_finds bits equations Memory says bad = tt
 plan_finds bits equations _ says bad = absurd bad
 
 -- the defined plan refuses what it finds
-plan_refuses : (equations : NetView) (cells : LibraryView) (fault : Fault) → OrMemory (PlanRefuses Layered equations cells) fault
+plan_refuses : (equations : NetView) (cells : LibraryView) (fault : Fault)
+    → OrMemory (PlanRefuses Layered equations cells) fault
     → OrMemory (IsPlanFault equations cells) fault
 plan_refuses equations cells (TooLarge what count) (inl bad) = bad
 plan_refuses equations cells (TooLarge what count) (inr none) = absurd none
@@ -80,15 +93,23 @@ pub planning_answers : (bits : ℕ) (equations : NetView) (cells : LibraryView) 
     → OrMemory (PlanRefuses Layered equations cells) fault → Answers (sample_stages bits) (Some fault)
 planning_answers bits equations cells fault says is refused =
     let bad = plan_refuses equations cells fault refused in
-    past (stage.Plain (adder bits)) (stage.PlanWith (adder bits) library_a_view ∷ []) (Some fault) (says_no_plain_fault (adder bits) equations says)
-    (found (stage.PlanWith (adder bits) library_a_view) [] fault (plan_finds bits equations fault says (subst (λ l. OrMemory (IsPlanFault equations l) fault) is bad)))
+    past (stage.Plain (adder bits)) (stage.PlanWith (adder bits) library_a_view ∷ []) (Some fault)
+    (says_no_plain_fault (adder bits) equations says)
+    (found (stage.PlanWith (adder bits) library_a_view) [] fault
+    (plan_finds bits equations fault says (subst (λ l. OrMemory (IsPlanFault equations l) fault) is bad)))
 
-own_plan_none : (bits : ℕ) (equations : NetView) → netlist.SaysNet (adder bits) equations → IsWellPlanned Layered equations library_a_view → FindsNone (stage.PlanWith (adder bits) library_a_view)
-own_plan_none bits equations says none fault bad = none fault (subst (λ n. IsPlanFault n library_a_view fault) (one_plain (adder bits) bad.equations equations bad.says says) bad.holds)
+own_plan_none : (bits : ℕ) (equations : NetView) → netlist.SaysNet (adder bits) equations
+    → IsWellPlanned Layered equations library_a_view → FindsNone (stage.PlanWith (adder bits) library_a_view)
+own_plan_none bits equations says none fault bad = none fault
+    (subst (λ n. IsPlanFault n library_a_view fault)
+    (one_plain (adder bits) bad.equations equations bad.says says) bad.holds)
 
-pub sample_is_well : (bits : ℕ) (equations : NetView) (cells : LibraryView) → netlist.SaysNet (adder bits) equations → cells ≡ library_a_view → IsWellPlanned Layered equations cells → IsFirst (sample_stages bits) None
-sample_is_well bits equations cells says is none =
-    (says_no_plain_fault (adder bits) equations says, (own_plan_none bits equations says (subst (λ l. IsWellPlanned Layered equations l) is none), tt))
+pub sample_is_well : (bits : ℕ) (equations : NetView) (cells : LibraryView) → netlist.SaysNet (adder bits) equations
+    → cells ≡ library_a_view → IsWellPlanned Layered equations cells → IsFirst (sample_stages bits) None
+sample_is_well bits equations cells says is none = (
+  says_no_plain_fault (adder bits) equations says,
+  (own_plan_none bits equations says (subst (λ l. IsWellPlanned Layered equations l) is none), tt),
+)
 
 pub sample_is_made : (bits : ℕ) (equations : NetView) (cells : LibraryView) (chip : Chip) (sample : SampleResult)
     → netlist.SaysNet (adder bits) equations → cells ≡ library_a_view → IsChipOf Layered equations cells chip
@@ -111,7 +132,8 @@ reading_fault bits (BadBlif fault) bad = tt
 reading_fault bits Memory bad = tt
 reading_fault bits _ bad = absurd bad
 
-own_planning_fault : (equations : NetView) (cells : LibraryView) (fault : Fault) → OrMemory (IsPlanFault equations cells) fault
+own_planning_fault : (equations : NetView) (cells : LibraryView) (fault : Fault)
+    → OrMemory (IsPlanFault equations cells) fault
     → IsMakingFault fault
 own_planning_fault equations cells (TooLarge Slots count) bad = tt
 own_planning_fault equations cells (TooLarge Rows count) bad = tt
@@ -140,20 +162,27 @@ making_is_sample (TooLarge Shapes count) only = absurd only
 making_is_sample Memory only = tt
 making_is_sample _ only = absurd only
 
-pub making_prints : (bits : ℕ) (held : Output) (fault : Fault) → IsMakingFault fault → SamplePrints bits held held (Some fault)
+pub making_prints : (bits : ℕ) (held : Output) (fault : Fault) → IsMakingFault fault
+    → SamplePrints bits held held (Some fault)
 making_prints bits held (BadBlif fault) only = refl
 making_prints bits held (TooLarge what count) only = refl
 making_prints bits held Memory only = inl refl
 making_prints bits held _ only = absurd only
 
-pub printing_answers : (bits : ℕ) (text : List ℕ) (shown shown' : Output) (result : Result (Unit {0}) Fault) → IsFirst (sample_stages bits) None → PrintsText text shown shown' result → Answers (sample_stages bits) (result_err result)
+pub printing_answers : (bits : ℕ) (text : List ℕ) (shown shown' : Output) (result : Result (Unit {0}) Fault)
+    → IsFirst (sample_stages bits) None → PrintsText text shown shown' result
+    → Answers (sample_stages bits) (result_err result)
 printing_answers bits text shown shown' result well prints =
-    each_text (λ r. Answers (sample_stages bits) (result_err r)) text shown shown' (λ p. well) (λ p. well) (λ p. tt) result prints
+    each_text (λ r. Answers (sample_stages bits) (result_err r)) text shown shown' (λ p. well)
+    (λ p. well) (λ p. tt) result prints
 
-pub printing_is_sample : (text : List ℕ) (shown shown' : Output) (result : Result (Unit {0}) Fault) → PrintsText text shown shown' result → IfErr result IsSampleFault
-printing_is_sample text shown shown' result prints = each_text (λ r. IfErr r IsSampleFault) text shown shown' (λ p. tt) (λ p. refl) (λ p. tt) result prints
+pub printing_is_sample : (text : List ℕ) (shown shown' : Output) (result : Result (Unit {0}) Fault)
+    → PrintsText text shown shown' result → IfErr result IsSampleFault
+printing_is_sample text shown shown' result prints = each_text (λ r. IfErr r IsSampleFault) text shown shown' (λ p. tt)
+    (λ p. refl) (λ p. tt) result prints
 
-sampled : (bits : ℕ) (sample : SampleResult) (Printed : List ℕ → Type 0) → IsSampleOfBits bits sample → Printed (text_in bits sample) → IsSampled bits Printed
+sampled : (bits : ℕ) (sample : SampleResult) (Printed : List ℕ → Type 0) → IsSampleOfBits bits sample
+    → Printed (text_in bits sample) → IsSampled bits Printed
 sampled bits sample Printed is prints =
     let chip = chip_of library_a_view is.equations in
     let same : text_in bits sample ≡ text_of bits chip sample.answers =
@@ -167,7 +196,8 @@ sampled bits sample Printed is prints =
       printed = subst Printed same prints;
     }
 
-pub printing_prints : (bits : ℕ) (sample : SampleResult) (shown shown' : Output) (result : Result (Unit {0}) Fault) → IsSampleOfBits bits sample
+pub printing_prints : (bits : ℕ) (sample : SampleResult) (shown shown' : Output) (result : Result (Unit {0}) Fault)
+    → IsSampleOfBits bits sample
     → PrintsText (text_in bits sample) shown shown' result → SamplePrints bits shown shown' (result_err result)
 printing_prints bits sample shown shown' result is prints =
     let text = text_in bits sample in
@@ -176,10 +206,19 @@ printing_prints bits sample shown shown' result is prints =
     (sampled bits sample (PrintsFirst store.Failed shown shown') is)
     (λ p. inr (sampled bits sample (PrintsFirst store.Memory shown shown') is p)) result prints
 
-pub making_fails : (shown shown' : List Event) (fault : Fault) → IsMakingFault fault → OutFails shown shown' (Some fault)
+pub making_fails : (shown shown' : List Event) (fault : Fault) → IsMakingFault fault
+    → OutFails shown shown' (Some fault)
 making_fails shown shown' (BadBlif fault) only = tt
 making_fails shown shown' (TooLarge what count) only = tt
 making_fails shown shown' Memory only = tt
 making_fails shown shown' _ only = absurd only
 
-pub ruleset ends = (making_is_sample, making_prints, printing_answers, printing_is_sample, printing_prints, making_fails, text_fails)
+pub ruleset ends = (
+  making_is_sample,
+  making_prints,
+  printing_answers,
+  printing_is_sample,
+  printing_prints,
+  making_fails,
+  text_fails,
+)

@@ -1,5 +1,6 @@
 -- From the clauses of the steps of naming shapes to its own.
-use Rattle.std.proofs.Common.{ℕ, ◌≡◌, ◌≤◌, ◌<◌, ◌⊎◌, List, [], ◌∷◌, ◌++◌, length, Option, Some, None, Result, Ok, Err, IfErr}
+use Rattle.std.proofs.Common.{ℕ, ◌≡◌, ◌≤◌, ◌<◌, ◌⊎◌, List, [], ◌∷◌, ◌++◌, length, Option, Some, None, Result, Ok, Err}
+use Rattle.std.proofs.Common.{IfErr}
 use Rattle.std.proofs.Common.{OnOk, Vec, refl, sym, subst, inl, inr, arith}
 use Rattle.std.specs.Result.{result_err}
 use Rattle.std.specs.declared.alloc.Global.{Global}
@@ -91,7 +92,8 @@ there_not_past : (first second count number : ℕ) → first < count → second 
 there_not_past first second count number one other past (inl is) = omega (arith, one, past, is)
 there_not_past first second count number one other past (inr is) = let same = is.1 in omega (arith, other, past, same)
 
-numbers_none : (one_layout : (bytes : List ℕ) (layout other : WideLayout) → IsWideStream bytes layout → IsWideStream bytes other → layout ≡ other)
+numbers_none : (one_layout : (bytes : List ℕ) (layout other : WideLayout) → IsWideStream bytes layout
+    → IsWideStream bytes other → layout ≡ other)
     (gds : List ℕ) (layout : WideLayout) (first second : ℕ) (text : List ℕ) → IsRead gds layout
     → HasLines (wide_flat layout) first second text → FindsNone (stage.Numbers gds first second)
 numbers_none one_layout gds layout first second text is lines (NoShape number count) bad =
@@ -104,14 +106,16 @@ numbers_none one_layout gds layout first second text is lines (NoShape number co
     none.past none.which
 numbers_none one_layout gds layout first second text is lines _ bad = absurd bad
 
-pub well : (one_layout : (bytes : List ℕ) (layout other : WideLayout) → IsWideStream bytes layout → IsWideStream bytes other → layout ≡ other)
+pub well : (one_layout : (bytes : List ℕ) (layout other : WideLayout) → IsWideStream bytes layout
+    → IsWideStream bytes other → layout ≡ other)
     (gds : List ℕ) (layout : WideLayout) (first second : ℕ) (text : List ℕ) → IsRead gds layout
     → HasLines (wide_flat layout) first second text → IsFirst (showing_stages gds first second) None
 well one_layout gds layout first second text is lines =
     (is.stream, (is.size, (numbers_none one_layout gds layout first second text is lines, tt)))
 
 -- what the layout's lines may answer the stages may
-pub shown_answers : (one_layout : (bytes : List ℕ) (layout other : WideLayout) → IsWideStream bytes layout → IsWideStream bytes other → layout ≡ other)
+pub shown_answers : (one_layout : (bytes : List ℕ) (layout other : WideLayout) → IsWideStream bytes layout
+    → IsWideStream bytes other → layout ≡ other)
     (gds : List ℕ) (layout : WideLayout) (first second : ℕ) (before after : Output)
     (result : Result (Unit {0}) Fault) → IsRead gds layout
     → TextPrints (HasLines (wide_flat layout) first second) before after (result_err result)
@@ -120,7 +124,8 @@ pub shown_answers : (one_layout : (bytes : List ℕ) (layout other : WideLayout)
 shown_answers one_layout gds layout first second before after (Ok x) is prints bad =
     well one_layout gds layout first second prints.text is prints.means
 shown_answers one_layout gds layout first second before after (Err (NoShape number count)) is prints bad =
-    past_all (stage.Stream gds ∷ stage.Size gds ∷ []) (stage.Numbers gds first second ∷ []) (Some (NoShape number count))
+    past_all (stage.Stream gds ∷ stage.Size gds ∷ []) (stage.Numbers gds first second ∷ [])
+    (Some (NoShape number count))
     (is.stream, (is.size, tt))
     (found (stage.Numbers gds first second) [] (NoShape number count)
     (record { layout = layout; read = is.read; none = bad }))
@@ -133,7 +138,8 @@ shown_answers one_layout gds layout first second before after (Err Memory) is pr
 shown_answers one_layout gds layout first second before after (Err _) is prints bad = absurd bad
 
 pub shown_prints : (gds : List ℕ) (layout : WideLayout) (first second : ℕ) (before after : Output)
-    (fault : Option Fault) → IsRead gds layout → TextPrints (HasLines (wide_flat layout) first second) before after fault
+    (fault : Option Fault) → IsRead gds layout
+    → TextPrints (HasLines (wide_flat layout) first second) before after fault
     → TextPrints (AreShapes gds first second) before after fault
 shown_prints gds layout first second before after fault is prints =
     prints_more (HasLines (wide_flat layout) first second) (AreShapes gds first second) before after fault
@@ -164,20 +170,24 @@ layout_answers gds gds' first second fault same bad =
     let rest = stage.Numbers gds first second ∷ [] in
     subst (λ g. Answers (stage.Stream g ∷ stage.Size g ∷ rest) (Some fault)) same (bad rest)
 
-pub layout_fails : (shown shown' : List Event) (fault : Fault) → IsLayoutFault fault → OutFails shown shown' (Some fault)
-layout_fails shown shown' fault wrong = each_layout (λ f. OutFails shown shown' (Some f)) (λ o k. tt) (λ n. tt) tt fault wrong
+pub layout_fails : (shown shown' : List Event) (fault : Fault) → IsLayoutFault fault
+    → OutFails shown shown' (Some fault)
+layout_fails shown shown' fault wrong = each_layout (λ f. OutFails shown shown' (Some f))
+    (λ o k. tt) (λ n. tt) tt fault wrong
 
 pub ruleset shows = (layout_showing, layout_fails)
 
 -- The whole.
 
 pub load_shapes : (fault : Fault) → IsFaultOfLoad 1 gds_limit fault → IsShapesFault fault
-load_shapes fault only = each_load IsShapesFault 1 gds_limit (inl refl) (λ taken more. inl (refl, more)) (inl refl) tt fault only
+load_shapes fault only = each_load IsShapesFault 1 gds_limit (inl refl)
+    (λ taken more. inl (refl, more)) (inl refl) tt fault only
 
 pub load_prints : (Means : List ℕ → Type 0) (held : Output) (fault : Fault) → IsFaultOfLoad 1 gds_limit fault
     → TextPrints Means held held (Some fault)
 load_prints Means held fault only =
-    each_load (λ f. TextPrints Means held held (Some f)) 1 gds_limit refl (λ taken more. refl) refl (inl refl) fault only
+    each_load (λ f. TextPrints Means held held (Some f)) 1 gds_limit refl
+    (λ taken more. refl) refl (inl refl) fault only
 
 pub load_fails : (shown shown' : List Event) (fault : Fault) → IsFaultOfLoad 1 gds_limit fault
     → OutFails shown shown' (Some fault)
@@ -207,7 +217,8 @@ file_shapes files words gds first second answer held fits answers =
 
 pub told_shapes : (told : Option Contents) (words : List (List ℕ)) (gds : Vec ℕ Global) (first second : ℕ)
     (answer : Option Fault) → ToldLoadsWord told words 1 gds_limit (Ok gds)
-    → Answers (showing_stages gds.items first second) answer → ToldAnswers (shapes_stages first second) told words answer
+    → Answers (showing_stages gds.items first second) answer
+    → ToldAnswers (shapes_stages first second) told words answer
 told_shapes None words gds first second answer loads answers = tt
 told_shapes (Some files) words gds first second answer loads answers =
     file_shapes files words gds.items first second answer loads.0 loads.1 answers

@@ -8,12 +8,15 @@ pub size_read : (text : List ℕ) (bits : ℕ) → text ≡ decimal bits → 1 �
 size_read text bits spelled some few = record { spelled_so = spelled; some = some; few = few }
 
 -- a size is read as its number
-pub size_is_read : (text : List ℕ) (bits : ℕ) (read : Option ℕ) → ((number : ℕ) → number < 2 ^ 64 → text ≡ decimal number → read ≡ Some number) → IsSampleSize text bits → read ≡ Some bits
+pub size_is_read : (text : List ℕ) (bits : ℕ) (read : Option ℕ)
+    → ((number : ℕ) → number < 2 ^ 64 → text ≡ decimal number → read ≡ Some number)
+    → IsSampleSize text bits → read ≡ Some bits
 size_is_read text bits read reads size = let few = size.few in reads bits (omega (arith, few)) size.spelled_so
 
 pub ruleset sizes = (size_read, size_is_read)
 
-pub is_sample : (words : List (List ℕ)) (bits : ℕ) → length words ≡ 2 → word_at words 0 ≡ codes "sample" → IsSampleSize (word_at words 1) bits → IsSampleOf words bits
+pub is_sample : (words : List (List ℕ)) (bits : ℕ) → length words ≡ 2 → word_at words 0 ≡ codes "sample"
+    → IsSampleSize (word_at words 1) bits → IsSampleOf words bits
 is_sample words bits two named size = record { two = two; named = named; size = size }
 
 -- a number that is read

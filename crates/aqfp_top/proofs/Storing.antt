@@ -1,5 +1,6 @@
 -- From the calls that store a file to what stands and what was heard.
-use Rattle.std.proofs.Common.{ℕ, ◌≡◌, ◌≤◌, List, [], ◌∷◌, ◌++◌, length, take, Option, None, Result, Ok, Err, IfErr, OnOk, IsSome}
+use Rattle.std.proofs.Common.{ℕ, ◌≡◌, ◌≤◌, List, [], ◌∷◌, ◌++◌, length, take, Option, None, Result, Ok, Err, IfErr}
+use Rattle.std.proofs.Common.{OnOk, IsSome}
 use Rattle.std.proofs.Common.{refl, sym, ap, subst, inl, inr, ◌∙◌}
 use Rattle.aq_base.specs.Store.{Contents, told_with, StoresPrefix}
 use Rattle.aq_base.specs.declared.store.StoreRefusal.{StoreRefusal}
@@ -18,7 +19,8 @@ use Rattle.aqfp_top.specs.declared.fault.Fault.TheVariants.{WriteFault, Memory}
 use Rattle.std.proofs.Math.Seq.{take-length}
 
 -- the whole file is some first bytes of it
-pub whole_prefix : (told after : Option Contents) (name bytes : List ℕ) → after ≡ told_with told name bytes → StoresPrefix told after name bytes
+pub whole_prefix : (told after : Option Contents) (name bytes : List ℕ) → after ≡ told_with told name bytes
+    → StoresPrefix told after name bytes
 whole_prefix told after name bytes is = record { count = length bytes; stored = rw take-length is }
 
 -- ---- the calls
@@ -117,7 +119,8 @@ stores_stands name bytes o o' result (inl u) =
 stores_stands name bytes o o' result (inr s) =
     let c = s.closes in
     subst (StandsStored o.told o'.told name bytes) (sym c.ends)
-    (subst (λ t. StandsStored o.told t name bytes (end_of s.written c.answer)) (sym (ap (λ (x : Outside). x.told) c.closed))
+    (subst (λ t. StandsStored o.told t name bytes (end_of s.written c.answer))
+    (sym (ap (λ (x : Outside). x.told) c.closed))
     (ended_stands name bytes o s.now s.written c.answer s.writes))
 
 -- ---- what was heard
@@ -174,7 +177,8 @@ ended_refused name bytes o now heard' (Err store.Memory) closed part is =
     memory_heard name bytes o now heard' part.count closed part.within part.stops is
 
 unmade_refused : (name bytes : List ℕ) (heard heard' : List Event) (why : StoreRefusal)
-    → heard' ≡ NotCreated name why ∷ heard → IfErr {T = Unit {0}} (Err (unmade why)) (HeardStored heard heard' name bytes)
+    → heard' ≡ NotCreated name why ∷ heard
+    → IfErr {T = Unit {0}} (Err (unmade why)) (HeardStored heard heard' name bytes)
 unmade_refused name bytes heard heard' store.Failed is = is
 unmade_refused name bytes heard heard' store.Memory is = inl is
 

@@ -10,24 +10,19 @@ use Rattle.blif_read.specs.Parts.{NetView}
 use Rattle.cell_library.specs.Library.{LibraryView}
 use Rattle.rowed.specs.PlacedNets.{PlacedView}
 use Rattle.aqfp_top.specs.Words.{word_at}
-use Rattle.aqfp_top.specs.Loads.{net_limit, lib_limit}
+use Rattle.aqfp_top.specs.Loads.{net_limit, lib_limit, ToldTwo}
 use Rattle.aqfp_top.specs.Designs.{SaysDesign, IsChipFor, IsPlanBy, stream_of, counts_of}
 use Rattle.aqfp_top.specs.declared.planner.Planner.{Planner}
 use Rattle.aqfp_top.specs.declared.fault.WriteCall.TheVariants.{Create, Append, Close, Out}
 use Rattle.aqfp_top.specs.declared.fault.Fault.{Fault}
 use Rattle.aqfp_top.specs.declared.fault.Fault.TheVariants.{WriteFault, Memory}
 
--- these are the bytes of NET and LIB, where the store is told
-abbrev pub ToldTexts : Option Contents → List (List ℕ) → List ℕ → List ℕ → Type 0
-ToldTexts (Some files) words net lib = (files (word_at words 1) ≡ Some net) × (files (word_at words 2) ≡ Some lib)
-ToldTexts None words net lib = Unit {0}
-
 -- NET and LIB say a netlist and a library, with a chip by this plan of which this holds
 pub record IsBuilt (planner : Planner) (told : Option Contents) (words : List (List ℕ))
     (Holds : PlacedView → LibraryView → Type 0) : Type 0 where
   pub net : List ℕ
   pub lib : List ℕ
-  pub held : ToldTexts told words net lib
+  pub held : ToldTwo told words net lib
   pub net_fits : length net ≤ net_limit
   pub lib_fits : length lib ≤ lib_limit
   pub equations : NetView

@@ -111,7 +111,8 @@ pub record IsPrintedOf (printing : Printing) (told : Option Contents) (words : L
 
 -- what `out` gains: the whole text, or some first bytes of it where the fault is its own or want of memory
 abbrev pub CheckPrints : Printing → Option Contents → List (List ℕ) → Output → Output → Option Fault → Type 0
-CheckPrints printing told words before after None = IsPrintedOf printing told words (λ text. after ≡ output.printed text before)
+CheckPrints printing told words before after None = IsPrintedOf printing told words
+    (λ text. after ≡ output.printed text before)
 CheckPrints printing told words before after (Some (WriteFault call)) =
     IsPrintedOf printing told words (PrintsFirst store.Failed before after)
 CheckPrints printing told words before after (Some Memory) =

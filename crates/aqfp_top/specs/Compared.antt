@@ -4,25 +4,16 @@ use Rattle.std.specs.List.{AllZip}
 use Rattle.aq_base.specs.Output.{Output}
 use Rattle.aq_base.specs.Output as output
 use Rattle.aq_base.specs.Store.{Contents}
-use Rattle.poly_cut.specs.declared.layout.WideLayout.{WideLayout}
-use Rattle.poly_cut.specs.FlatForm.{wide_flat}
-use Rattle.gds_records.specs.Stream.{IsWideStream}
-use Rattle.cell_library.specs.Library.{LibraryView, limits_of}
-use Rattle.cell_library.specs.Says as library
-use Rattle.layout_rules.specs.Rules.{KeepsRules}
 use Rattle.blif_read.specs.Parts.{NetView}
-use Rattle.blif_read.specs.Netlist.{IsNetlist}
-use Rattle.blif_flat.specs.DesignText as netlist
 use Rattle.blif_read.specs.Equations.{IsAnswer}
-use Rattle.chip_circuit.specs.Circuits.{CircuitView, KeepsFacts}
-use Rattle.shape_extract.specs.Extraction.{IsCircuitOf}
+use Rattle.chip_circuit.specs.Circuits.{CircuitView}
 use Rattle.decide.specs.declared.verdict.Verdict.{Verdict}
 use Rattle.decide.specs.declared.verdict.Verdict.TheVariants.{Equal}
 use Rattle.pulse_sim.specs.Shows.{Shows}
 use Rattle.pulse_sim.specs.Clocked.{ShowsByClocks}
 use Rattle.chip_texts.specs.Counts.{delay_of}
 use Rattle.aqfp_top.specs.Words.{word_at}
-use Rattle.aqfp_top.specs.Comparing.{IsTrueOf, verdict_text}
+use Rattle.aqfp_top.specs.Comparing.{HasVerdict, verdict_text}
 
 -- in every run, whatever the order of switching, and by every clock whose windows keep clear at each cell and its
 -- feeds, the circuit shows the answers of the equations to these words
@@ -35,7 +26,8 @@ pub record ShowsNet (circuit : CircuitView) (equations : NetView) (given : List 
 -- The bytes under GDS are a wide stream, those under LIB say a library, the layout's shapes keep all rules with its
 -- numbers and make this circuit, and the text under NET says these equations. What was printed is true of the two: they
 -- answer every word alike, and so the chip shows the netlist's answers in every run; or this is the least output, and
--- its least word, at which they differ; or, where they are too large to be compared, some output and word at which they do.
+-- its least word, at which they differ; or, where they are too large to be compared, some output and word at which they
+-- do.
 pub record ComparesChip (held : Contents) (words : List (List ℕ)) (before after : Output) : Type 0 where
   pub gds : List ℕ
   pub lib : List ℕ
@@ -43,19 +35,8 @@ pub record ComparesChip (held : Contents) (words : List (List ℕ)) (before afte
   pub gds_held : held (word_at words 1) ≡ Some gds
   pub lib_held : held (word_at words 2) ≡ Some lib
   pub net_held : held (word_at words 3) ≡ Some net
-  pub layout : WideLayout
-  pub stream : IsWideStream gds layout
-  pub cells : LibraryView
-  pub lib_says : library.SaysLibrary lib cells
-  pub rules : KeepsRules (wide_flat layout) (limits_of cells)
-  pub circuit : CircuitView
-  pub extracted : IsCircuitOf (wide_flat layout) circuit
-  pub circuit_keeps : KeepsFacts circuit
-  pub equations : NetView
-  pub net_says : netlist.SaysNetlist net equations
-  pub net_keeps : IsNetlist equations
   pub verdict : Verdict
-  pub holds : IsTrueOf circuit equations verdict
-  pub shown : verdict ≡ Equal → (given : List (List Bool)) → All (λ word. length word ≡ circuit.inputs) given
-      → ShowsNet circuit equations given
+  pub found : HasVerdict gds lib net verdict
+  pub shown : verdict ≡ Equal → (given : List (List Bool)) → All (λ word. length word ≡ found.circuit.inputs) given
+      → ShowsNet found.circuit found.view given
   pub printed : after ≡ output.printed (verdict_text verdict) before

@@ -131,6 +131,8 @@ pub record IsToldOf (told : Option Contents) (words : List (List ℕ)) (Printed 
 -- what `out` gains: the whole line, or some first bytes of it where the fault is its own or want of memory
 abbrev pub EqualPrints : Option Contents → List (List ℕ) → Output → Output → Option Fault → Type 0
 EqualPrints told words before after None = IsToldOf told words (λ text. after ≡ output.printed text before)
-EqualPrints told words before after (Some (WriteFault call)) = IsToldOf told words (PrintsFirst store.Failed before after)
-EqualPrints told words before after (Some Memory) = (after ≡ before) ⊎ IsToldOf told words (PrintsFirst store.Memory before after)
+EqualPrints told words before after (Some (WriteFault call)) = IsToldOf told words
+    (PrintsFirst store.Failed before after)
+EqualPrints told words before after (Some Memory) = (after ≡ before)
+    ⊎ IsToldOf told words (PrintsFirst store.Memory before after)
 EqualPrints told words before after (Some fault) = after ≡ before

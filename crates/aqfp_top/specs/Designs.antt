@@ -33,7 +33,8 @@ use Rattle.aqfp_top.specs.declared.planner.Planner.TheVariants.{Layered, Compact
 use Rattle.aqfp_top.specs.declared.fault.Large.{Large}
 use Rattle.aqfp_top.specs.declared.fault.Large.TheVariants.{Slots, Rows, Cells, Elements, Shapes, Functions, Design}
 use Rattle.aqfp_top.specs.declared.fault.Fault.{Fault}
-use Rattle.aqfp_top.specs.declared.fault.Fault.TheVariants.{BadBlif, BadDesign, BadLibrary, MissingCell, TooLarge, NotCells}
+use Rattle.aqfp_top.specs.declared.fault.Fault.TheVariants.{BadBlif, BadDesign, BadLibrary, MissingCell, TooLarge}
+use Rattle.aqfp_top.specs.declared.fault.Fault.TheVariants.{NotCells}
 
 -- the text says some library
 pub record SaysLibrary (text : List ℕ) : Type 0 where
@@ -123,7 +124,8 @@ HasTooMuchOfOwn equations cells Shapes count = ⊥
 HasTooMuchOfOwn equations cells Functions count = ⊥
 HasTooMuchOfOwn equations cells Design count = ⊥
 
--- the plan finds no fault and keeps all limits: the defined one, also where a smaller chip is searched for; or that of the
+-- the plan finds no fault and keeps all limits: the defined one, also where a smaller chip is searched for; or that of
+-- the
 -- netlist's own cells
 abbrev pub KeepsPlan : Planner → NetView → LibraryView → Type 0
 KeepsPlan Layered equations cells = KeepsLimits equations cells

@@ -5,7 +5,8 @@ use Rattle.std.specs.Prelude.{Result}
 use Rattle.aq_base.specs.declared.store.LoadRefusal.TheVariants as refusal
 use Rattle.aq_base.specs.declared.store.StoreRefusal.{StoreRefusal}
 use Rattle.aq_base.specs.declared.store.StoreRefusal.TheVariants as store
-use Rattle.aq_base.specs.Heard.{Event, Loaded, NotLoaded, Created, NotCreated, NotAppended, NotClosed, took, close_event}
+use Rattle.aq_base.specs.Heard.{Event, Loaded, NotLoaded, Created, NotCreated, NotAppended, NotClosed, took}
+use Rattle.aq_base.specs.Heard.{close_event}
 use Rattle.blif_read.specs.Parts.{NetView}
 use Rattle.cell_library.specs.Library.{LibraryView}
 use Rattle.rowed.specs.PlacedNets.{PlacedView}
@@ -15,13 +16,15 @@ use Rattle.aqfp_top.specs.Words.{word_at, IsOfForm}
 use Rattle.aqfp_top.specs.Loads.{Load, net_limit, lib_limit, gds_limit, words_limit}
 use Rattle.aqfp_top.specs.Loads.{build_loads, check_loads, equal_loads, write_loads, shapes_loads}
 use Rattle.aqfp_top.specs.Stages.{Stage, Answers}
-use Rattle.aqfp_top.specs.Due.{design_stages, circuit_stages, judging_stages, comparing_stages, showing_stages, sample_stages}
+use Rattle.aqfp_top.specs.Due.{design_stages, circuit_stages, judging_stages, comparing_stages, showing_stages}
+use Rattle.aqfp_top.specs.Due.{sample_stages}
 use Rattle.aqfp_top.specs.Designs.{SaysDesign, IsChipFor, IsPlanBy, stream_of}
 use Rattle.aqfp_top.specs.Checks.{MakesCircuit}
 use Rattle.aqfp_top.specs.Histories.{loaded, loaded_three, stored}
 use Rattle.aqfp_top.specs.declared.planner.Planner.{Planner}
 use Rattle.aqfp_top.specs.declared.words.Form.{Form}
-use Rattle.aqfp_top.specs.declared.words.Form.TheVariants.{Make, Verify, Trace, Equal, Write, Report, Shapes, Sample, Wrong}
+use Rattle.aqfp_top.specs.declared.words.Form.TheVariants.{Make, Verify, Trace, Equal, Write, Report, Shapes, Sample}
+use Rattle.aqfp_top.specs.declared.words.Form.TheVariants.{Wrong}
 use Rattle.aqfp_top.specs.declared.fault.WriteCall.TheVariants.{Create, Append, Close, Out}
 use Rattle.aqfp_top.specs.declared.fault.Fault.{Fault}
 use Rattle.aqfp_top.specs.declared.fault.Fault.TheVariants.{Usage, Absent, TooLong, ReadFault, WriteFault, Memory}
@@ -141,7 +144,8 @@ pub record CutsOut (IsDue : List ℕ → Type 0) (then_heard : List Event) (hear
   pub due : IsDue bytes
   pub first : TakesFirst then_heard heard heard' (word_at words 3) bytes
 
--- What was heard where memory ran out: nothing, before OUT was to be made; or OUT was not made for want of it; or OUT took
+-- What was heard where memory ran out: nothing, before OUT was to be made; or OUT was not made for want of it; or OUT
+-- took
 -- some first bytes, and the writer wanted it, or the store; or closing was refused for it; or OUT was stored, and
 -- printing wanted it.
 abbrev pub EndsForMemory : (List ℕ → Type 0) → List Event → List Event → List (List ℕ) → Type 0

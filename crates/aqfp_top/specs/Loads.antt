@@ -1,5 +1,7 @@
 -- The files that the commands load: the places of their names among the words, and how many bytes they may have.
-use Rattle.std.specs.Prelude.{ℕ, ◌≡◌, ◌⊎◌, ◌<◌, List, [], ◌∷◌}
+use Rattle.std.specs.Prelude.{ℕ, ◌≡◌, ◌⊎◌, ◌<◌, List, [], ◌∷◌, Option, Some, None}
+use Rattle.aq_base.specs.Store.{Contents}
+use Rattle.aqfp_top.specs.Words.{word_at}
 
 -- a file to load: the place of its name among the words, counted from 0, and the most bytes that it may have
 pub record Load : Type 0 where
@@ -22,29 +24,35 @@ gds_limit = 268435456
 abbrev pub words_limit : ℕ
 words_limit = 16777216
 
+-- a first file of at most so many bytes, and LIB
+abbrev pub two_loads : ℕ → List Load
+two_loads limit = record { place = 1; limit = limit } ∷ record { place = 2; limit = lib_limit } ∷ []
+
 -- NET and LIB
 abbrev pub build_loads : List Load
-build_loads = record { place = 1; limit = net_limit } ∷ record { place = 2; limit = lib_limit } ∷ []
+build_loads = two_loads net_limit
 
 -- GDS and LIB
 abbrev pub write_loads : List Load
-write_loads = record { place = 1; limit = gds_limit } ∷ record { place = 2; limit = lib_limit } ∷ []
+write_loads = two_loads gds_limit
 
 -- GDS
 abbrev pub shapes_loads : List Load
 shapes_loads = record { place = 1; limit = gds_limit } ∷ []
 
+-- GDS, LIB and a third file of at most so many bytes
+abbrev pub three_loads : ℕ → List Load
+three_loads limit =
+    record { place = 1; limit = gds_limit } ∷ record { place = 2; limit = lib_limit }
+    ∷ record { place = 3; limit = limit } ∷ []
+
 -- GDS, LIB and NET
 abbrev pub equal_loads : List Load
-equal_loads =
-    record { place = 1; limit = gds_limit } ∷ record { place = 2; limit = lib_limit }
-    ∷ record { place = 3; limit = net_limit } ∷ []
+equal_loads = three_loads net_limit
 
 -- GDS, LIB and WORDS
 abbrev pub check_loads : List Load
-check_loads =
-    record { place = 1; limit = gds_limit } ∷ record { place = 2; limit = lib_limit }
-    ∷ record { place = 3; limit = words_limit } ∷ []
+check_loads = three_loads words_limit
 
 -- some load of these is of the file at this place
 abbrev pub IsLoaded : List Load → ℕ → Type 0
@@ -55,3 +63,8 @@ IsLoaded (load ∷ loads) place = (place ≡ load.place) ⊎ IsLoaded loads plac
 abbrev pub IsPast : List Load → ℕ → ℕ → Type 0
 IsPast [] place taken = ⊥
 IsPast (load ∷ loads) place taken = ((place ≡ load.place) × (load.limit < taken)) ⊎ IsPast loads place taken
+
+-- these are the bytes of the first file and of LIB, where the store is told
+abbrev pub ToldTwo : Option Contents → List (List ℕ) → List ℕ → List ℕ → Type 0
+ToldTwo (Some files) words first lib = (files (word_at words 1) ≡ Some first) × (files (word_at words 2) ≡ Some lib)
+ToldTwo None words first lib = Unit {0}

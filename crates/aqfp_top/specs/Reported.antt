@@ -10,7 +10,7 @@ use Rattle.layout_report.specs.ReportText.{report_text}
 use Rattle.aqfp_top.specs.Words.{word_at}
 use Rattle.aqfp_top.specs.Checks.{MakesCircuit}
 use Rattle.aqfp_top.specs.Histories.{loaded}
-use Rattle.aqfp_top.specs.Writing.{ToldTexts}
+use Rattle.aqfp_top.specs.Loads.{ToldTwo}
 
 -- the layout is a chip with this library, and the text is its report
 pub record IsReport (gds lib text : List ℕ) : Type 0 where
@@ -22,7 +22,7 @@ pub record IsReport (gds lib text : List ℕ) : Type 0 where
 pub record IsReportOf (told : Option Contents) (words : List (List ℕ)) (text : List ℕ) : Type 0 where
   pub gds : List ℕ
   pub lib : List ℕ
-  pub held : ToldTexts told words gds lib
+  pub held : ToldTwo told words gds lib
   pub report : IsReport gds lib text
 
 -- what a `report` that ends well has printed: the report of the chip of the bytes under GDS and LIB

@@ -3,21 +3,15 @@ use Rattle.std.specs.Prelude.{◌≡◌, ℕ, Bool, List, Some}
 use Rattle.aq_base.specs.Output.{Output}
 use Rattle.aq_base.specs.Output as output
 use Rattle.aq_base.specs.Store.{Contents}
-use Rattle.poly_cut.specs.declared.layout.WideLayout.{WideLayout}
-use Rattle.poly_cut.specs.FlatForm.{wide_flat}
-use Rattle.gds_records.specs.Stream.{IsWideStream}
-use Rattle.cell_library.specs.Library.{LibraryView, limits_of}
-use Rattle.cell_library.specs.Says as library
-use Rattle.layout_rules.specs.Rules.{KeepsRules}
 use Rattle.chip_circuit.specs.Circuits.{CircuitView}
-use Rattle.shape_extract.specs.Extraction.{IsCircuitOf}
 use Rattle.pulse_sim.specs.Shows.{Shows}
 use Rattle.pulse_sim.specs.Clocked.{ShowsByClocks}
 use Rattle.chip_texts.specs.Counts.{delay_of}
-use Rattle.chip_texts.specs.WordsText.{words_of, SaysWords}
+use Rattle.chip_texts.specs.WordsText.{words_of}
 use Rattle.chip_texts.specs.WordLines.{answers_text}
 use Rattle.chip_texts.specs.FluxLines.{trace_text}
 use Rattle.aqfp_top.specs.Words.{word_at}
+use Rattle.aqfp_top.specs.Checks.{IsSound}
 
 -- The bytes under GDS are a wide stream, those under LIB say a library, the layout's shapes keep all rules with its
 -- numbers and make this circuit, and the lines under WORDS are these words for it.
@@ -29,13 +23,7 @@ pub record ChecksChip (held : Contents) (words : List (List ℕ)) (circuit : Cir
   pub gds_held : held (word_at words 1) ≡ Some gds
   pub lib_held : held (word_at words 2) ≡ Some lib
   pub text_held : held (word_at words 3) ≡ Some text
-  pub layout : WideLayout
-  pub stream : IsWideStream gds layout
-  pub cells : LibraryView
-  pub lib_says : library.SaysLibrary lib cells
-  pub rules : KeepsRules (wide_flat layout) (limits_of cells)
-  pub extracted : IsCircuitOf (wide_flat layout) circuit
-  pub text_says : SaysWords circuit.inputs text
+  pub sound : IsSound gds lib text circuit
   pub given_is : given ≡ words_of text
 
 -- The chip's counts were printed, and for each word the answer that the circuit shows in every order of switching, and

@@ -6,7 +6,8 @@ use Rattle.std.specs.declared.alloc.Global.{Global}
 use Rattle.aqfp_top.specs.declared.planner.Planner.{Planner}
 use Rattle.aqfp_top.specs.declared.planner.Planner.TheVariants.{Layered, Compact, Given}
 use Rattle.aqfp_top.specs.declared.words.Form.{Form}
-use Rattle.aqfp_top.specs.declared.words.Form.TheVariants.{Make, Verify, Trace, Equal, Write, Report, Shapes, Sample, Wrong}
+use Rattle.aqfp_top.specs.declared.words.Form.TheVariants.{Make, Verify, Trace, Equal, Write, Report, Shapes, Sample}
+use Rattle.aqfp_top.specs.declared.words.Form.TheVariants.{Wrong}
 
 -- the bytes of each word
 abbrev pub spelled : List (String Global) → List (List ℕ)

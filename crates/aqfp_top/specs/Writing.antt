@@ -11,21 +11,17 @@ use Rattle.chip_circuit.specs.Circuits.{CircuitView, KeepsFacts}
 use Rattle.chip_texts.specs.Counts.{counts_line}
 use Rattle.blif_flat.specs.BlifText.{blif_text}
 use Rattle.aqfp_top.specs.Words.{word_at}
+use Rattle.aqfp_top.specs.Loads.{ToldTwo}
 use Rattle.aqfp_top.specs.Checks.{MakesCircuit}
 use Rattle.aqfp_top.specs.declared.fault.WriteCall.TheVariants.{Create, Append, Close, Out}
 use Rattle.aqfp_top.specs.declared.fault.Fault.{Fault}
 use Rattle.aqfp_top.specs.declared.fault.Fault.TheVariants.{WriteFault, Memory}
 
--- these are the bytes of GDS and LIB, where the store is told
-abbrev pub ToldTexts : Option Contents → List (List ℕ) → List ℕ → List ℕ → Type 0
-ToldTexts (Some files) words gds lib = (files (word_at words 1) ≡ Some gds) × (files (word_at words 2) ≡ Some lib)
-ToldTexts None words gds lib = Unit {0}
-
 -- the bytes of GDS and LIB make this circuit
 pub record ReadsChip (told : Option Contents) (words : List (List ℕ)) (circuit : CircuitView) : Type 0 where
   pub gds : List ℕ
   pub lib : List ℕ
-  pub held : ToldTexts told words gds lib
+  pub held : ToldTwo told words gds lib
   pub makes : MakesCircuit gds lib circuit
   pub keeps : KeepsFacts circuit
 

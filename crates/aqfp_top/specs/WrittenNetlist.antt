@@ -3,18 +3,12 @@ use Rattle.std.specs.Prelude.{◌≡◌, ℕ, List, Option, Some}
 use Rattle.aq_base.specs.Output.{Output}
 use Rattle.aq_base.specs.Output as output
 use Rattle.aq_base.specs.Store.{Contents, with_file}
-use Rattle.poly_cut.specs.declared.layout.WideLayout.{WideLayout}
-use Rattle.poly_cut.specs.FlatForm.{wide_flat}
-use Rattle.gds_records.specs.Stream.{IsWideStream}
-use Rattle.cell_library.specs.Library.{LibraryView, limits_of}
-use Rattle.cell_library.specs.Says as library
-use Rattle.layout_rules.specs.Rules.{KeepsRules}
 use Rattle.chip_circuit.specs.Circuits.{CircuitView, KeepsFacts}
-use Rattle.shape_extract.specs.Extraction.{IsCircuitOf}
 use Rattle.chip_texts.specs.Counts.{counts_line}
 use Rattle.blif_flat.specs.BlifText.{blif_text}
 use Rattle.blif_flat.specs.Written.{AnswersAsWritten}
 use Rattle.aqfp_top.specs.Words.{word_at}
+use Rattle.aqfp_top.specs.Checks.{MakesCircuit}
 
 -- The bytes are those that GDS and LIB held when the run began, though OUT may have the name of one of them: a wide
 -- stream, and a library's text. The layout's shapes keep all rules with the library's numbers and make this circuit.
@@ -26,13 +20,8 @@ pub record WritesNetlist (held : Contents) (after : Option Contents) (words : Li
   pub lib : List ℕ
   pub gds_held : held (word_at words 1) ≡ Some gds
   pub lib_held : held (word_at words 2) ≡ Some lib
-  pub layout : WideLayout
-  pub stream : IsWideStream gds layout
-  pub cells : LibraryView
-  pub lib_says : library.SaysLibrary lib cells
-  pub rules : KeepsRules (wide_flat layout) (limits_of cells)
   pub circuit : CircuitView
-  pub extracted : IsCircuitOf (wide_flat layout) circuit
+  pub makes : MakesCircuit gds lib circuit
   pub circuit_keeps : KeepsFacts circuit
   pub stored : after ≡ Some (with_file held (word_at words 3) (blif_text circuit))
   pub answers : AnswersAsWritten circuit

@@ -82,10 +82,14 @@ pub fn check<F: Files, O: Sink>(
 ) -> Result<(), Fault>
     requires { length words.now ≡ 4 }
     ensures answer { ToldAnswers check_stages (F.outside files.old).told (spelled words.now) (result_err result) }
-    ensures prints { CheckPrints printing (F.outside files.old).told (spelled words.now) (O.output out.old) (O.output out.new) (result_err result) }
+    ensures prints { CheckPrints printing (F.outside files.old).told (spelled words.now) (O.output out.old)
+        (O.output out.new) (result_err result) }
     ensures fails { OutFails (O.output out.old).heard (O.output out.new).heard (result_err result) }
-    ensures heard { OnOk result (HeardChecked printing (F.outside files.old).heard (F.outside files.new).heard (spelled words.now) (O.output out.old) (O.output out.new)) }
-    ensures due { DueOfThree check_loads judging_stages (F.outside files.old).heard (F.outside files.new).heard (spelled words.now)
+    ensures heard { OnOk result
+        (HeardChecked printing (F.outside files.old).heard (F.outside files.new).heard (spelled words.now)
+        (O.output out.old) (O.output out.new)) }
+    ensures due { DueOfThree check_loads judging_stages (F.outside files.old).heard
+        (F.outside files.new).heard (spelled words.now)
         (result_err result) }
     ensures only { IfErr result IsCheckFault }
     ensures kept { standing (F.outside files.new) ≡ standing (F.outside files.old) }

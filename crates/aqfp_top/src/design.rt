@@ -47,6 +47,15 @@ pub fn read_netlist(alloc: Global, text: &[u8]) -> Result<Netlist, Fault>
     }
 }
 
+// The netlist that the text says. The text is let go, before gates are made of its rows.
+fn netlist_of(alloc: Global, text: Vec<u8>) -> Result<Netlist, Fault>
+    requires { length text.items ≤ 2 ^ 24 }
+    ensures ok { IfOk result (λ net. netlist.SaysNetlist text.items net) }
+    ensures bad { IfErr result (OrMemory (IsNetlistFault text.items)) }
+{
+    read_netlist(alloc, text.as_slice())
+}
+
 /// The library that the text says.
 pub fn read_cells(alloc: Global, text: &[u8]) -> Result<Library, Fault>
     requires { length text.now ≤ 2 ^ 28 }
@@ -181,18 +190,18 @@ impl Chip {
     pub fn from_texts(
         alloc: Global,
         planner: Planner,
-        net: &[u8],
+        net: Vec<u8>,
         lib: &[u8],
     ) -> Result<Chip, Fault>
-        requires net { length net.now ≤ 2 ^ 24 }
+        requires net { length net.items ≤ 2 ^ 24 }
         requires lib { length lib.now ≤ 2 ^ 28 }
-        ensures made { IfOk result (MakesChip planner net.now lib.now) }
+        ensures made { IfOk result (MakesChip planner net.items lib.now) }
         ensures writable { IfOk result (λ chip. IsWritable chip.layout) }
-        ensures well { OnOk result (IsFirst (design_stages planner net.now lib.now) None) }
-        ensures bad { IfErr result (λ fault. Answers (design_stages planner net.now lib.now) (Some fault)) }
+        ensures well { OnOk result (IsFirst (design_stages planner net.items lib.now) None) }
+        ensures bad { IfErr result (λ fault. Answers (design_stages planner net.items lib.now) (Some fault)) }
         ensures only { IfErr result (IsDesignFault planner) }
     {
-        let net = read_netlist(alloc, net)?;
+        let net = netlist_of(alloc, net)?;
         let cells = read_cells(alloc, lib)?;
         let chip = Chip::of_net(alloc, planner, &net, &cells)?;
         Ok(chip)

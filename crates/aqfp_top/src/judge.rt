@@ -6,11 +6,14 @@ ghost use Rattle.layout_rules.specs.Limits.{Limits};
 ghost use Rattle.layout_rules.specs.Rules.{KeepsRules};
 ghost use Rattle.shape_extract.specs.Extracts.{Extracts};
 ghost use Rattle.shape_extract.specs.Filed.{IsFiled};
-ghost use Rattle.aqfp_top.specs.Code.Checking.{IsBroken};
+ghost use Rattle.poly_cut.specs.Conditions.{IsFlattenable};
+ghost use Rattle.poly_cut.specs.FlatForm.{wide_flat};
+ghost use Rattle.aqfp_top.specs.Code.Checking.{IsBroken, IsJudged};
 
 use crate::fault::Fault;
 use cell_library::Library;
 use geom::Flat;
+use poly_cut::{WideLayout, count_is_exact, flatten_wide};
 use rule_check::{CheckRefusal, check_filed};
 use shape_extract::{ExtractRefusal, Extracted, FiledShapes, extract_filed, file_kinds};
 use std::alloc::Global;
@@ -102,4 +105,27 @@ pub fn judge_shapes(alloc: Global, flat: &Flat, cells: &Library) -> Result<Extra
         return Err(Fault::Memory);
     };
     judge_filed(alloc, flat, &filed, cells)
+}
+
+/// The shapes of a layout and the circuit that they make.
+#[derive(Drop)]
+pub struct JudgedChip {
+    pub flat: Flat,
+    pub circuit: Extracted,
+}
+
+/// The layout's shapes and their circuit, where they keep all rules with the numbers of the library; else the first that
+/// is broken. The layout is let go as soon as it is flat.
+pub fn judged(alloc: Global, layout: WideLayout, cells: &Library) -> Result<JudgedChip, Fault>
+    requires { IsFlattenable layout }
+    ensures ok { IfOk result (IsJudged (wide_flat layout) (limits_of cells.now)) }
+    ensures bad { IfErr result (IsBroken (wide_flat layout) (limits_of cells.now)) }
+{
+    count_is_exact();
+    let Ok(flat) = flatten_wide(alloc, &layout) else {
+        return Err(Fault::Memory);
+    };
+    drop(layout);
+    let circuit = judge_shapes(alloc, &flat, cells)?;
+    Ok(JudgedChip { flat, circuit })
 }

@@ -54,7 +54,8 @@ fn add_integer<S: Sink>(sink: &mut S, page: &mut Page, n: i64) -> Result<(), Sto
 // Adds a number, after a blank.
 #[tactic(auto, using(crate::proofs::Pending::numbers))]
 fn add_after_blank<S: Sink>(sink: &mut S, page: &mut Page, number: u32) -> Result<(), StoreRefusal>
-    ensures pends { OnOk result (Pends (S.output sink.old) (S.output sink.new) page.new (page.old ++ 32 ∷ decimal number)) }
+    ensures pends { OnOk result
+        (Pends (S.output sink.old) (S.output sink.new) page.new (page.old ++ 32 ∷ decimal number)) }
     ensures part { IfErr result (PrintsPart (S.output sink.old) (S.output sink.new) (page.old ++ 32 ∷ decimal number)) }
 {
     add_byte(sink, page, b' ')?;
@@ -69,8 +70,10 @@ fn add_pair<S: Sink>(
     first: u32,
     second: u32,
 ) -> Result<(), StoreRefusal>
-    ensures pends { OnOk result (Pends (S.output sink.old) (S.output sink.new) page.new (page.old ++ pair_text first second)) }
-    ensures part { IfErr result (PrintsPart (S.output sink.old) (S.output sink.new) (page.old ++ pair_text first second)) }
+    ensures pends { OnOk result
+        (Pends (S.output sink.old) (S.output sink.new) page.new (page.old ++ pair_text first second)) }
+    ensures part { IfErr result
+        (PrintsPart (S.output sink.old) (S.output sink.new) (page.old ++ pair_text first second)) }
 {
     add_decimal(sink, page, u64::from(first))?;
     add_after_blank(sink, page, second)
@@ -97,8 +100,10 @@ fn add_signals<S: Sink>(
     page: &mut Page,
     signals: &List<ShortBytes>,
 ) -> Result<(), StoreRefusal>
-    ensures pends { OnOk result (Pends (S.output sink.old) (S.output sink.new) page.new (page.old ++ signals_text signals.now)) }
-    ensures part { IfErr result (PrintsPart (S.output sink.old) (S.output sink.new) (page.old ++ signals_text signals.now)) }
+    ensures pends { OnOk result
+        (Pends (S.output sink.old) (S.output sink.new) page.new (page.old ++ signals_text signals.now)) }
+    ensures part { IfErr result
+        (PrintsPart (S.output sink.old) (S.output sink.new) (page.old ++ signals_text signals.now)) }
 {
     for signal in signals.as_slice() {
         add_signal(sink, page, signal)?;
@@ -109,8 +114,10 @@ fn add_signals<S: Sink>(
 // Adds a piece.
 #[tactic(auto, using(crate::proofs::Pending::numbers))]
 fn add_piece<S: Sink>(sink: &mut S, page: &mut Page, piece: &Piece<'_>) -> Result<(), StoreRefusal>
-    ensures pends { OnOk result (Pends (S.output sink.old) (S.output sink.new) page.new (page.old ++ piece_text piece.now)) }
-    ensures part { IfErr result (PrintsPart (S.output sink.old) (S.output sink.new) (page.old ++ piece_text piece.now)) }
+    ensures pends { OnOk result
+        (Pends (S.output sink.old) (S.output sink.new) page.new (page.old ++ piece_text piece.now)) }
+    ensures part { IfErr result
+        (PrintsPart (S.output sink.old) (S.output sink.new) (page.old ++ piece_text piece.now)) }
 {
     match piece {
         Piece::Text(text) => add_text(sink, page, text),
@@ -128,8 +135,10 @@ fn add_pieces<S: Sink>(
     page: &mut Page,
     pieces: &[Piece<'_>],
 ) -> Result<(), StoreRefusal>
-    ensures pends { OnOk result (Pends (S.output sink.old) (S.output sink.new) page.new (page.old ++ pieces_text pieces.now)) }
-    ensures part { IfErr result (PrintsPart (S.output sink.old) (S.output sink.new) (page.old ++ pieces_text pieces.now)) }
+    ensures pends { OnOk result
+        (Pends (S.output sink.old) (S.output sink.new) page.new (page.old ++ pieces_text pieces.now)) }
+    ensures part { IfErr result
+        (PrintsPart (S.output sink.old) (S.output sink.new) (page.old ++ pieces_text pieces.now)) }
 {
     for piece in pieces {
         add_piece(sink, page, piece)?;

@@ -1,4 +1,4 @@
-// Which plan a chip is made by.
+// The plans by which commands make chips.
 
 /// Which plan a chip is made by.
 #[derive(Clone, Copy, PartialEq, Eq)]

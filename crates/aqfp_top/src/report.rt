@@ -1,7 +1,9 @@
 // The line that a fault puts to `err`.
 ghost use Rattle.std.specs.Prelude.{◌≡◌, ◌<◌, length, Some};
 ghost use Rattle.aqfp_top.specs.Words.{spelled};
-ghost use Rattle.aqfp_top.specs.Lines.{line_of, netlist_line, library_line, missing_line, line_kind_text, design_kind_text, cell_fault_text, large_text, stream_kind_text, named as named_line, Reports, IsCutShort, HasPlace};
+ghost use Rattle.aqfp_top.specs.Lines.{line_of, netlist_line, library_line, missing_line, line_kind_text};
+ghost use Rattle.aqfp_top.specs.Lines.{design_kind_text, cell_fault_text, large_text, stream_kind_text};
+ghost use Rattle.aqfp_top.specs.Lines.{named as named_line, Reports, IsCutShort, HasPlace};
 ghost use Rattle.cell_library.specs.Kinds.{key_of};
 ghost use Rattle.layout_rules.specs.RuleTable.{name_of};
 ghost use Rattle.aqfp_top.specs.Code.Pieces.{pieces_text};

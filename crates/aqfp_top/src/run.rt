@@ -3,7 +3,8 @@ ghost use Rattle.std.specs.Prelude.{◌≡◌, ℕ, Some, None, IfSome, IfOk, If
 ghost use Rattle.std.specs.Result.{result_err};
 ghost use Rattle.aq_base.specs.FaultCounts.{load_failed};
 ghost use Rattle.aq_base.specs.Store.{Contents};
-ghost use Rattle.aqfp_top.specs.Words.{spelled, IsMakeBy, IsVerify, IsTrace, IsEqual, IsWrite, IsReport, IsShapesOf, IsSampleOf, HasForm};
+ghost use Rattle.aqfp_top.specs.Words.{spelled, IsMakeBy, IsVerify, IsTrace, IsEqual, IsWrite, IsReport, IsShapesOf};
+ghost use Rattle.aqfp_top.specs.Words.{IsSampleOf, HasForm};
 ghost use Rattle.aqfp_top.specs.Statuses.{status_of};
 ghost use Rattle.aqfp_top.specs.Lines.{Reports, IsCutShort};
 ghost use Rattle.aqfp_top.specs.Due.{MayAnswer};
@@ -11,7 +12,8 @@ ghost use Rattle.aqfp_top.specs.Faults.{RunsOnly};
 ghost use Rattle.aqfp_top.specs.Counted.{counts_of, HasFaults, FailedLoad};
 ghost use Rattle.aqfp_top.specs.Build.{IsBuilt, IsDone};
 ghost use Rattle.aqfp_top.specs.Chips.{BuildsChip};
-ghost use Rattle.aqfp_top.specs.Histories.{HeardBuilt, HearsChip, HeardWritten, HearsNetlist, HeardChecked, HearsAnswers, HearsFluxes, HeardCompared, HearsVerdict};
+ghost use Rattle.aqfp_top.specs.Histories.{HeardBuilt, HearsChip, HeardWritten, HearsNetlist, HeardChecked};
+ghost use Rattle.aqfp_top.specs.Histories.{HearsAnswers, HearsFluxes, HeardCompared, HearsVerdict};
 ghost use Rattle.aqfp_top.specs.HeardSamples.{HearsSample};
 ghost use Rattle.aqfp_top.specs.HeardDue.{HearsDue};
 ghost use Rattle.aqfp_top.specs.declared.planner.Planner.{Planner};
@@ -63,19 +65,42 @@ fn work<F: Files, O: Sink>(
     requires { (F.outside files.old).opened ≡ None }
     ensures answer { ToldMayAnswer (F.outside files.old).told (spelled words.now) (result_err result) }
     ensures usage { ¬ HasForm (spelled words.now) → result_err result ≡ Some Fault.Usage }
-    ensures stands { RunStands (F.outside files.old).told (F.outside files.new).told (spelled words.now) (result_err result) }
-    ensures prints { RunPrints (F.outside files.old).told (spelled words.now) (O.output out.old) (O.output out.new) (result_err result) }
+    ensures stands { RunStands (F.outside files.old).told (F.outside files.new).told
+        (spelled words.now) (result_err result) }
+    ensures prints { RunPrints (F.outside files.old).told (spelled words.now) (O.output out.old)
+        (O.output out.new) (result_err result) }
     ensures fails { OutFails (O.output out.old).heard (O.output out.new).heard (result_err result) }
-    ensures done { IfOk result (λ _. (planner : Planner) → IsMakeBy planner (spelled words.now) → IsBuilt planner (F.outside files.old).told (spelled words.now) (IsDone (F.outside files.old).told (F.outside files.new).told (spelled words.now) (O.output out.old) (O.output out.new))) }
-    ensures written { IfOk result (λ _. IsWrite (spelled words.now) → IsRead (F.outside files.old).told (spelled words.now) (IsWritten (F.outside files.old).told (F.outside files.new).told (spelled words.now) (O.output out.old) (O.output out.new))) }
-    ensures built { IfOk result (λ _. (planner : Planner) → IsMakeBy planner (spelled words.now) → HeardBuilt planner (F.outside files.old).heard (F.outside files.new).heard (spelled words.now) (O.output out.old) (O.output out.new)) }
-    ensures checked { IfOk result (λ _. IsVerify (spelled words.now) → HeardChecked Printing.Answers (F.outside files.old).heard (F.outside files.new).heard (spelled words.now) (O.output out.old) (O.output out.new)) }
-    ensures traced { IfOk result (λ _. IsTrace (spelled words.now) → HeardChecked Printing.Fluxes (F.outside files.old).heard (F.outside files.new).heard (spelled words.now) (O.output out.old) (O.output out.new)) }
-    ensures compared { IfOk result (λ _. IsEqual (spelled words.now) → HeardCompared (F.outside files.old).heard (F.outside files.new).heard (spelled words.now) (O.output out.old) (O.output out.new)) }
-    ensures netlisted { IfOk result (λ _. IsWrite (spelled words.now) → HeardWritten (F.outside files.old).heard (F.outside files.new).heard (spelled words.now) (O.output out.old) (O.output out.new)) }
-    ensures reported { IfOk result (λ _. IsReport (spelled words.now) → HearsReport (F.outside files.old).heard (F.outside files.new).heard (spelled words.now) (O.output out.old) (O.output out.new)) }
-    ensures shown { IfOk result (λ _. (first second : ℕ) → IsShapesOf (spelled words.now) first second → HearsShapes (F.outside files.old).heard (F.outside files.new).heard (spelled words.now) first second (O.output out.old) (O.output out.new)) }
-    ensures due { HearsDue (F.outside files.old).heard (F.outside files.new).heard (spelled words.now) (result_err result) }
+    ensures done { IfOk result (λ _. (planner : Planner) → IsMakeBy planner (spelled words.now)
+        → IsBuilt planner (F.outside files.old).told (spelled words.now)
+        (IsDone (F.outside files.old).told (F.outside files.new).told (spelled words.now)
+        (O.output out.old) (O.output out.new))) }
+    ensures written { IfOk result (λ _. IsWrite (spelled words.now)
+        → IsRead (F.outside files.old).told (spelled words.now)
+        (IsWritten (F.outside files.old).told (F.outside files.new).told (spelled words.now)
+        (O.output out.old) (O.output out.new))) }
+    ensures built { IfOk result (λ _. (planner : Planner) → IsMakeBy planner (spelled words.now)
+        → HeardBuilt planner (F.outside files.old).heard (F.outside files.new).heard (spelled words.now)
+        (O.output out.old) (O.output out.new)) }
+    ensures checked { IfOk result (λ _. IsVerify (spelled words.now)
+        → HeardChecked Printing.Answers (F.outside files.old).heard (F.outside files.new).heard (spelled words.now)
+        (O.output out.old) (O.output out.new)) }
+    ensures traced { IfOk result (λ _. IsTrace (spelled words.now)
+        → HeardChecked Printing.Fluxes (F.outside files.old).heard (F.outside files.new).heard (spelled words.now)
+        (O.output out.old) (O.output out.new)) }
+    ensures compared { IfOk result (λ _. IsEqual (spelled words.now)
+        → HeardCompared (F.outside files.old).heard (F.outside files.new).heard (spelled words.now)
+        (O.output out.old) (O.output out.new)) }
+    ensures netlisted { IfOk result (λ _. IsWrite (spelled words.now)
+        → HeardWritten (F.outside files.old).heard (F.outside files.new).heard (spelled words.now)
+        (O.output out.old) (O.output out.new)) }
+    ensures reported { IfOk result (λ _. IsReport (spelled words.now)
+        → HearsReport (F.outside files.old).heard (F.outside files.new).heard (spelled words.now)
+        (O.output out.old) (O.output out.new)) }
+    ensures shown { IfOk result (λ _. (first second : ℕ) → IsShapesOf (spelled words.now) first second
+        → HearsShapes (F.outside files.old).heard (F.outside files.new).heard (spelled words.now) first second
+        (O.output out.old) (O.output out.new)) }
+    ensures due { HearsDue (F.outside files.old).heard (F.outside files.new).heard
+        (spelled words.now) (result_err result) }
     ensures only { IfErr result (RunsOnly (spelled words.now)) }
     ensures shut { (F.outside files.new).opened ≡ None }
 {
@@ -108,14 +133,16 @@ pub fn aqfp_run<F: Files, O: Sink, E: Sink>(
     // The answer is what is due, of which there is one (`one_answer_is_due`), or want of memory, or a failed load,
     // write or close: a load that the work comes to, a write or close where nothing is due. The count of the failure
     // rose by what was heard, and the load is the last that failed.
-    ensures due { (held : Contents) → (F.outside files.old).told ≡ Some held → MayAnswer held (spelled words.now) result.fault }
+    ensures due { (held : Contents) → (F.outside files.old).told ≡ Some held
+        → MayAnswer held (spelled words.now) result.fault }
     ensures faults { HasFaults (counts_of (F.outside files.old).heard (O.output out.old).heard)
         (counts_of (F.outside files.new).heard (O.output out.new).heard) result.fault }
     ensures failed { FailedLoad (load_failed (F.outside files.new).heard) (spelled words.now) result.fault }
 
     // The same of any store, the system's files too. By what was heard the answer says why a load was refused, or it is
     // what the texts may answer that all loads gave; and of the bytes that were due OUT took what that answer tells.
-    ensures hears_due { HearsDue (F.outside files.old).heard (F.outside files.new).heard (spelled words.now) result.fault }
+    ensures hears_due { HearsDue (F.outside files.old).heard (F.outside files.new).heard
+        (spelled words.now) result.fault }
 
     // Which faults a command may answer, whatever the store tells; the usage where there is none.
     ensures only { IfSome result.fault (RunsOnly (spelled words.now)) }
@@ -123,7 +150,8 @@ pub fn aqfp_run<F: Files, O: Sink, E: Sink>(
 
     // What a command that makes a chip has made where it ends well: a chip of its netlist, whatever the order of
     // switching.
-    ensures chip { (held : Contents) (planner : Planner) → (F.outside files.old).told ≡ Some held → IsMakeBy planner (spelled words.now) → result.fault ≡ None
+    ensures chip { (held : Contents) (planner : Planner) → (F.outside files.old).told ≡ Some held
+        → IsMakeBy planner (spelled words.now) → result.fault ≡ None
         → BuildsChip held (F.outside files.new).told (spelled words.now) (O.output out.old) (O.output out.new) }
 
     // The same of any store, the system's files too: what NET and LIB gave, and what OUT took.
@@ -136,9 +164,11 @@ pub fn aqfp_run<F: Files, O: Sink, E: Sink>(
 
     // What a check that ends well has shown: the answers to the words, whatever the order of switching and by every
     // clock whose windows keep clear, or the fluxes.
-    ensures verified { (held : Contents) → (F.outside files.old).told ≡ Some held → IsVerify (spelled words.now) → result.fault ≡ None
+    ensures verified { (held : Contents) → (F.outside files.old).told ≡ Some held
+        → IsVerify (spelled words.now) → result.fault ≡ None
         → VerifiesChip held (spelled words.now) (O.output out.old) (O.output out.new) }
-    ensures traced { (held : Contents) → (F.outside files.old).told ≡ Some held → IsTrace (spelled words.now) → result.fault ≡ None
+    ensures traced { (held : Contents) → (F.outside files.old).told ≡ Some held
+        → IsTrace (spelled words.now) → result.fault ≡ None
         → TracesChip held (spelled words.now) (O.output out.old) (O.output out.new) }
 
     // The same of any store: what GDS, LIB and WORDS gave.
@@ -148,7 +178,8 @@ pub fn aqfp_run<F: Files, O: Sink, E: Sink>(
         → HearsFluxes (F.outside files.old).heard (F.outside files.new).heard (spelled words.now) (O.output out.old) (O.output out.new) }
 
     // What a comparison that ends well has shown: that chip and netlist answer every word alike, or where first not.
-    ensures compared { (held : Contents) → (F.outside files.old).told ≡ Some held → IsEqual (spelled words.now) → result.fault ≡ None
+    ensures compared { (held : Contents) → (F.outside files.old).told ≡ Some held
+        → IsEqual (spelled words.now) → result.fault ≡ None
         → ComparesChip held (spelled words.now) (O.output out.old) (O.output out.new) }
 
     // The same of any store: what GDS, LIB and NET gave.
@@ -156,7 +187,8 @@ pub fn aqfp_run<F: Files, O: Sink, E: Sink>(
         → HearsVerdict (F.outside files.old).heard (F.outside files.new).heard (spelled words.now) (O.output out.old) (O.output out.new) }
 
     // What a `netlist` that ends well has stored: the chip's circuit as a netlist that answers every word as it does.
-    ensures written { (held : Contents) → (F.outside files.old).told ≡ Some held → IsWrite (spelled words.now) → result.fault ≡ None
+    ensures written { (held : Contents) → (F.outside files.old).told ≡ Some held
+        → IsWrite (spelled words.now) → result.fault ≡ None
         → WritesNetlist held (F.outside files.new).told (spelled words.now) (O.output out.old) (O.output out.new) }
 
     // The same of any store, the system's files too: what GDS and LIB gave, and what OUT took.
@@ -168,20 +200,23 @@ pub fn aqfp_run<F: Files, O: Sink, E: Sink>(
         → HearsSample bits (F.outside files.old).heard (F.outside files.new).heard (O.output out.old) (O.output out.new) }
 
     // What a `report` that ends well has printed: the counts of the chip, its cells by kind, its size and its wires.
-    ensures reported { (held : Contents) → (F.outside files.old).told ≡ Some held → IsReport (spelled words.now) → result.fault ≡ None
+    ensures reported { (held : Contents) → (F.outside files.old).told ≡ Some held
+        → IsReport (spelled words.now) → result.fault ≡ None
         → ReportsChip held (spelled words.now) (O.output out.old) (O.output out.new) }
     ensures hears_report { IsReport (spelled words.now) → result.fault ≡ None
         → HearsReport (F.outside files.old).heard (F.outside files.new).heard (spelled words.now) (O.output out.old) (O.output out.new) }
 
     // What a `shapes` that ends well has printed: the lines of the shapes or labels of two numbers.
-    ensures shown { (held : Contents) (first second : ℕ) → (F.outside files.old).told ≡ Some held → IsShapesOf (spelled words.now) first second → result.fault ≡ None
+    ensures shown { (held : Contents) (first second : ℕ) → (F.outside files.old).told ≡ Some held
+        → IsShapesOf (spelled words.now) first second → result.fault ≡ None
         → ShowsShapes held (spelled words.now) first second (O.output out.old) (O.output out.new) }
     ensures hears_shapes { (first second : ℕ) → IsShapesOf (spelled words.now) first second → result.fault ≡ None
         → HearsShapes (F.outside files.old).heard (F.outside files.new).heard (spelled words.now) first second (O.output out.old) (O.output out.new) }
 
     // What is left.
     ensures stands { RunStands (F.outside files.old).told (F.outside files.new).told (spelled words.now) result.fault }
-    ensures prints { RunPrints (F.outside files.old).told (spelled words.now) (O.output out.old) (O.output out.new) result.fault }
+    ensures prints { RunPrints (F.outside files.old).told (spelled words.now) (O.output out.old)
+        (O.output out.new) result.fault }
     ensures shut { (F.outside files.new).opened ≡ None }
     ensures reports { Reports IsCutShort (E.output err.old) (E.output err.new) (spelled words.now) result.fault }
 {

@@ -102,7 +102,8 @@ fn print_lines<O: Sink>(
     out: &mut O,
 ) -> Result<(), Fault>
     requires { flat_count flat.now < 2 ^ 32 }
-    ensures prints { TextPrints (HasLines flat.now first second) (O.output out.old) (O.output out.new) (result_err result) }
+    ensures prints { TextPrints (HasLines flat.now first second) (O.output out.old)
+        (O.output out.new) (result_err result) }
     ensures fails { OutFails (O.output out.old).heard (O.output out.new).heard (result_err result) }
     ensures bad { IfErr result (IsNamingFault flat.now first second) }
 {
@@ -119,7 +120,8 @@ fn show_layout<O: Sink>(
     out: &mut O,
 ) -> Result<(), Fault>
     requires { IsFlattenable layout }
-    ensures prints { TextPrints (HasLines (wide_flat layout) first second) (O.output out.old) (O.output out.new) (result_err result) }
+    ensures prints { TextPrints (HasLines (wide_flat layout) first second) (O.output out.old)
+        (O.output out.new) (result_err result) }
     ensures fails { OutFails (O.output out.old).heard (O.output out.new).heard (result_err result) }
     ensures bad { IfErr result (IsNamingFault (wide_flat layout) first second) }
 {
@@ -143,7 +145,8 @@ fn show<O: Sink>(
 ) -> Result<(), Fault>
     requires { length gds.items ≤ gds_limit }
     ensures answer { Answers (showing_stages gds.items first second) (result_err result) }
-    ensures prints { TextPrints (AreShapes gds.items first second) (O.output out.old) (O.output out.new) (result_err result) }
+    ensures prints { TextPrints (AreShapes gds.items first second) (O.output out.old)
+        (O.output out.new) (result_err result) }
     ensures fails { OutFails (O.output out.old).heard (O.output out.new).heard (result_err result) }
     ensures only { IfErr result IsShowingFault }
 {
@@ -164,12 +167,17 @@ pub fn shapes<F: Files, O: Sink>(
     out: &mut O,
 ) -> Result<(), Fault>
     requires { length words.now ≡ 4 }
-    ensures answer { ToldAnswers (shapes_stages first second) (F.outside files.old).told (spelled words.now) (result_err result) }
-    ensures prints { TextPrints (IsShownOf (F.outside files.old).told (spelled words.now) first second) (O.output out.old) (O.output out.new) (result_err result) }
-    ensures fails { OutFails (O.output out.old).heard (O.output out.new).heard (result_err result) }
-    ensures due { DueOfOne (λ gds. showing_stages gds first second) (F.outside files.old).heard (F.outside files.new).heard
+    ensures answer { ToldAnswers (shapes_stages first second) (F.outside files.old).told
         (spelled words.now) (result_err result) }
-    ensures heard { OnOk result (HearsShapes (F.outside files.old).heard (F.outside files.new).heard (spelled words.now) first second (O.output out.old) (O.output out.new)) }
+    ensures prints { TextPrints (IsShownOf (F.outside files.old).told (spelled words.now) first second)
+        (O.output out.old) (O.output out.new) (result_err result) }
+    ensures fails { OutFails (O.output out.old).heard (O.output out.new).heard (result_err result) }
+    ensures due { DueOfOne (λ gds. showing_stages gds first second) (F.outside files.old).heard
+        (F.outside files.new).heard
+        (spelled words.now) (result_err result) }
+    ensures heard { OnOk result
+        (HearsShapes (F.outside files.old).heard (F.outside files.new).heard (spelled words.now) first second
+        (O.output out.old) (O.output out.new)) }
     ensures only { IfErr result IsShapesFault }
     ensures kept { standing (F.outside files.new) ≡ standing (F.outside files.old) }
 {

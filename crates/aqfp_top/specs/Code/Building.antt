@@ -47,7 +47,8 @@ abbrev pub IsMade : Planner → Option Contents → List (List ℕ) → Chip →
 IsMade planner told words chip = IsBuilt planner told words (λ placed cells. IsDrawn placed cells chip)
 
 -- the chip is one of the bytes that NET and LIB gave, by this plan, and nothing else was heard
-pub record HeardMade (planner : Planner) (heard heard' : List Event) (words : List (List ℕ)) (chip : Chip) : Type 0 where
+pub record HeardMade (planner : Planner) (heard heard' : List Event) (words : List (List ℕ))
+    (chip : Chip) : Type 0 where
   pub net : List ℕ
   pub lib : List ℕ
   pub net_fits : length net ≤ net_limit

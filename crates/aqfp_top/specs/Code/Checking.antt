@@ -1,14 +1,17 @@
 -- The stages of a check in steps.
-use Rattle.std.specs.Prelude.{ℕ, List, ◌∷◌, ◌++◌}
+use Rattle.std.specs.Prelude.{ℕ, ◌≡◌, ◌<◌, ◌^◌, List, ◌∷◌, ◌++◌}
 use Rattle.aq_base.specs.Store.{Contents}
 use Rattle.geom.specs.declared.shapes.Flat.{Flat}
+use Rattle.geom.specs.FlatForm.{flat_count}
 use Rattle.layout_rules.specs.Limits.{Limits}
 use Rattle.layout_rules.specs.Rules.{KeepsRules, FirstBroken}
 use Rattle.chip_circuit.specs.Circuits.{CircuitView}
 use Rattle.shape_extract.specs.Extraction.{IsCircuitOf}
+use Rattle.shape_extract.specs.Extracts.{Extracts}
 use Rattle.aqfp_top.specs.Loads.{check_loads}
 use Rattle.aqfp_top.specs.Due.{loading}
 use Rattle.aqfp_top.specs.Stages.{Stage, Stream, Size, Cells, Rules}
+use Rattle.aqfp_top.specs.declared.judge.JudgedChip.{JudgedChip}
 use Rattle.aqfp_top.specs.declared.fault.Large.TheVariants.{Shapes}
 use Rattle.aqfp_top.specs.declared.fault.Fault.{Fault}
 use Rattle.aqfp_top.specs.declared.fault.Fault.TheVariants.{BadLibrary, MissingCell, TooLarge, BadStream, RuleBroken}
@@ -32,6 +35,17 @@ IsBroken flat limits _ = ⊥
 pub record IsRuled (flat : Flat) (limits : Limits) (circuit : CircuitView) : Type 0 where
   pub rules : KeepsRules flat limits
   pub circuit_is : IsCircuitOf flat circuit
+
+-- the shapes keep all rules with these numbers, and make the circuit
+pub record KeepsAll (limits : Limits) (chip : JudgedChip) : Type 0 where
+  pub few : flat_count chip.flat < 2 ^ 32
+  pub rules : KeepsRules chip.flat limits
+  pub extracts : Extracts chip.flat chip.circuit
+
+-- these are the shapes
+pub record IsJudged (flat : Flat) (limits : Limits) (chip : JudgedChip) : Type 0 where
+  pub flat_is : chip.flat ≡ flat
+  pub keeps : KeepsAll limits chip
 
 -- the faults of judging a layout and a library
 abbrev pub IsCircuitFault : Fault → Type 0

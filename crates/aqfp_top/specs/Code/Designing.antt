@@ -47,7 +47,8 @@ pub record MakesChip (planner : Planner) (net lib : List ℕ) (chip : Chip) : Ty
   pub says : SaysDesign net lib equations cells
   pub made : IsChipOf planner equations cells chip
 
--- the placed net was planned: it is that of the defined plan, or one that was searched for, or of the netlist's own cells
+-- the placed net was planned: it is that of the defined plan, or one that was searched for, or of the netlist's own
+-- cells
 abbrev pub IsPlannedBy : Planner → NetView → LibraryView → PlacedView → Type 0
 IsPlannedBy Layered equations cells placed = IsPlanned cells equations placed
 IsPlannedBy Compact equations cells placed = IsCompactChip cells equations placed

@@ -24,7 +24,8 @@ HeardStored heard heard' name bytes (WriteFault Close) = IsLeft store.Failed hea
 HeardStored heard heard' name bytes Memory =
     (heard' ≡ NotCreated name store.Memory ∷ heard)
     ⊎ (TakesFirst [] heard heard' name bytes
-    ⊎ (TakesFirst (NotAppended store.Memory ∷ []) heard heard' name bytes ⊎ IsLeft store.Memory heard heard' name bytes))
+    ⊎ (TakesFirst (NotAppended store.Memory ∷ []) heard heard' name bytes
+    ⊎ IsLeft store.Memory heard heard' name bytes))
 HeardStored heard heard' name bytes _ = Unit {0}
 
 -- the first file and LIB gave these texts, of which nothing is wrong, nothing else was heard, and these bytes are due

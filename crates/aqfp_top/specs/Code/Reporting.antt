@@ -1,28 +1,12 @@
 -- The words of the steps of a report and of naming shapes.
-use Rattle.std.specs.Prelude.{ℕ, ◌≡◌, ◌<◌, ◌^◌}
+use Rattle.std.specs.Prelude.{ℕ}
 use Rattle.geom.specs.declared.shapes.Flat.{Flat}
-use Rattle.geom.specs.FlatForm.{flat_count}
-use Rattle.layout_rules.specs.Limits.{Limits}
-use Rattle.layout_rules.specs.Rules.{KeepsRules}
-use Rattle.shape_extract.specs.Extracts.{Extracts}
 use Rattle.aqfp_top.specs.Shown.{IsNoShape}
 use Rattle.aqfp_top.specs.Code.Checking.{IsCircuitFault}
-use Rattle.aqfp_top.specs.declared.chip_report.JudgedChip.{JudgedChip}
 use Rattle.aqfp_top.specs.declared.fault.Large.TheVariants.{Shapes}
 use Rattle.aqfp_top.specs.declared.fault.WriteCall.TheVariants.{Out}
 use Rattle.aqfp_top.specs.declared.fault.Fault.{Fault}
 use Rattle.aqfp_top.specs.declared.fault.Fault.TheVariants.{WriteFault, TooLarge, BadStream, NoShape, Memory}
-
--- the shapes keep all rules with these numbers, and make the circuit
-pub record KeepsAll (limits : Limits) (chip : JudgedChip) : Type 0 where
-  pub few : flat_count chip.flat < 2 ^ 32
-  pub rules : KeepsRules chip.flat limits
-  pub extracts : Extracts chip.flat chip.circuit
-
--- these are the shapes
-pub record IsJudged (flat : Flat) (limits : Limits) (chip : JudgedChip) : Type 0 where
-  pub flat_is : chip.flat ≡ flat
-  pub keeps : KeepsAll limits chip
 
 -- the faults of judging a layout and a library, and of printing
 abbrev pub IsPrintingFault : Fault → Type 0
@@ -41,14 +25,14 @@ abbrev pub IsPastFault : Flat → ℕ → ℕ → Fault → Type 0
 IsPastFault flat first second (NoShape number count) = IsNoShape flat first second number count
 IsPastFault flat first second _ = ⊥
 
--- the faults of naming shapes of a flat form by two numbers
+-- the faults of naming shapes of a flat form by two numbers, and of printing them
 abbrev pub IsNamingFault : Flat → ℕ → ℕ → Fault → Type 0
 IsNamingFault flat first second (NoShape number count) = IsNoShape flat first second number count
 IsNamingFault flat first second (WriteFault Out) = Unit {0}
 IsNamingFault flat first second Memory = Unit {0}
 IsNamingFault flat first second _ = ⊥
 
--- the faults of judging a layout, and of naming its shapes
+-- the faults of judging a layout, of naming its shapes, and of printing
 abbrev pub IsShowingFault : Fault → Type 0
 IsShowingFault (NoShape number count) = Unit {0}
 IsShowingFault (WriteFault Out) = Unit {0}

@@ -1,8 +1,9 @@
 -- What stages may answer, where they work on the files of a store.
-use Rattle.std.specs.Prelude.{ℕ, List, Option, Some, None}
+use Rattle.std.specs.Prelude.{ℕ, List, ◌++◌, Option, Some, None}
 use Rattle.aq_base.specs.Store.{Contents}
 use Rattle.aqfp_top.specs.Stages.{Stage, Answers}
-use Rattle.aqfp_top.specs.Due.{MayAnswer}
+use Rattle.aqfp_top.specs.Loads.{two_loads}
+use Rattle.aqfp_top.specs.Due.{loading, MayAnswer}
 use Rattle.aqfp_top.specs.declared.fault.Fault.{Fault}
 use Rattle.aqfp_top.specs.declared.fault.Fault.TheVariants.{Memory}
 
@@ -21,3 +22,7 @@ ToldAnswers stages None words answer = Unit {0}
 abbrev pub ToldMayAnswer : Option Contents → List (List ℕ) → Option Fault → Type 0
 ToldMayAnswer (Some files) words answer = MayAnswer files words answer
 ToldMayAnswer None words answer = Unit {0}
+
+-- loading a first file of at most so many bytes and LIB, and what follows
+abbrev pub two_then : ℕ → (Contents → List (List ℕ) → List Stage) → Contents → List (List ℕ) → List Stage
+two_then limit rest files words = loading files words (two_loads limit) ++ rest files words

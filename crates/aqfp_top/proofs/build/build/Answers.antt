@@ -7,7 +7,7 @@ use Rattle.aqfp_top.proofs.Steps.{build_answers, build_stands, build_prints, bui
 use Rattle.aqfp_top.proofs.Storing.{stores_shut}
 use Rattle.aqfp_top.proofs.OutEnds.{text_fails}
 use Rattle.aqfp_top.proofs.Hearing.{build_heard}
-use Rattle.aqfp_top.proofs.HearingDue.{design_ends, counts_end}
+use Rattle.aqfp_top.proofs.HearingDue.{design_ends, store_ends, counts_end}
 use Rattle.aqfp_top.proofs.build.build.Goals as goal
 
 pub returns-in_err-store-clause-shut : goal.returns-in_err-store-clause-shut
@@ -15,26 +15,39 @@ returns-in_err-store-clause-shut g c = stores_shut _ _ _ _ _ c.in_err-store.ensu
 
 pub returns-in_err-chip-clause-due : goal.returns-in_err-chip-clause-due
 returns-in_err-chip-clause-due g c =
-    let due = design_ends c.args.planner build_loads net_limit (design_stages c.args.planner) (IsStreamBy c.args.planner)
+    let due = design_ends c.args.planner build_loads net_limit (design_stages c.args.planner)
+    (IsStreamBy c.args.planner)
     (g.F.Files.outside c.args.files.now).heard (g.F.Files.outside c.make.new.files).heard (spelled c.args.words.now)
     c.in_err-chip.field-0.0 c.in_err-chip.ensures.only c.in_err-chip.ensures.heard_bad in
     let p = err_from_is_err_and c.from_residual.result c.from_residual.ensures.1 in
     rw (p.1, p.2) due
 
+pub returns-in_err-store-clause-due : goal.returns-in_err-store-clause-due
+returns-in_err-store-clause-due g c =
+    let due = store_ends build_loads net_limit (design_stages c.args.planner) (IsStreamBy c.args.planner)
+    (g.F.Files.outside c.args.files.now).heard (g.F.Files.outside c.make.new.files)
+    (g.F.Files.outside c.store.new.files) (spelled c.args.words.now) _ _ c.in_err-store.field-0.0
+    c.in_ok-chip.ensures.heard_well c.word.ensures c.in_err-store.ensures in
+    let p = err_from_is_err_and c.from_residual-in_err-store.result c.from_residual-in_err-store.ensures.1 in
+    rw (p.1, p.2) due
+
 pub returns-clause-answer : goal.returns-clause-answer
 returns-clause-answer g c =
-    build_answers c.args.planner (g.F.Files.outside c.args.files.now).told (spelled c.args.words.now) _ _ _ c.put_counts.result c.in_ok-chip.ensures.well
+    build_answers c.args.planner (g.F.Files.outside c.args.files.now).told
+    (spelled c.args.words.now) _ _ _ c.put_counts.result c.in_ok-chip.ensures.well
     c.put_counts.ensures
 
 pub returns-clause-stands : goal.returns-clause-stands
 returns-clause-stands g c =
-    build_stands c.args.planner (g.F.Files.outside c.args.files.now) (g.F.Files.outside c.make.new.files) _ (spelled c.args.words.now) _ c.in_ok-chip.chip _ _ _ _
+    build_stands c.args.planner (g.F.Files.outside c.args.files.now) (g.F.Files.outside c.make.new.files) _
+    (spelled c.args.words.now) _ c.in_ok-chip.chip _ _ _ _
     c.put_counts.result c.in_ok-chip.ensures.made c.in_ok-chip.ensures.kept c.word.ensures c.in_ok-store.ensures
     c.put_counts.ensures
 
 pub returns-clause-prints : goal.returns-clause-prints
 returns-clause-prints g c =
-    build_prints c.args.planner (g.F.Files.outside c.args.files.now).told (spelled c.args.words.now) c.in_ok-chip.chip _ _ c.put_counts.result
+    build_prints c.args.planner (g.F.Files.outside c.args.files.now).told
+    (spelled c.args.words.now) c.in_ok-chip.chip _ _ c.put_counts.result
     c.in_ok-chip.ensures.made c.put_counts.ensures
 
 pub returns-clause-fails : goal.returns-clause-fails
@@ -42,13 +55,15 @@ returns-clause-fails g c = text_fails _ _ _ c.put_counts.result c.put_counts.ens
 
 pub returns-clause-done : goal.returns-clause-done
 returns-clause-done g c =
-    build_done c.args.planner (g.F.Files.outside c.args.files.now) (g.F.Files.outside c.make.new.files) _ (spelled c.args.words.now) _ c.in_ok-chip.chip _ _ _
+    build_done c.args.planner (g.F.Files.outside c.args.files.now) (g.F.Files.outside c.make.new.files) _
+    (spelled c.args.words.now) _ c.in_ok-chip.chip _ _ _
     c.put_counts.result c.in_ok-chip.ensures.made c.in_ok-chip.ensures.kept c.word.ensures c.in_ok-store.ensures
     c.put_counts.ensures
 
 pub returns-clause-heard : goal.returns-clause-heard
 returns-clause-heard g c =
-    build_heard c.args.planner _ (g.F.Files.outside c.make.new.files) _ (spelled c.args.words.now) _ c.in_ok-chip.chip _ _ _
+    build_heard c.args.planner _ (g.F.Files.outside c.make.new.files) _
+    (spelled c.args.words.now) _ c.in_ok-chip.chip _ _ _
     c.put_counts.result c.in_ok-chip.ensures.heard c.word.ensures c.in_ok-store.ensures c.put_counts.ensures
 
 pub returns-clause-due : goal.returns-clause-due

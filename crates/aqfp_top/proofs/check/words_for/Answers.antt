@@ -9,14 +9,17 @@ use Rattle.aqfp_top.proofs.check.words_for.Goals as goal
 pub returns-in-Ok-clause-well : goal.returns-in-Ok-clause-well
 returns-in-Ok-clause-well c = λ gds lib makes before.
     words_are_well gds lib c.args.text.now before
-    (words_none (one_layout c.one_wide_reading.ensures.layout) c.one_circuit.ensures gds lib c.args.text.now c.args.circuit.now
+    (words_none (one_layout c.one_wide_reading.ensures.layout) c.one_circuit.ensures gds lib
+    c.args.text.now c.args.circuit.now
     (is_sound gds lib c.args.text.now c.args.circuit.now makes
-    (subst (λ (circuit : CircuitView). SaysWords circuit.inputs c.args.text.now) c.circuit.view_is c.in-Ok.ensures.says)))
+    (subst (λ (circuit : CircuitView). SaysWords circuit.inputs c.args.text.now)
+    c.circuit.view_is c.in-Ok.ensures.says)))
 
 pub returns-in-Err-clause-bad : goal.returns-in-Err-clause-bad
 returns-in-Err-clause-bad c = λ gds lib makes before.
     misworded_answers gds lib c.args.text.now c.args.circuit.now c.in-Err.bad.line makes before
-    (subst (λ (circuit : CircuitView). IsBadLine circuit.inputs c.args.text.now c.in-Err.bad.line) c.circuit.view_is c.in-Err.ensures.bad)
+    (subst (λ (circuit : CircuitView). IsBadLine circuit.inputs c.args.text.now c.in-Err.bad.line)
+    c.circuit.view_is c.in-Err.ensures.bad)
 
 pub returns-in-Ok-clause-bad : goal.returns-in-Ok-clause-bad
 returns-in-Ok-clause-bad c = λ gds lib makes before. tt

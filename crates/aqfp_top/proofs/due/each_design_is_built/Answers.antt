@@ -12,7 +12,8 @@ use Rattle.aqfp_top.proofs.due.each_design_is_built.Goals as goal
 pub returns-clause-due : goal.returns-clause-due
 returns-clause-due c files words net lib equations cells planner form net_held lib_held net_fits lib_fits says limits =
     let passes = passes_none c.plan_laws.ensures.past c.plan_laws.ensures.only equations cells in
-    let well = design_is_well planner net lib equations cells says.net_says says.lib_says (planner_well planner equations cells passes limits) in
+    let well = design_is_well planner net lib equations cells says.net_says says.lib_says
+    (planner_well planner equations cells passes limits) in
     record {
       form = Make planner;
       is_form = form;
@@ -20,8 +21,10 @@ returns-clause-due c files words net lib equations cells planner form net_held l
         file_loads files words 1 net_limit net net_held net_fits,
         (
           file_loads files words 2 lib_limit lib lib_held lib_fits,
-          subst (λ b. IsFirst (design_stages planner b (bytes_at files words 2)) None) (sym (held_bytes files words 1 net net_held))
-              (subst (λ b. IsFirst (design_stages planner net b) None) (sym (held_bytes files words 2 lib lib_held)) well),
+          subst (λ b. IsFirst (design_stages planner b (bytes_at files words 2)) None)
+              (sym (held_bytes files words 1 net net_held))
+              (subst (λ b. IsFirst (design_stages planner net b) None)
+              (sym (held_bytes files words 2 lib lib_held)) well),
         ),
       );
     }

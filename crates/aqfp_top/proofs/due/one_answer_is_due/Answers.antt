@@ -8,12 +8,15 @@ returns-clause-some c = some_due
 
 pub returns-clause-once : goal.returns-clause-once
 returns-clause-once c =
-    due_once (once c.plan_laws.ensures.past c.plan_laws.ensures.only (one_layout c.one_wide_reading.ensures.layout) (one_fault c.one_wide_reading.ensures.one_fault) c.first_broken_once.ensures c.one_circuit.ensures)
+    due_once (once c.plan_laws.ensures.past c.plan_laws.ensures.only (one_layout c.one_wide_reading.ensures.layout)
+    (one_fault c.one_wide_reading.ensures.one_fault) c.first_broken_once.ensures c.one_circuit.ensures)
 
 pub returns-clause-comes : goal.returns-clause-comes
 returns-clause-comes c =
-    due_comes (once c.plan_laws.ensures.past c.plan_laws.ensures.only (one_layout c.one_wide_reading.ensures.layout) (one_fault c.one_wide_reading.ensures.one_fault) c.first_broken_once.ensures c.one_circuit.ensures)
+    due_comes (once c.plan_laws.ensures.past c.plan_laws.ensures.only (one_layout c.one_wide_reading.ensures.layout)
+    (one_fault c.one_wide_reading.ensures.one_fault) c.first_broken_once.ensures c.one_circuit.ensures)
 
 pub returns-clause-complete : goal.returns-clause-complete
 returns-clause-complete c =
-    due_complete (once c.plan_laws.ensures.past c.plan_laws.ensures.only (one_layout c.one_wide_reading.ensures.layout) (one_fault c.one_wide_reading.ensures.one_fault) c.first_broken_once.ensures c.one_circuit.ensures)
+    due_complete (once c.plan_laws.ensures.past c.plan_laws.ensures.only (one_layout c.one_wide_reading.ensures.layout)
+    (one_fault c.one_wide_reading.ensures.one_fault) c.first_broken_once.ensures c.one_circuit.ensures)

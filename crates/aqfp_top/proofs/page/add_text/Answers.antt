@@ -9,7 +9,8 @@ returns-in_err-add_byte-clause-part g c =
     let text = c.args.text.now in
     let i = c.loop-byte.byte-index in
     let within : i < length text = search rules in
-    rw (p.1, p.2) (part_byte c.args.page.now text i (get_or text i 0) within (search rules) c.loop-byte.invariant (search rules))
+    rw (p.1, p.2) (part_byte c.args.page.now text i (get_or text i 0) within
+    (search rules) c.loop-byte.invariant (search rules))
 
 pub loop-byte-preserved : goal.loop-byte-preserved
 loop-byte-preserved g c =

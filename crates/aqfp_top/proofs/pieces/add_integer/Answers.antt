@@ -10,5 +10,8 @@ pub returns-clause-part : goal.returns-clause-part
 returns-clause-part g c =
     let d = c.add_decimal-2 in
     let same : 45 ∷ decimal c.unsigned_abs.result ≡ integer_text c.args.n = search rules in
-    subst (λ t. IfErr d.result (PrintsPart (g.S.Sink.output c.args.sink.now) (g.S.Sink.output d.new.sink) (c.args.page.now ++ t))) same
-    (IfErr-weaker d.result _ _ (λ why part. part_after_byte c.args.page.now 45 (decimal c.unsigned_abs.result) c.in_ok-add_byte.ensures.pends part) d.ensures.part)
+    subst (λ t. IfErr d.result
+    (PrintsPart (g.S.Sink.output c.args.sink.now) (g.S.Sink.output d.new.sink) (c.args.page.now ++ t))) same
+    (IfErr-weaker d.result _ _
+    (λ why part. part_after_byte c.args.page.now 45
+    (decimal c.unsigned_abs.result) c.in_ok-add_byte.ensures.pends part) d.ensures.part)

@@ -11,7 +11,8 @@ returns-in_err-add_piece-clause-part g c =
     let x = c.piece-item.result in
     let within : l.piece-index < length c.args.pieces.now = search rules in
     let at : x ≡ get_or c.args.pieces.now l.piece-index x = search rules in
-    rw (p.1, p.2) (part_item c.args.page.now piece_text c.args.pieces.now l.piece-index x within at (search rules) c.in_err-add_piece.ensures.part)
+    rw (p.1, p.2) (part_item c.args.page.now piece_text c.args.pieces.now l.piece-index x within at
+    (search rules) c.in_err-add_piece.ensures.part)
 
 pub loop-piece-preserved : goal.loop-piece-preserved
 loop-piece-preserved g c =
@@ -19,4 +20,5 @@ loop-piece-preserved g c =
     let x = c.piece-item.result in
     let within : l.piece-index < length c.args.pieces.now = search rules in
     let at : x ≡ get_or c.args.pieces.now l.piece-index x = search rules in
-    pends_item c.args.page.now piece_text c.args.pieces.now l.piece-index x within at l.invariant c.in_ok-add_piece.ensures.pends
+    pends_item c.args.page.now piece_text c.args.pieces.now l.piece-index x within at l.invariant
+    c.in_ok-add_piece.ensures.pends

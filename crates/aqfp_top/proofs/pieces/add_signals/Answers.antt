@@ -10,7 +10,8 @@ returns-in_err-add_signal-clause-part g c =
     let x = c.signal-item.result in
     let within : l.signal-index < length c.args.signals.now = search rules in
     let at : x ≡ get_or c.args.signals.now l.signal-index x = search rules in
-    rw (p.1, p.2) (part_item c.args.page.now (λ s. 32 ∷ s) c.args.signals.now l.signal-index x within at (search rules) c.in_err-add_signal.ensures.part)
+    rw (p.1, p.2) (part_item c.args.page.now (λ s. 32 ∷ s) c.args.signals.now l.signal-index x within at
+    (search rules) c.in_err-add_signal.ensures.part)
 
 pub loop-signal-preserved : goal.loop-signal-preserved
 loop-signal-preserved g c =
@@ -19,4 +20,5 @@ loop-signal-preserved g c =
     let items = c.as_slice-signal-items.result.now in
     let within : l.signal-index < length items = search rules in
     let at : x ≡ get_or items l.signal-index x = search rules in
-    pends_item c.args.page.now (λ s. 32 ∷ s) items l.signal-index x within at l.invariant c.in_ok-add_signal.ensures.pends
+    pends_item c.args.page.now
+    (λ s. 32 ∷ s) items l.signal-index x within at l.invariant c.in_ok-add_signal.ensures.pends

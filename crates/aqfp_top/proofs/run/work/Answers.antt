@@ -1,7 +1,9 @@
 use Rattle.aqfp_top.specs.Words.{spelled}
 use Rattle.aqfp_top.proofs.Forms.{is_make, make_not_verify, make_not_trace, make_not_equal, make_not_write}
-use Rattle.aqfp_top.proofs.Forms.{four_not_report, make_not_report, sample_not_report, shapes_not_report, make_not_shapes}
-use Rattle.aqfp_top.proofs.Forms.{verify_not_shapes, trace_not_shapes, equal_not_shapes, write_not_shapes, sample_not_shapes}
+use Rattle.aqfp_top.proofs.Forms.{four_not_report, make_not_report, sample_not_report, shapes_not_report}
+use Rattle.aqfp_top.proofs.Forms.{make_not_shapes}
+use Rattle.aqfp_top.proofs.Forms.{verify_not_shapes, trace_not_shapes, equal_not_shapes, write_not_shapes}
+use Rattle.aqfp_top.proofs.Forms.{sample_not_shapes}
 use Rattle.aqfp_top.proofs.Runs.{made_by, heard_by, never_made, never, never_shown, shown_by}
 use Rattle.aqfp_top.proofs.run.work.Goals as goal
 
@@ -76,12 +78,14 @@ returns-in-Write-clause-built g c =
 pub returns-in-Make-clause-reported : goal.returns-in-Make-clause-reported
 returns-in-Make-clause-reported g c =
     let words = spelled c.args.words.now in
-    never c.build.result _ _ (λ report. make_not_report words (is_make c.in-Make.planner words c.in-Make.ensures) report)
+    never c.build.result _ _ (λ report. make_not_report words
+    (is_make c.in-Make.planner words c.in-Make.ensures) report)
 
 pub returns-in-Make-clause-shown : goal.returns-in-Make-clause-shown
 returns-in-Make-clause-shown g c =
     let words = spelled c.args.words.now in
-    never_shown words c.build.result _ (λ a b shapes. make_not_shapes words a b (is_make c.in-Make.planner words c.in-Make.ensures) shapes)
+    never_shown words c.build.result _
+    (λ a b shapes. make_not_shapes words a b (is_make c.in-Make.planner words c.in-Make.ensures) shapes)
 
 pub returns-in-Verify-clause-reported : goal.returns-in-Verify-clause-reported
 returns-in-Verify-clause-reported g c =
@@ -131,7 +135,8 @@ returns-in-Sample-clause-reported g c =
 pub returns-in-Sample-clause-shown : goal.returns-in-Sample-clause-shown
 returns-in-Sample-clause-shown g c =
     let words = spelled c.args.words.now in
-    never_shown words c.sample.result _ (λ a b shapes. sample_not_shapes words c.in-Sample.bits a b c.in-Sample.ensures shapes)
+    never_shown words c.sample.result _
+    (λ a b shapes. sample_not_shapes words c.in-Sample.bits a b c.in-Sample.ensures shapes)
 
 pub returns-in-Report-clause-done : goal.returns-in-Report-clause-done
 returns-in-Report-clause-done g c =

@@ -6,13 +6,16 @@ use Rattle.aqfp_top.proofs.shapes.shapes.Goals as goal
 
 pub returns-clause-answer : goal.returns-clause-answer
 returns-clause-answer g c =
-    told_shapes (g.F.Files.outside c.args.files.now).told (spelled c.args.words.now) c.in_ok-gds.gds c.args.first c.args.second _
+    told_shapes (g.F.Files.outside c.args.files.now).told
+    (spelled c.args.words.now) c.in_ok-gds.gds c.args.first c.args.second _
     c.in_ok-gds.ensures.answer c.show.ensures.answer
 
 pub returns-clause-prints : goal.returns-clause-prints
 returns-clause-prints g c =
-    let held = told_layout (g.F.Files.outside c.args.files.now).told (spelled c.args.words.now) c.in_ok-gds.gds c.in_ok-gds.ensures.answer in
-    whole_prints (g.F.Files.outside c.args.files.now).told (spelled c.args.words.now) c.in_ok-gds.gds.items c.args.first c.args.second _ _ _ held
+    let held = told_layout (g.F.Files.outside c.args.files.now).told
+    (spelled c.args.words.now) c.in_ok-gds.gds c.in_ok-gds.ensures.answer in
+    whole_prints (g.F.Files.outside c.args.files.now).told
+    (spelled c.args.words.now) c.in_ok-gds.gds.items c.args.first c.args.second _ _ _ held
     c.show.ensures.prints
 
 pub returns-clause-only : goal.returns-clause-only
@@ -25,5 +28,6 @@ returns-clause-heard g c =
 
 pub returns-clause-due : goal.returns-clause-due
 returns-clause-due g c =
-    judged_one (λ gds. showing_stages gds c.args.first c.args.second) (spelled c.args.words.now) _ _ c.in_ok-gds.gds.items _
+    judged_one (λ gds. showing_stages gds c.args.first c.args.second)
+    (spelled c.args.words.now) _ _ c.in_ok-gds.gds.items _
     c.in_ok-gds.ensures.heard c.in_ok-gds.ensures.fits c.show.ensures.answer

@@ -12,4 +12,5 @@ returns-clause-prints g c =
 
 pub returns-clause-bad : goal.returns-clause-bad
 returns-clause-bad g c =
-    same_naming c.in-Ok.flat (wide_flat c.args.layout) _ _ c.print_lines.result c.in-Ok.ensures c.print_lines.ensures.bad
+    same_naming c.in-Ok.flat (wide_flat c.args.layout) _ _ c.print_lines.result c.in-Ok.ensures
+    c.print_lines.ensures.bad

@@ -14,18 +14,21 @@ returns-in_err-store_netlist-clause-shut g c = stores_shut _ _ _ _ _ c.in_err-st
 
 pub returns-clause-answer : goal.returns-clause-answer
 returns-clause-answer g c =
-    write_answers (g.F.Files.outside c.args.files.now).told (spelled c.args.words.now) _ _ _ c.put_counts.result c.in_ok-circuit.ensures.well
+    write_answers (g.F.Files.outside c.args.files.now).told
+    (spelled c.args.words.now) _ _ _ c.put_counts.result c.in_ok-circuit.ensures.well
     c.put_counts.ensures
 
 pub returns-clause-stands : goal.returns-clause-stands
 returns-clause-stands g c =
-    write_stands (g.F.Files.outside c.args.files.now) (g.F.Files.outside c.read_chip.new.files) _ (spelled c.args.words.now) _ c.in_ok-circuit.circuit _ _ _ _
+    write_stands (g.F.Files.outside c.args.files.now) (g.F.Files.outside c.read_chip.new.files) _
+    (spelled c.args.words.now) _ c.in_ok-circuit.circuit _ _ _ _
     c.put_counts.result c.in_ok-circuit.ensures.reads c.in_ok-circuit.ensures.kept c.word.ensures
     c.in_ok-store_netlist.ensures c.put_counts.ensures
 
 pub returns-clause-prints : goal.returns-clause-prints
 returns-clause-prints g c =
-    write_prints (g.F.Files.outside c.args.files.now).told (spelled c.args.words.now) c.in_ok-circuit.circuit c.circuit_counts.result _ _ c.put_counts.result
+    write_prints (g.F.Files.outside c.args.files.now).told
+    (spelled c.args.words.now) c.in_ok-circuit.circuit c.circuit_counts.result _ _ c.put_counts.result
     c.in_ok-circuit.ensures.reads c.circuit_counts.ensures c.put_counts.ensures
 
 pub returns-clause-fails : goal.returns-clause-fails
@@ -33,7 +36,8 @@ returns-clause-fails g c = text_fails _ _ _ c.put_counts.result c.put_counts.ens
 
 pub returns-clause-written : goal.returns-clause-written
 returns-clause-written g c =
-    write_done (g.F.Files.outside c.args.files.now) (g.F.Files.outside c.read_chip.new.files) _ (spelled c.args.words.now) _ c.in_ok-circuit.circuit
+    write_done (g.F.Files.outside c.args.files.now) (g.F.Files.outside c.read_chip.new.files) _
+    (spelled c.args.words.now) _ c.in_ok-circuit.circuit
     c.circuit_counts.result _ _ _ c.put_counts.result c.in_ok-circuit.ensures.reads c.circuit_counts.ensures
     c.in_ok-circuit.ensures.kept c.word.ensures c.in_ok-store_netlist.ensures c.put_counts.ensures
 
