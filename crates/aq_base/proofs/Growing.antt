@@ -1,5 +1,6 @@
 -- What an open file takes, one piece after another.
-use Rattle.std.proofs.Common.{ℕ, ◌≡◌, List, [], ◌∷◌, ◌++◌, Bool, true, false, cond, take, length, min, Option, Some, None, option_map, append_assoc, refl, ap, sym, ◌∙◌, arith, inr}
+use Rattle.std.proofs.Common.{ℕ, ◌≡◌, List, [], ◌∷◌, ◌++◌, Bool, true, false, cond, take, length, min, Option, Some}
+use Rattle.std.proofs.Common.{None, option_map, append_assoc, refl, ap, sym, ◌∙◌, arith, inr}
 use Rattle.std.specs.Str.{bytes_eq}
 use Rattle.std.proofs.lemmas.List.{take_min}
 use Rattle.aq_base.specs.Store.{Contents, with_growth, told_grown}
@@ -15,25 +16,35 @@ told_nothing None name = refl
 told_nothing (Some files) None = refl
 told_nothing (Some files) (Some name) = ap (λ (f : Contents). Some f) (sym (with_growth-empty files name))
 
-grows_twice : (b : Bool) (p q : List ℕ) (x : Option (List ℕ)) → cond b (option_map (λ b. b ++ q) (cond b (option_map (λ b. b ++ p) x) x)) (cond b (option_map (λ b. b ++ p) x) x) ≡ cond b (option_map (λ b. b ++ (p ++ q)) x) x
+grows_twice : (b : Bool) (p q : List ℕ) (x : Option (List ℕ))
+    → cond b (option_map (λ b. b ++ q) (cond b (option_map (λ b. b ++ p) x) x))
+    (cond b (option_map (λ b. b ++ p) x) x) ≡ cond b (option_map (λ b. b ++ (p ++ q)) x) x
 grows_twice true p q None = refl
 grows_twice true p q (Some bytes) = ap (λ b. Some b) (append_assoc bytes p q)
 grows_twice false p q x = refl
 
-pub told_twice : (told : Option Contents) (name : Option (List ℕ)) (p q : List ℕ) → told_grown (told_grown told name p) name q ≡ told_grown told name (p ++ q)
+pub told_twice : (told : Option Contents) (name : Option (List ℕ)) (p q : List ℕ)
+    → told_grown (told_grown told name p) name q ≡ told_grown told name (p ++ q)
 unfolding with_growth
 told_twice None name p q = refl
 told_twice (Some files) None p q = refl
-told_twice (Some files) (Some name) p q = ap (λ (f : Contents). Some f) (λ i other. grows_twice (bytes_eq name other) p q (files other) i)
+told_twice (Some files) (Some name) p q = ap (λ (f : Contents). Some f)
+    (λ i other. grows_twice (bytes_eq name other) p q (files other) i)
 
 pub grown_nothing : (o : Outside) → o ≡ grown [] o
 grown_nothing o = λ i. record { told = told_nothing o.told o.opened i; heard = o.heard; opened = o.opened }
 
 pub grown_twice : (o : Outside) (p q : List ℕ) → grown q (grown p o) ≡ grown (p ++ q) o
-grown_twice o p q = λ i. record { told = told_twice o.told o.opened p q i; heard = took-took o.heard p q i; opened = o.opened }
+grown_twice o p q = λ i. record {
+  told = told_twice o.told o.opened p q i;
+  heard =
+      took-took o.heard p q i;
+  opened = o.opened;
+}
 
 -- some first bytes were taken, or all where there were no more
-pub takes_first : {o o' : Outside} (keep : ℕ) (piece : List ℕ) (why : StoreRefusal) → o' ≡ cut_off why (grown (take keep piece) o) → TakesPart o o' piece why
+pub takes_first : {o o' : Outside} (keep : ℕ) (piece : List ℕ) (why : StoreRefusal)
+    → o' ≡ cut_off why (grown (take keep piece) o) → TakesPart o o' piece why
 takes_first {o = o} keep piece why e = record {
   count = min keep (length piece);
   within = omega arith;
@@ -44,7 +55,8 @@ pub takes_none : {o o' : Outside} (piece : List ℕ) (why : StoreRefusal) → o'
 takes_none {o = o} piece why e = takes_first 0 piece why (e ∙ ap (cut_off why) (grown_nothing o))
 
 -- where a store was asked for all of them, writing ended with its refusal
-pub part_stops : {o o' : Outside} {piece : List ℕ} (why : StoreRefusal) → TakesPart o o' piece why → StopsWithin o o' piece why
+pub part_stops : {o o' : Outside} {piece : List ℕ} (why : StoreRefusal) → TakesPart o o' piece why
+    → StopsWithin o o' piece why
 part_stops store.Failed p = record { count = p.count; within = p.within; stops = p.taken }
 part_stops store.Memory p = record { count = p.count; within = p.within; stops = inr p.taken }
 
@@ -52,20 +64,29 @@ part_stops store.Memory p = record { count = p.count; within = p.within; stops =
 abbrev Kept : Contents → List Event → Option (List ℕ) → Outside
 Kept files heard opened = record { told = Some files; heard = heard; opened = opened }
 
-pub held_grows : (files files' : Contents) (heard heard' : List Event) (opened opened' : Option (List ℕ)) (name piece : List ℕ) → opened ≡ Some name → opened' ≡ opened
-    → files' ≡ with_growth files name piece → heard' ≡ took piece heard → Kept files' heard' opened' ≡ grown piece (Kept files heard opened)
+pub held_grows : (files files' : Contents) (heard heard' : List Event) (opened opened' : Option (List ℕ))
+    (name piece : List ℕ) → opened ≡ Some name → opened' ≡ opened
+    → files' ≡ with_growth files name piece → heard' ≡ took piece heard
+    → Kept files' heard' opened' ≡ grown piece (Kept files heard opened)
 held_grows files files' heard heard' opened opened' name piece o s f h =
-    (λ i. Kept (f i) (h i) (s i)) ∙ (λ i. record { told = told_grown (Some files) (sym o i) piece; heard = took piece heard; opened = opened })
+    (λ i. Kept (f i) (h i) (s i))
+    ∙ (λ i. record { told = told_grown (Some files) (sym o i) piece; heard = took piece heard; opened = opened })
 
-pub held_stays : (files files' : Contents) (heard heard' : List Event) (opened opened' : Option (List ℕ)) (piece : List ℕ) (why : StoreRefusal) → opened' ≡ opened
-    → files' ≡ files → heard' ≡ NotAppended why ∷ heard → TakesPart (Kept files heard opened) (Kept files' heard' opened') piece why
+pub held_stays : (files files' : Contents) (heard heard' : List Event) (opened opened' : Option (List ℕ))
+    (piece : List ℕ) (why : StoreRefusal) → opened' ≡ opened
+    → files' ≡ files → heard' ≡ NotAppended why ∷ heard
+    → TakesPart (Kept files heard opened) (Kept files' heard' opened') piece why
 held_stays files files' heard heard' opened opened' piece why s f h = takes_none piece why (λ i. Kept (f i) (h i) (s i))
 
-pub held_grows_part : (files files' : Contents) (heard middle heard' : List Event) (opened opened' : Option (List ℕ)) (name piece taken : List ℕ) (keep : ℕ) (why : StoreRefusal)
-    → opened ≡ Some name → opened' ≡ opened → taken ≡ take keep piece → files' ≡ with_growth files name taken → middle ≡ took taken heard → heard' ≡ NotAppended why ∷ middle
+pub held_grows_part : (files files' : Contents) (heard middle heard' : List Event) (opened opened' : Option (List ℕ))
+    (name piece taken : List ℕ) (keep : ℕ) (why : StoreRefusal)
+    → opened ≡ Some name → opened' ≡ opened → taken ≡ take keep piece → files' ≡ with_growth files name taken
+    → middle ≡ took taken heard → heard' ≡ NotAppended why ∷ middle
     → TakesPart (Kept files heard opened) (Kept files' heard' opened') piece why
 held_grows_part files files' heard middle heard' opened opened' name piece taken keep why o s t f m h =
     takes_first keep piece why
-    ((λ i. Kept files' (h i) opened') ∙ ap (cut_off why) (held_grows files files' heard middle opened opened' name taken o s f m) ∙ ap (λ (bytes : List ℕ). cut_off why (grown bytes (Kept files heard opened))) t)
+    ((λ i. Kept files' (h i) opened')
+    ∙ ap (cut_off why) (held_grows files files' heard middle opened opened' name taken o s f m)
+    ∙ ap (λ (bytes : List ℕ). cut_off why (grown bytes (Kept files heard opened))) t)
 
 pub ruleset grown_files = (held_grows, held_stays, held_grows_part)

@@ -1,5 +1,6 @@
 -- What a sink takes, one piece after another.
-use Rattle.std.proofs.Common.{ℕ, ◌≡◌, ◌≤◌, List, [], ◌∷◌, ◌++◌, ◌+◌, take, length, min, Option, Some, None, append-nil, refl, ap, sym, ◌∙◌, arith}
+use Rattle.std.proofs.Common.{ℕ, ◌≡◌, ◌≤◌, List, [], ◌∷◌, ◌++◌, ◌+◌, take, length, min, Option, Some, None, append-nil}
+use Rattle.std.proofs.Common.{refl, ap, sym, ◌∙◌, arith}
 use Rattle.std.proofs.lemmas.List.{take_min, take-append-le, length-append}
 use Rattle.std.proofs.Math.Seq.{take-append-add}
 use Rattle.aq_base.specs.Store.{gained, GainsPrefix}
@@ -20,7 +21,8 @@ pub printed_twice : (o : Output) (p q : List ℕ) → printed q (printed p o) �
 printed_twice o p q = λ i. record { written = gained-append o.written p q i; heard = took-took o.heard p q i }
 
 -- some first bytes were taken, or all where there were no more
-pub prints_first : {o o' : Output} (keep : ℕ) (piece : List ℕ) (why : StoreRefusal) → o' ≡ stopped why (printed (take keep piece) o) → PrintsPart o o' piece why
+pub prints_first : {o o' : Output} (keep : ℕ) (piece : List ℕ) (why : StoreRefusal)
+    → o' ≡ stopped why (printed (take keep piece) o) → PrintsPart o o' piece why
 prints_first {o = o} keep piece why e = record {
   count = min keep (length piece);
   within = omega arith;
@@ -28,7 +30,8 @@ prints_first {o = o} keep piece why e = record {
 }
 
 -- a part of the first piece is one of the two together
-pub part_of_first : {o o' : Output} {a : List ℕ} {why : StoreRefusal} (b : List ℕ) → PrintsPart o o' a why → PrintsPart o o' (a ++ b) why
+pub part_of_first : {o o' : Output} {a : List ℕ} {why : StoreRefusal} (b : List ℕ) → PrintsPart o o' a why
+    → PrintsPart o o' (a ++ b) why
 part_of_first {o = o} {a = a} {why = why} b p = record {
   count = p.count;
   within = omega (arith, length-append a b, p.within);
@@ -36,16 +39,19 @@ part_of_first {o = o} {a = a} {why = why} b p = record {
 }
 
 -- after the first piece, a part of the second
-pub part_of_second : {o middle o' : Output} (a : List ℕ) {b : List ℕ} {why : StoreRefusal} → middle ≡ printed a o → PrintsPart middle o' b why → PrintsPart o o' (a ++ b) why
+pub part_of_second : {o middle o' : Output} (a : List ℕ) {b : List ℕ} {why : StoreRefusal} → middle ≡ printed a o
+    → PrintsPart middle o' b why → PrintsPart o o' (a ++ b) why
 part_of_second {o = o} a {b = b} {why = why} m p = record {
   count = length a + p.count;
   within = omega (arith, length-append a b, p.within);
-  taken = p.taken ∙ ap (λ (x : Output). stopped why (printed (take p.count b) x)) m ∙ ap (stopped why) (printed_twice o a (take p.count b))
+  taken = p.taken ∙ ap (λ (x : Output). stopped why (printed (take p.count b) x)) m
+      ∙ ap (stopped why) (printed_twice o a (take p.count b))
       ∙ ap (λ (bytes : List ℕ). stopped why (printed bytes o)) (sym (take-append-add a b p.count));
 }
 
 -- what was written has grown by some first bytes
-pub part_gains : {o o' : Output} {piece : List ℕ} {why : StoreRefusal} → PrintsPart o o' piece why → GainsPrefix o.written o'.written piece
+pub part_gains : {o o' : Output} {piece : List ℕ} {why : StoreRefusal} → PrintsPart o o' piece why
+    → GainsPrefix o.written o'.written piece
 part_gains p = record { count = p.count; within = p.within; gain = ap (λ (x : Output). x.written) p.taken }
 
 -- ---- by what a sink keeps: its bytes, and what it heard
@@ -53,30 +59,38 @@ part_gains p = record { count = p.count; within = p.within; gain = ap (λ (x : O
 abbrev Kept : List ℕ → List Event → Output
 Kept bytes heard = record { written = Some bytes; heard = heard }
 
-pub kept_prints : (bytes bytes' : List ℕ) (heard heard' : List Event) (piece : List ℕ) → bytes' ≡ bytes ++ piece → heard' ≡ took piece heard
+pub kept_prints : (bytes bytes' : List ℕ) (heard heard' : List Event) (piece : List ℕ) → bytes' ≡ bytes ++ piece
+    → heard' ≡ took piece heard
     → Kept bytes' heard' ≡ printed piece (Kept bytes heard)
 kept_prints bytes bytes' heard heard' piece b h = λ i. Kept (b i) (h i)
 
-pub kept_stays : (bytes bytes' : List ℕ) (heard heard' : List Event) (piece : List ℕ) (why : StoreRefusal) → bytes' ≡ bytes → heard' ≡ NotAppended why ∷ heard
+pub kept_stays : (bytes bytes' : List ℕ) (heard heard' : List Event) (piece : List ℕ) (why : StoreRefusal)
+    → bytes' ≡ bytes → heard' ≡ NotAppended why ∷ heard
     → PrintsPart (Kept bytes heard) (Kept bytes' heard') piece why
 kept_stays bytes bytes' heard heard' piece why b h =
     prints_first 0 piece why ((λ i. Kept (b i) (h i)) ∙ ap (stopped why) (printed_nothing (Kept bytes heard)))
 
-pub kept_prints_part : (bytes bytes' : List ℕ) (heard middle heard' : List Event) (piece taken : List ℕ) (keep : ℕ) (why : StoreRefusal) → taken ≡ take keep piece
-    → bytes' ≡ bytes ++ taken → middle ≡ took taken heard → heard' ≡ NotAppended why ∷ middle → PrintsPart (Kept bytes heard) (Kept bytes' heard') piece why
+pub kept_prints_part : (bytes bytes' : List ℕ) (heard middle heard' : List Event) (piece taken : List ℕ) (keep : ℕ)
+    (why : StoreRefusal) → taken ≡ take keep piece
+    → bytes' ≡ bytes ++ taken → middle ≡ took taken heard → heard' ≡ NotAppended why ∷ middle
+    → PrintsPart (Kept bytes heard) (Kept bytes' heard') piece why
 kept_prints_part bytes bytes' heard middle heard' piece taken keep why t b m h =
     prints_first keep piece why
-    ((λ i. Kept bytes' (h i)) ∙ ap (stopped why) (kept_prints bytes bytes' heard middle taken b m) ∙ ap (λ (x : List ℕ). stopped why (printed x (Kept bytes heard))) t)
+    ((λ i. Kept bytes' (h i)) ∙ ap (stopped why) (kept_prints bytes bytes' heard middle taken b m)
+    ∙ ap (λ (x : List ℕ). stopped why (printed x (Kept bytes heard))) t)
 
 pub ruleset printed_pieces = (kept_prints, kept_stays, kept_prints_part)
 
 -- ---- a sink whose bytes are all that it took
 
-pub all_prints : (heard heard' : List Event) (piece : List ℕ) → heard' ≡ took piece heard → Kept (all_taken heard') heard' ≡ printed piece (Kept (all_taken heard) heard)
+pub all_prints : (heard heard' : List Event) (piece : List ℕ) → heard' ≡ took piece heard
+    → Kept (all_taken heard') heard' ≡ printed piece (Kept (all_taken heard) heard)
 all_prints heard heard' piece h =
-    kept_prints (all_taken heard) (all_taken heard') heard heard' piece (ap (λ (x : List Event). all_taken x) h ∙ all_took heard piece) h
+    kept_prints (all_taken heard) (all_taken heard') heard heard' piece (ap (λ (x : List Event). all_taken x) h
+    ∙ all_took heard piece) h
 
-pub all_prints_part : (heard middle heard' : List Event) (piece : List ℕ) (count : ℕ) (why : StoreRefusal) → count ≤ length piece → middle ≡ took (take count piece) heard → heard' ≡ NotAppended why ∷ middle
+pub all_prints_part : (heard middle heard' : List Event) (piece : List ℕ) (count : ℕ) (why : StoreRefusal)
+    → count ≤ length piece → middle ≡ took (take count piece) heard → heard' ≡ NotAppended why ∷ middle
     → PrintsPart (Kept (all_taken heard) heard) (Kept (all_taken heard') heard') piece why
 all_prints_part heard middle heard' piece count why within m h = record {
   count = count;

@@ -69,7 +69,8 @@ lower_same rank v w c same (x ∷ xs) h = (same x h.0, lower_same rank v w c sam
 pub is_ranked : (net : NetView) (word : List Bool) (rank : ℕ → ℕ) → IsRankedBy rank net.inputs net.defs
     → IsRanked rank (equation net word)
 is_ranked net word rank r c v w same =
-    equation_same (nat_lt c net.inputs) (slice_index_or word c false) (slice_get net.defs (c - net.inputs)) v w (lower_same rank v w c same (operands net.inputs net.defs c) (r.lower c))
+    equation_same (nat_lt c net.inputs) (slice_index_or word c false) (slice_get net.defs (c - net.inputs)) v w
+    (lower_same rank v w c same (operands net.inputs net.defs c) (r.lower c))
 
 -- what solves the equations fits the word
 solution_fits : (net : NetView) (word : List Bool) (v : ℕ → Bool) → Solves (equation net word) v
@@ -130,7 +131,10 @@ same_values net word ok v w fv fw (suc n) s lt at = elim (cases_lt s net.inputs)
       let lower : AllByRecursion (λ d. ok.no_cycle.rank d < ok.no_cycle.rank s) found.0.inputs =
       subst (AllByRecursion (λ d. ok.no_cycle.rank d < ok.no_cycle.rank s)) reads (ok.no_cycle.ranked.lower s) in
       sym (ap v back) ∙ fv.covers (s - net.inputs) found.0 found.1
-      ∙ ap (λ x. x) (value_same found.0 v w (both (λ d. ok.no_cycle.rank d < ok.no_cycle.rank s) (λ d. d < length net.names) (λ d. v d ≡ w d) found.0.inputs (λ x lt2 in_range. same_values net word ok v w fv fw n x (omega arith) in_range) lower def_ok.names))
+      ∙ ap (λ x. x) (value_same found.0 v w
+      (both (λ d. ok.no_cycle.rank d < ok.no_cycle.rank s) (λ d. d < length net.names)
+      (λ d. v d ≡ w d) found.0.inputs
+      (λ x lt2 in_range. same_values net word ok v w fv fw n x (omega arith) in_range) lower def_ok.names))
       ∙ sym (fw.covers (s - net.inputs) found.0 found.1) ∙ ap w back
 ]
 
@@ -150,7 +154,8 @@ pub one_answer : (net : NetView) (word a b : List Bool) → IsNetlist net → Is
     ≡ b
 one_answer net word a b ok p q =
     p.shown
-    ∙ same_shown net p.values q.values (one_valuation net word p.values q.values ok p.fit q.fit) net.outputs ok.each_output ∙ sym q.shown
+    ∙ same_shown net p.values q.values (one_valuation net word p.values q.values ok p.fit q.fit) net.outputs
+    ok.each_output ∙ sym q.shown
 
 -- an answer has one bit for each output
 pub answer_length : (net : NetView) (word answer : List Bool) → IsAnswer net word answer → length answer

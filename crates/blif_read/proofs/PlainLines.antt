@@ -1,6 +1,7 @@
 -- The logical lines of a text that is put together of whole lines, without comments and joined lines: a line at a time,
 -- and in a line a token at a time.
-use Rattle.std.proofs.Common.{◌≡◌, ℕ, ◌+◌, ◌-◌, ◌%◌, ◌^◌, ◌<◌, ◌≤◌, Bool, true, false, not, ◌||◌, ◌&&◌, ◌==◌, nat_lt, List, [], ◌∷◌, ◌++◌}
+use Rattle.std.proofs.Common.{◌≡◌, ℕ, ◌+◌, ◌-◌, ◌%◌, ◌^◌, ◌<◌, ◌≤◌, Bool, true, false, not, ◌||◌, ◌&&◌, ◌==◌, nat_lt}
+use Rattle.std.proofs.Common.{List, [], ◌∷◌, ◌++◌}
 use Rattle.std.proofs.Common.{length, map, get_or, slice_index, None, All, refl, sym, ap, ◌∙◌, arith, append_assoc}
 use Rattle.std.specs.Fmt.{decimal}
 use Rattle.std.specs.List.{filter, slice_split, list_all}
@@ -12,7 +13,8 @@ use Rattle.std.proofs.lemmas.List.Elements.{filter-append}
 use Rattle.std.proofs.lemmas.List.Folds.{list_all-append}
 use Rattle.std.proofs.lemmas.List.Splits.{slice_split_at, slice_split_none}
 use Rattle.std.proofs.lemmas.List.Sums.{AllPass-from_list_all, position_or_len_is}
-use Rattle.blif_read.specs.Lines.{is_feed, is_number_sign, is_blank, is_token, stripped, physical_lines, without_comment}
+use Rattle.blif_read.specs.Lines.{is_feed, is_number_sign, is_blank, is_token, stripped, physical_lines}
+use Rattle.blif_read.specs.Lines.{without_comment}
 use Rattle.blif_read.specs.Lines.{before_backslash, before_lines, joined, cut, tokens_of, has_tokens}
 pub use Rattle.blif_read.specs.Code.Reading.{lines_from}
 use Rattle.blif_read.proofs.Cuts.{has_part, stripped_next}

@@ -1,5 +1,6 @@
 -- What the number and the ends of a line's tokens say of the line.
-use Rattle.std.proofs.Common.{◌≡◌, ℕ, ◌<◌, ◌&&◌, ◌||◌, ◌==◌, Bool, true, false, not, cond, List, [], ◌∷◌, ◌++◌, length, drop, refl, sym, ap, ◌∙◌, arith}
+use Rattle.std.proofs.Common.{◌≡◌, ℕ, ◌<◌, ◌&&◌, ◌||◌, ◌==◌, Bool, true, false, not, cond, List, [], ◌∷◌, ◌++◌, length}
+use Rattle.std.proofs.Common.{drop, refl, sym, ap, ◌∙◌, arith}
 use Rattle.std.specs.List.{list_all, list_any}
 use Rattle.std.specs.Str.{bytes_eq}
 use Rattle.indexmap.specs.IndexSet.{insert_key, insert_all}
@@ -22,7 +23,8 @@ one_shape n [] e = absurd (omega arith)
 one_shape n (t ∷ []) e = refl
 one_shape n (t ∷ u ∷ us) e = absurd (omega arith)
 
-pub two_shape : (n : ℕ) (row : List (List ℕ)) → length row ≡ 2 → has_shape n row ≡ not (n == 0) && (length (first_of row) == n && list_all is_plane_byte (first_of row))
+pub two_shape : (n : ℕ) (row : List (List ℕ)) → length row ≡ 2
+    → has_shape n row ≡ not (n == 0) && (length (first_of row) == n && list_all is_plane_byte (first_of row))
 two_shape n [] e = absurd (omega arith)
 two_shape n (t ∷ []) e = absurd (omega arith)
 two_shape n (t ∷ u ∷ []) e = refl
@@ -68,15 +70,22 @@ neither true e = absurd (cc)
 neither false e = refl
 
 -- the last name of a definition is added
-module _ (keys ts : List (List ℕ)) (name : List ℕ) (new : Bool) (h : length ts < 2 → ⊥) (n : name ≡ last_after [] ts) (e : new ≡ not (list_any (bytes_eq name) keys)) where
+module _ (keys ts : List (List ℕ)) (name : List ℕ) (new : Bool) (h : length ts < 2 → ⊥) (n : name ≡ last_after [] ts)
+    (e : new ≡ not (list_any (bytes_eq name) keys)) where
   pub last_again : not new ≡ adds_again keys (last_of (drop 1 ts))
-  last_again = ap not e ∙ ap (λ x. not (not (list_any (bytes_eq x) keys))) n ∙ twice (list_any (bytes_eq (last_after [] ts)) keys) ∙ ap (adds_again keys) (sym (one_last ts h))
+  last_again = ap not e ∙ ap (λ x. not (not (list_any (bytes_eq x) keys))) n
+      ∙ twice (list_any (bytes_eq (last_after [] ts)) keys) ∙ ap (adds_again keys) (sym (one_last ts h))
 
-  pub last_added : (grown : List (List ℕ)) → grown ≡ insert_key bytes_eq keys name → not new ≡ false → grown ≡ keys ++ last_of (drop 1 ts)
+  pub last_added : (grown : List (List ℕ)) → grown ≡ insert_key bytes_eq keys name → not new ≡ false
+      → grown ≡ keys ++ last_of (drop 1 ts)
   last_added grown k f =
       let off : list_any (bytes_eq name) keys ≡ false = neither (list_any (bytes_eq name) keys) (sym (ap not e) ∙ f) in
-      k ∙ ap (λ b. cond b keys (keys ++ name ∷ [])) off ∙ ap (λ x. keys ++ x ∷ []) n ∙ ap (λ xs. keys ++ xs) (sym (one_last ts h))
+      k ∙ ap (λ b. cond b keys (keys ++ name ∷ [])) off ∙ ap (λ x. keys ++ x ∷ []) n
+      ∙ ap (λ xs. keys ++ xs) (sym (one_last ts h))
 
 -- the last name of a definition is added, where it is not there yet
-pub one_inserted : (keys ts : List (List ℕ)) (name : List ℕ) → (length ts < 2 → ⊥) → name ≡ last_after [] ts → (grown : List (List ℕ)) → grown ≡ insert_key bytes_eq keys name → grown ≡ insert_all bytes_eq keys (last_of (drop 1 ts))
-one_inserted keys ts name h n grown k = k ∙ ap (insert_key bytes_eq keys) n ∙ ap (insert_all bytes_eq keys) (sym (one_last ts h))
+pub one_inserted : (keys ts : List (List ℕ)) (name : List ℕ) → (length ts < 2 → ⊥) → name ≡ last_after [] ts
+    → (grown : List (List ℕ)) → grown ≡ insert_key bytes_eq keys name
+    → grown ≡ insert_all bytes_eq keys (last_of (drop 1 ts))
+one_inserted keys ts name h n grown k = k ∙ ap (insert_key bytes_eq keys) n
+    ∙ ap (insert_all bytes_eq keys) (sym (one_last ts h))

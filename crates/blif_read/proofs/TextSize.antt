@@ -1,11 +1,14 @@
 -- The tokens of the logical lines of a text have no more bytes than the text.
-use Rattle.std.proofs.Common.{◌≡◌, ℕ, ◌+◌, ◌-◌, ◌≤◌, Bool, true, false, cond, List, [], ◌∷◌, ◌++◌, map, length, take, Option, Some, None, refl, ap, arith, length-append}
+use Rattle.std.proofs.Common.{◌≡◌, ℕ, ◌+◌, ◌-◌, ◌≤◌, Bool, true, false, cond, List, [], ◌∷◌, ◌++◌, map, length, take}
+use Rattle.std.proofs.Common.{Option, Some, None, refl, ap, arith, length-append}
 use Rattle.std.specs.Prelude.{◌==◌, slice_index}
 use Rattle.std.specs.List.{slice_split, onto_first, position_or_len, filter, sum_by}
 use Rattle.std.specs.Str.Lines.{strip_carriage_return}
 use Rattle.std.proofs.lemmas.List.{length-take}
 use Rattle.std.proofs.lemmas.List.Sums.{sum_by-cons}
-use Rattle.blif_read.specs.Lines.{is_feed, is_blank, is_number_sign, is_backslash, is_token, cut, has_tokens, stripped, physical_lines, without_comment, before_backslash, joined_to, before_lines, joined, logical_lines}
+use Rattle.blif_read.specs.Lines.{is_feed, is_blank, is_number_sign, is_backslash, is_token, cut, has_tokens, stripped}
+use Rattle.blif_read.specs.Lines.{physical_lines, without_comment, before_backslash, joined_to, before_lines, joined}
+use Rattle.blif_read.specs.Lines.{logical_lines}
 use Rattle.blif_read.specs.Code.Size.{bytes_of, token_bytes}
 
 pub taken : (n : ℕ) (xs : List ℕ) → length (take n xs) ≤ length xs
@@ -20,7 +23,8 @@ pub split_bytes : (p : ℕ → Bool) (xs : List ℕ) → sum_by length (slice_sp
 split_bytes p [] = omega arith
 split_bytes p (x ∷ xs) = one (p x) (slice_split p xs) (split_bytes p xs)
   where
-    one : (b : Bool) (parts : List (List ℕ)) → sum_by length parts ≤ length xs → sum_by length (cond b ([] ∷ parts) (onto_first x parts)) ≤ length (x ∷ xs)
+    one : (b : Bool) (parts : List (List ℕ)) → sum_by length parts ≤ length xs
+        → sum_by length (cond b ([] ∷ parts) (onto_first x parts)) ≤ length (x ∷ xs)
     one true parts h = omega (arith, sum_by-cons {X = List ℕ} length [] parts)
     one false [] h = omega arith
     one false (part ∷ parts) h = omega (arith, sum_by-cons length (x ∷ part) parts, sum_by-cons length part parts)
@@ -31,7 +35,12 @@ stripped_bytes (last ∷ []) = omega arith
 stripped_bytes (part ∷ next ∷ parts) =
     let h = stripped_bytes (next ∷ parts) in
     let s = cut_short (slice_index part (length part - 1) == 13) part (length part - 1) in
-    omega (arith, sum_by-cons length (strip_carriage_return part) (stripped (next ∷ parts)), sum_by-cons length part (next ∷ parts))
+    omega (
+      arith,
+      sum_by-cons length (strip_carriage_return part)
+          (stripped (next ∷ parts)),
+      sum_by-cons length part (next ∷ parts),
+    )
 
 uncommented_bytes : (lines : List (List ℕ)) → sum_by length (map without_comment lines) ≤ sum_by length lines
 uncommented_bytes [] = omega arith
@@ -48,27 +57,43 @@ front_bytes : (line front : List ℕ) → before_backslash line ≡ Some front �
 front_bytes [] front e = absurd (cc)
 front_bytes (x ∷ xs) front e = one (is_backslash (slice_index (x ∷ xs) (length (x ∷ xs) - 1))) e
   where
-    one : (b : Bool) → cond b (Some (take (length (x ∷ xs) - 1) (x ∷ xs))) None ≡ Some front → length front + 1 ≤ length (x ∷ xs)
-    one true e = let is : take (length (x ∷ xs) - 1) (x ∷ xs) ≡ front = cc in omega (arith, ap length is, length-take (length (x ∷ xs) - 1) (x ∷ xs))
+    one : (b : Bool) → cond b (Some (take (length (x ∷ xs) - 1) (x ∷ xs))) None ≡ Some front
+        → length front + 1 ≤ length (x ∷ xs)
+    one true e = let is : take (length (x ∷ xs) - 1) (x ∷ xs) ≡ front = cc in omega
+        (arith, ap length is, length-take (length (x ∷ xs) - 1) (x ∷ xs))
     one false e = absurd (cc)
 
 joined_bytes : (n : ℕ) (lines : List (List ℕ)) → numbered_bytes (joined n lines) ≤ sum_by length lines
 joined_bytes n [] = omega arith
-joined_bytes n (line ∷ lines) = one (before_backslash line) (λ front. front_bytes line front) (joined (n + 1) lines) (joined_bytes (n + 1) lines)
+joined_bytes n (line ∷ lines) = one (before_backslash line) (λ front. front_bytes line front) (joined (n + 1) lines)
+    (joined_bytes (n + 1) lines)
   where
-    onto : (front : List ℕ) (rest : List (ℕ × List ℕ)) → numbered_bytes (joined_to n front rest) ≤ length front + numbered_bytes rest
+    onto : (front : List ℕ) (rest : List (ℕ × List ℕ))
+        → numbered_bytes (joined_to n front rest) ≤ length front + numbered_bytes rest
     onto front [] = omega arith
-    onto front (next ∷ rest) = omega (arith, sum_by-cons {X = ℕ × List ℕ} (λ l. length l.1) (n, front ++ next.1) rest, sum_by-cons {X = ℕ × List ℕ} (λ l. length l.1) next rest, length-append front next.1)
+    onto front (next ∷ rest) =
+        omega (
+          arith,
+          sum_by-cons {X = ℕ × List ℕ} (λ l. length l.1) (n, front ++ next.1) rest,
+          sum_by-cons {X = ℕ
+              × List ℕ} (λ l. length l.1) next rest,
+          length-append front next.1,
+        )
 
-    one : (o : Option (List ℕ)) → ((front : List ℕ) → o ≡ Some front → length front + 1 ≤ length line) → (rest : List (ℕ × List ℕ)) → numbered_bytes rest ≤ sum_by length lines → numbered_bytes (before_lines n line o rest) ≤ sum_by length (line ∷ lines)
-    one None f rest h = omega (arith, sum_by-cons {X = ℕ × List ℕ} (λ l. length l.1) (n, line) rest, sum_by-cons length line lines)
-    one (Some front) f rest h = let s = f front refl in let t = onto (front ++ 32 ∷ []) rest in omega (arith, length-append front (32 ∷ []), sum_by-cons length line lines)
+    one : (o : Option (List ℕ)) → ((front : List ℕ) → o ≡ Some front → length front + 1 ≤ length line)
+        → (rest : List (ℕ × List ℕ)) → numbered_bytes rest ≤ sum_by length lines
+        → numbered_bytes (before_lines n line o rest) ≤ sum_by length (line ∷ lines)
+    one None f rest h = omega
+        (arith, sum_by-cons {X = ℕ × List ℕ} (λ l. length l.1) (n, line) rest, sum_by-cons length line lines)
+    one (Some front) f rest h = let s = f front refl in let t = onto (front ++ 32 ∷ []) rest in omega
+        (arith, length-append front (32 ∷ []), sum_by-cons length line lines)
 
 pub filtered_bytes : {X : Type 0} (p : X → Bool) (f : X → ℕ) (xs : List X) → sum_by f (filter p xs) ≤ sum_by f xs
 filtered_bytes {X = X} p f [] = omega arith
 filtered_bytes {X = X} p f (x ∷ xs) = one (p x) (filter p xs) (filtered_bytes p f xs)
   where
-    one : (b : Bool) (rest : List X) → sum_by f rest ≤ sum_by f xs → sum_by f (cond b (x ∷ rest) rest) ≤ sum_by f (x ∷ xs)
+    one : (b : Bool) (rest : List X) → sum_by f rest ≤ sum_by f xs
+        → sum_by f (cond b (x ∷ rest) rest) ≤ sum_by f (x ∷ xs)
     one true rest h = omega (arith, sum_by-cons f x rest, sum_by-cons f x xs)
     one false rest h = omega (arith, sum_by-cons f x xs)
 
@@ -78,7 +103,12 @@ cut_bytes (line ∷ lines) =
     let h = cut_bytes lines in
     let s = filtered_bytes is_token length (slice_split is_blank line.1) in
     let t = split_bytes is_blank line.1 in
-    omega (arith, sum_by-cons (λ l. token_bytes l.tokens) (cut line) (map cut lines), sum_by-cons {X = ℕ × List ℕ} (λ l. length l.1) line lines)
+    omega (
+      arith,
+      sum_by-cons (λ l. token_bytes l.tokens) (cut line) (map cut lines),
+      sum_by-cons {X = ℕ × List ℕ}
+          (λ l. length l.1) line lines,
+    )
 
 pub text_bytes : (text : List ℕ) → bytes_of (logical_lines text) ≤ length text
 text_bytes text =

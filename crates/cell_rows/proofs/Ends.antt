@@ -205,7 +205,8 @@ shown_use {d} known k s at j shown =
         i = 0;
         def = x.def;
         here = x.here;
-        at = ap (λ (xs : List ℕ). slice_get xs 0) (x.computes.named ∙ ap operands_of gate) ∙ ap (λ (n : ℕ). Some n) reads;
+        at = ap (λ (xs : List ℕ). slice_get xs 0) (x.computes.named ∙ ap operands_of gate)
+            ∙ ap (λ (n : ℕ). Some n) reads;
       },
       past,
     )

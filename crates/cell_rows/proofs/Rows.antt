@@ -46,7 +46,8 @@ used_by {d} {levels} {last} known j user = by (is_name d (d.net.inputs + user.j)
 
     at : slice_get (defined known user.j below).def.inputs user.i ≡ Some (d.net.inputs + j)
     at = ap (λ (def : Def). slice_get def.inputs user.i)
-        (same_Some (defined known user.j below).def user.def (sym (defined known user.j below).here ∙ user.here)) ∙ user.at
+        (same_Some (defined known user.j below).def user.def (sym (defined known user.j below).here ∙ user.here))
+        ∙ user.at
 
     by : (b : Bool) → is_name d (d.net.inputs + user.j) ≡ b → Used d levels last j
     by true e = shows (shows_named known (defined known user.j below) e user.i j at)

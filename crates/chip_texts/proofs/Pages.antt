@@ -1,5 +1,6 @@
 -- What stands on a page, and what has been put.
-use Rattle.std.proofs.Common.{◌≡◌, ◌+◌, ℕ, List, [], ◌++◌, Result, Ok, Err, OnOk, IfErr, length, take, inl, sym, ap, subst, ◌∙◌, arith, append-nil, inr}
+use Rattle.std.proofs.Common.{◌≡◌, ◌+◌, ℕ, List, [], ◌++◌, Result, Ok, Err, OnOk, IfErr, length, take, inl, sym, ap}
+use Rattle.std.proofs.Common.{subst, ◌∙◌, arith, append-nil, inr}
 use Rattle.std.proofs.lemmas.List.{take-append-le, length-append}
 use Rattle.std.proofs.Math.Seq.{take-append-add, take-length}
 use Rattle.aq_base.specs.declared.store.StoreRefusal.{StoreRefusal}

@@ -1,5 +1,6 @@
 -- Values that are computed in the order of the gates.
-use Rattle.std.proofs.Common.{◌≡◌, ℕ, ◌+◌, ◌<◌, Bool, false, List, [], ◌∷◌, ◌++◌, map, length, get_or, Result, Ok, Err, sym, ap, ◌∙◌, subst, arith, inl, inr}
+use Rattle.std.proofs.Common.{◌≡◌, ℕ, ◌+◌, ◌<◌, Bool, false, List, [], ◌∷◌, ◌++◌, map, length, get_or, Result, Ok, Err}
+use Rattle.std.proofs.Common.{sym, ap, ◌∙◌, subst, arith, inl, inr}
 use Rattle.std.specs.Prelude.{IfOk}
 use Rattle.std.proofs.lemmas.Option.{slice_get-get_or}
 use Rattle.std.proofs.lemmas.Bool.{cases_lt}
@@ -13,8 +14,10 @@ use Rattle.circuit.specs.CellNets.{AreCells, IsCells, value}
 use Rattle.circuit.proofs.CellAnswers.{gate_same, value_fits, same_shown}
 
 -- one more value
-pub one_more : (n : ℕ) (gates : List Gate) (word values read more : List Bool) (k : ℕ) (v : Bool) → AreCells n gates → k < length gates → length values ≡ k → read ≡ values
-    → v ≡ gate_value word (valuation read) (get_or gates k (Input 0)) → more ≡ values ++ v ∷ [] → ((i : ℕ) → i < k → valuation values i ≡ value gates word i)
+pub one_more : (n : ℕ) (gates : List Gate) (word values read more : List Bool) (k : ℕ) (v : Bool) → AreCells n gates
+    → k < length gates → length values ≡ k → read ≡ values
+    → v ≡ gate_value word (valuation read) (get_or gates k (Input 0)) → more ≡ values ++ v ∷ []
+    → ((i : ℕ) → i < k → valuation values i ≡ value gates word i)
     → (i : ℕ) → i < k + 1 → valuation more i ≡ value gates word i
 one_more n gates word values read more k v ok lt size r val is agrees i below =
     ap (λ vs. valuation vs i) is ∙ elim (cases_lt i k) [
@@ -29,7 +32,9 @@ one_more n gates word values read more k v ok lt size r val is agrees i below =
           ∙ sym (value_fits n gates ok word k gate here) ∙ ap (value gates word) (sym at)
     ]
 
-answers : (net : PlainView) (word values answer : List Bool) → IsCells net → ((i : ℕ) → i < length net.gates → valuation values i ≡ value net.gates word i) → answer ≡ map (valuation values) net.outputs → IsAnswer net word answer
+answers : (net : PlainView) (word values answer : List Bool) → IsCells net
+    → ((i : ℕ) → i < length net.gates → valuation values i ≡ value net.gates word i)
+    → answer ≡ map (valuation values) net.outputs → IsAnswer net word answer
 answers net word values answer ok agrees e = record {
   values = value net.gates word;
   fit = value_fits net.inputs net.gates ok.gates_read word;
@@ -37,12 +42,15 @@ answers net word values answer ok agrees e = record {
 }
 
 -- what the code shows is the answer
-pub shown_answers : {E : Type 0} (r : Result (List Bool) E) (net self : PlainView) (gates : List Gate) (outputs : List ℕ) (word given values read : List Bool)
+pub shown_answers : {E : Type 0} (r : Result (List Bool) E) (net self : PlainView) (gates : List Gate)
+    (outputs : List ℕ) (word given values read : List Bool)
     → IsCells net → net ≡ self → gates ≡ net.gates → outputs ≡ net.outputs → given ≡ word → read ≡ values
-    → ((i : ℕ) → i < length gates → valuation values i ≡ value gates given i) → IfOk r (λ answer. answer ≡ map (valuation read) outputs) → IfOk r (λ answer. IsAnswer self word answer)
+    → ((i : ℕ) → i < length gates → valuation values i ≡ value gates given i)
+    → IfOk r (λ answer. answer ≡ map (valuation read) outputs) → IfOk r (λ answer. IsAnswer self word answer)
 shown_answers (Err e) net self gates outputs word given values read ok n d o g r agrees shown = tt
 shown_answers (Ok answer) net self gates outputs word given values read ok n d o g r agrees shown =
     subst (λ x. IsAnswer x word answer) n
     (answers net word values answer ok
-    (subst (λ w. (i : ℕ) → i < length net.gates → valuation values i ≡ value net.gates w i) g (subst (λ gs. (i : ℕ) → i < length gs → valuation values i ≡ value gs given i) d agrees))
+    (subst (λ w. (i : ℕ) → i < length net.gates → valuation values i ≡ value net.gates w i) g
+    (subst (λ gs. (i : ℕ) → i < length gs → valuation values i ≡ value gs given i) d agrees))
     (shown ∙ ap (λ vs. map (valuation vs) outputs) r ∙ ap (map (valuation values)) o))

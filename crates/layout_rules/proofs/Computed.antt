@@ -18,7 +18,8 @@ use Rattle.layout_rules.proofs.Judging.{Judged}
 use Rattle.layout_rules.proofs.JudgedCells.{cells_judged}
 use Rattle.layout_rules.proofs.JudgedNets.{nets_judged, rows_judged}
 use Rattle.layout_rules.proofs.JudgedLabels.{labels_judged}
-use Rattle.layout_rules.proofs.JudgedGeometry.{sizes_judged, spacing_judged, enclosure_judged, cover_judged, frames_judged}
+use Rattle.layout_rules.proofs.JudgedGeometry.{sizes_judged, spacing_judged, enclosure_judged, cover_judged}
+use Rattle.layout_rules.proofs.JudgedGeometry.{frames_judged}
 use Rattle.layout_rules.proofs.JudgedGeometry.{lengths_judged}
 
 -- the two numbers of the first report, if there is one
@@ -87,7 +88,8 @@ module _ (flat : Flat) (limits : Limits) (some : (ns : List ℕ) × AreNets flat
       (λ more e. first_so (suc n) rest both.1 more t e) (rule_judged rule) is
 
   none_told : (n : ℕ) (rule : Rule) (rest : Option Told) → place rule ≡ n → KeepsBelow n flat limits → (m : ℕ)
-      → (KeepsBelow (suc n) flat limits → rest ≡ None → KeepsBelow m flat limits) → (j : Judged (Broken rule flat limits))
+      → (KeepsBelow (suc n) flat limits → rest ≡ None → KeepsBelow m flat limits)
+      → (j : Judged (Broken rule flat limits))
       → told_or rule j rest ≡ None → KeepsBelow m flat limits
   none_told n rule rest here kept m later (inl none) e = later (KeepsBelow-more flat limits n rule here kept none) e
   none_told n rule rest here kept m later (inr h) e = absurd cc

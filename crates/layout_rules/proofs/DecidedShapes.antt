@@ -13,12 +13,15 @@ dec_passes test shapes n = dec_same
 pub passes_within : (test : Shape → Bool) (shapes : List Shape) (n : ℕ) → Passes test shapes n → n < length shapes
 passes_within test shapes n p = slice_get_within shapes n p.shape p.shape_is
 
-abbrev pub dec_together : (test : Shape → Shape → Bool) (shapes : List Shape) (a b : ℕ) → Dec (PassTogether test shapes a b)
+abbrev pub dec_together : (test : Shape → Shape → Bool) (shapes : List Shape) (a b : ℕ)
+    → Dec (PassTogether test shapes a b)
 dec_together test shapes a b = dec_same
     (λ h. record { first = h.0; first_is = h.1; second = h.2.0; second_is = h.2.1; passes_so = h.2.2 })
     (λ p. (p.first, p.first_is, (p.second, p.second_is, p.passes_so)))
     (dec_item shapes a (λ s. (t : Shape) × (slice_get shapes b ≡ Some t) × (test s t ≡ true))
     (λ s is. dec_item shapes b (λ t. test s t ≡ true) (λ t there. dec_true (test s t))))
 
-pub together_within : (test : Shape → Shape → Bool) (shapes : List Shape) (a b : ℕ) → PassTogether test shapes a b → (a < length shapes) × (b < length shapes)
-together_within test shapes a b p = (slice_get_within shapes a p.first p.first_is, slice_get_within shapes b p.second p.second_is)
+pub together_within : (test : Shape → Shape → Bool) (shapes : List Shape) (a b : ℕ) → PassTogether test shapes a b
+    → (a < length shapes) × (b < length shapes)
+together_within test shapes a b p =
+    (slice_get_within shapes a p.first p.first_is, slice_get_within shapes b p.second p.second_is)

@@ -74,7 +74,8 @@ pub record Least (P : ℕ → Type 0) : Type 0 where
 
 abbrev pub least_below : (P : ℕ → Type 0) → ((k : ℕ) → Dec (P k)) → (n : ℕ) → ((k : ℕ) → k < n → P k → ⊥) ⊎ Least P
 least_below P decided zero = inl (λ k lt h. absurd (omega arith))
-least_below P decided (suc n) = elim (least_below P decided n) [ inl none ↦ with_next none (decided n) | inr least ↦ inr least ]
+least_below P decided (suc n) =
+    elim (least_below P decided n) [ inl none ↦ with_next none (decided n) | inr least ↦ inr least ]
   where
     with_next : ((k : ℕ) → k < n → P k → ⊥) → Dec (P n) → ((k : ℕ) → k < suc n → P k → ⊥) ⊎ Least P
     with_next none (yes h) = inr (record { number = n; holds = h; none_below = none })
@@ -84,7 +85,8 @@ least_below P decided (suc n) = elim (least_below P decided n) [ inl none ↦ wi
     ])
 
 -- of decided facts about numbers below a bound none holds, or a first one does
-abbrev pub none_or_least : (P : ℕ → Type 0) (n : ℕ) → ((k : ℕ) → Dec (P k)) → ((k : ℕ) → P k → k < n) → ((k : ℕ) → P k → ⊥) ⊎ Least P
+abbrev pub none_or_least : (P : ℕ → Type 0) (n : ℕ) → ((k : ℕ) → Dec (P k)) → ((k : ℕ) → P k → k < n)
+    → ((k : ℕ) → P k → ⊥) ⊎ Least P
 none_or_least P n decided within = elim (least_below P decided n) [
   | inl none ↦ inl (λ k h. none k (within k h) h)
   | inr least ↦ inr least
@@ -103,7 +105,8 @@ dec_all P n decided past = elim (least_below (λ k. P k → ⊥) (λ k. dec_not 
 ]
 
 -- all numbers of which one thing holds, and they are below the bound, have the other
-abbrev pub dec_all_those : (P Q : ℕ → Type 0) (n : ℕ) → ((k : ℕ) → Dec (P k)) → ((k : ℕ) → P k → k < n) → ((k : ℕ) → Dec (Q k)) → Dec ((k : ℕ) → P k → Q k)
+abbrev pub dec_all_those : (P Q : ℕ → Type 0) (n : ℕ) → ((k : ℕ) → Dec (P k)) → ((k : ℕ) → P k → k < n)
+    → ((k : ℕ) → Dec (Q k)) → Dec ((k : ℕ) → P k → Q k)
 dec_all_those P Q n decided within also = dec_all (λ k. P k → Q k) n (λ k. dec_then (decided k) (also k))
     (λ k le h. let lt : k < n = within k h in absurd (omega arith))
 
@@ -125,14 +128,16 @@ dec_only P n decided within = elim (none_or_least P n decided within) [
 
 module _ {X : Type 0} (xs : List X) where
   -- a fact about the item at a place, if there is one
-  abbrev pub dec_item : (n : ℕ) (Q : X → Type 0) → ((x : X) → slice_get xs n ≡ Some x → Dec (Q x)) → Dec ((x : X) × (slice_get xs n ≡ Some x) × Q x)
+  abbrev pub dec_item : (n : ℕ) (Q : X → Type 0) → ((x : X) → slice_get xs n ≡ Some x → Dec (Q x))
+      → Dec ((x : X) × (slice_get xs n ≡ Some x) × Q x)
   dec_item n Q decided = by_item (slice_get xs n) refl
     where
       by_item : (o : Option X) → slice_get xs n ≡ o → Dec ((x : X) × (slice_get xs n ≡ Some x) × Q x)
       by_item None e = no (λ h. let some = h.1 in absurd cc)
       by_item (Some x) e = dec_same (λ q. (x, e, q)) (λ h. subst Q (same_Some h.0 x (sym h.1 ∙ e)) h.2) (decided x e)
 
-  abbrev pub dec_each_item : (n : ℕ) (Q : X → Type 0) → ((x : X) → slice_get xs n ≡ Some x → Dec (Q x)) → Dec ((x : X) → slice_get xs n ≡ Some x → Q x)
+  abbrev pub dec_each_item : (n : ℕ) (Q : X → Type 0) → ((x : X) → slice_get xs n ≡ Some x → Dec (Q x))
+      → Dec ((x : X) → slice_get xs n ≡ Some x → Q x)
   dec_each_item n Q decided = by_item (slice_get xs n) refl
     where
       by_item : (o : Option X) → slice_get xs n ≡ o → Dec ((x : X) → slice_get xs n ≡ Some x → Q x)
@@ -140,10 +145,13 @@ module _ {X : Type 0} (xs : List X) where
       by_item (Some x) e = dec_same (λ q y is. subst Q (same_Some x y (sym e ∙ is)) q) (λ f. f x e) (decided x e)
 
   -- a fact about some item and its place
-  abbrev pub dec_some_item : (Q : ℕ → X → Type 0) → ((k : ℕ) (x : X) → slice_get xs k ≡ Some x → Dec (Q k x)) → Dec ((k : ℕ) × ((x : X) × (slice_get xs k ≡ Some x) × Q k x))
+  abbrev pub dec_some_item : (Q : ℕ → X → Type 0) → ((k : ℕ) (x : X) → slice_get xs k ≡ Some x → Dec (Q k x))
+      → Dec ((k : ℕ) × ((x : X) × (slice_get xs k ≡ Some x) × Q k x))
   dec_some_item Q decided = dec_some (λ k. (x : X) × (slice_get xs k ≡ Some x) × Q k x) (length xs)
       (λ k. dec_item k (Q k) (decided k)) (λ k h. slice_get_within xs k h.0 h.1)
 
-  abbrev pub dec_all_items : (Q : ℕ → X → Type 0) → ((k : ℕ) (x : X) → slice_get xs k ≡ Some x → Dec (Q k x)) → Dec ((k : ℕ) (x : X) → slice_get xs k ≡ Some x → Q k x)
+  abbrev pub dec_all_items : (Q : ℕ → X → Type 0) → ((k : ℕ) (x : X) → slice_get xs k ≡ Some x → Dec (Q k x))
+      → Dec ((k : ℕ) (x : X) → slice_get xs k ≡ Some x → Q k x)
   dec_all_items Q decided = dec_all (λ k. (x : X) → slice_get xs k ≡ Some x → Q k x) (length xs)
-      (λ k. dec_each_item k (Q k) (decided k)) (λ k le x is. let lt = slice_get_within xs k x is in absurd (omega arith))
+      (λ k. dec_each_item k (Q k) (decided k))
+      (λ k le x is. let lt = slice_get_within xs k x is in absurd (omega arith))

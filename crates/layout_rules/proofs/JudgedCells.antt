@@ -9,8 +9,10 @@ use Rattle.layout_rules.specs.declared.layers.TheConstants.{INPUT_PIN, OUTPUT_PI
 use Rattle.layout_rules.specs.Layers.{is_frame, is_pin}
 use Rattle.layout_rules.specs.Pins.{lies_in, LiesIn, IsPinOf}
 use Rattle.layout_rules.specs.Reports.{Alone, Passes}
-use Rattle.layout_rules.specs.CircuitRules.{HasPins, IsCell, LiesInOneFrame, HasNoFrame, IsNoCell, IsStrayPin, CellsBroken}
-use Rattle.layout_rules.proofs.Deciding.{dec_same, dec_both, dec_either, dec_then, dec_not, dec_true, dec_equal, dec_below, dec_some, dec_all, dec_all_those, dec_only, dec_item, dec_each_item}
+use Rattle.layout_rules.specs.CircuitRules.{HasPins, IsCell, LiesInOneFrame, HasNoFrame, IsNoCell, IsStrayPin}
+use Rattle.layout_rules.specs.CircuitRules.{CellsBroken}
+use Rattle.layout_rules.proofs.Deciding.{dec_same, dec_both, dec_either, dec_then, dec_not, dec_true, dec_equal}
+use Rattle.layout_rules.proofs.Deciding.{dec_below, dec_some, dec_all, dec_all_those, dec_only, dec_item, dec_each_item}
 use Rattle.layout_rules.proofs.Judging.{Judged, judged_alone, judged_pairs, judged_afterwards}
 use Rattle.layout_rules.proofs.DecidedShapes.{dec_passes, passes_within}
 
@@ -52,9 +54,19 @@ module _ (shapes : List Shape) where
 
   abbrev pub dec_pin_of : (f layer i p : ℕ) → Dec (IsPinOf shapes f layer i p)
   dec_pin_of f layer i p = dec_same
-      (λ h. record { pin = h.0; frame = h.2.0; pin_is = h.1; frame_is = h.2.1; lies_so = h.2.2.0; of_layer = h.2.2.1; of_number = h.2.2.2 })
+      (λ h. record {
+        pin = h.0;
+        frame = h.2.0;
+        pin_is = h.1;
+        frame_is = h.2.1;
+        lies_so = h.2.2.0;
+        of_layer =
+            h.2.2.1;
+        of_number = h.2.2.2;
+      })
       (λ l. (l.pin, l.pin_is, (l.frame, l.frame_is, (l.lies_so, l.of_layer, l.of_number))))
-      (dec_item shapes p (λ pin. (frame : Shape) × (slice_get shapes f ≡ Some frame) × ((lies_in pin frame ≡ true) × (pin.layer ≡ layer) × (pin.datatype ≡ i)))
+      (dec_item shapes p (λ pin. (frame : Shape) × (slice_get shapes f ≡ Some frame)
+      × ((lies_in pin frame ≡ true) × (pin.layer ≡ layer) × (pin.datatype ≡ i)))
       (λ pin is. dec_item shapes f (λ frame. (lies_in pin frame ≡ true) × (pin.layer ≡ layer) × (pin.datatype ≡ i))
       (λ frame there. dec_same (λ h. (h.0, h.1.0, h.1.1)) (λ h. (h.0, (h.1, h.2)))
       (dec_both (dec_true (lies_in pin frame)) (dec_both (dec_equal pin.layer layer) (dec_equal pin.datatype i))))))
@@ -63,9 +75,11 @@ module _ (shapes : List Shape) where
   pin_within f layer i p h = slice_get_within shapes p h.pin h.pin_is
 
   -- a pin has one number, so what is to hold of its numbers is decided at that one
-  abbrev pub dec_numbers : (f layer p : ℕ) (Q : ℕ → Type 0) → ((i : ℕ) → Dec (Q i)) → Dec ((i : ℕ) → IsPinOf shapes f layer i p → Q i)
+  abbrev pub dec_numbers : (f layer p : ℕ) (Q : ℕ → Type 0) → ((i : ℕ) → Dec (Q i))
+      → Dec ((i : ℕ) → IsPinOf shapes f layer i p → Q i)
   dec_numbers f layer p Q decided = dec_same
-      (λ each i pin. subst Q pin.of_number (each pin.pin pin.pin_is (subst (λ (n : ℕ). IsPinOf shapes f layer n p) (sym pin.of_number) pin)))
+      (λ each i pin. subst Q pin.of_number
+      (each pin.pin pin.pin_is (subst (λ (n : ℕ). IsPinOf shapes f layer n p) (sym pin.of_number) pin)))
       (λ each s is pin. each s.datatype pin)
       (dec_each_item shapes p (λ s. IsPinOf shapes f layer s.datatype p → Q s.datatype)
       (λ s is. dec_then (dec_pin_of f layer s.datatype p) (decided s.datatype)))
@@ -80,13 +94,15 @@ module _ (shapes : List Shape) where
       (dec_both dec_each (dec_both dec_one dec_no_other))
     where
       dec_each : Dec ((i : ℕ) → i < n → (p : ℕ) × IsPinOf shapes f layer i p)
-      dec_each = dec_all_those (λ i. i < n) (λ i. (p : ℕ) × IsPinOf shapes f layer i p) n (λ i. dec_below i n) (λ i lt. lt)
+      dec_each = dec_all_those (λ i. i < n) (λ i. (p : ℕ) × IsPinOf shapes f layer i p) n
+          (λ i. dec_below i n) (λ i lt. lt)
           (λ i. dec_some (IsPinOf shapes f layer i) (length shapes) (dec_pin_of f layer i) (pin_within f layer i))
 
       dec_one : Dec ((p q : ℕ) → AreOne f layer p q)
       dec_one = dec_all (λ p. (q : ℕ) → AreOne f layer p q) (length shapes)
           (λ p. dec_all (AreOne f layer p) (length shapes)
-          (λ q. dec_numbers f layer p (λ i. IsPinOf shapes f layer i q → p ≡ q) (λ i. dec_then (dec_pin_of f layer i q) (dec_equal p q)))
+          (λ q. dec_numbers f layer p (λ i. IsPinOf shapes f layer i q → p ≡ q)
+          (λ i. dec_then (dec_pin_of f layer i q) (dec_equal p q)))
           (λ q le i one other. let lt = pin_within f layer i q other in absurd (omega arith)))
           (λ p le q i one other. let lt = pin_within f layer i p one in absurd (omega arith))
 
@@ -99,8 +115,10 @@ module _ (shapes : List Shape) where
   dec_cell f frame = dec_same
       (λ h. record { kind = h.0; kind_is = h.1.0; inputs = h.1.1.0; outputs = h.1.1.1 })
       (λ c. (c.kind, (c.kind_is, (c.inputs, c.outputs))))
-      (dec_some_kind (λ kind. (frame.datatype ≡ number_of kind) × (HasPins shapes f INPUT_PIN (inputs_of kind) × HasPins shapes f OUTPUT_PIN (outputs_of kind)))
-      (λ kind. dec_both (dec_equal frame.datatype (number_of kind)) (dec_both (dec_has_pins f INPUT_PIN (inputs_of kind)) (dec_has_pins f OUTPUT_PIN (outputs_of kind)))))
+      (dec_some_kind (λ kind. (frame.datatype ≡ number_of kind)
+      × (HasPins shapes f INPUT_PIN (inputs_of kind) × HasPins shapes f OUTPUT_PIN (outputs_of kind)))
+      (λ kind. dec_both (dec_equal frame.datatype (number_of kind))
+      (dec_both (dec_has_pins f INPUT_PIN (inputs_of kind)) (dec_has_pins f OUTPUT_PIN (outputs_of kind)))))
 
   abbrev pub dec_no_cell : (f : ℕ) → Dec (IsNoCell shapes f)
   dec_no_cell f = dec_same
@@ -111,7 +129,8 @@ module _ (shapes : List Shape) where
 
   abbrev pub dec_one_frame : (p : ℕ) → Dec (LiesInOneFrame shapes p)
   dec_one_frame p = dec_same
-      (λ h. record { frame = h.number; lies = h.holds; only = h.only }) (λ h. record { number = h.frame; holds = h.lies; only = h.only })
+      (λ h. record { frame = h.number; lies = h.holds; only = h.only })
+      (λ h. record { number = h.frame; holds = h.lies; only = h.only })
       (dec_only (LiesIn shapes p) (length shapes) (dec_lies_in p) (λ f l. slice_get_within shapes f l.frame l.frame_is))
 
   abbrev pub dec_stray : (p : ℕ) → Dec (IsStrayPin shapes p)
@@ -120,8 +139,10 @@ module _ (shapes : List Shape) where
 
   abbrev pub dec_no_frame : (a b : ℕ) → Dec (HasNoFrame shapes a b)
   dec_no_frame a b = dec_same
-      (λ h. record { none = λ f p. h.0 (f, p); first_is = h.1.0; second_is = h.1.1 }) (λ h. (λ p. h.none p.0 p.1, (h.first_is, h.second_is)))
-      (dec_both (dec_not (dec_some (Passes is_frame shapes) (length shapes) (dec_passes is_frame shapes) (passes_within is_frame shapes)))
+      (λ h. record { none = λ f p. h.0 (f, p); first_is = h.1.0; second_is = h.1.1 })
+      (λ h. (λ p. h.none p.0 p.1, (h.first_is, h.second_is)))
+      (dec_both (dec_not (dec_some (Passes is_frame shapes) (length shapes) (dec_passes is_frame shapes)
+      (passes_within is_frame shapes)))
       (dec_both (dec_equal a 0) (dec_equal b 0)))
 
   abbrev IsFault : ℕ → Type 0
@@ -133,5 +154,6 @@ module _ (shapes : List Shape) where
 
   abbrev pub cells_judged : Judged (CellsBroken shapes)
   cells_judged = judged_afterwards (HasNoFrame shapes) (Alone IsFault)
-      (judged_pairs (HasNoFrame shapes) 1 dec_no_frame (λ a b h. (let e = h.first_is in omega arith, let e = h.second_is in omega arith)))
+      (judged_pairs (HasNoFrame shapes) 1 dec_no_frame
+      (λ a b h. (let e = h.first_is in omega arith, let e = h.second_is in omega arith)))
       (judged_alone IsFault (length shapes) (λ n. dec_either (dec_no_cell n) (dec_stray n)) fault_within)

@@ -14,10 +14,12 @@ use Rattle.layout_rules.proofs.DecidedShapes.{dec_passes, passes_within, dec_tog
 use Rattle.layout_rules.proofs.Judging.{Judged, judged_alone, judged_pairs}
 
 abbrev pub passes_judged : (test : Shape → Bool) (shapes : List Shape) → Judged (λ a b. Passes test shapes a × (b ≡ a))
-passes_judged test shapes = judged_alone (Passes test shapes) (length shapes) (dec_passes test shapes) (passes_within test shapes)
+passes_judged test shapes = judged_alone (Passes test shapes) (length shapes) (dec_passes test shapes)
+    (passes_within test shapes)
 
 -- two shapes of which the lesser number is told first
-abbrev pub in_order_judged : (test : Shape → Shape → Bool) (shapes : List Shape) → Judged (λ a b. (a < b) × PassTogether test shapes a b)
+abbrev pub in_order_judged : (test : Shape → Shape → Bool) (shapes : List Shape)
+    → Judged (λ a b. (a < b) × PassTogether test shapes a b)
 in_order_judged test shapes = judged_pairs (λ a b. (a < b) × PassTogether test shapes a b) (length shapes)
     (λ a b. dec_both (dec_below a b) (dec_together test shapes a b)) (λ a b h. together_within test shapes a b h.1)
 
@@ -32,7 +34,8 @@ module _ (limits : Limits) (shapes : List Shape) where
   enclosure_judged = passes_judged (is_bare limits shapes) shapes
 
   abbrev pub cover_judged : Judged (CoverBroken shapes)
-  cover_judged = judged_pairs (CoverBroken shapes) (length shapes) (dec_together (trespasses shapes) shapes) (together_within (trespasses shapes) shapes)
+  cover_judged = judged_pairs (CoverBroken shapes) (length shapes) (dec_together (trespasses shapes) shapes)
+      (together_within (trespasses shapes) shapes)
 
   abbrev pub frames_judged : Judged (FramesBroken shapes)
   frames_judged = in_order_judged collide shapes
@@ -52,7 +55,8 @@ module _ (limits : Limits) (shapes : List Shape) where
       (dec_below limits.limit (net_length shapes nets (slice_index nets a)))))
 
   abbrev pub lengths_judged : (some : (ns : List ℕ) × AreNets shapes ns) → Judged (LengthsBroken limits shapes)
-  lengths_judged some = judged_alone (IsTooLong limits shapes) (length shapes) dec_too_long (λ a h. passes_within is_metal shapes a h.metal)
+  lengths_judged some = judged_alone (IsTooLong limits shapes) (length shapes) dec_too_long
+      (λ a h. passes_within is_metal shapes a h.metal)
     where
       nets : List ℕ
       nets = some.0
@@ -61,8 +65,10 @@ module _ (limits : Limits) (shapes : List Shape) where
       are = some.1
 
       by_these : (a : ℕ) → IsTooLong limits shapes a → TooLongBy nets a
-      by_these a h = subst (λ (n : List ℕ). TooLongBy n a) (AreNets-once shapes h.nets nets h.are_nets are) (h.metal, h.least, h.too_long)
+      by_these a h = subst (λ (n : List ℕ). TooLongBy n a) (AreNets-once shapes h.nets nets h.are_nets are)
+          (h.metal, h.least, h.too_long)
 
       dec_too_long : (a : ℕ) → Dec (IsTooLong limits shapes a)
       dec_too_long a = dec_same
-          (λ h. record { metal = h.0; nets = nets; are_nets = are; least = h.1; too_long = h.2 }) (by_these a) (dec_too_long_by nets a)
+          (λ h. record { metal = h.0; nets = nets; are_nets = are; least = h.1; too_long = h.2 })
+          (by_these a) (dec_too_long_by nets a)

@@ -10,11 +10,14 @@ use Rattle.layout_rules.specs.Layers.{is_line, is_frame}
 use Rattle.layout_rules.specs.Rows.{row_of}
 use Rattle.layout_rules.specs.Reports.{Alone, Afterwards, Passes}
 use Rattle.layout_rules.specs.ExcitationLines.{meet, Contact, IsPart, enters, leaves, phase_of}
-use Rattle.layout_rules.specs.ExcitationRule.{is_no_part, IsStartOn, HasOneStart, LacksOneStart, HasStartContacts, HasLinkContacts, HasBarContacts}
+use Rattle.layout_rules.specs.ExcitationRule.{is_no_part, IsStartOn, HasOneStart, LacksOneStart, HasStartContacts}
+use Rattle.layout_rules.specs.ExcitationRule.{HasLinkContacts, HasBarContacts}
 use Rattle.layout_rules.specs.ExcitationRule.{HasItsContacts, IsMisjoined, IsCutOff}
 use Rattle.layout_rules.specs.Code.LineChains.{ChainBefore}
-use Rattle.layout_rules.specs.Code.ChainRule.{ChainLeavesWrongly, IsChainUncrossed, IsChainExcited, IsChainUnexcited, ChainsBroken}
-use Rattle.layout_rules.proofs.Deciding.{dec_same, dec_both, dec_either, dec_then, dec_not, dec_true, dec_false, dec_equal, dec_below, dec_up_to}
+use Rattle.layout_rules.specs.Code.ChainRule.{ChainLeavesWrongly, IsChainUncrossed, IsChainExcited, IsChainUnexcited}
+use Rattle.layout_rules.specs.Code.ChainRule.{ChainsBroken}
+use Rattle.layout_rules.proofs.Deciding.{dec_same, dec_both, dec_either, dec_then, dec_not, dec_true, dec_false}
+use Rattle.layout_rules.proofs.Deciding.{dec_equal, dec_below, dec_up_to}
 use Rattle.layout_rules.proofs.Deciding.{dec_some, dec_all_those, dec_all_items, dec_only, dec_item, dec_some_item}
 use Rattle.layout_rules.proofs.Judging.{Judged, judged_alone, judged_afterwards}
 use Rattle.layout_rules.proofs.DecidedShapes.{dec_passes, passes_within}
@@ -25,21 +28,33 @@ module _ (shapes : List Shape) where
 
   dec_start_on : (layer i : ℕ) → Dec (IsStartOn shapes layer i)
   dec_start_on layer i = dec_same
-      (λ h. record { start = record { shape = h.0; shape_is = h.1; line_so = h.2.0; datatype_is = h.2.1.0 }; of_layer = h.2.1.1 })
+      (λ h. record {
+        start = record {
+          shape = h.0;
+          shape_is = h.1;
+          line_so = h.2.0;
+          datatype_is =
+              h.2.1.0;
+        };
+        of_layer = h.2.1.1;
+      })
       (λ s. (s.start.shape, s.start.shape_is, (s.start.line_so, (s.start.datatype_is, s.of_layer))))
       (dec_item shapes i (λ s. (is_line s ≡ true) × ((s.datatype ≡ START) × (s.layer ≡ layer)))
       (λ s is. dec_both (dec_true (is_line s)) (dec_both (dec_equal s.datatype START) (dec_equal s.layer layer))))
 
   pub dec_one_start : (layer : ℕ) → Dec (HasOneStart shapes layer)
   dec_one_start layer = dec_same
-      (λ h. record { number = h.number; start = h.holds; only = h.only }) (λ h. record { number = h.number; holds = h.start; only = h.only })
-      (dec_only (IsStartOn shapes layer) (length shapes) (dec_start_on layer) (λ i s. part_within shapes START i s.start))
+      (λ h. record { number = h.number; start = h.holds; only = h.only })
+      (λ h. record { number = h.number; holds = h.start; only = h.only })
+      (dec_only (IsStartOn shapes layer) (length shapes) (dec_start_on layer)
+      (λ i s. part_within shapes START i s.start))
 
   abbrev IsLeastOf : ℕ → ℕ → Type 0
   IsLeastOf layer a = (c : ℕ) (s : Shape) → slice_get shapes c ≡ Some s → s.layer ≡ layer → a ≤ c
 
   dec_least_of : (layer a : ℕ) → Dec (IsLeastOf layer a)
-  dec_least_of layer a = dec_all_items shapes (λ c s. s.layer ≡ layer → a ≤ c) (λ c s is. dec_then (dec_equal s.layer layer) (dec_up_to a c))
+  dec_least_of layer a = dec_all_items shapes (λ c s. s.layer ≡ layer → a ≤ c)
+      (λ c s is. dec_then (dec_equal s.layer layer) (dec_up_to a c))
 
   dec_lacks : (layer a : ℕ) → Dec (LacksOneStart shapes layer a)
   dec_lacks layer a = dec_same
@@ -51,13 +66,17 @@ module _ (shapes : List Shape) where
   -- ---- contacts
 
   dec_only_contacts : (i : ℕ) (P : ℕ → Type 0) → ((c : ℕ) → Dec (P c)) → Dec ((c : ℕ) → Contact shapes i c → P c)
-  dec_only_contacts i P decided = dec_all_those (Contact shapes i) P (length shapes) (dec_contact shapes i) (contact_within shapes i) decided
+  dec_only_contacts i P decided = dec_all_those (Contact shapes i) P (length shapes) (dec_contact shapes i)
+      (contact_within shapes i) decided
 
   dec_start_contacts : (i : ℕ) → Dec (HasStartContacts shapes i)
   dec_start_contacts i = dec_same
-      (λ h. record { bar = h.0; contact = h.1.0; is_bar = h.1.1.0; only = h.1.1.1 }) (λ h. (h.bar, (h.contact, (h.is_bar, h.only))))
-      (dec_some (λ bar. Contact shapes i bar × (IsPart shapes BAR bar × ((c : ℕ) → Contact shapes i c → c ≡ bar))) (length shapes)
-      (λ bar. dec_both (dec_contact shapes i bar) (dec_both (dec_part shapes BAR bar) (dec_only_contacts i (λ c. c ≡ bar) (λ c. dec_equal c bar))))
+      (λ h. record { bar = h.0; contact = h.1.0; is_bar = h.1.1.0; only = h.1.1.1 })
+      (λ h. (h.bar, (h.contact, (h.is_bar, h.only))))
+      (dec_some (λ bar. Contact shapes i bar
+      × (IsPart shapes BAR bar × ((c : ℕ) → Contact shapes i c → c ≡ bar))) (length shapes)
+      (λ bar. dec_both (dec_contact shapes i bar)
+      (dec_both (dec_part shapes BAR bar) (dec_only_contacts i (λ c. c ≡ bar) (λ c. dec_equal c bar))))
       (λ bar h. contact_within shapes i bar h.0))
 
   -- one contact or two, and these alone
@@ -65,10 +84,12 @@ module _ (shapes : List Shape) where
   AreContacts i one other = (c : ℕ) → Contact shapes i c → (c ≡ one) ⊎ (c ≡ other)
 
   dec_are_contacts : (i one other : ℕ) → Dec (AreContacts i one other)
-  dec_are_contacts i one other = dec_only_contacts i (λ c. (c ≡ one) ⊎ (c ≡ other)) (λ c. dec_either (dec_equal c one) (dec_equal c other))
+  dec_are_contacts i one other = dec_only_contacts i (λ c. (c ≡ one) ⊎ (c ≡ other))
+      (λ c. dec_either (dec_equal c one) (dec_equal c other))
 
   abbrev AreBars : ℕ → ℕ → ℕ → Type 0
-  AreBars i one other = (one ≢ other) × (Contact shapes i other × (IsPart shapes BAR one × (IsPart shapes BAR other × AreContacts i one other)))
+  AreBars i one other = (one ≢ other)
+      × (Contact shapes i other × (IsPart shapes BAR one × (IsPart shapes BAR other × AreContacts i one other)))
 
   dec_bars : (i one other : ℕ) → Dec (AreBars i one other)
   dec_bars i one other = dec_both (dec_not (dec_equal one other)) (dec_both (dec_contact shapes i other)
@@ -97,7 +118,8 @@ module _ (shapes : List Shape) where
   HasTwo i = (one : ℕ) × (Contact shapes i one × ((other : ℕ) × ((other < length shapes) × AreContacts i one other)))
 
   dec_two : (i : ℕ) → Dec (HasTwo i)
-  dec_two i = dec_some (λ one. Contact shapes i one × ((other : ℕ) × ((other < length shapes) × AreContacts i one other))) (length shapes)
+  dec_two i = dec_some (λ one. Contact shapes i one
+      × ((other : ℕ) × ((other < length shapes) × AreContacts i one other))) (length shapes)
       (λ one. dec_both (dec_contact shapes i one)
       (dec_some (λ other. (other < length shapes) × AreContacts i one other) (length shapes)
       (λ other. dec_both (dec_below other (length shapes)) (dec_are_contacts i one other)) (λ other h. h.0)))
@@ -135,7 +157,8 @@ module _ (shapes : List Shape) where
   dec_its_contacts i = dec_same
       (λ h. record { start = h.0; link = h.1.0; bar = h.1.1 }) (λ h. (h.start, (h.link, h.bar)))
       (dec_both (dec_then (dec_part shapes START i) (dec_start_contacts i))
-      (dec_both (dec_then (dec_part shapes LINK i) (dec_link_contacts i)) (dec_then (dec_part shapes BAR i) (dec_bar_contacts i))))
+      (dec_both (dec_then (dec_part shapes LINK i) (dec_link_contacts i))
+      (dec_then (dec_part shapes BAR i) (dec_bar_contacts i))))
 
   dec_misjoined : (i : ℕ) → Dec (IsMisjoined shapes i)
   dec_misjoined i = dec_same (λ h. record { part = h.0; not_so = h.1 }) (λ m. (m.part, m.not_so))
@@ -149,13 +172,18 @@ module _ (shapes : List Shape) where
 
   -- the shape after the bar is a contact of it, whose own record names the two shapes anew
   abbrev IsAfter : ℕ → ℕ → Shape → Shape → ℕ → Type 0
-  IsAfter b before bar before_shape after = (after ≢ before) × ((b ≢ after) × ((first : Shape) × (slice_get shapes b ≡ Some first)
-      × ((second : Shape) × (slice_get shapes after ≡ Some second) × ((meet first second ≡ true) × (leaves before_shape bar second ≡ false)))))
+  IsAfter b before bar before_shape after = (after ≢ before)
+      × ((b ≢ after) × ((first : Shape) × (slice_get shapes b ≡ Some first)
+      × ((second : Shape) × (slice_get shapes after ≡ Some second)
+      × ((meet first second ≡ true) × (leaves before_shape bar second ≡ false)))))
 
   dec_after : (b before : ℕ) (bar before_shape : Shape) (after : ℕ) → Dec (IsAfter b before bar before_shape after)
-  dec_after b before bar before_shape after = dec_both (dec_not (dec_equal after before)) (dec_both (dec_not (dec_equal b after))
-      (dec_item shapes b (λ first. (second : Shape) × (slice_get shapes after ≡ Some second) × ((meet first second ≡ true) × (leaves before_shape bar second ≡ false)))
-      (λ first is. dec_item shapes after (λ second. (meet first second ≡ true) × (leaves before_shape bar second ≡ false))
+  dec_after b before bar before_shape after = dec_both (dec_not (dec_equal after before))
+      (dec_both (dec_not (dec_equal b after))
+      (dec_item shapes b (λ first. (second : Shape) × (slice_get shapes after ≡ Some second)
+      × ((meet first second ≡ true) × (leaves before_shape bar second ≡ false)))
+      (λ first is. dec_item shapes after (λ second. (meet first second ≡ true)
+      × (leaves before_shape bar second ≡ false))
       (λ second there. dec_both (dec_true (meet first second)) (dec_false (leaves before_shape bar second))))))
 
   dec_leaves : (b before : ℕ) (bar before_shape : Shape) → Dec (ChainLeavesWrongly shapes b before bar before_shape)
@@ -173,20 +201,36 @@ module _ (shapes : List Shape) where
         onward = h.1.0;
         wrong = h.1.1.1.2.2.1;
       })
-      (λ l. (l.after, (l.onward, (l.contact.apart, (l.contact.first, l.contact.first_is, (l.contact.second, l.contact.second_is, (l.contact.meet_so, l.wrong)))))))
+      (λ l. (
+        l.after,
+        (
+          l.onward,
+          (
+            l.contact.apart,
+            (
+              l.contact.first,
+              l.contact.first_is,
+              (l.contact.second, l.contact.second_is, (l.contact.meet_so, l.wrong)),
+            ),
+          ),
+        ),
+      ))
       (dec_some (IsAfter b before bar before_shape) (length shapes) (dec_after b before bar before_shape)
       (λ after h. slice_get_within shapes after h.1.1.2.0 h.1.1.2.1))
 
   -- the line comes to the bar by this shape, wrongly or to leave it wrongly
   abbrev IsWrong : ℕ → Shape → ℕ → Shape → Type 0
-  IsWrong b bar before before_shape = ChainBefore shapes before b × ((enters before_shape bar ≡ false) ⊎ ChainLeavesWrongly shapes b before bar before_shape)
+  IsWrong b bar before before_shape = ChainBefore shapes before b
+      × ((enters before_shape bar ≡ false) ⊎ ChainLeavesWrongly shapes b before bar before_shape)
 
   abbrev IsWrongBar : ℕ → Shape → Type 0
   IsWrongBar b bar = (is_line bar ≡ true) × ((bar.datatype ≡ BAR)
-      × ((before : ℕ) × ((before_shape : Shape) × (slice_get shapes before ≡ Some before_shape) × IsWrong b bar before before_shape)))
+      × ((before : ℕ) × ((before_shape : Shape) × (slice_get shapes before ≡ Some before_shape)
+      × IsWrong b bar before before_shape)))
 
   dec_wrong_bar : (b : ℕ) (bar : Shape) → Dec (IsWrongBar b bar)
-  dec_wrong_bar b bar = dec_both (dec_true (is_line bar)) (dec_both (dec_equal bar.datatype BAR) (dec_some_item shapes (IsWrong b bar)
+  dec_wrong_bar b bar = dec_both (dec_true (is_line bar))
+      (dec_both (dec_equal bar.datatype BAR) (dec_some_item shapes (IsWrong b bar)
       (λ before before_shape is. dec_both (dec_before shapes before b)
       (dec_either (dec_false (enters before_shape bar)) (dec_leaves b before bar before_shape)))))
 
@@ -200,13 +244,24 @@ module _ (shapes : List Shape) where
         is_before = h.2.1.1.1.2.0;
         wrong = h.2.1.1.1.2.1;
       })
-      (λ n. (n.bar.shape, n.bar.shape_is, (n.bar.line_so, (n.bar.datatype_is, (n.before, (n.before_shape, n.before_shape_is, (n.is_before, n.wrong)))))))
+      (λ n. (
+        n.bar.shape,
+        n.bar.shape_is,
+        (
+          n.bar.line_so,
+          (
+            n.bar.datatype_is,
+            (n.before, (n.before_shape, n.before_shape_is, (n.is_before, n.wrong))),
+          ),
+        ),
+      ))
       (dec_item shapes b (IsWrongBar b) (λ bar is. dec_wrong_bar b bar))
 
   -- ---- bars over frames
 
   abbrev OverAlone : Shape → ℕ → Type 0
-  OverAlone frame b = (i : ℕ) (s : Shape) → slice_get shapes i ≡ Some s → is_line s ≡ true → overlap s.rect frame.rect ≡ true → i ≡ b
+  OverAlone frame b = (i : ℕ) (s : Shape) → slice_get shapes i ≡ Some s → is_line s ≡ true
+      → overlap s.rect frame.rect ≡ true → i ≡ b
 
   dec_over_alone : (frame : Shape) (b : ℕ) → Dec (OverAlone frame b)
   dec_over_alone frame b = dec_all_items shapes (λ i s. is_line s ≡ true → overlap s.rect frame.rect ≡ true → i ≡ b)
@@ -218,7 +273,8 @@ module _ (shapes : List Shape) where
       × (ChainBefore shapes before b × (phase_of before_shape bar ≡ phase)))
 
   dec_comes_in : (b : ℕ) (bar : Shape) (phase : ℕ) → Dec (ComesIn b bar phase)
-  dec_comes_in b bar phase = dec_some_item shapes (λ before before_shape. ChainBefore shapes before b × (phase_of before_shape bar ≡ phase))
+  dec_comes_in b bar phase = dec_some_item shapes (λ before before_shape. ChainBefore shapes before b
+      × (phase_of before_shape bar ≡ phase))
       (λ before before_shape is. dec_both (dec_before shapes before b) (dec_equal (phase_of before_shape bar) phase))
 
   abbrev Excites : Shape → ℕ → Shape → Type 0
@@ -228,7 +284,8 @@ module _ (shapes : List Shape) where
   dec_excites : (frame : Shape) (b : ℕ) (bar : Shape) → Dec (Excites frame b bar)
   dec_excites frame b bar = dec_both (dec_true (is_line bar)) (dec_both (dec_equal bar.datatype BAR)
       (dec_both (dec_comes_in b bar (row_of shapes frame.rect.y0 % 4))
-      (dec_both (dec_true (overlap bar.rect frame.rect)) (dec_both (dec_true (within frame.rect bar.rect)) (dec_over_alone frame b)))))
+      (dec_both (dec_true (overlap bar.rect frame.rect))
+      (dec_both (dec_true (within frame.rect bar.rect)) (dec_over_alone frame b)))))
 
   dec_excited : (frame : Shape) → Dec (IsChainExcited shapes frame)
   dec_excited frame = dec_same
@@ -255,7 +312,10 @@ module _ (shapes : List Shape) where
             e.phase.is_bar.line_so,
             (
               e.phase.is_bar.datatype_is,
-              ((e.phase.before, (e.phase.before_shape, e.phase.before_shape_is, (e.phase.is_before, e.phase.phase_is))), (e.over, (e.contains, e.only))),
+              (
+                (e.phase.before, (e.phase.before_shape, e.phase.before_shape_is, (e.phase.is_before, e.phase.phase_is))),
+                (e.over, (e.contains, e.only)),
+              ),
             ),
           ),
         ),
@@ -286,15 +346,18 @@ module _ (shapes : List Shape) where
   abbrev OddStartAfter : ℕ → ℕ → Type 0
   OddStartAfter = Afterwards (Alone (LacksOneStart shapes ODD_LINE)) MisjoinedAfter
 
-  alone : (fault : ℕ → Type 0) → ((n : ℕ) → Dec (fault n)) → ((n : ℕ) → fault n → n < length shapes) → Judged (Alone fault)
+  alone : (fault : ℕ → Type 0) → ((n : ℕ) → Dec (fault n))
+      → ((n : ℕ) → fault n → n < length shapes) → Judged (Alone fault)
   alone fault decided within = judged_alone fault (length shapes) decided within
 
   lacks_judged : (layer : ℕ) → Judged (Alone (LacksOneStart shapes layer))
-  lacks_judged layer = alone (LacksOneStart shapes layer) (dec_lacks layer) (λ a l. slice_get_within shapes a l.shape l.shape_is)
+  lacks_judged layer = alone (LacksOneStart shapes layer) (dec_lacks layer)
+      (λ a l. slice_get_within shapes a l.shape l.shape_is)
 
   pub chains_judged : Judged (ChainsBroken shapes)
   chains_judged =
-      judged_afterwards (Alone (Passes is_no_part shapes)) (Afterwards (Alone (LacksOneStart shapes EVEN_LINE)) OddStartAfter)
+      judged_afterwards (Alone (Passes is_no_part shapes))
+      (Afterwards (Alone (LacksOneStart shapes EVEN_LINE)) OddStartAfter)
       (alone (Passes is_no_part shapes) (dec_passes is_no_part shapes) (passes_within is_no_part shapes))
       (judged_afterwards (Alone (LacksOneStart shapes EVEN_LINE)) OddStartAfter (lacks_judged EVEN_LINE)
       (judged_afterwards (Alone (LacksOneStart shapes ODD_LINE)) MisjoinedAfter (lacks_judged ODD_LINE)

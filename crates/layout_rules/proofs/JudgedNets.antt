@@ -1,5 +1,6 @@
 -- The rules of nets and rows are judged, since nets tell which shapes are joined.
-use Rattle.std.proofs.Common.{◌≡◌, ◌≢◌, ℕ, suc, ◌<◌, ◌≤◌, Bool, true, false, List, [], ◌∷◌, length, Some, arith, inl, inr, slice_get, slice_index}
+use Rattle.std.proofs.Common.{◌≡◌, ◌≢◌, ℕ, suc, ◌<◌, ◌≤◌, Bool, true, false, List, [], ◌∷◌, length, Some, arith, inl}
+use Rattle.std.proofs.Common.{inr, slice_get, slice_index}
 use Rattle.std.proofs.lemmas.Option.{slice_get_within}
 use Rattle.geom.specs.declared.shapes.Shape.{Shape}
 use Rattle.geom.specs.declared.shapes.Flat.{Flat}
@@ -13,7 +14,8 @@ use Rattle.layout_rules.specs.Rows.{row_of}
 use Rattle.layout_rules.specs.Labels.{is_labelled}
 use Rattle.layout_rules.specs.Reports.{Alone, Otherwise}
 use Rattle.layout_rules.specs.CircuitRules.{HasRival, IsInput, IsSource, IsUndriven, IsDriven, NetsBroken, RowsBroken}
-use Rattle.layout_rules.proofs.Deciding.{side, dec_same, dec_both, dec_not, dec_true, dec_false, dec_equal, dec_some, dec_item, dec_some_item}
+use Rattle.layout_rules.proofs.Deciding.{side, dec_same, dec_both, dec_not, dec_true, dec_false, dec_equal, dec_some}
+use Rattle.layout_rules.proofs.Deciding.{dec_item, dec_some_item}
 use Rattle.layout_rules.proofs.Judging.{Judged, JudgedAt, judged, judged_at, judged_pairs, alone_at, otherwise_at}
 
 module _ (shapes : List Shape) (some : (ns : List ℕ) × AreNets shapes ns) where
@@ -28,7 +30,8 @@ module _ (shapes : List Shape) (some : (ns : List ℕ) × AreNets shapes ns) whe
   abbrev pub dec_joined : (i j : ℕ) → Dec (Joined shapes i j)
   dec_joined i j = elim (side i (length shapes)) [
     | inl here ↦ elim (side j (length shapes)) [
-      | inl there ↦ dec_same (one_net shapes nets are i j here there) (one_number shapes nets are i j here) (dec_equal (slice_index nets i) (slice_index nets j))
+      | inl there ↦ dec_same (one_net shapes nets are i j here there) (one_number shapes nets are i j here)
+          (dec_equal (slice_index nets i) (slice_index nets j))
       | inr past ↦ no (λ joined. let lt : j < length shapes = Joined-within shapes i j here joined in omega arith)
     ]
     | inr past ↦ dec_same (λ e. ([], e)) (alone_past i j past) (dec_equal i j)
@@ -51,14 +54,16 @@ module _ (shapes : List Shape) (some : (ns : List ℕ) × AreNets shapes ns) whe
         joined = h.2.1.2.1.1;
       })
       (λ r. (r.pin.shape, r.pin.shape_is, (r.pin.passes_so, (r.other, r.other_is, (r.one_layer, (r.apart, r.joined))))))
-      (dec_item shapes a (λ s. (is_pin s ≡ true) × ((t : Shape) × (slice_get shapes b ≡ Some t) × ((s.layer ≡ t.layer) × ((a ≢ b) × Joined shapes a b))))
+      (dec_item shapes a (λ s. (is_pin s ≡ true)
+      × ((t : Shape) × (slice_get shapes b ≡ Some t) × ((s.layer ≡ t.layer) × ((a ≢ b) × Joined shapes a b))))
       (λ s is. dec_both (dec_true (is_pin s))
       (dec_item shapes b (λ t. (s.layer ≡ t.layer) × ((a ≢ b) × Joined shapes a b))
       (λ t there. dec_both (dec_equal s.layer t.layer) (dec_both (dec_not (dec_equal a b)) (dec_joined a b))))))
 
   abbrev pub dec_source : (a b : ℕ) → Dec (IsSource shapes a b)
   dec_source a b = dec_same
-      (λ h. record { pin = h.0; pin_is = h.1; of_layer = h.2.0; joined = h.2.1 }) (λ s. (s.pin, s.pin_is, (s.of_layer, s.joined)))
+      (λ h. record { pin = h.0; pin_is = h.1; of_layer = h.2.0; joined = h.2.1 })
+      (λ s. (s.pin, s.pin_is, (s.of_layer, s.joined)))
       (dec_item shapes b (λ pin. (pin.layer ≡ OUTPUT_PIN) × Joined shapes a b)
       (λ pin is. dec_both (dec_equal pin.layer OUTPUT_PIN) (dec_joined a b)))
 
@@ -70,9 +75,11 @@ module _ (flat : Flat) (some : (ns : List ℕ) × AreNets flat.shapes ns) where
   abbrev shapes_of : List Shape
   shapes_of = flat.shapes
 
-  abbrev pub dec_input : (labelled : Bool) (a : ℕ) → ((pin : Shape) → Dec (is_labelled flat pin ≡ labelled)) → Dec (IsInput flat labelled a)
+  abbrev pub dec_input : (labelled : Bool) (a : ℕ) → ((pin : Shape) → Dec (is_labelled flat pin ≡ labelled))
+      → Dec (IsInput flat labelled a)
   dec_input labelled a decided = dec_same
-      (λ h. record { pin = h.0; pin_is = h.1; of_layer = h.2.0; labelled_so = h.2.1 }) (λ i. (i.pin, i.pin_is, (i.of_layer, i.labelled_so)))
+      (λ h. record { pin = h.0; pin_is = h.1; of_layer = h.2.0; labelled_so = h.2.1 })
+      (λ i. (i.pin, i.pin_is, (i.of_layer, i.labelled_so)))
       (dec_item shapes_of a (λ pin. (pin.layer ≡ INPUT_PIN) × (is_labelled flat pin ≡ labelled))
       (λ pin is. dec_both (dec_equal pin.layer INPUT_PIN) (decided pin)))
 
@@ -83,8 +90,11 @@ module _ (flat : Flat) (some : (ns : List ℕ) × AreNets flat.shapes ns) where
   input_within labelled a i = slice_get_within shapes_of a i.pin i.pin_is
 
   abbrev pub dec_undriven : (a : ℕ) → Dec (IsUndriven flat a)
-  dec_undriven a = dec_same (λ h. record { input = h.0; none = λ b s. h.1 (b, s) }) (λ u. (u.input, λ s. u.none s.0 s.1))
-      (dec_both (dec_unlabelled a) (dec_not (dec_some (IsSource shapes_of a) (length shapes_of) (dec_source shapes_of some a) (source_within shapes_of some a))))
+  dec_undriven a = dec_same (λ h. record { input = h.0; none = λ b s. h.1 (b, s) })
+      (λ u. (u.input, λ s. u.none s.0 s.1))
+      (dec_both (dec_unlabelled a)
+      (dec_not (dec_some (IsSource shapes_of a) (length shapes_of) (dec_source shapes_of some a)
+      (source_within shapes_of some a))))
 
   abbrev pub dec_driven : (a b : ℕ) → Dec (IsDriven flat a b)
   dec_driven a b = dec_same (λ h. record { input = h.0; source = h.1 }) (λ d. (d.input, d.source))
@@ -92,10 +102,12 @@ module _ (flat : Flat) (some : (ns : List ℕ) × AreNets flat.shapes ns) where
 
   abbrev pub nets_judged_at : (a : ℕ) → JudgedAt (NetsBroken flat) a
   nets_judged_at a = otherwise_at (HasRival shapes_of) (Otherwise (Alone (IsUndriven flat)) (IsDriven flat)) a
-      (judged_at (HasRival shapes_of) a (length shapes_of) (dec_rival shapes_of some a) (λ b r. slice_get_within shapes_of b r.other r.other_is))
+      (judged_at (HasRival shapes_of) a (length shapes_of) (dec_rival shapes_of some a)
+      (λ b r. slice_get_within shapes_of b r.other r.other_is))
       (otherwise_at (Alone (IsUndriven flat)) (IsDriven flat) a
       (alone_at (IsUndriven flat) a (dec_undriven a))
-      (judged_at (IsDriven flat) a (length shapes_of) (dec_driven a) (λ b d. source_within shapes_of some a b d.source)))
+      (judged_at (IsDriven flat) a (length shapes_of) (dec_driven a)
+      (λ b d. source_within shapes_of some a b d.source)))
 
   pub nets_within : (a b : ℕ) → NetsBroken flat a b → a < length shapes_of
   nets_within a b (inl r) = slice_get_within shapes_of a r.pin.shape r.pin.shape_is
@@ -107,7 +119,8 @@ module _ (flat : Flat) (some : (ns : List ℕ) × AreNets flat.shapes ns) where
 
   -- cells around the two pins stand in rows that don't follow each other
   abbrev AreApart : Shape → Shape → Shape → Shape → Type 0
-  AreApart pin above source below = (lies_in pin above ≡ true) × ((lies_in source below ≡ true) × (row_of shapes_of above.rect.y0 ≢ suc (row_of shapes_of below.rect.y0)))
+  AreApart pin above source below = (lies_in pin above ≡ true)
+      × ((lies_in source below ≡ true) × (row_of shapes_of above.rect.y0 ≢ suc (row_of shapes_of below.rect.y0)))
 
   abbrev InOtherRows : Shape → Shape → Type 0
   InOtherRows pin source = (upper : ℕ) × ((above : Shape) × (slice_get shapes_of upper ≡ Some above)
@@ -115,13 +128,15 @@ module _ (flat : Flat) (some : (ns : List ℕ) × AreNets flat.shapes ns) where
 
   abbrev pub dec_other_rows : (pin source : Shape) → Dec (InOtherRows pin source)
   dec_other_rows pin source = dec_some_item shapes_of
-      (λ upper above. (lower : ℕ) × ((below : Shape) × (slice_get shapes_of lower ≡ Some below) × AreApart pin above source below))
+      (λ upper above. (lower : ℕ)
+      × ((below : Shape) × (slice_get shapes_of lower ≡ Some below) × AreApart pin above source below))
       (λ upper above is. dec_some_item shapes_of (λ lower below. AreApart pin above source below)
       (λ lower below there. dec_both (dec_true (lies_in pin above)) (dec_both (dec_true (lies_in source below))
       (dec_not (dec_equal (row_of shapes_of above.rect.y0) (suc (row_of shapes_of below.rect.y0)))))))
 
   abbrev WithOtherRows : ℕ → ℕ → Type 0
-  WithOtherRows a b = (pin : Shape) × (slice_get shapes_of a ≡ Some pin) × ((source : Shape) × (slice_get shapes_of b ≡ Some source) × InOtherRows pin source)
+  WithOtherRows a b = (pin : Shape) × (slice_get shapes_of a ≡ Some pin)
+      × ((source : Shape) × (slice_get shapes_of b ≡ Some source) × InOtherRows pin source)
 
   -- the rows of a report, whose frames name their pins anew
   pub rows_apart : (a b : ℕ) → RowsBroken flat a b → WithOtherRows a b
@@ -143,7 +158,15 @@ module _ (flat : Flat) (some : (ns : List ℕ) × AreNets flat.shapes ns) where
   )
 
   pub rows_broken : (a b : ℕ) → IsInput flat false a → IsSource shapes_of a b → WithOtherRows a b → RowsBroken flat a b
-  rows_broken a b input source (pin, pin_is, (other, other_is, (upper, (above, above_is, (lower, (below, below_is, (in_upper, (in_lower, apart)))))))) = record {
+  rows_broken a b input source (
+    pin,
+    pin_is,
+    (
+      other,
+      other_is,
+      (upper, (above, above_is, (lower, (below, below_is, (in_upper, (in_lower, apart)))))),
+    ),
+  ) = record {
     input = input;
     source = source;
     upper = upper;

@@ -1,5 +1,6 @@
 -- To which shapes a chain of contacts leads, and which shape comes before which, is decided.
-use Rattle.std.proofs.Common.{◌≡◌, ◌≢◌, ℕ, zero, suc, ◌<◌, ◌⊎◌, true, List, [], ◌∷◌, length, Some, refl, sym, ap, subst, arith, inl, inr, slice_get}
+use Rattle.std.proofs.Common.{◌≡◌, ◌≢◌, ℕ, zero, suc, ◌<◌, ◌⊎◌, true, List, [], ◌∷◌, length, Some, refl, sym, ap, subst}
+use Rattle.std.proofs.Common.{arith, inl, inr, slice_get}
 use Rattle.std.proofs.lemmas.Bool.{cases_eq}
 use Rattle.std.proofs.lemmas.Option.{slice_get_within}
 use Rattle.geom.specs.declared.shapes.Shape.{Shape}
@@ -7,7 +8,8 @@ use Rattle.layout_rules.specs.declared.layers.TheConstants.{START}
 use Rattle.layout_rules.specs.Layers.{is_line}
 use Rattle.layout_rules.specs.ExcitationLines.{meet, Contact, IsPart, IsChain, IsReached}
 use Rattle.layout_rules.specs.Code.LineChains.{NeverTurnsBack, ChainBefore}
-use Rattle.layout_rules.proofs.Deciding.{dec_same, dec_both, dec_either, dec_not, dec_true, dec_equal, dec_some, dec_item}
+use Rattle.layout_rules.proofs.Deciding.{dec_same, dec_both, dec_either, dec_not, dec_true, dec_equal, dec_some}
+use Rattle.layout_rules.proofs.Deciding.{dec_item}
 use Rattle.layout_rules.proofs.Reaching.{IsAmong, Way, dec_way, way_step, way_over, way_keeps}
 
 -- the numbers below a bound
@@ -37,16 +39,27 @@ among_these a b [] more among = absurd among
 among_these a b (c ∷ bs) more (inl e) = inl (ap (λ (n : ℕ). (a, n)) e)
 among_these a b (c ∷ bs) more (inr among) = inr (among_these a b bs more among)
 
-is_pair : (firsts seconds : List ℕ) (a b : ℕ) → IsAmong a firsts → IsAmong b seconds → IsAmong (a, b) (pairs firsts seconds)
+is_pair : (firsts seconds : List ℕ) (a b : ℕ) → IsAmong a firsts → IsAmong b seconds
+    → IsAmong (a, b) (pairs firsts seconds)
 is_pair [] seconds a b one other = absurd one
 is_pair (c ∷ cs) seconds a b (inl e) other =
-    subst (λ (n : ℕ). IsAmong (n, b) (in_front c seconds (pairs cs seconds))) (sym e) (among_these c b seconds (pairs cs seconds) other)
-is_pair (c ∷ cs) seconds a b (inr one) other = among_more (a, b) c seconds (pairs cs seconds) (is_pair cs seconds a b one other)
+    subst (λ (n : ℕ). IsAmong (n, b) (in_front c seconds (pairs cs seconds))) (sym e)
+    (among_these c b seconds (pairs cs seconds) other)
+is_pair (c ∷ cs) seconds a b (inr one) other = among_more (a, b) c seconds (pairs cs seconds)
+    (is_pair cs seconds a b one other)
 
 module _ (shapes : List Shape) where
   pub dec_contact : (i j : ℕ) → Dec (Contact shapes i j)
   dec_contact i j = dec_same
-      (λ h. record { apart = h.0; first = h.1.0; first_is = h.1.1; second = h.1.2.0; second_is = h.1.2.1; meet_so = h.1.2.2 })
+      (λ h. record {
+        apart = h.0;
+        first = h.1.0;
+        first_is = h.1.1;
+        second = h.1.2.0;
+        second_is =
+            h.1.2.1;
+        meet_so = h.1.2.2;
+      })
       (λ c. (c.apart, (c.first, c.first_is, (c.second, c.second_is, c.meet_so))))
       (dec_both (dec_not (dec_equal i j))
       (dec_item shapes i (λ s. (t : Shape) × (slice_get shapes j ≡ Some t) × (meet s t ≡ true))
@@ -60,8 +73,10 @@ module _ (shapes : List Shape) where
 
   pub dec_part : (datatype i : ℕ) → Dec (IsPart shapes datatype i)
   dec_part datatype i = dec_same
-      (λ h. record { shape = h.0; shape_is = h.1; line_so = h.2.0; datatype_is = h.2.1 }) (λ p. (p.shape, p.shape_is, (p.line_so, p.datatype_is)))
-      (dec_item shapes i (λ s. (is_line s ≡ true) × (s.datatype ≡ datatype)) (λ s is. dec_both (dec_true (is_line s)) (dec_equal s.datatype datatype)))
+      (λ h. record { shape = h.0; shape_is = h.1; line_so = h.2.0; datatype_is = h.2.1 })
+      (λ p. (p.shape, p.shape_is, (p.line_so, p.datatype_is)))
+      (dec_item shapes i (λ s. (is_line s ≡ true) × (s.datatype ≡ datatype))
+      (λ s is. dec_both (dec_true (is_line s)) (dec_equal s.datatype datatype)))
 
   pub part_within : (datatype i : ℕ) → IsPart shapes datatype i → i < length shapes
   part_within datatype i p = slice_get_within shapes i p.shape p.shape_is
@@ -87,11 +102,15 @@ module _ (shapes : List Shape) where
 
       onward : IsPart shapes START a ⊎ IsLedTo a → IsLedTo i
       onward (inl start) = (a, (start, step))
-      onward (inr led) = (led.0, (led.1.0, way_over (Contact shapes) stops led.0 a i (is_stop a (starts_within a i chain.0)) led.1.1 step))
+      onward (inr led) = (
+        led.0,
+        (led.1.0, way_over (Contact shapes) stops led.0 a i (is_stop a (starts_within a i chain.0)) led.1.1 step),
+      )
 
   reached_by : (i : ℕ) → IsPart shapes START i ⊎ IsLedTo i → IsReached shapes i
   reached_by i (inl part) = record { rest = []; chain = part }
-  reached_by i (inr led) = way_keeps (Contact shapes) (IsReached shapes) (λ x y step r. record { rest = x ∷ r.rest; chain = (step, r.chain) })
+  reached_by i (inr led) = way_keeps (Contact shapes) (IsReached shapes)
+      (λ x y step r. record { rest = x ∷ r.rest; chain = (step, r.chain) })
       stops led.0 i led.1.1 (record { rest = []; chain = led.1.0 })
 
   pub dec_reached : (i : ℕ) → Dec (IsReached shapes i)
@@ -130,7 +149,8 @@ module _ (shapes : List Shape) where
   abbrev AreLedTo : ℕ → ℕ → Type 0
   AreLedTo a b = (s : ℕ) × ((t : ℕ) × IsLedFrom s t a b)
 
-  before_way : (rest : List ℕ) (a b : ℕ) → IsChain shapes (b ∷ a ∷ rest) → NeverTurnsBack (b ∷ a ∷ rest) → IsOutset a b ⊎ AreLedTo a b
+  before_way : (rest : List ℕ) (a b : ℕ) → IsChain shapes (b ∷ a ∷ rest) → NeverTurnsBack (b ∷ a ∷ rest)
+      → IsOutset a b ⊎ AreLedTo a b
   before_way [] a b chain onward = inl (chain.1, chain.0)
   before_way (c ∷ rest) a b chain onward = inr (further (before_way rest c a chain.1 onward.1))
     where
@@ -160,7 +180,8 @@ module _ (shapes : List Shape) where
 
   before_by : (a b : ℕ) → IsOutset a b ⊎ AreLedTo a b → ChainBefore shapes a b
   before_by a b (inl outset) = before_start a b outset
-  before_by a b (inr led) = way_keeps Onward (λ p. ChainBefore shapes p.0 p.1) before_next contacts (led.0, led.1.0) (a, b) led.1.1.1
+  before_by a b (inr led) = way_keeps Onward (λ p. ChainBefore shapes p.0 p.1) before_next contacts
+      (led.0, led.1.0) (a, b) led.1.1.1
       (before_start led.0 led.1.0 led.1.1.0)
 
   pub dec_before : (a b : ℕ) → Dec (ChainBefore shapes a b)

@@ -1,6 +1,9 @@
 -- When two lines, each of a start and one bar, excite the rows, computed.
-use Rattle.std.proofs.Common.{◌≡◌, ◌≢◌, ℕ, length, ◌<◌, suc, zero, ◌&&◌, ◌||◌, Bool, true, false, List, [], ◌∷◌, Some, sym, ap, subst, ◌∙◌, arith, eq-eqb, inl, inr, slice_get, slice_index, ◌==◌, ◌%◌, not, count_by}
-use Rattle.std.proofs.lemmas.Bool.{both_ways, and_from, and_parts, or_cases, eqb-true, false_from_ne_true, not_from_false}
+use Rattle.std.proofs.Common.{◌≡◌, ◌≢◌, ℕ, length, ◌<◌, suc, zero, ◌&&◌, ◌||◌, Bool, true, false, List, [], ◌∷◌, Some}
+use Rattle.std.proofs.Common.{sym, ap, subst, ◌∙◌, arith, eq-eqb, inl, inr, slice_get, slice_index, ◌==◌, ◌%◌, not}
+use Rattle.std.proofs.Common.{count_by}
+use Rattle.std.proofs.lemmas.Bool.{both_ways, and_from, and_parts, or_cases, eqb-true, false_from_ne_true}
+use Rattle.std.proofs.lemmas.Bool.{not_from_false}
 use Rattle.std.proofs.lemmas.Option.{same_Some}
 use Rattle.geom.specs.declared.shapes.Shape.{Shape}
 use Rattle.geom.specs.Rectangle.{overlap, within}
@@ -11,7 +14,8 @@ use Rattle.layout_rules.specs.ExcitationLines.{meet, Contact, IsPart, IsReached,
 use Rattle.layout_rules.proofs.PlaceLaws.{count_by-one}
 use Rattle.layout_rules.proofs.LineLaws.{Contact-back}
 use Rattle.layout_rules.specs.Rows.{row_of}
-use Rattle.layout_rules.specs.ExcitationRule.{is_no_part, HasOneStart, LacksOneStart, HasItsContacts, IsMisjoined, IsCutOff, ExcitationBroken}
+use Rattle.layout_rules.specs.ExcitationRule.{is_no_part, HasOneStart, LacksOneStart, HasItsContacts, IsMisjoined}
+use Rattle.layout_rules.specs.ExcitationRule.{IsCutOff, ExcitationBroken}
 use Rattle.layout_rules.specs.Code.LineChains.{ChainBefore, HasChainPhase}
 use Rattle.layout_rules.specs.Code.ChainRule.{IsChainUncrossed, IsChainExcited, IsChainUnexcited, ChainsBroken}
 use Rattle.layout_rules.proofs.LinesAgree.{excitation_none}
@@ -20,31 +24,62 @@ use Rattle.layout_rules.proofs.Places.{places, IsOneOf, one_of, place_at, place_
 abbrev pub is_part : ℕ → Shape → Bool
 is_part datatype s = is_line s && s.datatype == datatype
 
-pub part_place : (shapes : List Shape) (datatype i : ℕ) → IsPart shapes datatype i → IsOneOf i (places (is_part datatype) shapes)
-part_place shapes datatype i part = place_at (is_part datatype) shapes i part.shape part.shape_is (and_from (is_line part.shape) (part.shape.datatype == datatype) part.line_so (eq-eqb part.shape.datatype datatype part.datatype_is))
+pub part_place : (shapes : List Shape) (datatype i : ℕ) → IsPart shapes datatype i
+    → IsOneOf i (places (is_part datatype) shapes)
+part_place shapes datatype i part = place_at (is_part datatype) shapes i part.shape part.shape_is
+    (and_from (is_line part.shape) (part.shape.datatype == datatype) part.line_so
+    (eq-eqb part.shape.datatype datatype part.datatype_is))
 
 -- the number has this shape alone, and so one datatype
-pub other_part : (shapes : List Shape) (datatype i : ℕ) (s : Shape) → slice_get shapes i ≡ Some s → (s.datatype ≡ datatype → ⊥) → IsPart shapes datatype i → ⊥
-other_part shapes datatype i s p ne part = ne (ap (λ (v : Shape). v.datatype) (same_Some s part.shape (sym p ∙ part.shape_is)) ∙ part.datatype_is)
+pub other_part : (shapes : List Shape) (datatype i : ℕ) (s : Shape) → slice_get shapes i ≡ Some s
+    → (s.datatype ≡ datatype → ⊥) → IsPart shapes datatype i → ⊥
+other_part shapes datatype i s p ne part =
+    ne (ap (λ (v : Shape). v.datatype) (same_Some s part.shape (sym p ∙ part.shape_is)) ∙ part.datatype_is)
 
 abbrev pub is_start_on : ℕ → Shape → Bool
 is_start_on layer s = is_part START s && s.layer == layer
 
-pub one_start : (shapes : List Shape) (layer i : ℕ) (s : Shape) → slice_get shapes i ≡ Some s → is_line s ≡ true → s.datatype ≡ START → s.layer ≡ layer → places (is_start_on layer) shapes ≡ i ∷ [] → HasOneStart shapes layer
+pub one_start : (shapes : List Shape) (layer i : ℕ) (s : Shape) → slice_get shapes i ≡ Some s → is_line s ≡ true
+    → s.datatype ≡ START → s.layer ≡ layer → places (is_start_on layer) shapes ≡ i ∷ [] → HasOneStart shapes layer
 one_start shapes layer i s p line start of_layer alone = record {
   number = i;
-  start = record { start = record { shape = s; shape_is = p; line_so = line; datatype_is = start }; of_layer = of_layer };
+  start = record {
+    start = record {
+      shape = s;
+      shape_is = p;
+      line_so = line;
+      datatype_is =
+          start;
+    };
+    of_layer = of_layer;
+  };
   only = λ k other.
-      let both : is_part START other.start.shape ≡ true = and_from (is_line other.start.shape) (other.start.shape.datatype == START) other.start.line_so (eq-eqb other.start.shape.datatype START other.start.datatype_is) in
-      one_of (subst (IsOneOf k) alone (place_at (is_start_on layer) shapes k other.start.shape other.start.shape_is (and_from (is_part START other.start.shape) (other.start.shape.layer == layer) both (eq-eqb other.start.shape.layer layer other.of_layer))));
+      let both : is_part START other.start.shape ≡ true = and_from (is_line other.start.shape)
+      (other.start.shape.datatype == START) other.start.line_so
+      (eq-eqb other.start.shape.datatype START other.start.datatype_is) in
+      one_of (subst (IsOneOf k) alone
+      (place_at (is_start_on layer) shapes k other.start.shape other.start.shape_is
+      (and_from (is_part START other.start.shape) (other.start.shape.layer == layer) both
+      (eq-eqb other.start.shape.layer layer other.of_layer))));
 }
 
-pub contact : (shapes : List Shape) (i j : ℕ) (s t : Shape) → i ≢ j → slice_get shapes i ≡ Some s → slice_get shapes j ≡ Some t → meet s t ≡ true → Contact shapes i j
-contact shapes i j s t apart p q meet_so = record { apart = apart; first = s; second = t; first_is = p; second_is = q; meet_so = meet_so }
+pub contact : (shapes : List Shape) (i j : ℕ) (s t : Shape) → i ≢ j → slice_get shapes i ≡ Some s
+    → slice_get shapes j ≡ Some t → meet s t ≡ true → Contact shapes i j
+contact shapes i j s t apart p q meet_so =
+    record { apart = apart; first = s; second = t; first_is = p; second_is = q; meet_so = meet_so }
 
 -- a contact of a known shape is among those that meet it, and is another
-pub contact_place : (shapes : List Shape) (i c : ℕ) (s : Shape) → slice_get shapes i ≡ Some s → Contact shapes i c → IsOneOf c (places (meet s) shapes)
-contact_place shapes i c s p k = second_place meet shapes i c s p (record { first = k.first; second = k.second; first_is = k.first_is; second_is = k.second_is; passes_so = k.meet_so })
+pub contact_place : (shapes : List Shape) (i c : ℕ) (s : Shape) → slice_get shapes i ≡ Some s → Contact shapes i c
+    → IsOneOf c (places (meet s) shapes)
+contact_place shapes i c s p k = second_place meet shapes i c s p
+    (record {
+      first = k.first;
+      second = k.second;
+      first_is = k.first_is;
+      second_is =
+          k.second_is;
+      passes_so = k.meet_so;
+    })
 
 pub other_of : {c i j : ℕ} → IsOneOf c (i ∷ j ∷ []) → c ≢ i → c ≡ j
 other_of (inl e) ne = absurd (ne e)
@@ -83,8 +118,10 @@ pub record IsShortLine (shapes : List Shape) (start bar : ℕ) : Type 0 where
   pub of_bar : places (meet t) shapes ≡ start ∷ bar ∷ []
 
 -- such a line, by what is computed of its two shapes
-abbrev pub line_of : {shapes : List Shape} {start bar : ℕ} (s t : Shape) → slice_get shapes start ≡ Some s → slice_get shapes bar ≡ Some t → is_line s ≡ true → is_line t ≡ true → s.datatype ≡ START → t.datatype ≡ BAR
-    → meet s t ≡ true → meet t s ≡ true → places (meet s) shapes ≡ start ∷ bar ∷ [] → places (meet t) shapes ≡ start ∷ bar ∷ [] → IsShortLine shapes start bar
+abbrev pub line_of : {shapes : List Shape} {start bar : ℕ} (s t : Shape) → slice_get shapes start ≡ Some s
+    → slice_get shapes bar ≡ Some t → is_line s ≡ true → is_line t ≡ true → s.datatype ≡ START → t.datatype ≡ BAR
+    → meet s t ≡ true → meet t s ≡ true → places (meet s) shapes ≡ start ∷ bar ∷ []
+    → places (meet t) shapes ≡ start ∷ bar ∷ [] → IsShortLine shapes start bar
 line_of s t s_is t_is s_line t_line s_start t_bar there back of_start of_bar = record {
   s = s;
   t = t;
@@ -104,7 +141,9 @@ module _ (shapes : List Shape) (start bar : ℕ) (line : IsShortLine shapes star
   open line use {s, t, s_is, t_is, s_line, t_line, s_start, t_bar, there, back, of_start, of_bar}
 
   apart : start ≢ bar
-  apart e = start_no_bar (sym s_start ∙ (ap (λ (v : Shape). v.datatype) (same_Some s t (sym s_is ∙ subst (λ (n : ℕ). slice_get shapes n ≡ Some t) (sym e) t_is)) ∙ t_bar))
+  apart e = start_no_bar (sym s_start
+      ∙ (ap (λ (v : Shape). v.datatype)
+      (same_Some s t (sym s_is ∙ subst (λ (n : ℕ). slice_get shapes n ≡ Some t) (sym e) t_is)) ∙ t_bar))
 
   abbrev start_part : IsPart shapes START start
   start_part = record { shape = s; shape_is = s_is; line_so = s_line; datatype_is = s_start }
@@ -119,7 +158,8 @@ module _ (shapes : List Shape) (start bar : ℕ) (line : IsShortLine shapes star
   to_start = contact shapes bar start t s (λ e. apart (sym e)) t_is s_is back
 
   contact_of_start : (c : ℕ) → Contact shapes start c → c ≡ bar
-  contact_of_start c k = other_of (subst (IsOneOf c) of_start (contact_place shapes start c s s_is k)) (λ e. k.apart (sym e))
+  contact_of_start c k = other_of
+      (subst (IsOneOf c) of_start (contact_place shapes start c s s_is k)) (λ e. k.apart (sym e))
 
   pub contact_of_bar : (c : ℕ) → Contact shapes bar c → c ≡ start
   contact_of_bar c k = first_of (subst (IsOneOf c) of_bar (contact_place shapes bar c t t_is k)) (λ e. k.apart (sym e))
@@ -140,7 +180,8 @@ module _ (shapes : List Shape) (start bar : ℕ) (line : IsShortLine shapes star
       other = start;
       one_contact = to_start;
       only = λ c k. inl (contact_of_bar c k);
-      no_bar = λ c k b. other_part shapes BAR start s s_is (λ e. start_no_bar (sym s_start ∙ e)) (subst (IsPart shapes BAR) (contact_of_bar c k) b);
+      no_bar = λ c k b. other_part shapes BAR start s s_is (λ e. start_no_bar (sym s_start ∙ e))
+          (subst (IsPart shapes BAR) (contact_of_bar c k) b);
     };
   }
 
@@ -158,7 +199,8 @@ module _ (shapes : List Shape) (start bar : ℕ) (line : IsShortLine shapes star
 
   entered : (h : IsChainUncrossed shapes bar) → enters h.before_shape h.bar.shape ≡ enters s t
   entered h =
-      let at : slice_get shapes start ≡ Some h.before_shape = subst (λ (n : ℕ). slice_get shapes n ≡ Some h.before_shape) (from_start h) h.before_shape_is in
+      let at : slice_get shapes start ≡ Some h.before_shape =
+      subst (λ (n : ℕ). slice_get shapes n ≡ Some h.before_shape) (from_start h) h.before_shape_is in
       let one : h.before_shape ≡ s = sym (same_Some s h.before_shape (sym s_is ∙ at)) in
       let two : h.bar.shape ≡ t = sym (same_Some t h.bar.shape (sym t_is ∙ h.bar.shape_is)) in
       ap (λ (v : Shape). enters v h.bar.shape) one ∙ ap (λ (v : Shape). enters s v) two
@@ -171,46 +213,72 @@ module _ (shapes : List Shape) (start bar : ℕ) (line : IsShortLine shapes star
   ]
 
   abbrev pub bar_phase : (phase : ℕ) → phase_of s t ≡ phase → HasChainPhase shapes bar phase
-  bar_phase phase e = record { is_bar = bar_part; before = start; before_shape = s; before_shape_is = s_is; is_before = bar_before; phase_is = e }
+  bar_phase phase e = record {
+    is_bar = bar_part;
+    before = start;
+    before_shape = s;
+    before_shape_is = s_is;
+    is_before =
+        bar_before;
+    phase_is = e;
+  }
 
   -- the bar alone lies over the frame, contains it, and has the phase of its row
   abbrev pub excites : Shape → Bool
-  excites frame = (phase_of s t == row_of shapes frame.rect.y0 % 4 && overlap t.rect frame.rect) && (within frame.rect t.rect && count_by (is_over frame) shapes == 1)
+  excites frame = (phase_of s t == row_of shapes frame.rect.y0 % 4 && overlap t.rect frame.rect) && (within frame.rect
+      t.rect && count_by (is_over frame) shapes == 1)
 
   pub excited : (frame : Shape) → excites frame ≡ true → IsChainExcited shapes frame
   excited frame h =
-      let both : ((phase_of s t == row_of shapes frame.rect.y0 % 4 && overlap t.rect frame.rect) ≡ true) × ((within frame.rect t.rect && count_by (is_over frame) shapes == 1) ≡ true) = and_parts (phase_of s t == row_of shapes frame.rect.y0 % 4 && overlap t.rect frame.rect) (within frame.rect t.rect && count_by (is_over frame) shapes == 1) h in
-      let one : ((phase_of s t == row_of shapes frame.rect.y0 % 4) ≡ true) × (overlap t.rect frame.rect ≡ true) = and_parts (phase_of s t == row_of shapes frame.rect.y0 % 4) (overlap t.rect frame.rect) both.0 in
-      let two : (within frame.rect t.rect ≡ true) × ((count_by (is_over frame) shapes == 1) ≡ true) = and_parts (within frame.rect t.rect) (count_by (is_over frame) shapes == 1) both.1 in
+      let both : ((phase_of s t == row_of shapes frame.rect.y0 % 4 && overlap t.rect frame.rect) ≡ true)
+      × ((within frame.rect t.rect && count_by (is_over frame) shapes == 1) ≡ true) = and_parts
+      (phase_of s t == row_of shapes frame.rect.y0 % 4 && overlap t.rect frame.rect)
+      (within frame.rect t.rect && count_by (is_over frame) shapes == 1) h in
+      let one : ((phase_of s t == row_of shapes frame.rect.y0 % 4) ≡ true)
+      × (overlap t.rect frame.rect ≡ true) = and_parts (phase_of s t == row_of shapes frame.rect.y0 % 4)
+      (overlap t.rect frame.rect) both.0 in
+      let two : (within frame.rect t.rect ≡ true)
+      × ((count_by (is_over frame) shapes == 1) ≡ true) = and_parts (within frame.rect t.rect)
+      (count_by (is_over frame) shapes == 1) both.1 in
       let once : count_by (is_over frame) shapes ≡ 1 = eqb-true (count_by (is_over frame) shapes) 1 two.1 in
       record {
         bar = bar;
-        phase = bar_phase (row_of shapes frame.rect.y0 % 4) (eqb-true (phase_of s t) (row_of shapes frame.rect.y0 % 4) one.0);
+        phase = bar_phase (row_of shapes frame.rect.y0 % 4)
+            (eqb-true (phase_of s t) (row_of shapes frame.rect.y0 % 4) one.0);
         over = one.1;
         contains = two.0;
-        only = λ i l p part o. count_by-one (is_over frame) shapes i bar l t once p (and_from (is_line l) (overlap l.rect frame.rect) part o) t_is (and_from (is_line t) (overlap t.rect frame.rect) t_line one.1);
+        only = λ i l p part o. count_by-one (is_over frame) shapes i bar l t once p
+            (and_from (is_line l) (overlap l.rect frame.rect) part o) t_is
+            (and_from (is_line t) (overlap t.rect frame.rect) t_line one.1);
       }
 
 -- where a layer has these two shapes alone, they are its path
-pub line_of_two : (shapes : List Shape) (layer start bar : ℕ) (line : IsShortLine shapes start bar) → line.s.layer ≡ layer → line.t.layer ≡ layer → places (is_on layer) shapes ≡ start ∷ bar ∷ [] → IsLine shapes layer (start ∷ bar ∷ [])
-line_of_two shapes layer start bar line on also alone = record { start = λ lt. start_part shapes start bar line; next = next; within = within_so; all = all; once = once }
+pub line_of_two : (shapes : List Shape) (layer start bar : ℕ) (line : IsShortLine shapes start bar)
+    → line.s.layer ≡ layer → line.t.layer ≡ layer → places (is_on layer) shapes ≡ start ∷ bar ∷ []
+    → IsLine shapes layer (start ∷ bar ∷ [])
+line_of_two shapes layer start bar line on also alone =
+    record { start = λ lt. start_part shapes start bar line; next = next; within = within_so; all = all; once = once }
   where
-    next : (k : ℕ) → suc k < length (start ∷ bar ∷ []) → Contact shapes (slice_index (start ∷ bar ∷ []) k) (slice_index (start ∷ bar ∷ []) (suc k))
+    next : (k : ℕ) → suc k < length (start ∷ bar ∷ [])
+        → Contact shapes (slice_index (start ∷ bar ∷ []) k) (slice_index (start ∷ bar ∷ []) (suc k))
     next zero lt = to_bar shapes start bar line
     next (suc k) lt = absurd (omega arith)
 
     within_so : (k : ℕ) → k < length (start ∷ bar ∷ []) → Passes (is_on layer) shapes (slice_index (start ∷ bar ∷ []) k)
     within_so zero lt = record { shape = line.s; shape_is = line.s_is; passes_so = eq-eqb line.s.layer layer on }
-    within_so (suc zero) lt = record { shape = line.t; shape_is = line.t_is; passes_so = eq-eqb line.t.layer layer also }
+    within_so (suc zero) lt =
+        record { shape = line.t; shape_is = line.t_is; passes_so = eq-eqb line.t.layer layer also }
     within_so (suc (suc k)) lt = absurd (omega arith)
 
-    all : (i : ℕ) → Passes (is_on layer) shapes i → (k : ℕ) × ((k < length (start ∷ bar ∷ [])) × (slice_index (start ∷ bar ∷ []) k ≡ i))
+    all : (i : ℕ) → Passes (is_on layer) shapes i → (k : ℕ)
+        × ((k < length (start ∷ bar ∷ [])) × (slice_index (start ∷ bar ∷ []) k ≡ i))
     all i h = elim (subst (IsOneOf i) alone (place_of (is_on layer) shapes i h)) [
       | inl e ↦ (0, (omega arith, sym e))
       | inr rest ↦ (1, (omega arith, sym (one_of rest)))
     ]
 
-    once : (j k : ℕ) → j < k → k < length (start ∷ bar ∷ []) → slice_index (start ∷ bar ∷ []) j ≢ slice_index (start ∷ bar ∷ []) k
+    once : (j k : ℕ) → j < k → k < length (start ∷ bar ∷ [])
+        → slice_index (start ∷ bar ∷ []) j ≢ slice_index (start ∷ bar ∷ []) k
     once j zero lt within = absurd (omega arith)
     once zero (suc zero) lt within = apart shapes start bar line
     once (suc j) (suc zero) lt within = absurd (omega arith)
@@ -233,31 +301,41 @@ module _ (shapes : List Shape) (a b c d : ℕ) (are : AreLines shapes a b c d) w
   parts_kept n h = subst (IsOneOf n) are.no_others (place_of is_no_part shapes n h)
 
   pub even_kept : (n : ℕ) → LacksOneStart shapes EVEN_LINE n → ⊥
-  even_kept n h = h.not_one (one_start shapes EVEN_LINE a are.even.s are.even.s_is are.even.s_line are.even.s_start are.on_even are.even_start)
+  even_kept n h = h.not_one
+      (one_start shapes EVEN_LINE a are.even.s are.even.s_is are.even.s_line are.even.s_start
+      are.on_even are.even_start)
 
   pub odd_kept : (n : ℕ) → LacksOneStart shapes ODD_LINE n → ⊥
-  odd_kept n h = h.not_one (one_start shapes ODD_LINE c are.odd.s are.odd.s_is are.odd.s_line are.odd.s_start are.on_odd are.odd_start)
+  odd_kept n h = h.not_one (one_start shapes ODD_LINE c are.odd.s are.odd.s_is are.odd.s_line are.odd.s_start
+      are.on_odd are.odd_start)
 
   part_of : (n : ℕ) → Passes is_line shapes n → IsOneOf n (a ∷ b ∷ c ∷ d ∷ [])
   part_of n h = subst (IsOneOf n) are.parts (place_of is_line shapes n h)
 
   pub joined_kept : (n : ℕ) → IsMisjoined shapes n → ⊥
-  joined_kept n h = h.not_so (at_one (HasItsContacts shapes) n (a ∷ b ∷ c ∷ d ∷ []) (part_of n h.part)
-      (start_joined shapes a b are.even, (bar_joined shapes a b are.even, (start_joined shapes c d are.odd, (bar_joined shapes c d are.odd, tt)))))
+  joined_kept n h = h.not_so (at_one (HasItsContacts shapes) n (a ∷ b ∷ c ∷ d ∷ []) (part_of n h.part) (
+    start_joined shapes a b are.even,
+    (bar_joined shapes a b are.even, (start_joined shapes c d are.odd, (bar_joined shapes c d are.odd, tt))),
+  ))
 
   pub reached_kept : (n : ℕ) → IsCutOff shapes n → ⊥
-  reached_kept n h = h.not_reached (at_one (IsReached shapes) n (a ∷ b ∷ c ∷ d ∷ []) (part_of n h.part)
-      (start_reached shapes a b are.even, (bar_reached shapes a b are.even, (start_reached shapes c d are.odd, (bar_reached shapes c d are.odd, tt)))))
+  reached_kept n h = h.not_reached (at_one (IsReached shapes) n (a ∷ b ∷ c ∷ d ∷ []) (part_of n h.part) (
+    start_reached shapes a b are.even,
+    (bar_reached shapes a b are.even, (start_reached shapes c d are.odd, (bar_reached shapes c d are.odd, tt))),
+  ))
 
-  pub crossed_kept : enters are.even.s are.even.t ≡ true → enters are.odd.s are.odd.t ≡ true → (n : ℕ) → IsChainUncrossed shapes n → ⊥
-  crossed_kept even odd n h = at_one (λ k. IsChainUncrossed shapes k → ⊥) n (b ∷ d ∷ []) (subst (IsOneOf n) are.bars (part_place shapes BAR n h.bar))
+  pub crossed_kept : enters are.even.s are.even.t ≡ true → enters are.odd.s are.odd.t ≡ true → (n : ℕ)
+      → IsChainUncrossed shapes n → ⊥
+  crossed_kept even odd n h = at_one (λ k. IsChainUncrossed shapes k → ⊥) n (b ∷ d ∷ [])
+      (subst (IsOneOf n) are.bars (part_place shapes BAR n h.bar))
       (bar_crossed shapes a b are.even even, (bar_crossed shapes c d are.odd odd, tt)) h
 
   -- a frame that neither bar excites
   abbrev pub is_unexcited : Shape → Bool
   is_unexcited frame = is_frame frame && not (excites shapes a b are.even frame || excites shapes c d are.odd frame)
 
-  excited_by : (frame : Shape) → (excites shapes a b are.even frame || excites shapes c d are.odd frame) ≡ true → IsChainExcited shapes frame
+  excited_by : (frame : Shape) → (excites shapes a b are.even frame || excites shapes c d are.odd frame) ≡ true
+      → IsChainExcited shapes frame
   excited_by frame h = elim (or_cases (excites shapes a b are.even frame) (excites shapes c d are.odd frame) h) [
     | inl even ↦ excited shapes a b are.even frame even
     | inr odd ↦ excited shapes c d are.odd frame odd
@@ -266,17 +344,24 @@ module _ (shapes : List Shape) (a b c d : ℕ) (are : AreLines shapes a b c d) w
   pub unexcited_place : (n : ℕ) → IsChainUnexcited shapes n → IsOneOf n (places is_unexcited shapes)
   unexcited_place n h =
       let frame : Shape = h.frame.shape in
-      let no : (excites shapes a b are.even frame || excites shapes c d are.odd frame) ≡ false = false_from_ne_true (excites shapes a b are.even frame || excites shapes c d are.odd frame) (λ e. h.not_so (excited_by frame e)) in
-      place_at is_unexcited shapes n frame h.frame.shape_is (and_from (is_frame frame) (not (excites shapes a b are.even frame || excites shapes c d are.odd frame)) h.frame.passes_so (not_from_false (excites shapes a b are.even frame || excites shapes c d are.odd frame) no))
+      let no : (excites shapes a b are.even frame || excites shapes c d are.odd frame) ≡ false = false_from_ne_true
+      (excites shapes a b are.even frame || excites shapes c d are.odd frame)
+      (λ e. h.not_so (excited_by frame e)) in
+      place_at is_unexcited shapes n frame h.frame.shape_is
+      (and_from (is_frame frame) (not (excites shapes a b are.even frame || excites shapes c d are.odd frame))
+      h.frame.passes_so (not_from_false (excites shapes a b are.even frame || excites shapes c d are.odd frame) no))
 
-  chains_kept : enters are.even.s are.even.t ≡ true → enters are.odd.s are.odd.t ≡ true → places is_unexcited shapes ≡ [] → ReportsNone (ChainsBroken shapes)
+  chains_kept : enters are.even.s are.even.t ≡ true → enters are.odd.s are.odd.t ≡ true
+      → places is_unexcited shapes ≡ [] → ReportsNone (ChainsBroken shapes)
   chains_kept even odd none x y (inl h) = parts_kept x h.0
   chains_kept even odd none x y (inr (n, inl h)) = even_kept x h.0
   chains_kept even odd none x y (inr (n, inr (m, inl h))) = odd_kept x h.0
   chains_kept even odd none x y (inr (n, inr (m, inr (l, inl h)))) = joined_kept x h.0
   chains_kept even odd none x y (inr (n, inr (m, inr (l, inr (k, inl h))))) = reached_kept x h.0
   chains_kept even odd none x y (inr (n, inr (m, inr (l, inr (k, inr (j, inl h)))))) = crossed_kept even odd x h.0
-  chains_kept even odd none x y (inr (n, inr (m, inr (l, inr (k, inr (j, inr (i, h))))))) = subst (IsOneOf x) none (unexcited_place x h.0)
+  chains_kept even odd none x y (inr (n, inr (m, inr (l, inr (k, inr (j, inr (i, h))))))) =
+      subst (IsOneOf x) none (unexcited_place x h.0)
 
-  pub excitation_kept : enters are.even.s are.even.t ≡ true → enters are.odd.s are.odd.t ≡ true → places is_unexcited shapes ≡ [] → ReportsNone (ExcitationBroken shapes)
+  pub excitation_kept : enters are.even.s are.even.t ≡ true → enters are.odd.s are.odd.t ≡ true
+      → places is_unexcited shapes ≡ [] → ReportsNone (ExcitationBroken shapes)
   excitation_kept even odd none = excitation_none shapes (chains_kept even odd none)

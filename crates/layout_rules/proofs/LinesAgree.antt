@@ -6,15 +6,18 @@ use Rattle.layout_rules.specs.declared.layers.TheConstants.{EVEN_LINE, ODD_LINE,
 use Rattle.layout_rules.specs.Reports.{ReportsNone, Alone, Afterwards, IsFirstReport}
 use Rattle.layout_rules.proofs.ReportLaws.{first_kept, second_kept, alone_kept}
 use Rattle.layout_rules.specs.ExcitationLines.{IsPart, IsChain, BarHasPhase, leaves}
-use Rattle.layout_rules.specs.ExcitationRule.{LacksOneStart, IsMisjoined, IsCutOff, AreLaidOut, LeavesWrongly, IsNotCrossed, IsExcited, IsUnexcited, ExcitationBroken}
+use Rattle.layout_rules.specs.ExcitationRule.{LacksOneStart, IsMisjoined, IsCutOff, AreLaidOut, LeavesWrongly}
+use Rattle.layout_rules.specs.ExcitationRule.{IsNotCrossed, IsExcited, IsUnexcited, ExcitationBroken}
 use Rattle.layout_rules.specs.Code.LineChains.{NeverTurnsBack, ChainBefore, HasChainPhase}
-use Rattle.layout_rules.specs.Code.ChainRule.{ChainLeavesWrongly, IsChainUncrossed, IsChainExcited, IsChainUnexcited, ChainsBroken}
+use Rattle.layout_rules.specs.Code.ChainRule.{ChainLeavesWrongly, IsChainUncrossed, IsChainExcited, IsChainUnexcited}
+use Rattle.layout_rules.specs.Code.ChainRule.{ChainsBroken}
 use Rattle.layout_rules.proofs.ChainsAgree.{one_before, one_phase_of as one_chain_phase}
 use Rattle.layout_rules.proofs.LinePaths.{chain_from_path, path_from_chain}
 
 -- the parts that are tried after each other one
 abbrev AfterContacts : List Shape → ℕ → ℕ → Type 0
-AfterContacts shapes = Afterwards (Alone (IsCutOff shapes)) (Afterwards (Alone (IsNotCrossed shapes)) (Alone (IsUnexcited shapes)))
+AfterContacts shapes = Afterwards (Alone (IsCutOff shapes))
+    (Afterwards (Alone (IsNotCrossed shapes)) (Alone (IsUnexcited shapes)))
 
 abbrev AfterOdd : List Shape → ℕ → ℕ → Type 0
 AfterOdd shapes = Afterwards (Alone (IsMisjoined shapes)) (AfterContacts shapes)
@@ -29,11 +32,16 @@ start_no_bar : START ≢ BAR
 start_no_bar e = omega arith
 
 -- a chain that goes over a bar comes to the bar before
-over_bar : (shapes : List Shape) (b after : ℕ) → IsPart shapes BAR b → (chain : ChainBefore shapes b after) → (before : ℕ) × (ChainBefore shapes before b × (after ≢ before))
+over_bar : (shapes : List Shape) (b after : ℕ) → IsPart shapes BAR b → (chain : ChainBefore shapes b after)
+    → (before : ℕ) × (ChainBefore shapes before b × (after ≢ before))
 over_bar shapes b after bar chain = by_rest chain.rest chain.chain chain.onward
   where
-    by_rest : (rest : List ℕ) → IsChain shapes (after ∷ b ∷ rest) → NeverTurnsBack (after ∷ b ∷ rest) → (before : ℕ) × (ChainBefore shapes before b × (after ≢ before))
-    by_rest [] is onward = absurd (start_no_bar (sym is.1.datatype_is ∙ ap (λ (s : Shape). s.datatype) (same_Some is.1.shape bar.shape (sym is.1.shape_is ∙ bar.shape_is)) ∙ bar.datatype_is))
+    by_rest : (rest : List ℕ) → IsChain shapes (after ∷ b ∷ rest) → NeverTurnsBack (after ∷ b ∷ rest) → (before : ℕ)
+        × (ChainBefore shapes before b × (after ≢ before))
+    by_rest [] is onward = absurd
+        (start_no_bar (sym is.1.datatype_is
+        ∙ ap (λ (s : Shape). s.datatype) (same_Some is.1.shape bar.shape (sym is.1.shape_is ∙ bar.shape_is))
+        ∙ bar.datatype_is))
     by_rest (c ∷ rest) is onward = (c, (record { rest = rest; chain = is.1; onward = onward.1 }, onward.0))
 
 pub chain_phase : (shapes : List Shape) (b phase : ℕ) → BarHasPhase shapes b phase → HasChainPhase shapes b phase
@@ -84,12 +92,15 @@ module _ (shapes : List Shape) (lines : AreLaidOut shapes) (cut : ReportsNone (A
   path_unexcited f un = record { frame = un.frame; not_so = λ is. un.not_so (chain_excited shapes un.frame.shape is) }
 
   -- what comes after the bar by its line is another contact than the one before it
-  chain_leaves : (b before : ℕ) (bar before_shape : Shape) → IsPart shapes BAR b → ChainBefore shapes before b → LeavesWrongly shapes b bar before_shape → ChainLeavesWrongly shapes b before bar before_shape
+  chain_leaves : (b before : ℕ) (bar before_shape : Shape) → IsPart shapes BAR b → ChainBefore shapes before b
+      → LeavesWrongly shapes b bar before_shape → ChainLeavesWrongly shapes b before bar before_shape
   chain_leaves b before bar before_shape part comes wrongly =
       let goes : ChainBefore shapes b wrongly.after = chain_from_path shapes b wrongly.after wrongly.is_after in
-      let over : (other : ℕ) × (ChainBefore shapes other b × (wrongly.after ≢ other)) = over_bar shapes b wrongly.after part goes in
+      let over : (other : ℕ) × (ChainBefore shapes other b × (wrongly.after ≢ other)) =
+      over_bar shapes b wrongly.after part goes in
       let same : over.0 ≡ before = one_before shapes lines (over.0) before b over.1.0 comes in
-      let shape : wrongly.after_shape ≡ goes.chain.0.second = same_Some wrongly.after_shape goes.chain.0.second (sym wrongly.after_shape_is ∙ goes.chain.0.second_is) in
+      let shape : wrongly.after_shape ≡ goes.chain.0.second = same_Some wrongly.after_shape goes.chain.0.second
+      (sym wrongly.after_shape_is ∙ goes.chain.0.second_is) in
       record {
         after = wrongly.after;
         contact = goes.chain.0;
@@ -97,12 +108,19 @@ module _ (shapes : List Shape) (lines : AreLaidOut shapes) (cut : ReportsNone (A
         wrong = ap (λ (s : Shape). leaves before_shape bar s) (sym shape) ∙ wrongly.wrong;
       }
 
-  path_leaves : (b before : ℕ) (bar before_shape : Shape) → ChainBefore shapes before b → ChainLeavesWrongly shapes b before bar before_shape → LeavesWrongly shapes b bar before_shape
+  path_leaves : (b before : ℕ) (bar before_shape : Shape) → ChainBefore shapes before b
+      → ChainLeavesWrongly shapes b before bar before_shape → LeavesWrongly shapes b bar before_shape
   path_leaves b before bar before_shape comes wrongly = record {
     after = wrongly.after;
     after_shape = wrongly.contact.second;
     after_shape_is = wrongly.contact.second_is;
-    is_after = path_from_chain shapes lines cut b wrongly.after (record { rest = before ∷ comes.rest; chain = (wrongly.contact, comes.chain); onward = (wrongly.onward, comes.onward) });
+    is_after = path_from_chain shapes lines cut b wrongly.after
+        (record {
+          rest = before ∷ comes.rest;
+          chain = (wrongly.contact, comes.chain);
+          onward =
+              (wrongly.onward, comes.onward);
+        });
     wrong = wrongly.wrong;
   }
 
@@ -115,7 +133,11 @@ module _ (shapes : List Shape) (lines : AreLaidOut shapes) (cut : ReportsNone (A
         before_shape = un.before_shape;
         before_shape_is = un.before_shape_is;
         is_before = comes;
-        wrong = elim un.wrong [ inl e ↦ inl e | inr l ↦ inr (chain_leaves b un.before un.bar.shape un.before_shape un.bar comes l) ];
+        wrong = elim un.wrong [
+          | inl e ↦ inl e
+          | inr l ↦ inr
+              (chain_leaves b un.before un.bar.shape un.before_shape un.bar comes l)
+        ];
       }
 
   path_uncrossed : (b : ℕ) → IsChainUncrossed shapes b → IsNotCrossed shapes b
@@ -125,15 +147,21 @@ module _ (shapes : List Shape) (lines : AreLaidOut shapes) (cut : ReportsNone (A
     before_shape = un.before_shape;
     before_shape_is = un.before_shape_is;
     is_before = path_from_chain shapes lines cut un.before b un.is_before;
-    wrong = elim un.wrong [ inl e ↦ inl e | inr l ↦ inr (path_leaves b un.before un.bar.shape un.before_shape un.is_before l) ];
+    wrong = elim un.wrong [
+      | inl e ↦ inl e
+      | inr l ↦ inr
+          (path_leaves b un.before un.bar.shape un.before_shape un.is_before l)
+    ];
   }
 
   -- the last two parts
-  pub chain_parts : (a b : ℕ) → Afterwards (Alone (IsNotCrossed shapes)) (Alone (IsUnexcited shapes)) a b → Afterwards (Alone (IsChainUncrossed shapes)) (Alone (IsChainUnexcited shapes)) a b
+  pub chain_parts : (a b : ℕ) → Afterwards (Alone (IsNotCrossed shapes)) (Alone (IsUnexcited shapes)) a b
+      → Afterwards (Alone (IsChainUncrossed shapes)) (Alone (IsChainUnexcited shapes)) a b
   chain_parts a b (inl h) = inl (chain_uncrossed a h.0, h.1)
   chain_parts a b (inr (none, h)) = inr (λ c d k. none c d (path_uncrossed c k.0, k.1), (chain_unexcited a h.0, h.1))
 
-  pub path_parts : (a b : ℕ) → Afterwards (Alone (IsChainUncrossed shapes)) (Alone (IsChainUnexcited shapes)) a b → Afterwards (Alone (IsNotCrossed shapes)) (Alone (IsUnexcited shapes)) a b
+  pub path_parts : (a b : ℕ) → Afterwards (Alone (IsChainUncrossed shapes)) (Alone (IsChainUnexcited shapes)) a b
+      → Afterwards (Alone (IsNotCrossed shapes)) (Alone (IsUnexcited shapes)) a b
   path_parts a b (inl h) = inl (path_uncrossed a h.0, h.1)
   path_parts a b (inr (none, h)) = inr (λ c d k. none c d (chain_uncrossed c k.0, k.1), (path_unexcited a h.0, h.1))
 
@@ -190,8 +218,13 @@ module _ (shapes : List Shape) where
   pub excitation_none : ReportsNone (ChainsBroken shapes) → ReportsNone (ExcitationBroken shapes)
   excitation_none none a b h = none a b (by_chains a b h)
 
-  pub excitation_first : (a b : ℕ) → IsFirstReport (ChainsBroken shapes) a b → IsFirstReport (ExcitationBroken shapes) a b
-  excitation_first a b first = record { reported = by_paths a b first.reported; least = λ c d h. first.least c d (by_chains c d h) }
+  pub excitation_first : (a b : ℕ) → IsFirstReport (ChainsBroken shapes) a b
+      → IsFirstReport (ExcitationBroken shapes) a b
+  excitation_first a b first = record {
+    reported = by_paths a b first.reported;
+    least =
+        λ c d h. first.least c d (by_chains c d h);
+  }
 
 -- ---- what is known where nothing is reported
 
@@ -209,7 +242,13 @@ module _ (shapes : List Shape) (kept : ReportsNone (ExcitationBroken shapes)) wh
   after_contacts = second_kept _ _ after_odd
 
   pub laid_out : AreLaidOut shapes
-  laid_out = record { parts = first_kept _ _ kept; even = first_kept _ _ after_parts; odd = first_kept _ _ after_even; contacts = first_kept _ _ after_odd }
+  laid_out = record {
+    parts = first_kept _ _ kept;
+    even = first_kept _ _ after_parts;
+    odd =
+        first_kept _ _ after_even;
+    contacts = first_kept _ _ after_odd;
+  }
 
   pub none_cut_off : ReportsNone (Alone (IsCutOff shapes))
   none_cut_off = first_kept _ _ after_contacts
@@ -219,4 +258,5 @@ module _ (shapes : List Shape) (kept : ReportsNone (ExcitationBroken shapes)) wh
 
   -- a bar has one phase
   pub one_phase_of : (b p q : ℕ) → BarHasPhase shapes b p → BarHasPhase shapes b q → p ≡ q
-  one_phase_of b p q first second = one_chain_phase shapes laid_out b p q (chain_phase shapes b p first) (chain_phase shapes b q second)
+  one_phase_of b p q first second = one_chain_phase shapes laid_out b p q (chain_phase shapes b p first)
+      (chain_phase shapes b q second)

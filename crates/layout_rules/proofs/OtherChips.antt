@@ -30,15 +30,24 @@ no_other_part n h = place_of is_no_part without_starts.shapes n h
 
 on_even_line : (n : ℕ) (s : Shape) → slice_get without_starts.shapes n ≡ Some s → s.layer ≡ EVEN_LINE → n ≡ 3
 unfolding without_starts first_flat
-on_even_line n s p of_layer = one_of (place_at (λ s. s.layer == EVEN_LINE) without_starts.shapes n s p (eq-eqb s.layer EVEN_LINE of_layer))
+on_even_line n s p of_layer =
+    one_of (place_at (λ s. s.layer == EVEN_LINE) without_starts.shapes n s p (eq-eqb s.layer EVEN_LINE of_layer))
 
 lacks_start : LacksOneStart without_starts.shapes EVEN_LINE 3
 unfolding without_starts first_flat
-lacks_start = record { shape = _; shape_is = refl; of_layer = refl; least = λ c s p of_layer. (let e : c ≡ 3 = on_even_line c s p of_layer in omega arith); not_one = no_start }
+lacks_start = record {
+  shape = _;
+  shape_is = refl;
+  of_layer = refl;
+  least =
+      λ c s p of_layer. (let e : c ≡ 3 = on_even_line c s p of_layer in omega arith);
+  not_one = no_start;
+}
 
 first_lack : (c d : ℕ) → ExcitationBroken without_starts.shapes c d → (3 < c) ⊎ ((3 ≡ c) × (3 ≤ d))
 first_lack c d (inl h) = absurd (no_other_part c h.0)
-first_lack c d (inr (n, inl h)) = same_numbers 3 3 c d (sym (on_even_line c h.0.shape h.0.shape_is h.0.of_layer)) refl h.1
+first_lack c d (inr (n, inl h)) = same_numbers 3 3 c d
+    (sym (on_even_line c h.0.shape h.0.shape_is h.0.of_layer)) refl h.1
 first_lack c d (inr (n, inr (m, h))) = absurd (m 3 3 (lacks_start, refl))
 
 pub no_starts : IsFirstReport (ExcitationBroken without_starts.shapes) 3 3

@@ -35,14 +35,17 @@ module _ {X : Type 0} (Step : X → X → Type 0) where
       after (inr ways) = ways.1
   way_over (stop ∷ stops) x m y (inr among) first second = joined (λ a b. way_over stops a m b among) first second
     where
-      joined : ((a b : X) → Way stops a m → Way stops m b → Way stops a b) → Way (stop ∷ stops) x m → Way (stop ∷ stops) m y → Way (stop ∷ stops) x y
+      joined : ((a b : X) → Way stops a m → Way stops m b → Way stops a b) → Way (stop ∷ stops) x m
+          → Way (stop ∷ stops) m y → Way (stop ∷ stops) x y
       joined over (inl a) (inl b) = inl (over x y a b)
       joined over (inl a) (inr b) = inr (over x stop a b.0, b.1)
       joined over (inr a) (inl b) = inr (a.0, over stop y a.1 b)
       joined over (inr a) (inr b) = inr (a.0, b.1)
 
   -- what each step keeps is kept on the way
-  pub way_keeps : (P : X → Type 0) → ((x y : X) → Step x y → P x → P y) → (stops : List X) (x y : X) → Way stops x y → P x → P y
+  pub way_keeps : (P : X → Type 0) → ((x y : X) → Step x y → P x → P y) → (stops : List X) (x y : X)
+      → Way stops x y → P x → P y
   way_keeps P keeps [] x y step = keeps x y step
   way_keeps P keeps (stop ∷ stops) x y (inl way) = way_keeps P keeps stops x y way
-  way_keeps P keeps (stop ∷ stops) x y (inr ways) = λ h. way_keeps P keeps stops stop y ways.1 (way_keeps P keeps stops x stop ways.0 h)
+  way_keeps P keeps (stop ∷ stops) x y (inr ways) = λ h. way_keeps P keeps stops stop y ways.1
+      (way_keeps P keeps stops x stop ways.0 h)

@@ -1,5 +1,6 @@
 -- The first broken rule and its report are one, and whoever keeps all rules has none.
-use Rattle.std.proofs.Common.{◌≡◌, ℕ, suc, ◌<◌, ◌≤◌, ◌⊎◌, Bool, true, ◌&&◌, List, [], ◌∷◌, Some, length, refl, sym, ap, ◌∙◌, subst, arith, inl, inr, slice_get, ◌==◌}
+use Rattle.std.proofs.Common.{◌≡◌, ℕ, suc, ◌<◌, ◌≤◌, ◌⊎◌, Bool, true, ◌&&◌, List, [], ◌∷◌, Some, length, refl, sym, ap}
+use Rattle.std.proofs.Common.{◌∙◌, subst, arith, inl, inr, slice_get, ◌==◌}
 use Rattle.std.proofs.lemmas.Bool.{cases_order, cases_lt}
 use Rattle.std.proofs.lemmas.Option.{same_Some, slice_get_within}
 use Rattle.geom.specs.declared.shapes.Flat.{Flat}
@@ -42,7 +43,8 @@ at_place G5 = refl
 pub same_place : (rule other : Rule) → place rule ≡ place other → rule ≡ other
 same_place rule other e = same_Some rule other (sym (at_place rule) ∙ (ap (slice_get rules) e ∙ at_place other))
 
-pub same_report : {report : ℕ → ℕ → Type 0} {a b c d : ℕ} → IsFirstReport report a b → IsFirstReport report c d → (a ≡ c) × (b ≡ d)
+pub same_report : {report : ℕ → ℕ → Type 0} {a b c d : ℕ} → IsFirstReport report a b
+    → IsFirstReport report c d → (a ≡ c) × (b ≡ d)
 same_report {report} {a} {b} {c} {d} one other = both (one.least c d other.reported) (other.least a b one.reported)
   where
     both : (a < c) ⊎ ((a ≡ c) × (b ≤ d)) → (c < a) ⊎ ((c ≡ a) × (d ≤ b)) → (a ≡ c) × (b ≡ d)
@@ -51,11 +53,13 @@ same_report {report} {a} {b} {c} {d} one other = both (one.least c d other.repor
     both (inr h) (inl k) = absurd (omega arith)
     both (inr h) (inr k) = (h.0, omega arith)
 
-pub FirstBroken-once : (flat : Flat) (limits : Limits) (rule other : Rule) (a b c d : ℕ) → FirstBroken flat limits rule a b → FirstBroken flat limits other c d → IsOneReport rule other a b c d
+pub FirstBroken-once : (flat : Flat) (limits : Limits) (rule other : Rule) (a b c d : ℕ)
+    → FirstBroken flat limits rule a b → FirstBroken flat limits other c d → IsOneReport rule other a b c d
 FirstBroken-once flat limits rule other a b c d one two = elim (cases_order (place rule) (place other)) [
   | inl e ↦
       let same : rule ≡ other = same_place rule other e in
-      let report : IsFirstReport (Broken rule flat limits) c d = subst (λ (r : Rule). IsFirstReport (Broken r flat limits) c d) (sym same) two.report in
+      let report : IsFirstReport (Broken rule flat limits) c d =
+      subst (λ (r : Rule). IsFirstReport (Broken r flat limits) c d) (sym same) two.report in
       let numbers : (a ≡ c) × (b ≡ d) = same_report one.report report in
       record { one_rule = same; one_first = numbers.0; one_second = numbers.1 }
   | inr ne ↦ elim ne [
@@ -72,7 +76,8 @@ pub KeepsBelow-none : (flat : Flat) (limits : Limits) → KeepsBelow 0 flat limi
 KeepsBelow-none flat limits rule h = absurd (omega arith)
 
 -- one rule more
-pub KeepsBelow-more : (flat : Flat) (limits : Limits) (n : ℕ) (rule : Rule) → place rule ≡ n → KeepsBelow n flat limits → Keeps rule flat limits → KeepsBelow (suc n) flat limits
+pub KeepsBelow-more : (flat : Flat) (limits : Limits) (n : ℕ) (rule : Rule) → place rule ≡ n → KeepsBelow n flat limits
+    → Keeps rule flat limits → KeepsBelow (suc n) flat limits
 KeepsBelow-more flat limits n rule e below kept other h = elim (cases_order (place other) n) [
   | inl same ↦ subst (λ (r : Rule). Keeps r flat limits) (same_place rule other (e ∙ sym same)) kept
   | inr ne ↦ elim ne [ inl less ↦ below other less | inr more ↦ absurd (omega arith) ]

@@ -25,7 +25,8 @@ short_line shapes a b s t =
     && ((meet s t && meet t s)
     && (bytes_eq (places (meet s) shapes) (a ∷ b ∷ []) && bytes_eq (places (meet t) shapes) (a ∷ b ∷ [])))
 
-abbrev short_line_so : (shapes : List Shape) (a b : ℕ) (s t : Shape) → slice_get shapes a ≡ Some s → slice_get shapes b ≡ Some t
+abbrev short_line_so : (shapes : List Shape) (a b : ℕ) (s t : Shape) → slice_get shapes a ≡ Some s
+    → slice_get shapes b ≡ Some t
     → short_line shapes a b s t ≡ true → IsShortLine shapes a b
 short_line_so shapes a b s t s_is t_is h =
     let two : ((is_part START s && is_part BAR t) ≡ true) × (((meet s t && meet t s)
@@ -66,7 +67,8 @@ module _ (shapes : List Shape) (a b c d : ℕ) (s t u v : Shape) where
   abbrev parts_test : Bool
   parts_test =
       (bytes_eq (places is_no_part shapes) [] && bytes_eq (places is_line shapes) (a ∷ b ∷ c ∷ d ∷ []))
-      && ((bytes_eq (places (is_start_on EVEN_LINE) shapes) (a ∷ []) && bytes_eq (places (is_start_on ODD_LINE) shapes) (c ∷ []))
+      && ((bytes_eq (places (is_start_on EVEN_LINE) shapes) (a ∷ []) && bytes_eq
+      (places (is_start_on ODD_LINE) shapes) (c ∷ []))
       && (bytes_eq (places (is_part BAR) shapes) (b ∷ d ∷ []) && (s.layer == EVEN_LINE && u.layer == ODD_LINE)))
 
   -- the starts enter their bars, and each frame is excited

@@ -7,7 +7,8 @@ use Rattle.layout_rules.specs.declared.rule.Rule.TheVariants.{E1, E2, E3, E4, E5
 use Rattle.layout_rules.specs.Limits.{Limits}
 use Rattle.layout_rules.specs.RuleTable.{place}
 use Rattle.layout_rules.specs.Rules.{Broken, KeepsRules, HasFirstBroken}
-use Rattle.layout_rules.proofs.RuleLaws.{rules, stand_from, rules_stand, KeepsBelow, KeepsBelow-none, KeepsBelow-more, KeepsRules-below}
+use Rattle.layout_rules.proofs.RuleLaws.{rules, stand_from, rules_stand, KeepsBelow, KeepsBelow-none, KeepsBelow-more}
+use Rattle.layout_rules.proofs.RuleLaws.{KeepsRules-below}
 use Rattle.layout_rules.proofs.Judging.{Judged}
 use Rattle.layout_rules.proofs.JudgedCells.{cells_judged}
 use Rattle.layout_rules.proofs.JudgedLines.{chains_judged}
@@ -15,14 +16,20 @@ use Rattle.layout_rules.proofs.LinesAgree.{excitation_none, excitation_first}
 use Rattle.layout_rules.proofs.NetsExist.{some_nets}
 use Rattle.layout_rules.proofs.JudgedNets.{nets_judged, rows_judged}
 use Rattle.layout_rules.proofs.JudgedLabels.{labels_judged}
-use Rattle.layout_rules.proofs.JudgedGeometry.{sizes_judged, spacing_judged, enclosure_judged, cover_judged, frames_judged, lengths_judged}
+use Rattle.layout_rules.proofs.JudgedGeometry.{sizes_judged, spacing_judged, enclosure_judged, cover_judged}
+use Rattle.layout_rules.proofs.JudgedGeometry.{frames_judged, lengths_judged}
 
 module _ (flat : Flat) (limits : Limits) where
   rule_judged : (rule : Rule) → Judged (Broken rule flat limits)
   rule_judged E1 = cells_judged flat.shapes
   rule_judged E2 = elim (chains_judged flat.shapes) [
     | inl none ↦ inl (excitation_none flat.shapes none)
-    | inr found ↦ inr (record { first = found.first; second = found.second; is_first = excitation_first flat.shapes found.first found.second found.is_first })
+    | inr found ↦ inr (record {
+      first = found.first;
+      second = found.second;
+      is_first =
+          excitation_first flat.shapes found.first found.second found.is_first;
+    })
   ]
   rule_judged E3 = nets_judged flat (some_nets flat.shapes)
   rule_judged E4 = rows_judged flat (some_nets flat.shapes)
@@ -46,7 +53,11 @@ module _ (flat : Flat) (limits : Limits) where
       rule = rule;
       first = found.first;
       second = found.second;
-      is_first = record { report = found.is_first; kept_before = subst (λ (m : ℕ). KeepsBelow m flat limits) (sym e) kept };
+      is_first = record {
+        report = found.is_first;
+        kept_before =
+            subst (λ (m : ℕ). KeepsBelow m flat limits) (sym e) kept;
+      };
     })
   ]
 

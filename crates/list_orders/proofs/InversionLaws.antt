@@ -1,4 +1,5 @@
--- Laws of inversions: a list has none exactly where it is in order, and putting part of it in order removes those inside.
+-- Laws of inversions: a list has none exactly where it is in order, and putting part of it in order removes those
+-- inside.
 use Rattle.std.proofs.Common.{◌≡◌, ℕ, ◌+◌, ◌≤◌, Bool, true, false, leb, ltb, List, [], ◌∷◌, ◌++◌, refl, inl, inr, arith}
 use Rattle.std.specs.List.{AllByRecursion}
 use Rattle.std.proofs.lemmas.Bool.{cases_lt, lt-ltb, le-ltb, le-leb, lt-leb}
@@ -38,7 +39,8 @@ across-in_order (x ∷ xs) ys = omega (arith, across-put x (in_order xs) ys, acr
 -- a list in order has no inversion
 pub none_below : (x b : ℕ) (ys : List ℕ) → NotFalling (λ n. n) b ys → x ≤ b → below x ys ≡ 0
 none_below x b [] up le = refl
-none_below x b (y ∷ ys) up le = let k : ltb y x ≡ false = le-ltb y x (omega (arith, up.0)) in rw k (none_below x y ys up.1 (omega (arith, up.0)))
+none_below x b (y ∷ ys) up le = let k : ltb y x ≡ false = le-ltb y x (omega (arith, up.0)) in rw k
+    (none_below x y ys up.1 (omega (arith, up.0)))
 
 pub none_in_order : (b : ℕ) (xs : List ℕ) → NotFalling (λ n. n) b xs → inversions xs ≡ 0
 none_in_order b [] up = refl
@@ -52,13 +54,16 @@ from_none_below x (y ∷ ys) e = elim (cases_lt y x) [
   | inr ge ↦ (ge, from_none_below x ys (let k : ltb y x ≡ false = le-ltb y x ge in rw k at e))
 ]
 
-up_from : (x : ℕ) (ys : List ℕ) → AllByRecursion (λ y. x ≤ y) ys → (b : ℕ) → NotFalling (λ n. n) b ys → NotFalling (λ n. n) x ys
+up_from : (x : ℕ) (ys : List ℕ) → AllByRecursion (λ y. x ≤ y) ys → (b : ℕ) → NotFalling (λ n. n) b ys
+    → NotFalling (λ n. n) x ys
 up_from x [] all b up = tt
 up_from x (y ∷ ys) all b up = (all.0, up.1)
 
 pub in_order_from_none : (xs : List ℕ) → inversions xs ≡ 0 → NotFalling (λ n. n) 0 xs
 in_order_from_none [] e = tt
-in_order_from_none (x ∷ xs) e = (omega arith, up_from x xs (from_none_below x xs (omega (arith, e))) 0 (in_order_from_none xs (omega (arith, e))))
+in_order_from_none (x ∷ xs) e =
+    (omega arith, up_from x xs (from_none_below x xs (omega (arith, e))) 0 (in_order_from_none xs (omega (arith, e))))
 
 pub in_order_same : (xs : List ℕ) → inversions xs ≡ 0 → in_order xs ≡ xs
-in_order_same xs e = same_in_order (λ n. n) 0 0 (in_order xs) xs (by_key_in_order (λ n. n) xs) (in_order_from_none xs e) (λ n. by_key_same_key (λ n. n) n xs)
+in_order_same xs e = same_in_order (λ n. n) 0 0 (in_order xs) xs (by_key_in_order (λ n. n) xs) (in_order_from_none xs e)
+    (λ n. by_key_same_key (λ n. n) n xs)

@@ -8,7 +8,8 @@ use Rattle.std.proofs.lemmas.List.Sums.{length-filter}
 use Rattle.std.proofs.lemmas.List.Sorted.{IsPermutation-sym, sum_by-IsPermutation}
 use Rattle.list_orders.specs.Sorting.{by_key, NotFalling, EachPair, passing, of_key}
 use Rattle.list_orders.specs.Numbers.{numbers, place_of, Same, IsOrder}
-use Rattle.list_orders.proofs.SortingLaws.{by_key_in_order, by_key_passing, by_key_moves, same_in_order, pair_at, not_falling_from_places}
+use Rattle.list_orders.proofs.SortingLaws.{by_key_in_order, by_key_passing, by_key_moves, same_in_order, pair_at}
+use Rattle.list_orders.proofs.SortingLaws.{not_falling_from_places}
 
 -- the elements of one list are those of the other, where one is a permutation of the other
 pub same_from_permutation : (xs ys : List ℕ) → IsPermutation xs ys → Same ys xs
@@ -28,7 +29,8 @@ all_one n (x ∷ xs) = go (eqb n x) refl (all_one n xs)
 
     go : (b : Bool) → eqb n x ≡ b → of_key (λ x. x) n xs ≡ replicate (passing (λ x. eqb n x) xs) n
         → of_key (λ x. x) n (x ∷ xs) ≡ replicate (passing (λ x. eqb n x) (x ∷ xs)) n
-    go true q rest = let e : x ≡ n = equal true q refl in rw q (cons_same x n (of_key (λ x. x) n xs) (replicate (passing (λ x. eqb n x) xs) n) e rest)
+    go true q rest = let e : x ≡ n = equal true q refl in rw q
+        (cons_same x n (of_key (λ x. x) n xs) (replicate (passing (λ x. eqb n x) xs) n) e rest)
     go false q rest = rw q rest
 
 numbers_rise : (b n count : ℕ) → b ≤ n → NotFalling (λ x. x) b (numbers n count)
@@ -67,7 +69,8 @@ passing_is_count p xs = length-filter p xs
 pub all_pairs : {X : Type 0} (R : X → X → Type 0) (xs : List X) → EachPair R xs → AllPairs R xs
 all_pairs R xs each i j d lt within = pair_at R xs each i j d lt within
 
-each_of : {X : Type 0} (P : X → Type 0) (xs : List X) → ((k : ℕ) (d : X) → k < length xs → P (get_or xs k d)) → AllByRecursion P xs
+each_of : {X : Type 0} (P : X → Type 0) (xs : List X)
+    → ((k : ℕ) (d : X) → k < length xs → P (get_or xs k d)) → AllByRecursion P xs
 each_of P [] at = tt
 each_of P (x ∷ xs) at = (at 0 x (omega arith), each_of P xs (λ k d lt. at (suc k) d (omega arith)))
 
@@ -78,7 +81,8 @@ each_pair R (x ∷ xs) all = (
   each_pair R xs (λ i j d lt within. all (suc i) (suc j) d (omega arith) (omega arith)),
 )
 
-at_least : {X : Type 0} (key : X → ℕ) (b : ℕ) (xs : List X) → NotFalling key b xs → (k : ℕ) (d : X) → k < length xs → b ≤ key (get_or xs k d)
+at_least : {X : Type 0} (key : X → ℕ) (b : ℕ) (xs : List X) → NotFalling key b xs → (k : ℕ) (d : X) → k < length xs
+    → b ≤ key (get_or xs k d)
 at_least key b [] up k d lt = absurd (omega arith)
 at_least key b (x ∷ xs) up zero d lt = up.0
 at_least key b (x ∷ xs) up (suc k) d lt = omega (arith, up.0, at_least key (key x) xs up.1 k d (omega arith))
@@ -88,7 +92,8 @@ non_decreasing key b [] up i j d le lt = absurd (omega arith)
 non_decreasing key b (x ∷ xs) up zero zero d le lt = omega arith
 non_decreasing key b (x ∷ xs) up zero (suc j) d le lt = at_least key (key x) xs up.1 j d (omega arith)
 non_decreasing key b (x ∷ xs) up (suc i) zero d le lt = absurd (omega arith)
-non_decreasing key b (x ∷ xs) up (suc i) (suc j) d le lt = non_decreasing key (key x) xs up.1 i j d (omega arith) (omega arith)
+non_decreasing key b (x ∷ xs) up (suc i) (suc j) d le lt = non_decreasing key (key x) xs up.1 i j d
+    (omega arith) (omega arith)
 
 pub not_falling : {X : Type 0} (key : X → ℕ) (xs : List X) → IsNonDecreasingBy key xs → NotFalling key 0 xs
 not_falling key xs up =

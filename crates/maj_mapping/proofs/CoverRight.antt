@@ -1,5 +1,6 @@
 -- What folds in halves and cubes keep and give.
-use Rattle.std.specs.Prelude.{◌≡◌, ℕ, zero, suc, ◌+◌, ◌-◌, ◌*◌, ◌/◌, ◌<◌, ◌≤◌, ◌&&◌, ◌||◌, Bool, true, false, not, cond, eqb, List, [], ◌∷◌, ◌++◌, map, length, take, drop}
+use Rattle.std.specs.Prelude.{◌≡◌, ℕ, zero, suc, ◌+◌, ◌-◌, ◌*◌, ◌/◌, ◌<◌, ◌≤◌, ◌&&◌, ◌||◌, Bool, true, false, not, cond}
+use Rattle.std.specs.Prelude.{eqb, List, [], ◌∷◌, ◌++◌, map, length, take, drop}
 use Rattle.std.proofs.Common.{refl, sym, ap, ◌∙◌, arith, length-take, length-drop, zero-add}
 use Rattle.std.proofs.lemmas.List.{take-append-drop, map-append}
 use Rattle.std.specs.List.{list_all}
@@ -15,7 +16,8 @@ use Rattle.maj_mapping.specs.Values.{takes_all, some_takes, cover, HasPlanes}
 use Rattle.maj_mapping.specs.Operations.{Made, MadeAll, inv, and, or, halves}
 use Rattle.maj_mapping.specs.Counts.{literal_count, cube_literals}
 use Rattle.maj_mapping.specs.Covers.{first, literals, or_all, cube_made, cubes_made, by_cubes}
-use Rattle.maj_mapping.proofs.Right.{Right, past_constants, at_zero, at_one, right_keep, and_is_right, or_is_right, inv_is_right}
+use Rattle.maj_mapping.proofs.Right.{Right, past_constants, at_zero, at_one, right_keep, and_is_right, or_is_right}
+use Rattle.maj_mapping.proofs.Right.{inv_is_right}
 use Rattle.maj_mapping.proofs.RightAll.{RightAll}
 use Rattle.maj_mapping.specs.Counts.{AllBelow}
 use Rattle.maj_mapping.proofs.Below.{below_more, below_take, below_drop}
@@ -27,20 +29,26 @@ joined g e (x ∷ xs) = g x (joined g e xs)
 
 -- an operation of gates that gives g of truth values, where g is associative and e changes nothing
 pub record IsJoin (n : ℕ) (op : List Gate → ℕ → ℕ → Made) (g : Bool → Bool → Bool) (e : Bool) : Type 0 where
-  pub op_right : (gs : List Gate) → AreGates n gs → (x y : ℕ) → x < length gs → y < length gs → Right n gs (op gs x y) 1 (λ v. g (v x) (v y))
+  pub op_right : (gs : List Gate) → AreGates n gs → (x y : ℕ) → x < length gs → y < length gs
+      → Right n gs (op gs x y) 1 (λ v. g (v x) (v y))
   pub assoc : (a b c : Bool) → g (g a b) c ≡ g a (g b c)
   pub left : (a : Bool) → g e a ≡ a
   pub right : (a : Bool) → g a e ≡ a
 
-joined_append : (n : ℕ) (op : List Gate → ℕ → ℕ → Made) (g : Bool → Bool → Bool) (e : Bool) → IsJoin n op g e → (xs ys : List Bool) → joined g e (xs ++ ys) ≡ g (joined g e xs) (joined g e ys)
+joined_append : (n : ℕ) (op : List Gate → ℕ → ℕ → Made) (g : Bool → Bool → Bool) (e : Bool) → IsJoin n op g e
+    → (xs ys : List Bool) → joined g e (xs ++ ys) ≡ g (joined g e xs) (joined g e ys)
 joined_append n op g e h [] ys = sym (h.left (joined g e ys))
-joined_append n op g e h (x ∷ xs) ys = ap (g x) (joined_append n op g e h xs ys) ∙ sym (h.assoc x (joined g e xs) (joined g e ys))
+joined_append n op g e h (x ∷ xs) ys = ap (g x) (joined_append n op g e h xs ys)
+    ∙ sym (h.assoc x (joined g e xs) (joined g e ys))
 
-pub halves_are_right : (n none : ℕ) (op : List Gate → ℕ → ℕ → Made) (g : Bool → Bool → Bool) (e : Bool) → IsJoin n op g e
-    → (k : ℕ) (gs : List Gate) (xs : List ℕ) → AreGates n gs → AllBelow (length gs) xs → none < length gs → ((word : List Bool) (v : ℕ → Bool) → Fits word v gs → v none ≡ e) → length xs ≤ suc k
+pub halves_are_right : (n none : ℕ) (op : List Gate → ℕ → ℕ → Made) (g : Bool → Bool → Bool)
+    (e : Bool) → IsJoin n op g e
+    → (k : ℕ) (gs : List Gate) (xs : List ℕ) → AreGates n gs → AllBelow (length gs) xs → none < length gs
+    → ((word : List Bool) (v : ℕ → Bool) → Fits word v gs → v none ≡ e) → length xs ≤ suc k
     → Right n gs (halves op none k gs xs) (length xs - 1) (λ v. joined g e (map v xs))
 halves_are_right n none op g e h k gs [] ok below lt is le = right_keep n gs none _ _ ok lt is
-halves_are_right n none op g e h k gs (x ∷ []) ok below lt is le = right_keep n gs x _ _ ok below.0 (λ word v fits. sym (h.right (v x)))
+halves_are_right n none op g e h k gs (x ∷ []) ok below lt is le = right_keep n gs x _ _ ok below.0
+    (λ word v fits. sym (h.right (v x)))
 halves_are_right n none op g e h zero gs (x ∷ y ∷ xs) ok below lt is le = absurd (omega arith)
 halves_are_right n none op g e h (suc k) gs (x ∷ y ∷ xs) ok below lt is le =
     let all = x ∷ y ∷ xs in
@@ -51,7 +59,9 @@ halves_are_right n none op g e h (suc k) gs (x ∷ y ∷ xs) ok below lt is le =
     let lr : length (drop m all) ≡ length all - m = length-drop m all in
     let l = halves_are_right n none op g e h k gs (take m all) ok (below_take _ m all below) lt is (omega arith) in
     let a = halves op none k gs (take m all) in
-    let r = halves_are_right n none op g e h k a.gates (drop m all) l.good (below_more _ _ (drop m all) l.grown (below_drop _ m all below)) (omega arith) (λ word v fits. is word v (l.earlier word v fits)) (omega arith) in
+    let r = halves_are_right n none op g e h k a.gates (drop m all) l.good
+    (below_more _ _ (drop m all) l.grown (below_drop _ m all below)) (omega arith)
+    (λ word v fits. is word v (l.earlier word v fits)) (omega arith) in
     let b = halves op none k a.gates (drop m all) in
     let o = h.op_right b.gates r.good a.at b.at (omega (arith, l.inside, r.grown)) r.inside in
     record {
@@ -63,8 +73,10 @@ halves_are_right n none op g e h (suc k) gs (x ∷ y ∷ xs) ok below lt is le =
       value = λ word v fits.
           let fb = o.earlier word v fits in
           let fa = r.earlier word v fb in
-          o.value word v fits ∙ ap (λ (t : Bool). g t (v b.at)) (l.value word v fa) ∙ ap (g (joined g e (map v (take m all)))) (r.value word v fb)
-          ∙ sym (joined_append n op g e h (map v (take m all)) (map v (drop m all))) ∙ ap (joined g e) (sym (map-append v (take m all) (drop m all)) ∙ ap (map v) (take-append-drop m all));
+          o.value word v fits ∙ ap (λ (t : Bool). g t (v b.at)) (l.value word v fa)
+          ∙ ap (g (joined g e (map v (take m all)))) (r.value word v fb)
+          ∙ sym (joined_append n op g e h (map v (take m all)) (map v (drop m all)))
+          ∙ ap (joined g e) (sym (map-append v (take m all) (drop m all)) ∙ ap (map v) (take-append-drop m all));
     }
 
 pub and_join : (n : ℕ) → IsJoin n (and n) (λ a b. a && b) true
@@ -88,17 +100,29 @@ or_join n = record {
 abbrev pub literal_values : List ℕ → List Bool → List Bool
 literal_values [] xs = []
 literal_values (b ∷ bs) [] = []
-literal_values (b ∷ bs) (x ∷ xs) = elim (eqb b 49) [ true ↦ x ∷ literal_values bs xs | false ↦ elim (eqb b 48) [ true ↦ not x ∷ literal_values bs xs | false ↦ literal_values bs xs ] ]
+literal_values (b ∷ bs) (x ∷ xs) =
+    elim (eqb b 49) [
+      | true ↦ x ∷ literal_values bs xs
+      | false ↦ elim (eqb b 48)
+          [ true ↦ not x ∷ literal_values bs xs | false ↦ literal_values bs xs ]
+    ]
 
-literals_match : (bs : List ℕ) (xs : List Bool) → list_all is_plane_byte bs ≡ true → joined (λ a b. a && b) true (literal_values bs xs) ≡ takes_all bs xs
+literals_match : (bs : List ℕ) (xs : List Bool) → list_all is_plane_byte bs ≡ true
+    → joined (λ a b. a && b) true (literal_values bs xs) ≡ takes_all bs xs
 literals_match [] xs h = refl
 literals_match (b ∷ bs) [] h = refl
 literals_match (b ∷ bs) (x ∷ xs) h =
     let both = and_parts (is_plane_byte b) (list_all is_plane_byte bs) h in
-    go (eqb b 49) (eqb b 48) (literals_match bs xs both.1) ∙ ap (λ (t : Bool). t && takes_all bs xs) (literal_takes b x both.0)
+    go (eqb b 49) (eqb b 48) (literals_match bs xs both.1)
+    ∙ ap (λ (t : Bool). t && takes_all bs xs) (literal_takes b x both.0)
   where
     go : (p q : Bool) → joined (λ a c. a && c) true (literal_values bs xs) ≡ takes_all bs xs
-        → joined (λ a c. a && c) true (elim p as (λ (t : Bool). List Bool) [ true ↦ x ∷ literal_values bs xs | false ↦ elim q as (λ (t : Bool). List Bool) [ true ↦ not x ∷ literal_values bs xs | false ↦ literal_values bs xs ] ])
+        → joined (λ a c. a && c) true
+        (elim p as (λ (t : Bool). List Bool) [
+          | true ↦ x ∷ literal_values bs xs
+          | false ↦ elim q as (λ (t : Bool). List Bool)
+              [ true ↦ not x ∷ literal_values bs xs | false ↦ literal_values bs xs ]
+        ])
         ≡ (cond p x (cond q (not x) true) && takes_all bs xs)
     go true q h = ap (λ (t : Bool). x && t) h
     go false true h = ap (λ (t : Bool). not x && t) h
@@ -110,14 +134,26 @@ pub record RightSome (n : ℕ) (gs : List Gate) (m : MadeAll) (most cost : ℕ) 
   pub number : length m.ats ≤ most
 
 -- one more gate before the others
-some_kept : (n : ℕ) (gs : List Gate) (x : ℕ) (m : MadeAll) (most cost : ℕ) (fs : (ℕ → Bool) → List Bool) → x < length gs → RightSome n gs m most cost fs → RightSome n gs (first x m) (1 + most) (1 + cost) (λ v. v x ∷ fs v)
+some_kept : (n : ℕ) (gs : List Gate) (x : ℕ) (m : MadeAll) (most cost : ℕ) (fs : (ℕ → Bool) → List Bool) → x < length gs
+    → RightSome n gs m most cost fs → RightSome n gs (first x m) (1 + most) (1 + cost) (λ v. v x ∷ fs v)
 some_kept n gs x m most cost fs lt r = record {
-  all = record { good = r.all.good; inside = (omega (arith, r.all.grown), r.all.inside); grown = r.all.grown; few = omega (arith, r.all.few); earlier = r.all.earlier; values = λ word v fits. ap (λ (t : List Bool). v x ∷ t) (r.all.values word v fits) };
+  all = record {
+    good = r.all.good;
+    inside = (omega (arith, r.all.grown), r.all.inside);
+    grown = r.all.grown;
+    few =
+        omega (arith, r.all.few);
+    earlier = r.all.earlier;
+    values = λ word v fits. ap (λ (t : List Bool). v x ∷ t)
+        (r.all.values word v fits);
+  };
   number = omega (arith, r.number);
 }
 
-some_made : (n : ℕ) (gs : List Gate) (a : Made) (m : MadeAll) (ca most cost : ℕ) (f : (ℕ → Bool) → Bool) (fs : (ℕ → Bool) → List Bool)
-    → Right n gs a ca f → RightSome n a.gates m most cost fs → RightSome n gs (first a.at m) (1 + most) (ca + cost) (λ v. f v ∷ fs v)
+some_made : (n : ℕ) (gs : List Gate) (a : Made) (m : MadeAll) (ca most cost : ℕ) (f : (ℕ → Bool) → Bool)
+    (fs : (ℕ → Bool) → List Bool)
+    → Right n gs a ca f → RightSome n a.gates m most cost fs
+    → RightSome n gs (first a.at m) (1 + most) (ca + cost) (λ v. f v ∷ fs v)
 some_made n gs a m ca most cost f fs r s = record {
   all = record {
     good = s.all.good;
@@ -125,48 +161,97 @@ some_made n gs a m ca most cost f fs r s = record {
     grown = omega (arith, s.all.grown, r.grown);
     few = omega (arith, s.all.few, r.few);
     earlier = λ word v fits. r.earlier word v (s.all.earlier word v fits);
-    values = λ word v fits. ap (λ (b : Bool). b ∷ map v m.ats) (r.value word v (s.all.earlier word v fits)) ∙ ap (λ (t : List Bool). f v ∷ t) (s.all.values word v fits);
+    values = λ word v fits. ap (λ (b : Bool). b ∷ map v m.ats) (r.value word v (s.all.earlier word v fits))
+        ∙ ap (λ (t : List Bool). f v ∷ t) (s.all.values word v fits);
   };
   number = omega (arith, s.number);
 }
 
-some_same : (n : ℕ) (gs : List Gate) (m : MadeAll) (most cost : ℕ) (fs : (ℕ → Bool) → List Bool) → RightSome n gs m most cost fs → RightSome n gs m (0 + most) (0 + cost) fs
+some_same : (n : ℕ) (gs : List Gate) (m : MadeAll) (most cost : ℕ) (fs : (ℕ → Bool) → List Bool)
+    → RightSome n gs m most cost fs → RightSome n gs m (0 + most) (0 + cost) fs
 some_same n gs m most cost fs r = simp zero-add r
 
 pub literals_are_right : (n : ℕ) (gs : List Gate) → AreGates n gs → (bs xs : List ℕ) → AllBelow (length gs) xs
     → RightSome n gs (literals n gs bs xs) (literal_count bs) (literal_count bs) (λ v. literal_values bs (map v xs))
-literals_are_right n gs ok [] xs below = record { all = record { good = ok; inside = tt; grown = omega arith; few = omega arith; earlier = λ word v fits. fits; values = λ word v fits. refl }; number = omega arith }
-literals_are_right n gs ok (b ∷ bs) [] below = record { all = record { good = ok; inside = tt; grown = omega arith; few = omega arith; earlier = λ word v fits. fits; values = λ word v fits. refl }; number = omega arith }
+literals_are_right n gs ok [] xs below =
+    record {
+      all = record {
+        good = ok;
+        inside = tt;
+        grown = omega arith;
+        few = omega arith;
+        earlier =
+            λ word v fits. fits;
+        values = λ word v fits. refl;
+      };
+      number = omega arith;
+    }
+literals_are_right n gs ok (b ∷ bs) [] below =
+    record {
+      all = record {
+        good = ok;
+        inside = tt;
+        grown = omega arith;
+        few = omega arith;
+        earlier =
+            λ word v fits. fits;
+        values = λ word v fits. refl;
+      };
+      number = omega arith;
+    }
 literals_are_right n gs ok (b ∷ bs) (x ∷ xs) below =
     let r = inv_is_right n gs ok x below.0 in
     let m = inv n gs x in
-    go (eqb b 49) (eqb b 48) (literals_are_right n gs ok bs xs below.1) r (literals_are_right n m.gates r.good bs xs (below_more _ _ xs r.grown below.1))
+    go (eqb b 49) (eqb b 48) (literals_are_right n gs ok bs xs below.1) r
+    (literals_are_right n m.gates r.good bs xs (below_more _ _ xs r.grown below.1))
   where
     go : (p q : Bool)
         → RightSome n gs (literals n gs bs xs) (literal_count bs) (literal_count bs) (λ v. literal_values bs (map v xs))
         → Right n gs (inv n gs x) 1 (λ v. not (v x))
-        → RightSome n (inv n gs x).gates (literals n (inv n gs x).gates bs xs) (literal_count bs) (literal_count bs) (λ v. literal_values bs (map v xs))
+        → RightSome n (inv n gs x).gates (literals n (inv n gs x).gates bs xs) (literal_count bs) (literal_count bs)
+        (λ v. literal_values bs (map v xs))
         → RightSome n gs
-        (elim p as (λ (t : Bool). MadeAll) [ true ↦ first x (literals n gs bs xs) | false ↦ elim q as (λ (t : Bool). MadeAll) [ true ↦ first (inv n gs x).at (literals n (inv n gs x).gates bs xs) | false ↦ literals n gs bs xs ] ])
+        (elim p as (λ (t : Bool). MadeAll) [
+          | true ↦ first x
+              (literals n gs bs xs)
+          | false ↦ elim q as (λ (t : Bool). MadeAll) [
+            | true ↦ first (inv n gs x).at
+                (literals n (inv n gs x).gates bs xs)
+            | false ↦ literals n gs bs xs
+          ]
+        ])
         (cond (p || q) 1 0 + literal_count bs) (cond (p || q) 1 0 + literal_count bs)
-        (λ v. elim p as (λ (t : Bool). List Bool) [ true ↦ v x ∷ literal_values bs (map v xs) | false ↦ elim q as (λ (t : Bool). List Bool) [ true ↦ not (v x) ∷ literal_values bs (map v xs) | false ↦ literal_values bs (map v xs) ] ])
+        (λ v. elim p as (λ (t : Bool). List Bool) [
+          | true ↦ v x ∷ literal_values bs
+              (map v xs)
+          | false ↦ elim q as (λ (t : Bool). List Bool) [
+            | true ↦ not (v x) ∷ literal_values bs
+                (map v xs)
+            | false ↦ literal_values bs (map v xs)
+          ]
+        ])
     go true q same r after = some_kept n gs x _ _ _ _ below.0 same
     go false true same r after = some_made n gs (inv n gs x) _ 1 _ _ _ _ r after
     go false false same r after = some_same n gs _ _ _ _ same
 
-pub cube_is_right : (n : ℕ) (gs : List Gate) → AreGates n gs → (xs bs : List ℕ) → list_all is_plane_byte bs ≡ true → AllBelow (length gs) xs → Right n gs (cube_made n gs xs bs) (2 * literal_count bs) (λ v. takes_all bs (map v xs))
+pub cube_is_right : (n : ℕ) (gs : List Gate) → AreGates n gs → (xs bs : List ℕ) → list_all is_plane_byte bs ≡ true
+    → AllBelow (length gs) xs → Right n gs (cube_made n gs xs bs) (2 * literal_count bs) (λ v. takes_all bs (map v xs))
 cube_is_right n gs ok xs bs plane below =
     let l = literals_are_right n gs ok bs xs below in
     let m = literals n gs bs xs in
     let k = past_constants n m.gates l.all.good in
-    let r = halves_are_right n (n + 1) (and n) _ true (and_join n) (length m.ats) m.gates m.ats l.all.good l.all.inside k (λ word v fits. at_one n m.gates l.all.good word v fits) (omega arith) in
+    let r = halves_are_right n (n + 1) (and n) _ true (and_join n)
+    (length m.ats) m.gates m.ats l.all.good l.all.inside k
+    (λ word v fits. at_one n m.gates l.all.good word v fits) (omega arith) in
     record {
       good = r.good;
       inside = r.inside;
       grown = omega (arith, r.grown, l.all.grown);
       few = omega (arith, r.few, l.all.few, l.number);
       earlier = λ word v fits. l.all.earlier word v (r.earlier word v fits);
-      value = λ word v fits. r.value word v fits ∙ ap (joined (λ a b. a && b) true) (l.all.values word v (r.earlier word v fits)) ∙ literals_match bs (map v xs) plane;
+      value = λ word v fits. r.value word v fits
+          ∙ ap (joined (λ a b. a && b) true) (l.all.values word v (r.earlier word v fits))
+          ∙ literals_match bs (map v xs) plane;
     }
 
 abbrev pub cube_values : List Cube → List Bool → List Bool
@@ -177,40 +262,91 @@ values_some : (cs : List Cube) (xs : List Bool) → joined (λ a b. a || b) fals
 values_some [] xs = refl
 values_some (c ∷ cs) xs = ap (λ (t : Bool). takes_all c.plane xs || t) (values_some cs xs)
 
-pub cubes_are_right : (n : ℕ) (gs : List Gate) → AreGates n gs → (xs : List ℕ) (cs : List Cube) → HasPlanes cs → AllBelow (length gs) xs
+pub cubes_are_right : (n : ℕ) (gs : List Gate) → AreGates n gs → (xs : List ℕ) (cs : List Cube) → HasPlanes cs
+    → AllBelow (length gs) xs
     → RightSome n gs (cubes_made n gs xs cs) (length cs) (2 * cube_literals cs) (λ v. cube_values cs (map v xs))
-cubes_are_right n gs ok xs [] planes below = record { all = record { good = ok; inside = tt; grown = omega arith; few = omega arith; earlier = λ word v fits. fits; values = λ word v fits. refl }; number = omega arith }
+cubes_are_right n gs ok xs [] planes below =
+    record {
+      all = record {
+        good = ok;
+        inside = tt;
+        grown = omega arith;
+        few = omega arith;
+        earlier =
+            λ word v fits. fits;
+        values = λ word v fits. refl;
+      };
+      number = omega arith;
+    }
 cubes_are_right n gs ok xs (c ∷ cs) planes below =
     let r = cube_is_right n gs ok xs c.plane planes.0 below in
     let m = cube_made n gs xs c.plane in
     let s = cubes_are_right n m.gates r.good xs cs planes.1 (below_more _ _ xs r.grown below) in
     let t = some_made n gs m _ _ _ _ _ _ r s in
     record {
-      all = record { good = t.all.good; inside = t.all.inside; grown = t.all.grown; few = omega (arith, t.all.few); earlier = t.all.earlier; values = t.all.values };
+      all = record {
+        good = t.all.good;
+        inside = t.all.inside;
+        grown = t.all.grown;
+        few =
+            omega (arith, t.all.few);
+        earlier = t.all.earlier;
+        values = t.all.values;
+      };
       number = omega (arith, t.number);
     }
 
-pub cubes_are_cover : (n : ℕ) (gs : List Gate) → AreGates n gs → (xs : List ℕ) (d : Def) → HasPlanes d.cubes → AllBelow (length gs) xs → Right n gs (by_cubes n gs xs d) (2 * cube_literals d.cubes + length d.cubes + 1) (λ v. cover d (map v xs))
+pub cubes_are_cover : (n : ℕ) (gs : List Gate) → AreGates n gs → (xs : List ℕ) (d : Def) → HasPlanes d.cubes
+    → AllBelow (length gs) xs → Right n gs (by_cubes n gs xs d) (2 * cube_literals d.cubes + length d.cubes + 1)
+    (λ v. cover d (map v xs))
 cubes_are_cover n gs ok xs d planes below =
     let l = cubes_are_right n gs ok xs d.cubes planes below in
     let m = cubes_made n gs xs d.cubes in
     let k = past_constants n m.gates l.all.good in
-    let r = halves_are_right n n (or n) _ false (or_join n) (length m.ats) m.gates m.ats l.all.good l.all.inside (omega arith) (λ word v fits. at_zero n m.gates l.all.good word v fits) (omega arith) in
+    let r = halves_are_right n n (or n) _ false (or_join n) (length m.ats) m.gates m.ats l.all.good l.all.inside
+    (omega arith) (λ word v fits. at_zero n m.gates l.all.good word v fits) (omega arith) in
     let a = or_all n m.gates m.ats in
     let i = inv_is_right n a.gates r.good a.at r.inside in
     let is : (word : List Bool) (v : ℕ → Bool) → Fits word v a.gates → v a.at ≡ some_takes d.cubes (map v xs) =
-    λ word v fits. r.value word v fits ∙ ap (joined (λ a b. a || b) false) (l.all.values word v (r.earlier word v fits)) ∙ values_some d.cubes (map v xs) in
+    λ word v fits. r.value word v fits ∙ ap (joined (λ a b. a || b) false) (l.all.values word v (r.earlier word v fits))
+    ∙ values_some d.cubes (map v xs) in
     go d.on l r i is
   where
     go : (b : Bool)
-        → RightSome n gs (cubes_made n gs xs d.cubes) (length d.cubes) (2 * cube_literals d.cubes) (λ v. cube_values d.cubes (map v xs))
-        → Right n (cubes_made n gs xs d.cubes).gates (or_all n (cubes_made n gs xs d.cubes).gates (cubes_made n gs xs d.cubes).ats) (length (cubes_made n gs xs d.cubes).ats - 1) (λ v. joined (λ a b. a || b) false (map v (cubes_made n gs xs d.cubes).ats))
-        → Right n (or_all n (cubes_made n gs xs d.cubes).gates (cubes_made n gs xs d.cubes).ats).gates (inv n (or_all n (cubes_made n gs xs d.cubes).gates (cubes_made n gs xs d.cubes).ats).gates (or_all n (cubes_made n gs xs d.cubes).gates (cubes_made n gs xs d.cubes).ats).at) 1 (λ v. not (v (or_all n (cubes_made n gs xs d.cubes).gates (cubes_made n gs xs d.cubes).ats).at))
-        → ((word : List Bool) (v : ℕ → Bool) → Fits word v (or_all n (cubes_made n gs xs d.cubes).gates (cubes_made n gs xs d.cubes).ats).gates → v (or_all n (cubes_made n gs xs d.cubes).gates (cubes_made n gs xs d.cubes).ats).at ≡ some_takes d.cubes (map v xs))
+        → RightSome n gs (cubes_made n gs xs d.cubes) (length d.cubes) (2 * cube_literals d.cubes)
+        (λ v. cube_values d.cubes (map v xs))
+        → Right n (cubes_made n gs xs d.cubes).gates
+        (or_all n (cubes_made n gs xs d.cubes).gates (cubes_made n gs xs d.cubes).ats)
+        (length (cubes_made n gs xs d.cubes).ats - 1)
+        (λ v. joined (λ a b. a || b) false (map v (cubes_made n gs xs d.cubes).ats))
+        → Right n (or_all n (cubes_made n gs xs d.cubes).gates (cubes_made n gs xs d.cubes).ats).gates
+        (inv n (or_all n (cubes_made n gs xs d.cubes).gates (cubes_made n gs xs d.cubes).ats).gates
+        (or_all n (cubes_made n gs xs d.cubes).gates (cubes_made n gs xs d.cubes).ats).at) 1
+        (λ v. not (v (or_all n (cubes_made n gs xs d.cubes).gates (cubes_made n gs xs d.cubes).ats).at))
+        → ((word : List Bool) (v : ℕ → Bool)
+        → Fits word v (or_all n (cubes_made n gs xs d.cubes).gates (cubes_made n gs xs d.cubes).ats).gates
+        → v (or_all n (cubes_made n gs xs d.cubes).gates (cubes_made n gs xs d.cubes).ats).at ≡ some_takes d.cubes
+        (map v xs))
         → Right n gs
-        (elim b as (λ (t : Bool). Made) [ true ↦ or_all n (cubes_made n gs xs d.cubes).gates (cubes_made n gs xs d.cubes).ats | false ↦ inv n (or_all n (cubes_made n gs xs d.cubes).gates (cubes_made n gs xs d.cubes).ats).gates (or_all n (cubes_made n gs xs d.cubes).gates (cubes_made n gs xs d.cubes).ats).at ])
-        (2 * cube_literals d.cubes + length d.cubes + 1) (λ v. cond b (some_takes d.cubes (map v xs)) (not (some_takes d.cubes (map v xs))))
-    go true l r i is = record { good = r.good; inside = r.inside; grown = omega (arith, r.grown, l.all.grown); few = omega (arith, r.few, l.all.few, l.number); earlier = λ word v fits. l.all.earlier word v (r.earlier word v fits); value = is }
+        (elim b as (λ (t : Bool). Made) [
+          | true ↦ or_all n (cubes_made n gs xs d.cubes).gates
+              (cubes_made n gs xs d.cubes).ats
+          | false ↦ inv n
+              (or_all n (cubes_made n gs xs d.cubes).gates (cubes_made n gs xs d.cubes).ats).gates
+              (or_all n (cubes_made n gs xs d.cubes).gates (cubes_made n gs xs d.cubes).ats).at
+        ])
+        (2 * cube_literals d.cubes + length d.cubes + 1)
+        (λ v. cond b (some_takes d.cubes (map v xs)) (not (some_takes d.cubes (map v xs))))
+    go true l r i is = record {
+      good = r.good;
+      inside = r.inside;
+      grown = omega (arith, r.grown, l.all.grown);
+      few =
+          omega (arith, r.few, l.all.few, l.number);
+      earlier =
+          λ word v fits. l.all.earlier word v (r.earlier word v fits);
+      value = is;
+    }
     go false l r i is = record {
       good = i.good;
       inside = i.inside;
@@ -221,10 +357,13 @@ cubes_are_cover n gs ok xs d planes below =
     }
 
 -- the `or` of the cubes
-pub any_is_right : (n : ℕ) (gs : List Gate) → AreGates n gs → (xs : List ℕ) (cs : List Cube) → HasPlanes cs → AllBelow (length gs) xs
-    → Right n (cubes_made n gs xs cs).gates (or_all n (cubes_made n gs xs cs).gates (cubes_made n gs xs cs).ats) (length (cubes_made n gs xs cs).ats - 1) (λ v. joined (λ a b. a || b) false (map v (cubes_made n gs xs cs).ats))
+pub any_is_right : (n : ℕ) (gs : List Gate) → AreGates n gs → (xs : List ℕ) (cs : List Cube) → HasPlanes cs
+    → AllBelow (length gs) xs
+    → Right n (cubes_made n gs xs cs).gates (or_all n (cubes_made n gs xs cs).gates (cubes_made n gs xs cs).ats)
+    (length (cubes_made n gs xs cs).ats - 1) (λ v. joined (λ a b. a || b) false (map v (cubes_made n gs xs cs).ats))
 any_is_right n gs ok xs cs planes below =
     let l = cubes_are_right n gs ok xs cs planes below in
     let m = cubes_made n gs xs cs in
     let k = past_constants n m.gates l.all.good in
-    halves_are_right n n (or n) _ false (or_join n) (length m.ats) m.gates m.ats l.all.good l.all.inside (omega arith) (λ word v fits. at_zero n m.gates l.all.good word v fits) (omega arith)
+    halves_are_right n n (or n) _ false (or_join n) (length m.ats) m.gates m.ats l.all.good l.all.inside (omega arith)
+    (λ word v fits. at_zero n m.gates l.all.good word v fits) (omega arith)

@@ -1,5 +1,6 @@
 -- No operation takes a gate away, so a part of a plan has at most as many gates as the whole.
-use Rattle.std.specs.Prelude.{ℕ, zero, suc, ◌+◌, ◌/◌, ◌≤◌, Bool, true, false, eqb, List, [], ◌∷◌, ◌++◌, map, length, take, drop, slice_get, Option, Some, None}
+use Rattle.std.specs.Prelude.{ℕ, zero, suc, ◌+◌, ◌/◌, ◌≤◌, Bool, true, false, eqb, List, [], ◌∷◌, ◌++◌, map, length}
+use Rattle.std.specs.Prelude.{take, drop, slice_get, Option, Some, None}
 use Rattle.std.specs.List.{fold}
 use Rattle.std.proofs.Common.{arith, length-append}
 use Rattle.circuit.specs.declared.gate.Gate.{Gate}
@@ -15,7 +16,9 @@ use Rattle.maj_mapping.specs.declared.maker.Side.{Side}
 use Rattle.maj_mapping.specs.declared.maker.Side.TheVariants.{IsZero, IsOne, Neither}
 use Rattle.maj_mapping.specs.declared.maker.Join.{Join}
 use Rattle.maj_mapping.specs.declared.maker.Join.TheVariants.{And, Or}
-use Rattle.maj_mapping.specs.Operations.{Made, MadeAll, make, side, inverter_from, inverted, inv_made, inv_other, inv_case, inv, unless_same, and_case, or_case, maj_case, maj_same, maj, step_made, steps_made, halves}
+use Rattle.maj_mapping.specs.Operations.{Made, MadeAll, make, side, inverter_from, inverted, inv_made, inv_other}
+use Rattle.maj_mapping.specs.Operations.{inv_case, inv, unless_same, and_case, or_case, maj_case, maj_same, maj}
+use Rattle.maj_mapping.specs.Operations.{step_made, steps_made, halves}
 use Rattle.maj_mapping.specs.Values.{cover}
 use Rattle.maj_mapping.specs.Covers as covers
 use Rattle.maj_mapping.specs.Covers.{first, literals, join, none, names, cube_made, cubes_made, by_cubes, define}
@@ -86,7 +89,8 @@ maj_case_grows gs x y z IsZero IsOne r = omega arith
 maj_case_grows gs x y z IsOne IsZero r = omega arith
 maj_case_grows gs x y z IsOne IsOne r = omega arith
 
-maj_same_grows : (n : ℕ) (gs : List Gate) (x y z : ℕ) (p q r : Bool) → length gs ≤ length (maj_same n gs x y z p q r).gates
+maj_same_grows : (n : ℕ) (gs : List Gate) (x y z : ℕ) (p q r : Bool)
+    → length gs ≤ length (maj_same n gs x y z p q r).gates
 maj_same_grows n gs x y z true q r = omega arith
 maj_same_grows n gs x y z false true r = omega arith
 maj_same_grows n gs x y z false false true = omega arith
@@ -96,13 +100,16 @@ maj_grows : (n : ℕ) (gs : List Gate) (x y z : ℕ) → length gs ≤ length (m
 maj_grows n gs x y z = maj_same_grows n gs x y z (eqb x y) (eqb x z) (eqb y z)
 
 -- recipes
-step_grows : (n : ℕ) (gs : List Gate) (named : Named ℕ) (done : List ℕ) (step : Step) → length gs ≤ length (step_made n gs named done step).gates
+step_grows : (n : ℕ) (gs : List Gate) (named : Named ℕ) (done : List ℕ) (step : Step)
+    → length gs ≤ length (step_made n gs named done step).gates
 step_grows n gs named done (steps.And x y) = join_grows And n gs (operand_is named done x) (operand_is named done y)
 step_grows n gs named done (steps.Or x y) = join_grows Or n gs (operand_is named done x) (operand_is named done y)
 step_grows n gs named done (steps.Inv x) = inv_grows n gs (operand_is named done x)
-step_grows n gs named done (steps.Maj x y z) = maj_grows n gs (operand_is named done x) (operand_is named done y) (operand_is named done z)
+step_grows n gs named done (steps.Maj x y z) = maj_grows n gs (operand_is named done x) (operand_is named done y)
+    (operand_is named done z)
 
-pub steps_grow : (n : ℕ) (gs : List Gate) (named : Named ℕ) (done : List ℕ) (ss : List Step) → length gs ≤ length (steps_made n gs named done ss).gates
+pub steps_grow : (n : ℕ) (gs : List Gate) (named : Named ℕ) (done : List ℕ) (ss : List Step)
+    → length gs ≤ length (steps_made n gs named done ss).gates
 steps_grow n gs named done [] = omega arith
 steps_grow n gs named done (s ∷ ss) =
     let m = step_made n gs named done s in
@@ -118,9 +125,16 @@ halves_grow op grows e (suc k) gs (x ∷ y ∷ xs) =
     let half : ℕ = (length (x ∷ y ∷ xs) + 1) / 2 in
     let l = halves op e k gs (take half (x ∷ y ∷ xs)) in
     let r = halves op e k l.gates (drop half (x ∷ y ∷ xs)) in
-    omega (arith, halves_grow op grows e k gs (take half (x ∷ y ∷ xs)), halves_grow op grows e k l.gates (drop half (x ∷ y ∷ xs)), grows r.gates l.at r.at)
+    omega (
+      arith,
+      halves_grow op grows e k gs (take half (x ∷ y ∷ xs)),
+      halves_grow op grows e k l.gates
+          (drop half (x ∷ y ∷ xs)),
+      grows r.gates l.at r.at,
+    )
 
-pub fold_grows : (which : Join) (n : ℕ) (gs : List Gate) (xs : List ℕ) → length gs ≤ length (covers.fold which n gs xs).gates
+pub fold_grows : (which : Join) (n : ℕ) (gs : List Gate) (xs : List ℕ)
+    → length gs ≤ length (covers.fold which n gs xs).gates
 fold_grows which n gs xs = halves_grow (join which n) (join_grows which n) (none which n) (length xs) gs xs
 
 -- cubes
@@ -128,10 +142,20 @@ pub literals_grow : (n : ℕ) (gs : List Gate) (bs xs : List ℕ) → length gs 
 literals_grow n gs [] xs = omega arith
 literals_grow n gs (b ∷ bs) [] = omega arith
 literals_grow n gs (b ∷ bs) (x ∷ xs) =
-    go (eqb b 49) (eqb b 48) (literals_grow n gs bs xs) (let i = inv_grows n gs x in let r = literals_grow n (inv n gs x).gates bs xs in omega arith)
+    go (eqb b 49) (eqb b 48) (literals_grow n gs bs xs)
+    (let i = inv_grows n gs x in let r = literals_grow n (inv n gs x).gates bs xs in omega arith)
   where
-    go : (p q : Bool) → length gs ≤ length (literals n gs bs xs).gates → length gs ≤ length (literals n (inv n gs x).gates bs xs).gates
-        → length gs ≤ length (elim p as (λ (t : Bool). MadeAll) [ true ↦ first x (literals n gs bs xs) | false ↦ elim q as (λ (t : Bool). MadeAll) [ true ↦ first (inv n gs x).at (literals n (inv n gs x).gates bs xs) | false ↦ literals n gs bs xs ] ]).gates
+    go : (p q : Bool) → length gs ≤ length (literals n gs bs xs).gates
+        → length gs ≤ length (literals n (inv n gs x).gates bs xs).gates
+        → length gs ≤ length (elim p as (λ (t : Bool). MadeAll) [
+          | true ↦ first x
+              (literals n gs bs xs)
+          | false ↦ elim q as (λ (t : Bool). MadeAll) [
+            | true ↦ first (inv n gs x).at
+                (literals n (inv n gs x).gates bs xs)
+            | false ↦ literals n gs bs xs
+          ]
+        ]).gates
     go true q same more = same
     go false true same more = more
     go false false same more = same
@@ -141,7 +165,8 @@ cube_grows n gs xs plane =
     let m = literals n gs plane xs in
     omega (arith, literals_grow n gs plane xs, fold_grows And n m.gates m.ats)
 
-pub cubes_grow : (n : ℕ) (gs : List Gate) (xs : List ℕ) (cs : List Cube) → length gs ≤ length (cubes_made n gs xs cs).gates
+pub cubes_grow : (n : ℕ) (gs : List Gate) (xs : List ℕ) (cs : List Cube)
+    → length gs ≤ length (cubes_made n gs xs cs).gates
 cubes_grow n gs xs [] = omega arith
 cubes_grow n gs xs (c ∷ cs) =
     let m = cube_made n gs xs c.plane in
@@ -149,7 +174,8 @@ cubes_grow n gs xs (c ∷ cs) =
 
 -- the `or` of the cubes has at most the gates of the whole definition
 pub any_within : (n : ℕ) (gs : List Gate) (xs : List ℕ) (d : Def)
-    → length (covers.fold Or n (cubes_made n gs xs d.cubes).gates (cubes_made n gs xs d.cubes).ats).gates ≤ length (by_cubes n gs xs d).gates
+    → length (covers.fold Or n (cubes_made n gs xs d.cubes).gates (cubes_made n gs xs d.cubes).ats).gates ≤ length
+    (by_cubes n gs xs d).gates
 any_within n gs xs d = go d.on
   where
     go : (on : Bool) → (let o = covers.fold Or n (cubes_made n gs xs d.cubes).gates (cubes_made n gs xs d.cubes).ats in
@@ -166,12 +192,16 @@ by_cubes_grow n gs xs d =
 define_grows : (n : ℕ) (gs : List Gate) (xs : List ℕ) (d : Def) → length gs ≤ length (define n gs xs d).gates
 unfolding define
 define_grows n gs [] d = omega arith
-define_grows n gs (x ∷ []) d = steps_grow n gs (names n x n n) [] (two_recipe (number (values2 (λ a b. cover d (a ∷ []))))).steps
-define_grows n gs (x ∷ y ∷ []) d = steps_grow n gs (names n x y n) [] (two_recipe (number (values2 (λ a b. cover d (a ∷ b ∷ []))))).steps
-define_grows n gs (x ∷ y ∷ z ∷ []) d = steps_grow n gs (names n x y z) [] (three_recipe (number (values3 (λ a b c. cover d (a ∷ b ∷ c ∷ []))))).steps
+define_grows n gs (x ∷ []) d = steps_grow n gs (names n x n n) []
+    (two_recipe (number (values2 (λ a b. cover d (a ∷ []))))).steps
+define_grows n gs (x ∷ y ∷ []) d = steps_grow n gs (names n x y n) []
+    (two_recipe (number (values2 (λ a b. cover d (a ∷ b ∷ []))))).steps
+define_grows n gs (x ∷ y ∷ z ∷ []) d = steps_grow n gs (names n x y z) []
+    (three_recipe (number (values3 (λ a b c. cover d (a ∷ b ∷ c ∷ []))))).steps
 define_grows n gs (x ∷ y ∷ z ∷ w ∷ xs) d = by_cubes_grow n gs (x ∷ y ∷ z ∷ w ∷ xs) d
 
-leave_by_grows : (net : NetView) (m : Mapping) (s : ℕ) (o : Option Def) → length m.gates ≤ length (leave_by net m s o).gates
+leave_by_grows : (net : NetView) (m : Mapping) (s : ℕ) (o : Option Def)
+    → length m.gates ≤ length (leave_by net m s o).gates
 unfolding leave_by
 leave_by_grows net m s None = omega arith
 leave_by_grows net m s (Some d) = define_grows net.inputs m.gates (map (gate_or m.gate_of) d.inputs) d
@@ -187,18 +217,26 @@ walks_grow walk grows m (s ∷ ss) = omega (arith, grows m s, walks_grow walk gr
 pub visit_grows : (net : NetView) (k : ℕ) (m : Mapping) (s : ℕ) → length m.gates ≤ length (visit net k m s).gates
 unfolding visit
 visit_grows net zero m s = omega arith
-visit_grows net (suc k) m s = go (gate_at m.gate_of s) (walks_grow (visit net k) (visit_grows net k) m (inputs_by (def_of net s)))
+visit_grows net (suc k) m s = go (gate_at m.gate_of s)
+    (walks_grow (visit net k) (visit_grows net k) m (inputs_by (def_of net s)))
   where
     go : (o : Option ℕ) → length m.gates ≤ length (fold (visit net k) m (inputs_by (def_of net s))).gates
-        → length m.gates ≤ length (elim o as (λ (t : Option ℕ). Mapping) [ Some g ↦ m | None ↦ leave net (fold (visit net k) m (inputs_by (def_of net s))) s ]).gates
+        → length m.gates ≤ length
+        (elim o as (λ (t : Option ℕ). Mapping) [
+          | Some g ↦ m
+          | None ↦ leave net
+              (fold (visit net k) m (inputs_by (def_of net s))) s
+        ]).gates
     go (Some g) all = omega arith
     go None all = omega (arith, leave_grows net (fold (visit net k) m (inputs_by (def_of net s))) s)
 
 -- parts of cubes
-pub literals_within : (n : ℕ) (gs : List Gate) (xs plane : List ℕ) → length (literals n gs plane xs).gates ≤ length (cube_made n gs xs plane).gates
+pub literals_within : (n : ℕ) (gs : List Gate) (xs plane : List ℕ)
+    → length (literals n gs plane xs).gates ≤ length (cube_made n gs xs plane).gates
 literals_within n gs xs plane = fold_grows And n (literals n gs plane xs).gates (literals n gs plane xs).ats
 
-pub cubes_within : (n : ℕ) (gs : List Gate) (xs : List ℕ) (d : Def) → length (cubes_made n gs xs d.cubes).gates ≤ length (by_cubes n gs xs d).gates
+pub cubes_within : (n : ℕ) (gs : List Gate) (xs : List ℕ) (d : Def)
+    → length (cubes_made n gs xs d.cubes).gates ≤ length (by_cubes n gs xs d).gates
 cubes_within n gs xs d =
     let m = cubes_made n gs xs d.cubes in
     omega (arith, fold_grows Or n m.gates m.ats, any_within n gs xs d)

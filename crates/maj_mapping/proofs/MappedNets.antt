@@ -37,7 +37,9 @@ is_plain net ok few =
       few_outputs = omega arith;
     }
 
-pub keeps_map : (net : NetView) → IsNetlist net → SameAnswers net.inputs (map_net net).inputs (length net.outputs) (length (map_net net).outputs) (equations.IsAnswer net) (IsAnswer (map_net net))
+pub keeps_map : (net : NetView) → IsNetlist net
+    → SameAnswers net.inputs (map_net net).inputs (length net.outputs) (length (map_net net).outputs)
+    (equations.IsAnswer net) (IsAnswer (map_net net))
 keeps_map net ok = record {
   same_inputs = same_inputs net;
   same_outputs = same_count net;
@@ -51,11 +53,18 @@ keeps_map net ok = record {
       };
   back = λ x y long answer.
       let some = some_valuation net x ok in
-      record { values = some.0; fit = some.1; shown = answer.shown ∙ same_outputs net (ordered net ok) x some.0 answer.values some.1 answer.fit };
+      record {
+        values = some.0;
+        fit = some.1;
+        shown = answer.shown
+            ∙ same_outputs net (ordered net ok) x some.0 answer.values some.1 answer.fit;
+      };
 }
 
 -- the law of the mapping
 pub keeps : (net : NetView) (out : PlainView) → IsNetlist net → out ≡ map_net net
-    → SameAnswers net.inputs out.inputs (length net.outputs) (length out.outputs) (equations.IsAnswer net) (IsAnswer out)
+    → SameAnswers net.inputs out.inputs (length net.outputs) (length out.outputs)
+    (equations.IsAnswer net) (IsAnswer out)
 keeps net out ok is =
-    subst (λ (o : PlainView). SameAnswers net.inputs o.inputs (length net.outputs) (length o.outputs) (equations.IsAnswer net) (IsAnswer o)) (sym is) (keeps_map net ok)
+    subst (λ (o : PlainView). SameAnswers net.inputs o.inputs (length net.outputs) (length o.outputs)
+    (equations.IsAnswer net) (IsAnswer o)) (sym is) (keeps_map net ok)

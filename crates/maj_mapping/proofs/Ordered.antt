@@ -1,6 +1,7 @@
 -- What the mapping uses of a netlist: definitions name signals, planes are planes, and each signal has a rank, at most
 -- the number of signals, above the ranks of those that it reads.
-use Rattle.std.specs.Prelude.{◌≡◌, ℕ, zero, suc, ◌+◌, ◌-◌, ◌<◌, ◌≤◌, Bool, true, false, cond, nat_lt, List, [], ◌∷◌, length, Some, slice_get}
+use Rattle.std.specs.Prelude.{◌≡◌, ℕ, zero, suc, ◌+◌, ◌-◌, ◌<◌, ◌≤◌, Bool, true, false, cond, nat_lt, List, [], ◌∷◌}
+use Rattle.std.specs.Prelude.{length, Some, slice_get}
 use Rattle.std.specs.List.{AllByRecursion}
 use Rattle.std.proofs.Common.{refl, sym, ap, ◌∙◌, subst, arith, inl, inr}
 use Rattle.std.proofs.lemmas.Bool.{le-ltb, lt-ltb, ltb-true, cases_lt}
@@ -52,7 +53,8 @@ count_le p q zero h = omega arith
 count_le p q (suc n) h = omega (arith, count_le p q n h, bit_le (p n) (q n) (h n))
 
 -- a number that passes the second test alone makes its count greater
-count_lt : (p q : ℕ → Bool) (n d : ℕ) → ((k : ℕ) → p k ≡ true → q k ≡ true) → d < n → p d ≡ false → q d ≡ true → count p n < count q n
+count_lt : (p q : ℕ → Bool) (n d : ℕ) → ((k : ℕ) → p k ≡ true → q k ≡ true) → d < n → p d ≡ false
+    → q d ≡ true → count p n < count q n
 count_lt p q zero d h lt fails holds = absurd (omega arith)
 count_lt p q (suc n) d h lt fails holds = elim (cases_lt d n) [
   | inl small ↦ omega (arith, count_lt p q n d h small fails holds, bit_le (p n) (q n) (h n))
@@ -74,11 +76,14 @@ lower_falls rank total s d within below =
     (λ k h. let le = ltb-true (rank k) (rank d) h in lt-ltb (rank k) (rank s) (omega arith))
     within (le-ltb (rank d) (rank d) (omega arith)) (lt-ltb (rank d) (rank s) below)
 
-all_lower : (rank : ℕ → ℕ) (total s : ℕ) (xs : List ℕ) → AllBelow total xs → RanksBelow rank (rank s) xs → RanksBelow (lower rank total) (lower rank total s) xs
+all_lower : (rank : ℕ → ℕ) (total s : ℕ) (xs : List ℕ) → AllBelow total xs → RanksBelow rank (rank s) xs
+    → RanksBelow (lower rank total) (lower rank total s) xs
 all_lower rank total s [] within below = tt
-all_lower rank total s (x ∷ xs) within below = (lower_falls rank total s x within.0 below.0, all_lower rank total s xs within.1 below.1)
+all_lower rank total s (x ∷ xs) within below =
+    (lower_falls rank total s x within.0 below.0, all_lower rank total s xs within.1 below.1)
 
-def_at : (P : Def → Type 0) (defs : List Def) (k : ℕ) (d : Def) → AllByRecursion P defs → slice_get defs k ≡ Some d → P d
+def_at : (P : Def → Type 0) (defs : List Def) (k : ℕ) (d : Def) → AllByRecursion P defs
+    → slice_get defs k ≡ Some d → P d
 def_at P [] k d all is = absurd (cc)
 def_at P (x ∷ xs) zero d all is = let e : x ≡ d = cc in subst P e all.0
 def_at P (x ∷ xs) (suc k) d all is = def_at P xs k d all.1 is
@@ -88,7 +93,8 @@ has_planes n [] h = tt
 has_planes n (c ∷ cs) h = (h.0.bytes, has_planes n cs h.1)
 
 -- what a definition's signal reads
-reads_is : (net : NetView) (k : ℕ) (d : Def) → slice_get net.defs k ≡ Some d → operands net.inputs net.defs (net.inputs + k) ≡ d.inputs
+reads_is : (net : NetView) (k : ℕ) (d : Def) → slice_get net.defs k ≡ Some d
+    → operands net.inputs net.defs (net.inputs + k) ≡ d.inputs
 reads_is net k d is =
     let past : nat_lt (net.inputs + k) net.inputs ≡ false = le-ltb (net.inputs + k) net.inputs (omega arith) in
     let back : net.inputs + k - net.inputs ≡ k = omega arith in
@@ -100,13 +106,16 @@ ordered net ok =
     let total : length net.names ≡ signals net = ok.count in
     let rank = ok.no_cycle.rank in
     let known : (k : ℕ) (d : Def) → slice_get net.defs k ≡ Some d → AllBelow (signals net) d.inputs =
-    λ k d is. subst (λ t. AllBelow t d.inputs) total (def_at (IsDef (length net.names)) net.defs k d ok.each_def is).names in
+    λ k d is. subst (λ t. AllBelow t d.inputs) total
+    (def_at (IsDef (length net.names)) net.defs k d ok.each_def is).names in
     record {
       known = known;
-      planes = λ k d is. has_planes (length d.inputs) d.cubes (def_at (IsDef (length net.names)) net.defs k d ok.each_def is).planes;
+      planes = λ k d is. has_planes (length d.inputs) d.cubes
+          (def_at (IsDef (length net.names)) net.defs k d ok.each_def is).planes;
       shown = subst (λ t. AllBelow t net.outputs) total ok.each_output;
       rank = lower rank (signals net);
       falls = λ k d is. all_lower rank (signals net) (net.inputs + k) d.inputs (known k d is)
-          (subst (λ xs. RanksBelow rank (rank (net.inputs + k)) xs) (reads_is net k d is) (ok.no_cycle.ranked.lower (net.inputs + k)));
+          (subst (λ xs. RanksBelow rank (rank (net.inputs + k)) xs) (reads_is net k d is)
+          (ok.no_cycle.ranked.lower (net.inputs + k)));
       low = λ s. count_low (λ t. nat_lt (rank t) (rank s)) (signals net);
     }

@@ -1,5 +1,7 @@
--- What each operation on gates keeps and gives: the gates before it keep their values, and the gate that it gives has the value of the operation.
-use Rattle.std.specs.Prelude.{◌≡◌, ℕ, suc, ◌+◌, ◌<◌, ◌≤◌, ◌&&◌, ◌||◌, Bool, true, false, not, eqb, List, [], ◌∷◌, ◌++◌, length, slice_get, Option, Some, None}
+-- What each operation on gates keeps and gives: the gates before it keep their values, and the gate that it gives has
+-- the value of the operation.
+use Rattle.std.specs.Prelude.{◌≡◌, ℕ, suc, ◌+◌, ◌<◌, ◌≤◌, ◌&&◌, ◌||◌, Bool, true, false, not, eqb, List, [], ◌∷◌, ◌++◌}
+use Rattle.std.specs.Prelude.{length, slice_get, Option, Some, None}
 use Rattle.std.proofs.Common.{refl, sym, ap, ◌∙◌, inl, inr, arith, length-append, zero-add}
 use Rattle.std.proofs.lemmas.Bool.{eqb-true, eqb-false}
 use Rattle.std.proofs.lemmas.Option.{slice_get_within, same_Some}
@@ -11,7 +13,9 @@ use Rattle.circuit.specs.PlainNets.{is_constant, MayStand, AreGates}
 use Rattle.maj_mapping.proofs.Grown.{get_front, get_last, get_cases}
 use Rattle.maj_mapping.specs.declared.maker.Side.{Side}
 use Rattle.maj_mapping.specs.declared.maker.Side.TheVariants.{IsZero, IsOne, Neither}
-use Rattle.maj_mapping.specs.Operations.{Made, keep, make, side, inverts, inverter_from, inverted, inv_made, inv_other, inv_case, inv, unless_same, and_case, and, or_case, or, maj_case, maj_same, maj}
+use Rattle.maj_mapping.specs.Operations.{Made, keep, make, side, inverts, inverter_from, inverted, inv_made, inv_other}
+use Rattle.maj_mapping.specs.Operations.{inv_case, inv, unless_same, and_case, and, or_case, or, maj_case, maj_same}
+use Rattle.maj_mapping.specs.Operations.{maj}
 
 -- what a majority with at most one constant needs
 few_xy : (a b c : Bool) → a ≡ false → b ≡ false → majority a b c ≡ false
@@ -54,22 +58,34 @@ pub past_constants : (n : ℕ) (gs : List Gate) → AreGates n gs → n + 1 < le
 past_constants n gs ok = slice_get_within gs (n + 1) One ok.one_at
 
 -- one more gate
-pub good_make : (n : ℕ) (gs : List Gate) (g : Gate) → AreGates n gs → MayStand n (length gs) g → AreGates n (gs ++ g ∷ [])
+pub good_make : (n : ℕ) (gs : List Gate) (g : Gate) → AreGates n gs → MayStand n (length gs) g
+    → AreGates n (gs ++ g ∷ [])
 good_make n gs g ok may = record {
   zero_at = get_front gs _ n Zero ok.zero_at;
   one_at = get_front gs _ (n + 1) One ok.one_at;
   stands = λ i h e. elim (get_cases gs g i h e) [ inl old ↦ ok.stands i h old | inr new ↦ rw (new.0, ← new.1) may ];
 }
 
-pub earlier_make : (gs : List Gate) (g : Gate) (word : List Bool) (v : ℕ → Bool) → Fits word v (gs ++ g ∷ []) → Fits word v gs
+pub earlier_make : (gs : List Gate) (g : Gate) (word : List Bool) (v : ℕ → Bool)
+    → Fits word v (gs ++ g ∷ []) → Fits word v gs
 earlier_make gs g word v fits i h e = fits i h (get_front gs _ i h e)
 
 -- an operation that makes no gate
-pub right_keep : (n : ℕ) (gs : List Gate) (x c : ℕ) (f : (ℕ → Bool) → Bool) → AreGates n gs → x < length gs → ((word : List Bool) (v : ℕ → Bool) → Fits word v gs → v x ≡ f v) → Right n gs (keep gs x) c f
-right_keep n gs x c f ok lt value = record { good = ok; inside = lt; grown = omega arith; few = omega arith; earlier = λ word v fits. fits; value = value }
+pub right_keep : (n : ℕ) (gs : List Gate) (x c : ℕ) (f : (ℕ → Bool) → Bool) → AreGates n gs → x < length gs
+    → ((word : List Bool) (v : ℕ → Bool) → Fits word v gs → v x ≡ f v) → Right n gs (keep gs x) c f
+right_keep n gs x c f ok lt value = record {
+  good = ok;
+  inside = lt;
+  grown = omega arith;
+  few = omega arith;
+  earlier =
+      λ word v fits. fits;
+  value = value;
+}
 
 -- an operation that makes one
-pub right_make : (n : ℕ) (gs : List Gate) (g : Gate) (f : (ℕ → Bool) → Bool) → AreGates n gs → MayStand n (length gs) g → ((word : List Bool) (v : ℕ → Bool) → Fits word v gs → gate_value word v g ≡ f v) → Right n gs (make gs g) 1 f
+pub right_make : (n : ℕ) (gs : List Gate) (g : Gate) (f : (ℕ → Bool) → Bool) → AreGates n gs → MayStand n (length gs) g
+    → ((word : List Bool) (v : ℕ → Bool) → Fits word v gs → gate_value word v g ≡ f v) → Right n gs (make gs g) 1 f
 right_make n gs g f ok may value = record {
   good = good_make n gs g ok may;
   inside = simp length-append (omega arith);
@@ -238,65 +254,117 @@ majority_third_b : (x y z : Bool) → x ≡ true → y ≡ false → z ≡ major
 majority_third_b x y z e f = rw (e, f) (third_other_b z)
 
 module _ (n : ℕ) (gs : List Gate) (ok : AreGates n gs) where
-  and_unless : (x y : ℕ) → x < length gs → y < length gs → side n x ≡ Neither → side n y ≡ Neither → (b : Bool) → eqb x y ≡ b → Right n gs (unless_same gs x (Maj x n y) b) 1 (λ v. v x && v y)
-  and_unless x y lx ly p q true e = right_keep n gs x 1 _ ok lx (λ word v fits. and_same (v x) (v y) (ap v (eqb-true x y e)))
-  and_unless x y lx ly p q false e = let k = past_constants n gs ok in right_make n gs _ _ ok (omega arith, lx, omega arith, ly, few_xz _ _ _ (other_is n x p) (other_is n y q)) (λ word v fits. and_majority (v x) (v n) (v y) (at_zero n gs ok word v fits))
+  and_unless : (x y : ℕ) → x < length gs → y < length gs → side n x ≡ Neither → side n y ≡ Neither → (b : Bool)
+      → eqb x y ≡ b → Right n gs (unless_same gs x (Maj x n y) b) 1 (λ v. v x && v y)
+  and_unless x y lx ly p q true e = right_keep n gs x 1 _ ok lx
+      (λ word v fits. and_same (v x) (v y) (ap v (eqb-true x y e)))
+  and_unless x y lx ly p q false e = let k = past_constants n gs ok in right_make n gs _ _ ok
+      (omega arith, lx, omega arith, ly, few_xz _ _ _ (other_is n x p) (other_is n y q))
+      (λ word v fits. and_majority (v x) (v n) (v y) (at_zero n gs ok word v fits))
 
-  and_sides : (x y : ℕ) → x < length gs → y < length gs → (s t : Side) → side n x ≡ s → side n y ≡ t → Right n gs (and_case n gs x y s t) 1 (λ v. v x && v y)
-  and_sides x y lx ly IsZero t p q = right_keep n gs n 1 _ ok (slice_get_within gs n Zero ok.zero_at) (λ word v fits. at_zero n gs ok word v fits ∙ and_left (v x) (v y) (is_false n gs ok x p word v fits))
-  and_sides x y lx ly IsOne IsZero p q = right_keep n gs n 1 _ ok (slice_get_within gs n Zero ok.zero_at) (λ word v fits. at_zero n gs ok word v fits ∙ and_right (v x) (v y) (is_false n gs ok y q word v fits))
-  and_sides x y lx ly Neither IsZero p q = right_keep n gs n 1 _ ok (slice_get_within gs n Zero ok.zero_at) (λ word v fits. at_zero n gs ok word v fits ∙ and_right (v x) (v y) (is_false n gs ok y q word v fits))
-  and_sides x y lx ly IsOne IsOne p q = right_keep n gs y 1 _ ok ly (λ word v fits. and_one (v x) (v y) (is_true n gs ok x p word v fits))
-  and_sides x y lx ly IsOne Neither p q = right_keep n gs y 1 _ ok ly (λ word v fits. and_one (v x) (v y) (is_true n gs ok x p word v fits))
-  and_sides x y lx ly Neither IsOne p q = right_keep n gs x 1 _ ok lx (λ word v fits. and_one_right (v x) (v y) (is_true n gs ok y q word v fits))
+  and_sides : (x y : ℕ) → x < length gs → y < length gs → (s t : Side) → side n x ≡ s → side n y ≡ t
+      → Right n gs (and_case n gs x y s t) 1 (λ v. v x && v y)
+  and_sides x y lx ly IsZero t p q = right_keep n gs n 1 _ ok (slice_get_within gs n Zero ok.zero_at)
+      (λ word v fits. at_zero n gs ok word v fits ∙ and_left (v x) (v y) (is_false n gs ok x p word v fits))
+  and_sides x y lx ly IsOne IsZero p q = right_keep n gs n 1 _ ok (slice_get_within gs n Zero ok.zero_at)
+      (λ word v fits. at_zero n gs ok word v fits ∙ and_right (v x) (v y) (is_false n gs ok y q word v fits))
+  and_sides x y lx ly Neither IsZero p q = right_keep n gs n 1 _ ok (slice_get_within gs n Zero ok.zero_at)
+      (λ word v fits. at_zero n gs ok word v fits ∙ and_right (v x) (v y) (is_false n gs ok y q word v fits))
+  and_sides x y lx ly IsOne IsOne p q = right_keep n gs y 1 _ ok ly
+      (λ word v fits. and_one (v x) (v y) (is_true n gs ok x p word v fits))
+  and_sides x y lx ly IsOne Neither p q = right_keep n gs y 1 _ ok ly
+      (λ word v fits. and_one (v x) (v y) (is_true n gs ok x p word v fits))
+  and_sides x y lx ly Neither IsOne p q = right_keep n gs x 1 _ ok lx
+      (λ word v fits. and_one_right (v x) (v y) (is_true n gs ok y q word v fits))
   and_sides x y lx ly Neither Neither p q = and_unless x y lx ly p q _ refl
 
   pub and_is_right : (x y : ℕ) → x < length gs → y < length gs → Right n gs (and n gs x y) 1 (λ v. v x && v y)
   and_is_right x y lx ly = and_sides x y lx ly _ _ refl refl
 
-  or_unless : (x y : ℕ) → x < length gs → y < length gs → side n x ≡ Neither → side n y ≡ Neither → (b : Bool) → eqb x y ≡ b → Right n gs (unless_same gs x (Maj x (n + 1) y) b) 1 (λ v. v x || v y)
-  or_unless x y lx ly p q true e = right_keep n gs x 1 _ ok lx (λ word v fits. or_same (v x) (v y) (ap v (eqb-true x y e)))
-  or_unless x y lx ly p q false e = let k = past_constants n gs ok in right_make n gs _ _ ok (omega arith, lx, omega arith, ly, few_xz _ _ _ (other_is n x p) (other_is n y q)) (λ word v fits. or_majority (v x) (v (n + 1)) (v y) (at_one n gs ok word v fits))
+  or_unless : (x y : ℕ) → x < length gs → y < length gs → side n x ≡ Neither → side n y ≡ Neither → (b : Bool)
+      → eqb x y ≡ b → Right n gs (unless_same gs x (Maj x (n + 1) y) b) 1 (λ v. v x || v y)
+  or_unless x y lx ly p q true e = right_keep n gs x 1 _ ok lx
+      (λ word v fits. or_same (v x) (v y) (ap v (eqb-true x y e)))
+  or_unless x y lx ly p q false e = let k = past_constants n gs ok in right_make n gs _ _ ok
+      (omega arith, lx, omega arith, ly, few_xz _ _ _ (other_is n x p) (other_is n y q))
+      (λ word v fits. or_majority (v x) (v (n + 1)) (v y) (at_one n gs ok word v fits))
 
-  or_sides : (x y : ℕ) → x < length gs → y < length gs → (s t : Side) → side n x ≡ s → side n y ≡ t → Right n gs (or_case n gs x y s t) 1 (λ v. v x || v y)
-  or_sides x y lx ly IsOne t p q = right_keep n gs (n + 1) 1 _ ok (past_constants n gs ok) (λ word v fits. at_one n gs ok word v fits ∙ or_left (v x) (v y) (is_true n gs ok x p word v fits))
-  or_sides x y lx ly IsZero IsOne p q = right_keep n gs (n + 1) 1 _ ok (past_constants n gs ok) (λ word v fits. at_one n gs ok word v fits ∙ or_right (v x) (v y) (is_true n gs ok y q word v fits))
-  or_sides x y lx ly Neither IsOne p q = right_keep n gs (n + 1) 1 _ ok (past_constants n gs ok) (λ word v fits. at_one n gs ok word v fits ∙ or_right (v x) (v y) (is_true n gs ok y q word v fits))
-  or_sides x y lx ly IsZero IsZero p q = right_keep n gs y 1 _ ok ly (λ word v fits. or_zero (v x) (v y) (is_false n gs ok x p word v fits))
-  or_sides x y lx ly IsZero Neither p q = right_keep n gs y 1 _ ok ly (λ word v fits. or_zero (v x) (v y) (is_false n gs ok x p word v fits))
-  or_sides x y lx ly Neither IsZero p q = right_keep n gs x 1 _ ok lx (λ word v fits. or_zero_right (v x) (v y) (is_false n gs ok y q word v fits))
+  or_sides : (x y : ℕ) → x < length gs → y < length gs → (s t : Side) → side n x ≡ s → side n y ≡ t
+      → Right n gs (or_case n gs x y s t) 1 (λ v. v x || v y)
+  or_sides x y lx ly IsOne t p q = right_keep n gs (n + 1) 1 _ ok (past_constants n gs ok)
+      (λ word v fits. at_one n gs ok word v fits ∙ or_left (v x) (v y) (is_true n gs ok x p word v fits))
+  or_sides x y lx ly IsZero IsOne p q = right_keep n gs (n + 1) 1 _ ok (past_constants n gs ok)
+      (λ word v fits. at_one n gs ok word v fits ∙ or_right (v x) (v y) (is_true n gs ok y q word v fits))
+  or_sides x y lx ly Neither IsOne p q = right_keep n gs (n + 1) 1 _ ok (past_constants n gs ok)
+      (λ word v fits. at_one n gs ok word v fits ∙ or_right (v x) (v y) (is_true n gs ok y q word v fits))
+  or_sides x y lx ly IsZero IsZero p q = right_keep n gs y 1 _ ok ly
+      (λ word v fits. or_zero (v x) (v y) (is_false n gs ok x p word v fits))
+  or_sides x y lx ly IsZero Neither p q = right_keep n gs y 1 _ ok ly
+      (λ word v fits. or_zero (v x) (v y) (is_false n gs ok x p word v fits))
+  or_sides x y lx ly Neither IsZero p q = right_keep n gs x 1 _ ok lx
+      (λ word v fits. or_zero_right (v x) (v y) (is_false n gs ok y q word v fits))
   or_sides x y lx ly Neither Neither p q = or_unless x y lx ly p q _ refl
 
   pub or_is_right : (x y : ℕ) → x < length gs → y < length gs → Right n gs (or n gs x y) 1 (λ v. v x || v y)
   or_is_right x y lx ly = or_sides x y lx ly _ _ refl refl
 
-  maj_sides : (x y z : ℕ) → x < length gs → y < length gs → z < length gs → (s t r : Side) → side n x ≡ s → side n y ≡ t → side n z ≡ r
-      → (eqb x y ≡ false) → (eqb x z ≡ false) → (eqb y z ≡ false) → Right n gs (maj_case gs x y z s t r) 1 (λ v. majority (v x) (v y) (v z))
-  maj_sides x y z lx ly lz Neither Neither s p q o a b c = let k = past_constants n gs ok in right_make n gs _ _ ok (omega arith, lx, ly, lz, few_xy _ _ _ (other_is n x p) (other_is n y q)) (λ word v fits. refl)
-  maj_sides x y z lx ly lz Neither IsZero Neither p q o a b c = let k = past_constants n gs ok in right_make n gs _ _ ok (omega arith, lx, ly, lz, few_xz _ _ _ (other_is n x p) (other_is n z o)) (λ word v fits. refl)
-  maj_sides x y z lx ly lz Neither IsOne Neither p q o a b c = let k = past_constants n gs ok in right_make n gs _ _ ok (omega arith, lx, ly, lz, few_xz _ _ _ (other_is n x p) (other_is n z o)) (λ word v fits. refl)
-  maj_sides x y z lx ly lz IsZero Neither Neither p q o a b c = let k = past_constants n gs ok in right_make n gs _ _ ok (omega arith, lx, ly, lz, few_yz _ _ _ (other_is n y q) (other_is n z o)) (λ word v fits. refl)
-  maj_sides x y z lx ly lz IsOne Neither Neither p q o a b c = let k = past_constants n gs ok in right_make n gs _ _ ok (omega arith, lx, ly, lz, few_yz _ _ _ (other_is n y q) (other_is n z o)) (λ word v fits. refl)
-  maj_sides x y z lx ly lz Neither IsZero IsZero p q o a b c = absurd (eqb-false y z c (side_zero n y _ _ refl refl q ∙ sym (side_zero n z _ _ refl refl o)))
-  maj_sides x y z lx ly lz Neither IsZero IsOne p q o a b c = right_keep n gs x 1 _ ok lx (λ word v fits. majority_first (v x) (v y) (v z) (is_false n gs ok y q word v fits) (is_true n gs ok z o word v fits))
-  maj_sides x y z lx ly lz Neither IsOne IsZero p q o a b c = right_keep n gs x 1 _ ok lx (λ word v fits. majority_first_b (v x) (v y) (v z) (is_true n gs ok y q word v fits) (is_false n gs ok z o word v fits))
-  maj_sides x y z lx ly lz Neither IsOne IsOne p q o a b c = absurd (eqb-false y z c (side_one n y _ _ refl refl q ∙ sym (side_one n z _ _ refl refl o)))
-  maj_sides x y z lx ly lz IsZero Neither IsZero p q o a b c = absurd (eqb-false x z b (side_zero n x _ _ refl refl p ∙ sym (side_zero n z _ _ refl refl o)))
-  maj_sides x y z lx ly lz IsZero Neither IsOne p q o a b c = right_keep n gs y 1 _ ok ly (λ word v fits. majority_second (v x) (v y) (v z) (is_false n gs ok x p word v fits) (is_true n gs ok z o word v fits))
-  maj_sides x y z lx ly lz IsOne Neither IsZero p q o a b c = right_keep n gs y 1 _ ok ly (λ word v fits. majority_second_b (v x) (v y) (v z) (is_true n gs ok x p word v fits) (is_false n gs ok z o word v fits))
-  maj_sides x y z lx ly lz IsOne Neither IsOne p q o a b c = absurd (eqb-false x z b (side_one n x _ _ refl refl p ∙ sym (side_one n z _ _ refl refl o)))
-  maj_sides x y z lx ly lz IsZero IsZero s p q o a b c = absurd (eqb-false x y a (side_zero n x _ _ refl refl p ∙ sym (side_zero n y _ _ refl refl q)))
-  maj_sides x y z lx ly lz IsZero IsOne s p q o a b c = right_keep n gs z 1 _ ok lz (λ word v fits. majority_third (v x) (v y) (v z) (is_false n gs ok x p word v fits) (is_true n gs ok y q word v fits))
-  maj_sides x y z lx ly lz IsOne IsZero s p q o a b c = right_keep n gs z 1 _ ok lz (λ word v fits. majority_third_b (v x) (v y) (v z) (is_true n gs ok x p word v fits) (is_false n gs ok y q word v fits))
-  maj_sides x y z lx ly lz IsOne IsOne s p q o a b c = absurd (eqb-false x y a (side_one n x _ _ refl refl p ∙ sym (side_one n y _ _ refl refl q)))
+  maj_sides : (x y z : ℕ) → x < length gs → y < length gs → z < length gs → (s t r : Side) → side n x ≡ s
+      → side n y ≡ t → side n z ≡ r
+      → (eqb x y ≡ false) → (eqb x z ≡ false) → (eqb y z ≡ false)
+      → Right n gs (maj_case gs x y z s t r) 1 (λ v. majority (v x) (v y) (v z))
+  maj_sides x y z lx ly lz Neither Neither s p q o a b c = let k = past_constants n gs ok in right_make n gs _ _ ok
+      (omega arith, lx, ly, lz, few_xy _ _ _ (other_is n x p) (other_is n y q)) (λ word v fits. refl)
+  maj_sides x y z lx ly lz Neither IsZero Neither p q o a b c = let k = past_constants n gs ok in right_make n gs _ _ ok
+      (omega arith, lx, ly, lz, few_xz _ _ _ (other_is n x p) (other_is n z o)) (λ word v fits. refl)
+  maj_sides x y z lx ly lz Neither IsOne Neither p q o a b c = let k = past_constants n gs ok in right_make n gs _ _ ok
+      (omega arith, lx, ly, lz, few_xz _ _ _ (other_is n x p) (other_is n z o)) (λ word v fits. refl)
+  maj_sides x y z lx ly lz IsZero Neither Neither p q o a b c = let k = past_constants n gs ok in right_make n gs _ _ ok
+      (omega arith, lx, ly, lz, few_yz _ _ _ (other_is n y q) (other_is n z o)) (λ word v fits. refl)
+  maj_sides x y z lx ly lz IsOne Neither Neither p q o a b c = let k = past_constants n gs ok in right_make n gs _ _ ok
+      (omega arith, lx, ly, lz, few_yz _ _ _ (other_is n y q) (other_is n z o)) (λ word v fits. refl)
+  maj_sides x y z lx ly lz Neither IsZero IsZero p q o a b c =
+      absurd (eqb-false y z c (side_zero n y _ _ refl refl q ∙ sym (side_zero n z _ _ refl refl o)))
+  maj_sides x y z lx ly lz Neither IsZero IsOne p q o a b c = right_keep n gs x 1 _ ok lx
+      (λ word v fits. majority_first (v x) (v y) (v z) (is_false n gs ok y q word v fits)
+      (is_true n gs ok z o word v fits))
+  maj_sides x y z lx ly lz Neither IsOne IsZero p q o a b c = right_keep n gs x 1 _ ok lx
+      (λ word v fits. majority_first_b (v x) (v y) (v z) (is_true n gs ok y q word v fits)
+      (is_false n gs ok z o word v fits))
+  maj_sides x y z lx ly lz Neither IsOne IsOne p q o a b c =
+      absurd (eqb-false y z c (side_one n y _ _ refl refl q ∙ sym (side_one n z _ _ refl refl o)))
+  maj_sides x y z lx ly lz IsZero Neither IsZero p q o a b c =
+      absurd (eqb-false x z b (side_zero n x _ _ refl refl p ∙ sym (side_zero n z _ _ refl refl o)))
+  maj_sides x y z lx ly lz IsZero Neither IsOne p q o a b c = right_keep n gs y 1 _ ok ly
+      (λ word v fits. majority_second (v x) (v y) (v z) (is_false n gs ok x p word v fits)
+      (is_true n gs ok z o word v fits))
+  maj_sides x y z lx ly lz IsOne Neither IsZero p q o a b c = right_keep n gs y 1 _ ok ly
+      (λ word v fits. majority_second_b (v x) (v y) (v z) (is_true n gs ok x p word v fits)
+      (is_false n gs ok z o word v fits))
+  maj_sides x y z lx ly lz IsOne Neither IsOne p q o a b c =
+      absurd (eqb-false x z b (side_one n x _ _ refl refl p ∙ sym (side_one n z _ _ refl refl o)))
+  maj_sides x y z lx ly lz IsZero IsZero s p q o a b c =
+      absurd (eqb-false x y a (side_zero n x _ _ refl refl p ∙ sym (side_zero n y _ _ refl refl q)))
+  maj_sides x y z lx ly lz IsZero IsOne s p q o a b c = right_keep n gs z 1 _ ok lz
+      (λ word v fits. majority_third (v x) (v y) (v z) (is_false n gs ok x p word v fits)
+      (is_true n gs ok y q word v fits))
+  maj_sides x y z lx ly lz IsOne IsZero s p q o a b c = right_keep n gs z 1 _ ok lz
+      (λ word v fits. majority_third_b (v x) (v y) (v z) (is_true n gs ok x p word v fits)
+      (is_false n gs ok y q word v fits))
+  maj_sides x y z lx ly lz IsOne IsOne s p q o a b c =
+      absurd (eqb-false x y a (side_one n x _ _ refl refl p ∙ sym (side_one n y _ _ refl refl q)))
 
-  maj_tests : (x y z : ℕ) → x < length gs → y < length gs → z < length gs → (a b c : Bool) → eqb x y ≡ a → eqb x z ≡ b → eqb y z ≡ c → Right n gs (maj_same n gs x y z a b c) 1 (λ v. majority (v x) (v y) (v z))
-  maj_tests x y z lx ly lz true b c p q o = right_keep n gs x 1 _ ok lx (λ word v fits. majority_xy (v x) (v y) (v z) (ap v (eqb-true x y p)))
-  maj_tests x y z lx ly lz false true c p q o = right_keep n gs x 1 _ ok lx (λ word v fits. majority_xz (v x) (v y) (v z) (ap v (eqb-true x z q)))
-  maj_tests x y z lx ly lz false false true p q o = right_keep n gs y 1 _ ok ly (λ word v fits. majority_yz (v x) (v y) (v z) (ap v (eqb-true y z o)))
+  maj_tests : (x y z : ℕ) → x < length gs → y < length gs → z < length gs → (a b c : Bool) → eqb x y ≡ a → eqb x z ≡ b
+      → eqb y z ≡ c → Right n gs (maj_same n gs x y z a b c) 1 (λ v. majority (v x) (v y) (v z))
+  maj_tests x y z lx ly lz true b c p q o = right_keep n gs x 1 _ ok lx
+      (λ word v fits. majority_xy (v x) (v y) (v z) (ap v (eqb-true x y p)))
+  maj_tests x y z lx ly lz false true c p q o = right_keep n gs x 1 _ ok lx
+      (λ word v fits. majority_xz (v x) (v y) (v z) (ap v (eqb-true x z q)))
+  maj_tests x y z lx ly lz false false true p q o = right_keep n gs y 1 _ ok ly
+      (λ word v fits. majority_yz (v x) (v y) (v z) (ap v (eqb-true y z o)))
   maj_tests x y z lx ly lz false false false p q o = maj_sides x y z lx ly lz _ _ _ refl refl refl p q o
 
-  pub maj_is_right : (x y z : ℕ) → x < length gs → y < length gs → z < length gs → Right n gs (maj n gs x y z) 1 (λ v. majority (v x) (v y) (v z))
+  pub maj_is_right : (x y z : ℕ) → x < length gs → y < length gs → z < length gs
+      → Right n gs (maj n gs x y z) 1 (λ v. majority (v x) (v y) (v z))
   maj_is_right x y z lx ly lz = maj_tests x y z lx ly lz _ _ _ refl refl refl
 
 -- the inverter that is found stands there
@@ -308,12 +376,15 @@ inverts_is x One e = cc
 inverts_is x (Buf y) e = cc
 inverts_is x (Maj y z w) e = cc
 
-inverter_found : (x i : ℕ) (hs : List Gate) (k : ℕ) → inverter_from x i hs ≡ Some k → (j : ℕ) × (k ≡ i + j) × (slice_get hs j ≡ Some (Inv x))
+inverter_found : (x i : ℕ) (hs : List Gate) (k : ℕ) → inverter_from x i hs ≡ Some k → (j : ℕ) × (k ≡ i + j)
+    × (slice_get hs j ≡ Some (Inv x))
 inverter_found x i [] k e = cc
 inverter_found x i (h ∷ hs) k e = go (inverts x h) refl e (inverter_found x (suc i) hs k)
   where
-    go : (b : Bool) → inverts x h ≡ b → (elim b as (λ (t : Bool). Option ℕ) [ true ↦ Some i | false ↦ inverter_from x (suc i) hs ]) ≡ Some k
-        → (inverter_from x (suc i) hs ≡ Some k → (j : ℕ) × (k ≡ suc i + j) × (slice_get hs j ≡ Some (Inv x))) → (j : ℕ) × (k ≡ i + j) × (slice_get (h ∷ hs) j ≡ Some (Inv x))
+    go : (b : Bool) → inverts x h ≡ b
+        → (elim b as (λ (t : Bool). Option ℕ) [ true ↦ Some i | false ↦ inverter_from x (suc i) hs ]) ≡ Some k
+        → (inverter_from x (suc i) hs ≡ Some k → (j : ℕ) × (k ≡ suc i + j) × (slice_get hs j ≡ Some (Inv x))) → (j : ℕ)
+        × (k ≡ i + j) × (slice_get (h ∷ hs) j ≡ Some (Inv x))
     go true p q later = (0, sym (same_Some i k q) ∙ omega arith, ap (λ (g : Gate). Some g) (inverts_is x h p))
     go false p q later = let r = later q in (suc r.0, omega arith, r.2)
 
@@ -341,14 +412,17 @@ not_swap false true e = refl
 not_swap false false e = e
 
 module _ (n : ℕ) (gs : List Gate) (ok : AreGates n gs) where
-  inv_made_right : (x : ℕ) → x < length gs → side n x ≡ Neither → (o : Option ℕ) → inverter_from x 0 gs ≡ o → Right n gs (inv_made gs x o) 1 (λ v. not (v x))
+  inv_made_right : (x : ℕ) → x < length gs → side n x ≡ Neither → (o : Option ℕ) → inverter_from x 0 gs ≡ o
+      → Right n gs (inv_made gs x o) 1 (λ v. not (v x))
   inv_made_right x lx p (Some g) e =
       let f = inverter_found x 0 gs g e in
       let here : slice_get gs g ≡ Some (Inv x) = rw (f.1, zero-add) f.2 in
       right_keep n gs g 1 _ ok (slice_get_within gs g (Inv x) here) (λ word v fits. fits g (Inv x) here)
-  inv_made_right x lx p None e = let k = past_constants n gs ok in right_make n gs (Inv x) _ ok (omega arith, lx, other_is n x p) (λ word v fits. refl)
+  inv_made_right x lx p None e = let k = past_constants n gs ok in right_make n gs (Inv x) _ ok
+      (omega arith, lx, other_is n x p) (λ word v fits. refl)
 
-  inv_other_right : (x : ℕ) → x < length gs → side n x ≡ Neither → (o : Option ℕ) → inverted (slice_get gs x) ≡ o → Right n gs (inv_other gs x o) 1 (λ v. not (v x))
+  inv_other_right : (x : ℕ) → x < length gs → side n x ≡ Neither → (o : Option ℕ) → inverted (slice_get gs x) ≡ o
+      → Right n gs (inv_other gs x o) 1 (λ v. not (v x))
   inv_other_right x lx p (Some y) e =
       let here = inverted_is (slice_get gs x) y e in
       let may = ok.stands x (Inv y) here in
@@ -356,8 +430,10 @@ module _ (n : ℕ) (gs : List Gate) (ok : AreGates n gs) where
   inv_other_right x lx p None e = inv_made_right x lx p _ refl
 
   inv_sides : (x : ℕ) → x < length gs → (s : Side) → side n x ≡ s → Right n gs (inv_case n gs x s) 1 (λ v. not (v x))
-  inv_sides x lx IsZero p = right_keep n gs (n + 1) 1 _ ok (past_constants n gs ok) (λ word v fits. not_false_is _ (v x) (at_one n gs ok word v fits) (is_false n gs ok x p word v fits))
-  inv_sides x lx IsOne p = right_keep n gs n 1 _ ok (slice_get_within gs n Zero ok.zero_at) (λ word v fits. not_true_is _ (v x) (at_zero n gs ok word v fits) (is_true n gs ok x p word v fits))
+  inv_sides x lx IsZero p = right_keep n gs (n + 1) 1 _ ok (past_constants n gs ok)
+      (λ word v fits. not_false_is _ (v x) (at_one n gs ok word v fits) (is_false n gs ok x p word v fits))
+  inv_sides x lx IsOne p = right_keep n gs n 1 _ ok (slice_get_within gs n Zero ok.zero_at)
+      (λ word v fits. not_true_is _ (v x) (at_zero n gs ok word v fits) (is_true n gs ok x p word v fits))
   inv_sides x lx Neither p = inv_other_right x lx p _ refl
 
   pub inv_is_right : (x : ℕ) → x < length gs → Right n gs (inv n gs x) 1 (λ v. not (v x))

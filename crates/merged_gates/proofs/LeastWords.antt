@@ -78,7 +78,8 @@ true_reads : (v : ℕ → Bool) (i l : ℕ) → l ≡ 2 * (1 + i) → v (1 + i) 
 true_reads v i l is on = ap (literal_value v) is ∙ even_value v (1 + i) ∙ on
 
 -- one more place
-pub least_more : (b : BuilderView) (word : List Bool) (first more : List ℕ) (literal one other count l : ℕ) (here : Bool)
+pub least_more : (b : BuilderView) (word : List Bool) (first more : List ℕ)
+    (literal one other count l : ℕ) (here : Bool)
     → IsLeastSoFar b word first one other count → literal ≡ 2 * (1 + count) → here ≡ slice_index_or word count false
     → IsNextLiteral b first literal here one other l → more ≡ first ++ l ∷ []
     → IsLeastSoFar b word more one other (count + 1)

@@ -31,7 +31,8 @@ pub one_arranged : (rows : List (List RowCell)) (slots : List (List ℕ)) (r : �
     (b slot places read : List ℕ) (made_cells : List RowCell) (made_slots made_places : List ℕ)
     (cells cells' : List (List RowCell)) (lists lists' : List (List ℕ)) → r < length rows → r < length slots
     → row ≡ get_or rows r d → slot ≡ get_or slots r b → length (get_or rows r d) < 2 ^ 32 → read ≡ places
-    → made_cells ≡ map (moved_cell read) (picked row (slot_order slot)) → made_slots ≡ map (slot_at slot) (slot_order slot)
+    → made_cells ≡ map (moved_cell read) (picked row (slot_order slot))
+    → made_slots ≡ map (slot_at slot) (slot_order slot)
     → IsInverse made_places (slot_order slot) → length made_places ≡ length row → cells' ≡ cells ++ made_cells ∷ []
     → lists' ≡ lists ++ made_slots ∷ [] → ArrangedSo rows slots r places cells lists
     → ArrangedSo rows slots (r + 1) made_places cells' lists'
@@ -47,17 +48,20 @@ one_arranged rows slots r d row b slot places read made_cells made_slots made_pl
     ∙ ap (arranged_rows so.old (row ∷ drop (suc r) rows)) there in
     let inverse_read : IsInverse read so.old = subst (λ l. IsInverse l so.old) (sym is_read) so.inverse in
     let cells_so : made_cells ≡ map (renumbered_cell so.old) (picked row (slot_order slot)) =
-    cells_are ∙ ap (λ (f : RowCell → RowCell). map f (picked row (slot_order slot))) (cell_same read so.old inverse_read) in
+    cells_are ∙ ap (λ (f : RowCell → RowCell). map f (picked row (slot_order slot)))
+    (cell_same read so.old inverse_read) in
     record {
       old = slot_order slot;
       inverse = inverse;
       few = omega (arith, few, long, ap length is_row);
       cells_so = rw add-one (
-          ap (λ (l : List (List RowCell)). l ++ row_cells more) write_cells ∙ append_assoc cells (made_cells ∷ []) (row_cells more)
+          ap (λ (l : List (List RowCell)). l ++ row_cells more) write_cells
+          ∙ append_assoc cells (made_cells ∷ []) (row_cells more)
           ∙ ap (λ (c : List RowCell). cells ++ c ∷ row_cells more) cells_so
           ∙ sym (ap (λ l. cells ++ row_cells l) both) ∙ so.cells_so);
       slots_so = rw add-one (
-          ap (λ (l : List (List ℕ)). l ++ row_slots more) write_slots ∙ append_assoc lists (made_slots ∷ []) (row_slots more)
+          ap (λ (l : List (List ℕ)). l ++ row_slots more) write_slots
+          ∙ append_assoc lists (made_slots ∷ []) (row_slots more)
           ∙ ap (λ (c : List ℕ). lists ++ c ∷ row_slots more) slots_are
           ∙ sym (ap (λ l. lists ++ row_slots l) both) ∙ so.slots_so);
     }
@@ -66,13 +70,18 @@ one_arranged rows slots r d row b slot places read made_cells made_slots made_pl
 pub all_keys : (slots keys : List ℕ) (n : ℕ) → length slots ≤ n → keys ++ drop n slots ≡ slots → keys ≡ slots
 all_keys slots keys n past e = sym (append-nil keys) ∙ sym (ap (λ (l : List ℕ). keys ++ l) (drop_all n slots past)) ∙ e
 
-pub few_keys : (slots keys : List ℕ) (n : ℕ) → keys ++ drop n slots ≡ slots → length slots < 2 ^ 32 → length keys < 2 ^ 32
+pub few_keys : (slots keys : List ℕ) (n : ℕ) → keys ++ drop n slots ≡ slots
+    → length slots < 2 ^ 32 → length keys < 2 ^ 32
 few_keys slots keys n e few = omega (arith, length-append keys (drop n slots), ap length e, few)
 
 -- rows arranged so, and their slots, are the net's at these slots
 arranged_is : (net : RowView) (slots : List (List ℕ)) (cells : List (List RowCell)) (lists : List (List ℕ))
     → cells ≡ row_cells (arranged_rows [] net.rows slots) → lists ≡ row_slots (arranged_rows [] net.rows slots)
-    → arranged net slots ≡ record { net = record { inputs = net.inputs; outputs = net.outputs; rows = cells }; slots = lists }
+    → arranged net slots ≡ record {
+      net =
+          record { inputs = net.inputs; outputs = net.outputs; rows = cells };
+      slots = lists;
+    }
 unfolding arranged
 arranged_is net slots cells lists cells_are lists_are =
     let P : List (List RowCell) → List (List ℕ) → PlacedView =
@@ -82,7 +91,11 @@ arranged_is net slots cells lists cells_are lists_are =
 pub given_arranged : (net : RowView) (slots : List (List ℕ)) (cells : List (List RowCell)) (lists : List (List ℕ))
     → IsRowNet net → one_each net.rows slots ≡ true → cells ≡ row_cells (arranged_rows [] net.rows slots)
     → lists ≡ row_slots (arranged_rows [] net.rows slots) → each_seated cells lists ≡ true
-    → IsArranged net slots (record { net = record { inputs = net.inputs; outputs = net.outputs; rows = cells }; slots = lists })
+    → IsArranged net slots (record {
+      net =
+          record { inputs = net.inputs; outputs = net.outputs; rows = cells };
+      slots = lists;
+    })
 given_arranged net slots cells lists known each cells_are lists_are seated =
     let is = arranged_is net slots cells lists cells_are lists_are in
     subst (IsArranged net slots) is (arranged_so net slots known each
@@ -90,7 +103,8 @@ given_arranged net slots cells lists known each cells_are lists_are seated =
 
 pub not_seated : (net : RowView) (slots : List (List ℕ)) (cells : List (List RowCell)) (lists : List (List ℕ))
     → cells ≡ row_cells (arranged_rows [] net.rows slots) → lists ≡ row_slots (arranged_rows [] net.rows slots)
-    → each_seated cells lists ≡ false → EachSeated (arranged net slots).net.rows (arranged net slots).slots → false ≡ true
+    → each_seated cells lists ≡ false
+    → EachSeated (arranged net slots).net.rows (arranged net slots).slots → false ≡ true
 not_seated net slots cells lists cells_are lists_are not seated =
     sym not ∙ rows_test cells lists (subst (λ (p : PlacedView). EachSeated p.net.rows p.slots)
     (arranged_is net slots cells lists cells_are lists_are) seated)

@@ -23,7 +23,8 @@ same_value : (old : List ℕ) (v w : ℕ → Bool) (word : List Bool) (cell : Ro
     → cell_value word v (renumbered_cell old cell) ≡ cell_value word w cell
 same_value old v w word cell a b c =
     let given = λ (x y z : Bool). bit_or word cell.input (value_of cell.kind x y z) in
-    ap (λ x. given x (source_value v (renumbered_pin old cell.source1)) (source_value v (renumbered_pin old cell.source2))) a
+    ap (λ x. given x (source_value v (renumbered_pin old cell.source1))
+    (source_value v (renumbered_pin old cell.source2))) a
     ∙ ap (λ y. given (source_value w cell.source0) y (source_value v (renumbered_pin old cell.source2))) b
     ∙ ap (given (source_value w cell.source0) (source_value w cell.source1)) c
 
@@ -35,12 +36,15 @@ source_still before v rows r None has = refl
 source_still before v rows zero (Some s) has = absurd (has s refl)
 source_still before v rows (suc r) (Some s) has = refl
 
-module _ (net new_net : RowView) (before : ℕ → List ℕ) (known : IsRowNet net) (same_inputs : new_net.inputs ≡ net.inputs)
+module _ (net new_net : RowView) (before : ℕ → List ℕ) (known : IsRowNet net)
+    (same_inputs : new_net.inputs ≡ net.inputs)
     (same_outputs : new_net.outputs ≡ net.outputs) (is : IsReordered net.rows new_net.rows before) where
-  fit_back : (word : List Bool) (v : ℕ → ℕ → Bool) → FitsRows word v new_net.rows → FitsRows word (values_by before v) net.rows
+  fit_back : (word : List Bool) (v : ℕ → ℕ → Bool) → FitsRows word v new_net.rows
+      → FitsRows word (values_by before v) net.rows
   fit_back word v fits r c cell e =
       let may = known.stands r c cell e in
-      fits r (place_of (before (suc r)) c) (renumbered_cell (before r) cell) (new_place net.rows new_net.rows before is r c cell e)
+      fits r (place_of (before (suc r)) c) (renumbered_cell (before r) cell)
+      (new_place net.rows new_net.rows before is r c cell e)
       ∙ same_value (before r) (v (pred r)) (values_by before v (pred r)) word cell
       (source_still before v net.rows r cell.source0 (may.before 0))
       (source_still before v net.rows r cell.source1 (may.before 1))
@@ -59,10 +63,12 @@ module _ (net new_net : RowView) (before : ℕ → List ℕ) (known : IsRowNet n
     fit = fit_back word a.values a.fit;
     long = a.long ∙ same_outputs;
     shown = shown_back answer a.values (last_of net.rows)
-        (subst (λ (r : ℕ). (c i : ℕ) → output_at (cell_at new_net.rows r c) ≡ Some i → slice_get answer i ≡ Some (a.values r c)) (ap pred is.same_count) a.shown);
+        (subst (λ (r : ℕ). (c i : ℕ) → output_at (cell_at new_net.rows r c) ≡ Some i
+        → slice_get answer i ≡ Some (a.values r c)) (ap pred is.same_count) a.shown);
   }
 
-  pub answers_still : SameAnswers net.inputs new_net.inputs net.outputs new_net.outputs (IsAnswer net) (IsAnswer new_net)
+  pub answers_still : SameAnswers net.inputs new_net.inputs net.outputs new_net.outputs
+      (IsAnswer net) (IsAnswer new_net)
   answers_still = record {
     same_inputs = same_inputs;
     same_outputs = same_outputs;

@@ -1,4 +1,5 @@
--- The plan of a net whose rows are within the width is what the pass is to give; so it is where nothing is to be refused.
+-- The plan of a net whose rows are within the width is what the pass is to give; so it is where nothing is to be
+-- refused.
 use Rattle.std.proofs.Common.{ℕ, ◌≤◌, ◌*◌, refl, arith, inl, inr}
 use Rattle.std.proofs.lemmas.Bool.{cases_lt}
 use Rattle.std.proofs.lemmas.Nat.{mul-le}

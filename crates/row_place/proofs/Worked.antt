@@ -9,7 +9,8 @@ pub and_keys : keys and_net 0 3 ≡ 0 ∷ 6 ∷ 3 ∷ []
 unfolding keys and_net
 and_keys = refl
 
-pub and_rows : (place and_net).net.rows ≡ (input_cell 0 ∷ bare_cell Zero ∷ input_cell 1 ∷ []) ∷ (majority 0 1 2 ∷ []) ∷ (output_cell (first 0) 0 ∷ []) ∷ []
+pub and_rows : (place and_net).net.rows ≡ (input_cell 0 ∷ bare_cell Zero ∷ input_cell 1 ∷ []) ∷ (majority 0 1 2 ∷ [])
+    ∷ (output_cell (first 0) 0 ∷ []) ∷ []
 unfolding place and_net
 and_rows = refl
 
@@ -26,7 +27,8 @@ unfolding keys tied_net
 tied_keys = refl
 
 pub tied_rows : (place tied_net).net.rows
-    ≡ (input_cell 0 ∷ bare_cell Zero ∷ bare_cell One ∷ input_cell 1 ∷ []) ∷ (fed_cell Buffer (first 0) ∷ majority 3 1 2 ∷ []) ∷ (output_cell (first 0) 1 ∷ output_cell (first 1) 0 ∷ []) ∷ []
+    ≡ (input_cell 0 ∷ bare_cell Zero ∷ bare_cell One ∷ input_cell 1 ∷ []) ∷ (fed_cell Buffer
+    (first 0) ∷ majority 3 1 2 ∷ []) ∷ (output_cell (first 0) 1 ∷ output_cell (first 1) 0 ∷ []) ∷ []
 unfolding place tied_net
 tied_rows = refl
 
@@ -35,7 +37,8 @@ unfolding place tied_net
 tied_slots = refl
 
 pub split_rows : (place split_net).net.rows
-    ≡ (input_cell 0 ∷ input_cell 1 ∷ []) ∷ (fed_cell Buffer (first 0) ∷ fed_cell Split2 (first 1) ∷ []) ∷ (output_cell (first 0) 2 ∷ output_cell (first 1) 1 ∷ output_cell (second 1) 0 ∷ []) ∷ []
+    ≡ (input_cell 0 ∷ input_cell 1 ∷ []) ∷ (fed_cell Buffer (first 0) ∷ fed_cell Split2 (first 1) ∷ []) ∷ (output_cell
+    (first 0) 2 ∷ output_cell (first 1) 1 ∷ output_cell (second 1) 0 ∷ []) ∷ []
 unfolding place split_net
 split_rows = refl
 

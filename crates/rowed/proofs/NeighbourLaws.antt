@@ -1,4 +1,5 @@
--- Laws of neighbouring rows of a placed net, told by number: their wires are those of a channel, within the limit of slots.
+-- Laws of neighbouring rows of a placed net, told by number: their wires are those of a channel, within the limit of
+-- slots.
 use Rattle.std.specs.Prelude.{◌≡◌, ℕ, zero, suc, ◌+◌, ◌<◌, ◌≤◌, ◌==◌, List, [], ◌∷◌, length, slice_index_or}
 use Rattle.std.proofs.Common.{subst, arith}
 use Rattle.std.specs.List.{AllByRecursion}
@@ -28,10 +29,13 @@ channel_at p known k lt =
     (seated_at p.net.rows p.slots known.seated k (omega arith)) (seated_at p.net.rows p.slots known.seated (suc k) lt)
     (row_above p.net known.net_keeps k lt)
 
-pub channel_fits : (p : PlacedView) → IsPlaced p → (k : ℕ) → suc k < length p.net.rows → channel_slots (row_of p k) (row_of p (suc k)) ≤ slot_limit
+pub channel_fits : (p : PlacedView) → IsPlaced p → (k : ℕ) → suc k < length p.net.rows
+    → channel_slots (row_of p k) (row_of p (suc k)) ≤ slot_limit
 channel_fits p known k lt =
-    let lower = span_limit 0 (row_of p k).cells (row_of p k).slots (seated_at p.net.rows p.slots known.seated k (omega arith)) in
-    let upper = span_limit 0 (row_of p (suc k)).cells (row_of p (suc k)).slots (seated_at p.net.rows p.slots known.seated (suc k) lt) in
+    let lower = span_limit 0 (row_of p k).cells (row_of p k).slots
+    (seated_at p.net.rows p.slots known.seated k (omega arith)) in
+    let upper = span_limit 0 (row_of p (suc k)).cells (row_of p (suc k)).slots
+    (seated_at p.net.rows p.slots known.seated (suc k) lt) in
     omega (arith, lower, upper)
 
 -- so it is of row k + 1 by its number
@@ -64,7 +68,8 @@ some_slots Split2 = omega arith
 some_slots Split3 = omega arith
 some_slots Majority = omega arith
 
-pub slots_below : (b : ℕ) (cells : List RowCell) (slots : List ℕ) → AreSeated b cells slots → AllByRecursion (λ (slot : ℕ). slot < slot_limit) slots
+pub slots_below : (b : ℕ) (cells : List RowCell) (slots : List ℕ) → AreSeated b cells slots
+    → AllByRecursion (λ (slot : ℕ). slot < slot_limit) slots
 slots_below b [] [] seated = tt
 slots_below b [] (slot ∷ slots) seated = absurd seated
 slots_below b (cell ∷ cells) [] seated = absurd seated

@@ -1,4 +1,5 @@
--- Rows of a placed net by their numbers: that row k is the one at place k, that its wires are its fed pins, and that the
+-- Rows of a placed net by their numbers: that row k is the one at place k, that its wires are its fed pins, and that
+-- the
 -- wires of all channels are short where those of each channel are.
 use Rattle.std.proofs.Common.{◌≡◌, ℕ, zero, suc, ◌+◌, ◌<◌, ◌≤◌, List, [], ◌∷◌, Option, Some, None, length, drop, get_or}
 use Rattle.std.proofs.Common.{slice_get, refl, sym, ap, ◌∙◌, subst, arith, Contains}
@@ -22,26 +23,33 @@ none_dropped : {X : Type 0} (xs : List X) → drop 0 xs ≡ xs
 none_dropped [] = refl
 none_dropped (x ∷ xs) = refl
 
-pub as_many_slots : (rows : List (List RowCell)) (slots : List (List ℕ)) → EachSeated rows slots → length slots ≡ length rows
+pub as_many_slots : (rows : List (List RowCell)) (slots : List (List ℕ)) → EachSeated rows slots
+    → length slots ≡ length rows
 as_many_slots [] [] seated = refl
 as_many_slots [] (s ∷ slots) seated = absurd seated
 as_many_slots (row ∷ rows) [] seated = absurd seated
 as_many_slots (row ∷ rows) (s ∷ slots) seated = ap suc (as_many_slots rows slots seated.1)
 
 -- row k and the rows above it
-paired_from : (rows : List (List RowCell)) (slots : List (List ℕ)) → EachSeated rows slots → (k next : ℕ) → next ≡ k + 1 → k < length rows
-    → drop k (paired rows slots) ≡ record { cells = get_or rows k []; slots = get_or slots k [] } ∷ drop next (paired rows slots)
+paired_from : (rows : List (List RowCell)) (slots : List (List ℕ)) → EachSeated rows slots → (k next : ℕ)
+    → next ≡ k + 1 → k < length rows
+    → drop k (paired rows slots) ≡ record { cells = get_or rows k []; slots = get_or slots k [] } ∷ drop next
+    (paired rows slots)
 paired_from [] slots seated k next e lt = absurd (omega arith)
 paired_from (row ∷ rows) [] seated k next e lt = absurd seated
 paired_from (row ∷ rows) (s ∷ slots) seated k zero e lt = absurd (omega arith)
 paired_from (row ∷ rows) (s ∷ slots) seated zero (suc (suc next)) e lt = absurd (omega arith)
-paired_from (row ∷ rows) (s ∷ slots) seated zero (suc zero) e lt = ap (λ (l : List PlacedRow). record { cells = row; slots = s } ∷ l) (sym (none_dropped (paired rows slots)))
-paired_from (row ∷ rows) (s ∷ slots) seated (suc k) (suc next) e lt = paired_from rows slots seated.1 k next (omega arith) (omega arith)
+paired_from (row ∷ rows) (s ∷ slots) seated zero (suc zero) e lt =
+    ap (λ (l : List PlacedRow). record { cells = row; slots = s } ∷ l) (sym (none_dropped (paired rows slots)))
+paired_from (row ∷ rows) (s ∷ slots) seated (suc k) (suc next) e lt = paired_from rows slots seated.1 k next
+    (omega arith) (omega arith)
 
-pub rows_from : (p : PlacedView) → IsPlaced p → (k next : ℕ) → next ≡ k + 1 → k < length p.net.rows → drop k (placed_rows p) ≡ row_of p k ∷ drop next (placed_rows p)
+pub rows_from : (p : PlacedView) → IsPlaced p → (k next : ℕ) → next ≡ k + 1 → k < length p.net.rows
+    → drop k (placed_rows p) ≡ row_of p k ∷ drop next (placed_rows p)
 rows_from p known k next e lt = paired_from p.net.rows p.slots known.seated k next e lt
 
-pub rows_end : (rows : List (List RowCell)) (slots : List (List ℕ)) (k : ℕ) → length rows ≤ k → drop k (paired rows slots) ≡ []
+pub rows_end : (rows : List (List RowCell)) (slots : List (List ℕ)) (k : ℕ) → length rows ≤ k
+    → drop k (paired rows slots) ≡ []
 rows_end [] slots zero le = refl
 rows_end [] slots (suc k) le = refl
 rows_end (row ∷ rows) [] zero le = refl
@@ -49,7 +57,8 @@ rows_end (row ∷ rows) [] (suc k) le = refl
 rows_end (row ∷ rows) (s ∷ slots) zero le = absurd (omega arith)
 rows_end (row ∷ rows) (s ∷ slots) (suc k) le = rows_end rows slots k (omega arith)
 
-paired_long : (rows : List (List RowCell)) (slots : List (List ℕ)) → EachSeated rows slots → length (paired rows slots) ≡ length rows
+paired_long : (rows : List (List RowCell)) (slots : List (List ℕ)) → EachSeated rows slots
+    → length (paired rows slots) ≡ length rows
 paired_long [] slots seated = refl
 paired_long (row ∷ rows) [] seated = absurd seated
 paired_long (row ∷ rows) (s ∷ slots) seated = ap suc (paired_long rows slots seated.1)
@@ -120,7 +129,8 @@ from_tells p known k lt v w a b e =
     (row_above p.net known.net_keeps k lt) v w a b e)
 
 -- short wires, channel by channel
-each_short : (reach : ℕ) (lower : PlacedRow) (rows : List PlacedRow) → EachShort reach lower rows → (k : ℕ) (a b : PlacedRow)
+each_short : (reach : ℕ) (lower : PlacedRow) (rows : List PlacedRow) → EachShort reach lower rows
+    → (k : ℕ) (a b : PlacedRow)
     → slice_get (lower ∷ rows) k ≡ Some a → slice_get (lower ∷ rows) (suc k) ≡ Some b → IsShort reach a b
 each_short reach lower [] all k a b at next = absurd (none-some b next)
 each_short reach lower (upper ∷ rows) all zero a b at next =
@@ -156,7 +166,8 @@ pub short_channels : (p : PlacedView) → IsPlaced p → (reach : ℕ)
     → ((k : ℕ) → suc k < length p.net.rows → IsShort reach (row_of p k) (row_of p (suc k)))
     → AreShort reach (placed_rows p)
 short_channels p known reach each = all_from reach (placed_rows p) (λ k a b at next.
-    let below : suc k < length p.net.rows = omega (arith, slice_get_within (placed_rows p) (suc k) b next, placed_long p known) in
+    let below : suc k < length p.net.rows =
+    omega (arith, slice_get_within (placed_rows p) (suc k) b next, placed_long p known) in
     let first : row_of p k ≡ a = same_Some (row_of p k) a (sym (row_there p known k (omega (arith, below))) ∙ at) in
     let second : row_of p (suc k) ≡ b = same_Some (row_of p (suc k)) b (sym (row_there p known (suc k) below) ∙ next) in
     subst (λ (x : PlacedRow). IsShort reach x b) first

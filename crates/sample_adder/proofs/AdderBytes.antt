@@ -2,7 +2,9 @@
 use Rattle.std.proofs.Common.{ℕ, zero, suc, ◌+◌, ◌-◌, ◌*◌, ◌≤◌, ◌<◌, List, length, arith, length-append}
 use Rattle.std.proofs.lemmas.Fmt.{length-decimal-le_succ}
 use Rattle.sample_adder.specs.declared.adder.Signal.{Signal}
-use Rattle.sample_adder.specs.Adder.{name_of, first_bit, second_bit, sum_bit, carry_bit, one_set, both_set, carried_on, exclusive_rows, both_rows, either_rows, gate, half_adder, full_adder, full_adders, summand_names, sum_names, head, foot, adder}
+use Rattle.sample_adder.specs.Adder.{name_of, first_bit, second_bit, sum_bit, carry_bit, one_set, both_set, carried_on}
+use Rattle.sample_adder.specs.Adder.{exclusive_rows, both_rows, either_rows, gate, half_adder, full_adder, full_adders}
+use Rattle.sample_adder.specs.Adder.{summand_names, sum_names, head, foot, adder}
 
 name_bytes : (signal : Signal) → signal.number ≤ 64 → length (name_of signal) ≤ 66
 name_bytes signal few =

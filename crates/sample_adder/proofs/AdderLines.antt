@@ -1,5 +1,6 @@
 -- The lines of the sample's netlist, piece by piece: only the statement of the inputs names inputs.
-use Rattle.std.proofs.Common.{◌≡◌, ℕ, zero, suc, ◌+◌, ◌-◌, ◌*◌, ◌≤◌, ◌<◌, true, List, [], ◌∷◌, ◌++◌, refl, ap, subst, ◌∙◌, arith, append_assoc, append-nil, codes}
+use Rattle.std.proofs.Common.{◌≡◌, ℕ, zero, suc, ◌+◌, ◌-◌, ◌*◌, ◌≤◌, ◌<◌, true, List, [], ◌∷◌, ◌++◌, refl, ap, subst}
+use Rattle.std.proofs.Common.{◌∙◌, arith, append_assoc, append-nil, codes}
 use Rattle.std.specs.Fmt.{decimal}
 use Rattle.std.specs.List.{list_all}
 use Rattle.std.proofs.lemmas.Bool.{and_from}
@@ -7,9 +8,12 @@ use Rattle.blif_read.specs.Lines.{tokens_of}
 use Rattle.blif_read.specs.Parts.{NetView}
 use Rattle.blif_read.specs.Says.{SaysNet}
 use Rattle.sample_adder.specs.declared.adder.Signal.{Signal}
-use Rattle.sample_adder.specs.Adder.{name_of, first_bit, second_bit, sum_bit, carry_bit, exclusive_rows, both_rows, either_rows, gate, half_adder, full_adder, full_adders, summand_names, sum_names, head, foot, adder}
+use Rattle.sample_adder.specs.Adder.{name_of, first_bit, second_bit, sum_bit, carry_bit, exclusive_rows, both_rows}
+use Rattle.sample_adder.specs.Adder.{either_rows, gate, half_adder, full_adder, full_adders, summand_names, sum_names}
+use Rattle.sample_adder.specs.Adder.{head, foot, adder}
 use Rattle.blif_read.proofs.PlainLines.{is_inked, is_plain, one_token, inked_plain, inked_decimal}
-use Rattle.sample_adder.proofs.Pieces.{named_from, IsPiece, no_piece, both_pieces, IsLine, inputs_piece, other_piece, IsName, with_name}
+use Rattle.sample_adder.proofs.Pieces.{named_from, IsPiece, no_piece, both_pieces, IsLine, inputs_piece, other_piece}
+use Rattle.sample_adder.proofs.Pieces.{IsName, with_name}
 
 -- a signal's name is one token
 record IsSignal (signal : Signal) : Type 0 where

@@ -9,7 +9,8 @@ abbrev pub invariant-lines : goal.invariant-lines
 invariant-lines l = record {
   sound : undefined_fault l.names.keys l.rest ≡ undefined_fault l.names.keys l.lines;
   defs : l.defs ++ definitions l.names.keys l.rest ≡ definitions l.names.keys l.lines;
-  outputs : l.outputs ++ map (number l.names.keys) (flat_map outputs_in l.rest) ≡ map (number l.names.keys) (flat_map outputs_in l.lines);
+  outputs : l.outputs ++ map (number l.names.keys) (flat_map outputs_in l.rest) ≡ map (number l.names.keys)
+      (flat_map outputs_in l.lines);
 }
 
 abbrev pub decreases-lines : goal.decreases-lines

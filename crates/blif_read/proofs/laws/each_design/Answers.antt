@@ -5,7 +5,8 @@ use Rattle.blif_read.specs.declared.models.BlifModel.{BlifModel}
 use Rattle.blif_read.specs.declared.netlist.BlifFault.{BlifFault}
 use Rattle.blif_read.proofs.laws.each_design.Goals as goal
 
-one_of : (text : List ℕ) (o : Option BlifFault) → models_fault (parts_of (logical_lines text)) ≡ o → ((models : List BlifModel) × SaysModels text models) ⊎ ((fault : BlifFault) × ModelsFault text fault)
+one_of : (text : List ℕ) (o : Option BlifFault) → models_fault (parts_of (logical_lines text)) ≡ o
+    → ((models : List BlifModel) × SaysModels text models) ⊎ ((fault : BlifFault) × ModelsFault text fault)
 one_of text None e = inl (map model_of (parts_of (logical_lines text)), record { sound = e; each = refl })
 one_of text (Some fault) e = inr (fault, e)
 

@@ -6,7 +6,8 @@ use Rattle.blif_read.specs.Says.{SaysNet, Fault}
 use Rattle.blif_read.specs.declared.netlist.BlifFault.{BlifFault}
 use Rattle.blif_read.proofs.laws.each_text.Goals as goal
 
-one_of : (text : List ℕ) (o : Option BlifFault) → fault_of (logical_lines text) ≡ o → ((net : NetView) × SaysNet text net) ⊎ ((fault : BlifFault) × Fault text fault)
+one_of : (text : List ℕ) (o : Option BlifFault) → fault_of (logical_lines text) ≡ o
+    → ((net : NetView) × SaysNet text net) ⊎ ((fault : BlifFault) × Fault text fault)
 one_of text None e = inl (netlist_of (logical_lines text), record { sound = e; parts = refl })
 one_of text (Some fault) e = inr (fault, e)
 

@@ -7,13 +7,15 @@ use Rattle.blif_read.specs.Parts.{signals}
 use Rattle.blif_read.proofs.signals.signals.Given as goal
 
 abbrev pub invariant-inputs : goal.invariant-inputs
-invariant-inputs l = insert_all bytes_eq l.names.keys (flat_map inputs_in l.rest) ≡ insert_all bytes_eq [] (flat_map inputs_in l.lines)
+invariant-inputs l = insert_all bytes_eq l.names.keys (flat_map inputs_in l.rest) ≡ insert_all bytes_eq []
+    (flat_map inputs_in l.lines)
 
 abbrev pub decreases-inputs : goal.decreases-inputs
 decreases-inputs l = length l.rest
 
 abbrev pub invariant-defined : goal.invariant-defined
-invariant-defined l = insert_all bytes_eq l.names.keys (flat_map defined_in l.rest) ≡ insert_all bytes_eq [] (signals l.lines)
+invariant-defined l = insert_all bytes_eq l.names.keys
+    (flat_map defined_in l.rest) ≡ insert_all bytes_eq [] (signals l.lines)
 
 abbrev pub decreases-defined : goal.decreases-defined
 decreases-defined l = length l.rest

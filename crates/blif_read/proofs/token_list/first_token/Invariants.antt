@@ -8,7 +8,8 @@ size None = 0
 size (Some text) = length text.now + 1
 
 abbrev pub invariant-parts : goal.invariant-parts
-invariant-parts l = tokens_left l.line (option_map (λ t. t.now) l.more) ≡ tokens_left l.fn.rest.line.now (option_map (λ t. t.now) l.fn.rest.more)
+invariant-parts l = tokens_left l.line (option_map (λ t. t.now) l.more) ≡ tokens_left l.fn.rest.line.now
+    (option_map (λ t. t.now) l.fn.rest.more)
 
 abbrev pub decreases-parts : goal.decreases-parts
 decreases-parts l = size l.more

@@ -13,5 +13,6 @@ invariant-loop-i l = record {
 abbrev pub invariant-loop-signal : goal.invariant-loop-signal
 invariant-loop-signal l = record {
   size : length l.values.items ≡ l.inputs + length l.defs;
-  agrees : (v : ℕ → Bool) → Fits l.inputs l.defs l.word v → (q : ℕ) → known l.inputs (reverse (take l.signal-index l.order)) q ≡ true → valuation l.values.items q ≡ v q;
+  agrees : (v : ℕ → Bool) → Fits l.inputs l.defs l.word v → (q : ℕ)
+      → known l.inputs (reverse (take l.signal-index l.order)) q ≡ true → valuation l.values.items q ≡ v q;
 }

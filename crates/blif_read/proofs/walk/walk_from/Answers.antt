@@ -8,5 +8,6 @@ at_none (Some x) P e h = absurd (cc)
 
 pub returns-clause-order : goal.returns-clause-order
 returns-clause-order c =
-    order_from c.args.defs.now c.args.root _ _ _ (ap reverse c.new-done.ensures.items) (at_none _ _ c.in-None.is c.in_ok-cycle.ensures.walks)
+    order_from c.args.defs.now c.args.root _ _ _ (ap reverse c.new-done.ensures.items)
+    (at_none _ _ c.in-None.is c.in_ok-cycle.ensures.walks)
     (at_none _ _ c.in-None.is c.in_ok-cycle.ensures.done) c.in_ok-cycle.ensures.led

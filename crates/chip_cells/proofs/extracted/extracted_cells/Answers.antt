@@ -10,21 +10,30 @@ use Rattle.chip_cells.proofs.extracted.extracted_cells.Goals as goal
 pub gates-requires : goal.gates-requires
 gates-requires c =
     subst (λ (cs : List ExCell). All (FeedsFit c.circuit.inside.inputs) cs) (sym c.as_slice.ensures)
-    (feeds_fit _ c.circuit.invariant (subst (λ (v : CircuitView). v.inputs + length v.cells < 2 ^ 32) (sym c.circuit.view_is) c.requires))
+    (feeds_fit _ c.circuit.invariant
+    (subst (λ (v : CircuitView). v.inputs + length v.cells < 2 ^ 32) (sym c.circuit.view_is) c.requires))
 
 pub outputs-requires : goal.outputs-requires
 outputs-requires c =
-    subst (λ (ss : List Source). All (λ source. c.circuit.inside.inputs + source.cell < 2 ^ 32) ss) (sym c.as_slice-2.ensures)
-    (sources_fit _ c.circuit.invariant (subst (λ (v : CircuitView). v.inputs + length v.cells < 2 ^ 32) (sym c.circuit.view_is) c.requires))
+    subst (λ (ss : List Source). All (λ source. c.circuit.inside.inputs + source.cell < 2 ^ 32) ss)
+    (sym c.as_slice-2.ensures)
+    (sources_fit _ c.circuit.invariant
+    (subst (λ (v : CircuitView). v.inputs + length v.cells < 2 ^ 32) (sym c.circuit.view_is) c.requires))
 
 pub invariant_of-result : goal.invariant_of-result
 invariant_of-result c =
     cells_from _ c.circuit.invariant c.from_vec.result c.from_vec-2.result
-    (c.from_vec.ensures ∙ c.in_ok-gates.ensures ∙ ap (λ (cs : List ExCell). inputs_to c.circuit.inside.inputs ++ map (gate_of c.circuit.inside.inputs) cs) c.as_slice.ensures)
-    (c.from_vec-2.ensures ∙ c.in_ok-outputs.ensures ∙ ap (λ (ss : List Source). map (λ source. c.circuit.inside.inputs + source.cell) ss) c.as_slice-2.ensures)
+    (c.from_vec.ensures ∙ c.in_ok-gates.ensures
+    ∙ ap (λ (cs : List ExCell). inputs_to c.circuit.inside.inputs ++ map
+    (gate_of c.circuit.inside.inputs) cs) c.as_slice.ensures)
+    (c.from_vec-2.ensures ∙ c.in_ok-outputs.ensures
+    ∙ ap (λ (ss : List Source). map (λ source. c.circuit.inside.inputs + source.cell) ss) c.as_slice-2.ensures)
 
 pub returns-clause-same : goal.returns-clause-same
 returns-clause-same c =
     same_from _ c.circuit.invariant c.args.circuit.now c.from_vec.result c.from_vec-2.result c.circuit.view_is
-    (c.from_vec.ensures ∙ c.in_ok-gates.ensures ∙ ap (λ (cs : List ExCell). inputs_to c.circuit.inside.inputs ++ map (gate_of c.circuit.inside.inputs) cs) c.as_slice.ensures)
-    (c.from_vec-2.ensures ∙ c.in_ok-outputs.ensures ∙ ap (λ (ss : List Source). map (λ source. c.circuit.inside.inputs + source.cell) ss) c.as_slice-2.ensures)
+    (c.from_vec.ensures ∙ c.in_ok-gates.ensures
+    ∙ ap (λ (cs : List ExCell). inputs_to c.circuit.inside.inputs ++ map
+    (gate_of c.circuit.inside.inputs) cs) c.as_slice.ensures)
+    (c.from_vec-2.ensures ∙ c.in_ok-outputs.ensures
+    ∙ ap (λ (ss : List Source). map (λ source. c.circuit.inside.inputs + source.cell) ss) c.as_slice-2.ensures)

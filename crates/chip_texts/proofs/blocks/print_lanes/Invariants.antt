@@ -4,4 +4,5 @@ use Rattle.chip_texts.proofs.blocks.print_lanes.Given as goal
 
 abbrev pub invariant-loop-lane : goal.invariant-loop-lane
 invariant-loop-lane g l =
-    PrintsLine (g.O.Sink.output l.initial.out) (g.O.Sink.output l.out) l.initial.page.items l.page.items (lines_of (λ i. in_lane i l.numbers) l.lane)
+    PrintsLine (g.O.Sink.output l.initial.out) (g.O.Sink.output l.out) l.initial.page.items l.page.items
+    (lines_of (λ i. in_lane i l.numbers) l.lane)

@@ -6,6 +6,7 @@ use Rattle.chip_texts.proofs.fluxes.add_rows.Given as goal
 
 abbrev pub invariant-loop-row : goal.invariant-loop-row
 invariant-loop-row l = record {
-  lines : l.page.items ≡ l.initial.page.items ++ row_lines l.circuit l.time (settled_run l.circuit l.run.words (l.time + 1)) l.row;
+  lines : l.page.items ≡ l.initial.page.items ++ row_lines l.circuit l.time
+      (settled_run l.circuit l.run.words (l.time + 1)) l.row;
   start : IsRowStart l.circuit.cells l.row l.first;
 }

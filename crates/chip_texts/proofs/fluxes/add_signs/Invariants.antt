@@ -9,7 +9,8 @@ invariant-loop-page l = record {
   later : l.first ≤ l.next;
   within : l.next ≤ length l.cells;
   in_row : AreInRow l.cells l.row l.first l.next;
-  signs : l.page.items ≡ l.initial.page.items ++ map sign_of (take (l.next - l.first) (drop l.first (settled_run l.run.circuit l.run.words l.run.time)));
+  signs : l.page.items ≡ l.initial.page.items ++ map sign_of
+      (take (l.next - l.first) (drop l.first (settled_run l.run.circuit l.run.words l.run.time)));
 }
 
 abbrev pub decreases-loop-page : goal.decreases-loop-page

@@ -13,4 +13,5 @@ takes_past plane values e = ap (takes_all plane) e ∙ none plane
     none (b ∷ bs) = refl
 
 pub returns-in_default : goal.returns-in_default
-returns-in_default c = sym (takes_past (drop c.loop-i.i c.args.plane.now) (drop c.loop-i.i c.args.values.now) (drop_all c.loop-i.i c.args.values.now (ltb-false _ _ (sym c.in_default.ensures.lookup.0)))) ∙ c.loop-i.invariant
+returns-in_default c = sym (takes_past (drop c.loop-i.i c.args.plane.now) (drop c.loop-i.i c.args.values.now)
+    (drop_all c.loop-i.i c.args.values.now (ltb-false _ _ (sym c.in_default.ensures.lookup.0)))) ∙ c.loop-i.invariant

@@ -17,6 +17,7 @@ returns-in-Impossible c =
     (λ f refuted is.
     both_refuted graph first c.deref.result.now c.deref-in-Impossible.result.now c.args.more c.args.one
     c.args.other c.turned-no_one.result c.turned-no_other.result c.turned-no_one.ensures c.turned-no_other.ensures
-    (c.deref.ensures.value ∙ c.in_ok-assumed.ensures) (c.deref-in-Impossible.ensures.value ∙ c.in_ok-second-in-Impossible.ensures)
+    (c.deref.ensures.value ∙ c.in_ok-assumed.ensures) (c.deref-in-Impossible.ensures.value
+    ∙ c.in_ok-second-in-Impossible.ensures)
     (c.in_ok-found.ensures c.in-Impossible.is) (refuted is))
     c.refute-in-Impossible.ensures

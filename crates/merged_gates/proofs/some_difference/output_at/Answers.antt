@@ -10,5 +10,8 @@ gate_values-requires c =
 
 pub gate_values-requires-2 : goal.gate_values-requires-2
 gate_values-requires-2 c =
-    let inputs = c.other.inside.inputs in
-    (inputs, subst (λ (gates : List Gate). AreCells inputs gates) (sym c.as_slice-3.ensures) c.other.invariant.gates_read)
+    let inputs = c.other.inside.inputs in (
+      inputs,
+      subst (λ (gates : List Gate). AreCells inputs gates)
+          (sym c.as_slice-3.ensures) c.other.invariant.gates_read,
+    )

@@ -22,9 +22,12 @@ loop-number-preserved c =
     c.loop-number.placed.items _ c.loop-number.lists.items _ c.loop-number-test.true
     (omega (arith, below, c.loop-number-test.true)) (c.as_slice.ensures ∙ c.index-rows-number.is)
     (c.as_slice-in-loop-number.ensures ∙ c.index-slots-number.is)
-    (All-from_recursion (λ row. length row < 2 ^ 32) c.args.rows.now c.requires.few c.loop-number.number _ c.loop-number-test.true)
+    (All-from_recursion (λ row. length row < 2 ^ 32) c.args.rows.now c.requires.few c.loop-number.number
+    _ c.loop-number-test.true)
     c.deref.ensures.value c.in_ok-made.ensures.cells c.in_ok-made.ensures.slots c.in_ok-made.ensures.places
     c.in_ok-made.ensures.long
-    (c.in_ok-push.ensures.items ∙ ap (λ (row : List RowCell). c.loop-number.placed.items ++ row ∷ []) c.from_vec.ensures)
-    (c.in_ok-push-2.ensures.items ∙ ap (λ (row : List ℕ). c.loop-number.lists.items ++ row ∷ []) c.from_vec-in-loop-number.ensures)
+    (c.in_ok-push.ensures.items
+    ∙ ap (λ (row : List RowCell). c.loop-number.placed.items ++ row ∷ []) c.from_vec.ensures)
+    (c.in_ok-push-2.ensures.items
+    ∙ ap (λ (row : List ℕ). c.loop-number.lists.items ++ row ∷ []) c.from_vec-in-loop-number.ensures)
     c.loop-number.invariant

@@ -11,7 +11,8 @@ next k = omega arith
 
 -- what holds of row k + 1 as the row after row k
 abbrev EndTells : PlacedView → ℕ → ℕ → Type 0
-EndTells p k n = (v w : Link) (a : User (row_of p k) (row_of p n) v) (b : User (row_of p k) (row_of p n) w) → v.to ≡ w.to
+EndTells p k n = (v w : Link) (a : User (row_of p k) (row_of p n) v) (b : User (row_of p k) (row_of p n) w)
+    → v.to ≡ w.to
     → SameUser (row_of p k) (row_of p n) v w a b
 
 abbrev StartTells : PlacedView → ℕ → ℕ → Type 0

@@ -7,4 +7,5 @@ abbrev line_with : ℕ → List (List ℕ) → Line
 line_with number tokens = record { number = number; tokens = tokens }
 
 pub invariant_of-result : goal.invariant_of-result
-invariant_of-result c = c.statement_in-statement.ensures c.args.number ∙ ap (λ ts. word (line_with c.args.number ts)) c.copy.ensures.same
+invariant_of-result c = c.statement_in-statement.ensures c.args.number
+    ∙ ap (λ ts. word (line_with c.args.number ts)) c.copy.ensures.same
