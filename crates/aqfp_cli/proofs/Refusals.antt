@@ -11,7 +11,8 @@ use Rattle.aqfp_top.specs.Printed.{PrintsFirst}
 
 only_fails : (before after : Output) (line : List ℕ) (why : StoreRefusal) → Remembers after.heard
     → PrintsPart before after line why → PrintsFirst Failed before after line
-only_fails before after line Failed remembers part = record { count = part.count; within = part.within; halts = part.taken }
+only_fails before after line Failed remembers part =
+    record { count = part.count; within = part.within; halts = part.taken }
 only_fails before after line Memory remembers part =
     let refused : memory_refusals after.heard ≡ suc (memory_refusals (took (take part.count line) before.heard)) =
     ap (λ (x : Output). memory_refusals x.heard) part.taken in

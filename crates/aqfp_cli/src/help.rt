@@ -79,4 +79,4 @@ A status above 0 comes with one line on standard error.
 ";
 
 /// The program's name and version.
-pub const VERSION: &str = "aqfp 0.4.1\n";
+pub const VERSION: &str = "aqfp 0.4.2\n";

@@ -13,5 +13,6 @@ returns-clause-reports g c =
     let fault = c.aqfp_run-ending.result.fault in
     let err = c.aqfp_run-ending.new.err in
     reports_failures quiet (output_of err) words fault err.remembers
-    (subst (λ (h : List Event). Reports IsCutShort (record { written = Some (all_taken h); heard = h }) (output_of err) words fault)
+    (subst (λ (h : List Event). Reports IsCutShort (record { written = Some (all_taken h); heard = h })
+    (output_of err) words fault)
     c.new-err.ensures c.aqfp_run-ending.ensures.reports)
