@@ -125,8 +125,7 @@ HasTooMuchOfOwn equations cells Functions count = ⊥
 HasTooMuchOfOwn equations cells Design count = ⊥
 
 -- the plan finds no fault and keeps all limits: the defined one, also where a smaller chip is searched for; or that of
--- the
--- netlist's own cells
+-- the netlist's own cells
 abbrev pub KeepsPlan : Planner → NetView → LibraryView → Type 0
 KeepsPlan Layered equations cells = KeepsLimits equations cells
 KeepsPlan Compact equations cells = KeepsLimits equations cells

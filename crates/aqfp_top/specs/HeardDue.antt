@@ -145,8 +145,7 @@ pub record CutsOut (IsDue : List ℕ → Type 0) (then_heard : List Event) (hear
   pub first : TakesFirst then_heard heard heard' (word_at words 3) bytes
 
 -- What was heard where memory ran out: nothing, before OUT was to be made; or OUT was not made for want of it; or OUT
--- took
--- some first bytes, and the writer wanted it, or the store; or closing was refused for it; or OUT was stored, and
+-- took some first bytes, and the writer wanted it, or the store; or closing was refused for it; or OUT was stored, and
 -- printing wanted it.
 abbrev pub EndsForMemory : (List ℕ → Type 0) → List Event → List Event → List (List ℕ) → Type 0
 EndsForMemory IsDue heard heard' words =

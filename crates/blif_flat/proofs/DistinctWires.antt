@@ -1,6 +1,5 @@
 -- The wires of an expanded model are all different: those of each call stand in its own range of numbers, and those of
--- the
--- model itself have the names that it drives.
+-- the model itself have the names that it drives.
 use Rattle.std.proofs.Common.{◌≡◌, ℕ, zero, suc, ◌+◌, ◌<◌, ◌≤◌, ◌⊎◌, List, [], ◌∷◌, ◌++◌, map, refl, sym, ap, ◌∙◌}
 use Rattle.std.proofs.Common.{subst, arith, inl, inr, sum_by, append_assoc}
 use Rattle.std.specs.List.{AllByRecursion}

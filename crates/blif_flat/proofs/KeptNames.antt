@@ -1,6 +1,5 @@
 -- The names that the netlist of a design keeps are all different: those of wires inside calls begin with a number sign
--- and
--- go on with the wire's number, and no name of a text holds that sign.
+-- and go on with the wire's number, and no name of a text holds that sign.
 use Rattle.std.proofs.Common.{◌≡◌, ℕ, zero, suc, ◌+◌, ◌<◌, ◌≤◌, ◌^◌, false, List, [], ◌∷◌, length, drop, refl, sym, ap}
 use Rattle.std.proofs.Common.{subst, arith}
 use Rattle.std.specs.Fmt.{decimal}

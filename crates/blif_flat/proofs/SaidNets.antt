@@ -1,6 +1,5 @@
 -- A text says at most one netlist, which keeps what netlists do, and one that says a netlist is refused for want of
--- memory
--- alone.
+-- memory alone.
 use Rattle.std.proofs.Common.{◌≡◌, ℕ, ◌≤◌, ◌^◌, Bool, true, false, List, length, refl, sym, ap, ◌∙◌, subst, arith, inl}
 use Rattle.std.proofs.Common.{inr}
 use Rattle.blif_read.specs.Lines.{logical_lines}

@@ -1,6 +1,5 @@
 -- Where no walk comes back to a model that it is in, a chain of calls has no more models than there are, and each of
--- them
--- keeps what models without faults do.
+-- them keeps what models without faults do.
 use Rattle.std.proofs.Common.{◌≡◌, ℕ, zero, suc, ◌+◌, ◌<◌, List, [], ◌∷◌, length, Option, Some, None, refl, sym, ap}
 use Rattle.std.proofs.Common.{◌∙◌, subst, arith, inl, inr}
 use Rattle.std.specs.Prelude.{slice_index_or}

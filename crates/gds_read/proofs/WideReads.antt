@@ -274,8 +274,7 @@ module _ (rs : List Record) (shapes : AllByRecursion (IsShapedIn wide_element) (
       (sym (graph_drawn ss same)) ∙ short n
 
   -- names differ, so each structure is the first of its name, and the first from which a long chain goes down is found
-  -- by
-  -- names
+  -- by names
   all_drawn_short : Speaks wide_stream (kinds rs) → AreGoodIn wide [] rs → wide_whole_fault rs ≡ None → AreOutlined rs
       → (n : ℕ) → goes_down 65 (wide_structures_of rs) n ≡ false
   all_drawn_short grammar good e outlined n =

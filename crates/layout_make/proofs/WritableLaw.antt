@@ -1,6 +1,5 @@
 -- A drawing can be written: its names are distinct, what is referenced holds no reference, and every structure but the
--- top is
--- referenced.
+-- top is referenced.
 use Rattle.std.proofs.Common.{◌≡◌, ◌≢◌, ℕ, zero, suc, ◌+◌, ◌<◌, ◌==◌, ◌||◌, refl, sym, ap, subst, ◌∙◌, arith, inl, inr}
 use Rattle.std.proofs.Common.{List}
 use Rattle.std.proofs.Common.{[], ◌∷◌, ◌++◌, length, length-append, map, Bool, true, false, Some, get_or}

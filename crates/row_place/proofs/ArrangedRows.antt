@@ -1,6 +1,5 @@
 -- Lemmas: rows in the order of given slots are the rows of the net in other orders, so they keep what it keeps and
--- answer
--- as it does.
+-- answer as it does.
 use Rattle.std.specs.Prelude.{◌≡◌, ℕ, zero, suc, ◌<◌, ◌==◌, ◌&&◌, true, false, List, [], ◌∷◌, length, map}
 use Rattle.std.specs.Prelude.{slice_index_or}
 use Rattle.std.proofs.Common.{refl, sym, ap, ◌∙◌, subst, arith}

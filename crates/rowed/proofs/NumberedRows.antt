@@ -1,6 +1,5 @@
 -- Rows of a placed net by their numbers: that row k is the one at place k, that its wires are its fed pins, and that
--- the
--- wires of all channels are short where those of each channel are.
+-- the wires of all channels are short where those of each channel are.
 use Rattle.std.proofs.Common.{◌≡◌, ℕ, zero, suc, ◌+◌, ◌<◌, ◌≤◌, List, [], ◌∷◌, Option, Some, None, length, drop, get_or}
 use Rattle.std.proofs.Common.{slice_get, refl, sym, ap, ◌∙◌, subst, arith, Contains}
 use Rattle.std.specs.Prelude.{slice_index_or, ◌==◌}
