@@ -37,8 +37,7 @@ grown_nothing o = λ i. record { told = told_nothing o.told o.opened i; heard = 
 pub grown_twice : (o : Outside) (p q : List ℕ) → grown q (grown p o) ≡ grown (p ++ q) o
 grown_twice o p q = λ i. record {
   told = told_twice o.told o.opened p q i;
-  heard =
-      took-took o.heard p q i;
+  heard = took-took o.heard p q i;
   opened = o.opened;
 }
 

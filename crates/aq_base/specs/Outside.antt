@@ -17,11 +17,13 @@ pub record Outside : Type 0 where
 
 -- a load of the name gave these bytes, or was refused
 abbrev pub after_load : List ℕ → List ℕ → Result (Unit {0}) LoadRefusal → Outside → Outside
-after_load name bytes result o = record { told = o.told; heard = load_event name bytes result ∷ o.heard; opened = o.opened }
+after_load name bytes result o =
+    record { told = o.told; heard = load_event name bytes result ∷ o.heard; opened = o.opened }
 
 -- the name's file was made empty and is open, or nothing is open
 abbrev pub after_create : List ℕ → Result (Unit {0}) StoreRefusal → Outside → Outside
-after_create name (Ok _) o = record { told = told_with o.told name []; heard = Created name ∷ o.heard; opened = Some name }
+after_create name (Ok _) o =
+    record { told = told_with o.told name []; heard = Created name ∷ o.heard; opened = Some name }
 after_create name (Err why) o = record { told = o.told; heard = NotCreated name why ∷ o.heard; opened = None }
 
 -- the open file was closed, or that failed; nothing is open

@@ -46,7 +46,8 @@ impl Calls {
 
     /// Adds a call that is to fail.
     pub fn fail_at(&mut self, call: u64, keep: u64) -> Result<(), AllocError>
-        ensures ok { OnOk result (self.new.failing.items ≡ self.old.failing.items ++ record { call = call; keep = keep } ∷ []) }
+        ensures ok { OnOk result (self.new.failing.items ≡ self.old.failing.items
+            ++ record { call = call; keep = keep } ∷ []) }
         ensures err { OnErr result (self.new.failing.items ≡ self.old.failing.items) }
         ensures count { self.new.count ≡ self.old.count }
     {

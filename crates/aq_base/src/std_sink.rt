@@ -7,8 +7,8 @@ use crate::std_store::write_all;
 use crate::store::{Sink, StoreRefusal};
 use std::io::Write;
 
-/// A sink over a writer, as standard output. It tells the bytes that the writer took, and takes no memory, so that it is
-/// never refused any.
+/// A sink over a writer, as standard output. It tells the bytes that the writer took, and takes no memory, so that it
+/// is never refused any.
 #[derive(Drop)]
 pub struct StdSink<W> {
     writer: W,
@@ -43,8 +43,11 @@ impl<W: Write> Sink for StdSink<W> {
     fn put(&mut self, piece: &[u8]) -> Result<(), StoreRefusal>
         ensures added { OnOk result (output_of self.new ≡ printed piece.now (output_of self.old)) }
         ensures part { IfErr result (PrintsPart (output_of self.old) (output_of self.new) piece.now) }
-        ensures passes { OnOk result (Appends (W.contents (writer_of self.old)) (W.contents (writer_of self.new)) piece.now) }
-        ensures passes_part { OnErr result (PutsPart (written_of self.old) (written_of self.new) (W.contents (writer_of self.old)) (W.contents (writer_of self.new)) piece.now) }
+        ensures passes { OnOk result
+            (Appends (W.contents (writer_of self.old)) (W.contents (writer_of self.new)) piece.now) }
+        ensures passes_part { OnErr result
+            (PutsPart (written_of self.old) (written_of self.new) (W.contents (writer_of self.old))
+            (W.contents (writer_of self.new)) piece.now) }
         ensures remembers { ¬ IsErrOf result StoreRefusal.Memory }
     {
         let count = match write_all(&mut self.writer, piece) {

@@ -128,8 +128,7 @@ texts_check_print printing told words before after gds lib text lib' text' circu
     let sound : IsSound gds lib text circuit =
     record {
       makes = subst (λ x. MakesCircuit gds x circuit) l makes;
-      says =
-          subst (SaysWords circuit.inputs) t says;
+      says = subst (SaysWords circuit.inputs) t says;
     } in
     out_check_prints printing told words before after gds lib text circuit given result held sound keeps
     (subst (λ x. given ≡ words_of x) t same) wide prints

@@ -240,8 +240,7 @@ out_equal_prints told words before after gds lib net verdict result held found p
       net = net;
       held = held;
       verdict = verdict;
-      found =
-          found;
+      found = found;
       printed = printed;
     }
 

@@ -108,8 +108,7 @@ pub verify_leaves : (o o' : Outside) (words : List (List ℕ)) (fault : Option F
 verify_leaves o o' words fault form kept =
     record {
       make = λ p b. absurd (make_not_verify words (is_make p words b) form);
-      write =
-          λ w. absurd (verify_not_write words form w);
+      write = λ w. absurd (verify_not_write words form w);
       otherwise = λ none other. stands_told o o' kept;
     }
 
@@ -118,8 +117,7 @@ pub trace_leaves : (o o' : Outside) (words : List (List ℕ)) (fault : Option Fa
 trace_leaves o o' words fault form kept =
     record {
       make = λ p b. absurd (make_not_trace words (is_make p words b) form);
-      write =
-          λ w. absurd (trace_not_write words form w);
+      write = λ w. absurd (trace_not_write words form w);
       otherwise = λ none other. stands_told o o' kept;
     }
 
@@ -128,8 +126,7 @@ pub equal_leaves : (o o' : Outside) (words : List (List ℕ)) (fault : Option Fa
 equal_leaves o o' words fault form kept =
     record {
       make = λ p b. absurd (make_not_equal words (is_make p words b) form);
-      write =
-          λ w. absurd (equal_not_write words form w);
+      write = λ w. absurd (equal_not_write words form w);
       otherwise = λ none other. stands_told o o' kept;
     }
 
@@ -139,8 +136,7 @@ write_leaves before after words fault form stands =
     record {
       make = λ p b. absurd (make_not_write words (is_make p words b) form);
       write = λ w. stands;
-      otherwise =
-          λ none other. absurd (other form);
+      otherwise = λ none other. absurd (other form);
     }
 
 pub report_leaves : (o o' : Outside) (words : List (List ℕ)) (fault : Option Fault) → IsReport words
@@ -164,8 +160,7 @@ pub sample_leaves : (held : Option Contents) (words : List (List ℕ)) (bits : �
 sample_leaves held words bits fault form =
     record {
       make = λ p b. absurd (make_not_sample words bits (is_make p words b) form);
-      write =
-          λ w. absurd (write_not_sample words bits w form);
+      write = λ w. absurd (write_not_sample words bits w form);
       otherwise = λ none other. refl;
     }
 
@@ -173,8 +168,7 @@ pub usage_leaves : (held : Option Contents) (words : List (List ℕ)) (fault : O
     → RunStands held held words fault
 usage_leaves held words fault form = record {
   make = λ p b. absurd (form (inl (is_make p words b)));
-  write =
-      λ w. absurd (form (inr (inr (inr (inr (inl w))))));
+  write = λ w. absurd (form (inr (inr (inr (inr (inl w))))));
   otherwise = λ none other. refl;
 }
 

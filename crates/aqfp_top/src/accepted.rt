@@ -92,8 +92,8 @@ pub fn each_netlist_is_written()
 }
 
 /// Where a store has a layout and a library within their lengths, and the layout's shapes keep all rules with the
-/// library's numbers, nothing is due for `report`; and then it prints what is in the chip, but for want of memory and for
-/// faults of the outside.
+/// library's numbers, nothing is due for `report`; and then it prints what is in the chip, but for want of memory and
+/// for faults of the outside.
 pub fn each_report_is_printed()
     ensures due { (files : Contents) (words : List (List ℕ)) (gds lib : List ℕ) (layout : WideLayout)
         (cells : LibraryView) → IsReport words
@@ -108,8 +108,8 @@ pub fn each_report_is_printed()
     one_answer_is_due();
 }
 
-/// Where a store has a layout within its length, and two numbers are below that of its shapes and labels, nothing is due
-/// for `shapes` of these; and then it prints their lines, but for want of memory and for faults of the outside.
+/// Where a store has a layout within its length, and two numbers are below that of its shapes and labels, nothing is
+/// due for `shapes` of these; and then it prints their lines, but for want of memory and for faults of the outside.
 pub fn each_shape_is_shown()
     ensures due { (files : Contents) (words : List (List ℕ)) (gds : List ℕ) (layout : WideLayout) (first second : ℕ)
         → IsShapesOf words first second → files (word_at words 1) ≡ Some gds → length gds ≤ gds_limit

@@ -112,8 +112,8 @@ pub enum Fault {
         number: u64,
         count: u64,
     },
-    /// The netlist is none of cells: the first fault, with the line of its definition, counted from 1; 0 where it is none
-    /// of a definition.
+    /// The netlist is none of cells: the first fault, with the line of its definition, counted from 1; 0 where it is
+    /// none of a definition.
     NotCells {
         line: u64,
         kind: CellFault,

@@ -114,8 +114,8 @@ pub struct JudgedChip {
     pub circuit: Extracted,
 }
 
-/// The layout's shapes and their circuit, where they keep all rules with the numbers of the library; else the first that
-/// is broken. The layout is let go as soon as it is flat.
+/// The layout's shapes and their circuit, where they keep all rules with the numbers of the library; else the first
+/// that is broken. The layout is let go as soon as it is flat.
 pub fn judged(alloc: Global, layout: WideLayout, cells: &Library) -> Result<JudgedChip, Fault>
     requires { IsFlattenable layout }
     ensures ok { IfOk result (IsJudged (wide_flat layout) (limits_of cells.now)) }

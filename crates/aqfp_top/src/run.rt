@@ -156,11 +156,13 @@ pub fn aqfp_run<F: Files, O: Sink, E: Sink>(
 
     // The same of any store, the system's files too: what NET and LIB gave, and what OUT took.
     ensures hears { (planner : Planner) → IsMakeBy planner (spelled words.now) → result.fault ≡ None
-        → HearsChip (F.outside files.old).heard (F.outside files.new).heard (spelled words.now) (O.output out.old) (O.output out.new) }
+        → HearsChip (F.outside files.old).heard (F.outside files.new).heard (spelled words.now) (O.output out.old)
+        (O.output out.new) }
 
     // And by which plan: the defined one, or one that is no larger, or that of the netlist's own cells.
     ensures planned { (planner : Planner) → IsMakeBy planner (spelled words.now) → result.fault ≡ None
-        → HeardBuilt planner (F.outside files.old).heard (F.outside files.new).heard (spelled words.now) (O.output out.old) (O.output out.new) }
+        → HeardBuilt planner (F.outside files.old).heard (F.outside files.new).heard (spelled words.now)
+        (O.output out.old) (O.output out.new) }
 
     // What a check that ends well has shown: the answers to the words, whatever the order of switching and by every
     // clock whose windows keep clear, or the fluxes.
@@ -173,9 +175,11 @@ pub fn aqfp_run<F: Files, O: Sink, E: Sink>(
 
     // The same of any store: what GDS, LIB and WORDS gave.
     ensures hears_answers { IsVerify (spelled words.now) → result.fault ≡ None
-        → HearsAnswers (F.outside files.old).heard (F.outside files.new).heard (spelled words.now) (O.output out.old) (O.output out.new) }
+        → HearsAnswers (F.outside files.old).heard (F.outside files.new).heard (spelled words.now) (O.output out.old)
+        (O.output out.new) }
     ensures hears_fluxes { IsTrace (spelled words.now) → result.fault ≡ None
-        → HearsFluxes (F.outside files.old).heard (F.outside files.new).heard (spelled words.now) (O.output out.old) (O.output out.new) }
+        → HearsFluxes (F.outside files.old).heard (F.outside files.new).heard (spelled words.now) (O.output out.old)
+        (O.output out.new) }
 
     // What a comparison that ends well has shown: that chip and netlist answer every word alike, or where first not.
     ensures compared { (held : Contents) → (F.outside files.old).told ≡ Some held
@@ -184,7 +188,8 @@ pub fn aqfp_run<F: Files, O: Sink, E: Sink>(
 
     // The same of any store: what GDS, LIB and NET gave.
     ensures hears_verdict { IsEqual (spelled words.now) → result.fault ≡ None
-        → HearsVerdict (F.outside files.old).heard (F.outside files.new).heard (spelled words.now) (O.output out.old) (O.output out.new) }
+        → HearsVerdict (F.outside files.old).heard (F.outside files.new).heard (spelled words.now) (O.output out.old)
+        (O.output out.new) }
 
     // What a `netlist` that ends well has stored: the chip's circuit as a netlist that answers every word as it does.
     ensures written { (held : Contents) → (F.outside files.old).told ≡ Some held
@@ -193,25 +198,29 @@ pub fn aqfp_run<F: Files, O: Sink, E: Sink>(
 
     // The same of any store, the system's files too: what GDS and LIB gave, and what OUT took.
     ensures hears_netlist { IsWrite (spelled words.now) → result.fault ≡ None
-        → HearsNetlist (F.outside files.old).heard (F.outside files.new).heard (spelled words.now) (O.output out.old) (O.output out.new) }
+        → HearsNetlist (F.outside files.old).heard (F.outside files.new).heard (spelled words.now) (O.output out.old)
+        (O.output out.new) }
 
     // What a sample that ends well has printed. It asks nothing of the store.
     ensures hears_sample { (bits : ℕ) → IsSampleOf (spelled words.now) bits → result.fault ≡ None
-        → HearsSample bits (F.outside files.old).heard (F.outside files.new).heard (O.output out.old) (O.output out.new) }
+        → HearsSample bits (F.outside files.old).heard (F.outside files.new).heard (O.output out.old)
+        (O.output out.new) }
 
     // What a `report` that ends well has printed: the counts of the chip, its cells by kind, its size and its wires.
     ensures reported { (held : Contents) → (F.outside files.old).told ≡ Some held
         → IsReport (spelled words.now) → result.fault ≡ None
         → ReportsChip held (spelled words.now) (O.output out.old) (O.output out.new) }
     ensures hears_report { IsReport (spelled words.now) → result.fault ≡ None
-        → HearsReport (F.outside files.old).heard (F.outside files.new).heard (spelled words.now) (O.output out.old) (O.output out.new) }
+        → HearsReport (F.outside files.old).heard (F.outside files.new).heard (spelled words.now) (O.output out.old)
+        (O.output out.new) }
 
     // What a `shapes` that ends well has printed: the lines of the shapes or labels of two numbers.
     ensures shown { (held : Contents) (first second : ℕ) → (F.outside files.old).told ≡ Some held
         → IsShapesOf (spelled words.now) first second → result.fault ≡ None
         → ShowsShapes held (spelled words.now) first second (O.output out.old) (O.output out.new) }
     ensures hears_shapes { (first second : ℕ) → IsShapesOf (spelled words.now) first second → result.fault ≡ None
-        → HearsShapes (F.outside files.old).heard (F.outside files.new).heard (spelled words.now) first second (O.output out.old) (O.output out.new) }
+        → HearsShapes (F.outside files.old).heard (F.outside files.new).heard (spelled words.now) first second
+        (O.output out.old) (O.output out.new) }
 
     // What is left.
     ensures stands { RunStands (F.outside files.old).told (F.outside files.new).told (spelled words.now) result.fault }

@@ -133,8 +133,8 @@ fn show_layout<O: Sink>(
     print_lines(alloc, &flat, first, second, out)
 }
 
-// Prints the lines of the two shapes or labels of the layout; or gives the first thing that is wrong with it or with the
-// numbers.
+// Prints the lines of the two shapes or labels of the layout; or gives the first thing that is wrong with it or with
+// the numbers.
 #[tactic(auto, using(crate::proofs::ShowingShapes::shows))]
 fn show<O: Sink>(
     alloc: Global,

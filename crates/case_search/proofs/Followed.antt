@@ -77,8 +77,7 @@ both_contrary v l e f =
 pub majority_impossible : (b : BuilderView) (node : Node) (top p q : ℕ) → Splits b top node → HasBoth node p q
     → AreImpossible b (p ∷ q ∷ turned top ∷ [])
 majority_impossible b node top p q splits both = record {
-  never = λ word v fit are.
-      both_contrary v top (splits.shows word v fit ∙ both.shows v are.0 are.1.0) are.1.1.0;
+  never = λ word v fit are. both_contrary v top (splits.shows word v fit ∙ both.shows v are.0 are.1.0) are.1.1.0;
 }
 
 -- a literal that is known, and the complement of the one that is false

@@ -20,7 +20,8 @@ struct Desk {
     known: Known,
 }
 
-/// What comes of a clash on the first level: that the assumed literals cannot all be true, where the steps to it show it.
+/// What comes of a clash on the first level: that the assumed literals cannot all be true, where the steps to it show
+/// it.
 fn after_last_clash(
     graph: &Builder,
     desk: &mut Desk,
@@ -241,9 +242,9 @@ impl Search {
     }
 
     /// Whether two literals have one value at each word, as `refute` of the one with the complement of the other, both
-    /// ways: the two searches have one cone. `Impossible` says that neither is true where the other is false. Each search
-    /// has the limits. It goes by the facts that the searches before it found, as far as its cone has their nodes, and
-    /// adds its own, which stay true where the graph grows; past a bound it lets go all.
+    /// ways: the two searches have one cone. `Impossible` says that neither is true where the other is false. Each
+    /// search has the limits. It goes by the facts that the searches before it found, as far as its cone has their
+    /// nodes, and adds its own, which stay true where the graph grows; past a bound it lets go all.
     pub fn compare(
         &mut self,
         graph: &Builder,

@@ -90,8 +90,7 @@ module _ (circuit : CircuitView) (ok : KeepsFacts circuit) where
           row = 0;
           phase = 0;
           feed0 = Nothing;
-          feed1 =
-              Nothing;
+          feed1 = Nothing;
           feed2 = Nothing;
         } in
         let cell = get_or circuit.cells c none in
@@ -283,8 +282,7 @@ module _ (circuit : CircuitView) (ok : KeepsFacts circuit) where
       let fed = (ok.cells k cell is).each_feed in
       record {
         first = feed_fits few k cell is cell.feed0 (fed 0);
-        second = feed_fits few k cell is cell.feed1
-            (fed 1);
+        second = feed_fits few k cell is cell.feed1 (fed 1);
         third = feed_fits few k cell is cell.feed2 (fed 2);
       }
 

@@ -56,16 +56,14 @@ cells zero cell is = subst (IsCellOf first_circuit) (same_Some lower_buffer cell
     (record {
       row_is = omega arith;
       phase_is = refl;
-      feeds = one_input lower_buffer
-          (λ e. absurd cc) refl refl;
+      feeds = one_input lower_buffer (λ e. absurd cc) refl refl;
       each_feed = lower_each;
     })
 cells (suc zero) cell is = subst (IsCellOf first_circuit) (same_Some upper_buffer cell is)
     (record {
       row_is = omega arith;
       phase_is = refl;
-      feeds = one_input upper_buffer
-          (λ e. absurd cc) refl refl;
+      feeds = one_input upper_buffer (λ e. absurd cc) refl refl;
       each_feed = upper_each;
     })
 cells (suc (suc c)) cell is = absurd cc
@@ -111,8 +109,7 @@ unfolding first_circuit
 each_input zero lt = record {
   number = 0;
   input = 0;
-  fed =
-      record { cell = lower_buffer; cell_is = refl; feed_is = refl };
+  fed = record { cell = lower_buffer; cell_is = refl; feed_is = refl };
 }
 each_input (suc n) lt = absurd (omega arith)
 

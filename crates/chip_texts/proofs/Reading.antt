@@ -156,8 +156,7 @@ pub runs_on : (text rest : List ℕ) (word : List Bool) (is_given : Bool) (time 
     new ≡ record {
       circuit = old.circuit;
       time = old.time + 1;
-      fluxes = settled_tick old.circuit
-          (present_word is_given word) old.time old.fluxes;
+      fluxes = settled_tick old.circuit (present_word is_given word) old.time old.fluxes;
     } → IsRunning text rest word is_given new
 runs_on text rest word is_given time old new at fed settled made =
     subst (IsRunning text rest word is_given) (sym made) (record {
@@ -167,7 +166,8 @@ runs_on text rest word is_given time old new at fed settled made =
         to_enter = fed.to_enter ∙ ap (λ t. drop (entered (t + 1)) (lines text)) at;
         present = λ later. ap (slice_get (words_of text)) (omega (arith, later, at)) ∙ fed.present;
       };
-      settled = rw settled (ap (λ w. settled_tick old.circuit w old.time (settled_run old.circuit (words_of text) old.time))
+      settled = rw settled
+          (ap (λ w. settled_tick old.circuit w old.time (settled_run old.circuit (words_of text) old.time))
           (sym (ap (λ t. slice_get (words_of text) (t / 4)) (sym at) ∙ fed.present))
           ∙ ap (settled_run old.circuit (words_of text)) (sym (add-one old.time)));
     })

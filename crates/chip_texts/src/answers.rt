@@ -54,9 +54,9 @@ fn block_of(words: u64, done: u64) -> u32
     u64::from(LANES).min(words - done) as u32
 }
 
-/// Prints the counts line of a circuit, and for each word the answer that the circuit's settled run shows: every run shows
-/// the answer of the circuit's functions, so these are evaluated. The words have a value for each input. On a refusal some
-/// first bytes of that text were put.
+/// Prints the counts line of a circuit, and for each word the answer that the circuit's settled run shows: every run
+/// shows the answer of the circuit's functions, so these are evaluated. The words have a value for each input. On a
+/// refusal some first bytes of that text were put.
 pub fn print_answers<O: Sink>(
     alloc: Global,
     circuit: &Extracted,

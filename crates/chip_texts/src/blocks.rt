@@ -1,5 +1,6 @@
 // Blocks of up to 128 words: they are read off lines, and their answers are printed as lines.
-ghost use Rattle.std.specs.Prelude.{◌≡◌, ◌≢◌, ◌<◌, ◌≤◌, ◌++◌, ℕ, List, Bool, All, length, drop, slice_index_or, OnOk, IfErr, []};
+ghost use Rattle.std.specs.Prelude.{◌≡◌, ◌≢◌, ◌<◌, ◌≤◌, ◌++◌, ℕ, List, Bool, All, length, drop, slice_index_or, OnOk};
+ghost use Rattle.std.specs.Prelude.{IfErr, []};
 ghost use Rattle.std.specs.Str.Lines.{lines};
 ghost use Rattle.bit_tables.specs.Tables.{holds};
 ghost use Rattle.chip_circuit.specs.Answers.{IsAnswer};
@@ -78,7 +79,8 @@ pub fn enter_block<'a>(text: &'a [u8], count: u32, lanes: &mut Lanes) -> &'a [u8
     requires wide { All (λ line. length line ≡ length lanes.old.words.items) (lines text.now) }
     ensures left { lines result.now ≡ drop count (lines text.now) }
     ensures long { length lanes.new.words.items ≡ length lanes.old.words.items }
-    ensures words { (l : ℕ) → l < count → in_lane l lanes.new.words.items ≡ word_of (slice_index_or (lines text.now) l []) }
+    ensures words { (l : ℕ) → l < count
+        → in_lane l lanes.new.words.items ≡ word_of (slice_index_or (lines text.now) l []) }
 {
     next_words(text, count, lanes.words.as_mut_slice())
 }
@@ -143,9 +145,12 @@ pub fn print_block<O: Sink>(
 ) -> Result<(), StoreRefusal>
     requires { count ≤ 128 }
     ensures words { lanes.new.words.items ≡ lanes.old.words.items }
-    ensures put { (answer : ℕ → List Bool) → ((l : ℕ) → l < count → IsAnswer circuit.now (in_lane l lanes.old.words.items) (answer l))
-        → OnOk result (PrintsLine (O.output out.old) (O.output out.new) page.old.items page.new.items (lines_of answer count)) }
-    ensures refused { (answer : ℕ → List Bool) → ((l : ℕ) → l < count → IsAnswer circuit.now (in_lane l lanes.old.words.items) (answer l))
+    ensures put { (answer : ℕ → List Bool)
+        → ((l : ℕ) → l < count → IsAnswer circuit.now (in_lane l lanes.old.words.items) (answer l))
+        → OnOk result
+        (PrintsLine (O.output out.old) (O.output out.new) page.old.items page.new.items (lines_of answer count)) }
+    ensures refused { (answer : ℕ → List Bool)
+        → ((l : ℕ) → l < count → IsAnswer circuit.now (in_lane l lanes.old.words.items) (answer l))
         → IfErr result (RefusesLine (O.output out.old) (O.output out.new) page.old.items (lines_of answer count)) }
 {
     circuit.known();

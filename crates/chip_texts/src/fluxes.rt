@@ -47,7 +47,8 @@ fn add_signs(
     requires few { length cells.now < 2 ^ 32 }
     requires rising { IsNonDecreasingBy (λ cell. cell.row) cells.now }
     requires first { IsRowStart cells.now row first }
-    ensures signs { IfOk result (λ next. page.new.items ≡ page.old.items ++ signs_in row cells.now (settled_run run.now.circuit run.now.words run.now.time)) }
+    ensures signs { IfOk result (λ next. page.new.items ≡ page.old.items
+        ++ signs_in row cells.now (settled_run run.now.circuit run.now.words run.now.time)) }
     ensures next { IfOk result (λ next. IsRowStart cells.now (row + 1) next) }
 {
     let mut next = first;
@@ -72,7 +73,8 @@ fn add_row(
     requires few { length cells.now < 2 ^ 32 }
     requires rising { IsNonDecreasingBy (λ cell. cell.row) cells.now }
     requires first { IsRowStart cells.now row first }
-    ensures line { IfOk result (λ next. page.new.items ≡ page.old.items ++ flux_line time row (signs_in row cells.now (settled_run run.now.circuit run.now.words run.now.time))) }
+    ensures line { IfOk result (λ next. page.new.items ≡ page.old.items
+        ++ flux_line time row (signs_in row cells.now (settled_run run.now.circuit run.now.words run.now.time))) }
     ensures next { IfOk result (λ next. IsRowStart cells.now (row + 1) next) }
 {
     let head = format!(in alloc; "{time} {row} ")?;
@@ -92,7 +94,8 @@ fn add_rows(
 ) -> Result<(), Memory>
     requires circuit { run.now.circuit ≡ circuit.now }
     requires time { run.now.time ≡ time + 1 }
-    ensures { OnOk result (page.new.items ≡ page.old.items ++ row_lines circuit.now time (settled_run circuit.now run.now.words (time + 1)) circuit.now.rows) }
+    ensures { OnOk result (page.new.items ≡ page.old.items
+        ++ row_lines circuit.now time (settled_run circuit.now run.now.words (time + 1)) circuit.now.rows) }
 {
     circuit.known();
     let cells = circuit.cells.as_slice();
@@ -161,8 +164,9 @@ fn ticks_for(delay: u64, words: u64) -> u64
     }
 }
 
-/// Prints the counts line of a circuit, and the flux of each cell of each row at each time of the settled run, until the
-/// last word is answered. The words have a value for each input. On a refusal some first bytes of that text were put.
+/// Prints the counts line of a circuit, and the flux of each cell of each row at each time of the settled run, until
+/// the last word is answered. The words have a value for each input. On a refusal some first bytes of that text were
+/// put.
 pub fn print_fluxes<O: Sink>(
     alloc: Global,
     circuit: &Extracted,
@@ -171,7 +175,8 @@ pub fn print_fluxes<O: Sink>(
 ) -> Result<(), StoreRefusal>
     requires { All (λ word. length word ≡ circuit.now.inputs) words.now }
     ensures added { OnOk result (O.output out.new ≡ printed (trace_text circuit.now words.now) (O.output out.old)) }
-    ensures part { IfErr result (PrintsWithin (O.output out.old) (O.output out.new) (trace_text circuit.now words.now)) }
+    ensures part { IfErr result
+        (PrintsWithin (O.output out.old) (O.output out.new) (trace_text circuit.now words.now)) }
 {
     circuit.known();
     let Ok(tracing) = begin(alloc, circuit, words) else {

@@ -114,7 +114,8 @@ fn put_answers(outputs: &[Source], values: &[u128], answers: &mut Vec<u128>) -> 
 /// Puts the circuit's answer to the word of each lane.
 pub fn answer_lanes(circuit: &Extracted, lanes: &mut Lanes) -> Result<(), Memory>
     ensures words { lanes.new.words.items ≡ lanes.old.words.items }
-    ensures answers { OnOk result ((l : ℕ) → l < 128 → IsAnswer circuit.now (in_lane l lanes.new.words.items) (in_lane l lanes.new.answers.items)) }
+    ensures answers { OnOk result ((l : ℕ) → l < 128
+        → IsAnswer circuit.now (in_lane l lanes.new.words.items) (in_lane l lanes.new.answers.items)) }
 {
     circuit.known();
     put_values(

@@ -48,7 +48,8 @@ pub fn blank_word(alloc: Global, width: u32) -> Result<Word, Memory>
 /// The next word enters where the time is its own; what is left of the text, and whether a word is present.
 fn enter<'a>(time: u64, rest: &'a [u8], is_given: bool, word: &mut Word) -> (&'a [u8], bool)
     requires { All (λ line. length line ≡ length word.old) (lines rest.now) }
-    ensures { (text : List ℕ) (width : ℕ) → IsWaiting text rest.now word.old is_given time width → IsFed text result.0.now word.new result.1 time width }
+    ensures { (text : List ℕ) (width : ℕ) → IsWaiting text rest.now word.old is_given time width
+        → IsFed text result.0.now word.new result.1 time width }
 {
     if time % 4 != 0 {
         return (rest, is_given);
@@ -65,7 +66,12 @@ fn enter<'a>(time: u64, rest: &'a [u8], is_given: bool, word: &mut Word) -> (&'a
 fn give(pulses: &mut Pulses, word: &Word, is_given: bool)
     requires wide { length word.now ≡ pulses.old.circuit.inputs }
     requires time { pulses.old.time < 2 ^ 60 }
-    ensures { pulses.new ≡ record { circuit = pulses.old.circuit; time = pulses.old.time + 1; fluxes = settled_tick pulses.old.circuit (present_word is_given word.now) pulses.old.time pulses.old.fluxes } }
+    ensures { pulses.new
+        ≡ record {
+          circuit = pulses.old.circuit;
+          time = pulses.old.time + 1;
+          fluxes = settled_tick pulses.old.circuit (present_word is_given word.now) pulses.old.time pulses.old.fluxes;
+        } }
 {
     if is_given {
         pulses.step(Some(word));

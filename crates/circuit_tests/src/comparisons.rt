@@ -128,8 +128,8 @@ fn is_right(
     }
 }
 
-// A circuit of fewer than 32 inputs whose last gate is true at one word alone: gate `inputs` is false, the next one true,
-// and then each input, or its complement, is joined to what stands before.
+// A circuit of fewer than 32 inputs whose last gate is true at one word alone: gate `inputs` is false, the next one
+// true, and then each input, or its complement, is joined to what stands before.
 fn at_word(alloc: Global, inputs: u32, number: u32) -> Result<Vec<Gate>, Memory>
     requires { inputs < 32 }
 {

@@ -47,7 +47,8 @@ fn output(alloc: Global, pulses: &Pulses) -> Result<bool, Memory>
     Ok(*shown.get(0))
 }
 
-/// Ticks of the chip with a bit of a word, or without, beside the fluxes of the two buffers and the value at the output.
+/// Ticks of the chip with a bit of a word, or without, beside the fluxes of the two buffers and the value at the
+/// output.
 #[test]
 fn first_chip_runs(rt: HostRuntime) -> Result<(), Fail> {
     let circuit = two_buffers(rt.alloc())?;

@@ -1,5 +1,5 @@
-//! The plan of a compact chip: a chip that is searched for, where it is no larger than that of the defined plan, and else
-//! that.
+//! The plan of a compact chip: a chip that is searched for, where it is no larger than that of the defined plan, and
+//! else that.
 #![tactic(auto)]
 
 mod compact;

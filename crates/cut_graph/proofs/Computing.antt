@@ -37,8 +37,7 @@ pub leaf_computes : (graph : GraphView) (leaves : List ℕ) (place node table : 
     → slice_get leaves place ≡ Some node → table ≡ mask place → Computes graph leaves node table
 leaf_computes graph leaves place node table few is e =
     record {
-      value =
-          λ word v fit. sym (ap (λ t. holds t (index (map v leaves))) e ∙ leaf_bit leaves v place node few is);
+      value = λ word v fit. sym (ap (λ t. holds t (index (map v leaves))) e ∙ leaf_bit leaves v place node few is);
     }
 
 -- the sign of a literal on a table
@@ -101,8 +100,7 @@ pub none_entry : (b : BuilderView) (leaves : List ℕ) → IsEntry b leaves (rec
 none_entry b leaves more few =
     record {
       below = omega arith;
-      shows = λ word v fit. zero_value v fit.none
-          ∙ sym (holds_none (index (map (literal_value v) leaves ++ more)));
+      shows = λ word v fit. zero_value v fit.none ∙ sym (holds_none (index (map (literal_value v) leaves ++ more)));
     }
 
 there_at : (b : BuilderView) (ls : List ℕ) (k l : ℕ) → AllThere b ls → slice_get ls k ≡ Some l → l < limit b

@@ -47,20 +47,17 @@ node_same s t p q r =
     let a : record { level = s.level; low = s.low; high = s.high } ≡ record {
       level = t.level;
       low = s.low;
-      high =
-          s.high;
+      high = s.high;
     } = ap (λ (i : ℕ). let u : Node = record { level = i; low = s.low; high = s.high } in u) p in
     let b : record { level = t.level; low = s.low; high = s.high } ≡ record {
       level = t.level;
       low = t.low;
-      high =
-          s.high;
+      high = s.high;
     } = ap (λ (i : ℕ). let u : Node = record { level = t.level; low = i; high = s.high } in u) q in
     let c : record { level = t.level; low = t.low; high = s.high } ≡ record {
       level = t.level;
       low = t.low;
-      high =
-          t.high;
+      high = t.high;
     } = ap (λ (g : Edge). let u : Node = record { level = t.level; low = t.low; high = g } in u) r in
     a ∙ b ∙ c
 

@@ -65,8 +65,7 @@ module _ (old new : List Node) (ok : IsDiagram old) (ok' : IsDiagram new) (grows
       let t : Node = record {
         level = level;
         low = low.node;
-        high =
-            record { node = high.node; complemented = flip low.complemented high.complemented };
+        high = record { node = high.node; complemented = flip low.complemented high.complemented };
       } in
       let same : node_at new i ≡ t = test
       ∙ ap (λ (e : Edge). let u : Node = record { level = level; low = low.node; high = e } in u) is in
@@ -92,8 +91,7 @@ module _ (old new : List Node) (ok : IsDiagram old) (ok' : IsDiagram new) (grows
           name = m.name;
           is_name = m.is_name;
           complemented = m.complemented;
-          same = λ x long. m.same x long
-              ∙ ap (flip m.complemented) (sym (grown_node x i less));
+          same = λ x long. m.same x long ∙ ap (flip m.complemented) (sym (grown_node x i less));
         })
     | inr ge ↦
         (let at : e.node ≡ i = omega arith in

@@ -102,14 +102,12 @@ module _ (nodes : List Node) (read : List Bool → List Bool) (a b : PlainView) 
         same_outputs = outputs;
         there = λ x y long answer. record {
           values = value b.gates x;
-          fit =
-              value_fits b.inputs b.gates cells'.gates_read x;
+          fit = value_fits b.inputs b.gates cells'.gates_read x;
           shown = the_answer a x y cells answer ∙ maps x;
         };
         back = λ x y long answer. record {
           values = value a.gates x;
-          fit =
-              value_fits a.inputs a.gates cells.gates_read x;
+          fit = value_fits a.inputs a.gates cells.gates_read x;
           shown = the_answer b x y cells' answer ∙ sym (maps x);
         };
       }

@@ -21,13 +21,11 @@ pub edge_same : (e f : Edge) → e.node ≡ f.node → e.complemented ≡ f.comp
 edge_same e f p q =
     let a : record { node = e.node; complemented = e.complemented } ≡ record {
       node = f.node;
-      complemented =
-          e.complemented;
+      complemented = e.complemented;
     } = ap (λ (i : ℕ). let r : Edge = record { node = i; complemented = e.complemented } in r) p in
     let b : record { node = f.node; complemented = e.complemented } ≡ record {
       node = f.node;
-      complemented =
-          f.complemented;
+      complemented = f.complemented;
     } = ap (λ (c : Bool). let r : Edge = record { node = f.node; complemented = c } in r) q in
     a ∙ b
 

@@ -81,8 +81,7 @@ making_begins nodes edges gates empty = record {
   values = record {
     size = ap length empty;
     inside = λ i lt. absurd (omega arith);
-    values =
-        λ i lt. absurd (omega arith);
+    values = λ i lt. absurd (omega arith);
   };
   named = λ a b second inputs same named. named;
 }
@@ -119,8 +118,7 @@ module _ (start now : List Node) (ok : IsDiagram start) (ok' : IsDiagram now) (e
   gate_named read same a b second is = record {
     name = record { second = second; gate = count; values = [] };
     is_name = record {
-      gate_within = subst (λ (gs : List Gate). count < length gs)
-          (sym is) within;
+      gate_within = subst (λ (gs : List Gate). count < length gs) (sym is) within;
       values_within = omega arith;
     };
     complemented = false;

@@ -24,8 +24,7 @@ named_same a b f g named same =
       name = named.name;
       is_name = named.is_name;
       complemented = named.complemented;
-      same =
-          λ x long. named.same x long ∙ ap (flip named.complemented) (same x);
+      same = λ x long. named.same x long ∙ ap (flip named.complemented) (same x);
     }
 
 -- a function that does not read the inputs up to v, and is a named one where input v is so
@@ -180,8 +179,7 @@ module _ (a b : PlainView) (nodes : List Node) (ok : IsDiagram nodes) (inputs : 
         record {
           named = each_name (suc most) lt;
           distinct = each_two (suc most) lt;
-          varied =
-              each_varied (suc most) lt;
+          varied = each_varied (suc most) lt;
         },
       )
 

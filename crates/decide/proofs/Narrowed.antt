@@ -84,7 +84,8 @@ has_difference old one two new ok ok' ok'' grows grows' f g f' g' both both' nei
       from = has.from;
       value = λ x. has.value x
           ∙ neither_both (edge_value old x f) (edge_value old x g) (edge_value two x both') (edge_value two x neither')
-          (complement_value two both both' x bs ∙ ap not (grown_value one two ok' ok'' grows' x both b.inside ∙ b.value x))
+          (complement_value two both both' x bs ∙ ap not
+          (grown_value one two ok' ok'' grows' x both b.inside ∙ b.value x))
           (complement_value two neither neither' x ns ∙ ap not (n.value x
           ∙ and_same (edge_value one x f') (edge_value one x g') (not (edge_value old x f)) (not (edge_value old x g))
           (complement_value one f f' x fs ∙ ap not (grown_value old one ok ok' grows x f fin))

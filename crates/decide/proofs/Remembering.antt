@@ -29,8 +29,7 @@ module _ (old new : List Node) (ok : IsDiagram old) (ok' : IsDiagram new) (grows
   pub edges_grown : (t : Triple) → AreEdges old t → AreEdges new t
   edges_grown t e = record {
     first = inside_grown t.first.node e.first;
-    second =
-        inside_grown t.second.node e.second;
+    second = inside_grown t.second.node e.second;
     third = inside_grown t.third.node e.third;
   }
 

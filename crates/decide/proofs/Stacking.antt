@@ -170,8 +170,7 @@ module _ (nodes : List Node) (ok : IsDiagram nodes) where
   pub waits_high : (stack more : List Frame) (frame : Frame) (cofactor : Triple) (edge : Edge) (last : List Bool → Bool)
       → frame.low ≡ None → more ≡ stack ++ record {
         operands = frame.operands;
-        level =
-            frame.level;
+        level = frame.level;
         low = Some edge;
       } ∷ []
       → cofactor ≡ cofactors nodes frame.operands frame.level true → Joins nodes frame edge

@@ -36,7 +36,8 @@ impl Both {
         ensures first { IfOk result
             (λ both. AreValues both.diagram.table.nodes.keys both.first.items gates.now (length gates.now)) }
         ensures second { IfOk result
-            (λ both. AreValues both.diagram.table.nodes.keys both.second.items other_gates.now (length other_gates.now)) }
+            (λ both. AreValues both.diagram.table.nodes.keys both.second.items other_gates.now
+            (length other_gates.now)) }
         ensures refusal { (outputs other_outputs : List ℕ) → IfErr result
             (IsRefusal (circuit inputs gates.now outputs) (circuit inputs other_gates.now other_outputs)) }
     {

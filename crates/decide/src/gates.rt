@@ -33,7 +33,8 @@ impl Diagram {
             (Represents self.new.table.nodes.keys 0 (gate_function self.old.table.nodes.keys edges.now gate)) }
         ensures named { (a b : PlainView) → inputs_of self.old.table.nodes.keys ≡ a.inputs
             → AreNamed a b self.old.table.nodes.keys
-            → IsNamed a b (gate_function self.old.table.nodes.keys edges.now gate) → AreNamed a b self.new.table.nodes.keys }
+            → IsNamed a b (gate_function self.old.table.nodes.keys edges.now gate)
+            → AreNamed a b self.new.table.nodes.keys }
         ensures full { IfErr result (IsFull self.new.table.nodes.keys) }
     {
         match gate {
@@ -60,7 +61,8 @@ impl Diagram {
         ensures values { IfOk result
             (λ edges. AreValues self.new.table.nodes.keys edges.items gates.now (length gates.now)) }
         ensures named { (a b : PlainView) (second : Bool) → inputs_of self.old.table.nodes.keys ≡ a.inputs
-            → gates_of a b second ≡ gates.now → AreNamed a b self.old.table.nodes.keys → AreNamed a b self.new.table.nodes.keys }
+            → gates_of a b second ≡ gates.now → AreNamed a b self.old.table.nodes.keys
+            → AreNamed a b self.new.table.nodes.keys }
         ensures full { IfErr result (IsFull self.new.table.nodes.keys) }
     {
         let mut edges = Vec::with_capacity(alloc, gates.len())?;

@@ -72,7 +72,8 @@ impl Diagram {
             (Represents self.new.table.nodes.keys frame.level
             (majority_value self.old.table.nodes.keys frame.operands)) }
         ensures named { (a b : PlainView) → AreNamed a b self.old.table.nodes.keys
-            → IsNamed a b (majority_value self.old.table.nodes.keys frame.operands) → AreNamed a b self.new.table.nodes.keys }
+            → IsNamed a b (majority_value self.old.table.nodes.keys frame.operands)
+            → AreNamed a b self.new.table.nodes.keys }
         ensures full { IfErr result (IsFull self.new.table.nodes.keys) }
     {
         let edge = self.choice(frame.level, low, high)?;
@@ -97,7 +98,8 @@ impl Diagram {
         ensures falls { IfOk result (λ t. turns_left self.new.table.nodes.keys stack.new.items t
             < turns_left self.old.table.nodes.keys (stack.old.items ++ frame ∷ []) (turn.Made edge)) }
         ensures named { (a b : PlainView) → AreNamed a b self.old.table.nodes.keys
-            → IsNamed a b (majority_value self.old.table.nodes.keys frame.operands) → AreNamed a b self.new.table.nodes.keys }
+            → IsNamed a b (majority_value self.old.table.nodes.keys frame.operands)
+            → AreNamed a b self.new.table.nodes.keys }
         ensures full { IfErr result (IsFull self.new.table.nodes.keys) }
     {
         match frame.low {

@@ -21,8 +21,8 @@ pub enum Verdict {
     /// `output` is the number, from 0, of the least output on which some word gives different values, and `word` the
     /// least such word: input 0 decides first, and false comes before true.
     Differ { output: u32, word: Word },
-    /// `output` is the number of an output that differs at `word`. Lower outputs may differ too, and lesser words may show
-    /// it: the two circuits have more than 1,000,000 subfunctions. `decide` never says so.
+    /// `output` is the number of an output that differs at `word`. Lower outputs may differ too, and lesser words may
+    /// show it: the two circuits have more than 1,000,000 subfunctions. `decide` never says so.
     Differs { output: u32, word: Word },
 }
 

@@ -175,8 +175,7 @@ module _ (p : PlacedView) (l : LibraryView) (law : TracksLaw) (may : MayDraw p l
           (Frame h.0 at.spot.slot at.spot.cell.kind) at.at (frame_place h.0 h.1 at.spot at.place) in
           record {
             place = cells_below p h.0 + h.1;
-            there = frame_there h.0 h.1 at.spot at.place
-                ∙ ap (λ (n : ℕ). Some n) (sym same);
+            there = frame_there h.0 h.1 at.spot at.place ∙ ap (λ (n : ℕ). Some n) (sym same);
           }
 
       before_so : (s t : Shape) (f g : ℕ) → (int_lt s.rect.y0 t.rect.y0 ≡ true)
@@ -314,8 +313,7 @@ module _ (p : PlacedView) (l : LibraryView) (law : TracksLaw) (may : MayDraw p l
                 pin = out;
                 pin_is = shape_is p l is laws ports d.pin
                     (OutPin q (out_column l d.out_at.spot d.source.output) d.source.output) d.out_at.at;
-                of_layer =
-                    refl;
+                of_layer = refl;
                 joined = Joined-back (flat_shapes p l) d.pin m d.joined;
               };
           only = λ k source. d.only k source.pin source.pin_is source.of_layer
@@ -489,8 +487,7 @@ module _ (p : PlacedView) (l : LibraryView) (law : TracksLaw) (may : MayDraw p l
                   record {
                     label = output_label p l n;
                     pin = mark.4.pin;
-                    label_is = output_label_at p l is laws ports n
-                        lt;
+                    label_is = output_label_at p l is laws ports n lt;
                     pin_is = mark.4.pin_is;
                     marks_so = mark.4.marked;
                   };

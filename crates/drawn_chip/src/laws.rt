@@ -30,7 +30,8 @@ pub fn drawing_circuit()
 /// The bytes of the drawing of a net that has no more elements than a chip may have are a stream whose shapes keep
 /// all rules, and whose circuit has the net's rows, cells, wires, inputs and outputs. The circuit shows the net's
 /// answer to every word, one tick later for each row but the lowest, in whatever order the cells of a tick switch, and
-/// by every clock whose windows keep clear at each cell and its feeds. It keeps what every extracted circuit keeps, and the shapes and bytes are few enough to be read back.
+/// by every clock whose windows keep clear at each cell and its feeds. It keeps what every extracted circuit keeps, and
+/// the shapes and bytes are few enough to be read back.
 pub fn drawn_chip_realises()
     ensures chip { (p : PlacedView) (l : LibraryView) → MayDraw p l → element_number p ≤ element_limit
         → RealisesNet p l }

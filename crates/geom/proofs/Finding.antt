@@ -47,8 +47,7 @@ pub among_all : (spots : List Spot) (from to n : ℕ) (rect : Rectangle) (margin
 among_all spots from to n rect margin old new all are = record {
   kept = are.kept;
   sound = are.sound;
-  complete =
-      λ p s le lt is near. are.complete p s le (omega arith) is near;
+  complete = λ p s le lt is near. are.complete p s le (omega arith) is near;
 }
 
 -- ---- what is passed over

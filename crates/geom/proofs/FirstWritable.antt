@@ -74,16 +74,14 @@ top_is = record {
                             layer = lit< tt;
                             x = sfits_lit tt;
                             y = sfits_lit tt;
-                            written = text_of _ tt tt
-                                (lit< tt, (lit< tt, tt));
+                            written = text_of _ tt tt (lit< tt, (lit< tt, tt));
                           },
                           (
                             record {
                               layer = lit< tt;
                               x = sfits_lit tt;
                               y = sfits_lit tt;
-                              written = text_of _ tt tt
-                                  (lit< tt, (lit< tt, tt));
+                              written = text_of _ tt tt (lit< tt, (lit< tt, tt));
                             },
                             tt,
                           ),

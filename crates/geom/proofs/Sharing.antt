@@ -17,15 +17,13 @@ in_both a0 a1 b0 b1 p q r s = by_lt_z a0 b0
       at = b0;
       right_of_a = omega (arith, ints);
       left_of_a = s;
-      right_of_b =
-          omega (arith, ints);
+      right_of_b = omega (arith, ints);
       left_of_b = omega (arith, ints);
     })
     (λ h. record {
       at = a0;
       right_of_a = omega (arith, ints);
-      left_of_a =
-          omega (arith, ints);
+      left_of_a = omega (arith, ints);
       right_of_b = h;
       left_of_b = r;
     })

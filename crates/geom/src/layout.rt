@@ -20,7 +20,8 @@ pub struct Structure {
     pub elements: List<Element>,
 }
 
-/// The structures of a stream in order, and the number of the top, which no structure refers to. Structures are numbered from 0.
+/// The structures of a stream in order, and the number of the top, which no structure refers to. Structures are
+/// numbered from 0.
 #[derive(Clone, Drop, PartialEq)]
 pub struct Layout {
     pub structures: List<Structure>,

@@ -110,10 +110,10 @@ fn both_chains(alloc: Global, net: &Netlist, graph: Graph) -> Result<Vec<Graph>,
     Ok(graphs)
 }
 
-/// Graphs with the answers of a netlist, to choose a chip from: first its graph by cuts of three inputs, and up to seven
-/// that are made of it one after the other, each with fewer levels; then likewise its graph without cuts. Nothing is
-/// promised of how many there are, or of their sizes: there is none where the first graph has more than 4,000,000 nodes.
-/// They are refused for want of memory alone.
+/// Graphs with the answers of a netlist, to choose a chip from: first its graph by cuts of three inputs, and up to
+/// seven that are made of it one after the other, each with fewer levels; then likewise its graph without cuts. Nothing
+/// is promised of how many there are, or of their sizes: there is none where the first graph has more than 4,000,000
+/// nodes. They are refused for want of memory alone.
 pub fn graph_variants(alloc: Global, net: &Netlist) -> Result<Vec<Graph>, Memory>
     ensures { IfOk result (λ graphs. AreGraphsOf net.now graphs.items) }
 {

@@ -17,7 +17,8 @@ struct Keyed {
 /// The numbers from 0 on, one for each of these keys, by rising key; those of one key rise.
 pub fn order_by(alloc: Global, keys: &[u64]) -> Result<Vec<u32>, Memory>
     requires { length keys.now < 2 ^ 32 }
-    ensures { IfOk result (λ order. order.items ≡ by_key (λ c. slice_index_or keys.now c 0) (numbers 0 (length keys.now))) }
+    ensures { IfOk result (λ order. order.items
+        ≡ by_key (λ c. slice_index_or keys.now c 0) (numbers 0 (length keys.now))) }
 {
     let mut keyed = Vec::with_capacity(alloc, keys.len())?;
     for (number, key) in keys.iter().enumerate() {

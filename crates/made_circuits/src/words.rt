@@ -5,8 +5,8 @@ use aq_base::{List, Memory};
 use circuit::Word;
 use std::alloc::Global;
 
-/// The word of this number of so many inputs: input 0 is its highest digit, and where there are more than 32 inputs, digits
-/// repeat. It is refused for want of memory alone.
+/// The word of this number of so many inputs: input 0 is its highest digit, and where there are more than 32 inputs,
+/// digits repeat. It is refused for want of memory alone.
 pub fn numbered_word(alloc: Global, inputs: u32, number: u32) -> Result<Word, Memory>
     ensures { IfOk result (λ word. length word ≡ inputs) }
 {

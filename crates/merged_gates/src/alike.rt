@@ -51,8 +51,8 @@ fn are_one_graph(alloc: Global, one: &Cells, other: &Cells) -> Result<bool, Grap
 
 /// Whether two circuits of the same counts are alike by their structure. Their gates are made into one graph of
 /// majorities, where an inverter turns a literal and a buffer keeps it, and the literals of their outputs are compared.
-/// `true` says that both have the same answers to every word; `false` says nothing, and comes also where the graph would
-/// have 2^30 nodes. The time grows with the number of gates.
+/// `true` says that both have the same answers to every word; `false` says nothing, and comes also where the graph
+/// would have 2^30 nodes. The time grows with the number of gates.
 pub fn are_alike(alloc: Global, one: &Cells, other: &Cells) -> Result<bool, Memory>
     requires inputs { other.now.inputs ≡ one.now.inputs }
     requires outputs { length other.now.outputs ≡ length one.now.outputs }

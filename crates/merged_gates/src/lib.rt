@@ -1,7 +1,7 @@
 //! Whether two circuits are alike: the gates of both are made into one graph of majorities, in which gates of the same
 //! function that are made alike have one literal. Then nodes that have the same values at many words are compared by
-//! searches, and merged where they are alike; where some differ, further searches find the least word. What is left goes
-//! to the decision diagram.
+//! searches, and merged where they are alike; where some differ, further searches find the least word. What is left
+//! goes to the decision diagram.
 #![tactic(auto)]
 
 mod alike;

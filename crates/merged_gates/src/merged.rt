@@ -3,7 +3,8 @@ ghost use Rattle.std.specs.Prelude.{◌≡◌, ◌⊎◌, ◌*◌, ◌/◌, ◌<
 ghost use Rattle.case_search.specs.declared.found.Found.TheVariants as answers;
 ghost use Rattle.maj_graph.specs.Graphs.{node_value, AreBelow};
 ghost use Rattle.maj_graph.specs.Building.{IsBuilder, Grown, Gives, limit};
-ghost use Rattle.merged_gates.specs.Code.Merging.{AreAlike, StandsFor, AreAllAlike, AreAlikeBelow, partner_at, turned_as};
+ghost use Rattle.merged_gates.specs.Code.Merging.{AreAlike, StandsFor, AreAllAlike, AreAlikeBelow, partner_at};
+ghost use Rattle.merged_gates.specs.Code.Merging.{turned_as};
 
 use crate::refuted::apart;
 use crate::round::Round;
@@ -41,8 +42,8 @@ fn put_partner(partners: &mut Vec<Option<u32>>, node: u32, literal: u32) -> Resu
     Ok(())
 }
 
-/// A graph, for each node that was merged the literal that it was merged into, and facts that comparisons found. Clauses
-/// see the graph.
+/// A graph, for each node that was merged the literal that it was merged into, and facts that comparisons found.
+/// Clauses see the graph.
 #[derive(Drop)]
 pub(crate) struct Merged {
     builder: Builder,

@@ -17,8 +17,8 @@ use circuit::Word;
 use maj_graph::GraphRefusal;
 use std::alloc::Global;
 
-/// How many conflicts a search may come to, in each round. Few are enough for most nodes, and what these merge makes the
-/// searches for the others shorter.
+/// How many conflicts a search may come to, in each round. Few are enough for most nodes, and what these merge makes
+/// the searches for the others shorter.
 const ROUNDS: [u32; 3] = [20, 200, 2_000];
 
 /// How much work the searches of all rounds may take for each node of the graph, and at most.
@@ -284,7 +284,8 @@ fn seen(
     one: u32,
     other: u32,
 ) -> Result<Swept, Memory>
-    ensures { IfOk result (λ swept. (ones others : List ℕ) → place < length ones → IsSwept merged.now ones others swept) }
+    ensures { IfOk result (λ swept. (ones others : List ℕ) → place < length ones
+        → IsSwept merged.now ones others swept) }
 {
     let one = merged.resolved(one);
     let other = merged.resolved(other);

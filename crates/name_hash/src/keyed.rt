@@ -3,8 +3,8 @@
 use sha2::{Digest, Sha256};
 use std::hash::{BuildHasher, DefaultHasher, Hasher};
 
-/// Makes the hashers of the names of one text: SipHash-1-3, which has read the text's key before each name. The same key
-/// gives the same hashes, so a run does not depend on chance.
+/// Makes the hashers of the names of one text: SipHash-1-3, which has read the text's key before each name. The same
+/// key gives the same hashes, so a run does not depend on chance.
 #[derive(Clone, Copy)]
 pub struct NameHash {
     start: DefaultHasher,

@@ -11,7 +11,8 @@ IsShort row = length row ≤ 4294967295
 
 pub few_cells : (net : RowView) → IsRowNet net → sum_by length net.rows < 2 ^ 64
 few_cells net known =
-    let short : (r : ℕ) → r < length net.rows → IsShort (get_or net.rows r []) = λ r h. omega (arith, known.few_cells r) in
+    let short : (r : ℕ) → r < length net.rows → IsShort (get_or net.rows r []) =
+    λ r h. omega (arith, known.few_cells r) in
     let total : sum_by length net.rows ≤ length net.rows * 4294967295 =
     sum_by-le length 4294967295 net.rows (All-from_get_or IsShort net.rows [] short)
     in

@@ -95,7 +95,8 @@ fn turned(alloc: Global) -> Result<Placed, Memory> {
 }
 
 fn and_rows(alloc: Global) -> Result<Vec<List<RowCell>>, Memory>
-    ensures { IfOk result (λ rows. rows.items ≡ examples.and_inputs.cells ∷ examples.and_gate.cells ∷ (examples.output 0 0 ∷ []) ∷ []) }
+    ensures { IfOk result (λ rows. rows.items ≡ examples.and_inputs.cells ∷ examples.and_gate.cells
+        ∷ (examples.output 0 0 ∷ []) ∷ []) }
 {
     let below = list(
         alloc,

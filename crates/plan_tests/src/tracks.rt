@@ -8,7 +8,8 @@ use std::test::Fail;
 
 // A wire between two columns.
 fn wire(from_column: u32, to_column: u32) -> Wire
-    ensures { result ≡ record { from_slot = from_column / 4; to_slot = to_column / 4; from_column = from_column; to_column = to_column } }
+    ensures { result
+        ≡ record { from_slot = from_column / 4; to_slot = to_column / 4; from_column = from_column; to_column = to_column } }
 {
     Wire {
         from_slot: from_column / 4,

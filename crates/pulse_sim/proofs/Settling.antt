@@ -172,8 +172,7 @@ some_tick circuit word time old =
       h.0,
       record {
         events = due_from time 0 circuit.cells;
-        due = IsPermutation-refl
-            (due_from time 0 circuit.cells);
+        due = IsPermutation-refl (due_from time 0 circuit.cells);
         happen = h.1;
       },
     )

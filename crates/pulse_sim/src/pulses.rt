@@ -1,5 +1,6 @@
 // A simulation of the pulse machine: settled ticks in place.
-ghost use Rattle.std.specs.Prelude.{◌≡◌, ℕ, ◌+◌, ◌%◌, ◌^◌, ◌<◌, length, map, IfOk, IfSome, List, Some, slice_get, replicate};
+ghost use Rattle.std.specs.Prelude.{◌≡◌, ℕ, ◌+◌, ◌%◌, ◌^◌, ◌<◌, length, map, IfOk, IfSome, List, Some, slice_get};
+ghost use Rattle.std.specs.Prelude.{replicate};
 ghost use Rattle.std.specs.Option.{option_copied};
 ghost use Rattle.chip_circuit.specs.declared.cells.ExCell.{ExCell};
 ghost use Rattle.pulse_sim.specs.declared.flux.Flux.TheVariants.{Off};
@@ -32,7 +33,10 @@ impl Model for Pulses {
 
     ghost view = { λ s. record { circuit = s.circuit; time = s.time; fluxes = s.fluxes.items } };
 
-    ghost invariant = { λ s. record { pulsing : IsPulsing (record { circuit = s.circuit; time = s.time; fluxes = s.fluxes.items }); by_phase : AreByPhase s.circuit.cells s.phases.items } };
+    ghost invariant = { λ s. record {
+      pulsing : IsPulsing (record { circuit = s.circuit; time = s.time; fluxes = s.fluxes.items });
+      by_phase : AreByPhase s.circuit.cells s.phases.items;
+    } };
 }
 
 fn cells_in_phase(alloc: Global, cells: &[ExCell], phase: u16) -> Result<List<u32>, Memory>
@@ -86,7 +90,8 @@ impl Pulses {
     /// A simulation of the circuit at time 0, before anything has happened: no cell has a flux. It makes all the room
     /// that it needs, and is refused for want of memory alone.
     pub fn new(alloc: Global, circuit: &Extracted) -> Result<Pulses, Memory>
-        ensures { IfOk result (λ pulses. pulses ≡ record { circuit = circuit.now; time = 0; fluxes = replicate (length circuit.now.cells) Off }) }
+        ensures { IfOk result (λ pulses. pulses
+            ≡ record { circuit = circuit.now; time = 0; fluxes = replicate (length circuit.now.cells) Off }) }
     {
         circuit.known();
         let circuit = copy_of(circuit)?;
@@ -113,7 +118,12 @@ impl Pulses {
     pub fn step(&mut self, word: Option<&Word>)
         requires wide { IfSome word (λ w. length w.now ≡ self.old.circuit.inputs) }
         requires time { self.old.time < 2 ^ 60 }
-        ensures { self.new ≡ record { circuit = self.old.circuit; time = self.old.time + 1; fluxes = settled_tick self.old.circuit (option_copied word.entry) self.old.time self.old.fluxes } }
+        ensures { self.new
+            ≡ record {
+              circuit = self.old.circuit;
+              time = self.old.time + 1;
+              fluxes = settled_tick self.old.circuit (option_copied word.entry) self.old.time self.old.fluxes;
+            } }
     {
         settle(
             &self.circuit,
@@ -132,8 +142,8 @@ impl Pulses {
         self.time
     }
 
-    /// Sets each value of the word: true where the flux at the output of that number is plus, else false. The word has a
-    /// value for each output of the circuit already, and no memory is taken.
+    /// Sets each value of the word: true where the flux at the output of that number is plus, else false. The word has
+    /// a value for each output of the circuit already, and no memory is taken.
     pub fn read_out(&self, into: &mut Word)
         requires { length into.old ≡ length self.now.circuit.outputs }
         ensures { into.new ≡ values_shown self.now }

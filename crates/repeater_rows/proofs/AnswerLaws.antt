@@ -117,8 +117,7 @@ module _ (word : List Bool) (wired : ℕ → Bool) (value : ℕ → Bool) (upper
   channel_values : (tos : List (List ℕ)) (source : ℕ → Source) (below : List Bool) → AllByRecursion (Stand wired) tos
       → HaveValues wired source (valuation below) value
       → last_values word below (cells_of (added_rows wired source tos ++ (record {
-        cells =
-            cells_from (last_source wired source tos) upper.cells upper.slots;
+        cells = cells_from (last_source wired source tos) upper.cells upper.slots;
         slots = upper.slots;
       } ∷ after)))
       ≡ last_values word values (cells_of after)

@@ -25,8 +25,7 @@ made_is p reach inputs outputs cells slots i o c s =
     ap (λ (x : ℕ). record { net = record { inputs = x; outputs = outputs; rows = cells }; slots = slots }) i
     ∙ ap (λ (x : ℕ). record { net = record { inputs = p.net.inputs; outputs = x; rows = cells }; slots = slots }) o
     ∙ ap (λ (x : List (List RowCell)). record {
-      net =
-          record { inputs = p.net.inputs; outputs = p.net.outputs; rows = x };
+      net = record { inputs = p.net.inputs; outputs = p.net.outputs; rows = x };
       slots = slots;
     }) c
     ∙ ap (λ (x : List (List ℕ)). record {
@@ -34,8 +33,7 @@ made_is p reach inputs outputs cells slots i o c s =
           record {
             inputs = p.net.inputs;
             outputs = p.net.outputs;
-            rows = map (λ (row : PlacedRow). row.cells)
-                (repeated_rows reach (placed_rows p));
+            rows = map (λ (row : PlacedRow). row.cells) (repeated_rows reach (placed_rows p));
           };
       slots = x;
     }) s

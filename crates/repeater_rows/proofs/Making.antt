@@ -144,8 +144,7 @@ module _ (w : Work) (now : Stage) (made : AreMade w now) where
         let channel : Channel = record now.channel {
           to = turned.to;
           carriers = turned.carriers;
-          sources =
-              next.channel.sources;
+          sources = next.channel.sources;
         } in
         let channel_is : next.channel ≡ channel = step.same
         ∙ ap (λ (c : Channel). record c { sources = next.channel.sources }) kept in
@@ -227,21 +226,18 @@ same_cells lower f g (cell ∷ cells) (slot ∷ slots) same =
     ap (λ (o : Option Source). record cell {
       source0 = o;
       source1 = fed_from f (suc slot) cell.source1;
-      source2 =
-          fed_from f (suc (suc slot)) cell.source2;
+      source2 = fed_from f (suc (suc slot)) cell.source2;
     } ∷ cells_from f cells slots)
     (same_pin lower slot cell.source0 second f g same)
     ∙ ap (λ (o : Option Source). record cell {
       source0 = fed_from g slot cell.source0;
       source1 = o;
-      source2 = fed_from f
-          (suc (suc slot)) cell.source2;
+      source2 = fed_from f (suc (suc slot)) cell.source2;
     } ∷ cells_from f cells slots)
     (same_pin lower (suc slot) cell.source1 third f g same1)
     ∙ ap (λ (o : Option Source). record cell {
       source0 = fed_from g slot cell.source0;
-      source1 = fed_from g
-          (suc slot) cell.source1;
+      source1 = fed_from g (suc slot) cell.source1;
       source2 = o;
     } ∷ cells_from f cells slots)
     (same_pin lower (suc (suc slot)) cell.source2 rest f g same2)
@@ -310,8 +306,7 @@ module _ (lower upper : PlacedRow) (w : Work) (is : IsOpened lower upper w.chann
   channel_past refusal past =
       let made : Listed = record {
         cells = w.below.cells.items ++ cells_of (rows_of w);
-        seats =
-            w.below.slots.items ++ slots_in (rows_of w);
+        seats = w.below.slots.items ++ slots_in (rows_of w);
       } in
       let all : AllMade w (last_of w) made = record { rows = refl; seats = refl; sources = λ d e. refl } in
       let fed = cells_from (last_of w) upper.cells upper.slots in
@@ -346,8 +341,7 @@ channel_more lower upper tos more =
     sym (append_assoc (added_rows (is_end ws) (source_to ws) tos)
     (record {
       cells = cells_from (last_source (is_end ws) (source_to ws) tos) upper.cells upper.slots;
-      slots =
-          upper.slots;
+      slots = upper.slots;
     } ∷ []) more)
 
 pub alone : {A : Type 0} (none rows : List A) (x y : A) → none ≡ [] → x ≡ y → rows ≡ none ++ (x ∷ []) → rows ≡ y ∷ []
@@ -427,8 +421,7 @@ pub past_channel : (reach : ℕ) (net : PlacedView) (k : ℕ) (made : Listed) (r
 past_channel reach net k made refusal known lt before past =
     let more : Listed = record {
       cells = made.cells ++ cells_of (channel_below reach net k);
-      seats =
-          made.seats ++ slots_in (channel_below reach net k);
+      seats = made.seats ++ slots_in (channel_below reach net k);
     } in
     let next = made_channel reach net k made more known lt before refl refl in
     refused reach net refusal (past_also more.cells (cells_of (rows_left reach net (k + 1))) _ refusal next.rows past)

@@ -148,8 +148,7 @@ module _ (reach : ℕ) (ws : List Link) (slots : ℕ) (known : IsChannel ws slot
       → AreRounds reach (is_end ws) turn before tos
       → length before ≡ slots → IsOrder before → StandAt (is_end ws) source lower.slots before
       → EachShort reach lower (added_rows (is_end ws) source tos ++ (record {
-        cells =
-            cells_from (last_source (is_end ws) source tos) upper.cells upper.slots;
+        cells = cells_from (last_source (is_end ws) source tos) upper.cells upper.slots;
         slots = upper.slots;
       } ∷ more))
   channel_short [] turn lower before source are full order stands =

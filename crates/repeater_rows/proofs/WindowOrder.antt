@@ -171,8 +171,7 @@ first_carrier wired b (x ∷ xs) some = go (wired x) refl (first_carrier wired (
     go true q rest = record {
       place = 0;
       is_there = rw q (omega arith);
-      within =
-          omega arith;
+      within = omega arith;
       before = tt;
       wired_there = q;
     }

@@ -40,9 +40,11 @@ pub(crate) fn open(
     upper: &[RowCell],
     upper_slots: &[u32],
 ) -> Result<Channel, Memory>
-    requires { AreNeighbours (record { cells = lower.now; slots = lower_slots.now }) (record { cells = upper.now; slots = upper_slots.now }) }
+    requires { AreNeighbours (record { cells = lower.now; slots = lower_slots.now })
+        (record { cells = upper.now; slots = upper_slots.now }) }
     ensures { IfOk result
-        (IsOpened (record { cells = lower.now; slots = lower_slots.now }) (record { cells = upper.now; slots = upper_slots.now })) }
+        (IsOpened (record { cells = lower.now; slots = lower_slots.now })
+        (record { cells = upper.now; slots = upper_slots.now })) }
 {
     let slots = span(lower, lower_slots).max(span(upper, upper_slots));
     let pins = read(alloc, lower_slots, upper, upper_slots, slots)?;
@@ -110,7 +112,8 @@ fn fed_cell(sources: &[Source], slots: &[u32], place: usize, cell: &RowCell) -> 
 impl Channel {
     /// Whether some wire moves more than `reach - 1` slots.
     pub(crate) fn is_far(&self, reach: u64) -> bool
-        requires { (slots : ℕ) × AreDestinations (valuation self.now.wired.items) slots self.now.to.items self.now.carriers.items }
+        requires { (slots : ℕ)
+            × AreDestinations (valuation self.now.wired.items) slots self.now.to.items self.now.carriers.items }
         ensures { result ≡ is_far reach (valuation self.now.wired.items) 0 self.now.to.items }
     {
         any_far(&self.to, &self.carriers, reach)
@@ -119,7 +122,8 @@ impl Channel {
     /// Does a round; `first` says whether its windows begin at slot 0.
     pub(crate) fn round(&mut self, alloc: Global, reach: u64, first: bool) -> Result<(), Memory>
         requires reach { 2 ≤ reach }
-        requires known { (slots : ℕ) × AreDestinations (valuation self.old.wired.items) slots self.old.to.items self.old.carriers.items }
+        requires known { (slots : ℕ)
+            × AreDestinations (valuation self.old.wired.items) slots self.old.to.items self.old.carriers.items }
         ensures { OnOk result (IsTurned reach first self.old self.new) }
     {
         let size = (reach - reach % 2) as usize;
@@ -137,10 +141,14 @@ impl Channel {
 
     /// A row of buffers, one for each wire, which are its sources from then on: the cells and their slots.
     pub(crate) fn add_row(&mut self, alloc: Global) -> Result<(List<RowCell>, List<u32>), Memory>
-        requires { (slots : ℕ) × AreDestinations (valuation self.old.wired.items) slots self.old.to.items self.old.carriers.items }
-        ensures cells { IfOk result (λ row. row.0 ≡ (added (valuation self.old.wired.items) (source_in self.old.sources.items) self.old.to.items).cells) }
-        ensures slots { IfOk result (λ row. row.1 ≡ (added (valuation self.old.wired.items) (source_in self.old.sources.items) self.old.to.items).slots) }
-        ensures sources { OnOk result ((d : ℕ) → valuation self.old.wired.items d ≡ true → d < length self.old.sources.items
+        requires { (slots : ℕ)
+            × AreDestinations (valuation self.old.wired.items) slots self.old.to.items self.old.carriers.items }
+        ensures cells { IfOk result (λ row. row.0
+            ≡ (added (valuation self.old.wired.items) (source_in self.old.sources.items) self.old.to.items).cells) }
+        ensures slots { IfOk result (λ row. row.1
+            ≡ (added (valuation self.old.wired.items) (source_in self.old.sources.items) self.old.to.items).slots) }
+        ensures sources { OnOk result ((d : ℕ) → valuation self.old.wired.items d ≡ true
+            → d < length self.old.sources.items
             → source_in self.new.sources.items d ≡ source_above (valuation self.old.wired.items) self.old.to.items d) }
         ensures long { length self.new.sources.items ≡ length self.old.sources.items }
         ensures same { self.new ≡ record self.old { sources = self.new.sources } }

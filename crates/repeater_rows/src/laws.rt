@@ -1,5 +1,6 @@
 // The laws of the plan of repeaters.
-ghost use Rattle.std.specs.Prelude.{◌≡◌, ℕ, ◌+◌, ◌*◌, ◌≤◌, ◌<◌, ◌⊎◌, [], ◌∷◌, Bool, true, not, List, length, take, drop, replicate, map, Some, None};
+ghost use Rattle.std.specs.Prelude.{◌≡◌, ℕ, ◌+◌, ◌*◌, ◌≤◌, ◌<◌, ◌⊎◌, [], ◌∷◌, Bool, true, not, List, length, take};
+ghost use Rattle.std.specs.Prelude.{drop, replicate, map, Some, None};
 ghost use Rattle.std.specs.List.{AllByRecursion, sum};
 ghost use Rattle.circuit.specs.SameAnswers.{SameAnswers};
 ghost use Rattle.rowed.specs.RowNets.{IsAnswer};
@@ -34,7 +35,8 @@ pub fn destinations_order()
 pub fn rounds_end()
     ensures end { (reach : ℕ) (wired : ℕ → Bool) (to : List ℕ) → 2 ≤ reach → IsOrder to
         → AreRounds reach wired true to (all_rounds reach wired to) }
-    ensures few { (reach : ℕ) (wired : ℕ → Bool) (to : List ℕ) → length (all_rounds reach wired to) ≤ length to * length to }
+    ensures few { (reach : ℕ) (wired : ℕ → Bool) (to : List ℕ)
+        → length (all_rounds reach wired to) ≤ length to * length to }
     ensures only { (reach : ℕ) (wired : ℕ → Bool) (to : List ℕ) (tos : List (List ℕ)) → 2 ≤ reach → IsOrder to
         → AreRounds reach wired true to tos → tos ≡ all_rounds reach wired to }
     ensures two { (reach : ℕ) (first : Bool) (to : List ℕ) → 2 ≤ reach
@@ -57,7 +59,8 @@ pub fn channels_end()
 /// The destinations without a wire rise from slot to slot, in the destinations of a channel and after each round. So a
 /// window in which no destination has a wire is in order already.
 pub fn unwired_rise()
-    ensures start { (ws : List Link) (slots : ℕ) → IsChannel ws slots → UnwiredRise (is_end ws) (destinations ws slots) }
+    ensures start { (ws : List Link) (slots : ℕ) → IsChannel ws slots
+        → UnwiredRise (is_end ws) (destinations ws slots) }
     ensures kept { (size : ℕ) (first : Bool) (wired : ℕ → Bool) (to : List ℕ) → UnwiredRise wired to
         → UnwiredRise wired (round size first to) }
     ensures still { (wired : ℕ → Bool) (to : List ℕ) (from count : ℕ) → UnwiredRise wired to
@@ -119,10 +122,10 @@ pub fn repeaters_narrow()
         → AreNarrow width (placed_rows (repeated p reach)) }
 {}
 
-/// Forty wires that turn round, at a reach of 14: five rows of forty buffers are added, and then no wire moves more than
-/// 13 slots. A wire that moves 13 slots has no repeater, and one that moves 14 slots has one, in slot 13. The three wires
-/// of `b and a`, which turn round, at the least reach: two rows are added. Four wires in eight slots, at a reach of 4: two
-/// rows, the slots without a wire among the others.
+/// Forty wires that turn round, at a reach of 14: five rows of forty buffers are added, and then no wire moves more
+/// than 13 slots. A wire that moves 13 slots has no repeater, and one that moves 14 slots has one, in slot 13. The
+/// three wires of `b and a`, which turn round, at the least reach: two rows are added. Four wires in eight slots, at a
+/// reach of 4: two rows, the slots without a wire among the others.
 pub fn worked_rows()
     ensures turned { examples.sizes (repeated examples.turned 14) ≡ replicate 7 40 }
     ensures turned_cells { sum (examples.sizes (repeated examples.turned 14)) ≡ 280 }

@@ -1,5 +1,6 @@
 // The rows of the plan, counted while they are made.
-ghost use Rattle.std.specs.Prelude.{◌≡◌, ℕ, ◌+◌, ◌<◌, ◌≤◌, ◌^◌, ◌++◌, [], ◌∷◌, true, None, length, map, IfOk, IfErr, OnOk};
+ghost use Rattle.std.specs.Prelude.{◌≡◌, ℕ, ◌+◌, ◌<◌, ◌≤◌, ◌^◌, ◌++◌, [], ◌∷◌, true, None, length, map, IfOk, IfErr};
+ghost use Rattle.std.specs.Prelude.{OnOk};
 ghost use Rattle.circuit.specs.Gates.{valuation};
 ghost use Rattle.rowed.specs.PlacedNets.{PlacedRow, IsPlaced, placed_rows};
 ghost use Rattle.repeater_rows.specs.Repeaters.{channel_rounds, channel_rows, repeated_rows};
@@ -66,10 +67,12 @@ fn add_rounds(
     made: &mut Rows,
 ) -> Result<(), RepeatRefusal>
     requires reach { 2 ≤ reach }
-    requires known { AreDestinations (valuation channel.old.wired.items) (length channel.old.sources.items) channel.old.to.items channel.old.carriers.items }
+    requires known { AreDestinations (valuation channel.old.wired.items) (length channel.old.sources.items)
+        channel.old.to.items channel.old.carriers.items }
     requires counted { AreCounted made.old.cells.items made.old.count }
     ensures made { OnOk result
-        (AllMade (record { reach = reach; channel = channel.old; below = made.old }) (fed_by channel.new) (listed made.new)) }
+        (AllMade (record { reach = reach; channel = channel.old; below = made.old }) (fed_by channel.new)
+        (listed made.new)) }
     ensures counted { OnOk result (AreCounted made.new.cells.items made.new.count) }
     ensures err { IfErr result (λ refusal. ArePast (made.old.cells.items ++ map (λ (row : PlacedRow). row.cells)
         (rows_of (record { reach = reach; channel = channel.old; below = made.old }))) refusal) }
@@ -135,8 +138,10 @@ fn copied<T: Copy>(alloc: Global, items: &[T]) -> Result<List<T>, Memory>
 pub(crate) fn repeat_rows(alloc: Global, net: &Placed, reach: u64) -> Result<Rows, RepeatRefusal>
     requires reach { 2 ≤ reach }
     requires known { IsPlaced net.now }
-    ensures cells { IfOk result (λ rows. rows.cells.items ≡ map (λ (row : PlacedRow). row.cells) (repeated_rows reach (placed_rows net.now))) }
-    ensures slots { IfOk result (λ rows. rows.slots.items ≡ map (λ (row : PlacedRow). row.slots) (repeated_rows reach (placed_rows net.now))) }
+    ensures cells { IfOk result (λ rows. rows.cells.items
+        ≡ map (λ (row : PlacedRow). row.cells) (repeated_rows reach (placed_rows net.now))) }
+    ensures slots { IfOk result (λ rows. rows.slots.items
+        ≡ map (λ (row : PlacedRow). row.slots) (repeated_rows reach (placed_rows net.now))) }
     ensures many { IfOk result (λ rows. length rows.cells.items ≡ length (repeated_rows reach (placed_rows net.now))) }
     ensures few { IfOk result (λ _. cells_past 0 (repeated_rows reach (placed_rows net.now)) ≡ None) }
     ensures err { IfErr result (λ refusal. IsPastLimit reach (placed_rows net.now) refusal) }

@@ -27,9 +27,9 @@ fn each_slots(alloc: Global, rows: &[List<RowCell>]) -> Result<Vec<List<u32>>, M
 
 /// The net with the cells of each row packed from slot 0 in the order that they have, each directly behind the one
 /// before, so that the slot of a cell is the sum of the slots that the cells before it take. `slot_width` is the width
-/// of a slot in nanometres, at least 1. The net is refused with its greatest span, in slots, exactly where this is wider
-/// than 2,000,000,000 nanometres, before a cell is packed, and else for want of memory alone. The time is linear in the
-/// cells.
+/// of a slot in nanometres, at least 1. The net is refused with its greatest span, in slots, exactly where this is
+/// wider than 2,000,000,000 nanometres, before a cell is packed, and else for want of memory alone. The time is linear
+/// in the cells.
 pub fn pack_net(alloc: Global, net: RowNet, slot_width: u64) -> Result<Placed, PlaceRefusal>
     requires { 1 ≤ slot_width }
     ensures packed { IfOk result (λ placed. IsPacked net slot_width placed) }

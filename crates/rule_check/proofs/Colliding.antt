@@ -101,8 +101,7 @@ module _ (shapes bands : List Shape) (a : ℕ) (s : Shape) (found near : List �
       are_near.complete band.0 (record {
         other = (band_of t).rect;
         other_is = rect_is;
-        close =
-            band_close s t meets;
+        close = band_close s t meets;
       }) in
       let passes : passes_in (λ (u : Shape). collide_across s.rect u.rect) (slice_get bands (get_or near here.0 band.0))
       ≡ true = ap (λ (n : ℕ). passes_in (λ (u : Shape). collide_across s.rect u.rect) (slice_get bands n)) here.2

@@ -151,8 +151,7 @@ module _ (shapes : List Shape) (a : ℕ) (s : Shape) (frames pins : List ℕ) (g
         second = frame;
         first_is = got;
         second_is = is;
-        passes_so =
-            same_trespass frame ∙ (sym (ap (passes_in (trespasses_by shapes pins s)) is) ∙ e);
+        passes_so = same_trespass frame ∙ (sym (ap (passes_in (trespasses_by shapes pins s)) is) ∙ e);
       }
 
   pub trespass_found : (r : Option ℕ) → FindsTrespass shapes frames pins s r → FindsAt (CoverBroken shapes) a r

@@ -167,8 +167,7 @@ module _ (all : List Shape) (numbers : List ℕ) (some : List Shape) (d : IsDist
         place = one.place;
         place_so = one.within;
         not_above = one.not_above;
-        shape_is =
-            d.those.each one.place one.within ∙ (one.alike ∙ is);
+        shape_is = d.those.each one.place one.within ∙ (one.alike ∙ is);
       }
 
   -- some shape passes among all exactly where one does among those that stand for them
@@ -203,10 +202,8 @@ module _ (all : List Shape) (numbers : List ℕ) (some : List Shape) (d : IsDist
     sound = λ j k h. (
       record {
         shape = h.0.shape;
-        shape_is =
-            (lifted all numbers some d.those j h.0.shape h.0.shape_is).1;
-        passes_so = sym (bare_same limits h.0.shape)
-            ∙ h.0.passes_so;
+        shape_is = (lifted all numbers some d.those j h.0.shape h.0.shape_is).1;
+        passes_so = sym (bare_same limits h.0.shape) ∙ h.0.passes_so;
       },
       ap (slice_index numbers) h.1,
     );
@@ -220,8 +217,7 @@ module _ (all : List Shape) (numbers : List ℕ) (some : List Shape) (d : IsDist
             record {
               shape = h.0.shape;
               shape_is = one.shape_is;
-              passes_so = bare_same limits h.0.shape
-                  ∙ h.0.passes_so;
+              passes_so = bare_same limits h.0.shape ∙ h.0.passes_so;
             },
             refl,
           );
@@ -250,8 +246,7 @@ module _ (all : List Shape) (numbers : List ℕ) (some : List Shape) (d : IsDist
           second = up.second;
           first_is = up.first_is;
           second_is = up.second_is;
-          passes_so =
-              sym (trespass_same up.first up.second) ∙ up.passes_so;
+          passes_so = sym (trespass_same up.first up.second) ∙ up.passes_so;
         }
         );
     before = λ a b h.
@@ -264,8 +259,7 @@ module _ (all : List Shape) (numbers : List ℕ) (some : List Shape) (d : IsDist
             first = h.first;
             second = h.second;
             first_is = j.shape_is;
-            second_is =
-                k.shape_is;
+            second_is = k.shape_is;
             passes_so = trespass_same h.first h.second ∙ h.passes_so;
           };
           not_after = elim (cases_lt (slice_index numbers j.place) a) [
@@ -305,8 +299,7 @@ module _ (all : List Shape) (numbers : List ℕ) (some : List Shape) (d : IsDist
                   first = pass.first;
                   second = pass.second;
                   first_is = j.shape_is;
-                  second_is =
-                      k.shape_is;
+                  second_is = k.shape_is;
                   passes_so = pass.passes_so;
                 },
               );
@@ -324,8 +317,7 @@ module _ (all : List Shape) (numbers : List ℕ) (some : List Shape) (d : IsDist
                   first = pass.second;
                   second = pass.first;
                   first_is = k.shape_is;
-                  second_is =
-                      j.shape_is;
+                  second_is = j.shape_is;
                   passes_so = sym (too_close_comm limits.space pass.first pass.second) ∙ pass.passes_so;
                 },
               );

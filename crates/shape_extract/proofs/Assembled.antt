@@ -44,8 +44,7 @@ module _ (flat : Flat) (nets : List ℕ) (edges : List ℤ) (cells : List ExCell
         cells = cells;
         inputs = inputs;
         outputs = outputs;
-        rows =
-            length edges;
+        rows = length edges;
         wires = wires;
         nets = nets;
       })
@@ -60,6 +59,5 @@ module _ (flat : Flat) (nets : List ℕ) (edges : List ℤ) (cells : List ExCell
         outputs = outputs;
         rows = length edges;
         wires = wires;
-        nets =
-            nets;
+        nets = nets;
       }) assembled (omega arith) (omega arith)

@@ -52,8 +52,7 @@ module _ (shapes : List Shape) (contacts : List ℕ) (a b : ℕ) (are : AreThose
           after = slice_index contacts p;
           contact = contact;
           onward = ne;
-          wrong = ap (leaves before bar)
-              (same_Some contact.second after (sym contact.second_is ∙ got)) ∙ wrong;
+          wrong = ap (leaves before bar) (same_Some contact.second after (sym contact.second_is ∙ got)) ∙ wrong;
         };
       }
 

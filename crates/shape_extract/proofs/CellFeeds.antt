@@ -53,8 +53,7 @@ plain_input flat p on none = record {
   pin = on.shape;
   pin_is = on.shape_is;
   of_layer = on.of_layer;
-  labelled_so =
-      by_test (is_labelled flat on.shape) refl;
+  labelled_so = by_test (is_labelled flat on.shape) refl;
 }
   where
     by_test : (b : Bool) → is_labelled flat on.shape ≡ b → is_labelled flat on.shape ≡ false
@@ -64,8 +63,7 @@ plain_input flat p on none = record {
           label = at.item;
           pin = on.shape;
           label_is = at.item_is;
-          pin_is =
-              on.shape_is;
+          pin_is = on.shape_is;
           marks_so = at.passes_so;
         })
         )
@@ -165,8 +163,7 @@ pin_missed flat nets frames places drivers t kind f number pins n of are lt all 
       first = p.1.frame;
       second = p.1.pin;
       first_is = p.1.frame_is;
-      second_is =
-          p.1.pin_is;
+      second_is = p.1.pin_is;
       passes_so = p.1.lies_so;
     }) in
     let within : k.0 < length pins = k.1.0 in

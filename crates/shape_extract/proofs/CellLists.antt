@@ -87,8 +87,7 @@ kind_there flat f passes s kind got e =
     record {
       frame = s;
       frame_is = got;
-      frame_so = ap is_frame (same_Some s passes.shape (sym got ∙ passes.shape_is))
-          ∙ passes.passes_so;
+      frame_so = ap is_frame (same_Some s passes.shape (sym got ∙ passes.shape_is)) ∙ passes.passes_so;
       kind_is = e;
     }
 
@@ -131,8 +130,7 @@ module _ (flat : Flat) (frames : List ℕ) (kind : CellKind) (f : ℕ) (of : IsF
     frame = of.frame;
     frame_is = of.frame_is;
     kind_is = of.kind_is;
-    row_is =
-        row_is of.frame of.frame_is;
+    row_is = row_is of.frame of.frame_is;
     excited = in_phase;
     feeds = fed_at;
     no_more = past_at;

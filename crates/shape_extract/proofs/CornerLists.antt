@@ -46,8 +46,7 @@ module _ (shapes : List Shape) (n : ℕ) (corners : List Corner) (here : Shape) 
       | inr ne ↦ let k = are.each f frame
           (omega arith) at so in record {
             place = k.place;
-            there = push_old corners (corner_of here n)
-                (corner_of frame f) k.place k.there;
+            there = push_old corners (corner_of here n) (corner_of frame f) k.place k.there;
           }
     ];
     only = λ k corner is. elim (push_cases corners (corner_of here n) corner k is) [

@@ -43,8 +43,7 @@ first_label (label ∷ labels) pin h = by_test (λ k. first_label labels pin k) 
       label = label;
       label_is = refl;
       marks_so = e;
-      number_is =
-          rw (e, first_number) refl;
+      number_is = rw (e, first_number) refl;
     }
     by_test less false e = elim (or_cases (marks label pin) (list_any (λ label. marks label pin) labels) h) [
       | inl here ↦ absurd (both_ways (marks label pin) e here)
@@ -53,8 +52,7 @@ first_label (label ∷ labels) pin h = by_test (λ k. first_label labels pin k) 
             place = suc rest.place;
             label = rest.label;
             label_is = rest.label_is;
-            marks_so =
-                rest.marks_so;
+            marks_so = rest.marks_so;
             number_is = rw (e, first_number) rest.number_is;
           })
     ]
@@ -71,8 +69,7 @@ module _ (flat : Flat) (kept : ReportsNone (LabelsBroken flat)) where
           pin = pin;
           label_is = first.label_is;
           pin_is = is;
-          marks_so =
-              first.marks_so;
+          marks_so = first.marks_so;
         },
         refl,
         sym first.number_is,

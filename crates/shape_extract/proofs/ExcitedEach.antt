@@ -48,8 +48,7 @@ module _ (shapes : List Shape) (before : List ℕ) (lines : AreLaidOut shapes) (
         is_bar = is;
         before = slice_index before b;
         before_shape = from;
-        before_shape_is =
-            from_is;
+        before_shape_is = from_is;
         is_before = comes;
         phase_is = ap (phase_of from) (sym (same_bar is)) ∙ phase;
       };
@@ -95,8 +94,7 @@ module _ (shapes : List Shape) (f : ℕ) (over : List ℕ) (are : AreThose (Pass
         second = s;
         first_is = got;
         second_is = at;
-        passes_so = and_from (is_line s)
-            (overlap s.rect frame.rect) line lap;
+        passes_so = and_from (is_line s) (overlap s.rect frame.rect) line lap;
       })
 
   overlaps_at : (p : ℕ) → p < length over → (s : Shape) → slice_get shapes (slice_index over p) ≡ Some s

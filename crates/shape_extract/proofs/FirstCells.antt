@@ -175,8 +175,7 @@ lower_feeds : (i : ℕ) → i < inputs_of Buffer → IsFeedAt first_flat frames 
 unfolding first_flat
 lower_feeds zero lt = record {
   number = 1;
-  pin =
-      pin_of 0 INPUT_PIN 0 1 _ _ refl refl refl refl refl;
+  pin = pin_of 0 INPUT_PIN 0 1 _ _ refl refl refl refl refl;
   feeds = lower_named;
 }
 lower_feeds (suc i) lt = absurd (omega arith)
@@ -267,8 +266,7 @@ upper_feeds : (i : ℕ) → i < inputs_of Buffer → IsFeedAt first_flat frames 
 unfolding first_flat
 upper_feeds zero lt = record {
   number = 11;
-  pin =
-      pin_of 10 INPUT_PIN 0 11 _ _ refl refl refl refl refl;
+  pin = pin_of 10 INPUT_PIN 0 11 _ _ refl refl refl refl refl;
   feeds = upper_driven;
 }
 upper_feeds (suc i) lt = absurd (omega arith)

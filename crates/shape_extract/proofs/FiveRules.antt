@@ -55,8 +55,7 @@ breaks flat rule found r b h finds e is before =
     subst (λ (x : BrokenRule). BreaksCircuit flat x.rule x.first x.second) (sym is) (record {
       of_circuit = h;
       first = λ limits. record {
-        report = subst (λ (o : Option Report). Finds (Broken rule flat limits) o) e
-            (finds limits);
+        report = subst (λ (o : Option Report). Finds (Broken rule flat limits) o) e (finds limits);
         kept_before = before limits;
       };
     })

@@ -134,8 +134,7 @@ module _ (shapes : List Shape) (i : ℕ) (contacts : List ℕ) (are : AreThose (
         record {
           start = λ _. start_from one;
           link = two_datatypes START LINK (λ z. omega arith) (part START e);
-          bar =
-              two_datatypes START BAR (λ z. omega arith) (part START e);
+          bar = two_datatypes START BAR (λ z. omega arith) (part START e);
         }
     joined_start e false not_so = λ has. not_so (start_to (has.start (part START e)))
 
@@ -143,8 +142,7 @@ module _ (shapes : List Shape) (i : ℕ) (contacts : List ℕ) (are : AreThose (
         → SaysWhether answer (HasItsContacts shapes i)
     joined_link e true two = record {
       start = two_datatypes LINK START (λ z. omega arith) (part LINK e);
-      link =
-          λ _. link_from two;
+      link = λ _. link_from two;
       bar = two_datatypes LINK BAR (λ z. omega arith) (part LINK e);
     }
     joined_link e false not_so = λ has. not_so (link_to (has.link (part LINK e)))
@@ -153,8 +151,7 @@ module _ (shapes : List Shape) (i : ℕ) (contacts : List ℕ) (are : AreThose (
         → SaysWhether answer (HasItsContacts shapes i)
     joined_bar e true ends = record {
       start = two_datatypes BAR START (λ z. omega arith) (part BAR e);
-      link =
-          two_datatypes BAR LINK (λ z. omega arith) (part BAR e);
+      link = two_datatypes BAR LINK (λ z. omega arith) (part BAR e);
       bar = λ _. bar_from ends;
     }
     joined_bar e false not_so = λ has. not_so (bar_to (has.bar (part BAR e)))

@@ -41,8 +41,7 @@ module _ (flat : Flat) (kept : ReportsNone (CellsBroken flat.shapes)) where
   one_input f i p q a b = settled p q
       (λ ne. no_fault f (inl (record {
         frame = frame_passes f INPUT_PIN i p a;
-        not_so =
-            λ cell. ne (cell.inputs.one i p q a b);
+        not_so = λ cell. ne (cell.inputs.one i p q a b);
       })))
 
   -- a pin lies in one frame
@@ -72,8 +71,7 @@ module _ (flat : Flat) (kept : ReportsNone (LabelsBroken flat)) where
         place = l;
         label = m.label;
         label_is = m.label_is;
-        of_layer =
-            eqb-true m.label.layer LABELS layer;
+        of_layer = eqb-true m.label.layer LABELS layer;
         number_is = refl;
       }
 
@@ -127,8 +125,7 @@ module _ (flat : Flat) (kept : ReportsNone (LabelsBroken flat)) where
           earlier = m.place;
           other = m.mark.label;
           before = lt;
-          other_is =
-              m.mark.label_is;
+          other_is = m.mark.label_is;
           of_layer = earlier.of_layer;
           one_name = and_from _ _ letters numbers;
         });

@@ -65,8 +65,7 @@ beside R (x ∷ xs) (y ∷ ys) all (suc k) lt =
       left = b.left;
       right = b.right;
       left_is = b.left_is;
-      right_is =
-          b.right_is;
+      right_is = b.right_is;
       holds = b.holds;
     })
 
@@ -231,8 +230,7 @@ module _ (flat : Flat) (five : KeepsFive flat) (edges : List ℤ) (rows : AreRow
     pin = pin.pin;
     frame = pin.frame;
     pin_is = pin.pin_is;
-    frame_is =
-        pin.frame_is;
+    frame_is = pin.frame_is;
     lies_so = pin.lies_so;
   }
 
@@ -349,8 +347,7 @@ module _ (flat : Flat) (five : KeepsFive flat) (edges : List ℤ) (rows : AreRow
       elim (cases_lt i (inputs_of here.0.cell.kind)) [
         | inl lt ↦ record {
           at = here.0;
-          fed = subst (IsFeedAt flat is.frames here.0.f i) e
-              (here.0.from.feeds i lt);
+          fed = subst (IsFeedAt flat is.frames here.0.f i) e (here.0.from.feeds i lt);
           feed_is = e;
         }
         | inr ge ↦ absurd (some (sym e ∙ here.0.from.no_more i ge))

@@ -83,8 +83,7 @@ module _ (flat : Flat) (kept : ReportsNone (CellsBroken flat.shapes)) (f : ℕ) 
               frame = frame;
               pin_is = at.item_is;
               frame_is = frame_is;
-              lies_so =
-                  two.0;
+              lies_so = two.0;
               of_layer = eqb-true at.item.layer layer two.1;
               of_number = eqb-true at.item.datatype i all.1;
             },
@@ -164,8 +163,7 @@ module _ (flat : Flat) (kept : ReportsNone (LabelsBroken flat)) where
         mark = m;
         numbered =
             record {
-              text_is = text_of m.label.text letter_i (eqb-true (slice_index m.label.text 0) letter_i e)
-                  (omega arith);
+              text_is = text_of m.label.text letter_i (eqb-true (slice_index m.label.text 0) letter_i e) (omega arith);
               decimal_so = decimal_marked l p m;
               number_is = refl;
             };
@@ -290,8 +288,7 @@ module _ (flat : Flat) (kept : ReportsNone (LabelsBroken flat)) where
               label = at.item;
               pin = pin;
               label_is = at.item_is;
-              pin_is =
-                  is;
+              pin_is = is;
               marks_so = at.passes_so;
             },
             refl,

@@ -163,8 +163,7 @@ module _ (flat : Flat) (entries exits : ℕ) (entries_is : entries ≡ entry_cou
       number = s.number;
       label = s.label;
       before = omega (arith, s.before);
-      label_is =
-          s.label_is;
+      label_is = s.label_is;
       of_layer = s.of_layer;
       place_is = s.place_is;
     }
@@ -228,8 +227,7 @@ module _ (flat : Flat) (entries exits : ℕ) (entries_is : entries ≡ entry_cou
             label = label;
             before = omega arith;
             label_is = got;
-            of_layer =
-                layer_so;
+            of_layer = layer_so;
             place_is = sym same;
           }
           | inr ne ↦ wider place (are.only place (sym (still place ne) ∙ e))

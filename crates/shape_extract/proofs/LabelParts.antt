@@ -75,8 +75,7 @@ module _ (flat : Flat) (a : ℕ) (label : Label) (past : length flat.shapes ≤ 
       place = a - length flat.shapes;
       label = label;
       label_is = got;
-      of_layer =
-          layer;
+      of_layer = layer;
       number_is = omega arith;
     };
     not_so = no_port;

@@ -77,8 +77,7 @@ contacts_from shapes a numbers are =
       each = λ p lt. (let both = those.each p lt in record {
         apart = λ e. both.1 (sym e);
         first = both.0.first;
-        second =
-            both.0.second;
+        second = both.0.second;
         first_is = both.0.first_is;
         second_is = both.0.second_is;
         meet_so = both.0.passes_so;
@@ -88,8 +87,7 @@ contacts_from shapes a numbers are =
           first = contact.first;
           second = contact.second;
           first_is = contact.first_is;
-          second_is =
-              contact.second_is;
+          second_is = contact.second_is;
           passes_so = contact.meet_so;
         },
         λ e. contact.apart (sym e),

@@ -108,8 +108,7 @@ pub spread_none : (shapes : List Shape) (numbers before order : List ℕ) → Is
 spread_none shapes numbers before order w = record {
   walk = w;
   kept = λ k lk. refl;
-  reached =
-      λ p lp. absurd (omega arith);
+  reached = λ p lp. absurd (omega arith);
   longer = omega arith;
   prefix = λ p lp. refl;
   less = omega arith;

@@ -52,8 +52,7 @@ module _ (shapes : List Shape) (layer : ℕ) where
           shape = s;
           shape_is = at;
           line_so = part.0;
-          datatype_is =
-              eqb-true s.datatype START part.1;
+          datatype_is = eqb-true s.datatype START part.1;
         };
         of_layer = eqb-true s.layer layer both.1;
       }
@@ -94,8 +93,7 @@ module _ (shapes : List Shape) (layer : ℕ) where
         shape = first.shape;
         shape_is = first.shape_is;
         of_layer = first.of_layer;
-        least =
-            first.least;
+        least = first.least;
         not_one = λ one. ne (counted ∙ counted_one one);
       },
       refl,

@@ -39,8 +39,7 @@ pub noted_none : (label : ℕ) (numbers : List ℕ) (old : List Mark) → NotedT
 noted_none label numbers old = record {
   long = refl;
   hit = λ k m lt. absurd (omega arith);
-  later =
-      λ k m le lt is. is;
+  later = λ k m le lt is. is;
   miss = λ p m other is. is;
 }
 
@@ -215,8 +214,7 @@ marks_blank shapes labels marking n e long = marks_none shapes labels marking
 mark_all : (n : ℕ) (labels : List Label) (s : Shape) (m : Mark) → take n labels ≡ labels → length labels ≤ n
     → IsMarkTo n labels s m → IsMarkOf labels s m
 mark_all n labels s Unmarked whole all h = record {
-  count_is = ap (count_by (λ (l : Label). marks l s)) (sym whole)
-      ∙ h.count_is;
+  count_is = ap (count_by (λ (l : Label). marks l s)) (sym whole) ∙ h.count_is;
   none = λ l label is.
       (let lt = slice_get_within labels l label is in h.none l label (omega arith) is);
 }
@@ -229,8 +227,7 @@ pub marks_all : (n : ℕ) (shapes : List Shape) (labels : List Label) (marking :
 marks_all n shapes labels marking all are =
     record {
       long = are.long;
-      each = λ p s m s_is m_is. mark_all n labels s m (take_all n labels all) all
-          (are.each p s m s_is m_is);
+      each = λ p s m s_is m_is. mark_all n labels s m (take_all n labels all) all (are.each p s m s_is m_is);
     }
 
 -- ---- what the table says

@@ -84,8 +84,7 @@ module _ (shapes : List Shape) (f layer n : ℕ) (pins : List ℕ)
         first = pin.frame;
         second = pin.pin;
         first_is = pin.frame_is;
-        second_is =
-            pin.pin_is;
+        second_is = pin.pin_is;
         passes_so = pin.lies_so;
       })
 
@@ -245,8 +244,7 @@ one_frame_said shapes p n frames are long = elim (cases_eq n 1) [
           pin = both.first;
           frame = both.second;
           pin_is = both.first_is;
-          frame_is =
-              both.second_is;
+          frame_is = both.second_is;
           lies_so = both.passes_so;
         };
         only = λ f lies. (let k = place lies in let zero_k : k.0 ≡ 0 = omega (arith, k.1.0) in sym k.1.1
@@ -267,8 +265,7 @@ one_frame_said shapes p n frames are long = elim (cases_eq n 1) [
           first = lies.pin;
           second = lies.frame;
           first_is = lies.pin_is;
-          second_is =
-              lies.frame_is;
+          second_is = lies.frame_is;
           passes_so = lies.lies_so;
         })
 
@@ -278,8 +275,7 @@ one_frame_said shapes p n frames are long = elim (cases_eq n 1) [
           pin = both.first;
           frame = both.second;
           pin_is = both.first_is;
-          frame_is =
-              both.second_is;
+          frame_is = both.second_is;
           lies_so = both.passes_so;
         }
 

@@ -35,8 +35,7 @@ module _ (flat : Flat) (nets : List ℕ) (are : AreNets flat.shapes nets) (kept 
     pin = record {
       shape = pin;
       shape_is = p_is;
-      passes_so = or_right (pin.layer == INPUT_PIN) (pin.layer == OUTPUT_PIN)
-          (eq-eqb pin.layer OUTPUT_PIN on);
+      passes_so = or_right (pin.layer == INPUT_PIN) (pin.layer == OUTPUT_PIN) (eq-eqb pin.layer OUTPUT_PIN on);
     };
     other = other;
     other_is = q_is;
@@ -125,8 +124,7 @@ module _ (flat : Flat) (nets : List ℕ) (are : AreNets flat.shapes nets) (kept 
             pin = pin.0;
             pin_is = pin.1;
             of_layer = layer;
-            joined = one_net flat.shapes nets are p
-                (slice_index drivers (slice_index nets p)) p_within lt same;
+            joined = one_net flat.shapes nets are p (slice_index drivers (slice_index nets p)) p_within lt same;
           };
           only = hits;
         }

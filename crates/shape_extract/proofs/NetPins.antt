@@ -42,8 +42,7 @@ module _ (shapes : List Shape) (a : ℕ) (here : Shape) (got : slice_get shapes 
       are.complete b (record {
         pin = rival.other;
         pin_is = rival.other_is;
-        of_layer = sym rival.one_layer
-            ∙ ap (λ (x : Shape). x.layer) same;
+        of_layer = sym rival.one_layer ∙ ap (λ (x : Shape). x.layer) same;
         joined = rival.joined;
       })
 
@@ -113,8 +112,7 @@ module _ (flat : Flat) (a : ℕ) (here : Shape) (got : slice_get flat.shapes a �
       (record {
         reported = record {
           input = input true marked;
-          source = source_at b
-              (subst (IsPinIn flat.shapes OUTPUT_PIN a) first.1 (are.each 0 first.0));
+          source = source_at b (subst (IsPinIn flat.shapes OUTPUT_PIN a) first.1 (are.each 0 first.0));
         };
         least = λ d driven. (
             let k = source_place d driven.source in

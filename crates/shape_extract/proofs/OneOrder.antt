@@ -68,8 +68,7 @@ are_ordered shapes frames are c d f g lt p q =
       t = t.shape;
       s_is = s.shape_is;
       t_is = t.shape_is;
-      so =
-          are.in_order c d f g s.shape t.shape lt p q s.shape_is t.shape_is;
+      so = are.in_order c d f g s.shape t.shape lt p q s.shape_is t.shape_is;
     }
 
 ordered_tail : (shapes : List Shape) (f : ℕ) (fs : List ℕ) → Ordered shapes (f ∷ fs) → Ordered shapes fs

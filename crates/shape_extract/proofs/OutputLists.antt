@@ -71,8 +71,7 @@ module _ (flat : Flat) (frames : List ℕ) (kept : ReportsNone (LabelsBroken fla
               record {
                 source = source;
                 there = read_same outputs m n source within same;
-                output =
-                    subst (IsOutputPin flat frames source) (sym e) output;
+                output = subst (IsOutputPin flat frames source) (sym e) output;
               }
           | inr ne ↦
               let old = below.each q n (omega arith) named in
@@ -109,7 +108,6 @@ module _ (flat : Flat) (frames : List ℕ) (kept : ReportsNone (LabelsBroken fla
         record {
           number = named.0;
           named = named.1;
-          output =
-              subst (λ (s : Source). IsOutputPin flat frames s named.0) same written.output;
+          output = subst (λ (s : Source). IsOutputPin flat frames s named.0) same written.output;
         });
   }

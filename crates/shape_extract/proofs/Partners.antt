@@ -74,8 +74,7 @@ module _ (test : Shape → Shape → Bool) (shapes : List Shape) (a : ℕ) (firs
         first = first;
         second = at.shape;
         first_is = first_is;
-        second_is =
-            at.shape_is;
+        second_is = at.shape_is;
         passes_so = at.passes_so;
       }
 

@@ -31,8 +31,7 @@ module _ (shapes : List Shape) (p : ℕ) (kept : ReportsNone (CellsBroken shapes
                 first = one.lies.pin;
                 second = one.lies.frame;
                 first_is = one.lies.pin_is;
-                second_is =
-                    one.lies.frame_is;
+                second_is = one.lies.frame_is;
                 passes_so = one.lies.lies_so;
               }) in
               omega (arith, k.1.0)
@@ -46,8 +45,7 @@ module _ (shapes : List Shape) (p : ℕ) (kept : ReportsNone (CellsBroken shapes
         pin = both.first;
         frame = both.second;
         pin_is = both.first_is;
-        frame_is =
-            both.second_is;
+        frame_is = both.second_is;
         lies_so = both.passes_so;
       }
 
@@ -70,6 +68,5 @@ module _ (shapes : List Shape) (edges : List ℤ) (rows : AreRows shapes edges) 
       record {
         frame = f;
         lies = lies;
-        row_is = ap (λ (x : Shape). row_of shapes x.rect.y0) same
-            ∙ row_of-certified shapes edges rows r s.rect.y0 at;
+        row_is = ap (λ (x : Shape). row_of shapes x.rect.y0) same ∙ row_of-certified shapes edges rows r s.rect.y0 at;
       }

@@ -210,8 +210,7 @@ ends_said numbers y true d some says =
     record {
       place = length numbers - 1;
       last = omega arith;
-      number_is = slice_get-get_or numbers
-          (length numbers - 1) d lt ∙ ap Some says;
+      number_is = slice_get-get_or numbers (length numbers - 1) d lt ∙ ap Some says;
     }
 ends_said numbers y false d some says = λ ends.
     let e : ends.place ≡ length numbers - 1 = omega (arith, ends.last) in

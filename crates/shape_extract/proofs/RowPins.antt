@@ -103,8 +103,7 @@ module _ (flat : Flat) (kept : ReportsNone (CellsBroken flat.shapes)) (rows : Li
       (record {
         pin = broken.source.pin;
         pin_is = broken.source.pin_is;
-        of_layer =
-            broken.source.of_layer;
+        of_layer = broken.source.of_layer;
         joined = broken.source.joined;
       })
 
@@ -114,8 +113,7 @@ module _ (flat : Flat) (kept : ReportsNone (CellsBroken flat.shapes)) (rows : Li
       record {
         shape = broken.source.pin;
         shape_is = broken.source.pin_is;
-        passes_so =
-            output_pin broken.source.pin broken.source.of_layer;
+        passes_so = output_pin broken.source.pin broken.source.of_layer;
       } in
       let up : row_of flat.shapes broken.in_upper.frame.rect.y0 ≡ slice_index rows a =
       row_is flat.shapes kept rows are_rows a broken.upper pin_here broken.in_upper in

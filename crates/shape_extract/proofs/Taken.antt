@@ -51,8 +51,7 @@ module _ {X : Type 0} (test : X → Bool) (number : X → ℕ) where
     place = suc has.place;
     item = has.item;
     item_is = has.item_is;
-    passes_so =
-        has.passes_so;
+    passes_so = has.passes_so;
     number_is = has.number_is;
   }
 
@@ -69,8 +68,7 @@ module _ {X : Type 0} (test : X → Bool) (number : X → ℕ) where
               item = x;
               item_is = refl;
               passes_so = e;
-              number_is =
-                  sym (eqb-true n (number x) here);
+              number_is = sym (eqb-true n (number x) here);
             }
             | inr rest ↦ later x xs n (less rest)
           ]

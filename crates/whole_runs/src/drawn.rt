@@ -1,4 +1,5 @@
-// Chips of netlists of cells, over a store in memory: what is drawn again of what `netlist` writes, and what is refused.
+// Chips of netlists of cells, over a store in memory: what is drawn again of what `netlist` writes, and what is
+// refused.
 use crate::fixtures::{AND, LIBRARY_A, Outcome, Refusal, WIRE, XOR, is_refused, ran, stored};
 use std::alloc::Global;
 use std::test::Fail;

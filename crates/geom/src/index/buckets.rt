@@ -249,8 +249,8 @@ impl Buckets {
     }
 
     /// Leaves in `found` the numbers of exactly the rectangles that are no further from this one than the margin, in x
-    /// and in y, rising; what was there before is dropped. The margin is in nanometres. It is refused for want of memory
-    /// alone.
+    /// and in y, rising; what was there before is dropped. The margin is in nanometres. It is refused for want of
+    /// memory alone.
     pub fn list_near(&self, rect: &Rect, margin: u64, found: &mut Vec<u32>) -> Result<(), Memory>
         requires { margin ≤ 1000000 }
         ensures { IfOk result (λ _. AreNear self.now rect.now margin found.new.items) }
@@ -269,7 +269,8 @@ impl Buckets {
     }
 
     /// The numbers of exactly the rectangles that are no further from this one than the margin, in x and in y, rising.
-    /// The margin is in nanometres: 0 asks for those that share a point with it. It is refused for want of memory alone.
+    /// The margin is in nanometres: 0 asks for those that share a point with it. It is refused for want of memory
+    /// alone.
     pub fn near(&self, alloc: Global, rect: &Rect, margin: u64) -> Result<List<u32>, Memory>
         requires { margin ≤ 1000000 }
         ensures { IfOk result (AreNear self.now rect.now margin) }

@@ -132,8 +132,8 @@ impl Grid {
         self.cell_in(row, column)
     }
 
-    /// A number for the place of the rectangle's lower left corner in its cell: the bits of how far right it lies and of
-    /// how far up, in turn (Morton's order). So rectangles with numbers from one to another lie together.
+    /// A number for the place of the rectangle's lower left corner in its cell: the bits of how far right it lies and
+    /// of how far up, in turn (Morton's order). So rectangles with numbers from one to another lie together.
     pub fn order_of(&self, rect: &Rect) -> u32 {
         let right = self.right_of(rect.x0) >> self.shift_x.saturating_sub(16);
         let above = self.above(rect.y0) >> self.shift_y.saturating_sub(16);

@@ -150,8 +150,8 @@ impl Survey {
         }
     }
 
-    /// The grid for these rectangles, of some four cells for each at most. Cells are wider than a quarter of the widest and
-    /// higher than the highest: the cells of a row that a query reads are one range, so narrow ones cost nothing.
+    /// The grid for these rectangles, of some four cells for each at most. Cells are wider than a quarter of the widest
+    /// and higher than the highest: the cells of a row that a query reads are one range, so narrow ones cost nothing.
     fn grid(&self, first: usize) -> Grid
         requires { first ≤ 2 ^ 40 }
         ensures { result.first ≡ first }

@@ -5,7 +5,8 @@ use Rattle.circuit.specs.Gates.{valuation}
 use Rattle.decide.specs.Verdicts.{shown}
 
 -- two lists of outputs show different values at this place, the values of the gates being these
-pub record IsOther (outputs : List ℕ) (values : List Bool) (other_outputs : List ℕ) (other_values : List Bool) (place : ℕ)
+pub record IsOther (outputs : List ℕ) (values : List Bool) (other_outputs : List ℕ) (other_values : List Bool)
+    (place : ℕ)
     : Type 0 where
   pub within : place < length outputs
   pub differ : valuation values (slice_index_or outputs place 0)

@@ -158,8 +158,8 @@ fn walk_all(
     Ok(())
 }
 
-/// What a walk over the kinds of shapes finds: the net of each, and whether some shape touches it. Equal vias don't touch
-/// each other, so those that touch nothing else are each a net of their own.
+/// What a walk over the kinds of shapes finds: the net of each, and whether some shape touches it. Equal vias don't
+/// touch each other, so those that touch nothing else are each a net of their own.
 #[derive(Drop)]
 struct Walked {
     labels: Vec<u32>,

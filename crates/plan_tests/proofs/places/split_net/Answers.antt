@@ -8,8 +8,10 @@ use Rattle.plan_tests.proofs.places.split_net.Goals as goal
 pub invariant_of-result : goal.invariant_of-result
 unfolding split_net
 invariant_of-result c =
-    subst (λ (rows : List (List RowCell)). IsRowNet (record split_net { rows = rows })) (sym (c.from_vec.ensures ∙ c.in_ok-rows.ensures)) (row_net_from_test split_net refl)
+    subst (λ (rows : List (List RowCell)). IsRowNet (record split_net { rows = rows }))
+    (sym (c.from_vec.ensures ∙ c.in_ok-rows.ensures)) (row_net_from_test split_net refl)
 
 pub returns : goal.returns
 unfolding split_net
-returns c = ap (λ (rows : List (List RowCell)). record split_net { rows = rows }) (c.from_vec.ensures ∙ c.in_ok-rows.ensures)
+returns c = ap (λ (rows : List (List RowCell)). record split_net { rows = rows })
+    (c.from_vec.ensures ∙ c.in_ok-rows.ensures)

@@ -20,6 +20,8 @@ net = record {
 pub placed-requires : goal.placed-requires
 unfolding net
 placed-requires c =
-    subst (λ (rows : List (List RowCell)). IsPlaced (record { net = record { inputs = 4; outputs = 4; rows = rows }; slots = c.in_ok-slots.slots.items }))
+    subst (λ (rows : List (List RowCell)). IsPlaced
+    (record { net = record { inputs = 4; outputs = 4; rows = rows }; slots = c.in_ok-slots.slots.items }))
     (sym c.in_ok-rows.ensures)
-    (subst (λ (slots : List (List ℕ)). IsPlaced (record { net = net.net; slots = slots })) (sym c.in_ok-slots.ensures) (placed_from_test net refl))
+    (subst (λ (slots : List (List ℕ)). IsPlaced (record { net = net.net; slots = slots })) (sym c.in_ok-slots.ensures)
+    (placed_from_test net refl))

@@ -16,7 +16,14 @@ net = record { inputs = 1; outputs = 1; rows = rows }
 pub placed-requires : goal.placed-requires
 unfolding net rows
 placed-requires c =
-    subst (λ (rs : List (List RowCell)). IsPlaced (record { net = record { inputs = 1; outputs = 1; rows = rs }; slots = c.in_ok-slots.slots.items }))
+    subst (λ (rs : List (List RowCell)). IsPlaced
+    (record { net = record { inputs = 1; outputs = 1; rows = rs }; slots = c.in_ok-slots.slots.items }))
     (sym c.in_ok-rows.ensures)
     (subst (λ (ss : List (List ℕ)). IsPlaced (record { net = net; slots = ss })) (sym c.in_ok-slots.ensures)
-    (record { net_keeps = row_net_from_test net refl; seated = ((omega arith, omega (arith, c.ranges.from.fits), tt), ((omega arith, omega (arith, c.ranges.to.fits), tt), tt)) }))
+    (record {
+      net_keeps = row_net_from_test net refl;
+      seated = (
+        (omega arith, omega (arith, c.ranges.from.fits), tt),
+        ((omega arith, omega (arith, c.ranges.to.fits), tt), tt),
+      );
+    }))

@@ -7,7 +7,6 @@ returns c = record {
   few = rows_within;
   first = first_past;
   past = past_first;
-  given =
-      given_few;
+  given = given_few;
   refused = refused_past;
 }

@@ -23,8 +23,7 @@ loop-number-preserved c =
           c.loop-number.invariant (record {
             shape = c.index-shapes-number.result;
             shape_is = got;
-            passes_so =
-                sym c.is_frame.ensures ∙ w.if-is_frame.true;
+            passes_so = sym c.is_frame.ensures ∙ w.if-is_frame.true;
           }))
       | else-is_frame w ↦ rw w.numbers-is
           (those_same (Passes is_frame c.args.shapes.now) c.loop-number.number c.loop-number.numbers.items

@@ -14,8 +14,7 @@ returns-then-is_frame c = (
   c.loop-shape.shape-index,
   record {
     shape = c.shape-item.result;
-    shape_is =
-        got_at _ _ _ c.loop-shape-test.true c.shape-item.is;
+    shape_is = got_at _ _ _ c.loop-shape-test.true c.shape-item.is;
     passes_so = sym c.is_frame.ensures ∙ c.if-is_frame.true;
   },
 )
