@@ -233,12 +233,7 @@ first_row inputs cells e =
 
 buffer_is : (kind : CellKind) → is_buffer kind ≡ true → kind ≡ Buffer
 buffer_is Buffer e = refl
-buffer_is Inverter e = absurd (cc)
-buffer_is Zero e = absurd (cc)
-buffer_is One e = absurd (cc)
-buffer_is Split2 e = absurd (cc)
-buffer_is Split3 e = absurd (cc)
-buffer_is Majority e = absurd (cc)
+buffer_is kind e = absurd (cc)
 
 end_output : (last : Bool) (kind : CellKind) (o : Bool) → may_end last kind o ≡ true → o ≡ last
 end_output true kind o e = (and_parts o (is_buffer kind) e).0
@@ -377,12 +372,7 @@ feeds_one bound cells known c d i j s a b =
 
 few_outputs : (kind : CellKind) → outputs_of kind ≤ 3
 few_outputs Buffer = omega arith
-few_outputs Inverter = omega arith
-few_outputs Zero = omega arith
-few_outputs One = omega arith
-few_outputs Split2 = omega arith
-few_outputs Split3 = omega arith
-few_outputs Majority = omega arith
+few_outputs kind = omega arith
 
 output_is : (below : List RowCell) (c n : ℕ) → n < outputs_at (slice_get below c) → (c < length below) × (n < 3)
 output_is [] c n lt = absurd (omega arith)

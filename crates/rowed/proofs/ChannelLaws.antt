@@ -7,7 +7,7 @@ use Rattle.std.specs.List.{AllByRecursion}
 use Rattle.std.proofs.lemmas.Bool.{ltb-true}
 use Rattle.circuit.specs.CellKinds.{inputs_of, outputs_of, slots_of}
 use Rattle.circuit.specs.declared.cell_kind.CellKind.{CellKind}
-use Rattle.circuit.specs.declared.cell_kind.CellKind.TheVariants.{Buffer, Inverter, Zero, One, Split2, Split3, Majority}
+use Rattle.circuit.specs.declared.cell_kind.CellKind.TheVariants.{Buffer}
 use Rattle.rowed.specs.declared.source.Source.{Source}
 use Rattle.rowed.specs.declared.row_cell.RowCell.{RowCell}
 use Rattle.rowed.specs.RowCells.{source_at}
@@ -22,21 +22,11 @@ use Rattle.rowed.proofs.PinLaws.{pins_all, users, seated_apart, within_span}
 -- a cell has room for its pins
 pub inputs_fit : (kind : CellKind) → inputs_of kind ≤ slots_of kind
 inputs_fit Buffer = omega arith
-inputs_fit Inverter = omega arith
-inputs_fit Zero = omega arith
-inputs_fit One = omega arith
-inputs_fit Split2 = omega arith
-inputs_fit Split3 = omega arith
-inputs_fit Majority = omega arith
+inputs_fit kind = omega arith
 
 outputs_fit : (kind : CellKind) → outputs_of kind ≤ slots_of kind
 outputs_fit Buffer = omega arith
-outputs_fit Inverter = omega arith
-outputs_fit Zero = omega arith
-outputs_fit One = omega arith
-outputs_fit Split2 = omega arith
-outputs_fit Split3 = omega arith
-outputs_fit Majority = omega arith
+outputs_fit kind = omega arith
 
 pub fed_pin_fits : (outputs : ℕ) (last : Bool) (below : List RowCell) (cell : RowCell)
     → CellAbove outputs last below cell

@@ -5,7 +5,7 @@ use Rattle.std.proofs.Common.{subst, arith}
 use Rattle.std.specs.List.{AllByRecursion}
 use Rattle.circuit.specs.CellKinds.{slots_of}
 use Rattle.circuit.specs.declared.cell_kind.CellKind.{CellKind}
-use Rattle.circuit.specs.declared.cell_kind.CellKind.TheVariants.{Buffer, Inverter, Zero, One, Split2, Split3, Majority}
+use Rattle.circuit.specs.declared.cell_kind.CellKind.TheVariants.{Buffer}
 use Rattle.rowed.specs.declared.row_cell.RowCell.{RowCell}
 use Rattle.rowed.specs.RowNets.{row_at}
 use Rattle.rowed.specs.Slots.{AreSeated, EachSeated, slot_limit}
@@ -61,12 +61,7 @@ next_fits p known k lt = (next_limited p known k lt).1
 -- each cell begins below the limit
 some_slots : (kind : CellKind) → 0 < slots_of kind
 some_slots Buffer = omega arith
-some_slots Inverter = omega arith
-some_slots Zero = omega arith
-some_slots One = omega arith
-some_slots Split2 = omega arith
-some_slots Split3 = omega arith
-some_slots Majority = omega arith
+some_slots kind = omega arith
 
 pub slots_below : (b : ℕ) (cells : List RowCell) (slots : List ℕ) → AreSeated b cells slots
     → AllByRecursion (λ (slot : ℕ). slot < slot_limit) slots

@@ -5,7 +5,7 @@ use Rattle.std.specs.Prelude.{slice_get, slice_index_or, Some}
 use Rattle.std.proofs.lemmas.Option.{same_Some}
 use Rattle.circuit.specs.CellKinds.{slots_of}
 use Rattle.circuit.specs.declared.cell_kind.CellKind.{CellKind}
-use Rattle.circuit.specs.declared.cell_kind.CellKind.TheVariants.{Buffer, Inverter, Zero, One, Split2, Split3, Majority}
+use Rattle.circuit.specs.declared.cell_kind.CellKind.TheVariants.{Buffer}
 use Rattle.rowed.specs.declared.row_cell.RowCell.{RowCell}
 use Rattle.rowed.specs.RowNets.{row_at}
 use Rattle.rowed.specs.Slots.{span_of, EachSeated}
@@ -18,12 +18,7 @@ use Rattle.rowed.proofs.NumberedRows.{as_many_slots}
 
 pub at_most_three : (kind : CellKind) → slots_of kind ≤ 3
 at_most_three Buffer = omega arith
-at_most_three Inverter = omega arith
-at_most_three Zero = omega arith
-at_most_three One = omega arith
-at_most_three Split2 = omega arith
-at_most_three Split3 = omega arith
-at_most_three Majority = omega arith
+at_most_three kind = omega arith
 
 pub packed_few : (row : List RowCell) → packed_span row ≤ 3 * length row
 packed_few [] = omega arith
