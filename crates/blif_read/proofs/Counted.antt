@@ -138,8 +138,7 @@ line_each (l ∷ ls) c =
 
 pub text_is_cut : (text : List ℕ) → AreCut (length text) (logical_lines text)
 text_is_cut text = record {
-  each = each_is_cut
-      (joined 1 (map without_comment (physical_lines text)));
+  each = each_is_cut (joined 1 (map without_comment (physical_lines text)));
   fits = text_bytes text;
 }
 

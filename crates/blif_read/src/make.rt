@@ -70,9 +70,9 @@ fn copy_of(defs: &List<Def>, outputs: &List<u32>) -> Result<Parts, Memory>
 }
 
 /// The netlist of these parts: the names of all signals, of which the first `inputs` are inputs, the definitions of the
-/// others, in order, and the signals of the outputs. `Cycle` is answered exactly where the definitions have a cycle, and
-/// has the first that a walk closes, which takes definitions in order and the inputs of each in order. It is refused
-/// otherwise for want of memory alone.
+/// others, in order, and the signals of the outputs. `Cycle` is answered exactly where the definitions have a cycle,
+/// and has the first that a walk closes, which takes definitions in order and the inputs of each in order. It is
+/// refused otherwise for want of memory alone.
 pub fn make_netlist(
     alloc: Global,
     inputs: u32,

@@ -4,7 +4,9 @@ ghost use Rattle.std.specs.List.{position, list_all, flat_map};
 ghost use Rattle.blif_read.specs.Lines.{is_empty};
 ghost use Rattle.blif_read.specs.Statements.{word, arguments, is_model, inputs_in, outputs_in, front_of, last_of};
 ghost use Rattle.blif_read.specs.Parts.{rows_before_others};
-ghost use Rattle.blif_read.specs.Models.{model_of, model_line, model_name, named, named_inputs, named_outputs, named_definition, named_definition_at, is_equals_sign, formal_in, actual_in, is_port, port_of, ports_in, call_of, calls_in, first_name};
+ghost use Rattle.blif_read.specs.Models.{model_of, model_line, model_name, named, named_inputs, named_outputs};
+ghost use Rattle.blif_read.specs.Models.{named_definition, named_definition_at, is_equals_sign, formal_in, actual_in};
+ghost use Rattle.blif_read.specs.Models.{is_port, port_of, ports_in, call_of, calls_in, first_name};
 ghost use Rattle.blif_read.specs.Code.Sections.{with_line};
 
 use crate::cover::rows;
@@ -42,7 +44,8 @@ pub struct Call {
     pub well_formed: bool,
 }
 
-/// The definition of the signal `output` by names. Where `on` is set, it is true where a plane matches; else false there.
+/// The definition of the signal `output` by names. Where `on` is set, it is true where a plane matches; else false
+/// there.
 #[derive(Clone, Drop, PartialEq)]
 pub struct NamedDef {
     pub line: u64,

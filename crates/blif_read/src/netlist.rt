@@ -63,7 +63,8 @@ pub struct Cube {
     pub plane: ShortBytes,
 }
 
-/// The definition of a signal, from its line. Where `on` is set, the signal is true where a plane matches; else false there.
+/// The definition of a signal, from its line. Where `on` is set, the signal is true where a plane matches; else false
+/// there.
 #[derive(Clone, Drop, PartialEq)]
 pub struct Def {
     pub line: u64,
@@ -96,7 +97,9 @@ impl Model for Netlist {
 
     ghost view = { λ n. record { inputs = n.inputs; names = n.names.keys; defs = n.defs; outputs = n.outputs } };
 
-    ghost invariant = { λ n. IsNetlist (record { inputs = n.inputs; names = n.names.keys; defs = n.defs; outputs = n.outputs }) × IsOrder n.inputs n.defs n.order };
+    ghost invariant = { λ n. IsNetlist
+        (record { inputs = n.inputs; names = n.names.keys; defs = n.defs; outputs = n.outputs })
+        × IsOrder n.inputs n.defs n.order };
 }
 
 ghost use Rattle.blif_read.specs.Netlist.{IsNetlist};
@@ -116,7 +119,8 @@ impl Netlist {
 
     /// The netlist of these parts, with an order in which each signal stands after those that it is computed from.
     pub(crate) fn new(inputs: u32, names: Names, parts: Parts, order: Vec<u32>) -> Self
-        requires facts { IsNetlist (record { inputs = inputs; names = names.keys; defs = parts.defs; outputs = parts.outputs }) }
+        requires facts { IsNetlist
+            (record { inputs = inputs; names = names.keys; defs = parts.defs; outputs = parts.outputs }) }
         requires order { IsOrder inputs parts.defs order.items }
         ensures { result
             ≡ record { inputs = inputs; names = names.keys; defs = parts.defs; outputs = parts.outputs } }

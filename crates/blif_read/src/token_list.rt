@@ -115,8 +115,8 @@ fn first_token<'a>(rest: Rest<'a>) -> Option<(&'a [u8], Rest<'a>)>
     }
 }
 
-/// The tokens that are left of a logical line: at most so many. Contracts see them as a list, but they stand on the text
-/// and take no memory.
+/// The tokens that are left of a logical line: at most so many. Contracts see them as a list, but they stand on the
+/// text and take no memory.
 #[derive(Drop)]
 pub struct Tokens<'a> {
     rest: Rest<'a>,
@@ -162,8 +162,8 @@ impl<'a> Tokens<'a> {
         }
     }
 
-    /// Their first byte says that the first token begins no statement; where it doesn't say so, the token may begin none
-    /// all the same.
+    /// Their first byte says that the first token begins no statement; where it doesn't say so, the token may begin
+    /// none all the same.
     #[tactic(auto, using(crate::proofs::Passing::row_first))]
     pub fn begins_row(&self) -> bool
         ensures { result ≡ true → begins_with_dot (first_of self.now) ≡ false }

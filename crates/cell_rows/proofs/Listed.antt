@@ -1,5 +1,5 @@
 -- Lists that grow by one element at their end.
-use Rattle.std.proofs.Common.{◌≡◌, ℕ, zero, suc, ◌<◌, ◌≤◌, Bool, true, false, List, [], ◌∷◌, ◌++◌, length}
+use Rattle.std.proofs.Common.{◌≡◌, ℕ, ◌+◌, zero, suc, ◌<◌, ◌≤◌, Bool, true, false, List, [], ◌∷◌, ◌++◌, length}
 use Rattle.std.proofs.Common.{get_or, Some, refl, ap, sym, ◌∙◌, subst, arith, inl, inr}
 use Rattle.std.specs.Prelude.{slice_get, slice_index_or, slice_set}
 use Rattle.std.proofs.lemmas.Bool.{cases_eq, cond-true, cond-false}
@@ -139,28 +139,36 @@ passing_is p (suc n) c j at = by (p n) refl (passing_is p n c j)
     by false e rest =
         more_passing p n c j (rest (ap (λ (xs : List ℕ). slice_get xs c) (sym (pass_none p n e)) ∙ at))
 
+-- a number more, where whatever passes the first test passes the second
+one_number : (p q : ℕ → Bool) (n least : ℕ) → ((k : ℕ) → p k ≡ true → q k ≡ true)
+    → least + length (passing_below p n) ≤ length (passing_below q n)
+    → least + length (passing_below p (suc n)) ≤ length (passing_below q (suc n))
+one_number p q n least all low = by (p n) (q n) refl refl
+  where
+    by : (b c : Bool) → p n ≡ b → q n ≡ c
+        → least + length (passing_below p (suc n)) ≤ length (passing_below q (suc n))
+    by true true e f =
+        let a = ap length (pass_more p n e) ∙ length_push (passing_below p n) n in
+        let b = ap length (pass_more q n f) ∙ length_push (passing_below q n) n in
+        omega (arith, low, a, b)
+    by true false e f = absurd (let h : true ≡ false = sym (all n e) ∙ f in cc)
+    by false true e f =
+        let a = ap length (pass_none p n e) in
+        let b = ap length (pass_more q n f) ∙ length_push (passing_below q n) n in
+        omega (arith, low, a, b)
+    by false false e f =
+        let a = ap length (pass_none p n e) in
+        let b = ap length (pass_none q n f) in
+        omega (arith, low, a, b)
+
 -- as many numbers are below n as pass, and fewer pass a narrower test
 pub passing_fewer : (p q : ℕ → Bool) (n : ℕ) → ((j : ℕ) → p j ≡ true → q j ≡ true)
     → length (passing_below p n) ≤ length (passing_below q n)
 passing_fewer p q zero all = omega arith
-passing_fewer p q (suc n) all = by (p n) (q n) refl refl (passing_fewer p q n all)
-  where
-    by : (b c : Bool) → p n ≡ b → q n ≡ c
-        → length (passing_below p n) ≤ length (passing_below q n)
-        → length (passing_below p (suc n)) ≤ length (passing_below q (suc n))
-    by true true e f low =
-        let a = ap length (pass_more p n e) ∙ length_push (passing_below p n) n in
-        let b = ap length (pass_more q n f) ∙ length_push (passing_below q n) n in
-        omega (arith, low, a, b)
-    by true false e f low = absurd (let h : true ≡ false = sym (all n e) ∙ f in cc)
-    by false true e f low =
-        let a = ap length (pass_none p n e) in
-        let b = ap length (pass_more q n f) ∙ length_push (passing_below q n) n in
-        omega (arith, low, a, b)
-    by false false e f low =
-        let a = ap length (pass_none p n e) in
-        let b = ap length (pass_none q n f) in
-        omega (arith, low, a, b)
+passing_fewer p q (suc n) all =
+    let low = passing_fewer p q n all in
+    let more = one_number p q n 0 all (omega (arith, low)) in
+    omega (arith, more)
 
 -- one more passes where a number that fails the narrower test passes the other
 pub passing_one_fewer : (p q : ℕ → Bool) (n j : ℕ) → ((k : ℕ) → p k ≡ true → q k ≡ true) → j < n → p j ≡ false
@@ -172,21 +180,8 @@ passing_one_fewer p q (suc n) j all lt fails passes = elim (cases_eq j n) [
       let a = ap length (pass_none p n (ap p (sym e) ∙ fails)) in
       let b = ap length (pass_more q n (ap q (sym e) ∙ passes)) ∙ length_push (passing_below q n) n in
       omega (arith, low, a, b)
-  | inr ne ↦ by (p n) (q n) refl refl (passing_one_fewer p q n j all (omega (arith, ne, lt)) fails passes)
+  | inr ne ↦
+      let low = passing_one_fewer p q n j all (omega (arith, ne, lt)) fails passes in
+      let more = one_number p q n 1 all (omega (arith, low)) in
+      omega (arith, more)
 ]
-  where
-    by : (b c : Bool) → p n ≡ b → q n ≡ c → suc (length (passing_below p n)) ≤ length (passing_below q n)
-        → suc (length (passing_below p (suc n))) ≤ length (passing_below q (suc n))
-    by true true e f low =
-        let a = ap length (pass_more p n e) ∙ length_push (passing_below p n) n in
-        let b = ap length (pass_more q n f) ∙ length_push (passing_below q n) n in
-        omega (arith, low, a, b)
-    by true false e f low = absurd (let h : true ≡ false = sym (all n e) ∙ f in cc)
-    by false true e f low =
-        let a = ap length (pass_none p n e) in
-        let b = ap length (pass_more q n f) ∙ length_push (passing_below q n) n in
-        omega (arith, low, a, b)
-    by false false e f low =
-        let a = ap length (pass_none p n e) in
-        let b = ap length (pass_none q n f) in
-        omega (arith, low, a, b)

@@ -55,114 +55,130 @@ track_at_place es (v ∷ ones) (suc i) d lt =
 after_length : (l h : ℕ) (es : List ℕ) → length (ends_after l h es) ≤ length es + 1
 after_length l h es = elim (after-adds l h es) [ inl same ↦ omega (arith, same.0) | inr more ↦ omega (arith, more.0) ]
 
-pub assigning_more : (ones : List Numbered) (capacity i : ℕ) (track ends ends' : List ℕ) (column column' taken : ℕ)
-    (d : Numbered)
-    → EachPair (λ v w. v.number ≡ w.number → ⊥) ones → All (λ one. one.number < length ones) ones → i < length ones
-    → Assigning ones capacity i track ends column
-    → taken ≡ lowest_free (low (get_or ones i d).wire) ends
-    → ends' ≡ ends_after (low (get_or ones i d).wire) (high (get_or ones i d).wire) ends
-    → (taken ≡ length ends → length ends < capacity)
-    → column' ≡ cond (eqb taken (length ends)) (low (get_or ones i d).wire) column
-    → Assigning ones capacity (i + 1) (set track (get_or ones i d).number taken) ends' column'
-assigning_more ones capacity i track ends ends' column column' taken d apart below lt a t e room c = record {
-  one_each = length-set track (get_or ones i d).number taken ∙ a.one_each;
-  placed = λ k d' lk. elim (cases_eq k i) [
+-- the wire whose turn it is: what was assigned before, the wire's ends, the track that it takes, and how far the tracks
+-- reach then
+pub record Turn : Type 0 where
+  pub ones : List Numbered
+  pub capacity : ℕ
+  pub place : ℕ
+  pub track : List ℕ
+  pub ends : List ℕ
+  pub column : ℕ
+  pub one : Numbered
+  pub lower : ℕ
+  pub taken : ℕ
+  pub within : place < length ones
+  pub assigned : Assigning ones capacity place track ends column
+  pub lower_is : lower ≡ low (get_or ones place one).wire
+  pub taken_is : taken ≡ lowest_free lower ends
+
+abbrev pub turn_of : {ones : List Numbered} {capacity place : ℕ} {track ends : List ℕ} {column lower taken : ℕ}
+    (one : Numbered) → place < length ones → Assigning ones capacity place track ends column
+    → lower ≡ low (get_or ones place one).wire → taken ≡ lowest_free lower ends → Turn
+turn_of {ones} {capacity} {place} {track} {ends} {column} {lower} {taken} one within assigned lower_is taken_is =
+    record {
+      ones = ones;
+      capacity = capacity;
+      place = place;
+      track = track;
+      ends = ends;
+      column = column;
+      one = one;
+      lower = lower;
+      taken = taken;
+      within = within;
+      assigned = assigned;
+      lower_is = lower_is;
+      taken_is = taken_is;
+    }
+
+-- the wire, and the wires before it
+abbrev own : Turn → Numbered
+own x = get_or x.ones x.place x.one
+
+abbrev before : Turn → List Wire
+before x = wires_of (take x.place x.ones)
+
+-- the track is the plan's
+taken_here : (x : Turn) → x.taken ≡ get_or (tracks [] (wires_of x.ones)) x.place 0
+taken_here x = x.taken_is ∙ ap (λ (n : ℕ). lowest_free n x.ends) x.lower_is
+    ∙ ap (lowest_free (low (own x).wire)) x.assigned.ends_are ∙ sym (track_at_place [] x.ones x.place x.one x.within)
+
+-- the wire is assigned its track: one more column is the last in which a track was begun, or none
+pub assigned_more : (x : Turn) {higher : ℕ} {ends : List ℕ} {column : ℕ}
+    → EachPair (λ v w. v.number ≡ w.number → ⊥) x.ones → All (λ one. one.number < length x.ones) x.ones
+    → higher ≡ high (own x).wire → ends ≡ ends_after x.lower higher x.ends
+    → (x.taken ≡ length x.ends → length x.ends < x.capacity)
+    → column ≡ cond (eqb x.taken (length x.ends)) x.lower x.column
+    → Assigning x.ones x.capacity (x.place + 1) (set x.track (own x).number x.taken) ends column
+assigned_more x {higher} {ends} {column} apart below h e room c = record {
+  one_each = length-set x.track (own x).number x.taken ∙ a.one_each;
+  placed = λ k d lk. elim (cases_eq k x.place) [
     | inl same ↦
-        let n : (get_or ones k d').number ≡ (get_or ones i d).number = ap (λ (j : ℕ). (get_or ones j d').number) same
-        ∙ ap (λ (one : Numbered). one.number) (get_or_default ones i d' d lt) in
-        ap (λ (j : ℕ). get_or (set track (get_or ones i d).number taken) j 0) n
-        ∙ get_or-set_same track (get_or ones i d).number taken 0 (omega (arith, below i d lt, a.one_each)) ∙ here
-        ∙ ap (λ (j : ℕ). get_or (tracks [] (wires_of ones)) j 0) (sym same)
+        let n : (get_or x.ones k d).number ≡ (own x).number = ap (λ (j : ℕ). (get_or x.ones j d).number) same
+        ∙ ap (λ (one : Numbered). one.number) (get_or_default x.ones x.place d x.one x.within) in
+        ap (λ (j : ℕ). get_or (set x.track (own x).number x.taken) j 0) n
+        ∙ get_or-set_same x.track (own x).number x.taken 0 (omega (arith, below x.place x.one x.within, a.one_each))
+        ∙ taken_here x ∙ ap (λ (j : ℕ). get_or (tracks [] (wires_of x.ones)) j 0) (sym same)
     | inr other ↦
-        let less : k < i = elim (cases_lt k i) [ inl l ↦ l | inr g ↦ absurd (other (omega arith)) ] in
-        let ne : (get_or ones k d').number ≡ (get_or ones i d).number
-        → ⊥ = λ q. pair_at (λ v w. v.number ≡ w.number → ⊥) ones apart k i d' less lt
-        (q ∙ ap (λ (one : Numbered). one.number) (get_or_default ones i d d' lt)) in
-        get_or-set_other track (get_or ones i d).number (get_or ones k d').number taken 0 ne ∙ a.placed k d' less
+        let less : k < x.place = elim (cases_lt k x.place) [ inl l ↦ l | inr g ↦ absurd (other (omega arith)) ] in
+        let ne : (get_or x.ones k d).number ≡ (own x).number → ⊥ =
+        λ q. pair_at (λ v w. v.number ≡ w.number → ⊥) x.ones apart k x.place d less x.within
+        (q ∙ ap (λ (one : Numbered). one.number) (get_or_default x.ones x.place x.one d x.within)) in
+        get_or-set_other x.track (own x).number (get_or x.ones k d).number x.taken 0 ne ∙ a.placed k d less
   ];
-  ends_are = e ∙ ap (ends_after (low (get_or ones i d).wire) (high (get_or ones i d).wire)) a.ends_are
-      ∙ sym (last_ends-push [] (wires_of (take i ones)) (get_or ones i d).wire)
-      ∙ ap (last_ends []) (sym (wires_more ones i d lt));
-  column_is = c ∙ columns ∙ sym (last_column-push [] 0 (wires_of (take i ones)) (get_or ones i d).wire)
-      ∙ ap (last_column [] 0) (sym (wires_more ones i d lt));
-  within = elim (after-adds (low (get_or ones i d).wire) (high (get_or ones i d).wire) ends) [
+  ends_are = same_ends ∙ ap (ends_after (low (own x).wire) (high (own x).wire)) a.ends_are
+      ∙ sym (last_ends-push [] (before x) (own x).wire)
+      ∙ ap (last_ends []) (sym (wires_more x.ones x.place x.one x.within));
+  column_is = c ∙ columns ∙ sym (last_column-push [] 0 (before x) (own x).wire)
+      ∙ ap (last_column [] 0) (sym (wires_more x.ones x.place x.one x.within));
+  within = elim (after-adds x.lower higher x.ends) [
     | inl same ↦ omega (arith, same.0, a.within, ap (λ (l : List ℕ). length l) e)
-    | inr more ↦ omega (
-      arith,
-      more.0,
-      room
-          (t ∙ eqb-true (lowest_free (low (get_or ones i d).wire) ends) (length ends) more.2),
-      ap
-          (λ (l : List ℕ). length l) e,
-    )
+    | inr more ↦
+        let less = room (x.taken_is ∙ eqb-true (lowest_free x.lower x.ends) (length x.ends) more.2) in
+        omega (arith, more.0, less, ap (λ (l : List ℕ). length l) e)
   ];
-  few = omega (
-    arith,
-    a.few,
-    ap (λ (l : List ℕ). length l) e,
-    after_length (low (get_or ones i d).wire)
-        (high (get_or ones i d).wire) ends,
-  );
+  few = omega (arith, a.few, ap (λ (l : List ℕ). length l) e, after_length x.lower higher x.ends);
 }
   where
-    here : taken ≡ get_or (tracks [] (wires_of ones)) i 0
-    here = t ∙ ap (lowest_free (low (get_or ones i d).wire)) a.ends_are ∙ sym (track_at_place [] ones i d lt)
+    a : Assigning x.ones x.capacity x.place x.track x.ends x.column
+    a = x.assigned
 
-    columns : cond (eqb taken (length ends)) (low (get_or ones i d).wire) column ≡ cond
-        (eqb (lowest_free (low (get_or ones i d).wire) (last_ends [] (wires_of (take i ones))))
-        (length (last_ends [] (wires_of (take i ones))))) (low (get_or ones i d).wire)
-        (last_column [] 0 (wires_of (take i ones)))
-    columns = rw (t, a.column_is, a.ends_are) refl
+    same_ends : ends ≡ ends_after (low (own x).wire) (high (own x).wire) x.ends
+    same_ends = e ∙ rw (x.lower_is, h) refl
+
+    columns : cond (eqb x.taken (length x.ends)) x.lower x.column ≡ cond
+        (eqb (lowest_free (low (own x).wire) (last_ends [] (before x))) (length (last_ends [] (before x))))
+        (low (own x).wire) (last_column [] 0 (before x))
+    columns = rw (x.taken_is, x.lower_is, x.assigned.column_is, x.assigned.ends_are) refl
 
 -- the same at what the code holds: the branch that adds a track, and the one that doesn't
-more_at : (ones : List Numbered) (capacity i : ℕ) (track ends ends' : List ℕ) (column column' taken low' high' : ℕ)
-    (d : Numbered)
-    → EachPair (λ v w. v.number ≡ w.number → ⊥) ones → All (λ one. one.number < length ones) ones → i < length ones
-    → Assigning ones capacity i track ends column
-    → low' ≡ low (get_or ones i d).wire → high' ≡ high (get_or ones i d).wire → taken ≡ lowest_free low' ends
-    → ends' ≡ ends_after low' high' ends
-    → (taken ≡ length ends → length ends < capacity) → column' ≡ cond (eqb taken (length ends)) low' column
-    → Assigning ones capacity (i + 1) (set track (get_or ones i d).number taken) ends' column'
-more_at ones capacity i track ends ends' column column' taken low' high' d apart below lt a l h t e room c =
-    assigning_more ones capacity i track ends ends' column column' taken d apart below lt a
-    (t ∙ ap (λ (n : ℕ). lowest_free n ends) l) (e ∙ rw (l, h) refl) room
-    (c ∙ ap (λ (n : ℕ). cond (eqb taken (length ends)) n column) l)
-
-pub more_added : (ones : List Numbered) (capacity i used : ℕ) (track ends ends' : List ℕ)
-    (column column' taken low' high' : ℕ) (d : Numbered)
-    → EachPair (λ v w. v.number ≡ w.number → ⊥) ones → All (λ one. one.number < length ones) ones → i < length ones
-    → Assigning ones capacity i track ends column
-    → low' ≡ low (get_or ones i d).wire → high' ≡ high (get_or ones i d).wire → taken ≡ lowest_free low' ends
-    → ends' ≡ ends_after low' high' ends
-    → used ≡ length ends → taken ≡ used → (used ≡ capacity → ⊥) → column' ≡ low'
-    → Assigning ones capacity (i + 1) (set track (get_or ones i d).number taken) ends' column'
-more_added ones capacity i used track ends ends' column column' taken low' high' d apart below lt a l h t e u same room
-    c =
-    let k : eqb taken (length ends) ≡ true = eq-eqb taken (length ends) (same ∙ u) in
-    more_at ones capacity i track ends ends' column column' taken low' high' d apart below lt a l h t e
-    (λ q. elim (cases_eq used capacity) [ inl f ↦ absurd (room f) | inr n ↦ strict n ]) (rw k c)
+pub more_added : (x : Turn) {used higher : ℕ} {ends : List ℕ} {column : ℕ}
+    → EachPair (λ v w. v.number ≡ w.number → ⊥) x.ones → All (λ one. one.number < length x.ones) x.ones
+    → higher ≡ high (own x).wire → ends ≡ ends_after x.lower higher x.ends
+    → used ≡ length x.ends → x.taken ≡ used → (used ≡ x.capacity → ⊥) → column ≡ x.lower
+    → Assigning x.ones x.capacity (x.place + 1) (set x.track (own x).number x.taken) ends column
+more_added x {used} apart below h e u same room c =
+    let new : eqb x.taken (length x.ends) ≡ true = eq-eqb x.taken (length x.ends) (same ∙ u) in
+    assigned_more x apart below h e
+    (λ q. elim (cases_eq used x.capacity) [ inl full ↦ absurd (room full) | inr less ↦ strict less ]) (rw new c)
   where
-    strict : (used ≡ capacity → ⊥) → length ends < capacity
-    strict n = elim (cases_lt (length ends) capacity)
-        [ inl less ↦ less | inr ge ↦ absurd (n (omega (arith, a.within, u))) ]
+    strict : (used ≡ x.capacity → ⊥) → length x.ends < x.capacity
+    strict n = elim (cases_lt (length x.ends) x.capacity)
+        [ inl less ↦ less | inr ge ↦ absurd (n (omega (arith, x.assigned.within, u))) ]
 
-pub more_kept : (ones : List Numbered) (capacity i used : ℕ) (track ends ends' : List ℕ)
-    (column column' taken low' high' : ℕ) (d : Numbered)
-    → EachPair (λ v w. v.number ≡ w.number → ⊥) ones → All (λ one. one.number < length ones) ones → i < length ones
-    → Assigning ones capacity i track ends column
-    → low' ≡ low (get_or ones i d).wire → high' ≡ high (get_or ones i d).wire → taken ≡ lowest_free low' ends
-    → ends' ≡ ends_after low' high' ends
-    → used ≡ length ends → (taken ≡ used → ⊥) → column' ≡ column
-    → Assigning ones capacity (i + 1) (set track (get_or ones i d).number taken) ends' column'
-more_kept ones capacity i used track ends ends' column column' taken low' high' d apart below lt a l h t e u other c =
-    let k : eqb taken (length ends) ≡ false = ne_eqb taken (length ends) (λ q. other (q ∙ sym u)) in
-    more_at ones capacity i track ends ends' column column' taken low' high' d apart below lt a l h t e
-    (λ q. absurd (other (q ∙ sym u))) (rw k c)
+pub more_kept : (x : Turn) {used higher : ℕ} {ends : List ℕ} {column : ℕ}
+    → EachPair (λ v w. v.number ≡ w.number → ⊥) x.ones → All (λ one. one.number < length x.ones) x.ones
+    → higher ≡ high (own x).wire → ends ≡ ends_after x.lower higher x.ends
+    → used ≡ length x.ends → (x.taken ≡ used → ⊥) → column ≡ x.column
+    → Assigning x.ones x.capacity (x.place + 1) (set x.track (own x).number x.taken) ends column
+more_kept x apart below h e u other c =
+    let old : eqb x.taken (length x.ends) ≡ false = ne_eqb x.taken (length x.ends) (λ q. other (q ∙ sym u)) in
+    assigned_more x apart below h e (λ q. absurd (other (q ∙ sym u))) (rw old c)
 
-pub taken_small : (ones : List Numbered) (capacity i : ℕ) (track ends : List ℕ) (column taken l : ℕ)
-    → length ones < 2 ^ 32 → i < length ones → Assigning ones capacity i track ends column → taken ≡ lowest_free l ends
-    → taken < 2 ^ 32
-taken_small ones capacity i track ends column taken l few lt a t = omega (arith, t, lowest_le l ends, a.few)
+pub taken_small : (x : Turn) → length x.ones < 2 ^ 32 → x.taken < 2 ^ 32
+taken_small x few =
+    let lt = x.within in omega (arith, lt, x.taken_is, lowest_le x.lower x.ends, x.assigned.few)
 
 -- where no track is left, the wire's lower end is the first column that too many cross
 rising_rest : (b : ℕ) (front : List Wire) (w : Wire) (rest : List Wire) → Rising low b (front ++ w ∷ rest)
@@ -235,17 +251,15 @@ rising_wires : (b : ℕ) (ones : List Numbered) → Rising low_of b ones → Ris
 rising_wires b [] r = tt
 rising_wires b (v ∷ ones) r = (r.0, rising_wires (low_of v + 1) ones r.1)
 
-pub full_at : (ones : List Numbered) (capacity i used taken low' : ℕ) (track ends : List ℕ) (column : ℕ) (d : Numbered)
-    → Rising low_of 0 ones → i < length ones → Assigning ones capacity i track ends column
-    → low' ≡ low (get_or ones i d).wire → taken ≡ lowest_free low' ends → used ≡ length ends → taken ≡ used
-    → used ≡ capacity → IsOver (wires_of ones) capacity low'
-full_at ones capacity i used taken low' track ends column d r lt a l t u same full =
-    let split = wires_split ones i d lt in
-    let rising = subst (λ (ws : List Wire). Rising low 0 ws) split (rising_wires 0 ones r) in
-    let ends_length : length (last_ends [] (wires_of (take i ones))) ≡ length ends =
-    ap (λ (es : List ℕ). length es) (sym a.ends_are) in
-    let free : lowest_free (low (get_or ones i d).wire) (last_ends [] (wires_of (take i ones))) ≡ taken =
-    rw (← a.ends_are, ← l) (sym t) in
-    let h = over_at (wires_of (take i ones)) (wires_of (drop (suc i) ones)) (get_or ones i d).wire capacity rising
+pub full_at : (x : Turn) {used : ℕ} → Rising low_of 0 x.ones → used ≡ length x.ends → x.taken ≡ used → used ≡ x.capacity
+    → IsOver (wires_of x.ones) x.capacity x.lower
+full_at x r u same full =
+    let split = wires_split x.ones x.place x.one x.within in
+    let rising = subst (λ (ws : List Wire). Rising low 0 ws) split (rising_wires 0 x.ones r) in
+    let ends_length : length (last_ends [] (before x)) ≡ length x.ends =
+    ap (λ (es : List ℕ). length es) (sym x.assigned.ends_are) in
+    let free : lowest_free (low (own x).wire) (last_ends [] (before x)) ≡ x.taken =
+    rw (← x.assigned.ends_are, ← x.lower_is) (sym x.taken_is) in
+    let over = over_at (before x) (wires_of (drop (suc x.place) x.ones)) (own x).wire x.capacity rising
     (omega (arith, ends_length, u, full)) (omega (arith, free, ends_length, u, same)) in
-    rw (l, split) h
+    rw (x.lower_is, split) over

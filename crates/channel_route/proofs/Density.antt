@@ -160,8 +160,7 @@ pub used_is_density : (b : ℕ) (ws : List Wire) → Rising low b ws
 used_is_density b ws r = elim (all_held [] 0 b ws r) [
   | inl none ↦ record {
     reached = omega (arith, none.0, most_held [] b ws r (last_column [] 0 ws));
-    most =
-        λ x. omega (arith, most_held [] b ws r x);
+    most = λ x. omega (arith, most_held [] b ws r x);
   }
   | inr some ↦ record { reached = omega (arith, some.1); most = λ x. omega (arith, most_held [] b ws r x) }
 ]

@@ -36,7 +36,8 @@ impl Ends {
         requires { AreLevels self.old.levels.items }
         ensures levels { OnOk result (AreLevels self.new.levels.items) }
         ensures track { IfOk result (λ track. track ≡ lowest_free low (lowest_level self.old.levels.items)) }
-        ensures ends { OnOk result (lowest_level self.new.levels.items ≡ ends_after low high (lowest_level self.old.levels.items)) }
+        ensures ends { OnOk result (lowest_level self.new.levels.items
+            ≡ ends_after low high (lowest_level self.old.levels.items)) }
     {
         let track = first_below(&self.levels, low);
         put_entry(alloc, &mut self.levels, track, high)?;

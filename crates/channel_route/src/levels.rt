@@ -78,7 +78,8 @@ fn top_entry(levels: &[List<u32>], default: u32) -> u32
 /// The first entry below a bound of a pair that has one.
 fn child(below: &[u32], pair: usize, bound: u32) -> usize
     requires { pair + pair < length below.now }
-    ensures { result ≡ (if nat_lt (slice_index_or below.now (pair + pair) 0) bound then pair + pair else pair + pair + 1) }
+    ensures { result
+        ≡ (if nat_lt (slice_index_or below.now (pair + pair) 0) bound then pair + pair else pair + pair + 1) }
 {
     let left = pair + pair;
     if below[left] < bound { left } else { left + 1 }

@@ -9,7 +9,7 @@ use Rattle.blif_read.specs.declared.netlist.Cube.{Cube}
 use Rattle.blif_read.specs.declared.netlist.Def.{Def}
 use Rattle.maj_graph.specs.Graphs.{literal_value, Fits, turned}
 use Rattle.maj_graph.specs.Building.{BuilderView, Grown, Gives, limit, AllThere}
-use Rattle.maj_graph.proofs.Built.{gives_later, grown_then, fits_before}
+use Rattle.maj_graph.proofs.Built.{grown_then, fits_before}
 use Rattle.maj_graph.proofs.Folded.{turned_value, turned_below}
 use Rattle.cover_graph.specs.declared.fold.Join.{Join}
 use Rattle.cover_graph.specs.declared.fold.Join.TheVariants.{And, Or}
@@ -46,45 +46,35 @@ joined_append which [] ys = sym (none_left which (joined which ys))
 joined_append which (x ∷ xs) ys = ap (join which x) (joined_append which xs ys)
     ∙ sym (assoc which x (joined which xs) (joined which ys))
 
-pub halves : (which : Join) (v : ℕ → Bool) (k : ℕ) (xs left right : List ℕ) → left ≡ take k xs → right ≡ drop k xs
-    → join which (joined which (map (literal_value v) left))
-    (joined which (map (literal_value v) right)) ≡ joined which (map (literal_value v) xs)
-halves which v k xs left right l r =
-    ap (λ ys. join which (joined which (map (literal_value v) ys)) (joined which (map (literal_value v) right))) l
-    ∙ ap (λ ys. join which (joined which (map (literal_value v) (take k xs)))
-    (joined which (map (literal_value v) ys))) r
-    ∙ sym (joined_append which (map (literal_value v) (take k xs)) (map (literal_value v) (drop k xs)))
-    ∙ ap (joined which)
-    (sym (map-append (literal_value v) (take k xs) (drop k xs)) ∙ ap (map (literal_value v)) (take-append-drop k xs))
-
 pub gives_none_joined : (b : BuilderView) (which : Join) (l : ℕ) (xs : List ℕ) → xs ≡ [] → l ≡ cond (none which) 1 0
     → Gives b l (λ v. joined which (map (literal_value v) xs))
 gives_none_joined b And l xs e is = subst (λ k. Gives b k (λ v. joined And (map (literal_value v) xs))) (sym is)
     (record {
       below = omega arith;
-      shows = λ word v fit. one_value v fit.none
-          ∙ ap (λ ys. joined And (map (literal_value v) ys)) (sym e);
+      shows = λ word v fit. one_value v fit.none ∙ ap (λ ys. joined And (map (literal_value v) ys)) (sym e);
     })
 gives_none_joined b Or l xs e is = subst (λ k. Gives b k (λ v. joined Or (map (literal_value v) xs))) (sym is)
     (record {
       below = omega arith;
-      shows = λ word v fit. zero_value v fit.none
-          ∙ ap (λ ys. joined Or (map (literal_value v) ys)) (sym e);
+      shows = λ word v fit. zero_value v fit.none ∙ ap (λ ys. joined Or (map (literal_value v) ys)) (sym e);
     })
 
 -- the halves joined
-pub fold_value : (which : Join) (b1 b2 b3 : BuilderView) (k first second : ℕ) (xs left right : List ℕ)
-    → left ≡ take k xs → right ≡ drop k xs → Grown b1 b2 → Grown b2 b3
-    → Gives b1 first (λ v. joined which (map (literal_value v) left))
-    → Gives b2 second (λ v. joined which (map (literal_value v) right))
-    → (word : List Bool) (v : ℕ → Bool) → Fits b3.inputs b3.nodes word v
+pub split_whole : (k : ℕ) (xs left right : List ℕ) → left ≡ take k xs → right ≡ drop k xs → left ++ right ≡ xs
+split_whole k xs left right l r =
+    ap (λ ys. ys ++ right) l ∙ ap (λ ys. take k xs ++ ys) r ∙ take-append-drop k xs
+
+pub fold_value : (which : Join) (b : BuilderView) (xs left right : List ℕ) {first second : ℕ} → left ++ right ≡ xs
+    → Gives b first (λ v. joined which (map (literal_value v) left))
+    → Gives b second (λ v. joined which (map (literal_value v) right))
+    → (word : List Bool) (v : ℕ → Bool) → Fits b.inputs b.nodes word v
     → join which (literal_value v first) (literal_value v second) ≡ joined which (map (literal_value v) xs)
-fold_value which b1 b2 b3 k first second xs left right l r g2 g3 one two word v fit =
-    let p = (gives_later b1 b3 first (λ w. joined which (map (literal_value w) left))
-    (grown_then b1 b2 b3 g2 g3) one).shows word v fit in
-    let q = (gives_later b2 b3 second (λ w. joined which (map (literal_value w) right)) g3 two).shows word v fit in
-    ap (λ a. join which a (literal_value v second)) p ∙ ap (join which (joined which (map (literal_value v) left))) q
-    ∙ halves which v k xs left right l r
+fold_value which b xs left right {first} {second} is one two word v fit =
+    let value = literal_value v in
+    ap (λ a. join which a (value second)) (one.shows word v fit)
+    ∙ ap (join which (joined which (map value left))) (two.shows word v fit)
+    ∙ sym (joined_append which (map value left) (map value right))
+    ∙ ap (joined which) (sym (map-append value left right) ∙ ap (map value) is)
 
 and_true : (a : Bool) → (a && true) ≡ a
 and_true true = refl
@@ -201,12 +191,11 @@ pub record Cubes (first b : BuilderView) (made : List ℕ) (cubes : List Cube) (
       → (joined Or (map (literal_value v) made) || some_takes (drop k cubes) (map (literal_value v) inputs)) ≡
       some_takes cubes (map (literal_value v) inputs)
 
-pub one_cube : (first before b : BuilderView) (made more : List ℕ) (cubes : List Cube) (inputs plane : List ℕ)
-    (k l : ℕ) (d : Cube) → k < length cubes → more ≡ made ++ l ∷ []
-    → Grown before b → plane ≡ (get_or cubes k d).plane
-    → Gives b l (λ v. takes_all plane (map (literal_value v) inputs)) → Cubes first before made cubes inputs k
-    → Cubes first b more cubes inputs (k + 1)
-one_cube first before b made more cubes inputs plane k l d lt e grown p given so_far = record {
+pub one_cube : {first before b : BuilderView} {made more : List ℕ} {cubes : List Cube} {inputs plane : List ℕ}
+    {k l : ℕ} (d : Cube) → k < length cubes → more ≡ made ++ l ∷ [] → Grown before b
+    → plane ≡ (get_or cubes k d).plane → Gives b l (λ v. takes_all plane (map (literal_value v) inputs))
+    → Cubes first before made cubes inputs k → Cubes first b more cubes inputs (k + 1)
+one_cube {first} {before} {b} {made} {more} {cubes} {inputs} {plane} {k} {l} d lt e grown p given so_far = record {
   grown = grown_then first before b so_far.grown grown;
   there = subst (AllThere b) (sym e)
       (there_append b made (l ∷ []) (there_later before b made grown so_far.there) (given.below, tt));
@@ -251,37 +240,35 @@ pub cube_value : (b : BuilderView) (plane inputs made given : List ℕ) → give
 cube_value b plane inputs made given e value word v fit = ap (λ xs. joined And (map (literal_value v) xs)) e
     ∙ value v fit.none
 
--- a cover is one of its cubes, or none of them
-any_value : (before b : BuilderView) (cubes read : List Cube) (made given inputs : List ℕ) (l : ℕ) → read ≡ cubes
-    → given ≡ made → Grown before b → AreCubes before made read inputs
-    → Gives b l (λ v. joined Or (map (literal_value v) given)) → (word : List Bool) (v : ℕ → Bool)
-    → Fits b.inputs b.nodes word v
-    → literal_value v l ≡ some_takes cubes (map (literal_value v) inputs)
-any_value before b cubes read made given inputs l r e grown are gives word v fit =
-    gives.shows word v fit ∙ ap (λ xs. joined Or (map (literal_value v) xs)) e
-    ∙ are.value word v (fits_before before b grown word v fit)
-    ∙ ap (λ cs. some_takes cs (map (literal_value v) inputs)) r
-
-pub on_gives : (before b : BuilderView) (def : Def) (read : List Cube) (made given : List ℕ) (l : ℕ) (inputs : List ℕ)
-    → def.on ≡ true → read ≡ def.cubes → given ≡ made → Grown before b
-    → AreCubes before made read inputs → Gives b l (λ v. joined Or (map (literal_value v) given))
-    → Gives b l (λ v. cover def (map (literal_value v) inputs))
-on_gives before b def read made given l inputs on r e grown are gives = record {
-  below = gives.below;
-  shows = λ word v fit. any_value before b def.cubes read made given inputs l r e grown are gives word v fit
-      ∙ ap (λ t. cond t (some_takes def.cubes (map (literal_value v) inputs))
-      (not (some_takes def.cubes (map (literal_value v) inputs)))) (sym on);
+pub cubes_later : {before b : BuilderView} {made given : List ℕ} {read cubes : List Cube} {inputs : List ℕ}
+    → Grown before b → given ≡ made → read ≡ cubes → AreCubes before made read inputs → AreCubes b given cubes inputs
+cubes_later {before} {b} {made} {given} {read} {cubes} {inputs} grown e r are = record {
+  there = subst (AllThere b) (sym e) (there_later before b made grown are.there);
+  value = λ word v fit. ap (λ xs. joined Or (map (literal_value v) xs)) e
+      ∙ are.value word v (fits_before before b grown word v fit)
+      ∙ ap (λ cs. some_takes cs (map (literal_value v) inputs)) r;
 }
 
-pub off_gives : (before b : BuilderView) (def : Def) (read : List Cube) (made given : List ℕ) (l t : ℕ)
-    (inputs : List ℕ) → def.on ≡ false → read ≡ def.cubes → given ≡ made → t ≡ turned l → Grown before b
-    → AreCubes before made read inputs → Gives b l (λ v. joined Or (map (literal_value v) given))
+cover_is : (def : Def) (on : Bool) (xs : List Bool) → def.on ≡ on
+    → cond on (some_takes def.cubes xs) (not (some_takes def.cubes xs)) ≡ cover def xs
+cover_is def on xs is = ap (λ t. cond t (some_takes def.cubes xs) (not (some_takes def.cubes xs))) (sym is)
+
+-- a cover is one of its cubes, or none of them
+pub on_gives : (def : Def) (b : BuilderView) (inputs made : List ℕ) {l : ℕ} → def.on ≡ true
+    → AreCubes b made def.cubes inputs → Gives b l (λ v. joined Or (map (literal_value v) made))
+    → Gives b l (λ v. cover def (map (literal_value v) inputs))
+on_gives def b inputs made on are gives = record {
+  below = gives.below;
+  shows = λ word v fit. gives.shows word v fit ∙ are.value word v fit
+      ∙ cover_is def true (map (literal_value v) inputs) on;
+}
+
+pub off_gives : (def : Def) (b : BuilderView) (inputs made : List ℕ) {l t : ℕ} → def.on ≡ false → t ≡ turned l
+    → AreCubes b made def.cubes inputs → Gives b l (λ v. joined Or (map (literal_value v) made))
     → Gives b t (λ v. cover def (map (literal_value v) inputs))
-off_gives before b def read made given l t inputs off r e is grown are gives =
+off_gives def b inputs made {l} off is are gives =
     subst (λ k. Gives b k (λ v. cover def (map (literal_value v) inputs))) (sym is) (record {
       below = turned_below (1 + b.inputs + length b.nodes) l gives.below;
-      shows = λ word v fit. turned_value v l
-          ∙ ap not (any_value before b def.cubes read made given inputs l r e grown are gives word v fit)
-          ∙ ap (λ t. cond t (some_takes def.cubes (map (literal_value v) inputs))
-          (not (some_takes def.cubes (map (literal_value v) inputs)))) (sym off);
+      shows = λ word v fit. turned_value v l ∙ ap not (gives.shows word v fit ∙ are.value word v fit)
+          ∙ cover_is def false (map (literal_value v) inputs) off;
     })

@@ -211,7 +211,6 @@ graph_then net from to first next = record {
     same_outputs = next.same.same_outputs ∙ first.same.same_outputs;
     there = λ x y long answer.
         next.same.there x y (long ∙ sym first.same.same_inputs) (first.same.there x y long answer);
-    back = λ x y long answer.
-        first.same.back x y long (next.same.back x y (long ∙ sym first.same.same_inputs) answer);
+    back = λ x y long answer. first.same.back x y long (next.same.back x y (long ∙ sym first.same.same_inputs) answer);
   };
 }

@@ -81,7 +81,8 @@ pub struct GraphPass;
 impl Pass<Netlist> for GraphPass {
     ghost use Rattle.std.specs.Prelude.{◌≡◌, ◌⊎◌};
     ghost use Rattle.cover_graph.specs.Passes.{IsGraphOf};
-    ghost use Rattle.cover_graph.specs.declared.refusal.CoverRefusal.TheVariants.{TooManyNodes, NoOrder, Memory as NoMemory};
+    ghost use Rattle.cover_graph.specs.declared.refusal.CoverRefusal.TheVariants.{TooManyNodes, NoOrder};
+    ghost use Rattle.cover_graph.specs.declared.refusal.CoverRefusal.TheVariants.{Memory as NoMemory};
 
     type Out = Graph;
 

@@ -7,7 +7,8 @@ use maj_graph::GraphRefusal;
 pub enum CoverRefusal {
     /// There would be 2^30 nodes.
     TooManyNodes,
-    /// The order in which signals get their literals leaves out one that an output needs. No netlist is known to meet it.
+    /// The order in which signals get their literals leaves out one that an output needs. No netlist is known to meet
+    /// it.
     NoOrder,
     /// Want of memory.
     Memory,

@@ -6,14 +6,28 @@ use Rattle.height_trees.specs.Forests.{Forest, Obeys, IsJoined, IsRefused, AreLe
 use Rattle.height_trees.specs.Code.Shapes.{IsShaped, IsForest, MayBeHung, IsFound, Hangs, Unites, Rises, IsGrounded}
 use Rattle.height_trees.proofs.Bounds.{height_few}
 
--- what is found of the two nodes and of the ground
-pub record Ends (f : Forest) (upper lower rise a b e d base : ℕ) : Type 0 where
-  pub upper_below : upper < f.count
-  pub lower_below : lower < f.count
+-- two nodes that are to be joined: their roots and heights, as they are found, and the root of the ground
+pub record Ends : Type 0 where
+  pub trees : Forest
+  pub upper : ℕ
+  pub lower : ℕ
+  pub rise : ℕ
+  pub upper_root : ℕ
+  pub lower_root : ℕ
+  pub upper_height : ℕ
+  pub lower_height : ℕ
+  pub ground : ℕ
+  pub known : IsForest trees
+  pub upper_below : upper < trees.count
+  pub lower_below : lower < trees.count
   pub rise_few : rise ≤ 1
-  pub high : IsFound f upper a e
-  pub low : IsFound f lower b d
-  pub is_ground : (h root : ℕ → ℕ) → IsShaped f h root → root 0 ≡ base
+  pub high : IsFound trees upper upper_root upper_height
+  pub low : IsFound trees lower lower_root lower_height
+  pub is_ground : (h root : ℕ → ℕ) → IsShaped trees h root → root 0 ≡ ground
+
+-- the trees of the two roots rise so that the nodes stand as they are to
+abbrev AreRises : Ends → ℕ → ℕ → ℕ → ℕ → Type 0
+AreRises x r c ya yb = Rises x.upper_root x.lower_root x.upper_height (x.lower_height + x.rise) x.ground r c ya yb
 
 node_positive : (f : Forest) (h root : ℕ → ℕ) → IsShaped f h root → (s : ℕ) → s < f.count → (root s ≡ root 0 → ⊥)
     → 0 < h s
@@ -22,30 +36,30 @@ node_positive f h root shaped s lt apart = elim (cases_eq s 0) [
   | inr ne ↦ shaped.obeys.positive s (omega (arith, ne)) lt
 ]
 
-pub may_be_hung : (f : Forest) (upper lower rise a b e d base ya yb : ℕ) → Ends f upper lower rise a b e d base
-    → (a ≡ b → ⊥) → Rises a b e (d + rise) base a b ya yb → MayBeHung f a b ya yb
-may_be_hung f upper lower rise a b e d base ya yb ends apart up h root shaped =
-    let high = ends.high.shaped h root shaped in
-    let low = ends.low.shaped h root shaped in
-    let g = ends.is_ground h root shaped in
-    let in_a = shaped.within upper ends.upper_below in
-    let in_b = shaped.within lower ends.lower_below in
-    let size_a : f.size (root upper) ≡ f.size a = ap f.size high.0 in
-    let size_b : f.size (root lower) ≡ f.size b = ap f.size low.0 in
+may_be_hung : (x : Ends) (ya yb : ℕ) → (x.upper_root ≡ x.lower_root → ⊥) → AreRises x x.upper_root x.lower_root ya yb
+    → MayBeHung x.trees x.upper_root x.lower_root ya yb
+may_be_hung x ya yb apart up h root shaped =
+    let high = x.high.shaped h root shaped in
+    let low = x.low.shaped h root shaped in
+    let g = x.is_ground h root shaped in
+    let in_a = shaped.within x.upper x.upper_below in
+    let in_b = shaped.within x.lower x.lower_below in
+    let size_a : x.trees.size (root x.upper) ≡ x.trees.size x.upper_root = ap x.trees.size high.0 in
+    let size_b : x.trees.size (root x.lower) ≡ x.trees.size x.lower_root = ap x.trees.size low.0 in
     let meet = up.meet in
     record {
-      r_below = ends.high.below;
-      c_below = ends.low.below;
-      r_root = ends.high.is_root;
-      c_root = ends.low.is_root;
+      r_below = x.high.below;
+      c_below = x.low.below;
+      r_root = x.high.is_root;
+      c_root = x.low.is_root;
       apart = apart;
-      r_rises = elim (cases_eq base a) [
+      r_rises = elim (cases_eq x.ground x.upper_root) [
         | inl is ↦ let none = up.a_ground is in omega (arith, none)
         | inr ne ↦
-            let some = node_positive f h root shaped upper ends.upper_below (λ p. ne (sym g ∙ sym p ∙ high.0)) in
+            let some = node_positive x.trees h root shaped x.upper x.upper_below (λ p. ne (sym g ∙ sym p ∙ high.0)) in
             elim up.one [
               | inl none ↦ omega (arith, none)
-              | inr none ↦ let few = ends.rise_few in omega (arith, none, meet, some, high.1, low.1, in_b, size_b)
+              | inr none ↦ let few = x.rise_few in omega (arith, none, meet, some, high.1, low.1, in_b, size_b)
             ]
       ];
       c_rises = elim up.one [
@@ -58,60 +72,59 @@ may_be_hung f upper lower rise a b e d base ya yb ends apart up h root shaped =
     }
 
 -- heights of two nodes, by those of their roots
-by_root : (f : Forest) (h root : ℕ → ℕ) → IsShaped f h root → (k : ℕ → ℕ) → Obeys f k → (s r n : ℕ) → s < f.count
-    → IsFound f s r n → k s + f.height r ≡ k r + n
-by_root f h root shaped k known s r n lt found =
-    let is = found.shaped h root shaped in
+by_root : {f : Forest} {s r n : ℕ} → IsForest f → (k : ℕ → ℕ) → Obeys f k → s < f.count → IsFound f s r n
+    → k s + f.height r ≡ k r + n
+by_root {f} {s} {r} {n} known k obeys lt found =
+    let shaped = known.shaped in
+    let is = found.shaped known.h known.root shaped in
     let here = shaped.at_root r found.below found.is_root in
     let top = shaped.height_is r found.below found.is_root in
-    let same = shaped.together k known s r lt found.below (is.0 ∙ sym here) in
+    let same = shaped.together k obeys s r lt found.below (is.0 ∙ sym here) in
     omega (arith, same, top, is.1)
 
-pub joined : (f g : Forest) (upper lower rise a b e d base ya yb : ℕ) → IsForest f
-    → Ends f upper lower rise a b e d base → Rises a b e (d + rise) base a b ya yb → Unites f g a b ya yb
-    → IsJoined f g upper lower rise
-joined f g upper lower rise a b e d base ya yb known ends up unites =
-    let s = known.shaped in
+joined : (x : Ends) (g : Forest) (ya yb : ℕ) → AreRises x x.upper_root x.lower_root ya yb
+    → Unites x.trees g x.upper_root x.lower_root ya yb → IsJoined x.trees g x.upper x.lower x.rise
+joined x g ya yb up unites =
     let meet = up.meet in
     record {
       count_is = unites.count_is;
       back = unites.back;
       higher = λ k obeys.
           let old = unites.back k obeys in
-          let one = by_root f known.h known.root s k old upper a e ends.upper_below ends.high in
-          let two = by_root f known.h known.root s k old lower b d ends.lower_below ends.low in
+          let one = by_root x.known k old x.upper_below x.high in
+          let two = by_root x.known k old x.lower_below x.low in
           let differ = unites.differ k obeys in
           omega (arith, one, two, differ, meet);
       forth = λ k old higher.
-          let one = by_root f known.h known.root s k old upper a e ends.upper_below ends.high in
-          let two = by_root f known.h known.root s k old lower b d ends.lower_below ends.low in
+          let one = by_root x.known k old x.upper_below x.high in
+          let two = by_root x.known k old x.lower_below x.low in
           unites.forth k old (omega (arith, one, two, higher, meet));
     }
 
 -- where both stand in one tree, it is known how they differ
-pub same_tree : (f : Forest) (upper lower rise a b e d base : ℕ) → IsForest f
-    → Ends f upper lower rise a b e d base → a ≡ b → (k : ℕ → ℕ) → Obeys f k → k upper + d ≡ k lower + e
-same_tree f upper lower rise a b e d base known ends same k obeys =
-    let s = known.shaped in
-    let high = ends.high.shaped known.h known.root s in
-    let low = ends.low.shaped known.h known.root s in
-    let t = s.together k obeys upper lower ends.upper_below ends.lower_below (high.0 ∙ same ∙ sym low.0) in
+same_tree : (x : Ends) → x.upper_root ≡ x.lower_root → (k : ℕ → ℕ) → Obeys x.trees k
+    → k x.upper + x.lower_height ≡ k x.lower + x.upper_height
+same_tree x same k obeys =
+    let s = x.known.shaped in
+    let high = x.high.shaped x.known.h x.known.root s in
+    let low = x.low.shaped x.known.h x.known.root s in
+    let t = s.together k obeys x.upper x.lower x.upper_below x.lower_below (high.0 ∙ same ∙ sym low.0) in
     omega (arith, t, high.1, low.1)
 
-pub joined_there : (f : Forest) (upper lower rise a b e d base : ℕ) → IsForest f
-    → Ends f upper lower rise a b e d base → a ≡ b → e ≡ d + rise → IsJoined f f upper lower rise
-joined_there f upper lower rise a b e d base known ends same is = record {
+pub joined_there : (x : Ends) → x.upper_root ≡ x.lower_root → x.upper_height ≡ x.lower_height + x.rise
+    → IsJoined x.trees x.trees x.upper x.lower x.rise
+joined_there x same is = record {
   count_is = refl;
   back = λ k obeys. obeys;
-  higher = λ k obeys. let t = same_tree f upper lower rise a b e d base known ends same k obeys in omega (arith, t, is);
+  higher = λ k obeys. let t = same_tree x same k obeys in omega (arith, t, is);
   forth = λ k obeys higher. obeys;
 }
 
-pub refused_there : (f : Forest) (upper lower rise a b e d base : ℕ) → IsForest f
-    → Ends f upper lower rise a b e d base → a ≡ b → (e ≡ d + rise → ⊥) → IsRefused f upper lower rise
-refused_there f upper lower rise a b e d base known ends same ne = record {
+pub refused_there : (x : Ends) → x.upper_root ≡ x.lower_root → (x.upper_height ≡ x.lower_height + x.rise → ⊥)
+    → IsRefused x.trees x.upper x.lower x.rise
+refused_there x same ne = record {
   none = λ k obeys higher.
-      let t = same_tree f upper lower rise a b e d base known ends same k obeys in
+      let t = same_tree x same k obeys in
       ne (omega (arith, t, higher));
 }
 
@@ -143,31 +156,30 @@ fixed f h root shaped k known s lt e =
     let t = shaped.together k known s 0 lt shaped.some e in
     omega (arith, t, shaped.obeys.base, known.base)
 
-refused_at : (f : Forest) (upper lower rise a b e d base : ℕ) → IsForest f
-    → Ends f upper lower rise a b e d base → IsGrounded a b e (d + rise) base → (k : ℕ → ℕ) → Obeys f k
-    → k upper ≡ k lower + rise → ⊥
-refused_at f upper lower rise a b e d base known ends grounded k obeys higher =
-    let s = known.shaped in
-    let high = ends.high.shaped known.h known.root s in
-    let low = ends.low.shaped known.h known.root s in
-    let g = ends.is_ground known.h known.root s in
-    let high_least = at_least f known.h known.root s k obeys upper ends.upper_below in
-    let low_least = at_least f known.h known.root s k obeys lower ends.lower_below in
+refused_at : (x : Ends) → IsGrounded x.upper_root x.lower_root x.upper_height (x.lower_height + x.rise) x.ground
+    → (k : ℕ → ℕ) → Obeys x.trees k → k x.upper ≡ k x.lower + x.rise → ⊥
+refused_at x grounded k obeys higher =
+    let s = x.known.shaped in
+    let high = x.high.shaped x.known.h x.known.root s in
+    let low = x.low.shaped x.known.h x.known.root s in
+    let g = x.is_ground x.known.h x.known.root s in
+    let high_least = at_least x.trees x.known.h x.known.root s k obeys x.upper x.upper_below in
+    let low_least = at_least x.trees x.known.h x.known.root s k obeys x.lower x.lower_below in
     elim grounded [
       | inl p ↦
-          let is = fixed f known.h known.root s k obeys upper ends.upper_below (high.0 ∙ sym p.0 ∙ sym g) in
+          let is = fixed x.trees x.known.h x.known.root s k obeys x.upper x.upper_below (high.0 ∙ sym p.0 ∙ sym g) in
           let less = p.1 in
           omega (arith, is, less, low_least, higher, high.1, low.1)
       | inr p ↦
-          let is = fixed f known.h known.root s k obeys lower ends.lower_below (low.0 ∙ sym p.0 ∙ sym g) in
+          let is = fixed x.trees x.known.h x.known.root s k obeys x.lower x.lower_below (low.0 ∙ sym p.0 ∙ sym g) in
           let less = p.1 in
           omega (arith, is, less, high_least, higher, high.1, low.1)
     ]
 
-pub refused : (f : Forest) (upper lower rise a b e d base : ℕ) → IsForest f
-    → Ends f upper lower rise a b e d base → IsGrounded a b e (d + rise) base → IsRefused f upper lower rise
-refused f upper lower rise a b e d base known ends grounded = record {
-  none = refused_at f upper lower rise a b e d base known ends grounded;
+pub refused : (x : Ends) → IsGrounded x.upper_root x.lower_root x.upper_height (x.lower_height + x.rise) x.ground
+    → IsRefused x.trees x.upper x.lower x.rise
+refused x grounded = record {
+  none = refused_at x grounded;
 }
 
 -- the heights that are found are the least
@@ -202,16 +214,27 @@ found_few f node r n known lt found =
     let few = height_few f known.h known.root known.sizes known.shaped known.sized node lt in
     omega (arith, few, is.1)
 
-pub ends_of : (f : Forest) (upper lower rise a b e d base n : ℕ) → upper < f.count → lower < f.count → rise ≤ 1
-    → IsFound f upper a e → IsFound f lower b d → IsFound f 0 base n → Ends f upper lower rise a b e d base
-ends_of f upper lower rise a b e d base n lu ll few high low found = record {
-  upper_below = lu;
-  lower_below = ll;
-  rise_few = few;
-  high = high;
-  low = low;
-  is_ground = λ h root shaped. (found.shaped h root shaped).0;
-}
+abbrev pub ends_of : {f : Forest} {upper lower rise a b e d base n : ℕ} → IsForest f → upper < f.count → lower < f.count
+    → rise ≤ 1 → IsFound f upper a e → IsFound f lower b d → IsFound f 0 base n → Ends
+ends_of {f} {upper} {lower} {rise} {a} {b} {e} {d} {base} {n} known upper_below lower_below few high low
+    found = record {
+      trees = f;
+      upper = upper;
+      lower = lower;
+      rise = rise;
+      upper_root = a;
+      lower_root = b;
+      upper_height = e;
+      lower_height = d;
+      ground = base;
+      known = known;
+      upper_below = upper_below;
+      lower_below = lower_below;
+      rise_few = few;
+      high = high;
+      low = low;
+      is_ground = λ h root shaped. (found.shaped h root shaped).0;
+    }
 
 pub turned : (f g : Forest) (r c yr yc : ℕ) → Hangs f g c r yc yr → Unites f g r c yr yc
 turned f g r c yr yc hangs = record {
@@ -223,8 +246,8 @@ turned f g r c yr yc hangs = record {
 
 -- the same, for the roots as they are told
 
-told : (a b e w base r c ya yb : ℕ) → Rises a b e w base r c ya yb → Rises a b e w base a b ya yb
-told a b e w base r c ya yb up = record {
+told : {A B E W G r c ya yb : ℕ} → Rises A B E W G r c ya yb → Rises A B E W G A B ya yb
+told up = record {
   first = refl;
   second = refl;
   meet = up.meet;
@@ -233,16 +256,16 @@ told a b e w base r c ya yb up = record {
   b_ground = up.b_ground;
 }
 
-pub told_may : (f : Forest) (upper lower rise a b e d base r c ya yb : ℕ) → Ends f upper lower rise a b e d base
-    → (a ≡ b → ⊥) → Rises a b e (d + rise) base r c ya yb → MayBeHung f r c ya yb
-told_may f upper lower rise a b e d base r c ya yb ends apart up =
-    let may = may_be_hung f upper lower rise a b e d base ya yb ends apart (told a b e (d + rise) base r c ya yb up) in
-    subst (λ (x : ℕ). MayBeHung f x c ya yb) (sym up.first)
-    (subst (λ (x : ℕ). MayBeHung f a x ya yb) (sym up.second) may)
+pub told_may : (x : Ends) {r c ya yb : ℕ} → (x.upper_root ≡ x.lower_root → ⊥) → AreRises x r c ya yb
+    → MayBeHung x.trees r c ya yb
+told_may x {r} {c} {ya} {yb} apart up =
+    let may = may_be_hung x ya yb apart (told up) in
+    subst (λ (n : ℕ). MayBeHung x.trees n c ya yb) (sym up.first)
+    (subst (λ (n : ℕ). MayBeHung x.trees x.upper_root n ya yb) (sym up.second) may)
 
-pub told_joined : (f g : Forest) (upper lower rise a b e d base r c ya yb : ℕ) → IsForest f
-    → Ends f upper lower rise a b e d base → Rises a b e (d + rise) base r c ya yb → Unites f g r c ya yb
-    → IsJoined f g upper lower rise
-told_joined f g upper lower rise a b e d base r c ya yb known ends up unites =
-    joined f g upper lower rise a b e d base ya yb known ends (told a b e (d + rise) base r c ya yb up)
-    (subst (λ (x : ℕ). Unites f g x b ya yb) up.first (subst (λ (x : ℕ). Unites f g r x ya yb) up.second unites))
+pub told_joined : (x : Ends) {g : Forest} {r c ya yb : ℕ} → AreRises x r c ya yb → Unites x.trees g r c ya yb
+    → IsJoined x.trees g x.upper x.lower x.rise
+told_joined x {g} {r} {c} {ya} {yb} up unites =
+    joined x g ya yb (told up)
+    (subst (λ (n : ℕ). Unites x.trees g n x.lower_root ya yb) up.first
+    (subst (λ (n : ℕ). Unites x.trees g r n ya yb) up.second unites))

@@ -5,7 +5,7 @@ use Rattle.std.proofs.lemmas.List.{get_or-set_same, get_or-set_other, length-set
 use Rattle.std.proofs.lemmas.List.Sums.{sum_by-set, get_or-le-sum_by}
 use Rattle.height_trees.specs.Forests.{Forest, forest}
 use Rattle.height_trees.specs.Code.Shapes.{AreSizes, IsForest, AreTables, MayBeHung, HasRoom, Hangs}
-use Rattle.height_trees.proofs.Hanging.{IsHung, back, differs, forth, hung_forest}
+use Rattle.height_trees.proofs.Hanging.{IsHung, Hanging, back, differs, forth, hung_forest}
 
 -- two roots have at most all nodes
 both_few : (f : Forest) (sizes : List ℕ) (r c : ℕ) → AreSizes f sizes → r < f.count → c < f.count → (r ≡ c → ⊥)
@@ -43,14 +43,16 @@ room_of f r c yr yc known may =
       both = few;
     }
 
-hung_lists : (parent above height size : List ℕ) (r c yr yc : ℕ) → AreTables parent above height size
-    → HasRoom (forest parent above height size) r c yr yc → (r ≡ c → ⊥)
-    → IsHung (forest parent above height size)
-    (forest (slice_set parent c r)
+-- what the tables are once the tree of root c is hung on root r
+abbrev written : (parent above height size : List ℕ) (r c yr yc : ℕ) → Forest
+written parent above height size r c yr yc = forest (slice_set parent c r)
     (slice_set above c (slice_index height c + yc + length parent - (slice_index height r + yr)))
-    (slice_set height r (slice_index height r + yr))
-    (slice_set size r (slice_index size r + slice_index size c))) r c yr yc
-hung_lists parent above height size r c yr yc tables room apart =
+    (slice_set height r (slice_index height r + yr)) (slice_set size r (slice_index size r + slice_index size c))
+
+hung_lists : (parent above height size : List ℕ) (r c yr yc : ℕ) → AreTables parent above height size
+    → HasRoom (forest parent above height size) r c yr yc
+    → IsHung (forest parent above height size) (written parent above height size r c yr yc) r c yr yc
+hung_lists parent above height size r c yr yc tables room =
     let w = slice_index height c + yc + length parent - (slice_index height r + yr) in
     let top = slice_index height r + yr in
     let few = room.r_top in
@@ -70,55 +72,51 @@ hung_lists parent above height size r c yr yc tables room apart =
       size_other = λ s ne. get_or-set_other size r s (slice_index size r + slice_index size c) 0 ne;
     }
 
+abbrev hanging : (parent above height size : List ℕ) (r c yr yc : ℕ) → AreTables parent above height size
+    → HasRoom (forest parent above height size) r c yr yc → MayBeHung (forest parent above height size) r c yr yc
+    → Hanging
+hanging parent above height size r c yr yc tables room may = record {
+  old = forest parent above height size;
+  new = written parent above height size r c yr yc;
+  heights = tables.known.h;
+  roots = tables.known.root;
+  root = r;
+  child = c;
+  root_rise = yr;
+  child_rise = yc;
+  shaped = tables.known.shaped;
+  may = may tables.known.h tables.known.root tables.known.shaped;
+  hung = hung_lists parent above height size r c yr yc tables room;
+}
+
 pub hung_tables : (parent above height size : List ℕ) (r c yr yc : ℕ) → AreTables parent above height size
     → HasRoom (forest parent above height size) r c yr yc → MayBeHung (forest parent above height size) r c yr yc
     → AreTables (slice_set parent c r)
     (slice_set above c (slice_index height c + yc + length parent - (slice_index height r + yr)))
-    (slice_set height r (slice_index height r + yr))
-    (slice_set size r (slice_index size r + slice_index size c))
+    (slice_set height r (slice_index height r + yr)) (slice_set size r (slice_index size r + slice_index size c))
 hung_tables parent above height size r c yr yc tables room may =
-    let k = tables.known in
-    let m = may k.h k.root k.shaped in
-    let f = forest parent above height size in
-    let w = slice_index height c + yc + length parent - (slice_index height r + yr) in
-    let top = slice_index height r + yr in
-    let m_size = slice_index size r + slice_index size c in
-    let g = forest (slice_set parent c r) (slice_set above c w) (slice_set height r top) (slice_set size r m_size) in
     let p = length-set parent c r in
     record {
       few = omega (arith, p, tables.few);
-      above_long = length-set above c w ∙ tables.above_long ∙ sym p;
-      height_long = length-set height r top ∙ tables.height_long ∙ sym p;
-      size_long = length-set size r m_size ∙ tables.size_long ∙ sym p;
-      known = hung_forest f g k.h k.root r c yr yc k.sizes k.shaped k.sized m
-          (hung_lists parent above height size r c yr yc tables room m.apart);
+      above_long = length-set above c _ ∙ tables.above_long ∙ sym p;
+      height_long = length-set height r _ ∙ tables.height_long ∙ sym p;
+      size_long = length-set size r _ ∙ tables.size_long ∙ sym p;
+      known = hung_forest (hanging parent above height size r c yr yc tables room may) tables.known.sizes
+          tables.known.sized;
     }
 
 pub hung_hangs : (parent above height size : List ℕ) (r c yr yc : ℕ) → AreTables parent above height size
     → HasRoom (forest parent above height size) r c yr yc → MayBeHung (forest parent above height size) r c yr yc
-    → Hangs (forest parent above height size)
-    (forest (slice_set parent c r)
-    (slice_set above c (slice_index height c + yc + length parent - (slice_index height r + yr)))
-    (slice_set height r (slice_index height r + yr))
-    (slice_set size r (slice_index size r + slice_index size c))) r c yr yc
+    → Hangs (forest parent above height size) (written parent above height size r c yr yc) r c yr yc
 hung_hangs parent above height size r c yr yc tables room may =
-    let k = tables.known in
-    let m = may k.h k.root k.shaped in
-    let f = forest parent above height size in
-    let g = forest (slice_set parent c r)
-    (slice_set above c (slice_index height c + yc + length parent - (slice_index height r + yr)))
-    (slice_set height r (slice_index height r + yr)) (slice_set size r (slice_index size r + slice_index size c)) in
-    let hung = hung_lists parent above height size r c yr yc tables room m.apart in
-    let top_r : slice_index height r ≡ k.h r = k.shaped.height_is r m.r_below m.r_root in
-    let top_c : slice_index height c ≡ k.h c = k.shaped.height_is c m.c_below m.c_root in
+    let x = hanging parent above height size r c yr yc tables room may in
+    let top_r : slice_index height r ≡ x.heights r = x.shaped.height_is r x.may.r_below x.may.r_root in
+    let top_c : slice_index height c ≡ x.heights c = x.shaped.height_is c x.may.c_below x.may.c_root in
     record {
-      count_is = hung.count_is;
-      back = λ j known. back f g k.h k.root r c yr yc k.shaped m hung j known;
-      differ = λ j known.
-          let d = differs f g k.h k.root r c yr yc k.shaped m hung j known in
-          omega (arith, d, top_r, top_c);
-      forth = λ j known d. forth f g k.h k.root r c yr yc k.shaped m hung j known
-          (omega (arith, d, top_r, top_c));
+      count_is = x.hung.count_is;
+      back = back x;
+      differ = λ k known. let d = differs x k known in omega (arith, d, top_r, top_c);
+      forth = λ k known d. forth x k known (omega (arith, d, top_r, top_c));
     }
 
 -- either of the two may be hung on the other

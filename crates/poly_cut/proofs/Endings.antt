@@ -1,19 +1,20 @@
 -- Rectangles that end at a level.
-use Rattle.std.proofs.Common.{◌≡◌, ◌⊎◌, ℕ, zero, suc, ◌+◌, ◌/◌, ◌<◌, ◌≤◌, ℤ, ◌<ℤ◌, ◌≤ℤ◌, List, [], ◌∷◌, map, length}
+use Rattle.std.proofs.Common.{◌≡◌, ◌⊎◌, ℕ, zero, suc, ◌+◌, ◌<◌, ◌≤◌, ℤ, ◌<ℤ◌, ◌≤ℤ◌, List, [], ◌∷◌, map, length}
 use Rattle.std.proofs.Common.{drop, Some, None, Option, refl, sym, ap, subst, ◌∙◌, arith, inl, inr}
 use Rattle.std.specs.Prelude.{slice_get, slice_set}
 use Rattle.std.specs.BTreeMap.{BTreeMap}
 use Rattle.std.proofs.lemmas.Int.{ints, by_lt_z}
-use Rattle.std.proofs.lemmas.Option.{same_Some, slice_get_within}
+use Rattle.std.proofs.lemmas.Option.{same_Some, slice_get-get_or}
 use Rattle.geom.specs.Rectangle.{Rectangle}
 use Rattle.poly_cut.specs.declared.ends.End.{End}
+use Rattle.poly_cut.specs.Cuts.{box}
 use Rattle.poly_cut.specs.Code.Sweeping.{Rising, last_at}
-use Rattle.poly_cut.specs.Code.Levels.{cut_off, IsPair, Off, Clear, Past, Reached, Standing, BeginBelow, EndsWindow}
+use Rattle.poly_cut.specs.Code.Levels.{cut_off, Off, OffFrom, Clear, Reached, Standing, BeginBelow, EndsWindow}
 use Rattle.poly_cut.specs.Code.Levels.{EndsLevel}
 use Rattle.poly_cut.proofs.Places.{set_cases, set_got, set_other, set_same, set_map, got_map, map_got, map_length}
 use Rattle.poly_cut.proofs.Seen.{cut_low, cut_below}
 use Rattle.poly_cut.proofs.Spans.{got_less}
-use Rattle.poly_cut.proofs.OffWindows.{off_left, clear_first, clear_rest, clear_all, clear_end, past_off, met}
+use Rattle.poly_cut.proofs.OffWindows.{off_left, clear_first, clear_rest, clear_all, clear_end, met}
 
 pub by_place : {P : Type 0} (m n : ℕ) → (m < n → P) → (m ≡ n → P) → (n < m → P) → P
 by_place zero zero f g h = g refl
@@ -89,11 +90,31 @@ none_ended first rest walls level old = record {
       (λ gt. inr (omega (arith, gt)));
 }
 
-module _ (first h : ℕ) (rest : List End) (walls : List ℤ) (level : ℤ) (last : BTreeMap ℤ ℕ)
-    (old cur new : List Rectangle) (up : Rising walls) (st : Standing old last walls level)
-    (at : Ending first h rest walls level old cur) (a : ℤ) (wall : slice_get walls (h + h) ≡ Some a) where
+-- a window at a level: the ends from its first one on, the walls and rectangles below the level, and the number of the
+-- first pair of walls that is not left of it
+pub record Window : Type 0 where
+  pub rest : List End
+  pub walls : List ℤ
+  pub level : ℤ
+  pub last : BTreeMap ℤ ℕ
+  pub old : List Rectangle
+  pub first : ℕ
+  pub end : End
+  pub rising : Rising walls
+  pub standing : Standing old last walls level
+  pub head : slice_get rest 0 ≡ Some end
+  pub before : (i : ℕ) (w : ℤ) → i < first → slice_get walls (suc (i + i)) ≡ Some w → w <ℤ end.x
+  pub from : (i : ℕ) (w : ℤ) → first ≤ i → slice_get walls (suc (i + i)) ≡ Some w → end.x ≤ℤ w
+
+abbrev pub EndingIn : Window → ℕ → List Rectangle → Type 0
+EndingIn window h new = Ending window.first h window.rest window.walls window.level window.old new
+
+module _ (window : Window) (h : ℕ) (cur new : List Rectangle) (at : EndingIn window h cur) (a : ℤ)
+    (wall : slice_get window.walls (h + h) ≡ Some a) where
+  open window use {rest, walls, level, last, old, first, end, rising as up, standing as st, head, from}
+
   -- none was begun at this wall
-  pub none_there : last_at last a ≡ None → new ≡ cur → Ending first (suc h) rest walls level old new
+  none_there : last_at last a ≡ None → new ≡ cur → EndingIn window (suc h) new
   none_there none e = rw e (record {
     same = at.same;
     kept = at.kept;
@@ -113,9 +134,7 @@ module _ (first h : ℕ) (rest : List End) (walls : List ℤ) (level : ℤ) (las
           let z : None ≡ Some n = sym none ∙ f in cc
 
   module _ (place : ℕ) (r : Rectangle) (found : last_at last a ≡ Some place) (there : slice_get cur place ≡ Some r)
-      (e : new ≡ slice_set cur place (cut_off level r)) (reached : Reached rest a) (end : End)
-      (head : slice_get rest 0 ≡ Some end)
-      (from : (i : ℕ) (w : ℤ) → first ≤ i → slice_get walls (suc (i + i)) ≡ Some w → end.x ≤ℤ w) (le : first ≤ h) where
+      (e : new ≡ slice_set cur place (cut_off level r)) (reached : Reached rest a) (le : first ≤ h) where
     twice : cut_off level r ≡ cut_off level (cut_off level r)
     twice = sym (cut_low level (cut_off level r) (cut_below level r))
 
@@ -161,7 +180,7 @@ module _ (first h : ℕ) (rest : List End) (walls : List ℤ) (level : ℤ) (las
               omega (arith, ints, b, high))
         ]
 
-    pub one_ended : Ending first (suc h) rest walls level old new
+    one_ended : EndingIn window (suc h) new
     one_ended = record {
       same = ap (λ (l : List Rectangle). map (cut_off level) l) e
           ∙ sym (set_map (cut_off level) (cut_off level) cur place (cut_off level r) (cut_off level r)
@@ -189,71 +208,37 @@ module _ (first h : ℕ) (rest : List End) (walls : List ℤ) (level : ℤ) (las
             let b : s.y1 ≤ℤ level = subst (λ (k : Rectangle). k.y1 ≤ℤ level) t (cut_below level r) in
             omega (arith, ints, b, high)
 
-pub pair_ended : (first h : ℕ) (rest : List End) (walls : List ℤ) (level : ℤ) (last : BTreeMap ℤ ℕ)
-    (old cur new : List Rectangle) → Rising walls → Standing old last walls level
-    → Ending first h rest walls level old cur
-    → (a : ℤ) → slice_get walls (h + h) ≡ Some a → Reached rest a → (end : End) → slice_get rest 0 ≡ Some end
-    → ((i : ℕ) (w : ℤ) → first ≤ i → slice_get walls (suc (i + i)) ≡ Some w → end.x ≤ℤ w) → first ≤ h
-    → ((n : ℕ) (r : Rectangle) → last_at last a ≡ Some n → slice_get cur n ≡ Some r
-    → new ≡ slice_set cur n (cut_off level r))
-    → (last_at last a ≡ None → new ≡ cur) → Ending first (suc h) rest walls level old new
-pair_ended first h rest walls level last old cur new up st at a wall reached end head from le some none =
-    turn (last_at last a) refl
-  where
-    turn : (o : Option ℕ) → last_at last a ≡ o → Ending first (suc h) rest walls level old new
-    turn None e = none_there first h rest walls level last old cur new up st at a wall e (none e)
-    turn (Some n) e =
-        let within : n < length old = st.stand a n e in
-        let same : length cur ≡ length old = sym (map_length (cut_off level) cur)
-        ∙ ap (λ (l : List Rectangle). length l) at.same ∙ map_length (cut_off level) old in
-        let here = got cur n (omega (arith, within, same)) in
-        one_ended first h rest walls level last old cur new up st at a wall n here.0 e here.1
-        (some n here.0 e here.1) reached end head from le
-      where
-        got : (l : List Rectangle) (n : ℕ) → n < length l → (r : Rectangle) × (slice_get l n ≡ Some r)
-        got [] n lt = absurd (omega arith)
-        got (r ∷ l) zero lt = (r, refl)
-        got (r ∷ l) (suc n) lt = got l n (omega arith)
+  pub pair_ended : Reached rest a → first ≤ h
+      → ((n : ℕ) (r : Rectangle) → last_at last a ≡ Some n → slice_get cur n ≡ Some r
+      → new ≡ slice_set cur n (cut_off level r))
+      → (last_at last a ≡ None → new ≡ cur) → EndingIn window (suc h) new
+  pair_ended reached le some none = turn (last_at last a) refl
+    where
+      turn : (o : Option ℕ) → last_at last a ≡ o → EndingIn window (suc h) new
+      turn None e = none_there e (none e)
+      turn (Some n) e =
+          let within : n < length old = st.stand a n e in
+          let same : length cur ≡ length old = sym (map_length (cut_off level) cur)
+          ∙ ap (λ (l : List Rectangle). length l) at.same ∙ map_length (cut_off level) old in
+          let here = slice_get-get_or cur n (box level level level level) (omega (arith, within, same)) in
+          one_ended n _ e here (some n _ e here) reached le
 
-module _ (first h : ℕ) (rest : List End) (walls : List ℤ) (level : ℤ) (last : BTreeMap ℤ ℕ) (old new : List Rectangle)
-    (up : Rising walls) (st : Standing old last walls level) (at : Ending first h rest walls level old new) (end : End)
-    (head : slice_get rest 0 ≡ Some end)
-    (before : (i : ℕ) (w : ℤ) → i < first → slice_get walls (suc (i + i)) ≡ Some w → w <ℤ end.x) where
-  left_off : (n i : ℕ) (r : Rectangle) → i < first → IsPair walls i r.x0 r.x1 → Off rest r.x0 r.x1
-  left_off n i r lt p = off_left rest end r.x0 r.x1 head (before i r.x1 lt p.second)
-
-  -- the h-th pair stands right of the window
-  pub window_past : (a : ℤ) → slice_get walls (h + h) ≡ Some a → Past rest a → EndsWindow rest level old new
-  window_past a wall past = record {
-    same = at.same;
-    kept = at.kept;
-    off = λ n r g high.
-        let o = at.was n r g high in
-        let p = st.paired n r o high in (
-          o,
-          elim (at.passed n p.0 r g high p.1.first) [
-            | inl lt ↦ left_off n p.0 r lt p.1
-            | inr ge ↦ past_off rest r.x0 r.x1 a past (pair_left walls h p.0 a r.x0 up wall p.1.first ge)
-          ],
-        );
-  }
-
-  -- all pairs have been looked at
-  pub window_done : length walls / 2 ≤ h → EndsWindow rest level old new
-  window_done le = record {
-    same = at.same;
-    kept = at.kept;
-    off = λ n r g high.
-        let o = at.was n r g high in
-        let p = st.paired n r o high in
-        let w : suc (p.0 + p.0) < length walls = slice_get_within walls (suc (p.0 + p.0)) r.x1 p.1.second in (
-          o,
-          elim (at.passed n p.0 r g high p.1.first) [
-            | inl lt ↦ left_off n p.0 r lt p.1
-            | inr ge ↦ absurd (omega (arith, w, ge, le))
-          ],
-        );
-  }
+-- all pairs from the h-th one on are off the window
+pub window_ended : (window : Window) (h : ℕ) (new : List Rectangle) → EndingIn window h new
+    → OffFrom h window.walls window.rest → EndsWindow window.rest window.level window.old new
+window_ended window h new at over = record {
+  same = at.same;
+  kept = at.kept;
+  off = λ n r g high.
+      let o = at.was n r g high in
+      let p = window.standing.paired n r o high in (
+        o,
+        elim (at.passed n p.0 r g high p.1.first) [
+          | inl lt ↦ off_left window.rest window.end r.x0 r.x1 window.head (window.before p.0 r.x1 lt p.1.second)
+          | inr ge ↦ over p.0 r.x0 r.x1 p.1 ge
+        ],
+      );
+}
 
 -- ---- all windows
 

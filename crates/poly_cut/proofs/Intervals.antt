@@ -58,8 +58,7 @@ cut_exists ws h up = turn (slice_get ws (h + h)) refl
       c,
       record {
         right = λ k w lt g. got_less ws k (h + h) w c up lt g e;
-        left =
-            λ k w le g. not_less ws (h + h) k c w up le e g;
+        left = λ k w le g. not_less ws (h + h) k c w up le e g;
       },
     )
     turn None e = (let p = past_all ws up in

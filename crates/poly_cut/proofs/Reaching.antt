@@ -170,11 +170,9 @@ far_sum b c x y h k = (omega (arith, ints, h.0, k.0), omega (arith, ints, h.1, k
 moved_within : (b c : ℕ) (p : Point) (r : Rectangle) → IsWithin b r → IsNear c p → IsWithin (b + c) (moved p.x p.y r)
 moved_within b c p r w n = record {
   left = far_sum b c r.x0 p.x w.left n.0;
-  bottom =
-      far_sum b c r.y0 p.y w.bottom n.1;
+  bottom = far_sum b c r.y0 p.y w.bottom n.1;
   right = far_sum b c r.x1 p.x w.right n.0;
-  above =
-      far_sum b c r.y1 p.y w.above n.1;
+  above = far_sum b c r.y1 p.y w.above n.1;
 }
 
 widen : (b c : ℕ) (z : ℤ) → b ≤ c → IsAtMost b z → IsAtMost c z
@@ -184,8 +182,7 @@ wider : (b c : ℕ) (r : Rectangle) → b ≤ c → IsWithin b r → IsWithin c 
 wider b c r le w = record {
   left = widen b c r.x0 le w.left;
   bottom = widen b c r.y0 le w.bottom;
-  right =
-      widen b c r.x1 le w.right;
+  right = widen b c r.x1 le w.right;
   above = widen b c r.y1 le w.above;
 }
 
@@ -299,15 +296,13 @@ stroke_within half under over low high h u o l k = turn (int_lt low.y high.y)
     turn true = record {
       left = (stretched low.x half l.0 h).1;
       bottom = (stretched low.y under l.1 u).1;
-      right =
-          (stretched high.x half k.0 h).0;
+      right = (stretched high.x half k.0 h).0;
       above = (stretched high.y over k.1 o).0;
     }
     turn false = record {
       left = (stretched low.x under l.0 u).1;
       bottom = (stretched low.y half l.1 h).1;
-      right =
-          (stretched high.x over k.0 o).0;
+      right = (stretched high.x over k.0 o).0;
       above = (stretched high.y half k.1 h).0;
     }
 

@@ -1,5 +1,5 @@
 -- What is made ready of items adds what the items add.
-use Rattle.std.specs.Prelude.{◌≡◌, ◌⊎◌, ℕ, zero, suc, ◌+◌, ◌-◌, ◌≤◌, ◌<◌, ◌++◌, List, [], ◌∷◌, length, map, Option}
+use Rattle.std.specs.Prelude.{◌≡◌, ◌⊎◌, ℕ, zero, suc, ◌+◌, ◌-◌, ◌<◌, ◌++◌, List, [], ◌∷◌, length, map, Option}
 use Rattle.std.specs.Prelude.{Some, IfOk, slice_get, slice_index_or, Bool, false}
 use Rattle.std.specs.List.{flat_map, AllByRecursion}
 use Rattle.std.proofs.Common.{Result, Ok, Err, inl, inr, refl, sym, ap, ◌∙◌, subst, arith, take, get_or}
@@ -7,8 +7,6 @@ use Rattle.std.proofs.lemmas.List.{take_more}
 use Rattle.std.proofs.lemmas.Grind.{flat_map-append}
 use Rattle.std.proofs.lemmas.List.{append-nil}
 use Rattle.std.proofs.lemmas.Option.{slice_get-get_or}
-use Rattle.geom.specs.declared.shapes.Shape.{Shape}
-use Rattle.geom.specs.declared.shapes.Label.{Label}
 use Rattle.poly_cut.specs.declared.layout.Point.{Point}
 use Rattle.poly_cut.specs.declared.layout.Turn.{Turn}
 use Rattle.poly_cut.specs.declared.layout.Grid.{Grid}
@@ -20,7 +18,7 @@ use Rattle.poly_cut.specs.declared.ready.Ready.{Ready}
 use Rattle.poly_cut.specs.declared.ready.Ready.TheVariants as ready
 use Rattle.poly_cut.specs.Figures.{cut_of}
 use Rattle.poly_cut.specs.Conditions.{IsPlaced}
-use Rattle.poly_cut.specs.FlatForm.{shape, item_shapes, item_labels, shapes_of, labels_of, items_in, items_at, DEPTH}
+use Rattle.poly_cut.specs.FlatForm.{shape, item_shapes, item_labels, shapes_of, labels_of, items_in, items_at}
 use Rattle.poly_cut.specs.Code.Holding.{MarksAll}
 use Rattle.poly_cut.specs.Code.Readied.{ready_shapes, ready_labels, IsReady, IsDrawing, AddsItem, AddsNothing, AddsAs}
 use Rattle.poly_cut.specs.Code.Readied.{GainsItem, IsEntry, IsTable}
@@ -146,55 +144,14 @@ entered ss table new i s entry is size within at so this n other e =
           (subst (λ (o : Option WideStructure). IsEntry ss (items_in o) entry) (sym here) this)
     ]
 
--- what a structure's items add is its part of the flat form
-pub part_shapes : {P E : Type 0} (f : P → List Shape) (r : Result P E) (ss : List WideStructure) (n depth : ℕ)
-    (ready given : List Ready)
-    → 0 < depth → depth ≤ DEPTH → AddsAs ss (items_at ss n) ready → given ≡ ready
-    → IfOk r (λ part. f part ≡ flat_map (ready_shapes (shapes_of (depth - 1) ss)) given)
-    → IfOk r (λ part. f part ≡ shapes_of depth ss n)
-part_shapes f (Err e) ss n depth ready given some small adds is so = tt
-part_shapes f (Ok part) ss n zero ready given some small adds is so = absurd (omega (arith, some))
-part_shapes f (Ok part) ss n (suc depth) ready given some small adds is so =
-    let e : suc depth - 1 ≡ depth = omega arith in
-    so ∙ ap (λ (k : ℕ). flat_map (ready_shapes (shapes_of k ss)) given) e
-    ∙ ap (flat_map (ready_shapes (shapes_of depth ss))) is ∙ adds.shapes depth (omega (arith, small))
-
-pub part_labels : {P E : Type 0} (f : P → List Label) (r : Result P E) (ss : List WideStructure) (n depth : ℕ)
-    (ready given : List Ready)
-    → 0 < depth → depth ≤ DEPTH → AddsAs ss (items_at ss n) ready → given ≡ ready
-    → IfOk r (λ part. f part ≡ flat_map (ready_labels (labels_of (depth - 1) ss)) given)
-    → IfOk r (λ part. f part ≡ labels_of depth ss n)
-part_labels f (Err e) ss n depth ready given some small adds is so = tt
-part_labels f (Ok part) ss n zero ready given some small adds is so = absurd (omega (arith, some))
-part_labels f (Ok part) ss n (suc depth) ready given some small adds is so =
-    let e : suc depth - 1 ≡ depth = omega arith in
-    so ∙ ap (λ (k : ℕ). flat_map (ready_labels (labels_of k ss)) given) e
-    ∙ ap (flat_map (ready_labels (labels_of depth ss))) is ∙ adds.labels depth (omega (arith, small))
-
--- and so is what they add one by one
-pub own_shapes : {P E : Type 0} (f : P → List Shape) (r : Result P E) (ss : List WideStructure) (n depth : ℕ)
-    (items : List Item)
-    → 0 < depth → items ≡ items_at ss n
-    → IfOk r (λ part. f part ≡ flat_map (item_shapes (shapes_of (depth - 1) ss)) items)
-    → IfOk r (λ part. f part ≡ shapes_of depth ss n)
-own_shapes f (Err e) ss n depth items some is so = tt
-own_shapes f (Ok part) ss n zero items some is so = absurd (omega (arith, some))
-own_shapes f (Ok part) ss n (suc depth) items some is so =
-    let e : suc depth - 1 ≡ depth = omega arith in
-    so ∙ ap (λ (k : ℕ). flat_map (item_shapes (shapes_of k ss)) items) e
-    ∙ ap (flat_map (item_shapes (shapes_of depth ss))) is
-
-pub own_labels : {P E : Type 0} (f : P → List Label) (r : Result P E) (ss : List WideStructure) (n depth : ℕ)
-    (items : List Item)
-    → 0 < depth → items ≡ items_at ss n
-    → IfOk r (λ part. f part ≡ flat_map (item_labels (labels_of (depth - 1) ss)) items)
-    → IfOk r (λ part. f part ≡ labels_of depth ss n)
-own_labels f (Err e) ss n depth items some is so = tt
-own_labels f (Ok part) ss n zero items some is so = absurd (omega (arith, some))
-own_labels f (Ok part) ss n (suc depth) items some is so =
-    let e : suc depth - 1 ≡ depth = omega arith in
-    so ∙ ap (λ (k : ℕ). flat_map (item_labels (labels_of k ss)) items) e
-    ∙ ap (flat_map (item_labels (labels_of depth ss))) is
+-- what is made of the level below is the level's part, where it is so at each depth
+pub deeper : {P E B : Type 0} (f : P → List B) (r : Result P E) (below part : ℕ → List B) (depth : ℕ) → 0 < depth
+    → ((k : ℕ) → k < depth → below k ≡ part (suc k)) → IfOk r (λ made. f made ≡ below (depth - 1))
+    → IfOk r (λ made. f made ≡ part depth)
+deeper f (Err e) below part depth some each so = tt
+deeper f (Ok made) below part zero some each so = absurd (omega (arith, some))
+deeper f (Ok made) below part (suc k) some each so =
+    let e : suc k - 1 ≡ k = omega arith in so ∙ ap below e ∙ each k (omega arith)
 
 -- the items of the structure at a place
 pub items_there : (ss : List WideStructure) (n : ℕ) (s : WideStructure) → n < length ss → s ≡ get_or ss n s

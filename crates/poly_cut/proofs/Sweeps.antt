@@ -383,14 +383,12 @@ none_swept ends top last some none = record {
     reaches = record {
       stand = λ x n q. absurd (let h = none x in cc);
       found = λ n r q. absurd cc;
-      lower =
-          λ n r q. absurd cc;
+      lower = λ n r q. absurd cc;
     };
     standing = record {
       stand = λ x n q. absurd (let h = none x in cc);
       own = λ x n r q g. absurd cc;
-      found =
-          λ n r g. absurd cc;
+      found = λ n r g. absurd cc;
       paired = λ n r g. absurd cc;
     };
     high = λ n r g. absurd cc;

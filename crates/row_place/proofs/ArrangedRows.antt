@@ -1,14 +1,12 @@
 -- Lemmas: rows in the order of given slots are the rows of the net in other orders, so they keep what it keeps and
 -- answer as it does.
-use Rattle.std.specs.Prelude.{◌≡◌, ℕ, zero, suc, ◌<◌, ◌==◌, ◌&&◌, true, false, List, [], ◌∷◌, length, map}
+use Rattle.std.specs.Prelude.{◌≡◌, ℕ, zero, suc, ◌<◌, ◌==◌, true, false, List, [], ◌∷◌, length, map}
 use Rattle.std.specs.Prelude.{slice_index_or}
-use Rattle.std.proofs.Common.{refl, sym, ap, ◌∙◌, subst, arith}
+use Rattle.std.proofs.Common.{refl, sym, ap, ◌∙◌, arith}
 use Rattle.std.proofs.lemmas.Bool.{and_parts, eqb-true}
-use Rattle.circuit.specs.SameAnswers.{SameAnswers}
 use Rattle.rowed.proofs.SeatLaws.{or_none}
 use Rattle.rowed.specs.declared.row_cell.RowCell.{RowCell}
-use Rattle.rowed.specs.RowNets.{RowView, row_at, IsRowNet, IsAnswer}
-use Rattle.rowed.specs.PlacedNets.{PlacedRow, IsPlaced}
+use Rattle.rowed.specs.RowNets.{RowView, row_at, IsRowNet}
 use Rattle.rowed.specs.Slots.{EachSeated}
 use Rattle.list_orders.specs.Numbers.{IsOrder}
 use Rattle.list_orders.proofs.NumbersLaws.{order_by_key, length-by_key_numbers}

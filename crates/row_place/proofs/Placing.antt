@@ -34,8 +34,7 @@ unfolding place
 plan_is net cells slots cells_are slots_are =
     let P : List (List RowCell) → List (List ℕ)
     → PlacedView = λ c s. record {
-      net =
-          record { inputs = net.inputs; outputs = net.outputs; rows = c };
+      net = record { inputs = net.inputs; outputs = net.outputs; rows = c };
       slots = s;
     } in
     ap (λ c. P c (row_slots (place_rows no_order net.rows))) (sym cells_are) ∙ ap (P cells) (sym slots_are)
@@ -44,8 +43,7 @@ pub given_places : (net : RowView) (span width : ℕ) (cells : List (List RowCel
     → 1 ≤ width → span ≡ widest_packed net.rows → span * width ≤ width_limit
     → cells ≡ row_cells (place_rows no_order net.rows) → slots ≡ row_slots (place_rows no_order net.rows)
     → ArePlaces net width (record {
-      net =
-          record { inputs = net.inputs; outputs = net.outputs; rows = cells };
+      net = record { inputs = net.inputs; outputs = net.outputs; rows = cells };
       slots = slots;
     })
 given_places net span width cells slots known some is within cells_are slots_are =

@@ -4,12 +4,9 @@ use Rattle.cover_graph.proofs.Joining.{one_cube, all_cubes}
 use Rattle.cover_graph.proofs.cubes.cubes.Goals as goal
 
 pub loop-one-preserved : goal.loop-one-preserved
-loop-one-preserved c =
-    one_cube c.args.builder.now c.loop-one.builder _ _ _ c.args.cubes.now c.args.inputs.now _ c.loop-one.one-index _
-    c.one-item.result c.loop-one-test.true c.in_ok-push.ensures.items
-    c.in_ok-literal.ensures.grown
-    (c.as_slice.ensures ∙ ap (λ (t : Cube). t.plane) c.one-item.is) c.in_ok-literal.ensures.given
-    c.loop-one.invariant
+loop-one-preserved c = one_cube c.one-item.result c.loop-one-test.true c.in_ok-push.ensures.items
+    c.in_ok-literal.ensures.grown (c.as_slice.ensures ∙ ap (λ (t : Cube). t.plane) c.one-item.is)
+    c.in_ok-literal.ensures.given c.loop-one.invariant
 
 pub returns-clause-made : goal.returns-clause-made
 returns-clause-made c =

@@ -1,9 +1,10 @@
 use Rattle.std.proofs.Common.{arith, subst, sym}
 use Rattle.std.proofs.lemmas.List.{nil_from_length}
 use Rattle.maj_graph.specs.Building.{AllThere}
+use Rattle.maj_graph.proofs.Built.{gives_later, grown_then}
 use Rattle.cover_graph.proofs.GateValues.{result_same}
 use Rattle.cover_graph.proofs.Decomposing.{there_later}
-use Rattle.cover_graph.proofs.Joining.{gives_none_joined, fold_value, there_drop}
+use Rattle.cover_graph.proofs.Joining.{gives_none_joined, fold_value, split_whole, there_drop}
 use Rattle.cover_graph.proofs.fold.+fold.Goals as goal
 
 pub returns-then-literals-eq0-clause-given : goal.returns-then-literals-eq0-clause-given
@@ -22,7 +23,9 @@ fold-requires-2 t c = (
 
 pub returns-clause-given : goal.returns-clause-given
 returns-clause-given t c = result_same c.join_two.result c.join_two.new.builder _ _
-    (fold_value c.args.which c.fold.new.builder c.fold-2.new.builder c.join_two.new.builder _ _ _ c.args.literals.now
-    c.split_at.result.0.now c.split_at.result.1.now c.split_at.ensures.front c.split_at.ensures.back
-    c.in_ok-second.ensures.grown c.join_two.ensures.grown c.in_ok-first.ensures.given c.in_ok-second.ensures.given)
+    (fold_value c.args.which c.join_two.new.builder c.args.literals.now c.split_at.result.0.now c.split_at.result.1.now
+    (split_whole _ _ _ _ c.split_at.ensures.front c.split_at.ensures.back)
+    (gives_later _ _ _ _ (grown_then _ _ _ c.in_ok-second.ensures.grown c.join_two.ensures.grown)
+    c.in_ok-first.ensures.given)
+    (gives_later _ _ _ _ c.join_two.ensures.grown c.in_ok-second.ensures.given))
     c.join_two.ensures.given

@@ -11,15 +11,15 @@ overflow_add-wanted c =
 
 pub returns-then-high-low-clause-joined : goal.returns-then-high-low-clause-joined
 returns-then-high-low-clause-joined c test =
-    joined_there _ _ _ _ _ _ _ _ _ c.requires.tables.known
-    (ends_of _ _ _ _ _ _ _ _ _ _ c.requires.upper c.requires.lower c.requires.rise c.find-high.ensures
+    joined_there
+    (ends_of c.requires.tables.known c.requires.upper c.requires.lower c.requires.rise c.find-high.ensures
     c.find-low.ensures c.find-base.ensures)
     c.if-high-low.true (eqb-true _ _ test)
 
 pub returns-then-high-low-clause-refused : goal.returns-then-high-low-clause-refused
 returns-then-high-low-clause-refused c test =
-    refused_there _ _ _ _ _ _ _ _ _ c.requires.tables.known
-    (ends_of _ _ _ _ _ _ _ _ _ _ c.requires.upper c.requires.lower c.requires.rise c.find-high.ensures
+    refused_there
+    (ends_of c.requires.tables.known c.requires.upper c.requires.lower c.requires.rise c.find-high.ensures
     c.find-low.ensures c.find-base.ensures)
     c.if-high-low.true (eqb-false _ _ test)
 
@@ -30,8 +30,8 @@ rises-requires c =
 
 pub hang_smaller-requires-clause-may : goal.hang_smaller-requires-clause-may
 hang_smaller-requires-clause-may c =
-    told_may _ _ _ _ _ _ _ _ _ _ _ _ _
-    (ends_of _ _ _ _ _ _ _ _ _ _ c.requires.upper c.requires.lower c.requires.rise c.find-high.ensures
+    told_may
+    (ends_of c.requires.tables.known c.requires.upper c.requires.lower c.requires.rise c.find-high.ensures
     c.find-low.ensures c.find-base.ensures)
     c.if-high-low.false c.in-Some.ensures.some
 
@@ -41,14 +41,14 @@ hang_smaller-requires-clause-room c =
 
 pub returns-in-Some-clause-joined : goal.returns-in-Some-clause-joined
 returns-in-Some-clause-joined c is =
-    told_joined _ _ _ _ _ _ _ _ _ _ _ _ _ _ c.requires.tables.known
-    (ends_of _ _ _ _ _ _ _ _ _ _ c.requires.upper c.requires.lower c.requires.rise c.find-high.ensures
+    told_joined
+    (ends_of c.requires.tables.known c.requires.upper c.requires.lower c.requires.rise c.find-high.ensures
     c.find-low.ensures c.find-base.ensures)
     c.in-Some.ensures.some c.hang_smaller.ensures.hangs
 
 pub returns-in-None-clause-refused : goal.returns-in-None-clause-refused
 returns-in-None-clause-refused c is =
-    refused _ _ _ _ _ _ _ _ _ c.requires.tables.known
-    (ends_of _ _ _ _ _ _ _ _ _ _ c.requires.upper c.requires.lower c.requires.rise c.find-high.ensures
+    refused
+    (ends_of c.requires.tables.known c.requires.upper c.requires.lower c.requires.rise c.find-high.ensures
     c.find-low.ensures c.find-base.ensures)
     (c.in-None.ensures.none refl)

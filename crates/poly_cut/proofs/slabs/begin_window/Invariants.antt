@@ -2,5 +2,4 @@ use Rattle.poly_cut.proofs.Openings.{Advances}
 use Rattle.poly_cut.proofs.slabs.begin_window.Given as goal
 
 abbrev pub invariant-loop-pair : goal.invariant-loop-pair
-invariant-loop-pair l = Advances l.from l.pair l.ends l.walls l.level.y l.level.top l.initial.stack.rects l.stack.rects
-    l.stack.last
+invariant-loop-pair l = Advances l.from l.pair l.ends l.walls l.level l.initial.stack l.stack

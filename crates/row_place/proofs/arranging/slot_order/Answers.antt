@@ -1,7 +1,5 @@
 use Rattle.std.proofs.Common.{◌≡◌, ◌<◌, ◌^◌, ℕ, List, IfOk, arith, length, sym, ◌∙◌, ap, subst}
-use Rattle.list_orders.specs.Numbers.{numbers}
-use Rattle.list_orders.specs.Sorting.{by_key}
-use Rattle.row_place.specs.Arranged.{slot_at, slot_order}
+use Rattle.row_place.specs.Arranged.{slot_order}
 use Rattle.row_place.proofs.ArrangingRows.{few_keys, all_keys}
 use Rattle.row_place.proofs.arranging.slot_order.Goals as goal
 
