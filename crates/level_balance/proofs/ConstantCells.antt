@@ -122,8 +122,7 @@ pub zero_cells : (net : PlainView) (three : Bool) → IsPlainNet net
 zero_cells net three known =
     constant_cells Zero (record {
       apart = record { buffer = refl; two = refl; three = refl };
-      inverter_other =
-          refl;
+      inverter_other = refl;
       majority_other = refl;
     }) net three known
     ∙ zero_uses net.inputs 0 (uses net (needed net))
@@ -133,8 +132,7 @@ pub one_cells : (net : PlainView) (three : Bool) → IsPlainNet net
 one_cells net three known =
     constant_cells One (record {
       apart = record { buffer = refl; two = refl; three = refl };
-      inverter_other =
-          refl;
+      inverter_other = refl;
       majority_other = refl;
     }) net three known
     ∙ one_uses net.inputs 0 (uses net (needed net))

@@ -1,6 +1,6 @@
 -- How many cells of a kind the plan has, where neither buffers nor splitters are of it: gates that count and constants.
-use Rattle.std.specs.Prelude.{◌≡◌, ℕ, zero, suc, pred, ◌+◌, ◌-◌, ◌<◌, Bool, true, false, eqb, List, [], ◌∷◌, ◌++◌}
-use Rattle.std.specs.Prelude.{length, drop, replicate, slice_get, slice_index_or, slice_set, Some}
+use Rattle.std.specs.Prelude.{◌≡◌, ℕ, zero, suc, pred, ◌+◌, ◌<◌, Bool, true, false, eqb, List, [], ◌∷◌, ◌++◌}
+use Rattle.std.specs.Prelude.{length, drop, replicate, slice_get, slice_index_or, Some}
 use Rattle.std.proofs.Common.{refl, ap, ◌∙◌, arith}
 use Rattle.circuit.specs.declared.cell_kind.CellKind.{CellKind}
 use Rattle.circuit.specs.declared.cell_kind.CellKind.TheVariants.{Buffer, Split2, Split3, Inverter, Majority, Zero, One}
@@ -12,15 +12,16 @@ use Rattle.rowed.specs.declared.row_cell.RowCell.{RowCell}
 use Rattle.rowed.specs.MadeCells.{cell, output_cell, source}
 use Rattle.level_balance.specs.Uses.{operands, needed, counts, uses_of, use_count}
 use Rattle.level_balance.specs.Levels.{depth, tree_sizes}
-use Rattle.level_balance.specs.Laying.{put, next, giving, Signals, tree_row, tree, chain}
-use Rattle.level_balance.specs.Plan.{Frame, frame, Laid, constant_kind, sources, gate_cell, lead_each, lay_gate}
+use Rattle.level_balance.specs.Laying.{put, next, giving, Signals, tree}
+use Rattle.level_balance.specs.Plan.{Frame, frame, Laid, constant_kind, sources, gate_cell, lay_gate}
 use Rattle.level_balance.specs.Plan.{lay_gates, lay_outputs, laid, level_net}
 use Rattle.level_balance.specs.Kinds.{one_of, row_cells_of, cells_of, gate_kind, gates_of}
+use Rattle.level_balance.specs.Code.Turns.{begun, laid_by}
 use Rattle.level_balance.proofs.Carries.{put_length}
 use Rattle.level_balance.proofs.LawOfLaying.{drop_step, GateFits, level}
-use Rattle.level_balance.proofs.LinearGates.{sources_rows, lay_gate_rows}
+use Rattle.level_balance.proofs.Lengths.{sources_rows, lay_gate_rows}
 use Rattle.level_balance.proofs.Puts.{Puts, done, more, puts_then}
-use Rattle.level_balance.proofs.Putting.{tree_row_puts}
+use Rattle.level_balance.proofs.Putting.{tree_puts, lead_puts}
 use Rattle.level_balance.proofs.KeptNet.{PlanFacts, gone_rows, start_rows, plan_facts}
 
 -- neither buffers nor splitters are of kind k
@@ -112,26 +113,6 @@ module _ (k : CellKind) (apart : IsApart k) where
       go false true = apart.two
       go false false = apart.three
 
-  tree_others : (b r : ℕ) (at : Signals) (cs : List ℕ) → Puts (Other k) at.rows (tree b r at cs).rows
-  tree_others b r at [] = done
-  tree_others b r at (c ∷ cs) =
-      puts_then (tree_row_puts (Other k) b r at.rows at.signals c (λ j s. giving_other j))
-      (tree_others b (suc r) (tree_row b r at.rows at.signals c) cs)
-
-  chain_others : (j r : ℕ) (rows : List (List RowCell)) (s : Source) → Puts (Other k) rows (chain j r rows s).rows
-  chain_others zero r rows s = done
-  chain_others (suc j) r rows s = more r (cell Buffer (s ∷ [])) apart.buffer
-      (chain_others j (suc r) (put rows r (cell Buffer (s ∷ []))) (source (next rows r) 0))
-
-  lead_others : (f : Frame) (leaf : ℕ) (rows : List (List RowCell)) (ends leaves : List Source) (qs : List ℕ)
-      → Puts (Other k) rows (lead_each f leaf rows ends leaves qs).rows
-  lead_others f leaf rows ends leaves [] = done
-  lead_others f leaf rows ends [] (q ∷ qs) = done
-  lead_others f leaf rows ends (s ∷ ss) (q ∷ qs) =
-      let j = slice_index_or f.user_rows q 0 - 1 - leaf in
-      let e = chain j (suc leaf) rows s in
-      puts_then (chain_others j (suc leaf) rows s) (lead_others f leaf e.rows (slice_set ends q e.end) ss qs)
-
   own_kind : (g : Gate) (ss : List Source) → one_of k (gate_cell g ss).kind ≡ one_of k (gate_kind g)
   own_kind (gates.Input i) ss = refl
   own_kind gates.Zero ss = refl
@@ -158,8 +139,10 @@ module _ (k : CellKind) (apart : IsApart k) where
       let one = sources_kind k f.inputs (pred l) at.ends at.rows at.use_at (operands g) (omega arith) in
       let two = kind_put k ss.rows l x (omega arith) in
       let own = own_kind g ss.signals in
-      let rest = others_put k (puts_then (tree_others f.base (suc l) root cs)
-      (lead_others f (l + t) leaves.rows at.ends leaves.signals (uses_of i 0 f.uses))) in
+      let rest = others_put k (puts_then
+      (tree_puts (Other k) f.base (suc l) root cs (λ q j s low high. giving_other j))
+      (lead_puts (Other k) f (l + t) leaves.rows at.ends leaves.signals (uses_of i 0 f.uses)
+      (λ q r s inside low high. apart.buffer))) in
       sum_up (cells_of k at.rows) (constants_of k f.inputs (operands g))
       (one_of k (gate_kind g)) _ _ _ _ one own two rest
     where
@@ -227,17 +210,10 @@ module _ (k : CellKind) (apart : IsApart k) where
         split false = omega arith
 
     final_of_kind : cells_of k
-        (lay_outputs f 0 (lay_gates f 0
-        (record { rows = replicate (suc f.last) []; ends = replicate (length f.uses) (source 0 0); use_at = 0 }) all)
-        outs).rows
+        (laid_by f all outs)
         ≡ gates_cells_of k f 0 all + constants_of k f.inputs outs
     final_of_kind =
-        let start : Laid = record {
-          rows = replicate (suc f.last) [];
-          ends = replicate (length f.uses)
-              (source 0 0);
-          use_at = 0;
-        } in
+        let start : Laid = begun f in
         let a = gates_of_kind 0 start all refl (start_rows f all outs facts) in
         let b = outputs_of_kind 0 (lay_gates f 0 start all) outs (gone_rows f all outs facts) in
         let c = none_of (suc f.last) in omega arith

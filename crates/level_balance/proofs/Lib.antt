@@ -1,5 +1,6 @@
 mod Grown
 mod Carries
+mod Lengths
 mod LawOfGates
 mod Trees
 mod LawOfLaying
@@ -34,7 +35,6 @@ mod GateLaid
 mod AllLaid
 mod Outlined
 mod Counting
-mod Based
 mod Levelled
 mod ShortestTrees
 mod NeededPaths

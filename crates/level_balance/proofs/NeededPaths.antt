@@ -70,8 +70,7 @@ module _ (net : PlainView) (known : IsPlainNet net) where
         output = user.output;
         shown = user.shown;
         path = user.path ++ i ∷ [];
-        leads =
-            leads_on net.gates user.output user.path by.0 i user.leads read;
+        leads = leads_on net.gates user.output user.path by.0 i user.leads read;
       }
 
   from_mark : (left i : ℕ) → length net.gates ≤ i + left → mark (needed net) i ≡ true → IsNeeded net i

@@ -106,6 +106,10 @@ pub all_out : (m : ℕ) (xs : List ℕ) → AllByRecursion (λ x. x < m) xs → 
 all_out m [] h = tt
 all_out m (x ∷ xs) h = (h.0, all_out m xs h.1)
 
+abbrev pub built : ℕ → ℕ → List Bool → List ℕ → List ℕ → ℕ → List ℕ → Frame
+built n b marks us ls last urs =
+    record { inputs = n; base = b; marks = marks; uses = us; levels = ls; last = last; user_rows = urs }
+
 -- the outline is the plan's frame
 pub outline_is : (net : PlainView) (three : Bool) → IsPlainNet net
     → (b : ℕ) (marks : List Bool) (us first next fans ls : List ℕ) (row last : ℕ) (urs : List ℕ)
@@ -114,16 +118,7 @@ pub outline_is : (net : PlainView) (three : Bool) → IsPlainNet net
     → ls ≡ levels_by net.inputs b fans [] net.gates
     → row ≡ greatest_by net.inputs b fans ls net.outputs → last ≡ row + 1
     → urs ≡ user_rows_from net.inputs marks ls 0 net.gates ++ replicate (length net.outputs) last
-    → (let made : Frame = record {
-      inputs = net.inputs;
-      base = b;
-      marks = marks;
-      uses = us;
-      levels = ls;
-      last =
-          last;
-      user_rows = urs;
-    } in made ≡ frame net three)
+    → built net.inputs b marks us ls last urs ≡ frame net three
 unfolding frame
 outline_is net three known b marks us first next fans ls row last urs be me ue links le re lste ure =
     let plain = is_plain net known in
@@ -150,34 +145,9 @@ outline_is net three known b marks us first next fans ls row last urs be me ue l
     ure ∙ ap (λ (m : List Bool). user_rows_from net.inputs m ls 0 net.gates ++ replicate (length net.outputs) last) me
     ∙ ap (λ (k : List ℕ). user_rows_from net.inputs M k 0 net.gates ++ replicate (length net.outputs) last) ll
     ∙ ap (λ (k : ℕ). user_rows_from net.inputs M L 0 net.gates ++ replicate (length net.outputs) k) tt_is in
-    ap (λ (k : ℕ). let f : Frame = record {
-      inputs = net.inputs;
-      base = k;
-      marks = marks;
-      uses = us;
-      levels = ls;
-      last =
-          last;
-      user_rows = urs;
-    } in f) be
-    ∙ ap (λ (k : List Bool). let f : Frame =
-    record { inputs = net.inputs; base = B; marks = k; uses = us; levels = ls; last = last; user_rows = urs } in f)
-    me
-    ∙ ap (λ (k : List ℕ). let f : Frame =
-    record { inputs = net.inputs; base = B; marks = M; uses = k; levels = ls; last = last; user_rows = urs } in f)
-    uu
-    ∙ ap (λ (k : List ℕ). let f : Frame =
-    record { inputs = net.inputs; base = B; marks = M; uses = U; levels = k; last = last; user_rows = urs } in f) ll
-    ∙ ap (λ (k : ℕ). let f : Frame =
-    record { inputs = net.inputs; base = B; marks = M; uses = U; levels = L; last = k; user_rows = urs } in f) tt_is
-    ∙ ap (λ (k : List ℕ). let f : Frame =
-    record {
-      inputs = net.inputs;
-      base = B;
-      marks = M;
-      uses = U;
-      levels = L;
-      last =
-          output_row net B U L;
-      user_rows = k;
-    } in f) uru
+    ap (λ (k : ℕ). built net.inputs k marks us ls last urs) be
+    ∙ ap (λ (k : List Bool). built net.inputs B k us ls last urs) me
+    ∙ ap (λ (k : List ℕ). built net.inputs B M k ls last urs) uu
+    ∙ ap (λ (k : List ℕ). built net.inputs B M U k last urs) ll
+    ∙ ap (λ (k : ℕ). built net.inputs B M U L k urs) tt_is
+    ∙ ap (λ (k : List ℕ). built net.inputs B M U L (output_row net B U L) k) uru

@@ -15,13 +15,15 @@ use Rattle.level_balance.specs.Levels.{depth, tree_sizes}
 use Rattle.level_balance.specs.Laying.{put, next, giving, Signals, tree_row, tree, Ended, chain}
 use Rattle.level_balance.specs.Plan.{Frame, Laid, constant_kind, sources, gate_cell, lay_gate, lay_gates, lay_outputs}
 use Rattle.level_balance.specs.Code.Arrays.{Led, lead_one, lead_walk}
-use Rattle.level_balance.specs.Code.Turns.{lay_one, lay_output, laid_by}
+use Rattle.level_balance.specs.Code.Turns.{lay_one, lay_output, begun, laid_by}
 use Rattle.level_balance.specs.Code.Rooms.{HasFew}
 use Rattle.level_balance.proofs.TotalLaws.{row_within, cells_put}
-use Rattle.level_balance.proofs.Puts.{Puts, done, more, tree_row_quiet, tree_quiet, chain_quiet, sources_quiet}
-use Rattle.level_balance.proofs.Puts.{lead_quiet, lay_gate_quiet, lay_gates_quiet}
+use Rattle.level_balance.proofs.Puts.{Puts, done, more, Silent}
+use Rattle.level_balance.proofs.Putting.{tree_row_puts, tree_quiet, chain_quiet, sources_quiet, lead_puts}
+use Rattle.level_balance.proofs.Putting.{gates_quiet}
 use Rattle.level_balance.proofs.Laid.{TreeRowSo, SourcesSo, sources_first}
-use Rattle.level_balance.proofs.AllLaid.{first_gate, parts}
+use Rattle.level_balance.proofs.AllLaid.{first_gate, one_is, parts}
+use Rattle.level_balance.proofs.GateLaid.{Takes, from_is}
 
 put_more : (rows : List (List RowCell)) (r : ℕ) (c : RowCell) → cells_in rows ≤ cells_in (put rows r c)
 put_more [] r c = omega arith
@@ -67,7 +69,8 @@ tree_row_room goal b r i c rows made signals lt so few =
     let list : drop i signals ≡ s ∷ rest = drop-cons signals i d lt in
     let whole : HasFew (tree_row b r rows (s ∷ rest) c).rows =
     subst (λ (l : List Source). HasFew (tree_row b r rows l c).rows) list (subst HasFew (sym so.rows_are) few) in
-    put_room rows r (cell (giving (min b c)) (s ∷ [])) (few_before (tree_row_quiet b r here rest (c - min b c)) whole)
+    put_room rows r (cell (giving (min b c)) (s ∷ [])) (few_before (tree_row_puts Silent b r here rest
+    (c - min b c) (λ k t. refl)) whole)
 
 pub tree_room : (goal : Signals) (b r i : ℕ) (rows : List (List RowCell)) (signals : List Source) (sizes : List ℕ)
     (d : ℕ) → i < length sizes
@@ -115,8 +118,7 @@ lead_one_quiet urs nx leaf at s = go (ltb at.number (length nx))
           record {
             rows = e.rows;
             ends = slice_set at.ends at.number e.end;
-            number =
-                slice_index_or nx at.number (length nx);
+            number = slice_index_or nx at.number (length nx);
           })
       | false ↦ at
     ]).rows
@@ -164,16 +166,15 @@ module _ (f : Frame) (i : ℕ) (g : Gate) (at : Laid) (few : HasFew (lay_gate f 
   abbrev root : Signals
   root = record {
     rows = put taken.rows level (gate_cell g taken.signals);
-    signals =
-        source (next taken.rows level) 0 ∷ [];
+    signals = source (next taken.rows level) 0 ∷ [];
   }
 
   abbrev leaves : Signals
   leaves = tree f.base (suc level) root (tree_sizes f.base (depth f.base fan) fan [])
 
   pub leaves_room : HasFew leaves.rows
-  leaves_room = few_before (lead_quiet f (level + depth f.base fan) leaves.rows at.ends leaves.signals
-      (uses_of i 0 f.uses)) few
+  leaves_room = few_before (lead_puts Silent f (level + depth f.base fan) leaves.rows at.ends leaves.signals
+      (uses_of i 0 f.uses) (λ q r s inside low high. refl)) few
 
   root_few : HasFew root.rows
   root_few = few_before (tree_quiet f.base (suc level) root (tree_sizes f.base (depth f.base fan) fan [])) leaves_room
@@ -184,28 +185,16 @@ module _ (f : Frame) (i : ℕ) (g : Gate) (at : Laid) (few : HasFew (lay_gate f 
   pub taken_room : HasFew taken.rows
   taken_room = let m = put_more taken.rows level (gate_cell g taken.signals) in let o = root_few in omega arith
 
-lay_one_more : (f : Frame) (i : ℕ) (g : Gate) (at : Laid) → cells_in at.rows ≤ cells_in (lay_one f i g at).rows
-lay_one_more f i g at = go (counts f.inputs f.marks i)
-  where
-    go : (b : Bool) → cells_in at.rows ≤ cells_in
-        (elim b as (λ (t : Bool). Laid) [ true ↦ lay_gate f i g at | false ↦ at ]).rows
-    go true = puts_more (lay_gate_quiet f i g at)
-    go false = omega arith
-
-pub counted_room : (f : Frame) (i : ℕ) (g : Gate) (at : Laid) → counts f.inputs f.marks i ≡ true
-    → HasFew (lay_one f i g at).rows → HasFew (lay_gate f i g at).rows
-counted_room f i g at c few = let e : (lay_one f i g at).rows ≡ (lay_gate f i g at).rows =
-    rw (c, lay_one) refl in subst HasFew e few
-
 pub gates_room : (goal : Laid) (f : Frame) (i : ℕ) (gates : List Gate) (d : Gate) (at : Laid) → i < length gates
-    → lay_gates f i at (drop i gates) ≡ goal → HasFew goal.rows → HasFew (lay_one f i (get_or gates i d) at).rows
-gates_room goal f i gates d at lt is few =
+    → lay_gates f i at (drop i gates) ≡ goal → HasFew goal.rows → counts f.inputs f.marks i ≡ true
+    → HasFew (lay_gate f i (get_or gates i d) at).rows
+gates_room goal f i gates d at lt is few c =
     let g = get_or gates i d in
     let rest = drop (suc i) gates in
     let list : lay_gates f i at (drop i gates) ≡ lay_gates f (suc i) (lay_one f i g at) rest = ap (lay_gates f i at)
     (drop-cons gates i d lt) ∙ first_gate f i g rest at in
-    few_before (lay_gates_quiet f (suc i) (lay_one f i g at) rest)
-    (subst (λ (t : Laid). HasFew t.rows) (sym is ∙ list) few)
+    subst (λ (t : Laid). HasFew t.rows) (one_is f i g at true c) (few_before
+    (gates_quiet f (suc i) (lay_one f i g at) gates) (subst (λ (t : Laid). HasFew t.rows) (sym is ∙ list) few))
 
 lay_output_more : (f : Frame) (k o : ℕ) (at : Laid) → cells_in at.rows ≤ cells_in (lay_output f k o at).rows
 lay_output_more f k o at =
@@ -242,20 +231,8 @@ shown_place f k o at few =
 
 -- the rows of the gates alone
 pub before_outputs : (f : Frame) (gates : List Gate) (outs : List ℕ) → HasFew (laid_by f gates outs)
-    → (let none : Laid = record {
-      rows = replicate (suc f.last) [];
-      ends = replicate (length f.uses)
-          (source 0 0);
-      use_at = 0;
-    } in HasFew (lay_gates f 0 none gates).rows)
-before_outputs f gates outs few =
-    let none : Laid = record {
-      rows = replicate (suc f.last) [];
-      ends = replicate (length f.uses)
-          (source 0 0);
-      use_at = 0;
-    } in
-    let m = lay_outputs_more f 0 (lay_gates f 0 none gates) outs in omega arith
+    → HasFew (lay_gates f 0 (begun f) gates).rows
+before_outputs f gates outs few = let m = lay_outputs_more f 0 (lay_gates f 0 (begun f) gates) outs in omega arith
 
 -- before a gate is laid
 pub begun_room : (f : Frame) (gates : List Gate) (outs : List ℕ) (count : ℕ) (rows : List (List RowCell))
@@ -265,35 +242,21 @@ pub begun_room : (f : Frame) (gates : List Gate) (outs : List ℕ) (count : ℕ)
     → HasFew (lay_gates f 0 (record { rows = rows; ends = ends; use_at = 0 }) gates).rows
 begun_room f gates outs count rows ends size r e few =
     let start = parts rows ends 0
-    (record { rows = replicate (suc f.last) []; ends = replicate (length f.uses) (source 0 0); use_at = 0 })
+    (begun f)
     (r ∙ ap (λ (k : ℕ). replicate {A = List RowCell} k []) (size ∙ add-one f.last)) e refl in
     subst (λ (t : Laid). HasFew (lay_gates f 0 t gates).rows) (sym start) (before_outputs f gates outs few)
 
 -- one gate's sources and its own cell, as the code has them
-module _ (f : Frame) (i : ℕ) (g : Gate) (rows : List (List RowCell)) (ends : List Source) (use_at level below : ℕ)
-    (ops ops' : List ℕ) (ends' : List Source)
-    (level_is : level ≡ get_or f.levels i 0) (below_is : below ≡ level - 1) (ops_are : ops ≡ operands g)
-    (ops_read : ops' ≡ ops) (ends_read : ends' ≡ ends)
-    (few : HasFew (lay_gate f i g (record { rows = rows; ends = ends; use_at = use_at })).rows) where
-  abbrev at : Laid
-  at = record { rows = rows; ends = ends; use_at = use_at }
+module _ {f : Frame} {i : ℕ} {g : Gate} {at : Laid} {level below : ℕ} {ops : List ℕ} {ends : List Source}
+    (t : Takes f i g at level below ops ends) (few : HasFew (lay_gate f i g at).rows) where
+  pub taken_few : HasFew (sources f.inputs below ends at.rows at.use_at ops).rows
+  taken_few = subst (λ (v : Signals). HasFew v.rows) (sym (from_is t)) (taken_room f i g at few)
 
-  from_at : sources f.inputs below ends' rows use_at ops' ≡ sources f.inputs
-      (pred (get_or f.levels i 0)) ends rows use_at (operands g)
-  from_at =
-      ap (λ (k : ℕ). sources f.inputs k ends' rows use_at ops') (below_is ∙ ap (λ (k : ℕ). k - 1) level_is
-      ∙ (let z : get_or f.levels i 0 - 1 ≡ pred (get_or f.levels i 0) = omega arith in z))
-      ∙ ap (λ (e : List Source). sources f.inputs (pred (get_or f.levels i 0)) e rows use_at ops') ends_read
-      ∙ ap (λ (o : List ℕ). sources f.inputs (pred (get_or f.levels i 0)) ends rows use_at o) (ops_read ∙ ops_are)
-
-  pub taken_few : HasFew (sources f.inputs below ends' rows use_at ops').rows
-  taken_few = subst (λ (v : Signals). HasFew v.rows) (sym from_at) (taken_room f i g at few)
-
-  pub own_few : (rows1 : List (List RowCell)) → rows1 ≡ (sources f.inputs below ends' rows use_at ops').rows
+  pub own_few : (rows1 : List (List RowCell)) → rows1 ≡ (sources f.inputs below ends at.rows at.use_at ops).rows
       → next rows1 level < 2 ^ 32
   own_few rows1 e =
-      let is : next rows1 level ≡ next
-      (sources f.inputs (pred (get_or f.levels i 0)) ends rows use_at (operands g)).rows (get_or f.levels i 0) =
-      ap (λ (r : List (List RowCell)). next r level) (e ∙ ap (λ (v : Signals). v.rows) from_at)
-      ∙ ap (next (sources f.inputs (pred (get_or f.levels i 0)) ends rows use_at (operands g)).rows) level_is in
+      let from = sources f.inputs (pred (get_or f.levels i 0)) at.ends at.rows at.use_at (operands g) in
+      let is : next rows1 level ≡ next from.rows (get_or f.levels i 0) =
+      ap (λ (r : List (List RowCell)). next r level) (e ∙ ap (λ (v : Signals). v.rows) (from_is t))
+      ∙ ap (next from.rows) t.level_is in
       let low = own_room f i g at few in omega arith

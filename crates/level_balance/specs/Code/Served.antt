@@ -46,7 +46,8 @@ level_over n end (gates.Buf x) = suc (greatest_end n end (x ∷ []))
 level_over n end (gates.Inv x) = suc (greatest_end n end (x ∷ []))
 level_over n end (gates.Maj x y z) = suc (greatest_end n end (x ∷ y ∷ z ∷ []))
 
--- the cells that lead gate x to a user in row r: its own where it is a constant, or the buffers from where its tree ends
+-- the cells that lead gate x to a user in row r: its own where it is a constant, or the buffers from where its tree
+-- ends
 abbrev pub led_cells : ℕ → (ℕ → ℕ) → ℕ → ℕ → ℕ
 led_cells n end r x = elim (is_constant n x) [ true ↦ 1 | false ↦ r - 1 - end x ]
 
@@ -68,7 +69,8 @@ abbrev pub user_cells : ℕ → ℕ → List ℕ → ℕ → Gate → ℕ
 user_cells n b ends i g =
     let fan = at_place ends i in
     elim (counts_by n fan i) [
-      | true ↦ suc (tree_cells b (depth b fan) fan) + leads_cells n (at_place ends) (level_over n (at_place ends) g) (operands g)
+      | true ↦ suc (tree_cells b (depth b fan) fan)
+          + leads_cells n (at_place ends) (level_over n (at_place ends) g) (operands g)
       | false ↦ 0
     ]
 

@@ -25,9 +25,10 @@ pub record LaidIs (rows : List (List RowCell)) (ends : List Source) (use_at : �
   pub ends_are : ends ≡ at.ends
   pub use_at_is : use_at ≡ at.use_at
 
+-- no gate is laid yet
+abbrev pub begun : Frame → Laid
+begun f = record { rows = replicate (suc f.last) []; ends = replicate (length f.uses) (source 0 0); use_at = 0 }
+
 -- all rows of a plan
 abbrev pub laid_by : Frame → List Gate → List ℕ → List (List RowCell)
-laid_by f gates outs =
-    let none : Laid =
-    record { rows = replicate (suc f.last) []; ends = replicate (length f.uses) (source 0 0); use_at = 0 } in
-    (lay_outputs f 0 (lay_gates f 0 none gates) outs).rows
+laid_by f gates outs = (lay_outputs f 0 (lay_gates f 0 (begun f) gates) outs).rows
