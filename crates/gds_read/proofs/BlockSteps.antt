@@ -139,18 +139,20 @@ module _ (g : List (List ℕ)) (met rank left stack starts work : List ℕ) (cou
 
     pub entered : IsWalk g met' rank left stack' starts' work' count
     entered = record {
-      met_size = m.size ∙ w.met_size;
-      rank_size = w.rank_size;
+      states = record {
+        met_size = m.size ∙ w.met_size;
+        rank_size = w.rank_size;
+        new_open = λ x e. new_at x e (cases_eq x v);
+        stands = λ i h. stands_at i (last_or i (length stack) (length stack') h s.size);
+        unclosed = λ i h. unclosed_at i (last_or i (length stack) (length stack') h s.size);
+        found = found_at;
+        falls = w.falls;
+        bounded = w.bounded;
+        alike = w.alike;
+      };
       left_size = w.left_size;
-      new_open = λ x e. new_at x e (cases_eq x v);
       new_left = λ x e. left_at x e (cases_eq x v);
       left_fits = w.left_fits;
-      stands = λ i h. stands_at i (last_or i (length stack) (length stack') h s.size);
-      unclosed = λ i h. unclosed_at i (last_or i (length stack) (length stack') h s.size);
-      found = found_at;
-      falls = w.falls;
-      bounded = w.bounded;
-      alike = w.alike;
       linked = links;
       scanned = scans;
       done = dones;
@@ -352,18 +354,10 @@ module _ (g : List (List ℕ)) (met rank left stack starts work : List ℕ) (cou
 
     pub joined : IsWalk g met rank left stack starts' work count
     joined = record {
-      met_size = w.met_size;
-      rank_size = w.rank_size;
+      states = w.states;
       left_size = w.left_size;
-      new_open = w.new_open;
       new_left = w.new_left;
       left_fits = w.left_fits;
-      stands = w.stands;
-      unclosed = w.unclosed;
-      found = w.found;
-      falls = w.falls;
-      bounded = w.bounded;
-      alike = w.alike;
       linked = joins;
       scanned = λ i e h l k s. seen_front i (get_or (targets_at g (get_or stack i 0)) e 0) (w.scanned i e h l k s);
       done = w.done;
@@ -400,18 +394,10 @@ module _ (g : List (List ℕ)) (met rank left stack starts work : List ℕ) (cou
 
     pub popped : IsWalk g met rank left stack starts work' count
     popped = record {
-      met_size = w.met_size;
-      rank_size = w.rank_size;
+      states = w.states;
       left_size = w.left_size;
-      new_open = w.new_open;
       new_left = w.new_left;
       left_fits = w.left_fits;
-      stands = w.stands;
-      unclosed = w.unclosed;
-      found = w.found;
-      falls = w.falls;
-      bounded = w.bounded;
-      alike = w.alike;
       linked = w.linked;
       scanned = w.scanned;
       done = λ i h. not_waiting (get_or stack i 0) (w.done i h);
@@ -468,18 +454,10 @@ module _ (g : List (List ℕ)) (met rank left stack starts work : List ℕ) (cou
 
     pub counted : IsWalk g met rank left' stack starts work count
     counted = record {
-      met_size = w.met_size;
-      rank_size = w.rank_size;
+      states = w.states;
       left_size = p.size ∙ w.left_size;
-      new_open = w.new_open;
       new_left = λ v e. p.others v (new_same v e) ∙ w.new_left v e;
       left_fits = λ v. fits_at v (cases_eq v u);
-      stands = w.stands;
-      unclosed = w.unclosed;
-      found = w.found;
-      falls = w.falls;
-      bounded = w.bounded;
-      alike = w.alike;
       linked = w.linked;
       scanned = follows;
       done = λ i h. still_done (get_or stack i 0) (w.done i h);
@@ -657,21 +635,23 @@ module _ (g : List (List ℕ)) (met rank left stack starts work : List ℕ) (cou
 
     pub closed_block : IsWalk g met rank' left stack' starts' work count'
     closed_block = record {
-      met_size = w.met_size;
-      rank_size = rank_same ∙ w.rank_size;
+      states = record {
+        met_size = w.met_size;
+        rank_size = rank_same ∙ w.rank_size;
+        new_open = λ v e. kept_zero v 0 e (omega arith) (w.new_open v e);
+        stands = λ i h. ap (λ (y : ℕ). get_or met y 0) (same_at i h) ∙ w.stands i (on_stack_before i h);
+        unclosed = λ i h.
+            let z = low_place i h in
+            ap (λ (y : ℕ). get_or rank' y 0) (same_at i h) ∙ kept_zero (get_or stack i 0) (suc i)
+            (w.stands i (on_stack_before i h)) (omega (arith, z)) (w.unclosed i (on_stack_before i h));
+        found = λ v i e r. found_now v i r (w.found v i e (old_zero v r)) (cases_lt i s);
+        falls = falls_now;
+        bounded = λ v. bounded_now v (others v);
+        alike = alike_now;
+      };
       left_size = w.left_size;
-      new_open = λ v e. kept_zero v 0 e (omega arith) (w.new_open v e);
       new_left = w.new_left;
       left_fits = w.left_fits;
-      stands = λ i h. ap (λ (y : ℕ). get_or met y 0) (same_at i h) ∙ w.stands i (on_stack_before i h);
-      unclosed = λ i h.
-          let z = low_place i h in
-          ap (λ (y : ℕ). get_or rank' y 0) (same_at i h) ∙ kept_zero (get_or stack i 0) (suc i)
-          (w.stands i (on_stack_before i h)) (omega (arith, z)) (w.unclosed i (on_stack_before i h));
-      found = λ v i e r. found_now v i r (w.found v i e (old_zero v r)) (cases_lt i s);
-      falls = falls_now;
-      bounded = λ v. bounded_now v (others v);
-      alike = alike_now;
       linked = λ i j h l b.
           led_by g (get_or stack j 0) (get_or stack i 0) (get_or stack' j 0) (get_or stack' i 0) (same_at j l)
           (same_at i h)

@@ -15,7 +15,7 @@ use Rattle.gds_records.specs.WideValues.{wide_opener, last_colrow, wide_fault_in
 use Rattle.gds_records.specs.Steps.{is_listed}
 use Rattle.gds_records.specs.Profiles.{wide}
 use Rattle.gds_records.specs.Profiled.{AreGoodIn}
-use Rattle.gds_read.proofs.Words.{has_kind, mentions, lacks}
+use Rattle.gds_records.proofs.Sentences.{has_kind, mentions, lacks}
 
 -- ---- the names that STRNAME records give, none of which stands before
 

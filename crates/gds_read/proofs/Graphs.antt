@@ -81,8 +81,7 @@ pub record Marked (marks : List Bool) (k : ℕ) (graph : List (List ℕ)) : Type
 pub first_marks : (marks : List Bool) (graph : List (List ℕ)) → marks ≡ map (λ ns. some_target (λ n. true) ns) graph
     → Marked marks 1 graph
 first_marks marks graph e = record {
-  each = λ n. ap (λ (x : List Bool). slice_index_or x n false) e
-      ∙ marked_at (λ m. true) graph n;
+  each = λ n. ap (λ (x : List Bool). slice_index_or x n false) e ∙ marked_at (λ m. true) graph n;
 }
 
 pub more_marks : (marks above : List Bool) (k : ℕ) (graph : List (List ℕ)) → Marked marks k graph
@@ -314,8 +313,7 @@ used names n (u ∷ us) e = turn (eqb (place_of u.name names) n) refl (used name
         record {
           name = w.name;
           number = w.number;
-          is_there = or_right (same u.name w.name)
-              (some_use (λ t. same t w.name) us) w.is_there;
+          is_there = or_right (same u.name w.name) (some_use (λ t. same t w.name) us) w.is_there;
         }
 
 record NamedWay (all : List Outline) (from : List ℕ) (size : ℕ) (to : List ℕ) : Type 0 where

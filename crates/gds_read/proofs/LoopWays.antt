@@ -24,8 +24,7 @@ led_way graph to from (along f n r l) = inr (turn (led_way graph to n l))
     turn (inl e) = record { through = []; is = ap (λ (x : ℕ). refers graph f x) (sym e) ∙ r }
     turn (inr w) = record {
       through = n ∷ w.through;
-      is = and_from (refers graph f n)
-          (is_way graph n w.through to) r w.is;
+      is = and_from (refers graph f n) (is_way graph n w.through to) r w.is;
     }
 
 -- ---- ways that come nowhere twice
@@ -139,8 +138,7 @@ equal_one rank bound (n ∷ ns) e f =
         let s = r g p.1 in
         record {
           it = s.it;
-          among_them = or_right (eqb n s.it) (some_target (λ m. eqb m s.it) ns)
-              s.among_them;
+          among_them = or_right (eqb n s.it) (some_target (λ m. eqb m s.it) ns) s.among_them;
           is = s.is;
         }
     turn false h g p r =
@@ -149,8 +147,7 @@ equal_one rank bound (n ∷ ns) e f =
         record {
           it = n;
           among_them = ap (λ (z : Bool). z || some_target (λ m. eqb m n) ns) (eqb_same n);
-          is =
-              omega (arith, a, b);
+          is = omega (arith, a, b);
         }
 
 closes : (graph : List (List ℕ)) (n x : ℕ) → refers graph n x ≡ true → Leads graph n x → Simple graph n n

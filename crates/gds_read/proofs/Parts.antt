@@ -54,8 +54,7 @@ grown part size n s t h e =
     record {
       records = s.records ++ here_record (drop size part) ∷ [];
       whole = w;
-      short =
-          all_more s.records (here_record (drop size part)) s.short f.short;
+      short = all_more s.records (here_record (drop size part)) s.short f.short;
     } in
     record {
       spelled_front = front;

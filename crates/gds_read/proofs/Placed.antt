@@ -235,8 +235,7 @@ module _ (names : List (List ℕ)) (us : List Use) (n : ℕ) where
           → is_used (trimmed (field 18 q)) us ≡ true → Named names us n
       both true e f u = record {
         name = trimmed (field 18 q);
-        place = sym
-            (eqb-true (place_of (trimmed (field 18 q)) names) n e);
+        place = sym (eqb-true (place_of (trimmed (field 18 q)) names) n e);
         used = u;
       }
       both false e f u = others f
@@ -252,8 +251,7 @@ module _ (names : List (List ℕ)) (us : List Use) (n : ℕ) where
                   (record {
                     layer = number (field 13 q);
                     x = coordinate (field 16 q) 0;
-                    y =
-                        coordinate (field 16 q) 1;
+                    y = coordinate (field 16 q) 1;
                     text = trimmed (field 25 q);
                   })
             ]
@@ -297,8 +295,7 @@ no_references names list none (q ∷ qs) all = turn (has 8 q) (has 10 q) all.0 (
                 (record {
                   layer = number (field 13 q);
                   x = coordinate (field 16 q) 0;
-                  y =
-                      coordinate (field 16 q) 1;
+                  y = coordinate (field 16 q) 1;
                   text = trimmed (field 25 q);
                 })
           ]

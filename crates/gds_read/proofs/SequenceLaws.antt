@@ -153,8 +153,7 @@ module _ (k : ℕ) (l : Language) where
           ])
       turn None false d n g c later = record { follows = after_two k (part p) x false n ∙ rw d refl; clear = refl }
       turn None true d n g c later = record {
-        follows = after_two k (part p) x true n
-            ∙ rw d later.follows;
+        follows = after_two k (part p) x true n ∙ rw d later.follows;
         clear = later.clear;
       }
       turn (Some q) false d n g c later =

@@ -14,7 +14,8 @@ use Rattle.gds_records.specs.Grammar.{element, boundary, reference, text}
 use Rattle.gds_records.specs.Drawing.{starts, up_to, parts, field, has, element_parts}
 use Rattle.gds_records.specs.Whole.{Use, uses_from}
 use Rattle.gds_records.specs.Steps.{is_listed}
-use Rattle.gds_read.proofs.Words.{has_kind, mentions, lacks, Ends, ends_with, ends, holds}
+use Rattle.gds_records.proofs.Sentences.{has_kind, mentions, lacks, Ends, ends_with, ends_so}
+use Rattle.gds_read.proofs.Words.{holds}
 
 -- ---- records by the words of their kinds
 
@@ -35,8 +36,7 @@ split (r ∷ rs) (k ∷ front) rest e =
       xs = r ∷ s.xs;
       ys = s.ys;
       whole = ap (λ (x : List Record). r ∷ x) s.whole;
-      fronts =
-          (λ i. q i ∷ s.fronts i);
+      fronts = (λ i. q i ∷ s.fronts i);
       rests = s.rests;
     }
 
@@ -65,8 +65,7 @@ headed k l rs h =
       rest = s.ys;
       whole = s.whole ∙ ap (λ (x : List Record). x ++ s.ys) o.1;
       kind = o.2;
-      others =
-          subst (λ (x : List ℕ). Speaks l x) (sym s.rests) h.4;
+      others = subst (λ (x : List ℕ). Speaks l x) (sym s.rests) h.4;
     }
 
 -- ---- where structures start
@@ -331,7 +330,7 @@ module _ (each : Language) (last : ends_with 17 each ≡ true) (closed : mention
       let sp : Speaks each (kinds s.xs) = subst (λ (x : List ℕ). Speaks each x) (sym s.fronts) h in
       subst (λ (x : List (List Record)). AllByRecursion (SpokenIn each) x)
       (sym (ap (λ (x : List Record). parts 17 [] x) s.whole
-      ∙ first_cut s.xs s.ys (ends 17 each (kinds s.xs) last sp))) (sp, elements_spoken rest r s.ys s.rests)
+      ∙ first_cut s.xs s.ys (ends_so 17 each (kinds s.xs) last sp))) (sp, elements_spoken rest r s.ys s.rests)
 
   elements_named : (w : List ℕ) → Repeats (Speaks each) w → (els : List Record) → kinds els ≡ w
       → snames els ≡ flat_map snames (parts 17 [] els)
@@ -345,7 +344,7 @@ module _ (each : Language) (last : ends_with 17 each ≡ true) (closed : mention
       ∙ sym (flat_map-cons snames s.xs (parts 17 [] s.ys))
       ∙ ap (λ (x : List (List Record)). flat_map snames x)
       (sym (ap (λ (x : List Record). parts 17 [] x) s.whole
-      ∙ first_cut s.xs s.ys (ends 17 each (kinds s.xs) last sp)))
+      ∙ first_cut s.xs s.ys (ends_so 17 each (kinds s.xs) last sp)))
 
   shaped : (xs later : List Record) → Speaks (inner_of each) (kinds xs) → IsShapedIn each (xs ++ later)
   shaped xs later h =
@@ -485,8 +484,7 @@ strict_shaped p s = record {
   spoken = s.spoken;
   list = flat_map snames (element_parts p);
   names = s.names;
-  covered =
-      parts_covered (element_parts p) s.spoken;
+  covered = parts_covered (element_parts p) s.spoken;
 }
 
 pub sentence_shaped : (rs : List Record) → Speaks stream (kinds rs) → AllByRecursion IsShaped (starts rs)

@@ -11,7 +11,7 @@ use Rattle.gds_records.specs.Drawing.{field}
 use Rattle.gds_records.specs.Profiles.{wide}
 use Rattle.gds_records.specs.Profiled.{AreGoodIn}
 use Rattle.gds_read.proofs.Kept.{From, Kept}
-use Rattle.gds_read.proofs.Words.{has_kind, mentions, lacks}
+use Rattle.gds_records.proofs.Sentences.{has_kind, mentions, lacks}
 use Rattle.gds_read.proofs.Shaped.{Headed, split, field_behind}
 
 -- the record that opened the element, and the content of the last COLROW

@@ -43,7 +43,8 @@ use Rattle.gds_records.specs.Scan.{IsBytes}
 use Rattle.gds_records.specs.Profiles.{strict}
 use Rattle.gds_records.specs.Profiled.{AreGoodIn}
 use Rattle.gds_read.proofs.Kept.{From, Kept, starts_kept, elements_kept}
-use Rattle.gds_read.proofs.Words.{has_kind, lacks, holds}
+use Rattle.gds_records.proofs.Sentences.{has_kind, lacks}
+use Rattle.gds_read.proofs.Words.{holds}
 use Rattle.gds_read.proofs.Shaped.{Headed, headed, has_is, Spoken, IsShaped, sentence_shaped}
 use Rattle.gds_read.proofs.Placed.{HasBytes, all_bytes, bytes_front, starts_bytes, element_bytes, field_bytes, four_low}
 use Rattle.gds_read.proofs.Placed.{drop_is_bytes, shallow_of}
@@ -99,9 +100,7 @@ found k last (r ∷ rs) g a b c h =
       it = r;
       taken = g.0.0;
       kind = e;
-      content =
-          ap (λ (t : Bool). elim t as (λ (_ : Bool). List ℕ) [ true ↦ r.content | false ↦ field k rs ])
-          e;
+      content = ap (λ (t : Bool). elim t as (λ (_ : Bool). List ℕ) [ true ↦ r.content | false ↦ field k rs ]) e;
       value = g.0.1;
     }
     turn false e q f =
@@ -227,8 +226,7 @@ plain_grid = record { columns = 1; rows = 1; column_step = point (pos 0) (pos 0)
 placed_alike : (n : ℕ) (x y : ℤ) → Alike (Place n x y) (Item.Place n (point x y) plain_turn plain_grid)
 placed_alike n x y = record {
   shapes = λ of. append-nil (map (moved_shape x y) (of n));
-  labels =
-      λ of. append-nil (map (moved_label x y) (of n));
+  labels = λ of. append-nil (map (moved_label x y) (of n));
 }
 
 module _ (names : List (List ℕ))
@@ -269,8 +267,7 @@ module _ (names : List (List ℕ))
       let l : Label = record {
         layer = number (field 13 q);
         x = coordinate (field 16 q) 0;
-        y =
-            coordinate (field 16 q) 1;
+        y = coordinate (field 16 q) 1;
         text = trimmed (field 25 q);
       } in
       let e : element_of names q ≡ Text l = rw (element_of, b, s) refl in

@@ -36,7 +36,8 @@ use Rattle.gds_records.specs.Steps.{is_listed}
 use Rattle.gds_records.specs.Scan.{IsBytes}
 use Rattle.gds_records.proofs.WideFigures.{ring_so, path_so, grid_so}
 use Rattle.gds_read.proofs.Kept.{From, Kept, elements_kept}
-use Rattle.gds_read.proofs.Words.{lacks, holds}
+use Rattle.gds_records.proofs.Sentences.{lacks}
+use Rattle.gds_read.proofs.Words.{holds}
 use Rattle.gds_read.proofs.Shaped.{headed, has_is, snames, SpokenIn, IsShapedIn, named_once}
 use Rattle.gds_read.proofs.Valued.{State, next, IsValued, quiet, found, Opened, open_with, At, skip}
 use Rattle.gds_read.proofs.Placed.{HasBytes, field_bytes, element_bytes, signed_fits, coordinate_fits, drop_is_bytes}
@@ -113,8 +114,7 @@ array_fields q o =
       others = o.others;
       colrow = o.colrow;
       good = o.good;
-      counts =
-          o.same_field 0x13 refl;
+      counts = o.same_field 0x13 refl;
       points = o.same_field 16 refl;
     } in
     let b = skip 11 flags (One 0x12 >> turned >> One 0x13 >> One 0x10 >> tail) q refl refl refl a in
@@ -284,8 +284,7 @@ one_grid q f c =
       columns = 1;
       rows = 1;
       column_step = point (pos 0) (pos 0);
-      row_step =
-          point (pos 0) (pos 0);
+      row_step = point (pos 0) (pos 0);
     } = rw (grid_of, c) refl in
     subst (λ (x : Grid). IsGrid (point_at (field 16 q) 0) x) (sym g)
     (plain_grid (point_at (field 16 q) 0) (point_narrow (field 16 q) 0 1 f))
@@ -300,8 +299,7 @@ array_grid q f c a =
       columns = n;
       rows = m;
       column_step = step n (point_at xy 0) (point_at xy 1);
-      row_step =
-          step m (point_at xy 0) (point_at xy 2);
+      row_step = step m (point_at xy 0) (point_at xy 2);
     } = rw (grid_of, c) refl in
     let l = lattice_so n m xy a.lattice in
     let k = and_parts (is_count n) (is_count m) a.colrow in
@@ -361,8 +359,7 @@ module _ (names : List (List ℕ)) where
       subst (λ (x : Item). IsItem (length names) x) (sym i)
       (record {
         stands = place_low (trimmed (field 18 q)) names l;
-        quarter =
-            quarter_small (field 0x1C q);
+        quarter = quarter_small (field 0x1C q);
         lattice = g;
       })
 
@@ -372,8 +369,7 @@ module _ (names : List (List ℕ)) where
       let l : Label = record {
         layer = number (field 13 q);
         x = coordinate (field 16 q) 0;
-        y =
-            coordinate (field 16 q) 1;
+        y = coordinate (field 16 q) 1;
         text = trimmed (field 25 q);
       } in
       let i : item_of names q ≡ Text l = rw (item_of, b, p, s, a) refl in

@@ -38,7 +38,8 @@ use Rattle.gds_read.specs.Code.Bodies.{IsBody}
 use Rattle.gds_read.specs.Code.Decoding.{records_in}
 use Rattle.gds_read.specs.Code.Chains.{AreOutlined}
 use Rattle.gds_read.proofs.Kept.{starts_kept}
-use Rattle.gds_read.proofs.Words.{lacks, holds}
+use Rattle.gds_records.proofs.Sentences.{lacks}
+use Rattle.gds_read.proofs.Words.{holds}
 use Rattle.gds_read.proofs.Shaped.{has_is, snames, snames_none, SpokenIn, IsShapedIn, named_once, shaped_in}
 use Rattle.gds_read.proofs.Valued.{next, IsValued, all_valued}
 use Rattle.gds_read.proofs.WidePlaced.{all_split, KnownIn, structures_are}
@@ -132,8 +133,7 @@ module _ (names : List (List ℕ)) where
         layer = number (field 13 q);
         x = coordinate (field 16 q) 0;
         y = coordinate (field 16 q) 1;
-        text =
-            trimmed (field 25 q);
+        text = trimmed (field 25 q);
       })
   text_item q b p s a = rw (item_of, b, p, s, a) refl
 
@@ -337,8 +337,7 @@ wide_read bytes end records layout (Ok taken) fits b front says none outlined sa
         rest = drop end bytes;
         read = b.read;
         zeros = b.zeros;
-        conditions =
-            no_fault;
+        conditions = no_fault;
         says = said;
       };
       flattenable = subst (λ (w : WideLayout). IsFlattenable w) (sym said) flat;

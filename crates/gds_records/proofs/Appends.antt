@@ -20,8 +20,7 @@ pub corners_at : {m n : List ℕ} (x0 y0 x1 y1 : ℕ) (r : Rectangle) → x0 ≡
     → Gains m n (spelled (record_with XY FOUR_BYTE_INTEGER (corners r)))
 corners_at {m} {n} x0 y0 x1 y1 r a b c d g =
     record {
-      whole = g.whole
-          ∙ (λ i. m ++ spelled (record_with XY FOUR_BYTE_INTEGER (corner_bits (a i) (b i) (c i) (d i))));
+      whole = g.whole ∙ (λ i. m ++ spelled (record_with XY FOUR_BYTE_INTEGER (corner_bits (a i) (b i) (c i) (d i))));
     }
 
 pub point_at : {m n : List ℕ} (p q : ℕ) (x y : ℤ) → p ≡ cast_unsigned w32 x → q ≡ cast_unsigned w32 y

@@ -162,35 +162,42 @@ pub spelled_append : (a b : List Record) → flat_map spelled (a ++ b) ≡ flat_
 spelled_append a b = flat_map-append spelled a b
 
 module _ {X : Type 0} (f : X → List Record) where
-  pub spelled_parts : (i : ℕ) (xs : List X) → flat_map spelled (flat_map f (take i xs))
+  spelled_parts : (i : ℕ) (xs : List X) → flat_map spelled (flat_map f (take i xs))
       ++ flat_map spelled (flat_map f (drop i xs)) ≡ flat_map spelled (flat_map f xs)
   spelled_parts i xs =
       sym (spelled_append (flat_map f (take i xs)) (flat_map f (drop i xs)))
       ∙ ap (λ (x : List Record). flat_map spelled x) (sym (flat_map-append f (take i xs) (drop i xs)))
       ∙ ap (λ (x : List X). flat_map spelled (flat_map f x)) (take-append-drop i xs)
 
-  pub spelled_more : (xs : List X) (i : ℕ) (d : X) → i < length xs
-      → flat_map spelled (flat_map f (take i xs)) ++ flat_map spelled (f (slice_index_or xs i d)) ≡ flat_map spelled
-      (flat_map f (take (i + 1) xs))
-  spelled_more xs i d h =
-      ap (λ (x : List ℕ). flat_map spelled (flat_map f (take i xs)) ++ x)
-      (ap (λ (x : List Record). flat_map spelled x) (sym (append-nil (f (slice_index_or xs i d)))))
-      ∙ sym (spelled_append (flat_map f (take i xs)) (flat_map f (slice_index_or xs i d ∷ [])))
-      ∙ ap (λ (x : List Record). flat_map spelled x) (sym (flat_map-append f (take i xs) (slice_index_or xs i d ∷ [])))
-      ∙ ap (λ (x : List X). flat_map spelled (flat_map f x)) (sym (take_more xs i d h))
-
   -- with the item at a place
-  pub spelled_with : (xs : List X) (i : ℕ) (x : X) → i < length xs → x ≡ slice_index_or xs i x
+  spelled_with : (xs : List X) (i : ℕ) (x : X) → i < length xs → x ≡ slice_index_or xs i x
       → flat_map spelled (flat_map f (take i xs)) ++ flat_map spelled (f x) ≡ flat_map spelled
       (flat_map f (take (i + 1) xs))
-  spelled_with xs i x h e = ap (λ (y : X). flat_map spelled (flat_map f (take i xs)) ++ flat_map spelled (f y)) e
-      ∙ spelled_more xs i x h
+  spelled_with xs i x h e =
+      sym (spelled_append (flat_map f (take i xs)) (f x))
+      ∙ ap (λ (r : List Record). flat_map spelled (flat_map f (take i xs) ++ r)) (sym (append-nil (f x)))
+      ∙ ap (λ (r : List Record). flat_map spelled r) (sym (flat_map-append f (take i xs) (x ∷ [])))
+      ∙ ap (λ (l : List X). flat_map spelled (flat_map f l))
+      (ap (λ (y : X). take i xs ++ y ∷ []) e ∙ sym (take_more xs i x h))
 
-  pub spelled_all : (xs : List X) (i : ℕ) (x : X) → i < length xs → x ≡ slice_index_or xs i x
+  spelled_all : (xs : List X) (i : ℕ) (x : X) → i < length xs → x ≡ slice_index_or xs i x
       → (flat_map spelled (flat_map f (take i xs)) ++ flat_map spelled (f x))
       ++ flat_map spelled (flat_map f (drop (i + 1) xs)) ≡ flat_map spelled (flat_map f xs)
   spelled_all xs i x h e = ap (λ (y : List ℕ). y ++ flat_map spelled (flat_map f (drop (i + 1) xs)))
       (spelled_with xs i x h e) ∙ spelled_parts (i + 1) xs
+
+  -- the bytes of one item more
+  pub flows_more : {o0 o1 o2 : Outside} {h0 h1 h2 : List ℕ} (xs : List X) (i : ℕ) (x : X) → i < length xs
+      → x ≡ slice_index_or xs i x → Flows o0 o1 h0 h1 (flat_map spelled (flat_map f (take i xs)))
+      → Flows o1 o2 h1 h2 (flat_map spelled (f x))
+      → Flows o0 o2 h0 h2 (flat_map spelled (flat_map f (take (i + 1) xs)))
+  flows_more xs i x h e a b = flows_so _ (spelled_with xs i x h e) (flows_then a b)
+
+  -- writing ended in an item
+  pub part_within : {o0 o1 o2 : Outside} {h0 h1 : List ℕ} {why : StoreRefusal} (xs : List X) (i : ℕ) (x : X)
+      → i < length xs → x ≡ slice_index_or xs i x → Flows o0 o1 h0 h1 (flat_map spelled (flat_map f (take i xs)))
+      → FlowsPart o1 o2 h1 (flat_map spelled (f x)) why → FlowsPart o0 o2 h0 (flat_map spelled (flat_map f xs)) why
+  part_within xs i x h e a b = part_of _ _ (spelled_all xs i x h e) (part_then a b)
 
 -- with one record more
 with_last : (a : List Record) (r : Record) → flat_map spelled a ++ spelled r ≡ flat_map spelled (a ++ r ∷ [])

@@ -49,15 +49,13 @@ module _ (profile : Profile) (ends : ends_with 4 profile.language ≡ true)
   good_split : (a b : List Record) (r : Record) → AreGoodIn profile a (b ++ r ∷ []) → Split a b r
   good_split a [] r all = record {
     front = tt;
-    last = subst (λ (x : List Record). IsGoodIn profile x r)
-        (sym (append-nil a)) all.0;
+    last = subst (λ (x : List Record). IsGoodIn profile x r) (sym (append-nil a)) all.0;
   }
   good_split a (x ∷ b) r all =
       let s = good_split (a ++ x ∷ []) b r all.1 in
       record {
         front = (all.0, s.front);
-        last = subst (λ (y : List Record). IsGoodIn profile y r)
-            (append_assoc a (x ∷ []) b) s.last;
+        last = subst (λ (y : List Record). IsGoodIn profile y r) (append_assoc a (x ∷ []) b) s.last;
       }
 
   -- ---- what a scan finds
@@ -105,8 +103,7 @@ module _ (profile : Profile) (ends : ends_with 4 profile.language ≡ true)
   goes_more before r (j ∷ w) h e = record {
     next = j;
     more = w;
-    sentence =
-        subst (λ (x : List ℕ). Speaks profile.language x) (sym (kinds_more before r (j ∷ w))) h;
+    sentence = subst (λ (x : List ℕ). Speaks profile.language x) (sym (kinds_more before r (j ∷ w))) h;
   }
 
   whole_more : (bytes : List ℕ) (before : List Record) (b : List ℕ) → Read bytes before b → records.Sound profile b

@@ -1,8 +1,9 @@
 -- What the values of a wide stream promise of its figures and grids.
-use Rattle.std.proofs.Common.{◌≡◌, ◌≢◌, ℕ, ◌⊎◌, ℤ, pos, ◌+ℤ◌, ◌-ℤ◌, ◌*ℤ◌, ◌<ℤ◌, List, [], ◌∷◌, Bool, true, false}
+use Rattle.std.proofs.Common.{◌≡◌, ◌≢◌, ℕ, ℤ, pos, ◌+ℤ◌, ◌-ℤ◌, ◌*ℤ◌, ◌<ℤ◌, List, [], ◌∷◌, Bool, true, false}
 use Rattle.std.proofs.Common.{length, refl, sym, subst, ◌∙◌, arith, inl, inr}
 use Rattle.std.specs.Prelude.{not, ◌&&◌, ◌||◌, ◌==◌, int_lt, int_div, int_rem}
 use Rattle.std.specs.Ordering.{int_eq}
+use Rattle.std.proofs.lemmas.Bool.{and_parts, not-true, or_cases}
 use Rattle.std.proofs.lemmas.Int.{ints, quot-rem}
 use Rattle.geom.specs.Rectangle.{Rectangle}
 use Rattle.poly_cut.specs.declared.layout.Point.{Point}
@@ -22,29 +23,17 @@ eq_so a b e = grind (arith, ints)
 eq_not : (a b : ℤ) → int_eq a b ≡ false → a ≢ b
 eq_not a b e = grind (arith, ints)
 
-and_so : (p q : Bool) → (p && q) ≡ true → (p ≡ true) × (q ≡ true)
-and_so true q e = (refl, e)
-and_so false q e = absurd cc
-
-not_so : (p : Bool) → not p ≡ true → p ≡ false
-not_so true e = absurd cc
-not_so false e = refl
-
-or_so : (p q : Bool) → (p || q) ≡ true → (p ≡ true) ⊎ (q ≡ true)
-or_so true q e = inl refl
-or_so false q e = inr e
-
 -- ---- boundaries
 
 same_point : (p z : Point) → p.x ≡ z.x → p.y ≡ z.y → p ≡ z
 same_point p z e f = λ i. record { x = e i; y = f i }
 
 steps_so : (z p : Point) (qs : List Point) → is_round_to z p qs ≡ true → StepsTo z p qs
-steps_so z p [] h = let e = and_so (int_eq p.x z.x) (int_eq p.y z.y) h in
+steps_so z p [] h = let e = and_parts (int_eq p.x z.x) (int_eq p.y z.y) h in
     same_point p z (eq_so p.x z.x e.0) (eq_so p.y z.y e.1)
 steps_so z p (q ∷ qs) h =
-    let e = and_so (int_eq p.x q.x || int_eq p.y q.y) (is_round_to z q qs) h in (
-      elim (or_so (int_eq p.x q.x) (int_eq p.y q.y) e.0) [
+    let e = and_parts (int_eq p.x q.x || int_eq p.y q.y) (is_round_to z q qs) h in (
+      elim (or_cases (int_eq p.x q.x) (int_eq p.y q.y) e.0) [
         | inl f ↦ inl (eq_so p.x q.x f)
         | inr f ↦ inr (eq_so p.y q.y f)
       ],
@@ -60,7 +49,7 @@ some_so [] h = absurd cc
 some_so (r ∷ rs) h = λ e. cc
 
 pub ring_so : (ps : List Point) → is_ring ps ≡ true → IsFigure (Ring ps)
-ring_so ps h = let e = and_so (is_round ps) (not (length (ring_cut ps) == 0)) h in
+ring_so ps h = let e = and_parts (is_round ps) (not (length (ring_cut ps) == 0)) h in
     (round_so ps e.0, some_square ps (round_so ps e.0) (some_so (ring_cut ps) e.1))
 
 -- ---- paths
@@ -68,10 +57,7 @@ ring_so ps h = let e = and_so (is_round ps) (not (length (ring_cut ps) == 0)) h 
 abbrev across : Way → Bool
 across Right = true
 across Left = true
-across Up = false
-across Down = false
-across Still = false
-across Slanted = false
+across w = false
 
 -- what a way says
 abbrev Goes : Way → Point → Point → Type 0
@@ -79,8 +65,7 @@ Goes Right p q = (p.x <ℤ q.x) × (p.y ≡ q.y)
 Goes Left p q = (q.x <ℤ p.x) × (p.y ≡ q.y)
 Goes Up p q = (p.x ≡ q.x) × (p.y <ℤ q.y)
 Goes Down p q = (p.x ≡ q.x) × (q.y <ℤ p.y)
-Goes Still p q = Unit {0}
-Goes Slanted p q = Unit {0}
+Goes w p q = Unit {0}
 
 before_so : (a b : ℤ) → int_lt a b ≡ true → a <ℤ b
 before_so a b h = grind (arith, ints)
@@ -116,66 +101,27 @@ on_goes Right p q r a b = (omega (arith, ints, a.0, b.0), a.1 ∙ b.1)
 on_goes Left p q r a b = (omega (arith, ints, a.0, b.0), a.1 ∙ b.1)
 on_goes Up p q r a b = (a.0 ∙ b.0, omega (arith, ints, a.1, b.1))
 on_goes Down p q r a b = (a.0 ∙ b.0, omega (arith, ints, a.1, b.1))
-on_goes Still p q r a b = tt
-on_goes Slanted p q r a b = tt
+on_goes w p q r a b = tt
 
 same_so : (w v : Way) → is_same w v ≡ true → w ≡ v
 same_so Right Right h = refl
-same_so Right Left h = absurd cc
-same_so Right Up h = absurd cc
-same_so Right Down h = absurd cc
-same_so Right Still h = absurd cc
-same_so Right Slanted h = absurd cc
-same_so Left Right h = absurd cc
 same_so Left Left h = refl
-same_so Left Up h = absurd cc
-same_so Left Down h = absurd cc
-same_so Left Still h = absurd cc
-same_so Left Slanted h = absurd cc
-same_so Up Right h = absurd cc
-same_so Up Left h = absurd cc
 same_so Up Up h = refl
-same_so Up Down h = absurd cc
-same_so Up Still h = absurd cc
-same_so Up Slanted h = absurd cc
-same_so Down Right h = absurd cc
-same_so Down Left h = absurd cc
-same_so Down Up h = absurd cc
 same_so Down Down h = refl
-same_so Down Still h = absurd cc
-same_so Down Slanted h = absurd cc
-same_so Still v h = absurd cc
-same_so Slanted v h = absurd cc
+same_so w v h = absurd cc
 
 -- neither on nor back is a turn
 turn_so : (w v : Way) → is_straight w ≡ true → is_straight v ≡ true → is_same w v ≡ false → is_same v (back w) ≡ false
     → across v ≡ not (across w)
-turn_so Right Right a b c d = absurd cc
-turn_so Right Left a b c d = absurd cc
 turn_so Right Up a b c d = refl
 turn_so Right Down a b c d = refl
-turn_so Right Still a b c d = absurd cc
-turn_so Right Slanted a b c d = absurd cc
-turn_so Left Right a b c d = absurd cc
-turn_so Left Left a b c d = absurd cc
 turn_so Left Up a b c d = refl
 turn_so Left Down a b c d = refl
-turn_so Left Still a b c d = absurd cc
-turn_so Left Slanted a b c d = absurd cc
 turn_so Up Right a b c d = refl
 turn_so Up Left a b c d = refl
-turn_so Up Up a b c d = absurd cc
-turn_so Up Down a b c d = absurd cc
-turn_so Up Still a b c d = absurd cc
-turn_so Up Slanted a b c d = absurd cc
 turn_so Down Right a b c d = refl
 turn_so Down Left a b c d = refl
-turn_so Down Up a b c d = absurd cc
-turn_so Down Down a b c d = absurd cc
-turn_so Down Still a b c d = absurd cc
-turn_so Down Slanted a b c d = absurd cc
-turn_so Still v a b c d = absurd cc
-turn_so Slanted v a b c d = absurd cc
+turn_so w v a b c d = absurd cc
 
 -- a first step in a straight way, and then turns
 one_turn : (w : Way) (p q : Point) (qs : List Point) → is_straight w ≡ true → Goes w p q
@@ -184,17 +130,16 @@ one_turn Right p q qs s g t = (λ e. omega (arith, ints, g.0, e), g.1, t)
 one_turn Left p q qs s g t = (λ e. omega (arith, ints, g.0, e), g.1, t)
 one_turn Up p q qs s g t = (g.0, λ e. omega (arith, ints, g.1, e), t)
 one_turn Down p q qs s g t = (g.0, λ e. omega (arith, ints, g.1, e), t)
-one_turn Still p q qs s g t = absurd cc
-one_turn Slanted p q qs s g t = absurd cc
+one_turn w p q qs s g t = absurd cc
 
 -- the points that are kept behind p, from which q was come to by the way w
 run : (w : Way) (p q : Point) (qs : List Point) → is_straight w ≡ true → Goes w p q → goes_on w q qs ≡ true
     → GoesInTurn (across w) p (turns_from w q qs)
 run w p q [] s g h = one_turn w p q [] s g tt
 run w p q (r ∷ rs) s g h =
-    let a = and_so (is_straight (way q r)) (not (is_same (way q r) (back w)) && goes_on (way q r) r rs) h in
-    let b = and_so (not (is_same (way q r) (back w))) (goes_on (way q r) r rs) a.1 in
-    turn (is_same w (way q r)) refl a.0 (not_so (is_same (way q r) (back w)) b.0)
+    let a = and_parts (is_straight (way q r)) (not (is_same (way q r) (back w)) && goes_on (way q r) r rs) h in
+    let b = and_parts (not (is_same (way q r) (back w))) (goes_on (way q r) r rs) a.1 in
+    turn (is_same w (way q r)) refl a.0 (not-true (is_same (way q r) (back w)) b.0)
     (λ e. run (way q r) p r rs a.0 (on_goes (way q r) p q r (ap_goes e) (way_goes q r)) b.1)
     (run (way q r) q r rs a.0 (way_goes q r) b.1)
   where
@@ -244,8 +189,8 @@ pub path_so : (ps : List Point) → is_path ps ≡ true → IsBent (turns ps)
 path_so [] h = absurd cc
 path_so (p ∷ []) h = absurd cc
 path_so (p ∷ q ∷ qs) h =
-    let a = and_so (is_straight (way p q)) (not (is_same (way p q) Still) && goes_on (way p q) q qs) h in
-    let b = and_so (not (is_same (way p q) Still)) (goes_on (way p q) q qs) a.1 in
+    let a = and_parts (is_straight (way p q)) (not (is_same (way p q) Still) && goes_on (way p q) q qs) h in
+    let b = and_parts (not (is_same (way p q) Still)) (goes_on (way p q) q qs) a.1 in
     kept_some (across (way p q)) p (way p q) q qs (run (way p q) p q qs a.0 (way_goes p q) b.1)
 
 -- ---- grids

@@ -226,8 +226,7 @@ old_so : (k : ℕ) → known_in table k ≡ true → IsOld k
 old_so k a = record {
   path = not_known k 0x09 a refl;
   array = not_known k 0x0B a refl;
-  colrow =
-      not_known k 0x13 a refl;
+  colrow = not_known k 0x13 a refl;
 }
 
 skip_entry : (e : Entry) (es : List Entry) (k : ℕ) → eqb e.kind k ≡ false → entry_of k (e ∷ es) ≡ entry_of k es

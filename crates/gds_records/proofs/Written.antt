@@ -89,8 +89,7 @@ text_good before t all h = record {
   even = padded_even t;
   is_known = refl;
   form = refl;
-  long =
-      eqb_of _ (padded_even t);
+  long = eqb_of _ (padded_even t);
   value = pass (is_text (padded t)) (text_so t all);
 }
 
@@ -100,8 +99,7 @@ sname_good before t all h some = record {
   short = padded_short t h;
   even = padded_even t;
   is_known = refl;
-  form =
-      refl;
+  form = refl;
   long = eqb_of _ (padded_even t);
   value = pass (is_name (padded t)) (name_so t all some);
 }
@@ -146,8 +144,7 @@ corners_good before r o is = record {
   even = refl;
   is_known = refl;
   form = refl;
-  long =
-      refl;
+  long = refl;
   value = choose (eqb (opener 0 before) 8) (is_rectangle (corners r)) false
       (inl (ap (λ (x : ℕ). eqb x 8) o, corners_so r is));
 }
@@ -160,8 +157,7 @@ point_good before x y o = record {
   is_known = refl;
   form = refl;
   long = refl;
-  value =
-      choose (eqb (opener 0 before) 8) (is_rectangle (point x y)) true (inr (o, refl));
+  value = choose (eqb (opener 0 before) 8) (is_rectangle (point x y)) true (inr (o, refl));
 }
 
 -- ---- elements
@@ -191,8 +187,7 @@ datatype_good before n = record {
   even = refl;
   is_known = refl;
   form = refl;
-  long =
-      refl;
+  long = refl;
   value = refl;
 }
 

@@ -29,8 +29,7 @@ written_is_stream layout is =
       read = record {
         whole = sym (append-nil (bytes_of layout));
         grammar = stream_speaks layout.structures;
-        good =
-            written_good layout.structures is.each (distinct_so (names_in layout.structures) d);
+        good = written_good layout.structures is.each (distinct_so (names_in layout.structures) d);
       };
       zeros = refl;
       conditions = conditions_so layout.structures is.each is.conditions;

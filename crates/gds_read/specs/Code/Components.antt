@@ -43,15 +43,11 @@ pub data IsDone (left work : List ℕ) (v : ℕ) : Type 0 where
   none_left : slice_index left v ≡ 0 → IsDone left work v
   waits : StandsIn work v → IsDone left work v
 
--- what the walk keeps: structures are not met, open on the stack or closed. Places on the stack lead to those in the
--- same block and above; what was followed leads nowhere below; closed ones lead to closed ones of no greater number.
-pub record IsWalk (graph : List (List ℕ)) (met rank left stack starts work : List ℕ) (count : ℕ) : Type 0 where
+-- structures are not met, open on the stack or closed, and closed ones lead to closed ones of no greater number
+pub record AreStates (graph : List (List ℕ)) (met rank stack : List ℕ) (count : ℕ) : Type 0 where
   pub met_size : length met ≡ length graph
   pub rank_size : length rank ≡ length graph
-  pub left_size : length left ≡ length graph
   pub new_open : (v : ℕ) → slice_index met v ≡ 0 → slice_index rank v ≡ 0
-  pub new_left : (v : ℕ) → slice_index met v ≡ 0 → slice_index left v ≡ length (targets_at graph v)
-  pub left_fits : (v : ℕ) → slice_index left v ≤ length (targets_at graph v)
   pub stands : (i : ℕ) → i < length stack → slice_index met (slice_index stack i) ≡ suc i
   pub unclosed : (i : ℕ) → i < length stack → slice_index rank (slice_index stack i) ≡ 0
   pub found : (v i : ℕ) → slice_index met v ≡ suc i → slice_index rank v ≡ 0
@@ -60,6 +56,15 @@ pub record IsWalk (graph : List (List ℕ)) (met rank left stack starts work : L
       → (0 < slice_index rank t) × (slice_index rank t ≤ slice_index rank u)
   pub bounded : (v : ℕ) → slice_index rank v ≤ count
   pub alike : (u v : ℕ) → 0 < slice_index rank u → slice_index rank u ≡ slice_index rank v → Leads graph v u
+
+-- what the walk keeps: these states; places on the stack lead to those in the same block and above, and what was
+-- followed leads nowhere below
+pub record IsWalk (graph : List (List ℕ)) (met rank left stack starts work : List ℕ) (count : ℕ) : Type 0 where
+  pub states : AreStates graph met rank stack count
+  pub open states use *
+  pub left_size : length left ≡ length graph
+  pub new_left : (v : ℕ) → slice_index met v ≡ 0 → slice_index left v ≡ length (targets_at graph v)
+  pub left_fits : (v : ℕ) → slice_index left v ≤ length (targets_at graph v)
   pub linked : (i j : ℕ) → i < length stack → j < length stack → Below starts i j
       → Leads graph (slice_index stack j) (slice_index stack i)
   pub scanned : (i e : ℕ) → i < length stack → slice_index left (slice_index stack i) ≤ e

@@ -6,8 +6,7 @@ use Rattle.gds_read.proofs.chains.long_chains.Goals as goal
 
 pub lengths-init : goal.lengths-init
 lengths-init c = record {
-  marked = first_marks c.in_ok-marks.marks.items c.args.graph.now
-      c.in_ok-marks.ensures;
+  marked = first_marks c.in_ok-marks.marks.items c.args.graph.now c.in_ok-marks.ensures;
   within = omega arith;
 }
 
