@@ -59,8 +59,7 @@ module _ (inputs cells : ℕ) where
         number = s;
         is = named_input s input;
         inked = refl;
-        small = omega
-            (arith, input, few_inputs);
+        small = omega (arith, input, few_inputs);
         signal = omega arith;
       }
       | inr past ↦ elim (cases_lt s (inputs + cells)) [
@@ -70,8 +69,7 @@ module _ (inputs cells : ℕ) where
             record {
               letter = 110;
               number = s - inputs;
-              is = ap name (sym e)
-                  ∙ named_cell (s - inputs) below;
+              is = ap name (sym e) ∙ named_cell (s - inputs) below;
               inked = refl;
               small = omega (arith, below, few_cells);
               signal = sym e;
@@ -81,11 +79,9 @@ module _ (inputs cells : ℕ) where
             record {
               letter = 79;
               number = s - (inputs + cells);
-              is = ap name (sym e)
-                  ∙ named_output (s - (inputs + cells));
+              is = ap name (sym e) ∙ named_output (s - (inputs + cells));
               inked = refl;
-              small = omega
-                  (arith, output, h, few_outputs);
+              small = omega (arith, output, h, few_outputs);
               signal = sym e;
             }
       ]

@@ -90,8 +90,7 @@ pub lines_more : (f : List ℕ → Option ℕ) (before : List Named) (n : Named)
     → AreLines (driven_also f n) (before ++ n ∷ [])
 lines_more f before n h = record {
   sound = λ name line e. sound name line (bytes_eq n.name name) refl e;
-  cover =
-      λ m c. cover m (Contains-append_cases before (n ∷ []) m c);
+  cover = λ m c. cover m (Contains-append_cases before (n ∷ []) m c);
 }
   where
     sound : (name : List ℕ) (line : ℕ) (b : Bool) → bytes_eq n.name name ≡ b
@@ -220,8 +219,7 @@ again_cover (Some l) line low other e le =
     record {
       one = at_line (max l line) Duplicate;
       among = head_in (at_line (max l line) Duplicate) [];
-      first =
-          by (cases_lt (max l line) (max other line)) same;
+      first = by (cases_lt (max l line) (max other line)) same;
     }
   where
     by : (max l line < max other line) ⊎ (max other line ≤ max l line) → l ≡ low
@@ -248,8 +246,7 @@ driven_cover f before (m ∷ ms) one other first second h lt le p q n =
         → ComesFirst (twice_driven f (m ∷ ms)) (at_line (max first.line second.line) Duplicate)
     right c = record {
       one = c.one;
-      among = Contains-append_right (again (f m.name) m.line)
-          (twice_driven (driven_also f m) ms) c.one c.among;
+      among = Contains-append_right (again (f m.name) m.line) (twice_driven (driven_also f m) ms) c.one c.among;
       first = c.first;
     }
 
@@ -257,8 +254,7 @@ driven_cover f before (m ∷ ms) one other first second h lt le p q n =
         → ComesFirst (twice_driven f (m ∷ ms)) (at_line (max first.line m.line) Duplicate)
     left c = record {
       one = c.one;
-      among = Contains-append_left (again (f m.name) m.line)
-          (twice_driven (driven_also f m) ms) c.one c.among;
+      among = Contains-append_left (again (f m.name) m.line) (twice_driven (driven_also f m) ms) c.one c.among;
       first = c.first;
     }
 

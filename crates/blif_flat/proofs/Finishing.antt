@@ -86,8 +86,7 @@ module _ (models : List BlifModel) (inputs : ℕ) (ws : List Wire) (defs : List 
     buildable = buildable;
     cycle = refused.cycle;
     first = sym (λ i. first_cycle (ok.same_inputs i) (ok.same_defs i)) ∙ refused.first;
-    told = refused.told
-        ∙ (λ i. closed (ok.same_inputs i) (ok.same_wires i) (ok.same_defs i) refused.cycle);
+    told = refused.told ∙ (λ i. closed (ok.same_inputs i) (ok.same_wires i) (ok.same_defs i) refused.cycle);
   }
 
   pub expand_err : (r : Result NetView FlatRefusal) → IfErr r (IsUnfinished inputs ws defs)

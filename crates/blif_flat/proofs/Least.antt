@@ -99,8 +99,7 @@ lesser None told = (
   record {
     is = refl;
     one = inr refl;
-    before_best =
-        λ other e. absurd (cc);
+    before_best = λ other e. absurd (cc);
     before_told = before_itself told;
   },
 )

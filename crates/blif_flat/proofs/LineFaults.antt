@@ -90,8 +90,7 @@ call_sound models call told has c = by (model_number models call.model) refl c
         (record {
           call = call;
           there = has;
-          wrong = ap (λ o. fits (model_at models o) call) e
-              ∙ wrong (fits (model_at models (Some n)) call) w.0;
+          wrong = ap (λ o. fits (model_at models o) call) e ∙ wrong (fits (model_at models (Some n)) call) w.0;
           at = refl;
         })
 
@@ -105,8 +104,7 @@ driven_told models m told c p = has_fault models told Duplicate p.kind
       first = p.first;
       second = p.second;
       among = c;
-      apart =
-          p.apart;
+      apart = p.apart;
       is_first = p.is_first;
       is_second = p.is_second;
       name = p.name;
@@ -216,8 +214,7 @@ ports_cover models call e = by (model_number models call.model) e
         ]) call.line Ports
     by None e = record {
       one = at_line call.line UnknownModel;
-      among = head_in
-          (at_line call.line UnknownModel) [];
+      among = head_in (at_line call.line UnknownModel) [];
       first = inr (refl, omega arith);
     }
     by (Some n) e = exactly (where_so (not (fits (model_at models (Some n)) call)) call.line Ports) call.line Ports

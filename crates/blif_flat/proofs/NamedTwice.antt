@@ -45,12 +45,10 @@ twice_here models n m at e = by (model_number models m.name) refl e
             later = n;
             first = named.one;
             second = m;
-            before =
-                ltb-true first n e;
+            before = ltb-true first n e;
             is_first = named.is;
             is_second = at;
-            name =
-                named.same;
+            name = named.same;
             named = named.some;
             at = refl;
           };

@@ -173,8 +173,7 @@ module _ (models : List BlifModel) (done : List ℕ) (blocks : List (List Piece)
   pub straight : 0 < length models → AreStraight blocks
   straight some = record {
     laid = straight_models some (length blocks) has.size;
-    ends = straight_turns some
-        (length blocks) has.size;
+    ends = straight_turns some (length blocks) has.size;
   }
 
 -- blocks that a table has for the models of an order are planned
@@ -185,8 +184,7 @@ pub planned : (models : List BlifModel) (done : List ℕ) (blocks : List (List P
 planned models done blocks settled bounded held zero n e = tt
 planned models done blocks settled bounded held (suc steps) n e = (
   record {
-    wide = width_is models done n settled e
-        (order_fits (callees models) (length models) done settled bounded);
+    wide = width_is models done n settled e (order_fits (callees models) (length models) done settled bounded);
     held = held n e;
   },
   subst (AllByRecursion (ArePlanned models (wide models) blocks steps)) (callees_at models n)

@@ -78,8 +78,7 @@ outlined_more models done outlines n outline known size lt is q e = elim (cases_
       let old = known q (subst (λ b. b || on done q ≡ true) other e) in
       record {
         outline = old.outline;
-        at = get_set_other outlines n q outline
-            (eqb-false q n other) ∙ old.at;
+        at = get_set_other outlines n q outline (eqb-false q n other) ∙ old.at;
         is = old.is;
       }
 ]

@@ -21,8 +21,8 @@ pub fn written_answers()
     ensures { (circuit : CircuitView) → KeepsFacts circuit → AnswersAsWritten circuit }
 {}
 
-/// A text says at most one netlist. One that says a netlist is refused for want of memory alone, and where it has at most
-/// 2^27 bytes the netlist keeps the facts of netlists.
+/// A text says at most one netlist. One that says a netlist is refused for want of memory alone, and where it has at
+/// most 2^27 bytes the netlist keeps the facts of netlists.
 pub fn each_design()
     ensures one_netlist { (text : List ℕ) (net other : NetView) → SaysNetlist text net → SaysNetlist text other
         → net ≡ other }

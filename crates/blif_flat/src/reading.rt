@@ -140,8 +140,8 @@ fn refused(refusal: BlifRefusal) -> FlatRefusal
     }
 }
 
-/// The netlist that a text in the Berkeley Logic Interchange Format says, be it of one model or of several that call one
-/// another; or what is wrong with it first. It is refused otherwise for want of memory alone.
+/// The netlist that a text in the Berkeley Logic Interchange Format says, be it of one model or of several that call
+/// one another; or what is wrong with it first. It is refused otherwise for want of memory alone.
 pub fn read_design(alloc: Global, text: &[u8]) -> Result<Netlist, FlatRefusal>
     requires { length text.now ≤ 2 ^ 27 }
     ensures ok { IfOk result (λ net. SaysNetlist text.now net) }

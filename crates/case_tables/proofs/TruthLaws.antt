@@ -37,7 +37,7 @@ below_256 a b c d e f g h =
       bit_below h,
     )
 
-same_two : (f g : Bool → Bool → Bool) → values2 f ≡ values2 g → (a b : Bool) → f a b ≡ g a b
+pub same_two : (f g : Bool → Bool → Bool) → values2 f ≡ values2 g → (a b : Bool) → f a b ≡ g a b
 same_two f g e false false = cc
 same_two f g e false true = cc
 same_two f g e true false = cc

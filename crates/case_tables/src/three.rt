@@ -2,7 +2,8 @@
 ghost use Rattle.std.specs.Prelude.{◌≡◌, ◌<◌, ◌≤◌, ◌+◌, ◌∷◌, ◌++◌, [], length, IfOk, OnOk};
 ghost use Rattle.case_tables.specs.Recipes.{truth_number3};
 ghost use Rattle.case_tables.specs.Formulas.{write, leaf, and, inv};
-ghost use Rattle.case_tables.specs.Tables.{two_formula, recipe_of_varying, three_recipe_by, three_recipe, recipes_below};
+ghost use Rattle.case_tables.specs.Tables.{two_formula, recipe_of_varying, three_recipe_by, three_recipe};
+ghost use Rattle.case_tables.specs.Tables.{recipes_below};
 ghost use Rattle.case_tables.specs.Entries.{IsTable};
 ghost use Rattle.case_tables.specs.declared.recipe.Operand.TheVariants as operands;
 
@@ -80,8 +81,10 @@ fn write_two(steps: &mut List<Step>, number: u16) -> Result<Operand, Memory>
 fn write_with_c(steps: &mut List<Step>, number: u16) -> Result<Operand, Memory>
     requires number { number < 16 }
     requires room { length steps.old < 240 }
-    ensures steps { OnOk result (steps.new ≡ (write operands.Zero steps.old (and (two_formula number) (leaf operands.C))).steps) }
-    ensures out { IfOk result (λ o. o ≡ (write operands.Zero steps.old (and (two_formula number) (leaf operands.C))).out) }
+    ensures steps { OnOk result (steps.new
+        ≡ (write operands.Zero steps.old (and (two_formula number) (leaf operands.C))).steps) }
+    ensures out { IfOk result (λ o. o
+        ≡ (write operands.Zero steps.old (and (two_formula number) (leaf operands.C))).out) }
     ensures few { OnOk result (length steps.new ≤ length steps.old + 5) }
 {
     let x = write_two(steps, number)?;
@@ -93,8 +96,10 @@ fn write_with_c(steps: &mut List<Step>, number: u16) -> Result<Operand, Memory>
 fn write_without_c(steps: &mut List<Step>, number: u16) -> Result<Operand, Memory>
     requires number { number < 16 }
     requires room { length steps.old < 240 }
-    ensures steps { OnOk result (steps.new ≡ (write operands.Zero steps.old (and (two_formula number) (inv (leaf operands.C)))).steps) }
-    ensures out { IfOk result (λ o. o ≡ (write operands.Zero steps.old (and (two_formula number) (inv (leaf operands.C)))).out) }
+    ensures steps { OnOk result (steps.new
+        ≡ (write operands.Zero steps.old (and (two_formula number) (inv (leaf operands.C)))).steps) }
+    ensures out { IfOk result (λ o. o
+        ≡ (write operands.Zero steps.old (and (two_formula number) (inv (leaf operands.C)))).out) }
     ensures few { OnOk result (length steps.new ≤ length steps.old + 6) }
 {
     let x = write_two(steps, number)?;

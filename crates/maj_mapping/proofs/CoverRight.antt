@@ -1,7 +1,7 @@
 -- What folds in halves and cubes keep and give.
 use Rattle.std.specs.Prelude.{◌≡◌, ℕ, zero, suc, ◌+◌, ◌-◌, ◌*◌, ◌/◌, ◌<◌, ◌≤◌, ◌&&◌, ◌||◌, Bool, true, false, not, cond}
 use Rattle.std.specs.Prelude.{eqb, List, [], ◌∷◌, ◌++◌, map, length, take, drop}
-use Rattle.std.proofs.Common.{refl, sym, ap, ◌∙◌, arith, length-take, length-drop, zero-add}
+use Rattle.std.proofs.Common.{refl, sym, ap, ◌∙◌, arith, length-take, length-drop}
 use Rattle.std.proofs.lemmas.List.{take-append-drop, map-append}
 use Rattle.std.specs.List.{list_all}
 use Rattle.std.proofs.lemmas.Bool.{and_parts}
@@ -133,6 +133,21 @@ pub record RightSome (n : ℕ) (gs : List Gate) (m : MadeAll) (most cost : ℕ) 
   pub all : RightAll n gs m cost fs
   pub number : length m.ats ≤ most
 
+-- no gate
+none_made : (n : ℕ) (gs : List Gate) (most cost : ℕ) → AreGates n gs
+    → RightSome n gs (record { gates = gs; ats = [] }) most cost (λ v. [])
+none_made n gs most cost ok = record {
+  all = record {
+    good = ok;
+    inside = tt;
+    grown = omega arith;
+    few = omega arith;
+    earlier = λ word v fits. fits;
+    values = λ word v fits. refl;
+  };
+  number = omega arith;
+}
+
 -- one more gate before the others
 some_kept : (n : ℕ) (gs : List Gate) (x : ℕ) (m : MadeAll) (most cost : ℕ) (fs : (ℕ → Bool) → List Bool) → x < length gs
     → RightSome n gs m most cost fs → RightSome n gs (first x m) (1 + most) (1 + cost) (λ v. v x ∷ fs v)
@@ -141,11 +156,9 @@ some_kept n gs x m most cost fs lt r = record {
     good = r.all.good;
     inside = (omega (arith, r.all.grown), r.all.inside);
     grown = r.all.grown;
-    few =
-        omega (arith, r.all.few);
+    few = omega (arith, r.all.few);
     earlier = r.all.earlier;
-    values = λ word v fits. ap (λ (t : List Bool). v x ∷ t)
-        (r.all.values word v fits);
+    values = λ word v fits. ap (λ (t : List Bool). v x ∷ t) (r.all.values word v fits);
   };
   number = omega (arith, r.number);
 }
@@ -167,38 +180,27 @@ some_made n gs a m ca most cost f fs r s = record {
   number = omega (arith, s.number);
 }
 
-some_same : (n : ℕ) (gs : List Gate) (m : MadeAll) (most cost : ℕ) (fs : (ℕ → Bool) → List Bool)
-    → RightSome n gs m most cost fs → RightSome n gs m (0 + most) (0 + cost) fs
-some_same n gs m most cost fs r = simp zero-add r
+some_same : (n : ℕ) (gs : List Gate) (m : MadeAll) (most most' cost cost' : ℕ) (fs : (ℕ → Bool) → List Bool)
+    → most' ≡ most → cost' ≡ cost → RightSome n gs m most cost fs → RightSome n gs m most' cost' fs
+some_same n gs m most most' cost cost' fs e d r = rw (e, d) r
+
+-- one gate of all of them
+some_joined : (n : ℕ) (gs : List Gate) (m : MadeAll) (a : Made) (most cost all : ℕ) (fs : (ℕ → Bool) → List Bool)
+    (f : List Bool → Bool) (g : (ℕ → Bool) → Bool) → cost + most ≤ all → ((v : ℕ → Bool) → f (fs v) ≡ g v)
+    → RightSome n gs m most cost fs → Right n m.gates a (length m.ats - 1) (λ v. f (map v m.ats)) → Right n gs a all g
+some_joined n gs m a most cost all fs f g le same l r = record {
+  good = r.good;
+  inside = r.inside;
+  grown = omega (arith, r.grown, l.all.grown);
+  few = omega (arith, r.few, l.all.few, l.number);
+  earlier = λ word v fits. l.all.earlier word v (r.earlier word v fits);
+  value = λ word v fits. r.value word v fits ∙ ap f (l.all.values word v (r.earlier word v fits)) ∙ same v;
+}
 
 pub literals_are_right : (n : ℕ) (gs : List Gate) → AreGates n gs → (bs xs : List ℕ) → AllBelow (length gs) xs
     → RightSome n gs (literals n gs bs xs) (literal_count bs) (literal_count bs) (λ v. literal_values bs (map v xs))
-literals_are_right n gs ok [] xs below =
-    record {
-      all = record {
-        good = ok;
-        inside = tt;
-        grown = omega arith;
-        few = omega arith;
-        earlier =
-            λ word v fits. fits;
-        values = λ word v fits. refl;
-      };
-      number = omega arith;
-    }
-literals_are_right n gs ok (b ∷ bs) [] below =
-    record {
-      all = record {
-        good = ok;
-        inside = tt;
-        grown = omega arith;
-        few = omega arith;
-        earlier =
-            λ word v fits. fits;
-        values = λ word v fits. refl;
-      };
-      number = omega arith;
-    }
+literals_are_right n gs ok [] xs below = none_made n gs _ _ ok
+literals_are_right n gs ok (b ∷ bs) [] below = none_made n gs _ _ ok
 literals_are_right n gs ok (b ∷ bs) (x ∷ xs) below =
     let r = inv_is_right n gs ok x below.0 in
     let m = inv n gs x in
@@ -232,7 +234,7 @@ literals_are_right n gs ok (b ∷ bs) (x ∷ xs) below =
         ])
     go true q same r after = some_kept n gs x _ _ _ _ below.0 same
     go false true same r after = some_made n gs (inv n gs x) _ 1 _ _ _ _ r after
-    go false false same r after = some_same n gs _ _ _ _ same
+    go false false same r after = some_same n gs _ _ _ _ _ _ (omega arith) (omega arith) same
 
 pub cube_is_right : (n : ℕ) (gs : List Gate) → AreGates n gs → (xs bs : List ℕ) → list_all is_plane_byte bs ≡ true
     → AllBelow (length gs) xs → Right n gs (cube_made n gs xs bs) (2 * literal_count bs) (λ v. takes_all bs (map v xs))
@@ -240,19 +242,10 @@ cube_is_right n gs ok xs bs plane below =
     let l = literals_are_right n gs ok bs xs below in
     let m = literals n gs bs xs in
     let k = past_constants n m.gates l.all.good in
-    let r = halves_are_right n (n + 1) (and n) _ true (and_join n)
-    (length m.ats) m.gates m.ats l.all.good l.all.inside k
-    (λ word v fits. at_one n m.gates l.all.good word v fits) (omega arith) in
-    record {
-      good = r.good;
-      inside = r.inside;
-      grown = omega (arith, r.grown, l.all.grown);
-      few = omega (arith, r.few, l.all.few, l.number);
-      earlier = λ word v fits. l.all.earlier word v (r.earlier word v fits);
-      value = λ word v fits. r.value word v fits
-          ∙ ap (joined (λ a b. a && b) true) (l.all.values word v (r.earlier word v fits))
-          ∙ literals_match bs (map v xs) plane;
-    }
+    some_joined n gs m _ _ _ _ _ (joined (λ a b. a && b) true) _ (omega arith)
+    (λ v. literals_match bs (map v xs) plane) l
+    (halves_are_right n (n + 1) (and n) _ true (and_join n) (length m.ats) m.gates m.ats l.all.good l.all.inside k
+    (λ word v fits. at_one n m.gates l.all.good word v fits) (omega arith))
 
 abbrev pub cube_values : List Cube → List Bool → List Bool
 cube_values [] xs = []
@@ -265,96 +258,12 @@ values_some (c ∷ cs) xs = ap (λ (t : Bool). takes_all c.plane xs || t) (value
 pub cubes_are_right : (n : ℕ) (gs : List Gate) → AreGates n gs → (xs : List ℕ) (cs : List Cube) → HasPlanes cs
     → AllBelow (length gs) xs
     → RightSome n gs (cubes_made n gs xs cs) (length cs) (2 * cube_literals cs) (λ v. cube_values cs (map v xs))
-cubes_are_right n gs ok xs [] planes below =
-    record {
-      all = record {
-        good = ok;
-        inside = tt;
-        grown = omega arith;
-        few = omega arith;
-        earlier =
-            λ word v fits. fits;
-        values = λ word v fits. refl;
-      };
-      number = omega arith;
-    }
+cubes_are_right n gs ok xs [] planes below = none_made n gs _ _ ok
 cubes_are_right n gs ok xs (c ∷ cs) planes below =
     let r = cube_is_right n gs ok xs c.plane planes.0 below in
     let m = cube_made n gs xs c.plane in
     let s = cubes_are_right n m.gates r.good xs cs planes.1 (below_more _ _ xs r.grown below) in
-    let t = some_made n gs m _ _ _ _ _ _ r s in
-    record {
-      all = record {
-        good = t.all.good;
-        inside = t.all.inside;
-        grown = t.all.grown;
-        few =
-            omega (arith, t.all.few);
-        earlier = t.all.earlier;
-        values = t.all.values;
-      };
-      number = omega (arith, t.number);
-    }
-
-pub cubes_are_cover : (n : ℕ) (gs : List Gate) → AreGates n gs → (xs : List ℕ) (d : Def) → HasPlanes d.cubes
-    → AllBelow (length gs) xs → Right n gs (by_cubes n gs xs d) (2 * cube_literals d.cubes + length d.cubes + 1)
-    (λ v. cover d (map v xs))
-cubes_are_cover n gs ok xs d planes below =
-    let l = cubes_are_right n gs ok xs d.cubes planes below in
-    let m = cubes_made n gs xs d.cubes in
-    let k = past_constants n m.gates l.all.good in
-    let r = halves_are_right n n (or n) _ false (or_join n) (length m.ats) m.gates m.ats l.all.good l.all.inside
-    (omega arith) (λ word v fits. at_zero n m.gates l.all.good word v fits) (omega arith) in
-    let a = or_all n m.gates m.ats in
-    let i = inv_is_right n a.gates r.good a.at r.inside in
-    let is : (word : List Bool) (v : ℕ → Bool) → Fits word v a.gates → v a.at ≡ some_takes d.cubes (map v xs) =
-    λ word v fits. r.value word v fits ∙ ap (joined (λ a b. a || b) false) (l.all.values word v (r.earlier word v fits))
-    ∙ values_some d.cubes (map v xs) in
-    go d.on l r i is
-  where
-    go : (b : Bool)
-        → RightSome n gs (cubes_made n gs xs d.cubes) (length d.cubes) (2 * cube_literals d.cubes)
-        (λ v. cube_values d.cubes (map v xs))
-        → Right n (cubes_made n gs xs d.cubes).gates
-        (or_all n (cubes_made n gs xs d.cubes).gates (cubes_made n gs xs d.cubes).ats)
-        (length (cubes_made n gs xs d.cubes).ats - 1)
-        (λ v. joined (λ a b. a || b) false (map v (cubes_made n gs xs d.cubes).ats))
-        → Right n (or_all n (cubes_made n gs xs d.cubes).gates (cubes_made n gs xs d.cubes).ats).gates
-        (inv n (or_all n (cubes_made n gs xs d.cubes).gates (cubes_made n gs xs d.cubes).ats).gates
-        (or_all n (cubes_made n gs xs d.cubes).gates (cubes_made n gs xs d.cubes).ats).at) 1
-        (λ v. not (v (or_all n (cubes_made n gs xs d.cubes).gates (cubes_made n gs xs d.cubes).ats).at))
-        → ((word : List Bool) (v : ℕ → Bool)
-        → Fits word v (or_all n (cubes_made n gs xs d.cubes).gates (cubes_made n gs xs d.cubes).ats).gates
-        → v (or_all n (cubes_made n gs xs d.cubes).gates (cubes_made n gs xs d.cubes).ats).at ≡ some_takes d.cubes
-        (map v xs))
-        → Right n gs
-        (elim b as (λ (t : Bool). Made) [
-          | true ↦ or_all n (cubes_made n gs xs d.cubes).gates
-              (cubes_made n gs xs d.cubes).ats
-          | false ↦ inv n
-              (or_all n (cubes_made n gs xs d.cubes).gates (cubes_made n gs xs d.cubes).ats).gates
-              (or_all n (cubes_made n gs xs d.cubes).gates (cubes_made n gs xs d.cubes).ats).at
-        ])
-        (2 * cube_literals d.cubes + length d.cubes + 1)
-        (λ v. cond b (some_takes d.cubes (map v xs)) (not (some_takes d.cubes (map v xs))))
-    go true l r i is = record {
-      good = r.good;
-      inside = r.inside;
-      grown = omega (arith, r.grown, l.all.grown);
-      few =
-          omega (arith, r.few, l.all.few, l.number);
-      earlier =
-          λ word v fits. l.all.earlier word v (r.earlier word v fits);
-      value = is;
-    }
-    go false l r i is = record {
-      good = i.good;
-      inside = i.inside;
-      grown = omega (arith, i.grown, r.grown, l.all.grown);
-      few = omega (arith, i.few, r.few, l.all.few, l.number);
-      earlier = λ word v fits. l.all.earlier word v (r.earlier word v (i.earlier word v fits));
-      value = λ word v fits. i.value word v fits ∙ ap not (is word v (i.earlier word v fits));
-    }
+    some_same n gs _ _ _ _ _ _ (omega arith) (omega arith) (some_made n gs m _ _ _ _ _ _ r s)
 
 -- the `or` of the cubes
 pub any_is_right : (n : ℕ) (gs : List Gate) → AreGates n gs → (xs : List ℕ) (cs : List Cube) → HasPlanes cs
@@ -367,3 +276,37 @@ any_is_right n gs ok xs cs planes below =
     let k = past_constants n m.gates l.all.good in
     halves_are_right n n (or n) _ false (or_join n) (length m.ats) m.gates m.ats l.all.good l.all.inside (omega arith)
     (λ word v fits. at_zero n m.gates l.all.good word v fits) (omega arith)
+
+-- a gate or its inverse
+inv_unless : (n : ℕ) (gs : List Gate) (a : Made) (cost : ℕ) (f : (ℕ → Bool) → Bool) → Right n gs a cost f → (b : Bool)
+    → Right n gs (elim b as (λ (t : Bool). Made) [ true ↦ a | false ↦ inv n a.gates a.at ]) (cost + 1)
+    (λ v. cond b (f v) (not (f v)))
+inv_unless n gs a cost f r true = record {
+  good = r.good;
+  inside = r.inside;
+  grown = r.grown;
+  few = omega (arith, r.few);
+  earlier = r.earlier;
+  value = r.value;
+}
+inv_unless n gs a cost f r false =
+    let i = inv_is_right n a.gates r.good a.at r.inside in
+    record {
+      good = i.good;
+      inside = i.inside;
+      grown = omega (arith, i.grown, r.grown);
+      few = omega (arith, i.few, r.few);
+      earlier = λ word v fits. r.earlier word v (i.earlier word v fits);
+      value = λ word v fits. i.value word v fits ∙ ap not (r.value word v (i.earlier word v fits));
+    }
+
+pub cubes_are_cover : (n : ℕ) (gs : List Gate) → AreGates n gs → (xs : List ℕ) (d : Def) → HasPlanes d.cubes
+    → AllBelow (length gs) xs → Right n gs (by_cubes n gs xs d) (2 * cube_literals d.cubes + length d.cubes + 1)
+    (λ v. cover d (map v xs))
+cubes_are_cover n gs ok xs d planes below =
+    let m = cubes_made n gs xs d.cubes in
+    inv_unless n gs (or_all n m.gates m.ats) (2 * cube_literals d.cubes + length d.cubes)
+    (λ v. some_takes d.cubes (map v xs))
+    (some_joined n gs m _ _ _ _ _ (joined (λ a b. a || b) false) _ (omega arith)
+    (λ v. values_some d.cubes (map v xs)) (cubes_are_right n gs ok xs d.cubes planes below)
+    (any_is_right n gs ok xs d.cubes planes below)) d.on

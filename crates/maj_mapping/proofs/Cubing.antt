@@ -53,8 +53,7 @@ literal_right n gs ok xs b x lt below = go (eqb b 49) (eqb b 48)
           | false ↦ elim q as (λ (t : Bool). MadeAll) [
             | true ↦ record {
               gates = (inv n gs x).gates;
-              ats =
-                  (inv n gs x).at ∷ [];
+              ats = (inv n gs x).at ∷ [];
             }
             | false ↦ record { gates = gs; ats = [] }
           ]
@@ -64,8 +63,7 @@ literal_right n gs ok xs b x lt below = go (eqb b 49) (eqb b 48)
           | false ↦ elim q as (λ (t : Bool). MadeAll) [
             | true ↦ record {
               gates = (inv n gs x).gates;
-              ats =
-                  (inv n gs x).at ∷ [];
+              ats = (inv n gs x).at ∷ [];
             }
             | false ↦ record { gates = gs; ats = [] }
           ]
@@ -84,8 +82,7 @@ literal_first n gs b x bs xs = go (eqb b 49) (eqb b 48)
           | false ↦ elim q as (λ (t : Bool). MadeAll) [
             | true ↦ record {
               gates = (inv n gs x).gates;
-              ats =
-                  (inv n gs x).at ∷ [];
+              ats = (inv n gs x).at ∷ [];
             }
             | false ↦ record { gates = gs; ats = [] }
           ]

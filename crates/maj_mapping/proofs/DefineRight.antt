@@ -27,8 +27,7 @@ right_cheaper n gs m a b f le r =
       inside = r.inside;
       grown = r.grown;
       few = omega (arith, r.few);
-      earlier =
-          r.earlier;
+      earlier = r.earlier;
       value = r.value;
     }
 

@@ -148,8 +148,7 @@ visit_case net ok k walks spends m s sound lt low None e = elim (cases_lt s net.
       (f.others s (omega arith) ∙ e) in
       rw found.1 (record {
         room = omega (arith, f.room, l.room);
-        others = λ t h. l.others t h
-            ∙ f.others t (omega arith);
+        others = λ t h. l.others t h ∙ f.others t (omega arith);
       }))
 ]
 

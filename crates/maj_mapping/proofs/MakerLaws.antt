@@ -44,8 +44,7 @@ or_none (Some k) j = refl
 pub maker_same : (n : ℕ) (gs : List Gate) (is is' : List ℕ)
     → ((x : ℕ) → slice_index_or is' x not_made ≡ slice_index_or is x not_made) → IsMaker n gs is → IsMaker n gs is'
 maker_same n gs is is' same ok = record {
-  index = λ x. ap made_by (same x)
-      ∙ ok.index x;
+  index = λ x. ap made_by (same x) ∙ ok.index x;
   numbered = ok.numbered;
   small = ok.small;
 }

@@ -56,8 +56,7 @@ keeps_map net ok = record {
       record {
         values = some.0;
         fit = some.1;
-        shown = answer.shown
-            ∙ same_outputs net (ordered net ok) x some.0 answer.values some.1 answer.fit;
+        shown = answer.shown ∙ same_outputs net (ordered net ok) x some.0 answer.values some.1 answer.fit;
       };
 }
 

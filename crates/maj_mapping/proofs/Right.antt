@@ -3,13 +3,14 @@
 use Rattle.std.specs.Prelude.{◌≡◌, ℕ, suc, ◌+◌, ◌<◌, ◌≤◌, ◌&&◌, ◌||◌, Bool, true, false, not, eqb, List, [], ◌∷◌, ◌++◌}
 use Rattle.std.specs.Prelude.{length, slice_get, Option, Some, None}
 use Rattle.std.proofs.Common.{refl, sym, ap, ◌∙◌, inl, inr, arith, length-append, zero-add}
-use Rattle.std.proofs.lemmas.Bool.{eqb-true, eqb-false}
+use Rattle.std.proofs.lemmas.Bool.{and_left, and_right, or_left, or_right, eqb-true, eqb-false}
 use Rattle.std.proofs.lemmas.Option.{slice_get_within, same_Some}
 use Rattle.circuit.specs.declared.gate.Gate.{Gate}
 use Rattle.circuit.specs.declared.gate.Gate.TheVariants.{Input, Zero, One, Buf, Inv, Maj}
 use Rattle.circuit.specs.Function.{majority}
 use Rattle.circuit.specs.Gates.{gate_value, Fits}
 use Rattle.circuit.specs.PlainNets.{is_constant, MayStand, AreGates}
+use Rattle.case_tables.proofs.TruthLaws.{same_two}
 use Rattle.maj_mapping.proofs.Grown.{get_front, get_last, get_cases}
 use Rattle.maj_mapping.specs.declared.maker.Side.{Side}
 use Rattle.maj_mapping.specs.declared.maker.Side.TheVariants.{IsZero, IsOne, Neither}
@@ -19,22 +20,13 @@ use Rattle.maj_mapping.specs.Operations.{maj}
 
 -- what a majority with at most one constant needs
 few_xy : (a b c : Bool) → a ≡ false → b ≡ false → majority a b c ≡ false
-few_xy true b c p q = cc
-few_xy false true c p q = cc
-few_xy false false c p q = refl
+few_xy a b c p q = rw (p, q) refl
 
 few_xz : (a b c : Bool) → a ≡ false → c ≡ false → majority a b c ≡ false
-few_xz true b c p q = cc
-few_xz false true true p q = cc
-few_xz false true false p q = refl
-few_xz false false true p q = cc
-few_xz false false false p q = refl
+few_xz a b c p q = rw (p, q) (and_right b false refl)
 
 few_yz : (a b c : Bool) → b ≡ false → c ≡ false → majority a b c ≡ false
-few_yz a true c p q = cc
-few_yz a false true p q = cc
-few_yz true false false p q = refl
-few_yz false false false p q = refl
+few_yz a b c p q = rw (p, q, and_right a false refl) refl
 
 -- a gate on neither side is no constant
 other_by : (n x : ℕ) (a b : Bool) → eqb x n ≡ a → eqb x (n + 1) ≡ b → side n x ≡ Neither → is_constant n x ≡ false
@@ -78,8 +70,7 @@ right_keep n gs x c f ok lt value = record {
   inside = lt;
   grown = omega arith;
   few = omega arith;
-  earlier =
-      λ word v fits. fits;
+  earlier = λ word v fits. fits;
   value = value;
 }
 
@@ -120,17 +111,8 @@ module _ (n : ℕ) (gs : List Gate) (ok : AreGates n gs) where
   is_true x e word v fits = ap v (side_one n x _ _ refl refl e) ∙ at_one word v fits
 
 -- facts on truth values
-and_left : (a b : Bool) → a ≡ false → false ≡ (a && b)
-and_left true b e = cc
-and_left false b e = refl
-
-and_right : (a b : Bool) → b ≡ false → false ≡ (a && b)
-and_right true b e = sym e
-and_right false b e = refl
-
 and_one : (a b : Bool) → a ≡ true → b ≡ (a && b)
-and_one true b e = refl
-and_one false b e = cc
+and_one a b e = rw e refl
 
 and_one_right : (a b : Bool) → b ≡ true → a ≡ (a && b)
 and_one_right true b e = sym e
@@ -141,26 +123,10 @@ and_same true b e = e
 and_same false b e = refl
 
 and_majority : (a z b : Bool) → z ≡ false → majority a z b ≡ (a && b)
-and_majority true true true e = refl
-and_majority true true false e = cc
-and_majority true false true e = refl
-and_majority true false false e = refl
-and_majority false true true e = cc
-and_majority false true false e = refl
-and_majority false false true e = refl
-and_majority false false false e = refl
-
-or_left : (a b : Bool) → a ≡ true → true ≡ (a || b)
-or_left true b e = refl
-or_left false b e = cc
-
-or_right : (a b : Bool) → b ≡ true → true ≡ (a || b)
-or_right true b e = refl
-or_right false b e = sym e
+and_majority a z b e = rw e (same_two (λ a b. majority a false b) (λ a b. a && b) refl a b)
 
 or_zero : (a b : Bool) → a ≡ false → b ≡ (a || b)
-or_zero true b e = cc
-or_zero false b e = refl
+or_zero a b e = rw e refl
 
 or_zero_right : (a b : Bool) → b ≡ false → a ≡ (a || b)
 or_zero_right true b e = refl
@@ -171,87 +137,32 @@ or_same true b e = refl
 or_same false b e = e
 
 or_majority : (a z b : Bool) → z ≡ true → majority a z b ≡ (a || b)
-or_majority true true true e = refl
-or_majority true true false e = refl
-or_majority true false true e = refl
-or_majority true false false e = cc
-or_majority false true true e = refl
-or_majority false true false e = refl
-or_majority false false true e = cc
-or_majority false false false e = refl
+or_majority a z b e = rw e (same_two (λ a b. majority a true b) (λ a b. a || b) refl a b)
 
--- the majority where two are equal, or two are different constants
+-- the majority where two are equal, or two are opposites
 majority_xy : (x y z : Bool) → x ≡ y → x ≡ majority x y z
-majority_xy true true true e0 = refl
-majority_xy true true false e0 = refl
-majority_xy true false true e0 = refl
-majority_xy true false false e0 = cc
-majority_xy false true true e0 = cc
-majority_xy false true false e0 = refl
-majority_xy false false true e0 = refl
-majority_xy false false false e0 = refl
+majority_xy x y z e = rw (← e) (same_two (λ x z. x) (λ x z. majority x x z) refl x z)
 
 majority_xz : (x y z : Bool) → x ≡ z → x ≡ majority x y z
-majority_xz true true true e0 = refl
-majority_xz true true false e0 = refl
-majority_xz true false true e0 = refl
-majority_xz true false false e0 = cc
-majority_xz false true true e0 = cc
-majority_xz false true false e0 = refl
-majority_xz false false true e0 = refl
-majority_xz false false false e0 = refl
+majority_xz x y z e = rw (← e) (same_two (λ x y. x) (λ x y. majority x y x) refl x y)
 
 majority_yz : (x y z : Bool) → y ≡ z → y ≡ majority x y z
-majority_yz true true true e0 = refl
-majority_yz true true false e0 = refl
-majority_yz true false true e0 = cc
-majority_yz true false false e0 = refl
-majority_yz false true true e0 = refl
-majority_yz false true false e0 = cc
-majority_yz false false true e0 = refl
-majority_yz false false false e0 = refl
+majority_yz x y z e = rw (← e) (same_two (λ x y. y) (λ x y. majority x y y) refl x y)
 
-first_other : (x : Bool) → x ≡ majority x false true
-first_other true = refl
-first_other false = refl
+majority_first : (x y z : Bool) → z ≡ not y → x ≡ majority x y z
+majority_first x y z e = rw e (same_two (λ x y. x) (λ x y. majority x y (not y)) refl x y)
 
-majority_first : (x y z : Bool) → y ≡ false → z ≡ true → x ≡ majority x y z
-majority_first x y z e f = rw (e, f) (first_other x)
+majority_second : (x y z : Bool) → z ≡ not x → y ≡ majority x y z
+majority_second x y z e = rw e (same_two (λ x y. y) (λ x y. majority x y (not x)) refl x y)
 
-first_other_b : (x : Bool) → x ≡ majority x true false
-first_other_b true = refl
-first_other_b false = refl
+majority_third : (x y z : Bool) → y ≡ not x → z ≡ majority x y z
+majority_third x y z e = rw e (same_two (λ x z. z) (λ x z. majority x (not x) z) refl x z)
 
-majority_first_b : (x y z : Bool) → y ≡ true → z ≡ false → x ≡ majority x y z
-majority_first_b x y z e f = rw (e, f) (first_other_b x)
+not_false_is : (a b : Bool) → a ≡ true → b ≡ false → a ≡ not b
+not_false_is a b p q = rw (p, q) refl
 
-second_other : (y : Bool) → y ≡ majority false y true
-second_other true = refl
-second_other false = refl
-
-majority_second : (x y z : Bool) → x ≡ false → z ≡ true → y ≡ majority x y z
-majority_second x y z e f = rw (e, f) (second_other y)
-
-second_other_b : (y : Bool) → y ≡ majority true y false
-second_other_b true = refl
-second_other_b false = refl
-
-majority_second_b : (x y z : Bool) → x ≡ true → z ≡ false → y ≡ majority x y z
-majority_second_b x y z e f = rw (e, f) (second_other_b y)
-
-third_other : (z : Bool) → z ≡ majority false true z
-third_other true = refl
-third_other false = refl
-
-majority_third : (x y z : Bool) → x ≡ false → y ≡ true → z ≡ majority x y z
-majority_third x y z e f = rw (e, f) (third_other z)
-
-third_other_b : (z : Bool) → z ≡ majority true false z
-third_other_b true = refl
-third_other_b false = refl
-
-majority_third_b : (x y z : Bool) → x ≡ true → y ≡ false → z ≡ majority x y z
-majority_third_b x y z e f = rw (e, f) (third_other_b z)
+not_true_is : (a b : Bool) → a ≡ false → b ≡ true → a ≡ not b
+not_true_is a b p q = rw (p, q) refl
 
 module _ (n : ℕ) (gs : List Gate) (ok : AreGates n gs) where
   and_unless : (x y : ℕ) → x < length gs → y < length gs → side n x ≡ Neither → side n y ≡ Neither → (b : Bool)
@@ -265,11 +176,11 @@ module _ (n : ℕ) (gs : List Gate) (ok : AreGates n gs) where
   and_sides : (x y : ℕ) → x < length gs → y < length gs → (s t : Side) → side n x ≡ s → side n y ≡ t
       → Right n gs (and_case n gs x y s t) 1 (λ v. v x && v y)
   and_sides x y lx ly IsZero t p q = right_keep n gs n 1 _ ok (slice_get_within gs n Zero ok.zero_at)
-      (λ word v fits. at_zero n gs ok word v fits ∙ and_left (v x) (v y) (is_false n gs ok x p word v fits))
+      (λ word v fits. at_zero n gs ok word v fits ∙ sym (and_left (v x) (v y) (is_false n gs ok x p word v fits)))
   and_sides x y lx ly IsOne IsZero p q = right_keep n gs n 1 _ ok (slice_get_within gs n Zero ok.zero_at)
-      (λ word v fits. at_zero n gs ok word v fits ∙ and_right (v x) (v y) (is_false n gs ok y q word v fits))
+      (λ word v fits. at_zero n gs ok word v fits ∙ sym (and_right (v x) (v y) (is_false n gs ok y q word v fits)))
   and_sides x y lx ly Neither IsZero p q = right_keep n gs n 1 _ ok (slice_get_within gs n Zero ok.zero_at)
-      (λ word v fits. at_zero n gs ok word v fits ∙ and_right (v x) (v y) (is_false n gs ok y q word v fits))
+      (λ word v fits. at_zero n gs ok word v fits ∙ sym (and_right (v x) (v y) (is_false n gs ok y q word v fits)))
   and_sides x y lx ly IsOne IsOne p q = right_keep n gs y 1 _ ok ly
       (λ word v fits. and_one (v x) (v y) (is_true n gs ok x p word v fits))
   and_sides x y lx ly IsOne Neither p q = right_keep n gs y 1 _ ok ly
@@ -292,11 +203,11 @@ module _ (n : ℕ) (gs : List Gate) (ok : AreGates n gs) where
   or_sides : (x y : ℕ) → x < length gs → y < length gs → (s t : Side) → side n x ≡ s → side n y ≡ t
       → Right n gs (or_case n gs x y s t) 1 (λ v. v x || v y)
   or_sides x y lx ly IsOne t p q = right_keep n gs (n + 1) 1 _ ok (past_constants n gs ok)
-      (λ word v fits. at_one n gs ok word v fits ∙ or_left (v x) (v y) (is_true n gs ok x p word v fits))
+      (λ word v fits. at_one n gs ok word v fits ∙ sym (or_left (v x) (v y) (is_true n gs ok x p word v fits)))
   or_sides x y lx ly IsZero IsOne p q = right_keep n gs (n + 1) 1 _ ok (past_constants n gs ok)
-      (λ word v fits. at_one n gs ok word v fits ∙ or_right (v x) (v y) (is_true n gs ok y q word v fits))
+      (λ word v fits. at_one n gs ok word v fits ∙ sym (or_right (v x) (v y) (is_true n gs ok y q word v fits)))
   or_sides x y lx ly Neither IsOne p q = right_keep n gs (n + 1) 1 _ ok (past_constants n gs ok)
-      (λ word v fits. at_one n gs ok word v fits ∙ or_right (v x) (v y) (is_true n gs ok y q word v fits))
+      (λ word v fits. at_one n gs ok word v fits ∙ sym (or_right (v x) (v y) (is_true n gs ok y q word v fits)))
   or_sides x y lx ly IsZero IsZero p q = right_keep n gs y 1 _ ok ly
       (λ word v fits. or_zero (v x) (v y) (is_false n gs ok x p word v fits))
   or_sides x y lx ly IsZero Neither p q = right_keep n gs y 1 _ ok ly
@@ -307,6 +218,14 @@ module _ (n : ℕ) (gs : List Gate) (ok : AreGates n gs) where
 
   pub or_is_right : (x y : ℕ) → x < length gs → y < length gs → Right n gs (or n gs x y) 1 (λ v. v x || v y)
   or_is_right x y lx ly = or_sides x y lx ly _ _ refl refl
+
+  rises : (x y : ℕ) → side n x ≡ IsZero → side n y ≡ IsOne → (word : List Bool) (v : ℕ → Bool) → Fits word v gs
+      → v y ≡ not (v x)
+  rises x y p q word v fits = not_false_is _ _ (is_true n gs ok y q word v fits) (is_false n gs ok x p word v fits)
+
+  falls : (x y : ℕ) → side n x ≡ IsOne → side n y ≡ IsZero → (word : List Bool) (v : ℕ → Bool) → Fits word v gs
+      → v y ≡ not (v x)
+  falls x y p q word v fits = not_true_is _ _ (is_false n gs ok y q word v fits) (is_true n gs ok x p word v fits)
 
   maj_sides : (x y z : ℕ) → x < length gs → y < length gs → z < length gs → (s t r : Side) → side n x ≡ s
       → side n y ≡ t → side n z ≡ r
@@ -325,31 +244,25 @@ module _ (n : ℕ) (gs : List Gate) (ok : AreGates n gs) where
   maj_sides x y z lx ly lz Neither IsZero IsZero p q o a b c =
       absurd (eqb-false y z c (side_zero n y _ _ refl refl q ∙ sym (side_zero n z _ _ refl refl o)))
   maj_sides x y z lx ly lz Neither IsZero IsOne p q o a b c = right_keep n gs x 1 _ ok lx
-      (λ word v fits. majority_first (v x) (v y) (v z) (is_false n gs ok y q word v fits)
-      (is_true n gs ok z o word v fits))
+      (λ word v fits. majority_first (v x) (v y) (v z) (rises y z q o word v fits))
   maj_sides x y z lx ly lz Neither IsOne IsZero p q o a b c = right_keep n gs x 1 _ ok lx
-      (λ word v fits. majority_first_b (v x) (v y) (v z) (is_true n gs ok y q word v fits)
-      (is_false n gs ok z o word v fits))
+      (λ word v fits. majority_first (v x) (v y) (v z) (falls y z q o word v fits))
   maj_sides x y z lx ly lz Neither IsOne IsOne p q o a b c =
       absurd (eqb-false y z c (side_one n y _ _ refl refl q ∙ sym (side_one n z _ _ refl refl o)))
   maj_sides x y z lx ly lz IsZero Neither IsZero p q o a b c =
       absurd (eqb-false x z b (side_zero n x _ _ refl refl p ∙ sym (side_zero n z _ _ refl refl o)))
   maj_sides x y z lx ly lz IsZero Neither IsOne p q o a b c = right_keep n gs y 1 _ ok ly
-      (λ word v fits. majority_second (v x) (v y) (v z) (is_false n gs ok x p word v fits)
-      (is_true n gs ok z o word v fits))
+      (λ word v fits. majority_second (v x) (v y) (v z) (rises x z p o word v fits))
   maj_sides x y z lx ly lz IsOne Neither IsZero p q o a b c = right_keep n gs y 1 _ ok ly
-      (λ word v fits. majority_second_b (v x) (v y) (v z) (is_true n gs ok x p word v fits)
-      (is_false n gs ok z o word v fits))
+      (λ word v fits. majority_second (v x) (v y) (v z) (falls x z p o word v fits))
   maj_sides x y z lx ly lz IsOne Neither IsOne p q o a b c =
       absurd (eqb-false x z b (side_one n x _ _ refl refl p ∙ sym (side_one n z _ _ refl refl o)))
   maj_sides x y z lx ly lz IsZero IsZero s p q o a b c =
       absurd (eqb-false x y a (side_zero n x _ _ refl refl p ∙ sym (side_zero n y _ _ refl refl q)))
   maj_sides x y z lx ly lz IsZero IsOne s p q o a b c = right_keep n gs z 1 _ ok lz
-      (λ word v fits. majority_third (v x) (v y) (v z) (is_false n gs ok x p word v fits)
-      (is_true n gs ok y q word v fits))
+      (λ word v fits. majority_third (v x) (v y) (v z) (rises x y p q word v fits))
   maj_sides x y z lx ly lz IsOne IsZero s p q o a b c = right_keep n gs z 1 _ ok lz
-      (λ word v fits. majority_third_b (v x) (v y) (v z) (is_true n gs ok x p word v fits)
-      (is_false n gs ok y q word v fits))
+      (λ word v fits. majority_third (v x) (v y) (v z) (falls x y p q word v fits))
   maj_sides x y z lx ly lz IsOne IsOne s p q o a b c =
       absurd (eqb-false x y a (side_one n x _ _ refl refl p ∙ sym (side_one n y _ _ refl refl q)))
 
@@ -396,14 +309,6 @@ inverted_is (Some Zero) y e = cc
 inverted_is (Some One) y e = cc
 inverted_is (Some (Buf x)) y e = cc
 inverted_is (Some (Maj x z w)) y e = cc
-
-not_false_is : (a b : Bool) → a ≡ true → b ≡ false → a ≡ not b
-not_false_is a true p q = cc
-not_false_is a false p q = p
-
-not_true_is : (a b : Bool) → a ≡ false → b ≡ true → a ≡ not b
-not_true_is a true p q = p
-not_true_is a false p q = cc
 
 not_swap : (a b : Bool) → a ≡ not b → b ≡ not a
 not_swap true true e = e

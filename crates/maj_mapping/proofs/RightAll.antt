@@ -62,8 +62,7 @@ names_more k l named le h = record {
   a = omega (arith, h.a);
   b = omega (arith, h.b);
   c = omega (arith, h.c);
-  zero_is =
-      omega (arith, h.zero_is);
+  zero_is = omega (arith, h.zero_is);
   one_is = omega (arith, h.one_is);
 }
 
@@ -75,8 +74,7 @@ right_same n gs m c f g r same = record {
   inside = r.inside;
   grown = r.grown;
   few = r.few;
-  earlier =
-      r.earlier;
+  earlier = r.earlier;
   value = λ word v fits. r.value word v fits ∙ same word v fits;
 }
 
@@ -106,8 +104,7 @@ steps_are_right n gs named done ok h below [] =
       inside = below;
       grown = omega arith;
       few = omega arith;
-      earlier =
-          λ word v fits. fits;
+      earlier = λ word v fits. fits;
       values = λ word v fits. refl;
     }
 steps_are_right n gs named done ok h below (s ∷ ss) =

@@ -50,8 +50,7 @@ after_then net a b c f g =
     record {
       sound = g.sound;
       earlier = λ word v fits. f.earlier word v (g.earlier word v fits);
-      kept =
-          λ s h. g.kept s (f.kept s h);
+      kept = λ s h. g.kept s (f.kept s h);
     }
 
 gate_or_is : (m : Mapping) (s g : ℕ) → gate_at m.gate_of s ≡ Some g → gate_or m.gate_of s ≡ g

@@ -301,8 +301,7 @@ module _ (net : NetView) (ok : IsOrdered net) (goal : Mapping) (maker : MakerVie
       let turn = turn_leave net m vs v (let z = ap (λ (xs : List ℕ). length xs) same in omega arith) in
       record {
         walking = record {
-          left = ap (λ (k : Mapping). finish net k vs) made ∙ turn.same ∙ ap (finish net m) (sym is)
-              ∙ h.left;
+          left = ap (λ (k : Mapping). finish net k vs) made ∙ turn.same ∙ ap (finish net m) (sym is) ∙ h.left;
           standing = standing;
           visits = t.0;
         };
@@ -332,8 +331,7 @@ module _ (net : NetView) (ok : IsOrdered net) (goal : Mapping) (maker : MakerVie
       (ap (drop (v.at + 1)) same) (get_or_from_slice_get gate_of x o None got ∙ g.1) in
       record {
         walking = record {
-          left = turn.same ∙ ap (finish net m) (sym is)
-              ∙ h.left;
+          left = turn.same ∙ ap (finish net m) (sym is) ∙ h.left;
           standing = h.standing;
           visits = visits_push net vs (further v) t.0 t.1 t.2;
         };
@@ -359,8 +357,7 @@ module _ (net : NetView) (ok : IsOrdered net) (goal : Mapping) (maker : MakerVie
       (ap (drop (v.at + 1)) same) low free in
       record {
         walking = record {
-          left = turn.same ∙ ap (finish net m) (sym is)
-              ∙ h.left;
+          left = turn.same ∙ ap (finish net m) (sym is) ∙ h.left;
           standing = h.standing;
           visits = visits_push net (vs ++ further v ∷ [])
               (record { signal = x; at = 0 }) (visits_push net vs (further v) t.0 t.1 t.2) high low;
@@ -395,7 +392,6 @@ begin_new net ok maker gate_of root o b lt standing got test no_gate =
     ] in
     record {
       left = sym (walk_none net ok (mapping maker gate_of) root lt free).0;
-      standing =
-          standing;
+      standing = standing;
       visits = (high, lt, tt);
     }

@@ -1,10 +1,12 @@
 // The blocks of models.
-ghost use Rattle.std.specs.Prelude.{◌≡◌, ℕ, ◌+◌, ◌<◌, ◌^◌, ◌∷◌, ◌++◌, [], List as Items, map, length, Option as Maybe, IfOk, OnOk, slice_index_or};
+ghost use Rattle.std.specs.Prelude.{◌≡◌, ℕ, ◌+◌, ◌<◌, ◌^◌, ◌∷◌, ◌++◌, [], List as Items, map, length, Option as Maybe};
+ghost use Rattle.std.specs.Prelude.{IfOk, OnOk, slice_index_or};
 ghost use Rattle.std.specs.List.{position_or_len, AllByRecursion};
 ghost use Rattle.blif_read.specs.declared.models.BlifModel.{BlifModel as Model};
 ghost use Rattle.blif_flat.specs.Designs.{model_number};
 ghost use Rattle.blif_flat.specs.declared.expansion.pieces.Piece.TheVariants.{Own};
-ghost use Rattle.blif_flat.specs.Code.Blocks.{is_that, wide, block_names, call_names, placed, buffer_of, call_pieces, pieces};
+ghost use Rattle.blif_flat.specs.Code.Blocks.{is_that, wide, block_names, call_names, placed, buffer_of, call_pieces};
+ghost use Rattle.blif_flat.specs.Code.Blocks.{pieces};
 ghost use Rattle.blif_flat.specs.Code.Joins.{first_actual, exits_in, ArePlaces};
 ghost use Rattle.blif_flat.specs.Code.Outlines.{IsOutlined, AreOutlined};
 
@@ -112,7 +114,9 @@ fn push_entries(
     pieces: &mut Block,
 ) -> Result<(), Memory>
     ensures { (names : Items (Maybe (Items ℕ))) → ArePlaces places.now.entries width names → OnOk result (pieces.new
-        ≡ pieces.old ++ map (λ p. Own (buffer_of call.now.line (position_or_len (is_that (first_actual call.now p)) names))) ports.now) }
+        ≡ pieces.old
+        ++ map (λ p. Own (buffer_of call.now.line (position_or_len (is_that (first_actual call.now p)) names)))
+        ports.now) }
 {
     for port in ports {
         let actual = first_actual(call, *port);
@@ -175,7 +179,8 @@ fn push_exits(
     Ok(count)
 }
 
-/// Adds the pieces of a call whose model has a block that starts at a place. Answers the place behind what the call adds.
+/// Adds the pieces of a call whose model has a block that starts at a place. Answers the place behind what the call
+/// adds.
 fn push_call(
     alloc: Global,
     design: &Design<'_>,
@@ -188,7 +193,8 @@ fn push_call(
 ) -> Result<u32, Memory>
     requires outlined { IsOutlined design.now outlines.now (model_number design.now call.now.model) }
     requires room { start + length (call_names (wide design.now) design.now call.now) < 2 ^ 32 }
-    ensures pieces { (model : Model) → ArePlaces places.now.entries width (block_names (wide design.now) design.now model)
+    ensures pieces { (model : Model)
+        → ArePlaces places.now.entries width (block_names (wide design.now) design.now model)
         → OnOk result (pieces.new ≡ pieces.old ++ call_pieces (wide design.now) design.now model start call.now) }
     ensures next { IfOk result (λ next. next ≡ start + length (call_names (wide design.now) design.now call.now)) }
 {

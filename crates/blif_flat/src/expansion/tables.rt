@@ -1,5 +1,6 @@
 // The blocks of the models of a design, model by model in the order of calls.
-ghost use Rattle.std.specs.Prelude.{◌≡◌, ℕ, ◌<◌, List as Items, [], map, length, reverse, replicate, Option as Maybe, IfOk, slice_index_or};
+ghost use Rattle.std.specs.Prelude.{◌≡◌, ℕ, ◌<◌, List as Items, [], map, length, reverse, replicate, Option as Maybe};
+ghost use Rattle.std.specs.Prelude.{IfOk, slice_index_or};
 ghost use Rattle.std.specs.List.{position_or_len, IsDistinct};
 ghost use Rattle.std.specs.Str.{bytes_eq};
 ghost use Rattle.blif_read.specs.Code.Seen.{texts};
@@ -43,7 +44,8 @@ fn exits_of(
     width: u32,
     names: &Names<'_>,
 ) -> Result<Vec<u32>, Memory>
-    ensures { (known : Items (Maybe (Items ℕ))) → ArePlaces places.now.entries width known → IfOk result (λ exits. exits.items
+    ensures { (known : Items (Maybe (Items ℕ))) → ArePlaces places.now.entries width known
+        → IfOk result (λ exits. exits.items
         ≡ map (λ t. position_or_len (is_that t) known) (texts names.now.keys)) }
 {
     let mut exits = Vec::new(alloc);

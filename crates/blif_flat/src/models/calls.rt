@@ -1,5 +1,6 @@
 // The models that models call, and the walk through their calls.
-ghost use Rattle.std.specs.Prelude.{◌≡◌, ℕ, ◌<◌, ◌^◌, List as Items, [], length, IfOk, IfErr, None, slice_index_or, OnOk};
+ghost use Rattle.std.specs.Prelude.{◌≡◌, ℕ, ◌<◌, ◌^◌, List as Items, [], length, IfOk, IfErr, None, slice_index_or};
+ghost use Rattle.std.specs.Prelude.{OnOk};
 ghost use Rattle.blif_read.specs.declared.models.BlifModel.{BlifModel as Model};
 ghost use Rattle.blif_flat.specs.Designs.{model_number};
 ghost use Rattle.blif_flat.specs.DesignFaults.{loop_of, line_to, last_of_loop, loop_line, IsRecursive};

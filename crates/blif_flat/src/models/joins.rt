@@ -1,5 +1,6 @@
 // The ports of calls, and the places of signals in a block.
-ghost use Rattle.std.specs.Prelude.{◌≡◌, ℕ, ◌+◌, ◌<◌, ◌^◌, ◌∷◌, ◌++◌, [], List as Items, map, length, replicate, Option as Maybe, Some, None, IfOk, IfSome, MatchOption};
+ghost use Rattle.std.specs.Prelude.{◌≡◌, ℕ, ◌+◌, ◌<◌, ◌^◌, ◌∷◌, ◌++◌, [], List as Items, map, length, replicate};
+ghost use Rattle.std.specs.Prelude.{Option as Maybe, Some, None, IfOk, IfSome, MatchOption};
 ghost use Rattle.std.specs.List.{position, position_or_len};
 ghost use Rattle.std.specs.Str.{bytes_eq};
 ghost use Rattle.blif_read.specs.Code.Seen.{texts};

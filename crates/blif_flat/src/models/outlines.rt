@@ -1,5 +1,6 @@
 // The places of a model's signals in its block.
-ghost use Rattle.std.specs.Prelude.{◌≡◌, ℕ, ◌+◌, ◌<◌, ◌^◌, ◌∷◌, ◌++◌, [], List as Items, map, length, Option as Maybe, Some, None, slice_get, IfOk};
+ghost use Rattle.std.specs.Prelude.{◌≡◌, ℕ, ◌+◌, ◌<◌, ◌^◌, ◌∷◌, ◌++◌, [], List as Items, map, length, Option as Maybe};
+ghost use Rattle.std.specs.Prelude.{Some, None, slice_get, IfOk};
 ghost use Rattle.std.specs.Option.{option_copied};
 ghost use Rattle.blif_flat.specs.Designs.{names_in, model_number};
 ghost use Rattle.blif_flat.specs.Code.Blocks.{call_names, block_names, wide};

@@ -1,5 +1,6 @@
 // The size of a design.
-ghost use Rattle.std.specs.Prelude.{◌≡◌, ℕ, ◌+◌, ◌-◌, ◌*◌, ◌^◌, ◌<◌, ◌++◌, List as Items, [], length, reverse, min, IfOk, OnOk, slice_index_or};
+ghost use Rattle.std.specs.Prelude.{◌≡◌, ℕ, ◌+◌, ◌-◌, ◌*◌, ◌^◌, ◌<◌, ◌++◌, List as Items, [], length, reverse, min};
+ghost use Rattle.std.specs.Prelude.{IfOk, OnOk, slice_index_or};
 ghost use Rattle.std.specs.List.{sum_by};
 ghost use Rattle.blif_read.specs.declared.models.BlifModel.{BlifModel as Model};
 ghost use Rattle.blif_flat.specs.Designs.{model_number};

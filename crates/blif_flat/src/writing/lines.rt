@@ -1,5 +1,5 @@
 // Lines of a netlist, put on a page.
-ghost use Rattle.std.specs.Prelude.{◌≡◌, ◌++◌, ◌∷◌, OnOk};
+ghost use Rattle.std.specs.Prelude.{◌≡◌, ◌++◌, ◌∷◌, ℕ, List, OnOk};
 ghost use Rattle.std.specs.Fmt.{decimal};
 ghost use Rattle.std.specs.List.{flat_map};
 ghost use Rattle.blif_flat.specs.BlifText.{feed_names, rows_of, cell_lines, output_lines, spaced, line_text};
@@ -59,34 +59,42 @@ fn rows_of(kind: CellKind) -> &'static [u8]
     }
 }
 
-/// Adds the lines of the cell of this number.
-#[tactic(auto, using(std::proofs::Common::append_assoc, crate::proofs::LineTexts::cell_text))]
-pub fn add_cell(alloc: Global, number: u32, cell: &ExCell, page: &mut Vec<u8>) -> Result<(), Memory>
-    ensures { OnOk result (page.new.items ≡ page.old.items ++ flat_map line_text (cell_lines number cell.now)) }
-{
-    page.extend_from_slice(b".names")?;
-    add_feed(alloc, cell.feed0, page)?;
-    add_feed(alloc, cell.feed1, page)?;
-    add_feed(alloc, cell.feed2, page)?;
-    add_name(alloc, CELL, number, page)?;
-    page.push(b'\n')?;
-    page.extend_from_slice(rows_of(cell.kind))?;
-    Ok(())
+/// What is written as lines of its own, by its number.
+pub trait Written {
+    /// The lines.
+    ghost lines: { ℕ → Self → List (List (List ℕ)) };
+
+    /// Adds them to a page.
+    fn add(&self, alloc: Global, number: u32, page: &mut Vec<u8>) -> Result<(), Memory>
+        ensures { OnOk result (page.new.items ≡ page.old.items ++ flat_map line_text (lines number self.now)) };
 }
 
-/// Adds the lines of the output of this number, which shows a cell.
-#[tactic(auto, using(std::proofs::Common::append_assoc))]
-pub fn add_output(
-    alloc: Global,
-    number: u32,
-    source: &Source,
-    page: &mut Vec<u8>,
-) -> Result<(), Memory>
-    ensures { OnOk result (page.new.items ≡ page.old.items ++ flat_map line_text (output_lines number source.now)) }
-{
-    page.extend_from_slice(b".names")?;
-    add_name(alloc, CELL, source.cell, page)?;
-    add_name(alloc, OUTPUT, number, page)?;
-    page.extend_from_slice(b"\n1 1\n")?;
-    Ok(())
+impl Written for ExCell {
+    ghost lines = { cell_lines };
+
+    #[tactic(auto, using(std::proofs::Common::append_assoc, crate::proofs::LineTexts::cell_text))]
+    fn add(&self, alloc: Global, number: u32, page: &mut Vec<u8>) -> Result<(), Memory> {
+        page.extend_from_slice(b".names")?;
+        add_feed(alloc, self.feed0, page)?;
+        add_feed(alloc, self.feed1, page)?;
+        add_feed(alloc, self.feed2, page)?;
+        add_name(alloc, CELL, number, page)?;
+        page.push(b'\n')?;
+        page.extend_from_slice(rows_of(self.kind))?;
+        Ok(())
+    }
+}
+
+/// An output shows a cell.
+impl Written for Source {
+    ghost lines = { output_lines };
+
+    #[tactic(auto, using(std::proofs::Common::append_assoc))]
+    fn add(&self, alloc: Global, number: u32, page: &mut Vec<u8>) -> Result<(), Memory> {
+        page.extend_from_slice(b".names")?;
+        add_name(alloc, CELL, self.cell, page)?;
+        add_name(alloc, OUTPUT, number, page)?;
+        page.extend_from_slice(b"\n1 1\n")?;
+        Ok(())
+    }
 }

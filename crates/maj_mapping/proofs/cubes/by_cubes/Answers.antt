@@ -36,8 +36,7 @@ returns-clause-gates c =
     (subst (λ (i : ℕ). OnOk c.inv.result
     (c.inv.new.self ≡ record {
       inputs = i;
-      gates =
-          (inv c.fold.new.self.inputs c.fold.new.self.gates c.in_ok-any.any).gates;
+      gates = (inv c.fold.new.self.inputs c.fold.new.self.gates c.in_ok-any.any).gates;
     })) w.1 c.inv.ensures.gates)
 
 pub returns-clause-at : goal.returns-clause-at

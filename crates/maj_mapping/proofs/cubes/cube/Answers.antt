@@ -15,8 +15,7 @@ returns-clause-gates c =
     (subst (λ (i : ℕ). OnOk c.fold.result
     (c.fold.new.self ≡ record {
       inputs = i;
-      gates =
-          (fold And c.literals.new.maker.inputs c.literals.new.maker.gates c.deref.result.now).gates;
+      gates = (fold And c.literals.new.maker.inputs c.literals.new.maker.gates c.deref.result.now).gates;
     }))
     w.1 c.fold.ensures.gates)
 

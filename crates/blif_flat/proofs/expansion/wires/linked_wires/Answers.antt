@@ -55,8 +55,7 @@ loop-frame-preserved-in-Continue-branch-6 c =
     record {
       whole = w.0;
       reached = w.1;
-      counted =
-          omega (arith, sooner, c.next_call-calls.ensures, c.loop-frame.invariant.counted);
+      counted = omega (arith, sooner, c.next_call-calls.ensures, c.loop-frame.invariant.counted);
     }
 
 pub loop-frame-preserved : goal.loop-frame-preserved
