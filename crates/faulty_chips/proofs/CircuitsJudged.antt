@@ -91,7 +91,8 @@ labelled_wire = breaks _ _ _ (nets_from _ first_nets first_paths refl refl refl)
 
 pub wire_within_a_row : FirstBroken with_wire_within_a_row first_limits E4 16 17
 unfolding with_wire_within_a_row with_unlabelled_buffer with_buffer_at first_flat rules
-wire_within_a_row = breaks _ _ _ (nets_from _ (first_nets ++ (15 ∷ 16 ∷ 16 ∷ 16 ∷ [])) (first_paths ++ ([] ∷ [] ∷ (18 ∷ 16 ∷ []) ∷ (16 ∷ []) ∷ []))
+wire_within_a_row = breaks _ _ _
+    (nets_from _ (first_nets ++ (15 ∷ 16 ∷ 16 ∷ 16 ∷ [])) (first_paths ++ ([] ∷ [] ∷ (18 ∷ 16 ∷ []) ∷ (16 ∷ []) ∷ []))
     refl refl refl)
     (lines_kept _ 3 4 13 14 refl refl refl refl refl) E4 16 17 refl
 

@@ -5,7 +5,8 @@ use Rattle.layout_rules.specs.declared.rule.Rule.TheVariants.{E5, G1, G2, G3, G4
 use Rattle.layout_rules.specs.FirstLimits.{first_limits}
 use Rattle.layout_rules.specs.Rules.{FirstBroken, KeepsRules}
 use Rattle.layout_rules.proofs.RuleLaws.{rules}
-use Rattle.faulty_chips.specs.GeometryChips.{with_wire_to, with_neighbour_at, with_via_at, with_metal_from, with_pin_from}
+use Rattle.faulty_chips.specs.GeometryChips.{with_wire_to, with_neighbour_at, with_via_at, with_metal_from}
+use Rattle.faulty_chips.specs.GeometryChips.{with_pin_from}
 use Rattle.faulty_chips.specs.GeometryChips.{with_buffer_at, with_low_buffer, with_limit}
 use Rattle.layout_rules.proofs.FirstWire.{first_nets, first_paths}
 use Rattle.layout_rules.proofs.NetPaths.{nets_from}
@@ -90,7 +91,8 @@ overlapping_frames = breaks _ _ _ (nets_from _ (first_nets ++ (15 ∷ 16 ∷ 17 
 
 pub nearly_touching_frames : FirstBroken (with_buffer_at 7999) first_limits G5 0 15
 unfolding with_buffer_at first_flat rules
-nearly_touching_frames = breaks _ _ _ (nets_from _ (first_nets ++ (15 ∷ 16 ∷ 17 ∷ [])) (first_paths ++ ([] ∷ [] ∷ [] ∷ []))
+nearly_touching_frames = breaks _ _ _
+    (nets_from _ (first_nets ++ (15 ∷ 16 ∷ 17 ∷ [])) (first_paths ++ ([] ∷ [] ∷ [] ∷ []))
     refl refl refl)
     (lines_kept _ 3 4 13 14 refl refl refl refl refl) G5 0 15 refl
 

@@ -1,11 +1,4 @@
-mod Order
 mod GeometryJudged
 mod CircuitsJudged
-mod UnknownPart
-mod NoStart
-mod SecondStart
-mod ShortStart
-mod StartBelow
-mod ShortBar
-mod StartAtRight
+mod LinesJudged
 mod CutOffLine

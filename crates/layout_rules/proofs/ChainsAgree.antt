@@ -41,8 +41,7 @@ first_on layer (t ∷ ts) (suc i) s is on = by_layer (first_on layer ts i s is o
       number = 0;
       shape = t;
       shape_is = refl;
-      of_layer =
-          e;
+      of_layer = e;
       least = λ c x q r. omega arith;
     }
     by_layer rest (inr ne) = record {
@@ -65,8 +64,7 @@ module _ (shapes : List Shape) (lines : AreLaidOut shapes) where
         (record {
           shape = s;
           shape_is = is;
-          passes_so = and_from (is_line s) (nat_lt START s.datatype) line
-              (lt-ltb 2 s.datatype lt);
+          passes_so = and_from (is_line s) (nat_lt START s.datatype) line (lt-ltb 2 s.datatype lt);
         }))
     | inr le ↦ le
   ]
@@ -84,8 +82,7 @@ module _ (shapes : List Shape) (lines : AreLaidOut shapes) where
   its_contacts v a c not_so = alone_kept (IsMisjoined shapes) lines.contacts v
       (record {
         part = record { shape = c.first; shape_is = c.first_is; passes_so = contact_line v a c };
-        not_so =
-            not_so;
+        not_so = not_so;
       })
 
   pub part_of : (v a datatype : ℕ) (c : Contact shapes v a) → c.first.datatype ≡ datatype → IsPart shapes datatype v

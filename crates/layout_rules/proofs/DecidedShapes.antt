@@ -3,12 +3,18 @@ use Rattle.std.proofs.Common.{◌≡◌, ℕ, ◌<◌, Bool, true, List, length,
 use Rattle.std.proofs.lemmas.Option.{slice_get_within}
 use Rattle.geom.specs.declared.shapes.Shape.{Shape}
 use Rattle.layout_rules.specs.Reports.{Passes, PassTogether}
-use Rattle.layout_rules.proofs.Deciding.{dec_same, dec_true, dec_item}
+use Rattle.layout_rules.proofs.Deciding.{dec_same, dec_true, dec_item, dec_about}
 
 abbrev pub dec_passes : (test : Shape → Bool) (shapes : List Shape) (n : ℕ) → Dec (Passes test shapes n)
 dec_passes test shapes n = dec_same
     (λ h. record { shape = h.0; shape_is = h.1; passes_so = h.2 }) (λ p. (p.shape, p.shape_is, p.passes_so))
     (dec_item shapes n (λ s. test s ≡ true) (λ s is. dec_true (test s)))
+
+-- and so is what is said further of that shape
+abbrev pub dec_passes_with : (test : Shape → Bool) (shapes : List Shape) (n : ℕ) (Q : Shape → Type 0)
+    → ((s : Shape) → Dec (Q s)) → Dec ((passes : Passes test shapes n) × Q passes.shape)
+dec_passes_with test shapes n =
+    dec_about shapes (Passes test shapes n) n (λ p. p.shape) (λ p. p.shape_is) (dec_passes test shapes n)
 
 pub passes_within : (test : Shape → Bool) (shapes : List Shape) (n : ℕ) → Passes test shapes n → n < length shapes
 passes_within test shapes n p = slice_get_within shapes n p.shape p.shape_is

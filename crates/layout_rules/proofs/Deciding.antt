@@ -9,20 +9,25 @@ abbrev pub dec_same : {P Q : Type 0} → (P → Q) → (Q → P) → Dec P → D
 dec_same there back (yes p) = yes (there p)
 dec_same there back (no none) = no (λ q. none (back q))
 
+-- the second is tried only where the first holds, since arguments are computed before they are asked for
+abbrev pub dec_and : {P Q : Type 0} → Dec P → (P → Dec Q) → Dec (P × Q)
+dec_and (yes p) other = elim (other p) [ yes q ↦ yes (p, q) | no none ↦ no (λ h. none h.1) ]
+dec_and (no none) other = no (λ h. none h.0)
+
 abbrev pub dec_both : {P Q : Type 0} → Dec P → Dec Q → Dec (P × Q)
-dec_both (yes p) (yes q) = yes (p, q)
-dec_both (yes p) (no none) = no (λ h. none h.1)
-dec_both (no none) q = no (λ h. none h.0)
+dec_both p q = dec_and p (λ h. q)
 
 abbrev pub dec_either : {P Q : Type 0} → Dec P → Dec Q → Dec (P ⊎ Q)
 dec_either (yes p) q = yes (inl p)
 dec_either (no none) (yes q) = yes (inr q)
 dec_either (no none) (no neither) = no (λ h. elim h [ inl p ↦ none p | inr q ↦ neither q ])
 
+abbrev pub dec_if : {P Q : Type 0} → Dec P → (P → Dec Q) → Dec (P → Q)
+dec_if (yes p) other = elim (other p) [ yes q ↦ yes (λ h. q) | no none ↦ no (λ f. none (f p)) ]
+dec_if (no not_so) other = yes (λ p. absurd (not_so p))
+
 abbrev pub dec_then : {P Q : Type 0} → Dec P → Dec Q → Dec (P → Q)
-dec_then p (yes q) = yes (λ h. q)
-dec_then (yes p) (no none) = no (λ f. none (f p))
-dec_then (no not_so) (no none) = yes (λ p. absurd (not_so p))
+dec_then p q = dec_if p (λ h. q)
 
 abbrev pub dec_not : {P : Type 0} → Dec P → Dec (P → ⊥)
 dec_not (yes p) = no (λ f. f p)
@@ -135,6 +140,13 @@ module _ {X : Type 0} (xs : List X) where
       by_item : (o : Option X) → slice_get xs n ≡ o → Dec ((x : X) × (slice_get xs n ≡ Some x) × Q x)
       by_item None e = no (λ h. let some = h.1 in absurd cc)
       by_item (Some x) e = dec_same (λ q. (x, e, q)) (λ h. subst Q (same_Some h.0 x (sym h.1 ∙ e)) h.2) (decided x e)
+
+  -- a decided fact that names the item at a place, and another one about that item
+  abbrev pub dec_about : (R : Type 0) (n : ℕ) (item : R → X) → ((r : R) → slice_get xs n ≡ Some (item r)) → Dec R
+      → (Q : X → Type 0) → ((x : X) → Dec (Q x)) → Dec ((r : R) × Q (item r))
+  dec_about R n item item_is (yes r) Q decided = dec_same (λ q. (r, q))
+      (λ h. subst Q (same_Some (item h.0) (item r) (sym (item_is h.0) ∙ item_is r)) h.1) (decided (item r))
+  dec_about R n item item_is (no none) Q decided = no (λ h. none h.0)
 
   abbrev pub dec_each_item : (n : ℕ) (Q : X → Type 0) → ((x : X) → slice_get xs n ≡ Some x → Dec (Q x))
       → Dec ((x : X) → slice_get xs n ≡ Some x → Q x)

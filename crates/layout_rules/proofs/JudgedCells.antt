@@ -14,7 +14,7 @@ use Rattle.layout_rules.specs.CircuitRules.{CellsBroken}
 use Rattle.layout_rules.proofs.Deciding.{dec_same, dec_both, dec_either, dec_then, dec_not, dec_true, dec_equal}
 use Rattle.layout_rules.proofs.Deciding.{dec_below, dec_some, dec_all, dec_all_those, dec_only, dec_item, dec_each_item}
 use Rattle.layout_rules.proofs.Judging.{Judged, judged_alone, judged_pairs, judged_afterwards}
-use Rattle.layout_rules.proofs.DecidedShapes.{dec_passes, passes_within}
+use Rattle.layout_rules.proofs.DecidedShapes.{dec_passes, dec_passes_with, passes_within}
 
 module _ (P : CellKind → Type 0) where
   -- the fact of one of the seven kinds
@@ -60,8 +60,7 @@ module _ (shapes : List Shape) where
         pin_is = h.1;
         frame_is = h.2.1;
         lies_so = h.2.2.0;
-        of_layer =
-            h.2.2.1;
+        of_layer = h.2.2.1;
         of_number = h.2.2.2;
       })
       (λ l. (l.pin, l.pin_is, (l.frame, l.frame_is, (l.lies_so, l.of_layer, l.of_number))))
@@ -122,10 +121,8 @@ module _ (shapes : List Shape) where
 
   abbrev pub dec_no_cell : (f : ℕ) → Dec (IsNoCell shapes f)
   dec_no_cell f = dec_same
-      (λ h. record { frame = record { shape = h.0; shape_is = h.1; passes_so = h.2.0 }; not_so = h.2.1 })
-      (λ h. (h.frame.shape, h.frame.shape_is, (h.frame.passes_so, h.not_so)))
-      (dec_item shapes f (λ frame. (is_frame frame ≡ true) × (IsCell shapes f frame → ⊥))
-      (λ frame is. dec_both (dec_true (is_frame frame)) (dec_not (dec_cell f frame))))
+      (λ h. record { frame = h.0; not_so = h.1 }) (λ h. (h.frame, h.not_so))
+      (dec_passes_with is_frame shapes f (λ frame. IsCell shapes f frame → ⊥) (λ frame. dec_not (dec_cell f frame)))
 
   abbrev pub dec_one_frame : (p : ℕ) → Dec (LiesInOneFrame shapes p)
   dec_one_frame p = dec_same

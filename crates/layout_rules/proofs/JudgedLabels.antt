@@ -9,9 +9,9 @@ use Rattle.layout_rules.specs.Reports.{Alone, Afterwards}
 use Rattle.layout_rules.specs.CircuitRules.{is_port, is_port_label, port_count, have_one_name, LabelsBroken}
 use Rattle.layout_rules.specs.CircuitRules.{IsLabelAt, IsNoPortLabel, IsUnlabelledPort, IsRepeated, IsMisnumbered}
 use Rattle.layout_rules.proofs.Deciding.{dec_same, dec_both, dec_either, dec_not, dec_true, dec_false, dec_equal}
-use Rattle.layout_rules.proofs.Deciding.{dec_below, dec_up_to, dec_item, dec_some_item}
+use Rattle.layout_rules.proofs.Deciding.{dec_below, dec_up_to, dec_some_item}
 use Rattle.layout_rules.proofs.Judging.{Judged, judged_alone, judged_afterwards}
-use Rattle.layout_rules.proofs.DecidedShapes.{passes_within}
+use Rattle.layout_rules.proofs.DecidedShapes.{dec_passes_with, passes_within}
 
 module _ (flat : Flat) where
   -- a label with this number, of which something holds
@@ -51,12 +51,10 @@ module _ (flat : Flat) where
 
   abbrev pub dec_unlabelled : (p : ℕ) → Dec (IsUnlabelledPort flat p)
   dec_unlabelled p = dec_same
-      (λ h. record { port = record { shape = h.0; shape_is = h.1; passes_so = h.2.0 }; not_one = h.2.1 })
-      (λ h. (h.port.shape, h.port.shape_is, (h.port.passes_so, h.not_one)))
-      (dec_item flat.shapes p (λ s. (is_port flat.shapes s ≡ true)
-      × (count_by (λ label. marks label s) flat.labels ≡ 1 → ⊥))
-      (λ s is. dec_both (dec_true (is_port flat.shapes s))
-      (dec_not (dec_equal (count_by (λ label. marks label s) flat.labels) 1))))
+      (λ h. record { port = h.0; not_one = h.1 }) (λ h. (h.port, h.not_one))
+      (dec_passes_with (is_port flat.shapes) flat.shapes p
+      (λ s. count_by (λ label. marks label s) flat.labels ≡ 1 → ⊥)
+      (λ s. dec_not (dec_equal (count_by (λ label. marks label s) flat.labels) 1)))
 
   abbrev pub dec_repeated : (place : ℕ) (label : Label) → Dec (IsRepeated flat place label)
   dec_repeated place label = dec_same
@@ -65,8 +63,7 @@ module _ (flat : Flat) where
         other = h.1.0;
         before = h.1.2.0;
         other_is = h.1.1;
-        of_layer =
-            h.1.2.1.0;
+        of_layer = h.1.2.1.0;
         one_name = h.1.2.1.1;
       })
       (λ h. (h.earlier, (h.other, h.other_is, (h.before, (h.of_layer, h.one_name)))))

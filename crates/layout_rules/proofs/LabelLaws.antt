@@ -47,7 +47,8 @@ led_alone text h zero = elim (or_cases (length text == 1)
     (nat_lt 1 (length text) && not (slice_index text 0 == 48)) h) [
       | inl one ↦ eqb-true (length text) 1 one
       | inr more ↦ absurd (both_ways (slice_index text 0 == 48)
-          (not-true (slice_index text 0 == 48) (and_parts (nat_lt 1 (length text)) (not (slice_index text 0 == 48)) more).1)
+          (not-true (slice_index text 0 == 48)
+          (and_parts (nat_lt 1 (length text)) (not (slice_index text 0 == 48)) more).1)
           (eq-eqb (slice_index text 0) 48 zero))
     ]
 

@@ -24,8 +24,7 @@ Contact-back k = record {
   apart = λ e. k.apart (sym e);
   first = k.second;
   second = k.first;
-  first_is =
-      k.second_is;
+  first_is = k.second_is;
   second_is = k.first_is;
   meet_so = meet_back k.first k.second k.meet_so;
 }

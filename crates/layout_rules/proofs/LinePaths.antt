@@ -52,8 +52,7 @@ module _ (shapes : List Shape) (layer : ℕ) (path : List ℕ) (line : IsLine sh
   back_before (suc k) lt = record {
     rest = back k;
     chain = back_chain (suc (suc k)) lt;
-    onward =
-        back_onward (suc (suc k)) lt;
+    onward = back_onward (suc (suc k)) lt;
   }
 
 -- the shape before another one is before it by a chain
@@ -254,7 +253,8 @@ module _ (shapes : List Shape) (lines : AreLaidOut shapes) where
         (
           lt,
           one_start_on layer (slice_index long.trail.chain last.0) i
-              (chain_start shapes lines long.trail.chain long.trail.is last.0 last.1) start (long.trail.on last.0 lt) on,
+              (chain_start shapes lines long.trail.chain long.trail.is last.0 last.1) start
+              (long.trail.on last.0 lt) on,
         ),
       )
   has_reached layer long (a ∷ rest) i chain on =
@@ -334,8 +334,7 @@ module _ (shapes : List Shape) (lines : AreLaidOut shapes) where
       start = path_start;
       next = path_next;
       within = path_within;
-      all =
-          path_all line;
+      all = path_all line;
       once = path_once;
     }
 
@@ -455,8 +454,7 @@ module _ (shapes : List Shape) (lines : AreLaidOut shapes) where
               line = line;
               place = k;
               within = lt;
-              first_is =
-                  refl;
+              first_is = refl;
               second_is = e;
             }) in
             record {

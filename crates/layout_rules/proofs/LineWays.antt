@@ -9,7 +9,7 @@ use Rattle.layout_rules.specs.Layers.{is_line}
 use Rattle.layout_rules.specs.ExcitationLines.{meet, Contact, IsPart, IsChain, IsReached}
 use Rattle.layout_rules.specs.Code.LineChains.{NeverTurnsBack, ChainBefore}
 use Rattle.layout_rules.proofs.Deciding.{dec_same, dec_both, dec_either, dec_not, dec_true, dec_equal, dec_some}
-use Rattle.layout_rules.proofs.Deciding.{dec_item}
+use Rattle.layout_rules.proofs.Deciding.{dec_item, dec_about}
 use Rattle.layout_rules.proofs.Reaching.{IsAmong, Way, dec_way, way_step, way_over, way_keeps}
 
 -- the numbers below a bound
@@ -49,15 +49,14 @@ is_pair (c ∷ cs) seconds a b (inr one) other = among_more (a, b) c seconds (pa
     (is_pair cs seconds a b one other)
 
 module _ (shapes : List Shape) where
-  pub dec_contact : (i j : ℕ) → Dec (Contact shapes i j)
+  abbrev pub dec_contact : (i j : ℕ) → Dec (Contact shapes i j)
   dec_contact i j = dec_same
       (λ h. record {
         apart = h.0;
         first = h.1.0;
         first_is = h.1.1;
         second = h.1.2.0;
-        second_is =
-            h.1.2.1;
+        second_is = h.1.2.1;
         meet_so = h.1.2.2;
       })
       (λ c. (c.apart, (c.first, c.first_is, (c.second, c.second_is, c.meet_so))))
@@ -71,12 +70,18 @@ module _ (shapes : List Shape) where
   starts_within : (i j : ℕ) → Contact shapes i j → i < length shapes
   starts_within i j c = slice_get_within shapes i c.first c.first_is
 
-  pub dec_part : (datatype i : ℕ) → Dec (IsPart shapes datatype i)
+  abbrev pub dec_part : (datatype i : ℕ) → Dec (IsPart shapes datatype i)
   dec_part datatype i = dec_same
       (λ h. record { shape = h.0; shape_is = h.1; line_so = h.2.0; datatype_is = h.2.1 })
       (λ p. (p.shape, p.shape_is, (p.line_so, p.datatype_is)))
       (dec_item shapes i (λ s. (is_line s ≡ true) × (s.datatype ≡ datatype))
       (λ s is. dec_both (dec_true (is_line s)) (dec_equal s.datatype datatype)))
+
+  -- a part, and what is said further of its shape
+  abbrev pub dec_part_with : (datatype i : ℕ) (Q : Shape → Type 0) → ((s : Shape) → Dec (Q s))
+      → Dec ((part : IsPart shapes datatype i) × Q part.shape)
+  dec_part_with datatype i =
+      dec_about shapes (IsPart shapes datatype i) i (λ p. p.shape) (λ p. p.shape_is) (dec_part datatype i)
 
   pub part_within : (datatype i : ℕ) → IsPart shapes datatype i → i < length shapes
   part_within datatype i p = slice_get_within shapes i p.shape p.shape_is

@@ -1,7 +1,7 @@
 -- When two lines, each of a start and one bar, excite the rows, computed.
 use Rattle.std.proofs.Common.{◌≡◌, ◌≢◌, ℕ, length, ◌<◌, suc, zero, ◌&&◌, ◌||◌, Bool, true, false, List, [], ◌∷◌, Some}
-use Rattle.std.proofs.Common.{sym, ap, subst, ◌∙◌, arith, eq-eqb, inl, inr, slice_get, slice_index, ◌==◌, ◌%◌, not}
-use Rattle.std.proofs.Common.{count_by}
+use Rattle.std.proofs.Common.{refl, sym, ap, subst, ◌∙◌, arith, eq-eqb, inl, inr, slice_get, slice_index, ◌==◌, ◌%◌}
+use Rattle.std.proofs.Common.{not, count_by}
 use Rattle.std.proofs.lemmas.Bool.{both_ways, and_from, and_parts, or_cases, eqb-true, false_from_ne_true}
 use Rattle.std.proofs.lemmas.Bool.{not_from_false}
 use Rattle.std.proofs.lemmas.Option.{same_Some}
@@ -9,7 +9,7 @@ use Rattle.geom.specs.declared.shapes.Shape.{Shape}
 use Rattle.geom.specs.Rectangle.{overlap, within}
 use Rattle.layout_rules.specs.declared.layers.TheConstants.{EVEN_LINE, ODD_LINE, BAR, LINK, START}
 use Rattle.layout_rules.specs.Layers.{is_line, is_frame}
-use Rattle.layout_rules.specs.Reports.{ReportsNone, Passes}
+use Rattle.layout_rules.specs.Reports.{ReportsNone, Passes, Alone, Afterwards, IsFirstReport}
 use Rattle.layout_rules.specs.ExcitationLines.{meet, Contact, IsPart, IsReached, enters, phase_of, is_on, IsLine}
 use Rattle.layout_rules.proofs.PlaceLaws.{count_by-one}
 use Rattle.layout_rules.proofs.LineLaws.{Contact-back}
@@ -18,7 +18,8 @@ use Rattle.layout_rules.specs.ExcitationRule.{is_no_part, HasOneStart, LacksOneS
 use Rattle.layout_rules.specs.ExcitationRule.{IsCutOff, ExcitationBroken}
 use Rattle.layout_rules.specs.Code.LineChains.{ChainBefore, HasChainPhase}
 use Rattle.layout_rules.specs.Code.ChainRule.{IsChainUncrossed, IsChainExcited, IsChainUnexcited, ChainsBroken}
-use Rattle.layout_rules.proofs.LinesAgree.{excitation_none}
+use Rattle.layout_rules.proofs.LinesAgree.{excitation_none, excitation_first}
+use Rattle.layout_rules.proofs.ReportLaws.{Afterwards-first, Afterwards-second, alone_first}
 use Rattle.layout_rules.proofs.Places.{places, IsOneOf, one_of, place_at, place_of, at_one, second_place}
 
 abbrev pub is_part : ℕ → Shape → Bool
@@ -48,8 +49,7 @@ one_start shapes layer i s p line start of_layer alone = record {
       shape = s;
       shape_is = p;
       line_so = line;
-      datatype_is =
-          start;
+      datatype_is = start;
     };
     of_layer = of_layer;
   };
@@ -76,8 +76,7 @@ contact_place shapes i c s p k = second_place meet shapes i c s p
       first = k.first;
       second = k.second;
       first_is = k.first_is;
-      second_is =
-          k.second_is;
+      second_is = k.second_is;
       passes_so = k.meet_so;
     })
 
@@ -148,7 +147,7 @@ module _ (shapes : List Shape) (start bar : ℕ) (line : IsShortLine shapes star
   abbrev start_part : IsPart shapes START start
   start_part = record { shape = s; shape_is = s_is; line_so = s_line; datatype_is = s_start }
 
-  abbrev pub bar_part : IsPart shapes BAR bar
+  abbrev bar_part : IsPart shapes BAR bar
   bar_part = record { shape = t; shape_is = t_is; line_so = t_line; datatype_is = t_bar }
 
   to_bar : Contact shapes start bar
@@ -161,7 +160,7 @@ module _ (shapes : List Shape) (start bar : ℕ) (line : IsShortLine shapes star
   contact_of_start c k = other_of
       (subst (IsOneOf c) of_start (contact_place shapes start c s s_is k)) (λ e. k.apart (sym e))
 
-  pub contact_of_bar : (c : ℕ) → Contact shapes bar c → c ≡ start
+  contact_of_bar : (c : ℕ) → Contact shapes bar c → c ≡ start
   contact_of_bar c k = first_of (subst (IsOneOf c) of_bar (contact_place shapes bar c t t_is k)) (λ e. k.apart (sym e))
 
   pub start_joined : HasItsContacts shapes start
@@ -194,23 +193,36 @@ module _ (shapes : List Shape) (start bar : ℕ) (line : IsShortLine shapes star
   pub bar_before : ChainBefore shapes start bar
   bar_before = record { rest = []; chain = (to_bar, start_part); onward = tt }
 
-  from_start : (h : IsChainUncrossed shapes bar) → h.before ≡ start
-  from_start h = contact_of_bar h.before (Contact-back h.is_before.chain.0)
+  from_start : (before : ℕ) → ChainBefore shapes before bar → before ≡ start
+  from_start before comes = contact_of_bar before (Contact-back comes.chain.0)
 
-  entered : (h : IsChainUncrossed shapes bar) → enters h.before_shape h.bar.shape ≡ enters s t
-  entered h =
-      let at : slice_get shapes start ≡ Some h.before_shape =
-      subst (λ (n : ℕ). slice_get shapes n ≡ Some h.before_shape) (from_start h) h.before_shape_is in
-      let one : h.before_shape ≡ s = sym (same_Some s h.before_shape (sym s_is ∙ at)) in
-      let two : h.bar.shape ≡ t = sym (same_Some t h.bar.shape (sym t_is ∙ h.bar.shape_is)) in
-      ap (λ (v : Shape). enters v h.bar.shape) one ∙ ap (λ (v : Shape). enters s v) two
+  -- so what is told of the two shapes is told of s and t
+  of_both : {X : Type 0} (f : Shape → Shape → X) (before : ℕ) (before_shape bar_shape : Shape)
+      → ChainBefore shapes before bar → slice_get shapes before ≡ Some before_shape
+      → slice_get shapes bar ≡ Some bar_shape → f s t ≡ f before_shape bar_shape
+  of_both f before before_shape bar_shape comes p q =
+      let at : slice_get shapes start ≡ Some before_shape =
+      subst (λ (n : ℕ). slice_get shapes n ≡ Some before_shape) (from_start before comes) p in
+      ap (λ (v : Shape). f v t) (same_Some s before_shape (sym s_is ∙ at))
+      ∙ ap (λ (v : Shape). f before_shape v) (same_Some t bar_shape (sym t_is ∙ q))
 
   -- nothing comes before the bar but the start, and nothing after it
   pub bar_crossed : enters s t ≡ true → IsChainUncrossed shapes bar → ⊥
   bar_crossed enters_so h = elim h.wrong [
-    | inl e ↦ both_ways (enters s t) (sym (entered h) ∙ e) enters_so
-    | inr l ↦ l.onward (contact_of_bar l.after l.contact ∙ sym (from_start h))
+    | inl e ↦ both_ways (enters s t)
+        (of_both enters h.before h.before_shape h.bar.shape h.is_before h.before_shape_is h.bar.shape_is ∙ e) enters_so
+    | inr l ↦ l.onward (contact_of_bar l.after l.contact ∙ sym (from_start h.before h.is_before))
   ]
+
+  bar_uncrossed : enters s t ≡ false → IsChainUncrossed shapes bar
+  bar_uncrossed wrong = record {
+    bar = bar_part;
+    before = start;
+    before_shape = s;
+    before_shape_is = s_is;
+    is_before = bar_before;
+    wrong = inl wrong;
+  }
 
   abbrev pub bar_phase : (phase : ℕ) → phase_of s t ≡ phase → HasChainPhase shapes bar phase
   bar_phase phase e = record {
@@ -218,8 +230,7 @@ module _ (shapes : List Shape) (start bar : ℕ) (line : IsShortLine shapes star
     before = start;
     before_shape = s;
     before_shape_is = s_is;
-    is_before =
-        bar_before;
+    is_before = bar_before;
     phase_is = e;
   }
 
@@ -251,6 +262,22 @@ module _ (shapes : List Shape) (start bar : ℕ) (line : IsShortLine shapes star
             (and_from (is_line l) (overlap l.rect frame.rect) part o) t_is
             (and_from (is_line t) (overlap t.rect frame.rect) t_line one.1);
       }
+
+  -- the bar contains the frame and has the phase of its row, as it does where it excites it
+  abbrev pub serves : Shape → Bool
+  serves frame = phase_of s t == row_of shapes frame.rect.y0 % 4 && within frame.rect t.rect
+
+  served : (frame : Shape) (e : IsChainExcited shapes frame) → e.bar ≡ bar → serves frame ≡ true
+  served frame e same =
+      let bar_is : slice_get shapes bar ≡ Some e.phase.is_bar.shape =
+      subst (λ (n : ℕ). slice_get shapes n ≡ Some e.phase.is_bar.shape) same e.phase.is_bar.shape_is in
+      let comes : ChainBefore shapes e.phase.before bar = subst (ChainBefore shapes e.phase.before) same
+      e.phase.is_before in
+      let phase : phase_of s t ≡ row_of shapes frame.rect.y0 % 4 = of_both phase_of e.phase.before
+      e.phase.before_shape e.phase.is_bar.shape comes e.phase.before_shape_is bar_is ∙ e.phase.phase_is in
+      and_from (phase_of s t == row_of shapes frame.rect.y0 % 4) (within frame.rect t.rect)
+      (eq-eqb (phase_of s t) (row_of shapes frame.rect.y0 % 4) phase)
+      (ap (λ (v : Shape). within frame.rect v.rect) (same_Some t e.phase.is_bar.shape (sym t_is ∙ bar_is)) ∙ e.contains)
 
 -- where a layer has these two shapes alone, they are its path
 pub line_of_two : (shapes : List Shape) (layer start bar : ℕ) (line : IsShortLine shapes start bar)
@@ -361,6 +388,44 @@ module _ (shapes : List Shape) (a b c d : ℕ) (are : AreLines shapes a b c d) w
   chains_kept even odd none x y (inr (n, inr (m, inr (l, inr (k, inr (j, inl h)))))) = crossed_kept even odd x h.0
   chains_kept even odd none x y (inr (n, inr (m, inr (l, inr (k, inr (j, inr (i, h))))))) =
       subst (IsOneOf x) none (unexcited_place x h.0)
+
+  -- so where the lines stand, and each part is reached, what is found first is a bar or a frame
+  found_after : (x y : ℕ)
+      → IsFirstReport (Afterwards (Alone (IsChainUncrossed shapes)) (Alone (IsChainUnexcited shapes))) x y
+      → IsFirstReport (ExcitationBroken shapes) x y
+  found_after x y found = excitation_first shapes x y
+      (Afterwards-second (Alone (Passes is_no_part shapes)) _ x y (λ m n h. parts_kept m h.0)
+      (Afterwards-second (Alone (LacksOneStart shapes EVEN_LINE)) _ x y (λ m n h. even_kept m h.0)
+      (Afterwards-second (Alone (LacksOneStart shapes ODD_LINE)) _ x y (λ m n h. odd_kept m h.0)
+      (Afterwards-second (Alone (IsMisjoined shapes)) _ x y (λ m n h. joined_kept m h.0)
+      (Afterwards-second (Alone (IsCutOff shapes)) _ x y (λ m n h. reached_kept m h.0) found)))))
+
+  -- the start of the even line alone comes to its bar by a wrong side
+  pub first_uncrossed : enters are.even.s are.even.t ≡ false → enters are.odd.s are.odd.t ≡ true
+      → IsFirstReport (ExcitationBroken shapes) b b
+  first_uncrossed even odd = found_after b b (Afterwards-first (Alone (IsChainUncrossed shapes)) _ b b
+      (alone_first (IsChainUncrossed shapes) b (bar_uncrossed shapes a b are.even even) (λ n h.
+      at_one (λ k. IsChainUncrossed shapes k → k ≡ b) n (b ∷ d ∷ [])
+      (subst (IsOneOf n) are.bars (part_place shapes BAR n h.bar))
+      (λ m. refl, (λ m. absurd (bar_crossed shapes c d are.odd odd m), tt)) h)))
+
+  -- one frame alone is not excited
+  pub first_unexcited : enters are.even.s are.even.t ≡ true → enters are.odd.s are.odd.t ≡ true → (n : ℕ)
+      → (frame : Shape) → slice_get shapes n ≡ Some frame → is_frame frame ≡ true
+      → serves shapes a b are.even frame ≡ false → serves shapes c d are.odd frame ≡ false
+      → places is_unexcited shapes ≡ n ∷ [] → IsFirstReport (ExcitationBroken shapes) n n
+  first_unexcited even odd n frame frame_is frame_so not_even not_odd alone = found_after n n
+      (Afterwards-second (Alone (IsChainUncrossed shapes)) _ n n (λ x y h. crossed_kept even odd x h.0)
+      (alone_first (IsChainUnexcited shapes) n
+      (record { frame = record { shape = frame; shape_is = frame_is; passes_so = frame_so }; not_so = not_so })
+      (λ k h. one_of (subst (IsOneOf k) alone (unexcited_place k h)))))
+    where
+      not_so : IsChainExcited shapes frame → ⊥
+      not_so e = elim (subst (IsOneOf e.bar) are.bars (part_place shapes BAR e.bar e.phase.is_bar)) [
+        | inl same ↦ both_ways (serves shapes a b are.even frame) not_even (served shapes a b are.even frame e same)
+        | inr rest ↦ both_ways (serves shapes c d are.odd frame) not_odd
+            (served shapes c d are.odd frame e (one_of rest))
+      ]
 
   pub excitation_kept : enters are.even.s are.even.t ≡ true → enters are.odd.s are.odd.t ≡ true
       → places is_unexcited shapes ≡ [] → ReportsNone (ExcitationBroken shapes)

@@ -118,8 +118,7 @@ module _ (shapes : List Shape) (lines : AreLaidOut shapes) (cut : ReportsNone (A
         (record {
           rest = before ∷ comes.rest;
           chain = (wrongly.contact, comes.chain);
-          onward =
-              (wrongly.onward, comes.onward);
+          onward = (wrongly.onward, comes.onward);
         });
     wrong = wrongly.wrong;
   }
@@ -222,8 +221,7 @@ module _ (shapes : List Shape) where
       → IsFirstReport (ExcitationBroken shapes) a b
   excitation_first a b first = record {
     reported = by_paths a b first.reported;
-    least =
-        λ c d h. first.least c d (by_chains c d h);
+    least = λ c d h. first.least c d (by_chains c d h);
   }
 
 -- ---- what is known where nothing is reported
@@ -245,8 +243,7 @@ module _ (shapes : List Shape) (kept : ReportsNone (ExcitationBroken shapes)) wh
   laid_out = record {
     parts = first_kept _ _ kept;
     even = first_kept _ _ after_parts;
-    odd =
-        first_kept _ _ after_even;
+    odd = first_kept _ _ after_even;
     contacts = first_kept _ _ after_odd;
   }
 

@@ -43,8 +43,7 @@ Touching-back t = record {
   first = t.second;
   second = t.first;
   first_is = t.second_is;
-  second_is =
-      t.first_is;
+  second_is = t.first_is;
   touch_so = touch_comm t.second t.first ∙ t.touch_so;
 }
 

@@ -142,8 +142,7 @@ module _ (shapes : List Shape) where
         label = l.label;
         joined = l.joined;
         not_above = l.not_above;
-        agree = λ i j d t. l.agree i j (some i j d)
-            t;
+        agree = λ i j d t. l.agree i j (some i j d) t;
       }
 
   -- the rows below k are done, and of row k the first m pairs

@@ -27,8 +27,7 @@ list_any-place test (x ∷ xs) e = elim (or_cases (test x) (list_any test xs) e)
       list_any-place test xs later in record {
         place = suc p.place;
         item = p.item;
-        item_is =
-            p.item_is;
+        item_is = p.item_is;
         passes_so = p.passes_so;
       }
 ]

@@ -1,10 +1,8 @@
 -- At which places of a written-out list a test is passed, computed.
 use Rattle.std.proofs.Common.{◌≡◌, ℕ, zero, suc, ◌+◌, ◌⊎◌, Bool, true, false, List, [], ◌∷◌, length, Some, refl, sym}
 use Rattle.std.proofs.Common.{ap, subst, ◌∙◌, arith, inl, inr, slice_get, slice_index, zip}
-use Rattle.std.specs.List.{list_any}
 use Rattle.std.proofs.lemmas.Option.{same_Some}
 use Rattle.geom.specs.declared.shapes.Shape.{Shape}
-use Rattle.layout_rules.proofs.PlaceLaws.{list_any-at}
 use Rattle.layout_rules.specs.Reports.{Passes, PassTogether}
 
 -- the places from k on

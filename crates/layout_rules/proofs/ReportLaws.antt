@@ -1,5 +1,5 @@
 -- How the first report of a rule comes from searches over its parts.
-use Rattle.std.proofs.Common.{◌≡◌, ℕ, ◌<◌, refl, sym, subst, arith, inl, inr}
+use Rattle.std.proofs.Common.{◌≡◌, ℕ, ◌<◌, ◌≤◌, refl, sym, subst, arith, inl, inr}
 use Rattle.std.proofs.lemmas.Bool.{cases_order}
 use Rattle.layout_rules.specs.Reports.{ReportsNone, ReportsNoneAt, Alone, Afterwards, Otherwise, IsFirstReport}
 use Rattle.layout_rules.specs.Reports.{IsFirstAt}
@@ -18,6 +18,16 @@ IsFirstReport-at report a b here before = record {
 -- a fault of one number
 pub Alone-first : (fault : ℕ → Type 0) (a : ℕ) → fault a → IsFirstAt (Alone fault) a a
 Alone-first fault a h = record { reported = (h, refl); least = λ d k. (let e : d ≡ a = k.1 in omega arith) }
+
+-- a fault of one number, and none of a lesser one
+pub least_first : (fault : ℕ → Type 0) (k : ℕ) → fault k → ((c : ℕ) → fault c → k ≤ c) → IsFirstReport (Alone fault) k k
+least_first fault k here least = IsFirstReport-at (Alone fault) k k (Alone-first fault k here)
+    (λ c less d h. let le : k ≤ c = least c h.0 in omega arith)
+
+-- a fault of one number alone
+pub alone_first : (fault : ℕ → Type 0) (k : ℕ) → fault k → ((c : ℕ) → fault c → c ≡ k)
+    → IsFirstReport (Alone fault) k k
+alone_first fault k here only = least_first fault k here (λ c h. let same : c ≡ k = only c h in omega arith)
 
 pub Alone-none : (fault : ℕ → Type 0) (a : ℕ) → (fault a → ⊥) → ReportsNoneAt (Alone fault) a
 Alone-none fault a h b k = h k.0

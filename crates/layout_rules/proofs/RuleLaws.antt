@@ -1,16 +1,16 @@
 -- The first broken rule and its report are one, and whoever keeps all rules has none.
 use Rattle.std.proofs.Common.{◌≡◌, ℕ, suc, ◌<◌, ◌≤◌, ◌⊎◌, Bool, true, ◌&&◌, List, [], ◌∷◌, Some, length, refl, sym, ap}
 use Rattle.std.proofs.Common.{◌∙◌, subst, arith, inl, inr, slice_get, ◌==◌}
-use Rattle.std.proofs.lemmas.Bool.{cases_order, cases_lt}
+use Rattle.std.proofs.lemmas.Bool.{cases_order}
 use Rattle.std.proofs.lemmas.Option.{same_Some, slice_get_within}
 use Rattle.geom.specs.declared.shapes.Flat.{Flat}
 use Rattle.layout_rules.specs.declared.rule.Rule.{Rule}
 use Rattle.layout_rules.specs.declared.rule.Rule.TheVariants.{E1, E2, E3, E4, E5, E6, G1, G2, G3, G4, G5}
 use Rattle.layout_rules.specs.Limits.{Limits}
 use Rattle.layout_rules.specs.Reports.{IsFirstReport}
-use Rattle.layout_rules.specs.RuleTable.{place, first_of_geometry}
-use Rattle.layout_rules.specs.Rules.{Broken, Keeps, KeepsRules, KeepsBefore, KeepsCircuitRules, KeepsGeometryRules}
-use Rattle.layout_rules.specs.Rules.{FirstBroken, FirstBrokenOfGeometry, IsOneReport}
+use Rattle.layout_rules.specs.RuleTable.{place}
+use Rattle.layout_rules.specs.Rules.{Broken, Keeps, KeepsRules, KeepsBefore}
+use Rattle.layout_rules.specs.Rules.{FirstBroken, IsOneReport}
 
 -- all rules in the order of their places
 unfoldable pub rules : List Rule

@@ -15,17 +15,17 @@ use Rattle.layout_rules.specs.Rows.{row_of}
 use Rattle.layout_rules.proofs.Lines.{IsShortLine, AreLines, is_start_on, is_part, excitation_kept}
 use Rattle.layout_rules.proofs.Places.{places}
 
-same_list : (xs ys : List ℕ) → bytes_eq xs ys ≡ true → xs ≡ ys
+pub same_list : (xs ys : List ℕ) → bytes_eq xs ys ≡ true → xs ≡ ys
 same_list xs ys h = search (rules, bytes_eq-Decides)
 
 -- s and t, the shapes of these numbers, are a start and its bar, and meet no other shape
-abbrev short_line : List Shape → ℕ → ℕ → Shape → Shape → Bool
+abbrev pub short_line : List Shape → ℕ → ℕ → Shape → Shape → Bool
 short_line shapes a b s t =
     (is_part START s && is_part BAR t)
     && ((meet s t && meet t s)
     && (bytes_eq (places (meet s) shapes) (a ∷ b ∷ []) && bytes_eq (places (meet t) shapes) (a ∷ b ∷ [])))
 
-abbrev short_line_so : (shapes : List Shape) (a b : ℕ) (s t : Shape) → slice_get shapes a ≡ Some s
+abbrev pub short_line_so : (shapes : List Shape) (a b : ℕ) (s t : Shape) → slice_get shapes a ≡ Some s
     → slice_get shapes b ≡ Some t
     → short_line shapes a b s t ≡ true → IsShortLine shapes a b
 short_line_so shapes a b s t s_is t_is h =
@@ -64,7 +64,7 @@ excites shapes s t frame =
 -- a chip with the start s and bar t of the even line, and u and v of the odd one
 module _ (shapes : List Shape) (a b c d : ℕ) (s t u v : Shape) where
   -- all that stands on the layers of lines
-  abbrev parts_test : Bool
+  abbrev pub parts_test : Bool
   parts_test =
       (bytes_eq (places is_no_part shapes) [] && bytes_eq (places is_line shapes) (a ∷ b ∷ c ∷ d ∷ []))
       && ((bytes_eq (places (is_start_on EVEN_LINE) shapes) (a ∷ []) && bytes_eq
@@ -77,23 +77,27 @@ module _ (shapes : List Shape) (a b c d : ℕ) (s t u v : Shape) where
       (enters s t && enters u v)
       && bytes_eq (places (λ f. is_frame f && not (excites shapes s t f || excites shapes u v f)) shapes) []
 
+  abbrev pub stand_test : Bool
+  stand_test = (short_line shapes a b s t && short_line shapes c d u v) && parts_test
+
   abbrev pub lines_test : Bool
-  lines_test = (short_line shapes a b s t && short_line shapes c d u v) && (parts_test && excited_test)
+  lines_test = stand_test && excited_test
 
   module _ (s_is : slice_get shapes a ≡ Some s) (t_is : slice_get shapes b ≡ Some t)
       (u_is : slice_get shapes c ≡ Some u) (v_is : slice_get shapes d ≡ Some v) where
-    abbrev are_lines : short_line shapes a b s t ≡ true → short_line shapes c d u v ≡ true → parts_test ≡ true
-        → AreLines shapes a b c d
-    are_lines even odd h =
-        let two : _ × _ = and_parts _ _ h in
+    abbrev pub are_lines : stand_test ≡ true → AreLines shapes a b c d
+    are_lines h =
+        let both : _ × _ = and_parts _ _ h in
+        let lines : _ × _ = and_parts _ _ both.0 in
+        let two : _ × _ = and_parts _ _ both.1 in
         let all : _ × _ = and_parts _ _ two.0 in
         let rest : _ × _ = and_parts _ _ two.1 in
         let starts : _ × _ = and_parts _ _ rest.0 in
         let bars : _ × _ = and_parts _ _ rest.1 in
         let layers : _ × _ = and_parts _ _ bars.1 in
         record {
-          even = short_line_so shapes a b s t s_is t_is even;
-          odd = short_line_so shapes c d u v u_is v_is odd;
+          even = short_line_so shapes a b s t s_is t_is lines.0;
+          odd = short_line_so shapes c d u v u_is v_is lines.1;
           no_others = same_list _ _ all.0;
           even_start = same_list _ _ starts.0;
           odd_start = same_list _ _ starts.1;
@@ -106,13 +110,11 @@ module _ (shapes : List Shape) (a b c d : ℕ) (s t u v : Shape) where
     lines_so : lines_test ≡ true → ReportsNone (ExcitationBroken shapes)
     lines_so h =
         let two : _ × _ = and_parts _ _ h in
-        let lines : _ × _ = and_parts _ _ two.0 in
-        let rest : _ × _ = and_parts _ _ two.1 in
-        let excited : _ × _ = and_parts _ _ rest.1 in
+        let excited : _ × _ = and_parts _ _ two.1 in
         let enter : _ × _ = and_parts _ _ excited.0 in
         let none : places (λ f. is_frame f && not (excites shapes s t f || excites shapes u v f)) shapes ≡ [] =
         same_list _ _ excited.1 in
-        excitation_kept shapes a b c d (are_lines lines.0 lines.1 rest.0) enter.0 enter.1 none
+        excitation_kept shapes a b c d (are_lines two.0) enter.0 enter.1 none
 
 -- the lines of a chip keep their rule, by what is computed of their shapes
 pub lines_kept : (shapes : List Shape) (a b c d : ℕ) {s t u v : Shape} → slice_get shapes a ≡ Some s

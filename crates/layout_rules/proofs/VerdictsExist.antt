@@ -27,8 +27,7 @@ module _ (flat : Flat) (limits : Limits) where
     | inr found ↦ inr (record {
       first = found.first;
       second = found.second;
-      is_first =
-          excitation_first flat.shapes found.first found.second found.is_first;
+      is_first = excitation_first flat.shapes found.first found.second found.is_first;
     })
   ]
   rule_judged E3 = nets_judged flat (some_nets flat.shapes)
@@ -55,8 +54,7 @@ module _ (flat : Flat) (limits : Limits) where
       second = found.second;
       is_first = record {
         report = found.is_first;
-        kept_before =
-            subst (λ (m : ℕ). KeepsBelow m flat limits) (sym e) kept;
+        kept_before = subst (λ (m : ℕ). KeepsBelow m flat limits) (sym e) kept;
       };
     })
   ]

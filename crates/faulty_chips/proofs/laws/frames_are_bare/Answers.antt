@@ -1,4 +1,5 @@
-use Rattle.faulty_chips.proofs.GeometryJudged.{overhanging_wire, wider_wire, covering_metal, nearly_beside_metal, beside_metal}
+use Rattle.faulty_chips.proofs.GeometryJudged.{overhanging_wire, wider_wire, covering_metal, nearly_beside_metal}
+use Rattle.faulty_chips.proofs.GeometryJudged.{beside_metal}
 use Rattle.faulty_chips.proofs.laws.frames_are_bare.Goals as goal
 
 pub returns-clause-wire : goal.returns-clause-wire

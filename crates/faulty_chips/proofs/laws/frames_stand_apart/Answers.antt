@@ -1,4 +1,5 @@
-use Rattle.faulty_chips.proofs.GeometryJudged.{overlapping_frames, nearly_touching_frames, uneven_frames, touching_frames}
+use Rattle.faulty_chips.proofs.GeometryJudged.{overlapping_frames, nearly_touching_frames, uneven_frames}
+use Rattle.faulty_chips.proofs.GeometryJudged.{touching_frames}
 use Rattle.faulty_chips.proofs.laws.frames_stand_apart.Goals as goal
 
 pub returns-clause-overlapping : goal.returns-clause-overlapping

@@ -1,11 +1,6 @@
-use Rattle.faulty_chips.proofs.UnknownPart.{unknown_part}
-use Rattle.faulty_chips.proofs.NoStart.{no_start}
-use Rattle.faulty_chips.proofs.SecondStart.{two_starts}
-use Rattle.faulty_chips.proofs.ShortStart.{short_start}
 use Rattle.faulty_chips.proofs.CutOffLine.{cut_off_line}
-use Rattle.faulty_chips.proofs.StartBelow.{start_below}
-use Rattle.faulty_chips.proofs.ShortBar.{short_bar}
-use Rattle.faulty_chips.proofs.StartAtRight.{start_at_right}
+use Rattle.faulty_chips.proofs.LinesJudged.{unknown_part, no_start, two_starts, short_start, start_below, short_bar}
+use Rattle.faulty_chips.proofs.LinesJudged.{start_at_right}
 use Rattle.faulty_chips.proofs.laws.lines_excite_rows.Goals as goal
 
 pub returns-clause-part : goal.returns-clause-part
