@@ -12,5 +12,8 @@ four false b c d e = absurd cc
 pub le_of : (a b : ℕ) → int_le (pos a) (pos b) ≡ true → a ≤ b
 le_of a b e = grind (arith, nat_tests)
 
+pub not_lt : (a b : ℕ) → int_lt (pos a) (pos b) ≡ false → b ≤ a
+not_lt a b e = grind (arith, nat_tests)
+
 pub lt_of : (a b : ℕ) → int_lt (pos a) (pos b) ≡ true → a < b
 lt_of a b e = grind (arith, nat_tests)

@@ -1,18 +1,18 @@
 -- The rules of a drawing, over its flat form.
-use Rattle.std.proofs.Common.{◌≡◌, ℕ, zero, suc, ◌+◌, ◌-◌, ◌%◌, ◌<◌, ◌≤◌, min, max, cond, Bool, true, false, ◌||◌, ◌&&◌}
-use Rattle.std.proofs.Common.{refl, sym, ap, subst, ◌∙◌, arith, ◌⊎◌, inl, inr, List}
+use Rattle.std.proofs.Common.{◌≡◌, ℕ, zero, suc, ◌+◌, ◌-◌, ◌/◌, ◌%◌, ◌<◌, ◌≤◌, min, max, cond, Bool, true, false, ◌||◌}
+use Rattle.std.proofs.Common.{◌&&◌, refl, sym, ap, subst, ◌∙◌, arith, ◌⊎◌, inl, inr, List}
 use Rattle.std.specs.Prelude.{pos, ◌-ℤ◌, ℤ, int_le, int_lt, nat_lt}
 use Rattle.std.proofs.lemmas.Bool.Decides.{nat_tests}
 use Rattle.std.proofs.lemmas.Int.{ints}
 use Rattle.std.specs.Int.{int_min, int_max}
 use Rattle.geom.specs.Rectangle.{common, Rectangle, overlap, within, width, height, grown}
-use Rattle.cell_library.specs.Library.{limits_of}
+use Rattle.cell_library.specs.Library.{LibraryView, limits_of}
 use Rattle.layout_make.proofs.Lawful.{IsLawful}
 use Rattle.circuit.specs.declared.cell_kind.CellKind.{CellKind}
 use Rattle.geom.specs.declared.shapes.Shape.{Shape}
 use Rattle.layout_rules.specs.GeometryRules.{are_too_close, is_below, is_too_small}
 use Rattle.layout_make.specs.Sheet.{Sheet, Tag, Area, Frame, InPin, OutPin, Lead, Bar, Rise, Fall, Across, FromVia}
-use Rattle.layout_make.specs.Sheet.{ToVia, area, layer_of, rect_of, place_of, shape_of, lower_edge}
+use Rattle.layout_make.specs.Sheet.{ToVia, area, layer_of, rect_of, place_of, shape_of, lower_edge, track_of}
 use Rattle.layout_make.specs.declared.marks.Ports.{Ports as Side}
 use Rattle.layout_make.specs.declared.marks.Ports.TheVariants.{Inputs, Outputs}
 use Rattle.layout_make.proofs.Sides.{pin_tag, layer_on}
@@ -29,7 +29,7 @@ use Rattle.layout_make.proofs.ShapeSizes.{across_covers_from, across_covers_to}
 use Rattle.layout_make.proofs.Cells.{Inside, Overlaps, pin_inside, frames_overlap, rise_over}
 use Rattle.layout_make.proofs.Cells.{fall_over, across_over, rows_meet}
 use Rattle.layout_make.proofs.Columns.{track_above}
-use Rattle.layout_make.proofs.Comparing.{four, le_of, lt_of}
+use Rattle.layout_make.proofs.Comparing.{four, le_of, lt_of, not_lt}
 
 -- from areas to tests
 
@@ -44,8 +44,7 @@ inside_test a b h = plain a.left a.low a.right a.high b.left b.low b.right b.hig
 
 pub test_inside : (a b : Area) → within (rect_of a) (rect_of b) ≡ true → Inside a b
 test_inside a b e =
-    let h = four (int_le (pos b.left) (pos a.left)) (int_le (pos a.right) (pos b.right))
-    (int_le (pos b.low) (pos a.low)) (int_le (pos a.high) (pos b.high)) e in
+    let h = four _ _ _ _ e in
     record {
       left_so = le_of b.left a.left h.0;
       low_so = le_of b.low a.low h.2;
@@ -55,8 +54,7 @@ test_inside a b e =
 
 pub test_overlaps : (a b : Area) → overlap (rect_of a) (rect_of b) ≡ true → Overlaps a b
 test_overlaps a b e =
-    let h = four (int_lt (pos a.left) (pos b.right)) (int_lt (pos b.left) (pos a.right))
-    (int_lt (pos a.low) (pos b.high)) (int_lt (pos b.low) (pos a.high)) e in
+    let h = four _ _ _ _ e in
     record {
       left_so = lt_of a.left b.right h.0;
       right_so = lt_of b.left a.right h.1;
@@ -89,6 +87,21 @@ covers_test n v m c =
     ∙ inside_test (record { left = v.left - n; low = v.low - n; right = v.right + n; high = v.high + n }) m
     (record { left_so = omega arith; low_so = omega arith; right_so = omega arith; high_so = omega arith })
 
+-- no more than its own size is asked of metal or a via, and none of a line
+of_metal : (b : Bool) → b ≡ false → (b || false || false) ≡ false
+of_metal true e = e
+of_metal false e = refl
+
+of_via : (b : Bool) → b ≡ false → (b || false) ≡ false
+of_via true e = e
+of_via false e = refl
+
+of_line : (l : LibraryView) (n : ℕ) → n < 2 → (x : Rectangle)
+    → is_too_small (limits_of l) (record { layer = 14 + n; datatype = 0; rect = x }) ≡ false
+of_line l zero h x = refl
+of_line l (suc zero) h x = refl
+of_line l (suc (suc n)) h x = absurd (omega arith)
+
 -- G1
 pub sized : (s : Sheet) → IsLawful s.library → (t : Tag) → Fits s t
     → is_too_small (limits_of s.library) (shape_of s t) ≡ false
@@ -97,50 +110,18 @@ sized s laws (InPin r c i) fits = sized_test s.library.wire s.library.pin (area 
     (pin_sized s laws Inputs r c i)
 sized s laws (OutPin r c i) fits = sized_test s.library.wire s.library.pin (area s (OutPin r c i))
     (pin_sized s laws Outputs r c i)
-sized s laws (Rise r c) fits = none (is_below s.library.wire s.library.wire (place_of s (Rise r c)))
+sized s laws (Rise r c) fits = of_metal (is_below s.library.wire s.library.wire (place_of s (Rise r c)))
     (sized_test s.library.wire s.library.wire (area s (Rise r c)) (rise_sized s laws r c))
-  where
-    none : (b : Bool) → b ≡ false → (b || false || false) ≡ false
-    none true e = e
-    none false e = refl
-sized s laws (Fall r c) fits = none (is_below s.library.wire s.library.wire (place_of s (Fall r c)))
+sized s laws (Fall r c) fits = of_metal (is_below s.library.wire s.library.wire (place_of s (Fall r c)))
     (sized_test s.library.wire s.library.wire (area s (Fall r c)) (fall_sized s laws r c fits))
-  where
-    none : (b : Bool) → b ≡ false → (b || false || false) ≡ false
-    none true e = e
-    none false e = refl
-sized s laws (Across r c) fits = none (is_below s.library.wire s.library.wire (place_of s (Across r c)))
+sized s laws (Across r c) fits = of_metal (is_below s.library.wire s.library.wire (place_of s (Across r c)))
     (sized_test s.library.wire s.library.wire (area s (Across r c)) (across_sized s laws r c))
-  where
-    none : (b : Bool) → b ≡ false → (b || false || false) ≡ false
-    none true e = e
-    none false e = refl
-sized s laws (FromVia r c) fits = none (is_below s.library.via s.library.via (place_of s (FromVia r c)))
+sized s laws (FromVia r c) fits = of_via (is_below s.library.via s.library.via (place_of s (FromVia r c)))
     (sized_test s.library.via s.library.via (area s (FromVia r c)) (from_sized s laws r c))
-  where
-    none : (b : Bool) → b ≡ false → (b || false) ≡ false
-    none true e = e
-    none false e = refl
-sized s laws (ToVia r c) fits = none (is_below s.library.via s.library.via (place_of s (ToVia r c)))
+sized s laws (ToVia r c) fits = of_via (is_below s.library.via s.library.via (place_of s (ToVia r c)))
     (sized_test s.library.via s.library.via (area s (ToVia r c)) (to_sized s laws r c))
-  where
-    none : (b : Bool) → b ≡ false → (b || false) ≡ false
-    none true e = e
-    none false e = refl
-sized s laws (Lead r) fits = line (r % 2) (omega arith) (place_of s (Lead r))
-  where
-    line : (n : ℕ) → n < 2 → (x : Rectangle)
-        → is_too_small (limits_of s.library) (record { layer = 14 + n; datatype = 0; rect = x }) ≡ false
-    line zero h x = refl
-    line (suc zero) h x = refl
-    line (suc (suc n)) h x = absurd (omega arith)
-sized s laws (Bar r) fits = line (r % 2) (omega arith) (place_of s (Bar r))
-  where
-    line : (n : ℕ) → n < 2 → (x : Rectangle)
-        → is_too_small (limits_of s.library) (record { layer = 14 + n; datatype = 0; rect = x }) ≡ false
-    line zero h x = refl
-    line (suc zero) h x = refl
-    line (suc (suc n)) h x = absurd (omega arith)
+sized s laws (Lead r) fits = of_line s.library (r % 2) (omega arith) (place_of s (Lead r))
+sized s laws (Bar r) fits = of_line s.library (r % 2) (omega arith) (place_of s (Bar r))
 
 -- the tag of a shape
 pub tag_of : (s : Sheet) (ts : List Tag) (i : ℕ) (a : Shape) → Is (shapes_of s ts) i a → (t : Tag) × At ts i t
@@ -262,9 +243,6 @@ max_at a b = go (int_lt (pos b) (pos a)) refl
     go : (x : Bool) → int_lt (pos b) (pos a) ≡ x → cond x (pos a) (pos b) ≡ pos (max a b)
     go true e = let k = lt_of b a e in ap pos (omega arith)
     go false e = let k : a ≤ b = not_lt b a e in ap pos (omega arith)
-      where
-        not_lt : (a b : ℕ) → int_lt (pos a) (pos b) ≡ false → b ≤ a
-        not_lt a b e = grind (arith, nat_tests)
 
 min_at : (a b : ℕ) → int_min (pos a) (pos b) ≡ pos (min a b)
 min_at a b = go (int_lt (pos b) (pos a)) refl
@@ -272,9 +250,6 @@ min_at a b = go (int_lt (pos b) (pos a)) refl
     go : (x : Bool) → int_lt (pos b) (pos a) ≡ x → cond x (pos b) (pos a) ≡ pos (min a b)
     go true e = let k = lt_of b a e in ap pos (omega arith)
     go false e = let k : a ≤ b = not_lt b a e in ap pos (omega arith)
-      where
-        not_lt : (a b : ℕ) → int_lt (pos a) (pos b) ≡ false → b ≤ a
-        not_lt a b e = grind (arith, nat_tests)
 
 abbrev shared_area : Area → Area → Area
 shared_area a f =
@@ -358,17 +333,15 @@ g4_fall s ts is has a f i r c q slot k at ea ef e =
     (common_test (area s (Fall r c)) (area s (Frame (suc r) slot k)) (area s (InPin (suc r) (s.to r c) pin.0))
     (omega arith) (inr (omega arith)) (omega arith) (inl (omega arith)))
 
-g4_via : (s : Sheet) → IsLawful s.library → (r c q slot : ℕ) (k : CellKind) (t : Tag) → IsWire s r c
-    → (t ≡ FromVia r c) ⊎ ((t ≡ ToVia r c) ⊎ (t ≡ Across r c)) → Overlaps (area s t) (area s (Frame q slot k)) → ⊥
-g4_via s laws r c q slot k t w (inl e) o = let h = track_above s.library s.used r (s.track r c) in
-    across_over s laws r c q slot k (area s (FromVia r c)) w (omega arith) (omega arith)
-    (subst (λ (x : Tag). Overlaps (area s x) (area s (Frame q slot k))) e o)
-g4_via s laws r c q slot k t w (inr (inl e)) o = let h = track_above s.library s.used r (s.track r c) in
-    across_over s laws r c q slot k (area s (ToVia r c)) w (omega arith) (omega arith)
-    (subst (λ (x : Tag). Overlaps (area s x) (area s (Frame q slot k))) e o)
-g4_via s laws r c q slot k t w (inr (inr e)) o = let h = track_above s.library s.used r (s.track r c) in
-    across_over s laws r c q slot k (area s (Across r c)) w (omega arith) (omega arith)
-    (subst (λ (x : Tag). Overlaps (area s x) (area s (Frame q slot k))) e o)
+-- nothing that lies within a wire's channel overlaps a frame
+g4_upper : (s : Sheet) (ts : List Tag) → IsDrawn s ts → (a f : Shape) (i r c q slot : ℕ) (k : CellKind) (t u : Tag)
+    → t ≡ u → At ts i t → shape_of s t ≡ a → shape_of s (Frame q slot k) ≡ f → overlap a.rect f.rect ≡ true
+    → place_of s u ≡ rect_of (area s u) → (Fits s u → IsWire s r c)
+    → track_of s r c ≤ (area s u).low + s.library.wire / 2 → (area s u).high ≤ track_of s r c + s.library.wire / 2 → ⊥
+g4_upper s ts is a f i r c q slot k t u same at ea ef e place wire low high =
+    across_over s is.routed.laws r c q slot k (area s u)
+    (wire (is.fits i u (subst (λ (x : Tag). At ts i x) same at))) low high
+    (overlap_areas a f s u (Frame q slot k) (sym (ap (shape_of s) same) ∙ ea) ef place refl e)
 
 pub frame_at : (s : Sheet) (ts : List Tag) (j : ℕ) (f : Shape) → Is (shapes_of s ts) j f → f.layer ≡ 20
     → (r slot : ℕ) × (k : CellKind) × At ts j (Frame r slot k) × (shape_of s (Frame r slot k) ≡ f)
@@ -397,27 +370,24 @@ drawn_g4 s ts is has = record {
             (sym (ap (shape_of s) r) ∙ t.2) frame.4 e
       ];
   upper = λ i j a f ai fj la lf e.
+      let laws = is.routed.laws in
       let frame = frame_at s ts j f fj lf in
       let t = tag_of s ts i a ai in
       elim la [
         | inl l ↦
             let u = via_tag t.0 (ap (λ (x : Shape). x.layer) t.2 ∙ l) in
+            let h = track_above s.library s.used u.0 (s.track u.0 u.1) in
             elim u.2 [
-              | inl r ↦ g4_via s is.routed.laws u.0 u.1 frame.0 frame.1 frame.2 (FromVia u.0 u.1)
-                  (is.fits i (FromVia u.0 u.1) (subst (λ (x : Tag). At ts i x) r t.1)) (inl refl)
-                  (overlap_areas a f s (FromVia u.0 u.1) (Frame frame.0 frame.1 frame.2)
-                  (sym (ap (shape_of s) r) ∙ t.2) frame.4 refl refl e)
-              | inr r ↦ g4_via s is.routed.laws u.0 u.1 frame.0 frame.1 frame.2 (ToVia u.0 u.1)
-                  (is.fits i (ToVia u.0 u.1) (subst (λ (x : Tag). At ts i x) r t.1)) (inr (inl refl))
-                  (overlap_areas a f s (ToVia u.0 u.1) (Frame frame.0 frame.1 frame.2) (sym (ap (shape_of s) r) ∙ t.2)
-                  frame.4 refl refl e)
+              | inl r ↦ g4_upper s ts is a f i u.0 u.1 frame.0 frame.1 frame.2 t.0 (FromVia u.0 u.1) r t.1 t.2 frame.4 e
+                  refl (λ w. w) (omega arith) (omega arith)
+              | inr r ↦ g4_upper s ts is a f i u.0 u.1 frame.0 frame.1 frame.2 t.0 (ToVia u.0 u.1) r t.1 t.2 frame.4 e
+                  refl (λ w. w) (omega arith) (omega arith)
             ]
         | inr l ↦
             let u = across_tag t.0 (ap (λ (x : Shape). x.layer) t.2 ∙ l) in
-            g4_via s is.routed.laws u.0 u.1 frame.0 frame.1 frame.2 (Across u.0 u.1)
-            (is.fits i (Across u.0 u.1) (subst (λ (x : Tag). At ts i x) u.2 t.1)) (inr (inr refl))
-            (overlap_areas a f s (Across u.0 u.1) (Frame frame.0 frame.1 frame.2) (sym (ap (shape_of s) u.2) ∙ t.2)
-            frame.4 refl refl e)
+            let h = track_above s.library s.used u.0 (s.track u.0 u.1) in
+            g4_upper s ts is a f i u.0 u.1 frame.0 frame.1 frame.2 t.0 (Across u.0 u.1) u.2 t.1 t.2 frame.4 e
+            refl (λ w. w) (omega arith) (omega arith)
       ];
 }
 

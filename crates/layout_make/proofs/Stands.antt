@@ -7,12 +7,12 @@ use Rattle.cell_library.specs.Library.{LibraryView}
 use Rattle.layout_make.proofs.Lawful.{IsLawful}
 use Rattle.layout_make.proofs.Layered.{is_lower}
 use Rattle.layout_make.specs.Sheet.{Sheet, Tag, Area, InPin, OutPin, Lead, Bar, Rise, Fall, Across, FromVia}
-use Rattle.layout_make.specs.Sheet.{ToVia, area, layer_of, centre, edge, track_centre, lower_edge}
+use Rattle.layout_make.specs.Sheet.{ToVia, area, layer_of, centre, edge, track_centre, track_of, lower_edge}
 use Rattle.layout_make.specs.Nets.{Net, Into, From, output_net, net_of}
 use Rattle.layout_make.proofs.SheetKeeps.{IsWire, Fits, Far}
-use Rattle.layout_make.proofs.Columns.{centres_apart, centre_least, next_edge, edges_apart, track_above, track_below}
+use Rattle.layout_make.proofs.Columns.{centres_apart, next_edge, edges_apart, track_above, track_below}
 use Rattle.layout_make.proofs.Columns.{tracks_apart, centre_rises}
-use Rattle.layout_make.proofs.Posts.{Side, FromSide, ToSide, StandsAt}
+use Rattle.layout_make.proofs.Posts.{Side, FromSide, ToSide, StandsAt, Between, parity}
 
 abbrev pub post_layer : ℕ → Bool
 post_layer n = is_lower n || n == 11
@@ -43,19 +43,27 @@ pub record HasPost (s : Sheet) (tag : Tag) : Type 0 where
 wire_net : (s : Sheet) (r c : ℕ) → IsWire s r c → Into (suc r) (s.to r c) ≡ output_net s r c
 wire_net s r c w = sym (ap (λ (b : Bool). cond b (Into (suc r) (s.to r c)) (From r c)) w.wired_so)
 
-pin_above : (l : LibraryView) (used : ℕ → ℕ) → IsLawful l → (r c : ℕ) → c % 2 ≡ 1
-    → StandsAt l used ToSide c r
-    (record {
-      left = centre l c - l.wire / 2;
-      low = edge l used r;
-      right = centre l c + l.wire / 2;
-      high = edge l used r + l.pin;
-    })
-pin_above l used laws zero c odd = let f = centre_least l c in
-    record { left_so = omega arith; right_so = omega arith; parity_so = odd; between = (omega arith, omega arith) }
-pin_above l used laws (suc r) c odd = let f = centre_least l c in
-    let g = next_edge l used r in
-    record { left_so = omega arith; right_so = omega arith; parity_so = odd; between = (omega arith, omega arith) }
+pin_above : (l : LibraryView) (used : ℕ → ℕ) → IsLawful l → (r : ℕ) (a : Area) → edge l used r ≤ a.low
+    → a.high ≤ edge l used r + l.pin → Between l used ToSide r a
+pin_above l used laws zero a low high = (omega arith, high)
+pin_above l used laws (suc r) a low high = let g = next_edge l used r in (omega arith, high)
+
+-- a shape that is centred on the column of its post, and no wider than a wire
+post_of : (s : Sheet) (tag : Tag) (side : Side) (c r half : ℕ) → half ≤ s.library.wire / 2
+    → (area s tag).left ≡ centre s.library c - half → (area s tag).right ≡ centre s.library c + half
+    → c % 2 ≡ parity side → Between s.library s.used side r (area s tag) → net_of s tag ≡ post_net s side c r
+    → (is_lower (layer_of tag) ≡ true → ((area s tag).low ≤ joint s side r) × (joint s side r ≤ (area s tag).high))
+    → HasPost s tag
+post_of s tag side c r half narrow left right parity_so between net joined = record {
+  side = side;
+  column = c;
+  row = r;
+  stands = record { left_so = omega arith; right_so = omega arith; parity_so = parity_so; between = between };
+  net_so = net;
+  left_held = omega arith;
+  right_held = omega arith;
+  joint_held = joined;
+}
 
 -- no excitation line is on a layer of posts
 pub no_post : (n : ℕ) → n < 2 → post_layer (14 + n) ≡ true → ⊥
@@ -65,110 +73,33 @@ no_post (suc (suc n)) lt e = omega arith
 
 pub has_post : (s : Sheet) → IsLawful s.library → (tag : Tag) → Fits s tag → post_layer (layer_of tag) ≡ true
     → HasPost s tag
-has_post s laws (InPin r c i) fits is =
-    record {
-      side = ToSide;
-      column = c;
-      row = r;
-      stands = pin_above s.library s.used laws r c fits;
-      net_so = refl;
-      left_held = omega arith;
-      right_held = omega arith;
-      joint_held = λ e. (omega arith, omega arith);
-    }
-has_post s laws (OutPin r c i) fits is = let f = centre_least s.library c in let g = next_edge s.library s.used r in
-    record {
-      side = FromSide;
-      column = c;
-      row = r;
-      stands =
-          record {
-            left_so = omega arith;
-            right_so = omega arith;
-            parity_so = fits;
-            between = (omega arith, omega arith);
-          };
-      net_so = refl;
-      left_held = omega arith;
-      right_held = omega arith;
-      joint_held = λ e. (omega arith, omega arith);
-    }
-has_post s laws (Rise r c) fits is = let f = centre_least s.library c in let g = next_edge s.library s.used r in
-    let m = track_above s.library s.used r (s.track r c) in
+has_post s laws (InPin r c i) fits is = post_of s (InPin r c i) ToSide c r (s.library.wire / 2) (omega arith) refl refl
+    fits (pin_above s.library s.used laws r (area s (InPin r c i)) (omega arith) (omega arith)) refl
+    (λ e. (omega arith, omega arith))
+has_post s laws (OutPin r c i) fits is =
+    let g = next_edge s.library s.used r in
+    post_of s (OutPin r c i) FromSide c r (s.library.wire / 2) (omega arith) refl refl fits (omega arith, omega arith)
+    refl (λ e. (omega arith, omega arith))
+has_post s laws (Rise r c) fits is =
+    let g = track_above s.library s.used r (s.track r c) in
     let h = track_below s.library s.used r (s.track r c) fits.tracked in
-    record {
-      side = FromSide;
-      column = c;
-      row = r;
-      stands =
-          record {
-            left_so = omega arith;
-            right_so = omega arith;
-            parity_so = fits.even;
-            between = (omega arith, omega arith);
-          };
-      net_so = wire_net s r c fits;
-      left_held = omega arith;
-      right_held = omega arith;
-      joint_held = λ e. (omega arith, omega arith);
-    }
-has_post s laws (Fall r c) fits is = let f = centre_least s.library (s.to r c) in
-    let g = next_edge s.library s.used r in let m = track_below s.library s.used r (s.track r c) fits.tracked in
-    let h = track_above s.library s.used r (s.track r c) in
-    record {
-      side = ToSide;
-      column = s.to r c;
-      row = suc r;
-      stands =
-          record {
-            left_so = omega arith;
-            right_so = omega arith;
-            parity_so = fits.odd;
-            between = (omega arith, omega arith);
-          };
-      net_so = refl;
-      left_held = omega arith;
-      right_held = omega arith;
-      joint_held = λ e. (omega arith, omega arith);
-    }
-has_post s laws (FromVia r c) fits is = let f = centre_least s.library c in let g = next_edge s.library s.used r in
+    post_of s (Rise r c) FromSide c r (s.library.wire / 2) (omega arith) refl refl fits.even (omega arith, omega arith)
+    (wire_net s r c fits) (λ e. (omega arith, omega arith))
+has_post s laws (Fall r c) fits is =
+    let g = track_above s.library s.used r (s.track r c) in
     let h = track_below s.library s.used r (s.track r c) fits.tracked in
-    let k = track_above s.library s.used r (s.track r c) in
-    record {
-      side = FromSide;
-      column = c;
-      row = r;
-      stands =
-          record {
-            left_so = omega arith;
-            right_so = omega arith;
-            parity_so = fits.even;
-            between = (omega arith, omega arith);
-          };
-      net_so = wire_net s r c fits;
-      left_held = omega arith;
-      right_held = omega arith;
-      joint_held = λ e. absurd cc;
-    }
-has_post s laws (ToVia r c) fits is = let f = centre_least s.library (s.to r c) in
-    let g = next_edge s.library s.used r in let h = track_below s.library s.used r (s.track r c) fits.tracked in
-    let k = track_above s.library s.used r (s.track r c) in
-    record {
-      side = ToSide;
-      column = s.to r c;
-      row = suc r;
-      stands =
-          record {
-            left_so = omega arith;
-            right_so = omega arith;
-            parity_so = fits.odd;
-            between = (omega arith, omega arith);
-          };
-      net_so = refl;
-      left_held = omega arith;
-      right_held = omega arith;
-      joint_held = λ e. absurd cc;
-    }
+    post_of s (Fall r c) ToSide (s.to r c) (suc r) (s.library.wire / 2) (omega arith) refl refl fits.odd
+    (omega arith, omega arith) refl (λ e. (omega arith, omega arith))
+has_post s laws (FromVia r c) fits is =
+    let g = track_above s.library s.used r (s.track r c) in
+    let h = track_below s.library s.used r (s.track r c) fits.tracked in
+    post_of s (FromVia r c) FromSide c r (s.library.via / 2) (omega arith) refl refl fits.even
+    (omega arith, omega arith) (wire_net s r c fits) (λ e. absurd cc)
+has_post s laws (ToVia r c) fits is =
+    let g = track_above s.library s.used r (s.track r c) in
+    let h = track_below s.library s.used r (s.track r c) fits.tracked in
+    post_of s (ToVia r c) ToSide (s.to r c) (suc r) (s.library.via / 2) (omega arith) refl refl fits.odd
+    (omega arith, omega arith) refl (λ e. absurd cc)
 has_post s laws (Lead r) fits is = absurd (no_post (r % 2) (omega arith) is)
 has_post s laws (Bar r) fits is = absurd (no_post (r % 2) (omega arith) is)
 has_post s laws tag fits is = absurd cc
@@ -244,81 +175,45 @@ no_run zero lt e = cc
 no_run (suc zero) lt e = cc
 no_run (suc (suc n)) lt e = omega arith
 
+-- a shape that is centred on a wire's track, over columns of the wire, and no wider than a wire
+run_of : (s : Sheet) (tag : Tag) (r c least most half : ℕ) → IsWire s r c → half ≤ s.library.wire / 2
+    → centre s.library least ≤ centre s.library most → (area s tag).left ≡ centre s.library least - half
+    → (area s tag).right ≡ centre s.library most + half → (area s tag).low ≡ track_of s r c - half
+    → (area s tag).high ≡ track_of s r c + half → min c (s.to r c) ≤ least → most ≤ max c (s.to r c)
+    → net_of s tag ≡ Into (suc r) (s.to r c) → ((layer_of tag == 12) ≡ true → least ≡ min c (s.to r c)) → HasRun s tag
+run_of s tag r c least most half wire narrow rises left right low high least_so most_so net whole = record {
+  row = r;
+  column = c;
+  wire = wire;
+  least = least;
+  most = most;
+  lies = record {
+    left_so = omega arith;
+    right_so = omega arith;
+    low_so = omega arith;
+    high_so = omega arith;
+    tracked = wire.tracked;
+  };
+  least_so = least_so;
+  most_so = most_so;
+  net_so = net;
+  left_held = omega arith;
+  right_held = omega arith;
+  low_held = omega arith;
+  high_held = omega arith;
+  whole = whole;
+}
+
 pub has_run : (s : Sheet) → IsLawful s.library → (tag : Tag) → Fits s tag → run_layer (layer_of tag) ≡ true
     → HasRun s tag
-has_run s laws (Across r c) fits is = let f = centre_least s.library (min c (s.to r c)) in
-    let m = centre_rises s.library (min c (s.to r c)) (max c (s.to r c)) (omega arith) in
-    let k = track_above s.library s.used r (s.track r c) in
-    record {
-      row = r;
-      column = c;
-      wire = fits;
-      least = min c (s.to r c);
-      most = max c (s.to r c);
-      lies = record {
-        left_so = omega arith;
-        right_so = omega arith;
-        low_so = omega arith;
-        high_so = omega arith;
-        tracked = fits.tracked;
-      };
-      least_so = omega arith;
-      most_so = omega arith;
-      net_so = refl;
-      left_held = omega arith;
-      right_held = omega arith;
-      low_held = omega arith;
-      high_held = omega arith;
-      whole = λ e. refl;
-    }
-has_run s laws (FromVia r c) fits is = let f = centre_least s.library c in
-    let k = track_above s.library s.used r (s.track r c) in
-    record {
-      row = r;
-      column = c;
-      wire = fits;
-      least = c;
-      most = c;
-      lies = record {
-        left_so = omega arith;
-        right_so = omega arith;
-        low_so = omega arith;
-        high_so = omega arith;
-        tracked = fits.tracked;
-      };
-      least_so = omega arith;
-      most_so = omega arith;
-      net_so = refl;
-      left_held = omega arith;
-      right_held = omega arith;
-      low_held = omega arith;
-      high_held = omega arith;
-      whole = λ e. absurd cc;
-    }
-has_run s laws (ToVia r c) fits is = let f = centre_least s.library (s.to r c) in
-    let k = track_above s.library s.used r (s.track r c) in
-    record {
-      row = r;
-      column = c;
-      wire = fits;
-      least = s.to r c;
-      most = s.to r c;
-      lies = record {
-        left_so = omega arith;
-        right_so = omega arith;
-        low_so = omega arith;
-        high_so = omega arith;
-        tracked = fits.tracked;
-      };
-      least_so = omega arith;
-      most_so = omega arith;
-      net_so = refl;
-      left_held = omega arith;
-      right_held = omega arith;
-      low_held = omega arith;
-      high_held = omega arith;
-      whole = λ e. absurd cc;
-    }
+has_run s laws (Across r c) fits is = run_of s (Across r c) r c (min c (s.to r c)) (max c (s.to r c))
+    (s.library.wire / 2) fits (omega arith)
+    (centre_rises s.library (min c (s.to r c)) (max c (s.to r c)) (omega arith))
+    refl refl refl refl (omega arith) (omega arith) refl (λ e. refl)
+has_run s laws (FromVia r c) fits is = run_of s (FromVia r c) r c c c (s.library.via / 2) fits
+    (omega arith) (omega arith) refl refl refl refl (omega arith) (omega arith) refl (λ e. absurd cc)
+has_run s laws (ToVia r c) fits is = run_of s (ToVia r c) r c (s.to r c) (s.to r c) (s.library.via / 2) fits
+    (omega arith) (omega arith) refl refl refl refl (omega arith) (omega arith) refl (λ e. absurd cc)
 has_run s laws (Lead r) fits is = absurd (no_run (r % 2) (omega arith) is)
 has_run s laws (Bar r) fits is = absurd (no_run (r % 2) (omega arith) is)
 has_run s laws tag fits is = absurd cc

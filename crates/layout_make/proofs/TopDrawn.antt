@@ -83,75 +83,64 @@ channel_past p l r le =
     ap (λ (cells : List RowCell). by_key from_of
     (wires_into l (spots p r) (spots_of cells (slice_index_or p.slots (suc r) [])))) (row_past p.net.rows (suc r) le)
 
-same_row : (p : PlacedView) (l : LibraryView) (n : ℕ) (kinds : List CellKind) (right : ℕ) (cells : List RowCell)
-    (slots : List ℕ) (first row : ℕ) → kinds ≡ Draw.used_kinds p → right ≡ end_at p l → cells ≡ row_at p.net.rows n
-    → slots ≡ slice_index_or p.slots n [] → first ≡ lower_edge (sheet p l) (lead_first n)
-    → row ≡ lower_edge (sheet p l) n
-    → row_boxes l kinds right n (spots_of cells slots) first row ≡ row_boxes l (Draw.used_kinds p) (end_at p l) n
-    (spots p n) (lower_edge (sheet p l) (lead_first n)) (lower_edge (sheet p l) n)
-same_row p l n kinds right cells slots first row a b c d e f =
-    ap (λ (ks : List CellKind). row_boxes l ks right n (spots_of cells slots) first row) a
-    ∙ ap (λ (x : ℕ). row_boxes l (Draw.used_kinds p) x n (spots_of cells slots) first row) b
-    ∙ ap (λ (cs : List RowCell). row_boxes l (Draw.used_kinds p) (end_at p l) n (spots_of cs slots) first row) c
-    ∙ ap (λ (ss : List ℕ). row_boxes l (Draw.used_kinds p) (end_at p l) n (spots_of (row_at p.net.rows n) ss) first
-    row) d
-    ∙ ap (λ (x : ℕ). row_boxes l (Draw.used_kinds p) (end_at p l) n (spots p n) x row) e
-    ∙ ap (λ (x : ℕ). row_boxes l (Draw.used_kinds p) (end_at p l) n (spots p n) (lower_edge (sheet p l) (lead_first n))
-    x) f
+-- what the code has of a row: the kinds that are used, where the drawing ends, the row's cells and slots, and where its
+-- first lead begins
+pub record RowGiven (p : PlacedView) (l : LibraryView) (n : ℕ) (kinds : List CellKind) (right : ℕ)
+    (cells : List RowCell) (slots : List ℕ) (first : ℕ) : Type 0 where
+  pub kinds_are : kinds ≡ Draw.used_kinds p
+  pub right_is : right ≡ end_at p l
+  pub cells_are : cells ≡ row_at p.net.rows n
+  pub slots_are : slots ≡ slice_index_or p.slots n []
+  pub first_is : first ≡ lower_edge (sheet p l) (lead_first n)
 
 -- a row and its channel after the rows so far
-rows_next : (p : PlacedView) (l : LibraryView) (n : ℕ) (items mid new : List Element) (kinds : List CellKind)
-    (right : ℕ) (cells : List RowCell) (slots : List ℕ) (first row : ℕ) → items ≡ flat_map (Draw.row_elements p l)
-    (numbers 0 n)
-    → kinds ≡ Draw.used_kinds p → right ≡ end_at p l → cells ≡ row_at p.net.rows n
-    → slots ≡ slice_index_or p.slots n [] → first ≡ lower_edge (sheet p l) (lead_first n)
-    → row ≡ lower_edge (sheet p l) n
-    → mid ≡ items ++ row_boxes l kinds right n (spots_of cells slots) first row
+rows_next : {p : PlacedView} {l : LibraryView} {n : ℕ} {items mid new : List Element} {kinds : List CellKind}
+    {right : ℕ} {cells : List RowCell} {slots : List ℕ} {first row : ℕ}
+    → items ≡ flat_map (Draw.row_elements p l) (numbers 0 n) → RowGiven p l n kinds right cells slots first
+    → row ≡ lower_edge (sheet p l) n → mid ≡ items ++ row_boxes l kinds right n (spots_of cells slots) first row
     → new ≡ mid ++ boxes (sheet p l) (flat_map (wire_tags n) (channel p l n))
     → new ≡ flat_map (Draw.row_elements p l) (numbers 0 (n + 1))
-rows_next p l n items mid new kinds right cells slots first row so a b c d e f is then =
+rows_next {p} {l} {n} {items} {mid} {new} {kinds} {right} {cells} {slots} {first} {row} so given row_is is then =
     let wires = boxes (sheet p l) (flat_map (wire_tags n) (channel p l n)) in
     let own = row_boxes l (Draw.used_kinds p) (end_at p l) n (spots p n) (lower_edge (sheet p l) (lead_first n))
     (lower_edge (sheet p l) n) in
+    let same : row_boxes l kinds right n (spots_of cells slots) first row ≡ own =
+    rw (given.kinds_are, given.right_is, given.cells_are, given.slots_are, given.first_is, row_is) refl in
     then ∙ ap (λ (es : List Element). es ++ wires)
-    (is ∙ ap (λ (es : List Element). items ++ es) (same_row p l n kinds right cells slots first row a b c d e f)
-    ∙ ap (λ (es : List Element). es ++ own) so)
+    (is ∙ ap (λ (es : List Element). items ++ es) same ∙ ap (λ (es : List Element). es ++ own) so)
     ∙ append_assoc (flat_map (Draw.row_elements p l) (numbers 0 n)) own wires
     ∙ ap (λ (es : List Element). flat_map (Draw.row_elements p l) (numbers 0 n) ++ es) (row_drawn p l n)
     ∙ flat_last (Draw.row_elements p l) n
 
-pub so_wired : (p : PlacedView) (l : LibraryView) (n : ℕ) (items mid new : List Element) (kinds : List CellKind)
-    (right : ℕ) (cells : List RowCell) (slots : List ℕ) (first row one two next : ℕ) → SoFar p l n items row one two
-    → n + 1 < length p.net.rows
-    → kinds ≡ Draw.used_kinds p → right ≡ end_at p l → cells ≡ row_at p.net.rows n
-    → slots ≡ slice_index_or p.slots n [] → first ≡ lower_edge (sheet p l) (lead_first n)
+pub so_wired : {p : PlacedView} {l : LibraryView} {n : ℕ} {items mid new : List Element} {kinds : List CellKind}
+    {right : ℕ} {cells : List RowCell} {slots : List ℕ} {first row one two next : ℕ} → SoFar p l n items row one two
+    → n + 1 < length p.net.rows → RowGiven p l n kinds right cells slots first
     → mid ≡ items ++ row_boxes l kinds right n (spots_of cells slots) first row
     → new ≡ mid ++ boxes (sheet p l) (flat_map (wire_tags n) (channel p l n))
     → next ≡ lower_edge (sheet p l) (n + 1) → SoFar p l (n + 1) new next row one
-so_wired p l n items mid new kinds right cells slots first row one two next so lt a b c d e is then on =
+so_wired {p} {l} {n} {items} {mid} {new} {kinds} {right} {cells} {slots} {first} {row} {one} {two} so lt given
+    is then on =
     let here = edge_here p l n items row one two so (omega arith) in
     record {
-      drawn = rows_next p l n items mid new kinds right cells slots first row so.drawn a b c d e here is then;
+      drawn = rows_next so.drawn given here is then;
       edge_is = on ∙ ap (lower_edge (sheet p l)) (let h : n + 1 ≡ min (n + 1) (length p.net.rows - 1) = omega arith in
           h);
       one_is = here ∙ ap (lower_edge (sheet p l)) (let h : n ≡ n + 1 - 1 = omega arith in h);
       two_is = so.one_is ∙ ap (lower_edge (sheet p l)) (let h : n - 1 ≡ n + 1 - 2 = omega arith in h);
     }
 
-pub so_last : (p : PlacedView) (l : LibraryView) (n : ℕ) (items mid new : List Element) (kinds : List CellKind)
-    (right : ℕ) (cells : List RowCell) (slots : List ℕ) (first row one two next : ℕ) → SoFar p l n items row one two
-    → n < length p.net.rows → length p.net.rows ≤ n + 1
-    → kinds ≡ Draw.used_kinds p → right ≡ end_at p l → cells ≡ row_at p.net.rows n
-    → slots ≡ slice_index_or p.slots n [] → first ≡ lower_edge (sheet p l) (lead_first n)
+pub so_last : {p : PlacedView} {l : LibraryView} {n : ℕ} {items mid new : List Element} {kinds : List CellKind}
+    {right : ℕ} {cells : List RowCell} {slots : List ℕ} {first row one two next : ℕ} → SoFar p l n items row one two
+    → n < length p.net.rows → length p.net.rows ≤ n + 1 → RowGiven p l n kinds right cells slots first
     → mid ≡ items ++ row_boxes l kinds right n (spots_of cells slots) first row → new ≡ mid → next ≡ row
     → SoFar p l (n + 1) new next row one
-so_last p l n items mid new kinds right cells slots first row one two next so lt le a b c d e is then on =
+so_last {p} {l} {n} {items} {mid} {new} {kinds} {right} {cells} {slots} {first} {row} {one} {two} so lt le given
+    is then on =
     let here = edge_here p l n items row one two so lt in
-    let none : boxes (sheet p l)
-    (flat_map (wire_tags n) (channel p l n)) ≡ [] =
+    let none : boxes (sheet p l) (flat_map (wire_tags n) (channel p l n)) ≡ [] =
     ap (λ (ws : List Wire). boxes (sheet p l) (flat_map (wire_tags n) ws)) (channel_past p l n (omega arith)) in
     record {
-      drawn = rows_next p l n items mid new kinds right cells slots first row so.drawn a b c d e here is
+      drawn = rows_next so.drawn given here is
           (then ∙ sym (append-nil mid) ∙ ap (λ (es : List Element). mid ++ es) (sym none));
       edge_is = on ∙ here
           ∙ ap (lower_edge (sheet p l)) (let h : n ≡ min (n + 1) (length p.net.rows - 1) = omega arith in h);
@@ -198,45 +187,41 @@ texts : (f : ℕ → Label) (ns : List ℕ) → map (λ (n : ℕ). Text (f n)) n
 texts f [] = refl
 texts f (n ∷ ns) = ap (λ (es : List Element). Text (f n) ∷ es) (texts f ns)
 
-same_texts : (l : LibraryView) (b : Ports) (cells more : List RowCell) (slots others : List ℕ) (column c y z count : ℕ)
-    → cells ≡ more → slots ≡ others → column ≡ c → y ≡ z → port_texts l b (spots_of cells slots) column y
-    count ≡ port_texts l b (spots_of more others) c z count
-same_texts l b cells more slots others column c y z count e f g h =
-    ap (λ (cs : List RowCell). port_texts l b (spots_of cs slots) column y count) e
-    ∙ ap (λ (ss : List ℕ). port_texts l b (spots_of more ss) column y count) f
-    ∙ ap (λ (x : ℕ). port_texts l b (spots_of more others) x y count) g
-    ∙ ap (λ (x : ℕ). port_texts l b (spots_of more others) c x count) h
+-- what the code has of the ports of a row: its cells and slots, their column, how high they stand, and how many
+pub record PortsGiven (p : PlacedView) (n : ℕ) (cells : List RowCell) (slots : List ℕ) (column at y high count all : ℕ)
+    : Type 0 where
+  pub cells_are : cells ≡ row_at p.net.rows n
+  pub slots_are : slots ≡ slice_index_or p.slots n []
+  pub column_is : column ≡ at
+  pub y_is : y ≡ high
+  pub count_is : count ≡ all
 
-pub top_is : (p : PlacedView) (l : LibraryView) (one two three : List Element) (low_cells high_cells : List RowCell)
-    (low_slots high_slots : List ℕ) (low_column high_column low_y high_y inputs outputs : ℕ)
+pub top_is : {p : PlacedView} (l : LibraryView) {one two three : List Element} {low_cells high_cells : List RowCell}
+    {low_slots high_slots : List ℕ} {low_column high_column low_y high_y inputs outputs : ℕ}
     → one ≡ flat_map (Draw.row_elements p l) (numbers 0 (length p.net.rows))
-    → low_cells ≡ row_at p.net.rows 0 → low_slots ≡ slice_index_or p.slots 0 []
-    → high_cells ≡ row_at p.net.rows (Draw.last_row p) → high_slots ≡ slice_index_or p.slots (Draw.last_row p) []
-    → low_column ≡ input_column_of l Buffer 0 → high_column ≡ output_column_of l Buffer 0 → low_y ≡ l.pin / 2
-    → high_y ≡ lower_edge (sheet p l) (Draw.last_row p) + l.height - l.pin / 2
-    → inputs ≡ p.net.inputs → outputs ≡ p.net.outputs → two ≡ one ++ port_texts l Inputs (spots_of low_cells low_slots)
-    low_column low_y inputs → three ≡ two ++ port_texts l Outputs (spots_of high_cells high_slots) high_column high_y
-    outputs → three ≡ Draw.top_elements p l
-top_is p l one two three low_cells high_cells low_slots high_slots low_column high_column low_y high_y inputs outputs
-    is a b c d e f g h i o then on =
+    → PortsGiven p 0 low_cells low_slots low_column (input_column_of l Buffer 0) low_y (l.pin / 2) inputs p.net.inputs
+    → PortsGiven p (Draw.last_row p) high_cells high_slots high_column (output_column_of l Buffer 0) high_y
+    (lower_edge (sheet p l) (Draw.last_row p) + l.height - l.pin / 2) outputs p.net.outputs
+    → two ≡ one ++ port_texts l Inputs (spots_of low_cells low_slots) low_column low_y inputs
+    → three ≡ two ++ port_texts l Outputs (spots_of high_cells high_slots) high_column high_y outputs
+    → three ≡ Draw.top_elements p l
+top_is {p} l {one} {two} {three} {low_cells} {high_cells} {low_slots} {high_slots} {low_column} {high_column} {low_y}
+    {high_y} {inputs} {outputs} is low high then on =
     let rows = flat_map (Draw.row_elements p l) (numbers 0 (length p.net.rows)) in
-    let ins = map (Draw.input_label p l) (numbers 0 p.net.inputs) in
-    let outs = map (Draw.output_label p l) (numbers 0 p.net.outputs) in
-    let first = ap (port_texts l Inputs (spots_of low_cells low_slots) low_column low_y) i
-    ∙ same_texts l Inputs low_cells (row_at p.net.rows 0) low_slots (slice_index_or p.slots 0 []) low_column
-    (input_column_of l Buffer 0) low_y (l.pin / 2) p.net.inputs a b e g
-    ∙ texts (Draw.input_label p l) (numbers 0 p.net.inputs) in
-    let last = ap (port_texts l Outputs (spots_of high_cells high_slots) high_column high_y) o
-    ∙ same_texts l Outputs high_cells (row_at p.net.rows (Draw.last_row p)) high_slots
-    (slice_index_or p.slots (Draw.last_row p) []) high_column (output_column_of l Buffer 0) high_y
-    (lower_edge (sheet p l) (Draw.last_row p) + l.height - l.pin / 2) p.net.outputs c d f h
-    ∙ texts (Draw.output_label p l) (numbers 0 p.net.outputs) in
+    let ins = map (λ (x : Label). Text x) (map (Draw.input_label p l) (numbers 0 p.net.inputs)) in
+    let outs = map (λ (x : Label). Text x) (map (Draw.output_label p l) (numbers 0 p.net.outputs)) in
+    let first : port_texts l Inputs (spots_of low_cells low_slots) low_column low_y inputs ≡ ins =
+    rw (low.cells_are, low.slots_are, low.column_is, low.y_is, low.count_is)
+    (texts (Draw.input_label p l) (numbers 0 p.net.inputs)) in
+    let last : port_texts l Outputs (spots_of high_cells high_slots) high_column high_y outputs ≡ outs =
+    rw (high.cells_are, high.slots_are, high.column_is, high.y_is, high.count_is)
+    (texts (Draw.output_label p l) (numbers 0 p.net.outputs)) in
     on ∙ ap (λ (es : List Element). two ++ es) last
-    ∙ ap (λ (es : List Element). es ++ map (λ (x : Label). Text x) outs)
-    (then ∙ ap (λ (es : List Element). one ++ es) first
-    ∙ ap (λ (es : List Element). es ++ map (λ (x : Label). Text x) ins) is)
-    ∙ append_assoc rows (map (λ (x : Label). Text x) ins) (map (λ (x : Label). Text x) outs)
-    ∙ ap (λ (es : List Element). rows ++ es) (sym (map-append (λ (x : Label). Text x) ins outs))
+    ∙ ap (λ (es : List Element). es ++ outs)
+    (then ∙ ap (λ (es : List Element). one ++ es) first ∙ ap (λ (es : List Element). es ++ ins) is)
+    ∙ append_assoc rows ins outs
+    ∙ ap (λ (es : List Element). rows ++ es) (sym (map-append (λ (x : Label). Text x)
+    (map (Draw.input_label p l) (numbers 0 p.net.inputs)) (map (Draw.output_label p l) (numbers 0 p.net.outputs))))
 
 -- the kinds that are used are given
 

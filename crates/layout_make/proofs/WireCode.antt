@@ -92,8 +92,7 @@ wires_fit p l is known narrow r below above n i x s at e =
       from = t.from;
       from_at = t.is_output.at;
       output_below = t.is_output.below;
-      from_fits = cell_fits p l known narrow r below t.source.cell t.from
-          t.is_output.at;
+      from_fits = cell_fits p l known narrow r below t.source.cell t.from t.is_output.at;
     } in
     record {
       source = subst (SourceFits l (spots p r)) same fit;

@@ -201,8 +201,7 @@ driven p l is laws ports a h = go n.row n.in_at
           pin_is = ap (λ (ss : List Shape). slice_get ss d.pin) (flat_is_tags p l laws)
               ∙ to_map (shape_of (sheet p l)) (tags p l) d.pin _ d.out_at.at;
           of_layer = refl;
-          joined =
-              Joined-back (flat_shapes p l) d.pin a d.joined;
+          joined = Joined-back (flat_shapes p l) d.pin a d.joined;
         })
 
 not_driven : (p : PlacedView) (l : LibraryView) → IsReady p l → IsLawful l → Ports p → (a b : ℕ)

@@ -271,8 +271,5 @@ wide_flat = record {
       ∷ drawn 15 2 (negsuc 1999999) (pos 2010000) (pos 0) (pos 2020000)
       ∷ drawn 15 0 (pos 0) (pos 2010000) (pos 700000000) (pos 2020000)
       ∷ [];
-  labels =
-      labelled (pos 1500000) (pos 500) (73 ∷ 48 ∷ [])
-      ∷ labelled (pos 2500000) (pos 2019500) (79 ∷ 48 ∷ [])
-      ∷ [];
+  labels = labelled (pos 1500000) (pos 500) (73 ∷ 48 ∷ []) ∷ labelled (pos 2500000) (pos 2019500) (79 ∷ 48 ∷ []) ∷ [];
 }

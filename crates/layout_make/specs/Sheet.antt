@@ -1,8 +1,8 @@
--- What is drawn: a sheet says where wires go, a tag names one shape, and its area follows in closed form.
+-- What is drawn: a sheet says where wires go, a tag names one shape, and its place follows in closed form.
 use Rattle.std.specs.Prelude.{ℕ, zero, suc, ◌+◌, ◌-◌, ◌*◌, ◌/◌, ◌%◌, min, max, Bool, pos, neg_ℤ, nat_lt, if◌then◌else◌}
 use Rattle.circuit.specs.CellKinds.{number_of, slots_of}
 use Rattle.circuit.specs.declared.cell_kind.CellKind.{CellKind}
-use Rattle.geom.specs.Rectangle.{Rectangle}
+use Rattle.geom.specs.Rectangle.{Rectangle, positive_part}
 use Rattle.geom.specs.declared.shapes.Shape.{Shape}
 use Rattle.layout_rules.specs.declared.layers.TheConstants.{M1, VIA, M2, EVEN_LINE, FRAME, INPUT_PIN, OUTPUT_PIN, BAR}
 use Rattle.layout_rules.specs.declared.layers.TheConstants.{LINK, START}
@@ -98,25 +98,6 @@ lower_edge s r = edge s.library s.used r
 abbrev pub track_of : Sheet → ℕ → ℕ → ℕ
 track_of s r c = track_centre s.library s.used r (s.track r c)
 
--- the area of a shape; that of a lead is told by its flank
-abbrev pub area : Sheet → Tag → Area
-area s (Frame r slot kind) = record {
-  left = slot * (s.library.columns * s.library.pitch);
-  low = lower_edge s r;
-  right = (slot + slots_of kind) * (s.library.columns * s.library.pitch);
-  high = lower_edge s r + s.library.height;
-}
-area s (InPin r c i) = upright s.library c (lower_edge s r) (lower_edge s r + s.library.pin)
-area s (OutPin r c i) = upright s.library c (lower_edge s r + s.library.height - s.library.pin)
-    (lower_edge s r + s.library.height)
-area s (Lead r) = record { left = 0; low = 0; right = 0; high = 0 }
-area s (Bar r) = record { left = 0; low = lower_edge s r; right = s.right; high = lower_edge s r + s.library.height }
-area s (Rise r c) = rise_area s.library (lower_edge s r) c (track_of s r c)
-area s (Fall r c) = fall_area s.library (lower_edge s (suc r)) (s.to r c) (track_of s r c)
-area s (Across r c) = across_area s.library c (s.to r c) (track_of s r c)
-area s (FromVia r c) = square s.library c (track_of s r c)
-area s (ToVia r c) = square s.library (s.to r c) (track_of s r c)
-
 -- The excitation lines: a start or link stands left of the chip or right of it, and spans rows.
 
 -- the line comes to this row from the right
@@ -185,8 +166,27 @@ datatype_of (ToVia r c) = 0
 
 -- its rectangle
 abbrev pub place_of : Sheet → Tag → Rectangle
+place_of s (Frame r slot kind) = rect_of (record {
+  left = slot * (s.library.columns * s.library.pitch);
+  low = lower_edge s r;
+  right = (slot + slots_of kind) * (s.library.columns * s.library.pitch);
+  high = lower_edge s r + s.library.height;
+})
+place_of s (InPin r c i) = rect_of (upright s.library c (lower_edge s r) (lower_edge s r + s.library.pin))
+place_of s (OutPin r c i) = rect_of (upright s.library c (lower_edge s r + s.library.height - s.library.pin)
+    (lower_edge s r + s.library.height))
 place_of s (Lead r) = line_rect s (lead_flank r) (lead_first r) r
-place_of s tag = rect_of (area s tag)
+place_of s (Bar r) = line_rect s Over r r
+place_of s (Rise r c) = rect_of (rise_area s.library (lower_edge s r) c (track_of s r c))
+place_of s (Fall r c) = rect_of (fall_area s.library (lower_edge s (suc r)) (s.to r c) (track_of s r c))
+place_of s (Across r c) = rect_of (across_area s.library c (s.to r c) (track_of s r c))
+place_of s (FromVia r c) = rect_of (square s.library c (track_of s r c))
+place_of s (ToVia r c) = rect_of (square s.library (s.to r c) (track_of s r c))
+
+-- the part of it right of the origin and above
+abbrev pub area : Sheet → Tag → Area
+area s tag = let r = place_of s tag in let x = positive_part r.x0 in let y = positive_part r.y0 in
+    record { left = x; low = y; right = positive_part r.x1; high = positive_part r.y1 }
 
 -- the shape of a tag
 abbrev pub shape_of : Sheet → Tag → Shape

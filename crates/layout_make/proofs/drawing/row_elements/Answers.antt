@@ -5,7 +5,7 @@ use Rattle.layout_make.specs.Tags.{sheet}
 use Rattle.layout_make.proofs.Heights.{stands_low}
 use Rattle.layout_make.proofs.Ready.{lawful, may_ready}
 use Rattle.layout_make.proofs.RowsDrawn.{so_far, edge_here, first_own, first_before}
-use Rattle.layout_make.proofs.TopDrawn.{two_below, right_some, so_wired, so_last}
+use Rattle.layout_make.proofs.TopDrawn.{RowGiven, two_below, right_some, so_wired, so_last}
 use Rattle.layout_make.proofs.drawing.row_elements.Goals as goal
 use Rattle.layout_make.proofs.drawing.row_elements.Goals.{then-number-lt2, else-number-lt2}
 use Rattle.layout_make.proofs.drawing.row_elements.Goals.{then-number-count+in_ok-edge, else-number-count}
@@ -60,16 +60,21 @@ loop-number-preserved c =
       | else-number-lt2 w ↦ w.first-is ∙ first_before c.args.placed.now c.args.library.now c.loop-number.number _ _ _ _
           c.loop-number.invariant (omega (arith, w.if-number-lt2.false))
     ] in
+    let given : RowGiven c.args.placed.now c.args.library.now c.loop-number.number _ _ _ _ c.if-number-lt2.first =
+    record {
+      kinds_are = c.requires.kinds;
+      right_is = c.right_end-right.ensures;
+      cells_are = c.of-row.ensures.cells;
+      slots_are = c.of-row.ensures.slots;
+      first_is = first;
+    } in
     elim c.if-number-count.branch [
-      | then-number-count+in_ok-edge w ↦ so_wired c.args.placed.now c.args.library.now c.loop-number.number _ _ _ _ _ _
-          _ _ _ _ _ _ c.loop-number.invariant (omega (arith, w.if-number-count.true, c.row_count-count.ensures))
-          c.requires.kinds c.right_end-right.ensures c.of-row.ensures.cells c.of-row.ensures.slots first
-          c.in_ok-push_row.ensures
+      | then-number-count+in_ok-edge w ↦ so_wired c.loop-number.invariant
+          (omega (arith, w.if-number-count.true, c.row_count-count.ensures)) given c.in_ok-push_row.ensures
           (ap (λ (v : _). v.items) w.elements-is ∙ w.in_ok-edge.ensures.elements)
           (w.edge-is ∙ w.in_ok-edge.ensures.next)
-      | else-number-count w ↦ so_last c.args.placed.now c.args.library.now c.loop-number.number _ _ _ _ _ _ _ _ _ _ _ _
-          c.loop-number.invariant (omega (arith, c.loop-number-test.true, c.row_count-count.ensures))
-          (omega (arith, w.if-number-count.false, c.row_count-count.ensures)) c.requires.kinds
-          c.right_end-right.ensures c.of-row.ensures.cells c.of-row.ensures.slots first c.in_ok-push_row.ensures
+      | else-number-count w ↦ so_last c.loop-number.invariant
+          (omega (arith, c.loop-number-test.true, c.row_count-count.ensures))
+          (omega (arith, w.if-number-count.false, c.row_count-count.ensures)) given c.in_ok-push_row.ensures
           (ap (λ (v : _). v.items) w.elements-is) w.edge-is
     ]

@@ -77,13 +77,20 @@ push_labels-requires-2-clause-fits c =
 
 pub returns : goal.returns
 returns c =
-    top_is c.args.placed.now c.args.library.now c.in_ok-elements.elements.items c.push_labels.new.elements.items
-    c.push_labels-2.new.elements.items _ _ _ _ _ _ (c.pin.result / 2) c.saturating_sub-y.result _ _
-    c.in_ok-elements.ensures.elements c.of-bottom.ensures.cells c.of-bottom.ensures.slots
-    (c.of-top.ensures.cells ∙ ap (row_at c.args.placed.now.net.rows)
-    (last_at c.args.placed.now _ c.known.ensures c.row_count-last.ensures))
-    (c.of-top.ensures.slots ∙ ap (λ (n : ℕ). slice_index_or c.args.placed.now.slots n [])
-    (last_at c.args.placed.now _ c.known.ensures c.row_count-last.ensures)) c.input_column-column.ensures
-    c.output_column-column.ensures (ap (λ (n : ℕ). n / 2) c.pin.ensures)
-    (search (c.saturating_sub-y.ensures, c.in_ok-elements.ensures.edge, c.height.ensures, c.pin-2.ensures))
-    c.input_count.ensures c.output_count.ensures c.in_ok-push_labels.ensures c.in_ok-push_labels-2.ensures
+    let last = last_at c.args.placed.now _ c.known.ensures c.row_count-last.ensures in
+    top_is c.args.library.now c.in_ok-elements.ensures.elements
+    (record {
+      cells_are = c.of-bottom.ensures.cells;
+      slots_are = c.of-bottom.ensures.slots;
+      column_is = c.input_column-column.ensures;
+      y_is = ap (λ (n : ℕ). n / 2) c.pin.ensures;
+      count_is = c.input_count.ensures;
+    })
+    (record {
+      cells_are = c.of-top.ensures.cells ∙ ap (row_at c.args.placed.now.net.rows) last;
+      slots_are = c.of-top.ensures.slots ∙ ap (λ (n : ℕ). slice_index_or c.args.placed.now.slots n []) last;
+      column_is = c.output_column-column.ensures;
+      y_is = search (c.saturating_sub-y.ensures, c.in_ok-elements.ensures.edge, c.height.ensures, c.pin-2.ensures);
+      count_is = c.output_count.ensures;
+    })
+    c.in_ok-push_labels.ensures c.in_ok-push_labels-2.ensures
