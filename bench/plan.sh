@@ -5,7 +5,7 @@
 # below; no pass comes after it.
 set -u
 here=$(cd -P "$(dirname "$0")/.." && pwd)
-program=$here/crates/plan_bench/out/plan_bench
+program=$here/crates/bench_plans/out/bench_plans
 work=$(mktemp -d)
 trap 'rm -rf "$work"' EXIT
 
@@ -61,12 +61,12 @@ measure() {
     "$program" "$work/net.blif" "$work/lib.toml" 2>"$work/err"
 }
 
-echo "plan_bench: building the program, which proves what it stands on first" >&2
-if ! (cd "$here/crates/plan_bench" && rt run >build.log 2>&1); then
-    echo "plan_bench: the build failed; its messages are in $here/crates/plan_bench/build.log" >&2
+echo "bench_plans: building the program, which proves what it stands on first" >&2
+if ! (cd "$here/crates/bench_plans" && rt run >build.log 2>&1); then
+    echo "bench_plans: the build failed; its messages are in $here/crates/bench_plans/build.log" >&2
     exit 70
 fi
-rm -f "$here/crates/plan_bench/build.log"
+rm -f "$here/crates/bench_plans/build.log"
 
 while read -r shape half whole; do
     measure "$shape" "$half" >"$work/half"

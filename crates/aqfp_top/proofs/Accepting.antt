@@ -16,9 +16,9 @@ use Rattle.layout_rules.specs.declared.rule.Rule.{Rule}
 use Rattle.layout_rules.specs.declared.rule.Rule.TheVariants.{E1, E2, E6}
 use Rattle.layout_rules.specs.Limits.{Limits}
 use Rattle.layout_rules.specs.Rules.{Keeps, KeepsRules, FirstBroken}
-use Rattle.chip_circuit.specs.Circuits.{CircuitView}
+use Rattle.circuit_extracted.specs.Circuits.{CircuitView}
 use Rattle.shape_extract.specs.Extraction.{IsCircuitOf}
-use Rattle.drawn_chip.specs.RealisesNet.{most_bytes}
+use Rattle.layout_realises.specs.RealisesNet.{most_bytes}
 use Rattle.aqfp_top.specs.Words.{word_at, IsCheck, IsSearch, IsEqual, IsWrite, IsReport, IsShapesOf, IsSampleOf}
 use Rattle.aqfp_top.specs.Loads.{gds_limit, lib_limit, net_limit, words_limit}
 use Rattle.aqfp_top.specs.Checks.{IsLayoutOf, IsUnruly, SaysSound, IsRuleFault}

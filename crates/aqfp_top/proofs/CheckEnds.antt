@@ -6,8 +6,8 @@ use Rattle.aq_base.specs.Output.{Output}
 use Rattle.aqfp_top.specs.Code.Printing.{PrintsText}
 use Rattle.aq_base.specs.Heard.{Event}
 use Rattle.aq_base.specs.Store.{Contents}
-use Rattle.chip_circuit.specs.Circuits.{CircuitView, KeepsFacts}
-use Rattle.chip_texts.specs.WordsText.{words_of, SaysWords}
+use Rattle.circuit_extracted.specs.Circuits.{CircuitView, KeepsFacts}
+use Rattle.text_answers.specs.WordsText.{words_of, SaysWords}
 use Rattle.aqfp_top.specs.Loads.{gds_limit, lib_limit, words_limit, check_loads}
 use Rattle.aqfp_top.specs.Stages as stage
 use Rattle.aqfp_top.specs.Stages.{Stage, Answers}

@@ -9,7 +9,7 @@ use Rattle.aq_base.specs.Store.{Contents}
 use Rattle.blif_read.specs.Parts.{NetView}
 use Rattle.blif_read.specs.Netlist.{IsNetlist}
 use Rattle.blif_flat.specs.DesignText as netlist
-use Rattle.chip_circuit.specs.Circuits.{CircuitView, KeepsFacts}
+use Rattle.circuit_extracted.specs.Circuits.{CircuitView, KeepsFacts}
 use Rattle.decide.specs.declared.verdict.Verdict.{Verdict}
 use Rattle.aqfp_top.specs.Loads.{gds_limit, lib_limit, net_limit, words_limit, check_loads}
 use Rattle.aqfp_top.specs.Designs.{IsNetlistFault}

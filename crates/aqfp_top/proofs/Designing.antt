@@ -12,14 +12,14 @@ use Rattle.cell_library.specs.Says as library
 use Rattle.gds_records.specs.Writing.{bytes_of}
 use Rattle.layout_make.specs.Draw.{draw}
 use Rattle.layout_make.specs.Size.{element_number, element_limit}
-use Rattle.chip_plan.specs.Plans.{IsWithin, chip_of}
-use Rattle.chip_plan.specs.Refusals.{Refuses}
-use Rattle.chip_plan.specs.declared.refusal.PlanRefusal.{PlanRefusal}
-use Rattle.chip_plan.specs.declared.refusal.PlanRefusal.TheVariants as refusal
-use Rattle.compact_plan.specs.Compact.{IsNoLarger, IsPlanned}
-use Rattle.cell_plan.specs.Refusals.{RefusesCells}
-use Rattle.cell_plan.specs.declared.refusal.CellPlanRefusal.{CellPlanRefusal}
-use Rattle.cell_plan.specs.declared.refusal.CellPlanRefusal.TheVariants as own
+use Rattle.plan_build.specs.Plans.{IsWithin, chip_of}
+use Rattle.plan_build.specs.Refusals.{Refuses}
+use Rattle.plan_build.specs.declared.refusal.PlanRefusal.{PlanRefusal}
+use Rattle.plan_build.specs.declared.refusal.PlanRefusal.TheVariants as refusal
+use Rattle.plan_compact.specs.Compact.{IsNoLarger, IsPlanned}
+use Rattle.plan_draw.specs.Refusals.{RefusesCells}
+use Rattle.plan_draw.specs.declared.refusal.CellPlanRefusal.{CellPlanRefusal}
+use Rattle.plan_draw.specs.declared.refusal.CellPlanRefusal.TheVariants as own
 use Rattle.aqfp_top.specs.Designs.{SaysDesign, KeepsLimits, HasManyElements, IsNetlistFault, IsCellsFault, IsPlanFault}
 use Rattle.aqfp_top.specs.Designs.{IsChipFor, IsPlanBy, KeepsPlan, PlanFinds, PlanGivesUp, HasTooMuch, HasTooMuchOfOwn}
 use Rattle.aqfp_top.specs.Designs.{HasDesign, stream_of}

@@ -26,7 +26,7 @@ use Rattle.gds_records.specs.Writing.{bytes_of, records_of, library_head, struct
 use Rattle.gds_records.specs.Writing.{two_bytes, dates, corner_bits, corners, point, units, library_name}
 use Rattle.layout_rules.specs.Labels.{letter_i, letter_o, is_decimal}
 use Rattle.layout_rules.proofs.LabelLaws.{is_decimal-decimal}
-use Rattle.list_orders.specs.Numbers.{numbers}
+use Rattle.sorting.specs.Numbers.{numbers}
 use Rattle.rowed.specs.PlacedNets.{PlacedView}
 use Rattle.cell_library.specs.Library.{LibraryView}
 use Rattle.layout_make.specs.Sheet.{Sheet, Tag}

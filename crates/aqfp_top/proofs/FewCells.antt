@@ -15,7 +15,7 @@ use Rattle.geom.specs.FlatForm.{flat_count}
 use Rattle.poly_cut.specs.FlatForm.{wide_flat}
 use Rattle.layout_rules.specs.Pins.{is_entry}
 use Rattle.layout_rules.proofs.PlaceLaws.{list_any-place}
-use Rattle.chip_circuit.specs.Circuits.{CircuitView}
+use Rattle.circuit_extracted.specs.Circuits.{CircuitView}
 use Rattle.shape_extract.specs.Extraction.{IsCircuitOf, IsCellFrom}
 use Rattle.shape_extract.specs.Frames.{comes_before, AreFrames}
 use Rattle.aqfp_top.specs.Checks.{MakesCircuit}

@@ -20,19 +20,19 @@ use Rattle.cell_library.specs.Says as library
 use Rattle.layout_rules.specs.Limits.{Limits}
 use Rattle.layout_rules.specs.Rules.{Keeps, KeepsRules}
 use Rattle.layout_rules.specs.declared.rule.Rule.TheVariants.{E1, E2, E6}
-use Rattle.chip_circuit.specs.Circuits.{CircuitView, KeepsFacts}
+use Rattle.circuit_extracted.specs.Circuits.{CircuitView, KeepsFacts}
 use Rattle.shape_extract.specs.Extraction.{IsCircuitOf}
 use Rattle.layout_make.specs.Draw.{draw}
 use Rattle.layout_make.specs.MayDraw.{MayDraw}
 use Rattle.layout_make.specs.Size.{element_number, element_limit}
 use Rattle.pulse_sim.specs.Shows.{Shows}
-use Rattle.chip_texts.specs.Counts.{counts_line, counts_text, delay_of}
-use Rattle.chip_texts.specs.WordLines.{word_line, answers_to, answers_text}
-use Rattle.chip_texts.specs.WordsText.{words_of, SaysWords}
-use Rattle.chip_texts.proofs.Reading.{words_wide}
-use Rattle.drawn_chip.specs.Realises.{Realises}
-use Rattle.drawn_chip.specs.RealisesNet.{RealisesNet, most_bytes}
-use Rattle.drawn_chip.proofs.RealisesAs.{realises_as}
+use Rattle.text_answers.specs.Counts.{counts_line, counts_text, delay_of}
+use Rattle.text_answers.specs.WordLines.{word_line, answers_to, answers_text}
+use Rattle.text_answers.specs.WordsText.{words_of, SaysWords}
+use Rattle.text_answers.proofs.Reading.{words_wide}
+use Rattle.layout_realises.specs.Realises.{Realises}
+use Rattle.layout_realises.specs.RealisesNet.{RealisesNet, most_bytes}
+use Rattle.layout_realises.proofs.RealisesAs.{realises_as}
 use Rattle.aqfp_top.specs.Designs.{IsChipFor, stream_of, counts_of}
 use Rattle.aqfp_top.specs.Checks.{IsLayoutOf, IsSound}
 use Rattle.aqfp_top.specs.Joined.{PrintsAsNet, VerifiesAsNet}

@@ -14,7 +14,7 @@ use Rattle.gds_read.specs.declared.refusal.StreamRefusal.{StreamRefusal}
 use Rattle.gds_read.specs.declared.refusal.StreamRefusal.TheVariants.{TooManyShapes}
 use Rattle.cell_library.specs.Library.{LibraryView, limits_of}
 use Rattle.cell_library.specs.Says as library
-use Rattle.chip_circuit.specs.Circuits.{CircuitView}
+use Rattle.circuit_extracted.specs.Circuits.{CircuitView}
 use Rattle.layout_rules.specs.declared.rule.Rule.{Rule}
 use Rattle.layout_rules.specs.Limits.{Limits}
 use Rattle.layout_rules.specs.Rules.{KeepsRules, FirstBroken}
@@ -23,7 +23,7 @@ use Rattle.shape_extract.specs.Extraction.{IsCircuitOf}
 use Rattle.shape_extract.specs.Extracts.{Extracts, BreaksCircuit, IfBroken}
 use Rattle.shape_extract.specs.declared.extraction.ExtractRefusal.{ExtractRefusal}
 use Rattle.shape_extract.specs.declared.extraction.ExtractRefusal.TheVariants.{Broken}
-use Rattle.chip_texts.specs.WordsText.{SaysWords, IsBadLine}
+use Rattle.text_answers.specs.WordsText.{SaysWords, IsBadLine}
 use Rattle.aqfp_top.specs.Designs.{IsCellsFault}
 use Rattle.aqfp_top.specs.Checks.{IsLayoutOf, MakesCircuit, IsSound, IsRuleFault}
 use Rattle.aqfp_top.specs.Stages as stage

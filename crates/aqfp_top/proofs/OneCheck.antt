@@ -21,9 +21,9 @@ use Rattle.layout_rules.specs.Limits.{Limits}
 use Rattle.cell_library.specs.Library.{limits_of}
 use Rattle.layout_rules.specs.Rules.{Keeps, FirstBroken}
 use Rattle.layout_rules.specs.Rules.{IsOneReport}
-use Rattle.chip_circuit.specs.Circuits.{CircuitView}
+use Rattle.circuit_extracted.specs.Circuits.{CircuitView}
 use Rattle.shape_extract.specs.Extraction.{IsCircuitOf}
-use Rattle.chip_texts.specs.WordsText.{is_word, SaysWords, IsBadLine}
+use Rattle.text_answers.specs.WordsText.{is_word, SaysWords, IsBadLine}
 use Rattle.aqfp_top.specs.Checks.{IsLayoutOf, IsUnruly, MakesCircuit, IsMisworded, IsSound, IsStreamFault, IsSizeFault}
 use Rattle.aqfp_top.specs.Checks.{IsRuleFault, IsWordsFault}
 use Rattle.aqfp_top.specs.declared.fault.Large.TheVariants.{Shapes}

@@ -8,7 +8,7 @@ use Rattle.layout_rules.specs.declared.rule.Rule.TheVariants.{E1, E2, E6}
 use Rattle.layout_rules.specs.Limits.{Limits}
 use Rattle.layout_rules.specs.Rules.{Keeps}
 use Rattle.blif_read.specs.Parts.{NetView}
-use Rattle.chip_circuit.specs.Circuits.{CircuitView}
+use Rattle.circuit_extracted.specs.Circuits.{CircuitView}
 use Rattle.shape_extract.specs.Extraction.{IsCircuitOf}
 use Rattle.aqfp_top.specs.Comparing.{MakesBoth, HasWidths, IsWidthsFault}
 use Rattle.aqfp_top.specs.declared.fault.Fault.{Fault}

@@ -21,10 +21,10 @@ use Rattle.cell_library.specs.declared.fault.LibraryFault.TheVariants.{Text, Key
 use Rattle.circuit.specs.declared.cell_kind.CellKind.{CellKind}
 use Rattle.blif_read.specs.declared.netlist.BlifFault.{BlifFault}
 use Rattle.layout_make.specs.Size.{element_number, element_limit}
-use Rattle.chip_plan.specs.Plans.{IsWithin, chip_of}
-use Rattle.chip_plan.specs.Refusals.{Refuses}
-use Rattle.chip_plan.specs.declared.refusal.PlanRefusal.{PlanRefusal}
-use Rattle.chip_plan.specs.declared.refusal.PlanRefusal.TheVariants as plan
+use Rattle.plan_build.specs.Plans.{IsWithin, chip_of}
+use Rattle.plan_build.specs.Refusals.{Refuses}
+use Rattle.plan_build.specs.declared.refusal.PlanRefusal.{PlanRefusal}
+use Rattle.plan_build.specs.declared.refusal.PlanRefusal.TheVariants as plan
 use Rattle.aqfp_top.specs.Designs.{SaysLibrary, HasNetlist, HasDesign, KeepsLimits, HasManyElements, HasTooMuch}
 use Rattle.aqfp_top.specs.Designs.{IsCellFault, IsNetlistFault, IsPlainFault, IsCellsFault, IsPlanFault, PlanFinds}
 use Rattle.aqfp_top.specs.declared.planner.Planner.{Planner}

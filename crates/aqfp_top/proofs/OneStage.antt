@@ -12,12 +12,12 @@ use Rattle.layout_rules.specs.declared.rule.Rule.TheVariants.{E1, E2, E6}
 use Rattle.layout_rules.specs.Limits.{Limits}
 use Rattle.layout_rules.specs.Rules.{Keeps, FirstBroken}
 use Rattle.layout_rules.specs.Rules.{IsOneReport}
-use Rattle.chip_circuit.specs.Circuits.{CircuitView}
+use Rattle.circuit_extracted.specs.Circuits.{CircuitView}
 use Rattle.shape_extract.specs.Extraction.{IsCircuitOf}
-use Rattle.chip_plan.specs.Plans.{IsWithin}
-use Rattle.chip_plan.specs.Refusals.{Refuses}
-use Rattle.chip_plan.specs.declared.refusal.PlanRefusal.{PlanRefusal}
-use Rattle.chip_plan.specs.declared.refusal.PlanRefusal.TheVariants as plan
+use Rattle.plan_build.specs.Plans.{IsWithin}
+use Rattle.plan_build.specs.Refusals.{Refuses}
+use Rattle.plan_build.specs.declared.refusal.PlanRefusal.{PlanRefusal}
+use Rattle.plan_build.specs.declared.refusal.PlanRefusal.TheVariants as plan
 use Rattle.aqfp_top.specs.Stages as stage
 use Rattle.aqfp_top.specs.Stages.{Stage, Finds}
 use Rattle.aqfp_top.specs.Due.{untaken}

@@ -7,7 +7,7 @@ use Rattle.aq_base.specs.declared.store.StoreRefusal.TheVariants as store
 use Rattle.aq_base.specs.FaultCounts.{write_faults}
 use Rattle.aq_base.specs.Output.{Output, printed}
 use Rattle.aq_base.proofs.Counting.{took_writes}
-use Rattle.chip_texts.specs.Printing.{PrintsWithin}
+use Rattle.text_answers.specs.Printing.{PrintsWithin}
 use Rattle.aqfp_top.specs.Code.Building.{IsOutOrMemory}
 use Rattle.aqfp_top.specs.Code.Printing.{end_of_out, PrintsText, OutFails}
 use Rattle.aqfp_top.specs.declared.fault.WriteCall.TheVariants.{Create, Append, Close, Out}

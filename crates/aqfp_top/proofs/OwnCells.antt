@@ -4,11 +4,11 @@ use Rattle.blif_read.specs.Parts.{NetView}
 use Rattle.rowed.specs.RowNets.{RowView}
 use Rattle.cell_library.specs.Library.{LibraryView}
 use Rattle.cell_netlist.proofs.OneFault.{first_fault_one, cells_no_fault}
-use Rattle.chip_plan.specs.Plans.{three_of}
-use Rattle.cell_plan.specs.CellPlans.{AreCellRows}
-use Rattle.cell_plan.specs.declared.refusal.CellPlanRefusal.TheVariants as own
-use Rattle.cell_plan.proofs.OneNet.{cells_of}
-use Rattle.cell_plan.proofs.OneChip.{chip_or_refusal}
+use Rattle.plan_build.specs.Plans.{three_of}
+use Rattle.plan_draw.specs.CellPlans.{AreCellRows}
+use Rattle.plan_draw.specs.declared.refusal.CellPlanRefusal.TheVariants as own
+use Rattle.plan_draw.proofs.OneNet.{cells_of}
+use Rattle.plan_draw.proofs.OneChip.{chip_or_refusal}
 use Rattle.aqfp_top.specs.Designs.{HasTooMuchOfOwn, HasCellChip, IsOwnFault}
 use Rattle.aqfp_top.specs.declared.fault.Large.{Large}
 use Rattle.aqfp_top.specs.declared.fault.Large.TheVariants.{Slots, Rows, Cells, Elements, Shapes, Functions, Design}

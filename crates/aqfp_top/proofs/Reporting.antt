@@ -10,7 +10,7 @@ use Rattle.poly_cut.specs.FlatForm.{wide_flat}
 use Rattle.gds_records.specs.Stream.{IsWideStream}
 use Rattle.cell_library.specs.Library.{LibraryView, limits_of}
 use Rattle.cell_library.specs.Says as library
-use Rattle.layout_report.specs.ReportText.{report_text}
+use Rattle.text_report.specs.ReportText.{report_text}
 use Rattle.aqfp_top.specs.Loads.{gds_limit, lib_limit, write_loads, ToldTwo}
 use Rattle.aqfp_top.specs.Stages.{IsFirst, Answers}
 use Rattle.aqfp_top.specs.Due.{circuit_stages, write_stages}

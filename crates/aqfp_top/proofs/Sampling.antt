@@ -16,7 +16,7 @@ use Rattle.blif_read.specs.Equations.{IsAnswer}
 use Rattle.cell_library.specs.Library.{LibraryView}
 use Rattle.cell_library.specs.LibraryA.{library_a_view}
 use Rattle.layout_make.specs.Size.{element_number, element_limit}
-use Rattle.chip_plan.specs.Plans.{chip_of}
+use Rattle.plan_build.specs.Plans.{chip_of}
 use Rattle.sample_adder.specs.Adder.{adder}
 use Rattle.sample_adder.specs.EightWords.{eight}
 use Rattle.sample_adder.specs.SampleText.{sample_text}

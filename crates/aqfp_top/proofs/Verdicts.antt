@@ -4,15 +4,15 @@ use Rattle.std.proofs.lemmas.List.{get_or-map, length-map}
 use Rattle.circuit.specs.PlainNets.{PlainView}
 use Rattle.circuit.specs.PlainNets as plain
 use Rattle.circuit.specs.SameAnswers.{SameAnswers}
-use Rattle.chip_plan.proofs.SameThen.{same_then}
+use Rattle.plan_build.proofs.SameThen.{same_then}
 use Rattle.blif_read.specs.Parts.{NetView}
 use Rattle.blif_read.specs.Equations as equations
 use Rattle.blif_read.specs.Netlist.{IsNetlist}
 use Rattle.maj_mapping.specs.Plan.{map_net}
 use Rattle.maj_mapping.proofs.MappedNets.{same_inputs, same_count, keeps}
-use Rattle.chip_cells.specs.CellGates.{cells_of}
-use Rattle.chip_circuit.specs.Circuits.{CircuitView}
-use Rattle.chip_circuit.specs.Answers.{IsAnswer}
+use Rattle.circuit_gates.specs.CellGates.{cells_of}
+use Rattle.circuit_extracted.specs.Circuits.{CircuitView}
+use Rattle.circuit_extracted.specs.Answers.{IsAnswer}
 use Rattle.circuit.specs.CellNets.{IsCells, value}
 use Rattle.circuit.proofs.CellAnswers.{some_answer, the_answer}
 use Rattle.decide.specs.Subfunctions.{HasAtMost}

@@ -15,11 +15,11 @@ use Rattle.gds_read.specs.WideReading.{IsWideTooLarge}
 use Rattle.layout_rules.specs.declared.rule.Rule.{Rule}
 use Rattle.layout_rules.specs.Rules.{KeepsRules, FirstBroken}
 use Rattle.cell_library.specs.Library.{limits_of}
-use Rattle.chip_circuit.specs.Circuits.{CircuitView, KeepsFacts}
+use Rattle.circuit_extracted.specs.Circuits.{CircuitView, KeepsFacts}
 use Rattle.shape_extract.specs.Extraction.{IsCircuitOf}
-use Rattle.chip_texts.specs.WordsText.{words_of, SaysWords, IsBadLine}
-use Rattle.chip_texts.specs.WordLines.{answers_to, answers_text}
-use Rattle.chip_texts.specs.FluxLines.{trace_text}
+use Rattle.text_answers.specs.WordsText.{words_of, SaysWords, IsBadLine}
+use Rattle.text_answers.specs.WordLines.{answers_to, answers_text}
+use Rattle.text_answers.specs.FluxLines.{trace_text}
 use Rattle.aqfp_top.specs.Words.{word_at}
 use Rattle.aqfp_top.specs.Designs.{SaysLibrary}
 use Rattle.aqfp_top.specs.declared.check.Printing.{Printing}

@@ -11,9 +11,9 @@ use Rattle.blif_flat.specs.DesignText as netlist
 use Rattle.blif_read.specs.Equations.{IsAnswer}
 use Rattle.cell_library.specs.Library.{LibraryView, limits_of}
 use Rattle.cell_library.specs.Says as library
-use Rattle.chip_circuit.specs.Circuits.{CircuitView, KeepsFacts}
-use Rattle.chip_texts.specs.Counts.{counts_line, delay_of}
-use Rattle.drawn_chip.specs.Realises.{Realises}
+use Rattle.circuit_extracted.specs.Circuits.{CircuitView, KeepsFacts}
+use Rattle.text_answers.specs.Counts.{counts_line, delay_of}
+use Rattle.layout_realises.specs.Realises.{Realises}
 use Rattle.aqfp_top.specs.Words.{word_at}
 
 -- The bytes realise the equations with the library's numbers, in every order of switching and by every clock whose

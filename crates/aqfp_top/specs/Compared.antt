@@ -6,12 +6,12 @@ use Rattle.aq_base.specs.Output as output
 use Rattle.aq_base.specs.Store.{Contents}
 use Rattle.blif_read.specs.Parts.{NetView}
 use Rattle.blif_read.specs.Equations.{IsAnswer}
-use Rattle.chip_circuit.specs.Circuits.{CircuitView}
+use Rattle.circuit_extracted.specs.Circuits.{CircuitView}
 use Rattle.decide.specs.declared.verdict.Verdict.{Verdict}
 use Rattle.decide.specs.declared.verdict.Verdict.TheVariants.{Equal}
 use Rattle.pulse_sim.specs.Shows.{Shows}
 use Rattle.pulse_sim.specs.Clocked.{ShowsByClocks}
-use Rattle.chip_texts.specs.Counts.{delay_of}
+use Rattle.text_answers.specs.Counts.{delay_of}
 use Rattle.aqfp_top.specs.Words.{word_at}
 use Rattle.aqfp_top.specs.Comparing.{HasVerdict, verdict_text}
 

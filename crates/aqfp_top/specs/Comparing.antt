@@ -14,14 +14,14 @@ use Rattle.blif_read.specs.Netlist.{IsNetlist}
 use Rattle.blif_flat.specs.DesignText as netlist
 use Rattle.blif_read.specs.Equations as equations
 use Rattle.maj_mapping.specs.Plan.{map_net}
-use Rattle.chip_circuit.specs.Circuits.{CircuitView, KeepsFacts}
-use Rattle.chip_circuit.specs.Answers.{IsAnswer}
-use Rattle.chip_cells.specs.CellGates.{cells_of}
+use Rattle.circuit_extracted.specs.Circuits.{CircuitView, KeepsFacts}
+use Rattle.circuit_extracted.specs.Answers.{IsAnswer}
+use Rattle.circuit_gates.specs.CellGates.{cells_of}
 use Rattle.decide.specs.Subfunctions.{HasAtMost}
 use Rattle.decide.specs.Verdicts.{Before}
 use Rattle.decide.specs.declared.verdict.Verdict.{Verdict}
 use Rattle.decide.specs.declared.verdict.Verdict.TheVariants.{Equal, Differ, Differs}
-use Rattle.chip_texts.specs.WordLines.{digit_of, word_line}
+use Rattle.text_answers.specs.WordLines.{digit_of, word_line}
 use Rattle.aqfp_top.specs.Checks.{ToldTexts, MakesCircuit}
 use Rattle.aqfp_top.specs.declared.fault.Fault.{Fault}
 use Rattle.aqfp_top.specs.declared.fault.Fault.TheVariants.{WriteFault, Widths, Memory}

@@ -14,20 +14,20 @@ use Rattle.cell_library.specs.Laws.{IsLibrary}
 use Rattle.cell_library.specs.declared.fault.LibraryFault.{LibraryFault}
 use Rattle.cell_library.specs.declared.fault.LibraryFault.TheVariants.{Text, Missing}
 use Rattle.gds_records.specs.Writing.{bytes_of}
-use Rattle.chip_texts.specs.Counts.{counts_text}
+use Rattle.text_answers.specs.Counts.{counts_text}
 use Rattle.layout_make.specs.Draw.{draw}
 use Rattle.layout_make.specs.Size.{element_number, element_limit}
 use Rattle.layout_make.specs.MayDraw.{MayDraw}
-use Rattle.chip_plan.specs.Laws.{AnswersAs}
-use Rattle.chip_plan.specs.Plans.{IsWithin, chip_of, three_of}
-use Rattle.chip_plan.specs.Refusals.{Refuses}
-use Rattle.chip_plan.specs.declared.refusal.PlanRefusal.TheVariants as plan
-use Rattle.compact_plan.specs.Compact.{IsNoLarger}
+use Rattle.plan_build.specs.Laws.{AnswersAs}
+use Rattle.plan_build.specs.Plans.{IsWithin, chip_of, three_of}
+use Rattle.plan_build.specs.Refusals.{Refuses}
+use Rattle.plan_build.specs.declared.refusal.PlanRefusal.TheVariants as plan
+use Rattle.plan_compact.specs.Compact.{IsNoLarger}
 use Rattle.cell_netlist.specs.Told.{HasFirstFault}
-use Rattle.cell_plan.specs.CellPlans.{IsCellChip}
-use Rattle.cell_plan.specs.DrawnChips.{IsDrawnChip}
-use Rattle.cell_plan.specs.Refusals.{RefusesCells}
-use Rattle.cell_plan.specs.declared.refusal.CellPlanRefusal.TheVariants as own
+use Rattle.plan_draw.specs.CellPlans.{IsCellChip}
+use Rattle.plan_draw.specs.DrawnChips.{IsDrawnChip}
+use Rattle.plan_draw.specs.Refusals.{RefusesCells}
+use Rattle.plan_draw.specs.declared.refusal.CellPlanRefusal.TheVariants as own
 use Rattle.aqfp_top.specs.declared.planner.Planner.{Planner}
 use Rattle.aqfp_top.specs.declared.planner.Planner.TheVariants.{Layered, Compact, Given}
 use Rattle.aqfp_top.specs.declared.fault.Large.{Large}

@@ -10,7 +10,7 @@ use Rattle.aq_base.specs.Heard.{close_event}
 use Rattle.blif_read.specs.Parts.{NetView}
 use Rattle.cell_library.specs.Library.{LibraryView}
 use Rattle.rowed.specs.PlacedNets.{PlacedView}
-use Rattle.chip_circuit.specs.Circuits.{CircuitView}
+use Rattle.circuit_extracted.specs.Circuits.{CircuitView}
 use Rattle.blif_flat.specs.BlifText.{blif_text}
 use Rattle.aqfp_top.specs.Words.{word_at, IsOfForm}
 use Rattle.aqfp_top.specs.Loads.{Load, net_limit, lib_limit, gds_limit, words_limit}

@@ -5,10 +5,10 @@ use Rattle.blif_read.specs.Parts.{NetView}
 use Rattle.blif_read.specs.Equations.{IsAnswer}
 use Rattle.rowed.specs.PlacedNets.{PlacedView}
 use Rattle.cell_library.specs.Library.{LibraryView}
-use Rattle.chip_circuit.specs.Circuits.{CircuitView}
-use Rattle.chip_texts.specs.WordsText.{words_of}
-use Rattle.chip_texts.specs.WordLines.{word_line, answers_to, answers_text}
-use Rattle.drawn_chip.specs.RealisesNet.{most_bytes}
+use Rattle.circuit_extracted.specs.Circuits.{CircuitView}
+use Rattle.text_answers.specs.WordsText.{words_of}
+use Rattle.text_answers.specs.WordLines.{word_line, answers_to, answers_text}
+use Rattle.layout_realises.specs.RealisesNet.{most_bytes}
 use Rattle.aqfp_top.specs.Checks.{IsSound, SaysSound}
 use Rattle.aqfp_top.specs.Designs.{stream_of, counts_of}
 

@@ -4,7 +4,7 @@ use Rattle.aq_base.specs.declared.store.StoreRefusal.{StoreRefusal}
 use Rattle.aq_base.specs.declared.store.StoreRefusal.TheVariants as store
 use Rattle.aq_base.specs.Output.{Output}
 use Rattle.aq_base.specs.Output as output
-use Rattle.chip_texts.specs.Printing.{PrintsWithin}
+use Rattle.text_answers.specs.Printing.{PrintsWithin}
 use Rattle.aqfp_top.specs.declared.fault.Fault.{Fault}
 use Rattle.aqfp_top.specs.declared.fault.Fault.TheVariants.{WriteFault, Memory}
 

@@ -5,8 +5,8 @@ use Rattle.aq_base.specs.Output as output
 use Rattle.aq_base.specs.Store.{Contents}
 use Rattle.aq_base.specs.Heard.{Event}
 use Rattle.poly_cut.specs.FlatForm.{wide_flat}
-use Rattle.chip_circuit.specs.Circuits.{CircuitView}
-use Rattle.layout_report.specs.ReportText.{report_text}
+use Rattle.circuit_extracted.specs.Circuits.{CircuitView}
+use Rattle.text_report.specs.ReportText.{report_text}
 use Rattle.aqfp_top.specs.Words.{word_at}
 use Rattle.aqfp_top.specs.Checks.{MakesCircuit}
 use Rattle.aqfp_top.specs.Histories.{loaded}

@@ -11,7 +11,7 @@ use Rattle.blif_read.specs.Equations.{IsAnswer}
 use Rattle.rowed.specs.PlacedNets.{PlacedView}
 use Rattle.rowed.specs.Counts.{cells_in, wires_in}
 use Rattle.cell_library.specs.LibraryA.{library_a_view}
-use Rattle.chip_plan.specs.Plans.{chip_of}
+use Rattle.plan_build.specs.Plans.{chip_of}
 use Rattle.sample_adder.specs.Adder.{adder}
 use Rattle.sample_adder.specs.EightWords.{eight}
 use Rattle.sample_adder.specs.SampleText.{sample_text}

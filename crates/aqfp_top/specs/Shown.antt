@@ -8,7 +8,7 @@ use Rattle.geom.specs.declared.shapes.Flat.{Flat}
 use Rattle.geom.specs.FlatForm.{flat_count}
 use Rattle.poly_cut.specs.declared.layout.WideLayout.{WideLayout}
 use Rattle.poly_cut.specs.FlatForm.{wide_flat}
-use Rattle.layout_report.specs.ShapeLines.{shape_line}
+use Rattle.text_report.specs.ShapeLines.{shape_line}
 use Rattle.aqfp_top.specs.Words.{word_at}
 use Rattle.aqfp_top.specs.Checks.{IsLayoutOf}
 use Rattle.aqfp_top.specs.declared.fault.Fault.{Fault}

@@ -3,13 +3,13 @@ use Rattle.std.specs.Prelude.{◌≡◌, ℕ, Bool, List, Some}
 use Rattle.aq_base.specs.Output.{Output}
 use Rattle.aq_base.specs.Output as output
 use Rattle.aq_base.specs.Store.{Contents}
-use Rattle.chip_circuit.specs.Circuits.{CircuitView}
+use Rattle.circuit_extracted.specs.Circuits.{CircuitView}
 use Rattle.pulse_sim.specs.Shows.{Shows}
 use Rattle.pulse_sim.specs.Clocked.{ShowsByClocks}
-use Rattle.chip_texts.specs.Counts.{delay_of}
-use Rattle.chip_texts.specs.WordsText.{words_of}
-use Rattle.chip_texts.specs.WordLines.{answers_text}
-use Rattle.chip_texts.specs.FluxLines.{trace_text}
+use Rattle.text_answers.specs.Counts.{delay_of}
+use Rattle.text_answers.specs.WordsText.{words_of}
+use Rattle.text_answers.specs.WordLines.{answers_text}
+use Rattle.text_answers.specs.FluxLines.{trace_text}
 use Rattle.aqfp_top.specs.Words.{word_at}
 use Rattle.aqfp_top.specs.Checks.{IsSound}
 

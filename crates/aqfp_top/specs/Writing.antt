@@ -7,8 +7,8 @@ use Rattle.aq_base.specs.Output.{Output}
 use Rattle.aq_base.specs.Output as output
 use Rattle.aqfp_top.specs.Printed.{PrintsFirst}
 use Rattle.aq_base.specs.Store.{Contents, told_with, StoresPrefix}
-use Rattle.chip_circuit.specs.Circuits.{CircuitView, KeepsFacts}
-use Rattle.chip_texts.specs.Counts.{counts_line}
+use Rattle.circuit_extracted.specs.Circuits.{CircuitView, KeepsFacts}
+use Rattle.text_answers.specs.Counts.{counts_line}
 use Rattle.blif_flat.specs.BlifText.{blif_text}
 use Rattle.aqfp_top.specs.Words.{word_at}
 use Rattle.aqfp_top.specs.Loads.{ToldTwo}

@@ -3,8 +3,8 @@ use Rattle.std.specs.Prelude.{◌≡◌, ℕ, List, Option, Some}
 use Rattle.aq_base.specs.Output.{Output}
 use Rattle.aq_base.specs.Output as output
 use Rattle.aq_base.specs.Store.{Contents, with_file}
-use Rattle.chip_circuit.specs.Circuits.{CircuitView, KeepsFacts}
-use Rattle.chip_texts.specs.Counts.{counts_line}
+use Rattle.circuit_extracted.specs.Circuits.{CircuitView, KeepsFacts}
+use Rattle.text_answers.specs.Counts.{counts_line}
 use Rattle.blif_flat.specs.BlifText.{blif_text}
 use Rattle.blif_flat.specs.Written.{AnswersAsWritten}
 use Rattle.aqfp_top.specs.Words.{word_at}

@@ -11,8 +11,8 @@ ghost use Rattle.cell_library.specs.Library.{LibraryView, limits_of};
 ghost use Rattle.cell_library.specs.LibraryA.{library_a_view};
 ghost use Rattle.cell_library.specs.Says.{SaysLibrary};
 ghost use Rattle.layout_rules.specs.Rules.{KeepsRules};
-ghost use Rattle.chip_circuit.specs.Circuits.{CircuitView};
-ghost use Rattle.chip_texts.specs.WordsText.{SaysWords};
+ghost use Rattle.circuit_extracted.specs.Circuits.{CircuitView};
+ghost use Rattle.text_answers.specs.WordsText.{SaysWords};
 ghost use Rattle.sample_adder.specs.Adder.{adder};
 ghost use Rattle.aqfp_top.specs.Words.{word_at, IsCheck, IsEqual, IsWrite, IsReport, IsShapesOf, IsSampleOf};
 ghost use Rattle.aqfp_top.specs.Loads.{gds_limit, lib_limit, net_limit, words_limit};
@@ -25,8 +25,8 @@ ghost use Rattle.aqfp_top.specs.declared.fault.Fault.{Fault};
 
 use crate::due::one_answer_is_due;
 use crate::joined::built_is_verified;
-use chip_plan::plan_laws;
 use gds_records::one_wide_reading;
+use plan_build::plan_laws;
 use poly_cut::count_is_exact;
 use shape_extract::one_circuit;
 

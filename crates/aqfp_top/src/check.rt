@@ -1,7 +1,7 @@
 // `verify GDS LIB WORDS` and `trace GDS LIB WORDS`.
 ghost use Rattle.std.specs.Prelude.{◌≡◌, ◌^◌, ◌<◌, ℕ, All, List, Some, None, length, IfOk, IfErr, OnOk};
 ghost use Rattle.std.specs.Result.{result_err};
-ghost use Rattle.chip_texts.specs.WordsText.{words_of, SaysWords};
+ghost use Rattle.text_answers.specs.WordsText.{words_of, SaysWords};
 ghost use Rattle.aqfp_top.specs.Words.{spelled};
 ghost use Rattle.aqfp_top.specs.Stages.{IsFirst, Answers};
 ghost use Rattle.aqfp_top.specs.Loads.{check_loads};
@@ -19,10 +19,10 @@ use crate::fault::Fault;
 use crate::out::out_end;
 use crate::reading::{load_texts, read_circuit};
 use aq_base::{Files, Sink};
-use chip_texts::{GivenWords, print_answers, print_fluxes, read_words};
 use gds_records::one_wide_reading;
 use shape_extract::{Extracted, one_circuit};
 use std::alloc::Global;
+use text_answers::{GivenWords, print_answers, print_fluxes, read_words};
 
 /// What is printed of a chip's circuit.
 #[derive(Clone, Copy, PartialEq, Eq)]

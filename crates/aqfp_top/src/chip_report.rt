@@ -1,7 +1,7 @@
 // `report GDS LIB`.
 ghost use Rattle.std.specs.Prelude.{◌≡◌, ◌≤◌, ◌^◌, length, IfOk, IfErr, OnOk};
 ghost use Rattle.std.specs.Result.{result_err};
-ghost use Rattle.layout_report.specs.ReportText.{report_text};
+ghost use Rattle.text_report.specs.ReportText.{report_text};
 ghost use Rattle.aqfp_top.specs.Words.{spelled};
 ghost use Rattle.aqfp_top.specs.Stages.{Answers};
 ghost use Rattle.aqfp_top.specs.Due.{circuit_stages, write_stages};
@@ -26,8 +26,8 @@ use crate::reading::read_layout;
 use aq_base::{Files, Sink};
 use cell_library::Library;
 use gds_records::one_wide_reading;
-use layout_report::print_report;
 use std::alloc::Global;
+use text_report::print_report;
 
 #[tactic(auto, using(crate::proofs::OutEnds::ends_text))]
 fn print<O: Sink>(

@@ -1,7 +1,7 @@
 // The counts of a chip, and their line.
 ghost use Rattle.std.specs.Prelude.{◌<◌, ◌^◌};
 ghost use Rattle.rowed.specs.Counts.{cells_in, wires_in};
-ghost use Rattle.chip_texts.specs.Counts.{counts_text};
+ghost use Rattle.text_answers.specs.Counts.{counts_text};
 ghost use Rattle.aqfp_top.specs.Code.Designing.{AreCountsOf};
 ghost use Rattle.aqfp_top.specs.Code.Printing.{PrintsText};
 ghost use Rattle.aqfp_top.specs.Code.Writing.{AreCircuitCounts};
@@ -48,7 +48,7 @@ pub fn circuit_counts(circuit: &Extracted) -> ChipCounts
 }
 
 /// Puts the counts line.
-#[tactic(auto, using(crate::proofs::OutEnds::ends_text, chip_texts::proofs::Pages::put_within))]
+#[tactic(auto, using(crate::proofs::OutEnds::ends_text, text_answers::proofs::Pages::put_within))]
 pub fn put_counts<O: Sink>(counts: &ChipCounts, out: &mut O) -> Result<(), Fault>
     ensures { PrintsText (counts_text counts.now.rows counts.now.cells counts.now.wires)
         (O.output out.old) (O.output out.new) result }

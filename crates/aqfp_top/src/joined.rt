@@ -4,23 +4,23 @@ ghost use Rattle.blif_read.specs.Parts.{NetView};
 ghost use Rattle.rowed.specs.PlacedNets.{PlacedView};
 ghost use Rattle.cell_library.specs.Library.{LibraryView};
 ghost use Rattle.cell_library.specs.Says.{SaysLibrary};
-ghost use Rattle.chip_plan.specs.Plans.{chip_of};
-ghost use Rattle.cell_plan.specs.CellPlans.{IsCellChip};
-ghost use Rattle.chip_texts.specs.WordsText.{SaysWords};
+ghost use Rattle.plan_build.specs.Plans.{chip_of};
+ghost use Rattle.plan_draw.specs.CellPlans.{IsCellChip};
+ghost use Rattle.text_answers.specs.WordsText.{SaysWords};
 ghost use Rattle.aqfp_top.specs.Designs.{SaysDesign, KeepsLimits, IsChipFor};
 ghost use Rattle.aqfp_top.specs.Joined.{VerifiesAsNet};
 
 use blif_flat::each_design;
 use cell_library::each_library;
-use cell_plan::cell_plan_laws;
-use chip_plan::plan_laws;
-use chip_texts::answers_are_shown;
-use drawn_chip::drawn_chip_realises;
 use gds_read::strict_reading_is_wide;
 use gds_records::{one_layout, one_wide_reading, written_is_read};
 use layout_make::drawing_laws;
+use layout_realises::drawn_chip_realises;
+use plan_build::plan_laws;
+use plan_draw::cell_plan_laws;
 use pulse_sim::shown_once;
 use shape_extract::one_circuit;
+use text_answers::answers_are_shown;
 
 /// What `build`, `compact` or `draw` stores, a chip for the netlist, `verify` with the same library accepts, whatever
 /// words with a value for each input of the netlist are given, and prints as the chip's counts and the netlist's answer

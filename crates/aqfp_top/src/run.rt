@@ -41,12 +41,12 @@ use crate::words::{Form, form_of};
 use crate::write::write_netlist;
 use aq_base::{Files, Sink};
 use blif_flat::written_answers;
-use chip_texts::answers_are_shown;
-use drawn_chip::drawn_chip_realises;
 use gds_records::{one_layout, written_is_read};
 use layout_make::drawing_laws;
+use layout_realises::drawn_chip_realises;
 use pulse_sim::every_clock;
 use std::alloc::Global;
+use text_answers::answers_are_shown;
 
 /// How a run ended: the status of the program, and the fault where the status is not 0.
 #[derive(Drop)]

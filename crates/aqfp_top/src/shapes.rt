@@ -6,8 +6,8 @@ ghost use Rattle.aq_base.specs.Output.{printed};
 ghost use Rattle.geom.specs.FlatForm.{flat_count};
 ghost use Rattle.poly_cut.specs.Conditions.{IsFlattenable};
 ghost use Rattle.poly_cut.specs.FlatForm.{wide_flat};
-ghost use Rattle.chip_texts.specs.Printing.{PrintsWithin};
-ghost use Rattle.layout_report.specs.ShapeLines.{shape_line};
+ghost use Rattle.text_answers.specs.Printing.{PrintsWithin};
+ghost use Rattle.text_report.specs.ShapeLines.{shape_line};
 ghost use Rattle.aqfp_top.specs.Words.{spelled, word_at};
 ghost use Rattle.aqfp_top.specs.Stages.{Answers};
 ghost use Rattle.aqfp_top.specs.Due.{showing_stages, shapes_stages};
@@ -28,9 +28,9 @@ use crate::reading::read_layout;
 use aq_base::{Files, Sink, StoreRefusal};
 use gds_records::one_wide_reading;
 use geom::Flat;
-use layout_report::print_shape;
 use poly_cut::{WideLayout, count_is_exact, flatten_wide};
 use std::alloc::Global;
+use text_report::print_shape;
 
 // Whether both numbers are of shapes or labels.
 fn check_numbers(flat: &Flat, first: u64, second: u64) -> Result<(), Fault>
@@ -56,7 +56,7 @@ fn check_numbers(flat: &Flat, first: u64, second: u64) -> Result<(), Fault>
 }
 
 // Puts the two lines.
-#[tactic(auto, using(chip_texts::proofs::Pages::texts))]
+#[tactic(auto, using(text_answers::proofs::Pages::texts))]
 fn put_lines<O: Sink>(
     alloc: Global,
     flat: &Flat,

@@ -17,12 +17,12 @@ use Rattle.blif_read.specs.Parts.{NetView, plane}
 use Rattle.blif_read.specs.Says.{SaysNet}
 use Rattle.blif_read.specs.Equations.{takes, matches, Fits, IsAnswer as NetAnswer}
 use Rattle.blif_read.proofs.OneAnswer.{equation}
-use Rattle.chip_circuit.specs.declared.cells.Feed.{Feed}
-use Rattle.chip_circuit.specs.declared.cells.Feed.TheVariants.{Nothing, Pin, Label}
-use Rattle.chip_circuit.specs.declared.cells.ExCell.{ExCell}
-use Rattle.chip_circuit.specs.Circuits.{CircuitView, IsCellAt, IsOutputBelow, IsFeedOf, KeepsFacts, feed_at}
-use Rattle.chip_circuit.specs.Answers.{feed_value, cell_value, values_at, IsAnswer}
-use Rattle.chip_circuit.proofs.Valuations.{only_answer}
+use Rattle.circuit_extracted.specs.declared.cells.Feed.{Feed}
+use Rattle.circuit_extracted.specs.declared.cells.Feed.TheVariants.{Nothing, Pin, Label}
+use Rattle.circuit_extracted.specs.declared.cells.ExCell.{ExCell}
+use Rattle.circuit_extracted.specs.Circuits.{CircuitView, IsCellAt, IsOutputBelow, IsFeedOf, KeepsFacts, feed_at}
+use Rattle.circuit_extracted.specs.Answers.{feed_value, cell_value, values_at, IsAnswer}
+use Rattle.circuit_extracted.proofs.Valuations.{only_answer}
 use Rattle.blif_flat.specs.BlifText.{blif_text, line_text, rows_of}
 use Rattle.blif_flat.specs.Written.{AnswersAsWritten}
 use Rattle.blif_flat.proofs.NumberedNames.{AreNames}

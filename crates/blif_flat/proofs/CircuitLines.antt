@@ -9,10 +9,10 @@ use Rattle.circuit.specs.CellKinds.{inputs_of}
 use Rattle.circuit.specs.declared.cell_kind.CellKind.{CellKind}
 use Rattle.circuit.specs.declared.cell_kind.CellKind.TheVariants.{Buffer, Inverter, Zero, One, Split2, Split3, Majority}
 use Rattle.rowed.specs.declared.source.Source.{Source}
-use Rattle.chip_circuit.specs.declared.cells.Feed.{Feed}
-use Rattle.chip_circuit.specs.declared.cells.Feed.TheVariants.{Nothing, Pin, Label}
-use Rattle.chip_circuit.specs.declared.cells.ExCell.{ExCell}
-use Rattle.chip_circuit.specs.Circuits.{CircuitView, feed_at}
+use Rattle.circuit_extracted.specs.declared.cells.Feed.{Feed}
+use Rattle.circuit_extracted.specs.declared.cells.Feed.TheVariants.{Nothing, Pin, Label}
+use Rattle.circuit_extracted.specs.declared.cells.ExCell.{ExCell}
+use Rattle.circuit_extracted.specs.Circuits.{CircuitView, feed_at}
 use Rattle.blif_flat.specs.BlifText.{input_name, cell_name, output_name, feed_names, names_of_feeds, row, rows_of}
 use Rattle.blif_flat.specs.BlifText.{cell_lines, cells_from, outputs_from, end_line, netlist_lines}
 use Rattle.blif_flat.proofs.Definitions.{Definition, IsRow, IsDefinition, AreDefined, names_tokens, body, whole}

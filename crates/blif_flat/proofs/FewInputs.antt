@@ -8,9 +8,9 @@ use Rattle.std.proofs.lemmas.Option.{slice_get_within, same_Some}
 use Rattle.blif_read.specs.Walk.{on}
 use Rattle.blif_read.specs.Code.Marking.{Apart}
 use Rattle.blif_read.proofs.Closing.{path_fits}
-use Rattle.chip_circuit.specs.declared.cells.Feed.TheVariants.{Label}
-use Rattle.chip_circuit.specs.declared.cells.ExCell.{ExCell}
-use Rattle.chip_circuit.specs.Circuits.{CircuitView, IsFed, KeepsFacts, feed_at}
+use Rattle.circuit_extracted.specs.declared.cells.Feed.TheVariants.{Label}
+use Rattle.circuit_extracted.specs.declared.cells.ExCell.{ExCell}
+use Rattle.circuit_extracted.specs.Circuits.{CircuitView, IsFed, KeepsFacts, feed_at}
 use Rattle.blif_flat.proofs.Definitions.{off_both}
 
 same_label : (n m : ℕ) → Label n ≡ Label m → n ≡ m

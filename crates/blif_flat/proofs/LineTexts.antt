@@ -2,7 +2,7 @@
 use Rattle.std.proofs.Common.{◌≡◌, ℕ, List, [], ◌∷◌, ◌++◌, ap, ◌∙◌, append_assoc, append-nil, codes}
 use Rattle.std.specs.List.{flat_map}
 use Rattle.std.proofs.lemmas.List.Concat.{flat_map-append}
-use Rattle.chip_circuit.specs.declared.cells.ExCell.{ExCell}
+use Rattle.circuit_extracted.specs.declared.cells.ExCell.{ExCell}
 use Rattle.blif_flat.specs.BlifText.{feed_names, names_of_feeds, cell_name, rows_of, cell_lines, spaced, line_text}
 
 pub spaced-append : (a b : List (List ℕ)) → spaced (a ++ b) ≡ spaced a ++ spaced b

@@ -3,8 +3,8 @@ use Rattle.std.specs.Prelude.{◌≡◌, ◌↔◌, Bool, List, length}
 use Rattle.blif_read.specs.Parts.{NetView}
 use Rattle.blif_read.specs.Says.{SaysNet}
 use Rattle.blif_read.specs.Equations.{IsAnswer as NetAnswer}
-use Rattle.chip_circuit.specs.Circuits.{CircuitView}
-use Rattle.chip_circuit.specs.Answers.{IsAnswer}
+use Rattle.circuit_extracted.specs.Circuits.{CircuitView}
+use Rattle.circuit_extracted.specs.Answers.{IsAnswer}
 use Rattle.blif_flat.specs.BlifText.{blif_text}
 
 -- the text says a netlist with the circuit's inputs and outputs, whose answers to each word are those of the circuit

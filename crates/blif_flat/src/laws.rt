@@ -12,7 +12,7 @@ ghost use Rattle.blif_flat.specs.Expansion.{expansion, wires, told_name};
 ghost use Rattle.blif_flat.specs.declared.design.FlatRefusal.{FlatRefusal};
 ghost use Rattle.blif_flat.specs.declared.design.FlatRefusal.TheVariants.{Memory};
 ghost use Rattle.blif_flat.specs.NetMeaning.{NetMeans};
-ghost use Rattle.chip_circuit.specs.Circuits.{CircuitView, KeepsFacts};
+ghost use Rattle.circuit_extracted.specs.Circuits.{CircuitView, KeepsFacts};
 ghost use Rattle.blif_flat.specs.Written.{AnswersAsWritten};
 
 /// The text of a circuit that keeps what every extracted circuit keeps has no fault, and the netlist that it says

@@ -8,7 +8,7 @@ use Rattle.std.proofs.lemmas.Bool.{cases_lt, cond-true, cond-false}
 use Rattle.std.proofs.lemmas.List.{get_or_past, get_or-replicate}
 use Rattle.std.proofs.lemmas.List.{length-replicate}
 use Rattle.std.proofs.lemmas.Slice.Zip.{AllZip-long}
-use Rattle.height_trees.specs.Forests.{Forest, Obeys, AreLeast}
+use Rattle.union_find.specs.Forests.{Forest, Obeys, AreLeast}
 use Rattle.circuit.specs.declared.gate.Gate.{Gate}
 use Rattle.blif_read.specs.Parts.{NetView}
 use Rattle.blif_read.specs.Netlist.{IsNetlist}

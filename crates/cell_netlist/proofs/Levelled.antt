@@ -5,7 +5,7 @@ use Rattle.std.specs.Prelude.{slice_index, slice_get, nat_lt}
 use Rattle.std.specs.List.{AllByRecursion}
 use Rattle.std.proofs.lemmas.Bool.{cases_eq, cond-true, cond-false, ltb-true, ltb-false}
 use Rattle.std.proofs.lemmas.Option.{same_Some, none-some, slice_get_within}
-use Rattle.height_trees.specs.Forests.{Forest, Obeys, IsJoined, IsRefused}
+use Rattle.union_find.specs.Forests.{Forest, Obeys, IsJoined, IsRefused}
 use Rattle.circuit.specs.declared.gate.Gate.{Gate}
 use Rattle.blif_read.specs.declared.netlist.Def.{Def}
 use Rattle.cell_netlist.specs.Kinds.{operands_of, Computes, IsGateOf, AreGatesOf}

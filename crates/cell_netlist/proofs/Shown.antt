@@ -5,7 +5,7 @@ use Rattle.std.specs.Prelude.{◌&&◌, eqb, slice_index, slice_index_or, slice_
 use Rattle.std.specs.List.{list_all, count_by}
 use Rattle.std.proofs.lemmas.Bool.{cases_eq, and_parts, eqb-true, cond-true, cond-false}
 use Rattle.std.proofs.lemmas.Option.{none-some, slice_get_within}
-use Rattle.height_trees.specs.Forests.{Forest, IsJoined, IsRefused, HasHeights}
+use Rattle.union_find.specs.Forests.{Forest, IsJoined, IsRefused, HasHeights}
 use Rattle.circuit.specs.declared.gate.Gate.{Gate}
 use Rattle.circuit.specs.declared.gate.Gate.TheVariants.{Input, Zero, One, Buf, Inv, Maj}
 use Rattle.blif_read.specs.Parts.{NetView}

@@ -1,6 +1,6 @@
 // Netlists of cells, and the levels of their cells.
 ghost use Rattle.std.specs.Prelude.{◌≡◌, ◌<◌, false, length, replicate, slice_index, IfOk, IfErr};
-ghost use Rattle.height_trees.specs.Forests.{trees};
+ghost use Rattle.union_find.specs.Forests.{trees};
 ghost use Rattle.cell_netlist.specs.Levels.{level_in};
 ghost use Rattle.cell_netlist.specs.Faults.{IsFault, IsFaultOfDef, IsFed, IsCellNet};
 ghost use Rattle.cell_netlist.specs.Told.{IfNotCells, IsNetOfCells, HasFirstFault};
@@ -15,8 +15,8 @@ use crate::outputs::{align, are_shown, are_used, shown_nodes};
 use aq_base::{List, Memory};
 use blif_read::Netlist;
 use circuit::Answers;
-use height_trees::Heights;
 use std::alloc::Global;
+use union_find::Heights;
 
 /// The levels of the cells of a netlist: one for each definition, in order, and the last, on which the buffers stand
 /// that show outputs. What is told for a name says nothing.

@@ -1,7 +1,7 @@
 // The faults of definitions, one after another.
 ghost use Rattle.std.specs.Prelude.{◌≡◌, ◌+◌, ◌<◌, ◌||◌, ◌&&◌, not, length, take, slice_get, Some, true, false, IfOk};
 ghost use Rattle.std.specs.Prelude.{IfErr, IfSome, IsNone};
-ghost use Rattle.height_trees.specs.Forests.{trees};
+ghost use Rattle.union_find.specs.Forests.{trees};
 ghost use Rattle.cell_netlist.specs.Uses.{named, uses, is_name, is_used_well, shares_input, may_have, with_gates};
 ghost use Rattle.cell_netlist.specs.Faults.{HasFault, IsFaultOfDef};
 ghost use Rattle.cell_netlist.specs.Tables.{IsTableOf};
@@ -14,7 +14,7 @@ use crate::levels::add_cell;
 use crate::names::{is_fed_well, is_name, may_have, shares, take_inputs};
 use blif_read::{Def, Netlist};
 use circuit::{Answers, Gate};
-use height_trees::Heights;
+use union_find::Heights;
 
 /// The gate of definition `j`, if it computes one.
 fn gate_at(table: &CellTable, j: u32) -> Option<Gate>

@@ -1,6 +1,6 @@
 // Levels of cells, as heights of nodes.
 ghost use Rattle.std.specs.Prelude.{◌≡◌, ◌<◌, ◌^◌, ℕ, true, false, length, slice_index, suc, slice_get, Some};
-ghost use Rattle.height_trees.specs.Forests.{trees};
+ghost use Rattle.union_find.specs.Forests.{trees};
 ghost use Rattle.circuit.specs.declared.gate.Gate.{Gate as CellGate};
 ghost use Rattle.cell_netlist.specs.Tables.{IsTableOf};
 ghost use Rattle.cell_netlist.specs.Uses.{with_gates};
@@ -10,7 +10,7 @@ use crate::counts::CellTable;
 use crate::names::is_name;
 use blif_read::{Def, Netlist};
 use circuit::Answers;
-use height_trees::Heights;
+use union_find::Heights;
 
 /// The node of a signal.
 pub(crate) fn node_of(inputs: u32, signal: u32) -> u32

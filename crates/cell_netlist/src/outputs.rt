@@ -1,7 +1,7 @@
 // Uses of inputs, and the buffers that show outputs.
 ghost use Rattle.std.specs.Prelude.{◌≡◌, ◌+◌, ◌<◌, ◌^◌, ℕ, Bool, length, slice_index, true, false, IfOk};
 ghost use Rattle.std.specs.List.{list_all};
-ghost use Rattle.height_trees.specs.Forests.{trees};
+ghost use Rattle.union_find.specs.Forests.{trees};
 ghost use Rattle.cell_netlist.specs.Levels.{buffered, shown_by, is_shown};
 ghost use Rattle.cell_netlist.specs.Tables.{IsTableOf};
 ghost use Rattle.cell_netlist.specs.Uses.{with_gates};
@@ -15,8 +15,8 @@ use crate::names::{gate_of, is_name};
 use aq_base::Memory;
 use blif_read::Netlist;
 use circuit::Gate;
-use height_trees::Heights;
 use std::alloc::Global;
+use union_find::Heights;
 
 /// Whether each input has a use.
 pub(crate) fn are_used(net: &Netlist, table: &CellTable, _three: bool, inputs: u32) -> bool

@@ -5,8 +5,8 @@ use Rattle.std.specs.List.{All}
 use Rattle.std.proofs.lemmas.Bool.{cases_lt, cases_eq, eq-eqb, ne_eqb, eqb-true, eqb-false, le-leb}
 use Rattle.std.proofs.lemmas.List.{take_more, get_or-set_same, get_or-set_other, length-set, get_or_default}
 use Rattle.rowed.specs.declared.wire.Wire.{Wire}
-use Rattle.list_orders.specs.Sorting.{Rising, EachPair}
-use Rattle.list_orders.proofs.SortingLaws.{pair_at, passing-cons}
+use Rattle.sorting.specs.Sorting.{Rising, EachPair}
+use Rattle.sorting.proofs.SortingLaws.{pair_at, passing-cons}
 use Rattle.channel_route.specs.declared.order.Numbered.{Numbered}
 use Rattle.channel_route.specs.Code.Numbered.{low_of}
 use Rattle.channel_route.specs.Crossing.{low, high, crosses, crossing, IsOver}

@@ -4,7 +4,7 @@ use Rattle.std.proofs.Common.{refl, sym, ap, ◌∙◌, subst, ◌⊎◌, inl, i
 use Rattle.std.specs.List.{filter}
 use Rattle.std.proofs.lemmas.Bool.{cases_lt, lt-ltb, le-ltb, le-leb, lt-leb, eq-eqb, ne_eqb, eqb-true, eqb-false}
 use Rattle.rowed.specs.declared.wire.Wire.{Wire}
-use Rattle.list_orders.specs.Sorting.{Rising}
+use Rattle.sorting.specs.Sorting.{Rising}
 use Rattle.channel_route.specs.Crossing.{low, high, crossing, IsDensity}
 use Rattle.channel_route.specs.Tracks.{lowest_free, ends_after, last_ends, last_column}
 

@@ -6,8 +6,8 @@ use Rattle.std.proofs.lemmas.Bool.{cases_lt, leb-true, and_parts}
 use Rattle.std.proofs.lemmas.Nat.{div_below}
 use Rattle.std.proofs.Math.Nat.{le-div_iff_mul-le}
 use Rattle.rowed.specs.declared.wire.Wire.{Wire}
-use Rattle.list_orders.specs.Sorting.{EachPair}
-use Rattle.list_orders.proofs.SortingLaws.{distinct_fit}
+use Rattle.sorting.specs.Sorting.{EachPair}
+use Rattle.sorting.proofs.SortingLaws.{distinct_fit}
 use Rattle.channel_route.specs.Crossing.{low, high, crosses, crossing, IsOver}
 use Rattle.channel_route.specs.ShortWires.{Within, IsShortWire, FromApart}
 

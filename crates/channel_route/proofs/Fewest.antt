@@ -3,8 +3,8 @@ use Rattle.std.proofs.Common.{◌≡◌, ℕ, suc, ◌<◌, ◌≤◌, Bool, tru
 use Rattle.std.proofs.Common.{arith}
 use Rattle.std.specs.List.{AllByRecursion}
 use Rattle.rowed.specs.declared.wire.Wire.{Wire}
-use Rattle.list_orders.specs.Sorting.{EachPair}
-use Rattle.list_orders.proofs.SortingLaws.{distinct_fit}
+use Rattle.sorting.specs.Sorting.{EachPair}
+use Rattle.sorting.proofs.SortingLaws.{distinct_fit}
 use Rattle.channel_route.specs.Crossing.{crosses, crossing, EndsApart}
 use Rattle.channel_route.specs.Tracks.{tracks_used, column_of, AreApart}
 use Rattle.channel_route.proofs.TracksApart.{route_is}

@@ -6,8 +6,8 @@ use Rattle.std.specs.List.Sorted.{IsSortedByKey, IsStableByKey}
 use Rattle.std.specs.Ordering.{nat_cmp}
 use Rattle.std.proofs.lemmas.List.{get_or_default, take_all}
 use Rattle.rowed.specs.declared.wire.Wire.{Wire}
-use Rattle.list_orders.specs.Sorting.{by_key, put_by, Rising, EachPair}
-use Rattle.list_orders.proofs.SortingLaws.{by_key_from_sort}
+use Rattle.sorting.specs.Sorting.{by_key, put_by, Rising, EachPair}
+use Rattle.sorting.proofs.SortingLaws.{by_key_from_sort}
 use Rattle.channel_route.specs.declared.order.Numbered.{Numbered}
 use Rattle.channel_route.specs.Code.Numbered.{numbered, low_of, ordered}
 use Rattle.channel_route.specs.Crossing.{low}

@@ -2,7 +2,7 @@
 -- odd.
 use Rattle.std.proofs.Common.{◌≡◌, ℕ, ◌%◌, List, [], ◌∷◌, sym, ap, arith}
 use Rattle.std.specs.List.{AllByRecursion}
-use Rattle.list_orders.specs.Sorting.{EachPair}
+use Rattle.sorting.specs.Sorting.{EachPair}
 use Rattle.rowed.specs.declared.wire.Wire.{Wire}
 use Rattle.channel_route.specs.Crossing.{Apart, EndsApart}
 use Rattle.channel_route.specs.ShortWires.{Within, FromApart}

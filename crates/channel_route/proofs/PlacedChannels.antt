@@ -2,8 +2,8 @@
 -- they are short there is room for them.
 use Rattle.std.proofs.Common.{◌≡◌, ℕ, suc, ◌+◌, ◌-◌, ◌/◌, ◌<◌, ◌≤◌, List, [], ◌∷◌, length, sym, ◌∙◌, subst, arith}
 use Rattle.std.specs.List.{AllByRecursion}
-use Rattle.list_orders.specs.Sorting.{EachPair, by_key}
-use Rattle.list_orders.proofs.SortingLaws.{by_key_all, by_key_pairs}
+use Rattle.sorting.specs.Sorting.{EachPair, by_key}
+use Rattle.sorting.proofs.SortingLaws.{by_key_all, by_key_pairs}
 use Rattle.rowed.specs.declared.wire.Wire.{Wire}
 use Rattle.rowed.specs.PlacedNets.{PlacedView, IsPlaced, placed_rows, row_of}
 use Rattle.rowed.specs.Channels.{Link, channel_links, move}

@@ -5,9 +5,9 @@ use Rattle.std.proofs.lemmas.List.{get_or-map, length-map}
 use Rattle.std.proofs.lemmas.List.Elements.{All-from_recursion, recursion_from_All}
 use Rattle.std.proofs.lemmas.Grind.{same_number_lists}
 use Rattle.rowed.specs.declared.wire.Wire.{Wire}
-use Rattle.list_orders.specs.Sorting.{by_key, Rising, EachPair}
-use Rattle.list_orders.proofs.SortingLaws.{by_key_all, all_by_key, by_key_pairs, by_key_length, by_key_passing}
-use Rattle.list_orders.proofs.SortingLaws.{rank_is_place}
+use Rattle.sorting.specs.Sorting.{by_key, Rising, EachPair}
+use Rattle.sorting.proofs.SortingLaws.{by_key_all, all_by_key, by_key_pairs, by_key_length, by_key_passing}
+use Rattle.sorting.proofs.SortingLaws.{rank_is_place}
 use Rattle.channel_route.specs.declared.order.Numbered.{Numbered}
 use Rattle.channel_route.specs.Code.Numbered.{numbered, low_of, ordered}
 use Rattle.channel_route.specs.Crossing.{low, crosses, HasRoom, IsOver, EndsApart}

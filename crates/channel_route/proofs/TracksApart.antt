@@ -5,9 +5,9 @@ use Rattle.std.specs.List.{All, AllByRecursion}
 use Rattle.std.proofs.lemmas.List.Elements.{All-from_recursion, recursion_from_All}
 use Rattle.std.proofs.lemmas.Bool.{cases_lt, cases_eq, lt-ltb, le-ltb, leb-true, and_parts}
 use Rattle.rowed.specs.declared.wire.Wire.{Wire}
-use Rattle.list_orders.specs.Sorting.{by_key, Rising, EachPair}
-use Rattle.list_orders.proofs.SortingLaws.{by_key_in_order, by_key_pairs, by_key_length, by_key_passing, all_by_key}
-use Rattle.list_orders.proofs.SortingLaws.{rising_from, rising_at, rank_is_place, pair_at}
+use Rattle.sorting.specs.Sorting.{by_key, Rising, EachPair}
+use Rattle.sorting.proofs.SortingLaws.{by_key_in_order, by_key_pairs, by_key_length, by_key_passing, all_by_key}
+use Rattle.sorting.proofs.SortingLaws.{rising_from, rising_at, rank_is_place, pair_at}
 use Rattle.channel_route.specs.Crossing.{low, high, crosses, IsDensity, EndsApart, Apart}
 use Rattle.channel_route.specs.Tracks.{lowest_free, ends_after, tracks, last_ends, tracks_used, route_of, column_of}
 use Rattle.channel_route.specs.Tracks.{rank, AreTracks}

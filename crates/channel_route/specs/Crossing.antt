@@ -1,7 +1,7 @@
 -- Which columns a wire crosses, and the density of a channel: the most wires that cross one column.
 use Rattle.std.specs.Prelude.{◌≡◌, ℕ, suc, cond, [], ◌∷◌, ◌<◌, ◌≤◌, Bool, nat_le, ◌&&◌, min, max, List, length}
 use Rattle.std.specs.List.{filter, AllByRecursion}
-use Rattle.list_orders.specs.Sorting.{EachPair}
+use Rattle.sorting.specs.Sorting.{EachPair}
 use Rattle.rowed.specs.declared.wire.Wire.{Wire}
 
 -- the lower end column of a wire

@@ -1,7 +1,7 @@
 -- Wires between pins: an output pin stands in an even column of its slot, and an input pin in an odd one. The wires of
 -- a channel are told by their slots.
 use Rattle.std.specs.Prelude.{◌≡◌, ℕ, ◌%◌, List, [], ◌∷◌}
-use Rattle.list_orders.specs.Sorting.{EachPair}
+use Rattle.sorting.specs.Sorting.{EachPair}
 use Rattle.rowed.specs.Channels.{Link}
 use Rattle.rowed.specs.declared.wire.Wire.{Wire}
 use Rattle.channel_route.specs.ShortWires.{Within}

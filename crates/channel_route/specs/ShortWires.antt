@@ -1,6 +1,6 @@
 -- Wires that move few slots, each from a slot of its own.
 use Rattle.std.specs.Prelude.{◌≡◌, ℕ, suc, ◌-◌, ◌*◌, ◌<◌, ◌≤◌, List}
-use Rattle.list_orders.specs.Sorting.{EachPair}
+use Rattle.sorting.specs.Sorting.{EachPair}
 use Rattle.rowed.specs.Channels.{move}
 use Rattle.rowed.specs.declared.wire.Wire.{Wire}
 

@@ -3,7 +3,7 @@
 -- constraints from above or below.
 use Rattle.std.specs.Prelude.{◌≡◌, ℕ, suc, ◌<◌, true, cond, nat_lt, List, [], ◌∷◌, length, slice_index_or, map, ◌==◌}
 use Rattle.std.specs.List.{filter}
-use Rattle.list_orders.specs.Sorting.{by_key}
+use Rattle.sorting.specs.Sorting.{by_key}
 use Rattle.rowed.specs.declared.wire.Wire.{Wire}
 use Rattle.channel_route.specs.Crossing.{low, high, crosses, IsDensity}
 

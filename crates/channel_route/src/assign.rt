@@ -1,7 +1,7 @@
 // Tracks for wires that come by rising lower end column.
 ghost use Rattle.std.specs.Prelude.{◌≡◌, ℕ, ◌^◌, ◌<◌, length, IfOk};
 ghost use Rattle.std.specs.List.{All};
-ghost use Rattle.list_orders.specs.Sorting.{EachPair, Rising};
+ghost use Rattle.sorting.specs.Sorting.{EachPair, Rising};
 ghost use Rattle.channel_route.specs.Code.Numbered.{low_of};
 ghost use Rattle.channel_route.specs.Code.Assigned.{IsAssigned};
 

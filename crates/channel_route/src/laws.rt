@@ -1,7 +1,7 @@
 // The laws of the plan of tracks.
 ghost use Rattle.std.specs.Prelude.{◌≡◌, ℕ, ◌+◌, ◌-◌, ◌*◌, ◌/◌, ◌<◌, ◌≤◌, [], ◌∷◌, List, length};
 ghost use Rattle.std.specs.List.{AllByRecursion};
-ghost use Rattle.list_orders.specs.Sorting.{by_key};
+ghost use Rattle.sorting.specs.Sorting.{by_key};
 ghost use Rattle.rowed.specs.declared.wire.Wire.{Wire};
 ghost use Rattle.rowed.specs.PlacedNets.{PlacedView, IsPlaced, placed_rows, row_of};
 ghost use Rattle.rowed.specs.Channels.{channel_links};

@@ -3,7 +3,7 @@ use crate::arrays::{at, put};
 use crate::chip::Chip;
 use aq_base::{List, Memory};
 use circuit::CellKind;
-use draft_check::Draft;
+use placement_check::Draft;
 use rowed::{RowCell, Source};
 use std::alloc::Global;
 

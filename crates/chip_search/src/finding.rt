@@ -11,8 +11,8 @@ use crate::lining::line_up;
 use crate::signs::sign;
 use crate::starting::{Hints, place};
 use aq_base::Memory;
-use draft_check::Draft;
-use maj_graph::Graph;
+use mig::Graph;
+use placement_check::Draft;
 use std::alloc::Global;
 
 /// So many times a node is placed in a line, or ten times each.

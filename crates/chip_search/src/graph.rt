@@ -1,7 +1,7 @@
 // Graphs of majorities, and the uses of their nodes.
 use crate::arrays::{add, at, between, is_marked, narrow, put, sum_up};
 use aq_base::Memory;
-use maj_graph::Node;
+use mig::Node;
 use std::alloc::Global;
 
 /// A graph of majorities, of which nothing is known. Node 0 is the constant false, nodes 1 to `inputs` are the inputs,

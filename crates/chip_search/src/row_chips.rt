@@ -4,7 +4,7 @@ use crate::chip::{Chip, Wire};
 use crate::graph::{GraphParts, UseLists, needed};
 use aq_base::Memory;
 use circuit::CellKind;
-use maj_graph::Node;
+use mig::Node;
 use rowed::{RowCell, RowNet, Source};
 use std::alloc::Global;
 

@@ -3,7 +3,7 @@ use crate::arrays::{at, is_marked, narrow, put};
 use crate::graph::{GraphParts, UseLists, is_turned, needed, turn};
 use crate::walk::{Use, sort_uses, tree_depth, walk};
 use aq_base::Memory;
-use maj_graph::Node;
+use mig::Node;
 use std::alloc::Global;
 
 /// A graph in which each majority is kept or turned: its three literals are turned, and so are its uses.

@@ -15,7 +15,7 @@ use Rattle.layout_make.proofs.SheetKeeps.{IsDrawn}
 use Rattle.rowed.specs.PlacedNets.{PlacedView}
 use Rattle.layout_make.specs.Spots.{Spot, spots}
 use Rattle.layout_make.proofs.ReadyNets.{IsReady}
-use Rattle.list_orders.specs.Numbers.{numbers}
+use Rattle.sorting.specs.Numbers.{numbers}
 use Rattle.layout_rules.specs.Rows.{AreRows}
 use Rattle.layout_make.specs.Laws.{FrameAt}
 use Rattle.layout_make.specs.CellsAreDrawn.{Before, CellsAreDrawn}

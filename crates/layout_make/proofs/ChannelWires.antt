@@ -11,8 +11,8 @@ use Rattle.rowed.specs.declared.wire.Wire.{Wire}
 use Rattle.rowed.specs.RowCells.{source_at}
 use Rattle.rowed.specs.PlacedNets.{PlacedView}
 use Rattle.rowed.proofs.SpanLaws.{at_most_three}
-use Rattle.list_orders.specs.Sorting.{EachPair, Rising}
-use Rattle.list_orders.proofs.SortingLaws.{by_key_all, all_by_key, by_key_pairs}
+use Rattle.sorting.specs.Sorting.{EachPair, Rising}
+use Rattle.sorting.proofs.SortingLaws.{by_key_all, all_by_key, by_key_pairs}
 use Rattle.cell_library.specs.Library.{LibraryView}
 use Rattle.layout_make.proofs.Lawful.{IsLawful}
 use Rattle.layout_make.specs.Spots.{Spot, spots, AreGiven, IsInput}

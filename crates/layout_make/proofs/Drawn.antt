@@ -12,7 +12,7 @@ use Rattle.rowed.specs.PlacedNets.{PlacedView}
 use Rattle.layout_make.specs.Spots.{Spot, spots, AreGiven}
 use Rattle.layout_make.proofs.ReadyNets.{Packed, IsReady}
 use Rattle.rowed.specs.declared.wire.Wire.{Wire}
-use Rattle.list_orders.specs.Numbers.{numbers}
+use Rattle.sorting.specs.Numbers.{numbers}
 use Rattle.layout_make.specs.Channel.{channel}
 use Rattle.layout_make.specs.Tags.{spot_tags, wire_tags, line_tags, row_tags, tags}
 use Rattle.layout_make.specs.declared.marks.Ports.{Ports as Side}

@@ -6,7 +6,7 @@ use Rattle.circuit.specs.CellKinds.{inputs_of, outputs_of}
 use Rattle.geom.specs.Rectangle.{Rectangle}
 use Rattle.geom.specs.declared.shapes.Shape.{Shape}
 use Rattle.geom.specs.FlatForm.{moved_shape}
-use Rattle.list_orders.specs.Numbers.{numbers}
+use Rattle.sorting.specs.Numbers.{numbers}
 use Rattle.cell_library.specs.Library.{input_column_of, output_column_of}
 use Rattle.layout_make.proofs.Lawful.{IsLawful}
 use Rattle.layout_make.specs.Sheet.{Sheet, Tag, Frame, InPin, OutPin, shape_of, lower_edge}

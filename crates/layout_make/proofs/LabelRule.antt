@@ -21,7 +21,7 @@ use Rattle.layout_rules.proofs.ReportLaws.{Afterwards-none}
 use Rattle.layout_rules.specs.CircuitRules.{is_port, is_port_label, IsNoPortLabel, IsUnlabelledPort, port_count}
 use Rattle.layout_rules.specs.CircuitRules.{have_one_name, IsRepeated, IsMisnumbered, LabelsBroken}
 use Rattle.rowed.specs.PlacedNets.{PlacedView}
-use Rattle.list_orders.specs.Numbers.{numbers}
+use Rattle.sorting.specs.Numbers.{numbers}
 use Rattle.rowed.specs.RowNets.{last_of}
 use Rattle.cell_library.specs.Library.{LibraryView}
 use Rattle.layout_make.proofs.Lawful.{IsLawful}

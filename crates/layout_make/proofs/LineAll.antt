@@ -15,7 +15,7 @@ use Rattle.layout_make.specs.Sheet.{Sheet, Tag, Frame, Lead, Bar}
 use Rattle.layout_make.specs.Sheet.{lead_use, layer_of, datatype_of, place_of, shape_of, lower_edge}
 use Rattle.layout_make.proofs.SheetKeeps.{Fits, IsDrawn, HasCells}
 use Rattle.layout_make.specs.Tags.{At}
-use Rattle.list_orders.specs.Numbers.{numbers}
+use Rattle.sorting.specs.Numbers.{numbers}
 use Rattle.layout_make.proofs.Routes.{on_line, IsRoute, IsLineAt, meets, AreWound}
 use Rattle.layout_rules.specs.Rows.{AreRows}
 use Rattle.layout_rules.specs.declared.layers.TheConstants.{EVEN_LINE, ODD_LINE, BAR, LINK, START, FRAME}

@@ -15,7 +15,7 @@ use Rattle.rowed.specs.PlacedNets.{PlacedView}
 use Rattle.layout_make.specs.Spots.{Spot, spots}
 use Rattle.layout_make.proofs.ReadyNets.{IsReady}
 use Rattle.rowed.specs.declared.wire.Wire.{Wire}
-use Rattle.list_orders.specs.Numbers.{numbers}
+use Rattle.sorting.specs.Numbers.{numbers}
 use Rattle.layout_make.specs.Channel.{channel, in_column}
 use Rattle.layout_make.proofs.Member.{In, in_head, in_append, in_left, in_right, in_map, map_in, in_flat_map}
 use Rattle.layout_make.proofs.Member.{flat_map_in, in_upto, upto_in}

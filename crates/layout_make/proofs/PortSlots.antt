@@ -2,7 +2,7 @@
 use Rattle.std.proofs.Common.{◌≡◌, ℕ, zero, suc, ◌+◌, ◌-◌, ◌<◌, ◌≤◌, Bool, true, false, refl, sym, ap, ◌∙◌, arith, List}
 use Rattle.std.proofs.Common.{◌∷◌, length, map, drop, Option, Some, None, get_or, replicate, slice_get, slice_set}
 use Rattle.std.proofs.lemmas.Bool.{eq-eqb, ne_eqb}
-use Rattle.list_orders.specs.Numbers.{numbers}
+use Rattle.sorting.specs.Numbers.{numbers}
 use Rattle.layout_make.specs.Spots.{Spot, has_port}
 use Rattle.layout_make.specs.declared.marks.Ports.{Ports}
 use Rattle.layout_make.specs.Code.Labelling.{port_of, port_slot, port_slots}

@@ -13,10 +13,10 @@ use Rattle.geom.specs.declared.layout.Element.TheVariants.{Box}
 use Rattle.geom.specs.declared.layout.Structure.{Structure}
 use Rattle.rowed.specs.declared.row_cell.RowCell.{RowCell}
 use Rattle.rowed.specs.declared.wire.Wire.{Wire}
-use Rattle.list_orders.specs.Numbers.{numbers}
+use Rattle.sorting.specs.Numbers.{numbers}
 use Rattle.rowed.specs.RowNets.{row_at}
 use Rattle.rowed.specs.PlacedNets.{PlacedView, IsPlaced, placed_rows}
-use Rattle.list_orders.proofs.SortingLaws.{by_key_length}
+use Rattle.sorting.proofs.SortingLaws.{by_key_length}
 use Rattle.rowed.specs.declared.source.Source.{Source}
 use Rattle.rowed.specs.Extent.{widest}
 use Rattle.rowed.specs.Counts.{fed, row_feeds, wires_in}

@@ -3,7 +3,7 @@ use Rattle.std.proofs.Common.{◌≡◌, ℕ, ◌+◌, ◌*◌, ◌<◌, ◌≤�
 use Rattle.circuit.specs.declared.cell_kind.CellKind.{CellKind}
 use Rattle.circuit.specs.CellKinds.{inputs_of, outputs_of, slots_of}
 use Rattle.cell_library.specs.Library.{LibraryView, IsGiven, input_column_of, output_column_of}
-use Rattle.list_orders.specs.Numbers.{numbers}
+use Rattle.sorting.specs.Numbers.{numbers}
 use Rattle.rowed.specs.PlacedNets.{PlacedView}
 use Rattle.layout_make.specs.Sheet.{Sheet, Tag, InPin, OutPin, area, rect_of, place_of, layer_of, datatype_of}
 use Rattle.layout_make.specs.Spots.{Spot, spots, IsInput, IsOutput}

@@ -9,7 +9,7 @@ use Rattle.rowed.specs.declared.row_cell.RowCell.{RowCell}
 use Rattle.rowed.specs.declared.wire.Wire.{Wire}
 use Rattle.rowed.specs.RowCells.{source_at}
 use Rattle.rowed.specs.RowNets.{row_at}
-use Rattle.list_orders.specs.Numbers.{numbers}
+use Rattle.sorting.specs.Numbers.{numbers}
 use Rattle.rowed.specs.PlacedNets.{PlacedView, IsPlaced}
 use Rattle.rowed.specs.Counts.{fed, row_feeds, cells_in, wires_in}
 use Rattle.rowed.proofs.SpanLaws.{long_row}

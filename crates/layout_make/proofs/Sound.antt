@@ -13,8 +13,8 @@ use Rattle.rowed.specs.RowNets.{row_at}
 use Rattle.rowed.specs.Slots.{span_of}
 use Rattle.rowed.specs.PlacedNets.{PlacedView, paired, placed_rows}
 use Rattle.rowed.specs.Extent.{widest}
-use Rattle.list_orders.specs.Numbers.{place_of}
-use Rattle.list_orders.specs.Sorting.{EachPair}
+use Rattle.sorting.specs.Numbers.{place_of}
+use Rattle.sorting.specs.Sorting.{EachPair}
 use Rattle.channel_route.specs.Crossing.{low, high, crosses, Apart, EndsApart}
 use Rattle.channel_route.specs.Tracks.{route_of, tracks_used, AreApart}
 use Rattle.cell_library.specs.Library.{LibraryView}

@@ -4,7 +4,7 @@ use Rattle.std.proofs.Common.{drop, append_assoc, Option, Some, None, slice_get,
 use Rattle.std.specs.List.Sorted.{IsSortedByKey, IsStableByKey}
 use Rattle.std.specs.Ordering.{nat_cmp}
 use Rattle.std.proofs.lemmas.Option.{same_Some}
-use Rattle.list_orders.specs.Sorting.{by_key}
+use Rattle.sorting.specs.Sorting.{by_key}
 use Rattle.std.proofs.Math.Nat.{mul-le-mul_right}
 use Rattle.std.proofs.lemmas.List.{append-nil}
 use Rattle.circuit.specs.CellKinds.{slots_of}
@@ -14,7 +14,7 @@ use Rattle.rowed.specs.declared.row_cell.RowCell.{RowCell}
 use Rattle.rowed.specs.RowNets.{row_at}
 use Rattle.rowed.specs.PlacedNets.{PlacedView, IsPlaced, placed_rows}
 use Rattle.rowed.specs.Extent.{widest, width_limit}
-use Rattle.list_orders.proofs.SortingLaws.{by_key_from_sort}
+use Rattle.sorting.proofs.SortingLaws.{by_key_from_sort}
 use Rattle.cell_library.specs.Library.{LibraryView}
 use Rattle.cell_library.specs.Laws.{IsLibrary}
 use Rattle.cell_library.specs.Reach.{slot_width_of}

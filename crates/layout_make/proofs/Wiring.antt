@@ -18,7 +18,7 @@ use Rattle.layout_rules.proofs.PlaceLaws.{list_any-at, list_any-place}
 use Rattle.layout_rules.specs.Reports.{ReportsNone}
 use Rattle.layout_rules.specs.CircuitRules.{HasRival, IsUndriven, IsDriven, NetsBroken, RowsBroken}
 use Rattle.rowed.specs.PlacedNets.{PlacedView}
-use Rattle.list_orders.specs.Numbers.{numbers}
+use Rattle.sorting.specs.Numbers.{numbers}
 use Rattle.rowed.specs.RowNets.{last_of}
 use Rattle.cell_library.specs.Library.{LibraryView}
 use Rattle.layout_make.proofs.Lawful.{IsLawful}

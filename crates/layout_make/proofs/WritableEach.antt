@@ -20,7 +20,7 @@ use Rattle.geom.specs.Writable.{IsWritableStructure}
 use Rattle.layout_rules.specs.Labels.{letter_i, letter_o}
 use Rattle.rowed.specs.declared.row_cell.RowCell.{RowCell}
 use Rattle.rowed.specs.declared.wire.Wire.{Wire}
-use Rattle.list_orders.specs.Numbers.{numbers, place_of}
+use Rattle.sorting.specs.Numbers.{numbers, place_of}
 use Rattle.rowed.specs.Slots.{span_of, AreSeated, EachSeated}
 use Rattle.rowed.specs.PlacedNets.{PlacedView, paired, placed_rows}
 use Rattle.rowed.specs.Extent.{widest, width_limit}

@@ -20,7 +20,7 @@ use Rattle.geom.specs.declared.layout.Element.TheVariants.{Box, Place, Text}
 use Rattle.geom.specs.declared.layout.Structure.{Structure}
 use Rattle.geom.specs.Writable.{IsWritable, refers_to, is_referenced, holds_reference, names_in}
 use Rattle.rowed.specs.declared.row_cell.RowCell.{RowCell}
-use Rattle.list_orders.specs.Numbers.{numbers, place_of}
+use Rattle.sorting.specs.Numbers.{numbers, place_of}
 use Rattle.rowed.specs.PlacedNets.{PlacedView}
 use Rattle.rowed.proofs.SpanLaws.{got_at}
 use Rattle.cell_library.specs.Kinds.{all_kinds}

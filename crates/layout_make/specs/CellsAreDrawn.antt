@@ -10,7 +10,7 @@ use Rattle.layout_make.specs.Spots.{Spot, spots, PortAt, input_port, output_port
 use Rattle.geom.specs.FlatForm.{flat_of}
 use Rattle.layout_make.specs.Draw.{input_label, output_label, labels, draw, last_row}
 use Rattle.layout_make.specs.Tags.{sheet}
-use Rattle.list_orders.specs.Numbers.{numbers}
+use Rattle.sorting.specs.Numbers.{numbers}
 use Rattle.layout_rules.specs.Rows.{AreRows}
 use Rattle.layout_rules.specs.ExcitationRule.{IsExcitedAt}
 use Rattle.layout_rules.specs.declared.layers.TheConstants.{FRAME}

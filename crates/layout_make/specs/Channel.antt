@@ -4,7 +4,7 @@ use Rattle.std.specs.Prelude.{ℕ, suc, ◌+◌, ◌*◌, List, [], ◌∷◌, O
 use Rattle.rowed.specs.declared.source.Source.{Source}
 use Rattle.rowed.specs.declared.wire.Wire.{Wire}
 use Rattle.rowed.specs.PlacedNets.{PlacedView}
-use Rattle.list_orders.specs.Sorting.{by_key}
+use Rattle.sorting.specs.Sorting.{by_key}
 use Rattle.cell_library.specs.Library.{LibraryView, input_column_of, output_column_of}
 use Rattle.layout_make.specs.Spots.{Spot, spots}
 

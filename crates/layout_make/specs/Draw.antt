@@ -14,7 +14,7 @@ use Rattle.geom.specs.declared.layout.Layout.{Layout}
 use Rattle.layout_rules.specs.declared.layers.TheConstants.{LABELS}
 use Rattle.layout_rules.specs.Labels.{letter_i, letter_o}
 use Rattle.rowed.specs.declared.row_cell.RowCell.{RowCell}
-use Rattle.list_orders.specs.Numbers.{numbers, place_of}
+use Rattle.sorting.specs.Numbers.{numbers, place_of}
 use Rattle.rowed.specs.RowNets.{last_of}
 use Rattle.rowed.specs.PlacedNets.{PlacedView}
 use Rattle.cell_library.specs.Kinds.{all_kinds}

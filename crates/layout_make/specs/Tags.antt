@@ -5,7 +5,7 @@ use Rattle.std.specs.List.{flat_map}
 use Rattle.circuit.specs.CellKinds.{inputs_of, outputs_of}
 use Rattle.circuit.specs.declared.cell_kind.CellKind.{CellKind}
 use Rattle.rowed.specs.declared.wire.Wire.{Wire}
-use Rattle.list_orders.specs.Numbers.{numbers, place_of}
+use Rattle.sorting.specs.Numbers.{numbers, place_of}
 use Rattle.rowed.specs.PlacedNets.{PlacedView, placed_rows}
 use Rattle.rowed.specs.Extent.{widest}
 use Rattle.channel_route.specs.Tracks.{tracks_used, route_of}

@@ -3,7 +3,7 @@ ghost use Rattle.std.specs.Prelude.{◌≡◌, ℕ, ◌<◌, ◌≤◌, ◌+◌,
 ghost use Rattle.std.specs.Prelude.{IfOk, IfErr, OnOk};
 ghost use Rattle.geom.specs.Writable.{IsWritable};
 ghost use Rattle.rowed.specs.PlacedNets.{placed_rows};
-ghost use Rattle.list_orders.specs.Numbers.{numbers};
+ghost use Rattle.sorting.specs.Numbers.{numbers};
 ghost use Rattle.channel_route.specs.Tracks.{tracks_used, route_of};
 ghost use Rattle.cell_library.specs.Reach.{slot_width_of};
 ghost use Rattle.layout_make.specs.Spots.{spots_of};

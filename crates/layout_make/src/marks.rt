@@ -4,7 +4,7 @@ ghost use Rattle.std.specs.Fmt.{decimal};
 ghost use Rattle.geom.specs.declared.layout.Element.TheVariants.{Text};
 ghost use Rattle.layout_rules.specs.Labels.{letter_i, letter_o};
 ghost use Rattle.rowed.specs.declared.row_cell.RowCell.{RowCell as Cell};
-ghost use Rattle.list_orders.specs.Numbers.{numbers};
+ghost use Rattle.sorting.specs.Numbers.{numbers};
 ghost use Rattle.layout_make.specs.Spots.{spots_of, has_port, input_port, output_port};
 ghost use Rattle.layout_make.specs.Sheet.{centre};
 ghost use Rattle.layout_make.specs.Code.Labelling.{port_of, letter_of, port_slot, port_slots, label_at, port_texts};

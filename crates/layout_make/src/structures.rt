@@ -1,7 +1,7 @@
 // The structures of the kinds of cells that a net uses.
 ghost use Rattle.std.specs.Prelude.{◌≡◌, ◌<◌, ◌≤◌, ◌+◌, length, ◌++◌, map, IfOk, OnOk, []};
 ghost use Rattle.cell_library.specs.Library.{IsGiven};
-ghost use Rattle.list_orders.specs.Numbers.{numbers};
+ghost use Rattle.sorting.specs.Numbers.{numbers};
 ghost use Rattle.circuit.specs.CellKinds.{inputs_of, outputs_of};
 ghost use Rattle.layout_make.specs.Draw.{kind_name, kind_place, row_has, uses, used_kinds, cell_structure};
 ghost use Rattle.layout_make.specs.Code.Boxes.{in_box, out_box, cell_boxes};

@@ -5,11 +5,11 @@ use Rattle.std.specs.List.{AllZip, AllByRecursion}
 use Rattle.std.proofs.lemmas.List.{length-replicate, length-map}
 use Rattle.std.proofs.lemmas.List.Elements.{All-from_recursion}
 use Rattle.rowed.specs.declared.source.Source.{Source}
-use Rattle.chip_circuit.specs.declared.cells.Feed.{Feed}
-use Rattle.chip_circuit.specs.declared.cells.Feed.TheVariants.{Pin}
-use Rattle.chip_circuit.specs.declared.cells.ExCell.{ExCell}
-use Rattle.chip_circuit.specs.Circuits.{CircuitView, IsCellAt, feed_at, IsOutputBelow, IsFeedOf, KeepsFacts}
-use Rattle.chip_circuit.specs.Answers.{IsValuation, IsAnswer}
+use Rattle.circuit_extracted.specs.declared.cells.Feed.{Feed}
+use Rattle.circuit_extracted.specs.declared.cells.Feed.TheVariants.{Pin}
+use Rattle.circuit_extracted.specs.declared.cells.ExCell.{ExCell}
+use Rattle.circuit_extracted.specs.Circuits.{CircuitView, IsCellAt, feed_at, IsOutputBelow, IsFeedOf, KeepsFacts}
+use Rattle.circuit_extracted.specs.Answers.{IsValuation, IsAnswer}
 use Rattle.pulse_sim.specs.declared.flux.Flux.{Flux}
 use Rattle.pulse_sim.specs.declared.flux.Flux.TheVariants.{Off}
 use Rattle.pulse_sim.specs.Fluxes.{sign, EitherSign}

@@ -1,7 +1,7 @@
 -- Runs of the pulse machine. A run gives the state after each number of ticks; word k of the words is present from time
 -- 4k to 4k + 3.
 use Rattle.std.specs.Prelude.{◌≡◌, ℕ, suc, ◌/◌, ◌<◌, Bool, List, length, slice_get, replicate}
-use Rattle.chip_circuit.specs.Circuits.{CircuitView}
+use Rattle.circuit_extracted.specs.Circuits.{CircuitView}
 use Rattle.pulse_sim.specs.declared.flux.Flux.{Flux}
 use Rattle.pulse_sim.specs.declared.flux.Flux.TheVariants.{Off}
 use Rattle.pulse_sim.specs.Fluxes.{EitherSign, MinusAlone}

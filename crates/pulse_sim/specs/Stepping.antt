@@ -1,7 +1,7 @@
 -- A simulation after its steps, as the contracts of its functions have it: it begins at time 0 without flux, and each
 -- step gives the word of the present time, or none.
 use Rattle.std.specs.Prelude.{◌≡◌, ℕ, ◌+◌, ◌/◌, Bool, List, [], ◌∷◌, length, Option, Some, slice_get, replicate, take}
-use Rattle.chip_circuit.specs.Circuits.{CircuitView}
+use Rattle.circuit_extracted.specs.Circuits.{CircuitView}
 use Rattle.pulse_sim.specs.declared.flux.Flux.{Flux}
 use Rattle.pulse_sim.specs.declared.flux.Flux.TheVariants.{Off}
 use Rattle.pulse_sim.specs.Pulsing.{Pulsing}

@@ -2,8 +2,8 @@
 -- any order.
 use Rattle.std.specs.Prelude.{ℕ, suc, ◌+◌, ◌%◌, ◌==◌, Bool, true, false, List, [], ◌∷◌, ◌++◌, Option}
 use Rattle.std.specs.List.Sorted.{IsPermutation}
-use Rattle.chip_circuit.specs.declared.cells.ExCell.{ExCell}
-use Rattle.chip_circuit.specs.Circuits.{CircuitView}
+use Rattle.circuit_extracted.specs.declared.cells.ExCell.{ExCell}
+use Rattle.circuit_extracted.specs.Circuits.{CircuitView}
 use Rattle.pulse_sim.specs.declared.flux.Flux.{Flux}
 use Rattle.pulse_sim.specs.Events.{Event, Switch, Relax, Happen}
 

@@ -1,6 +1,6 @@
 // What the first chip shows.
 ghost use Rattle.std.specs.Prelude.{◌≡◌, List, Bool, length, All};
-ghost use Rattle.chip_circuit.specs.FirstCircuit.{first_circuit};
+ghost use Rattle.circuit_extracted.specs.FirstCircuit.{first_circuit};
 ghost use Rattle.pulse_sim.specs.Shows.{Shows};
 
 /// Whatever the order of switching, the first chip, a buffer in each of two rows, shows every word one tick after the
@@ -9,5 +9,5 @@ pub fn first_chip_shows()
     ensures { (words : List (List Bool)) → All (λ word. length word ≡ 1) words
         → Shows first_circuit 1 words words }
 {
-    chip_circuit::first_circuit_keeps();
+    circuit_extracted::first_circuit_keeps();
 }

@@ -2,10 +2,10 @@
 ghost use Rattle.std.specs.Prelude.{◌≡◌, ℕ, suc, ◌+◌, ◌-◌, ◌*◌, ◌%◌, ◌<◌, ◌≤◌, List, Bool, Option, Some, All, Contains};
 ghost use Rattle.std.specs.Prelude.{length, slice_get, slice_index_or};
 ghost use Rattle.std.specs.List.{AllZip};
-ghost use Rattle.chip_circuit.specs.declared.cells.ExCell.{ExCell};
-ghost use Rattle.chip_circuit.specs.declared.cells.Feed.TheVariants.{Pin};
-ghost use Rattle.chip_circuit.specs.Circuits.{CircuitView, KeepsFacts, IsCellAt, feed_at};
-ghost use Rattle.chip_circuit.specs.Answers.{IsValuation, IsAnswer};
+ghost use Rattle.circuit_extracted.specs.declared.cells.ExCell.{ExCell};
+ghost use Rattle.circuit_extracted.specs.declared.cells.Feed.TheVariants.{Pin};
+ghost use Rattle.circuit_extracted.specs.Circuits.{CircuitView, KeepsFacts, IsCellAt, feed_at};
+ghost use Rattle.circuit_extracted.specs.Answers.{IsValuation, IsAnswer};
 ghost use Rattle.pulse_sim.specs.declared.flux.Flux.{Flux};
 ghost use Rattle.pulse_sim.specs.declared.flux.Flux.TheVariants.{Off};
 ghost use Rattle.pulse_sim.specs.Fluxes.{sign, EitherSign, MinusAlone};

@@ -2,7 +2,7 @@
 ghost use Rattle.std.specs.Prelude.{◌≡◌, ℕ, ◌+◌, ◌%◌, ◌^◌, ◌<◌, length, map, IfOk, IfSome, List, Some, slice_get};
 ghost use Rattle.std.specs.Prelude.{replicate};
 ghost use Rattle.std.specs.Option.{option_copied};
-ghost use Rattle.chip_circuit.specs.declared.cells.ExCell.{ExCell};
+ghost use Rattle.circuit_extracted.specs.declared.cells.ExCell.{ExCell};
 ghost use Rattle.pulse_sim.specs.declared.flux.Flux.TheVariants.{Off};
 ghost use Rattle.pulse_sim.specs.Pulsing.{IsPulsing, AreInPhase, AreByPhase, is_plus, values_shown};
 ghost use Rattle.pulse_sim.specs.Shows.{fluxes_at};
@@ -11,8 +11,8 @@ ghost use Rattle.pulse_sim.specs.Settled.{settled_tick};
 use crate::flux::Flux;
 use crate::ticks::{flux_at, settle};
 use aq_base::{List, Memory};
-use chip_circuit::{ExCell, Extracted, Source};
 use circuit::Word;
+use circuit_extracted::{ExCell, Extracted, Source};
 use std::alloc::Global;
 use std::marker::Model;
 

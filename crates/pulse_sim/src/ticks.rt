@@ -10,8 +10,8 @@ ghost use Rattle.pulse_sim.specs.Code.Steps.{IsQuiet, AreSwitched, AreRelaxed};
 
 use crate::flux::Flux;
 use aq_base::List;
-use chip_circuit::{ExCell, Extracted, Feed};
 use circuit::{CellKind, Word};
+use circuit_extracted::{ExCell, Extracted, Feed};
 
 fn sign_of(value: bool) -> Flux
     ensures { result ≡ sign value }

@@ -13,7 +13,7 @@ use Rattle.rowed.specs.Code.RowByRow.{last_values, with_value, shown_from}
 use Rattle.rowed.proofs.RowAnswers.{evaluated_word, evaluated_answer, one_answer}
 use Rattle.rowed.specs.Slots.{AreSeated}
 use Rattle.rowed.specs.PlacedNets.{PlacedRow, PlacedView, IsPlaced, placed_rows, placed_of}
-use Rattle.list_orders.specs.Numbers.{place_of}
+use Rattle.sorting.specs.Numbers.{place_of}
 use Rattle.rowed.specs.Channels.{Link, pin_link, links, channel_links, channel_slots}
 use Rattle.repeater_rows.specs.Destinations.{is_end, destinations}
 use Rattle.repeater_rows.specs.Rounds.{AreOrders}

@@ -9,7 +9,7 @@ use Rattle.std.proofs.Math.Seq.{take-append_seam}
 use Rattle.rowed.specs.declared.source.Source.{Source}
 use Rattle.rowed.specs.declared.row_cell.RowCell.{RowCell}
 use Rattle.rowed.specs.Channels.{move}
-use Rattle.list_orders.specs.Numbers.{place_of, IsOrder}
+use Rattle.sorting.specs.Numbers.{place_of, IsOrder}
 use Rattle.repeater_rows.specs.Rounds.{is_far, round, windows, window_size}
 use Rattle.repeater_rows.proofs.RoundsLaws.{round_order, round_same, length_same}
 use Rattle.repeater_rows.specs.Local.{UnwiredRise}

@@ -4,8 +4,8 @@ use Rattle.std.proofs.Common.{◌++◌, length, take, drop, get_or, refl, sym, a
 use Rattle.std.proofs.lemmas.List.{take-append-drop, length-append, length-drop, length-take, drop-drop, get_or-drop}
 use Rattle.std.proofs.lemmas.List.{get_or-take}
 use Rattle.std.proofs.Math.Nat.{div-add-mod, mul_comm}
-use Rattle.list_orders.specs.Sorting.{passing, in_order}
-use Rattle.list_orders.proofs.SortingLaws.{by_key_passing, by_key_length}
+use Rattle.sorting.specs.Sorting.{passing, in_order}
+use Rattle.sorting.proofs.SortingLaws.{by_key_passing, by_key_length}
 use Rattle.repeater_rows.specs.Rounds.{windows}
 use Rattle.repeater_rows.specs.Repeaters.{carrier_slots}
 use Rattle.repeater_rows.specs.Local.{UnwiredRise}

@@ -8,8 +8,8 @@ use Rattle.circuit.specs.Gates.{valuation}
 use Rattle.rowed.specs.declared.source.Source.{Source}
 use Rattle.rowed.specs.PlacedNets.{PlacedRow}
 use Rattle.rowed.specs.Channels.{Link, channel_links, channel_slots}
-use Rattle.list_orders.specs.Numbers.{numbers, IsOrder}
-use Rattle.list_orders.proofs.NumbersLaws.{length-numbers}
+use Rattle.sorting.specs.Numbers.{numbers, IsOrder}
+use Rattle.sorting.proofs.NumbersLaws.{length-numbers}
 use Rattle.repeater_rows.specs.Destinations.{destinations, is_end, completed}
 use Rattle.repeater_rows.specs.Repeaters.{no_source, source_to, carrier_slots}
 use Rattle.repeater_rows.specs.Local.{UnwiredRise}

@@ -7,14 +7,14 @@ use Rattle.std.proofs.lemmas.Bool.{cases_lt, cases_eq, le-ltb, eqb-true}
 use Rattle.std.proofs.lemmas.List.{get_or-take, get_or-drop, length-take, take-append-drop}
 use Rattle.std.proofs.lemmas.Nat.{same_from_place, mul-le}
 use Rattle.std.proofs.Math.Nat.{suc-mul, mul-suc}
-use Rattle.list_orders.specs.Sorting.{NotFalling, passing, of_key, in_order}
-use Rattle.list_orders.proofs.SortingLaws.{passing-cons, same_in_order}
-use Rattle.list_orders.specs.Numbers.{numbers, Same, IsOrder}
+use Rattle.sorting.specs.Sorting.{NotFalling, passing, of_key, in_order}
+use Rattle.sorting.proofs.SortingLaws.{passing-cons, same_in_order}
+use Rattle.sorting.specs.Numbers.{numbers, Same, IsOrder}
 use Rattle.rowed.specs.Channels.{move}
 use Rattle.repeater_rows.specs.Rounds.{AreOrders, windows, round, is_far, window_size, rounds, all_rounds, AreRounds}
-use Rattle.list_orders.specs.Inversions.{below, inversions}
-use Rattle.list_orders.proofs.InversionLaws.{across, inversions-append, across-same, passing-append, in_order_from_none}
-use Rattle.list_orders.proofs.InversionLaws.{none_in_order, in_order_same}
+use Rattle.sorting.specs.Inversions.{below, inversions}
+use Rattle.sorting.proofs.InversionLaws.{across, inversions-append, across-same, passing-append, in_order_from_none}
+use Rattle.sorting.proofs.InversionLaws.{none_in_order, in_order_same}
 use Rattle.repeater_rows.proofs.WindowLaws.{inside, windows_same, windows_lower, windows_stay}
 
 -- neighbours in order, and the whole list in order

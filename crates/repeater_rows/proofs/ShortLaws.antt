@@ -6,7 +6,7 @@ use Rattle.rowed.specs.declared.source.Source.{Source}
 use Rattle.rowed.specs.declared.row_cell.RowCell.{RowCell}
 use Rattle.rowed.specs.Slots.{AreSeated}
 use Rattle.rowed.specs.PlacedNets.{PlacedRow, PlacedView, IsPlaced, placed_rows, placed_of}
-use Rattle.list_orders.specs.Numbers.{numbers, place_of, IsOrder}
+use Rattle.sorting.specs.Numbers.{numbers, place_of, IsOrder}
 use Rattle.rowed.specs.Channels.{Link, source_slot, pin_link, links, move, channel_links, channel_slots, IsChannel}
 use Rattle.repeater_rows.specs.Destinations.{end_from, is_end, destinations}
 use Rattle.repeater_rows.specs.Rounds.{AreRounds, round, window_size, is_far}

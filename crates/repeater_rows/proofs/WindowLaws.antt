@@ -1,12 +1,12 @@
 -- Putting windows in order removes the inversions inside them, and no more.
 use Rattle.std.proofs.Common.{◌≡◌, ℕ, zero, suc, ◌+◌, List, take, drop, refl, sym, ap, ◌∙◌, arith}
 use Rattle.std.proofs.lemmas.List.{take-append-drop}
-use Rattle.list_orders.specs.Sorting.{in_order, passing}
-use Rattle.list_orders.specs.Numbers.{Same}
-use Rattle.list_orders.specs.Inversions.{inversions}
-use Rattle.list_orders.proofs.SortingLaws.{by_key_passing, by_key_in_order}
-use Rattle.list_orders.proofs.InversionLaws.{across, inversions-append, across-same, across-in_order, passing-append}
-use Rattle.list_orders.proofs.InversionLaws.{none_in_order, in_order_same}
+use Rattle.sorting.specs.Sorting.{in_order, passing}
+use Rattle.sorting.specs.Numbers.{Same}
+use Rattle.sorting.specs.Inversions.{inversions}
+use Rattle.sorting.proofs.SortingLaws.{by_key_passing, by_key_in_order}
+use Rattle.sorting.proofs.InversionLaws.{across, inversions-append, across-same, across-in_order, passing-append}
+use Rattle.sorting.proofs.InversionLaws.{none_in_order, in_order_same}
 use Rattle.repeater_rows.specs.Rounds.{windows}
 
 -- the inversions inside the first n windows

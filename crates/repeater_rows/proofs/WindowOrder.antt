@@ -10,10 +10,10 @@ use Rattle.std.specs.List.Sorted.{IsPermutation, IsSorted}
 use Rattle.std.specs.Ordering.{nat_cmp}
 use Rattle.std.proofs.lemmas.List.Sums.{length-filter}
 use Rattle.std.proofs.lemmas.List.Sorted.{sum_by-IsPermutation}
-use Rattle.list_orders.specs.Sorting.{NotFalling, passing, in_order}
-use Rattle.list_orders.specs.Numbers.{Same}
-use Rattle.list_orders.proofs.SortingLaws.{by_key_is, by_key_in_order, by_key_same_key, same_in_order}
-use Rattle.list_orders.proofs.SortingLaws.{not_falling_from_sort, passing-yes, passing-no}
+use Rattle.sorting.specs.Sorting.{NotFalling, passing, in_order}
+use Rattle.sorting.specs.Numbers.{Same}
+use Rattle.sorting.proofs.SortingLaws.{by_key_is, by_key_in_order, by_key_same_key, same_in_order}
+use Rattle.sorting.proofs.SortingLaws.{not_falling_from_sort, passing-yes, passing-no}
 use Rattle.repeater_rows.specs.Rounds.{windows}
 use Rattle.repeater_rows.specs.Repeaters.{carrier_slots}
 use Rattle.repeater_rows.specs.Local.{unwired, UnwiredRise}

@@ -8,8 +8,8 @@ use Rattle.rowed.proofs.SeatLaws.{or_none}
 use Rattle.rowed.specs.declared.row_cell.RowCell.{RowCell}
 use Rattle.rowed.specs.RowNets.{RowView, row_at, IsRowNet}
 use Rattle.rowed.specs.Slots.{EachSeated}
-use Rattle.list_orders.specs.Numbers.{IsOrder}
-use Rattle.list_orders.proofs.NumbersLaws.{order_by_key, length-by_key_numbers}
+use Rattle.sorting.specs.Numbers.{IsOrder}
+use Rattle.sorting.proofs.NumbersLaws.{order_by_key, length-by_key_numbers}
 use Rattle.row_place.specs.Places.{renumbered_cell, picked}
 use Rattle.row_place.specs.Arranged.{one_each, slot_at, slot_order, arranged_rows, arranged, IsArranged}
 use Rattle.row_place.specs.Code.Arrays.{row_cells}

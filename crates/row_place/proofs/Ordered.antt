@@ -7,17 +7,17 @@ use Rattle.std.specs.List.{AllByRecursion}
 use Rattle.std.proofs.lemmas.Option.{slice_get-get_or}
 use Rattle.rowed.specs.declared.source.Source.{Source}
 use Rattle.rowed.specs.declared.row_cell.RowCell.{RowCell}
-use Rattle.list_orders.specs.Sorting.{by_key}
-use Rattle.list_orders.proofs.SortingLaws.{by_key_all}
-use Rattle.list_orders.specs.Numbers.{numbers}
-use Rattle.list_orders.proofs.NumbersLaws.{length-by_key_numbers}
+use Rattle.sorting.specs.Sorting.{by_key}
+use Rattle.sorting.proofs.SortingLaws.{by_key_all}
+use Rattle.sorting.specs.Numbers.{numbers}
+use Rattle.sorting.proofs.NumbersLaws.{length-by_key_numbers}
 use Rattle.rowed.specs.Slots.{slot_limit}
 use Rattle.rowed.specs.Extent.{packed_span}
 use Rattle.row_place.specs.Keys.{key}
 use Rattle.row_place.specs.Places.{picked}
 use Rattle.row_place.proofs.PlanSpans.{picked_all, slots_by_key}
 use Rattle.row_place.specs.Code.Arrays.{moved_cell}
-use Rattle.list_orders.proofs.Inverted.{numbers_below}
+use Rattle.sorting.proofs.Inverted.{numbers_below}
 
 -- sorting by the list of keys is sorting by the plan's keys
 pub order_is_plan : (slot : Source → ℕ) (row next : List RowCell) (keys read order : List ℕ) → length keys ≡ length row

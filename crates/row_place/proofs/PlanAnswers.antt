@@ -7,7 +7,7 @@ use Rattle.rowed.specs.declared.row_cell.RowCell.{RowCell}
 use Rattle.rowed.specs.RowCells.{source_value, bit_or, cell_value}
 use Rattle.rowed.specs.RowNets.{RowView, cell_at, output_at, IsBefore, last_of, IsRowNet, FitsRows, IsAnswer}
 use Rattle.rowed.proofs.RowAnswers.{some_answer, one_answer}
-use Rattle.list_orders.specs.Numbers.{place_of}
+use Rattle.sorting.specs.Numbers.{place_of}
 use Rattle.row_place.specs.Places.{renumbered_pin, renumbered_cell}
 use Rattle.row_place.proofs.Reordered.{IsReordered, new_place}
 use Rattle.row_place.proofs.PlanKeeps.{shows_output, keeps_still}

@@ -5,8 +5,8 @@ use Rattle.circuit.specs.SameAnswers.{SameAnswers}
 use Rattle.rowed.specs.declared.row_cell.RowCell.{RowCell}
 use Rattle.rowed.specs.RowNets.{RowView, IsAnswer}
 use Rattle.rowed.specs.PlacedNets.{PlacedRow, PlacedView, IsPlaced, placed_of}
-use Rattle.list_orders.specs.Numbers.{numbers}
-use Rattle.list_orders.specs.Sorting.{by_key}
+use Rattle.sorting.specs.Numbers.{numbers}
+use Rattle.sorting.specs.Sorting.{by_key}
 use Rattle.row_place.specs.Places.{renumbered_cell, picked}
 
 -- there is a list of slots for each row, with one for each cell

@@ -1,7 +1,7 @@
 // Cells at slots that a search has found.
 ghost use Rattle.std.specs.Prelude.{◌≡◌, ◌<◌, ◌^◌, [], true, length, map, IfOk, IfSome, IsSome};
 ghost use Rattle.std.specs.List.{AllByRecursion};
-ghost use Rattle.list_orders.specs.Numbers.{IsInverse};
+ghost use Rattle.sorting.specs.Numbers.{IsInverse};
 ghost use Rattle.rowed.specs.SeatTests as tests;
 ghost use Rattle.rowed.specs.Slots.{EachSeated};
 ghost use Rattle.row_place.specs.Places.{picked};
@@ -11,8 +11,8 @@ ghost use Rattle.row_place.specs.Code.Arrays.{moved_cell, row_cells, row_slots};
 use crate::plan::PlacedRows;
 use crate::rows::{PlacedRow, cells_in};
 use aq_base::{List, Memory};
-use list_orders::{order_by, places_of};
 use rowed::{Placed, RowCell, RowNet, each_seated};
+use sorting::{order_by, places_of};
 use std::alloc::Global;
 
 /// Whether there is a list of slots for each row, with one for each cell.

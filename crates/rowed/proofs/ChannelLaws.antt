@@ -15,7 +15,7 @@ use Rattle.rowed.specs.RowNets.{outputs_at, fed_at}
 use Rattle.rowed.specs.Slots.{AreSeated}
 use Rattle.rowed.specs.PlacedNets.{PlacedRow}
 use Rattle.rowed.specs.Channels.{Link, pin_link, links, channel_links, channel_slots, User, IsChannel}
-use Rattle.list_orders.specs.Sorting.{EachPair}
+use Rattle.sorting.specs.Sorting.{EachPair}
 use Rattle.rowed.proofs.RowsAbove.{CellAbove, RowAbove}
 use Rattle.rowed.proofs.PinLaws.{pins_all, users, seated_apart, within_span}
 

@@ -2,8 +2,8 @@
 use Rattle.std.specs.Prelude.{ℕ, Bool, List, ◌++◌, codes}
 use Rattle.std.specs.List.{flat_map}
 use Rattle.std.specs.Fmt.{decimal}
-use Rattle.chip_texts.specs.Counts.{counts_text}
-use Rattle.chip_texts.specs.WordLines.{word_line}
+use Rattle.text_answers.specs.Counts.{counts_text}
+use Rattle.text_answers.specs.WordLines.{word_line}
 
 -- the first line: the bits of a number, and the counts of the chip
 unfoldable pub sample_line : ℕ → ℕ → ℕ → ℕ → List ℕ

@@ -2,14 +2,14 @@
 ghost use Rattle.std.specs.Prelude.{◌≡◌, ◌++◌, ◌≤◌, IfOk, OnOk, IfErr};
 ghost use Rattle.std.specs.List.{flat_map};
 ghost use Rattle.aq_base.specs.Output.{printed};
-ghost use Rattle.chip_texts.specs.Printing.{PrintsWithin};
-ghost use Rattle.chip_texts.specs.WordLines.{word_line};
+ghost use Rattle.text_answers.specs.Printing.{PrintsWithin};
+ghost use Rattle.text_answers.specs.WordLines.{word_line};
 ghost use Rattle.sample_adder.specs.SampleText.{sample_line, sample_text};
 
 use aq_base::{List, Memory, Sink, StoreRefusal};
-use chip_texts::add_word;
 use circuit::Word;
 use std::alloc::Global;
+use text_answers::add_word;
 
 /// Adds the line of the counts.
 #[tactic(auto, using(std::proofs::Common::append_assoc), unfolding(crate::specs::SampleText::sample_line))]
@@ -63,7 +63,7 @@ fn text_of(
 
 /// Prints the text of the sample for so many bits: the counts of its chip, which has at least one row, and a line for
 /// each answer. On a refusal some first bytes of that text were put.
-#[tactic(auto, using(chip_texts::proofs::Pages::texts))]
+#[tactic(auto, using(text_answers::proofs::Pages::texts))]
 pub fn print_sample<O: Sink>(
     alloc: Global,
     bits: u32,

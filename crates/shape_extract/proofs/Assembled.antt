@@ -7,8 +7,8 @@ use Rattle.layout_rules.specs.Nets.{AreNets}
 use Rattle.layout_rules.specs.Rows.{row_count, lower_edges, AreRows}
 use Rattle.layout_rules.proofs.RowLaws.{row_count-certified}
 use Rattle.rowed.specs.declared.source.Source.{Source}
-use Rattle.chip_circuit.specs.declared.cells.ExCell.{ExCell}
-use Rattle.chip_circuit.specs.Circuits.{KeepsFacts}
+use Rattle.circuit_extracted.specs.declared.cells.ExCell.{ExCell}
+use Rattle.circuit_extracted.specs.Circuits.{KeepsFacts}
 use Rattle.shape_extract.specs.Extraction.{is_wired, IsCellFrom, IsCircuitOf}
 use Rattle.shape_extract.specs.Extracts.{KeepsFive}
 use Rattle.shape_extract.specs.Code.Parts.{AreParts}

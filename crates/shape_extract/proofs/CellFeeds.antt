@@ -16,8 +16,8 @@ use Rattle.layout_rules.specs.Pins.{LiesIn, IsPinOf}
 use Rattle.layout_rules.specs.Labels.{marks, Marks, is_labelled}
 use Rattle.layout_rules.specs.CircuitRules.{IsInput}
 use Rattle.rowed.specs.declared.source.Source.{Source}
-use Rattle.chip_circuit.specs.declared.cells.Feed.{Feed}
-use Rattle.chip_circuit.specs.declared.cells.Feed.TheVariants.{Nothing, Pin}
+use Rattle.circuit_extracted.specs.declared.cells.Feed.{Feed}
+use Rattle.circuit_extracted.specs.declared.cells.Feed.TheVariants.{Nothing, Pin}
 use Rattle.shape_extract.specs.Code.Cells.{holds_pin, is_marked}
 use Rattle.shape_extract.specs.Code.Drivers.{IsOnlySource}
 use Rattle.shape_extract.specs.Extraction.{IsOutputPin, FeedsPin}

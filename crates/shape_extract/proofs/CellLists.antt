@@ -16,10 +16,10 @@ use Rattle.layout_rules.specs.Reports.{ReportsNone, Passes}
 use Rattle.layout_rules.specs.Rows.{has_edge, lower_edges, row_of, AreRows}
 use Rattle.layout_rules.proofs.RowLaws.{row_of-certified}
 use Rattle.layout_rules.specs.CircuitRules.{CellsBroken}
-use Rattle.chip_circuit.specs.declared.cells.Feed.{Feed}
-use Rattle.chip_circuit.specs.declared.cells.Feed.TheVariants.{Nothing}
-use Rattle.chip_circuit.specs.declared.cells.ExCell.{ExCell}
-use Rattle.chip_circuit.specs.Circuits.{feed_at}
+use Rattle.circuit_extracted.specs.declared.cells.Feed.{Feed}
+use Rattle.circuit_extracted.specs.declared.cells.Feed.TheVariants.{Nothing}
+use Rattle.circuit_extracted.specs.declared.cells.ExCell.{ExCell}
+use Rattle.circuit_extracted.specs.Circuits.{feed_at}
 use Rattle.shape_extract.specs.Extraction.{IsFeedAt, IsInPhase, IsCellFrom}
 use Rattle.shape_extract.specs.Code.Tables.{IsFrameOf, IsFeedOfInput}
 use Rattle.layout_rules.specs.ExcitationRule.{IsExcitedAt}

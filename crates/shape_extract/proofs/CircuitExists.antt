@@ -24,15 +24,15 @@ use Rattle.layout_rules.specs.Reports.{Passes}
 use Rattle.layout_rules.specs.Rows.{row_of, row_count}
 use Rattle.layout_rules.proofs.NetsExist.{some_nets}
 use Rattle.layout_rules.proofs.Deciding.{settled}
-use Rattle.chip_circuit.specs.Circuits.{CircuitView}
+use Rattle.circuit_extracted.specs.Circuits.{CircuitView}
 use Rattle.shape_extract.specs.Extraction.{IsOutputPin, FeedsPin, IsCellFrom, IsOutputFrom}
 use Rattle.shape_extract.specs.Extraction.{is_wired, IsCircuitOf}
 use Rattle.shape_extract.specs.Extracts.{KeepsFive}
 use Rattle.shape_extract.specs.Frames.{AreFrames}
 use Rattle.shape_extract.specs.Code.Tables.{IsFeedOfInput}
-use Rattle.chip_circuit.specs.declared.cells.ExCell.{ExCell}
-use Rattle.chip_circuit.specs.declared.cells.Feed.{Feed}
-use Rattle.chip_circuit.specs.declared.cells.Feed.TheVariants.{Nothing, Pin, Label as Word}
+use Rattle.circuit_extracted.specs.declared.cells.ExCell.{ExCell}
+use Rattle.circuit_extracted.specs.declared.cells.Feed.{Feed}
+use Rattle.circuit_extracted.specs.declared.cells.Feed.TheVariants.{Nothing, Pin, Label as Word}
 use Rattle.shape_extract.proofs.CellFeeds.{frame_lies, fed_within, fed_past}
 use Rattle.shape_extract.proofs.CellLists.{no_kind, kind_there, cell_made}
 use Rattle.shape_extract.proofs.Entries.{named_exit}

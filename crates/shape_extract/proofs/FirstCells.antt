@@ -20,13 +20,13 @@ use Rattle.layout_rules.specs.CircuitRules.{IsSource}
 use Rattle.layout_rules.proofs.LinePaths.{path_from_chain}
 use Rattle.layout_rules.proofs.LinesAgree.{laid_out, none_cut_off}
 use Rattle.layout_rules.proofs.FirstChipKeeps.{excitation_kept as lines_kept}
-use Rattle.chip_circuit.specs.declared.cells.Feed.TheVariants.{Nothing}
-use Rattle.chip_circuit.specs.declared.cells.ExCell.{ExCell}
-use Rattle.chip_circuit.specs.Circuits.{feed_at}
+use Rattle.circuit_extracted.specs.declared.cells.Feed.TheVariants.{Nothing}
+use Rattle.circuit_extracted.specs.declared.cells.ExCell.{ExCell}
+use Rattle.circuit_extracted.specs.Circuits.{feed_at}
 use Rattle.shape_extract.specs.Frames.{comes_before, HasPlace, AreFrames}
 use Rattle.shape_extract.specs.Extraction.{IsNamed, IsDrivenBy, IsFeedAt, IsInPhase, IsCellFrom, IsOutputFrom}
 use Rattle.shape_extract.specs.Extraction.{IsCircuitOf}
-use Rattle.chip_circuit.specs.FirstCircuit.{lower_buffer, upper_buffer, upper_output, first_nets, first_circuit}
+use Rattle.circuit_extracted.specs.FirstCircuit.{lower_buffer, upper_buffer, upper_output, first_nets, first_circuit}
 use Rattle.shape_extract.proofs.Each.{EachFrom, each_at}
 use Rattle.shape_extract.proofs.FirstNets.{first_nets_are}
 

@@ -9,7 +9,7 @@ use Rattle.geom.specs.FirstChip.{first_flat}
 use Rattle.layout_rules.specs.Touch.{touch, Joined}
 use Rattle.layout_rules.specs.Nets.{AreNets}
 use Rattle.layout_rules.proofs.NetLaws.{Joined-self, Joined-touching, Joined-trans, AreNets-certified}
-use Rattle.chip_circuit.specs.FirstCircuit.{first_nets}
+use Rattle.circuit_extracted.specs.FirstCircuit.{first_nets}
 use Rattle.shape_extract.proofs.Each.{EachFrom, each_at, item_at}
 
 -- a shape with its net, and each of the others: they have one net where they touch

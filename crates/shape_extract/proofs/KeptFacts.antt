@@ -25,11 +25,11 @@ use Rattle.layout_rules.specs.CircuitRules.{HasNoFrame}
 use Rattle.layout_rules.proofs.ReportLaws.{first_kept}
 use Rattle.layout_rules.proofs.Deciding.{settled}
 use Rattle.layout_rules.proofs.LinesAgree.{each_excited}
-use Rattle.chip_circuit.specs.declared.cells.Feed.{Feed}
-use Rattle.chip_circuit.specs.declared.cells.Feed.TheVariants.{Nothing, Pin, Label as Word}
-use Rattle.chip_circuit.specs.declared.cells.ExCell.{ExCell}
-use Rattle.chip_circuit.specs.Circuits.{CircuitView, IsCellAt, feed_at, IsFed, IsOutputBelow, IsFeedOf, IsCellOf}
-use Rattle.chip_circuit.specs.Circuits.{HasCell, IsTaken, IsShown, KeepsFacts}
+use Rattle.circuit_extracted.specs.declared.cells.Feed.{Feed}
+use Rattle.circuit_extracted.specs.declared.cells.Feed.TheVariants.{Nothing, Pin, Label as Word}
+use Rattle.circuit_extracted.specs.declared.cells.ExCell.{ExCell}
+use Rattle.circuit_extracted.specs.Circuits.{CircuitView, IsCellAt, feed_at, IsFed, IsOutputBelow, IsFeedOf, IsCellOf}
+use Rattle.circuit_extracted.specs.Circuits.{HasCell, IsTaken, IsShown, KeepsFacts}
 use Rattle.shape_extract.specs.Frames.{comes_before}
 use Rattle.shape_extract.specs.Extraction.{IsNamed, IsOutputPin, IsDrivenBy, FeedsPin, IsFeedAt, IsCellFrom}
 use Rattle.shape_extract.specs.Extraction.{IsCircuitOf}

@@ -19,10 +19,10 @@ use Rattle.layout_rules.specs.Labels.{letter_i, letter_o, marks, is_labelled}
 use Rattle.layout_rules.specs.CircuitRules.{CellsBroken, LabelsBroken}
 use Rattle.layout_rules.specs.ExcitationRule.{ExcitationBroken}
 use Rattle.rowed.specs.declared.source.Source.{Source}
-use Rattle.chip_circuit.specs.declared.cells.Feed.{Feed}
-use Rattle.chip_circuit.specs.declared.cells.Feed.TheVariants.{Nothing, Pin, Label}
-use Rattle.chip_circuit.specs.declared.cells.ExCell.{ExCell}
-use Rattle.chip_circuit.specs.Circuits.{CircuitView, feed_at}
+use Rattle.circuit_extracted.specs.declared.cells.Feed.{Feed}
+use Rattle.circuit_extracted.specs.declared.cells.Feed.TheVariants.{Nothing, Pin, Label}
+use Rattle.circuit_extracted.specs.declared.cells.ExCell.{ExCell}
+use Rattle.circuit_extracted.specs.Circuits.{CircuitView, feed_at}
 use Rattle.shape_extract.specs.Frames.{AreFrames}
 use Rattle.shape_extract.specs.Extraction.{IsNamed, IsOutputPin, IsDrivenBy, FeedsPin, IsFeedAt, IsInPhase, IsCellFrom}
 use Rattle.shape_extract.specs.Extraction.{IsOutputFrom, IsCircuitOf}

@@ -15,10 +15,10 @@ use Rattle.layout_rules.specs.Labels.{letter_i, letter_o, Marks, is_labelled, Is
 use Rattle.layout_rules.specs.ExcitationLines.{BarHasPhase}
 use Rattle.layout_rules.specs.CircuitRules.{IsInput, IsSource}
 use Rattle.rowed.specs.declared.source.Source.{Source}
-use Rattle.chip_circuit.specs.declared.cells.Feed.{Feed}
-use Rattle.chip_circuit.specs.declared.cells.Feed.TheVariants.{Nothing, Pin, Label}
-use Rattle.chip_circuit.specs.declared.cells.ExCell.{ExCell}
-use Rattle.chip_circuit.specs.Circuits.{CircuitView, feed_at}
+use Rattle.circuit_extracted.specs.declared.cells.Feed.{Feed}
+use Rattle.circuit_extracted.specs.declared.cells.Feed.TheVariants.{Nothing, Pin, Label}
+use Rattle.circuit_extracted.specs.declared.cells.ExCell.{ExCell}
+use Rattle.circuit_extracted.specs.Circuits.{CircuitView, feed_at}
 use Rattle.shape_extract.specs.Frames.{AreFrames}
 
 -- a label of this letter and this number marks the pin

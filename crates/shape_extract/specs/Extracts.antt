@@ -13,7 +13,7 @@ use Rattle.layout_rules.specs.RuleTable.{place, first_of_geometry}
 use Rattle.layout_rules.specs.Rules.{KeepsCircuitRules, FirstBroken}
 use Rattle.shape_extract.specs.declared.extraction.ExtractRefusal.{ExtractRefusal}
 use Rattle.shape_extract.specs.declared.extraction.ExtractRefusal.TheVariants.{Broken, Memory}
-use Rattle.chip_circuit.specs.Circuits.{CircuitView}
+use Rattle.circuit_extracted.specs.Circuits.{CircuitView}
 use Rattle.shape_extract.specs.Extraction.{IsCircuitOf}
 
 -- the layout keeps the rules of circuits, whatever the limits are, and this is its circuit

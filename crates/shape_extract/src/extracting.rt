@@ -23,7 +23,7 @@ use crate::tables::pin_frames::pin_frames;
 use crate::tables::pin_rows::pin_rows;
 use crate::tables::row_edges::rows;
 use aq_base::List;
-use chip_circuit::Extracted;
+use circuit_extracted::Extracted;
 use geom::Flat;
 use layout_rules::Rule;
 use std::alloc::Global;

@@ -17,7 +17,7 @@ mod rules;
 mod search;
 mod tables;
 
-pub use chip_circuit::{ExCell, Extracted, Feed, one_answer};
+pub use circuit_extracted::{ExCell, Extracted, Feed, one_answer};
 pub use circuits::first_chip::first_chip_extracted;
 pub use circuits::kept_laws::{extracted_keeps, some_circuit};
 pub use circuits::uniqueness::one_circuit;

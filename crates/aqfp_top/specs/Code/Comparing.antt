@@ -1,7 +1,7 @@
 -- The steps of a comparison.
 use Rattle.std.specs.Prelude.{ℕ, ◌≡◌, List, [], ◌∷◌, length}
 use Rattle.blif_read.specs.Parts.{NetView}
-use Rattle.chip_circuit.specs.Circuits.{CircuitView}
+use Rattle.circuit_extracted.specs.Circuits.{CircuitView}
 use Rattle.aqfp_top.specs.Stages as stage
 use Rattle.aqfp_top.specs.Stages.{Stage}
 use Rattle.aqfp_top.specs.Comparing.{AreManyFunctions}

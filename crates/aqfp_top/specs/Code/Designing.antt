@@ -5,12 +5,12 @@ use Rattle.cell_library.specs.Library.{LibraryView}
 use Rattle.gds_records.specs.Writing.{bytes_of}
 use Rattle.rowed.specs.PlacedNets.{PlacedView}
 use Rattle.rowed.specs.Counts.{cells_in, wires_in}
-use Rattle.chip_plan.specs.declared.refusal.PlanRefusal.{PlanRefusal}
-use Rattle.chip_plan.specs.declared.refusal.PlanRefusal.TheVariants as refusal
-use Rattle.compact_plan.specs.Compact.{IsPlanned, IsCompactChip}
-use Rattle.cell_plan.specs.DrawnChips.{IsDrawnChip}
-use Rattle.cell_plan.specs.declared.refusal.CellPlanRefusal.{CellPlanRefusal}
-use Rattle.cell_plan.specs.declared.refusal.CellPlanRefusal.TheVariants as own
+use Rattle.plan_build.specs.declared.refusal.PlanRefusal.{PlanRefusal}
+use Rattle.plan_build.specs.declared.refusal.PlanRefusal.TheVariants as refusal
+use Rattle.plan_compact.specs.Compact.{IsPlanned, IsCompactChip}
+use Rattle.plan_draw.specs.DrawnChips.{IsDrawnChip}
+use Rattle.plan_draw.specs.declared.refusal.CellPlanRefusal.{CellPlanRefusal}
+use Rattle.plan_draw.specs.declared.refusal.CellPlanRefusal.TheVariants as own
 use Rattle.aqfp_top.specs.Designs.{SaysDesign, IsChipFor, IsPlanBy, PlanFinds, PlanGivesUp, stream_of}
 use Rattle.aqfp_top.specs.declared.planner.Planner.{Planner}
 use Rattle.aqfp_top.specs.declared.planner.Planner.TheVariants.{Layered, Compact, Given}

@@ -5,7 +5,7 @@ use Rattle.aq_base.specs.declared.store.StoreRefusal.TheVariants as store
 use Rattle.aq_base.specs.Heard.{Event}
 use Rattle.aq_base.specs.FaultCounts.{write_faults}
 use Rattle.aq_base.specs.Output.{Output, printed}
-use Rattle.chip_texts.specs.Printing.{PrintsWithin}
+use Rattle.text_answers.specs.Printing.{PrintsWithin}
 use Rattle.aqfp_top.specs.declared.fault.WriteCall.TheVariants.{Out}
 use Rattle.aqfp_top.specs.declared.fault.Fault.{Fault}
 use Rattle.aqfp_top.specs.declared.fault.Fault.TheVariants.{WriteFault, Memory}

@@ -1,6 +1,6 @@
 -- The steps of writing a chip's netlist.
 use Rattle.std.specs.Prelude.{◌≡◌, length}
-use Rattle.chip_circuit.specs.Circuits.{CircuitView}
+use Rattle.circuit_extracted.specs.Circuits.{CircuitView}
 use Rattle.aqfp_top.specs.Faults.{IsWritingFault}
 use Rattle.aqfp_top.specs.declared.counts.ChipCounts.{ChipCounts}
 use Rattle.aqfp_top.specs.declared.fault.Fault.{Fault}

@@ -5,8 +5,8 @@ ghost use Rattle.std.specs.List.{flat_map};
 ghost use Rattle.blif_flat.specs.BlifText.{feed_names, rows_of, cell_lines, output_lines, spaced, line_text};
 
 use aq_base::Memory;
-use chip_circuit::{ExCell, Feed};
 use circuit::CellKind;
+use circuit_extracted::{ExCell, Feed};
 use rowed::Source;
 use std::alloc::Global;
 

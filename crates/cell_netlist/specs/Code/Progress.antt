@@ -3,7 +3,7 @@
 use Rattle.std.specs.Prelude.{◌≡◌, ℕ, zero, suc, ◌+◌, ◌-◌, ◌<◌, cond, nat_lt, Bool, true, List, length, take, Some}
 use Rattle.std.specs.Prelude.{slice_get, slice_index}
 use Rattle.std.specs.List.{list_all}
-use Rattle.height_trees.specs.Forests.{Forest, Obeys, AreLeast}
+use Rattle.union_find.specs.Forests.{Forest, Obeys, AreLeast}
 use Rattle.blif_read.specs.declared.netlist.Def.{Def}
 use Rattle.cell_netlist.specs.Uses.{CellView, named, uses, is_used_well}
 use Rattle.cell_netlist.specs.Levels.{LevelsFit, shown_by, is_shown}

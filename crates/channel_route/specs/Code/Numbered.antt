@@ -2,7 +2,7 @@
 use Rattle.std.specs.Prelude.{ℕ, suc, List, [], ◌∷◌}
 use Rattle.rowed.specs.declared.wire.Wire.{Wire}
 use Rattle.channel_route.specs.declared.order.Numbered.{Numbered}
-use Rattle.list_orders.specs.Sorting.{by_key}
+use Rattle.sorting.specs.Sorting.{by_key}
 use Rattle.channel_route.specs.Crossing.{low}
 
 -- the wires, numbered from n on

@@ -6,7 +6,7 @@ use Rattle.geom.specs.declared.layout.Element.{Element}
 use Rattle.geom.specs.declared.layout.Element.TheVariants.{Box, Place}
 use Rattle.layout_rules.specs.declared.layers.TheConstants.{M1, VIA, M2, EVEN_LINE, BAR, FRAME, INPUT_PIN, OUTPUT_PIN}
 use Rattle.rowed.specs.declared.wire.Wire.{Wire}
-use Rattle.list_orders.specs.Numbers.{numbers}
+use Rattle.sorting.specs.Numbers.{numbers}
 use Rattle.cell_library.specs.Library.{LibraryView, input_column_of, output_column_of}
 use Rattle.layout_make.specs.Sheet.{Area, rect_of, upright, square, rise_area, fall_area, across_area, flank_rect}
 use Rattle.layout_make.specs.Sheet.{lead_flank, lead_use}

@@ -7,7 +7,7 @@ use Rattle.geom.specs.declared.layout.Element.TheVariants.{Text}
 use Rattle.layout_rules.specs.declared.layers.TheConstants.{LABELS}
 use Rattle.layout_rules.specs.Labels.{letter_i, letter_o}
 use Rattle.rowed.specs.declared.row_cell.RowCell.{RowCell}
-use Rattle.list_orders.specs.Numbers.{numbers}
+use Rattle.sorting.specs.Numbers.{numbers}
 use Rattle.cell_library.specs.Library.{LibraryView}
 use Rattle.layout_make.specs.declared.marks.Ports.{Ports}
 use Rattle.layout_make.specs.declared.marks.Ports.TheVariants.{Inputs, Outputs}

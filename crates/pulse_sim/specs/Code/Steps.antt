@@ -1,9 +1,9 @@
 -- What a settled tick does in place: first the cells of one phase switch, then those of another relax.
 use Rattle.std.specs.Prelude.{◌≡◌, ◌≢◌, ℕ, ◌<◌, Bool, List, length, Option, Some, slice_get, slice_index}
 use Rattle.std.specs.Prelude.{slice_index_or}
-use Rattle.chip_circuit.specs.declared.cells.ExCell.{ExCell}
-use Rattle.chip_circuit.specs.declared.cells.Feed.TheVariants.{Pin}
-use Rattle.chip_circuit.specs.Circuits.{feed_at}
+use Rattle.circuit_extracted.specs.declared.cells.ExCell.{ExCell}
+use Rattle.circuit_extracted.specs.declared.cells.Feed.TheVariants.{Pin}
+use Rattle.circuit_extracted.specs.Circuits.{feed_at}
 use Rattle.pulse_sim.specs.declared.flux.Flux.{Flux}
 use Rattle.pulse_sim.specs.declared.flux.Flux.TheVariants.{Off}
 use Rattle.pulse_sim.specs.Settled.{settled_take, feed_sum}

@@ -1,6 +1,6 @@
 -- Steps of the code that does a round: the windows of a channel that hold a wire, from the first one on.
 use Rattle.std.specs.Prelude.{◌≡◌, ℕ, ◌-◌, ◌≤◌, Bool, List, ◌++◌, length, take, drop}
-use Rattle.list_orders.specs.Sorting.{in_order}
+use Rattle.sorting.specs.Sorting.{in_order}
 use Rattle.repeater_rows.specs.Rounds.{windows}
 use Rattle.repeater_rows.specs.Repeaters.{carrier_slots}
 use Rattle.repeater_rows.specs.Local.{UnwiredRise}

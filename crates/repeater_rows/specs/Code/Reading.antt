@@ -3,7 +3,7 @@ use Rattle.std.specs.Prelude.{◌≡◌, ℕ, suc, ◌-◌, Bool, cond, nat_lt, 
 use Rattle.std.specs.List.{list_any}
 use Rattle.rowed.specs.declared.source.Source.{Source}
 use Rattle.rowed.specs.Channels.{Link, move}
-use Rattle.list_orders.specs.Numbers.{numbers}
+use Rattle.sorting.specs.Numbers.{numbers}
 use Rattle.repeater_rows.specs.Destinations.{end_from, is_end}
 use Rattle.repeater_rows.specs.Repeaters.{no_source, source_to}
 

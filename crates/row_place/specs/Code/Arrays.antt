@@ -6,9 +6,9 @@ use Rattle.rowed.specs.declared.source.Source.{Source}
 use Rattle.rowed.specs.declared.row_cell.RowCell.{RowCell}
 use Rattle.rowed.specs.PlacedNets.{PlacedRow}
 use Rattle.rowed.specs.Channels.{source_slot}
-use Rattle.list_orders.specs.Sorting.{by_key}
+use Rattle.sorting.specs.Sorting.{by_key}
 use Rattle.row_place.specs.Keys.{Partners, signal_at, key}
-use Rattle.list_orders.specs.Numbers.{numbers, place_in}
+use Rattle.sorting.specs.Numbers.{numbers, place_in}
 
 -- a source, a pin and a cell by new numbers
 abbrev pub moved : List ℕ → Source → Source

@@ -4,7 +4,7 @@ use Rattle.std.specs.List.{AllZip}
 use Rattle.geom.specs.declared.shapes.Flat.{Flat}
 use Rattle.layout_rules.specs.Pins.{entry_count}
 use Rattle.rowed.specs.declared.source.Source.{Source}
-use Rattle.chip_circuit.specs.declared.cells.ExCell.{ExCell}
+use Rattle.circuit_extracted.specs.declared.cells.ExCell.{ExCell}
 use Rattle.shape_extract.specs.Frames.{AreFrames}
 use Rattle.shape_extract.specs.Extraction.{IsCellFrom}
 use Rattle.shape_extract.specs.Code.OutputPins.{AreOutputs}

@@ -9,8 +9,8 @@ use Rattle.circuit.specs.CellKinds.{number_of, inputs_of}
 use Rattle.layout_rules.specs.Layers.{is_frame}
 use Rattle.layout_rules.specs.Nets.{AreNets}
 use Rattle.shape_extract.specs.declared.circuits.cell_feeds.Tables.{Tables}
-use Rattle.chip_circuit.specs.declared.cells.Feed.{Feed}
-use Rattle.chip_circuit.specs.declared.cells.Feed.TheVariants.{Nothing}
+use Rattle.circuit_extracted.specs.declared.cells.Feed.{Feed}
+use Rattle.circuit_extracted.specs.declared.cells.Feed.TheVariants.{Nothing}
 use Rattle.shape_extract.specs.Code.Marking.{AreMarks}
 use Rattle.shape_extract.specs.Code.FramesOfPins.{ArePinFrames}
 use Rattle.shape_extract.specs.Frames.{AreFrames}

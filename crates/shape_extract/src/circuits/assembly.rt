@@ -20,7 +20,7 @@ use crate::filed_shapes::FiledShapes;
 use crate::tables::mark_table::Mark;
 use crate::tables::ports::{count_entries, count_exits, ports};
 use aq_base::{List, Memory};
-use chip_circuit::{ExCell, Extracted};
+use circuit_extracted::{ExCell, Extracted};
 use geom::Flat;
 use rowed::Source;
 use std::alloc::Global;

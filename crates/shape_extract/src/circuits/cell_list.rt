@@ -16,8 +16,8 @@ use crate::rules::cell_pins::kind_numbered;
 use crate::tables::pins_in_frames::HoldsPin;
 use crate::tables::row_edges::{lower_edge, row_at};
 use aq_base::{List, Memory};
-use chip_circuit::ExCell;
 use circuit::CellKind;
+use circuit_extracted::ExCell;
 use std::alloc::Global;
 
 /// The kind of the cell with this frame.

@@ -1,7 +1,7 @@
 // The laws of circuits of flat forms that keep the rules. The functions do nothing.
 ghost use Rattle.std.specs.Prelude.{◌<◌, ◌^◌, length};
 ghost use Rattle.geom.specs.declared.shapes.Flat.{Flat};
-ghost use Rattle.chip_circuit.specs.Circuits.{CircuitView, KeepsFacts};
+ghost use Rattle.circuit_extracted.specs.Circuits.{CircuitView, KeepsFacts};
 ghost use Rattle.shape_extract.specs.Extraction.{IsCircuitOf};
 ghost use Rattle.shape_extract.specs.Extracts.{KeepsFive};
 

@@ -4,7 +4,7 @@ ghost use Rattle.geom.specs.declared.shapes.Flat.{Flat};
 ghost use Rattle.layout_rules.specs.declared.rule.Rule.TheVariants.{E1, E2, E6};
 ghost use Rattle.layout_rules.specs.Limits.{Limits};
 ghost use Rattle.layout_rules.specs.Rules.{Keeps};
-ghost use Rattle.chip_circuit.specs.Circuits.{CircuitView};
+ghost use Rattle.circuit_extracted.specs.Circuits.{CircuitView};
 ghost use Rattle.shape_extract.specs.Extraction.{IsCircuitOf};
 
 /// A flat form that keeps the rules of cells, of excitation lines and of labels is that of at most one circuit.

@@ -1,6 +1,6 @@
 use Rattle.std.proofs.Common.{subst}
-use Rattle.chip_circuit.specs.Circuits.{CircuitView}
-use Rattle.chip_texts.specs.WordsText.{SaysWords, IsBadLine}
+use Rattle.circuit_extracted.specs.Circuits.{CircuitView}
+use Rattle.text_answers.specs.WordsText.{SaysWords, IsBadLine}
 use Rattle.aqfp_top.proofs.OneStream.{one_layout}
 use Rattle.aqfp_top.proofs.Judging.{is_sound, words_are_well, misworded_answers}
 use Rattle.aqfp_top.proofs.OneCheck.{words_none}

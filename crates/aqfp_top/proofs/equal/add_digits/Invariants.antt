@@ -1,5 +1,5 @@
 use Rattle.std.proofs.Common.{◌≡◌, ◌++◌, map, take}
-use Rattle.chip_texts.specs.WordLines.{digit_of}
+use Rattle.text_answers.specs.WordLines.{digit_of}
 use Rattle.aqfp_top.proofs.equal.add_digits.Given as goal
 
 abbrev pub invariant-loop-value : goal.invariant-loop-value

@@ -1,4 +1,4 @@
-use Rattle.height_trees.specs.Forests.{trees}
+use Rattle.union_find.specs.Forests.{trees}
 use Rattle.cell_netlist.specs.Uses.{with_gates}
 use Rattle.cell_netlist.specs.Code.Progress.{IsJudged}
 use Rattle.cell_netlist.proofs.judge.first_fault.Given as goal

@@ -1,4 +1,4 @@
-use Rattle.height_trees.specs.Forests.{trees}
+use Rattle.union_find.specs.Forests.{trees}
 use Rattle.cell_netlist.specs.Code.Progress.{IsAdded}
 use Rattle.cell_netlist.proofs.levels.add_rises.Given as goal
 

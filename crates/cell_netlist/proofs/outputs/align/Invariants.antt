@@ -1,4 +1,4 @@
-use Rattle.height_trees.specs.Forests.{trees}
+use Rattle.union_find.specs.Forests.{trees}
 use Rattle.cell_netlist.specs.Code.Progress.{IsAligned}
 use Rattle.cell_netlist.proofs.outputs.align.Given as goal
 

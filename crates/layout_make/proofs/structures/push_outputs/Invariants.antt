@@ -1,5 +1,5 @@
 use Rattle.std.proofs.Common.{◌≡◌, ◌++◌, map}
-use Rattle.list_orders.specs.Numbers.{numbers}
+use Rattle.sorting.specs.Numbers.{numbers}
 use Rattle.layout_make.specs.Code.Boxes.{out_box}
 use Rattle.layout_make.proofs.structures.push_outputs.Given as goal
 

@@ -3,10 +3,10 @@ use Rattle.std.proofs.Common.{◌≡◌, zero, suc, Bool, List, [], ◌∷◌, l
 use Rattle.std.specs.List.{All, AllZip, AllByRecursion}
 use Rattle.std.proofs.lemmas.List.Elements.{recursion_from_All}
 use Rattle.std.proofs.lemmas.Option.{same_Some}
-use Rattle.chip_circuit.specs.declared.cells.ExCell.{ExCell}
-use Rattle.chip_circuit.specs.Circuits.{KeepsFacts}
-use Rattle.chip_circuit.specs.Answers.{cell_value, IsValuation, IsAnswer}
-use Rattle.chip_circuit.specs.FirstCircuit.{lower_buffer, upper_buffer, first_circuit}
+use Rattle.circuit_extracted.specs.declared.cells.ExCell.{ExCell}
+use Rattle.circuit_extracted.specs.Circuits.{KeepsFacts}
+use Rattle.circuit_extracted.specs.Answers.{cell_value, IsValuation, IsAnswer}
+use Rattle.circuit_extracted.specs.FirstCircuit.{lower_buffer, upper_buffer, first_circuit}
 use Rattle.pulse_sim.specs.Shows.{Shows}
 use Rattle.pulse_sim.proofs.EveryOrder.{shows}
 use Rattle.pulse_sim.proofs.first_chip.first_chip_shows.Goals as goal

@@ -1,5 +1,5 @@
 use Rattle.std.proofs.Common.{◌≡◌, ◌∙◌, ◌+◌, ◌%◌, arith, ap}
-use Rattle.chip_circuit.specs.Circuits.{CircuitView}
+use Rattle.circuit_extracted.specs.Circuits.{CircuitView}
 use Rattle.pulse_sim.specs.Pulsing.{AreInPhase}
 use Rattle.pulse_sim.proofs.InPlace.{at_phase, phase_within, phase_quiet, ticked}
 use Rattle.pulse_sim.proofs.ticks.settle.Goals as goal

@@ -1,6 +1,6 @@
 use Rattle.std.proofs.Common.{◌≡◌, ◌++◌, take}
 use Rattle.std.specs.List.{flat_map}
-use Rattle.chip_texts.specs.WordLines.{word_line}
+use Rattle.text_answers.specs.WordLines.{word_line}
 use Rattle.sample_adder.proofs.print.add_answers.Given as goal
 
 abbrev pub invariant-loop-answer : goal.invariant-loop-answer

@@ -1,8 +1,0 @@
-mod GivenKinds
-mod Chips
-mod FewElements
-mod Sizes
-mod Steps
-pub mod OneNet
-pub mod OneChip
-mod DrawnRows

@@ -1,6 +1,0 @@
-use Rattle.cell_plan.proofs.FewElements.{few_elements}
-use Rattle.cell_plan.proofs.plan.counted.Goals as goal
-
-pub element_number-elements-requires : goal.element_number-elements-requires
-element_number-elements-requires c =
-    few_elements c.args._library.now c.args._net.now c.args.chip c.requires.library c.requires.net c.requires.short

@@ -1,4 +1,0 @@
-pub mod CellPlans
-pub mod Refusals
-pub mod DrawnChips
-pub mod Code

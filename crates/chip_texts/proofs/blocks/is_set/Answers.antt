@@ -1,5 +1,0 @@
-use Rattle.chip_texts.proofs.InLanes.{test_holds}
-use Rattle.chip_texts.proofs.blocks.is_set.Goals as goal
-
-pub returns : goal.returns
-returns c = test_holds c.args.number c.args.lane

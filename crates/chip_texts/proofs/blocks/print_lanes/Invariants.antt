@@ -1,8 +1,0 @@
-use Rattle.chip_texts.specs.Code.Lanes.{in_lane, lines_of}
-use Rattle.chip_texts.specs.Printing.{PrintsLine}
-use Rattle.chip_texts.proofs.blocks.print_lanes.Given as goal
-
-abbrev pub invariant-loop-lane : goal.invariant-loop-lane
-invariant-loop-lane g l =
-    PrintsLine (g.O.Sink.output l.initial.out) (g.O.Sink.output l.out) l.initial.page.items l.page.items
-    (lines_of (λ i. in_lane i l.numbers) l.lane)

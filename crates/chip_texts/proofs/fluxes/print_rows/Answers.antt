@@ -1,5 +1,0 @@
-use Rattle.chip_texts.proofs.Pages.{refuses_line}
-use Rattle.chip_texts.proofs.fluxes.print_rows.Goals as goal
-
-pub returns-in-Err-clause-refused : goal.returns-in-Err-clause-refused
-returns-in-Err-clause-refused g c = refuses_line _ _ _

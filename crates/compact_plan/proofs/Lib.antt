@@ -1,2 +1,0 @@
-pub mod FewJunctions
-pub mod Candidates

@@ -1,3 +1,0 @@
-pub mod Junctions
-pub mod Compact
-pub mod Code

@@ -1,8 +1,0 @@
-use Rattle.std.proofs.Common.{ℕ, ◌≡◌, ◌<◌, ◌||◌, drop}
-use Rattle.bit_tables.specs.Tables.{holds}
-use Rattle.cover_graph.specs.Code.Covers.{some_at}
-use Rattle.cover_graph.proofs.cover.cover_table.Given as goal
-
-abbrev pub invariant-loop-cube : goal.invariant-loop-cube
-invariant-loop-cube l = (i : ℕ) → i < 64
-    → (holds l.table i || some_at (drop l.cube-index l.def.cubes) i) ≡ some_at l.def.cubes i

@@ -1,5 +1,0 @@
-use Rattle.cover_graph.specs.Code.Mapped.{IsMapped}
-use Rattle.cover_graph.proofs.walk.walk.Given as goal
-
-abbrev pub invariant-loop-signal : goal.invariant-loop-signal
-invariant-loop-signal l = IsMapped l.net l.builder l.literal_of

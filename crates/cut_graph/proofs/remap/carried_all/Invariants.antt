@@ -1,7 +1,0 @@
-use Rattle.std.proofs.Common.{◌≡◌, ◌++◌, map, drop, Some}
-use Rattle.cut_graph.specs.Code.Cones.{carried_at}
-use Rattle.cut_graph.proofs.remap.carried_all.Given as goal
-
-abbrev pub invariant-loop-literal : goal.invariant-loop-literal
-invariant-loop-literal l = map Some l.all.items ++ map (carried_at l.found) (drop l.literal-index l.literals) ≡ map
-    (carried_at l.found) l.literals

@@ -1,9 +1,0 @@
-use Rattle.std.proofs.Common.{arith}
-use Rattle.drawable_chip.proofs.Given.{gives_kinds}
-use Rattle.drawable_chip.proofs.limits.gives_kinds.Goals as goal
-
-pub returns : goal.returns
-returns c = λ _.
-    gives_kinds c.args.library.now c.args.chip.now (λ r x cell within at.
-    c.loop-number.invariant r x cell
-    (omega (arith, within, c.loop-number-test.false, c.row_count-number-end.ensures)) at)

@@ -1,5 +1,0 @@
-use Rattle.drawn_chip.proofs.DrawnKeeps.{drawn_as}
-use Rattle.drawn_chip.proofs.laws.drawing_circuit.Goals as goal
-
-pub returns : goal.returns
-returns c p l nets may are = drawn_as p l c.tracks_are_fewest.ensures.plan may nets are

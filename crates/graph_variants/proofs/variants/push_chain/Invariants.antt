@@ -1,5 +1,0 @@
-use Rattle.graph_variants.specs.Variants.{AreGraphsOf}
-use Rattle.graph_variants.proofs.variants.push_chain.Given as goal
-
-abbrev pub invariant-loop-turn : goal.invariant-loop-turn
-invariant-loop-turn l = AreGraphsOf l.net l.graphs.items

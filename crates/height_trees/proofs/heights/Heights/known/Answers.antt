@@ -1,5 +1,0 @@
-use Rattle.height_trees.proofs.Bounds.{some_heights}
-use Rattle.height_trees.proofs.heights.Heights.known.Goals as goal
-
-pub returns : goal.returns
-returns c = rw (← c.self.view_is) (some_heights _ c.self.invariant.known)

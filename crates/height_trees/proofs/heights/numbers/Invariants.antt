@@ -1,9 +1,0 @@
-use Rattle.std.proofs.Common.{◌≡◌, ◌<◌, ℕ, length}
-use Rattle.std.specs.Prelude.{slice_index}
-use Rattle.height_trees.proofs.heights.numbers.Given as goal
-
-abbrev pub invariant-loop-number : goal.invariant-loop-number
-invariant-loop-number l = record {
-  long : length l.numbers.items ≡ l.number;
-  each : (k : ℕ) → k < l.number → slice_index l.numbers.items k ≡ k;
-}

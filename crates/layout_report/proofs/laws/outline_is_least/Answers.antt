@@ -1,5 +1,0 @@
-use Rattle.layout_report.proofs.LeastOutline.{outline_least}
-use Rattle.layout_report.proofs.laws.outline_is_least.Goals as goal
-
-pub returns : goal.returns
-returns c = outline_least

@@ -1,5 +1,0 @@
-use Rattle.layout_report.proofs.AddedWires.{added_wires}
-use Rattle.layout_report.proofs.laws.wires_add_up.Goals as goal
-
-pub returns : goal.returns
-returns c = λ flat circuit limits is kept. added_wires flat circuit limits is kept

@@ -1,7 +1,0 @@
-use Rattle.chip_texts.specs.Printing.{IsPrinted}
-use Rattle.layout_report.specs.Code.Figures.{text_of}
-use Rattle.layout_report.proofs.printing.print_figures.Given as goal
-
-abbrev pub invariant-loop-row : goal.invariant-loop-row
-invariant-loop-row g l =
-    IsPrinted (g.O.Sink.output l.initial.out) (g.O.Sink.output l.out) l.page.items (text_of l.figures l.limit l.row)

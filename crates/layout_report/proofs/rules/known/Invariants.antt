@@ -1,5 +1,0 @@
-use Rattle.layout_report.proofs.Sided.{HaveSidesTo}
-use Rattle.layout_report.proofs.rules.known.Given as goal
-
-abbrev pub invariant-loop-shape : goal.invariant-loop-shape
-invariant-loop-shape l = HaveSidesTo l.shape-index l.shapes

@@ -1,5 +1,0 @@
-use Rattle.layout_report.proofs.SourceRows.{RowsBelow}
-use Rattle.layout_report.proofs.sources.write_rows.Given as goal
-
-abbrev pub invariant-loop-n : goal.invariant-loop-n
-invariant-loop-n l = RowsBelow l.n l.fn.flat.shapes l.fn.nets l.rows

@@ -1,6 +1,0 @@
-use Rattle.std.specs.Prelude.{Some}
-use Rattle.layout_report.proofs.Keyed.{CountsBelow}
-use Rattle.layout_report.proofs.tables.count_cells.Given as goal
-
-abbrev pub invariant-loop-cell : goal.invariant-loop-cell
-invariant-loop-cell l = CountsBelow l.cell-index (λ cell. Some cell.row) l.cells l.counts

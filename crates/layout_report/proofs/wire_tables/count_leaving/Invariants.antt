@@ -1,7 +1,0 @@
-use Rattle.std.specs.Prelude.{zip}
-use Rattle.layout_report.specs.Code.Sources.{row_left}
-use Rattle.layout_report.proofs.Keyed.{CountsBelow}
-use Rattle.layout_report.proofs.wire_tables.count_leaving.Given as goal
-
-abbrev pub invariant-loop-n : goal.invariant-loop-n
-invariant-loop-n l = CountsBelow l.n (row_left l.sources) (zip l.shapes l.nets) l.counts

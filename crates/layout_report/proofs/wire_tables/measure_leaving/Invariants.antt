@@ -1,8 +1,0 @@
-use Rattle.std.specs.Prelude.{zip, slice_index}
-use Rattle.layout_report.specs.Code.Sources.{row_left}
-use Rattle.layout_report.proofs.Keyed.{MostBelow}
-use Rattle.layout_report.proofs.wire_tables.measure_leaving.Given as goal
-
-abbrev pub invariant-loop-n : goal.invariant-loop-n
-invariant-loop-n l =
-    MostBelow l.n (row_left l.sources) (λ wire. slice_index l.lengths wire.1) (zip l.shapes l.nets) l.longest

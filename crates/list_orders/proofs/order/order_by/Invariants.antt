@@ -1,6 +1,0 @@
-use Rattle.std.proofs.Common.{◌≡◌, ◌++◌, drop}
-use Rattle.list_orders.proofs.KeyedNumbers.{keyed}
-use Rattle.list_orders.proofs.order.order_by.Given as goal
-
-abbrev pub invariant-loop-number : goal.invariant-loop-number
-invariant-loop-number l = l.keyed.items ++ keyed l.number (drop l.number l.keys) ≡ keyed 0 l.keys

@@ -1,7 +1,0 @@
-use Rattle.std.proofs.Common.{arith}
-use Rattle.list_orders.proofs.Inverted.{known_all}
-use Rattle.list_orders.proofs.order.places_of.Goals as goal
-
-pub returns-clause-inverse : goal.returns-clause-inverse
-returns-clause-inverse c = known_all c.args.order.now c.loop-left.places.items c.loop-left.left
-    (omega arith) c.requires.below c.loop-left.invariant

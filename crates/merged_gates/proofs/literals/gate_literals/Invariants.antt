@@ -1,5 +1,0 @@
-use Rattle.merged_gates.proofs.Making.{IsMaking}
-use Rattle.merged_gates.proofs.literals.gate_literals.Given as goal
-
-abbrev pub invariant-loop-gate : goal.invariant-loop-gate
-invariant-loop-gate l = IsMaking l.fn.graph l.graph l.literals.items l.gates l.gate-index

@@ -1,5 +1,0 @@
-use Rattle.merged_gates.specs.Code.Merging.{StandsFor}
-use Rattle.merged_gates.proofs.merged.Merged.resolved.Given as goal
-
-abbrev pub invariant-loop : goal.invariant-loop
-invariant-loop l = StandsFor l.self-inside.builder l.literal l.now

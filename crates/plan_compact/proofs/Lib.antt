@@ -1,0 +1,4 @@
+pub mod FewJunctions
+pub mod Candidates
+pub mod Chained
+pub mod Chosen

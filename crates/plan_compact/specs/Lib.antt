@@ -1,0 +1,5 @@
+pub mod Junctions
+pub mod Compact
+pub mod Code
+pub mod Variants
+pub mod Chips

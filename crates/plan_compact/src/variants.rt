@@ -1,0 +1,125 @@
+// Graphs of one netlist: with and without cuts, and lower ones of both.
+ghost use Rattle.std.specs.Prelude.{◌≡◌, IfOk, OnOk, IfSome};
+ghost use Rattle.mig.specs.declared.refusal.GraphRefusal.TheVariants.{Memory as NoMemory};
+ghost use Rattle.mig.specs.Passes.{IsRebuilt};
+ghost use Rattle.mig_from_netlist.specs.Passes.{IsGraphOf};
+ghost use Rattle.plan_compact.specs.Variants.{AreGraphsOf};
+
+use aq_base::Memory;
+use blif_read::Netlist;
+use circuit::Pass;
+use mig::{Graph, GraphRefusal, Shallower};
+use mig_from_netlist::{CoverRefusal, GraphPass};
+use mig_rewrite::CutPass;
+use std::alloc::Global;
+
+/// How many graphs a chain has at most.
+const LONGEST: u32 = 8;
+
+/// How many nodes a graph has at most of which others are made. A chip has fewer cells, so that time and memory for
+/// greater graphs would be lost.
+const MOST_NODES: usize = 4_000_000;
+
+/// The one refusal of a pass that is refused for want of memory alone.
+fn no_memory(_refusal: GraphRefusal) -> Memory
+    requires { _refusal ≡ NoMemory }
+{
+    Memory
+}
+
+/// The graph with shallower forms of nodes.
+fn shallower(alloc: Global, graph: &Graph) -> Result<Graph, Memory>
+    ensures { IfOk result (λ made. IsRebuilt graph.now made) }
+{
+    match Shallower.run(alloc, graph) {
+        Ok(made) => Ok(made),
+        Err(refusal) => Err(no_memory(refusal)),
+    }
+}
+
+/// A graph of fewer levels, if shallower forms of nodes give one.
+fn lower(alloc: Global, graph: &Graph) -> Result<Option<Graph>, Memory>
+    ensures { IfOk result (λ found. IfSome found (λ made. IsRebuilt graph.now made)) }
+{
+    let made = shallower(alloc, graph)?;
+    if made.depth(alloc)? < graph.depth(alloc)? {
+        Ok(Some(made))
+    } else {
+        Ok(None)
+    }
+}
+
+/// A graph of fewer levels than the last one, if there is one.
+#[tactic(auto, using(crate::proofs::Chained::chained))]
+fn next_lower(alloc: Global, _net: &Netlist, graphs: &[Graph]) -> Result<Option<Graph>, Memory>
+    requires { AreGraphsOf _net.now graphs.now }
+    ensures { IfOk result (λ found. IfSome found (λ made. IsGraphOf _net.now made)) }
+{
+    match graphs.last() {
+        Some(last) => lower(alloc, last),
+        None => Ok(None),
+    }
+}
+
+/// Adds a graph, and then ever lower ones that are made of it.
+#[tactic(auto, using(crate::proofs::Chained::chained))]
+fn push_chain(
+    alloc: Global,
+    net: &Netlist,
+    graphs: &mut Vec<Graph>,
+    first: Graph,
+) -> Result<(), Memory>
+    requires graphs { AreGraphsOf net.now graphs.old.items }
+    requires first { IsGraphOf net.now first }
+    ensures { OnOk result (AreGraphsOf net.now graphs.new.items) }
+{
+    graphs.push(first)?;
+    for _turn in 1..LONGEST {
+        match next_lower(alloc, net, graphs.as_slice())? {
+            Some(made) => graphs.push(made)?,
+            None => return Ok(()),
+        }
+    }
+    Ok(())
+}
+
+/// The graph by cuts of three inputs.
+fn by_cuts(alloc: Global, graph: &Graph) -> Result<Graph, Memory>
+    ensures { IfOk result (λ made. IsRebuilt graph.now made) }
+{
+    let pass = CutPass::new(alloc)?;
+    match pass.run(alloc, graph) {
+        Ok(made) => Ok(made),
+        Err(refusal) => Err(no_memory(refusal)),
+    }
+}
+
+/// The chains of a graph: of its graph by cuts, and of itself. There are none where it has too many nodes.
+#[tactic(auto, using(crate::proofs::Chained::chained))]
+fn both_chains(alloc: Global, net: &Netlist, graph: Graph) -> Result<Vec<Graph>, Memory>
+    requires { IsGraphOf net.now graph }
+    ensures { IfOk result (λ graphs. AreGraphsOf net.now graphs.items) }
+{
+    let mut graphs = Vec::new(alloc);
+    if graph.node_count() > MOST_NODES {
+        return Ok(graphs);
+    }
+    let first = by_cuts(alloc, &graph)?;
+    push_chain(alloc, net, &mut graphs, first)?;
+    push_chain(alloc, net, &mut graphs, graph)?;
+    Ok(graphs)
+}
+
+/// Graphs with the answers of a netlist, to choose a chip from: first its graph by cuts of three inputs, and up to
+/// seven that are made of it one after the other, each with fewer levels; then likewise its graph without cuts. Nothing
+/// is promised of how many there are, or of their sizes: there is none where the first graph has more than 4,000,000
+/// nodes. They are refused for want of memory alone.
+pub fn graph_variants(alloc: Global, net: &Netlist) -> Result<Vec<Graph>, Memory>
+    ensures { IfOk result (λ graphs. AreGraphsOf net.now graphs.items) }
+{
+    match GraphPass.run(alloc, net) {
+        Ok(graph) => both_chains(alloc, net, graph),
+        Err(CoverRefusal::Memory) => Err(Memory),
+        Err(_) => Ok(Vec::new(alloc)),
+    }
+}

@@ -1,0 +1,5 @@
+pub mod CellPlans
+pub mod Refusals
+pub mod DrawnChips
+pub mod Code
+pub mod Packs

@@ -1,3 +1,0 @@
-pub mod Packed
-mod Seats
-mod Worked

@@ -1,5 +1,0 @@
-use Rattle.row_pack.proofs.Seats.{count_is, sum_is, behind_is, apart_is}
-use Rattle.row_pack.proofs.laws.packs_in_order.Goals as goal
-
-pub returns : goal.returns
-returns c = record { count = count_is; sum = sum_is; behind = behind_is; apart = apart_is }

@@ -1,0 +1,355 @@
+// A sweep over a graph: nodes that seem to be alike are compared, and merged where they are.
+ghost use Rattle.std.specs.Prelude.{◌≡◌, ◌*◌, ◌<◌, ℕ, List, IfOk, IfSome, length};
+ghost use Rattle.mig.specs.Building.{Grown, limit};
+ghost use Rattle.sat_sweep.specs.Code.Least.{IsLeastWord, IsSwept};
+
+use crate::classes::Classes;
+use crate::least::{least_or_none, lower};
+use crate::merged::{Merged, are_all_alike, first_open};
+use crate::needed::{is_marked, needed};
+use crate::numbers::{first_node, node_limit};
+use crate::round::{Round, round_of};
+use crate::signatures::Signatures;
+use crate::swept::Swept;
+use aq_base::{List, Memory};
+use circuit::Word;
+use mig::GraphRefusal;
+use sat_solver::{Found, Limits, Search};
+use std::alloc::Global;
+
+/// How many conflicts a search may come to, in each round. Few are enough for most nodes, and what these merge makes
+/// the searches for the others shorter.
+const ROUNDS: [u32; 3] = [20, 200, 2_000];
+
+/// How much work the searches of all rounds may take for each node of the graph, and at most.
+const NODE_WORK: u64 = 20_000;
+
+const SWEEP_WORK: u64 = 150_000_000;
+
+/// How much work the searches for a least word may take.
+const LEAST_WORK: u64 = 50_000_000;
+
+/// From so many nodes on a search looks at parts of cones alone, of so many majorities.
+const LARGE: u32 = 100_000;
+
+const PART: u32 = 4_000;
+
+/// How many nodes a node is compared with, and how many of its group are looked at for that.
+const MOST_COMPARED: u32 = 2;
+
+const MOST_LOOKED_AT: usize = 64;
+
+/// How many conflicts a search for a least word may come to.
+const LEAST_CONFLICTS: u32 = 20_000;
+
+/// How many majorities of a cone a search looks at, in a graph of so many nodes.
+fn cone_of(nodes: u32) -> u32 {
+    if nodes > LARGE { PART } else { nodes }
+}
+
+/// How much work the searches of all rounds may take in a graph of so many nodes.
+fn work_of(nodes: u32) -> u64 {
+    u64::from(nodes).saturating_mul(NODE_WORK).min(SWEEP_WORK)
+}
+
+/// What tells which nodes may be alike, and what compares them.
+#[derive(Drop)]
+struct Sweep {
+    signatures: Signatures,
+    classes: Classes,
+    search: Search,
+}
+
+impl Sweep {
+    /// Begins a round: all nodes get values, and the constant and the inputs come first in their groups.
+    fn begin(&mut self, alloc: Global, merged: &Merged) -> Result<(), Memory> {
+        let graph = merged.graph();
+        self.signatures.grow(graph)?;
+        self.search.grow(graph)?;
+        self.classes = Classes::new(alloc, node_limit(graph) as usize)?;
+        for node in 0..first_node(graph) {
+            let home = self.signatures.home(node);
+            self.classes.add(home, node)?;
+        }
+        Ok(())
+    }
+
+    /// Takes in the word that the last search found, where two literals should differ.
+    fn take_word(
+        &mut self,
+        alloc: Global,
+        merged: &Merged,
+        one: u32,
+        other: u32,
+        round: &mut Round,
+    ) -> Result<(), Memory> {
+        let graph = merged.graph();
+        let word = self.search.word();
+        if self.signatures.take_word(alloc, graph, word, one, other)? {
+            let cost = u64::from(node_limit(graph)) / 4;
+            round.work.left = round.work.left.saturating_sub(cost);
+        }
+        Ok(())
+    }
+
+    /// Compares a node with a literal, and merges it into that where both are found to be alike. Says whether it did.
+    fn merge_if_alike(
+        &mut self,
+        alloc: Global,
+        merged: &mut Merged,
+        node: u32,
+        literal: u32,
+        round: &mut Round,
+    ) -> Result<bool, Memory>
+        requires node { 2 * node < limit merged.old }
+        requires literal { literal < limit merged.old }
+        ensures { merged.new ≡ merged.old }
+    {
+        merged.known();
+        let own = 2 * node;
+        match merged.compare(&mut self.search, own, literal, round)? {
+            Found::Impossible => {
+                merged.merge(node, literal)?;
+                Ok(true)
+            }
+            Found::Word => {
+                self.take_word(alloc, merged, own, literal, round)?;
+                Ok(false)
+            }
+            Found::Unknown => Ok(false),
+        }
+    }
+
+    /// Compares a node with the oldest nodes of the same values, and puts it beside them where it is like none.
+    fn look(
+        &mut self,
+        alloc: Global,
+        merged: &mut Merged,
+        node: u32,
+        round: &mut Round,
+    ) -> Result<(), Memory>
+        requires { 2 * node < limit merged.old }
+        ensures { merged.new ≡ merged.old }
+    {
+        if self.classes.has(node) {
+            return Ok(());
+        }
+        let home = self.signatures.home(node);
+        let mut candidate = self.classes.first(home);
+        let mut compared = 0;
+        for _ in 0..MOST_LOOKED_AT {
+            let Some(other) = candidate else {
+                break;
+            };
+            if let Some(literal) = self.signatures.literal_like(other, node) {
+                if compared >= MOST_COMPARED || literal / 2 >= node_limit(merged.graph()) {
+                    break;
+                }
+                compared += 1;
+                if self.merge_if_alike(alloc, merged, node, literal, round)? {
+                    return Ok(());
+                }
+            }
+            candidate = self.classes.after(other);
+        }
+        self.classes.add(home, node)
+    }
+
+    /// Makes a node anew of what its operands were merged into, and merges it where what comes of it is another node.
+    fn pass(
+        &mut self,
+        alloc: Global,
+        merged: &mut Merged,
+        node: u32,
+        round: &mut Round,
+    ) -> Result<(), GraphRefusal>
+        requires { 2 * node < limit merged.old }
+        ensures { Grown merged.old merged.new }
+    {
+        if merged.is_merged(node) {
+            return Ok(());
+        }
+        let literal = merged.remade(node)?;
+        self.signatures.grow(merged.graph())?;
+        self.search.grow(merged.graph())?;
+        self.look(alloc, merged, literal / 2, round)?;
+        if literal / 2 != node {
+            let partner = merged.resolved(literal);
+            merged.merge(node, partner)?;
+        }
+        Ok(())
+    }
+
+    /// Passes over the nodes that are needed, lowest first.
+    fn pass_all(
+        &mut self,
+        alloc: Global,
+        merged: &mut Merged,
+        needed: &[bool],
+        round: &mut Round,
+    ) -> Result<(), GraphRefusal>
+        ensures { Grown merged.old merged.new }
+    {
+        for node in first_node(merged.graph())..node_limit(merged.graph()) {
+            if is_marked(needed, node) {
+                self.pass(alloc, merged, node, round)?;
+            }
+        }
+        Ok(())
+    }
+
+    /// The first place at which the literals of two lists are known to differ, or how many places there are.
+    fn first_apart(&self, ones: &[u32], others: &[u32]) -> usize {
+        ones.iter()
+            .zip(others)
+            .position(|(one, other)| self.signatures.are_apart(*one, *other))
+            .unwrap_or(ones.len())
+    }
+
+    /// Rounds, in which a search may come to more conflicts than in the one before, over what the literals of two lists
+    /// need that are not known to be alike, as far as the first place at which they are known to differ.
+    fn rounds(
+        &mut self,
+        alloc: Global,
+        merged: &mut Merged,
+        ones: &[u32],
+        others: &[u32],
+    ) -> Result<(), GraphRefusal>
+        requires { length others.now ≡ length ones.now }
+        ensures { Grown merged.old merged.new }
+    {
+        let mut round = round_of(0, 0, work_of(node_limit(merged.graph())));
+        for conflicts in ROUNDS {
+            self.begin(alloc, merged)?;
+            let count = self.first_apart(ones, others);
+            if first_open(merged, ones, others).unwrap_or(count) >= count {
+                return Ok(());
+            }
+            let needed = needed(alloc, merged, ones, others, count)?;
+            let cone = cone_of(node_limit(merged.graph()));
+            round.limits = Limits { conflicts, cone };
+            self.pass_all(alloc, merged, &needed, &mut round)?;
+        }
+        Ok(())
+    }
+
+    /// A word at which two literals seem to differ, where they have one value at each word before it.
+    fn least_word(
+        &mut self,
+        alloc: Global,
+        merged: &Merged,
+        one: u32,
+        other: u32,
+    ) -> Result<Option<Word>, Memory>
+        ensures { IfOk result (λ some. IfSome some (IsLeastWord merged.now one other)) }
+    {
+        let graph = merged.graph();
+        let one = merged.resolved(one);
+        let other = merged.resolved(other);
+        let Some(mut word) = self
+            .signatures
+            .word_apart(alloc, graph.inputs(), one, other)?
+        else {
+            return Ok(None);
+        };
+        let mut round = round_of(LEAST_CONFLICTS, node_limit(graph), LEAST_WORK);
+        lower(
+            alloc,
+            graph,
+            &mut self.search,
+            &mut word,
+            one,
+            other,
+            &mut round,
+        )?;
+        least_or_none(alloc, graph, &mut self.search, word, one, other, &mut round)
+    }
+}
+
+/// What a sweep over a graph of so many inputs begins with.
+fn sweep_of(alloc: Global, inputs: u32) -> Result<Sweep, Memory> {
+    Ok(Sweep {
+        signatures: Signatures::new(alloc, inputs)?,
+        classes: Classes::new(alloc, 0)?,
+        search: Search::new(alloc, inputs)?,
+    })
+}
+
+/// A word at which the literals of a place seem to differ, if one is known.
+fn seen(
+    alloc: Global,
+    sweep: &Sweep,
+    merged: &Merged,
+    place: usize,
+    one: u32,
+    other: u32,
+) -> Result<Swept, Memory>
+    ensures { IfOk result (λ swept. (ones others : List ℕ) → place < length ones
+        → IsSwept merged.now ones others swept) }
+{
+    let one = merged.resolved(one);
+    let other = merged.resolved(other);
+    let inputs = merged.graph().inputs();
+    match sweep.signatures.word_apart(alloc, inputs, one, other)? {
+        None => Ok(Swept::Open),
+        Some(word) => Ok(Swept::Seen {
+            place,
+            word: List::from_vec(word),
+        }),
+    }
+}
+
+/// What is found of the literals of two lists, once nodes are merged.
+fn outcome(
+    alloc: Global,
+    sweep: &mut Sweep,
+    merged: &Merged,
+    ones: &[u32],
+    others: &[u32],
+) -> Result<Swept, Memory>
+    requires { length others.now ≡ length ones.now }
+    ensures { IfOk result (IsSwept merged.now ones.now others.now) }
+{
+    let Some(place) = first_open(merged, ones, others) else {
+        return Ok(Swept::Alike);
+    };
+    match sweep.least_word(alloc, merged, ones[place], others[place])? {
+        Some(word) => Ok(Swept::Apart { place, word }),
+        None => seen(alloc, sweep, merged, place, ones[place], others[place]),
+    }
+}
+
+/// The same after rounds.
+fn after_rounds(
+    alloc: Global,
+    sweep: &mut Sweep,
+    merged: &mut Merged,
+    ones: &[u32],
+    others: &[u32],
+) -> Result<Swept, GraphRefusal>
+    requires { length others.now ≡ length ones.now }
+    ensures grown { Grown merged.old merged.new }
+    ensures found { IfOk result (IsSwept merged.new ones.now others.now) }
+{
+    sweep.rounds(alloc, merged, ones, others)?;
+    Ok(outcome(alloc, sweep, merged, ones, others)?)
+}
+
+/// What is found of the literals of two lists: where they are not the same, a sweep merges nodes that are alike.
+pub(crate) fn swept(
+    alloc: Global,
+    merged: &mut Merged,
+    ones: &[u32],
+    others: &[u32],
+) -> Result<Swept, GraphRefusal>
+    requires { length others.now ≡ length ones.now }
+    ensures grown { Grown merged.old merged.new }
+    ensures found { IfOk result (IsSwept merged.new ones.now others.now) }
+{
+    if are_all_alike(merged, ones, others) {
+        return Ok(Swept::Alike);
+    }
+    let inputs = merged.graph().inputs();
+    let mut sweep = sweep_of(alloc, inputs)?;
+    after_rounds(alloc, &mut sweep, merged, ones, others)
+}

@@ -1,9 +1,0 @@
-use Rattle.std.proofs.Common.{◌<◌, drop}
-use Rattle.std.specs.List.{AllByRecursion}
-use Rattle.maj_graph.specs.Building.{limit}
-use Rattle.search_tests.proofs.graphs.are_there.Given as goal
-
-abbrev pub invariant-loop-output : goal.invariant-loop-output
-invariant-loop-output l =
-    AllByRecursion (λ m. m < limit l.builder) (drop l.output-index l.outputs)
-    → AllByRecursion (λ m. m < limit l.builder) l.outputs

@@ -1,0 +1,5 @@
+use Rattle.text_answers.proofs.Pages.{refuses_line}
+use Rattle.text_answers.proofs.blocks.print_lane.Goals as goal
+
+pub returns-in-Err-clause-refused : goal.returns-in-Err-clause-refused
+returns-in-Err-clause-refused g c = refuses_line _ _ _
