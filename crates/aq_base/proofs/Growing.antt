@@ -3,18 +3,19 @@ use Rattle.std.proofs.Common.{ℕ, ◌≡◌, List, [], ◌∷◌, ◌++◌, Boo
 use Rattle.std.proofs.Common.{None, option_map, append_assoc, refl, ap, sym, ◌∙◌, arith, inr}
 use Rattle.std.specs.Str.{bytes_eq}
 use Rattle.std.proofs.lemmas.List.{take_min}
-use Rattle.aq_base.specs.Store.{Contents, with_growth, told_grown}
-use Rattle.aq_base.specs.Heard.{Event, NotAppended, took}
+use Rattle.aq_base.specs.Store.{Contents, with_growth, contents_grown}
+use Rattle.aq_base.specs.History.{Event, NotAppended, took}
 use Rattle.aq_base.specs.Outside.{Outside, grown, cut_off, TakesPart, StopsWithin}
 use Rattle.aq_base.specs.declared.store.StoreRefusal.{StoreRefusal}
 use Rattle.aq_base.specs.declared.store.StoreRefusal.TheVariants as store
 use Rattle.aq_base.proofs.Stored.{with_growth-empty}
-use Rattle.aq_base.proofs.Hearing.{took-took}
+use Rattle.aq_base.proofs.HistoryLaws.{took-took}
 
-pub told_nothing : (told : Option Contents) (name : Option (List ℕ)) → told ≡ told_grown told name []
-told_nothing None name = refl
-told_nothing (Some files) None = refl
-told_nothing (Some files) (Some name) = ap (λ (f : Contents). Some f) (sym (with_growth-empty files name))
+pub contents_nothing : (contents : Option Contents) (name : Option (List ℕ))
+    → contents ≡ contents_grown contents name []
+contents_nothing None name = refl
+contents_nothing (Some files) None = refl
+contents_nothing (Some files) (Some name) = ap (λ (f : Contents). Some f) (sym (with_growth-empty files name))
 
 grows_twice : (b : Bool) (p q : List ℕ) (x : Option (List ℕ))
     → cond b (option_map (λ b. b ++ q) (cond b (option_map (λ b. b ++ p) x) x))
@@ -23,21 +24,22 @@ grows_twice true p q None = refl
 grows_twice true p q (Some bytes) = ap (λ b. Some b) (append_assoc bytes p q)
 grows_twice false p q x = refl
 
-pub told_twice : (told : Option Contents) (name : Option (List ℕ)) (p q : List ℕ)
-    → told_grown (told_grown told name p) name q ≡ told_grown told name (p ++ q)
+pub contents_twice : (contents : Option Contents) (name : Option (List ℕ)) (p q : List ℕ)
+    → contents_grown (contents_grown contents name p) name q ≡ contents_grown contents name (p ++ q)
 unfolding with_growth
-told_twice None name p q = refl
-told_twice (Some files) None p q = refl
-told_twice (Some files) (Some name) p q = ap (λ (f : Contents). Some f)
+contents_twice None name p q = refl
+contents_twice (Some files) None p q = refl
+contents_twice (Some files) (Some name) p q = ap (λ (f : Contents). Some f)
     (λ i other. grows_twice (bytes_eq name other) p q (files other) i)
 
 pub grown_nothing : (o : Outside) → o ≡ grown [] o
-grown_nothing o = λ i. record { told = told_nothing o.told o.opened i; heard = o.heard; opened = o.opened }
+grown_nothing o =
+    λ i. record { contents = contents_nothing o.contents o.opened i; history = o.history; opened = o.opened }
 
 pub grown_twice : (o : Outside) (p q : List ℕ) → grown q (grown p o) ≡ grown (p ++ q) o
 grown_twice o p q = λ i. record {
-  told = told_twice o.told o.opened p q i;
-  heard = took-took o.heard p q i;
+  contents = contents_twice o.contents o.opened p q i;
+  history = took-took o.history p q i;
   opened = o.opened;
 }
 
@@ -59,33 +61,40 @@ pub part_stops : {o o' : Outside} {piece : List ℕ} (why : StoreRefusal) → Ta
 part_stops store.Failed p = record { count = p.count; within = p.within; stops = p.taken }
 part_stops store.Memory p = record { count = p.count; within = p.within; stops = inr p.taken }
 
--- by what a store keeps: its files, what it heard, and what is open
+-- by what a store keeps: its files, its history, and what is open
 abbrev Kept : Contents → List Event → Option (List ℕ) → Outside
-Kept files heard opened = record { told = Some files; heard = heard; opened = opened }
+Kept files history opened = record { contents = Some files; history = history; opened = opened }
 
-pub held_grows : (files files' : Contents) (heard heard' : List Event) (opened opened' : Option (List ℕ))
+pub held_grows : (files files' : Contents) (history history' : List Event) (opened opened' : Option (List ℕ))
     (name piece : List ℕ) → opened ≡ Some name → opened' ≡ opened
-    → files' ≡ with_growth files name piece → heard' ≡ took piece heard
-    → Kept files' heard' opened' ≡ grown piece (Kept files heard opened)
-held_grows files files' heard heard' opened opened' name piece o s f h =
+    → files' ≡ with_growth files name piece → history' ≡ took piece history
+    → Kept files' history' opened' ≡ grown piece (Kept files history opened)
+held_grows files files' history history' opened opened' name piece o s f h =
     (λ i. Kept (f i) (h i) (s i))
-    ∙ (λ i. record { told = told_grown (Some files) (sym o i) piece; heard = took piece heard; opened = opened })
+    ∙ (λ i. record {
+      contents = contents_grown (Some files)
+          (sym o i) piece;
+      history = took piece history;
+      opened = opened;
+    })
 
-pub held_stays : (files files' : Contents) (heard heard' : List Event) (opened opened' : Option (List ℕ))
+pub held_stays : (files files' : Contents) (history history' : List Event) (opened opened' : Option (List ℕ))
     (piece : List ℕ) (why : StoreRefusal) → opened' ≡ opened
-    → files' ≡ files → heard' ≡ NotAppended why ∷ heard
-    → TakesPart (Kept files heard opened) (Kept files' heard' opened') piece why
-held_stays files files' heard heard' opened opened' piece why s f h = takes_none piece why (λ i. Kept (f i) (h i) (s i))
+    → files' ≡ files → history' ≡ NotAppended why ∷ history
+    → TakesPart (Kept files history opened) (Kept files' history' opened') piece why
+held_stays files files' history history' opened opened' piece why s f h = takes_none piece why (λ i. Kept (f i) (h i)
+    (s i))
 
-pub held_grows_part : (files files' : Contents) (heard middle heard' : List Event) (opened opened' : Option (List ℕ))
+pub held_grows_part : (files files' : Contents) (history middle history' : List Event) (opened opened' : Option
+    (List ℕ))
     (name piece taken : List ℕ) (keep : ℕ) (why : StoreRefusal)
     → opened ≡ Some name → opened' ≡ opened → taken ≡ take keep piece → files' ≡ with_growth files name taken
-    → middle ≡ took taken heard → heard' ≡ NotAppended why ∷ middle
-    → TakesPart (Kept files heard opened) (Kept files' heard' opened') piece why
-held_grows_part files files' heard middle heard' opened opened' name piece taken keep why o s t f m h =
+    → middle ≡ took taken history → history' ≡ NotAppended why ∷ middle
+    → TakesPart (Kept files history opened) (Kept files' history' opened') piece why
+held_grows_part files files' history middle history' opened opened' name piece taken keep why o s t f m h =
     takes_first keep piece why
     ((λ i. Kept files' (h i) opened')
-    ∙ ap (cut_off why) (held_grows files files' heard middle opened opened' name taken o s f m)
-    ∙ ap (λ (bytes : List ℕ). cut_off why (grown bytes (Kept files heard opened))) t)
+    ∙ ap (cut_off why) (held_grows files files' history middle opened opened' name taken o s f m)
+    ∙ ap (λ (bytes : List ℕ). cut_off why (grown bytes (Kept files history opened))) t)
 
 pub ruleset grown_files = (held_grows, held_stays, held_grows_part)

@@ -4,21 +4,21 @@ use Rattle.std.proofs.Common.{refl, ap, sym, ◌∙◌, arith}
 use Rattle.std.proofs.lemmas.List.{take_min, take-append-le, length-append}
 use Rattle.std.proofs.Math.Seq.{take-append-add}
 use Rattle.aq_base.specs.Store.{gained, GainsPrefix}
-use Rattle.aq_base.specs.Heard.{Event, NotAppended, took, all_taken}
+use Rattle.aq_base.specs.History.{Event, NotAppended, took, all_taken}
 use Rattle.aq_base.specs.Output.{Output, printed, stopped, PrintsPart}
 use Rattle.aq_base.specs.declared.store.StoreRefusal.{StoreRefusal}
 use Rattle.aq_base.proofs.Gains.{gained-append}
-use Rattle.aq_base.proofs.Hearing.{took-took, all_took}
+use Rattle.aq_base.proofs.HistoryLaws.{took-took, all_took}
 
 gained_nothing : (written : Option (List ℕ)) → written ≡ gained written []
 gained_nothing None = refl
 gained_nothing (Some bytes) = ap (λ b. Some b) (sym (append-nil bytes))
 
 pub printed_nothing : (o : Output) → o ≡ printed [] o
-printed_nothing o = λ i. record { written = gained_nothing o.written i; heard = o.heard }
+printed_nothing o = λ i. record { written = gained_nothing o.written i; history = o.history }
 
 pub printed_twice : (o : Output) (p q : List ℕ) → printed q (printed p o) ≡ printed (p ++ q) o
-printed_twice o p q = λ i. record { written = gained-append o.written p q i; heard = took-took o.heard p q i }
+printed_twice o p q = λ i. record { written = gained-append o.written p q i; history = took-took o.history p q i }
 
 -- some first bytes were taken, or all where there were no more
 pub prints_first : {o o' : Output} (keep : ℕ) (piece : List ℕ) (why : StoreRefusal)
@@ -54,46 +54,46 @@ pub part_gains : {o o' : Output} {piece : List ℕ} {why : StoreRefusal} → Pri
     → GainsPrefix o.written o'.written piece
 part_gains p = record { count = p.count; within = p.within; gain = ap (λ (x : Output). x.written) p.taken }
 
--- ---- by what a sink keeps: its bytes, and what it heard
+-- ---- by what a sink keeps: its bytes, and its history
 
 abbrev Kept : List ℕ → List Event → Output
-Kept bytes heard = record { written = Some bytes; heard = heard }
+Kept bytes history = record { written = Some bytes; history = history }
 
-pub kept_prints : (bytes bytes' : List ℕ) (heard heard' : List Event) (piece : List ℕ) → bytes' ≡ bytes ++ piece
-    → heard' ≡ took piece heard
-    → Kept bytes' heard' ≡ printed piece (Kept bytes heard)
-kept_prints bytes bytes' heard heard' piece b h = λ i. Kept (b i) (h i)
+pub kept_prints : (bytes bytes' : List ℕ) (history history' : List Event) (piece : List ℕ) → bytes' ≡ bytes ++ piece
+    → history' ≡ took piece history
+    → Kept bytes' history' ≡ printed piece (Kept bytes history)
+kept_prints bytes bytes' history history' piece b h = λ i. Kept (b i) (h i)
 
-pub kept_stays : (bytes bytes' : List ℕ) (heard heard' : List Event) (piece : List ℕ) (why : StoreRefusal)
-    → bytes' ≡ bytes → heard' ≡ NotAppended why ∷ heard
-    → PrintsPart (Kept bytes heard) (Kept bytes' heard') piece why
-kept_stays bytes bytes' heard heard' piece why b h =
-    prints_first 0 piece why ((λ i. Kept (b i) (h i)) ∙ ap (stopped why) (printed_nothing (Kept bytes heard)))
+pub kept_stays : (bytes bytes' : List ℕ) (history history' : List Event) (piece : List ℕ) (why : StoreRefusal)
+    → bytes' ≡ bytes → history' ≡ NotAppended why ∷ history
+    → PrintsPart (Kept bytes history) (Kept bytes' history') piece why
+kept_stays bytes bytes' history history' piece why b h =
+    prints_first 0 piece why ((λ i. Kept (b i) (h i)) ∙ ap (stopped why) (printed_nothing (Kept bytes history)))
 
-pub kept_prints_part : (bytes bytes' : List ℕ) (heard middle heard' : List Event) (piece taken : List ℕ) (keep : ℕ)
+pub kept_prints_part : (bytes bytes' : List ℕ) (history middle history' : List Event) (piece taken : List ℕ) (keep : ℕ)
     (why : StoreRefusal) → taken ≡ take keep piece
-    → bytes' ≡ bytes ++ taken → middle ≡ took taken heard → heard' ≡ NotAppended why ∷ middle
-    → PrintsPart (Kept bytes heard) (Kept bytes' heard') piece why
-kept_prints_part bytes bytes' heard middle heard' piece taken keep why t b m h =
+    → bytes' ≡ bytes ++ taken → middle ≡ took taken history → history' ≡ NotAppended why ∷ middle
+    → PrintsPart (Kept bytes history) (Kept bytes' history') piece why
+kept_prints_part bytes bytes' history middle history' piece taken keep why t b m h =
     prints_first keep piece why
-    ((λ i. Kept bytes' (h i)) ∙ ap (stopped why) (kept_prints bytes bytes' heard middle taken b m)
-    ∙ ap (λ (x : List ℕ). stopped why (printed x (Kept bytes heard))) t)
+    ((λ i. Kept bytes' (h i)) ∙ ap (stopped why) (kept_prints bytes bytes' history middle taken b m)
+    ∙ ap (λ (x : List ℕ). stopped why (printed x (Kept bytes history))) t)
 
 pub ruleset printed_pieces = (kept_prints, kept_stays, kept_prints_part)
 
 -- ---- a sink whose bytes are all that it took
 
-pub all_prints : (heard heard' : List Event) (piece : List ℕ) → heard' ≡ took piece heard
-    → Kept (all_taken heard') heard' ≡ printed piece (Kept (all_taken heard) heard)
-all_prints heard heard' piece h =
-    kept_prints (all_taken heard) (all_taken heard') heard heard' piece (ap (λ (x : List Event). all_taken x) h
-    ∙ all_took heard piece) h
+pub all_prints : (history history' : List Event) (piece : List ℕ) → history' ≡ took piece history
+    → Kept (all_taken history') history' ≡ printed piece (Kept (all_taken history) history)
+all_prints history history' piece h =
+    kept_prints (all_taken history) (all_taken history') history history' piece (ap (λ (x : List Event). all_taken x) h
+    ∙ all_took history piece) h
 
-pub all_prints_part : (heard middle heard' : List Event) (piece : List ℕ) (count : ℕ) (why : StoreRefusal)
-    → count ≤ length piece → middle ≡ took (take count piece) heard → heard' ≡ NotAppended why ∷ middle
-    → PrintsPart (Kept (all_taken heard) heard) (Kept (all_taken heard') heard') piece why
-all_prints_part heard middle heard' piece count why within m h = record {
+pub all_prints_part : (history middle history' : List Event) (piece : List ℕ) (count : ℕ) (why : StoreRefusal)
+    → count ≤ length piece → middle ≡ took (take count piece) history → history' ≡ NotAppended why ∷ middle
+    → PrintsPart (Kept (all_taken history) history) (Kept (all_taken history') history') piece why
+all_prints_part history middle history' piece count why within m h = record {
   count = count;
   within = within;
-  taken = (λ i. Kept (all_taken (h i)) (h i)) ∙ ap (stopped why) (all_prints heard middle (take count piece) m);
+  taken = (λ i. Kept (all_taken (h i)) (h i)) ∙ ap (stopped why) (all_prints history middle (take count piece) m);
 }

@@ -3,40 +3,42 @@ use Rattle.std.specs.Prelude.{ℕ, ◌≡◌, ◌≤◌, ◌⊎◌, List, [], �
 use Rattle.aq_base.specs.declared.store.LoadRefusal.{LoadRefusal}
 use Rattle.aq_base.specs.declared.store.StoreRefusal.{StoreRefusal}
 use Rattle.aq_base.specs.declared.store.StoreRefusal.TheVariants as store
-use Rattle.aq_base.specs.Store.{Contents, told_with, told_grown}
-use Rattle.aq_base.specs.Heard.{Event, Created, NotCreated, NotAppended, load_event, close_event, took}
+use Rattle.aq_base.specs.Store.{Contents, contents_with, contents_grown}
+use Rattle.aq_base.specs.History.{Event, Created, NotCreated, NotAppended, load_event, close_event, took}
 
 -- a store as it is seen
 pub record Outside : Type 0 where
-  -- the file of each name, if the store tells it
-  pub told : Option Contents
+  -- the file of each name, if it is known
+  pub contents : Option Contents
   -- each call so far with its answer, and what it was given or gave, the newest first
-  pub heard : List Event
+  pub history : List Event
   -- the name that is open for appending, if any
   pub opened : Option (List ℕ)
 
 -- a load of the name gave these bytes, or was refused
 abbrev pub after_load : List ℕ → List ℕ → Result (Unit {0}) LoadRefusal → Outside → Outside
 after_load name bytes result o =
-    record { told = o.told; heard = load_event name bytes result ∷ o.heard; opened = o.opened }
+    record { contents = o.contents; history = load_event name bytes result ∷ o.history; opened = o.opened }
 
 -- the name's file was made empty and is open, or nothing is open
 abbrev pub after_create : List ℕ → Result (Unit {0}) StoreRefusal → Outside → Outside
 after_create name (Ok _) o =
-    record { told = told_with o.told name []; heard = Created name ∷ o.heard; opened = Some name }
-after_create name (Err why) o = record { told = o.told; heard = NotCreated name why ∷ o.heard; opened = None }
+    record { contents = contents_with o.contents name []; history = Created name ∷ o.history; opened = Some name }
+after_create name (Err why) o =
+    record { contents = o.contents; history = NotCreated name why ∷ o.history; opened = None }
 
 -- the open file was closed, or that failed; nothing is open
 abbrev pub after_close : Result (Unit {0}) StoreRefusal → Outside → Outside
-after_close result o = record { told = o.told; heard = close_event result ∷ o.heard; opened = None }
+after_close result o = record { contents = o.contents; history = close_event result ∷ o.history; opened = None }
 
 -- the open file has taken a piece
 abbrev pub grown : List ℕ → Outside → Outside
-grown piece o = record { told = told_grown o.told o.opened piece; heard = took piece o.heard; opened = o.opened }
+grown piece o =
+    record { contents = contents_grown o.contents o.opened piece; history = took piece o.history; opened = o.opened }
 
 -- and then it took no more
 abbrev pub cut_off : StoreRefusal → Outside → Outside
-cut_off why o = record { told = o.told; heard = NotAppended why ∷ o.heard; opened = o.opened }
+cut_off why o = record { contents = o.contents; history = NotAppended why ∷ o.history; opened = o.opened }
 
 -- the open file took some first bytes of the piece, and then no more
 pub record TakesPart (o o' : Outside) (piece : List ℕ) (why : StoreRefusal) : Type 0 where

@@ -3,7 +3,7 @@
 
 mod decimal;
 mod failing;
-mod heard;
+mod history;
 mod lists;
 mod memory_files;
 mod memory_sink;
@@ -14,14 +14,14 @@ mod store;
 mod texts;
 
 pub use decimal::read_decimal;
-pub use heard::{Call, Heard};
+pub use history::{Call, History};
 pub use lists::{List, Memory};
 pub use memory_files::MemFiles;
 pub use memory_sink::MemSink;
-pub use replay::{faults_are_counted, refusals_are_counted, told_follows};
+pub use replay::{contents_follow, faults_are_counted, refusals_are_counted};
 pub use std_sink::StdSink;
 pub use std_store::StdFiles;
-pub use store::{Files, LoadRefusal, Sink, StoreRefusal, pieces_are_joined, told_stays_told};
+pub use store::{Files, LoadRefusal, Sink, StoreRefusal, contents_stay_known, pieces_are_joined};
 pub use texts::Text;
 
 /// A list of bytes.

@@ -2,7 +2,7 @@
 ghost use Rattle.std.specs.Prelude.{◌≡◌, []};
 ghost use Rattle.aq_base.specs.FaultCounts.{Remembers};
 
-use crate::heard::Heard;
+use crate::history::History;
 use crate::std_store::write_all;
 use crate::store::{Sink, StoreRefusal};
 use std::io::Write;
@@ -12,20 +12,20 @@ use std::io::Write;
 #[derive(Drop)]
 pub struct StdSink<W> {
     writer: W,
-    heard: Heard,
-    ghost remembers: { Remembers heard.events },
+    history: History,
+    ghost remembers: { Remembers history.events },
 }
 
 impl<W: Write> StdSink<W> {
-    ghost use Rattle.aq_base.specs.StandardStore.{sink_heard};
+    ghost use Rattle.aq_base.specs.StandardStore.{sink_history};
 
     /// A sink that has met no fault, and whose writer has taken nothing.
     pub fn new(writer: W) -> StdSink<W>
-        ensures { sink_heard result ≡ [] }
+        ensures { sink_history result ≡ [] }
     {
         StdSink {
             writer,
-            heard: Heard::new(),
+            history: History::new(),
         }
     }
 }
@@ -38,7 +38,7 @@ impl<W: Write> Sink for StdSink<W> {
 
     ghost output = { output_of };
 
-    // What is told to be written is what the writer took.
+    // What is said to be written is what the writer took.
     #[tactic(auto, using(crate::proofs::Passing::puts))]
     fn put(&mut self, piece: &[u8]) -> Result<(), StoreRefusal>
         ensures added { OnOk result (output_of self.new ≡ printed piece.now (output_of self.old)) }
@@ -54,12 +54,12 @@ impl<W: Write> Sink for StdSink<W> {
             Ok(()) => piece.len(),
             Err(count) => count,
         };
-        self.heard.appended(&piece[..count]);
+        self.history.appended(&piece[..count]);
         let flushed = self.writer.flush().is_ok();
         if flushed && count == piece.len() {
             return Ok(());
         }
-        self.heard.not_appended(StoreRefusal::Failed);
+        self.history.not_appended(StoreRefusal::Failed);
         Err(StoreRefusal::Failed)
     }
 }

@@ -4,4 +4,4 @@ use Rattle.aq_base.specs.Output.{Output}
 
 -- it has taken nothing, and refused nothing
 abbrev pub quiet : Output
-quiet = record { written = Some []; heard = [] }
+quiet = record { written = Some []; history = [] }

@@ -4,7 +4,7 @@ use Rattle.std.proofs.Common.{subst, inl, inr}
 use Rattle.std.specs.Result.{result_err}
 use Rattle.aq_base.specs.Output.{Output}
 use Rattle.aqfp_top.specs.Code.Printing.{PrintsText}
-use Rattle.aq_base.specs.Heard.{Event}
+use Rattle.aq_base.specs.History.{Event}
 use Rattle.aq_base.specs.Store.{Contents}
 use Rattle.circuit_extracted.specs.Circuits.{CircuitView, KeepsFacts}
 use Rattle.text_answers.specs.WordsText.{words_of, SaysWords}
@@ -30,9 +30,9 @@ abbrev pub texts_at : Contents → List (List ℕ) → List Stage
 texts_at files words = judging_stages (bytes_at files words 1) (bytes_at files words 2) (bytes_at files words 3)
 
 -- a load that ends a check
-pub loads_answer : (told : Option Contents) (words : List (List ℕ)) (fault : Fault)
-    → ((rest : Contents → List (List ℕ) → List Stage) → ToldAnswers (chip_stages rest) told words (Some fault))
-    → ToldAnswers check_stages told words (Some fault)
+pub loads_answer : (contents : Option Contents) (words : List (List ℕ)) (fault : Fault)
+    → ((rest : Contents → List (List ℕ) → List Stage) → ToldAnswers (chip_stages rest) contents words (Some fault))
+    → ToldAnswers check_stages contents words (Some fault)
 loads_answer None words fault bad = tt
 loads_answer (Some files) words fault bad = bad texts_at
 
@@ -51,10 +51,11 @@ pub loads_fail : (shown shown' : List Event) (fault : Fault) → IsFaultOfLoads 
 loads_fail shown shown' fault only = each_of_loads (λ f. OutFails shown shown' (Some f)) check_loads (λ p l. tt)
     (λ p t l. tt) (λ p l. tt) tt fault only
 
-pub loads_check_print : (printing : Printing) (told : Option Contents) (words : List (List ℕ)) (held : Output)
-    (fault : Fault) → IsFaultOfLoads check_loads fault → CheckPrints printing told words held held (Some fault)
-loads_check_print printing told words held fault only =
-    each_of_loads (λ f. CheckPrints printing told words held held (Some f)) check_loads (λ p l. refl) (λ p t l. refl)
+pub loads_check_print : (printing : Printing) (contents : Option Contents) (words : List (List ℕ)) (held : Output)
+    (fault : Fault) → IsFaultOfLoads check_loads fault → CheckPrints printing contents words held held (Some fault)
+loads_check_print printing contents words held fault only =
+    each_of_loads (λ f. CheckPrints printing contents words held held (Some f)) check_loads (λ p l. refl)
+    (λ p t l. refl)
     (λ p l. refl) (inl refl) fault only
 
 -- Where the texts end a check nothing is printed.
@@ -68,20 +69,20 @@ pub unsound_fails : (shown shown' : List Event) (fault : Fault) → IsJudgingFau
 unsound_fails shown shown' fault wrong = each_judging (λ f. OutFails shown shown' (Some f)) (λ o k. tt) (λ n. tt)
     (λ f. tt) (λ k. tt) (λ r a b. tt) (λ l. tt) tt fault wrong
 
-pub unsound_prints : (printing : Printing) (told : Option Contents) (words : List (List ℕ)) (held : Output)
-    (fault : Fault) → IsJudgingFault fault → CheckPrints printing told words held held (Some fault)
-unsound_prints printing told words held fault wrong =
-    each_judging (λ f. CheckPrints printing told words held held (Some f)) (λ o k. refl) (λ n. refl) (λ f. refl)
+pub unsound_prints : (printing : Printing) (contents : Option Contents) (words : List (List ℕ)) (held : Output)
+    (fault : Fault) → IsJudgingFault fault → CheckPrints printing contents words held held (Some fault)
+unsound_prints printing contents words held fault wrong =
+    each_judging (λ f. CheckPrints printing contents words held held (Some f)) (λ o k. refl) (λ n. refl) (λ f. refl)
     (λ k. refl) (λ r a b. refl) (λ l. refl) (inl refl) fault wrong
 
 -- the texts of the files
-pub told_no_circuit : (told : Option Contents) (words : List (List ℕ)) (gds lib text lib' : List ℕ) (fault : Fault)
-    → ToldTexts told words gds lib text →
+pub told_no_circuit : (contents : Option Contents) (words : List (List ℕ)) (gds lib text lib' : List ℕ) (fault : Fault)
+    → ToldTexts contents words gds lib text →
     length gds ≤ gds_limit → length lib ≤ lib_limit → length text ≤ words_limit → lib' ≡ lib
     → ((rest : List Stage) → Answers (circuit_then gds lib' rest) (Some fault))
-    → ToldAnswers check_stages told words (Some fault)
-told_no_circuit told words gds lib text lib' fault held a b c l wrong =
-    told_three_answer words_limit judging_stages told words gds lib text lib' text (Some fault) held a b c l refl
+    → ToldAnswers check_stages contents words (Some fault)
+told_no_circuit contents words gds lib text lib' fault held a b c l wrong =
+    told_three_answer words_limit judging_stages contents words gds lib text lib' text (Some fault) held a b c l refl
     (wrong (stage.Words gds lib' text ∷ []))
 
 -- Where the texts are sound the check comes to printing.
@@ -89,19 +90,21 @@ told_no_circuit told words gds lib text lib' fault held a b c l wrong =
 pub out_is_check : (result : Result (Unit {0}) Fault) → IfErr result IsOutOrMemory → IfErr result IsCheckFault
 out_is_check result only = each_out (λ r. IfErr r IsCheckFault) tt refl tt result only
 
-pub out_check_prints : (printing : Printing) (told : Option Contents) (words : List (List ℕ)) (before after : Output)
+pub out_check_prints : (printing : Printing) (contents : Option Contents) (words : List (List ℕ))
+    (before after : Output)
     (gds lib text : List ℕ) (circuit : CircuitView) (given : List (List Bool)) (result : Result (Unit {0}) Fault) →
-    ToldTexts told words gds lib text → IsSound gds lib text circuit → KeepsFacts circuit → given ≡ words_of text
+    ToldTexts contents words gds lib text → IsSound gds lib text circuit → KeepsFacts circuit → given ≡ words_of text
     → All (λ word. length word ≡ circuit.inputs) given →
     PrintsText (text_of printing circuit given) before after result
-    → CheckPrints printing told words before after (result_err result)
-out_check_prints printing told words before after gds lib text circuit given result held sound keeps same wide prints =
-    each_text (λ r. CheckPrints printing told words before after (result_err r))
+    → CheckPrints printing contents words before after (result_err result)
+out_check_prints printing contents words before after gds lib text circuit given result held sound keeps same wide
+    prints =
+    each_text (λ r. CheckPrints printing contents words before after (result_err r))
     (text_of printing circuit given) before after
     (λ p. made p) (λ p. made p) (λ p. inr (made p)) result prints
   where
     made : {Printed : List ℕ → Type 0} → Printed (text_of printing circuit given)
-        → IsPrintedOf printing told words Printed
+        → IsPrintedOf printing contents words Printed
     made {Printed} printed = record {
       gds = gds;
       lib = lib;
@@ -115,22 +118,23 @@ out_check_prints printing told words before after gds lib text circuit given res
     }
 
 -- the same of texts that are these
-pub texts_check_print : (printing : Printing) (told : Option Contents) (words : List (List ℕ)) (before after : Output)
+pub texts_check_print : (printing : Printing) (contents : Option Contents) (words : List (List ℕ))
+    (before after : Output)
     (gds lib text lib' text' : List ℕ) (circuit : CircuitView) (given : List (List Bool))
     (result : Result (Unit {0}) Fault) →
-    ToldTexts told words gds lib text → lib' ≡ lib → text' ≡ text → MakesCircuit gds lib' circuit
+    ToldTexts contents words gds lib text → lib' ≡ lib → text' ≡ text → MakesCircuit gds lib' circuit
     → SaysWords circuit.inputs text' → KeepsFacts circuit → given ≡ words_of text'
     → All (λ word. length word ≡ circuit.inputs) given →
     PrintsText (text_of printing circuit given) before after result
-    → CheckPrints printing told words before after (result_err result)
-texts_check_print printing told words before after gds lib text lib' text' circuit given result held l t makes
+    → CheckPrints printing contents words before after (result_err result)
+texts_check_print printing contents words before after gds lib text lib' text' circuit given result held l t makes
     says keeps same wide prints =
     let sound : IsSound gds lib text circuit =
     record {
       makes = subst (λ x. MakesCircuit gds x circuit) l makes;
       says = subst (SaysWords circuit.inputs) t says;
     } in
-    out_check_prints printing told words before after gds lib text circuit given result held sound keeps
+    out_check_prints printing contents words before after gds lib text circuit given result held sound keeps
     (subst (λ x. given ≡ words_of x) t same) wide prints
 
 pub ruleset ends = (

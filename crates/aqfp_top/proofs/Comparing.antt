@@ -4,7 +4,7 @@ use Rattle.std.proofs.Common.{OnOk, refl, subst, inl, inr}
 use Rattle.std.specs.Result.{result_err}
 use Rattle.aq_base.specs.Output.{Output}
 use Rattle.aqfp_top.specs.Code.Printing.{PrintsText}
-use Rattle.aq_base.specs.Heard.{Event}
+use Rattle.aq_base.specs.History.{Event}
 use Rattle.aq_base.specs.Store.{Contents}
 use Rattle.blif_read.specs.Parts.{NetView}
 use Rattle.blif_read.specs.Netlist.{IsNetlist}
@@ -170,9 +170,9 @@ pub ruleset compares = (widths_compare, functions_compare)
 
 -- Where a load ends a comparison nothing is printed.
 
-pub loads_answer : (told : Option Contents) (words : List (List ℕ)) (fault : Fault)
-    → ((rest : Contents → List (List ℕ) → List Stage) → ToldAnswers (chip_stages rest) told words (Some fault))
-    → ToldAnswers equal_stages told words (Some fault)
+pub loads_answer : (contents : Option Contents) (words : List (List ℕ)) (fault : Fault)
+    → ((rest : Contents → List (List ℕ) → List Stage) → ToldAnswers (chip_stages rest) contents words (Some fault))
+    → ToldAnswers equal_stages contents words (Some fault)
 loads_answer None words fault bad = tt
 loads_answer (Some files) words fault bad =
     bad (λ files words. comparing_stages (bytes_at files words 1) (bytes_at files words 2) (bytes_at files words 3))
@@ -180,10 +180,10 @@ loads_answer (Some files) words fault bad =
 pub loads_equal : (fault : Fault) → IsFaultOfLoads check_loads fault → IsEqualFault fault
 loads_equal fault only = each_of_loads IsEqualFault check_loads (λ p l. l) (λ p t l. l) (λ p l. l) tt fault only
 
-pub loads_equal_print : (told : Option Contents) (words : List (List ℕ)) (held : Output) (fault : Fault)
-    → IsFaultOfLoads check_loads fault → EqualPrints told words held held (Some fault)
-loads_equal_print told words held fault only =
-    each_of_loads (λ f. EqualPrints told words held held (Some f)) check_loads (λ p l. refl) (λ p t l. refl)
+pub loads_equal_print : (contents : Option Contents) (words : List (List ℕ)) (held : Output) (fault : Fault)
+    → IsFaultOfLoads check_loads fault → EqualPrints contents words held held (Some fault)
+loads_equal_print contents words held fault only =
+    each_of_loads (λ f. EqualPrints contents words held held (Some f)) check_loads (λ p l. refl) (λ p t l. refl)
     (λ p l. refl) (inl refl) fault only
 
 -- Where the texts end a comparison nothing is printed.
@@ -202,38 +202,41 @@ wrong_fails shown shown' fault wrong =
     each_comparing (λ f. OutFails shown shown' (Some f)) (circuit_fails shown shown') (λ f. tt) (λ l k. tt) (λ n. tt)
     (λ a b c d. tt) tt fault wrong
 
-circuit_prints : (told : Option Contents) (words : List (List ℕ)) (held : Output) (fault : Fault) → IsCircuitFault fault
-    → EqualPrints told words held held (Some fault)
-circuit_prints told words held fault wrong =
-    each_circuit (λ f. EqualPrints told words held held (Some f)) (λ o k. refl) (λ n. refl) (λ f. refl) (λ k. refl)
+circuit_prints : (contents : Option Contents) (words : List (List ℕ)) (held : Output) (fault : Fault)
+    → IsCircuitFault fault
+    → EqualPrints contents words held held (Some fault)
+circuit_prints contents words held fault wrong =
+    each_circuit (λ f. EqualPrints contents words held held (Some f)) (λ o k. refl) (λ n. refl) (λ f. refl) (λ k. refl)
     (λ r a b. refl) (inl refl) fault wrong
 
-pub wrong_prints : (told : Option Contents) (words : List (List ℕ)) (held : Output) (fault : Fault)
-    → IsComparingFault fault → EqualPrints told words held held (Some fault)
-wrong_prints told words held fault wrong =
-    each_comparing (λ f. EqualPrints told words held held (Some f)) (circuit_prints told words held) (λ f. refl)
+pub wrong_prints : (contents : Option Contents) (words : List (List ℕ)) (held : Output) (fault : Fault)
+    → IsComparingFault fault → EqualPrints contents words held held (Some fault)
+wrong_prints contents words held fault wrong =
+    each_comparing (λ f. EqualPrints contents words held held (Some f)) (circuit_prints contents words held) (λ f. refl)
     (λ l k. refl) (λ n. refl) (λ a b c d. refl) refl fault wrong
 
-pub told_wrong : (told : Option Contents) (words : List (List ℕ)) (gds lib net : List ℕ) (fault : Fault)
-    → ToldTexts told words gds lib net → length gds ≤ gds_limit → length lib ≤ lib_limit → length net ≤ words_limit
-    → Answers (comparing_stages gds lib net) (Some fault) → ToldAnswers equal_stages told words (Some fault)
-told_wrong told words gds lib net fault held a b c wrong =
-    told_three_answer net_limit comparing_stages told words gds lib net lib net (Some fault) held a b c refl refl wrong
+pub told_wrong : (contents : Option Contents) (words : List (List ℕ)) (gds lib net : List ℕ) (fault : Fault)
+    → ToldTexts contents words gds lib net → length gds ≤ gds_limit → length lib ≤ lib_limit → length net ≤ words_limit
+    → Answers (comparing_stages gds lib net) (Some fault) → ToldAnswers equal_stages contents words (Some fault)
+told_wrong contents words gds lib net fault held a b c wrong =
+    told_three_answer net_limit comparing_stages contents words gds lib net lib net
+    (Some fault) held a b c refl refl wrong
 
 -- Where nothing is wrong with the texts the comparison comes to printing.
 
 pub out_is_equal : (result : Result (Unit {0}) Fault) → IfErr result IsOutOrMemory → IfErr result IsEqualFault
 out_is_equal result only = each_out (λ r. IfErr r IsEqualFault) tt refl tt result only
 
-pub out_equal_prints : (told : Option Contents) (words : List (List ℕ)) (before after : Output) (gds lib net : List ℕ)
+pub out_equal_prints : (contents : Option Contents) (words : List (List ℕ)) (before after : Output)
+    (gds lib net : List ℕ)
     (verdict : Verdict) (result : Result (Unit {0}) Fault) →
-    ToldTexts told words gds lib net → HasVerdict gds lib net verdict →
-    PrintsText (verdict_text verdict) before after result → EqualPrints told words before after (result_err result)
-out_equal_prints told words before after gds lib net verdict result held found prints =
-    each_text (λ r. EqualPrints told words before after (result_err r)) (verdict_text verdict) before after
+    ToldTexts contents words gds lib net → HasVerdict gds lib net verdict →
+    PrintsText (verdict_text verdict) before after result → EqualPrints contents words before after (result_err result)
+out_equal_prints contents words before after gds lib net verdict result held found prints =
+    each_text (λ r. EqualPrints contents words before after (result_err r)) (verdict_text verdict) before after
     (λ p. made p) (λ p. made p) (λ p. inr (made p)) result prints
   where
-    made : {Printed : List ℕ → Type 0} → Printed (verdict_text verdict) → IsToldOf told words Printed
+    made : {Printed : List ℕ → Type 0} → Printed (verdict_text verdict) → IsToldOf contents words Printed
     made {Printed} printed = record {
       gds = gds;
       lib = lib;
@@ -245,12 +248,12 @@ out_equal_prints told words before after gds lib net verdict result held found p
     }
 
 -- the same of texts that are these
-pub texts_print : (told : Option Contents) (words : List (List ℕ)) (before after : Output)
+pub texts_print : (contents : Option Contents) (words : List (List ℕ)) (before after : Output)
     (gds lib net lib' net' : List ℕ) (verdict : Verdict) (result : Result (Unit {0}) Fault) →
-    ToldTexts told words gds lib net → lib' ≡ lib → net' ≡ net → HasVerdict gds lib' net' verdict →
-    PrintsText (verdict_text verdict) before after result → EqualPrints told words before after (result_err result)
-texts_print told words before after gds lib net lib' net' verdict result held l t found prints =
-    out_equal_prints told words before after gds lib net verdict result held
+    ToldTexts contents words gds lib net → lib' ≡ lib → net' ≡ net → HasVerdict gds lib' net' verdict →
+    PrintsText (verdict_text verdict) before after result → EqualPrints contents words before after (result_err result)
+texts_print contents words before after gds lib net lib' net' verdict result held l t found prints =
+    out_equal_prints contents words before after gds lib net verdict result held
     (subst (λ x. HasVerdict gds x net verdict) l (subst (λ x. HasVerdict gds lib' x verdict) t found)) prints
 
 pub ruleset ends = (

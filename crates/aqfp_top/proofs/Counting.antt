@@ -2,7 +2,7 @@
 use Rattle.std.proofs.Common.{ℕ, suc, ◌≡◌, ◌<◌, List, [], ◌∷◌, take, Option, Some, None, inl, inr, refl, sym, ap, subst}
 use Rattle.std.proofs.Common.{◌∙◌, arith}
 use Rattle.aq_base.specs.declared.store.StoreRefusal.{StoreRefusal}
-use Rattle.aq_base.specs.Heard.{Event, Created, close_event}
+use Rattle.aq_base.specs.History.{Event, Created, close_event}
 use Rattle.aq_base.specs.FaultCounts.{read_faults, write_faults, close_faults, load_failed}
 use Rattle.aq_base.proofs.Counting.{took_writes, took_closes}
 use Rattle.std.specs.Prelude.{Result, Ok, Err, IfSome}
@@ -13,8 +13,9 @@ use Rattle.aqfp_top.specs.Due.{design_stages, circuit_stages, judging_stages, co
 use Rattle.aqfp_top.specs.Due.{sample_stages}
 use Rattle.aqfp_top.specs.Counted.{counts_of, HasFaults, FailedLoad}
 use Rattle.aqfp_top.specs.Faults.{RunsOnly}
-use Rattle.aqfp_top.specs.HeardDue.{RefusesOne, DueOfOne, DueOfTwo, DueOfThree, DueOfReading, HeardAfter, DueByForm}
-use Rattle.aqfp_top.specs.HeardDue.{HearsDue}
+use Rattle.aqfp_top.specs.DueHistories.{RefusesOne, DueOfOne, DueOfTwo}
+use Rattle.aqfp_top.specs.DueHistories.{DueOfThree, DueOfReading, HistoryAfter, DueByForm}
+use Rattle.aqfp_top.specs.DueHistories.{HearsDue}
 use Rattle.aqfp_top.specs.Code.Printing.{OutFails}
 use Rattle.aqfp_top.specs.declared.planner.Planner.{Planner}
 use Rattle.aqfp_top.specs.declared.words.Form.{Form}
@@ -28,20 +29,20 @@ use Rattle.aqfp_top.specs.declared.fault.Fault.TheVariants.{ReadFault, WriteFaul
 -- ---- a failed load
 
 -- one more load failed, of this name
-record FailsLoad (heard heard' : List Event) (name : List ℕ) : Type 0 where
-  more : read_faults heard' ≡ suc (read_faults heard)
-  name_is : load_failed heard' ≡ Some name
+record FailsLoad (history history' : List Event) (name : List ℕ) : Type 0 where
+  more : read_faults history' ≡ suc (read_faults history)
+  name_is : load_failed history' ≡ Some name
 
-refuses_read : (loads : List Load) (words : List (List ℕ)) (heard heard' : List Event) (place : ℕ)
-    → RefusesOne loads words heard heard' (ReadFault place) → FailsLoad heard heard' (word_at words place)
+refuses_read : (loads : List Load) (words : List (List ℕ)) (history history' : List Event) (place : ℕ)
+    → RefusesOne loads words history history' (ReadFault place) → FailsLoad history history' (word_at words place)
 unfolding RefusesOne
-refuses_read [] words heard heard' place refused = absurd refused
-refuses_read (load ∷ loads) words heard heard' place (inl refused) = record {
+refuses_read [] words history history' place refused = absurd refused
+refuses_read (load ∷ loads) words history history' place (inl refused) = record {
   more = ap read_faults refused.1;
   name_is = ap load_failed refused.1 ∙ ap (λ p. Some (word_at words p)) (sym refused.0);
 }
-refuses_read (load ∷ loads) words heard heard' place (inr gives) =
-    let fails = refuses_read loads words _ heard' place gives.holds in
+refuses_read (load ∷ loads) words history history' place (inr gives) =
+    let fails = refuses_read loads words _ history' place gives.holds in
     record { more = fails.more; name_is = fails.name_is }
 
 -- no stage of texts is a load
@@ -55,163 +56,167 @@ not_reached (stage ∷ stages) place none (inl at) = none.0 at
 not_reached (stage ∷ stages) place none (inr later) = not_reached stages place none.1 later.1
 
 abbrev Fails : List (List ℕ) → List Event → List Event → ℕ → Type 0
-Fails words heard heard' place = FailsLoad heard heard' (word_at words place)
+Fails words history history' place = FailsLoad history history' (word_at words place)
 
-read_two : (planner : Planner) (words : List (List ℕ)) (heard heard' : List Event) (place : ℕ)
-    → DueByForm (Make planner) heard heard' words (Some (ReadFault place)) → Fails words heard heard' place
+read_two : (planner : Planner) (words : List (List ℕ)) (history history' : List Event) (place : ℕ)
+    → DueByForm (Make planner) history history' words (Some (ReadFault place)) → Fails words history history' place
 unfolding DueOfTwo
-read_two planner words heard heard' place (inl refused) = refuses_read build_loads words heard heard' place refused
-read_two planner words heard heard' place (inr j) =
+read_two planner words history history' place (inl refused) =
+    refuses_read build_loads words history history' place refused
+read_two planner words history history' place (inr j) =
     absurd (not_reached (design_stages planner j.first j.lib) place ((λ l. l), ((λ l. l), ((λ l. l), tt))) j.answers)
 
-read_check : (words : List (List ℕ)) (heard heard' : List Event) (place : ℕ)
-    → DueByForm Verify heard heard' words (Some (ReadFault place)) → Fails words heard heard' place
+read_check : (words : List (List ℕ)) (history history' : List Event) (place : ℕ)
+    → DueByForm Verify history history' words (Some (ReadFault place)) → Fails words history history' place
 unfolding DueOfThree
-read_check words heard heard' place (inl refused) = refuses_read check_loads words heard heard' place refused
-read_check words heard heard' place (inr j) =
+read_check words history history' place (inl refused) = refuses_read check_loads words history history' place refused
+read_check words history history' place (inr j) =
     absurd (not_reached (judging_stages j.gds j.lib j.third) place
     ((λ l. l), ((λ l. l), ((λ l. l), ((λ l. l), ((λ l. l), tt))))) j.answers)
 
-read_equal : (words : List (List ℕ)) (heard heard' : List Event) (place : ℕ)
-    → DueByForm Equal heard heard' words (Some (ReadFault place)) → Fails words heard heard' place
+read_equal : (words : List (List ℕ)) (history history' : List Event) (place : ℕ)
+    → DueByForm Equal history history' words (Some (ReadFault place)) → Fails words history history' place
 unfolding DueOfThree
-read_equal words heard heard' place (inl refused) = refuses_read equal_loads words heard heard' place refused
-read_equal words heard heard' place (inr j) =
+read_equal words history history' place (inl refused) = refuses_read equal_loads words history history' place refused
+read_equal words history history' place (inr j) =
     absurd (not_reached (comparing_stages j.gds j.lib j.third) place
     ((λ l. l), ((λ l. l), ((λ l. l), ((λ l. l), ((λ l. l), ((λ l. l), ((λ l. l), tt))))))) j.answers)
 
-read_write : (words : List (List ℕ)) (heard heard' : List Event) (place : ℕ)
-    → DueByForm Write heard heard' words (Some (ReadFault place)) → Fails words heard heard' place
+read_write : (words : List (List ℕ)) (history history' : List Event) (place : ℕ)
+    → DueByForm Write history history' words (Some (ReadFault place)) → Fails words history history' place
 unfolding DueOfTwo
-read_write words heard heard' place (inl refused) = refuses_read write_loads words heard heard' place refused
-read_write words heard heard' place (inr j) =
+read_write words history history' place (inl refused) = refuses_read write_loads words history history' place refused
+read_write words history history' place (inr j) =
     absurd (not_reached (circuit_stages j.first j.lib) place
     ((λ l. l), ((λ l. l), ((λ l. l), ((λ l. l), tt)))) j.answers)
 
-read_report : (words : List (List ℕ)) (heard heard' : List Event) (place : ℕ)
-    → DueByForm Report heard heard' words (Some (ReadFault place)) → Fails words heard heard' place
+read_report : (words : List (List ℕ)) (history history' : List Event) (place : ℕ)
+    → DueByForm Report history history' words (Some (ReadFault place)) → Fails words history history' place
 unfolding DueOfReading
-read_report words heard heard' place (inl refused) = refuses_read write_loads words heard heard' place refused
-read_report words heard heard' place (inr j) =
+read_report words history history' place (inl refused) = refuses_read write_loads words history history' place refused
+read_report words history history' place (inr j) =
     absurd (not_reached (circuit_stages j.first j.lib) place
     ((λ l. l), ((λ l. l), ((λ l. l), ((λ l. l), tt)))) j.answers)
 
-read_shapes : (first second : ℕ) (words : List (List ℕ)) (heard heard' : List Event) (place : ℕ)
-    → DueByForm (Shapes first second) heard heard' words (Some (ReadFault place)) → Fails words heard heard' place
+read_shapes : (first second : ℕ) (words : List (List ℕ)) (history history' : List Event) (place : ℕ)
+    → DueByForm (Shapes first second) history history' words (Some (ReadFault place))
+    → Fails words history history' place
 unfolding DueOfOne
-read_shapes first second words heard heard' place (inl refused) =
-    refuses_read shapes_loads words heard heard' place refused
-read_shapes first second words heard heard' place (inr j) =
+read_shapes first second words history history' place (inl refused) =
+    refuses_read shapes_loads words history history' place refused
+read_shapes first second words history history' place (inr j) =
     absurd (not_reached (showing_stages j.gds first second) place ((λ l. l), ((λ l. l), ((λ l. l), tt))) j.answers)
 
-fails_load : (form : Form) (words : List (List ℕ)) (heard heard' : List Event) (place : ℕ)
-    → DueByForm form heard heard' words (Some (ReadFault place)) → Fails words heard heard' place
-fails_load (Make planner) words heard heard' place due = read_two planner words heard heard' place due
-fails_load Verify words heard heard' place due = read_check words heard heard' place due
-fails_load Trace words heard heard' place due = read_check words heard heard' place due
-fails_load Equal words heard heard' place due = read_equal words heard heard' place due
-fails_load Write words heard heard' place due = read_write words heard heard' place due
-fails_load Report words heard heard' place due = read_report words heard heard' place due
-fails_load (Shapes first second) words heard heard' place due = read_shapes first second words heard heard' place due
-fails_load (Sample bits) words heard heard' place due =
+fails_load : (form : Form) (words : List (List ℕ)) (history history' : List Event) (place : ℕ)
+    → DueByForm form history history' words (Some (ReadFault place)) → Fails words history history' place
+fails_load (Make planner) words history history' place due = read_two planner words history history' place due
+fails_load Verify words history history' place due = read_check words history history' place due
+fails_load Trace words history history' place due = read_check words history history' place due
+fails_load Equal words history history' place due = read_equal words history history' place due
+fails_load Write words history history' place due = read_write words history history' place due
+fails_load Report words history history' place due = read_report words history history' place due
+fails_load (Shapes first second) words history history' place due =
+    read_shapes first second words history history' place due
+fails_load (Sample bits) words history history' place due =
     absurd (not_reached (sample_stages bits) place ((λ l. l), ((λ l. l), tt)) due.1)
-fails_load Wrong words heard heard' place due = cc
+fails_load Wrong words history history' place due = cc
 
 -- ---- a failed write or close
 
-refuses_no_write : (loads : List Load) (words : List (List ℕ)) (heard heard' : List Event) (call : WriteCall)
-    → RefusesOne loads words heard heard' (WriteFault call) → ⊥
+refuses_no_write : (loads : List Load) (words : List (List ℕ)) (history history' : List Event) (call : WriteCall)
+    → RefusesOne loads words history history' (WriteFault call) → ⊥
 unfolding RefusesOne
-refuses_no_write [] words heard heard' call refused = refused
-refuses_no_write (load ∷ loads) words heard heard' call (inl refused) = refused
-refuses_no_write (load ∷ loads) words heard heard' call (inr gives) =
-    refuses_no_write loads words _ heard' call gives.holds
+refuses_no_write [] words history history' call refused = refused
+refuses_no_write (load ∷ loads) words history history' call (inl refused) = refused
+refuses_no_write (load ∷ loads) words history history' call (inr gives) =
+    refuses_no_write loads words _ history' call gives.holds
 
 -- one more call of this kind failed
 abbrev FailsCall : List Event → List Event → WriteCall → Type 0
-FailsCall heard heard' Create = write_faults heard < write_faults heard'
-FailsCall heard heard' Append = write_faults heard < write_faults heard'
-FailsCall heard heard' Close = close_faults heard < close_faults heard'
-FailsCall heard heard' Out = Unit {0}
+FailsCall history history' Create = write_faults history < write_faults history'
+FailsCall history history' Append = write_faults history < write_faults history'
+FailsCall history history' Close = close_faults history < close_faults history'
+FailsCall history history' Out = Unit {0}
 
-closing_writes : (answer : Result (Unit {0}) StoreRefusal) (heard : List Event)
-    → write_faults (close_event answer ∷ heard) ≡ write_faults heard
-closing_writes (Ok x) heard = refl
-closing_writes (Err why) heard = refl
+closing_writes : (answer : Result (Unit {0}) StoreRefusal) (history : List Event)
+    → write_faults (close_event answer ∷ history) ≡ write_faults history
+closing_writes (Ok x) history = refl
+closing_writes (Err why) history = refl
 
 more : (a b : ℕ) → b ≡ suc a → a < b
 more a b is = omega (arith, is)
 
-after_fails : (IsDue : List ℕ → Type 0) (heard heard' : List Event) (words : List (List ℕ)) (call : WriteCall)
-    → HeardAfter IsDue heard heard' words (Some (WriteFault call)) → FailsCall heard heard' call
-after_fails IsDue heard heard' words Create after = more _ _ (ap write_faults after)
-after_fails IsDue heard heard' words Append after =
+after_fails : (IsDue : List ℕ → Type 0) (history history' : List Event) (words : List (List ℕ)) (call : WriteCall)
+    → HistoryAfter IsDue history history' words (Some (WriteFault call)) → FailsCall history history' call
+after_fails IsDue history history' words Create after = more _ _ (ap write_faults after)
+after_fails IsDue history history' words Append after =
     let first = after.first in
-    let made : List Event = Created (word_at words 3) ∷ heard in
-    more _ _ (ap write_faults first.heard_is ∙ closing_writes first.closing _
+    let made : List Event = Created (word_at words 3) ∷ history in
+    more _ _ (ap write_faults first.history_is ∙ closing_writes first.closing _
     ∙ ap suc (took_writes (take first.count after.bytes) made))
-after_fails IsDue heard heard' words Close after =
-    let made : List Event = Created (word_at words 3) ∷ heard in
-    more _ _ (ap close_faults after.heard_is ∙ ap suc (took_closes after.bytes made))
-after_fails IsDue heard heard' words Out after = tt
+after_fails IsDue history history' words Close after =
+    let made : List Event = Created (word_at words 3) ∷ history in
+    more _ _ (ap close_faults after.history_is ∙ ap suc (took_closes after.bytes made))
+after_fails IsDue history history' words Out after = tt
 
-call_make : (planner : Planner) (words : List (List ℕ)) (heard heard' : List Event) (call : WriteCall)
-    → DueByForm (Make planner) heard heard' words (Some (WriteFault call)) → FailsCall heard heard' call
+call_make : (planner : Planner) (words : List (List ℕ)) (history history' : List Event) (call : WriteCall)
+    → DueByForm (Make planner) history history' words (Some (WriteFault call)) → FailsCall history history' call
 unfolding DueOfTwo
-call_make planner words heard heard' call (inl refused) =
-    absurd (refuses_no_write build_loads words heard heard' call refused)
-call_make planner words heard heard' call (inr j) = after_fails _ _ heard' words call j.heard_is
+call_make planner words history history' call (inl refused) =
+    absurd (refuses_no_write build_loads words history history' call refused)
+call_make planner words history history' call (inr j) = after_fails _ _ history' words call j.history_is
 
-call_write : (words : List (List ℕ)) (heard heard' : List Event) (call : WriteCall)
-    → DueByForm Write heard heard' words (Some (WriteFault call)) → FailsCall heard heard' call
+call_write : (words : List (List ℕ)) (history history' : List Event) (call : WriteCall)
+    → DueByForm Write history history' words (Some (WriteFault call)) → FailsCall history history' call
 unfolding DueOfTwo
-call_write words heard heard' call (inl refused) =
-    absurd (refuses_no_write write_loads words heard heard' call refused)
-call_write words heard heard' call (inr j) = after_fails _ _ heard' words call j.heard_is
+call_write words history history' call (inl refused) =
+    absurd (refuses_no_write write_loads words history history' call refused)
+call_write words history history' call (inr j) = after_fails _ _ history' words call j.history_is
 
-call_out : (heard heard' : List Event) (call : WriteCall) → call ≡ Out → FailsCall heard heard' call
-call_out heard heard' call is = subst (FailsCall heard heard') (sym is) tt
+call_out : (history history' : List Event) (call : WriteCall) → call ≡ Out → FailsCall history history' call
+call_out history history' call is = subst (FailsCall history history') (sym is) tt
 
 -- a command that writes no file may answer a fault of `out` alone
-fails_call : (form : Form) (words : List (List ℕ)) (heard heard' : List Event) (call : WriteCall) → IsOfForm words form
-    → RunsOnly words (WriteFault call) → DueByForm form heard heard' words (Some (WriteFault call))
-    → FailsCall heard heard' call
-fails_call (Make planner) words heard heard' call is only due = call_make planner words heard heard' call due
-fails_call Verify words heard heard' call is only due = call_out heard heard' call (only.check (inl is))
-fails_call Trace words heard heard' call is only due = call_out heard heard' call (only.check (inr is))
-fails_call Equal words heard heard' call is only due = call_out heard heard' call (only.equal is)
-fails_call Write words heard heard' call is only due = call_write words heard heard' call due
-fails_call Report words heard heard' call is only due = call_out heard heard' call (only.report is)
-fails_call (Shapes first second) words heard heard' call is only due =
-    call_out heard heard' call (only.shapes (record { first = first; second = second; of_numbers = is }))
-fails_call (Sample bits) words heard heard' call is only due =
-    call_out heard heard' call (only.sample (record { bits = bits; of_bits = is }))
-fails_call Wrong words heard heard' call is only due = cc
+fails_call : (form : Form) (words : List (List ℕ)) (history history' : List Event) (call : WriteCall)
+    → IsOfForm words form
+    → RunsOnly words (WriteFault call) → DueByForm form history history' words (Some (WriteFault call))
+    → FailsCall history history' call
+fails_call (Make planner) words history history' call is only due = call_make planner words history history' call due
+fails_call Verify words history history' call is only due = call_out history history' call (only.check (inl is))
+fails_call Trace words history history' call is only due = call_out history history' call (only.check (inr is))
+fails_call Equal words history history' call is only due = call_out history history' call (only.equal is)
+fails_call Write words history history' call is only due = call_write words history history' call due
+fails_call Report words history history' call is only due = call_out history history' call (only.report is)
+fails_call (Shapes first second) words history history' call is only due =
+    call_out history history' call (only.shapes (record { first = first; second = second; of_numbers = is }))
+fails_call (Sample bits) words history history' call is only due =
+    call_out history history' call (only.sample (record { bits = bits; of_bits = is }))
+fails_call Wrong words history history' call is only due = cc
 
 -- ---- what an ending shows
 
-by_call : (heard heard' shown shown' : List Event) (call : WriteCall) → FailsCall heard heard' call
+by_call : (history history' shown shown' : List Event) (call : WriteCall) → FailsCall history history' call
     → OutFails shown shown' (Some (WriteFault call))
-    → HasFaults (counts_of heard shown) (counts_of heard' shown') (Some (WriteFault call))
-by_call heard heard' shown shown' Create fails out = fails
-by_call heard heard' shown shown' Append fails out = fails
-by_call heard heard' shown shown' Close fails out = fails
-by_call heard heard' shown shown' Out fails out = out
+    → HasFaults (counts_of history shown) (counts_of history' shown') (Some (WriteFault call))
+by_call history history' shown shown' Create fails out = fails
+by_call history history' shown shown' Append fails out = fails
+by_call history history' shown shown' Close fails out = fails
+by_call history history' shown shown' Out fails out = out
 
-pub has_faults : (words : List (List ℕ)) (heard heard' shown shown' : List Event) (answer : Option Fault)
-    → HearsDue heard heard' words answer → IfSome answer (RunsOnly words) → OutFails shown shown' answer
-    → HasFaults (counts_of heard shown) (counts_of heard' shown') answer
-has_faults words heard heard' shown shown' None hears only out = tt
-has_faults words heard heard' shown shown' (Some (ReadFault place)) hears only out =
-    more _ _ (fails_load hears.form words heard heard' place hears.due).more
-has_faults words heard heard' shown shown' (Some (WriteFault call)) hears only out =
-    by_call heard heard' shown shown' call
-    (fails_call hears.form words heard heard' call hears.is_form only hears.due) out
-has_faults words heard heard' shown shown' (Some _) hears only out = tt
+pub has_faults : (words : List (List ℕ)) (history history' shown shown' : List Event) (answer : Option Fault)
+    → HearsDue history history' words answer → IfSome answer (RunsOnly words) → OutFails shown shown' answer
+    → HasFaults (counts_of history shown) (counts_of history' shown') answer
+has_faults words history history' shown shown' None hears only out = tt
+has_faults words history history' shown shown' (Some (ReadFault place)) hears only out =
+    more _ _ (fails_load hears.form words history history' place hears.due).more
+has_faults words history history' shown shown' (Some (WriteFault call)) hears only out =
+    by_call history history' shown shown' call
+    (fails_call hears.form words history history' call hears.is_form only hears.due) out
+has_faults words history history' shown shown' (Some _) hears only out = tt
 
-pub failed_load : (words : List (List ℕ)) (heard heard' : List Event) (answer : Option Fault)
-    → HearsDue heard heard' words answer → FailedLoad (load_failed heard') words answer
-failed_load words heard heard' None hears = tt
-failed_load words heard heard' (Some (ReadFault place)) hears =
-    (fails_load hears.form words heard heard' place hears.due).name_is
-failed_load words heard heard' (Some _) hears = tt
+pub failed_load : (words : List (List ℕ)) (history history' : List Event) (answer : Option Fault)
+    → HearsDue history history' words answer → FailedLoad (load_failed history') words answer
+failed_load words history history' None hears = tt
+failed_load words history history' (Some (ReadFault place)) hears =
+    (fails_load hears.form words history history' place hears.due).name_is
+failed_load words history history' (Some _) hears = tt

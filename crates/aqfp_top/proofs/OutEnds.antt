@@ -42,16 +42,16 @@ text_only text o o' result prints =
     each_text (λ r. IfErr r IsOutOrMemory) text o o' (λ p. tt) (λ p. tt) (λ p. tt) result prints
 
 within_fails : (text : List ℕ) (o o' : Output) → PrintsWithin o o' text store.Failed
-    → write_faults o.heard < write_faults o'.heard
+    → write_faults o.history < write_faults o'.history
 within_fails text o o' p =
-    let more : write_faults o'.heard ≡ suc (write_faults o.heard) =
-    ap (λ (x : Output). write_faults x.heard) p.halts ∙ ap suc (took_writes (take p.count text) o.heard) in
+    let more : write_faults o'.history ≡ suc (write_faults o.history) =
+    ap (λ (x : Output). write_faults x.history) p.halts ∙ ap suc (took_writes (take p.count text) o.history) in
     omega (arith, more)
 
 pub text_fails : (text : List ℕ) (o o' : Output) (result : Result (Unit {0}) Fault) → PrintsText text o o' result
-    → OutFails o.heard o'.heard (result_err result)
+    → OutFails o.history o'.history (result_err result)
 text_fails text o o' result prints =
-    each_text (λ r. OutFails o.heard o'.heard (result_err r)) text o o' (λ p. tt) (within_fails text o o') (λ p. tt)
+    each_text (λ r. OutFails o.history o'.history (result_err r)) text o o' (λ p. tt) (within_fails text o o') (λ p. tt)
     result prints
 
 pub ruleset texts = (ends_text, text_only, text_fails)

@@ -2,7 +2,7 @@
 use Rattle.std.proofs.Common.{ℕ, ◌≡◌, ◌≤◌, List, length, Option, Some, None, Result, Ok, Err, IfErr, OnOk}
 use Rattle.std.proofs.Common.{refl, ap, subst}
 use Rattle.std.specs.Result.{result_err}
-use Rattle.aq_base.specs.Heard.{Event}
+use Rattle.aq_base.specs.History.{Event}
 use Rattle.aq_base.specs.Output.{Output}
 use Rattle.aq_base.specs.Store.{Contents}
 use Rattle.poly_cut.specs.declared.layout.WideLayout.{WideLayout}
@@ -93,9 +93,9 @@ pub ruleset prints = (layout_printing, circuit_printing, out_printing, layout_fa
 pub loads_report : (fault : Fault) → IsFaultOfLoads write_loads fault → IsReportFault fault
 loads_report fault only = each_of_loads IsReportFault write_loads (λ p l. l) (λ p t l. l) (λ p l. l) tt fault only
 
-pub loads_report_print : (told : Option Contents) (words : List (List ℕ)) (held : Output) (fault : Fault)
-    → IsFaultOfLoads write_loads fault → TextPrints (IsReportOf told words) held held (Some fault)
-loads_report_print told words held fault only = loads_print (IsReportOf told words) write_loads held fault only
+pub loads_report_print : (contents : Option Contents) (words : List (List ℕ)) (held : Output) (fault : Fault)
+    → IsFaultOfLoads write_loads fault → TextPrints (IsReportOf contents words) held held (Some fault)
+loads_report_print contents words held fault only = loads_print (IsReportOf contents words) write_loads held fault only
 
 pub loads_report_fail : (shown shown' : List Event) (fault : Fault) → IsFaultOfLoads write_loads fault
     → OutFails shown shown' (Some fault)
@@ -109,33 +109,35 @@ report_only (Err fault) only =
     (each_circuit IsReportFault (λ o k. tt) (λ n. tt) (λ f. tt) (λ k. tt) (λ r a b. tt) tt) fault only
 
 -- the report of the texts of the files
-pub texts_report : (told : Option Contents) (words : List (List ℕ)) (gds lib lib' : List ℕ) (before after : Output)
-    (fault : Option Fault) → ToldTwo told words gds lib → lib' ≡ lib → TextPrints (IsReport gds lib') before after fault
-    → TextPrints (IsReportOf told words) before after fault
-texts_report told words gds lib lib' before after fault held same prints =
-    prints_more (IsReport gds lib') (IsReportOf told words) before after fault
+pub texts_report : (contents : Option Contents) (words : List (List ℕ)) (gds lib lib' : List ℕ) (before after : Output)
+    (fault : Option Fault) → ToldTwo contents words gds lib → lib' ≡ lib
+    → TextPrints (IsReport gds lib') before after fault
+    → TextPrints (IsReportOf contents words) before after fault
+texts_report contents words gds lib lib' before after fault held same prints =
+    prints_more (IsReport gds lib') (IsReportOf contents words) before after fault
     (λ text report.
     record { gds = gds; lib = lib; held = held; report = subst (λ l. IsReport gds l text) same report }) prints
 
-pub heard_report : (heard heard' : List Event) (words : List (List ℕ)) (gds lib lib' : List ℕ)
-    (before after : Output) (result : Result (Unit {0}) Fault) → heard' ≡ loaded heard words gds lib → lib' ≡ lib
+pub history_report : (history history' : List Event) (words : List (List ℕ)) (gds lib lib' : List ℕ)
+    (before after : Output) (result : Result (Unit {0}) Fault) → history' ≡ loaded history words gds lib → lib' ≡ lib
     → TextPrints (IsReport gds lib') before after (result_err result)
-    → OnOk result (HearsReport heard heard' words before after)
-heard_report heard heard' words gds lib lib' before after (Ok x) is same prints = record {
+    → OnOk result (HearsReport history history' words before after)
+history_report history history' words gds lib lib' before after (Ok x) is same prints = record {
   gds = gds;
   lib = lib;
-  heard_is = is;
+  history_is = is;
   text = prints.text;
   report = subst (λ l. IsReport gds l prints.text) same prints.means;
   printed = prints.printed;
 }
-heard_report heard heard' words gds lib lib' before after (Err fault) is same prints = tt
+history_report history history' words gds lib lib' before after (Err fault) is same prints = tt
 
-pub told_report : (told : Option Contents) (words : List (List ℕ)) (gds lib lib' : List ℕ)
-    (result : Result (Unit {0}) Fault) → ToldTwo told words gds lib → length gds ≤ gds_limit → length lib ≤ lib_limit
+pub told_report : (contents : Option Contents) (words : List (List ℕ)) (gds lib lib' : List ℕ)
+    (result : Result (Unit {0}) Fault) → ToldTwo contents words gds lib → length gds ≤ gds_limit
+    → length lib ≤ lib_limit
     → lib' ≡ lib → Answers (circuit_stages gds lib') (result_err result)
-    → ToldAnswers write_stages told words (result_err result)
-told_report told words gds lib lib' result held a b same answers =
-    told_two_answer gds_limit circuit_stages told words gds lib lib' (result_err result) held a b same answers
+    → ToldAnswers write_stages contents words (result_err result)
+told_report contents words gds lib lib' result held a b same answers =
+    told_two_answer gds_limit circuit_stages contents words gds lib lib' (result_err result) held a b same answers
 
 pub ruleset ends = (loads_report, loads_report_print, loads_report_fail)

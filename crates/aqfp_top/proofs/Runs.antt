@@ -44,52 +44,53 @@ use Rattle.aqfp_top.proofs.Forms.{check_not_shapes, equal_not_shapes, write_not_
 
 -- what a command may answer the words may lead to
 
-pub build_answers : (planner : Planner) (told : Option Contents) (words : List (List ℕ)) (answer : Option Fault)
-    → IsMakeBy planner words → ToldAnswers (make_stages planner) told words answer → ToldMayAnswer told words answer
+pub build_answers : (planner : Planner) (contents : Option Contents) (words : List (List ℕ)) (answer : Option Fault)
+    → IsMakeBy planner words → ToldAnswers (make_stages planner) contents words answer
+    → ToldMayAnswer contents words answer
 build_answers planner None words answer form answers = tt
 build_answers planner (Some files) words answer form answers =
     record { form = Make planner; is_form = form; answers = answers }
 
-pub verify_answers : (told : Option Contents) (words : List (List ℕ)) (answer : Option Fault) → IsVerify words
-    → ToldAnswers check_stages told words answer → ToldMayAnswer told words answer
+pub verify_answers : (contents : Option Contents) (words : List (List ℕ)) (answer : Option Fault) → IsVerify words
+    → ToldAnswers check_stages contents words answer → ToldMayAnswer contents words answer
 verify_answers None words answer form answers = tt
 verify_answers (Some files) words answer form answers = record { form = Verify; is_form = form; answers = answers }
 
-pub trace_answers : (told : Option Contents) (words : List (List ℕ)) (answer : Option Fault) → IsTrace words
-    → ToldAnswers check_stages told words answer → ToldMayAnswer told words answer
+pub trace_answers : (contents : Option Contents) (words : List (List ℕ)) (answer : Option Fault) → IsTrace words
+    → ToldAnswers check_stages contents words answer → ToldMayAnswer contents words answer
 trace_answers None words answer form answers = tt
 trace_answers (Some files) words answer form answers = record { form = Trace; is_form = form; answers = answers }
 
-pub equal_answers : (told : Option Contents) (words : List (List ℕ)) (answer : Option Fault) → IsEqual words
-    → ToldAnswers equal_stages told words answer → ToldMayAnswer told words answer
+pub equal_answers : (contents : Option Contents) (words : List (List ℕ)) (answer : Option Fault) → IsEqual words
+    → ToldAnswers equal_stages contents words answer → ToldMayAnswer contents words answer
 equal_answers None words answer form answers = tt
 equal_answers (Some files) words answer form answers = record { form = Equal; is_form = form; answers = answers }
 
-pub write_answers : (told : Option Contents) (words : List (List ℕ)) (answer : Option Fault) → IsWrite words
-    → ToldAnswers write_stages told words answer → ToldMayAnswer told words answer
+pub write_answers : (contents : Option Contents) (words : List (List ℕ)) (answer : Option Fault) → IsWrite words
+    → ToldAnswers write_stages contents words answer → ToldMayAnswer contents words answer
 write_answers None words answer form answers = tt
 write_answers (Some files) words answer form answers = record { form = Write; is_form = form; answers = answers }
 
-pub report_answers : (told : Option Contents) (words : List (List ℕ)) (answer : Option Fault) → IsReport words
-    → ToldAnswers write_stages told words answer → ToldMayAnswer told words answer
+pub report_answers : (contents : Option Contents) (words : List (List ℕ)) (answer : Option Fault) → IsReport words
+    → ToldAnswers write_stages contents words answer → ToldMayAnswer contents words answer
 report_answers None words answer form answers = tt
 report_answers (Some files) words answer form answers = record { form = Report; is_form = form; answers = answers }
 
-pub shapes_answers : (told : Option Contents) (words : List (List ℕ)) (first second : ℕ) (answer : Option Fault)
-    → IsShapesOf words first second → ToldAnswers (shapes_stages first second) told words answer
-    → ToldMayAnswer told words answer
+pub shapes_answers : (contents : Option Contents) (words : List (List ℕ)) (first second : ℕ) (answer : Option Fault)
+    → IsShapesOf words first second → ToldAnswers (shapes_stages first second) contents words answer
+    → ToldMayAnswer contents words answer
 shapes_answers None words first second answer form answers = tt
 shapes_answers (Some files) words first second answer form answers =
     record { form = Shapes first second; is_form = form; answers = answers }
 
-pub sample_answers : (told : Option Contents) (words : List (List ℕ)) (bits : ℕ) (answer : Option Fault)
-    → IsSampleOf words bits → StagesAnswer (sample_stages bits) answer → ToldMayAnswer told words answer
+pub sample_answers : (contents : Option Contents) (words : List (List ℕ)) (bits : ℕ) (answer : Option Fault)
+    → IsSampleOf words bits → StagesAnswer (sample_stages bits) answer → ToldMayAnswer contents words answer
 sample_answers None words bits answer form answers = tt
 sample_answers (Some files) words bits answer form answers =
     record { form = Sample bits; is_form = form; answers = answers }
 
-pub usage_answers : (told : Option Contents) (words : List (List ℕ)) → ¬ HasForm words
-    → ToldMayAnswer told words (Some Usage)
+pub usage_answers : (contents : Option Contents) (words : List (List ℕ)) → ¬ HasForm words
+    → ToldMayAnswer contents words (Some Usage)
 usage_answers None words form = tt
 usage_answers (Some files) words form = record { form = Wrong; is_form = form; answers = inl tt }
 
@@ -104,7 +105,7 @@ build_leaves planner before after words fault form stands = record {
 }
 
 pub verify_leaves : (o o' : Outside) (words : List (List ℕ)) (fault : Option Fault) → IsVerify words
-    → standing o' ≡ standing o → RunStands o.told o'.told words fault
+    → standing o' ≡ standing o → RunStands o.contents o'.contents words fault
 verify_leaves o o' words fault form kept =
     record {
       make = λ p b. absurd (make_not_verify words (is_make p words b) form);
@@ -113,7 +114,7 @@ verify_leaves o o' words fault form kept =
     }
 
 pub trace_leaves : (o o' : Outside) (words : List (List ℕ)) (fault : Option Fault) → IsTrace words
-    → standing o' ≡ standing o → RunStands o.told o'.told words fault
+    → standing o' ≡ standing o → RunStands o.contents o'.contents words fault
 trace_leaves o o' words fault form kept =
     record {
       make = λ p b. absurd (make_not_trace words (is_make p words b) form);
@@ -122,7 +123,7 @@ trace_leaves o o' words fault form kept =
     }
 
 pub equal_leaves : (o o' : Outside) (words : List (List ℕ)) (fault : Option Fault) → IsEqual words
-    → standing o' ≡ standing o → RunStands o.told o'.told words fault
+    → standing o' ≡ standing o → RunStands o.contents o'.contents words fault
 equal_leaves o o' words fault form kept =
     record {
       make = λ p b. absurd (make_not_equal words (is_make p words b) form);
@@ -140,7 +141,7 @@ write_leaves before after words fault form stands =
     }
 
 pub report_leaves : (o o' : Outside) (words : List (List ℕ)) (fault : Option Fault) → IsReport words
-    → standing o' ≡ standing o → RunStands o.told o'.told words fault
+    → standing o' ≡ standing o → RunStands o.contents o'.contents words fault
 report_leaves o o' words fault form kept = record {
   make = λ p b. absurd (make_not_report words (is_make p words b) form);
   write = λ w. absurd (four_not_report words w.0 form);
@@ -148,7 +149,7 @@ report_leaves o o' words fault form kept = record {
 }
 
 pub shapes_leaves : (o o' : Outside) (words : List (List ℕ)) (first second : ℕ) (fault : Option Fault)
-    → IsShapesOf words first second → standing o' ≡ standing o → RunStands o.told o'.told words fault
+    → IsShapesOf words first second → standing o' ≡ standing o → RunStands o.contents o'.contents words fault
 shapes_leaves o o' words first second fault form kept = record {
   make = λ p b. absurd (make_not_shapes words first second (is_make p words b) form);
   write = λ w. absurd (write_not_shapes words first second w form);
@@ -174,14 +175,14 @@ usage_leaves held words fault form = record {
 
 -- what is printed
 
-pub build_prints : (planner : Planner) (told : Option Contents) (words : List (List ℕ)) (before after : Output)
-    (fault : Option Fault) → IsMakeBy planner words → BuildPrints planner told words before after fault
-    → RunPrints told words before after fault
-build_prints planner told words before after fault form prints =
+pub build_prints : (planner : Planner) (contents : Option Contents) (words : List (List ℕ)) (before after : Output)
+    (fault : Option Fault) → IsMakeBy planner words → BuildPrints planner contents words before after fault
+    → RunPrints contents words before after fault
+build_prints planner contents words before after fault form prints =
     let is : IsMake words = is_make planner words form in
     record {
       make = λ other b.
-          subst (λ p. BuildPrints p told words before after fault) (one_planner words planner other form b) prints;
+          subst (λ p. BuildPrints p contents words before after fault) (one_planner words planner other form b) prints;
       verify = λ v. absurd (make_not_verify words is v);
       trace = λ t. absurd (make_not_trace words is t);
       equal = λ e. absurd (make_not_equal words is e);
@@ -192,9 +193,10 @@ build_prints planner told words before after fault form prints =
       otherwise = λ none. absurd (none (inl is));
     }
 
-pub verify_prints : (told : Option Contents) (words : List (List ℕ)) (before after : Output) (fault : Option Fault)
-    → IsVerify words → CheckPrints Answers told words before after fault → RunPrints told words before after fault
-verify_prints told words before after fault form prints = record {
+pub verify_prints : (contents : Option Contents) (words : List (List ℕ)) (before after : Output) (fault : Option Fault)
+    → IsVerify words → CheckPrints Answers contents words before after fault
+    → RunPrints contents words before after fault
+verify_prints contents words before after fault form prints = record {
   make = λ p b. absurd (make_not_verify words (is_make p words b) form);
   verify = λ v. prints;
   trace = λ t. absurd (verify_not_trace words form t);
@@ -206,9 +208,9 @@ verify_prints told words before after fault form prints = record {
   otherwise = λ none. absurd (none (inr (inl (inl form))));
 }
 
-pub trace_prints : (told : Option Contents) (words : List (List ℕ)) (before after : Output) (fault : Option Fault)
-    → IsTrace words → CheckPrints Fluxes told words before after fault → RunPrints told words before after fault
-trace_prints told words before after fault form prints = record {
+pub trace_prints : (contents : Option Contents) (words : List (List ℕ)) (before after : Output) (fault : Option Fault)
+    → IsTrace words → CheckPrints Fluxes contents words before after fault → RunPrints contents words before after fault
+trace_prints contents words before after fault form prints = record {
   make = λ p b. absurd (make_not_trace words (is_make p words b) form);
   verify = λ v. absurd (verify_not_trace words v form);
   trace = λ t. prints;
@@ -220,9 +222,9 @@ trace_prints told words before after fault form prints = record {
   otherwise = λ none. absurd (none (inr (inl (inr form))));
 }
 
-pub equal_prints : (told : Option Contents) (words : List (List ℕ)) (before after : Output) (fault : Option Fault)
-    → IsEqual words → EqualPrints told words before after fault → RunPrints told words before after fault
-equal_prints told words before after fault form prints = record {
+pub equal_prints : (contents : Option Contents) (words : List (List ℕ)) (before after : Output) (fault : Option Fault)
+    → IsEqual words → EqualPrints contents words before after fault → RunPrints contents words before after fault
+equal_prints contents words before after fault form prints = record {
   make = λ p b. absurd (make_not_equal words (is_make p words b) form);
   verify = λ v. absurd (verify_not_equal words v form);
   trace = λ t. absurd (trace_not_equal words t form);
@@ -234,9 +236,9 @@ equal_prints told words before after fault form prints = record {
   otherwise = λ none. absurd (none (inr (inr (inr (inl form)))));
 }
 
-pub write_prints : (told : Option Contents) (words : List (List ℕ)) (before after : Output) (fault : Option Fault)
-    → IsWrite words → WritePrints told words before after fault → RunPrints told words before after fault
-write_prints told words before after fault form prints = record {
+pub write_prints : (contents : Option Contents) (words : List (List ℕ)) (before after : Output) (fault : Option Fault)
+    → IsWrite words → WritePrints contents words before after fault → RunPrints contents words before after fault
+write_prints contents words before after fault form prints = record {
   make = λ p b. absurd (make_not_write words (is_make p words b) form);
   verify = λ v. absurd (verify_not_write words v form);
   trace = λ t. absurd (trace_not_write words t form);
@@ -248,10 +250,10 @@ write_prints told words before after fault form prints = record {
   otherwise = λ none. absurd (none (inr (inr (inr (inr (inl form))))));
 }
 
-pub sample_prints : (told : Option Contents) (words : List (List ℕ)) (bits : ℕ) (before after : Output)
+pub sample_prints : (contents : Option Contents) (words : List (List ℕ)) (bits : ℕ) (before after : Output)
     (fault : Option Fault) → IsSampleOf words bits → SamplePrints bits before after fault
-    → RunPrints told words before after fault
-sample_prints told words bits before after fault form prints = record {
+    → RunPrints contents words before after fault
+sample_prints contents words bits before after fault form prints = record {
   make = λ p b. absurd (make_not_sample words bits (is_make p words b) form);
   verify = λ v. absurd (verify_not_sample words bits v form);
   trace = λ t. absurd (trace_not_sample words bits t form);
@@ -263,9 +265,10 @@ sample_prints told words bits before after fault form prints = record {
   otherwise = λ none. absurd (none (inr (inr (inl (record { bits = bits; of_bits = form })))));
 }
 
-pub report_prints : (told : Option Contents) (words : List (List ℕ)) (before after : Output) (fault : Option Fault)
-    → IsReport words → TextPrints (IsReportOf told words) before after fault → RunPrints told words before after fault
-report_prints told words before after fault form prints = record {
+pub report_prints : (contents : Option Contents) (words : List (List ℕ)) (before after : Output) (fault : Option Fault)
+    → IsReport words → TextPrints (IsReportOf contents words) before after fault
+    → RunPrints contents words before after fault
+report_prints contents words before after fault form prints = record {
   make = λ p b. absurd (make_not_report words (is_make p words b) form);
   verify = λ v. absurd (four_not_report words v.0 form);
   trace = λ t. absurd (four_not_report words t.0 form);
@@ -277,11 +280,11 @@ report_prints told words before after fault form prints = record {
   otherwise = λ none. absurd (none (inr (inr (inr (inr (inr (inl form)))))));
 }
 
-pub shapes_prints : (told : Option Contents) (words : List (List ℕ)) (first second : ℕ) (before after : Output)
+pub shapes_prints : (contents : Option Contents) (words : List (List ℕ)) (first second : ℕ) (before after : Output)
     (fault : Option Fault) → IsShapesOf words first second
-    → TextPrints (IsShownOf told words first second) before after fault
-    → RunPrints told words before after fault
-shapes_prints told words first second before after fault form prints = record {
+    → TextPrints (IsShownOf contents words first second) before after fault
+    → RunPrints contents words before after fault
+shapes_prints contents words first second before after fault form prints = record {
   make = λ p b. absurd (make_not_shapes words first second (is_make p words b) form);
   verify = λ v. absurd (verify_not_shapes words first second v form);
   trace = λ t. absurd (trace_not_shapes words first second t form);
@@ -290,8 +293,8 @@ shapes_prints told words first second before after fault form prints = record {
   report = λ r. absurd (shapes_not_report words first second form r);
   shapes = λ a b s.
       let same = one_pair words first second a b form s in
-      subst (λ m. TextPrints (IsShownOf told words a m) before after fault) same.1
-      (subst (λ n. TextPrints (IsShownOf told words n second) before after fault) same.0 prints);
+      subst (λ m. TextPrints (IsShownOf contents words a m) before after fault) same.1
+      (subst (λ n. TextPrints (IsShownOf contents words n second) before after fault) same.0 prints);
   sample = λ bits s. absurd (sample_not_shapes words bits first second s form);
   otherwise = λ none. absurd (none (inr (inr (inr (inr (inr (inr (record {
     first = first;
@@ -300,9 +303,9 @@ shapes_prints told words first second before after fault form prints = record {
   }))))))));
 }
 
-pub usage_prints : (told : Option Contents) (words : List (List ℕ)) (held : Output) (fault : Option Fault)
-    → ¬ HasForm words → RunPrints told words held held fault
-usage_prints told words held fault form = record {
+pub usage_prints : (contents : Option Contents) (words : List (List ℕ)) (held : Output) (fault : Option Fault)
+    → ¬ HasForm words → RunPrints contents words held held fault
+usage_prints contents words held fault form = record {
   make = λ p b. absurd (form (inl (is_make p words b)));
   verify = λ v. absurd (form (inr (inl (inl v))));
   trace = λ t. absurd (form (inr (inl (inr t))));
@@ -607,11 +610,13 @@ pub made_by : (words : List (List ℕ)) (planner : Planner) (result : Result (Un
 made_by words planner (Ok x) Holds form holds = λ other is. subst Holds (one_planner words planner other form is) holds
 made_by words planner (Err fault) Holds form holds = tt
 
-pub heard_by : (words : List (List ℕ)) (planner : Planner) (result : Result (Unit {0}) Fault) (Holds : Planner → Type 0)
+pub history_by : (words : List (List ℕ)) (planner : Planner) (result : Result (Unit {0}) Fault) (Holds : Planner
+    → Type 0)
     → IsMakeBy planner words → OnOk result (Holds planner)
     → IfOk result (λ _. (other : Planner) → IsMakeBy other words → Holds other)
-heard_by words planner (Ok x) Holds form holds = λ other is. subst Holds (one_planner words planner other form is) holds
-heard_by words planner (Err fault) Holds form holds = tt
+history_by words planner (Ok x) Holds form holds = λ other is. subst Holds
+    (one_planner words planner other form is) holds
+history_by words planner (Err fault) Holds form holds = tt
 
 pub never_made : (words : List (List ℕ)) (result : Result (Unit {0}) Fault) (Holds : Planner → Type 0)
     → (IsMake words → ⊥) → IfOk result (λ _. (other : Planner) → IsMakeBy other words → Holds other)
@@ -686,6 +691,6 @@ pub ruleset runs = (
 )
 
 -- where the store is told
-pub told_due : (told : Option Contents) (words : List (List ℕ)) (answer : Option Fault)
-    → ToldMayAnswer told words answer → (held : Contents) → told ≡ Some held → MayAnswer held words answer
-told_due told words answer may held is = subst (λ t. ToldMayAnswer t words answer) is may
+pub told_due : (contents : Option Contents) (words : List (List ℕ)) (answer : Option Fault)
+    → ToldMayAnswer contents words answer → (held : Contents) → contents ≡ Some held → MayAnswer held words answer
+told_due contents words answer may held is = subst (λ t. ToldMayAnswer t words answer) is may

@@ -8,7 +8,7 @@ use Rattle.std.proofs.lemmas.List.Elements.{AllZip-push}
 use Rattle.aq_base.specs.Output as output
 use Rattle.aqfp_top.specs.Printed.{PrintsFirst}
 use Rattle.aq_base.specs.declared.store.StoreRefusal.TheVariants as store
-use Rattle.aq_base.specs.Heard.{Event}
+use Rattle.aq_base.specs.History.{Event}
 use Rattle.aq_base.specs.Output.{Output}
 use Rattle.blif_read.specs.Parts.{NetView}
 use Rattle.blif_read.specs.Says as netlist

@@ -4,7 +4,7 @@ use Rattle.std.proofs.Common.{IfErr}
 use Rattle.std.proofs.Common.{OnOk, Vec, refl, sym, subst, inl, inr, arith}
 use Rattle.std.specs.Result.{result_err}
 use Rattle.std.specs.declared.alloc.Global.{Global}
-use Rattle.aq_base.specs.Heard.{Event, Loaded}
+use Rattle.aq_base.specs.History.{Event, Loaded}
 use Rattle.aq_base.specs.Store.{Contents}
 use Rattle.aq_base.specs.Output.{Output}
 use Rattle.geom.specs.declared.shapes.Flat.{Flat}
@@ -194,15 +194,15 @@ pub load_fails : (shown shown' : List Event) (fault : Fault) → IsFaultOfLoad 1
 load_fails shown shown' fault only =
     each_load (λ f. OutFails shown shown' (Some f)) 1 gds_limit tt (λ taken more. tt) tt tt fault only
 
-pub load_answers : (told : Option Contents) (words : List (List ℕ)) (first second : ℕ) (fault : Fault)
-    → IsFaultOfLoad 1 gds_limit fault → ToldLoadsWord told words 1 gds_limit (Err fault)
-    → ToldAnswers (shapes_stages first second) told words (Some fault)
+pub load_answers : (contents : Option Contents) (words : List (List ℕ)) (first second : ℕ) (fault : Fault)
+    → IsFaultOfLoad 1 gds_limit fault → ToldLoadsWord contents words 1 gds_limit (Err fault)
+    → ToldAnswers (shapes_stages first second) contents words (Some fault)
 load_answers None words first second fault only loads = tt
 load_answers (Some files) words first second fault only loads =
     load_found files words 1 gds_limit (showing_stages (bytes_at files words 1) first second) fault only loads
 
-pub told_layout : (told : Option Contents) (words : List (List ℕ)) (gds : Vec ℕ Global)
-    → ToldLoadsWord told words 1 gds_limit (Ok gds) → ToldLayout told words gds.items
+pub told_layout : (contents : Option Contents) (words : List (List ℕ)) (gds : Vec ℕ Global)
+    → ToldLoadsWord contents words 1 gds_limit (Ok gds) → ToldLayout contents words gds.items
 told_layout None words gds loads = tt
 told_layout (Some files) words gds loads = loads.0
 
@@ -215,34 +215,34 @@ file_shapes files words gds first second answer held fits answers =
     (file_loads files words 1 gds_limit gds held fits)
     (subst (λ g. Answers (showing_stages g first second) answer) (sym (held_bytes files words 1 gds held)) answers)
 
-pub told_shapes : (told : Option Contents) (words : List (List ℕ)) (gds : Vec ℕ Global) (first second : ℕ)
-    (answer : Option Fault) → ToldLoadsWord told words 1 gds_limit (Ok gds)
+pub told_shapes : (contents : Option Contents) (words : List (List ℕ)) (gds : Vec ℕ Global) (first second : ℕ)
+    (answer : Option Fault) → ToldLoadsWord contents words 1 gds_limit (Ok gds)
     → Answers (showing_stages gds.items first second) answer
-    → ToldAnswers (shapes_stages first second) told words answer
+    → ToldAnswers (shapes_stages first second) contents words answer
 told_shapes None words gds first second answer loads answers = tt
 told_shapes (Some files) words gds first second answer loads answers =
     file_shapes files words gds.items first second answer loads.0 loads.1 answers
 
-pub whole_prints : (told : Option Contents) (words : List (List ℕ)) (gds : List ℕ) (first second : ℕ)
-    (before after : Output) (fault : Option Fault) → ToldLayout told words gds
+pub whole_prints : (contents : Option Contents) (words : List (List ℕ)) (gds : List ℕ) (first second : ℕ)
+    (before after : Output) (fault : Option Fault) → ToldLayout contents words gds
     → TextPrints (AreShapes gds first second) before after fault
-    → TextPrints (IsShownOf told words first second) before after fault
-whole_prints told words gds first second before after fault held prints =
-    prints_more (AreShapes gds first second) (IsShownOf told words first second) before after fault
+    → TextPrints (IsShownOf contents words first second) before after fault
+whole_prints contents words gds first second before after fault held prints =
+    prints_more (AreShapes gds first second) (IsShownOf contents words first second) before after fault
     (λ text shapes. record { gds = gds; held = held; shapes = shapes }) prints
 
-pub heard_shapes : (heard heard' : List Event) (words : List (List ℕ)) (gds : List ℕ) (first second : ℕ)
-    (before after : Output) (result : Result (Unit {0}) Fault) → heard' ≡ Loaded (word_at words 1) gds ∷ heard
+pub history_shapes : (history history' : List Event) (words : List (List ℕ)) (gds : List ℕ) (first second : ℕ)
+    (before after : Output) (result : Result (Unit {0}) Fault) → history' ≡ Loaded (word_at words 1) gds ∷ history
     → TextPrints (AreShapes gds first second) before after (result_err result)
-    → OnOk result (HearsShapes heard heard' words first second before after)
-heard_shapes heard heard' words gds first second before after (Ok x) is prints = record {
+    → OnOk result (HearsShapes history history' words first second before after)
+history_shapes history history' words gds first second before after (Ok x) is prints = record {
   gds = gds;
-  heard_is = is;
+  history_is = is;
   text = prints.text;
   shapes = prints.means;
   printed = prints.printed;
 }
-heard_shapes heard heard' words gds first second before after (Err fault) is prints = tt
+history_shapes history history' words gds first second before after (Err fault) is prints = tt
 
 pub showing_only : (result : Result (Unit {0}) Fault) → IfErr result IsShowingFault → IfErr result IsShapesFault
 showing_only (Ok x) only = tt

@@ -19,7 +19,7 @@ pub stands_then : (o now o' : Outside) → standing now ≡ standing o → stand
 stands_then o now o' first second = second ∙ first
 
 -- what is told, and what is open
-pub stands_told : (o o' : Outside) → standing o' ≡ standing o → o'.told ≡ o.told
+pub stands_told : (o o' : Outside) → standing o' ≡ standing o → o'.contents ≡ o.contents
 unfolding standing
 stands_told o o' same = ap (λ (p : Option Contents × Option (List ℕ)). p.0) same
 
@@ -33,7 +33,7 @@ stands_shut o o' shut same = stands_opened o o' same ∙ shut
 
 -- a load after calls that leave the files
 pub kept_loads : (o now : Outside) (words : List (List ℕ)) (place limit : ℕ) (result : Result (Vec ℕ Global) Fault)
-    → standing now ≡ standing o → ToldLoadsWord now.told words place limit result
-    → ToldLoadsWord o.told words place limit result
+    → standing now ≡ standing o → ToldLoadsWord now.contents words place limit result
+    → ToldLoadsWord o.contents words place limit result
 kept_loads o now words place limit result kept loads =
     subst (λ t. ToldLoadsWord t words place limit result) (stands_told o now kept) loads

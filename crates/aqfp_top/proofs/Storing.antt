@@ -2,16 +2,16 @@
 use Rattle.std.proofs.Common.{ℕ, ◌≡◌, ◌≤◌, List, [], ◌∷◌, ◌++◌, length, take, Option, None, Result, Ok, Err, IfErr}
 use Rattle.std.proofs.Common.{OnOk, IsSome}
 use Rattle.std.proofs.Common.{refl, sym, ap, subst, inl, inr, ◌∙◌}
-use Rattle.aq_base.specs.Store.{Contents, told_with, StoresPrefix}
+use Rattle.aq_base.specs.Store.{Contents, contents_with, StoresPrefix}
 use Rattle.aq_base.specs.declared.store.StoreRefusal.{StoreRefusal}
 use Rattle.aq_base.specs.declared.store.StoreRefusal.TheVariants as store
-use Rattle.aq_base.specs.Heard.{Event, Created, NotCreated, NotAppended, close_event, took}
+use Rattle.aq_base.specs.History.{Event, Created, NotCreated, NotAppended, close_event, took}
 use Rattle.aq_base.specs.Outside.{Outside, after_create, after_close, grown, Stops, StopsWithin}
 use Rattle.aq_base.proofs.Stored.{stored_whole}
 use Rattle.aqfp_top.specs.Histories.{stored}
-use Rattle.aqfp_top.specs.HeardDue.{TakesFirst}
+use Rattle.aqfp_top.specs.DueHistories.{TakesFirst}
 use Rattle.aqfp_top.specs.Code.Building.{StandsStored, IsStoreFault}
-use Rattle.aqfp_top.specs.Code.Hearing.{HeardStored}
+use Rattle.aqfp_top.specs.Code.Hearing.{StoredHistory}
 use Rattle.aqfp_top.specs.Code.Storing.{made, unmade, IsUnmade, Writes, Closes, Stores, end_of}
 use Rattle.aqfp_top.specs.declared.fault.WriteCall.TheVariants.{Create}
 use Rattle.aqfp_top.specs.declared.fault.Fault.{Fault}
@@ -19,9 +19,9 @@ use Rattle.aqfp_top.specs.declared.fault.Fault.TheVariants.{WriteFault, Memory}
 use Rattle.std.proofs.Math.Seq.{take-length}
 
 -- the whole file is some first bytes of it
-pub whole_prefix : (told after : Option Contents) (name bytes : List ℕ) → after ≡ told_with told name bytes
-    → StoresPrefix told after name bytes
-whole_prefix told after name bytes is = record { count = length bytes; stored = rw take-length is }
+pub whole_prefix : (contents after : Option Contents) (name bytes : List ℕ) → after ≡ contents_with contents name bytes
+    → StoresPrefix contents after name bytes
+whole_prefix contents after name bytes is = record { count = length bytes; stored = rw take-length is }
 
 -- ---- the calls
 
@@ -45,10 +45,10 @@ pub made_open : (name : List ℕ) (o o' : Outside) → o' ≡ made name o → Is
 made_open name o o' is = subst (λ (x : Outside). IsSome x.opened) (sym is) refl
 
 -- what is told does not change where no more is taken, nor what is open
-stops_told : (why : StoreRefusal) (o o' : Outside) → Stops why o o' → o'.told ≡ o.told
-stops_told store.Failed o o' s = ap (λ (x : Outside). x.told) s
-stops_told store.Memory o o' (inl s) = ap (λ (x : Outside). x.told) s
-stops_told store.Memory o o' (inr s) = ap (λ (x : Outside). x.told) s
+stops_told : (why : StoreRefusal) (o o' : Outside) → Stops why o o' → o'.contents ≡ o.contents
+stops_told store.Failed o o' s = ap (λ (x : Outside). x.contents) s
+stops_told store.Memory o o' (inl s) = ap (λ (x : Outside). x.contents) s
+stops_told store.Memory o o' (inr s) = ap (λ (x : Outside). x.contents) s
 
 stops_opened : (why : StoreRefusal) (o o' : Outside) → Stops why o o' → o'.opened ≡ o.opened
 stops_opened store.Failed o o' s = ap (λ (x : Outside). x.opened) s
@@ -85,122 +85,126 @@ pub ruleset stores = (made_open, writes_open)
 -- ---- what stands
 
 whole_told : (name bytes : List ℕ) (o now : Outside) → now ≡ grown bytes (made name o)
-    → now.told ≡ told_with o.told name bytes
-whole_told name bytes o now grows = stored_whole o.told name bytes refl refl (ap (λ (x : Outside). x.told) grows)
+    → now.contents ≡ contents_with o.contents name bytes
+whole_told name bytes o now grows = stored_whole o.contents name bytes refl refl (ap (λ
+    (x : Outside). x.contents) grows)
 
 part_told : (name bytes : List ℕ) (o now : Outside) (why : StoreRefusal) → StopsWithin (made name o) now bytes why
-    → StoresPrefix o.told now.told name bytes
+    → StoresPrefix o.contents now.contents name bytes
 part_told name bytes o now why part = record {
   count = part.count;
-  stored = stored_whole o.told name (take part.count bytes) refl refl
+  stored = stored_whole o.contents name (take part.count bytes) refl refl
       (stops_told why (grown (take part.count bytes) (made name o)) now part.stops);
 }
 
 ended_stands : (name bytes : List ℕ) (o now : Outside) (written closed : Result (Unit {0}) StoreRefusal)
-    → Writes bytes (made name o) now written → StandsStored o.told now.told name bytes (end_of written closed)
+    → Writes bytes (made name o) now written → StandsStored o.contents now.contents name bytes (end_of written closed)
 ended_stands name bytes o now (Ok _) (Ok _) grows = whole_told name bytes o now grows
 ended_stands name bytes o now (Ok _) (Err store.Failed) grows = whole_told name bytes o now grows
 ended_stands name bytes o now (Ok _) (Err store.Memory) grows =
-    inr (whole_prefix o.told now.told name bytes (whole_told name bytes o now grows))
+    inr (whole_prefix o.contents now.contents name bytes (whole_told name bytes o now grows))
 ended_stands name bytes o now (Err store.Failed) closed part = part_told name bytes o now store.Failed part
 ended_stands name bytes o now (Err store.Memory) closed part = inr (part_told name bytes o now store.Memory part)
 
-unmade_stands : (name bytes : List ℕ) (o : Outside) (told : _) (why : StoreRefusal) → told ≡ o.told
-    → StandsStored o.told told name bytes (Err (unmade why))
-unmade_stands name bytes o told store.Failed same = same
-unmade_stands name bytes o told store.Memory same = inl same
+unmade_stands : (name bytes : List ℕ) (o : Outside) (contents : _) (why : StoreRefusal) → contents ≡ o.contents
+    → StandsStored o.contents contents name bytes (Err (unmade why))
+unmade_stands name bytes o contents store.Failed same = same
+unmade_stands name bytes o contents store.Memory same = inl same
 
 pub stores_stands : (name bytes : List ℕ) (o o' : Outside) (result : Result (Unit {0}) Fault)
-    → Stores name bytes o o' result → StandsStored o.told o'.told name bytes result
+    → Stores name bytes o o' result → StandsStored o.contents o'.contents name bytes result
 unfolding Stores
 stores_stands name bytes o o' result (inl u) =
-    subst (StandsStored o.told o'.told name bytes) (sym u.ends)
-    (unmade_stands name bytes o o'.told u.why (ap (λ (x : Outside). x.told) u.refused))
+    subst (StandsStored o.contents o'.contents name bytes) (sym u.ends)
+    (unmade_stands name bytes o o'.contents u.why (ap (λ (x : Outside). x.contents) u.refused))
 stores_stands name bytes o o' result (inr s) =
     let c = s.closes in
-    subst (StandsStored o.told o'.told name bytes) (sym c.ends)
-    (subst (λ t. StandsStored o.told t name bytes (end_of s.written c.answer))
-    (sym (ap (λ (x : Outside). x.told) c.closed))
+    subst (StandsStored o.contents o'.contents name bytes) (sym c.ends)
+    (subst (λ t. StandsStored o.contents t name bytes (end_of s.written c.answer))
+    (sym (ap (λ (x : Outside). x.contents) c.closed))
     (ended_stands name bytes o s.now s.written c.answer s.writes))
 
 -- ---- what was heard
 
 -- of all bytes, and then
-whole_heard : (name bytes : List ℕ) (o now : Outside) (heard' : List Event) (event : Event)
-    → now ≡ grown bytes (made name o) → heard' ≡ event ∷ now.heard
-    → heard' ≡ event ∷ took bytes (Created name ∷ o.heard)
-whole_heard name bytes o now heard' event grows is = is ∙ ap (λ (x : Outside). event ∷ x.heard) grows
+whole_history : (name bytes : List ℕ) (o now : Outside) (history' : List Event) (event : Event)
+    → now ≡ grown bytes (made name o) → history' ≡ event ∷ now.history
+    → history' ≡ event ∷ took bytes (Created name ∷ o.history)
+whole_history name bytes o now history' event grows is = is ∙ ap (λ (x : Outside). event ∷ x.history) grows
 
 -- and of a part
-first_heard : (then_heard : List Event) (name bytes : List ℕ) (o now : Outside) (heard' : List Event) (count : ℕ)
+first_history : (then_history : List Event) (name bytes : List ℕ) (o now : Outside) (history' : List Event) (count : ℕ)
     (closed : Result (Unit {0}) StoreRefusal) → count ≤ length bytes
-    → now.heard ≡ then_heard ++ took (take count bytes) (Created name ∷ o.heard)
-    → heard' ≡ close_event closed ∷ now.heard → TakesFirst then_heard o.heard heard' name bytes
-first_heard then_heard name bytes o now heard' count closed within ends is = record {
+    → now.history ≡ then_history ++ took (take count bytes) (Created name ∷ o.history)
+    → history' ≡ close_event closed ∷ now.history → TakesFirst then_history o.history history' name bytes
+first_history then_history name bytes o now history' count closed within ends is = record {
   count = count;
   within = within;
   closing = closed;
-  heard_is = is ∙ ap (λ h. close_event closed ∷ h) ends;
+  history_is = is ∙ ap (λ h. close_event closed ∷ h) ends;
 }
 
-ended_heard : (name bytes : List ℕ) (o now : Outside) (heard' : List Event)
+ended_history : (name bytes : List ℕ) (o now : Outside) (history' : List Event)
     (written closed : Result (Unit {0}) StoreRefusal) → Writes bytes (made name o) now written
-    → heard' ≡ close_event closed ∷ now.heard → OnOk (end_of written closed) (heard' ≡ stored o.heard name bytes)
-ended_heard name bytes o now heard' (Ok _) (Ok _) grows is = whole_heard name bytes o now heard' _ grows is
-ended_heard name bytes o now heard' (Ok _) (Err store.Failed) grows is = tt
-ended_heard name bytes o now heard' (Ok _) (Err store.Memory) grows is = tt
-ended_heard name bytes o now heard' (Err store.Failed) closed part is = tt
-ended_heard name bytes o now heard' (Err store.Memory) closed part is = tt
+    → history' ≡ close_event closed ∷ now.history → OnOk (end_of written closed)
+    (history' ≡ stored o.history name bytes)
+ended_history name bytes o now history' (Ok _) (Ok _) grows is = whole_history name bytes o now history' _ grows is
+ended_history name bytes o now history' (Ok _) (Err store.Failed) grows is = tt
+ended_history name bytes o now history' (Ok _) (Err store.Memory) grows is = tt
+ended_history name bytes o now history' (Err store.Failed) closed part is = tt
+ended_history name bytes o now history' (Err store.Memory) closed part is = tt
 
-memory_heard : (name bytes : List ℕ) (o now : Outside) (heard' : List Event) (count : ℕ)
+memory_history : (name bytes : List ℕ) (o now : Outside) (history' : List Event) (count : ℕ)
     (closed : Result (Unit {0}) StoreRefusal) → count ≤ length bytes
-    → Stops store.Memory (grown (take count bytes) (made name o)) now → heard' ≡ close_event closed ∷ now.heard
-    → HeardStored o.heard heard' name bytes Memory
-memory_heard name bytes o now heard' count closed within (inl s) is =
-    inr (inl (first_heard [] name bytes o now heard' count closed within (ap (λ (x : Outside). x.heard) s) is))
-memory_heard name bytes o now heard' count closed within (inr s) is =
-    inr (inr (inl (first_heard (NotAppended store.Memory ∷ []) name bytes o now heard' count closed within
-    (ap (λ (x : Outside). x.heard) s) is)))
+    → Stops store.Memory (grown (take count bytes) (made name o)) now → history' ≡ close_event closed ∷ now.history
+    → StoredHistory o.history history' name bytes Memory
+memory_history name bytes o now history' count closed within (inl s) is =
+    inr (inl (first_history [] name bytes o now history' count closed within (ap (λ (x : Outside). x.history) s) is))
+memory_history name bytes o now history' count closed within (inr s) is =
+    inr (inr (inl (first_history (NotAppended store.Memory ∷ []) name bytes o now history' count closed within
+    (ap (λ (x : Outside). x.history) s) is)))
 
-ended_refused : (name bytes : List ℕ) (o now : Outside) (heard' : List Event)
+ended_refused : (name bytes : List ℕ) (o now : Outside) (history' : List Event)
     (written closed : Result (Unit {0}) StoreRefusal) → Writes bytes (made name o) now written
-    → heard' ≡ close_event closed ∷ now.heard → IfErr (end_of written closed) (HeardStored o.heard heard' name bytes)
-ended_refused name bytes o now heard' (Ok _) (Ok _) grows is = tt
-ended_refused name bytes o now heard' (Ok _) (Err store.Failed) grows is =
-    whole_heard name bytes o now heard' _ grows is
-ended_refused name bytes o now heard' (Ok _) (Err store.Memory) grows is =
-    inr (inr (inr (whole_heard name bytes o now heard' _ grows is)))
-ended_refused name bytes o now heard' (Err store.Failed) closed part is =
-    first_heard (NotAppended store.Failed ∷ []) name bytes o now heard' part.count closed part.within
-    (ap (λ (x : Outside). x.heard) part.stops) is
-ended_refused name bytes o now heard' (Err store.Memory) closed part is =
-    memory_heard name bytes o now heard' part.count closed part.within part.stops is
+    → history' ≡ close_event closed ∷ now.history → IfErr (end_of written closed)
+    (StoredHistory o.history history' name bytes)
+ended_refused name bytes o now history' (Ok _) (Ok _) grows is = tt
+ended_refused name bytes o now history' (Ok _) (Err store.Failed) grows is =
+    whole_history name bytes o now history' _ grows is
+ended_refused name bytes o now history' (Ok _) (Err store.Memory) grows is =
+    inr (inr (inr (whole_history name bytes o now history' _ grows is)))
+ended_refused name bytes o now history' (Err store.Failed) closed part is =
+    first_history (NotAppended store.Failed ∷ []) name bytes o now history' part.count closed part.within
+    (ap (λ (x : Outside). x.history) part.stops) is
+ended_refused name bytes o now history' (Err store.Memory) closed part is =
+    memory_history name bytes o now history' part.count closed part.within part.stops is
 
-unmade_refused : (name bytes : List ℕ) (heard heard' : List Event) (why : StoreRefusal)
-    → heard' ≡ NotCreated name why ∷ heard
-    → IfErr {T = Unit {0}} (Err (unmade why)) (HeardStored heard heard' name bytes)
-unmade_refused name bytes heard heard' store.Failed is = is
-unmade_refused name bytes heard heard' store.Memory is = inl is
+unmade_refused : (name bytes : List ℕ) (history history' : List Event) (why : StoreRefusal)
+    → history' ≡ NotCreated name why ∷ history
+    → IfErr {T = Unit {0}} (Err (unmade why)) (StoredHistory history history' name bytes)
+unmade_refused name bytes history history' store.Failed is = is
+unmade_refused name bytes history history' store.Memory is = inl is
 
-pub stores_heard : (name bytes : List ℕ) (o o' : Outside) (result : Result (Unit {0}) Fault)
-    → Stores name bytes o o' result → OnOk result (o'.heard ≡ stored o.heard name bytes)
+pub stores_history : (name bytes : List ℕ) (o o' : Outside) (result : Result (Unit {0}) Fault)
+    → Stores name bytes o o' result → OnOk result (o'.history ≡ stored o.history name bytes)
 unfolding Stores
-stores_heard name bytes o o' result (inl u) = subst (λ r. OnOk r (o'.heard ≡ stored o.heard name bytes)) (sym u.ends) tt
-stores_heard name bytes o o' result (inr s) =
+stores_history name bytes o o' result (inl u) = subst (λ r. OnOk r (o'.history ≡ stored o.history name bytes))
+    (sym u.ends) tt
+stores_history name bytes o o' result (inr s) =
     let c = s.closes in
-    subst (λ r. OnOk r (o'.heard ≡ stored o.heard name bytes)) (sym c.ends)
-    (ended_heard name bytes o s.now o'.heard s.written c.answer s.writes (ap (λ (x : Outside). x.heard) c.closed))
+    subst (λ r. OnOk r (o'.history ≡ stored o.history name bytes)) (sym c.ends)
+    (ended_history name bytes o s.now o'.history s.written c.answer s.writes (ap (λ (x : Outside). x.history) c.closed))
 
 pub stores_refused : (name bytes : List ℕ) (o o' : Outside) (result : Result (Unit {0}) Fault)
-    → Stores name bytes o o' result → IfErr result (HeardStored o.heard o'.heard name bytes)
+    → Stores name bytes o o' result → IfErr result (StoredHistory o.history o'.history name bytes)
 unfolding Stores
 stores_refused name bytes o o' result (inl u) =
-    subst (λ r. IfErr r (HeardStored o.heard o'.heard name bytes)) (sym u.ends)
-    (unmade_refused name bytes o.heard o'.heard u.why (ap (λ (x : Outside). x.heard) u.refused))
+    subst (λ r. IfErr r (StoredHistory o.history o'.history name bytes)) (sym u.ends)
+    (unmade_refused name bytes o.history o'.history u.why (ap (λ (x : Outside). x.history) u.refused))
 stores_refused name bytes o o' result (inr s) =
     let c = s.closes in
-    subst (λ r. IfErr r (HeardStored o.heard o'.heard name bytes)) (sym c.ends)
-    (ended_refused name bytes o s.now o'.heard s.written c.answer s.writes (ap (λ (x : Outside). x.heard) c.closed))
+    subst (λ r. IfErr r (StoredHistory o.history o'.history name bytes)) (sym c.ends)
+    (ended_refused name bytes o s.now o'.history s.written c.answer s.writes (ap (λ (x : Outside). x.history) c.closed))
 
 -- ---- how it ended, and that nothing is open
 

@@ -5,7 +5,7 @@ use Rattle.aq_base.specs.declared.store.StoreRefusal.TheVariants as store
 use Rattle.aq_base.specs.Output.{Output}
 use Rattle.aq_base.specs.Output as output
 use Rattle.aqfp_top.specs.Printed.{PrintsFirst}
-use Rattle.aq_base.specs.Store.{Contents, told_with, StoresPrefix}
+use Rattle.aq_base.specs.Store.{Contents, contents_with, StoresPrefix}
 use Rattle.blif_read.specs.Parts.{NetView}
 use Rattle.cell_library.specs.Library.{LibraryView}
 use Rattle.rowed.specs.PlacedNets.{PlacedView}
@@ -18,11 +18,11 @@ use Rattle.aqfp_top.specs.declared.fault.Fault.{Fault}
 use Rattle.aqfp_top.specs.declared.fault.Fault.TheVariants.{WriteFault, Memory}
 
 -- NET and LIB say a netlist and a library, with a chip by this plan of which this holds
-pub record IsBuilt (planner : Planner) (told : Option Contents) (words : List (List ℕ))
+pub record IsBuilt (planner : Planner) (contents : Option Contents) (words : List (List ℕ))
     (Holds : PlacedView → LibraryView → Type 0) : Type 0 where
   pub net : List ℕ
   pub lib : List ℕ
-  pub held : ToldTwo told words net lib
+  pub held : ToldTwo contents words net lib
   pub net_fits : length net ≤ net_limit
   pub lib_fits : length lib ≤ lib_limit
   pub equations : NetView
@@ -36,7 +36,7 @@ pub record IsBuilt (planner : Planner) (told : Option Contents) (words : List (L
 -- OUT holds the stream of the chip, and nothing else has changed
 abbrev pub StoresChip : Planner → Option Contents → Option Contents → List (List ℕ) → Type 0
 StoresChip planner before after words =
-    IsBuilt planner before words (λ chip cells. after ≡ told_with before (word_at words 3) (stream_of chip cells))
+    IsBuilt planner before words (λ chip cells. after ≡ contents_with before (word_at words 3) (stream_of chip cells))
 
 -- OUT holds some first bytes of that stream, and nothing else has changed
 abbrev pub StoresSome : Planner → Option Contents → Option Contents → List (List ℕ) → Type 0
@@ -55,22 +55,22 @@ BuildStands planner before after words (Some _) = after ≡ before
 
 -- `out` took some first bytes of the counts line of the chip, and then printing ended for this reason
 abbrev pub PrintsSome : StoreRefusal → Planner → Option Contents → List (List ℕ) → Output → Output → Type 0
-PrintsSome why planner told words before after =
-    IsBuilt planner told words (λ chip cells. PrintsFirst why before after (counts_of chip))
+PrintsSome why planner contents words before after =
+    IsBuilt planner contents words (λ chip cells. PrintsFirst why before after (counts_of chip))
 
 -- what `out` gains: the counts line of the chip, or some first bytes of it where the fault is its own or want of memory
 abbrev pub BuildPrints : Planner → Option Contents → List (List ℕ) → Output → Output → Option Fault
     → Type 0
-BuildPrints planner told words before after None =
-    IsBuilt planner told words (λ chip cells. after ≡ output.printed (counts_of chip) before)
-BuildPrints planner told words before after (Some (WriteFault Out)) =
-    PrintsSome store.Failed planner told words before after
-BuildPrints planner told words before after (Some Memory) =
-    (after ≡ before) ⊎ PrintsSome store.Memory planner told words before after
-BuildPrints planner told words before after (Some _) = after ≡ before
+BuildPrints planner contents words before after None =
+    IsBuilt planner contents words (λ chip cells. after ≡ output.printed (counts_of chip) before)
+BuildPrints planner contents words before after (Some (WriteFault Out)) =
+    PrintsSome store.Failed planner contents words before after
+BuildPrints planner contents words before after (Some Memory) =
+    (after ≡ before) ⊎ PrintsSome store.Memory planner contents words before after
+BuildPrints planner contents words before after (Some _) = after ≡ before
 
 -- what was done where it ends well, all of one chip and one library
 pub record IsDone (before after : Option Contents) (words : List (List ℕ))
     (out out' : Output) (chip : PlacedView) (cells : LibraryView) : Type 0 where
-  pub stored : after ≡ told_with before (word_at words 3) (stream_of chip cells)
+  pub stored : after ≡ contents_with before (word_at words 3) (stream_of chip cells)
   pub printed : out' ≡ output.printed (counts_of chip) out

@@ -97,13 +97,13 @@ text_of Answers circuit words = answers_text circuit (answers_to circuit words)
 text_of Fluxes circuit words = trace_text circuit words
 
 -- the text of a sound chip and its words was printed so far
-pub record IsPrintedOf (printing : Printing) (told : Option Contents) (words : List (List ℕ))
+pub record IsPrintedOf (printing : Printing) (contents : Option Contents) (words : List (List ℕ))
     (Printed : List ℕ → Type 0) : Type 0 where
   pub gds : List ℕ
   pub lib : List ℕ
   pub text : List ℕ
   pub circuit : CircuitView
-  pub held : ToldTexts told words gds lib text
+  pub held : ToldTexts contents words gds lib text
   pub sound : IsSound gds lib text circuit
   pub keeps : KeepsFacts circuit
   pub wide : All (λ word. length word ≡ circuit.inputs) (words_of text)
@@ -111,10 +111,10 @@ pub record IsPrintedOf (printing : Printing) (told : Option Contents) (words : L
 
 -- what `out` gains: the whole text, or some first bytes of it where the fault is its own or want of memory
 abbrev pub CheckPrints : Printing → Option Contents → List (List ℕ) → Output → Output → Option Fault → Type 0
-CheckPrints printing told words before after None = IsPrintedOf printing told words
+CheckPrints printing contents words before after None = IsPrintedOf printing contents words
     (λ text. after ≡ output.printed text before)
-CheckPrints printing told words before after (Some (WriteFault call)) =
-    IsPrintedOf printing told words (PrintsFirst store.Failed before after)
-CheckPrints printing told words before after (Some Memory) =
-    (after ≡ before) ⊎ IsPrintedOf printing told words (PrintsFirst store.Memory before after)
-CheckPrints printing told words before after (Some fault) = after ≡ before
+CheckPrints printing contents words before after (Some (WriteFault call)) =
+    IsPrintedOf printing contents words (PrintsFirst store.Failed before after)
+CheckPrints printing contents words before after (Some Memory) =
+    (after ≡ before) ⊎ IsPrintedOf printing contents words (PrintsFirst store.Memory before after)
+CheckPrints printing contents words before after (Some fault) = after ≡ before

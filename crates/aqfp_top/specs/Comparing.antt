@@ -119,20 +119,20 @@ pub record HasVerdict (gds lib net : List ℕ) (verdict : Verdict) : Type 0 wher
   pub holds : IsTrueOf circuit view verdict
 
 -- the line of a true verdict was printed so far
-pub record IsToldOf (told : Option Contents) (words : List (List ℕ)) (Printed : List ℕ → Type 0) : Type 0 where
+pub record IsToldOf (contents : Option Contents) (words : List (List ℕ)) (Printed : List ℕ → Type 0) : Type 0 where
   pub gds : List ℕ
   pub lib : List ℕ
   pub net : List ℕ
-  pub held : ToldTexts told words gds lib net
+  pub held : ToldTexts contents words gds lib net
   pub verdict : Verdict
   pub found : HasVerdict gds lib net verdict
   pub printed : Printed (verdict_text verdict)
 
 -- what `out` gains: the whole line, or some first bytes of it where the fault is its own or want of memory
 abbrev pub EqualPrints : Option Contents → List (List ℕ) → Output → Output → Option Fault → Type 0
-EqualPrints told words before after None = IsToldOf told words (λ text. after ≡ output.printed text before)
-EqualPrints told words before after (Some (WriteFault call)) = IsToldOf told words
+EqualPrints contents words before after None = IsToldOf contents words (λ text. after ≡ output.printed text before)
+EqualPrints contents words before after (Some (WriteFault call)) = IsToldOf contents words
     (PrintsFirst store.Failed before after)
-EqualPrints told words before after (Some Memory) = (after ≡ before)
-    ⊎ IsToldOf told words (PrintsFirst store.Memory before after)
-EqualPrints told words before after (Some fault) = after ≡ before
+EqualPrints contents words before after (Some Memory) = (after ≡ before)
+    ⊎ IsToldOf contents words (PrintsFirst store.Memory before after)
+EqualPrints contents words before after (Some fault) = after ≡ before

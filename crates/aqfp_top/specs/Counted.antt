@@ -1,6 +1,6 @@
 -- The counts of faults of the store and of `out` that an ending shows, by what was heard of the two.
 use Rattle.std.specs.Prelude.{ℕ, ◌≡◌, ◌<◌, List, Option, Some}
-use Rattle.aq_base.specs.Heard.{Event}
+use Rattle.aq_base.specs.History.{Event}
 use Rattle.aq_base.specs.FaultCounts.{read_faults, write_faults, close_faults}
 use Rattle.aqfp_top.specs.Words.{word_at}
 use Rattle.aqfp_top.specs.declared.fault.WriteCall.TheVariants.{Create, Append, Close, Out}
@@ -16,10 +16,10 @@ pub record Counts : Type 0 where
 
 -- how often the store and `out` were heard to fail
 abbrev pub counts_of : List Event → List Event → Counts
-counts_of heard shown = record {
-  reads = read_faults heard;
-  writes = write_faults heard;
-  closes = close_faults heard;
+counts_of history shown = record {
+  reads = read_faults history;
+  writes = write_faults history;
+  closes = close_faults history;
   outs = write_faults shown;
 }
 

@@ -3,7 +3,7 @@ use Rattle.std.specs.Prelude.{ℕ, ◌≡◌, List, Option, Some}
 use Rattle.aq_base.specs.Output.{Output}
 use Rattle.aq_base.specs.Output as output
 use Rattle.aq_base.specs.Store.{Contents}
-use Rattle.aq_base.specs.Heard.{Event}
+use Rattle.aq_base.specs.History.{Event}
 use Rattle.poly_cut.specs.FlatForm.{wide_flat}
 use Rattle.circuit_extracted.specs.Circuits.{CircuitView}
 use Rattle.text_report.specs.ReportText.{report_text}
@@ -19,10 +19,10 @@ pub record IsReport (gds lib text : List ℕ) : Type 0 where
   pub text_is : text ≡ report_text (wide_flat makes.layout) circuit makes.library.view.limit
 
 -- the text is the report of the chip under GDS with the library under LIB, where the store is told
-pub record IsReportOf (told : Option Contents) (words : List (List ℕ)) (text : List ℕ) : Type 0 where
+pub record IsReportOf (contents : Option Contents) (words : List (List ℕ)) (text : List ℕ) : Type 0 where
   pub gds : List ℕ
   pub lib : List ℕ
-  pub held : ToldTwo told words gds lib
+  pub held : ToldTwo contents words gds lib
   pub report : IsReport gds lib text
 
 -- what a `report` that ends well has printed: the report of the chip of the bytes under GDS and LIB
@@ -36,11 +36,11 @@ pub record ReportsChip (held : Contents) (words : List (List ℕ)) (before after
   pub printed : after ≡ output.printed text before
 
 -- what any store hears of it: GDS and LIB gave these bytes, and nothing else was asked or given
-pub record HearsReport (heard heard' : List Event) (words : List (List ℕ)) (before after : Output)
+pub record HearsReport (history history' : List Event) (words : List (List ℕ)) (before after : Output)
     : Type 0 where
   pub gds : List ℕ
   pub lib : List ℕ
-  pub heard_is : heard' ≡ loaded heard words gds lib
+  pub history_is : history' ≡ loaded history words gds lib
   pub text : List ℕ
   pub report : IsReport gds lib text
   pub printed : after ≡ output.printed text before

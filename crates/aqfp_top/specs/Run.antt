@@ -24,15 +24,15 @@ pub record RunStands (before after : Option Contents) (words : List (List ℕ)) 
   pub otherwise : ¬ IsMake words → ¬ IsWrite words → after ≡ before
 
 -- what `out` gains, by the command; nothing where there is none
-pub record RunPrints (told : Option Contents) (words : List (List ℕ)) (before after : Output)
+pub record RunPrints (contents : Option Contents) (words : List (List ℕ)) (before after : Output)
     (fault : Option Fault) : Type 0 where
-  pub make : (planner : Planner) → IsMakeBy planner words → BuildPrints planner told words before after fault
-  pub verify : IsVerify words → CheckPrints Answers told words before after fault
-  pub trace : IsTrace words → CheckPrints Fluxes told words before after fault
-  pub equal : IsEqual words → EqualPrints told words before after fault
-  pub write : IsWrite words → WritePrints told words before after fault
-  pub report : IsReport words → TextPrints (IsReportOf told words) before after fault
+  pub make : (planner : Planner) → IsMakeBy planner words → BuildPrints planner contents words before after fault
+  pub verify : IsVerify words → CheckPrints Answers contents words before after fault
+  pub trace : IsTrace words → CheckPrints Fluxes contents words before after fault
+  pub equal : IsEqual words → EqualPrints contents words before after fault
+  pub write : IsWrite words → WritePrints contents words before after fault
+  pub report : IsReport words → TextPrints (IsReportOf contents words) before after fault
   pub shapes : (first second : ℕ) → IsShapesOf words first second
-      → TextPrints (IsShownOf told words first second) before after fault
+      → TextPrints (IsShownOf contents words first second) before after fault
   pub sample : (bits : ℕ) → IsSampleOf words bits → SamplePrints bits before after fault
   pub otherwise : ¬ HasForm words → after ≡ before

@@ -3,7 +3,7 @@ use Rattle.std.specs.Prelude.{ℕ, ◌≡◌, ◌<◌, ◌≤◌, ◌⊎◌, Lis
 use Rattle.aq_base.specs.Output.{Output}
 use Rattle.aq_base.specs.Output as output
 use Rattle.aq_base.specs.Store.{Contents}
-use Rattle.aq_base.specs.Heard.{Event, Loaded}
+use Rattle.aq_base.specs.History.{Event, Loaded}
 use Rattle.geom.specs.declared.shapes.Flat.{Flat}
 use Rattle.geom.specs.FlatForm.{flat_count}
 use Rattle.poly_cut.specs.declared.layout.WideLayout.{WideLayout}
@@ -49,10 +49,10 @@ ToldLayout (Some files) words gds = files (word_at words 1) ≡ Some gds
 ToldLayout None words gds = Unit {0}
 
 -- the text has the lines of the shapes or labels of the layout under GDS, where the store is told
-pub record IsShownOf (told : Option Contents) (words : List (List ℕ)) (first second : ℕ) (text : List ℕ)
+pub record IsShownOf (contents : Option Contents) (words : List (List ℕ)) (first second : ℕ) (text : List ℕ)
     : Type 0 where
   pub gds : List ℕ
-  pub held : ToldLayout told words gds
+  pub held : ToldLayout contents words gds
   pub shapes : AreShapes gds first second text
 
 -- what a `shapes` that ends well has printed: the two lines, of the bytes under GDS
@@ -65,10 +65,10 @@ pub record ShowsShapes (held : Contents) (words : List (List ℕ)) (first second
   pub printed : after ≡ output.printed text before
 
 -- what any store hears of it: GDS gave these bytes, and nothing else was asked or given
-pub record HearsShapes (heard heard' : List Event) (words : List (List ℕ)) (first second : ℕ)
+pub record HearsShapes (history history' : List Event) (words : List (List ℕ)) (first second : ℕ)
     (before after : Output) : Type 0 where
   pub gds : List ℕ
-  pub heard_is : heard' ≡ Loaded (word_at words 1) gds ∷ heard
+  pub history_is : history' ≡ Loaded (word_at words 1) gds ∷ history
   pub text : List ℕ
   pub shapes : AreShapes gds first second text
   pub printed : after ≡ output.printed text before

@@ -7,8 +7,8 @@ ghost use Rattle.aqfp_top.specs.Stages.{IsFirst, Answers};
 ghost use Rattle.aqfp_top.specs.Loads.{check_loads};
 ghost use Rattle.aqfp_top.specs.Due.{check_stages, circuit_stages, judging_stages};
 ghost use Rattle.aqfp_top.specs.Faults.{IsCheckFault};
-ghost use Rattle.aqfp_top.specs.Histories.{HeardChecked};
-ghost use Rattle.aqfp_top.specs.HeardDue.{DueOfThree};
+ghost use Rattle.aqfp_top.specs.Histories.{CheckedHistory};
+ghost use Rattle.aqfp_top.specs.DueHistories.{DueOfThree};
 ghost use Rattle.aqfp_top.specs.Checks.{MakesCircuit, CheckPrints, text_of};
 ghost use Rattle.aqfp_top.specs.Code.Staging.{ToldAnswers};
 ghost use Rattle.aqfp_top.specs.Code.Printing.{PrintsText, OutFails};
@@ -81,15 +81,15 @@ pub fn check<F: Files, O: Sink>(
     out: &mut O,
 ) -> Result<(), Fault>
     requires { length words.now ≡ 4 }
-    ensures answer { ToldAnswers check_stages (F.outside files.old).told (spelled words.now) (result_err result) }
-    ensures prints { CheckPrints printing (F.outside files.old).told (spelled words.now) (O.output out.old)
+    ensures answer { ToldAnswers check_stages (F.outside files.old).contents (spelled words.now) (result_err result) }
+    ensures prints { CheckPrints printing (F.outside files.old).contents (spelled words.now) (O.output out.old)
         (O.output out.new) (result_err result) }
-    ensures fails { OutFails (O.output out.old).heard (O.output out.new).heard (result_err result) }
-    ensures heard { OnOk result
-        (HeardChecked printing (F.outside files.old).heard (F.outside files.new).heard (spelled words.now)
+    ensures fails { OutFails (O.output out.old).history (O.output out.new).history (result_err result) }
+    ensures history { OnOk result
+        (CheckedHistory printing (F.outside files.old).history (F.outside files.new).history (spelled words.now)
         (O.output out.old) (O.output out.new)) }
-    ensures due { DueOfThree check_loads judging_stages (F.outside files.old).heard
-        (F.outside files.new).heard (spelled words.now)
+    ensures due { DueOfThree check_loads judging_stages (F.outside files.old).history
+        (F.outside files.new).history (spelled words.now)
         (result_err result) }
     ensures only { IfErr result IsCheckFault }
     ensures kept { standing (F.outside files.new) ≡ standing (F.outside files.old) }

@@ -6,7 +6,7 @@ ghost use Rattle.aqfp_top.specs.Words.{spelled};
 ghost use Rattle.aqfp_top.specs.Stages.{Answers};
 ghost use Rattle.aqfp_top.specs.Due.{circuit_stages, write_stages};
 ghost use Rattle.aqfp_top.specs.Faults.{IsReportFault};
-ghost use Rattle.aqfp_top.specs.HeardDue.{DueOfReading};
+ghost use Rattle.aqfp_top.specs.DueHistories.{DueOfReading};
 ghost use Rattle.aqfp_top.specs.Loads.{gds_limit, write_loads};
 ghost use Rattle.aqfp_top.specs.Printed.{TextPrints};
 ghost use Rattle.aqfp_top.specs.Reported.{IsReport, IsReportOf, HearsReport};
@@ -51,7 +51,7 @@ fn report_texts<O: Sink>(alloc: Global, gds: Vec<u8>, lib: &[u8], out: &mut O) -
     requires lib { length lib.now ≤ 2 ^ 28 }
     ensures answer { Answers (circuit_stages gds.items lib.now) (result_err result) }
     ensures prints { TextPrints (IsReport gds.items lib.now) (O.output out.old) (O.output out.new) (result_err result) }
-    ensures fails { OutFails (O.output out.old).heard (O.output out.new).heard (result_err result) }
+    ensures fails { OutFails (O.output out.old).history (O.output out.new).history (result_err result) }
     ensures only { IfErr result IsPrintingFault }
 {
     one_wide_reading();
@@ -71,14 +71,15 @@ pub fn report<F: Files, O: Sink>(
     out: &mut O,
 ) -> Result<(), Fault>
     requires { length words.now ≡ 3 }
-    ensures answer { ToldAnswers write_stages (F.outside files.old).told (spelled words.now) (result_err result) }
-    ensures prints { TextPrints (IsReportOf (F.outside files.old).told (spelled words.now)) (O.output out.old)
+    ensures answer { ToldAnswers write_stages (F.outside files.old).contents (spelled words.now) (result_err result) }
+    ensures prints { TextPrints (IsReportOf (F.outside files.old).contents (spelled words.now)) (O.output out.old)
         (O.output out.new) (result_err result) }
-    ensures fails { OutFails (O.output out.old).heard (O.output out.new).heard (result_err result) }
-    ensures due { DueOfReading write_loads gds_limit circuit_stages (F.outside files.old).heard
-        (F.outside files.new).heard
+    ensures fails { OutFails (O.output out.old).history (O.output out.new).history (result_err result) }
+    ensures due { DueOfReading write_loads gds_limit circuit_stages (F.outside files.old).history
+        (F.outside files.new).history
         (spelled words.now) (result_err result) }
-    ensures heard { OnOk result (HearsReport (F.outside files.old).heard (F.outside files.new).heard (spelled words.now)
+    ensures history { OnOk result (HearsReport (F.outside files.old).history (F.outside files.new).history
+        (spelled words.now)
         (O.output out.old) (O.output out.new)) }
     ensures only { IfErr result IsReportFault }
     ensures kept { standing (F.outside files.new) ≡ standing (F.outside files.old) }

@@ -12,10 +12,10 @@ ghost use Rattle.aqfp_top.specs.Faults.{RunsOnly};
 ghost use Rattle.aqfp_top.specs.Counted.{counts_of, HasFaults, FailedLoad};
 ghost use Rattle.aqfp_top.specs.Build.{IsBuilt, IsDone};
 ghost use Rattle.aqfp_top.specs.Chips.{BuildsChip};
-ghost use Rattle.aqfp_top.specs.Histories.{HeardBuilt, HearsChip, HeardWritten, HearsNetlist, HeardChecked};
-ghost use Rattle.aqfp_top.specs.Histories.{HearsAnswers, HearsFluxes, HeardCompared, HearsVerdict};
-ghost use Rattle.aqfp_top.specs.HeardSamples.{HearsSample};
-ghost use Rattle.aqfp_top.specs.HeardDue.{HearsDue};
+ghost use Rattle.aqfp_top.specs.Histories.{BuiltHistory, HearsChip, WrittenHistory, HearsNetlist, CheckedHistory};
+ghost use Rattle.aqfp_top.specs.Histories.{HearsAnswers, HearsFluxes, ComparedHistory, HearsVerdict};
+ghost use Rattle.aqfp_top.specs.SampleHistories.{HearsSample};
+ghost use Rattle.aqfp_top.specs.DueHistories.{HearsDue};
 ghost use Rattle.aqfp_top.specs.declared.planner.Planner.{Planner};
 ghost use Rattle.aqfp_top.specs.declared.check.Printing.{Printing};
 ghost use Rattle.aqfp_top.specs.Verified.{VerifiesChip, TracesChip};
@@ -63,43 +63,44 @@ fn work<F: Files, O: Sink>(
     out: &mut O,
 ) -> Result<(), Fault>
     requires { (F.outside files.old).opened ≡ None }
-    ensures answer { ToldMayAnswer (F.outside files.old).told (spelled words.now) (result_err result) }
+    ensures answer { ToldMayAnswer (F.outside files.old).contents (spelled words.now) (result_err result) }
     ensures usage { ¬ HasForm (spelled words.now) → result_err result ≡ Some Fault.Usage }
-    ensures stands { RunStands (F.outside files.old).told (F.outside files.new).told
+    ensures stands { RunStands (F.outside files.old).contents (F.outside files.new).contents
         (spelled words.now) (result_err result) }
-    ensures prints { RunPrints (F.outside files.old).told (spelled words.now) (O.output out.old)
+    ensures prints { RunPrints (F.outside files.old).contents (spelled words.now) (O.output out.old)
         (O.output out.new) (result_err result) }
-    ensures fails { OutFails (O.output out.old).heard (O.output out.new).heard (result_err result) }
+    ensures fails { OutFails (O.output out.old).history (O.output out.new).history (result_err result) }
     ensures done { IfOk result (λ _. (planner : Planner) → IsMakeBy planner (spelled words.now)
-        → IsBuilt planner (F.outside files.old).told (spelled words.now)
-        (IsDone (F.outside files.old).told (F.outside files.new).told (spelled words.now)
+        → IsBuilt planner (F.outside files.old).contents (spelled words.now)
+        (IsDone (F.outside files.old).contents (F.outside files.new).contents (spelled words.now)
         (O.output out.old) (O.output out.new))) }
     ensures written { IfOk result (λ _. IsWrite (spelled words.now)
-        → IsRead (F.outside files.old).told (spelled words.now)
-        (IsWritten (F.outside files.old).told (F.outside files.new).told (spelled words.now)
+        → IsRead (F.outside files.old).contents (spelled words.now)
+        (IsWritten (F.outside files.old).contents (F.outside files.new).contents (spelled words.now)
         (O.output out.old) (O.output out.new))) }
     ensures built { IfOk result (λ _. (planner : Planner) → IsMakeBy planner (spelled words.now)
-        → HeardBuilt planner (F.outside files.old).heard (F.outside files.new).heard (spelled words.now)
+        → BuiltHistory planner (F.outside files.old).history (F.outside files.new).history (spelled words.now)
         (O.output out.old) (O.output out.new)) }
     ensures checked { IfOk result (λ _. IsVerify (spelled words.now)
-        → HeardChecked Printing.Answers (F.outside files.old).heard (F.outside files.new).heard (spelled words.now)
+        → CheckedHistory Printing.Answers (F.outside files.old).history (F.outside files.new).history
+        (spelled words.now)
         (O.output out.old) (O.output out.new)) }
     ensures traced { IfOk result (λ _. IsTrace (spelled words.now)
-        → HeardChecked Printing.Fluxes (F.outside files.old).heard (F.outside files.new).heard (spelled words.now)
+        → CheckedHistory Printing.Fluxes (F.outside files.old).history (F.outside files.new).history (spelled words.now)
         (O.output out.old) (O.output out.new)) }
     ensures compared { IfOk result (λ _. IsEqual (spelled words.now)
-        → HeardCompared (F.outside files.old).heard (F.outside files.new).heard (spelled words.now)
+        → ComparedHistory (F.outside files.old).history (F.outside files.new).history (spelled words.now)
         (O.output out.old) (O.output out.new)) }
     ensures netlisted { IfOk result (λ _. IsWrite (spelled words.now)
-        → HeardWritten (F.outside files.old).heard (F.outside files.new).heard (spelled words.now)
+        → WrittenHistory (F.outside files.old).history (F.outside files.new).history (spelled words.now)
         (O.output out.old) (O.output out.new)) }
     ensures reported { IfOk result (λ _. IsReport (spelled words.now)
-        → HearsReport (F.outside files.old).heard (F.outside files.new).heard (spelled words.now)
+        → HearsReport (F.outside files.old).history (F.outside files.new).history (spelled words.now)
         (O.output out.old) (O.output out.new)) }
     ensures shown { IfOk result (λ _. (first second : ℕ) → IsShapesOf (spelled words.now) first second
-        → HearsShapes (F.outside files.old).heard (F.outside files.new).heard (spelled words.now) first second
+        → HearsShapes (F.outside files.old).history (F.outside files.new).history (spelled words.now) first second
         (O.output out.old) (O.output out.new)) }
-    ensures due { HearsDue (F.outside files.old).heard (F.outside files.new).heard
+    ensures due { HearsDue (F.outside files.old).history (F.outside files.new).history
         (spelled words.now) (result_err result) }
     ensures only { IfErr result (RunsOnly (spelled words.now)) }
     ensures shut { (F.outside files.new).opened ≡ None }
@@ -133,15 +134,15 @@ pub fn aqfp_run<F: Files, O: Sink, E: Sink>(
     // The answer is what is due, of which there is one (`one_answer_is_due`), or want of memory, or a failed load,
     // write or close: a load that the work comes to, a write or close where nothing is due. The count of the failure
     // rose by what was heard, and the load is the last that failed.
-    ensures due { (held : Contents) → (F.outside files.old).told ≡ Some held
+    ensures due { (held : Contents) → (F.outside files.old).contents ≡ Some held
         → MayAnswer held (spelled words.now) result.fault }
-    ensures faults { HasFaults (counts_of (F.outside files.old).heard (O.output out.old).heard)
-        (counts_of (F.outside files.new).heard (O.output out.new).heard) result.fault }
-    ensures failed { FailedLoad (load_failed (F.outside files.new).heard) (spelled words.now) result.fault }
+    ensures faults { HasFaults (counts_of (F.outside files.old).history (O.output out.old).history)
+        (counts_of (F.outside files.new).history (O.output out.new).history) result.fault }
+    ensures failed { FailedLoad (load_failed (F.outside files.new).history) (spelled words.now) result.fault }
 
     // The same of any store, the system's files too. By what was heard the answer says why a load was refused, or it is
     // what the texts may answer that all loads gave; and of the bytes that were due OUT took what that answer tells.
-    ensures hears_due { HearsDue (F.outside files.old).heard (F.outside files.new).heard
+    ensures hears_due { HearsDue (F.outside files.old).history (F.outside files.new).history
         (spelled words.now) result.fault }
 
     // Which faults a command may answer, whatever the store tells; the usage where there is none.
@@ -150,81 +151,85 @@ pub fn aqfp_run<F: Files, O: Sink, E: Sink>(
 
     // What a command that makes a chip has made where it ends well: a chip of its netlist, whatever the order of
     // switching.
-    ensures chip { (held : Contents) (planner : Planner) → (F.outside files.old).told ≡ Some held
+    ensures chip { (held : Contents) (planner : Planner) → (F.outside files.old).contents ≡ Some held
         → IsMakeBy planner (spelled words.now) → result.fault ≡ None
-        → BuildsChip held (F.outside files.new).told (spelled words.now) (O.output out.old) (O.output out.new) }
+        → BuildsChip held (F.outside files.new).contents (spelled words.now) (O.output out.old) (O.output out.new) }
 
     // The same of any store, the system's files too: what NET and LIB gave, and what OUT took.
     ensures hears { (planner : Planner) → IsMakeBy planner (spelled words.now) → result.fault ≡ None
-        → HearsChip (F.outside files.old).heard (F.outside files.new).heard (spelled words.now) (O.output out.old)
+        → HearsChip (F.outside files.old).history (F.outside files.new).history (spelled words.now) (O.output out.old)
         (O.output out.new) }
 
     // And by which plan: the defined one, or one that is no larger, or that of the netlist's own cells.
     ensures planned { (planner : Planner) → IsMakeBy planner (spelled words.now) → result.fault ≡ None
-        → HeardBuilt planner (F.outside files.old).heard (F.outside files.new).heard (spelled words.now)
+        → BuiltHistory planner (F.outside files.old).history (F.outside files.new).history (spelled words.now)
         (O.output out.old) (O.output out.new) }
 
     // What a check that ends well has shown: the answers to the words, whatever the order of switching and by every
     // clock whose windows keep clear, or the fluxes.
-    ensures verified { (held : Contents) → (F.outside files.old).told ≡ Some held
+    ensures verified { (held : Contents) → (F.outside files.old).contents ≡ Some held
         → IsVerify (spelled words.now) → result.fault ≡ None
         → VerifiesChip held (spelled words.now) (O.output out.old) (O.output out.new) }
-    ensures traced { (held : Contents) → (F.outside files.old).told ≡ Some held
+    ensures traced { (held : Contents) → (F.outside files.old).contents ≡ Some held
         → IsTrace (spelled words.now) → result.fault ≡ None
         → TracesChip held (spelled words.now) (O.output out.old) (O.output out.new) }
 
     // The same of any store: what GDS, LIB and WORDS gave.
     ensures hears_answers { IsVerify (spelled words.now) → result.fault ≡ None
-        → HearsAnswers (F.outside files.old).heard (F.outside files.new).heard (spelled words.now) (O.output out.old)
+        → HearsAnswers (F.outside files.old).history (F.outside files.new).history (spelled words.now)
+        (O.output out.old)
         (O.output out.new) }
     ensures hears_fluxes { IsTrace (spelled words.now) → result.fault ≡ None
-        → HearsFluxes (F.outside files.old).heard (F.outside files.new).heard (spelled words.now) (O.output out.old)
+        → HearsFluxes (F.outside files.old).history (F.outside files.new).history (spelled words.now) (O.output out.old)
         (O.output out.new) }
 
     // What a comparison that ends well has shown: that chip and netlist answer every word alike, or where first not.
-    ensures compared { (held : Contents) → (F.outside files.old).told ≡ Some held
+    ensures compared { (held : Contents) → (F.outside files.old).contents ≡ Some held
         → IsEqual (spelled words.now) → result.fault ≡ None
         → ComparesChip held (spelled words.now) (O.output out.old) (O.output out.new) }
 
     // The same of any store: what GDS, LIB and NET gave.
     ensures hears_verdict { IsEqual (spelled words.now) → result.fault ≡ None
-        → HearsVerdict (F.outside files.old).heard (F.outside files.new).heard (spelled words.now) (O.output out.old)
+        → HearsVerdict (F.outside files.old).history (F.outside files.new).history (spelled words.now)
+        (O.output out.old)
         (O.output out.new) }
 
     // What a `netlist` that ends well has stored: the chip's circuit as a netlist that answers every word as it does.
-    ensures written { (held : Contents) → (F.outside files.old).told ≡ Some held
+    ensures written { (held : Contents) → (F.outside files.old).contents ≡ Some held
         → IsWrite (spelled words.now) → result.fault ≡ None
-        → WritesNetlist held (F.outside files.new).told (spelled words.now) (O.output out.old) (O.output out.new) }
+        → WritesNetlist held (F.outside files.new).contents (spelled words.now) (O.output out.old) (O.output out.new) }
 
     // The same of any store, the system's files too: what GDS and LIB gave, and what OUT took.
     ensures hears_netlist { IsWrite (spelled words.now) → result.fault ≡ None
-        → HearsNetlist (F.outside files.old).heard (F.outside files.new).heard (spelled words.now) (O.output out.old)
+        → HearsNetlist (F.outside files.old).history (F.outside files.new).history (spelled words.now)
+        (O.output out.old)
         (O.output out.new) }
 
     // What a sample that ends well has printed. It asks nothing of the store.
     ensures hears_sample { (bits : ℕ) → IsSampleOf (spelled words.now) bits → result.fault ≡ None
-        → HearsSample bits (F.outside files.old).heard (F.outside files.new).heard (O.output out.old)
+        → HearsSample bits (F.outside files.old).history (F.outside files.new).history (O.output out.old)
         (O.output out.new) }
 
     // What a `report` that ends well has printed: the counts of the chip, its cells by kind, its size and its wires.
-    ensures reported { (held : Contents) → (F.outside files.old).told ≡ Some held
+    ensures reported { (held : Contents) → (F.outside files.old).contents ≡ Some held
         → IsReport (spelled words.now) → result.fault ≡ None
         → ReportsChip held (spelled words.now) (O.output out.old) (O.output out.new) }
     ensures hears_report { IsReport (spelled words.now) → result.fault ≡ None
-        → HearsReport (F.outside files.old).heard (F.outside files.new).heard (spelled words.now) (O.output out.old)
+        → HearsReport (F.outside files.old).history (F.outside files.new).history (spelled words.now) (O.output out.old)
         (O.output out.new) }
 
     // What a `shapes` that ends well has printed: the lines of the shapes or labels of two numbers.
-    ensures shown { (held : Contents) (first second : ℕ) → (F.outside files.old).told ≡ Some held
+    ensures shown { (held : Contents) (first second : ℕ) → (F.outside files.old).contents ≡ Some held
         → IsShapesOf (spelled words.now) first second → result.fault ≡ None
         → ShowsShapes held (spelled words.now) first second (O.output out.old) (O.output out.new) }
     ensures hears_shapes { (first second : ℕ) → IsShapesOf (spelled words.now) first second → result.fault ≡ None
-        → HearsShapes (F.outside files.old).heard (F.outside files.new).heard (spelled words.now) first second
+        → HearsShapes (F.outside files.old).history (F.outside files.new).history (spelled words.now) first second
         (O.output out.old) (O.output out.new) }
 
     // What is left.
-    ensures stands { RunStands (F.outside files.old).told (F.outside files.new).told (spelled words.now) result.fault }
-    ensures prints { RunPrints (F.outside files.old).told (spelled words.now) (O.output out.old)
+    ensures stands { RunStands (F.outside files.old).contents (F.outside files.new).contents
+        (spelled words.now) result.fault }
+    ensures prints { RunPrints (F.outside files.old).contents (spelled words.now) (O.output out.old)
         (O.output out.new) result.fault }
     ensures shut { (F.outside files.new).opened ≡ None }
     ensures reports { Reports IsCutShort (E.output err.old) (E.output err.new) (spelled words.now) result.fault }

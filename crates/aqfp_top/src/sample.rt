@@ -138,7 +138,7 @@ pub fn sample<O: Sink>(alloc: Global, bits: u32, out: &mut O) -> Result<(), Faul
     requires most { bits ≤ 64 }
     ensures answer { Answers (sample_stages bits) (result_err result) }
     ensures prints { SamplePrints bits (O.output out.old) (O.output out.new) (result_err result) }
-    ensures fails { OutFails (O.output out.old).heard (O.output out.new).heard (result_err result) }
+    ensures fails { OutFails (O.output out.old).history (O.output out.new).history (result_err result) }
     ensures only { IfErr result IsSampleFault }
 {
     let made = make(alloc, bits)?;

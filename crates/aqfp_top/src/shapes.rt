@@ -1,7 +1,7 @@
 // `shapes GDS A B`.
 ghost use Rattle.std.specs.Prelude.{◌≡◌, ◌++◌, ◌∷◌, ◌<◌, ◌≤◌, ◌^◌, length, IfOk, IfErr, OnOk};
 ghost use Rattle.std.specs.Result.{result_err};
-ghost use Rattle.aq_base.specs.Heard.{Loaded};
+ghost use Rattle.aq_base.specs.History.{Loaded};
 ghost use Rattle.aq_base.specs.Output.{printed};
 ghost use Rattle.geom.specs.FlatForm.{flat_count};
 ghost use Rattle.poly_cut.specs.Conditions.{IsFlattenable};
@@ -12,7 +12,7 @@ ghost use Rattle.aqfp_top.specs.Words.{spelled, word_at};
 ghost use Rattle.aqfp_top.specs.Stages.{Answers};
 ghost use Rattle.aqfp_top.specs.Due.{showing_stages, shapes_stages};
 ghost use Rattle.aqfp_top.specs.Faults.{IsShapesFault};
-ghost use Rattle.aqfp_top.specs.HeardDue.{DueOfOne};
+ghost use Rattle.aqfp_top.specs.DueHistories.{DueOfOne};
 ghost use Rattle.aqfp_top.specs.Loads.{gds_limit};
 ghost use Rattle.aqfp_top.specs.Printed.{TextPrints};
 ghost use Rattle.aqfp_top.specs.Shown.{HasLines, AreShapes, IsShownOf, HearsShapes};
@@ -104,7 +104,7 @@ fn print_lines<O: Sink>(
     requires { flat_count flat.now < 2 ^ 32 }
     ensures prints { TextPrints (HasLines flat.now first second) (O.output out.old)
         (O.output out.new) (result_err result) }
-    ensures fails { OutFails (O.output out.old).heard (O.output out.new).heard (result_err result) }
+    ensures fails { OutFails (O.output out.old).history (O.output out.new).history (result_err result) }
     ensures bad { IfErr result (IsNamingFault flat.now first second) }
 {
     check_numbers(flat, first, second)?;
@@ -122,7 +122,7 @@ fn show_layout<O: Sink>(
     requires { IsFlattenable layout }
     ensures prints { TextPrints (HasLines (wide_flat layout) first second) (O.output out.old)
         (O.output out.new) (result_err result) }
-    ensures fails { OutFails (O.output out.old).heard (O.output out.new).heard (result_err result) }
+    ensures fails { OutFails (O.output out.old).history (O.output out.new).history (result_err result) }
     ensures bad { IfErr result (IsNamingFault (wide_flat layout) first second) }
 {
     count_is_exact();
@@ -147,7 +147,7 @@ fn show<O: Sink>(
     ensures answer { Answers (showing_stages gds.items first second) (result_err result) }
     ensures prints { TextPrints (AreShapes gds.items first second) (O.output out.old)
         (O.output out.new) (result_err result) }
-    ensures fails { OutFails (O.output out.old).heard (O.output out.new).heard (result_err result) }
+    ensures fails { OutFails (O.output out.old).history (O.output out.new).history (result_err result) }
     ensures only { IfErr result IsShowingFault }
 {
     one_wide_reading();
@@ -167,16 +167,16 @@ pub fn shapes<F: Files, O: Sink>(
     out: &mut O,
 ) -> Result<(), Fault>
     requires { length words.now ≡ 4 }
-    ensures answer { ToldAnswers (shapes_stages first second) (F.outside files.old).told
+    ensures answer { ToldAnswers (shapes_stages first second) (F.outside files.old).contents
         (spelled words.now) (result_err result) }
-    ensures prints { TextPrints (IsShownOf (F.outside files.old).told (spelled words.now) first second)
+    ensures prints { TextPrints (IsShownOf (F.outside files.old).contents (spelled words.now) first second)
         (O.output out.old) (O.output out.new) (result_err result) }
-    ensures fails { OutFails (O.output out.old).heard (O.output out.new).heard (result_err result) }
-    ensures due { DueOfOne (λ gds. showing_stages gds first second) (F.outside files.old).heard
-        (F.outside files.new).heard
+    ensures fails { OutFails (O.output out.old).history (O.output out.new).history (result_err result) }
+    ensures due { DueOfOne (λ gds. showing_stages gds first second) (F.outside files.old).history
+        (F.outside files.new).history
         (spelled words.now) (result_err result) }
-    ensures heard { OnOk result
-        (HearsShapes (F.outside files.old).heard (F.outside files.new).heard (spelled words.now) first second
+    ensures history { OnOk result
+        (HearsShapes (F.outside files.old).history (F.outside files.new).history (spelled words.now) first second
         (O.output out.old) (O.output out.new)) }
     ensures only { IfErr result IsShapesFault }
     ensures kept { standing (F.outside files.new) ≡ standing (F.outside files.old) }

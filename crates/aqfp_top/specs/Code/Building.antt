@@ -1,7 +1,7 @@
 -- The words of the steps of a build: loading, making the chip, storing and printing.
 use Rattle.std.specs.Prelude.{ℕ, ◌≡◌, ◌≤◌, ◌⊎◌, List, length, Option, Result, Ok, Err}
-use Rattle.aq_base.specs.Heard.{Event}
-use Rattle.aq_base.specs.Store.{Contents, told_with, StoresPrefix}
+use Rattle.aq_base.specs.History.{Event}
+use Rattle.aq_base.specs.Store.{Contents, contents_with, StoresPrefix}
 use Rattle.aqfp_top.specs.Build.{IsBuilt}
 use Rattle.aqfp_top.specs.Faults.{IsBuildFault}
 use Rattle.aqfp_top.specs.Loads.{net_limit, lib_limit}
@@ -15,10 +15,10 @@ use Rattle.aqfp_top.specs.declared.fault.Fault.TheVariants.{WriteFault, Memory}
 
 -- what stands in the store after a file was to be stored under a name
 abbrev pub StandsStored : Option Contents → Option Contents → List ℕ → List ℕ → Result (Unit {0}) Fault → Type 0
-StandsStored before after name bytes (Ok _) = after ≡ told_with before name bytes
+StandsStored before after name bytes (Ok _) = after ≡ contents_with before name bytes
 StandsStored before after name bytes (Err (WriteFault Create)) = after ≡ before
 StandsStored before after name bytes (Err (WriteFault Append)) = StoresPrefix before after name bytes
-StandsStored before after name bytes (Err (WriteFault Close)) = after ≡ told_with before name bytes
+StandsStored before after name bytes (Err (WriteFault Close)) = after ≡ contents_with before name bytes
 StandsStored before after name bytes (Err (WriteFault Out)) = ⊥
 StandsStored before after name bytes (Err Memory) = (after ≡ before) ⊎ StoresPrefix before after name bytes
 StandsStored before after name bytes (Err _) = ⊥
@@ -44,14 +44,14 @@ IsStoreFault _ = ⊥
 
 -- the chip is one of the texts of NET and LIB by this plan
 abbrev pub IsMade : Planner → Option Contents → List (List ℕ) → Chip → Type 0
-IsMade planner told words chip = IsBuilt planner told words (λ placed cells. IsDrawn placed cells chip)
+IsMade planner contents words chip = IsBuilt planner contents words (λ placed cells. IsDrawn placed cells chip)
 
 -- the chip is one of the bytes that NET and LIB gave, by this plan, and nothing else was heard
-pub record HeardMade (planner : Planner) (heard heard' : List Event) (words : List (List ℕ))
+pub record MadeHistory (planner : Planner) (history history' : List Event) (words : List (List ℕ))
     (chip : Chip) : Type 0 where
   pub net : List ℕ
   pub lib : List ℕ
   pub net_fits : length net ≤ net_limit
   pub lib_fits : length lib ≤ lib_limit
   pub makes : MakesChip planner net lib chip
-  pub is : heard' ≡ loaded heard words net lib
+  pub is : history' ≡ loaded history words net lib

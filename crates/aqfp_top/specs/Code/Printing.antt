@@ -2,7 +2,7 @@
 use Rattle.std.specs.Prelude.{ℕ, ◌≡◌, ◌<◌, List, Option, Some, Result, Ok, Err}
 use Rattle.aq_base.specs.declared.store.StoreRefusal.{StoreRefusal}
 use Rattle.aq_base.specs.declared.store.StoreRefusal.TheVariants as store
-use Rattle.aq_base.specs.Heard.{Event}
+use Rattle.aq_base.specs.History.{Event}
 use Rattle.aq_base.specs.FaultCounts.{write_faults}
 use Rattle.aq_base.specs.Output.{Output, printed}
 use Rattle.text_answers.specs.Printing.{PrintsWithin}
@@ -25,5 +25,5 @@ PrintsText text o o' (Err _) = ⊥
 
 -- `out` was heard to fail, where the fault is its own
 abbrev pub OutFails : List Event → List Event → Option Fault → Type 0
-OutFails heard heard' (Some (WriteFault Out)) = write_faults heard < write_faults heard'
-OutFails heard heard' _ = Unit {0}
+OutFails history history' (Some (WriteFault Out)) = write_faults history < write_faults history'
+OutFails history history' _ = Unit {0}

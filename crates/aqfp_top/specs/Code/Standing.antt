@@ -5,4 +5,4 @@ use Rattle.aq_base.specs.Outside.{Outside}
 
 -- what its files hold, if it tells that, and the name that is open
 unfoldable pub standing : Outside → Option Contents × Option (List ℕ)
-standing o = (o.told, o.opened)
+standing o = (o.contents, o.opened)

@@ -1,5 +1,5 @@
 use Rattle.std.proofs.Common.{List, Some, subst}
-use Rattle.aq_base.specs.Heard.{Event, all_taken}
+use Rattle.aq_base.specs.History.{Event, all_taken}
 use Rattle.aq_base.specs.StandardStore.{output_of}
 use Rattle.aqfp_top.specs.Words.{spelled}
 use Rattle.aqfp_top.specs.Lines.{Reports, IsCutShort}
@@ -13,6 +13,6 @@ returns-clause-reports g c =
     let fault = c.aqfp_run-ending.result.fault in
     let err = c.aqfp_run-ending.new.err in
     reports_failures quiet (output_of err) words fault err.remembers
-    (subst (λ (h : List Event). Reports IsCutShort (record { written = Some (all_taken h); heard = h })
+    (subst (λ (h : List Event). Reports IsCutShort (record { written = Some (all_taken h); history = h })
     (output_of err) words fault)
     c.new-err.ensures c.aqfp_run-ending.ensures.reports)

@@ -2,11 +2,11 @@ use Rattle.std.proofs.lemmas.Result.{err_from_is_err_and}
 use Rattle.aqfp_top.specs.Words.{spelled}
 use Rattle.aqfp_top.specs.Loads.{net_limit, build_loads}
 use Rattle.aqfp_top.specs.Due.{design_stages}
-use Rattle.aqfp_top.specs.HeardDue.{IsStreamBy}
+use Rattle.aqfp_top.specs.DueHistories.{IsStreamBy}
 use Rattle.aqfp_top.proofs.Steps.{build_answers, build_stands, build_prints, build_only, build_done}
 use Rattle.aqfp_top.proofs.Storing.{stores_shut}
 use Rattle.aqfp_top.proofs.OutEnds.{text_fails}
-use Rattle.aqfp_top.proofs.Hearing.{build_heard}
+use Rattle.aqfp_top.proofs.Hearing.{build_history}
 use Rattle.aqfp_top.proofs.HearingDue.{design_ends, store_ends, counts_end}
 use Rattle.aqfp_top.proofs.build.build.Goals as goal
 
@@ -17,23 +17,23 @@ pub returns-in_err-chip-clause-due : goal.returns-in_err-chip-clause-due
 returns-in_err-chip-clause-due g c =
     let due = design_ends c.args.planner build_loads net_limit (design_stages c.args.planner)
     (IsStreamBy c.args.planner)
-    (g.F.Files.outside c.args.files.now).heard (g.F.Files.outside c.make.new.files).heard (spelled c.args.words.now)
-    c.in_err-chip.field-0.0 c.in_err-chip.ensures.only c.in_err-chip.ensures.heard_bad in
+    (g.F.Files.outside c.args.files.now).history (g.F.Files.outside c.make.new.files).history (spelled c.args.words.now)
+    c.in_err-chip.field-0.0 c.in_err-chip.ensures.only c.in_err-chip.ensures.history_bad in
     let p = err_from_is_err_and c.from_residual.result c.from_residual.ensures.1 in
     rw (p.1, p.2) due
 
 pub returns-in_err-store-clause-due : goal.returns-in_err-store-clause-due
 returns-in_err-store-clause-due g c =
     let due = store_ends build_loads net_limit (design_stages c.args.planner) (IsStreamBy c.args.planner)
-    (g.F.Files.outside c.args.files.now).heard (g.F.Files.outside c.make.new.files)
+    (g.F.Files.outside c.args.files.now).history (g.F.Files.outside c.make.new.files)
     (g.F.Files.outside c.store.new.files) (spelled c.args.words.now) _ _ c.in_err-store.field-0.0
-    c.in_ok-chip.ensures.heard_well c.word.ensures c.in_err-store.ensures in
+    c.in_ok-chip.ensures.history_well c.word.ensures c.in_err-store.ensures in
     let p = err_from_is_err_and c.from_residual-in_err-store.result c.from_residual-in_err-store.ensures.1 in
     rw (p.1, p.2) due
 
 pub returns-clause-answer : goal.returns-clause-answer
 returns-clause-answer g c =
-    build_answers c.args.planner (g.F.Files.outside c.args.files.now).told
+    build_answers c.args.planner (g.F.Files.outside c.args.files.now).contents
     (spelled c.args.words.now) _ _ _ c.put_counts.result c.in_ok-chip.ensures.well
     c.put_counts.ensures
 
@@ -46,7 +46,7 @@ returns-clause-stands g c =
 
 pub returns-clause-prints : goal.returns-clause-prints
 returns-clause-prints g c =
-    build_prints c.args.planner (g.F.Files.outside c.args.files.now).told
+    build_prints c.args.planner (g.F.Files.outside c.args.files.now).contents
     (spelled c.args.words.now) c.in_ok-chip.chip _ _ c.put_counts.result
     c.in_ok-chip.ensures.made c.put_counts.ensures
 
@@ -60,17 +60,17 @@ returns-clause-done g c =
     c.put_counts.result c.in_ok-chip.ensures.made c.in_ok-chip.ensures.kept c.word.ensures c.in_ok-store.ensures
     c.put_counts.ensures
 
-pub returns-clause-heard : goal.returns-clause-heard
-returns-clause-heard g c =
-    build_heard c.args.planner _ (g.F.Files.outside c.make.new.files) _
+pub returns-clause-history : goal.returns-clause-history
+returns-clause-history g c =
+    build_history c.args.planner _ (g.F.Files.outside c.make.new.files) _
     (spelled c.args.words.now) _ c.in_ok-chip.chip _ _ _
-    c.put_counts.result c.in_ok-chip.ensures.heard c.word.ensures c.in_ok-store.ensures c.put_counts.ensures
+    c.put_counts.result c.in_ok-chip.ensures.history c.word.ensures c.in_ok-store.ensures c.put_counts.ensures
 
 pub returns-clause-due : goal.returns-clause-due
 returns-clause-due g c =
     counts_end build_loads net_limit (design_stages c.args.planner) (IsStreamBy c.args.planner) _
     (g.F.Files.outside c.make.new.files) _ (spelled c.args.words.now) _ _ _ _ _ _ c.put_counts.result
-    c.in_ok-chip.ensures.heard_well c.word.ensures c.in_ok-store.ensures c.put_counts.ensures
+    c.in_ok-chip.ensures.history_well c.word.ensures c.in_ok-store.ensures c.put_counts.ensures
 
 pub returns-clause-only : goal.returns-clause-only
 returns-clause-only g c = build_only c.args.planner _ _ _ c.put_counts.result c.put_counts.ensures

@@ -5,12 +5,13 @@ use Rattle.aqfp_top.specs.Loads.{gds_limit, write_loads}
 use Rattle.aqfp_top.specs.Due.{circuit_stages}
 use Rattle.aqfp_top.proofs.LoadedTexts.{told_then}
 use Rattle.aqfp_top.proofs.HearingDue.{reads_two, due_of_reading}
-use Rattle.aqfp_top.proofs.Reporting.{told_report, texts_report, heard_report, report_only}
+use Rattle.aqfp_top.proofs.Reporting.{told_report, texts_report, history_report, report_only}
 use Rattle.aqfp_top.proofs.chip_report.report.Goals as goal
 
 pub returns-in_err-texts-clause-answer : goal.returns-in_err-texts-clause-answer
 returns-in_err-texts-clause-answer g c =
-    let bad = told_then gds_limit circuit_stages (g.F.Files.outside c.args.files.now).told (spelled c.args.words.now)
+    let bad = told_then gds_limit circuit_stages (g.F.Files.outside c.args.files.now).contents
+    (spelled c.args.words.now)
     c.in_err-texts.field-0.0 c.in_err-texts.ensures.bad in
     let p = err_from_is_err_and c.from_residual.result c.from_residual.ensures.1 in
     rw (p.1, p.2) bad
@@ -18,7 +19,7 @@ returns-in_err-texts-clause-answer g c =
 pub returns-clause-answer : goal.returns-clause-answer
 returns-clause-answer g c =
     let texts = c.in_ok-texts.texts in
-    told_report (g.F.Files.outside c.args.files.now).told
+    told_report (g.F.Files.outside c.args.files.now).contents
     (spelled c.args.words.now) texts.first.items texts.lib.items c.deref.result.now c.report_texts.result
     c.in_ok-texts.ensures.texts c.in_ok-texts.ensures.first_fits c.in_ok-texts.ensures.lib_fits c.deref.ensures.value
     c.report_texts.ensures.answer
@@ -26,19 +27,19 @@ returns-clause-answer g c =
 pub returns-clause-prints : goal.returns-clause-prints
 returns-clause-prints g c =
     let texts = c.in_ok-texts.texts in
-    texts_report (g.F.Files.outside c.args.files.now).told
+    texts_report (g.F.Files.outside c.args.files.now).contents
     (spelled c.args.words.now) texts.first.items texts.lib.items c.deref.result.now _ _ _
     c.in_ok-texts.ensures.texts c.deref.ensures.value c.report_texts.ensures.prints
 
 pub returns-clause-only : goal.returns-clause-only
 returns-clause-only g c = report_only c.report_texts.result c.report_texts.ensures.only
 
-pub returns-clause-heard : goal.returns-clause-heard
-returns-clause-heard g c =
+pub returns-clause-history : goal.returns-clause-history
+returns-clause-history g c =
     let texts = c.in_ok-texts.texts in
-    heard_report _ _ (spelled c.args.words.now) texts.first.items texts.lib.items c.deref.result.now
+    history_report _ _ (spelled c.args.words.now) texts.first.items texts.lib.items c.deref.result.now
     _ _ c.report_texts.result
-    c.in_ok-texts.ensures.heard c.deref.ensures.value c.report_texts.ensures.prints
+    c.in_ok-texts.ensures.history c.deref.ensures.value c.report_texts.ensures.prints
 
 pub returns-clause-due : goal.returns-clause-due
 returns-clause-due g c =
@@ -46,5 +47,5 @@ returns-clause-due g c =
     due_of_reading write_loads gds_limit circuit_stages _ _ (spelled c.args.words.now) _
     (reads_two gds_limit circuit_stages _ _
     (spelled c.args.words.now) texts.first.items texts.lib.items texts.first.items
-    c.deref.result.now _ c.in_ok-texts.ensures.heard c.in_ok-texts.ensures.first_fits c.in_ok-texts.ensures.lib_fits
+    c.deref.result.now _ c.in_ok-texts.ensures.history c.in_ok-texts.ensures.first_fits c.in_ok-texts.ensures.lib_fits
     refl c.deref.ensures.value c.report_texts.ensures.answer)

@@ -81,16 +81,16 @@ returns-clause-prints g c =
 
 pub returns-in_err-cells-clause-fails : goal.returns-in_err-cells-clause-fails
 returns-in_err-cells-clause-fails g c =
-    let none = circuit_fails (g.O.Sink.output c.args.out.now).heard
-    (g.O.Sink.output c.args.out.now).heard c.in_err-cells.field-0.0
+    let none = circuit_fails (g.O.Sink.output c.args.out.now).history
+    (g.O.Sink.output c.args.out.now).history c.in_err-cells.field-0.0
     (cells_fault c.args.lib.now c.in_err-cells.field-0.0 c.in_err-cells.ensures.bad) in
     let p = err_from_is_err_and c.from_residual-in_err-cells.result c.from_residual-in_err-cells.ensures.1 in
     rw (p.1, p.2) none
 
 pub returns-in_err-chip-clause-fails : goal.returns-in_err-chip-clause-fails
 returns-in_err-chip-clause-fails g c =
-    let none = circuit_fails (g.O.Sink.output c.args.out.now).heard
-    (g.O.Sink.output c.args.out.now).heard c.in_err-chip.field-0.0
+    let none = circuit_fails (g.O.Sink.output c.args.out.now).history
+    (g.O.Sink.output c.args.out.now).history c.in_err-chip.field-0.0
     (broken_fault _ _ c.in_err-chip.field-0.0 c.in_err-chip.ensures.bad) in
     let p = err_from_is_err_and c.from_residual-in_err-chip.result c.from_residual-in_err-chip.ensures.1 in
     rw (p.1, p.2) none

@@ -4,7 +4,7 @@ use Rattle.aqfp_top.proofs.Forms.{four_not_report, make_not_report, sample_not_r
 use Rattle.aqfp_top.proofs.Forms.{make_not_shapes}
 use Rattle.aqfp_top.proofs.Forms.{verify_not_shapes, trace_not_shapes, equal_not_shapes, write_not_shapes}
 use Rattle.aqfp_top.proofs.Forms.{sample_not_shapes}
-use Rattle.aqfp_top.proofs.Runs.{made_by, heard_by, never_made, never, never_shown, shown_by}
+use Rattle.aqfp_top.proofs.Runs.{made_by, history_by, never_made, never, never_shown, shown_by}
 use Rattle.aqfp_top.proofs.run.work.Goals as goal
 
 pub returns-in-Make-clause-done : goal.returns-in-Make-clause-done
@@ -13,7 +13,7 @@ returns-in-Make-clause-done g c =
 
 pub returns-in-Make-clause-built : goal.returns-in-Make-clause-built
 returns-in-Make-clause-built g c =
-    heard_by (spelled c.args.words.now) c.in-Make.planner c.build.result _ c.in-Make.ensures c.build.ensures.heard
+    history_by (spelled c.args.words.now) c.in-Make.planner c.build.result _ c.in-Make.ensures c.build.ensures.history
 
 pub returns-in-Make-clause-checked : goal.returns-in-Make-clause-checked
 returns-in-Make-clause-checked g c =
@@ -174,7 +174,7 @@ returns-in-Shapes-clause-reported g c =
 pub returns-in-Shapes-clause-shown : goal.returns-in-Shapes-clause-shown
 returns-in-Shapes-clause-shown g c =
     shown_by (spelled c.args.words.now) c.in-Shapes.first c.in-Shapes.second c.shapes.result _ c.in-Shapes.ensures
-    c.shapes.ensures.heard
+    c.shapes.ensures.history
 
 pub returns-in-Shapes-clause-checked : goal.returns-in-Shapes-clause-checked
 returns-in-Shapes-clause-checked g c =

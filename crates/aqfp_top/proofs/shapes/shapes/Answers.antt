@@ -1,33 +1,33 @@
 use Rattle.aqfp_top.specs.Words.{spelled}
 use Rattle.aqfp_top.specs.Due.{showing_stages}
 use Rattle.aqfp_top.proofs.HearingDue.{judged_one}
-use Rattle.aqfp_top.proofs.ShowingShapes.{told_layout, told_shapes, whole_prints, heard_shapes, showing_only}
+use Rattle.aqfp_top.proofs.ShowingShapes.{told_layout, told_shapes, whole_prints, history_shapes, showing_only}
 use Rattle.aqfp_top.proofs.shapes.shapes.Goals as goal
 
 pub returns-clause-answer : goal.returns-clause-answer
 returns-clause-answer g c =
-    told_shapes (g.F.Files.outside c.args.files.now).told
+    told_shapes (g.F.Files.outside c.args.files.now).contents
     (spelled c.args.words.now) c.in_ok-gds.gds c.args.first c.args.second _
     c.in_ok-gds.ensures.answer c.show.ensures.answer
 
 pub returns-clause-prints : goal.returns-clause-prints
 returns-clause-prints g c =
-    let held = told_layout (g.F.Files.outside c.args.files.now).told
+    let held = told_layout (g.F.Files.outside c.args.files.now).contents
     (spelled c.args.words.now) c.in_ok-gds.gds c.in_ok-gds.ensures.answer in
-    whole_prints (g.F.Files.outside c.args.files.now).told
+    whole_prints (g.F.Files.outside c.args.files.now).contents
     (spelled c.args.words.now) c.in_ok-gds.gds.items c.args.first c.args.second _ _ _ held
     c.show.ensures.prints
 
 pub returns-clause-only : goal.returns-clause-only
 returns-clause-only g c = showing_only c.show.result c.show.ensures.only
 
-pub returns-clause-heard : goal.returns-clause-heard
-returns-clause-heard g c =
-    heard_shapes _ _ (spelled c.args.words.now) c.in_ok-gds.gds.items c.args.first c.args.second _ _ c.show.result
-    c.in_ok-gds.ensures.heard c.show.ensures.prints
+pub returns-clause-history : goal.returns-clause-history
+returns-clause-history g c =
+    history_shapes _ _ (spelled c.args.words.now) c.in_ok-gds.gds.items c.args.first c.args.second _ _ c.show.result
+    c.in_ok-gds.ensures.history c.show.ensures.prints
 
 pub returns-clause-due : goal.returns-clause-due
 returns-clause-due g c =
     judged_one (λ gds. showing_stages gds c.args.first c.args.second)
     (spelled c.args.words.now) _ _ c.in_ok-gds.gds.items _
-    c.in_ok-gds.ensures.heard c.in_ok-gds.ensures.fits c.show.ensures.answer
+    c.in_ok-gds.ensures.history c.in_ok-gds.ensures.fits c.show.ensures.answer

@@ -1,7 +1,7 @@
-// What a store has heard and given, in a list that only clauses read.
+// The history of a store or a sink: its calls and what they gave, in a list that only clauses read.
 ghost use Rattle.std.specs.Prelude.{◌≡◌, List, [], ◌∷◌};
 ghost use Rattle.std.specs.Borrow.{ftrue};
-ghost use Rattle.aq_base.specs.Heard.{Event, noted, took, load_event, create_event, close_event, NotAppended};
+ghost use Rattle.aq_base.specs.History.{Event, noted, took, load_event, create_event, close_event, NotAppended};
 
 use crate::store::{LoadRefusal, StoreRefusal};
 use std::marker::{Model, PhantomData};
@@ -21,21 +21,21 @@ pub enum Call {
 
 /// The calls of a store with their answers, the newest first. It takes no memory: only clauses read it.
 #[derive(Drop)]
-pub struct Heard {
+pub struct History {
     marker: PhantomData<u8>,
     pub ghost events: { List Event },
 }
 
-impl Model for Heard {
+impl Model for History {
     ghost also_owns = { λ _. ftrue };
 }
 
-impl Heard {
-    /// Nothing was heard.
-    pub fn new() -> Heard
+impl History {
+    /// No call so far.
+    pub fn new() -> History
         ensures { result.events ≡ [] }
     {
-        Heard {
+        History {
             marker: PhantomData,
         }
     }
