@@ -32,7 +32,7 @@ use Rattle.aqfp_top.specs.Code.Designing.{IsPlannedBy}
 use Rattle.aqfp_top.specs.Code.Designing.{IsWellPlanned}
 use Rattle.aqfp_top.specs.Code.Designing as designing
 use Rattle.aqfp_top.specs.declared.planner.Planner.{Planner}
-use Rattle.aqfp_top.specs.declared.planner.Planner.TheVariants.{Layered, Compact, Given}
+use Rattle.aqfp_top.specs.declared.planner.Planner.TheVariants.{Build, Compact, Draw}
 use Rattle.aqfp_top.specs.declared.counts.ChipCounts.{ChipCounts}
 use Rattle.aqfp_top.specs.declared.fault.Large.{Large}
 use Rattle.aqfp_top.specs.declared.fault.Large.TheVariants.{Slots, Rows, Cells, Elements, Shapes, Functions, Design}
@@ -66,19 +66,19 @@ no_size : (planner : Planner) (n : NetView) (l : LibraryView) (what : Large) (co
     → (HasTooMuch n l what count → ⊥)
     → (HasTooMuchOfOwn n l what count → ⊥)
     → PlanFinds planner n l (TooLarge what count) ⊎ PlanGivesUp planner n l what count → ⊥
-no_size Layered n l what count plain own (inl bad) = plain bad
-no_size Layered n l what count plain own (inr bad) = bad
+no_size Build n l what count plain own (inl bad) = plain bad
+no_size Build n l what count plain own (inr bad) = bad
 no_size Compact n l what count plain own (inl bad) = bad
 no_size Compact n l what count plain own (inr bad) = plain bad
-no_size Given n l what count plain own (inl bad) = bad
-no_size Given n l what count plain own (inr bad) = own bad
+no_size Draw n l what count plain own (inl bad) = bad
+no_size Draw n l what count plain own (inr bad) = own bad
 
 -- only own cells are none
 only_own : (planner : Planner) (n : NetView) (l : LibraryView) (line : ℕ) (kind : _)
-    → PlanFinds planner n l (NotCells line kind) → planner ≡ Given
-only_own Layered n l line kind bad = absurd bad
+    → PlanFinds planner n l (NotCells line kind) → planner ≡ Draw
+only_own Build n l line kind bad = absurd bad
 only_own Compact n l line kind bad = absurd bad
-only_own Given n l line kind bad = refl
+only_own Draw n l line kind bad = refl
 
 pub plan_fault : (planner : Planner) (equations : NetView) (cells : LibraryView) (fault : Fault)
     → OrMemory (PlanRefuses planner equations cells) fault → IsDesignFault planner fault
@@ -93,9 +93,9 @@ plan_fault planner equations cells (TooLarge Functions count) bad =
 plan_fault planner equations cells (TooLarge Design count) bad = tt
 plan_fault planner equations cells (NotCells line kind) bad = only_own planner equations cells line kind bad
 plan_fault planner equations cells Memory bad = tt
-plan_fault Layered equations cells _ bad = absurd bad
+plan_fault Build equations cells _ bad = absurd bad
 plan_fault Compact equations cells _ bad = absurd bad
-plan_fault Given equations cells _ bad = absurd bad
+plan_fault Draw equations cells _ bad = absurd bad
 
 -- from the faults of the steps to what the stages answer
 
@@ -134,9 +134,9 @@ of_plan net lib equations cells Holds n l has =
 -- where a search gives up its plan finds nothing
 none_found : (planner : Planner) (n : NetView) (l : LibraryView) (what : Large) (count : ℕ)
     → PlanGivesUp planner n l what count → IsWellPlanned planner n l
-none_found Layered n l what count large fault bad = large
+none_found Build n l what count large fault bad = large
 none_found Compact n l what count large fault bad = bad
-none_found Given n l what count large fault bad = large_no_fault n l what count large fault bad
+none_found Draw n l what count large fault bad = large_no_fault n l what count large fault bad
 
 plan_finds_none : (planner : Planner) (net lib : List ℕ) (equations : NetView) (cells : LibraryView)
     → netlist.SaysNetlist net equations → library.SaysLibrary lib cells → IsWellPlanned planner equations cells
@@ -172,9 +172,9 @@ plan_stage planner net lib equations cells (TooLarge what count) n l bad =
 plan_stage planner net lib equations cells (NotCells line kind) n l bad =
     inl (finds_stage planner net lib equations cells (NotCells line kind) n l bad)
 plan_stage planner net lib equations cells Memory n l bad = tt
-plan_stage Layered net lib equations cells _ n l bad = absurd bad
+plan_stage Build net lib equations cells _ n l bad = absurd bad
 plan_stage Compact net lib equations cells _ n l bad = absurd bad
-plan_stage Given net lib equations cells _ n l bad = absurd bad
+plan_stage Draw net lib equations cells _ n l bad = absurd bad
 
 pub plan_answers : (planner : Planner) (net lib : List ℕ) (equations : NetView) (cells : LibraryView) (fault : Fault)
     → netlist.SaysNetlist net equations → library.SaysLibrary lib cells
@@ -199,7 +199,7 @@ design_is_well planner net lib equations cells n l none = (
 
 -- the defined plan finds the limit that it passes
 pub refused_plan : (equations : NetView) (cells : LibraryView) (refused : PlanRefusal) → Refuses cells equations refused
-    → OrMemory (PlanRefuses Layered equations cells) (designing.plan_fault refused)
+    → OrMemory (PlanRefuses Build equations cells) (designing.plan_fault refused)
 refused_plan equations cells (refusal.Slots span) bad = inl bad
 refused_plan equations cells (refusal.Rows rows) bad = inl bad
 refused_plan equations cells (refusal.Cells count) bad = inl bad
@@ -215,7 +215,7 @@ refused_search equations cells (refusal.Cells count) bad = inr bad
 refused_search equations cells refusal.Memory bad = tt
 
 pub refused_own : (equations : NetView) (cells : LibraryView) (refused : CellPlanRefusal)
-    → RefusesCells cells equations refused → OrMemory (PlanRefuses Given equations cells) (designing.own_fault refused)
+    → RefusesCells cells equations refused → OrMemory (PlanRefuses Draw equations cells) (designing.own_fault refused)
 refused_own equations cells (own.NotCells line kind) bad = bad
 refused_own equations cells (own.Slots span) bad = inr bad
 refused_own equations cells (own.Cells count) bad = inr bad
@@ -224,7 +224,7 @@ refused_own equations cells (own.Elements elements) bad = inr bad
 refused_own equations cells own.Memory bad = tt
 
 pub layered_plan : (equations : NetView) (cells : LibraryView) (placed : PlacedView) → placed ≡ chip_of cells equations
-    → IsWithin cells equations → IsPlannedBy Layered equations cells placed
+    → IsWithin cells equations → IsPlannedBy Build equations cells placed
 layered_plan equations cells placed is within = record { is = is; within = within }
 
 pub ruleset plans = (refused_plan, refused_search, refused_own, layered_plan)
@@ -239,13 +239,13 @@ many_elements equations cells chip count planned number above =
 pub too_many : (planner : Planner) (equations : NetView) (cells : LibraryView) (chip : PlacedView) (count : ℕ)
     → IsPlannedBy planner equations cells chip → count ≡ element_number chip → element_limit < count
     → PlanRefuses planner equations cells (TooLarge Elements count)
-too_many Layered equations cells chip count planned number above =
+too_many Build equations cells chip count planned number above =
     inl (many_elements equations cells chip count planned number above)
 too_many Compact equations cells chip count (inl planned) number above =
     inr (many_elements equations cells chip count planned number above)
 too_many Compact equations cells chip count (inr found) number above =
     absurd (many_and_few (element_number chip) count found.few number above)
-too_many Given equations cells chip count drawn number above =
+too_many Draw equations cells chip count drawn number above =
     absurd (many_and_few (element_number chip) count drawn.few number above)
 
 -- what is drawn has few cells and wires
@@ -258,12 +258,12 @@ few_wires chip small = omega arith
 -- the plan of what was planned
 pub plan_by : (planner : Planner) (equations : NetView) (cells : LibraryView) (placed : PlacedView)
     → IsPlannedBy planner equations cells placed → IsPlanBy planner equations cells placed
-plan_by Layered equations cells placed planned = (planned.is, planned.within)
+plan_by Build equations cells placed planned = (planned.is, planned.within)
 plan_by Compact equations cells placed (inl planned) =
     λ within. subst (λ p. IsNoLarger p (chip_of cells equations)) (sym planned.is)
     (record { cells = le_refl _; junctions = le_refl _ })
 plan_by Compact equations cells placed (inr found) = found.no_larger
-plan_by Given equations cells placed drawn = drawn
+plan_by Draw equations cells placed drawn = drawn
 
 pub drawn : (cells : LibraryView) (placed : PlacedView) (chip : Chip) → chip.layout ≡ draw placed cells
     → AreCountsOf placed chip.counts → IsDrawn placed cells chip
@@ -290,19 +290,19 @@ pub planned_well : (planner : Planner) (equations : NetView) (cells : LibraryVie
     → (KeepsLimits equations cells → (fault : Fault) → ¬ IsPlanFault equations cells fault)
     → IsPlannedBy planner equations cells placed → element_number placed ≤ element_limit
     → IsWellPlanned planner equations cells
-planned_well Layered equations cells placed passes planned small =
+planned_well Build equations cells placed passes planned small =
     passes (keeps_limits equations cells placed planned small)
 planned_well Compact equations cells placed passes planned small = λ fault bad. bad
-planned_well Given equations cells placed passes drawn small =
+planned_well Draw equations cells placed passes drawn small =
     rows_no_fault equations cells drawn.rows drawn.of_net
 
 -- and so is a plan that keeps them
 pub planner_well : (planner : Planner) (equations : NetView) (cells : LibraryView)
     → (KeepsLimits equations cells → (fault : Fault) → ¬ IsPlanFault equations cells fault)
     → KeepsPlan planner equations cells → IsWellPlanned planner equations cells
-planner_well Layered equations cells passes keeps = passes keeps
+planner_well Build equations cells passes keeps = passes keeps
 planner_well Compact equations cells passes keeps = λ fault bad. bad
-planner_well Given equations cells passes keeps = chip_no_fault equations cells keeps
+planner_well Draw equations cells passes keeps = chip_no_fault equations cells keeps
 
 -- a placed net has some row
 pub some_row : (placed : PlacedView) (counts : ChipCounts) → IsPlaced placed → counts.rows ≡ length placed.net.rows

@@ -9,7 +9,7 @@ use Rattle.aqfp_top.specs.Code.Reporting.{IsLayoutFault, IsPrintingFault, IsShow
 use Rattle.aqfp_top.specs.Code.Loading.{IsFaultOfLoad, IsFaultOfLoads}
 use Rattle.aqfp_top.specs.Code.Building.{IsMakeFault, IsStoreFault, IsOutOrMemory}
 use Rattle.aqfp_top.specs.declared.planner.Planner.{Planner}
-use Rattle.aqfp_top.specs.declared.planner.Planner.TheVariants.{Given}
+use Rattle.aqfp_top.specs.declared.planner.Planner.TheVariants.{Draw}
 use Rattle.aqfp_top.specs.declared.fault.WriteCall.TheVariants.{Create, Append, Close, Out}
 use Rattle.aqfp_top.specs.declared.fault.Large.TheVariants.{Slots, Rows, Cells, Elements, Shapes, Functions, Design}
 use Rattle.aqfp_top.specs.declared.fault.Fault.{Fault}
@@ -46,7 +46,7 @@ pub each_design : (planner : Planner) (P : Fault → Type 0) → ((fault : _) �
     ((count : ℕ) → P (TooLarge Slots count)) → ((count : ℕ) → P (TooLarge Rows count))
     → ((count : ℕ) → P (TooLarge Cells count)) → ((count : ℕ) → P (TooLarge Elements count))
     → ((count : ℕ) → P (TooLarge Design count))
-    → ((line : ℕ) (kind : _) → planner ≡ Given → P (NotCells line kind)) → P Memory →
+    → ((line : ℕ) (kind : _) → planner ≡ Draw → P (NotCells line kind)) → P Memory →
     (fault : Fault) → IsDesignFault planner fault → P fault
 each_design planner P blif design library missing slots rows cells elements size own memory
     (BadBlif fault) wrong = blif fault
@@ -134,7 +134,7 @@ pub each_made : (planner : Planner) (P : Fault → Type 0) → ((place : ℕ) �
     → ((kind : _) → P (MissingCell kind)) →
     ((count : ℕ) → P (TooLarge Slots count)) → ((count : ℕ) → P (TooLarge Rows count))
     → ((count : ℕ) → P (TooLarge Cells count)) → ((count : ℕ) → P (TooLarge Elements count))
-    → ((count : ℕ) → P (TooLarge Design count)) → ((line : ℕ) (kind : _) → planner ≡ Given → P (NotCells line kind))
+    → ((count : ℕ) → P (TooLarge Design count)) → ((line : ℕ) (kind : _) → planner ≡ Draw → P (NotCells line kind))
     → P Memory → (fault : Fault) → IsMakeFault planner fault → P fault
 each_made planner P absent long failed blif design library missing slots rows cells elements size own memory
     (Absent place) only = absent place only

@@ -5,7 +5,7 @@ use Rattle.aqfp_top.specs.Words.{IsMake, IsMakeBy, IsBuild, IsCompact, IsDraw, I
 use Rattle.aqfp_top.specs.Words.{IsReport, IsNumber, IsShapesOf, IsCheck, IsSampleSize, IsSampleOf, HasForm, IsOfForm}
 use Rattle.aqfp_top.specs.Words.{word_at}
 use Rattle.aqfp_top.specs.declared.planner.Planner.{Planner}
-use Rattle.aqfp_top.specs.declared.planner.Planner.TheVariants.{Layered, Compact, Given}
+use Rattle.aqfp_top.specs.declared.planner.Planner.TheVariants.{Build, Compact, Draw}
 use Rattle.aqfp_top.specs.declared.words.Form.{Form}
 use Rattle.aqfp_top.specs.declared.words.Form.TheVariants.{Make, Verify, Trace, Equal, Write, Report, Shapes, Sample}
 use Rattle.aqfp_top.specs.declared.words.Form.TheVariants.{Wrong}
@@ -24,20 +24,20 @@ compact_not_draw words form draw =
 
 -- the words of any command that makes a chip
 pub is_make : (planner : Planner) (words : List (List ℕ)) → IsMakeBy planner words → IsMake words
-is_make Layered words form = inl form
+is_make Build words form = inl form
 is_make Compact words form = inr (inl form)
-is_make Given words form = inr (inr form)
+is_make Draw words form = inr (inr form)
 
 pub one_planner : (words : List (List ℕ)) (p q : Planner) → IsMakeBy p words → IsMakeBy q words → p ≡ q
-one_planner words Layered Layered a b = refl
-one_planner words Layered Compact a b = absurd (build_not_compact words a b)
-one_planner words Layered Given a b = absurd (build_not_draw words a b)
-one_planner words Compact Layered a b = absurd (build_not_compact words b a)
+one_planner words Build Build a b = refl
+one_planner words Build Compact a b = absurd (build_not_compact words a b)
+one_planner words Build Draw a b = absurd (build_not_draw words a b)
+one_planner words Compact Build a b = absurd (build_not_compact words b a)
 one_planner words Compact Compact a b = refl
-one_planner words Compact Given a b = absurd (compact_not_draw words a b)
-one_planner words Given Layered a b = absurd (build_not_draw words b a)
-one_planner words Given Compact a b = absurd (compact_not_draw words b a)
-one_planner words Given Given a b = refl
+one_planner words Compact Draw a b = absurd (compact_not_draw words a b)
+one_planner words Draw Build a b = absurd (build_not_draw words b a)
+one_planner words Draw Compact a b = absurd (compact_not_draw words b a)
+one_planner words Draw Draw a b = refl
 
 pub four_words : (words : List (List ℕ)) → IsMake words → length words ≡ 4
 four_words words (inl form) = form.0

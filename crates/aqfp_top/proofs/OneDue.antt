@@ -13,7 +13,7 @@ use Rattle.aqfp_top.specs.Due.{stages_of, bytes_at, Due, MayAnswer, MayGiveUp, u
 use Rattle.aqfp_top.specs.Due.{IsPastSize, IsDoneOrMemory}
 use Rattle.aqfp_top.specs.Counted.{Counts, HasFaults, NoFaults}
 use Rattle.aqfp_top.specs.declared.planner.Planner.{Planner}
-use Rattle.aqfp_top.specs.declared.planner.Planner.TheVariants.{Layered, Compact, Given}
+use Rattle.aqfp_top.specs.declared.planner.Planner.TheVariants.{Build, Compact, Draw}
 use Rattle.aqfp_top.specs.declared.words.Form.{Form}
 use Rattle.aqfp_top.specs.declared.words.Form.TheVariants.{Make, Verify, Trace, Equal, Write, Report, Sample, Wrong}
 use Rattle.aqfp_top.specs.declared.words.Form.TheVariants as form
@@ -95,9 +95,9 @@ comparing files words Design count is many = absurd many
 -- none gives up for a number of subfunctions
 no_functions : (planner : Planner) (n : NetView) (l : LibraryView) (count : ℕ)
     → PlanGivesUp planner n l Functions count → ⊥
-no_functions Layered n l count many = many
+no_functions Build n l count many = many
 no_functions Compact n l count many = many
-no_functions Given n l count many = many
+no_functions Draw n l count many = many
 
 planning : (planner : Planner) (files : Contents) (words : List (List ℕ)) (what : Large) (count : ℕ)
     → IsMakeBy planner words → HasDesign (bytes_at files words 1) (bytes_at files words 2)
@@ -132,9 +132,9 @@ gives_up files words Wrong what count is some = absurd (rest some)
 
 is_search : (planner : Planner) (words : List (List ℕ)) (n : NetView) (l : LibraryView) (what : Large) (count : ℕ)
     → IsMakeBy planner words → PlanGivesUp planner n l what count → IsSearch words
-is_search Layered words n l what count form many = absurd many
+is_search Build words n l what count form many = absurd many
 is_search Compact words n l what count form many = inl form
-is_search Given words n l what count form many = inr form
+is_search Draw words n l what count form many = inr form
 
 may_give_up : (files : Contents) (words : List (List ℕ)) (what : Large) (count : ℕ) → IsPastSize files words what count
     → MayGiveUp words what
@@ -166,9 +166,9 @@ some_first (s ∷ stages) never =
     some_first stages (λ answer first. never answer (first_after s stages answer none first))
 
 no_form : (words : List (List ℕ)) → ((form : Form) → ¬ IsOfForm words form) → ¬ HasForm words
-no_form words never (inl (inl build)) = never (Make Layered) build
+no_form words never (inl (inl build)) = never (Make Build) build
 no_form words never (inl (inr (inl compact))) = never (Make Compact) compact
-no_form words never (inl (inr (inr draw))) = never (Make Given) draw
+no_form words never (inl (inr (inr draw))) = never (Make Draw) draw
 no_form words never (inr (inl (inl verify))) = never Verify verify
 no_form words never (inr (inl (inr trace))) = never Trace trace
 no_form words never (inr (inr (inl sample))) = never (Sample sample.bits) sample.of_bits

@@ -28,7 +28,7 @@ use Rattle.plan_build.specs.declared.refusal.PlanRefusal.TheVariants as plan
 use Rattle.aqfp_top.specs.Designs.{SaysLibrary, HasNetlist, HasDesign, KeepsLimits, HasManyElements, HasTooMuch}
 use Rattle.aqfp_top.specs.Designs.{IsCellFault, IsNetlistFault, IsPlainFault, IsCellsFault, IsPlanFault, PlanFinds}
 use Rattle.aqfp_top.specs.declared.planner.Planner.{Planner}
-use Rattle.aqfp_top.specs.declared.planner.Planner.TheVariants.{Layered, Compact, Given}
+use Rattle.aqfp_top.specs.declared.planner.Planner.TheVariants.{Build, Compact, Draw}
 use Rattle.aqfp_top.proofs.OwnCells.{one_own_fault}
 use Rattle.aqfp_top.specs.declared.fault.Large.{Large}
 use Rattle.aqfp_top.specs.declared.fault.Large.TheVariants.{Slots, Rows, Cells, Elements, Shapes, Functions, Design}
@@ -299,9 +299,9 @@ module _ (past : (l : LibraryView) (net : NetView) (refusal : PlanRefusal) → r
 
   one_found : (planner : Planner) (n : NetView) (l : LibraryView) (f g : Fault) → PlanFinds planner n l f
       → PlanFinds planner n l g → f ≡ g
-  one_found Layered n l f g p q = one_limit n l f g p q
+  one_found Build n l f g p q = one_limit n l f g p q
   one_found Compact n l f g p q = absurd p
-  one_found Given n l f g p q = one_own_fault n l f g p q
+  one_found Draw n l f g p q = one_own_fault n l f g p q
 
   pub one_plan_fault : (planner : Planner) (net lib : List ℕ) (f g : Fault)
       → HasDesign net lib (λ n l. PlanFinds planner n l f)

@@ -30,7 +30,7 @@ use Rattle.aqfp_top.specs.Code.Staging.{OrMemory}
 use Rattle.aqfp_top.specs.Code.Designing.{AreCountsOf, IsChipOf, PlanRefuses, IsWellPlanned}
 use Rattle.aqfp_top.specs.Code.Printing.{PrintsText, OutFails}
 use Rattle.aqfp_top.specs.Code.Sampling.{IsSampleOfBits, text_in, IsMakingFault}
-use Rattle.aqfp_top.specs.declared.planner.Planner.TheVariants.{Layered}
+use Rattle.aqfp_top.specs.declared.planner.Planner.TheVariants.{Build}
 use Rattle.aqfp_top.specs.declared.sample.SampleResult.{SampleResult}
 use Rattle.aqfp_top.specs.declared.design.Chip.{Chip}
 use Rattle.aqfp_top.specs.declared.fault.Large.TheVariants.{Slots, Rows, Cells, Elements, Shapes}
@@ -81,7 +81,7 @@ plan_finds bits equations _ says bad = absurd bad
 
 -- the defined plan refuses what it finds
 plan_refuses : (equations : NetView) (cells : LibraryView) (fault : Fault)
-    → OrMemory (PlanRefuses Layered equations cells) fault
+    → OrMemory (PlanRefuses Build equations cells) fault
     → OrMemory (IsPlanFault equations cells) fault
 plan_refuses equations cells (TooLarge what count) (inl bad) = bad
 plan_refuses equations cells (TooLarge what count) (inr none) = absurd none
@@ -90,7 +90,7 @@ plan_refuses equations cells _ bad = absurd bad
 
 pub planning_answers : (bits : ℕ) (equations : NetView) (cells : LibraryView) (fault : Fault)
     → netlist.SaysNet (adder bits) equations → cells ≡ library_a_view
-    → OrMemory (PlanRefuses Layered equations cells) fault → Answers (sample_stages bits) (Some fault)
+    → OrMemory (PlanRefuses Build equations cells) fault → Answers (sample_stages bits) (Some fault)
 planning_answers bits equations cells fault says is refused =
     let bad = plan_refuses equations cells fault refused in
     past (stage.Plain (adder bits)) (stage.PlanWith (adder bits) library_a_view ∷ []) (Some fault)
@@ -99,20 +99,20 @@ planning_answers bits equations cells fault says is refused =
     (plan_finds bits equations fault says (subst (λ l. OrMemory (IsPlanFault equations l) fault) is bad)))
 
 own_plan_none : (bits : ℕ) (equations : NetView) → netlist.SaysNet (adder bits) equations
-    → IsWellPlanned Layered equations library_a_view → FindsNone (stage.PlanWith (adder bits) library_a_view)
+    → IsWellPlanned Build equations library_a_view → FindsNone (stage.PlanWith (adder bits) library_a_view)
 own_plan_none bits equations says none fault bad = none fault
     (subst (λ n. IsPlanFault n library_a_view fault)
     (one_plain (adder bits) bad.equations equations bad.says says) bad.holds)
 
 pub sample_is_well : (bits : ℕ) (equations : NetView) (cells : LibraryView) → netlist.SaysNet (adder bits) equations
-    → cells ≡ library_a_view → IsWellPlanned Layered equations cells → IsFirst (sample_stages bits) None
+    → cells ≡ library_a_view → IsWellPlanned Build equations cells → IsFirst (sample_stages bits) None
 sample_is_well bits equations cells says is none = (
   says_no_plain_fault (adder bits) equations says,
-  (own_plan_none bits equations says (subst (λ l. IsWellPlanned Layered equations l) is none), tt),
+  (own_plan_none bits equations says (subst (λ l. IsWellPlanned Build equations l) is none), tt),
 )
 
 pub sample_is_made : (bits : ℕ) (equations : NetView) (cells : LibraryView) (chip : Chip) (sample : SampleResult)
-    → netlist.SaysNet (adder bits) equations → cells ≡ library_a_view → IsChipOf Layered equations cells chip
+    → netlist.SaysNet (adder bits) equations → cells ≡ library_a_view → IsChipOf Build equations cells chip
     → sample.counts ≡ chip.counts → AllZip (IsAnswer equations) (eight bits) sample.answers → IsSampleOfBits bits sample
 sample_is_made bits equations cells chip sample says is made counts answers = record {
   equations = equations;
@@ -144,7 +144,7 @@ own_planning_fault equations cells Memory bad = tt
 own_planning_fault equations cells _ bad = absurd bad
 
 pub planning_fault : (equations : NetView) (cells : LibraryView) (fault : Fault)
-    → OrMemory (PlanRefuses Layered equations cells) fault → IsMakingFault fault
+    → OrMemory (PlanRefuses Build equations cells) fault → IsMakingFault fault
 planning_fault equations cells fault refused =
     own_planning_fault equations cells fault (plan_refuses equations cells fault refused)
 

@@ -10,7 +10,7 @@ use Rattle.aqfp_top.specs.Stages.{Stage, Finds, FindsNone, IsFirst, IsLoadFault,
 use Rattle.aqfp_top.specs.Due.{file_at, bytes_at}
 use Rattle.aqfp_top.specs.Code.Staging.{OrMemory}
 use Rattle.aqfp_top.specs.Code.Loading.{LoadsWord, IsFaultOfLoad}
-use Rattle.aqfp_top.specs.declared.planner.Planner.TheVariants.{Layered, Compact, Given}
+use Rattle.aqfp_top.specs.declared.planner.Planner.TheVariants.{Build, Compact, Draw}
 use Rattle.aqfp_top.specs.declared.fault.WriteCall.{WriteCall}
 use Rattle.aqfp_top.specs.declared.fault.Fault.{Fault}
 use Rattle.aqfp_top.specs.declared.fault.Fault.TheVariants.{Usage, Absent, TooLong, ReadFault, WriteFault, BadBlif}
@@ -54,9 +54,9 @@ no_read (stage.Loading load file) place found = found
 no_read (stage.Netlist net) place found = found
 no_read (stage.Plain net) place found = found
 no_read (stage.Cells lib) place found = found
-no_read (stage.Plan Layered net lib) place found = found.holds
+no_read (stage.Plan Build net lib) place found = found.holds
 no_read (stage.Plan Compact net lib) place found = found.holds
-no_read (stage.Plan Given net lib) place found = found.holds
+no_read (stage.Plan Draw net lib) place found = found.holds
 no_read (stage.PlanWith net cells) place found = found.holds
 no_read (stage.Stream gds) place found = found
 no_read (stage.Size gds) place found = found
@@ -72,9 +72,9 @@ no_write (stage.Loading load file) call found = found
 no_write (stage.Netlist net) call found = found
 no_write (stage.Plain net) call found = found
 no_write (stage.Cells lib) call found = found
-no_write (stage.Plan Layered net lib) call found = found.holds
+no_write (stage.Plan Build net lib) call found = found.holds
 no_write (stage.Plan Compact net lib) call found = found.holds
-no_write (stage.Plan Given net lib) call found = found.holds
+no_write (stage.Plan Draw net lib) call found = found.holds
 no_write (stage.PlanWith net cells) call found = found.holds
 no_write (stage.Stream gds) call found = found
 no_write (stage.Size gds) call found = found

@@ -20,7 +20,7 @@ use Rattle.decide.specs.Verdicts.{shown, IsLeastDifference, IsVerdict, IsRefusal
 use Rattle.decide.specs.Verdicts as verdicts
 use Rattle.decide.specs.declared.refusal.DecideRefusal.TheVariants.{TooMany}
 use Rattle.decide.specs.declared.verdict.Verdict.{Verdict}
-use Rattle.decide.specs.declared.verdict.Verdict.TheVariants.{Equal, Differ, Differs}
+use Rattle.decide.specs.declared.verdict.Verdict.TheVariants.{Equal, LeastDifference, SomeDifference}
 use Rattle.aqfp_top.specs.Comparing.{at, AgreeAt, DifferAt, IsFirstDifference, IsSomeDifference, IsTrueOf}
 use Rattle.aqfp_top.specs.Comparing.{AreManyFunctions}
 
@@ -115,8 +115,8 @@ module _ (circuit : CircuitView) (view : NetView) (a b : PlainView) (a_cells : I
       (plain.IsAnswer a) (plain.IsAnswer b) (equations.IsAnswer view) same
       (same_back view.inputs b.inputs (length view.outputs) (length b.outputs) (equations.IsAnswer view)
       (plain.IsAnswer b) second))
-  truth (Differ output word) least = first_difference output word least
-  truth (Differs output word) some = some_difference output word some
+  truth (LeastDifference output word) least = first_difference output word least
+  truth (SomeDifference output word) some = some_difference output word some
 
 -- The same of the gates of the chip's cells and of those that the netlist is mapped to.
 

@@ -20,7 +20,7 @@ use Rattle.circuit_gates.specs.CellGates.{cells_of}
 use Rattle.decide.specs.Subfunctions.{HasAtMost}
 use Rattle.decide.specs.Verdicts.{Before}
 use Rattle.decide.specs.declared.verdict.Verdict.{Verdict}
-use Rattle.decide.specs.declared.verdict.Verdict.TheVariants.{Equal, Differ, Differs}
+use Rattle.decide.specs.declared.verdict.Verdict.TheVariants.{Equal, LeastDifference, SomeDifference}
 use Rattle.text_answers.specs.WordLines.{digit_of, word_line}
 use Rattle.aqfp_top.specs.Checks.{ToldTexts, MakesCircuit}
 use Rattle.aqfp_top.specs.declared.fault.Fault.{Fault}
@@ -99,14 +99,14 @@ abbrev pub IsTrueOf : CircuitView → NetView → Verdict → Type 0
 IsTrueOf circuit view Equal =
     SameAnswers circuit.inputs view.inputs (length circuit.outputs) (length view.outputs) (IsAnswer circuit)
     (equations.IsAnswer view)
-IsTrueOf circuit view (Differ output word) = IsFirstDifference circuit view output word
-IsTrueOf circuit view (Differs output word) = IsSomeDifference circuit view output word
+IsTrueOf circuit view (LeastDifference output word) = IsFirstDifference circuit view output word
+IsTrueOf circuit view (SomeDifference output word) = IsSomeDifference circuit view output word
 
 -- the line of a verdict
 abbrev pub verdict_text : Verdict → List ℕ
 verdict_text Equal = codes "equal\n"
-verdict_text (Differ output word) = codes "differ O" ++ decimal output ++ codes " at " ++ word_line word
-verdict_text (Differs output word) =
+verdict_text (LeastDifference output word) = codes "differ O" ++ decimal output ++ codes " at " ++ word_line word
+verdict_text (SomeDifference output word) =
     codes "differ O" ++ decimal output ++ codes " at " ++ map digit_of word ++ codes ", perhaps not the least\n"
 
 -- the texts make a circuit and equations, of which the verdict is true

@@ -29,7 +29,7 @@ use Rattle.plan_draw.specs.DrawnChips.{IsDrawnChip}
 use Rattle.plan_draw.specs.Refusals.{RefusesCells}
 use Rattle.plan_draw.specs.declared.refusal.CellPlanRefusal.TheVariants as own
 use Rattle.aqfp_top.specs.declared.planner.Planner.{Planner}
-use Rattle.aqfp_top.specs.declared.planner.Planner.TheVariants.{Layered, Compact, Given}
+use Rattle.aqfp_top.specs.declared.planner.Planner.TheVariants.{Build, Compact, Draw}
 use Rattle.aqfp_top.specs.declared.fault.Large.{Large}
 use Rattle.aqfp_top.specs.declared.fault.Large.TheVariants.{Slots, Rows, Cells, Elements, Shapes, Functions, Design}
 use Rattle.aqfp_top.specs.declared.fault.Fault.{Fault}
@@ -72,9 +72,9 @@ pub record HasCellChip (equations : NetView) (cells : LibraryView) : Type 0 wher
 -- the chip is the one that the defined plan makes of the netlist, which keeps all limits; or one that was searched for,
 -- which is no larger than that one, if that one keeps all limits; or the netlist's own cells
 abbrev pub IsPlanBy : Planner → NetView → LibraryView → PlacedView → Type 0
-IsPlanBy Layered equations cells chip = (chip ≡ chip_of cells equations) × IsWithin cells equations
+IsPlanBy Build equations cells chip = (chip ≡ chip_of cells equations) × IsWithin cells equations
 IsPlanBy Compact equations cells chip = IsWithin cells equations → IsNoLarger chip (chip_of cells equations)
-IsPlanBy Given equations cells chip = IsDrawnChip cells equations chip
+IsPlanBy Draw equations cells chip = IsDrawnChip cells equations chip
 
 -- a chip of a netlist: rows of placed cells that may be drawn with the library and answer every word as the netlist
 -- does, with few enough elements
@@ -127,9 +127,9 @@ HasTooMuchOfOwn equations cells Design count = ⊥
 -- the plan finds no fault and keeps all limits: the defined one, also where a smaller chip is searched for; or that of
 -- the netlist's own cells
 abbrev pub KeepsPlan : Planner → NetView → LibraryView → Type 0
-KeepsPlan Layered equations cells = KeepsLimits equations cells
+KeepsPlan Build equations cells = KeepsLimits equations cells
 KeepsPlan Compact equations cells = KeepsLimits equations cells
-KeepsPlan Given equations cells = HasCellChip equations cells
+KeepsPlan Draw equations cells = HasCellChip equations cells
 
 -- this is wrong with a netlist's text first: a line or a cycle, or its models and calls, or their size
 abbrev pub IsNetlistFault : List ℕ → Fault → Type 0
@@ -163,12 +163,12 @@ IsOwnFault equations cells _ = ⊥
 -- what is wrong with a plan: the first limit that the defined one passes, or that a netlist is none of cells; a search
 -- finds nothing wrong
 abbrev pub PlanFinds : Planner → NetView → LibraryView → Fault → Type 0
-PlanFinds Layered equations cells fault = IsPlanFault equations cells fault
+PlanFinds Build equations cells fault = IsPlanFault equations cells fault
 PlanFinds Compact equations cells fault = ⊥
-PlanFinds Given equations cells fault = IsOwnFault equations cells fault
+PlanFinds Draw equations cells fault = IsOwnFault equations cells fault
 
 -- the limit for which a search gives up: the first that the chip passes that is made where it finds none
 abbrev pub PlanGivesUp : Planner → NetView → LibraryView → Large → ℕ → Type 0
-PlanGivesUp Layered equations cells what count = ⊥
+PlanGivesUp Build equations cells what count = ⊥
 PlanGivesUp Compact equations cells what count = HasTooMuch equations cells what count
-PlanGivesUp Given equations cells what count = HasTooMuchOfOwn equations cells what count
+PlanGivesUp Draw equations cells what count = HasTooMuchOfOwn equations cells what count

@@ -4,7 +4,7 @@ use Rattle.aqfp_top.specs.Loads.{build_loads, check_loads, equal_loads, write_lo
 use Rattle.aqfp_top.specs.Words.{IsMakeBy, IsCheck, IsEqual, IsWrite, IsReport, IsShapes, IsSample, HasForm}
 use Rattle.aqfp_top.specs.Lines.{HasPlace}
 use Rattle.aqfp_top.specs.declared.planner.Planner.{Planner}
-use Rattle.aqfp_top.specs.declared.planner.Planner.TheVariants.{Given}
+use Rattle.aqfp_top.specs.declared.planner.Planner.TheVariants.{Draw}
 use Rattle.aqfp_top.specs.declared.fault.Large.TheVariants.{Shapes, Functions, Design}
 use Rattle.aqfp_top.specs.declared.fault.WriteCall.TheVariants.{Out}
 use Rattle.aqfp_top.specs.declared.fault.Fault.{Fault}
@@ -26,7 +26,7 @@ IsBuildFault planner (MissingCell kind) = Unit {0}
 IsBuildFault planner (TooLarge Shapes count) = ⊥
 IsBuildFault planner (TooLarge Functions count) = ⊥
 IsBuildFault planner (TooLarge what count) = Unit {0}
-IsBuildFault planner (NotCells line kind) = planner ≡ Given
+IsBuildFault planner (NotCells line kind) = planner ≡ Draw
 IsBuildFault planner Memory = Unit {0}
 IsBuildFault planner _ = ⊥
 

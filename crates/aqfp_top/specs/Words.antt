@@ -4,7 +4,7 @@ use Rattle.std.specs.Fmt.{decimal}
 use Rattle.std.specs.String.{string_bytes}
 use Rattle.std.specs.declared.alloc.Global.{Global}
 use Rattle.aqfp_top.specs.declared.planner.Planner.{Planner}
-use Rattle.aqfp_top.specs.declared.planner.Planner.TheVariants.{Layered, Compact, Given}
+use Rattle.aqfp_top.specs.declared.planner.Planner.TheVariants.{Build, Compact, Draw}
 use Rattle.aqfp_top.specs.declared.words.Form.{Form}
 use Rattle.aqfp_top.specs.declared.words.Form.TheVariants.{Make, Verify, Trace, Equal, Write, Report, Shapes, Sample}
 use Rattle.aqfp_top.specs.declared.words.Form.TheVariants.{Wrong}
@@ -31,9 +31,9 @@ IsDraw words = (length words ≡ 4) × (word_at words 0 ≡ codes "draw")
 
 -- the command that makes a chip by this plan
 abbrev pub IsMakeBy : Planner → List (List ℕ) → Type 0
-IsMakeBy Layered words = IsBuild words
+IsMakeBy Build words = IsBuild words
 IsMakeBy Compact words = IsCompact words
-IsMakeBy Given words = IsDraw words
+IsMakeBy Draw words = IsDraw words
 
 -- one of the two commands that search for a chip
 abbrev pub IsSearch : List (List ℕ) → Type 0

@@ -116,7 +116,7 @@ fn plan(alloc: Global, planner: Planner, cells: &Library, net: &Netlist) -> Resu
     ensures bad { IfErr result (OrMemory (PlanRefuses planner net.now cells.now)) }
 {
     match planner {
-        Planner::Layered => match plan_chip(alloc, cells, net) {
+        Planner::Build => match plan_chip(alloc, cells, net) {
             Ok(placed) => Ok(placed),
             Err(refusal) => Err(limit_fault(&refusal)),
         },
@@ -124,7 +124,7 @@ fn plan(alloc: Global, planner: Planner, cells: &Library, net: &Netlist) -> Resu
             Ok(placed) => Ok(placed),
             Err(refusal) => Err(limit_fault(&refusal)),
         },
-        Planner::Given => match draw_cells(alloc, cells, net) {
+        Planner::Draw => match draw_cells(alloc, cells, net) {
             Ok(placed) => Ok(placed),
             Err(refusal) => Err(cells_fault(&refusal)),
         },

@@ -1,12 +1,12 @@
 // The plans by which commands make chips.
 
-/// Which plan a chip is made by.
+/// How a chip is made. Each is named by its command: `build`, `compact` or `draw`.
 #[derive(Clone, Copy, PartialEq, Eq)]
 pub enum Planner {
-    /// The plan that is defined step by step, as `build` follows it.
-    Layered,
-    /// The plan that is searched for, as `compact` does it.
+    /// By the plan that is defined step by step.
+    Build,
+    /// By a plan that is searched for.
     Compact,
-    /// The cells of the netlist as they are given, in an order that is searched for, as `draw` does it.
-    Given,
+    /// By the cells of the netlist as they are given, in an order that is searched for.
+    Draw,
 }

@@ -102,7 +102,7 @@ fn make(alloc: Global, bits: u32) -> Result<SampleResult, Fault>
     let Ok(cells) = library_a(alloc) else {
         return Err(Fault::Memory);
     };
-    let chip = Chip::of_net(alloc, Planner::Layered, &net, &cells)?;
+    let chip = Chip::of_net(alloc, Planner::Build, &net, &cells)?;
     let Ok(answers) = eight_answers(alloc, bits, &net) else {
         return Err(Fault::Memory);
     };

@@ -91,7 +91,7 @@ fn form_of_four(words: &[String]) -> Form
 {
     if is_word(words, 0, "build") {
         return Form::Make {
-            planner: Planner::Layered,
+            planner: Planner::Build,
         };
     }
     if is_word(words, 0, "compact") {
@@ -101,7 +101,7 @@ fn form_of_four(words: &[String]) -> Form
     }
     if is_word(words, 0, "draw") {
         return Form::Make {
-            planner: Planner::Given,
+            planner: Planner::Draw,
         };
     }
     if is_word(words, 0, "verify") {

@@ -42,8 +42,8 @@ pub record IsSomeDifference (a b : PlainView) (output : ℕ) (word : List Bool) 
 -- what a verdict says
 abbrev pub IsVerdict : PlainView → PlainView → Verdict → Type 0
 IsVerdict a b verdict.Equal = answer_alike a b
-IsVerdict a b (verdict.Differ output word) = IsLeastDifference a b output word
-IsVerdict a b (verdict.Differs output word) = IsSomeDifference a b output word
+IsVerdict a b (verdict.LeastDifference output word) = IsLeastDifference a b output word
+IsVerdict a b (verdict.SomeDifference output word) = IsSomeDifference a b output word
 
 -- what a refusal says: too many comes only where it is so, and want of memory may always come
 abbrev pub IsRefusal : PlainView → PlainView → DecideRefusal → Type 0

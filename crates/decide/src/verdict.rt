@@ -20,10 +20,10 @@ pub enum Verdict {
     Equal,
     /// `output` is the number, from 0, of the least output on which some word gives different values, and `word` the
     /// least such word: input 0 decides first, and false comes before true.
-    Differ { output: u32, word: Word },
+    LeastDifference { output: u32, word: Word },
     /// `output` is the number of an output that differs at `word`. Lower outputs may differ too, and lesser words may
     /// show it: the two circuits have more than 1,000,000 subfunctions. `decide` never says so.
-    Differs { output: u32, word: Word },
+    SomeDifference { output: u32, word: Word },
 }
 
 /// The comparison of two circuits of so many inputs, with these gates and outputs, in rising variable order.
@@ -50,7 +50,7 @@ fn compare(
             let left = edge_of(&both.first, outputs[output]);
             let right = edge_of(&both.second, other_outputs[output]);
             let word = both.diagram.least_word(alloc, inputs, left, right)?;
-            Ok(Verdict::Differ {
+            Ok(Verdict::LeastDifference {
                 output: output as u32,
                 word,
             })
@@ -92,7 +92,7 @@ fn compare_in(
             let left = edge_of(&both.first, outputs[output]);
             let right = edge_of(&both.second, other_outputs[output]);
             match both.diagram.least_word_in(alloc, rank, left, right) {
-                Ok(word) => Ok(Some(Verdict::Differ {
+                Ok(word) => Ok(Some(Verdict::LeastDifference {
                     output: output as u32,
                     word,
                 })),
@@ -104,8 +104,8 @@ fn compare_in(
 
 /// Whether two circuits of the same counts answer every word alike, and where they do not, the least output on which
 /// some word gives different values, and the least such word. `TooMany` comes only where the two circuits have more
-/// than 1,000,000 subfunctions. `Memory` comes also where more than 2^25 majorities would have to be made in rising
-/// order, which bounds the time.
+/// than 1,000,000 subfunctions, and `Memory` only where memory is refused. How many majorities are made, and so the
+/// time, is bounded by memory alone: the computed table grows with them.
 pub fn decide(alloc: Global, a: &Cells, b: &Cells) -> Result<Verdict, DecideRefusal>
     requires inputs { b.now.inputs ≡ a.now.inputs }
     requires outputs { length b.now.outputs ≡ length a.now.outputs }

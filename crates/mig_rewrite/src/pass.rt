@@ -29,7 +29,7 @@ impl CutPass {
 
 /// The graph by the chosen cuts, without what serves no output. Where one can't be used, or there would be too many
 /// nodes, it is the graph that was given, without what serves no output.
-fn cut_graph(alloc: Global, graph: &Graph, recipes: &Recipes) -> Result<Graph, GraphRefusal>
+fn rewritten_graph(alloc: Global, graph: &Graph, recipes: &Recipes) -> Result<Graph, GraphRefusal>
     ensures made { IfOk result (λ made. IsRebuilt graph.now made) }
     ensures met { IfErr result (λ refusal. refusal ≡ NoMemory) }
 {
@@ -59,6 +59,6 @@ impl Pass<Graph> for CutPass {
     ghost keeps = { λ s from to given. given.same };
 
     fn run(&self, alloc: Global, from: &Graph) -> Result<Graph, GraphRefusal> {
-        cut_graph(alloc, from, &self.recipes)
+        rewritten_graph(alloc, from, &self.recipes)
     }
 }

@@ -1,4 +1,4 @@
--- Literals follow from others: by majorities, by facts, and step by step.
+-- Literals follow from others: by majorities, by clauses, and step by step.
 use Rattle.std.specs.Prelude.{◌≡◌, ℕ, ◌+◌, ◌<◌, ◌≤◌, not, Bool, true, false, List, [], ◌∷◌, ◌++◌, length}
 use Rattle.std.specs.List.{All, Contains}
 use Rattle.std.proofs.Common.{refl, sym, ap, ◌∙◌, subst, inl, inr, take, get_or}
@@ -12,9 +12,9 @@ use Rattle.mig.specs.Graphs.{literal_value, node_value, turned}
 use Rattle.mig.specs.Building.{BuilderView, Grown, Splits}
 use Rattle.mig.proofs.Folded.{turned_value}
 use Rattle.mig.proofs.Built.{odd_value, fits_before}
-use Rattle.sat_solver.specs.declared.found.Fact.{Fact}
-use Rattle.sat_solver.specs.Refuted.{AreImpossible, AreFacts}
-use Rattle.sat_solver.specs.Code.Following.{Follows, IsTold, HasBoth, AreContrary}
+use Rattle.sat_solver.specs.declared.clause.Clause.{Clause}
+use Rattle.sat_solver.specs.Clauses.{AreUnsatisfiable, AreClauses}
+use Rattle.sat_solver.specs.Code.Following.{Follows, IsImplied, HasBoth, AreConflicting}
 
 -- two of three values that are true
 first_two : (a b c : Bool) → a ≡ true → b ≡ true → majority a b c ≡ true
@@ -68,54 +68,55 @@ pub ruleset operand_pairs = (has_first_two, has_outer_two, has_last_two)
 complement : (v : ℕ → Bool) (l : ℕ) → literal_value v l ≡ true → literal_value v (turned l) ≡ false
 complement v l e = turned_value v l ∙ ap not e
 
-pub both_contrary : (v : ℕ → Bool) (l : ℕ) → literal_value v l ≡ true → literal_value v (turned l) ≡ true → ⊥
-both_contrary v l e f =
+pub both_conflict : (v : ℕ → Bool) (l : ℕ) → literal_value v l ≡ true → literal_value v (turned l) ≡ true → ⊥
+both_conflict v l e f =
     let z : true ≡ false = sym f ∙ complement v l e in
     absurd (cc)
 
 -- two operands of a majority are not true beside its complement
-pub majority_impossible : (b : BuilderView) (node : Node) (top p q : ℕ) → Splits b top node → HasBoth node p q
-    → AreImpossible b (p ∷ q ∷ turned top ∷ [])
-majority_impossible b node top p q splits both = record {
-  never = λ word v fit are. both_contrary v top (splits.shows word v fit ∙ both.shows v are.0 are.1.0) are.1.1.0;
+pub majority_unsatisfiable : (b : BuilderView) (node : Node) (top p q : ℕ) → Splits b top node → HasBoth node p q
+    → AreUnsatisfiable b (p ∷ q ∷ turned top ∷ [])
+majority_unsatisfiable b node top p q splits both = record {
+  never = λ word v fit are. both_conflict v top (splits.shows word v fit ∙ both.shows v are.0 are.1.0) are.1.1.0;
 }
 
--- a literal that is known, and the complement of the one that is false
-pub told_by_known : (known : List ℕ) (l further : ℕ) → Contains known further → IsTold known l further
-told_by_known known l further has = record {
+-- a literal that is implied, and the complement of the one that is false
+pub implied_already : (implied : List ℕ) (l further : ℕ) → Contains implied further → IsImplied implied l further
+implied_already implied l further has = record {
   shows = λ v are no.
-      All-contains (λ k. literal_value v k ≡ true) known further
-      (All-from_recursion (λ k. literal_value v k ≡ true) known are) has;
+      All-contains (λ k. literal_value v k ≡ true) implied further
+      (All-from_recursion (λ k. literal_value v k ≡ true) implied are) has;
 }
 
-pub told_by_turned : (known : List ℕ) (l further : ℕ) → further ≡ turned l → IsTold known l further
-told_by_turned known l further is = record {
+pub implied_by_turned : (implied : List ℕ) (l further : ℕ) → further ≡ turned l → IsImplied implied l further
+implied_by_turned implied l further is = record {
   shows = λ v are no. ap (literal_value v) is ∙ turned_value v l ∙ ap not no;
 }
 
-pub known_contrary : (known : List ℕ) (l : ℕ) → Contains known l → Contains known (turned l) → AreContrary known
-known_contrary known l one other = record {
+pub implied_conflict : (implied : List ℕ) (l : ℕ) → Contains implied l → Contains implied (turned l)
+    → AreConflicting implied
+implied_conflict implied l one other = record {
   never = λ v are.
-      let all = All-from_recursion (λ k. literal_value v k ≡ true) known are in
-      both_contrary v l (All-contains (λ k. literal_value v k ≡ true) known l all one)
-      (All-contains (λ k. literal_value v k ≡ true) known (turned l) all other);
+      let all = All-from_recursion (λ k. literal_value v k ≡ true) implied are in
+      both_conflict v l (All-contains (λ k. literal_value v k ≡ true) implied l all one)
+      (All-contains (λ k. literal_value v k ≡ true) implied (turned l) all other);
 }
 
--- what cannot be false beside the known ones follows from them
-pub told_follows : (b : BuilderView) (known fact : List ℕ) (l : ℕ) → AreImpossible b fact
-    → All (IsTold known l) fact → Follows b known l
-told_follows b known fact l never told = record {
+-- what cannot be false beside the implied ones follows from them
+pub unit_follows : (b : BuilderView) (implied clause : List ℕ) (l : ℕ) → AreUnsatisfiable b clause
+    → All (IsImplied implied l) clause → Follows b implied l
+unit_follows b implied clause l never shown = record {
   shows = λ word v fit are. elim (cases_Bool (literal_value v l)) [
     | inl e ↦ e
     | inr f ↦ absurd (never.never word v fit
-        (recursion_from_All (λ k. literal_value v k ≡ true) fact (λ k d lt. (told k d lt).shows v are f)))
+        (recursion_from_All (λ k. literal_value v k ≡ true) clause (λ k d lt. (shown k d lt).shows v are f)))
   ];
 }
 
 -- the literals themselves, and the constant true
-pub begins : (b : BuilderView) (from known : List ℕ) → known ≡ 1 ∷ from → All (Follows b from) known
-begins b from known is =
-    All-same (Follows b from) known (1 ∷ from) is
+pub begins : (b : BuilderView) (from implied : List ℕ) → implied ≡ 1 ∷ from → All (Follows b from) implied
+begins b from implied is =
+    All-same (Follows b from) implied (1 ∷ from) is
     (All-cons (Follows b from) 1 from
     (record { shows = λ word v fit are. odd_value v 1 refl ∙ ap not fit.none })
     (λ k d lt. record {
@@ -123,52 +124,55 @@ begins b from known is =
     }))
 
 -- what follows from what follows
-pub follows_more : (b : BuilderView) (from known more : List ℕ) (l : ℕ) → All (Follows b from) known
-    → Follows b known l → more ≡ known ++ l ∷ [] → All (Follows b from) more
-follows_more b from known more l all follows is =
-    All-same (Follows b from) more (known ++ l ∷ []) is (All-push (Follows b from) known l all (record {
+pub follows_more : (b : BuilderView) (from implied more : List ℕ) (l : ℕ) → All (Follows b from) implied
+    → Follows b implied l → more ≡ implied ++ l ∷ [] → All (Follows b from) more
+follows_more b from implied more l all follows is =
+    All-same (Follows b from) more (implied ++ l ∷ []) is (All-push (Follows b from) implied l all (record {
       shows = λ word v fit are. follows.shows word v fit
-          (recursion_from_All (λ k. literal_value v k ≡ true) known (λ k d lt. (all k d lt).shows word v fit are));
+          (recursion_from_All (λ k. literal_value v k ≡ true) implied (λ k d lt. (all k d lt).shows word v fit are));
     }))
 
-pub contrary_impossible : (b : BuilderView) (from known : List ℕ) → All (Follows b from) known → AreContrary known
-    → AreImpossible b from
-contrary_impossible b from known all contrary = record {
-  never = λ word v fit are. contrary.never v
-      (recursion_from_All (λ k. literal_value v k ≡ true) known (λ k d lt. (all k d lt).shows word v fit are));
+pub conflict_unsatisfiable : (b : BuilderView) (from implied : List ℕ) → All (Follows b from) implied
+    → AreConflicting implied → AreUnsatisfiable b from
+conflict_unsatisfiable b from implied all conflicting = record {
+  never = λ word v fit are. conflicting.never v
+      (recursion_from_All (λ k. literal_value v k ≡ true) implied (λ k d lt. (all k d lt).shows word v fit are));
 }
 
--- one fact more
-pub facts_more : (b : BuilderView) (facts more : List Fact) (fact : Fact) → AreFacts b facts
-    → AreImpossible b fact.literals.items → more ≡ facts ++ fact ∷ [] → AreFacts b more
-facts_more b facts more fact all never is =
-    All-same (λ (f : Fact). AreImpossible b f.literals.items) more (facts ++ fact ∷ []) is
-    (All-push (λ (f : Fact). AreImpossible b f.literals.items) facts fact all never)
+-- one clause more
+pub clauses_more : (b : BuilderView) (clauses more : List Clause) (clause : Clause) → AreClauses b clauses
+    → AreUnsatisfiable b clause.literals.items → more ≡ clauses ++ clause ∷ [] → AreClauses b more
+clauses_more b clauses more clause all never is =
+    All-same (λ (f : Clause). AreUnsatisfiable b f.literals.items) more (clauses ++ clause ∷ []) is
+    (All-push (λ (f : Clause). AreUnsatisfiable b f.literals.items) clauses clause all never)
 
--- the literals of a fact, one after another
-pub one_more_told : (known : List ℕ) (l : ℕ) (fact : List ℕ) (k : ℕ) → k < length fact
-    → All (IsTold known l) (take k fact) → IsTold known l (get_or fact k 0) → All (IsTold known l) (take (k + 1) fact)
-one_more_told known l fact k lt all told = All-more (IsTold known l) fact k 0 lt all told
+-- the literals of a clause, one after another
+pub one_more_implied : (implied : List ℕ) (l : ℕ) (clause : List ℕ) (k : ℕ) → k < length clause
+    → All (IsImplied implied l) (take k clause) → IsImplied implied l (get_or clause k 0)
+    → All (IsImplied implied l) (take (k + 1) clause)
+one_more_implied implied l clause k lt all shown = All-more (IsImplied implied l) clause k 0 lt all shown
 
-pub all_told : (known : List ℕ) (l : ℕ) (fact : List ℕ) (k : ℕ) → length fact ≤ k
-    → All (IsTold known l) (take k fact) → All (IsTold known l) fact
-all_told known l fact k le all =
-    All-same (IsTold known l) fact (take k fact) (sym (take_all k fact le)) all
+pub all_implied : (implied : List ℕ) (l : ℕ) (clause : List ℕ) (k : ℕ) → length clause ≤ k
+    → All (IsImplied implied l) (take k clause) → All (IsImplied implied l) clause
+all_implied implied l clause k le all =
+    All-same (IsImplied implied l) clause (take k clause) (sym (take_all k clause le)) all
 
--- the fact at a place
-pub fact_at : (b : BuilderView) (facts : List Fact) (k : ℕ) (fact : Fact) (read : List ℕ) → AreFacts b facts
-    → k < length facts → read ≡ (get_or facts k fact).literals.items → AreImpossible b read
-fact_at b facts k fact read all lt same =
-    subst (AreImpossible b) (sym same)
-    (All-get_or (λ (f : Fact). AreImpossible b f.literals.items) facts k fact lt all)
+-- the clause at a place
+pub clause_at : (b : BuilderView) (clauses : List Clause) (k : ℕ) (clause : Clause) (read : List ℕ)
+    → AreClauses b clauses → k < length clauses
+    → read ≡ (get_or clauses k clause).literals.items → AreUnsatisfiable b read
+clause_at b clauses k clause read all lt same =
+    subst (AreUnsatisfiable b) (sym same)
+    (All-get_or (λ (f : Clause). AreUnsatisfiable b f.literals.items) clauses k clause lt all)
 
--- facts stay facts where the graph grows
-impossible_later : (a b : BuilderView) (literals : List ℕ) → Grown a b → AreImpossible a literals
-    → AreImpossible b literals
-impossible_later a b literals grown impossible = record {
-  never = λ word v fit are. impossible.never word v (fits_before a b grown word v fit) are;
+-- clauses stay clauses where the graph grows
+unsatisfiable_later : (a b : BuilderView) (literals : List ℕ) → Grown a b → AreUnsatisfiable a literals
+    → AreUnsatisfiable b literals
+unsatisfiable_later a b literals grown unsatisfiable = record {
+  never = λ word v fit are. unsatisfiable.never word v (fits_before a b grown word v fit) are;
 }
 
-pub facts_later : (a b : BuilderView) (facts : List Fact) → Grown a b → AreFacts a facts → AreFacts b facts
-facts_later a b facts grown all =
-    λ k fact lt. impossible_later a b (get_or facts k fact).literals.items grown (all k fact lt)
+pub clauses_later : (a b : BuilderView) (clauses : List Clause) → Grown a b → AreClauses a clauses
+    → AreClauses b clauses
+clauses_later a b clauses grown all =
+    λ k clause lt. unsatisfiable_later a b (get_or clauses k clause).literals.items grown (all k clause lt)

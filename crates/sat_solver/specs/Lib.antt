@@ -1,2 +1,2 @@
-pub mod Refuted
+pub mod Clauses
 pub mod Code

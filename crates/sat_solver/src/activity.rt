@@ -1,70 +1,71 @@
-// How often nodes had a part in clashes.
+// The activity of nodes: how often they had a part in conflicts, later ones counting more (VSIDS).
 use aq_base::Memory;
 use std::alloc::Global;
 
-/// The greatest amount that is gained at once. Past it all amounts are shifted down.
-const MOST_GAIN: u64 = 1 << 40;
+/// The greatest bump. Past it all activities are scaled down.
+const MOST_BUMP: u64 = 1 << 40;
 
-/// How far they are shifted.
+/// How far they are shifted then.
 const SHIFT: u32 = 30;
 
-/// What a node has gained, in amounts of the age when it last did.
+/// The activity of a node, as it was scaled in the age of its last bump.
 #[derive(Clone, Copy)]
-struct Gained {
+struct Score {
     age: u32,
     amount: u64,
 }
 
-/// What each node has gained by its parts in clashes. Later ones count more: the amount grows by a sixteenth with each
-/// clash. In place of a pass over all nodes when amounts are shifted down, each is shifted when it is read.
+/// The activity of each node: it is bumped where the node has a part in a conflict. In place of a decay of all
+/// activities with each conflict, the bump grows by a sixteenth. In place of a pass over all nodes when they are scaled
+/// down, an age begins, and each activity is scaled when it is read.
 #[derive(Drop)]
 pub(crate) struct Activity {
-    of: Vec<Gained>,
+    scores: Vec<Score>,
     age: u32,
-    gain: u64,
+    bump: u64,
 }
 
 impl Activity {
     /// None.
     pub(crate) fn new(alloc: Global) -> Activity {
         Activity {
-            of: Vec::new(alloc),
+            scores: Vec::new(alloc),
             age: 0,
-            gain: 1 << 10,
+            bump: 1 << 10,
         }
     }
 
     /// Makes room for so many nodes.
     pub(crate) fn grow(&mut self, nodes: usize) -> Result<(), Memory> {
-        for _ in self.of.len()..nodes {
-            self.of.push(Gained { age: 0, amount: 0 })?;
+        for _ in self.scores.len()..nodes {
+            self.scores.push(Score { age: 0, amount: 0 })?;
         }
         Ok(())
     }
 
-    /// What a node has gained.
+    /// The activity of a node.
     pub(crate) fn of(&self, node: u32) -> u64 {
-        match self.of.get(node as usize) {
-            Some(gained) if gained.age == self.age => gained.amount,
-            Some(gained) if gained.age.saturating_add(1) == self.age => gained.amount >> SHIFT,
+        match self.scores.get(node as usize) {
+            Some(score) if score.age == self.age => score.amount,
+            Some(score) if score.age.saturating_add(1) == self.age => score.amount >> SHIFT,
             _ => 0,
         }
     }
 
-    /// A node has a part in a clash.
-    pub(crate) fn add(&mut self, node: u32) {
-        let amount = self.of(node).saturating_add(self.gain);
+    /// Bumps a node, which has a part in a conflict.
+    pub(crate) fn bump(&mut self, node: u32) {
+        let amount = self.of(node).saturating_add(self.bump);
         let age = self.age;
-        if let Some(gained) = self.of.get_mut(node as usize) {
-            *gained = Gained { age, amount };
+        if let Some(score) = self.scores.get_mut(node as usize) {
+            *score = Score { age, amount };
         }
     }
 
-    /// A clash is done with.
-    pub(crate) fn end_clash(&mut self) {
-        self.gain = self.gain.saturating_add(self.gain / 16);
-        if self.gain > MOST_GAIN {
-            self.gain >>= SHIFT;
+    /// Decays all activities, once a conflict is analysed, by making the next bumps larger.
+    pub(crate) fn decay(&mut self) {
+        self.bump = self.bump.saturating_add(self.bump / 16);
+        if self.bump > MOST_BUMP {
+            self.bump >>= SHIFT;
             self.age = self.age.saturating_add(1);
         }
     }

@@ -1,20 +1,24 @@
-//! Whether literals of a graph of majorities can all be true: a search by cases that learns from its conflicts.
+//! Whether literals of a majority-inverter graph can all be true: a SAT solver by conflict-driven clause learning
+//! (CDCL) on the graph itself, which checks each clause that it learns before it keeps it.
 #![tactic(auto)]
 
 mod activity;
-mod blame;
-mod choice;
+mod answer;
+mod checked_clauses;
+mod clause;
 mod cone;
-mod found;
-mod known;
-mod ledger;
-mod search;
-mod spread;
+mod conflict_analysis;
+mod decision;
+mod implied;
+mod limits;
+mod propagation;
+mod solver;
 mod step;
 mod tables;
 mod trail;
-mod watched;
-mod work;
+mod watched_clauses;
 
-pub use found::{Fact, Found, Limits, Work};
-pub use search::Search;
+pub use answer::Answer;
+pub use clause::Clause;
+pub use limits::{Limits, Work};
+pub use solver::Solver;

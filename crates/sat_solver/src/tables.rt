@@ -1,18 +1,18 @@
-// What a search writes down of nodes, and its moves. Nothing depends on them but what is found.
+// The tables of a search, and its moves. They find clauses and words; nothing that is proved depends on them.
 use crate::activity::Activity;
-use crate::blame::{Blame, level_of};
-use crate::choice::next_choice;
 use crate::cone::Cone;
-use crate::spread::spread;
+use crate::conflict_analysis::{ConflictAnalysis, conflict_level};
+use crate::decision::next_decision;
+use crate::propagation::propagate;
 use crate::step::{Reason, Step};
 use crate::trail::Trail;
-use crate::watched::Watched;
+use crate::watched_clauses::WatchedClauses;
 use crate::{Limits, Work};
 use aq_base::Memory;
 use mig::{Builder, turned};
 use std::alloc::Global;
 
-/// How many literals the facts may have that are kept for the next search.
+/// How many literals may be kept for the clauses that the next search takes over.
 const MOST_LITERALS: usize = 500_000;
 
 /// The tables of a search.
@@ -20,8 +20,8 @@ const MOST_LITERALS: usize = 500_000;
 pub(crate) struct Tables {
     cone: Cone,
     trail: Trail,
-    watched: Watched,
-    blame: Blame,
+    clauses: WatchedClauses,
+    analysis: ConflictAnalysis,
     activity: Activity,
     conflicts: u32,
 }
@@ -32,8 +32,8 @@ impl Tables {
         Tables {
             cone: Cone::new(alloc),
             trail: Trail::new(alloc),
-            watched: Watched::new(alloc),
-            blame: Blame::new(alloc),
+            clauses: WatchedClauses::new(alloc),
+            analysis: ConflictAnalysis::new(alloc),
             activity: Activity::new(alloc),
             conflicts: 0,
         }
@@ -43,19 +43,19 @@ impl Tables {
     pub(crate) fn grow(&mut self, nodes: usize) -> Result<(), Memory> {
         self.cone.grow(nodes)?;
         self.trail.grow(nodes)?;
-        self.watched.grow(nodes.saturating_mul(2))?;
-        self.blame.grow(nodes)?;
+        self.clauses.grow(nodes.saturating_mul(2))?;
+        self.analysis.grow(nodes)?;
         self.activity.grow(nodes)
     }
 
-    /// Lets go all facts.
-    pub(crate) fn forget(&mut self) {
-        self.watched.clear();
+    /// Lets go all clauses.
+    pub(crate) fn forget_clauses(&mut self) {
+        self.clauses.clear();
     }
 
-    /// Whether these are so many facts, and not too many to be kept.
-    pub(crate) fn may_keep(&self, facts: usize) -> bool {
-        self.watched.len() == facts && self.watched.literal_count() <= MOST_LITERALS
+    /// Whether these are so many clauses, and not too many to be kept.
+    pub(crate) fn may_keep(&self, clauses: usize) -> bool {
+        self.clauses.len() == clauses && self.clauses.literal_count() <= MOST_LITERALS
     }
 
     /// Marks the cone of some literals.
@@ -69,57 +69,57 @@ impl Tables {
         self.cone.mark(graph, literals, limits.cone, work)
     }
 
-    /// Begins a search, with the facts and the cone that there are.
+    /// Begins a search anew at the first level, with the clauses and the cone that there are.
     pub(crate) fn begin(&mut self, limits: Limits) -> Result<(), Memory> {
-        self.trail.back(0);
+        self.trail.backtrack(0);
         self.trail.begin_level()?;
         self.conflicts = limits.conflicts;
         Ok(())
     }
 
-    /// Sets what is assumed; the step that cannot be, if the complement of one is set.
+    /// Sets the unit clauses and the assumptions; the conflict, if one of them is false.
     pub(crate) fn assume(
         &mut self,
         assumed: &[u32],
         work: &mut Work,
     ) -> Result<Option<Step>, Memory> {
-        for step in self.watched.singles() {
+        for step in self.clauses.units() {
             work.pay(1);
             if self.cone.touches(step.literal / 2)
-                && let Some(clash) = self.trail.imply(*step)?
+                && let Some(conflict) = self.trail.imply(*step)?
             {
-                return Ok(Some(clash));
+                return Ok(Some(conflict));
             }
         }
         for literal in assumed {
             let step = Step {
                 literal: *literal,
-                reason: Reason::Free,
+                reason: Reason::Decision,
             };
-            if let Some(clash) = self.trail.imply(step)? {
-                return Ok(Some(clash));
+            if let Some(conflict) = self.trail.imply(step)? {
+                return Ok(Some(conflict));
             }
         }
         Ok(None)
     }
 
-    /// Sets what follows; the step that cannot be, if two clash.
-    pub(crate) fn spread(
+    /// Propagates what is set; the conflict, if there is one.
+    pub(crate) fn propagate(
         &mut self,
         graph: &Builder,
         work: &mut Work,
     ) -> Result<Option<Step>, Memory> {
-        spread(graph, &self.cone, &mut self.trail, &mut self.watched, work)
+        propagate(graph, &self.cone, &mut self.trail, &mut self.clauses, work)
     }
 
-    /// Chooses a literal on a level of its own; whether there was something to choose.
-    pub(crate) fn choose(&mut self, graph: &Builder, work: &mut Work) -> Result<bool, Memory> {
-        match next_choice(graph, &self.cone, &self.activity, &mut self.trail, work) {
+    /// Decides a literal on a level of its own; whether one was left to decide.
+    pub(crate) fn decide(&mut self, graph: &Builder, work: &mut Work) -> Result<bool, Memory> {
+        match next_decision(graph, &self.cone, &self.activity, &mut self.trail, work) {
             Some(literal) => {
                 self.trail.begin_level()?;
                 self.trail.set(Step {
                     literal,
-                    reason: Reason::Free,
+                    reason: Reason::Decision,
                 })?;
                 Ok(true)
             }
@@ -127,66 +127,67 @@ impl Tables {
         }
     }
 
-    /// Whether a clash comes of what was assumed alone.
-    pub(crate) fn is_of_assumed(&self, clash: Step) -> bool {
-        level_of(&self.trail, &self.watched, clash) <= 1
+    /// Whether a conflict comes of the assumptions alone.
+    pub(crate) fn is_of_assumptions(&self, conflict: Step) -> bool {
+        conflict_level(&self.trail, &self.clauses, conflict) <= 1
     }
 
-    /// Counts a clash; whether there were too many.
-    pub(crate) fn count(&mut self) -> bool {
+    /// Counts a conflict; whether there were too many.
+    pub(crate) fn count_conflict(&mut self) -> bool {
         let is_last = self.conflicts == 0;
         self.conflicts = self.conflicts.saturating_sub(1);
         is_last
     }
 
-    /// Finds the steps from what was assumed to a clash.
-    pub(crate) fn blame_assumed(
+    /// Analyses a conflict of the assumptions: finds the steps from them to it.
+    pub(crate) fn analyze_final(
         &mut self,
         alloc: Global,
-        clash: Step,
+        conflict: Step,
         work: &mut Work,
     ) -> Result<(), Memory> {
-        self.blame
-            .to_assumed(alloc, &self.trail, &self.watched, clash, work)
+        self.analysis
+            .analyze_final(alloc, &self.trail, &self.clauses, conflict, work)
     }
 
-    /// Finds literals that cannot all be true by a clash, and the steps from them to it.
-    pub(crate) fn blame_fact(
+    /// Analyses a conflict: the literals that are kept for the clause that it shows. Bumps the nodes that had a part in
+    /// it.
+    pub(crate) fn analyze(
         &mut self,
         alloc: Global,
-        clash: Step,
+        conflict: Step,
         work: &mut Work,
     ) -> Result<Vec<u32>, Memory> {
-        let fact = self
-            .blame
-            .to_fact(alloc, &self.trail, &self.watched, clash, work)?;
-        for node in self.blame.nodes() {
-            self.activity.add(*node);
+        let clause = self
+            .analysis
+            .analyze(alloc, &self.trail, &self.clauses, conflict, work)?;
+        for node in self.analysis.nodes() {
+            self.activity.bump(*node);
         }
-        self.activity.end_clash();
-        Ok(fact)
+        self.activity.decay();
+        Ok(clause)
     }
 
-    /// The steps that were found last, from the last to the first.
+    /// The steps of the last analysis, from the last to the first.
     pub(crate) fn steps(&self) -> &[Step] {
-        self.blame.steps.as_slice()
+        self.analysis.steps.as_slice()
     }
 
-    /// Goes back to where a new fact sets the complement of its first literal, and sets it.
-    pub(crate) fn take_fact(&mut self, fact: &[u32], work: &mut Work) -> Result<(), Memory> {
-        work.pay(fact.len() as u64);
-        let Some(first) = fact.first().copied() else {
+    /// Backjumps to the lowest level on which a learned clause is unit, and sets the literal that it implies there.
+    pub(crate) fn backjump(&mut self, clause: &[u32], work: &mut Work) -> Result<(), Memory> {
+        work.pay(clause.len() as u64);
+        let Some(first) = clause.first().copied() else {
             return Ok(());
         };
-        let level = match fact.get(1) {
+        let level = match clause.get(1) {
             Some(second) => self.trail.level_of(*second).max(1),
             None => 1,
         };
-        self.trail.back(level);
-        let number = self.watched.push(fact)?;
+        self.trail.backtrack(level);
+        let number = self.clauses.push(clause)?;
         self.trail.set(Step {
             literal: turned(first),
-            reason: Reason::Fact(number),
+            reason: Reason::Clause(number),
         })
     }
 

@@ -1,23 +1,25 @@
-// Literals that are set, in the order in which they were.
+// The trail: literals that are set, in the order in which they were.
 use crate::step::{Reason, Step};
 use aq_base::Memory;
 use std::alloc::Global;
 
-/// Where a node was set: on which level, and why.
+/// The decision level on which a node was set, and the reason.
 #[derive(Clone, Copy)]
 struct Setting {
     level: u32,
     reason: Reason,
 }
 
-/// Where a level begins on the trail, and which place of the trail was the first without a reason before it began.
+/// Where a decision level begins on the trail, and where the frontier of the decisions was before it.
 #[derive(Clone, Copy)]
 struct Start {
     place: usize,
-    open: usize,
+    frontier: usize,
 }
 
-/// The values of nodes, and the trail. The first level has what is assumed and what follows of it.
+/// The values of nodes, and the trail. The first decision level has the assumptions and what they imply; each level
+/// above has one decision and what it implies with those below. `next` is the place of the first literal that is not
+/// propagated yet, and `frontier` that of the first literal that may still lack a justification (`decision.rt`).
 #[derive(Drop)]
 pub(crate) struct Trail {
     values: Vec<Option<bool>>,
@@ -25,7 +27,7 @@ pub(crate) struct Trail {
     literals: Vec<u32>,
     starts: Vec<Start>,
     next: usize,
-    open: usize,
+    frontier: usize,
 }
 
 impl Trail {
@@ -37,7 +39,7 @@ impl Trail {
             literals: Vec::new(alloc),
             starts: Vec::new(alloc),
             next: 0,
-            open: 0,
+            frontier: 0,
         }
     }
 
@@ -48,7 +50,7 @@ impl Trail {
             self.values.push(value)?;
             self.settings.push(Setting {
                 level: 0,
-                reason: Reason::Free,
+                reason: Reason::Decision,
             })?;
         }
         Ok(())
@@ -65,7 +67,7 @@ impl Trail {
         Some(value != (literal % 2 == 1))
     }
 
-    /// The level on which a literal was set.
+    /// The decision level on which a literal was set.
     pub(crate) fn level_of(&self, literal: u32) -> u32 {
         match self.settings.get((literal / 2) as usize) {
             Some(setting) => setting.level,
@@ -73,15 +75,15 @@ impl Trail {
         }
     }
 
-    /// Why a literal was set.
+    /// The reason why a literal was set.
     pub(crate) fn reason_of(&self, literal: u32) -> Reason {
         match self.settings.get((literal / 2) as usize) {
             Some(setting) => setting.reason,
-            None => Reason::Free,
+            None => Reason::Decision,
         }
     }
 
-    /// How many levels there are.
+    /// How many decision levels there are.
     pub(crate) fn level(&self) -> u32 {
         u32::try_from(self.starts.len()).unwrap_or(u32::MAX)
     }
@@ -96,17 +98,17 @@ impl Trail {
         self.literals.get(place).copied()
     }
 
-    /// The first place of the trail at which something may be left to choose.
-    pub(crate) fn open(&self) -> usize {
-        self.open
+    /// The first place of the trail at which a literal may lack a justification.
+    pub(crate) fn frontier(&self) -> usize {
+        self.frontier
     }
 
-    /// There is nothing left to choose before this place.
-    pub(crate) fn open_from(&mut self, place: usize) {
-        self.open = place;
+    /// All literals before this place are justified.
+    pub(crate) fn set_frontier(&mut self, place: usize) {
+        self.frontier = place;
     }
 
-    /// The next literal of which it has to be seen what follows.
+    /// The next literal to propagate.
     pub(crate) fn take_next(&mut self) -> Option<u32> {
         let literal = self.literal_at(self.next)?;
         self.next = self.next.saturating_add(1);
@@ -130,7 +132,7 @@ impl Trail {
         Ok(())
     }
 
-    /// Sets the literal of a step, unless it is set; the step, where the complement is.
+    /// Sets the literal that a step implies, unless it is set; the step, as a conflict, where the literal is false.
     pub(crate) fn imply(&mut self, step: Step) -> Result<Option<Step>, Memory> {
         match self.value(step.literal) {
             Some(true) => Ok(None),
@@ -142,18 +144,18 @@ impl Trail {
         }
     }
 
-    /// Begins a level.
+    /// Begins a decision level.
     pub(crate) fn begin_level(&mut self) -> Result<(), Memory> {
         let start = Start {
             place: self.literals.len(),
-            open: self.open,
+            frontier: self.frontier,
         };
         self.starts.push(start)?;
         Ok(())
     }
 
-    /// Lets go what was set on levels past this one.
-    pub(crate) fn back(&mut self, level: u32) {
+    /// Backtracks to a decision level: lets go what was set on levels past it.
+    pub(crate) fn backtrack(&mut self, level: u32) {
         let Some(start) = self.starts.get(level as usize).copied() else {
             return;
         };
@@ -165,7 +167,7 @@ impl Trail {
             }
         }
         self.starts.truncate(level as usize);
-        self.open = start.open;
+        self.frontier = start.frontier;
         self.next = self.next.min(self.literals.len());
     }
 }

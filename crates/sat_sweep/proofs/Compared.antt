@@ -8,7 +8,7 @@ use Rattle.circuit.specs.CellNets.{IsCells, value}
 use Rattle.circuit.proofs.CellAnswers.{value_fits, the_answer}
 use Rattle.decide.specs.Verdicts.{answer_alike, shown, IsLeastDifference}
 use Rattle.decide.specs.declared.verdict.Verdict.{Verdict}
-use Rattle.decide.specs.declared.verdict.Verdict.TheVariants.{Equal, Differ, Differs}
+use Rattle.decide.specs.declared.verdict.Verdict.TheVariants.{Equal, LeastDifference, SomeDifference}
 use Rattle.mig.specs.Graphs.{literal_value, Fits}
 use Rattle.mig.specs.Building.{BuilderView, IsBuilder, Grown}
 use Rattle.mig.proofs.Valued.{some_fits}
@@ -16,7 +16,7 @@ use Rattle.mig.proofs.Built.{fits_before}
 use Rattle.sat_sweep.specs.Code.GateLiterals.{ShowOutputs}
 use Rattle.sat_sweep.specs.Code.Merging.{AreAllAlike}
 use Rattle.sat_sweep.specs.Code.Differences.{IsDifference}
-use Rattle.sat_sweep.specs.Code.Least.{IsFound, AreFirstApart}
+use Rattle.sat_sweep.specs.Code.Least.{IsFound, IsLeastCandidate}
 use Rattle.sat_sweep.proofs.Merging.{maps_alike}
 
 -- answers that are alike are so the other way round
@@ -62,14 +62,14 @@ module _ (one other : PlainView) (mid late last : BuilderView) (ok : IsBuilder l
 pub found_back : (one other : PlainView) (found : Verdict) → one.inputs ≡ other.inputs
     → length one.outputs ≡ length other.outputs → IsFound one other found → IsFound other one found
 found_back one other Equal inputs outputs is = alike_back one other is
-found_back one other (Differ output word) inputs outputs is = record {
+found_back one other (LeastDifference output word) inputs outputs is = record {
   output_within = (let lt = is.output_within in omega arith);
   long = is.long ∙ inputs;
   differ = λ same. is.differ (sym same);
   least_output = λ k x lt long. sym (is.least_output k x lt (long ∙ sym inputs));
   least_word = λ x long before. sym (is.least_word x (long ∙ sym inputs) before);
 }
-found_back one other (Differs output word) inputs outputs is = record {
+found_back one other (SomeDifference output word) inputs outputs is = record {
   long = is.long ∙ inputs;
   at = record {
     within = (let lt = is.at.within in omega arith);
@@ -108,20 +108,20 @@ module _ (one other : PlainView) (mid late last : BuilderView) (ok : IsBuilder l
       ∙ same ∙ place_same x other.gates v others other.outputs k (omega arith)
       (second.shows x v (fits_before late last after x v fit))
 
-  pub least_difference : (place : ℕ) (word : List Bool) → AreFirstApart last literals others place word
+  pub least_difference : (place : ℕ) (word : List Bool) → IsLeastCandidate last literals others place word
       → shown one place word ≢ shown other place word → IsLeastDifference one other place word
-  least_difference place word apart differ = record {
-    output_within = (let lt = apart.within in let e = first.size in omega arith);
-    long = apart.least.long ∙ inputs;
+  least_difference place word candidate differ = record {
+    output_within = (let lt = candidate.within in let e = first.size in omega arith);
+    long = candidate.least.long ∙ inputs;
     differ = differ;
     least_output = λ k x lt long.
         let v = some_fits last.inputs last.nodes ok.are_nodes x in
-        let within = apart.within in
-        shown_alike x v.0 k v.1 (omega arith) ((apart.below k lt).shows x v.0 v.1);
+        let within = candidate.within in
+        shown_alike x v.0 k v.1 (omega arith) ((candidate.below k lt).shows x v.0 v.1);
     least_word = λ x long early.
         let v = some_fits last.inputs last.nodes ok.are_nodes x in
-        shown_alike x v.0 place v.1 apart.within
-        (apart.least.before.shows x v.0 v.1 (long ∙ sym inputs) early);
+        shown_alike x v.0 place v.1 candidate.within
+        (candidate.least.before.shows x v.0 v.1 (long ∙ sym inputs) early);
   }
 
 -- some output that differs

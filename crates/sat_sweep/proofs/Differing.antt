@@ -5,7 +5,7 @@ use Rattle.circuit.specs.PlainNets.{PlainView}
 use Rattle.circuit.specs.Gates.{valuation}
 use Rattle.circuit.specs.CellNets.{IsCells, value}
 use Rattle.decide.specs.Verdicts.{shown, IsVerdict, IsRefusal}
-use Rattle.decide.specs.declared.verdict.Verdict.TheVariants.{Differs}
+use Rattle.decide.specs.declared.verdict.Verdict.TheVariants.{SomeDifference}
 use Rattle.decide.specs.declared.refusal.DecideRefusal.TheVariants.{TooMany}
 use Rattle.sat_sweep.specs.Code.Differences.{IsOther, DiffersAt, IsDifference}
 
@@ -38,7 +38,7 @@ differs_at a b word values others place cells cells' same are are' other =
     }
 
 pub differs : (a b : PlainView) (functions output : ℕ) (word : List Bool) → IsRefusal a b (TooMany functions)
-    → IsDifference a b output word → IsVerdict a b (Differs output word)
+    → IsDifference a b output word → IsVerdict a b (SomeDifference output word)
 differs a b functions output word many difference = record {
   output_within = difference.at.within;
   long = difference.long;

@@ -3,7 +3,7 @@ use Rattle.std.specs.Prelude.{◌≡◌, ◌⊎◌, ℕ, zero, suc, ◌+◌, ◌
 use Rattle.std.specs.Prelude.{List, [], ◌∷◌, ◌++◌, length, slice_index_or, IfOk, IfSome, Option, Some, None}
 use Rattle.std.proofs.Common.{Result, Ok, Err, refl, sym, ap, ◌∙◌, subst, arith, inl, inr}
 use Rattle.std.proofs.lemmas.Bool.{cases_lt}
-use Rattle.sat_solver.specs.Refuted.{AreTrue, AreImpossible}
+use Rattle.sat_solver.specs.Clauses.{AreTrue, AreUnsatisfiable}
 use Rattle.decide.specs.Verdicts.{Before}
 use Rattle.mig.specs.Graphs.{literal_value, Fits, turned}
 use Rattle.mig.specs.Building.{BuilderView}
@@ -28,7 +28,7 @@ three_true v first assumed x y z is all p q r =
 -- both searches refuted
 pub both_refuted : (b : BuilderView) (first left right : List ℕ) (more l m l' m' : ℕ) → l' ≡ turned l → m' ≡ turned m
     → left ≡ ((first ++ more ∷ []) ++ l ∷ []) ++ m' ∷ [] → right ≡ ((first ++ more ∷ []) ++ l' ∷ []) ++ m ∷ []
-    → AreImpossible b left → AreImpossible b right → AreAlikeWhere b first more l m
+    → AreUnsatisfiable b left → AreUnsatisfiable b right → AreAlikeWhere b first more l m
 both_refuted b first left right more l m l' m' e f is is' p q = record {
   shows = λ word v fit all low.
       let turn_l : literal_value v l' ≡ not (literal_value v l) = ap (literal_value v) e ∙ turned_value v l in

@@ -9,10 +9,11 @@ use Rattle.mig.specs.Graphs.{literal_value, node_value, Fits, turned, AreBelow}
 use Rattle.mig.specs.Building.{BuilderView, Grown, Gives, Splits, limit}
 use Rattle.mig.proofs.Folded.{turned_value, turned_below}
 use Rattle.mig.proofs.Built.{fits_before, limit_grows, even_value, odd_value, whole_value}
-use Rattle.sat_solver.specs.declared.found.Fact.{Fact}
-use Rattle.sat_solver.specs.Refuted.{AreImpossible, AreFacts}
-use Rattle.sat_solver.proofs.Followed.{facts_later}
-use Rattle.sat_sweep.specs.Code.Merging.{AreAlike, StandsFor, AreMerged, IsKnown, AreAllAlike, partner_at, turned_as}
+use Rattle.sat_solver.specs.declared.clause.Clause.{Clause}
+use Rattle.sat_solver.specs.Clauses.{AreUnsatisfiable, AreClauses}
+use Rattle.sat_solver.proofs.Followed.{clauses_later}
+use Rattle.sat_sweep.specs.Code.Merging.{AreAlike, StandsFor, AreMerged, IsKnown, AreAllAlike}
+use Rattle.sat_sweep.specs.Code.Merging.{representative_at, turned_as}
 
 pub alike_same : (b : BuilderView) (l : ℕ) → AreAlike b l l
 alike_same b l = record { shows = λ word v fit. refl }
@@ -38,38 +39,41 @@ alike_later a b l m grown alike = record {
 }
 
 -- merged nodes stay so where the graph grows
-pub merged_later : (a b : BuilderView) (partners : List (Option ℕ)) → Grown a b → AreMerged a partners
-    → AreMerged b partners
-merged_later a b partners grown merged = record {
+pub merged_later : (a b : BuilderView) (representatives : List (Option ℕ)) → Grown a b → AreMerged a representatives
+    → AreMerged b representatives
+merged_later a b representatives grown merged = record {
   below = λ node l is. (let lt = merged.below node l is in let le = limit_grows a b grown in omega arith);
   alike = λ node l is. alike_later a b (2 * node) l grown (merged.alike node l is);
 }
 
-pub merged_none : (b : BuilderView) (partners : List (Option ℕ)) → partners ≡ [] → AreMerged b partners
-merged_none b partners empty =
+pub merged_none : (b : BuilderView) (representatives : List (Option ℕ)) → representatives ≡ []
+    → AreMerged b representatives
+merged_none b representatives empty =
     subst (λ (ps : List (Option ℕ)). AreMerged b ps) (sym empty) (record {
       below = λ node l is. absurd cc;
       alike = λ node l is. absurd cc;
     })
 
-pub known_later : (a b : BuilderView) (partners : List (Option ℕ)) (facts : List Fact) → Grown a b
-    → IsKnown a partners facts → IsKnown b partners facts
-known_later a b partners facts grown known = record {
-  are_merged = merged_later a b partners grown known.are_merged;
-  are_facts = facts_later a b facts grown known.are_facts;
+pub known_later : (a b : BuilderView) (representatives : List (Option ℕ)) (clauses : List Clause) → Grown a b
+    → IsKnown a representatives clauses → IsKnown b representatives clauses
+known_later a b representatives clauses grown known = record {
+  are_merged = merged_later a b representatives grown known.are_merged;
+  are_clauses = clauses_later a b clauses grown known.are_clauses;
 }
 
-pub known_none : (b : BuilderView) (partners : List (Option ℕ)) (facts : List Fact) → partners ≡ [] → facts ≡ []
-    → IsKnown b partners facts
-known_none b partners facts empty none = record {
-  are_merged = merged_none b partners empty;
-  are_facts = subst (AreFacts b) (sym none) (All-nil (λ (fact : Fact). AreImpossible b fact.literals.items));
+pub known_none : (b : BuilderView) (representatives : List (Option ℕ)) (clauses : List Clause)
+    → representatives ≡ [] → clauses ≡ [] → IsKnown b representatives clauses
+known_none b representatives clauses empty none = record {
+  are_merged = merged_none b representatives empty;
+  are_clauses = subst (AreClauses b) (sym none)
+      (All-nil (λ (clause : Clause). AreUnsatisfiable b clause.literals.items));
 }
 
--- a partner, turned as the literal is
-pub partner_stands : (b : BuilderView) (partners : List (Option ℕ)) (literal own found : ℕ) → AreMerged b partners
-    → partner_at partners (literal / 2) ≡ Some own → found ≡ turned_as literal own → StandsFor b literal found
-partner_stands b partners literal own found merged at is =
+-- a representative, turned as the literal is
+pub representative_stands : (b : BuilderView) (representatives : List (Option ℕ)) (literal own found : ℕ)
+    → AreMerged b representatives → representative_at representatives (literal / 2) ≡ Some own
+    → found ≡ turned_as literal own → StandsFor b literal found
+representative_stands b representatives literal own found merged at is =
     let low = merged.below (literal / 2) own at in
     let same = merged.alike (literal / 2) own at in
     elim (eqb_tells (literal % 2) 1) [
@@ -95,11 +99,11 @@ partner_stands b partners literal own found merged at is =
           }
     ]
 
--- one more partner
+-- one more representative
 pub merged_more : (b : BuilderView) (old new : List (Option ℕ)) (node literal : ℕ) → AreMerged b old
     → literal < limit b → AreAlike b (2 * node) literal
-    → ((k own : ℕ) → partner_at new k ≡ Some own
-    → (partner_at old k ≡ Some own) ⊎ ((k ≡ node) × (own ≡ literal)))
+    → ((k own : ℕ) → representative_at new k ≡ Some own
+    → (representative_at old k ≡ Some own) ⊎ ((k ≡ node) × (own ≡ literal)))
     → AreMerged b new
 merged_more b old new node literal merged low alike put = record {
   below = λ k own is. elim (put k own is) [

@@ -1,8 +1,9 @@
-// Groups of nodes whose values were the same at many words, each in the order in which its nodes came. They are hints.
+// Candidate classes: nodes of the same simulation signature, which may be equal, in the order in which they came. They
+// are hints.
 use aq_base::Memory;
 use std::alloc::Global;
 
-/// For each group the first and the last of its nodes, and for each node the next of its group.
+/// For each class the first and the last of its nodes, and for each node the next of its class.
 #[derive(Drop)]
 pub(crate) struct Classes {
     first: Vec<Option<u32>>,
@@ -24,33 +25,33 @@ fn put(places: &mut [Option<u32>], place: usize, node: u32) {
 }
 
 impl Classes {
-    /// No nodes, in at least one group.
-    pub(crate) fn new(alloc: Global, groups: usize) -> Result<Classes, Memory> {
+    /// No nodes, in at least one class.
+    pub(crate) fn new(alloc: Global, classes: usize) -> Result<Classes, Memory> {
         Ok(Classes {
-            first: vec![in alloc; None; groups.max(1)]?,
-            last: vec![in alloc; None; groups.max(1)]?,
+            first: vec![in alloc; None; classes.max(1)]?,
+            last: vec![in alloc; None; classes.max(1)]?,
             next: Vec::new(alloc),
             is_in: Vec::new(alloc),
         })
     }
 
-    /// The place of a group.
-    fn place_of(&self, home: u64) -> usize {
+    /// The place of a class.
+    fn place_of(&self, key: u64) -> usize {
         let count = self.first.len().max(1);
-        (home % count as u64) as usize
+        (key % count as u64) as usize
     }
 
-    /// Whether a node is in a group.
+    /// Whether a node is in a class.
     pub(crate) fn has(&self, node: u32) -> bool {
         self.is_in.get(node as usize).copied().unwrap_or(false)
     }
 
-    /// The first node of a group.
-    pub(crate) fn first(&self, home: u64) -> Option<u32> {
-        at(&self.first, self.place_of(home))
+    /// The first node of a class.
+    pub(crate) fn first(&self, key: u64) -> Option<u32> {
+        at(&self.first, self.place_of(key))
     }
 
-    /// The next node of its group.
+    /// The next node of its class.
     pub(crate) fn after(&self, node: u32) -> Option<u32> {
         at(&self.next, node as usize)
     }
@@ -67,14 +68,14 @@ impl Classes {
         Ok(())
     }
 
-    /// Puts a node at the end of a group.
-    pub(crate) fn add(&mut self, home: u64, node: u32) -> Result<(), Memory> {
+    /// Puts a node at the end of a class.
+    pub(crate) fn add(&mut self, key: u64, node: u32) -> Result<(), Memory> {
         self.widen(node)?;
         let own = node as usize;
         if own < self.is_in.len() {
             self.is_in[own] = true;
         }
-        let place = self.place_of(home);
+        let place = self.place_of(key);
         match at(&self.last, place) {
             None => put(&mut self.first, place, node),
             Some(last) => put(&mut self.next, last as usize, node),

@@ -18,7 +18,7 @@ pub(crate) fn decided(alloc: Global, a: &Cells, b: &Cells) -> Result<Verdict, De
 {
     match decide(alloc, a, b) {
         Err(DecideRefusal::TooMany { functions }) => match some_difference(alloc, a, b)? {
-            Some(Difference { output, word }) => Ok(Verdict::Differs { output, word }),
+            Some(Difference { output, word }) => Ok(Verdict::SomeDifference { output, word }),
             None => Err(DecideRefusal::TooMany { functions }),
         },
         answer => answer,
@@ -41,7 +41,7 @@ pub(crate) fn decided_or(
     ensures refusal { IfErr result (IsRefusal a.now b.now) }
 {
     match decide(alloc, a, b) {
-        Err(DecideRefusal::TooMany { .. }) => Ok(Verdict::Differs { output, word }),
+        Err(DecideRefusal::TooMany { .. }) => Ok(Verdict::SomeDifference { output, word }),
         answer => answer,
     }
 }

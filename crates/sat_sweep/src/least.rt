@@ -1,13 +1,13 @@
 // The least word at which two literals differ, by searches.
 ghost use Rattle.std.specs.Prelude.{◌≡◌, ◌+◌, ◌<◌, ◌^◌, ◌++◌, ◌∷◌, [], IfOk, IfSome, IsTrue, length};
-ghost use Rattle.sat_solver.specs.declared.found.Found.TheVariants as answers;
+ghost use Rattle.sat_solver.specs.declared.answer.Answer.TheVariants as answers;
 ghost use Rattle.sat_sweep.specs.Code.Least.{AreAlikeWhere, AreAlikeBefore, IsNextLiteral, IsLeastWord};
 
-use crate::round::Round;
+use crate::budget::Budget;
 use aq_base::{List, Memory};
 use circuit::Word;
 use mig::{Builder, turned};
-use sat_solver::{Found, Search};
+use sat_solver::{Answer, Solver};
 use std::alloc::Global;
 
 /// These literals and three more.
@@ -21,28 +21,28 @@ fn with_three(alloc: Global, first: &[u32], x: u32, y: u32, z: u32) -> Result<Ve
     Ok(all)
 }
 
-/// Whether two literals have one value where these first literals and one more are true.
-fn apart_where(
+/// Whether two literals have one value under the assumptions that these first literals and one more are true.
+fn compare_under(
     alloc: Global,
     graph: &Builder,
-    search: &mut Search,
+    solver: &mut Solver,
     first: &[u32],
     more: u32,
     one: u32,
     other: u32,
-    round: &mut Round,
-) -> Result<Found, Memory>
-    ensures { IfOk result (λ found. found ≡ answers.Impossible
+    budget: &mut Budget,
+) -> Result<Answer, Memory>
+    ensures { IfOk result (λ found. found ≡ answers.Unsatisfiable
         → AreAlikeWhere graph.now first.now more one other) }
 {
-    let limits = round.limits;
+    let limits = budget.limits;
     let no_one = turned(one);
     let no_other = turned(other);
     let assumed = with_three(alloc, first, more, one, no_other)?;
-    match search.refute(graph, &assumed, limits, &mut round.work)? {
-        Found::Impossible => {
+    match solver.refute(graph, &assumed, limits, &mut budget.work)? {
+        Answer::Unsatisfiable => {
             let second = with_three(alloc, first, more, no_one, other)?;
-            search.refute(graph, &second, limits, &mut round.work)
+            solver.refute(graph, &second, limits, &mut budget.work)
         }
         found => Ok(found),
     }
@@ -52,13 +52,13 @@ fn apart_where(
 fn next_literal(
     alloc: Global,
     graph: &Builder,
-    search: &mut Search,
+    solver: &mut Solver,
     first: &[u32],
     own: u32,
     is_true: bool,
     one: u32,
     other: u32,
-    round: &mut Round,
+    budget: &mut Budget,
 ) -> Result<Option<u32>, Memory>
     requires { own + 1 < 2 ^ 32 }
     ensures { IfOk result (λ some. IfSome some (IsNextLiteral graph.now first.now own is_true one other)) }
@@ -66,8 +66,8 @@ fn next_literal(
     if !is_true {
         return Ok(Some(own + 1));
     }
-    match apart_where(alloc, graph, search, first, own + 1, one, other, round)? {
-        Found::Impossible => Ok(Some(own)),
+    match compare_under(alloc, graph, solver, first, own + 1, one, other, budget)? {
+        Answer::Unsatisfiable => Ok(Some(own)),
         _ => Ok(None),
     }
 }
@@ -76,11 +76,11 @@ fn next_literal(
 fn are_alike_before(
     alloc: Global,
     graph: &Builder,
-    search: &mut Search,
+    solver: &mut Solver,
     word: &[bool],
     one: u32,
     other: u32,
-    round: &mut Round,
+    budget: &mut Budget,
 ) -> Result<bool, Memory>
     requires { length word.now ≡ graph.now.inputs }
     ensures { IfOk result (λ alike. IsTrue alike → AreAlikeBefore graph.now word.now one other) }
@@ -91,7 +91,7 @@ fn are_alike_before(
         let own = 2 * (1 + input as u32);
         let is_true = word[input];
         match next_literal(
-            alloc, graph, search, &first, own, is_true, one, other, round,
+            alloc, graph, solver, &first, own, is_true, one, other, budget,
         )? {
             None => return Ok(false),
             Some(literal) => first.push(literal)?,
@@ -111,21 +111,22 @@ fn take_rest(word: &mut [bool], from: usize, other: &[bool]) {
 pub(crate) fn lower(
     alloc: Global,
     graph: &Builder,
-    search: &mut Search,
+    solver: &mut Solver,
     word: &mut [bool],
     one: u32,
     other: u32,
-    round: &mut Round,
+    budget: &mut Budget,
 ) -> Result<(), Memory> {
     let mut first = Vec::new(alloc);
     let mut literal = 2u32;
     for input in 0..word.len() {
         let no = literal.saturating_add(1);
         if word[input]
-            && 0 < round.work.left
-            && apart_where(alloc, graph, search, &first, no, one, other, round)? == Found::Word
+            && 0 < budget.work.left
+            && compare_under(alloc, graph, solver, &first, no, one, other, budget)?
+                == Answer::Word
         {
-            take_rest(word, input, search.word());
+            take_rest(word, input, solver.word());
         }
         first.push(if word[input] { literal } else { no })?;
         literal = literal.saturating_add(2);
@@ -137,16 +138,16 @@ pub(crate) fn lower(
 pub(crate) fn least_or_none(
     alloc: Global,
     graph: &Builder,
-    search: &mut Search,
+    solver: &mut Solver,
     word: Vec<bool>,
     one: u32,
     other: u32,
-    round: &mut Round,
+    budget: &mut Budget,
 ) -> Result<Option<Word>, Memory>
     requires { length word.items ≡ graph.now.inputs }
     ensures { IfOk result (λ some. IfSome some (IsLeastWord graph.now one other)) }
 {
-    if are_alike_before(alloc, graph, search, &word, one, other, round)? {
+    if are_alike_before(alloc, graph, solver, &word, one, other, budget)? {
         Ok(Some(List::from_vec(word)))
     } else {
         Ok(None)

@@ -1,11 +1,13 @@
-//! Whether two circuits are alike: the gates of both are made into one graph of majorities, in which gates of the same
-//! function that are made alike have one literal. Then nodes that have the same values at many words are compared by
-//! searches, and merged where they are alike; where some differ, further searches find the least word. What is left
-//! goes to the decision diagram.
+//! Combinational equivalence checking by SAT sweeping: the gates of two circuits are made into one majority-inverter
+//! graph with structural hashing, in which gates of the same function that are made alike have one literal. Then nodes
+//! of the same simulation signature are candidates: a SAT solver compares them, and they are merged where it proves
+//! them equal. A counterexample refines the signatures. Where outputs differ, further searches find the least word.
+//! What is left goes to the decision diagram.
 #![tactic(auto)]
 
-mod alike;
+mod budget;
 mod classes;
+mod comparison;
 mod decided;
 mod differ;
 mod least;
@@ -14,12 +16,11 @@ mod merged;
 mod needed;
 mod numbers;
 mod outcome;
-mod refuted;
-mod round;
 mod signatures;
 mod some_difference;
+mod structure;
 mod sweep;
-mod swept;
+mod sweep_result;
 
-pub use alike::are_alike;
 pub use outcome::{swept_verdict, verdict};
+pub use structure::are_structurally_equal;

@@ -1,54 +1,59 @@
-// A graph whose nodes are merged where they have one value.
+// A graph whose nodes are merged into representatives of the same value.
 ghost use Rattle.std.specs.Prelude.{◌≡◌, ◌⊎◌, ◌*◌, ◌/◌, ◌<◌, ℕ, Some, [], IfOk, IfSome, IfNone, IsTrue, length};
-ghost use Rattle.sat_solver.specs.declared.found.Found.TheVariants as answers;
+ghost use Rattle.sat_solver.specs.declared.answer.Answer.TheVariants as answers;
 ghost use Rattle.mig.specs.Graphs.{node_value, AreBelow};
 ghost use Rattle.mig.specs.Building.{IsBuilder, Grown, Gives, limit};
-ghost use Rattle.sat_sweep.specs.Code.Merging.{AreAlike, StandsFor, AreAllAlike, AreAlikeBelow, partner_at};
-ghost use Rattle.sat_sweep.specs.Code.Merging.{turned_as};
+ghost use Rattle.sat_sweep.specs.Code.Merging.{AreAlike, StandsFor, AreAllAlike, AreAlikeBelow};
+ghost use Rattle.sat_sweep.specs.Code.Merging.{representative_at, turned_as};
 
-use crate::refuted::apart;
-use crate::round::Round;
+use crate::budget::Budget;
+use crate::comparison::compare_literals;
 use aq_base::Memory;
 use mig::{Builder, GraphRefusal, turned};
-use sat_solver::{Fact, Found, Search};
+use sat_solver::{Answer, Clause, Solver};
 use std::alloc::Global;
 use std::marker::Model;
 
-/// How many partners of partners are looked up: each round of a sweep adds at most one.
+/// How many representatives of representatives are looked up: each round of a sweep adds at most one.
 const MOST_STEPS: usize = 4;
 
-/// The literal that a literal's node was merged into, if it was, turned as the literal is.
-fn partner(partners: &[Option<u32>], literal: u32) -> Option<u32>
+/// The representative of a literal: the literal that its node was merged into, if it was, turned as the literal is.
+fn representative(representatives: &[Option<u32>], literal: u32) -> Option<u32>
     ensures { (found : ℕ) → result ≡ Some found
-        → (own : ℕ) × (partner_at partners.now (literal / 2) ≡ Some own) × (found ≡ turned_as literal own) }
+        → (own : ℕ) × (representative_at representatives.now (literal / 2) ≡ Some own)
+        × (found ≡ turned_as literal own) }
 {
-    let own = partners
+    let own = representatives
         .get((literal / 2) as usize)
         .copied()
         .unwrap_or(None)?;
     Some(if literal % 2 == 1 { turned(own) } else { own })
 }
 
-/// Gives a node a partner.
-fn put_partner(partners: &mut Vec<Option<u32>>, node: u32, literal: u32) -> Result<(), Memory>
-    ensures { (k own : ℕ) → partner_at partners.new.items k ≡ Some own
-        → (partner_at partners.old.items k ≡ Some own) ⊎ ((k ≡ node) × (own ≡ literal)) }
+/// Gives a node a representative.
+fn set_representative(
+    representatives: &mut Vec<Option<u32>>,
+    node: u32,
+    literal: u32,
+) -> Result<(), Memory>
+    ensures { (k own : ℕ) → representative_at representatives.new.items k ≡ Some own
+        → (representative_at representatives.old.items k ≡ Some own) ⊎ ((k ≡ node) × (own ≡ literal)) }
 {
     let place = node as usize;
-    if partners.len() <= place {
-        partners.resize(place + 1, None)?;
+    if representatives.len() <= place {
+        representatives.resize(place + 1, None)?;
     }
-    partners[place] = Some(literal);
+    representatives[place] = Some(literal);
     Ok(())
 }
 
-/// A graph, for each node that was merged the literal that it was merged into, and facts that comparisons found.
+/// A graph, for each node that was merged its representative, and the clauses that comparisons learned.
 /// Clauses see the graph.
 #[derive(Drop)]
 pub(crate) struct Merged {
     builder: Builder,
-    partners: Vec<Option<u32>>,
-    facts: Vec<Fact>,
+    representatives: Vec<Option<u32>>,
+    clauses: Vec<Clause>,
 }
 
 impl Model for Merged {
@@ -59,7 +64,7 @@ impl Model for Merged {
 
     ghost view = { λ m. m.builder };
 
-    ghost invariant = { λ m. IsKnown m.builder m.partners.items m.facts.items };
+    ghost invariant = { λ m. IsKnown m.builder m.representatives.items m.clauses.items };
 }
 
 impl Merged {
@@ -70,8 +75,8 @@ impl Merged {
         let builder = Builder::new(alloc, inputs)?;
         Ok(Merged {
             builder,
-            partners: Vec::new(alloc),
-            facts: Vec::new(alloc),
+            representatives: Vec::new(alloc),
+            clauses: Vec::new(alloc),
         })
     }
 
@@ -91,20 +96,20 @@ impl Merged {
 
     /// Whether a node was merged into another one.
     pub(crate) fn is_merged(&self, node: u32) -> bool {
-        self.partners
+        self.representatives
             .get(node as usize)
             .copied()
             .unwrap_or(None)
             .is_some()
     }
 
-    /// The literal that stands for a literal.
+    /// The literal that stands for a literal: the representative of its representatives.
     pub(crate) fn resolved(&self, literal: u32) -> u32
         ensures { StandsFor self.now literal result }
     {
         let mut now = literal;
         for _ in 0..MOST_STEPS {
-            match partner(&self.partners, now) {
+            match representative(&self.representatives, now) {
                 None => return now,
                 Some(next) => now = next,
             }
@@ -118,22 +123,23 @@ impl Merged {
         requires alike { AreAlike self.old (2 * node) literal }
         ensures { self.new ≡ self.old }
     {
-        put_partner(&mut self.partners, node, literal)
+        set_representative(&mut self.representatives, node, literal)
     }
 
     /// Whether two literals have one value, by searches, as far as they get with the limits and the work of a round:
-    /// `Impossible` says that they never have two. The facts that were found before serve, and there may be more now.
+    /// `Unsatisfiable` says that they never have two. The clauses that were learned before serve, and there may be
+    /// more.
     pub(crate) fn compare(
         &mut self,
-        search: &mut Search,
+        solver: &mut Solver,
         one: u32,
         other: u32,
-        round: &mut Round,
-    ) -> Result<Found, Memory>
+        budget: &mut Budget,
+    ) -> Result<Answer, Memory>
         ensures same { self.new ≡ self.old }
-        ensures alike { IfOk result (λ found. found ≡ answers.Impossible → AreAlike self.new one other) }
+        ensures alike { IfOk result (λ found. found ≡ answers.Unsatisfiable → AreAlike self.new one other) }
     {
-        apart(&self.builder, &mut self.facts, search, one, other, round)
+        compare_literals(&self.builder, &mut self.clauses, solver, one, other, budget)
     }
 
     /// A literal whose value is the majority of the values of three literals.
@@ -166,7 +172,7 @@ impl Merged {
 }
 
 /// The first place at which the literals of two lists are not known to have one value.
-pub(crate) fn first_open(merged: &Merged, ones: &[u32], others: &[u32]) -> Option<usize>
+pub(crate) fn first_unmerged(merged: &Merged, ones: &[u32], others: &[u32]) -> Option<usize>
     requires { length others.now ≡ length ones.now }
     ensures none { IfNone result (AreAllAlike merged.now ones.now others.now) }
     ensures some { IfSome result
@@ -185,5 +191,5 @@ pub(crate) fn are_all_alike(merged: &Merged, ones: &[u32], others: &[u32]) -> bo
     requires { length others.now ≡ length ones.now }
     ensures { IsTrue result → AreAllAlike merged.now ones.now others.now }
 {
-    first_open(merged, ones, others).is_none()
+    first_unmerged(merged, ones, others).is_none()
 }

@@ -9,7 +9,7 @@ use crate::differ::differ_at;
 use crate::literals::output_literals;
 use crate::merged::Merged;
 use crate::sweep::swept;
-use crate::swept::Swept;
+use crate::sweep_result::SweepResult;
 use aq_base::Memory;
 use circuit::Gate;
 use decide::{Cells, DecideRefusal, Verdict};
@@ -37,22 +37,22 @@ fn compare(
     let found = swept(alloc, graph, &ones, &others)?;
     graph.known();
     match found {
-        Swept::Alike => Ok(Some(Verdict::Equal)),
-        Swept::Open => Ok(None),
-        Swept::Apart { place, word } => {
+        SweepResult::Equal => Ok(Some(Verdict::Equal)),
+        SweepResult::Undecided => Ok(None),
+        SweepResult::LeastCounterexample { place, word } => {
             let (one, other) = (outputs[place], other_outputs[place]);
             if differ_at(alloc, gates, one, other_gates, other, word.as_slice())? {
                 let output = place as u32;
-                Ok(Some(Verdict::Differ { output, word }))
+                Ok(Some(Verdict::LeastDifference { output, word }))
             } else {
                 Ok(None)
             }
         }
-        Swept::Seen { place, word } => {
+        SweepResult::Counterexample { place, word } => {
             let (one, other) = (outputs[place], other_outputs[place]);
             if differ_at(alloc, gates, one, other_gates, other, word.as_slice())? {
                 let output = place as u32;
-                Ok(Some(Verdict::Differs { output, word }))
+                Ok(Some(Verdict::SomeDifference { output, word }))
             } else {
                 Ok(None)
             }
@@ -123,8 +123,8 @@ fn compare_in_both(
 /// What is found of two circuits of the same counts without their diagram. Their gates are made into one graph of
 /// majorities, where an inverter turns a literal and a buffer keeps it. Where the literals of their outputs are not the
 /// same, nodes that have the same values at many words are compared, lowest first, and merged where searches prove them
-/// alike, in a second graph too, with the circuits in the other order, where the first one tells nothing; where outputs
-/// differ, searches find the least word. `Differs` has an output that differs at its word, and says
+/// equal, in a second graph too, with the circuits in the other order, where the first one tells nothing; where outputs
+/// differ, searches find the least word. `SomeDifference` has an output that differs at its word, and says
 /// nothing of others. `None` says nothing at all. These two come where the searches would take too much work, which is
 /// counted and the same in each run, or where the graph would have 2^30 nodes.
 pub fn swept_verdict(alloc: Global, one: &Cells, other: &Cells) -> Result<Option<Verdict>, Memory>
@@ -142,8 +142,8 @@ pub fn swept_verdict(alloc: Global, one: &Cells, other: &Cells) -> Result<Option
 /// Whether two circuits of the same counts answer every word alike, and where they do not, the least output on which
 /// some word gives different values, and the least such word. Most are decided by one graph of both, whose nodes are
 /// merged where they are alike, however large their diagram would be; the diagram decides all others. `TooMany` comes
-/// only where the two circuits have more than 1,000,000 subfunctions, and `Memory` also where their diagram would take
-/// too many majorities. In the place of `TooMany` a difference is told that need not be the least, where one is known.
+/// only where the two circuits have more than 1,000,000 subfunctions, and `Memory` only where memory is refused. In the
+/// place of `TooMany` a difference is told that need not be the least, where one is known.
 pub fn verdict(alloc: Global, a: &Cells, b: &Cells) -> Result<Verdict, DecideRefusal>
     requires inputs { b.now.inputs ≡ a.now.inputs }
     requires outputs { length b.now.outputs ≡ length a.now.outputs }
@@ -152,8 +152,11 @@ pub fn verdict(alloc: Global, a: &Cells, b: &Cells) -> Result<Verdict, DecideRef
 {
     match swept_verdict(alloc, a, b)? {
         None => decided(alloc, a, b),
-        Some(Verdict::Differs { output, word }) => decided_or(alloc, a, b, output, word),
+        Some(Verdict::SomeDifference { output, word }) => decided_or(alloc, a, b, output, word),
         Some(Verdict::Equal) => Ok(Verdict::Equal),
-        Some(Verdict::Differ { output, word }) => Ok(Verdict::Differ { output, word }),
+        Some(Verdict::LeastDifference { output, word }) => Ok(Verdict::LeastDifference {
+            output,
+            word,
+        }),
     }
 }

@@ -1,4 +1,5 @@
-// Values of nodes at many words: hints which nodes may be alike. Nothing is proved of them.
+// Simulation signatures: values of nodes at many words, which hint at nodes that may be equal. Nothing is proved of
+// them.
 ghost use Rattle.std.specs.Prelude.{◌≡◌, ◌<◌, length, IfOk, IfSome};
 
 use crate::numbers::{first_node, node_limit};
@@ -9,14 +10,14 @@ use std::alloc::Global;
 /// How many numbers of 64 values each node has.
 const NUMBERS: usize = 8;
 
-/// How many more there may be, of words that searches found.
-const MOST_FOUND: usize = 32;
+/// How many more there may be, of counterexamples that searches found.
+const MOST_COUNTEREXAMPLES: usize = 32;
 
 /// How many numbers there may be for all nodes, beyond which no more are kept.
 const MOST_IN_ALL: usize = 1 << 23;
 
-/// The values of a node at 512 words.
-type Values = [u64; NUMBERS];
+/// The signature of a node: its values at 512 words.
+type Signature = [u64; NUMBERS];
 
 /// A number that looks random, from another.
 fn random(number: u64) -> u64 {
@@ -46,8 +47,8 @@ fn input_number(input: u64, place: u64) -> u64 {
     }
 }
 
-/// The first values of an input.
-fn input_values(input: u64) -> Values {
+/// The signature of an input.
+fn input_signature(input: u64) -> Signature {
     let mut values = [0; NUMBERS];
     for place in 0..NUMBERS {
         values[place] = input_number(input, place as u64);
@@ -80,18 +81,18 @@ fn node_number(numbers: &[u64], node: Node) -> u64 {
     )
 }
 
-/// The values of a literal's node.
-fn values_of(all: &[Values], literal: u32) -> Values {
+/// The signature of a literal's node.
+fn signature_of(all: &[Signature], literal: u32) -> Signature {
     all.get((literal / 2) as usize)
         .copied()
         .unwrap_or([0; NUMBERS])
 }
 
-/// The values of a majority, by those of the nodes.
-fn node_values(all: &[Values], node: Node) -> Values {
-    let x = values_of(all, node.x);
-    let y = values_of(all, node.y);
-    let z = values_of(all, node.z);
+/// The signature of a majority, by those of the nodes.
+fn node_signature(all: &[Signature], node: Node) -> Signature {
+    let x = signature_of(all, node.x);
+    let y = signature_of(all, node.y);
+    let z = signature_of(all, node.z);
     let mut values = [0; NUMBERS];
     for place in 0..NUMBERS {
         values[place] = majority(
@@ -104,7 +105,7 @@ fn node_values(all: &[Values], node: Node) -> Values {
 }
 
 /// Whether values are others than these, which are turned by this number.
-fn differ(one: &Values, other: &Values, turned: u64) -> bool {
+fn differ(one: &Signature, other: &Signature, turned: u64) -> bool {
     for place in 0..NUMBERS {
         if one[place] ^ turned != other[place] {
             return true;
@@ -143,24 +144,24 @@ fn near_word(alloc: Global, graph: &Builder, word: &[bool], seed: u64) -> Result
     Ok(numbers)
 }
 
-/// The values of all nodes of a graph: at random words, and at words that searches found.
+/// The values of all nodes of a graph: the signatures, at random words, and those at counterexamples.
 #[derive(Drop)]
 pub(crate) struct Signatures {
-    random: Vec<Values>,
-    found: Vec<Vec<u64>>,
+    random: Vec<Signature>,
+    counterexamples: Vec<Vec<u64>>,
 }
 
 impl Signatures {
-    /// The values of the constant and the inputs.
+    /// The signatures of the constant and the inputs.
     pub(crate) fn new(alloc: Global, inputs: u32) -> Result<Signatures, Memory> {
         let mut random = Vec::new(alloc);
         random.push([0; NUMBERS])?;
         for input in 0..inputs {
-            random.push(input_values(u64::from(input)))?;
+            random.push(input_signature(u64::from(input)))?;
         }
         Ok(Signatures {
             random,
-            found: Vec::new(alloc),
+            counterexamples: Vec::new(alloc),
         })
     }
 
@@ -169,9 +170,9 @@ impl Signatures {
         let known = u32::try_from(self.random.len()).unwrap_or(u32::MAX);
         for node in known..node_limit(graph) {
             let operands = operands(graph, node);
-            self.random.push(node_values(&self.random, operands))?;
-            for place in 0..self.found.len() {
-                let numbers = &mut self.found[place];
+            self.random.push(node_signature(&self.random, operands))?;
+            for place in 0..self.counterexamples.len() {
+                let numbers = &mut self.counterexamples[place];
                 let number = node_number(numbers, operands);
                 numbers.push(number)?;
             }
@@ -179,33 +180,33 @@ impl Signatures {
         Ok(())
     }
 
-    /// The values of a node, by its literal.
-    fn values(&self, literal: u32) -> Values {
-        values_of(&self.random, literal)
+    /// The signature of a node, by its literal.
+    fn signature(&self, literal: u32) -> Signature {
+        signature_of(&self.random, literal)
     }
 
-    /// A number by which nodes are grouped: the same for nodes that have the same random values, or the complements.
-    pub(crate) fn home(&self, node: u32) -> u64 {
-        let values = self.values(node.saturating_mul(2));
+    /// The key of the candidate class of a node: the same for nodes of the same signature, or of complements.
+    pub(crate) fn class_key(&self, node: u32) -> u64 {
+        let values = self.signature(node.saturating_mul(2));
         let turned = if values[0] % 2 == 1 { u64::MAX } else { 0 };
-        let mut home = 0u64;
+        let mut key = 0u64;
         for value in values {
-            home = random(home ^ value ^ turned);
+            key = random(key ^ value ^ turned);
         }
-        home
+        key
     }
 
-    /// The literal of a node whose values are those of another node, if it has one.
-    pub(crate) fn literal_like(&self, node: u32, other: u32) -> Option<u32> {
+    /// The literal of a node that may be equal to another node: it has all values of that one.
+    pub(crate) fn candidate_literal(&self, node: u32, other: u32) -> Option<u32> {
         let even = node.saturating_mul(2);
-        let values = self.values(even);
-        let wanted = self.values(other.saturating_mul(2));
+        let values = self.signature(even);
+        let wanted = self.signature(other.saturating_mul(2));
         let literal = if (values[0] ^ wanted[0]) % 2 == 1 {
             even.saturating_add(1)
         } else {
             even
         };
-        if self.are_apart(literal, other.saturating_mul(2)) {
+        if self.are_known_to_differ(literal, other.saturating_mul(2)) {
             None
         } else {
             Some(literal)
@@ -213,12 +214,12 @@ impl Signatures {
     }
 
     /// Whether the values of two literals are known to differ.
-    pub(crate) fn are_apart(&self, one: u32, other: u32) -> bool {
+    pub(crate) fn are_known_to_differ(&self, one: u32, other: u32) -> bool {
         let turned = turn(one) ^ turn(other);
-        if differ(&self.values(one), &self.values(other), turned) {
+        if differ(&self.signature(one), &self.signature(other), turned) {
             return true;
         }
-        for numbers in &self.found {
+        for numbers in &self.counterexamples {
             if literal_number(numbers, one) != literal_number(numbers, other) {
                 return true;
             }
@@ -229,9 +230,9 @@ impl Signatures {
     /// 64 values of a literal, by the number of its values.
     fn number(&self, place: usize, literal: u32) -> u64 {
         if place < NUMBERS {
-            self.values(literal)[place] ^ turn(literal)
+            self.signature(literal)[place] ^ turn(literal)
         } else {
-            match self.found.get(place - NUMBERS) {
+            match self.counterexamples.get(place - NUMBERS) {
                 None => 0,
                 Some(numbers) => literal_number(numbers, literal),
             }
@@ -239,7 +240,7 @@ impl Signatures {
     }
 
     /// A word at which two literals differ, of those that are known.
-    pub(crate) fn word_apart(
+    pub(crate) fn distinguishing_word(
         &self,
         alloc: Global,
         inputs: u32,
@@ -248,10 +249,10 @@ impl Signatures {
     ) -> Result<Option<Vec<bool>>, Memory>
         ensures { IfOk result (λ some. IfSome some (λ word. length word.items ≡ inputs)) }
     {
-        for place in 0..NUMBERS.saturating_add(self.found.len()) {
-            let apart = self.number(place, one) ^ self.number(place, other);
-            if apart != 0 {
-                let word = self.word_at(alloc, inputs, place, apart.trailing_zeros() % 64)?;
+        for place in 0..NUMBERS.saturating_add(self.counterexamples.len()) {
+            let differing = self.number(place, one) ^ self.number(place, other);
+            if differing != 0 {
+                let word = self.word_at(alloc, inputs, place, differing.trailing_zeros() % 64)?;
                 return Ok(Some(word));
             }
         }
@@ -281,12 +282,13 @@ impl Signatures {
     /// Whether values at more words may be kept.
     fn has_room(&self) -> bool {
         let most = MOST_IN_ALL / self.random.len().max(1);
-        self.found.len() < MOST_FOUND && NUMBERS + self.found.len() < most
+        self.counterexamples.len() < MOST_COUNTEREXAMPLES
+            && NUMBERS + self.counterexamples.len() < most
     }
 
-    /// Takes in a word at which two literals should differ, with words that are near it. Says whether all nodes were
-    /// evaluated for it.
-    pub(crate) fn take_word(
+    /// Takes in a counterexample, a word at which two literals should differ, with words that are near it. Says whether
+    /// all nodes were evaluated for it.
+    pub(crate) fn add_counterexample(
         &mut self,
         alloc: Global,
         graph: &Builder,
@@ -297,9 +299,9 @@ impl Signatures {
         if !self.has_room() {
             return Ok(false);
         }
-        let numbers = near_word(alloc, graph, word, self.found.len() as u64)?;
+        let numbers = near_word(alloc, graph, word, self.counterexamples.len() as u64)?;
         if literal_number(&numbers, one) != literal_number(&numbers, other) {
-            self.found.push(numbers)?;
+            self.counterexamples.push(numbers)?;
         }
         Ok(true)
     }

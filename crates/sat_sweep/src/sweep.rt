@@ -1,25 +1,26 @@
-// A sweep over a graph: nodes that seem to be alike are compared, and merged where they are.
+// A sweep over a graph: nodes that may be equal by their signatures are compared, and merged where the solver proves
+// it.
 ghost use Rattle.std.specs.Prelude.{◌≡◌, ◌*◌, ◌<◌, ℕ, List, IfOk, IfSome, length};
 ghost use Rattle.mig.specs.Building.{Grown, limit};
-ghost use Rattle.sat_sweep.specs.Code.Least.{IsLeastWord, IsSwept};
+ghost use Rattle.sat_sweep.specs.Code.Least.{IsLeastWord, IsSweepResult};
 
+use crate::budget::{Budget, budget_of};
 use crate::classes::Classes;
 use crate::least::{least_or_none, lower};
-use crate::merged::{Merged, are_all_alike, first_open};
+use crate::merged::{Merged, are_all_alike, first_unmerged};
 use crate::needed::{is_marked, needed};
 use crate::numbers::{first_node, node_limit};
-use crate::round::{Round, round_of};
 use crate::signatures::Signatures;
-use crate::swept::Swept;
+use crate::sweep_result::SweepResult;
 use aq_base::{List, Memory};
 use circuit::Word;
 use mig::GraphRefusal;
-use sat_solver::{Found, Limits, Search};
+use sat_solver::{Answer, Limits, Solver};
 use std::alloc::Global;
 
 /// How many conflicts a search may come to, in each round. Few are enough for most nodes, and what these merge makes
 /// the searches for the others shorter.
-const ROUNDS: [u32; 3] = [20, 200, 2_000];
+const ROUND_CONFLICTS: [u32; 3] = [20, 200, 2_000];
 
 /// How much work the searches of all rounds may take for each node of the graph, and at most.
 const NODE_WORK: u64 = 20_000;
@@ -34,7 +35,7 @@ const LARGE: u32 = 100_000;
 
 const PART: u32 = 4_000;
 
-/// How many nodes a node is compared with, and how many of its group are looked at for that.
+/// How many nodes a node is compared with, and how many of its class are looked at for that.
 const MOST_COMPARED: u32 = 2;
 
 const MOST_LOOKED_AT: usize = 64;
@@ -52,42 +53,45 @@ fn work_of(nodes: u32) -> u64 {
     u64::from(nodes).saturating_mul(NODE_WORK).min(SWEEP_WORK)
 }
 
-/// What tells which nodes may be alike, and what compares them.
+/// What tells which nodes may be equal, and what compares them.
 #[derive(Drop)]
 struct Sweep {
     signatures: Signatures,
     classes: Classes,
-    search: Search,
+    solver: Solver,
 }
 
 impl Sweep {
-    /// Begins a round: all nodes get values, and the constant and the inputs come first in their groups.
+    /// Begins a round: all nodes get signatures, and the constant and the inputs come first in their classes.
     fn begin(&mut self, alloc: Global, merged: &Merged) -> Result<(), Memory> {
         let graph = merged.graph();
         self.signatures.grow(graph)?;
-        self.search.grow(graph)?;
+        self.solver.grow(graph)?;
         self.classes = Classes::new(alloc, node_limit(graph) as usize)?;
         for node in 0..first_node(graph) {
-            let home = self.signatures.home(node);
-            self.classes.add(home, node)?;
+            let key = self.signatures.class_key(node);
+            self.classes.add(key, node)?;
         }
         Ok(())
     }
 
-    /// Takes in the word that the last search found, where two literals should differ.
-    fn take_word(
+    /// Refines the signatures by the word that the last search found, a counterexample to the equality of two literals.
+    fn refine(
         &mut self,
         alloc: Global,
         merged: &Merged,
         one: u32,
         other: u32,
-        round: &mut Round,
+        budget: &mut Budget,
     ) -> Result<(), Memory> {
         let graph = merged.graph();
-        let word = self.search.word();
-        if self.signatures.take_word(alloc, graph, word, one, other)? {
+        let word = self.solver.word();
+        if self
+            .signatures
+            .add_counterexample(alloc, graph, word, one, other)?
+        {
             let cost = u64::from(node_limit(graph)) / 4;
-            round.work.left = round.work.left.saturating_sub(cost);
+            budget.work.left = budget.work.left.saturating_sub(cost);
         }
         Ok(())
     }
@@ -99,7 +103,7 @@ impl Sweep {
         merged: &mut Merged,
         node: u32,
         literal: u32,
-        round: &mut Round,
+        budget: &mut Budget,
     ) -> Result<bool, Memory>
         requires node { 2 * node < limit merged.old }
         requires literal { literal < limit merged.old }
@@ -107,26 +111,27 @@ impl Sweep {
     {
         merged.known();
         let own = 2 * node;
-        match merged.compare(&mut self.search, own, literal, round)? {
-            Found::Impossible => {
+        match merged.compare(&mut self.solver, own, literal, budget)? {
+            Answer::Unsatisfiable => {
                 merged.merge(node, literal)?;
                 Ok(true)
             }
-            Found::Word => {
-                self.take_word(alloc, merged, own, literal, round)?;
+            Answer::Word => {
+                self.refine(alloc, merged, own, literal, budget)?;
                 Ok(false)
             }
-            Found::Unknown => Ok(false),
+            Answer::Unknown => Ok(false),
         }
     }
 
-    /// Compares a node with the oldest nodes of the same values, and puts it beside them where it is like none.
-    fn look(
+    /// Compares a node with the oldest nodes of its class, its representatives, and puts it into the class where it is
+    /// merged into none.
+    fn compare_with_class(
         &mut self,
         alloc: Global,
         merged: &mut Merged,
         node: u32,
-        round: &mut Round,
+        budget: &mut Budget,
     ) -> Result<(), Memory>
         requires { 2 * node < limit merged.old }
         ensures { merged.new ≡ merged.old }
@@ -134,34 +139,34 @@ impl Sweep {
         if self.classes.has(node) {
             return Ok(());
         }
-        let home = self.signatures.home(node);
-        let mut candidate = self.classes.first(home);
+        let key = self.signatures.class_key(node);
+        let mut candidate = self.classes.first(key);
         let mut compared = 0;
         for _ in 0..MOST_LOOKED_AT {
             let Some(other) = candidate else {
                 break;
             };
-            if let Some(literal) = self.signatures.literal_like(other, node) {
+            if let Some(literal) = self.signatures.candidate_literal(other, node) {
                 if compared >= MOST_COMPARED || literal / 2 >= node_limit(merged.graph()) {
                     break;
                 }
                 compared += 1;
-                if self.merge_if_alike(alloc, merged, node, literal, round)? {
+                if self.merge_if_alike(alloc, merged, node, literal, budget)? {
                     return Ok(());
                 }
             }
             candidate = self.classes.after(other);
         }
-        self.classes.add(home, node)
+        self.classes.add(key, node)
     }
 
     /// Makes a node anew of what its operands were merged into, and merges it where what comes of it is another node.
-    fn pass(
+    fn sweep_node(
         &mut self,
         alloc: Global,
         merged: &mut Merged,
         node: u32,
-        round: &mut Round,
+        budget: &mut Budget,
     ) -> Result<(), GraphRefusal>
         requires { 2 * node < limit merged.old }
         ensures { Grown merged.old merged.new }
@@ -171,38 +176,38 @@ impl Sweep {
         }
         let literal = merged.remade(node)?;
         self.signatures.grow(merged.graph())?;
-        self.search.grow(merged.graph())?;
-        self.look(alloc, merged, literal / 2, round)?;
+        self.solver.grow(merged.graph())?;
+        self.compare_with_class(alloc, merged, literal / 2, budget)?;
         if literal / 2 != node {
-            let partner = merged.resolved(literal);
-            merged.merge(node, partner)?;
+            let representative = merged.resolved(literal);
+            merged.merge(node, representative)?;
         }
         Ok(())
     }
 
     /// Passes over the nodes that are needed, lowest first.
-    fn pass_all(
+    fn sweep_nodes(
         &mut self,
         alloc: Global,
         merged: &mut Merged,
         needed: &[bool],
-        round: &mut Round,
+        budget: &mut Budget,
     ) -> Result<(), GraphRefusal>
         ensures { Grown merged.old merged.new }
     {
         for node in first_node(merged.graph())..node_limit(merged.graph()) {
             if is_marked(needed, node) {
-                self.pass(alloc, merged, node, round)?;
+                self.sweep_node(alloc, merged, node, budget)?;
             }
         }
         Ok(())
     }
 
     /// The first place at which the literals of two lists are known to differ, or how many places there are.
-    fn first_apart(&self, ones: &[u32], others: &[u32]) -> usize {
+    fn first_difference(&self, ones: &[u32], others: &[u32]) -> usize {
         ones.iter()
             .zip(others)
-            .position(|(one, other)| self.signatures.are_apart(*one, *other))
+            .position(|(one, other)| self.signatures.are_known_to_differ(*one, *other))
             .unwrap_or(ones.len())
     }
 
@@ -218,17 +223,17 @@ impl Sweep {
         requires { length others.now ≡ length ones.now }
         ensures { Grown merged.old merged.new }
     {
-        let mut round = round_of(0, 0, work_of(node_limit(merged.graph())));
-        for conflicts in ROUNDS {
+        let mut budget = budget_of(0, 0, work_of(node_limit(merged.graph())));
+        for conflicts in ROUND_CONFLICTS {
             self.begin(alloc, merged)?;
-            let count = self.first_apart(ones, others);
-            if first_open(merged, ones, others).unwrap_or(count) >= count {
+            let count = self.first_difference(ones, others);
+            if first_unmerged(merged, ones, others).unwrap_or(count) >= count {
                 return Ok(());
             }
             let needed = needed(alloc, merged, ones, others, count)?;
             let cone = cone_of(node_limit(merged.graph()));
-            round.limits = Limits { conflicts, cone };
-            self.pass_all(alloc, merged, &needed, &mut round)?;
+            budget.limits = Limits { conflicts, cone };
+            self.sweep_nodes(alloc, merged, &needed, &mut budget)?;
         }
         Ok(())
     }
@@ -248,21 +253,29 @@ impl Sweep {
         let other = merged.resolved(other);
         let Some(mut word) = self
             .signatures
-            .word_apart(alloc, graph.inputs(), one, other)?
+            .distinguishing_word(alloc, graph.inputs(), one, other)?
         else {
             return Ok(None);
         };
-        let mut round = round_of(LEAST_CONFLICTS, node_limit(graph), LEAST_WORK);
+        let mut budget = budget_of(LEAST_CONFLICTS, node_limit(graph), LEAST_WORK);
         lower(
             alloc,
             graph,
-            &mut self.search,
+            &mut self.solver,
             &mut word,
             one,
             other,
-            &mut round,
+            &mut budget,
         )?;
-        least_or_none(alloc, graph, &mut self.search, word, one, other, &mut round)
+        least_or_none(
+            alloc,
+            graph,
+            &mut self.solver,
+            word,
+            one,
+            other,
+            &mut budget,
+        )
     }
 }
 
@@ -271,51 +284,54 @@ fn sweep_of(alloc: Global, inputs: u32) -> Result<Sweep, Memory> {
     Ok(Sweep {
         signatures: Signatures::new(alloc, inputs)?,
         classes: Classes::new(alloc, 0)?,
-        search: Search::new(alloc, inputs)?,
+        solver: Solver::new(alloc, inputs)?,
     })
 }
 
-/// A word at which the literals of a place seem to differ, if one is known.
-fn seen(
+/// A candidate counterexample for the literals of a place, if one is known.
+fn some_counterexample(
     alloc: Global,
     sweep: &Sweep,
     merged: &Merged,
     place: usize,
     one: u32,
     other: u32,
-) -> Result<Swept, Memory>
+) -> Result<SweepResult, Memory>
     ensures { IfOk result (λ swept. (ones others : List ℕ) → place < length ones
-        → IsSwept merged.now ones others swept) }
+        → IsSweepResult merged.now ones others swept) }
 {
     let one = merged.resolved(one);
     let other = merged.resolved(other);
     let inputs = merged.graph().inputs();
-    match sweep.signatures.word_apart(alloc, inputs, one, other)? {
-        None => Ok(Swept::Open),
-        Some(word) => Ok(Swept::Seen {
+    match sweep
+        .signatures
+        .distinguishing_word(alloc, inputs, one, other)?
+    {
+        None => Ok(SweepResult::Undecided),
+        Some(word) => Ok(SweepResult::Counterexample {
             place,
             word: List::from_vec(word),
         }),
     }
 }
 
-/// What is found of the literals of two lists, once nodes are merged.
-fn outcome(
+/// The result for the literals of two lists, once nodes are merged.
+fn result_of(
     alloc: Global,
     sweep: &mut Sweep,
     merged: &Merged,
     ones: &[u32],
     others: &[u32],
-) -> Result<Swept, Memory>
+) -> Result<SweepResult, Memory>
     requires { length others.now ≡ length ones.now }
-    ensures { IfOk result (IsSwept merged.now ones.now others.now) }
+    ensures { IfOk result (IsSweepResult merged.now ones.now others.now) }
 {
-    let Some(place) = first_open(merged, ones, others) else {
-        return Ok(Swept::Alike);
+    let Some(place) = first_unmerged(merged, ones, others) else {
+        return Ok(SweepResult::Equal);
     };
     match sweep.least_word(alloc, merged, ones[place], others[place])? {
-        Some(word) => Ok(Swept::Apart { place, word }),
-        None => seen(alloc, sweep, merged, place, ones[place], others[place]),
+        Some(word) => Ok(SweepResult::LeastCounterexample { place, word }),
+        None => some_counterexample(alloc, sweep, merged, place, ones[place], others[place]),
     }
 }
 
@@ -326,13 +342,13 @@ fn after_rounds(
     merged: &mut Merged,
     ones: &[u32],
     others: &[u32],
-) -> Result<Swept, GraphRefusal>
+) -> Result<SweepResult, GraphRefusal>
     requires { length others.now ≡ length ones.now }
     ensures grown { Grown merged.old merged.new }
-    ensures found { IfOk result (IsSwept merged.new ones.now others.now) }
+    ensures found { IfOk result (IsSweepResult merged.new ones.now others.now) }
 {
     sweep.rounds(alloc, merged, ones, others)?;
-    Ok(outcome(alloc, sweep, merged, ones, others)?)
+    Ok(result_of(alloc, sweep, merged, ones, others)?)
 }
 
 /// What is found of the literals of two lists: where they are not the same, a sweep merges nodes that are alike.
@@ -341,13 +357,13 @@ pub(crate) fn swept(
     merged: &mut Merged,
     ones: &[u32],
     others: &[u32],
-) -> Result<Swept, GraphRefusal>
+) -> Result<SweepResult, GraphRefusal>
     requires { length others.now ≡ length ones.now }
     ensures grown { Grown merged.old merged.new }
-    ensures found { IfOk result (IsSwept merged.new ones.now others.now) }
+    ensures found { IfOk result (IsSweepResult merged.new ones.now others.now) }
 {
     if are_all_alike(merged, ones, others) {
-        return Ok(Swept::Alike);
+        return Ok(SweepResult::Equal);
     }
     let inputs = merged.graph().inputs();
     let mut sweep = sweep_of(alloc, inputs)?;

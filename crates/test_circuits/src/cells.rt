@@ -70,7 +70,7 @@ fn compared(rt: HostRuntime) -> Result<(), Fail> {
     let cells = chip(rt.alloc())?;
     assert!(rt; matches!(verdict(rt.alloc(), &cells, false), Ok(Verdict::Equal)));
     match verdict(rt.alloc(), &cells, true) {
-        Ok(Verdict::Differ { output, word }) => {
+        Ok(Verdict::LeastDifference { output, word }) => {
             assert_eq!(rt; output, 0);
             assert_eq!(rt; word.as_slice(), [false].as_slice());
         }

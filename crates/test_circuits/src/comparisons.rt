@@ -18,8 +18,8 @@ fn found(alloc: Global, a: &Cells, b: &Cells) -> Result<Difference, DecideRefusa
 {
     match decide(alloc, a, b)? {
         Verdict::Equal => Ok(None),
-        Verdict::Differ { output, word } => Ok(Some((output, word))),
-        Verdict::Differs { output, word } => Ok(Some((output, word))),
+        Verdict::LeastDifference { output, word } => Ok(Some((output, word))),
+        Verdict::SomeDifference { output, word } => Ok(Some((output, word))),
     }
 }
 

@@ -5,7 +5,7 @@ ghost use Rattle.std.specs.Prelude.{◌≡◌, length};
 use aq_base::Memory;
 use circuit::{Gate, answer_word};
 use decide::{Cells, DecideRefusal, Verdict};
-use sat_sweep::{are_alike, swept_verdict, verdict};
+use sat_sweep::{are_structurally_equal, swept_verdict, verdict};
 use std::alloc::Global;
 use test_fixtures::{checked_cells, numbered_word};
 
@@ -53,7 +53,7 @@ fn findings(alloc: Global, one: &Cells, other: &Cells) -> Result<Found, DecideRe
     requires inputs { other.now.inputs ≡ one.now.inputs }
     requires outputs { length other.now.outputs ≡ length one.now.outputs }
 {
-    let is_alike = are_alike(alloc, one, other)?;
+    let is_alike = are_structurally_equal(alloc, one, other)?;
     let is_decided = swept_verdict(alloc, one, other)?.is_some();
     let is_equal = matches!(verdict(alloc, one, other)?, Verdict::Equal);
     Ok(Found {

@@ -13,7 +13,7 @@ use Rattle.plan_draw.specs.declared.refusal.CellPlanRefusal.{CellPlanRefusal}
 use Rattle.plan_draw.specs.declared.refusal.CellPlanRefusal.TheVariants as own
 use Rattle.aqfp_top.specs.Designs.{SaysDesign, IsChipFor, IsPlanBy, PlanFinds, PlanGivesUp, stream_of}
 use Rattle.aqfp_top.specs.declared.planner.Planner.{Planner}
-use Rattle.aqfp_top.specs.declared.planner.Planner.TheVariants.{Layered, Compact, Given}
+use Rattle.aqfp_top.specs.declared.planner.Planner.TheVariants.{Build, Compact, Draw}
 use Rattle.aqfp_top.specs.declared.counts.ChipCounts.{ChipCounts}
 use Rattle.aqfp_top.specs.declared.design.Chip.{Chip}
 use Rattle.aqfp_top.specs.declared.fault.Large.TheVariants.{Slots, Rows, Cells, Elements, Shapes, Functions}
@@ -50,9 +50,9 @@ pub record MakesChip (planner : Planner) (net lib : List ℕ) (chip : Chip) : Ty
 -- the placed net was planned: it is that of the defined plan, or one that was searched for, or of the netlist's own
 -- cells
 abbrev pub IsPlannedBy : Planner → NetView → LibraryView → PlacedView → Type 0
-IsPlannedBy Layered equations cells placed = IsPlanned cells equations placed
+IsPlannedBy Build equations cells placed = IsPlanned cells equations placed
 IsPlannedBy Compact equations cells placed = IsCompactChip cells equations placed
-IsPlannedBy Given equations cells placed = IsDrawnChip cells equations placed
+IsPlannedBy Draw equations cells placed = IsDrawnChip cells equations placed
 
 -- the fault that tells a plan's refusal
 abbrev pub plan_fault : PlanRefusal → Fault
@@ -89,6 +89,6 @@ IsDesignFault planner (MissingCell kind) = Unit {0}
 IsDesignFault planner (TooLarge Shapes count) = ⊥
 IsDesignFault planner (TooLarge Functions count) = ⊥
 IsDesignFault planner (TooLarge what count) = Unit {0}
-IsDesignFault planner (NotCells line kind) = planner ≡ Given
+IsDesignFault planner (NotCells line kind) = planner ≡ Draw
 IsDesignFault planner Memory = Unit {0}
 IsDesignFault planner _ = ⊥

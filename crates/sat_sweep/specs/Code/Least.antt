@@ -1,6 +1,6 @@
 -- The least word at which two literals differ, and what a sweep finds.
 use Rattle.std.specs.Prelude.{◌≡◌, ℕ, ◌+◌, ◌<◌, Bool, true, false, List, length, slice_index_or}
-use Rattle.sat_solver.specs.Refuted.{AreTrue}
+use Rattle.sat_solver.specs.Clauses.{AreTrue}
 use Rattle.circuit.specs.PlainNets.{PlainView}
 use Rattle.decide.specs.Verdicts.{Before, answer_alike, IsLeastDifference}
 use Rattle.decide.specs.declared.verdict.Verdict.{Verdict}
@@ -9,8 +9,8 @@ use Rattle.mig.specs.Graphs.{literal_value, Fits}
 use Rattle.mig.specs.Building.{BuilderView}
 use Rattle.sat_sweep.specs.Code.Merging.{AreAlikeBelow, AreAllAlike}
 use Rattle.sat_sweep.specs.Code.Differences.{IsDifference}
-use Rattle.sat_sweep.specs.declared.swept.Swept.{Swept}
-use Rattle.sat_sweep.specs.declared.swept.Swept.TheVariants as swept
+use Rattle.sat_sweep.specs.declared.sweep_result.SweepResult.{SweepResult}
+use Rattle.sat_sweep.specs.declared.sweep_result.SweepResult.TheVariants as swept
 
 -- two literals have one value where these first literals are true, and one more is
 pub record AreAlikeWhere (b : BuilderView) (first : List ℕ) (more one other : ℕ) : Type 0 where
@@ -35,20 +35,20 @@ pub record IsLeastWord (b : BuilderView) (one other : ℕ) (word : List Bool) : 
   pub before : AreAlikeBefore b word one other
 
 -- the literals of a place differ at no word before this one, and those of the places before have one value
-pub record AreFirstApart (b : BuilderView) (ones others : List ℕ) (place : ℕ) (word : List Bool) : Type 0 where
+pub record IsLeastCandidate (b : BuilderView) (ones others : List ℕ) (place : ℕ) (word : List Bool) : Type 0 where
   pub within : place < length ones
   pub below : AreAlikeBelow b ones others place
   pub least : IsLeastWord b (slice_index_or ones place 0) (slice_index_or others place 0) word
 
 -- what a sweep finds of two lists of literals
-abbrev pub IsSwept : BuilderView → List ℕ → List ℕ → Swept → Type 0
-IsSwept b ones others swept.Alike = AreAllAlike b ones others
-IsSwept b ones others (swept.Apart place word) = AreFirstApart b ones others place word
-IsSwept b ones others (swept.Seen place word) = (place < length ones) × (length word ≡ b.inputs)
-IsSwept b ones others swept.Open = Unit {0}
+abbrev pub IsSweepResult : BuilderView → List ℕ → List ℕ → SweepResult → Type 0
+IsSweepResult b ones others swept.Equal = AreAllAlike b ones others
+IsSweepResult b ones others (swept.LeastCounterexample place word) = IsLeastCandidate b ones others place word
+IsSweepResult b ones others (swept.Counterexample place word) = (place < length ones) × (length word ≡ b.inputs)
+IsSweepResult b ones others swept.Undecided = Unit {0}
 
 -- what is found of two circuits without a diagram: that they are alike, or their first difference, or some difference
 abbrev pub IsFound : PlainView → PlainView → Verdict → Type 0
 IsFound a b verdict.Equal = answer_alike a b
-IsFound a b (verdict.Differ output word) = IsLeastDifference a b output word
-IsFound a b (verdict.Differs output word) = IsDifference a b output word
+IsFound a b (verdict.LeastDifference output word) = IsLeastDifference a b output word
+IsFound a b (verdict.SomeDifference output word) = IsDifference a b output word

@@ -8,10 +8,10 @@ pub invariant_of-self : goal.invariant_of-self
 invariant_of-self c =
     let seen = sym c.self.view_is in
     record {
-      are_merged = merged_more c.self.inside.builder c.self.inside.partners.items c.put_partner.new.partners.items
-          c.args.node c.args.literal c.self.invariant.are_merged
+      are_merged = merged_more c.self.inside.builder c.self.inside.representatives.items
+          c.set_representative.new.representatives.items c.args.node c.args.literal c.self.invariant.are_merged
           (subst (λ (b : BuilderView). c.args.literal < limit b) seen c.requires.below)
           (subst (λ (b : BuilderView). AreAlike b (2 * c.args.node) c.args.literal) seen c.requires.alike)
-          c.put_partner.ensures;
-      are_facts = c.self.invariant.are_facts;
+          c.set_representative.ensures;
+      are_clauses = c.self.invariant.are_clauses;
     }

@@ -6,7 +6,7 @@ use Rattle.sat_sweep.proofs.merged.Merged.remade.Goals as goal
 
 pub invariant_of-self : goal.invariant_of-self
 invariant_of-self c =
-    known_later c.self.inside.builder c.maj.new.self c.self.inside.partners.items c.self.inside.facts.items
+    known_later c.self.inside.builder c.maj.new.self c.self.inside.representatives.items c.self.inside.clauses.items
     c.maj.ensures.grown c.self.invariant
 
 pub returns-in-Some-clause-alike : goal.returns-in-Some-clause-alike

@@ -1,9 +1,0 @@
-use Rattle.std.proofs.Common.{refl, subst}
-use Rattle.std.specs.List.{Contains}
-use Rattle.sat_solver.proofs.Followed.{known_contrary}
-use Rattle.sat_solver.proofs.known.Known.has_both.Goals as goal
-
-pub returns-then-has : goal.returns-then-has
-returns-then-has c is =
-    known_contrary _ c.args.literal (c.if-has.ensures refl)
-    (subst (Contains c.args.self.now.literals.items) c.turned.ensures (c.has-then-has.ensures is))

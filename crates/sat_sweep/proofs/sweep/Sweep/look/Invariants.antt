@@ -1,5 +1,0 @@
-use Rattle.std.proofs.Common.{◌≡◌}
-use Rattle.sat_sweep.proofs.sweep.Sweep.look.Given as goal
-
-abbrev pub invariant-loop : goal.invariant-loop
-invariant-loop l = l.merged ≡ l.fn.merged

@@ -1,5 +1,0 @@
-use Rattle.mig.specs.Building.{Grown}
-use Rattle.sat_sweep.proofs.sweep.Sweep.pass_all.Given as goal
-
-abbrev pub invariant-loop-node : goal.invariant-loop-node
-invariant-loop-node l = Grown l.fn.merged l.merged
