@@ -1,10 +1,19 @@
 // Added rows of buffers, in channels where wires move too far.
-use crate::arrays::{at, put};
+use crate::arrays::{at, between, is_marked, narrow, put};
 use crate::chip::{Chip, Wire};
 use crate::places::{Places, rows_wanted};
 use aq_base::Memory;
 use circuit::CellKind;
 use std::alloc::Global;
+
+/// Rows that are added: how many in each channel, by the row above it, and where the wires stand in them, if that is
+/// given: from the slot numbers of `starts` on, row by row in the order of the wires.
+#[derive(Drop)]
+pub(crate) struct Added {
+    pub(crate) counts: Vec<u32>,
+    pub(crate) starts: Vec<u32>,
+    pub(crate) slots: Vec<u32>,
+}
 
 /// A chip that grows by rows, with the slots of its cells and the new number of each cell that it had before.
 #[derive(Drop)]
@@ -12,95 +21,172 @@ struct Growing {
     chip: Chip,
     slots: Vec<u32>,
     numbers: Vec<u32>,
+    /// The constants of the old chip that go up with their users.
+    planted: Vec<bool>,
+    /// The cell that carries each wire of a channel in the last row that was added there.
+    below: Vec<u32>,
 }
 
-/// The slot of a buffer in the added row `row` of so many between two slots.
-fn between_slots(from: u32, to: u32, row: u64, rows: u64) -> u32 {
-    let parts = rows.saturating_add(1);
-    let above = u64::from(from).saturating_mul(parts.saturating_sub(row));
-    let sum = above.saturating_add(u64::from(to).saturating_mul(row));
+/// An added row, counted from 1, of so many of a channel.
+#[derive(Clone, Copy)]
+struct AddedRow {
+    number: u64,
+    rows: u64,
+}
+
+/// The slot of a buffer in an added row between two slots.
+fn between_slots(from: u32, to: u32, row: AddedRow) -> u32 {
+    let parts = row.rows.saturating_add(1);
+    let above = u64::from(from).saturating_mul(parts.saturating_sub(row.number));
+    let sum = above.saturating_add(u64::from(to).saturating_mul(row.number));
     u32::try_from(sum.checked_div(parts).unwrap_or(0)).unwrap_or(u32::MAX)
 }
 
+/// The constants that go up with their users: those in channels that get rows.
+fn plant(alloc: Global, old: &Chip, places: &Places, counts: &[u32]) -> Result<Vec<bool>, Memory> {
+    let mut planted = vec![in alloc; false; old.count() as usize]?;
+    for row in 1..old.rows() {
+        if places.plants && at(counts, row) > 0 {
+            for wire in old.wires_into(row) {
+                put(&mut planted, wire.from, old.follows(wire.from));
+            }
+        }
+    }
+    Ok(planted)
+}
+
 impl Growing {
-    /// Adds a row of buffers, one for each of these wires. Where it is the first one, their sources are those of the
-    /// wires, else the buffers of the row before.
-    fn add_buffers(
+    /// Adds a cell at a slot; its number.
+    fn add_cell(&mut self, kind: CellKind, label: u32, slot: u32) -> Result<u32, Memory> {
+        let number = self.chip.count();
+        self.chip.add(kind, label)?;
+        self.slots.push(slot)?;
+        Ok(number)
+    }
+
+    /// Adds the buffer of the wire of this number in its channel. In the first added row its source is that of the
+    /// wire, else the buffer of the row before.
+    fn add_buffer(
+        &mut self,
+        old: &Chip,
+        wire: &Wire,
+        number: u32,
+        row: AddedRow,
+        slot: u32,
+    ) -> Result<(), Memory> {
+        let label = old.shown(wire.from);
+        let to = self.add_cell(CellKind::Buffer, label, slot)?;
+        let (from, output) = if row.number == 1 {
+            (at(&self.numbers, wire.from), wire.output)
+        } else {
+            (at(&self.below, number), 0)
+        };
+        self.chip.wires.push(Wire {
+            from,
+            to,
+            output,
+            pin: 0,
+        })?;
+        put(&mut self.below, number, to);
+        Ok(())
+    }
+
+    /// Adds a row, with a buffer for each wire of a channel and with planted constants if it is the last one. A buffer
+    /// stands at the slot of its wire's number, else between the wire's ends.
+    fn add_row(
         &mut self,
         old: &Chip,
         slots: &[u32],
         wires: &[Wire],
-        row: u64,
-        rows: u64,
+        row: AddedRow,
+        given: &[u32],
     ) -> Result<(), Memory> {
-        let row_below = self.chip.rows();
-        let mut below = at(&self.chip.starts, row_below);
         self.chip.begin_row()?;
+        let mut number: u32 = 0;
         for wire in wires {
-            let label = at(&old.labels, wire.from);
-            let to = self.chip.count();
-            self.chip.add(CellKind::Buffer, label)?;
             let from = at(slots, wire.from).saturating_add(u32::from(wire.output));
             let upper = at(slots, wire.to).saturating_add(u32::from(wire.pin));
-            self.slots.push(between_slots(from, upper, row, rows))?;
-            let source = if row == 1 {
-                Wire {
-                    from: at(&self.numbers, wire.from),
-                    to,
-                    output: wire.output,
-                    pin: 0,
-                }
-            } else {
-                Wire {
-                    from: below,
-                    to,
-                    output: 0,
-                    pin: 0,
-                }
-            };
-            self.chip.wires.push(source)?;
-            below = below.saturating_add(1);
+            if !is_marked(&self.planted, wire.from) {
+                let slot = match given.get(number as usize) {
+                    Some(slot) => *slot,
+                    None => between_slots(from, upper, row),
+                };
+                self.add_buffer(old, wire, number, row, slot)?;
+            } else if row.number == row.rows {
+                let label = at(&old.labels, wire.from);
+                let cell = self.add_cell(old.kind(wire.from), label, upper)?;
+                put(&mut self.below, number, cell);
+            }
+            number = number.saturating_add(1);
         }
         Ok(())
     }
 
-    /// Adds a row of the old chip, whose wires come from buffers where there are some.
+    /// Adds the cells of a row of the old chip, but no planted constants.
+    fn add_old_cells(&mut self, old: &Chip, slots: &[u32], row: u32) -> Result<(), Memory> {
+        let (first, end) = old.bounds(row);
+        self.chip.begin_row()?;
+        for cell in first..end {
+            let number = if is_marked(&self.planted, cell) {
+                0
+            } else {
+                self.add_cell(old.kind(cell), at(&old.labels, cell), at(slots, cell))?
+            };
+            self.numbers.push(number)?;
+        }
+        Ok(())
+    }
+
+    /// Adds a row of the old chip, whose wires come from added cells where there are some.
     fn add_old(
         &mut self,
         old: &Chip,
         slots: &[u32],
         row: u32,
-        has_buffers: bool,
+        has_added: bool,
     ) -> Result<(), Memory> {
-        let (first, end) = old.bounds(row);
-        let row_below = self.chip.rows();
-        let mut below = at(&self.chip.starts, row_below);
-        self.chip.begin_row()?;
-        for cell in first..end {
-            let number = self.chip.count();
-            self.numbers.push(number)?;
-            self.chip.add(old.kind(cell), at(&old.labels, cell))?;
-            self.slots.push(at(slots, cell))?;
-        }
+        self.add_old_cells(old, slots, row)?;
+        let mut number: u32 = 0;
         for wire in old.wires_into(row) {
-            let to = at(&self.numbers, wire.to);
-            let source = if has_buffers {
-                Wire {
-                    from: below,
-                    to,
-                    output: 0,
-                    pin: wire.pin,
-                }
+            let (from, output) = if has_added {
+                (at(&self.below, number), 0)
             } else {
-                Wire {
-                    from: at(&self.numbers, wire.from),
-                    to,
-                    output: wire.output,
-                    pin: wire.pin,
-                }
+                (at(&self.numbers, wire.from), wire.output)
             };
-            self.chip.wires.push(source)?;
-            below = below.saturating_add(1);
+            self.chip.wires.push(Wire {
+                from,
+                to: at(&self.numbers, wire.to),
+                output,
+                pin: wire.pin,
+            })?;
+            number = number.saturating_add(1);
+        }
+        Ok(())
+    }
+
+    /// Adds the rows of a channel that ends in a row of the old chip.
+    fn add_rows(
+        &mut self,
+        old: &Chip,
+        places: &Places,
+        row: u32,
+        added: &Added,
+    ) -> Result<(), Memory> {
+        let rows = u64::from(at(&added.counts, row));
+        let wires = old.wires_into(row);
+        let width = narrow(wires.len());
+        self.below.clear();
+        for _ in 0..width {
+            self.below.push(0)?;
+        }
+        let mut first = at(&added.starts, row);
+        for number in 0..rows {
+            let number = number.saturating_add(1);
+            let end = first.saturating_add(width);
+            let given = between(&added.slots, first, end);
+            first = end;
+            let next = AddedRow { number, rows };
+            self.add_row(old, &places.slots, wires, next, given)?;
         }
         Ok(())
     }
@@ -169,39 +255,52 @@ pub(crate) fn shared_rows(alloc: Global, chip: &Chip, places: &Places) -> Result
     Ok(counts)
 }
 
-/// The chip with so many rows of buffers in each channel, and its places.
+/// The rows that these are, which stand wherever there is room.
+pub(crate) fn unplaced(alloc: Global, counts: Vec<u32>) -> Added {
+    Added {
+        counts,
+        starts: Vec::new(alloc),
+        slots: Vec::new(alloc),
+    }
+}
+
+/// The chip with these rows added, and its places. Added rows are settled, if no slots are given for them.
 pub(crate) fn add_rows(
     alloc: Global,
     old: &Chip,
     places: &Places,
-    counts: &[u32],
+    added: &Added,
 ) -> Result<(Chip, Places), Memory> {
     let mut growing = Growing {
         chip: Chip::empty(alloc),
         slots: Vec::new(alloc),
         numbers: Vec::new(alloc),
+        planted: plant(alloc, old, places, &added.counts)?,
+        below: Vec::new(alloc),
     };
-    let mut added = Vec::new(alloc);
+    let mut settled = Vec::new(alloc);
     for row in 0..old.rows() {
-        let rows = u64::from(at(counts, row));
-        let wires = old.wires_into(row);
-        for number in 0..rows {
-            added.push(growing.chip.rows_begun())?;
-            let number = number.saturating_add(1);
-            growing.add_buffers(old, &places.slots, wires, number, rows)?;
+        let first = growing.chip.rows_begun();
+        growing.add_rows(old, places, row, added)?;
+        for one in first..growing.chip.rows_begun() {
+            settled.push(one)?;
         }
-        growing.add_old(old, &places.slots, row, rows > 0)?;
+        growing.add_old(old, &places.slots, row, at(&added.counts, row) > 0)?;
     }
     let Growing {
         mut chip,
         slots,
         numbers: _,
+        planted: _,
+        below: _,
     } = growing;
     chip.begin_row()?;
     let width = places.width.max(chip.widest());
-    let mut grown = Places::new(alloc, slots, width, places.move_limit);
-    for row in &added {
-        grown.settle_again(&chip, *row)?;
+    let mut grown = places.like(alloc, slots, width);
+    if added.slots.is_empty() {
+        for row in &settled {
+            grown.settle_again(&chip, *row)?;
+        }
     }
     Ok((chip, grown))
 }

@@ -1,6 +1,7 @@
 // Chips with places, and how good they are.
 use crate::chip::Chip;
 use crate::effort::{Effort, Steps};
+use crate::lazy::settle_lazily;
 use crate::places::Places;
 use aq_base::Memory;
 use std::alloc::Global;
@@ -10,25 +11,25 @@ const MAKING: u32 = 8;
 
 /// A chip with its places: how many cells it has and how many are missing, and its graph's number.
 #[derive(Drop)]
-pub(crate) struct Candidate {
-    pub(crate) graph: usize,
-    pub(crate) total: u64,
-    pub(crate) missing: u64,
-    pub(crate) chip: Chip,
-    pub(crate) places: Places,
+pub struct Candidate {
+    pub graph: usize,
+    pub total: u64,
+    pub missing: u64,
+    pub chip: Chip,
+    pub places: Places,
 }
 
 /// What a search works with: how many slots a wire may move, and how many steps are left.
 #[derive(Clone, Copy)]
-pub(crate) struct Work {
-    pub(crate) alloc: Global,
-    pub(crate) move_limit: u32,
-    pub(crate) steps: Steps,
+pub struct Work {
+    pub alloc: Global,
+    pub move_limit: u32,
+    pub steps: Steps,
 }
 
 impl Candidate {
     /// The same candidate once more.
-    pub(crate) fn copy(&self, alloc: Global) -> Result<Candidate, Memory> {
+    pub fn copy(&self, alloc: Global) -> Result<Candidate, Memory> {
         Ok(Candidate {
             graph: self.graph,
             total: self.total,
@@ -38,8 +39,20 @@ impl Candidate {
         })
     }
 
+    /// A chip with its places as they are.
+    pub(crate) fn of(graph: usize, chip: Chip, places: Places) -> Candidate {
+        let missing = places.far(&chip).missing;
+        Candidate {
+            graph,
+            total: u64::from(chip.count()).saturating_add(missing),
+            missing,
+            chip,
+            places,
+        }
+    }
+
     /// A chip and its places, after its rows were settled as often as steps are left for.
-    pub(crate) fn settled(
+    pub fn settled(
         work: &mut Work,
         graph: usize,
         chip: Chip,
@@ -51,7 +64,12 @@ impl Candidate {
         let mut places = places;
         let _made = work.steps.take(chip.count(), MAKING);
         let sweeps = work.steps.take(chip.count(), sweeps);
-        let missing = places.improve(&mut chip, sweeps, effort.matches)?;
+        let mut missing = places.improve(&mut chip, sweeps, effort.matches)?;
+        if missing > 0 && effort.lazy_rounds > 0 {
+            let alloc = work.alloc;
+            let steps = &mut work.steps;
+            missing = settle_lazily(alloc, &mut places, &mut chip, steps, missing, effort)?;
+        }
         Ok(Candidate {
             graph,
             total: u64::from(chip.count()).saturating_add(missing),
@@ -63,6 +81,6 @@ impl Candidate {
 }
 
 /// The better of two candidates, the first one where both are as good.
-pub(crate) fn better(one: Candidate, other: Candidate) -> Candidate {
+pub fn better(one: Candidate, other: Candidate) -> Candidate {
     if other.total < one.total { other } else { one }
 }

@@ -35,7 +35,7 @@ fn bare_cell(chip: &Chip, row: u32, cell: u32) -> RowCell {
         Some(kind) => *kind,
         None => CellKind::Buffer,
     };
-    let label = at(&chip.labels, cell);
+    let label = chip.shown(cell);
     let mut made = RowCell::bare(kind);
     if row == 0 && label > 1 {
         made.input = Some((label / 2).saturating_sub(1));
@@ -69,7 +69,7 @@ fn feed_row(cells: &mut [RowCell], chip: &Chip, numbers: &[u32], row: u32) {
 }
 
 /// The draft of a chip with these slots.
-pub(crate) fn make_draft(alloc: Global, chip: &Chip, slots: &[u32]) -> Result<Draft, Memory> {
+pub fn make_draft(alloc: Global, chip: &Chip, slots: &[u32]) -> Result<Draft, Memory> {
     let mut draft = Draft {
         rows: List::new(alloc),
         labels: List::new(alloc),
@@ -87,7 +87,7 @@ pub(crate) fn make_draft(alloc: Global, chip: &Chip, slots: &[u32]) -> Result<Dr
         for key in &keys {
             let cell = (key % KEY) as u32;
             cells.push(bare_cell(chip, row, cell))?;
-            labels.push(at(&chip.labels, cell))?;
+            labels.push(chip.shown(cell))?;
             lefts.push(at(slots, cell))?;
         }
         feed_row(&mut cells, chip, &numbers, row);

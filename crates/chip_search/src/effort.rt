@@ -8,6 +8,10 @@ pub struct Effort {
     pub sweeps: u32,
     /// Whether wires of one label are matched anew after each time.
     pub matches: bool,
+    /// Whether a constant goes up with its user where its channel gets rows; else it gets buffers.
+    pub plants: bool,
+    /// How many times rows beside wires that are too long are settled after that, where cells may stay where they are.
+    pub lazy_rounds: u32,
     /// How many times nodes in a line are drawn to their neighbors for one more start, and 0 for no such start.
     pub line_rounds: u32,
     /// How many times all rows are settled by means before, and 0 for no such starts.
@@ -24,10 +28,14 @@ pub struct Effort {
     pub shared_rounds: u32,
     /// How many times all rows are settled after each of these.
     pub shared_sweeps: u32,
+    /// Whether rows are woven where wires may move less than four slots, or rows that are wanted are not enough.
+    pub weaves: bool,
+    /// How many times rows that the orders of cells do not need are left out at the end, by exact slots.
+    pub spares: u32,
     /// How many times rows of buffers are left out at the end, and others added where they are wanted then.
     pub trims: u32,
     /// How many times a cell is settled, at most, for each cell of a chip without added rows: once for the starts of
-    /// each graph, and once more for all that is done to the best one. `MORE_CELLS` are counted more than there are.
+    /// each graph, and twice more for what is done to the best one. `MORE_CELLS` are counted more than there are.
     pub steps: u32,
 }
 
@@ -40,6 +48,8 @@ impl Effort {
         Effort {
             sweeps: 24,
             matches: false,
+            plants: true,
+            lazy_rounds: 0,
             line_rounds: 0,
             smooth_sweeps: 0,
             pulls: 0,
@@ -48,6 +58,8 @@ impl Effort {
             round_sweeps: 8,
             shared_rounds: 0,
             shared_sweeps: 0,
+            weaves: false,
+            spares: 0,
             trims: 0,
             steps: u32::MAX,
         }
@@ -58,6 +70,8 @@ impl Effort {
         Effort {
             sweeps: 24,
             matches: true,
+            plants: true,
+            lazy_rounds: 40,
             line_rounds: 300,
             smooth_sweeps: 50,
             pulls: 30,
@@ -66,6 +80,8 @@ impl Effort {
             round_sweeps: 24,
             shared_rounds: 10,
             shared_sweeps: 24,
+            weaves: true,
+            spares: 3,
             trims: 12,
             steps: 3_000,
         }
@@ -74,13 +90,13 @@ impl Effort {
 
 /// How many times a cell may still be settled.
 #[derive(Clone, Copy)]
-pub(crate) struct Steps {
+pub struct Steps {
     left: u64,
 }
 
 impl Steps {
     /// The steps for a chip of so many cells.
-    pub(crate) fn new(effort: &Effort, cells: u32) -> Steps {
+    pub fn new(effort: &Effort, cells: u32) -> Steps {
         let cells = u64::from(cells).saturating_add(MORE_CELLS);
         Steps {
             left: cells.saturating_mul(u64::from(effort.steps)),
@@ -88,12 +104,12 @@ impl Steps {
     }
 
     /// Whether some are left for so many cells.
-    pub(crate) fn are_left(&self, cells: u32) -> bool {
+    pub fn are_left(&self, cells: u32) -> bool {
         self.left >= u64::from(cells)
     }
 
     /// Takes steps for settling so many cells a number of times, or as often as the rest serves; how many times.
-    pub(crate) fn take(&mut self, cells: u32, sweeps: u32) -> u32 {
+    pub fn take(&mut self, cells: u32, sweeps: u32) -> u32 {
         let cells = u64::from(cells.max(1));
         let most = self.left.checked_div(cells).unwrap_or(0);
         let taken = u64::from(sweeps).min(most);

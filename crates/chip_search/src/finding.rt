@@ -18,11 +18,12 @@ use std::alloc::Global;
 /// So many times a node is placed in a line, or ten times each.
 const MOST_MOVES: u32 = 3_000_000;
 
-/// A draft, and the number of the graph that it is a draft of.
+/// A draft, the number of the graph that it is a draft of, and how many cells of repeater rows it still asks for.
 #[derive(Drop)]
 pub struct Found {
     pub graph: usize,
     pub draft: Draft,
+    pub missing: u64,
 }
 
 /// A chip before its cells have places: its graph's number, and the place of each node in a line, if that is asked for.
@@ -140,5 +141,6 @@ pub fn search(
     Ok(Some(Found {
         graph: grown.graph,
         draft,
+        missing: grown.missing,
     }))
 }

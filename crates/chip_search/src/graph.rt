@@ -7,25 +7,25 @@ use std::alloc::Global;
 /// A graph of majorities, of which nothing is known. Node 0 is the constant false, nodes 1 to `inputs` are the inputs,
 /// and each later node is the majority of three literals. Literal `2 * g` is node g, and `2 * g + 1` its complement.
 #[derive(Clone, Copy)]
-pub(crate) struct GraphParts<'a> {
-    pub(crate) inputs: u32,
-    pub(crate) nodes: &'a [Node],
-    pub(crate) outputs: &'a [u32],
+pub struct GraphParts<'a> {
+    pub inputs: u32,
+    pub nodes: &'a [Node],
+    pub outputs: &'a [u32],
 }
 
 impl GraphParts<'_> {
     /// How many nodes there are, the constant and the inputs too.
-    pub(crate) fn count(&self) -> u32 {
+    pub fn count(&self) -> u32 {
         self.first().saturating_add(narrow(self.nodes.len()))
     }
 
     /// The number of the first majority.
-    pub(crate) fn first(&self) -> u32 {
+    pub fn first(&self) -> u32 {
         self.inputs.saturating_add(1)
     }
 
     /// The literals of a majority.
-    pub(crate) fn node(&self, number: u32) -> [u32; 3] {
+    pub fn node(&self, number: u32) -> [u32; 3] {
         let place = number.saturating_sub(self.first());
         match self.nodes.get(place as usize) {
             Some(node) => [node.x, node.y, node.z],
@@ -35,17 +35,17 @@ impl GraphParts<'_> {
 }
 
 /// A literal, or its complement.
-pub(crate) fn turn(literal: u32, turned: bool) -> u32 {
+pub fn turn(literal: u32, turned: bool) -> u32 {
     literal ^ u32::from(turned)
 }
 
 /// Whether a literal is that of a node's complement.
-pub(crate) fn is_turned(literal: u32) -> bool {
+pub fn is_turned(literal: u32) -> bool {
     literal % 2 == 1
 }
 
 /// Which nodes the outputs need.
-pub(crate) fn needed(alloc: Global, graph: &GraphParts) -> Result<Vec<bool>, Memory> {
+pub fn needed(alloc: Global, graph: &GraphParts) -> Result<Vec<bool>, Memory> {
     let mut marks = vec![in alloc; false; graph.count() as usize]?;
     for output in graph.outputs {
         put(&mut marks, *output / 2, true);
@@ -65,9 +65,9 @@ pub(crate) fn needed(alloc: Global, graph: &GraphParts) -> Result<Vec<bool>, Mem
 /// majority, or 0 for an output, and one more where the complement is used. Constants have none, and nodes that are
 /// not needed use none.
 #[derive(Drop)]
-pub(crate) struct UseLists {
-    pub(crate) starts: Vec<u32>,
-    pub(crate) users: Vec<u32>,
+pub struct UseLists {
+    pub starts: Vec<u32>,
+    pub users: Vec<u32>,
 }
 
 fn count_use(starts: &mut [u32], literal: u32) {
@@ -127,18 +127,14 @@ fn users_of(
 
 impl UseLists {
     /// The uses of a graph of which these nodes are needed.
-    pub(crate) fn new(
-        alloc: Global,
-        graph: &GraphParts,
-        marks: &[bool],
-    ) -> Result<UseLists, Memory> {
+    pub fn new(alloc: Global, graph: &GraphParts, marks: &[bool]) -> Result<UseLists, Memory> {
         let starts = starts_of(alloc, graph, marks)?;
         let users = users_of(alloc, graph, marks, &starts)?;
         Ok(UseLists { starts, users })
     }
 
     /// The uses of a node.
-    pub(crate) fn of(&self, node: u32) -> &[u32] {
+    pub fn of(&self, node: u32) -> &[u32] {
         let end = at(&self.starts, node.saturating_add(1));
         between(&self.users, at(&self.starts, node), end)
     }

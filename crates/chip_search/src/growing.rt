@@ -1,13 +1,24 @@
 // What is done to a chip in which wires move too far: rows are added, splitters pulled down, rows of buffers left out.
-use crate::added::{add_rows, shared_rows, wanted_rows};
+use crate::added::{add_rows, shared_rows, unplaced, wanted_rows};
 use crate::candidate::{Candidate, Work, better};
-use crate::effort::Effort;
+use crate::effort::{Effort, Steps};
 use crate::pulling::pull_down;
+use crate::sparing::spare;
 use crate::trimming::drop_rows;
+use crate::weaving::woven_rows;
 use aq_base::Memory;
 
 /// A draft has at most so many cells.
-pub(crate) const MOST_CELLS: u64 = 2_000_000;
+pub const MOST_CELLS: u64 = 2_000_000;
+
+/// So many cells are woven at most.
+const MOST_WOVEN: u64 = 500_000;
+
+/// Where wires may move fewer slots, rows are always woven too.
+const SHORT_LIMIT: u32 = 4;
+
+/// Rows are left out and added so often between two searches for exact slots.
+const SPARE_TRIMS: u32 = 4;
 
 /// The candidate with splitters pulled down where wires move too far, as far as that takes cells away.
 fn pull(work: &mut Work, candidate: Candidate, effort: Effort) -> Result<Candidate, Memory> {
@@ -41,15 +52,22 @@ fn add(
         let counts = wanted_rows(work.alloc, &candidate.chip, &candidate.places)?;
         (counts, effort.round_sweeps)
     };
-    let (chip, places) = add_rows(work.alloc, &candidate.chip, &candidate.places, &counts)?;
+    let added = unplaced(work.alloc, counts);
+    let (chip, places) = add_rows(work.alloc, &candidate.chip, &candidate.places, &added)?;
     Candidate::settled(work, candidate.graph, chip, places, sweeps, effort)
 }
 
-/// The candidate with added rows, while wires move too far and some rounds and steps are left.
-fn grow(work: &mut Work, candidate: Candidate, effort: Effort) -> Result<Candidate, Memory> {
+/// The candidate with added rows, while wires move too far, some rounds and steps are left, and there are at most so
+/// many cells.
+fn grow(
+    work: &mut Work,
+    candidate: Candidate,
+    most: u64,
+    effort: Effort,
+) -> Result<Candidate, Memory> {
     let mut candidate = candidate;
     for round in 0..effort.shared_rounds.saturating_add(effort.rounds) {
-        let is_done = candidate.missing == 0 || candidate.total > MOST_CELLS;
+        let is_done = candidate.missing == 0 || candidate.total > most;
         if is_done || !work.steps.are_left(candidate.chip.count()) {
             break;
         }
@@ -59,32 +77,112 @@ fn grow(work: &mut Work, candidate: Candidate, effort: Effort) -> Result<Candida
 }
 
 /// The candidate with added rows, by the better of two ways to add them.
-fn grow_twice(work: &mut Work, candidate: Candidate, effort: Effort) -> Result<Candidate, Memory> {
+fn grow_twice(
+    work: &mut Work,
+    candidate: Candidate,
+    most: u64,
+    effort: Effort,
+) -> Result<Candidate, Memory> {
     if candidate.missing == 0 || effort.shared_rounds == 0 {
-        return grow(work, candidate, effort);
+        return grow(work, candidate, most, effort);
     }
     let mut apart = effort;
     apart.shared_rounds = 0;
     let copy = candidate.copy(work.alloc)?;
-    let first = grow(work, copy, apart)?;
-    let second = grow(work, candidate, effort)?;
+    let first = grow(work, copy, most, apart)?;
+    let second = grow(work, candidate, most, effort)?;
     Ok(better(first, second))
 }
 
 /// The candidate with added rows, splitters pulled down before where that is better.
-pub(crate) fn finish(
+fn grow_pulled(
+    work: &mut Work,
+    candidate: Candidate,
+    most: u64,
+    effort: Effort,
+) -> Result<Candidate, Memory> {
+    if candidate.missing == 0 || effort.pulls == 0 || candidate.total > most {
+        return grow_twice(work, candidate, most, effort);
+    }
+    let copy = candidate.copy(work.alloc)?;
+    let first = grow_twice(work, copy, most, effort)?;
+    let pulled = pull(work, candidate, effort)?;
+    let second = grow_twice(work, pulled, most, effort)?;
+    Ok(better(first, second))
+}
+
+/// The candidate with rows that are woven, in steps of their own, and then left out where they can be. Nothing where
+/// they are too many.
+fn woven(
+    work: &mut Work,
+    candidate: &Candidate,
+    effort: Effort,
+) -> Result<Option<Candidate>, Memory> {
+    let Some(added) = woven_rows(work.alloc, &candidate.chip, &candidate.places, MOST_WOVEN)? else {
+        return Ok(None);
+    };
+    let (chip, places) = add_rows(work.alloc, &candidate.chip, &candidate.places, &added)?;
+    work.steps = Steps::new(&effort, candidate.chip.count());
+    let woven = Candidate::of(candidate.graph, chip, places);
+    Ok(Some(trim_often(work, woven, effort.trims, effort)?))
+}
+
+/// The better of a candidate whose rows are grown and one whose rows are woven. It is one whose wires do not move too
+/// far, if there is one.
+fn better_of(grown: Candidate, woven: Candidate) -> Candidate {
+    if grown.missing > 0 && woven.missing == 0 {
+        woven
+    } else if woven.missing > 0 && grown.missing == 0 {
+        grown
+    } else {
+        better(woven, grown)
+    }
+}
+
+/// The candidate with woven rows. Where wires may move more than a slot others are tried too, while they are not many
+/// more: else those that are wanted do not end.
+fn finish_short(
     work: &mut Work,
     candidate: Candidate,
     effort: Effort,
 ) -> Result<Candidate, Memory> {
-    if candidate.missing == 0 || effort.pulls == 0 {
-        return grow_twice(work, candidate, effort);
+    let Some(woven) = woven(work, &candidate, effort)? else {
+        return grow_pulled(work, candidate, MOST_CELLS, effort);
+    };
+    let is_done = woven.missing == 0;
+    if is_done && candidate.places.move_limit == 1 {
+        return Ok(woven);
+    }
+    let most = if is_done {
+        woven.total.saturating_mul(2)
+    } else {
+        MOST_CELLS
+    };
+    let left = work.steps;
+    work.steps = Steps::new(&effort, candidate.chip.count());
+    let grown = grow_pulled(work, candidate, most, effort)?;
+    let grown = trim_often(work, grown, effort.trims, effort)?;
+    work.steps = left;
+    Ok(better_of(grown, woven))
+}
+
+/// The candidate with added rows: woven ones too where wires may move little or rows that are wanted are not enough.
+pub fn finish(work: &mut Work, candidate: Candidate, effort: Effort) -> Result<Candidate, Memory> {
+    if candidate.missing == 0 || !effort.weaves {
+        return grow_pulled(work, candidate, MOST_CELLS, effort);
+    }
+    if candidate.places.move_limit < SHORT_LIMIT {
+        return finish_short(work, candidate, effort);
     }
     let copy = candidate.copy(work.alloc)?;
-    let first = grow_twice(work, copy, effort)?;
-    let pulled = pull(work, candidate, effort)?;
-    let second = grow_twice(work, pulled, effort)?;
-    Ok(better(first, second))
+    let grown = grow_pulled(work, copy, MOST_CELLS, effort)?;
+    if grown.missing == 0 {
+        return Ok(grown);
+    }
+    match woven(work, &candidate, effort)? {
+        Some(woven) => Ok(better_of(grown, woven)),
+        None => Ok(grown),
+    }
 }
 
 /// The candidate with some rows of buffers left out, and others added where they are wanted then.
@@ -109,17 +207,18 @@ fn trim_once(
         effort.round_sweeps,
         effort,
     )?;
-    grow(work, trimmed, short)
+    grow(work, trimmed, MOST_CELLS, short)
 }
 
-/// The candidate with some rows of buffers left out and others added, as far as that takes cells away.
-pub(crate) fn trim(
+/// The candidate with some rows of buffers left out and others added so often, as far as that takes cells away.
+fn trim_often(
     work: &mut Work,
     candidate: Candidate,
+    turns: u32,
     effort: Effort,
 ) -> Result<Candidate, Memory> {
     let mut best = candidate;
-    for turn in 0..effort.trims {
+    for turn in 0..turns {
         if !work.steps.are_left(best.chip.count()) {
             break;
         }
@@ -127,6 +226,23 @@ pub(crate) fn trim(
         if next.missing == 0 {
             best = better(best, next);
         }
+    }
+    Ok(best)
+}
+
+/// The candidate with rows of buffers left out, as far as that takes cells away: some of them left out and others
+/// added, then those that the orders of cells do not need, by turns.
+pub fn trim(work: &mut Work, candidate: Candidate, effort: Effort) -> Result<Candidate, Memory> {
+    let mut best = trim_often(work, candidate, effort.trims, effort)?;
+    for turn in 0..effort.spares {
+        if turn > 0 {
+            let total = best.total;
+            best = trim_often(work, best, SPARE_TRIMS, effort)?;
+            if best.total == total {
+                break;
+            }
+        }
+        best = spare(work, best)?;
     }
     Ok(best)
 }

@@ -2,25 +2,31 @@
 #![tactic(auto)]
 
 mod added;
-mod arrays;
-mod candidate;
-mod cells;
-mod chip;
-mod drafts;
-mod effort;
+pub mod arrays;
+pub mod candidate;
+pub mod cells;
+pub mod chip;
+pub mod drafts;
+pub mod effort;
+mod exact;
 mod finding;
-mod graph;
-mod growing;
+pub mod graph;
+pub mod growing;
+mod lazy;
 mod levels;
 mod lining;
-mod places;
+mod ordered_slots;
+pub mod places;
 mod pulling;
 mod row_chips;
 mod row_slots;
-mod signs;
+pub mod signs;
+mod sparing;
 mod starting;
+mod starts_at;
 mod trimming;
 mod walk;
+mod weaving;
 
 pub use effort::Effort;
 pub use finding::{Found, search};

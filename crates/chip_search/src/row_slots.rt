@@ -4,6 +4,7 @@ use crate::candidate::{Candidate, Work, better};
 use crate::chip::Chip;
 use crate::effort::{Effort, Steps};
 use crate::finding::line_of;
+use crate::ordered_slots::slots_in_order;
 use crate::row_chips::RowChip;
 use crate::starting::{Hints, place, place_packed};
 use aq_base::{List, Memory};
@@ -56,10 +57,10 @@ fn slots_by_row(alloc: Global, chip: &Chip, slots: &[u32]) -> Result<List<List<u
 }
 
 /// Searches slots for the cells of a net in rows, so that its wires move at most `reach - 1` slots, or else few rows of
-/// repeaters are wanted: a list for each row, in the order of its cells. They are those of the cells packed in this
-/// order where that has no wire that moves further, or nothing better is found. There are none where the net has too
-/// many cells and wires to be drawn. Nothing is promised of what is found: a check takes it or not. The search fails
-/// for want of memory alone.
+/// repeaters are wanted: a list for each row, in the order of its cells. They are the least slots that fit this order,
+/// where it has some; those of the cells packed where that has no wire that moves further. So what was stored of a chip,
+/// row by row from left to right, has slots again. There are none where the net has too many cells and wires to be
+/// drawn. Nothing is promised of what is found: a check takes it or not. The search fails for want of memory alone.
 pub fn find_slots(
     alloc: Global,
     net: &RowNet,
@@ -68,6 +69,8 @@ pub fn find_slots(
 ) -> Result<List<List<u32>>, Memory> {
     let mut effort = *effort;
     effort.matches = false;
+    effort.plants = false;
+    effort.lazy_rounds = 0;
     let made = RowChip::new(alloc, net)?;
     if is_too_large(&made.chip) {
         return Ok(List::new(alloc));
@@ -77,6 +80,9 @@ pub fn find_slots(
         move_limit: reach.saturating_sub(1).max(1),
         steps: Steps::new(&effort, made.chip.count()),
     };
+    if let Some(slots) = slots_in_order(alloc, &made.chip, work.move_limit)? {
+        return slots_by_row(alloc, &made.chip, &slots);
+    }
     let placed = place_rows(&mut work, &made, effort)?;
     slots_by_row(alloc, &made.chip, &placed.places.slots)
 }

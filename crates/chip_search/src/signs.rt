@@ -8,17 +8,18 @@ use std::alloc::Global;
 
 /// A graph in which each majority is kept or turned: its three literals are turned, and so are its uses.
 #[derive(Drop)]
-pub(crate) struct Signed {
-    pub(crate) inputs: u32,
-    pub(crate) nodes: Vec<Node>,
-    pub(crate) outputs: Vec<u32>,
-    pub(crate) turned: Vec<bool>,
-    pub(crate) marks: Vec<bool>,
-    pub(crate) uses: UseLists,
+pub struct Signed {
+    pub inputs: u32,
+    pub nodes: Vec<Node>,
+    pub outputs: Vec<u32>,
+    pub turned: Vec<bool>,
+    pub marks: Vec<bool>,
+    pub uses: UseLists,
 }
 
 impl Signed {
-    pub(crate) fn parts(&self) -> GraphParts<'_> {
+    /// The graph as its nodes are turned.
+    pub fn parts(&self) -> GraphParts<'_> {
         GraphParts {
             inputs: self.inputs,
             nodes: &self.nodes,
@@ -27,7 +28,7 @@ impl Signed {
     }
 
     /// What a node shows where it stands, as a literal of the graph that was given.
-    pub(crate) fn label(&self, node: u32) -> u32 {
+    pub fn label(&self, node: u32) -> u32 {
         turn(node.saturating_mul(2), is_marked(&self.turned, node))
     }
 }
@@ -155,7 +156,7 @@ fn signed_node(turned: &[bool], node: [u32; 3], turns: bool) -> Node {
 }
 
 /// The graph with the nodes turned that are best turned.
-pub(crate) fn sign(alloc: Global, graph: &GraphParts, three: bool) -> Result<Signed, Memory> {
+pub fn sign(alloc: Global, graph: &GraphParts, three: bool) -> Result<Signed, Memory> {
     let marks = needed(alloc, graph)?;
     let uses = UseLists::new(alloc, graph, &marks)?;
     let turned = choose(alloc, graph, &uses, three)?;

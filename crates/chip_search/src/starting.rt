@@ -75,6 +75,7 @@ fn place_from(
     let mut chip = chip.copy(work.alloc)?;
     let slots = vec![in work.alloc; 0; chip.count() as usize]?;
     let mut places = Places::new(work.alloc, slots, chip.widest(), work.move_limit);
+    places.plants = effort.plants;
     match start {
         Start::Down(outputs) => places.start_down(&chip, outputs)?,
         Start::Up => places.start_up(&chip)?,
