@@ -5,6 +5,7 @@
 mod compact;
 mod making;
 mod search;
+mod searches;
 mod sizes;
 mod variants;
 

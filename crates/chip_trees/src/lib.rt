@@ -1,0 +1,15 @@
+//! A second search for small chips: rows and signs by annealing, and trees that know where their users stand.
+#![tactic(auto)]
+
+mod annealing;
+mod cells;
+mod finding;
+mod graph;
+mod moves;
+mod numbers;
+mod signals;
+mod spectral;
+mod starts;
+mod trees;
+
+pub use finding::search;

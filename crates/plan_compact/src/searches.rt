@@ -1,0 +1,59 @@
+// The searches for small chips, and the best of what they find.
+use aq_base::Memory;
+use chip_search::{Effort, Found};
+use circuit::CellKind;
+use mig::Graph;
+use placement_check::Draft;
+use std::alloc::Global;
+
+/// How many junctions the cells of a draft have: six a majority, and two any other cell.
+fn junctions(draft: &Draft) -> u64 {
+    let mut count: u64 = 0;
+    for row in draft.rows.as_slice() {
+        for cell in row.as_slice() {
+            let more = if matches!(cell.kind, CellKind::Majority) {
+                6
+            } else {
+                2
+            };
+            count = count.saturating_add(more);
+        }
+    }
+    count
+}
+
+/// How good a draft is: the junctions that it has, and those of the repeaters that it still asks for.
+fn cost(found: &Found) -> u64 {
+    let missing = found.missing.saturating_mul(2);
+    junctions(&found.draft).saturating_add(missing)
+}
+
+/// The better of two drafts, the first one where both are as good.
+fn better(one: Option<Found>, other: Option<Found>) -> Option<Found> {
+    match (one, other) {
+        (Some(one), Some(other)) => {
+            if cost(&other) < cost(&one) {
+                Some(other)
+            } else {
+                Some(one)
+            }
+        }
+        (Some(one), None) => Some(one),
+        (None, other) => other,
+    }
+}
+
+/// The draft with the fewest junctions of those that the searches find: of rows with few cells that are placed
+/// afterwards, and of trees that know where their users stand. A further search is a function like these, graphs and a
+/// reach in and a draft out, and one line here.
+pub(crate) fn best_draft(
+    alloc: Global,
+    graphs: &[Graph],
+    three: bool,
+    reach: u32,
+    effort: &Effort,
+) -> Result<Option<Found>, Memory> {
+    let rows = chip_search::search(alloc, graphs, three, reach, effort)?;
+    let trees = chip_trees::search(alloc, graphs, three, reach, effort)?;
+    Ok(better(rows, trees))
+}
