@@ -6,7 +6,7 @@
 For each netlist a line for each command: cells, junctions (two a cell, six a majority), rows, wires, the area of the
 least rectangle that holds all frames in square millimetres, elements of the top structure, seconds, and what `equal`
 says of the stored chip and the netlist. Then for each command but the last the geometric mean of its cells over those
-of the last one, over the netlists of which both are stored.
+of the last one, over the netlists of which both are stored, and over those of them with more than five cells.
 """
 import math
 import os
@@ -110,11 +110,13 @@ def main():
                       f"{figures[4]:>8.4f} {figures[5]:>8} {figures[6]:>8.3f}  {said}", flush=True)
         for command in logs:
             if command in found and commands[-1] in found:
-                logs[command].append(math.log(found[command] / found[commands[-1]]))
-    for command, each in logs.items():
-        if each:
-            print(f"{len(each)} netlists of which both are stored: {math.exp(sum(each) / len(each)):.2f} times fewer "
-                  f"cells by {commands[-1]} than by {command} (geometric mean)")
+                logs[command].append((found[command], math.log(found[command] / found[commands[-1]])))
+    for command, pairs in logs.items():
+        for least, which in (0, "of which both are stored"), (6, "of these with more than five cells"):
+            each = [log for cells, log in pairs if cells >= least]
+            if each:
+                print(f"{len(each)} netlists {which}: {math.exp(sum(each) / len(each)):.2f} times fewer "
+                      f"cells by {commands[-1]} than by {command} (geometric mean)")
 
 
 main()

@@ -8,7 +8,7 @@ here=$(cd "$(dirname "$0")/.." && pwd) || exit 1
 program=$("$here/.ci/program") || exit
 if [ $# -eq 0 ]; then
     for net in "$here"/examples/*.blif; do
-        case $net in */cycle.blif | */*_cells.blif) ;; *) set -- "$@" "$net" ;; esac
+        case $net in */cycle.blif) ;; *) set -- "$@" "$net" ;; esac
     done
 fi
 exec python3 "$here/bench/compact.py" "$program" "${LIBRARY:-$here/libraries/a.toml}" build,compact "$@"

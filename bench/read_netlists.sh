@@ -8,7 +8,7 @@
 # elements: the same rows, rows of all eight inputs, rows of 1,000 inputs, the same above a chain of 300 gates, and the
 # chain. Prints the seconds of
 # processor time, their ratios, twice the text against once, and the memory at most in times of the text, which is counted
-# too. Needs GNU time; AQFP is the program, by default the one that ./aqfp runs.
+# too. Needs GNU time; AQFP is the program, by default that of the sources.
 set -u
 here=$(cd -P "$(dirname "$0")/.." && pwd)
 command -v /usr/bin/time >/dev/null || { echo "read_netlists: /usr/bin/time is not there" >&2; exit 70; }

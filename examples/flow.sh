@@ -3,6 +3,7 @@
 #
 #   examples/flow.sh FOLDER
 #
+# It runs in the repository, and where share/install or a package put it; all that it makes is put into FOLDER.
 # Each netlist NAME.blif of this folder is built with library A as FOLDER/NAME.gds, is verified with NAME.words, and
 # what is printed is compared with NAME.answers; `equal` compares the chip with NAME.blif for all words, and where ABC
 # is installed, it compares the netlist of the chip's circuit with NAME.blif. The same is done with library B, as
@@ -14,12 +15,24 @@
 # words, and where there is a file NETLIST_CHANGE.compared, that is what `equal` says of it and of NETLIST.blif. Then
 # KLayout and Magic draw the full adder anew by the scripts beside the layouts. A tool that is not installed is named,
 # and its part is left out. Prints a line for each chip. The status is 1 where something failed. AQFP names another
-# program than the launcher.
+# program than the launcher, ./aqfp, which runs bin/aqfp as it is, or the installed one.
 set -u
 here=$(cd -P "$(dirname "$0")" && pwd)
 top=$(dirname "$here")
-aqfp=${AQFP:-$top/aqfp}
-library=$top/libraries/a.toml
+if [ -d "$top/libraries" ]; then
+    aqfp=${AQFP:-$top/aqfp}
+    libraries=$top/libraries
+    share=$top/share
+else
+    case $here in
+        */share/doc/aqfp/examples) prefix=${here%/share/doc/aqfp/examples} ;;
+        *) prefix=$(dirname "$(dirname "$(command -v aqfp)")") ;; # a copy of the installed folder
+    esac
+    aqfp=${AQFP:-$prefix/bin/aqfp}
+    share=$prefix/share/aqfp
+    libraries=$share
+fi
+library=$libraries/a.toml
 command=build
 if [ $# -ne 1 ]; then
     echo "usage: examples/flow.sh FOLDER" >&2
@@ -27,7 +40,7 @@ if [ $# -ne 1 ]; then
 fi
 folder=$1
 mkdir -p "$folder" || exit 2
-"$aqfp" --version >/dev/null || exit 1 # the launcher builds the program first, if need be
+"$aqfp" --version >/dev/null || exit 1 # where bin/aqfp does not run, the launcher builds the program first
 failed=0
 
 # Says that something is not as it should be.
@@ -47,8 +60,8 @@ synthesise() {
 # Whether KLayout finds nothing against the rules of geometry; a picture beside it.
 look_at() {
     export QT_QPA_PLATFORM=offscreen
-    klayout -z -b -r "$top/share/picture.py" -rd gds="$1.gds" -rd png="$1.png" >/dev/null || return 1
-    klayout -z -b -r "$top/share/aqfp.drc" -rd gds="$1.gds" -rd library="$library" | grep -q '^sum 0$'
+    klayout -z -b -r "$share/picture.py" -rd gds="$1.gds" -rd png="$1.png" >/dev/null || return 1
+    klayout -z -b -r "$share/aqfp.drc" -rd gds="$1.gds" -rd library="$library" | grep -q '^sum 0$'
 }
 
 # Makes the chip of a netlist by the command, as FOLDER/CHIP.gds, and compares its answers with those of an example.
@@ -118,9 +131,9 @@ for netlist in "$here"/*.blif; do
     name=$(basename "$netlist" .blif)
     [ "$name" = cycle ] && continue
     make_chip "$name" "$netlist" "$name"
-    library=$top/libraries/b.toml
+    library=$libraries/b.toml
     make_chip "${name}_b" "$netlist" "$name"
-    library=$top/libraries/a.toml
+    library=$libraries/a.toml
     command=compact
     make_chip "${name}_compact" "$netlist" "$name"
     command=draw
@@ -150,7 +163,7 @@ if have klayout; then
 fi
 if have magic; then
     GDS="$folder/full_adder.gds" OUT="$folder/magic.gds" magic -dnull -noconsole -rcfile /dev/null \
-        -T "$top/share/aqfp.tech" "$here/layouts/through_magic.tcl" </dev/null >"$folder/magic.log" 2>&1
+        -T "$share/aqfp.tech" "$here/layouts/through_magic.tcl" </dev/null >"$folder/magic.log" 2>&1
     compare magic "$here/layouts/full_adder_magic.compared" \
         equal "$folder/magic.gds" "$library" "$here/full_adder.blif"
 fi

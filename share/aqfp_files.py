@@ -1,5 +1,6 @@
 """What the scripts of this folder share: one line for what is wrong, streams, the names of a netlist, and circuits."""
 import argparse
+import os
 import re
 import struct
 import sys
@@ -8,6 +9,8 @@ import sys
 HEADER, UNITS, ENDLIB, BGNSTR, STRNAME, ENDSTR = 0x00, 0x03, 0x04, 0x05, 0x06, 0x07
 BOUNDARY, PATH, SREF, AREF, TEXT, NODE, BOX = 0x08, 0x09, 0x0A, 0x0B, 0x0C, 0x15, 0x2D
 LAYER, ENDEL, SNAME, STRING = 0x0D, 0x11, 0x12, 0x19
+MOST_DATA = 65530  # bytes of data in a record
+LAST_BIT = 65535  # of a bus
 ELEMENTS = (BOUNDARY, PATH, SREF, AREF, TEXT, NODE, BOX)
 
 # The layers that `verify` reads.
@@ -16,6 +19,7 @@ LABELS = 30
 
 # What the rows of a definition say of its cell, in a netlist that `aqfp netlist` wrote.
 KINDS = {(): "zero", ("1",): "one", ("1 1",): "buffer", ("0 1",): "inverter", ("11- 1", "1-1 1", "-11 1"): "majority"}
+PINS = {"zero": 0, "one": 0, "buffer": 1, "inverter": 1, "majority": 3}
 
 
 class Stop(Exception):
@@ -28,49 +32,73 @@ class Arguments(argparse.ArgumentParser):
     def __init__(self, name, description):
         super().__init__(name, description=description, formatter_class=argparse.RawDescriptionHelpFormatter)
 
+    def print_help(self, file=None):
+        print(self.format_help(), end="", file=file)  # argparse itself passes over a full disk
+
     def error(self, message):
-        self.exit(2, f"{self.prog}: {message}; --help says more\n")
+        self.exit(2, f"{self.prog}: {one_line(message)}; --help says more\n")
+
+
+def one_line(text):
+    """A text without line ends and other control bytes, which are told as \\x0a; so are bytes that are no UTF-8."""
+    text = str(text).encode("utf-8", "surrogateescape").decode("utf-8", "backslashreplace")
+    return "".join(char if char.isprintable() else f"\\x{ord(char):02x}" for char in text)
+
+
+def open_streams():
+    """Makes the standard streams UTF-8 with lines that end by a line feed alone; other bytes go through as they are."""
+    if sys.stdin is not None:
+        sys.stdin.reconfigure(encoding="utf-8", errors="surrogateescape", newline="\n")
+    if sys.stdout is None:
+        raise Stop("standard output is closed")
+    sys.stdout.reconfigure(encoding="utf-8", errors="surrogateescape")
+
+
+def named(file):
+    """The name of the file of an error, which may be bytes, a number or nothing."""
+    return os.fsdecode(file) if isinstance(file, (str, bytes)) else "standard input or output"
 
 
 def run(main):
     """Runs a script: what stops it is one line on standard error, with status 1."""
     name = sys.argv[0].rpartition("/")[2].removesuffix(".py")
     try:
-        main()
-        sys.stdout.flush()
+        open_streams()
+        try:
+            main()
+        finally:
+            sys.stdout.flush()
         return
     except Stop as stop:
         message = str(stop)
     except BrokenPipeError:
-        sys.stderr.close()
         message = None
     except OSError as error:
-        message = f"{error.filename or 'standard input or output'}: {error.strerror}"
+        message = f"{named(error.filename)}: {error.strerror}"
     except MemoryError:
         message = "out of memory"
     except KeyboardInterrupt:
         message = "interrupted"
-    if message is not None:
-        print(f"{name}: {message}", file=sys.stderr)
-    sys.exit(1)
-
-
-def lines_of(source):
-    """The lines of an open text, without their ends. What is no text is told as such."""
-    try:
-        return source.read().splitlines()
-    except UnicodeDecodeError:
-        raise Stop(f"{source.name}: no text") from None
+    if message is not None and sys.stderr is not None:
+        print(f"{name}: {one_line(message)}", file=sys.stderr)
+        sys.stderr.flush()
+    os._exit(1)  # sys.exit would write once more what standard output did not take
 
 
 def standard_input(what):
-    """The lines of standard input; it is told where there are none, or where a keyboard would have to type them."""
-    if sys.stdin.isatty():
+    """The lines of standard input, without their ends; it is told where there are none, or where a keyboard would have
+    to type them."""
+    if sys.stdin is None or sys.stdin.isatty():
         raise Stop(f"{what} is missing on standard input")
-    lines = lines_of(sys.stdin)
-    if not lines:
+    lines = [line.removesuffix("\r") for line in sys.stdin.read().split("\n")]
+    if lines == [""]:
         raise Stop(f"standard input is empty: {what} is missing")
-    return lines
+    return lines[:-1] if lines[-1] == "" else lines
+
+
+def tokens(line):
+    """What blanks and tabs part, and nothing else: a name may hold any other blank."""
+    return [token for token in line.replace("\t", " ").split(" ") if token]
 
 
 # Streams
@@ -86,9 +114,8 @@ def load_stream(path):
     return data
 
 
-def records(data, path):
-    """The records of a stream up to ENDLIB: the type, and where it begins and ends."""
-    place = 0
+def records(data, path, place=0):
+    """The records of a stream from a place up to ENDLIB: the type, and where it begins and ends."""
     while place + 4 <= len(data):
         length, kind = struct.unpack_from(">HB", data, place)
         if length < 4 or length % 2 or place + length > len(data):
@@ -105,15 +132,22 @@ def pieces(data, path):
     its first record and the name of the structure that it stands in."""
     begin, first, structure = None, None, None
     for kind, start, end in records(data, path):
-        if begin is None and kind in ELEMENTS:
+        if begin is not None:
+            if kind == ENDEL:
+                yield first, structure, data[begin:end]
+                begin = None
+            elif kind in ELEMENTS or kind in (BGNSTR, ENDSTR, ENDLIB):
+                raise Stop(f"{path}: no whole stream: an element at byte {begin} does not end")
+        elif kind in ELEMENTS:
+            if structure is None:
+                raise Stop(f"{path}: an element at byte {start} stands in no structure")
             begin, first = start, kind
-        elif begin is not None and kind == ENDEL:
-            yield first, structure, data[begin:end]
-            begin = None
-        elif begin is None:
+        else:
             if kind == STRNAME:
                 structure = text_of(data[start + 4:end])
             yield kind, structure, data[start:end]
+            if kind == ENDSTR:
+                structure = None
 
 
 def text_of(data):
@@ -124,7 +158,7 @@ def text_of(data):
 def field(element, wanted, path):
     """The data of an element's record of one type."""
     place = 0
-    while place + 4 <= len(element):
+    while place < len(element):
         length, kind = struct.unpack_from(">HB", element, place)
         if kind == wanted:
             return element[place + 4:place + length]
@@ -140,6 +174,8 @@ def layer_of(element, path):
 def record(kind, data_type, data):
     """A record; data of odd length gets a zero byte."""
     data += b"\0" * (len(data) % 2)
+    if len(data) > MOST_DATA:
+        raise Stop(f"{len(data)} bytes are too many for a record, which holds {MOST_DATA}")
     return struct.pack(">HBB", len(data) + 4, kind, data_type) + data
 
 
@@ -148,23 +184,24 @@ def database_unit(data, path):
     for kind, start, end in records(data, path):
         if kind == UNITS and end - start == 20:
             sign, fraction = data[start + 12], int.from_bytes(data[start + 13:start + 20], "big")
-            return fraction / 2 ** 56 * 16.0 ** ((sign & 127) - 64)
-    raise Stop(f"{path}: no UNITS")
+            if fraction > 0:
+                return fraction / 2 ** 56 * 16.0 ** ((sign & 127) - 64)
+    raise Stop(f"{path}: no UNITS, or a database unit of nothing")
 
 
 # Netlists
 
 def statements(path):
-    """The lines of a netlist in BLIF with their numbers, as lists of tokens: comments dropped, joined lines joined."""
-    with open(path, encoding="utf-8", errors="surrogateescape") as file:
+    """The lines of a netlist in BLIF with their numbers, as lists of tokens: comments dropped, joined lines joined. A
+    comment goes to the end of its line; a backslash that then ends the line joins the next one."""
+    with open(path, encoding="utf-8", errors="surrogateescape", newline="\n") as file:
         text = file.read()
     joined, first = [], 0
     for number, line in enumerate(text.split("\n"), 1):
-        line = line.removesuffix("\r")
-        goes_on = line.endswith("\\")
+        line = line.removesuffix("\r").partition("#")[0]
         first = first or number
-        joined += line.removesuffix("\\").split("#")[0].split()
-        if goes_on:
+        joined += tokens(line.removesuffix("\\"))
+        if line.endswith("\\"):
             continue
         if joined:
             yield first, joined
@@ -195,16 +232,19 @@ def ports(path):
 
 class Circuit:
     """The circuit of a chip, read from the netlist that `aqfp netlist` writes. A cell has a kind and the names that it
-    takes, which are inputs `I..` or cells `n..`; an output shows a cell. A buffer with two or three users is a splitter.
+    takes, which are inputs `I..` or cells `n..`; an output shows a cell. A buffer with two or three users is a
+    splitter.
     """
 
     def __init__(self, path):
         self.inputs, self.outputs = ports(path)
-        self.cells, self.shows, self.users = {}, {}, {}
+        self.cells, self.shows, self.users, self.input_names = {}, {}, {}, set(self.inputs)
         definition = None
         for number, words in statements(path):
             if words[0] == ".names":
                 self.add(definition, path)
+                if len(words) == 1:
+                    raise Stop(f"{path}: line {number}: .names of nothing")
                 definition = (number, words[1:], [])
             elif definition and not words[0].startswith("."):
                 definition[2].append(" ".join(words))
@@ -212,20 +252,24 @@ class Circuit:
                 self.add(definition, path)
                 definition = None
         self.add(definition, path)
+        for name in self.outputs:
+            if name not in self.shows:
+                raise Stop(f"{path}: output {name} shows no cell: not as `aqfp netlist` writes it")
 
     def add(self, definition, path):
         """Takes in one definition."""
         if definition is None:
             return
-        number, names, rows = definition
-        *takes, name = names
+        number, (*takes, name), rows = definition
         kind = KINDS.get(tuple(rows))
-        pins = {"zero": 0, "one": 0, "majority": 3}.get(kind, 1)
-        if kind is None or len(takes) != pins or any(each not in self.cells and each not in self.inputs for each in takes):
+        shows = name in self.outputs
+        known = all(each in self.cells or not shows and each in self.input_names for each in takes)
+        if (kind is None or len(takes) != PINS[kind] or not known or name in self.cells or name in self.shows
+                or name in self.input_names or shows and kind != "buffer"):
             raise Stop(f"{path}: line {number}: not as `aqfp netlist` writes it")
         for each in takes:
             self.users.setdefault(each, []).append(name)
-        if name in self.outputs:
+        if shows:
             self.shows[name] = takes[0]
         else:
             self.cells[name] = (kind, takes)
@@ -260,7 +304,7 @@ class Circuit:
             return found
 
         for name, (_, takes) in self.cells.items():
-            if name not in rows and any(source in self.inputs for source in takes):
+            if name not in rows and any(source in self.input_names for source in takes):
                 rows.update(spread(name, 0))
         ends = list(dict.fromkeys(self.shows.values()))
         last = next((rows[end] for end in ends if end in rows), None)
@@ -274,7 +318,51 @@ class Circuit:
 
 def bus(name):
     """The name of a bus and the place of a bit in it, for `a[3]`, `a<3>` and `a(3)`; else the name and nothing."""
-    found = re.fullmatch(r"(.+)(?:\[(\d+)\]|<(\d+)>|\((\d+)\))", name)
+    found = re.fullmatch(r"(.+)(?:\[([0-9]+)\]|<([0-9]+)>|\(([0-9]+)\))", name, re.DOTALL)
     if not found:
         return name, None
-    return found[1], int(found[2] or found[3] or found[4])
+    return found[1], index_of(found[2] or found[3] or found[4], name)
+
+
+def index_of(digits, name):
+    """The number of a bit."""
+    if len(digits.lstrip("0")) > len(str(LAST_BIT)) or int(digits[-9:]) > LAST_BIT:
+        raise Stop(f"signal {shortened(name)}: the last bit of a bus has the number {LAST_BIT}")
+    return int(digits[-9:])
+
+
+def shortened(text):
+    """The begin of a long text."""
+    return text if len(text) <= 60 else f"{text[:60]}.."
+
+
+def buses(names):
+    """The buses of a list of signals, as lists of pairs of a bit's weight and the place of its signal in the list; the
+    lowest number is the lowest bit. Names without brackets, as `a0` and `a1`, are a bus where their numbers follow one
+    another and no other signal has the bus's name. A signal alone is a bus of one bit, by its whole name."""
+    found, plain = {}, {}
+    for name, place in {name: place for place, name in reversed(list(enumerate(names)))}.items():
+        base, bit = bus(name)
+        numbered = re.fullmatch(r"(.*[^0-9])([0-9]{1,9})", name, re.DOTALL)
+        if bit is None and numbered:
+            plain.setdefault(numbered[1], []).append((int(numbered[2]), place))
+        else:
+            found.setdefault(base, []).append((bit, place))
+    for base, bits in plain.items():
+        numbers = sorted({number for number, _ in bits})
+        if base in found or not 1 < len(bits) == len(numbers) == numbers[-1] - numbers[0] + 1 <= LAST_BIT:
+            for _, place in bits:
+                found.setdefault(names[place], []).append((None, place))
+        else:
+            found[base] = bits
+    in_order = sorted(found.items(), key=lambda item: min(place for _, place in item[1]))
+    return {base: weighed(base, bits, names) for base, bits in in_order}
+
+
+def weighed(base, bits, names):
+    """The bits of a bus with their weights."""
+    if len({bit for bit, _ in bits}) < len(bits) or len(bits) > 1 and any(bit is None for bit, _ in bits):
+        one, other = sorted(shortened(names[place]) for _, place in bits)[:2]
+        raise Stop(f"{one} and {other} are bits of the bus {shortened(base)} that can't be told apart")
+    lowest = min(bit or 0 for bit, _ in bits)
+    return [((bit or 0) - lowest, place) for bit, place in bits]

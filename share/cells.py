@@ -1,193 +1,38 @@
 #!/usr/bin/env python3
-"""A netlist of cells, which `aqfp draw` takes, from a netlist of majorities: splitters and buffers are put in.
+"""A netlist of cells, which `aqfp draw` takes, from a netlist of majorities, with buffers and splitters or without.
 
-  cells.py NET.blif OUT.blif [--three]
+  cells.py NET.blif OUT.blif [--keep] [--three]
 
 Each definition of NET.blif has at most three inputs and is a constant, a buffer, an inverter, an and or an or of two
-signals, or a majority, of signals or their opposites. Buffers are left out and made anew; opposites become inverters,
-one for each signal; an and or an or becomes a majority with a constant. Each gate stands as low as can be where each
-use of a signal waits for the whole of a balanced tree of splitters; the trees then branch as late as these levels
-allow. This is the plainest way, for one's own search to begin with. With --three splitters have up to three outputs, as
-the kind split3 of a library. docs/cells.md says what is written.
+signals, or a majority, of signals or their opposites. An and or an or becomes a majority with a constant.
+
+With --keep the buffers and splitters that an optimiser placed stay on their levels. Only what `draw` refuses is mended:
+opposites become inverters in the place of buffers, where need be after the opposites were handed on to other cells or a
+row was put in; each use of a constant gets its own; inputs and outputs get buffers; and uses that a splitter lacks get
+it.
+
+Without --keep buffers are left out and made anew, in the plainest way, for one's own search to begin with: opposites
+become inverters, one for each signal; each gate stands as low as can be where each use of a signal waits for the whole
+of a balanced tree of splitters; the trees then branch as late as these levels allow.
+
+With --three splitters have up to three outputs, as the kind split3 of a library. docs/cells.md says what is written.
 """
 import collections
-import itertools
-import re
 import sys
 
 sys.dont_write_bytecode = True
-from aqfp_files import KINDS, Arguments, Stop, run, statements
-
-PASSED = {".area", ".delay", ".wire", ".end"} | {start + name for start in (".", ".default_") for name in (
-    "wire_load_slope", "input_arrival", "output_required", "input_drive", "output_load", "max_input_load")}
-MOST_CELLS = 2000000  # of a chip
-COVERS = {kind: rows for rows, kind in KINDS.items()}
-BITS = (False, True)
-
-# For the table of an and, an or or a majority: which operands of a majority are inverted. Of two inputs the third
-# operand is the constant false.
-FORMS = {}
-for signs in itertools.product(BITS, repeat=3):
-    for inputs in 2, 3:
-        words = itertools.product(BITS, repeat=inputs)
-        FORMS[tuple(sum(map(bool.__xor__, (*word, False)[:3], signs)) > 1 for word in words)] = signs
+from aqfp_cells import CellRows, Graph, Source, lines_of_cells
+from aqfp_files import Arguments, run
+from aqfp_kept import KeptGraph, KeptRows
 
 
-# What is read
-
-class Source:
-    """A netlist of one model: inputs, outputs, and of each definition its line, the names that it takes, and rows."""
-
-    def __init__(self, path):
-        self.path, self.model, self.inputs, self.outputs, self.definitions = path, "cells", [], [], {}
-        models, ended, rows = 0, False, None
-        for number, words in statements(path):
-            models += words[0] == ".model"
-            if models > 1:
-                self.stop(number, "a second model")
-            if ended:
-                self.stop(number, "something after .end")
-            ended = words[0] == ".end"
-            if not words[0].startswith(".") and rows is not None:
-                rows.append("".join(words))
-                continue
-            rows = self.statement(number, words)
-        inputs = set(self.inputs)
-        if len(inputs) < len(self.inputs) or not inputs.isdisjoint(self.definitions):
-            self.stop(0, "an input stands twice, or is defined")
-        for number, takes, _ in (*self.definitions.values(), (0, self.outputs, ())):
-            for name in takes:
-                if name not in self.definitions and name not in inputs:
-                    self.stop(number, f"{name} is neither an input nor defined")
-        if not self.outputs:
-            self.stop(0, "no outputs")
-
-    def statement(self, number, words):
-        """Takes in a statement; answers the list for its rows where it is a definition."""
-        word, *names = words
-        if word == ".names" and names:
-            if names[-1] in self.definitions:
-                self.stop(number, f"{names[-1]} is defined twice")
-            rows = []
-            self.definitions[names[-1]] = (number, names[:-1], rows)
-            return rows
-        if word == ".inputs":
-            self.inputs += names
-        elif word == ".outputs":
-            self.outputs += names
-        elif word == ".model":
-            self.model = (names or ["cells"])[0]
-        elif word not in PASSED:
-            self.stop(number, f"{word} is not read here" if word.startswith(".") else "a row without a definition")
-        return None
-
-    def stop(self, number, what):
-        raise Stop(f"{self.path}: line {number}: {what}" if number else f"{self.path}: {what}")
-
-    def table(self, name):
-        """The values of a definition, for all words of its inputs in their order."""
-        number, takes, rows = self.definitions[name]
-        if len(takes) > 3:
-            self.stop(number, f"{name} has more than three inputs")
-        if any(not re.fullmatch(f"[01-]{{{len(takes)}}}[01]", row) or row[-1] != rows[0][-1] for row in rows):
-            self.stop(number, f"rows of {name} that are no cover")
-        value = not rows or rows[0][-1] == "1"
-        return [any(all(byte in (bit, "-") for bit, byte in zip(word, row)) for row in rows) == value
-                for word in itertools.product("01", repeat=len(takes))]
-
-    def in_order(self):
-        """The names that are defined, each after those that it takes."""
-        done = dict.fromkeys(self.inputs, True)
-        for start in self.definitions:
-            path = [] if start in done else [(start, iter(self.definitions[start][1]))]
-            done.setdefault(start, False)
-            while path:
-                name, takes = path[-1]
-                other = next(takes, None)
-                if other is None:
-                    done[name] = True
-                    path.pop()
-                    yield name
-                elif other not in done:
-                    done[other] = False
-                    path.append((other, iter(self.definitions[other][1])))
-                elif not done[other]:
-                    self.stop(self.definitions[name][0], f"a cycle leads from {name} back to {other}")
-
-
-class Graph:
-    """The majorities of a netlist, each after those that it takes. An operand is the name of an input or of a majority
-    and whether it is inverted; for a constant it is None and its value."""
-
-    def __init__(self, source):
-        self.source, self.majorities, self.operands = source, {}, {name: (name, False) for name in source.inputs}
-        for name in source.in_order():
-            self.operands[name] = self.operand(name)
-        self.shown = [self.operands[name] for name in source.outputs]
-        self.keep_used()
-
-    def operand(self, name):
-        """What a definition computes, as an operand of others."""
-        takes = [self.operands[each] for each in self.source.definitions[name][1]]
-        table = self.source.table(name)
-        for place in reversed(range(len(takes))):
-            step = 2 ** (len(takes) - 1 - place)
-            if all(value == table[word ^ step] for word, value in enumerate(table)):
-                table = [value for word, value in enumerate(table) if not word & step]
-                takes.pop(place)
-        if len(takes) < 2:
-            signal, inverted = (takes or [(None, False)])[0]
-            return signal, inverted ^ table[0]
-        signs = FORMS.get(tuple(table))
-        if signs is None:
-            self.source.stop(self.source.definitions[name][0], f"{name} is no and, or or majority")
-        return self.majority(name, [(signal, inverted ^ sign)
-                                    for (signal, inverted), sign in zip([*takes, (None, False)], signs)])
-
-    def majority(self, name, takes):
-        """The majority of three operands, which is one of them where two of them are of one signal."""
-        for place in range(3):
-            one, other, third = takes[place:] + takes[:place]
-            if one[0] == other[0]:
-                return one if one == other else third
-        self.majorities[name] = takes
-        return name, False
-
-    def keep_used(self):
-        """Leaves out what no output needs."""
-        waiting, used = [name for name, _ in self.shown], set()
-        while waiting:
-            name = waiting.pop()
-            if name in self.majorities and name not in used:
-                used.add(name)
-                waiting += [each for each, _ in self.majorities[name]]
-        self.majorities = {name: takes for name, takes in self.majorities.items() if name in used}
-
-    def uses(self):
-        """How many uses each operand has; the inverter of a signal is one of its uses."""
-        uses = collections.Counter(each for takes in (*self.majorities.values(), self.shown) for each in takes)
-        uses.update((name, False) for name, inverted in list(uses) if name is not None and inverted)
-        return uses
-
-
-# What is written
-
-class Cell:
-    """A cell: its kind, where it comes from, the cells or the input that it takes, and its place while rows are put in
-    order."""
-    __slots__ = ("kind", "origin", "takes", "place", "name")
-
-    def __init__(self, kind, origin, takes):
-        self.kind, self.origin, self.takes, self.place = kind, origin, takes, 0.0
-
-
-class Rows:
-    """The rows of cells of a graph."""
+class Rows(CellRows):
+    """The rows of cells of a graph, with all buffers and splitters made anew."""
 
     def __init__(self, graph, most):
-        self.graph, self.most, self.count = graph, most, 0
-        self.find_levels()
-        self.rows = [[] for _ in range(self.last + 1)]
+        self.most = most
+        self.find_levels(graph)
+        super().__init__(graph, self.last + 1)
         self.pins = collections.defaultdict(lambda: collections.defaultdict(list))
         roots = {}
         for (name, inverted), level in self.levels.items():
@@ -203,10 +48,10 @@ class Rows:
             self.add_tree(self.levels[operand], root, self.pins.pop(operand, {}))
         self.put_in_order()
 
-    def find_levels(self):
+    def find_levels(self, graph):
         """The lowest level of each gate: an input's buffer, a majority, or an inverter. A signal of n uses goes through
         as many levels of splitters as a balanced tree has."""
-        uses, self.levels, ready = self.graph.uses(), {}, {}
+        uses, self.levels, ready = graph.uses(), {}, {}
 
         def stand(operand, level):
             self.levels[operand], outputs = level, 1
@@ -217,24 +62,17 @@ class Rows:
             if not inverted and uses[name, True]:
                 stand((name, True), level + 1)
 
-        for name in self.graph.source.inputs:
+        for name in graph.source.inputs:
             stand((name, False), 0)
-        for name, takes in self.graph.majorities.items():
+        for name, takes in graph.majorities.items():
             stand((name, False), 1 + max(ready[each] for each in takes if each[0] is not None))
-        self.last = 1 + max(ready.get(each, 0) for each in self.graph.shown)
+        self.last = 1 + max(ready.get(each, 0) for each in graph.shown)
 
-    def add(self, level, kind, origin, takes):
-        """A cell. A constant that it takes is a cell of its own, one below; other operands are pins that trees feed."""
-        self.count += 1
-        if self.count > MOST_CELLS:
-            raise Stop(f"{self.graph.source.path}: more than {MOST_CELLS} cells")
-        cell = Cell(kind, origin, list(takes))
-        self.rows[level].append(cell)
+    def add(self, level, kind, origin, takes, own=None):
+        """A cell. What it takes but constants are pins that trees feed."""
+        cell = super().add(level, kind, origin, takes, own)
         for place, operand in enumerate(takes):
-            if operand[0] is None:
-                cell.takes[place] = self.add(level - 1, "one" if operand[1] else "zero", "constant", [])
-                cell.takes[place].place = cell
-            elif isinstance(operand, tuple):
+            if isinstance(operand, tuple) and operand[0] is not None:
                 self.pins[operand][level].append((cell, place))
         return cell
 
@@ -256,65 +94,16 @@ class Rows:
             cell.takes[place:place + 1] = [source]
         return source
 
-    def put_in_order(self):
-        """The cells of each row in the order of the mean place of those that they take; a constant beside what goes to
-        the same majority."""
-        for row in self.rows:
-            constants = [cell for cell in row if not cell.takes]
-            for place, cell in enumerate(row):
-                if cell.takes:
-                    places = [each.place for each in cell.takes if isinstance(each, Cell)] or [place]
-                    cell.place = sum(places) / len(places)
-            for cell in constants:
-                beside = [each.place for each in cell.place.takes if each.takes]
-                cell.place = (beside or [len(row)])[0]
-            row.sort(key=lambda cell: cell.place)
-            for place, cell in enumerate(row):
-                cell.place = place
-
-
-def lines_of_cells(rows, source):
-    """The lines of the netlist. A cell has the name of the signal that it comes from, its level, and a number where
-    there are several."""
-    taken, numbers = {*source.inputs, *source.outputs}, collections.Counter()
-
-    def fresh(base):
-        name = base
-        while name in taken:
-            numbers[base] += 1
-            name = f"{base}.{numbers[base]}"
-        taken.add(name)
-        return name
-
-    def definition(kind, takes, name):
-        return [" ".join((".names", *takes, name)), *COVERS[kind]]
-
-    yield from (f".model {source.model}", " ".join((".inputs", *source.inputs)))
-    shown, names = set(source.inputs), []
-    for name in source.outputs:
-        names.append(fresh(f"{name}.out") if name in shown else name)
-        shown.add(name)
-    yield " ".join((".outputs", *names))
-    for level, row in enumerate(rows.rows):
-        yield f"# level {level}"
-        for cell in row:
-            cell.name = fresh(f"{cell.origin}.{level}")
-            takes = [each if isinstance(each, str) else each.name for each in cell.takes]
-            yield from definition(cell.kind, takes, cell.name)
-    yield "# names"
-    for cell, name in zip(rows.ends, names):
-        yield from definition("buffer", [cell.name], name)
-    yield ".end"
-
 
 def main():
     parser = Arguments("cells", __doc__)
     parser.add_argument("net", metavar="NET.blif", help="a netlist of majorities, ands, ors and inverters")
     parser.add_argument("out", metavar="OUT.blif", help="the netlist of cells")
     parser.add_argument("--three", action="store_true", help="splitters have up to three outputs, and not two")
+    parser.add_argument("--keep", action="store_true", help="keeps the buffers and splitters that are there")
     words = parser.parse_args()
-    source = Source(words.net)
-    rows = Rows(Graph(source), 3 if words.three else 2)
+    source, most = Source(words.net), 3 if words.three else 2
+    rows = KeptRows(KeptGraph(source), most) if words.keep else Rows(Graph(source), most)
     text = "\n".join(lines_of_cells(rows, source)) + "\n"
     with open(words.out, "w", encoding="utf-8", errors="surrogateescape") as file:
         file.write(text)

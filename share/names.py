@@ -1,27 +1,28 @@
 #!/usr/bin/env python3
-"""The names of a netlist's inputs and outputs as texts in a chip, on a layer of their own that `aqfp verify` passes over.
+"""The names of a netlist's inputs and outputs as texts in a chip, on a layer of their own that `aqfp verify` passes
+over.
 
   names.py CHIP.gds NET.blif OUT.gds [--layer 31]
 
-Beside each label I0, I1, .., O0, O1, .. comes a text with the name that NET.blif gives this input or output. Everything
-else stays as it is. klayout.lyp shows layer 31 as `names`.
+Beside each label I0, I1, .., O0, O1, .. comes a text with the name that NET.blif gives this input or output, in place
+of one that an earlier run put there. Everything else stays as it is. klayout.lyp shows layer 31 as `names`.
 """
 import re
 import struct
 import sys
 
 sys.dont_write_bytecode = True
-from aqfp_files import (ENDEL, LABELS, LAYER, READ_LAYERS, STRING, TEXT, Arguments, Stop, field, layer_of, load_stream, pieces,
-                        ports, record, run, text_of)
+from aqfp_files import (ENDEL, LABELS, LAYER, READ_LAYERS, STRING, TEXT, Arguments, Stop, field, layer_of, load_stream,
+                        pieces, ports, record, run, text_of)
 
 
 def renamed(element, layer, name):
-    """A text with another layer and another string."""
+    """A text with another layer, where one is given, and another string."""
     parts, place = [], 0
     while place < len(element):
         length, kind = struct.unpack_from(">HB", element, place)
         part = element[place:place + length]
-        if kind == LAYER:
+        if kind == LAYER and layer is not None:
             part = record(LAYER, 2, struct.pack(">H", layer))
         if kind == STRING:
             part = record(STRING, 6, name)
@@ -30,6 +31,37 @@ def renamed(element, layer, name):
             break
         place += length
     return b"".join(parts)
+
+
+def labels_of(data, path):
+    """The pieces of a stream, each with its structure, and with the label that it is where it is one."""
+    for kind, structure, piece in pieces(data, path):
+        label = None
+        if kind == TEXT and layer_of(piece, path) == LABELS:
+            label = re.fullmatch(r"([IO])(0|[1-9][0-9]{0,9})", text_of(field(piece, STRING, path)))
+        yield kind, structure, piece, label
+
+
+def with_names(data, words):
+    """A stream with names beside its labels, and how many these are. What an earlier run put there is left out."""
+    names, out, count = dict(zip("IO", ports(words.net))), [], 0
+    places = {(structure, renamed(piece, words.layer, b""))
+              for _, structure, piece, label in labels_of(data, words.chip) if label}
+    for kind, structure, piece, label in labels_of(data, words.chip):
+        if kind == TEXT and (structure, renamed(piece, None, b"")) in places:
+            continue
+        out.append(piece)
+        if not label:
+            continue
+        letter, number = label[1], int(label[2])
+        if number >= len(names[letter]):
+            raise Stop(f"{words.chip}: label {label[0]}, and {words.net} has {len(names['I'])} inputs and "
+                       f"{len(names['O'])} outputs: another netlist?")
+        out.append(renamed(piece, words.layer, names[letter][number].encode("utf-8", "surrogateescape")))
+        count += 1
+    if count == 0:
+        raise Stop(f"{words.chip}: no label on layer {LABELS}")
+    return b"".join(out), count
 
 
 def main():
@@ -41,28 +73,9 @@ def main():
     words = parser.parse_args()
     if not 0 <= words.layer <= 65535 or words.layer in READ_LAYERS:
         raise Stop(f"--layer {words.layer}: a layer from 0 to 65535 that verify does not read")
-    names = dict(zip("IO", ports(words.net)))
-    data = load_stream(words.chip)
-    out, count = [], 0
-    for kind, _, piece in pieces(data, words.chip):
-        out.append(piece)
-        if kind != TEXT or layer_of(piece, words.chip) != LABELS:
-            continue
-        label = text_of(field(piece, STRING, words.chip))
-        found = re.fullmatch(r"([IO])(0|[1-9]\d{0,9})", label)
-        if not found:
-            continue
-        letter, number = found[1], int(found[2])
-        if number >= len(names[letter]):
-            raise Stop(f"{words.chip}: label {label}, and {words.net} has {len(names['I'])} inputs and "
-                       f"{len(names['O'])} outputs: another netlist?")
-        name = names[letter][number].encode("utf-8", "surrogateescape")
-        out.append(renamed(piece, words.layer, name))
-        count += 1
-    if count == 0:
-        raise Stop(f"{words.chip}: no label on layer {LABELS}")
+    stream, count = with_names(load_stream(words.chip), words)
     with open(words.out, "wb") as file:
-        file.write(b"".join(out))
+        file.write(stream)
     print(f"{count} names on layer {words.layer}")
 
 

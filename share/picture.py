@@ -4,11 +4,18 @@
 #
 # More words, each after `-rd`:
 #   width=1600         the width in pixels, from 500 to 20000; the height follows from what is shown
+#   scale=600          in place of a width: nanometres a pixel, so that pictures of several chips have one scale
 #   box=X0,Y0,X1,Y1    shows only this part, in micrometres
 #   names=1            names the layers that are shown, at the right, in 430 pixels of the width
-#   rows=1             shades the rows in the colours of their phases, and names row and phase at the left, in 150 pixels
-# Where a chip has names of inputs and outputs, by share/names.py, they are shown in place of the labels.
+#   rows=1             shades the rows in the colours of their phases, and names row and phase at the left, in 150
+#                      pixels
+#   bar=1              puts a scale bar below the chip
+#   legend=1           tells below the chip what its colours are
+# Where a chip has names of inputs and outputs, by share/names.py, they are shown in place of the labels. Of names and
+# labels that would stand on one another some are left out. Layers that klayout.lyp has not, as those of share/pdk.py,
+# are shown in colours that KLayout chooses.
 # What is wrong is one line on standard error, with status 1.
+import math
 import os
 import sys
 import tempfile
@@ -17,6 +24,9 @@ import pya
 NAMES = 430  # the width of the names of layers, in pixels
 ROWS = 150  # the width of the names of rows, in pixels
 LABEL = 20  # pixels of a label at the upper edge, which KLayout writes above its point
+LETTER, LINE = 8, 16  # the width of a letter and the height of a line, in pixels
+ENTRY = 130  # the width of an entry of the legend, in pixels
+LEAST, MOST = 500, 20000  # pixels of a picture
 PHASES = ("#ffc4c4", "#ffe9a8", "#c4e2ff", "#c4ecc4")  # the colours of phases 0 to 3
 SHADE = """ <properties>
   <frame-color>{0}</frame-color>
@@ -26,10 +36,11 @@ SHADE = """ <properties>
   <visible>true</visible>
   <transparent>false</transparent>
   <width>1</width>
-  <name>phase {1}</name>
-  <source>1000/{1}@1</source>
+  <name>{1}</name>
+  <source>{2}@1</source>
  </properties>
 """
+GROUPS = {10: "lower metal", 12: "upper metal", 14: "even line", 15: "odd line", 21: "input pin", 22: "output pin"}
 HERE = os.path.dirname(os.path.abspath(__file__))
 WORDS = globals()
 
@@ -45,12 +56,25 @@ def word(name):
     return WORDS[name]
 
 
-def width_of_picture():
-    """The width in pixels."""
-    text = WORDS.get("width", "1600")
-    if not text.isdecimal() or not 500 <= int(text) <= 20000:
-        raise Stop(f"width={text}: a number from 500 to 20000")
+def number(name, least, most, default=None):
+    """A word that is a number, if it is there."""
+    text = WORDS.get(name)
+    if text is None:
+        return default
+    if not (text.isascii() and text.isdecimal()) or len(text) > 9 or not least <= int(text) <= most:
+        raise Stop(f"{name}={text}: a number from {least} to {most}")
     return int(text)
+
+
+def scale_of(area):
+    """The width of a pixel in micrometres: as it is said, or so that all is as wide as is said."""
+    scale = number("scale", 1, 1000000)
+    if scale is not None:
+        if "width" in WORDS:
+            raise Stop("width and scale are said: one of them follows from the other")
+        return scale / 1000
+    beside = (NAMES if "names" in WORDS else 0) + (ROWS if "rows" in WORDS else 0)
+    return area.width() / (number("width", LEAST, MOST, 1600) - beside)
 
 
 def part_of(sheet):
@@ -108,6 +132,27 @@ def show_names(sheet):
         cell.shapes(labels).clear()
 
 
+def thin_out(sheet, pixel):
+    """Leaves labels out that would stand on others, at the same height."""
+    layout = sheet.layout()
+    for index in filter(lambda index: layout.get_info(index).layer in (30, 31), layout.layer_indexes()):
+        for cell in layout.each_cell():
+            texts = [shape.text for shape in cell.shapes(index).each() if shape.is_text()]
+            if len(texts) == cell.shapes(index).size():
+                cell.shapes(index).clear()
+                for text in apart(texts, pixel / layout.dbu):
+                    cell.shapes(index).insert(text)
+
+
+def apart(texts, pixel):
+    """The texts that do not stand on others at the same height, from the left."""
+    ends = {}
+    for text in sorted(texts, key=lambda text: text.x):
+        if text.x >= ends.get(text.y, text.x):
+            ends[text.y] = text.x + (len(text.string) + 0.5) * LETTER * pixel
+            yield text
+
+
 def add_names(view, area, pixel):
     """Puts a sample of each layer and its name at the right of the area; gives the area with them."""
     sheet = view.active_cellview()
@@ -125,36 +170,98 @@ def add_names(view, area, pixel):
     return pya.DBox(area.left, area.bottom, area.right + NAMES * pixel, area.top)
 
 
-def load_colours(view):
-    """Takes the layers and colours of klayout.lyp, with the shades of the phases below them."""
+def load_colours(view, own):
+    """Takes the layers and colours of klayout.lyp, with those of this script below them, and layers that it has not
+    with colours of KLayout above them."""
     with open(os.path.join(HERE, "klayout.lyp"), encoding="utf-8") as file:
         text = file.read()
-    shades = "".join(SHADE.format(colour, phase) for phase, colour in enumerate(PHASES))
+    shades = [(colour, f"phase {phase}", f"{own}/{phase}") for phase, colour in enumerate(PHASES)]
+    shades = "".join(SHADE.format(*each) for each in (*shades, ("#000000", "", f"{own}/{len(PHASES)}")))
     with tempfile.NamedTemporaryFile("w", suffix=".lyp", encoding="utf-8") as file:
         file.write(text.replace("<layer-properties>\n", "<layer-properties>\n" + shades))
         file.flush()
         view.load_layer_props(file.name)
+    view.add_missing_layers()
+    each = view.begin_layers()
+    while not each.at_end():
+        entry = each.current()
+        if not entry.name and entry.source_layer != own:
+            entry.name = f"layer {entry.source_layer}/{entry.source_datatype}"
+        each.next()
 
 
-def add_rows(sheet, area, rows, pixel):
-    """Shades the rows by their phases and names them at the left of the area; gives the area with the names."""
+def add_rows(sheet, own, area, rows, pixel):
+    """Shades the rows by their phases and names them at the left of the area, in one line where they are low, and not
+    all where names would stand on one another; gives the area with the names."""
     layout, cell = sheet.layout(), sheet.cell
     labels = layout.layer(30, 0)
-    shades = [layout.layer(1000, phase) for phase in range(4)]
-    left = area.left - ROWS * pixel
+    left, free = area.left - ROWS * pixel, -math.inf
+    steps = [upper[0] - lower[0] for lower, upper in zip(rows, rows[1:])]
+    low = min(steps, default=math.inf) < 2.2 * LINE * pixel
     for number, (bottom, top) in enumerate(rows):
         bottom, top = max(bottom, area.bottom), min(top, area.top)
-        if bottom < top:
-            cell.shapes(shades[number % 4]).insert(pya.DBox(left, bottom, area.right, top))
-            middle = (bottom + top) / 2
+        if bottom >= top:
+            continue
+        cell.shapes(layout.layer(own, number % 4)).insert(pya.DBox(left, bottom, area.right, top))
+        middle, phase = (bottom + top) / 2, f"phase {number % 4}"
+        if low and middle >= free:
+            cell.shapes(labels).insert(pya.DText(f"row {number} {phase}", left + 4 * pixel, middle - 6 * pixel))
+            free = middle + LINE * pixel
+        elif not low:
             cell.shapes(labels).insert(pya.DText(f"row {number}", left + 10 * pixel, middle + 2 * pixel))
-            cell.shapes(labels).insert(pya.DText(f"phase {number % 4}", left + 10 * pixel, middle - 14 * pixel))
+            cell.shapes(labels).insert(pya.DText(phase, left + 10 * pixel, middle - 14 * pixel))
     return pya.DBox(left, area.bottom, area.right, area.top)
 
 
-def main():
-    gds, png, width = word("gds"), word("png"), width_of_picture()
-    view = pya.LayoutView()
+def add_bar(sheet, own, area, pixel):
+    """Puts a scale bar below the area, as long as a round number of micrometres; gives the area with it."""
+    longest = 120 * pixel
+    power = 10.0 ** math.floor(math.log10(longest))
+    length = max(step * power for step in (1, 2, 5) if step * power <= longest)
+    top = area.bottom - LINE * pixel
+    layout, cell = sheet.layout(), sheet.cell
+    cell.shapes(layout.layer(own, len(PHASES))).insert(pya.DBox(area.left, top - 5 * pixel, area.left + length, top))
+    text = pya.DText(f"{length:g} um", area.left + length + LETTER * pixel, top - 9 * pixel)
+    cell.shapes(layout.layer(30, 0)).insert(text)
+    return pya.DBox(area.left, top - 10 * pixel, area.right, area.top)
+
+
+def legend_of(view, own):
+    """The entries of the legend: a layer each, and what it is."""
+    found = {}
+    for entry in reversed(shown_layers(view)):
+        if entry.source_layer not in (30, 31) and (entry.source_layer, entry.source_datatype) != (own, len(PHASES)):
+            found.setdefault(GROUPS.get(entry.source_layer, entry.name), entry.layer_index())
+    return list(found.items())
+
+
+def add_legend(view, own, area, pixel):
+    """Tells below the area what is shown, in as many columns as there is room for; gives the area with that."""
+    sheet, entries = view.active_cellview(), legend_of(view, own)
+    columns = max(1, int(area.width() / pixel / ENTRY))
+    lines = -(-len(entries) // columns)
+    labels, height = sheet.layout().layer(30, 0), 1.25 * LINE * pixel
+    for place, (name, layer) in enumerate(entries):
+        left = area.left + place // lines * ENTRY * pixel
+        top = area.bottom - 0.8 * LINE * pixel - place % lines * height
+        sheet.cell.shapes(layer).insert(pya.DBox(left, top - 12 * pixel, left + 16 * pixel, top))
+        sheet.cell.shapes(labels).insert(pya.DText(name, left + 20 * pixel, top - 11 * pixel))
+    return pya.DBox(area.left, area.bottom - 0.8 * LINE * pixel - lines * height, area.right, area.top)
+
+
+def framed(whole, pixel):
+    """What is shown with a margin, and the width and height of the picture in pixels."""
+    if "scale" not in WORDS:
+        whole = whole.enlarged(whole.width() * 0.02, max(whole.height() * 0.02, LABEL * pixel))
+        width = number("width", LEAST, MOST, 1600)
+        return whole, width, max(1, round(width * whole.height() / whole.width()))
+    whole = whole.enlarged(10 * pixel, LABEL * pixel)
+    width, height = math.ceil(whole.width() / pixel), math.ceil(whole.height() / pixel)
+    return pya.DBox(whole.left, whole.bottom, whole.left + width * pixel, whole.bottom + height * pixel), width, height
+
+
+def opened(view, gds):
+    """Opens a chip."""
     for key, value in (("grid-visible", "false"), ("background-color", "#ffffff"), ("text-visible", "true")):
         view.set_config(key, value)
     if not os.path.isfile(gds):
@@ -163,6 +270,11 @@ def main():
         view.load_layout(gds, True)
     except RuntimeError as error:
         raise Stop(f"{gds}: {str(error).splitlines()[0]}") from None
+    return view.active_cellview()
+
+
+def laid_out(view):
+    """Puts all that is to be shown into the chip that is open; gives the area with it, and the width of a pixel."""
     sheet = view.active_cellview()
     rows, part = rows_of(sheet), part_of(sheet)
     if part is not None:
@@ -170,20 +282,32 @@ def main():
         sheet.cell = sheet.layout().cell(clipped)
     show_names(sheet)
     area = whole = sheet.cell.dbbox()
-    pixel = area.width() / (width - (NAMES if "names" in WORDS else 0) - (ROWS if "rows" in WORDS else 0))
+    own = 1 + max([999, *(sheet.layout().get_info(index).layer for index in sheet.layout().layer_indexes())])
+    pixel = scale_of(area)
+    thin_out(sheet, pixel)
     if "rows" in WORDS:
-        whole = add_rows(sheet, area, rows, pixel)
-    load_colours(view)
+        whole = add_rows(sheet, own, area, rows, pixel)
+    load_colours(view, own)
     view.max_hier()
     if not shown_layers(view):
-        raise Stop(f"{gds} shows no layer of klayout.lyp" + (" in the box" if part is not None else ""))
+        raise Stop(f"{WORDS['gds']} has no shape" + (" in the box" if part is not None else ""))
     if "names" in WORDS:
         whole += add_names(view, area, pixel)
-    whole = whole.enlarged(whole.width() * 0.02, max(whole.height() * 0.02, LABEL * pixel))
+    if "legend" in WORDS:
+        whole = add_legend(view, own, whole, pixel)
+    if "bar" in WORDS:
+        whole = add_bar(sheet, own, whole, pixel)
+    return whole, pixel
+
+
+def main():
+    gds, png = word("gds"), word("png")
+    view = pya.LayoutView()
+    opened(view, gds)
+    whole, width, height = framed(*laid_out(view))
+    if width > MOST or height > MOST:
+        raise Stop(f"the picture would be {width} by {height} pixels, and {MOST} is the most: a smaller one, or a box")
     view.zoom_box(whole)
-    height = max(1, round(width * whole.height() / whole.width()))
-    if height > 20000:
-        raise Stop(f"the picture would be {height} pixels high, and 20000 is the most: a smaller width, or a box")
     try:
         view.save_image(png, width, height)
     except RuntimeError as error:
@@ -195,6 +319,7 @@ def main():
 try:
     main()
 except Stop as stop:
-    print(f"picture: {stop}", file=sys.stderr)
+    line = "".join(char if char.isprintable() else f"\\x{ord(char):02x}" for char in str(stop))
+    print(f"picture: {line}", file=sys.stderr)
     sys.stderr.flush()
     os._exit(1)  # of sys.exit KLayout makes status 0

@@ -3,16 +3,17 @@
 
   strip.py FULL.gds CHECK.gds [--top NAME]
 
-`verify` reads the layers 10, 11, 12, 14, 15, 20, 21, 22 and 30, but refuses round figures, slanted edges and the like on
-every layer. Boundaries, paths, texts, boxes and nodes on other layers are taken out; references stay. With --top only
-that structure stays, and those below it. Shapes are numbered anew, so numbers that verify tells are those of CHECK.gds.
-A box or a node on a layer that verify reads stops the script, since it might be meant as metal: draw it as a boundary.
+`verify` reads the layers 10, 11, 12, 14, 15, 20, 21, 22 and 30, but refuses round figures, slanted edges and the like
+on every layer. Boundaries, paths, texts, boxes and nodes on other layers are taken out; references stay. With --top
+only that structure stays, and those below it. Shapes are numbered anew, so numbers that verify tells are those of
+CHECK.gds. A box or a node on a layer that verify reads stops the script, since it might be meant as metal: draw it as a
+boundary.
 """
 import sys
 
 sys.dont_write_bytecode = True
-from aqfp_files import (AREF, BGNSTR, BOX, ENDLIB, ENDSTR, NODE, READ_LAYERS, SNAME, SREF, STRNAME, ELEMENTS, Arguments, Stop,
-                        field, layer_of, load_stream, pieces, run, text_of)
+from aqfp_files import (AREF, BGNSTR, BOX, ENDLIB, ENDSTR, NODE, READ_LAYERS, SNAME, SREF, STRNAME, ELEMENTS, Arguments,
+                        Stop, field, layer_of, load_stream, pieces, run, text_of)
 
 
 def below(data, path, top):
@@ -57,8 +58,9 @@ def main():
                 taken += 1
                 continue
             if kind in (BOX, NODE):
-                raise Stop(f"{words.full}: structure {structure}: a {'box' if kind == BOX else 'node'} on layer {layer}, "
-                           "which verify reads: draw it as a boundary")
+                what = "box" if kind == BOX else "node"
+                raise Stop(f"{words.full}: structure {structure}: a {what} on layer {layer}, which verify "
+                           "reads: draw it as a boundary")
         out.append(piece)
     with open(words.check, "wb") as file:
         file.write(b"".join(out))
