@@ -20,7 +20,8 @@ build   reads the netlist NET with the cells of the library LIB, stores the
         layout of its chip under OUT and prints the counts of its rows, cells
         and wires and its delay in phases. OUT may have the name of NET or LIB.
 compact the same, but searches for a smaller chip: one that answers as the
-        netlist does and is no larger than that of build.
+        netlist does and has at most as many cells and junctions as that of
+        build. It may be wider or higher.
 draw    the same of a netlist whose definitions are the chip's cells: buffers,
         splitters, inverters, constants and majorities, each one row above what
         it names. They are kept as they are; their order is searched for, and
@@ -79,4 +80,4 @@ A status above 0 comes with one line on standard error.
 ";
 
 /// The program's name and version.
-pub const VERSION: &str = "aqfp 0.4.2\n";
+pub const VERSION: &str = "aqfp 0.5.0\n";
