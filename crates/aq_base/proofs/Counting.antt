@@ -2,9 +2,9 @@
 use Rattle.std.proofs.Common.{ℕ, suc, ◌≡◌, ◌+◌, List, [], ◌∷◌, ◌++◌, take, refl, ap, sym, ◌∙◌, arith}
 use Rattle.std.specs.Prelude.{Result, Ok, Err}
 use Rattle.aq_base.specs.History.{Event, Loaded, NotLoaded, Created}
-use Rattle.aq_base.specs.History.{NotCreated, Appended, NotAppended, Closed, NotClosed}
+use Rattle.aq_base.specs.History.{NotCreated, Appended, NotAppended, Closed, NotClosed, Discarded}
 use Rattle.aq_base.specs.History.{behind, took}
-use Rattle.aq_base.specs.Outside.{Outside, TakesPart, after_load, after_create, after_close, grown}
+use Rattle.aq_base.specs.Outside.{Outside, TakesPart, after_load, after_create, after_close, after_discard, grown}
 use Rattle.aq_base.specs.Output.{Output, PrintsPart, printed}
 use Rattle.aq_base.specs.FaultCounts.{read_faults, write_faults, close_faults, memory_refusals, load_failed, Faults}
 use Rattle.aq_base.specs.FaultCounts.{faults, load_fault, call_fault, memory_refusal}
@@ -35,6 +35,7 @@ module _ {X : Type 0} (count : List Event → X) (same : (bytes : List ℕ) (his
   behind_counts piece (NotAppended why ∷ history) = same piece (NotAppended why ∷ history)
   behind_counts piece (Closed ∷ history) = same piece (Closed ∷ history)
   behind_counts piece (NotClosed why ∷ history) = same piece (NotClosed why ∷ history)
+  behind_counts piece (Discarded ∷ history) = same piece (Discarded ∷ history)
 
   took_counts : (piece : List ℕ) (history : List Event) → count (took piece history) ≡ count history
   took_counts [] history = refl
@@ -126,7 +127,10 @@ pub closes : (o : Outside) (answer : Result (Unit {0}) StoreRefusal)
 closes o (Ok done) = λ i. Made (read_faults o.history) (write_faults o.history) (none_more (close_faults o.history) i)
 closes o (Err why) = refused_close why o.history
 
-pub ruleset counting = (loads, makes, takes, takes_part, closes)
+pub discards : (o : Outside) → faults (after_discard o).history ≡ faults o.history
+discards o = refl
+
+pub ruleset counting = (loads, makes, takes, takes_part, closes, discards)
 
 -- ---- a sink's
 

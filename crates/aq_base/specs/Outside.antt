@@ -4,7 +4,7 @@ use Rattle.aq_base.specs.declared.store.LoadRefusal.{LoadRefusal}
 use Rattle.aq_base.specs.declared.store.StoreRefusal.{StoreRefusal}
 use Rattle.aq_base.specs.declared.store.StoreRefusal.TheVariants as store
 use Rattle.aq_base.specs.Store.{Contents, contents_with, contents_grown}
-use Rattle.aq_base.specs.History.{Event, Created, NotCreated, NotAppended, load_event, close_event, took}
+use Rattle.aq_base.specs.History.{Event, Created, NotCreated, NotAppended, Discarded, load_event, close_event, took}
 
 -- a store as it is seen
 pub record Outside : Type 0 where
@@ -30,6 +30,10 @@ after_create name (Err why) o =
 -- the open file was closed, or that failed; nothing is open
 abbrev pub after_close : Result (Unit {0}) StoreRefusal → Outside → Outside
 after_close result o = record { contents = o.contents; history = close_event result ∷ o.history; opened = None }
+
+-- the open file was given up; what is contents of it stays, and nothing is open
+abbrev pub after_discard : Outside → Outside
+after_discard o = record { contents = o.contents; history = Discarded ∷ o.history; opened = None }
 
 -- the open file has taken a piece
 abbrev pub grown : List ℕ → Outside → Outside

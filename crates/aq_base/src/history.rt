@@ -1,7 +1,8 @@
 // The history of a store or a sink: its calls and what they gave, in a list that only clauses read.
 ghost use Rattle.std.specs.Prelude.{◌≡◌, List, [], ◌∷◌};
 ghost use Rattle.std.specs.Borrow.{ftrue};
-ghost use Rattle.aq_base.specs.History.{Event, noted, took, load_event, create_event, close_event, NotAppended};
+ghost use Rattle.aq_base.specs.History.{Event, noted, took, load_event, create_event, close_event};
+ghost use Rattle.aq_base.specs.History.{NotAppended, Discarded};
 
 use crate::store::{LoadRefusal, StoreRefusal};
 use std::marker::{Model, PhantomData};
@@ -17,6 +18,7 @@ pub enum Call {
     NotAppended(StoreRefusal),
     Closed,
     NotClosed(StoreRefusal),
+    Discarded,
 }
 
 /// The calls of a store with their answers, the newest first. It takes no memory: only clauses read it.
@@ -87,5 +89,12 @@ impl History {
             Ok(()) => self.note(&[Call::Closed], &[], &[]),
             Err(why) => self.note(&[Call::NotClosed(why)], &[], &[]),
         }
+    }
+
+    /// Notes a `discard`.
+    pub fn discarded(&mut self)
+        ensures { self.new.events ≡ Discarded ∷ self.old.events }
+    {
+        self.note(&[Call::Discarded], &[], &[]);
     }
 }

@@ -2,6 +2,7 @@
 #![tactic(auto)]
 
 mod decimal;
+mod draft;
 mod failing;
 mod history;
 mod lists;

@@ -1,11 +1,10 @@
 -- The counts of faults that an ending shows, and the name of a failed load, follow from what was heard.
 use Rattle.std.proofs.Common.{ℕ, suc, ◌≡◌, ◌<◌, List, [], ◌∷◌, take, Option, Some, None, inl, inr, refl, sym, ap, subst}
 use Rattle.std.proofs.Common.{◌∙◌, arith}
-use Rattle.aq_base.specs.declared.store.StoreRefusal.{StoreRefusal}
-use Rattle.aq_base.specs.History.{Event, Created, close_event}
+use Rattle.aq_base.specs.History.{Event, Created}
 use Rattle.aq_base.specs.FaultCounts.{read_faults, write_faults, close_faults, load_failed}
 use Rattle.aq_base.proofs.Counting.{took_writes, took_closes}
-use Rattle.std.specs.Prelude.{Result, Ok, Err, IfSome}
+use Rattle.std.specs.Prelude.{IfSome}
 use Rattle.aqfp_top.specs.Words.{word_at, IsOfForm}
 use Rattle.aqfp_top.specs.Loads.{Load, build_loads, check_loads, equal_loads, write_loads, shapes_loads}
 use Rattle.aqfp_top.specs.Stages.{Stage, LoadsAt, IsReached}
@@ -138,11 +137,6 @@ FailsCall history history' Append = write_faults history < write_faults history'
 FailsCall history history' Close = close_faults history < close_faults history'
 FailsCall history history' Out = Unit {0}
 
-closing_writes : (answer : Result (Unit {0}) StoreRefusal) (history : List Event)
-    → write_faults (close_event answer ∷ history) ≡ write_faults history
-closing_writes (Ok x) history = refl
-closing_writes (Err why) history = refl
-
 more : (a b : ℕ) → b ≡ suc a → a < b
 more a b is = omega (arith, is)
 
@@ -152,7 +146,7 @@ after_fails IsDue history history' words Create after = more _ _ (ap write_fault
 after_fails IsDue history history' words Append after =
     let first = after.first in
     let made : List Event = Created (word_at words 3) ∷ history in
-    more _ _ (ap write_faults first.history_is ∙ closing_writes first.closing _
+    more _ _ (ap write_faults first.history_is
     ∙ ap suc (took_writes (take first.count after.bytes) made))
 after_fails IsDue history history' words Close after =
     let made : List Event = Created (word_at words 3) ∷ history in

@@ -5,14 +5,14 @@ use Rattle.std.proofs.Common.{refl, sym, ap, subst, inl, inr, ◌∙◌}
 use Rattle.aq_base.specs.Store.{Contents, contents_with, StoresPrefix}
 use Rattle.aq_base.specs.declared.store.StoreRefusal.{StoreRefusal}
 use Rattle.aq_base.specs.declared.store.StoreRefusal.TheVariants as store
-use Rattle.aq_base.specs.History.{Event, Created, NotCreated, NotAppended, close_event, took}
-use Rattle.aq_base.specs.Outside.{Outside, after_create, after_close, grown, Stops, StopsWithin}
+use Rattle.aq_base.specs.History.{Event, Created, NotCreated, NotAppended, Discarded, took}
+use Rattle.aq_base.specs.Outside.{Outside, after_create, after_close, after_discard, grown, Stops, StopsWithin}
 use Rattle.aq_base.proofs.Stored.{stored_whole}
 use Rattle.aqfp_top.specs.Histories.{stored}
 use Rattle.aqfp_top.specs.DueHistories.{TakesFirst}
 use Rattle.aqfp_top.specs.Code.Building.{StandsStored, IsStoreFault}
 use Rattle.aqfp_top.specs.Code.Hearing.{StoredHistory}
-use Rattle.aqfp_top.specs.Code.Storing.{made, unmade, IsUnmade, Writes, Closes, Stores, end_of}
+use Rattle.aqfp_top.specs.Code.Storing.{made, unmade, IsUnmade, Writes, Closes, Stores, end_of, left_event}
 use Rattle.aqfp_top.specs.declared.fault.WriteCall.TheVariants.{Create}
 use Rattle.aqfp_top.specs.declared.fault.Fault.{Fault}
 use Rattle.aqfp_top.specs.declared.fault.Fault.TheVariants.{WriteFault, Memory}
@@ -35,11 +35,15 @@ unmade_memory name o o' is = record { why = store.Memory; refused = is; ends = r
 
 pub ruleset makes = (unmade_failed, unmade_memory)
 
-pub closed_by : (written answer : Result (Unit {0}) StoreRefusal) (o o' : Outside) (result : Result (Unit {0}) Fault)
-    → o' ≡ after_close answer o → result ≡ end_of written answer → Closes written o o' result
-closed_by written answer o o' result is ends = record { answer = answer; closed = is; ends = ends }
+pub closed_whole : (answer : Result (Unit {0}) StoreRefusal) (o o' : Outside) (result : Result (Unit {0}) Fault)
+    → o' ≡ after_close answer o → result ≡ end_of (Ok tt) answer → Closes (Ok tt) o o' result
+closed_whole answer o o' result is ends = record { answer = answer; closed = is; ends = ends }
 
-pub ruleset closes = closed_by
+pub given_up : (why : StoreRefusal) (o o' : Outside) (result : Result (Unit {0}) Fault)
+    → o' ≡ after_discard o → result ≡ end_of (Err why) (Ok tt) → Closes (Err why) o o' result
+given_up why o o' result is ends = record { answer = Ok tt; closed = is; ends = ends }
+
+pub ruleset closes = (closed_whole, given_up)
 
 pub made_open : (name : List ℕ) (o o' : Outside) → o' ≡ made name o → IsSome o'.opened
 made_open name o o' is = subst (λ (x : Outside). IsSome x.opened) (sym is) refl
@@ -134,19 +138,17 @@ whole_history name bytes o now history' event grows is = is ∙ ap (λ (x : Outs
 
 -- and of a part
 first_history : (then_history : List Event) (name bytes : List ℕ) (o now : Outside) (history' : List Event) (count : ℕ)
-    (closed : Result (Unit {0}) StoreRefusal) → count ≤ length bytes
-    → now.history ≡ then_history ++ took (take count bytes) (Created name ∷ o.history)
-    → history' ≡ close_event closed ∷ now.history → TakesFirst then_history o.history history' name bytes
-first_history then_history name bytes o now history' count closed within ends is = record {
+    → count ≤ length bytes → now.history ≡ then_history ++ took (take count bytes) (Created name ∷ o.history)
+    → history' ≡ Discarded ∷ now.history → TakesFirst then_history o.history history' name bytes
+first_history then_history name bytes o now history' count within ends is = record {
   count = count;
   within = within;
-  closing = closed;
-  history_is = is ∙ ap (λ h. close_event closed ∷ h) ends;
+  history_is = is ∙ ap (λ h. Discarded ∷ h) ends;
 }
 
 ended_history : (name bytes : List ℕ) (o now : Outside) (history' : List Event)
     (written closed : Result (Unit {0}) StoreRefusal) → Writes bytes (made name o) now written
-    → history' ≡ close_event closed ∷ now.history → OnOk (end_of written closed)
+    → history' ≡ left_event written closed ∷ now.history → OnOk (end_of written closed)
     (history' ≡ stored o.history name bytes)
 ended_history name bytes o now history' (Ok _) (Ok _) grows is = whole_history name bytes o now history' _ grows is
 ended_history name bytes o now history' (Ok _) (Err store.Failed) grows is = tt
@@ -155,18 +157,18 @@ ended_history name bytes o now history' (Err store.Failed) closed part is = tt
 ended_history name bytes o now history' (Err store.Memory) closed part is = tt
 
 memory_history : (name bytes : List ℕ) (o now : Outside) (history' : List Event) (count : ℕ)
-    (closed : Result (Unit {0}) StoreRefusal) → count ≤ length bytes
-    → Stops store.Memory (grown (take count bytes) (made name o)) now → history' ≡ close_event closed ∷ now.history
+    → count ≤ length bytes
+    → Stops store.Memory (grown (take count bytes) (made name o)) now → history' ≡ Discarded ∷ now.history
     → StoredHistory o.history history' name bytes Memory
-memory_history name bytes o now history' count closed within (inl s) is =
-    inr (inl (first_history [] name bytes o now history' count closed within (ap (λ (x : Outside). x.history) s) is))
-memory_history name bytes o now history' count closed within (inr s) is =
-    inr (inr (inl (first_history (NotAppended store.Memory ∷ []) name bytes o now history' count closed within
+memory_history name bytes o now history' count within (inl s) is =
+    inr (inl (first_history [] name bytes o now history' count within (ap (λ (x : Outside). x.history) s) is))
+memory_history name bytes o now history' count within (inr s) is =
+    inr (inr (inl (first_history (NotAppended store.Memory ∷ []) name bytes o now history' count within
     (ap (λ (x : Outside). x.history) s) is)))
 
 ended_refused : (name bytes : List ℕ) (o now : Outside) (history' : List Event)
     (written closed : Result (Unit {0}) StoreRefusal) → Writes bytes (made name o) now written
-    → history' ≡ close_event closed ∷ now.history → IfErr (end_of written closed)
+    → history' ≡ left_event written closed ∷ now.history → IfErr (end_of written closed)
     (StoredHistory o.history history' name bytes)
 ended_refused name bytes o now history' (Ok _) (Ok _) grows is = tt
 ended_refused name bytes o now history' (Ok _) (Err store.Failed) grows is =
@@ -174,10 +176,10 @@ ended_refused name bytes o now history' (Ok _) (Err store.Failed) grows is =
 ended_refused name bytes o now history' (Ok _) (Err store.Memory) grows is =
     inr (inr (inr (whole_history name bytes o now history' _ grows is)))
 ended_refused name bytes o now history' (Err store.Failed) closed part is =
-    first_history (NotAppended store.Failed ∷ []) name bytes o now history' part.count closed part.within
+    first_history (NotAppended store.Failed ∷ []) name bytes o now history' part.count part.within
     (ap (λ (x : Outside). x.history) part.stops) is
 ended_refused name bytes o now history' (Err store.Memory) closed part is =
-    memory_history name bytes o now history' part.count closed part.within part.stops is
+    memory_history name bytes o now history' part.count part.within part.stops is
 
 unmade_refused : (name bytes : List ℕ) (history history' : List Event) (why : StoreRefusal)
     → history' ≡ NotCreated name why ∷ history

@@ -1,12 +1,10 @@
 -- Which answer is due by what a store was heard to give, told or not. The files of a command are loaded in turn. The
 -- answer says why a load was refused, or it is what the stages of the texts that the loads gave may answer.
 use Rattle.std.specs.Prelude.{ℕ, ◌≡◌, ◌⊎◌, ◌<◌, ◌≤◌, List, [], ◌∷◌, ◌++◌, length, take, Option, Some, None, IsSomeAnd}
-use Rattle.std.specs.Prelude.{Result}
 use Rattle.aq_base.specs.declared.store.LoadRefusal.TheVariants as refusal
 use Rattle.aq_base.specs.declared.store.StoreRefusal.{StoreRefusal}
 use Rattle.aq_base.specs.declared.store.StoreRefusal.TheVariants as store
-use Rattle.aq_base.specs.History.{Event, Loaded, NotLoaded, Created, NotCreated, NotAppended, NotClosed, took}
-use Rattle.aq_base.specs.History.{close_event}
+use Rattle.aq_base.specs.History.{Event, Loaded, NotLoaded, Created, NotCreated, NotAppended, NotClosed, Discarded, took}
 use Rattle.blif_read.specs.Parts.{NetView}
 use Rattle.cell_library.specs.Library.{LibraryView}
 use Rattle.rowed.specs.PlacedNets.{PlacedView}
@@ -131,14 +129,13 @@ pub record LeavesOut (IsDue : List ℕ → Type 0) (why : StoreRefusal) (history
   pub due : IsDue bytes
   pub history_is : history' ≡ NotClosed why ∷ took bytes (Created (word_at words 3) ∷ history)
 
--- a file of this name was made and took some first bytes of these; then this was heard, and closing was answered
+-- a file of this name was made and took some first bytes of these; then this was heard, and it was given up
 pub record TakesFirst (then_history : List Event) (history history' : List Event) (name bytes : List ℕ) : Type 0 where
   pub count : ℕ
   pub within : count ≤ length bytes
-  pub closing : Result (Unit {0}) StoreRefusal
-  pub history_is : history' ≡ close_event closing ∷ then_history ++ took (take count bytes) (Created name ∷ history)
+  pub history_is : history' ≡ Discarded ∷ then_history ++ took (take count bytes) (Created name ∷ history)
 
--- OUT was made and took some first bytes of those that were due; then this was heard, and closing was answered
+-- OUT was made and took some first bytes of those that were due; then this was heard, and it was given up
 pub record CutsOut (IsDue : List ℕ → Type 0) (then_history : List Event) (history history' : List Event)
     (words : List (List ℕ)) : Type 0 where
   pub bytes : List ℕ

@@ -1,6 +1,7 @@
--- Storing a file: it is made, its bytes are written, and it is closed, whatever writing them answered.
-use Rattle.std.specs.Prelude.{ℕ, ◌≡◌, ◌⊎◌, List, Result, Ok, Err}
-use Rattle.aq_base.specs.Outside.{Outside, after_create, after_close, grown, StopsWithin}
+-- Storing a file: it is made, its bytes are written, and it is closed where it took them all, and else given up.
+use Rattle.std.specs.Prelude.{ℕ, ◌≡◌, ◌⊎◌, List, ◌∷◌, None, Result, Ok, Err}
+use Rattle.aq_base.specs.History.{Event, Discarded, close_event}
+use Rattle.aq_base.specs.Outside.{Outside, after_create, grown, StopsWithin}
 use Rattle.aq_base.specs.declared.store.StoreRefusal.{StoreRefusal}
 use Rattle.aq_base.specs.declared.store.StoreRefusal.TheVariants as store
 use Rattle.aqfp_top.specs.declared.fault.WriteCall.TheVariants.{Create, Append, Close}
@@ -35,14 +36,24 @@ end_of (Ok _) (Err store.Memory) = Err Memory
 end_of (Err store.Failed) closed = Err (WriteFault Append)
 end_of (Err store.Memory) closed = Err Memory
 
--- the open file was closed, after writing had been answered so
+-- by which call the open file was left, after writing had been answered so
+abbrev pub left_event : Result (Unit {0}) StoreRefusal → Result (Unit {0}) StoreRefusal → Event
+left_event (Ok _) answer = close_event answer
+left_event (Err why) answer = Discarded
+
+-- and what was then seen
+abbrev pub left : Result (Unit {0}) StoreRefusal → Result (Unit {0}) StoreRefusal → Outside → Outside
+left written answer o =
+    record { contents = o.contents; history = left_event written answer ∷ o.history; opened = None }
+
+-- the open file was left, after writing had been answered so
 pub record Closes (written : Result (Unit {0}) StoreRefusal) (o o' : Outside) (result : Result (Unit {0}) Fault)
     : Type 0 where
   pub answer : Result (Unit {0}) StoreRefusal
-  pub closed : o' ≡ after_close answer o
+  pub closed : o' ≡ left written answer o
   pub ends : result ≡ end_of written answer
 
--- the file of this name was made, was to take these bytes, and was closed
+-- the file of this name was made, was to take these bytes, and was left
 pub record IsStored (name bytes : List ℕ) (o o' : Outside) (result : Result (Unit {0}) Fault) : Type 0 where
   pub written : Result (Unit {0}) StoreRefusal
   pub now : Outside
