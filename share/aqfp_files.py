@@ -45,6 +45,16 @@ def one_line(text):
     return "".join(char if char.isprintable() else f"\\x{ord(char):02x}" for char in text)
 
 
+def shown_name(name):
+    """A name as the lines of aqfp show it: control bytes as \\x0a, and two dots for what is past 200 bytes."""
+    whole = os.fsencode(name)
+    end = min(200, len(whole))
+    while end and whole[end:] and 128 <= whole[end] < 192:
+        end -= 1
+    shown = b"".join(rb"\x%02x" % each if each < 32 or each == 127 else bytes([each]) for each in whole[:end])
+    return os.fsdecode(shown + b".." if whole[end:] else shown)
+
+
 def open_streams():
     """Makes the standard streams UTF-8 with lines that end by a line feed alone; other bytes go through as they are."""
     if sys.stdin is not None:

@@ -24,7 +24,7 @@ import aqfp_why_layouts
 import aqfp_why_libraries
 import aqfp_why_netlists
 import aqfp_why_streams
-from aqfp_files import Arguments, ports, run, one_line
+from aqfp_files import Arguments, ports, run, one_line, shown_name
 from aqfp_program import answer
 
 FORMS = {"build": ("NET", "LIB", "OUT"), "compact": ("NET", "LIB", "OUT"), "draw": ("NET", "LIB", "OUT"),
@@ -52,7 +52,7 @@ class Command:
     def file(self, name):
         """What a name of the line stands for, as NET, and the file's name as it was given."""
         for role in FILES:
-            if one_line(self.words.get(role, "")) == name or self.words.get(role) == name:
+            if role in self.words and name in (self.words[role], shown_name(self.words[role])):
                 return role, self.words[role]
         return "file", name
 
@@ -124,6 +124,12 @@ def unread(command, name):
         yield "it is there, and may be read now: was its disk or network away?"
 
 
+def is_drafted(path):
+    """Whether a draft is made beside what a path leads to: a regular file that nobody holds open, or none."""
+    is_open = os.path.abspath(path).startswith(("/dev/", "/proc/"))
+    return not is_open and (os.path.isfile(path) or not os.path.exists(path))
+
+
 def unwritten(path):
     """Why OUT may not be written, as far as it is to be seen."""
     folder = os.path.dirname(path) or "."
@@ -136,12 +142,12 @@ def unwritten(path):
         yield f"OUT: {name} is a folder: name a file in it"
     elif os.path.exists(path) and not os.access(path, os.W_OK):
         yield f"OUT: {name} may not be written by this user"
-    elif not os.path.lexists(path) and not os.access(folder, os.W_OK):
-        yield f"OUT: no file may be made in {one_line(folder)} by this user"
+    elif is_drafted(path) and not os.access(os.path.dirname(os.path.realpath(path)), os.W_OK):
+        yield f"OUT: no file may be made by this user in {one_line(folder)}, where a draft of OUT is made"
     elif len(os.fsencode(os.path.basename(path))) > 255:
         yield f"OUT: {name} is too long a name for a file"
     elif os.path.abspath(path).startswith(("/dev/stdout", "/proc/self/fd", "/dev/fd", "/dev/pts", "/dev/tty")):
-        yield f"OUT: {name} is standard output, which has the counts line too: name a file"
+        yield f"OUT: {name} is standard output, which has the counts line too: name another file"
     elif shutil.disk_usage(folder).free < 2 ** 28:
         yield f"OUT: its disk has {shutil.disk_usage(folder).free} bytes left: free some, or name another disk"
 
@@ -150,7 +156,7 @@ def write_failed(command):
     """OUT could not be written, or standard output took no more."""
     reasons = list(unwritten(command.words["OUT"])) if "OUT" in command.words else []
     yield from reasons or ["OUT seems to be writable; standard output may have been closed, as by `| head`"]
-    yield "make the folder or free the disk, then run the command again: OUT may hold a part"
+    yield "make the folder or free the disk, then run the command again: a file under OUT is as it was"
 
 
 def out_of_memory(command):

@@ -51,8 +51,9 @@ NET     a combinational netlist in the Berkeley Logic Interchange Format (BLIF),
         the first is taken; at most 16777216 bytes
 LIB     a cell library in TOML, at most 1048576 bytes
 OUT     a layout in the GDSII Stream Format, in database units of 1 nm; of
-        netlist, a netlist in BLIF. Not the file that standard output goes to:
-        the counts line would lie over its first bytes, with status 0
+        netlist, a netlist in BLIF. A file that stands there stays as it was
+        until the new one is whole. Not the file that standard output or
+        standard error goes to, which is refused
 GDS     a layout in the GDSII Stream Format, at most 268435456 bytes
 WORDS   lines with a 0 or 1 for each input, at most 16777216 bytes
 

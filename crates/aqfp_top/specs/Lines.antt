@@ -21,6 +21,7 @@ use Rattle.cell_library.specs.declared.fault.LibraryFault.TheVariants as library
 use Rattle.gds_records.specs.declared.fault.StreamKind.{StreamKind}
 use Rattle.gds_records.specs.declared.fault.StreamKind.TheVariants as stream
 use Rattle.layout_rules.specs.RuleTable.{name_of}
+use Rattle.shown_names.specs.Names.{shown_name}
 use Rattle.aqfp_top.specs.declared.fault.Large.{Large}
 use Rattle.aqfp_top.specs.declared.fault.Large.TheVariants.{Slots, Rows, Cells, Elements, Shapes, Functions, Design}
 use Rattle.aqfp_top.specs.Words.{word_at}
@@ -29,9 +30,9 @@ use Rattle.aqfp_top.specs.declared.fault.Fault.TheVariants.{Usage, Absent, TooLo
 use Rattle.aqfp_top.specs.declared.fault.Fault.TheVariants.{BadDesign, BadLibrary, MissingCell, TooLarge, BadStream}
 use Rattle.aqfp_top.specs.declared.fault.Fault.TheVariants.{RuleBroken, BadWords, Widths, NoShape, NotCells, Memory}
 
--- the line about the file that a word names
+-- the line about the file that a word names, control bytes of the name being spelled and a long one cut
 abbrev pub named : List (List ℕ) → ℕ → List ℕ → List ℕ
-named words place tail = codes "aqfp: " ++ word_at words place ++ tail
+named words place tail = codes "aqfp: " ++ shown_name (word_at words place) ++ tail
 
 -- what is wrong with a line of a netlist
 abbrev pub line_kind_text : LineKind → List ℕ
@@ -82,12 +83,13 @@ integer_text (negsuc n) = codes "-" ++ decimal (suc n)
 abbrev pub missing_line : CellKind → List ℕ
 missing_line kind = codes "aqfp: library: missing " ++ key_of kind ++ codes "\n"
 
--- the line about a library of cells: its text, a key, a value, a law of its numbers, or a cell that it lacks
+-- the line about a library of cells: its text, a key, a value, a law of its numbers, or a cell that it lacks; keys are
+-- shown as names of files are
 abbrev pub library_line : LibraryFault → List ℕ
 library_line library.Text = codes "aqfp: library: text\n"
-library_line (library.Key key) = codes "aqfp: library: key " ++ key ++ codes "\n"
+library_line (library.Key key) = codes "aqfp: library: key " ++ shown_name key ++ codes "\n"
 library_line (library.Value key value) =
-    codes "aqfp: library: " ++ key ++ codes " = " ++ integer_text value ++ codes "\n"
+    codes "aqfp: library: " ++ shown_name key ++ codes " = " ++ integer_text value ++ codes "\n"
 library_line (library.Law number) = codes "aqfp: library: law " ++ decimal number ++ codes "\n"
 library_line (library.Missing kind) = missing_line kind
 

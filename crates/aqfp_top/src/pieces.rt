@@ -2,6 +2,7 @@
 ghost use Rattle.std.specs.Prelude.{◌≡◌, ◌∷◌, ◌++◌, ◌<◌, OnOk, IfErr};
 ghost use Rattle.std.specs.Fmt.{decimal};
 ghost use Rattle.aq_base.specs.Output.{printed, PrintsPart};
+ghost use Rattle.shown_names.specs.Names.{shown_name};
 ghost use Rattle.aqfp_top.specs.Lines.{signals_text, integer_text, pair_text};
 ghost use Rattle.aqfp_top.specs.Code.Pages.{Pends};
 ghost use Rattle.aqfp_top.specs.Code.Pieces.{piece_text, pieces_text};
@@ -9,12 +10,15 @@ ghost use Rattle.aqfp_top.specs.Code.Pieces.{piece_text, pieces_text};
 use crate::page::{Page, add_byte, add_text, put_page};
 use aq_base::{List, Sink, StoreRefusal};
 use short_bytes::ShortBytes;
+use shown_names::ShownName;
 
 /// A piece of a line.
 #[derive(Clone, Copy)]
 pub enum Piece<'a> {
     /// The bytes as they are.
     Text(&'a [u8]),
+    /// The name of a file or the key of a library, as a line shows it.
+    Name(&'a [u8]),
     /// A number in decimal digits.
     Number(u64),
     /// A number in decimal digits, after a minus sign where it is negative.
@@ -111,6 +115,18 @@ fn add_signals<S: Sink>(
     Ok(())
 }
 
+// Adds a name, its control bytes being spelled, and two dots in place of what is past 200 bytes.
+#[tactic(auto, using(crate::proofs::Pending::numbers))]
+fn add_name<S: Sink>(sink: &mut S, page: &mut Page, name: &[u8]) -> Result<(), StoreRefusal>
+    ensures pends { OnOk result
+        (Pends (S.output sink.old) (S.output sink.new) page.new (page.old ++ shown_name name.now)) }
+    ensures part { IfErr result
+        (PrintsPart (S.output sink.old) (S.output sink.new) (page.old ++ shown_name name.now)) }
+{
+    let shown = ShownName::of(name);
+    add_text(sink, page, shown.as_slice())
+}
+
 // Adds a piece.
 #[tactic(auto, using(crate::proofs::Pending::numbers))]
 fn add_piece<S: Sink>(sink: &mut S, page: &mut Page, piece: &Piece<'_>) -> Result<(), StoreRefusal>
@@ -121,6 +137,7 @@ fn add_piece<S: Sink>(sink: &mut S, page: &mut Page, piece: &Piece<'_>) -> Resul
 {
     match piece {
         Piece::Text(text) => add_text(sink, page, text),
+        Piece::Name(name) => add_name(sink, page, name),
         Piece::Number(number) => add_decimal(sink, page, *number),
         Piece::Integer(integer) => add_integer(sink, page, *integer),
         Piece::Pair(first, second) => add_pair(sink, page, *first, *second),

@@ -125,7 +125,7 @@ fn named<'a>(words: &'a [String], place: u32, tail: &'a [u8]) -> [Piece<'a>; 5]
 {
     [
         Piece::Text(b"aqfp: "),
-        Piece::Text(word(words, place as usize).as_bytes()),
+        Piece::Name(word(words, place as usize).as_bytes()),
         Piece::Text(tail),
         Piece::Text(b""),
         Piece::Text(b""),
@@ -172,14 +172,14 @@ fn library_pieces(fault: &LibraryFault) -> [Piece<'_>; 5]
         LibraryFault::Text => text(fault, b"aqfp: library: text\n"),
         LibraryFault::Key { key } => [
             Piece::Text(b"aqfp: library: key "),
-            Piece::Text(key.as_slice()),
+            Piece::Name(key.as_slice()),
             Piece::Text(b"\n"),
             Piece::Text(b""),
             Piece::Text(b""),
         ],
         LibraryFault::Value { key, value } => [
             Piece::Text(b"aqfp: library: "),
-            Piece::Text(key.as_slice()),
+            Piece::Name(key.as_slice()),
             Piece::Text(b" = "),
             Piece::Integer(*value),
             Piece::Text(b"\n"),

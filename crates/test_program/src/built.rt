@@ -141,6 +141,35 @@ fn libraries_differ(rt: HostRuntime) -> Result<(), Fail> {
     Ok(())
 }
 
+// A key of a library is told on one line, whatever bytes it has, and a long one is cut between two characters.
+#[test]
+fn keys_are_told_on_one_line(rt: HostRuntime) -> Result<(), Fail> {
+    let alloc = rt.alloc();
+    let bytes = [b'a'; 199];
+    let most = std::str::from_utf8(&bytes)?;
+    let cut = format!(in alloc; "{most}\u{e9}{most}")?;
+    let cases = [
+        ("\"a\\nb\" = 1\n", "a\\x0ab"),
+        ("\"\\u001b[2J\\u007f\" = 1\n", "\\x1b[2J\\x7f"),
+    ];
+    for (lib, key) in cases {
+        let ran = ran(alloc, stored(alloc, WIRE, lib, "")?, "build net lib out")?;
+        let told = format!(in alloc; "aqfp: library: key {key}\n")?;
+        assert_eq!(rt; ran.status, 7, "{key}");
+        assert_eq!(rt; ran.err.bytes(), told.as_bytes(), "{key}");
+    }
+    let lib = format!(in alloc; "\"{cut}\" = 1\n")?;
+    let ran = ran(
+        alloc,
+        stored(alloc, WIRE, lib.as_str(), "")?,
+        "build net lib out",
+    )?;
+    let told = format!(in alloc; "aqfp: library: key {most}..\n")?;
+    assert_eq!(rt; ran.status, 7);
+    assert_eq!(rt; ran.err.bytes(), told.as_bytes());
+    Ok(())
+}
+
 // An adder of one bit on eight words; the store is not asked.
 #[test]
 fn a_sample_is_printed(rt: HostRuntime) -> Result<(), Fail> {
@@ -175,6 +204,12 @@ fn what_is_wrong_is_told(rt: HostRuntime) -> Result<(), Fail> {
         ("build net lib out more", WIRE, 1, usage),
         ("build nothing lib out", WIRE, 2, "aqfp: nothing: absent\n"),
         ("build net nothing out", WIRE, 2, "aqfp: nothing: absent\n"),
+        (
+            "build net\x1b[2J\x7f lib out",
+            WIRE,
+            2,
+            "aqfp: net\\x1b[2J\\x7f: absent\n",
+        ),
         ("build net lib out", cycle, 6, "aqfp: line 4: cycle y q r\n"),
         ("build net lib out", latch, 6, "aqfp: line 4: unsupported\n"),
         ("build net lib out", four, 10, "aqfp: too large: 4 slots\n"),

@@ -2,13 +2,16 @@
 use Rattle.std.specs.Prelude.{ℕ, List}
 use Rattle.std.specs.List.{flat_map}
 use Rattle.std.specs.Fmt.{decimal}
+use Rattle.shown_names.specs.Names.{shown_name}
 use Rattle.aqfp_top.specs.Lines.{signals_text, integer_text, pair_text}
 use Rattle.aqfp_top.specs.declared.pieces.Piece.{Piece}
-use Rattle.aqfp_top.specs.declared.pieces.Piece.TheVariants.{Text, Number, Integer, Signals, Pair}
+use Rattle.aqfp_top.specs.declared.pieces.Piece.TheVariants.{Text, Name, Number, Integer, Signals, Pair}
 
--- the bytes that a piece puts in the line: numbers in decimal, signals each after a blank
+-- the bytes that a piece puts in the line: names as lines show them, numbers in decimal, signals each after a
+-- blank
 abbrev pub piece_text : Piece → List ℕ
 piece_text (Text text) = text.now
+piece_text (Name name) = shown_name name.now
 piece_text (Number n) = decimal n
 piece_text (Integer n) = integer_text n
 piece_text (Pair first second) = pair_text first second
