@@ -9,6 +9,8 @@
 #   names=1            names the layers that are shown, at the right, in 430 pixels of the width
 #   rows=1             shades the rows in the colours of their phases, and names row and phase at the left, in 150
 #                      pixels
+#   lines=1            draws the ways of the excitation along its two lines, with arrows, and at each bar how far it has
+#                      run there, in micrometres, counted from the line's first bar
 #   bar=1              puts a scale bar below the chip
 #   legend=1           tells below the chip what its colours are
 # Where a chip has names of inputs and outputs, by share/names.py, they are shown in place of the labels. Of names and
@@ -28,6 +30,8 @@ LETTER, LINE = 8, 16  # the width of a letter and the height of a line, in pixel
 ENTRY = 130  # the width of an entry of the legend, in pixels
 LEAST, MOST = 500, 20000  # pixels of a picture
 PHASES = ("#ffc4c4", "#ffe9a8", "#c4e2ff", "#c4ecc4")  # the colours of phases 0 to 3
+WAYS = ((14, "#a00000", "way of the even line"), (15, "#0000a0", "way of the odd line"))
+LINK, START = 1, 2  # the datatypes of the parts of a line that are no bars
 SHADE = """ <properties>
   <frame-color>{0}</frame-color>
   <fill-color>{0}</fill-color>
@@ -177,6 +181,8 @@ def load_colours(view, own):
         text = file.read()
     shades = [(colour, f"phase {phase}", f"{own}/{phase}") for phase, colour in enumerate(PHASES)]
     shades = "".join(SHADE.format(*each) for each in (*shades, ("#000000", "", f"{own}/{len(PHASES)}")))
+    ways = "".join(SHADE.format(colour, name, f"{own + 1}/{layer}") for layer, colour, name in WAYS)
+    text = text.replace("</layer-properties>", ways + "</layer-properties>")
     with tempfile.NamedTemporaryFile("w", suffix=".lyp", encoding="utf-8") as file:
         file.write(text.replace("<layer-properties>\n", "<layer-properties>\n" + shades))
         file.flush()
@@ -185,7 +191,7 @@ def load_colours(view, own):
     each = view.begin_layers()
     while not each.at_end():
         entry = each.current()
-        if not entry.name and entry.source_layer != own:
+        if not entry.name and entry.source_layer not in (own, own + 1):
             entry.name = f"layer {entry.source_layer}/{entry.source_datatype}"
         each.next()
 
@@ -211,6 +217,67 @@ def add_rows(sheet, own, area, rows, pixel):
             cell.shapes(labels).insert(pya.DText(f"row {number}", left + 10 * pixel, middle + 2 * pixel))
             cell.shapes(labels).insert(pya.DText(phase, left + 10 * pixel, middle - 14 * pixel))
     return pya.DBox(left, area.bottom, area.right, area.top)
+
+
+def parts_of(sheet, layer):
+    """The parts of an excitation line, each with its datatype, in micrometres."""
+    layout, parts = sheet.layout(), []
+    for index in layout.layer_indexes():
+        if layout.get_info(index).layer == layer:
+            shapes = sheet.cell.begin_shapes_rec(index)
+            while not shapes.at_end():
+                box = (shapes.trans() * shapes.shape().bbox()).to_dtype(layout.dbu)
+                parts.append((layout.get_info(index).datatype, box))
+                shapes.next()
+    return parts
+
+
+def in_order(parts):
+    """The parts from the start on, as far as each has one contact that the line did not come from."""
+    line, before = [part for part in parts if part[0] == START][:1], None
+    while line and len(line) <= len(parts):
+        onward = [part for part in parts if part not in (line[-1], before) and part[1].touches(line[-1][1])]
+        if len(onward) != 1:
+            break
+        before = line[-1]
+        line.append(onward[0])
+    return line
+
+
+def way_of(line):
+    """The points that a line leads over, and for each bar where it is come to, which way, and after how far."""
+    points, bars, gone = [line[0][1].center()], [], 0
+    for (_, before), (datatype, box) in zip(line, line[1:]):
+        if datatype == LINK:
+            points.append(pya.DPoint(box.center().x, points[-1].y))
+            gone += max(box.width(), box.height())
+            continue
+        side, other = box.left, box.right
+        if not before.touches(pya.DBox(box.left, box.bottom, box.left, box.top)):
+            side, other = other, side
+        points += [pya.DPoint(points[-1].x, box.center().y), pya.DPoint(side, box.center().y),
+                   pya.DPoint(other, box.center().y)]
+        bars.append((points[-2], 1 if other > side else -1, gone))
+        gone += box.width()
+    return points, bars
+
+
+def add_ways(sheet, own, pixel):
+    """Draws how the excitation runs along both lines, and writes at each bar how far it has run there."""
+    layout, cell = sheet.layout(), sheet.cell
+    for layer, _, _ in WAYS:
+        line = in_order(parts_of(sheet, layer))
+        if len(line) < 2:
+            continue
+        shapes, (points, bars) = cell.shapes(layout.layer(own + 1, layer)), way_of(line)
+        shapes.insert(pya.DPath(points, 2 * pixel))
+        for point, onward, gone in bars:
+            x, y, head = point.x + onward * 14 * pixel, point.y, 6 * pixel
+            shapes.insert(pya.DPolygon([pya.DPoint(x, y), pya.DPoint(x - 2 * onward * head, y - head),
+                                        pya.DPoint(x - 2 * onward * head, y + head)]))
+            text = f"{gone:g}"
+            left = x + (0.5 if onward > 0 else -0.5 - len(text)) * LETTER * pixel
+            cell.shapes(layout.layer(30, 0)).insert(pya.DText(text, left, y + 2 * pixel))
 
 
 def add_bar(sheet, own, area, pixel):
@@ -287,6 +354,8 @@ def laid_out(view):
     thin_out(sheet, pixel)
     if "rows" in WORDS:
         whole = add_rows(sheet, own, area, rows, pixel)
+    if "lines" in WORDS:
+        add_ways(sheet, own, pixel)
     load_colours(view, own)
     view.max_hier()
     if not shown_layers(view):

@@ -8,3 +8,4 @@ pub mod Counts
 pub mod Bytes
 pub mod Wires
 pub mod Realised
+mod SkewLaws

@@ -1,3 +1,4 @@
 pub mod DrawnCircuit
 pub mod Realises
 pub mod RealisesNet
+pub mod Rates

@@ -32,3 +32,5 @@ pub mod Computed
 pub mod ShortLines
 pub mod Worked
 pub mod FirstChipKeeps
+mod WaysAdd
+mod FramePlaces

@@ -16,3 +16,4 @@ pub mod Rules
 pub mod FirstLimits
 pub mod FaultyChips
 pub mod Code
+pub mod LinePlaces

@@ -1,17 +1,19 @@
 // Laws of the rules, which crates above cite by a call. The functions do nothing.
-ghost use Rattle.std.specs.Prelude.{◌≡◌, ◌⊎◌, ℕ, ℤ, List, [], ◌∷◌, Some, length, slice_get};
+ghost use Rattle.std.specs.Prelude.{◌≡◌, ◌⊎◌, ℕ, ◌+◌, ℤ, true, List, [], ◌∷◌, Some, length, slice_get};
 ghost use Rattle.geom.specs.declared.shapes.Shape.{Shape};
 ghost use Rattle.geom.specs.declared.shapes.Flat.{Flat};
 ghost use Rattle.geom.specs.FirstChip.{first_flat};
+ghost use Rattle.geom.specs.Rectangle.{overlap};
 ghost use Rattle.layout_rules.specs.declared.rule.Rule.{Rule};
 ghost use Rattle.layout_rules.specs.Nets.{AreNets, Certifies, HaveNets};
 ghost use Rattle.layout_rules.specs.Rows.{AreRows, row_of, row_count};
 ghost use Rattle.layout_rules.specs.Limits.{Limits};
 ghost use Rattle.layout_rules.specs.FirstLimits.{first_limits};
 ghost use Rattle.layout_rules.specs.FaultyChips.{with_moved_via, without_starts};
-ghost use Rattle.layout_rules.specs.declared.layers.TheConstants.{EVEN_LINE, ODD_LINE};
-ghost use Rattle.layout_rules.specs.ExcitationLines.{IsLine, HasOneLine};
-ghost use Rattle.layout_rules.specs.ExcitationRule.{IsCutOff, AreLaidOut};
+ghost use Rattle.layout_rules.specs.declared.layers.TheConstants.{EVEN_LINE, ODD_LINE, START};
+ghost use Rattle.layout_rules.specs.ExcitationLines.{IsPart, Before, IsLine, HasOneLine, BarHasPhase};
+ghost use Rattle.layout_rules.specs.ExcitationRule.{IsCutOff, AreLaidOut, IsExcited};
+ghost use Rattle.layout_rules.specs.LinePlaces.{way_at, ComesTo, IsPlaced};
 ghost use Rattle.layout_rules.specs.Reports.{ReportsNone, Alone, IsFirstReport};
 ghost use Rattle.layout_rules.specs.Rules.{Broken, KeepsRules, FirstBroken, HasFirstBroken, IsOneReport};
 
@@ -51,6 +53,29 @@ pub fn first_chip_has_lines()
 pub fn one_line()
     ensures { (shapes : List Shape) (layer : ℕ) → AreLaidOut shapes → ReportsNone (Alone (IsCutOff shapes))
         → (layer ≡ EVEN_LINE) ⊎ (layer ≡ ODD_LINE) → HasOneLine shapes layer }
+{}
+
+/// The excitation has run nothing where it comes to the first part after a start, and to each next part it comes when it
+/// has run through the one before too. There is one way to a part.
+pub fn ways_add_up()
+    ensures first { (shapes : List Shape) → AreLaidOut shapes → (a b : ℕ) → IsPart shapes START a
+        → Before shapes a b → ComesTo shapes a b 0 }
+    ensures next { (shapes : List Shape) (a b c distance : ℕ) → AreLaidOut shapes
+        → ReportsNone (Alone (IsCutOff shapes)) → ComesTo shapes a b distance → Before shapes b c
+        → ComesTo shapes b c (distance + way_at shapes b) }
+    ensures once { (shapes : List Shape) (a b c distance other : ℕ) → AreLaidOut shapes
+        → ReportsNone (Alone (IsCutOff shapes)) → ComesTo shapes a b distance → ComesTo shapes c b other
+        → (a ≡ c) × (distance ≡ other) }
+{}
+
+/// A frame under a bar has a place along the line of that bar, and by the rule of the excitation lines this one alone.
+pub fn one_place()
+    ensures placed { (shapes : List Shape) (frame : Shape) (bar phase : ℕ) (has : BarHasPhase shapes bar phase)
+        → overlap has.is_bar.shape.rect frame.rect ≡ true
+        → (near : ℕ) × (far : ℕ) × IsPlaced shapes frame near far }
+    ensures once { (shapes : List Shape) (frame : Shape) (near far other_near other_far : ℕ) → AreLaidOut shapes
+        → ReportsNone (Alone (IsCutOff shapes)) → IsExcited shapes frame → IsPlaced shapes frame near far
+        → IsPlaced shapes frame other_near other_far → (near ≡ other_near) × (far ≡ other_far) }
 {}
 
 /// A layout has one first broken rule at most, and it reports one pair of numbers.

@@ -12,3 +12,8 @@ mod Stepped
 mod ShownOnce
 mod SomeClock
 mod TwoColumns
+mod Travels
+mod Furthest
+mod Leads
+mod Ahead
+mod Greater

@@ -12,3 +12,5 @@ pub mod Clocked
 pub mod Histories
 pub mod ThreeRows
 pub mod TwoColumns
+pub mod Travelling
+pub mod AndChip

@@ -46,14 +46,14 @@ use Rattle.shape_extract.proofs.Entries.{named_entry}
 
 -- ---- two lists side by side
 
-record Beside {A B : Type 0} (R : A → B → Type 0) (xs : List A) (ys : List B) (k : ℕ) : Type 0 where
+pub record Beside {A B : Type 0} (R : A → B → Type 0) (xs : List A) (ys : List B) (k : ℕ) : Type 0 where
   pub left : A
   pub right : B
   pub left_is : slice_get xs k ≡ Some left
   pub right_is : slice_get ys k ≡ Some right
   pub holds : R left right
 
-beside : {A B : Type 0} (R : A → B → Type 0) (xs : List A) (ys : List B) → AllZip R xs ys → (k : ℕ)
+pub beside : {A B : Type 0} (R : A → B → Type 0) (xs : List A) (ys : List B) → AllZip R xs ys → (k : ℕ)
     → k < length xs → Beside R xs ys k
 beside R [] [] all k lt = absurd (omega arith)
 beside R [] (y ∷ ys) all k lt = absurd all

@@ -54,3 +54,4 @@ mod LeastHeads
 mod StandIns
 pub mod Members
 pub mod InPlanes
+mod CellPlaces

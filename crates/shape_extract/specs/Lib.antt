@@ -1,4 +1,5 @@
 pub mod Frames
+pub mod CellPlaces
 pub mod Extraction
 pub mod Extracts
 pub mod Searches
