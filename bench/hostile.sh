@@ -10,17 +10,18 @@
 # Streams are checked, beside the adder of 164 bits: the chip of a wire with a structure of 3,999 squares that is
 # referenced 2,000 times far away from it, the same with all squares on one another, and labels that all stand on one
 # pin; a boundary of 2,001 teeth of different heights that is referenced 3,900 times; one of 8,004 points that crosses
-# itself everywhere; a hundred boundaries of some 8,160 points each, as combs, stairs, spirals, and walls with steps at
-# both sides and slots between, and 80,000 of seven points, beside as many bytes of the adder; a text of 32,000 bytes
-# that is referenced 20,000 times, beside one of two bytes; 20,000 references to an empty structure in one that is
-# referenced 100,000 times, beside it without them; a loop of 300,000 structures, beside as many with a square each; and
-# a million labels of 65,000 bytes on one pin, beside as many of two bytes. By arrays in a few bytes, beside the adder: a
-# row of cells under lines of M1 that cross all of them; and, where the time grows with the pairs that touch, a mesh of
-# lines of M1, lines of M2 across long vias, and squares around one centre. Libraries of 90,000 keys stand beside those
-# of 45,000, and chosen names beside counted ones (bench/names.sh). Chips are compared with another form of their
-# netlists, beside `verify` of them without words: rows of chosen gates, whose exclusive ors are made in two ways, of
-# which the chip of `compact` takes many searches; and outputs that random words all show false, so that each looks like each
-# other.
+# itself everywhere; a hundred boundaries of some 8,160 points each, as combs, stairs, spirals, and walls with steps
+# at both sides and slots between, and 80,000 of seven points, beside as many bytes of the adder; a text of 32,000
+# bytes that is referenced 20,000 times, beside one of two bytes; 20,000 references to an empty structure in one that
+# is referenced 100,000 times, beside it without them; a loop of 300,000 structures, beside as many with a square
+# each; a structure that references itself behind 2,400,000 other references, with a chain of 64, so that all of them
+# are gone through 64 times, beside as many references; and a million labels of 65,000 bytes on one pin, beside as
+# many of two bytes. By arrays in a few bytes, beside the adder: a row of cells under lines of M1 that cross all of
+# them; and, where the time grows with the pairs that touch, a mesh of lines of M1, lines of M2 across long vias, and
+# squares around one centre. Libraries of 90,000 keys stand beside those of 45,000, and chosen names beside counted
+# ones (bench/names.sh). Chips are compared with another form of their netlists, beside `verify` of them without
+# words: rows of chosen gates, whose exclusive ors are made in two ways, of which the chip of `compact` takes many
+# searches; and outputs that random words all show false, so that each looks like each other.
 #
 # Prints for each the seconds of processor time and the megabytes of memory at most, the same of the ordinary input, the
 # two ratios, and whether they are within three times, five for labels on one pin, 2.5 for twice the keys, ten for the
@@ -285,6 +286,12 @@ else:
         names = [b"L%07d" % k for k in range(size)]
         loop = (structure(name, reference(names[(k + 1) % size], 0, 0)) for k, name in enumerate(names))
         made = with_more(b"".join(loop), reference(names[0], FAR, 0))
+    elif kind == "rounds":
+        below = [b"C%03d" % k for k in range(64)] + [b"HP"]
+        links = (structure(name, reference(low, 0, 0)) for name, low in zip(below, below[1:]))
+        many = structure(b"MA", reference(b"HP", 0, 0) * size + reference(b"MA", 0, 0))
+        made = with_more(structure(b"HP", square(0, 0)) + b"".join(links) + many,
+                         reference(b"MA", FAR, 0) + reference(below[0], FAR, 0))
     elif kind == "flat":
         names = [b"L%07d" % k for k in range(size)]
         made = with_more(b"".join(structure(name, square(0, 0)) for name in names),
@@ -424,6 +431,10 @@ compare "stream empties, 100000 shapes, $(wc -c <"$work/hostile.gds") bytes" \
 make flat 300000 "$work/letter.gds"
 make loop 300000 "$work/hostile.gds"
 compare "stream loop, 300000 structures, $(wc -c <"$work/hostile.gds") bytes" \
+    "$(check "$work/hostile.gds" "$work/words")" "$(check "$work/letter.gds" "$work/words")" 1 3
+make bare 2400000 "$work/letter.gds"
+make rounds 2400000 "$work/hostile.gds"
+compare "stream rounds, 2400000 references, $(wc -c <"$work/hostile.gds") bytes" \
     "$(check "$work/hostile.gds" "$work/words")" "$(check "$work/letter.gds" "$work/words")" 1 3
 rm -f "$work/hostile.gds" "$work/adder.gds"
 

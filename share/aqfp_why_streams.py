@@ -122,6 +122,6 @@ def about_value(data, record, kind, values):
     elif record == SNAME and kind == "unknown name":
         yield f"it names the structure {one_line(text_of(values))}, which is not in the file"
     elif record == BGNSTR and kind == "unsupported":
-        yield "the structure is in a loop of references, or a chain of more than 64 leads down from it: flatten a part"
+        yield "a chain of more than 64 references goes down from it, as from a loop or from above one: flatten a part"
     elif kind == "unsupported":
         yield "figures that are read are boundaries and paths: draw it as one of these, or take its layer out"

@@ -14,13 +14,12 @@ use Rattle.gds_records.specs.Records.{Record, same}
 use Rattle.gds_records.specs.Steps.{is_listed}
 use Rattle.gds_records.specs.Whole.{Use, Outline, is_used, all_uses, outlines, last_place, tops, top_in, top_fault}
 use Rattle.gds_records.specs.Whole.{top_of}
-use Rattle.gds_records.specs.WideWhole.{first_of, first_loop, first_long, wide_outlines_fault, wide_whole_fault}
+use Rattle.gds_records.specs.WideWhole.{first_of, first_long, wide_outlines_fault, wide_whole_fault}
 use Rattle.gds_read.specs.declared.outline.NamedUse.{NamedUse}
 use Rattle.gds_read.specs.declared.outline.NamedOutline.{NamedOutline}
 use Rattle.gds_read.specs.declared.conditions.Tops.TheVariants.{Nothing, One, Several}
 use Rattle.gds_read.specs.Code.Outlining.{use_of, outline_of}
 use Rattle.gds_read.specs.Code.Numbering.{AreUsed, number_in, IsNumbering, unnumbered}
-use Rattle.gds_read.specs.Code.Chains.{or_else, loop_or_long}
 use Rattle.gds_read.specs.Code.Tops.{told_tops}
 use Rattle.gds_read.proofs.Named.{listed_any}
 use Rattle.gds_read.proofs.Numbering.{unknown_so}
@@ -89,6 +88,11 @@ used_more ss i s old new h q used add t =
 
 -- ---- the first unknown name
 
+-- the first of two numbers that is there
+abbrev or_else : Option ℕ → Option ℕ → Option ℕ
+or_else (Some n) other = Some n
+or_else None other = other
+
 module _ (f : List ℕ → Option ℕ) where
   unnumbered_append : (a b : List Use) → unnumbered f (a ++ b) ≡ or_else (unnumbered f a) (unnumbered f b)
   unnumbered_append [] b = refl
@@ -143,11 +147,6 @@ top_nothing o [] e = refl
 top_nothing o (t ∷ []) e = absurd cc
 top_nothing o (t ∷ s ∷ ts) e = absurd cc
 
-either_first : (l d : Option ℕ) (t : Option (ℕ × StreamKind))
-    → first_of l Unsupported (first_of d Unsupported t) ≡ first_of (or_else l d) Unsupported t
-either_first (Some p) d t = refl
-either_first None d t = refl
-
 -- what the searches answer over the outlines of records
 module _ (rs : List Record) (structures : List NamedOutline) (entries : List (Bor (List ℕ) × ℕ))
     (same : map outline_of structures ≡ outlines 0 rs)
@@ -156,50 +155,40 @@ module _ (rs : List Record) (structures : List NamedOutline) (entries : List (Bo
   us = all_uses (map outline_of structures)
 
   wide_is : wide_whole_fault rs ≡ first_of (unnumbered (number_in entries) us) UnknownName
-      (first_of (first_loop (map outline_of structures) (map outline_of structures)) Unsupported
       (first_of (first_long (map outline_of structures) (map outline_of structures)) Unsupported
-      (top_fault (last_place 0 rs) (tops 0 us (map outline_of structures)))))
+      (top_fault (last_place 0 rs) (tops 0 us (map outline_of structures))))
   wide_is =
       ap (λ (x : List Outline). wide_outlines_fault (last_place 0 rs) x) (sym same)
       ∙ ap (λ (x : Option ℕ). first_of x UnknownName
-      (first_of (first_loop (map outline_of structures) (map outline_of structures)) Unsupported
       (first_of (first_long (map outline_of structures) (map outline_of structures)) Unsupported
-      (top_fault (last_place 0 rs) (tops 0 us (map outline_of structures))))))
+      (top_fault (last_place 0 rs) (tops 0 us (map outline_of structures)))))
       (unknown_so (number_in entries) (map outline_of structures) numbers.each us)
-
-  joined : wide_whole_fault rs ≡ first_of (unnumbered (number_in entries) us) UnknownName
-      (first_of (loop_or_long (map outline_of structures)) Unsupported
-      (top_fault (last_place 0 rs) (tops 0 us (map outline_of structures))))
-  joined = wide_is ∙ ap (λ (x : Option (ℕ × StreamKind)). first_of (unnumbered (number_in entries) us) UnknownName x)
-      (either_first (first_loop (map outline_of structures) (map outline_of structures))
-      (first_long (map outline_of structures) (map outline_of structures))
-      (top_fault (last_place 0 rs) (tops 0 us (map outline_of structures))))
 
   pub wide_unknown : (p : ℕ) → Some p ≡ unnumbered (number_in entries) us → wide_whole_fault rs ≡ Some (p, UnknownName)
   wide_unknown p e =
-      joined
+      wide_is
       ∙ ap (λ (x : Option ℕ). first_of x UnknownName
-      (first_of (loop_or_long (map outline_of structures)) Unsupported
+      (first_of (first_long (map outline_of structures) (map outline_of structures)) Unsupported
       (top_fault (last_place 0 rs) (tops 0 us (map outline_of structures))))) (sym e)
 
   known : (o : Option ℕ) → o ≡ unnumbered (number_in entries) us → ((q : ℕ) → o ≡ Some q → ⊥)
-      → wide_whole_fault rs ≡ first_of (loop_or_long (map outline_of structures)) Unsupported
+      → wide_whole_fault rs ≡ first_of (first_long (map outline_of structures) (map outline_of structures)) Unsupported
       (top_fault (last_place 0 rs) (tops 0 us (map outline_of structures)))
   known o e n =
-      joined
+      wide_is
       ∙ ap (λ (x : Option ℕ). first_of x UnknownName
-      (first_of (loop_or_long (map outline_of structures)) Unsupported
+      (first_of (first_long (map outline_of structures) (map outline_of structures)) Unsupported
       (top_fault (last_place 0 rs) (tops 0 us (map outline_of structures))))) (sym e ∙ not_some o n)
 
   pub wide_deep : (o : Option ℕ) (p : ℕ) → o ≡ unnumbered (number_in entries) us → ((q : ℕ) → o ≡ Some q → ⊥)
-      → Some p ≡ loop_or_long (map outline_of structures) → wide_whole_fault rs ≡ Some (p, Unsupported)
+      → Some p ≡ first_long (map outline_of structures) (map outline_of structures) → wide_whole_fault rs ≡ Some (p, Unsupported)
   wide_deep o p e n f =
       known o e n
       ∙ ap (λ (x : Option ℕ). first_of x Unsupported
       (top_fault (last_place 0 rs) (tops 0 us (map outline_of structures)))) (sym f)
 
   pub wide_top : (o d : Option ℕ) → o ≡ unnumbered (number_in entries) us → ((q : ℕ) → o ≡ Some q → ⊥)
-      → d ≡ loop_or_long (map outline_of structures) → ((q : ℕ) → d ≡ Some q → ⊥)
+      → d ≡ first_long (map outline_of structures) (map outline_of structures) → ((q : ℕ) → d ≡ Some q → ⊥)
       → (total : Option (ℕ × StreamKind)) → top_fault (last_place 0 rs) (tops 0 us (map outline_of structures)) ≡ total
       → wide_whole_fault rs ≡ total
   wide_top o d e n f m total t =

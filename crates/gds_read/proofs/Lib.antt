@@ -11,10 +11,6 @@ pub mod Items
 pub mod Numbering
 pub mod Judged
 pub mod Graphs
-pub mod ListSteps
-pub mod BlockSteps
-pub mod Walking
-pub mod LoopWays
 pub mod Parts
 pub mod Elements
 pub mod Ends

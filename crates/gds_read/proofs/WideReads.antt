@@ -22,7 +22,7 @@ use Rattle.gds_records.specs.WideDrawing.{point_at, turn_of, grid_of, figure_of,
 use Rattle.gds_records.specs.WideDrawing.{wide_structures_of}
 use Rattle.gds_records.specs.Whole.{Use, Outline, uses_from, outlines, all_uses, unknown, is_defined, tops, top_of}
 use Rattle.gds_records.specs.Whole.{last_place}
-use Rattle.gds_records.specs.WideWhole.{first_of, first_loop, first_long, wide_whole_fault}
+use Rattle.gds_records.specs.WideWhole.{first_of, first_long, wide_whole_fault}
 use Rattle.gds_records.specs.Steps.{is_listed}
 use Rattle.gds_records.specs.Scan.{IsBytes}
 use Rattle.gds_records.specs.Stream.{wide_layout_of}
@@ -30,13 +30,12 @@ use Rattle.gds_records.specs.Profiles.{wide}
 use Rattle.gds_records.specs.Profiled.{AreGoodIn}
 use Rattle.gds_read.specs.declared.outline.NamedUse.{NamedUse}
 use Rattle.gds_read.specs.declared.outline.NamedOutline.{NamedOutline}
-use Rattle.gds_read.specs.Code.Outlining.{use_of, outline_of, names_in}
+use Rattle.gds_read.specs.Code.Outlining.{use_of, outline_of, names_in, AreOutlined}
 use Rattle.gds_read.specs.Code.Graphs.{graph_by, graph_of, targets_at, some_target, descends, is_long}
 use Rattle.gds_read.specs.declared.refusal.StreamRefusal.{StreamRefusal}
 use Rattle.gds_read.specs.WideReading.{IsWideReadAs}
 use Rattle.gds_read.specs.Code.Bodies.{IsBody}
 use Rattle.gds_read.specs.Code.Decoding.{records_in}
-use Rattle.gds_read.specs.Code.Chains.{AreOutlined}
 use Rattle.gds_read.proofs.Kept.{starts_kept}
 use Rattle.gds_records.proofs.Sentences.{lacks}
 use Rattle.gds_read.proofs.Words.{holds}
@@ -279,8 +278,7 @@ module _ (rs : List Record) (shapes : AllByRecursion (IsShapedIn wide_element) (
       → (n : ℕ) → goes_down 65 (wide_structures_of rs) n ≡ false
   all_drawn_short grammar good e outlined n =
       let u = none_of (unknown (all_uses (outlines 0 rs)) (outlines 0 rs)) _ _ e in
-      let l = none_of (first_loop (outlines 0 rs) (outlines 0 rs)) _ _ u.1 in
-      let d = none_of (first_long (outlines 0 rs) (outlines 0 rs)) _ _ l.1 in
+      let d = none_of (first_long (outlines 0 rs) (outlines 0 rs)) _ _ u.1 in
       let names : names_in outlined.structures ≡ names_of rs =
       ap (λ (x : List Outline). map (λ s. s.name) x) outlined.same ∙ names_same 0 rs in
       let fresh : Fresh [] (names_in outlined.structures) = subst (λ (ns : List (List ℕ)). Fresh [] ns) (sym names)
@@ -294,8 +292,7 @@ module _ (rs : List Record) (shapes : AllByRecursion (IsShapedIn wide_element) (
       → IsFlattenable (wide_layout_of rs)
   flattens bytes good e short within =
       let u = none_of (unknown (all_uses (outlines 0 rs)) (outlines 0 rs)) _ _ e in
-      let l = none_of (first_loop (outlines 0 rs) (outlines 0 rs)) _ _ u.1 in
-      let d = none_of (first_long (outlines 0 rs) (outlines 0 rs)) _ _ l.1 in
+      let d = none_of (first_long (outlines 0 rs) (outlines 0 rs)) _ _ u.1 in
       let size : length (names_of rs) ≡ length (wide_structures_of rs) = length-map (starts rs) name_of
       ∙ sym (length-map (starts rs) (wide_structure_of (names_of rs))) in
       let outlined : length (outlines 0 rs) ≡ length (names_of rs) = sym (length-map (outlines 0 rs) (λ s. s.name))

@@ -9,7 +9,5 @@ pub mod Bodies
 pub mod Outlining
 pub mod Numbering
 pub mod Graphs
-pub mod Components
-pub mod Chains
 pub mod Tops
 pub mod Ways

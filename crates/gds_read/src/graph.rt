@@ -1,9 +1,9 @@
 // The references of structures by number.
-ghost use Rattle.std.specs.Prelude.{◌≡◌, map, slice_index, IfOk};
+ghost use Rattle.std.specs.Prelude.{◌≡◌, map, IfOk};
 ghost use Rattle.gds_records.specs.Drawing.{place_of};
 ghost use Rattle.gds_read.specs.Code.Numbering.{IsNumbering};
 ghost use Rattle.gds_read.specs.Code.Outlining.{names_in};
-ghost use Rattle.gds_read.specs.Code.Graphs.{graph_of, targets_at};
+ghost use Rattle.gds_read.specs.Code.Graphs.{graph_of};
 
 use crate::element::named;
 use crate::numbers::Numbers;
@@ -42,24 +42,4 @@ pub fn graph(
         graph.push(targets(alloc, structures, numbers, outline.uses.as_slice())?)?;
     }
     Ok(graph)
-}
-
-/// What a structure references; nothing past the last.
-pub fn targets_at(graph: &[List<u32>], number: u32) -> &[u32]
-    ensures { result.now ≡ targets_at graph.now number }
-{
-    match graph.get(number as usize) {
-        Some(targets) => targets.as_slice(),
-        None => &[],
-    }
-}
-
-/// The number that structure `number` is given; 0 past the last.
-pub fn value_at(values: &[usize], number: u32) -> usize
-    ensures { result ≡ slice_index values.now number }
-{
-    match values.get(number as usize) {
-        Some(value) => *value,
-        None => 0,
-    }
 }

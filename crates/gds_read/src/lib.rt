@@ -2,7 +2,6 @@
 #![tactic(auto)]
 
 mod chains;
-mod components;
 mod conditions;
 mod cursor;
 mod element;
@@ -12,7 +11,6 @@ mod front;
 mod graph;
 mod item;
 mod laws;
-mod loops;
 mod names;
 mod naming;
 mod numbers;

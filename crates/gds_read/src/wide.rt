@@ -4,8 +4,8 @@ ghost use Rattle.poly_cut.specs.Counts.{wide_count};
 ghost use Rattle.gds_records.specs.Stream.{wide_layout_of};
 ghost use Rattle.gds_records.specs.WideWhole.{wide_whole_fault};
 ghost use Rattle.gds_read.specs.Code.Bodies.{IsWholeRefusal, IsOversize};
-ghost use Rattle.gds_read.specs.Code.Chains.{AreOutlined};
 ghost use Rattle.gds_read.specs.Code.Decoding.{IsSpelled, records_in};
+ghost use Rattle.gds_read.specs.Code.Outlining.{AreOutlined};
 ghost use Rattle.gds_read.specs.WideReading.{IsWideReadAs, IsWideRefusedFor};
 
 use crate::ending::end_of_records;

@@ -1,9 +1,8 @@
 // The conditions on the whole of a wide stream.
 ghost use Rattle.std.specs.Prelude.{◌≡◌, ◌<◌, length, map, None, IfOk, IfErr};
 ghost use Rattle.gds_records.specs.Whole.{all_uses, outlines, top_of};
-ghost use Rattle.gds_records.specs.WideWhole.{wide_whole_fault};
+ghost use Rattle.gds_records.specs.WideWhole.{wide_whole_fault, first_long};
 ghost use Rattle.gds_read.specs.Code.Bodies.{IsWholeRefusal};
-ghost use Rattle.gds_read.specs.Code.Chains.{loop_or_long};
 ghost use Rattle.gds_read.specs.Code.Decoding.{IsSpelled, records_in};
 ghost use Rattle.gds_read.specs.Code.Outlining.{outline_of, names_in};
 ghost use Rattle.gds_read.specs.Code.Numbering.{IsNumbering, AreUsed};
@@ -12,36 +11,27 @@ ghost use Rattle.gds_read.specs.Code.Texts.{texts};
 use crate::chains::{first_long, long_chains};
 use crate::conditions::{first_unknown, one_top};
 use crate::graph::graph;
-use crate::loops::first_loop;
 use crate::names::Names;
 use crate::numbers::Numbers;
 use crate::outline::NamedOutline;
 use crate::refusal::StreamRefusal;
 use aq_base::Memory;
-use gds_records::{StreamKind, loops_are_long};
+use gds_records::StreamKind;
 use std::alloc::Global;
 
-// The place of the first structure in a loop of references, or else of the first from which a chain of more than 64
-// goes down. From a structure in a loop chains of any length go down, so loops are looked for only where there is such
-// a chain.
-fn loop_or_long(
+// The place of the first structure from which a chain of more than 64 references goes down, as from one in a loop.
+fn too_deep(
     alloc: Global,
     structures: &[NamedOutline<'_>],
     numbers: &Numbers<'_>,
 ) -> Result<Option<usize>, Memory>
     requires { IsNumbering numbers.now.entries (names_in structures.now) }
-    ensures { IfOk result (λ place. place ≡ loop_or_long (map outline_of structures.now)) }
+    ensures { IfOk result (λ place. place
+        ≡ first_long (map outline_of structures.now) (map outline_of structures.now)) }
 {
-    loops_are_long();
     let graph = graph(alloc, structures, numbers)?;
     let long = long_chains(alloc, graph.as_slice())?;
-    let Some(place) = first_long(structures, numbers, long.as_slice()) else {
-        return Ok(None);
-    };
-    match first_loop(alloc, structures, numbers, graph.as_slice())? {
-        Some(first) => Ok(Some(first)),
-        None => Ok(Some(place)),
-    }
+    Ok(first_long(structures, numbers, long.as_slice()))
 }
 
 /// The number of the top, or what is wrong with the whole stream.
@@ -64,7 +54,7 @@ pub fn wide_top_or_fault(
     if let Some(place) = first_unknown(structures, numbers) {
         return Err(StreamRefusal::bad(place, StreamKind::UnknownName));
     }
-    if let Some(place) = loop_or_long(alloc, structures, numbers)? {
+    if let Some(place) = too_deep(alloc, structures, numbers)? {
         return Err(StreamRefusal::bad(place, StreamKind::Unsupported));
     }
     match one_top(bytes, structures, used) {

@@ -1,5 +1,5 @@
 -- What is strict is wide: sentences, and the conditions on the whole.
-use Rattle.std.proofs.Common.{◌≡◌, ℕ, zero, suc, List, [], ◌∷◌, ◌++◌, Bool, true, false, length, eqb, Option, Some}
+use Rattle.std.proofs.Common.{◌≡◌, ℕ, suc, List, [], ◌∷◌, ◌++◌, Bool, true, false, length, eqb, Option, Some}
 use Rattle.std.proofs.Common.{None, refl, sym, ap, subst, ◌∙◌, arith, append_assoc, inl, inr}
 use Rattle.std.specs.Prelude.{not, ◌&&◌, ◌||◌}
 use Rattle.std.specs.List.{AllByRecursion}
@@ -16,7 +16,7 @@ use Rattle.gds_records.specs.Grammar.{structure_of_each, in_turn, library_front,
 use Rattle.gds_records.specs.Records.{Record, same}
 use Rattle.gds_records.specs.Whole.{Use, Outline, is_used, all_uses, unknown, deep, tops, top_fault, outlines}
 use Rattle.gds_records.specs.Whole.{last_place, whole_fault}
-use Rattle.gds_records.specs.WideWhole.{uses_by, some_use, goes_down, leads, first_loop, first_long, first_of}
+use Rattle.gds_records.specs.WideWhole.{uses_by, some_use, goes_down, first_long, first_of}
 use Rattle.gds_records.specs.WideWhole.{wide_whole_fault}
 
 -- ---- sentences
@@ -202,44 +202,6 @@ module _ (ss : List Outline) (shallow : deep (all_uses ss) ss ≡ None) where
   short n name = none_use (goes_down (suc n) ss) (all_uses ss) (uses_by name ss) (uses_used name ss)
       (λ m u. ap (λ (us : List Use). some_use (goes_down n ss) us) (ends_here m u))
 
-  leads_nowhere : (n : ℕ) (name to : List ℕ) → is_used name (all_uses ss) ≡ true → leads n ss name to ≡ false
-  leads_nowhere zero name to u = refl
-  leads_nowhere (suc n) name to u = ap (λ (us : List Use). some_use (λ m. same m to || leads n ss m to) us)
-      (ends_here name u)
-
-  -- a structure that used itself would reference nothing
-  no_loop : (n : ℕ) (name : List ℕ) → leads n ss name name ≡ false
-  no_loop zero name = refl
-  no_loop (suc n) name = turn (uses_by name ss) refl
-    where
-      back : (us : List Use) → uses_by name ss ≡ us → (m : List ℕ) → is_used m (all_uses ss) ≡ true
-          → (v : Use) (vs : List Use) → us ≡ v ∷ vs → same m name ≡ false
-      back us e m u v vs f = pick (same m name) refl
-        where
-          pick : (t : Bool) → same m name ≡ t → same m name ≡ false
-          pick false q = q
-          pick true q = absurd
-              (let k : m ≡ name = same_so m name q in let z : v ∷ vs ≡ [] = sym f ∙ sym e
-              ∙ ap (λ (x : List ℕ). uses_by x ss) (sym k) ∙ ends_here m u in cc)
-
-      turn : (us : List Use) → uses_by name ss ≡ us → some_use (λ m. same m name || leads n ss m name)
-          (uses_by name ss) ≡ false
-      turn [] e = ap (λ (us : List Use). some_use (λ m. same m name || leads n ss m name) us) e
-      turn (v ∷ vs) e = none_use (λ m. same m name || leads n ss m name) (all_uses ss) (uses_by name ss)
-          (uses_used name ss)
-          (λ m u. (λ i. back (v ∷ vs) e m u v vs refl i || leads_nowhere n m name u i))
-
-  no_first_loop : (all : List Outline) → all ≡ ss → (rest : List Outline) → first_loop all rest ≡ None
-  no_first_loop all e [] = refl
-  no_first_loop all e (s ∷ rest) = turn (leads (length all) all s.name s.name)
-      (ap (λ (x : List Outline). leads (length all) x s.name s.name) e ∙ no_loop (length all) s.name)
-      (no_first_loop all e rest)
-    where
-      turn : (t : Bool) → t ≡ false → first_loop all rest ≡ None
-          → (elim t as (λ (x : Bool). Option ℕ) [ true ↦ Some s.place | false ↦ first_loop all rest ]) ≡ None
-      turn true q ih = absurd cc
-      turn false q ih = ih
-
   no_first_long : (rest : List Outline) → first_long ss rest ≡ None
   no_first_long [] = refl
   no_first_long (s ∷ rest) = turn (goes_down 65 ss s.name) (short 63 s.name) (no_first_long rest)
@@ -260,15 +222,14 @@ none_parts (Some p) d t e = absurd cc
 none_parts None (Some p) t e = absurd cc
 none_parts None None t e = (refl, refl, e)
 
-none_of : (a b c : Option ℕ) (t : Option (ℕ × StreamKind)) → a ≡ None → b ≡ None → c ≡ None → t ≡ None
-    → first_of a UnknownName (first_of b Unsupported (first_of c Unsupported t)) ≡ None
-none_of a b c t p q r s = rw (p, q, r) s
+none_of : (a b : Option ℕ) (t : Option (ℕ × StreamKind)) → a ≡ None → b ≡ None → t ≡ None
+    → first_of a UnknownName (first_of b Unsupported t) ≡ None
+none_of a b t p q s = rw (p, q) s
 
 pub whole_within : (rs : List Record) → whole_fault rs ≡ None → wide_whole_fault rs ≡ None
 whole_within rs h =
     let ss = outlines 0 rs in
     let n = none_parts (unknown (all_uses ss) ss) (deep (all_uses ss) ss)
     (top_fault (last_place 0 rs) (tops 0 (all_uses ss) ss)) h in
-    none_of (unknown (all_uses ss) ss) (first_loop ss ss) (first_long ss ss)
-    (top_fault (last_place 0 rs) (tops 0 (all_uses ss) ss)) n.0 (no_first_loop ss n.1 ss refl ss)
-    (no_first_long ss n.1 ss) n.2
+    none_of (unknown (all_uses ss) ss) (first_long ss ss)
+    (top_fault (last_place 0 rs) (tops 0 (all_uses ss) ss)) n.0 (no_first_long ss n.1 ss) n.2

@@ -1,6 +1,6 @@
--- The conditions on the whole of a wide stream: each reference names a structure, no structure leads back to itself, no
--- chain of references is longer than 64, and one structure, the top, is referenced by none.
-use Rattle.std.specs.Prelude.{ℕ, zero, suc, ◌||◌, List, [], ◌∷◌, Bool, true, false, length, Option, Some, None}
+-- The conditions on the whole of a wide stream: each reference names a structure, no chain of references is longer than
+-- 64, so that no structure leads back to itself, and one structure, the top, is referenced by none.
+use Rattle.std.specs.Prelude.{ℕ, zero, suc, ◌||◌, List, [], ◌∷◌, Bool, true, false, Option, Some, None}
 use Rattle.gds_records.specs.declared.fault.StreamKind.{StreamKind}
 use Rattle.gds_records.specs.declared.fault.StreamKind.TheVariants.{Unsupported, UnknownName}
 use Rattle.gds_records.specs.Records.{Record, same}
@@ -21,21 +21,8 @@ abbrev pub goes_down : ℕ → List Outline → List ℕ → Bool
 goes_down zero ss name = true
 goes_down (suc n) ss name = some_use (goes_down n ss) (uses_by name ss)
 
--- a chain of at least one and at most so many references leads from one structure to another
-abbrev pub leads : ℕ → List Outline → List ℕ → List ℕ → Bool
-leads zero ss from to = false
-leads (suc n) ss from to = some_use (λ name. same name to || leads n ss name to) (uses_by from ss)
-
--- the place of the first of these structures that leads back to itself; a way round has at most as many references as
--- there are structures
-abbrev pub first_loop : List Outline → List Outline → Option ℕ
-first_loop all [] = None
-first_loop all (s ∷ ss) = elim (leads (length all) all s.name s.name) [
-  | true ↦ Some s.place
-  | false ↦ first_loop all ss
-]
-
--- the place of the first of these structures from which a chain of more than 64 references goes down
+-- the place of the first of these structures from which a chain of more than 64 references goes down, as from one in a
+-- loop of references or above it
 abbrev pub first_long : List Outline → List Outline → Option ℕ
 first_long all [] = None
 first_long all (s ∷ ss) = elim (goes_down 65 all s.name) [ true ↦ Some s.place | false ↦ first_long all ss ]
@@ -49,9 +36,8 @@ first_of None kind others = others
 abbrev pub wide_outlines_fault : ℕ → List Outline → Option (ℕ × StreamKind)
 wide_outlines_fault o ss =
     first_of (unknown (all_uses ss) ss) UnknownName
-    (first_of (first_loop ss ss) Unsupported
     (first_of (first_long ss ss) Unsupported
-    (top_fault o (tops 0 (all_uses ss) ss))))
+    (top_fault o (tops 0 (all_uses ss) ss)))
 
 -- the first fault of the whole of a wide stream, in the order of the conditions
 abbrev pub wide_whole_fault : List Record → Option (ℕ × StreamKind)

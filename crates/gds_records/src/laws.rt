@@ -25,8 +25,8 @@ ghost use Rattle.gds_records.specs.Profiled.{AreGoodIn, IsReadIn, IsFirstFaultIn
 ghost use Rattle.gds_records.specs.Steps.{all_steps, told};
 ghost use Rattle.gds_records.specs.Language.{Speaks};
 ghost use Rattle.gds_records.specs.Whole.{Outline, whole_fault};
-ghost use Rattle.gds_records.specs.WideWhole.{leads, first_long, first_loop, wide_whole_fault};
-ghost use Rattle.gds_records.specs.Ranks.{NeverRises, Falls, IsWay};
+ghost use Rattle.gds_records.specs.WideWhole.{goes_down, first_long, wide_whole_fault};
+ghost use Rattle.gds_records.specs.Loops.{IsWay};
 ghost use Rattle.gds_records.specs.Grammar.{stream, wide_stream};
 ghost use Rattle.gds_records.specs.FirstChip.{first_bytes};
 ghost use Rattle.gds_records.specs.declared.fault.StreamKind.{StreamKind};
@@ -155,17 +155,12 @@ pub fn strict_streams_are_wide()
     strict_records_are_good();
 }
 
-/// Where no chain of more than 64 references goes down, no structure leads back to itself.
+/// A loop of references is a chain without an end: from a structure in one, and from one above it, chains of any length
+/// go down, and where no chain of more than 64 does, no structure is in a loop.
 pub fn loops_are_long()
-    ensures { (ss : List Outline) → first_long ss ss ≡ None → first_loop ss ss ≡ None }
-{}
-
-/// Loops are told by numbers and by ways: where numbers never rise along references, a structure whose references all
-/// fall leads not back to itself, and one with a way back of at most so many references does.
-pub fn loops_are_told()
-    ensures none { (rank : List ℕ → ℕ) (ss : List Outline) (k : ℕ) (name : List ℕ) → NeverRises rank ss
-        → Falls rank ss name
-        → leads k ss name name ≡ false }
-    ensures some { (ss : List Outline) (name : List ℕ) (more : List (List ℕ)) (k : ℕ) → length more < k
-        → IsWay ss name more name → leads k ss name name ≡ true }
+    ensures long { (k : ℕ) (ss : List Outline) (from : List ℕ) (above : List (List ℕ)) (name : List ℕ)
+        (names : List (List ℕ)) → IsWay ss from above name → IsWay ss name names name
+        → goes_down k ss from ≡ true }
+    ensures none { (ss : List Outline) (name : List ℕ) (names : List (List ℕ)) → first_long ss ss ≡ None
+        → IsWay ss name names name → ⊥ }
 {}

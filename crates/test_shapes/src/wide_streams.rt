@@ -293,51 +293,82 @@ fn deep_references_are_read(rt: HostRuntime) -> Result<(), Fail> {
     Ok(())
 }
 
+// Whether such a stream is refused for this fault. A structure has 38 bytes, and each reference 26.
+fn is_linked_badly(
+    alloc: Global,
+    last: u8,
+    more: &[(u8, &[u8])],
+    offset: u64,
+    kind: StreamKind,
+) -> Result<bool, AllocError> {
+    let bytes = linked(alloc, last, more)?;
+    Ok(is_bad(alloc, bytes.as_slice(), offset, kind))
+}
+
+#[test]
+fn long_chains_are_found(rt: HostRuntime) -> Result<(), Fail> {
+    // A chain of so many structures, more structures, and the first from which more than 64 references go down.
+    let rows: [(u8, &[(u8, &[u8])], u64); 4] = [
+        (66, &[], 62),
+        (66, &[(b'X', b"Y"), (b'Y', b"X")], 62),
+        (65, &[(b'T', &[1])], 4196),
+        (65, &[(b'X', b"Y"), (b'Y', b"X")], 4196),
+    ];
+    for (last, more, offset) in rows {
+        let is_found = is_linked_badly(rt.alloc(), last, more, offset, StreamKind::Unsupported)?;
+        assert!(rt; is_found, "{last} structures, {offset}");
+    }
+    Ok(())
+}
+
+#[test]
+fn loops_are_chains_without_an_end(rt: HostRuntime) -> Result<(), Fail> {
+    // Structures, and the first of them that is in a loop or above one.
+    let rows: [(&[(u8, &[u8])], u64); 8] = [
+        (&[(b'A', b"A")], 62),
+        (&[(b'A', b"B"), (b'B', b"A")], 62),
+        (&[(b'T', b"A"), (b'A', b"B"), (b'B', b"A")], 62),
+        (&[(b'A', b"B"), (b'B', b"A"), (b'T', b"A")], 62),
+        (
+            &[(b'T', b"A"), (b'A', b"B"), (b'B', b"C"), (b'C', b"A")],
+            62,
+        ),
+        (
+            &[(b'X', b"C"), (b'A', b"B"), (b'B', b"AX"), (b'C', b"C")],
+            62,
+        ),
+        (&[(b'L', b""), (b'T', b"LA"), (b'A', b"A")], 100),
+        (
+            &[(b'M', b"L"), (b'L', b""), (b'A', b"MA"), (b'T', b"A")],
+            164,
+        ),
+    ];
+    for (structures, offset) in rows {
+        let is_found = is_linked_badly(rt.alloc(), 0, structures, offset, StreamKind::Unsupported)?;
+        assert!(rt; is_found, "{offset}");
+    }
+    Ok(())
+}
+
 #[test]
 fn faults_of_the_whole_are_found(rt: HostRuntime) -> Result<(), Fail> {
-    // A chain of so many structures, more structures, and the fault. A structure has 38 bytes, and each reference 26.
-    let rows: [(u8, &[(u8, &[u8])], u64, StreamKind); 9] = [
-        (66, &[], 62, StreamKind::Unsupported),
+    let rows: [(&[(u8, &[u8])], u64, StreamKind); 4] = [
+        (&[(b'A', b"AZ")], 126, StreamKind::UnknownName),
         (
-            66,
-            &[(b'X', b"Y"), (b'Y', b"X")],
-            4260,
-            StreamKind::Unsupported,
-        ),
-        (
-            0,
-            &[(b'A', b"B"), (b'B', b"A")],
-            62,
-            StreamKind::Unsupported,
-        ),
-        (0, &[(b'A', b"A")], 62, StreamKind::Unsupported),
-        (
-            0,
-            &[(b'T', b"A"), (b'A', b"B"), (b'B', b"C"), (b'C', b"A")],
-            126,
-            StreamKind::Unsupported,
-        ),
-        (
-            0,
-            &[(b'X', b"C"), (b'A', b"B"), (b'B', b"AX"), (b'C', b"C")],
-            126,
-            StreamKind::Unsupported,
-        ),
-        (0, &[(b'A', b"AZ")], 126, StreamKind::UnknownName),
-        (
-            0,
             &[(b'A', b"B"), (b'B', b""), (b'C', b"B")],
             164,
             StreamKind::SeveralTops,
         ),
-        (0, &[(b'A', b""), (b'A', b"")], 128, StreamKind::Value),
+        (
+            &[(b'A', b"B"), (b'B', b""), (b'C', b"C")],
+            164,
+            StreamKind::Unsupported,
+        ),
+        (&[(b'A', b""), (b'A', b"")], 128, StreamKind::Value),
     ];
-    for (last, more, offset, kind) in rows {
-        let bytes = linked(rt.alloc(), last, more)?;
-        assert!(rt;
-            is_bad(rt.alloc(), bytes.as_slice(), offset, kind),
-            "{kind:?} at {offset}"
-        );
+    for (structures, offset, kind) in rows {
+        let is_found = is_linked_badly(rt.alloc(), 0, structures, offset, kind)?;
+        assert!(rt; is_found, "{kind:?} at {offset}");
     }
     Ok(())
 }

@@ -1,8 +1,8 @@
 -- Structures in outline, as a reader keeps them.
-use Rattle.std.specs.Prelude.{ℕ, List, [], ◌∷◌, ◌==◌, true, false, map}
+use Rattle.std.specs.Prelude.{◌≡◌, ℕ, List, [], ◌∷◌, ◌==◌, true, false, map}
 use Rattle.gds_records.specs.declared.codes.TheConstants.{SNAME}
 use Rattle.gds_records.specs.Records.{Record, trimmed}
-use Rattle.gds_records.specs.Whole.{Use, Outline}
+use Rattle.gds_records.specs.Whole.{Use, Outline, outlines}
 use Rattle.gds_read.specs.declared.outline.NamedUse.{NamedUse}
 use Rattle.gds_read.specs.declared.outline.NamedOutline.{NamedOutline}
 
@@ -21,3 +21,8 @@ uses_at place r = elim (r.kind == SNAME) [ true ↦ record { place = place; name
 -- the names of structures in outline
 abbrev pub names_in : List NamedOutline → List (List ℕ)
 names_in ss = map (λ s. s.name) (map outline_of ss)
+
+-- these records have structures in outline
+pub record AreOutlined (rs : List Record) : Type 0 where
+  pub structures : List NamedOutline
+  pub same : map outline_of structures ≡ outlines 0 rs

@@ -1,5 +1,8 @@
-use Rattle.gds_records.proofs.Loops.{no_loop}
+use Rattle.gds_records.proofs.Loops.{endless, no_loop}
 use Rattle.gds_records.proofs.laws.loops_are_long.Goals as goal
 
-pub returns : goal.returns
-returns c ss = no_loop ss ss
+pub returns-clause-long : goal.returns-clause-long
+returns-clause-long c = endless
+
+pub returns-clause-none : goal.returns-clause-none
+returns-clause-none c = no_loop

@@ -1,7 +1,7 @@
 use Rattle.std.proofs.Common.{List, Bool, ℕ, false, ap, ◌∙◌}
 use Rattle.std.specs.Prelude.{slice_index_or}
 use Rattle.gds_read.specs.Code.Graphs.{is_long}
-use Rattle.gds_read.proofs.wide_conditions.loop_or_long.Goals as goal
+use Rattle.gds_read.proofs.wide_conditions.too_deep.Goals as goal
 
 pub first_long-requires-clause-marks : goal.first_long-requires-clause-marks
 first_long-requires-clause-marks c n =
