@@ -144,7 +144,7 @@ no_source : (a b : ℕ → Bool) (o : Option Source) → ((s : Source) → o ≡
 no_source a b None none = refl
 no_source a b (Some s) none = absurd (none s refl)
 
-no_sources : (word : List Bool) (a b : ℕ → Bool) (cell : RowCell) → ((s : Source) → cell.source0 ≡ Some s → ⊥)
+pub no_sources : (word : List Bool) (a b : ℕ → Bool) (cell : RowCell) → ((s : Source) → cell.source0 ≡ Some s → ⊥)
     → ((s : Source) → cell.source1 ≡ Some s → ⊥) → ((s : Source) → cell.source2 ≡ Some s → ⊥)
     → cell_value word a cell ≡ cell_value word b cell
 no_sources word a b cell p q r =

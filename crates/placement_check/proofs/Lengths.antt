@@ -1,10 +1,7 @@
 -- What is tested side by side has as many on both sides.
-use Rattle.std.proofs.Common.{◌≡◌, ◌+◌, ℕ, suc, List, [], ◌∷◌, Bool, false, true, length, refl, ap}
-use Rattle.std.specs.Prelude.{◌&&◌, nat_le}
-use Rattle.circuit.specs.CellKinds.{slots_of}
+use Rattle.std.proofs.Common.{◌≡◌, ℕ, suc, List, [], ◌∷◌, false, length, refl, ap}
 use Rattle.rowed.proofs.SeatLaws.{or_none}
 use Rattle.rowed.specs.declared.row_cell.RowCell.{RowCell}
-use Rattle.rowed.specs.Slots.{slot_limit}
 use Rattle.mig.specs.Graphs.{GraphView}
 use Rattle.placement_check.specs.Labels.{fits, row_fits, rows_fit_from}
 

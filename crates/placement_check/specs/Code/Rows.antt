@@ -3,7 +3,11 @@ use Rattle.std.specs.Prelude.{ℕ, ◌+◌, ◌*◌, ◌==◌, Bool, true, ◌&&
 use Rattle.rowed.specs.declared.row_cell.RowCell.{RowCell}
 use Rattle.rowed.specs.SeatTests.{each_seated}
 use Rattle.mig.specs.Graphs.{GraphView}
+use Rattle.rowed.specs.RowNets.{RowView}
 use Rattle.placement_check.specs.Labels.{rows_fit}
+use Rattle.placement_check.specs.Wider.{is_widened}
+use Rattle.placement_check.specs.declared.marks.Mark.{Mark}
+use Rattle.placement_check.specs.declared.marks.Place.{Place}
 use Rattle.placement_check.specs.Code.Cells.{are_first, are_above, pins_of}
 use Rattle.placement_check.specs.Code.Numbering.{are_distinct, is_numbering}
 
@@ -50,3 +54,9 @@ is_net inputs outputs rows =
 abbrev pub is_sound : GraphView → List (List RowCell) → List (List ℕ) → List (List ℕ) → Bool
 is_sound g rows labels slots =
     rows_fit g rows labels && each_seated rows slots && is_net g.inputs (length g.outputs) rows
+
+-- the rows pass all tests of a wider net
+abbrev pub is_wide : RowView → List (List RowCell) → List (List ℕ) → List ℕ → List (List Place) → List (List Mark)
+    → Bool
+is_wide net rows slots became places marks =
+    is_widened net.rows rows became places marks && each_seated rows slots && is_net net.inputs net.outputs rows
