@@ -31,6 +31,10 @@ aqfp_program = $(call aqfp_word,$(AQFP))
 
 .PHONY: aqfp_look
 aqfp_look:
+# (it is no goal of its own: the first target of the Makefile that includes this stays the one that `make` makes)
+ifeq ($(.DEFAULT_GOAL),aqfp_look)
+.DEFAULT_GOAL :=
+endif
 
 %.gds.made: aqfp_look
 	@printf '%s\n' $(aqfp_program) $(call aqfp_word,$(AQFP_MAKES)) $(aqfp_library) | cmp -s - $(call aqfp_word,$@) || \

@@ -25,7 +25,7 @@ class Cell:
         kind = FRAMES.get(self.kind, f"cell of kind {self.kind}")
         name = f" n{self.number}" if named else ""
         x, y = map(micrometres, self.box[:2])
-        return f"the {kind}{name} of row {self.row}, lower left at {x},{y} um"
+        return f"the {kind}{name} of row number {self.row}, lower left at {x},{y} um"
 
 
 def points(element, path):

@@ -141,6 +141,10 @@ def page_text(chip, report, title, names, words):
 
 # The picture
 
+# How large a picture opens: so many pixels a nanometre, by which names can be read, and at most so many at a side.
+NEAR, MOST = 0.012, 3000
+
+
 def svg_shapes(shapes, fill, edge):
     """The rectangles of a layer as one path."""
     steps = "".join(f"M{x0} {y0}h{x1 - x0}v{y1 - y0}h{x0 - x1}z" for _, x0, y0, x1, y1 in shapes)
@@ -166,7 +170,8 @@ def svg_lines(chip, title, names):
     x0, y0, x1, y1 = chip.extent()
     edge = 4000
     width, height = x1 - x0 + 2 * edge, y1 - y0 + 2 * edge
-    yield (f'<svg xmlns="http://www.w3.org/2000/svg" width="{width / 5000:g}" height="{height / 5000:g}" '
+    scale = min(NEAR, MOST / max(width, height))
+    yield (f'<svg xmlns="http://www.w3.org/2000/svg" width="{width * scale:.0f}" height="{height * scale:.0f}" '
            f'viewBox="{x0 - edge} {-y1 - edge} {width} {height}">')
     yield f"<title>{plain_text(title)}</title>"
     yield '<rect x="-100%" y="-100%" width="300%" height="300%" fill="#ffffff"/>'
