@@ -2,14 +2,14 @@
 ghost use Rattle.std.specs.Prelude.{◌≡◌, None};
 ghost use Rattle.aq_base.specs.MemoryStore.{store_of};
 
-use crate::fixtures::{
-    FIRST_NETLIST, LIBRARY_A, Outcome, STREAM, WIRE, ran, ran_into, store, wires, with_chip,
-    words_in,
-};
 use aq_base::{MemFiles, MemSink};
 use aqfp_top::aqfp_run;
 use std::alloc::Global;
 use std::test::Fail;
+use test_runs::{
+    FIRST_NETLIST, LIBRARY_A, Outcome, STREAM, WIRE, ran, ran_into, store, wires, with_chip,
+    words_in,
+};
 
 // What a run told, and how many bytes `out` holds.
 fn is_left(run: &Outcome, status: u8, told: &str, held: Option<usize>) -> bool {

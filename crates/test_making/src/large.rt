@@ -1,7 +1,7 @@
 // Inputs that are large by number, or stand for many.
-use crate::fixtures::{LIBRARY_A, Refusal, STREAM, holding, is_refused, ran, store};
 use std::alloc::{AllocError, Global};
 use std::test::Fail;
+use test_runs::{LIBRARY_A, Refusal, STREAM, holding, is_refused, ran, store};
 
 // An input, an output, and so many definitions between them, each of the one that comes next.
 fn chain(alloc: Global, links: u32) -> Result<String, AllocError> {

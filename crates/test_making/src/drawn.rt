@@ -1,8 +1,8 @@
 // Chips of netlists of cells, over a store in memory: what is drawn again of what `netlist` writes, and what is
 // refused.
-use crate::fixtures::{AND, LIBRARY_A, Outcome, Refusal, WIRE, XOR, is_refused, ran, stored};
 use std::alloc::Global;
 use std::test::Fail;
+use test_runs::{AND, LIBRARY_A, Outcome, Refusal, WIRE, XOR, is_refused, ran, stored};
 
 // The netlist of the chip of a netlist, under `net`, with library A, of which one part is replaced; the netlist itself
 // is under `words`.

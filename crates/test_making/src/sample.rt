@@ -1,8 +1,8 @@
 // The greatest sample beside a build and a check of the same adder.
-use crate::fixtures::{LIBRARY_A, ran, store};
 use sample_adder::adder_text;
 use std::alloc::{AllocError, Global};
 use std::test::Fail;
+use test_runs::{LIBRARY_A, ran, store};
 
 // Eight words for so many inputs: value i of word k is true where (k + 1)(i + 3) modulo 11 is below 5.
 fn eight_words(alloc: Global, inputs: u32) -> Result<String, AllocError> {

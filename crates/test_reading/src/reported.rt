@@ -1,9 +1,9 @@
 // What is in chips: reports, and the shapes and labels of two numbers.
-use crate::fixtures::{
-    AND, LIBRARY_A, Outcome, STREAM, XOR, edited, holding, put_at, ran, stored, with_chip,
-};
 use std::alloc::Global;
 use std::test::Fail;
+use test_runs::{
+    AND, LIBRARY_A, Outcome, STREAM, XOR, edited, holding, put_at, ran, stored, with_chip,
+};
 
 const FIRST_REPORT: &str =
     "rows 2 cells 2 wires 1 delay 1\nbuffers 2 inverters 0 zeros 0 ones 0 splitters 0 0 majorities 0\njunctions 4\nwidth 8000 height 24000\nlongest 10000 of 180000\nrow 0 phase 0 cells 1 wires 1 longest 10000\nrow 1 phase 1 cells 1 wires 0 longest 0\n";

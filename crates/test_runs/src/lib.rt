@@ -1,4 +1,6 @@
-// What runs are given, and what they leave.
+//! Runs of the program over stores in memory, for tests: what they are given, and what they leave.
+#![tactic(auto)]
+
 ghost use Rattle.std.specs.Prelude.{◌≡◌, None, IfOk};
 ghost use Rattle.aq_base.specs.MemoryStore.{store_of};
 

@@ -1,7 +1,7 @@
 // Builds over a store in memory: what is stored, printed and refused.
-use crate::fixtures::{AND, LIBRARY_A, Outcome, STREAM, WIRE, XOR, is_answered, ran, stored};
 use std::alloc::Global;
 use std::test::Fail;
+use test_runs::{AND, LIBRARY_A, Outcome, STREAM, WIRE, XOR, is_answered, ran, stored};
 
 const TURNED: &str = ".inputs a b\n.outputs y\n.names b a y\n11 1\n";
 

@@ -1,9 +1,9 @@
 // Checks of the first chip over a store in memory: what is printed and refused.
-use crate::fixtures::{LIBRARY_A, Outcome, STREAM, ran, stored_chip, words_in};
 use aq_base::MemSink;
 use aqfp_top::aqfp_run;
 use std::alloc::{AllocError, Global};
 use std::test::Fail;
+use test_runs::{LIBRARY_A, Outcome, STREAM, ran, stored_chip, words_in};
 
 // The first chip without its two leads, both bars on the layer of the even rows, the second as a link.
 fn without_starts(alloc: Global) -> Result<Vec<u8>, AllocError> {

@@ -2,12 +2,12 @@
 ghost use Rattle.std.specs.Prelude.{◌≡◌, None, IfOk};
 ghost use Rattle.aq_base.specs.MemoryStore.{store_of};
 
-use crate::fixtures::{
-    Edit, FIRST_NETLIST, Refusal, STREAM, edited, holding, is_refused, put_at, ran, with_chip,
-};
 use aq_base::MemFiles;
 use std::alloc::Global;
 use std::test::Fail;
+use test_runs::{
+    Edit, FIRST_NETLIST, Refusal, STREAM, edited, holding, is_refused, put_at, ran, with_chip,
+};
 
 // A path 1000 wide on the layer M1, from 5000, 9000 to 5000, 12500.
 const PATH: [u8; 48] = [

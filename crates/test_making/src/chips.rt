@@ -1,9 +1,9 @@
 // Chips whose counts, answers and bytes were worked out by another program, and a chip with two wires that touch.
-use crate::fixtures::{
-    AND, LIBRARY_A, Outcome, Refusal, is_answered, is_refused, ran, stored, stored_chip, wires,
-};
 use std::alloc::{AllocError, Global};
 use std::test::Fail;
+use test_runs::{
+    AND, LIBRARY_A, Outcome, Refusal, is_answered, is_refused, ran, stored, stored_chip, wires,
+};
 
 // Each chip is built, verified with its library, and answers as its recipe.
 #[test]

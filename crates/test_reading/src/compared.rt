@@ -1,7 +1,7 @@
 // Chips that are compared with netlists, for all words.
-use crate::fixtures::{AND, LIBRARY_A, Outcome, STREAM, WIRE, XOR, ran, stored, stored_chip};
 use std::alloc::Global;
 use std::test::Fail;
+use test_runs::{AND, LIBRARY_A, Outcome, STREAM, WIRE, XOR, ran, stored, stored_chip};
 
 const OR: &str = ".inputs a b\n.outputs y\n.names a b y\n1- 1\n-1 1\n";
 

@@ -1,7 +1,7 @@
 // Designs of several models: built, checked against themselves, and large by number or depth.
-use crate::fixtures::{LIBRARY_A, Refusal, is_refused, ran, store};
 use std::alloc::{AllocError, Global};
 use std::test::Fail;
+use test_runs::{LIBRARY_A, Refusal, is_refused, ran, store};
 
 /// A half adder in a model of its own.
 const HALF_ADDER: &str =

@@ -1,9 +1,7 @@
 // Texts and streams that are made against their readers, with the line that the program prints.
-use crate::fixtures::{
-    LIBRARY_A, Refusal, STREAM, WIRE, edited, holding, is_refused, put_at, store,
-};
 use std::alloc::{AllocError, Global};
 use std::test::Fail;
+use test_runs::{LIBRARY_A, Refusal, STREAM, WIRE, edited, holding, is_refused, put_at, store};
 
 fn is_bad_netlist(alloc: Global, net: &str, refusal: Refusal<'_>) -> Result<bool, Fail> {
     let files = store(alloc, net.as_bytes(), LIBRARY_A.as_bytes())?;

@@ -1,7 +1,7 @@
 // The netlist of a chip's circuit, stored and built again.
-use crate::fixtures::{FIRST_NETLIST, LIBRARY_A, Outcome, STREAM, ran, stored, with_chip};
 use std::alloc::Global;
 use std::test::Fail;
+use test_runs::{FIRST_NETLIST, LIBRARY_A, Outcome, STREAM, ran, stored, with_chip};
 
 // The first chip's netlist, stored under `net`.
 fn written(alloc: Global) -> Result<Outcome, Fail> {

@@ -1,7 +1,7 @@
 // Compact chips over a store in memory: what is stored, printed and refused, beside what `build` does.
-use crate::fixtures::{AND, LIBRARY_A, Outcome, STREAM, WIRE, XOR, ran, stored, stored_chip};
 use std::alloc::Global;
 use std::test::Fail;
+use test_runs::{AND, LIBRARY_A, Outcome, STREAM, WIRE, XOR, ran, stored, stored_chip};
 
 // The number of cells in a counts line, `rows R cells C ..`.
 fn cells_told(line: &[u8]) -> u64 {
