@@ -25,7 +25,7 @@ mod sparing;
 mod starting;
 mod starts_at;
 mod trimming;
-mod walk;
+pub mod walk;
 mod weaving;
 
 pub use effort::Effort;

@@ -4,6 +4,7 @@ use crate::numbers::item;
 use crate::signals::{FAR, Signal, Signals};
 use aq_base::Memory;
 use chip_search::arrays::{at, narrow, put};
+use chip_search::walk::{Use as PlainUse, Walked, sort_uses, walk};
 use std::alloc::Global;
 
 /// A node stands at most so many rows below the outputs.
@@ -27,13 +28,6 @@ impl Use {
     };
 }
 
-/// A walk's end: how many cells stand above the least depth in which the node may stand, and that depth.
-#[derive(Clone, Copy)]
-pub(crate) struct Walked {
-    pub(crate) cells: u64,
-    pub(crate) depth: u32,
-}
-
 /// How many rows below the outputs each item stands, the inputs `last` rows, and at which position.
 #[derive(Drop)]
 pub(crate) struct Trees {
@@ -45,6 +39,8 @@ pub(crate) struct Trees {
     /// How far a signal may move in a row; nothing where positions don't count.
     pub(crate) reach: Option<i32>,
     pub(crate) uses: Vec<Use>,
+    /// The uses of a node where positions don't count.
+    plain_uses: Vec<PlainUse>,
     pub(crate) next: u32,
     pub(crate) signals: Signals,
 }
@@ -61,6 +57,7 @@ impl Trees {
             positions: vec![in alloc; 0; items]?,
             reach: None,
             uses: Vec::new(alloc),
+            plain_uses: Vec::new(alloc),
             next: 0,
             signals: Signals::new(alloc, three),
         })
@@ -81,6 +78,7 @@ impl Trees {
             positions: Vec::from_slice(alloc, positions)?,
             reach: Some(reach.max(1)),
             uses: Vec::new(alloc),
+            plain_uses: Vec::new(alloc),
             next: 0,
             signals: Signals::new(alloc, self.three),
         })
@@ -200,9 +198,34 @@ impl Trees {
         Ok(())
     }
 
+    /// The walk of a node's uses where positions don't count: only how many signals each row is asked for matters then,
+    /// so none is kept.
+    fn walk_anywhere(&mut self, node: u32, most: u32) -> Result<Option<Walked>, Memory> {
+        self.plain_uses.clear();
+        let count = narrow(self.graph.uses(node).len());
+        for number in 0..count {
+            let pin = self.graph.use_pin(node, number);
+            let place = self.graph.place(pin);
+            self.plain_uses.push(PlainUse {
+                depth: at(&self.depths, place.item),
+                turned: at(&self.graph.literals, pin) % 2 == 1,
+            })?;
+        }
+        sort_uses(&mut self.plain_uses);
+        let walked = walk(&self.plain_uses, self.three);
+        Ok(if walked.depth > most {
+            None
+        } else {
+            Some(walked)
+        })
+    }
+
     /// The walk of a node's uses down to the first row in which it may stand; nothing where that is more than `most`
     /// rows below the outputs.
     pub(crate) fn walk(&mut self, node: u32, most: u32) -> Result<Option<Walked>, Memory> {
+        if self.reach.is_none() {
+            return self.walk_anywhere(node, most);
+        }
         self.collect(node)?;
         let Some(first) = self.next_depth() else {
             return Ok(Some(Walked { cells: 0, depth: 1 }));
