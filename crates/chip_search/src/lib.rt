@@ -27,7 +27,10 @@ mod starts_at;
 mod trimming;
 pub mod walk;
 mod weaving;
+mod widened;
+mod wider_rows;
 
 pub use effort::Effort;
 pub use finding::{Found, search};
 pub use row_slots::find_slots;
+pub use wider_rows::find_wider;

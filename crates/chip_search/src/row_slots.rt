@@ -18,7 +18,7 @@ const MOST_ELEMENTS: u64 = 2_000_000;
 const TURNS: u32 = 6;
 
 /// The chip of a net in rows with its cells placed: packed as they stand, where no start is better.
-fn place_rows(work: &mut Work, made: &RowChip, effort: Effort) -> Result<Candidate, Memory> {
+pub(crate) fn place_rows(work: &mut Work, made: &RowChip, effort: Effort) -> Result<Candidate, Memory> {
     let packed = place_packed(work, 0, &made.chip, TURNS, effort)?;
     if packed.missing == 0 {
         return Ok(packed);
@@ -37,7 +37,7 @@ fn place_rows(work: &mut Work, made: &RowChip, effort: Effort) -> Result<Candida
 }
 
 /// Whether the cells and wires are too many to be drawn.
-fn is_too_large(chip: &Chip) -> bool {
+pub(crate) fn is_too_large(chip: &Chip) -> bool {
     let wires = (chip.wires.len() as u64).saturating_mul(5);
     wires.saturating_add(u64::from(chip.count())) > MOST_ELEMENTS
 }

@@ -2,10 +2,12 @@
 use Rattle.std.proofs.Common.{ℕ, ◌≤◌, ◌<◌, ◌^◌, List, refl, sym, ap, subst, ◌∙◌, inl, inr, le_refl, arith}
 use Rattle.std.specs.Prelude.{◌≢◌}
 use Rattle.blif_read.specs.Parts.{NetView}
-use Rattle.rowed.specs.RowNets.{RowView}
+use Rattle.circuit.specs.SameAnswers.{SameAnswers}
+use Rattle.rowed.specs.RowNets.{RowView, IsAnswer}
 use Rattle.rowed.specs.PlacedNets.{PlacedView, IsPlaced}
 use Rattle.rowed.specs.Counts.{cells_in}
 use Rattle.row_place.specs.Arranged.{IsArranged}
+use Rattle.placement_check.specs.Wider.{IsWider}
 use Rattle.plan_draw.specs.Packs.{pack}
 use Rattle.cell_rows.proofs.Answered.{same_answers}
 use Rattle.cell_library.specs.Library.{LibraryView}
@@ -25,20 +27,26 @@ use Rattle.plan_draw.proofs.OneChip.{one_rows, chip_or_refusal}
 
 pub is_standing : (rows : RowView) (slots : List (List ℕ)) (placed : PlacedView) → IsArranged rows slots placed
     → IsStanding rows placed
-is_standing rows slots placed arranged = record { slots = slots; arranged = arranged }
+is_standing rows slots placed arranged =
+    record { keeps = arranged.keeps; same = arranged.same; stands = inr (inl (slots, arranged)) }
 
-pub ruleset standing = (is_standing)
+pub wider_stands : (rows : RowView) (placed : PlacedView) → IsPlaced placed
+    → SameAnswers rows.inputs placed.net.inputs rows.outputs placed.net.outputs (IsAnswer rows) (IsAnswer placed.net)
+    → IsWider rows placed.net → IsStanding rows placed
+wider_stands rows placed keeps same wider = record { keeps = keeps; same = same; stands = inr (inr wider) }
+
+pub ruleset standing = (is_standing, wider_stands)
 
 -- cells that stand in the rows of a netlist of cells are a placed net that answers as the netlist
 pub standing_keeps : (rows : RowView) (placed : PlacedView) → IsStanding rows placed → IsPlaced placed
-standing_keeps rows placed stands = stands.arranged.keeps
+standing_keeps rows placed stands = stands.keeps
 
 pub standing_answers : (l : LibraryView) (net : NetView) (rows : RowView) (placed : PlacedView)
     → AreCellRows l net rows → IsStanding rows placed → AnswersAs net placed
 standing_answers l net rows placed of_net stands =
     let cells : AnswersAs net (pack rows) =
     subst (AnswersAs net) (sym (ap pack of_net.rows_are.rows_are)) (same_answers of_net.rows_are.cells) in
-    same_then _ _ _ _ _ _ _ _ _ cells stands.arranged.same
+    same_then _ _ _ _ _ _ _ _ _ cells stands.same
 
 pub is_found : (l : LibraryView) (net : NetView) (rows : RowView) (placed chip : PlacedView)
     → AreCellRows l net rows → IsStanding rows placed → IsDrawable l net placed chip → IsFoundChip l net chip
@@ -87,7 +95,7 @@ found_is_drawn l net chip found no_larger = record {
   rows = found.rows;
   of_net = found.of_net;
   placed = found.placed;
-  stands = inr (found.stands.slots, found.stands.arranged);
+  stands = found.stands.stands;
   is_chip = found.drawable.is_chip;
   few = found.drawable.few;
   no_larger = no_larger;

@@ -1,11 +1,12 @@
--- The chip that is drawn of a netlist of cells: its rows packed, or at slots that a search has found, with rows of
--- repeaters. It has no more cells than the packed one, if that keeps its limits.
+-- The chip that is drawn of a netlist of cells: its rows packed, or at slots that a search has found, or those of a
+-- wider net, with rows of repeaters. It has no more cells than the packed one, if that keeps its limits.
 use Rattle.std.specs.Prelude.{◌≡◌, ℕ, ◌≤◌, ◌⊎◌, List}
 use Rattle.blif_read.specs.Parts.{NetView}
 use Rattle.rowed.specs.RowNets.{RowView}
 use Rattle.rowed.specs.PlacedNets.{PlacedView}
 use Rattle.rowed.specs.Counts.{cells_in}
 use Rattle.row_place.specs.Arranged.{IsArranged}
+use Rattle.placement_check.specs.Wider.{IsWider}
 use Rattle.plan_draw.specs.Packs.{pack}
 use Rattle.repeater_rows.specs.Repeaters.{repeated}
 use Rattle.cell_library.specs.Library.{LibraryView}
@@ -13,9 +14,11 @@ use Rattle.cell_library.specs.Reach.{reach_of}
 use Rattle.layout_make.specs.Size.{element_number, element_limit}
 use Rattle.plan_draw.specs.CellPlans.{AreCellRows, chip_of_rows, KeepsSize}
 
--- the rows stand packed, or at slots that a search has found
+-- the rows stand packed, or at slots that a search has found, or in a wider net: with buffers in added rows, so that
+-- each output leads through such buffers alone to the use that the netlist names, and constants in any row
 abbrev pub IsPlacingOf : RowView → PlacedView → Type 0
-IsPlacingOf rows placed = (placed ≡ pack rows) ⊎ ((slots : List (List ℕ)) × IsArranged rows slots placed)
+IsPlacingOf rows placed =
+    (placed ≡ pack rows) ⊎ ((slots : List (List ℕ)) × IsArranged rows slots placed) ⊎ IsWider rows placed.net
 
 -- this is a chip of a netlist of cells, which has few enough elements to be drawn
 pub record IsDrawnChip (l : LibraryView) (net : NetView) (chip : PlacedView) : Type 0 where

@@ -35,10 +35,10 @@ fn smaller(_library: &Library, _net: &Netlist, found: Placed, packed: Placed) ->
 
 /// The chip that is drawn of a netlist of cells with a library: its cells as they stand, in the rows of their levels,
 /// with rows of repeaters where wires are too long for the library. In each row the cells stand packed from slot 0 in
-/// the order of the text, or else as a search has placed them, where that chip has at most as many cells or the packed
-/// one passes a limit. The chip can be drawn, and answers every word as the netlist does. A netlist that is none of
-/// cells is refused with its first fault; another refusal says which limit the packed chip passes, and with which
-/// number, or that memory is wanting.
+/// the order of the text, or else as a search has placed them, which may have added rows of buffers and let constants
+/// stand in them, where that chip has at most as many cells or the packed one passes a limit. The chip can be drawn,
+/// and answers every word as the netlist does. A netlist that is none of cells is refused with its first fault; another
+/// refusal says which limit the packed chip passes, and with which number, or that memory is wanting.
 #[tactic(auto, using(crate::proofs::DrawnRows::chosen))]
 pub fn draw_cells(
     alloc: Global,

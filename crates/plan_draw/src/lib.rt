@@ -1,5 +1,5 @@
-//! The plan of a netlist of cells: its cells as they stand, in rows by level, packed in the order of the text or at
-//! slots that a search has found, with rows of repeaters.
+//! The plan of a netlist of cells: its cells as they stand, in rows by level, packed in the order of the text, at slots
+//! that a search has found or wider by rows that it has added, with rows of repeaters.
 #![tactic(auto)]
 
 mod drawn;

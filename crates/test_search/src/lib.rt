@@ -7,3 +7,5 @@ mod chips;
 mod drafts;
 #[cfg(test)]
 mod graphs;
+#[cfg(test)]
+mod wider;
