@@ -11,11 +11,30 @@ use aq_base::Memory;
 /// A draft has at most so many cells.
 pub const MOST_CELLS: u64 = 2_000_000;
 
+/// A placed chip of more cells, missing ones counted, is given up: a drawing has at most 2,000,000 elements, some 330,000
+/// cells, and what is done to a chip afterwards seldom leaves out two cells of five.
+const MOST_PLACED: u64 = 1_000_000;
+
 /// So many cells are woven at most.
 const MOST_WOVEN: u64 = 500_000;
 
 /// Where wires may move fewer slots, rows are always woven too.
 const SHORT_LIMIT: u32 = 4;
+
+/// A first start with more cells, missing ones counted, is given up: other starts, and trees that know positions, seldom
+/// leave out three cells of four.
+const MOST_STARTED: u64 = 3_000_000;
+
+/// Whether a placed chip of so many cells, missing ones counted, is too large to go on with. None is where wires may
+/// move few slots: much more is left out there afterwards.
+fn is_hopeless(total: u64, move_limit: u32) -> bool {
+    move_limit >= SHORT_LIMIT && total > MOST_PLACED
+}
+
+/// Whether a chip that a first start gives so many cells, missing ones counted, is too large to try others.
+pub fn is_hopeless_start(total: u64, move_limit: u32) -> bool {
+    move_limit >= SHORT_LIMIT && total > MOST_STARTED
+}
 
 /// Rows are left out and added so often between two searches for exact slots.
 const SPARE_TRIMS: u32 = 4;
@@ -168,6 +187,9 @@ fn finish_short(
 
 /// The candidate with added rows: woven ones too where wires may move little or rows that are wanted are not enough.
 pub fn finish(work: &mut Work, candidate: Candidate, effort: Effort) -> Result<Candidate, Memory> {
+    if is_hopeless(candidate.total, work.move_limit) {
+        return Ok(candidate);
+    }
     if candidate.missing == 0 || !effort.weaves {
         return grow_pulled(work, candidate, MOST_CELLS, effort);
     }
@@ -233,6 +255,9 @@ fn trim_often(
 /// The candidate with rows of buffers left out, as far as that takes cells away: some of them left out and others
 /// added, then those that the orders of cells do not need, by turns.
 pub fn trim(work: &mut Work, candidate: Candidate, effort: Effort) -> Result<Candidate, Memory> {
+    if is_hopeless(candidate.total, work.move_limit) {
+        return Ok(candidate);
+    }
     let mut best = trim_often(work, candidate, effort.trims, effort)?;
     for turn in 0..effort.spares {
         if turn > 0 {

@@ -18,7 +18,11 @@ const MOST_ELEMENTS: u64 = 2_000_000;
 const TURNS: u32 = 6;
 
 /// The chip of a net in rows with its cells placed: packed as they stand, where no start is better.
-pub(crate) fn place_rows(work: &mut Work, made: &RowChip, effort: Effort) -> Result<Candidate, Memory> {
+pub(crate) fn place_rows(
+    work: &mut Work,
+    made: &RowChip,
+    effort: Effort,
+) -> Result<Candidate, Memory> {
     let packed = place_packed(work, 0, &made.chip, TURNS, effort)?;
     if packed.missing == 0 {
         return Ok(packed);

@@ -3,6 +3,7 @@ use crate::arrays::narrow;
 use crate::candidate::{Candidate, Work, better};
 use crate::chip::Chip;
 use crate::effort::Effort;
+use crate::growing::is_hopeless_start;
 use crate::places::Places;
 use aq_base::Memory;
 
@@ -88,7 +89,7 @@ fn place_from(
     take_turns(work, settled, turns, effort)
 }
 
-/// The chip with the best of some starts.
+/// The chip with the best of some starts; the first one alone where that is hopeless.
 fn place_once(
     work: &mut Work,
     graph: usize,
@@ -99,6 +100,9 @@ fn place_once(
     let turns = hints.turns;
     let down = Start::Down(hints.outputs);
     let mut best = place_from(work, graph, chip, down, turns, effort)?;
+    if is_hopeless_start(best.total, work.move_limit) {
+        return Ok(best);
+    }
     if best.missing > 0 {
         let up = place_from(work, graph, chip, Start::Up, turns, effort)?;
         best = better(best, up);
@@ -135,7 +139,8 @@ pub(crate) fn place(
     let mut sharp = effort;
     sharp.smooth_sweeps = 0;
     let first = place_once(work, graph, chip, hints, sharp)?;
-    if first.missing == 0 || effort.smooth_sweeps == 0 {
+    let is_done = first.missing == 0 || is_hopeless_start(first.total, work.move_limit);
+    if is_done || effort.smooth_sweeps == 0 {
         return Ok(first);
     }
     let second = place_once(work, graph, chip, hints, effort)?;

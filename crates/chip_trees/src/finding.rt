@@ -13,7 +13,7 @@ use chip_search::chip::Chip;
 use chip_search::drafts::make_draft;
 use chip_search::effort::{Effort, Steps};
 use chip_search::graph::{GraphParts, turn};
-use chip_search::growing::{MOST_CELLS, finish, trim};
+use chip_search::growing::{MOST_CELLS, finish, is_hopeless_start, trim};
 use chip_search::signs::sign;
 use circuit::CellKind;
 use mig::Graph;
@@ -156,10 +156,10 @@ impl Task {
         Ok(known)
     }
 
-    /// The positions of the best of some starts.
+    /// The positions of the best of some starts; of the first one alone where that is hopeless.
     fn start(self, work: &mut Work, trees: &mut Trees, pool: &mut Pool) -> Result<Known, Memory> {
         let mut best = self.arrange(work, trees, Start::Down, pool)?;
-        if best.missing == 0 {
+        if best.missing == 0 || is_hopeless_start(best.total, work.move_limit) {
             return Ok(best);
         }
         let up = self.arrange(work, trees, Start::Up, pool)?;
@@ -245,7 +245,7 @@ impl Task {
         let cells = u32::try_from(trees.cells()?).unwrap_or(u32::MAX);
         work.steps = Steps::new(&self.effort, cells);
         let start = self.start(work, &mut trees, pool)?;
-        if start.missing > 0 {
+        if start.missing > 0 && !is_hopeless_start(start.total, work.move_limit) {
             self.approach(work, trees, start, pool, random)?;
         }
         Ok(())
