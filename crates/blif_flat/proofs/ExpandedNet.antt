@@ -252,11 +252,14 @@ module _ (models : List BlifModel) (sound : IsSound (length models) models (firs
       (subst (DesignAnswers models (map (w 0) inputs)) shown
       (means_from_wires models w (length models) 0 (first_model models) sound held))
 
-pub net_means : (models : List BlifModel) → IsBuildable models → NetMeans models (expansion models)
+pub sound_means : (models : List BlifModel) → IsSound (length models) models (first_model models)
+    → NetMeans models (expansion models)
 unfolding expansion
-net_means models ok word answer size =
-    let sound = first_is_sound models ok.laid_out (some_model models ok.some_output) in
-    (to_net models sound word answer, to_design models sound word answer size)
+sound_means models sound word answer size = (to_net models sound word answer, to_design models sound word answer size)
+
+pub net_means : (models : List BlifModel) → IsBuildable models → NetMeans models (expansion models)
+net_means models ok =
+    sound_means models (first_is_sound models ok.laid_out (some_model models ok.some_output))
 
 pub said_means : (text : List ℕ) (net : NetView) → is_design (logical_lines text) ≡ true → SaysNetlist text net
     → OfModels text (λ models. NetMeans models net)

@@ -178,7 +178,7 @@ module _ (models : List BlifModel) (call : Call) (apart : AreApart (formals call
 
 -- ---- what a model keeps where no line has a fault
 
-flat_names : {X : Type 0} (f : X → List Named) (g : X → List (List ℕ))
+pub flat_names : {X : Type 0} (f : X → List Named) (g : X → List (List ℕ))
     → ((x : X) → names_in (f x) ≡ g x) → (xs : List X)
     → names_in (flat_map f xs) ≡ flat_map g xs
 flat_names f g same [] = refl

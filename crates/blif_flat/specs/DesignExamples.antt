@@ -1,20 +1,13 @@
 -- Small designs, for the laws that compute their netlists: a half adder in a call, a call inside a call, and a model
 -- that calls itself.
 use Rattle.std.specs.Prelude.{ℕ, true, List, [], ◌∷◌, ◌++◌, codes, map}
-use Rattle.blif_read.specs.Lines.{logical_lines}
-use Rattle.blif_read.specs.Models.{parts_of, model_of}
 use Rattle.blif_read.specs.declared.netlist.Cube.{Cube}
 use Rattle.blif_read.specs.declared.netlist.Def.{Def}
-use Rattle.blif_read.specs.declared.models.BlifModel.{BlifModel}
 
--- a text of some lines, and the models that its lines say
+-- a text of some lines
 abbrev pub text_of : List (List ℕ) → List ℕ
 text_of [] = []
 text_of (line ∷ lines) = line ++ 10 ∷ text_of lines
-
--- the models that a text says, whether or not they have faults
-abbrev pub models_in : List ℕ → List BlifModel
-models_in text = map model_of (parts_of (logical_lines text))
 
 -- a definition of a signal that is true at these planes of these signals
 abbrev pub cube_of : List ℕ → Cube

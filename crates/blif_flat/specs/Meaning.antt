@@ -5,6 +5,8 @@ use Rattle.std.specs.Prelude.{slice_index_or}
 use Rattle.std.specs.List.{list_any, position_or_len, AllByRecursion}
 use Rattle.std.specs.Str.{bytes_eq}
 use Rattle.blif_read.specs.Equations.{takes}
+use Rattle.blif_read.specs.Lines.{logical_lines}
+use Rattle.blif_read.specs.Models.{is_design, parts_of, model_of}
 use Rattle.blif_read.specs.declared.models.Call.{Call}
 use Rattle.blif_read.specs.declared.models.NamedDef.{NamedDef}
 use Rattle.blif_read.specs.declared.models.BlifModel.{BlifModel}
@@ -56,3 +58,22 @@ Means (suc steps) models model word answer = AnswersBy (Means steps models) mode
 -- there are
 abbrev pub DesignAnswers : List BlifModel → List Bool → List Bool → Type 0
 DesignAnswers models word answer = Means (length models) models (first_model models) word answer
+
+-- the models that a text says; without calls, and with one `.model` at most, it is one model as a whole
+abbrev pub models_in : List ℕ → List BlifModel
+models_in text = elim (is_design (logical_lines text)) [
+  | true ↦ map model_of (parts_of (logical_lines text))
+  | false ↦ model_of (logical_lines text) ∷ []
+]
+
+-- how many inputs a text has: those of its first model
+abbrev pub inputs_of : List ℕ → ℕ
+inputs_of text = length (first_model (models_in text)).inputs
+
+-- how many outputs it has
+abbrev pub outputs_of : List ℕ → ℕ
+outputs_of text = length (first_model (models_in text)).outputs
+
+-- what a text answers: what the first of its models does
+abbrev pub TextAnswers : List ℕ → List Bool → List Bool → Type 0
+TextAnswers text = DesignAnswers (models_in text)

@@ -1,5 +1,6 @@
 // The laws of written netlists and of designs. The functions do nothing.
 ghost use Rattle.std.specs.Prelude.{◌≡◌, ◌≢◌, ◌≤◌, ◌^◌, ℕ, true, List, [], ◌∷◌, map, length, codes, Some, None};
+ghost use Rattle.blif_read.specs.Equations.{IsAnswer};
 ghost use Rattle.blif_read.specs.Lines.{logical_lines};
 ghost use Rattle.blif_read.specs.Netlist.{IsNetlist};
 ghost use Rattle.blif_read.specs.Parts.{NetView};
@@ -11,7 +12,9 @@ ghost use Rattle.blif_flat.specs.DesignText.{is_design, IsBuildable, IsNetlistRe
 ghost use Rattle.blif_flat.specs.Expansion.{expansion, wires, told_name};
 ghost use Rattle.blif_flat.specs.declared.design.FlatRefusal.{FlatRefusal};
 ghost use Rattle.blif_flat.specs.declared.design.FlatRefusal.TheVariants.{Memory};
+ghost use Rattle.blif_flat.specs.Meaning.{models_in, inputs_of, outputs_of, TextAnswers};
 ghost use Rattle.blif_flat.specs.NetMeaning.{NetMeans};
+ghost use Rattle.circuit.specs.SameAnswers.{SameAnswers};
 ghost use Rattle.circuit_extracted.specs.Circuits.{CircuitView, KeepsFacts};
 ghost use Rattle.blif_flat.specs.Written.{AnswersAsWritten};
 
@@ -44,23 +47,31 @@ pub fn design_answers()
         → OfModels text (λ models. NetMeans models net) }
 {}
 
+/// The netlist that a text says answers each word as the first of the text's models does, of which it has the numbers of
+/// inputs and outputs. A text without calls and with one `.model` at most is one model.
+pub fn netlist_answers()
+    ensures { (text : List ℕ) (net : NetView) → SaysNetlist text net
+        → SameAnswers (inputs_of text) net.inputs (outputs_of text) (length net.outputs) (TextAnswers text)
+        (IsAnswer net) }
+{}
+
 /// A half adder in a call: buffers into the call, its two definitions, and buffers out of it. A call inside the first
 /// of two calls has number 2, and the second has number 3. A model that calls itself does so in line 4.
 pub fn worked_designs()
-    ensures names { (expansion (examples.models_in examples.half_adder)).names ≡ codes "a" ∷ codes "b" ∷ codes "#2"
+    ensures names { (expansion (models_in examples.half_adder)).names ≡ codes "a" ∷ codes "b" ∷ codes "#2"
         ∷ codes "#3" ∷ codes "#4" ∷ codes "#5" ∷ codes "s" ∷ codes "c" ∷ [] }
-    ensures told { map told_name (wires (examples.models_in examples.half_adder)) ≡ codes "a" ∷ codes "b"
+    ensures told { map told_name (wires (models_in examples.half_adder)) ≡ codes "a" ∷ codes "b"
         ∷ codes "#1.x" ∷ codes "#1.y" ∷ codes "#1.p" ∷ codes "#1.q" ∷ codes "s" ∷ codes "c" ∷ [] }
-    ensures defs { (expansion (examples.models_in examples.half_adder)).defs
+    ensures defs { (expansion (models_in examples.half_adder)).defs
         ≡ examples.def_at 4 (0 ∷ []) (codes "1" ∷ []) ∷ examples.def_at 4 (1 ∷ []) (codes "1" ∷ [])
         ∷ examples.def_at 9 (2 ∷ 3 ∷ []) (codes "10" ∷ codes "01" ∷ [])
         ∷ examples.def_at 12 (2 ∷ 3 ∷ []) (codes "11" ∷ [])
         ∷ examples.def_at 4 (4 ∷ []) (codes "1" ∷ []) ∷ examples.def_at 4 (5 ∷ []) (codes "1" ∷ []) ∷ [] }
-    ensures outputs { (expansion (examples.models_in examples.half_adder)).outputs ≡ 6 ∷ 7 ∷ [] }
-    ensures size { design_size (examples.models_in examples.half_adder) ≡ 32 }
-    ensures nested { map told_name (wires (examples.models_in examples.nested)) ≡ codes "a" ∷ codes "#1.i"
+    ensures outputs { (expansion (models_in examples.half_adder)).outputs ≡ 6 ∷ 7 ∷ [] }
+    ensures size { design_size (models_in examples.half_adder) ≡ 32 }
+    ensures nested { map told_name (wires (models_in examples.nested)) ≡ codes "a" ∷ codes "#1.i"
         ∷ codes "#2.i" ∷ codes "#2.o" ∷ codes "#1.o" ∷ codes "t" ∷ codes "#3.i" ∷ codes "#3.o" ∷ codes "y" ∷ [] }
-    ensures straight { loop_of (examples.models_in examples.nested) ≡ None }
-    ensures itself { loop_of (examples.models_in examples.calls_itself) ≡ Some (0 ∷ []) }
-    ensures in_line { loop_line (examples.models_in examples.calls_itself) (0 ∷ []) ≡ 4 }
+    ensures straight { loop_of (models_in examples.nested) ≡ None }
+    ensures itself { loop_of (models_in examples.calls_itself) ≡ Some (0 ∷ []) }
+    ensures in_line { loop_line (models_in examples.calls_itself) (0 ∷ []) ≡ 4 }
 {}

@@ -11,6 +11,8 @@ mod writing;
 
 pub use design::{FlatKind, FlatRefusal};
 pub use gds_records::WriteRefusal as WriteBlifRefusal;
-pub use laws::{design_answers, each_design, one_refusal, worked_designs, written_answers};
+pub use laws::{
+    design_answers, each_design, netlist_answers, one_refusal, worked_designs, written_answers,
+};
 pub use reading::read_design;
 pub use writing::writer::write_blif;

@@ -11,6 +11,7 @@ use Rattle.cell_library.specs.declared.fault.LibraryFault.{LibraryFault}
 use Rattle.cell_library.specs.declared.fault.LibraryFault.TheVariants.{Text, Law}
 use Rattle.cell_library.specs.declared.fault.LibraryRefusal.{LibraryRefusal}
 use Rattle.cell_library.specs.declared.fault.LibraryRefusal.TheVariants.{Bad, Memory}
+use Rattle.layout_rules.specs.Limits.{Limits}
 use Rattle.cell_library.specs.Kinds.{all_kinds, key_of}
 use Rattle.cell_library.specs.Library.{LibraryView}
 use Rattle.cell_library.specs.Laws.{Holds, BreaksFirst}
@@ -57,6 +58,17 @@ library_of ms = record {
   pins = map (pins_under ms) all_kinds;
 }
 
+-- the numbers that the rules of geometry read, as a table gives them; a number that is not there counts as 0
+abbrev pub limits_in : Members → Limits
+limits_in ms = record {
+  wire = number_under ms (codes "wire");
+  space = number_under ms (codes "space");
+  via = number_under ms (codes "via");
+  enclose = number_under ms (codes "enclose");
+  pin = number_under ms (codes "pin");
+  limit = number_under ms (codes "limit");
+}
+
 -- the text is a document of this table
 pub record IsDocument (text : List ℕ) (table : Members) : Type 0 where
   pub utf8 : IsUtf8 text
@@ -65,6 +77,12 @@ pub record IsDocument (text : List ℕ) (table : Members) : Type 0 where
 -- the text is no document
 abbrev pub IsRefused : List ℕ → Type 0
 IsRefused text = IsUtf8 text → parse_document text ≡ None
+
+-- the text is a document that gives the rules these numbers
+pub record SaysLimits (text : List ℕ) (limits : Limits) : Type 0 where
+  pub table : Members
+  pub document : IsDocument text table
+  pub values : limits ≡ limits_in table
 
 -- the text says this library
 pub record SaysLibrary (text : List ℕ) (library : LibraryView) : Type 0 where

@@ -17,4 +17,4 @@ pub use fault::{LibraryFault, LibraryRefusal};
 pub use kinds::kind_key;
 pub use library::Library;
 pub use read::read_library;
-pub use said::each_library;
+pub use said::{each_library, limits_are_said};

@@ -1,15 +1,16 @@
 -- What the bytes of the first chip realise: each word of one bit is its own answer, of the netlist and of the circuit.
 use Rattle.std.proofs.Common.{◌≡◌, ℕ, zero, suc, ◌-◌, ◌<◌, Bool, false, List, [], ◌∷◌, length}
 use Rattle.std.proofs.Common.{refl, sym, ap, subst, arith}
-use Rattle.std.specs.Prelude.{All, slice_index_or}
+use Rattle.std.specs.Prelude.{slice_index_or}
 use Rattle.std.specs.List.{AllZip, AllByRecursion}
 use Rattle.std.proofs.lemmas.List.Elements.{recursion_from_All}
 use Rattle.std.proofs.lemmas.Option.{same_Some}
 use Rattle.geom.specs.declared.shapes.Flat.{Flat}
 use Rattle.geom.specs.FirstChip.{first_layout, first_flat}
 use Rattle.geom.specs.FlatForm.{flat_of}
+use Rattle.geom.specs.Writable.{IsWritable}
 use Rattle.gds_records.specs.FirstChip.{first_bytes}
-use Rattle.gds_records.specs.Stream.{IsStream}
+use Rattle.gds_records.specs.Writing.{bytes_of}
 use Rattle.layout_rules.specs.FirstLimits.{first_limits}
 use Rattle.layout_rules.specs.Rules.{KeepsRules}
 use Rattle.blif_read.specs.Equations.{IsAnswer}
@@ -20,7 +21,6 @@ use Rattle.circuit_extracted.specs.Answers as circuits
 use Rattle.circuit_extracted.specs.Circuits.{CircuitView, KeepsFacts}
 use Rattle.circuit_extracted.specs.FirstCircuit.{lower_buffer, upper_buffer, first_circuit}
 use Rattle.shape_extract.specs.Extraction.{IsCircuitOf}
-use Rattle.pulse_sim.specs.Shows.{Shows}
 use Rattle.pulse_sim.specs.Clocked.{ShowsByClocks}
 use Rattle.layout_realises.specs.Realises.{Realises}
 use Rattle.example_first_chip.specs.Wire.{wire}
@@ -28,11 +28,11 @@ use Rattle.example_first_chip.specs.Wire.{wire}
 -- what lower crates say of the first chip, and of every circuit
 pub record LowerLaws : Type 0 where
   pub flat : flat_of first_layout ≡ first_flat
-  pub stream : IsStream first_bytes first_layout
+  pub writable : IsWritable first_layout
+  pub bytes : bytes_of first_layout ≡ first_bytes
   pub rules : KeepsRules first_flat first_limits
   pub keeps : KeepsFacts first_circuit
   pub extracted : IsCircuitOf first_flat first_circuit
-  pub shows : (words : List (List Bool)) → All (λ word. length word ≡ 1) words → Shows first_circuit 1 words words
   pub by_clocks : (circuit : CircuitView) (words answers : List (List Bool)) → KeepsFacts circuit
       → AllZip (circuits.IsAnswer circuit) words answers → ShowsByClocks circuit (circuit.rows - 1) words answers
 
@@ -73,7 +73,8 @@ pub realised : LowerLaws → Realises first_bytes (limits_of library_a_view) 1 1
 unfolding first_circuit
 realised laws = record {
   layout = first_layout;
-  stream = laws.stream;
+  writable = laws.writable;
+  stream = sym laws.bytes;
   rules = subst (λ (flat : Flat). KeepsRules flat first_limits) (sym laws.flat) laws.rules;
   extracted = subst (λ (flat : Flat). IsCircuitOf flat first_circuit) (sym laws.flat) laws.extracted;
   input_count = refl;
@@ -83,7 +84,6 @@ realised laws = record {
       record {
         replies = words;
         are_answers = each_word (IsAnswer wire) net_answer words each;
-        shows = laws.shows words wide;
         by_clocks = laws.by_clocks first_circuit words words laws.keeps
             (each_word (circuits.IsAnswer first_circuit) circuit_answer words each);
       };

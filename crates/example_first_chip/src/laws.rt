@@ -23,10 +23,10 @@ ghost use Rattle.example_first_chip.specs.Wire.{wire, wire_gates, wire_rows};
 
 use circuit_extracted::first_circuit_keeps;
 use gds_records::first_chip_is_stream;
-use geom::first_chip_flat;
+use geom::{first_chip_flat, first_chip_is_writable};
 use layout_make::worked_chips;
 use layout_rules::laws::first_chip_keeps_rules;
-use pulse_sim::{every_clock, first_chip_shows};
+use pulse_sim::every_clock;
 use shape_extract::first_chip_extracted;
 
 /// The text of library A says the numbers and pins of library A.
@@ -53,9 +53,8 @@ pub fn wire_is_planned()
 {}
 
 /// The drawing of this chip is the first chip's layout, whose stream are these 1,046 bytes. They realise the netlist
-/// with library A: the stream's shapes keep all rules, and their circuit, two buffers, has one input and one output and
-/// shows the netlist's answer to each word one tick after it entered, in every order of switching and by every clock
-/// whose windows keep clear.
+/// with library A: the layout's shapes keep all rules, and their circuit, two buffers, has one input and one output and
+/// shows the netlist's answer to each word one beat after it entered, by every clock whose windows keep clear.
 pub fn first_chip_realises()
     ensures layout { draw (chip_of library_a_view wire) library_a_view ≡ first_layout }
     ensures bytes { bytes_of first_layout ≡ first_bytes }
@@ -64,10 +63,10 @@ pub fn first_chip_realises()
     wire_is_planned();
     worked_chips();
     first_chip_flat();
+    first_chip_is_writable();
     first_chip_is_stream();
     first_chip_keeps_rules();
     first_circuit_keeps();
     first_chip_extracted();
-    first_chip_shows();
     every_clock();
 }

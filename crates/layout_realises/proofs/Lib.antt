@@ -4,6 +4,7 @@ pub mod CircuitAnswers
 pub mod CircuitDrawn
 pub mod DrawnKeeps
 pub mod RealisesAs
+pub mod ShownByTicks
 pub mod Counts
 pub mod Bytes
 pub mod Wires

@@ -1,11 +1,10 @@
 -- The drawing of a net realises it.
-use Rattle.std.proofs.Common.{◌≡◌, ℕ, suc, ◌+◌, ◌*◌, ◌-◌, ◌<◌, ◌≤◌, ◌^◌, refl, sym, ap, ◌∙◌, arith, Bool, List, [], ◌∷◌}
+use Rattle.std.proofs.Common.{◌≡◌, ℕ, suc, ◌+◌, ◌*◌, ◌-◌, ◌<◌, ◌≤◌, ◌^◌, refl, ap, ◌∙◌, arith, Bool, List, [], ◌∷◌}
 use Rattle.std.proofs.Common.{length, count_by, All}
 use Rattle.std.specs.List.{AllZip}
 use Rattle.std.proofs.lemmas.List.{length-map}
 use Rattle.cell_library.specs.Library.{LibraryView, limits_of}
-use Rattle.gds_records.specs.Stream.{IsStream}
-use Rattle.gds_records.specs.Writing.{bytes_of}
+use Rattle.geom.specs.Writable.{IsWritable}
 use Rattle.geom.specs.declared.shapes.Flat.{Flat}
 use Rattle.geom.specs.declared.shapes.Label.{Label}
 use Rattle.layout_rules.specs.declared.rule.Rule.TheVariants.{E1, E2, E3, E4, E6}
@@ -19,7 +18,6 @@ use Rattle.circuit_extracted.specs.Answers as extracted
 use Rattle.circuit_extracted.specs.Circuits.{CircuitView, KeepsFacts}
 use Rattle.shape_extract.specs.Extraction.{is_wired, IsCircuitOf}
 use Rattle.shape_extract.specs.Extracts.{KeepsFive}
-use Rattle.pulse_sim.specs.Shows.{Shows}
 use Rattle.pulse_sim.specs.Clocked.{ShowsByClocks}
 use Rattle.layout_make.specs.Draw.{draw, top_elements}
 use Rattle.layout_make.specs.CellsAreDrawn.{CellsAreDrawn}
@@ -47,14 +45,11 @@ pub record CrateLaws (p : PlacedView) (l : LibraryView) : Type 0 where
   pub rules : KeepsRules (flat p l) (limits_of l)
   pub cells : CellsAreDrawn p l
   pub size : length (top_elements p l) ≡ element_number p
-  pub stream : IsStream (bytes_of (draw p l)) (draw p l)
+  pub writable : IsWritable (draw p l)
   pub keeps : (flat : Flat) (circuit : CircuitView) → length flat.shapes < 2 ^ 32 → length circuit.cells < 2 ^ 32
       → KeepsFive flat → IsCircuitOf flat circuit → KeepsFacts circuit
   pub answers : (circuit : CircuitView) (word : List Bool) → KeepsFacts circuit
       → (answer : List Bool) × extracted.IsAnswer circuit word answer
-  pub shows : (circuit : CircuitView) (words answers : List (List Bool)) → KeepsFacts circuit
-      → All (λ word. length word ≡ circuit.inputs) words → AllZip (extracted.IsAnswer circuit) words answers
-      → Shows circuit (circuit.rows - 1) words answers
   pub by_clocks : (circuit : CircuitView) (words answers : List (List Bool)) → KeepsFacts circuit
       → AllZip (extracted.IsAnswer circuit) words answers → ShowsByClocks circuit (circuit.rows - 1) words answers
 
@@ -130,8 +125,6 @@ module _ (p : PlacedView) (l : LibraryView) (law : CrateLaws p l) (may : MayDraw
       record {
         replies = all.replies;
         are_answers = all.of_net;
-        shows = law.shows circuit words all.replies keeps (λ k d h. wide k d h ∙ sym drawn.same.same_inputs)
-            all.of_circuit;
         by_clocks = law.by_clocks circuit words all.replies keeps all.of_circuit;
       }
 
@@ -141,7 +134,8 @@ module _ (p : PlacedView) (l : LibraryView) (law : CrateLaws p l) (may : MayDraw
     circuit = circuit;
     realises = record {
       layout = draw p l;
-      stream = law.stream;
+      writable = law.writable;
+      stream = refl;
       rules = law.rules;
       extracted = drawn.circuit_is;
       input_count = drawn.same.same_inputs;

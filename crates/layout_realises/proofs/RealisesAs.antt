@@ -23,6 +23,7 @@ module _ (i j o q : ℕ) (f g : List Bool → List Bool → Type 0) (same : Same
       → Realises bytes limits j q g circuit delay → Realises bytes limits i o f circuit delay
   realises_as bytes limits circuit delay r = record {
     layout = r.layout;
+    writable = r.writable;
     stream = r.stream;
     rules = r.rules;
     extracted = r.extracted;
@@ -33,7 +34,6 @@ module _ (i j o q : ℕ) (f g : List Bool → List Bool → Type 0) (same : Same
         record {
           replies = h.replies;
           are_answers = answers_as words h.replies wide h.are_answers;
-          shows = h.shows;
           by_clocks = h.by_clocks;
         };
   }

@@ -12,9 +12,8 @@ ghost use Rattle.layout_realises.specs.DrawnCircuit.{drawn_circuit, IsDrawnAs};
 ghost use Rattle.layout_realises.specs.RealisesNet.{RealisesNet};
 
 use channel_route::tracks_are_fewest;
-use gds_records::written_is_read;
 use layout_make::drawing_laws;
-use pulse_sim::{every_clock, every_order};
+use pulse_sim::every_clock;
 use shape_extract::{extracted_keeps, one_answer};
 
 /// The circuit of a drawing is the placed net, cell by cell, and answers every word as it does.
@@ -27,20 +26,17 @@ pub fn drawing_circuit()
     tracks_are_fewest();
 }
 
-/// The bytes of the drawing of a net that has no more elements than a chip may have are a stream whose shapes keep
-/// all rules, and whose circuit has the net's rows, cells, wires, inputs and outputs. The circuit shows the net's
-/// answer to every word, one tick later for each row but the lowest, in whatever order the cells of a tick switch, and
-/// by every clock whose windows keep clear at each cell and its feeds. It keeps what every extracted circuit keeps, and
-/// the shapes and bytes are few enough to be read back.
+/// The drawing of a net that has no more elements than a chip may have can be written; its shapes keep all rules, and
+/// its circuit has the net's rows, cells, wires, inputs and outputs. The circuit shows the net's answer to every word,
+/// one beat later for each row but the lowest, by every clock whose windows keep clear at each cell and its feeds. It
+/// keeps what every extracted circuit keeps, and the shapes and bytes are few enough to be read back.
 pub fn drawn_chip_realises()
     ensures chip { (p : PlacedView) (l : LibraryView) → MayDraw p l → element_number p ≤ element_limit
         → RealisesNet p l }
 {
     tracks_are_fewest();
     drawing_laws();
-    written_is_read();
     extracted_keeps();
     one_answer();
-    every_order();
     every_clock();
 }

@@ -3,7 +3,7 @@ use Rattle.std.proofs.Common.{◌≡◌, ℕ, zero, suc, ◌+◌, ◌*◌, ◌/�
 use Rattle.std.proofs.Common.{Option, Some, refl, ap, subst, ◌∙◌, arith, slice_get, All, Contains}
 use Rattle.std.specs.List.{AllZip, AllByRecursion}
 use Rattle.std.proofs.lemmas.List.{length-replicate, length-map}
-use Rattle.std.proofs.lemmas.List.Elements.{All-from_recursion}
+use Rattle.std.proofs.lemmas.List.Elements.{All-from_recursion, recursion_from_All}
 use Rattle.rowed.specs.declared.source.Source.{Source}
 use Rattle.circuit_extracted.specs.declared.cells.Feed.{Feed}
 use Rattle.circuit_extracted.specs.declared.cells.Feed.TheVariants.{Pin}
@@ -17,7 +17,7 @@ use Rattle.pulse_sim.specs.Events.{Event, Happens}
 use Rattle.pulse_sim.specs.Ticks.{due_from}
 use Rattle.pulse_sim.specs.Runs.{IsRun, IsLegalRun}
 use Rattle.pulse_sim.specs.Shows.{Shows}
-use Rattle.pulse_sim.specs.Clocked.{events_of, idle_of}
+use Rattle.pulse_sim.specs.Clocked.{events_of, idle_of, ShowsByClocks}
 use Rattle.pulse_sim.proofs.Due.{IsDue, each_due, Happen-length, still}
 use Rattle.pulse_sim.proofs.Skews.{shown}
 use Rattle.pulse_sim.proofs.TickHistories.{in_turn, legal_skewed, ticks_show}
@@ -91,19 +91,28 @@ each_wide circuit (word ∷ words) (answer ∷ answers) all = (
   each_wide circuit words answers all.1,
 )
 
-pub shows : (circuit : CircuitView) (words answers : List (List Bool)) → KeepsFacts circuit
-    → All (λ word. length word ≡ circuit.inputs) words → AllZip (IsAnswer circuit) words answers
-    → Shows circuit (circuit.rows - 1) words answers
-shows circuit words answers ok wide all = record {
-  as_many = zip_length (IsAnswer circuit) words answers all;
-  words_wide = wide;
-  answers_wide = All-from_recursion (λ answer. length answer ≡ length circuit.outputs) answers
-      (each_wide circuit words answers all);
+-- what every clock shows, every run by ticks shows: the rest is said of each circuit
+pub enough : (circuit : CircuitView) (words answers : List (List Bool)) → KeepsFacts circuit
+    → length answers ≡ length words → All (λ word. length word ≡ circuit.inputs) words
+    → All (λ answer. length answer ≡ length circuit.outputs) answers
+    → ShowsByClocks circuit (circuit.rows - 1) words answers → Shows circuit (circuit.rows - 1) words answers
+enough circuit words answers ok as_many words_wide wide by_clocks = record {
+  as_many = as_many;
+  words_wide = words_wide;
+  answers_wide = wide;
   in_phase = λ k source is.
       let below = ok.outputs k source is in
       let p : below.cell.phase ≡ below.cell.row % 4 = (ok.cells source.cell below.cell below.cell_is).phase_is in
       let e : below.cell.row ≡ circuit.rows - 1 = omega (arith, below.just_below) in
       record { cell = below.cell; cell_is = below.cell_is; phase_is = p ∙ ap (λ (r : ℕ). r % 4) e };
-  shown = ticks_show circuit (circuit.rows - 1) words answers ok (each_wide circuit words answers all)
-      (shows_by_clocks circuit words answers ok all);
+  shown = ticks_show circuit (circuit.rows - 1) words answers ok
+      (recursion_from_All (λ answer. length answer ≡ length circuit.outputs) answers wide) by_clocks;
 }
+
+pub shows : (circuit : CircuitView) (words answers : List (List Bool)) → KeepsFacts circuit
+    → All (λ word. length word ≡ circuit.inputs) words → AllZip (IsAnswer circuit) words answers
+    → Shows circuit (circuit.rows - 1) words answers
+shows circuit words answers ok wide all =
+    enough circuit words answers ok (zip_length (IsAnswer circuit) words answers all) wide
+    (All-from_recursion (λ answer. length answer ≡ length circuit.outputs) answers
+    (each_wide circuit words answers all)) (shows_by_clocks circuit words answers ok all)

@@ -17,5 +17,5 @@ pub use travelling::{
     and_has_skew, every_rate, leads_shift_the_skew, rate_is_exact, skew_is_computed,
 };
 pub use without_ticks::{
-    clocks_are_more, every_clock, every_skew, skews_are_more, ticks_are_beats,
+    clocks_are_enough, clocks_are_more, every_clock, every_skew, skews_are_more, ticks_are_beats,
 };

@@ -15,10 +15,10 @@ returns-clause-bytes c = c.first_chip_is_stream.ensures.bytes
 pub returns-clause-realises : goal.returns-clause-realises
 returns-clause-realises c = realised (record {
   flat = c.first_chip_flat.ensures;
-  stream = c.first_chip_is_stream.ensures.stream;
+  writable = c.first_chip_is_writable.ensures;
+  bytes = c.first_chip_is_stream.ensures.bytes;
   rules = c.first_chip_keeps_rules.ensures;
   keeps = c.first_circuit_keeps.ensures;
   extracted = c.first_chip_extracted.ensures.circuit;
-  shows = c.first_chip_shows.ensures;
   by_clocks = c.every_clock.ensures.shows;
 })

@@ -1,4 +1,3 @@
-use Rattle.layout_make.specs.Draw.{draw}
 use Rattle.layout_realises.proofs.Realised.{realises_net}
 use Rattle.layout_realises.proofs.laws.drawn_chip_realises.Goals as goal
 
@@ -9,10 +8,9 @@ returns c = record {
     rules = c.drawing_laws.ensures.rules p l may;
     cells = c.drawing_laws.ensures.cells p l may;
     size = c.drawing_laws.ensures.size p l may.placed;
-    stream = c.written_is_read.ensures (draw p l) (c.drawing_laws.ensures.writable p l may);
+    writable = c.drawing_laws.ensures.writable p l may;
     keeps = c.extracted_keeps.ensures;
     answers = c.one_answer.ensures.some;
-    shows = c.every_order.ensures.shows;
     by_clocks = c.every_clock.ensures.shows;
   }) may few;
 }
