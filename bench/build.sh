@@ -1,7 +1,7 @@
 #!/bin/sh
-# How the time and the memory of `aqfp build` grow with the chip: adders, multipliers, a chain and a wide netlist, each at
-# half and at whole size. Prints for each the counts line, the stored megabytes, milliseconds, megabytes of memory at
-# most, memory over stored bytes, and the ratios of whole size to half. Needs GNU time.
+# How the time and the memory of `aqfp build` grow with the chip: adders, multipliers, a chain and a wide netlist, each
+# at half and at whole size. Prints for each the counts line, the stored megabytes, milliseconds, megabytes of memory at
+# most, memory over stored bytes, and the ratios of whole size to half. Needs GNU time. AQFP names the program.
 set -u
 here=$(cd -P "$(dirname "$0")/.." && pwd)
 work=$(mktemp -d)
@@ -97,9 +97,10 @@ while read -r shape half whole; do
         NR == FNR { bytes = $1; time = $2; memory = $3; next }
         {
             line = $0; sub(/^[^ ]* [^ ]* [^ ]* /, "", line)
-            printf "%s %s: %s: %.1f MB stored, %.1f ms, %.1f MB of memory, %s times the stored bytes", shape, whole, line, \
-                $1 / 1e6, $2 / 1e3, $3 / 1e3, over($3 * 1024, $1)
-            printf "; over size %s: bytes %s, time %s, memory %s\n", half, over($1, bytes), over($2, time), over($3, memory)
+            printf "%s %s: %s: %.1f MB stored, %.1f ms, %.1f MB of memory, %s times the stored bytes", shape, whole, \
+                line, $1 / 1e6, $2 / 1e3, $3 / 1e3, over($3 * 1024, $1)
+            printf "; over size %s: bytes %s, time %s, memory %s\n", half, over($1, bytes), over($2, time), \
+                over($3, memory)
         }' "$work/half" "$work/whole"
 done <<SIZES
 adder 32 64

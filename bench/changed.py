@@ -1,15 +1,14 @@
 #!/usr/bin/env python3
 """Compares `aqfp equal` with a trial of all words, on random circuits and changed copies of them.
 
-  changed.py [--program PATH] [--count N] [--seed N] [--library PATH]
+  changed.py [--program PATH] [--count N] [--seed N] [--library PATH]     (1,000 circuits, seed 1, library A)
 
-Each circuit has up to 10 inputs and some 5 to 60 definitions. Its chip is made by `build`, and `equal` is asked of the
-chip beside two copies: one rewritten so that it answers every word alike (complements of complements, definitions by
-their complements, copies of definitions, equal definitions as one), and one rewritten and changed in a row, a name or
-a constant. All words of both are tried here, and the answer, the output and the least word have to be the same. The
-status is 1 at the first that is not, and its files are kept and named; else the counts are printed.
+The chip of each circuit is compared with a copy that answers every word alike, and with one that is changed. All words
+are tried here too, and the answer, the output and the least word have to be the same. The status is 1 at the first that
+is not, and its files are kept and named; else the counts are printed. AQFP names the program, if --program does not.
 """
 import argparse
+import os
 import pathlib
 import random
 import shutil
@@ -225,7 +224,7 @@ def run(*words):
 
 def main():
     parser = argparse.ArgumentParser(description=__doc__.splitlines()[0])
-    parser.add_argument("--program", default=str(HERE / "aqfp"))
+    parser.add_argument("--program", default=os.environ.get("AQFP") or str(HERE / "aqfp"))
     parser.add_argument("--library", default=str(HERE / "libraries" / "a.toml"))
     parser.add_argument("--count", type=int, default=1000)
     parser.add_argument("--seed", type=int, default=1)

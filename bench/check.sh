@@ -1,17 +1,13 @@
 #!/bin/sh
-# How the time and the memory of `aqfp verify` grow with the chip, and what layouts that are drawn against it cost.
+# How the time and the memory of `aqfp verify` grow with the chip, and what layouts cost that are drawn against it:
+# adders with eight words and with 64,000, beside KLayout's time for the rules of geometry where KLayout is installed;
+# then the layouts of bench/hostile.py, beside an ordinary chip of as many shapes. docs/measuring.md says what each of
+# them is, and which ratio is wanted; nothing is judged here.
 #
-# First the chips of adders, with eight words each: shapes are counted by the stored bytes; prints megabytes,
-# milliseconds of the processor, megabytes of memory at most, memory over bytes, and the ratios to the adder of half the
-# bits. Where KLayout is installed, its time for the rules of geometry (share/aqfp.drc) on that chip comes beside it. The
-# last of these chips is checked with 64,000 words too: whether the sums are right, what that takes beside eight words,
-# and how many cells are evaluated a second, with the reading and printing of the words in it.
-# Then layouts that are drawn against a check (bench/hostile.py): heaps of equal shapes, in turn with others in the file
-# or not, crowds far away, tracks as wide or as high as the sheet, rows of cells with heaps over them, pins in a
-# touching chain, labels all on one pin, widths over nine orders. For each the first line that is printed and the time
-# over that of as many shapes of an ordinary chip: at most five is wanted, but for nested, where different rectangles
-# meet in pairs. What a check refuses is tried up to the rule that it names; E5, of lengths, comes last.
-# KINDS="NAME COUNT.." tries these alone, BITS=64 one adder. Needs GNU time and python3.
+#   bench/check.sh
+#   BITS=64 KINDS="NAME COUNT.." bench/check.sh    one adder, and these layouts alone
+#
+# SECONDS_EACH, by default 60, is when a check is cut off. Needs GNU time and python3. AQFP names the program.
 set -u
 here=$(cd -P "$(dirname "$0")/.." && pwd)
 library=$here/libraries/a.toml
@@ -33,8 +29,9 @@ XOR, AND, OR = ["10 1", "01 1"], ["11 1"], ["1- 1", "-1 1"]
 lines = [".inputs " + " ".join(f"a{i} b{i}" for i in range(n)), ".outputs " + " ".join(f"s{i}" for i in range(n + 1))]
 lines += gate("a0", "b0", "s0", XOR) + gate("a0", "b0", "c1", AND)
 for i in range(1, n):
-    lines += gate(f"a{i}", f"b{i}", f"p{i}", XOR) + gate(f"p{i}", f"c{i}", f"s{i}", XOR) + gate(f"a{i}", f"b{i}", f"g{i}", AND)
-    lines += gate(f"p{i}", f"c{i}", f"h{i}", AND) + gate(f"g{i}", f"h{i}", f"c{i + 1}", OR)
+    lines += gate(f"a{i}", f"b{i}", f"p{i}", XOR) + gate(f"p{i}", f"c{i}", f"s{i}", XOR)
+    lines += gate(f"a{i}", f"b{i}", f"g{i}", AND) + gate(f"p{i}", f"c{i}", f"h{i}", AND)
+    lines += gate(f"g{i}", f"h{i}", f"c{i + 1}", OR)
 lines += [f".names c{n} s{n}", "1 1"]
 open(name + ".blif", "w").write("\n".join(lines) + "\n")
 words = ["".join("01"[(k + 1) * (i + 3) % 11 < 5] for i in range(2 * n)) for k in range(8)]
@@ -61,8 +58,8 @@ for bits in ${BITS:-16 32 64}; do
     beside=
     if command -v klayout >/dev/null; then
         began=$(date +%s%N)
-        QT_QPA_PLATFORM=offscreen klayout -b -r "$here/share/aqfp.drc" -rd gds="$work/adder.gds" -rd library="$library" \
-            >/dev/null 2>&1
+        QT_QPA_PLATFORM=offscreen klayout -b -r "$here/share/aqfp.drc" -rd gds="$work/adder.gds" \
+            -rd library="$library" >/dev/null 2>&1
         beside=", KLayout $((($(date +%s%N) - began) / 1000000)) ms"
     fi
     awk -v bits="$bits" -v bytes="$bytes" -v time="$time" -v memory="$memory" -v ht="$half_time" -v hb="$half_bytes" \
@@ -91,8 +88,9 @@ read -r time memory line <"$work/result"
 said=$(tail -n +2 "$work/printed" | cmp -s - "$work/sums" && echo right || echo WRONG)
 echo "$line" | awk -v bits="$bits" -v count="$count" -v time="$time" -v few="$half_time" -v said="$said" '{
     more = time > few ? time - few : 1
-    printf "adder %d with %d words: %s, %d ms more than with eight, %.1f billion cells a second, %.2f times the whole\n",
-        bits, count, said, more, count * $4 / more / 1e6, time / few }'
+    printf "adder %d with %d words: %s, %d ms more than with eight, %.1f billion cells a second", bits, count, said,
+        more, count * $4 / more / 1e6
+    printf ", %.2f times the whole\n", time / few }'
 # An ordinary chip's shape takes this many nanoseconds.
 each=$(awk -v time="$half_time" 'BEGIN { printf "%.0f", time * 1e6 / 387666 }')
 

@@ -3,13 +3,10 @@
 
   compact.py PROGRAM LIBRARY COMMAND,COMMAND,.. NETLIST|FOLDER ..
 
-A folder stands for the netlists in it, by their names. A command is `build`, `compact` or `draw`; `compact=OTHER` is
-that of another program, and `free` is `compact` where wires may be of any length (1,000 tracks a channel).
-For each netlist a line for each command: cells, junctions (two a cell, six a majority), rows, wires, the area of the
-least rectangle that holds all frames in square millimetres, elements of the top structure, the share of its cells that
-stand in rows of nothing but buffers, seconds of processor, and what `equal` says of the stored chip and the netlist.
-Then for each command but the last the geometric mean of its cells over those of the last one, over the netlists of
-which both are stored, and over those of them with more than five cells.
+A folder stands for the netlists in it. A command is `build`, `compact` or `draw`; `compact=OTHER` is that of another
+program, and `free` is `compact` where wires may be of any length. Each netlist gets a line for each command: figures,
+seconds of processor, and what `equal` says of chip and netlist. Geometric means come last. docs/measuring.md says what
+each figure is.
 """
 import math
 import os

@@ -3,12 +3,9 @@
 
   decided.py PROGRAM LIBRARY FOLDER [--seconds N]
 
-FOLDER has NAME.blif and, where there are some, its forms in tables, NAME_lut4.blif and NAME_lut5.blif, and by ABC,
-NAME_choices.blif and NAME_dc2.blif, as designs.py makes them. Prints a line for each comparison that is not `equal`,
-that fails, or that takes longer than `verify` without words on the same chip, twice what ABC's `cec` takes on the two
-netlists and 0.1 seconds more; then how many there were of each. Times are seconds of processor time, of one run each;
-what is above is run once more. Chips that are refused are left out. The status is 1 where an answer is a difference, or
-a time is above. Needs berkeley-abc, yosys-abc or abc for the times.
+FOLDER has netlists and their forms, as designs.py makes them. Prints a line for each comparison that is not `equal`, or
+that takes longer than it should, and then how many there were of each; docs/measuring.md says what is wanted. The
+status is 1 where an answer is a difference, or a time is above. Needs berkeley-abc, yosys-abc or abc for the times.
 """
 import argparse
 import pathlib
@@ -19,7 +16,7 @@ import subprocess
 import sys
 import tempfile
 
-words = argparse.ArgumentParser(usage=__doc__)
+words = argparse.ArgumentParser(description=__doc__, formatter_class=argparse.RawDescriptionHelpFormatter)
 words.add_argument("program")
 words.add_argument("library")
 words.add_argument("folder")
@@ -52,7 +49,8 @@ def compare(what, chip, net, verify, cec):
     above = abc is not None and kind == "equal" and seconds > most
     counts["above"] += above
     if kind != "equal" or above:
-        print(f"{what}: {text}: {seconds:.2f} s, verify {verify:.2f} s, cec {cec:.2f} s{': above' if above else ''}", flush=True)
+        print(f"{what}: {text}: {seconds:.2f} s, verify {verify:.2f} s, cec {cec:.2f} s{': above' if above else ''}",
+              flush=True)
 
 
 def try_netlist(work, net, forms):

@@ -1,21 +1,13 @@
 #!/bin/sh
-# What the comparison of `aqfp equal` takes, beside ABC's `cec`: chips of multipliers, dividers, a population count,
-# arithmetic and logic units and adders, made by `build` or by `compact`, each against another form of its netlist. All
-# of one operand stands before all of the other in the inputs. Library A is changed so that wires may be long: then a
-# multiplier of 16 bits is no chip too large.
+# What the comparison of `aqfp equal` takes, beside ABC's `cec`: chips of arithmetic by `build` and by `compact`, each
+# against another form of its netlist. Prints the seconds of each, and whether the comparison takes at most twice ABC's
+# time and 0.1 seconds more. docs/measuring.md says what the circuits and their forms are.
 #
-# A case is four words, KIND BITS FORM COMMAND. FORM is a form that ABC makes: `tables` of four inputs (if -K 4),
-# `choices` (dch; if -K 6; mfs), `rewritten` (dc2) or `resyn2`; or `itself`, or the kind of circuit that it is compared
-# with, as `trees`, an adder by carry trees.
+#   bench/equal.sh
+#   CASES="KIND BITS FORM COMMAND.." RUNS=1 bench/equal.sh    these cases alone, with one run of each in place of three
 #
-# Prints for each the seconds of processor time of `equal`, of `verify` without words on the same chip, of the
-# comparison, which is the difference of the two, and of a run of ABC with `cec` on the two netlists; and whether the
-# comparison takes at most twice ABC's time and 0.1 seconds more. Each is the least of RUNS runs, by default 3. Then two
-# are tried once: a multiplier of 16 bits against the same with its factors exchanged, which is known to be undecided and
-# must be refused with status 10 and `functions`, and against ABC's `choices`, which is known to take longer and must be
-# `equal`. The status is 1 where a time of the others is above, an answer is not `equal` or the refusal does not come. SECONDS_EACH, by default 600, is when a run is cut off;
-# CASES="KIND BITS FORM COMMAND.." tries these alone. Needs GNU time and python3. Without ABC (berkeley-abc, yosys-abc
-# or abc) all circuits are compared with themselves, and no time is judged.
+# The status is 1 where a time is above, an answer is not `equal`, or a refusal that is due does not come. SECONDS_EACH,
+# by default 600, is when a run is cut off. Needs GNU time and python3, and ABC to judge times. AQFP names the program.
 set -u
 here=$(cd -P "$(dirname "$0")/.." && pwd)
 seconds=${SECONDS_EACH:-600}

@@ -1,18 +1,14 @@
 #!/bin/sh
-# Allocations of each command that are refused: each in turn, and with all that come after it, over the first chip,
-# its netlist and its words, and in comparisons with the netlist of an inverter and of an exclusive or with another form
-# of it; and some of the many over a larger chip. Each run must end with status 14 and the line for it, and leave all
-# files as they were, or with the full answer. Standard output holds the whole text, or some first bytes of it.
+# Allocations of each command that are refused, over small inputs each in turn and with all that come after it, and some
+# of the many over a larger chip. Each run must end with status 14 and its line, and leave all files as they were, or
+# with the full answer. docs/measuring.md says what is tried, and how.
 #
-#   bench/fail_alloc.sh                 all allocations of the small inputs, 200 each of the larger ones
-#   bench/fail_alloc.sh --write         the same, and puts the table of what came out into docs/limits.md
-#   bench/fail_alloc.sh --every N       each Nth allocation, and some of the larger inputs; the table of docs/limits.md
-#                                       must tell how many allocations there are
+#   bench/fail_alloc.sh              all allocations of the small inputs, 200 each of the larger ones
+#   bench/fail_alloc.sh --write      the same, and puts the table of what came out into docs/limits.md
+#   bench/fail_alloc.sh --every N    each Nth, and some of the larger inputs; that table must tell how many there are
 #
-# Prints a line for each command, what was otherwise, and a line of counts; the status is 1 where something was.
-# The calls of malloc and its like are refused by a library that is loaded before the C library's own, and only those
-# that the program itself makes. Needs cc and python3. AQFP names another program; `rt try --fail-alloc N` in
-# crates/aqfp_cli refuses one allocation in a run that is also checked for bad accesses, in about a minute each.
+# Prints a line for each command, what was otherwise, and a line of counts; the status is 1 where something was. Needs
+# cc and python3. AQFP names the program.
 set -u
 here=$(cd -P "$(dirname "$0")/.." && pwd)
 work=$(mktemp -d)

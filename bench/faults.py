@@ -4,13 +4,8 @@ on, and reads and writes that take less than they were given.
 
     faults.py [--every N] [--calls CALL,..] [--jobs N]     (all runs, three at once)
 
-For the commands that store, once over a good chip and once where nothing stands. Each run must end with a status of the
-command's own and its one line, and leave under OUT what stood there or the whole new file; beside it nothing, and no
-other file changed. With status 0 standard output has the whole text, else first bytes of it. A sync that the system
-says it does not have is no failure, and a write of nothing is one; reads and writes that take less change nothing.
-
-Calls fail by strace; less is read and written by a library that cc makes. Prints what was otherwise, and how many runs
-of each kind there were; the status is 1 where something was. AQFP names the program.
+Prints what was otherwise than docs/measuring.md says, and how many runs of each kind there were; the status is 1 where
+something was. Needs strace, and cc for reads and writes that take less. AQFP names the program.
 """
 import argparse
 import collections

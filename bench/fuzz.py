@@ -1,17 +1,11 @@
 #!/usr/bin/env python3
 """Commands over inputs that are changed at random: streams by record and element, netlists by line and name, libraries
-by key, words by line.
+by key, words by line (mutations.py).
 
     fuzz.py [--runs N] [--seed S] [--only CASE] [--keep FOLDER] [--jobs N]     (300,000 runs, seed 1, three at once)
 
-Each run must end by itself, with a status of the command's own, and with one line on standard error that has no control
-bytes where the status is not 0, with none where it is. Then standard output has the text, else nothing; and only OUT
-may be new, with status 0. All commands that read the same files refuse them with the same line. Each chip that is
-stored is `equal` to its netlist, and `report` counts what was printed when it was stored; and each chip is `equal` to
-the netlist that is stored of it.
-
-Prints what was otherwise, with its case and what FOLDER has of it, and how many runs there were; the status is 1 where
-something was. AQFP names the program.
+Prints what was otherwise than docs/measuring.md says, with its case and what FOLDER has of it, and how many runs there
+were; the status is 1 where something was. AQFP names the program.
 """
 import argparse
 import collections

@@ -1,33 +1,13 @@
 #!/bin/sh
-# What inputs cost that are made to be slow, beside ordinary ones of the same size; where references multiply, beside an
-# ordinary chip of as many shapes and labels.
+# What inputs cost that are made to be slow, beside ordinary ones of the same size: netlists, streams, libraries, names,
+# and chips that are compared. docs/measuring.md says what each input is, and what it stands beside.
 #
-# Netlists of 16 MB are read, and then the library, which is empty, is refused: an ordinary one, which adds two numbers;
-# lines of three bytes; a chain of definitions, each of the one that comes next; a cycle through all of one; a model
-# with a name of 7,500,000 bytes that is called 100,000 times; and a short text of models that call one another twice, of
-# which the first has nearly the greatest size, beside an ordinary one of that size. 270,000 models, each of which calls
-# the next, stand beside as many bytes of models that the first one calls.
-# Streams are checked, beside the adder of 164 bits: the chip of a wire with a structure of 3,999 squares that is
-# referenced 2,000 times far away from it, the same with all squares on one another, and labels that all stand on one
-# pin; a boundary of 2,001 teeth of different heights that is referenced 3,900 times; one of 8,004 points that crosses
-# itself everywhere; a hundred boundaries of some 8,160 points each, as combs, stairs, spirals, and walls with steps
-# at both sides and slots between, and 80,000 of seven points, beside as many bytes of the adder; a text of 32,000
-# bytes that is referenced 20,000 times, beside one of two bytes; 20,000 references to an empty structure in one that
-# is referenced 100,000 times, beside it without them; a loop of 300,000 structures, beside as many with a square
-# each; a structure that references itself behind 2,400,000 other references, with a chain of 64, so that all of them
-# are gone through 64 times, beside as many references; and a million labels of 65,000 bytes on one pin, beside as
-# many of two bytes. By arrays in a few bytes, beside the adder: a row of cells under lines of M1 that cross all of
-# them; and, where the time grows with the pairs that touch, a mesh of lines of M1, lines of M2 across long vias, and
-# squares around one centre. Libraries of 90,000 keys stand beside those of 45,000, and chosen names beside counted
-# ones (bench/names.sh). Chips are compared with another form of their netlists, beside `verify` of them without
-# words: rows of chosen gates, whose exclusive ors are made in two ways, of which the chip of `compact` takes many
-# searches; and outputs that random words all show false, so that each looks like each other.
+#   bench/hostile.sh
 #
 # Prints for each the seconds of processor time and the megabytes of memory at most, the same of the ordinary input, the
-# two ratios, and whether they are within three times, five for labels on one pin, 2.5 for twice the keys, ten for the
-# comparison of many searches, whose work is bounded by counts. Where the time grows with pairs that touch, that is said.
-# The status is 1 where one is above, or a comparison is answered otherwise. Needs GNU time, cc and python3;
-# SECONDS_EACH, by default 300, is when a run is cut off.
+# two ratios, and whether they are within what is wanted, which mostly is three times. The status is 1 where one is
+# above, or a comparison is answered otherwise. Needs GNU time, cc and python3. SECONDS_EACH, by default 300, is when a
+# run is cut off. AQFP names the program.
 set -u
 here=$(cd -P "$(dirname "$0")/.." && pwd)
 seconds=${SECONDS_EACH:-300}
@@ -294,8 +274,9 @@ else:
                          reference(b"MA", FAR, 0) + reference(below[0], FAR, 0))
     elif kind == "flat":
         names = [b"L%07d" % k for k in range(size)]
+        places = ((name, FAR + k % 999 * 2000, k // 999 * 2000) for k, name in enumerate(names))
         made = with_more(b"".join(structure(name, square(0, 0)) for name in names),
-                         b"".join(reference(name, FAR + k % 999 * 2000, k // 999 * 2000) for k, name in enumerate(names)))
+                         b"".join(reference(*place) for place in places))
     elif kind in RINGS: made = with_more(b"", rings(RINGS[kind](), size))
     elif kind in ("long_labels", "short_labels"):
         text = b"I" + b"1" * (64_999 if kind == "long_labels" else 1)

@@ -3,12 +3,8 @@
 
     kills.py [--every N] [--times N] [--jobs N]     (each call, and 100 times of each command that stores)
 
-For the commands that store, once over a good chip and once where nothing stands. What a killed run leaves under OUT is
-what stood there or the whole new file, and beside it at most one draft, `.aqfp-K.part`; no other file changed. The same
-command then does its work, and leaves the draft alone.
-
-Calls are met by strace. Prints what was otherwise, and how many kills there were; the status is 1 where something was.
-AQFP names the program.
+Prints what was otherwise than docs/measuring.md says, and how many kills there were; the status is 1 where something
+was. Calls are met by strace; without it only times by chance are tried. AQFP names the program.
 """
 import argparse
 import collections

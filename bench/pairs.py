@@ -3,12 +3,9 @@
 
     pairs.py [COUNT [SEED]]     (400 pairs, seed 1)
 
-The second circuit of a pair is the first one rewritten: other names, another order, gates by De Morgan and gates that
-stand twice. Every second one has a change then: one row of a gate is another, or one output or all of them are turned
-at the first word, at the last one or at some word. The first circuit is built, its chip is compared with the second
-one, and the line is compared with the least output that differs and the least word for it (input 0 decides first,
-false before true), both found from tables of all words. Prints how many pairs were equal and how many differed, and for
-each mismatch both lines and where its netlists are; the status is 1 where there is one. AQFP names another program.
+The second circuit of a pair is the first one rewritten, and every second one is changed besides. Prints how many pairs
+were equal and how many differed, and for each mismatch both lines and where its netlists are; the status is 1 where
+there is one. AQFP names the program.
 """
 import dataclasses
 import os

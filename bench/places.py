@@ -4,11 +4,8 @@ files, the file that standard output goes to, names of every length, and disks t
 
     places.py
 
-A regular file, or none, is replaced once the new one is whole: links and the mode of the file stay, other hard links
-keep what they had, what may not be written is refused, and nothing is left beside it. What is no regular file is
-written as it stands. The file of standard output or standard error is refused. What needs another user or a mount is
-tried by root alone. Prints what was otherwise, and how many trials there were; the status is 1 where something was.
-AQFP names the program.
+Prints what was otherwise than docs/measuring.md says, and how many trials there were; the status is 1 where something
+was. What needs another user or a mount is tried by root alone. AQFP names the program.
 """
 import os
 import re

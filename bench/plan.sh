@@ -1,8 +1,8 @@
 #!/bin/sh
 # How the times of the passes that lay a netlist out, and of its drawing, grow with it: four shapes of netlists, at half
-# and at whole size. Prints for each pass what it gave and its time in milliseconds, the time at half the size, the ratio
-# of the two, and the ratio of what it gave, as of cells or of elements. A refusal has its line too, with the reason
-# below; no pass comes after it.
+# and at whole size. Prints for each pass what it gave and its time in milliseconds, the time at half the size, the
+# ratio of the two, and the ratio of what it gave, as of cells or of elements. A refusal has its line too, with the
+# reason below; no pass comes after it. The passes run in crates/bench_plans, which the kit's rt proves and builds.
 set -u
 here=$(cd -P "$(dirname "$0")/.." && pwd)
 program=$here/crates/bench_plans/out/bench_plans

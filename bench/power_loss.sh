@@ -1,15 +1,12 @@
 #!/bin/sh
-# What a loss of power leaves under OUT: a small disk is copied at the moment at which the program ends or is killed at a
-# call of the system, and again once the system has written what it held, and the copies are mounted as after a crash.
-# Once the program has ended with status 0 the whole new file is there; before that what stood there, or the whole new
-# file, or nothing where nothing stood there.
+# What a loss of power leaves under OUT: a small disk is copied at the moment at which the program ends or is killed at
+# a call of the system, and again once the system has written what it held. The copies are mounted as after a crash.
 #
 #   bench/power_loss.sh            each call that has to do with files, of the four commands that store
 #   bench/power_loss.sh --short    some moments of one command
 #
-# The disk is a file under a loop device, with ext4 that writes as late as it may. Prints what was otherwise, and how
-# many moments were tried; the status is 1 where something was. Where it is not run by root, or there are no loop
-# devices, it says so and tries nothing. AQFP names the program.
+# Prints what was otherwise than docs/measuring.md says, and how many copies there were; the status is 1 where something
+# was. Where it is not run by root, or there are no loop devices, it says so and tries nothing. AQFP names the program.
 set -u
 here=$(cd -P "$(dirname "$0")/.." && pwd)
 work=$(mktemp -d)
@@ -127,5 +124,6 @@ if [ -z "$short" ]; then
     try_command "draw cells.blif a.toml out"
     try_command "netlist chip.gds a.toml out"
 fi
-echo "power_loss: $tried copies of a disk: $old_left left what stood there, $new_left the new file, $otherwise otherwise"
+echo "power_loss: $tried copies of a disk: $old_left left what stood there, $new_left the new file," \
+    "$otherwise otherwise"
 [ $otherwise = 0 ] && [ $tried -gt 0 ]

@@ -1,14 +1,12 @@
 #!/bin/sh
-# How the time and the memory of reading a netlist grow with its text: netlists of 2, 4, 8 and 16 MB, as many rows of a
-# cover of eight inputs, as rows of two bytes of a constant, as rows of four bytes of a buffer, as a chain of definitions,
-# as one line of inputs, as one line of inputs with names of three and four bytes, and as definitions of such names: of no
-# input and without rows, of no input and with a row, and of one input; and then as designs of as many models, of which the
-# first calls none, or all. Each is read whole, and then the library, which is empty, is refused. Then with library A, so
-# that gates are made and the cells of the plan are counted, which are too many, or else the netlist has too many
-# elements: the same rows, rows of all eight inputs, rows of 1,000 inputs, the same above a chain of 300 gates, and the
-# chain. Prints the seconds of
-# processor time, their ratios, twice the text against once, and the memory at most in times of the text, which is counted
-# too. Needs GNU time; AQFP is the program, by default that of the sources.
+# How the time and the memory of reading a netlist grow with its text: netlists and designs of 2, 4, 8 and 16 MB, of
+# eleven shapes, each read whole before the library, which is empty, is refused; and five shapes with library A, so that
+# gates are made and cells are counted. docs/measuring.md says what the shapes are.
+#
+#   bench/read_netlists.sh
+#
+# Prints the seconds of processor time, their ratios, twice the text against once, and the memory at most in times of
+# the text, which is counted too. Nothing is judged here. Needs GNU time. AQFP names the program.
 set -u
 here=$(cd -P "$(dirname "$0")/.." && pwd)
 command -v /usr/bin/time >/dev/null || { echo "read_netlists: /usr/bin/time is not there" >&2; exit 70; }
@@ -43,7 +41,10 @@ chain() {
 
 inputs() {
     printf '.outputs i1000000\n.inputs'
-    awk -v bytes="$1" 'BEGIN { n = int(bytes / 9) - 10; for (i = 1000000; i < 1000000 + n; i++) printf " i%d", i; print "" }'
+    awk -v bytes="$1" 'BEGIN {
+        n = int(bytes / 9) - 10
+        for (i = 1000000; i < 1000000 + n; i++) printf " i%d", i
+        print "" }'
 }
 
 # Names of 62 signs, as short as so many can be, each between these bytes.

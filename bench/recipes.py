@@ -3,13 +3,9 @@
 
   recipes.py [--only sizes | choices | gains] [FOLDER ..]
 
-`sizes` are those of some chips with library B, with seconds. `choices` are the junctions of the modules of examples/ by
-several choices of gates of Yosys, and of the smallest chip that share/shrink finds of the first choice, with library B
-and in brackets with A. `gains` is what each recipe of share/shrink gives, as geometric means of the junctions of the
-netlist as it is over those of the recipe: over the examples of more than five cells, and over the netlists NAME.blif of
-each FOLDER. A netlist that a recipe gives no chip of counts as it is.
-
-Needs yosys with its ABC, and ABC as share/shrink finds it. AQFP names the program. Seconds are of the processor.
+`sizes` is the table of README.md. `choices` and `gains` are those of the guide: what choices of gates of Yosys and
+what the recipes of share/shrink give, the latter also over the netlists of each FOLDER. docs/measuring.md says how each
+is counted. Needs yosys with its ABC, and ABC as share/shrink finds it. AQFP names the program.
 """
 import argparse
 import importlib.machinery
@@ -131,7 +127,8 @@ def print_choices(work):
                        for letter in LIBRARIES])
         least = [min(column) for column in zip(*counts)]
         marks = [["**" if count == low else "" for count, low in zip(pair, least)] for pair in counts]
-        print_row(f"`{name}`", *(f"{at_b}{b:,}{at_b} ({at_a}{a:,}{at_a})" for (b, a), (at_b, at_a) in zip(counts, marks)))
+        told = (f"{at_b}{b:,}{at_b} ({at_a}{a:,}{at_a})" for (b, a), (at_b, at_a) in zip(counts, marks))
+        print_row(f"`{name}`", *told)
 
 
 def gains(nets, letter, work):

@@ -3,12 +3,8 @@
 
     writers.py [--pairs N] [--twenties N]     (400 pairs, 5 times twenty)
 
-The runs of a pair make two chips, or one of them a chip and the other the netlist of one. One of them is held up for a
-while by strace, in turn at each call by which it makes its file, writes it or puts it in its place; the other begins
-meanwhile. All runs must end with status 0 and print their own line, and under OUT stands what one of them makes, whole;
-beside it nothing is left.
-
-Prints what was otherwise, and how many pairs there were; the status is 1 where something was. AQFP names the program.
+Prints what was otherwise than docs/measuring.md says, and how many pairs there were; the status is 1 where something
+was. Strace holds up one run of a pair; without it they only begin at almost the same time. AQFP names the program.
 """
 import argparse
 import itertools

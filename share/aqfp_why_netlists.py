@@ -228,8 +228,8 @@ def about_row_value(netlist, line):
     if words[-1] not in ("0", "1"):
         yield f"its value is {told(words[-1])}: a value is 0 or 1"
     else:
-        yield (f"its value is {words[-1]}, and that of the first row of {one_line(definition.name)}, line {first[0]}, is "
-               f"{told(first[1][-1])}: all rows of a cover have one value")
+        yield (f"its value is {words[-1]}, and that of the first row of {one_line(definition.name)}, line {first[0]}, "
+               f"is {told(first[1][-1])}: all rows of a cover have one value")
         yield "write the rows of one value, and leave out the others: what no row matches has the other value"
 
 
