@@ -288,6 +288,8 @@ else:
     elif kind == "long_vias":
         long = size * 2000
         made = with_more(*crossed(size, box(11, 0, 0, 1000, long), box(12, 0, 0, long, 1000), 2000))
+    elif kind == "close":
+        made = with_more(structure(b"SQ", box(10, 0, 0, 16_000, 16_000)), array(b"SQ", size, 1, -FAR, FAR, 1, 0))
     elif kind == "around":
         made = with_more(b"", b"".join(box(10, FAR - k, FAR - k, FAR + 1000 + k, FAR + 1000 + k) for k in range(size)))
     elif kind == "labels": made = with_more(b"", b"".join(label(30, b"I0", 3000, 500) for k in range(size)))
@@ -383,6 +385,7 @@ across 16000 48017 3
 mesh 4000 8017 pairs
 long_vias 4000 8017 pairs
 around 2000 2017 pairs
+close 4000 4017 pairs
 CASES
 while read -r kind count; do
     make "$kind" "$count" "$work/hostile.gds"
