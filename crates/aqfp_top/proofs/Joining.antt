@@ -13,6 +13,7 @@ use Rattle.gds_records.specs.Stream.{IsStream, IsWideStream}
 use Rattle.gds_records.specs.Writing.{bytes_of}
 use Rattle.blif_read.specs.Parts.{NetView}
 use Rattle.blif_read.specs.Equations.{IsAnswer as IsNetAnswer}
+use Rattle.blif_read.proofs.OneAnswer.{answer_length}
 use Rattle.rowed.specs.PlacedNets.{PlacedView}
 use Rattle.rowed.specs.RowNets.{IsAnswer}
 use Rattle.cell_library.specs.Library.{LibraryView, limits_of}
@@ -26,6 +27,7 @@ use Rattle.layout_make.specs.Draw.{draw}
 use Rattle.layout_make.specs.MayDraw.{MayDraw}
 use Rattle.layout_make.specs.Size.{element_number, element_limit}
 use Rattle.pulse_sim.specs.Shows.{Shows}
+use Rattle.pulse_sim.specs.Clocked.{ShowsByClocks}
 use Rattle.text_answers.specs.Counts.{counts_line, counts_text, delay_of}
 use Rattle.text_answers.specs.WordLines.{word_line, answers_to, answers_text}
 use Rattle.text_answers.specs.WordsText.{words_of, SaysWords}
@@ -33,6 +35,7 @@ use Rattle.text_answers.proofs.Reading.{words_wide}
 use Rattle.layout_realises.specs.Realises.{Realises}
 use Rattle.layout_realises.specs.RealisesNet.{RealisesNet, most_bytes}
 use Rattle.layout_realises.proofs.RealisesAs.{realises_as}
+use Rattle.layout_realises.proofs.ShownByTicks.{shown_by_ticks}
 use Rattle.aqfp_top.specs.Designs.{IsChipFor, stream_of, counts_of}
 use Rattle.aqfp_top.specs.Checks.{IsLayoutOf, IsSound}
 use Rattle.aqfp_top.specs.Joined.{PrintsAsNet, VerifiesAsNet}
@@ -67,6 +70,10 @@ pub record Laws : Type 0 where
   pub shown : (circuit : CircuitView) (words : List (List Bool))
       → KeepsFacts circuit → All (λ word. length word ≡ circuit.inputs) words
       → Shows circuit (delay_of circuit) words (answers_to circuit words)
+  pub enough : (circuit : CircuitView) (words answers : List (List Bool)) → KeepsFacts circuit
+      → length answers ≡ length words → All (λ word. length word ≡ circuit.inputs) words
+      → All (λ answer. length answer ≡ length circuit.outputs) answers
+      → ShowsByClocks circuit (delay_of circuit) words answers → Shows circuit (delay_of circuit) words answers
   pub shown_once : (circuit : CircuitView) (d : ℕ) (words answers others : List (List Bool)) → KeepsFacts circuit
       → Shows circuit d words answers → Shows circuit d words others → answers ≡ others
 
@@ -97,16 +104,19 @@ module _ (laws : Laws) (net : NetView) (placed : PlacedView) (cells : LibraryVie
   unfolding stream_of
   made_of_bytes = drawn_bytes placed cells is.draws
 
+  stream : IsStream (stream_of placed cells) chip.layout
+  stream = subst (λ bytes. IsStream bytes chip.layout) (sym chip.stream) (laws.stream chip.layout chip.writable)
+
   -- the layout that is read of them has the shapes of the drawing
   same : wide_flat (wide_layout_in (stream_of placed cells)) ≡ flat_of chip.layout
-  same = laws.same_flat (stream_of placed cells) chip.layout made_of_bytes chip.stream
+  same = laws.same_flat (stream_of placed cells) chip.layout made_of_bytes stream
 
   few : flat_count (flat_of chip.layout) ≤ 8000000
-  few = subst (λ layout. flat_count (flat_of layout) ≤ 8000000) (sym (layout_is chip.layout chip.stream)) made.small
+  few = subst (λ layout. flat_count (flat_of layout) ≤ 8000000) (sym (layout_is chip.layout stream)) made.small
 
   read : IsLayoutOf (stream_of placed cells) (wide_layout_in (stream_of placed cells))
   read = record {
-    stream = laws.is_wide (stream_of placed cells) chip.layout made_of_bytes chip.stream;
+    stream = laws.is_wide (stream_of placed cells) chip.layout made_of_bytes stream;
     within = subst (λ flat. flat_count flat ≤ 8000000) (sym same) few;
   }
 
@@ -140,7 +150,10 @@ module _ (laws : Laws) (net : NetView) (placed : PlacedView) (cells : LibraryVie
       let wide = words_wide net.inputs text says in
       let all = chip.answers_all words wide in
       let shown = laws.shown made.circuit words made.keeps (λ k d lt. wide k d lt ∙ sym chip.input_count) in
-      let same = laws.shown_once made.circuit (delay_of made.circuit) words _ _ made.keeps shown all.shows in
+      let by_ticks = shown_by_ticks net.inputs (length net.outputs) (IsNetAnswer net)
+      (λ word answer width. answer_length net word answer) made.circuit chip.input_count chip.output_count
+      (λ given replies. laws.enough made.circuit given replies made.keeps) words wide all in
+      let same = laws.shown_once made.circuit (delay_of made.circuit) words _ _ made.keeps shown by_ticks in
       record {
         answers = all.replies;
         are_answers = all.are_answers;

@@ -47,7 +47,7 @@ record BreaksLaw (table : Members) (a : LibraryFault) : Type 0 where
   pub breaks : BreaksFirst (library.library_of table) number
 
 -- a document has one table
-one_table : (text : List ℕ) (a b : Members) → library.IsDocument text a → library.IsDocument text b → a ≡ b
+pub one_table : (text : List ℕ) (a b : Members) → library.IsDocument text a → library.IsDocument text b → a ≡ b
 one_table text a b p q = same_some a b _ p.parsed q.parsed
 
 -- what a fault of a table is told by: a fault before the laws, or the first law that is broken

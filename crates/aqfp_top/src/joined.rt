@@ -18,7 +18,7 @@ use layout_make::drawing_laws;
 use layout_realises::drawn_chip_realises;
 use plan_build::plan_laws;
 use plan_draw::cell_plan_laws;
-use pulse_sim::shown_once;
+use pulse_sim::{clocks_are_enough, shown_once};
 use shape_extract::one_circuit;
 use text_answers::answers_are_shown;
 
@@ -48,5 +48,6 @@ pub fn built_is_verified()
     strict_reading_is_wide();
     one_circuit();
     answers_are_shown();
+    clocks_are_enough();
     shown_once();
 }

@@ -16,6 +16,7 @@ mod load;
 mod out;
 mod page;
 mod pieces;
+mod planned;
 mod planner;
 mod reading;
 mod report;
@@ -33,5 +34,6 @@ pub use accepted::{
 pub use due::{each_design_is_built, one_answer_is_due};
 pub use fault::{Fault, Large, WriteCall};
 pub use joined::built_is_verified;
+pub use planned::chip_is_planned;
 pub use planner::Planner;
 pub use run::{Ending, aqfp_run};

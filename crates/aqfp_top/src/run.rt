@@ -40,9 +40,8 @@ use crate::shapes::shapes;
 use crate::words::{Form, form_of};
 use crate::write::write_netlist;
 use aq_base::{Files, Sink};
-use blif_flat::written_answers;
-use gds_records::{one_layout, written_is_read};
-use layout_make::drawing_laws;
+use blif_flat::{netlist_answers, written_answers};
+use cell_library::limits_are_said;
 use layout_realises::drawn_chip_realises;
 use pulse_sim::every_clock;
 use std::alloc::Global;
@@ -149,8 +148,8 @@ pub fn aqfp_run<F: Files, O: Sink, E: Sink>(
     ensures only { IfSome result.fault (RunsOnly (spelled words.now)) }
     ensures usage { ¬ HasForm (spelled words.now) → result.fault ≡ Some Fault.Usage }
 
-    // What a command that makes a chip has made where it ends well: a chip of its netlist, whatever the order of
-    // switching.
+    // What a command that makes a chip has made where it ends well: a chip of its netlist, which answers by every clock
+    // whose windows keep clear.
     ensures chip { (held : Contents) (planner : Planner) → (F.outside files.old).contents ≡ Some held
         → IsMakeBy planner (spelled words.now) → result.fault ≡ None
         → BuildsChip held (F.outside files.new).contents (spelled words.now) (O.output out.old) (O.output out.new) }
@@ -160,7 +159,8 @@ pub fn aqfp_run<F: Files, O: Sink, E: Sink>(
         → HearsChip (F.outside files.old).history (F.outside files.new).history (spelled words.now) (O.output out.old)
         (O.output out.new) }
 
-    // And by which plan: the defined one, or one that is no larger, or that of the netlist's own cells.
+    // And by which plan: the defined one, or one that is no larger, or that of the netlist's own cells. What follows of
+    // both is said once (`chip_is_planned`).
     ensures planned { (planner : Planner) → IsMakeBy planner (spelled words.now) → result.fault ≡ None
         → BuiltHistory planner (F.outside files.old).history (F.outside files.new).history (spelled words.now)
         (O.output out.old) (O.output out.new) }
@@ -234,10 +234,9 @@ pub fn aqfp_run<F: Files, O: Sink, E: Sink>(
     ensures shut { (F.outside files.new).opened ≡ None }
     ensures reports { Reports IsCutShort (E.output err.old) (E.output err.new) (spelled words.now) result.fault }
 {
-    drawing_laws();
-    written_is_read();
-    one_layout();
     drawn_chip_realises();
+    limits_are_said();
+    netlist_answers();
     answers_are_shown();
     every_clock();
     written_answers();

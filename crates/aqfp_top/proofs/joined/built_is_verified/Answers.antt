@@ -15,6 +15,7 @@ returns-clause-verified c lib text net chip cells says is words =
       one_wide = c.one_wide_reading.ensures.layout;
       one_circuit = c.one_circuit.ensures;
       shown = c.answers_are_shown.ensures.shown;
+      enough = c.clocks_are_enough.ensures;
       shown_once = c.shown_once.ensures;
     } in
     verified laws net chip cells is lib text says words
