@@ -11,12 +11,12 @@ use Rattle.mig.specs.Graphs.{literal_value, node_value, Fits, turned}
 use Rattle.mig.specs.Building.{BuilderView, Grown, Gives, AllThere}
 use Rattle.mig.proofs.Built.{gives_later, limit_grows}
 use Rattle.mig.proofs.Folded.{turned_value, turned_below}
-use Rattle.truth_tables.specs.Tables.{holds, index}
+use Rattle.truth_tables.specs.Tables.{holds, index, mask}
 use Rattle.mig_from_netlist.specs.Code.Parts.{AreParts, Implies}
 use Rattle.mig_from_netlist.specs.declared.parts.Parts.{Parts}
 use Rattle.mig_from_netlist.specs.declared.decompose.Known.{Known}
 use Rattle.mig_from_netlist.specs.Code.Known.{value_at, AreKnown}
-use Rattle.truth_tables.proofs.Bits.{holds_and, holds_xor, holds_not, holds_none, holds_all, holds_index, index_below}
+use Rattle.truth_tables.proofs.Bits.{holds_and, holds_xor, holds_not, holds_none, holds_all, holds_index, holds_mask, index_below}
 use Rattle.mig_from_netlist.proofs.GateValues.{zero_value, one_value}
 
 module _ (inputs : List ℕ) (few : length inputs ≤ 6) (v : ℕ → Bool) where
@@ -70,6 +70,17 @@ module _ (inputs : List ℕ) (few : length inputs ≤ 6) (v : ℕ → Bool) wher
   pub other_value : (t : ℕ) → t < 2 ^ 64 → value_at (bit_not w64 t) inputs v ≡ not (value_at t inputs v)
   unfolding place
   other_value t fits = holds_not t place fits low_place
+
+  -- a mask has the value of its input
+  pub mask_value : (place_of x : ℕ) → place_of < 6 → slice_get inputs place_of ≡ Some x
+      → value_at (mask place_of) inputs v ≡ literal_value v x
+  mask_value place_of x low is =
+      at_place (mask place_of) ∙ holds_mask place_of place low low_place ∙ holds_x place_of x is
+
+  pub majority_value : (made x y z : ℕ) → ((i : ℕ) → holds made i ≡ majority (holds x i) (holds y i) (holds z i))
+      → value_at made inputs v ≡ majority (value_at x inputs v) (value_at y inputs v) (value_at z inputs v)
+  unfolding place
+  majority_value made x y z is = is place
 
 rising : (x h l : Bool) → (l && not h) ≡ false → majority x h l ≡ cond x h l
 rising true true l e = refl

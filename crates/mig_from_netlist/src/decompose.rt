@@ -7,7 +7,9 @@ ghost use Rattle.mig_from_netlist.specs.Code.Known.{value_at, AreKnown};
 
 use crate::gates::{choice, differ};
 use crate::parts::{Parts, are_parts, parts_of};
+use crate::votes::{Voter, Votes, votes_of};
 use mig::{Builder, GraphRefusal, turned};
+use truth_tables::{majority_table, mask};
 
 /// A table that has its literal.
 #[derive(Clone, Copy)]
@@ -125,6 +127,81 @@ pub(crate) fn input_at(inputs: &[u32], place: usize) -> Option<u32>
     }
 }
 
+/// The literal and the table of an input, or of its complement.
+fn voter(inputs: &[u32], who: Voter) -> Option<Known>
+    ensures { (b : BuilderView) → length inputs.now ≤ 6 → AllThere b inputs.now
+        → IfSome result (λ k. Gives b k.literal (value_at k.table inputs.now)) }
+{
+    if who.place >= 6 {
+        return None;
+    }
+    let literal = input_at(inputs, who.place)?;
+    let table = mask(who.place);
+    if who.is_turned {
+        Some(Known {
+            table: !table,
+            literal: turned(literal),
+        })
+    } else {
+        Some(Known { table, literal })
+    }
+}
+
+/// The literal of a majority of three tables, if it has the table that is wanted.
+fn vote(
+    builder: &mut Builder,
+    inputs: &[u32],
+    table: u64,
+    x: Known,
+    y: Known,
+    z: Known,
+) -> Result<Option<u32>, GraphRefusal>
+    requires few { length inputs.now ≤ 6 }
+    requires x { Gives builder.old x.literal (value_at x.table inputs.now) }
+    requires y { Gives builder.old y.literal (value_at y.table inputs.now) }
+    requires z { Gives builder.old z.literal (value_at z.table inputs.now) }
+    ensures grown { Grown builder.old builder.new }
+    ensures given { IfOk result (λ o. IfSome o (λ l. Gives builder.new l (value_at table inputs.now))) }
+{
+    if majority_table(x.table, y.table, z.table) != table {
+        return Ok(None);
+    }
+    Ok(Some(builder.maj(x.literal, y.literal, z.literal)?))
+}
+
+/// The literal of a table by two inputs and the literal of what decides where they don't agree.
+fn join_votes(
+    builder: &mut Builder,
+    memo: &mut Vec<Known>,
+    inputs: &[u32],
+    table: u64,
+    votes: Votes,
+    rest: u32,
+) -> Result<Option<u32>, GraphRefusal>
+    requires few { length inputs.now ≤ 6 }
+    requires there { AllThere builder.old inputs.now }
+    requires known { AreKnown builder.old inputs.now memo.old.items }
+    requires rest { Gives builder.old rest (value_at votes.rest inputs.now) }
+    ensures grown { Grown builder.old builder.new }
+    ensures known { OnOk result (AreKnown builder.new inputs.now memo.new.items) }
+    ensures given { IfOk result (λ o. IfSome o (λ l. Gives builder.new l (value_at table inputs.now))) }
+{
+    let Some(first) = voter(inputs, votes.first) else {
+        return Ok(None);
+    };
+    let Some(second) = voter(inputs, votes.second) else {
+        return Ok(None);
+    };
+    let third = Known {
+        table: votes.rest,
+        literal: rest,
+    };
+    let Some(literal) = vote(builder, inputs, table, first, second, third)? else {
+        return Ok(None);
+    };
+    keep(memo, table, literal)
+}
+
 /// The literal of a table whose inputs are these literals. It is none where the table depends on more inputs than there
 /// are, or than so many, or than six.
 pub(crate) fn decompose(
@@ -146,6 +223,12 @@ pub(crate) fn decompose(
     }
     if most == 0 {
         return Ok(None);
+    }
+    if let Some(votes) = votes_of(table) {
+        let Some(rest) = decompose(builder, memo, inputs, votes.rest, most - 1)? else {
+            return Ok(None);
+        };
+        return join_votes(builder, memo, inputs, table, votes, rest);
     }
     let Some(parts) = parts_of(table) else {
         return Ok(None);

@@ -11,6 +11,7 @@ mod order;
 mod parts;
 mod pass;
 mod refusal;
+mod votes;
 mod walk;
 
 pub use pass::GraphPass;

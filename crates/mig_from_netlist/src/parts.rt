@@ -28,7 +28,7 @@ fn step(place: usize) -> u32
 }
 
 /// What a table is where an input is true, and where it is false.
-fn parts_at(table: u64, place: usize) -> Parts
+pub(crate) fn parts_at(table: u64, place: usize) -> Parts
     requires { place < 6 }
 {
     let high = table & mask(place);

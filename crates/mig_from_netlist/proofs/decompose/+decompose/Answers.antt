@@ -22,9 +22,9 @@ decompose-requires-3 t c = (
 )
 
 pub join_parts-requires-clause-high : goal.join_parts-requires-clause-high
-join_parts-requires-clause-high t c = gives_later c.decompose-2.new.builder c.decompose-3.new.builder c.in-Some-3.high
+join_parts-requires-clause-high t c = gives_later c.decompose-2.new.builder c.decompose-3.new.builder c.in-Some-4.high
     (value_at c.in-Some-parts_of.parts.high c.args.inputs.now) c.in_ok-low-2.ensures.grown
-    (rw c.in-Some-3.is at c.in_ok-high.ensures.given)
+    (rw c.in-Some-4.is at c.in_ok-high.ensures.given)
 
 pub returns-clause-known : goal.returns-clause-known
 returns-clause-known t c =
