@@ -36,4 +36,9 @@ pub made_of : (net : NetView) (graphs : List GraphView) (k : ℕ) (last made : G
     → Some last ≡ slice_get graphs k → IsRebuilt last made → IsGraphOf net made
 made_of net graphs k last made are at rebuilt = graph_then net last made (are.each k last (sym at)) rebuilt
 
+-- one of the graphs
+pub one_of : (net : NetView) (graphs : List GraphView) (k : ℕ) (graph : GraphView) → AreGraphsOf net graphs
+    → Some graph ≡ slice_get graphs k → IsGraphOf net graph
+one_of net graphs k graph are at = are.each k graph (sym at)
+
 pub ruleset chained = (none_yet, one_more, made_of, graph_then)

@@ -2,36 +2,91 @@
 ghost use Rattle.std.specs.Prelude.{IfOk, IfSome};
 ghost use Rattle.rowed.specs.PlacedNets.{IsPlaced};
 ghost use Rattle.plan_build.specs.Laws.{AnswersAs};
+ghost use Rattle.plan_compact.specs.Variants.{AreGraphsOf};
 ghost use Rattle.plan_compact.specs.Code.Candidates.{IsCandidate};
 
 use crate::making::small_chip;
-use crate::variants::graph_variants;
+use crate::searches::Searches;
+use crate::sizes::is_no_larger;
+use crate::variants::{fewer_nodes, graph_variants};
 use aq_base::Memory;
 use blif_read::Netlist;
 use cell_library::Library;
 use chip_search::Effort;
+use mig::Graph;
 use plan_limits::drawable_chip;
 use rowed::Placed;
 use std::alloc::Global;
 
-/// A chip of the netlist before its wires are shortened, if the search finds one.
+/// A chip by one of these graphs of the netlist before its wires are shortened, if the search finds one.
 #[tactic(auto, using(crate::proofs::Candidates::searches))]
-fn searched(alloc: Global, library: &Library, net: &Netlist) -> Result<Option<Placed>, Memory>
+fn searched(
+    alloc: Global,
+    library: &Library,
+    _net: &Netlist,
+    graphs: &[Graph],
+    searches: Searches,
+) -> Result<Option<Placed>, Memory>
+    requires { AreGraphsOf _net.now graphs.now }
     ensures placed { IfOk result (λ found. IfSome found (λ chip. IsPlaced chip)) }
-    ensures answers { IfOk result (λ found. IfSome found (λ chip. AnswersAs net.now chip)) }
+    ensures answers { IfOk result (λ found. IfSome found (λ chip. AnswersAs _net.now chip)) }
 {
-    let graphs = graph_variants(alloc, net)?;
     let reach = library.reach().min(u64::from(u32::MAX)) as u32;
-    small_chip(alloc, &graphs, library.has_three(), reach, &Effort::full())
+    small_chip(
+        alloc,
+        graphs,
+        library.has_three(),
+        reach,
+        searches,
+        &Effort::full(),
+    )
 }
 
-/// A chip of the netlist that was found, if it may be drawn with the library.
+/// A chip by one of these graphs of the netlist, if one is found that may be drawn with the library.
 #[tactic(auto, using(crate::proofs::Candidates::candidates))]
+fn drawn(
+    alloc: Global,
+    library: &Library,
+    net: &Netlist,
+    graphs: &[Graph],
+    searches: Searches,
+) -> Result<Option<Placed>, Memory>
+    requires { AreGraphsOf net.now graphs.now }
+    ensures { IfOk result (λ found. IfSome found (λ chip. IsCandidate library.now net.now chip)) }
+{
+    match searched(alloc, library, net, graphs, searches)? {
+        Some(found) => drawable_chip(alloc, library, net, &found),
+        None => Ok(None),
+    }
+}
+
+/// The second chip where it has fewer cells or junctions and no more of the others; else the first one.
+#[tactic(auto, using(crate::proofs::Candidates::chosen))]
+fn smaller(_library: &Library, _net: &Netlist, one: Placed, other: Placed) -> Placed
+    requires one { IsCandidate _library.now _net.now one }
+    requires other { IsCandidate _library.now _net.now other }
+    ensures { IsCandidate _library.now _net.now result }
+{
+    if is_no_larger(&other, &one) && !is_no_larger(&one, &other) {
+        other
+    } else {
+        one
+    }
+}
+
+/// A chip of the netlist that was found, if it may be drawn with the library. The graphs of fewer nodes are searched by
+/// themselves, and what comes of them is taken only where it is smaller as it would be drawn: so they never make a chip
+/// larger.
 pub fn found_chip(alloc: Global, library: &Library, net: &Netlist) -> Result<Option<Placed>, Memory>
     ensures { IfOk result (λ found. IfSome found (λ chip. IsCandidate library.now net.now chip)) }
 {
-    match searched(alloc, library, net)? {
-        Some(found) => drawable_chip(alloc, library, net, &found),
-        None => Ok(None),
+    let graphs = graph_variants(alloc, net)?;
+    let more = fewer_nodes(alloc, net, graphs.as_slice())?;
+    let one = drawn(alloc, library, net, graphs.as_slice(), Searches::All)?;
+    let other = drawn(alloc, library, net, more.as_slice(), Searches::Trees)?;
+    match (one, other) {
+        (Some(one), Some(other)) => Ok(Some(smaller(library, net, one, other))),
+        (Some(one), None) => Ok(Some(one)),
+        (None, other) => Ok(other),
     }
 }

@@ -43,6 +43,18 @@ fn better(one: Option<Found>, other: Option<Found>) -> Option<Found> {
     }
 }
 
+/// Which searches look for a chip.
+#[derive(Clone, Copy)]
+pub enum Searches {
+    /// All of them.
+    All,
+    /// That for trees that know where their users stand, which finds the smaller chip of nearly all netlists.
+    Trees,
+}
+
+/// So many graphs are searched for rows with few cells, the first ones.
+const ROW_GRAPHS: usize = 3;
+
 /// The draft with the fewest junctions of those that the searches find: of rows with few cells that are placed
 /// afterwards, and of trees that know where their users stand. A further search is a function like these, graphs and a
 /// reach in and a draft out, and one line here.
@@ -51,9 +63,16 @@ pub(crate) fn best_draft(
     graphs: &[Graph],
     three: bool,
     reach: u32,
+    searches: Searches,
     effort: &Effort,
 ) -> Result<Option<Found>, Memory> {
-    let rows = chip_search::search(alloc, graphs, three, reach, effort)?;
     let trees = chip_trees::search(alloc, graphs, three, reach, effort)?;
-    Ok(better(rows, trees))
+    match searches {
+        Searches::All => {
+            let first = graphs.get(..ROW_GRAPHS.min(graphs.len())).unwrap_or(graphs);
+            let rows = chip_search::search(alloc, first, three, reach, effort)?;
+            Ok(better(rows, trees))
+        }
+        Searches::Trees => Ok(trees),
+    }
 }

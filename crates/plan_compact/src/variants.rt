@@ -1,4 +1,4 @@
-// Graphs of one netlist: with and without cuts, and lower ones of both.
+// Graphs of one netlist: with and without cuts, lower ones of both, and those by cuts of four leaves.
 ghost use Rattle.std.specs.Prelude.{◌≡◌, IfOk, OnOk, IfSome};
 ghost use Rattle.mig.specs.declared.refusal.GraphRefusal.TheVariants.{Memory as NoMemory};
 ghost use Rattle.mig.specs.Passes.{IsRebuilt};
@@ -9,6 +9,7 @@ use aq_base::Memory;
 use blif_read::Netlist;
 use circuit::Pass;
 use mig::{Graph, GraphRefusal, Shallower};
+use mig_cuts::CutRewriting;
 use mig_from_netlist::{CoverRefusal, GraphPass};
 use mig_rewrite::CutPass;
 use std::alloc::Global;
@@ -19,6 +20,10 @@ const LONGEST: u32 = 8;
 /// How many nodes a graph has at most of which others are made. A chip has fewer cells, so that time and memory for
 /// greater graphs would be lost.
 const MOST_NODES: usize = 4_000_000;
+
+/// How many nodes a graph has at most that is made anew by cuts of four leaves. A greater one has no chip of a size that
+/// is searched for long, and its cuts would take much memory.
+const MOST_REWRITTEN: usize = 100_000;
 
 /// The one refusal of a pass that is refused for want of memory alone.
 fn no_memory(_refusal: GraphRefusal) -> Memory
@@ -122,4 +127,56 @@ pub fn graph_variants(alloc: Global, net: &Netlist) -> Result<Vec<Graph>, Memory
         Err(CoverRefusal::Memory) => Err(Memory),
         Err(_) => Ok(Vec::new(alloc)),
     }
+}
+
+/// The graph by cuts of four leaves.
+fn rewritten(alloc: Global, pass: &CutRewriting, graph: &Graph) -> Result<Graph, Memory>
+    ensures { IfOk result (λ made. IsRebuilt graph.now made) }
+{
+    match pass.run(alloc, graph) {
+        Ok(made) => Ok(made),
+        Err(refusal) => Err(no_memory(refusal)),
+    }
+}
+
+/// The graph by cuts of four leaves, taken twice, if that has fewer nodes.
+#[tactic(auto, using(mig_from_netlist::proofs::Signals::graph_then))]
+fn rewritten_twice(alloc: Global, _net: &Netlist, graph: &Graph) -> Result<Option<Graph>, Memory>
+    requires { IsGraphOf _net.now graph.now }
+    ensures { IfOk result (λ found. IfSome found (λ made. IsGraphOf _net.now made)) }
+{
+    let pass = CutRewriting::new(alloc)?;
+    let once = rewritten(alloc, &pass, graph)?;
+    let twice = rewritten(alloc, &pass, &once)?;
+    if twice.node_count() < graph.node_count() {
+        Ok(Some(twice))
+    } else {
+        Ok(None)
+    }
+}
+
+/// What is made by cuts of four leaves of the first one of some graphs, if that is not too great.
+fn first_rewritten(alloc: Global, net: &Netlist, graphs: &[Graph]) -> Result<Option<Graph>, Memory>
+    requires { AreGraphsOf net.now graphs.now }
+    ensures { IfOk result (λ found. IfSome found (λ made. IsGraphOf net.now made)) }
+{
+    match graphs.first() {
+        Some(first) if first.node_count() <= MOST_REWRITTEN => rewritten_twice(alloc, net, first),
+        _ => Ok(None),
+    }
+}
+
+/// Further graphs with the answers of a netlist: that by cuts of four leaves of the first one of its graphs, if it has
+/// fewer nodes, and up to seven that are made of it, each with fewer levels. There are none where the first one has more
+/// than 100,000 nodes. They are refused for want of memory alone.
+pub fn fewer_nodes(alloc: Global, net: &Netlist, graphs: &[Graph]) -> Result<Vec<Graph>, Memory>
+    requires { AreGraphsOf net.now graphs.now }
+    ensures { IfOk result (λ more. AreGraphsOf net.now more.items) }
+{
+    let mut more = Vec::new(alloc);
+    let Some(first) = first_rewritten(alloc, net, graphs)? else {
+        return Ok(more);
+    };
+    push_chain(alloc, net, &mut more, first)?;
+    Ok(more)
 }

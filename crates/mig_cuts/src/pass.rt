@@ -1,0 +1,62 @@
+// The pass: a graph by cuts of four leaves.
+ghost use Rattle.std.specs.Prelude.{◌≡◌, IfOk, IfErr};
+ghost use Rattle.mig.specs.declared.refusal.GraphRefusal.TheVariants.{Memory as NoMemory};
+ghost use Rattle.mig.specs.Passes.{IsRebuilt};
+
+use crate::recipes::Recipes;
+use crate::replaced::rewritten;
+use aq_base::Memory;
+use circuit::Pass;
+use mig::{Clean, Graph, GraphRefusal};
+use std::alloc::Global;
+
+/// Makes graphs of fewer nodes and no more levels, by recipes for what nodes compute from four others. It is refused
+/// for want of memory alone.
+#[derive(Drop)]
+pub struct CutRewriting {
+    recipes: Recipes,
+}
+
+impl CutRewriting {
+    /// Makes the recipes; they are refused for want of memory alone.
+    pub fn new(alloc: Global) -> Result<CutRewriting, Memory> {
+        Ok(CutRewriting {
+            recipes: Recipes::new(alloc)?,
+        })
+    }
+}
+
+/// The graph by the chosen cuts, without what serves no output. Where there would be too many nodes, it is the graph
+/// that was given, without what serves no output.
+fn rewritten_graph(alloc: Global, graph: &Graph, recipes: &Recipes) -> Result<Graph, GraphRefusal>
+    ensures made { IfOk result (λ made. IsRebuilt graph.now made) }
+    ensures met { IfErr result (λ refusal. refusal ≡ NoMemory) }
+{
+    match rewritten(alloc, graph, recipes) {
+        Ok(made) => Clean.run(alloc, &made),
+        Err(GraphRefusal::TooManyNodes) => Clean.run(alloc, graph),
+        Err(GraphRefusal::Memory) => Err(GraphRefusal::Memory),
+    }
+}
+
+impl Pass<Graph> for CutRewriting {
+    ghost use Rattle.std.specs.Prelude.{◌≡◌};
+    ghost use Rattle.mig.specs.declared.refusal.GraphRefusal.TheVariants.{Memory as NoMemory};
+    ghost use Rattle.mig.specs.Passes.{IsRebuilt};
+
+    type Out = Graph;
+
+    type Refusal = GraphRefusal;
+
+    ghost may_give = { λ s from to. IsRebuilt from to };
+
+    ghost may_meet = { λ s from refusal. ⊥ };
+
+    ghost is_memory = { λ refusal. refusal ≡ NoMemory };
+
+    ghost keeps = { λ s from to given. given.same };
+
+    fn run(&self, alloc: Global, from: &Graph) -> Result<Graph, GraphRefusal> {
+        rewritten_graph(alloc, from, &self.recipes)
+    }
+}
