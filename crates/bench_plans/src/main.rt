@@ -9,7 +9,7 @@ mod size;
 
 ghost use Rattle.std.specs.Prelude.{◌≤◌, ◌^◌, length, IfOk};
 
-use aq_base::{Files, Memory, StdFiles};
+use aq_base::{Disk, Files, Memory, StdFiles};
 use bench::Bench;
 use blif_read::blif_read;
 use cell_library::{library_a, read_library};
@@ -26,7 +26,8 @@ fn load(rt: &HostRuntime, name: &String) -> Result<Vec<u8>, Fault>
     ensures { IfOk result (λ bytes. length bytes.items ≤ 2 ^ 28) }
 {
     let mut bytes = Vec::new(rt.alloc());
-    match StdFiles::new(rt.alloc(), rt).load(name.as_str(), LONGEST, &mut bytes) {
+    let mut files = StdFiles::new(rt.alloc(), Disk::new(rt.alloc(), rt));
+    match files.load(name.as_str(), LONGEST, &mut bytes) {
         Ok(()) => Ok(bytes),
         Err(refusal) => {
             let name = name.clone().map_err(Memory::from)?;

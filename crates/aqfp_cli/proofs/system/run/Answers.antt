@@ -1,11 +1,23 @@
-use Rattle.std.proofs.Common.{List, Some, subst}
+use Rattle.std.proofs.Common.{◌≡◌, List, [], Some, subst}
 use Rattle.aq_base.specs.History.{Event, all_taken}
-use Rattle.aq_base.specs.StandardStore.{output_of}
+use Rattle.aq_base.specs.StandardStore.{output_of, history_of}
 use Rattle.aqfp_top.specs.Words.{spelled}
 use Rattle.aqfp_top.specs.Lines.{Reports, IsCutShort}
+use Rattle.aqfp_top.specs.Shown.{HearsShapes}
 use Rattle.aqfp_cli.specs.Quiet.{quiet}
 use Rattle.aqfp_cli.proofs.Refusals.{reports_failures}
 use Rattle.aqfp_cli.proofs.system.run.Goals as goal
+
+pub returns-clause-shown : goal.returns-clause-shown
+returns-clause-shown g c first second is ends =
+    let words = spelled c.args.words.now in
+    let files = history_of c.aqfp_run-ending.new.files in
+    let out = output_of c.aqfp_run-ending.new.out in
+    subst (λ (h : List Event). HearsShapes [] files words first second
+    (record { written = Some (all_taken h); history = h }) out)
+    c.requires.quiet_out
+    (subst (λ (h : List Event). HearsShapes h files words first second (output_of c.args.out) out) c.requires.untouched
+    (c.aqfp_run-ending.ensures.hears_shapes first second is ends))
 
 pub returns-clause-reports : goal.returns-clause-reports
 returns-clause-reports g c =
@@ -15,4 +27,4 @@ returns-clause-reports g c =
     reports_failures quiet (output_of err) words fault err.remembers
     (subst (λ (h : List Event). Reports IsCutShort (record { written = Some (all_taken h); history = h })
     (output_of err) words fault)
-    c.new-err.ensures c.aqfp_run-ending.ensures.reports)
+    c.requires.quiet_err c.aqfp_run-ending.ensures.reports)

@@ -1,0 +1,2 @@
+-- Words of the code alone: drafts.
+pub mod Drafts
