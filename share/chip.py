@@ -61,14 +61,15 @@ def end(process):
 def read_report(text):
     """What `aqfp report` says, by the names that the page docs/chip.md has for it."""
     numbers = [[int(word) for word in re.findall(r"\d+", line)] for line in text.splitlines()]
-    if len(numbers) < 5 or [len(each) for each in numbers[:5]] != [4, 7, 1, 2, 2]:
+    if len(numbers) < 6 or [len(each) for each in numbers[:6]] != [4, 7, 1, 2, 2, 3]:
         raise Stop("aqfp report says something else than this script reads")
-    (rows, cells, wires, delay), kinds, (junctions,), (width, height), (longest, limit), *each_row = numbers
+    (rows, cells, wires, delay), kinds, (junctions,), (width, height), (longest, limit), *rest = numbers
+    (skew, even, odd), *each_row = rest
     return {"rows": rows, "cells": cells, "wires": wires, "delay": delay,
             "kinds": dict(zip(("buffer", "inverter", "zero", "one", "split2", "split3", "majority"), kinds)),
             "junctions": junctions, "width": width, "height": height, "area": width * height,
-            "longest": longest, "limit": limit,
-            "each_row": [dict(zip(("row", "phase", "cells", "wires", "longest"), row)) for row in each_row]}
+            "longest": longest, "limit": limit, "skew": skew, "even_ahead": even, "odd_ahead": odd,
+            "each_row": [dict(zip(("row", "phase", "cells", "wires", "longest", "skew"), row)) for row in each_row]}
 
 
 def read_words(chip, library, words, folder):
@@ -164,7 +165,7 @@ def facts_of(chip, report, library, names):
              for wire in chip.wires]
     rows = [{**row, "y": edge} for row, edge in zip(report["each_row"], chip.edges)]
     counts = {key: report[key] for key in ("rows", "cells", "wires", "delay", "kinds", "junctions", "width", "height",
-                                           "area", "longest", "limit")}
+                                           "area", "longest", "limit", "skew", "even_ahead", "odd_ahead")}
     return {"chip": title_of(chip.path), "library": title_of(library),
             "counts": {**counts, "total_length": sum(wire.length for wire in chip.wires)},
             "inputs": port_facts("I", chip.inputs, names[0], chip),

@@ -10,6 +10,7 @@ use Rattle.poly_cut.specs.FlatForm.{wide_flat}
 use Rattle.gds_records.specs.Stream.{IsWideStream}
 use Rattle.cell_library.specs.Library.{LibraryView, limits_of}
 use Rattle.cell_library.specs.Says as library
+use Rattle.shape_extract.specs.CellPlaces.{AreCellPlaces}
 use Rattle.text_report.specs.ReportText.{report_text}
 use Rattle.aqfp_top.specs.Loads.{gds_limit, lib_limit, write_loads, ToldTwo}
 use Rattle.aqfp_top.specs.Stages.{IsFirst, Answers}
@@ -36,8 +37,9 @@ use Rattle.aqfp_top.proofs.LoadedTexts.{told_two_answer}
 -- the text is the report of the chip of the texts
 pub is_report : (gds lib : List ℕ) (layout : WideLayout) (view : LibraryView) (chip : JudgedChip) → IsRead gds layout
     → library.SaysLibrary lib view → IsJudged (wide_flat layout) (limits_of view) chip
-    → IsReport gds lib (report_text chip.flat chip.circuit view.limit)
-is_report gds lib layout view chip is says judged =
+    → (near far : ℕ → ℕ) → AreCellPlaces chip.flat.shapes near far
+    → IsReport gds lib (report_text chip.flat chip.circuit near far view.limit)
+is_report gds lib layout view chip is says judged near far places =
     let ruled = is_ruled (wide_flat layout) (limits_of view) chip judged in
     record {
       circuit = chip.circuit;
@@ -48,7 +50,10 @@ is_report gds lib layout view chip is says judged =
         rules = ruled.rules;
         circuit_is = ruled.circuit_is;
       };
-      text_is = ap (λ f. report_text f chip.circuit view.limit) judged.flat_is;
+      near = near;
+      far = far;
+      places = subst (λ f. AreCellPlaces f.shapes near far) judged.flat_is places;
+      text_is = ap (λ f. report_text f chip.circuit near far view.limit) judged.flat_is;
     }
 
 -- nothing is wrong with the texts

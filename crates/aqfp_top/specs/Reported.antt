@@ -6,17 +6,21 @@ use Rattle.aq_base.specs.Store.{Contents}
 use Rattle.aq_base.specs.History.{Event}
 use Rattle.poly_cut.specs.FlatForm.{wide_flat}
 use Rattle.circuit_extracted.specs.Circuits.{CircuitView}
+use Rattle.shape_extract.specs.CellPlaces.{AreCellPlaces}
 use Rattle.text_report.specs.ReportText.{report_text}
 use Rattle.aqfp_top.specs.Words.{word_at}
 use Rattle.aqfp_top.specs.Checks.{MakesCircuit}
 use Rattle.aqfp_top.specs.Histories.{loaded}
 use Rattle.aqfp_top.specs.Loads.{ToldTwo}
 
--- the layout is a chip with this library, and the text is its report
+-- the layout is a chip with this library, its cells lie so along the excitation lines, and the text is its report
 pub record IsReport (gds lib text : List ℕ) : Type 0 where
   pub circuit : CircuitView
   pub makes : MakesCircuit gds lib circuit
-  pub text_is : text ≡ report_text (wide_flat makes.layout) circuit makes.library.view.limit
+  pub near : ℕ → ℕ
+  pub far : ℕ → ℕ
+  pub places : AreCellPlaces (wide_flat makes.layout).shapes near far
+  pub text_is : text ≡ report_text (wide_flat makes.layout) circuit near far makes.library.view.limit
 
 -- the text is the report of the chip under GDS with the library under LIB, where the store is told
 pub record IsReportOf (contents : Option Contents) (words : List (List ℕ)) (text : List ℕ) : Type 0 where

@@ -1,6 +1,7 @@
 // `report GDS LIB`.
-ghost use Rattle.std.specs.Prelude.{◌≡◌, ◌≤◌, ◌^◌, length, IfOk, IfErr, OnOk};
+ghost use Rattle.std.specs.Prelude.{◌≡◌, ℕ, ◌≤◌, ◌^◌, length, IfOk, IfErr, OnOk};
 ghost use Rattle.std.specs.Result.{result_err};
+ghost use Rattle.shape_extract.specs.CellPlaces.{AreCellPlaces};
 ghost use Rattle.text_report.specs.ReportText.{report_text};
 ghost use Rattle.aqfp_top.specs.Words.{spelled};
 ghost use Rattle.aqfp_top.specs.Stages.{Answers};
@@ -26,10 +27,10 @@ use crate::reading::read_layout;
 use aq_base::{Files, Sink};
 use cell_library::Library;
 use gds_records::one_wide_reading;
+use shape_extract::cells_have_places;
 use std::alloc::Global;
 use text_report::print_report;
 
-#[tactic(auto, using(crate::proofs::OutEnds::ends_text))]
 fn print<O: Sink>(
     alloc: Global,
     chip: &JudgedChip,
@@ -37,7 +38,8 @@ fn print<O: Sink>(
     out: &mut O,
 ) -> Result<(), Fault>
     requires { KeepsAll (limits_of cells.now) chip.now }
-    ensures { PrintsText (report_text chip.now.flat chip.now.circuit cells.now.limit)
+    ensures { (near far : ℕ → ℕ) → AreCellPlaces chip.now.flat.shapes near far
+        → PrintsText (report_text chip.now.flat chip.now.circuit near far cells.now.limit)
         (O.output out.old) (O.output out.new) result }
 {
     let printed = print_report(alloc, &chip.flat, &chip.circuit, cells, out);
@@ -55,6 +57,7 @@ fn report_texts<O: Sink>(alloc: Global, gds: Vec<u8>, lib: &[u8], out: &mut O) -
     ensures only { IfErr result IsPrintingFault }
 {
     one_wide_reading();
+    cells_have_places();
     let layout = read_layout(alloc, &gds)?;
     drop(gds);
     let cells = read_cells(alloc, lib)?;

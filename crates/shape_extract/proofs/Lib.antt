@@ -55,3 +55,5 @@ mod StandIns
 pub mod Members
 pub mod InPlanes
 mod CellPlaces
+mod PartWays
+mod FrameSpans

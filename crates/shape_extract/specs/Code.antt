@@ -15,6 +15,7 @@ pub mod FirstRule
 -- excitation lines:
 pub mod LineParts
 pub mod LineWalk
+pub mod Ways
 pub mod Lines
 -- circuits:
 pub mod Corners

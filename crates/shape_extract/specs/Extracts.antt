@@ -1,14 +1,12 @@
 -- What an extraction answers: the circuit of a layout that keeps the rules of circuits, or the first of these rules
 -- that is broken.
-use Rattle.std.specs.Prelude.{◌≡◌, ℕ, ◌<◌, true, List, Some, slice_get}
-use Rattle.geom.specs.declared.shapes.Shape.{Shape}
+use Rattle.std.specs.Prelude.{ℕ, ◌<◌}
 use Rattle.geom.specs.declared.shapes.Flat.{Flat}
 use Rattle.layout_rules.specs.declared.rule.Rule.{Rule}
 use Rattle.layout_rules.specs.Limits.{Limits}
 use Rattle.layout_rules.specs.Reports.{ReportsNone}
 use Rattle.layout_rules.specs.CircuitRules.{CellsBroken, NetsBroken, RowsBroken, LabelsBroken}
 use Rattle.layout_rules.specs.ExcitationRule.{ExcitationBroken, IsExcitedAt}
-use Rattle.layout_rules.specs.Layers.{is_frame}
 use Rattle.layout_rules.specs.RuleTable.{place, first_of_geometry}
 use Rattle.layout_rules.specs.Rules.{KeepsCircuitRules, FirstBroken}
 use Rattle.shape_extract.specs.declared.extraction.ExtractRefusal.{ExtractRefusal}

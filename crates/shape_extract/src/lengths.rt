@@ -9,7 +9,8 @@ use aq_base::Memory;
 use geom::{Rect, Shape, height, width};
 use std::alloc::Global;
 
-fn longer_side(rect: &Rect) -> u64
+/// The longer side of the rectangle.
+pub fn longer_side(rect: &Rect) -> u64
     ensures { result ≡ longer_side rect.now }
 {
     width(rect).max(height(rect))

@@ -19,6 +19,7 @@ mod tables;
 
 pub use circuit_extracted::{ExCell, Extracted, Feed, one_answer};
 pub use circuits::cell_places::cells_have_places;
+pub use circuits::cell_spans::{Span, cell_spans};
 pub use circuits::first_chip::first_chip_extracted;
 pub use circuits::kept_laws::{extracted_keeps, some_circuit};
 pub use circuits::uniqueness::one_circuit;

@@ -1,21 +1,41 @@
 // What is in chips: reports, and the shapes and labels of two numbers.
-use std::alloc::Global;
+use std::alloc::{AllocError, Global};
 use std::test::Fail;
 use test_runs::{
     AND, LIBRARY_A, Outcome, STREAM, XOR, edited, holding, put_at, ran, stored, with_chip,
 };
 
 const FIRST_REPORT: &str =
-    "rows 2 cells 2 wires 1 delay 1\nbuffers 2 inverters 0 zeros 0 ones 0 splitters 0 0 majorities 0\njunctions 4\nwidth 8000 height 24000\nlongest 10000 of 180000\nrow 0 phase 0 cells 1 wires 1 longest 10000\nrow 1 phase 1 cells 1 wires 0 longest 0\n";
+    "rows 2 cells 2 wires 1 delay 1\nbuffers 2 inverters 0 zeros 0 ones 0 splitters 0 0 majorities 0\njunctions 4\nwidth 8000 height 24000\nlongest 10000 of 180000\nskew 8000 even 8000 odd 8000\nrow 0 phase 0 cells 1 wires 1 longest 10000 skew 8000\nrow 1 phase 1 cells 1 wires 0 longest 0 skew 0\n";
 
 const AND_REPORT: &str =
-    "rows 3 cells 5 wires 4 delay 2\nbuffers 3 inverters 0 zeros 1 ones 0 splitters 0 0 majorities 1\njunctions 14\nwidth 24000 height 38000\nlongest 10000 of 180000\nrow 0 phase 0 cells 3 wires 3 longest 10000\nrow 1 phase 1 cells 1 wires 1 longest 10000\nrow 2 phase 2 cells 1 wires 0 longest 0\n";
+    "rows 3 cells 5 wires 4 delay 2\nbuffers 3 inverters 0 zeros 1 ones 0 splitters 0 0 majorities 1\njunctions 14\nwidth 24000 height 38000\nlongest 10000 of 180000\nskew 86000 even 86000 odd 24000\nrow 0 phase 0 cells 3 wires 3 longest 10000 skew 24000\nrow 1 phase 1 cells 1 wires 1 longest 10000 skew 86000\nrow 2 phase 2 cells 1 wires 0 longest 0 skew 0\n";
 
 const XOR_REPORT: &str =
-    "rows 6 cells 13 wires 14 delay 5\nbuffers 4 inverters 1 zeros 2 ones 1 splitters 2 0 majorities 3\njunctions 38\nwidth 48000 height 84000\nlongest 30000 of 180000\nrow 0 phase 0 cells 2 wires 2 longest 30000\nrow 1 phase 1 cells 4 wires 6 longest 30000\nrow 2 phase 2 cells 2 wires 2 longest 18000\nrow 3 phase 3 cells 3 wires 3 longest 10000\nrow 4 phase 0 cells 1 wires 1 longest 10000\nrow 5 phase 1 cells 1 wires 0 longest 0\n";
+    "rows 6 cells 13 wires 14 delay 5\nbuffers 4 inverters 1 zeros 2 ones 1 splitters 2 0 majorities 3\njunctions 38\nwidth 48000 height 84000\nlongest 30000 of 180000\nskew 138000 even 138000 odd 40000\nrow 0 phase 0 cells 2 wires 2 longest 30000 skew 40000\nrow 1 phase 1 cells 4 wires 6 longest 30000 skew 138000\nrow 2 phase 2 cells 2 wires 2 longest 18000 skew 32000\nrow 3 phase 3 cells 3 wires 3 longest 10000 skew 86000\nrow 4 phase 0 cells 1 wires 1 longest 10000 skew 24000\nrow 5 phase 1 cells 1 wires 0 longest 0 skew 0\n";
 
 const BUFFER_REPORT: &str =
-    "rows 1 cells 1 wires 0 delay 0\nbuffers 1 inverters 0 zeros 0 ones 0 splitters 0 0 majorities 0\njunctions 2\nwidth 8000 height 10000\nlongest 0 of 180000\nrow 0 phase 0 cells 1 wires 0 longest 0\n";
+    "rows 1 cells 1 wires 0 delay 0\nbuffers 1 inverters 0 zeros 0 ones 0 splitters 0 0 majorities 0\njunctions 2\nwidth 8000 height 10000\nlongest 0 of 180000\nskew 8000 even 8000 odd 8000\nrow 0 phase 0 cells 1 wires 0 longest 0 skew 0\n";
+
+// The same where the even line begins with a bar without frames below the chip.
+const LATE_REPORT: &str =
+    "rows 3 cells 5 wires 4 delay 2\nbuffers 3 inverters 0 zeros 1 ones 0 splitters 0 0 majorities 1\njunctions 14\nwidth 24000 height 38000\nlongest 10000 of 180000\nskew 150000 even 150000 odd 24000\nrow 0 phase 0 cells 3 wires 3 longest 10000 skew 88000\nrow 1 phase 1 cells 1 wires 1 longest 10000 skew 150000\nrow 2 phase 2 cells 1 wires 0 longest 0 skew 0\n";
+
+// The corners of a start, a bar and a link that come before the first row.
+const LATE_START: [i32; 10] = [
+    24000, -30000, 28000, -30000, 28000, -20000, 24000, -20000, 24000, -30000,
+];
+
+const LATE_BAR: [i32; 10] = [
+    0, -30000, 24000, -30000, 24000, -20000, 0, -20000, 0, -30000,
+];
+
+const LATE_LINK: [i32; 10] = [
+    -4000, -30000, 0, -30000, 0, 10000, -4000, 10000, -4000, -30000,
+];
+
+// The left side of a start that is 66 micrometres long.
+const FAR_LEFT: [u8; 4] = [255, 254, 254, 48];
 
 // Whether a run ends well, prints this text, and stores nothing.
 fn prints(run: &Outcome, told: &str) -> bool {
@@ -49,6 +69,54 @@ fn chips_are_reported(rt: HostRuntime) -> Result<(), Fail> {
     assert!(rt; is_reported(alloc, AND, AND_REPORT)?);
     assert!(rt; is_reported(alloc, XOR, XOR_REPORT)?);
     assert!(rt; prints(&buffer_alone(alloc)?, BUFFER_REPORT));
+    Ok(())
+}
+
+// Adds a part of the even line.
+fn add_part(kind: u8, corners: &[i32], stream: &mut Vec<u8>) -> Result<(), AllocError> {
+    stream.extend_from_slice(&[
+        0, 4, 8, 0, 0, 6, 13, 2, 0, 14, 0, 6, 14, 2, 0, kind, 0, 44, 16, 3,
+    ])?;
+    for each in corners {
+        stream.extend_from_slice(&each.to_be_bytes())?;
+    }
+    stream.extend_from_slice(&[0, 4, 17, 0])?;
+    Ok(())
+}
+
+// The parts with which the even line begins late.
+fn late_parts(alloc: Global) -> Result<Vec<u8>, AllocError> {
+    let mut parts = Vec::new(alloc);
+    add_part(2, &LATE_START, &mut parts)?;
+    add_part(0, &LATE_BAR, &mut parts)?;
+    add_part(1, &LATE_LINK, &mut parts)?;
+    Ok(parts)
+}
+
+// The chip of the conjunction, with another start of the odd line.
+fn long_start(alloc: Global, stream: &[u8]) -> Result<Vec<u8>, AllocError> {
+    let first = edited(alloc, stream, put_at(2078, 4, &FAR_LEFT))?;
+    let second = edited(alloc, &first, put_at(2102, 4, &FAR_LEFT))?;
+    edited(alloc, &second, put_at(2110, 4, &FAR_LEFT))
+}
+
+// Whether this chip has this report.
+fn is_chip_reported(alloc: Global, stream: &[u8], told: &str) -> Result<bool, Fail> {
+    let run = ran(alloc, holding(alloc, stream)?, "report chip lib")?;
+    Ok(prints(&run, told))
+}
+
+#[test]
+fn lines_begin_elsewhere(rt: HostRuntime) -> Result<(), Fail> {
+    let alloc = rt.alloc();
+    let files = stored(alloc, AND, LIBRARY_A, "")?;
+    let built = ran(alloc, files, "build net lib out")?;
+    let stream = built.files.bytes("out").unwrap_or(&[]);
+    let parts = late_parts(alloc)?;
+    let late = edited(alloc, stream, put_at(942, 64, &parts))?;
+    assert!(rt; is_chip_reported(alloc, &late, LATE_REPORT)?);
+    let long = long_start(alloc, stream)?;
+    assert!(rt; is_chip_reported(alloc, &long, AND_REPORT)?);
     Ok(())
 }
 

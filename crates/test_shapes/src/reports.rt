@@ -14,10 +14,10 @@ use std::test::Fail;
 use text_report::{print_report, print_shape};
 
 const FIRST: &[u8] =
-    b"rows 2 cells 2 wires 1 delay 1\nbuffers 2 inverters 0 zeros 0 ones 0 splitters 0 0 majorities 0\njunctions 4\nwidth 8000 height 24000\nlongest 10000 of 180000\nrow 0 phase 0 cells 1 wires 1 longest 10000\nrow 1 phase 1 cells 1 wires 0 longest 0\n";
+    b"rows 2 cells 2 wires 1 delay 1\nbuffers 2 inverters 0 zeros 0 ones 0 splitters 0 0 majorities 0\njunctions 4\nwidth 8000 height 24000\nlongest 10000 of 180000\nskew 8000 even 8000 odd 8000\nrow 0 phase 0 cells 1 wires 1 longest 10000 skew 8000\nrow 1 phase 1 cells 1 wires 0 longest 0 skew 0\n";
 
 const KINDS: &[u8] =
-    b"rows 1 cells 7 wires 0 delay 0\nbuffers 1 inverters 1 zeros 1 ones 1 splitters 1 1 majorities 1\njunctions 18\nwidth 96000 height 10000\nlongest 0 of 180000\nrow 0 phase 0 cells 7 wires 0 longest 0\n";
+    b"rows 1 cells 7 wires 0 delay 0\nbuffers 1 inverters 1 zeros 1 ones 1 splitters 1 1 majorities 1\njunctions 18\nwidth 96000 height 10000\nlongest 0 of 180000\nskew 24000 even 24000 odd 24000\nrow 0 phase 0 cells 7 wires 0 longest 0 skew 0\n";
 
 // Whether the chip keeps the rules of library A and its report was printed.
 fn is_reported(

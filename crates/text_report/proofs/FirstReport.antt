@@ -5,16 +5,17 @@ use Rattle.geom.specs.FirstChip.{first_flat}
 use Rattle.circuit_extracted.specs.FirstCircuit.{first_circuit}
 use Rattle.std.specs.Fmt.{digits}
 use Rattle.text_answers.specs.Counts.{counts_line}
-use Rattle.text_report.specs.FirstReport.{first_report}
+use Rattle.text_report.specs.FirstReport.{first_report, first_near, first_far}
 use Rattle.text_report.specs.Kinds.{kinds_of}
 use Rattle.text_report.specs.ReportText.{small_cells, splitters_head, majorities_end, kinds_line, junctions_line}
-use Rattle.text_report.specs.ReportText.{size_line, longest_line, row_head, row_counts, row_text, head_text}
-use Rattle.text_report.specs.ReportText.{report_text}
+use Rattle.text_report.specs.ReportText.{size_line, longest_line, skew_line, row_head, row_counts, row_end}
+use Rattle.text_report.specs.ReportText.{row_text, head_text, report_text}
 use Rattle.text_report.specs.ShapeLines.{box_head, corners_text, box_line, label_head, label_line, shape_line}
 
-pub report_computes : report_text first_flat first_circuit 180000 ≡ first_report
+pub report_computes : report_text first_flat first_circuit first_near first_far 180000 ≡ first_report
 unfolding report_text head_text kinds_line small_cells splitters_head majorities_end junctions_line size_line
-    longest_line row_text row_head row_counts counts_line kinds_of first_report first_flat first_circuit digits
+    longest_line skew_line row_text row_head row_counts row_end counts_line kinds_of first_report first_flat
+    first_circuit digits
 report_computes = refl
 
 pub frame_computes : shape_line first_flat 0 ≡ codes "shape 0 layer 20 datatype 1 box 0 0 8000 10000\n"

@@ -14,3 +14,4 @@ mod PrintedRows
 mod Kept
 mod FirstReport
 mod LeastOutline
+mod Skewed

@@ -2,11 +2,13 @@
 use Rattle.std.proofs.Common.{◌≡◌, ℕ, zero, suc, ◌+◌, ◌-◌, ◌<◌, ◌≤◌, List, [], ◌++◌, length, Result, Ok, Err}
 use Rattle.std.proofs.Common.{OnOk}
 use Rattle.std.proofs.Common.{IfErr, refl, sym, ap, subst, ◌∙◌, arith, append_assoc, append-nil, add-one}
-use Rattle.std.specs.Prelude.{slice_index, Bool}
+use Rattle.std.specs.Prelude.{slice_index, Bool, max}
+use Rattle.std.proofs.Math.Path.{fun_ext}
 use Rattle.aq_base.specs.Output.{Output, printed}
 use Rattle.aq_base.specs.declared.store.StoreRefusal.{StoreRefusal}
 use Rattle.geom.specs.declared.shapes.Flat.{Flat}
 use Rattle.circuit_extracted.specs.Circuits.{CircuitView}
+use Rattle.pulse_sim.specs.Travelling.{skew_of, even_of, odd_of}
 use Rattle.text_answers.specs.Counts.{counts_line}
 use Rattle.text_answers.specs.WordLines.{answers_text, answers_to}
 use Rattle.text_answers.specs.Printing.{PrintsWithin, IsPrinted, PutsPage, RefusesPage}
@@ -16,9 +18,9 @@ use Rattle.text_report.specs.declared.kinds.Kinds.{Kinds}
 use Rattle.text_report.specs.declared.tables.RowTable.{RowTable}
 use Rattle.text_report.specs.Kinds.{kinds_of, junction_count, cells_in}
 use Rattle.text_report.specs.Outline.{chip_width, chip_height}
-use Rattle.text_report.specs.Wires.{wires_from}
-use Rattle.text_report.specs.ReportText.{kinds_line, junctions_line, size_line, longest_line, row_text, row_line}
-use Rattle.text_report.specs.ReportText.{row_lines, head_text, report_text}
+use Rattle.text_report.specs.Wires.{wires, wires_from, longest_of}
+use Rattle.text_report.specs.ReportText.{kinds_line, junctions_line, size_line, longest_line, skew_line, row_text}
+use Rattle.text_report.specs.ReportText.{row_line, row_lines, head_text, report_text}
 use Rattle.text_report.specs.Code.Figures.{AreFigures, head_of, row_of_table, rows_of_table, text_of}
 
 -- before the first row
@@ -95,40 +97,80 @@ counts_alone circuit words none =
 
 -- ---- the figures of a chip make its report
 
-module _ (flat : Flat) (circuit : CircuitView) (figures : Figures) (limit : ℕ) (are : AreFigures flat circuit
-    figures) where
-  head_is : head_of figures limit ≡ head_text flat circuit limit
+module _ (flat : Flat) (circuit : CircuitView) (near far : ℕ → ℕ) (figures : Figures) (limit : ℕ)
+    (are : AreFigures flat circuit near far figures)
+    (greater : skew_of circuit near far ≡ max (even_of circuit near far) (odd_of circuit near far)) where
+  skew_is : skew_line (max figures.even figures.odd) figures.even figures.odd
+      ≡ skew_line (skew_of circuit near far) (even_of circuit near far) (odd_of circuit near far)
+  skew_is =
+      ap (λ (n : ℕ). skew_line (max n figures.odd) n figures.odd) are.even_is
+      ∙ ap (λ (n : ℕ). skew_line (max (even_of circuit near far) n) (even_of circuit near far) n) are.odd_is
+      ∙ ap (λ (n : ℕ). skew_line n (even_of circuit near far) (odd_of circuit near far)) (sym greater)
+
+  head_is : head_of figures limit ≡ head_text flat circuit near far limit
   unfolding head_of head_text
   head_is =
+      let end : List ℕ = skew_line (max figures.even figures.odd) figures.even figures.odd in
       ap (λ (k : Kinds). kinds_line k ++ junctions_line figures.junctions ++ size_line figures.width figures.height
-      ++ longest_line figures.longest limit) are.kinds_are
+      ++ longest_line figures.longest limit ++ end) are.kinds_are
       ∙ (ap (λ (n : ℕ). kinds_line (kinds_of circuit.cells) ++ junctions_line n
-      ++ size_line figures.width figures.height ++ longest_line figures.longest limit) are.junctions_are
+      ++ size_line figures.width figures.height ++ longest_line figures.longest limit ++ end) are.junctions_are
       ∙ (ap (λ (n : ℕ). kinds_line (kinds_of circuit.cells) ++ junctions_line (junction_count circuit.cells)
-      ++ size_line n figures.height ++ longest_line figures.longest limit) are.width_is
+      ++ size_line n figures.height ++ longest_line figures.longest limit ++ end) are.width_is
       ∙ (ap (λ (n : ℕ). kinds_line (kinds_of circuit.cells) ++ junctions_line (junction_count circuit.cells)
-      ++ size_line (chip_width flat.shapes) n ++ longest_line figures.longest limit) are.height_is
-      ∙ ap (λ (n : ℕ). kinds_line (kinds_of circuit.cells) ++ junctions_line (junction_count circuit.cells)
-      ++ size_line (chip_width flat.shapes) (chip_height flat.shapes) ++ longest_line n limit) are.longest_is)))
+      ++ size_line (chip_width flat.shapes) n ++ longest_line figures.longest limit ++ end) are.height_is
+      ∙ (ap (λ (n : ℕ). kinds_line (kinds_of circuit.cells) ++ junctions_line (junction_count circuit.cells)
+      ++ size_line (chip_width flat.shapes) (chip_height flat.shapes) ++ longest_line n limit ++ end) are.longest_is
+      ∙ ap (λ (text : List ℕ). kinds_line (kinds_of circuit.cells) ++ junctions_line (junction_count circuit.cells)
+      ++ size_line (chip_width flat.shapes) (chip_height flat.shapes)
+      ++ longest_line (longest_of flat circuit (wires flat circuit)) limit ++ text) skew_is))))
 
-  row_is : (row : ℕ) → row < circuit.rows → row_of_table figures.rows row ≡ row_line flat circuit row
+  row_is : (row : ℕ) → row < circuit.rows → row_of_table figures.rows row ≡ row_line flat circuit near far row
   row_is row lt =
-      ap (λ (n : ℕ). row_text row n (slice_index figures.rows.wires.items row)
-      (slice_index figures.rows.longest.items row)) (are.rows_are.cells_are.each row lt)
-      ∙ (ap (λ (n : ℕ). row_text row (cells_in row circuit.cells) n (slice_index figures.rows.longest.items row))
+      let rows = figures.rows in
+      let cells : ℕ = cells_in row circuit.cells in
+      let count : ℕ = length (wires_from flat circuit row) in
+      ap (λ (n : ℕ). row_text row n (slice_index rows.wires.items row) (slice_index rows.longest.items row)
+      (slice_index rows.skews.items row)) (are.rows_are.cells_are.each row lt)
+      ∙ (ap (λ (n : ℕ). row_text row cells n (slice_index rows.longest.items row) (slice_index rows.skews.items row))
       (are.rows_are.wires_are.each row lt)
-      ∙ ap (λ (n : ℕ). row_text row (cells_in row circuit.cells) (length (wires_from flat circuit row)) n)
-      (are.rows_are.longest_are.each row lt))
+      ∙ (ap (λ (n : ℕ). row_text row cells count n (slice_index rows.skews.items row))
+      (are.rows_are.longest_are.each row lt)
+      ∙ ap (λ (n : ℕ). row_text row cells count (longest_of flat circuit (wires_from flat circuit row)) n)
+      (are.rows_are.skews_are.each row lt)))
 
-  rows_are : (n : ℕ) → n ≤ circuit.rows → rows_of_table figures.rows n ≡ row_lines flat circuit n
+  rows_are : (n : ℕ) → n ≤ circuit.rows → rows_of_table figures.rows n ≡ row_lines flat circuit near far n
   rows_are zero le = refl
   rows_are (suc row) le =
       ap (λ (t : List ℕ). t ++ row_of_table figures.rows row) (rows_are row (omega arith))
-      ∙ ap (λ (t : List ℕ). row_lines flat circuit row ++ t) (row_is row (omega arith))
+      ∙ ap (λ (t : List ℕ). row_lines flat circuit near far row ++ t) (row_is row (omega arith))
 
-  pub report_is : counts_line circuit ++ text_of figures limit circuit.rows ≡ report_text flat circuit limit
+  pub report_is : counts_line circuit ++ text_of figures limit circuit.rows ≡ report_text flat circuit near far limit
   unfolding report_text
   report_is =
       ap (λ (t : List ℕ). counts_line circuit ++ t)
       (ap (λ (t : List ℕ). t ++ rows_of_table figures.rows circuit.rows) head_is
-      ∙ ap (λ (t : List ℕ). head_text flat circuit limit ++ t) (rows_are circuit.rows (omega arith)))
+      ∙ ap (λ (t : List ℕ). head_text flat circuit near far limit ++ t) (rows_are circuit.rows (omega arith)))
+
+-- ---- by any places of the cells
+
+pub same_report : (flat : Flat) (circuit : CircuitView) (near far other_near other_far : ℕ → ℕ) (limit : ℕ)
+    → ((c : ℕ) → (near c ≡ other_near c) × (far c ≡ other_far c))
+    → report_text flat circuit near far limit ≡ report_text flat circuit other_near other_far limit
+same_report flat circuit near far other_near other_far limit same =
+    ap (λ (n : ℕ → ℕ). report_text flat circuit n far limit) (fun_ext (λ (c : ℕ). (same c).0))
+    ∙ ap (λ (n : ℕ → ℕ). report_text flat circuit other_near n limit) (fun_ext (λ (c : ℕ). (same c).1))
+
+-- ---- and so from the figures, by any places of the cells
+
+pub the_report : (flat : Flat) (circuit : CircuitView) (near far other_near other_far : ℕ → ℕ) (figures : Figures)
+    (limit other_limit : ℕ) → AreFigures flat circuit near far figures
+    → skew_of circuit near far ≡ max (even_of circuit near far) (odd_of circuit near far)
+    → limit ≡ other_limit
+    → ((c : ℕ) → (near c ≡ other_near c) × (far c ≡ other_far c))
+    → counts_line circuit ++ text_of figures limit circuit.rows
+    ≡ report_text flat circuit other_near other_far other_limit
+the_report flat circuit near far other_near other_far figures limit other_limit are greater limit_is same =
+    report_is flat circuit near far figures limit are greater
+    ∙ (ap (λ (n : ℕ). report_text flat circuit near far n) limit_is
+    ∙ same_report flat circuit near far other_near other_far other_limit same)

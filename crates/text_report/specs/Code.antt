@@ -2,4 +2,5 @@
 pub mod Sources
 pub mod Heights
 pub mod Tables
+pub mod Skews
 pub mod Figures

@@ -10,7 +10,7 @@ ghost use Rattle.geom.specs.FirstChip.{first_flat};
 ghost use Rattle.circuit_extracted.specs.Circuits.{CircuitView};
 ghost use Rattle.circuit_extracted.specs.FirstCircuit.{first_circuit};
 ghost use Rattle.shape_extract.specs.Extraction.{IsCircuitOf};
-ghost use Rattle.text_report.specs.FirstReport.{first_report};
+ghost use Rattle.text_report.specs.FirstReport.{first_report, first_near, first_far};
 ghost use Rattle.text_report.specs.Outline.{outline, IsLeastHolding};
 ghost use Rattle.text_report.specs.ReportText.{report_text};
 ghost use Rattle.text_report.specs.ShapeLines.{shape_line};
@@ -18,7 +18,7 @@ ghost use Rattle.text_report.specs.Wires.{wires_of_rows};
 
 /// The report of the first chip, and the lines of its first frame, of a start and of its last label. It does nothing.
 pub fn first_chip_report()
-    ensures report { report_text first_flat first_circuit 180000 ≡ first_report }
+    ensures report { report_text first_flat first_circuit first_near first_far 180000 ≡ first_report }
     ensures frame { shape_line first_flat 0 ≡ codes "shape 0 layer 20 datatype 1 box 0 0 8000 10000\n" }
     ensures start { shape_line first_flat 3 ≡ codes "shape 3 layer 14 datatype 2 box -4000 0 0 10000\n" }
     ensures label { shape_line first_flat 16 ≡ codes "label 16 layer 30 at 5000 23500\n" }

@@ -10,6 +10,7 @@ mod lengths;
 mod printing;
 mod rules;
 mod shape_lines;
+mod skews;
 mod sources;
 mod tables;
 mod wire_tables;

@@ -1,16 +1,17 @@
 // The report of a chip, line by line.
-ghost use Rattle.std.specs.Prelude.{◌≡◌, ◌++◌, ◌<◌, ◌≤◌, ◌^◌, length, OnOk, IfErr};
+ghost use Rattle.std.specs.Prelude.{◌≡◌, ℕ, ◌++◌, ◌<◌, ◌≤◌, ◌^◌, length, max, OnOk, IfErr};
 ghost use Rattle.std.specs.Fmt.{decimal};
 ghost use Rattle.aq_base.specs.Output.{printed};
 ghost use Rattle.geom.specs.FlatForm.{flat_count};
 ghost use Rattle.cell_library.specs.Library.{limits_of};
 ghost use Rattle.layout_rules.specs.Rules.{KeepsRules};
+ghost use Rattle.shape_extract.specs.CellPlaces.{AreCellPlaces};
 ghost use Rattle.shape_extract.specs.Extracts.{Extracts};
 ghost use Rattle.text_answers.specs.Counts.{counts_line};
 ghost use Rattle.text_answers.specs.Printing.{PrintsWithin, PrintsLine, RefusesLine};
 ghost use Rattle.text_report.specs.ReportText.{small_cells, splitters_head, majorities_end, kinds_line};
-ghost use Rattle.text_report.specs.ReportText.{junctions_line, size_line, longest_line};
-ghost use Rattle.text_report.specs.ReportText.{row_head, row_counts, report_text};
+ghost use Rattle.text_report.specs.ReportText.{junctions_line, size_line, longest_line, skew_line};
+ghost use Rattle.text_report.specs.ReportText.{row_head, row_counts, row_end, report_text};
 ghost use Rattle.text_report.specs.Code.Figures.{head_of, row_of_table, text_of};
 
 use crate::figures::{Figures, read_figures};
@@ -20,6 +21,8 @@ use aq_base::{Memory, Sink, StoreRefusal};
 use cell_library::Library;
 use circuit_extracted::Extracted;
 use geom::Flat;
+use pulse_sim::skew_is_computed;
+use shape_extract::{cell_spans, cells_have_places};
 use std::alloc::Global;
 use text_answers::{print_answers, put_full_page, put_page, read_words};
 
@@ -100,6 +103,16 @@ fn add_longest(alloc: Global, longest: u64, limit: u64, page: &mut Vec<u8>) -> R
     Ok(())
 }
 
+#[tactic(auto, unfolding(crate::specs::ReportText::skew_line))]
+fn add_skew(alloc: Global, even: u128, odd: u128, page: &mut Vec<u8>) -> Result<(), Memory>
+    ensures { OnOk result (page.new.items ≡ page.old.items ++ skew_line (max even odd) even odd) }
+{
+    let skew = even.max(odd);
+    let line = format!(in alloc; "skew {skew} even {even} odd {odd}\n")?;
+    page.extend_from_slice(line.as_bytes())?;
+    Ok(())
+}
+
 /// Adds the lines before those of the rows to the page.
 #[tactic(auto, unfolding(crate::specs::Code::Figures::head_of))]
 fn add_head(alloc: Global, figures: &Figures, limit: u64, page: &mut Vec<u8>) -> Result<(), Memory>
@@ -108,7 +121,8 @@ fn add_head(alloc: Global, figures: &Figures, limit: u64, page: &mut Vec<u8>) ->
     add_kinds(alloc, &figures.kinds, page)?;
     add_junctions(alloc, figures.junctions, page)?;
     add_size(alloc, figures.width, figures.height, page)?;
-    add_longest(alloc, figures.longest, limit, page)
+    add_longest(alloc, figures.longest, limit, page)?;
+    add_skew(alloc, figures.even, figures.odd, page)
 }
 
 #[tactic(auto, unfolding(crate::specs::ReportText::row_head))]
@@ -131,7 +145,16 @@ fn add_row_counts(
 ) -> Result<(), Memory>
     ensures { OnOk result (page.new.items ≡ page.old.items ++ row_counts cells wires longest) }
 {
-    let text = format!(in alloc; " cells {cells} wires {wires} longest {longest}\n")?;
+    let text = format!(in alloc; " cells {cells} wires {wires} longest {longest}")?;
+    page.extend_from_slice(text.as_bytes())?;
+    Ok(())
+}
+
+#[tactic(auto, unfolding(crate::specs::ReportText::row_end))]
+fn add_row_end(alloc: Global, skew: u128, page: &mut Vec<u8>) -> Result<(), Memory>
+    ensures { OnOk result (page.new.items ≡ page.old.items ++ row_end skew) }
+{
+    let text = format!(in alloc; " skew {skew}\n")?;
     page.extend_from_slice(text.as_bytes())?;
     Ok(())
 }
@@ -142,6 +165,7 @@ fn add_row(alloc: Global, table: &RowTable, row: u32, page: &mut Vec<u8>) -> Res
     requires cells { row < length table.now.cells.items }
     requires wires { row < length table.now.wires.items }
     requires longest { row < length table.now.longest.items }
+    requires skews { row < length table.now.skews.items }
     ensures { OnOk result (page.new.items ≡ page.old.items ++ row_of_table table.now row) }
 {
     let place = row as usize;
@@ -152,7 +176,8 @@ fn add_row(alloc: Global, table: &RowTable, row: u32, page: &mut Vec<u8>) -> Res
         table.wires[place],
         table.longest[place],
         page,
-    )
+    )?;
+    add_row_end(alloc, table.skews[place], page)
 }
 
 /// Prints the line of a row.
@@ -166,6 +191,7 @@ fn print_row<O: Sink>(
     requires cells { row < length table.now.cells.items }
     requires wires { row < length table.now.wires.items }
     requires longest { row < length table.now.longest.items }
+    requires skews { row < length table.now.skews.items }
     ensures put { OnOk result (PrintsLine (O.output out.old) (O.output out.new) page.old.items page.new.items
         (row_of_table table.now row)) }
     ensures refused { IfErr result (RefusesLine (O.output out.old) (O.output out.new) page.old.items
@@ -188,6 +214,7 @@ fn print_figures<O: Sink>(
     requires cells { rows ≤ length figures.now.rows.cells.items }
     requires wires { rows ≤ length figures.now.rows.wires.items }
     requires longest { rows ≤ length figures.now.rows.longest.items }
+    requires skews { rows ≤ length figures.now.rows.skews.items }
     ensures added { OnOk result (O.output out.new
         ≡ printed (text_of figures.now limit rows) (O.output out.old)) }
     ensures part { IfErr result (PrintsWithin (O.output out.old) (O.output out.new)
@@ -231,6 +258,7 @@ fn print_lines<O: Sink>(
     requires cells { circuit.now.rows ≤ length figures.now.rows.cells.items }
     requires wires { circuit.now.rows ≤ length figures.now.rows.wires.items }
     requires longest { circuit.now.rows ≤ length figures.now.rows.longest.items }
+    requires skews { circuit.now.rows ≤ length figures.now.rows.skews.items }
     ensures added { OnOk result (O.output out.new
         ≡ printed (counts_line circuit.now ++ text_of figures.now limit circuit.now.rows) (O.output out.old)) }
     ensures part { IfErr result (PrintsWithin (O.output out.old) (O.output out.new)
@@ -241,8 +269,8 @@ fn print_lines<O: Sink>(
 }
 
 /// Prints the report of a chip that keeps the rules of the library: the counts line, the lines of its cells by kind, of
-/// its junctions, of its size and of its longest wire, and a line for each row. On a refusal some first bytes of that
-/// text were put.
+/// its junctions, of its size, of its longest wire and of its skew, and a line for each row. Where its cells lie along
+/// the excitation lines follows from the shapes. On a refusal some first bytes of that text were put.
 pub fn print_report<O: Sink>(
     alloc: Global,
     flat: &Flat,
@@ -253,13 +281,19 @@ pub fn print_report<O: Sink>(
     requires few { flat_count flat.now < 2 ^ 32 }
     requires circuit { Extracts flat.now circuit.now }
     requires rules { KeepsRules flat.now (limits_of library.now) }
-    ensures added { OnOk result (O.output out.new
-        ≡ printed (report_text flat.now circuit.now library.now.limit) (O.output out.old)) }
-    ensures part { IfErr result (PrintsWithin (O.output out.old) (O.output out.new)
-        (report_text flat.now circuit.now library.now.limit)) }
+    ensures added { (near far : ℕ → ℕ) → AreCellPlaces flat.now.shapes near far → OnOk result (O.output out.new
+        ≡ printed (report_text flat.now circuit.now near far library.now.limit) (O.output out.old)) }
+    ensures part { (near far : ℕ → ℕ) → AreCellPlaces flat.now.shapes near far
+        → IfErr result (PrintsWithin (O.output out.old) (O.output out.new)
+        (report_text flat.now circuit.now near far library.now.limit)) }
 {
+    cells_have_places();
+    skew_is_computed();
     let limit = library.limit();
-    let Ok(figures) = read_figures(alloc, flat, circuit) else {
+    let Ok(spans) = cell_spans(alloc, flat.shapes.as_slice()) else {
+        return Err(StoreRefusal::Memory);
+    };
+    let Ok(figures) = read_figures(alloc, flat, circuit, &spans) else {
         return Err(StoreRefusal::Memory);
     };
     print_lines(alloc, circuit, &figures, limit, out)

@@ -12,12 +12,14 @@ use circuit_extracted::{ExCell, Extracted};
 use geom::Flat;
 use std::alloc::Global;
 
-/// For each row how many cells stand in it, how many wires leave it, and the greatest length of these, in nanometres.
+/// For each row how many cells stand in it, how many wires leave it, and the greatest length and the greatest skew of
+/// these, in nanometres.
 #[derive(Drop)]
 pub struct RowTable {
     pub cells: Vec<u64>,
     pub wires: Vec<u64>,
     pub longest: Vec<u64>,
+    pub skews: Vec<u128>,
 }
 
 /// Counts the cells of each row. All counts are 0 before.

@@ -3,6 +3,7 @@ pub mod assembly;
 pub mod cell_feeds;
 pub mod cell_list;
 pub mod cell_places;
+pub mod cell_spans;
 pub mod drivers;
 pub mod first_chip;
 pub mod frames;

@@ -27,7 +27,7 @@ use layout_rules::layers::{BAR, EVEN_LINE};
 use std::alloc::Global;
 
 /// A frame, and a part of a line over it.
-struct LiesOver;
+pub struct LiesOver;
 
 impl PairTest for LiesOver {
     ghost passes = { λ s frame part. lies_over frame part };

@@ -66,7 +66,8 @@ fn follow(
     requires filed { IsFiled shapes.now filed.now }
     requires few { length shapes.now < 2 ^ 32 }
     requires begun { IsBegun shapes.now before.old order.old.items }
-    ensures { IfOk result (λ _. AreWalked shapes.now before.new) }
+    ensures walk { IfOk result (λ _. IsLineWalk shapes.now before.new order.new.items) }
+    ensures walked { IfOk result (λ _. AreWalked shapes.now before.new) }
 {
     let mut found = Vec::new(alloc);
     let mut done = 0;
@@ -80,16 +81,32 @@ fn follow(
 }
 
 /// Walks along the lines: for each shape that is reached from a start the one before it, a start being its own, and
-/// the number of shapes for each other one.
+/// the number of shapes for each other one. The order, which is empty before, gets the shapes as they are reached.
+pub fn walk_in_order(
+    alloc: Global,
+    shapes: &[Shape],
+    filed: &FiledShapes,
+    order: &mut Vec<u32>,
+) -> Result<Vec<u32>, Memory>
+    requires few { length shapes.now < 2 ^ 32 }
+    requires filed { IsFiled shapes.now filed.now }
+    requires fresh { length order.old.items ≡ 0 }
+    ensures walk { IfOk result (λ before. IsLineWalk shapes.now before.items order.new.items) }
+    ensures walked { IfOk result (λ before. AreWalked shapes.now before.items) }
+{
+    let none = shapes.len() as u32;
+    let mut before = vec![in alloc; none; shapes.len()]?;
+    begin(shapes, &mut before, order)?;
+    follow(alloc, shapes, filed, &mut before, order)?;
+    Ok(before)
+}
+
+/// The same without the order.
 pub fn walk_lines(alloc: Global, shapes: &[Shape], filed: &FiledShapes) -> Result<Vec<u32>, Memory>
     requires few { length shapes.now < 2 ^ 32 }
     requires filed { IsFiled shapes.now filed.now }
     ensures { IfOk result (λ before. AreWalked shapes.now before.items) }
 {
-    let none = shapes.len() as u32;
-    let mut before = vec![in alloc; none; shapes.len()]?;
     let mut order = Vec::new(alloc);
-    begin(shapes, &mut before, &mut order)?;
-    follow(alloc, shapes, filed, &mut before, &mut order)?;
-    Ok(before)
+    walk_in_order(alloc, shapes, filed, &mut order)
 }

@@ -8,3 +8,4 @@ pub mod line_walk;
 pub mod reached_parts;
 pub mod starts;
 pub mod unknown_parts;
+pub mod ways;

@@ -6,6 +6,7 @@ use Rattle.layout_rules.specs.LengthRule.{net_length}
 use Rattle.circuit_extracted.specs.Circuits.{CircuitView}
 use Rattle.text_report.specs.declared.tables.RowTable.{RowTable}
 use Rattle.text_report.specs.Kinds.{cells_in}
+use Rattle.text_report.specs.Skews.{row_skew}
 use Rattle.text_report.specs.Wires.{wires_from, longest_of, greatest}
 use Rattle.text_report.specs.Code.Sources.{is_row}
 
@@ -24,12 +25,14 @@ pub record HasEntries (rows : ℕ) (entry : ℕ → ℕ) (entries : List ℕ) : 
   pub many : length entries ≡ rows
   pub each : (row : ℕ) → row < rows → slice_index entries row ≡ entry row
 
--- for each row how many cells stand in it, how many wires leave it, and the length of the longest of these
-pub record IsRowTable (flat : Flat) (circuit : CircuitView) (table : RowTable) : Type 0 where
+-- for each row how many cells stand in it, how many wires leave it, and the greatest length and the greatest skew of
+-- these
+pub record IsRowTable (flat : Flat) (circuit : CircuitView) (near far : ℕ → ℕ) (table : RowTable) : Type 0 where
   pub cells_are : HasEntries circuit.rows (λ row. cells_in row circuit.cells) table.cells.items
   pub wires_are : HasEntries circuit.rows (λ row. length (wires_from flat circuit row)) table.wires.items
   pub longest_are : HasEntries circuit.rows (λ row. longest_of flat circuit (wires_from flat circuit row))
       table.longest.items
+  pub skews_are : HasEntries circuit.rows (row_skew circuit near far) table.skews.items
 
 -- for each net the length of its metal in nanometres
 pub record AreNetLengths (shapes : List Shape) (nets lengths : List ℕ) : Type 0 where

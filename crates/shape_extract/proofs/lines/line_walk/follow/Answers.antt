@@ -26,6 +26,6 @@ loop-done-preserved c =
       within = omega (arith, s.longer);
     }
 
-pub returns : goal.returns
-returns c = walked _ _ _ c.loop-done.invariant.walk c.loop-done.invariant.starts c.loop-done.done
+pub returns-clause-walked : goal.returns-clause-walked
+returns-clause-walked c = walked _ _ _ c.loop-done.invariant.walk c.loop-done.invariant.starts c.loop-done.done
     (omega arith) c.loop-done.invariant.contacts
