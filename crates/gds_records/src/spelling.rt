@@ -5,7 +5,7 @@ ghost use Rattle.std.specs.List.{flat_map};
 ghost use Rattle.geom.specs.Writable.{names_in, IsWritableShape, IsWritableLabel, IsWritableElement};
 ghost use Rattle.geom.specs.Writable.{IsWritableStructure, IsWritableText};
 ghost use Rattle.gds_records.specs.Records.{record_with, spelled};
-ghost use Rattle.gds_records.specs.Code.Buffer.{Gains};
+ghost use Rattle.gds_records.specs.Code.Buffer.{Gains, boundary_records};
 ghost use Rattle.gds_records.specs.Writing.{two_bytes, padded, corner_bits, element_records, dates, library_head};
 
 use crate::codes::{
@@ -14,7 +14,7 @@ use crate::codes::{
     TWO_BYTE_INTEGER, UNITS, XY,
 };
 use aq_base::Memory;
-use geom::{Element, Label, Rect, Shape, Structure};
+use geom::{Element, Label, Shape, Structure};
 
 fn put(into: &mut Vec<u8>, bytes: &[u8]) -> Result<(), Memory>
     ensures { OnOk result (Gains into.old.items into.new.items bytes.now) }
@@ -33,16 +33,16 @@ pub fn put_mark(into: &mut Vec<u8>, kind: u8) -> Result<(), Memory>
 fn put_head(into: &mut Vec<u8>, length: u16, kind: u8, form: u8) -> Result<(), Memory>
     ensures { OnOk result (Gains into.old.items into.new.items (two_bytes length ++ kind ∷ form ∷ [])) }
 {
-    put(into, &length.to_be_bytes())?;
-    put(into, &[kind, form])
+    let [high, low] = length.to_be_bytes();
+    put(into, &[high, low, kind, form])
 }
 
 fn put_number(into: &mut Vec<u8>, kind: u8, number: u16) -> Result<(), Memory>
     ensures { OnOk result
         (Gains into.old.items into.new.items (spelled (record_with kind TWO_BYTE_INTEGER (two_bytes number)))) }
 {
-    put_head(into, 6, kind, TWO_BYTE_INTEGER)?;
-    put(into, &number.to_be_bytes())
+    let [high, low] = number.to_be_bytes();
+    put(into, &[0, 6, kind, TWO_BYTE_INTEGER, high, low])
 }
 
 // A signed number as the bits of its two's complement.
@@ -53,20 +53,15 @@ fn bits(number: i64) -> u32
     (number as i32).cast_unsigned()
 }
 
-fn put_point(into: &mut Vec<u8>, x: u32, y: u32) -> Result<(), Memory>
-    ensures { OnOk result (Gains into.old.items into.new.items (to_be_bytes w32 x ++ to_be_bytes w32 y)) }
-{
-    put(into, &x.to_be_bytes())?;
-    put(into, &y.to_be_bytes())
-}
-
 fn put_place(into: &mut Vec<u8>, x: u32, y: u32) -> Result<(), Memory>
     ensures { OnOk result
         (Gains into.old.items into.new.items
         (spelled (record_with XY FOUR_BYTE_INTEGER (to_be_bytes w32 x ++ to_be_bytes w32 y)))) }
 {
-    put_head(into, 12, XY, FOUR_BYTE_INTEGER)?;
-    put_point(into, x, y)
+    let form = FOUR_BYTE_INTEGER;
+    let [a0, a1, a2, a3] = x.to_be_bytes();
+    let [b0, b1, b2, b3] = y.to_be_bytes();
+    put(into, &[0, 12, XY, form, a0, a1, a2, a3, b0, b1, b2, b3])
 }
 
 fn put_text(into: &mut Vec<u8>, kind: u8, text: &[u8]) -> Result<(), Memory>
@@ -80,17 +75,33 @@ fn put_text(into: &mut Vec<u8>, kind: u8, text: &[u8]) -> Result<(), Memory>
     if odd == 1 { put(into, &[0]) } else { Ok(()) }
 }
 
-fn put_corners(into: &mut Vec<u8>, x0: u32, y0: u32, x1: u32, y1: u32) -> Result<(), Memory>
+// A boundary, by the bits of its coordinates, is put as one array, since most of a chip's bytes are boundaries.
+fn put_boundary(
+    into: &mut Vec<u8>,
+    shape: &Shape,
+    x0: u32,
+    y0: u32,
+    x1: u32,
+    y1: u32,
+) -> Result<(), Memory>
     ensures { OnOk result
-        (Gains into.old.items into.new.items (spelled (record_with XY FOUR_BYTE_INTEGER (corner_bits x0 y0 x1 y1)))) }
+        (Gains into.old.items into.new.items
+        (flat_map spelled (boundary_records shape.now.layer shape.now.datatype (corner_bits x0 y0 x1 y1)))) }
 {
-    put_head(into, 44, XY, FOUR_BYTE_INTEGER)?;
-    put_point(into, x0, y0)?;
-    put_point(into, x1, y0)?;
-    put_point(into, x1, y1)?;
-    put_point(into, x0, y1)?;
-    put_point(into, x0, y0)?;
-    Ok(())
+    let (short, long) = (TWO_BYTE_INTEGER, FOUR_BYTE_INTEGER);
+    let [l0, l1] = shape.layer.to_be_bytes();
+    let [d0, d1] = shape.datatype.to_be_bytes();
+    let [a0, a1, a2, a3] = x0.to_be_bytes();
+    let [b0, b1, b2, b3] = y0.to_be_bytes();
+    let [c0, c1, c2, c3] = x1.to_be_bytes();
+    let [e0, e1, e2, e3] = y1.to_be_bytes();
+    let records = [
+        0, 4, BOUNDARY, NO_DATA, 0, 6, LAYER, short, l0, l1, 0, 6, DATATYPE, short, d0, d1, 0, 44,
+        XY, long, a0, a1, a2, a3, b0, b1, b2, b3, c0, c1, c2, c3, b0, b1, b2, b3, c0, c1, c2, c3,
+        e0, e1, e2, e3, a0, a1, a2, a3, e0, e1, e2, e3, a0, a1, a2, a3, b0, b1, b2, b3, 0, 4,
+        ENDEL, NO_DATA,
+    ];
+    put(into, &records)
 }
 
 fn put_box(into: &mut Vec<u8>, shape: &Shape) -> Result<(), Memory>
@@ -98,12 +109,8 @@ fn put_box(into: &mut Vec<u8>, shape: &Shape) -> Result<(), Memory>
     ensures { OnOk result
         (Gains into.old.items into.new.items (flat_map spelled (element_records [] (Element.Box shape.now)))) }
 {
-    put_mark(into, BOUNDARY)?;
-    put_number(into, LAYER, shape.layer)?;
-    put_number(into, DATATYPE, shape.datatype)?;
     let r = &shape.rect;
-    put_corners(into, bits(r.x0), bits(r.y0), bits(r.x1), bits(r.y1))?;
-    put_mark(into, ENDEL)?;
+    put_boundary(into, shape, bits(r.x0), bits(r.y0), bits(r.x1), bits(r.y1))?;
     Ok(())
 }
 
