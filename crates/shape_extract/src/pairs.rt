@@ -8,10 +8,11 @@ ghost use Rattle.layout_rules.specs.Reports.{PassTogether};
 ghost use Rattle.shape_extract.specs.Searches.{AreThose, passes_with};
 ghost use Rattle.shape_extract.specs.Filed.{IsFiled};
 ghost use Rattle.shape_extract.specs.Passing.{PassesIn};
-ghost use Rattle.shape_extract.specs.Planes.{in_plane, ArePlanes};
+ghost use Rattle.shape_extract.specs.Planes.{in_plane, ArePlanes, IsPlane};
+ghost use Rattle.shape_extract.specs.declared.planes.Plane.TheVariants.{Lines};
 
 use crate::filed_shapes::{FiledShapes, list_of_kinds};
-use crate::planes::{Plane, Planes};
+use crate::planes::{FiledPlane, Plane, Planes};
 use aq_base::Memory;
 use geom::{Buckets, Shape};
 
@@ -120,5 +121,27 @@ pub fn list_filed_partners<T: PairTest>(
         found,
     )?;
     list_of_kinds(filed, found)?;
+    Ok(())
+}
+
+/// Lists the numbers of the parts of lines that pass the test together with the shape of this number, by a query of
+/// these parts alone. Of a heap of equal parts each one is tested.
+pub fn list_line_partners<T: PairTest>(
+    test: &T,
+    shapes: &[Shape],
+    lines: &FiledPlane,
+    a: u32,
+    found: &mut Vec<u32>,
+) -> Result<(), Memory>
+    requires filed { IsPlane Lines shapes.now lines.now }
+    requires within { a < length shapes.now }
+    requires reach { T.reach test.now ≤ 1000000 }
+    requires planar { (s t : Shape) → T.passes test.now s t ≡ true → in_plane Lines t ≡ true }
+    ensures { IfOk result (λ _. AreThose (PassTogether (T.passes test.now) shapes.now a) found.new.items) }
+{
+    let first = &shapes[a as usize];
+    first.rect.known();
+    lines.list_near(&first.rect, test.reach(), found)?;
+    keep_passing(test, first, shapes, found);
     Ok(())
 }

@@ -76,7 +76,8 @@ fn numbers_in(alloc: Global, shapes: &[Shape], plane: Plane) -> Result<Vec<u32>,
     Ok(numbers)
 }
 
-fn file_plane(alloc: Global, shapes: &[Shape], plane: Plane) -> Result<FiledPlane, Memory>
+/// Files the shapes of the plane. It is refused for want of memory alone.
+pub fn file_plane(alloc: Global, shapes: &[Shape], plane: Plane) -> Result<FiledPlane, Memory>
     requires { length shapes.now < 2 ^ 32 }
     ensures { IfOk result (IsPlane plane shapes.now) }
 {
@@ -116,7 +117,7 @@ fn name_places(numbers: &[u32], found: &mut Vec<u32>)
 impl FiledPlane {
     /// Leaves in `found` the numbers of the shapes in the plane that are no further from the rectangle than the margin,
     /// in x and in y, rising. It is refused for want of memory alone.
-    fn list_near(&self, rect: &Rect, margin: u64, found: &mut Vec<u32>) -> Result<(), Memory>
+    pub fn list_near(&self, rect: &Rect, margin: u64, found: &mut Vec<u32>) -> Result<(), Memory>
         requires { margin ≤ 1000000 }
         ensures { IfOk result (λ _. (plane : Plane) (shapes : List Shape) → IsPlane plane shapes self.now
             → AreNearIn plane shapes rect.now margin found.new.items) }

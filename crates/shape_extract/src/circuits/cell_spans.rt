@@ -7,18 +7,18 @@ ghost use Rattle.layout_rules.specs.Layers.{is_frame};
 ghost use Rattle.layout_rules.specs.LinePlaces.{way_into, IsPlaced};
 ghost use Rattle.layout_rules.specs.Reports.{Passes, ReportsNone};
 ghost use Rattle.shape_extract.specs.CellPlaces.{AreCellPlaces, far_at, near_at};
-ghost use Rattle.shape_extract.specs.Filed.{IsFiled};
+ghost use Rattle.shape_extract.specs.Planes.{IsPlane};
+ghost use Rattle.shape_extract.specs.declared.planes.Plane.TheVariants.{Lines};
 ghost use Rattle.shape_extract.specs.Code.Lines.{AreWalked};
 ghost use Rattle.shape_extract.specs.Code.Ways.{AreWays, IsSpanUnder, IsUnder};
 
 use crate::circuits::frames::ordered_frames;
-use crate::filed_shapes::{FiledShapes, file_kinds};
 use crate::lines::crossed_bars::at_left;
 use crate::lines::excited_frames::LiesOver;
 use crate::lines::line_walk::walk_in_order;
 use crate::lines::ways::ways_of;
-use crate::pairs::list_filed_partners;
-use crate::planes::Plane;
+use crate::pairs::list_line_partners;
+use crate::planes::{FiledPlane, Plane, file_plane};
 use aq_base::Memory;
 use geom::{Shape, width};
 use std::alloc::Global;
@@ -68,34 +68,34 @@ fn span_under(shapes: &[Shape], before: &[u32], ways: &[u128], bar: u32, frame: 
 /// The bar over the frame of this number.
 fn bar_over(
     shapes: &[Shape],
-    filed: &FiledShapes,
+    lines: &FiledPlane,
     before: &[u32],
     f: u32,
     found: &mut Vec<u32>,
 ) -> Result<u32, Memory>
     requires few { length shapes.now < 2 ^ 32 }
-    requires filed { IsFiled shapes.now filed.now }
+    requires filed { IsPlane Lines shapes.now lines.now }
     requires kept { ReportsNone (ExcitationBroken shapes.now) }
     requires walked { AreWalked shapes.now before.now }
     requires frame { Passes is_frame shapes.now f }
     requires within { f < length shapes.now }
     ensures { IfOk result (IsUnder shapes.now before.now f) }
 {
-    list_filed_partners(&LiesOver, Plane::Lines, shapes, filed, f, found)?;
+    list_line_partners(&LiesOver, shapes, lines, f, found)?;
     Ok(found[0])
 }
 
 /// Where the frame of this number lies.
 fn span_of(
     shapes: &[Shape],
-    filed: &FiledShapes,
+    lines: &FiledPlane,
     before: &[u32],
     ways: &[u128],
     f: u32,
     found: &mut Vec<u32>,
 ) -> Result<Span, Memory>
     requires few { length shapes.now < 2 ^ 32 }
-    requires filed { IsFiled shapes.now filed.now }
+    requires filed { IsPlane Lines shapes.now lines.now }
     requires kept { ReportsNone (ExcitationBroken shapes.now) }
     requires walked { AreWalked shapes.now before.now }
     requires ways { AreWays shapes.now before.now ways.now }
@@ -104,7 +104,7 @@ fn span_of(
     ensures { IfOk result (λ span. (frame : Shape) → slice_get shapes.now f ≡ Some frame
         → IsPlaced shapes.now frame span.near span.far) }
 {
-    let bar = bar_over(shapes, filed, before, f, found)?;
+    let bar = bar_over(shapes, lines, before, f, found)?;
     Ok(span_under(shapes, before, ways, bar, &shapes[f as usize]))
 }
 
@@ -112,12 +112,12 @@ fn span_of(
 fn spans_by(
     alloc: Global,
     shapes: &[Shape],
-    filed: &FiledShapes,
+    lines: &FiledPlane,
     before: &[u32],
     ways: &[u128],
 ) -> Result<Vec<Span>, Memory>
     requires few { length shapes.now < 2 ^ 32 }
-    requires filed { IsFiled shapes.now filed.now }
+    requires filed { IsPlane Lines shapes.now lines.now }
     requires kept { ReportsNone (ExcitationBroken shapes.now) }
     requires walked { AreWalked shapes.now before.now }
     requires ways { AreWays shapes.now before.now ways.now }
@@ -127,7 +127,7 @@ fn spans_by(
     let mut found = Vec::new(alloc);
     let mut spans = Vec::new(alloc);
     for place in 0..frames.len() {
-        let span = span_of(shapes, filed, before, ways, frames[place], &mut found)?;
+        let span = span_of(shapes, lines, before, ways, frames[place], &mut found)?;
         spans.push(span)?;
     }
     Ok(spans)
@@ -140,9 +140,9 @@ pub fn cell_spans(alloc: Global, shapes: &[Shape]) -> Result<Vec<Span>, Memory>
     requires kept { ReportsNone (ExcitationBroken shapes.now) }
     ensures { IfOk result (λ spans. AreCellPlaces shapes.now (near_at spans.items) (far_at spans.items)) }
 {
-    let filed = file_kinds(alloc, shapes)?;
+    let lines = file_plane(alloc, shapes, Plane::Lines)?;
     let mut order = Vec::new(alloc);
-    let before = walk_in_order(alloc, shapes, &filed, &mut order)?;
+    let before = walk_in_order(alloc, shapes, &lines, &mut order)?;
     let ways = ways_of(alloc, shapes, &before, &order)?;
-    spans_by(alloc, shapes, &filed, &before, &ways)
+    spans_by(alloc, shapes, &lines, &before, &ways)
 }

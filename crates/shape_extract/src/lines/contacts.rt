@@ -4,11 +4,13 @@ ghost use Rattle.std.specs.List.{filter};
 ghost use Rattle.layout_rules.specs.ExcitationLines.{meet, Contact, IsPart};
 ghost use Rattle.shape_extract.specs.Searches.{SaysWhether, AreThose};
 ghost use Rattle.shape_extract.specs.Filed.{IsFiled};
+ghost use Rattle.shape_extract.specs.Planes.{IsPlane};
+ghost use Rattle.shape_extract.specs.declared.planes.Plane.TheVariants.{Lines};
 
 use crate::filed_shapes::FiledShapes;
 use crate::layers::is_line;
-use crate::pairs::{PairTest, list_filed_partners};
-use crate::planes::Plane;
+use crate::pairs::{PairTest, list_filed_partners, list_line_partners};
+use crate::planes::{FiledPlane, Plane};
 use aq_base::Memory;
 use geom::{Shape, touches};
 
@@ -45,8 +47,8 @@ fn remove_number(numbers: &mut Vec<u32>, a: u32)
     numbers.retain(|n| *n != a);
 }
 
-/// Lists the contacts of the shape of this number.
-pub fn list_contacts(
+/// Lists the contacts of the shape of this number, where many parts may be equal.
+pub fn list_filed_contacts(
     shapes: &[Shape],
     filed: &FiledShapes,
     a: u32,
@@ -58,6 +60,22 @@ pub fn list_contacts(
     ensures { IfOk result (λ _. AreThose (Contact shapes.now a) found.new.items) }
 {
     list_filed_partners(&Meet, Plane::Lines, shapes, filed, a, found)?;
+    remove_number(found, a);
+    Ok(())
+}
+
+/// Lists the contacts of the shape of this number, where no part has many.
+pub fn list_contacts(
+    shapes: &[Shape],
+    lines: &FiledPlane,
+    a: u32,
+    found: &mut Vec<u32>,
+) -> Result<(), Memory>
+    requires filed { IsPlane Lines shapes.now lines.now }
+    requires within { a < length shapes.now }
+    ensures { IfOk result (λ _. AreThose (Contact shapes.now a) found.new.items) }
+{
+    list_line_partners(&Meet, shapes, lines, a, found)?;
     remove_number(found, a);
     Ok(())
 }

@@ -14,11 +14,12 @@ ghost use Rattle.layout_rules.specs.ExcitationRule.{AreLaidOut};
 ghost use Rattle.layout_rules.specs.Code.ChainRule.{IsChainUncrossed};
 ghost use Rattle.shape_extract.specs.Searches.{SaysWhether, Finds, AreThose};
 ghost use Rattle.shape_extract.specs.Code.Lines.{AreWalked, GoesOnWrongly};
-ghost use Rattle.shape_extract.specs.Filed.{IsFiled};
+ghost use Rattle.shape_extract.specs.Planes.{IsPlane};
+ghost use Rattle.shape_extract.specs.declared.planes.Plane.TheVariants.{Lines};
 
-use crate::filed_shapes::FiledShapes;
 use crate::lines::contacts::{is_part, list_contacts};
 use crate::lines::reached_parts::is_reached;
+use crate::planes::FiledPlane;
 use crate::search::{Part, Report, first_of};
 use aq_base::Memory;
 use geom::{Shape, holds_in_x, touches_in_y};
@@ -92,12 +93,12 @@ fn goes_on_wrongly(shapes: &[Shape], contacts: &[u32], a: u32, b: u32) -> bool
 /// Whether the shape of this number is a bar that its line doesn't run along from one side to the other.
 fn is_not_crossed(
     shapes: &[Shape],
-    filed: &FiledShapes,
+    lines: &FiledPlane,
     before: &[u32],
     b: u32,
     found: &mut Vec<u32>,
 ) -> Result<bool, Memory>
-    requires filed { IsFiled shapes.now filed.now }
+    requires filed { IsPlane Lines shapes.now lines.now }
     requires few { length shapes.now < 2 ^ 32 }
     requires within { b < length shapes.now }
     requires lines { AreLaidOut shapes.now }
@@ -114,7 +115,7 @@ fn is_not_crossed(
     if !enters(&shapes[a as usize], &shapes[b as usize]) {
         return Ok(true);
     }
-    list_contacts(shapes, filed, b, found)?;
+    list_contacts(shapes, lines, b, found)?;
     let wrong = goes_on_wrongly(shapes, found.as_slice(), a, b);
     Ok(wrong)
 }
@@ -123,13 +124,13 @@ fn is_not_crossed(
 #[derive(Drop)]
 struct UncrossedBars<'a> {
     shapes: &'a [Shape],
-    filed: &'a FiledShapes,
+    lines: &'a FiledPlane,
     before: &'a [u32],
 }
 
 impl<'a> Part for UncrossedBars<'a> {
     ghost valid = { λ s. (length s.shapes.now < 2 ^ 32)
-        × (AreLaidOut s.shapes.now × AreWalked s.shapes.now s.before.now) × IsFiled s.shapes.now s.filed.now };
+        × (AreLaidOut s.shapes.now × AreWalked s.shapes.now s.before.now) × IsPlane Lines s.shapes.now s.lines.now };
 
     ghost count = { λ s. length s.shapes.now };
 
@@ -140,7 +141,7 @@ impl<'a> Part for UncrossedBars<'a> {
     }
 
     fn second(&self, a: u32, found: &mut Vec<u32>) -> Result<Option<u32>, Memory> {
-        if is_not_crossed(self.shapes, self.filed, self.before, a, found)? {
+        if is_not_crossed(self.shapes, self.lines, self.before, a, found)? {
             return Ok(Some(a));
         }
         Ok(None)
@@ -151,10 +152,10 @@ impl<'a> Part for UncrossedBars<'a> {
 pub fn find_uncrossed(
     alloc: Global,
     shapes: &[Shape],
-    filed: &FiledShapes,
+    lines: &FiledPlane,
     before: &[u32],
 ) -> Result<Option<Report>, Memory>
-    requires filed { IsFiled shapes.now filed.now }
+    requires filed { IsPlane Lines shapes.now lines.now }
     requires few { length shapes.now < 2 ^ 32 }
     requires lines { AreLaidOut shapes.now }
     requires walked { AreWalked shapes.now before.now }
@@ -164,7 +165,7 @@ pub fn find_uncrossed(
         alloc,
         &UncrossedBars {
             shapes,
-            filed,
+            lines,
             before,
         },
     )

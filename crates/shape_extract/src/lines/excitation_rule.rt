@@ -5,6 +5,8 @@ ghost use Rattle.layout_rules.specs.ExcitationRule.{IsCutOff, IsNotCrossed, IsUn
 ghost use Rattle.shape_extract.specs.Searches.{Finds};
 ghost use Rattle.shape_extract.specs.Code.Lines.{ExcitesFrames};
 ghost use Rattle.shape_extract.specs.Filed.{IsFiled};
+ghost use Rattle.shape_extract.specs.Planes.{IsPlane};
+ghost use Rattle.shape_extract.specs.declared.planes.Plane.TheVariants.{Lines};
 
 use crate::filed_shapes::FiledShapes;
 use crate::lines::crossed_bars::find_uncrossed;
@@ -14,6 +16,7 @@ use crate::lines::line_walk::walk_lines;
 use crate::lines::reached_parts::find_cut_off;
 use crate::lines::starts::find_start_fault;
 use crate::lines::unknown_parts::find_unknown_part;
+use crate::planes::{FiledPlane, Plane, file_plane};
 use crate::search::Report;
 use crate::tables::row_edges::rows;
 use aq_base::Memory;
@@ -25,26 +28,26 @@ use std::alloc::Global;
 fn find_along_lines(
     alloc: Global,
     shapes: &[Shape],
-    filed: &FiledShapes,
+    lines: &FiledPlane,
 ) -> Result<Option<Report>, Memory>
-    requires filed { IsFiled shapes.now filed.now }
+    requires filed { IsPlane Lines shapes.now lines.now }
     requires few { length shapes.now < 2 ^ 32 }
     requires lines { AreLaidOut shapes.now }
     ensures finds { IfOk result (Finds (Afterwards (Alone (IsCutOff shapes.now))
         (Afterwards (Alone (IsNotCrossed shapes.now)) (Alone (IsUnexcited shapes.now))))) }
     ensures excited { IfOk result (ExcitesFrames shapes.now) }
 {
-    let before = walk_lines(alloc, shapes, filed)?;
+    let before = walk_lines(alloc, shapes, lines)?;
     let cut_off = find_cut_off(alloc, shapes, before.as_slice())?;
     if let Some(report) = cut_off {
         return Ok(Some(report));
     }
-    let uncrossed = find_uncrossed(alloc, shapes, filed, before.as_slice())?;
+    let uncrossed = find_uncrossed(alloc, shapes, lines, before.as_slice())?;
     if let Some(report) = uncrossed {
         return Ok(Some(report));
     }
     let edges = rows(alloc, shapes)?;
-    find_unexcited(alloc, shapes, filed, before.as_slice(), edges.as_slice())
+    find_unexcited(alloc, shapes, lines, before.as_slice(), edges.as_slice())
 }
 
 /// The first report of the rule of excitation lines. Where there is none, each frame lies under one bar alone, which
@@ -73,5 +76,6 @@ pub fn find_excitation(
     if let Some(report) = misjoined {
         return Ok(Some(report));
     }
-    find_along_lines(alloc, shapes, filed)
+    let lines = file_plane(alloc, shapes, Plane::Lines)?;
+    find_along_lines(alloc, shapes, &lines)
 }

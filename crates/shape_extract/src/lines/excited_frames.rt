@@ -10,15 +10,15 @@ ghost use Rattle.layout_rules.specs.Code.ChainRule.{IsChainExcited, IsChainUnexc
 ghost use Rattle.shape_extract.specs.Searches.{SaysWhether, Finds};
 ghost use Rattle.shape_extract.specs.Code.Edges.{IsAmong};
 ghost use Rattle.shape_extract.specs.Code.Lines.{AreWalked, lies_over, Excites, Judges, ChainsExciteFrames};
-ghost use Rattle.shape_extract.specs.Filed.{IsFiled};
+ghost use Rattle.shape_extract.specs.Planes.{IsPlane};
+ghost use Rattle.shape_extract.specs.declared.planes.Plane.TheVariants.{Lines};
 
-use crate::filed_shapes::FiledShapes;
 use crate::layers::{is_frame, is_line};
 use crate::lines::contacts::is_part;
 use crate::lines::crossed_bars::at_left;
 use crate::lines::reached_parts::is_reached;
-use crate::pairs::{PairTest, list_filed_partners};
-use crate::planes::Plane;
+use crate::pairs::{PairTest, list_line_partners};
+use crate::planes::FiledPlane;
 use crate::search::Report;
 use crate::tables::row_edges::{lower_edge, row_at};
 use aq_base::Memory;
@@ -79,13 +79,13 @@ fn excites(shapes: &[Shape], before: &[u32], edges: &[i64], b: u32, frame: &Shap
 /// Whether one bar alone lies over the frame of this number, contains it and has the phase of its row.
 fn is_excited(
     shapes: &[Shape],
-    filed: &FiledShapes,
+    lines: &FiledPlane,
     before: &[u32],
     edges: &[i64],
     f: u32,
     found: &mut Vec<u32>,
 ) -> Result<bool, Memory>
-    requires filed { IsFiled shapes.now filed.now }
+    requires filed { IsPlane Lines shapes.now lines.now }
     requires few { length shapes.now < 2 ^ 32 }
     requires lines { AreLaidOut shapes.now }
     requires walked { AreWalked shapes.now before.now }
@@ -95,7 +95,7 @@ fn is_excited(
     ensures { IfOk result (λ yes. (frame : Shape) → slice_get shapes.now f ≡ Some frame
         → SaysWhether yes (IsChainExcited shapes.now frame)) }
 {
-    list_filed_partners(&LiesOver, Plane::Lines, shapes, filed, f, found)?;
+    list_line_partners(&LiesOver, shapes, lines, f, found)?;
     if found.len() != 1 {
         return Ok(false);
     }
@@ -105,13 +105,13 @@ fn is_excited(
 /// Whether the shape of this number is a frame that is not excited.
 fn is_unexcited(
     shapes: &[Shape],
-    filed: &FiledShapes,
+    lines: &FiledPlane,
     before: &[u32],
     edges: &[i64],
     f: u32,
     found: &mut Vec<u32>,
 ) -> Result<bool, Memory>
-    requires filed { IsFiled shapes.now filed.now }
+    requires filed { IsPlane Lines shapes.now lines.now }
     requires few { length shapes.now < 2 ^ 32 }
     requires lines { AreLaidOut shapes.now }
     requires walked { AreWalked shapes.now before.now }
@@ -122,7 +122,7 @@ fn is_unexcited(
     if !is_frame(&shapes[f as usize]) {
         return Ok(false);
     }
-    let excited = is_excited(shapes, filed, before, edges, f, found)?;
+    let excited = is_excited(shapes, lines, before, edges, f, found)?;
     Ok(!excited)
 }
 
@@ -131,11 +131,11 @@ fn is_unexcited(
 pub fn find_unexcited(
     alloc: Global,
     shapes: &[Shape],
-    filed: &FiledShapes,
+    lines: &FiledPlane,
     before: &[u32],
     edges: &[i64],
 ) -> Result<Option<Report>, Memory>
-    requires filed { IsFiled shapes.now filed.now }
+    requires filed { IsPlane Lines shapes.now lines.now }
     requires few { length shapes.now < 2 ^ 32 }
     requires lines { AreLaidOut shapes.now }
     requires walked { AreWalked shapes.now before.now }
@@ -145,7 +145,7 @@ pub fn find_unexcited(
 {
     let mut found = Vec::new(alloc);
     for f in 0..shapes.len() as u32 {
-        if is_unexcited(shapes, filed, before, edges, f, &mut found)? {
+        if is_unexcited(shapes, lines, before, edges, f, &mut found)? {
             return Ok(Some(Report {
                 first: f,
                 second: f,

@@ -10,7 +10,7 @@ ghost use Rattle.shape_extract.specs.Filed.{IsFiled};
 
 use crate::filed_shapes::FiledShapes;
 use crate::layers::is_line;
-use crate::lines::contacts::{is_part, list_contacts};
+use crate::lines::contacts::{is_part, list_filed_contacts};
 use crate::search::{Part, Report, first_of};
 use aq_base::Memory;
 use geom::Shape;
@@ -102,7 +102,7 @@ fn is_misjoined(
     if !is_line(&shapes[n as usize]) {
         return Ok(false);
     }
-    list_contacts(shapes, filed, n, found)?;
+    list_filed_contacts(shapes, filed, n, found)?;
     let joined = has_its_contacts(shapes, n, found.as_slice());
     Ok(!joined)
 }

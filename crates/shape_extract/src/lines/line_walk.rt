@@ -4,10 +4,11 @@ ghost use Rattle.layout_rules.specs.ExcitationLines.{Contact};
 ghost use Rattle.shape_extract.specs.Searches.{AreThose};
 ghost use Rattle.shape_extract.specs.Code.Lines.{AreWalked};
 ghost use Rattle.shape_extract.specs.Code.LineWalk.{IsLineWalk, IsSpreadAlong, IsBegun};
-ghost use Rattle.shape_extract.specs.Filed.{IsFiled};
+ghost use Rattle.shape_extract.specs.Planes.{IsPlane};
+ghost use Rattle.shape_extract.specs.declared.planes.Plane.TheVariants.{Lines};
 
-use crate::filed_shapes::FiledShapes;
 use crate::lines::contacts::{is_part, list_contacts};
+use crate::planes::FiledPlane;
 use aq_base::Memory;
 use geom::Shape;
 use layout_rules::layers::START;
@@ -59,11 +60,11 @@ fn spread(
 fn follow(
     alloc: Global,
     shapes: &[Shape],
-    filed: &FiledShapes,
+    lines: &FiledPlane,
     before: &mut [u32],
     order: &mut Vec<u32>,
 ) -> Result<(), Memory>
-    requires filed { IsFiled shapes.now filed.now }
+    requires filed { IsPlane Lines shapes.now lines.now }
     requires few { length shapes.now < 2 ^ 32 }
     requires begun { IsBegun shapes.now before.old order.old.items }
     ensures walk { IfOk result (λ _. IsLineWalk shapes.now before.new order.new.items) }
@@ -73,7 +74,7 @@ fn follow(
     let mut done = 0;
     while done < order.len() {
         let from = order[done];
-        list_contacts(shapes, filed, from, &mut found)?;
+        list_contacts(shapes, lines, from, &mut found)?;
         spread(shapes, found.as_slice(), before, order, from)?;
         done += 1;
     }
@@ -85,11 +86,11 @@ fn follow(
 pub fn walk_in_order(
     alloc: Global,
     shapes: &[Shape],
-    filed: &FiledShapes,
+    lines: &FiledPlane,
     order: &mut Vec<u32>,
 ) -> Result<Vec<u32>, Memory>
     requires few { length shapes.now < 2 ^ 32 }
-    requires filed { IsFiled shapes.now filed.now }
+    requires filed { IsPlane Lines shapes.now lines.now }
     requires fresh { length order.old.items ≡ 0 }
     ensures walk { IfOk result (λ before. IsLineWalk shapes.now before.items order.new.items) }
     ensures walked { IfOk result (λ before. AreWalked shapes.now before.items) }
@@ -97,16 +98,16 @@ pub fn walk_in_order(
     let none = shapes.len() as u32;
     let mut before = vec![in alloc; none; shapes.len()]?;
     begin(shapes, &mut before, order)?;
-    follow(alloc, shapes, filed, &mut before, order)?;
+    follow(alloc, shapes, lines, &mut before, order)?;
     Ok(before)
 }
 
 /// The same without the order.
-pub fn walk_lines(alloc: Global, shapes: &[Shape], filed: &FiledShapes) -> Result<Vec<u32>, Memory>
+pub fn walk_lines(alloc: Global, shapes: &[Shape], lines: &FiledPlane) -> Result<Vec<u32>, Memory>
     requires few { length shapes.now < 2 ^ 32 }
-    requires filed { IsFiled shapes.now filed.now }
+    requires filed { IsPlane Lines shapes.now lines.now }
     ensures { IfOk result (λ before. AreWalked shapes.now before.items) }
 {
     let mut order = Vec::new(alloc);
-    walk_in_order(alloc, shapes, filed, &mut order)
+    walk_in_order(alloc, shapes, lines, &mut order)
 }

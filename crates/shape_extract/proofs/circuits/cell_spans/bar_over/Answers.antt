@@ -9,25 +9,25 @@ use Rattle.shape_extract.proofs.InPlanes.{over_line}
 use Rattle.shape_extract.proofs.FrameSpans.{some_over, first_under}
 use Rattle.shape_extract.proofs.circuits.cell_spans.bar_over.Goals as goal
 
-pub list_filed_partners-requires-clause-planar : goal.list_filed_partners-requires-clause-planar
-list_filed_partners-requires-clause-planar c = λ s t h. over_line s t h
+pub list_line_partners-requires-clause-planar : goal.list_line_partners-requires-clause-planar
+list_line_partners-requires-clause-planar c = λ s t h. over_line s t h
 
 pub index-requires : goal.index-requires
 index-requires c =
-    let some : 0 < length c.list_filed_partners.new.found.items =
+    let some : 0 < length c.list_line_partners.new.found.items =
     some_over c.args.shapes.now c.requires.kept c.args.before.now c.requires.walked c.args.f c.requires.frame
-    c.list_filed_partners.new.found.items c.in_ok-list_filed_partners.ensures in
+    c.list_line_partners.new.found.items c.in_ok-list_line_partners.ensures in
     omega arith
 
 pub returns : goal.returns
 returns c =
-    let are : AreThose (PassTogether lies_over c.args.shapes.now c.args.f) c.list_filed_partners.new.found.items =
-    c.in_ok-list_filed_partners.ensures in
-    let some : 0 < length c.list_filed_partners.new.found.items =
+    let are : AreThose (PassTogether lies_over c.args.shapes.now c.args.f) c.list_line_partners.new.found.items =
+    c.in_ok-list_line_partners.ensures in
+    let some : 0 < length c.list_line_partners.new.found.items =
     some_over c.args.shapes.now c.requires.kept c.args.before.now c.requires.walked c.args.f c.requires.frame
-    c.list_filed_partners.new.found.items are in
-    let is : c.index.result.now ≡ slice_index c.list_filed_partners.new.found.items 0 = c.index.ensures
-    ∙ get_or_default_zero c.list_filed_partners.new.found.items 0 c.index.result.now some in
+    c.list_line_partners.new.found.items are in
+    let is : c.index.result.now ≡ slice_index c.list_line_partners.new.found.items 0 = c.index.ensures
+    ∙ get_or_default_zero c.list_line_partners.new.found.items 0 c.index.result.now some in
     subst (IsUnder c.args.shapes.now c.args.before.now c.args.f) (sym is)
     (first_under c.args.shapes.now c.requires.kept c.args.before.now c.requires.walked c.args.f c.requires.frame
-    c.list_filed_partners.new.found.items are)
+    c.list_line_partners.new.found.items are)
