@@ -117,7 +117,12 @@ fn name_places(numbers: &[u32], found: &mut Vec<u32>)
 impl FiledPlane {
     /// Leaves in `found` the numbers of the shapes in the plane that are no further from the rectangle than the margin,
     /// in x and in y, rising. It is refused for want of memory alone.
-    pub fn list_near(&self, rect: &Rect, margin: u64, found: &mut Vec<u32>) -> Result<(), Memory>
+    pub(crate) fn list_near(
+        &self,
+        rect: &Rect,
+        margin: u64,
+        found: &mut Vec<u32>,
+    ) -> Result<(), Memory>
         requires { margin ≤ 1000000 }
         ensures { IfOk result (λ _. (plane : Plane) (shapes : List Shape) → IsPlane plane shapes self.now
             → AreNearIn plane shapes rect.now margin found.new.items) }
