@@ -2,3 +2,4 @@ pub mod LibrarySaid
 pub mod WireSaid
 mod Planned
 mod Realised
+mod FirstSkew

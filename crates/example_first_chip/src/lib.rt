@@ -2,5 +2,7 @@
 #![tactic(auto)]
 
 mod laws;
+mod skew;
 
 pub use laws::{first_chip_realises, library_a_is_said, wire_is_planned, wire_is_said};
+pub use skew::first_chip_has_skew;

@@ -61,3 +61,4 @@ mod SizeLaw
 mod Written
 mod WritableEach
 mod WritableLaw
+mod LineWays

@@ -61,7 +61,7 @@ line_of s ts i a h =
     let u = line_tag t.0 (ap (λ (x : Shape). on_line x.layer) t.2 ∙ h.1) in
     record { row = u.0; tag = t.0; at = t.1; is = u.1; shape = t.2 }
 
-bar_is : (s : Sheet) (ts : List Tag) (i r : ℕ) → At ts i (Bar r) → IsPart (shapes_of s ts) BAR i
+pub bar_is : (s : Sheet) (ts : List Tag) (i r : ℕ) → At ts i (Bar r) → IsPart (shapes_of s ts) BAR i
 bar_is s ts i r at =
     record {
       shape = shape_of s (Bar r);
@@ -70,7 +70,7 @@ bar_is s ts i r at =
       datatype_is = refl;
     }
 
-uses : (r : ℕ) → (1 ≤ lead_use r) × (lead_use r < 3)
+pub uses : (r : ℕ) → (1 ≤ lead_use r) × (lead_use r < 3)
 uses zero = (omega arith, omega arith)
 uses (suc zero) = (omega arith, omega arith)
 uses (suc (suc r)) = (omega arith, omega arith)
@@ -81,7 +81,7 @@ link_row (suc zero) e = absurd (omega arith)
 link_row (suc (suc r)) e = (r, omega arith)
 
 -- a shape of a use, by tag
-used_tag : (s : Sheet) (ts : List Tag) (i n : ℕ) → IsPart (shapes_of s ts) n i
+pub used_tag : (s : Sheet) (ts : List Tag) (i n : ℕ) → IsPart (shapes_of s ts) n i
     → ((r : ℕ) × At ts i (Lead r) × (lead_use r ≡ n)) ⊎ ((r : ℕ) × At ts i (Bar r) × (n ≡ 0))
 used_tag s ts i n h =
     let x = line_of s ts i h.shape (h.shape_is, h.line_so) in
@@ -126,11 +126,11 @@ bar_touches s ts is i c r at h =
     let l = linked_from_bar r u.0 (contact_linked s ts is i c (Bar r) u.0 at u.1 h) in
     (l.0, subst (λ (t : Tag). At ts c t) l.1 u.1, l.2)
 
-bar_once : (s : Sheet) (ts : List Tag) → IsDrawn s ts → (i j q r : ℕ) → At ts i (Bar q) → At ts j (Bar r) → q ≡ r
+pub bar_once : (s : Sheet) (ts : List Tag) → IsDrawn s ts → (i j q r : ℕ) → At ts i (Bar q) → At ts j (Bar r) → q ≡ r
     → i ≡ j
 bar_once s ts is i j q r a b e = is.once i j (Bar r) (subst (λ (n : ℕ). At ts i (Bar n)) e a) b
 
-lead_once : (s : Sheet) (ts : List Tag) → IsDrawn s ts → (i j q r : ℕ) → At ts i (Lead q) → At ts j (Lead r) → q ≡ r
+pub lead_once : (s : Sheet) (ts : List Tag) → IsDrawn s ts → (i j q r : ℕ) → At ts i (Lead q) → At ts j (Lead r) → q ≡ r
     → i ≡ j
 lead_once s ts is i j q r a b e = is.once i j (Lead r) (subst (λ (n : ℕ). At ts i (Lead n)) e a) b
 
@@ -300,7 +300,7 @@ drawn_rows s ts is has = record {
 }
 
 -- a route leads to each bar by the lead of its row
-bar_before : (s : Sheet) (ts : List Tag) → IsDrawn s ts → (b r : ℕ) → At ts b (Bar r)
+pub bar_before : (s : Sheet) (ts : List Tag) → IsDrawn s ts → (b r : ℕ) → At ts b (Bar r)
     → (a : ℕ) × (rest : List ℕ) × At ts a (Lead r) × IsRoute (shapes_of s ts) (b ∷ a ∷ rest)
 bar_before s ts is b r at =
     let l = (all_reached s ts is r (is.fits b (Bar r) at)).1 in

@@ -2,6 +2,7 @@ pub mod Sheet
 pub mod Spots
 pub mod Channel
 pub mod Tags
+pub mod LineWays
 pub mod Nets
 pub mod Draw
 pub mod Marks

@@ -1,9 +1,11 @@
 // The laws of drawings.
-ghost use Rattle.std.specs.Prelude.{◌≡◌, ℕ, ◌<◌, length};
+ghost use Rattle.std.specs.Prelude.{◌≡◌, ℕ, suc, ◌+◌, ◌<◌, ◌≤◌, length};
 ghost use Rattle.geom.specs.FirstChip.{first_layout};
 ghost use Rattle.geom.specs.FlatForm.{flat_of};
 ghost use Rattle.geom.specs.Writable.{IsWritable};
+ghost use Rattle.geom.specs.declared.shapes.Shape.{Shape};
 ghost use Rattle.layout_rules.specs.Rules.{KeepsRules};
+ghost use Rattle.layout_rules.specs.LinePlaces.{IsPlaced as LiesAt};
 ghost use Rattle.rowed.specs.PlacedNets.{PlacedView, IsPlaced};
 ghost use Rattle.channel_route.specs.Crossing.{crossing, IsOver};
 ghost use Rattle.channel_route.specs.Tracks.{tracks_used};
@@ -13,13 +15,16 @@ ghost use Rattle.layout_make.specs.MayDraw.{MayDraw};
 ghost use Rattle.layout_make.specs.Channel.{channel};
 ghost use Rattle.layout_make.specs.Draw.{draw, top_elements};
 ghost use Rattle.layout_make.specs.Size.{element_number};
-ghost use Rattle.layout_make.specs.Laws.{WiresJoinPins};
+ghost use Rattle.layout_make.specs.Tags.{sheet};
+ghost use Rattle.layout_make.specs.Laws.{flat_shapes, Is, FrameAt, WiresJoinPins};
+ghost use Rattle.layout_make.specs.LineWays.{way_to, skew_limit};
 ghost use Rattle.layout_make.specs.CellsAreDrawn.{CellsAreDrawn};
 ghost use Rattle.layout_make.specs.WireLaw.{WireLaw};
 ghost use Rattle.layout_make.specs.Chips.{first_placed, second_placed, second_flat, third_placed, third_flat};
 ghost use Rattle.layout_make.specs.Chips.{least_library, least_flat, wide_library, wide_flat};
 
 use channel_route::tracks_are_fewest;
+use layout_rules::laws::ways_add_up;
 
 /// A drawing keeps all rules. Its frames, pins, lines and labels are those of the cells, rows and ports, and its
 /// wires join each input pin with its source, and nothing else. Its layout is writable, and the top has as many
@@ -33,6 +38,20 @@ pub fn drawing_laws()
     ensures wires { (p : PlacedView) (l : LibraryView) → MayDraw p l → WireLaw p l }
 {
     tracks_are_fewest();
+}
+
+/// A cell of a drawing lies along its line between the beginning and the end of its row's bar, and from any point of a
+/// bar to any of the next row's it is no further than the limit of the skew.
+pub fn drawing_ways()
+    ensures cells { (p : PlacedView) (l : LibraryView) (r n f near far : ℕ) (frame : Shape) → MayDraw p l
+        → FrameAt p l r n f → Is (flat_shapes p l) f frame → LiesAt (flat_shapes p l) frame near far
+        → (way_to (sheet p l) r ≤ near) × (far ≤ way_to (sheet p l) r + (sheet p l).right) }
+    ensures rows { (p : PlacedView) (l : LibraryView) (r : ℕ) → r < length p.net.rows
+        → (way_to (sheet p l) r + (sheet p l).right ≤ way_to (sheet p l) (suc r) + skew_limit (sheet p l))
+        × (way_to (sheet p l) (suc r) + (sheet p l).right ≤ way_to (sheet p l) r + skew_limit (sheet p l)) }
+{
+    tracks_are_fewest();
+    ways_add_up();
 }
 
 /// No channel of a net within a library's reach is ever full: fewer wires than the library's capacity cross each

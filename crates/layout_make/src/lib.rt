@@ -12,7 +12,7 @@ mod structures;
 mod wires;
 
 pub use drawing::{DrawRefusal, draw};
-pub use laws::{drawing_laws, never_full, worked_chips};
+pub use laws::{drawing_laws, drawing_ways, never_full, worked_chips};
 pub use sizing::element_number;
 pub use spots::Spot;
 pub use wires::channel_wires;

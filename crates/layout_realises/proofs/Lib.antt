@@ -10,3 +10,4 @@ pub mod Bytes
 pub mod Wires
 pub mod Realised
 mod SkewLaws
+mod SkewBound

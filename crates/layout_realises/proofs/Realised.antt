@@ -60,10 +60,10 @@ module _ (p : PlacedView) (l : LibraryView) (law : CrateLaws p l) (may : MayDraw
   nets : (nets : List ℕ) × AreNets (flat_shapes p l) nets
   nets = some_nets (flat_shapes p l)
 
-  circuit : CircuitView
+  pub circuit : CircuitView
   circuit = drawn_circuit p (count_by (is_wired (flat p l)) (flat_shapes p l)) nets.0
 
-  drawn : IsDrawnAs p (flat p l) circuit
+  pub drawn : IsDrawnAs p (flat p l) circuit
   unfolding circuit
   drawn = drawn_as p l law.tracks may nets.0 nets.1
 
@@ -93,7 +93,7 @@ module _ (p : PlacedView) (l : LibraryView) (law : CrateLaws p l) (may : MayDraw
       ∙ spots_long p may.placed (0 + r)
       ∙ ap (λ (n : ℕ). length (row_at p.net.rows n)) (let h : 0 + r ≡ r = omega arith in h))
 
-  keeps : KeepsFacts circuit
+  pub keeps : KeepsFacts circuit
   keeps =
       let a = shapes_and_labels in
       let b = cells_long in

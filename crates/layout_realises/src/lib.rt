@@ -5,4 +5,4 @@ mod laws;
 mod rates;
 
 pub use laws::{drawing_circuit, drawn_chip_realises};
-pub use rates::{chips_bear_rates, one_skew, rates_of_skew};
+pub use rates::{chips_bear_rates, drawings_have_low_skew, one_skew, rates_of_skew};

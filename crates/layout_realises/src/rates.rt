@@ -7,6 +7,13 @@ ghost use Rattle.layout_rules.specs.Limits.{Limits};
 ghost use Rattle.layout_rules.specs.Rules.{KeepsRules};
 ghost use Rattle.circuit_extracted.specs.Circuits.{CircuitView};
 ghost use Rattle.circuit_extracted.specs.Answers.{IsAnswer};
+ghost use Rattle.rowed.specs.PlacedNets.{PlacedView};
+ghost use Rattle.cell_library.specs.Library.{LibraryView};
+ghost use Rattle.layout_make.specs.Draw.{draw};
+ghost use Rattle.layout_make.specs.LineWays.{skew_limit};
+ghost use Rattle.layout_make.specs.MayDraw.{MayDraw};
+ghost use Rattle.layout_make.specs.Size.{element_number, element_limit};
+ghost use Rattle.layout_make.specs.Tags.{sheet};
 ghost use Rattle.shape_extract.specs.Extraction.{IsCircuitOf};
 ghost use Rattle.shape_extract.specs.Extracts.{KeepsFive};
 ghost use Rattle.pulse_sim.specs.Clocked.{IsWellTimed, ShowsByClocks};
@@ -14,9 +21,11 @@ ghost use Rattle.pulse_sim.specs.Travelling.{arrives, is_past, every_quarter, Sh
 ghost use Rattle.layout_realises.specs.Realises.{Realises};
 ghost use Rattle.layout_realises.specs.Rates.{IsSkewOf, AnswersAtRates};
 
+use channel_route::tracks_are_fewest;
 use circuit::Answers;
-use pulse_sim::{every_rate, rate_is_exact, skew_is_computed};
-use shape_extract::{cells_have_places, extracted_keeps};
+use layout_make::{drawing_laws, drawing_ways};
+use pulse_sim::{every_clock, every_rate, rate_is_exact, skew_is_computed};
+use shape_extract::{cells_have_places, extracted_keeps, one_answer, one_circuit};
 
 /// The circuit of a flat form has a skew, and where the flat form keeps the rules no other one.
 pub fn one_skew()
@@ -67,4 +76,20 @@ pub fn chips_bear_rates<A: Answers>()
         → AnswersAtRates circuit is.near is.far skew delay (A.meaning net) words }
 {
     rates_of_skew();
+}
+
+/// The skew of a drawing is at most twice the width of its widest row, with the height of three rows and the heights of
+/// the lowest channel and of the highest one.
+pub fn drawings_have_low_skew()
+    ensures { (p : PlacedView) (l : LibraryView) (circuit : CircuitView) (skew : ℕ) → MayDraw p l
+        → element_number p ≤ element_limit → IsCircuitOf (flat_of (draw p l)) circuit
+        → IsSkewOf (flat_of (draw p l)) circuit skew → skew ≤ skew_limit (sheet p l) }
+{
+    tracks_are_fewest();
+    drawing_laws();
+    drawing_ways();
+    extracted_keeps();
+    one_answer();
+    every_clock();
+    one_circuit();
 }

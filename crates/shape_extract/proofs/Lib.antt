@@ -3,7 +3,7 @@ mod FirstNets
 mod FirstCells
 mod Kept
 mod OneLine
-mod OneOrder
+pub mod OneOrder
 mod OneCircuit
 mod LineContacts
 mod JoinedParts
