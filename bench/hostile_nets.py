@@ -6,8 +6,9 @@
 For each kind a line for each of three sizes, doubled each time: the netlist's bytes, the chip's cells or the refusal,
 seconds of processor time, megabytes at most, both over those of an ordinary netlist with as many cells, and the growth
 of the time: its exponent from the first size to the last. docs/measuring.md says what the kinds are and what is wanted.
-The status is 1 where a ratio of times is above three or an exponent above 1.3 of the chip's cells. AQFP names the
-program."""
+Then for each kind of HOPELESS netlists, which are refused, their seconds over those of the chip of a netlist a third as
+large. The status is 1 where a ratio of times is above three, of a refusal above one, or an exponent above 1.3 of the
+chip's cells. AQFP names the program; `hopeless` as a KIND stands for the last part."""
 import argparse
 import math
 import os
@@ -47,6 +48,24 @@ def shown_chain(count):
         lines.append(f".names {last} b g{k}\n" + ("10 1\n01 1" if k % 2 else "11 1"))
         last = f"g{k}"
     return netlist(["a", "b"], [f"g{k}" for k in range(count)], lines)
+
+
+def shown_ands(count):
+    """A chain of conjunctions with inputs of their own, each of which is an output too."""
+    lines, last = [], "a"
+    for k in range(count):
+        lines.append(f".names {last} x{k} g{k}\n11 1")
+        last = f"g{k}"
+    return netlist(["a", *(f"x{k}" for k in range(count))], [f"g{k}" for k in range(count)], lines)
+
+
+def shown_deep(count):
+    """The same with exclusive ors between them, so that the chain stays as deep as it is long."""
+    lines, last = [], "a"
+    for k in range(count):
+        lines.append(f".names {last} x{k} g{k}\n" + ("10 1\n01 1" if k % 2 else "11 1"))
+        last = f"g{k}"
+    return netlist(["a", *(f"x{k}" for k in range(count))], [f"g{k}" for k in range(count)], lines)
 
 
 def tables(count):
@@ -89,8 +108,10 @@ def majorities(count):
     return netlist([f"x{k}" for k in range(2 * count + 1)], [last], lines)
 
 
-KINDS = {"shown_chain": (shown_chain, 100), "tables": (tables, 10), "apart": (apart, 20), "cubes": (cubes, 20),
-         "majorities": (majorities, 100)}
+KINDS = {"shown_chain": (shown_chain, 100), "shown_ands": (shown_ands, 100), "shown_deep": (shown_deep, 50),
+         "tables": (tables, 10), "apart": (apart, 20), "cubes": (cubes, 20), "majorities": (majorities, 100)}
+
+HOPELESS = {"apart": (apart, 480), "ordinary": (ordinary, 9_600)}
 
 
 class Measured:
@@ -131,6 +152,19 @@ def beside(measured, plain):
     return fitting.seconds * share, max(fitting.megabytes * share, LEAST)
 
 
+def refused(program, library, seconds):
+    """Prints what hopeless netlists take beside those a third as large; how many of them take longer."""
+    above = 0
+    for kind, (make, count) in HOPELESS.items():
+        third = Measured(program, make(count // 3), library, seconds)
+        whole = Measured(program, make(count), library, seconds)
+        ratio = whole.seconds / max(third.seconds, SHORT)
+        above += ratio > 1
+        print(f"hopeless {kind} {count}: {whole.said}, {whole.seconds:.2f} s, {whole.megabytes:.0f} MB; a third of it "
+              f"{third.said}, {third.seconds:.2f} s, {third.megabytes:.0f} MB: {ratio:.2f} times", flush=True)
+    return above
+
+
 def main():
     words = argparse.ArgumentParser(description=__doc__, formatter_class=argparse.RawDescriptionHelpFormatter)
     words.add_argument("--library", default=top / "libraries/b.toml")
@@ -147,7 +181,8 @@ def main():
         print(f"ordinary {count}: {plain[-1].bytes:,} bytes, {plain[-1].said}, {plain[-1].seconds:.2f} s, "
               f"{plain[-1].megabytes:.0f} MB", flush=True)
     plain = [it for it in plain if it.cells]
-    for kind in words.kinds or KINDS:
+    kinds = words.kinds or [*KINDS, "hopeless"]
+    for kind in [it for it in kinds if it != "hopeless"]:
         make, count = KINDS[kind]
         runs = []
         for _ in range(words.doublings + 1):
@@ -165,6 +200,8 @@ def main():
             grown = math.log(runs[-1].seconds / runs[0].seconds) / math.log(runs[-1].cells / runs[0].cells)
             above += grown > 1.3
             print(f"{kind}: the time grows with the cells to the power of {grown:.2f}", flush=True)
+    if "hopeless" in kinds:
+        above += refused(program, words.library, words.seconds)
     return 1 if above else 0
 
 

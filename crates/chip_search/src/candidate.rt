@@ -65,7 +65,7 @@ impl Candidate {
         let _made = work.steps.take(chip.count(), MAKING);
         let sweeps = work.steps.take(chip.count(), sweeps);
         let mut missing = places.improve(&mut chip, sweeps, effort.matches)?;
-        if missing > 0 && effort.lazy_rounds > 0 {
+        if missing > 0 && missing <= places.most_missing && effort.lazy_rounds > 0 {
             let alloc = work.alloc;
             let steps = &mut work.steps;
             missing = settle_lazily(alloc, &mut places, &mut chip, steps, missing, effort)?;

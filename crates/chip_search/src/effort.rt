@@ -34,6 +34,8 @@ pub struct Effort {
     pub spares: u32,
     /// How many times rows of buffers are left out at the end, and others added where they are wanted then.
     pub trims: u32,
+    /// A chip of more cells is of no use: it can't be drawn, or a smaller one is known.
+    pub most_cells: u64,
     /// How many times a cell is settled, at most, for each cell of a chip without added rows: once for the starts of
     /// each graph, and twice more for what is done to the best one. `MORE_CELLS` are counted more than there are.
     pub steps: u32,
@@ -41,6 +43,13 @@ pub struct Effort {
 
 /// So many cells are counted more than there are.
 const MORE_CELLS: u64 = 10_000;
+
+/// A chip that can be drawn has at most so many cells, and one more for each output: a drawing has at most 2,000,000
+/// elements, one for each cell and five for each wire, and a wire begins at each cell that is no output.
+const MOST_DRAWN: u64 = 333_334;
+
+/// Where wires may move fewer slots, much more than usual is left out of a chip after it is placed.
+pub(crate) const SHORT_LIMIT: u32 = 4;
 
 impl Effort {
     /// Few starts, and no wire matched anew.
@@ -61,6 +70,7 @@ impl Effort {
             weaves: false,
             spares: 0,
             trims: 0,
+            most_cells: MOST_DRAWN,
             steps: u32::MAX,
         }
     }
@@ -83,7 +93,17 @@ impl Effort {
             weaves: true,
             spares: 3,
             trims: 12,
+            most_cells: MOST_DRAWN,
             steps: 3_000,
+        }
+    }
+
+    /// So many hundredths of the cells that a chip of use may have; none are too many where wires may move few slots.
+    pub fn hundredths(&self, move_limit: u32, hundredths: u64) -> u64 {
+        if move_limit < SHORT_LIMIT {
+            u64::MAX
+        } else {
+            self.most_cells.saturating_mul(hundredths) / 100
         }
     }
 }

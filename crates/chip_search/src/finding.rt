@@ -5,7 +5,7 @@ use crate::chip::{Chip, make_chip};
 use crate::drafts::make_draft;
 use crate::effort::{Effort, Steps};
 use crate::graph::{GraphParts, UseLists};
-use crate::growing::{MOST_CELLS, finish, trim};
+use crate::growing::{finish, trim};
 use crate::levels::Levels;
 use crate::lining::line_up;
 use crate::signs::sign;
@@ -14,6 +14,10 @@ use aq_base::Memory;
 use mig::Graph;
 use placement_check::Draft;
 use std::alloc::Global;
+
+/// A placed chip of more hundredths of the cells that one of use may have, missing ones counted, is given up: what is
+/// done to it afterwards leaves out one cell of four at most.
+const MOST_PLACED: u64 = 133;
 
 /// So many times a node is placed in a line, or ten times each.
 const MOST_MOVES: u32 = 3_000_000;
@@ -58,7 +62,7 @@ pub(crate) fn line_of(
     Ok(Some(line_up(alloc, parts, uses, rounds)?))
 }
 
-/// The chip of a graph, if it has fewer cells than the best one so far.
+/// The chip of a graph, if it has fewer cells than the best one so far and than one of use may have.
 fn make_unplaced(
     alloc: Global,
     number: usize,
@@ -70,7 +74,7 @@ fn make_unplaced(
     let signed = sign(alloc, graph, three)?;
     let mut levels = Levels::new(alloc, &signed, three)?;
     let cells = levels.cells()?;
-    if cells >= best || cells > MOST_CELLS {
+    if cells >= best || cells > effort.most_cells {
         return Ok(None);
     }
     let made = make_cells(alloc, &levels)?;
@@ -83,7 +87,7 @@ fn make_unplaced(
     }))
 }
 
-/// The best placed chip of the graphs, before rows are added. Steps are counted by the chips that are placed.
+/// The best placed chip of the graphs, before rows are added, if it may come to be of use. Steps are counted by the chips that are placed.
 fn find(
     work: &mut Work,
     graphs: &[Graph],
@@ -91,7 +95,7 @@ fn find(
     effort: Effort,
 ) -> Result<Option<Candidate>, Memory> {
     let mut best: Option<Candidate> = None;
-    let mut least = u64::MAX;
+    let mut least = effort.hundredths(work.move_limit, MOST_PLACED);
     let mut number: usize = 0;
     for graph in graphs {
         let parts = parts_of(graph);
@@ -115,9 +119,9 @@ fn find(
 }
 
 /// Searches a draft of a small chip for one of these graphs, which have the same answers. Splitters of three are used
-/// where `three` says so, and a wire may move `reach - 1` slots, at least one. Nothing is found where each draft has
-/// more than 2,000,000 cells, or there is no graph. Nothing is promised of a draft that is found: a check takes it or
-/// not. The search fails for want of memory alone.
+/// where `three` says so, and a wire may move `reach - 1` slots, at least one. Nothing is found where no draft comes near
+/// to the cells that the effort allows, or there is no graph. Nothing is promised of a draft that is found: a check takes
+/// it or not. The search fails for want of memory alone.
 pub fn search(
     alloc: Global,
     graphs: &[Graph],

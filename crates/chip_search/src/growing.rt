@@ -1,7 +1,7 @@
 // What is done to a chip in which wires move too far: rows are added, splitters pulled down, rows of buffers left out.
 use crate::added::{add_rows, shared_rows, unplaced, wanted_rows};
 use crate::candidate::{Candidate, Work, better};
-use crate::effort::{Effort, Steps};
+use crate::effort::{Effort, SHORT_LIMIT, Steps};
 use crate::pulling::pull_down;
 use crate::sparing::spare;
 use crate::trimming::drop_rows;
@@ -11,40 +11,31 @@ use aq_base::Memory;
 /// A draft has at most so many cells.
 pub const MOST_CELLS: u64 = 2_000_000;
 
-/// A placed chip of more cells, missing ones counted, is given up: a drawing has at most 2,000,000 elements, some 330,000
-/// cells, and what is done to a chip afterwards seldom leaves out two cells of five.
-const MOST_PLACED: u64 = 1_000_000;
+/// A placed chip of more hundredths of the cells that one of use may have, missing ones counted, is given up: what is
+/// done to it afterwards never leaves out two cells of three.
+const MOST_PLACED: u64 = 300;
+
+/// Splitters are pulled down, and rows left out, until so many tries one after the other took no cells away.
+const IDLE_TURNS: u32 = 4;
 
 /// So many cells are woven at most.
 const MOST_WOVEN: u64 = 500_000;
 
-/// Where wires may move fewer slots, rows are always woven too.
-const SHORT_LIMIT: u32 = 4;
-
-/// A first start with more cells, missing ones counted, is given up: other starts, and trees that know positions, seldom
-/// leave out three cells of four.
-const MOST_STARTED: u64 = 3_000_000;
-
-/// Whether a placed chip of so many cells, missing ones counted, is too large to go on with. None is where wires may
-/// move few slots: much more is left out there afterwards.
-fn is_hopeless(total: u64, move_limit: u32) -> bool {
-    move_limit >= SHORT_LIMIT && total > MOST_PLACED
-}
-
-/// Whether a chip that a first start gives so many cells, missing ones counted, is too large to try others.
-pub fn is_hopeless_start(total: u64, move_limit: u32) -> bool {
-    move_limit >= SHORT_LIMIT && total > MOST_STARTED
-}
-
 /// Rows are left out and added so often between two searches for exact slots.
 const SPARE_TRIMS: u32 = 4;
+
+/// How many tries gained nothing, where so many did not before this one.
+fn idle_turns(idle: u32, gains: bool) -> u32 {
+    if gains { 0 } else { idle.saturating_add(1) }
+}
 
 /// The candidate with splitters pulled down where wires move too far, as far as that takes cells away.
 fn pull(work: &mut Work, candidate: Candidate, effort: Effort) -> Result<Candidate, Memory> {
     let mut best = candidate;
+    let mut idle: u32 = 0;
     let mut pulled = pull_down(work.alloc, &best.chip, &best.places)?;
     for _ in 0..effort.pulls {
-        if !work.steps.are_left(best.chip.count()) {
+        if idle >= IDLE_TURNS || !work.steps.are_left(best.chip.count()) {
             break;
         }
         let Some((chip, places)) = pulled else {
@@ -52,6 +43,7 @@ fn pull(work: &mut Work, candidate: Candidate, effort: Effort) -> Result<Candida
         };
         let next = Candidate::settled(work, best.graph, chip, places, effort.pull_sweeps, effort)?;
         pulled = pull_down(work.alloc, &next.chip, &next.places)?;
+        idle = idle_turns(idle, next.total < best.total);
         best = better(best, next);
     }
     Ok(best)
@@ -187,7 +179,7 @@ fn finish_short(
 
 /// The candidate with added rows: woven ones too where wires may move little or rows that are wanted are not enough.
 pub fn finish(work: &mut Work, candidate: Candidate, effort: Effort) -> Result<Candidate, Memory> {
-    if is_hopeless(candidate.total, work.move_limit) {
+    if candidate.total > effort.hundredths(work.move_limit, MOST_PLACED) {
         return Ok(candidate);
     }
     if candidate.missing == 0 || !effort.weaves {
@@ -240,11 +232,13 @@ fn trim_often(
     effort: Effort,
 ) -> Result<Candidate, Memory> {
     let mut best = candidate;
+    let mut idle: u32 = 0;
     for turn in 0..turns {
-        if !work.steps.are_left(best.chip.count()) {
+        if idle >= IDLE_TURNS || !work.steps.are_left(best.chip.count()) {
             break;
         }
         let next = trim_once(work, &best, turn, effort)?;
+        idle = idle_turns(idle, next.missing == 0 && next.total < best.total);
         if next.missing == 0 {
             best = better(best, next);
         }
@@ -255,7 +249,7 @@ fn trim_often(
 /// The candidate with rows of buffers left out, as far as that takes cells away: some of them left out and others
 /// added, then those that the orders of cells do not need, by turns.
 pub fn trim(work: &mut Work, candidate: Candidate, effort: Effort) -> Result<Candidate, Memory> {
-    if is_hopeless(candidate.total, work.move_limit) {
+    if candidate.total > effort.hundredths(work.move_limit, MOST_PLACED) {
         return Ok(candidate);
     }
     let mut best = trim_often(work, candidate, effort.trims, effort)?;

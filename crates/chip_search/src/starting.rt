@@ -3,9 +3,15 @@ use crate::arrays::narrow;
 use crate::candidate::{Candidate, Work, better};
 use crate::chip::Chip;
 use crate::effort::Effort;
-use crate::growing::is_hopeless_start;
 use crate::places::Places;
 use aq_base::Memory;
+
+/// A first start of more hundredths of the cells that a chip of use may have, missing ones counted, is given up: other
+/// starts leave out one cell of ten, and what is done afterwards one of four.
+const MOST_STARTED: u64 = 200;
+
+/// A first start is given up after a few sweeps where it has more hundredths missing then.
+const MOST_MISSING: u64 = 300;
 
 /// What is known of a chip where its cells are first placed.
 #[derive(Clone, Copy)]
@@ -77,6 +83,7 @@ fn place_from(
     let slots = vec![in work.alloc; 0; chip.count() as usize]?;
     let mut places = Places::new(work.alloc, slots, chip.widest(), work.move_limit);
     places.plants = effort.plants;
+    places.most_missing = effort.hundredths(work.move_limit, MOST_MISSING);
     match start {
         Start::Down(outputs) => places.start_down(&chip, outputs)?,
         Start::Up => places.start_up(&chip)?,
@@ -100,7 +107,7 @@ fn place_once(
     let turns = hints.turns;
     let down = Start::Down(hints.outputs);
     let mut best = place_from(work, graph, chip, down, turns, effort)?;
-    if is_hopeless_start(best.total, work.move_limit) {
+    if best.total > effort.hundredths(work.move_limit, MOST_STARTED) {
         return Ok(best);
     }
     if best.missing > 0 {
@@ -139,8 +146,8 @@ pub(crate) fn place(
     let mut sharp = effort;
     sharp.smooth_sweeps = 0;
     let first = place_once(work, graph, chip, hints, sharp)?;
-    let is_done = first.missing == 0 || is_hopeless_start(first.total, work.move_limit);
-    if is_done || effort.smooth_sweeps == 0 {
+    let most = effort.hundredths(work.move_limit, MOST_STARTED);
+    if first.missing == 0 || first.total > most || effort.smooth_sweeps == 0 {
         return Ok(first);
     }
     let second = place_once(work, graph, chip, hints, effort)?;

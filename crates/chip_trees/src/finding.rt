@@ -13,7 +13,7 @@ use chip_search::chip::Chip;
 use chip_search::drafts::make_draft;
 use chip_search::effort::{Effort, Steps};
 use chip_search::graph::{GraphParts, turn};
-use chip_search::growing::{MOST_CELLS, finish, is_hopeless_start, trim};
+use chip_search::growing::{finish, trim};
 use chip_search::signs::sign;
 use circuit::CellKind;
 use mig::Graph;
@@ -43,6 +43,21 @@ const MOST_TURNS: u64 = 4;
 /// So many placed chips are finished: those with the fewest cells, missing ones counted.
 const FINISHED: usize = 3;
 
+/// Trees of more hundredths of the cells that a chip of use may have are given up: annealing and what is done afterwards
+/// leave out fewer.
+const MOST_OF_TREES: u64 = 150;
+
+/// A first start of more hundredths, missing cells counted, is given up. Other starts, and trees that know positions, may
+/// leave out four cells of five.
+const MOST_STARTED: u64 = 600;
+
+/// The best one of the starts is given up where it has more hundredths, and so is a chip before it is finished.
+const MOST_PLACED: u64 = 200;
+
+/// No rows are left out of a chip that has so many hundredths of the cells of the best one after rows were added: that
+/// takes fewer cells away.
+const MOST_GROWN: u64 = 120;
+
 /// Rows of buffers are left out at most so many times at the end.
 const TRIMS: u32 = 4;
 
@@ -69,12 +84,14 @@ fn trees_of(alloc: Global, graph: &Graph, three: bool) -> Result<Trees, Memory> 
 }
 
 /// The graphs by the cells of their trees, without those that have too many.
-fn rank(alloc: Global, graphs: &[Graph], three: bool) -> Result<Vec<Ranked>, Memory> {
+fn rank(work: &Work, graphs: &[Graph], three: bool, effort: Effort) -> Result<Vec<Ranked>, Memory> {
+    let alloc = work.alloc;
+    let most = effort.hundredths(work.move_limit, MOST_OF_TREES);
     let mut ranked = Vec::new(alloc);
     let mut number: usize = 0;
     for graph in graphs {
         let cells = trees_of(alloc, graph, three)?.cells()?;
-        if cells <= MOST_CELLS {
+        if cells <= most {
             ranked.push(Ranked {
                 graph: number,
                 cells,
@@ -134,6 +151,11 @@ struct Task {
 }
 
 impl Task {
+    /// So many hundredths of the cells that a chip of use may have.
+    fn most(self, work: &Work, hundredths: u64) -> u64 {
+        self.effort.hundredths(work.move_limit, hundredths)
+    }
+
     /// Places the chip of trees, offers it, and says where its items stand.
     fn arrange(
         self,
@@ -159,7 +181,7 @@ impl Task {
     /// The positions of the best of some starts; of the first one alone where that is hopeless.
     fn start(self, work: &mut Work, trees: &mut Trees, pool: &mut Pool) -> Result<Known, Memory> {
         let mut best = self.arrange(work, trees, Start::Down, pool)?;
-        if best.missing == 0 || is_hopeless_start(best.total, work.move_limit) {
+        if best.missing == 0 || best.total > self.most(work, MOST_STARTED) {
             return Ok(best);
         }
         let up = self.arrange(work, trees, Start::Up, pool)?;
@@ -172,7 +194,7 @@ impl Task {
             let reach = reach_at(work, 300);
             let mut lined = trees.at_positions(work.alloc, &line, reach)?;
             lined.repair()?;
-            if lined.cells()? <= MOST_CELLS {
+            if lined.cells()? <= self.most(work, MOST_PLACED) {
                 let next = self.arrange(work, &mut lined, Start::Positions, pool)?;
                 if next.total < best.total {
                     best = next;
@@ -195,7 +217,7 @@ impl Task {
         let mut near = trees.at_positions(work.alloc, positions, reach)?;
         near.repair()?;
         near.move_all(3)?;
-        if near.cells()? > MOST_CELLS {
+        if near.cells()? > self.most(work, MOST_PLACED) {
             return Ok(None);
         }
         let moves = moves_for(&near, NEAR_MOVES, MOST_NEAR_MOVES);
@@ -230,7 +252,7 @@ impl Task {
         Ok(())
     }
 
-    /// Offers placed chips of a graph.
+    /// Offers placed chips of a graph; whether it is worth while to go on: not where even the best start is far too large.
     fn run(
         self,
         work: &mut Work,
@@ -238,17 +260,20 @@ impl Task {
         turn: u64,
         pool: &mut Pool,
         random: &mut Random,
-    ) -> Result<(), Memory> {
+    ) -> Result<bool, Memory> {
         let each = MOVES.saturating_mul(turn.saturating_add(1));
         let moves = moves_for(&trees, each, MOST_MOVES);
         let mut trees = anneal(work.alloc, trees, moves, HOT, random)?;
         let cells = u32::try_from(trees.cells()?).unwrap_or(u32::MAX);
         work.steps = Steps::new(&self.effort, cells);
         let start = self.start(work, &mut trees, pool)?;
-        if start.missing > 0 && !is_hopeless_start(start.total, work.move_limit) {
+        if start.total > self.most(work, MOST_PLACED) {
+            return Ok(false);
+        }
+        if start.missing > 0 {
             self.approach(work, trees, start, pool, random)?;
         }
-        Ok(())
+        Ok(true)
     }
 }
 
@@ -257,7 +282,8 @@ fn turns_for(cells: u64) -> u64 {
     CELLS.checked_div(cells).unwrap_or(0).max(1).min(MOST_TURNS)
 }
 
-/// Offers placed chips of the best graphs, each searched some times.
+/// Offers placed chips of the best graphs, each searched some times; of no further one where one is far too large, since
+/// that has the fewest cells in its trees.
 fn fill(
     work: &mut Work,
     graphs: &[Graph],
@@ -266,7 +292,7 @@ fn fill(
     pool: &mut Pool,
 ) -> Result<(), Memory> {
     let mut random = Random::new();
-    for one in rank(work.alloc, graphs, three)?.iter().take(GRAPHS) {
+    for one in rank(work, graphs, three, effort)?.iter().take(GRAPHS) {
         if let Some(graph) = graphs.get(one.graph) {
             let task = Task {
                 graph: one.graph,
@@ -274,19 +300,36 @@ fn fill(
             };
             for turn in 0..turns_for(one.cells) {
                 let trees = trees_of(work.alloc, graph, three)?;
-                task.run(work, trees, turn, pool, &mut random)?;
+                if !task.run(work, trees, turn, pool, &mut random)? {
+                    return Ok(());
+                }
             }
         }
     }
     Ok(())
 }
 
-/// The best one of the candidates when all are finished.
+/// So many hundredths of the cells of the best candidate, if there is one.
+fn hundredths_of(best: &Option<Candidate>, hundredths: u64) -> u64 {
+    match best {
+        Some(found) => found.total.saturating_mul(hundredths) / 100,
+        None => u64::MAX,
+    }
+}
+
+/// The best one of the candidates when all are finished that may come to be it.
 fn finish_all(work: &mut Work, pool: Pool, effort: Effort) -> Result<Option<Candidate>, Memory> {
     let mut best: Option<Candidate> = None;
+    let most = effort.hundredths(work.move_limit, MOST_PLACED);
     for candidate in pool.candidates {
+        if candidate.total > most {
+            break;
+        }
         work.steps = Steps::new(&effort, candidate.chip.count());
         let grown = finish(work, candidate, effort)?;
+        if grown.total > hundredths_of(&best, MOST_GROWN) {
+            continue;
+        }
         let next = trim(work, grown, effort)?;
         best = Some(match best {
             Some(found) => better(found, next),
@@ -324,9 +367,9 @@ fn finishing(effort: &Effort) -> Effort {
 }
 
 /// Searches a draft of a small chip for one of these graphs, which have the same answers. Splitters of three are used
-/// where `three` says so, and a wire may move `reach - 1` slots, at least one. Nothing is found where the trees of each
-/// graph have more than 2,000,000 cells, or there is no graph. Nothing is promised of a draft that is found: a check
-/// takes it or not. The search fails for want of memory alone.
+/// where `three` says so, and a wire may move `reach - 1` slots, at least one. Nothing is found where no draft comes near
+/// to the cells that the effort allows, or there is no graph. Nothing is promised of a draft that is found: a check takes
+/// it or not. The search fails for want of memory alone.
 pub fn search(
     alloc: Global,
     graphs: &[Graph],

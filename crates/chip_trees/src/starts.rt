@@ -13,6 +13,9 @@ use std::alloc::Global;
 /// The parts of half a slot in a position.
 const HALF_SLOT: i64 = 8;
 
+/// A start is given up after a few sweeps where it has more hundredths missing of the cells that a chip of use may have.
+const MOST_MISSING: u64 = 800;
+
 /// Where the cells of a chip stand at first.
 #[derive(Clone, Copy)]
 pub(crate) enum Start {
@@ -73,6 +76,7 @@ pub(crate) fn arrange(
     let slots = vec![in alloc; 0; chip.count() as usize]?;
     let mut placed = Places::new(alloc, slots, chip.widest(), work.move_limit);
     placed.plants = effort.plants;
+    placed.most_missing = effort.hundredths(work.move_limit, MOST_MISSING);
     match start {
         Start::Down => placed.start_down(&chip, &[])?,
         Start::Up => placed.start_up(&chip)?,

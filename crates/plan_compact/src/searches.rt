@@ -28,6 +28,36 @@ fn cost(found: &Found) -> u64 {
     junctions(&found.draft).saturating_add(missing)
 }
 
+/// How many cells a draft has, those of the repeaters counted that it still asks for.
+fn cells(found: &Found) -> u64 {
+    let mut count = found.missing;
+    for row in found.draft.rows.as_slice() {
+        count = count.saturating_add(row.len() as u64);
+    }
+    count
+}
+
+/// The effort for chips of these graphs, each of which shows the same outputs: their cells take no room for a wire.
+fn for_outputs(effort: &Effort, graphs: &[Graph]) -> Effort {
+    let mut effort = *effort;
+    if let Some(graph) = graphs.first() {
+        let outputs = graph.outputs().len() as u64;
+        effort.most_cells = effort.most_cells.saturating_add(outputs);
+    }
+    effort
+}
+
+/// The effort where a draft is known. One that has an eighth more cells may still have fewer junctions.
+fn beside(effort: Effort, known: &Option<Found>) -> Effort {
+    let mut effort = effort;
+    if let Some(found) = known {
+        let cells = cells(found);
+        let most = cells.saturating_add(cells / 8);
+        effort.most_cells = effort.most_cells.min(most);
+    }
+    effort
+}
+
 /// The better of two drafts, the first one where both are as good.
 fn better(one: Option<Found>, other: Option<Found>) -> Option<Found> {
     match (one, other) {
@@ -66,11 +96,13 @@ pub(crate) fn best_draft(
     searches: Searches,
     effort: &Effort,
 ) -> Result<Option<Found>, Memory> {
-    let trees = chip_trees::search(alloc, graphs, three, reach, effort)?;
+    let effort = for_outputs(effort, graphs);
+    let trees = chip_trees::search(alloc, graphs, three, reach, &effort)?;
     match searches {
         Searches::All => {
             let first = graphs.get(..ROW_GRAPHS.min(graphs.len())).unwrap_or(graphs);
-            let rows = chip_search::search(alloc, first, three, reach, effort)?;
+            let beside = beside(effort, &trees);
+            let rows = chip_search::search(alloc, first, three, reach, &beside)?;
             Ok(better(rows, trees))
         }
         Searches::Trees => Ok(trees),
