@@ -60,6 +60,15 @@ fn main() {
             );
         }
         println!("graphs: {:.2} s", user_time());
+        let more = plan_compact::fewer_nodes(alloc, &net, &graphs).ok().expect("graphs");
+        for (number, graph) in more.iter().enumerate() {
+            println!(
+                "further graph {number}: nodes={} depth={}",
+                graph.node_count(),
+                graph.depth(alloc).unwrap()
+            );
+        }
+        println!("further graphs: {:.2} s", user_time());
         if std::env::var("PORT_GRAPHS").unwrap() == "only" {
             return;
         }

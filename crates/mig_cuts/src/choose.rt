@@ -38,13 +38,12 @@ fn image_literal(literal: u32, image: &Image, cut: &Cut) -> u32 {
         return step.saturating_mul(2) | odd;
     }
     let place = (number - 1) as usize;
-    let leaf = image.order.get(place).copied().unwrap_or(0);
+    let leaf = image.places().get(place).copied().unwrap_or(0);
     if leaf >= cut.count {
         return odd;
     }
-    let turned = (image.turned >> (place % 4)) & 1;
     let first = u32::try_from(leaf).unwrap_or(0);
-    first.saturating_add(1).saturating_mul(2) | (odd ^ turned)
+    first.saturating_add(1).saturating_mul(2) | (odd ^ image.turn(place))
 }
 
 /// The replacement by an image of a recipe over the leaves of a cut.
@@ -68,9 +67,21 @@ fn replacement(
             z: image_literal(step.z, image, cut),
         })?;
     }
-    let flip = if image.flip { 1 } else { 0 };
-    let out = image_literal(recipe.out, image, cut) ^ flip;
+    let out = image_literal(recipe.out, image, cut) ^ image.flip();
     Ok(Replacement { leaves, steps, out })
+}
+
+/// The replacement by an image, if its recipe is there.
+fn image_replacement(
+    alloc: Global,
+    recipes: &Recipes,
+    image: &Image,
+    cut: &Cut,
+) -> Result<Option<Replacement>, Memory> {
+    match recipes.recipe(image) {
+        Some(recipe) => Ok(Some(replacement(alloc, recipe, image, cut)?)),
+        None => Ok(None),
+    }
 }
 
 /// The node of a literal is required at a level, or at an earlier one.
@@ -140,8 +151,11 @@ impl Choices {
         self.uses.release_leaves(cut);
         let mut best = None;
         for image in recipes.images(cut.table) {
-            if let Some(recipe) = recipes.recipe(image) {
-                let by = replacement(site.alloc, recipe, image, cut)?;
+            let by = match image {
+                Some(image) => image_replacement(site.alloc, recipes, image, cut)?,
+                None => None,
+            };
+            if let Some(by) = by {
                 let outcome = tried(site.alloc, site.builder, site.found, &by, freed.as_slice())?;
                 best = better(best, site.judged(*cut, by, outcome, freed.len()));
             }

@@ -15,13 +15,32 @@ pub(crate) struct Recipe {
     pub out: u32,
 }
 
-/// A recipe whose leaves stand in another order, some of them complemented, and its result too where `flip` says so.
+/// A recipe whose leaves stand in another order, some of them complemented, and maybe its result.
 #[derive(Clone, Copy)]
 pub(crate) struct Image {
-    pub recipe: usize,
-    pub order: [usize; 4],
-    pub turned: u32,
-    pub flip: bool,
+    /// The number of the recipe.
+    recipe: u16,
+    /// The number of the order of the leaves.
+    order: u8,
+    /// A bit for each leaf that is complemented, and the next one for the result.
+    turned: u8,
+}
+
+impl Image {
+    /// The places of the leaves.
+    pub(crate) fn places(&self) -> [usize; 4] {
+        order(usize::from(self.order))
+    }
+
+    /// 1 where the leaf at a place is complemented.
+    pub(crate) fn turn(&self, place: usize) -> u32 {
+        u32::from(self.turned >> (place % 4)) & 1
+    }
+
+    /// 1 where the result is complemented.
+    pub(crate) fn flip(&self) -> u32 {
+        u32::from(self.turned >> 4) & 1
+    }
 }
 
 /// An order of four leaves: a permutation of their places.
@@ -64,21 +83,21 @@ fn leaf_table(place: usize) -> u16 {
 /// How many tables a recipe has at most: of the constant, four leaves and seven steps.
 const MOST_TABLES: usize = 12;
 
-/// The tables of the constant and the leaves of an image, with room for the steps.
-fn first_tables(image: &Image) -> [u16; MOST_TABLES] {
+/// The tables of the constant and of leaves in this order, some of them complemented, with room for the steps.
+fn first_tables(order: &[usize; 4], turned: u32) -> [u16; MOST_TABLES] {
     let mut tables = [0u16; MOST_TABLES];
     for place in 0..4usize {
-        let leaf = image.order.get(place).copied().unwrap_or(0);
+        let leaf = order.get(place).copied().unwrap_or(0);
         let plain = leaf_table(leaf);
-        let is_turned = (image.turned >> place) & 1 == 1;
+        let is_turned = (turned >> place) & 1 == 1;
         tables[place + 1] = if is_turned { !plain } else { plain };
     }
     tables
 }
 
-/// The table of an image.
-fn table(recipe: &Recipe, image: &Image) -> u16 {
-    let mut tables = first_tables(image);
+/// The table of a recipe over leaves in this order, some of them complemented.
+fn table(recipe: &Recipe, order: &[usize; 4], turned: u32) -> u16 {
+    let mut tables = first_tables(order, turned);
     let mut next: usize = 5;
     for step in &recipe.steps {
         let x = table_of(&tables, step.x);
@@ -89,8 +108,16 @@ fn table(recipe: &Recipe, image: &Image) -> u16 {
             next += 1;
         }
     }
-    let plain = table_of(&tables, recipe.out);
-    if image.flip { !plain } else { plain }
+    table_of(&tables, recipe.out)
+}
+
+/// The tables of a recipe over leaves in this order, for each set of complemented leaves.
+fn tables(recipe: &Recipe, order: &[usize; 4]) -> [u16; 16] {
+    let mut tables = [0u16; 16];
+    for turned in 0..16u32 {
+        tables[turned as usize] = table(recipe, order, turned);
+    }
+    tables
 }
 
 /// The recipe of a word of letters.
@@ -133,66 +160,60 @@ fn base_recipes(alloc: Global) -> Result<Vec<Recipe>, Memory> {
     Ok(found)
 }
 
-/// For each table its recipes, those of the fewest majorities first.
+/// How many functions of four inputs there are.
+const FUNCTIONS: usize = 65_536;
+
+/// For each table the images that have it, those of the fewest majorities first, in one list: so it is made by one
+/// request for memory.
 #[derive(Drop)]
 pub(crate) struct Recipes {
     base: Vec<Recipe>,
-    of: Vec<Vec<Image>>,
+    of: Vec<[Option<Image>; KEPT]>,
 }
 
-/// Whether an image of this recipe is there.
-fn has_recipe(images: &[Image], recipe: usize) -> bool {
-    for image in images {
-        if image.recipe == recipe {
-            return true;
+/// The place of a further image of a recipe, if none of this recipe is there, and not too many.
+fn free_place(images: &[Option<Image>; KEPT], recipe: u16) -> Option<usize> {
+    for place in 0..KEPT {
+        match images[place] {
+            Some(image) => {
+                if image.recipe == recipe {
+                    return None;
+                }
+            }
+            None => return Some(place),
         }
     }
-    false
+    None
 }
 
 impl Recipes {
     /// The images of the base recipes.
     pub(crate) fn new(alloc: Global) -> Result<Recipes, Memory> {
-        let mut of: Vec<Vec<Image>> = Vec::new(alloc);
-        for _table in 0..65_536 {
-            of.push(Vec::new(alloc))?;
-        }
         let base = base_recipes(alloc)?;
-        let mut recipes = Recipes { base, of };
-        for recipe in 0..recipes.base.len() {
-            for place in 0..24usize {
-                for turned in 0..32u32 {
-                    recipes.take(recipe, place, turned)?;
+        let mut of: Vec<[Option<Image>; KEPT]> = vec![in alloc; [None; KEPT]; FUNCTIONS]?;
+        let mut number: u16 = 0;
+        for recipe in &base {
+            for place in 0..24u8 {
+                let tables = tables(recipe, &order(usize::from(place)));
+                for turned in 0..32u8 {
+                    let plain = tables[usize::from(turned % 16)];
+                    let found = if turned >= 16 { !plain } else { plain };
+                    let image = Image {
+                        recipe: number,
+                        order: place,
+                        turned,
+                    };
+                    take(&mut of, found, image);
                 }
             }
+            number = number.saturating_add(1);
         }
-        Ok(recipes)
-    }
-
-    /// Keeps an image, if its table has no image of this recipe, and not too many.
-    fn take(&mut self, recipe: usize, place: usize, turned: u32) -> Result<(), Memory> {
-        let image = Image {
-            recipe,
-            order: order(place),
-            turned: turned % 16,
-            flip: turned >= 16,
-        };
-        let Some(base) = self.base.get(recipe) else {
-            return Ok(());
-        };
-        let at = table(base, &image) as usize;
-        if at < self.of.len() {
-            let images = &mut self.of[at];
-            if images.len() < KEPT && !has_recipe(images.as_slice(), recipe) {
-                images.push(image)?;
-            }
-        }
-        Ok(())
+        Ok(Recipes { base, of })
     }
 
     /// The images with this table.
-    pub(crate) fn images(&self, table: u16) -> &[Image] {
-        match self.of.get(table as usize) {
+    pub(crate) fn images(&self, table: u16) -> &[Option<Image>] {
+        match self.of.get(usize::from(table)) {
             Some(images) => images.as_slice(),
             None => &[],
         }
@@ -200,6 +221,16 @@ impl Recipes {
 
     /// The recipe of an image.
     pub(crate) fn recipe(&self, image: &Image) -> Option<&Recipe> {
-        self.base.get(image.recipe)
+        self.base.get(usize::from(image.recipe))
+    }
+}
+
+/// Keeps an image, if its table has no image of this recipe, and not too many.
+fn take(of: &mut Vec<[Option<Image>; KEPT]>, table: u16, image: Image) {
+    let at = usize::from(table);
+    if at < of.len() {
+        if let Some(place) = free_place(&of[at], image.recipe) {
+            of[at][place] = Some(image);
+        }
     }
 }

@@ -25,6 +25,10 @@ const MOST_NODES: usize = 4_000_000;
 /// is searched for long, and its cuts would take much memory.
 const MOST_REWRITTEN: usize = 100_000;
 
+/// How many nodes a graph has at least that is made anew by cuts of four leaves: a smaller one has no node to lose, and
+/// the recipes take time and memory.
+const LEAST_REWRITTEN: usize = 2;
+
 /// The one refusal of a pass that is refused for want of memory alone.
 fn no_memory(_refusal: GraphRefusal) -> Memory
     requires { _refusal ≡ NoMemory }
@@ -161,7 +165,9 @@ fn first_rewritten(alloc: Global, net: &Netlist, graphs: &[Graph]) -> Result<Opt
     ensures { IfOk result (λ found. IfSome found (λ made. IsGraphOf net.now made)) }
 {
     match graphs.first() {
-        Some(first) if first.node_count() <= MOST_REWRITTEN => rewritten_twice(alloc, net, first),
+        Some(first) if (LEAST_REWRITTEN..=MOST_REWRITTEN).contains(&first.node_count()) => {
+            rewritten_twice(alloc, net, first)
+        }
         _ => Ok(None),
     }
 }
