@@ -60,7 +60,7 @@ fn main() {
             );
         }
         println!("graphs: {:.2} s", user_time());
-        let more = plan_compact::fewer_nodes(alloc, &net, &graphs).ok().expect("graphs");
+        let more = plan_compact::fewest_nodes(alloc, &net, &graphs).ok().expect("graphs");
         for (number, graph) in more.iter().enumerate() {
             println!(
                 "further graph {number}: nodes={} depth={}",

@@ -3,17 +3,11 @@
 #![tactic(auto)]
 
 mod choose;
-mod cone;
 mod cuts;
 mod pass;
 mod recipe_lines;
 mod recipes;
-mod replaced;
-mod replacement;
-mod run;
 #[cfg(test)]
 mod tests;
-mod trial;
-mod uses;
 
 pub use pass::CutRewriting;

@@ -3,11 +3,12 @@ ghost use Rattle.std.specs.Prelude.{◌≡◌, IfOk, IfErr};
 ghost use Rattle.mig.specs.declared.refusal.GraphRefusal.TheVariants.{Memory as NoMemory};
 ghost use Rattle.mig.specs.Passes.{IsRebuilt};
 
+use crate::choose::Choices;
 use crate::recipes::Recipes;
-use crate::replaced::rewritten;
 use aq_base::Memory;
 use circuit::Pass;
-use mig::{Clean, Graph, GraphRefusal};
+use mig::{Graph, GraphRefusal};
+use mig_replace::{Ties, with_replacements};
 use std::alloc::Global;
 
 /// Makes graphs of fewer nodes and no more levels, by recipes for what nodes compute from four others. It is refused
@@ -24,19 +25,30 @@ impl CutRewriting {
             recipes: Recipes::new(alloc)?,
         })
     }
+
+    /// As `run`, but by other forms too that save no nodes, in an order of their own for each number. So further passes
+    /// start elsewhere.
+    pub fn shaken(&self, alloc: Global, from: &Graph, number: u32) -> Result<Graph, GraphRefusal>
+        ensures made { IfOk result (λ made. IsRebuilt from.now made) }
+        ensures met { IfErr result (λ refusal. refusal ≡ NoMemory) }
+    {
+        rewritten_graph(alloc, from, &self.recipes, Ties::shaken(number))
+    }
 }
 
 /// The graph by the chosen cuts, without what serves no output. Where there would be too many nodes, it is the graph
 /// that was given, without what serves no output.
-fn rewritten_graph(alloc: Global, graph: &Graph, recipes: &Recipes) -> Result<Graph, GraphRefusal>
+fn rewritten_graph(
+    alloc: Global,
+    graph: &Graph,
+    recipes: &Recipes,
+    ties: Ties,
+) -> Result<Graph, GraphRefusal>
     ensures made { IfOk result (λ made. IsRebuilt graph.now made) }
     ensures met { IfErr result (λ refusal. refusal ≡ NoMemory) }
 {
-    match rewritten(alloc, graph, recipes) {
-        Ok(made) => Clean.run(alloc, &made),
-        Err(GraphRefusal::TooManyNodes) => Clean.run(alloc, graph),
-        Err(GraphRefusal::Memory) => Err(GraphRefusal::Memory),
-    }
+    let mut choices = Choices::new(alloc, graph, recipes, ties)?;
+    with_replacements(alloc, graph, &mut choices)
 }
 
 impl Pass<Graph> for CutRewriting {
@@ -57,6 +69,6 @@ impl Pass<Graph> for CutRewriting {
     ghost keeps = { λ s from to given. given.same };
 
     fn run(&self, alloc: Global, from: &Graph) -> Result<Graph, GraphRefusal> {
-        rewritten_graph(alloc, from, &self.recipes)
+        rewritten_graph(alloc, from, &self.recipes, Ties::lower())
     }
 }

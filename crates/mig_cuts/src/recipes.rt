@@ -143,19 +143,25 @@ fn recipe_of(alloc: Global, word: &[u8]) -> Result<Recipe, Memory> {
     })
 }
 
+/// Adds the recipes of a line.
+fn push_recipes(alloc: Global, found: &mut Vec<Recipe>, line: &[u8]) -> Result<(), Memory> {
+    let mut word: Vec<u8> = Vec::new(alloc);
+    for letter in line {
+        if *letter == b' ' {
+            found.push(recipe_of(alloc, word.as_slice())?)?;
+            word.clear();
+        } else {
+            word.push(*letter)?;
+        }
+    }
+    Ok(())
+}
+
 /// The base recipes.
 fn base_recipes(alloc: Global) -> Result<Vec<Recipe>, Memory> {
     let mut found = Vec::new(alloc);
     for number in 0..LINES {
-        let mut word: Vec<u8> = Vec::new(alloc);
-        for letter in line(number) {
-            if *letter == b' ' {
-                found.push(recipe_of(alloc, word.as_slice())?)?;
-                word.clear();
-            } else {
-                word.push(*letter)?;
-            }
-        }
+        push_recipes(alloc, &mut found, line(number))?;
     }
     Ok(found)
 }
@@ -229,8 +235,10 @@ impl Recipes {
 fn take(of: &mut Vec<[Option<Image>; KEPT]>, table: u16, image: Image) {
     let at = usize::from(table);
     if at < of.len() {
-        if let Some(place) = free_place(&of[at], image.recipe) {
-            of[at][place] = Some(image);
+        let images = &mut of[at];
+        match free_place(images, image.recipe) {
+            Some(place) if place < KEPT => images[place] = Some(image),
+            _ => {}
         }
     }
 }

@@ -4,6 +4,7 @@
 
 mod compact;
 mod making;
+mod rounds;
 mod search;
 mod searches;
 mod sizes;

@@ -7,6 +7,7 @@ ghost use Rattle.plan_compact.specs.Code.Candidates.{IsCandidate};
 
 use crate::making::small_chip;
 use crate::searches::Searches;
+use crate::rounds::fewest_nodes;
 use crate::sizes::is_no_larger;
 use crate::variants::{fewer_nodes, graph_variants};
 use aq_base::Memory;
@@ -74,6 +75,24 @@ fn smaller(_library: &Library, _net: &Netlist, one: Placed, other: Placed) -> Pl
     }
 }
 
+/// The smaller of two, where both are there.
+fn smaller_of(
+    library: &Library,
+    net: &Netlist,
+    one: Option<Placed>,
+    other: Option<Placed>,
+) -> Option<Placed>
+    requires one { IfSome one (λ chip. IsCandidate library.now net.now chip) }
+    requires other { IfSome other (λ chip. IsCandidate library.now net.now chip) }
+    ensures { IfSome result (λ chip. IsCandidate library.now net.now chip) }
+{
+    match (one, other) {
+        (Some(one), Some(other)) => Some(smaller(library, net, one, other)),
+        (Some(one), None) => Some(one),
+        (None, other) => other,
+    }
+}
+
 /// A chip of the netlist that was found, if it may be drawn with the library. The graphs of fewer nodes are searched by
 /// themselves, and what comes of them is taken only where it is smaller as it would be drawn: so they never make a chip
 /// larger.
@@ -81,12 +100,10 @@ pub fn found_chip(alloc: Global, library: &Library, net: &Netlist) -> Result<Opt
     ensures { IfOk result (λ found. IfSome found (λ chip. IsCandidate library.now net.now chip)) }
 {
     let graphs = graph_variants(alloc, net)?;
-    let more = fewer_nodes(alloc, net, graphs.as_slice())?;
+    let fewer = fewer_nodes(alloc, net, graphs.as_slice())?;
+    let fewest = fewest_nodes(alloc, net, graphs.as_slice())?;
     let one = drawn(alloc, library, net, graphs.as_slice(), Searches::All)?;
-    let other = drawn(alloc, library, net, more.as_slice(), Searches::Trees)?;
-    match (one, other) {
-        (Some(one), Some(other)) => Ok(Some(smaller(library, net, one, other))),
-        (Some(one), None) => Ok(Some(one)),
-        (None, other) => Ok(other),
-    }
+    let two = drawn(alloc, library, net, fewer.as_slice(), Searches::Trees)?;
+    let three = drawn(alloc, library, net, fewest.as_slice(), Searches::Trees)?;
+    Ok(smaller_of(library, net, smaller_of(library, net, one, two), three))
 }

@@ -30,7 +30,7 @@ const MOST_REWRITTEN: usize = 100_000;
 const LEAST_REWRITTEN: usize = 2;
 
 /// The one refusal of a pass that is refused for want of memory alone.
-fn no_memory(_refusal: GraphRefusal) -> Memory
+pub(crate) fn no_memory(_refusal: GraphRefusal) -> Memory
     requires { _refusal ≡ NoMemory }
 {
     Memory
@@ -72,7 +72,7 @@ fn next_lower(alloc: Global, _net: &Netlist, graphs: &[Graph]) -> Result<Option<
 
 /// Adds a graph, and then ever lower ones that are made of it.
 #[tactic(auto, using(crate::proofs::Chained::chained))]
-fn push_chain(
+pub(crate) fn push_chain(
     alloc: Global,
     net: &Netlist,
     graphs: &mut Vec<Graph>,

@@ -1,4 +1,0 @@
-use Rattle.mig_cuts.proofs.cone.+cone.Given as goal
-
-abbrev pub decreases-cone : goal.decreases-cone
-decreases-cone l = l.most

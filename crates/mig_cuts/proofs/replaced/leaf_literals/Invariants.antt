@@ -1,6 +1,0 @@
-use Rattle.std.proofs.Common.{take}
-use Rattle.mig_cuts.specs.Code.Cones.{AreFound}
-use Rattle.mig_cuts.proofs.replaced.leaf_literals.Given as goal
-
-abbrev pub invariant-loop-leaf : goal.invariant-loop-leaf
-invariant-loop-leaf l = AreFound l.found (take l.leaf-index l.leaves) l.literals.items

@@ -1,5 +1,0 @@
-use Rattle.mig_cuts.proofs.Computing.{none_entry}
-use Rattle.mig_cuts.proofs.run.entry_at.Goals as goal
-
-pub returns-else-number-entries : goal.returns-else-number-entries
-returns-else-number-entries c = λ b leaves all. none_entry b leaves

@@ -1,0 +1,58 @@
+// The pass: a graph by resubstitution.
+ghost use Rattle.std.specs.Prelude.{◌≡◌, IfOk, IfErr};
+ghost use Rattle.mig.specs.declared.refusal.GraphRefusal.TheVariants.{Memory as NoMemory};
+ghost use Rattle.mig.specs.Passes.{IsRebuilt};
+
+use crate::choose::Choices;
+use circuit::Pass;
+use mig::{Graph, GraphRefusal};
+use mig_replace::{Ties, with_replacements};
+use std::alloc::Global;
+
+/// Makes graphs of fewer nodes and no more levels, by majorities of nodes of windows with six leaves. It is refused for
+/// want of memory alone.
+#[derive(Clone, Copy)]
+pub struct Resubstitution;
+
+/// The graph by the chosen forms, without what serves no output. Where there would be too many nodes, it is the graph
+/// that was given, without what serves no output.
+fn resubstituted(alloc: Global, graph: &Graph, ties: Ties) -> Result<Graph, GraphRefusal>
+    ensures made { IfOk result (λ made. IsRebuilt graph.now made) }
+    ensures met { IfErr result (λ refusal. refusal ≡ NoMemory) }
+{
+    let mut choices = Choices::new(alloc, graph, ties)?;
+    with_replacements(alloc, graph, &mut choices)
+}
+
+impl Resubstitution {
+    /// As `run`, but by other forms too that save no nodes, in an order of their own for each number. So further passes
+    /// start elsewhere.
+    pub fn shaken(&self, alloc: Global, from: &Graph, number: u32) -> Result<Graph, GraphRefusal>
+        ensures made { IfOk result (λ made. IsRebuilt from.now made) }
+        ensures met { IfErr result (λ refusal. refusal ≡ NoMemory) }
+    {
+        resubstituted(alloc, from, Ties::shaken(number))
+    }
+}
+
+impl Pass<Graph> for Resubstitution {
+    ghost use Rattle.std.specs.Prelude.{◌≡◌};
+    ghost use Rattle.mig.specs.declared.refusal.GraphRefusal.TheVariants.{Memory as NoMemory};
+    ghost use Rattle.mig.specs.Passes.{IsRebuilt};
+
+    type Out = Graph;
+
+    type Refusal = GraphRefusal;
+
+    ghost may_give = { λ s from to. IsRebuilt from to };
+
+    ghost may_meet = { λ s from refusal. ⊥ };
+
+    ghost is_memory = { λ refusal. refusal ≡ NoMemory };
+
+    ghost keeps = { λ s from to given. given.same };
+
+    fn run(&self, alloc: Global, from: &Graph) -> Result<Graph, GraphRefusal> {
+        resubstituted(alloc, from, Ties::lower())
+    }
+}
