@@ -164,7 +164,8 @@ impl<'a> Chooser for Choices<'a> {
         match self.best(site)? {
             Some(best) => {
                 let leaves = best.by.leaves.as_slice();
-                self.uses.give_up(site.alloc, site.graph, site.node, leaves)?;
+                self.uses
+                    .give_up(site.alloc, site.graph, site.node, leaves)?;
                 Ok(Some(best.by))
             }
             None => Ok(None),

@@ -111,17 +111,13 @@ fn by_replacement(
     let Some(literals) = leaf_literals(alloc, found, leaves)? else {
         return Ok(None);
     };
-    let Some(others) = other_entries(alloc, graph, found, leaves, by.others.as_slice())? else {
+    let nodes = by.others.as_slice();
+    let Some(others) = other_entries(alloc, graph, found, leaves, nodes)? else {
         return Ok(None);
     };
-    let entry = run(
-        alloc,
-        builder,
-        literals.as_slice(),
-        others.as_slice(),
-        by.steps.as_slice(),
-        by.out,
-    )?;
+    let at = literals.as_slice();
+    let known = others.as_slice();
+    let entry = run(alloc, builder, at, known, by.steps.as_slice(), by.out)?;
     match table_over(graph, leaves, node) {
         Some(table) if table == entry.table => Ok(Some(entry.literal)),
         _ => Ok(None),

@@ -79,12 +79,7 @@ impl Uses {
     }
 
     /// Takes away what a node uses, and what nodes use that are free then. They are answered, the node first.
-    fn freed(
-        &mut self,
-        alloc: Global,
-        graph: &Graph,
-        node: u32,
-    ) -> Result<Vec<u32>, Memory> {
+    fn freed(&mut self, alloc: Global, graph: &Graph, node: u32) -> Result<Vec<u32>, Memory> {
         let mut freed = Vec::new(alloc);
         freed.push(node)?;
         for turn in 0..MOST_FREED {

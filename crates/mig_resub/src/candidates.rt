@@ -139,11 +139,7 @@ fn literal(others: &mut Vec<u32>, leaves: usize, divisor: Divisor) -> Result<u32
 
 impl Form {
     /// The replacement by this form.
-    pub(crate) fn replacement(
-        &self,
-        alloc: Global,
-        leaves: &[u32],
-    ) -> Result<Replacement, Memory> {
+    pub(crate) fn replacement(&self, alloc: Global, leaves: &[u32]) -> Result<Replacement, Memory> {
         let mut others = Vec::new(alloc);
         let inner = Node {
             x: literal(&mut others, leaves.len(), self.inner[0])?,

@@ -54,9 +54,7 @@ impl Choices {
     ) -> Result<Option<Best>, Memory> {
         let by = form.replacement(site.alloc, leaves)?;
         let others = by.others.as_slice();
-        let freed = self
-            .uses
-            .served(site.alloc, site.graph, site.node, others)?;
+        let freed = self.uses.served(site.alloc, site.graph, site.node, others)?;
         let outcome = tried(site, &by, freed.as_slice())?;
         let most = self.required.get(site.node as usize).copied().unwrap_or(0);
         let found = site.worth(&self.ties, most, by, outcome, freed.len());
@@ -80,9 +78,7 @@ impl Choices {
             target: window.target,
         };
         let leaves = window.leaves.as_slice();
-        let served = self
-            .uses
-            .served(site.alloc, site.graph, site.node, leaves)?;
+        let served = self.uses.served(site.alloc, site.graph, site.node, leaves)?;
         let mut best = None;
         for form in &by_one(&sought)? {
             best = self.judged(site, leaves, form, best)?;
@@ -105,7 +101,8 @@ impl Chooser for Choices {
         match self.best(site)? {
             Some(best) => {
                 let others = best.by.others.as_slice();
-                self.uses.give_up(site.alloc, site.graph, site.node, others)?;
+                self.uses
+                    .give_up(site.alloc, site.graph, site.node, others)?;
                 Ok(Some(best.by))
             }
             None => Ok(None),

@@ -53,7 +53,10 @@ fn votes_of_three(rt: HostRuntime) -> Result<(), Fail> {
     };
     let made = Resubstitution.run(rt.alloc(), &gates)?;
     let shaken = Resubstitution.shaken(rt.alloc(), &gates, 1)?;
-    assert_eq!(rt; (gates.node_count(), made.node_count(), shaken.node_count()), (4, 1, 1));
+    assert_eq!(rt;
+        (gates.node_count(), made.node_count(), shaken.node_count()),
+        (4, 1, 1)
+    );
     for number in 0..8u32 {
         assert!(rt; votes(rt.alloc(), &made, number)?);
         assert!(rt; votes(rt.alloc(), &shaken, number)?);

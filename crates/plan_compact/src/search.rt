@@ -6,8 +6,8 @@ ghost use Rattle.plan_compact.specs.Variants.{AreGraphsOf};
 ghost use Rattle.plan_compact.specs.Code.Candidates.{IsCandidate};
 
 use crate::making::small_chip;
-use crate::searches::Searches;
 use crate::rounds::fewest_nodes;
+use crate::searches::Searches;
 use crate::sizes::is_no_larger;
 use crate::variants::{fewer_nodes, graph_variants};
 use aq_base::Memory;

@@ -5,7 +5,7 @@ use Rattle.mig_replace.proofs.Carrying.{first_carries, carries_more}
 use Rattle.mig_replace.proofs.replaced.node_literals.Goals as goal
 
 pub loop-number-init : goal.loop-number-init
-loop-number-init c =
+loop-number-init g c =
     let size = c.in_ok-found.ensures.all in
     let same = c.inputs.ensures in
     record {
@@ -15,7 +15,7 @@ loop-number-init c =
     }
 
 pub loop-number-preserved : goal.loop-number-preserved
-loop-number-preserved c =
+loop-number-preserved g c =
     let longer = one_longer c.loop-number.found.items _ c.in_ok-literal.literal c.in_ok-push.ensures.items in
     let size = c.loop-number.invariant.size in
     record {

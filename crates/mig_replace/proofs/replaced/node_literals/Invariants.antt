@@ -3,7 +3,7 @@ use Rattle.mig_replace.specs.Code.Cones.{Carries}
 use Rattle.mig_replace.proofs.replaced.node_literals.Given as goal
 
 abbrev pub invariant-loop-number : goal.invariant-loop-number
-invariant-loop-number l = record {
+invariant-loop-number g l = record {
   size : length l.found.items ≡ 1 + l.graph.inputs + l.number;
   carries : Carries l.graph l.builder l.found.items;
 }
