@@ -91,7 +91,7 @@ fn turn(
 
 /// The graph from which the next turn starts, and the one of the fewest nodes so far.
 #[derive(Drop)]
-struct Turned {
+struct SoFar {
     best: Graph,
     next: Option<Graph>,
 }
@@ -101,7 +101,7 @@ fn next_turn(
     alloc: Global,
     net: &Netlist,
     pass: &CutRewriting,
-    so_far: &Turned,
+    so_far: &SoFar,
     number: u32,
 ) -> Result<Graph, Memory>
     requires best { IsGraphOf net.now so_far.now.best }
@@ -115,7 +115,7 @@ fn next_turn(
 }
 
 /// What is known after a turn.
-fn after_turn(_net: &Netlist, so_far: Turned, made: Graph) -> Turned
+fn after_turn(_net: &Netlist, so_far: SoFar, made: Graph) -> SoFar
     requires best { IsGraphOf _net.now so_far.best }
     requires made { IsGraphOf _net.now made }
     ensures best { IsGraphOf _net.now result.best }
@@ -125,17 +125,17 @@ fn after_turn(_net: &Netlist, so_far: Turned, made: Graph) -> Turned
     let least = best.node_count();
     let few = made.node_count();
     if few <= least {
-        Turned {
+        SoFar {
             best: made,
             next: None,
         }
     } else if few <= least.saturating_add(least / 32) {
-        Turned {
+        SoFar {
             best,
             next: Some(made),
         }
     } else {
-        Turned { best, next: None }
+        SoFar { best, next: None }
     }
 }
 
@@ -152,7 +152,7 @@ fn turned(alloc: Global, net: &Netlist, graph: &Graph) -> Result<Graph, Memory>
     let pass = CutRewriting::new(alloc)?;
     let one = round(alloc, net, &pass, graph, None)?;
     let best = round(alloc, net, &pass, &one, None)?;
-    let mut so_far = Turned { best, next: None };
+    let mut so_far = SoFar { best, next: None };
     for number in 0..turns(graph.node_count()) {
         let made = next_turn(alloc, net, &pass, &so_far, number)?;
         so_far = after_turn(net, so_far, made);
