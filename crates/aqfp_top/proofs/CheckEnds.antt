@@ -4,7 +4,6 @@ use Rattle.std.proofs.Common.{subst, inl, inr}
 use Rattle.std.specs.Result.{result_err}
 use Rattle.aq_base.specs.Output.{Output}
 use Rattle.aqfp_top.specs.Code.Printing.{PrintsText}
-use Rattle.aq_base.specs.History.{Event}
 use Rattle.aq_base.specs.Store.{Contents}
 use Rattle.circuit_extracted.specs.Circuits.{CircuitView, KeepsFacts}
 use Rattle.text_answers.specs.WordsText.{words_of, SaysWords}
@@ -16,7 +15,6 @@ use Rattle.aqfp_top.specs.Faults.{IsCheckFault}
 use Rattle.aqfp_top.specs.Code.Loading.{IsFaultOfLoads}
 use Rattle.aqfp_top.specs.Code.Staging.{ToldAnswers}
 use Rattle.aqfp_top.specs.Code.Building.{IsOutOrMemory}
-use Rattle.aqfp_top.specs.Code.Printing.{OutFails}
 use Rattle.aqfp_top.specs.Code.Checking.{chip_stages, circuit_then, IsCircuitFault, IsJudgingFault}
 use Rattle.aqfp_top.specs.Checks.{ToldTexts, MakesCircuit, IsSound, CheckPrints, IsPrintedOf, text_of}
 use Rattle.aqfp_top.specs.declared.check.Printing.{Printing}
@@ -46,11 +44,6 @@ circuit_judges fault wrong = each_circuit IsJudgingFault (λ o k. tt) (λ n. tt)
 pub loads_check : (fault : Fault) → IsFaultOfLoads check_loads fault → IsCheckFault fault
 loads_check fault only = each_of_loads IsCheckFault check_loads (λ p l. l) (λ p t l. l) (λ p l. l) tt fault only
 
-pub loads_fail : (shown shown' : List Event) (fault : Fault) → IsFaultOfLoads check_loads fault
-    → OutFails shown shown' (Some fault)
-loads_fail shown shown' fault only = each_of_loads (λ f. OutFails shown shown' (Some f)) check_loads (λ p l. tt)
-    (λ p t l. tt) (λ p l. tt) tt fault only
-
 pub loads_check_print : (printing : Printing) (contents : Option Contents) (words : List (List ℕ)) (held : Output)
     (fault : Fault) → IsFaultOfLoads check_loads fault → CheckPrints printing contents words held held (Some fault)
 loads_check_print printing contents words held fault only =
@@ -63,11 +56,6 @@ loads_check_print printing contents words held fault only =
 pub unsound_is_check : (fault : Fault) → IsJudgingFault fault → IsCheckFault fault
 unsound_is_check fault wrong = each_judging IsCheckFault (λ o k. tt) (λ n. tt) (λ f. tt) (λ k. tt)
     (λ r a b. tt) (λ l. tt) tt fault wrong
-
-pub unsound_fails : (shown shown' : List Event) (fault : Fault) → IsJudgingFault fault
-    → OutFails shown shown' (Some fault)
-unsound_fails shown shown' fault wrong = each_judging (λ f. OutFails shown shown' (Some f)) (λ o k. tt) (λ n. tt)
-    (λ f. tt) (λ k. tt) (λ r a b. tt) (λ l. tt) tt fault wrong
 
 pub unsound_prints : (printing : Printing) (contents : Option Contents) (words : List (List ℕ)) (held : Output)
     (fault : Fault) → IsJudgingFault fault → CheckPrints printing contents words held held (Some fault)
@@ -141,9 +129,7 @@ pub ruleset ends = (
   loads_answer,
   circuit_judges,
   loads_check,
-  loads_fail,
   loads_check_print,
   unsound_is_check,
-  unsound_fails,
   unsound_prints,
 )

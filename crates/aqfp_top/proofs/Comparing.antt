@@ -4,7 +4,6 @@ use Rattle.std.proofs.Common.{OnOk, refl, subst, inl, inr}
 use Rattle.std.specs.Result.{result_err}
 use Rattle.aq_base.specs.Output.{Output}
 use Rattle.aqfp_top.specs.Code.Printing.{PrintsText}
-use Rattle.aq_base.specs.History.{Event}
 use Rattle.aq_base.specs.Store.{Contents}
 use Rattle.blif_read.specs.Parts.{NetView}
 use Rattle.blif_read.specs.Netlist.{IsNetlist}
@@ -22,7 +21,6 @@ use Rattle.aqfp_top.specs.Comparing.{MakesBoth, HasWidths, IsTrueOf, HasVerdict,
 use Rattle.aqfp_top.specs.Code.Staging.{OrMemory, ToldAnswers}
 use Rattle.aqfp_top.specs.Code.Loading.{IsFaultOfLoads}
 use Rattle.aqfp_top.specs.Code.Building.{IsOutOrMemory}
-use Rattle.aqfp_top.specs.Code.Printing.{OutFails}
 use Rattle.aqfp_top.specs.Code.Checking.{chip_stages, circuit_then, IsCircuitFault}
 use Rattle.aqfp_top.specs.Code.Comparing.{both_stages, AreWidths, AreOtherWidths, IsManyFault, IsComparingFault}
 use Rattle.aqfp_top.specs.declared.fault.Large.TheVariants.{Functions, Design}
@@ -32,9 +30,7 @@ use Rattle.aqfp_top.proofs.OutEnds.{each_text}
 use Rattle.aqfp_top.proofs.EachFault.{each_of_loads, each_circuit, each_comparing, each_out}
 use Rattle.aqfp_top.proofs.Staging.{past_all, found}
 use Rattle.aqfp_top.proofs.LoadedTexts.{told_three_answer}
-use Rattle.aqfp_top.proofs.CheckEnds.{loads_fail}
 use Rattle.aqfp_top.proofs.OneFault.{says_no_fault}
-use Rattle.aqfp_top.proofs.Reporting.{circuit_fails}
 
 -- The kinds of faults.
 
@@ -196,12 +192,6 @@ pub wrong_is_equal : (fault : Fault) → IsComparingFault fault → IsEqualFault
 wrong_is_equal fault wrong = each_comparing IsEqualFault circuit_equal (λ f. tt) (λ l k. tt) (λ n. tt)
     (λ a b c d. tt) refl fault wrong
 
-pub wrong_fails : (shown shown' : List Event) (fault : Fault) → IsComparingFault fault
-    → OutFails shown shown' (Some fault)
-wrong_fails shown shown' fault wrong =
-    each_comparing (λ f. OutFails shown shown' (Some f)) (circuit_fails shown shown') (λ f. tt) (λ l k. tt) (λ n. tt)
-    (λ a b c d. tt) tt fault wrong
-
 circuit_prints : (contents : Option Contents) (words : List (List ℕ)) (held : Output) (fault : Fault)
     → IsCircuitFault fault
     → EqualPrints contents words held held (Some fault)
@@ -259,10 +249,8 @@ texts_print contents words before after gds lib net lib' net' verdict result hel
 pub ruleset ends = (
   loads_answer,
   loads_equal,
-  loads_fail,
   loads_equal_print,
   wrong_is_equal,
-  wrong_fails,
   wrong_prints,
   told_wrong,
 )

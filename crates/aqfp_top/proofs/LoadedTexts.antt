@@ -12,7 +12,7 @@ use Rattle.aqfp_top.specs.Checks.{ToldTexts}
 use Rattle.aqfp_top.specs.Stages.{Stage, Answers}
 use Rattle.aqfp_top.specs.Due.{bytes_at, two_stages, three_stages}
 use Rattle.aqfp_top.specs.Histories.{loaded}
-use Rattle.aqfp_top.specs.DueHistories.{HearsRefusal, RefusesOne}
+use Rattle.aqfp_top.specs.Refusals.{HearsRefusal, RefusesOne}
 use Rattle.aqfp_top.specs.Code.Loading.{ToldLoadsWord, IsFaultOfLoad, IsFaultOfLoads}
 use Rattle.aqfp_top.specs.Code.Staging.{ToldAnswers, two_then}
 use Rattle.aqfp_top.specs.Code.Checking.{chip_stages}

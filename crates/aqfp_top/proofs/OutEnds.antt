@@ -1,7 +1,6 @@
 -- What printing a text leaves of `out`, by how it ended.
 use Rattle.std.proofs.Common.{ℕ, suc, ◌≡◌, ◌<◌, List, take, Result, Ok, Err}
 use Rattle.std.proofs.Common.{IfErr, OnOk, ap, ◌∙◌, arith}
-use Rattle.std.specs.Result.{result_err}
 use Rattle.aq_base.specs.declared.store.StoreRefusal.{StoreRefusal}
 use Rattle.aq_base.specs.declared.store.StoreRefusal.TheVariants as store
 use Rattle.aq_base.specs.FaultCounts.{write_faults}
@@ -9,7 +8,7 @@ use Rattle.aq_base.specs.Output.{Output, printed}
 use Rattle.aq_base.proofs.Counting.{took_writes}
 use Rattle.text_answers.specs.Printing.{PrintsWithin}
 use Rattle.aqfp_top.specs.Code.Building.{IsOutOrMemory}
-use Rattle.aqfp_top.specs.Code.Printing.{end_of_out, PrintsText, OutFails}
+use Rattle.aqfp_top.specs.Code.Printing.{end_of_out, PrintsText}
 use Rattle.aqfp_top.specs.declared.fault.WriteCall.TheVariants.{Create, Append, Close, Out}
 use Rattle.aqfp_top.specs.declared.fault.Fault.{Fault}
 use Rattle.aqfp_top.specs.declared.fault.Fault.TheVariants.{WriteFault, Memory}
@@ -41,17 +40,11 @@ pub text_only : (text : List ℕ) (o o' : Output) (result : Result (Unit {0}) Fa
 text_only text o o' result prints =
     each_text (λ r. IfErr r IsOutOrMemory) text o o' (λ p. tt) (λ p. tt) (λ p. tt) result prints
 
-within_fails : (text : List ℕ) (o o' : Output) → PrintsWithin o o' text store.Failed
+pub within_fails : (text : List ℕ) (o o' : Output) → PrintsWithin o o' text store.Failed
     → write_faults o.history < write_faults o'.history
 within_fails text o o' p =
     let more : write_faults o'.history ≡ suc (write_faults o.history) =
     ap (λ (x : Output). write_faults x.history) p.halts ∙ ap suc (took_writes (take p.count text) o.history) in
     omega (arith, more)
 
-pub text_fails : (text : List ℕ) (o o' : Output) (result : Result (Unit {0}) Fault) → PrintsText text o o' result
-    → OutFails o.history o'.history (result_err result)
-text_fails text o o' result prints =
-    each_text (λ r. OutFails o.history o'.history (result_err r)) text o o' (λ p. tt) (within_fails text o o') (λ p. tt)
-    result prints
-
-pub ruleset texts = (ends_text, text_only, text_fails)
+pub ruleset texts = (ends_text, text_only)

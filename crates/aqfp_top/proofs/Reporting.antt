@@ -1,8 +1,7 @@
 -- From the clauses of the steps of a report to its own.
-use Rattle.std.proofs.Common.{ℕ, ◌≡◌, ◌≤◌, List, length, Option, Some, None, Result, Ok, Err, IfErr, OnOk}
+use Rattle.std.proofs.Common.{ℕ, ◌≡◌, ◌≤◌, List, length, Option, Some, None, Result, Ok, Err, IfErr}
 use Rattle.std.proofs.Common.{refl, ap, subst}
 use Rattle.std.specs.Result.{result_err}
-use Rattle.aq_base.specs.History.{Event}
 use Rattle.aq_base.specs.Output.{Output}
 use Rattle.aq_base.specs.Store.{Contents}
 use Rattle.poly_cut.specs.declared.layout.WideLayout.{WideLayout}
@@ -16,18 +15,17 @@ use Rattle.aqfp_top.specs.Loads.{gds_limit, lib_limit, write_loads, ToldTwo}
 use Rattle.aqfp_top.specs.Stages.{IsFirst, Answers}
 use Rattle.aqfp_top.specs.Due.{circuit_stages, write_stages}
 use Rattle.aqfp_top.specs.Faults.{IsReportFault}
-use Rattle.aqfp_top.specs.Histories.{loaded}
 use Rattle.aqfp_top.specs.Printed.{TextPrints}
-use Rattle.aqfp_top.specs.Reported.{IsReport, IsReportOf, HearsReport}
+use Rattle.aqfp_top.specs.Reported.{IsReport, IsReportOf}
 use Rattle.aqfp_top.specs.Code.Loading.{IsFaultOfLoads}
 use Rattle.aqfp_top.specs.Code.Staging.{ToldAnswers}
-use Rattle.aqfp_top.specs.Code.Printing.{PrintsText, OutFails}
+use Rattle.aqfp_top.specs.Code.Printing.{PrintsText}
 use Rattle.aqfp_top.specs.Code.Checking.{IsCircuitFault, IsJudged}
 use Rattle.aqfp_top.specs.Code.Reporting.{IsLayoutFault, IsPrintingFault}
 use Rattle.aqfp_top.specs.declared.judge.JudgedChip.{JudgedChip}
 use Rattle.aqfp_top.specs.declared.fault.Fault.{Fault}
 use Rattle.aqfp_top.proofs.EachFault.{each_of_loads, each_circuit, each_layout, each_printing}
-use Rattle.aqfp_top.proofs.OutEnds.{each_text, text_fails}
+use Rattle.aqfp_top.proofs.OutEnds.{each_text}
 use Rattle.aqfp_top.proofs.Judging.{IsRead, is_ruled, circuit_is_well}
 use Rattle.aqfp_top.proofs.Printing.{prints_more, loads_print}
 use Rattle.aqfp_top.proofs.LoadedTexts.{told_two_answer}
@@ -80,18 +78,7 @@ pub out_printing : (text : List ℕ) (shown shown' : Output) (result : Result (U
 out_printing text shown shown' result prints =
     each_text (λ r. IfErr r IsPrintingFault) text shown shown' (λ p. tt) (λ p. tt) (λ p. tt) result prints
 
-pub layout_fails : (shown shown' : List Event) (fault : Fault) → IsLayoutFault fault
-    → OutFails shown shown' (Some fault)
-layout_fails shown shown' fault wrong = each_layout (λ f. OutFails shown shown' (Some f))
-    (λ o k. tt) (λ n. tt) tt fault wrong
-
-pub circuit_fails : (shown shown' : List Event) (fault : Fault) → IsCircuitFault fault
-    → OutFails shown shown' (Some fault)
-circuit_fails shown shown' fault wrong =
-    each_circuit (λ f. OutFails shown shown' (Some f)) (λ o k. tt) (λ n. tt) (λ f. tt) (λ k. tt)
-    (λ r a b. tt) tt fault wrong
-
-pub ruleset prints = (layout_printing, circuit_printing, out_printing, layout_fails, text_fails)
+pub ruleset prints = (layout_printing, circuit_printing, out_printing)
 
 -- The whole report.
 
@@ -101,11 +88,6 @@ loads_report fault only = each_of_loads IsReportFault write_loads (λ p l. l) (�
 pub loads_report_print : (contents : Option Contents) (words : List (List ℕ)) (held : Output) (fault : Fault)
     → IsFaultOfLoads write_loads fault → TextPrints (IsReportOf contents words) held held (Some fault)
 loads_report_print contents words held fault only = loads_print (IsReportOf contents words) write_loads held fault only
-
-pub loads_report_fail : (shown shown' : List Event) (fault : Fault) → IsFaultOfLoads write_loads fault
-    → OutFails shown shown' (Some fault)
-loads_report_fail shown shown' fault only =
-    each_of_loads (λ f. OutFails shown shown' (Some f)) write_loads (λ p l. tt) (λ p t l. tt) (λ p l. tt) tt fault only
 
 pub report_only : (result : Result (Unit {0}) Fault) → IfErr result IsPrintingFault → IfErr result IsReportFault
 report_only (Ok x) only = tt
@@ -123,20 +105,6 @@ texts_report contents words gds lib lib' before after fault held same prints =
     (λ text report.
     record { gds = gds; lib = lib; held = held; report = subst (λ l. IsReport gds l text) same report }) prints
 
-pub history_report : (history history' : List Event) (words : List (List ℕ)) (gds lib lib' : List ℕ)
-    (before after : Output) (result : Result (Unit {0}) Fault) → history' ≡ loaded history words gds lib → lib' ≡ lib
-    → TextPrints (IsReport gds lib') before after (result_err result)
-    → OnOk result (HearsReport history history' words before after)
-history_report history history' words gds lib lib' before after (Ok x) is same prints = record {
-  gds = gds;
-  lib = lib;
-  history_is = is;
-  text = prints.text;
-  report = subst (λ l. IsReport gds l prints.text) same prints.means;
-  printed = prints.printed;
-}
-history_report history history' words gds lib lib' before after (Err fault) is same prints = tt
-
 pub told_report : (contents : Option Contents) (words : List (List ℕ)) (gds lib lib' : List ℕ)
     (result : Result (Unit {0}) Fault) → ToldTwo contents words gds lib → length gds ≤ gds_limit
     → length lib ≤ lib_limit
@@ -145,4 +113,4 @@ pub told_report : (contents : Option Contents) (words : List (List ℕ)) (gds li
 told_report contents words gds lib lib' result held a b same answers =
     told_two_answer gds_limit circuit_stages contents words gds lib lib' (result_err result) held a b same answers
 
-pub ruleset ends = (loads_report, loads_report_print, loads_report_fail)
+pub ruleset ends = (loads_report, loads_report_print)

@@ -610,14 +610,6 @@ pub made_by : (words : List (List ℕ)) (planner : Planner) (result : Result (Un
 made_by words planner (Ok x) Holds form holds = λ other is. subst Holds (one_planner words planner other form is) holds
 made_by words planner (Err fault) Holds form holds = tt
 
-pub history_by : (words : List (List ℕ)) (planner : Planner) (result : Result (Unit {0}) Fault) (Holds : Planner
-    → Type 0)
-    → IsMakeBy planner words → OnOk result (Holds planner)
-    → IfOk result (λ _. (other : Planner) → IsMakeBy other words → Holds other)
-history_by words planner (Ok x) Holds form holds = λ other is. subst Holds
-    (one_planner words planner other form is) holds
-history_by words planner (Err fault) Holds form holds = tt
-
 pub never_made : (words : List (List ℕ)) (result : Result (Unit {0}) Fault) (Holds : Planner → Type 0)
     → (IsMake words → ⊥) → IfOk result (λ _. (other : Planner) → IsMakeBy other words → Holds other)
 never_made words (Ok x) Holds none = λ other is. absurd (none (is_make other words is))
@@ -626,21 +618,6 @@ never_made words (Err fault) Holds none = tt
 pub never : (result : Result (Unit {0}) Fault) (Is Holds : Type 0) → (Is → ⊥) → IfOk result (λ _. Is → Holds)
 never (Ok x) Is Holds none = λ is. absurd (none is)
 never (Err fault) Is Holds none = tt
-
-pub never_shown : (words : List (List ℕ)) (result : Result (Unit {0}) Fault) (Holds : ℕ → ℕ → Type 0)
-    → ((a b : ℕ) → IsShapesOf words a b → ⊥)
-    → IfOk result (λ _. (a b : ℕ) → IsShapesOf words a b → Holds a b)
-never_shown words (Ok x) Holds none = λ a b is. absurd (none a b is)
-never_shown words (Err fault) Holds none = tt
-
--- two numbers of shapes are these
-pub shown_by : (words : List (List ℕ)) (first second : ℕ) (result : Result (Unit {0}) Fault) (Holds : ℕ → ℕ → Type 0)
-    → IsShapesOf words first second → OnOk result (Holds first second)
-    → IfOk result (λ _. (a b : ℕ) → IsShapesOf words a b → Holds a b)
-shown_by words first second (Ok x) Holds form holds = λ a b is.
-    let same = one_pair words first second a b form is in
-    subst (λ m. Holds a m) same.1 (subst (λ n. Holds n second) same.0 holds)
-shown_by words first second (Err fault) Holds form holds = tt
 
 pub ruleset runs = (
   build_only,

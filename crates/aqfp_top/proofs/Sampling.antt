@@ -8,7 +8,6 @@ use Rattle.std.proofs.lemmas.List.Elements.{AllZip-push}
 use Rattle.aq_base.specs.Output as output
 use Rattle.aqfp_top.specs.Printed.{PrintsFirst}
 use Rattle.aq_base.specs.declared.store.StoreRefusal.TheVariants as store
-use Rattle.aq_base.specs.History.{Event}
 use Rattle.aq_base.specs.Output.{Output}
 use Rattle.blif_read.specs.Parts.{NetView}
 use Rattle.blif_read.specs.Says as netlist
@@ -28,7 +27,7 @@ use Rattle.aqfp_top.specs.Faults.{IsSampleFault}
 use Rattle.aqfp_top.specs.Samples.{text_of, IsSampled, SamplePrints}
 use Rattle.aqfp_top.specs.Code.Staging.{OrMemory}
 use Rattle.aqfp_top.specs.Code.Designing.{AreCountsOf, IsChipOf, PlanRefuses, IsWellPlanned}
-use Rattle.aqfp_top.specs.Code.Printing.{PrintsText, OutFails}
+use Rattle.aqfp_top.specs.Code.Printing.{PrintsText}
 use Rattle.aqfp_top.specs.Code.Sampling.{IsSampleOfBits, text_in, IsMakingFault}
 use Rattle.aqfp_top.specs.declared.planner.Planner.TheVariants.{Build}
 use Rattle.aqfp_top.specs.declared.sample.SampleResult.{SampleResult}
@@ -36,7 +35,7 @@ use Rattle.aqfp_top.specs.declared.design.Chip.{Chip}
 use Rattle.aqfp_top.specs.declared.fault.Large.TheVariants.{Slots, Rows, Cells, Elements, Shapes}
 use Rattle.aqfp_top.specs.declared.fault.Fault.{Fault}
 use Rattle.aqfp_top.specs.declared.fault.Fault.TheVariants.{BadBlif, TooLarge, Memory}
-use Rattle.aqfp_top.proofs.OutEnds.{each_text, text_fails}
+use Rattle.aqfp_top.proofs.OutEnds.{each_text}
 use Rattle.aqfp_top.proofs.Staging.{past, found}
 use Rattle.aqfp_top.proofs.OneFault.{says_no_plain_fault, one_plain}
 
@@ -181,7 +180,7 @@ pub printing_is_sample : (text : List ℕ) (shown shown' : Output) (result : Res
 printing_is_sample text shown shown' result prints = each_text (λ r. IfErr r IsSampleFault) text shown shown' (λ p. tt)
     (λ p. refl) (λ p. tt) result prints
 
-sampled : (bits : ℕ) (sample : SampleResult) (Printed : List ℕ → Type 0) → IsSampleOfBits bits sample
+pub sampled : (bits : ℕ) (sample : SampleResult) (Printed : List ℕ → Type 0) → IsSampleOfBits bits sample
     → Printed (text_in bits sample) → IsSampled bits Printed
 sampled bits sample Printed is prints =
     let chip = chip_of library_a_view is.equations in
@@ -206,19 +205,10 @@ printing_prints bits sample shown shown' result is prints =
     (sampled bits sample (PrintsFirst store.Failed shown shown') is)
     (λ p. inr (sampled bits sample (PrintsFirst store.Memory shown shown') is p)) result prints
 
-pub making_fails : (shown shown' : List Event) (fault : Fault) → IsMakingFault fault
-    → OutFails shown shown' (Some fault)
-making_fails shown shown' (BadBlif fault) only = tt
-making_fails shown shown' (TooLarge what count) only = tt
-making_fails shown shown' Memory only = tt
-making_fails shown shown' _ only = absurd only
-
 pub ruleset ends = (
   making_is_sample,
   making_prints,
   printing_answers,
   printing_is_sample,
   printing_prints,
-  making_fails,
-  text_fails,
 )

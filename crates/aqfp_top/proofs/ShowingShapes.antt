@@ -1,10 +1,9 @@
 -- From the clauses of the steps of naming shapes to its own.
 use Rattle.std.proofs.Common.{ℕ, ◌≡◌, ◌≤◌, ◌<◌, ◌⊎◌, List, [], ◌∷◌, ◌++◌, length, Option, Some, None, Result, Ok, Err}
 use Rattle.std.proofs.Common.{IfErr}
-use Rattle.std.proofs.Common.{OnOk, Vec, refl, sym, subst, inl, inr, arith}
+use Rattle.std.proofs.Common.{Vec, refl, sym, subst, inl, inr, arith}
 use Rattle.std.specs.Result.{result_err}
 use Rattle.std.specs.declared.alloc.Global.{Global}
-use Rattle.aq_base.specs.History.{Event, Loaded}
 use Rattle.aq_base.specs.Store.{Contents}
 use Rattle.aq_base.specs.Output.{Output}
 use Rattle.geom.specs.declared.shapes.Flat.{Flat}
@@ -20,17 +19,17 @@ use Rattle.aqfp_top.specs.Stages.{Stage, FindsNone, IsFirst, Answers}
 use Rattle.aqfp_top.specs.Due.{bytes_at, showing_stages, shapes_stages}
 use Rattle.aqfp_top.specs.Faults.{IsShapesFault}
 use Rattle.aqfp_top.specs.Printed.{TextPrints}
-use Rattle.aqfp_top.specs.Shown.{IsNoShape, HasLines, AreShapes, ToldLayout, IsShownOf, HearsShapes}
+use Rattle.aqfp_top.specs.Shown.{IsNoShape, HasLines, AreShapes, ToldLayout, IsShownOf}
 use Rattle.aqfp_top.specs.Code.Loading.{ToldLoadsWord, IsFaultOfLoad}
 use Rattle.aqfp_top.specs.Code.Staging.{ToldAnswers}
-use Rattle.aqfp_top.specs.Code.Printing.{PrintsText, OutFails}
+use Rattle.aqfp_top.specs.Code.Printing.{PrintsText}
 use Rattle.aqfp_top.specs.Code.Reporting.{IsLayoutFault, IsPastFault, IsNamingFault, IsShowingFault}
 use Rattle.aqfp_top.specs.declared.fault.WriteCall.TheVariants.{Create, Append, Close, Out}
 use Rattle.aqfp_top.specs.declared.fault.Fault.{Fault}
 use Rattle.aqfp_top.specs.declared.fault.Fault.TheVariants.{WriteFault, NoShape, Memory}
 use Rattle.aqfp_top.proofs.EachFault.{each_load, each_layout, each_showing}
 use Rattle.aqfp_top.proofs.Judging.{IsRead}
-use Rattle.aqfp_top.proofs.OutEnds.{each_text, text_fails}
+use Rattle.aqfp_top.proofs.OutEnds.{each_text}
 use Rattle.aqfp_top.proofs.Printing.{prints_more, text_prints}
 use Rattle.aqfp_top.proofs.Staging.{load_stage, past, past_all, found, load_found, file_loads, held_bytes}
 
@@ -47,11 +46,6 @@ pub past_naming : (flat : Flat) (first second : ℕ) (fault : Fault) → IsPastF
     → IsNamingFault flat first second fault
 past_naming flat first second (NoShape number count) past = past
 past_naming flat first second _ past = absurd past
-
-pub past_fails : (flat : Flat) (first second : ℕ) (shown shown' : List Event) (fault : Fault)
-    → IsPastFault flat first second fault → OutFails shown shown' (Some fault)
-past_fails flat first second shown shown' (NoShape number count) past = tt
-past_fails flat first second shown shown' _ past = absurd past
 
 -- the lines, or some first bytes of them
 abbrev both : Flat → ℕ → ℕ → List ℕ
@@ -71,7 +65,7 @@ both_naming flat first second text shown shown' result prints =
     each_text (λ r. IfErr r (IsNamingFault flat first second)) text shown shown' (λ p. tt) (λ p. tt) (λ p. tt) result
     prints
 
-pub ruleset lines = (past_prints, past_naming, past_fails, both_print, both_naming, text_fails)
+pub ruleset lines = (past_prints, past_naming, both_print, both_naming)
 
 -- The layout.
 
@@ -170,12 +164,7 @@ layout_answers gds gds' first second fault same bad =
     let rest = stage.Numbers gds first second ∷ [] in
     subst (λ g. Answers (stage.Stream g ∷ stage.Size g ∷ rest) (Some fault)) same (bad rest)
 
-pub layout_fails : (shown shown' : List Event) (fault : Fault) → IsLayoutFault fault
-    → OutFails shown shown' (Some fault)
-layout_fails shown shown' fault wrong = each_layout (λ f. OutFails shown shown' (Some f))
-    (λ o k. tt) (λ n. tt) tt fault wrong
-
-pub ruleset shows = (layout_showing, layout_fails)
+pub ruleset shows = (layout_showing)
 
 -- The whole.
 
@@ -188,11 +177,6 @@ pub load_prints : (Means : List ℕ → Type 0) (held : Output) (fault : Fault) 
 load_prints Means held fault only =
     each_load (λ f. TextPrints Means held held (Some f)) 1 gds_limit refl
     (λ taken more. refl) refl (inl refl) fault only
-
-pub load_fails : (shown shown' : List Event) (fault : Fault) → IsFaultOfLoad 1 gds_limit fault
-    → OutFails shown shown' (Some fault)
-load_fails shown shown' fault only =
-    each_load (λ f. OutFails shown shown' (Some f)) 1 gds_limit tt (λ taken more. tt) tt tt fault only
 
 pub load_answers : (contents : Option Contents) (words : List (List ℕ)) (first second : ℕ) (fault : Fault)
     → IsFaultOfLoad 1 gds_limit fault → ToldLoadsWord contents words 1 gds_limit (Err fault)
@@ -231,22 +215,9 @@ whole_prints contents words gds first second before after fault held prints =
     prints_more (AreShapes gds first second) (IsShownOf contents words first second) before after fault
     (λ text shapes. record { gds = gds; held = held; shapes = shapes }) prints
 
-pub history_shapes : (history history' : List Event) (words : List (List ℕ)) (gds : List ℕ) (first second : ℕ)
-    (before after : Output) (result : Result (Unit {0}) Fault) → history' ≡ Loaded (word_at words 1) gds ∷ history
-    → TextPrints (AreShapes gds first second) before after (result_err result)
-    → OnOk result (HearsShapes history history' words first second before after)
-history_shapes history history' words gds first second before after (Ok x) is prints = record {
-  gds = gds;
-  history_is = is;
-  text = prints.text;
-  shapes = prints.means;
-  printed = prints.printed;
-}
-history_shapes history history' words gds first second before after (Err fault) is prints = tt
-
 pub showing_only : (result : Result (Unit {0}) Fault) → IfErr result IsShowingFault → IfErr result IsShapesFault
 showing_only (Ok x) only = tt
 showing_only (Err fault) only =
     each_showing IsShapesFault refl (λ n m. tt) (each_layout IsShapesFault (λ o k. tt) (λ n. tt) tt) fault only
 
-pub ruleset ends = (load_shapes, load_prints, load_fails, load_answers)
+pub ruleset ends = (load_shapes, load_prints, load_answers)

@@ -9,9 +9,8 @@ use Rattle.aq_base.specs.History.{Event, Created, NotCreated, NotAppended, Disca
 use Rattle.aq_base.specs.Outside.{Outside, after_create, after_close, after_discard, grown, Stops, StopsWithin}
 use Rattle.aq_base.proofs.Stored.{stored_whole}
 use Rattle.aqfp_top.specs.Histories.{stored}
-use Rattle.aqfp_top.specs.DueHistories.{TakesFirst}
+use Rattle.aqfp_top.specs.Runs.{TakesFirst, FailsToStore}
 use Rattle.aqfp_top.specs.Code.Building.{StandsStored, IsStoreFault}
-use Rattle.aqfp_top.specs.Code.Hearing.{StoredHistory}
 use Rattle.aqfp_top.specs.Code.Storing.{made, unmade, IsUnmade, Writes, Closes, Stores, end_of, left_event}
 use Rattle.aqfp_top.specs.declared.fault.WriteCall.TheVariants.{Create}
 use Rattle.aqfp_top.specs.declared.fault.Fault.{Fault}
@@ -159,7 +158,7 @@ ended_history name bytes o now history' (Err store.Memory) closed part is = tt
 memory_history : (name bytes : List ℕ) (o now : Outside) (history' : List Event) (count : ℕ)
     → count ≤ length bytes
     → Stops store.Memory (grown (take count bytes) (made name o)) now → history' ≡ Discarded ∷ now.history
-    → StoredHistory o.history history' name bytes Memory
+    → FailsToStore o.history history' name bytes Memory
 memory_history name bytes o now history' count within (inl s) is =
     inr (inl (first_history [] name bytes o now history' count within (ap (λ (x : Outside). x.history) s) is))
 memory_history name bytes o now history' count within (inr s) is =
@@ -169,7 +168,7 @@ memory_history name bytes o now history' count within (inr s) is =
 ended_refused : (name bytes : List ℕ) (o now : Outside) (history' : List Event)
     (written closed : Result (Unit {0}) StoreRefusal) → Writes bytes (made name o) now written
     → history' ≡ left_event written closed ∷ now.history → IfErr (end_of written closed)
-    (StoredHistory o.history history' name bytes)
+    (FailsToStore o.history history' name bytes)
 ended_refused name bytes o now history' (Ok _) (Ok _) grows is = tt
 ended_refused name bytes o now history' (Ok _) (Err store.Failed) grows is =
     whole_history name bytes o now history' _ grows is
@@ -183,7 +182,7 @@ ended_refused name bytes o now history' (Err store.Memory) closed part is =
 
 unmade_refused : (name bytes : List ℕ) (history history' : List Event) (why : StoreRefusal)
     → history' ≡ NotCreated name why ∷ history
-    → IfErr {T = Unit {0}} (Err (unmade why)) (StoredHistory history history' name bytes)
+    → IfErr {T = Unit {0}} (Err (unmade why)) (FailsToStore history history' name bytes)
 unmade_refused name bytes history history' store.Failed is = is
 unmade_refused name bytes history history' store.Memory is = inl is
 
@@ -198,14 +197,14 @@ stores_history name bytes o o' result (inr s) =
     (ended_history name bytes o s.now o'.history s.written c.answer s.writes (ap (λ (x : Outside). x.history) c.closed))
 
 pub stores_refused : (name bytes : List ℕ) (o o' : Outside) (result : Result (Unit {0}) Fault)
-    → Stores name bytes o o' result → IfErr result (StoredHistory o.history o'.history name bytes)
+    → Stores name bytes o o' result → IfErr result (FailsToStore o.history o'.history name bytes)
 unfolding Stores
 stores_refused name bytes o o' result (inl u) =
-    subst (λ r. IfErr r (StoredHistory o.history o'.history name bytes)) (sym u.ends)
+    subst (λ r. IfErr r (FailsToStore o.history o'.history name bytes)) (sym u.ends)
     (unmade_refused name bytes o.history o'.history u.why (ap (λ (x : Outside). x.history) u.refused))
 stores_refused name bytes o o' result (inr s) =
     let c = s.closes in
-    subst (λ r. IfErr r (StoredHistory o.history o'.history name bytes)) (sym c.ends)
+    subst (λ r. IfErr r (FailsToStore o.history o'.history name bytes)) (sym c.ends)
     (ended_refused name bytes o s.now o'.history s.written c.answer s.writes (ap (λ (x : Outside). x.history) c.closed))
 
 -- ---- how it ended, and that nothing is open

@@ -8,7 +8,7 @@ pub mod Loading
 pub mod Staging
 pub mod Designing
 pub mod Building
-pub mod Hearing
+pub mod Running
 pub mod Checking
 pub mod Comparing
 pub mod Writing

@@ -1,6 +1,8 @@
 -- What `verify` finds and prints of a chip that was stored, with the library that it was made with.
-use Rattle.std.specs.Prelude.{◌≡◌, ℕ, ◌<◌, Bool, List, ◌++◌, length}
+use Rattle.std.specs.Prelude.{◌≡◌, ℕ, ◌<◌, Bool, List, ◌++◌, length, Option, None}
 use Rattle.std.specs.List.{AllZip, flat_map}
+use Rattle.aq_base.specs.Output.{Output}
+use Rattle.aq_base.specs.Output as output
 use Rattle.blif_read.specs.Parts.{NetView}
 use Rattle.blif_read.specs.Equations.{IsAnswer}
 use Rattle.rowed.specs.PlacedNets.{PlacedView}
@@ -11,6 +13,8 @@ use Rattle.text_answers.specs.WordLines.{word_line, answers_to, answers_text}
 use Rattle.layout_realises.specs.RealisesNet.{most_bytes}
 use Rattle.aqfp_top.specs.Checks.{IsSound, SaysSound}
 use Rattle.aqfp_top.specs.Designs.{stream_of, counts_of}
+use Rattle.aqfp_top.specs.Due.{IsDoneOrOutside}
+use Rattle.aqfp_top.specs.declared.fault.Fault.{Fault}
 
 -- what is printed of the circuit and words: the counts line of the chip, and a line for the netlist's answer to each
 -- word
@@ -28,3 +32,14 @@ pub record VerifiesAsNet (net : NetView) (chip : PlacedView) (cells : LibraryVie
   pub sound : SaysSound (stream_of chip cells) lib text
   pub prints : (circuit : CircuitView) → IsSound (stream_of chip cells) lib text circuit
       → PrintsAsNet net chip circuit (words_of text)
+
+-- `out` gained the counts line of the chip, and a line for the netlist's answer to each word
+pub record PrintsNet (net : NetView) (chip : PlacedView) (words : List (List Bool)) (out out' : Output) : Type 0 where
+  pub answers : List (List Bool)
+  pub are_answers : AllZip (IsAnswer net) words answers
+  pub printed : out' ≡ output.printed (counts_of chip ++ flat_map word_line answers) out
+
+-- a `verify` after it ended so: it printed the netlist's answers, but for want of memory and for the outside
+abbrev pub VerifiesNet : NetView → PlacedView → List (List Bool) → Output → Output → Option Fault → Type 0
+VerifiesNet net chip words out out' None = PrintsNet net chip words out out'
+VerifiesNet net chip words out out' answer = IsDoneOrOutside answer

@@ -19,7 +19,9 @@ ghost use Rattle.aqfp_top.specs.Loads.{gds_limit, lib_limit, net_limit, words_li
 ghost use Rattle.aqfp_top.specs.Designs.{KeepsLimits, IsChipFor, stream_of};
 ghost use Rattle.aqfp_top.specs.Checks.{IsLayoutOf, SaysSound};
 ghost use Rattle.aqfp_top.specs.Comparing.{MakesBoth};
+ghost use Rattle.aqfp_top.specs.Stages.{IsFirst};
 ghost use Rattle.aqfp_top.specs.Due.{Due, MayAnswer, IsDoneOrOutside};
+ghost use Rattle.aqfp_top.specs.Due.{circuit_stages, judging_stages, comparing_stages, showing_stages, sample_stages};
 ghost use Rattle.aqfp_top.specs.Ended.{IsComparedOrOutside};
 ghost use Rattle.aqfp_top.specs.declared.fault.Fault.{Fault};
 
@@ -35,6 +37,7 @@ use shape_extract::one_circuit;
 /// then they print what the circuit shows, but for want of memory and for faults of the outside. So it is of a chip
 /// that was built with the same library, and of words with a value for each input of its netlist.
 pub fn each_layout_is_checked()
+    ensures well { (gds lib text : List ℕ) → SaysSound gds lib text → IsFirst (judging_stages gds lib text) None }
     ensures due { (files : Contents) (words : List (List ℕ)) (gds lib text : List ℕ) → IsCheck words
         → files (word_at words 1) ≡ Some gds → files (word_at words 2) ≡ Some lib → files (word_at words 3) ≡ Some text
         → length gds ≤ gds_limit → length lib ≤ lib_limit → length text ≤ words_limit
@@ -59,6 +62,9 @@ pub fn each_layout_is_checked()
 /// and then it prints a verdict, but for want of memory, for faults of the outside, and for two circuits that have more
 /// than 1,000,000 subfunctions.
 pub fn each_pair_is_compared()
+    ensures well { (gds lib net : List ℕ) (circuit : CircuitView) (equations : NetView)
+        → MakesBoth gds lib net circuit equations → equations.inputs ≡ circuit.inputs
+        → length equations.outputs ≡ length circuit.outputs → IsFirst (comparing_stages gds lib net) None }
     ensures due { (files : Contents) (words : List (List ℕ)) (gds lib net : List ℕ) (circuit : CircuitView)
         (equations : NetView) → IsEqual words
         → files (word_at words 1) ≡ Some gds → files (word_at words 2) ≡ Some lib → files (word_at words 3) ≡ Some net
@@ -78,6 +84,9 @@ pub fn each_pair_is_compared()
 /// library's numbers, nothing is due for `netlist`; and then it stores the netlist of their circuit, but for want of
 /// memory and for faults of the outside.
 pub fn each_netlist_is_written()
+    ensures well { (gds lib : List ℕ) (layout : WideLayout) (cells : LibraryView) → IsLayoutOf gds layout
+        → SaysLibrary lib cells → KeepsRules (wide_flat layout) (limits_of cells)
+        → IsFirst (circuit_stages gds lib) None }
     ensures due { (files : Contents) (words : List (List ℕ)) (gds lib : List ℕ) (layout : WideLayout)
         (cells : LibraryView) → IsWrite words
         → files (word_at words 1) ≡ Some gds → files (word_at words 2) ≡ Some lib
@@ -111,6 +120,9 @@ pub fn each_report_is_printed()
 /// Where a store has a layout within its length, and two numbers are below that of its shapes and labels, nothing is
 /// due for `shapes` of these; and then it prints their lines, but for want of memory and for faults of the outside.
 pub fn each_shape_is_shown()
+    ensures well { (gds : List ℕ) (layout : WideLayout) (first second : ℕ) → IsLayoutOf gds layout
+        → first < flat_count (wide_flat layout) → second < flat_count (wide_flat layout)
+        → IsFirst (showing_stages gds first second) None }
     ensures due { (files : Contents) (words : List (List ℕ)) (gds : List ℕ) (layout : WideLayout) (first second : ℕ)
         → IsShapesOf words first second → files (word_at words 1) ≡ Some gds → length gds ≤ gds_limit
         → IsLayoutOf gds layout → first < flat_count (wide_flat layout) → second < flat_count (wide_flat layout)
@@ -127,6 +139,8 @@ pub fn each_shape_is_shown()
 /// Where the chip of an adder by the defined plan, with library A, keeps all limits, nothing is due for `sample` of its
 /// bits; and then the sample is printed, but for want of memory and for faults of the outside.
 pub fn each_sample_is_made()
+    ensures well { (bits : ℕ) (equations : NetView) → plain.SaysNet (adder bits) equations
+        → KeepsLimits equations library_a_view → IsFirst (sample_stages bits) None }
     ensures due { (files : Contents) (words : List (List ℕ)) (bits : ℕ) (equations : NetView) → IsSampleOf words bits
         → plain.SaysNet (adder bits) equations → KeepsLimits equations library_a_view → Due files words None }
     ensures ends { (files : Contents) (words : List (List ℕ)) (bits : ℕ) (answer : Option Fault)

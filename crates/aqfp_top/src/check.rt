@@ -4,16 +4,15 @@ ghost use Rattle.std.specs.Result.{result_err};
 ghost use Rattle.text_answers.specs.WordsText.{words_of, SaysWords};
 ghost use Rattle.aqfp_top.specs.Words.{spelled};
 ghost use Rattle.aqfp_top.specs.Stages.{IsFirst, Answers};
-ghost use Rattle.aqfp_top.specs.Loads.{check_loads};
 ghost use Rattle.aqfp_top.specs.Due.{check_stages, circuit_stages, judging_stages};
 ghost use Rattle.aqfp_top.specs.Faults.{IsCheckFault};
-ghost use Rattle.aqfp_top.specs.Histories.{CheckedHistory};
-ghost use Rattle.aqfp_top.specs.DueHistories.{DueOfThree};
 ghost use Rattle.aqfp_top.specs.Checks.{MakesCircuit, CheckPrints, text_of};
 ghost use Rattle.aqfp_top.specs.Code.Staging.{ToldAnswers};
-ghost use Rattle.aqfp_top.specs.Code.Printing.{PrintsText, OutFails};
+ghost use Rattle.aqfp_top.specs.Code.Printing.{PrintsText};
 ghost use Rattle.aqfp_top.specs.Code.Standing.{standing};
 ghost use Rattle.aqfp_top.specs.Code.Checking.{IsJudgingFault};
+ghost use Rattle.aqfp_top.specs.Runs.{RunsAs};
+ghost use Rattle.aqfp_top.specs.Code.Running.{checking};
 
 use crate::fault::Fault;
 use crate::out::out_end;
@@ -72,7 +71,7 @@ fn print<O: Sink>(
 }
 
 /// Judges a chip's stream, a library and words, and prints the chip's counts and what its circuit shows.
-#[tactic(auto, using(crate::proofs::CheckEnds::ends, crate::proofs::HearingDue::refused_three))]
+#[tactic(auto, using(crate::proofs::CheckEnds::ends, crate::proofs::Running::refusals))]
 pub fn check<F: Files, O: Sink>(
     alloc: Global,
     printing: Printing,
@@ -84,13 +83,8 @@ pub fn check<F: Files, O: Sink>(
     ensures answer { ToldAnswers check_stages (F.outside files.old).contents (spelled words.now) (result_err result) }
     ensures prints { CheckPrints printing (F.outside files.old).contents (spelled words.now) (O.output out.old)
         (O.output out.new) (result_err result) }
-    ensures fails { OutFails (O.output out.old).history (O.output out.new).history (result_err result) }
-    ensures history { OnOk result
-        (CheckedHistory printing (F.outside files.old).history (F.outside files.new).history (spelled words.now)
-        (O.output out.old) (O.output out.new)) }
-    ensures due { DueOfThree check_loads judging_stages (F.outside files.old).history
-        (F.outside files.new).history (spelled words.now)
-        (result_err result) }
+    ensures runs { RunsAs (checking printing) (F.outside files.old).history (F.outside files.new).history
+        (spelled words.now) (O.output out.old) (O.output out.new) (result_err result) }
     ensures only { IfErr result IsCheckFault }
     ensures kept { standing (F.outside files.new) ≡ standing (F.outside files.old) }
 {

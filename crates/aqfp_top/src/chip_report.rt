@@ -1,5 +1,5 @@
 // `report GDS LIB`.
-ghost use Rattle.std.specs.Prelude.{◌≡◌, ℕ, ◌≤◌, ◌^◌, length, IfOk, IfErr, OnOk};
+ghost use Rattle.std.specs.Prelude.{◌≡◌, ℕ, ◌≤◌, ◌^◌, length, IfErr};
 ghost use Rattle.std.specs.Result.{result_err};
 ghost use Rattle.shape_extract.specs.CellPlaces.{AreCellPlaces};
 ghost use Rattle.text_report.specs.ReportText.{report_text};
@@ -7,16 +7,17 @@ ghost use Rattle.aqfp_top.specs.Words.{spelled};
 ghost use Rattle.aqfp_top.specs.Stages.{Answers};
 ghost use Rattle.aqfp_top.specs.Due.{circuit_stages, write_stages};
 ghost use Rattle.aqfp_top.specs.Faults.{IsReportFault};
-ghost use Rattle.aqfp_top.specs.DueHistories.{DueOfReading};
-ghost use Rattle.aqfp_top.specs.Loads.{gds_limit, write_loads};
+ghost use Rattle.aqfp_top.specs.Loads.{gds_limit};
 ghost use Rattle.aqfp_top.specs.Printed.{TextPrints};
-ghost use Rattle.aqfp_top.specs.Reported.{IsReport, IsReportOf, HearsReport};
+ghost use Rattle.aqfp_top.specs.Reported.{IsReport, IsReportOf};
 ghost use Rattle.aqfp_top.specs.Code.Staging.{ToldAnswers};
-ghost use Rattle.aqfp_top.specs.Code.Printing.{PrintsText, OutFails};
+ghost use Rattle.aqfp_top.specs.Code.Printing.{PrintsText};
 ghost use Rattle.aqfp_top.specs.Code.Standing.{standing};
 ghost use Rattle.aqfp_top.specs.Code.Checking.{KeepsAll};
 ghost use Rattle.aqfp_top.specs.Code.Reporting.{IsPrintingFault};
 ghost use Rattle.cell_library.specs.Library.{limits_of};
+ghost use Rattle.aqfp_top.specs.Runs.{RunsAs};
+ghost use Rattle.aqfp_top.specs.declared.words.Form.{Form};
 
 use crate::design::read_cells;
 use crate::fault::Fault;
@@ -53,7 +54,6 @@ fn report_texts<O: Sink>(alloc: Global, gds: Vec<u8>, lib: &[u8], out: &mut O) -
     requires lib { length lib.now ≤ 2 ^ 28 }
     ensures answer { Answers (circuit_stages gds.items lib.now) (result_err result) }
     ensures prints { TextPrints (IsReport gds.items lib.now) (O.output out.old) (O.output out.new) (result_err result) }
-    ensures fails { OutFails (O.output out.old).history (O.output out.new).history (result_err result) }
     ensures only { IfErr result IsPrintingFault }
 {
     one_wide_reading();
@@ -66,7 +66,7 @@ fn report_texts<O: Sink>(alloc: Global, gds: Vec<u8>, lib: &[u8], out: &mut O) -
 }
 
 /// Judges a chip's stream and a library, and prints the chip's counts and what is in it.
-#[tactic(auto, using(crate::proofs::Reporting::ends, crate::proofs::HearingDue::refused_reading))]
+#[tactic(auto, using(crate::proofs::Reporting::ends, crate::proofs::Running::refusals))]
 pub fn report<F: Files, O: Sink>(
     alloc: Global,
     words: &[String],
@@ -77,13 +77,8 @@ pub fn report<F: Files, O: Sink>(
     ensures answer { ToldAnswers write_stages (F.outside files.old).contents (spelled words.now) (result_err result) }
     ensures prints { TextPrints (IsReportOf (F.outside files.old).contents (spelled words.now)) (O.output out.old)
         (O.output out.new) (result_err result) }
-    ensures fails { OutFails (O.output out.old).history (O.output out.new).history (result_err result) }
-    ensures due { DueOfReading write_loads gds_limit circuit_stages (F.outside files.old).history
-        (F.outside files.new).history
-        (spelled words.now) (result_err result) }
-    ensures history { OnOk result (HearsReport (F.outside files.old).history (F.outside files.new).history
-        (spelled words.now)
-        (O.output out.old) (O.output out.new)) }
+    ensures runs { RunsAs Form.Report (F.outside files.old).history (F.outside files.new).history
+        (spelled words.now) (O.output out.old) (O.output out.new) (result_err result) }
     ensures only { IfErr result IsReportFault }
     ensures kept { standing (F.outside files.new) ≡ standing (F.outside files.old) }
 {

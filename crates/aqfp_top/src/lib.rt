@@ -10,6 +10,8 @@ mod design;
 mod due;
 mod equal;
 mod fault;
+mod followed;
+mod heard;
 mod joined;
 mod judge;
 mod load;
@@ -33,6 +35,8 @@ pub use accepted::{
 };
 pub use due::{each_design_is_built, one_answer_is_due};
 pub use fault::{Fault, Large, WriteCall};
+pub use followed::made_then_verified;
+pub use heard::{faults_are_heard, well_texts_are_done};
 pub use joined::built_is_verified;
 pub use planned::chip_is_planned;
 pub use planner::Planner;

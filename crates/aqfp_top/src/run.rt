@@ -1,7 +1,6 @@
 // The top call.
 ghost use Rattle.std.specs.Prelude.{◌≡◌, ℕ, Some, None, IfSome, IfOk, IfErr};
 ghost use Rattle.std.specs.Result.{result_err};
-ghost use Rattle.aq_base.specs.FaultCounts.{load_failed};
 ghost use Rattle.aq_base.specs.Store.{Contents};
 ghost use Rattle.aqfp_top.specs.Words.{spelled, IsMakeBy, IsVerify, IsTrace, IsEqual, IsWrite, IsReport, IsShapesOf};
 ghost use Rattle.aqfp_top.specs.Words.{IsSampleOf, HasForm};
@@ -9,15 +8,13 @@ ghost use Rattle.aqfp_top.specs.Statuses.{status_of};
 ghost use Rattle.aqfp_top.specs.Lines.{Reports, IsCutShort};
 ghost use Rattle.aqfp_top.specs.Due.{MayAnswer};
 ghost use Rattle.aqfp_top.specs.Faults.{RunsOnly};
-ghost use Rattle.aqfp_top.specs.Counted.{counts_of, HasFaults, FailedLoad};
 ghost use Rattle.aqfp_top.specs.Build.{IsBuilt, IsDone};
 ghost use Rattle.aqfp_top.specs.Chips.{BuildsChip};
-ghost use Rattle.aqfp_top.specs.Histories.{BuiltHistory, HearsChip, WrittenHistory, HearsNetlist, CheckedHistory};
-ghost use Rattle.aqfp_top.specs.Histories.{HearsAnswers, HearsFluxes, ComparedHistory, HearsVerdict};
+ghost use Rattle.aqfp_top.specs.Histories.{BuiltHistory, HearsChip, HearsNetlist, HearsAnswers, HearsFluxes};
+ghost use Rattle.aqfp_top.specs.Histories.{HearsVerdict};
 ghost use Rattle.aqfp_top.specs.SampleHistories.{HearsSample};
-ghost use Rattle.aqfp_top.specs.DueHistories.{HearsDue};
+ghost use Rattle.aqfp_top.specs.Runs.{HearsRun};
 ghost use Rattle.aqfp_top.specs.declared.planner.Planner.{Planner};
-ghost use Rattle.aqfp_top.specs.declared.check.Printing.{Printing};
 ghost use Rattle.aqfp_top.specs.Verified.{VerifiesChip, TracesChip};
 ghost use Rattle.aqfp_top.specs.Compared.{ComparesChip};
 ghost use Rattle.aqfp_top.specs.Writing.{IsRead, IsWritten};
@@ -25,7 +22,6 @@ ghost use Rattle.aqfp_top.specs.WrittenNetlist.{WritesNetlist};
 ghost use Rattle.aqfp_top.specs.Reported.{ReportsChip, HearsReport};
 ghost use Rattle.aqfp_top.specs.Shown.{ShowsShapes, HearsShapes};
 ghost use Rattle.aqfp_top.specs.Run.{RunStands, RunPrints};
-ghost use Rattle.aqfp_top.specs.Code.Printing.{OutFails};
 ghost use Rattle.aqfp_top.specs.Code.Staging.{ToldMayAnswer};
 ghost use Rattle.aqfp_top.specs.declared.fault.Fault.{Fault};
 
@@ -54,7 +50,7 @@ pub struct Ending {
     pub fault: Option<Fault>,
 }
 
-#[tactic(auto, using(crate::proofs::Runs::runs, crate::proofs::HearingDue::dues))]
+#[tactic(auto, using(crate::proofs::Runs::runs, crate::proofs::Running::forms))]
 fn work<F: Files, O: Sink>(
     alloc: Global,
     words: &[String],
@@ -68,7 +64,6 @@ fn work<F: Files, O: Sink>(
         (spelled words.now) (result_err result) }
     ensures prints { RunPrints (F.outside files.old).contents (spelled words.now) (O.output out.old)
         (O.output out.new) (result_err result) }
-    ensures fails { OutFails (O.output out.old).history (O.output out.new).history (result_err result) }
     ensures done { IfOk result (λ _. (planner : Planner) → IsMakeBy planner (spelled words.now)
         → IsBuilt planner (F.outside files.old).contents (spelled words.now)
         (IsDone (F.outside files.old).contents (F.outside files.new).contents (spelled words.now)
@@ -77,30 +72,8 @@ fn work<F: Files, O: Sink>(
         → IsRead (F.outside files.old).contents (spelled words.now)
         (IsWritten (F.outside files.old).contents (F.outside files.new).contents (spelled words.now)
         (O.output out.old) (O.output out.new))) }
-    ensures built { IfOk result (λ _. (planner : Planner) → IsMakeBy planner (spelled words.now)
-        → BuiltHistory planner (F.outside files.old).history (F.outside files.new).history (spelled words.now)
-        (O.output out.old) (O.output out.new)) }
-    ensures checked { IfOk result (λ _. IsVerify (spelled words.now)
-        → CheckedHistory Printing.Answers (F.outside files.old).history (F.outside files.new).history
-        (spelled words.now)
-        (O.output out.old) (O.output out.new)) }
-    ensures traced { IfOk result (λ _. IsTrace (spelled words.now)
-        → CheckedHistory Printing.Fluxes (F.outside files.old).history (F.outside files.new).history (spelled words.now)
-        (O.output out.old) (O.output out.new)) }
-    ensures compared { IfOk result (λ _. IsEqual (spelled words.now)
-        → ComparedHistory (F.outside files.old).history (F.outside files.new).history (spelled words.now)
-        (O.output out.old) (O.output out.new)) }
-    ensures netlisted { IfOk result (λ _. IsWrite (spelled words.now)
-        → WrittenHistory (F.outside files.old).history (F.outside files.new).history (spelled words.now)
-        (O.output out.old) (O.output out.new)) }
-    ensures reported { IfOk result (λ _. IsReport (spelled words.now)
-        → HearsReport (F.outside files.old).history (F.outside files.new).history (spelled words.now)
-        (O.output out.old) (O.output out.new)) }
-    ensures shown { IfOk result (λ _. (first second : ℕ) → IsShapesOf (spelled words.now) first second
-        → HearsShapes (F.outside files.old).history (F.outside files.new).history (spelled words.now) first second
-        (O.output out.old) (O.output out.new)) }
-    ensures due { HearsDue (F.outside files.old).history (F.outside files.new).history
-        (spelled words.now) (result_err result) }
+    ensures runs { HearsRun (F.outside files.old).history (F.outside files.new).history (spelled words.now)
+        (O.output out.old) (O.output out.new) (result_err result) }
     ensures only { IfErr result (RunsOnly (spelled words.now)) }
     ensures shut { (F.outside files.new).opened ≡ None }
 {
@@ -118,7 +91,7 @@ fn work<F: Files, O: Sink>(
 }
 
 /// Does what the words of a command line say.
-#[tactic(auto, using(crate::proofs::Runs::told_due, crate::proofs::Counting::has_faults, crate::proofs::Counting::failed_load))]
+#[tactic(auto, using(crate::proofs::Runs::told_due))]
 pub fn aqfp_run<F: Files, O: Sink, E: Sink>(
     alloc: Global,
     words: &[String],
@@ -130,19 +103,18 @@ pub fn aqfp_run<F: Files, O: Sink, E: Sink>(
 
     ensures status { result.status ≡ status_of result.fault }
 
-    // The answer is what is due, of which there is one (`one_answer_is_due`), or want of memory, or a failed load,
-    // write or close: a load that the work comes to, a write or close where nothing is due. The count of the failure
-    // rose by what was heard, and the load is the last that failed.
+    // What any store hears, the system's files too, and what `out` gains. The files of the words' form are loaded; the
+    // answer says why a load was refused, or it is what the stages of the texts may answer that the loads gave, and
+    // what is due of these was stored and printed as far as it says. How often a call failed follows
+    // (`faults_are_heard`).
+    ensures runs { HearsRun (F.outside files.old).history (F.outside files.new).history (spelled words.now)
+        (O.output out.old) (O.output out.new) result.fault }
+
+    // The answer is what is due over the files of a store that tells, of which there is one (`one_answer_is_due`), or
+    // want of memory, or a failed load, write or close: a load that the work comes to, a write or close where nothing
+    // is due.
     ensures due { (held : Contents) → (F.outside files.old).contents ≡ Some held
         → MayAnswer held (spelled words.now) result.fault }
-    ensures faults { HasFaults (counts_of (F.outside files.old).history (O.output out.old).history)
-        (counts_of (F.outside files.new).history (O.output out.new).history) result.fault }
-    ensures failed { FailedLoad (load_failed (F.outside files.new).history) (spelled words.now) result.fault }
-
-    // The same of any store, the system's files too. By what was heard the answer says why a load was refused, or it is
-    // what the texts may answer that all loads gave; and of the bytes that were due OUT took what that answer tells.
-    ensures hears_due { HearsDue (F.outside files.old).history (F.outside files.new).history
-        (spelled words.now) result.fault }
 
     // Which faults a command may answer, whatever the store tells; the usage where there is none.
     ensures only { IfSome result.fault (RunsOnly (spelled words.now)) }

@@ -12,9 +12,13 @@ ghost use Rattle.aqfp_top.specs.Due.{sample_stages};
 ghost use Rattle.aqfp_top.specs.Faults.{IsSampleFault};
 ghost use Rattle.aqfp_top.specs.Samples.{SamplePrints};
 ghost use Rattle.aqfp_top.specs.Code.Staging.{OrMemory};
-ghost use Rattle.aqfp_top.specs.Code.Printing.{PrintsText, OutFails};
+ghost use Rattle.aqfp_top.specs.Code.Printing.{PrintsText};
 ghost use Rattle.aqfp_top.specs.Code.Sampling.{IsSampleOfBits, text_in, IsMakingFault};
 ghost use Rattle.aqfp_top.specs.declared.fault.Fault.{Fault};
+ghost use Rattle.aqfp_top.specs.Runs.{RunsAs};
+ghost use Rattle.aqfp_top.specs.declared.words.Form.{Form};
+ghost use Rattle.std.specs.Prelude.{ℕ, List};
+ghost use Rattle.aq_base.specs.History.{Event};
 
 use crate::counts::ChipCounts;
 use crate::design::Chip;
@@ -138,7 +142,8 @@ pub fn sample<O: Sink>(alloc: Global, bits: u32, out: &mut O) -> Result<(), Faul
     requires most { bits ≤ 64 }
     ensures answer { Answers (sample_stages bits) (result_err result) }
     ensures prints { SamplePrints bits (O.output out.old) (O.output out.new) (result_err result) }
-    ensures fails { OutFails (O.output out.old).history (O.output out.new).history (result_err result) }
+    ensures runs { (words : List (List ℕ)) (history : List Event) → RunsAs (Form.Sample bits) history history words
+        (O.output out.old) (O.output out.new) (result_err result) }
     ensures only { IfErr result IsSampleFault }
 {
     let made = make(alloc, bits)?;

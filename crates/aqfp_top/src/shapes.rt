@@ -1,25 +1,25 @@
 // `shapes GDS A B`.
-ghost use Rattle.std.specs.Prelude.{◌≡◌, ◌++◌, ◌∷◌, ◌<◌, ◌≤◌, ◌^◌, length, IfOk, IfErr, OnOk};
+ghost use Rattle.std.specs.Prelude.{◌≡◌, ◌++◌, ◌<◌, ◌≤◌, ◌^◌, length, IfErr, OnOk};
 ghost use Rattle.std.specs.Result.{result_err};
-ghost use Rattle.aq_base.specs.History.{Loaded};
 ghost use Rattle.aq_base.specs.Output.{printed};
 ghost use Rattle.geom.specs.FlatForm.{flat_count};
 ghost use Rattle.poly_cut.specs.Conditions.{IsFlattenable};
 ghost use Rattle.poly_cut.specs.FlatForm.{wide_flat};
 ghost use Rattle.text_answers.specs.Printing.{PrintsWithin};
 ghost use Rattle.text_report.specs.ShapeLines.{shape_line};
-ghost use Rattle.aqfp_top.specs.Words.{spelled, word_at};
+ghost use Rattle.aqfp_top.specs.Words.{spelled};
 ghost use Rattle.aqfp_top.specs.Stages.{Answers};
 ghost use Rattle.aqfp_top.specs.Due.{showing_stages, shapes_stages};
 ghost use Rattle.aqfp_top.specs.Faults.{IsShapesFault};
-ghost use Rattle.aqfp_top.specs.DueHistories.{DueOfOne};
 ghost use Rattle.aqfp_top.specs.Loads.{gds_limit};
 ghost use Rattle.aqfp_top.specs.Printed.{TextPrints};
-ghost use Rattle.aqfp_top.specs.Shown.{HasLines, AreShapes, IsShownOf, HearsShapes};
+ghost use Rattle.aqfp_top.specs.Shown.{HasLines, AreShapes, IsShownOf};
 ghost use Rattle.aqfp_top.specs.Code.Staging.{ToldAnswers};
-ghost use Rattle.aqfp_top.specs.Code.Printing.{PrintsText, OutFails};
+ghost use Rattle.aqfp_top.specs.Code.Printing.{PrintsText};
 ghost use Rattle.aqfp_top.specs.Code.Standing.{standing};
 ghost use Rattle.aqfp_top.specs.Code.Reporting.{IsPastFault, IsNamingFault, IsShowingFault};
+ghost use Rattle.aqfp_top.specs.Runs.{RunsAs};
+ghost use Rattle.aqfp_top.specs.declared.words.Form.{Form};
 
 use crate::fault::Fault;
 use crate::load::{GDS_LIMIT, load_word};
@@ -104,7 +104,6 @@ fn print_lines<O: Sink>(
     requires { flat_count flat.now < 2 ^ 32 }
     ensures prints { TextPrints (HasLines flat.now first second) (O.output out.old)
         (O.output out.new) (result_err result) }
-    ensures fails { OutFails (O.output out.old).history (O.output out.new).history (result_err result) }
     ensures bad { IfErr result (IsNamingFault flat.now first second) }
 {
     check_numbers(flat, first, second)?;
@@ -122,7 +121,6 @@ fn show_layout<O: Sink>(
     requires { IsFlattenable layout }
     ensures prints { TextPrints (HasLines (wide_flat layout) first second) (O.output out.old)
         (O.output out.new) (result_err result) }
-    ensures fails { OutFails (O.output out.old).history (O.output out.new).history (result_err result) }
     ensures bad { IfErr result (IsNamingFault (wide_flat layout) first second) }
 {
     count_is_exact();
@@ -147,7 +145,6 @@ fn show<O: Sink>(
     ensures answer { Answers (showing_stages gds.items first second) (result_err result) }
     ensures prints { TextPrints (AreShapes gds.items first second) (O.output out.old)
         (O.output out.new) (result_err result) }
-    ensures fails { OutFails (O.output out.old).history (O.output out.new).history (result_err result) }
     ensures only { IfErr result IsShowingFault }
 {
     one_wide_reading();
@@ -157,7 +154,7 @@ fn show<O: Sink>(
 }
 
 /// Reads a chip's stream, and prints the lines of the shapes or labels of two numbers.
-#[tactic(auto, using(crate::proofs::ShowingShapes::ends, crate::proofs::HearingDue::load_due))]
+#[tactic(auto, using(crate::proofs::ShowingShapes::ends, crate::proofs::Running::refusals))]
 pub fn shapes<F: Files, O: Sink>(
     alloc: Global,
     words: &[String],
@@ -171,13 +168,8 @@ pub fn shapes<F: Files, O: Sink>(
         (spelled words.now) (result_err result) }
     ensures prints { TextPrints (IsShownOf (F.outside files.old).contents (spelled words.now) first second)
         (O.output out.old) (O.output out.new) (result_err result) }
-    ensures fails { OutFails (O.output out.old).history (O.output out.new).history (result_err result) }
-    ensures due { DueOfOne (λ gds. showing_stages gds first second) (F.outside files.old).history
-        (F.outside files.new).history
-        (spelled words.now) (result_err result) }
-    ensures history { OnOk result
-        (HearsShapes (F.outside files.old).history (F.outside files.new).history (spelled words.now) first second
-        (O.output out.old) (O.output out.new)) }
+    ensures runs { RunsAs (Form.Shapes first second) (F.outside files.old).history (F.outside files.new).history
+        (spelled words.now) (O.output out.old) (O.output out.new) (result_err result) }
     ensures only { IfErr result IsShapesFault }
     ensures kept { standing (F.outside files.new) ≡ standing (F.outside files.old) }
 {

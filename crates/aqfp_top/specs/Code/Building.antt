@@ -1,12 +1,9 @@
 -- The words of the steps of a build: loading, making the chip, storing and printing.
-use Rattle.std.specs.Prelude.{ℕ, ◌≡◌, ◌≤◌, ◌⊎◌, List, length, Option, Result, Ok, Err}
-use Rattle.aq_base.specs.History.{Event}
+use Rattle.std.specs.Prelude.{ℕ, ◌≡◌, ◌⊎◌, List, Option, Result, Ok, Err}
 use Rattle.aq_base.specs.Store.{Contents, contents_with, StoresPrefix}
 use Rattle.aqfp_top.specs.Build.{IsBuilt}
 use Rattle.aqfp_top.specs.Faults.{IsBuildFault}
-use Rattle.aqfp_top.specs.Loads.{net_limit, lib_limit}
-use Rattle.aqfp_top.specs.Histories.{loaded}
-use Rattle.aqfp_top.specs.Code.Designing.{IsDrawn, MakesChip}
+use Rattle.aqfp_top.specs.Code.Designing.{IsDrawn}
 use Rattle.aqfp_top.specs.declared.planner.Planner.{Planner}
 use Rattle.aqfp_top.specs.declared.design.Chip.{Chip}
 use Rattle.aqfp_top.specs.declared.fault.WriteCall.TheVariants.{Create, Append, Close, Out}
@@ -45,13 +42,3 @@ IsStoreFault _ = ⊥
 -- the chip is one of the texts of NET and LIB by this plan
 abbrev pub IsMade : Planner → Option Contents → List (List ℕ) → Chip → Type 0
 IsMade planner contents words chip = IsBuilt planner contents words (λ placed cells. IsDrawn placed cells chip)
-
--- the chip is one of the bytes that NET and LIB gave, by this plan, and nothing else was heard
-pub record MadeHistory (planner : Planner) (history history' : List Event) (words : List (List ℕ))
-    (chip : Chip) : Type 0 where
-  pub net : List ℕ
-  pub lib : List ℕ
-  pub net_fits : length net ≤ net_limit
-  pub lib_fits : length lib ≤ lib_limit
-  pub makes : MakesChip planner net lib chip
-  pub is : history' ≡ loaded history words net lib

@@ -1,9 +1,7 @@
 -- Printing to `out`: how it ends.
-use Rattle.std.specs.Prelude.{ℕ, ◌≡◌, ◌<◌, List, Option, Some, Result, Ok, Err}
+use Rattle.std.specs.Prelude.{ℕ, ◌≡◌, List, Result, Ok, Err}
 use Rattle.aq_base.specs.declared.store.StoreRefusal.{StoreRefusal}
 use Rattle.aq_base.specs.declared.store.StoreRefusal.TheVariants as store
-use Rattle.aq_base.specs.History.{Event}
-use Rattle.aq_base.specs.FaultCounts.{write_faults}
 use Rattle.aq_base.specs.Output.{Output, printed}
 use Rattle.text_answers.specs.Printing.{PrintsWithin}
 use Rattle.aqfp_top.specs.declared.fault.WriteCall.TheVariants.{Out}
@@ -22,8 +20,3 @@ PrintsText text o o' (Ok _) = o' ≡ printed text o
 PrintsText text o o' (Err (WriteFault Out)) = PrintsWithin o o' text store.Failed
 PrintsText text o o' (Err Memory) = PrintsWithin o o' text store.Memory
 PrintsText text o o' (Err _) = ⊥
-
--- `out` was heard to fail, where the fault is its own
-abbrev pub OutFails : List Event → List Event → Option Fault → Type 0
-OutFails history history' (Some (WriteFault Out)) = write_faults history < write_faults history'
-OutFails history history' _ = Unit {0}

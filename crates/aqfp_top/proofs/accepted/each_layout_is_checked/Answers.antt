@@ -23,3 +23,8 @@ returns-clause-built c files words lib text net chip cells form gds_held lib_hel
 
 pub returns-clause-ends : goal.returns-clause-ends
 returns-clause-ends c = check_ends c.one_answer_is_due.ensures.comes
+
+pub returns-clause-well : goal.returns-clause-well
+returns-clause-well c =
+    judged_well (one_layout c.one_wide_reading.ensures.layout) c.count_is_exact.ensures
+    (not_both c.one_wide_reading.ensures.no_fault c.one_wide_reading.ensures.one_fault) c.one_circuit.ensures

@@ -12,3 +12,8 @@ returns-clause-due c files words gds lib net circuit equations form gds_held lib
 
 pub returns-clause-ends : goal.returns-clause-ends
 returns-clause-ends c = equal_ends c.one_answer_is_due.ensures.comes c.one_answer_is_due.ensures.complete
+
+pub returns-clause-well : goal.returns-clause-well
+returns-clause-well c =
+    pair_well (one_layout c.one_wide_reading.ensures.layout) c.count_is_exact.ensures
+    (not_both c.one_wide_reading.ensures.no_fault c.one_wide_reading.ensures.one_fault) c.one_circuit.ensures

@@ -13,3 +13,8 @@ returns-clause-due c files words bits equations form says limits =
 
 pub returns-clause-ends : goal.returns-clause-ends
 returns-clause-ends c = sample_ends c.one_answer_is_due.ensures.comes
+
+pub returns-clause-well : goal.returns-clause-well
+returns-clause-well c bits equations says limits =
+    sample_is_well bits equations library_a_view says refl
+    (passes_none c.plan_laws.ensures.past c.plan_laws.ensures.only equations library_a_view limits)

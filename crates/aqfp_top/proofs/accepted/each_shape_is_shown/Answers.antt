@@ -11,3 +11,8 @@ returns-clause-due c files words gds layout first second form held fits read one
 
 pub returns-clause-ends : goal.returns-clause-ends
 returns-clause-ends c = shapes_ends c.one_answer_is_due.ensures.comes
+
+pub returns-clause-well : goal.returns-clause-well
+returns-clause-well c =
+    shapes_well (one_layout c.one_wide_reading.ensures.layout) c.count_is_exact.ensures
+    (not_both c.one_wide_reading.ensures.no_fault c.one_wide_reading.ensures.one_fault)

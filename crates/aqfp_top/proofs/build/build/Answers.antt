@@ -1,35 +1,14 @@
+use Rattle.std.proofs.Common.{refl}
 use Rattle.std.proofs.lemmas.Result.{err_from_is_err_and}
 use Rattle.aqfp_top.specs.Words.{spelled}
-use Rattle.aqfp_top.specs.Loads.{net_limit, build_loads}
-use Rattle.aqfp_top.specs.Due.{design_stages}
-use Rattle.aqfp_top.specs.DueHistories.{IsStreamBy}
+use Rattle.aqfp_top.specs.declared.words.Form.TheVariants.{Make}
 use Rattle.aqfp_top.proofs.Steps.{build_answers, build_stands, build_prints, build_only, build_done}
 use Rattle.aqfp_top.proofs.Storing.{stores_shut}
-use Rattle.aqfp_top.proofs.OutEnds.{text_fails}
-use Rattle.aqfp_top.proofs.Hearing.{build_history}
-use Rattle.aqfp_top.proofs.HearingDue.{design_ends, store_ends, counts_end}
+use Rattle.aqfp_top.proofs.Running.{store_runs, stored_runs}
 use Rattle.aqfp_top.proofs.build.build.Goals as goal
 
 pub returns-in_err-store-clause-shut : goal.returns-in_err-store-clause-shut
 returns-in_err-store-clause-shut g c = stores_shut _ _ _ _ _ c.in_err-store.ensures
-
-pub returns-in_err-chip-clause-due : goal.returns-in_err-chip-clause-due
-returns-in_err-chip-clause-due g c =
-    let due = design_ends c.args.planner build_loads net_limit (design_stages c.args.planner)
-    (IsStreamBy c.args.planner)
-    (g.F.Files.outside c.args.files.now).history (g.F.Files.outside c.make.new.files).history (spelled c.args.words.now)
-    c.in_err-chip.field-0.0 c.in_err-chip.ensures.only c.in_err-chip.ensures.history_bad in
-    let p = err_from_is_err_and c.from_residual.result c.from_residual.ensures.1 in
-    rw (p.1, p.2) due
-
-pub returns-in_err-store-clause-due : goal.returns-in_err-store-clause-due
-returns-in_err-store-clause-due g c =
-    let due = store_ends build_loads net_limit (design_stages c.args.planner) (IsStreamBy c.args.planner)
-    (g.F.Files.outside c.args.files.now).history (g.F.Files.outside c.make.new.files)
-    (g.F.Files.outside c.store.new.files) (spelled c.args.words.now) _ _ c.in_err-store.field-0.0
-    c.in_ok-chip.ensures.history_well c.word.ensures c.in_err-store.ensures in
-    let p = err_from_is_err_and c.from_residual-in_err-store.result c.from_residual-in_err-store.ensures.1 in
-    rw (p.1, p.2) due
 
 pub returns-clause-answer : goal.returns-clause-answer
 returns-clause-answer g c =
@@ -50,9 +29,6 @@ returns-clause-prints g c =
     (spelled c.args.words.now) c.in_ok-chip.chip _ _ c.put_counts.result
     c.in_ok-chip.ensures.made c.put_counts.ensures
 
-pub returns-clause-fails : goal.returns-clause-fails
-returns-clause-fails g c = text_fails _ _ _ c.put_counts.result c.put_counts.ensures
-
 pub returns-clause-done : goal.returns-clause-done
 returns-clause-done g c =
     build_done c.args.planner (g.F.Files.outside c.args.files.now) (g.F.Files.outside c.make.new.files) _
@@ -60,20 +36,28 @@ returns-clause-done g c =
     c.put_counts.result c.in_ok-chip.ensures.made c.in_ok-chip.ensures.kept c.word.ensures c.in_ok-store.ensures
     c.put_counts.ensures
 
-pub returns-clause-history : goal.returns-clause-history
-returns-clause-history g c =
-    build_history c.args.planner _ (g.F.Files.outside c.make.new.files) _
-    (spelled c.args.words.now) _ c.in_ok-chip.chip _ _ _
-    c.put_counts.result c.in_ok-chip.ensures.history c.word.ensures c.in_ok-store.ensures c.put_counts.ensures
-
-pub returns-clause-due : goal.returns-clause-due
-returns-clause-due g c =
-    counts_end build_loads net_limit (design_stages c.args.planner) (IsStreamBy c.args.planner) _
-    (g.F.Files.outside c.make.new.files) _ (spelled c.args.words.now) _ _ _ _ _ _ c.put_counts.result
-    c.in_ok-chip.ensures.history_well c.word.ensures c.in_ok-store.ensures c.put_counts.ensures
-
 pub returns-clause-only : goal.returns-clause-only
 returns-clause-only g c = build_only c.args.planner _ _ _ c.put_counts.result c.put_counts.ensures
 
 pub returns-clause-shut : goal.returns-clause-shut
 returns-clause-shut g c = stores_shut _ _ _ _ _ c.in_ok-store.ensures
+
+pub returns-in_err-chip-clause-runs : goal.returns-in_err-chip-clause-runs
+returns-in_err-chip-clause-runs g c =
+    let runs = c.in_err-chip.ensures.refuses (g.O.Sink.output c.args.out.now) in
+    let p = err_from_is_err_and c.from_residual.result c.from_residual.ensures.1 in
+    rw (p.1, p.2) runs
+
+pub returns-in_err-store-clause-runs : goal.returns-in_err-store-clause-runs
+returns-in_err-store-clause-runs g c =
+    let runs = store_runs (Make c.args.planner) (g.F.Files.outside c.args.files.now).history
+    (g.F.Files.outside c.make.new.files) (g.F.Files.outside c.store.new.files) (spelled c.args.words.now) _ _ _
+    (g.O.Sink.output c.args.out.now) c.in_err-store.field-0.0
+    c.in_ok-chip.ensures.reads c.word.ensures c.in_err-store.ensures in
+    let p = err_from_is_err_and c.from_residual-in_err-store.result c.from_residual-in_err-store.ensures.1 in
+    rw (p.1, p.2) runs
+
+pub returns-clause-runs : goal.returns-clause-runs
+returns-clause-runs g c =
+    stored_runs (Make c.args.planner) _ (g.F.Files.outside c.make.new.files) _ (spelled c.args.words.now) _ _ _ _ _ _ _
+    c.put_counts.result c.in_ok-chip.ensures.reads c.word.ensures c.in_ok-store.ensures refl c.put_counts.ensures

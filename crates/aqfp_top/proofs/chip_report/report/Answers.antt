@@ -1,11 +1,10 @@
-use Rattle.std.proofs.Common.{refl}
 use Rattle.std.proofs.lemmas.Result.{err_from_is_err_and}
 use Rattle.aqfp_top.specs.Words.{spelled}
-use Rattle.aqfp_top.specs.Loads.{gds_limit, write_loads}
+use Rattle.aqfp_top.specs.Loads.{gds_limit}
 use Rattle.aqfp_top.specs.Due.{circuit_stages}
 use Rattle.aqfp_top.proofs.LoadedTexts.{told_then}
-use Rattle.aqfp_top.proofs.HearingDue.{reads_two, due_of_reading}
-use Rattle.aqfp_top.proofs.Reporting.{told_report, texts_report, history_report, report_only}
+use Rattle.aqfp_top.proofs.Running.{report_runs}
+use Rattle.aqfp_top.proofs.Reporting.{told_report, texts_report, report_only}
 use Rattle.aqfp_top.proofs.chip_report.report.Goals as goal
 
 pub returns-in_err-texts-clause-answer : goal.returns-in_err-texts-clause-answer
@@ -34,18 +33,10 @@ returns-clause-prints g c =
 pub returns-clause-only : goal.returns-clause-only
 returns-clause-only g c = report_only c.report_texts.result c.report_texts.ensures.only
 
-pub returns-clause-history : goal.returns-clause-history
-returns-clause-history g c =
+pub returns-clause-runs : goal.returns-clause-runs
+returns-clause-runs g c =
     let texts = c.in_ok-texts.texts in
-    history_report _ _ (spelled c.args.words.now) texts.first.items texts.lib.items c.deref.result.now
-    _ _ c.report_texts.result
-    c.in_ok-texts.ensures.history c.deref.ensures.value c.report_texts.ensures.prints
-
-pub returns-clause-due : goal.returns-clause-due
-returns-clause-due g c =
-    let texts = c.in_ok-texts.texts in
-    due_of_reading write_loads gds_limit circuit_stages _ _ (spelled c.args.words.now) _
-    (reads_two gds_limit circuit_stages _ _
-    (spelled c.args.words.now) texts.first.items texts.lib.items texts.first.items
-    c.deref.result.now _ c.in_ok-texts.ensures.history c.in_ok-texts.ensures.first_fits c.in_ok-texts.ensures.lib_fits
-    refl c.deref.ensures.value c.report_texts.ensures.answer)
+    report_runs _ _ (spelled c.args.words.now) texts.first.items texts.lib.items c.deref.result.now _ _
+    c.report_texts.result c.in_ok-texts.ensures.history c.in_ok-texts.ensures.first_fits
+    c.in_ok-texts.ensures.lib_fits c.deref.ensures.value c.report_texts.ensures.answer c.report_texts.ensures.only
+    c.report_texts.ensures.prints

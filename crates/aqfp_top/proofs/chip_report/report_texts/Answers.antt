@@ -5,9 +5,9 @@ use Rattle.aqfp_top.specs.declared.judge.JudgedChip.{JudgedChip}
 use Rattle.aqfp_top.proofs.OneStream.{one_layout}
 use Rattle.aqfp_top.specs.Reported.{IsReport}
 use Rattle.aqfp_top.proofs.Judging.{is_read, layout_answers, cells_answer, cells_fault, broken_fault, circuit_answers}
-use Rattle.aqfp_top.proofs.OutEnds.{text_only, text_fails}
+use Rattle.aqfp_top.proofs.OutEnds.{text_only}
 use Rattle.aqfp_top.proofs.Printing.{circuit_prints, layout_prints, text_prints, out_answers}
-use Rattle.aqfp_top.proofs.Reporting.{is_report, chip_is_well, circuit_fails, out_printing}
+use Rattle.aqfp_top.proofs.Reporting.{is_report, chip_is_well, out_printing}
 use Rattle.aqfp_top.proofs.chip_report.report_texts.Goals as goal
 
 pub returns-in_err-layout-clause-answer : goal.returns-in_err-layout-clause-answer
@@ -83,30 +83,8 @@ returns-clause-prints g c =
     c.in_ok-chip.ensures.ok p.0 p.1 p.2 in
     text_prints (IsReport c.args.gds.items c.args.lib.now) _ _ _ c.print.result report (c.print.ensures p.0 p.1 p.2)
 
-pub returns-in_err-cells-clause-fails : goal.returns-in_err-cells-clause-fails
-returns-in_err-cells-clause-fails g c =
-    let none = circuit_fails (g.O.Sink.output c.args.out.now).history
-    (g.O.Sink.output c.args.out.now).history c.in_err-cells.field-0.0
-    (cells_fault c.args.lib.now c.in_err-cells.field-0.0 c.in_err-cells.ensures.bad) in
-    let p = err_from_is_err_and c.from_residual-in_err-cells.result c.from_residual-in_err-cells.ensures.1 in
-    rw (p.1, p.2) none
-
-pub returns-in_err-chip-clause-fails : goal.returns-in_err-chip-clause-fails
-returns-in_err-chip-clause-fails g c =
-    let none = circuit_fails (g.O.Sink.output c.args.out.now).history
-    (g.O.Sink.output c.args.out.now).history c.in_err-chip.field-0.0
-    (broken_fault _ _ c.in_err-chip.field-0.0 c.in_err-chip.ensures.bad) in
-    let p = err_from_is_err_and c.from_residual-in_err-chip.result c.from_residual-in_err-chip.ensures.1 in
-    rw (p.1, p.2) none
-
 pub returns-clause-only : goal.returns-clause-only
 returns-clause-only g c =
     let p = c.cells_have_places.ensures.some c.in_ok-chip.chip.flat c.in_ok-chip.chip.circuit
     c.in_ok-chip.ensures.ok.keeps.extracts.circuit_is in
     out_printing _ _ _ c.print.result (c.print.ensures p.0 p.1 p.2)
-
-pub returns-clause-fails : goal.returns-clause-fails
-returns-clause-fails g c =
-    let p = c.cells_have_places.ensures.some c.in_ok-chip.chip.flat c.in_ok-chip.chip.circuit
-    c.in_ok-chip.ensures.ok.keeps.extracts.circuit_is in
-    text_fails _ _ _ c.print.result (c.print.ensures p.0 p.1 p.2)

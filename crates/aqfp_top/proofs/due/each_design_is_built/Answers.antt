@@ -33,3 +33,9 @@ pub returns-clause-ends : goal.returns-clause-ends
 returns-clause-ends c =
     design_ends c.one_answer_is_due.ensures.comes c.one_answer_is_due.ensures.complete
     (passes_none c.plan_laws.ensures.past c.plan_laws.ensures.only)
+
+pub returns-clause-well : goal.returns-clause-well
+returns-clause-well c net lib equations cells planner says limits =
+    let passes = passes_none c.plan_laws.ensures.past c.plan_laws.ensures.only equations cells in
+    design_is_well planner net lib equations cells says.net_says says.lib_says
+    (planner_well planner equations cells passes limits)

@@ -1,7 +1,6 @@
 use Rattle.aqfp_top.specs.Words.{spelled}
-use Rattle.aqfp_top.specs.Due.{showing_stages}
-use Rattle.aqfp_top.proofs.HearingDue.{judged_one}
-use Rattle.aqfp_top.proofs.ShowingShapes.{told_layout, told_shapes, whole_prints, history_shapes, showing_only}
+use Rattle.aqfp_top.proofs.Running.{shapes_run}
+use Rattle.aqfp_top.proofs.ShowingShapes.{told_layout, told_shapes, whole_prints, showing_only}
 use Rattle.aqfp_top.proofs.shapes.shapes.Goals as goal
 
 pub returns-clause-answer : goal.returns-clause-answer
@@ -21,13 +20,7 @@ returns-clause-prints g c =
 pub returns-clause-only : goal.returns-clause-only
 returns-clause-only g c = showing_only c.show.result c.show.ensures.only
 
-pub returns-clause-history : goal.returns-clause-history
-returns-clause-history g c =
-    history_shapes _ _ (spelled c.args.words.now) c.in_ok-gds.gds.items c.args.first c.args.second _ _ c.show.result
-    c.in_ok-gds.ensures.history c.show.ensures.prints
-
-pub returns-clause-due : goal.returns-clause-due
-returns-clause-due g c =
-    judged_one (λ gds. showing_stages gds c.args.first c.args.second)
-    (spelled c.args.words.now) _ _ c.in_ok-gds.gds.items _
-    c.in_ok-gds.ensures.history c.in_ok-gds.ensures.fits c.show.ensures.answer
+pub returns-clause-runs : goal.returns-clause-runs
+returns-clause-runs g c =
+    shapes_run c.args.first c.args.second _ _ (spelled c.args.words.now) c.in_ok-gds.gds.items _ _ c.show.result
+    c.in_ok-gds.ensures.history c.in_ok-gds.ensures.fits c.show.ensures.answer c.show.ensures.only c.show.ensures.prints

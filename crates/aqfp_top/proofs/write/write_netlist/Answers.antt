@@ -1,12 +1,9 @@
+use Rattle.std.proofs.lemmas.Result.{err_from_is_err_and}
 use Rattle.aqfp_top.specs.Words.{spelled}
-use Rattle.aqfp_top.specs.Loads.{gds_limit, write_loads}
-use Rattle.aqfp_top.specs.Due.{circuit_stages}
-use Rattle.aqfp_top.specs.DueHistories.{IsTextOf}
-use Rattle.aqfp_top.proofs.WriteSteps.{write_answers, write_stands, write_prints, write_only, write_done}
+use Rattle.aqfp_top.specs.declared.words.Form.TheVariants.{Write}
+use Rattle.aqfp_top.proofs.WriteSteps.{write_answers, write_stands, write_prints, write_only, write_done, same_counts}
 use Rattle.aqfp_top.proofs.Storing.{stores_shut}
-use Rattle.aqfp_top.proofs.OutEnds.{text_fails}
-use Rattle.aqfp_top.proofs.HearingNetlists.{write_history}
-use Rattle.aqfp_top.proofs.HearingDue.{counts_end}
+use Rattle.aqfp_top.proofs.Running.{store_runs, stored_runs}
 use Rattle.aqfp_top.proofs.write.write_netlist.Goals as goal
 
 pub returns-in_err-store_netlist-clause-shut : goal.returns-in_err-store_netlist-clause-shut
@@ -31,9 +28,6 @@ returns-clause-prints g c =
     (spelled c.args.words.now) c.in_ok-circuit.circuit c.circuit_counts.result _ _ c.put_counts.result
     c.in_ok-circuit.ensures.reads c.circuit_counts.ensures c.put_counts.ensures
 
-pub returns-clause-fails : goal.returns-clause-fails
-returns-clause-fails g c = text_fails _ _ _ c.put_counts.result c.put_counts.ensures
-
 pub returns-clause-written : goal.returns-clause-written
 returns-clause-written g c =
     write_done (g.F.Files.outside c.args.files.now) (g.F.Files.outside c.read_chip.new.files) _
@@ -41,20 +35,30 @@ returns-clause-written g c =
     c.circuit_counts.result _ _ _ c.put_counts.result c.in_ok-circuit.ensures.reads c.circuit_counts.ensures
     c.in_ok-circuit.ensures.kept c.word.ensures c.in_ok-store_netlist.ensures c.put_counts.ensures
 
-pub returns-clause-history : goal.returns-clause-history
-returns-clause-history g c =
-    write_history _ (g.F.Files.outside c.read_chip.new.files) _ (spelled c.args.words.now) _ c.in_ok-circuit.circuit
-    c.circuit_counts.result _ _ _ c.put_counts.result c.in_ok-circuit.ensures.history c.circuit_counts.ensures
-    c.word.ensures c.in_ok-store_netlist.ensures c.put_counts.ensures
-
-pub returns-clause-due : goal.returns-clause-due
-returns-clause-due g c =
-    counts_end write_loads gds_limit circuit_stages IsTextOf _ (g.F.Files.outside c.read_chip.new.files) _
-    (spelled c.args.words.now) _ _ _ _ _ _ c.put_counts.result c.in_ok-circuit.ensures.history_well c.word.ensures
-    c.in_ok-store_netlist.ensures c.put_counts.ensures
-
 pub returns-clause-only : goal.returns-clause-only
 returns-clause-only g c = write_only _ _ _ c.put_counts.result c.put_counts.ensures
 
 pub returns-clause-shut : goal.returns-clause-shut
 returns-clause-shut g c = stores_shut _ _ _ _ _ c.in_ok-store_netlist.ensures
+
+pub returns-in_err-circuit-clause-runs : goal.returns-in_err-circuit-clause-runs
+returns-in_err-circuit-clause-runs g c =
+    let runs = c.in_err-circuit.ensures.refuses (g.O.Sink.output c.args.out.now) in
+    let p = err_from_is_err_and c.from_residual.result c.from_residual.ensures.1 in
+    rw (p.1, p.2) runs
+
+pub returns-in_err-store_netlist-clause-runs : goal.returns-in_err-store_netlist-clause-runs
+returns-in_err-store_netlist-clause-runs g c =
+    let runs = store_runs Write (g.F.Files.outside c.args.files.now).history
+    (g.F.Files.outside c.read_chip.new.files) (g.F.Files.outside c.store_netlist.new.files) (spelled c.args.words.now)
+    _ _ _ (g.O.Sink.output c.args.out.now) c.in_err-store_netlist.field-0.0
+    c.in_ok-circuit.ensures.due c.word.ensures c.in_err-store_netlist.ensures in
+    let p = err_from_is_err_and c.from_residual-in_err-store_netlist.result
+    c.from_residual-in_err-store_netlist.ensures.1 in
+    rw (p.1, p.2) runs
+
+pub returns-clause-runs : goal.returns-clause-runs
+returns-clause-runs g c =
+    stored_runs Write _ (g.F.Files.outside c.read_chip.new.files) _ (spelled c.args.words.now) _ _ _ _ _ _ _
+    c.put_counts.result c.in_ok-circuit.ensures.due c.word.ensures c.in_ok-store_netlist.ensures
+    (same_counts c.in_ok-circuit.circuit c.circuit_counts.result c.circuit_counts.ensures) c.put_counts.ensures
