@@ -10,7 +10,7 @@ use Rattle.aq_base.specs.declared.store.LoadRefusal.{LoadRefusal}
 use Rattle.aq_base.specs.declared.store.LoadRefusal.TheVariants as refusal
 use Rattle.aq_base.specs.declared.store.StoreRefusal.{StoreRefusal}
 use Rattle.aq_base.specs.History.{Event, Loaded, NotLoaded, Created, NotCreated, Appended, NotAppended, Closed}
-use Rattle.aq_base.specs.History.{NotClosed, Discarded, took}
+use Rattle.aq_base.specs.History.{NotClosed, Discarded, Given, took}
 use Rattle.aq_base.specs.Acts.{Did, Opened, NotOpened, Gave, AtEnd, Linked, Drafted, Made, Took, Done, Refused}
 use Rattle.aq_base.specs.Acts.{read_on, gave, write_on, wrote, drafting, call_did, Adds}
 use Rattle.aq_base.specs.Honest.{IsFailedLoad, read_whole}
@@ -196,6 +196,7 @@ honest_took (byte ∷ piece) d d' (NotAppended why ∷ history) is h = (d, is, h
 honest_took (byte ∷ piece) d d' (Closed ∷ history) is h = (d, is, h)
 honest_took (byte ∷ piece) d d' (NotClosed why ∷ history) is h = (d, is, h)
 honest_took (byte ∷ piece) d d' (Discarded ∷ history) is h = (d, is, h)
+honest_took (byte ∷ piece) d d' (Given name bytes ∷ history) is h = (d, is, h)
 
 pub honest-none : (d : List Did) → d ≡ [] → ∥ Honest d [] ∥₁
 honest-none d is = ∣ is ∣₁

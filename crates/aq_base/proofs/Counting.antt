@@ -2,7 +2,7 @@
 use Rattle.std.proofs.Common.{ℕ, suc, ◌≡◌, ◌+◌, List, [], ◌∷◌, ◌++◌, take, refl, ap, sym, ◌∙◌, arith}
 use Rattle.std.specs.Prelude.{Result, Ok, Err}
 use Rattle.aq_base.specs.History.{Event, Loaded, NotLoaded, Created}
-use Rattle.aq_base.specs.History.{NotCreated, Appended, NotAppended, Closed, NotClosed, Discarded}
+use Rattle.aq_base.specs.History.{NotCreated, Appended, NotAppended, Closed, NotClosed, Discarded, Given}
 use Rattle.aq_base.specs.History.{behind, took}
 use Rattle.aq_base.specs.Outside.{Outside, TakesPart, after_load, after_create, after_close, after_discard, grown}
 use Rattle.aq_base.specs.Output.{Output, PrintsPart, printed}
@@ -36,6 +36,7 @@ module _ {X : Type 0} (count : List Event → X) (same : (bytes : List ℕ) (his
   behind_counts piece (Closed ∷ history) = same piece (Closed ∷ history)
   behind_counts piece (NotClosed why ∷ history) = same piece (NotClosed why ∷ history)
   behind_counts piece (Discarded ∷ history) = same piece (Discarded ∷ history)
+  behind_counts piece (Given name bytes ∷ history) = same piece (Given name bytes ∷ history)
 
   took_counts : (piece : List ℕ) (history : List Event) → count (took piece history) ≡ count history
   took_counts [] history = refl

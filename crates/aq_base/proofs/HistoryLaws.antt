@@ -1,7 +1,7 @@
 -- Pieces that are taken one behind the other.
 use Rattle.std.proofs.Common.{ℕ, ◌≡◌, List, [], ◌∷◌, ◌++◌, append_assoc, append-nil, refl, ap, sym}
 use Rattle.aq_base.specs.History.{Event, Loaded, NotLoaded, Created}
-use Rattle.aq_base.specs.History.{NotCreated, Appended, NotAppended, Closed, NotClosed, Discarded}
+use Rattle.aq_base.specs.History.{NotCreated, Appended, NotAppended, Closed, NotClosed, Discarded, Given}
 use Rattle.aq_base.specs.History.{behind, took, all_taken}
 
 pub took-nothing : (history : List Event) → took [] history ≡ history
@@ -19,6 +19,7 @@ behind_twice (NotAppended why ∷ history) one other = refl
 behind_twice (Closed ∷ history) one other = refl
 behind_twice (NotClosed why ∷ history) one other = refl
 behind_twice (Discarded ∷ history) one other = refl
+behind_twice (Given name bytes ∷ history) one other = refl
 
 pub took-took : (history : List Event) (one other : List ℕ) → took other (took one history) ≡ took
     (one ++ other) history
@@ -37,6 +38,7 @@ all_behind (NotAppended why ∷ history) piece = refl
 all_behind (Closed ∷ history) piece = refl
 all_behind (NotClosed why ∷ history) piece = refl
 all_behind (Discarded ∷ history) piece = refl
+all_behind (Given name bytes ∷ history) piece = refl
 
 pub all_took : (history : List Event) (piece : List ℕ) → all_taken (took piece history) ≡ all_taken history ++ piece
 all_took history [] = sym (append-nil (all_taken history))

@@ -1,24 +1,18 @@
 -- What a sink takes, one piece after another.
-use Rattle.std.proofs.Common.{ℕ, ◌≡◌, ◌≤◌, List, [], ◌∷◌, ◌++◌, ◌+◌, take, length, min, Option, Some, None, append-nil}
+use Rattle.std.proofs.Common.{ℕ, ◌≡◌, ◌≤◌, List, [], ◌∷◌, ◌++◌, ◌+◌, take, length, min}
 use Rattle.std.proofs.Common.{refl, ap, sym, ◌∙◌, arith}
 use Rattle.std.proofs.lemmas.List.{take_min, take-append-le, length-append}
 use Rattle.std.proofs.Math.Seq.{take-append-add}
-use Rattle.aq_base.specs.Store.{gained, GainsPrefix}
 use Rattle.aq_base.specs.History.{Event, NotAppended, took, all_taken}
 use Rattle.aq_base.specs.Output.{Output, printed, stopped, PrintsPart}
 use Rattle.aq_base.specs.declared.store.StoreRefusal.{StoreRefusal}
-use Rattle.aq_base.proofs.Gains.{gained-append}
 use Rattle.aq_base.proofs.HistoryLaws.{took-took, all_took}
 
-gained_nothing : (written : Option (List ℕ)) → written ≡ gained written []
-gained_nothing None = refl
-gained_nothing (Some bytes) = ap (λ b. Some b) (sym (append-nil bytes))
-
 pub printed_nothing : (o : Output) → o ≡ printed [] o
-printed_nothing o = λ i. record { written = gained_nothing o.written i; history = o.history }
+printed_nothing o = refl
 
 pub printed_twice : (o : Output) (p q : List ℕ) → printed q (printed p o) ≡ printed (p ++ q) o
-printed_twice o p q = λ i. record { written = gained-append o.written p q i; history = took-took o.history p q i }
+printed_twice o p q = λ i. record { history = took-took o.history p q i }
 
 -- some first bytes were taken, or all where there were no more
 pub prints_first : {o o' : Output} (keep : ℕ) (piece : List ℕ) (why : StoreRefusal)
@@ -49,51 +43,45 @@ part_of_second {o = o} a {b = b} {why = why} m p = record {
       ∙ ap (λ (bytes : List ℕ). stopped why (printed bytes o)) (sym (take-append-add a b p.count));
 }
 
--- what was written has grown by some first bytes
-pub part_gains : {o o' : Output} {piece : List ℕ} {why : StoreRefusal} → PrintsPart o o' piece why
-    → GainsPrefix o.written o'.written piece
-part_gains p = record { count = p.count; within = p.within; gain = ap (λ (x : Output). x.written) p.taken }
+-- ---- by what a sink keeps: its history
 
--- ---- by what a sink keeps: its bytes, and its history
+abbrev Kept : List Event → Output
+Kept history = record { history = history }
 
-abbrev Kept : List ℕ → List Event → Output
-Kept bytes history = record { written = Some bytes; history = history }
+pub kept_prints : (history history' : List Event) (piece : List ℕ) → history' ≡ took piece history
+    → Kept history' ≡ printed piece (Kept history)
+kept_prints history history' piece h = λ i. Kept (h i)
 
-pub kept_prints : (bytes bytes' : List ℕ) (history history' : List Event) (piece : List ℕ) → bytes' ≡ bytes ++ piece
-    → history' ≡ took piece history
-    → Kept bytes' history' ≡ printed piece (Kept bytes history)
-kept_prints bytes bytes' history history' piece b h = λ i. Kept (b i) (h i)
+pub kept_stays : (history history' : List Event) (piece : List ℕ) (why : StoreRefusal)
+    → history' ≡ NotAppended why ∷ history → PrintsPart (Kept history) (Kept history') piece why
+kept_stays history history' piece why h = prints_first 0 piece why (λ i. Kept (h i))
 
-pub kept_stays : (bytes bytes' : List ℕ) (history history' : List Event) (piece : List ℕ) (why : StoreRefusal)
-    → bytes' ≡ bytes → history' ≡ NotAppended why ∷ history
-    → PrintsPart (Kept bytes history) (Kept bytes' history') piece why
-kept_stays bytes bytes' history history' piece why b h =
-    prints_first 0 piece why ((λ i. Kept (b i) (h i)) ∙ ap (stopped why) (printed_nothing (Kept bytes history)))
+pub kept_prints_part : (history middle history' : List Event) (piece taken : List ℕ) (keep : ℕ) (why : StoreRefusal)
+    → taken ≡ take keep piece → middle ≡ took taken history → history' ≡ NotAppended why ∷ middle
+    → PrintsPart (Kept history) (Kept history') piece why
+kept_prints_part history middle history' piece taken keep why t m h = prints_first keep piece why
+    ((λ i. Kept (h i)) ∙ ap (stopped why) (kept_prints history middle taken m)
+    ∙ ap (λ (x : List ℕ). stopped why (printed x (Kept history))) t)
 
-pub kept_prints_part : (bytes bytes' : List ℕ) (history middle history' : List Event) (piece taken : List ℕ) (keep : ℕ)
-    (why : StoreRefusal) → taken ≡ take keep piece
-    → bytes' ≡ bytes ++ taken → middle ≡ took taken history → history' ≡ NotAppended why ∷ middle
-    → PrintsPart (Kept bytes history) (Kept bytes' history') piece why
-kept_prints_part bytes bytes' history middle history' piece taken keep why t b m h =
-    prints_first keep piece why
-    ((λ i. Kept bytes' (h i)) ∙ ap (stopped why) (kept_prints bytes bytes' history middle taken b m)
-    ∙ ap (λ (x : List ℕ). stopped why (printed x (Kept bytes history))) t)
-
-pub ruleset printed_pieces = (kept_prints, kept_stays, kept_prints_part)
-
--- ---- a sink whose bytes are all that it took
-
-pub all_prints : (history history' : List Event) (piece : List ℕ) → history' ≡ took piece history
-    → Kept (all_taken history') history' ≡ printed piece (Kept (all_taken history) history)
-all_prints history history' piece h =
-    kept_prints (all_taken history) (all_taken history') history history' piece (ap (λ (x : List Event). all_taken x) h
-    ∙ all_took history piece) h
-
-pub all_prints_part : (history middle history' : List Event) (piece : List ℕ) (count : ℕ) (why : StoreRefusal)
+-- some first bytes, as many as this, and then no more
+pub kept_cut : (history middle history' : List Event) (piece : List ℕ) (count : ℕ) (why : StoreRefusal)
     → count ≤ length piece → middle ≡ took (take count piece) history → history' ≡ NotAppended why ∷ middle
-    → PrintsPart (Kept (all_taken history) history) (Kept (all_taken history') history') piece why
-all_prints_part history middle history' piece count why within m h = record {
+    → PrintsPart (Kept history) (Kept history') piece why
+kept_cut history middle history' piece count why within m h = record {
   count = count;
   within = within;
-  taken = (λ i. Kept (all_taken (h i)) (h i)) ∙ ap (stopped why) (all_prints history middle (take count piece) m);
+  taken = (λ i. Kept (h i)) ∙ ap (stopped why) (kept_prints history middle (take count piece) m);
 }
+
+-- ---- a sink that tells its bytes: they are all that it took
+
+pub told_bytes : (bytes bytes' : List ℕ) (history history' : List Event) (piece : List ℕ) → bytes ≡ all_taken history
+    → bytes' ≡ bytes ++ piece → history' ≡ took piece history → bytes' ≡ all_taken history'
+told_bytes bytes bytes' history history' piece is b h =
+    b ∙ ap (λ x. x ++ piece) is ∙ sym (all_took history piece) ∙ ap (λ x. all_taken x) (sym h)
+
+pub told_cut : (bytes : List ℕ) (history history' : List Event) (why : StoreRefusal) → bytes ≡ all_taken history
+    → history' ≡ NotAppended why ∷ history → bytes ≡ all_taken history'
+told_cut bytes history history' why is h = is ∙ ap (λ x. all_taken x) (sym h)
+
+pub ruleset printed_pieces = (kept_prints, kept_stays, kept_prints_part, told_bytes, told_cut)

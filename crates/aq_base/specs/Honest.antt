@@ -8,7 +8,7 @@ use Rattle.aq_base.specs.declared.store.LoadRefusal.TheVariants.{Absent, TooLong
 use Rattle.aq_base.specs.declared.acts.Act.{Act}
 use Rattle.aq_base.specs.declared.acts.Act.TheVariants as act
 use Rattle.aq_base.specs.History.{Event, Loaded, NotLoaded, Created, NotCreated, Appended, NotAppended, Closed}
-use Rattle.aq_base.specs.History.{NotClosed, Discarded}
+use Rattle.aq_base.specs.History.{NotClosed, Discarded, Given}
 use Rattle.aq_base.specs.Acts.{Did, Opened, NotOpened, AtEnd, Linked, Drafted, Made, Done, Refused, Adds}
 use Rattle.aq_base.specs.Acts.{gave, wrote, drafting}
 
@@ -157,6 +157,7 @@ StandsFor (NotAppended why) before done = (done ≡ before) ⊎ (done ≡ Refuse
 StandsFor Closed before done = Closes before done
 StandsFor (NotClosed why) before done = FailsToClose before done
 StandsFor Discarded before done = LeavesNone before done
+StandsFor (Given name bytes) before done = ⊥
 
 -- the calls are those for which the events stand, one behind the other
 abbrev pub Honest : List Did → List Event → Type 0

@@ -1,15 +1,12 @@
 -- What a store of files is seen as from outside, and what each call makes of it.
-use Rattle.std.specs.Prelude.{ℕ, ◌≡◌, ◌≤◌, ◌⊎◌, List, [], ◌∷◌, length, take, Option, Some, None, Result, Ok, Err}
+use Rattle.std.specs.Prelude.{ℕ, ◌≡◌, ◌≤◌, ◌⊎◌, List, ◌∷◌, length, take, Option, Some, None, Result, Ok, Err}
 use Rattle.aq_base.specs.declared.store.LoadRefusal.{LoadRefusal}
 use Rattle.aq_base.specs.declared.store.StoreRefusal.{StoreRefusal}
 use Rattle.aq_base.specs.declared.store.StoreRefusal.TheVariants as store
-use Rattle.aq_base.specs.Store.{Contents, contents_with, contents_grown}
 use Rattle.aq_base.specs.History.{Event, Created, NotCreated, NotAppended, Discarded, load_event, close_event, took}
 
 -- a store as it is seen
 pub record Outside : Type 0 where
-  -- the file of each name, if it is known
-  pub contents : Option Contents
   -- each call so far with its answer, and what it was given or gave, the newest first
   pub history : List Event
   -- the name that is open for appending, if any
@@ -18,31 +15,28 @@ pub record Outside : Type 0 where
 -- a load of the name gave these bytes, or was refused
 abbrev pub after_load : List ℕ → List ℕ → Result (Unit {0}) LoadRefusal → Outside → Outside
 after_load name bytes result o =
-    record { contents = o.contents; history = load_event name bytes result ∷ o.history; opened = o.opened }
+    record { history = load_event name bytes result ∷ o.history; opened = o.opened }
 
 -- the name's file was made empty and is open, or nothing is open
 abbrev pub after_create : List ℕ → Result (Unit {0}) StoreRefusal → Outside → Outside
-after_create name (Ok _) o =
-    record { contents = contents_with o.contents name []; history = Created name ∷ o.history; opened = Some name }
-after_create name (Err why) o =
-    record { contents = o.contents; history = NotCreated name why ∷ o.history; opened = None }
+after_create name (Ok _) o = record { history = Created name ∷ o.history; opened = Some name }
+after_create name (Err why) o = record { history = NotCreated name why ∷ o.history; opened = None }
 
 -- the open file was closed, or that failed; nothing is open
 abbrev pub after_close : Result (Unit {0}) StoreRefusal → Outside → Outside
-after_close result o = record { contents = o.contents; history = close_event result ∷ o.history; opened = None }
+after_close result o = record { history = close_event result ∷ o.history; opened = None }
 
--- the open file was given up; what is contents of it stays, and nothing is open
+-- the open file was given up, and nothing is open
 abbrev pub after_discard : Outside → Outside
-after_discard o = record { contents = o.contents; history = Discarded ∷ o.history; opened = None }
+after_discard o = record { history = Discarded ∷ o.history; opened = None }
 
 -- the open file has taken a piece
 abbrev pub grown : List ℕ → Outside → Outside
-grown piece o =
-    record { contents = contents_grown o.contents o.opened piece; history = took piece o.history; opened = o.opened }
+grown piece o = record { history = took piece o.history; opened = o.opened }
 
 -- and then it took no more
 abbrev pub cut_off : StoreRefusal → Outside → Outside
-cut_off why o = record { contents = o.contents; history = NotAppended why ∷ o.history; opened = o.opened }
+cut_off why o = record { history = NotAppended why ∷ o.history; opened = o.opened }
 
 -- the open file took some first bytes of the piece, and then no more
 pub record TakesPart (o o' : Outside) (piece : List ℕ) (why : StoreRefusal) : Type 0 where

@@ -2,7 +2,7 @@
 ghost use Rattle.std.specs.Prelude.{◌≡◌, List, [], ◌∷◌};
 ghost use Rattle.std.specs.Borrow.{ftrue};
 ghost use Rattle.aq_base.specs.History.{Event, noted, took, load_event, create_event, close_event};
-ghost use Rattle.aq_base.specs.History.{NotAppended, Discarded};
+ghost use Rattle.aq_base.specs.History.{NotAppended, Discarded, Given};
 
 use crate::store::{LoadRefusal, StoreRefusal};
 use std::marker::{Model, PhantomData};
@@ -19,6 +19,7 @@ pub enum Call {
     Closed,
     NotClosed(StoreRefusal),
     Discarded,
+    Given,
 }
 
 /// The calls of a store with their answers, the newest first. It takes no memory: only clauses read it.
@@ -96,5 +97,12 @@ impl History {
         ensures { self.new.events ≡ Discarded ∷ self.old.events }
     {
         self.note(&[Call::Discarded], &[], &[]);
+    }
+
+    /// Notes that a name was given bytes by no call.
+    pub fn given(&mut self, name: &str, bytes: &[u8])
+        ensures { self.new.events ≡ Given name.now bytes.now ∷ self.old.events }
+    {
+        self.note(&[Call::Given], name.as_bytes(), bytes);
     }
 }

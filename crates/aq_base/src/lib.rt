@@ -25,10 +25,10 @@ pub use lists::{List, Memory};
 pub use memory_files::MemFiles;
 pub use memory_sink::MemSink;
 pub use pipe::{Pipe, Writer};
-pub use replay::{contents_follow, faults_are_counted, refusals_are_counted};
+pub use replay::{faults_are_counted, refusals_are_counted, told_is_heard};
 pub use std_sink::StdSink;
 pub use std_store::StdFiles;
-pub use store::{Files, LoadRefusal, Sink, StoreRefusal, contents_stay_known, pieces_are_joined};
+pub use store::{Files, LoadRefusal, Sink, StoreRefusal, pieces_are_joined};
 pub use texts::Text;
 
 /// A list of bytes.

@@ -10,8 +10,8 @@ use crate::history::History;
 use crate::pipe::{Pipe, Writer};
 use crate::store::{Sink, StoreRefusal};
 
-/// A sink over a writer, as standard output. It tells the bytes that the writer took, and takes no memory, so that it
-/// is never refused any. What its history says is what the calls of std were.
+/// A sink over a writer, as standard output. It takes no memory, so that it is never refused any. What its history says
+/// is what the calls of std were.
 #[derive(Drop)]
 pub struct StdSink<W> {
     pipe: Pipe<W>,

@@ -1,35 +1,29 @@
 -- From the clauses of the steps of a comparison to its own.
-use Rattle.std.proofs.Common.{ℕ, ◌≡◌, ◌≤◌, List, [], ◌∷◌, length, Option, Some, None, Result, Ok, Err, IfOk, IfErr}
-use Rattle.std.proofs.Common.{OnOk, refl, subst, inl, inr}
-use Rattle.std.specs.Result.{result_err}
-use Rattle.aq_base.specs.Output.{Output}
-use Rattle.aqfp_top.specs.Code.Printing.{PrintsText}
-use Rattle.aq_base.specs.Store.{Contents}
+use Rattle.std.proofs.Common.{ℕ, List, [], ◌∷◌, Some, None, Result, Ok, Err, IfOk, IfErr}
+use Rattle.std.proofs.Common.{OnOk, refl, inl, inr}
 use Rattle.blif_read.specs.Parts.{NetView}
 use Rattle.blif_read.specs.Netlist.{IsNetlist}
 use Rattle.blif_flat.specs.DesignText as netlist
 use Rattle.circuit_extracted.specs.Circuits.{CircuitView, KeepsFacts}
 use Rattle.decide.specs.declared.verdict.Verdict.{Verdict}
-use Rattle.aqfp_top.specs.Loads.{gds_limit, lib_limit, net_limit, words_limit, check_loads}
+use Rattle.aqfp_top.specs.Loads.{check_loads}
 use Rattle.aqfp_top.specs.Designs.{IsNetlistFault}
-use Rattle.aqfp_top.specs.Checks.{ToldTexts, MakesCircuit}
+use Rattle.aqfp_top.specs.Checks.{MakesCircuit}
 use Rattle.aqfp_top.specs.Stages as stage
 use Rattle.aqfp_top.specs.Stages.{Stage, FindsNone, IsFirst, Answers}
-use Rattle.aqfp_top.specs.Due.{bytes_at, circuit_stages, comparing_stages, equal_stages}
+use Rattle.aqfp_top.specs.Due.{circuit_stages, comparing_stages}
 use Rattle.aqfp_top.specs.Faults.{IsEqualFault}
-use Rattle.aqfp_top.specs.Comparing.{MakesBoth, HasWidths, IsTrueOf, HasVerdict, IsToldOf, EqualPrints, verdict_text}
-use Rattle.aqfp_top.specs.Code.Staging.{OrMemory, ToldAnswers}
+use Rattle.aqfp_top.specs.Comparing.{MakesBoth, HasWidths, IsTrueOf, HasVerdict}
+use Rattle.aqfp_top.specs.Code.Staging.{OrMemory}
 use Rattle.aqfp_top.specs.Code.Loading.{IsFaultOfLoads}
 use Rattle.aqfp_top.specs.Code.Building.{IsOutOrMemory}
-use Rattle.aqfp_top.specs.Code.Checking.{chip_stages, circuit_then, IsCircuitFault}
+use Rattle.aqfp_top.specs.Code.Checking.{circuit_then, IsCircuitFault}
 use Rattle.aqfp_top.specs.Code.Comparing.{both_stages, AreWidths, AreOtherWidths, IsManyFault, IsComparingFault}
 use Rattle.aqfp_top.specs.declared.fault.Large.TheVariants.{Functions, Design}
 use Rattle.aqfp_top.specs.declared.fault.Fault.{Fault}
 use Rattle.aqfp_top.specs.declared.fault.Fault.TheVariants.{BadBlif, BadDesign, TooLarge, Widths, Memory}
-use Rattle.aqfp_top.proofs.OutEnds.{each_text}
 use Rattle.aqfp_top.proofs.EachFault.{each_of_loads, each_circuit, each_comparing, each_out}
 use Rattle.aqfp_top.proofs.Staging.{past_all, found}
-use Rattle.aqfp_top.proofs.LoadedTexts.{told_three_answer}
 use Rattle.aqfp_top.proofs.OneFault.{says_no_fault}
 
 -- The kinds of faults.
@@ -164,25 +158,10 @@ verdicts gds lib net circuit view (Err fault) both circuit_keeps net_keeps holds
 
 pub ruleset compares = (widths_compare, functions_compare)
 
--- Where a load ends a comparison nothing is printed.
-
-pub loads_answer : (contents : Option Contents) (words : List (List ℕ)) (fault : Fault)
-    → ((rest : Contents → List (List ℕ) → List Stage) → ToldAnswers (chip_stages rest) contents words (Some fault))
-    → ToldAnswers equal_stages contents words (Some fault)
-loads_answer None words fault bad = tt
-loads_answer (Some files) words fault bad =
-    bad (λ files words. comparing_stages (bytes_at files words 1) (bytes_at files words 2) (bytes_at files words 3))
+-- The faults with which the steps may end a comparison.
 
 pub loads_equal : (fault : Fault) → IsFaultOfLoads check_loads fault → IsEqualFault fault
 loads_equal fault only = each_of_loads IsEqualFault check_loads (λ p l. l) (λ p t l. l) (λ p l. l) tt fault only
-
-pub loads_equal_print : (contents : Option Contents) (words : List (List ℕ)) (held : Output) (fault : Fault)
-    → IsFaultOfLoads check_loads fault → EqualPrints contents words held held (Some fault)
-loads_equal_print contents words held fault only =
-    each_of_loads (λ f. EqualPrints contents words held held (Some f)) check_loads (λ p l. refl) (λ p t l. refl)
-    (λ p l. refl) (inl refl) fault only
-
--- Where the texts end a comparison nothing is printed.
 
 circuit_equal : (fault : Fault) → IsCircuitFault fault → IsEqualFault fault
 circuit_equal fault wrong = each_circuit IsEqualFault (λ o k. tt) (λ n. tt) (λ f. tt) (λ k. tt)
@@ -192,65 +171,7 @@ pub wrong_is_equal : (fault : Fault) → IsComparingFault fault → IsEqualFault
 wrong_is_equal fault wrong = each_comparing IsEqualFault circuit_equal (λ f. tt) (λ l k. tt) (λ n. tt)
     (λ a b c d. tt) refl fault wrong
 
-circuit_prints : (contents : Option Contents) (words : List (List ℕ)) (held : Output) (fault : Fault)
-    → IsCircuitFault fault
-    → EqualPrints contents words held held (Some fault)
-circuit_prints contents words held fault wrong =
-    each_circuit (λ f. EqualPrints contents words held held (Some f)) (λ o k. refl) (λ n. refl) (λ f. refl) (λ k. refl)
-    (λ r a b. refl) (inl refl) fault wrong
-
-pub wrong_prints : (contents : Option Contents) (words : List (List ℕ)) (held : Output) (fault : Fault)
-    → IsComparingFault fault → EqualPrints contents words held held (Some fault)
-wrong_prints contents words held fault wrong =
-    each_comparing (λ f. EqualPrints contents words held held (Some f)) (circuit_prints contents words held) (λ f. refl)
-    (λ l k. refl) (λ n. refl) (λ a b c d. refl) refl fault wrong
-
-pub told_wrong : (contents : Option Contents) (words : List (List ℕ)) (gds lib net : List ℕ) (fault : Fault)
-    → ToldTexts contents words gds lib net → length gds ≤ gds_limit → length lib ≤ lib_limit → length net ≤ words_limit
-    → Answers (comparing_stages gds lib net) (Some fault) → ToldAnswers equal_stages contents words (Some fault)
-told_wrong contents words gds lib net fault held a b c wrong =
-    told_three_answer net_limit comparing_stages contents words gds lib net lib net
-    (Some fault) held a b c refl refl wrong
-
--- Where nothing is wrong with the texts the comparison comes to printing.
-
 pub out_is_equal : (result : Result (Unit {0}) Fault) → IfErr result IsOutOrMemory → IfErr result IsEqualFault
 out_is_equal result only = each_out (λ r. IfErr r IsEqualFault) tt refl tt result only
 
-pub out_equal_prints : (contents : Option Contents) (words : List (List ℕ)) (before after : Output)
-    (gds lib net : List ℕ)
-    (verdict : Verdict) (result : Result (Unit {0}) Fault) →
-    ToldTexts contents words gds lib net → HasVerdict gds lib net verdict →
-    PrintsText (verdict_text verdict) before after result → EqualPrints contents words before after (result_err result)
-out_equal_prints contents words before after gds lib net verdict result held found prints =
-    each_text (λ r. EqualPrints contents words before after (result_err r)) (verdict_text verdict) before after
-    (λ p. made p) (λ p. made p) (λ p. inr (made p)) result prints
-  where
-    made : {Printed : List ℕ → Type 0} → Printed (verdict_text verdict) → IsToldOf contents words Printed
-    made {Printed} printed = record {
-      gds = gds;
-      lib = lib;
-      net = net;
-      held = held;
-      verdict = verdict;
-      found = found;
-      printed = printed;
-    }
-
--- the same of texts that are these
-pub texts_print : (contents : Option Contents) (words : List (List ℕ)) (before after : Output)
-    (gds lib net lib' net' : List ℕ) (verdict : Verdict) (result : Result (Unit {0}) Fault) →
-    ToldTexts contents words gds lib net → lib' ≡ lib → net' ≡ net → HasVerdict gds lib' net' verdict →
-    PrintsText (verdict_text verdict) before after result → EqualPrints contents words before after (result_err result)
-texts_print contents words before after gds lib net lib' net' verdict result held l t found prints =
-    out_equal_prints contents words before after gds lib net verdict result held
-    (subst (λ x. HasVerdict gds x net verdict) l (subst (λ x. HasVerdict gds lib' x verdict) t found)) prints
-
-pub ruleset ends = (
-  loads_answer,
-  loads_equal,
-  loads_equal_print,
-  wrong_is_equal,
-  wrong_prints,
-  told_wrong,
-)
+pub ruleset ends = (loads_equal, wrong_is_equal)

@@ -6,20 +6,16 @@ use Rattle.aq_base.specs.FaultCounts.{read_faults, write_faults, close_faults, l
 use Rattle.aq_base.specs.Output.{Output}
 use Rattle.aq_base.proofs.Counting.{took_writes, took_closes}
 use Rattle.aqfp_top.specs.Words.{word_at}
-use Rattle.aqfp_top.specs.Loads.{Load, net_limit, gds_limit, words_limit}
-use Rattle.aqfp_top.specs.Stages.{Stage, LoadsAt, IsReached}
+use Rattle.aqfp_top.specs.Loads.{Load}
 use Rattle.aqfp_top.specs.Counted.{counts_of, HasFaults, FailedLoad}
 use Rattle.aqfp_top.specs.Refusals.{RefusesOne}
 use Rattle.aqfp_top.specs.DueTexts.{IsDue}
-use Rattle.aqfp_top.specs.Runs.{loads_of, AreWithin, given, stages_by, FailsToStore, Ends, RunsAs, HearsRun}
+use Rattle.aqfp_top.specs.Runs.{loads_of, given, FailsToStore, Ends, RunsAs, HearsRun}
 use Rattle.aqfp_top.specs.declared.words.Form.{Form}
-use Rattle.aqfp_top.specs.declared.words.Form.TheVariants.{Make, Verify, Trace, Equal, Write, Report, Shapes, Sample}
-use Rattle.aqfp_top.specs.declared.words.Form.TheVariants.{Wrong}
 use Rattle.aqfp_top.specs.declared.fault.WriteCall.{WriteCall}
 use Rattle.aqfp_top.specs.declared.fault.WriteCall.TheVariants.{Create, Append, Close, Out}
 use Rattle.aqfp_top.specs.declared.fault.Fault.{Fault}
 use Rattle.aqfp_top.specs.declared.fault.Fault.TheVariants.{ReadFault, WriteFault}
-use Rattle.aqfp_top.proofs.GivenTexts.{each_none, each_one, each_two, each_three}
 use Rattle.aqfp_top.proofs.OutEnds.{within_fails}
 
 -- ---- a failed load
@@ -41,56 +37,13 @@ refuses_read (load ∷ loads) words history history' place (inr gives) =
     let fails = refuses_read loads words _ history' place gives.holds in
     record { more = fails.more; name_is = fails.name_is }
 
--- no stage of texts is a load
-abbrev LoadsNone : List Stage → ℕ → Type 0
-LoadsNone [] place = Unit {0}
-LoadsNone (stage ∷ stages) place = (LoadsAt stage place → ⊥) × LoadsNone stages place
-
-not_reached : (stages : List Stage) (place : ℕ) → LoadsNone stages place → IsReached stages place → ⊥
-not_reached [] place none reached = reached
-not_reached (stage ∷ stages) place none (inl at) = none.0 at
-not_reached (stage ∷ stages) place none (inr later) = not_reached stages place none.1 later.1
-
-never : ⊥ → ⊥
-never bad = bad
-
-loads_none : (form : Form) (texts : List (List ℕ)) (place : ℕ) → AreWithin (loads_of form) texts
-    → LoadsNone (stages_by form texts) place
-loads_none (Make planner) texts place fit =
-    each_two net_limit (λ t. LoadsNone (stages_by (Make planner) t) place)
-    (λ net lib a b. (never, (never, (never, tt)))) texts fit
-loads_none Verify texts place fit =
-    each_three words_limit (λ t. LoadsNone (stages_by Verify t) place)
-    (λ gds lib text a b c. (never, (never, (never, (never, (never, tt)))))) texts fit
-loads_none Trace texts place fit =
-    each_three words_limit (λ t. LoadsNone (stages_by Trace t) place)
-    (λ gds lib text a b c. (never, (never, (never, (never, (never, tt)))))) texts fit
-loads_none Equal texts place fit =
-    each_three net_limit (λ t. LoadsNone (stages_by Equal t) place)
-    (λ gds lib net a b c. (never, (never, (never, (never, (never, (never, (never, tt)))))))) texts fit
-loads_none Write texts place fit =
-    each_two gds_limit (λ t. LoadsNone (stages_by Write t) place)
-    (λ gds lib a b. (never, (never, (never, (never, tt))))) texts fit
-loads_none Report texts place fit =
-    each_two gds_limit (λ t. LoadsNone (stages_by Report t) place)
-    (λ gds lib a b. (never, (never, (never, (never, tt))))) texts fit
-loads_none (Shapes first second) texts place fit =
-    each_one (λ t. LoadsNone (stages_by (Shapes first second) t) place)
-    (λ gds a. (never, (never, (never, tt)))) texts fit
-loads_none (Sample bits) texts place fit =
-    each_none (λ t. LoadsNone (stages_by (Sample bits) t) place) (never, (never, tt)) texts fit
-loads_none Wrong texts place fit =
-    each_none (λ t. LoadsNone (stages_by Wrong t) place) (never, tt) texts fit
-
 fails_load : (form : Form) (words : List (List ℕ)) (history history' : List Event) (out out' : Output) (place : ℕ)
     → RunsAs form history history' words out out' (Some (ReadFault place))
     → FailsLoad history history' (word_at words place)
 unfolding RunsAs
 fails_load form words history history' out out' place (inl refused) =
     refuses_read (loads_of form) words history history' place refused.refuses
-fails_load form words history history' out out' place (inr judges) =
-    absurd (not_reached (stages_by form judges.texts) place (loads_none form judges.texts place judges.fit)
-    judges.answers)
+fails_load form words history history' out out' place (inr judges) = absurd judges.answers
 
 -- ---- a failed write or close
 

@@ -32,7 +32,7 @@ use Rattle.cell_library.specs.Library.{LibraryView}
 use Rattle.layout_make.specs.Sheet.{Sheet, Tag}
 use Rattle.layout_make.specs.Spots.{spots}
 use Rattle.layout_make.specs.Channel.{channel}
-use Rattle.layout_make.specs.Tags.{sheet, cell_tags, wire_tags, line_tags}
+use Rattle.layout_make.specs.Tags.{sheet, cell_tags, wire_tags, line_tags, lag_tags}
 use Rattle.layout_make.specs.Draw as Draw
 use Rattle.layout_make.specs.Draw.{draw}
 use Rattle.layout_make.specs.MayDraw.{MayDraw}
@@ -289,10 +289,11 @@ labels_have p l may =
 top_has : (p : PlacedView) (l : LibraryView) → MayDraw p l → HasTexts (Draw.top_of p l)
 top_has p l may = record {
   name = by_test (Draw.top_of p l).name refl;
-  elements = all_join HasText (flat_map (Draw.row_elements p l) (numbers 0 (length p.net.rows)))
-      (map (λ b. Text b) (Draw.labels p l))
+  elements = all_join HasText (Draw.shape_elements p l) (map (λ b. Text b) (Draw.labels p l))
+      (all_join HasText (flat_map (Draw.row_elements p l) (numbers 0 (length p.net.rows)))
+      (Draw.boxes (sheet p l) (lag_tags p.lag))
       (all_flat (λ r. Unit {0}) HasText (Draw.row_elements p l) (λ r any. row_has p l r) (numbers 0 (length p.net.rows))
-      (all_whatever (numbers 0 (length p.net.rows))))
+      (all_whatever (numbers 0 (length p.net.rows)))) (boxes_have (sheet p l) (lag_tags p.lag)))
       (all_mapped (λ (b : Label). AreBytes b.text) HasText (λ (b : Label). Text b) (λ b has. has)
       (Draw.labels p l) (labels_have p l may));
 }

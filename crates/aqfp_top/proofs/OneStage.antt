@@ -1,5 +1,5 @@
--- Each stage finds one fault at most, but for how many bytes of a file that is too long were seen.
-use Rattle.std.proofs.Common.{ℕ, ◌≡◌, ◌≢◌, List, ap}
+-- Each stage finds one fault at most.
+use Rattle.std.proofs.Common.{ℕ, ◌≡◌, ◌≢◌, List}
 use Rattle.blif_read.specs.Parts.{NetView}
 use Rattle.cell_library.specs.Library.{LibraryView}
 use Rattle.geom.specs.declared.shapes.Flat.{Flat}
@@ -20,9 +20,8 @@ use Rattle.plan_build.specs.declared.refusal.PlanRefusal.{PlanRefusal}
 use Rattle.plan_build.specs.declared.refusal.PlanRefusal.TheVariants as plan
 use Rattle.aqfp_top.specs.Stages as stage
 use Rattle.aqfp_top.specs.Stages.{Stage, Finds}
-use Rattle.aqfp_top.specs.Due.{untaken}
 use Rattle.aqfp_top.specs.declared.fault.Fault.{Fault}
-use Rattle.aqfp_top.proofs.OneDue.{one_form_fault, one_load_fault}
+use Rattle.aqfp_top.proofs.OneDue.{one_form_fault}
 use Rattle.aqfp_top.proofs.OneFault.{one_netlist_fault, one_plain_fault, one_cells_fault, one_plan_fault}
 use Rattle.aqfp_top.proofs.OneFault.{one_own_plan_fault}
 use Rattle.aqfp_top.proofs.OneCheck.{one_stream_fault, one_size_fault, one_rule_fault, one_words_fault}
@@ -42,18 +41,17 @@ module _ (past : (l : LibraryView) (net : NetView) (refusal : PlanRefusal) → r
     (one_circuit : (flat : Flat) (limits : Limits) (first second : CircuitView) → Keeps E1 flat limits
     → Keeps E2 flat limits → Keeps E6 flat limits → IsCircuitOf flat first
     → IsCircuitOf flat second → first ≡ second) where
-  pub once : (s : Stage) (f g : Fault) → Finds s f → Finds s g → untaken f ≡ untaken g
-  once stage.Form f g p q = ap untaken (one_form_fault f g p q)
-  once (stage.Loading load file) f g p q = one_load_fault load file f g p q
-  once (stage.Netlist net) f g p q = ap untaken (one_netlist_fault net f g p q)
-  once (stage.Plain net) f g p q = ap untaken (one_plain_fault net f g p q)
-  once (stage.Cells lib) f g p q = ap untaken (one_cells_fault lib f g p q)
-  once (stage.Plan planner net lib) f g p q = ap untaken (one_plan_fault past only planner net lib f g p q)
-  once (stage.PlanWith net cells) f g p q = ap untaken (one_own_plan_fault past only net cells f g p q)
-  once (stage.Stream gds) f g p q = ap untaken (one_stream_fault one_fault gds f g p q)
-  once (stage.Size gds) f g p q = ap untaken (one_size_fault one_layout gds f g p q)
-  once (stage.Rules gds lib) f g p q = ap untaken (one_rule_fault one_layout broken_once gds lib f g p q)
-  once (stage.Counts gds lib net) f g p q = ap untaken (one_widths_fault one_layout one_circuit gds lib net f g p q)
+  pub once : (s : Stage) (f g : Fault) → Finds s f → Finds s g → f ≡ g
+  once stage.Form f g p q = one_form_fault f g p q
+  once (stage.Netlist net) f g p q = one_netlist_fault net f g p q
+  once (stage.Plain net) f g p q = one_plain_fault net f g p q
+  once (stage.Cells lib) f g p q = one_cells_fault lib f g p q
+  once (stage.Plan planner net lib) f g p q = one_plan_fault past only planner net lib f g p q
+  once (stage.PlanWith net cells) f g p q = one_own_plan_fault past only net cells f g p q
+  once (stage.Stream gds) f g p q = one_stream_fault one_fault gds f g p q
+  once (stage.Size gds) f g p q = one_size_fault one_layout gds f g p q
+  once (stage.Rules gds lib) f g p q = one_rule_fault one_layout broken_once gds lib f g p q
+  once (stage.Counts gds lib net) f g p q = one_widths_fault one_layout one_circuit gds lib net f g p q
   once (stage.Comparison gds lib net) f g p q = absurd p
-  once (stage.Numbers gds first second) f g p q = ap untaken (one_number_fault one_layout gds first second f g p q)
-  once (stage.Words gds lib text) f g p q = ap untaken (one_words_fault one_layout one_circuit gds lib text f g p q)
+  once (stage.Numbers gds first second) f g p q = one_number_fault one_layout gds first second f g p q
+  once (stage.Words gds lib text) f g p q = one_words_fault one_layout one_circuit gds lib text f g p q

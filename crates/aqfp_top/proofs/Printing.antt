@@ -4,15 +4,13 @@ use Rattle.std.specs.Result.{result_err}
 use Rattle.aq_base.specs.Output.{Output}
 use Rattle.aqfp_top.specs.Stages.{Stage, IsFirst, Answers}
 use Rattle.aqfp_top.specs.Printed.{Prints, TextPrints}
-use Rattle.aqfp_top.specs.Loads.{Load}
-use Rattle.aqfp_top.specs.Code.Loading.{IsFaultOfLoads}
 use Rattle.aqfp_top.specs.Code.Building.{IsOutOrMemory}
 use Rattle.aqfp_top.specs.Code.Checking.{IsCircuitFault}
 use Rattle.aqfp_top.specs.Code.Printing.{PrintsText}
 use Rattle.aqfp_top.specs.Code.Reporting.{IsLayoutFault}
 use Rattle.aqfp_top.specs.declared.fault.Fault.{Fault}
 use Rattle.aqfp_top.specs.declared.fault.Fault.TheVariants.{WriteFault, Memory}
-use Rattle.aqfp_top.proofs.EachFault.{each_of_loads, each_circuit, each_layout, each_out}
+use Rattle.aqfp_top.proofs.EachFault.{each_circuit, each_layout, each_out}
 use Rattle.aqfp_top.proofs.OutEnds.{each_text}
 
 -- a text that means this means that
@@ -45,13 +43,6 @@ pub out_answers : (stages : List Stage) (result : Result (Unit {0}) Fault) → I
 out_answers stages result none only = each_out (λ r. Answers stages (result_err r)) none none tt result only
 
 -- where a load ends the work, or the text of a layout, or the texts of a chip, nothing is printed
-
-pub loads_print : (Means : List ℕ → Type 0) (loads : List Load) (held : Output) (fault : Fault)
-    → IsFaultOfLoads loads fault → TextPrints Means held held (Some fault)
-loads_print Means loads held fault only =
-    each_of_loads (λ f. TextPrints Means held held (Some f)) loads (λ p l. refl)
-    (λ p t l. refl) (λ p l. refl) (inl refl)
-    fault only
 
 pub circuit_prints : (Means : List ℕ → Type 0) (held : Output) (fault : Fault) → IsCircuitFault fault
     → TextPrints Means held held (Some fault)

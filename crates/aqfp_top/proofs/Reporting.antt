@@ -1,9 +1,7 @@
 -- From the clauses of the steps of a report to its own.
-use Rattle.std.proofs.Common.{ℕ, ◌≡◌, ◌≤◌, List, length, Option, Some, None, Result, Ok, Err, IfErr}
+use Rattle.std.proofs.Common.{ℕ, ◌≡◌, List, None, Result, Ok, Err, IfErr}
 use Rattle.std.proofs.Common.{refl, ap, subst}
-use Rattle.std.specs.Result.{result_err}
 use Rattle.aq_base.specs.Output.{Output}
-use Rattle.aq_base.specs.Store.{Contents}
 use Rattle.poly_cut.specs.declared.layout.WideLayout.{WideLayout}
 use Rattle.poly_cut.specs.FlatForm.{wide_flat}
 use Rattle.gds_records.specs.Stream.{IsWideStream}
@@ -11,14 +9,12 @@ use Rattle.cell_library.specs.Library.{LibraryView, limits_of}
 use Rattle.cell_library.specs.Says as library
 use Rattle.shape_extract.specs.CellPlaces.{AreCellPlaces}
 use Rattle.text_report.specs.ReportText.{report_text}
-use Rattle.aqfp_top.specs.Loads.{gds_limit, lib_limit, write_loads, ToldTwo}
-use Rattle.aqfp_top.specs.Stages.{IsFirst, Answers}
-use Rattle.aqfp_top.specs.Due.{circuit_stages, write_stages}
+use Rattle.aqfp_top.specs.Loads.{write_loads}
+use Rattle.aqfp_top.specs.Stages.{IsFirst}
+use Rattle.aqfp_top.specs.Due.{circuit_stages}
 use Rattle.aqfp_top.specs.Faults.{IsReportFault}
-use Rattle.aqfp_top.specs.Printed.{TextPrints}
-use Rattle.aqfp_top.specs.Reported.{IsReport, IsReportOf}
+use Rattle.aqfp_top.specs.Reported.{IsReport}
 use Rattle.aqfp_top.specs.Code.Loading.{IsFaultOfLoads}
-use Rattle.aqfp_top.specs.Code.Staging.{ToldAnswers}
 use Rattle.aqfp_top.specs.Code.Printing.{PrintsText}
 use Rattle.aqfp_top.specs.Code.Checking.{IsCircuitFault, IsJudged}
 use Rattle.aqfp_top.specs.Code.Reporting.{IsLayoutFault, IsPrintingFault}
@@ -27,8 +23,6 @@ use Rattle.aqfp_top.specs.declared.fault.Fault.{Fault}
 use Rattle.aqfp_top.proofs.EachFault.{each_of_loads, each_circuit, each_layout, each_printing}
 use Rattle.aqfp_top.proofs.OutEnds.{each_text}
 use Rattle.aqfp_top.proofs.Judging.{IsRead, is_ruled, circuit_is_well}
-use Rattle.aqfp_top.proofs.Printing.{prints_more, loads_print}
-use Rattle.aqfp_top.proofs.LoadedTexts.{told_two_answer}
 
 -- The chip of the texts.
 
@@ -85,32 +79,10 @@ pub ruleset prints = (layout_printing, circuit_printing, out_printing)
 pub loads_report : (fault : Fault) → IsFaultOfLoads write_loads fault → IsReportFault fault
 loads_report fault only = each_of_loads IsReportFault write_loads (λ p l. l) (λ p t l. l) (λ p l. l) tt fault only
 
-pub loads_report_print : (contents : Option Contents) (words : List (List ℕ)) (held : Output) (fault : Fault)
-    → IsFaultOfLoads write_loads fault → TextPrints (IsReportOf contents words) held held (Some fault)
-loads_report_print contents words held fault only = loads_print (IsReportOf contents words) write_loads held fault only
-
 pub report_only : (result : Result (Unit {0}) Fault) → IfErr result IsPrintingFault → IfErr result IsReportFault
 report_only (Ok x) only = tt
 report_only (Err fault) only =
     each_printing IsReportFault refl
     (each_circuit IsReportFault (λ o k. tt) (λ n. tt) (λ f. tt) (λ k. tt) (λ r a b. tt) tt) fault only
 
--- the report of the texts of the files
-pub texts_report : (contents : Option Contents) (words : List (List ℕ)) (gds lib lib' : List ℕ) (before after : Output)
-    (fault : Option Fault) → ToldTwo contents words gds lib → lib' ≡ lib
-    → TextPrints (IsReport gds lib') before after fault
-    → TextPrints (IsReportOf contents words) before after fault
-texts_report contents words gds lib lib' before after fault held same prints =
-    prints_more (IsReport gds lib') (IsReportOf contents words) before after fault
-    (λ text report.
-    record { gds = gds; lib = lib; held = held; report = subst (λ l. IsReport gds l text) same report }) prints
-
-pub told_report : (contents : Option Contents) (words : List (List ℕ)) (gds lib lib' : List ℕ)
-    (result : Result (Unit {0}) Fault) → ToldTwo contents words gds lib → length gds ≤ gds_limit
-    → length lib ≤ lib_limit
-    → lib' ≡ lib → Answers (circuit_stages gds lib') (result_err result)
-    → ToldAnswers write_stages contents words (result_err result)
-told_report contents words gds lib lib' result held a b same answers =
-    told_two_answer gds_limit circuit_stages contents words gds lib lib' (result_err result) held a b same answers
-
-pub ruleset ends = (loads_report, loads_report_print)
+pub ruleset ends = loads_report

@@ -1,13 +1,9 @@
 -- From the clauses of the steps to those of a sample.
 use Rattle.std.proofs.Common.{ℕ, ◌≡◌, ◌<◌, ◌≤◌, ◌+◌, ◌*◌, ◌^◌, ◌++◌, Bool, List, [], ◌∷◌, length, take, get_or, All}
 use Rattle.std.proofs.Common.{Some, None, Result, IfErr, inl, inr, refl, sym, ap, subst, arith, ◌∙◌}
-use Rattle.std.specs.Result.{result_err}
 use Rattle.std.specs.List.{AllZip}
 use Rattle.std.proofs.lemmas.List.{take_more}
 use Rattle.std.proofs.lemmas.List.Elements.{AllZip-push}
-use Rattle.aq_base.specs.Output as output
-use Rattle.aqfp_top.specs.Printed.{PrintsFirst}
-use Rattle.aq_base.specs.declared.store.StoreRefusal.TheVariants as store
 use Rattle.aq_base.specs.Output.{Output}
 use Rattle.blif_read.specs.Parts.{NetView}
 use Rattle.blif_read.specs.Says as netlist
@@ -24,7 +20,7 @@ use Rattle.aqfp_top.specs.Stages as stage
 use Rattle.aqfp_top.specs.Stages.{Finds, FindsNone, IsFirst, Answers}
 use Rattle.aqfp_top.specs.Due.{sample_stages}
 use Rattle.aqfp_top.specs.Faults.{IsSampleFault}
-use Rattle.aqfp_top.specs.Samples.{text_of, IsSampled, SamplePrints}
+use Rattle.aqfp_top.specs.Samples.{text_of, IsSampled}
 use Rattle.aqfp_top.specs.Code.Staging.{OrMemory}
 use Rattle.aqfp_top.specs.Code.Designing.{AreCountsOf, IsChipOf, PlanRefuses, IsWellPlanned}
 use Rattle.aqfp_top.specs.Code.Printing.{PrintsText}
@@ -161,20 +157,6 @@ making_is_sample (TooLarge Shapes count) only = absurd only
 making_is_sample Memory only = tt
 making_is_sample _ only = absurd only
 
-pub making_prints : (bits : ℕ) (held : Output) (fault : Fault) → IsMakingFault fault
-    → SamplePrints bits held held (Some fault)
-making_prints bits held (BadBlif fault) only = refl
-making_prints bits held (TooLarge what count) only = refl
-making_prints bits held Memory only = inl refl
-making_prints bits held _ only = absurd only
-
-pub printing_answers : (bits : ℕ) (text : List ℕ) (shown shown' : Output) (result : Result (Unit {0}) Fault)
-    → IsFirst (sample_stages bits) None → PrintsText text shown shown' result
-    → Answers (sample_stages bits) (result_err result)
-printing_answers bits text shown shown' result well prints =
-    each_text (λ r. Answers (sample_stages bits) (result_err r)) text shown shown' (λ p. well)
-    (λ p. well) (λ p. tt) result prints
-
 pub printing_is_sample : (text : List ℕ) (shown shown' : Output) (result : Result (Unit {0}) Fault)
     → PrintsText text shown shown' result → IfErr result IsSampleFault
 printing_is_sample text shown shown' result prints = each_text (λ r. IfErr r IsSampleFault) text shown shown' (λ p. tt)
@@ -195,20 +177,4 @@ sampled bits sample Printed is prints =
       printed = subst Printed same prints;
     }
 
-pub printing_prints : (bits : ℕ) (sample : SampleResult) (shown shown' : Output) (result : Result (Unit {0}) Fault)
-    → IsSampleOfBits bits sample
-    → PrintsText (text_in bits sample) shown shown' result → SamplePrints bits shown shown' (result_err result)
-printing_prints bits sample shown shown' result is prints =
-    let text = text_in bits sample in
-    each_text (λ r. SamplePrints bits shown shown' (result_err r)) text shown shown'
-    (sampled bits sample (λ t. shown' ≡ output.printed t shown) is)
-    (sampled bits sample (PrintsFirst store.Failed shown shown') is)
-    (λ p. inr (sampled bits sample (PrintsFirst store.Memory shown shown') is p)) result prints
-
-pub ruleset ends = (
-  making_is_sample,
-  making_prints,
-  printing_answers,
-  printing_is_sample,
-  printing_prints,
-)
+pub ruleset ends = (making_is_sample, printing_is_sample)

@@ -1,10 +1,8 @@
 -- From the clauses of the steps of naming shapes to its own.
-use Rattle.std.proofs.Common.{ℕ, ◌≡◌, ◌≤◌, ◌<◌, ◌⊎◌, List, [], ◌∷◌, ◌++◌, length, Option, Some, None, Result, Ok, Err}
+use Rattle.std.proofs.Common.{ℕ, ◌≡◌, ◌≤◌, ◌<◌, ◌⊎◌, List, [], ◌∷◌, ◌++◌, Option, Some, None, Result, Ok, Err}
 use Rattle.std.proofs.Common.{IfErr}
-use Rattle.std.proofs.Common.{Vec, refl, sym, subst, inl, inr, arith}
+use Rattle.std.proofs.Common.{refl, sym, subst, inl, inr, arith}
 use Rattle.std.specs.Result.{result_err}
-use Rattle.std.specs.declared.alloc.Global.{Global}
-use Rattle.aq_base.specs.Store.{Contents}
 use Rattle.aq_base.specs.Output.{Output}
 use Rattle.geom.specs.declared.shapes.Flat.{Flat}
 use Rattle.geom.specs.FlatForm.{flat_count}
@@ -12,16 +10,14 @@ use Rattle.poly_cut.specs.declared.layout.WideLayout.{WideLayout}
 use Rattle.poly_cut.specs.FlatForm.{wide_flat}
 use Rattle.gds_records.specs.Stream.{IsWideStream}
 use Rattle.text_report.specs.ShapeLines.{shape_line}
-use Rattle.aqfp_top.specs.Words.{word_at}
 use Rattle.aqfp_top.specs.Loads.{gds_limit}
 use Rattle.aqfp_top.specs.Stages as stage
 use Rattle.aqfp_top.specs.Stages.{Stage, FindsNone, IsFirst, Answers}
-use Rattle.aqfp_top.specs.Due.{bytes_at, showing_stages, shapes_stages}
+use Rattle.aqfp_top.specs.Due.{showing_stages}
 use Rattle.aqfp_top.specs.Faults.{IsShapesFault}
 use Rattle.aqfp_top.specs.Printed.{TextPrints}
-use Rattle.aqfp_top.specs.Shown.{IsNoShape, HasLines, AreShapes, ToldLayout, IsShownOf}
-use Rattle.aqfp_top.specs.Code.Loading.{ToldLoadsWord, IsFaultOfLoad}
-use Rattle.aqfp_top.specs.Code.Staging.{ToldAnswers}
+use Rattle.aqfp_top.specs.Shown.{IsNoShape, HasLines, AreShapes}
+use Rattle.aqfp_top.specs.Code.Loading.{IsFaultOfLoad}
 use Rattle.aqfp_top.specs.Code.Printing.{PrintsText}
 use Rattle.aqfp_top.specs.Code.Reporting.{IsLayoutFault, IsPastFault, IsNamingFault, IsShowingFault}
 use Rattle.aqfp_top.specs.declared.fault.WriteCall.TheVariants.{Create, Append, Close, Out}
@@ -31,7 +27,7 @@ use Rattle.aqfp_top.proofs.EachFault.{each_load, each_layout, each_showing}
 use Rattle.aqfp_top.proofs.Judging.{IsRead}
 use Rattle.aqfp_top.proofs.OutEnds.{each_text}
 use Rattle.aqfp_top.proofs.Printing.{prints_more, text_prints}
-use Rattle.aqfp_top.proofs.Staging.{load_stage, past, past_all, found, load_found, file_loads, held_bytes}
+use Rattle.aqfp_top.proofs.Staging.{past, past_all, found}
 
 -- The lines.
 
@@ -172,52 +168,9 @@ pub load_shapes : (fault : Fault) → IsFaultOfLoad 1 gds_limit fault → IsShap
 load_shapes fault only = each_load IsShapesFault 1 gds_limit (inl refl)
     (λ taken more. inl (refl, more)) (inl refl) tt fault only
 
-pub load_prints : (Means : List ℕ → Type 0) (held : Output) (fault : Fault) → IsFaultOfLoad 1 gds_limit fault
-    → TextPrints Means held held (Some fault)
-load_prints Means held fault only =
-    each_load (λ f. TextPrints Means held held (Some f)) 1 gds_limit refl
-    (λ taken more. refl) refl (inl refl) fault only
-
-pub load_answers : (contents : Option Contents) (words : List (List ℕ)) (first second : ℕ) (fault : Fault)
-    → IsFaultOfLoad 1 gds_limit fault → ToldLoadsWord contents words 1 gds_limit (Err fault)
-    → ToldAnswers (shapes_stages first second) contents words (Some fault)
-load_answers None words first second fault only loads = tt
-load_answers (Some files) words first second fault only loads =
-    load_found files words 1 gds_limit (showing_stages (bytes_at files words 1) first second) fault only loads
-
-pub told_layout : (contents : Option Contents) (words : List (List ℕ)) (gds : Vec ℕ Global)
-    → ToldLoadsWord contents words 1 gds_limit (Ok gds) → ToldLayout contents words gds.items
-told_layout None words gds loads = tt
-told_layout (Some files) words gds loads = loads.0
-
--- what the bytes of the file may answer the whole may answer
-pub file_shapes : (files : Contents) (words : List (List ℕ)) (gds : List ℕ) (first second : ℕ) (answer : Option Fault)
-    → files (word_at words 1) ≡ Some gds → length gds ≤ gds_limit → Answers (showing_stages gds first second) answer
-    → Answers (shapes_stages first second files words) answer
-file_shapes files words gds first second answer held fits answers =
-    past (load_stage files words 1 gds_limit) (showing_stages (bytes_at files words 1) first second) answer
-    (file_loads files words 1 gds_limit gds held fits)
-    (subst (λ g. Answers (showing_stages g first second) answer) (sym (held_bytes files words 1 gds held)) answers)
-
-pub told_shapes : (contents : Option Contents) (words : List (List ℕ)) (gds : Vec ℕ Global) (first second : ℕ)
-    (answer : Option Fault) → ToldLoadsWord contents words 1 gds_limit (Ok gds)
-    → Answers (showing_stages gds.items first second) answer
-    → ToldAnswers (shapes_stages first second) contents words answer
-told_shapes None words gds first second answer loads answers = tt
-told_shapes (Some files) words gds first second answer loads answers =
-    file_shapes files words gds.items first second answer loads.0 loads.1 answers
-
-pub whole_prints : (contents : Option Contents) (words : List (List ℕ)) (gds : List ℕ) (first second : ℕ)
-    (before after : Output) (fault : Option Fault) → ToldLayout contents words gds
-    → TextPrints (AreShapes gds first second) before after fault
-    → TextPrints (IsShownOf contents words first second) before after fault
-whole_prints contents words gds first second before after fault held prints =
-    prints_more (AreShapes gds first second) (IsShownOf contents words first second) before after fault
-    (λ text shapes. record { gds = gds; held = held; shapes = shapes }) prints
-
 pub showing_only : (result : Result (Unit {0}) Fault) → IfErr result IsShowingFault → IfErr result IsShapesFault
 showing_only (Ok x) only = tt
 showing_only (Err fault) only =
     each_showing IsShapesFault refl (λ n m. tt) (each_layout IsShapesFault (λ o k. tt) (λ n. tt) tt) fault only
 
-pub ruleset ends = (load_shapes, load_prints, load_answers)
+pub ruleset ends = load_shapes

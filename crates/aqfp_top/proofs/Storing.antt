@@ -1,26 +1,18 @@
--- From the calls that store a file to what stands and what was heard.
-use Rattle.std.proofs.Common.{ℕ, ◌≡◌, ◌≤◌, List, [], ◌∷◌, ◌++◌, length, take, Option, None, Result, Ok, Err, IfErr}
+-- From the calls that store a file to what was heard.
+use Rattle.std.proofs.Common.{ℕ, ◌≡◌, ◌≤◌, List, [], ◌∷◌, ◌++◌, length, take, None, Result, Ok, Err, IfErr}
 use Rattle.std.proofs.Common.{OnOk, IsSome}
 use Rattle.std.proofs.Common.{refl, sym, ap, subst, inl, inr, ◌∙◌}
-use Rattle.aq_base.specs.Store.{Contents, contents_with, StoresPrefix}
 use Rattle.aq_base.specs.declared.store.StoreRefusal.{StoreRefusal}
 use Rattle.aq_base.specs.declared.store.StoreRefusal.TheVariants as store
 use Rattle.aq_base.specs.History.{Event, Created, NotCreated, NotAppended, Discarded, took}
-use Rattle.aq_base.specs.Outside.{Outside, after_create, after_close, after_discard, grown, Stops, StopsWithin}
-use Rattle.aq_base.proofs.Stored.{stored_whole}
+use Rattle.aq_base.specs.Outside.{Outside, after_create, after_close, after_discard, grown, Stops}
 use Rattle.aqfp_top.specs.Histories.{stored}
 use Rattle.aqfp_top.specs.Runs.{TakesFirst, FailsToStore}
-use Rattle.aqfp_top.specs.Code.Building.{StandsStored, IsStoreFault}
+use Rattle.aqfp_top.specs.Code.Building.{IsStoreFault}
 use Rattle.aqfp_top.specs.Code.Storing.{made, unmade, IsUnmade, Writes, Closes, Stores, end_of, left_event}
 use Rattle.aqfp_top.specs.declared.fault.WriteCall.TheVariants.{Create}
 use Rattle.aqfp_top.specs.declared.fault.Fault.{Fault}
 use Rattle.aqfp_top.specs.declared.fault.Fault.TheVariants.{WriteFault, Memory}
-use Rattle.std.proofs.Math.Seq.{take-length}
-
--- the whole file is some first bytes of it
-pub whole_prefix : (contents after : Option Contents) (name bytes : List ℕ) → after ≡ contents_with contents name bytes
-    → StoresPrefix contents after name bytes
-whole_prefix contents after name bytes is = record { count = length bytes; stored = rw take-length is }
 
 -- ---- the calls
 
@@ -46,12 +38,6 @@ pub ruleset closes = (closed_whole, given_up)
 
 pub made_open : (name : List ℕ) (o o' : Outside) → o' ≡ made name o → IsSome o'.opened
 made_open name o o' is = subst (λ (x : Outside). IsSome x.opened) (sym is) refl
-
--- what is told does not change where no more is taken, nor what is open
-stops_told : (why : StoreRefusal) (o o' : Outside) → Stops why o o' → o'.contents ≡ o.contents
-stops_told store.Failed o o' s = ap (λ (x : Outside). x.contents) s
-stops_told store.Memory o o' (inl s) = ap (λ (x : Outside). x.contents) s
-stops_told store.Memory o o' (inr s) = ap (λ (x : Outside). x.contents) s
 
 stops_opened : (why : StoreRefusal) (o o' : Outside) → Stops why o o' → o'.opened ≡ o.opened
 stops_opened store.Failed o o' s = ap (λ (x : Outside). x.opened) s
@@ -84,48 +70,6 @@ written_stores name bytes o now later o' written result is writes closes = inr (
 })
 
 pub ruleset stores = (made_open, writes_open)
-
--- ---- what stands
-
-whole_told : (name bytes : List ℕ) (o now : Outside) → now ≡ grown bytes (made name o)
-    → now.contents ≡ contents_with o.contents name bytes
-whole_told name bytes o now grows = stored_whole o.contents name bytes refl refl (ap (λ
-    (x : Outside). x.contents) grows)
-
-part_told : (name bytes : List ℕ) (o now : Outside) (why : StoreRefusal) → StopsWithin (made name o) now bytes why
-    → StoresPrefix o.contents now.contents name bytes
-part_told name bytes o now why part = record {
-  count = part.count;
-  stored = stored_whole o.contents name (take part.count bytes) refl refl
-      (stops_told why (grown (take part.count bytes) (made name o)) now part.stops);
-}
-
-ended_stands : (name bytes : List ℕ) (o now : Outside) (written closed : Result (Unit {0}) StoreRefusal)
-    → Writes bytes (made name o) now written → StandsStored o.contents now.contents name bytes (end_of written closed)
-ended_stands name bytes o now (Ok _) (Ok _) grows = whole_told name bytes o now grows
-ended_stands name bytes o now (Ok _) (Err store.Failed) grows = whole_told name bytes o now grows
-ended_stands name bytes o now (Ok _) (Err store.Memory) grows =
-    inr (whole_prefix o.contents now.contents name bytes (whole_told name bytes o now grows))
-ended_stands name bytes o now (Err store.Failed) closed part = part_told name bytes o now store.Failed part
-ended_stands name bytes o now (Err store.Memory) closed part = inr (part_told name bytes o now store.Memory part)
-
-unmade_stands : (name bytes : List ℕ) (o : Outside) (contents : _) (why : StoreRefusal) → contents ≡ o.contents
-    → StandsStored o.contents contents name bytes (Err (unmade why))
-unmade_stands name bytes o contents store.Failed same = same
-unmade_stands name bytes o contents store.Memory same = inl same
-
-pub stores_stands : (name bytes : List ℕ) (o o' : Outside) (result : Result (Unit {0}) Fault)
-    → Stores name bytes o o' result → StandsStored o.contents o'.contents name bytes result
-unfolding Stores
-stores_stands name bytes o o' result (inl u) =
-    subst (StandsStored o.contents o'.contents name bytes) (sym u.ends)
-    (unmade_stands name bytes o o'.contents u.why (ap (λ (x : Outside). x.contents) u.refused))
-stores_stands name bytes o o' result (inr s) =
-    let c = s.closes in
-    subst (StandsStored o.contents o'.contents name bytes) (sym c.ends)
-    (subst (λ t. StandsStored o.contents t name bytes (end_of s.written c.answer))
-    (sym (ap (λ (x : Outside). x.contents) c.closed))
-    (ended_stands name bytes o s.now s.written c.answer s.writes))
 
 -- ---- what was heard
 

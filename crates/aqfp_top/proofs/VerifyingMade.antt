@@ -12,7 +12,6 @@ use Rattle.aqfp_top.specs.Words.{IsVerify}
 use Rattle.aqfp_top.specs.Loads.{Load, words_limit, check_loads}
 use Rattle.aqfp_top.specs.Stages.{IsFirst, Answers}
 use Rattle.aqfp_top.specs.Due.{judging_stages, IsDoneOrOutside}
-use Rattle.aqfp_top.specs.Ended.{IsDoneOrGivesUp}
 use Rattle.aqfp_top.specs.Designs.{stream_of}
 use Rattle.aqfp_top.specs.Histories.{loaded_three, CheckedHistory}
 use Rattle.aqfp_top.specs.Checks.{IsSound, text_of}
@@ -23,8 +22,8 @@ use Rattle.aqfp_top.specs.Runs.{AreWithin, given, stages_by, Ends, RunsAs, Hears
 use Rattle.aqfp_top.specs.declared.check.Printing.TheVariants as printing
 use Rattle.aqfp_top.specs.declared.words.Form.TheVariants.{Verify}
 use Rattle.aqfp_top.specs.declared.fault.Fault.{Fault}
-use Rattle.aqfp_top.specs.declared.fault.Fault.TheVariants.{Absent, TooLong, ReadFault, WriteFault, TooLarge, Memory}
-use Rattle.aqfp_top.proofs.EndedWell.{well_ends}
+use Rattle.aqfp_top.specs.declared.fault.Fault.TheVariants.{Absent, TooLong, ReadFault, WriteFault, Memory}
+use Rattle.aqfp_top.proofs.Accepting.{check_ends}
 use Rattle.aqfp_top.proofs.GivenTexts.{each_three}
 use Rattle.aqfp_top.proofs.HeardRuns.{as_form, verified}
 
@@ -67,21 +66,6 @@ heard a b c now history' words out out' (Some (ReadFault place)) ends = inl tt
 heard a b c now history' words out out' (Some (WriteFault call)) ends = inl tt
 heard a b c now history' words out out' (Some _) ends = inr ends.same
 
--- a check gives up for no size
-no_size : (gds lib text : List ℕ) (answer : Option Fault) → IsDoneOrGivesUp (judging_stages gds lib text) answer
-    → IsDoneOrOutside answer
-no_size gds lib text None done = tt
-no_size gds lib text (Some Memory) done = tt
-no_size gds lib text (Some (ReadFault place)) done = tt
-no_size gds lib text (Some (WriteFault call)) done = tt
-no_size gds lib text (Some (TooLarge what count)) (inl gives) = gives
-no_size gds lib text (Some (TooLarge what count)) (inr (inl gives)) = gives
-no_size gds lib text (Some (TooLarge what count)) (inr (inr (inl gives))) = gives
-no_size gds lib text (Some (TooLarge what count)) (inr (inr (inr (inl gives)))) = gives
-no_size gds lib text (Some (TooLarge what count)) (inr (inr (inr (inr (inl gives))))) = gives
-no_size gds lib text (Some (TooLarge what count)) (inr (inr (inr (inr (inr none))))) = none
-no_size gds lib text (Some _) done = done
-
 module _ (gds lib text : List ℕ) (words : List (List ℕ)) (history history' : List Event) (out out' : Output)
     (answer : Option Fault) (is : history' ≡ loaded_three history words gds lib text)
     (well : IsFirst (judging_stages gds lib text) None) where
@@ -100,8 +84,7 @@ module _ (gds lib text : List ℕ) (words : List (List ℕ)) (history history' :
       judged_three a b c answers (inl done) = done
       judged_three a b c answers (inr same) =
           let texts_are = same_texts words history a b c gds lib text (sym same ∙ is) in
-          no_size gds lib text answer (well_ends (judging_stages gds lib text) answer well
-          (subst (λ t. Answers (stages_by Verify t) answer) texts_are answers))
+          check_ends gds lib text answer well (subst (λ t. Answers (stages_by Verify t) answer) texts_are answers)
 
   done : RunsAs Verify history history' words out out' answer → IsDoneOrOutside answer
   unfolding RunsAs

@@ -1,11 +1,6 @@
 -- What verify and trace make of the texts of a layout, of a library and of words: their circuit, or a fault of the
 -- stream, of its size, of the rules or of the words; and what they print.
-use Rattle.std.specs.Prelude.{ℕ, ◌≡◌, ◌⊎◌, ◌≤◌, Bool, All, List, length, Option, Some, None}
-use Rattle.aq_base.specs.declared.store.StoreRefusal.TheVariants as store
-use Rattle.aq_base.specs.Output.{Output}
-use Rattle.aq_base.specs.Output as output
-use Rattle.aqfp_top.specs.Printed.{PrintsFirst}
-use Rattle.aq_base.specs.Store.{Contents}
+use Rattle.std.specs.Prelude.{ℕ, ◌≤◌, Bool, List}
 use Rattle.geom.specs.FlatForm.{flat_count}
 use Rattle.poly_cut.specs.declared.layout.WideLayout.{WideLayout}
 use Rattle.poly_cut.specs.FlatForm.{wide_flat}
@@ -15,19 +10,17 @@ use Rattle.gds_read.specs.WideReading.{IsWideTooLarge}
 use Rattle.layout_rules.specs.declared.rule.Rule.{Rule}
 use Rattle.layout_rules.specs.Rules.{KeepsRules, FirstBroken}
 use Rattle.cell_library.specs.Library.{limits_of}
-use Rattle.circuit_extracted.specs.Circuits.{CircuitView, KeepsFacts}
+use Rattle.circuit_extracted.specs.Circuits.{CircuitView}
 use Rattle.shape_extract.specs.Extraction.{IsCircuitOf}
-use Rattle.text_answers.specs.WordsText.{words_of, SaysWords, IsBadLine}
+use Rattle.text_answers.specs.WordsText.{SaysWords, IsBadLine}
 use Rattle.text_answers.specs.WordLines.{answers_to, answers_text}
 use Rattle.text_answers.specs.FluxLines.{trace_text}
-use Rattle.aqfp_top.specs.Words.{word_at}
 use Rattle.aqfp_top.specs.Designs.{SaysLibrary}
 use Rattle.aqfp_top.specs.declared.check.Printing.{Printing}
 use Rattle.aqfp_top.specs.declared.check.Printing.TheVariants.{Answers, Fluxes}
 use Rattle.aqfp_top.specs.declared.fault.Large.TheVariants.{Shapes}
 use Rattle.aqfp_top.specs.declared.fault.Fault.{Fault}
-use Rattle.aqfp_top.specs.declared.fault.Fault.TheVariants.{WriteFault, TooLarge, BadStream, RuleBroken, BadWords}
-use Rattle.aqfp_top.specs.declared.fault.Fault.TheVariants.{Memory}
+use Rattle.aqfp_top.specs.declared.fault.Fault.TheVariants.{TooLarge, BadStream, RuleBroken, BadWords}
 
 -- the bytes are a wide stream of this layout, whose flat form is of a size that is taken
 pub record IsLayoutOf (gds : List ℕ) (layout : WideLayout) : Type 0 where
@@ -85,36 +78,7 @@ abbrev pub IsWordsFault : List ℕ → List ℕ → List ℕ → Fault → Type 
 IsWordsFault gds lib text (BadWords line) = IsMisworded gds lib text line
 IsWordsFault gds lib text _ = ⊥
 
--- these are the bytes of the three files, where the store is told
-abbrev pub ToldTexts : Option Contents → List (List ℕ) → List ℕ → List ℕ → List ℕ → Type 0
-ToldTexts (Some files) words gds lib text =
-    (files (word_at words 1) ≡ Some gds) × (files (word_at words 2) ≡ Some lib) × (files (word_at words 3) ≡ Some text)
-ToldTexts None words gds lib text = Unit {0}
-
 -- what is printed of a circuit and words: its answers, or its fluxes
 abbrev pub text_of : Printing → CircuitView → List (List Bool) → List ℕ
 text_of Answers circuit words = answers_text circuit (answers_to circuit words)
 text_of Fluxes circuit words = trace_text circuit words
-
--- the text of a sound chip and its words was printed so far
-pub record IsPrintedOf (printing : Printing) (contents : Option Contents) (words : List (List ℕ))
-    (Printed : List ℕ → Type 0) : Type 0 where
-  pub gds : List ℕ
-  pub lib : List ℕ
-  pub text : List ℕ
-  pub circuit : CircuitView
-  pub held : ToldTexts contents words gds lib text
-  pub sound : IsSound gds lib text circuit
-  pub keeps : KeepsFacts circuit
-  pub wide : All (λ word. length word ≡ circuit.inputs) (words_of text)
-  pub printed : Printed (text_of printing circuit (words_of text))
-
--- what `out` gains: the whole text, or some first bytes of it where the fault is its own or want of memory
-abbrev pub CheckPrints : Printing → Option Contents → List (List ℕ) → Output → Output → Option Fault → Type 0
-CheckPrints printing contents words before after None = IsPrintedOf printing contents words
-    (λ text. after ≡ output.printed text before)
-CheckPrints printing contents words before after (Some (WriteFault call)) =
-    IsPrintedOf printing contents words (PrintsFirst store.Failed before after)
-CheckPrints printing contents words before after (Some Memory) =
-    (after ≡ before) ⊎ IsPrintedOf printing contents words (PrintsFirst store.Memory before after)
-CheckPrints printing contents words before after (Some fault) = after ≡ before

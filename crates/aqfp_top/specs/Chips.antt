@@ -1,9 +1,8 @@
--- What a `build`, a `compact` or a `draw` that ends well has made: a chip of NET's netlist under OUT, which keeps the
--- rules with the numbers of LIB, and its counts on `out`; and what follows of it, since it was planned.
-use Rattle.std.specs.Prelude.{◌≡◌, ◌<◌, ◌≤◌, ℕ, Bool, All, List, length, Option, Some}
+-- What a `build`, a `compact` or a `draw` that ends well has made: bytes that are a chip of NET's netlist, which keeps
+-- the rules with the numbers of LIB, and its counts on `out`; and what follows of it, since it was planned.
+use Rattle.std.specs.Prelude.{◌≡◌, ◌<◌, ◌≤◌, ℕ, Bool, All, List, length}
 use Rattle.aq_base.specs.Output.{Output}
 use Rattle.aq_base.specs.Output as output
-use Rattle.aq_base.specs.Store.{Contents, with_file}
 use Rattle.geom.specs.FlatForm.{flat_of, flat_count}
 use Rattle.gds_records.specs.Stream.{IsStream}
 use Rattle.layout_rules.specs.Limits.{Limits}
@@ -17,7 +16,6 @@ use Rattle.pulse_sim.specs.Shows.{Shows}
 use Rattle.text_answers.specs.Counts.{counts_line, delay_of}
 use Rattle.layout_realises.specs.Realises.{Realises}
 use Rattle.layout_realises.specs.RealisesNet.{most_bytes, most_shapes}
-use Rattle.aqfp_top.specs.Words.{word_at}
 
 -- The bytes are a chip of the two texts: they realise what NET's text answers, under the numbers that LIB's text gives,
 -- by every clock whose windows keep clear; and `out` has the counts of their circuit.
@@ -27,18 +25,6 @@ pub record IsChipOfTexts (net lib bytes : List ℕ) (out out' : Output) : Type 0
   pub circuit : CircuitView
   pub realises : Realises bytes limits (inputs_of net) (outputs_of net) (TextAnswers net) circuit (delay_of circuit)
   pub printed : out' ≡ output.printed (counts_line circuit) out
-
--- The texts are those that NET and LIB held at the beginning, though OUT may have the name of one of them. No other
--- name than OUT has changed.
-pub record BuildsChip (held : Contents) (after : Option Contents) (words : List (List ℕ))
-    (out out' : Output) : Type 0 where
-  pub net : List ℕ
-  pub lib : List ℕ
-  pub net_held : held (word_at words 1) ≡ Some net
-  pub lib_held : held (word_at words 2) ≡ Some lib
-  pub bytes : List ℕ
-  pub stored : after ≡ Some (with_file held (word_at words 3) bytes)
-  pub chip : IsChipOfTexts net lib bytes out out'
 
 -- What follows where the bytes are those of a plan for a netlist and a library: they realise the netlist's equations
 -- with the library's numbers; they are a stream, and their shapes few enough to be read back; the circuit keeps what

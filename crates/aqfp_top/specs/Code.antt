@@ -1,7 +1,6 @@
 -- The words of private contracts.
 pub mod Pages
 pub mod Printing
-pub mod Standing
 pub mod Storing
 pub mod Pieces
 pub mod Loading

@@ -1,13 +1,8 @@
 -- What `equal` makes of the texts of a layout, of a library and of a netlist: whether the chip's circuit answers every
 -- word as the netlist, or that the two have other counts, or too many subfunctions; and what it prints.
-use Rattle.std.specs.Prelude.{ℕ, ◌≡◌, ◌≢◌, ◌⊎◌, ◌<◌, ◌++◌, Bool, false, List, length, codes, Option, Some, None}
+use Rattle.std.specs.Prelude.{ℕ, ◌≡◌, ◌≢◌, ◌<◌, ◌++◌, Bool, false, List, length, codes}
 use Rattle.std.specs.Prelude.{slice_index_or, map}
 use Rattle.std.specs.Fmt.{decimal}
-use Rattle.aq_base.specs.declared.store.StoreRefusal.TheVariants as store
-use Rattle.aq_base.specs.Output.{Output}
-use Rattle.aq_base.specs.Output as output
-use Rattle.aqfp_top.specs.Printed.{PrintsFirst}
-use Rattle.aq_base.specs.Store.{Contents}
 use Rattle.circuit.specs.SameAnswers.{SameAnswers}
 use Rattle.blif_read.specs.Parts.{NetView}
 use Rattle.blif_read.specs.Netlist.{IsNetlist}
@@ -22,9 +17,9 @@ use Rattle.decide.specs.Verdicts.{Before}
 use Rattle.decide.specs.declared.verdict.Verdict.{Verdict}
 use Rattle.decide.specs.declared.verdict.Verdict.TheVariants.{Equal, LeastDifference, SomeDifference}
 use Rattle.text_answers.specs.WordLines.{digit_of, word_line}
-use Rattle.aqfp_top.specs.Checks.{ToldTexts, MakesCircuit}
+use Rattle.aqfp_top.specs.Checks.{MakesCircuit}
 use Rattle.aqfp_top.specs.declared.fault.Fault.{Fault}
-use Rattle.aqfp_top.specs.declared.fault.Fault.TheVariants.{WriteFault, Widths, Memory}
+use Rattle.aqfp_top.specs.declared.fault.Fault.TheVariants.{Widths}
 
 -- the texts of a layout and of a library make this circuit, and that of a netlist says these equations
 pub record MakesBoth (gds lib net : List ℕ) (circuit : CircuitView) (view : NetView) : Type 0 where
@@ -117,22 +112,3 @@ pub record HasVerdict (gds lib net : List ℕ) (verdict : Verdict) : Type 0 wher
   pub circuit_keeps : KeepsFacts circuit
   pub net_keeps : IsNetlist view
   pub holds : IsTrueOf circuit view verdict
-
--- the line of a true verdict was printed so far
-pub record IsToldOf (contents : Option Contents) (words : List (List ℕ)) (Printed : List ℕ → Type 0) : Type 0 where
-  pub gds : List ℕ
-  pub lib : List ℕ
-  pub net : List ℕ
-  pub held : ToldTexts contents words gds lib net
-  pub verdict : Verdict
-  pub found : HasVerdict gds lib net verdict
-  pub printed : Printed (verdict_text verdict)
-
--- what `out` gains: the whole line, or some first bytes of it where the fault is its own or want of memory
-abbrev pub EqualPrints : Option Contents → List (List ℕ) → Output → Output → Option Fault → Type 0
-EqualPrints contents words before after None = IsToldOf contents words (λ text. after ≡ output.printed text before)
-EqualPrints contents words before after (Some (WriteFault call)) = IsToldOf contents words
-    (PrintsFirst store.Failed before after)
-EqualPrints contents words before after (Some Memory) = (after ≡ before)
-    ⊎ IsToldOf contents words (PrintsFirst store.Memory before after)
-EqualPrints contents words before after (Some fault) = after ≡ before

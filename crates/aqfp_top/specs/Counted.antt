@@ -32,13 +32,6 @@ HasFaults before after (Some (WriteFault Close)) = before.closes < after.closes
 HasFaults before after (Some (WriteFault Out)) = before.outs < after.outs
 HasFaults before after _ = Unit {0}
 
--- no fault rose
-pub record NoFaults (before after : Counts) : Type 0 where
-  pub reads : ¬ (before.reads < after.reads)
-  pub writes : ¬ (before.writes < after.writes)
-  pub closes : ¬ (before.closes < after.closes)
-  pub outs : ¬ (before.outs < after.outs)
-
 -- a failed load was of the name at the fault's place
 abbrev pub FailedLoad : Option (List ℕ) → List (List ℕ) → Option Fault → Type 0
 FailedLoad load_failed words (Some (ReadFault place)) = load_failed ≡ Some (word_at words place)

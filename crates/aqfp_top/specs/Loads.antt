@@ -1,7 +1,5 @@
 -- The files that the commands load: the places of their names among the words, and how many bytes they may have.
-use Rattle.std.specs.Prelude.{ℕ, ◌≡◌, ◌⊎◌, ◌<◌, List, [], ◌∷◌, Option, Some, None}
-use Rattle.aq_base.specs.Store.{Contents}
-use Rattle.aqfp_top.specs.Words.{word_at}
+use Rattle.std.specs.Prelude.{ℕ, ◌≡◌, ◌⊎◌, ◌<◌, List, [], ◌∷◌}
 
 -- a file to load: the place of its name among the words, counted from 0, and the most bytes that it may have
 pub record Load : Type 0 where
@@ -63,8 +61,3 @@ IsLoaded (load ∷ loads) place = (place ≡ load.place) ⊎ IsLoaded loads plac
 abbrev pub IsPast : List Load → ℕ → ℕ → Type 0
 IsPast [] place taken = ⊥
 IsPast (load ∷ loads) place taken = ((place ≡ load.place) × (load.limit < taken)) ⊎ IsPast loads place taken
-
--- these are the bytes of the first file and of LIB, where the store is told
-abbrev pub ToldTwo : Option Contents → List (List ℕ) → List ℕ → List ℕ → Type 0
-ToldTwo (Some files) words first lib = (files (word_at words 1) ≡ Some first) × (files (word_at words 2) ≡ Some lib)
-ToldTwo None words first lib = Unit {0}

@@ -1,10 +1,6 @@
 -- What a sample prints: the counts of the chip of its adder with library A, and the adder's answers to eight words.
-use Rattle.std.specs.Prelude.{ℕ, ◌≡◌, ◌⊎◌, Bool, List, length, Option, Some, None}
+use Rattle.std.specs.Prelude.{ℕ, Bool, List, length}
 use Rattle.std.specs.List.{AllZip}
-use Rattle.aq_base.specs.declared.store.StoreRefusal.TheVariants as store
-use Rattle.aq_base.specs.Output.{Output}
-use Rattle.aq_base.specs.Output as output
-use Rattle.aqfp_top.specs.Printed.{PrintsFirst}
 use Rattle.blif_read.specs.Parts.{NetView}
 use Rattle.blif_read.specs.Says as netlist
 use Rattle.blif_read.specs.Equations.{IsAnswer}
@@ -16,8 +12,6 @@ use Rattle.sample_adder.specs.Adder.{adder}
 use Rattle.sample_adder.specs.EightWords.{eight}
 use Rattle.sample_adder.specs.SampleText.{sample_text}
 use Rattle.aqfp_top.specs.Designs.{KeepsLimits}
-use Rattle.aqfp_top.specs.declared.fault.Fault.{Fault}
-use Rattle.aqfp_top.specs.declared.fault.Fault.TheVariants.{WriteFault, Memory}
 
 -- the text of a sample with this chip and these answers
 abbrev pub text_of : ℕ → PlacedView → List (List Bool) → List ℕ
@@ -33,10 +27,3 @@ pub record IsSampled (bits : ℕ) (Printed : List ℕ → Type 0) : Type 0 where
   pub answers : List (List Bool)
   pub are_answers : AllZip (IsAnswer equations) (eight bits) answers
   pub printed : Printed (text_of bits (chip_of library_a_view equations) answers)
-
--- what `out` gains: the whole text, or some first bytes of it where the fault is its own or want of memory
-abbrev pub SamplePrints : ℕ → Output → Output → Option Fault → Type 0
-SamplePrints bits before after None = IsSampled bits (λ text. after ≡ output.printed text before)
-SamplePrints bits before after (Some (WriteFault call)) = IsSampled bits (PrintsFirst store.Failed before after)
-SamplePrints bits before after (Some Memory) = (after ≡ before) ⊎ IsSampled bits (PrintsFirst store.Memory before after)
-SamplePrints bits before after (Some fault) = after ≡ before

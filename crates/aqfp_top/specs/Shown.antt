@@ -1,8 +1,7 @@
 -- What `shapes` prints of the text of a layout: the shapes or labels of two numbers.
-use Rattle.std.specs.Prelude.{ℕ, ◌≡◌, ◌<◌, ◌≤◌, ◌⊎◌, List, ◌∷◌, ◌++◌, Option, Some, None}
+use Rattle.std.specs.Prelude.{ℕ, ◌≡◌, ◌<◌, ◌≤◌, ◌⊎◌, List, ◌∷◌, ◌++◌}
 use Rattle.aq_base.specs.Output.{Output}
 use Rattle.aq_base.specs.Output as output
-use Rattle.aq_base.specs.Store.{Contents}
 use Rattle.aq_base.specs.History.{Event, Loaded}
 use Rattle.geom.specs.declared.shapes.Flat.{Flat}
 use Rattle.geom.specs.FlatForm.{flat_count}
@@ -42,27 +41,6 @@ pub record AreShapes (gds : List ℕ) (first second : ℕ) (text : List ℕ) : T
   pub layout : WideLayout
   pub read : IsLayoutOf gds layout
   pub lines : HasLines (wide_flat layout) first second text
-
--- these are the bytes of GDS, where the store is told
-abbrev pub ToldLayout : Option Contents → List (List ℕ) → List ℕ → Type 0
-ToldLayout (Some files) words gds = files (word_at words 1) ≡ Some gds
-ToldLayout None words gds = Unit {0}
-
--- the text has the lines of the shapes or labels of the layout under GDS, where the store is told
-pub record IsShownOf (contents : Option Contents) (words : List (List ℕ)) (first second : ℕ) (text : List ℕ)
-    : Type 0 where
-  pub gds : List ℕ
-  pub held : ToldLayout contents words gds
-  pub shapes : AreShapes gds first second text
-
--- what a `shapes` that ends well has printed: the two lines, of the bytes under GDS
-pub record ShowsShapes (held : Contents) (words : List (List ℕ)) (first second : ℕ) (before after : Output)
-    : Type 0 where
-  pub gds : List ℕ
-  pub gds_held : held (word_at words 1) ≡ Some gds
-  pub text : List ℕ
-  pub shapes : AreShapes gds first second text
-  pub printed : after ≡ output.printed text before
 
 -- what any store hears of it: GDS gave these bytes, and nothing else was asked or given
 pub record HearsShapes (history history' : List Event) (words : List (List ℕ)) (first second : ℕ)

@@ -1,7 +1,6 @@
 -- The stages of the work of a command, which fault each finds, and which answer is due after them.
-use Rattle.std.specs.Prelude.{ℕ, ◌≡◌, ◌⊎◌, ◌<◌, List, [], ◌∷◌, length, Option, Some, None, IsSomeAnd}
+use Rattle.std.specs.Prelude.{ℕ, ◌⊎◌, List, [], ◌∷◌, Option, Some, None}
 use Rattle.cell_library.specs.Library.{LibraryView}
-use Rattle.aqfp_top.specs.Loads.{Load}
 use Rattle.aqfp_top.specs.Designs.{HasNetlist, HasDesign, IsNetlistFault, IsPlainFault, IsCellsFault}
 use Rattle.aqfp_top.specs.Designs.{IsPlanFault, PlanFinds, PlanGivesUp}
 use Rattle.aqfp_top.specs.Checks.{IsStreamFault, IsSizeFault, IsRuleFault, IsWordsFault}
@@ -11,17 +10,15 @@ use Rattle.aqfp_top.specs.declared.planner.Planner.{Planner}
 use Rattle.aqfp_top.specs.declared.fault.Large.{Large}
 use Rattle.aqfp_top.specs.declared.fault.Large.TheVariants.{Functions}
 use Rattle.aqfp_top.specs.declared.fault.Fault.{Fault}
-use Rattle.aqfp_top.specs.declared.fault.Fault.TheVariants.{Usage, Absent, TooLong, ReadFault, WriteFault, TooLarge}
+use Rattle.aqfp_top.specs.declared.fault.Fault.TheVariants.{Usage, ReadFault, WriteFault, TooLarge}
 use Rattle.aqfp_top.specs.declared.fault.Fault.TheVariants.{Memory}
 
--- A stage, and what it judges: the words, which have no form; a file, if there is one under its name; or texts, which
--- are the bytes of files. A sample has a text of one model without calls, and plans with a library that is known. A
+-- A stage, and what it judges: the words, which have no form; or texts, which are the bytes of files. A sample has a text of one model without calls, and plans with a library that is known. A
 -- comparison finds no fault, and may give up; nor does the search for a compact chip, which may give up where the
 -- defined plan passes a limit. The search for the order of a netlist's own cells finds that it is none of cells, and
 -- may give up where the plain order passes a limit.
 pub data Stage : Type 0 where
   Form : Stage
-  Loading : (load : Load) (file : Option (List ℕ)) → Stage
   Netlist : (net : List ℕ) → Stage
   Plain : (net : List ℕ) → Stage
   Cells : (lib : List ℕ) → Stage
@@ -40,17 +37,9 @@ abbrev pub IsFormFault : Fault → Type 0
 IsFormFault Usage = Unit {0}
 IsFormFault _ = ⊥
 
--- the file is absent; or it is longer than its limit, of which more bytes were seen
-abbrev pub IsLoadFault : Load → Option (List ℕ) → Fault → Type 0
-IsLoadFault load file (Absent place) = (place ≡ load.place) × (file ≡ None)
-IsLoadFault load file (TooLong place taken) =
-    (place ≡ load.place) × IsSomeAnd file (λ bytes. load.limit < length bytes) × (load.limit < taken)
-IsLoadFault load file _ = ⊥
-
 -- the stage finds this fault
 abbrev pub Finds : Stage → Fault → Type 0
 Finds Form fault = IsFormFault fault
-Finds (Loading load file) fault = IsLoadFault load file fault
 Finds (Netlist net) fault = IsNetlistFault net fault
 Finds (Plain net) fault = IsPlainFault net fault
 Finds (Cells lib) fault = IsCellsFault lib fault
@@ -75,16 +64,6 @@ IsFirst [] (Some fault) = ⊥
 IsFirst (stage ∷ stages) None = FindsNone stage × IsFirst stages None
 IsFirst (stage ∷ stages) (Some fault) = Finds stage fault ⊎ (FindsNone stage × IsFirst stages (Some fault))
 
--- the stage loads the file that the word at a place names
-abbrev pub LoadsAt : Stage → ℕ → Type 0
-LoadsAt (Loading load file) place = place ≡ load.place
-LoadsAt _ place = ⊥
-
--- the work comes to that load: no stage before it finds a fault
-abbrev pub IsReached : List Stage → ℕ → Type 0
-IsReached [] place = ⊥
-IsReached (stage ∷ stages) place = LoadsAt stage place ⊎ (FindsNone stage × IsReached stages place)
-
 -- the stage gives up for a size: it is a comparison of two circuits with more subfunctions than are compared, or the
 -- search for a chip where the one that is made without it passes this limit first
 abbrev pub GivesUp : Stage → Large → ℕ → Type 0
@@ -98,11 +77,11 @@ abbrev pub SomeGivesUp : List Stage → Large → ℕ → Type 0
 SomeGivesUp [] what count = ⊥
 SomeGivesUp (stage ∷ stages) what count = GivesUp stage what count ⊎ SomeGivesUp stages what count
 
--- What the stages may answer: what is due; or want of memory; a failed load that the work comes to; or, where nothing
--- is due, a refused write, or the size for which a stage gives up.
+-- What the stages may answer: what is due; or want of memory; or, where nothing is due, a refused write, or the size for
+-- which a stage gives up.
 abbrev pub Answers : List Stage → Option Fault → Type 0
 Answers stages (Some Memory) = Unit {0}
-Answers stages (Some (ReadFault place)) = IsReached stages place
+Answers stages (Some (ReadFault place)) = ⊥
 Answers stages (Some (WriteFault call)) = IsFirst stages None
 Answers stages (Some (TooLarge what count)) =
     IsFirst stages (Some (TooLarge what count)) ⊎ (IsFirst stages None × SomeGivesUp stages what count)

@@ -4,12 +4,10 @@ ghost use Rattle.std.specs.Result.{result_err};
 ghost use Rattle.text_answers.specs.WordsText.{words_of, SaysWords};
 ghost use Rattle.aqfp_top.specs.Words.{spelled};
 ghost use Rattle.aqfp_top.specs.Stages.{IsFirst, Answers};
-ghost use Rattle.aqfp_top.specs.Due.{check_stages, circuit_stages, judging_stages};
+ghost use Rattle.aqfp_top.specs.Due.{circuit_stages, judging_stages};
 ghost use Rattle.aqfp_top.specs.Faults.{IsCheckFault};
-ghost use Rattle.aqfp_top.specs.Checks.{MakesCircuit, CheckPrints, text_of};
-ghost use Rattle.aqfp_top.specs.Code.Staging.{ToldAnswers};
+ghost use Rattle.aqfp_top.specs.Checks.{MakesCircuit, text_of};
 ghost use Rattle.aqfp_top.specs.Code.Printing.{PrintsText};
-ghost use Rattle.aqfp_top.specs.Code.Standing.{standing};
 ghost use Rattle.aqfp_top.specs.Code.Checking.{IsJudgingFault};
 ghost use Rattle.aqfp_top.specs.Runs.{RunsAs};
 ghost use Rattle.aqfp_top.specs.Code.Running.{checking};
@@ -80,13 +78,10 @@ pub fn check<F: Files, O: Sink>(
     out: &mut O,
 ) -> Result<(), Fault>
     requires { length words.now ≡ 4 }
-    ensures answer { ToldAnswers check_stages (F.outside files.old).contents (spelled words.now) (result_err result) }
-    ensures prints { CheckPrints printing (F.outside files.old).contents (spelled words.now) (O.output out.old)
-        (O.output out.new) (result_err result) }
     ensures runs { RunsAs (checking printing) (F.outside files.old).history (F.outside files.new).history
         (spelled words.now) (O.output out.old) (O.output out.new) (result_err result) }
     ensures only { IfErr result IsCheckFault }
-    ensures kept { standing (F.outside files.new) ≡ standing (F.outside files.old) }
+    ensures kept { (F.outside files.new).opened ≡ (F.outside files.old).opened }
 {
     let texts = load_texts(alloc, files, words)?;
     let circuit = read_circuit(alloc, texts.gds, &texts.lib)?;

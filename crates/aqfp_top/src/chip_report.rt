@@ -5,14 +5,12 @@ ghost use Rattle.shape_extract.specs.CellPlaces.{AreCellPlaces};
 ghost use Rattle.text_report.specs.ReportText.{report_text};
 ghost use Rattle.aqfp_top.specs.Words.{spelled};
 ghost use Rattle.aqfp_top.specs.Stages.{Answers};
-ghost use Rattle.aqfp_top.specs.Due.{circuit_stages, write_stages};
+ghost use Rattle.aqfp_top.specs.Due.{circuit_stages};
 ghost use Rattle.aqfp_top.specs.Faults.{IsReportFault};
 ghost use Rattle.aqfp_top.specs.Loads.{gds_limit};
 ghost use Rattle.aqfp_top.specs.Printed.{TextPrints};
-ghost use Rattle.aqfp_top.specs.Reported.{IsReport, IsReportOf};
-ghost use Rattle.aqfp_top.specs.Code.Staging.{ToldAnswers};
+ghost use Rattle.aqfp_top.specs.Reported.{IsReport};
 ghost use Rattle.aqfp_top.specs.Code.Printing.{PrintsText};
-ghost use Rattle.aqfp_top.specs.Code.Standing.{standing};
 ghost use Rattle.aqfp_top.specs.Code.Checking.{KeepsAll};
 ghost use Rattle.aqfp_top.specs.Code.Reporting.{IsPrintingFault};
 ghost use Rattle.cell_library.specs.Library.{limits_of};
@@ -74,13 +72,10 @@ pub fn report<F: Files, O: Sink>(
     out: &mut O,
 ) -> Result<(), Fault>
     requires { length words.now ≡ 3 }
-    ensures answer { ToldAnswers write_stages (F.outside files.old).contents (spelled words.now) (result_err result) }
-    ensures prints { TextPrints (IsReportOf (F.outside files.old).contents (spelled words.now)) (O.output out.old)
-        (O.output out.new) (result_err result) }
     ensures runs { RunsAs Form.Report (F.outside files.old).history (F.outside files.new).history
         (spelled words.now) (O.output out.old) (O.output out.new) (result_err result) }
     ensures only { IfErr result IsReportFault }
-    ensures kept { standing (F.outside files.new) ≡ standing (F.outside files.old) }
+    ensures kept { (F.outside files.new).opened ≡ (F.outside files.old).opened }
 {
     let texts = load_two(alloc, files, words, GDS_LIMIT)?;
     report_texts(alloc, texts.first, &texts.lib, out)

@@ -26,12 +26,13 @@ mod run;
 mod sample;
 mod shapes;
 mod store;
+mod told;
 mod words;
 mod write;
 
 pub use accepted::{
-    each_layout_is_checked, each_netlist_is_written, each_pair_is_compared, each_report_is_printed,
-    each_sample_is_made, each_shape_is_shown,
+    each_layout_is_checked, each_netlist_is_written, each_pair_is_compared, each_sample_is_made,
+    each_shape_is_shown,
 };
 pub use due::{each_design_is_built, one_answer_is_due};
 pub use fault::{Fault, Large, WriteCall};
@@ -41,3 +42,4 @@ pub use joined::built_is_verified;
 pub use planned::chip_is_planned;
 pub use planner::Planner;
 pub use run::{Ending, aqfp_run};
+pub use told::told_runs_are_heard;

@@ -1,28 +1,18 @@
 // The top call.
-ghost use Rattle.std.specs.Prelude.{◌≡◌, ℕ, Some, None, IfSome, IfOk, IfErr};
+ghost use Rattle.std.specs.Prelude.{◌≡◌, ℕ, Some, None, IfSome, IfErr};
 ghost use Rattle.std.specs.Result.{result_err};
-ghost use Rattle.aq_base.specs.Store.{Contents};
 ghost use Rattle.aqfp_top.specs.Words.{spelled, IsMakeBy, IsVerify, IsTrace, IsEqual, IsWrite, IsReport, IsShapesOf};
 ghost use Rattle.aqfp_top.specs.Words.{IsSampleOf, HasForm};
 ghost use Rattle.aqfp_top.specs.Statuses.{status_of};
 ghost use Rattle.aqfp_top.specs.Lines.{Reports, IsCutShort};
-ghost use Rattle.aqfp_top.specs.Due.{MayAnswer};
 ghost use Rattle.aqfp_top.specs.Faults.{RunsOnly};
-ghost use Rattle.aqfp_top.specs.Build.{IsBuilt, IsDone};
-ghost use Rattle.aqfp_top.specs.Chips.{BuildsChip};
 ghost use Rattle.aqfp_top.specs.Histories.{BuiltHistory, HearsChip, HearsNetlist, HearsAnswers, HearsFluxes};
 ghost use Rattle.aqfp_top.specs.Histories.{HearsVerdict};
 ghost use Rattle.aqfp_top.specs.SampleHistories.{HearsSample};
 ghost use Rattle.aqfp_top.specs.Runs.{HearsRun};
 ghost use Rattle.aqfp_top.specs.declared.planner.Planner.{Planner};
-ghost use Rattle.aqfp_top.specs.Verified.{VerifiesChip, TracesChip};
-ghost use Rattle.aqfp_top.specs.Compared.{ComparesChip};
-ghost use Rattle.aqfp_top.specs.Writing.{IsRead, IsWritten};
-ghost use Rattle.aqfp_top.specs.WrittenNetlist.{WritesNetlist};
-ghost use Rattle.aqfp_top.specs.Reported.{ReportsChip, HearsReport};
-ghost use Rattle.aqfp_top.specs.Shown.{ShowsShapes, HearsShapes};
-ghost use Rattle.aqfp_top.specs.Run.{RunStands, RunPrints};
-ghost use Rattle.aqfp_top.specs.Code.Staging.{ToldMayAnswer};
+ghost use Rattle.aqfp_top.specs.Reported.{HearsReport};
+ghost use Rattle.aqfp_top.specs.Shown.{HearsShapes};
 ghost use Rattle.aqfp_top.specs.declared.fault.Fault.{Fault};
 
 use crate::build::build;
@@ -58,20 +48,7 @@ fn work<F: Files, O: Sink>(
     out: &mut O,
 ) -> Result<(), Fault>
     requires { (F.outside files.old).opened ≡ None }
-    ensures answer { ToldMayAnswer (F.outside files.old).contents (spelled words.now) (result_err result) }
     ensures usage { ¬ HasForm (spelled words.now) → result_err result ≡ Some Fault.Usage }
-    ensures stands { RunStands (F.outside files.old).contents (F.outside files.new).contents
-        (spelled words.now) (result_err result) }
-    ensures prints { RunPrints (F.outside files.old).contents (spelled words.now) (O.output out.old)
-        (O.output out.new) (result_err result) }
-    ensures done { IfOk result (λ _. (planner : Planner) → IsMakeBy planner (spelled words.now)
-        → IsBuilt planner (F.outside files.old).contents (spelled words.now)
-        (IsDone (F.outside files.old).contents (F.outside files.new).contents (spelled words.now)
-        (O.output out.old) (O.output out.new))) }
-    ensures written { IfOk result (λ _. IsWrite (spelled words.now)
-        → IsRead (F.outside files.old).contents (spelled words.now)
-        (IsWritten (F.outside files.old).contents (F.outside files.new).contents (spelled words.now)
-        (O.output out.old) (O.output out.new))) }
     ensures runs { HearsRun (F.outside files.old).history (F.outside files.new).history (spelled words.now)
         (O.output out.old) (O.output out.new) (result_err result) }
     ensures only { IfErr result (RunsOnly (spelled words.now)) }
@@ -91,7 +68,6 @@ fn work<F: Files, O: Sink>(
 }
 
 /// Does what the words of a command line say.
-#[tactic(auto, using(crate::proofs::Runs::told_due))]
 pub fn aqfp_run<F: Files, O: Sink, E: Sink>(
     alloc: Global,
     words: &[String],
@@ -103,30 +79,19 @@ pub fn aqfp_run<F: Files, O: Sink, E: Sink>(
 
     ensures status { result.status ≡ status_of result.fault }
 
-    // What any store hears, the system's files too, and what `out` gains. The files of the words' form are loaded; the
+    // What the store hears, the system's files too, and what `out` gains. The files of the words' form are loaded; the
     // answer says why a load was refused, or it is what the stages of the texts may answer that the loads gave, and
     // what is due of these was stored and printed as far as it says. How often a call failed follows
-    // (`faults_are_heard`).
+    // (`faults_are_heard`), and what stands in a store that tells its files (`told_is_heard`).
     ensures runs { HearsRun (F.outside files.old).history (F.outside files.new).history (spelled words.now)
         (O.output out.old) (O.output out.new) result.fault }
 
-    // The answer is what is due over the files of a store that tells, of which there is one (`one_answer_is_due`), or
-    // want of memory, or a failed load, write or close: a load that the work comes to, a write or close where nothing
-    // is due.
-    ensures due { (held : Contents) → (F.outside files.old).contents ≡ Some held
-        → MayAnswer held (spelled words.now) result.fault }
-
-    // Which faults a command may answer, whatever the store tells; the usage where there is none.
+    // Which faults a command may answer; the usage where there is none.
     ensures only { IfSome result.fault (RunsOnly (spelled words.now)) }
     ensures usage { ¬ HasForm (spelled words.now) → result.fault ≡ Some Fault.Usage }
 
-    // What a command that makes a chip has made where it ends well: a chip of its netlist, which answers by every clock
-    // whose windows keep clear.
-    ensures chip { (held : Contents) (planner : Planner) → (F.outside files.old).contents ≡ Some held
-        → IsMakeBy planner (spelled words.now) → result.fault ≡ None
-        → BuildsChip held (F.outside files.new).contents (spelled words.now) (O.output out.old) (O.output out.new) }
-
-    // The same of any store, the system's files too: what NET and LIB gave, and what OUT took.
+    // What a command that makes a chip has made where it ends well, of what NET and LIB gave: OUT took a chip of the
+    // netlist, which answers by every clock whose windows keep clear.
     ensures hears { (planner : Planner) → IsMakeBy planner (spelled words.now) → result.fault ≡ None
         → HearsChip (F.outside files.old).history (F.outside files.new).history (spelled words.now) (O.output out.old)
         (O.output out.new) }
@@ -137,16 +102,8 @@ pub fn aqfp_run<F: Files, O: Sink, E: Sink>(
         → BuiltHistory planner (F.outside files.old).history (F.outside files.new).history (spelled words.now)
         (O.output out.old) (O.output out.new) }
 
-    // What a check that ends well has shown: the answers to the words, whatever the order of switching and by every
-    // clock whose windows keep clear, or the fluxes.
-    ensures verified { (held : Contents) → (F.outside files.old).contents ≡ Some held
-        → IsVerify (spelled words.now) → result.fault ≡ None
-        → VerifiesChip held (spelled words.now) (O.output out.old) (O.output out.new) }
-    ensures traced { (held : Contents) → (F.outside files.old).contents ≡ Some held
-        → IsTrace (spelled words.now) → result.fault ≡ None
-        → TracesChip held (spelled words.now) (O.output out.old) (O.output out.new) }
-
-    // The same of any store: what GDS, LIB and WORDS gave.
+    // What a check that ends well has shown of what GDS, LIB and WORDS gave: the answers to the words, whatever the
+    // order of switching and by every clock whose windows keep clear, or the fluxes.
     ensures hears_answers { IsVerify (spelled words.now) → result.fault ≡ None
         → HearsAnswers (F.outside files.old).history (F.outside files.new).history (spelled words.now)
         (O.output out.old)
@@ -155,23 +112,15 @@ pub fn aqfp_run<F: Files, O: Sink, E: Sink>(
         → HearsFluxes (F.outside files.old).history (F.outside files.new).history (spelled words.now) (O.output out.old)
         (O.output out.new) }
 
-    // What a comparison that ends well has shown: that chip and netlist answer every word alike, or where first not.
-    ensures compared { (held : Contents) → (F.outside files.old).contents ≡ Some held
-        → IsEqual (spelled words.now) → result.fault ≡ None
-        → ComparesChip held (spelled words.now) (O.output out.old) (O.output out.new) }
-
-    // The same of any store: what GDS, LIB and NET gave.
+    // What a comparison that ends well has shown of what GDS, LIB and NET gave: that chip and netlist answer every word
+    // alike, or where first not.
     ensures hears_verdict { IsEqual (spelled words.now) → result.fault ≡ None
         → HearsVerdict (F.outside files.old).history (F.outside files.new).history (spelled words.now)
         (O.output out.old)
         (O.output out.new) }
 
-    // What a `netlist` that ends well has stored: the chip's circuit as a netlist that answers every word as it does.
-    ensures written { (held : Contents) → (F.outside files.old).contents ≡ Some held
-        → IsWrite (spelled words.now) → result.fault ≡ None
-        → WritesNetlist held (F.outside files.new).contents (spelled words.now) (O.output out.old) (O.output out.new) }
-
-    // The same of any store, the system's files too: what GDS and LIB gave, and what OUT took.
+    // What a `netlist` that ends well has stored of what GDS and LIB gave: the chip's circuit, as a netlist that answers
+    // every word as it does.
     ensures hears_netlist { IsWrite (spelled words.now) → result.fault ≡ None
         → HearsNetlist (F.outside files.old).history (F.outside files.new).history (spelled words.now)
         (O.output out.old)
@@ -183,26 +132,16 @@ pub fn aqfp_run<F: Files, O: Sink, E: Sink>(
         (O.output out.new) }
 
     // What a `report` that ends well has printed: the counts of the chip, its cells by kind, its size and its wires.
-    ensures reported { (held : Contents) → (F.outside files.old).contents ≡ Some held
-        → IsReport (spelled words.now) → result.fault ≡ None
-        → ReportsChip held (spelled words.now) (O.output out.old) (O.output out.new) }
     ensures hears_report { IsReport (spelled words.now) → result.fault ≡ None
         → HearsReport (F.outside files.old).history (F.outside files.new).history (spelled words.now) (O.output out.old)
         (O.output out.new) }
 
     // What a `shapes` that ends well has printed: the lines of the shapes or labels of two numbers.
-    ensures shown { (held : Contents) (first second : ℕ) → (F.outside files.old).contents ≡ Some held
-        → IsShapesOf (spelled words.now) first second → result.fault ≡ None
-        → ShowsShapes held (spelled words.now) first second (O.output out.old) (O.output out.new) }
     ensures hears_shapes { (first second : ℕ) → IsShapesOf (spelled words.now) first second → result.fault ≡ None
         → HearsShapes (F.outside files.old).history (F.outside files.new).history (spelled words.now) first second
         (O.output out.old) (O.output out.new) }
 
     // What is left.
-    ensures stands { RunStands (F.outside files.old).contents (F.outside files.new).contents
-        (spelled words.now) result.fault }
-    ensures prints { RunPrints (F.outside files.old).contents (spelled words.now) (O.output out.old)
-        (O.output out.new) result.fault }
     ensures shut { (F.outside files.new).opened ≡ None }
     ensures reports { Reports IsCutShort (E.output err.old) (E.output err.new) (spelled words.now) result.fault }
 {

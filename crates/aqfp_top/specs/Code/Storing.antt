@@ -43,8 +43,7 @@ left_event (Err why) answer = Discarded
 
 -- and what was then seen
 abbrev pub left : Result (Unit {0}) StoreRefusal → Result (Unit {0}) StoreRefusal → Outside → Outside
-left written answer o =
-    record { contents = o.contents; history = left_event written answer ∷ o.history; opened = None }
+left written answer o = record { history = left_event written answer ∷ o.history; opened = None }
 
 -- the open file was left, after writing had been answered so
 pub record Closes (written : Result (Unit {0}) StoreRefusal) (o o' : Outside) (result : Result (Unit {0}) Fault)

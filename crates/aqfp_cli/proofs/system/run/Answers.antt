@@ -1,5 +1,5 @@
-use Rattle.std.proofs.Common.{◌≡◌, List, [], Some, subst}
-use Rattle.aq_base.specs.History.{Event, all_taken}
+use Rattle.std.proofs.Common.{◌≡◌, List, [], subst}
+use Rattle.aq_base.specs.History.{Event}
 use Rattle.aq_base.specs.StandardStore.{output_of, history_of}
 use Rattle.aqfp_top.specs.Words.{spelled}
 use Rattle.aqfp_top.specs.Lines.{Reports, IsCutShort}
@@ -14,7 +14,7 @@ returns-clause-shown g c first second is ends =
     let files = history_of c.aqfp_run-ending.new.files in
     let out = output_of c.aqfp_run-ending.new.out in
     subst (λ (h : List Event). HearsShapes [] files words first second
-    (record { written = Some (all_taken h); history = h }) out)
+    (record { history = h }) out)
     c.requires.quiet_out
     (subst (λ (h : List Event). HearsShapes h files words first second (output_of c.args.out) out) c.requires.untouched
     (c.aqfp_run-ending.ensures.hears_shapes first second is ends))
@@ -25,6 +25,6 @@ returns-clause-reports g c =
     let fault = c.aqfp_run-ending.result.fault in
     let err = c.aqfp_run-ending.new.err in
     reports_failures quiet (output_of err) words fault err.remembers
-    (subst (λ (h : List Event). Reports IsCutShort (record { written = Some (all_taken h); history = h })
+    (subst (λ (h : List Event). Reports IsCutShort (record { history = h })
     (output_of err) words fault)
     c.requires.quiet_err c.aqfp_run-ending.ensures.reports)

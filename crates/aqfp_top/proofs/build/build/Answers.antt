@@ -1,8 +1,9 @@
 use Rattle.std.proofs.Common.{refl}
 use Rattle.std.proofs.lemmas.Result.{err_from_is_err_and}
+use Rattle.text_answers.specs.Counts.{counts_text}
 use Rattle.aqfp_top.specs.Words.{spelled}
 use Rattle.aqfp_top.specs.declared.words.Form.TheVariants.{Make}
-use Rattle.aqfp_top.proofs.Steps.{build_answers, build_stands, build_prints, build_only, build_done}
+use Rattle.aqfp_top.proofs.Steps.{build_only}
 use Rattle.aqfp_top.proofs.Storing.{stores_shut}
 use Rattle.aqfp_top.proofs.Running.{store_runs, stored_runs}
 use Rattle.aqfp_top.proofs.build.build.Goals as goal
@@ -10,34 +11,11 @@ use Rattle.aqfp_top.proofs.build.build.Goals as goal
 pub returns-in_err-store-clause-shut : goal.returns-in_err-store-clause-shut
 returns-in_err-store-clause-shut g c = stores_shut _ _ _ _ _ c.in_err-store.ensures
 
-pub returns-clause-answer : goal.returns-clause-answer
-returns-clause-answer g c =
-    build_answers c.args.planner (g.F.Files.outside c.args.files.now).contents
-    (spelled c.args.words.now) _ _ _ c.put_counts.result c.in_ok-chip.ensures.well
-    c.put_counts.ensures
-
-pub returns-clause-stands : goal.returns-clause-stands
-returns-clause-stands g c =
-    build_stands c.args.planner (g.F.Files.outside c.args.files.now) (g.F.Files.outside c.make.new.files) _
-    (spelled c.args.words.now) _ c.in_ok-chip.chip _ _ _ _
-    c.put_counts.result c.in_ok-chip.ensures.made c.in_ok-chip.ensures.kept c.word.ensures c.in_ok-store.ensures
-    c.put_counts.ensures
-
-pub returns-clause-prints : goal.returns-clause-prints
-returns-clause-prints g c =
-    build_prints c.args.planner (g.F.Files.outside c.args.files.now).contents
-    (spelled c.args.words.now) c.in_ok-chip.chip _ _ c.put_counts.result
-    c.in_ok-chip.ensures.made c.put_counts.ensures
-
-pub returns-clause-done : goal.returns-clause-done
-returns-clause-done g c =
-    build_done c.args.planner (g.F.Files.outside c.args.files.now) (g.F.Files.outside c.make.new.files) _
-    (spelled c.args.words.now) _ c.in_ok-chip.chip _ _ _
-    c.put_counts.result c.in_ok-chip.ensures.made c.in_ok-chip.ensures.kept c.word.ensures c.in_ok-store.ensures
-    c.put_counts.ensures
-
 pub returns-clause-only : goal.returns-clause-only
-returns-clause-only g c = build_only c.args.planner _ _ _ c.put_counts.result c.put_counts.ensures
+returns-clause-only g c =
+    let counts = c.in_ok-chip.chip.counts in
+    build_only c.args.planner (counts_text counts.rows counts.cells counts.wires) (g.O.Sink.output c.args.out.now)
+    (g.O.Sink.output c.put_counts.new.out) c.put_counts.result c.put_counts.ensures
 
 pub returns-clause-shut : goal.returns-clause-shut
 returns-clause-shut g c = stores_shut _ _ _ _ _ c.in_ok-store.ensures

@@ -1,5 +1,6 @@
 use Rattle.std.proofs.lemmas.Result.{err_from_is_err_and}
 use Rattle.std.proofs.Common.{[], Err}
+use Rattle.text_report.specs.ReportText.{report_text}
 use Rattle.aqfp_top.specs.Due.{circuit_stages}
 use Rattle.aqfp_top.specs.declared.judge.JudgedChip.{JudgedChip}
 use Rattle.aqfp_top.proofs.OneStream.{one_layout}
@@ -70,7 +71,8 @@ returns-clause-answer g c =
     let p = c.cells_have_places.ensures.some c.in_ok-chip.chip.flat c.in_ok-chip.chip.circuit
     c.in_ok-chip.ensures.ok.keeps.extracts.circuit_is in
     out_answers (circuit_stages c.args.gds.items c.args.lib.now) c.print.result well
-    (text_only _ _ _ c.print.result (c.print.ensures p.0 p.1 p.2))
+    (text_only (report_text c.in_ok-chip.chip.flat c.in_ok-chip.chip.circuit p.0 p.1 c.in_ok-cells.cells.limit)
+    (g.O.Sink.output c.args.out.now) (g.O.Sink.output c.print.new.out) c.print.result (c.print.ensures p.0 p.1 p.2))
 
 pub returns-clause-prints : goal.returns-clause-prints
 returns-clause-prints g c =
@@ -87,4 +89,5 @@ pub returns-clause-only : goal.returns-clause-only
 returns-clause-only g c =
     let p = c.cells_have_places.ensures.some c.in_ok-chip.chip.flat c.in_ok-chip.chip.circuit
     c.in_ok-chip.ensures.ok.keeps.extracts.circuit_is in
-    out_printing _ _ _ c.print.result (c.print.ensures p.0 p.1 p.2)
+    out_printing (report_text c.in_ok-chip.chip.flat c.in_ok-chip.chip.circuit p.0 p.1 c.in_ok-cells.cells.limit)
+    (g.O.Sink.output c.args.out.now) (g.O.Sink.output c.print.new.out) c.print.result (c.print.ensures p.0 p.1 p.2)

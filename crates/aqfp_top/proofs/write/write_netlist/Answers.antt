@@ -1,7 +1,8 @@
 use Rattle.std.proofs.lemmas.Result.{err_from_is_err_and}
+use Rattle.text_answers.specs.Counts.{counts_text}
 use Rattle.aqfp_top.specs.Words.{spelled}
 use Rattle.aqfp_top.specs.declared.words.Form.TheVariants.{Write}
-use Rattle.aqfp_top.proofs.WriteSteps.{write_answers, write_stands, write_prints, write_only, write_done, same_counts}
+use Rattle.aqfp_top.proofs.WriteSteps.{write_only, same_counts}
 use Rattle.aqfp_top.proofs.Storing.{stores_shut}
 use Rattle.aqfp_top.proofs.Running.{store_runs, stored_runs}
 use Rattle.aqfp_top.proofs.write.write_netlist.Goals as goal
@@ -9,34 +10,11 @@ use Rattle.aqfp_top.proofs.write.write_netlist.Goals as goal
 pub returns-in_err-store_netlist-clause-shut : goal.returns-in_err-store_netlist-clause-shut
 returns-in_err-store_netlist-clause-shut g c = stores_shut _ _ _ _ _ c.in_err-store_netlist.ensures
 
-pub returns-clause-answer : goal.returns-clause-answer
-returns-clause-answer g c =
-    write_answers (g.F.Files.outside c.args.files.now).contents
-    (spelled c.args.words.now) _ _ _ c.put_counts.result c.in_ok-circuit.ensures.well
-    c.put_counts.ensures
-
-pub returns-clause-stands : goal.returns-clause-stands
-returns-clause-stands g c =
-    write_stands (g.F.Files.outside c.args.files.now) (g.F.Files.outside c.read_chip.new.files) _
-    (spelled c.args.words.now) _ c.in_ok-circuit.circuit _ _ _ _
-    c.put_counts.result c.in_ok-circuit.ensures.reads c.in_ok-circuit.ensures.kept c.word.ensures
-    c.in_ok-store_netlist.ensures c.put_counts.ensures
-
-pub returns-clause-prints : goal.returns-clause-prints
-returns-clause-prints g c =
-    write_prints (g.F.Files.outside c.args.files.now).contents
-    (spelled c.args.words.now) c.in_ok-circuit.circuit c.circuit_counts.result _ _ c.put_counts.result
-    c.in_ok-circuit.ensures.reads c.circuit_counts.ensures c.put_counts.ensures
-
-pub returns-clause-written : goal.returns-clause-written
-returns-clause-written g c =
-    write_done (g.F.Files.outside c.args.files.now) (g.F.Files.outside c.read_chip.new.files) _
-    (spelled c.args.words.now) _ c.in_ok-circuit.circuit
-    c.circuit_counts.result _ _ _ c.put_counts.result c.in_ok-circuit.ensures.reads c.circuit_counts.ensures
-    c.in_ok-circuit.ensures.kept c.word.ensures c.in_ok-store_netlist.ensures c.put_counts.ensures
-
 pub returns-clause-only : goal.returns-clause-only
-returns-clause-only g c = write_only _ _ _ c.put_counts.result c.put_counts.ensures
+returns-clause-only g c =
+    let counts = c.circuit_counts.result in
+    write_only (counts_text counts.rows counts.cells counts.wires) (g.O.Sink.output c.args.out.now)
+    (g.O.Sink.output c.put_counts.new.out) c.put_counts.result c.put_counts.ensures
 
 pub returns-clause-shut : goal.returns-clause-shut
 returns-clause-shut g c = stores_shut _ _ _ _ _ c.in_ok-store_netlist.ensures
