@@ -126,4 +126,5 @@ def main():
                 print(f"row {number} skew {each}")
 
 
-run(main)
+if __name__ == "__main__":
+    run(main)

@@ -18,6 +18,7 @@ may_least = may_draw_from_test third_placed least_library least_keeps (record {
   short = refl;
   narrow = refl;
   low = refl;
+  lag = refl;
   few_inputs = refl;
   few_outputs = refl;
 })
@@ -29,6 +30,7 @@ may_wide = may_draw_from_test first_placed wide_library wide_keeps (record {
   short = refl;
   narrow = refl;
   low = refl;
+  lag = refl;
   few_inputs = refl;
   few_outputs = refl;
 })

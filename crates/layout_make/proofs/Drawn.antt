@@ -1,5 +1,6 @@
 -- The tags of a placed net stand once, and keep wires and cells whole.
-use Rattle.std.proofs.Common.{◌≡◌, ◌≢◌, ℕ, ◌+◌, ◌<◌, refl, sym, ap, subst, ◌∙◌, arith, inl, inr, List, [], ◌∷◌, ◌++◌}
+use Rattle.std.proofs.Common.{◌≡◌, ◌≢◌, ℕ, zero, suc, ◌⊎◌, ◌-◌, ◌+◌, ◌<◌, refl, sym, ap, subst, ◌∙◌, arith, inl, inr}
+use Rattle.std.proofs.Common.{List, [], ◌∷◌, ◌++◌}
 use Rattle.std.proofs.Common.{length}
 use Rattle.std.specs.Prelude.{slice_get}
 use Rattle.std.specs.List.{flat_map}
@@ -14,7 +15,7 @@ use Rattle.layout_make.proofs.ReadyNets.{Packed, IsReady}
 use Rattle.rowed.specs.declared.wire.Wire.{Wire}
 use Rattle.sorting.specs.Numbers.{numbers}
 use Rattle.layout_make.specs.Channel.{channel}
-use Rattle.layout_make.specs.Tags.{spot_tags, wire_tags, line_tags, row_tags, tags}
+use Rattle.layout_make.specs.Tags.{spot_tags, wire_tags, line_tags, row_tags, lag_tags, tags}
 use Rattle.layout_make.specs.declared.marks.Ports.{Ports as Side}
 use Rattle.layout_make.specs.declared.marks.Ports.TheVariants.{Inputs, Outputs}
 use Rattle.layout_make.proofs.Sides.{pins_on, pin_column, pin_tag, side_tags, pin_told, no_pin}
@@ -24,7 +25,7 @@ use Rattle.layout_make.proofs.ChannelWires.{PinsApart, channel_pairs, from_tells
 use Rattle.layout_make.proofs.PinCounts.{slots_some}
 use Rattle.layout_make.proofs.Origins.{CellPart, TheFrame, APin, WirePart, TheRise, TheFall, TheAcross}
 use Rattle.layout_make.proofs.Origins.{TheFromVia, TheToVia, RowPart, OfCell, TheLead, TheBar, OfWire, cell_part}
-use Rattle.layout_make.proofs.Origins.{wire_part, row_part}
+use Rattle.layout_make.proofs.Origins.{wire_part, row_part, row_of_tag, lag_part}
 
 -- spots of one row in one slot are one
 spot_tells : (xs : List Spot) (x z : Spot) → Packed 0 xs → (a : In x xs) → (b : In z xs) → x.slot ≡ z.slot
@@ -42,8 +43,10 @@ row_of : Tag → ℕ
 row_of (Frame r slot k) = r
 row_of (InPin r c i) = r
 row_of (OutPin r c i) = r
-row_of (Lead r) = r
-row_of (Bar r) = r
+row_of (Lead zero) = 0
+row_of (Lead (suc r)) = r
+row_of (Bar zero) = 0
+row_of (Bar (suc r)) = r
 row_of (Rise r c) = r
 row_of (Fall r c) = r
 row_of (Across r c) = r
@@ -210,23 +213,64 @@ once_row p l is laws r =
     (wire_row r m.0.from_column t (wire_part r m.0 t m.2)).1) in
     once_append (flat_map (spot_tags l r) (spots p r)) (line_tags r ++ wires)
     (once_cells l laws r (spots p r) (is.given r) (is.packed r))
-    (once_cons (Lead r) (Bar r ∷ wires)
-    (λ h. elim (in_head (Lead r) (Bar r) wires h)
-    [ inl e ↦ absurd cc | inr k ↦ absurd (let a = wire_three (Lead r) k in let b = lead_part r in omega arith) ])
-    (once_cons (Bar r) wires (λ k. absurd (let a = wire_three (Bar r) k in let b = bar_part r in omega arith))
+    (once_cons (Lead (suc r)) (Bar (suc r) ∷ wires)
+    (λ h. elim (in_head (Lead (suc r)) (Bar (suc r)) wires h) [
+      | inl e ↦ absurd cc
+      | inr k ↦ absurd (let a = wire_three (Lead (suc r)) k in let b = lead_part (suc r) in omega arith)
+    ])
+    (once_cons (Bar (suc r)) wires
+    (λ k. absurd (let a = wire_three (Bar (suc r)) k in let b = bar_part (suc r) in omega arith))
     (once_wires p l is laws r)))
     (λ t h k.
     let m = in_flat_map (spot_tags l r) t (spots p r) h in
     let a : part_of t ≡ 0 = (cell_row l r m.0 t (cell_part l r m.0 t m.2)).1 in
-    elim (in_head t (Lead r) (Bar r ∷ wires) k) [
-      | inl e ↦ absurd (let b : part_of t ≡ 1 = ap part_of e ∙ lead_part r in omega arith)
-      | inr k ↦ elim (in_head t (Bar r) wires k) [
-        | inl e ↦ absurd (let b : part_of t ≡ 2 = ap part_of e ∙ bar_part r in omega arith)
+    elim (in_head t (Lead (suc r)) (Bar (suc r) ∷ wires) k) [
+      | inl e ↦ absurd (let b : part_of t ≡ 1 = ap part_of e ∙ lead_part (suc r) in omega arith)
+      | inr k ↦ elim (in_head t (Bar (suc r)) wires k) [
+        | inl e ↦ absurd (let b : part_of t ≡ 2 = ap part_of e ∙ bar_part (suc r) in omega arith)
         | inr k ↦ absurd (let b = wire_three t k in omega arith)
       ]
     ])
 
-pub once_tags : (p : PlacedView) (l : LibraryView) → IsReady p l → IsLawful l → Once (tags p l)
-once_tags p l is laws = once_flat_map (row_tags p l) (numbers 0 (length p.net.rows)) (once_count 0 (length p.net.rows))
+-- no row draws the delay's start and bar
+not_in_row : (p : PlacedView) (l : LibraryView) (r : ℕ) (t : Tag) → (t ≡ Lead 0) ⊎ (t ≡ Bar 0) → RowPart p l r t → ⊥
+not_in_row p l r t (inl z) (OfCell x h (TheFrame e)) =
+    absurd (let k : Lead 0 ≡ Frame r x.slot x.cell.kind = sym z ∙ e in
+    cc)
+not_in_row p l r t (inl z) (OfCell x h (APin Inputs i lt e)) =
+    absurd (let k : Lead 0 ≡ InPin r (pin_column l Inputs x i) i = sym z ∙ e in cc)
+not_in_row p l r t (inl z) (OfCell x h (APin Outputs i lt e)) =
+    absurd (let k : Lead 0 ≡ OutPin r (pin_column l Outputs x i) i = sym z ∙ e in cc)
+not_in_row p l r t (inl z) (TheLead e) = absurd (let k : Lead 0 ≡ Lead (suc r) = sym z ∙ e in cc)
+not_in_row p l r t (inl z) (TheBar e) = absurd (let k : Lead 0 ≡ Bar (suc r) = sym z ∙ e in cc)
+not_in_row p l r t (inl z) (OfWire w h part) = absurd (let k = (wire_row r w.from_column t part).1 in
+    let a : part_of t ≡ 1 = ap part_of z ∙ lead_part 0 in omega arith)
+not_in_row p l r t (inr z) (OfCell x h (TheFrame e)) = absurd (let k : Bar 0 ≡ Frame r x.slot x.cell.kind = sym z ∙ e in
+    cc)
+not_in_row p l r t (inr z) (OfCell x h (APin Inputs i lt e)) =
+    absurd (let k : Bar 0 ≡ InPin r (pin_column l Inputs x i) i = sym z ∙ e in cc)
+not_in_row p l r t (inr z) (OfCell x h (APin Outputs i lt e)) =
+    absurd (let k : Bar 0 ≡ OutPin r (pin_column l Outputs x i) i = sym z ∙ e in cc)
+not_in_row p l r t (inr z) (TheLead e) = absurd (let k : Bar 0 ≡ Lead (suc r) = sym z ∙ e in cc)
+not_in_row p l r t (inr z) (TheBar e) = absurd (let k : Bar 0 ≡ Bar (suc r) = sym z ∙ e in cc)
+not_in_row p l r t (inr z) (OfWire w h part) = absurd (let k = (wire_row r w.from_column t part).1 in
+    let a : part_of t ≡ 2 = ap part_of z ∙ bar_part 0 in omega arith)
+
+once_lag : (lag : ℕ) → Once (lag_tags lag)
+once_lag zero = once_nil
+once_lag (suc lag) = once_cons (Lead 0) (Bar 0 ∷ [])
+    (λ h. elim (in_head (Lead 0) (Bar 0) [] h) [ inl e ↦ absurd cc | inr k ↦ absurd (not_in_nil (Lead 0) k) ])
+    (once_cons (Bar 0) [] (λ h. absurd (not_in_nil (Bar 0) h)) once_nil)
+
+once_row_tags : (p : PlacedView) (l : LibraryView) → IsReady p l → IsLawful l
+    → Once (flat_map (row_tags p l) (numbers 0 (length p.net.rows)))
+once_row_tags p l is laws =
+    once_flat_map (row_tags p l) (numbers 0 (length p.net.rows)) (once_count 0 (length p.net.rows))
     (λ r h. once_row p l is laws r) (λ r q t hr hq a b. sym (row_row p l r t (row_part p l r t a))
     ∙ row_row p l q t (row_part p l q t b))
+
+pub once_tags : (p : PlacedView) (l : LibraryView) → IsReady p l → IsLawful l → Once (tags p l)
+once_tags p l is laws =
+    once_append (flat_map (row_tags p l) (numbers 0 (length p.net.rows))) (lag_tags p.lag)
+    (once_row_tags p l is laws) (once_lag p.lag)
+    (λ t h k. let m = row_of_tag p l t h in not_in_row p l m.0 t (lag_part p.lag t k).1 m.2)

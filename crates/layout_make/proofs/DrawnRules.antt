@@ -120,8 +120,8 @@ sized s laws (FromVia r c) fits = of_via (is_below s.library.via s.library.via (
     (sized_test s.library.via s.library.via (area s (FromVia r c)) (from_sized s laws r c))
 sized s laws (ToVia r c) fits = of_via (is_below s.library.via s.library.via (place_of s (ToVia r c)))
     (sized_test s.library.via s.library.via (area s (ToVia r c)) (to_sized s laws r c))
-sized s laws (Lead r) fits = of_line s.library (r % 2) (omega arith) (place_of s (Lead r))
-sized s laws (Bar r) fits = of_line s.library (r % 2) (omega arith) (place_of s (Bar r))
+sized s laws (Lead r) fits = of_line s.library (suc r % 2) (omega arith) (place_of s (Lead r))
+sized s laws (Bar r) fits = of_line s.library (suc r % 2) (omega arith) (place_of s (Bar r))
 
 -- the tag of a shape
 pub tag_of : (s : Sheet) (ts : List Tag) (i : ℕ) (a : Shape) → Is (shapes_of s ts) i a → (t : Tag) × At ts i t
@@ -156,8 +156,8 @@ pin_layers Outputs = omega arith
 
 pub frame_tag : (t : Tag) → layer_of t ≡ 20 → (r slot : ℕ) × (k : CellKind) × (t ≡ Frame r slot k)
 frame_tag (Frame r slot k) e = (r, slot, k, refl)
-frame_tag (Lead r) e = absurd (line_not r 20 e (λ x. omega arith) (λ x. omega arith))
-frame_tag (Bar r) e = absurd (line_not r 20 e (λ x. omega arith) (λ x. omega arith))
+frame_tag (Lead r) e = absurd (line_not (suc r) 20 e (λ x. omega arith) (λ x. omega arith))
+frame_tag (Bar r) e = absurd (line_not (suc r) 20 e (λ x. omega arith) (λ x. omega arith))
 frame_tag t e = absurd (omega arith)
 
 pub pin_of_layer : (side : Side) (t : Tag) → layer_of t ≡ layer_on side → (r c i : ℕ) × (t ≡ pin_tag side r c i)
@@ -165,30 +165,30 @@ pin_of_layer Inputs (InPin r c i) e = (r, c, i, refl)
 pin_of_layer Outputs (InPin r c i) e = absurd (omega arith)
 pin_of_layer Outputs (OutPin r c i) e = (r, c, i, refl)
 pin_of_layer Inputs (OutPin r c i) e = absurd (omega arith)
-pin_of_layer side (Lead r) e = absurd (let k = pin_layers side in line_not r (layer_on side) e (λ x. omega arith)
+pin_of_layer side (Lead r) e = absurd (let k = pin_layers side in line_not (suc r) (layer_on side) e (λ x. omega arith)
     (λ x. omega arith))
-pin_of_layer side (Bar r) e = absurd (let k = pin_layers side in line_not r (layer_on side) e (λ x. omega arith)
+pin_of_layer side (Bar r) e = absurd (let k = pin_layers side in line_not (suc r) (layer_on side) e (λ x. omega arith)
     (λ x. omega arith))
 pin_of_layer side t e = absurd (let k = pin_layers side in omega arith)
 
 pub via_tag : (t : Tag) → layer_of t ≡ 11 → (r c : ℕ) × ((t ≡ FromVia r c) ⊎ (t ≡ ToVia r c))
 via_tag (FromVia r c) e = (r, c, inl refl)
 via_tag (ToVia r c) e = (r, c, inr refl)
-via_tag (Lead r) e = absurd (line_not r 11 e (λ x. omega arith) (λ x. omega arith))
-via_tag (Bar r) e = absurd (line_not r 11 e (λ x. omega arith) (λ x. omega arith))
+via_tag (Lead r) e = absurd (line_not (suc r) 11 e (λ x. omega arith) (λ x. omega arith))
+via_tag (Bar r) e = absurd (line_not (suc r) 11 e (λ x. omega arith) (λ x. omega arith))
 via_tag t e = absurd (omega arith)
 
 pub across_tag : (t : Tag) → layer_of t ≡ 12 → (r c : ℕ) × (t ≡ Across r c)
 across_tag (Across r c) e = (r, c, refl)
-across_tag (Lead r) e = absurd (line_not r 12 e (λ x. omega arith) (λ x. omega arith))
-across_tag (Bar r) e = absurd (line_not r 12 e (λ x. omega arith) (λ x. omega arith))
+across_tag (Lead r) e = absurd (line_not (suc r) 12 e (λ x. omega arith) (λ x. omega arith))
+across_tag (Bar r) e = absurd (line_not (suc r) 12 e (λ x. omega arith) (λ x. omega arith))
 across_tag t e = absurd (omega arith)
 
 pub lower_tag : (t : Tag) → layer_of t ≡ 10 → (r c : ℕ) × ((t ≡ Rise r c) ⊎ (t ≡ Fall r c))
 lower_tag (Rise r c) e = (r, c, inl refl)
 lower_tag (Fall r c) e = (r, c, inr refl)
-lower_tag (Lead r) e = absurd (line_not r 10 e (λ x. omega arith) (λ x. omega arith))
-lower_tag (Bar r) e = absurd (line_not r 10 e (λ x. omega arith) (λ x. omega arith))
+lower_tag (Lead r) e = absurd (line_not (suc r) 10 e (λ x. omega arith) (λ x. omega arith))
+lower_tag (Bar r) e = absurd (line_not (suc r) 10 e (λ x. omega arith) (λ x. omega arith))
 lower_tag t e = absurd (omega arith)
 
 -- G3

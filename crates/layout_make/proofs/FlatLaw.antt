@@ -25,7 +25,7 @@ use Rattle.layout_make.proofs.Lawful.{IsLawful}
 use Rattle.layout_make.specs.Sheet.{Sheet, Tag, shape_of, lower_edge}
 use Rattle.layout_make.specs.Spots.{Spot, spots}
 use Rattle.layout_make.specs.Channel.{channel}
-use Rattle.layout_make.specs.Tags.{sheet, cell_tags, spot_tags, wire_tags, line_tags, row_tags, tags}
+use Rattle.layout_make.specs.Tags.{sheet, cell_tags, spot_tags, wire_tags, line_tags, row_tags, lag_tags, tags}
 use Rattle.layout_make.specs.Draw
 use Rattle.layout_make.proofs.Member.{In, in_head, not_in_nil}
 use Rattle.layout_make.proofs.Joins.{from_map, to_map}
@@ -202,12 +202,19 @@ pub flat_is_tags : (p : PlacedView) (l : LibraryView) → IsLawful l → (flat_o
 unfolding Draw.draw flat_of
 flat_is_tags p l laws =
     let rows = flat_map (Draw.row_elements p l) (numbers 0 (length p.net.rows)) in
+    let more = Draw.boxes (sheet p l) (lag_tags p.lag) in
     let ss = structures p l in
     ap (λ (es : List Element). flat_shapes ss es) (top_found (Draw.used_kinds p) l (Draw.top_of p l))
-    ∙ flat_append ss rows (map (λ b. Text b) (Draw.labels p l))
-    ∙ ap (λ (zs : List Shape). flat_shapes ss rows ++ zs) (texts_flat ss (Draw.labels p l))
-    ∙ append-nil (flat_shapes ss rows)
-    ∙ rows_flat p l laws (numbers 0 (length p.net.rows))
+    ∙ flat_append ss (rows ++ more) (map (λ b. Text b) (Draw.labels p l))
+    ∙ ap (λ (zs : List Shape). flat_shapes ss (rows ++ more) ++ zs) (texts_flat ss (Draw.labels p l))
+    ∙ append-nil (flat_shapes ss (rows ++ more))
+    ∙ flat_append ss rows more
+    ∙ ap (λ (zs : List Shape). zs ++ flat_shapes ss more) (rows_flat p l laws (numbers 0 (length p.net.rows)))
+    ∙ ap (λ (zs : List Shape). map (shape_of (sheet p l))
+    (flat_map (row_tags p l) (numbers 0 (length p.net.rows))) ++ zs)
+    (boxes_flat ss (sheet p l) (lag_tags p.lag))
+    ∙ sym (map-append (shape_of (sheet p l)) (flat_map (row_tags p l) (numbers 0 (length p.net.rows)))
+    (lag_tags p.lag))
 
 -- labels
 
@@ -252,9 +259,12 @@ pub labels_flat : (p : PlacedView) (l : LibraryView) → (flat_of (Draw.draw p l
 unfolding Draw.draw flat_of
 labels_flat p l =
     let rows = flat_map (Draw.row_elements p l) (numbers 0 (length p.net.rows)) in
+    let more = Draw.boxes (sheet p l) (lag_tags p.lag) in
     let ss = structures p l in
     ap (λ (es : List Element). flat_labels ss es) (top_found (Draw.used_kinds p) l (Draw.top_of p l))
-    ∙ labels_append ss rows (map (λ b. Text b) (Draw.labels p l))
+    ∙ labels_append ss (rows ++ more) (map (λ b. Text b) (Draw.labels p l))
     ∙ ap (λ (bs : List Label). bs ++ flat_labels ss (map (λ b. Text b) (Draw.labels p l)))
-    (no_rows p l (numbers 0 (length p.net.rows)))
+    (labels_append ss rows more
+    ∙ ap (λ (bs : List Label). bs ++ flat_labels ss more) (no_rows p l (numbers 0 (length p.net.rows)))
+    ∙ no_boxes ss (sheet p l) (lag_tags p.lag))
     ∙ all_texts ss (Draw.labels p l)

@@ -51,11 +51,12 @@ mod RowCode
 mod WireCode
 mod SizesKept
 mod DrawCode
+mod Lagging
 mod Heights
 mod RowsDrawn
 mod PortSlots
 mod TopDrawn
-mod SizeBounds
+pub mod SizeBounds
 mod WireNets
 mod SizeLaw
 mod Written

@@ -1,10 +1,11 @@
 -- The rule of excitation lines of a drawing, in full.
 use Rattle.std.proofs.Common.{◌≡◌, ℕ, zero, suc, ◌+◌, ◌*◌, ◌%◌, ◌<◌, ◌≤◌, true, false, ◌&&◌, refl, sym}
 use Rattle.std.proofs.Common.{ap, subst, ◌∙◌, arith, ◌⊎◌, inl, inr, List, [], ◌∷◌, map, Some, pos, ℤ, int_lt, nat_lt}
+use Rattle.std.proofs.Common.{Bool, if◌then◌else◌}
 use Rattle.std.proofs.Common.{slice_get}
 use Rattle.std.proofs.Math.Nat.{mul-le-mul_right}
 use Rattle.std.proofs.lemmas.Option.{same_Some}
-use Rattle.std.proofs.lemmas.Bool.{both_ways, and_parts, eqb-true, cases_lt}
+use Rattle.std.proofs.lemmas.Bool.{both_ways, and_parts, eqb-true, cases_lt, cases_order}
 use Rattle.std.proofs.lemmas.Bool.Decides.{nat_tests}
 use Rattle.layout_make.proofs.Lawful.{IsLawful}
 use Rattle.circuit.specs.declared.cell_kind.CellKind.{CellKind}
@@ -12,8 +13,8 @@ use Rattle.circuit.specs.CellKinds.{slots_of}
 use Rattle.geom.specs.declared.shapes.Shape.{Shape}
 use Rattle.geom.specs.Rectangle.{overlap, within}
 use Rattle.layout_make.specs.Sheet.{Sheet, Tag, Frame, Lead, Bar}
-use Rattle.layout_make.specs.Sheet.{lead_use, layer_of, datatype_of, place_of, shape_of, lower_edge}
-use Rattle.layout_make.proofs.SheetKeeps.{Fits, IsDrawn, HasCells}
+use Rattle.layout_make.specs.Sheet.{begins, lead_use, layer_of, datatype_of, place_of, shape_of, lower_edge}
+use Rattle.layout_make.proofs.SheetKeeps.{Fits, IsDrawn, IsStep, HasCells}
 use Rattle.layout_make.specs.Tags.{At}
 use Rattle.sorting.specs.Numbers.{numbers}
 use Rattle.layout_make.proofs.Routes.{on_line, IsRoute, IsLineAt, meets, AreWound}
@@ -30,7 +31,8 @@ use Rattle.layout_rules.proofs.ReportLaws.{Afterwards-none}
 use Rattle.layout_make.proofs.Columns.{next_edge, edges_apart}
 use Rattle.layout_make.proofs.Joins.{from_map, to_map, shapes_of, same_at}
 use Rattle.layout_make.proofs.LineRule.{line_rows, contact_linked, bar_contact, a_start, linked_from_lead}
-use Rattle.layout_make.proofs.LineRule.{linked_from_bar, lead_not_bar, before_bar, all_reached}
+use Rattle.layout_make.proofs.LineRule.{linked_from_bar, lead_not_bar, before_bar, all_reached, no_start, step_below}
+use Rattle.layout_make.proofs.LineShapes.{begins_low, begins_bare}
 use Rattle.layout_make.proofs.LinePhase.{bar_entered, bar_left, bar_phase, bar_frame, frame_in_bar, lead_frame}
 use Rattle.layout_make.proofs.DrawnRules.{tag_of, frame_at}
 use Rattle.layout_make.proofs.PinCounts.{slots_some}
@@ -66,47 +68,53 @@ bar_is s ts i r at =
     record {
       shape = shape_of s (Bar r);
       shape_is = to_map (shape_of s) ts i (Bar r) at;
-      line_so = line_rows r;
+      line_so = line_rows (suc r);
       datatype_is = refl;
     }
 
-pub uses : (r : ℕ) → (1 ≤ lead_use r) × (lead_use r < 3)
-uses zero = (omega arith, omega arith)
-uses (suc zero) = (omega arith, omega arith)
-uses (suc (suc r)) = (omega arith, omega arith)
+pub uses : (lag n : ℕ) → (1 ≤ lead_use lag n) × (lead_use lag n < 3)
+uses lag n = go (begins lag n)
+  where
+    go : (b : Bool) → (1 ≤ (if b then START else LINK)) × ((if b then START else LINK) < 3)
+    go true = (omega arith, omega arith)
+    go false = (omega arith, omega arith)
 
-link_row : (r : ℕ) → lead_use r ≡ 1 → (q : ℕ) × (r ≡ q + 2)
-link_row zero e = absurd (omega arith)
-link_row (suc zero) e = absurd (omega arith)
-link_row (suc (suc r)) e = (r, omega arith)
+link_step : (lag n : ℕ) → lead_use lag n ≡ 1 → (q : ℕ) × (n ≡ suc (suc q)) × (begins lag (suc (suc q)) ≡ false)
+link_step lag zero e = absurd (omega arith)
+link_step lag (suc zero) e = absurd (omega arith)
+link_step lag (suc (suc n)) e = (n, refl, go (begins lag (suc (suc n))) e)
+  where
+    go : (b : Bool) → (if b then START else LINK) ≡ 1 → b ≡ false
+    go true e = absurd (omega arith)
+    go false e = refl
 
 -- a shape of a use, by tag
 pub used_tag : (s : Sheet) (ts : List Tag) (i n : ℕ) → IsPart (shapes_of s ts) n i
-    → ((r : ℕ) × At ts i (Lead r) × (lead_use r ≡ n)) ⊎ ((r : ℕ) × At ts i (Bar r) × (n ≡ 0))
+    → ((r : ℕ) × At ts i (Lead r) × (lead_use s.lag r ≡ n)) ⊎ ((r : ℕ) × At ts i (Bar r) × (n ≡ 0))
 used_tag s ts i n h =
     let x = line_of s ts i h.shape (h.shape_is, h.line_so) in
     elim x.is [
       | inl e ↦ inl (
         x.row,
         subst (λ (t : Tag). At ts i t) e x.at,
-        sym (ap datatype_of e)
+        sym (ap (datatype_of s) e)
             ∙ ap (λ (y : Shape). y.datatype) x.shape ∙ h.datatype_is,
       )
       | inr e ↦ inr (
         x.row,
         subst (λ (t : Tag). At ts i t) e x.at,
         sym
-            (sym (ap datatype_of e) ∙ ap (λ (y : Shape). y.datatype) x.shape ∙ h.datatype_is),
+            (sym (ap (datatype_of s) e) ∙ ap (λ (y : Shape). y.datatype) x.shape ∙ h.datatype_is),
       )
     ]
 
-row_below : (s : Sheet) (ts : List Tag) → IsDrawn s ts → (i : ℕ) (a : Shape) (x : LineOf s ts i a) → x.row < s.rows
+row_below : (s : Sheet) (ts : List Tag) → IsDrawn s ts → (i : ℕ) (a : Shape) (x : LineOf s ts i a) → IsStep s x.row
 row_below s ts is i a x = elim x.is [
   | inl e ↦ is.fits i (Lead x.row) (subst (λ (t : Tag). At ts i t) e x.at)
   | inr e ↦ is.fits i (Bar x.row) (subst (λ (t : Tag). At ts i t) e x.at)
 ]
 
-layer_row : (s : Sheet) (ts : List Tag) (i : ℕ) (a : Shape) (x : LineOf s ts i a) → a.layer ≡ 14 + x.row % 2
+layer_row : (s : Sheet) (ts : List Tag) (i : ℕ) (a : Shape) (x : LineOf s ts i a) → a.layer ≡ 14 + suc x.row % 2
 layer_row s ts i a x = elim x.is [
   | inl e ↦ sym (ap (λ (y : Shape). y.layer) x.shape) ∙ ap layer_of e
   | inr e ↦ sym (ap (λ (y : Shape). y.layer) x.shape) ∙ ap layer_of e
@@ -142,14 +150,18 @@ start_bar : (s : Sheet) (ts : List Tag) → IsDrawn s ts → (i : ℕ) → IsPar
     → HasStartContacts (shapes_of s ts) i
 start_bar s ts is i h =
     let x = a_start s ts i h in
-    let rows = is.routed.rows_some in let less = x.2 in
-    let bar = is.bars x.0 (omega arith) in
+    let step = is.fits i (Lead x.0) x.1 in
+    let bar = is.bars x.0 step in
     record {
       bar = bar.0;
       contact = (bar_contact s ts is i bar.0 x.0 x.0 x.1 bar.1 (inl refl)).0;
       is_bar = bar_is s ts bar.0 x.0 bar.1;
       only = λ c k. (let y = lead_contact s ts is i c x.0 x.1 k in
-          elim y.2 [ inl e ↦ bar_once s ts is c bar.0 y.0 x.0 y.1 bar.1 (sym e) | inr e ↦ absurd (omega arith) ]);
+          elim y.2 [
+            | inl e ↦ bar_once s ts is c bar.0 y.0 x.0 y.1 bar.1 (sym e)
+            | inr e ↦ absurd (no_start s y.0 (is.fits c (Bar y.0) y.1)
+                (subst (λ (n : ℕ). begins s.lag n ≡ true) e x.2))
+          ]);
     }
 
 link_bars : (s : Sheet) (ts : List Tag) → IsDrawn s ts → (i : ℕ) → IsPart (shapes_of s ts) LINK i
@@ -157,11 +169,11 @@ link_bars : (s : Sheet) (ts : List Tag) → IsDrawn s ts → (i : ℕ) → IsPar
 link_bars s ts is i h = elim (used_tag s ts i LINK h) [
   | inr x ↦ absurd (let e = x.2 in omega arith)
   | inl x ↦
-      let q = link_row x.0 x.2 in
-      let lt = is.fits i (Lead x.0) x.1 in
-      let e = q.1 in
-      let low = is.bars q.0 (omega arith) in
-      let high = is.bars x.0 lt in
+      let q = link_step s.lag x.0 x.2 in
+      let step = is.fits i (Lead x.0) x.1 in
+      let e : x.0 ≡ q.0 + 2 = (let k = q.1 in omega arith) in
+      let low = is.bars q.0 (step_below s q.0 q.2 (subst (λ (n : ℕ). n < suc s.rows) q.1 step.below)) in
+      let high = is.bars x.0 step in
       record {
         one = low.0;
         other = high.0;
@@ -180,23 +192,23 @@ link_bars s ts is i h = elim (used_tag s ts i LINK h) [
 
 not_a_bar : (s : Sheet) (ts : List Tag) (c q : ℕ) → At ts c (Lead q) → IsPart (shapes_of s ts) BAR c → ⊥
 not_a_bar s ts c q at h = elim (used_tag s ts c BAR h) [
-  | inl x ↦ absurd (let e = x.2 in let f = (uses x.0).0 in omega arith)
+  | inl x ↦ absurd (let e = x.2 in let f = (uses s.lag x.0).0 in omega arith)
   | inr x ↦ lead_not_bar ts c q x.0 at x.1
 ]
 
 bar_leads : (s : Sheet) (ts : List Tag) → IsDrawn s ts → (i : ℕ) → IsPart (shapes_of s ts) BAR i
     → HasBarContacts (shapes_of s ts) i
 bar_leads s ts is i h = elim (used_tag s ts i BAR h) [
-  | inl x ↦ absurd (let e = x.2 in let f = (uses x.0).0 in omega arith)
+  | inl x ↦ absurd (let e = x.2 in let f = (uses s.lag x.0).0 in omega arith)
   | inr x ↦
       let lt = is.fits i (Bar x.0) x.1 in
       let lead = is.leads x.0 lt in
       let contact = (bar_contact s ts is lead.0 i x.0 x.0 lead.1 x.1 (inl refl)).1 in
       let no_bar : (c : ℕ) → Contact (shapes_of s ts) i c → IsPart (shapes_of s ts) BAR c → ⊥ = λ c k.
       (let y = bar_touches s ts is i c x.0 x.1 k in not_a_bar s ts c y.0 y.1) in
-      elim (cases_lt (x.0 + 2) s.rows) [
+      elim (cases_lt (x.0 + 2) (suc s.rows)) [
         | inl more ↦
-            let next = is.leads (x.0 + 2) more in
+            let next = is.leads (x.0 + 2) (record { below = more; lagged = λ z. absurd (omega arith) }) in
             record {
               one = lead.0;
               other = next.0;
@@ -213,7 +225,7 @@ bar_leads s ts is i h = elim (used_tag s ts i BAR h) [
           one_contact = contact;
           only = λ c k. (let y = bar_touches s ts is i c x.0 x.1 k in elim y.2 [
             | inl f ↦ inl (lead_once s ts is c lead.0 y.0 x.0 y.1 lead.1 f)
-            | inr f ↦ absurd (let z : y.0 < s.rows = is.fits c (Lead y.0) y.1 in omega arith)
+            | inr f ↦ absurd (let z = (is.fits c (Lead y.0) y.1).below in omega arith)
           ]);
           no_bar = no_bar;
         }
@@ -237,7 +249,7 @@ bar_at s ts b a rest bar is route at e = go rest route
           line_so = ap (λ (x : Shape). on_line x.layer) (sym same) ∙ ap on_line (sym m.same_layer) ∙ m.of_line;
           datatype_is = e;
         })) [
-          | inl x ↦ absurd (let k = x.2 in let f = (uses x.0).0 in omega arith)
+          | inl x ↦ absurd (let k = x.2 in let f = (uses s.lag x.0).0 in omega arith)
           | inr x ↦ (x.0, x.1)
         ]
 
@@ -317,23 +329,26 @@ unfolding bar_is
 frame_bar s ts is has f frame at so =
     let t = frame_at s ts f frame at (eqb-true frame.layer FRAME so) in
     let fits = is.fits f (Frame t.0 t.1 t.2) t.3 in
-    let bar = is.bars t.0 fits.0 in
-    let lead = bar_before s ts is bar.0 t.0 bar.1 in
+    let step : IsStep s (suc t.0) =
+    record { below = (let k = fits.0 in omega arith); lagged = λ z. absurd (omega arith) } in
+    let bar = is.bars (suc t.0) step in
+    let lead = bar_before s ts is bar.0 (suc t.0) bar.1 in
     let edge : slice_get (edges_of s) t.0 ≡ Some frame.rect.y0 = at_edge s t.0 fits.0
     ∙ ap (λ (x : Shape). Some x.rect.y0) t.4 in
     let row = row_of-certified (shapes_of s ts) (edges_of s) (drawn_rows s ts is has) t.0 frame.rect.y0 edge in
     record {
       bar = bar.0;
       phase = record {
-        is_bar = bar_is s ts bar.0 t.0 bar.1;
+        is_bar = bar_is s ts bar.0 (suc t.0) bar.1;
         before = lead.0;
-        before_shape = shape_of s (Lead t.0);
-        before_shape_is = to_map (shape_of s) ts lead.0 (Lead t.0) lead.2;
+        before_shape = shape_of s (Lead (suc t.0));
+        before_shape_is = to_map (shape_of s) ts lead.0 (Lead (suc t.0)) lead.2;
         is_before = record { rest = lead.1; chain = lead.3.chain; onward = lead.3.onward };
-        phase_is = bar_phase s is.routed t.0 ∙ ap (λ (n : ℕ). n % 4) (sym row);
+        phase_is = bar_phase s is.routed t.0 step ∙ ap (λ (n : ℕ). n % 4) (sym row);
       };
-      over = sym (ap (λ (x : Shape). overlap (place_of s (Bar t.0)) x.rect) t.4) ∙ over t.0 t.1 t.2 fits;
-      contains = sym (ap (λ (x : Shape). within x.rect (place_of s (Bar t.0))) t.4) ∙ frame_in_bar s t.0 t.1 t.2 fits;
+      over = sym (ap (λ (x : Shape). overlap (place_of s (Bar (suc t.0))) x.rect) t.4) ∙ over t.0 t.1 t.2 fits;
+      contains = sym (ap (λ (x : Shape). within x.rect (place_of s (Bar (suc t.0)))) t.4)
+          ∙ frame_in_bar s t.0 t.1 t.2 fits;
       only = λ i a is_a line o.
           let x = line_of s ts i a (is_a, line) in
           let o' : overlap (place_of s x.tag)
@@ -345,14 +360,14 @@ frame_bar s ts is has f frame at so =
                 (place_of s (Frame t.0 t.1 t.2)) ≡ true =
                 ap (λ (y : Tag). overlap (place_of s y) (place_of s (Frame t.0 t.1 t.2))) (sym lead) ∙ o' in
                 let z : true ≡ false = sym q ∙ p in cc)
-            | inr b ↦ bar_once s ts is i bar.0 x.row t.0 (subst (λ (y : Tag). At ts i y) b x.at) bar.1
+            | inr b ↦ bar_once s ts is i bar.0 x.row (suc t.0) (subst (λ (y : Tag). At ts i y) b x.at) bar.1
                 (bar_frame s is.routed x.row t.0 t.1 t.2
                 (ap (λ (y : Tag). overlap (place_of s y) (place_of s (Frame t.0 t.1 t.2))) (sym b) ∙ o'))
           ];
     }
   where
     over : (r slot : ℕ) (k : CellKind) → Fits s (Frame r slot k)
-        → overlap (place_of s (Bar r)) (place_of s (Frame r slot k)) ≡ true
+        → overlap (place_of s (Bar (suc r))) (place_of s (Frame r slot k)) ≡ true
     over r slot k fits =
         let laws = is.routed.laws in
         let some = slots_some k in
@@ -381,50 +396,83 @@ module _ (s : Sheet) (ts : List Tag) (is : IsDrawn s ts) (has : HasCells s ts) w
       let x = line_of s ts i p.shape (p.shape_is, a.0) in
       let k : 2 < p.shape.datatype = more START p.shape.datatype a.1 in
       elim x.is [
-        | inl e ↦ absurd (let d : p.shape.datatype ≡ lead_use x.row = sym (ap (λ (y : Shape). y.datatype) x.shape)
-            ∙ ap datatype_of e in let f = (uses x.row).1 in omega arith)
+        | inl e ↦ absurd (let d : p.shape.datatype ≡ lead_use s.lag x.row = sym (ap (λ (y : Shape). y.datatype) x.shape)
+            ∙ ap (datatype_of s) e in let f = (uses s.lag x.row).1 in omega arith)
         | inr e ↦ absurd (let d : p.shape.datatype ≡ 0 = sym (ap (λ (y : Shape). y.datatype) x.shape)
-            ∙ ap datatype_of e in omega arith)
+            ∙ ap (datatype_of s) e in omega arith)
       ]
     where
       more : (a b : ℕ) → nat_lt a b ≡ true → a < b
       more a b e = grind (arith, nat_tests)
 
+  -- the first step of the line that a step is of
+  first_step : (n : ℕ) → (q : ℕ) × IsStep s q × (begins s.lag q ≡ true) × (suc q % 2 ≡ suc n % 2)
+  first_step n = elim (cases_lt (suc n % 2) 1) [
+    | inl even ↦ (
+      1,
+      record { below = (let k = is.routed.rows_some in omega arith); lagged = λ z. absurd (omega arith) },
+      refl,
+      omega arith,
+    )
+    | inr odd ↦ elim (cases_lt 0 s.lag) [
+      | inl some ↦ (0, record { below = omega arith; lagged = λ z. some }, refl, omega arith)
+      | inr none ↦ (
+        2,
+        record { below = (let k = is.routed.rows_some in omega arith); lagged = λ z. absurd (omega arith) },
+        bare s.lag none,
+        omega arith,
+      )
+    ]
+  ]
+    where
+      bare : (lag : ℕ) → lag ≤ 0 → begins lag 2 ≡ true
+      bare zero h = refl
+      bare (suc lag) h = absurd (omega arith)
+
+  -- and no other one
+  one_first : (q n : ℕ) → IsStep s q → IsStep s n → begins s.lag q ≡ true → begins s.lag n ≡ true
+      → suc q % 2 ≡ suc n % 2 → q ≡ n
+  one_first q n fq fn bq bn e =
+      let a = begins_low s.lag q bq in let b = begins_low s.lag n bn in
+      elim (cases_order q n) [
+        | inl same ↦ same
+        | inr o ↦ elim o [
+          | inl lt ↦ absurd (let z : q ≡ 0 = omega arith in let t : n ≡ 2 = omega arith in
+              let k = begins_bare s.lag (subst (λ (m : ℕ). begins s.lag m ≡ true) t bn) in
+              let h = fq.lagged z in omega arith)
+          | inr lt ↦ absurd (let z : n ≡ 0 = omega arith in let t : q ≡ 2 = omega arith in
+              let k = begins_bare s.lag (subst (λ (m : ℕ). begins s.lag m ≡ true) t bq) in
+              let h = fn.lagged z in omega arith)
+        ]
+      ]
+
   starts_kept : (layer : ℕ) → on_line layer ≡ true → (a : ℕ) → LacksOneStart (shapes_of s ts) layer a → ⊥
   starts_kept layer line a h =
       let x = line_of s ts a h.shape (h.shape_is, ap on_line h.of_layer ∙ line) in
-      let rows = is.routed.rows_some in
-      let lead = is.leads (x.row % 2) (omega arith) in
-      let same : 14 + x.row % 2 % 2 ≡ layer = (let k : 14 + x.row % 2 % 2 ≡ 14 + x.row % 2 = omega arith in k)
+      let first = first_step x.row in
+      let lead = is.leads first.0 first.1 in
+      let same : 14 + suc first.0 % 2 ≡ layer = ap (λ (n : ℕ). 14 + n) first.3
       ∙ sym (layer_row s ts a h.shape x) ∙ h.of_layer in
       h.not_one (record {
         number = lead.0;
         start =
             record {
               start = record {
-                shape = shape_of s (Lead (x.row % 2));
-                shape_is = to_map (shape_of s) ts lead.0 (Lead (x.row % 2)) lead.1;
-                line_so = line_rows (x.row % 2);
-                datatype_is = first_use (x.row % 2) (omega arith);
+                shape = shape_of s (Lead first.0);
+                shape_is = to_map (shape_of s) ts lead.0 (Lead first.0) lead.1;
+                line_so = line_rows (suc first.0);
+                datatype_is = ap (λ (b : Bool). if b then START else LINK) first.2;
               };
               of_layer = same;
             };
-        only = λ i t. one i t.start lead.0 (x.row % 2) lead.1 (omega arith) (t.of_layer ∙ sym same);
+        only = λ i t.
+            let y = a_start s ts i t.start in
+            let ly : 14 + suc y.0 % 2 ≡ t.start.shape.layer = ap (λ (z : Shape). z.layer)
+            (shape_at s ts i (Lead y.0) t.start.shape y.1 t.start.shape_is) in
+            let parity : suc y.0 % 2 ≡ suc first.0 % 2 = (let k = t.of_layer in omega arith) in
+            lead_once s ts is i lead.0 y.0 first.0 y.1 lead.1
+            (one_first y.0 first.0 (is.fits i (Lead y.0) y.1) first.1 y.2 first.2 parity);
       })
-    where
-      first_use : (r : ℕ) → r < 2 → lead_use r ≡ 2
-      first_use zero h = refl
-      first_use (suc zero) h = refl
-      first_use (suc (suc r)) h = absurd (omega arith)
-
-      one : (i : ℕ) (t : IsPart (shapes_of s ts) START i) (j r : ℕ) → At ts j (Lead r) → r < 2
-          → t.shape.layer ≡ 14 + r % 2 → i ≡ j
-      one i t j r at less layer =
-          let y = a_start s ts i t in
-          let ly : 14 + y.0 % 2 ≡ t.shape.layer = ap (λ (z : Shape). z.layer)
-          (shape_at s ts i (Lead y.0) t.shape y.1 t.shape_is) in
-          let below = y.2 in
-          lead_once s ts is i j y.0 r y.1 at (omega arith)
 
   contacts_kept : (i : ℕ) → IsMisjoined (shapes_of s ts) i → ⊥
   contacts_kept i h =
@@ -457,7 +505,7 @@ module _ (s : Sheet) (ts : List Tag) (is : IsDrawn s ts) (has : HasCells s ts) w
       elim h.wrong [
         | inl w ↦ both_ways (enters lead bar) w
             (sym (ap (λ (z : Shape). enters z bar) sl) ∙ sym (ap (λ (z : Shape). enters (shape_of s (Lead x.0)) z) sb)
-            ∙ bar_entered s is.routed x.0)
+            ∙ bar_entered s is.routed x.0 (is.fits b (Bar x.0) x.1))
         | inr w ↦
             let y = bar_touches s ts is b w.after x.0 x.1 w.contact in
             let up : y.0 ≡ x.0 + 2 = not_own y.0 x.0
@@ -468,7 +516,7 @@ module _ (s : Sheet) (ts : List Tag) (is : IsDrawn s ts) (has : HasCells s ts) w
             (sym (ap (λ (z : Shape). leaves z bar w.contact.second) sl)
             ∙ sym (ap (λ (z : Shape). leaves (shape_of s (Lead x.0)) z w.contact.second) sb)
             ∙ sym (ap (λ (z : Shape). leaves (shape_of s (Lead x.0)) (shape_of s (Bar x.0)) z) sn)
-            ∙ bar_left s is.routed x.0)
+            ∙ bar_left s is.routed x.0 (is.fits b (Bar x.0) x.1))
       ]
     where
       not_own : (q r : ℕ) → (q ≡ r → ⊥) → (q ≡ r) ⊎ (q ≡ r + 2) → q ≡ r + 2

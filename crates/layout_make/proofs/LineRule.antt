@@ -1,18 +1,21 @@
 -- Rule E2 holds of a drawing: starts, contacts, joined lines, the shape before each bar, directions.
-use Rattle.std.proofs.Common.{◌≡◌, ◌≢◌, ℕ, zero, suc, ◌+◌, ◌%◌, ◌<◌, true, refl, sym, ap, subst, ◌∙◌, arith, ◌⊎◌}
+use Rattle.std.proofs.Common.{◌≡◌, ◌≢◌, ℕ, zero, suc, ◌+◌, ◌%◌, ◌<◌, Bool, true, false, refl, sym, ap, subst, ◌∙◌}
+use Rattle.std.proofs.Common.{arith, ◌⊎◌}
+use Rattle.std.proofs.Common.{if◌then◌else◌}
 use Rattle.std.proofs.Common.{inl, inr, List, [], ◌∷◌}
+use Rattle.std.proofs.lemmas.Bool.{both_ways}
 use Rattle.std.proofs.lemmas.Option.{same_Some}
 use Rattle.geom.specs.declared.shapes.Shape.{Shape}
 use Rattle.geom.specs.Rectangle.{share_point}
 use Rattle.layout_make.specs.Sheet.{Sheet, Tag, Lead, Bar}
-use Rattle.layout_make.specs.Sheet.{lead_use, layer_of, datatype_of, place_of, shape_of}
+use Rattle.layout_make.specs.Sheet.{begins, lead_use, layer_of, datatype_of, place_of, shape_of}
 use Rattle.layout_make.specs.Tags.{At}
-use Rattle.layout_make.proofs.SheetKeeps.{IsDrawn}
+use Rattle.layout_make.proofs.SheetKeeps.{IsDrawn, IsStep}
 use Rattle.layout_rules.specs.ExcitationLines.{Contact, IsPart}
-use Rattle.layout_rules.specs.declared.layers.TheConstants.{START}
+use Rattle.layout_rules.specs.declared.layers.TheConstants.{START, LINK}
 use Rattle.layout_make.proofs.Routes.{on_line, IsRoute, meets, they_meet}
 use Rattle.layout_make.proofs.Joins.{from_map, to_map, shapes_of, same_at}
-use Rattle.layout_make.proofs.LineShapes.{Linked, linked, bar_over}
+use Rattle.layout_make.proofs.LineShapes.{Linked, linked, bar_over, goes_on, begins_lagged}
 
 pub line_rows : (r : ℕ) → on_line (14 + r % 2) ≡ true
 line_rows r = plain (r % 2) (omega arith)
@@ -33,12 +36,12 @@ contact_linked s ts is i j t u at au h =
     ∙ sym (ap (λ (x : Shape). x.layer) f) in
     let sh : share_point (place_of s t) (place_of s u) ≡ true = ap (λ (x : Shape). share_point x.rect (place_of s u)) e
     ∙ ap (λ (x : Shape). share_point h.first.rect x.rect) f ∙ m.shared in
-    elim (linked s is.routed t u li sa sh) [
+    elim (linked s is.routed t u (is.fits i t at) (is.fits j u au) li sa sh) [
       | inl same ↦ absurd (h.apart (is.once i j u (subst (λ (x : Tag). At ts i x) same at) au))
       | inr l ↦ l
     ]
 
-parity_linked : (q r : ℕ) → (q ≡ r) ⊎ (q ≡ r + 2) → q % 2 ≡ r % 2
+parity_linked : (q r : ℕ) → (q ≡ r) ⊎ (q ≡ r + 2) → suc q % 2 ≡ suc r % 2
 parity_linked q r (inl e) = omega arith
 parity_linked q r (inr e) = omega arith
 
@@ -48,7 +51,7 @@ lead_not_bar ts i q r a b = absurd (let e : Lead q ≡ Bar r = same_at ts i (Lea
 pub bar_contact : (s : Sheet) (ts : List Tag) → IsDrawn s ts → (i j q r : ℕ) → At ts i (Lead q) → At ts j (Bar r)
     → (q ≡ r) ⊎ (q ≡ r + 2) → Contact (shapes_of s ts) i j × Contact (shapes_of s ts) j i
 bar_contact s ts is i j q r at au l =
-    let over = bar_over s is.routed q r l in (
+    let over = bar_over s is.routed q r (is.fits j (Bar r) au) l in (
       record {
         apart = λ e. lead_not_bar ts j q r (subst (λ (n : ℕ). At ts n (Lead q)) e at) au;
         first = shape_of s (Lead q);
@@ -57,7 +60,7 @@ bar_contact s ts is i j q r at au l =
         second_is = to_map (shape_of s) ts j (Bar r) au;
         meet_so =
             they_meet (shape_of s (Lead q)) (shape_of s (Bar r)) (record {
-              of_line = line_rows q;
+              of_line = line_rows (suc q);
               same_layer = ap (λ (n : ℕ). 14 + n) (parity_linked q r l);
               shared = over.0;
             });
@@ -70,37 +73,44 @@ bar_contact s ts is i j q r at au l =
         second_is = to_map (shape_of s) ts i (Lead q) at;
         meet_so =
             they_meet (shape_of s (Bar r)) (shape_of s (Lead q)) (record {
-              of_line = line_rows r;
+              of_line = line_rows (suc r);
               same_layer = ap (λ (n : ℕ). 14 + n) (sym (parity_linked q r l));
               shared = over.1;
             });
       },
     )
 
--- E2 (b): of each of the two layers the one start is the lead of its first row
-start_row : (q : ℕ) → lead_use q ≡ 2 → q < 2
-start_row zero e = omega arith
-start_row (suc zero) e = omega arith
-start_row (suc (suc q)) e = absurd (omega arith)
+-- E2 (b): of each of the two layers the one start is the lead of its first step
+start_step : (lag n : ℕ) → lead_use lag n ≡ 2 → begins lag n ≡ true
+start_step lag n e = go (begins lag n) e
+  where
+    go : (b : Bool) → (if b then START else LINK) ≡ 2 → b ≡ true
+    go true e = refl
+    go false e = absurd (omega arith)
 
 pub a_start : (s : Sheet) (ts : List Tag) (i : ℕ) → IsPart (shapes_of s ts) START i → (q : ℕ)
-    × At ts i (Lead q) × (q < 2)
+    × At ts i (Lead q) × (begins s.lag q ≡ true)
 a_start s ts i h =
     let found = from_map (shape_of s) ts i h.shape h.shape_is in
     by_tag found.0 found.1 (ap (λ (x : Shape). on_line x.layer) found.2 ∙ h.line_so)
     (ap (λ (x : Shape). x.datatype) found.2 ∙ h.datatype_is)
   where
-    by_tag : (t : Tag) → At ts i t → on_line (layer_of t) ≡ true → datatype_of t ≡ 2 → (q : ℕ) × At ts i (Lead q)
-        × (q < 2)
-    by_tag (Lead q) at l d = (q, at, start_row q d)
+    by_tag : (t : Tag) → At ts i t → on_line (layer_of t) ≡ true → datatype_of s t ≡ 2 → (q : ℕ) × At ts i (Lead q)
+        × (begins s.lag q ≡ true)
+    by_tag (Lead q) at l d = (q, at, start_step s.lag q d)
     by_tag (Bar r) at l d = absurd (omega arith)
     by_tag t at l d = absurd cc
 
+-- a line doesn't begin two steps above another step
+pub no_start : (s : Sheet) (r : ℕ) → IsStep s r → begins s.lag (r + 2) ≡ true → ⊥
+no_start s r step e = both_ways (begins s.lag (suc (suc r))) (goes_on s r step)
+    (ap (λ (n : ℕ). begins s.lag n) (let k : suc (suc r) ≡ r + 2 = omega arith in k) ∙ e)
+
 -- what stands first and second on a route
-abbrev pub Sound : List Tag → List ℕ → Type 0
-Sound ts [] = Unit {0}
-Sound ts (a ∷ []) = (q : ℕ) × At ts a (Lead q) × (q < 2)
-Sound ts (b ∷ a ∷ rest) = ((r : ℕ) × At ts b (Bar r) × At ts a (Lead r))
+abbrev pub Sound : Sheet → List Tag → List ℕ → Type 0
+Sound s ts [] = Unit {0}
+Sound s ts (a ∷ []) = (q : ℕ) × At ts a (Lead q) × (begins s.lag q ≡ true)
+Sound s ts (b ∷ a ∷ rest) = ((r : ℕ) × At ts b (Bar r) × At ts a (Lead r))
     ⊎ ((r : ℕ) × At ts b (Lead (r + 2)) × At ts a (Bar r))
 
 pub linked_from_lead : (q : ℕ) (u : Tag) → Linked (Lead q) u → (r : ℕ) × (u ≡ Bar r) × ((q ≡ r) ⊎ (q ≡ r + 2))
@@ -138,15 +148,16 @@ after_bar s ts is b a r at h back =
     ]
 
 pub route_sound : (s : Sheet) (ts : List Tag) → IsDrawn s ts → (path : List ℕ) → IsRoute (shapes_of s ts) path
-    → Sound ts path
+    → Sound s ts path
 route_sound s ts is [] h = tt
 route_sound s ts is (a ∷ []) h = a_start s ts a h.chain
 route_sound s ts is (b ∷ a ∷ []) h = let start = a_start s ts a h.chain.1 in
-    inl (after_lead s ts is b a start.0 start.1 h.chain.0 (λ r e at. absurd (let k = start.2 in omega arith)))
+    inl (after_lead s ts is b a start.0 start.1 h.chain.0 (λ r e at. no_start s r (is.fits b (Bar r) at)
+    (subst (λ (n : ℕ). begins s.lag n ≡ true) e start.2)))
 route_sound s ts is (b ∷ a ∷ c ∷ rest) h =
     go (route_sound s ts is (a ∷ c ∷ rest) (record { chain = h.chain.1; onward = h.onward.1 }))
   where
-    go : Sound ts (a ∷ c ∷ rest) → Sound ts (b ∷ a ∷ c ∷ rest)
+    go : Sound s ts (a ∷ c ∷ rest) → Sound s ts (b ∷ a ∷ c ∷ rest)
     go (inl (r, at, before)) =
         inr (after_bar s ts is b a r at h.chain.0 (λ back. h.onward.0 (is.once b c (Lead r) back before)))
     go (inr (r, at, before)) =
@@ -159,7 +170,7 @@ pub before_bar : (s : Sheet) (ts : List Tag) → IsDrawn s ts → (b a r : ℕ) 
     → IsRoute (shapes_of s ts) (b ∷ a ∷ rest) → At ts b (Bar r) → At ts a (Lead r)
 before_bar s ts is b a r rest route at = go (route_sound s ts is (b ∷ a ∷ rest) route)
   where
-    go : Sound ts (b ∷ a ∷ rest) → At ts a (Lead r)
+    go : Sound s ts (b ∷ a ∷ rest) → At ts a (Lead r)
     go (inl (q, here, before)) =
         subst (λ (n : ℕ). At ts a (Lead n)) (let e : Bar q ≡ Bar r = same_at ts b (Bar q) (Bar r) here at in cc) before
     go (inr (q, here, before)) = absurd (lead_not_bar ts b (q + 2) r here at)
@@ -185,7 +196,7 @@ leads_differ : (ts : List Tag) (b c r : ℕ) → At ts b (Lead (r + 2)) → At t
 leads_differ ts b c r at au f = let k : Lead (r + 2) ≡ Lead r = same_at ts c (Lead (r + 2)) (Lead r)
     (subst (λ (n : ℕ). At ts n (Lead (r + 2))) f at) au in let m : r + 2 ≡ r = cc in omega arith
 
-bar_reached : (s : Sheet) (ts : List Tag) → IsDrawn s ts → (r : ℕ) → r < s.rows → Reached s ts (Lead r)
+bar_reached : (s : Sheet) (ts : List Tag) → IsDrawn s ts → (r : ℕ) → IsStep s r → Reached s ts (Lead r)
     → Reached s ts (Bar r)
 bar_reached s ts is r lt (a, rest, at, route) =
     let bar = is.bars r lt in (
@@ -196,13 +207,13 @@ bar_reached s ts is r lt (a, rest, at, route) =
           (bar_contact s ts is a bar.0 r r at bar.1 (inl refl)).0 (fresh rest (route_sound s ts is (a ∷ rest) route)),
     )
   where
-    fresh : (rest : List ℕ) → Sound ts (a ∷ rest) → NotBack (is.bars r lt).0 rest
+    fresh : (rest : List ℕ) → Sound s ts (a ∷ rest) → NotBack (is.bars r lt).0 rest
     fresh [] h = tt
     fresh (c ∷ rest) (inl (q, here, before)) = absurd (lead_not_bar ts a r q at here)
     fresh (c ∷ rest) (inr (q, here, before)) = let k : Lead (q + 2) ≡ Lead r = same_at ts a (Lead (q + 2)) (Lead r)
         here at in let m : q + 2 ≡ r = cc in bars_differ ts (is.bars r lt).0 c r q (is.bars r lt).1 before (sym m)
 
-lead_reached : (s : Sheet) (ts : List Tag) → IsDrawn s ts → (r : ℕ) → r + 2 < s.rows → Reached s ts (Bar r)
+lead_reached : (s : Sheet) (ts : List Tag) → IsDrawn s ts → (r : ℕ) → IsStep s (r + 2) → Reached s ts (Bar r)
     → Reached s ts (Lead (r + 2))
 lead_reached s ts is r lt (a, rest, at, route) =
     let lead = is.leads (r + 2) lt in (
@@ -214,7 +225,7 @@ lead_reached s ts is r lt (a, rest, at, route) =
           (fresh rest (route_sound s ts is (a ∷ rest) route)),
     )
   where
-    fresh : (rest : List ℕ) → Sound ts (a ∷ rest) → NotBack (is.leads (r + 2) lt).0 rest
+    fresh : (rest : List ℕ) → Sound s ts (a ∷ rest) → NotBack (is.leads (r + 2) lt).0 rest
     fresh [] h = tt
     fresh (c ∷ rest) (inl (q, here, before)) = let k : Bar q ≡ Bar r = same_at ts a (Bar q) (Bar r) here at in
         let m : q ≡ r = cc in
@@ -222,7 +233,7 @@ lead_reached s ts is r lt (a, rest, at, route) =
         (subst (λ (n : ℕ). At ts c (Lead n)) m before)
     fresh (c ∷ rest) (inr (q, here, before)) = absurd (lead_not_bar ts a (q + 2) r here at)
 
-start_reached : (s : Sheet) (ts : List Tag) → IsDrawn s ts → (r : ℕ) → r < s.rows → lead_use r ≡ 2
+start_reached : (s : Sheet) (ts : List Tag) → IsDrawn s ts → (r : ℕ) → IsStep s r → begins s.lag r ≡ true
     → Reached s ts (Lead r)
 start_reached s ts is r lt e =
     let lead = is.leads r lt in (
@@ -233,20 +244,32 @@ start_reached s ts is r lt e =
         chain = record {
           shape = shape_of s (Lead r);
           shape_is = to_map (shape_of s) ts lead.0 (Lead r) lead.1;
-          line_so = line_rows r;
-          datatype_is = e;
+          line_so = line_rows (suc r);
+          datatype_is = ap (λ (b : Bool). if b then START else LINK) e;
         };
         onward = tt;
       },
     )
 
-pub all_reached : (s : Sheet) (ts : List Tag) → IsDrawn s ts → (r : ℕ) → r < s.rows → Reached s ts (Lead r)
-    × Reached s ts (Bar r)
-all_reached s ts is zero lt = let l = start_reached s ts is zero lt refl in (l, bar_reached s ts is zero lt l)
-all_reached s ts is (suc zero) lt = let l = start_reached s ts is (suc zero) lt refl in
-    (l, bar_reached s ts is (suc zero) lt l)
-all_reached s ts is (suc (suc r)) lt =
-    let below = all_reached s ts is r (omega arith) in
-    let e : r + 2 ≡ suc (suc r) = omega arith in
-    let l = subst (λ (n : ℕ). Reached s ts (Lead n)) e (lead_reached s ts is r (omega arith) below.1) in
-    (l, bar_reached s ts is (suc (suc r)) lt l)
+pub step_below : (s : Sheet) (n : ℕ) → begins s.lag (suc (suc n)) ≡ false → suc (suc n) < suc s.rows → IsStep s n
+step_below s n e lt = record {
+  below = omega arith;
+  lagged = λ z. begins_lagged s.lag (sym (ap (λ (m : ℕ). begins s.lag (suc (suc m))) z) ∙ e);
+}
+
+pub all_reached : (s : Sheet) (ts : List Tag) → IsDrawn s ts → (n : ℕ) → IsStep s n → Reached s ts (Lead n)
+    × Reached s ts (Bar n)
+all_reached s ts is zero step = let l = start_reached s ts is zero step refl in (l, bar_reached s ts is zero step l)
+all_reached s ts is (suc zero) step = let l = start_reached s ts is (suc zero) step refl in
+    (l, bar_reached s ts is (suc zero) step l)
+all_reached s ts is (suc (suc n)) step =
+    let l = go (λ (below : IsStep s n). (all_reached s ts is n below).1) (begins s.lag (suc (suc n))) refl in
+    (l, bar_reached s ts is (suc (suc n)) step l)
+  where
+    go : (IsStep s n → Reached s ts (Bar n)) → (b : Bool) → begins s.lag (suc (suc n)) ≡ b
+        → Reached s ts (Lead (suc (suc n)))
+    go bar true e = start_reached s ts is (suc (suc n)) step e
+    go bar false e =
+        let two : n + 2 ≡ suc (suc n) = omega arith in
+        subst (λ (m : ℕ). Reached s ts (Lead m)) two
+        (lead_reached s ts is n (subst (IsStep s) (sym two) step) (bar (step_below s n e step.below)))

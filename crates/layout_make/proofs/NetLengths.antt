@@ -141,13 +141,13 @@ pub metal_tag : (s : Sheet) (t : Tag) → Fits s t → is_metal (layer_of t) ≡
 metal_tag s (Rise r c) fits e = (r, c, fits, inl refl)
 metal_tag s (Fall r c) fits e = (r, c, fits, inr (inl refl))
 metal_tag s (Across r c) fits e = (r, c, fits, inr (inr refl))
-metal_tag s (Lead r) fits e = absurd (no (r % 2) (omega arith) e)
+metal_tag s (Lead r) fits e = absurd (no (suc r % 2) (omega arith) e)
   where
     no : (n : ℕ) → n < 2 → is_metal (14 + n) ≡ true → ⊥
     no zero h e = cc
     no (suc zero) h e = cc
     no (suc (suc n)) h e = omega arith
-metal_tag s (Bar r) fits e = absurd (no (r % 2) (omega arith) e)
+metal_tag s (Bar r) fits e = absurd (no (suc r % 2) (omega arith) e)
   where
     no : (n : ℕ) → n < 2 → is_metal (14 + n) ≡ true → ⊥
     no zero h e = cc

@@ -43,7 +43,7 @@ pub pin_of : (s : Sheet) (ts : List Tag) → IsDrawn s ts → (side : Side) (f p
 pin_of s ts is side f p i h =
     let frame = frame_at s ts f h.frame h.frame_is h.of_frame in
     let u = pin_tag_at s ts side p h.pin h.pin_is h.of_layer in
-    let number : u.2 ≡ i = sym (pin_number side u.0 u.1 u.2) ∙ ap (λ (x : Shape). x.datatype) u.4 ∙ h.of_number in
+    let number : u.2 ≡ i = sym (pin_number s side u.0 u.1 u.2) ∙ ap (λ (x : Shape). x.datatype) u.4 ∙ h.of_number in
     let x = pin_of_frame s is.routed.laws side u.0 frame.0 u.1 u.2 frame.1 frame.2
     (inside_of s (pin_tag side u.0 u.1 u.2) (Frame frame.0 frame.1 frame.2) h.pin h.frame u.4 frame.4
     (pin_place s side u.0 u.1 u.2) refl h.inside) in
@@ -68,7 +68,7 @@ pin_lies s ts is side f p r slot c i k af ap' col =
       pin_is = to_map (shape_of s) ts p (pin_tag side r c i) ap';
       of_frame = refl;
       of_layer = pin_layer side r c i;
-      of_number = pin_number side r c i;
+      of_number = pin_number s side r c i;
       inside = ap (λ (x : Rectangle). within x (rect_of (area s (Frame r slot k)))) (pin_place s side r c i)
           ∙ inside_test (area s (pin_tag side r c i)) (area s (Frame r slot k))
           (pin_inside s is.routed.laws side r c i slot k col);
@@ -183,7 +183,7 @@ drawn_e1 s ts is has = record {
         o.0.stands.0,
         subst (λ (n : ℕ). LiesIn (shapes_of s ts) o.0.stands.0 p n pin.datatype) (sym c.1)
             (subst (λ (n : ℕ). LiesIn (shapes_of s ts) o.0.stands.0 p (layer_on c.0) n)
-            (sym (pin_number c.0 u.0 u.1 u.2) ∙ ap (λ (x : Shape). x.datatype) u.4) h),
+            (sym (pin_number s c.0 u.0 u.1 u.2) ∙ ap (λ (x : Shape). x.datatype) u.4) h),
       );
   one_frame = λ f g p layer i l hf hg.
       let c = pin_cases layer l in

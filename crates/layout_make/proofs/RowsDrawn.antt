@@ -1,7 +1,8 @@
 -- What the code adds for a row is what is drawn of it.
 use Rattle.std.proofs.Common.{◌≡◌, ℕ, zero, suc, min, Option, None, ◌+◌, ◌-◌, ◌*◌, ◌<◌, ◌≤◌, refl, sym, ap, subst, ◌∙◌}
 use Rattle.std.proofs.Common.{arith, List, [], ◌∷◌, ◌++◌, length, map, append_assoc, Some, Result, Err, IfErr}
-use Rattle.std.proofs.Common.{slice_get, slice_index_or}
+use Rattle.std.proofs.Common.{slice_get, slice_index_or, ◌%◌, ℤ, pos, neg_ℤ, ◌≤ℤ◌}
+use Rattle.std.proofs.lemmas.Int.{ints}
 use Rattle.std.specs.List.{flat_map}
 use Rattle.std.proofs.Math.Nat.{mul-le-mul_right}
 use Rattle.std.proofs.lemmas.Option.{same_Some}
@@ -22,7 +23,8 @@ use Rattle.rowed.specs.Extent.{widest}
 use Rattle.rowed.specs.Counts.{fed, row_feeds, wires_in}
 use Rattle.rowed.proofs.SpanLaws.{long_row}
 use Rattle.channel_route.specs.Crossing.{crossing, IsOver}
-use Rattle.layout_rules.specs.declared.layers.TheConstants.{FRAME, INPUT_PIN, OUTPUT_PIN}
+use Rattle.layout_rules.specs.declared.layers.TheConstants.{FRAME, INPUT_PIN, OUTPUT_PIN, EVEN_LINE, ODD_LINE, BAR}
+use Rattle.layout_rules.specs.declared.layers.TheConstants.{START}
 use Rattle.channel_route.specs.Tracks.{route_of, tracks_used}
 use Rattle.channel_route.specs.Routes.{Refuses}
 use Rattle.channel_route.specs.declared.channel.Tracks.{Tracks}
@@ -31,7 +33,7 @@ use Rattle.channel_route.specs.declared.channel.RouteRefusal.TheVariants.{Full}
 use Rattle.cell_library.specs.Library.{LibraryView, input_column_of, output_column_of}
 use Rattle.layout_make.proofs.Lawful.{IsLawful}
 use Rattle.layout_make.specs.Sheet.{Sheet, Tag, Frame, InPin, OutPin, upright, shape_of, edge, track_centre, lower_edge}
-use Rattle.layout_make.specs.Sheet.{lead_first}
+use Rattle.layout_make.specs.Sheet.{Lead, Over, RightOf, lead_first, lead_use, lead_flank, flank_rect, step_low}
 use Rattle.layout_make.specs.Spots.{Spot, spots_of, spots}
 use Rattle.layout_make.proofs.ReadyNets.{IsReady}
 use Rattle.layout_make.specs.Channel.{pin_wire, wires_into, from_of, channel}
@@ -39,11 +41,11 @@ use Rattle.layout_make.specs.Size.{element_number, element_limit}
 use Rattle.layout_make.specs.MayDraw.{MayDraw}
 use Rattle.layout_make.proofs.Ready.{TracksLaw, may_ready}
 use Rattle.layout_make.proofs.WireLengths.{few_over}
-use Rattle.layout_make.specs.Tags.{sheet, wire_place, wire_tags, cell_tags}
+use Rattle.layout_make.specs.Tags.{sheet, wire_place, wire_tags, cell_tags, lag_tags}
 use Rattle.layout_make.specs.Draw.{boxes, alone}
 use Rattle.layout_make.specs.Draw as Draw
 use Rattle.layout_make.specs.Code.Boxes.{boxed, in_box, out_box, frame_box, bend_of, wire_boxes, channel_boxes}
-use Rattle.layout_make.specs.Code.Boxes.{cell_boxes, place_box, lead_box, bar_box, row_boxes}
+use Rattle.layout_make.specs.Code.Boxes.{cell_boxes, place_box, lead_box, bar_box, row_boxes, lead_low, lag_boxes}
 use Rattle.layout_make.proofs.Drawn.{once_channel}
 use Rattle.layout_make.proofs.Sound.{tracks_apart, wire_at, wire_is}
 
@@ -303,29 +305,96 @@ pub edge_here : (p : PlacedView) (l : LibraryView) (n : ℕ) (items : List Eleme
 edge_here p l n items row one two so lt = so.edge_is
     ∙ ap (lower_edge (sheet p l)) (let h : min n (length p.net.rows - 1) ≡ n = omega arith in h)
 
--- a start stands on its own row
-pub first_own : (p : PlacedView) (l : LibraryView) (n : ℕ) (items : List Element) (row one two : ℕ)
-    → SoFar p l n items row one two → n < length p.net.rows → n < 2 → row ≡ lower_edge (sheet p l) (lead_first n)
-first_own p l zero items row one two so lt small = edge_here p l zero items row one two so lt
-first_own p l (suc zero) items row one two so lt small = edge_here p l (suc zero) items row one two so lt
-first_own p l (suc (suc n)) items row one two so lt small = absurd (omega arith)
+-- a lead begins on its own row, two rows below, or below the rows
+pub lead_at : (p : PlacedView) (l : LibraryView) (n : ℕ) (items : List Element) (row one two : ℕ)
+    → SoFar p l n items row one two → n < length p.net.rows
+    → lead_low l p.lag n row two ≡ step_low (sheet p l) (lead_first p.lag (suc n))
+unfolding sheet
+lead_at p l zero items row one two so lt = ap (λ (m : ℕ). pos m) (edge_here p l zero items row one two so lt)
+lead_at p l (suc zero) items row one two so lt = go p.lag
+  where
+    go : (lag : ℕ) → lead_low l lag 1 row two ≡ step_low (sheet p l) (lead_first lag 2)
+    go zero = ap (λ (m : ℕ). pos m) (edge_here p l (suc zero) items row one two so lt)
+    go (suc lag) = refl
+lead_at p l (suc (suc n)) items row one two so lt = ap (λ (m : ℕ). pos m) (so.two_is
+    ∙ ap (lower_edge (sheet p l)) (let h : suc (suc n) - 2 ≡ n = omega arith in h))
 
-pub first_before : (p : PlacedView) (l : LibraryView) (n : ℕ) (items : List Element) (row one two : ℕ)
-    → SoFar p l n items row one two → 2 ≤ n → two ≡ lower_edge (sheet p l) (lead_first n)
-first_before p l zero items row one two so le = absurd (omega arith)
-first_before p l (suc zero) items row one two so le = absurd (omega arith)
-first_before p l (suc (suc n)) items row one two so le = so.two_is
-    ∙ ap (lower_edge (sheet p l)) (let h : suc (suc n) - 2 ≡ n = omega arith in h)
+under : (a b : ℕ) → a ≤ b → pos a ≤ℤ pos b
+under a b h = grind (arith, ints)
+
+neg_under : (a b : ℕ) → neg_ℤ (pos a) ≤ℤ pos b
+neg_under a b = grind (arith, ints)
+
+-- and not above its row
+pub lead_below : (l : LibraryView) (lag n edge two : ℕ) → two ≤ edge → lead_low l lag n edge two ≤ℤ pos edge
+lead_below l lag zero edge two h = under edge edge (omega arith)
+lead_below l zero (suc zero) edge two h = under edge edge (omega arith)
+lead_below l (suc lag) (suc zero) edge two h = neg_under (2 * l.height) edge
+lead_below l lag (suc (suc n)) edge two h = under two edge h
+
+pub ruleset low_leads = (lead_below)
+
+same_lead : (l : LibraryView) (right lag n : ℕ) (low : ℤ) (row : ℕ) → lead_box l right lag n low row ≡ Box (record {
+  layer = EVEN_LINE + suc (suc n) % 2;
+  datatype = lead_use lag (suc n);
+  rect = flank_rect l right (lead_flank (suc n)) low (pos (row + l.height));
+})
+same_lead l right lag n low row =
+    ap (λ (m : ℕ). Box (record {
+      layer = EVEN_LINE + m;
+      datatype = lead_use lag (suc n);
+      rect = flank_rect l right (lead_flank (suc n)) low (pos (row + l.height));
+    })) (let k : n % 2 ≡ suc (suc n) % 2 = omega arith in k)
+
+same_bar : (l : LibraryView) (right n row : ℕ) → bar_box l right n row ≡ Box (record {
+  layer = EVEN_LINE + suc (suc n) % 2;
+  datatype = BAR;
+  rect = flank_rect l right Over (pos row) (pos (row + l.height));
+})
+same_bar l right n row =
+    ap (λ (m : ℕ). Box (record {
+      layer = EVEN_LINE + m;
+      datatype = BAR;
+      rect = flank_rect l right Over (pos row) (pos (row + l.height));
+    })) (let k : n % 2 ≡ suc (suc n) % 2 = omega arith in k)
 
 pub row_drawn : (p : PlacedView) (l : LibraryView) (n : ℕ)
-    → row_boxes l (Draw.used_kinds p) (widest (placed_rows p) * (l.columns * l.pitch)) n (spots p n)
-    (lower_edge (sheet p l) (lead_first n)) (lower_edge (sheet p l) n)
+    → row_boxes l (Draw.used_kinds p) (widest (placed_rows p) * (l.columns * l.pitch)) p.lag n (spots p n)
+    (step_low (sheet p l) (lead_first p.lag (suc n))) (lower_edge (sheet p l) n)
     ++ boxes (sheet p l) (flat_map (wire_tags n) (channel p l n)) ≡ Draw.row_elements p l n
 unfolding sheet
-row_drawn p l n = append_assoc (map (place_box l (Draw.used_kinds p) (lower_edge (sheet p l) n)) (spots p n))
-    (lead_box l (widest (placed_rows p) * (l.columns * l.pitch)) n (lower_edge (sheet p l) (lead_first n))
-    (lower_edge (sheet p l) n) ∷ bar_box l (widest (placed_rows p) * (l.columns * l.pitch)) n
-    (lower_edge (sheet p l) n) ∷ []) (boxes (sheet p l) (flat_map (wire_tags n) (channel p l n)))
+row_drawn p l n =
+    let right = widest (placed_rows p) * (l.columns * l.pitch) in
+    let places = map (place_box l (Draw.used_kinds p) (lower_edge (sheet p l) n)) (spots p n) in
+    let wires = boxes (sheet p l) (flat_map (wire_tags n) (channel p l n)) in
+    let low = step_low (sheet p l) (lead_first p.lag (suc n)) in
+    let row = lower_edge (sheet p l) n in
+    append_assoc places (lead_box l right p.lag n low row ∷ bar_box l right n row ∷ []) wires
+    ∙ ap (λ (x : Element). places ++ (x ∷ bar_box l right n row ∷ wires)) (same_lead l right p.lag n low row)
+    ∙ ap (λ (x : Element). places ++ (Box (shape_of (sheet p l) (Lead (suc n))) ∷ x ∷ wires))
+    (same_bar l right n row)
+
+-- the start and the bar of a delay
+abbrev lag_two : LibraryView → ℕ → List Element
+lag_two l w = Box (record {
+  layer = ODD_LINE;
+  datatype = START;
+  rect = flank_rect l w RightOf (neg_ℤ (pos (2 * l.height))) (neg_ℤ (pos l.height));
+})
+    ∷ Box (record {
+      layer = ODD_LINE;
+      datatype = BAR;
+      rect = flank_rect l w Over (neg_ℤ (pos (2 * l.height))) (neg_ℤ (pos l.height));
+    })
+    ∷ []
+
+pub lag_drawn : (p : PlacedView) (l : LibraryView) → lag_boxes l p.lag ≡ boxes (sheet p l) (lag_tags p.lag)
+unfolding sheet
+lag_drawn p l = go p.lag refl
+  where
+    go : (lag : ℕ) → p.lag ≡ lag → lag_boxes l lag ≡ boxes (sheet p l) (lag_tags lag)
+    go zero e = refl
+    go (suc lag) e = ap (lag_two l) (sym e)
 
 pub flat_last : (f : ℕ → List Element) (n : ℕ) → flat_map f (numbers 0 n) ++ f n ≡ flat_map f (numbers 0 (n + 1))
 flat_last f n = ap (λ (m : ℕ). flat_map f (numbers 0 n) ++ f m) (let h : n ≡ 0 + n = omega arith in h) ∙ go 0 n

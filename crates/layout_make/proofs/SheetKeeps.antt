@@ -17,6 +17,11 @@ pub record IsWire (s : Sheet) (r c : ℕ) : Type 0 where
   pub odd : s.to r c % 2 ≡ 1
   pub tracked : s.track r c < s.used r
 
+-- a step whose bar is drawn: the one below the rows is drawn where it has some width
+pub record IsStep (s : Sheet) (n : ℕ) : Type 0 where
+  pub below : n < suc s.rows
+  pub lagged : n ≡ 0 → 1 ≤ s.lag
+
 -- what a sheet keeps of a shape: where it may stand
 abbrev pub Fits : Sheet → Tag → Type 0
 Fits s (InPin r c i) = c % 2 ≡ 1
@@ -28,8 +33,8 @@ Fits s (FromVia r c) = IsWire s r c
 Fits s (ToVia r c) = IsWire s r c
 Fits s (Frame r slot kind) = (r < s.rows) × ((slot + slots_of kind) * (s.library.columns * s.library.pitch) ≤ s.right)
     × IsGiven s.library kind
-Fits s (Lead r) = r < s.rows
-Fits s (Bar r) = r < s.rows
+Fits s (Lead n) = IsStep s n
+Fits s (Bar n) = IsStep s n
 
 -- wires that share a column and a track are one
 pub record IsRouted (s : Sheet) : Type 0 where
@@ -58,8 +63,8 @@ pub record IsDrawn (s : Sheet) (ts : List Tag) : Type 0 where
   pub crosses : (r c : ℕ) → IsWire s r c → Stands ts (Across r c)
   pub begins : (r c : ℕ) → IsWire s r c → Stands ts (FromVia r c)
   pub ends : (r c : ℕ) → IsWire s r c → Stands ts (ToVia r c)
-  pub leads : (r : ℕ) → r < s.rows → Stands ts (Lead r)
-  pub bars : (r : ℕ) → r < s.rows → Stands ts (Bar r)
+  pub leads : (n : ℕ) → IsStep s n → Stands ts (Lead n)
+  pub bars : (n : ℕ) → IsStep s n → Stands ts (Bar n)
 
 -- the column of a pin of a cell in a slot
 abbrev pub column_at : Sheet → Side → ℕ → CellKind → ℕ → ℕ

@@ -109,9 +109,9 @@ pub pin_layer : (side : Side) (r c i : ℕ) → layer_of (pin_tag side r c i) �
 pin_layer Inputs r c i = refl
 pin_layer Outputs r c i = refl
 
-pub pin_number : (side : Side) (r c i : ℕ) → datatype_of (pin_tag side r c i) ≡ i
-pin_number Inputs r c i = refl
-pin_number Outputs r c i = refl
+pub pin_number : (s : Sheet) (side : Side) (r c i : ℕ) → datatype_of s (pin_tag side r c i) ≡ i
+pin_number s Inputs r c i = refl
+pin_number s Outputs r c i = refl
 
 pub layer_pin : (side : Side) → is_pin (layer_on side) ≡ true
 layer_pin Inputs = refl

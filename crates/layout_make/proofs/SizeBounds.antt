@@ -1,5 +1,6 @@
 -- The number of elements of a drawing is far below 2^63.
-use Rattle.std.proofs.Common.{ℕ, ◌+◌, ◌*◌, ◌<◌, ◌≤◌, ◌^◌, max, arith, List, [], ◌∷◌, length, Option, Some, None}
+use Rattle.std.proofs.Common.{ℕ, zero, suc, ◌+◌, ◌*◌, ◌<◌, ◌≤◌, ◌^◌, max, arith, List, [], ◌∷◌, length, Option, Some}
+use Rattle.std.proofs.Common.{None}
 use Rattle.std.proofs.lemmas.Nat.{mul-le}
 use Rattle.circuit.specs.CellKinds.{slots_of}
 use Rattle.rowed.specs.declared.source.Source.{Source}
@@ -9,7 +10,7 @@ use Rattle.rowed.specs.PlacedNets.{PlacedView, paired, placed_rows}
 use Rattle.rowed.specs.Extent.{widest}
 use Rattle.rowed.specs.Counts.{fed, row_feeds, cells_in, wires_in}
 use Rattle.cell_library.specs.Library.{LibraryView}
-use Rattle.layout_make.specs.Size.{element_number}
+use Rattle.layout_make.specs.Size.{element_number, lag_count}
 use Rattle.layout_make.specs.MayDraw.{MayDraw}
 use Rattle.layout_make.proofs.PinCounts.{slots_some}
 use Rattle.layout_make.proofs.Ready.{lawful}
@@ -41,9 +42,13 @@ row_most [] = omega arith
 row_most (c ∷ cells) = let k = row_most cells in let a = fed_most c.source0 in let b = fed_most c.source1 in
     let d = fed_most c.source2 in omega arith
 
-wires_most : (rows : List (List RowCell)) → wires_in rows ≤ 3 * cells_in rows
+pub wires_most : (rows : List (List RowCell)) → wires_in rows ≤ 3 * cells_in rows
 wires_most [] = omega arith
 wires_most (row ∷ rows) = let k = wires_most rows in let r = row_most row in omega arith
+
+pub lag_few : (lag : ℕ) → lag_count lag ≤ 2
+lag_few zero = omega arith
+lag_few (suc lag) = omega arith
 
 pub number_small : (p : PlacedView) (l : LibraryView) → MayDraw p l → element_number p < 2 ^ 63
 number_small p l may =
@@ -62,4 +67,5 @@ number_small p l may =
     let cells = cells_within w p.net.rows p.slots may.placed.seated (omega arith) in
     let wires = wires_most p.net.rows in
     let ins = may.few_inputs in let outs = may.few_outputs in
+    let two = lag_few p.lag in
     omega arith

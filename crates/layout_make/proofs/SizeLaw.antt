@@ -1,5 +1,6 @@
 -- The top structure of a drawing has as many elements as the code counts.
-use Rattle.std.proofs.Common.{◌≡◌, ℕ, suc, ◌+◌, ◌*◌, refl, ap, ◌∙◌, arith, List, [], ◌∷◌, ◌++◌, length, length-append}
+use Rattle.std.proofs.Common.{◌≡◌, ℕ, zero, suc, ◌+◌, ◌*◌, refl, ap, ◌∙◌, arith, List, [], ◌∷◌, ◌++◌, length}
+use Rattle.std.proofs.Common.{length-append}
 use Rattle.std.proofs.Common.{map, Option, Some, None, slice_get, slice_index_or}
 use Rattle.std.specs.List.{flat_map}
 use Rattle.std.proofs.lemmas.List.{length-map}
@@ -16,9 +17,9 @@ use Rattle.rowed.proofs.SpanLaws.{long_row}
 use Rattle.cell_library.specs.Library.{LibraryView}
 use Rattle.layout_make.specs.Spots.{spots}
 use Rattle.layout_make.specs.Channel.{channel}
-use Rattle.layout_make.specs.Tags.{sheet, wire_tags, line_tags}
+use Rattle.layout_make.specs.Tags.{sheet, wire_tags, line_tags, lag_tags}
 use Rattle.layout_make.specs.Draw as Draw
-use Rattle.layout_make.specs.Size.{element_number}
+use Rattle.layout_make.specs.Size.{element_number, lag_count}
 use Rattle.layout_make.proofs.PortSlots.{many}
 use Rattle.layout_make.proofs.RowCode.{spots_long}
 use Rattle.layout_make.proofs.RowsDrawn.{channel_long}
@@ -76,15 +77,22 @@ none_fed (c ∷ cells) none =
     go None no_source = refl
     go (Some s) no_source = absurd (no_source s refl)
 
+lag_long : (lag : ℕ) → length (lag_tags lag) ≡ lag_count lag
+lag_long zero = refl
+lag_long (suc lag) = refl
+
 -- the top has as many elements as are counted
 pub size_law : (p : PlacedView) (l : LibraryView) → IsPlaced p → length (Draw.top_elements p l) ≡ element_number p
 size_law p l is =
     let rows = flat_map (Draw.row_elements p l) (numbers 0 (length p.net.rows)) in
+    let more = Draw.boxes (sheet p l) (lag_tags p.lag) in
     let ins = map (Draw.input_label p l) (numbers 0 p.net.inputs) in
     let outs = map (Draw.output_label p l) (numbers 0 p.net.outputs) in
-    let a = length-append rows (map _ (Draw.labels p l)) in
-    let b : length (Draw.top_elements p l) ≡ length rows + length (Draw.labels p l) = a
-    ∙ ap (λ (n : ℕ). length rows + n) (length-map (Draw.labels p l) _) in
+    let a = length-append (rows ++ more) (map _ (Draw.labels p l)) in
+    let b : length (Draw.top_elements p l) ≡ length (rows ++ more) + length (Draw.labels p l) = a
+    ∙ ap (λ (n : ℕ). length (rows ++ more) + n) (length-map (Draw.labels p l) _) in
+    let m = length-append rows more in
+    let n : length more ≡ lag_count p.lag = length-map (lag_tags p.lag) _ ∙ lag_long p.lag in
     let c = length-append ins outs in
     let d = many (Draw.input_label p l) 0 p.net.inputs in
     let e = many (Draw.output_label p l) 0 p.net.outputs in

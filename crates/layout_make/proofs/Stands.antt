@@ -100,8 +100,8 @@ has_post s laws (ToVia r c) fits is =
     let h = track_below s.library s.used r (s.track r c) fits.tracked in
     post_of s (ToVia r c) ToSide (s.to r c) (suc r) (s.library.via / 2) (omega arith) refl refl fits.odd
     (omega arith, omega arith) refl (λ e. absurd cc)
-has_post s laws (Lead r) fits is = absurd (no_post (r % 2) (omega arith) is)
-has_post s laws (Bar r) fits is = absurd (no_post (r % 2) (omega arith) is)
+has_post s laws (Lead r) fits is = absurd (no_post (suc r % 2) (omega arith) is)
+has_post s laws (Bar r) fits is = absurd (no_post (suc r % 2) (omega arith) is)
 has_post s laws tag fits is = absurd cc
 
 -- on track t above row r, over the columns from c to d
@@ -214,6 +214,6 @@ has_run s laws (FromVia r c) fits is = run_of s (FromVia r c) r c c c (s.library
     (omega arith) (omega arith) refl refl refl refl (omega arith) (omega arith) refl (λ e. absurd cc)
 has_run s laws (ToVia r c) fits is = run_of s (ToVia r c) r c (s.to r c) (s.to r c) (s.library.via / 2) fits
     (omega arith) (omega arith) refl refl refl refl (omega arith) (omega arith) refl (λ e. absurd cc)
-has_run s laws (Lead r) fits is = absurd (no_run (r % 2) (omega arith) is)
-has_run s laws (Bar r) fits is = absurd (no_run (r % 2) (omega arith) is)
+has_run s laws (Lead r) fits is = absurd (no_run (suc r % 2) (omega arith) is)
+has_run s laws (Bar r) fits is = absurd (no_run (suc r % 2) (omega arith) is)
 has_run s laws tag fits is = absurd cc

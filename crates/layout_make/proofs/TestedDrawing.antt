@@ -77,6 +77,7 @@ pub record Passes (p : PlacedView) (l : LibraryView) : Type 0 where
   pub short : are_short (reach_of l) (placed_rows p) ≡ true
   pub narrow : nat_le (widest (placed_rows p) * slot_width_of l) width_limit ≡ true
   pub low : nat_le (most_height l (length p.net.rows)) height_limit ≡ true
+  pub lag : nat_le p.lag width_limit ≡ true
   pub few_inputs : nat_lt p.net.inputs (2 ^ 32) ≡ true
   pub few_outputs : nat_lt p.net.outputs (2 ^ 32) ≡ true
 
@@ -88,6 +89,7 @@ may_draw_from_test p l library test = record {
   short = are_from (reach_of l) (placed_rows p) test.short;
   narrow = leb-true (widest (placed_rows p) * slot_width_of l) width_limit test.narrow;
   low = leb-true (most_height l (length p.net.rows)) height_limit test.low;
+  lag = leb-true p.lag width_limit test.lag;
   few_inputs = ltb-true p.net.inputs (2 ^ 32) test.few_inputs;
   few_outputs = ltb-true p.net.outputs (2 ^ 32) test.few_outputs;
 }

@@ -1,7 +1,7 @@
 -- The rows of a drawing one after the other, and its labels, as the code adds them.
 use Rattle.std.proofs.Common.{◌≡◌, ℕ, zero, suc, ◌+◌, ◌-◌, ◌*◌, ◌/◌, ◌<◌, ◌≤◌, ◌^◌, min, Bool, true, false, ◌||◌, refl}
 use Rattle.std.proofs.Common.{sym, ap, subst, ◌∙◌, arith, ◌==◌, inl, inr, List, [], ◌∷◌, ◌++◌, length, map}
-use Rattle.std.proofs.Common.{append_assoc, Some, slice_get, slice_index_or, cond, codes}
+use Rattle.std.proofs.Common.{ℤ, append_assoc, Some, slice_get, slice_index_or, cond, codes}
 use Rattle.std.specs.List.{flat_map, filter, list_any, AllByRecursion}
 use Rattle.std.proofs.Math.Nat.{mul-le-mul_right}
 use Rattle.std.proofs.lemmas.Bool.{cases_lt}
@@ -27,7 +27,7 @@ use Rattle.rowed.specs.Extent.{widest}
 use Rattle.sorting.specs.Sorting.{by_key}
 use Rattle.cell_library.specs.Library.{LibraryView, IsGiven, input_column_of, output_column_of}
 use Rattle.layout_make.proofs.Lawful.{IsLawful}
-use Rattle.layout_make.specs.Sheet.{lower_edge, lead_first}
+use Rattle.layout_make.specs.Sheet.{lower_edge, lead_first, step_low}
 use Rattle.layout_make.specs.Spots.{Spot, spots_of, spots}
 use Rattle.layout_make.proofs.ReadyNets.{IsReady}
 use Rattle.layout_make.specs.Channel.{from_of, wires_into, channel}
@@ -86,26 +86,29 @@ channel_past p l r le =
 -- what the code has of a row: the kinds that are used, where the drawing ends, the row's cells and slots, and where its
 -- first lead begins
 pub record RowGiven (p : PlacedView) (l : LibraryView) (n : ℕ) (kinds : List CellKind) (right : ℕ)
-    (cells : List RowCell) (slots : List ℕ) (first : ℕ) : Type 0 where
+    (lag : ℕ) (cells : List RowCell) (slots : List ℕ) (first : ℤ) : Type 0 where
   pub kinds_are : kinds ≡ Draw.used_kinds p
   pub right_is : right ≡ end_at p l
   pub cells_are : cells ≡ row_at p.net.rows n
   pub slots_are : slots ≡ slice_index_or p.slots n []
-  pub first_is : first ≡ lower_edge (sheet p l) (lead_first n)
+  pub lag_is : lag ≡ p.lag
+  pub first_is : first ≡ step_low (sheet p l) (lead_first p.lag (suc n))
 
 -- a row and its channel after the rows so far
 rows_next : {p : PlacedView} {l : LibraryView} {n : ℕ} {items mid new : List Element} {kinds : List CellKind}
-    {right : ℕ} {cells : List RowCell} {slots : List ℕ} {first row : ℕ}
-    → items ≡ flat_map (Draw.row_elements p l) (numbers 0 n) → RowGiven p l n kinds right cells slots first
-    → row ≡ lower_edge (sheet p l) n → mid ≡ items ++ row_boxes l kinds right n (spots_of cells slots) first row
+    {right lag : ℕ} {cells : List RowCell} {slots : List ℕ} {first : ℤ} {row : ℕ}
+    → items ≡ flat_map (Draw.row_elements p l) (numbers 0 n) → RowGiven p l n kinds right lag cells slots first
+    → row ≡ lower_edge (sheet p l) n → mid ≡ items ++ row_boxes l kinds right lag n (spots_of cells slots) first row
     → new ≡ mid ++ boxes (sheet p l) (flat_map (wire_tags n) (channel p l n))
     → new ≡ flat_map (Draw.row_elements p l) (numbers 0 (n + 1))
-rows_next {p} {l} {n} {items} {mid} {new} {kinds} {right} {cells} {slots} {first} {row} so given row_is is then =
+rows_next {p} {l} {n} {items} {mid} {new} {kinds} {right} {lag} {cells} {slots} {first} {row} so given row_is is then =
     let wires = boxes (sheet p l) (flat_map (wire_tags n) (channel p l n)) in
-    let own = row_boxes l (Draw.used_kinds p) (end_at p l) n (spots p n) (lower_edge (sheet p l) (lead_first n))
+    let own = row_boxes l (Draw.used_kinds p) (end_at p l) p.lag n (spots p n)
+    (step_low (sheet p l) (lead_first p.lag (suc n)))
     (lower_edge (sheet p l) n) in
-    let same : row_boxes l kinds right n (spots_of cells slots) first row ≡ own =
-    rw (given.kinds_are, given.right_is, given.cells_are, given.slots_are, given.first_is, row_is) refl in
+    let same : row_boxes l kinds right lag n (spots_of cells slots) first row ≡ own =
+    ap (λ (k : ℕ). row_boxes l kinds right k n (spots_of cells slots) first row) given.lag_is
+    ∙ rw (given.kinds_are, given.right_is, given.cells_are, given.slots_are, given.first_is, row_is) refl in
     then ∙ ap (λ (es : List Element). es ++ wires)
     (is ∙ ap (λ (es : List Element). items ++ es) same ∙ ap (λ (es : List Element). es ++ own) so)
     ∙ append_assoc (flat_map (Draw.row_elements p l) (numbers 0 n)) own wires
@@ -113,12 +116,13 @@ rows_next {p} {l} {n} {items} {mid} {new} {kinds} {right} {cells} {slots} {first
     ∙ flat_last (Draw.row_elements p l) n
 
 pub so_wired : {p : PlacedView} {l : LibraryView} {n : ℕ} {items mid new : List Element} {kinds : List CellKind}
-    {right : ℕ} {cells : List RowCell} {slots : List ℕ} {first row one two next : ℕ} → SoFar p l n items row one two
-    → n + 1 < length p.net.rows → RowGiven p l n kinds right cells slots first
-    → mid ≡ items ++ row_boxes l kinds right n (spots_of cells slots) first row
+    {right lag : ℕ} {cells : List RowCell} {slots : List ℕ} {first : ℤ} {row one two next : ℕ}
+    → SoFar p l n items row one two
+    → n + 1 < length p.net.rows → RowGiven p l n kinds right lag cells slots first
+    → mid ≡ items ++ row_boxes l kinds right lag n (spots_of cells slots) first row
     → new ≡ mid ++ boxes (sheet p l) (flat_map (wire_tags n) (channel p l n))
     → next ≡ lower_edge (sheet p l) (n + 1) → SoFar p l (n + 1) new next row one
-so_wired {p} {l} {n} {items} {mid} {new} {kinds} {right} {cells} {slots} {first} {row} {one} {two} so lt given
+so_wired {p} {l} {n} {items} {mid} {new} {kinds} {right} {lag} {cells} {slots} {first} {row} {one} {two} so lt given
     is then on =
     let here = edge_here p l n items row one two so (omega arith) in
     record {
@@ -130,11 +134,12 @@ so_wired {p} {l} {n} {items} {mid} {new} {kinds} {right} {cells} {slots} {first}
     }
 
 pub so_last : {p : PlacedView} {l : LibraryView} {n : ℕ} {items mid new : List Element} {kinds : List CellKind}
-    {right : ℕ} {cells : List RowCell} {slots : List ℕ} {first row one two next : ℕ} → SoFar p l n items row one two
-    → n < length p.net.rows → length p.net.rows ≤ n + 1 → RowGiven p l n kinds right cells slots first
-    → mid ≡ items ++ row_boxes l kinds right n (spots_of cells slots) first row → new ≡ mid → next ≡ row
+    {right lag : ℕ} {cells : List RowCell} {slots : List ℕ} {first : ℤ} {row one two next : ℕ}
+    → SoFar p l n items row one two
+    → n < length p.net.rows → length p.net.rows ≤ n + 1 → RowGiven p l n kinds right lag cells slots first
+    → mid ≡ items ++ row_boxes l kinds right lag n (spots_of cells slots) first row → new ≡ mid → next ≡ row
     → SoFar p l (n + 1) new next row one
-so_last {p} {l} {n} {items} {mid} {new} {kinds} {right} {cells} {slots} {first} {row} {one} {two} so lt le given
+so_last {p} {l} {n} {items} {mid} {new} {kinds} {right} {lag} {cells} {slots} {first} {row} {one} {two} so lt le given
     is then on =
     let here = edge_here p l n items row one two so lt in
     let none : boxes (sheet p l) (flat_map (wire_tags n) (channel p l n)) ≡ [] =
@@ -198,7 +203,7 @@ pub record PortsGiven (p : PlacedView) (n : ℕ) (cells : List RowCell) (slots :
 
 pub top_is : {p : PlacedView} (l : LibraryView) {one two three : List Element} {low_cells high_cells : List RowCell}
     {low_slots high_slots : List ℕ} {low_column high_column low_y high_y inputs outputs : ℕ}
-    → one ≡ flat_map (Draw.row_elements p l) (numbers 0 (length p.net.rows))
+    → one ≡ Draw.shape_elements p l
     → PortsGiven p 0 low_cells low_slots low_column (input_column_of l Buffer 0) low_y (l.pin / 2) inputs p.net.inputs
     → PortsGiven p (Draw.last_row p) high_cells high_slots high_column (output_column_of l Buffer 0) high_y
     (lower_edge (sheet p l) (Draw.last_row p) + l.height - l.pin / 2) outputs p.net.outputs
@@ -207,7 +212,7 @@ pub top_is : {p : PlacedView} (l : LibraryView) {one two three : List Element} {
     → three ≡ Draw.top_elements p l
 top_is {p} l {one} {two} {three} {low_cells} {high_cells} {low_slots} {high_slots} {low_column} {high_column} {low_y}
     {high_y} {inputs} {outputs} is low high then on =
-    let rows = flat_map (Draw.row_elements p l) (numbers 0 (length p.net.rows)) in
+    let rows = Draw.shape_elements p l in
     let ins = map (λ (x : Label). Text x) (map (Draw.input_label p l) (numbers 0 p.net.inputs)) in
     let outs = map (λ (x : Label). Text x) (map (Draw.output_label p l) (numbers 0 p.net.outputs)) in
     let first : port_texts l Inputs (spots_of low_cells low_slots) low_column low_y inputs ≡ ins =

@@ -6,7 +6,7 @@ use Rattle.std.proofs.lemmas.Bool.{and_parts}
 use Rattle.geom.specs.Rectangle.{Rectangle, share_point}
 use Rattle.layout_make.proofs.Layered.{is_lower, conduct}
 use Rattle.layout_rules.specs.Touch.{touch}
-use Rattle.layout_make.specs.Sheet.{Sheet, Tag, Area, Lead}
+use Rattle.layout_make.specs.Sheet.{Sheet, Tag, Area, Lead, Bar}
 use Rattle.layout_make.specs.Sheet.{area, layer_of, rect_of, place_of, shape_of}
 use Rattle.layout_make.specs.Nets.{Into, net_of}
 use Rattle.layout_make.proofs.SheetKeeps.{IsWire, Fits, Far, IsRouted}
@@ -33,11 +33,13 @@ conducting a b e = by_layers (is_lower a) (is_lower b) (eqb a 12) (eqb b 12) (eq
 
 -- only leads reach left of the origin
 pub placed_post : (s : Sheet) (tag : Tag) → post_layer (layer_of tag) ≡ true → place_of s tag ≡ rect_of (area s tag)
-placed_post s (Lead r) e = absurd (no_post (r % 2) (omega arith) e)
+placed_post s (Lead r) e = absurd (no_post (suc r % 2) (omega arith) e)
+placed_post s (Bar r) e = absurd (no_post (suc r % 2) (omega arith) e)
 placed_post s tag e = refl
 
 pub placed_run : (s : Sheet) (tag : Tag) → run_layer (layer_of tag) ≡ true → place_of s tag ≡ rect_of (area s tag)
-placed_run s (Lead r) e = absurd (no_run (r % 2) (omega arith) e)
+placed_run s (Lead r) e = absurd (no_run (suc r % 2) (omega arith) e)
+placed_run s (Bar r) e = absurd (no_run (suc r % 2) (omega arith) e)
 placed_run s tag e = refl
 
 by_posts : (s : Sheet) → IsRouted s → (t u : Tag) → HasPost s t → HasPost s u

@@ -8,7 +8,7 @@ use Rattle.cell_library.specs.Library.{LibraryView}
 use Rattle.layout_make.proofs.Lawful.{IsLawful}
 use Rattle.circuit.specs.declared.cell_kind.CellKind.{CellKind}
 use Rattle.circuit.specs.CellKinds.{outputs_of, slots_of}
-use Rattle.layout_make.specs.Sheet.{Tag, Frame, InPin, OutPin, Rise, Fall, Across, FromVia, ToVia}
+use Rattle.layout_make.specs.Sheet.{Tag, Frame, InPin, OutPin, Lead, Bar, Rise, Fall, Across, FromVia, ToVia}
 use Rattle.layout_make.specs.declared.marks.Ports.{Ports as Side}
 use Rattle.layout_make.specs.declared.marks.Ports.TheVariants.{Inputs, Outputs}
 use Rattle.layout_make.proofs.Sides.{pins_on, column_on, pin_column, pin_tag, pin_told, is_pin_tag, no_pin}
@@ -78,7 +78,9 @@ pub record FrameFrom (p : PlacedView) (r slot : ℕ) (k : CellKind) : Type 0 whe
 
 pub frame_from : (p : PlacedView) (l : LibraryView) (j r slot : ℕ) (k : CellKind) → At (tags p l) j (Frame r slot k)
     → FrameFrom p r slot k
-frame_from p l j r slot k at = let m = tag_part p l (Frame r slot k) (j, at) in go m.0 m.2
+frame_from p l j r slot k at =
+    let m = tag_part p l (Frame r slot k) (λ e. absurd cc) (λ e. absurd cc) (j, at) in
+    go m.0 m.2
   where
     same : (r slot : ℕ) (k : CellKind) (q : ℕ) (x : Spot) → In x (spots p q)
         → Frame r slot k ≡ Frame q x.slot x.cell.kind → FrameFrom p r slot k
@@ -105,7 +107,8 @@ pub record PinFrom (p : PlacedView) (l : LibraryView) (side : Side) (r c i : ℕ
 
 pub pin_from : (p : PlacedView) (l : LibraryView) (side : Side) (j r c i : ℕ) → At (tags p l) j (pin_tag side r c i)
     → PinFrom p l side r c i
-pin_from p l side j r c i at = let m = tag_part p l (pin_tag side r c i) (j, at) in go m.0 m.2
+pin_from p l side j r c i at = let m = tag_part p l (pin_tag side r c i) (λ e. no_pin side r c i (Lead 0) refl e)
+    (λ e. no_pin side r c i (Bar 0) refl e) (j, at) in go m.0 m.2
   where
     Found : ℕ → ℕ → Spot → Side → Type 0
     Found q n x b = n < pins_on b x.cell.kind → pin_tag side r c i ≡ pin_tag b q (pin_column l b x n) n

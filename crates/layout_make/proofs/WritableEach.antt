@@ -1,7 +1,7 @@
 -- Each structure of a drawing can be written.
 use Rattle.std.proofs.Common.{◌≡◌, ℕ, zero, suc, ◌+◌, ◌-◌, ◌*◌, ◌/◌, ◌<◌, ◌≤◌, ◌^◌, refl, sym, subst, arith, lit<, lit≤}
 use Rattle.std.proofs.Common.{T, ltb, leb, inl, inr, List, [], ◌∷◌, ◌++◌, length, length-append, map, Bool, true, false}
-use Rattle.std.proofs.Common.{◌==◌, Some, None, slice_get, cond, All, pos, FitsSigned}
+use Rattle.std.proofs.Common.{ap, ◌==◌, Some, None, slice_get, cond, All, pos, FitsSigned}
 use Rattle.std.specs.Int.{w32}
 use Rattle.std.specs.Fmt.{decimal}
 use Rattle.std.specs.List.{flat_map, AllByRecursion}
@@ -26,17 +26,21 @@ use Rattle.rowed.specs.PlacedNets.{PlacedView, paired, placed_rows}
 use Rattle.rowed.specs.Extent.{widest, width_limit}
 use Rattle.cell_library.specs.Kinds.{all_kinds}
 use Rattle.cell_library.specs.Library.{LibraryView, input_column_of, output_column_of}
-use Rattle.layout_make.specs.Sheet.{Tag, Lead, Bar, shape_of, centre, lower_edge, lead_first, lead_flank}
+use Rattle.layout_make.specs.Sheet.{Tag, Lead, Bar, Over, RightOf, shape_of, centre, lower_edge, lead_first, lead_flank}
+use Rattle.layout_make.specs.Sheet.{step_low, step_high, step_right}
+use Rattle.layout_make.proofs.SheetKeeps.{IsStep}
+use Rattle.std.proofs.lemmas.Bool.{cases_lt}
+use Rattle.layout_make.proofs.LineShapes.{lead_low}
 use Rattle.layout_make.specs.Spots.{Spot, spots}
 use Rattle.layout_make.specs.Channel.{channel}
-use Rattle.layout_make.specs.Tags.{sheet, cell_tags, wire_tags, line_tags}
+use Rattle.layout_make.specs.Tags.{sheet, cell_tags, wire_tags, line_tags, lag_tags}
 use Rattle.layout_make.specs.Draw as Draw
 use Rattle.layout_make.specs.MayDraw.{MayDraw}
 use Rattle.layout_make.proofs.Columns.{next_edge, edges_apart}
 use Rattle.layout_make.proofs.FlatLaw.{kinds_same}
 use Rattle.layout_make.proofs.Heights.{stands_low}
 use Rattle.layout_make.proofs.Member.{In, in_head, in_append, in_map, in_flat_map, in_upto, in_all, not_in_nil}
-use Rattle.layout_make.proofs.Origins.{WirePart, cell_part, wire_part}
+use Rattle.layout_make.proofs.Origins.{WirePart, cell_part, wire_part, lag_part}
 use Rattle.layout_make.proofs.Ready.{TracksLaw, may_ready, lawful, last_suc}
 use Rattle.layout_make.proofs.PinCounts.{slots_some}
 use Rattle.layout_make.proofs.SizesKept.{are_sizes}
@@ -44,7 +48,7 @@ use Rattle.layout_make.proofs.Sound.{frame_fits, wire_is}
 use Rattle.layout_make.proofs.TopDrawn.{passes, some_such, tells, where_small, used_given, right_some}
 use Rattle.layout_make.proofs.Whole.{wire_row}
 use Rattle.layout_make.proofs.Written.{wire_right, wire_written, flank_written, area_writable, use_small, cell_written}
-use Rattle.layout_make.proofs.Written.{fits_pos}
+use Rattle.layout_make.proofs.Written.{fits_pos, AreHeights, row_heights, lag_heights, link_heights}
 
 pub all_of : {X : Type 0} (P : X → Type 0) (xs : List X) → AllByRecursion P xs → All P xs
 all_of P [] all k d h = absurd (omega arith)
@@ -175,34 +179,73 @@ module _ (p : PlacedView) (l : LibraryView) (law : TracksLaw) (may : MayDraw p l
             (omega arith),
       )
 
-  rises : (r : ℕ) → lower_edge (sheet p l) r ≤ lower_edge (sheet p l) (suc (suc r))
+  step_narrow : (n : ℕ) → IsStep (sheet p l) n
+      → (0 < step_right (sheet p l) n) × (step_right (sheet p l) n ≤ width_limit)
   unfolding sheet
-  rises r = let a = next_edge l (sheet p l).used r in
-      let b = edges_apart l (sheet p l).used r (suc (suc r)) (omega arith) in omega arith
+  step_narrow zero step = (step.lagged refl, may.lag)
+  step_narrow (suc r) step = (right_some p l (may_ready p l law may) (lawful l may.library), may.narrow)
 
-  first_low : (r : ℕ) → lower_edge (sheet p l) (lead_first r) ≤ lower_edge (sheet p l) r
-  first_low zero = omega arith
-  first_low (suc zero) = omega arith
-  first_low (suc (suc r)) = rises r
+  -- from a step up to a row that is not below it
+  step_heights : (n r : ℕ) → n ≤ suc r → r < length p.net.rows
+      → AreHeights (step_low (sheet p l) n) (step_high (sheet p l) (suc r))
+  unfolding sheet
+  step_heights zero r le lt =
+      let sizes = are_sizes l may.library in let laws = lawful l may.library in
+      let low = stands_low p l law may r lt in let a = laws.tall in let b = laws.space_some in
+      link_heights l (lower_edge (sheet p l) r + l.height) (omega arith) sizes.height_most low
+  step_heights (suc q) r le lt =
+      let laws = lawful l may.library in
+      let low = stands_low p l law may r lt in let a = laws.tall in let b = laws.space_some in
+      let rise = edge_rises q r (omega arith) in
+      row_heights (lower_edge (sheet p l) q) (lower_edge (sheet p l) r + l.height) (omega arith) low
+    where
+      edge_rises : (q r : ℕ) → q ≤ r → lower_edge (sheet p l) q ≤ lower_edge (sheet p l) r
+      edge_rises q r le =
+          elim (cases_lt q r) [
+            | inl less ↦ (let a = next_edge l (sheet p l).used q in
+                let b = edges_apart l (sheet p l).used q r less in omega arith)
+            | inr ge ↦ (let e = ap (lower_edge (sheet p l)) (let h : q ≡ r = omega arith in h) in omega arith)
+          ]
 
-  lead_written : (r : ℕ) → r < length p.net.rows → IsWritableShape (shape_of (sheet p l) (Lead r))
+  row_step : (r : ℕ) → r < length p.net.rows → IsStep (sheet p l) (suc r)
+  unfolding sheet
+  row_step r lt = record { below = omega arith; lagged = λ z. absurd (omega arith) }
+
+  lead_written : (r : ℕ) → r < length p.net.rows → IsWritableShape (shape_of (sheet p l) (Lead (suc r)))
   unfolding sheet
   lead_written r lt =
-      let laws = lawful l may.library in let sizes = are_sizes l may.library in
-      let low = stands_low p l law may r lt in
-      let a = laws.tall in let b = laws.space_some in let c = laws.spaced in let narrow = may.narrow in
-      flank_written l _ _ (widest (placed_rows p) * (l.columns * l.pitch)) (lower_edge (sheet p l) (lead_first r))
-      (lower_edge (sheet p l) r) (lead_flank r) (omega arith) (use_small r) (omega arith) sizes.pitch_most
-      (omega arith) (right_some p l (may_ready p l law may) laws) (omega arith) (first_low r) (omega arith)
+      let sizes = are_sizes l may.library in let laws = lawful l may.library in
+      let b = laws.space_some in let c = laws.spaced in
+      let step : IsStep (sheet p l) (suc r) = row_step r lt in
+      let wide = step_narrow (suc r) step in
+      flank_written l _ _ (step_right (sheet p l) (suc r)) _ _ (lead_flank (suc r)) (omega arith)
+      (use_small (sheet p l).lag (suc r)) (omega arith) sizes.pitch_most wide.0 wide.1
+      (step_heights (lead_first (sheet p l).lag (suc r)) r (lead_low (sheet p l).lag (suc r)).1 lt)
 
-  bar_written : (r : ℕ) → r < length p.net.rows → IsWritableShape (shape_of (sheet p l) (Bar r))
+  bar_written : (r : ℕ) → r < length p.net.rows → IsWritableShape (shape_of (sheet p l) (Bar (suc r)))
   unfolding sheet
   bar_written r lt =
-      let laws = lawful l may.library in
-      let low = stands_low p l law may r lt in
-      let a = laws.tall in let b = laws.space_some in let narrow = may.narrow in
-      let some = right_some p l (may_ready p l law may) laws in
-      area_writable _ _ _ (omega arith) (omega arith) some (omega arith) (omega arith) (omega arith)
+      let sizes = are_sizes l may.library in let laws = lawful l may.library in
+      let b = laws.space_some in let c = laws.spaced in
+      let wide = step_narrow (suc r) (row_step r lt) in
+      flank_written l _ _ (step_right (sheet p l) (suc r)) _ _ Over (omega arith) (omega arith) (omega arith)
+      sizes.pitch_most wide.0 wide.1 (step_heights (suc r) r (omega arith) lt)
+
+  lag_written : (t : Tag) → In t (lag_tags p.lag) → IsWritableShape (shape_of (sheet p l) t)
+  unfolding sheet
+  lag_written t h =
+      let sizes = are_sizes l may.library in let laws = lawful l may.library in
+      let a = laws.tall in let b = laws.space_some in let c = laws.spaced in
+      let part = lag_part p.lag t h in
+      let heights = lag_heights l (omega arith) sizes.height_most in
+      elim part.1 [
+        | inl e ↦ subst (λ (u : Tag). IsWritableShape (shape_of (sheet p l) u)) (sym e)
+            (flank_written l _ _ p.lag _ _ RightOf (omega arith) (omega arith) (omega arith) sizes.pitch_most part.0
+            may.lag heights)
+        | inr e ↦ subst (λ (u : Tag). IsWritableShape (shape_of (sheet p l) u)) (sym e)
+            (flank_written l _ _ p.lag _ _ Over (omega arith) (omega arith) (omega arith) sizes.pitch_most part.0
+            may.lag heights)
+      ]
 
   wire_shape : (r : ℕ) (w : Wire) (t : Tag) → In w (channel p l r) → WirePart r w.from_column t
       → IsWritableShape (shape_of (sheet p l) t)
@@ -218,9 +261,9 @@ module _ (p : PlacedView) (l : LibraryView) (law : TracksLaw) (may : MayDraw p l
 
   tag_written : (r : ℕ) → r < length p.net.rows → (t : Tag)
       → In t (line_tags r ++ flat_map (wire_tags r) (channel p l r)) → IsWritableShape (shape_of (sheet p l) t)
-  tag_written r lt t h = elim (in_head t (Lead r) (Bar r ∷ flat_map (wire_tags r) (channel p l r)) h) [
+  tag_written r lt t h = elim (in_head t (Lead (suc r)) (Bar (suc r) ∷ flat_map (wire_tags r) (channel p l r)) h) [
     | inl e ↦ subst (λ (u : Tag). IsWritableShape (shape_of (sheet p l) u)) (sym e) (lead_written r lt)
-    | inr k ↦ elim (in_head t (Bar r) (flat_map (wire_tags r) (channel p l r)) k) [
+    | inr k ↦ elim (in_head t (Bar (suc r)) (flat_map (wire_tags r) (channel p l r)) k) [
       | inl e ↦ subst (λ (u : Tag). IsWritableShape (shape_of (sheet p l) u)) (sym e) (bar_written r lt)
       | inr m ↦ let w = in_flat_map (wire_tags r) t (channel p l r) m in wire_shape r w.0 t w.1 (wire_part r w.0 t w.2)
     ]
@@ -305,10 +348,14 @@ module _ (p : PlacedView) (l : LibraryView) (law : TracksLaw) (may : MayDraw p l
 
   element_written : (e : Element) → In e (Draw.top_elements p l) → IsWritableElement count e
   element_written e h =
-      elim (in_append e (flat_map (Draw.row_elements p l) (numbers 0 (length p.net.rows)))
-      (map (λ (b : Label). Text b) (Draw.labels p l)) h) [
-        | inl k ↦ let r = in_flat_map (Draw.row_elements p l) e (numbers 0 (length p.net.rows)) k in
-            row_written r.0 (in_upto (length p.net.rows) r.0 r.1) e r.2
+      elim (in_append e (Draw.shape_elements p l) (map (λ (b : Label). Text b) (Draw.labels p l)) h) [
+        | inl k ↦ elim (in_append e (flat_map (Draw.row_elements p l) (numbers 0 (length p.net.rows)))
+            (Draw.boxes (sheet p l) (lag_tags p.lag)) k) [
+              | inl m ↦ let r = in_flat_map (Draw.row_elements p l) e (numbers 0 (length p.net.rows)) m in
+                  row_written r.0 (in_upto (length p.net.rows) r.0 r.1) e r.2
+              | inr m ↦ let t = in_map (λ (u : Tag). Box (shape_of (sheet p l) u)) e (lag_tags p.lag) m in
+                  subst (IsWritableElement count) (sym t.2) (lag_written t.0 t.1)
+            ]
         | inr k ↦ let b = in_map (λ (b : Label). Text b) e (Draw.labels p l) k in
             subst (IsWritableElement count) (sym b.2) (text_written b.0 b.1)
       ]

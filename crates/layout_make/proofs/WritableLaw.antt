@@ -28,7 +28,7 @@ use Rattle.cell_library.specs.Library.{LibraryView}
 use Rattle.layout_make.specs.Sheet.{Sheet, Tag, shape_of}
 use Rattle.layout_make.specs.Spots.{spots}
 use Rattle.layout_make.specs.Channel.{channel}
-use Rattle.layout_make.specs.Tags.{sheet, cell_tags, line_tags, wire_tags}
+use Rattle.layout_make.specs.Tags.{sheet, cell_tags, line_tags, wire_tags, lag_tags}
 use Rattle.layout_make.specs.Draw as Draw
 use Rattle.layout_make.specs.MayDraw.{MayDraw}
 use Rattle.layout_make.proofs.FlatLaw.{kind_used, kinds_same, structure_found}
@@ -199,10 +199,17 @@ module _ (p : PlacedView) (l : LibraryView) where
 
       go : Refers n (Draw.top_elements p l) → OfKind n
       go h =
-          elim (in_append (Place n h.x h.y) (flat_map (Draw.row_elements p l) (numbers 0 (length p.net.rows)))
+          elim (in_append (Place n h.x h.y) (Draw.shape_elements p l)
           (map (λ (b : Label). Text b) (Draw.labels p l)) h.there) [
-            | inl k ↦ let r = in_flat_map (Draw.row_elements p l) (Place n h.x h.y) (numbers 0 (length p.net.rows)) k in
-                in_row r.0 h.x h.y r.2
+            | inl k ↦ elim (in_append (Place n h.x h.y)
+                (flat_map (Draw.row_elements p l) (numbers 0 (length p.net.rows)))
+                (Draw.boxes (sheet p l) (lag_tags p.lag)) k) [
+                  | inl m ↦ let r = in_flat_map (Draw.row_elements p l) (Place n h.x h.y) (numbers 0 (length p.net.rows))
+                      m in in_row r.0 h.x h.y r.2
+                  | inr m ↦ let t = in_map (λ (u : Tag). Box (shape_of (sheet p l) u)) (Place n h.x h.y)
+                      (lag_tags p.lag) m in
+                      absurd (let f : Place n h.x h.y ≡ Box (shape_of (sheet p l) t.0) = t.2 in cc)
+                ]
             | inr k ↦ let b = in_map (λ (b : Label). Text b) (Place n h.x h.y) (Draw.labels p l) k in
                 absurd (let f : Place n h.x h.y ≡ Text b.0 = b.2 in cc)
           ]
@@ -283,9 +290,11 @@ module _ (p : PlacedView) (l : LibraryView) (law : TracksLaw) (may : MayDraw p l
       let in_rows = flat_map_in (Draw.row_elements p l) row.0 (Draw.place_of_spot p l row.0 x.0)
       (numbers 0 (length p.net.rows)) (upto_in (length p.net.rows) row.0 (bound p.net.rows row.0 row.1 row.2))
       in_row in
-      let in_top = in_left (Draw.place_of_spot p l row.0 x.0)
+      let in_shapes = in_left (Draw.place_of_spot p l row.0 x.0)
       (flat_map (Draw.row_elements p l) (numbers 0 (length p.net.rows)))
-      (map (λ (b : Label). Text b) (Draw.labels p l)) in_rows in
+      (Draw.boxes (sheet p l) (lag_tags p.lag)) in_rows in
+      let in_top = in_left (Draw.place_of_spot p l row.0 x.0) (Draw.shape_elements p l)
+      (map (λ (b : Label). Text b) (Draw.labels p l)) in_shapes in
       only_top l n ks (Draw.top_of p l) ∙ or-false (refers_to n (Draw.top_elements p l))
       ∙ ap (λ (m : ℕ). refers_to m (Draw.top_elements p l)) (sym same) ∙ in_refers _ _ _ (Draw.top_elements p l)
       in_top.0 in_top.1

@@ -1,6 +1,7 @@
 -- What is drawn fits the numbers of a stream.
 use Rattle.std.proofs.Common.{◌≡◌, ℕ, zero, suc, ◌+◌, ◌*◌, ◌/◌, ◌<◌, ◌≤◌, ◌^◌, min, max, sym, ap, subst, ◌∙◌, arith}
-use Rattle.std.proofs.Common.{lt→ltb, inl, inr, pos, negsuc, neg_ℤ, ◌<ℤ◌, FitsSigned}
+use Rattle.std.proofs.Common.{lt→ltb, inl, inr, pos, negsuc, neg_ℤ, ◌<ℤ◌, ℤ, FitsSigned, Bool, true, false}
+use Rattle.std.proofs.Common.{if◌then◌else◌}
 use Rattle.std.specs.Int.{w32}
 use Rattle.std.proofs.lemmas.Int.{fits_signed_from_abs}
 use Rattle.std.proofs.Math.Nat.{mul-le-mul_right}
@@ -18,7 +19,8 @@ use Rattle.cell_library.specs.Reach.{slot_width_of}
 use Rattle.layout_make.proofs.Lawful.{IsLawful}
 use Rattle.layout_make.specs.Code.Sizes.{AreSizes}
 use Rattle.layout_make.specs.Sheet.{Sheet, Tag, Area, Frame, InPin, OutPin, centre, edge, rect_of, shape_of, lower_edge}
-use Rattle.layout_make.specs.Sheet.{flank_rect, Flank, LeftOf, Over, RightOf, lead_use}
+use Rattle.layout_rules.specs.declared.layers.TheConstants.{START, LINK}
+use Rattle.layout_make.specs.Sheet.{flank_rect, Flank, LeftOf, Over, RightOf, begins, lead_use}
 use Rattle.layout_make.specs.declared.marks.Ports.TheVariants.{Inputs, Outputs}
 use Rattle.layout_make.proofs.SheetKeeps.{IsWire}
 use Rattle.layout_make.specs.Spots.{Spot}
@@ -139,31 +141,82 @@ wire_written s laws sizes r c t part w from to low = go part
 
 -- lines
 
-pub use_small : (r : ℕ) → lead_use r < 2 ^ 16
-use_small zero = omega arith
-use_small (suc zero) = omega arith
-use_small (suc (suc r)) = omega arith
+pub use_small : (lag n : ℕ) → lead_use lag n < 2 ^ 16
+use_small lag n = go (begins lag n)
+  where
+    go : (b : Bool) → (if b then START else LINK) < 2 ^ 16
+    go true = omega arith
+    go false = omega arith
 
-pub flank_written : (l : LibraryView) (layer datatype right first row : ℕ) (flank : Flank) → layer < 2 ^ 16
-    → datatype < 2 ^ 16 → 1 ≤ l.pitch → l.pitch ≤ 1000000 → 1 ≤ l.height → 0 < right → right ≤ width_limit
-    → first ≤ row → row + l.height ≤ 2147483647
-    → IsWritableShape (record { layer = layer; datatype = datatype; rect = flank_rect l right flank first row })
-flank_written l layer datatype right first row LeftOf a b some few tall wide narrow le low = record {
+-- heights that fit, the one below the other
+pub record AreHeights (low high : ℤ) : Type 0 where
+  pub rise : low <ℤ high
+  pub low_fits : FitsSigned w32 low
+  pub high_fits : FitsSigned w32 high
+
+pub row_heights : (low high : ℕ) → low < high → high ≤ 2147483647 → AreHeights (pos low) (pos high)
+row_heights low high lt fits = record {
+  rise = pos_less low high lt;
+  low_fits = fits_pos low (omega arith);
+  high_fits = fits_pos high (omega arith);
+}
+
+less_below : (a b : ℕ) → b < a → neg_ℤ (pos a) <ℤ neg_ℤ (pos b)
+less_below zero b h = absurd (omega arith)
+less_below (suc a) zero h = record { lt = tt }
+less_below (suc a) (suc b) h = record { lt = lt→ltb b a (omega arith) }
+
+-- those of a delay, below the rows, and those from there up to a row
+pub lag_heights : (l : LibraryView) → 1 ≤ l.height → l.height ≤ 1000000
+    → AreHeights (neg_ℤ (pos (2 * l.height))) (neg_ℤ (pos l.height))
+lag_heights l some most = record {
+  rise = less_below (2 * l.height) l.height (omega arith);
+  low_fits = fits_neg (2 * l.height) (omega arith);
+  high_fits = fits_neg l.height (omega arith);
+}
+
+neg_under : (a b : ℕ) → 0 < a → neg_ℤ (pos a) <ℤ pos b
+neg_under zero b h = absurd (omega arith)
+neg_under (suc a) b h = record { lt = tt }
+
+pub link_heights : (l : LibraryView) (high : ℕ) → 1 ≤ l.height → l.height ≤ 1000000 → high ≤ 2147483647
+    → AreHeights (neg_ℤ (pos (2 * l.height))) (pos high)
+link_heights l high some most fits = record {
+  rise = neg_under (2 * l.height) high (omega arith);
+  low_fits = fits_neg (2 * l.height) (omega arith);
+  high_fits = fits_pos high (omega arith);
+}
+
+pub flank_written : (l : LibraryView) (layer datatype right : ℕ) (low high : ℤ) (flank : Flank) → layer < 2 ^ 16
+    → datatype < 2 ^ 16 → 1 ≤ l.pitch → l.pitch ≤ 1000000 → 0 < right → right ≤ width_limit → AreHeights low high
+    → IsWritableShape (record { layer = layer; datatype = datatype; rect = flank_rect l right flank low high })
+flank_written l layer datatype right low high LeftOf a b some few wide narrow are = record {
   layer = a;
   datatype = b;
-  proper = record { wide = neg_less (2 * l.pitch) (omega arith); high = pos_less first (row + l.height) (omega arith) };
+  proper = record { wide = neg_less (2 * l.pitch) (omega arith); high = are.rise };
   left = fits_neg (2 * l.pitch) (omega arith);
-  bottom = fits_pos first (omega arith);
+  bottom = are.low_fits;
   right = fits_pos 0 (omega arith);
-  above = fits_pos (row + l.height) (omega arith);
+  above = are.high_fits;
 }
-flank_written l layer datatype right first row Over a b some few tall wide narrow le low =
-    area_writable layer datatype (record { left = 0; low = first; right = right; high = row + l.height }) a b
-    (omega arith) (omega arith) (omega arith) (omega arith)
-flank_written l layer datatype right first row RightOf a b some few tall wide narrow le low =
-    area_writable layer datatype
-    (record { left = right; low = first; right = right + 2 * l.pitch; high = row + l.height }) a b (omega arith)
-    (omega arith) (omega arith) (omega arith)
+flank_written l layer datatype right low high Over a b some few wide narrow are = record {
+  layer = a;
+  datatype = b;
+  proper = record { wide = pos_less 0 right wide; high = are.rise };
+  left = fits_pos 0 (omega arith);
+  bottom = are.low_fits;
+  right = fits_pos right (omega arith);
+  above = are.high_fits;
+}
+flank_written l layer datatype right low high RightOf a b some few wide narrow are = record {
+  layer = a;
+  datatype = b;
+  proper = record { wide = pos_less right (right + 2 * l.pitch) (omega arith); high = are.rise };
+  left = fits_pos right (omega arith);
+  bottom = are.low_fits;
+  right = fits_pos (right + 2 * l.pitch) (omega arith);
+  above = are.high_fits;
+}
 
 -- cells by themselves
 

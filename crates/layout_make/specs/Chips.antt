@@ -13,6 +13,7 @@ abbrev pub first_placed : PlacedView
 first_placed = record {
   net = record { inputs = 1; outputs = 1; rows = (input_cell 0 ∷ []) ∷ (output_cell (source 0 0) 0 ∷ []) ∷ [] };
   slots = (0 ∷ []) ∷ (0 ∷ []) ∷ [];
+  lag = 0;
 }
 
 -- the and of two inputs: a majority with a constant between them
@@ -27,6 +28,7 @@ second_placed = record {
         ∷ [];
   };
   slots = (0 ∷ 1 ∷ 2 ∷ []) ∷ (0 ∷ []) ∷ (0 ∷ []) ∷ [];
+  lag = 0;
 }
 
 -- its flat form
@@ -95,6 +97,7 @@ third_placed = record {
         ∷ [];
   };
   slots = (0 ∷ []) ∷ (0 ∷ []) ∷ (0 ∷ 1 ∷ 2 ∷ []) ∷ [];
+  lag = 0;
 }
 
 -- its flat form

@@ -22,7 +22,7 @@ use Rattle.cell_library.specs.Library.{LibraryView, input_column_of, output_colu
 use Rattle.layout_make.specs.Sheet.{Sheet, Tag, shape_of, centre, lower_edge}
 use Rattle.layout_make.specs.Spots.{Spot, spots, has_port, input_port, output_port}
 use Rattle.layout_make.specs.Channel.{channel}
-use Rattle.layout_make.specs.Tags.{sheet, cell_tags, wire_tags, line_tags}
+use Rattle.layout_make.specs.Tags.{sheet, cell_tags, wire_tags, line_tags, lag_tags}
 
 -- the name of a kind's structure
 abbrev pub kind_name : CellKind → List ℕ
@@ -40,6 +40,7 @@ alone l = record {
   library = l;
   rows = 0;
   right = 0;
+  lag = 0;
   used = λ r. 0;
   wired = λ r c. false;
   to = λ r c. 0;
@@ -118,9 +119,13 @@ output_label p l n = record {
 abbrev pub labels : PlacedView → LibraryView → List Label
 labels p l = map (input_label p l) (numbers 0 p.net.inputs) ++ map (output_label p l) (numbers 0 p.net.outputs)
 
--- the elements of the top: the rows from the lowest on, and the labels
+-- the rows from the lowest on, and the delay
+abbrev pub shape_elements : PlacedView → LibraryView → List Element
+shape_elements p l = flat_map (row_elements p l) (numbers 0 (length p.net.rows)) ++ boxes (sheet p l) (lag_tags p.lag)
+
+-- the elements of the top: those, and the labels
 abbrev pub top_elements : PlacedView → LibraryView → List Element
-top_elements p l = flat_map (row_elements p l) (numbers 0 (length p.net.rows)) ++ map (λ b. Text b) (labels p l)
+top_elements p l = shape_elements p l ++ map (λ b. Text b) (labels p l)
 
 -- the top structure
 abbrev pub top_of : PlacedView → LibraryView → Structure

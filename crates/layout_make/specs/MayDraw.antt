@@ -4,7 +4,7 @@ use Rattle.std.specs.List.{AllByRecursion}
 use Rattle.rowed.specs.declared.row_cell.RowCell.{RowCell}
 use Rattle.rowed.specs.PlacedNets.{PlacedView, IsPlaced, placed_rows}
 use Rattle.rowed.specs.Short.{AreShort}
-use Rattle.rowed.specs.Extent.{widest, KeepsWidth, height_limit}
+use Rattle.rowed.specs.Extent.{widest, KeepsWidth, height_limit, width_limit}
 use Rattle.cell_library.specs.Library.{LibraryView, IsGiven}
 use Rattle.cell_library.specs.Laws.{IsLibrary}
 use Rattle.cell_library.specs.Reach.{reach_of, slot_width_of}
@@ -26,6 +26,8 @@ pub record MayDraw (p : PlacedView) (l : LibraryView) : Type 0 where
   pub short : AreShort (reach_of l) (placed_rows p)
   pub narrow : KeepsWidth (widest (placed_rows p)) (slot_width_of l)
   pub low : most_height l (length p.net.rows) ≤ height_limit
+  -- the bar that delays the odd rows is no wider than a row may be
+  pub lag : p.lag ≤ width_limit
   -- so that the number of each label is one of 32 bits
   pub few_inputs : p.net.inputs < 2 ^ 32
   pub few_outputs : p.net.outputs < 2 ^ 32

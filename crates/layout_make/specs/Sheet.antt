@@ -1,5 +1,6 @@
 -- What is drawn: a sheet says where wires go, a tag names one shape, and its place follows in closed form.
-use Rattle.std.specs.Prelude.{ℕ, zero, suc, ◌+◌, ◌-◌, ◌*◌, ◌/◌, ◌%◌, min, max, Bool, pos, neg_ℤ, nat_lt, if◌then◌else◌}
+use Rattle.std.specs.Prelude.{ℕ, zero, suc, ◌+◌, ◌-◌, ◌*◌, ◌/◌, ◌%◌, min, max, Bool, true, false, ℤ, pos, neg_ℤ}
+use Rattle.std.specs.Prelude.{nat_lt, if◌then◌else◌}
 use Rattle.circuit.specs.CellKinds.{number_of, slots_of}
 use Rattle.circuit.specs.declared.cell_kind.CellKind.{CellKind}
 use Rattle.geom.specs.Rectangle.{Rectangle, positive_part}
@@ -16,6 +17,8 @@ pub record Sheet : Type 0 where
   pub rows : ℕ
   -- the right end of the widest row
   pub right : ℕ
+  -- the right end of the bar below the rows that delays the odd rows' excitation; 0 where there is none
+  pub lag : ℕ
   -- how many tracks the channel above row r uses
   pub used : ℕ → ℕ
   -- a wire begins in column c of row r
@@ -26,7 +29,8 @@ pub record Sheet : Type 0 where
 
 -- A shape is named by its row, and then: a frame by its slot and kind, a pin by its column and number, and the parts
 -- of a wire by the column where the wire begins. They are: up from the output pin, up to the input pin, across, and
--- the vias.
+-- the vias. The bars of the lines and what leads to them are named by steps: step 0 is the bar that delays the odd
+-- rows, and step r + 1 is row r.
 pub data Tag : Type 0 where
   Frame : ℕ → ℕ → CellKind → Tag
   InPin : ℕ → ℕ → ℕ → Tag
@@ -98,11 +102,11 @@ lower_edge s r = edge s.library s.used r
 abbrev pub track_of : Sheet → ℕ → ℕ → ℕ
 track_of s r c = track_centre s.library s.used r (s.track r c)
 
--- The excitation lines: a start or link stands left of the chip or right of it, and spans rows.
+-- The excitation lines: a start or link stands left of the chip or right of it, and spans steps.
 
--- the line comes to this row from the right
+-- the line comes to the bar of this step from the right
 abbrev pub turns_right : ℕ → Bool
-turns_right r = nat_lt 1 (r % 4)
+turns_right n = nat_lt (suc n % 4) 2
 
 -- where a part of a line stands
 pub data Flank : Type 0 where
@@ -110,41 +114,65 @@ pub data Flank : Type 0 where
   Over : Flank
   RightOf : Flank
 
--- the side of a row's lead
+-- the side of a step's lead
 abbrev pub lead_flank : ℕ → Flank
-lead_flank r = (if turns_right r then RightOf else LeftOf)
+lead_flank n = (if turns_right n then RightOf else LeftOf)
 
--- the row where a row's lead begins: two rows below, where the line was last
-abbrev pub lead_first : ℕ → ℕ
-lead_first zero = 0
-lead_first (suc zero) = 1
-lead_first (suc (suc r)) = r
+-- there is no delay
+abbrev pub lags_not : ℕ → Bool
+lags_not zero = true
+lags_not (suc lag) = false
+
+-- the line begins at this step: at the delay bar or the lowest row, and where there is no such bar at the second row
+abbrev pub begins : ℕ → ℕ → Bool
+begins lag zero = true
+begins lag (suc zero) = true
+begins lag (suc (suc zero)) = lags_not lag
+begins lag (suc (suc (suc n))) = false
+
+-- the step where a step's lead begins: two steps below, where the line was last
+abbrev pub lead_first : ℕ → ℕ → ℕ
+lead_first lag zero = 0
+lead_first lag (suc zero) = 1
+lead_first lag (suc (suc n)) = (if begins lag (suc (suc n)) then suc (suc n) else n)
 
 -- the first lead of each line is a start, and the others are links
-abbrev pub lead_use : ℕ → ℕ
-lead_use zero = START
-lead_use (suc zero) = START
-lead_use (suc (suc r)) = LINK
+abbrev pub lead_use : ℕ → ℕ → ℕ
+lead_use lag n = (if begins lag n then START else LINK)
 
--- the rectangle on a flank from one lower edge to the row over another
-abbrev pub flank_rect : LibraryView → ℕ → Flank → ℕ → ℕ → Rectangle
-flank_rect l right LeftOf first last =
-    record { x0 = neg_ℤ (pos (2 * l.pitch)); y0 = pos first; x1 = pos 0; y1 = pos (last + l.height) }
-flank_rect l right Over first last = record { x0 = pos 0; y0 = pos first; x1 = pos right; y1 = pos (last + l.height) }
-flank_rect l right RightOf first last =
-    record { x0 = pos right; y0 = pos first; x1 = pos (right + 2 * l.pitch); y1 = pos (last + l.height) }
+-- the rectangle on a flank of a bar with this right end, from one height to another
+abbrev pub flank_rect : LibraryView → ℕ → Flank → ℤ → ℤ → Rectangle
+flank_rect l right LeftOf low high = record { x0 = neg_ℤ (pos (2 * l.pitch)); y0 = low; x1 = pos 0; y1 = high }
+flank_rect l right Over low high = record { x0 = pos 0; y0 = low; x1 = pos right; y1 = high }
+flank_rect l right RightOf low high =
+    record { x0 = pos right; y0 = low; x1 = pos (right + 2 * l.pitch); y1 = high }
 
--- the rectangle on a flank from row a to row b
-abbrev pub line_rect : Sheet → Flank → ℕ → ℕ → Rectangle
-line_rect s flank a b = flank_rect s.library s.right flank (lower_edge s a) (lower_edge s b)
+-- the right end of a step's bar
+abbrev pub step_right : Sheet → ℕ → ℕ
+step_right s zero = s.lag
+step_right s (suc r) = s.right
+
+-- the lower edge of a step's bar: the delay bar lies a row's height below the rows
+abbrev pub step_low : Sheet → ℕ → ℤ
+step_low s zero = neg_ℤ (pos (2 * s.library.height))
+step_low s (suc r) = pos (lower_edge s r)
+
+-- and its upper edge
+abbrev pub step_high : Sheet → ℕ → ℤ
+step_high s zero = neg_ℤ (pos s.library.height)
+step_high s (suc r) = pos (lower_edge s r + s.library.height)
+
+-- the rectangle on a flank of step n's bar, from step a to step b
+abbrev pub line_rect : Sheet → ℕ → Flank → ℕ → ℕ → Rectangle
+line_rect s n flank a b = flank_rect s.library (step_right s n) flank (step_low s a) (step_high s b)
 
 -- the layer of a shape
 abbrev pub layer_of : Tag → ℕ
 layer_of (Frame r slot kind) = FRAME
 layer_of (InPin r c i) = INPUT_PIN
 layer_of (OutPin r c i) = OUTPUT_PIN
-layer_of (Lead r) = EVEN_LINE + r % 2
-layer_of (Bar r) = EVEN_LINE + r % 2
+layer_of (Lead n) = EVEN_LINE + suc n % 2
+layer_of (Bar n) = EVEN_LINE + suc n % 2
 layer_of (Rise r c) = M1
 layer_of (Fall r c) = M1
 layer_of (Across r c) = M2
@@ -152,17 +180,17 @@ layer_of (FromVia r c) = VIA
 layer_of (ToVia r c) = VIA
 
 -- its datatype
-abbrev pub datatype_of : Tag → ℕ
-datatype_of (Frame r slot kind) = number_of kind
-datatype_of (InPin r c i) = i
-datatype_of (OutPin r c i) = i
-datatype_of (Lead r) = lead_use r
-datatype_of (Bar r) = BAR
-datatype_of (Rise r c) = 0
-datatype_of (Fall r c) = 0
-datatype_of (Across r c) = 0
-datatype_of (FromVia r c) = 0
-datatype_of (ToVia r c) = 0
+abbrev pub datatype_of : Sheet → Tag → ℕ
+datatype_of s (Frame r slot kind) = number_of kind
+datatype_of s (InPin r c i) = i
+datatype_of s (OutPin r c i) = i
+datatype_of s (Lead n) = lead_use s.lag n
+datatype_of s (Bar n) = BAR
+datatype_of s (Rise r c) = 0
+datatype_of s (Fall r c) = 0
+datatype_of s (Across r c) = 0
+datatype_of s (FromVia r c) = 0
+datatype_of s (ToVia r c) = 0
 
 -- its rectangle
 abbrev pub place_of : Sheet → Tag → Rectangle
@@ -175,8 +203,8 @@ place_of s (Frame r slot kind) = rect_of (record {
 place_of s (InPin r c i) = rect_of (upright s.library c (lower_edge s r) (lower_edge s r + s.library.pin))
 place_of s (OutPin r c i) = rect_of (upright s.library c (lower_edge s r + s.library.height - s.library.pin)
     (lower_edge s r + s.library.height))
-place_of s (Lead r) = line_rect s (lead_flank r) (lead_first r) r
-place_of s (Bar r) = line_rect s Over r r
+place_of s (Lead n) = line_rect s n (lead_flank n) (lead_first s.lag n) n
+place_of s (Bar n) = line_rect s n Over n n
 place_of s (Rise r c) = rect_of (rise_area s.library (lower_edge s r) c (track_of s r c))
 place_of s (Fall r c) = rect_of (fall_area s.library (lower_edge s (suc r)) (s.to r c) (track_of s r c))
 place_of s (Across r c) = rect_of (across_area s.library c (s.to r c) (track_of s r c))
@@ -190,4 +218,4 @@ area s tag = let r = place_of s tag in let x = positive_part r.x0 in let y = pos
 
 -- the shape of a tag
 abbrev pub shape_of : Sheet → Tag → Shape
-shape_of s tag = record { layer = layer_of tag; datatype = datatype_of tag; rect = place_of s tag }
+shape_of s tag = record { layer = layer_of tag; datatype = datatype_of s tag; rect = place_of s tag }

@@ -1,5 +1,5 @@
 -- The shapes of a drawing, each by its tag, in the order of the flat form.
-use Rattle.std.specs.Prelude.{◌≡◌, ℕ, ◌+◌, ◌*◌, List, [], ◌∷◌, ◌++◌, map, length, nat_lt, slice_index_or}
+use Rattle.std.specs.Prelude.{◌≡◌, ℕ, zero, suc, ◌+◌, ◌*◌, List, [], ◌∷◌, ◌++◌, map, length, nat_lt, slice_index_or}
 use Rattle.std.specs.Prelude.{slice_get, Some}
 use Rattle.std.specs.List.{flat_map}
 use Rattle.circuit.specs.CellKinds.{inputs_of, outputs_of}
@@ -28,6 +28,7 @@ sheet p l = record {
   library = l;
   rows = length p.net.rows;
   right = widest (placed_rows p) * (l.columns * l.pitch);
+  lag = p.lag;
   used = λ r. tracks_used (channel p l r);
   wired = λ r c. nat_lt (wire_place (channel p l r) c) (length (channel p l r));
   to = λ r c. slice_index_or (map end_of (channel p l r)) (wire_place (channel p l r) c) 0;
@@ -52,15 +53,20 @@ wire_tags r w = Rise r w.from_column ∷ Fall r w.from_column ∷ Across r w.fro
 
 -- the shapes of a row's line
 abbrev pub line_tags : ℕ → List Tag
-line_tags r = Lead r ∷ Bar r ∷ []
+line_tags r = Lead (suc r) ∷ Bar (suc r) ∷ []
+
+-- the start and the bar of a delay of this width, and none of none
+abbrev pub lag_tags : ℕ → List Tag
+lag_tags zero = []
+lag_tags (suc lag) = Lead 0 ∷ Bar 0 ∷ []
 
 -- the shapes of a row and of the channel above it
 abbrev pub row_tags : PlacedView → LibraryView → ℕ → List Tag
 row_tags p l r = flat_map (spot_tags l r) (spots p r) ++ (line_tags r ++ flat_map (wire_tags r) (channel p l r))
 
--- all shapes, by rising row
+-- all shapes, by rising row, and last those of the delay
 abbrev pub tags : PlacedView → LibraryView → List Tag
-tags p l = flat_map (row_tags p l) (numbers 0 (length p.net.rows))
+tags p l = flat_map (row_tags p l) (numbers 0 (length p.net.rows)) ++ lag_tags p.lag
 
 -- tag t stands at number i
 abbrev pub At : List Tag → ℕ → Tag → Type 0

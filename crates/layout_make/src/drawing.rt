@@ -1,5 +1,5 @@
 // The drawing of a placed net.
-ghost use Rattle.std.specs.Prelude.{◌≡◌, ℕ, ◌<◌, ◌≤◌, ◌+◌, ◌*◌, ◌^◌, ◌++◌, length, map, slice_get, Some};
+ghost use Rattle.std.specs.Prelude.{◌≡◌, ℕ, ◌<◌, ◌≤◌, ◌+◌, ◌*◌, ◌^◌, ◌++◌, length, map, slice_get, Some, pos, ◌≤ℤ◌};
 ghost use Rattle.std.specs.Prelude.{IfOk, IfErr, OnOk};
 ghost use Rattle.geom.specs.Writable.{IsWritable};
 ghost use Rattle.rowed.specs.PlacedNets.{placed_rows};
@@ -15,13 +15,13 @@ ghost use Rattle.cell_library.specs.Library.{IsGiven};
 ghost use Rattle.layout_make.specs.Tags.{sheet, wire_tags};
 ghost use Rattle.layout_make.specs.Draw.{draw as drawn, boxes, used_kinds, cell_structure, last_row};
 ghost use Rattle.layout_make.specs.Draw.{row_elements, top_elements};
-ghost use Rattle.layout_make.specs.Code.Boxes.{bend_of, place_box, row_boxes, channel_boxes};
+ghost use Rattle.layout_make.specs.Code.Boxes.{bend_of, place_box, row_boxes, channel_boxes, lead_low};
 ghost use Rattle.layout_make.specs.Size.{element_number, element_limit, RefusesSize};
 ghost use Rattle.rowed.specs.Extent.{widest, KeepsWidth};
 ghost use Rattle.layout_make.specs.MayDraw.{MayDraw};
 
 use crate::marks::{Ports, push_labels};
-use crate::rows::{bar, known_sizes, lead, push_wire_boxes};
+use crate::rows::{bar, known_sizes, lead, push_lag, push_wire_boxes};
 use crate::sizing::element_number;
 use crate::spots::{Row, Spot, input_count, output_count};
 use crate::structures::{cell_structure, kind_place, used_kinds};
@@ -195,14 +195,32 @@ fn right_end(placed: &Placed, library: &Library) -> u64
     placed.span() * (library.columns() * library.pitch())
 }
 
-/// Adds the cells and the line of a row, from the row with the lower edge `first` on.
+/// Where the lead of a row begins, which has this lower edge, as the row two below has the other one.
+fn lead_low(library: &Library, lag: u64, number: usize, edge: u64, two_before: u64) -> i64
+    requires edge { edge < 2 ^ 40 }
+    requires two_before { two_before < 2 ^ 40 }
+    ensures { result ≡ lead_low library.now lag number edge two_before }
+{
+    known_sizes(library);
+    if number == 1 && lag > 0 {
+        -2 * library.height() as i64
+    } else if number < 2 {
+        edge as i64
+    } else {
+        two_before as i64
+    }
+}
+
+/// Adds the cells and the line of a row, which has this lower edge, as the row two below has the other one.
+#[tactic(auto, using(crate::proofs::RowsDrawn::low_leads))]
 fn push_row(
     library: &Library,
     kinds: &[CellKind],
     right: u64,
+    lag: u64,
     number: usize,
     row: &Row,
-    first: u64,
+    two_before: u64,
     edge: u64,
     elements: &mut Vec<Element>,
 ) -> Result<(), Memory>
@@ -210,13 +228,15 @@ fn push_row(
     requires kinds { length kinds.now < 2 ^ 32 }
     requires some { 0 < right }
     requires right { right < 2 ^ 40 }
-    requires first { first ≤ edge }
+    requires two_before { two_before ≤ edge }
     requires edge { edge < 2 ^ 40 }
     ensures { OnOk result (elements.new.items ≡ elements.old.items
-        ++ row_boxes library.now kinds.now right number (spots_of row.now.cells.now row.now.slots.now) first edge) }
+        ++ row_boxes library.now kinds.now right lag number (spots_of row.now.cells.now row.now.slots.now)
+        (lead_low library.now lag number edge two_before) edge) }
 {
     push_places(library, kinds, row, edge, elements)?;
-    elements.push(lead(library, right, number, first, edge))?;
+    let first = lead_low(library, lag, number, edge, two_before);
+    elements.push(lead(library, right, lag, number, first, edge))?;
     elements.push(bar(library, right, number, edge))?;
     Ok(())
 }
@@ -246,14 +266,14 @@ fn row_elements(
     let mut two_before = 0;
     for number in 0..count {
         let row = Row::of(placed, number);
-        let first = if number < 2 { edge } else { two_before };
         push_row(
             library,
             kinds,
             right,
+            placed.lag,
             number,
             &row,
-            first,
+            two_before,
             edge,
             &mut elements,
         )?;
@@ -282,6 +302,7 @@ fn top_elements(
     library.known();
     tracks_are_fewest();
     let (mut elements, edge) = row_elements(alloc, placed, library, kinds)?;
+    push_lag(library, placed.lag, &mut elements)?;
     let bottom = Row::of(placed, 0);
     let column = library.input_column(CellKind::Buffer, 0);
     push_labels(

@@ -45,10 +45,10 @@ pub fn drawing_laws()
 pub fn drawing_ways()
     ensures cells { (p : PlacedView) (l : LibraryView) (r n f near far : ℕ) (frame : Shape) → MayDraw p l
         → FrameAt p l r n f → Is (flat_shapes p l) f frame → LiesAt (flat_shapes p l) frame near far
-        → (way_to (sheet p l) r ≤ near) × (far ≤ way_to (sheet p l) r + (sheet p l).right) }
+        → (way_to (sheet p l) (suc r) ≤ near) × (far ≤ way_to (sheet p l) (suc r) + (sheet p l).right) }
     ensures rows { (p : PlacedView) (l : LibraryView) (r : ℕ) → r < length p.net.rows
-        → (way_to (sheet p l) r + (sheet p l).right ≤ way_to (sheet p l) (suc r) + skew_limit (sheet p l))
-        × (way_to (sheet p l) (suc r) + (sheet p l).right ≤ way_to (sheet p l) r + skew_limit (sheet p l)) }
+        → (way_to (sheet p l) (suc r) + (sheet p l).right ≤ way_to (sheet p l) (suc (suc r)) + skew_limit (sheet p l))
+        × (way_to (sheet p l) (suc (suc r)) + (sheet p l).right ≤ way_to (sheet p l) (suc r) + skew_limit (sheet p l)) }
 {
     tracks_are_fewest();
     ways_add_up();

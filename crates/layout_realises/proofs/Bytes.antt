@@ -32,7 +32,7 @@ use Rattle.layout_make.specs.Channel.{channel}
 use Rattle.layout_make.specs.Draw as Draw
 use Rattle.layout_make.specs.Sheet.{Sheet, Tag, shape_of, lower_edge}
 use Rattle.layout_make.specs.Spots.{spots}
-use Rattle.layout_make.specs.Tags.{sheet, cell_tags, wire_tags, line_tags}
+use Rattle.layout_make.specs.Tags.{sheet, cell_tags, wire_tags, line_tags, lag_tags}
 use Rattle.layout_make.specs.declared.spots.Spot.{Spot}
 use Rattle.layout_realises.proofs.Counts.{cell_shapes}
 
@@ -201,9 +201,11 @@ module _ (p : PlacedView) (l : LibraryView) (few_inputs : p.net.inputs < 2 ^ 32)
 
   top_small : IsSmall names (Draw.top_elements p l)
   top_small =
-      small_append names (flat_map (Draw.row_elements p l) (numbers 0 (length p.net.rows)))
-      (map (λ b. Text b) (Draw.labels p l))
-      (rows_small names (Draw.row_elements p l) 0 (length p.net.rows) row_small) all_labels_small
+      small_append names (Draw.shape_elements p l) (map (λ b. Text b) (Draw.labels p l))
+      (small_append names (flat_map (Draw.row_elements p l) (numbers 0 (length p.net.rows)))
+      (Draw.boxes (sheet p l) (lag_tags p.lag))
+      (rows_small names (Draw.row_elements p l) 0 (length p.net.rows) row_small)
+      (boxes_small names (sheet p l) (lag_tags p.lag))) all_labels_small
 
 -- ---- structures
 

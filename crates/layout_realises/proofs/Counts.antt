@@ -25,7 +25,7 @@ use Rattle.layout_make.specs.Sheet.{Tag, InPin, OutPin}
 use Rattle.layout_make.specs.Size.{element_number}
 use Rattle.layout_make.specs.Spots.{spots, spots_of}
 use Rattle.layout_make.specs.declared.spots.Spot.{Spot}
-use Rattle.layout_make.specs.Tags.{sheet, tags, cell_tags, spot_tags, wire_tags, line_tags, row_tags}
+use Rattle.layout_make.specs.Tags.{sheet, tags, cell_tags, spot_tags, wire_tags, line_tags, row_tags, lag_tags}
 use Rattle.layout_make.proofs.Ready.{stands_at, pins_most}
 
 -- ---- pins and feeds of a cell
@@ -175,9 +175,13 @@ pub few_shapes : (p : PlacedView) (l : LibraryView) → IsPlaced p → length (D
 few_shapes p l is size =
     let rows = flat_map (Draw.row_elements p l) (numbers 0 (length p.net.rows)) in
     let a = rows_shapes (row_tags p l) (Draw.row_elements p l) 0 p.net.rows (λ r. from_first r) in
-    let b = length-append rows (map _ (Draw.labels p l)) in
-    let c : length (Draw.top_elements p l) ≡ length rows + length (Draw.labels p l) = b
-    ∙ ap (λ (n : ℕ). length rows + n) (length-map (Draw.labels p l) _) in
+    let more = Draw.boxes (sheet p l) (lag_tags p.lag) in
+    let b = length-append (rows ++ more) (map _ (Draw.labels p l)) in
+    let c : length (Draw.top_elements p l) ≡ length (rows ++ more) + length (Draw.labels p l) = b
+    ∙ ap (λ (n : ℕ). length (rows ++ more) + n) (length-map (Draw.labels p l) _) in
+    let d = length-append rows more in
+    let e : length more ≡ length (lag_tags p.lag) = length-map (lag_tags p.lag) _ in
+    let f = length-append (flat_map (row_tags p l) (numbers 0 (length p.net.rows))) (lag_tags p.lag) in
     omega arith
   where
     from_first : (r : ℕ) → length (row_tags p l (0 + r)) ≤ 3 * length (row_at p.net.rows r) + row_feeds

@@ -1,5 +1,6 @@
 -- The skew of a drawing is within a limit that its width and its channels give.
-use Rattle.std.proofs.Common.{◌≡◌, ℕ, zero, suc, ◌+◌, ◌<◌, ◌≤◌, sym, ap, subst, ◌∙◌, arith, inl, inr, refl, List, [], ◌∷◌}
+use Rattle.std.proofs.Common.{◌≡◌, ℕ, zero, suc, ◌+◌, ◌<◌, ◌≤◌, sym, ap, subst, ◌∙◌, arith, inl, inr, refl, List, []}
+use Rattle.std.proofs.Common.{◌∷◌}
 use Rattle.std.proofs.Common.{Some, slice_get, length}
 use Rattle.std.specs.List.{AllZip}
 use Rattle.std.proofs.lemmas.Bool.{eqb-true}
@@ -29,10 +30,10 @@ use Rattle.layout_make.proofs.Wiring.{flat, frame_row}
 pub record WayLaws (p : PlacedView) (l : LibraryView) : Type 0 where
   pub cells : (r n f near far : ℕ) (frame : Shape) → FrameAt p l r n f → Is (flat_shapes p l) f frame
       → IsPlaced (flat_shapes p l) frame near far
-      → (way_to (sheet p l) r ≤ near) × (far ≤ way_to (sheet p l) r + (sheet p l).right)
+      → (way_to (sheet p l) (suc r) ≤ near) × (far ≤ way_to (sheet p l) (suc r) + (sheet p l).right)
   pub rows : (r : ℕ) → r < length p.net.rows
-      → (way_to (sheet p l) r + (sheet p l).right ≤ way_to (sheet p l) (suc r) + skew_limit (sheet p l))
-      × (way_to (sheet p l) (suc r) + (sheet p l).right ≤ way_to (sheet p l) r + skew_limit (sheet p l))
+      → (way_to (sheet p l) (suc r) + (sheet p l).right ≤ way_to (sheet p l) (suc (suc r)) + skew_limit (sheet p l))
+      × (way_to (sheet p l) (suc (suc r)) + (sheet p l).right ≤ way_to (sheet p l) (suc r) + skew_limit (sheet p l))
 
 beside : {A B : Type 0} (R : A → B → Type 0) (xs : List A) (ys : List B) → AllZip R xs ys → (c : ℕ) (x : A)
     → slice_get xs c ≡ Some x → (y : B) × (slice_get ys c ≡ Some y) × R x y
@@ -51,8 +52,8 @@ module _ (p : PlacedView) (l : LibraryView) (law : TracksLaw) (cells : CellsAreD
     there : Is (flat_shapes p l) f shape
     below : row < length p.net.rows
     row_is : row_of (flat_shapes p l) shape.rect.y0 ≡ row
-    low : way_to (sheet p l) row ≤ near c
-    high : far c ≤ way_to (sheet p l) row + (sheet p l).right
+    low : way_to (sheet p l) (suc row) ≤ near c
+    high : far c ≤ way_to (sheet p l) (suc row) + (sheet p l).right
 
   lies : (c f : ℕ) → slice_get places.frames c ≡ Some f → Lies c f
   lies c f e =
@@ -75,8 +76,8 @@ module _ (p : PlacedView) (l : LibraryView) (law : TracksLaw) (cells : CellsAreD
   -- where a cell of the circuit lies
   record Stands (c : ℕ) (cell : ExCell) : Type 0 where
     below : cell.row < length p.net.rows
-    low : way_to (sheet p l) cell.row ≤ near c
-    high : far c ≤ way_to (sheet p l) cell.row + (sheet p l).right
+    low : way_to (sheet p l) (suc cell.row) ≤ near c
+    high : far c ≤ way_to (sheet p l) (suc cell.row) + (sheet p l).right
 
   stands : (c : ℕ) (cell : ExCell) → IsCellAt circuit c cell → Stands c cell
   stands c cell e =
@@ -89,8 +90,8 @@ module _ (p : PlacedView) (l : LibraryView) (law : TracksLaw) (cells : CellsAreD
       ∙ sym b.2.row_is in
       record {
         below = subst (λ (r : ℕ). r < length p.net.rows) row at.below;
-        low = subst (λ (r : ℕ). way_to (sheet p l) r ≤ near c) row at.low;
-        high = subst (λ (r : ℕ). far c ≤ way_to (sheet p l) r + (sheet p l).right) row at.high;
+        low = subst (λ (r : ℕ). way_to (sheet p l) (suc r) ≤ near c) row at.low;
+        high = subst (λ (r : ℕ). far c ≤ way_to (sheet p l) (suc r) + (sheet p l).right) row at.high;
       }
 
   own : (c : ℕ) → far c ≤ near c + skew_limit (sheet p l)
@@ -109,8 +110,8 @@ module _ (p : PlacedView) (l : LibraryView) (law : TracksLaw) (cells : CellsAreD
       let lower = stands d from.cell from.cell_is in
       let next : suc from.cell.row ≡ fed.cell.row = omega (arith, from.just_below) in
       let rows = ways.rows from.cell.row lower.below in
-      let there : way_to (sheet p l) (suc from.cell.row) ≡ way_to (sheet p l) fed.cell.row =
-      ap (way_to (sheet p l)) next in (
+      let there : way_to (sheet p l) (suc (suc from.cell.row)) ≡ way_to (sheet p l) (suc fed.cell.row) =
+      ap (λ (n : ℕ). way_to (sheet p l) (suc n)) next in (
         omega (arith, lower.high, rows.0, there, upper.low),
         omega (arith, upper.high, rows.1, there, lower.low),
       )

@@ -22,7 +22,7 @@ use Rattle.shape_extract.specs.Extraction.{is_wired}
 use Rattle.layout_make.specs.Channel.{channel}
 use Rattle.layout_make.proofs.Lawful.{IsLawful}
 use Rattle.layout_make.specs.Laws.{flat_shapes, InAt}
-use Rattle.layout_make.specs.Tags.{At, sheet, tags, cell_tags, spot_tags, wire_tags, line_tags, row_tags}
+use Rattle.layout_make.specs.Tags.{At, sheet, tags, cell_tags, spot_tags, wire_tags, line_tags, row_tags, lag_tags}
 use Rattle.layout_make.specs.Sheet.{Tag, Frame, InPin, OutPin, Lead, Bar, Rise, Fall, Across, FromVia, ToVia, shape_of}
 use Rattle.layout_make.specs.Spots.{spots}
 use Rattle.layout_make.proofs.ReadyNets.{IsReady}
@@ -88,9 +88,9 @@ module _ (p : PlacedView) (l : LibraryView) (is : IsReady p l) (laws : IsLawful 
   wired_so m (InPin r c i) at = labelled_so r c i m at
   wired_so m (OutPin r c i) at = refl
   wired_so m (Lead r) at = ap (λ (b : Bool). b && not (is_labelled (flat p l) (shape_of (sheet p l) (Lead r))))
-      (line_layer r)
+      (line_layer (suc r))
   wired_so m (Bar r) at = ap (λ (b : Bool). b && not (is_labelled (flat p l) (shape_of (sheet p l) (Bar r))))
-      (line_layer r)
+      (line_layer (suc r))
   wired_so m (Rise r c) at = refl
   wired_so m (Fall r c) at = refl
   wired_so m (Across r c) at = refl
@@ -182,7 +182,12 @@ wires_pins r (w ∷ ws) =
         omega arith
 
 lines_pins : (r : ℕ) → upper_pins (line_tags r) ≡ 0
-lines_pins r = let a = pins-cons (Lead r) (Bar r ∷ []) in let b = pins-cons (Bar r) [] in
+lines_pins r = let a = pins-cons (Lead (suc r)) (Bar (suc r) ∷ []) in let b = pins-cons (Bar (suc r)) [] in
+    let c = pins-none in omega arith
+
+lag_pins : (lag : ℕ) → upper_pins (lag_tags lag) ≡ 0
+lag_pins zero = pins-none
+lag_pins (suc lag) = let a = pins-cons (Lead 0) (Bar 0 ∷ []) in let b = pins-cons (Bar 0) [] in
     let c = pins-none in omega arith
 
 -- ---- row by row
@@ -246,5 +251,9 @@ unfolding upper_pins
 wires_are p l is laws ports known =
     ap (count_by (is_wired (flat p l))) (flat_is_tags p l laws)
     ∙ count_map (is_wired (flat p l)) (shape_of (sheet p l)) is_upper_pin (tags p l) (wired_so p l is laws ports)
+    ∙ pins-append (flat_map (row_tags p l) (numbers 0 (length p.net.rows))) (lag_tags p.lag)
+    ∙ ap (λ (n : ℕ). upper_pins (flat_map (row_tags p l) (numbers 0 (length p.net.rows))) + n) (lag_pins p.lag)
+    ∙ (let z : upper_pins (flat_map (row_tags p l) (numbers 0 (length p.net.rows))) + 0 ≡ upper_pins
+    (flat_map (row_tags p l) (numbers 0 (length p.net.rows))) = omega arith in z)
     ∙ rows_pins (row_tags p l) 0 p.net.rows
     (λ r. ap (λ (n : ℕ). upper_pins (row_tags p l n)) (let h : 0 + r ≡ r = omega arith in h) ∙ row_pins p known l r)

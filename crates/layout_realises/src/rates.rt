@@ -79,7 +79,8 @@ pub fn chips_bear_rates<A: Answers>()
 }
 
 /// The skew of a drawing is at most twice the width of its widest row, with the height of three rows and the heights of
-/// the lowest channel and of the highest one.
+/// the lowest channel and of the highest one, less the delay of its odd rows; or the width, with the height of the
+/// highest channel and the delay.
 pub fn drawings_have_low_skew()
     ensures { (p : PlacedView) (l : LibraryView) (circuit : CircuitView) (skew : ℕ) → MayDraw p l
         → element_number p ≤ element_limit → IsCircuitOf (flat_of (draw p l)) circuit

@@ -50,7 +50,7 @@ module _ (g : GraphView) (rows : List (List RowCell)) (labels slots : List (List
         subst (λ (n : ℕ). IsRowNet (record { inputs = n; outputs = outputs; rows = rows })) (sym i)
         (subst (λ (n : ℕ). IsRowNet (record { inputs = g.inputs; outputs = n; rows = rows })) (sym o) sound.net)
 
-    pub sound_placed : IsPlaced (record { net = net; slots = slots })
+    pub sound_placed : IsPlaced (record { net = net; slots = slots; lag = 0 })
     sound_placed = record { net_keeps = sound_net; seated = sound.seated }
 
     pub sound_answers : HasOneAnswer g.inputs (length g.outputs) (graphs.IsAnswer g)

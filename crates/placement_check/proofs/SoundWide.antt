@@ -53,7 +53,7 @@ module _ (net : RowView) (rows : List (List RowCell)) (slots : List (List ℕ)) 
         (subst (λ (n : ℕ). IsRowNet (record { inputs = net.inputs; outputs = n; rows = rows })) (sym o)
         known_wide.keeps)
 
-    pub wide_placed : IsPlaced (record { net = wide; slots = slots })
+    pub wide_placed : IsPlaced (record { net = wide; slots = slots; lag = 0 })
     wide_placed = record { net_keeps = wide_net; seated = known_wide.seated }
 
     pub is_wider : IsWider net wide

@@ -53,5 +53,6 @@ pub fn check(alloc: Global, graph: &Graph, draft: Draft) -> Result<Option<Placed
             rows: draft.rows,
         },
         slots: draft.slots,
+        lag: 0,
     }))
 }

@@ -62,5 +62,6 @@ pub fn check_wider(alloc: Global, net: &RowNet, draft: WideDraft) -> Result<Opti
             rows: draft.rows,
         },
         slots: draft.slots,
+        lag: 0,
     }))
 }

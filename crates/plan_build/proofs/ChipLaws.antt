@@ -25,7 +25,7 @@ use Rattle.row_place.proofs.PlanSpans.{widest_is}
 use Rattle.repeater_rows.specs.Repeaters.{repeated, repeated_rows}
 use Rattle.rowed.proofs.RowsAboveLaws.{placed_rows_of}
 use Rattle.repeater_rows.specs.Passes.{cells_past}
-use Rattle.repeater_rows.proofs.KeptLaws.{repeaters_keep}
+use Rattle.repeater_rows.proofs.KeptLaws.{repeaters_keep, no_lag}
 use Rattle.repeater_rows.proofs.AnswerLaws.{repeaters_answer}
 use Rattle.repeater_rows.specs.Inserted.{AreNarrow}
 use Rattle.repeater_rows.proofs.InsertedLaws.{repeaters_add, repeaters_narrow}
@@ -131,6 +131,7 @@ module _ (l : LibraryView) (net : NetView) (cells : IsLibrary l) (known : IsNetl
         short = chip_short;
         narrow = omega (arith, wide, within.narrow);
         low = within.low;
+        lag = omega (arith, no_lag (places_of l net) (reach_of l));
         few_inputs = omega (arith, chip_answers.same_inputs, known.count, known.small);
         few_outputs = omega (arith, chip_answers.same_outputs, known.small);
       }

@@ -19,7 +19,7 @@ use Rattle.plan_draw.proofs.Packed.{packed_given}
 use Rattle.repeater_rows.specs.Repeaters.{repeated, repeated_rows}
 use Rattle.repeater_rows.specs.Passes.{cells_past}
 use Rattle.repeater_rows.specs.Inserted.{AreNarrow}
-use Rattle.repeater_rows.proofs.KeptLaws.{repeaters_keep}
+use Rattle.repeater_rows.proofs.KeptLaws.{repeaters_keep, no_lag}
 use Rattle.repeater_rows.proofs.AnswerLaws.{repeaters_answer}
 use Rattle.repeater_rows.proofs.InsertedLaws.{repeaters_add, repeaters_narrow}
 use Rattle.repeater_rows.proofs.ShortLaws.{repeaters_short}
@@ -127,6 +127,7 @@ may_draw_rows l net rows known keeps of_net within =
       short = chip_short l net rows known of_net within.narrow within.few_cells;
       narrow = omega (arith, wide, within.narrow);
       low = within.low;
+      lag = omega (arith, no_lag (pack rows) (reach_of l));
       few_inputs = omega (arith, answers.same_inputs, keeps.count, keeps.small);
       few_outputs = omega (arith, answers.same_outputs, keeps.small);
     }

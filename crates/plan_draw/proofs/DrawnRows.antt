@@ -4,18 +4,21 @@ use Rattle.std.specs.Prelude.{◌≢◌}
 use Rattle.blif_read.specs.Parts.{NetView}
 use Rattle.circuit.specs.SameAnswers.{SameAnswers}
 use Rattle.rowed.specs.RowNets.{RowView, IsAnswer}
-use Rattle.rowed.specs.PlacedNets.{PlacedView, IsPlaced}
+use Rattle.rowed.specs.PlacedNets.{PlacedView, IsPlaced, lagged}
+use Rattle.repeater_rows.proofs.KeptLaws.{without_lag}
 use Rattle.rowed.specs.Counts.{cells_in}
 use Rattle.row_place.specs.Arranged.{IsArranged}
 use Rattle.placement_check.specs.Wider.{IsWider}
 use Rattle.plan_draw.specs.Packs.{pack}
 use Rattle.cell_rows.proofs.Answered.{same_answers}
 use Rattle.cell_library.specs.Library.{LibraryView}
+use Rattle.cell_library.specs.Reach.{reach_of}
 use Rattle.layout_make.specs.MayDraw.{MayDraw}
 use Rattle.layout_make.specs.Size.{element_number, element_limit}
 use Rattle.plan_build.specs.Laws.{AnswersAs}
 use Rattle.plan_build.proofs.SameThen.{same_then}
 use Rattle.plan_limits.specs.Drawable.{IsDrawable}
+use Rattle.plan_limits.specs.Delayed.{IsDelayed}
 use Rattle.plan_draw.specs.CellPlans.{AreCellRows, chip_of_rows, KeepsSize, IsCellChip}
 use Rattle.plan_draw.specs.DrawnChips.{IsDrawnChip}
 use Rattle.plan_draw.specs.Refusals.{RefusesCells}
@@ -80,7 +83,7 @@ packed_is_drawn l net chip is = record {
   of_net = is.of_net;
   placed = pack is.rows;
   stands = inl refl;
-  is_chip = is.is_chip;
+  is_chip = ap (λ (p : PlacedView). lagged p 0) is.is_chip ∙ without_lag (pack is.rows) (reach_of l);
   few = packed_elements l net chip is;
   no_larger = λ within.
       subst (λ (p : PlacedView). cells_in chip.net.rows ≤ cells_in p.net.rows) is.is_chip
@@ -96,7 +99,8 @@ found_is_drawn l net chip found no_larger = record {
   of_net = found.of_net;
   placed = found.placed;
   stands = found.stands.stands;
-  is_chip = found.drawable.is_chip;
+  is_chip = ap (λ (p : PlacedView). lagged p 0) found.drawable.is_chip
+      ∙ without_lag found.placed (reach_of l);
   few = found.drawable.few;
   no_larger = no_larger;
 }
@@ -123,6 +127,36 @@ found_draws l net chip found = found.drawable.draws
 pub found_answers : (l : LibraryView) (net : NetView) (chip : PlacedView) → IsFoundChip l net chip
     → AnswersAs net chip
 found_answers l net chip found = found.drawable.answers
+
+-- with its odd rows delayed
+few_still : (chip out : PlacedView) → IsDelayed chip out → element_number chip ≤ element_limit
+    → element_number out ≤ element_limit
+few_still chip out delayed few = elim delayed.few [
+  | inl same ↦ subst (λ (p : PlacedView). element_number p ≤ element_limit) (sym same) few
+  | inr then ↦ then
+]
+
+pub still_drawn : (l : LibraryView) (net : NetView) (chip out : PlacedView) → IsDelayed chip out
+    → IsDrawnChip l net chip → IsDrawnChip l net out
+still_drawn l net chip out delayed is = record {
+  rows = is.rows;
+  of_net = is.of_net;
+  placed = is.placed;
+  stands = is.stands;
+  is_chip = ap (λ (p : PlacedView). lagged p 0) delayed.is ∙ is.is_chip;
+  few = few_still chip out delayed is.few;
+  no_larger = λ keeps. omega (
+    arith,
+    ap (λ (p : PlacedView). cells_in p.net.rows) delayed.is,
+    is.no_larger keeps,
+  );
+}
+
+pub still_answers : (net : NetView) (chip out : PlacedView) → IsDelayed chip out → AnswersAs net chip
+    → AnswersAs net out
+still_answers net chip out delayed answers = subst (AnswersAs net) (sym delayed.is) answers
+
+pub ruleset delays = (still_drawn, still_answers)
 
 pub ruleset chosen = (
   found_few,

@@ -67,7 +67,7 @@ given_unless_refused net width known some none = elim (cases_lt width_limit (wid
 -- slots that are those of the packed rows, which a list of lists of the code is, make the packed net
 pub packed_slots : (net : RowView) (width : ℕ) (slots : List (List ℕ)) → IsRowNet net → 1 ≤ width
     → widest_packed net.rows * width ≤ width_limit → slots ≡ map (packed 0) net.rows
-    → IsPacked net width (record { net = net; slots = slots })
+    → IsPacked net width (record { net = net; slots = slots; lag = 0 })
 packed_slots net width slots known some within are =
-    subst (λ (s : List (List ℕ)). IsPacked net width (record { net = net; slots = s })) (sym are)
+    subst (λ (s : List (List ℕ)). IsPacked net width (record { net = net; slots = s; lag = 0 })) (sym are)
     (packed_given net width known some within)

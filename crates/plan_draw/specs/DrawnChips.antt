@@ -3,7 +3,7 @@
 use Rattle.std.specs.Prelude.{◌≡◌, ℕ, ◌≤◌, ◌⊎◌, List}
 use Rattle.blif_read.specs.Parts.{NetView}
 use Rattle.rowed.specs.RowNets.{RowView}
-use Rattle.rowed.specs.PlacedNets.{PlacedView}
+use Rattle.rowed.specs.PlacedNets.{PlacedView, lagged}
 use Rattle.rowed.specs.Counts.{cells_in}
 use Rattle.row_place.specs.Arranged.{IsArranged}
 use Rattle.placement_check.specs.Wider.{IsWider}
@@ -26,6 +26,7 @@ pub record IsDrawnChip (l : LibraryView) (net : NetView) (chip : PlacedView) : T
   pub of_net : AreCellRows l net rows
   pub placed : PlacedView
   pub stands : IsPlacingOf rows placed
-  pub is_chip : chip ≡ repeated placed (reach_of l)
+  -- its odd rows may lag
+  pub is_chip : lagged chip 0 ≡ repeated placed (reach_of l)
   pub few : element_number chip ≤ element_limit
   pub no_larger : KeepsSize l rows → cells_in chip.net.rows ≤ cells_in (chip_of_rows l rows).net.rows

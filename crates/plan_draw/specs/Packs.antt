@@ -9,7 +9,7 @@ use Rattle.row_place.specs.Places.{packed}
 
 -- the net with its rows packed
 abbrev pub pack : RowView → PlacedView
-pack net = record { net = net; slots = map (packed 0) net.rows }
+pack net = record { net = net; slots = map (packed 0) net.rows; lag = 0 }
 
 -- the slot of cell c of row r
 abbrev pub slot_in : PlacedView → ℕ → ℕ → ℕ

@@ -12,6 +12,7 @@ use crate::plan::{packed_chip, rows_of};
 use crate::refusal::CellPlanRefusal;
 use blif_read::Netlist;
 use cell_library::Library;
+use plan_limits::delayed;
 use rowed::Placed;
 use std::alloc::Global;
 
@@ -33,14 +34,9 @@ fn smaller(_library: &Library, _net: &Netlist, found: Placed, packed: Placed) ->
     }
 }
 
-/// The chip that is drawn of a netlist of cells with a library: its cells as they stand, in the rows of their levels,
-/// with rows of repeaters where wires are too long for the library. In each row the cells stand packed from slot 0 in
-/// the order of the text, or else as a search has placed them, which may have added rows of buffers and let constants
-/// stand in them, where that chip has at most as many cells or the packed one passes a limit. The chip can be drawn,
-/// and answers every word as the netlist does. A netlist that is none of cells is refused with its first fault; another
-/// refusal says which limit the packed chip passes, and with which number, or that memory is wanting.
+/// The chip that is drawn of a netlist of cells with a library, with no row delayed.
 #[tactic(auto, using(crate::proofs::DrawnRows::chosen))]
-pub fn draw_cells(
+fn undelayed_chip(
     alloc: Global,
     library: &Library,
     net: &Netlist,
@@ -60,4 +56,26 @@ pub fn draw_cells(
         (Some(found), Err(_)) => Ok(found),
         (Some(found), Ok(packed)) => Ok(smaller(library, net, found, packed)),
     }
+}
+
+/// The chip that is drawn of a netlist of cells with a library: its cells as they stand, in the rows of their levels,
+/// with rows of repeaters where wires are too long for the library. In each row the cells stand packed from slot 0 in
+/// the order of the text, or else as a search has placed them, which may have added rows of buffers and let constants
+/// stand in them, where that chip has at most as many cells or the packed one passes a limit. The chip can be drawn,
+/// and answers every word as the netlist does. Its odd rows are delayed, so that it bears a high clock rate. A netlist
+/// that is none of cells is refused with its first fault; another refusal says which limit the packed chip passes, and
+/// with which number, or that memory is wanting.
+#[tactic(auto, using(crate::proofs::DrawnRows::delays))]
+pub fn draw_cells(
+    alloc: Global,
+    library: &Library,
+    net: &Netlist,
+) -> Result<Placed, CellPlanRefusal>
+    ensures chip { IfOk result (IsDrawnChip library.now net.now) }
+    ensures draws { IfOk result (λ chip. MayDraw chip library.now) }
+    ensures answers { IfOk result (λ chip. AnswersAs net.now chip) }
+    ensures refused { IfErr result (RefusesCells library.now net.now) }
+{
+    let chip = undelayed_chip(alloc, library, net)?;
+    Ok(delayed(library, chip))
 }

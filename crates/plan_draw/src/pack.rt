@@ -44,5 +44,6 @@ pub fn pack_net(alloc: Global, net: RowNet, slot_width: u64) -> Result<Placed, P
     Ok(Placed {
         net,
         slots: List::from_vec(slots),
+        lag: 0,
     })
 }

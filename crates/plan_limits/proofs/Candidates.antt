@@ -1,5 +1,5 @@
 -- A placed net from its repeaters to a chip that may be drawn.
-use Rattle.std.proofs.Common.{ℕ, ◌≡◌, ◌≤◌, refl, sym, subst}
+use Rattle.std.proofs.Common.{ℕ, ◌≡◌, ◌≤◌, refl, sym, ap, subst}
 use Rattle.std.proofs.Common.{arith}
 use Rattle.blif_read.specs.Parts.{NetView}
 use Rattle.blif_read.specs.Netlist.{IsNetlist}
@@ -9,6 +9,7 @@ use Rattle.rowed.specs.Counts.{cells_in}
 use Rattle.rowed.specs.Extent.{cell_limit}
 use Rattle.repeater_rows.specs.Repeaters.{repeated}
 use Rattle.repeater_rows.specs.Passes.{AreRepeated}
+use Rattle.repeater_rows.proofs.KeptLaws.{no_lag}
 use Rattle.cell_library.specs.Library.{LibraryView}
 use Rattle.cell_library.specs.Laws.{IsLibrary}
 use Rattle.cell_library.specs.Reach.{reach_of}
@@ -53,6 +54,7 @@ is_drawable l net placed chip lawful keeps short limits = record {
     short = short.short;
     narrow = limits.narrow;
     low = short.low;
+    lag = omega (arith, ap (λ (q : PlacedView). q.lag) short.is_chip, no_lag placed (reach_of l));
     few_inputs = omega (arith, short.answers.same_inputs, keeps.count, keeps.small);
     few_outputs = omega (arith, short.answers.same_outputs, keeps.small);
   };

@@ -1,3 +1,4 @@
 pub mod Given
 pub mod FewElements
 pub mod Candidates
+mod Delays

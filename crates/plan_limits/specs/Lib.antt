@@ -1,2 +1,3 @@
+pub mod Delayed
 pub mod Drawable
 pub mod Code

@@ -13,7 +13,7 @@ use layout_make::element_number;
 use rowed::{Placed, RowCell, is_too_wide};
 
 /// How many elements the top structure of a layout may have.
-const ELEMENT_LIMIT: u64 = 2_000_000;
+pub(crate) const ELEMENT_LIMIT: u64 = 2_000_000;
 
 /// Whether the library gives the kinds of the cells of a row.
 fn gives_row(library: &Library, cells: &[RowCell]) -> bool
@@ -41,7 +41,7 @@ fn gives_kinds(library: &Library, chip: &Placed) -> bool
 
 /// How wide a slot is, in nanometres.
 #[tactic(auto, using(plan_build::proofs::CellSizes::widths))]
-fn slot_width(library: &Library) -> u64
+pub(crate) fn slot_width(library: &Library) -> u64
     ensures { result ≡ slot_width_of library.now }
 {
     library.known();

@@ -24,7 +24,7 @@ use Rattle.rowed.proofs.RowsAbove.{PlacedAbove, no_more}
 use Rattle.repeater_rows.proofs.Sources.{HaveValues}
 use Rattle.repeater_rows.proofs.RoundsLaws.{all_rounds_orders}
 use Rattle.repeater_rows.proofs.OrderLaws.{destinations_order, destinations_length}
-use Rattle.rowed.proofs.RowsAboveLaws.{cells_of, placed_again, placed_facts}
+use Rattle.rowed.proofs.RowsAboveLaws.{cells_of, placed_again, again_placed, placed_facts}
 use Rattle.rowed.proofs.PinLaws.{seated_length}
 use Rattle.repeater_rows.proofs.PlaceLaws.{times, stands_in, carried_has}
 use Rattle.rowed.proofs.ChannelLaws.{channel_known}
@@ -229,7 +229,7 @@ pub repeaters_word : (p : PlacedView) (reach : ℕ) (word : List Bool) → IsPla
     → evaluated_word (repeated p reach).net word ≡ evaluated_word p.net word
 unfolding repeated
 repeaters_word p reach word known =
-    go (placed_rows p) (subst IsPlaced (placed_again p known) known)
+    go (placed_rows p) (again_placed p known)
     ∙ sym (ap (λ (q : PlacedView). evaluated_word q.net word) (placed_again p known))
   where
     go : (rows : List PlacedRow) → IsPlaced (placed_of p.net.inputs p.net.outputs rows)

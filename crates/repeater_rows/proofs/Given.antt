@@ -19,14 +19,20 @@ pub made_is : (p : PlacedView) (reach inputs outputs : ℕ) (cells : List (List 
     → inputs ≡ p.net.inputs → outputs ≡ p.net.outputs
     → cells ≡ map (λ (row : PlacedRow). row.cells) (repeated_rows reach (placed_rows p))
     → slots ≡ map (λ (row : PlacedRow). row.slots) (repeated_rows reach (placed_rows p))
-    → record { net = record { inputs = inputs; outputs = outputs; rows = cells }; slots = slots } ≡ repeated p reach
+    → record { net = record { inputs = inputs; outputs = outputs; rows = cells }; slots = slots; lag = 0 }
+    ≡ repeated p reach
 unfolding repeated
 made_is p reach inputs outputs cells slots i o c s =
-    ap (λ (x : ℕ). record { net = record { inputs = x; outputs = outputs; rows = cells }; slots = slots }) i
-    ∙ ap (λ (x : ℕ). record { net = record { inputs = p.net.inputs; outputs = x; rows = cells }; slots = slots }) o
+    ap (λ (x : ℕ). record { net = record { inputs = x; outputs = outputs; rows = cells }; slots = slots; lag = 0 }) i
+    ∙ ap (λ (x : ℕ). record {
+      net = record { inputs = p.net.inputs; outputs = x; rows = cells };
+      slots = slots;
+      lag = 0;
+    }) o
     ∙ ap (λ (x : List (List RowCell)). record {
       net = record { inputs = p.net.inputs; outputs = p.net.outputs; rows = x };
       slots = slots;
+      lag = 0;
     }) c
     ∙ ap (λ (x : List (List ℕ)). record {
       net =
@@ -36,6 +42,7 @@ made_is p reach inputs outputs cells slots i o c s =
             rows = map (λ (row : PlacedRow). row.cells) (repeated_rows reach (placed_rows p));
           };
       slots = x;
+      lag = 0;
     }) s
 
 rows_of_plan : (p : PlacedView) (reach : ℕ) → placed_rows (repeated p reach) ≡ repeated_rows reach (placed_rows p)
@@ -89,8 +96,8 @@ pub given_repeated : (p : PlacedView) (reach height channel rows inputs outputs 
     → rows ≡ length (repeated_rows reach (placed_rows p)) → cells_past 0 (repeated_rows reach (placed_rows p)) ≡ None
     → height_of height channel rows ≤ height_limit
     → AreRepeated p reach height channel
-    (record { net = record { inputs = inputs; outputs = outputs; rows = cells }; slots = slots })
+    (record { net = record { inputs = inputs; outputs = outputs; rows = cells }; slots = slots; lag = 0 })
 given_repeated p reach height channel rows inputs outputs cells slots known two i o c s =
     given_by p reach height channel rows
-    (record { net = record { inputs = inputs; outputs = outputs; rows = cells }; slots = slots }) known two
+    (record { net = record { inputs = inputs; outputs = outputs; rows = cells }; slots = slots; lag = 0 }) known two
     (made_is p reach inputs outputs cells slots i o c s)

@@ -16,7 +16,7 @@ use Rattle.repeater_rows.specs.Repeaters.{repeated_rows, repeated}
 use Rattle.rowed.specs.Short.{EachShort, AreShort}
 use Rattle.repeater_rows.proofs.Sources.{StandAt}
 use Rattle.rowed.proofs.RowsAbove.{PlacedAbove, no_more}
-use Rattle.rowed.proofs.RowsAboveLaws.{placed_rows_of, placed_again, placed_facts}
+use Rattle.rowed.proofs.RowsAboveLaws.{placed_rows_of, again_placed, placed_facts}
 use Rattle.rowed.proofs.PinLaws.{pins_all, seated_length}
 use Rattle.rowed.proofs.ChannelLaws.{channel_known}
 use Rattle.repeater_rows.proofs.RoundsLaws.{round_order, length_same, round_same, all_rounds_end}
@@ -203,7 +203,7 @@ pub repeaters_short : (p : PlacedView) (reach : ℕ) → IsPlaced p → 2 ≤ re
 unfolding repeated
 repeaters_short p reach known two =
     subst (AreShort reach) (sym (placed_rows_of p.net.inputs p.net.outputs (repeated_rows reach (placed_rows p))))
-    (go (placed_rows p) (subst IsPlaced (placed_again p known) known))
+    (go (placed_rows p) (again_placed p known))
   where
     go : (rows : List PlacedRow) → IsPlaced (placed_of p.net.inputs p.net.outputs rows)
         → AreShort reach (repeated_rows reach rows)

@@ -36,11 +36,12 @@ arranged_is : (net : RowView) (slots : List (List ℕ)) (cells : List (List RowC
     → arranged net slots ≡ record {
       net = record { inputs = net.inputs; outputs = net.outputs; rows = cells };
       slots = lists;
+      lag = 0;
     }
 unfolding arranged
 arranged_is net slots cells lists cells_are lists_are =
     let P : List (List RowCell) → List (List ℕ) → PlacedView =
-    λ c s. record { net = record { inputs = net.inputs; outputs = net.outputs; rows = c }; slots = s } in
+    λ c s. record { net = record { inputs = net.inputs; outputs = net.outputs; rows = c }; slots = s; lag = 0 } in
     ap (λ c. P c (row_slots (arranged_rows [] net.rows slots))) (sym cells_are) ∙ ap (P cells) (sym lists_are)
 
 pub given_arranged : (net : RowView) (slots : List (List ℕ)) (cells : List (List RowCell)) (lists : List (List ℕ))
@@ -49,6 +50,7 @@ pub given_arranged : (net : RowView) (slots : List (List ℕ)) (cells : List (Li
     → IsArranged net slots (record {
       net = record { inputs = net.inputs; outputs = net.outputs; rows = cells };
       slots = lists;
+      lag = 0;
     })
 given_arranged net slots cells lists known each cells_are lists_are seated =
     let is = arranged_is net slots cells lists cells_are lists_are in

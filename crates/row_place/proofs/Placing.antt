@@ -29,13 +29,18 @@ narrow_rows rows span width some is within = narrow rows (omega (arith, mul-le s
 
 plan_is : (net : RowView) (cells : List (List RowCell)) (slots : List (List ℕ))
     → cells ≡ row_cells (place_rows no_order net.rows) → slots ≡ row_slots (place_rows no_order net.rows)
-    → place net ≡ record { net = record { inputs = net.inputs; outputs = net.outputs; rows = cells }; slots = slots }
+    → place net ≡ record {
+      net = record { inputs = net.inputs; outputs = net.outputs; rows = cells };
+      slots = slots;
+      lag = 0;
+    }
 unfolding place
 plan_is net cells slots cells_are slots_are =
     let P : List (List RowCell) → List (List ℕ)
     → PlacedView = λ c s. record {
       net = record { inputs = net.inputs; outputs = net.outputs; rows = c };
       slots = s;
+      lag = 0;
     } in
     ap (λ c. P c (row_slots (place_rows no_order net.rows))) (sym cells_are) ∙ ap (P cells) (sym slots_are)
 
@@ -45,6 +50,7 @@ pub given_places : (net : RowView) (span width : ℕ) (cells : List (List RowCel
     → ArePlaces net width (record {
       net = record { inputs = net.inputs; outputs = net.outputs; rows = cells };
       slots = slots;
+      lag = 0;
     })
 given_places net span width cells slots known some is within cells_are slots_are =
     subst (ArePlaces net width) (plan_is net cells slots cells_are slots_are)

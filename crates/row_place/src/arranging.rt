@@ -132,5 +132,6 @@ pub fn arrange(alloc: Global, net: &RowNet, slots: &[List<u32>]) -> Result<Optio
             rows: List::from_vec(made.rows),
         },
         slots: List::from_vec(made.slots),
+        lag: 0,
     }))
 }

@@ -11,7 +11,7 @@ use Rattle.rowed.specs.declared.row_cell.RowCell.{RowCell}
 use Rattle.rowed.specs.RowNets.{RowView, row_at, cell_at, output_at, fed_at, last_of, EachFeedsOne, ExactlyOne}
 use Rattle.rowed.specs.RowNets.{MayStand, IsRowNet}
 use Rattle.rowed.specs.Slots.{AreSeated, EachSeated}
-use Rattle.rowed.specs.PlacedNets.{PlacedRow, PlacedView, IsPlaced, paired, placed_rows, placed_of}
+use Rattle.rowed.specs.PlacedNets.{PlacedRow, PlacedView, IsPlaced, paired, placed_rows, placed_of, lagged}
 use Rattle.rowed.proofs.RowsAbove.{FirstCell, FirstRow, CellAbove, RowAbove, no_more, PlacedAbove}
 
 -- the cells of rows, and their slots
@@ -45,12 +45,18 @@ paired_slots (row ∷ rows) [] seated = absurd seated
 paired_slots (row ∷ rows) (s ∷ slots) seated = ap (λ (more : List (List ℕ)). s ∷ more)
     (paired_slots rows slots seated.1)
 
--- a placed net is the one of its rows
-pub placed_again : (p : PlacedView) → IsPlaced p → p ≡ placed_of p.net.inputs p.net.outputs (placed_rows p)
+-- a placed net is the one of its rows, but for its delay
+pub placed_again : (p : PlacedView) → IsPlaced p
+    → lagged p 0 ≡ placed_of p.net.inputs p.net.outputs (placed_rows p)
 placed_again p known =
     let a : cells_of (placed_rows p) ≡ p.net.rows = paired_cells p.net.rows p.slots known.seated in
     let b : slots_in (placed_rows p) ≡ p.slots = paired_slots p.net.rows p.slots known.seated in
     rw (a, b) refl
+
+-- so they are placed
+pub again_placed : (p : PlacedView) → IsPlaced p → IsPlaced (placed_of p.net.inputs p.net.outputs (placed_rows p))
+again_placed p known =
+    subst IsPlaced (placed_again p known) (record { net_keeps = known.net_keeps; seated = known.seated })
 
 -- the rows of placed rows, by number
 last_one : {X : Type 0} (x : X) (xs : List X) → (1 == length (x ∷ xs)) ≡ no_more xs

@@ -14,6 +14,7 @@ may_third known = may_draw_from_test third_placed library_a_view known (record {
   short = refl;
   narrow = refl;
   low = refl;
+  lag = refl;
   few_inputs = refl;
   few_outputs = refl;
 })
@@ -25,6 +26,7 @@ may_crossing known = may_draw_from_test crossing_placed library_a_view known (re
   short = refl;
   narrow = refl;
   low = refl;
+  lag = refl;
   few_inputs = refl;
   few_outputs = refl;
 })
@@ -36,6 +38,7 @@ may_column known = may_draw_from_test column_placed library_a_view known (record
   short = refl;
   narrow = refl;
   low = refl;
+  lag = refl;
   few_inputs = refl;
   few_outputs = refl;
 })

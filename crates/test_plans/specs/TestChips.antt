@@ -15,6 +15,7 @@ crossing_placed = record {
         ∷ [];
   };
   slots = (0 ∷ 1 ∷ 6 ∷ []) ∷ (0 ∷ 7 ∷ []) ∷ [];
+  lag = 0;
 }
 
 -- five rows of one buffer
@@ -31,4 +32,5 @@ column_placed = record {
         ∷ [];
   };
   slots = (0 ∷ []) ∷ (0 ∷ []) ∷ (0 ∷ []) ∷ (0 ∷ []) ∷ (0 ∷ []) ∷ [];
+  lag = 0;
 }

@@ -41,10 +41,12 @@ pub fn placed(inputs: u32, outputs: u32, rows: Vec<List<RowCell>>, slots: Vec<Li
     requires { IsPlaced (record {
       net = record { inputs = inputs; outputs = outputs; rows = rows.items };
       slots = slots.items;
+      lag = 0;
     }) }
     ensures { result ≡ record {
       net = record { inputs = inputs; outputs = outputs; rows = rows.items };
       slots = slots.items;
+      lag = 0;
     } }
 {
     Placed {
@@ -54,6 +56,7 @@ pub fn placed(inputs: u32, outputs: u32, rows: Vec<List<RowCell>>, slots: Vec<Li
             rows: List::from_vec(rows),
         },
         slots: List::from_vec(slots),
+        lag: 0,
     }
 }
 

@@ -1,15 +1,17 @@
 -- Shapes of a drawing by themselves, as the code makes them.
-use Rattle.std.specs.Prelude.{ℕ, ◌+◌, ◌-◌, ◌*◌, ◌%◌, List, [], ◌∷◌, ◌++◌, map, pos}
+use Rattle.std.specs.Prelude.{ℕ, zero, suc, ℤ, ◌+◌, ◌-◌, ◌*◌, ◌%◌, List, [], ◌∷◌, ◌++◌, map, pos, neg_ℤ}
 use Rattle.circuit.specs.CellKinds.{number_of, slots_of, inputs_of, outputs_of}
 use Rattle.circuit.specs.declared.cell_kind.CellKind.{CellKind}
 use Rattle.geom.specs.declared.layout.Element.{Element}
 use Rattle.geom.specs.declared.layout.Element.TheVariants.{Box, Place}
-use Rattle.layout_rules.specs.declared.layers.TheConstants.{M1, VIA, M2, EVEN_LINE, BAR, FRAME, INPUT_PIN, OUTPUT_PIN}
+use Rattle.layout_rules.specs.declared.layers.TheConstants.{M1, VIA, M2, EVEN_LINE, ODD_LINE, BAR, START, FRAME}
+use Rattle.layout_rules.specs.declared.layers.TheConstants.{INPUT_PIN}
+use Rattle.layout_rules.specs.declared.layers.TheConstants.{OUTPUT_PIN}
 use Rattle.rowed.specs.declared.wire.Wire.{Wire}
 use Rattle.sorting.specs.Numbers.{numbers}
 use Rattle.cell_library.specs.Library.{LibraryView, input_column_of, output_column_of}
 use Rattle.layout_make.specs.Sheet.{Area, rect_of, upright, square, rise_area, fall_area, across_area, flank_rect}
-use Rattle.layout_make.specs.Sheet.{lead_flank, lead_use}
+use Rattle.layout_make.specs.Sheet.{lead_flank, lead_use, RightOf, Over}
 use Rattle.layout_make.specs.Spots.{Spot}
 use Rattle.layout_make.specs.Draw.{kind_place}
 
@@ -31,19 +33,49 @@ wire_boxes l row next w track =
     ∷ boxed VIA 0 (square l w.to_column (bend_of l row track))
     ∷ []
 
--- the start or the link that leads to the bar of row r, from the row with the lower edge `first`
-abbrev pub lead_box : LibraryView → ℕ → ℕ → ℕ → ℕ → Element
-lead_box l right r first row =
+-- the start or the link that leads to the bar of row r, from the height `first`, where the odd rows lag so far behind
+abbrev pub lead_box : LibraryView → ℕ → ℕ → ℕ → ℤ → ℕ → Element
+lead_box l right lag r first row =
     Box (record {
       layer = EVEN_LINE + r % 2;
-      datatype = lead_use r;
-      rect = flank_rect l right (lead_flank r) first row;
+      datatype = lead_use lag (suc r);
+      rect = flank_rect l right (lead_flank (suc r)) first (pos (row + l.height));
     })
+
+-- the height where the lead of row r begins, which has this lower edge, as the row two below has the other one
+abbrev pub lead_low : LibraryView → ℕ → ℕ → ℕ → ℕ → ℤ
+lead_low l lag zero edge two_before = pos edge
+lead_low l zero (suc zero) edge two_before = pos edge
+lead_low l (suc lag) (suc zero) edge two_before = neg_ℤ (pos (2 * l.height))
+lead_low l lag (suc (suc r)) edge two_before = pos two_before
 
 -- the bar of row r
 abbrev pub bar_box : LibraryView → ℕ → ℕ → ℕ → Element
 bar_box l right r row =
     boxed (EVEN_LINE + r % 2) BAR (record { left = 0; low = row; right = right; high = row + l.height })
+
+-- the start of the odd line right of a bar of this width, which delays it a row's height below the rows
+abbrev pub lag_start : LibraryView → ℕ → Element
+lag_start l lag =
+    Box (record {
+      layer = ODD_LINE;
+      datatype = START;
+      rect = flank_rect l lag RightOf (neg_ℤ (pos (2 * l.height))) (neg_ℤ (pos l.height));
+    })
+
+-- that bar
+abbrev pub lag_bar : LibraryView → ℕ → Element
+lag_bar l lag =
+    Box (record {
+      layer = ODD_LINE;
+      datatype = BAR;
+      rect = flank_rect l lag Over (neg_ℤ (pos (2 * l.height))) (neg_ℤ (pos l.height));
+    })
+
+-- both, and none where the bar has no width
+abbrev pub lag_boxes : LibraryView → ℕ → List Element
+lag_boxes l zero = []
+lag_boxes l (suc n) = lag_start l (suc n) ∷ lag_bar l (suc n) ∷ []
 
 -- the wires of a channel, on these tracks
 abbrev pub channel_boxes : LibraryView → ℕ → ℕ → List Wire → List ℕ → List Element
@@ -75,6 +107,6 @@ abbrev pub place_box : LibraryView → List CellKind → ℕ → Spot → Elemen
 place_box l kinds row x = Place (kind_place x.cell.kind kinds) (pos (x.slot * (l.columns * l.pitch))) (pos row)
 
 -- the cells and the line of a row
-abbrev pub row_boxes : LibraryView → List CellKind → ℕ → ℕ → List Spot → ℕ → ℕ → List Element
-row_boxes l kinds right r xs first row = map (place_box l kinds row) xs
-    ++ (lead_box l right r first row ∷ bar_box l right r row ∷ [])
+abbrev pub row_boxes : LibraryView → List CellKind → ℕ → ℕ → ℕ → List Spot → ℤ → ℕ → List Element
+row_boxes l kinds right lag r xs first row = map (place_box l kinds row) xs
+    ++ (lead_box l right lag r first row ∷ bar_box l right r row ∷ [])

@@ -1,13 +1,13 @@
-use Rattle.std.proofs.Common.{◌≡◌, ◌∙◌, ap, sym, length, arith}
+use Rattle.std.proofs.Common.{rules, ◌≡◌, ℕ, suc, ◌∙◌, ap, sym, length, arith}
 use Rattle.rowed.proofs.SpanLaws.{long_row}
-use Rattle.layout_make.specs.Sheet.{lower_edge, lead_first}
+use Rattle.layout_make.specs.Sheet.{lower_edge, lead_first, step_low}
 use Rattle.layout_make.specs.Tags.{sheet}
 use Rattle.layout_make.proofs.Heights.{stands_low}
 use Rattle.layout_make.proofs.Ready.{lawful, may_ready}
-use Rattle.layout_make.proofs.RowsDrawn.{so_far, edge_here, first_own, first_before}
-use Rattle.layout_make.proofs.TopDrawn.{RowGiven, two_below, right_some, so_wired, so_last}
+use Rattle.layout_make.specs.Code.Boxes.{lead_low}
+use Rattle.layout_make.proofs.RowsDrawn.{so_far, edge_here, lead_at}
+use Rattle.layout_make.proofs.TopDrawn.{RowGiven, two_below, right_some, so_wired, so_last, few_kinds}
 use Rattle.layout_make.proofs.drawing.row_elements.Goals as goal
-use Rattle.layout_make.proofs.drawing.row_elements.Goals.{then-number-lt2, else-number-lt2}
 use Rattle.layout_make.proofs.drawing.row_elements.Goals.{then-number-count+in_ok-edge, else-number-count}
 
 pub loop-number-init : goal.loop-number-init
@@ -28,16 +28,13 @@ push_row-requires-clause-some c =
           (lawful c.args.library.now c.known-2.ensures.library),
     )
 
-pub push_row-requires-clause-first : goal.push_row-requires-clause-first
-push_row-requires-clause-first c = elim c.if-number-lt2.branch [
-  | then-number-lt2 w ↦ omega (arith, w.first-is)
-  | else-number-lt2 w ↦ omega (
-    arith,
-    w.first-is,
-    two_below c.args.placed.now c.args.library.now c.loop-number.number _
-        _ _ _ c.loop-number.invariant (omega (arith, c.loop-number-test.true, c.row_count-count.ensures)),
-  )
-]
+pub push_row-requires-clause-kinds : goal.push_row-requires-clause-kinds
+push_row-requires-clause-kinds c = omega (arith, ap length c.requires.kinds, few_kinds c.args.placed.now)
+
+pub push_row-requires-clause-two_before : goal.push_row-requires-clause-two_before
+push_row-requires-clause-two_before c =
+    two_below c.args.placed.now c.args.library.now c.loop-number.number _ _ _ _ c.loop-number.invariant
+    (omega (arith, c.loop-number-test.true, c.row_count-count.ensures))
 
 pub push_row-requires-clause-edge : goal.push_row-requires-clause-edge
 push_row-requires-clause-edge c =
@@ -52,18 +49,19 @@ push_row-requires-clause-edge c =
 
 pub loop-number-preserved : goal.loop-number-preserved
 loop-number-preserved c =
-    let first : c.if-number-lt2.first ≡ lower_edge (sheet c.args.placed.now c.args.library.now)
-    (lead_first c.loop-number.number) = elim c.if-number-lt2.branch [
-      | then-number-lt2 w ↦ w.first-is ∙ first_own c.args.placed.now c.args.library.now c.loop-number.number _ _ _ _
-          c.loop-number.invariant (omega (arith, c.loop-number-test.true, c.row_count-count.ensures))
-          w.if-number-lt2.true
-      | else-number-lt2 w ↦ w.first-is ∙ first_before c.args.placed.now c.args.library.now c.loop-number.number _ _ _ _
-          c.loop-number.invariant (omega (arith, w.if-number-lt2.false))
-    ] in
-    let given : RowGiven c.args.placed.now c.args.library.now c.loop-number.number _ _ _ _ c.if-number-lt2.first =
+    let lag : c.placed.inside.lag ≡ c.args.placed.now.lag = search rules in
+    let low = lead_low c.args.library.now c.placed.inside.lag c.loop-number.number c.loop-number.edge
+    c.loop-number.two_before in
+    let first : low ≡ step_low (sheet c.args.placed.now c.args.library.now)
+    (lead_first c.args.placed.now.lag (suc c.loop-number.number)) =
+    ap (λ (n : ℕ). lead_low c.args.library.now n c.loop-number.number c.loop-number.edge c.loop-number.two_before) lag
+    ∙ lead_at c.args.placed.now c.args.library.now c.loop-number.number _ _ _ _ c.loop-number.invariant
+    (omega (arith, c.loop-number-test.true, c.row_count-count.ensures)) in
+    let given : RowGiven c.args.placed.now c.args.library.now c.loop-number.number _ _ c.placed.inside.lag _ _ low =
     record {
       kinds_are = c.requires.kinds;
       right_is = c.right_end-right.ensures;
+      lag_is = lag;
       cells_are = c.of-row.ensures.cells;
       slots_are = c.of-row.ensures.slots;
       first_is = first;

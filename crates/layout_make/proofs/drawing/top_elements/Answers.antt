@@ -1,13 +1,22 @@
-use Rattle.std.proofs.Common.{ℕ, ◌/◌, ◌∙◌, ap, sym, length, arith, [], slice_index_or}
+use Rattle.std.proofs.Common.{rules, ◌≡◌, ℕ, ◌/◌, ◌∙◌, ap, sym, length, arith, [], ◌++◌, slice_index_or}
+use Rattle.std.specs.List.{flat_map}
+use Rattle.sorting.specs.Numbers.{numbers}
 use Rattle.rowed.specs.RowNets.{row_at}
 use Rattle.rowed.proofs.SpanLaws.{long_row}
 use Rattle.circuit.specs.declared.cell_kind.CellKind.TheVariants.{Buffer}
 use Rattle.layout_make.specs.declared.marks.Ports.TheVariants.{Inputs, Outputs}
-use Rattle.layout_make.specs.Draw.{last_row}
+use Rattle.layout_make.specs.Draw.{last_row, row_elements}
+use Rattle.layout_make.specs.Code.Boxes.{lag_boxes}
+use Rattle.layout_make.proofs.RowsDrawn.{lag_drawn}
 use Rattle.layout_make.proofs.Heights.{stands_low}
 use Rattle.layout_make.proofs.Ready.{lawful, last_suc}
 use Rattle.layout_make.proofs.TopDrawn.{labels_fit, top_is, last_at}
 use Rattle.layout_make.proofs.drawing.top_elements.Goals as goal
+
+pub push_lag-requires : goal.push_lag-requires
+push_lag-requires c =
+    let lag : c.placed.inside.lag ≡ c.args.placed.now.lag = search rules in
+    omega (arith, lag, c.requires.may.lag)
 
 pub input_column-column-requires-clause-given : goal.input_column-column-requires-clause-given
 input_column-column-requires-clause-given c = c.known-2.ensures.library.given Buffer (λ e. cc)
@@ -77,8 +86,14 @@ push_labels-requires-2-clause-fits c =
 
 pub returns : goal.returns
 returns c =
+    let lag : c.placed.inside.lag ≡ c.args.placed.now.lag = search rules in
     let last = last_at c.args.placed.now _ c.known.ensures c.row_count-last.ensures in
-    top_is c.args.library.now c.in_ok-elements.ensures.elements
+    top_is c.args.library.now
+    (c.in_ok-push_lag.ensures
+    ∙ ap (λ (n : ℕ). c.in_ok-elements.elements.items ++ lag_boxes c.args.library.now n) lag
+    ∙ ap (λ (es : _). es ++ lag_boxes c.args.library.now c.args.placed.now.lag) c.in_ok-elements.ensures.elements
+    ∙ ap (λ (es : _). flat_map (row_elements c.args.placed.now c.args.library.now)
+    (numbers 0 (length c.args.placed.now.net.rows)) ++ es) (lag_drawn c.args.placed.now c.args.library.now))
     (record {
       cells_are = c.of-bottom.ensures.cells;
       slots_are = c.of-bottom.ensures.slots;

@@ -1,4 +1,4 @@
-use Rattle.std.proofs.Common.{List, subst, sym}
+use Rattle.std.proofs.Common.{List, subst}
 use Rattle.geom.specs.declared.shapes.Shape.{Shape}
 use Rattle.layout_rules.specs.Reports.{ReportsNone, Alone}
 use Rattle.layout_rules.specs.ExcitationRule.{AreLaidOut, IsCutOff}
@@ -7,7 +7,6 @@ use Rattle.layout_rules.proofs.LinesAgree.{laid_out, none_cut_off}
 use Rattle.layout_make.specs.Laws.{Is, flat_shapes}
 use Rattle.layout_make.specs.Tags.{sheet, tags}
 use Rattle.layout_make.proofs.FlatLaw.{flat_is_tags}
-use Rattle.layout_make.proofs.Joins.{shapes_of}
 use Rattle.layout_make.proofs.KeptLines.{excitation_kept}
 use Rattle.layout_make.proofs.LineWays.{AddUp, cell_way, rows_near}
 use Rattle.layout_make.proofs.Ready.{lawful, may_ready}

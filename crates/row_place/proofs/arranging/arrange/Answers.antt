@@ -29,6 +29,7 @@ returns-then-not-each_seated-clause-taken c each seated =
 is_arranged : (c : After-from_vec-2) → IsArranged c.args.net.now c.args.slots.now (record {
   net = record { inputs = c.net.inside.inputs; outputs = c.net.inside.outputs; rows = c.from_vec.result };
   slots = c.from_vec-2.result;
+  lag = 0;
 })
 is_arranged c =
     let net : RowView = record {
@@ -39,6 +40,7 @@ is_arranged c =
     let placed : PlacedView = record {
       net = record { inputs = net.inputs; outputs = net.outputs; rows = c.from_vec.result };
       slots = c.from_vec-2.result;
+      lag = 0;
     } in
     let same : net ≡ c.args.net.now = search rules in
     let each : one_each c.as_slice-rows.result.now c.args.slots.now ≡ true = search rules in

@@ -10,7 +10,8 @@ placed-requires c =
     subst (λ (rows : List (List RowCell)). IsPlaced (record {
       net = record { inputs = 1; outputs = 1; rows = rows };
       slots = c.in_ok-slots.slots.items;
+      lag = 0;
     }))
     (sym c.in_ok-rows.ensures)
-    (subst (λ (slots : List (List ℕ)). IsPlaced (record { net = column_placed.net; slots = slots }))
+    (subst (λ (slots : List (List ℕ)). IsPlaced (record { net = column_placed.net; slots = slots; lag = 0 }))
     (sym c.in_ok-slots.ensures) (placed_from_test column_placed refl))

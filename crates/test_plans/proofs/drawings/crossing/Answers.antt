@@ -10,7 +10,8 @@ placed-requires c =
     subst (λ (rows : List (List RowCell)). IsPlaced (record {
       net = record { inputs = 2; outputs = 2; rows = rows };
       slots = c.in_ok-slots.slots.items;
+      lag = 0;
     }))
     (sym c.in_ok-rows.ensures)
-    (subst (λ (slots : List (List ℕ)). IsPlaced (record { net = crossing_placed.net; slots = slots }))
+    (subst (λ (slots : List (List ℕ)). IsPlaced (record { net = crossing_placed.net; slots = slots; lag = 0 }))
     (sym c.in_ok-slots.ensures) (placed_from_test crossing_placed refl))

@@ -15,13 +15,15 @@ net = record {
         ∷ (output 2 0 ∷ output 3 1 ∷ output 1 2 ∷ output 0 3 ∷ []) ∷ [];
   };
   slots = (0 ∷ 1 ∷ 6 ∷ 7 ∷ []) ∷ (0 ∷ 2 ∷ 5 ∷ 7 ∷ []) ∷ [];
+  lag = 0;
 }
 
 pub placed-requires : goal.placed-requires
 unfolding net
 placed-requires c =
     subst (λ (rows : List (List RowCell)). IsPlaced
-    (record { net = record { inputs = 4; outputs = 4; rows = rows }; slots = c.in_ok-slots.slots.items }))
+    (record { net = record { inputs = 4; outputs = 4; rows = rows }; slots = c.in_ok-slots.slots.items; lag = 0 }))
     (sym c.in_ok-rows.ensures)
-    (subst (λ (slots : List (List ℕ)). IsPlaced (record { net = net.net; slots = slots })) (sym c.in_ok-slots.ensures)
+    (subst (λ (slots : List (List ℕ)). IsPlaced (record { net = net.net; slots = slots; lag = 0 }))
+    (sym c.in_ok-slots.ensures)
     (placed_from_test net refl))

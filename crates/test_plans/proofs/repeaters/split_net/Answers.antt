@@ -18,13 +18,15 @@ net = record {
         ∷ (record (buffer_from (record { cell = 0; output = 1 })) { output = Some 0 } ∷ output 0 1 ∷ []) ∷ [];
   };
   slots = (0 ∷ []) ∷ (0 ∷ []) ∷ (0 ∷ 2 ∷ []) ∷ [];
+  lag = 0;
 }
 
 pub placed-requires : goal.placed-requires
 unfolding net
 placed-requires c =
     subst (λ (rows : List (List RowCell)). IsPlaced
-    (record { net = record { inputs = 1; outputs = 2; rows = rows }; slots = c.in_ok-slots.slots.items }))
+    (record { net = record { inputs = 1; outputs = 2; rows = rows }; slots = c.in_ok-slots.slots.items; lag = 0 }))
     (sym c.in_ok-rows.ensures)
-    (subst (λ (slots : List (List ℕ)). IsPlaced (record { net = net.net; slots = slots })) (sym c.in_ok-slots.ensures)
+    (subst (λ (slots : List (List ℕ)). IsPlaced (record { net = net.net; slots = slots; lag = 0 }))
+    (sym c.in_ok-slots.ensures)
     (placed_from_test net refl))

@@ -16,13 +16,15 @@ net = record {
     rows = map (λ (i : ℕ). input_cell i) (numbers 0 40) ∷ map (λ (i : ℕ). output (39 - i) i) (numbers 0 40) ∷ [];
   };
   slots = numbers 0 40 ∷ numbers 0 40 ∷ [];
+  lag = 0;
 }
 
 pub placed-requires : goal.placed-requires
 unfolding net
 placed-requires c =
     subst (λ (rows : List (List RowCell)). IsPlaced
-    (record { net = record { inputs = 40; outputs = 40; rows = rows }; slots = c.in_ok-slots.slots.items }))
+    (record { net = record { inputs = 40; outputs = 40; rows = rows }; slots = c.in_ok-slots.slots.items; lag = 0 }))
     (sym c.in_ok-rows.ensures)
-    (subst (λ (slots : List (List ℕ)). IsPlaced (record { net = net.net; slots = slots })) (sym c.in_ok-slots.ensures)
+    (subst (λ (slots : List (List ℕ)). IsPlaced (record { net = net.net; slots = slots; lag = 0 }))
+    (sym c.in_ok-slots.ensures)
     (placed_from_test net refl))

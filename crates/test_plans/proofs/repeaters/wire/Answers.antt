@@ -17,9 +17,9 @@ pub placed-requires : goal.placed-requires
 unfolding net rows
 placed-requires c =
     subst (λ (rs : List (List RowCell)). IsPlaced
-    (record { net = record { inputs = 1; outputs = 1; rows = rs }; slots = c.in_ok-slots.slots.items }))
+    (record { net = record { inputs = 1; outputs = 1; rows = rs }; slots = c.in_ok-slots.slots.items; lag = 0 }))
     (sym c.in_ok-rows.ensures)
-    (subst (λ (ss : List (List ℕ)). IsPlaced (record { net = net; slots = ss })) (sym c.in_ok-slots.ensures)
+    (subst (λ (ss : List (List ℕ)). IsPlaced (record { net = net; slots = ss; lag = 0 })) (sym c.in_ok-slots.ensures)
     (record {
       net_keeps = row_net_from_test net refl;
       seated = (
