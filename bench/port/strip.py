@@ -12,7 +12,8 @@ HERE = os.path.dirname(os.path.abspath(__file__))
 TOKEN = re.compile(
     r'''//[^\n]*|/\*.*?\*/|b?r"[^"]*"|b?"(?:\\.|[^"\\])*"|b?'(?:\\.[^']*|[^'\\])'|'''
     r'''[A-Za-z_][A-Za-z_0-9]*|\d[\w.]*|\s+|::|.''', re.S)
-SKIP_FILES = {('plan_compact', 'compact')}
+SKIP_FILES = {('plan_compact', 'compact')} | {('sat_sweep', name) for name in (
+    'decided', 'differ', 'literals', 'outcome', 'some_difference', 'structure')}
 CLAUSES = {'requires', 'ensures', 'decreases'}
 
 
@@ -230,7 +231,7 @@ def main():
     wanted, todo = [], ['plan_compact']
     while todo:
         name = todo.pop()
-        if name in wanted or name not in deps:
+        if name in wanted or name not in deps or name == 'decide':
             continue
         if name in shims:
             wanted.append(name)
@@ -277,7 +278,7 @@ def main():
     write(os.path.join(gen, 'Cargo.toml'), '''[package]
 name = "aqport"
 version = "0.1.0"
-edition = "2021"
+edition = "2024"
 [profile.release]
 opt-level = 3
 overflow-checks = %s

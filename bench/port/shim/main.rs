@@ -26,7 +26,7 @@ pub fn counts(rows: &[aq_base::List<RowCell>]) -> (u64, u64, u64, u64) {
 }
 
 fn main() {
-    extern "C" {
+    unsafe extern "C" {
         fn signal(number: i32, handler: usize) -> usize;
     }
     unsafe { signal(13, 0) }; // a closed pipe ends the program silently

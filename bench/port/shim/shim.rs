@@ -212,7 +212,7 @@ pub fn user_time() -> f64 {
         system: [i64; 2],
         rest: [i64; 14],
     }
-    extern "C" {
+    unsafe extern "C" {
         fn getrusage(who: i32, usage: *mut Usage) -> i32;
     }
     let mut usage = Usage {

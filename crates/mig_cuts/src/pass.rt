@@ -11,8 +11,8 @@ use mig::{Graph, GraphRefusal};
 use mig_replace::{Ties, with_replacements};
 use std::alloc::Global;
 
-/// Makes graphs of fewer nodes and no more levels, by recipes for what nodes compute from four others. It is refused
-/// for want of memory alone.
+/// Seeks graphs of fewer nodes, by recipes for what nodes compute from four others. Their answers are proved, and not
+/// their sizes. It is refused for want of memory alone.
 #[derive(Drop)]
 pub struct CutRewriting {
     recipes: Recipes,

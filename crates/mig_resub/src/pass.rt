@@ -9,8 +9,8 @@ use mig::{Graph, GraphRefusal};
 use mig_replace::{Ties, with_replacements};
 use std::alloc::Global;
 
-/// Makes graphs of fewer nodes and no more levels, by majorities of nodes of windows with six leaves. It is refused for
-/// want of memory alone.
+/// Seeks graphs of fewer nodes, by majorities of nodes of windows with six leaves. Their answers are proved, and not
+/// their sizes. It is refused for want of memory alone.
 #[derive(Clone, Copy)]
 pub struct Resubstitution;
 

@@ -11,6 +11,7 @@ use crate::sizes::is_no_larger;
 use blif_read::Netlist;
 use cell_library::Library;
 use plan_build::{PlanRefusal, plan_chip, plan_laws};
+use plan_limits::delayed;
 use repeater_rows::repeaters_count;
 use rowed::Placed;
 use std::alloc::Global;
@@ -34,11 +35,9 @@ fn smaller(_library: &Library, _net: &Netlist, found: Placed, planned: Placed) -
     }
 }
 
-/// The chip of a netlist with a library: one that was found, or else that of the defined plan. It can be drawn, and
-/// answers every word as the netlist does. A chip that was found has few enough elements, and, where the plan keeps its
-/// limits, at most as many cells and junctions as the plan's chip. A refusal is the plan's.
+/// The chip of a netlist with a library, with no row delayed: one that was found, or else that of the defined plan.
 #[tactic(auto, using(crate::proofs::Candidates::chosen))]
-pub fn compact_chip(alloc: Global, library: &Library, net: &Netlist) -> Result<Placed, PlanRefusal>
+fn undelayed_chip(alloc: Global, library: &Library, net: &Netlist) -> Result<Placed, PlanRefusal>
     ensures draws { IfOk result (λ chip. MayDraw chip library.now) }
     ensures answers { IfOk result (λ chip. AnswersAs net.now chip) }
     ensures compact { IfOk result (λ chip. IsCompactChip library.now net.now chip) }
@@ -52,4 +51,19 @@ pub fn compact_chip(alloc: Global, library: &Library, net: &Netlist) -> Result<P
         (Some(found), Err(_)) => Ok(found),
         (Some(found), Ok(planned)) => Ok(smaller(library, net, found, planned)),
     }
+}
+
+/// The chip of a netlist with a library: one that was found, or else that of the defined plan. It can be drawn, and
+/// answers every word as the netlist does. A chip that was found has few enough elements, and, where the plan keeps its
+/// limits, at most as many cells and junctions as the plan's chip. Its odd rows are delayed, so that it bears a high
+/// clock rate. A refusal is the plan's.
+#[tactic(auto, using(crate::proofs::Delayed::delays))]
+pub fn compact_chip(alloc: Global, library: &Library, net: &Netlist) -> Result<Placed, PlanRefusal>
+    ensures draws { IfOk result (λ chip. MayDraw chip library.now) }
+    ensures answers { IfOk result (λ chip. AnswersAs net.now chip) }
+    ensures compact { IfOk result (λ chip. IsCompactChip library.now net.now chip) }
+    ensures refused { IfErr result (Refuses library.now net.now) }
+{
+    let chip = undelayed_chip(alloc, library, net)?;
+    Ok(delayed(library, chip))
 }

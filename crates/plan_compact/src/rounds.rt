@@ -1,4 +1,4 @@
-// Graphs of fewer nodes, by rounds of resubstitution and of cuts of four leaves.
+// Graphs of fewer nodes, by equal nodes that are merged, and by rounds of resubstitution and of cuts of four leaves.
 ghost use Rattle.std.specs.Prelude.{IfOk, IfSome};
 ghost use Rattle.mig.specs.Passes.{IsRebuilt};
 ghost use Rattle.mig_from_netlist.specs.Passes.{IsGraphOf};
@@ -10,6 +10,8 @@ use blif_read::Netlist;
 use circuit::Pass;
 use mig::Graph;
 use mig_cuts::CutRewriting;
+use mig_from_netlist::{CoverRefusal, GraphPass};
+use mig_merge::Merging;
 use mig_resub::Resubstitution;
 use std::alloc::Global;
 
@@ -21,6 +23,16 @@ const MOST_NODES: usize = 20_000;
 
 /// How many nodes a graph has at most that is made anew in three turns, and not in one.
 const MOST_IN_TURNS: usize = 8_000;
+
+/// The graph whose equal nodes are merged.
+fn merged(alloc: Global, graph: &Graph) -> Result<Graph, Memory>
+    ensures { IfOk result (λ made. IsRebuilt graph.now made) }
+{
+    match Merging.run(alloc, graph) {
+        Ok(made) => Ok(made),
+        Err(refusal) => Err(no_memory(refusal)),
+    }
+}
 
 /// The graph by resubstitution; with a number, it is shaken.
 fn resubstituted(alloc: Global, graph: &Graph, shake: Option<u32>) -> Result<Graph, Memory>
@@ -144,16 +156,56 @@ fn turns(nodes: usize) -> u32 {
     if nodes <= MOST_IN_TURNS { 3 } else { 1 }
 }
 
-/// The graph of the fewest nodes that turns give.
+/// Two rounds from a graph whose equal nodes are merged first.
+#[tactic(auto, using(mig_from_netlist::proofs::Signals::graph_then))]
+fn begun(alloc: Global, net: &Netlist, pass: &CutRewriting, graph: &Graph) -> Result<Graph, Memory>
+    requires { IsGraphOf net.now graph.now }
+    ensures { IfOk result (λ made. IsGraphOf net.now made) }
+{
+    let start = merged(alloc, graph)?;
+    let one = round(alloc, net, pass, &start, None)?;
+    round(alloc, net, pass, &one, None)
+}
+
+/// Two rounds from the graph of the netlist before cuts of three inputs are taken, if it is not too great.
+fn begun_plainly(alloc: Global, net: &Netlist, pass: &CutRewriting) -> Result<Option<Graph>, Memory>
+    ensures { IfOk result (λ found. IfSome found (λ made. IsGraphOf net.now made)) }
+{
+    match GraphPass.run(alloc, net) {
+        Ok(plain) if plain.node_count() <= MOST_NODES => {
+            let made = begun(alloc, net, pass, &plain)?;
+            Ok(Some(made))
+        }
+        Err(CoverRefusal::Memory) => Err(Memory),
+        _ => Ok(None),
+    }
+}
+
+/// The one of fewer nodes, the first one if neither has.
+fn fewer(_net: &Netlist, one: Graph, other: Option<Graph>) -> Graph
+    requires one { IsGraphOf _net.now one }
+    requires other { IfSome other (IsGraphOf _net.now) }
+    ensures { IsGraphOf _net.now result }
+{
+    match other {
+        Some(other) if other.node_count() < one.node_count() => other,
+        _ => one,
+    }
+}
+
+/// The graph of the fewest nodes that turns give. They begin where two rounds leave fewest nodes: from this graph, or
+/// from the one before cuts of three inputs.
 fn turned(alloc: Global, net: &Netlist, graph: &Graph) -> Result<Graph, Memory>
     requires { IsGraphOf net.now graph.now }
     ensures { IfOk result (λ made. IsGraphOf net.now made) }
 {
     let pass = CutRewriting::new(alloc)?;
-    let one = round(alloc, net, &pass, graph, None)?;
-    let best = round(alloc, net, &pass, &one, None)?;
+    let plain = begun_plainly(alloc, net, &pass)?;
+    let by_cuts = begun(alloc, net, &pass, graph)?;
+    let best = fewer(net, by_cuts, plain);
+    let turns = turns(best.node_count());
     let mut so_far = SoFar { best, next: None };
-    for number in 0..turns(graph.node_count()) {
+    for number in 0..turns {
         let made = next_turn(alloc, net, &pass, &so_far, number)?;
         so_far = after_turn(net, so_far, made);
     }
@@ -186,8 +238,9 @@ fn first_turned(alloc: Global, net: &Netlist, graphs: &[Graph]) -> Result<Option
     }
 }
 
-/// Further graphs with the answers of a netlist: that by rounds of resubstitution and of cuts of four leaves of the
-/// first one of its graphs, if it has fewer nodes, and up to seven that are made of it, each with fewer levels. There are
+/// Further graphs with the answers of a netlist: that whose equal nodes are merged, and then by rounds of
+/// resubstitution and of cuts of four leaves, of the first one of its graphs or of the one before cuts of three inputs,
+/// if it has fewer nodes than that first one, and up to seven that are made of it, each with fewer levels. There are
 /// none where the first one has more than 20,000 nodes. They are refused for want of memory alone.
 pub fn fewest_nodes(alloc: Global, net: &Netlist, graphs: &[Graph]) -> Result<Vec<Graph>, Memory>
     requires { AreGraphsOf net.now graphs.now }

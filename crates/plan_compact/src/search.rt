@@ -1,6 +1,8 @@
 // The search for a small chip of a netlist.
-ghost use Rattle.std.specs.Prelude.{IfOk, IfSome};
+ghost use Rattle.std.specs.Prelude.{◌≤◌, IfOk, IfSome};
 ghost use Rattle.rowed.specs.PlacedNets.{IsPlaced};
+ghost use Rattle.rowed.specs.Counts.{cells_in};
+ghost use Rattle.rowed.specs.Extent.{cell_limit};
 ghost use Rattle.plan_build.specs.Laws.{AnswersAs};
 ghost use Rattle.plan_compact.specs.Variants.{AreGraphsOf};
 ghost use Rattle.plan_compact.specs.Code.Candidates.{IsCandidate};
@@ -15,7 +17,7 @@ use blif_read::Netlist;
 use cell_library::Library;
 use chip_search::Effort;
 use mig::Graph;
-use plan_limits::drawable_chip;
+use plan_limits::{drawable_chip, twice_skew};
 use rowed::Placed;
 use std::alloc::Global;
 
@@ -61,21 +63,26 @@ fn drawn(
     }
 }
 
-/// The second chip where it has fewer cells or junctions and no more of the others; else the first one.
+/// Whether the second chip is to be taken: it has fewer cells or junctions and no more of the others, or as many of both
+/// and less skew.
+fn is_better(one: &Placed, other: &Placed) -> bool
+    requires one { cells_in one.now.net.rows ≤ cell_limit }
+    requires other { cells_in other.now.net.rows ≤ cell_limit }
+{
+    is_no_larger(other, one) && (!is_no_larger(one, other) || twice_skew(other) < twice_skew(one))
+}
+
+/// The second chip where it is smaller, or as large and of less skew; else the first one.
 #[tactic(auto, using(crate::proofs::Candidates::chosen))]
 fn smaller(_library: &Library, _net: &Netlist, one: Placed, other: Placed) -> Placed
     requires one { IsCandidate _library.now _net.now one }
     requires other { IsCandidate _library.now _net.now other }
     ensures { IsCandidate _library.now _net.now result }
 {
-    if is_no_larger(&other, &one) && !is_no_larger(&one, &other) {
-        other
-    } else {
-        one
-    }
+    if is_better(&one, &other) { other } else { one }
 }
 
-/// The smaller of two, where both are there.
+/// The better of two, where both are there.
 fn smaller_of(
     library: &Library,
     net: &Netlist,
@@ -94,8 +101,8 @@ fn smaller_of(
 }
 
 /// A chip of the netlist that was found, if it may be drawn with the library. The graphs of fewer nodes are searched by
-/// themselves, and what comes of them is taken only where it is smaller as it would be drawn: so they never make a chip
-/// larger.
+/// themselves, and what comes of them is taken only where it is smaller as it would be drawn, or as large and of less
+/// skew: so they never make a chip larger.
 pub fn found_chip(alloc: Global, library: &Library, net: &Netlist) -> Result<Option<Placed>, Memory>
     ensures { IfOk result (λ found. IfSome found (λ chip. IsCandidate library.now net.now chip)) }
 {

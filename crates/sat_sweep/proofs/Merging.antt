@@ -144,6 +144,16 @@ if_remade (Err e) a b literal x y z node grown splits p q s gives = tt
 if_remade (Ok given) a b literal x y z node grown splits p q s gives =
     remade_stands a b literal x y z given node grown splits p q s gives
 
+-- what stands for a literal has its value
+pub given_then : (a b : BuilderView) (literal found : ℕ) (value : (ℕ → Bool) → Bool) → b ≡ a → Gives a literal value
+    → StandsFor b literal found → Gives b found value
+given_then a b literal found value same gives stands =
+    let here = subst (λ (g : BuilderView). Gives g literal value) (sym same) gives in
+    record {
+      below = stands.below here.below;
+      shows = λ word v fit. sym (stands.alike.shows word v fit) ∙ here.shows word v fit;
+    }
+
 pub operands_below : (b : BuilderView) (node : Node) (x y z : ℕ) → AreBelow (limit b) node
     → StandsFor b node.x x → StandsFor b node.y y → StandsFor b node.z z
     → AreBelow (limit b) (record { x = x; y = y; z = z })

@@ -1,5 +1,6 @@
 // A graph whose nodes are merged into representatives of the same value.
-ghost use Rattle.std.specs.Prelude.{◌≡◌, ◌⊎◌, ◌*◌, ◌/◌, ◌<◌, ℕ, Some, [], IfOk, IfSome, IfNone, IsTrue, length};
+ghost use Rattle.std.specs.Prelude.{◌≡◌, ◌⊎◌, ◌*◌, ◌/◌, ◌<◌, ◌^◌, ℕ, Some, [], IfOk, IfSome, IfNone, IsTrue, length};
+ghost use Rattle.std.specs.List.{AllByRecursion};
 ghost use Rattle.sat_solver.specs.declared.answer.Answer.TheVariants as answers;
 ghost use Rattle.mig.specs.Graphs.{node_value, AreBelow};
 ghost use Rattle.mig.specs.Building.{IsBuilder, Grown, Gives, limit};
@@ -9,7 +10,7 @@ ghost use Rattle.sat_sweep.specs.Code.Merging.{representative_at, turned_as};
 use crate::budget::Budget;
 use crate::comparison::compare_literals;
 use aq_base::Memory;
-use mig::{Builder, GraphRefusal, turned};
+use mig::{Builder, Graph, GraphRefusal, turned};
 use sat_solver::{Answer, Clause, Solver};
 use std::alloc::Global;
 use std::marker::Model;
@@ -150,6 +151,16 @@ impl Merged {
             Gives self.new literal (λ v. node_value v (record { x = x; y = y; z = z }))) }
     {
         self.builder.maj(x, y, z)
+    }
+
+    /// The graph whose outputs show these literals.
+    pub(crate) fn finish(self, outputs: Vec<u32>) -> Graph
+        requires some { 0 < length outputs.items }
+        requires few { length outputs.items < 2 ^ 32 }
+        requires below { AllByRecursion (λ l. l < limit self) outputs.items }
+        ensures { result ≡ record { inputs = self.inputs; nodes = self.nodes; outputs = outputs.items } }
+    {
+        self.builder.finish(outputs)
     }
 
     /// A literal of a node's value, made of what stands for its operands.

@@ -55,19 +55,25 @@ fn work_of(nodes: u32) -> u64 {
 
 /// What tells which nodes may be equal, and what compares them.
 #[derive(Drop)]
-struct Sweep {
+pub(crate) struct Sweep {
     signatures: Signatures,
     classes: Classes,
     solver: Solver,
 }
 
 impl Sweep {
-    /// Begins a round: all nodes get signatures, and the constant and the inputs come first in their classes.
-    fn begin(&mut self, alloc: Global, merged: &Merged) -> Result<(), Memory> {
+    /// Begins a round: all nodes get signatures, and the constant and the inputs come first in their classes. There are
+    /// about so many nodes.
+    pub(crate) fn begin(
+        &mut self,
+        alloc: Global,
+        merged: &Merged,
+        nodes: usize,
+    ) -> Result<(), Memory> {
         let graph = merged.graph();
         self.signatures.grow(graph)?;
         self.solver.grow(graph)?;
-        self.classes = Classes::new(alloc, node_limit(graph) as usize)?;
+        self.classes = Classes::new(alloc, nodes)?;
         for node in 0..first_node(graph) {
             let key = self.signatures.class_key(node);
             self.classes.add(key, node)?;
@@ -160,6 +166,25 @@ impl Sweep {
         self.classes.add(key, node)
     }
 
+    /// Merges a node that is new into the node of its class that the solver finds alike, if there is one.
+    pub(crate) fn merge_new(
+        &mut self,
+        alloc: Global,
+        merged: &mut Merged,
+        node: u32,
+        budget: &mut Budget,
+    ) -> Result<(), Memory>
+        requires { 2 * node < limit merged.old }
+        ensures { merged.new ≡ merged.old }
+    {
+        if merged.is_merged(node) {
+            return Ok(());
+        }
+        self.signatures.grow(merged.graph())?;
+        self.solver.grow(merged.graph())?;
+        self.compare_with_class(alloc, merged, node, budget)
+    }
+
     /// Makes a node anew of what its operands were merged into, and merges it where what comes of it is another node.
     fn sweep_node(
         &mut self,
@@ -225,7 +250,7 @@ impl Sweep {
     {
         let mut budget = budget_of(0, 0, work_of(node_limit(merged.graph())));
         for conflicts in ROUND_CONFLICTS {
-            self.begin(alloc, merged)?;
+            self.begin(alloc, merged, node_limit(merged.graph()) as usize)?;
             let count = self.first_difference(ones, others);
             if first_unmerged(merged, ones, others).unwrap_or(count) >= count {
                 return Ok(());
@@ -280,7 +305,7 @@ impl Sweep {
 }
 
 /// What a sweep over a graph of so many inputs begins with.
-fn sweep_of(alloc: Global, inputs: u32) -> Result<Sweep, Memory> {
+pub(crate) fn sweep_of(alloc: Global, inputs: u32) -> Result<Sweep, Memory> {
     Ok(Sweep {
         signatures: Signatures::new(alloc, inputs)?,
         classes: Classes::new(alloc, 0)?,

@@ -4,6 +4,8 @@
 #[cfg(test)]
 mod builders;
 #[cfg(test)]
+mod merging;
+#[cfg(test)]
 mod tables;
 #[cfg(test)]
 mod variants;
