@@ -186,4 +186,5 @@ def main():
                       f"cells by {commands[-1]} than by {command} (geometric mean)")
 
 
-main()
+if __name__ == "__main__":
+    main()

@@ -127,29 +127,52 @@ def row_of_cells(kind, count):
     return None, 0
 
 
-def main():
-    random.seed(1)
-    kind, count, source, target, word_file = sys.argv[1], int(sys.argv[2]), *sys.argv[3:]
-    read, at, data = [], 0, open(source, "rb").read()
+def stored(path):
+    """The records of a stream, up to its end."""
+    read, at, data = [], 0, open(path, "rb").read()
     while at < len(data):
         length = struct.unpack(">H", data[at:at + 2])[0]
         read.append(data[at:at + length])
         at += length
         if read[-1][2:4] == b"\x04\x00":
             break
+    return read
+
+
+def array(name, columns, rows, x, y, step_x, step_y):
+    """So many references in columns and rows."""
+    return (record(0x0B00) + record(0x1206, name) + record(0x1302, words(columns, rows))
+            + record(0x1003, points(x, y, x + columns * step_x, y, x, y + rows * step_y)) + record(0x1100))
+
+
+def structure(name, body):
+    return record(0x0502, words(*[1970, 1, 1, 0, 0, 0] * 2)) + record(0x0606, name) + body + record(0x0700)
+
+
+def with_more(source, structures, elements):
+    """A stored chip with structures before its top one, and elements at the end of this."""
+    read = stored(source)
     first = [n for n, it in enumerate(read) if it[2:4] == b"\x05\x02"]
     ends = [n for n, it in enumerate(read) if it[2:4] == b"\x07\x00"]
-    begin = record(0x0502, words(*[1970, 1, 1, 0, 0, 0] * 2))
+    return b"".join([*read[:first[-1]], structures, *read[first[-1]:ends[-1]], elements, *read[ends[-1]:]])
+
+
+def main():
+    random.seed(1)
+    kind, count, source, target, word_file = sys.argv[1], int(sys.argv[2]), *sys.argv[3:]
     drawn, inputs = row_of_cells(kind, count)
     if drawn is None:
         inputs = 1
-        more = begin + record(0x0606, b"HP") + b"".join(far_shapes(kind, count)) + record(0x0700)
+        more = structure(b"HP", b"".join(far_shapes(kind, count)))
         place = record(0x0A00) + record(0x1206, b"HP") + record(0x1003, points(FAR, FAR)) + record(0x1100)
-        made = read[:first[-1]] + [more] + read[first[-1]:ends[-1]] + [place] + read[ends[-1]:]
+        made = with_more(source, more, place)
     else:
-        made = read[:first[0]] + [begin, record(0x0606, b"TOP\0"), *drawn, record(0x0700), record(0x0400)]
-    open(target, "wb").write(b"".join(made))
+        read = stored(source)
+        first = next(n for n, it in enumerate(read) if it[2:4] == b"\x05\x02")
+        made = b"".join([*read[:first], structure(b"TOP\0", b"".join(drawn)), record(0x0400)])
+    open(target, "wb").write(made)
     open(word_file, "w").write("01"[count % 2] * inputs + "\n")
 
 
-main()
+if __name__ == "__main__":
+    main()

@@ -1,27 +1,21 @@
 #!/usr/bin/env python3
 """What netlists cost that are made to be slow for `compact` or `draw`, beside ordinary ones with as many cells.
 
-    hostile_nets.py [--library LIB] [--seconds N] [--doublings N] [KIND ..]
+    hostile_nets.py [--library LIB] [--seconds N] [--doublings N] [--short] [KIND ..]
 
-For each kind a line for each of three sizes, doubled each time: the netlist's bytes, the chip's cells or the refusal,
-seconds of processor time, megabytes at most, both over those of an ordinary netlist with as many cells, and the growth
-of the time: its exponent from the first size to the last. docs/measuring.md says what the kinds are and what is wanted.
-Then for each kind of HOPELESS netlists, which are refused, their seconds over those of the chip of a netlist a third as
-large. The status is 1 where a ratio of times is above three, of a refusal above one, or an exponent above 1.3 of the
-chip's cells. AQFP names the program; `hopeless` as a KIND stands for the last part."""
+For each kind a line for each of three sizes, doubled each time: bytes, the chip or the refusal, seconds of processor
+time and megabytes at most, both over those of an ordinary netlist with as many cells; then the exponents with which
+both grow with the cells. Then what HOPELESS netlists take over the chip of a netlist a third as large. --short begins
+at half the sizes and leaves these out. KIND may be `compact`, `draw` or `hopeless`. docs/measuring.md says the kinds
+and what is wanted; the status is 1 where a figure is above. AQFP names the program. Needs GNU time."""
 import argparse
-import math
-import os
 import pathlib
 import random
-import resource
-import subprocess
 import sys
 import tempfile
 
-top = pathlib.Path(__file__).resolve().parent.parent
-SHORT = 0.05  # seconds below which a time says nothing
-LEAST = 11  # megabytes that a run counts at least: those of this script, from which it is begun
+from hostile_texts import A_BIT, adder
+from measured import Run, SHORT, Series, TOP, least, own_memory, program
 
 
 def netlist(inputs, outputs, lines):
@@ -108,101 +102,155 @@ def majorities(count):
     return netlist([f"x{k}" for k in range(2 * count + 1)], [last], lines)
 
 
+def adder_of(bits):
+    """An adder of so many bits."""
+    return adder(bits * A_BIT)
+
+
+def shuffled(text):
+    """A netlist of cells in another order of the text, so that this says nothing of places."""
+    head, *cells = text.split(".names ")
+    random.Random(1).shuffle(cells)
+    return ".names ".join([head, *cells]).replace(".end\n", "") + ".end\n"
+
+
+def mixed(count):
+    """So many inputs, each split to three majorities chosen by chance: most wires are long in every order, so that rows
+    are added."""
+    draw, chosen = random.Random(count), [[k] for k in range(count)]
+    for _ in range(2):
+        order = draw.sample(range(count), count)
+        for k in range(count):  # a signal that a majority has already goes to another one that lacks both
+            while order[k] in chosen[k]:
+                other = draw.randrange(count)
+                if order[k] not in chosen[other] and order[other] not in chosen[k]:
+                    order[k], order[other] = order[other], order[k]
+        for k in range(count):
+            chosen[k].append(order[k])
+    lines = [f".names x{k} a{k}\n1 1\n.names a{k} s{k}\n1 1" for k in range(count)]
+    lines += [f".names {' '.join(f's{j}' for j in three)} m{k}\n11- 1\n1-1 1\n-11 1\n.names m{k} o{k}\n1 1\n"
+              f".names o{k} y{k}\n1 1" for k, three in enumerate(chosen)]
+    return netlist([f"x{k}" for k in range(count)], [f"y{k}" for k in range(count)], lines)
+
+
+def lanes(count):
+    """So many chains of sixteen buffers side by side: a wide chip in which nothing has to move."""
+    lines = []
+    for k in range(count):
+        lines.append(f".names x{k} b{k}_0\n1 1")
+        lines += [f".names b{k}_{row} b{k}_{row + 1}\n1 1" for row in range(15)]
+        lines.append(f".names b{k}_15 y{k}\n1 1")
+    return netlist([f"x{k}" for k in range(count)], [f"y{k}" for k in range(count)], lines)
+
+
+def tower(count):
+    """Four chains of so many buffers each: a chip of many rows."""
+    lines = []
+    for k in range(4):
+        lines.append(f".names x{k} b{k}_0\n1 1")
+        lines += [f".names b{k}_{row} b{k}_{row + 1}\n1 1" for row in range(count)]
+        lines.append(f".names b{k}_{count} y{k}\n1 1")
+    return netlist([f"x{k}" for k in range(4)], [f"y{k}" for k in range(4)], lines)
+
+
 KINDS = {"shown_chain": (shown_chain, 100), "shown_ands": (shown_ands, 100), "shown_deep": (shown_deep, 50),
-         "tables": (tables, 10), "apart": (apart, 20), "cubes": (cubes, 20), "majorities": (majorities, 100)}
+         "tables": (tables, 10), "apart": (apart, 20), "cubes": (cubes, 20), "majorities": (majorities, 100),
+         "random": (ordinary, 200)}
+
+# What `netlist` stores of the chip of a command, in the order of its text or in another one, or a netlist of cells.
+DRAWN = {"built": (("build", adder_of, False), 40), "compacted": (("compact", ordinary, False), 200),
+         "mixed_up": (("build", adder_of, True), 40), "mixed": (mixed, 100), "lanes": (lanes, 500),
+         "tower": (tower, 1_000)}
 
 HOPELESS = {"apart": (apart, 480), "ordinary": (ordinary, 9_600)}
 
 
-class Measured:
-    """What one run of `compact` took, and the cells of its chip, or None and the line of its refusal."""
+class Bench:
+    """The program, a library and a folder, and what ordinary netlists took: pairs of cells and runs."""
 
-    def __init__(self, program, text, library, seconds):
-        with tempfile.TemporaryDirectory(prefix="aqfp_hostile_") as room:
-            net = pathlib.Path(room) / "net.blif"
-            net.write_text(text)
-            self.bytes = len(text)
-            reads, writes = os.pipe()
-            child = os.fork()
-            if child == 0:
-                self.become(program, net, library, seconds, writes)
-            os.close(writes)
-            with os.fdopen(reads) as told:
-                said = told.read()
-            _, status, used = os.wait4(child, 0)
-        self.seconds = used.ru_utime + used.ru_stime
-        self.megabytes = used.ru_maxrss / 1024
-        words = said.split()
-        is_chip = os.WIFEXITED(status) and os.WEXITSTATUS(status) == 0
-        self.cells = int(words[words.index("cells") + 1]) if is_chip else None
-        self.said = f"{self.cells} cells" if is_chip else said.strip() or "cut off"
+    def __init__(self, words, folder):
+        self.path, self.library, self.seconds, self.folder = program(), words.library, words.seconds, folder
+        self.net, self.chip = folder / "net.blif", folder / "chip.gds"
+        self.own = own_memory(self.path, folder)
 
-    @staticmethod
-    def become(program, net, library, seconds, writes):
-        resource.setrlimit(resource.RLIMIT_CPU, (seconds, seconds + 1))
-        os.dup2(writes, 1)
-        os.dup2(writes, 2)
-        os.execv(program, [str(program), "compact", str(net), str(library), str(net.with_suffix(".gds"))])
+    def ran(self, command, text):
+        """A command that stores the chip of a netlist."""
+        self.net.write_text(text)
+        return least([self.path, command, self.net, self.library, self.chip], self.folder, self.seconds)
 
+    def cells_of(self, command, text):
+        """What `netlist` stores of the chip of a netlist, or None where there is none."""
+        if self.ran(command, text).status != 0:
+            return None
+        stored = self.folder / "cells.blif"
+        Run([self.path, "netlist", self.chip, self.library, stored], self.folder, self.seconds)
+        return stored.read_text()
 
-def beside(measured, plain):
-    """The times and the memory of an ordinary netlist with as many cells: between those of two that were measured."""
-    fitting = sorted(plain, key=lambda it: abs(math.log(it.cells / max(measured.cells, 1))))[0]
-    share = measured.cells / fitting.cells
-    return fitting.seconds * share, max(fitting.megabytes * share, LEAST)
+    def ordinary(self, command, counts):
+        """Runs of ordinary netlists: for `draw` what `netlist` stores of their chips by `build`."""
+        plain = []
+        for count in counts:
+            text = ordinary(count) if command == "compact" else self.cells_of("build", ordinary(count))
+            run = self.ran(command, text)
+            print(f"{command} of {count} ordinary gates: {len(text):,} bytes, {run.said}, {run.seconds:.2f} s, "
+                  f"{run.megabytes:.1f} MB", flush=True)
+            if run.status == 0:
+                plain.append((run.count("cells"), run))
+        return plain
 
+    def kind(self, command, name, make, counts, plain):
+        """Prints the runs of a kind; how many figures are above. A larger one is not tried where one was cut off."""
+        series = Series(f"{command} {name}", plain, self.own, most_memory=float("inf"))
+        for count in counts:
+            text = make(count) if callable(make) else self.cells_of(make[0], make[1](count))
+            if text is None:
+                print(f"{command} {name} {count}: {make[0]} made no chip to begin with", flush=True)
+                break
+            run = self.ran(command, shuffled(text) if not callable(make) and make[2] else text)
+            series.add(count, run.count("cells"), f"{len(text):,} bytes", run)
+            if run.status is None:
+                break
+        return series.end()
 
-def refused(program, library, seconds):
-    """Prints what hopeless netlists take beside those a third as large; how many of them take longer."""
-    above = 0
-    for kind, (make, count) in HOPELESS.items():
-        third = Measured(program, make(count // 3), library, seconds)
-        whole = Measured(program, make(count), library, seconds)
-        ratio = whole.seconds / max(third.seconds, SHORT)
-        above += ratio > 1
-        print(f"hopeless {kind} {count}: {whole.said}, {whole.seconds:.2f} s, {whole.megabytes:.0f} MB; a third of it "
-              f"{third.said}, {third.seconds:.2f} s, {third.megabytes:.0f} MB: {ratio:.2f} times", flush=True)
-    return above
+    def refused(self):
+        """Prints what hopeless netlists take beside those a third as large; how many of them take longer."""
+        above = 0
+        for kind, (make, count) in HOPELESS.items():
+            third = self.ran("compact", make(count // 3))
+            whole = self.ran("compact", make(count))
+            ratio = whole.seconds / max(third.seconds, SHORT)
+            above += ratio > 1
+            print(f"hopeless {kind} {count}: {whole.said}, {whole.seconds:.2f} s, {whole.megabytes:.1f} MB; a third of "
+                  f"it {third.said}, {third.seconds:.2f} s, {third.megabytes:.1f} MB: {ratio:.2f} times", flush=True)
+        return above
 
 
 def main():
     words = argparse.ArgumentParser(description=__doc__, formatter_class=argparse.RawDescriptionHelpFormatter)
-    words.add_argument("--library", default=top / "libraries/b.toml")
+    words.add_argument("--library", default=TOP / "libraries/b.toml")
     words.add_argument("--seconds", type=int, default=300)
     words.add_argument("--doublings", type=int, default=2)
-    words.add_argument("kinds", nargs="*")
+    words.add_argument("--short", action="store_true")
+    words.add_argument("kinds", nargs="*", choices=[*KINDS, *DRAWN, "compact", "draw", "hopeless", []])
     words = words.parse_args()
-    program = os.environ.get("AQFP") or subprocess.run([top / ".ci/program"], check=True, capture_output=True,
-                                                       text=True).stdout.strip()
-    above = 0
-    plain = []
-    for count in (100, 200, 400, 800):
-        plain.append(Measured(program, ordinary(count), words.library, words.seconds))
-        print(f"ordinary {count}: {plain[-1].bytes:,} bytes, {plain[-1].said}, {plain[-1].seconds:.2f} s, "
-              f"{plain[-1].megabytes:.0f} MB", flush=True)
-    plain = [it for it in plain if it.cells]
-    kinds = words.kinds or [*KINDS, "hopeless"]
-    for kind in [it for it in kinds if it != "hopeless"]:
-        make, count = KINDS[kind]
-        runs = []
-        for _ in range(words.doublings + 1):
-            ran = Measured(program, make(count), words.library, words.seconds)
-            line = f"{kind} {count}: {ran.bytes:,} bytes, {ran.said}, {ran.seconds:.2f} s, {ran.megabytes:.0f} MB"
-            if ran.cells:
-                runs.append(ran)
-                seconds, megabytes = beside(ran, plain)
-                slow = ran.seconds / max(seconds, SHORT)
-                above += slow > 3
-                line += f", {slow:.1f} and {ran.megabytes / megabytes:.1f} times an ordinary one's"
-            print(line, flush=True)
-            count *= 2
-        if len(runs) > 1 and runs[0].seconds > SHORT:
-            grown = math.log(runs[-1].seconds / runs[0].seconds) / math.log(runs[-1].cells / runs[0].cells)
-            above += grown > 1.3
-            print(f"{kind}: the time grows with the cells to the power of {grown:.2f}", flush=True)
-    if "hopeless" in kinds:
-        above += refused(program, words.library, words.seconds)
+    kinds = words.kinds or ["compact", "draw", *(["hopeless"] if not words.short else [])]
+    above, smaller = 0, 2 if words.short else 1
+    ordinary_counts = {"compact": (100, 200, 400, 800), "draw": (50, 100, 200, 400)}
+    with tempfile.TemporaryDirectory(prefix="aqfp_hostile_") as folder:
+        bench = Bench(words, pathlib.Path(folder))
+        for command, known in (("compact", KINDS), ("draw", DRAWN)):
+            wanted = [it for it in known if it in kinds or command in kinds]
+            if wanted:
+                counts = ordinary_counts[command][:-1 if words.short else None]
+                plain = bench.ordinary(command, counts)
+            for name in wanted:
+                make, first = known[name]
+                counts = [first // smaller << k for k in range(words.doublings + 1)]
+                above += bench.kind(command, name, make, counts, plain)
+        if "hopeless" in kinds:
+            above += bench.refused()
     return 1 if above else 0
 
 
-sys.exit(main())
+if __name__ == "__main__":
+    sys.exit(main())

@@ -14,6 +14,7 @@ LIMITS = {"cells": (2_000_000, "cells, repeaters too"),
           "design": (16_777_216, "the size of a design with each call expanded"),
           "functions": (1_000_000, "subfunctions of the two circuits"),
           "shapes": (8_000_000, "shapes and labels, each reference counted by what it stands for")}
+BUILT = ("cells", "rows", "elements", "slots")  # what a chip has too much of
 SMALLER = {"cells": "shallower logic, splitters of three (split3), compact in place of build, or parts of the netlist",
            "slots": "fewer inputs side by side, a smaller pitch, or fewer columns a slot",
            "rows": "shallower logic, lower cells, fewer tracks (capacity), or a smaller pitch",
@@ -38,7 +39,9 @@ def explain_size(command, number, what):
     """Says what a line of status 10 means: `too large: N WHAT`."""
     most, of_what = LIMITS.get(what, (0, what))
     yield f"{number} {what}; the limit is {most} {of_what}"
-    if command.name in ("build", "compact", "draw") and what in ("cells", "rows", "elements", "slots"):
+    if command.name == "compact" and what in BUILT:
+        yield "the number is that of build's chip: the search found none within the limits"
+    if command.name in ("build", "compact", "draw") and what in BUILT:
         yield from with_far_library(command, what)
     if what in SMALLER:
         yield f"what makes it smaller: {SMALLER[what]}"
@@ -59,6 +62,8 @@ def with_far_library(command, what):
         yield "look at docs/library.md, \"The reach\""
     elif what == "slots":
         yield f"so {command.name} says: {line}: the width of a row is the cause, not the reach"
+    elif command.name == "compact":
+        yield f"so compact says: {line}: it finds no chip with these either, so reach alone is not the cause"
     elif command.line == line:
         yield f"{command.name} says the same of it: reach is not the cause"
     else:
