@@ -15,6 +15,8 @@ pub mod growing;
 mod lazy;
 mod levels;
 mod lining;
+mod near_slots;
+mod near_starts;
 mod ordered_slots;
 pub mod places;
 mod pulling;

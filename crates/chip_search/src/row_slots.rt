@@ -4,6 +4,7 @@ use crate::candidate::{Candidate, Work, better};
 use crate::chip::Chip;
 use crate::effort::{Effort, Steps};
 use crate::finding::line_of;
+use crate::near_starts::near_starts;
 use crate::ordered_slots::slots_in_order;
 use crate::row_chips::RowChip;
 use crate::starting::{Hints, place, place_packed};
@@ -16,6 +17,10 @@ const MOST_ELEMENTS: u64 = 2_000_000;
 
 /// So many turns are taken after each start.
 const TURNS: u32 = 6;
+
+/// Where there are more cells, slots near to where a first start leads are taken, if there are some, and no more sweeps
+/// are done: else how many are wanted grows with the rows. Where there are fewer, sweeps come first: they even slots.
+const MOST_SWEPT: u32 = 30_000;
 
 /// The chip of a net in rows with its cells placed: packed as they stand, where no start is better.
 pub(crate) fn place_rows(
@@ -40,6 +45,24 @@ pub(crate) fn place_rows(
     Ok(better(packed, placed))
 }
 
+/// The slots of a chip's cells at which no wire moves too far, if there are some near to where a start leads after few
+/// sweeps: first packed as they stand.
+fn near_rows(work: Work, made: &RowChip, effort: Effort) -> Result<Option<Vec<u32>>, Memory> {
+    let mut first = work;
+    let packed = place_packed(&mut first, 0, &made.chip, 0, effort)?;
+    if packed.missing == 0 {
+        return Ok(Some(Vec::from_slice(work.alloc, &packed.places.slots)?));
+    }
+    let uses = made.uses(work.alloc)?;
+    let line = line_of(work.alloc, &made.graph(), &uses, effort)?;
+    let hints = Hints {
+        line: line.as_deref().unwrap_or(&[]),
+        outputs: made.outputs.as_slice(),
+        turns: 0,
+    };
+    near_starts(work, &made.chip, &hints, effort)
+}
+
 /// Whether the cells and wires are too many to be drawn.
 pub(crate) fn is_too_large(chip: &Chip) -> bool {
     let wires = (chip.wires.len() as u64).saturating_mul(5);
@@ -58,6 +81,23 @@ fn slots_by_row(alloc: Global, chip: &Chip, slots: &[u32]) -> Result<List<List<u
         found.push(List::from_vec(lefts))?;
     }
     Ok(found)
+}
+
+/// The slots of a chip's cells: near to where a first start leads where there are many, and where sweeps find none at
+/// which no wire moves too far.
+fn slots_of(work: &mut Work, made: &RowChip, effort: Effort) -> Result<Vec<u32>, Memory> {
+    let is_large = made.chip.count() > MOST_SWEPT;
+    if is_large && let Some(slots) = near_rows(*work, made, effort)? {
+        return Ok(slots);
+    }
+    let placed = place_rows(work, made, effort)?;
+    if !is_large && placed.missing > 0 {
+        let near = near_rows(*work, made, effort)?;
+        if let Some(slots) = near {
+            return Ok(slots);
+        }
+    }
+    Ok(Vec::from_slice(work.alloc, &placed.places.slots)?)
 }
 
 /// Searches slots for the cells of a net in rows, so that its wires move at most `reach - 1` slots, or else few rows of
@@ -87,6 +127,6 @@ pub fn find_slots(
     if let Some(slots) = slots_in_order(alloc, &made.chip, work.move_limit)? {
         return slots_by_row(alloc, &made.chip, &slots);
     }
-    let placed = place_rows(&mut work, &made, effort)?;
-    slots_by_row(alloc, &made.chip, &placed.places.slots)
+    let slots = slots_of(&mut work, &made, effort)?;
+    slots_by_row(alloc, &made.chip, &slots)
 }

@@ -26,7 +26,7 @@ pub(crate) struct Hints<'a> {
 
 /// Where the cells of a chip stand at first.
 #[derive(Clone, Copy)]
-enum Start<'a> {
+pub(crate) enum Start<'a> {
     /// By the wires above them, from the last row down. Its cells want these slots.
     Down(&'a [u32]),
     /// By the wires below them, from the first row up.
@@ -38,7 +38,7 @@ enum Start<'a> {
 }
 
 /// The candidate after its rows were settled by means, the more often the later the turn, and settled again.
-fn turn_once(
+pub(crate) fn turn_once(
     work: &mut Work,
     candidate: &Candidate,
     turn: u32,
@@ -71,7 +71,7 @@ fn take_turns(
 }
 
 /// The chip placed from one start.
-fn place_from(
+pub(crate) fn place_from(
     work: &mut Work,
     graph: usize,
     chip: &Chip,
