@@ -4,7 +4,8 @@
 #
 #   bench/port/build.sh OUT [FOLDER]    the sources of FOLDER, a clone of this repository; by default of this one
 #
-# PORT_CHECKS=1 builds it with tests of overflows and indices. The status is 70 where there is no cargo.
+# PORT_CHECKS=1 builds it with tests of overflows and indices. With PORT_PASSES=LETTERS the program makes the graph of
+# its netlist smaller by these passes alone (shim/main.rs). The status is 70 where there is no cargo.
 set -eu
 here=$(cd -P "$(dirname "$0")" && pwd)
 out=$1

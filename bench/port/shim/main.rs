@@ -25,6 +25,34 @@ pub fn counts(rows: &[aq_base::List<RowCell>]) -> (u64, u64, u64, u64) {
     (cells, jj, bare, rows.len() as u64)
 }
 
+/// Makes the graph of a netlist smaller by the passes of these letters, and prints its nodes and depth after each.
+fn passes(alloc: Global, net: &blif_read::Netlist, letters: &str) {
+    use circuit::Pass;
+    let cuts = mig_cuts::CutRewriting::new(alloc).ok().expect("recipes");
+    let three = mig_rewrite::CutPass::new(alloc).ok().expect("recipes");
+    let mut graph = mig_from_netlist::GraphPass.run(alloc, net).ok().expect("graph");
+    print!("start {}/{}", graph.node_count(), graph.depth(alloc).unwrap());
+    for (place, letter) in letters.chars().enumerate() {
+        let number = place as u32;
+        let made = match letter {
+            'c' => three.run(alloc, &graph),
+            'm' => mig_merge::Merging.run(alloc, &graph),
+            'w' => cuts.run(alloc, &graph),
+            'W' => cuts.shaken(alloc, &graph, number),
+            'g' => cuts.in_place(alloc, &graph, None),
+            'G' => cuts.in_place(alloc, &graph, Some(number)),
+            'a' => cuts.by_ands(alloc, &graph, None),
+            'A' => cuts.by_ands(alloc, &graph, Some(number)),
+            'r' => mig_resub::Resubstitution.run(alloc, &graph),
+            'R' => mig_resub::Resubstitution.shaken(alloc, &graph, number),
+            _ => panic!("a letter of cmwWgGaArR"),
+        };
+        graph = made.ok().expect("graph");
+        print!(" {letter} {}/{}", graph.node_count(), graph.depth(alloc).unwrap());
+    }
+    println!("  {:.2} s", user_time());
+}
+
 fn main() {
     unsafe extern "C" {
         fn signal(number: i32, handler: usize) -> usize;
@@ -50,6 +78,9 @@ fn main() {
             .to_string_lossy()
             .into_owned()
     };
+    if let Ok(letters) = std::env::var("PORT_PASSES") {
+        return passes(alloc, &net, &letters);
+    }
     if std::env::var("PORT_GRAPHS").is_ok() {
         let graphs = plan_compact::graph_variants(alloc, &net).ok().expect("graphs");
         for (number, graph) in graphs.iter().enumerate() {
@@ -60,13 +91,17 @@ fn main() {
             );
         }
         println!("graphs: {:.2} s", user_time());
-        let more = plan_compact::fewest_nodes(alloc, &net, &graphs).ok().expect("graphs");
-        for (number, graph) in more.iter().enumerate() {
-            println!(
-                "further graph {number}: nodes={} depth={}",
-                graph.node_count(),
-                graph.depth(alloc).unwrap()
-            );
+        use plan_compact::rounds::{Beginning, fewest_nodes};
+        let recipes = mig_cuts::CutRewriting::new(alloc).ok().expect("recipes");
+        for kind in [Beginning::Merged, Beginning::MergedInPlace, Beginning::FewerAnds] {
+            let more = fewest_nodes(alloc, &net, &recipes, &graphs, kind).ok().expect("graphs");
+            for (number, graph) in more.iter().enumerate() {
+                println!(
+                    "further graph {number}: nodes={} depth={}",
+                    graph.node_count(),
+                    graph.depth(alloc).unwrap()
+                );
+            }
         }
         println!("further graphs: {:.2} s", user_time());
         if std::env::var("PORT_GRAPHS").unwrap() == "only" {

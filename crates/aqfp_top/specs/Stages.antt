@@ -13,10 +13,10 @@ use Rattle.aqfp_top.specs.declared.fault.Fault.{Fault}
 use Rattle.aqfp_top.specs.declared.fault.Fault.TheVariants.{Usage, ReadFault, WriteFault, TooLarge}
 use Rattle.aqfp_top.specs.declared.fault.Fault.TheVariants.{Memory}
 
--- A stage, and what it judges: the words, which have no form; or texts, which are the bytes of files. A sample has a text of one model without calls, and plans with a library that is known. A
--- comparison finds no fault, and may give up; nor does the search for a compact chip, which may give up where the
--- defined plan passes a limit. The search for the order of a netlist's own cells finds that it is none of cells, and
--- may give up where the plain order passes a limit.
+-- A stage, and what it judges: the words, which have no form; or texts, which are the bytes of files. A sample has a
+-- text of one model without calls, and plans with a library that is known. A comparison finds no fault, and may give up;
+-- nor does the search for a compact chip, which may give up where the defined plan passes a limit. The search for the
+-- order of a netlist's own cells finds that it is none of cells, and may give up where the plain order passes a limit.
 pub data Stage : Type 0 where
   Form : Stage
   Netlist : (net : List ℕ) → Stage

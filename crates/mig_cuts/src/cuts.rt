@@ -1,6 +1,6 @@
 // Cuts of up to four leaves. Nothing depends on them: what a node computes from leaves is found where a cut is used.
 use aq_base::Memory;
-use mig::{Graph, Node};
+use mig::{Builder, Graph, Node};
 use std::alloc::Global;
 
 /// How many cuts a node keeps for its users.
@@ -217,32 +217,71 @@ fn best_cuts(alloc: Global, cuts: &[Cut], node: u32) -> Result<Vec<Cut>, Memory>
     Ok(best)
 }
 
-/// The cuts of a node.
-pub(crate) fn cuts_of(cuts: &[Vec<Cut>], node: u32) -> &[Cut] {
-    match cuts.get(node as usize) {
-        Some(found) => found.as_slice(),
-        None => &[],
-    }
+/// The cuts of a majority of these operands that has this number.
+fn cuts_of_node(
+    alloc: Global,
+    cuts: &AllCuts,
+    node: Node,
+    number: u32,
+) -> Result<Vec<Cut>, Memory> {
+    let operands = Operands {
+        node,
+        x: cuts.of(node.x / 2),
+        y: cuts.of(node.y / 2),
+        z: cuts.of(node.z / 2),
+    };
+    let found = joins(alloc, &operands)?;
+    best_cuts(alloc, found.as_slice(), number)
 }
 
-/// The cuts of each node; the last one is the node by itself.
-pub(crate) fn find_cuts(alloc: Global, graph: &Graph) -> Result<Vec<Vec<Cut>>, Memory> {
-    let mut cuts: Vec<Vec<Cut>> = Vec::new(alloc);
-    cuts.push(vec![in alloc; Cut::none(); 1]?)?;
-    for input in 0..graph.inputs() {
-        cuts.push(vec![in alloc; Cut::own(input.saturating_add(1)); 1]?)?;
+/// The cuts of each node of a graph; the last one is the node by itself.
+#[derive(Drop)]
+pub(crate) struct AllCuts {
+    alloc: Global,
+    cuts: Vec<Vec<Cut>>,
+}
+
+impl AllCuts {
+    /// Those of the constant and of so many inputs.
+    pub(crate) fn new(alloc: Global, inputs: u32) -> Result<AllCuts, Memory> {
+        let mut cuts: Vec<Vec<Cut>> = Vec::new(alloc);
+        cuts.push(vec![in alloc; Cut::none(); 1]?)?;
+        for input in 0..inputs {
+            cuts.push(vec![in alloc; Cut::own(input.saturating_add(1)); 1]?)?;
+        }
+        Ok(AllCuts { alloc, cuts })
     }
-    for node in graph.nodes() {
-        let operands = Operands {
-            node: *node,
-            x: cuts_of(&cuts, node.x / 2),
-            y: cuts_of(&cuts, node.y / 2),
-            z: cuts_of(&cuts, node.z / 2),
-        };
-        let found = joins(alloc, &operands)?;
-        let at = u32::try_from(cuts.len()).unwrap_or(0);
-        let best = best_cuts(alloc, found.as_slice(), at)?;
-        cuts.push(best)?;
+
+    /// Those of the nodes of a graph.
+    pub(crate) fn of_graph(alloc: Global, graph: &Graph) -> Result<AllCuts, Memory> {
+        let mut cuts = AllCuts::new(alloc, graph.inputs())?;
+        for node in graph.nodes() {
+            let number = u32::try_from(cuts.cuts.len()).unwrap_or(0);
+            let found = cuts_of_node(alloc, &cuts, *node, number)?;
+            cuts.cuts.push(found)?;
+        }
+        Ok(cuts)
     }
-    Ok(cuts)
+
+    /// The cuts of a node.
+    pub(crate) fn of(&self, node: u32) -> &[Cut] {
+        match self.cuts.get(node as usize) {
+            Some(found) => found.as_slice(),
+            None => &[],
+        }
+    }
+
+    /// Takes in the nodes that are new in a graph that grows.
+    pub(crate) fn grow(&mut self, builder: &Builder) -> Result<(), Memory> {
+        let first = (builder.inputs() as usize).saturating_add(1);
+        let total = first.saturating_add(builder.node_count());
+        for place in self.cuts.len()..total {
+            let number = u32::try_from(place).unwrap_or(0);
+            if let Some(node) = builder.operands(number.saturating_mul(2)) {
+                let found = cuts_of_node(self.alloc, self, node, number)?;
+                self.cuts.push(found)?;
+            }
+        }
+        Ok(())
+    }
 }

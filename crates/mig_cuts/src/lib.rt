@@ -2,8 +2,11 @@
 //! others, each kept only where its table is that of the node.
 #![tactic(auto)]
 
+mod and_lines;
 mod choose;
+mod choose_grown;
 mod cuts;
+mod forms;
 mod pass;
 mod recipe_lines;
 mod recipes;

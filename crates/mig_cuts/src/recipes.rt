@@ -1,11 +1,10 @@
-// Recipes of the functions of four inputs. Nothing depends on them: what a recipe computes is found where it is used.
+// Recipes of the functions of four inputs, of majorities or of ands. Nothing depends on them: what a recipe computes is
+// found where it is used.
+use crate::and_lines::{AND_LINES, and_line};
 use crate::recipe_lines::{LINES, line};
 use aq_base::Memory;
 use mig::Node;
 use std::alloc::Global;
-
-/// How many recipes a function keeps.
-const KEPT: usize = 4;
 
 /// Steps over the constant (0), four leaves (2, 4, 6, 8) and the steps before (10, 12, ..), and the result; odd ones
 /// are complements.
@@ -80,8 +79,8 @@ fn leaf_table(place: usize) -> u16 {
     }
 }
 
-/// How many tables a recipe has at most: of the constant, four leaves and seven steps.
-const MOST_TABLES: usize = 12;
+/// How many tables a recipe has at most: of the constant, four leaves and ten steps.
+const MOST_TABLES: usize = 15;
 
 /// The tables of the constant and of leaves in this order, some of them complemented, with room for the steps.
 fn first_tables(order: &[usize; 4], turned: u32) -> [u16; MOST_TABLES] {
@@ -157,11 +156,29 @@ fn push_recipes(alloc: Global, found: &mut Vec<Recipe>, line: &[u8]) -> Result<(
     Ok(())
 }
 
+/// Of what the steps of recipes are.
+#[derive(Clone, Copy)]
+pub(crate) enum Steps {
+    /// Majorities, as few as there can be.
+    Majorities,
+    /// Ands, of which a function has several forms, so that they may share nodes with others.
+    Ands,
+}
+
 /// The base recipes.
-fn base_recipes(alloc: Global) -> Result<Vec<Recipe>, Memory> {
+fn base_recipes(alloc: Global, steps: Steps) -> Result<Vec<Recipe>, Memory> {
     let mut found = Vec::new(alloc);
-    for number in 0..LINES {
-        push_recipes(alloc, &mut found, line(number))?;
+    match steps {
+        Steps::Majorities => {
+            for number in 0..LINES {
+                push_recipes(alloc, &mut found, line(number))?;
+            }
+        }
+        Steps::Ands => {
+            for number in 0..AND_LINES {
+                push_recipes(alloc, &mut found, and_line(number))?;
+            }
+        }
     }
     Ok(found)
 }
@@ -169,76 +186,145 @@ fn base_recipes(alloc: Global) -> Result<Vec<Recipe>, Memory> {
 /// How many functions of four inputs there are.
 const FUNCTIONS: usize = 65_536;
 
-/// For each table the images that have it, those of the fewest majorities first, in one list: so it is made by one
-/// request for memory.
+/// An image, and its table.
+#[derive(Clone, Copy)]
+struct Filed {
+    table: u16,
+    image: Image,
+}
+
+/// The images of base recipes as they are found, and for each table the last recipe that has one there: of several
+/// images of a recipe with one table the first one is enough.
+#[derive(Drop)]
+struct Files {
+    filed: Vec<Filed>,
+    lasts: Vec<Option<u16>>,
+}
+
+impl Files {
+    /// Files an image, if its recipe has none of its table.
+    fn take(&mut self, table: u16, image: Image) -> Result<(), Memory> {
+        let at = usize::from(table);
+        if at < self.lasts.len() && self.lasts[at] != Some(image.recipe) {
+            self.lasts[at] = Some(image.recipe);
+            self.filed.push(Filed { table, image })?;
+        }
+        Ok(())
+    }
+
+    /// Files the images of a recipe over leaves in this order.
+    fn take_order(&mut self, recipe: &Recipe, number: u16, place: u8) -> Result<(), Memory> {
+        let tables = tables(recipe, &order(usize::from(place)));
+        for turned in 0..32u8 {
+            let plain = tables[usize::from(turned % 16)];
+            let table = if turned >= 16 { !plain } else { plain };
+            let image = Image {
+                recipe: number,
+                order: place,
+                turned,
+            };
+            self.take(table, image)?;
+        }
+        Ok(())
+    }
+}
+
+/// All images of base recipes, one of each recipe for each table that it has.
+fn all_images(alloc: Global, base: &[Recipe]) -> Result<Vec<Filed>, Memory> {
+    let mut files = Files {
+        filed: Vec::new(alloc),
+        lasts: vec![in alloc; None; FUNCTIONS]?,
+    };
+    let mut number: u16 = 0;
+    for recipe in base {
+        for place in 0..24u8 {
+            files.take_order(recipe, number, place)?;
+        }
+        number = number.saturating_add(1);
+    }
+    Ok(files.filed)
+}
+
+/// How many images each table has.
+fn counts(alloc: Global, filed: &[Filed]) -> Result<Vec<usize>, Memory> {
+    let mut counts = vec![in alloc; 0usize; FUNCTIONS]?;
+    for one in filed {
+        let at = usize::from(one.table);
+        if at < counts.len() {
+            counts[at] = counts[at].saturating_add(1);
+        }
+    }
+    Ok(counts)
+}
+
+/// Where each part of a list begins whose parts have these lengths, and where the list ends.
+fn starts(alloc: Global, counts: &[usize]) -> Result<Vec<usize>, Memory> {
+    let mut starts = Vec::new(alloc);
+    let mut sum: usize = 0;
+    starts.push(sum)?;
+    for count in counts {
+        sum = sum.saturating_add(*count);
+        starts.push(sum)?;
+    }
+    Ok(starts)
+}
+
+/// The images by their tables, in the order in which they were found.
+fn by_tables(alloc: Global, filed: &[Filed], starts: &[usize]) -> Result<Vec<Image>, Memory> {
+    let none = Image {
+        recipe: 0,
+        order: 0,
+        turned: 0,
+    };
+    let mut images = vec![in alloc; none; filed.len()]?;
+    let mut free: Vec<usize> = Vec::new(alloc);
+    free.extend_from_slice(starts)?;
+    for one in filed {
+        let table = usize::from(one.table);
+        if table < free.len() {
+            let place = free[table];
+            if place < images.len() {
+                images[place] = one.image;
+            }
+            free[table] = place.saturating_add(1);
+        }
+    }
+    Ok(images)
+}
+
+/// For each table the images that have it, in one list.
 #[derive(Drop)]
 pub(crate) struct Recipes {
     base: Vec<Recipe>,
-    of: Vec<[Option<Image>; KEPT]>,
-}
-
-/// The place of a further image of a recipe, if none of this recipe is there, and not too many.
-fn free_place(images: &[Option<Image>; KEPT], recipe: u16) -> Option<usize> {
-    for place in 0..KEPT {
-        match images[place] {
-            Some(image) => {
-                if image.recipe == recipe {
-                    return None;
-                }
-            }
-            None => return Some(place),
-        }
-    }
-    None
+    images: Vec<Image>,
+    starts: Vec<usize>,
 }
 
 impl Recipes {
     /// The images of the base recipes.
-    pub(crate) fn new(alloc: Global) -> Result<Recipes, Memory> {
-        let base = base_recipes(alloc)?;
-        let mut of: Vec<[Option<Image>; KEPT]> = vec![in alloc; [None; KEPT]; FUNCTIONS]?;
-        let mut number: u16 = 0;
-        for recipe in &base {
-            for place in 0..24u8 {
-                let tables = tables(recipe, &order(usize::from(place)));
-                for turned in 0..32u8 {
-                    let plain = tables[usize::from(turned % 16)];
-                    let found = if turned >= 16 { !plain } else { plain };
-                    let image = Image {
-                        recipe: number,
-                        order: place,
-                        turned,
-                    };
-                    take(&mut of, found, image);
-                }
-            }
-            number = number.saturating_add(1);
-        }
-        Ok(Recipes { base, of })
+    pub(crate) fn new(alloc: Global, steps: Steps) -> Result<Recipes, Memory> {
+        let base = base_recipes(alloc, steps)?;
+        let filed = all_images(alloc, base.as_slice())?;
+        let counts = counts(alloc, filed.as_slice())?;
+        let starts = starts(alloc, counts.as_slice())?;
+        let images = by_tables(alloc, filed.as_slice(), starts.as_slice())?;
+        Ok(Recipes {
+            base,
+            images,
+            starts,
+        })
     }
 
     /// The images with this table.
-    pub(crate) fn images(&self, table: u16) -> &[Option<Image>] {
-        match self.of.get(usize::from(table)) {
-            Some(images) => images.as_slice(),
-            None => &[],
-        }
+    pub(crate) fn images(&self, table: u16) -> &[Image] {
+        let at = usize::from(table);
+        let from = self.starts.get(at).copied().unwrap_or(0);
+        let to = self.starts.get(at + 1).copied().unwrap_or(0);
+        self.images.get(from..to).unwrap_or(&[])
     }
 
     /// The recipe of an image.
     pub(crate) fn recipe(&self, image: &Image) -> Option<&Recipe> {
         self.base.get(usize::from(image.recipe))
-    }
-}
-
-/// Keeps an image, if its table has no image of this recipe, and not too many.
-fn take(of: &mut Vec<[Option<Image>; KEPT]>, table: u16, image: Image) {
-    let at = usize::from(table);
-    if at < of.len() {
-        let images = &mut of[at];
-        match free_place(images, image.recipe) {
-            Some(place) if place < KEPT => images[place] = Some(image),
-            _ => {}
-        }
     }
 }

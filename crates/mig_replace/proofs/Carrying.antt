@@ -1,5 +1,5 @@
 -- Literals for the nodes of a graph.
-use Rattle.std.specs.Prelude.{◌≡◌, ℕ, ◌+◌, ◌-◌, ◌*◌, ◌/◌, ◌%◌, ◌<◌, ◌≤◌, ◌^◌, not, cond, Bool}
+use Rattle.std.specs.Prelude.{◌≡◌, ℕ, ◌+◌, ◌-◌, ◌*◌, ◌/◌, ◌%◌, ◌<◌, ◌^◌, not, cond, Bool}
 use Rattle.std.specs.Prelude.{List, [], ◌∷◌, ◌++◌, length, map, Some, slice_get, slice_index_or, IfOk}
 use Rattle.std.specs.List.{AllByRecursion}
 use Rattle.std.proofs.Common.{Result, Ok, Err, refl, sym, ap, ◌∙◌, subst, arith, inl, inr}
@@ -105,6 +105,9 @@ module _ (graph : GraphView) (b : BuilderView) (found : List ℕ) (carries : Car
             }
       ]
 
+  pub carried_below : (l m : ℕ) → l / 2 < length found → m ≡ carried found l → m < limit b
+  carried_below l m lt is = subst (λ n. n < limit b) (sym is) (literal_shows l lt).below
+
   module _ (ok : IsGraph graph) (k : ℕ) (node : Node) (here : slice_get graph.nodes k ≡ Some node)
       (size : length found ≡ 1 + graph.inputs + k)
       (x y z : ℕ) (at_x : x ≡ carried found node.x) (at_y : y ≡ carried found node.y) (at_z : z ≡ carried found node.z)
@@ -148,6 +151,24 @@ module _ (graph : GraphView) (b : BuilderView) (found : List ℕ) (carries : Car
             | Ok l ↦ λ h. node_shows later l grown h
             | Err e ↦ λ h. tt
           ] given
+
+-- another literal of the same value
+pub shows_other : (graph : GraphView) (a b : BuilderView) (i l m : ℕ) → Grown a b → Shows graph a i l
+    → Gives b m (λ v. literal_value v l) → Shows graph b i m
+shows_other graph a b i l m grown shows gives = record {
+  below = gives.below;
+  same = λ word v w fit in_b.
+      gives.shows word w in_b ∙ (shows_later graph a b i l grown shows).same word v w fit in_b;
+}
+
+pub if_other : {E : Type 0} (r : Result ℕ E) (graph : GraphView) (a b : BuilderView) (i l : ℕ) → Grown a b
+    → Shows graph a i l → IfOk r (λ m. Gives b m (λ v. literal_value v l)) → IfOk r (λ m. Shows graph b i m)
+if_other {E} r graph a b i l grown shows same =
+    elim r as (λ (t : Result ℕ E).
+    IfOk t (λ m. Gives b m (λ v. literal_value v l)) → IfOk t (λ m. Shows graph b i m)) [
+      | Ok m ↦ λ gives. shows_other graph a b i l m grown shows gives
+      | Err e ↦ λ none. tt
+    ] same
 
 -- the literals of the constant and the inputs
 pub first_carries : (graph : GraphView) (b : BuilderView) (found : List ℕ)

@@ -10,12 +10,12 @@ use Rattle.truth_tables.specs.Tables.{holds, index, mask}
 use Rattle.truth_tables.proofs.Bits.{holds_none, holds_mask, holds_index, index_below}
 use Rattle.mig.specs.declared.node.Node.{Node}
 use Rattle.mig.specs.Graphs.{GraphView, literal_value, node_value, AreBelow, turned}
-use Rattle.mig.specs.Building.{BuilderView, Grown, Gives, limit, AllThere}
+use Rattle.mig.specs.Building.{BuilderView, Grown, Gives, Splits, limit, AllThere}
 use Rattle.mig.specs.Carried.{fits_graph}
-use Rattle.mig.proofs.Built.{gives_later}
+use Rattle.mig.proofs.Built.{gives_later, limit_grows}
 use Rattle.mig.proofs.Folded.{turned_value, turned_below}
 use Rattle.mig_replace.specs.declared.run.Entry.{Entry}
-use Rattle.mig_replace.specs.Code.Cones.{Computes, table_at, IsEntry, AreEntries}
+use Rattle.mig_replace.specs.Code.Cones.{Computes, table_at, HasTable, IsEntry, AreEntries}
 
 -- the place of some values, and its bits
 pub low_index : (leaves : List ℕ) (f : ℕ → Bool) → length leaves ≤ 6 → index (map f leaves) < 64
@@ -161,3 +161,32 @@ entries_more b leaves es e all one = entries_joined b leaves es (e ∷ []) all (
 pub three_there : (b : BuilderView) (leaves : List ℕ) (x y z : Entry) → IsEntry b leaves x → IsEntry b leaves y
     → IsEntry b leaves z → AreBelow (limit b) (record { x = x.literal; y = y.literal; z = z.literal })
 three_there b leaves x y z ix iy iz = record { x = ix.below; y = iy.below; z = iz.below }
+
+-- the majority of three literals whose tables are known
+pub splits_table : (b : BuilderView) (leaves : List ℕ) (l : ℕ) (node : Node) (x y z t : ℕ) → l < limit b
+    → Splits b l node → HasTable b leaves node.x x → HasTable b leaves node.y y → HasTable b leaves node.z z
+    → ((i : ℕ) → holds t i ≡ majority (holds x i) (holds y i) (holds z i)) → HasTable b leaves l t
+unfolding node_value
+splits_table b leaves l node x y z t lt splits ix iy iz is = record {
+  below = lt;
+  shows = λ word v fit.
+      let i = index (map (literal_value v) leaves) in
+      splits.shows word v fit
+      ∙ ap (λ p. majority p (literal_value v node.y) (literal_value v node.z)) (ix.shows word v fit)
+      ∙ ap (λ p. majority (holds x i) p (literal_value v node.z)) (iy.shows word v fit)
+      ∙ ap (majority (holds x i) (holds y i)) (iz.shows word v fit)
+      ∙ sym (is i);
+}
+
+-- literals with one table have one value
+pub same_table : (a b : BuilderView) (leaves : List ℕ) (l m t : ℕ) → Grown a b → HasTable a leaves l t
+    → HasTable b leaves m t → Gives b m (λ v. literal_value v l)
+same_table a b leaves l m t grown one other = record {
+  below = other.below;
+  shows = λ word v fit.
+      other.shows word v fit ∙ sym ((gives_later a b l (table_at t leaves) grown one).shows word v fit);
+}
+
+pub same_literal : (a b : BuilderView) (l : ℕ) → Grown a b → l < limit a → Gives b l (λ v. literal_value v l)
+same_literal a b l grown lt =
+    record { below = (let more = limit_grows a b grown in omega arith); shows = λ word v fit. refl }

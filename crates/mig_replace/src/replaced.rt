@@ -22,7 +22,7 @@ const LONGEST: u32 = 64;
 const TURNS: u32 = 1_000;
 
 /// The literal for a literal, by those of nodes.
-fn carried(found: &[u32], literal: u32) -> u32
+pub(crate) fn carried(found: &[u32], literal: u32) -> u32
     ensures { result ≡ carried found.now literal }
 {
     let plain = found.get((literal / 2) as usize).copied().unwrap_or(0);
@@ -125,7 +125,7 @@ fn by_replacement(
 }
 
 /// The literal of the next node as it is.
-fn plain(
+pub(crate) fn plain(
     builder: &mut Builder,
     graph: &Graph,
     found: &[u32],
@@ -188,7 +188,7 @@ fn node_literal(
 }
 
 /// The literals of the constant and of so many inputs.
-fn first_found(alloc: Global, inputs: u32) -> Result<Vec<u32>, Memory>
+pub(crate) fn first_found(alloc: Global, inputs: u32) -> Result<Vec<u32>, Memory>
     requires { inputs < 2 ^ 30 }
     ensures each { IfOk result (λ found. (i : ℕ) → i < 1 + inputs → slice_index_or found.items i 0 ≡ 2 * i) }
     ensures all { IfOk result (λ found. length found.items ≡ 1 + inputs) }
@@ -251,6 +251,23 @@ fn output_literals(alloc: Global, outputs: &[u32], found: &[u32]) -> Result<Vec<
     Ok(literals)
 }
 
+/// The graph of these literals of nodes.
+pub(crate) fn finished(
+    alloc: Global,
+    builder: Builder,
+    graph: &Graph,
+    found: &[u32],
+) -> Result<Graph, GraphRefusal>
+    requires carried { Carries graph.now builder found.now }
+    requires whole { length found.now ≡ 1 + graph.now.inputs + length graph.now.nodes }
+    ensures { IfOk result (λ made. IsRebuilt graph.now made) }
+{
+    graph.known();
+    let outputs = output_literals(alloc, graph.outputs(), found)?;
+    builder.known();
+    Ok(builder.finish(outputs))
+}
+
 /// The graph with other forms of the nodes for which they are worth it.
 fn rewritten<C: Chooser>(
     alloc: Global,
@@ -259,12 +276,9 @@ fn rewritten<C: Chooser>(
 ) -> Result<Graph, GraphRefusal>
     ensures { IfOk result (λ made. IsRebuilt graph.now made) }
 {
-    graph.known();
     let mut builder = Builder::new(alloc, graph.inputs())?;
     let found = node_literals(alloc, &mut builder, graph, chooser)?;
-    let outputs = output_literals(alloc, graph.outputs(), found.as_slice())?;
-    builder.known();
-    Ok(builder.finish(outputs))
+    finished(alloc, builder, graph, found.as_slice())
 }
 
 /// The graph with other forms of the nodes for which the chooser has one that computes what the node does, without what

@@ -16,7 +16,7 @@ pub(crate) struct Entry {
 }
 
 /// The constant and the leaves.
-fn first_entries(alloc: Global, leaves: &[u32]) -> Result<Vec<Entry>, GraphRefusal>
+pub(crate) fn first_entries(alloc: Global, leaves: &[u32]) -> Result<Vec<Entry>, GraphRefusal>
     requires { length leaves.now ≤ 6 }
     ensures { IfOk result
         (λ entries. (b : BuilderView) → AllThere b leaves.now → AreEntries b leaves.now entries.items) }
@@ -36,7 +36,7 @@ fn first_entries(alloc: Global, leaves: &[u32]) -> Result<Vec<Entry>, GraphRefus
 }
 
 /// The entry of this number, and that of the constant past the last one.
-fn entry_at(entries: &[Entry], number: usize) -> Entry
+pub(crate) fn entry_at(entries: &[Entry], number: usize) -> Entry
     ensures { (b : BuilderView) (leaves : List ℕ) → AreEntries b leaves entries.now → IsEntry b leaves result }
 {
     if number < entries.len() {

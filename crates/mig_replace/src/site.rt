@@ -81,18 +81,6 @@ impl<'a> Site<'a> {
         freed: usize,
     ) -> Option<Best> {
         let freed = u32::try_from(freed).unwrap_or(u32::MAX);
-        let plain = self.plain_level();
-        if outcome.level > most.max(plain) || outcome.new > freed {
-            return None;
-        }
-        let saved = freed - outcome.new;
-        if saved == 0 && outcome.level >= plain && !ties.takes_any() {
-            return None;
-        }
-        Some(Best {
-            by,
-            saved,
-            level: outcome.level,
-        })
+        ties.worth(most, self.plain_level(), by, outcome, freed)
     }
 }

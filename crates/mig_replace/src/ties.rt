@@ -1,5 +1,6 @@
 // The choice among forms that save as many nodes.
 use crate::replacement::Replacement;
+use crate::trial::Trial;
 
 /// A replacement, how many nodes it saves, and its level.
 #[derive(Drop)]
@@ -29,7 +30,7 @@ impl Ties {
     }
 
     /// Whether a form may be taken that saves nothing and is no lower than the node.
-    pub(crate) fn takes_any(&self) -> bool {
+    fn takes_any(&self) -> bool {
         self.state.is_some()
     }
 
@@ -43,6 +44,30 @@ impl Ties {
             }
             None => second < first,
         }
+    }
+
+    /// What a form saves that was tried, where so many nodes are given up, if it is worth it: it is no higher than `most`,
+    /// if not than the node is, and saves some, or none where ties allow that.
+    pub fn worth(
+        &self,
+        most: u32,
+        plain: u32,
+        by: Replacement,
+        outcome: Trial,
+        freed: u32,
+    ) -> Option<Best> {
+        if outcome.level > most.max(plain) || outcome.new > freed {
+            return None;
+        }
+        let saved = freed - outcome.new;
+        if saved == 0 && outcome.level >= plain && !self.takes_any() {
+            return None;
+        }
+        Some(Best {
+            by,
+            saved,
+            level: outcome.level,
+        })
     }
 
     /// The better of two: the one that saves more nodes.

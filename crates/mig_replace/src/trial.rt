@@ -1,4 +1,6 @@
 // What a replacement would make. Nothing depends on it but which nodes there are.
+use crate::growth::Growth;
+use crate::readers::Readers;
 use crate::replacement::Replacement;
 use crate::site::Site;
 use aq_base::Memory;
@@ -108,6 +110,52 @@ pub fn tried(site: &Site, by: &Replacement, freed: &[u32]) -> Result<Trial, Memo
             None => true,
         };
         if is_new {
+            new = new.saturating_add(1);
+        }
+        values.push(value)?;
+    }
+    let out = operand(values.as_slice(), by.out);
+    Ok(Trial {
+        level: out.level,
+        new,
+    })
+}
+
+/// The values of the constant and the leaves, which are nodes of a graph that grows.
+fn leaf_values(at: &Growth, by: &Replacement) -> Result<Vec<Value>, Memory> {
+    let mut values = Vec::new(at.alloc);
+    values.push(Value {
+        literal: Some(0),
+        level: 0,
+    })?;
+    for leaf in &by.leaves {
+        let literal = leaf.saturating_mul(2);
+        values.push(Value {
+            literal: Some(literal),
+            level: at.builder.level(literal),
+        })?;
+    }
+    Ok(values)
+}
+
+/// Whether a step costs a node: it is not there, or has no readers.
+fn costs(at: &Growth, readers: &Readers, value: Value) -> bool {
+    match value.literal {
+        Some(literal) => {
+            let node = literal / 2;
+            node > at.builder.inputs() && readers.count(node) == 0
+        }
+        None => true,
+    }
+}
+
+/// What a replacement would make in a graph that grows, where nodes without readers are given up.
+pub fn tried_in_growth(at: &Growth, by: &Replacement, readers: &Readers) -> Result<Trial, Memory> {
+    let mut values = leaf_values(at, by)?;
+    let mut new = 0u32;
+    for one in &by.steps {
+        let value = step(at.builder, values.as_slice(), *one);
+        if costs(at, readers, value) {
             new = new.saturating_add(1);
         }
         values.push(value)?;

@@ -48,9 +48,14 @@ impl Uses {
         Ok(uses)
     }
 
+    /// How often a node is used.
+    pub fn count(&self, node: u32) -> u32 {
+        self.counts.get(node as usize).copied().unwrap_or(0)
+    }
+
     /// Whether a node is used.
     pub fn is_used(&self, node: u32) -> bool {
-        self.counts.get(node as usize).copied().unwrap_or(0) > 0
+        self.count(node) > 0
     }
 
     /// One more use.

@@ -55,8 +55,8 @@ fn undelayed_chip(alloc: Global, library: &Library, net: &Netlist) -> Result<Pla
 
 /// The chip of a netlist with a library: one that was found, or else that of the defined plan. It can be drawn, and
 /// answers every word as the netlist does. A chip that was found has few enough elements, and, where the plan keeps its
-/// limits, at most as many cells and junctions as the plan's chip. Its odd rows are delayed, so that it bears a high
-/// clock rate. A refusal is the plan's.
+/// limits, at most as many cells and junctions as the plan's chip. Its odd rows are delayed where it bears a higher
+/// clock rate by that. A refusal is the plan's.
 #[tactic(auto, using(crate::proofs::Delayed::delays))]
 pub fn compact_chip(alloc: Global, library: &Library, net: &Netlist) -> Result<Placed, PlanRefusal>
     ensures draws { IfOk result (λ chip. MayDraw chip library.now) }

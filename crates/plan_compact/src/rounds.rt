@@ -4,7 +4,7 @@ ghost use Rattle.mig.specs.Passes.{IsRebuilt};
 ghost use Rattle.mig_from_netlist.specs.Passes.{IsGraphOf};
 ghost use Rattle.plan_compact.specs.Variants.{AreGraphsOf};
 
-use crate::variants::{no_memory, push_chain};
+use crate::variants::{by_cuts, no_memory, push_chain};
 use aq_base::Memory;
 use blif_read::Netlist;
 use circuit::Pass;
@@ -48,18 +48,35 @@ fn resubstituted(alloc: Global, graph: &Graph, shake: Option<u32>) -> Result<Gra
     }
 }
 
+/// Whose cuts of four leaves are taken.
+#[derive(Clone, Copy)]
+enum Cuts {
+    /// Those of the graph that a pass is given.
+    Given,
+    /// Those of the graph that grows.
+    InPlace,
+}
+
+/// The pass by cuts of four leaves, and whose cuts it takes.
+#[derive(Clone, Copy)]
+struct Rewriting<'a> {
+    pass: &'a CutRewriting,
+    cuts: Cuts,
+}
+
 /// The graph by cuts of four leaves; with a number, it is shaken.
 fn rewritten(
     alloc: Global,
-    pass: &CutRewriting,
+    pass: &Rewriting,
     graph: &Graph,
     shake: Option<u32>,
 ) -> Result<Graph, Memory>
     ensures { IfOk result (λ made. IsRebuilt graph.now made) }
 {
-    let made = match shake {
-        Some(number) => pass.shaken(alloc, graph, number),
-        None => pass.run(alloc, graph),
+    let made = match (pass.cuts, shake) {
+        (Cuts::Given, Some(number)) => pass.pass.shaken(alloc, graph, number),
+        (Cuts::Given, None) => pass.pass.run(alloc, graph),
+        (Cuts::InPlace, shake) => pass.pass.in_place(alloc, graph, shake),
     };
     match made {
         Ok(made) => Ok(made),
@@ -72,7 +89,7 @@ fn rewritten(
 fn round(
     alloc: Global,
     _net: &Netlist,
-    pass: &CutRewriting,
+    pass: &Rewriting,
     graph: &Graph,
     shake: Option<u32>,
 ) -> Result<Graph, Memory>
@@ -87,7 +104,7 @@ fn round(
 fn turn(
     alloc: Global,
     net: &Netlist,
-    pass: &CutRewriting,
+    pass: &Rewriting,
     graph: &Graph,
     number: u32,
 ) -> Result<Graph, Memory>
@@ -112,7 +129,7 @@ struct SoFar {
 fn next_turn(
     alloc: Global,
     net: &Netlist,
-    pass: &CutRewriting,
+    pass: &Rewriting,
     so_far: &SoFar,
     number: u32,
 ) -> Result<Graph, Memory>
@@ -156,53 +173,210 @@ fn turns(nodes: usize) -> u32 {
     if nodes <= MOST_IN_TURNS { 3 } else { 1 }
 }
 
+/// The graph by recipes of ands; with a number, it is shaken.
+fn by_ands(
+    alloc: Global,
+    pass: &Rewriting,
+    graph: &Graph,
+    shake: Option<u32>,
+) -> Result<Graph, Memory>
+    ensures { IfOk result (λ made. IsRebuilt graph.now made) }
+{
+    match pass.pass.by_ands(alloc, graph, shake) {
+        Ok(made) => Ok(made),
+        Err(refusal) => Err(no_memory(refusal)),
+    }
+}
+
+/// A graph of a netlist by recipes of ands, which is one too.
+#[tactic(auto, using(mig_from_netlist::proofs::Signals::graph_then))]
+fn of_fewer_ands(
+    alloc: Global,
+    _net: &Netlist,
+    pass: &Rewriting,
+    graph: &Graph,
+    shake: Option<u32>,
+) -> Result<Graph, Memory>
+    requires { IsGraphOf _net.now graph.now }
+    ensures { IfOk result (λ made. IsGraphOf _net.now made) }
+{
+    let made = by_ands(alloc, pass, graph, shake)?;
+    Ok(made)
+}
+
+/// The graph by recipes of ands, five times, of which two are shaken.
+fn fewer_ands(
+    alloc: Global,
+    net: &Netlist,
+    pass: &Rewriting,
+    graph: &Graph,
+) -> Result<Graph, Memory>
+    requires { IsGraphOf net.now graph.now }
+    ensures { IfOk result (λ made. IsGraphOf net.now made) }
+{
+    let one = of_fewer_ands(alloc, net, pass, graph, None)?;
+    let two = of_fewer_ands(alloc, net, pass, &one, Some(1))?;
+    let three = of_fewer_ands(alloc, net, pass, &two, None)?;
+    let four = of_fewer_ands(alloc, net, pass, &three, Some(2))?;
+    of_fewer_ands(alloc, net, pass, &four, None)
+}
+
+/// Two rounds.
+fn two_rounds(
+    alloc: Global,
+    net: &Netlist,
+    pass: &Rewriting,
+    graph: &Graph,
+) -> Result<Graph, Memory>
+    requires { IsGraphOf net.now graph.now }
+    ensures { IfOk result (λ made. IsGraphOf net.now made) }
+{
+    let one = round(alloc, net, pass, graph, None)?;
+    round(alloc, net, pass, &one, None)
+}
+
 /// Two rounds from a graph whose equal nodes are merged first.
 #[tactic(auto, using(mig_from_netlist::proofs::Signals::graph_then))]
-fn begun(alloc: Global, net: &Netlist, pass: &CutRewriting, graph: &Graph) -> Result<Graph, Memory>
+fn begun(alloc: Global, net: &Netlist, pass: &Rewriting, graph: &Graph) -> Result<Graph, Memory>
     requires { IsGraphOf net.now graph.now }
     ensures { IfOk result (λ made. IsGraphOf net.now made) }
 {
     let start = merged(alloc, graph)?;
-    let one = round(alloc, net, pass, &start, None)?;
-    round(alloc, net, pass, &one, None)
+    two_rounds(alloc, net, pass, &start)
 }
 
-/// Two rounds from the graph of the netlist before cuts of three inputs are taken, if it is not too great.
-fn begun_plainly(alloc: Global, net: &Netlist, pass: &CutRewriting) -> Result<Option<Graph>, Memory>
+/// Two rounds from a graph that has few ands before cuts of three inputs are taken.
+#[tactic(auto, using(mig_from_netlist::proofs::Signals::graph_then))]
+fn begun_by_ands(
+    alloc: Global,
+    net: &Netlist,
+    pass: &Rewriting,
+    graph: &Graph,
+) -> Result<Graph, Memory>
+    requires { IsGraphOf net.now graph.now }
+    ensures { IfOk result (λ made. IsGraphOf net.now made) }
+{
+    let few = fewer_ands(alloc, net, pass, graph)?;
+    let start = by_cuts(alloc, &few)?;
+    two_rounds(alloc, net, pass, &start)
+}
+
+/// The graph of the netlist before cuts of three inputs are taken, if it is not too great.
+fn plain_graph(alloc: Global, net: &Netlist) -> Result<Option<Graph>, Memory>
     ensures { IfOk result (λ found. IfSome found (λ made. IsGraphOf net.now made)) }
 {
     match GraphPass.run(alloc, net) {
-        Ok(plain) if plain.node_count() <= MOST_NODES => {
-            let made = begun(alloc, net, pass, &plain)?;
-            Ok(Some(made))
-        }
+        Ok(plain) if plain.node_count() <= MOST_NODES => Ok(Some(plain)),
         Err(CoverRefusal::Memory) => Err(Memory),
         _ => Ok(None),
     }
 }
 
 /// The one of fewer nodes, the first one if neither has.
-fn fewer(_net: &Netlist, one: Graph, other: Option<Graph>) -> Graph
+fn fewer(_net: &Netlist, one: Graph, other: Graph) -> Graph
     requires one { IsGraphOf _net.now one }
-    requires other { IfSome other (IsGraphOf _net.now) }
+    requires other { IsGraphOf _net.now other }
     ensures { IsGraphOf _net.now result }
 {
-    match other {
-        Some(other) if other.node_count() < one.node_count() => other,
-        _ => one,
+    if other.node_count() < one.node_count() {
+        other
+    } else {
+        one
     }
 }
 
-/// The graph of the fewest nodes that turns give. They begin where two rounds leave fewest nodes: from this graph, or
-/// from the one before cuts of three inputs.
-fn turned(alloc: Global, net: &Netlist, graph: &Graph) -> Result<Graph, Memory>
+/// From where turns begin.
+#[derive(Clone, Copy)]
+pub(crate) enum Beginning {
+    /// A graph by cuts of three inputs, or that before them, whichever two rounds leave fewer nodes of, once equal nodes
+    /// are merged. Rounds take the cuts of the graph that they are given.
+    Merged,
+    /// The same, where rounds take the cuts of the graph that grows, as they do in the next one.
+    MergedInPlace,
+    /// The graph before cuts of three inputs, once recipes of ands have made it smaller, with equal nodes merged or not.
+    FewerAnds,
+}
+
+/// The beginning with equal nodes merged, by this graph and that before cuts of three inputs.
+fn merged_beginning(
+    alloc: Global,
+    net: &Netlist,
+    pass: &Rewriting,
+    graph: &Graph,
+    plain: &Graph,
+) -> Result<Graph, Memory>
+    requires graph { IsGraphOf net.now graph.now }
+    requires plain { IsGraphOf net.now plain.now }
+    ensures { IfOk result (λ made. IsGraphOf net.now made) }
+{
+    let one = begun(alloc, net, pass, graph)?;
+    let two = begun(alloc, net, pass, plain)?;
+    Ok(fewer(net, one, two))
+}
+
+/// The beginning with fewer ands, with equal nodes merged or not.
+#[tactic(auto, using(mig_from_netlist::proofs::Signals::graph_then))]
+fn ands_beginning(
+    alloc: Global,
+    net: &Netlist,
+    pass: &Rewriting,
+    plain: &Graph,
+) -> Result<Graph, Memory>
+    requires { IsGraphOf net.now plain.now }
+    ensures { IfOk result (λ made. IsGraphOf net.now made) }
+{
+    let start = merged(alloc, plain)?;
+    let one = begun_by_ands(alloc, net, pass, &start)?;
+    let two = begun_by_ands(alloc, net, pass, plain)?;
+    Ok(fewer(net, one, two))
+}
+
+/// The graph from which turns begin. Where that before cuts of three inputs is too great, it is this one.
+fn first_graph(
+    alloc: Global,
+    net: &Netlist,
+    pass: &Rewriting,
+    graph: &Graph,
+    kind: Beginning,
+) -> Result<Graph, Memory>
     requires { IsGraphOf net.now graph.now }
     ensures { IfOk result (λ made. IsGraphOf net.now made) }
 {
-    let pass = CutRewriting::new(alloc)?;
-    let plain = begun_plainly(alloc, net, &pass)?;
-    let by_cuts = begun(alloc, net, &pass, graph)?;
-    let best = fewer(net, by_cuts, plain);
+    let Some(plain) = plain_graph(alloc, net)? else {
+        return begun(alloc, net, pass, graph);
+    };
+    match kind {
+        Beginning::Merged | Beginning::MergedInPlace => {
+            merged_beginning(alloc, net, pass, graph, &plain)
+        }
+        Beginning::FewerAnds => ands_beginning(alloc, net, pass, &plain),
+    }
+}
+
+/// Whose cuts rounds take from a beginning.
+fn cuts_of(kind: Beginning) -> Cuts {
+    match kind {
+        Beginning::Merged => Cuts::Given,
+        Beginning::MergedInPlace | Beginning::FewerAnds => Cuts::InPlace,
+    }
+}
+
+/// The graph of the fewest nodes that turns give.
+fn turned(
+    alloc: Global,
+    net: &Netlist,
+    recipes: &CutRewriting,
+    graph: &Graph,
+    kind: Beginning,
+) -> Result<Graph, Memory>
+    requires { IsGraphOf net.now graph.now }
+    ensures { IfOk result (λ made. IsGraphOf net.now made) }
+{
+    let pass = Rewriting {
+        pass: recipes,
+        cuts: cuts_of(kind),
+    };
+    let best = first_graph(alloc, net, &pass, graph, kind)?;
     let turns = turns(best.node_count());
     let mut so_far = SoFar { best, next: None };
     for number in 0..turns {
@@ -213,11 +387,17 @@ fn turned(alloc: Global, net: &Netlist, graph: &Graph) -> Result<Graph, Memory>
 }
 
 /// The graph of the fewest nodes that turns give of this one, if it has fewer.
-fn turned_if_fewer(alloc: Global, net: &Netlist, graph: &Graph) -> Result<Option<Graph>, Memory>
+fn turned_if_fewer(
+    alloc: Global,
+    net: &Netlist,
+    recipes: &CutRewriting,
+    graph: &Graph,
+    kind: Beginning,
+) -> Result<Option<Graph>, Memory>
     requires { IsGraphOf net.now graph.now }
     ensures { IfOk result (λ found. IfSome found (λ made. IsGraphOf net.now made)) }
 {
-    let made = turned(alloc, net, graph)?;
+    let made = turned(alloc, net, recipes, graph, kind)?;
     if made.node_count() < graph.node_count() {
         Ok(Some(made))
     } else {
@@ -226,28 +406,40 @@ fn turned_if_fewer(alloc: Global, net: &Netlist, graph: &Graph) -> Result<Option
 }
 
 /// What turns give of the first one of some graphs, if that is not too great.
-fn first_turned(alloc: Global, net: &Netlist, graphs: &[Graph]) -> Result<Option<Graph>, Memory>
+fn first_turned(
+    alloc: Global,
+    net: &Netlist,
+    recipes: &CutRewriting,
+    graphs: &[Graph],
+    kind: Beginning,
+) -> Result<Option<Graph>, Memory>
     requires { AreGraphsOf net.now graphs.now }
     ensures { IfOk result (λ found. IfSome found (λ made. IsGraphOf net.now made)) }
 {
     match graphs.first() {
         Some(first) if (LEAST_NODES..=MOST_NODES).contains(&first.node_count()) => {
-            turned_if_fewer(alloc, net, first)
+            turned_if_fewer(alloc, net, recipes, first, kind)
         }
         _ => Ok(None),
     }
 }
 
-/// Further graphs with the answers of a netlist: that whose equal nodes are merged, and then by rounds of
-/// resubstitution and of cuts of four leaves, of the first one of its graphs or of the one before cuts of three inputs,
-/// if it has fewer nodes than that first one, and up to seven that are made of it, each with fewer levels. There are
-/// none where the first one has more than 20,000 nodes. They are refused for want of memory alone.
-pub fn fewest_nodes(alloc: Global, net: &Netlist, graphs: &[Graph]) -> Result<Vec<Graph>, Memory>
+/// Further graphs with the answers of a netlist: that of the fewest nodes that rounds of resubstitution and of cuts of
+/// four leaves give from a beginning, if it has fewer nodes than the first one of these graphs, and up to seven that are
+/// made of it, each with fewer levels. There are none where that first one has more than 20,000 nodes. They are refused
+/// for want of memory alone.
+pub(crate) fn fewest_nodes(
+    alloc: Global,
+    net: &Netlist,
+    recipes: &CutRewriting,
+    graphs: &[Graph],
+    kind: Beginning,
+) -> Result<Vec<Graph>, Memory>
     requires { AreGraphsOf net.now graphs.now }
     ensures { IfOk result (λ more. AreGraphsOf net.now more.items) }
 {
     let mut more = Vec::new(alloc);
-    let Some(first) = first_turned(alloc, net, graphs)? else {
+    let Some(first) = first_turned(alloc, net, recipes, graphs, kind)? else {
         return Ok(more);
     };
     push_chain(alloc, net, &mut more, first)?;

@@ -8,15 +8,16 @@ ghost use Rattle.plan_compact.specs.Variants.{AreGraphsOf};
 ghost use Rattle.plan_compact.specs.Code.Candidates.{IsCandidate};
 
 use crate::making::small_chip;
-use crate::rounds::fewest_nodes;
+use crate::rounds::{Beginning, fewest_nodes};
 use crate::searches::Searches;
 use crate::sizes::is_no_larger;
-use crate::variants::{fewer_nodes, graph_variants};
+use crate::variants::{LEAST_REWRITTEN, fewer_nodes, graph_variants};
 use aq_base::Memory;
 use blif_read::Netlist;
 use cell_library::Library;
 use chip_search::Effort;
 use mig::Graph;
+use mig_cuts::CutRewriting;
 use plan_limits::{drawable_chip, twice_skew};
 use rowed::Placed;
 use std::alloc::Global;
@@ -100,6 +101,59 @@ fn smaller_of(
     }
 }
 
+/// The smaller one of a chip and of what is found by further graphs, which are searched by themselves.
+fn or_by(
+    alloc: Global,
+    library: &Library,
+    net: &Netlist,
+    chip: Option<Placed>,
+    graphs: &[Graph],
+) -> Result<Option<Placed>, Memory>
+    requires chip { IfSome chip (λ chip. IsCandidate library.now net.now chip) }
+    requires graphs { AreGraphsOf net.now graphs.now }
+    ensures { IfOk result (λ found. IfSome found (λ chip. IsCandidate library.now net.now chip)) }
+{
+    let other = drawn(alloc, library, net, graphs, Searches::Trees)?;
+    Ok(smaller_of(library, net, chip, other))
+}
+
+/// The smaller one of a chip and of what graphs of fewer nodes give.
+fn or_by_fewer_nodes(
+    alloc: Global,
+    library: &Library,
+    net: &Netlist,
+    chip: Option<Placed>,
+    graphs: &[Graph],
+) -> Result<Option<Placed>, Memory>
+    requires chip { IfSome chip (λ chip. IsCandidate library.now net.now chip) }
+    requires graphs { AreGraphsOf net.now graphs.now }
+    ensures { IfOk result (λ found. IfSome found (λ chip. IsCandidate library.now net.now chip)) }
+{
+    let recipes = CutRewriting::new(alloc)?;
+    let one = {
+        let fewer = fewer_nodes(alloc, net, &recipes, graphs)?;
+        or_by(alloc, library, net, chip, fewer.as_slice())?
+    };
+    let two = {
+        let merged = fewest_nodes(alloc, net, &recipes, graphs, Beginning::Merged)?;
+        or_by(alloc, library, net, one, merged.as_slice())?
+    };
+    let three = {
+        let in_place = fewest_nodes(alloc, net, &recipes, graphs, Beginning::MergedInPlace)?;
+        or_by(alloc, library, net, two, in_place.as_slice())?
+    };
+    let by_ands = fewest_nodes(alloc, net, &recipes, graphs, Beginning::FewerAnds)?;
+    or_by(alloc, library, net, three, by_ands.as_slice())
+}
+
+/// Whether graphs of fewer nodes are sought: one node is the fewest, and recipes take time and memory.
+fn has_nodes(graphs: &[Graph]) -> bool {
+    match graphs.first() {
+        Some(first) => first.node_count() >= LEAST_REWRITTEN,
+        None => false,
+    }
+}
+
 /// A chip of the netlist that was found, if it may be drawn with the library. The graphs of fewer nodes are searched by
 /// themselves, and what comes of them is taken only where it is smaller as it would be drawn, or as large and of less
 /// skew: so they never make a chip larger.
@@ -107,10 +161,11 @@ pub fn found_chip(alloc: Global, library: &Library, net: &Netlist) -> Result<Opt
     ensures { IfOk result (λ found. IfSome found (λ chip. IsCandidate library.now net.now chip)) }
 {
     let graphs = graph_variants(alloc, net)?;
-    let fewer = fewer_nodes(alloc, net, graphs.as_slice())?;
-    let fewest = fewest_nodes(alloc, net, graphs.as_slice())?;
-    let one = drawn(alloc, library, net, graphs.as_slice(), Searches::All)?;
-    let two = drawn(alloc, library, net, fewer.as_slice(), Searches::Trees)?;
-    let three = drawn(alloc, library, net, fewest.as_slice(), Searches::Trees)?;
-    Ok(smaller_of(library, net, smaller_of(library, net, one, two), three))
+    let known = graphs.as_slice();
+    let chip = drawn(alloc, library, net, known, Searches::All)?;
+    if has_nodes(known) {
+        or_by_fewer_nodes(alloc, library, net, chip, known)
+    } else {
+        Ok(chip)
+    }
 }

@@ -27,7 +27,7 @@ const MOST_REWRITTEN: usize = 100_000;
 
 /// How many nodes a graph has at least that is made anew by cuts of four leaves: a smaller one has no node to lose, and
 /// the recipes take time and memory.
-const LEAST_REWRITTEN: usize = 2;
+pub(crate) const LEAST_REWRITTEN: usize = 2;
 
 /// The one refusal of a pass that is refused for want of memory alone.
 pub(crate) fn no_memory(_refusal: GraphRefusal) -> Memory
@@ -93,7 +93,7 @@ pub(crate) fn push_chain(
 }
 
 /// The graph by cuts of three inputs.
-fn by_cuts(alloc: Global, graph: &Graph) -> Result<Graph, Memory>
+pub(crate) fn by_cuts(alloc: Global, graph: &Graph) -> Result<Graph, Memory>
     ensures { IfOk result (λ made. IsRebuilt graph.now made) }
 {
     let pass = CutPass::new(alloc)?;
@@ -145,13 +145,17 @@ fn rewritten(alloc: Global, pass: &CutRewriting, graph: &Graph) -> Result<Graph,
 
 /// The graph by cuts of four leaves, taken twice, if that has fewer nodes.
 #[tactic(auto, using(mig_from_netlist::proofs::Signals::graph_then))]
-fn rewritten_twice(alloc: Global, _net: &Netlist, graph: &Graph) -> Result<Option<Graph>, Memory>
+fn rewritten_twice(
+    alloc: Global,
+    _net: &Netlist,
+    pass: &CutRewriting,
+    graph: &Graph,
+) -> Result<Option<Graph>, Memory>
     requires { IsGraphOf _net.now graph.now }
     ensures { IfOk result (λ found. IfSome found (λ made. IsGraphOf _net.now made)) }
 {
-    let pass = CutRewriting::new(alloc)?;
-    let once = rewritten(alloc, &pass, graph)?;
-    let twice = rewritten(alloc, &pass, &once)?;
+    let once = rewritten(alloc, pass, graph)?;
+    let twice = rewritten(alloc, pass, &once)?;
     if twice.node_count() < graph.node_count() {
         Ok(Some(twice))
     } else {
@@ -160,13 +164,18 @@ fn rewritten_twice(alloc: Global, _net: &Netlist, graph: &Graph) -> Result<Optio
 }
 
 /// What is made by cuts of four leaves of the first one of some graphs, if that is not too great.
-fn first_rewritten(alloc: Global, net: &Netlist, graphs: &[Graph]) -> Result<Option<Graph>, Memory>
+fn first_rewritten(
+    alloc: Global,
+    net: &Netlist,
+    pass: &CutRewriting,
+    graphs: &[Graph],
+) -> Result<Option<Graph>, Memory>
     requires { AreGraphsOf net.now graphs.now }
     ensures { IfOk result (λ found. IfSome found (λ made. IsGraphOf net.now made)) }
 {
     match graphs.first() {
         Some(first) if (LEAST_REWRITTEN..=MOST_REWRITTEN).contains(&first.node_count()) => {
-            rewritten_twice(alloc, net, first)
+            rewritten_twice(alloc, net, pass, first)
         }
         _ => Ok(None),
     }
@@ -175,12 +184,17 @@ fn first_rewritten(alloc: Global, net: &Netlist, graphs: &[Graph]) -> Result<Opt
 /// Further graphs with the answers of a netlist: that by cuts of four leaves of the first one of its graphs, if it has
 /// fewer nodes, and up to seven that are made of it, each with fewer levels. There are none where the first one has more
 /// than 100,000 nodes. They are refused for want of memory alone.
-pub fn fewer_nodes(alloc: Global, net: &Netlist, graphs: &[Graph]) -> Result<Vec<Graph>, Memory>
+pub fn fewer_nodes(
+    alloc: Global,
+    net: &Netlist,
+    pass: &CutRewriting,
+    graphs: &[Graph],
+) -> Result<Vec<Graph>, Memory>
     requires { AreGraphsOf net.now graphs.now }
     ensures { IfOk result (λ more. AreGraphsOf net.now more.items) }
 {
     let mut more = Vec::new(alloc);
-    let Some(first) = first_rewritten(alloc, net, graphs)? else {
+    let Some(first) = first_rewritten(alloc, net, pass, graphs)? else {
         return Ok(more);
     };
     push_chain(alloc, net, &mut more, first)?;

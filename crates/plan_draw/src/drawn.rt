@@ -62,9 +62,9 @@ fn undelayed_chip(
 /// with rows of repeaters where wires are too long for the library. In each row the cells stand packed from slot 0 in
 /// the order of the text, or else as a search has placed them, which may have added rows of buffers and let constants
 /// stand in them, where that chip has at most as many cells or the packed one passes a limit. The chip can be drawn,
-/// and answers every word as the netlist does. Its odd rows are delayed, so that it bears a high clock rate. A netlist
-/// that is none of cells is refused with its first fault; another refusal says which limit the packed chip passes, and
-/// with which number, or that memory is wanting.
+/// and answers every word as the netlist does. Its odd rows are delayed where it bears a higher clock rate by that. A
+/// netlist that is none of cells is refused with its first fault; another refusal says which limit the packed chip
+/// passes, and with which number, or that memory is wanting.
 #[tactic(auto, using(crate::proofs::DrawnRows::delays))]
 pub fn draw_cells(
     alloc: Global,

@@ -20,6 +20,10 @@ table_at table leaves v = holds table (index (map (literal_value v) leaves))
 abbrev pub IsEntry : BuilderView → List ℕ → Entry → Type 0
 IsEntry b leaves entry = Gives b entry.literal (table_at entry.table leaves)
 
+-- the same of a literal and a table by themselves
+abbrev pub HasTable : BuilderView → List ℕ → ℕ → ℕ → Type 0
+HasTable b leaves literal table = Gives b literal (table_at table leaves)
+
 -- all of them do
 abbrev pub AreEntries : BuilderView → List ℕ → List Entry → Type 0
 AreEntries b leaves entries = AllByRecursion (IsEntry b leaves) entries

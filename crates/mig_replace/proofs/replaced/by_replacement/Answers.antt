@@ -1,6 +1,5 @@
 use Rattle.std.proofs.Common.{ℕ, List, sym, subst}
 use Rattle.mig_replace.specs.declared.run.Entry.{Entry}
-use Rattle.mig.specs.Building.{AllThere}
 use Rattle.mig_replace.specs.Code.Cones.{Computes, AreFound, AreEntries}
 use Rattle.mig_replace.proofs.Carrying.{found_there, found_entries, entry_shows}
 use Rattle.mig_replace.proofs.replaced.by_replacement.Goals as goal
