@@ -256,8 +256,7 @@ def main():
                 skipped = {s for c, s in SKIP_FILES if c == crate}
                 text = strip(text, crate, set(wanted), skipped)
                 if crate == 'plan_compact' and stem == 'lib':
-                    text += '\npub use search::found_chip;\npub use variants::fewer_nodes;\n'
-                    text = text.replace('mod rounds;', 'pub mod rounds;')
+                    text += '\npub(crate) use search::{all_graphs, found_chip};\n'
                 if crate == 'plan_compact' and stem == 'searches':
                     text = note_searches(text)
                 path = os.path.join(src, crate, 'mod.rs' if stem == 'lib' else stem + '.rs')

@@ -82,7 +82,7 @@ fn main() {
         return passes(alloc, &net, &letters);
     }
     if std::env::var("PORT_GRAPHS").is_ok() {
-        let graphs = plan_compact::graph_variants(alloc, &net).ok().expect("graphs");
+        let graphs = plan_compact::all_graphs(alloc, &net).ok().expect("graphs");
         for (number, graph) in graphs.iter().enumerate() {
             println!(
                 "graph {number}: nodes={} depth={}",
@@ -91,19 +91,6 @@ fn main() {
             );
         }
         println!("graphs: {:.2} s", user_time());
-        use plan_compact::rounds::{Beginning, fewest_nodes};
-        let recipes = mig_cuts::CutRewriting::new(alloc).ok().expect("recipes");
-        for kind in [Beginning::Merged, Beginning::MergedInPlace, Beginning::FewerAnds] {
-            let more = fewest_nodes(alloc, &net, &recipes, &graphs, kind).ok().expect("graphs");
-            for (number, graph) in more.iter().enumerate() {
-                println!(
-                    "further graph {number}: nodes={} depth={}",
-                    graph.node_count(),
-                    graph.depth(alloc).unwrap()
-                );
-            }
-        }
-        println!("further graphs: {:.2} s", user_time());
         if std::env::var("PORT_GRAPHS").unwrap() == "only" {
             return;
         }

@@ -7,9 +7,12 @@ mod finding;
 mod graph;
 mod moves;
 mod numbers;
+mod race;
+mod ranking;
 mod signals;
 mod spectral;
 mod starts;
+mod task;
 mod trees;
 
 pub use finding::search;

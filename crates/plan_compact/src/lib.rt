@@ -13,5 +13,4 @@ mod variants;
 pub use chip_search::Effort;
 pub use compact::compact_chip;
 pub use making::small_chip;
-pub use searches::Searches;
 pub use variants::graph_variants;

@@ -8,7 +8,7 @@ ghost use Rattle.rowed.specs.Extent.{cell_limit};
 ghost use Rattle.mig.specs.Graphs as graphs;
 ghost use Rattle.plan_compact.specs.Chips.{AnswersAsOneOf};
 
-use crate::searches::{Searches, best_draft};
+use crate::searches::best_draft;
 use aq_base::Memory;
 use chip_search::Effort;
 use mig::Graph;
@@ -50,7 +50,7 @@ fn take(alloc: Global, graph: &Graph, draft: Draft) -> Result<Option<Placed>, Me
 
 /// A small placed net of at most 2,000,000 cells that answers as one of some graphs, which are meant to have the same
 /// answers. Splitters of three are used where `three` says so. It is searched for among nets whose wires move at most
-/// `reach - 1` slots, but that is not promised. Nothing is given where no search that is asked finds anything, as where each comes to
+/// `reach - 1` slots, but that is not promised. Nothing is given where no search finds anything, as where each comes to
 /// more than 2,000,000 cells or there is no graph, or where the best draft does not pass the check. It fails for want
 /// of memory alone.
 #[tactic(auto, using(crate::proofs::Chosen::answers_as_one))]
@@ -59,14 +59,13 @@ pub fn small_chip(
     graphs: &[Graph],
     three: bool,
     reach: u32,
-    searches: Searches,
     effort: &Effort,
 ) -> Result<Option<Placed>, Memory>
     ensures placed { IfOk result (λ found. IfSome found (λ chip. IsPlaced chip)) }
     ensures few { IfOk result (λ found. IfSome found (λ chip. cells_in chip.net.rows ≤ cell_limit)) }
     ensures same { IfOk result (λ found. IfSome found (λ chip. AnswersAsOneOf graphs.now chip)) }
 {
-    let Some(found) = best_draft(alloc, graphs, three, reach, searches, effort)? else {
+    let Some(found) = best_draft(alloc, graphs, three, reach, effort)? else {
         return Ok(None);
     };
     match graphs.get(found.graph) {

@@ -1,5 +1,5 @@
 // Graphs of fewer nodes, by equal nodes that are merged, and by rounds of resubstitution and of cuts of four leaves.
-ghost use Rattle.std.specs.Prelude.{IfOk, IfSome};
+ghost use Rattle.std.specs.Prelude.{IfOk, OnOk, IfSome};
 ghost use Rattle.mig.specs.Passes.{IsRebuilt};
 ghost use Rattle.mig_from_netlist.specs.Passes.{IsGraphOf};
 ghost use Rattle.plan_compact.specs.Variants.{AreGraphsOf};
@@ -424,24 +424,22 @@ fn first_turned(
     }
 }
 
-/// Further graphs with the answers of a netlist: that of the fewest nodes that rounds of resubstitution and of cuts of
-/// four leaves give from a beginning, if it has fewer nodes than the first one of these graphs, and up to seven that are
-/// made of it, each with fewer levels. There are none where that first one has more than 20,000 nodes. They are refused
-/// for want of memory alone.
-pub(crate) fn fewest_nodes(
+/// Adds further graphs with the answers of a netlist: that of the fewest nodes that rounds of resubstitution and of cuts
+/// of four leaves give from a beginning, if it has fewer nodes than the first one of these graphs, and up to seven that
+/// are made of it, each with fewer levels. There are none where that first one has more than 20,000 nodes. They are
+/// refused for want of memory alone.
+pub(crate) fn push_fewest_nodes(
     alloc: Global,
     net: &Netlist,
     recipes: &CutRewriting,
-    graphs: &[Graph],
+    graphs: &mut Vec<Graph>,
     kind: Beginning,
-) -> Result<Vec<Graph>, Memory>
-    requires { AreGraphsOf net.now graphs.now }
-    ensures { IfOk result (λ more. AreGraphsOf net.now more.items) }
+) -> Result<(), Memory>
+    requires { AreGraphsOf net.now graphs.old.items }
+    ensures { OnOk result (AreGraphsOf net.now graphs.new.items) }
 {
-    let mut more = Vec::new(alloc);
-    let Some(first) = first_turned(alloc, net, recipes, graphs, kind)? else {
-        return Ok(more);
-    };
-    push_chain(alloc, net, &mut more, first)?;
-    Ok(more)
+    match first_turned(alloc, net, recipes, graphs.as_slice(), kind)? {
+        Some(first) => push_chain(alloc, net, graphs, first),
+        None => Ok(()),
+    }
 }

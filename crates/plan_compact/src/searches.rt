@@ -73,15 +73,6 @@ fn better(one: Option<Found>, other: Option<Found>) -> Option<Found> {
     }
 }
 
-/// Which searches look for a chip.
-#[derive(Clone, Copy)]
-pub enum Searches {
-    /// All of them.
-    All,
-    /// That for trees that know where their users stand, which finds the smaller chip of nearly all netlists.
-    Trees,
-}
-
 /// So many graphs are searched for rows with few cells, the first ones.
 const ROW_GRAPHS: usize = 3;
 
@@ -93,18 +84,12 @@ pub(crate) fn best_draft(
     graphs: &[Graph],
     three: bool,
     reach: u32,
-    searches: Searches,
     effort: &Effort,
 ) -> Result<Option<Found>, Memory> {
     let effort = for_outputs(effort, graphs);
     let trees = chip_trees::search(alloc, graphs, three, reach, &effort)?;
-    match searches {
-        Searches::All => {
-            let first = graphs.get(..ROW_GRAPHS.min(graphs.len())).unwrap_or(graphs);
-            let beside = beside(effort, &trees);
-            let rows = chip_search::search(alloc, first, three, reach, &beside)?;
-            Ok(better(rows, trees))
-        }
-        Searches::Trees => Ok(trees),
-    }
+    let first = graphs.get(..ROW_GRAPHS.min(graphs.len())).unwrap_or(graphs);
+    let beside = beside(effort, &trees);
+    let rows = chip_search::search(alloc, first, three, reach, &beside)?;
+    Ok(better(rows, trees))
 }

@@ -181,22 +181,20 @@ fn first_rewritten(
     }
 }
 
-/// Further graphs with the answers of a netlist: that by cuts of four leaves of the first one of its graphs, if it has
-/// fewer nodes, and up to seven that are made of it, each with fewer levels. There are none where the first one has more
-/// than 100,000 nodes. They are refused for want of memory alone.
-pub fn fewer_nodes(
+/// Adds further graphs with the answers of a netlist: that by cuts of four leaves of the first one of its graphs, if it
+/// has fewer nodes, and up to seven that are made of it, each with fewer levels. There are none where the first one has
+/// more than 100,000 nodes. They are refused for want of memory alone.
+pub(crate) fn push_fewer_nodes(
     alloc: Global,
     net: &Netlist,
     pass: &CutRewriting,
-    graphs: &[Graph],
-) -> Result<Vec<Graph>, Memory>
-    requires { AreGraphsOf net.now graphs.now }
-    ensures { IfOk result (λ more. AreGraphsOf net.now more.items) }
+    graphs: &mut Vec<Graph>,
+) -> Result<(), Memory>
+    requires { AreGraphsOf net.now graphs.old.items }
+    ensures { OnOk result (AreGraphsOf net.now graphs.new.items) }
 {
-    let mut more = Vec::new(alloc);
-    let Some(first) = first_rewritten(alloc, net, pass, graphs)? else {
-        return Ok(more);
-    };
-    push_chain(alloc, net, &mut more, first)?;
-    Ok(more)
+    match first_rewritten(alloc, net, pass, graphs.as_slice())? {
+        Some(first) => push_chain(alloc, net, graphs, first),
+        None => Ok(()),
+    }
 }

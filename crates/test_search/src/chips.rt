@@ -4,7 +4,7 @@ use crate::graphs::{made, random};
 use aq_base::{List, Memory};
 use circuit::{Answers, Pass, Word, answer_word};
 use mig::{Graph, GraphRefusal, Shallower};
-use plan_compact::{Effort, Searches, small_chip};
+use plan_compact::{Effort, small_chip};
 use rowed::Placed;
 use std::alloc::Global;
 use std::test::Fail;
@@ -56,14 +56,7 @@ fn is_found(
     effort: &Effort,
 ) -> Result<bool, GraphRefusal> {
     let graphs = Vec::from_array(alloc, [Shallower.run(alloc, graph)?])?;
-    match small_chip(
-        alloc,
-        graphs.as_slice(),
-        three,
-        reach,
-        Searches::All,
-        effort,
-    )? {
+    match small_chip(alloc, graphs.as_slice(), three, reach, effort)? {
         Some(chip) => Ok(are_alike(alloc, graph, &chip)?),
         None => Ok(false),
     }
@@ -125,7 +118,7 @@ fn chips_of_random_graphs(rt: HostRuntime) -> Result<(), Fail> {
 fn no_chip_of_no_graph(rt: HostRuntime) -> Result<(), Fail> {
     let alloc = rt.alloc();
     for effort in [Effort::plain(), Effort::full()] {
-        assert!(rt; small_chip(alloc, &[], true, 14, Searches::All, &effort)?.is_none());
+        assert!(rt; small_chip(alloc, &[], true, 14, &effort)?.is_none());
     }
     Ok(())
 }
