@@ -36,6 +36,7 @@ fn passes(alloc: Global, net: &blif_read::Netlist, letters: &str) {
         let number = place as u32;
         let made = match letter {
             'c' => three.run(alloc, &graph),
+            's' => mig_share::Sharing.run(alloc, &graph),
             'm' => mig_merge::Merging.run(alloc, &graph),
             'w' => cuts.run(alloc, &graph),
             'W' => cuts.shaken(alloc, &graph, number),
@@ -45,7 +46,7 @@ fn passes(alloc: Global, net: &blif_read::Netlist, letters: &str) {
             'A' => cuts.by_ands(alloc, &graph, Some(number)),
             'r' => mig_resub::Resubstitution.run(alloc, &graph),
             'R' => mig_resub::Resubstitution.shaken(alloc, &graph, number),
-            _ => panic!("a letter of cmwWgGaArR"),
+            _ => panic!("a letter of cmwWgGaArRs"),
         };
         graph = made.ok().expect("graph");
         print!(" {letter} {}/{}", graph.node_count(), graph.depth(alloc).unwrap());

@@ -13,6 +13,7 @@ use mig_cuts::CutRewriting;
 use mig_from_netlist::{CoverRefusal, GraphPass};
 use mig_merge::Merging;
 use mig_resub::Resubstitution;
+use mig_share::Sharing;
 use std::alloc::Global;
 
 /// How many nodes a graph has at least that is made anew: a smaller one has no node to lose.
@@ -57,11 +58,12 @@ enum Cuts {
     InPlace,
 }
 
-/// The pass by cuts of four leaves, and whose cuts it takes.
+/// The pass by cuts of four leaves, whose cuts it takes, and whether nodes are joined in another order after it.
 #[derive(Clone, Copy)]
 struct Rewriting<'a> {
     pass: &'a CutRewriting,
     cuts: Cuts,
+    shares: bool,
 }
 
 /// The graph by cuts of four leaves; with a number, it is shaken.
@@ -84,9 +86,32 @@ fn rewritten(
     }
 }
 
-/// A round: the graph by resubstitution, and then by cuts of four leaves.
+/// The graph with nodes that are joined in another order.
+fn shared(alloc: Global, graph: &Graph) -> Result<Graph, Memory>
+    ensures { IfOk result (λ made. IsRebuilt graph.now made) }
+{
+    match Sharing.run(alloc, graph) {
+        Ok(made) => Ok(made),
+        Err(refusal) => Err(no_memory(refusal)),
+    }
+}
+
+/// A graph of a netlist with nodes that are joined in another order, where that is asked for.
 #[tactic(auto, using(mig_from_netlist::proofs::Signals::graph_then))]
-fn round(
+fn or_shared(alloc: Global, _net: &Netlist, pass: &Rewriting, graph: Graph) -> Result<Graph, Memory>
+    requires { IsGraphOf _net.now graph }
+    ensures { IfOk result (λ made. IsGraphOf _net.now made) }
+{
+    if pass.shares {
+        shared(alloc, &graph)
+    } else {
+        Ok(graph)
+    }
+}
+
+/// The graph by resubstitution, and then by cuts of four leaves.
+#[tactic(auto, using(mig_from_netlist::proofs::Signals::graph_then))]
+fn resubstituted_and_rewritten(
     alloc: Global,
     _net: &Netlist,
     pass: &Rewriting,
@@ -98,6 +123,22 @@ fn round(
 {
     let one = resubstituted(alloc, graph, shake)?;
     rewritten(alloc, pass, &one, shake)
+}
+
+/// A round: the graph by resubstitution, by cuts of four leaves, and with nodes that are joined in another order, where
+/// that is asked for.
+fn round(
+    alloc: Global,
+    net: &Netlist,
+    pass: &Rewriting,
+    graph: &Graph,
+    shake: Option<u32>,
+) -> Result<Graph, Memory>
+    requires { IsGraphOf net.now graph.now }
+    ensures { IfOk result (λ made. IsGraphOf net.now made) }
+{
+    let made = resubstituted_and_rewritten(alloc, net, pass, graph, shake)?;
+    or_shared(alloc, net, pass, made)
 }
 
 /// A turn: three rounds that are shaken, and two that are not.
@@ -190,7 +231,7 @@ fn by_ands(
 
 /// A graph of a netlist by recipes of ands, which is one too.
 #[tactic(auto, using(mig_from_netlist::proofs::Signals::graph_then))]
-fn of_fewer_ands(
+fn rewritten_by_ands(
     alloc: Global,
     _net: &Netlist,
     pass: &Rewriting,
@@ -202,6 +243,21 @@ fn of_fewer_ands(
 {
     let made = by_ands(alloc, pass, graph, shake)?;
     Ok(made)
+}
+
+/// The same, with nodes that are joined in another order, where that is asked for.
+fn of_fewer_ands(
+    alloc: Global,
+    net: &Netlist,
+    pass: &Rewriting,
+    graph: &Graph,
+    shake: Option<u32>,
+) -> Result<Graph, Memory>
+    requires { IsGraphOf net.now graph.now }
+    ensures { IfOk result (λ made. IsGraphOf net.now made) }
+{
+    let made = rewritten_by_ands(alloc, net, pass, graph, shake)?;
+    or_shared(alloc, net, pass, made)
 }
 
 /// The graph by recipes of ands, five times, of which two are shaken.
@@ -295,6 +351,8 @@ pub(crate) enum Beginning {
     MergedInPlace,
     /// The graph before cuts of three inputs, once recipes of ands have made it smaller, with equal nodes merged or not.
     FewerAnds,
+    /// The same with equal nodes merged, where nodes are joined in another order after each pass, so that they share more.
+    SharedAnds,
 }
 
 /// The beginning with equal nodes merged, by this graph and that before cuts of three inputs.
@@ -331,6 +389,21 @@ fn ands_beginning(
     Ok(fewer(net, one, two))
 }
 
+/// The beginning with fewer ands and with nodes that are joined in another order, with equal nodes merged.
+#[tactic(auto, using(mig_from_netlist::proofs::Signals::graph_then))]
+fn shared_beginning(
+    alloc: Global,
+    net: &Netlist,
+    pass: &Rewriting,
+    plain: &Graph,
+) -> Result<Graph, Memory>
+    requires { IsGraphOf net.now plain.now }
+    ensures { IfOk result (λ made. IsGraphOf net.now made) }
+{
+    let start = merged(alloc, plain)?;
+    begun_by_ands(alloc, net, pass, &start)
+}
+
 /// The graph from which turns begin. Where that before cuts of three inputs is too great, it is this one.
 fn first_graph(
     alloc: Global,
@@ -350,6 +423,7 @@ fn first_graph(
             merged_beginning(alloc, net, pass, graph, &plain)
         }
         Beginning::FewerAnds => ands_beginning(alloc, net, pass, &plain),
+        Beginning::SharedAnds => shared_beginning(alloc, net, pass, &plain),
     }
 }
 
@@ -357,7 +431,7 @@ fn first_graph(
 fn cuts_of(kind: Beginning) -> Cuts {
     match kind {
         Beginning::Merged => Cuts::Given,
-        Beginning::MergedInPlace | Beginning::FewerAnds => Cuts::InPlace,
+        Beginning::MergedInPlace | Beginning::FewerAnds | Beginning::SharedAnds => Cuts::InPlace,
     }
 }
 
@@ -375,6 +449,7 @@ fn turned(
     let pass = Rewriting {
         pass: recipes,
         cuts: cuts_of(kind),
+        shares: matches!(kind, Beginning::SharedAnds),
     };
     let best = first_graph(alloc, net, &pass, graph, kind)?;
     let turns = turns(best.node_count());

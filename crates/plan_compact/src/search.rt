@@ -35,7 +35,8 @@ fn push_further(alloc: Global, net: &Netlist, graphs: &mut Vec<Graph>) -> Result
     push_fewer_nodes(alloc, net, &recipes, graphs)?;
     push_fewest_nodes(alloc, net, &recipes, graphs, Beginning::Merged)?;
     push_fewest_nodes(alloc, net, &recipes, graphs, Beginning::MergedInPlace)?;
-    push_fewest_nodes(alloc, net, &recipes, graphs, Beginning::FewerAnds)
+    push_fewest_nodes(alloc, net, &recipes, graphs, Beginning::FewerAnds)?;
+    push_fewest_nodes(alloc, net, &recipes, graphs, Beginning::SharedAnds)
 }
 
 /// The graphs of a netlist among which a chip is searched for: its variants, and those of fewer nodes.

@@ -6,6 +6,8 @@ mod builders;
 #[cfg(test)]
 mod merging;
 #[cfg(test)]
+mod sharing;
+#[cfg(test)]
 mod tables;
 #[cfg(test)]
 mod variants;

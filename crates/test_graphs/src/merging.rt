@@ -7,7 +7,7 @@ use std::alloc::Global;
 use std::test::Fail;
 
 /// The majority, if the three literals are there; else false.
-fn maj_of(builder: &mut Builder, x: u32, y: u32, z: u32) -> Result<u32, GraphRefusal> {
+pub(crate) fn maj_of(builder: &mut Builder, x: u32, y: u32, z: u32) -> Result<u32, GraphRefusal> {
     builder.known();
     let limit = 2 * (1 + builder.inputs() as u64 + builder.node_count() as u64);
     if (x as u64) < limit && (y as u64) < limit && (z as u64) < limit {
