@@ -31,11 +31,30 @@ fn hundredths_of(best: &Option<Candidate>, hundredths: u64) -> u64 {
     }
 }
 
-/// The one that costs less, the first one where both cost as much.
+/// How many slots the rows of a chip take, from the leftmost cell to the end of the rightmost one.
+fn span(candidate: &Candidate) -> u32 {
+    let mut left = u32::MAX;
+    let mut right: u32 = 0;
+    for cell in 0..candidate.chip.count() {
+        let slot = at(&candidate.places.slots, cell);
+        left = left.min(slot);
+        right = right.max(slot.saturating_add(candidate.chip.width(cell)));
+    }
+    right.saturating_sub(left)
+}
+
+/// Whether a chip costs less than another one, or as much and is narrower: its clock has less skew then.
+fn is_better(race: Race, one: &Candidate, other: &Candidate) -> bool {
+    let cost = race.cost_of(one);
+    let other_cost = race.cost_of(other);
+    cost < other_cost || (cost == other_cost && span(one) < span(other))
+}
+
+/// The better one of two chips, the first one where both are as good.
 fn better(race: Race, best: Option<Candidate>, next: Candidate) -> Candidate {
     match best {
         Some(best) => {
-            if race.cost_of(&next) < race.cost_of(&best) {
+            if is_better(race, &next, &best) {
                 next
             } else {
                 best

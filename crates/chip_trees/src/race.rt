@@ -8,18 +8,26 @@ use chip_search::effort::Effort;
 use mig::Graph;
 use std::alloc::Global;
 
-/// So many graphs race, or as many as come up to so many cells in all, but at least so many.
+/// So many graphs race, or as many as come up to so many cells in all, but at least so many. Of large ones more race: they
+/// have few turns, and their trees tell less of their chips.
 const MOST_RACERS: u64 = 6;
 
-const RACING_CELLS: u64 = 100_000;
+const MOST_LARGE_RACERS: u64 = 9;
+
+const LARGE: u64 = 5_000;
+
+const RACING_CELLS: u64 = 250_000;
 
 const LEAST_RACERS: u64 = 2;
 
 /// A graph races if its trees cost at most so many hundredths of what the best ones do.
-const MOST_BEHIND: u64 = 110;
+const MOST_BEHIND: u64 = 112;
 
 /// After the first turn so many graphs, the best ones then, go on until they had such a part of their turns.
 const ROUNDS: [(usize, u64); 3] = [(4, 4), (2, 2), (1, 1)];
+
+/// A graph goes on no longer once so many of its turns, one after the other, gained nothing.
+const MOST_IDLE: u64 = 5;
 
 /// The chips of so many graphs are finished.
 const FINALISTS: usize = 2;
@@ -28,9 +36,15 @@ const FINALISTS: usize = 2;
 /// short, since its trees come out much alike then.
 const TURNED_CELLS: u64 = 20_000;
 
-const MOST_TURNS: u64 = 32;
+const MOST_TURNS: u64 = 16;
 
 const MOST_SHORT_TURNS: u64 = 8;
+
+/// It has so many turns at least, or as many as its cells come up to so many in all: one turn of a large graph may come to
+/// half as many cells again as another one.
+const LEAST_TURNS: u64 = 4;
+
+const LEAST_TURNED_CELLS: u64 = 80_000;
 
 /// A graph that races.
 #[derive(Drop)]
@@ -42,9 +56,10 @@ pub(crate) struct Racer {
     /// Its best placed chips, and what the best one costs.
     pool: Pool,
     cost: u64,
-    /// How many turns it may have, and how many it had.
+    /// How many turns it may have, how many it had, and how many of the last ones gained nothing.
     turns: u64,
     had: u64,
+    idle: u64,
 }
 
 /// What races: graphs of the same answers, whether splitters of three are used, and how much work is done.
@@ -64,6 +79,22 @@ fn times(in_all: u64, cells: u64, least: u64, most: u64) -> u64 {
         .min(most)
 }
 
+/// How many graphs race, by the cells of the best one's trees.
+fn racers_of(cells: u64) -> u64 {
+    let most = if cells > LARGE {
+        MOST_LARGE_RACERS
+    } else {
+        MOST_RACERS
+    };
+    times(RACING_CELLS, cells, LEAST_RACERS, most)
+}
+
+/// How many turns a graph may have whose trees have so many cells, with a bound by how long its wires are.
+fn turns_of(cells: u64, most: u64) -> u64 {
+    let least = times(LEAST_TURNED_CELLS, cells, 1, LEAST_TURNS);
+    times(TURNED_CELLS, cells, least, most)
+}
+
 /// Whether a graph with as many cells and majorities races: then it is most often the same graph.
 fn is_there(racers: &[Racer], one: &Ranked) -> bool {
     for racer in racers {
@@ -81,7 +112,7 @@ pub(crate) fn racing(alloc: Global, ranked: &[Ranked]) -> Result<Vec<Racer>, Mem
         return Ok(racers);
     };
     let most = first.cost.saturating_mul(MOST_BEHIND) / 100;
-    let count = times(RACING_CELLS, first.cells, LEAST_RACERS, MOST_RACERS);
+    let count = racers_of(first.cells);
     for one in ranked {
         let has_room = (racers.len() as u64) < count;
         if has_room && one.cost <= most && !is_there(&racers, one) {
@@ -93,6 +124,7 @@ pub(crate) fn racing(alloc: Global, ranked: &[Ranked]) -> Result<Vec<Racer>, Mem
                 cost: u64::MAX,
                 turns: 0,
                 had: 0,
+                idle: 0,
             })?;
         }
     }
@@ -116,7 +148,13 @@ impl<'a> Race<'a> {
         };
         let trees = trees_of(work.alloc, graph, self.three)?;
         let outcome = task.run(work, trees, racer.had, &mut racer.pool, random)?;
-        racer.cost = cost(graph, racer.pool.least());
+        let cost = cost(graph, racer.pool.least());
+        racer.idle = if cost < racer.cost {
+            0
+        } else {
+            racer.idle.saturating_add(1)
+        };
+        racer.cost = cost;
         racer.had = racer.had.saturating_add(1);
         Ok(outcome)
     }
@@ -134,12 +172,12 @@ impl<'a> Race<'a> {
                 Outcome::Short => MOST_SHORT_TURNS,
                 Outcome::Long => MOST_TURNS,
             };
-            racer.turns = times(TURNED_CELLS, racer.cells, 1, most);
+            racer.turns = turns_of(racer.cells, most);
         }
         Ok(())
     }
 
-    /// The turns of a racer until it had such a part of them.
+    /// The turns of a racer until it had such a part of them, or they gain nothing any more.
     fn further_turns(
         self,
         work: &mut Work,
@@ -149,6 +187,9 @@ impl<'a> Race<'a> {
     ) -> Result<(), Memory> {
         let end = racer.turns.checked_div(part).unwrap_or(0);
         for _turn in racer.had..end {
+            if racer.idle >= MOST_IDLE {
+                break;
+            }
             self.turn(work, racer, random)?;
         }
         Ok(())

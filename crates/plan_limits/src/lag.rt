@@ -88,13 +88,6 @@ fn apart_in(chip: &Placed) -> Apart {
     apart
 }
 
-/// About twice the skew of this chip in slots, once its odd rows are delayed: the heights of its rows are left out. So
-/// of two chips with rows of the same height the one with less has the lower skew, as far as slots tell.
-pub fn twice_skew(chip: &Placed) -> u64 {
-    let apart = apart_in(chip);
-    apart.turned.saturating_add(apart.along)
-}
-
 /// How wide the bar is to be that delays the odd rows of this chip, in nanometres; 0 where a delay gains nothing. With
 /// its link the delay is about half of what the even rows are ahead more than the odd ones. The link is some four
 /// heights long, and where a line turns it has run three heights more: so five heights come off before the half.

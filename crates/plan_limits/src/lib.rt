@@ -6,5 +6,5 @@ mod lag;
 mod limits;
 mod making;
 
-pub use lag::{delayed, twice_skew};
+pub use lag::delayed;
 pub use making::drawable_chip;
