@@ -116,7 +116,7 @@ module _ (shapes : List Shape) (before : List ℕ) (lines : AreLaidOut shapes) (
           before_shape_is = from_is;
           is_before = comes;
           wrong = inr (subst (λ (x : Shape). ChainLeavesWrongly shapes b (slice_index before b) x from) bars
-              (subst (λ (x : Shape). ChainLeavesWrongly shapes b (slice_index before b) on.bar x) froms on.wrong));
+              (rw froms at on.wrong));
         }
     crossed well false on = λ fault. elim fault.wrong [
       | inl wrong ↦ both_ways (enters fault.before_shape fault.bar.shape) wrong
@@ -127,7 +127,6 @@ module _ (shapes : List Shape) (before : List ℕ) (lines : AreLaidOut shapes) (
         bar_is = fault.bar.shape_is;
         before = fault.before_shape;
         before_is = ap (slice_get shapes) (same_before fault) ∙ fault.before_shape_is;
-        wrong = subst (λ (x : ℕ). ChainLeavesWrongly shapes b x fault.bar.shape fault.before_shape)
-            (sym (same_before fault)) wrong;
+        wrong = rw (same_before fault) wrong;
       })
     ]

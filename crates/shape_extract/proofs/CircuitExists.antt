@@ -1,14 +1,13 @@
 -- A flat form that keeps the rules of circuits has a circuit.
-use Rattle.std.proofs.Common.{◌≡◌, ◌≢◌, ℕ, zero, suc, ◌+◌, ◌%◌, ◌<◌, Bool, true, false, ◌==◌, refl, sym, ap, subst}
-use Rattle.std.proofs.Common.{◌∙◌, arith, ◌⊎◌, inl, inr}
-use Rattle.std.proofs.Common.{List, [], ◌∷◌, length, Option, Some, None}
-use Rattle.std.specs.Prelude.{slice_get, slice_index, count_by}
-use Rattle.std.specs.List.{AllZip, list_any}
-use Rattle.std.proofs.lemmas.Bool.{cases_eq, cases_lt, both_ways, eqb-true, eq-eqb, or_right}
-use Rattle.std.proofs.lemmas.Option.{same_Some, slice_get_within}
+use Rattle.std.proofs.Common.{◌≡◌, ℕ, zero, suc, ◌+◌, ◌%◌, ◌<◌, Bool, true, false, ◌==◌, refl, sym, ap, subst}
+use Rattle.std.proofs.Common.{◌∙◌, arith, inl, inr}
+use Rattle.std.proofs.Common.{List, [], ◌∷◌, length, Some}
+use Rattle.std.specs.Prelude.{slice_get, count_by}
+use Rattle.std.specs.List.{AllZip}
+use Rattle.std.proofs.lemmas.Bool.{cases_lt, eq-eqb, or_right}
+use Rattle.std.proofs.lemmas.Option.{same_Some}
 use Rattle.circuit.specs.CellKinds.{number_of, inputs_of}
 use Rattle.circuit.specs.declared.cell_kind.CellKind.{CellKind}
-use Rattle.circuit.specs.declared.cell_kind.CellKind.TheVariants.{Buffer, Inverter, Zero, One, Split2, Split3, Majority}
 use Rattle.rowed.specs.declared.source.Source.{Source}
 use Rattle.geom.specs.declared.shapes.Flat.{Flat}
 use Rattle.geom.specs.declared.shapes.Shape.{Shape}
@@ -16,14 +15,16 @@ use Rattle.layout_rules.specs.declared.layers.TheConstants.{INPUT_PIN, OUTPUT_PI
 use Rattle.layout_rules.specs.CircuitRules.{IsInput, IsSource}
 use Rattle.layout_rules.specs.Labels.{Marks, marks, is_labelled, number_of_label}
 use Rattle.layout_rules.specs.Layers.{is_frame, is_pin}
-use Rattle.layout_rules.proofs.NetLaws.{Joined-back, Joined-trans, one_net, one_number}
+use Rattle.layout_rules.proofs.NetLaws.{Joined-back, Joined-trans}
 use Rattle.layout_rules.specs.Nets.{AreNets}
-use Rattle.layout_rules.specs.Pins.{lies_in, LiesIn, entry_count, exit_count}
-use Rattle.layout_rules.proofs.PlaceLaws.{list_any-at, list_any-place}
+use Rattle.layout_rules.specs.Pins.{LiesIn, entry_count, exit_count}
+use Rattle.layout_rules.proofs.PlaceLaws.{list_any-place}
 use Rattle.layout_rules.specs.Reports.{Passes}
 use Rattle.layout_rules.specs.Rows.{row_of, row_count}
 use Rattle.layout_rules.proofs.NetsExist.{some_nets}
-use Rattle.layout_rules.proofs.Deciding.{settled}
+use Rattle.layout_rules.proofs.Deciding.{settled, affirmed, dec_some, dec_equal}
+use Rattle.layout_rules.proofs.JudgedCells.{dec_some_kind, dec_one_frame}
+use Rattle.layout_rules.proofs.JudgedNets.{dec_source, source_within}
 use Rattle.circuit_extracted.specs.Circuits.{CircuitView}
 use Rattle.shape_extract.specs.Extraction.{IsOutputPin, FeedsPin, IsCellFrom, IsOutputFrom}
 use Rattle.shape_extract.specs.Extraction.{is_wired, IsCircuitOf}
@@ -40,18 +41,7 @@ use Rattle.shape_extract.proofs.FramesExist.{some_frames}
 use Rattle.shape_extract.proofs.Kept.{no_fault}
 use Rattle.shape_extract.proofs.KeptPins.{some_input, input_named, named_output}
 
--- ---- searches and lists
-
--- a number below k that is such, or none
-found_below : (P : ℕ → Type 0) → ((n : ℕ) → P n ⊎ (P n → ⊥)) → (k : ℕ) → ((n : ℕ) × P n) ⊎ ((n : ℕ) → n < k → P n → ⊥)
-found_below P decide zero = inr (λ n lt h. omega arith)
-found_below P decide (suc k) = elim (decide k) [
-  | inl h ↦ inl (k, h)
-  | inr here ↦ elim (found_below P decide k) [
-    | inl some ↦ inl some
-    | inr below ↦ inr (λ n lt h. elim (cases_eq n k) [ inl e ↦ here (subst P e h) | inr ne ↦ below n (omega arith) h ])
-  ]
-]
+-- ---- lists
 
 -- a list beside another one
 beside_some : {A B : Type 0} (R : A → B → Type 0) (ys : List B)
@@ -80,43 +70,6 @@ numbered_some {A} R k (suc n) each =
     at x h rest zero y e = subst (λ (z : A). R (k + 0) z) (same_Some x y e) (subst (λ (m : ℕ). R m x) (omega arith) h)
     at x h rest (suc i) y e = subst (λ (m : ℕ). R m y) (omega arith) (rest.each i y e)
 
--- ---- kinds by their numbers
-
-kind_of : (n : ℕ) → ((kind : CellKind) × (n ≡ number_of kind)) ⊎ ((kind : CellKind) → n ≡ number_of kind → ⊥)
-kind_of n = elim (cases_eq n (number_of Buffer)) [
-  | inl e ↦ inl (Buffer, e)
-  | inr a ↦ elim (cases_eq n (number_of Inverter)) [
-    | inl e ↦ inl (Inverter, e)
-    | inr b ↦ elim (cases_eq n (number_of Zero)) [
-      | inl e ↦ inl (Zero, e)
-      | inr c ↦ elim (cases_eq n (number_of One)) [
-        | inl e ↦ inl (One, e)
-        | inr d ↦ elim (cases_eq n (number_of Split2)) [
-          | inl e ↦ inl (Split2, e)
-          | inr f ↦ elim (cases_eq n (number_of Split3)) [
-            | inl e ↦ inl (Split3, e)
-            | inr g ↦ elim (cases_eq n (number_of Majority)) [
-              | inl e ↦ inl (Majority, e)
-              | inr h ↦ inr (λ kind e. none a b c d f g h kind e)
-            ]
-          ]
-        ]
-      ]
-    ]
-  ]
-]
-  where
-    none : n ≢ number_of Buffer → n ≢ number_of Inverter → n ≢ number_of Zero → n ≢ number_of One
-        → n ≢ number_of Split2 → n ≢ number_of Split3 → n ≢ number_of Majority
-        → (kind : CellKind) → n ≡ number_of kind → ⊥
-    none a b c d f g h Buffer e = a e
-    none a b c d f g h Inverter e = b e
-    none a b c d f g h Zero e = c e
-    none a b c d f g h One e = d e
-    none a b c d f g h Split2 e = f e
-    none a b c d f g h Split3 e = g e
-    none a b c d f g h Majority e = h e
-
 -- ---- the circuit
 
 module _ (flat : Flat) (five : KeepsFive flat) where
@@ -129,17 +82,12 @@ module _ (flat : Flat) (five : KeepsFive flat) where
   -- a pin lies in a frame
   frame_of : (p : ℕ) (pin : Shape) → slice_get flat.shapes p ≡ Some pin → is_pin pin ≡ true
       → (f : ℕ) × LiesIn flat.shapes p f
-  frame_of p pin at so = go (list_any (lies_in pin) flat.shapes) refl
-    where
-      go : (b : Bool) → list_any (lies_in pin) flat.shapes ≡ b → (f : ℕ) × LiesIn flat.shapes p f
-      go true e = let k = list_any-place (lies_in pin) flat.shapes e in
-          (k.place, record { pin = pin; frame = k.item; pin_is = at; frame_is = k.item_is; lies_so = k.passes_so })
-      go false e = absurd (no_fault flat five.cells p (inr (record {
+  frame_of p pin at so =
+      let one = affirmed (dec_one_frame flat.shapes p) (λ none. no_fault flat five.cells p (inr (record {
         pin = record { shape = pin; shape_is = at; passes_so = so };
-        not_so = λ one. both_ways _ e (list_any-at (lies_in pin) flat.shapes one.frame one.lies.frame one.lies.frame_is
-            (ap (λ (x : Shape). lies_in x one.lies.frame) (same_Some pin one.lies.pin (sym at ∙ one.lies.pin_is))
-            ∙ one.lies.lies_so));
-      })))
+        not_so = none;
+      }))) in
+      (one.frame, one.lies)
 
   -- an output pin is an output of a cell
   source_of : (q : ℕ) (pin : Shape) → slice_get flat.shapes q ≡ Some pin → pin.layer ≡ OUTPUT_PIN → (source : Source)
@@ -166,53 +114,14 @@ module _ (flat : Flat) (five : KeepsFive flat) where
         },
       )
 
-  -- whether an output pin is in the net of a pin
-  is_source : (p : ℕ) (pin : Shape) → slice_get flat.shapes p ≡ Some pin → (q : ℕ) → IsSource flat.shapes p q
-      ⊎ (IsSource flat.shapes p q → ⊥)
-  is_source p pin at q = go (slice_get flat.shapes q) refl
-    where
-      by_net : (s : Shape) → slice_get flat.shapes q ≡ Some s → s.layer ≡ OUTPUT_PIN → IsSource flat.shapes p q
-          ⊎ (IsSource flat.shapes p q → ⊥)
-      by_net s e layer = elim (cases_eq (slice_index nets.0 p) (slice_index nets.0 q)) [
-        | inl same ↦ inl
-            (record {
-              pin = s;
-              pin_is = e;
-              of_layer = layer;
-              joined = one_net flat.shapes nets.0 nets.1 p q
-                  (slice_get_within flat.shapes p pin at) (slice_get_within flat.shapes q s e) same;
-            })
-        | inr other ↦ inr
-            (λ h. other (one_number flat.shapes nets.0 nets.1 p q (slice_get_within flat.shapes p pin at) h.joined))
-      ]
-
-      by_layer : (s : Shape) → slice_get flat.shapes q ≡ Some s → (b : Bool) → (s.layer == OUTPUT_PIN) ≡ b
-          → IsSource flat.shapes p q ⊎ (IsSource flat.shapes p q → ⊥)
-      by_layer s e true t = by_net s e (eqb-true s.layer OUTPUT_PIN t)
-      by_layer s e false t =
-          inr (λ h. both_ways (s.layer == OUTPUT_PIN) t
-          (eq-eqb s.layer OUTPUT_PIN (ap (λ (x : Shape). x.layer) (same_Some s h.pin (sym e ∙ h.pin_is)) ∙ h.of_layer)))
-
-      go : (o : Option Shape) → slice_get flat.shapes q ≡ o → IsSource flat.shapes p q ⊎ (IsSource flat.shapes p q → ⊥)
-      go None e = inr (λ h. (let k : None ≡ Some h.pin = sym e ∙ h.pin_is in cc))
-      go (Some s) e = by_layer s e (s.layer == OUTPUT_PIN) refl
-
-  -- an input pin without label has one
-  driver_of : (p : ℕ) (input : IsInput flat false p) → (q : ℕ) × IsSource flat.shapes p q
-  driver_of p input =
-      elim (found_below (IsSource flat.shapes p) (is_source p input.pin input.pin_is) (length flat.shapes)) [
-        | inl some ↦ some
-        | inr
-            below ↦ absurd
-            (five.nets p p
-            (inr (
-              (λ b h. five.nets p b (inl h)),
-              (inl (
-                record { input = input; none = λ q h. below q (slice_get_within flat.shapes q h.pin h.pin_is) h },
-                refl,
-              )),
-            )))
-      ]
+  -- an input pin without label has one in its net
+  driver_of : (p : ℕ) → IsInput flat false p → (q : ℕ) × IsSource flat.shapes p q
+  driver_of p input = affirmed (dec_some (IsSource flat.shapes p) (length flat.shapes) (dec_source flat.shapes nets p)
+      (source_within flat.shapes nets p))
+      (λ none. five.nets p p (inr (
+        (λ b h. five.nets p b (inl h)),
+        (inl (record { input = input; none = λ q h. none (q, h) }, refl)),
+      )))
 
   one_driver : (p q r : ℕ) → IsSource flat.shapes p q → IsSource flat.shapes p r → r ≡ q
   one_driver p q r first second = settled r q (λ ne. five.nets r q (inl (record {
@@ -273,10 +182,11 @@ module _ (flat : Flat) (five : KeepsFive flat) where
     ]
 
   cell_of : (c f : ℕ) → slice_get frames.0 c ≡ Some f → (cell : ExCell) × IsCellFrom flat frames.0 cell f
-  cell_of c f e = elim (kind_of passes.shape.datatype) [
-    | inl k ↦ made k.0 k.1
-    | inr none ↦ absurd (no_kind flat five.cells f passes passes.shape passes.shape_is none)
-  ]
+  cell_of c f e =
+      let kind = affirmed (dec_some_kind (λ kind. passes.shape.datatype ≡ number_of kind)
+      (λ kind. dec_equal passes.shape.datatype (number_of kind)))
+      (λ none. no_kind flat five.cells f passes passes.shape passes.shape_is (λ kind is. none (kind, is))) in
+      made kind.0 kind.1
     where
       passes : Passes is_frame flat.shapes f
       passes = frames.1.only c f e

@@ -1,7 +1,7 @@
 -- The corners of the frames, read, sorted and numbered, are the frames in the order of cells.
-use Rattle.std.proofs.Common.{◌≡◌, ◌≢◌, ℕ, suc, ◌+◌, ◌<◌, ◌≤◌, inl, inr, Bool, true, false, List, [], ◌∷◌, ◌++◌, length}
-use Rattle.std.proofs.Common.{get_or, Option, Some, None, option_map, refl, sym, ap, subst, ◌∙◌, arith, eq-eqb, ℤ}
-use Rattle.std.specs.Prelude.{slice_get, count_by, ◌==◌, ◌&&◌, ◌||◌, nat_lt, int_lt, IsPermutation, IsSorted, Contains}
+use Rattle.std.proofs.Common.{◌≡◌, ◌≢◌, ℕ, ◌+◌, ◌<◌, ◌≤◌, inl, inr, Bool, true, false, List, [], ◌∷◌, ◌++◌, length}
+use Rattle.std.proofs.Common.{Option, Some, None, option_map, refl, sym, ap, subst, ◌∙◌, arith, eq-eqb, ℤ}
+use Rattle.std.specs.Prelude.{slice_get, count_by, ◌==◌, ◌&&◌, ◌||◌, nat_lt, int_lt, IsPermutation, IsSorted}
 use Rattle.std.specs.declared.cmp.Ordering.{Ordering}
 use Rattle.std.specs.Ordering.{int_cmp, nat_cmp, int_eq, is_lt, ordering_then}
 use Rattle.std.specs.Cmp.{IsTotalOrder}
@@ -9,16 +9,17 @@ use Rattle.std.proofs.lemmas.Int.{ints}
 use Rattle.std.proofs.lemmas.Cmp.{int_cmp_total, nat_cmp_total, then_total, on_total}
 use Rattle.std.proofs.lemmas.Bool.Decides.{nat_tests}
 use Rattle.std.proofs.lemmas.Bool.{cases_eq, both_ways, eqb-true}
-use Rattle.std.proofs.lemmas.Option.{same_Some, slice_get_within, slice_get-get_or, get_or_from_slice_get}
+use Rattle.std.proofs.lemmas.Option.{same_Some, slice_get_within}
 use Rattle.std.proofs.lemmas.Option.{slice_get-map}
-use Rattle.std.proofs.lemmas.List.Sorted.{ranks_by, sorted_far, IsPermutation-sym, Contains-permutation}
-use Rattle.std.proofs.lemmas.List.Sorted.{sum_by-IsPermutation}
+use Rattle.std.proofs.lemmas.List.Sorted.{IsPermutation-sym, sum_by-IsPermutation}
+use Rattle.std.proofs.Math.ListN.{length-append}
 use Rattle.geom.specs.declared.shapes.Shape.{Shape}
 use Rattle.layout_rules.specs.Layers.{is_frame}
 use Rattle.layout_rules.proofs.PlaceLaws.{count_by-once, count_by-one}
 use Rattle.shape_extract.specs.declared.circuits.frames.Corner.{Corner}
 use Rattle.shape_extract.specs.Code.Corners.{corner_of, IsCorner, HasCorner, AreCorners, numbers_of}
 use Rattle.shape_extract.specs.Frames.{AreFrames}
+use Rattle.shape_extract.proofs.Moved.{moved, far}
 use Rattle.shape_extract.proofs.RowEdges.{push_old, push_new, push_cases}
 
 -- the corners of the frames among the first shapes
@@ -70,13 +71,8 @@ module _ (shapes : List Shape) (n : ℕ) (corners : List Corner) (here : Shape) 
         | inr newer ↦ new.0 ∙ sym newer.0
       ]
     ];
-    few = (let h : length corners ≤ n = are.few in let e : length (corners ++ corner_of here n ∷ []) ≡ suc
-        (length corners) = pushed corners (corner_of here n) in omega arith);
+    few = omega (arith, are.few, length-append corners (corner_of here n ∷ []));
   }
-    where
-      pushed : (xs : List Corner) (x : Corner) → length (xs ++ x ∷ []) ≡ suc (length xs)
-      pushed [] x = refl
-      pushed (y ∷ xs) x = ap suc (pushed xs x)
 
   pub corners_same : is_frame here ≡ false → CornersBelow (n + 1) shapes corners
   corners_same other = record {
@@ -88,7 +84,7 @@ module _ (shapes : List Shape) (n : ℕ) (corners : List Corner) (here : Shape) 
     only = are.only;
     below = λ k corner is. (let lt : corner.number < n = are.below k corner is in omega arith);
     once = are.once;
-    few = (let h : length corners ≤ n = are.few in omega arith);
+    few = omega (arith, are.few);
   }
 
 pub corners_all : (shapes : List Shape) (n : ℕ) (corners : List Corner) → length shapes ≤ n
@@ -102,20 +98,13 @@ corners_all shapes n corners all are = record {
 
 -- ---- the same corners in another order
 
-contained : (xs : List Corner) (x : Corner) (k : ℕ) → slice_get xs k ≡ Some x → Contains xs x
-contained xs x k is = (k, slice_get_within xs k x is, get_or_from_slice_get xs k x x is)
-
-place_from : (xs : List Corner) (x : Corner) → Contains xs x → (k : ℕ) × (slice_get xs k ≡ Some x)
-place_from xs x at = (at.0, slice_get-get_or xs at.0 x at.1 ∙ ap Some at.2)
-
 abbrev has_number : ℕ → Corner → Bool
 has_number f corner = corner.number == f
 
 module _ (shapes : List Shape) (corners sorted : List Corner) (are : AreCorners shapes corners)
     (same : IsPermutation corners sorted) where
   old_place : (x : Corner) (k : ℕ) → slice_get sorted k ≡ Some x → (l : ℕ) × (slice_get corners l ≡ Some x)
-  old_place x k is = place_from corners x
-      (Contains-permutation sorted corners x (IsPermutation-sym corners sorted same) (contained sorted x k is))
+  old_place x k is = moved sorted corners (IsPermutation-sym corners sorted same) x (k, is)
 
   -- each number has one corner
   one_of : (k : ℕ) (x : Corner) → slice_get sorted k ≡ Some x → count_by (has_number x.number) sorted ≡ 1
@@ -129,9 +118,7 @@ module _ (shapes : List Shape) (corners sorted : List Corner) (are : AreCorners 
   corners_sorted = record {
     each = λ f frame at so. (
         let k = are.each f frame at so in
-        let new = place_from sorted (corner_of frame f)
-        (Contains-permutation corners sorted (corner_of frame f) same
-        (contained corners (corner_of frame f) k.place k.there)) in
+        let new = moved corners sorted same (corner_of frame f) (k.place, k.there) in
         record { place = new.0; there = new.1 });
     only = λ k corner is. (let old = old_place corner k is in are.only old.0 corner old.1);
     once = λ k l c d p q e. count_by-one (has_number c.number) sorted k l c d (one_of k c p) p
@@ -164,16 +151,6 @@ module _ (shapes : List Shape) (sorted : List Corner) (are : AreCorners shapes s
       by_corner None e k = absurd cc
       by_corner (Some x) e k = (x, e, same_Some x.number f k)
 
-  far : (c d : ℕ) (x y : Corner) → c < d → slice_get sorted c ≡ Some x → slice_get sorted d ≡ Some y
-      → is_lt (corner_cmp y x) ≡ false
-  far c d x y lt p q =
-      let within : d < length sorted = slice_get_within sorted d y q in
-      let h : is_lt (corner_cmp (get_or sorted d x) (get_or sorted c x)) ≡ false = sorted_far
-      (λ u v. is_lt (corner_cmp u v)) (ranks_by corner_cmp_total (λ u. u)) sorted up c d x (omega arith) within in
-      sym (ap (λ (u : Corner). is_lt (corner_cmp u x)) (get_or_from_slice_get sorted d y x q))
-      ∙ (sym (ap (λ (v : Corner). is_lt (corner_cmp (get_or sorted d x) v)) (get_or_from_slice_get sorted c x x p))
-      ∙ h)
-
   pub frames_from : AreFrames shapes (numbers_of sorted)
   frames_from = record {
     each = λ f passes. (
@@ -200,7 +177,8 @@ module _ (shapes : List Shape) (sorted : List Corner) (are : AreCorners shapes s
         ∙ ap (corner_of t) y.2 in
         let h : is_lt (corner_cmp (corner_of t g) (corner_of s f)) ≡ false =
         ap (λ (v : Corner). is_lt (corner_cmp v (corner_of s f))) (sym y_is)
-        ∙ (ap (λ (v : Corner). is_lt (corner_cmp y.0 v)) (sym x_is) ∙ far c d x.0 y.0 lt x.1 y.1) in
+        ∙ (ap (λ (v : Corner). is_lt (corner_cmp y.0 v)) (sym x_is)
+        ∙ far corner_cmp_total sorted up c d x.0 y.0 (omega arith) x.1 y.1) in
         before_from s.rect.y0 t.rect.y0 s.rect.x0 t.rect.x0 f g h
         (λ e. (let same : c ≡ d = are.once c d x.0 y.0 x.1 y.1 (x.2 ∙ (e ∙ sym y.2)) in omega arith)));
   }

@@ -1,5 +1,5 @@
 -- Each number below how many ports of a side there are names one of these ports.
-use Rattle.std.proofs.Common.{◌≡◌, ℕ, suc, ◌<◌, inl, inr, Bool, true, false, List, [], ◌∷◌, Some, refl, sym, ap, subst}
+use Rattle.std.proofs.Common.{◌≡◌, ℕ, suc, ◌<◌, inl, inr, Bool, true, false, List, [], ◌∷◌, Some, refl, sym, ap}
 use Rattle.std.proofs.Common.{◌∙◌}
 use Rattle.std.specs.Prelude.{slice_get, ◌==◌}
 use Rattle.std.specs.List.{list_any}
@@ -12,7 +12,7 @@ use Rattle.layout_rules.specs.Reports.{ReportsNone}
 use Rattle.layout_rules.proofs.PlaceLaws.{list_any-at}
 use Rattle.layout_rules.specs.Pins.{stands_in, is_entry, is_exit, entry_count, exit_count}
 use Rattle.layout_rules.specs.Labels.{letter_i, letter_o, marks, Marks, number_of_label}
-use Rattle.layout_rules.specs.CircuitRules.{LabelsBroken}
+use Rattle.layout_rules.specs.CircuitRules.{LabelsBroken, is_port}
 use Rattle.shape_extract.specs.Extraction.{IsNamed}
 use Rattle.shape_extract.proofs.Kept.{one_named}
 use Rattle.shape_extract.proofs.KeptPins.{input_named, output_named, entry_number, exit_number, label_of_port}
@@ -75,58 +75,45 @@ module _ (flat : Flat) (kept : ReportsNone (LabelsBroken flat)) where
         sym first.number_is,
       )
 
-  is_marked : (p : ℕ) (pin : Shape) → slice_get flat.shapes p ≡ Some pin → is_entry flat.shapes pin ≡ true
+  is_marked : (p : ℕ) (pin : Shape) → slice_get flat.shapes p ≡ Some pin → is_port flat.shapes pin ≡ true
       → list_any (λ label. marks label pin) flat.labels ≡ true
-  is_marked p pin is entry =
-      let label = label_of_port flat kept p pin is
-      (or_left (is_entry flat.shapes pin) (is_exit flat.shapes pin) entry) in
-      list_any-at (λ label. marks label pin) flat.labels label.0 label.1.label label.1.label_is
-      (ap (marks label.1.label) (sym label.2) ∙ label.1.marks_so)
-
-  is_marked_exit : (p : ℕ) (pin : Shape) → slice_get flat.shapes p ≡ Some pin → is_exit flat.shapes pin ≡ true
-      → list_any (λ label. marks label pin) flat.labels ≡ true
-  is_marked_exit p pin is exit =
-      let label = label_of_port flat kept p pin is
-      (or_right (is_entry flat.shapes pin) (is_exit flat.shapes pin) exit) in
+  is_marked p pin is port =
+      let label = label_of_port flat kept p pin is port in
       list_any-at (λ label. marks label pin) flat.labels label.0 label.1.label label.1.label_is
       (ap (marks label.1.label) (sym label.2) ∙ label.1.marks_so)
 
   entry_name : (p : ℕ) (pin : Shape) → slice_get flat.shapes p ≡ Some pin → is_entry flat.shapes pin ≡ true
       → IsNamed flat letter_i (first_number flat.labels pin) p
   entry_name p pin is entry =
-      let m = marked p pin is (is_marked p pin is entry) in
-      subst (λ (n : ℕ). IsNamed flat letter_i n p) m.3
-      (input_named flat kept m.0 p m.1 (ap (λ (s : Shape). s.layer) m.2
+      let m = marked p pin is (is_marked p pin is (or_left _ _ entry)) in
+      rw m.3 at (input_named flat kept m.0 p m.1 (ap (λ (s : Shape). s.layer) m.2
       ∙ eqb-true pin.layer INPUT_PIN (and_parts (pin.layer == INPUT_PIN) (stands_in flat.shapes 0 pin) entry).0))
 
   exit_name : (p : ℕ) (pin : Shape) → slice_get flat.shapes p ≡ Some pin → is_exit flat.shapes pin ≡ true
       → IsNamed flat letter_o (first_number flat.labels pin) p
   exit_name p pin is exit =
-      let m = marked p pin is (is_marked_exit p pin is exit) in
-      subst (λ (n : ℕ). IsNamed flat letter_o n p) m.3
-      (output_named flat kept m.0 p m.1 (ap (λ (s : Shape). s.layer) m.2
+      let m = marked p pin is (is_marked p pin is (or_right _ _ exit)) in
+      rw m.3 at (output_named flat kept m.0 p m.1 (ap (λ (s : Shape). s.layer) m.2
       ∙ eqb-true pin.layer OUTPUT_PIN (and_parts (pin.layer == OUTPUT_PIN) _ exit).0))
 
   pub named_entry : (n : ℕ) → n < entry_count flat.shapes → (p : ℕ) × IsNamed flat letter_i n p
   named_entry n lt =
       let has = taken (is_entry flat.shapes) (first_number flat.labels) flat.shapes n
       (λ i j x y p t q u e. one_named flat kept letter_i (first_number flat.labels y) i j
-      (subst (λ (m : ℕ). IsNamed flat letter_i m i) e (entry_name i x p t)) (entry_name j y q u))
+      (rw e at (entry_name i x p t)) (entry_name j y q u))
       (λ i x p t. entry_number flat kept (first_number flat.labels x) i (entry_name i x p t))
       lt in (
         has.place,
-        subst (λ (m : ℕ). IsNamed flat letter_i m has.place) has.number_is
-            (entry_name has.place has.item has.item_is has.passes_so),
+        rw has.number_is at (entry_name has.place has.item has.item_is has.passes_so),
       )
 
   pub named_exit : (n : ℕ) → n < exit_count flat.shapes → (p : ℕ) × IsNamed flat letter_o n p
   named_exit n lt =
       let has = taken (is_exit flat.shapes) (first_number flat.labels) flat.shapes n
       (λ i j x y p t q u e. one_named flat kept letter_o (first_number flat.labels y) i j
-      (subst (λ (m : ℕ). IsNamed flat letter_o m i) e (exit_name i x p t)) (exit_name j y q u))
+      (rw e at (exit_name i x p t)) (exit_name j y q u))
       (λ i x p t. exit_number flat kept (first_number flat.labels x) i (exit_name i x p t))
       lt in (
         has.place,
-        subst (λ (m : ℕ). IsNamed flat letter_o m has.place) has.number_is
-            (exit_name has.place has.item has.item_is has.passes_so),
+        rw has.number_is at (exit_name has.place has.item has.item_is has.passes_so),
       )

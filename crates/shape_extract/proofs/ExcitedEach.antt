@@ -71,9 +71,9 @@ module _ (shapes : List Shape) (before : List ℕ) (lines : AreLaidOut shapes) (
     pub excites_said : within frame.rect bar.rect ≡ true → (phase row : ℕ) → phase ≡ phase_of from bar
         → row_of shapes frame.rect.y0 ≡ row → SaysWhether (phase == row % 4) (Excites shapes b frame)
     excites_said inside phase row phase_is row_is = elim (cases_eq phase (row % 4)) [
-      | inl e ↦ subst (λ (x : Bool). SaysWhether x (Excites shapes b frame)) (sym (eq-eqb phase (row % 4) e))
+      | inl e ↦ rw (eq-eqb phase (row % 4) e)
           (excites_so inside (sym phase_is ∙ (e ∙ ap (λ (n : ℕ). n % 4) (sym row_is))))
-      | inr ne ↦ subst (λ (x : Bool). SaysWhether x (Excites shapes b frame)) (sym (ne_eqb phase (row % 4) ne))
+      | inr ne ↦ rw (ne_eqb phase (row % 4) ne)
           (λ excites. ne (phase_is ∙ (phase_from excites ∙ ap (λ (n : ℕ). n % 4) row_is)))
     ]
 
@@ -105,7 +105,7 @@ module _ (shapes : List Shape) (f : ℕ) (over : List ℕ) (are : AreThose (Pass
       let second : both.second ≡ s = same_Some both.second s (sym both.second_is ∙ at) in
       and_parts (is_line s) (overlap s.rect frame.rect)
       (subst (λ (x : Shape). lies_over frame x ≡ true) second
-      (subst (λ (x : Shape). lies_over x both.second ≡ true) first both.passes_so))
+      (rw first at both.passes_so))
 
   pub not_one_over : length over ≢ 1 → IsChainExcited shapes frame → ⊥
   not_one_over ne excited =
@@ -145,7 +145,7 @@ module _ (shapes : List Shape) (f : ℕ) (over : List ℕ) (are : AreThose (Pass
       let e : k.0 ≡ 0 = omega (arith, k.1.0) in
       let same : excited.bar ≡ b = sym k.1.1 ∙ (ap (slice_index over) e ∙ is) in
       let whole : Excites shapes excited.bar frame = record { phase = excited.phase; contains = excited.contains } in
-      not_so (subst (λ (x : ℕ). Excites shapes x frame) same whole)
+      not_so (rw same at whole)
       )
 
 -- ---- the answer for one shape

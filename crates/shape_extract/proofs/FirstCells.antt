@@ -1,7 +1,8 @@
 -- The circuit of the first chip is that of its two frames.
 use Rattle.std.proofs.Common.{◌≡◌, ◌≢◌, ℕ, zero, suc, ◌<◌, ◌≤◌, true, false, List, [], ◌∷◌, Some, refl, sym, ap, subst}
-use Rattle.std.proofs.Common.{◌∙◌, arith, eqb, eq-eqb}
-use Rattle.std.specs.Prelude.{slice_get, slice_index, pos}
+use Rattle.std.proofs.Common.{◌∙◌, arith, eq-eqb, Bool, inl, inr, ◌&&◌, ◌||◌}
+use Rattle.std.specs.Prelude.{slice_get, slice_index, pos, not, ◌==◌}
+use Rattle.std.proofs.lemmas.Bool.{or_cases, and_from, both_ways, eqb-true}
 use Rattle.std.proofs.lemmas.Option.{same_Some}
 use Rattle.circuit.specs.CellKinds.{inputs_of}
 use Rattle.circuit.specs.declared.cell_kind.CellKind.TheVariants.{Buffer}
@@ -27,7 +28,7 @@ use Rattle.shape_extract.specs.Frames.{comes_before, HasPlace, AreFrames}
 use Rattle.shape_extract.specs.Extraction.{IsNamed, IsDrivenBy, IsFeedAt, IsInPhase, IsCellFrom, IsOutputFrom}
 use Rattle.shape_extract.specs.Extraction.{IsCircuitOf}
 use Rattle.circuit_extracted.specs.FirstCircuit.{lower_buffer, upper_buffer, upper_output, first_nets, first_circuit}
-use Rattle.shape_extract.proofs.Each.{EachFrom, each_at}
+use Rattle.shape_extract.proofs.Each.{all_pass, passes_at}
 use Rattle.shape_extract.proofs.FirstNets.{first_nets_are}
 
 abbrev frames : List ℕ
@@ -41,48 +42,17 @@ upper_frame = drawn 20 1 (pos 0) (pos 14000) (pos 8000) (pos 24000)
 
 -- ---- the frames
 
-abbrev IsPlaced : ℕ → Shape → Type 0
-IsPlaced f s = is_frame s ≡ true → HasPlace frames f
-
-no_frame : {P : Type 0} → false ≡ true → P
-no_frame e = absurd cc
-
-each_placed : EachFrom IsPlaced 0 first_flat.shapes
+-- computed: the other shapes are no frames
+placed : all_pass (λ f s. not (is_frame s) || (f == 0 || f == 10)) 0 first_flat.shapes ≡ true
 unfolding first_flat
-each_placed = (
-  λ e. record { place = 0; there = refl },
-  (
-    no_frame,
-    (
-      no_frame,
-      (
-        no_frame,
-        (
-          no_frame,
-          (
-            no_frame,
-            (
-              no_frame,
-              (
-                no_frame,
-                (
-                  no_frame,
-                  (
-                    no_frame,
-                    (
-                      λ e. record { place = 1; there = refl },
-                      (no_frame, (no_frame, (no_frame, (no_frame, tt)))),
-                    ),
-                  ),
-                ),
-              ),
-            ),
-          ),
-        ),
-      ),
-    ),
-  ),
-)
+placed = refl
+
+place_of : (f : ℕ) (b : Bool) → b ≡ true → (not b || (f == 0 || f == 10)) ≡ true → HasPlace frames f
+place_of f true e h = elim (or_cases (f == 0) (f == 10) h) [
+  | inl first ↦ record { place = 0; there = ap Some (sym (eqb-true f 0 first)) }
+  | inr other ↦ record { place = 1; there = ap Some (sym (eqb-true f 10 other)) }
+]
+place_of f false e h = absurd cc
 
 only_frames : (c f : ℕ) → slice_get frames c ≡ Some f → Passes is_frame first_flat.shapes f
 unfolding first_flat
@@ -113,7 +83,8 @@ in_order (suc c) (suc (suc d)) f g s t lt at_c at_d at_f at_g = absurd cc
 
 frames_are : AreFrames first_flat.shapes frames
 frames_are = record {
-  each = λ f passes. each_at IsPlaced first_flat.shapes each_placed f passes.shape passes.shape_is passes.passes_so;
+  each = λ f passes. place_of f (is_frame passes.shape) passes.passes_so
+      (passes_at _ first_flat.shapes placed f passes.shape passes.shape_is);
   only = only_frames;
   in_order = in_order;
 }
@@ -198,59 +169,25 @@ lower_driver : IsSource first_flat.shapes 11 2
 unfolding first_flat
 lower_driver = record { pin = _; pin_is = refl; of_layer = refl; joined = first_nets_are.joined 11 (omega arith) }
 
-abbrev IsAlone : ℕ → Shape → Type 0
-IsAlone q s = s.layer ≡ OUTPUT_PIN → slice_index first_nets 11 ≡ slice_index first_nets q → q ≡ 2
+-- computed: the other shapes are no output pins or have another net
+abbrev may_drive : ℕ → Shape → Bool
+may_drive q s = not (s.layer == OUTPUT_PIN && slice_index first_nets 11 == slice_index first_nets q) || q == 2
 
-other_layer : {P Q : Type 0} (n : ℕ) → eqb n OUTPUT_PIN ≡ false → n ≡ OUTPUT_PIN → P → Q
-other_layer n ne e p = let k : eqb n OUTPUT_PIN ≡ true = eq-eqb n OUTPUT_PIN e in absurd cc
-
-each_alone : EachFrom IsAlone 0 first_flat.shapes
+alone : all_pass may_drive 0 first_flat.shapes ≡ true
 unfolding first_flat
-each_alone = (
-  other_layer 20 refl,
-  (
-    other_layer 21 refl,
-    (
-      λ e n. refl,
-      (
-        other_layer 14 refl,
-        (
-          other_layer 14 refl,
-          (
-            other_layer 10 refl,
-            (
-              other_layer 10 refl,
-              (
-                other_layer 12 refl,
-                (
-                  other_layer 11 refl,
-                  (
-                    other_layer 11 refl,
-                    (
-                      other_layer 20 refl,
-                      (
-                        other_layer 21 refl,
-                        (
-                          λ e n. absurd (omega arith),
-                          (other_layer 15 refl, (other_layer 15 refl, tt)),
-                        ),
-                      ),
-                    ),
-                  ),
-                ),
-              ),
-            ),
-          ),
-        ),
-      ),
-    ),
-  ),
-)
+alone = refl
 
 one_driver : (q : ℕ) → IsSource first_flat.shapes 11 q → q ≡ 2
 unfolding first_flat
-one_driver q is = each_at IsAlone first_flat.shapes each_alone q is.pin is.pin_is is.of_layer
-    (one_number first_flat.shapes first_nets first_nets_are 11 q (omega arith) is.joined)
+one_driver q is =
+    let net = one_number first_flat.shapes first_nets first_nets_are 11 q (omega arith) is.joined in
+    let both = and_from (is.pin.layer == OUTPUT_PIN) (slice_index first_nets 11 == slice_index first_nets q)
+    (eq-eqb is.pin.layer OUTPUT_PIN is.of_layer)
+    (eq-eqb (slice_index first_nets 11) (slice_index first_nets q) net) in
+    elim (or_cases _ (q == 2) (passes_at may_drive first_flat.shapes alone q is.pin is.pin_is)) [
+      | inl other ↦ absurd (both_ways _ (ap not both) other)
+      | inr two ↦ eqb-true q 2 two
+    ]
 
 upper_driven : IsDrivenBy first_flat frames (record { cell = 0; output = 0 }) 11
 unfolding first_flat

@@ -1,5 +1,5 @@
 -- The five rules of circuits in turn: the first broken one, or all kept.
-use Rattle.std.proofs.Common.{◌≡◌, ℕ, ◌<◌, List, Option, Some, None, refl, sym, subst, arith}
+use Rattle.std.proofs.Common.{◌≡◌, ℕ, ◌<◌, List, Option, Some, None, refl, arith}
 use Rattle.geom.specs.declared.shapes.Flat.{Flat}
 use Rattle.layout_rules.specs.declared.rule.Rule.{Rule}
 use Rattle.layout_rules.specs.declared.rule.Rule.TheVariants.{E1, E2, E3, E4, E5, E6, G1, G2, G3, G4, G5}
@@ -52,10 +52,10 @@ pub breaks : (flat : Flat) (rule : Rule) (found : Option Report) (r : Report) (b
     → ((limits : Limits) → Finds (Broken rule flat limits) found) → found ≡ Some r → b ≡ told rule r
     → ((limits : Limits) → KeepsBelow (place rule) flat limits) → BreaksCircuit flat b.rule b.first b.second
 breaks flat rule found r b h finds e is before =
-    subst (λ (x : BrokenRule). BreaksCircuit flat x.rule x.first x.second) (sym is) (record {
+    rw is (record {
       of_circuit = h;
       first = λ limits. record {
-        report = subst (λ (o : Option Report). Finds (Broken rule flat limits) o) e (finds limits);
+        report = rw e at (finds limits);
         kept_before = before limits;
       };
     })

@@ -1,6 +1,6 @@
 -- Where frames lie along their lines, by the bars over them and by the ways to these.
 use Rattle.std.proofs.Common.{◌≡◌, ℕ, suc, ◌+◌, ◌<◌, inl, inr, true, List, ◌∷◌, [], ◌++◌, length}
-use Rattle.std.proofs.Common.{Option, Some, None}
+use Rattle.std.proofs.Common.{Some, None}
 use Rattle.std.proofs.Common.{sym, ap, subst, ◌∙◌, arith, length-append}
 use Rattle.std.specs.Prelude.{slice_get, slice_index}
 use Rattle.std.proofs.lemmas.Bool.{cases_lt, and_parts, and_from}
@@ -178,8 +178,7 @@ spans_all n shapes frames spans order are all = record {
   are_frames = order;
   placed = λ c f frame at got. elim (slice_get_cases spans c).1 [
     | inl there ↦
-        subst (λ (o : Option Span). IsPlaced shapes frame (near_of o) (far_of o)) (sym there.2)
-        (are.each c f frame there.0 there.2 at got)
+        rw there.2 (are.each c f frame there.0 there.2 at got)
     | inr past ↦ absurd (let lt : c < length frames = slice_get_within frames c f at in omega (arith, past.0, are.long))
   ];
   no_more = λ c le. (

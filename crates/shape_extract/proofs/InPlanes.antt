@@ -112,7 +112,7 @@ module _ (plane : Plane) (shapes : List Shape) (filed : FiledPlane) (is : IsPlan
         shape = p.item;
         shape_is = p.item_is;
         in_it = p.passes_so;
-        close = subst (λ (r : Rectangle). IsClose rect r margin) same at.close;
+        close = rw same at at.close;
       } in
       subst (IsNearIn plane shapes rect margin) (sym (named.each k lk (place_within k lk))) near_so
 
@@ -178,7 +178,7 @@ pub over_line : (frame part : Shape) → lies_over frame part ≡ true → in_pl
 over_line frame part h = (and_parts (is_line part) (overlap part.rect frame.rect) h).0
 
 line_of : (a b : ℕ) → a ≡ b → (a == EVEN_LINE || a == ODD_LINE) ≡ true → (b == EVEN_LINE || b == ODD_LINE) ≡ true
-line_of a b e h = subst (λ (n : ℕ). (n == EVEN_LINE || n == ODD_LINE) ≡ true) e h
+line_of a b e h = rw e at h
 
 pub met_line : (a b : Shape) → meet a b ≡ true → in_plane Lines b ≡ true
 met_line a b h =
@@ -219,26 +219,7 @@ marked_in_plane shapes label here near found at are filtered =
 conducting : (l v u lb vb ub : Bool)
     → ((((l && lb) || (u && ub)) || (v && (lb || ub))) || (vb && (l || u))) ≡ true
     → ((((l || v) && lb) || ((l || u) && vb)) || ((u || v) && ub)) ≡ true
-conducting true v u true vb ub h = refl
-conducting true v u false true ub h = refl
-conducting true v true false false true h = refl
-conducting true true false false false true h = refl
-conducting true false false false false ub h = h
-conducting true true true false false false h = h
-conducting true false true false false false h = h
-conducting true true false false false false h = h
-conducting false true u true vb ub h = refl
-conducting false true true false true ub h = refl
-conducting false true true false false true h = refl
-conducting false true true false false false h = h
-conducting false true false false vb true h = refl
-conducting false true false false true false h = h
-conducting false true false false false false h = h
-conducting false false true lb true ub h = refl
-conducting false false true lb false true h = refl
-conducting false false true lb false false h = h
-conducting false false false lb true ub h = h
-conducting false false false lb false ub h = h
+conducting l v u lb vb ub h = grind arith
 
 -- the numbers of the three lists are those of the shapes that touch
 module _ (shapes : List Shape) (from : ℕ) (first : Shape) (is : slice_get shapes from ≡ Some first)

@@ -1,6 +1,6 @@
 -- What the rules of cells, excitation lines and labels say where nothing breaks them.
-use Rattle.std.proofs.Common.{◌≡◌, ℕ, ◌+◌, ◌<◌, ◌⊎◌, inl, inr, Bool, true, false, ◌&&◌, List, length, Some, refl, sym}
-use Rattle.std.proofs.Common.{ap, subst, ◌∙◌, arith}
+use Rattle.std.proofs.Common.{◌≡◌, ℕ, ◌+◌, ◌<◌, ◌⊎◌, inl, inr, Bool, true, false, ◌&&◌, List, length, refl, sym}
+use Rattle.std.proofs.Common.{ap, ◌∙◌, arith}
 use Rattle.std.specs.Prelude.{slice_get, slice_index, count_by, ◌==◌}
 use Rattle.std.proofs.lemmas.Bool.{cases_lt, and_parts, and_from, eqb-true}
 use Rattle.std.proofs.lemmas.Bool.Decides.{nat_tests}
@@ -89,25 +89,28 @@ module _ (flat : Flat) (kept : ReportsNone (LabelsBroken flat)) where
       count_by-one (marks m.label) flat.shapes p q m.pin n.pin count m.pin_is m.marks_so n.pin_is
       (ap (λ (x : Label). marks x n.pin) same ∙ n.marks_so)
 
+  -- which is a port
+  pub port_marked : (l p : ℕ) (m : Marks flat l p) → is_port flat.shapes m.pin ≡ true
+  port_marked l p m =
+      let port = list_any-place (λ pin. marks m.label pin && is_port flat.shapes pin) flat.shapes
+      (and_parts _ _ (port_label l p m)).1 in
+      let both = and_parts (marks m.label port.item) (is_port flat.shapes port.item) port.passes_so in
+      let here : port.place ≡ p = one_pin l port.place p
+      (record { label = m.label; pin = port.item; label_is = m.label_is; pin_is = port.item_is; marks_so = both.0 })
+      m in
+      let same : port.item ≡ m.pin = same_Some port.item m.pin (sym port.item_is
+      ∙ (ap (slice_get flat.shapes) here ∙ m.pin_is)) in
+      ap (is_port flat.shapes) (sym same) ∙ both.1
+
   -- and a pin has one label
   pub one_label : (k l p : ℕ) → Marks flat k p → Marks flat l p → k ≡ l
   one_label k l p m n =
       let same : m.pin ≡ n.pin = same_Some m.pin n.pin (sym m.pin_is ∙ n.pin_is) in
-      let port = list_any-place (λ pin. marks m.label pin && is_port flat.shapes pin) flat.shapes
-      (and_parts _ _ (port_label k p m)).1 in
-      let both = and_parts (marks m.label port.item) (is_port flat.shapes port.item) port.passes_so in
-      let here : port.place ≡ p = one_pin k port.place p
-      (record { label = m.label; pin = port.item; label_is = m.label_is; pin_is = port.item_is; marks_so = both.0 })
-      m in
-      let there : slice_get flat.shapes p ≡ Some port.item =
-      subst (λ (i : ℕ). slice_get flat.shapes i ≡ Some port.item) here port.item_is in
-      let pin_is : port.item ≡ m.pin = same_Some port.item m.pin (sym there ∙ m.pin_is) in
-      let count : count_by (λ label. marks label port.item) flat.labels ≡ 1 =
+      let count : count_by (λ label. marks label m.pin) flat.labels ≡ 1 =
       settled _ 1 (λ ne. alone_kept (IsUnlabelledPort flat) (first_kept _ _ later_kept) p
-      (record { port = record { shape = port.item; shape_is = there; passes_so = both.1 }; not_one = ne })) in
-      count_by-one (λ label. marks label port.item) flat.labels k l m.label n.label count m.label_is
-      (ap (λ (x : Shape). marks m.label x) pin_is ∙ m.marks_so) n.label_is
-      (ap (λ (x : Shape). marks n.label x) (pin_is ∙ same) ∙ n.marks_so)
+      (record { port = record { shape = m.pin; shape_is = m.pin_is; passes_so = port_marked k p m }; not_one = ne })) in
+      count_by-one (λ label. marks label m.pin) flat.labels k l m.label n.label count m.label_is m.marks_so n.label_is
+      (ap (λ (x : Shape). marks n.label x) same ∙ n.marks_so)
 
   not_earlier : (letter i p q : ℕ) → (m : IsNamed flat letter i p) (n : IsNamed flat letter i q) → m.place < n.place → ⊥
   not_earlier letter i p q m n lt =
@@ -138,7 +141,7 @@ module _ (flat : Flat) (kept : ReportsNone (LabelsBroken flat)) where
         | inl lt ↦ not_earlier letter i p q m n lt
         | inr ge ↦ not_earlier letter i q p n m (omega arith)
       ]) in
-      one_pin n.place p q (subst (λ (l : ℕ). Marks flat l p) same m.mark) n.mark
+      one_pin n.place p q (rw same at m.mark) n.mark
 
   -- and a pin has one number
   pub one_number_of : (letter i j p : ℕ) → IsNamed flat letter i p → IsNamed flat letter j p → i ≡ j

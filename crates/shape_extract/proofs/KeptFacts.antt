@@ -1,15 +1,16 @@
 -- The circuit of a layout that keeps the rules of circuits keeps the facts of extracted circuits.
 use Rattle.std.proofs.Common.{◌≡◌, ◌≢◌, ℕ, zero, suc, ◌+◌, ◌-◌, ◌%◌, ◌^◌, ◌<◌, ◌≤◌, inl, inr, true, ◌&&◌, List, [], ◌∷◌}
 use Rattle.std.proofs.Common.{length, get_or, Some, ℤ, refl, sym, ap, subst, ◌∙◌, arith, eq-eqb}
-use Rattle.std.specs.Prelude.{slice_get, count_by, ◌==◌, int_lt}
+use Rattle.std.specs.Prelude.{slice_get, count_by, ◌==◌, ◌||◌, int_lt, nat_lt}
 use Rattle.std.specs.Ordering.{int_eq}
 use Rattle.std.specs.List.{AllZip}
 use Rattle.std.specs.List.Sorted.{IsNonDecreasingBy}
-use Rattle.std.proofs.lemmas.Bool.{cases_eq, cases_lt, and_parts, and_from, or_cases, or_left, or_right}
+use Rattle.std.proofs.lemmas.Bool.{cases_eq, cases_lt, and_parts, and_from, or_left, or_right}
+use Rattle.std.proofs.lemmas.Bool.Decides.{nat_tests}
+use Rattle.std.proofs.lemmas.Int.{ints}
 use Rattle.std.proofs.lemmas.List.Sums.{count_by-le-length}
 use Rattle.std.proofs.lemmas.Option.{same_Some, slice_get_within, slice_get-get_or}
-use Rattle.circuit.specs.declared.cell_kind.CellKind.{CellKind}
-use Rattle.circuit.specs.CellKinds.{inputs_of, outputs_of}
+use Rattle.circuit.specs.CellKinds.{inputs_of}
 use Rattle.rowed.specs.declared.source.Source.{Source}
 use Rattle.geom.specs.declared.shapes.Shape.{Shape}
 use Rattle.geom.specs.declared.shapes.Flat.{Flat}
@@ -30,7 +31,6 @@ use Rattle.circuit_extracted.specs.declared.cells.Feed.TheVariants.{Nothing, Pin
 use Rattle.circuit_extracted.specs.declared.cells.ExCell.{ExCell}
 use Rattle.circuit_extracted.specs.Circuits.{CircuitView, IsCellAt, feed_at, IsFed, IsOutputBelow, IsFeedOf, IsCellOf}
 use Rattle.circuit_extracted.specs.Circuits.{HasCell, IsTaken, IsShown, KeepsFacts}
-use Rattle.shape_extract.specs.Frames.{comes_before}
 use Rattle.shape_extract.specs.Extraction.{IsNamed, IsOutputPin, IsDrivenBy, FeedsPin, IsFeedAt, IsCellFrom}
 use Rattle.shape_extract.specs.Extraction.{IsCircuitOf}
 use Rattle.shape_extract.specs.Extracts.{KeepsFive}
@@ -170,17 +170,9 @@ module _ (flat : Flat) (five : KeepsFive flat) (edges : List ℤ) (rows : AreRow
   ]
 
   -- a frame that comes before another is not above it
-  not_above : (s t : Shape) (f g : ℕ) → comes_before s f t g ≡ true → int_lt t.rect.y0 s.rect.y0 ≡ true → ⊥
-  not_above s t f g before above = elim (or_cases _ _ before) [
-    | inl lt ↦ both_less s.rect.y0 t.rect.y0 lt above
-    | inr rest ↦ less_equal t.rect.y0 s.rect.y0 above (and_parts _ _ rest).0
-  ]
-    where
-      both_less : (x y : ℤ) → int_lt x y ≡ true → int_lt y x ≡ true → ⊥
-      both_less x y a b = grind arith
-
-      less_equal : (x y : ℤ) → int_lt x y ≡ true → int_eq y x ≡ true → ⊥
-      less_equal x y a b = grind arith
+  not_above : (a b x y : ℤ) (f g : ℕ)
+      → (int_lt a b || (int_eq a b && (int_lt x y || (int_eq x y && nat_lt f g)))) ≡ true → int_lt b a ≡ true → ⊥
+  not_above a b x y f g before above = grind (arith, ints, nat_tests)
 
   rising_at : (c d : ℕ) (a : CellAt c) (b : CellAt d) → c < d → a.cell.row ≤ b.cell.row
   rising_at c d a b lt =
@@ -191,7 +183,8 @@ module _ (flat : Flat) (five : KeepsFive flat) (edges : List ℤ) (rows : AreRow
       let before = is.are_frames.in_order c d a.f b.f a.from.frame b.from.frame lt a.f_is b.f_is
       a.from.frame_is b.from.frame_is in
       elim (cases_lt y.0 x.0) [
-        | inl above ↦ absurd (not_above a.from.frame b.from.frame a.f b.f before
+        | inl above ↦ absurd (not_above a.from.frame.rect.y0 b.from.frame.rect.y0 a.from.frame.rect.x0
+            b.from.frame.rect.x0 a.f b.f before
             (rows.rising y.0 x.0 b.from.frame.rect.y0 a.from.frame.rect.y0 y.1.there x.1.there above))
         | inr fine ↦ omega arith
       ]
@@ -265,7 +258,7 @@ module _ (flat : Flat) (five : KeepsFive flat) (edges : List ℤ) (rows : AreRow
   output_in source p row output below =
       let here = with_frame source.cell output.frame output.frame_is in
       let pin : IsPinOf flat.shapes here.0.f OUTPUT_PIN source.output p =
-      subst (λ (f : ℕ). IsPinOf flat.shapes f OUTPUT_PIN source.output p) (sym here.1) output.pin in
+      rw here.1 output.pin in
       record {
         cell = here.0.cell;
         cell_is = here.0.cell_is;
@@ -278,7 +271,7 @@ module _ (flat : Flat) (five : KeepsFive flat) (edges : List ℤ) (rows : AreRow
       → IsDrivenBy flat is.frames source p → IsOutputBelow circuit at.cell.row source
   driven_below c i at source p pin driven = output_in source driven.driver at.cell.row driven.output (λ lower e.
       let out : IsPinOf flat.shapes lower.f OUTPUT_PIN source.output driven.driver =
-      subst (λ (f : ℕ). IsPinOf flat.shapes f OUTPUT_PIN source.output driven.driver) (sym e) driven.output.pin in
+      rw e driven.output.pin in
       let upper_row : row_of flat.shapes pin.frame.rect.y0 ≡ at.cell.row =
       ap (λ (s : Shape). row_of flat.shapes s.rect.y0) (frame_same c at INPUT_PIN i p pin) ∙ sym at.from.row_is in
       let lower_row : row_of flat.shapes out.frame.rect.y0 ≡ lower.cell.row =
@@ -304,11 +297,10 @@ module _ (flat : Flat) (five : KeepsFive flat) (edges : List ℤ) (rows : AreRow
       let same : fed.feeds.mark.pin ≡ fed.pin.pin = same_Some fed.feeds.mark.pin fed.pin.pin
       (sym fed.feeds.mark.pin_is ∙ fed.pin.pin_is) in
       let stands : stands_in flat.shapes 0 fed.pin.pin ≡ true =
-      subst (λ (s : Shape). stands_in flat.shapes 0 s ≡ true) same
+      rw same at
       (and_parts (fed.feeds.mark.pin.layer == INPUT_PIN) (stands_in flat.shapes 0 fed.feeds.mark.pin) entry).1 in (
         row_in c at INPUT_PIN i fed.number 0 fed.pin stands,
-        subst (λ (m : ℕ). n < m) (sym is.inputs)
-            (entry_number flat five.labels n fed.number fed.feeds),
+        rw is.inputs (entry_number flat five.labels n fed.number fed.feeds),
       )
 
   no_feed : (c i : ℕ) (at : CellAt c) (feed : Feed) → feed ≡ Nothing → IsFeedAt flat is.frames at.f i feed → ⊥
@@ -362,15 +354,15 @@ module _ (flat : Flat) (five : KeepsFive flat) (edges : List ℤ) (rows : AreRow
       (sym second.frame_is ∙ first.frame_is) in
       one_output flat five.cells here.0.f here.0.from.frame here.0.cell.kind here.0.from.frame_is here.0.frame_so
       here.0.from.kind_is source.output p q
-      (subst (λ (f : ℕ). IsPinOf flat.shapes f OUTPUT_PIN source.output p) (sym here.1) first.pin)
-      (subst (λ (f : ℕ). IsPinOf flat.shapes f OUTPUT_PIN source.output q) (same ∙ sym here.1) second.pin)
+      (rw here.1 first.pin)
+      (rw (same ∙ sym here.1) at second.pin)
 
   one_sink : (source : Source) (p q : ℕ) → IsDrivenBy flat is.frames source p
       → IsDrivenBy flat is.frames source q → p ≡ q
   one_sink source p q first second =
       let driver : second.driver ≡ first.driver =
       one_driver source second.driver first.driver second.output first.output in
-      let back : Joined flat.shapes first.driver q = subst (λ (d : ℕ). Joined flat.shapes d q) driver
+      let back : Joined flat.shapes first.driver q = rw driver at
       (Joined-back flat.shapes q second.driver second.driver_is.joined) in
       settled p q (λ ne. five.nets p q (inl (record {
         pin = record {
@@ -399,7 +391,7 @@ module _ (flat : Flat) (five : KeepsFive flat) (edges : List ℤ) (rows : AreRow
       let b = fed_at d j feed some second in
       let pins : b.fed.number ≡ a.fed.number = one_pin_fed feed b.fed.number a.fed.number b.fed.feeds a.fed.feeds in
       let pin : IsPinOf flat.shapes b.at.f INPUT_PIN j a.fed.number =
-      subst (λ (p : ℕ). IsPinOf flat.shapes b.at.f INPUT_PIN j p) pins b.fed.pin in
+      rw pins at b.fed.pin in
       let frames : a.at.f ≡ b.at.f =
       one_frame flat five.cells a.at.f b.at.f INPUT_PIN INPUT_PIN i j a.fed.number a.fed.pin pin in
       let shape : a.fed.pin.pin ≡ pin.pin = same_Some a.fed.pin.pin pin.pin (sym a.fed.pin.pin_is ∙ pin.pin_is) in (
@@ -420,7 +412,7 @@ module _ (flat : Flat) (five : KeepsFive flat) (edges : List ℤ) (rows : AreRow
 
   each_input : (n : ℕ) → n < circuit.inputs → IsTaken circuit n
   each_input n lt =
-      let entry = named_entry flat five.labels n (subst (λ (m : ℕ). n < m) is.inputs lt) in
+      let entry = named_entry flat five.labels n (rw is.inputs at lt) in
       let named = entry.1 in
       let stands = (and_parts (named.mark.pin.layer == INPUT_PIN) (stands_in flat.shapes 0 named.mark.pin)
       (entry_named flat five.labels n entry.0 named)).1 in
@@ -456,7 +448,7 @@ module _ (flat : Flat) (five : KeepsFive flat) (edges : List ℤ) (rows : AreRow
           cell_is = here.0.cell_is;
           feed_is = word_is entry.0 n
               (feed_at here.0.cell found.1.pin.datatype) named
-              (subst (λ (p : ℕ). FeedsPin flat is.frames p (feed_at here.0.cell found.1.pin.datatype)) one fed.feeds);
+              (rw one at fed.feeds);
         };
       }
 
@@ -471,13 +463,12 @@ module _ (flat : Flat) (five : KeepsFive flat) (edges : List ℤ) (rows : AreRow
       let out = is.outputs k source at in
       output_in source out.number circuit.rows out.output (λ cell e.
       let pin : IsPinOf flat.shapes cell.f OUTPUT_PIN source.output out.number =
-      subst (λ (f : ℕ). IsPinOf flat.shapes f OUTPUT_PIN source.output out.number) (sym e) out.output.pin in
+      rw e out.output.pin in
       let same : out.named.mark.pin ≡ pin.pin = same_Some out.named.mark.pin pin.pin
       (sym out.named.mark.pin_is ∙ pin.pin_is) in
       let exit = exit_named flat five.labels k out.number out.named in
       let stands : stands_in flat.shapes (row_count flat.shapes - 1) pin.pin ≡ true =
-      subst (λ (s : Shape). stands_in flat.shapes (row_count flat.shapes - 1) s ≡ true) same
-      (and_parts (out.named.mark.pin.layer == OUTPUT_PIN)
+      rw same at (and_parts (out.named.mark.pin.layer == OUTPUT_PIN)
       (stands_in flat.shapes (row_count flat.shapes - 1) out.named.mark.pin) exit).1 in
       let row : cell.cell.row ≡ row_count flat.shapes - 1 = row_in source.cell cell OUTPUT_PIN source.output out.number
       (row_count flat.shapes - 1) pin stands in
@@ -492,7 +483,7 @@ module _ (flat : Flat) (five : KeepsFive flat) (edges : List ℤ) (rows : AreRow
       let row : below.cell.row ≡ here.0.cell.row = ap (λ (x : ExCell). x.row) (sym here.1) in
       let p = some_output flat five.cells here.0.f here.0.from.frame here.0.cell.kind here.0.from.frame_is
       here.0.frame_so here.0.from.kind_is source.output
-      (subst (λ (k : CellKind). source.output < outputs_of k) kind below.has_output) in
+      (rw kind at below.has_output) in
       let just : below.cell.row + 1 ≡ circuit.rows = below.just_below in
       let count : circuit.rows ≡ row_count flat.shapes = rows_are in
       let last : row_of flat.shapes p.1.frame.rect.y0 ≡ row_count flat.shapes - 1 =
@@ -508,8 +499,7 @@ module _ (flat : Flat) (five : KeepsFive flat) (edges : List ℤ) (rows : AreRow
       let named : IsNamed flat letter_o (number_of_label label.1.label) p.0 =
       output_named flat five.labels label.0 p.0 label.1 (ap (λ (s : Shape). s.layer) label.2 ∙ p.1.of_layer) in
       let within : number_of_label label.1.label < length circuit.outputs =
-      subst (λ (m : ℕ). number_of_label label.1.label < m) (sym is.output_count)
-      (exit_number flat five.labels (number_of_label label.1.label) p.0 named) in
+      rw is.output_count (exit_number flat five.labels (number_of_label label.1.label) p.0 named) in
       let shown = item_at circuit.outputs (number_of_label label.1.label) within in
       let out = is.outputs (number_of_label label.1.label) shown.0 shown.1 in
       let pins : out.number ≡ p.0 = one_named flat five.labels letter_o
@@ -527,7 +517,7 @@ module _ (flat : Flat) (five : KeepsFive flat) (edges : List ℤ) (rows : AreRow
       let b = is.outputs l source q in
       let pins : b.number ≡ a.number = one_driver source b.number a.number b.output a.output in
       one_number_of flat five.labels letter_o k l a.number a.named
-      (subst (λ (n : ℕ). IsNamed flat letter_o l n) pins b.named)
+      (rw pins at b.named)
 
   -- ---- all facts
 

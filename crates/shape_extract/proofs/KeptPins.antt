@@ -1,13 +1,12 @@
 -- What the rules of cells and labels say of pins where nothing breaks them: which pins there are, and how they are
 -- named.
 use Rattle.std.proofs.Common.{◌≡◌, ℕ, ◌+◌, ◌^◌, ◌<◌, ◌≤◌, inl, inr, Bool, true, false, ◌&&◌, ◌||◌, List, [], ◌∷◌}
-use Rattle.std.proofs.Common.{length, Some, refl, sym, ap, subst, ◌∙◌, arith, eq-eqb}
+use Rattle.std.proofs.Common.{length, Some, refl, sym, ap, ◌∙◌, arith, eq-eqb}
 use Rattle.std.specs.Prelude.{slice_get, slice_index, count_by, ◌==◌, if◌then◌else◌}
 use Rattle.std.specs.List.{list_any}
 use Rattle.std.proofs.lemmas.Bool.{cases_lt, and_parts, and_from, or_cases, or_left, or_right, both_ways, ne_eqb}
 use Rattle.std.proofs.lemmas.Bool.{eqb-true}
 use Rattle.std.proofs.lemmas.List.Sums.{count_by-le-length}
-use Rattle.std.proofs.lemmas.Option.{same_Some}
 use Rattle.circuit.specs.declared.cell_kind.CellKind.{CellKind}
 use Rattle.circuit.specs.CellKinds.{number_of, inputs_of, outputs_of}
 use Rattle.geom.specs.declared.shapes.Shape.{Shape}
@@ -24,16 +23,13 @@ use Rattle.layout_rules.specs.Labels.{number_of_label}
 use Rattle.layout_rules.specs.CircuitRules.{IsCell, CellsBroken, is_port, port_count, IsUnlabelledPort, IsMisnumbered}
 use Rattle.layout_rules.specs.CircuitRules.{LabelsBroken}
 use Rattle.layout_rules.proofs.ReportLaws.{first_kept, second_kept, alone_kept}
-use Rattle.layout_rules.proofs.Deciding.{settled}
+use Rattle.layout_rules.proofs.Deciding.{settled, affirmed, dec_below, dec_some}
+use Rattle.layout_rules.proofs.JudgedCells.{dec_pin_of, pin_within}
 use Rattle.shape_extract.specs.Extraction.{IsNamed}
-use Rattle.shape_extract.proofs.Kept.{no_fault, later_kept, port_label, label_at, one_pin}
+use Rattle.shape_extract.proofs.Kept.{no_fault, later_kept, port_label, label_at, port_marked}
 use Rattle.shape_extract.proofs.Marked.{one_kind}
 
 -- ---- the pins of a cell
-
--- a pin of this layer and number in the frame
-abbrev is_pin_of : Shape → ℕ → ℕ → Shape → Bool
-is_pin_of frame layer i pin = lies_in pin frame && pin.layer == layer && pin.datatype == i
 
 module _ (flat : Flat) (kept : ReportsNone (CellsBroken flat.shapes)) (f : ℕ) (frame : Shape) (kind : CellKind)
     (frame_is : slice_get flat.shapes f ≡ Some frame) (frame_so : is_frame frame ≡ true)
@@ -47,66 +43,31 @@ module _ (flat : Flat) (kept : ReportsNone (CellsBroken flat.shapes)) (f : ℕ) 
 
   -- a pin's number is one of the kind's
   pub input_number : (i p : ℕ) → IsPinOf flat.shapes f INPUT_PIN i p → i < inputs_of kind
-  input_number i p is = elim (cases_lt i (inputs_of kind)) [
-    | inl lt ↦ lt
-    | inr ge ↦ absurd (is_not
-        (λ cell. (let lt : i < inputs_of cell.kind =
-        cell.inputs.no_other i p is in let e : inputs_of cell.kind ≡ inputs_of kind = ap inputs_of
-        (same_kind cell) in omega arith)))
-  ]
+  input_number i p is = affirmed (dec_below i (inputs_of kind)) (λ none. is_not (λ cell. none
+      (rw (same_kind cell) at (cell.inputs.no_other i p is))))
 
   pub output_number : (i p : ℕ) → IsPinOf flat.shapes f OUTPUT_PIN i p → i < outputs_of kind
-  output_number i p is = elim (cases_lt i (outputs_of kind)) [
-    | inl lt ↦ lt
-    | inr ge ↦ absurd (is_not
-        (λ cell. (let lt : i < outputs_of cell.kind =
-        cell.outputs.no_other i p is in let e : outputs_of cell.kind ≡ outputs_of kind = ap outputs_of
-        (same_kind cell) in omega arith)))
-  ]
+  output_number i p is = affirmed (dec_below i (outputs_of kind)) (λ none. is_not (λ cell. none
+      (rw (same_kind cell) at (cell.outputs.no_other i p is))))
 
   pub one_output : (i p q : ℕ) → IsPinOf flat.shapes f OUTPUT_PIN i p → IsPinOf flat.shapes f OUTPUT_PIN i q → p ≡ q
   one_output i p q a b = settled p q (λ ne. is_not (λ cell. ne (cell.outputs.one i p q a b)))
 
   some_pin : (layer i : ℕ) → ((((p : ℕ) × IsPinOf flat.shapes f layer i p) → ⊥) → ⊥) → (p : ℕ)
       × IsPinOf flat.shapes f layer i p
-  some_pin layer i not_none = by_test (list_any (is_pin_of frame layer i) flat.shapes) refl
-    where
-      by_test : (b : Bool) → list_any (is_pin_of frame layer i) flat.shapes ≡ b → (p : ℕ)
-          × IsPinOf flat.shapes f layer i p
-      by_test true e =
-          let at = list_any-place (is_pin_of frame layer i) flat.shapes e in
-          let all = and_parts (lies_in at.item frame && at.item.layer == layer) (at.item.datatype == i) at.passes_so in
-          let two = and_parts (lies_in at.item frame) (at.item.layer == layer) all.0 in (
-            at.place,
-            record {
-              pin = at.item;
-              frame = frame;
-              pin_is = at.item_is;
-              frame_is = frame_is;
-              lies_so = two.0;
-              of_layer = eqb-true at.item.layer layer two.1;
-              of_number = eqb-true at.item.datatype i all.1;
-            },
-          )
-      by_test false e = absurd (not_none (λ at.
-          let is = at.1 in
-          let same : is.frame ≡ frame = same_Some is.frame frame (sym is.frame_is ∙ frame_is) in
-          both_ways (list_any (is_pin_of frame layer i) flat.shapes) e
-          (list_any-at (is_pin_of frame layer i) flat.shapes at.0 is.pin is.pin_is
-          (and_from (lies_in is.pin frame && is.pin.layer == layer) (is.pin.datatype == i)
-          (and_from (lies_in is.pin frame) (is.pin.layer == layer) (ap (lies_in is.pin) (sym same) ∙ is.lies_so)
-          (eq-eqb is.pin.layer layer is.of_layer)) (eq-eqb is.pin.datatype i is.of_number)))))
+  some_pin layer i = affirmed (dec_some (IsPinOf flat.shapes f layer i) (length flat.shapes)
+      (dec_pin_of flat.shapes f layer i) (pin_within flat.shapes f layer i))
 
   -- and each number of the kind has its pin
   pub some_input : (i : ℕ) → i < inputs_of kind → (p : ℕ) × IsPinOf flat.shapes f INPUT_PIN i p
   some_input i lt = some_pin INPUT_PIN i
       (λ none. is_not (λ cell. none
-      (cell.inputs.each i (subst (λ (k : CellKind). i < inputs_of k) (sym (same_kind cell)) lt))))
+      (cell.inputs.each i (rw (same_kind cell) lt))))
 
   pub some_output : (i : ℕ) → i < outputs_of kind → (p : ℕ) × IsPinOf flat.shapes f OUTPUT_PIN i p
   some_output i lt = some_pin OUTPUT_PIN i
       (λ none. is_not (λ cell. none
-      (cell.outputs.each i (subst (λ (k : CellKind). i < outputs_of k) (sym (same_kind cell)) lt))))
+      (cell.outputs.each i (rw (same_kind cell) lt))))
 
 -- ---- labels and ports
 
@@ -118,30 +79,18 @@ module _ (flat : Flat) (kept : ReportsNone (LabelsBroken flat)) where
   numbered_so : (l p : ℕ) (m : Marks flat l p) → is_numbered m.label ≡ true
   numbered_so l p m = (and_parts _ _ (and_parts _ _ (port_label flat kept l p m)).0).0
 
-  -- what a label marks is a port
-  pub port_marked : (l p : ℕ) (m : Marks flat l p) → is_port flat.shapes m.pin ≡ true
-  port_marked l p m =
-      let port = list_any-place (λ pin. marks m.label pin && is_port flat.shapes pin) flat.shapes
-      (and_parts _ _ (port_label flat kept l p m)).1 in
-      let both = and_parts (marks m.label port.item) (is_port flat.shapes port.item) port.passes_so in
-      let here : port.place ≡ p = one_pin flat kept l port.place p
-      (record { label = m.label; pin = port.item; label_is = m.label_is; pin_is = port.item_is; marks_so = both.0 })
-      m in
-      let same : port.item ≡ m.pin = same_Some port.item m.pin
-      (sym (subst (λ (i : ℕ). slice_get flat.shapes i ≡ Some port.item) here port.item_is) ∙ m.pin_is) in
-      subst (λ (s : Shape). is_port flat.shapes s ≡ true) same both.1
-
   layer_marked : (l p : ℕ) (m : Marks flat l p) → m.pin.layer ≡ marked_layer m.label
   layer_marked l p m = eqb-true m.pin.layer (marked_layer m.label)
       (and_parts (m.label.layer == LABELS) _ (and_parts (m.label.layer == LABELS && _) _ m.marks_so).0).1
 
   is_pin_marked : (l p : ℕ) (m : Marks flat l p) → is_pin m.pin ≡ true
-  is_pin_marked l p m = elim (or_cases (is_entry flat.shapes m.pin) (is_exit flat.shapes m.pin) (port_marked l p m)) [
-    | inl entry ↦ or_left (m.pin.layer == INPUT_PIN) (m.pin.layer == OUTPUT_PIN)
-        (and_parts (m.pin.layer == INPUT_PIN) _ entry).0
-    | inr exit ↦ or_right (m.pin.layer == INPUT_PIN) (m.pin.layer == OUTPUT_PIN)
-        (and_parts (m.pin.layer == OUTPUT_PIN) _ exit).0
-  ]
+  is_pin_marked l p m = elim (or_cases (is_entry flat.shapes m.pin) (is_exit flat.shapes m.pin)
+      (port_marked flat kept l p m)) [
+        | inl entry ↦ or_left (m.pin.layer == INPUT_PIN) (m.pin.layer == OUTPUT_PIN)
+            (and_parts (m.pin.layer == INPUT_PIN) _ entry).0
+        | inr exit ↦ or_right (m.pin.layer == INPUT_PIN) (m.pin.layer == OUTPUT_PIN)
+            (and_parts (m.pin.layer == OUTPUT_PIN) _ exit).0
+      ]
 
   layer_by : (label : Label) (b : Bool) → (slice_index label.text 0 == letter_i) ≡ b
       → marked_layer label ≡ (if b then INPUT_PIN else OUTPUT_PIN)
@@ -228,7 +177,7 @@ module _ (flat : Flat) (kept : ReportsNone (LabelsBroken flat)) where
       let e : port_count flat.shapes named.mark.label ≡ entry_count flat.shapes =
       ap (λ (b : Bool). (if b then entry_count flat.shapes else exit_count flat.shapes))
       (eq-eqb (slice_index named.mark.label.text 0) letter_i (first_letter letter_i n p named)) in
-      subst (λ (m : ℕ). n < m) e (below_count letter_i n p named)
+      rw e at (below_count letter_i n p named)
 
   pub exit_number : (n p : ℕ) → IsNamed flat letter_o n p → n < exit_count flat.shapes
   exit_number n p named =
@@ -236,7 +185,7 @@ module _ (flat : Flat) (kept : ReportsNone (LabelsBroken flat)) where
       ap (λ (b : Bool). (if b then entry_count flat.shapes else exit_count flat.shapes))
       (ne_eqb (slice_index named.mark.label.text 0) letter_i
       (λ e. (let f : letter_o ≡ letter_i = sym (first_letter letter_o n p named) ∙ e in omega arith))) in
-      subst (λ (m : ℕ). n < m) e (below_count letter_o n p named)
+      rw e at (below_count letter_o n p named)
 
   -- so a label's number is small where the shapes are few
   pub label_bound : (l p : ℕ) (m : Marks flat l p) → length flat.shapes < 2 ^ 32 → number_of_label m.label < 2 ^ 32
@@ -254,7 +203,7 @@ module _ (flat : Flat) (kept : ReportsNone (LabelsBroken flat)) where
   -- a named input pin stands in the lowest row, and a named output pin in the last
   pub entry_named : (n p : ℕ) (named : IsNamed flat letter_i n p) → is_entry flat.shapes named.mark.pin ≡ true
   entry_named n p named = elim (or_cases (is_entry flat.shapes named.mark.pin) (is_exit flat.shapes named.mark.pin)
-      (port_marked named.place p named.mark)) [
+      (port_marked flat kept named.place p named.mark)) [
         | inl entry ↦ entry
         | inr exit ↦ absurd (let e : named.mark.pin.layer ≡ OUTPUT_PIN = eqb-true named.mark.pin.layer OUTPUT_PIN
             (and_parts (named.mark.pin.layer == OUTPUT_PIN) _ exit).0 in let f : named.mark.pin.layer ≡ INPUT_PIN =
@@ -263,7 +212,7 @@ module _ (flat : Flat) (kept : ReportsNone (LabelsBroken flat)) where
 
   pub exit_named : (n p : ℕ) (named : IsNamed flat letter_o n p) → is_exit flat.shapes named.mark.pin ≡ true
   exit_named n p named = elim (or_cases (is_entry flat.shapes named.mark.pin) (is_exit flat.shapes named.mark.pin)
-      (port_marked named.place p named.mark)) [
+      (port_marked flat kept named.place p named.mark)) [
         | inl entry ↦ absurd (let e : named.mark.pin.layer ≡ INPUT_PIN = eqb-true named.mark.pin.layer INPUT_PIN
             (and_parts (named.mark.pin.layer == INPUT_PIN) _ entry).0 in let f : named.mark.pin.layer ≡ OUTPUT_PIN =
             named_output n p named in omega arith)

@@ -1,14 +1,14 @@
 -- The nets of all shapes by those of their kinds: shapes of one kind are joined where some shape touches them.
 use Rattle.std.proofs.Common.{◌≡◌, ℕ, ◌<◌, ◌≤◌, Bool, true, false, cond, List, [], ◌∷◌, length, Some, refl, sym, ap}
-use Rattle.std.proofs.Common.{subst, ◌∙◌, arith, inl, inr}
+use Rattle.std.proofs.Common.{subst, ◌∙◌, arith}
 use Rattle.std.specs.Prelude.{slice_get, slice_index}
-use Rattle.std.proofs.lemmas.Bool.{cases_eq}
 use Rattle.std.proofs.lemmas.Option.{slice_get_within}
 use Rattle.geom.specs.declared.shapes.Shape.{Shape}
 use Rattle.layout_rules.specs.Touch.{Touching, IsPath, Joined}
 use Rattle.layout_rules.specs.Nets.{AreNets}
 use Rattle.layout_rules.proofs.NetLaws.{Touching-back, Touching-within, Joined-self, Joined-trans, Joined-touching}
 use Rattle.layout_rules.proofs.NetLaws.{Joined-within, one_number, AreNets-certified}
+use Rattle.shape_extract.proofs.Searching.{not_falling}
 use Rattle.shape_extract.specs.Searches.{SaysWhether}
 use Rattle.shape_extract.specs.Distinct.{AreAt, StandsFor, ArePlaces}
 use Rattle.shape_extract.specs.Code.Walk.{HasTouching, is_touched, AreTold, net_at}
@@ -76,10 +76,7 @@ module _ (all : List Shape) (numbers places : List ℕ) (some : List Shape) (at 
       (Touching-back there))
 
   not_below : (j k : ℕ) → j ≤ k → k < length numbers → slice_index numbers j ≤ slice_index numbers k
-  not_below j k le lt = elim (cases_eq j k) [
-    | inl e ↦ (let same : slice_index numbers j ≡ slice_index numbers k = ap (slice_index numbers) e in omega arith)
-    | inr ne ↦ omega (arith, are.rising j k (omega arith) lt)
-  ]
+  not_below = not_falling numbers are.rising
 
   -- ---- the nets
 
@@ -107,8 +104,7 @@ module _ (all : List Shape) (numbers places : List ℕ) (some : List Shape) (at 
     joined_so n lt true e =
         let p : ℕ = slice_index places n in
         let path : Joined some p (slice_index labels p) = nets.joined p (place_within n lt) in
-        let touching : HasTouching some p = subst (λ (b : Bool). SaysWhether b (HasTouching some p)) e
-        (told.each p (place_within n lt)) in
+        let touching : HasTouching some p = rw e at (told.each p (place_within n lt)) in
         subst (Joined all n) (sym (by_kind n e)) (Joined-trans all n (slice_index numbers p)
         (slice_index numbers (slice_index labels p)) (joined_stand_in n lt touching)
         (path_up path.0 p (slice_index labels p) path.1))

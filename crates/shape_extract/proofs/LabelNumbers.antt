@@ -189,7 +189,7 @@ module _ (flat : Flat) (entries exits : ℕ) (entries_is : entries ≡ entry_cou
     module _ (layer_so : label.layer ≡ LABELS) (new : List Bool) where
       -- an earlier label with its name has taken its place
       repeated_seen : IsRepeated flat n label → is_seen seen (name_place entries label) ≡ true
-      repeated_seen r = subst (λ (p : ℕ). is_seen seen p ≡ true) (one_place entries exits r.other label r.one_name)
+      repeated_seen r = rw (one_place entries exits r.other label r.one_name) at
           (are.each r.earlier r.other r.before r.other_is r.of_layer)
 
       pub seen_take : IsTaken entries exits label seen new → SeenBelow (n + 1) flat entries exits new
@@ -200,21 +200,19 @@ module _ (flat : Flat) (entries exits : ℕ) (entries_is : entries ≡ entry_cou
             elim fault.wrong [
               | inl high ↦
                   let h : port_count flat.shapes label ≤ number_of_label label =
-                  subst (λ (l : Label). port_count flat.shapes l ≤ number_of_label l) (sym here.1) high in
+                  rw here.1 high in
                   omega (arith, taken.fits, count_is label)
               | inr again ↦
-                  let r : IsRepeated flat n label = subst (λ (l : Label). IsRepeated flat n l) (sym here.1)
-                  (subst (λ (p : ℕ). IsRepeated flat p fault.at.label) here.0 again) in
+                  let r : IsRepeated flat n label = rw here.1 (rw here.0 at again) in
                   both_ways (is_seen seen (name_place entries label)) taken.free (repeated_seen r)
             ]
             )));
         fits = λ k other lt at layer. elim (cases_eq k n) [
-          | inl e ↦ subst (λ (l : Label). number_of_label l < name_count entries exits l)
-              (same_Some label other (sym got ∙ (ap (slice_get flat.labels) (sym e) ∙ at))) taken.fits
+          | inl e ↦ rw (same_Some label other (sym got ∙ (ap (slice_get flat.labels) (sym e) ∙ at))) at taken.fits
           | inr less ↦ are.fits k other (omega arith) at layer
         ];
         each = λ k other lt at layer. elim (cases_eq (name_place entries other) (name_place entries label)) [
-          | inl e ↦ subst (λ (p : ℕ). is_seen new p ≡ true) (sym e) here_seen
+          | inl e ↦ rw e here_seen
           | inr ne ↦ elim (cases_eq k n) [
             | inl same ↦ absurd (ne (ap (name_place entries)
                 (sym (same_Some label other (sym got ∙ (ap (slice_get flat.labels) (sym same) ∙ at))))))

@@ -71,7 +71,7 @@ module _ (shapes : List Shape) (order : List Sided) (in_order : AreInOrder shape
     least = λ q s lt at. elim (cases_eq q place) [
       | inl e ↦
           let same : t ≡ s = same_Some t s (sym is ∙ (ap (slice_get order) (sym e) ∙ at)) in
-          subst (λ (x : Sided). IsLeastHead shapes new x.number) same here
+          rw same at here
       | inr ne ↦ elim (cases_eq s.number t.number) [
         | inl e ↦ subst (IsLeastHead shapes new) (sym e) here
         | inr other ↦ others s.number other (to.least q s (omega arith) at)

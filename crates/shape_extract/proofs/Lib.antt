@@ -49,6 +49,7 @@ mod PinFrameLists
 mod FramesExist
 mod CircuitExists
 pub mod SameShapes
+mod Moved
 mod SidedOrder
 mod LeastHeads
 mod StandIns

@@ -15,18 +15,16 @@ use Rattle.shape_extract.specs.Searches.{AreThose}
 kept_place : (test : ℕ → Bool) (xs : List ℕ) (k : ℕ) → k < length xs → test (slice_index xs k) ≡ true → (p : ℕ)
     × ((p < length (filter test xs)) × (slice_index (filter test xs) p ≡ slice_index xs k))
 kept_place test [] k lt e = absurd (omega arith)
-kept_place test (x ∷ xs) zero lt e = subst (λ (ys : List ℕ). (p : ℕ) × ((p < length ys) × (slice_index ys p ≡ x)))
-    (sym (ap (λ (b : Bool). cond b (x ∷ filter test xs) (filter test xs)) e)) (0, (omega arith, refl))
+kept_place test (x ∷ xs) zero lt e =
+    rw (ap (λ (b : Bool). cond b (x ∷ filter test xs) (filter test xs)) e) (0, (omega arith, refl))
 kept_place test (x ∷ xs) (suc k) lt e = by_test (test x) refl (kept_place test xs k (omega arith) e)
   where
     by_test : (b : Bool) → test x ≡ b → (p : ℕ)
         × ((p < length (filter test xs)) × (slice_index (filter test xs) p ≡ slice_index xs k)) → (p : ℕ)
         × ((p < length (filter test (x ∷ xs))) × (slice_index (filter test (x ∷ xs)) p ≡ slice_index xs k))
-    by_test true h rest = subst (λ (ys : List ℕ). (p : ℕ) × ((p < length ys) × (slice_index ys p ≡ slice_index xs k)))
-        (sym (ap (λ (b : Bool). cond b (x ∷ filter test xs) (filter test xs)) h))
+    by_test true h rest = rw (ap (λ (b : Bool). cond b (x ∷ filter test xs) (filter test xs)) h)
         (suc rest.0, (omega (arith, rest.1.0), rest.1.1))
-    by_test false h rest = subst (λ (ys : List ℕ). (p : ℕ) × ((p < length ys) × (slice_index ys p ≡ slice_index xs k)))
-        (sym (ap (λ (b : Bool). cond b (x ∷ filter test xs) (filter test xs)) h)) rest
+    by_test false h rest = rw (ap (λ (b : Bool). cond b (x ∷ filter test xs) (filter test xs)) h) rest
 
 other_test : (n a : ℕ) → not (n == a) ≡ true → n ≢ a
 other_test n a h = grind (arith, nat_tests)
@@ -58,7 +56,7 @@ those_without holds numbers a are =
       complete = λ n h. (
           let k = are.complete n h.0 in
           let p = kept_place (λ n. not (n == a)) numbers k.0 k.1.0
-          (test_other _ _ (subst (λ (x : ℕ). x ≢ a) (sym k.1.1) h.1)) in
+          (test_other _ _ (rw k.1.1 h.1)) in
           (p.0, (p.1.0, p.1.1 ∙ k.1.1))
           );
       rising = λ p q lt lq. up p q 0 lt lq;

@@ -1,6 +1,6 @@
 -- Shapes that the walk along lines reached.
 use Rattle.std.proofs.Common.{◌≡◌, ℕ, ◌<◌, ◌≤◌, inl, inr, Bool, true, false, List, [], ◌∷◌, length, Some, sym, ap}
-use Rattle.std.proofs.Common.{subst, ◌∙◌, arith}
+use Rattle.std.proofs.Common.{◌∙◌, arith}
 use Rattle.std.specs.Prelude.{slice_get, slice_index, not, nat_lt}
 use Rattle.std.proofs.lemmas.Bool.{cases_lt, both_ways, lt-ltb}
 use Rattle.std.proofs.lemmas.Option.{same_Some}
@@ -28,10 +28,8 @@ module _ (shapes : List Shape) (before : List ℕ) (w : AreWalked shapes before)
 
   pub reached_said : SaysWhether (nat_lt (slice_index before n) (length shapes)) (IsReached shapes n)
   reached_said = elim (cases_lt (slice_index before n) (length shapes)) [
-    | inl less ↦ subst (λ (b : Bool). SaysWhether b (IsReached shapes n))
-        (sym (lt-ltb (slice_index before n) (length shapes) less)) (reached_from less)
-    | inr ge ↦ subst (λ (b : Bool). SaysWhether b (IsReached shapes n))
-        (sym (not_below (slice_index before n) (length shapes) ge))
+    | inl less ↦ rw (lt-ltb (slice_index before n) (length shapes) less) (reached_from less)
+    | inr ge ↦ rw (not_below (slice_index before n) (length shapes) ge)
         (λ reached. (let k : slice_index before n < length shapes = w.all n reached in omega arith))
   ]
 

@@ -51,8 +51,7 @@ module _ (shapes : List Shape) (before order : List ℕ) (j m : ℕ) (w : IsLine
         earlier = f.earlier;
         is_earlier = f.is_earlier;
         number_is = there ∙ (f.number_is ∙ sym (same_before p lt));
-        contact = subst (λ (x : ℕ). Contact shapes x (slice_index (order ++ (j ∷ [])) p)) (sym there)
-            (subst (λ (x : ℕ). Contact shapes (slice_index order f.earlier) x) (sym here) f.contact);
+        contact = rw there (rw here f.contact);
       }
 
   new_comes : Comes shapes order j m → (p : ℕ) → length order ≤ p → p < length (order ++ (j ∷ []))
@@ -65,8 +64,7 @@ module _ (shapes : List Shape) (before order : List ℕ) (j m : ℕ) (w : IsLine
           earlier = from.0;
           is_earlier = omega (arith, from.1.0);
           number_is = there ∙ sym (at_set before j m (slice_index (order ++ (j ∷ [])) p) (last_is p ge lp) lj2);
-          contact = subst (λ (x : ℕ). Contact shapes x (slice_index (order ++ (j ∷ [])) p)) (sym there)
-              (subst (λ (x : ℕ). Contact shapes m x) (sym (last_is p ge lp)) from.1.1.1);
+          contact = rw there (rw (last_is p ge lp) from.1.1.1);
         })
   ]
 
@@ -149,8 +147,7 @@ module _ (shapes : List Shape) (numbers before order new more : List ℕ) (from 
     walk = s.walk;
     kept = s.kept;
     reached = λ p lp. elim (cases_eq p i) [
-      | inl e ↦ subst (λ (x : ℕ). slice_index new (slice_index numbers x) < length shapes)
-          (sym e) here
+      | inl e ↦ rw e here
       | inr ne ↦ s.reached p (omega arith)
     ];
     longer = s.longer;
@@ -166,12 +163,11 @@ pub contacts_more : (shapes : List Shape) (numbers before order new more : List 
     → IsSpreadAlong (length numbers) shapes numbers before order new more → HasContacts shapes new more (done + 1)
 contacts_more shapes numbers before order new more done w so_far ld are s p j lp contact =
     let lo : p < length order = omega arith in
-    let there : Contact shapes (slice_index order p) j = subst (λ (x : ℕ). Contact shapes x j)
-    (s.prefix p lo) contact in
+    let there : Contact shapes (slice_index order p) j = rw (s.prefix p lo) at contact in
     elim (cases_eq p done) [
       | inl e ↦
-          let k = are.complete j (subst (λ (x : ℕ). Contact shapes (slice_index order x) j) e there) in
-          subst (λ (x : ℕ). slice_index new x < length shapes) k.1.1 (s.reached k.0 k.1.0)
+          let k = are.complete j (rw e at there) in
+          rw k.1.1 at (s.reached k.0 k.1.0)
       | inr ne ↦ let known = so_far p j (omega arith) there in omega (arith, s.kept j known)
     ]
 
@@ -278,7 +274,7 @@ module _ (shapes : List Shape) (before order : List ℕ) (w : IsLineWalk shapes 
       ⊎ ChainBefore shapes (slice_index before (slice_index order p)) (slice_index order p)
   come_from p lp = elim (w.come p lp) [
     | inl start ↦ inl start
-    | inr f ↦ inr (subst (λ (x : ℕ). ChainBefore shapes x (slice_index order p)) f.number_is
+    | inr f ↦ inr (rw f.number_is at
         (before_from p lp f (route (suc f.earlier) f.earlier (omega arith) (omega (arith, f.is_earlier)))))
   ]
 
@@ -290,7 +286,7 @@ module _ (shapes : List Shape) (before order : List ℕ) (w : IsLineWalk shapes 
       let known : slice_index before a < length shapes = chain_reached starts contacts a rest chain.1 in
       let la : a < length shapes = slice_get_within shapes a chain.0.first chain.0.first_is in
       let p = w.placed a la known in
-      contacts p.0 b p.1.0 (subst (λ (x : ℕ). Contact shapes x b) (sym p.1.1) chain.0)
+      contacts p.0 b p.1.0 (rw p.1.1 chain.0)
 
   pub walked : HasStarts shapes before → (done : ℕ) → length order ≤ done → HasContacts shapes before order done
       → AreWalked shapes before
@@ -299,7 +295,6 @@ module _ (shapes : List Shape) (before order : List ℕ) (w : IsLineWalk shapes 
     all = λ i reached. chain_reached starts (λ p j lp k. contacts p j (omega arith) k) i reached.rest reached.chain;
     come = λ i known li. (
         let p = w.placed i li known in
-        subst (λ (x : ℕ). IsPart shapes START x
-        ⊎ ChainBefore shapes (slice_index before x) x) p.1.1 (come_from p.0 p.1.0)
+        rw p.1.1 at (come_from p.0 p.1.0)
         );
   }

@@ -113,22 +113,13 @@ module _ (n : ℕ) (labels : List Label) (s : Shape) (label : Label) (label_is :
   unfolding lt here
   more_no e = count_by_more_no (λ (l : Label). marks l s) labels n label lt (ap (λ (l : Label). marks l s) here ∙ e)
 
+  passing : marks label s ≡ true → PassesIn (λ l. marks l s) labels n
+  passing e = record { item = label; item_is = label_is; passes_so = e }
+
   mark_yes : (m : Mark) → marks label s ≡ true → IsMarkTo n labels s m → IsMarkTo (n + 1) labels s (with_label m n)
-  mark_yes Unmarked e h = (
-    let k = more_yes e in let z =
-        h.count_is in omega arith,
-    record { item = label; item_is = label_is; passes_so = e },
-  )
-  mark_yes (Once l) e h = (
-    let k = more_yes e in let z =
-        h.0 in omega arith,
-    record { item = label; item_is = label_is; passes_so = e },
-  )
-  mark_yes (Often l) e h = (
-    let k = more_yes e in let z =
-        h.0 in omega arith,
-    record { item = label; item_is = label_is; passes_so = e },
-  )
+  mark_yes Unmarked e h = (omega (arith, more_yes e, h.count_is), passing e)
+  mark_yes (Once l) e h = (omega (arith, more_yes e, h.0), passing e)
+  mark_yes (Often l) e h = (omega (arith, more_yes e, h.0), passing e)
 
   none_next : marks label s ≡ false → NoneTo n labels s → (l : ℕ) (other : Label) → l < n + 1
       → slice_get labels l ≡ Some other → marks other s ≡ true → ⊥
@@ -142,7 +133,7 @@ module _ (n : ℕ) (labels : List Label) (s : Shape) (label : Label) (label_is :
   mark_no : (m : Mark) → marks label s ≡ false → IsMarkTo n labels s m → IsMarkTo (n + 1) labels s m
   mark_no Unmarked e h = record { count_is = more_no e ∙ h.count_is; none = none_next e h }
   mark_no (Once l) e h = (more_no e ∙ h.0, h.1)
-  mark_no (Often l) e h = (let k = more_no e in let z = h.0 in omega arith, h.1)
+  mark_no (Often l) e h = (omega (arith, more_no e, h.0), h.1)
 
 module _ (n : ℕ) (shapes : List Shape) (labels : List Label) (label : Label) (numbers : List ℕ) (old new : List Mark)
     (label_is : slice_get labels n ≡ Some label) (are : AreThose (PassesIn (marks label) shapes) numbers)
@@ -193,9 +184,9 @@ unmarked_all n marking e p m is =
     ∙ (ap (λ (ms : List Mark). get_or ms p Unmarked) e ∙ get_or-replicate n p Unmarked Unmarked (omega arith))
 
 -- what is written back in the place of all
-pub put_back : (n : ℕ) (old new : List Mark) → length new ≡ length old → n ≡ length old
+pub put_back : {A : Type 0} (n : ℕ) (old new : List A) → length new ≡ length old → n ≡ length old
     → take n (new ++ drop (length new) old) ≡ new
-put_back n old new long e = ap (λ (rest : List Mark). take n (new ++ rest)) (drop_all (length new) old (omega arith))
+put_back n old new long e = ap (λ rest. take n (new ++ rest)) (drop_all (length new) old (omega arith))
     ∙ (ap (take n) (append-nil new) ∙ take_all n new (omega arith))
 
 marks_none : (shapes : List Shape) (labels : List Label) (marking : List Mark) → length marking ≡ length shapes

@@ -131,8 +131,7 @@ module _ (shapes : List Shape) (f layer n : ℕ) (pins : List ℕ)
       below : (i p : ℕ) → IsPinOf shapes f layer i p → i < n
       below i p a =
           let k = place_of i p a in
-          subst (λ (x : ℕ). x < n) a.of_number
-          (numbered.below k.0 a.pin k.1.0 (ap (slice_get shapes) k.1.1 ∙ a.pin_is) a.of_layer)
+          rw a.of_number at (numbered.below k.0 a.pin k.1.0 (ap (slice_get shapes) k.1.1 ∙ a.pin_is) a.of_layer)
 
   pub from_pins : HasPins shapes f layer n → AreNumbered shapes pins layer n
   from_pins has = record {
@@ -174,7 +173,7 @@ below_next shapes numbers layer n i here so_far is holds p s lt at of = elim (ca
   | inl e ↦
       let same : here ≡ s = is ∙ (ap (λ (x : ℕ). get_or shapes (slice_index numbers x) here) (sym e)
       ∙ get_or_from_slice_get shapes (slice_index numbers p) s here at) in
-      subst (λ (x : Shape). x.datatype < n) same (holds (ap (λ (x : Shape). x.layer) same ∙ of))
+      rw same at (holds (ap (λ (x : Shape). x.layer) same ∙ of))
   | inr ne ↦ so_far p s (omega arith) at of
 ]
 
@@ -218,13 +217,13 @@ module _ (shapes : List Shape) (f : ℕ) (here : Shape) (got : slice_get shapes 
   }
   cell_by_outputs ins false outs frame e =
       λ cell. outs (from_pins shapes f OUTPUT_PIN (outputs_of kind) pins are
-      (subst (λ (k : CellKind). HasPins shapes f OUTPUT_PIN (outputs_of k)) (cell_kind frame e cell) cell.outputs))
+      (rw (cell_kind frame e cell) at cell.outputs))
 
   pub no_cell : (AreNumbered shapes pins INPUT_PIN (inputs_of kind) → ⊥) → (frame : Shape)
       → slice_get shapes f ≡ Some frame → IsCell shapes f frame → ⊥
   no_cell not_so frame e cell =
       not_so (from_pins shapes f INPUT_PIN (inputs_of kind) pins are
-      (subst (λ (k : CellKind). HasPins shapes f INPUT_PIN (inputs_of k)) (cell_kind frame e cell) cell.inputs))
+      (rw (cell_kind frame e cell) at cell.inputs))
 
 pub no_kind : (shapes : List Shape) (f : ℕ) (here : Shape) → slice_get shapes f ≡ Some here
     → ((kind : CellKind) → here.datatype ≡ number_of kind → ⊥) → (frame : Shape) → slice_get shapes f ≡ Some frame
@@ -238,7 +237,7 @@ one_frame_said shapes p n frames are long = elim (cases_eq n 1) [
   | inl one ↦
       let lt : 0 < length frames = omega arith in
       let both : PassTogether lies_in shapes p (slice_index frames 0) = are.each 0 lt in
-      subst (λ (b : Bool). SaysWhether b (LiesInOneFrame shapes p)) (sym (eq-eqb n 1 one)) (record {
+      rw (eq-eqb n 1 one) (record {
         frame = slice_index frames 0;
         lies = record {
           pin = both.first;
@@ -250,7 +249,7 @@ one_frame_said shapes p n frames are long = elim (cases_eq n 1) [
         only = λ f lies. (let k = place lies in let zero_k : k.0 ≡ 0 = omega (arith, k.1.0) in sym k.1.1
             ∙ ap (slice_index frames) zero_k);
       })
-  | inr more ↦ subst (λ (b : Bool). SaysWhether b (LiesInOneFrame shapes p)) (sym (ne_eqb n 1 more)) (λ one.
+  | inr more ↦ rw (ne_eqb n 1 more) (λ one.
       let k = place one.lies in
       let some : 1 < length frames = omega (arith, k.1.0) in
       let a : slice_index frames 0 ≡ one.frame = one.only (slice_index frames 0) (lies_at 0 (omega arith)) in

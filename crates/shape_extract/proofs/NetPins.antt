@@ -3,7 +3,7 @@ use Rattle.std.proofs.Common.{◌≡◌, ◌≢◌, ℕ, ◌<◌, Bool, true, fa
 use Rattle.std.proofs.Common.{◌∙◌, arith, inl, inr}
 use Rattle.std.specs.Prelude.{slice_get, slice_index}
 use Rattle.std.proofs.lemmas.Option.{same_Some}
-use Rattle.std.proofs.lemmas.Bool.{cases_eq, cases_lt, both_ways}
+use Rattle.std.proofs.lemmas.Bool.{cases_lt, both_ways}
 use Rattle.geom.specs.declared.shapes.Shape.{Shape}
 use Rattle.geom.specs.declared.shapes.Flat.{Flat}
 use Rattle.layout_rules.specs.declared.layers.TheConstants.{INPUT_PIN, OUTPUT_PIN}
@@ -14,6 +14,7 @@ use Rattle.layout_rules.specs.Labels.{is_labelled}
 use Rattle.layout_rules.specs.Reports.{Alone, Otherwise}
 use Rattle.layout_rules.proofs.ReportLaws.{Alone-first, Alone-none, Otherwise-first, Otherwise-second, Otherwise-none}
 use Rattle.layout_rules.specs.CircuitRules.{HasRival, IsInput, IsSource, IsUndriven, IsDriven}
+use Rattle.shape_extract.proofs.Searching.{not_falling}
 use Rattle.shape_extract.specs.Searches.{FindsAt, AreThose}
 use Rattle.shape_extract.specs.Code.NetPins.{IsPinIn, FindsOther, FindsFirst, lone_number}
 
@@ -67,12 +68,7 @@ module _ (shapes : List Shape) (a : ℕ) (here : Shape) (got : slice_get shapes 
         let is : slice_index found first.place ≡ b = first.number_is in
         elim (cases_lt k.0 first.place) [
           | inl less ↦ absurd (rival.apart (sym (sym e ∙ first.before k.0 less)))
-          | inr more ↦ elim (cases_eq k.0 first.place) [
-            | inl same ↦ let f : slice_index found k.0 ≡ slice_index found first.place =
-                ap (slice_index found) same in omega arith
-            | inr ne ↦ let r : slice_index found first.place < slice_index found k.0 = are.rising first.place k.0
-                (omega arith) k.1.0 in omega arith
-          ]
+          | inr more ↦ omega (arith, not_falling found are.rising first.place k.0 more k.1.0)
         ]
         );
   }
@@ -118,12 +114,7 @@ module _ (flat : Flat) (a : ℕ) (here : Shape) (got : slice_get flat.shapes a �
             let k = source_place d driven.source in
             let e : slice_index found k.0 ≡ d = k.1.1 in
             let is : slice_index found 0 ≡ b = first.1 in
-            elim (cases_eq k.0 0) [
-              | inl same ↦ let f : slice_index found k.0 ≡ slice_index found 0 =
-                  ap (slice_index found) same in omega arith
-              | inr ne ↦ let r : slice_index found 0 < slice_index found k.0 = are.rising 0 k.0
-                  (omega arith) k.1.0 in omega arith
-            ]
+            omega (arith, not_falling found are.rising 0 k.0 (omega arith) k.1.0)
             );
       })
 

@@ -1,6 +1,6 @@
 -- What the walk over touching shapes keeps.
 use Rattle.std.proofs.Common.{◌≡◌, ◌≢◌, ℕ, suc, ◌+◌, ◌<◌, ◌≤◌, Bool, true, false, List, [], ◌∷◌, length, set, ◌++◌}
-use Rattle.std.proofs.Common.{refl, sym, ap, subst, ◌∙◌, arith, inl, inr}
+use Rattle.std.proofs.Common.{refl, sym, ap, subst, ◌∙◌, arith, inl, inr, below_more}
 use Rattle.std.specs.Prelude.{nat_lt, slice_index, slice_set, sum}
 use Rattle.std.proofs.lemmas.List.{get_or-set_other, get_or-set_same, length-set}
 use Rattle.std.proofs.Math.ListN.{get_or-append, length-append}
@@ -16,7 +16,9 @@ use Rattle.layout_rules.proofs.NetLaws.{Touching-back, Touching-within, Joined-t
 use Rattle.layout_rules.proofs.NetLaws.{AreNets-certified}
 use Rattle.shape_extract.specs.Searches.{SaysWhether}
 use Rattle.shape_extract.specs.Code.Walk.{AreTouching, IsWalk, IsSpreadTo, IsDone, AreMarked, IsLowest, HasTouching}
-use Rattle.shape_extract.specs.Code.Walk.{is_touched, IsTold, AreToldTo, AreTold, IsReached}
+use Rattle.shape_extract.specs.Code.Walk.{is_touched, IsTold, AreToldTo, AreTold, IsReached, IsUnbegun, IsDoneTo}
+use Rattle.shape_extract.specs.Code.Walk.{IsGrown}
+use Rattle.shape_extract.specs.declared.connectivity.net_walk.Walk.{Walk}
 
 pub sum_lowered : (ls : List ℕ) (i v : ℕ) → i < length ls → v < slice_index ls i → sum (set ls i v) < sum ls
 sum_lowered ls i v lt less = omega (arith, sum_by-set (λ x. x) ls i v 0 lt)
@@ -46,10 +48,8 @@ walk_more shapes labels order j m w lj marked low free r =
       long = length-set labels j m ∙ w.long;
       joined = λ k lk mk. elim (cases_eq k j) [
         | inl e ↦
-            subst (λ (x : ℕ). Joined shapes k x) (sym (at_set labels j m k e lj2))
-            (subst (λ (x : ℕ). Joined shapes x m) (sym e) r)
-        | inr ne ↦ subst (λ (x : ℕ). Joined shapes k x) (sym (off_set labels j m k ne))
-            (w.joined k lk (omega (arith, off_set labels j m k ne)))
+            rw (at_set labels j m k e lj2) (rw e r)
+        | inr ne ↦ rw (off_set labels j m k ne) (w.joined k lk (omega (arith, off_set labels j m k ne)))
       ];
       lower = λ k lk mk. elim (cases_eq k j) [
         | inl e ↦ omega (arith, at_set labels j m k e lj2)
@@ -74,8 +74,7 @@ walk_more shapes labels order j m w lj marked low free r =
             let ne : slice_index order p ≢ j =
             λ e. absurd (let f : slice_index labels (slice_index order p) ≡ slice_index labels j =
             ap (λ (x : ℕ). slice_index labels x) e in omega arith) in
-            subst (λ (x : ℕ). slice_index (set labels j m) x < length shapes) (sym old)
-            (omega (arith, off_set labels j m (slice_index order p) ne, was))
+            rw old (omega (arith, off_set labels j m (slice_index order p) ne, was))
         | inr ge ↦
             let e : p ≡ length order = omega (arith, long_more order j) in
             let f : slice_index (order ++ (j ∷ [])) p ≡ j = ap (λ (x : ℕ). slice_index (order ++ (j ∷ [])) x) e
@@ -101,7 +100,7 @@ spread_more shapes numbers labels order new more from i s below lf marked free t
     ] in
     let is_new : slice_index new from ≡ m = s.kept from marked in
     let lj2 : j < length new = omega (arith, s.walk.long) in
-    let joined_so : Joined shapes j m = subst (λ (x : ℕ). Joined shapes j x) is_new
+    let joined_so : Joined shapes j m = rw is_new at
     (Joined-trans shapes j from (slice_index new from) (Joined-touching shapes j from (Touching-back t))
     (s.walk.joined from lf (omega arith))) in
     record {
@@ -142,8 +141,7 @@ spread_same shapes numbers labels order new more from i s here = record {
   walk = s.walk;
   kept = s.kept;
   reached = λ p lp. elim (cases_eq p i) [
-    | inl e ↦ subst (λ (x : ℕ). slice_index new (slice_index numbers x) < length shapes)
-        (sym e) here
+    | inl e ↦ rw e here
     | inr ne ↦ s.reached p (omega arith)
   ];
   longer = s.longer;
@@ -159,7 +157,7 @@ reached_now shapes labels order new more numbers from are s = record {
   walk = s.walk;
   kept = s.kept;
   all_reached = λ j t. (let n =
-      are.complete j t in subst (λ (x : ℕ). slice_index new x < length shapes) n.1.1 (s.reached n.0 n.1.0));
+      are.complete j t in rw n.1.1 at (s.reached n.0 n.1.0));
   longer = s.longer;
   prefix = s.prefix;
   marked = s.marked;
@@ -182,8 +180,7 @@ pub told_now : (shapes : List Shape) (from : ℕ) (numbers : List ℕ) (touched 
     → IsTold shapes from touched new
 told_now shapes from numbers touched new are lt is = subst (IsTold shapes from touched) (sym is) (record {
   long = length-set touched from (nat_lt 0 (length numbers));
-  here = subst (λ (x : Bool). SaysWhether x (HasTouching shapes from))
-      (sym (get_or-set_same touched from (nat_lt 0 (length numbers)) false lt))
+  here = rw (get_or-set_same touched from (nat_lt 0 (length numbers)) false lt)
       (some_listed shapes from numbers are (nat_lt 0 (length numbers)) refl);
   kept = λ d ne. get_or-set_other touched from d (nat_lt 0 (length numbers)) false ne;
 })
@@ -191,7 +188,7 @@ told_now shapes from numbers touched new are lt is = subst (IsTold shapes from t
 told_of : (shapes : List Shape) (touched : List Bool) (d e : ℕ) → d ≡ e
     → SaysWhether (is_touched touched d) (HasTouching shapes d)
     → SaysWhether (is_touched touched e) (HasTouching shapes e)
-told_of shapes touched d e same h = subst (λ (x : ℕ). SaysWhether (is_touched touched x) (HasTouching shapes x)) same h
+told_of shapes touched d e same h = rw same at h
 
 -- the order has grown
 pub told_longer : (n : ℕ) (shapes : List Shape) (order more : List ℕ) (touched : List Bool)
@@ -220,18 +217,8 @@ told_more n shapes order more touched new are lt prefix told = record {
                   (ne (ap (slice_index order) e))
               | inr other ↦ omega arith
             ] in
-            subst (λ (b : Bool). SaysWhether b (HasTouching shapes (slice_index order p)))
-            (sym (told.kept (slice_index order p) ne)) (are.each p before)
+            rw (told.kept (slice_index order p) ne) (are.each p before)
       ]);
-}
-
-pub told_all : (shapes : List Shape) (labels order : List ℕ) (touched : List Bool) → IsWalk shapes labels order
-    → ((k : ℕ) → k < length shapes → slice_index labels k < length shapes)
-    → AreToldTo (length order) shapes order touched → AreTold shapes touched
-told_all shapes labels order touched w all are = record {
-  long = are.long;
-  each = λ d lt. (let p = w.ordered d lt (all d lt) in told_of shapes touched
-      (slice_index order p.0) d p.1.1 (are.each p.0 p.1.0));
 }
 
 -- ---- the order
@@ -243,7 +230,7 @@ pub done_more : (shapes : List Shape) (labels order new more : List ℕ) (done m
 done_more shapes labels order new more done m w d marks ld s = λ p j lp touching.
     let lp2 : p < length order = omega arith in
     let same_place : slice_index more p ≡ slice_index order p = s.prefix p lp2 in
-    let t : Touching shapes (slice_index order p) j = subst (λ (x : ℕ). Touching shapes x j) same_place touching in
+    let t : Touching shapes (slice_index order p) j = rw same_place at touching in
     let lj : j < length shapes = slice_get_within shapes j t.second t.second_is in
     let here : slice_index new (slice_index more p) ≡ slice_index labels (slice_index order p) =
     ap (λ (x : ℕ). slice_index new x) same_place ∙ s.kept (slice_index order p) (w.labelled p lp2) in
@@ -254,7 +241,7 @@ done_more shapes labels order new more done m w d marks ld s = λ p j lp touchin
       | inr ge ↦
           let e : p ≡ done = omega arith in
           let u : Touching shapes (slice_index order done) j =
-          subst (λ (x : ℕ). Touching shapes (slice_index order x) j) e t in
+          rw e at t in
           let mp : slice_index labels (slice_index order p) ≡ m = marks p ge lp2 in
           let from_is : slice_index labels (slice_index order done) ≡ m = marks done (omega arith) ld in
           let goal_is : slice_index new j ≡ m = elim (cases_lt (slice_index labels j) (length shapes)) [
@@ -263,7 +250,7 @@ done_more shapes labels order new more done m w d marks ld s = λ p j lp touchin
                 elim (cases_lt q.0 done) [
                   | inl before ↦
                       let back : Touching shapes (slice_index order q.0) (slice_index order done) =
-                      subst (λ (x : ℕ). Touching shapes x (slice_index order done)) (sym q.1.1) (Touching-back u) in
+                      rw q.1.1 (Touching-back u) in
                       let f = d q.0 (slice_index order done) before back in
                       let g : slice_index labels (slice_index order q.0) ≡ slice_index labels j =
                       ap (λ (x : ℕ). slice_index labels x) q.1.1 in
@@ -297,30 +284,79 @@ marks_more shapes labels order new more done m w marks ld s = λ p ge lp. elim (
   | inr after ↦ s.marked p after lp ∙ marks done (omega arith) ld
 ]
 
--- a walk that is done and has labelled each shape gives the nets
-pub nets_from_walk : (shapes : List Shape) (labels order : List ℕ) → IsWalk shapes labels order
-    → IsDone shapes labels order (length order)
-    → ((k : ℕ) → k < length shapes → slice_index labels k < length shapes) → AreNets shapes labels
-nets_from_walk shapes labels order w d all = AreNets-certified shapes labels (record {
-  long = w.long;
-  joined = λ i li. w.joined i li (all i li);
-  not_above = λ i li. w.lower i li (all i li);
+-- the walk after it has spread from the next of its order
+pub done_next : (shapes : List Shape) (w new : Walk) (done m from : ℕ) → IsDoneTo done m shapes w
+    → done < length w.order.items → from ≡ slice_index w.order.items done
+    → IsReached shapes w.labels.items w.order.items new.labels.items new.order.items from
+    → IsTold shapes from w.touched.items new.touched.items → IsDoneTo (done + 1) m shapes new
+done_next shapes w new done m from d lt is reached told =
+    let s : IsReached shapes w.labels.items w.order.items new.labels.items new.order.items
+    (slice_index w.order.items done) = rw is at reached in
+    record {
+      walk = s.walk;
+      all_done = done_more _ _ _ _ _ _ _ d.walk d.all_done d.marks lt s;
+      marks = marks_more _ _ _ _ _ _ _ d.walk d.marks lt s;
+      within = omega (arith, s.longer);
+      told = told_more done shapes w.order.items new.order.items w.touched.items new.touched.items d.told lt s.prefix
+          (rw is at told);
+    }
+
+-- what is labelled is so after it
+pub still_next : (shapes : List Shape) (w new : Walk) (from : ℕ)
+    → IsReached shapes w.labels.items w.order.items new.labels.items new.order.items from → (k : ℕ)
+    → slice_index w.labels.items k < length shapes → slice_index new.labels.items k < length shapes
+still_next shapes w new from s k lk = omega (arith, s.kept k lk)
+
+-- the walk after it has spread from all
+pub done_all : (shapes : List Shape) (before w : Walk) (done m : ℕ) → length w.order.items ≤ done
+    → IsDoneTo done m shapes w
+    → ((k : ℕ) → slice_index before.labels.items k < length shapes → slice_index w.labels.items k < length shapes)
+    → IsGrown shapes before w
+done_all shapes before w done m all d still = record {
+  grown = d.walk;
+  all_done = λ p j lp t. d.all_done p j (omega arith) t;
+  told = record { long = d.told.long; each = λ p lp. d.told.each p (omega arith) };
+  still = still;
+}
+
+-- the walk is done and has told of all that it reached, and it has reached the first n shapes
+pub record WalkedTo (n : ℕ) (shapes : List Shape) (w : Walk) : Type 0 where
+  pub walk : IsWalk shapes w.labels.items w.order.items
+  pub all_done : IsDone shapes w.labels.items w.order.items (length w.order.items)
+  pub told : AreToldTo (length w.order.items) shapes w.order.items w.touched.items
+  pub reached : (k : ℕ) → k < n → slice_index w.labels.items k < length shapes
+
+-- a walk that has reached each shape gives the nets
+pub walked_nets : (shapes : List Shape) (w : Walk) (n : ℕ) → length shapes ≤ n → WalkedTo n shapes w
+    → AreNets shapes w.labels.items
+walked_nets shapes w n all d = AreNets-certified shapes w.labels.items (record {
+  long = d.walk.long;
+  joined = λ i li. d.walk.joined i li (d.reached i (omega arith));
+  not_above = λ i li. d.walk.lower i li (d.reached i (omega arith));
   agree = λ i j t.
       let li : i < length shapes = (Touching-within t).0 in
-      let q = w.ordered i li (all i li) in
-      let f = d q.0 j q.1.0 (subst (λ (x : ℕ). Touching shapes x j) (sym q.1.1) t) in
-      let g : slice_index labels (slice_index order q.0) ≡ slice_index labels i =
-      ap (λ (x : ℕ). slice_index labels x) q.1.1 in
+      let q = d.walk.ordered i li (d.reached i (omega arith)) in
+      let f = d.all_done q.0 j q.1.0 (rw q.1.1 t) in
+      let g : slice_index w.labels.items (slice_index w.order.items q.0) ≡ slice_index w.labels.items i =
+      ap (λ (x : ℕ). slice_index w.labels.items x) q.1.1 in
       sym g ∙ sym f;
 })
+
+-- and has told of each
+pub walked_told : (shapes : List Shape) (w : Walk) (n : ℕ) → length shapes ≤ n → WalkedTo n shapes w
+    → AreTold shapes w.touched.items
+walked_told shapes w n all d = record {
+  long = d.told.long;
+  each = λ i lt. (let p = d.walk.ordered i lt (d.reached i (omega arith)) in told_of shapes w.touched.items
+      (slice_index w.order.items p.0) i p.1.1 (d.told.each p.0 p.1.0));
+}
 
 -- a shape that is not reached begins a net
 pub root_done : (shapes : List Shape) (labels order : List ℕ) (i : ℕ) → IsWalk shapes labels order
     → IsDone shapes labels order (length order) → i < length shapes → length shapes ≤ slice_index labels i
     → IsDone shapes (set labels i i) (order ++ (i ∷ [])) (length order)
 root_done shapes labels order i w d li free = λ p j lp touching.
-    let t : Touching shapes (slice_index order p) j = subst (λ (x : ℕ). Touching shapes x j)
-    (old_place order i p lp) touching in
+    let t : Touching shapes (slice_index order p) j = rw (old_place order i p lp) at touching in
     let e : slice_index labels j ≡ slice_index labels (slice_index order p) = d p j lp t in
     let known = w.labelled p lp in
     let ne : j ≢ i = λ f. absurd
@@ -335,6 +371,23 @@ pub root_walk : (shapes : List Shape) (labels order : List ℕ) (i : ℕ) → Is
     → length shapes ≤ slice_index labels i → IsWalk shapes (set labels i i) (order ++ (i ∷ []))
 root_walk shapes labels order i w li free = walk_more shapes labels order i i w li li (omega arith) free ([], refl)
 
+-- the walk with a new net, which begins at shape i
+pub root_begun : (shapes : List Shape) (w new : Walk) (i : ℕ) → WalkedTo i shapes w → i < length shapes
+    → length shapes ≤ slice_index w.labels.items i → new.labels.items ≡ set w.labels.items i i
+    → new.order.items ≡ w.order.items ++ (i ∷ []) → new.touched.items ≡ w.touched.items
+    → IsDoneTo (length w.order.items) i shapes new
+root_begun shapes w new i d li free labels_are order_is touched_is = record {
+  walk = rw (labels_are, order_is) (root_walk shapes w.labels.items w.order.items i d.walk li free);
+  all_done = rw (labels_are, order_is) (root_done shapes w.labels.items w.order.items i d.walk d.all_done li free);
+  marks = rw (labels_are, order_is) (λ p ge lp.
+      (let e : p ≡ length w.order.items = omega (arith, long_more w.order.items i) in
+      at_set w.labels.items i i _ (ap (slice_index (w.order.items ++ (i ∷ []))) e ∙ new_place w.order.items i)
+      (omega (arith, d.walk.long))));
+  within = rw order_is (omega (arith, long_more w.order.items i));
+  told = rw (order_is, touched_is) (told_longer (length w.order.items) shapes w.order.items
+      (w.order.items ++ (i ∷ [])) w.touched.items d.told (λ p lt. old_place w.order.items i p lt));
+}
+
 pub root_kept : (n : ℕ) (labels : List ℕ) (i k : ℕ) → i < n → i < length labels → slice_index labels k < n
     → slice_index (set labels i i) k < n
 root_kept n labels i k ln li lk =
@@ -344,17 +397,43 @@ root_kept n labels i k ln li lk =
           (arith, off_set labels i i k ne)
     ]
 
-pub root_self : (labels : List ℕ) (i : ℕ) → i < length labels → slice_index (set labels i i) i ≡ i
-root_self labels i li = at_set labels i i i refl li
+-- the net that begins at shape i is walked, or shape i was reached before
+pub walked_on : (shapes : List Shape) (w begun new : Walk) (i : ℕ) → WalkedTo i shapes w → i < length shapes
+    → begun.labels.items ≡ set w.labels.items i i → IsGrown shapes begun new → WalkedTo (i + 1) shapes new
+walked_on shapes w begun new i d li is g =
+    let ll : i < length w.labels.items = omega (arith, d.walk.long) in
+    record {
+      walk = g.grown;
+      all_done = g.all_done;
+      told = g.told;
+      reached = below_more (λ (k : ℕ). slice_index new.labels.items k < length shapes) i
+          (λ k lk. g.still k (rw is (root_kept (length shapes) w.labels.items i k li ll (d.reached k lk))))
+          (g.still i (rw is (omega (arith, at_set w.labels.items i i i refl ll))));
+    }
+
+pub walked_past : (shapes : List Shape) (w : Walk) (i : ℕ) → WalkedTo i shapes w
+    → slice_index w.labels.items i < length shapes → WalkedTo (i + 1) shapes w
+walked_past shapes w i d here = record {
+  walk = d.walk;
+  all_done = d.all_done;
+  told = d.told;
+  reached = below_more (λ (k : ℕ). slice_index w.labels.items k < length shapes) i d.reached here;
+}
 
 -- no shape is labelled
-pub walk_none : (shapes : List Shape) (labels : List ℕ) → length labels ≡ length shapes
-    → ((k : ℕ) → k < length shapes → slice_index labels k ≡ length shapes) → IsWalk shapes labels []
-walk_none shapes labels e all = record {
-  long = e;
-  joined = λ k lk mk. absurd (omega (arith, all k lk));
-  lower = λ k lk mk. absurd (omega (arith, all k lk));
-  ordered = λ k lk mk. absurd (omega (arith, all k lk));
-  within = λ p lp. absurd (omega arith);
-  labelled = λ p lp. absurd (omega arith);
-}
+pub walked_none : (shapes : List Shape) (w : Walk) → IsUnbegun (length shapes) w → WalkedTo 0 shapes w
+walked_none shapes w u =
+    let none : length w.order.items ≡ 0 = ap length u.order in
+    record {
+      walk = record {
+        long = u.long;
+        joined = λ k lk mk. absurd (omega (arith, u.none k lk));
+        lower = λ k lk mk. absurd (omega (arith, u.none k lk));
+        ordered = λ k lk mk. absurd (omega (arith, u.none k lk));
+        within = λ p lp. absurd (omega arith);
+        labelled = λ p lp. absurd (omega arith);
+      };
+      all_done = λ p j lp t. absurd (omega arith);
+      told = record { long = u.touched; each = λ p lt. absurd (omega arith) };
+      reached = λ k lt. absurd (omega arith);
+    }

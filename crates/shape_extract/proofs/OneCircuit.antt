@@ -1,5 +1,5 @@
 -- A flat form that keeps the rules of cells, of excitation lines and of labels has one circuit.
-use Rattle.std.proofs.Common.{◌≡◌, ℕ, suc, ◌+◌, ◌<◌, ◌≤◌, inl, inr, true, List, [], ◌∷◌, length, Some, refl, sym, ap}
+use Rattle.std.proofs.Common.{◌≡◌, ℕ, suc, ◌+◌, inl, inr, true, List, [], ◌∷◌, length, Some, refl, sym, ap}
 use Rattle.std.proofs.Common.{subst, ◌∙◌, arith}
 use Rattle.std.specs.Prelude.{slice_get}
 use Rattle.std.specs.List.{AllZip}
@@ -24,7 +24,7 @@ use Rattle.circuit_extracted.specs.declared.cells.Feed.TheVariants.{Nothing, Pin
 use Rattle.circuit_extracted.specs.declared.cells.ExCell.{ExCell}
 use Rattle.circuit_extracted.specs.Circuits.{CircuitView, feed_at}
 use Rattle.shape_extract.specs.Frames.{AreFrames}
-use Rattle.shape_extract.specs.Extraction.{IsNamed, IsOutputPin, IsDrivenBy, FeedsPin, IsFeedAt, IsInPhase, IsCellFrom}
+use Rattle.shape_extract.specs.Extraction.{IsNamed, IsOutputPin, IsDrivenBy, FeedsPin, IsFeedAt, IsCellFrom}
 use Rattle.shape_extract.specs.Extraction.{IsOutputFrom, IsCircuitOf}
 use Rattle.shape_extract.proofs.Kept.{one_input, one_frame, one_named, one_number_of}
 use Rattle.shape_extract.proofs.Marked.{one_kind}
@@ -39,18 +39,13 @@ cell_from k r p a b c = record { kind = k; row = r; phase = p; feed0 = a; feed1 
 same_cell : (x y : ExCell) → x.kind ≡ y.kind → x.row ≡ y.row → x.phase ≡ y.phase → x.feed0 ≡ y.feed0 → x.feed1 ≡ y.feed1
     → x.feed2 ≡ y.feed2 → x ≡ y
 same_cell x y k r p a b c =
-    ap (λ (v : CellKind). cell_from v x.row x.phase x.feed0 x.feed1 x.feed2) k
-    ∙ ap (λ (v : ℕ). cell_from y.kind v x.phase x.feed0 x.feed1 x.feed2) r
-    ∙ ap (λ (v : ℕ). cell_from y.kind y.row v x.feed0 x.feed1 x.feed2) p
-    ∙ ap (λ (v : Feed). cell_from y.kind y.row y.phase v x.feed1 x.feed2) a
-    ∙ ap (λ (v : Feed). cell_from y.kind y.row y.phase y.feed0 v x.feed2) b
-    ∙ ap (λ (v : Feed). cell_from y.kind y.row y.phase y.feed0 y.feed1 v) c
+    let same : cell_from x.kind x.row x.phase x.feed0 x.feed1 x.feed2 ≡ y = rw (k, r, p, a, b, c) refl in same
 
 abbrev source_from : ℕ → ℕ → Source
 source_from c o = record { cell = c; output = o }
 
 same_source : (s t : Source) → s.cell ≡ t.cell → s.output ≡ t.output → s ≡ t
-same_source s t c o = ap (λ (v : ℕ). source_from v s.output) c ∙ ap (λ (v : ℕ). source_from t.cell v) o
+same_source s t c o = let same : source_from s.cell s.output ≡ t = rw (c, o) refl in same
 
 abbrev circuit_from : List ExCell → ℕ → List Source → ℕ → ℕ → List ℕ → CircuitView
 circuit_from cells inputs outputs rows wires nets =
@@ -59,12 +54,7 @@ circuit_from cells inputs outputs rows wires nets =
 same_circuit : (x y : CircuitView) → x.cells ≡ y.cells → x.inputs ≡ y.inputs → x.outputs ≡ y.outputs → x.rows ≡ y.rows
     → x.wires ≡ y.wires → x.nets ≡ y.nets → x ≡ y
 same_circuit x y a b c d e f =
-    ap (λ (v : List ExCell). circuit_from v x.inputs x.outputs x.rows x.wires x.nets) a
-    ∙ ap (λ (v : ℕ). circuit_from y.cells v x.outputs x.rows x.wires x.nets) b
-    ∙ ap (λ (v : List Source). circuit_from y.cells y.inputs v x.rows x.wires x.nets) c
-    ∙ ap (λ (v : ℕ). circuit_from y.cells y.inputs y.outputs v x.wires x.nets) d
-    ∙ ap (λ (v : ℕ). circuit_from y.cells y.inputs y.outputs y.rows v x.nets) e
-    ∙ ap (λ (v : List ℕ). circuit_from y.cells y.inputs y.outputs y.rows y.wires v) f
+    let same : circuit_from x.cells x.inputs x.outputs x.rows x.wires x.nets ≡ y = rw (a, b, c, d, e, f) refl in same
 
 same_list : (xs ys : List Source) → length xs ≡ length ys
     → ((n : ℕ) (x y : Source) → slice_get xs n ≡ Some x → slice_get ys n ≡ Some y → x ≡ y) → xs ≡ ys
@@ -117,7 +107,7 @@ module _ (flat : Flat) (cells_kept : ReportsNone (CellsBroken flat.shapes))
   one_feed_at f i a b first second =
       let pins : first.number ≡ second.number =
       one_input flat cells_kept f i first.number second.number first.pin second.pin in
-      one_feed second.number a b (subst (λ (p : ℕ). FeedsPin flat frames p a) pins first.feeds) second.feeds
+      one_feed second.number a b (rw pins at first.feeds) second.feeds
 
   one_cell : (f c : ℕ) (x y : ExCell) → slice_get frames c ≡ Some f → IsCellFrom flat frames x f
       → IsCellFrom flat frames y f → x ≡ y
@@ -131,13 +121,13 @@ module _ (flat : Flat) (cells_kept : ReportsNone (CellsBroken flat.shapes))
       (same_Some second.frame passes.shape (sym second.frame_is ∙ passes.shape_is)) ∙ passes.passes_so in
       let feed : (i : ℕ) → feed_at x i ≡ feed_at y i = λ i. elim (cases_lt i (inputs_of x.kind)) [
         | inl lt ↦ one_feed_at f i (feed_at x i) (feed_at y i) (first.feeds i lt)
-            (second.feeds i (subst (λ (k : CellKind). i < inputs_of k) kind lt))
-        | inr le ↦ first.no_more i le ∙ sym (second.no_more i (subst (λ (k : CellKind). inputs_of k ≤ i) kind le))
+            (second.feeds i (rw kind at lt))
+        | inr le ↦ first.no_more i le ∙ sym (second.no_more i (rw kind at le))
       ] in
       same_cell x y kind
       (first.row_is ∙ ap (λ (s : Shape). row_of flat.shapes s.rect.y0) frame ∙ sym second.row_is)
       (one_phase flat.shapes lines_kept f second.frame x.phase y.phase second.frame_is is_one
-      (subst (λ (s : Shape). IsInPhase flat.shapes s x.phase) frame first.excited) second.excited)
+      (rw frame at first.excited) second.excited)
       (feed 0) (feed 1) (feed 2)
 
   -- these frames stand in the list from place k on
@@ -155,8 +145,7 @@ module _ (flat : Flat) (cells_kept : ReportsNone (CellsBroken flat.shapes))
       ap (λ (v : ExCell). v ∷ xs) (one_cell f (k + 0) x y (stand 0 f refl) first.0 second.0)
       ∙ ap (λ (vs : List ExCell). y ∷ vs)
       (same_cells (suc k) fs xs ys
-      (λ i g e. let n : k + suc i ≡ suc k + i = omega arith in subst (λ (m : ℕ). slice_get frames m ≡ Some g) n
-      (stand (suc i) g e)) first.1 second.1)
+      (λ i g e. let n : k + suc i ≡ suc k + i = omega arith in rw n at (stand (suc i) g e)) first.1 second.1)
 
   one_output : (n : ℕ) (s t : Source) → IsOutputFrom flat frames n s → IsOutputFrom flat frames n t → s ≡ t
   one_output n s t first second = one_source s t first.number second.number
@@ -170,15 +159,15 @@ one_circuit flat cells_kept lines_kept labels_kept x y first second =
     let frames : second.frames ≡ first.frames =
     one_order flat.shapes second.frames first.frames second.are_frames first.are_frames in
     let cells : AllZip (IsCellFrom flat first.frames) y.cells first.frames =
-    subst (λ (fs : List ℕ). AllZip (IsCellFrom flat fs) y.cells fs) frames second.cells in
+    rw frames at second.cells in
     same_circuit x y
     (same_cells flat cells_kept lines_kept labels_kept first.frames first.are_frames 0 first.frames x.cells y.cells
     (λ i f e. let n : i ≡ 0 + i =
-    omega arith in subst (λ (m : ℕ). slice_get first.frames m ≡ Some f) n e) first.cells cells)
+    omega arith in rw n at e) first.cells cells)
     (first.inputs ∙ sym second.inputs)
     (same_list x.outputs y.outputs (first.output_count ∙ sym second.output_count)
     (λ n s t p q. one_output flat cells_kept lines_kept labels_kept first.frames first.are_frames n s t
-    (first.outputs n s p) (subst (λ (fs : List ℕ). IsOutputFrom flat fs n t) frames (second.outputs n t q))))
+    (first.outputs n s p) (rw frames at (second.outputs n t q))))
     (first.rows ∙ sym second.rows)
     (first.wires ∙ sym second.wires)
     (AreNets-once flat.shapes x.nets y.nets first.nets second.nets)

@@ -1,10 +1,9 @@
 -- Under the rule of excitation lines a frame has one phase.
-use Rattle.std.proofs.Common.{◌≡◌, ℕ, true, List, Some, sym, subst, ◌∙◌}
+use Rattle.std.proofs.Common.{◌≡◌, ℕ, true, List, Some, sym, ◌∙◌}
 use Rattle.std.specs.Prelude.{slice_get}
 use Rattle.geom.specs.declared.shapes.Shape.{Shape}
 use Rattle.layout_rules.specs.Layers.{is_frame}
 use Rattle.layout_rules.specs.Reports.{ReportsNone}
-use Rattle.layout_rules.specs.ExcitationLines.{BarHasPhase}
 use Rattle.layout_rules.specs.ExcitationRule.{ExcitationBroken}
 use Rattle.layout_rules.proofs.LinesAgree.{each_excited, one_phase_of}
 use Rattle.layout_rules.proofs.Deciding.{settled}
@@ -23,4 +22,4 @@ module _ (shapes : List Shape) (kept : ReportsNone (ExcitationBroken shapes)) wh
             ∙ sym (excited.only second.number second.bar.is_bar.shape second.bar.is_bar.shape_is
             second.bar.is_bar.line_so second.over));
       })) in
-      one_phase_of shapes kept second.number p q (subst (λ (n : ℕ). BarHasPhase shapes n p) bars first.bar) second.bar
+      one_phase_of shapes kept second.number p q (rw bars at first.bar) second.bar

@@ -1,43 +1,20 @@
 -- The frames have one order as cells.
 use Rattle.std.proofs.Common.{◌≡◌, ℕ, zero, suc, ◌<◌, ◌⊎◌, inl, inr, true, List, [], ◌∷◌, Some, ℤ, refl, sym, ap, subst}
 use Rattle.std.proofs.Common.{◌∙◌, arith}
-use Rattle.std.specs.Prelude.{slice_get, int_lt, nat_lt}
+use Rattle.std.specs.Prelude.{slice_get, int_lt, nat_lt, ◌&&◌, ◌||◌}
 use Rattle.std.specs.Ordering.{int_eq}
-use Rattle.std.proofs.lemmas.Bool.{and_parts, or_cases, cases_lt}
+use Rattle.std.proofs.lemmas.Bool.{cases_lt}
+use Rattle.std.proofs.lemmas.Bool.Decides.{nat_tests}
+use Rattle.std.proofs.lemmas.Int.{ints}
 use Rattle.std.proofs.lemmas.Option.{same_Some}
 use Rattle.geom.specs.declared.shapes.Shape.{Shape}
 use Rattle.layout_rules.proofs.Deciding.{settled}
 use Rattle.shape_extract.specs.Frames.{comes_before, HasPlace, AreFrames}
 
-both_less : (x y : ℤ) → int_lt x y ≡ true → int_lt y x ≡ true → ⊥
-both_less x y a b = grind arith
-
-less_equal : (x y : ℤ) → int_lt x y ≡ true → int_eq y x ≡ true → ⊥
-less_equal x y a b = grind arith
-
-both_below : (f g : ℕ) → nat_lt f g ≡ true → nat_lt g f ≡ true → ⊥
-both_below f g a b = grind arith
-
-one_way : (s t : Shape) (f g : ℕ) → comes_before s f t g ≡ true → comes_before t g s f ≡ true → ⊥
-one_way s t f g a b = elim (or_cases _ _ a) [
-  | inl lt ↦ elim (or_cases _ _ b) [
-    | inl gt ↦ both_less s.rect.y0 t.rect.y0 lt gt
-    | inr more ↦ less_equal s.rect.y0 t.rect.y0 lt (and_parts _ _ more).0
-  ]
-  | inr rest ↦ elim (or_cases _ _ b) [
-    | inl gt ↦ less_equal t.rect.y0 s.rect.y0 gt (and_parts _ _ rest).0
-    | inr more ↦ elim (or_cases _ _ (and_parts _ _ rest).1) [
-      | inl lt ↦ elim (or_cases _ _ (and_parts _ _ more).1) [
-        | inl gt ↦ both_less s.rect.x0 t.rect.x0 lt gt
-        | inr even ↦ less_equal s.rect.x0 t.rect.x0 lt (and_parts _ _ even).0
-      ]
-      | inr last ↦ elim (or_cases _ _ (and_parts _ _ more).1) [
-        | inl gt ↦ less_equal t.rect.x0 s.rect.x0 gt (and_parts _ _ last).0
-        | inr even ↦ both_below f g (and_parts _ _ last).1 (and_parts _ _ even).1
-      ]
-    ]
-  ]
-]
+one_way : (a b x y : ℤ) (f g : ℕ)
+    → (int_lt a b || (int_eq a b && (int_lt x y || (int_eq x y && nat_lt f g)))) ≡ true
+    → (int_lt b a || (int_eq b a && (int_lt y x || (int_eq y x && nat_lt g f)))) ≡ true → ⊥
+one_way a b x y f g p q = grind (arith, ints, nat_tests)
 
 -- the frame of the first number comes before that of the second
 record IsBefore (shapes : List Shape) (f g : ℕ) : Type 0 where
@@ -51,7 +28,7 @@ before_once : (shapes : List Shape) (f g : ℕ) → IsBefore shapes f g → IsBe
 before_once shapes f g a b =
     let s : b.t ≡ a.s = same_Some b.t a.s (sym b.t_is ∙ a.s_is) in
     let t : b.s ≡ a.t = same_Some b.s a.t (sym b.s_is ∙ a.t_is) in
-    one_way a.s a.t f g a.so (ap (λ (x : Shape). comes_before a.t g x f) (sym s)
+    one_way a.s.rect.y0 a.t.rect.y0 a.s.rect.x0 a.t.rect.x0 f g a.so (ap (λ (x : Shape). comes_before a.t g x f) (sym s)
     ∙ ap (λ (x : Shape). comes_before x g b.t f) (sym t) ∙ b.so)
 
 Ordered : List Shape → List ℕ → Type 0

@@ -79,7 +79,7 @@ module _ (flat : Flat) (frames : List ℕ) (kept : ReportsNone (LabelsBroken fla
                 source = old.source;
                 there = read_other outputs m n source old.source
                     (λ e. ne (one_named flat kept letter_o m q k
-                    (subst (λ (x : ℕ). IsNamed flat letter_o x q) e named) here)) old.there;
+                    (rw e at named) here)) old.there;
                 output = old.output;
               }
         ];
@@ -108,6 +108,6 @@ module _ (flat : Flat) (frames : List ℕ) (kept : ReportsNone (LabelsBroken fla
         record {
           number = named.0;
           named = named.1;
-          output = subst (λ (s : Source). IsOutputPin flat frames s named.0) same written.output;
+          output = rw same at written.output;
         });
   }

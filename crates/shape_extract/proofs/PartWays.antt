@@ -135,8 +135,7 @@ module _ (shapes : List Shape) (before order : List ℕ) (lines : AreLaidOut sha
     way_more is small = record {
       long = length-set ways (slice_index order i) way ∙ are.long;
       come = λ p below. elim (cases_eq p i) [
-        | inl e ↦ subst (λ (q : ℕ). HasWay shapes before (set ways (slice_index order i) way) (slice_index order q))
-            (sym e) (here is)
+        | inl e ↦ rw e (here is)
         | inr ne ↦ still (slice_index order p) (walk.once p i (omega arith) lt) (are.come p (omega arith))
       ];
       small = λ n. elim (cases_eq n (slice_index order i)) [

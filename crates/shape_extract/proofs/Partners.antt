@@ -57,54 +57,47 @@ pub rect_at : (shapes : List Shape) (n : ℕ) (s : Shape) → slice_get shapes n
     → slice_get (rects_of shapes) n ≡ Some s.rect
 rect_at shapes n s is = slice_get-map (λ (t : Shape). t.rect) shapes n ∙ (rw is refl)
 
+-- ---- what a test of numbers keeps of rising ones
+
+pub those_near : (holds : ℕ → Type 0) (p : ℕ → Bool) (near found : List ℕ) → found ≡ filter p near
+    → IsStrictlyIncreasing near → ((n : ℕ) → p n ≡ true → holds n) → ((n : ℕ) → holds n → Contains near n)
+    → ((n : ℕ) → holds n → p n ≡ true) → AreThose holds found
+those_near holds p near found filtered up sound complete passes = subst (AreThose holds) (sym filtered) (record {
+  each = λ k lt. sound (slice_index (filter p near) k) (filter_passes p near k 0 lt);
+  complete = λ n h. (let kept = contains_filter p near n (passes n h) (complete n h) in
+      (kept.0, (kept.1, sym (get_or_default_zero (filter p near) kept.0 n kept.1) ∙ kept.2)));
+  rising = λ k l lt len. AllPairs-from_increasing (filter p near) (IsStrictlyIncreasing-filter p near up) k l 0 lt len;
+})
+
 module _ (test : Shape → Shape → Bool) (shapes : List Shape) (a : ℕ) (first : Shape) (margin : ℕ) (near found : List ℕ)
     (first_is : slice_get shapes a ≡ Some first) (close : (s t : Shape) → IsProper s.rect → IsProper t.rect
     → test s t ≡ true → IsClose s.rect t.rect margin) (proper : AreProper (rects_of shapes))
     (are : AreNear (rects_of shapes) first.rect margin near)
     (filtered : found ≡ filter (passes_with test first shapes) near) where
-  p : ℕ → Bool
-  p = passes_with test first shapes
-
-  each : (k : ℕ) → k < length (filter p near) → PassTogether test shapes a (slice_index (filter p near) k)
-  unfolding p
-  each k lt =
-      let at : IsShapeAt (test first) shapes (slice_index (filter p near) k) = shape_at (test first) shapes
-      (slice_index (filter p near) k) (filter_passes p near k 0 lt) in
+  pub partners_are : AreThose (PassTogether test shapes a) found
+  partners_are = those_near (PassTogether test shapes a) (passes_with test first shapes) near found filtered are.rising
+      (λ n e. (
+      let at : IsShapeAt (test first) shapes n = shape_at (test first) shapes n e in
       record {
         first = first;
         second = at.shape;
         first_is = first_is;
         second_is = at.shape_is;
         passes_so = at.passes_so;
-      }
-
-  complete : (b : ℕ) → PassTogether test shapes a b → (k : ℕ)
-      × ((k < length (filter p near)) × (slice_index (filter p near) k ≡ b))
-  unfolding p
-  complete b pass =
-      let same : pass.first ≡ first = same_Some pass.first first (sym pass.first_is ∙ first_is) in
-      let so : test first pass.second ≡ true = sym (ap (λ (s : Shape). test s pass.second) same) ∙ pass.passes_so in
-      let second : slice_get (rects_of shapes) b ≡ Some pass.second.rect =
-      rect_at shapes b pass.second pass.second_is in
-      let near_so : IsClose first.rect pass.second.rect margin = close first pass.second
-      (proper a first.rect (rect_at shapes a first first_is)) (proper b pass.second.rect second) so in
-      let here : Contains near b = are.complete b
-      (record { other = pass.second.rect; other_is = second; close = near_so }) in
-      let kept : Contains (filter p near) b = contains_filter p near b
-      (ap (passes_in (test first)) pass.second_is ∙ so) here in
-      (kept.0, (kept.1, sym (get_or_default_zero (filter p near) kept.0 b kept.1) ∙ kept.2))
-
-  partners_filtered : AreThose (PassTogether test shapes a) (filter p near)
-  partners_filtered = record {
-    each = each;
-    complete = complete;
-    rising = λ k l lt len. AllPairs-from_increasing (filter p near)
-        (IsStrictlyIncreasing-filter p near are.rising) k l 0 lt len;
-  }
-
-  pub partners_are : AreThose (PassTogether test shapes a) found
-  unfolding p
-  partners_are = subst (AreThose (PassTogether test shapes a)) (sym filtered) partners_filtered
+      }))
+      (λ b pass. (
+      let second = rect_at shapes b pass.second pass.second_is in
+      are.complete b (record {
+        other = pass.second.rect;
+        other_is = second;
+        close = close first pass.second (proper a first.rect (rect_at shapes a first first_is))
+            (proper b pass.second.rect second) (so b pass);
+      })))
+      (λ b pass. ap (passes_in (test first)) pass.second_is ∙ so b pass)
+    where
+      so : (b : ℕ) (pass : PassTogether test shapes a b) → test first pass.second ≡ true
+      so b pass = ap (λ (s : Shape). test s pass.second) (same_Some first pass.first (sym first_is ∙ pass.first_is))
+          ∙ pass.passes_so
 
 -- numbers of near ones are numbers of shapes
 pub near_within : (shapes : List Shape) (rect : Rectangle) (margin : ℕ) (near : List ℕ)
@@ -130,18 +123,6 @@ pub tested : (test : Shape → Shape → Bool) (first s : Shape) (shapes : List 
     → slice_get shapes n ≡ Some s → test first s ≡ b → passes_with test first shapes n ≡ b
 tested test first s shapes n b is e = ap (passes_in (test first)) is ∙ e
 
--- ---- what a test of numbers keeps of rising ones
-
-pub those_near : (holds : ℕ → Type 0) (p : ℕ → Bool) (near found : List ℕ) → found ≡ filter p near
-    → IsStrictlyIncreasing near → ((n : ℕ) → p n ≡ true → holds n) → ((n : ℕ) → holds n → Contains near n)
-    → ((n : ℕ) → holds n → p n ≡ true) → AreThose holds found
-those_near holds p near found filtered up sound complete passes = subst (AreThose holds) (sym filtered) (record {
-  each = λ k lt. sound (slice_index (filter p near) k) (filter_passes p near k 0 lt);
-  complete = λ n h. (let kept = contains_filter p near n (passes n h) (complete n h) in
-      (kept.0, (kept.1, sym (get_or_default_zero (filter p near) kept.0 n kept.1) ∙ kept.2)));
-  rising = λ k l lt len. AllPairs-from_increasing (filter p near) (IsStrictlyIncreasing-filter p near up) k l 0 lt len;
-})
-
 -- a number of which the test holds is that of a shape that passes
 pub passes_here : (test : Shape → Bool) (shapes : List Shape) (n : ℕ)
     → passes_at test shapes n ≡ true → PassesIn test shapes n
@@ -156,16 +137,11 @@ pub holding_share : (a b : Rectangle) (x y : ℤ) → holds_point a x y ≡ true
 holding_share a b x y p q =
     let pa = and_parts (int_le a.x0 x && int_le x a.x1) (int_le a.y0 y && int_le y a.y1) p in
     let pb = and_parts (int_le b.x0 x && int_le x b.x1) (int_le b.y0 y && int_le y b.y1) q in
-    let ax = and_parts (int_le a.x0 x) (int_le x a.x1) pa.0 in
-    let ay = and_parts (int_le a.y0 y) (int_le y a.y1) pa.1 in
-    let bx = and_parts (int_le b.x0 x) (int_le x b.x1) pb.0 in
-    let by = and_parts (int_le b.y0 y) (int_le y b.y1) pb.1 in
-    and_from (share_x a b) (share_y a b)
-    (and_from (int_le a.x0 b.x1) (int_le b.x0 a.x1) (through a.x0 x b.x1 ax.0 bx.1) (through b.x0 x a.x1 bx.0 ax.1))
-    (and_from (int_le a.y0 b.y1) (int_le b.y0 a.y1) (through a.y0 y b.y1 ay.0 by.1) (through b.y0 y a.y1 by.0 ay.1))
+    and_from (share_x a b) (share_y a b) (along a.x0 a.x1 b.x0 b.x1 x pa.0 pb.0) (along a.y0 a.y1 b.y0 b.y1 y pa.1 pb.1)
   where
-    through : (u v w : ℤ) → int_le u v ≡ true → int_le v w ≡ true → int_le u w ≡ true
-    through u v w e f = grind (arith, ints)
+    along : (a c e g x : ℤ) → (int_le a x && int_le x c) ≡ true → (int_le e x && int_le x g) ≡ true
+        → (int_le a g && int_le e c) ≡ true
+    along a c e g x p q = grind (arith, ints)
 
 pub tested_at : (test : Shape → Bool) (s : Shape) (shapes : List Shape) (n : ℕ) (b : Bool) → slice_get shapes n ≡ Some s
     → test s ≡ b → passes_at test shapes n ≡ b

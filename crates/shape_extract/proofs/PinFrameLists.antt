@@ -28,7 +28,7 @@ numbers_more fact n numbers number are here = record {
     | inl e ↦
         let last : slice_index (numbers ++ number ∷ []) p ≡ number = ap (slice_index (numbers ++ number ∷ []))
         (e ∙ sym are.long) ∙ get_or-append_seam numbers number [] 0 in
-        subst (fact p) (sym last) (subst (λ (q : ℕ). fact q number) (sym e) here)
+        subst (fact p) (sym last) (rw e here)
     | inr ne ↦
         let old : slice_index (numbers ++ number ∷ []) p ≡ slice_index numbers p = get_or-append numbers
         (number ∷ []) 0 p (omega (arith, are.long)) in

@@ -1,11 +1,11 @@
 -- The ports of a layout, from the rows of its pins.
-use Rattle.std.proofs.Common.{◌≡◌, ◌≢◌, ℕ, zero, suc, ◌+◌, ◌-◌, ◌<◌, Bool, true, false, cond, ◌&&◌, ◌||◌, List, [], ◌∷◌}
+use Rattle.std.proofs.Common.{◌≡◌, ◌≢◌, ℕ, ◌+◌, ◌-◌, ◌<◌, Bool, true, false, cond, ◌&&◌, ◌||◌, List, [], ◌∷◌}
 use Rattle.std.proofs.Common.{◌++◌, length, get_or, take, map, Some, refl, sym, ap, ◌∙◌, arith, inl, inr, eq-eqb}
 use Rattle.std.specs.Prelude.{slice_get, slice_index, count_by, ◌==◌}
 use Rattle.std.proofs.lemmas.Bool.{cases_eq, and_from, and_parts, eqb-true, ne_eqb, false_from_ne_true}
 use Rattle.std.proofs.lemmas.List.{map_more}
 use Rattle.std.proofs.lemmas.List.Sums.{sum_by-cons}
-use Rattle.std.proofs.lemmas.Option.{same_Some, slice_get-get_or}
+use Rattle.std.proofs.lemmas.Option.{same_Some, slice_get-get_or, slice_get-map}
 use Rattle.geom.specs.declared.shapes.Shape.{Shape}
 use Rattle.layout_rules.specs.declared.layers.TheConstants.{INPUT_PIN, OUTPUT_PIN}
 use Rattle.layout_rules.specs.Layers.{is_pin}
@@ -18,6 +18,7 @@ use Rattle.shape_extract.specs.Code.PinRows.{IsRowOf}
 use Rattle.shape_extract.specs.Code.RowFaults.{ArePinRows}
 use Rattle.shape_extract.specs.declared.tables.ports.Port.{Port}
 use Rattle.shape_extract.specs.Code.Ports.{port_by, port_of, ports_of, enters, leaves, crosses}
+use Rattle.shape_extract.proofs.Each.{item_at}
 use Rattle.shape_extract.proofs.RowPins.{row_is, input_pin, output_pin}
 
 module _ (shapes : List Shape) (kept : ReportsNone (CellsBroken shapes)) (rows : List ℕ) (are : ArePinRows shapes rows)
@@ -97,21 +98,14 @@ pub ports_more : (shapes : List Shape) (ports : List Port) (i : ℕ) (port : Por
     → ports ≡ map (port_of shapes) (take i shapes)
     → ((s : Shape) → slice_get shapes i ≡ Some s → port ≡ port_of shapes s)
     → ports ++ port ∷ [] ≡ map (port_of shapes) (take (i + 1) shapes)
-ports_more shapes ports i port lt are is = go (item_of shapes i lt)
-  where
-    item_of : (xs : List Shape) (k : ℕ) → k < length xs → (s : Shape) × (slice_get xs k ≡ Some s)
-    item_of [] k less = absurd (omega arith)
-    item_of (x ∷ xs) zero less = (x, refl)
-    item_of (x ∷ xs) (suc k) less = item_of xs k (omega arith)
-
-    go : (s : Shape) × (slice_get shapes i ≡ Some s) → ports ++ port ∷ [] ≡ map (port_of shapes) (take (i + 1) shapes)
-    go item =
-        let same : item.0 ≡ get_or shapes i item.0 = same_Some item.0 (get_or shapes i item.0)
-        (sym item.1 ∙ slice_get-get_or shapes i item.0 lt) in
-        let here : port ≡ port_of shapes (get_or shapes i item.0) = is item.0 item.1 ∙ ap (port_of shapes) same in
-        ap (λ (l : List Port). l ++ port ∷ []) are
-        ∙ (ap (λ (x : Port). map (port_of shapes) (take i shapes) ++ x ∷ []) here
-        ∙ sym (map_more (port_of shapes) shapes i item.0 lt))
+ports_more shapes ports i port lt are is =
+    let item = item_at shapes i lt in
+    let same : item.0 ≡ get_or shapes i item.0 = same_Some item.0 (get_or shapes i item.0)
+    (sym item.1 ∙ slice_get-get_or shapes i item.0 lt) in
+    let here : port ≡ port_of shapes (get_or shapes i item.0) = is item.0 item.1 ∙ ap (port_of shapes) same in
+    ap (λ (l : List Port). l ++ port ∷ []) are
+    ∙ (ap (λ (x : Port). map (port_of shapes) (take i shapes) ++ x ∷ []) here
+    ∙ sym (map_more (port_of shapes) shapes i item.0 lt))
 
 -- ---- counts of ports
 
@@ -164,9 +158,4 @@ exits_counted shapes = count_map leaves (is_exit shapes) (port_of shapes)
 -- the port of a shape, by its place
 pub port_got : (shapes : List Shape) (p : ℕ) (s : Shape) → slice_get shapes p ≡ Some s
     → slice_get (ports_of shapes) p ≡ Some (port_of shapes s)
-port_got shapes p s got = go (port_of shapes) shapes p got
-  where
-    go : (f : Shape → Port) (xs : List Shape) (k : ℕ) → slice_get xs k ≡ Some s → slice_get (map f xs) k ≡ Some (f s)
-    go f [] k e = absurd cc
-    go f (x ∷ xs) zero e = ap (λ (y : Shape). Some (f y)) (same_Some x s e)
-    go f (x ∷ xs) (suc k) e = go f xs k e
+port_got shapes p s got = slice_get-map (port_of shapes) shapes p ∙ (rw got refl)

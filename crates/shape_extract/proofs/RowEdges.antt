@@ -1,7 +1,7 @@
 -- Lower edges, read, sorted and each kept once, are the rows.
 use Rattle.std.proofs.Common.{◌≡◌, ℕ, zero, suc, ◌+◌, ◌-◌, ◌<◌, ◌≤◌, ◌⊎◌, Bool, true, false, List, [], ◌∷◌, ◌++◌}
-use Rattle.std.proofs.Common.{length, get_or, Some, ℤ, refl, sym, ap, subst, ◌∙◌, arith, inl, inr}
-use Rattle.std.specs.Prelude.{slice_get, int_lt, IsSorted, IsPermutation, Contains}
+use Rattle.std.proofs.Common.{length, get_or, Some, ℤ, refl, sym, ap, ◌∙◌, arith, inl, inr}
+use Rattle.std.specs.Prelude.{slice_get, int_lt, IsSorted, IsPermutation}
 use Rattle.std.specs.Ordering.{int_cmp, is_lt, ordering_index}
 use Rattle.std.specs.declared.cmp.Ordering.TheVariants.{Less, Equal, Greater}
 use Rattle.std.specs.List.{HoldsAt}
@@ -9,13 +9,13 @@ use Rattle.std.specs.List.Sorted.{IsNonDecreasingBy, IsPartitionPoint}
 use Rattle.std.proofs.lemmas.Bool.{cases_eq, cases_lt, both_ways}
 use Rattle.std.proofs.lemmas.Int.{ints}
 use Rattle.std.proofs.lemmas.Cmp.{int_cmp_total, int_ranked}
-use Rattle.std.proofs.lemmas.List.Sorted.{ranks_by, sorted_far, searchable_from_sorted, IsPermutation-sym}
-use Rattle.std.proofs.lemmas.List.Sorted.{Contains-permutation}
+use Rattle.std.proofs.lemmas.List.Sorted.{searchable_from_sorted, IsPermutation-sym}
 use Rattle.std.proofs.lemmas.Option.{same_Some, slice_get_within, slice_get-get_or, get_or_from_slice_get}
 use Rattle.geom.specs.declared.shapes.Shape.{Shape}
 use Rattle.layout_rules.specs.Layers.{is_frame}
 use Rattle.layout_rules.specs.Rows.{AreRows}
 use Rattle.shape_extract.specs.Searches.{SaysWhether}
+use Rattle.shape_extract.proofs.Moved.{moved, far}
 use Rattle.shape_extract.specs.Code.Edges.{IsEdge, IsAmong, AreEdges, Rises, AreDistinct, EndsWith}
 
 -- ---- a list with one more item
@@ -85,24 +85,13 @@ edges_all shapes n edges all are = record {
 -- ---- each number once
 
 lt_is : (x y : ℤ) → is_lt (int_cmp x y) ≡ int_lt x y
-lt_is x y = by_test (int_lt x y) (int_lt y x) refl refl
-  where
-    by_test : (a b : Bool) → int_lt x y ≡ a → int_lt y x ≡ b → is_lt (int_cmp x y) ≡ int_lt x y
-    by_test true b p q = rw p refl
-    by_test false true p q = rw (p, q) refl
-    by_test false false p q = rw (p, q) refl
+lt_is x y = grind (arith, ints)
 
 -- a sorted list does not fall
 not_falling : (xs : List ℤ) → IsSorted int_cmp xs → (i j : ℕ) (y z : ℤ) → slice_get xs i ≡ Some y
     → slice_get xs j ≡ Some z → i ≤ j → int_lt z y ≡ false
 not_falling xs sorted i j y z p q le =
-    let lt : j < length xs = slice_get_within xs j z q in
-    let a : get_or xs i y ≡ y = get_or_from_slice_get xs i y y p in
-    let b : get_or xs j y ≡ z = get_or_from_slice_get xs j z y q in
-    let far : is_lt (int_cmp (get_or xs j y) (get_or xs i y)) ≡ false = sorted_far (λ u v. is_lt (int_cmp u v))
-    (ranks_by int_cmp_total (λ u. u)) xs sorted i j y le lt in
-    sym (lt_is z y) ∙ (sym (ap (λ (u : ℤ). is_lt (int_cmp u y)) b)
-    ∙ (sym (ap (λ (v : ℤ). is_lt (int_cmp (get_or xs j y) v)) a) ∙ far))
+    sym (lt_is z y) ∙ far int_cmp_total xs sorted i j y z le p q
 
 below_from : (x y : ℤ) → int_lt y x ≡ false → (x ≡ y → ⊥) → int_lt x y ≡ true
 below_from x y h ne = grind (arith, ints)
@@ -145,7 +134,7 @@ module _ (sorted : List ℤ) (up : IsSorted int_cmp sorted) (n : ℕ) (numbers :
         | inr last ↦ absurd (let w : j < length numbers = slice_get_within numbers j z old in omega (arith, last.0))
       ]
       | inr new ↦ elim (push_cases numbers here y i p) [
-        | inl first ↦ subst (λ (u : ℤ). int_lt y u ≡ true) new.1 (under not_last i y first)
+        | inl first ↦ rw new.1 at (under not_last i y first)
         | inr last ↦ absurd (omega (arith, last.0, new.0))
       ]
     ];
@@ -180,23 +169,14 @@ distinct_all sorted n numbers all are = record {
 
 -- ---- the rows
 
-contained : (xs : List ℤ) (y : ℤ) → IsAmong xs y → Contains xs y
-contained xs y among = (among.0, slice_get_within xs among.0 y among.1, get_or_from_slice_get xs among.0 y y among.1)
-
-among_from : (xs : List ℤ) (y : ℤ) → Contains xs y → IsAmong xs y
-among_from xs y at = (at.0, slice_get-get_or xs at.0 y at.1 ∙ ap Some at.2)
-
 pub rows_from : (shapes : List Shape) (edges sorted distinct : List ℤ) → AreEdges shapes edges
     → IsPermutation edges sorted → AreDistinct sorted distinct → AreRows shapes distinct
 rows_from shapes edges sorted distinct are same once = record {
   rising = once.rising;
-  each = λ f frame at so. once.each frame.rect.y0
-      (among_from sorted frame.rect.y0
-      (Contains-permutation edges sorted frame.rect.y0 same (contained edges frame.rect.y0 (are.each f frame at so))));
+  each = λ f frame at so. once.each frame.rect.y0 (moved edges sorted same frame.rect.y0 (are.each f frame at so));
   only = λ r y p. (
       let here = once.only y (r, p) in
-      let edge = are.only y (among_from edges y
-      (Contains-permutation sorted edges y (IsPermutation-sym edges sorted same) (contained sorted y here))) in
+      let edge = are.only y (moved sorted edges (IsPermutation-sym edges sorted same) y here) in
       (edge.number, edge.frame, edge.frame_is, edge.frame_so, edge.edge_is)
       );
 }

@@ -18,6 +18,7 @@ use Rattle.layout_rules.specs.Reports.{ReportsNone, Passes}
 use Rattle.layout_rules.specs.CircuitRules.{IsNoCell, IsStrayPin, CellsBroken, RowsBroken}
 use Rattle.layout_rules.proofs.ReportLaws.{second_kept, alone_kept}
 use Rattle.layout_rules.proofs.Deciding.{settled}
+use Rattle.shape_extract.proofs.Searching.{not_falling}
 use Rattle.shape_extract.specs.Searches.{FindsAt, AreThose}
 use Rattle.shape_extract.specs.Code.NetPins.{IsPinIn}
 use Rattle.shape_extract.specs.Code.PinRows.{IsRowOf}
@@ -40,7 +41,7 @@ rows_more n shapes rows row are here =
             let is : slice_index (rows ++ row ∷ []) p ≡ row = ap (slice_index (rows ++ row ∷ []))
             (e ∙ sym are.long) ∙ last in
             subst (IsRowOf shapes p) (sym is)
-            (subst (λ (q : ℕ). IsRowOf shapes q row) (sym e) (here (subst (Passes is_pin shapes) e pin)))
+            (rw e (here (subst (Passes is_pin shapes) e pin)))
         | inr ne ↦
             let old : slice_index (rows ++ row ∷ []) p ≡ slice_index rows p = get_or-append rows (row ∷ []) 0 p
             (omega (arith, are.long)) in
@@ -151,12 +152,7 @@ module _ (flat : Flat) (kept : ReportsNone (CellsBroken flat.shapes)) (rows : Li
         let is : slice_index found first.place ≡ b = first.number_is in
         elim (cases_lt k.0 first.place) [
           | inl less ↦ absurd (broken_row d broken (first.before k.0 less ∙ ap (λ (n : ℕ). suc (slice_index rows n)) e))
-          | inr more ↦ elim (cases_eq k.0 first.place) [
-            | inl same ↦ let f : slice_index found k.0 ≡ slice_index found first.place =
-                ap (slice_index found) same in omega arith
-            | inr ne ↦ let r : slice_index found first.place < slice_index found k.0 = are.rising first.place k.0
-                (omega arith) k.1.0 in omega arith
-          ]
+          | inr more ↦ omega (arith, not_falling found are.rising first.place k.0 more k.1.0)
         ]
         );
   }

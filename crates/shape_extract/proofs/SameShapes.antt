@@ -7,7 +7,7 @@ use Rattle.std.proofs.lemmas.Int.{ints}
 use Rattle.geom.specs.declared.shapes.Shape.{Shape}
 use Rattle.geom.specs.Rectangle.{Rectangle}
 
-same_int : (a b : ℤ) → int_eq a b ≡ true → a ≡ b
+pub same_int : (a b : ℤ) → int_eq a b ≡ true → a ≡ b
 same_int a b h = grind (arith, ints)
 
 same_rect : (a b : Rectangle)

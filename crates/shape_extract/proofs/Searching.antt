@@ -19,7 +19,7 @@ NoneBelow reported n = (a : ℕ) → a < n → ReportsNoneAt reported a
 pub none_more : (reported : ℕ → ℕ → Type 0) (n : ℕ) → NoneBelow reported n → ReportsNoneAt reported n
     → NoneBelow reported (n + 1)
 none_more reported n none here a lt = elim (cases_eq a n) [
-  | inl e ↦ subst (λ (x : ℕ). ReportsNoneAt reported x) (sym e) here
+  | inl e ↦ rw e here
   | inr ne ↦ none a (omega arith)
 ]
 
@@ -117,3 +117,12 @@ after_none first second (Some r) none finds = Afterwards-second first second r.f
 pub after_some : (first second : ℕ → ℕ → Type 0) (r : Report) → IsFirstReport first r.first r.second
     → Finds (Afterwards first second) (Some r)
 after_some first second r finds = Afterwards-first first second r.first r.second finds
+
+-- rising numbers don't fall
+pub not_falling : (found : List ℕ)
+    → ((p q : ℕ) → p < q → q < length found → slice_index found p < slice_index found q)
+    → (p k : ℕ) → p ≤ k → k < length found → slice_index found p ≤ slice_index found k
+not_falling found rising p k le lt = elim (cases_eq p k) [
+  | inl e ↦ (let same : slice_index found p ≡ slice_index found k = ap (slice_index found) e in omega arith)
+  | inr ne ↦ omega (arith, rising p k (omega arith) lt)
+]

@@ -1,7 +1,7 @@
 -- Shapes that are sorted with their numbers are in order: equal ones come one after the other, by rising number.
 use Rattle.std.proofs.Common.{◌≡◌, ℕ, ◌+◌, ◌<◌, ◌≤◌, inl, inr, ℤ, true, false, eqb, List, [], ◌∷◌, ◌++◌}
-use Rattle.std.proofs.Common.{length, get_or, Some, refl, sym, ap, subst, ◌∙◌, arith}
-use Rattle.std.specs.Prelude.{slice_get, IsPermutation, IsSorted, Contains}
+use Rattle.std.proofs.Common.{length, Some, refl, sym, ap, subst, ◌∙◌, arith}
+use Rattle.std.specs.Prelude.{slice_get, IsPermutation, IsSorted}
 use Rattle.std.specs.declared.cmp.Ordering.{Ordering}
 use Rattle.std.specs.declared.cmp.Ordering.TheVariants.{Less, Equal, Greater}
 use Rattle.std.specs.Ordering.{int_cmp, nat_cmp, int_eq, is_lt, ordering_then, ordering_reverse}
@@ -10,11 +10,12 @@ use Rattle.std.proofs.lemmas.Int.{ints}
 use Rattle.std.proofs.lemmas.Cmp.{int_cmp_total, nat_cmp_total, then_total, on_total, tied_itself}
 use Rattle.std.proofs.lemmas.Bool.Decides.{nat_tests}
 use Rattle.std.proofs.lemmas.Bool.{cases_eq, and_from}
-use Rattle.std.proofs.lemmas.Option.{same_Some, slice_get_within, slice_get-get_or, get_or_from_slice_get}
-use Rattle.std.proofs.lemmas.List.Sorted.{ranks_by, sorted_far, IsPermutation-sym, Contains-permutation}
+use Rattle.std.proofs.lemmas.Option.{same_Some, slice_get_within}
+use Rattle.std.proofs.lemmas.List.Sorted.{IsPermutation-sym}
 use Rattle.geom.specs.declared.shapes.Shape.{Shape}
 use Rattle.shape_extract.specs.declared.distinct_shapes.Sided.{Sided}
 use Rattle.shape_extract.specs.Code.DistinctShapes.{sided_of, AreAlike, AreInOrder}
+use Rattle.shape_extract.proofs.Moved.{moved, far}
 use Rattle.shape_extract.proofs.RowEdges.{push_old, push_new, push_cases}
 use Rattle.shape_extract.proofs.SameShapes.{same_shape}
 use Rattle.shape_extract.proofs.Each.{item_at}
@@ -147,43 +148,25 @@ sided_more n shapes order here are got = record {
 
 -- ---- sorted
 
-contained : (xs : List Sided) (x : Sided) (k : ℕ) → slice_get xs k ≡ Some x → Contains xs x
-contained xs x k is = (k, slice_get_within xs k x is, get_or_from_slice_get xs k x x is)
-
-place_from : (xs : List Sided) (x : Sided) → Contains xs x → (k : ℕ) × (slice_get xs k ≡ Some x)
-place_from xs x at = (at.0, slice_get-get_or xs at.0 x at.1 ∙ ap Some at.2)
-
 pub sided_moved : (n : ℕ) (shapes : List Shape) (order sorted : List Sided) → IsPermutation order sorted
     → SidedTo n shapes order → SidedTo n shapes sorted
 sided_moved n shapes order sorted same are = record {
-  each = λ m s lt is. (
-      let k = are.each m s lt is in
-      place_from sorted (sided_of s m) (Contains-permutation order sorted (sided_of s m) same
-      (contained order (sided_of s m) k.0 k.1)));
+  each = λ m s lt is. moved order sorted same (sided_of s m) (are.each m s lt is);
   only = λ k x is. (
-      let old = place_from order x (Contains-permutation sorted order x (IsPermutation-sym order sorted same)
-      (contained sorted x k is)) in
+      let old = moved sorted order (IsPermutation-sym order sorted same) x (k, is) in
       are.only old.0 x old.1);
 }
 
 module _ (shapes : List Shape) (order : List Sided) (n : ℕ) (are : SidedTo n shapes order)
     (up : IsSorted sided_cmp order) where
-  far : (i j : ℕ) (x y : Sided) → i ≤ j → slice_get order i ≡ Some x → slice_get order j ≡ Some y
-      → is_lt (sided_cmp y x) ≡ false
-  far i j x y le p q =
-      let within : j < length order = slice_get_within order j y q in
-      let h : is_lt (sided_cmp (get_or order j x) (get_or order i x)) ≡ false =
-      sorted_far (λ u v. is_lt (sided_cmp u v)) (ranks_by sided_total (λ u. u)) order up i j x le within in
-      sym (ap (λ (u : Sided). is_lt (sided_cmp u x)) (get_or_from_slice_get order j y x q))
-      ∙ (sym (ap (λ (v : Sided). is_lt (sided_cmp (get_or order j x) v)) (get_or_from_slice_get order i x x p)) ∙ h)
-
   far_apart : (i j : ℕ) (x y : Sided) (s t : Shape) → i ≤ j → slice_get order i ≡ Some x → slice_get order j ≡ Some y
       → x ≡ sided_of s x.number → y ≡ sided_of t y.number
       → is_lt (ordering_then (shape_cmp t s) (nat_cmp y.number x.number)) ≡ false
   far_apart i j x y s t le p q x_is y_is =
       ap is_lt (by_number t s y.number x.number)
       ∙ (sym (ap (λ (v : Sided). is_lt (sided_cmp v (sided_of s x.number))) y_is)
-      ∙ (sym (ap (λ (v : Sided). is_lt (sided_cmp y v)) x_is) ∙ far i j x y le p q))
+      ∙ (sym (ap (λ (v : Sided). is_lt (sided_cmp y v)) x_is)
+      ∙ far sided_total order up i j x y le p q))
 
   one_kind : (x y : Sided) (a : IsSided shapes x) (b : IsSided shapes y) → AreAlike shapes x y → a.shape ≡ b.shape
   one_kind x y a b alike = same_Some a.shape b.shape (sym a.shape_is ∙ (alike ∙ b.shape_is))

@@ -9,6 +9,7 @@ pub mod RowFaults
 pub mod Ports
 pub mod Marking
 pub mod LabelNames
+pub mod LayoutTables
 -- the rules of circuits:
 pub mod Cells
 pub mod FirstRule

@@ -1,10 +1,11 @@
 -- The walk that finds nets: a label for each shape, where a number of no shape means none yet, and the labelled shapes
 -- in the order in which they were labelled. It is the search by connected components of circuit extractors.
 use Rattle.std.specs.Prelude.{◌≡◌, ◌≢◌, ℕ, ◌+◌, ◌*◌, ◌<◌, ◌≤◌, ◌&&◌, Bool, false, cond}
-use Rattle.std.specs.Prelude.{List, length, slice_index, slice_index_or, sum}
+use Rattle.std.specs.Prelude.{List, [], length, slice_index, slice_index_or, sum}
 use Rattle.geom.specs.declared.shapes.Shape.{Shape}
 use Rattle.layout_rules.specs.Touch.{touch, Touching, Joined}
 use Rattle.shape_extract.specs.declared.planes.Plane.{Plane}
+use Rattle.shape_extract.specs.declared.connectivity.net_walk.Walk.{Walk}
 use Rattle.shape_extract.specs.Planes.{in_plane}
 use Rattle.shape_extract.specs.Searches.{SaysWhether}
 
@@ -95,8 +96,25 @@ pub record IsReached (shapes : List Shape) (labels order new more : List ℕ) (f
       → slice_index new (slice_index more p) ≡ slice_index labels from
   pub less : 2 * sum new + length more ≤ 2 * sum labels + length order
 
--- the walk is done, and what was labelled is still
-pub record IsGrown (shapes : List Shape) (labels new order : List ℕ) : Type 0 where
-  pub grown : IsWalk shapes new order
-  pub all_done : IsDone shapes new order (length order)
-  pub still : (k : ℕ) → slice_index labels k < length shapes → slice_index new k < length shapes
+-- a walk over so many shapes has labelled none, and told of none
+pub record IsUnbegun (count : ℕ) (w : Walk) : Type 0 where
+  pub long : length w.labels.items ≡ count
+  pub none : (k : ℕ) → k < count → slice_index w.labels.items k ≡ count
+  pub touched : length w.touched.items ≡ count
+  pub order : w.order.items ≡ []
+
+-- the walk is done with the first shapes of its order and has told of them, and the others have this label
+pub record IsDoneTo (done mark : ℕ) (shapes : List Shape) (w : Walk) : Type 0 where
+  pub walk : IsWalk shapes w.labels.items w.order.items
+  pub all_done : IsDone shapes w.labels.items w.order.items done
+  pub marks : AreMarked w.labels.items w.order.items done mark
+  pub within : done ≤ length w.order.items
+  pub told : AreToldTo done shapes w.order.items w.touched.items
+
+-- the walk is done with its whole order and has told of it, and what was labelled is still
+pub record IsGrown (shapes : List Shape) (before after : Walk) : Type 0 where
+  pub grown : IsWalk shapes after.labels.items after.order.items
+  pub all_done : IsDone shapes after.labels.items after.order.items (length after.order.items)
+  pub told : AreToldTo (length after.order.items) shapes after.order.items after.touched.items
+  pub still : (k : ℕ) → slice_index before.labels.items k < length shapes
+      → slice_index after.labels.items k < length shapes

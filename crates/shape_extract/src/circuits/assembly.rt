@@ -1,14 +1,10 @@
 // The circuit of a layout, put together from its cells and ports, where the rules of circuits are kept.
 ghost use Rattle.std.specs.Prelude.{◌≡◌, ◌^◌, ◌<◌, IfOk};
 ghost use Rattle.geom.specs.FlatForm.{flat_count};
-ghost use Rattle.layout_rules.specs.Nets.{AreNets};
-ghost use Rattle.layout_rules.specs.Rows.{AreRows};
 ghost use Rattle.shape_extract.specs.Extraction.{IsCircuitOf};
-ghost use Rattle.shape_extract.specs.Code.FramesOfPins.{ArePinFrames};
-ghost use Rattle.shape_extract.specs.Code.Marking.{AreMarks};
+ghost use Rattle.shape_extract.specs.Code.LayoutTables.{AreTablesOf};
 ghost use Rattle.shape_extract.specs.Extracts.{KeepsFive};
 ghost use Rattle.shape_extract.specs.Code.Parts.{AreParts};
-ghost use Rattle.shape_extract.specs.Code.RowFaults.{ArePinRows};
 ghost use Rattle.shape_extract.specs.Filed.{IsFiled};
 
 use crate::circuits::cell_feeds::Tables;
@@ -17,7 +13,7 @@ use crate::circuits::drivers::drivers;
 use crate::circuits::frames::{ordered_frames, places_of};
 use crate::circuits::outputs::{outputs_of, wire_count};
 use crate::filed_shapes::FiledShapes;
-use crate::tables::mark_table::Mark;
+use crate::tables::layout_tables::LayoutTables;
 use crate::tables::ports::{count_entries, count_exits, ports};
 use aq_base::{List, Memory};
 use circuit_extracted::{ExCell, Extracted};
@@ -36,24 +32,21 @@ pub struct CircuitParts {
 fn parts_of(
     alloc: Global,
     flat: &Flat,
-    marking: &[Mark],
     filed: &FiledShapes,
-    nets: &[u32],
-    edges: &[i64],
-    pin_frames: &[u32],
-    rows: &[usize],
+    found: &LayoutTables,
 ) -> Result<CircuitParts, Memory>
     requires few { flat_count flat.now < 2 ^ 32 }
     requires filed { IsFiled flat.now.shapes filed.now }
-    requires nets { AreNets flat.now.shapes nets.now }
-    requires marking { AreMarks flat.now.shapes flat.now.labels marking.now }
-    requires edges { AreRows flat.now.shapes edges.now }
-    requires pin_frames { ArePinFrames flat.now.shapes pin_frames.now }
-    requires rows { ArePinRows flat.now.shapes rows.now }
+    requires found { AreTablesOf flat.now found.now }
     requires kept { KeepsFive flat.now }
     ensures { IfOk result (λ parts. AreParts flat.now parts.cells parts.inputs parts.outputs) }
 {
     let shapes = flat.shapes.as_slice();
+    let nets = found.nets.as_slice();
+    let marking = found.marking.as_slice();
+    let pin_frames = found.pin_frames.as_slice();
+    let edges = found.edges.as_slice();
+    let rows = found.pin_rows.as_slice();
     let frames = ordered_frames(alloc, shapes)?;
     let places = places_of(alloc, shapes, frames.as_slice())?;
     let drivers = drivers(alloc, flat, nets)?;
@@ -81,34 +74,18 @@ fn parts_of(
 pub fn circuit_of(
     alloc: Global,
     flat: &Flat,
-    marking: &[Mark],
     filed: &FiledShapes,
-    nets: List<u32>,
-    edges: &[i64],
-    pin_frames: &[u32],
-    rows: &[usize],
+    found: LayoutTables,
 ) -> Result<Extracted, Memory>
     requires few { flat_count flat.now < 2 ^ 32 }
     requires filed { IsFiled flat.now.shapes filed.now }
-    requires nets { AreNets flat.now.shapes nets }
-    requires marking { AreMarks flat.now.shapes flat.now.labels marking.now }
-    requires edges { AreRows flat.now.shapes edges.now }
-    requires pin_frames { ArePinFrames flat.now.shapes pin_frames.now }
-    requires rows { ArePinRows flat.now.shapes rows.now }
+    requires found { AreTablesOf flat.now found }
     requires kept { KeepsFive flat.now }
     ensures { IfOk result (IsCircuitOf flat.now) }
 {
-    let parts = parts_of(
-        alloc,
-        flat,
-        marking,
-        filed,
-        nets.as_slice(),
-        edges,
-        pin_frames,
-        rows,
-    )?;
-    let wires = wire_count(flat, marking);
+    let parts = parts_of(alloc, flat, filed, &found)?;
+    let wires = wire_count(flat, found.marking.as_slice());
+    let rows = found.edges.len() as u32;
     let CircuitParts {
         cells,
         inputs,
@@ -118,8 +95,8 @@ pub fn circuit_of(
         cells,
         inputs,
         outputs,
-        rows: edges.len() as u32,
+        rows,
         wires,
-        nets,
+        nets: found.nets,
     })
 }

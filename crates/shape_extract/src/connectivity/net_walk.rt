@@ -2,20 +2,8 @@
 ghost use Rattle.std.specs.Prelude.{◌≡◌, ℕ, ◌^◌, ◌<◌, ◌≤◌, length, IfOk, nat_lt, slice_index, slice_set};
 ghost use Rattle.geom.specs.FlatForm.{flat_count};
 ghost use Rattle.layout_rules.specs.Nets.{AreNets};
-ghost use Rattle.shape_extract.specs.Code.Walk.{
-  AreTouching,
-  IsWalk,
-  IsSpreadTo,
-  IsDone,
-  AreMarked,
-  IsLowest,
-  IsGrown,
-  IsReached,
-  IsTold,
-  AreToldTo,
-  AreTold,
-  net_at,
-};
+ghost use Rattle.shape_extract.specs.Code.Walk.{AreTouching, IsWalk, IsSpreadTo, IsLowest, IsReached, IsTold, AreTold};
+ghost use Rattle.shape_extract.specs.Code.Walk.{net_at, IsUnbegun, IsDoneTo, IsGrown};
 ghost use Rattle.shape_extract.specs.Distinct.{ArePlaces, IsDistinct};
 ghost use Rattle.shape_extract.specs.Filed.{IsFiled};
 ghost use Rattle.shape_extract.specs.Planes.{ArePlanes};
@@ -62,97 +50,93 @@ fn note_touched(numbers: &[u32], touched: &mut [bool], from: u32)
     touched[from as usize] = 0 < numbers.len();
 }
 
-/// Spreads from the shape of this number, and notes whether some shape touches it. The lists are for use within.
-fn reach(
-    shapes: &[Shape],
-    planes: &Planes,
-    labels: &mut [u32],
-    order: &mut Vec<u32>,
-    touched: &mut [bool],
-    found: &mut Vec<u32>,
-    more: &mut Vec<u32>,
-    from: u32,
-) -> Result<(), Memory>
+/// A walk along nets over shapes of which each lies once.
+#[derive(Drop)]
+struct Walk {
+    /// For each shape its label, or the number of shapes where it has none yet.
+    labels: Vec<u32>,
+    /// The labelled shapes in the order in which they were labelled.
+    order: Vec<u32>,
+    /// For each shape that was spread from whether some shape touches it.
+    touched: Vec<bool>,
+    /// The shapes that touch the one that is spread from.
+    found: Vec<u32>,
+    /// A list for use within.
+    more: Vec<u32>,
+}
+
+/// A walk over so many shapes that has not begun.
+fn unbegun(alloc: Global, count: u32) -> Result<Walk, Memory>
+    ensures { IfOk result (IsUnbegun count) }
+{
+    Ok(Walk {
+        labels: vec![in alloc; count; count as usize]?,
+        order: Vec::new(alloc),
+        touched: vec![in alloc; false; count as usize]?,
+        found: Vec::new(alloc),
+        more: Vec::new(alloc),
+    })
+}
+
+/// Spreads from the shape of this number, and notes whether some shape touches it.
+fn reach(shapes: &[Shape], planes: &Planes, walk: &mut Walk, from: u32) -> Result<(), Memory>
     requires planes { ArePlanes shapes.now planes.now }
     requires few { length shapes.now < 2 ^ 32 }
-    requires walk { IsWalk shapes.now labels.old order.old.items }
-    requires touched { length touched.old ≡ length shapes.now }
+    requires walk { IsWalk shapes.now walk.old.labels.items walk.old.order.items }
+    requires touched { length walk.old.touched.items ≡ length shapes.now }
     requires at { from < length shapes.now }
-    requires marked { slice_index labels.old from < length shapes.now }
-    requires lowest { IsLowest shapes.now labels.old (slice_index labels.old from) }
-    ensures reached { IfOk result (λ _. IsReached shapes.now labels.old order.old.items
-        labels.new order.new.items from) }
-    ensures told { IfOk result (λ _. IsTold shapes.now from touched.old touched.new) }
+    requires marked { slice_index walk.old.labels.items from < length shapes.now }
+    requires lowest { IsLowest shapes.now walk.old.labels.items (slice_index walk.old.labels.items from) }
+    ensures reached { IfOk result (λ _. IsReached shapes.now walk.old.labels.items walk.old.order.items
+        walk.new.labels.items walk.new.order.items from) }
+    ensures told { IfOk result (λ _. IsTold shapes.now from walk.old.touched.items walk.new.touched.items) }
 {
-    list_touching(shapes, planes, from, found, more)?;
-    let numbers = found.as_slice();
-    note_touched(numbers, touched, from);
-    spread(shapes, numbers, labels, order, from)?;
+    list_touching(shapes, planes, from, &mut walk.found, &mut walk.more)?;
+    let numbers = walk.found.as_slice();
+    note_touched(numbers, &mut walk.touched, from);
+    spread(shapes, numbers, &mut walk.labels, &mut walk.order, from)?;
     Ok(())
 }
 
 /// Spreads from each shape of the order from this place on, until all have been spread from.
 fn grow(
-    alloc: Global,
     shapes: &[Shape],
     planes: &Planes,
-    labels: &mut [u32],
-    order: &mut Vec<u32>,
-    touched: &mut [bool],
+    walk: &mut Walk,
     start: usize,
     mark: u32,
 ) -> Result<(), Memory>
     requires planes { ArePlanes shapes.now planes.now }
     requires few { length shapes.now < 2 ^ 32 }
-    requires walk { IsWalk shapes.now labels.old order.old.items }
-    requires told { AreToldTo start shapes.now order.old.items touched.old }
-    requires done { IsDone shapes.now labels.old order.old.items start }
-    requires marked { AreMarked labels.old order.old.items start mark }
-    requires within { start ≤ length order.old.items }
+    requires begun { IsDoneTo start mark shapes.now walk.old }
     requires mark { mark < length shapes.now }
-    requires lowest { IsLowest shapes.now labels.old mark }
-    ensures grown { IfOk result (λ _. IsGrown shapes.now labels.old labels.new order.new.items) }
-    ensures told { IfOk result (λ _. AreToldTo (length order.new.items) shapes.now order.new.items touched.new) }
+    requires lowest { IsLowest shapes.now walk.old.labels.items mark }
+    ensures { IfOk result (λ _. IsGrown shapes.now walk.old walk.new) }
 {
-    let mut found = Vec::new(alloc);
-    let mut more = Vec::new(alloc);
     let mut done = start;
-    while done < order.len() {
-        let from = order[done];
-        reach(
-            shapes, planes, labels, order, touched, &mut found, &mut more, from,
-        )?;
+    while done < walk.order.len() {
+        let from = walk.order[done];
+        reach(shapes, planes, walk, from)?;
         done += 1;
     }
     Ok(())
 }
 
 /// Begins a net at each shape that is not reached.
-fn walk_all(
-    alloc: Global,
-    shapes: &[Shape],
-    planes: &Planes,
-    labels: &mut [u32],
-    touched: &mut [bool],
-) -> Result<(), Memory>
+fn walk_all(shapes: &[Shape], planes: &Planes, walk: &mut Walk) -> Result<(), Memory>
     requires planes { ArePlanes shapes.now planes.now }
     requires few { length shapes.now < 2 ^ 32 }
-    requires long { length labels.old ≡ length shapes.now }
-    requires none { (k : ℕ) → k < length shapes.now → slice_index labels.old k ≡ length shapes.now }
-    requires touched { length touched.old ≡ length shapes.now }
-    ensures nets { IfOk result (λ _. AreNets shapes.now labels.new) }
-    ensures told { IfOk result (λ _. AreTold shapes.now touched.new) }
+    requires unbegun { IsUnbegun (length shapes.now) walk.old }
+    ensures nets { IfOk result (λ _. AreNets shapes.now walk.new.labels.items) }
+    ensures told { IfOk result (λ _. AreTold shapes.now walk.new.touched.items) }
 {
-    let mut order = Vec::new(alloc);
     for i in 0..shapes.len() {
-        if labels[i] as usize >= shapes.len() {
-            let start = order.len();
+        if walk.labels[i] as usize >= shapes.len() {
+            let start = walk.order.len();
             let mark = i as u32;
-            labels[i] = mark;
-            order.push(mark)?;
-            grow(
-                alloc, shapes, planes, labels, &mut order, touched, start, mark,
-            )?;
+            walk.labels[i] = mark;
+            walk.order.push(mark)?;
+            grow(shapes, planes, walk, start, mark)?;
         }
     }
     Ok(())
@@ -166,16 +150,19 @@ struct Walked {
     touched: Vec<bool>,
 }
 
-fn walk(alloc: Global, shapes: &[Shape], planes: &Planes) -> Result<Walked, Memory>
+fn walk_kinds(alloc: Global, shapes: &[Shape], planes: &Planes) -> Result<Walked, Memory>
     requires few { length shapes.now < 2 ^ 32 }
     requires planes { ArePlanes shapes.now planes.now }
     ensures nets { IfOk result (λ w. AreNets shapes.now w.labels.items) }
     ensures told { IfOk result (λ w. AreTold shapes.now w.touched.items) }
 {
-    let none = shapes.len() as u32;
-    let mut labels = vec![in alloc; none; shapes.len()]?;
-    let mut touched = vec![in alloc; false; shapes.len()]?;
-    walk_all(alloc, shapes, planes, &mut labels, &mut touched)?;
+    let mut walk = unbegun(alloc, shapes.len() as u32)?;
+    walk_all(shapes, planes, &mut walk)?;
+    let Walk {
+        labels,
+        touched,
+        ..
+    } = walk;
     Ok(Walked { labels, touched })
 }
 
@@ -224,7 +211,7 @@ pub fn nets_by(alloc: Global, shapes: &[Shape], filed: &FiledShapes) -> Result<L
     requires filed { IsFiled shapes.now filed.now }
     ensures { IfOk result (λ nets. AreNets shapes.now nets) }
 {
-    let walked = walk(alloc, filed.kinds.shapes.as_slice(), &filed.planes)?;
+    let walked = walk_kinds(alloc, filed.kinds.shapes.as_slice(), &filed.planes)?;
     let nets = own_nets(alloc, shapes, &filed.kinds, &walked)?;
     Ok(List::from_vec(nets))
 }

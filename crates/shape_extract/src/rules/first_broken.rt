@@ -2,12 +2,9 @@
 ghost use Rattle.std.specs.Prelude.{◌≡◌, ◌^◌, ◌<◌, IfOk};
 ghost use Rattle.geom.specs.FlatForm.{flat_count};
 ghost use Rattle.layout_rules.specs.CircuitRules.{CellsBroken};
-ghost use Rattle.layout_rules.specs.Nets.{AreNets};
 ghost use Rattle.layout_rules.specs.Reports.{ReportsNone};
-ghost use Rattle.layout_rules.specs.Rows.{AreRows};
-ghost use Rattle.shape_extract.specs.Code.Marking.{AreMarks};
 ghost use Rattle.shape_extract.specs.Code.FirstRule.{FindsRule};
-ghost use Rattle.shape_extract.specs.Code.RowFaults.{ArePinRows};
+ghost use Rattle.shape_extract.specs.Code.LayoutTables.{AreTablesOf};
 ghost use Rattle.shape_extract.specs.Filed.{IsFiled};
 
 use crate::filed_shapes::FiledShapes;
@@ -16,7 +13,7 @@ use crate::rules::label_rule::find_labels;
 use crate::rules::net_rule::find_nets;
 use crate::rules::row_rule::find_rows;
 use crate::search::Report;
-use crate::tables::mark_table::Mark;
+use crate::tables::layout_tables::LayoutTables;
 use aq_base::Memory;
 use geom::Flat;
 use layout_rules::Rule;
@@ -45,21 +42,19 @@ pub fn broken(rule: Rule, report: Report) -> BrokenRule
 pub fn first_broken(
     alloc: Global,
     flat: &Flat,
-    marking: &[Mark],
     filed: &FiledShapes,
-    nets: &[u32],
-    edges: &[i64],
-    rows: &[usize],
+    found: &LayoutTables,
 ) -> Result<Option<BrokenRule>, Memory>
     requires few { flat_count flat.now < 2 ^ 32 }
-    requires marking { AreMarks flat.now.shapes flat.now.labels marking.now }
     requires filed { IsFiled flat.now.shapes filed.now }
-    requires nets { AreNets flat.now.shapes nets.now }
-    requires edges { AreRows flat.now.shapes edges.now }
-    requires rows { ArePinRows flat.now.shapes rows.now }
+    requires found { AreTablesOf flat.now found.now }
     requires kept { ReportsNone (CellsBroken flat.now.shapes) }
     ensures { IfOk result (FindsRule flat.now) }
 {
+    let marking = found.marking.as_slice();
+    let nets = found.nets.as_slice();
+    let edges = found.edges.as_slice();
+    let rows = found.pin_rows.as_slice();
     if let Some(report) = find_excitation(alloc, flat.shapes.as_slice(), filed)? {
         return Ok(Some(broken(Rule::E2, report)));
     }

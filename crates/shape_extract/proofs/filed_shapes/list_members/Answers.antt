@@ -9,7 +9,7 @@ loop-at-preserved c =
     let lt : c.loop-at.at < length c.args.found.now.items = omega arith in
     let within : c.loop-at.at < length c.loop-at.found.items = omega (arith, c.loop-at.invariant.longer) in
     let kind_is : c.index.result.now ≡ slice_index c.args.found.now.items c.loop-at.at =
-    c.index.ensures ∙ (get_or_default_zero c.loop-at.found.items c.loop-at.at c.index.result.now within
+    c.index.ensures ∙ (get_or_default_zero _ _ _ within
     ∙ c.loop-at.invariant.rest c.loop-at.at (omega arith) lt) in
     members_more c.loop-at.at c.args.numbers.now c.args.places.now c.args.found.now.items c.loop-at.found.items
     c.list_rest.new.found.items c.requires.firsts c.requires.kinds c.loop-at.invariant lt

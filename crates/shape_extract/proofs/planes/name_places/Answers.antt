@@ -10,7 +10,7 @@ loop-at-preserved c =
     let lt : c.loop-at.at < length c.args.found.now.items = omega arith in
     let within : c.loop-at.at < length c.loop-at.found.items = omega (arith, c.loop-at.invariant.long) in
     let place_is : c.index.result.now ≡ slice_index c.args.found.now.items c.loop-at.at =
-    c.index.ensures ∙ (get_or_default_zero c.loop-at.found.items c.loop-at.at c.index.result.now within
+    c.index.ensures ∙ (get_or_default_zero _ _ _ within
     ∙ c.loop-at.invariant.rest c.loop-at.at (omega arith) lt) in
     elim c.if-place-numbers.branch [
       | then-place-numbers w ↦ rw w.found-is (named_more c.loop-at.at c.args.numbers.now c.args.found.now.items

@@ -11,7 +11,8 @@ ports-requires-clause-kept c = rw c.as_slice-shapes.ensures c.requires.kept.cell
 
 pub ports-requires-clause-last : goal.ports-requires-clause-last
 ports-requires-clause-last c = rw c.as_slice-shapes.ensures (c.saturating_sub.ensures
-    ∙ ap (λ (n : ℕ). n - 1) (sym (row_count-certified c.args.flat.now.shapes c.args.edges.now c.requires.edges)))
+    ∙ ap (λ (n : ℕ). n - 1) (sym (row_count-certified c.args.flat.now.shapes c.as_slice-edges.result.now
+    (rw c.as_slice-edges.ensures.value c.requires.found.rows_are))))
 
 pub outputs_of-requires-clause-count : goal.outputs_of-requires-clause-count
 outputs_of-requires-clause-count c =

@@ -1,17 +1,14 @@
-use Rattle.std.proofs.Common.{◌≡◌, ◌∙◌, ◌<◌, ◌≤◌, ap, rules, arith, length, Some, ℤ, w64, to_z, of_z}
+use Rattle.std.proofs.Common.{◌≡◌, ◌∙◌, ◌≤◌, ap, rules, arith, length, Some, ℤ, w64, to_z, of_z}
 use Rattle.std.specs.Prelude.{slice_get}
 use Rattle.std.proofs.lemmas.Int.{to_z-of_z}
 use Rattle.std.proofs.lemmas.Option.{slice_get_within}
-use Rattle.shape_extract.proofs.Marked.{got_at}
 use Rattle.shape_extract.proofs.CellLists.{row_there, row_fits}
+use Rattle.shape_extract.proofs.Each.{item_read}
 use Rattle.shape_extract.proofs.circuits.cell_list.row_of.Goals as goal
 
 pub overflow_cast-result : goal.overflow_cast-result
 overflow_cast-result c =
-    let within : c.args.f < length c.as_slice.result.now = rw c.as_slice.ensures
-    (slice_get_within _ _ _ c.requires.frame.shape_is) in
-    let got : slice_get c.args.tables.now.flat.now.shapes c.args.f ≡ Some c.index-as_slice-f.result =
-    rw c.as_slice.ensures at (got_at c.as_slice.result.now _ _ within c.index-as_slice-f.is) in
+    let got = item_read c.as_slice.ensures (slice_get_within _ _ _ c.requires.frame.shape_is) c.index-as_slice-f.is in
     let same : to_z w64 (of_z w64 c.lower_edge.result) ≡ c.lower_edge.result = search (rules, to_z-of_z) in
     let at : slice_get c.args.edges.now c.row_at.result ≡ Some c.index-as_slice-f.result.rect.y0 = c.row_at.ensures
     ∙ ap (λ (y : ℤ). Some y) (same ∙ c.lower_edge.ensures) in
@@ -21,10 +18,7 @@ overflow_cast-result c =
 
 pub returns : goal.returns
 returns c =
-    let within : c.args.f < length c.as_slice.result.now = rw c.as_slice.ensures
-    (slice_get_within _ _ _ c.requires.frame.shape_is) in
-    let got : slice_get c.args.tables.now.flat.now.shapes c.args.f ≡ Some c.index-as_slice-f.result =
-    rw c.as_slice.ensures at (got_at c.as_slice.result.now _ _ within c.index-as_slice-f.is) in
+    let got = item_read c.as_slice.ensures (slice_get_within _ _ _ c.requires.frame.shape_is) c.index-as_slice-f.is in
     let same : to_z w64 (of_z w64 c.lower_edge.result) ≡ c.lower_edge.result = search (rules, to_z-of_z) in
     let at : slice_get c.args.edges.now c.row_at.result ≡ Some c.index-as_slice-f.result.rect.y0 = c.row_at.ensures
     ∙ ap (λ (y : ℤ). Some y) (same ∙ c.lower_edge.ensures) in

@@ -27,7 +27,7 @@ returns c =
     some_over c.args.shapes.now c.requires.kept c.args.before.now c.requires.walked c.args.f c.requires.frame
     c.list_line_partners.new.found.items are in
     let is : c.index.result.now ≡ slice_index c.list_line_partners.new.found.items 0 = c.index.ensures
-    ∙ get_or_default_zero c.list_line_partners.new.found.items 0 c.index.result.now some in
+    ∙ get_or_default_zero _ _ _ some in
     subst (IsUnder c.args.shapes.now c.args.before.now c.args.f) (sym is)
     (first_under c.args.shapes.now c.requires.kept c.args.before.now c.requires.walked c.args.f c.requires.frame
     c.list_line_partners.new.found.items are)

@@ -1,7 +1,5 @@
-use Rattle.std.proofs.Common.{◌≡◌, ◌∙◌, sym, subst}
+use Rattle.std.proofs.Common.{◌≡◌, ◌∙◌, sym}
 use Rattle.std.proofs.lemmas.Option.{same_Some}
-use Rattle.geom.specs.declared.shapes.Shape.{Shape}
-use Rattle.shape_extract.specs.Code.Ways.{IsSpanUnder}
 use Rattle.shape_extract.proofs.Marked.{got_at}
 use Rattle.shape_extract.proofs.FrameSpans.{placed_under}
 use Rattle.shape_extract.proofs.circuits.cell_spans.span_of.Goals as goal
@@ -21,5 +19,4 @@ returns c = λ frame got.
     (sym (got_at _ _ _ c.requires.within c.index-shapes-f.is) ∙ got) in
     placed_under c.args.shapes.now c.args.before.now c.args.ways.now c.requires.ways c.args.f c.in_ok-bar.bar
     c.in_ok-bar.ensures frame got c.span_under.result
-    (subst (λ (s : Shape). IsSpanUnder c.args.shapes.now c.args.before.now c.args.ways.now c.in_ok-bar.bar s
-    c.span_under.result) same c.span_under.ensures)
+    (rw same at c.span_under.ensures)

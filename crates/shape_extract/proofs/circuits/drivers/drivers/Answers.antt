@@ -1,8 +1,7 @@
-use Rattle.std.proofs.Common.{◌≡◌, ◌∙◌, ◌<◌, sym, ap, arith, length, Some}
-use Rattle.std.specs.Prelude.{slice_get}
+use Rattle.std.proofs.Common.{◌∙◌, ◌<◌, sym, ap, arith, length}
 use Rattle.geom.specs.declared.shapes.Shape.{Shape}
-use Rattle.shape_extract.proofs.Marked.{got_at}
 use Rattle.shape_extract.proofs.NetDrivers.{net_below, drivers_more, drivers_same, drivers_all}
+use Rattle.shape_extract.proofs.Each.{item_there}
 use Rattle.shape_extract.proofs.circuits.drivers.drivers.Goals as goal
 use Rattle.shape_extract.proofs.circuits.drivers.drivers.Goals.{then-shapes-q-eq-OUTPUT_PIN}
 use Rattle.shape_extract.proofs.circuits.drivers.drivers.Goals.{else-shapes-q-eq-OUTPUT_PIN}
@@ -14,9 +13,7 @@ index_mut-requires c =
 
 pub loop-q-preserved : goal.loop-q-preserved
 loop-q-preserved c =
-    let got : slice_get c.args.flat.now.shapes c.loop-q.q ≡ Some c.index-shapes-q.result =
-    rw c.as_slice-shapes.ensures at
-    (got_at c.as_slice-shapes.result.now _ _ c.loop-q-test.true c.index-shapes-q.is) in
+    let got = item_there c.as_slice-shapes.ensures c.loop-q-test.true c.index-shapes-q.is in
     elim c.if-shapes-q-eq-OUTPUT_PIN.branch [
       | then-shapes-q-eq-OUTPUT_PIN w ↦ rw w.drivers-is
           (drivers_more c.args.flat.now c.args.nets.now c.requires.nets c.requires.kept c.loop-q.q

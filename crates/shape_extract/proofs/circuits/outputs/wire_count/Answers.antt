@@ -1,15 +1,12 @@
-use Rattle.std.proofs.Common.{◌≡◌, ◌∙◌, sym, Some}
-use Rattle.std.specs.Prelude.{slice_get}
-use Rattle.geom.proofs.Filing.{read_at}
+use Rattle.std.proofs.Common.{◌∙◌, sym}
 use Rattle.shape_extract.proofs.MarkTable.{wired_yes, wired_no}
+use Rattle.shape_extract.proofs.Each.{item_there}
 use Rattle.shape_extract.proofs.circuits.outputs.wire_count.Goals as goal
 use Rattle.shape_extract.proofs.circuits.outputs.wire_count.Goals.{then-is_wire, else-is_wire}
 
 pub loop-p-preserved : goal.loop-p-preserved
 loop-p-preserved c =
-    let got : slice_get c.args.flat.now.shapes c.loop-p.p ≡ Some c.shape-item.result =
-    rw c.as_slice-shape-items.ensures at
-    (read_at c.as_slice-shape-items.result.now _ _ c.loop-p-test.true c.shape-item.is) in
+    let got = item_there c.as_slice-shape-items.ensures c.loop-p-test.true c.shape-item.is in
     elim c.if-is_wire.branch [
       | then-is_wire w ↦ rw w.wires-is
           (wired_yes c.args.flat.now c.args.marking.now c.requires.marking c.loop-p.p c.shape-item.result got

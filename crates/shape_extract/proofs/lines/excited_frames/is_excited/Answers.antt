@@ -1,12 +1,11 @@
 use Rattle.shape_extract.proofs.InPlanes.{over_line}
-use Rattle.std.proofs.Common.{◌≡◌, ◌≢◌, ◌<◌, ◌∙◌, length, arith, sym, subst}
+use Rattle.std.proofs.Common.{◌≡◌, ◌≢◌, ◌<◌, ◌∙◌, length, arith, sym}
 use Rattle.std.proofs.lemmas.Grind.{get_or_default_zero}
 use Rattle.std.proofs.lemmas.Option.{same_Some}
 use Rattle.std.specs.Prelude.{slice_index}
-use Rattle.geom.specs.declared.shapes.Shape.{Shape}
 use Rattle.layout_rules.specs.Reports.{PassTogether}
-use Rattle.shape_extract.specs.Searches.{SaysWhether, AreThose}
-use Rattle.shape_extract.specs.Code.Lines.{lies_over, Excites}
+use Rattle.shape_extract.specs.Searches.{AreThose}
+use Rattle.shape_extract.specs.Code.Lines.{lies_over}
 use Rattle.shape_extract.proofs.Searching.{together_within}
 use Rattle.shape_extract.proofs.Marked.{got_at}
 use Rattle.shape_extract.proofs.ExcitedEach.{not_one_over, one_over, edge_among}
@@ -43,8 +42,7 @@ returns c = λ frame got.
     (sym (got_at _ _ _ c.requires.within c.index-shapes-f.is) ∙ got) in
     one_over c.args.shapes.now c.args.f c.list_line_partners.new.found.items c.in_ok-list_line_partners.ensures frame
     got one c.index.result.now (sym is) c.excites.result
-    (subst (λ (s : Shape). SaysWhether c.excites.result
-    (Excites c.args.shapes.now c.index.result.now s)) same c.excites.ensures)
+    (rw same at c.excites.ensures)
 
 pub list_line_partners-requires-clause-planar : goal.list_line_partners-requires-clause-planar
 list_line_partners-requires-clause-planar c = λ s t h. over_line s t h

@@ -1,4 +1,4 @@
-use Rattle.std.proofs.Common.{◌≡◌, ◌<◌, ◌∙◌, ℕ, List, length, arith, sym, subst}
+use Rattle.std.proofs.Common.{◌≡◌, ◌<◌, ◌∙◌, ℕ, length, arith, subst}
 use Rattle.std.proofs.lemmas.Grind.{get_or_default_zero}
 use Rattle.std.specs.Prelude.{slice_index}
 use Rattle.layout_rules.specs.ExcitationLines.{Contact}
@@ -11,12 +11,11 @@ pub loop-done-preserved : goal.loop-done-preserved
 loop-done-preserved c =
     let lt : c.loop-done.done < length c.loop-done.order.items = omega arith in
     let from_is : c.index-from.result.now ≡ slice_index c.loop-done.order.items c.loop-done.done = c.index-from.ensures
-    ∙ get_or_default_zero c.loop-done.order.items c.loop-done.done c.index-from.result.now lt in
+    ∙ get_or_default_zero _ _ _ lt in
     let are : AreThose (Contact c.args.shapes.now
     (slice_index c.loop-done.order.items c.loop-done.done)) c.as_slice.result.now =
     subst (λ (x : ℕ). AreThose (Contact c.args.shapes.now x) c.as_slice.result.now) from_is
-    (subst (λ (x : List ℕ). AreThose (Contact c.args.shapes.now c.index-from.result.now) x)
-    (sym c.as_slice.ensures.value) c.in_ok-list_contacts.ensures) in
+    (rw c.as_slice.ensures.value c.in_ok-list_contacts.ensures) in
     let s : IsSpreadAlong (length c.as_slice.result.now) c.args.shapes.now c.as_slice.result.now c.loop-done.before
     c.loop-done.order.items c.spread.new.before c.spread.new.order.items = c.in_ok-spread.ensures in
     record {

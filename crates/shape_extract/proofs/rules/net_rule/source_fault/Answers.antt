@@ -1,19 +1,16 @@
-use Rattle.std.proofs.Common.{◌≡◌, ◌<◌, ◌∙◌, sym, Some, true, false, length}
-use Rattle.std.specs.Prelude.{slice_get}
+use Rattle.std.proofs.Common.{◌≡◌, ◌∙◌, sym, true, false}
 use Rattle.layout_rules.specs.declared.layers.TheConstants.{OUTPUT_PIN}
 use Rattle.layout_rules.specs.Labels.{is_labelled}
 use Rattle.shape_extract.specs.Searches.{AreThose}
 use Rattle.shape_extract.specs.Code.NetPins.{IsPinIn}
-use Rattle.shape_extract.proofs.Marked.{got_at}
 use Rattle.shape_extract.proofs.MarkTable.{labelled_at}
 use Rattle.shape_extract.proofs.NetPins.{labelled_source, plain_source, no_input}
+use Rattle.shape_extract.proofs.Each.{item_read}
 use Rattle.shape_extract.proofs.rules.net_rule.source_fault.Goals as goal
 
 pub returns : goal.returns
 returns c =
-    let within : c.args.a < length c.as_slice-shapes.result.now = rw c.as_slice-shapes.ensures c.requires.within in
-    let got : slice_get c.args.flat.now.shapes c.args.a ≡ Some c.index-shapes-a.result = rw c.as_slice-shapes.ensures at
-    (got_at c.as_slice-shapes.result.now _ _ within c.index-shapes-a.is) in
+    let got = item_read c.as_slice-shapes.ensures c.requires.within c.index-shapes-a.is in
     let are : AreThose (IsPinIn c.args.flat.now.shapes OUTPUT_PIN c.args.a) c.as_slice.result.now =
     rw c.as_slice.ensures.value (rw c.as_slice-shapes.ensures at c.in_ok-list_in_net.ensures) in
     let unmarked : is_labelled c.args.flat.now c.index-shapes-a.result ≡ false =
@@ -24,9 +21,7 @@ returns c =
 
 pub returns-then-has_label : goal.returns-then-has_label
 returns-then-has_label c =
-    let within : c.args.a < length c.as_slice-shapes.result.now = rw c.as_slice-shapes.ensures c.requires.within in
-    let got : slice_get c.args.flat.now.shapes c.args.a ≡ Some c.index-shapes-a.result = rw c.as_slice-shapes.ensures at
-    (got_at c.as_slice-shapes.result.now _ _ within c.index-shapes-a.is) in
+    let got = item_read c.as_slice-shapes.ensures c.requires.within c.index-shapes-a.is in
     let are : AreThose (IsPinIn c.args.flat.now.shapes OUTPUT_PIN c.args.a) c.as_slice.result.now =
     rw c.as_slice.ensures.value (rw c.as_slice-shapes.ensures at c.in_ok-list_in_net.ensures) in
     let marked : is_labelled c.args.flat.now c.index-shapes-a.result ≡ true =
@@ -37,7 +32,5 @@ returns-then-has_label c =
 
 pub returns-then-shape-ne-INPUT_PIN : goal.returns-then-shape-ne-INPUT_PIN
 returns-then-shape-ne-INPUT_PIN c =
-    let within : c.args.a < length c.as_slice-shapes.result.now = rw c.as_slice-shapes.ensures c.requires.within in
-    let got : slice_get c.args.flat.now.shapes c.args.a ≡ Some c.index-shapes-a.result = rw c.as_slice-shapes.ensures at
-    (got_at c.as_slice-shapes.result.now _ _ within c.index-shapes-a.is) in
+    let got = item_read c.as_slice-shapes.ensures c.requires.within c.index-shapes-a.is in
     no_input c.args.flat.now c.args.a c.index-shapes-a.result got c.if-shape-ne-INPUT_PIN.true

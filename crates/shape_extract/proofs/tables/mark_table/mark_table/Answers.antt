@@ -1,11 +1,10 @@
-use Rattle.std.proofs.Common.{◌≡◌, ap, arith, length, Some}
-use Rattle.std.specs.Prelude.{slice_get}
-use Rattle.geom.proofs.Filing.{read_at}
+use Rattle.std.proofs.Common.{ap, arith, length}
 use Rattle.layout_rules.specs.Labels.{marks}
 use Rattle.shape_extract.specs.Passing.{PassesIn}
 use Rattle.shape_extract.specs.Searches.{AreThose}
 use Rattle.shape_extract.specs.Code.Marking.{IsNoted}
 use Rattle.shape_extract.proofs.MarkTable.{marks_blank, marked_within, marks_more, put_back, marks_all}
+use Rattle.shape_extract.proofs.Each.{item_there}
 use Rattle.shape_extract.proofs.tables.mark_table.mark_table.Goals as goal
 
 pub loop-place-init : goal.loop-place-init
@@ -31,9 +30,7 @@ loop-place-preserved c =
     rw c.as_slice-shapes.ensures at c.in_ok-list_marked.ensures in
     let noted : IsNoted c.loop-place.place c.list_marked.new.found.items c.loop-place.marking.items c.note.new.marking =
     rw (c.as_slice.ensures.value, c.deref_mut.ensures.value) at c.note.ensures in
-    let label : slice_get c.args.flat.now.labels c.loop-place.place ≡ Some c.label-item.result =
-    rw c.as_slice-label-items.ensures at
-    (read_at c.as_slice-label-items.result.now _ _ c.loop-place-test.true c.label-item.is) in
+    let label = item_there c.as_slice-label-items.ensures c.loop-place-test.true c.label-item.is in
     rw (put_back c.loop-place.marking.len c.loop-place.marking.items c.note.new.marking noted.long
     (omega (arith, c.deref_mut.ensures.len, ap length c.deref_mut.ensures.value)))
     (marks_more _ _ _ c.label-item.result _ _ _ label are noted c.loop-place.invariant)

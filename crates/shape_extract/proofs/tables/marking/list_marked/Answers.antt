@@ -1,8 +1,6 @@
 use Rattle.std.proofs.Common.{◌≡◌, rules, w64, to_z, of_z}
 use Rattle.std.proofs.lemmas.Int.{to_z-of_z}
 use Rattle.layout_rules.specs.Labels.{marks}
-use Rattle.shape_extract.specs.Searches.{AreThose}
-use Rattle.shape_extract.specs.Passing.{PassesIn}
 use Rattle.shape_extract.proofs.InPlanes.{all_within, marked_in_plane}
 use Rattle.shape_extract.proofs.Members.{passing_within, passing_all}
 use Rattle.shape_extract.proofs.tables.marking.list_marked.Goals as goal
@@ -15,9 +13,9 @@ pub list_of_kinds-requires-clause-kinds : goal.list_of_kinds-requires-clause-kin
 list_of_kinds-requires-clause-kinds c =
     let x : to_z w64 (of_z w64 c.args.label.now.x) ≡ c.args.label.now.x = search (rules, to_z-of_z) in
     let y : to_z w64 (of_z w64 c.args.label.now.y) ≡ c.args.label.now.y = search (rules, to_z-of_z) in
-    let kept : AreThose (PassesIn (marks c.args.label.now) c.args.filed.now.kinds.shapes)
-    c.keep_marked.new.numbers.items = marked_in_plane c.args.filed.now.kinds.shapes c.args.label.now
-    c.rect_at-here.result c.list_near.new.found.items _ (rw (x, y) at c.rect_at-here.ensures)
+    let kept = marked_in_plane c.args.filed.now.kinds.shapes c.args.label.now
+    c.rect_at-here.result c.list_near.new.found.items c.keep_marked.new.numbers.items
+    (rw (x, y) at c.rect_at-here.ensures)
     (c.in_ok-list_near.ensures c.args.filed.now.kinds.shapes c.requires.filed.planes)
     (rw c.as_slice.ensures at c.keep_marked.ensures) in
     passing_within (marks c.args.label.now) c.args.filed.now.kinds.shapes c.keep_marked.new.numbers.items _
@@ -27,9 +25,9 @@ pub list_of_kinds-requires-clause-rising : goal.list_of_kinds-requires-clause-ri
 list_of_kinds-requires-clause-rising c =
     let x : to_z w64 (of_z w64 c.args.label.now.x) ≡ c.args.label.now.x = search (rules, to_z-of_z) in
     let y : to_z w64 (of_z w64 c.args.label.now.y) ≡ c.args.label.now.y = search (rules, to_z-of_z) in
-    let kept : AreThose (PassesIn (marks c.args.label.now) c.args.filed.now.kinds.shapes)
-    c.keep_marked.new.numbers.items = marked_in_plane c.args.filed.now.kinds.shapes c.args.label.now
-    c.rect_at-here.result c.list_near.new.found.items _ (rw (x, y) at c.rect_at-here.ensures)
+    let kept = marked_in_plane c.args.filed.now.kinds.shapes c.args.label.now
+    c.rect_at-here.result c.list_near.new.found.items c.keep_marked.new.numbers.items
+    (rw (x, y) at c.rect_at-here.ensures)
     (c.in_ok-list_near.ensures c.args.filed.now.kinds.shapes c.requires.filed.planes)
     (rw c.as_slice.ensures at c.keep_marked.ensures) in
     kept.rising
@@ -38,9 +36,9 @@ pub returns : goal.returns
 returns c =
     let x : to_z w64 (of_z w64 c.args.label.now.x) ≡ c.args.label.now.x = search (rules, to_z-of_z) in
     let y : to_z w64 (of_z w64 c.args.label.now.y) ≡ c.args.label.now.y = search (rules, to_z-of_z) in
-    let kept : AreThose (PassesIn (marks c.args.label.now) c.args.filed.now.kinds.shapes)
-    c.keep_marked.new.numbers.items = marked_in_plane c.args.filed.now.kinds.shapes c.args.label.now
-    c.rect_at-here.result c.list_near.new.found.items _ (rw (x, y) at c.rect_at-here.ensures)
+    let kept = marked_in_plane c.args.filed.now.kinds.shapes c.args.label.now
+    c.rect_at-here.result c.list_near.new.found.items c.keep_marked.new.numbers.items
+    (rw (x, y) at c.rect_at-here.ensures)
     (c.in_ok-list_near.ensures c.args.filed.now.kinds.shapes c.requires.filed.planes)
     (rw c.as_slice.ensures at c.keep_marked.ensures) in
     passing_all (marks c.args.label.now) c.args.shapes.now c.args.filed.now.kinds.numbers.items

@@ -1,8 +1,7 @@
 use Rattle.shape_extract.proofs.InPlanes.{frame_framed}
-use Rattle.std.proofs.Common.{◌≡◌, ◌∙◌, ◌<◌, ℕ, length, subst, sym, arith}
+use Rattle.std.proofs.Common.{◌≡◌, ◌∙◌, ◌<◌, length, arith}
 use Rattle.std.proofs.lemmas.Grind.{get_or_default_zero}
 use Rattle.std.specs.Prelude.{slice_index}
-use Rattle.layout_rules.specs.Pins.{LiesIn}
 use Rattle.shape_extract.proofs.PinFrames.{some_frame, first_lies}
 use Rattle.shape_extract.proofs.tables.pin_frames.frame_of.Goals as goal
 
@@ -19,9 +18,8 @@ returns c =
     some_frame c.args.shapes.now c.args.p c.requires.kept c.requires.pin c.list_filed_partners.new.found.items
     c.in_ok-list_filed_partners.ensures in
     let is : c.index.result.now ≡ slice_index c.list_filed_partners.new.found.items 0 = c.index.ensures
-    ∙ get_or_default_zero c.list_filed_partners.new.found.items 0 c.index.result.now some in
-    subst (λ (f : ℕ). LiesIn c.args.shapes.now c.args.p f) (sym is)
-    (first_lies c.args.shapes.now c.args.p c.requires.kept c.requires.pin c.list_filed_partners.new.found.items
+    ∙ get_or_default_zero _ _ _ some in
+    rw is (first_lies c.args.shapes.now c.args.p c.requires.kept c.requires.pin c.list_filed_partners.new.found.items
     c.in_ok-list_filed_partners.ensures)
 
 pub list_filed_partners-requires-clause-planar : goal.list_filed_partners-requires-clause-planar
