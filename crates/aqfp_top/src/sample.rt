@@ -28,7 +28,7 @@ use aq_base::{List, Memory, Sink};
 use blif_read::{BlifRefusal, Netlist, blif_read};
 use cell_library::library_a;
 use circuit::{Word, answer_word};
-use sample_adder::{adder_text, print_sample, sample_laws, sample_words};
+use sample_adder::{SampleCounts, adder_text, print_sample, sample_laws, sample_words};
 use std::alloc::Global;
 
 /// The counts of the adder's chip, and the adder's answers to the eight words.
@@ -123,10 +123,12 @@ fn print<O: Sink>(alloc: Global, bits: u32, sample: &SampleResult, out: &mut O) 
     let counts = &sample.counts;
     let printed = print_sample(
         alloc,
-        bits,
-        counts.rows,
-        counts.cells,
-        counts.wires,
+        SampleCounts {
+            bits,
+            rows: counts.rows,
+            cells: counts.cells,
+            wires: counts.wires,
+        },
         &sample.answers,
         out,
     );

@@ -27,17 +27,14 @@ use Rattle.cell_netlist.proofs.Shown.{cell_net, unshown_grounded, node_low}
 
 -- each level that is told is that of a node
 
-past_zero : (xs : List ℕ) (k : ℕ) → length xs ≤ k → slice_index xs k ≡ 0
-past_zero xs k le = get_or_past xs k 0 le
-
 level_any : (levels heights : List ℕ) → AreLevels levels heights → (k : ℕ)
     → slice_index heights (suc k) - 1 ≡ slice_index levels k
 level_any levels heights known k = elim (cases_lt k (length levels)) [
   | inl lt ↦ sym (known.each k lt)
   | inr le ↦
       let long = known.long in
-      let none = past_zero levels k le in
-      let gone = past_zero heights (suc k) (omega (arith, long, le)) in
+      let none = get_or_past levels k 0 le in
+      let gone = get_or_past heights (suc k) 0 (omega (arith, long, le)) in
       omega (arith, none, gone)
 ]
 
@@ -94,9 +91,6 @@ outputs_low net known k lt =
     let count = known.count in
     omega (arith, low, count)
 
-none_at : (n s : ℕ) → s < n → slice_index_or (replicate n false) s false ≡ false
-none_at n s lt = get_or-replicate n s false false lt
-
 pub start_of : (d : CellView) (f : Forest) (taken : List Bool) → f.count ≡ suc (length d.net.defs)
     → ((h : ℕ → ℕ) → h 0 ≡ 0 → ((s : ℕ) → 0 < s → s < suc (length d.net.defs) → 0 < h s) → Obeys f h)
     → taken ≡ replicate d.net.inputs false → IsJudged d 0 f taken
@@ -109,7 +103,8 @@ start_of d f taken count free is = record {
   };
   taken_are = record {
     long = ap length is ∙ length-replicate d.net.inputs false;
-    each = λ s lt. ap (λ (xs : List Bool). slice_index_or xs s false) is ∙ none_at d.net.inputs s lt;
+    each = λ s lt.
+        ap (λ (xs : List Bool). slice_index_or xs s false) is ∙ get_or-replicate d.net.inputs s false false lt;
   };
 }
   where

@@ -1,11 +1,12 @@
 -- Gates and counts of lists that grow by one.
 use Rattle.std.proofs.Common.{◌≡◌, ℕ, zero, suc, ◌+◌, ◌<◌, ◌≤◌, ◌^◌, Bool, List, [], ◌∷◌, ◌++◌, length, take, get_or}
-use Rattle.std.proofs.Common.{Option, refl, ap, sym, ◌∙◌, subst, arith, inl, inr}
+use Rattle.std.proofs.Common.{Option, ap, sym, ◌∙◌, subst, arith, inl, inr}
 use Rattle.std.specs.Prelude.{slice_index, eqb, nat_eq, ◌&&◌}
 use Rattle.std.specs.List.{count_by, sum_by}
 use Rattle.std.proofs.lemmas.Bool.Decides.{eqb_tells}
 use Rattle.std.proofs.lemmas.List.Sums.{count_by_more_no, count_by_more_yes, count_by-le-length, sum_by-cons}
 use Rattle.circuit.specs.declared.gate.Gate.{Gate}
+use Rattle.std.proofs.lemmas.List.{get_or_default, length-take}
 use Rattle.blif_read.specs.declared.netlist.Def.{Def}
 use Rattle.std.proofs.Common.{length-append}
 use Rattle.blif_read.specs.Netlist.{def_size, IsNetlist}
@@ -62,16 +63,11 @@ count_small counts numbers bound i s known lt =
     let few = count_by-le-length (λ (n : ℕ). nat_eq s n) (take i numbers) in
     omega (arith, is, few)
 
-take_short : (xs : List ℕ) (i : ℕ) → length (take i xs) ≤ i
-take_short xs zero = omega arith
-take_short [] (suc i) = omega arith
-take_short (x ∷ xs) (suc i) = let rest = take_short xs i in omega (arith, rest)
-
 pub bump_fits : (counts numbers : List ℕ) (bound i s : ℕ) → AreCounts counts bound (take i numbers) → s < bound
     → i < length numbers → length numbers < 2 ^ 32 → slice_index counts s + 1 < 2 ^ 32
 bump_fits counts numbers bound i s known lt more few =
     let most = count_small counts numbers bound i s known lt in
-    let short = take_short numbers i in
+    let short = length-take i numbers in
     omega (arith, most, short)
 
 -- definitions name at most as many signals as they hold
@@ -94,15 +90,10 @@ signals_few net xs defs known is same =
     omega (arith, few, long, small)
 
 -- what is read of a list of counts
-any_default : (xs : List ℕ) (i d : ℕ) → i < length xs → get_or xs i d ≡ slice_index xs i
-any_default [] i d lt = absurd (omega (arith, lt))
-any_default (x ∷ xs) zero d lt = refl
-any_default (x ∷ xs) (suc i) d lt = any_default xs i d (omega (arith, lt))
-
 pub read_is : (xs : List ℕ) (bound i n d : ℕ) (numbers : List ℕ) → AreCounts xs bound numbers → i < bound
     → n ≡ get_or xs i d → n ≡ count_by (nat_eq i) numbers
 read_is xs bound i n d numbers known lt is =
-    is ∙ any_default xs i d (omega (arith, lt, known.long)) ∙ known.each i lt
+    is ∙ get_or_default xs i d 0 (omega (arith, lt, known.long)) ∙ known.each i lt
 
 pub name_is : (d : CellView) (s : ℕ) (gate : Option Gate) (b : Bool) (n m : ℕ) → b ≡ is_buffer_of_buffer d gate
     → gate ≡ gate_of d s → n ≡ count_by (nat_eq s) d.net.outputs → m ≡ uses d s

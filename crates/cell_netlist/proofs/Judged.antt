@@ -1,12 +1,12 @@
 -- Definitions judged one after another.
-use Rattle.std.proofs.Common.{◌≡◌, ℕ, zero, suc, ◌+◌, ◌<◌, ◌≤◌, Bool, true, false, not, List, [], ◌∷◌, ◌++◌, length}
+use Rattle.std.proofs.Common.{◌≡◌, ℕ, zero, suc, ◌+◌, ◌<◌, Bool, true, false, not, List, [], ◌∷◌, ◌++◌, length}
 use Rattle.std.proofs.Common.{take, get_or, Option, Some, refl, ap, sym, ◌∙◌, subst, arith, inl, inr, append_assoc}
 use Rattle.std.specs.Prelude.{◌&&◌, ◌||◌, slice_index_or, slice_get, slice_set, nat_lt, nat_eq}
 use Rattle.std.specs.List.{list_any}
 use Rattle.std.proofs.lemmas.Bool.{cases_eq, ltb-true, ltb-false}
 use Rattle.std.proofs.lemmas.Bool.Decides.{eqb_tells}
 use Rattle.std.proofs.lemmas.Option.{same_Some, none-some, slice_get_within}
-use Rattle.std.proofs.lemmas.List.{get_or-set_same, get_or-set_other, length-set}
+use Rattle.std.proofs.lemmas.List.{get_or_past, get_or-set_same, get_or-set_other, length-set}
 use Rattle.std.proofs.lemmas.Slice.Zip.{AllZip-long}
 use Rattle.union_find.specs.Forests.{Forest, HasHeights}
 use Rattle.circuit.specs.declared.gate.Gate.{Gate}
@@ -22,11 +22,6 @@ use Rattle.cell_netlist.specs.Code.Progress.{IsSoundGate, IsJudged, IsLevelled, 
 
 -- taken inputs
 
-past_end : (xs : List Bool) (s : ℕ) → length xs ≤ s → slice_index_or xs s false ≡ false
-past_end [] s le = refl
-past_end (x ∷ xs) zero le = absurd (omega (arith, le))
-past_end (x ∷ xs) (suc s) le = past_end xs s (omega (arith, le))
-
 taken_is : (d : CellView) (taken : List Bool) (others : List ℕ) (s : ℕ) → IsTaken taken d.net.inputs others
     → slice_index_or taken s false ≡ (is_input d s && list_any (nat_eq s) others)
 taken_is d taken others s known = by (nat_lt s d.net.inputs) refl
@@ -36,7 +31,8 @@ taken_is d taken others s known = by (nat_lt s d.net.inputs) refl
     by true e = known.each s (ltb-true s d.net.inputs e) ∙ ap (λ (b : Bool). b && list_any (nat_eq s) others) (sym e)
     by false e =
         let le = ltb-false s d.net.inputs e in
-        past_end taken s (omega (arith, le, known.long)) ∙ ap (λ (b : Bool). b && list_any (nat_eq s) others) (sym e)
+        get_or_past taken s false (omega (arith, le, known.long))
+        ∙ ap (λ (b : Bool). b && list_any (nat_eq s) others) (sym e)
 
 pub shares_is : (d : CellView) (taken : List Bool) (signals others : List ℕ) → IsTaken taken d.net.inputs others
     → shares taken signals ≡ shares_input d signals others

@@ -9,7 +9,7 @@ use Rattle.union_find.specs.Forests.{Forest, Obeys, IsJoined, IsRefused}
 use Rattle.circuit.specs.declared.gate.Gate.{Gate}
 use Rattle.blif_read.specs.declared.netlist.Def.{Def}
 use Rattle.cell_netlist.specs.Kinds.{operands_of, Computes, IsGateOf, AreGatesOf}
-use Rattle.cell_netlist.specs.Uses.{CellView, is_name, with_gates}
+use Rattle.cell_netlist.specs.Uses.{CellView, is_name}
 use Rattle.cell_netlist.specs.Tables.{IsTableOf}
 use Rattle.blif_read.specs.Netlist.{IsNetlist, IsDef}
 use Rattle.blif_read.specs.Parts.{NetView}
@@ -237,15 +237,6 @@ here_of net j def known there = record {
       let count = known.count in omega (arith, low, count);
 }
 
-pub cell_of : (net : NetView) (gates : List (Option Gate)) (three : Bool) (j : ℕ) (def : Def) (gate : Gate)
-    → Here net j def → slice_get gates j ≡ Some (Some gate) → Computes def gate
-    → Cell (with_gates net gates three) j def gate
-cell_of net gates three j def gate here there computes = record {
-  here = there;
-  computes = computes;
-  within = here.within;
-}
-
 -- the gate that is told of a definition is computed by it
 pub gate_there : (defs : List Def) (gates : List (Option Gate)) (j : ℕ) (def : Def) (gate : Gate)
     → AreGatesOf defs gates
@@ -262,6 +253,15 @@ pub computes_there : (net : NetView) (gates : List (Option Gate)) (used shown : 
     → IsTableOf net gates used shown → slice_get net.defs j ≡ Some def → slice_get gates j ≡ Some (Some gate)
     → Computes def gate
 computes_there net gates used shown j def gate known p q = gate_there net.defs gates j def gate known.gates_are p q
+
+pub cell_of : (d : CellView) (used shown : List ℕ) (j : ℕ) (def : Def) (gate : Gate) → IsNetlist d.net
+    → IsTableOf d.net d.gates used shown → slice_get d.net.defs j ≡ Some def → slice_get d.gates j ≡ Some (Some gate)
+    → Cell d j def gate
+cell_of d used shown j def gate known table here there = record {
+  here = there;
+  computes = computes_there d.net d.gates used shown j def gate table here there;
+  within = (here_of d.net j def known here).within;
+}
 
 pub signal_below : (d : CellView) (n : ℕ) (f : Forest) → IsLevelled d n f → {s : ℕ}
     → s < d.net.inputs + length d.net.defs → node_of d.net.inputs s < f.count

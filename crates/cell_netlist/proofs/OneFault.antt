@@ -1,15 +1,15 @@
 -- A netlist is one of cells, or it has one first fault.
-use Rattle.std.proofs.Common.{◌≡◌, ℕ, zero, suc, ◌+◌, ◌<◌, ◌≤◌, Bool, true, false, List, length, Option, Some, None}
+use Rattle.std.proofs.Common.{◌≡◌, ℕ, ◌<◌, Bool, true, false, List, length, Option, Some, None}
 use Rattle.std.proofs.Common.{refl, ap, sym, ◌∙◌, subst, arith, inl, inr}
-use Rattle.std.specs.Prelude.{◌⊎◌, slice_get}
+use Rattle.std.specs.Prelude.{slice_get}
 use Rattle.std.specs.List.{list_all}
 use Rattle.std.proofs.lemmas.Bool.{cases_eq, cases_lt}
 use Rattle.std.proofs.lemmas.Option.{none-some, same_Some, slice_get_within}
 use Rattle.circuit.specs.declared.gate.Gate.{Gate}
 use Rattle.blif_read.specs.Parts.{NetView}
 use Rattle.blif_read.specs.declared.netlist.Def.{Def}
-use Rattle.cell_netlist.specs.Uses.{CellView, uses, is_used_well, with_gates}
-use Rattle.cell_netlist.specs.Levels.{LevelsFit, LevelsFitAll, is_shown, level_in}
+use Rattle.cell_netlist.specs.Uses.{CellView, is_used_well, with_gates}
+use Rattle.cell_netlist.specs.Levels.{LevelsFit, is_shown, level_in}
 use Rattle.cell_netlist.specs.Faults.{IsSoundAt, IsSoundTo, HasFault, IsFaultOfDef, IsFed, IsUnfed, IsUnshown, IsFault}
 use Rattle.cell_netlist.specs.Faults.{is_fed_well, IsCellNet}
 use Rattle.cell_netlist.specs.Told.{IsNetOfCells, HasFirstFault}

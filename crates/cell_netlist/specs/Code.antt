@@ -2,3 +2,4 @@
 pub mod Covers
 pub mod Tables
 pub mod Progress
+pub mod Tabled

@@ -1,17 +1,16 @@
 // Netlists of cells, and the levels of their cells.
 ghost use Rattle.std.specs.Prelude.{◌≡◌, ◌<◌, false, length, replicate, slice_index, IfOk, IfErr};
 ghost use Rattle.union_find.specs.Forests.{trees};
-ghost use Rattle.cell_netlist.specs.Levels.{level_in};
-ghost use Rattle.cell_netlist.specs.Faults.{IsFault, IsFaultOfDef, IsFed, IsCellNet};
+ghost use Rattle.cell_netlist.specs.Faults.{IsFault, IsFaultOfDef, IsFed};
 ghost use Rattle.cell_netlist.specs.Told.{IfNotCells, IsNetOfCells, HasFirstFault};
-ghost use Rattle.cell_netlist.specs.Tables.{IsTableOf};
-ghost use Rattle.cell_netlist.specs.Uses.{with_gates};
 ghost use Rattle.cell_netlist.specs.Code.Progress.{IsJudged, IsLevelled, IsNearly, IsLast, AreLevels};
+ghost use Rattle.cell_netlist.specs.Code.Tabled.{view_of, IsTabled, AreLevelsOf};
 
-use crate::counts::{CellTable, cell_table};
+use crate::counts::cell_table;
 use crate::fault::{CellFault, CellsRefusal};
 use crate::judge::first_fault;
 use crate::outputs::{align, are_shown, are_used, shown_nodes};
+use crate::tabled_net::TabledNet;
 use aq_base::{List, Memory};
 use blif_read::Netlist;
 use circuit::Answers;
@@ -41,19 +40,15 @@ fn levels_of(alloc: Global, heights: &[u64]) -> Result<Vec<u64>, Memory>
 /// The levels by the least heights, unless the buffers that show outputs are buffers of inputs.
 fn told(
     alloc: Global,
-    _net: &Netlist,
-    _table: &CellTable,
-    _three: bool,
+    _tabled: &TabledNet,
     nodes: &[u32],
     least: &[u64],
 ) -> Result<CellLevels, CellsRefusal>
     requires some { 0 < length nodes.now }
     requires within { slice_index nodes.now 0 < length least.now }
-    requires found { IsLast (with_gates _net.now _table.now.gates.items _three) nodes.now least.now }
-    ensures net { IfOk result (λ cells. IsCellNet (with_gates _net.now _table.now.gates.items _three)
-        (level_in _net.now.inputs cells.levels) cells.last) }
-    ensures fault { IfErr result (λ refusal. IfNotCells refusal
-        (IsFault (with_gates _net.now _table.now.gates.items _three))) }
+    requires found { IsLast (view_of _tabled.now) nodes.now least.now }
+    ensures net { IfOk result (AreLevelsOf _tabled.now) }
+    ensures fault { IfErr result (λ refusal. IfNotCells refusal (IsFault (view_of _tabled.now))) }
 {
     let high = least[nodes[0] as usize];
     if high <= 1 {
@@ -72,17 +67,13 @@ fn told(
 /// The levels, where the buffers that show outputs can stand on one.
 fn on_one_level(
     alloc: Global,
-    net: &Netlist,
-    table: &CellTable,
-    three: bool,
+    tabled: &TabledNet,
     heights: &mut Heights,
     nodes: &[u32],
 ) -> Result<CellLevels, CellsRefusal>
-    requires { IsNearly (with_gates net.now table.now.gates.items three) (trees heights.old) nodes.now }
-    ensures net { IfOk result (λ cells. IsCellNet (with_gates net.now table.now.gates.items three)
-        (level_in net.now.inputs cells.levels) cells.last) }
-    ensures fault { IfErr result (λ refusal. IfNotCells refusal
-        (IsFault (with_gates net.now table.now.gates.items three))) }
+    requires { IsNearly (view_of tabled.now) (trees heights.old) nodes.now }
+    ensures net { IfOk result (AreLevelsOf tabled.now) }
+    ensures fault { IfErr result (λ refusal. IfNotCells refusal (IsFault (view_of tabled.now))) }
 {
     let aligned = align(heights, nodes[0], nodes);
     if !aligned {
@@ -92,62 +83,52 @@ fn on_one_level(
         });
     }
     let least = heights.least(alloc)?;
-    told(alloc, net, table, three, nodes, &least)
+    told(alloc, tabled, nodes, &least)
 }
 
 /// The levels, where each output is a name of a buffer of its own.
 fn shown(
     alloc: Global,
-    net: &Netlist,
-    table: &CellTable,
-    three: bool,
+    tabled: &TabledNet,
     heights: &mut Heights,
     inputs: u32,
     outputs: &[u32],
 ) -> Result<CellLevels, CellsRefusal>
-    requires table { IsTableOf net.now table.now.gates.items table.now.used.items table.now.shown.items }
-    requires inputs { inputs ≡ net.now.inputs }
-    requires outputs { outputs.now ≡ net.now.outputs }
-    requires fed { IsFed (with_gates net.now table.now.gates.items three) }
-    requires levelled { IsLevelled (with_gates net.now table.now.gates.items three) (length net.now.defs)
-        (trees heights.old) }
-    ensures net { IfOk result (λ cells. IsCellNet (with_gates net.now table.now.gates.items three)
-        (level_in net.now.inputs cells.levels) cells.last) }
-    ensures fault { IfErr result (λ refusal. IfNotCells refusal
-        (IsFault (with_gates net.now table.now.gates.items three))) }
+    requires table { IsTabled tabled.now }
+    requires inputs { inputs ≡ tabled.now.net.now.inputs }
+    requires outputs { outputs.now ≡ tabled.now.net.now.outputs }
+    requires fed { IsFed (view_of tabled.now) }
+    requires levelled { IsLevelled (view_of tabled.now) (length tabled.now.net.now.defs) (trees heights.old) }
+    ensures net { IfOk result (AreLevelsOf tabled.now) }
+    ensures fault { IfErr result (λ refusal. IfNotCells refusal (IsFault (view_of tabled.now))) }
 {
-    net.known();
-    let all = are_shown(net, table, three, outputs);
+    tabled.net.known();
+    let all = are_shown(tabled, outputs);
     if !all {
         return Err(CellsRefusal::NotCells {
             line: 0,
             kind: CellFault::Outputs,
         });
     }
-    let nodes = shown_nodes(alloc, net, table, three, inputs, outputs)?;
-    on_one_level(alloc, net, table, three, heights, &nodes)
+    let nodes = shown_nodes(alloc, tabled, inputs, outputs)?;
+    on_one_level(alloc, tabled, heights, &nodes)
 }
 
 /// The levels, where all definitions are without fault.
 fn fed(
     alloc: Global,
-    net: &Netlist,
-    table: &CellTable,
-    three: bool,
+    tabled: &TabledNet,
     heights: &mut Heights,
     _taken: &[bool],
 ) -> Result<CellLevels, CellsRefusal>
-    requires table { IsTableOf net.now table.now.gates.items table.now.used.items table.now.shown.items }
-    requires all { IsJudged (with_gates net.now table.now.gates.items three) (length net.now.defs) (trees heights.old)
-        _taken.now }
-    ensures net { IfOk result (λ cells. IsCellNet (with_gates net.now table.now.gates.items three)
-        (level_in net.now.inputs cells.levels) cells.last) }
-    ensures fault { IfErr result (λ refusal. IfNotCells refusal
-        (IsFault (with_gates net.now table.now.gates.items three))) }
+    requires table { IsTabled tabled.now }
+    requires all { IsJudged (view_of tabled.now) (length tabled.now.net.now.defs) (trees heights.old) _taken.now }
+    ensures net { IfOk result (AreLevelsOf tabled.now) }
+    ensures fault { IfErr result (λ refusal. IfNotCells refusal (IsFault (view_of tabled.now))) }
 {
     heights.known();
-    let inputs = net.input_count();
-    let used = are_used(net, table, three, inputs);
+    let inputs = tabled.net.input_count();
+    let used = are_used(tabled, inputs);
     if !used {
         return Err(CellsRefusal::NotCells {
             line: 0,
@@ -156,47 +137,36 @@ fn fed(
     }
     shown(
         alloc,
-        net,
-        table,
-        three,
+        tabled,
         heights,
         inputs,
-        net.outputs().as_slice(),
+        tabled.net.outputs().as_slice(),
     )
 }
 
 /// The levels of a netlist that is to be judged, or its first fault.
 fn judged(
     alloc: Global,
-    net: &Netlist,
-    table: &CellTable,
-    three: bool,
+    tabled: &TabledNet,
     heights: &mut Heights,
     taken: &mut [bool],
 ) -> Result<CellLevels, CellsRefusal>
-    requires table { IsTableOf net.now table.now.gates.items table.now.used.items table.now.shown.items }
-    requires start { IsJudged (with_gates net.now table.now.gates.items three) 0 (trees heights.old) taken.old }
-    ensures net { IfOk result (λ cells. IsCellNet (with_gates net.now table.now.gates.items three)
-        (level_in net.now.inputs cells.levels) cells.last) }
-    ensures fault { IfErr result (λ refusal. IfNotCells refusal
-        (IsFault (with_gates net.now table.now.gates.items three))) }
+    requires table { IsTabled tabled.now }
+    requires start { IsJudged (view_of tabled.now) 0 (trees heights.old) taken.old }
+    ensures net { IfOk result (AreLevelsOf tabled.now) }
+    ensures fault { IfErr result (λ refusal. IfNotCells refusal (IsFault (view_of tabled.now))) }
 {
-    let defs = net.defs().as_slice();
-    match first_fault(net, table, three, heights, taken, defs) {
-        Some(fault) => Err(told_of(net, table, three, fault)),
-        None => fed(alloc, net, table, three, heights, taken),
+    let defs = tabled.net.defs().as_slice();
+    match first_fault(tabled, heights, taken, defs) {
+        Some(fault) => Err(told_of(tabled, fault)),
+        None => fed(alloc, tabled, heights, taken),
     }
 }
 
 /// The refusal for the fault of a definition.
-fn told_of(
-    _net: &Netlist,
-    _table: &CellTable,
-    _three: bool,
-    fault: (u64, CellFault),
-) -> CellsRefusal
-    requires { IsFaultOfDef (with_gates _net.now _table.now.gates.items _three) fault.0 fault.1 }
-    ensures { IfNotCells result (IsFault (with_gates _net.now _table.now.gates.items _three)) }
+fn told_of(_tabled: &TabledNet, fault: (u64, CellFault)) -> CellsRefusal
+    requires { IsFaultOfDef (view_of _tabled.now) fault.0 fault.1 }
+    ensures { IfNotCells result (IsFault (view_of _tabled.now)) }
 {
     CellsRefusal::NotCells {
         line: fault.0,
@@ -222,5 +192,10 @@ pub fn cell_levels(alloc: Global, net: &Netlist, three: bool) -> Result<CellLeve
     let nodes = net.defs().len() as u32 + 1;
     let mut heights = Heights::new(alloc, nodes)?;
     let mut taken = none_taken(alloc, net.input_count())?;
-    judged(alloc, net, &table, three, &mut heights, &mut taken)
+    let tabled = TabledNet {
+        net,
+        table: &table,
+        three,
+    };
+    judged(alloc, &tabled, &mut heights, &mut taken)
 }

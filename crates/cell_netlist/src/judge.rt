@@ -7,11 +7,13 @@ ghost use Rattle.cell_netlist.specs.Faults.{HasFault, IsFaultOfDef};
 ghost use Rattle.cell_netlist.specs.Tables.{IsTableOf};
 ghost use Rattle.cell_netlist.specs.Code.Tables.{IsTaken};
 ghost use Rattle.cell_netlist.specs.Code.Progress.{IsSoundGate, IsJudged, IsLevelled};
+ghost use Rattle.cell_netlist.specs.Code.Tabled.{view_of, IsTabled};
 
 use crate::counts::CellTable;
 use crate::fault::CellFault;
 use crate::levels::add_cell;
-use crate::names::{is_fed_well, is_name, may_have, shares, take_inputs};
+use crate::names::{is_fed_well, may_have, shares, take_inputs};
+use crate::tabled_net::TabledNet;
 use blif_read::{Def, Netlist};
 use circuit::{Answers, Gate};
 use union_find::Heights;
@@ -34,61 +36,46 @@ pub fn uses_of(_net: &Netlist, table: &CellTable, _three: bool, signal: u32) -> 
 }
 
 /// Whether definition `j` is a name, or has as many uses as its gate may.
-fn is_used(net: &Netlist, table: &CellTable, three: bool, signal: u32, gate: Gate) -> bool
-    requires table { IsTableOf net.now table.now.gates.items table.now.used.items table.now.shown.items }
-    requires signal { signal < net.now.inputs + length net.now.defs }
-    ensures { let d = with_gates net.now table.now.gates.items three in
+fn is_used(tabled: &TabledNet, signal: u32, gate: Gate) -> bool
+    requires table { IsTabled tabled.now }
+    requires signal { signal < tabled.now.net.now.inputs + length tabled.now.net.now.defs }
+    ensures { let d = view_of tabled.now in
         result ≡ (is_name d signal || may_have d gate (uses d signal)) }
 {
-    let name = is_name(net, table, signal);
-    let fine = may_have(net, table, three, gate, uses_of(net, table, three, signal));
+    let name = tabled.is_name(signal);
+    let fine = may_have(tabled, gate, tabled.uses_of(signal));
     name || fine
 }
 
 /// Whether definition `j` is a name or has as many uses as it may, and names no input that is taken.
-fn is_used_well(
-    net: &Netlist,
-    table: &CellTable,
-    three: bool,
-    taken: &[bool],
-    j: u32,
-    def: &Def,
-    gate: Gate,
-) -> bool
-    requires table { IsTableOf net.now table.now.gates.items table.now.used.items table.now.shown.items }
-    requires here { slice_get net.now.defs j ≡ Some def.now }
-    requires taken { IsTaken taken.now net.now.inputs (named (take j net.now.defs)) }
-    ensures { result ≡ is_used_well (with_gates net.now table.now.gates.items three) j def.now gate }
+fn is_used_well(tabled: &TabledNet, taken: &[bool], j: u32, def: &Def, gate: Gate) -> bool
+    requires table { IsTabled tabled.now }
+    requires here { slice_get tabled.now.net.now.defs j ≡ Some def.now }
+    requires taken { IsTaken taken.now tabled.now.net.now.inputs (named (take j tabled.now.net.now.defs)) }
+    ensures { result ≡ is_used_well (view_of tabled.now) j def.now gate }
 {
-    net.known();
-    let used = is_used(net, table, three, net.input_count() + j, gate);
+    tabled.net.known();
+    let used = is_used(tabled, tabled.net.input_count() + j, gate);
     let shared = shares(taken, def.inputs.as_slice());
     used && !shared
 }
 
 /// The gate of definition `j`, or what is wrong with it apart from its level.
-fn checked(
-    net: &Netlist,
-    table: &CellTable,
-    three: bool,
-    taken: &[bool],
-    j: u32,
-    def: &Def,
-) -> Result<Gate, CellFault>
-    requires table { IsTableOf net.now table.now.gates.items table.now.used.items table.now.shown.items }
-    requires here { slice_get net.now.defs j ≡ Some def.now }
-    requires taken { IsTaken taken.now net.now.inputs (named (take j net.now.defs)) }
-    ensures ok { IfOk result (λ gate. IsSoundGate (with_gates net.now table.now.gates.items three) j def.now gate) }
-    ensures err { IfErr result (λ kind. HasFault (with_gates net.now table.now.gates.items three) j def.now kind) }
+fn checked(tabled: &TabledNet, taken: &[bool], j: u32, def: &Def) -> Result<Gate, CellFault>
+    requires table { IsTabled tabled.now }
+    requires here { slice_get tabled.now.net.now.defs j ≡ Some def.now }
+    requires taken { IsTaken taken.now tabled.now.net.now.inputs (named (take j tabled.now.net.now.defs)) }
+    ensures ok { IfOk result (λ gate. IsSoundGate (view_of tabled.now) j def.now gate) }
+    ensures err { IfErr result (λ kind. HasFault (view_of tabled.now) j def.now kind) }
 {
-    let Some(gate) = gate_at(table, j) else {
+    let Some(gate) = gate_at(tabled.table, j) else {
         return Err(CellFault::Cover);
     };
-    let used = is_used_well(net, table, three, taken, j, def, gate);
+    let used = is_used_well(tabled, taken, j, def, gate);
     if !used {
         return Err(CellFault::Uses);
     }
-    let fed = is_fed_well(net, table, j, def, gate);
+    let fed = is_fed_well(tabled.net, tabled.table, j, def, gate);
     if !fed {
         return Err(CellFault::Level);
     }
@@ -97,26 +84,24 @@ fn checked(
 
 /// Judges definition `j` after those before it: what is wrong with it, if anything is.
 pub(crate) fn judge(
-    net: &Netlist,
-    table: &CellTable,
-    three: bool,
+    tabled: &TabledNet,
     heights: &mut Heights,
     taken: &mut [bool],
     j: u32,
     def: &Def,
 ) -> Option<CellFault>
-    requires table { IsTableOf net.now table.now.gates.items table.now.used.items table.now.shown.items }
-    requires here { slice_get net.now.defs j ≡ Some def.now }
-    requires judged { IsJudged (with_gates net.now table.now.gates.items three) j (trees heights.old) taken.old }
-    ensures fault { IfSome result (λ kind. HasFault (with_gates net.now table.now.gates.items three) j def.now kind) }
+    requires table { IsTabled tabled.now }
+    requires here { slice_get tabled.now.net.now.defs j ≡ Some def.now }
+    requires judged { IsJudged (view_of tabled.now) j (trees heights.old) taken.old }
+    ensures fault { IfSome result (λ kind. HasFault (view_of tabled.now) j def.now kind) }
     ensures next { IsNone result
-        → IsJudged (with_gates net.now table.now.gates.items three) (j + 1) (trees heights.new) taken.new }
+        → IsJudged (view_of tabled.now) (j + 1) (trees heights.new) taken.new }
 {
-    let _gate = match checked(net, table, three, taken, j, def) {
+    let _gate = match checked(tabled, taken, j, def) {
         Ok(gate) => gate,
         Err(kind) => return Some(kind),
     };
-    let added = add_cell(heights, net, table, three, j, def);
+    let added = add_cell(heights, tabled, j, def);
     if !added {
         return Some(CellFault::Level);
     }
@@ -126,25 +111,22 @@ pub(crate) fn judge(
 
 /// The first fault of a definition, with its line.
 pub(crate) fn first_fault(
-    net: &Netlist,
-    table: &CellTable,
-    three: bool,
+    tabled: &TabledNet,
     heights: &mut Heights,
     taken: &mut [bool],
     defs: &[Def],
 ) -> Option<(u64, CellFault)>
-    requires table { IsTableOf net.now table.now.gates.items table.now.used.items table.now.shown.items }
-    requires defs { defs.now ≡ net.now.defs }
-    requires start { IsJudged (with_gates net.now table.now.gates.items three) 0 (trees heights.old) taken.old }
-    ensures fault { IfSome result (λ p. IsFaultOfDef (with_gates net.now table.now.gates.items three) p.0 p.1) }
+    requires table { IsTabled tabled.now }
+    requires defs { defs.now ≡ tabled.now.net.now.defs }
+    requires start { IsJudged (view_of tabled.now) 0 (trees heights.old) taken.old }
+    ensures fault { IfSome result (λ p. IsFaultOfDef (view_of tabled.now) p.0 p.1) }
     ensures none { IsNone result
-        → IsJudged (with_gates net.now table.now.gates.items three) (length net.now.defs) (trees heights.new)
-        taken.new }
+        → IsJudged (view_of tabled.now) (length tabled.now.net.now.defs) (trees heights.new) taken.new }
 {
-    net.known();
+    tabled.net.known();
     for (j, def) in defs.iter().enumerate() {
         heights.known();
-        if let Some(kind) = judge(net, table, three, heights, taken, j as u32, def) {
+        if let Some(kind) = judge(tabled, heights, taken, j as u32, def) {
             return Some((def.line, kind));
         }
     }

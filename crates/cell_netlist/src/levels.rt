@@ -2,13 +2,11 @@
 ghost use Rattle.std.specs.Prelude.{◌≡◌, ◌<◌, ◌^◌, ℕ, true, false, length, slice_index, suc, slice_get, Some};
 ghost use Rattle.union_find.specs.Forests.{trees};
 ghost use Rattle.circuit.specs.declared.gate.Gate.{Gate as CellGate};
-ghost use Rattle.cell_netlist.specs.Tables.{IsTableOf};
-ghost use Rattle.cell_netlist.specs.Uses.{with_gates};
 ghost use Rattle.cell_netlist.specs.Code.Progress.{node_of, IsAdded, IsNotAdded, IsLevelled, HasNoLevels};
+ghost use Rattle.cell_netlist.specs.Code.Tabled.{view_of, IsTabled};
 
-use crate::counts::CellTable;
-use crate::names::is_name;
-use blif_read::{Def, Netlist};
+use crate::tabled_net::TabledNet;
+use blif_read::Def;
 use circuit::Answers;
 use union_find::Heights;
 
@@ -43,25 +41,18 @@ fn add_rises(heights: &mut Heights, inputs: u32, upper: u32, signals: &[u32]) ->
 }
 
 /// Adds the level of the cell of definition `j`; nothing, where it is a name. Where no levels fit, it answers false.
-pub(crate) fn add_cell(
-    heights: &mut Heights,
-    net: &Netlist,
-    table: &CellTable,
-    _three: bool,
-    j: u32,
-    def: &Def,
-) -> bool
-    requires table { IsTableOf net.now table.now.gates.items table.now.used.items table.now.shown.items }
-    requires here { slice_get net.now.defs j ≡ Some def.now }
-    requires gate { (gate : CellGate) × (slice_get table.now.gates.items j ≡ Some (Some gate)) }
-    requires levelled { IsLevelled (with_gates net.now table.now.gates.items _three) j (trees heights.old) }
+pub(crate) fn add_cell(heights: &mut Heights, tabled: &TabledNet, j: u32, def: &Def) -> bool
+    requires table { IsTabled tabled.now }
+    requires here { slice_get tabled.now.net.now.defs j ≡ Some def.now }
+    requires gate { (gate : CellGate) × (slice_get tabled.now.table.now.gates.items j ≡ Some (Some gate)) }
+    requires levelled { IsLevelled (view_of tabled.now) j (trees heights.old) }
     ensures added { result ≡ true
-        → IsLevelled (with_gates net.now table.now.gates.items _three) (suc j) (trees heights.new) }
-    ensures refused { result ≡ false → HasNoLevels (with_gates net.now table.now.gates.items _three) (suc j) }
+        → IsLevelled (view_of tabled.now) (suc j) (trees heights.new) }
+    ensures refused { result ≡ false → HasNoLevels (view_of tabled.now) (suc j) }
 {
-    net.known();
-    let inputs = net.input_count();
-    let name = is_name(net, table, inputs + j);
+    tabled.net.known();
+    let inputs = tabled.net.input_count();
+    let name = tabled.is_name(inputs + j);
     if name {
         return true;
     }

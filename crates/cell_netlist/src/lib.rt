@@ -10,6 +10,7 @@ mod laws;
 mod levels;
 mod names;
 mod outputs;
+mod tabled_net;
 
 pub use cells::{CellLevels, cell_levels};
 pub use counts::{CellTable, bump, cell_table};

@@ -6,8 +6,10 @@ ghost use Rattle.cell_netlist.specs.Uses.{gate_of, is_buffer, is_buffer_of_buffe
 ghost use Rattle.cell_netlist.specs.Faults.{is_fed_well};
 ghost use Rattle.cell_netlist.specs.Tables.{IsTableOf};
 ghost use Rattle.cell_netlist.specs.Code.Tables.{shares, take_all};
+ghost use Rattle.cell_netlist.specs.Code.Tabled.{view_of};
 
 use crate::counts::CellTable;
+use crate::tabled_net::TabledNet;
 use blif_read::{Def, Netlist};
 use circuit::{Answers, Gate};
 
@@ -76,18 +78,12 @@ fn all_three(a: bool, b: bool, c: bool) -> bool
 }
 
 /// Whether a cell may have so many uses.
-pub(crate) fn may_have(
-    net: &Netlist,
-    _table: &CellTable,
-    three: bool,
-    gate: Gate,
-    uses: u32,
-) -> bool
-    ensures { result ≡ may_have (with_gates net.now _table.now.gates.items three) gate uses }
+pub(crate) fn may_have(tabled: &TabledNet, gate: Gate, uses: u32) -> bool
+    ensures { result ≡ may_have (view_of tabled.now) gate uses }
 {
-    let most = if three { 3 } else { 2 };
+    let most = if tabled.three { 3 } else { 2 };
     match gate {
-        Gate::Buf(x) => (1 <= uses && uses <= most) || (x < net.input_count() && uses == 0),
+        Gate::Buf(x) => (1 <= uses && uses <= most) || (x < tabled.net.input_count() && uses == 0),
         _ => uses == 1,
     }
 }

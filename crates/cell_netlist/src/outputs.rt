@@ -7,11 +7,12 @@ ghost use Rattle.cell_netlist.specs.Tables.{IsTableOf};
 ghost use Rattle.cell_netlist.specs.Uses.{with_gates};
 ghost use Rattle.cell_netlist.specs.Code.Progress.{node_of, HasUnused, AreAllUsed, IsAligned, IsNotAligned};
 ghost use Rattle.cell_netlist.specs.Code.Progress.{AreShownNodes};
+ghost use Rattle.cell_netlist.specs.Code.Tabled.{view_of, IsTabled};
 
 use crate::counts::CellTable;
-use crate::judge::uses_of;
 use crate::levels::node_of;
-use crate::names::{gate_of, is_name};
+use crate::names::gate_of;
+use crate::tabled_net::TabledNet;
 use aq_base::Memory;
 use blif_read::Netlist;
 use circuit::Gate;
@@ -19,14 +20,14 @@ use std::alloc::Global;
 use union_find::Heights;
 
 /// Whether each input has a use.
-pub(crate) fn are_used(net: &Netlist, table: &CellTable, _three: bool, inputs: u32) -> bool
-    requires table { IsTableOf net.now table.now.gates.items table.now.used.items table.now.shown.items }
-    requires inputs { inputs ≡ net.now.inputs }
-    ensures yes { result ≡ true → AreAllUsed (with_gates net.now table.now.gates.items _three) }
-    ensures no { result ≡ false → HasUnused (with_gates net.now table.now.gates.items _three) }
+pub(crate) fn are_used(tabled: &TabledNet, inputs: u32) -> bool
+    requires table { IsTabled tabled.now }
+    requires inputs { inputs ≡ tabled.now.net.now.inputs }
+    ensures yes { result ≡ true → AreAllUsed (view_of tabled.now) }
+    ensures no { result ≡ false → HasUnused (view_of tabled.now) }
 {
     for input in 0..inputs {
-        let uses = uses_of(net, table, _three, input);
+        let uses = tabled.uses_of(input);
         if uses == 0 {
             return false;
         }
@@ -56,25 +57,25 @@ pub fn shown_by(net: &Netlist, table: &CellTable, _three: bool, signal: u32) -> 
 }
 
 /// Whether an output is a name of a buffer that has no other use.
-fn is_shown(net: &Netlist, table: &CellTable, three: bool, signal: u32) -> bool
-    requires table { IsTableOf net.now table.now.gates.items table.now.used.items table.now.shown.items }
-    requires signal { signal < net.now.inputs + length net.now.defs }
-    ensures { result ≡ is_shown (with_gates net.now table.now.gates.items three) signal }
+fn is_shown(tabled: &TabledNet, signal: u32) -> bool
+    requires table { IsTabled tabled.now }
+    requires signal { signal < tabled.now.net.now.inputs + length tabled.now.net.now.defs }
+    ensures { result ≡ is_shown (view_of tabled.now) signal }
 {
-    let name = is_name(net, table, signal);
-    let uses = uses_of(net, table, three, shown_by(net, table, three, signal));
+    let name = tabled.is_name(signal);
+    let uses = tabled.uses_of(tabled.shown_by(signal));
     name && uses == 1
 }
 
 /// Whether all these outputs are shown.
-pub(crate) fn are_shown(net: &Netlist, table: &CellTable, three: bool, outputs: &[u32]) -> bool
-    requires table { IsTableOf net.now table.now.gates.items table.now.used.items table.now.shown.items }
+pub(crate) fn are_shown(tabled: &TabledNet, outputs: &[u32]) -> bool
+    requires table { IsTabled tabled.now }
     requires outputs { (k : ℕ) → k < length outputs.now
-        → slice_index outputs.now k < net.now.inputs + length net.now.defs }
-    ensures { result ≡ list_all (is_shown (with_gates net.now table.now.gates.items three)) outputs.now }
+        → slice_index outputs.now k < tabled.now.net.now.inputs + length tabled.now.net.now.defs }
+    ensures { result ≡ list_all (is_shown (view_of tabled.now)) outputs.now }
 {
     for output in outputs {
-        let shown = is_shown(net, table, three, *output);
+        let shown = is_shown(tabled, *output);
         if !shown {
             return false;
         }
@@ -85,23 +86,21 @@ pub(crate) fn are_shown(net: &Netlist, table: &CellTable, three: bool, outputs: 
 /// The nodes of the buffers that show outputs.
 pub(crate) fn shown_nodes(
     alloc: Global,
-    net: &Netlist,
-    table: &CellTable,
-    three: bool,
+    tabled: &TabledNet,
     inputs: u32,
     outputs: &[u32],
 ) -> Result<Vec<u32>, Memory>
-    requires table { IsTableOf net.now table.now.gates.items table.now.used.items table.now.shown.items }
-    requires inputs { inputs ≡ net.now.inputs }
+    requires table { IsTabled tabled.now }
+    requires inputs { inputs ≡ tabled.now.net.now.inputs }
     requires outputs { (k : ℕ) → k < length outputs.now
-        → slice_index outputs.now k < net.now.inputs + length net.now.defs }
-    ensures { IfOk result (λ nodes. AreShownNodes (with_gates net.now table.now.gates.items three) outputs.now
-        nodes.items (length outputs.now)) }
+        → slice_index outputs.now k < tabled.now.net.now.inputs + length tabled.now.net.now.defs }
+    ensures { IfOk result (λ nodes. AreShownNodes (view_of tabled.now) outputs.now nodes.items
+        (length outputs.now)) }
 {
-    net.known();
+    tabled.net.known();
     let mut nodes = Vec::with_capacity(alloc, outputs.len())?;
     for output in outputs {
-        let shown = shown_by(net, table, three, *output);
+        let shown = tabled.shown_by(*output);
         nodes.push(node_of(inputs, shown))?;
     }
     Ok(nodes)

@@ -1,11 +1,11 @@
 -- The rows of a netlist of cells answer each word as the netlist does.
-use Rattle.std.proofs.Common.{◌≡◌, ℕ, suc, ◌+◌, ◌-◌, Bool, true, false, cond, not, List, [], ◌∷◌}
+use Rattle.std.proofs.Common.{◌≡◌, ℕ, suc, ◌+◌, ◌-◌, Bool, true, false, cond, List, [], ◌∷◌}
 use Rattle.std.proofs.Common.{length, map, Option, Some, None, refl, ap, sym, ◌∙◌, subst, arith}
 use Rattle.std.specs.Prelude.{pred, slice_get, slice_index, slice_index_or, eqb, option_map}
 use Rattle.std.proofs.lemmas.Bool.{ltb-true}
 use Rattle.std.proofs.lemmas.Option.{none-some, slice_get-map, get_or_from_slice_get}
 use Rattle.std.proofs.lemmas.List.{length-map}
-use Rattle.circuit.specs.Function.{value_of, majority}
+use Rattle.circuit.specs.Function.{value_of}
 use Rattle.circuit.specs.Gates.{gate_value}
 use Rattle.circuit.specs.SameAnswers.{SameAnswers}
 use Rattle.circuit.specs.declared.gate.Gate.{Gate}
@@ -84,11 +84,14 @@ buffer_value true word below n f s v bit pin = bit refl
 buffer_value false word below n f s v bit pin =
     sym (pin refl) ∙ sym (giving_value n (below (f s).cell) false false)
 
--- a cell has the value of its gate, from the values of the row below
+-- the cell of this gate has its value, from the values of the row below
+abbrev IsValued : CellView → List ℕ → List Bool → (ℕ → Bool) → ℕ → Gate → Type 0
+IsValued d levels word v j g =
+    gate_value [] v g ≡ cell_value word (values_of d levels v (pred (slice_index levels j))) (cell_of d levels j g)
+
 cell_valued : {d : CellView} {levels : List ℕ} {last : ℕ} → AreCells d levels last → (word : List Bool)
     → (v : ℕ → Bool) → Fits d.net.inputs d.net.defs word v → (j : ℕ) → IsCell d j → (x : Defined d j)
-    → gate_value [] v x.gate
-    ≡ cell_value word (values_of d levels v (pred (slice_index levels j))) (cell_of d levels j x.gate)
+    → IsValued d levels word v j x.gate
 cell_valued {d} {levels} known word v fit j cell x = by x.gate refl
   where
     named : (g : Gate) → x.gate ≡ g → (i s : ℕ) → slice_get (operands_of g) i ≡ Some s
@@ -101,38 +104,25 @@ cell_valued {d} {levels} known word v fit j cell x = by x.gate refl
         pin_value known v j cell x i s (named g e i s at)
         (reads_none x (ap (λ (g : Gate). is_buffer (Some g)) e ∙ other) i s (named g e i s at))
 
-    buffer : (s : ℕ) → x.gate ≡ Buf s
-        → v s ≡ cell_value word (values_of d levels v (pred (slice_index levels j))) (cell_of d levels j (Buf s))
+    buffer : (s : ℕ) → x.gate ≡ Buf s → IsValued d levels word v j (Buf s)
     buffer s e =
         buffer_value (is_input d s) word (values_of d levels v (pred (slice_index levels j)))
         (uses d (d.net.inputs + j)) (source_of d levels j) s v
         (λ t. fit.bits s (ltb-true s d.net.inputs t))
         (λ t. pin_value known v j cell x 0 s (named (Buf s) e 0 s refl) t)
 
-    turned : (g : Gate) → x.gate ≡ g → gate_value [] v g
-        ≡ cell_value word (values_of d levels v (pred (slice_index levels j))) (cell_of d levels j g)
-        → gate_value [] v x.gate
-        ≡ cell_value word (values_of d levels v (pred (slice_index levels j))) (cell_of d levels j x.gate)
-    turned g e is = subst (λ (g : Gate). gate_value [] v g
-        ≡ cell_value word (values_of d levels v (pred (slice_index levels j))) (cell_of d levels j g)) (sym e) is
+    turned : (g : Gate) → x.gate ≡ g → IsValued d levels word v j g → IsValued d levels word v j x.gate
+    turned g e is = subst (IsValued d levels word v j) (sym e) is
 
-    by : (g : Gate) → x.gate ≡ g → gate_value [] v x.gate
-        ≡ cell_value word (values_of d levels v (pred (slice_index levels j))) (cell_of d levels j x.gate)
+    by : (g : Gate) → x.gate ≡ g → IsValued d levels word v j x.gate
     by (Input i) e = absurd (subst IsCellGate e x.computes.cell)
     by Zero e = turned Zero e refl
     by One e = turned One e refl
     by (Buf s) e = turned (Buf s) e (buffer s e)
-    by (Inv s) e = turned (Inv s) e (ap not (sym (pin (Inv s) e refl 0 s refl)))
+    by (Inv s) e = turned (Inv s) e (rw (pin (Inv s) e refl 0 s refl) refl)
     by (Maj a b c) e =
-        turned (Maj a b c) e
-        (ap (λ (p : Bool). majority p (v b) (v c)) (sym (pin (Maj a b c) e refl 0 a refl))
-        ∙ ap (λ (p : Bool). majority
-        (values_of d levels v (pred (slice_index levels j)) (place_of d levels (a - d.net.inputs))) p (v c))
-        (sym (pin (Maj a b c) e refl 1 b refl))
-        ∙ ap (λ (p : Bool). majority
-        (values_of d levels v (pred (slice_index levels j)) (place_of d levels (a - d.net.inputs)))
-        (values_of d levels v (pred (slice_index levels j)) (place_of d levels (b - d.net.inputs))) p)
-        (sym (pin (Maj a b c) e refl 2 c refl)))
+        let read = pin (Maj a b c) e refl in
+        turned (Maj a b c) e (rw (read 0 a refl, read 1 b refl, read 2 c refl) refl)
 
 rows_fit : {d : CellView} {levels : List ℕ} {last : ℕ} → AreCells d levels last → (word : List Bool)
     → (v : ℕ → Bool) → Fits d.net.inputs d.net.defs word v

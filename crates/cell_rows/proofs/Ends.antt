@@ -8,6 +8,7 @@ use Rattle.std.proofs.lemmas.Bool.{lt-ltb}
 use Rattle.std.proofs.lemmas.Option.{slice_get_within, same_Some, none-some, slice_get-get_or, get_or_from_slice_get}
 use Rattle.std.proofs.lemmas.List.Sums.{fails_before_first}
 use Rattle.std.proofs.lemmas.List.Quantifiers.{position-Some}
+use Rattle.std.proofs.lemmas.Map.Keys.{any_passes_from_place}
 use Rattle.circuit.specs.declared.gate.Gate.{Gate}
 use Rattle.circuit.specs.declared.gate.Gate.TheVariants.{Input, Zero, One, Buf, Inv, Maj}
 use Rattle.rowed.specs.declared.row_cell.RowCell.{RowCell}
@@ -24,23 +25,18 @@ use Rattle.cell_rows.proofs.Counted.{Use, use_of, count_some, count_first, count
 use Rattle.cell_rows.proofs.Defined.{Defined, defined, gate_is, past_inputs, IsCell, some_at, one_signal}
 use Rattle.cell_rows.proofs.Defined.{name_is, shown_is, reads_input, output_below}
 use Rattle.cell_rows.proofs.Defined.{same_gate}
-use Rattle.cell_rows.proofs.Rows.{shown_of, gate_past_inputs}
-use Rattle.cell_rows.proofs.Standing.{cell_is, cell_there, at_cell, reads_buffer, any_of}
+use Rattle.cell_rows.proofs.Rows.{buffer_of, shown_of, gate_past_inputs}
+use Rattle.cell_rows.proofs.Standing.{cell_is, cell_there, at_cell, reads_buffer}
 
 -- the cell of an input
+
+pub buffer_gate : (g : Gate) → is_buffer (Some g) ≡ true → (x : ℕ) × (g ≡ Buf x)
+buffer_gate g e = let buffer = buffer_of (Some g) e in (buffer.0, same_Some g (Buf buffer.0) buffer.1)
 
 record ReadsInput (d : CellView) (j i : ℕ) : Type 0 where
   x : Defined d j
   gate : x.gate ≡ Buf i
   input : is_input d i ≡ true
-
-buffer_gate : (g : Gate) → is_buffer (Some g) ≡ true → (x : ℕ) × (g ≡ Buf x)
-buffer_gate (Input i) e = absurd (cc)
-buffer_gate Zero e = absurd (cc)
-buffer_gate One e = absurd (cc)
-buffer_gate (Inv i) e = absurd (cc)
-buffer_gate (Maj i j k) e = absurd (cc)
-buffer_gate (Buf x) e = (x, refl)
 
 reads_of : {d : CellView} {levels : List ℕ} {last : ℕ} → AreCells d levels last → (i : ℕ) → i < d.net.inputs
     → (user : Use d.net.defs i) → ReadsInput d user.j i
@@ -110,8 +106,8 @@ apart {d} {j} {i} m lt x y gate other input =
     let before = named (take j d.net.defs) in
     let some = before_more d.net.defs i m 0 j y.def y.here second lt in
     let place = count_place i before (omega (arith, some)) in
-    let taken = any_of (nat_eq i) before place.0 i place.1 (eq-eqb i i refl) in
-    let shares = any_of (λ s. is_input d s && list_any (nat_eq s) before) x.def.inputs 0 i first
+    let taken = any_passes_from_place (nat_eq i) before place.0 i place.1 (eq-eqb i i refl) in
+    let shares = any_passes_from_place (λ s. is_input d s && list_any (nat_eq s) before) x.def.inputs 0 i first
     (ap (λ (b : Bool). b && list_any (nat_eq i) before) input ∙ taken) in
     let fine = and_parts (is_name d (d.net.inputs + j) || may_have d x.gate (uses d (d.net.inputs + j)))
     (not (shares_input d x.def.inputs before)) x.used in

@@ -8,7 +8,6 @@ use Rattle.std.proofs.lemmas.Bool.Decides.{eqb_tells}
 use Rattle.std.proofs.lemmas.Option.{slice_get_within, same_Some, none-some, slice_get-get_or, get_or_from_slice_get}
 use Rattle.std.proofs.lemmas.List.{length_push, length-set, length-replicate, map_push, get_or_push}
 use Rattle.std.proofs.lemmas.List.{get_or_append_left}
-use Rattle.circuit.specs.declared.cell_kind.CellKind.TheVariants as kinds
 use Rattle.circuit.specs.declared.cell_kind.CellKind.{CellKind}
 use Rattle.circuit.specs.declared.gate.Gate.{Gate}
 use Rattle.circuit.specs.declared.gate.Gate.TheVariants.{Input, Zero, One, Buf, Inv, Maj}
@@ -262,21 +261,18 @@ buffer_told true kind from f s o same = refl
 buffer_told false kind from f s o same =
     ap (λ (t : Source). record (fed_cell kind t) { output = o }) (same refl)
 
+-- the cell of this gate, made from such sources, is that of definition j
+abbrev pub IsLaid : CellView → List ℕ → (ℕ → Source) → ℕ → Gate → Type 0
+IsLaid d levels from j g =
+    record (cell_with d.net.inputs from (uses d (d.net.inputs + j)) g) { output = output_of d (d.net.inputs + j) }
+    ≡ cell_of d levels j g
+
 pub cell_laid : {d : CellView} {levels : List ℕ} {last : ℕ} → AreCells d levels last → (places used : List ℕ) (j : ℕ)
     → ArePlaces d levels places (length d.net.defs)
     → AreCounts used (d.net.inputs + length d.net.defs) (named (take j d.net.defs)) → (x : Defined d j)
-    → record (cell_with d.net.inputs (source_in d.net.inputs places used) (uses d (d.net.inputs + j)) x.gate) {
-      output = output_of d (d.net.inputs + j);
-    }
-    ≡ cell_of d levels j x.gate
+    → IsLaid d levels (source_in d.net.inputs places used) j x.gate
 cell_laid {d} {levels} known places used j are counts x = by x.gate refl
   where
-    from : ℕ → Source
-    from = source_in d.net.inputs places used
-
-    o : Option ℕ
-    o = output_of d (d.net.inputs + j)
-
     told : (g : Gate) → x.gate ≡ g → (i s : ℕ) → slice_get (operands_of g) i ≡ Some s → is_input d s ≡ false
         → source_in d.net.inputs places used s ≡ source_of d levels j s
     told g e i s at past =
@@ -290,27 +286,11 @@ cell_laid {d} {levels} known places used j are counts x = by x.gate refl
         (reads_none x (ap (λ (g : Gate). is_buffer (Some g)) e ∙ off) i s
         (ap (λ (xs : List ℕ). slice_get xs i) (x.computes.named ∙ ap operands_of e) ∙ at))
 
-    turned : (g : Gate) → x.gate ≡ g
-        → record (cell_with d.net.inputs (source_in d.net.inputs places used) (uses d (d.net.inputs + j)) g) {
-          output = output_of d (d.net.inputs + j);
-        }
-        ≡ cell_of d levels j g
-        → record (cell_with d.net.inputs (source_in d.net.inputs places used) (uses d (d.net.inputs + j)) x.gate) {
-          output = output_of d (d.net.inputs + j);
-        }
-        ≡ cell_of d levels j x.gate
-    turned g e is =
-        subst (λ (g : Gate).
-        record (cell_with d.net.inputs (source_in d.net.inputs places used) (uses d (d.net.inputs + j)) g) {
-          output = output_of d (d.net.inputs + j);
-        }
-        ≡ cell_of d levels j g) (sym e) is
+    turned : (g : Gate) → x.gate ≡ g → IsLaid d levels (source_in d.net.inputs places used) j g
+        → IsLaid d levels (source_in d.net.inputs places used) j x.gate
+    turned g e is = subst (IsLaid d levels (source_in d.net.inputs places used) j) (sym e) is
 
-    by : (g : Gate) → x.gate ≡ g
-        → record (cell_with d.net.inputs (source_in d.net.inputs places used) (uses d (d.net.inputs + j)) x.gate) {
-          output = output_of d (d.net.inputs + j);
-        }
-        ≡ cell_of d levels j x.gate
+    by : (g : Gate) → x.gate ≡ g → IsLaid d levels (source_in d.net.inputs places used) j x.gate
     by (Input i) e = absurd (subst IsCellGate e x.computes.cell)
     by Zero e = turned Zero e refl
     by One e = turned One e refl
@@ -318,18 +298,10 @@ cell_laid {d} {levels} known places used j are counts x = by x.gate refl
         turned (Buf s) e
         (buffer_told (is_input d s) (kind_giving (uses d (d.net.inputs + j))) (source_in d.net.inputs places used)
         (source_of d levels j) s (output_of d (d.net.inputs + j)) (λ past. told (Buf s) e 0 s refl past))
-    by (Inv s) e =
-        turned (Inv s) e
-        (ap (λ (t : Source). record (fed_cell kinds.Inverter t) { output = output_of d (d.net.inputs + j) })
-        (other (Inv s) e refl 0 s refl))
+    by (Inv s) e = turned (Inv s) e (rw (other (Inv s) e refl 0 s refl) refl)
     by (Maj a b c) e =
-        let show = λ (p q r : Source).
-        (record (cell kinds.Majority (p ∷ q ∷ r ∷ [])) { output = output_of d (d.net.inputs + j) }) in
-        let at = source_in d.net.inputs places used in
-        turned (Maj a b c) e
-        (ap (λ (p : Source). show p (at b) (at c)) (other (Maj a b c) e refl 0 a refl)
-        ∙ ap (λ (q : Source). show (source_of d levels j a) q (at c)) (other (Maj a b c) e refl 1 b refl)
-        ∙ ap (show (source_of d levels j a) (source_of d levels j b)) (other (Maj a b c) e refl 2 c refl))
+        let read = other (Maj a b c) e refl in
+        turned (Maj a b c) e (rw (read 0 a refl, read 1 b refl, read 2 c refl) refl)
 
 -- the cell of a definition, from its gate, its uses and the output that is told of it
 pub row_told : {d : CellView} {levels : List ℕ} {last : ℕ} → AreCells d levels last → (places used : List ℕ)
@@ -342,15 +314,8 @@ pub row_told : {d : CellView} {levels : List ℕ} {last : ℕ} → AreCells d le
     → record cell { output = output } ≡ row_cell d levels j
 row_told {d} {levels} known places used shown j n gate output cell plan counts lt here many at is =
     let x = defined known j lt in
-    let from = source_in d.net.inputs places used in
-    let u = uses d (d.net.inputs + j) in
-    ap (λ (c : RowCell). record c { output = output }) is
-    ∙ ap (λ (m : ℕ). record (cell_with d.net.inputs from m gate) { output = output }) many
-    ∙ ap (λ (g : Gate). record (cell_with d.net.inputs from u g) { output = output }) (same_gate here (gate_is x))
-    ∙ ap (λ (o : Option ℕ). record (cell_with d.net.inputs from u x.gate) { output = o })
-    (output_in known shown plan.shown_are j output at)
-    ∙ cell_laid known places used j plan.places_are counts x
-    ∙ sym (cell_is levels x)
+    rw (is, many, same_gate here (gate_is x), output_in known shown plan.shown_are j output at, cell_is levels x)
+    (cell_laid known places used j plan.places_are counts x)
 
 -- uses
 

@@ -1,7 +1,7 @@
 -- The net of the rows that the code makes, and how the code begins.
 use Rattle.std.proofs.Common.{◌≡◌, ℕ, zero, suc, ◌+◌, ◌<◌, ◌≤◌, ◌^◌, Bool, false, List, [], ◌∷◌, ◌++◌, length, map}
 use Rattle.std.proofs.Common.{replicate, Option, refl, ap, sym, ◌∙◌, subst, arith}
-use Rattle.std.specs.Prelude.{slice_index}
+use Rattle.std.specs.Prelude.{slice_index, slice_set}
 use Rattle.circuit.specs.declared.gate.Gate.{Gate}
 use Rattle.blif_read.specs.Parts.{NetView}
 use Rattle.blif_read.specs.Netlist.{IsNetlist}
@@ -14,13 +14,14 @@ use Rattle.cell_netlist.specs.Told.{IsNetOfCells}
 use Rattle.cell_netlist.specs.Uses.{CellView, is_name, with_gates}
 use Rattle.cell_netlist.proofs.OneGate.{gates_one}
 use Rattle.cell_rows.specs.Laws.{AreCells, AreRowsOf}
-use Rattle.cell_rows.specs.Members.{passing_below, listed, stands_in}
+use Rattle.cell_rows.specs.Members.{passing_below, listed, stands_in, place_of}
 use Rattle.cell_rows.specs.CellRows.{row_cell, rows_of}
 use Rattle.cell_rows.specs.Code.Laying.{counts_to, rows_to}
 use Rattle.cell_rows.proofs.Listed.{listed_long}
 use Rattle.cell_rows.proofs.Defined.{IsCell}
+use Rattle.cell_rows.proofs.Laid.{count_low, counts_cell, place_is}
 use Rattle.cell_rows.proofs.Rows.{level_low, rows_few}
-use Rattle.cell_rows.proofs.Netted.{row_net}
+use Rattle.cell_rows.proofs.Netted.{defs_few, row_net}
 
 -- a definition's cell stands in a row
 pub record Row (d : CellView) (levels : List ℕ) (last j row : ℕ) : Type 0 where
@@ -36,23 +37,34 @@ row_is {d} {levels} known j row lt name is =
     let low = level_low known j cell in
     record { cell = cell; is = is; low = omega (arith, low, is) }
 
-pub defs_few : {d : CellView} {levels : List ℕ} {last : ℕ} → AreCells d levels last → length d.net.defs < 2 ^ 28
-defs_few known =
-    let small = known.net_keeps.small in let count = known.net_keeps.count in omega (arith, small, count)
-
 pub last_few : {d : CellView} {levels : List ℕ} {last : ℕ} → AreCells d levels last → last < 2 ^ 28
 last_few known = let few = rows_few known in let small = defs_few known in omega (arith, few, small)
 
-pub row_low : {d : CellView} {levels : List ℕ} {last : ℕ} → AreCells d levels last → (j row : ℕ)
-    → Row d levels last j row → row < 2 ^ 28
-row_low known j row here = let few = last_few known in let low = here.low in omega (arith, few, low)
+-- how many cells stand before definition j's in its row, and with it
+pub record RowCount (d : CellView) (levels : List ℕ) (last j row : ℕ) (counts : List ℕ) : Type 0 where
+  pub low : row < 2 ^ 28
+  pub room : row < length counts
+  pub few : slice_index counts row < 2 ^ 28
+  pub counts_are : slice_set counts row (slice_index counts row + 1) ≡ counts_to d levels last (j + 1)
+  pub place_is : slice_index counts row ≡ place_of d levels j
 
-pub count_room : (d : CellView) (levels : List ℕ) (last j row : ℕ) (counts : List ℕ) → Row d levels last j row
-    → counts ≡ counts_to d levels last j → row < length counts
-count_room d levels last j row counts here is =
-    let long = ap length is ∙ listed_long (λ r. length (passing_below (stands_in d levels r) j)) (suc last) in
+pub row_count : {d : CellView} {levels : List ℕ} {last : ℕ} → AreCells d levels last → (j row : ℕ) (counts : List ℕ)
+    → j < length d.net.defs → is_name d (d.net.inputs + j) ≡ false → row ≡ slice_index levels j
+    → counts ≡ counts_to d levels last j → RowCount d levels last j row counts
+row_count {d} {levels} {last} known j row counts lt name at is =
+    let here = row_is known j row lt name at in
+    let few = last_few known in
+    let defs = defs_few known in
     let low = here.low in
-    omega (arith, long, low)
+    let long = ap length is ∙ listed_long (λ r. length (passing_below (stands_in d levels r) j)) (suc last) in
+    let place = count_low d levels last j row _ counts low is refl in
+    record {
+      low = omega (arith, few, low);
+      room = omega (arith, long, low);
+      few = omega (arith, place, lt, defs);
+      counts_are = counts_cell d levels last j row _ counts here.cell at low is refl;
+      place_is = place_is d levels last j row _ counts at low is refl;
+    }
 
 pub laid_room : (d : CellView) (levels : List ℕ) (last j row : ℕ) (rows : List (List RowCell))
     → Row d levels last j row → rows ≡ rows_to d levels last j → row < length rows
@@ -103,10 +115,7 @@ view inputs outputs rows = record { inputs = inputs; outputs = outputs; rows = r
 pub made : (d : CellView) (levels : List ℕ) (last inputs outputs : ℕ) (rows : List (List RowCell))
     → inputs ≡ d.net.inputs → outputs ≡ length d.net.outputs → rows ≡ rows_to d levels last (length d.net.defs)
     → view inputs outputs rows ≡ rows_of d levels last
-made d levels last inputs outputs rows p q r =
-    ap (λ (n : ℕ). view n outputs rows) p
-    ∙ ap (λ (n : ℕ). view d.net.inputs n rows) q
-    ∙ ap (view d.net.inputs (length d.net.outputs)) r
+made d levels last inputs outputs rows p q r = rw (p, q, r) refl
 
 pub made_keeps : (d : CellView) (levels : List ℕ) (last inputs outputs : ℕ) (rows : List (List RowCell))
     → AreCells d levels last → inputs ≡ d.net.inputs → outputs ≡ length d.net.outputs

@@ -19,7 +19,7 @@ use Rattle.rowed.specs.RowNets.{row_at, cell_at, fed_at, pins_at, MayStand, Each
 use Rattle.rowed.specs.RowNets.{output_at, ExactlyOne}
 use Rattle.rowed.specs.RowNets.{is_input as shows_input}
 use Rattle.cell_netlist.specs.Kinds.{operands_of, IsCellGate}
-use Rattle.cell_netlist.specs.Uses.{CellView, uses, is_input, gate_of}
+use Rattle.cell_netlist.specs.Uses.{CellView, uses, is_input, is_buffer, gate_of}
 use Rattle.cell_rows.specs.Laws.{AreCells}
 use Rattle.cell_rows.specs.Members.{members, place_of, uses_before}
 use Rattle.cell_rows.specs.CellRows.{kind_giving, source_of, kind_of, fed_by, input_of, output_of, cell_of, row_cell}
@@ -32,7 +32,7 @@ use Rattle.cell_rows.proofs.Rows.{last_shows, shown_of, row_some, row_few, rows_
 use Rattle.cell_rows.proofs.Standing.{row_there, row_past, cell_is, at_cell, same_cell, reads_buffer}
 use Rattle.cell_rows.proofs.Standing.{Fed, fed_is}
 use Rattle.cell_rows.proofs.Standing.{source_is, Below, below_pin}
-use Rattle.cell_rows.proofs.Ends.{input_below, each_input, output_is, output_some, each_output}
+use Rattle.cell_rows.proofs.Ends.{buffer_gate, input_below, each_input, output_is, output_some, each_output}
 
 -- a cell has as many pins that are fed as its kind says; a buffer of an input has none, and stands in the first row
 
@@ -40,37 +40,18 @@ record HasPins (d : CellView) (r n : ℕ) (g : Gate) : Type 0 where
   fed : length (fed_by d g) ≡ pins_at r (kind_of n g)
   input : is_some (input_of d g) ≡ shows_input r (kind_of n g)
 
-zero_pins : (r : ℕ) → 0 ≡ pins_at r kinds.Zero
-zero_pins zero = refl
-zero_pins (suc r) = refl
-
-one_pins : (r : ℕ) → 0 ≡ pins_at r kinds.One
-one_pins zero = refl
-one_pins (suc r) = refl
-
-inverter_pins : (r : ℕ) → 1 ≡ pins_at r kinds.Inverter
-inverter_pins zero = refl
-inverter_pins (suc r) = refl
-
-majority_pins : (r : ℕ) → 3 ≡ pins_at r kinds.Majority
-majority_pins zero = refl
-majority_pins (suc r) = refl
-
-shows_zero : (r : ℕ) → false ≡ shows_input r kinds.Zero
-shows_zero zero = refl
-shows_zero (suc r) = refl
-
-shows_one : (r : ℕ) → false ≡ shows_input r kinds.One
-shows_one zero = refl
-shows_one (suc r) = refl
-
-shows_inverter : (r : ℕ) → false ≡ shows_input r kinds.Inverter
-shows_inverter zero = refl
-shows_inverter (suc r) = refl
-
-shows_majority : (r : ℕ) → false ≡ shows_input r kinds.Majority
-shows_majority zero = refl
-shows_majority (suc r) = refl
+-- of a gate that is no buffer
+plain_pins : (d : CellView) (r n : ℕ) (g : Gate) → is_buffer (Some g) ≡ false → IsCellGate g → HasPins d r n g
+plain_pins d r n (Input i) e cell = absurd cell
+plain_pins d r n (Buf x) e cell = absurd (cc)
+plain_pins d zero n Zero e cell = record { fed = refl; input = refl }
+plain_pins d zero n One e cell = record { fed = refl; input = refl }
+plain_pins d zero n (Inv x) e cell = record { fed = refl; input = refl }
+plain_pins d zero n (Maj x y z) e cell = record { fed = refl; input = refl }
+plain_pins d (suc r) n Zero e cell = record { fed = refl; input = refl }
+plain_pins d (suc r) n One e cell = record { fed = refl; input = refl }
+plain_pins d (suc r) n (Inv x) e cell = record { fed = refl; input = refl }
+plain_pins d (suc r) n (Maj x y z) e cell = record { fed = refl; input = refl }
 
 giving_pins : (r n : ℕ) → 1 ≡ pins_at (suc r) (kind_giving n)
 giving_pins r n = by (eqb n 2) (eqb n 3)
@@ -112,14 +93,8 @@ buffer_pins d r n x k e up = record {
 
 has_pins : {d : CellView} {levels : List ℕ} {last : ℕ} → AreCells d levels last → (j : ℕ) → IsCell d j
     → (x : Defined d j) → HasPins d (slice_index levels j) (uses d (d.net.inputs + j)) x.gate
-has_pins {d} {levels} {last} known j cell x = by x.gate refl
+has_pins {d} {levels} {last} known j cell x = by (is_buffer (Some x.gate)) refl
   where
-    r : ℕ
-    r = slice_index levels j
-
-    n : ℕ
-    n = uses d (d.net.inputs + j)
-
     first : (s : ℕ) → x.gate ≡ Buf s → slice_get x.def.inputs 0 ≡ Some s
     first s e = ap (λ (xs : List ℕ). slice_get xs 0) (x.computes.named ∙ ap operands_of e)
 
@@ -133,22 +108,13 @@ has_pins {d} {levels} {last} known j cell x = by x.gate refl
         buffer_pins d (slice_index levels j) (uses d (d.net.inputs + j)) s (slice_index levels (s - d.net.inputs)) t
         (reads_cell known x cell.no_name 0 s (first s e) (s - d.net.inputs) past)
 
-    turned : (g : Gate) → x.gate ≡ g → HasPins d (slice_index levels j) (uses d (d.net.inputs + j)) g
+    by : (b : Bool) → is_buffer (Some x.gate) ≡ b
         → HasPins d (slice_index levels j) (uses d (d.net.inputs + j)) x.gate
-    turned g e pins = subst (HasPins d (slice_index levels j) (uses d (d.net.inputs + j))) (sym e) pins
-
-    by : (g : Gate) → x.gate ≡ g → HasPins d (slice_index levels j) (uses d (d.net.inputs + j)) x.gate
-    by (Input i) e = absurd (subst IsCellGate e x.computes.cell)
-    by Zero e =
-        turned Zero e (record { fed = zero_pins (slice_index levels j); input = shows_zero (slice_index levels j) })
-    by One e = turned One e (record { fed = one_pins (slice_index levels j); input = shows_one (slice_index levels j) })
-    by (Buf s) e = turned (Buf s) e (buffer s e (is_input d s) refl)
-    by (Inv s) e =
-        turned (Inv s) e
-        (record { fed = inverter_pins (slice_index levels j); input = shows_inverter (slice_index levels j) })
-    by (Maj a b c) e =
-        turned (Maj a b c) e
-        (record { fed = majority_pins (slice_index levels j); input = shows_majority (slice_index levels j) })
+    by true e =
+        let gate = buffer_gate x.gate e in
+        subst (HasPins d (slice_index levels j) (uses d (d.net.inputs + j))) (sym gate.1)
+        (buffer gate.0 gate.1 (is_input d gate.0) refl)
+    by false e = plain_pins d (slice_index levels j) (uses d (d.net.inputs + j)) x.gate e x.computes.cell
 
 -- an element is there below the length, and nowhere else
 some_below : {A : Type 0} (f : ℕ → A) (xs : List ℕ) (i : ℕ)
@@ -332,7 +298,7 @@ feeds_one {d} {levels} {last} known r c e i m s p q =
 
 -- the rows are a net
 
-defs_few : {d : CellView} {levels : List ℕ} {last : ℕ} → AreCells d levels last → length d.net.defs < 2 ^ 28
+pub defs_few : {d : CellView} {levels : List ℕ} {last : ℕ} → AreCells d levels last → length d.net.defs < 2 ^ 28
 defs_few known =
     let small = known.net_keeps.small in let count = known.net_keeps.count in omega (arith, small, count)
 

@@ -105,7 +105,7 @@ pub record Shown (d : CellView) (levels : List ℕ) (last s : ℕ) : Type 0 wher
   pub output_name : is_name d s ≡ true
   pub level : slice_index levels j ≡ last
 
-buffer_of : (g : Option Gate) → is_buffer g ≡ true → (x : ℕ) × (g ≡ Some (Buf x))
+pub buffer_of : (g : Option Gate) → is_buffer g ≡ true → (x : ℕ) × (g ≡ Some (Buf x))
 buffer_of None e = absurd (cc)
 buffer_of (Some (Input i)) e = absurd (cc)
 buffer_of (Some Zero) e = absurd (cc)

@@ -8,6 +8,7 @@ use Rattle.std.proofs.lemmas.Bool.{cases_lt, and_parts, eqb-true}
 use Rattle.std.proofs.lemmas.Bool.{leb-true}
 use Rattle.std.proofs.lemmas.Option.{same_Some, none-some, slice_get-map, slice_get_past}
 use Rattle.std.proofs.lemmas.List.{get_or_past}
+use Rattle.std.proofs.lemmas.Map.Keys.{any_passes_from_place}
 use Rattle.circuit.specs.declared.gate.Gate.{Gate}
 use Rattle.circuit.specs.declared.gate.Gate.TheVariants.{Input, Zero, One, Buf, Inv, Maj}
 use Rattle.circuit.specs.CellKinds.{outputs_of}
@@ -127,21 +128,12 @@ reads_none {d} {j} x other i s at =
     ∙ x.fed)
     at
 
-pub any_of : (p : ℕ → Bool) (xs : List ℕ) (i s : ℕ) → slice_get xs i ≡ Some s → p s ≡ true → list_any p xs ≡ true
-any_of p [] i s at e = absurd (none-some s at)
-any_of p (x ∷ xs) zero s at e = ap (λ (b : Bool). b || list_any p xs) (ap p (same_Some x s at) ∙ e)
-any_of p (x ∷ xs) (suc i) s at e = or_right (p x) (list_any p xs) (any_of p xs i s at e)
-  where
-    or_right : (a b : Bool) → b ≡ true → (a || b) ≡ true
-    or_right true b e = refl
-    or_right false b e = e
-
 -- the cell that reads an input is a buffer with one use at most
 pub reads_buffer : {d : CellView} {j : ℕ} → (x : Defined d j) → (i s : ℕ) → slice_get x.def.inputs i ≡ Some s
     → is_input d s ≡ true → (is_buffer (Some x.gate) ≡ true) × (uses d (d.net.inputs + j) ≤ 1)
 reads_buffer {d} {j} x i s at e =
     let u = uses d (d.net.inputs + j) in
-    let any = any_of (is_input d) x.def.inputs i s at e in
+    let any = any_passes_from_place (is_input d) x.def.inputs i s at e in
     let both = and_parts (is_buffer (Some x.gate)) (nat_le u 1)
     (or_false (is_buffer (Some x.gate) && nat_le u 1) (not (list_any (is_input d) x.def.inputs)) (ap not any) x.fed) in
     (both.0, leb-true u 1 both.1)

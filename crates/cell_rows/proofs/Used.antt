@@ -3,7 +3,7 @@ use Rattle.std.proofs.Common.{◌≡◌, ℕ, zero, suc, ◌+◌, ◌<◌, ◌�
 use Rattle.std.proofs.Common.{drop, replicate}
 use Rattle.std.proofs.Common.{refl, ap, sym, ◌∙◌, subst, arith, append_assoc, length-append}
 use Rattle.std.specs.Prelude.{slice_get, slice_index, nat_eq}
-use Rattle.std.proofs.lemmas.List.{take_more, take_all, length-replicate}
+use Rattle.std.proofs.lemmas.List.{append-nil, take_more, take_all, length-take, length-replicate}
 use Rattle.std.proofs.lemmas.List.Sums.{count_by-le-length}
 use Rattle.std.proofs.Math.Seq.{take-append_seam}
 use Rattle.blif_read.specs.Parts.{NetView}
@@ -14,15 +14,6 @@ use Rattle.cell_netlist.specs.Uses.{named}
 use Rattle.cell_netlist.proofs.Gated.{signals_few}
 use Rattle.cell_netlist.proofs.Judged.{named_more}
 use Rattle.cell_rows.proofs.Laid.{counted_push}
-
-append_none : (xs : List ℕ) → xs ++ [] ≡ xs
-append_none [] = refl
-append_none (x ∷ xs) = ap (λ (ys : List ℕ). x ∷ ys) (append_none xs)
-
-take_short : (xs : List ℕ) (i : ℕ) → length (take i xs) ≤ i
-take_short xs zero = omega arith
-take_short [] (suc i) = omega arith
-take_short (x ∷ xs) (suc i) = let rest = take_short xs i in omega (arith, rest)
 
 named_take : (defs : List Def) (n : ℕ) → length (named (take n defs)) ≤ length (named defs)
 named_take defs zero = omega arith
@@ -51,7 +42,7 @@ none_used used n bound same is = record {
 pub used_first : (seen inputs used : List ℕ) (bound : ℕ) → AreCounts used bound seen
     → AreCounts used bound (seen ++ take 0 inputs)
 used_first seen inputs used bound known =
-    subst (λ (xs : List ℕ). AreCounts used bound xs) (sym (append_none seen)) known
+    subst (λ (xs : List ℕ). AreCounts used bound xs) (sym (append-nil seen)) known
 
 -- one more
 pub used_more : (seen inputs used new : List ℕ) (i x bound : ℕ) → AreCounts used bound (seen ++ take i inputs)
@@ -85,7 +76,7 @@ used_fits net j i bound def used known here counts lt s low =
     let is = counts.each s (omega (arith, low, long)) in
     let few = count_by-le-length (λ (n : ℕ). nat_eq s n) (named (take j net.defs) ++ take i def.inputs) in
     let size = length-append (named (take j net.defs)) (take i def.inputs) in
-    let short = take_short def.inputs i in
+    let short = length-take i def.inputs in
     let next = ap (λ (xs : List ℕ). length xs) (named_more net.defs j def here) in
     let both = length-append (named (take j net.defs)) def.inputs in
     let most = named_take net.defs (suc j) in

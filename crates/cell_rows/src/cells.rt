@@ -1,14 +1,13 @@
 // The cells of definitions, with their sources.
-ghost use Rattle.std.specs.Prelude.{◌≡◌, ◌+◌, ◌<◌, false, length, take, slice_index};
-ghost use Rattle.cell_netlist.specs.Tables.{AreCounts, IsTableOf};
-ghost use Rattle.cell_netlist.specs.Uses.{named, is_name, with_gates};
-ghost use Rattle.cell_rows.specs.Laws.{AreCells};
+ghost use Rattle.std.specs.Prelude.{◌≡◌, ◌+◌, ◌<◌, false, length, slice_index};
+ghost use Rattle.cell_netlist.specs.Uses.{is_name};
 ghost use Rattle.cell_rows.specs.CellRows.{kind_giving, row_cell};
-ghost use Rattle.cell_rows.specs.Code.Laying.{IsPlan, source_in, cell_with};
+ghost use Rattle.cell_rows.specs.Code.Laying.{view_of, IsTabled, AreLevelled, IsPlanOf, AreUsedBefore};
+ghost use Rattle.cell_rows.specs.Code.Laying.{source_in, cell_with};
 
 use crate::places::Plan;
-use blif_read::Netlist;
-use cell_netlist::{CellLevels, CellTable, gate_of, uses_of};
+use crate::tabled_cells::TabledCells;
+use cell_netlist::{gate_of, uses_of};
 use circuit::{Answers, CellKind, Gate};
 use rowed::{RowCell, Source};
 
@@ -77,30 +76,22 @@ fn gate_cell(inputs: u32, places: &[u32], used: &[u32], uses: u32, gate: Gate) -
 }
 
 /// The cell of definition `j`, where the signals that definitions before it name were counted.
-pub(crate) fn row_cell(
-    net: &Netlist,
-    table: &CellTable,
-    three: bool,
-    _cells: &CellLevels,
-    plan: &Plan,
-    used: &[u32],
-    j: u32,
-) -> RowCell
-    requires table { IsTableOf net.now table.now.gates.items table.now.used.items table.now.shown.items }
-    requires cells { AreCells (with_gates net.now table.now.gates.items three) _cells.now.levels _cells.now.last }
-    requires plan { IsPlan (with_gates net.now table.now.gates.items three) _cells.now.levels plan.now.places.items
-        plan.now.shown.items }
-    requires used { AreCounts used.now (net.now.inputs + length net.now.defs) (named (take j net.now.defs)) }
-    requires j { j < length net.now.defs }
-    requires no_name { is_name (with_gates net.now table.now.gates.items three) (net.now.inputs + j) ≡ false }
-    ensures { result ≡ row_cell (with_gates net.now table.now.gates.items three) _cells.now.levels j }
+pub(crate) fn row_cell(cells: &TabledCells, plan: &Plan, used: &[u32], j: u32) -> RowCell
+    requires table { IsTabled cells.now }
+    requires cells { AreLevelled cells.now }
+    requires plan { IsPlanOf cells.now plan.now }
+    requires used { AreUsedBefore cells.now used.now j }
+    requires j { j < length cells.now.net.now.defs }
+    requires no_name { is_name (view_of cells.now) (cells.now.net.now.inputs + j) ≡ false }
+    ensures { result ≡ row_cell (view_of cells.now) cells.now.levels.now.levels j }
 {
+    let net = cells.net;
     net.known();
     let inputs = net.input_count();
     let signal = inputs + j;
-    let uses = uses_of(net, table, three, signal);
+    let uses = uses_of(net, cells.table, cells.three, signal);
     let output = plan.shown[signal as usize];
-    let Some(gate) = gate_of(net, table, signal) else {
+    let Some(gate) = gate_of(net, cells.table, signal) else {
         return RowCell::bare(CellKind::Buffer);
     };
     let cell = gate_cell(inputs, &plan.places, used, uses, gate);

@@ -5,6 +5,7 @@ mod cells;
 mod laws;
 mod net;
 mod places;
+mod tabled_cells;
 
 pub use laws::{levels_are_rows, rows_of_cells};
 pub use net::cell_rows;

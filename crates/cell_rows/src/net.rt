@@ -1,30 +1,29 @@
 // Netlists of cells as nets in rows.
-ghost use Rattle.std.specs.Prelude.{◌≡◌, ◌+◌, ◌++◌, ◌∷◌, ◌<◌, [], length, take, slice_get, slice_index_or, slice_set};
+ghost use Rattle.std.specs.Prelude.{◌≡◌, ◌+◌, ◌++◌, ◌∷◌, ◌<◌, [], length, slice_get, slice_index_or, slice_set};
 ghost use Rattle.std.specs.Prelude.{Some, IfOk, OnOk};
 ghost use Rattle.rowed.specs.declared.row_cell.RowCell.{RowCell as Cell};
-ghost use Rattle.cell_netlist.specs.Tables.{AreCounts, IsTableOf};
 ghost use Rattle.cell_netlist.specs.Told.{IsNetOfCells};
-ghost use Rattle.cell_netlist.specs.Uses.{named, with_gates};
-ghost use Rattle.cell_rows.specs.Laws.{AreCells, AreRowsOf};
+ghost use Rattle.cell_rows.specs.Laws.{AreRowsOf};
 ghost use Rattle.cell_rows.specs.Members.{listed};
-ghost use Rattle.cell_rows.specs.Code.Laying.{IsPlan, rows_to};
+ghost use Rattle.cell_rows.specs.Code.Laying.{IsTabled, AreLevelled, IsPlanOf, AreUsedBefore, laid_to};
 
 use crate::cells::row_cell;
-use crate::places::{Plan, level_at, plan_of};
+use crate::places::{Plan, plan_of};
+use crate::tabled_cells::TabledCells;
 use aq_base::{List, Memory};
 use blif_read::{Def, Netlist};
-use cell_netlist::{CellLevels, CellTable, bump, cell_table, is_name};
+use cell_netlist::{CellLevels, bump, cell_table};
 use circuit::Answers;
 use rowed::{RowCell, RowNet};
 use std::alloc::Global;
 
 /// The uses of signals by definition `j` too.
-fn use_each(net: &Netlist, used: &mut [u32], _j: u32, def: &Def)
-    requires here { slice_get net.now.defs _j ≡ Some def.now }
-    requires used { AreCounts used.old (net.now.inputs + length net.now.defs) (named (take _j net.now.defs)) }
-    ensures { AreCounts used.new (net.now.inputs + length net.now.defs) (named (take (_j + 1) net.now.defs)) }
+fn use_each(cells: &TabledCells, used: &mut [u32], _j: u32, def: &Def)
+    requires here { slice_get cells.now.net.now.defs _j ≡ Some def.now }
+    requires used { AreUsedBefore cells.now used.old _j }
+    ensures { AreUsedBefore cells.now used.new (_j + 1) }
 {
-    net.known();
+    cells.net.known();
     for signal in def.inputs.as_slice() {
         bump(used, *signal);
     }
@@ -41,62 +40,48 @@ fn put(rows: &mut [List<RowCell>], row: usize, cell: RowCell) -> Result<(), Memo
 
 /// Puts the cell of definition `j` into its row, unless it is a name.
 fn lay_one(
-    net: &Netlist,
-    table: &CellTable,
-    three: bool,
-    cells: &CellLevels,
+    cells: &TabledCells,
     plan: &Plan,
     used: &[u32],
     rows: &mut [List<RowCell>],
     j: u32,
 ) -> Result<(), Memory>
-    requires table { IsTableOf net.now table.now.gates.items table.now.used.items table.now.shown.items }
-    requires cells { AreCells (with_gates net.now table.now.gates.items three) cells.now.levels cells.now.last }
-    requires plan { IsPlan (with_gates net.now table.now.gates.items three) cells.now.levels plan.now.places.items
-        plan.now.shown.items }
-    requires used { AreCounts used.now (net.now.inputs + length net.now.defs) (named (take j net.now.defs)) }
-    requires j { j < length net.now.defs }
-    requires rows { rows.old
-        ≡ rows_to (with_gates net.now table.now.gates.items three) cells.now.levels cells.now.last j }
-    ensures { OnOk result (rows.new
-        ≡ rows_to (with_gates net.now table.now.gates.items three) cells.now.levels cells.now.last (j + 1)) }
+    requires table { IsTabled cells.now }
+    requires cells { AreLevelled cells.now }
+    requires plan { IsPlanOf cells.now plan.now }
+    requires used { AreUsedBefore cells.now used.now j }
+    requires j { j < length cells.now.net.now.defs }
+    requires rows { rows.old ≡ laid_to cells.now j }
+    ensures { OnOk result (rows.new ≡ laid_to cells.now (j + 1)) }
 {
-    net.known();
-    let name = is_name(net, table, net.input_count() + j);
+    let name = cells.is_name_at(j);
     if name {
         return Ok(());
     }
-    let cell = row_cell(net, table, three, cells, plan, used, j);
-    let row = level_at(cells.levels.as_slice(), j) as usize;
+    let cell = row_cell(cells, plan, used, j);
+    let row = cells.row_at(j);
     put(rows, row, cell)?;
     Ok(())
 }
 
 /// Puts all cells into rows that are empty.
 fn lay_each(
-    net: &Netlist,
-    table: &CellTable,
-    three: bool,
-    cells: &CellLevels,
+    cells: &TabledCells,
     plan: &Plan,
     used: &mut [u32],
     rows: &mut [List<RowCell>],
 ) -> Result<(), Memory>
-    requires table { IsTableOf net.now table.now.gates.items table.now.used.items table.now.shown.items }
-    requires cells { AreCells (with_gates net.now table.now.gates.items three) cells.now.levels cells.now.last }
-    requires plan { IsPlan (with_gates net.now table.now.gates.items three) cells.now.levels plan.now.places.items
-        plan.now.shown.items }
-    requires used { AreCounts used.old (net.now.inputs + length net.now.defs) (named (take 0 net.now.defs)) }
-    requires rows { rows.old
-        ≡ rows_to (with_gates net.now table.now.gates.items three) cells.now.levels cells.now.last 0 }
-    ensures { OnOk result (rows.new
-        ≡ rows_to (with_gates net.now table.now.gates.items three) cells.now.levels cells.now.last
-        (length net.now.defs)) }
+    requires table { IsTabled cells.now }
+    requires cells { AreLevelled cells.now }
+    requires plan { IsPlanOf cells.now plan.now }
+    requires used { AreUsedBefore cells.now used.old 0 }
+    requires rows { rows.old ≡ laid_to cells.now 0 }
+    ensures { OnOk result (rows.new ≡ laid_to cells.now (length cells.now.net.now.defs)) }
 {
-    net.known();
-    for (j, def) in net.defs().as_slice().iter().enumerate() {
-        lay_one(net, table, three, cells, plan, used, rows, j as u32)?;
-        use_each(net, used, j as u32, def);
+    cells.net.known();
+    for (j, def) in cells.net.defs().as_slice().iter().enumerate() {
+        lay_one(cells, plan, used, rows, j as u32)?;
+        use_each(cells, used, j as u32, def);
     }
     Ok(())
 }
@@ -113,48 +98,31 @@ fn empty_rows(alloc: Global, count: usize) -> Result<Vec<List<RowCell>>, Memory>
 }
 
 /// The rows of a netlist of cells.
-fn laid(
-    alloc: Global,
-    net: &Netlist,
-    table: &CellTable,
-    three: bool,
-    cells: &CellLevels,
-    plan: &Plan,
-) -> Result<Vec<List<RowCell>>, Memory>
-    requires table { IsTableOf net.now table.now.gates.items table.now.used.items table.now.shown.items }
-    requires cells { AreCells (with_gates net.now table.now.gates.items three) cells.now.levels cells.now.last }
-    requires plan { IsPlan (with_gates net.now table.now.gates.items three) cells.now.levels plan.now.places.items
-        plan.now.shown.items }
-    ensures { IfOk result (λ rows. rows.items
-        ≡ rows_to (with_gates net.now table.now.gates.items three) cells.now.levels cells.now.last
-        (length net.now.defs)) }
+fn laid(alloc: Global, cells: &TabledCells, plan: &Plan) -> Result<Vec<List<RowCell>>, Memory>
+    requires table { IsTabled cells.now }
+    requires cells { AreLevelled cells.now }
+    requires plan { IsPlanOf cells.now plan.now }
+    ensures { IfOk result (λ rows. rows.items ≡ laid_to cells.now (length cells.now.net.now.defs)) }
 {
-    net.known();
-    let mut used = vec![in alloc; 0; net.name_count() as usize]?;
-    let mut rows = empty_rows(alloc, cells.last as usize + 1)?;
-    lay_each(net, table, three, cells, plan, &mut used, &mut rows)?;
+    cells.net.known();
+    let mut used = vec![in alloc; 0; cells.net.name_count() as usize]?;
+    let mut rows = empty_rows(alloc, cells.levels.last as usize + 1)?;
+    lay_each(cells, plan, &mut used, &mut rows)?;
     Ok(rows)
 }
 
 /// The net in rows of a netlist whose cells have a plan.
-fn planned(
-    alloc: Global,
-    net: &Netlist,
-    table: &CellTable,
-    three: bool,
-    cells: &CellLevels,
-    plan: &Plan,
-) -> Result<RowNet, Memory>
-    requires table { IsTableOf net.now table.now.gates.items table.now.used.items table.now.shown.items }
-    requires cells { AreCells (with_gates net.now table.now.gates.items three) cells.now.levels cells.now.last }
-    requires plan { IsPlan (with_gates net.now table.now.gates.items three) cells.now.levels plan.now.places.items
-        plan.now.shown.items }
-    ensures { IfOk result (AreRowsOf net.now three cells.now.levels cells.now.last) }
+fn planned(alloc: Global, cells: &TabledCells, plan: &Plan) -> Result<RowNet, Memory>
+    requires table { IsTabled cells.now }
+    requires cells { AreLevelled cells.now }
+    requires plan { IsPlanOf cells.now plan.now }
+    ensures { IfOk result (AreRowsOf cells.now.net.now cells.now.three cells.now.levels.now.levels
+        cells.now.levels.now.last) }
 {
-    let rows = laid(alloc, net, table, three, cells, plan)?;
+    let rows = laid(alloc, cells, plan)?;
     Ok(RowNet {
-        inputs: net.input_count(),
-        outputs: net.output_count(),
+        inputs: cells.net.input_count(),
+        outputs: cells.net.output_count(),
         rows: List::from_vec(rows),
     })
 }
@@ -172,6 +140,12 @@ pub fn cell_rows(
 {
     net.known();
     let table = cell_table(alloc, net)?;
-    let plan = plan_of(alloc, net, &table, three, cells)?;
-    planned(alloc, net, &table, three, cells, &plan)
+    let tabled = TabledCells {
+        net,
+        table: &table,
+        three,
+        levels: cells,
+    };
+    let plan = plan_of(alloc, &tabled)?;
+    planned(alloc, &tabled, &plan)
 }

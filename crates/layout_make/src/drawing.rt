@@ -20,7 +20,7 @@ ghost use Rattle.layout_make.specs.Size.{element_number, element_limit, RefusesS
 ghost use Rattle.rowed.specs.Extent.{widest, KeepsWidth};
 ghost use Rattle.layout_make.specs.MayDraw.{MayDraw};
 
-use crate::marks::{Ports, push_labels};
+use crate::marks::{PortLabels, Ports, push_labels};
 use crate::rows::{bar, known_sizes, lead, push_lag, push_wire_boxes};
 use crate::sizing::element_number;
 use crate::spots::{Row, Spot, input_count, output_count};
@@ -195,49 +195,63 @@ fn right_end(placed: &Placed, library: &Library) -> u64
     placed.span() * (library.columns() * library.pitch())
 }
 
-/// Where the lead of a row begins, which has this lower edge, as the row two below has the other one.
-fn lead_low(library: &Library, lag: u64, number: usize, edge: u64, two_before: u64) -> i64
-    requires edge { edge < 2 ^ 40 }
-    requires two_before { two_before < 2 ^ 40 }
-    ensures { result ≡ lead_low library.now lag number edge two_before }
+/// How the excitation lines run: to the right end of all rows, and along a bar of such a width that delays the odd one.
+#[derive(Clone, Copy)]
+struct Lines {
+    right: u64,
+    lag: u64,
+}
+
+/// Where a row stands: its number, its lower edge, and that of the row two below, from which its lead comes.
+#[derive(Clone, Copy)]
+struct Standing {
+    number: usize,
+    edge: u64,
+    two_before: u64,
+}
+
+/// Where the lead of a row begins, with a bar of such a width.
+fn lead_low(library: &Library, lag: u64, standing: Standing) -> i64
+    requires edge { standing.edge < 2 ^ 40 }
+    requires two_before { standing.two_before < 2 ^ 40 }
+    ensures { result ≡ lead_low library.now lag standing.number standing.edge standing.two_before }
 {
     known_sizes(library);
-    if number == 1 && lag > 0 {
+    if standing.number == 1 && lag > 0 {
         -2 * library.height() as i64
-    } else if number < 2 {
-        edge as i64
+    } else if standing.number < 2 {
+        standing.edge as i64
     } else {
-        two_before as i64
+        standing.two_before as i64
     }
 }
 
-/// Adds the cells and the line of a row, which has this lower edge, as the row two below has the other one.
+/// Adds the cells and the line of a row.
 #[tactic(auto, using(crate::proofs::RowsDrawn::low_leads))]
 fn push_row(
     library: &Library,
     kinds: &[CellKind],
-    right: u64,
-    lag: u64,
-    number: usize,
+    lines: Lines,
     row: &Row,
-    two_before: u64,
-    edge: u64,
+    standing: Standing,
     elements: &mut Vec<Element>,
 ) -> Result<(), Memory>
     requires long { length row.now.slots.now ≡ length row.now.cells.now }
     requires kinds { length kinds.now < 2 ^ 32 }
-    requires some { 0 < right }
-    requires right { right < 2 ^ 40 }
-    requires two_before { two_before ≤ edge }
-    requires edge { edge < 2 ^ 40 }
+    requires some { 0 < lines.right }
+    requires right { lines.right < 2 ^ 40 }
+    requires two_before { standing.two_before ≤ standing.edge }
+    requires edge { standing.edge < 2 ^ 40 }
     ensures { OnOk result (elements.new.items ≡ elements.old.items
-        ++ row_boxes library.now kinds.now right lag number (spots_of row.now.cells.now row.now.slots.now)
-        (lead_low library.now lag number edge two_before) edge) }
+        ++ row_boxes library.now kinds.now lines.right lines.lag standing.number
+        (spots_of row.now.cells.now row.now.slots.now)
+        (lead_low library.now lines.lag standing.number standing.edge standing.two_before) standing.edge) }
 {
+    let Standing { number, edge, .. } = standing;
     push_places(library, kinds, row, edge, elements)?;
-    let first = lead_low(library, lag, number, edge, two_before);
-    elements.push(lead(library, right, lag, number, first, edge))?;
-    elements.push(bar(library, right, number, edge))?;
+    let first = lead_low(library, lines.lag, standing);
+    elements.push(lead(library, lines.right, lines.lag, number, first, edge))?;
+    elements.push(bar(library, lines.right, number, edge))?;
     Ok(())
 }
 
@@ -269,12 +283,16 @@ fn row_elements(
         push_row(
             library,
             kinds,
-            right,
-            placed.lag,
-            number,
+            Lines {
+                right,
+                lag: placed.lag,
+            },
             &row,
-            two_before,
-            edge,
+            Standing {
+                number,
+                edge,
+                two_before,
+            },
             &mut elements,
         )?;
         two_before = one_before;
@@ -309,10 +327,12 @@ fn top_elements(
         alloc,
         library,
         &bottom,
-        Ports::Inputs,
-        input_count(placed),
-        column,
-        library.pin() / 2,
+        PortLabels {
+            ports: Ports::Inputs,
+            count: input_count(placed),
+            column,
+            y: library.pin() / 2,
+        },
         &mut elements,
     )?;
     let last = placed.row_count() - 1;
@@ -323,10 +343,12 @@ fn top_elements(
         alloc,
         library,
         &top,
-        Ports::Outputs,
-        output_count(placed),
-        column,
-        y,
+        PortLabels {
+            ports: Ports::Outputs,
+            count: output_count(placed),
+            column,
+            y,
+        },
         &mut elements,
     )?;
     Ok(elements)

@@ -25,6 +25,15 @@ pub(crate) enum Ports {
     Outputs,
 }
 
+/// The labels of a row's ports: which ports, how many at most, in which column of their slots, and at which height.
+#[derive(Clone, Copy)]
+pub(crate) struct PortLabels {
+    pub(crate) ports: Ports,
+    pub(crate) count: u32,
+    pub(crate) column: u32,
+    pub(crate) y: u64,
+}
+
 /// The input or the output that a cell shows.
 fn port_of(cell: &RowCell, ports: Ports) -> Option<u32>
     ensures { result ≡ port_of ports cell.now }
@@ -97,31 +106,30 @@ fn label(
     })
 }
 
-/// Adds the labels of the ports of a row, in this column of their slots and at this height.
+/// Adds the labels of the ports of a row.
 pub(crate) fn push_labels(
     alloc: Global,
     library: &Library,
     row: &Row,
-    ports: Ports,
-    count: u32,
-    column: u32,
-    y: u64,
+    labels: PortLabels,
     elements: &mut Vec<Element>,
 ) -> Result<(), Memory>
     requires long { length row.now.slots.now ≡ length row.now.cells.now }
-    requires y { y < 2 ^ 40 }
+    requires y { labels.y < 2 ^ 40 }
     requires fits { (port : ℕ)
-        → port_slot ports (spots_of row.now.cells.now row.now.slots.now) port
-        * library.now.columns + column < 2 ^ 32 }
+        → port_slot labels.ports (spots_of row.now.cells.now row.now.slots.now) port
+        * library.now.columns + labels.column < 2 ^ 32 }
     ensures { OnOk result (elements.new.items ≡ elements.old.items
-        ++ port_texts library.now ports (spots_of row.now.cells.now row.now.slots.now) column y count) }
+        ++ port_texts library.now labels.ports (spots_of row.now.cells.now row.now.slots.now) labels.column
+        labels.y labels.count) }
 {
     library.known();
-    let slots = port_slots(alloc, row, ports, count)?;
-    for port in 0..count {
+    let slots = port_slots(alloc, row, labels.ports, labels.count)?;
+    for port in 0..labels.count {
         let first = u64::from(slots[port as usize]) * library.columns();
-        let own = (first + u64::from(column)) as u32;
-        elements.push(Element::Text(label(alloc, library, ports, port, own, y)?))?;
+        let own = (first + u64::from(labels.column)) as u32;
+        let text = label(alloc, library, labels.ports, port, own, labels.y)?;
+        elements.push(Element::Text(text))?;
     }
     Ok(())
 }

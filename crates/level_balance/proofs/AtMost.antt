@@ -4,7 +4,7 @@ use Rattle.std.proofs.Common.{[], ◌∷◌, ◌++◌, length, drop, replicate, 
 use Rattle.std.proofs.Common.{Some, refl, sym, ap, ◌∙◌, subst, arith, inl, inr, drop-cons, add-one, le_trans}
 use Rattle.std.proofs.Common.{length-append}
 use Rattle.std.proofs.lemmas.Bool.{cases_eq, cases_lt}
-use Rattle.std.proofs.lemmas.List.{get_or-set_same, get_or-set_other, length-set}
+use Rattle.std.proofs.lemmas.List.{get_or_past, get_or-set_same, get_or-set_other, length-set}
 use Rattle.std.proofs.lemmas.Option.{slice_get-get_or}
 use Rattle.std.proofs.Math.Nat.{div-le_of_le-mul, pow-le-pow_left}
 use Rattle.circuit.specs.declared.gate.Gate.{Gate}
@@ -24,18 +24,13 @@ use Rattle.level_balance.proofs.ShortestTrees.{least_exponent}
 pub more_at_most : (most most' : ℕ) (xs : List ℕ) → most ≤ most' → IsAtMost most xs → IsAtMost most' xs
 more_at_most most most' xs le h = λ x. let e = h x in omega arith
 
-past_end : (xs : List ℕ) (x : ℕ) → length xs ≤ x → get_or xs x 0 ≡ 0
-past_end [] x le = refl
-past_end (y ∷ xs) zero le = absurd (omega arith)
-past_end (y ∷ xs) (suc x) le = past_end xs x (omega arith)
-
 pub set_at_most : (most : ℕ) (xs : List ℕ) (i v : ℕ) → v ≤ most → IsAtMost most xs → IsAtMost most (slice_set xs i v)
 set_at_most most xs i v le h = λ x. elim (cases_eq x i) [
   | inr other ↦ (let e = get_or-set_other xs i x v 0 other in let k = h x in omega arith)
   | inl same ↦ elim (cases_lt i (length xs)) [
     | inl lt ↦ (let e : get_or (set xs i v) x 0 ≡ v = ap (λ (t : ℕ). get_or (set xs i v) t 0) same
         ∙ get_or-set_same xs i v 0 lt in omega arith)
-    | inr past ↦ (let size = length-set xs i v in let e = past_end (set xs i v) x (omega arith) in omega arith)
+    | inr past ↦ (let size = length-set xs i v in let e = get_or_past (set xs i v) x 0 (omega arith) in omega arith)
   ]
 ]
 
@@ -51,14 +46,6 @@ used_at_most most fans (x ∷ xs) h =
     let more = set fans x (suc (get_or fans x 0)) in
     more_at_most (suc most + length xs) (most + suc (length xs)) (used_each more xs) (omega arith)
     (used_at_most (suc most) more xs (one_more_at_most most fans x h))
-
-pub zeros_at_most : (m : ℕ) → IsAtMost 0 (replicate m 0)
-zeros_at_most m = λ x. go m x
-  where
-    go : (m x : ℕ) → get_or (replicate {A = ℕ} m 0) x 0 ≤ 0
-    go zero x = omega arith
-    go (suc m) zero = omega arith
-    go (suc m) (suc x) = go m x
 
 pub few_operands : (g : Gate) → length (operands g) ≤ 3
 few_operands (gates.Input i) = omega arith
@@ -193,13 +180,6 @@ over_low c b most two three some le = div-le_of_le-mul b (lift b two three)
     lift (suc (suc (suc zero))) two three = omega arith
     lift (suc (suc (suc (suc b)))) two three = absurd (omega arith)
 
-pub times_low : (size b most : ℕ) → b ≤ 3 → size ≤ most → size * b ≤ 3 * most
-times_low size zero most three le = omega arith
-times_low size (suc zero) most three le = omega arith
-times_low size (suc (suc zero)) most three le = omega arith
-times_low size (suc (suc (suc zero))) most three le = omega arith
-times_low size (suc (suc (suc (suc b)))) most three le = absurd (omega arith)
-
 -- one gate of the walk that counts cells
 pub record TotalSo (n b : ℕ) (gates : List Gate) (fans : List ℕ) (i : ℕ) (ends : List ℕ) (total : ℕ) : Type 0 where
   pub size : length ends ≡ length gates
@@ -241,17 +221,14 @@ greatest_by_low : (n b : ℕ) (fans done : List ℕ) (most : ℕ) (xs : List ℕ
     → IsAtMost most done → greatest_by n b fans done xs ≤ most + 40
 greatest_by_low n b fans done most [] two three few h = omega arith
 greatest_by_low n b fans done most (x ∷ xs) two three few h =
-    go (is_constant n x) (greatest_by_low n b fans done most xs two three few h) (h x)
-    (depth_low b (get_or fans x 0) two three (few x))
+    by (is_constant n x) refl (greatest_by_low n b fans done most xs two three few h)
   where
-    go : (c : Bool) → greatest_by n b fans done xs ≤ most + 40 → get_or done x 0 ≤ most → depth b (get_or fans x 0) ≤ 40
-        → (elim c as (λ (t : Bool). ℕ) [
-          | true ↦ greatest_by n b fans done xs
-          | false ↦ max
-              (get_or done x 0 + depth b (get_or fans x 0)) (greatest_by n b fans done xs)
-        ]) ≤ most + 40
-    go true e k d = e
-    go false e k d = omega arith
+    by : (c : Bool) → is_constant n x ≡ c → greatest_by n b fans done xs ≤ most + 40
+        → greatest_by n b fans done (x ∷ xs) ≤ most + 40
+    by true e low = rw (e, greatest_by) low
+    by false e low =
+        rw (e, greatest_by)
+        (let here = h x in let d = depth_low b (get_or fans x 0) two three (few x) in omega arith)
 
 level_by_low : (n b : ℕ) (fans done : List ℕ) (most : ℕ) (g : Gate) → 2 ≤ b → b ≤ 3 → IsAtMost (2 ^ 40) fans
     → IsAtMost most done → level_by n b fans done g ≤ most + 41
@@ -281,9 +258,6 @@ push_at_most most (y ∷ xs) v le h = λ x. go (push_at_most most xs v le (λ k.
 pub record LevelsSo (n b : ℕ) (fans : List ℕ) (gates : List Gate) (i : ℕ) (levels : List ℕ) : Type 0 where
   pub few : IsAtMost (41 * i) levels
   pub same : levels_by n b fans levels (drop i gates) ≡ levels_by n b fans [] gates
-
-pub levels_begin : (n b : ℕ) (fans : List ℕ) (gates : List Gate) → LevelsSo n b fans gates 0 []
-levels_begin n b fans gates = record { few = λ x. omega arith; same = refl }
 
 pub levels_turn : (n b : ℕ) (fans : List ℕ) (gates : List Gate) (d : Gate) (i : ℕ) (levels levels0 : List ℕ) (level : ℕ)
     (levels' : List ℕ) → 2 ≤ b → b ≤ 3 → IsAtMost (2 ^ 40) fans → i < length gates
@@ -323,17 +297,15 @@ copies_at_most most k v le = λ x. go k x
 users_at_most : (n : ℕ) (marks : List Bool) (ls : List ℕ) (most i : ℕ) (gs : List Gate) → IsAtMost most ls
     → IsAtMost most (user_rows_from n marks ls i gs)
 users_at_most n marks ls most i [] h = λ x. omega arith
-users_at_most n marks ls most i (g ∷ gs) h = go (counts n marks i) (users_at_most n marks ls most (suc i) gs h)
+users_at_most n marks ls most i (g ∷ gs) h = by (counts n marks i) refl (users_at_most n marks ls most (suc i) gs h)
   where
-    go : (b : Bool) → IsAtMost most (user_rows_from n marks ls (suc i) gs)
-        → IsAtMost most (elim b as (λ (t : Bool). List ℕ) [
-          | true ↦ replicate (length (operands g))
-              (get_or ls i 0) ++ user_rows_from n marks ls (suc i) gs
-          | false ↦ user_rows_from n marks ls (suc i) gs
-        ])
-    go true k = append_at_most most (replicate (length (operands g)) (get_or ls i 0))
-        (user_rows_from n marks ls (suc i) gs) (copies_at_most most (length (operands g)) (get_or ls i 0) (h i)) k
-    go false k = k
+    by : (b : Bool) → counts n marks i ≡ b → IsAtMost most (user_rows_from n marks ls (suc i) gs)
+        → IsAtMost most (user_rows_from n marks ls i (g ∷ gs))
+    by true c k =
+        rw (c, user_rows_from)
+        (append_at_most most (replicate (length (operands g)) (get_or ls i 0)) (user_rows_from n marks ls (suc i) gs)
+        (copies_at_most most (length (operands g)) (get_or ls i 0) (h i)) k)
+    by false c k = rw (c, user_rows_from) k
 
 pub user_rows_low : (n : ℕ) (marks : List Bool) (ls ls' : List ℕ) (gs : List Gate) (outs last : ℕ) (rows : List ℕ)
     → rows ≡ user_rows_from n marks ls' 0 gs ++ replicate outs last → ls' ≡ ls → IsAtMost (2 ^ 39) ls

@@ -8,7 +8,7 @@ use Rattle.circuit.specs.PlainNets.{PlainView, is_constant}
 use Rattle.level_balance.specs.Uses.{operands, counts, uses_from, uses_of, use_count}
 use Rattle.level_balance.specs.Levels.{user_rows_from}
 use Rattle.level_balance.specs.Plan.{Frame}
-use Rattle.level_balance.specs.Counts.{constants_in, tree_cells, lead_cells, gate_cells, gates_cells}
+use Rattle.level_balance.specs.Counts.{constants_in, tree_cells, lead_cells, gates_cells}
 use Rattle.level_balance.specs.Trees.{tree_rows, tree_end}
 use Rattle.level_balance.specs.Code.Served.{led_cells, leads_cells}
 use Rattle.level_balance.proofs.LawOfLaying.{OperandsCount, drop_step}
@@ -136,45 +136,25 @@ module _ (f : Frame) where
       → paired waits (user_rows_from f.inputs f.marks f.levels i gs ++ replicate (length outs) f.last)
       (uses_from f.inputs f.marks i gs ++ outs) ≡ served_from i gs + each (waits f.last) outs
   paired_served i [] outs = let e = paired_last waits f.last outs in omega arith
-  paired_served i (g ∷ gs) outs = go (counts f.inputs f.marks i) (paired_served (suc i) gs outs)
+  paired_served i (g ∷ gs) outs = by (counts f.inputs f.marks i) refl (paired_served (suc i) gs outs)
     where
-      rest : List ℕ
-      rest = uses_from f.inputs f.marks (suc i) gs
-
-      later : List ℕ
-      later = user_rows_from f.inputs f.marks f.levels (suc i) gs
-
-      go : (b : Bool) → paired waits
-          (user_rows_from f.inputs f.marks f.levels (suc i) gs ++ replicate (length outs) f.last)
+      by : (b : Bool) → counts f.inputs f.marks i ≡ b
+          → paired waits (user_rows_from f.inputs f.marks f.levels (suc i) gs ++ replicate (length outs) f.last)
           (uses_from f.inputs f.marks (suc i) gs ++ outs) ≡ served_from (suc i) gs + each (waits f.last) outs
-          → paired waits ((elim b as (λ (t : Bool). List ℕ) [
-            | true ↦ replicate (length (operands g))
-                (get_or f.levels i 0) ++ user_rows_from f.inputs f.marks f.levels
-                (suc i) gs
-            | false ↦ user_rows_from f.inputs f.marks f.levels (suc i) gs
-          ]) ++ replicate
-          (length outs) f.last)
-          ((elim b as (λ (t : Bool). List ℕ) [
-            | true ↦ operands g ++ uses_from f.inputs f.marks
-                (suc i) gs
-            | false ↦ uses_from f.inputs f.marks (suc i) gs
-          ]) ++ outs)
-          ≡ (elim b as (λ (t : Bool). ℕ) [
-            | true ↦ each (waits (get_or f.levels i 0)) (operands g) + served_from
-                (suc i) gs
-            | false ↦ served_from (suc i) gs
-          ]) + each (waits f.last) outs
-      go false h = h
-      go true h =
+          → paired waits (user_rows_from f.inputs f.marks f.levels i (g ∷ gs) ++ replicate (length outs) f.last)
+          (uses_from f.inputs f.marks i (g ∷ gs) ++ outs) ≡ served_from i (g ∷ gs) + each (waits f.last) outs
+      by false c h = rw (c, user_rows_from, uses_from, served_from) h
+      by true c h =
           let l = get_or f.levels i 0 in
           let us = uses_from f.inputs f.marks (suc i) gs in
           let rows = user_rows_from f.inputs f.marks f.levels (suc i) gs in
           let lasts = replicate (length outs) f.last in
-          ap (λ (k : List ℕ). paired waits k ((operands g ++ us) ++ outs))
+          rw (c, user_rows_from, uses_from, served_from)
+          (ap (λ (k : List ℕ). paired waits k ((operands g ++ us) ++ outs))
           (append_assoc (replicate (length (operands g)) l) rows lasts)
           ∙ ap (λ (k : List ℕ). paired waits (replicate (length (operands g)) l ++ (rows ++ lasts)) k)
           (append_assoc (operands g) us outs)
-          ∙ paired_each waits l (operands g) (rows ++ lasts) (us ++ outs) ∙ (let z = h in omega arith)
+          ∙ paired_each waits l (operands g) (rows ++ lasts) (us ++ outs) ∙ (let z = h in omega arith))
 
   -- what leads operands is their constants, and the buffers of the others
   leads_are : (i r : ℕ) (xs : List ℕ) → OperandsCount f i xs
@@ -243,26 +223,13 @@ module _ (f : Frame) where
 
   gates_are : (i : ℕ) (gs : List Gate) → gates_cells f i gs ≡ still i gs + led_from i gs
   gates_are i [] = refl
-  gates_are i (g ∷ gs) = go (counts f.inputs f.marks i) (gates_are (suc i) gs)
+  gates_are i (g ∷ gs) = by (counts f.inputs f.marks i) refl (gates_are (suc i) gs)
     where
-      go : (b : Bool) → gates_cells f (suc i) gs ≡ still (suc i) gs + led_from (suc i) gs
-          → (elim b as (λ (t : Bool). ℕ) [
-            | true ↦ gate_cells f i g + gates_cells f
-                (suc i) gs
-            | false ↦ gates_cells f (suc i) gs
-          ])
-          ≡ (elim b as (λ (t : Bool). ℕ) [
-            | true ↦ constants_in f.inputs (operands g) + 1 + tree_count i + still
-                (suc i) gs
-            | false ↦ still (suc i) gs
-          ])
-          + (elim b as (λ (t : Bool). ℕ) [
-            | true ↦ lead_cells f (tree_end f i) (uses_of i 0 f.uses) + led_from
-                (suc i) gs
-            | false ↦ led_from (suc i) gs
-          ])
-      go true h = omega arith
-      go false h = h
+      by : (b : Bool) → counts f.inputs f.marks i ≡ b
+          → gates_cells f (suc i) gs ≡ still (suc i) gs + led_from (suc i) gs
+          → gates_cells f i (g ∷ gs) ≡ still i (g ∷ gs) + led_from i (g ∷ gs)
+      by true c h = rw (c, gates_cells, still, led_from) (omega arith)
+      by false c h = rw (c, gates_cells, still, led_from) h
 
   -- the buffers of a gate, use by use
   abbrev waits_at : ℕ → ℕ → ℕ
@@ -308,30 +275,16 @@ module _ (f : Frame) where
   users_are all i [] d h = refl
   users_are all i (g ∷ gs) d h =
       let st = drop_step i all g gs d in
-      go (counts f.inputs f.marks i) refl (users_are all (suc i) gs st.1 h)
+      by (counts f.inputs f.marks i) refl (users_are all (suc i) gs st.1 h)
       (λ c. leads_are i (get_or f.levels i 0) (operands g) (h i g st.0 c))
     where
-      go : (b : Bool) → counts f.inputs f.marks i ≡ b → by_users (suc i) gs ≡ still (suc i) gs + served_from (suc i) gs
+      by : (b : Bool) → counts f.inputs f.marks i ≡ b → by_users (suc i) gs ≡ still (suc i) gs + served_from (suc i) gs
           → (counts f.inputs f.marks i ≡ true
-          → leads_cells f.inputs (tree_end f) (get_or f.levels i 0) (operands g) ≡ constants_in f.inputs
-          (operands g) + each (waits (get_or f.levels i 0)) (operands g))
-          → (elim b as (λ (t : Bool). ℕ) [
-            | true ↦ suc (tree_count i) + leads_cells f.inputs (tree_end f)
-                (get_or f.levels i 0) (operands g) + by_users (suc i) gs
-            | false ↦ by_users (suc i) gs
-          ])
-          ≡ (elim b as (λ (t : Bool). ℕ) [
-            | true ↦ constants_in f.inputs (operands g) + 1 + tree_count i + still
-                (suc i) gs
-            | false ↦ still (suc i) gs
-          ])
-          + (elim b as (λ (t : Bool). ℕ) [
-            | true ↦ each (waits (get_or f.levels i 0)) (operands g) + served_from
-                (suc i) gs
-            | false ↦ served_from (suc i) gs
-          ])
-      go true c e l = let a = l c in omega arith
-      go false c e l = e
+          → leads_cells f.inputs (tree_end f) (get_or f.levels i 0) (operands g)
+          ≡ constants_in f.inputs (operands g) + each (waits (get_or f.levels i 0)) (operands g))
+          → by_users i (g ∷ gs) ≡ still i (g ∷ gs) + served_from i (g ∷ gs)
+      by true c e l = rw (c, by_users, still, served_from) (let a = l c in omega arith)
+      by false c e l = rw (c, by_users, still, served_from) e
 
   -- the cells by gates and those by users
   pub same_cells : (net : PlainView) → FrameFits net f → AllIn (λ x. x < length net.gates) f.uses

@@ -9,7 +9,7 @@ use Rattle.circuit.specs.declared.gate.Gate.{Gate}
 use Rattle.circuit.specs.declared.gate.Gate.TheVariants as gates
 use Rattle.circuit.specs.PlainNets.{PlainView, is_constant, MayStand, IsPlainNet}
 use Rattle.level_balance.specs.Uses.{operands, needed, counts, uses_from, uses, uses_of, use_count}
-use Rattle.level_balance.specs.Plan.{Frame, frame, constant_kind, level_net}
+use Rattle.level_balance.specs.Plan.{Frame, frame, level_net}
 use Rattle.level_balance.specs.Kinds.{one_of, cells_of, gate_kind}
 use Rattle.level_balance.proofs.Frames.{counts_free}
 use Rattle.level_balance.proofs.LawOfLaying.{drop_step}
@@ -66,21 +66,12 @@ module _ (k : CellKind) (alone : IsConstants k) where
 
   constants_append : (n : ℕ) (xs ys : List ℕ) → constants_of k n (xs ++ ys) ≡ constants_of k n xs + constants_of k n ys
   constants_append n [] ys = omega arith
-  constants_append n (x ∷ xs) ys = go (is_constant n x) (constants_append n xs ys)
+  constants_append n (x ∷ xs) ys = by (is_constant n x) refl (constants_append n xs ys)
     where
-      go : (b : Bool) → constants_of k n (xs ++ ys) ≡ constants_of k n xs + constants_of k n ys
-          → (elim b as (λ (t : Bool). ℕ) [
-            | true ↦ one_of k (constant_kind n x) + constants_of k n
-                (xs ++ ys)
-            | false ↦ constants_of k n (xs ++ ys)
-          ])
-          ≡ (elim b as (λ (t : Bool). ℕ) [
-            | true ↦ one_of k
-                (constant_kind n x) + constants_of k n xs
-            | false ↦ constants_of k n xs
-          ]) + constants_of k n ys
-      go true h = omega arith
-      go false h = h
+      by : (b : Bool) → is_constant n x ≡ b → constants_of k n (xs ++ ys) ≡ constants_of k n xs + constants_of k n ys
+          → constants_of k n (x ∷ xs ++ ys) ≡ constants_of k n (x ∷ xs) + constants_of k n ys
+      by true e h = rw (e, constants_of) (omega arith)
+      by false e h = rw (e, constants_of) h
 
   gates_constants : (f : Frame) (all : List Gate)
       → ((i : ℕ) (g : Gate) → slice_get all i ≡ Some g → MayStand f.inputs i g)
@@ -89,25 +80,16 @@ module _ (k : CellKind) (alone : IsConstants k) where
   gates_constants f all stands i [] d = refl
   gates_constants f all stands i (g ∷ gs) d =
       let st = drop_step i all g gs d in
-      go (counts f.inputs f.marks i) refl (stands i g st.0) (gates_constants f all stands (suc i) gs st.1)
+      by (counts f.inputs f.marks i) refl (stands i g st.0) (gates_constants f all stands (suc i) gs st.1)
     where
-      go : (b : Bool) → counts f.inputs f.marks i ≡ b → MayStand f.inputs i g
+      by : (b : Bool) → counts f.inputs f.marks i ≡ b → MayStand f.inputs i g
           → gates_cells_of k f (suc i) gs ≡ constants_of k f.inputs (uses_from f.inputs f.marks (suc i) gs)
-          → (elim b as (λ (t : Bool). ℕ) [
-            | true ↦ constants_of k f.inputs (operands g) + one_of k
-                (gate_kind g) + gates_cells_of k f (suc i) gs
-            | false ↦ gates_cells_of k f (suc i) gs
-          ])
-          ≡ constants_of k f.inputs
-          (elim b as (λ (t : Bool). List ℕ) [
-            | true ↦ operands g ++ uses_from f.inputs f.marks
-                (suc i) gs
-            | false ↦ uses_from f.inputs f.marks (suc i) gs
-          ])
-      go true c may h =
-          let own = own_other f.inputs i g may (counts_free f.inputs f.marks i c) in
-          let both = constants_append f.inputs (operands g) (uses_from f.inputs f.marks (suc i) gs) in omega arith
-      go false c may h = h
+          → gates_cells_of k f i (g ∷ gs) ≡ constants_of k f.inputs (uses_from f.inputs f.marks i (g ∷ gs))
+      by true c may h =
+          rw (c, gates_cells_of, uses_from)
+          (let own = own_other f.inputs i g may (counts_free f.inputs f.marks i c) in
+          let both = constants_append f.inputs (operands g) (uses_from f.inputs f.marks (suc i) gs) in omega arith)
+      by false c may h = rw (c, gates_cells_of, uses_from) h
 
   constant_cells : (net : PlainView) (three : Bool) → IsPlainNet net
       → cells_of k (level_net net three).rows ≡ constants_of k net.inputs (uses net (needed net))

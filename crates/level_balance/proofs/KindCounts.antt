@@ -1,7 +1,7 @@
 -- How many cells of a kind the plan has, where neither buffers nor splitters are of it: gates that count and constants.
 use Rattle.std.specs.Prelude.{◌≡◌, ℕ, zero, suc, pred, ◌+◌, ◌<◌, Bool, true, false, eqb, List, [], ◌∷◌, ◌++◌}
 use Rattle.std.specs.Prelude.{length, drop, replicate, slice_get, slice_index_or, Some}
-use Rattle.std.proofs.Common.{refl, ap, ◌∙◌, arith}
+use Rattle.std.proofs.Common.{refl, ◌∙◌, arith}
 use Rattle.circuit.specs.declared.cell_kind.CellKind.{CellKind}
 use Rattle.circuit.specs.declared.cell_kind.CellKind.TheVariants.{Buffer, Split2, Split3, Inverter, Majority, Zero, One}
 use Rattle.circuit.specs.declared.gate.Gate.{Gate}
@@ -75,32 +75,18 @@ module _ (k : CellKind) where
   sources_kind n r ends rows q [] lt = omega arith
   sources_kind n r ends rows q (x ∷ xs) lt =
       let size = put_length rows r (cell (constant_kind n x) []) in
-      go (is_constant n x) (kind_put rows r (cell (constant_kind n x) []) lt)
+      by (is_constant n x) refl (kind_put rows r (cell (constant_kind n x) []) lt)
       (sources_kind n r ends (put rows r (cell (constant_kind n x) [])) (suc q) xs (omega arith))
       (sources_kind n r ends rows (suc q) xs lt)
     where
-      go : (b : Bool) → cells_of k
-          (put rows r (cell (constant_kind n x) [])) ≡ cells_of k rows + one_of k (constant_kind n x)
-          → cells_of k (sources n r ends (put rows r (cell (constant_kind n x) [])) (suc q) xs).rows ≡ cells_of k
-          (put rows r (cell (constant_kind n x) [])) + constants_of k n xs
+      by : (b : Bool) → is_constant n x ≡ b
+          → cells_of k (put rows r (cell (constant_kind n x) [])) ≡ cells_of k rows + one_of k (constant_kind n x)
+          → cells_of k (sources n r ends (put rows r (cell (constant_kind n x) [])) (suc q) xs).rows
+          ≡ cells_of k (put rows r (cell (constant_kind n x) [])) + constants_of k n xs
           → cells_of k (sources n r ends rows (suc q) xs).rows ≡ cells_of k rows + constants_of k n xs
-          → cells_of k (elim b as (λ (t : Bool). Signals) [
-            | true ↦ (let rest = sources n r ends (put rows r (cell (constant_kind n x) []))
-                (suc q) xs in record { rows = rest.rows; signals = source (next rows r) 0 ∷ rest.signals })
-            | false ↦ (let rest = sources n r ends rows
-                (suc q) xs in record { rows = rest.rows; signals = slice_index_or ends q (source 0 0) ∷ rest.signals })
-          ]).rows
-          ≡ cells_of k rows + (elim b as (λ (t : Bool). ℕ) [
-            | true ↦ one_of k
-                (constant_kind n x) + constants_of k n xs
-            | false ↦ constants_of k n xs
-          ])
-      go true one a b = a ∙ ap (λ (t : ℕ). t + constants_of k n xs) one
-          ∙ plus_assoc (cells_of k rows) (one_of k (constant_kind n x)) (constants_of k n xs)
-        where
-          plus_assoc : (a b c : ℕ) → a + b + c ≡ a + (b + c)
-          plus_assoc a b c = omega arith
-      go false one a b = b
+          → cells_of k (sources n r ends rows q (x ∷ xs)).rows ≡ cells_of k rows + constants_of k n (x ∷ xs)
+      by true e one a b = rw (e, sources, constants_of) (omega arith)
+      by false e one a b = rw (e, sources, constants_of) b
 
 module _ (k : CellKind) (apart : IsApart k) where
   giving_other : (c : ℕ) → one_of k (giving c) ≡ 0
@@ -155,30 +141,23 @@ module _ (k : CellKind) (apart : IsApart k) where
     gates_of_kind i at [] d rows = omega arith
     gates_of_kind i at (g ∷ gs) d rows =
         let st = drop_step i all g gs d in
-        go (counts f.inputs f.marks i) refl st.0
+        by (counts f.inputs f.marks i) refl st.0
         (gates_of_kind (suc i) (lay_gate f i g at) gs st.1 (lay_gate_rows f i g at ∙ rows))
         (gates_of_kind (suc i) at gs st.1 rows)
       where
         sum_up : (a c s e : ℕ) (r : ℕ) → s ≡ a + c → e ≡ s + r → e ≡ a + (c + r)
         sum_up a c s e r one rest = omega arith
 
-        go : (b : Bool) → counts f.inputs f.marks i ≡ b → slice_get all i ≡ Some g
-            → cells_of k (lay_gates f (suc i) (lay_gate f i g at) gs).rows ≡ cells_of k
-            (lay_gate f i g at).rows + gates_cells_of k f (suc i) gs
+        by : (b : Bool) → counts f.inputs f.marks i ≡ b → slice_get all i ≡ Some g
+            → cells_of k (lay_gates f (suc i) (lay_gate f i g at) gs).rows
+            ≡ cells_of k (lay_gate f i g at).rows + gates_cells_of k f (suc i) gs
             → cells_of k (lay_gates f (suc i) at gs).rows ≡ cells_of k at.rows + gates_cells_of k f (suc i) gs
-            → cells_of k (elim b as (λ (t : Bool). Laid) [
-              | true ↦ lay_gates f (suc i)
-                  (lay_gate f i g at) gs
-              | false ↦ lay_gates f (suc i) at gs
-            ]).rows
-            ≡ cells_of k at.rows + (elim b as (λ (t : Bool). ℕ) [
-              | true ↦ constants_of k f.inputs (operands g) + one_of k (gate_kind g) + gates_cells_of k f (suc i) gs
-              | false ↦ gates_cells_of k f (suc i) gs
-            ])
-        go true c here a b =
-            sum_up (cells_of k at.rows) (constants_of k f.inputs (operands g) + one_of k (gate_kind g)) _ _
-            (gates_cells_of k f (suc i) gs) (gate_of_kind f i g at (facts.each i g here c).fits rows) a
-        go false c here a b = b
+            → cells_of k (lay_gates f i at (g ∷ gs)).rows ≡ cells_of k at.rows + gates_cells_of k f i (g ∷ gs)
+        by true c here a b =
+            rw (c, lay_gates, gates_cells_of)
+            (sum_up (cells_of k at.rows) (constants_of k f.inputs (operands g) + one_of k (gate_kind g)) _ _
+            (gates_cells_of k f (suc i) gs) (gate_of_kind f i g at (facts.each i g here c).fits rows) a)
+        by false c here a b = rw (c, lay_gates, gates_cells_of) b
 
     outputs_of_kind : (j : ℕ) (at : Laid) (os : List ℕ) → length at.rows ≡ suc f.last
         → cells_of k (lay_outputs f j at os).rows ≡ cells_of k at.rows + constants_of k f.inputs os
@@ -194,20 +173,15 @@ module _ (k : CellKind) (apart : IsApart k) where
         (record { rows = put ss.rows f.last x; ends = at.ends; use_at = suc at.use_at }) os
         (put_length ss.rows f.last x ∙ size ∙ rows) in
         sum_up (cells_of k at.rows) (constants_of k f.inputs (o ∷ [])) (constants_of k f.inputs os) _ _ _
-        (constants_of k f.inputs (o ∷ os)) one two rest (split (is_constant f.inputs o))
+        (constants_of k f.inputs (o ∷ os)) one two rest (split (is_constant f.inputs o) refl)
       where
         sum_up : (a c d s p e w : ℕ) → s ≡ a + c → p ≡ s → e ≡ p + d → w ≡ c + d → e ≡ a + w
         sum_up a c d s p e w one two rest whole = omega arith
 
-        split : (b : Bool) → (elim b as (λ (t : Bool). ℕ) [
-          | true ↦ one_of k
-              (constant_kind f.inputs o) + constants_of k f.inputs os
-          | false ↦ constants_of k f.inputs os
-        ])
-            ≡ (elim b as (λ (t : Bool). ℕ) [ true ↦ one_of k (constant_kind f.inputs o) + 0 | false ↦ 0 ])
-            + constants_of k f.inputs os
-        split true = omega arith
-        split false = omega arith
+        split : (b : Bool) → is_constant f.inputs o ≡ b
+            → constants_of k f.inputs (o ∷ os) ≡ constants_of k f.inputs (o ∷ []) + constants_of k f.inputs os
+        split true e = rw (e, constants_of) (omega arith)
+        split false e = rw (e, constants_of) (omega arith)
 
     final_of_kind : cells_of k
         (laid_by f all outs)
@@ -237,38 +211,24 @@ record IsLogic (k : CellKind) : Type 0 where
 module _ (k : CellKind) (logic : IsLogic k) where
   no_constant : (n : ℕ) (xs : List ℕ) → constants_of k n xs ≡ 0
   no_constant n [] = refl
-  no_constant n (x ∷ xs) = go (is_constant n x) (eqb x n) (no_constant n xs)
+  no_constant n (x ∷ xs) = by (is_constant n x) refl (eqb x n) refl (no_constant n xs)
     where
-      go : (b t : Bool) → constants_of k n xs ≡ 0
-          → (elim b as (λ (t : Bool). ℕ) [
-            | true ↦ one_of k
-                (elim t as (λ (t : Bool). CellKind) [ true ↦ Zero | false ↦ One ]) + constants_of k n xs
-            | false ↦
-                constants_of k n xs
-          ]) ≡ 0
-      go true true h = let z = logic.zero_other in omega arith
-      go true false h = let z = logic.one_other in omega arith
-      go false t h = h
+      by : (b : Bool) → is_constant n x ≡ b → (t : Bool) → eqb x n ≡ t → constants_of k n xs ≡ 0
+          → constants_of k n (x ∷ xs) ≡ 0
+      by true e true p h = let z = logic.zero_other in rw (e, p, constants_of, constant_kind) (omega arith)
+      by true e false p h = let z = logic.one_other in rw (e, p, constants_of, constant_kind) (omega arith)
+      by false e t p h = rw (e, constants_of) h
 
   gates_alone : (f : Frame) (i : ℕ) (gs : List Gate) → gates_cells_of k f i gs ≡ gates_of k f.inputs f.marks i gs
   gates_alone f i [] = refl
-  gates_alone f i (g ∷ gs) = go (counts f.inputs f.marks i) (no_constant f.inputs (operands g))
-      (gates_alone f (suc i) gs)
+  gates_alone f i (g ∷ gs) = by (counts f.inputs f.marks i) refl (gates_alone f (suc i) gs)
     where
-      go : (b : Bool) → constants_of k f.inputs (operands g) ≡ 0
+      by : (b : Bool) → counts f.inputs f.marks i ≡ b
           → gates_cells_of k f (suc i) gs ≡ gates_of k f.inputs f.marks (suc i) gs
-          → (elim b as (λ (t : Bool). ℕ) [
-            | true ↦ constants_of k f.inputs (operands g) + one_of k
-                (gate_kind g) + gates_cells_of k f (suc i) gs
-            | false ↦ gates_cells_of k f (suc i) gs
-          ])
-          ≡ (elim b as (λ (t : Bool). ℕ) [
-            | true ↦ one_of k (gate_kind g) + gates_of k f.inputs f.marks
-                (suc i) gs
-            | false ↦ gates_of k f.inputs f.marks (suc i) gs
-          ])
-      go true z h = omega arith
-      go false z h = h
+          → gates_cells_of k f i (g ∷ gs) ≡ gates_of k f.inputs f.marks i (g ∷ gs)
+      by true c h =
+          let z = no_constant f.inputs (operands g) in rw (c, gates_cells_of, gates_of) (omega arith)
+      by false c h = rw (c, gates_cells_of, gates_of) h
 
   logic_cells : (net : PlainView) (three : Bool) → IsPlainNet net
       → cells_of k (level_net net three).rows ≡ gates_of k net.inputs (needed net) 0 net.gates

@@ -17,20 +17,17 @@ use Rattle.level_balance.proofs.Carries.{put_length, tree_length, chain_length}
 pub sources_rows : (n r : ℕ) (ends : List Source) (rows : List (List RowCell)) (q : ℕ) (xs : List ℕ)
     → length (sources n r ends rows q xs).rows ≡ length rows
 sources_rows n r ends rows q [] = refl
-sources_rows n r ends rows q (x ∷ xs) = go (is_constant n x)
+sources_rows n r ends rows q (x ∷ xs) =
+    by (is_constant n x) refl
     (sources_rows n r ends (put rows r (cell (constant_kind n x) [])) (suc q) xs ∙ put_length rows r _)
     (sources_rows n r ends rows (suc q) xs)
   where
-    go : (b : Bool) → length (sources n r ends (put rows r (cell (constant_kind n x) [])) (suc q) xs).rows ≡ length rows
+    by : (b : Bool) → is_constant n x ≡ b
+        → length (sources n r ends (put rows r (cell (constant_kind n x) [])) (suc q) xs).rows ≡ length rows
         → length (sources n r ends rows (suc q) xs).rows ≡ length rows
-        → length (elim b as (λ (t : Bool). Signals) [
-          | true ↦ (let rest = sources n r ends (put rows r (cell (constant_kind n x) []))
-              (suc q) xs in record { rows = rest.rows; signals = source (next rows r) 0 ∷ rest.signals })
-          | false ↦ (let rest = sources n r ends rows
-              (suc q) xs in record { rows = rest.rows; signals = slice_index_or ends q (source 0 0) ∷ rest.signals })
-        ]).rows ≡ length rows
-    go true a b = a
-    go false a b = b
+        → length (sources n r ends rows q (x ∷ xs)).rows ≡ length rows
+    by true e a b = rw (e, sources) a
+    by false e a b = rw (e, sources) b
 
 pub lead_lengths : (f : Frame) (leaf : ℕ) (rows : List (List RowCell)) (ends leaves : List Source) (qs : List ℕ)
     → (let led = lead_each f leaf rows ends leaves qs in

@@ -50,19 +50,12 @@ greatest_ends f (y ∷ ys) = go (is_constant f.inputs y) refl (greatest_ends f y
         (ends.0, inr ends.1, ends.2, same ∙ ends.3)
 
     go : (c : Bool) → is_constant f.inputs y ≡ c → (greatest_in f ys ≡ 0) ⊎ Ends f ys (greatest_in f ys)
-        → ((elim c as (λ (t : Bool). ℕ) [
-          | true ↦ greatest_in f ys
-          | false ↦ max (tree_end f y)
-              (greatest_in f ys)
-        ]) ≡ 0)
-        ⊎ Ends f (y ∷ ys) (elim c as (λ (t : Bool). ℕ) [
-          | true ↦ greatest_in f ys
-          | false ↦ max
-              (tree_end f y) (greatest_in f ys)
-        ])
-    go true e (inl none) = inl none
-    go true e (inr ends) = inr (ends_later f y ys (greatest_in f ys) ends)
-    go false e h = larger e (greatest_in f ys) h (below_or_not (tree_end f y) (greatest_in f ys))
+        → (greatest_in f (y ∷ ys) ≡ 0) ⊎ Ends f (y ∷ ys) (greatest_in f (y ∷ ys))
+    go true e (inl none) = rw (e, greatest_in, greatest) (inl none)
+    go true e (inr ends) = rw (e, greatest_in, greatest) (inr (ends_later f y ys (greatest_in f ys) ends))
+    go false e h =
+        rw (e, greatest_in, greatest)
+        (larger e (greatest_in f ys) h (below_or_not (tree_end f y) (greatest_in f ys)))
 
 one_above : (f : Frame) (xs : List ℕ) (x : ℕ) → In x xs → is_constant f.inputs x ≡ false
     → IsOneAbove f xs (suc (greatest_in f xs))

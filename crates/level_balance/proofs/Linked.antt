@@ -1,9 +1,9 @@
 -- The loop that links uses from the last one down.
-use Rattle.std.proofs.Common.{◌≡◌, ◌≢◌, ℕ, zero, suc, ◌+◌, ◌-◌, ◌<◌, ◌≤◌, List, [], ◌∷◌, length, drop, set, replicate}
+use Rattle.std.proofs.Common.{◌≡◌, ◌≢◌, ℕ, zero, suc, ◌+◌, ◌-◌, ◌<◌, ◌≤◌, List, [], ◌∷◌, length, drop, set}
 use Rattle.std.proofs.Common.{get_or, refl, sym, ap, ◌∙◌, subst, arith, inl, inr, drop-cons}
 use Rattle.std.specs.List.{AllByRecursion}
 use Rattle.std.proofs.lemmas.Bool.{cases_eq, cases_lt, eq-eqb, ne_eqb}
-use Rattle.std.proofs.lemmas.List.{length-set, get_or-set_same, get_or-set_other, length-replicate}
+use Rattle.std.proofs.lemmas.List.{get_or_past, length-drop, length-set, get_or-set_same, get_or-set_other}
 use Rattle.level_balance.specs.Uses.{uses_of}
 use Rattle.level_balance.specs.Code.Chained.{Chained, AreLinksFrom}
 use Rattle.level_balance.specs.Code.Served.{IsAtMost}
@@ -90,29 +90,6 @@ link_turn first next fans first' next' fans' gates us q g lt is low fe ne ae h =
       ];
     }
 
-none_after : (us : List ℕ) → drop (length us) us ≡ []
-none_after [] = refl
-none_after (x ∷ us) = none_after us
-
-at_most : (m v k d : ℕ) → k < m → get_or (replicate m v) k d ≡ v
-at_most zero v k d lt = absurd (omega arith)
-at_most (suc m) v zero d lt = refl
-at_most (suc m) v (suc k) d lt = at_most m v k d (omega arith)
-
-pub link_begin : (first next fans : List ℕ) (gates : ℕ) (us : List ℕ) → first ≡ replicate gates (length us)
-    → next ≡ replicate (length us) (length us) → fans ≡ replicate gates 0
-    → AreLinksFrom first next fans gates us (length us)
-link_begin first next fans gates us fe ne ae =
-    let empty = λ (k : ℕ). ap (uses_of k (length us)) (none_after us) in
-    record {
-      first_length = ap length fe ∙ length-replicate gates (length us);
-      next_length = ap length ne ∙ length-replicate (length us) (length us);
-      fans_length = ap length ae ∙ length-replicate gates 0;
-      chains = λ k below. subst (λ t. Chained next (length us) (get_or first k 0) t) (sym (empty k))
-          (ap (λ (t : List ℕ). get_or t k 0) fe ∙ at_most gates (length us) k 0 below);
-      counts = λ k below. ap (λ (t : List ℕ). get_or t k 0) ae ∙ at_most gates 0 k 0 below ∙ sym (ap length (empty k));
-    }
-
 pub within : (gates : ℕ) (us : List ℕ) (q : ℕ) → AllByRecursion (λ g. g < gates) us
     → q < length us → get_or us q 0 < gates
 within gates [] q all lt = absurd (omega arith)
@@ -138,21 +115,11 @@ uses_shorter g q (h ∷ us) = elim (cases_eq h g) [
   | inr other ↦ (let a = ap length (uses_other g q h us other) in let b = uses_shorter g (suc q) us in omega arith)
 ]
 
-drop_shorter : (q : ℕ) (us : List ℕ) → length (drop q us) ≤ length us
-drop_shorter zero us = omega arith
-drop_shorter (suc q) [] = omega arith
-drop_shorter (suc q) (x ∷ us) = let e = drop_shorter q us in omega arith
-
-past_fans : (fans : List ℕ) (x : ℕ) → length fans ≤ x → get_or fans x 0 ≡ 0
-past_fans [] x le = refl
-past_fans (y ∷ fans) zero le = absurd (omega arith)
-past_fans (y ∷ fans) (suc x) le = past_fans fans x (omega arith)
-
 -- a gate has no more uses than there are
 pub fan_low : (first next fans : List ℕ) (gates : ℕ) (us : List ℕ) (q most : ℕ) → length us ≤ most
     → AreLinksFrom first next fans gates us q → IsAtMost most fans
 fan_low first next fans gates us q most le h = λ x. elim (cases_lt x gates) [
   | inl below ↦ (let e = h.counts x below in let a = uses_shorter x q (drop q us) in let b =
-      drop_shorter q us in omega arith)
-  | inr past ↦ (let size = h.fans_length in let e = past_fans fans x (omega arith) in omega arith)
+      length-drop q us in omega arith)
+  | inr past ↦ (let size = h.fans_length in let e = get_or_past fans x 0 (omega arith) in omega arith)
 ]

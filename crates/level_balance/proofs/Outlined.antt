@@ -1,6 +1,6 @@
 -- What is computed over arrays is what the plan fixes before a cell is made.
-use Rattle.std.proofs.Common.{◌≡◌, ℕ, suc, ◌+◌, ◌<◌, ◌≤◌, max, Bool, true, false, cond, List, [], ◌∷◌, ◌++◌, length}
-use Rattle.std.proofs.Common.{replicate, get_or, Some, refl, sym, ap, ◌∙◌, subst, arith}
+use Rattle.std.proofs.Common.{◌≡◌, ℕ, suc, ◌+◌, ◌<◌, ◌≤◌, Bool, true, false, cond, List, [], ◌∷◌, ◌++◌, length}
+use Rattle.std.proofs.Common.{replicate, get_or, Some, refl, sym, ap, ◌∙◌, subst, arith, append_assoc}
 use Rattle.std.specs.Prelude.{slice_get}
 use Rattle.std.specs.List.{AllByRecursion}
 use Rattle.std.proofs.lemmas.Option.{slice_get_within}
@@ -8,7 +8,7 @@ use Rattle.circuit.specs.declared.gate.Gate.{Gate}
 use Rattle.circuit.specs.declared.gate.Gate.TheVariants as gates
 use Rattle.circuit.specs.PlainNets.{PlainView, is_constant, IsPlainNet}
 use Rattle.level_balance.specs.Uses.{operands, needed, counts, uses_from, uses, use_count}
-use Rattle.level_balance.specs.Levels.{depth, greatest, level_of, levels_from, levels, output_row, user_rows_from}
+use Rattle.level_balance.specs.Levels.{greatest, level_of, levels_from, levels, output_row, user_rows_from}
 use Rattle.level_balance.specs.Levels.{user_rows}
 use Rattle.level_balance.specs.Code.Arrays.{greatest_by, level_by, levels_by}
 use Rattle.level_balance.specs.Code.Chained.{AreLinks}
@@ -23,22 +23,12 @@ FansAre fans us xs = AllIn (λ x. get_or fans x 0 ≡ use_count us x) xs
 greatest_is_by : (n b : ℕ) (fans us done xs : List ℕ) → FansAre fans us xs
     → greatest_by n b fans done xs ≡ greatest n b us done xs
 greatest_is_by n b fans us done [] h = refl
-greatest_is_by n b fans us done (x ∷ xs) h = go (is_constant n x) (greatest_is_by n b fans us done xs h.1)
+greatest_is_by n b fans us done (x ∷ xs) h = by (is_constant n x) refl (greatest_is_by n b fans us done xs h.1)
   where
-    go : (c : Bool) → greatest_by n b fans done xs ≡ greatest n b us done xs
-        → (elim c as (λ (t : Bool). ℕ) [
-          | true ↦ greatest_by n b fans done xs
-          | false ↦ max
-              (get_or done x 0 + depth b (get_or fans x 0)) (greatest_by n b fans done xs)
-        ])
-        ≡ (elim c as (λ (t : Bool). ℕ) [
-          | true ↦ greatest n b us done xs
-          | false ↦ max
-              (get_or done x 0 + depth b (use_count us x)) (greatest n b us done xs)
-        ])
-    go true e = e
-    go false e = ap (λ (k : ℕ). max (get_or done x 0 + depth b k) (greatest_by n b fans done xs)) h.0
-        ∙ ap (λ (k : ℕ). max (get_or done x 0 + depth b (use_count us x)) k) e
+    by : (c : Bool) → is_constant n x ≡ c → greatest_by n b fans done xs ≡ greatest n b us done xs
+        → greatest_by n b fans done (x ∷ xs) ≡ greatest n b us done (x ∷ xs)
+    by true e same = rw (e, greatest_by, greatest) same
+    by false e same = rw (e, greatest_by, greatest) (rw (h.0, same) refl)
 
 level_is_by : (n b : ℕ) (fans us done : List ℕ) (g : Gate) → FansAre fans us (operands g)
     → level_by n b fans done g ≡ level_of n b us done g
@@ -74,24 +64,18 @@ uses_low_from : (n m : ℕ) (marks : List Bool) (i : ℕ) (gs : List Gate) (outs
     → AllByRecursion (λ g. g < m) outs → AllByRecursion (λ g. g < m) (uses_from n marks i gs ++ outs)
 uses_low_from n m marks i [] outs le low rest = rest
 uses_low_from n m marks i (g ∷ gs) outs le low rest =
-    go (counts n marks i) (uses_low_from n m marks (suc i) gs outs (omega arith)
+    by (counts n marks i) refl
+    (uses_low_from n m marks (suc i) gs outs (omega arith)
     (λ k x e. subst (λ t. AllIn (λ y. y < t) (operands x))
     (let z : i + suc k ≡ suc i + k = omega arith in z) (low (suc k) x e)) rest)
   where
-    assoc : (xs ys zs : List ℕ) → (xs ++ ys) ++ zs ≡ xs ++ (ys ++ zs)
-    assoc [] ys zs = refl
-    assoc (x ∷ xs) ys zs = ap (λ (t : List ℕ). x ∷ t) (assoc xs ys zs)
-
-    go : (b : Bool) → AllByRecursion (λ y. y < m) (uses_from n marks (suc i) gs ++ outs)
-        → AllByRecursion (λ y. y < m)
-        ((elim b as (λ (t : Bool). List ℕ) [
-          | true ↦ operands g ++ uses_from n marks
-              (suc i) gs
-          | false ↦ uses_from n marks (suc i) gs
-        ]) ++ outs)
-    go true h = subst (AllByRecursion (λ y. y < m)) (sym (assoc (operands g) (uses_from n marks (suc i) gs) outs))
-        (all_low m (i + 0) (operands g) (uses_from n marks (suc i) gs ++ outs) (omega arith) (low 0 g refl) h)
-    go false h = h
+    by : (b : Bool) → counts n marks i ≡ b → AllByRecursion (λ y. y < m) (uses_from n marks (suc i) gs ++ outs)
+        → AllByRecursion (λ y. y < m) (uses_from n marks i (g ∷ gs) ++ outs)
+    by true c h =
+        rw (c, uses_from)
+        (subst (AllByRecursion (λ y. y < m)) (sym (append_assoc (operands g) (uses_from n marks (suc i) gs) outs))
+        (all_low m (i + 0) (operands g) (uses_from n marks (suc i) gs ++ outs) (omega arith) (low 0 g refl) h))
+    by false c h = rw (c, uses_from) h
 
 pub uses_low : (net : PlainView) → IsPlainNet net → (marks : List Bool) (us : List ℕ)
     → us ≡ uses_from net.inputs marks 0 net.gates ++ net.outputs → AllByRecursion (λ g. g < length net.gates) us
@@ -126,28 +110,15 @@ outline_is net three known b marks us first next fans ls row last urs be me ue l
     let M = needed net in
     let U = uses net M in
     let L = levels net B U in
-    let uu : us ≡ U = ue ∙ ap (λ (m : List Bool). uses_from net.inputs m 0 net.gates ++ net.outputs) me in
+    let uu : us ≡ U = rw (ue, me) refl in
     let low = λ (k : ℕ) (g : Gate) (e : slice_get net.gates k ≡ Some g). fans_at
     (length net.gates) first next fans us links k (operands g)
     (let lt = slice_get_within net.gates k g e in omega arith) (plain.lower k g e) in
-    let ll : ls ≡ L = le ∙ levels_are_by net.inputs b fans us [] net.gates low
-    ∙ ap (λ (k : ℕ). levels_from net.inputs k us [] net.gates) be
-    ∙ ap (λ (k : List ℕ). levels_from net.inputs B k [] net.gates) uu in
+    let ll : ls ≡ L = rw (le, levels_are_by net.inputs b fans us [] net.gates low, be, uu) refl in
+    let outs = fans_at (length net.gates) first next fans us links (length net.gates) net.outputs (omega arith)
+    (all_out (length net.gates) net.outputs known.each_output) in
     let rr : row ≡ greatest net.inputs B U L net.outputs =
-    re ∙ greatest_is_by net.inputs b fans us ls net.outputs
-    (fans_at (length net.gates) first next fans us links (length net.gates) net.outputs (omega arith)
-    (all_out (length net.gates) net.outputs known.each_output))
-    ∙ ap (λ (k : ℕ). greatest net.inputs k us ls net.outputs) be
-    ∙ ap (λ (k : List ℕ). greatest net.inputs B k ls net.outputs) uu
-    ∙ ap (λ (k : List ℕ). greatest net.inputs B U k net.outputs) ll in
+    rw (re, greatest_is_by net.inputs b fans us ls net.outputs outs, be, uu, ll) refl in
     let tt_is : last ≡ output_row net B U L = lste ∙ (let z : row + 1 ≡ suc row = omega arith in z) ∙ ap suc rr in
-    let uru : urs ≡ user_rows net M L (output_row net B U L) =
-    ure ∙ ap (λ (m : List Bool). user_rows_from net.inputs m ls 0 net.gates ++ replicate (length net.outputs) last) me
-    ∙ ap (λ (k : List ℕ). user_rows_from net.inputs M k 0 net.gates ++ replicate (length net.outputs) last) ll
-    ∙ ap (λ (k : ℕ). user_rows_from net.inputs M L 0 net.gates ++ replicate (length net.outputs) k) tt_is in
-    ap (λ (k : ℕ). built net.inputs k marks us ls last urs) be
-    ∙ ap (λ (k : List Bool). built net.inputs B k us ls last urs) me
-    ∙ ap (λ (k : List ℕ). built net.inputs B M k ls last urs) uu
-    ∙ ap (λ (k : List ℕ). built net.inputs B M U k last urs) ll
-    ∙ ap (λ (k : ℕ). built net.inputs B M U L k urs) tt_is
-    ∙ ap (λ (k : List ℕ). built net.inputs B M U L (output_row net B U L) k) uru
+    let uru : urs ≡ user_rows net M L (output_row net B U L) = rw (ure, me, ll, tt_is) refl in
+    rw (be, me, uu, ll, tt_is, uru) refl

@@ -1,8 +1,8 @@
 -- Rows that are few enough: those of which rows with few cells come have few cells.
 use Rattle.std.proofs.Common.{◌≡◌, ℕ, zero, suc, pred, ◌+◌, ◌-◌, ◌<◌, ◌≤◌, ◌^◌, min, ltb, Bool, true, false, List, []}
-use Rattle.std.proofs.Common.{◌∷◌, length, drop, replicate, get_or, slice_index_or, slice_set, refl, sym, ap, ◌∙◌}
+use Rattle.std.proofs.Common.{◌∷◌, length, drop, replicate, get_or, slice_index_or, refl, sym, ap, ◌∙◌}
 use Rattle.std.proofs.Common.{subst, arith, inl, inr, length-append, drop-cons, add-one}
-use Rattle.std.proofs.lemmas.Bool.{cases_lt, lt-ltb}
+use Rattle.std.proofs.lemmas.Bool.{cases_lt}
 use Rattle.circuit.specs.declared.cell_kind.CellKind.TheVariants.{Buffer}
 use Rattle.circuit.specs.declared.gate.Gate.{Gate}
 use Rattle.circuit.specs.PlainNets.{is_constant}
@@ -110,20 +110,12 @@ sources_room goal n r i q ends rows taken xs d lt so few =
 -- what leads leaves on puts cells alone
 lead_one_quiet : (urs nx : List ℕ) (leaf : ℕ) (at : Led) (s : Source)
     → cells_in at.rows ≤ cells_in (lead_one urs nx leaf at s).rows
-lead_one_quiet urs nx leaf at s = go (ltb at.number (length nx))
+lead_one_quiet urs nx leaf at s = by (ltb at.number (length nx)) refl
   where
-    go : (b : Bool) → cells_in at.rows ≤ cells_in (elim b as (λ (t : Bool). Led) [
-      | true ↦
-          (let e = chain (slice_index_or urs at.number 0 - 1 - leaf) (suc leaf) at.rows s in
-          record {
-            rows = e.rows;
-            ends = slice_set at.ends at.number e.end;
-            number = slice_index_or nx at.number (length nx);
-          })
-      | false ↦ at
-    ]).rows
-    go true = puts_more (chain_quiet (slice_index_or urs at.number 0 - 1 - leaf) (suc leaf) at.rows s)
-    go false = omega arith
+    by : (b : Bool) → ltb at.number (length nx) ≡ b → cells_in at.rows ≤ cells_in (lead_one urs nx leaf at s).rows
+    by true e =
+        rw (e, lead_one) (puts_more (chain_quiet (slice_index_or urs at.number 0 - 1 - leaf) (suc leaf) at.rows s))
+    by false e = rw (e, lead_one) (omega arith)
 
 lead_walk_more : (urs nx : List ℕ) (leaf : ℕ) (at : Led) (ss : List Source)
     → cells_in at.rows ≤ cells_in (lead_walk urs nx leaf at ss).rows
@@ -143,14 +135,6 @@ lead_room goal urs nx leaf i at leaves d lt is few =
     subst (λ (l : List Source). HasFew (lead_walk urs nx leaf at l).rows) list
     (subst (λ (t : Led). HasFew t.rows) (sym is) few) in
     let m = lead_walk_more urs nx leaf (lead_one urs nx leaf at s) rest in omega arith
-
-pub led_room : (urs nx : List ℕ) (leaf : ℕ) (at : Led) (s : Source) → at.number < length nx
-    → HasFew (lead_one urs nx leaf at s).rows
-    → HasFew (chain (slice_index_or urs at.number 0 - 1 - leaf) (suc leaf) at.rows s).rows
-led_room urs nx leaf at s lt few =
-    let e : (lead_one urs nx leaf at s).rows ≡ (chain (slice_index_or urs at.number 0 - 1 - leaf)
-    (suc leaf) at.rows s).rows = rw (lt-ltb at.number (length nx) lt, lead_one) refl in
-    subst HasFew e few
 
 -- the rows of a gate's parts
 module _ (f : Frame) (i : ℕ) (g : Gate) (at : Laid) (few : HasFew (lay_gate f i g at).rows) where

@@ -1,5 +1,5 @@
 -- The walk that counts over one array: what it has at each gate is what the plan fixes.
-use Rattle.std.proofs.Common.{◌≡◌, ℕ, suc, ◌+◌, ◌-◌, ◌<◌, ◌≤◌, ◌^◌, max, min, Bool, true, false, ◌&&◌, ◌||◌, not, ltb}
+use Rattle.std.proofs.Common.{◌≡◌, ℕ, suc, ◌+◌, ◌-◌, ◌<◌, ◌≤◌, ◌^◌, min, Bool, true, false, ◌&&◌, ◌||◌, not, ltb}
 use Rattle.std.proofs.Common.{cond, List, [], ◌∷◌, length, drop, replicate, get_or, slice_get, slice_set, Some, refl}
 use Rattle.std.proofs.Common.{sym, ap, ◌∙◌, subst, arith, inl, inr}
 use Rattle.std.proofs.lemmas.Bool.{cases_eq}
@@ -13,8 +13,9 @@ use Rattle.level_balance.specs.Levels.{depth, greatest, level_of}
 use Rattle.level_balance.specs.Plan.{Frame, frame}
 use Rattle.level_balance.specs.Counts.{tree_cells, cell_count, capped}
 use Rattle.level_balance.specs.Trees.{tree_rows, tree_end}
-use Rattle.level_balance.specs.Code.Served.{used_each, counts_by, used_below, greatest_end, level_over, leads_cells}
-use Rattle.level_balance.specs.Code.Served.{at_place, own_end, user_cells, users_cells, all_ends}
+use Rattle.level_balance.specs.Code.Served.{used_each, counts_by, used_below, greatest_end, raised_to, level_over}
+use Rattle.level_balance.specs.Code.Served.{led_cells, leads_cells, at_place, own_end, user_cells, users_cells}
+use Rattle.level_balance.specs.Code.Served.{all_ends}
 use Rattle.level_balance.proofs.LawOfLaying.{drop_step}
 use Rattle.level_balance.proofs.Frames.{IsPlain, lev, frame_fits}
 use Rattle.level_balance.proofs.Plain.{is_plain}
@@ -27,22 +28,13 @@ use Rattle.level_balance.proofs.ByUsers.{by_users, same_cells}
 greatest_is : (f : Frame) (end : ℕ → ℕ) (xs : List ℕ) → AllIn (λ x. end x ≡ tree_end f x) xs
     → greatest_end f.inputs end xs ≡ greatest f.inputs f.base f.uses f.levels xs
 greatest_is f end [] h = refl
-greatest_is f end (x ∷ xs) h = go (is_constant f.inputs x) (greatest_is f end xs h.1)
+greatest_is f end (x ∷ xs) h = by (is_constant f.inputs x) refl (greatest_is f end xs h.1)
   where
-    go : (c : Bool) → greatest_end f.inputs end xs ≡ greatest f.inputs f.base f.uses f.levels xs
-        → (elim c as (λ (t : Bool). ℕ) [
-          | true ↦ greatest_end f.inputs end xs
-          | false ↦ max (end x)
-              (greatest_end f.inputs end xs)
-        ])
-        ≡ (elim c as (λ (t : Bool). ℕ) [
-          | true ↦ greatest f.inputs f.base f.uses f.levels xs
-          | false ↦ max
-              (get_or f.levels x 0 + depth f.base (use_count f.uses x)) (greatest f.inputs f.base f.uses f.levels xs)
-        ])
-    go true e = e
-    go false e = let k = h.0 in ap (λ (t : ℕ). max t (greatest_end f.inputs end xs)) k
-        ∙ ap (λ (t : ℕ). max (tree_end f x) t) e
+    by : (c : Bool) → is_constant f.inputs x ≡ c
+        → greatest_end f.inputs end xs ≡ greatest f.inputs f.base f.uses f.levels xs
+        → greatest_end f.inputs end (x ∷ xs) ≡ greatest f.inputs f.base f.uses f.levels (x ∷ xs)
+    by true e same = rw (e, greatest_end, raised_to, greatest) same
+    by false e same = rw (e, greatest_end, raised_to, greatest, h.0, same) refl
 
 level_is : (f : Frame) (end : ℕ → ℕ) (g : Gate) → AllIn (λ x. end x ≡ tree_end f x) (operands g)
     → level_over f.inputs end g ≡ level_of f.inputs f.base f.uses f.levels g
@@ -56,14 +48,13 @@ level_is f end (gates.Maj x y z) h = ap suc (greatest_is f end (x ∷ y ∷ z �
 leads_same : (f : Frame) (end : ℕ → ℕ) (r : ℕ) (xs : List ℕ) → AllIn (λ x. end x ≡ tree_end f x) xs
     → leads_cells f.inputs end r xs ≡ leads_cells f.inputs (tree_end f) r xs
 leads_same f end r [] h = refl
-leads_same f end r (x ∷ xs) h = go (is_constant f.inputs x) (leads_same f end r xs h.1)
+leads_same f end r (x ∷ xs) h = by (is_constant f.inputs x) refl (leads_same f end r xs h.1)
   where
-    go : (c : Bool) → leads_cells f.inputs end r xs ≡ leads_cells f.inputs (tree_end f) r xs
-        → (elim c as (λ (t : Bool). ℕ) [ true ↦ 1 | false ↦ r - 1 - end x ]) + leads_cells f.inputs end r xs
-        ≡ (elim c as (λ (t : Bool). ℕ) [ true ↦ 1 | false ↦ r - 1 - tree_end f x ]) + leads_cells
-        f.inputs (tree_end f) r xs
-    go true e = ap (λ (t : ℕ). 1 + t) e
-    go false e = let k = h.0 in omega arith
+    by : (c : Bool) → is_constant f.inputs x ≡ c
+        → leads_cells f.inputs end r xs ≡ leads_cells f.inputs (tree_end f) r xs
+        → leads_cells f.inputs end r (x ∷ xs) ≡ leads_cells f.inputs (tree_end f) r (x ∷ xs)
+    by true e same = rw (e, leads_cells, led_cells) (ap (λ (t : ℕ). 1 + t) same)
+    by false e same = rw (e, leads_cells, led_cells) (let k = h.0 in omega arith)
 
 -- the array at gate i
 pub record Reached (f : Frame) (m i : ℕ) (ends : List ℕ) : Type 0 where

@@ -87,32 +87,39 @@ fn implies(a: u64, b: u64) -> bool
     a & !b == 0
 }
 
+/// The literals that a table is joined from: of an input, and of what the table is where that input is true, and where
+/// it is false.
+#[derive(Clone, Copy)]
+struct Split {
+    x: u32,
+    high: u32,
+    low: u32,
+}
+
 /// A table by both of its parts.
 fn join_parts(
     builder: &mut Builder,
     inputs: &[u32],
     table: u64,
     parts: Parts,
-    x: u32,
-    high: u32,
-    low: u32,
+    split: Split,
 ) -> Result<u32, GraphRefusal>
     requires few { length inputs.now ≤ 6 }
     requires parts { AreParts table parts }
-    requires at { slice_get inputs.now parts.place ≡ Some x }
-    requires x { x < limit builder.old }
-    requires high { Gives builder.old high (value_at parts.high inputs.now) }
-    requires low { Gives builder.old low (value_at parts.low inputs.now) }
+    requires at { slice_get inputs.now parts.place ≡ Some split.x }
+    requires x { split.x < limit builder.old }
+    requires high { Gives builder.old split.high (value_at parts.high inputs.now) }
+    requires low { Gives builder.old split.low (value_at parts.low inputs.now) }
     ensures grown { Grown builder.old builder.new }
     ensures given { IfOk result (λ l. Gives builder.new l (value_at table inputs.now)) }
 {
     if implies(parts.low, parts.high) {
-        return builder.maj(x, high, low);
+        return builder.maj(split.x, split.high, split.low);
     }
     if implies(parts.high, parts.low) {
-        return builder.maj(turned(x), high, low);
+        return builder.maj(turned(split.x), split.high, split.low);
     }
-    choice(builder, x, high, low)
+    choice(builder, split.x, split.high, split.low)
 }
 
 /// The literal of an input.
@@ -252,6 +259,6 @@ pub(crate) fn decompose(
     let Some(low) = decompose(builder, memo, inputs, parts.low, most - 1)? else {
         return Ok(None);
     };
-    let literal = join_parts(builder, inputs, table, parts, x, high, low)?;
+    let literal = join_parts(builder, inputs, table, parts, Split { x, high, low })?;
     keep(memo, table, literal)
 }

@@ -48,21 +48,26 @@ fn carried_all(
     Ok(Some(all))
 }
 
-/// Whether a node computes this table from three leaves, whatever the values of others that it reads.
-fn agrees(
-    graph: &Graph,
-    a: u32,
-    b: u32,
-    c: u32,
-    x: u32,
-    y: u32,
-    z: u32,
-    node: u32,
-    table: u64,
-) -> bool
-    ensures { result ≡ true → Agrees graph.now (a ∷ b ∷ c ∷ []) node table }
+/// Three nodes that a node reads, by their numbers; 0, the constant, where there are fewer.
+#[derive(Clone, Copy)]
+struct Leaves {
+    first: u32,
+    second: u32,
+    third: u32,
+}
+
+/// Whether a node computes this table from three leaves, whatever the values of the idle ones that it also reads.
+fn agrees(graph: &Graph, leaves: Leaves, idle: Leaves, node: u32, table: u64) -> bool
+    ensures { result ≡ true → Agrees graph.now (leaves.first ∷ leaves.second ∷ leaves.third ∷ []) node table }
 {
-    let all = [a, b, c, x, y, z];
+    let all = [
+        leaves.first,
+        leaves.second,
+        leaves.third,
+        idle.first,
+        idle.second,
+        idle.third,
+    ];
     let mut turns = TURNS;
     match cone(graph, &all, node, LONGEST, &mut turns) {
         Some(found) => found == table,
@@ -70,57 +75,93 @@ fn agrees(
     }
 }
 
-/// The literal of a node by its leaves: a recipe is run, and kept where it computes what the node does.
-fn by_leaves(
-    alloc: Global,
-    builder: &mut Builder,
-    graph: &Graph,
-    recipes: &Recipes,
-    found: &[Option<u32>],
-    a: u32,
-    b: u32,
-    c: u32,
-    cut: &Cut,
-    node: u32,
-) -> Result<Option<u32>, GraphRefusal>
-    requires { Carries graph.now builder.old found.now }
-    ensures grown { Grown builder.old builder.new }
-    ensures shown { IfOk result (λ o. IfSome o (λ l. Shows graph.now builder.new node l)) }
-{
-    let leaves = [a, b, c];
-    let Some(literals) = literals_of(alloc, found, &leaves)? else {
-        return Ok(None);
-    };
-    let number = best_recipe(alloc, builder, recipes, cut.truth, &literals)?;
-    let Some(recipe) = recipes.find(cut.truth, number) else {
-        return Ok(None);
-    };
-    let entry = run(alloc, builder, &literals, &recipe.steps, recipe.out)?;
-    if agrees(graph, a, b, c, 0, 0, 0, node, entry.table) {
-        return Ok(Some(entry.literal));
-    }
-    if agrees(graph, a, b, c, cut.x, cut.y, cut.z, node, entry.table) {
-        return Ok(Some(entry.literal));
-    }
-    Ok(None)
+/// What the next node of a graph is rewritten by: the recipes, and the literals found for the nodes before it.
+#[derive(Clone, Copy)]
+struct Rewrite<'a> {
+    graph: &'a Graph,
+    recipes: &'a Recipes,
+    found: &'a [Option<u32>],
 }
 
-/// The literal of a node by a cut.
-fn by_cut(
-    alloc: Global,
-    builder: &mut Builder,
-    graph: &Graph,
-    recipes: &Recipes,
-    found: &[Option<u32>],
-    cut: &Cut,
-    node: u32,
-) -> Result<Option<u32>, GraphRefusal>
-    requires { Carries graph.now builder.old found.now }
-    ensures grown { Grown builder.old builder.new }
-    ensures shown { IfOk result (λ o. IfSome o (λ l. Shows graph.now builder.new node l)) }
-{
-    let (a, b, c) = (cut.leaves[0], cut.leaves[1], cut.leaves[2]);
-    by_leaves(alloc, builder, graph, recipes, found, a, b, c, cut, node)
+impl Rewrite<'_> {
+    /// The literal of a node by its leaves: a recipe is run, and kept where it computes what the node does.
+    fn by_leaves(
+        &self,
+        alloc: Global,
+        builder: &mut Builder,
+        leaves: Leaves,
+        cut: &Cut,
+        node: u32,
+    ) -> Result<Option<u32>, GraphRefusal>
+        requires { Carries self.now.graph.now builder.old self.now.found.now }
+        ensures grown { Grown builder.old builder.new }
+        ensures shown { IfOk result (λ o. IfSome o (λ l. Shows self.now.graph.now builder.new node l)) }
+    {
+        let nodes = [leaves.first, leaves.second, leaves.third];
+        let Some(literals) = literals_of(alloc, self.found, &nodes)? else {
+            return Ok(None);
+        };
+        let number = best_recipe(alloc, builder, self.recipes, cut.truth, &literals)?;
+        let Some(recipe) = self.recipes.find(cut.truth, number) else {
+            return Ok(None);
+        };
+        let entry = run(alloc, builder, &literals, &recipe.steps, recipe.out)?;
+        let none = Leaves {
+            first: 0,
+            second: 0,
+            third: 0,
+        };
+        if agrees(self.graph, leaves, none, node, entry.table) {
+            return Ok(Some(entry.literal));
+        }
+        let idle = Leaves {
+            first: cut.x,
+            second: cut.y,
+            third: cut.z,
+        };
+        if agrees(self.graph, leaves, idle, node, entry.table) {
+            return Ok(Some(entry.literal));
+        }
+        Ok(None)
+    }
+
+    /// The literal of a node by a cut.
+    fn by_cut(
+        &self,
+        alloc: Global,
+        builder: &mut Builder,
+        cut: &Cut,
+        node: u32,
+    ) -> Result<Option<u32>, GraphRefusal>
+        requires { Carries self.now.graph.now builder.old self.now.found.now }
+        ensures grown { Grown builder.old builder.new }
+        ensures shown { IfOk result (λ o. IfSome o (λ l. Shows self.now.graph.now builder.new node l)) }
+    {
+        let leaves = Leaves {
+            first: cut.leaves[0],
+            second: cut.leaves[1],
+            third: cut.leaves[2],
+        };
+        self.by_leaves(alloc, builder, leaves, cut, node)
+    }
+
+    /// The literal of a node, if a cut is chosen for it, and could be used.
+    fn node_literal(
+        &self,
+        alloc: Global,
+        builder: &mut Builder,
+        chosen: &[Option<Cut>],
+        node: u32,
+    ) -> Result<Option<u32>, GraphRefusal>
+        requires { Carries self.now.graph.now builder.old self.now.found.now }
+        ensures grown { Grown builder.old builder.new }
+        ensures shown { IfOk result (λ o. IfSome o (λ l. Shows self.now.graph.now builder.new node l)) }
+    {
+        match chosen.get(node as usize) {
+            Some(Some(cut)) => self.by_cut(alloc, builder, cut, node),
+            _ => Ok(None),
+        }
+    }
 }
 
 /// The literals of the constant and the inputs.
@@ -133,26 +174,6 @@ fn first_found(alloc: Global, inputs: u32) -> Result<Vec<Option<u32>>, Memory>
         found.push(Some(2 * input))?;
     }
     Ok(found)
-}
-
-/// The literal of a node, if a cut is chosen for it, and could be used.
-fn node_literal(
-    alloc: Global,
-    builder: &mut Builder,
-    graph: &Graph,
-    recipes: &Recipes,
-    found: &[Option<u32>],
-    chosen: &[Option<Cut>],
-    node: u32,
-) -> Result<Option<u32>, GraphRefusal>
-    requires { Carries graph.now builder.old found.now }
-    ensures grown { Grown builder.old builder.new }
-    ensures shown { IfOk result (λ o. IfSome o (λ l. Shows graph.now builder.new node l)) }
-{
-    match chosen.get(node as usize) {
-        Some(Some(cut)) => by_cut(alloc, builder, graph, recipes, found, cut, node),
-        _ => Ok(None),
-    }
 }
 
 /// A literal for each chosen node.
@@ -171,7 +192,12 @@ fn node_literals(
     let first = graph.inputs() + 1;
     for number in 0..graph.node_count() {
         let node = first + number as u32;
-        let literal = node_literal(alloc, builder, graph, recipes, &found, chosen, node)?;
+        let rewrite = Rewrite {
+            graph,
+            recipes,
+            found: found.as_slice(),
+        };
+        let literal = rewrite.node_literal(alloc, builder, chosen, node)?;
         found.push(literal)?;
     }
     Ok(found)

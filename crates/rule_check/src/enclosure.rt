@@ -73,23 +73,16 @@ fn is_covered(
     shapes: &[Shape],
     planes: &Planes,
     plane: Plane,
-    layer: u16,
-    margin: u64,
+    test: &Encloses,
     via: &Shape,
     found: &mut Vec<u32>,
 ) -> Result<bool, Memory>
     requires filed { ArePlanes shapes.now planes.now }
-    requires planar { (s : Shape) → (s.layer == layer) ≡ true → in_plane plane s ≡ true }
-    ensures { IfOk result (λ answer. answer ≡ is_covered shapes.now layer (grown margin via.now.rect)) }
+    requires planar { (s : Shape) → (s.layer == test.now.layer) ≡ true → in_plane plane s ≡ true }
+    ensures { IfOk result (λ answer. answer ≡ is_covered shapes.now test.now.layer
+        (grown test.now.margin via.now.rect)) }
 {
-    list_passing(
-        &Encloses { layer, margin },
-        plane,
-        via,
-        shapes,
-        planes,
-        found,
-    )?;
+    list_passing(test, plane, via, shapes, planes, found)?;
     let covers = found.as_slice();
     Ok(!covers.is_empty())
 }
@@ -110,9 +103,17 @@ fn is_bare(
     if !is_via(via) {
         return Ok(false);
     }
-    let lower = is_covered(shapes, planes, Plane::Lower, M1, enclose, via, found)?;
-    let upper = is_covered(shapes, planes, Plane::Upper, M2, enclose, via, found)?;
-    Ok(!(lower && upper))
+    let lower = Encloses {
+        layer: M1,
+        margin: enclose,
+    };
+    let upper = Encloses {
+        layer: M2,
+        margin: enclose,
+    };
+    let below = is_covered(shapes, planes, Plane::Lower, &lower, via, found)?;
+    let above = is_covered(shapes, planes, Plane::Upper, &upper, via, found)?;
+    Ok(!(below && above))
 }
 
 /// Vias that metal does not enclose.

@@ -9,4 +9,4 @@ mod print;
 pub use adder::adder_text;
 pub use eight::sample_words;
 pub use laws::{sample_laws, worked_sample};
-pub use print::print_sample;
+pub use print::{SampleCounts, print_sample};

@@ -11,24 +11,33 @@ use circuit::Word;
 use std::alloc::Global;
 use text_answers::add_word;
 
+/// The bits of each number that the sample adds, and the counts of its chip.
+#[derive(Clone, Copy)]
+pub struct SampleCounts {
+    pub bits: u32,
+    pub rows: u64,
+    pub cells: u64,
+    pub wires: u64,
+}
+
 /// Adds the line of the counts.
 #[tactic(auto, using(std::proofs::Common::append_assoc), unfolding(crate::specs::SampleText::sample_line))]
-fn add_counts(
-    alloc: Global,
-    bits: u32,
-    rows: u64,
-    cells: u64,
-    wires: u64,
-    text: &mut Vec<u8>,
-) -> Result<(), Memory>
-    requires { 1 ≤ rows }
-    ensures { OnOk result (text.new.items ≡ text.old.items ++ sample_line bits rows cells wires) }
+fn add_counts(alloc: Global, counts: SampleCounts, text: &mut Vec<u8>) -> Result<(), Memory>
+    requires { 1 ≤ counts.rows }
+    ensures { OnOk result (text.new.items
+        ≡ text.old.items ++ sample_line counts.bits counts.rows counts.cells counts.wires) }
 {
+    let SampleCounts {
+        bits,
+        rows,
+        cells,
+        wires,
+    } = counts;
     let delay = rows - 1;
-    let counts = format!(in alloc; "rows {rows} cells {cells} wires {wires} delay {delay}\n")?;
+    let own = format!(in alloc; "rows {rows} cells {cells} wires {wires} delay {delay}\n")?;
     let head = format!(in alloc; "bits {bits} ")?;
     text.extend_from_slice(head.as_bytes())?;
-    text.extend_from_slice(counts.as_bytes())?;
+    text.extend_from_slice(own.as_bytes())?;
     Ok(())
 }
 
@@ -44,42 +53,33 @@ fn add_answers(answers: &List<Word>, text: &mut Vec<u8>) -> Result<(), Memory>
 }
 
 #[tactic(auto, unfolding(crate::specs::SampleText::sample_text))]
-fn text_of(
-    alloc: Global,
-    bits: u32,
-    rows: u64,
-    cells: u64,
-    wires: u64,
-    answers: &List<Word>,
-) -> Result<Vec<u8>, Memory>
-    requires { 1 ≤ rows }
-    ensures { IfOk result (λ text. text.items ≡ sample_text bits rows cells wires answers.now) }
+fn text_of(alloc: Global, counts: SampleCounts, answers: &List<Word>) -> Result<Vec<u8>, Memory>
+    requires { 1 ≤ counts.rows }
+    ensures { IfOk result (λ text. text.items
+        ≡ sample_text counts.bits counts.rows counts.cells counts.wires answers.now) }
 {
     let mut text = Vec::new(alloc);
-    add_counts(alloc, bits, rows, cells, wires, &mut text)?;
+    add_counts(alloc, counts, &mut text)?;
     add_answers(answers, &mut text)?;
     Ok(text)
 }
 
-/// Prints the text of the sample for so many bits: the counts of its chip, which has at least one row, and a line for
-/// each answer. On a refusal some first bytes of that text were put.
+/// Prints the text of the sample: its counts, with at least one row, and a line for each answer. On a refusal some
+/// first bytes of that text were put.
 #[tactic(auto, using(text_answers::proofs::Pages::texts))]
 pub fn print_sample<O: Sink>(
     alloc: Global,
-    bits: u32,
-    rows: u64,
-    cells: u64,
-    wires: u64,
+    counts: SampleCounts,
     answers: &List<Word>,
     out: &mut O,
 ) -> Result<(), StoreRefusal>
-    requires { 1 ≤ rows }
+    requires { 1 ≤ counts.rows }
     ensures added { OnOk result (O.output out.new
-        ≡ printed (sample_text bits rows cells wires answers.now) (O.output out.old)) }
+        ≡ printed (sample_text counts.bits counts.rows counts.cells counts.wires answers.now) (O.output out.old)) }
     ensures part { IfErr result (PrintsWithin (O.output out.old) (O.output out.new)
-        (sample_text bits rows cells wires answers.now)) }
+        (sample_text counts.bits counts.rows counts.cells counts.wires answers.now)) }
 {
-    match text_of(alloc, bits, rows, cells, wires, answers) {
+    match text_of(alloc, counts, answers) {
         Ok(text) => out.put(text.as_slice()),
         Err(Memory) => Err(StoreRefusal::Memory),
     }

@@ -37,6 +37,7 @@ fn has_both(node: Node, p: u32, q: u32) -> bool
 }
 
 /// Whether a literal is that of a majority with these two operands.
+#[tactic(auto, using(crate::proofs::Followed::majority_unsatisfiable))]
 fn is_majority_of(graph: &Builder, top: u32, p: u32, q: u32) -> bool
     ensures { IsTrue result → AreUnsatisfiable graph.now (p ∷ q ∷ turned top ∷ []) }
 {
@@ -47,6 +48,7 @@ fn is_majority_of(graph: &Builder, top: u32, p: u32, q: u32) -> bool
 }
 
 /// Whether a literal follows from implied ones, by a majority with these two operands.
+#[tactic(auto, using(crate::proofs::Followed::unit_follows))]
 fn follows_by_majority(
     graph: &Builder,
     implied: &ImpliedLiterals,
@@ -61,6 +63,7 @@ fn follows_by_majority(
 }
 
 /// Whether a literal follows from implied ones, by a clause that is unit.
+#[tactic(auto, using(crate::proofs::Followed::unit_follows, crate::proofs::Followed::clause_at))]
 fn follows_by_clause(
     graph: &Builder,
     clauses: &[Clause],
@@ -93,6 +96,7 @@ fn follows(graph: &Builder, clauses: &[Clause], implied: &ImpliedLiterals, step:
 
 /// Whether steps show that these literals cannot all be true: the steps are gone through from the last to the first,
 /// and then the conflicting literal and its complement are implied.
+#[tactic(auto, using(crate::proofs::Followed::refutation))]
 pub(crate) fn are_refuted(
     graph: &Builder,
     clauses: &[Clause],
@@ -115,6 +119,7 @@ pub(crate) fn are_refuted(
 }
 
 /// Learns a clause, by the literals that are kept for it, if steps prove it; whether they do.
+#[tactic(auto, using(crate::proofs::Followed::clauses_more))]
 pub(crate) fn learn(
     graph: &Builder,
     clauses: &mut Vec<Clause>,

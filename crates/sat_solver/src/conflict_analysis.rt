@@ -42,7 +42,7 @@ fn bring_second(trail: &Trail, clause: &mut Vec<u32>) {
 }
 
 /// The analysis of a conflict: literals that cannot all be true, while one after another is resolved with its reason,
-/// from the end of the trail on. Those of the conflict's level are marked and counted as `unresolved`, and those of
+/// from the end of the trail on. Those of `level`, the conflict's, are marked and counted as `unresolved`, and those of
 /// lower levels are kept. The steps are those of the literals that were resolved.
 #[derive(Drop)]
 pub(crate) struct ConflictAnalysis {
@@ -50,6 +50,7 @@ pub(crate) struct ConflictAnalysis {
     marks: Vec<bool>,
     marked: Vec<u32>,
     unresolved: usize,
+    level: u32,
 }
 
 impl ConflictAnalysis {
@@ -60,6 +61,7 @@ impl ConflictAnalysis {
             marks: Vec::new(alloc),
             marked: Vec::new(alloc),
             unresolved: 0,
+            level: 0,
         }
     }
 
@@ -71,8 +73,8 @@ impl ConflictAnalysis {
         Ok(())
     }
 
-    /// Lets go all marks and steps.
-    fn clear(&mut self) {
+    /// Begins the analysis of a conflict on this level, without marks and steps.
+    fn begin(&mut self, level: u32) {
         for node in self.marked.as_slice() {
             if let Some(mark) = self.marks.get_mut(*node as usize) {
                 *mark = false;
@@ -81,16 +83,11 @@ impl ConflictAnalysis {
         self.marked.clear();
         self.steps.clear();
         self.unresolved = 0;
+        self.level = level;
     }
 
     /// Marks a literal of the level, or keeps one of a lower level.
-    fn mark(
-        &mut self,
-        trail: &Trail,
-        kept: &mut Vec<u32>,
-        literal: u32,
-        level: u32,
-    ) -> Result<(), Memory> {
+    fn mark(&mut self, trail: &Trail, kept: &mut Vec<u32>, literal: u32) -> Result<(), Memory> {
         let node = literal / 2;
         let Some(mark) = self.marks.get_mut(node as usize) else {
             return Ok(());
@@ -100,7 +97,7 @@ impl ConflictAnalysis {
         }
         *mark = true;
         self.marked.push(node)?;
-        if trail.level_of(literal) >= level {
+        if trail.level_of(literal) >= self.level {
             self.unresolved = self.unresolved.saturating_add(1);
         } else {
             kept.push(literal)?;
@@ -116,21 +113,20 @@ impl ConflictAnalysis {
         clauses: &WatchedClauses,
         kept: &mut Vec<u32>,
         step: Step,
-        level: u32,
         work: &mut Work,
     ) -> Result<(), Memory> {
         match step.reason {
             Reason::Decision => return Ok(()),
             Reason::Operands(p, q) | Reason::Majority(p, q) => {
-                self.mark(trail, kept, p, level)?;
-                self.mark(trail, kept, q, level)?;
+                self.mark(trail, kept, p)?;
+                self.mark(trail, kept, q)?;
             }
             Reason::Clause(clause) => {
                 let left_out = turned(step.literal);
                 for literal in clauses.clause(clause) {
                     work.pay(1);
                     if *literal != left_out {
-                        self.mark(trail, kept, *literal, level)?;
+                        self.mark(trail, kept, *literal)?;
                     }
                 }
             }
@@ -147,7 +143,6 @@ impl ConflictAnalysis {
         trail: &Trail,
         clauses: &WatchedClauses,
         kept: &mut Vec<u32>,
-        level: u32,
         work: &mut Work,
     ) -> Result<Option<u32>, Memory> {
         for back in 0..trail.len() {
@@ -156,15 +151,15 @@ impl ConflictAnalysis {
             let Some(literal) = trail.literal_at(place) else {
                 return Ok(None);
             };
-            if !self.is_marked(literal) || trail.level_of(literal) < level {
+            if !self.is_marked(literal) || trail.level_of(literal) < self.level {
                 continue;
             }
-            if self.unresolved <= 1 && level > 1 {
+            if self.unresolved <= 1 && self.level > 1 {
                 return Ok(Some(literal));
             }
             self.unresolved = self.unresolved.saturating_sub(1);
             let reason = trail.reason_of(literal);
-            self.resolve(trail, clauses, kept, Step { literal, reason }, level, work)?;
+            self.resolve(trail, clauses, kept, Step { literal, reason }, work)?;
             if self.unresolved == 0 {
                 return Ok(None);
             }
@@ -173,18 +168,16 @@ impl ConflictAnalysis {
     }
 
     /// Marks the literals of a conflict: the one that is false, and those of the reason.
-    fn begin(
+    fn mark_conflict(
         &mut self,
         trail: &Trail,
         clauses: &WatchedClauses,
         kept: &mut Vec<u32>,
         conflict: Step,
-        level: u32,
         work: &mut Work,
     ) -> Result<(), Memory> {
-        self.clear();
-        self.mark(trail, kept, turned(conflict.literal), level)?;
-        self.resolve(trail, clauses, kept, conflict, level, work)
+        self.mark(trail, kept, turned(conflict.literal))?;
+        self.resolve(trail, clauses, kept, conflict, work)
     }
 
     /// The steps from the assumptions to a conflict on the first level.
@@ -197,8 +190,9 @@ impl ConflictAnalysis {
         work: &mut Work,
     ) -> Result<(), Memory> {
         let mut kept = Vec::new(alloc);
-        self.begin(trail, clauses, &mut kept, conflict, 1, work)?;
-        self.resolve_back(trail, clauses, &mut kept, 1, work)?;
+        self.begin(1);
+        self.mark_conflict(trail, clauses, &mut kept, conflict, work)?;
+        self.resolve_back(trail, clauses, &mut kept, work)?;
         Ok(())
     }
 
@@ -212,11 +206,11 @@ impl ConflictAnalysis {
         conflict: Step,
         work: &mut Work,
     ) -> Result<Vec<u32>, Memory> {
-        let level = conflict_level(trail, clauses, conflict);
         let mut clause = Vec::new(alloc);
         clause.push(0)?;
-        self.begin(trail, clauses, &mut clause, conflict, level, work)?;
-        let last = self.resolve_back(trail, clauses, &mut clause, level, work)?;
+        self.begin(conflict_level(trail, clauses, conflict));
+        self.mark_conflict(trail, clauses, &mut clause, conflict, work)?;
+        let last = self.resolve_back(trail, clauses, &mut clause, work)?;
         if let Some(first) = clause.get_mut(0) {
             *first = last.unwrap_or(0);
         }

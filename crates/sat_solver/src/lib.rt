@@ -20,5 +20,5 @@ mod watched_clauses;
 
 pub use answer::Answer;
 pub use clause::Clause;
-pub use limits::{Limits, Work};
+pub use limits::{Budget, Limits, Work};
 pub use solver::Solver;

@@ -1,4 +1,4 @@
-// Limits: conflicts a search, nodes a cone, work in all.
+// The budget of searches: conflicts a search, nodes a cone, work in all.
 
 /// Limits of one search.
 #[derive(Clone, Copy)]
@@ -22,4 +22,11 @@ impl Work {
         self.left = self.left.saturating_sub(units);
         self.left > 0
     }
+}
+
+/// The limits of each search, and what is left of the work of all.
+#[derive(Drop)]
+pub struct Budget {
+    pub limits: Limits,
+    pub work: Work,
 }

@@ -7,7 +7,7 @@ use crate::checked_clauses::{are_refuted, learn};
 use crate::implied::ImpliedLiterals;
 use crate::step::Step;
 use crate::tables::Tables;
-use crate::{Answer, Clause, Limits, Work};
+use crate::{Answer, Budget, Clause, Work};
 use aq_base::Memory;
 use mig::{Builder, turned};
 use std::alloc::Global;
@@ -152,14 +152,14 @@ fn searched(
     state: &mut State,
     clauses: &mut Vec<Clause>,
     assumed: &[u32],
-    limits: Limits,
-    work: &mut Work,
+    budget: &mut Budget,
 ) -> Result<Answer, Memory>
     requires { AreClauses graph.now clauses.old.items }
     ensures clauses { AreClauses graph.now clauses.new.items }
     ensures found { IfOk result (λ found. found ≡ Answer.Unsatisfiable → AreUnsatisfiable graph.now assumed.now) }
 {
-    state.tables.begin(limits)?;
+    state.tables.begin(budget.limits)?;
+    let work = &mut budget.work;
     if let Some(conflict) = state.tables.assume(assumed, work)? {
         return after_final_conflict(graph, state, clauses, assumed, conflict, work);
     }
@@ -173,8 +173,7 @@ fn compared(
     clauses: &mut Vec<Clause>,
     p: u32,
     q: u32,
-    limits: Limits,
-    work: &mut Work,
+    budget: &mut Budget,
 ) -> Result<Answer, Memory>
     requires { AreClauses graph.now clauses.old.items }
     ensures clauses { AreClauses graph.now clauses.new.items }
@@ -183,14 +182,14 @@ fn compared(
     ensures other { IfOk result (λ found. found ≡ Answer.Unsatisfiable
         → AreUnsatisfiable graph.now (turned p ∷ q ∷ [])) }
 {
-    state.tables.mark(graph, &[p, q], limits, work)?;
+    state.tables.mark(graph, &[p, q], budget)?;
     let first = [p, turned(q)];
-    let found = searched(graph, state, clauses, &first, limits, work)?;
+    let found = searched(graph, state, clauses, &first, budget)?;
     if found != Answer::Unsatisfiable {
         return Ok(found);
     }
     let second = [turned(p), q];
-    searched(graph, state, clauses, &second, limits, work)
+    searched(graph, state, clauses, &second, budget)
 }
 
 /// A solver over the nodes of one graph. Its tables are kept between searches.
@@ -238,8 +237,7 @@ impl Solver {
         &mut self,
         graph: &Builder,
         assumed: &[u32],
-        limits: Limits,
-        work: &mut Work,
+        budget: &mut Budget,
     ) -> Result<Answer, Memory>
         ensures { IfOk result (λ found. found ≡ Answer.Unsatisfiable → AreUnsatisfiable graph.now assumed.now) }
     {
@@ -250,8 +248,8 @@ impl Solver {
         }
         self.own.clear();
         self.state.tables.forget_clauses();
-        self.state.tables.mark(graph, assumed, limits, work)?;
-        let found = searched(graph, &mut self.state, &mut self.own, assumed, limits, work)?;
+        self.state.tables.mark(graph, assumed, budget)?;
+        let found = searched(graph, &mut self.state, &mut self.own, assumed, budget)?;
         self.read_word(found);
         Ok(found)
     }
@@ -266,8 +264,7 @@ impl Solver {
         clauses: &mut Vec<Clause>,
         p: u32,
         q: u32,
-        limits: Limits,
-        work: &mut Work,
+        budget: &mut Budget,
     ) -> Result<Answer, Memory>
         requires { AreClauses graph.now clauses.old.items }
         ensures clauses { AreClauses graph.now clauses.new.items }
@@ -283,7 +280,7 @@ impl Solver {
             clauses.clear();
             self.state.tables.forget_clauses();
         }
-        let found = compared(graph, &mut self.state, clauses, p, q, limits, work)?;
+        let found = compared(graph, &mut self.state, clauses, p, q, budget)?;
         self.read_word(found);
         Ok(found)
     }

@@ -7,7 +7,7 @@ use crate::propagation::propagate;
 use crate::step::{Reason, Step};
 use crate::trail::Trail;
 use crate::watched_clauses::WatchedClauses;
-use crate::{Limits, Work};
+use crate::{Budget, Limits, Work};
 use aq_base::Memory;
 use mig::{Builder, turned};
 use std::alloc::Global;
@@ -63,10 +63,10 @@ impl Tables {
         &mut self,
         graph: &Builder,
         literals: &[u32],
-        limits: Limits,
-        work: &mut Work,
+        budget: &mut Budget,
     ) -> Result<(), Memory> {
-        self.cone.mark(graph, literals, limits.cone, work)
+        let most = budget.limits.cone;
+        self.cone.mark(graph, literals, most, &mut budget.work)
     }
 
     /// Begins a search anew at the first level, with the clauses and the cone that there are.

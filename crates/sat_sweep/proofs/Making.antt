@@ -11,61 +11,45 @@ use Rattle.circuit.specs.Gates.{gate_value}
 use Rattle.circuit.specs.CellNets.{Reads, AreCells, value}
 use Rattle.circuit.proofs.CellAnswers.{gate_same, value_fits}
 use Rattle.mig.specs.Graphs.{literal_value, node_value, turned}
-use Rattle.mig.specs.Building.{BuilderView, Grown, Gives, limit}
+use Rattle.mig.specs.Building.{BuilderView, Grown, Gives}
 use Rattle.mig.proofs.Folded.{turned_value, turned_below}
 use Rattle.mig.proofs.Built.{grown_same, grown_then, fits_before, limit_grows, even_value, odd_value}
 use Rattle.mig.proofs.Shown.{seam, front, one_longer}
 use Rattle.sat_sweep.specs.Code.GateLiterals.{literal_of, AreThere, GivesGate, AreLiterals, ShowOutputs}
 
-pub input_given : (b : BuilderView) (literals : List ℕ) (gate : Gate) (i : ℕ) → gate ≡ Input i → i < b.inputs
-    → GivesGate b literals gate (2 * (1 + i))
-input_given b literals gate i is lt =
-    subst (λ (g : Gate). GivesGate b literals g (2 * (1 + i))) (sym is) (record {
-      below = omega arith;
-      shows = λ word v fit. even_value v (1 + i) ∙ fit.of_input i lt;
-    })
+pub input_given : (b : BuilderView) (literals : List ℕ) (gate : Gate) (i : ℕ) → gate ≡ Input i
+    → Reads b.inputs (length literals) gate → GivesGate b literals gate (2 * (1 + i))
+input_given b literals gate i is reads =
+    let lt : i < b.inputs = subst (Reads b.inputs (length literals)) is reads in
+    rw is (record { below = omega arith; shows = λ word v fit. even_value v (1 + i) ∙ fit.of_input i lt })
 
 pub zero_given : (b : BuilderView) (literals : List ℕ) (gate : Gate) → gate ≡ Zero → GivesGate b literals gate 0
 zero_given b literals gate is =
-    subst (λ (g : Gate). GivesGate b literals g 0) (sym is) (record {
-      below = omega arith;
-      shows = λ word v fit. even_value v 0 ∙ fit.none;
-    })
+    rw is (record { below = omega arith; shows = λ word v fit. even_value v 0 ∙ fit.none })
 
 pub one_given : (b : BuilderView) (literals : List ℕ) (gate : Gate) → gate ≡ One → GivesGate b literals gate 1
 one_given b literals gate is =
-    subst (λ (g : Gate). GivesGate b literals g 1) (sym is) (record {
-      below = omega arith;
-      shows = λ word v fit. odd_value v 1 refl ∙ ap not fit.none;
-    })
+    rw is (record { below = omega arith; shows = λ word v fit. odd_value v 1 refl ∙ ap not fit.none })
 
-pub turned_given : (b : BuilderView) (literals : List ℕ) (count : ℕ) (gate : Gate) (x l t : ℕ) → gate ≡ Inv x
-    → AreThere b literals count → x < count → l ≡ literal_of literals x → t ≡ turned l → GivesGate b literals gate t
-turned_given b literals count gate x l t is there lt e f =
-    subst (λ (g : Gate). GivesGate b literals g t) (sym is)
-    (subst (GivesGate b literals (Inv x)) (sym (f ∙ ap turned e)) (record {
-      below = turned_below (1 + b.inputs + length b.nodes) (literal_of literals x) (there x lt);
+pub turned_given : (b : BuilderView) (literals : List ℕ) (gate : Gate) (x l t : ℕ) → gate ≡ Inv x
+    → AreThere b literals (length literals) → Reads b.inputs (length literals) gate → l ≡ literal_of literals x
+    → t ≡ turned l → GivesGate b literals gate t
+turned_given b literals gate x l t is there reads e f =
+    rw is (rw (f ∙ ap turned e) (record {
+      below = turned_below (1 + b.inputs + length b.nodes) (literal_of literals x)
+          (there x (subst (Reads b.inputs (length literals)) is reads));
       shows = λ word v fit. turned_value v (literal_of literals x);
     }))
-
-three_given : (b : BuilderView) (literals : List ℕ) (gate : Gate) (x y z l m n given : ℕ) → gate ≡ Maj x y z
-    → l ≡ literal_of literals x → m ≡ literal_of literals y → n ≡ literal_of literals z
-    → Gives b given (λ v. node_value v (record { x = l; y = m; z = n })) → GivesGate b literals gate given
-unfolding node_value
-three_given b literals gate x y z l m n given is e f h gives =
-    subst (λ (g : Gate). GivesGate b literals g given) (sym is) (record {
-      below = gives.below;
-      shows = λ word v fit. gives.shows word v fit ∙ cc;
-    })
 
 -- where maj gives a literal
 pub if_three : {E : Type 0} (r : Result ℕ E) (b : BuilderView) (literals : List ℕ) (gate : Gate) (x y z l m n : ℕ)
     → gate ≡ Maj x y z → l ≡ literal_of literals x → m ≡ literal_of literals y → n ≡ literal_of literals z
     → IfOk r (λ given. Gives b given (λ v. node_value v (record { x = l; y = m; z = n })))
     → IfOk r (GivesGate b literals gate)
+unfolding node_value
 if_three (Err e) b literals gate x y z l m n is p q s gives = tt
 if_three (Ok given) b literals gate x y z l m n is p q s gives =
-    three_given b literals gate x y z l m n given is p q s gives
+    rw is (record { below = gives.below; shows = λ word v fit. gives.shows word v fit ∙ cc })
 
 -- what holds as literals are made for gates
 pub record IsMaking (start now : BuilderView) (literals : List ℕ) (gates : List Gate) (count : ℕ) : Type 0 where
@@ -94,13 +78,11 @@ module _ (start now : BuilderView) (literals : List ℕ) (gates : List Gate) (co
 
   pub gate_reads : (read : List ℕ) → read ≡ literals → Reads now.inputs (length read) gate
   gate_reads read same =
-      subst (λ n. Reads n (length read) gate) (sym making.grown.same_inputs)
-      (subst (λ n. Reads start.inputs n gate) (sym (ap length same ∙ making.literals_are.size)) reads)
+      rw making.grown.same_inputs (rw (ap length same ∙ making.literals_are.size) reads)
 
   pub gate_there : (read : List ℕ) → read ≡ literals → AreThere now read (length read)
   gate_there read same i lt =
-      subst (λ (ls : List ℕ). literal_of ls i < limit now) (sym same)
-      (making.literals_are.there i (let s = ap length same ∙ making.literals_are.size in omega arith))
+      rw same (making.literals_are.there i (let s = ap length same ∙ making.literals_are.size in omega arith))
 
   pub making_more : (read : List ℕ) → read ≡ literals → (new : BuilderView) → Grown now new → (l : ℕ)
       → GivesGate new read gate l → (more : List ℕ) → more ≡ literals ++ l ∷ []
@@ -115,7 +97,7 @@ module _ (start now : BuilderView) (literals : List ℕ) (gates : List Gate) (co
             let low = making.literals_are.there i less in
             let le = limit_grows now new grown in
             omega arith
-        | inr ge ↦ subst (λ m. m < limit new) (sym (last i (let z : i ≡ count = omega arith in z))) given.below
+        | inr ge ↦ rw (last i (omega arith)) given.below
       ];
       shows = λ i lt word v fit. elim (cases_lt i count) [
         | inl less ↦
@@ -137,6 +119,8 @@ module _ (start now : BuilderView) (literals : List ℕ) (gates : List Gate) (co
       last : (i : ℕ) → i ≡ count → literal_of more i ≡ l
       last i z = ap (literal_of more) (z ∙ sym making.literals_are.size) ∙ seam literals more l is
 
+pub ruleset makings = (making_begins, gate_reads, gate_there)
+
 -- literals of outputs
 pub show_outputs : (b : BuilderView) (literals read : List ℕ) (gates : List Gate) (outputs given : List ℕ)
     → AreLiterals b literals gates (length gates) → read ≡ literals
@@ -155,12 +139,13 @@ show_outputs b literals read gates outputs given are same within is = record {
         → map (literal_value v) (map (literal_of literals) xs) ≡ map (value gates word) xs
     each word v show [] all = refl
     each word v show (x ∷ xs) all =
-        ap (λ (t : Bool). t ∷ map (literal_value v) (map (literal_of literals) xs)) (show x all.0)
-        ∙ ap (λ (ts : List Bool). value gates word x ∷ ts) (each word v show xs all.1)
+        let first = show x all.0 in
+        let rest = each word v show xs all.1 in
+        cc
 
 -- each output names a gate that has a literal
 pub outputs_within : (literals read : List ℕ) (gates : List Gate) (outputs : List ℕ)
     → length literals ≡ length gates → read ≡ literals
     → AllByRecursion (λ x. x < length gates) outputs → AllByRecursion (λ x. x < length read) outputs
 outputs_within literals read gates outputs size same within =
-    subst (λ n. AllByRecursion (λ x. x < n) outputs) (sym (ap length same ∙ size)) within
+    rw (ap length same ∙ size) within

@@ -1,16 +1,14 @@
 -- Literals that stand for literals.
 use Rattle.std.specs.Prelude.{◌≡◌, ◌⊎◌, ℕ, ◌+◌, ◌*◌, ◌/◌, ◌%◌, ◌<◌, Bool, not, cond}
 use Rattle.std.specs.Prelude.{suc, List, [], ◌∷◌, length, Option, Some, IfOk, map}
-use Rattle.std.proofs.Common.{Result, Ok, Err, refl, sym, ap, ◌∙◌, subst, arith, inl, inr}
+use Rattle.std.proofs.Common.{Result, Ok, Err, refl, sym, ap, ◌∙◌, arith, inl, inr}
 use Rattle.std.proofs.lemmas.Bool.Decides.{eqb_tells}
-use Rattle.std.proofs.lemmas.List.Elements.{All-nil}
 use Rattle.mig.specs.declared.node.Node.{Node}
-use Rattle.mig.specs.Graphs.{literal_value, node_value, Fits, turned, AreBelow}
+use Rattle.mig.specs.Graphs.{literal_value, node_value, Fits, turned}
 use Rattle.mig.specs.Building.{BuilderView, Grown, Gives, Splits, limit}
 use Rattle.mig.proofs.Folded.{turned_value, turned_below}
 use Rattle.mig.proofs.Built.{fits_before, limit_grows, even_value, odd_value, whole_value}
 use Rattle.sat_solver.specs.declared.clause.Clause.{Clause}
-use Rattle.sat_solver.specs.Clauses.{AreUnsatisfiable, AreClauses}
 use Rattle.sat_solver.proofs.Followed.{clauses_later}
 use Rattle.sat_sweep.specs.Code.Merging.{AreAlike, StandsFor, AreMerged, IsKnown, AreAllAlike}
 use Rattle.sat_sweep.specs.Code.Merging.{representative_at, turned_as}
@@ -46,27 +44,11 @@ merged_later a b representatives grown merged = record {
   alike = λ node l is. alike_later a b (2 * node) l grown (merged.alike node l is);
 }
 
-pub merged_none : (b : BuilderView) (representatives : List (Option ℕ)) → representatives ≡ []
-    → AreMerged b representatives
-merged_none b representatives empty =
-    subst (λ (ps : List (Option ℕ)). AreMerged b ps) (sym empty) (record {
-      below = λ node l is. absurd cc;
-      alike = λ node l is. absurd cc;
-    })
-
 pub known_later : (a b : BuilderView) (representatives : List (Option ℕ)) (clauses : List Clause) → Grown a b
     → IsKnown a representatives clauses → IsKnown b representatives clauses
 known_later a b representatives clauses grown known = record {
   are_merged = merged_later a b representatives grown known.are_merged;
   are_clauses = clauses_later a b clauses grown known.are_clauses;
-}
-
-pub known_none : (b : BuilderView) (representatives : List (Option ℕ)) (clauses : List Clause)
-    → representatives ≡ [] → clauses ≡ [] → IsKnown b representatives clauses
-known_none b representatives clauses empty none = record {
-  are_merged = merged_none b representatives empty;
-  are_clauses = subst (AreClauses b) (sym none)
-      (All-nil (λ (clause : Clause). AreUnsatisfiable b clause.literals.items));
 }
 
 -- a representative, turned as the literal is
@@ -80,7 +62,7 @@ representative_stands b representatives literal own found merged at is =
       | inl odd ↦
           let e : found ≡ turned own = is ∙ ap (λ (t : Bool). cond t (turned own) own) odd.0 in
           record {
-            below = λ lt. subst (λ m. m < limit b) (sym e) (turned_below (1 + b.inputs + length b.nodes) own low);
+            below = λ lt. rw e (turned_below (1 + b.inputs + length b.nodes) own low);
             alike = record {
               shows = λ word v fit.
                   odd_value v literal odd.1 ∙ ap not (sym (even_value v (literal / 2)) ∙ same.shows word v fit)
@@ -90,7 +72,7 @@ representative_stands b representatives literal own found merged at is =
       | inr even ↦
           let e : found ≡ own = is ∙ ap (λ (t : Bool). cond t (turned own) own) even.0 in
           record {
-            below = λ lt. subst (λ m. m < limit b) (sym e) low;
+            below = λ lt. rw e low;
             alike = record {
               shows = λ word v fit.
                   whole_value v literal even.1 ∙ sym (even_value v (literal / 2)) ∙ same.shows word v fit
@@ -108,21 +90,22 @@ pub merged_more : (b : BuilderView) (old new : List (Option ℕ)) (node literal 
 merged_more b old new node literal merged low alike put = record {
   below = λ k own is. elim (put k own is) [
     | inl old ↦ merged.below k own old
-    | inr here ↦ subst (λ m. m < limit b) (sym here.1) low
+    | inr here ↦ rw here.1 low
   ];
   alike = λ k own is. elim (put k own is) [
     | inl old ↦ merged.alike k own old
-    | inr here ↦
-        subst (λ m. AreAlike b (2 * m) own) (sym here.0) (subst (λ m. AreAlike b (2 * node) m) (sym here.1) alike)
+    | inr here ↦ rw here.0 (rw here.1 alike)
   ];
 }
 
 -- a majority of what stands for the operands
-pub remade_stands : (a b : BuilderView) (literal x y z given : ℕ) (node : Node) → Grown a b → Splits a literal node
-    → StandsFor a node.x x → StandsFor a node.y y → StandsFor a node.z z
-    → Gives b given (λ v. node_value v (record { x = x; y = y; z = z })) → StandsFor b literal given
+pub if_remade : {E : Type 0} (r : Result ℕ E) (a b : BuilderView) (literal x y z : ℕ) (node : Node) → Grown a b
+    → Splits a literal node → StandsFor a node.x x → StandsFor a node.y y → StandsFor a node.z z
+    → IfOk r (λ given. Gives b given (λ v. node_value v (record { x = x; y = y; z = z })))
+    → IfOk r (λ given. StandsFor b literal given)
 unfolding node_value
-remade_stands a b literal x y z given node grown splits p q r gives = record {
+if_remade (Err e) a b literal x y z node grown splits p q r gives = tt
+if_remade (Ok given) a b literal x y z node grown splits p q r gives = record {
   below = λ lt. gives.below;
   alike = record {
     shows = λ word v fit.
@@ -136,33 +119,20 @@ remade_stands a b literal x y z given node grown splits p q r gives = record {
   };
 }
 
-pub if_remade : {E : Type 0} (r : Result ℕ E) (a b : BuilderView) (literal x y z : ℕ) (node : Node) → Grown a b
-    → Splits a literal node → StandsFor a node.x x → StandsFor a node.y y → StandsFor a node.z z
-    → IfOk r (λ given. Gives b given (λ v. node_value v (record { x = x; y = y; z = z })))
-    → IfOk r (λ given. StandsFor b literal given)
-if_remade (Err e) a b literal x y z node grown splits p q s gives = tt
-if_remade (Ok given) a b literal x y z node grown splits p q s gives =
-    remade_stands a b literal x y z given node grown splits p q s gives
-
 -- what stands for a literal has its value
 pub given_then : (a b : BuilderView) (literal found : ℕ) (value : (ℕ → Bool) → Bool) → b ≡ a → Gives a literal value
     → StandsFor b literal found → Gives b found value
 given_then a b literal found value same gives stands =
-    let here = subst (λ (g : BuilderView). Gives g literal value) (sym same) gives in
+    let here : Gives b literal value = rw same gives in
     record {
       below = stands.below here.below;
       shows = λ word v fit. sym (stands.alike.shows word v fit) ∙ here.shows word v fit;
     }
 
-pub operands_below : (b : BuilderView) (node : Node) (x y z : ℕ) → AreBelow (limit b) node
-    → StandsFor b node.x x → StandsFor b node.y y → StandsFor b node.z z
-    → AreBelow (limit b) (record { x = x; y = y; z = z })
-operands_below b node x y z low p q r = record { x = p.below low.x; y = q.below low.y; z = r.below low.z }
-
 -- literals for which one literal stands have one value
 pub one_for_both : (b : BuilderView) (l m n n' : ℕ) → StandsFor b l n → StandsFor b m n' → n ≡ n' → AreAlike b l m
 one_for_both b l m n n' p q same =
-    alike_then b l n m p.alike (alike_back b m n (subst (λ k. AreAlike b m k) (sym same) q.alike))
+    alike_then b l n m p.alike (alike_back b m n (rw same q.alike))
 
 -- literals that are alike at each place show the same
 pub maps_alike : (b : BuilderView) (ones others : List ℕ) → length others ≡ length ones → AreAllAlike b ones others
@@ -172,6 +142,7 @@ maps_alike b [] [] size alike word v fit = refl
 maps_alike b [] (m ∷ ms) size alike word v fit = absurd cc
 maps_alike b (l ∷ ls) [] size alike word v fit = absurd cc
 maps_alike b (l ∷ ls) (m ∷ ms) size alike word v fit =
-    ap (λ (t : Bool). t ∷ map (literal_value v) ls) ((alike 0 (omega arith)).shows word v fit)
-    ∙ ap (λ (ts : List Bool). literal_value v m ∷ ts)
-    (maps_alike b ls ms (omega arith) (λ (k : ℕ) (lt : k < length ls). alike (suc k) (omega arith)) word v fit)
+    let first = (alike 0 (omega arith)).shows word v fit in
+    let rest = maps_alike b ls ms (omega arith) (λ (k : ℕ) (lt : k < length ls). alike (suc k) (omega arith)) word v fit
+    in
+    cc

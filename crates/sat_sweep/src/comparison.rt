@@ -4,12 +4,12 @@ ghost use Rattle.sat_solver.specs.declared.answer.Answer.TheVariants as answers;
 ghost use Rattle.sat_solver.specs.Clauses.{AreClauses};
 ghost use Rattle.sat_sweep.specs.Code.Merging.{AreAlike};
 
-use crate::budget::Budget;
 use aq_base::Memory;
 use mig::Builder;
-use sat_solver::{Answer, Clause, Solver};
+use sat_solver::{Answer, Budget, Clause, Solver};
 
 /// Whether two literals have one value: `Unsatisfiable` says that they never have two.
+#[tactic(auto, using(crate::proofs::Refuting::if_compared))]
 pub(crate) fn compare_literals(
     graph: &Builder,
     clauses: &mut Vec<Clause>,
@@ -22,6 +22,5 @@ pub(crate) fn compare_literals(
     ensures clauses { AreClauses graph.now clauses.new.items }
     ensures alike { IfOk result (λ found. found ≡ answers.Unsatisfiable → AreAlike graph.now one other) }
 {
-    let limits = budget.limits;
-    solver.compare(graph, clauses, one, other, limits, &mut budget.work)
+    solver.compare(graph, clauses, one, other, budget)
 }

@@ -20,6 +20,7 @@ fn literal_of(literals: &[u32], gate: u32) -> u32
 }
 
 /// The literal of a gate, by those of the gates that it names.
+#[tactic(auto, using(crate::proofs::Making::input_given, crate::proofs::Making::turned_given))]
 fn gate_literal(graph: &mut Merged, literals: &[u32], gate: Gate) -> Result<u32, GraphRefusal>
     requires reads { Reads graph.old.inputs (length literals.now) gate }
     requires there { AreThere graph.old literals.now (length literals.now) }
@@ -43,6 +44,7 @@ fn gate_literal(graph: &mut Merged, literals: &[u32], gate: Gate) -> Result<u32,
 }
 
 /// The literals of all gates of a circuit, in their order.
+#[tactic(auto, using(crate::proofs::Making::makings, mig::proofs::Built::grown_then))]
 fn gate_literals(
     alloc: Global,
     graph: &mut Merged,
@@ -74,6 +76,7 @@ fn shown(alloc: Global, literals: &[u32], outputs: &[u32]) -> Result<Vec<u32>, M
 }
 
 /// The literals of the outputs of a circuit, in their order.
+#[tactic(auto, using(crate::proofs::Making::outputs_within))]
 pub(crate) fn output_literals(
     alloc: Global,
     graph: &mut Merged,

@@ -7,11 +7,10 @@ ghost use Rattle.mig.specs.Building.{IsBuilder, Grown, Gives, limit};
 ghost use Rattle.sat_sweep.specs.Code.Merging.{AreAlike, StandsFor, AreAllAlike, AreAlikeBelow};
 ghost use Rattle.sat_sweep.specs.Code.Merging.{representative_at, turned_as};
 
-use crate::budget::Budget;
 use crate::comparison::compare_literals;
 use aq_base::Memory;
 use mig::{Builder, Graph, GraphRefusal, turned};
-use sat_solver::{Answer, Clause, Solver};
+use sat_solver::{Answer, Budget, Clause, Solver};
 use std::alloc::Global;
 use std::marker::Model;
 
@@ -119,6 +118,7 @@ impl Merged {
     }
 
     /// Merges a node into a literal.
+    #[tactic(auto, using(crate::proofs::Merging::merged_more))]
     pub(crate) fn merge(&mut self, node: u32, literal: u32) -> Result<(), Memory>
         requires below { literal < limit self.old }
         requires alike { AreAlike self.old (2 * node) literal }
@@ -164,6 +164,7 @@ impl Merged {
     }
 
     /// A literal of a node's value, made of what stands for its operands.
+    #[tactic(auto, using(crate::proofs::Merging::if_remade))]
     pub(crate) fn remade(&mut self, node: u32) -> Result<u32, GraphRefusal>
         requires { 2 * node < limit self.old }
         ensures grown { Grown self.old self.new }

@@ -4,10 +4,11 @@ ghost use Rattle.std.specs.List.{AllByRecursion};
 ghost use Rattle.mig.specs.Graphs.{node_value, AreBelow};
 ghost use Rattle.mig.specs.Building.{IsBuilder, Grown, Gives, limit};
 
-use crate::budget::{Budget, budget_of};
+use crate::budget::budget_of;
 use crate::merged::Merged;
 use crate::sweep::{Sweep, sweep_of};
 use mig::{Graph, GraphRefusal};
+use sat_solver::Budget;
 use std::alloc::Global;
 use std::marker::Model;
 

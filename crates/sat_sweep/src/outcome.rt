@@ -18,6 +18,7 @@ use std::alloc::Global;
 
 /// What is found of the outputs of two circuits in a graph of their inputs, by its structure and by a sweep. A word at
 /// which outputs should differ is tried on the circuits.
+#[tactic(auto, using(crate::proofs::Compared::seen_difference))]
 fn compare(
     alloc: Global,
     graph: &mut Merged,

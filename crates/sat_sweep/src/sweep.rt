@@ -4,9 +4,9 @@ ghost use Rattle.std.specs.Prelude.{◌≡◌, ◌*◌, ◌<◌, ℕ, List, IfOk
 ghost use Rattle.mig.specs.Building.{Grown, limit};
 ghost use Rattle.sat_sweep.specs.Code.Least.{IsLeastWord, IsSweepResult};
 
-use crate::budget::{Budget, budget_of};
+use crate::budget::budget_of;
 use crate::classes::Classes;
-use crate::least::{least_or_none, lower};
+use crate::least::Miter;
 use crate::merged::{Merged, are_all_alike, first_unmerged};
 use crate::needed::{is_marked, needed};
 use crate::numbers::{first_node, node_limit};
@@ -15,7 +15,7 @@ use crate::sweep_result::SweepResult;
 use aq_base::{List, Memory};
 use circuit::Word;
 use mig::GraphRefusal;
-use sat_solver::{Answer, Limits, Solver};
+use sat_solver::{Answer, Budget, Limits, Solver};
 use std::alloc::Global;
 
 /// How many conflicts a search may come to, in each round. Few are enough for most nodes, and what these merge makes
@@ -186,6 +186,7 @@ impl Sweep {
     }
 
     /// Makes a node anew of what its operands were merged into, and merges it where what comes of it is another node.
+    #[tactic(auto, using(crate::proofs::Merging::stands_then))]
     fn sweep_node(
         &mut self,
         alloc: Global,
@@ -282,25 +283,15 @@ impl Sweep {
         else {
             return Ok(None);
         };
+        let miter = Miter {
+            alloc,
+            graph,
+            one,
+            other,
+        };
         let mut budget = budget_of(LEAST_CONFLICTS, node_limit(graph), LEAST_WORK);
-        lower(
-            alloc,
-            graph,
-            &mut self.solver,
-            &mut word,
-            one,
-            other,
-            &mut budget,
-        )?;
-        least_or_none(
-            alloc,
-            graph,
-            &mut self.solver,
-            word,
-            one,
-            other,
-            &mut budget,
-        )
+        miter.lower(&mut self.solver, &mut word, &mut budget)?;
+        miter.least_or_none(&mut self.solver, word, &mut budget)
     }
 }
 

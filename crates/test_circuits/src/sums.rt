@@ -1,7 +1,7 @@
 // The sample of one bit and of two, against texts that are worked by hand.
 use crate::fixtures::word;
 use aq_base::{List, MemSink};
-use sample_adder::{adder_text, print_sample, sample_words, worked_sample};
+use sample_adder::{SampleCounts, adder_text, print_sample, sample_words, worked_sample};
 use std::test::Fail;
 
 const TWO_BITS: &[u8] =
@@ -31,8 +31,14 @@ fn printed_text(rt: HostRuntime) -> Result<(), Fail> {
     let mut answers = List::new(alloc);
     answers.push(word(alloc, [false, true])?)?;
     answers.push(word(alloc, [true, false])?)?;
+    let counts = SampleCounts {
+        bits: 1,
+        rows: 6,
+        cells: 18,
+        wires: 20,
+    };
     let mut out = MemSink::new(alloc);
-    match print_sample(alloc, 1, 6, 18, 20, &answers, &mut out) {
+    match print_sample(alloc, counts, &answers, &mut out) {
         Ok(()) => {}
         Err(_) => return Err("not printed".into()),
     }

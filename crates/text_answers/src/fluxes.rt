@@ -59,24 +59,32 @@ fn add_signs(
     Ok(next)
 }
 
+/// A row at a time, and the number of its first cell.
+#[derive(Clone, Copy)]
+struct TracedRow {
+    time: u64,
+    row: u32,
+    first: usize,
+}
+
 /// Adds the line of a row at a time to the page, and answers where the next row begins.
 fn add_row(
     alloc: Global,
     cells: &[ExCell],
     run: &Run<'_>,
-    time: u64,
-    row: u32,
-    first: usize,
+    traced: TracedRow,
     page: &mut Vec<u8>,
 ) -> Result<usize, Memory>
     requires cells { cells.now ≡ run.now.circuit.cells }
     requires few { length cells.now < 2 ^ 32 }
     requires rising { IsNonDecreasingBy (λ cell. cell.row) cells.now }
-    requires first { IsRowStart cells.now row first }
+    requires first { IsRowStart cells.now traced.row traced.first }
     ensures line { IfOk result (λ next. page.new.items ≡ page.old.items
-        ++ flux_line time row (signs_in row cells.now (settled_run run.now.circuit run.now.words run.now.time))) }
-    ensures next { IfOk result (λ next. IsRowStart cells.now (row + 1) next) }
+        ++ flux_line traced.time traced.row
+        (signs_in traced.row cells.now (settled_run run.now.circuit run.now.words run.now.time))) }
+    ensures next { IfOk result (λ next. IsRowStart cells.now (traced.row + 1) next) }
 {
+    let TracedRow { time, row, first } = traced;
     let head = format!(in alloc; "{time} {row} ")?;
     page.extend_from_slice(head.as_bytes())?;
     let next = add_signs(cells, run, row, first, page)?;
@@ -101,7 +109,7 @@ fn add_rows(
     let cells = circuit.cells.as_slice();
     let mut first = 0;
     for row in 0..circuit.rows {
-        first = add_row(alloc, cells, run, time, row, first, page)?;
+        first = add_row(alloc, cells, run, TracedRow { time, row, first }, page)?;
     }
     Ok(())
 }

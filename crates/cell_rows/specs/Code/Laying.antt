@@ -1,5 +1,5 @@
 -- What is known while the cells are laid, one definition after another.
-use Rattle.std.specs.Prelude.{◌≡◌, ℕ, suc, ◌+◌, ◌-◌, ◌<◌, cond, nat_lt, false, map, List, [], ◌∷◌, length}
+use Rattle.std.specs.Prelude.{◌≡◌, ℕ, suc, ◌+◌, ◌-◌, ◌<◌, cond, nat_lt, false, map, List, [], ◌∷◌, length, take}
 use Rattle.std.specs.Prelude.{Option, Some, None, slice_get, slice_index}
 use Rattle.circuit.specs.declared.cell_kind.CellKind.TheVariants as kinds
 use Rattle.circuit.specs.declared.gate.Gate.{Gate}
@@ -7,8 +7,12 @@ use Rattle.circuit.specs.declared.gate.Gate.TheVariants as gates
 use Rattle.rowed.specs.declared.source.Source.{Source}
 use Rattle.rowed.specs.declared.row_cell.RowCell.{RowCell}
 use Rattle.rowed.specs.MadeCells.{source, cell, bare_cell, fed_cell}
-use Rattle.cell_netlist.specs.Uses.{CellView, is_name}
+use Rattle.cell_netlist.specs.Tables.{AreCounts, IsTableOf}
+use Rattle.cell_netlist.specs.Uses.{CellView, named, is_name, with_gates}
 use Rattle.cell_netlist.specs.Levels.{shown_by}
+use Rattle.cell_rows.specs.declared.places.Plan.{Plan}
+use Rattle.cell_rows.specs.declared.tabled_cells.TabledCells.{TabledCells}
+use Rattle.cell_rows.specs.Laws.{AreCells}
 use Rattle.cell_rows.specs.Members.{passing_below, listed, stands_in, place_of}
 use Rattle.cell_rows.specs.CellRows.{kind_giving, row_cell}
 
@@ -51,3 +55,32 @@ cell_with inputs from uses (gates.Buf x) =
     (fed_cell (kind_giving uses) (from x))
 cell_with inputs from uses (gates.Inv x) = fed_cell kinds.Inverter (from x)
 cell_with inputs from uses (gates.Maj x y z) = cell kinds.Majority (from x ∷ from y ∷ from z ∷ [])
+
+-- a netlist beside what is known of it, as specifications see it
+abbrev pub view_of : TabledCells → CellView
+view_of cells = with_gates cells.net.now cells.table.now.gates.items cells.three
+
+-- its table is that of the netlist
+abbrev pub IsTabled : TabledCells → Type 0
+IsTabled cells =
+    IsTableOf cells.net.now cells.table.now.gates.items cells.table.now.used.items cells.table.now.shown.items
+
+-- its levels are those of the cells
+abbrev pub AreLevelled : TabledCells → Type 0
+AreLevelled cells = AreCells (view_of cells) cells.levels.now.levels cells.levels.now.last
+
+-- the plan is that of its rows
+abbrev pub IsPlanOf : TabledCells → Plan → Type 0
+IsPlanOf cells plan = IsPlan (view_of cells) cells.levels.now.levels plan.places.items plan.shown.items
+
+-- the list tells how often definitions before definition j name each of its signals
+abbrev pub AreUsedBefore : TabledCells → List ℕ → ℕ → Type 0
+AreUsedBefore cells used j =
+    AreCounts used (cells.net.now.inputs + length cells.net.now.defs) (named (take j cells.net.now.defs))
+
+-- how many of its first n definitions stand in each row, and the rows with their cells
+abbrev pub counts_of : TabledCells → ℕ → List ℕ
+counts_of cells n = counts_to (view_of cells) cells.levels.now.levels cells.levels.now.last n
+
+abbrev pub laid_to : TabledCells → ℕ → List (List RowCell)
+laid_to cells n = rows_to (view_of cells) cells.levels.now.levels cells.levels.now.last n

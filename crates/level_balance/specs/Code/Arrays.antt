@@ -6,6 +6,7 @@ use Rattle.circuit.specs.declared.gate.Gate.{Gate}
 use Rattle.circuit.specs.declared.gate.Gate.TheVariants as gates
 use Rattle.rowed.specs.declared.source.Source.{Source}
 use Rattle.rowed.specs.declared.row_cell.RowCell.{RowCell}
+use Rattle.level_balance.specs.declared.rows.LaidRows.{LaidRows}
 use Rattle.level_balance.specs.Levels.{depth}
 use Rattle.level_balance.specs.Laying.{chain}
 
@@ -37,6 +38,10 @@ pub record Led : Type 0 where
   pub rows : List (List RowCell)
   pub ends : List Source
   pub number : ℕ
+
+-- so they are, as the code has them
+abbrev pub led_of : LaidRows → ℕ → Led
+led_of laid number = record { rows = laid.rows.items; ends = laid.ends.items; number = number }
 
 -- a leaf is led to the use of this number, unless the chain of uses has ended
 abbrev pub lead_one : List ℕ → List ℕ → ℕ → Led → Source → Led

@@ -4,9 +4,19 @@ use Rattle.circuit.specs.declared.gate.Gate.{Gate}
 use Rattle.rowed.specs.declared.source.Source.{Source}
 use Rattle.rowed.specs.declared.row_cell.RowCell.{RowCell}
 use Rattle.rowed.specs.MadeCells.{source, output_cell}
+use Rattle.level_balance.specs.declared.rows.Below.{Below}
+use Rattle.level_balance.specs.declared.rows.LaidRows.{LaidRows}
 use Rattle.level_balance.specs.Uses.{counts}
-use Rattle.level_balance.specs.Laying.{put}
+use Rattle.level_balance.specs.Laying.{put, Signals}
 use Rattle.level_balance.specs.Plan.{Frame, Laid, sources, lay_gate, lay_gates, lay_outputs}
+
+-- the sources of operands from use q on, by what stands below their gate
+abbrev pub sources_of : Below → List (List RowCell) → ℕ → List ℕ → Signals
+sources_of below rows q xs = sources below.inputs below.row below.ends.now rows q xs
+
+-- the rows so far and the number of the next use, as the code has them
+abbrev pub laid_of : LaidRows → ℕ → Laid
+laid_of laid use_at = record { rows = laid.rows.items; ends = laid.ends.items; use_at = use_at }
 
 -- the cells of a gate, if it counts
 abbrev pub lay_one : Frame → ℕ → Gate → Laid → Laid

@@ -1,7 +1,6 @@
 use Rattle.std.proofs.Common.{◌≡◌, ◌∙◌, ap, arith, length}
-use Rattle.cell_netlist.specs.Uses.{with_gates}
 use Rattle.cell_netlist.proofs.Judged.{there_of}
-use Rattle.cell_rows.specs.Code.Laying.{rows_to}
+use Rattle.cell_rows.specs.Code.Laying.{laid_to}
 use Rattle.cell_rows.proofs.net.lay_each.Goals as goal
 
 pub loop-j-init : goal.loop-j-init
@@ -37,7 +36,7 @@ overflow_cast-j-in-loop-j c =
 
 pub use_each-requires-clause-here : goal.use_each-requires-clause-here
 use_each-requires-clause-here c =
-    there_of c.args.net.now c.as_slice-def-items.result.now c.loop-j.j c.def-item.result
+    there_of c.args.cells.now.net.now c.as_slice-def-items.result.now c.loop-j.j c.def-item.result
     (c.as_slice-def-items.ensures ∙ c.defs.ensures) c.loop-j-test.true c.def-item.is
 
 pub use_each-requires-clause-used : goal.use_each-requires-clause-used
@@ -51,7 +50,5 @@ returns c =
     let long = ap length (c.as_slice-def-items.ensures ∙ c.defs.ensures) in
     let most = c.loop-j.auto.j-end in
     let least = c.loop-j-test.false in
-    let all : c.loop-j.j ≡ length c.args.net.now.defs = omega (arith, long, most, least) in
-    c.loop-j.invariant.1
-    ∙ ap (rows_to (with_gates c.args.net.now c.args.table.now.gates.items c.args.three) c.args.cells.now.levels
-    c.args.cells.now.last) all
+    let all : c.loop-j.j ≡ length c.args.cells.now.net.now.defs = omega (arith, long, most, least) in
+    c.loop-j.invariant.1 ∙ ap (laid_to c.args.cells.now) all

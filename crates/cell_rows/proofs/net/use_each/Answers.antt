@@ -7,8 +7,9 @@ loop-signal-init c = used_first _ c.args.def.now.inputs _ _ c.requires.used
 
 pub bump-requires : goal.bump-requires
 bump-requires c =
-    used_fits c.args.net.now c.args._j c.loop-signal.signal-index _ c.args.def.now c.loop-signal.used c.known.ensures
-    c.requires.here c.loop-signal.invariant (rw c.as_slice-signal-items.ensures at c.loop-signal-test.true)
+    used_fits c.args.cells.now.net.now c.args._j c.loop-signal.signal-index _ c.args.def.now c.loop-signal.used
+    c.known.ensures c.requires.here c.loop-signal.invariant
+    (rw c.as_slice-signal-items.ensures at c.loop-signal-test.true)
 
 pub loop-signal-preserved : goal.loop-signal-preserved
 loop-signal-preserved c =
@@ -21,5 +22,5 @@ returns c =
     let long = ap length c.as_slice-signal-items.ensures in
     let most = c.loop-signal.auto.signal-index-end in
     let least = c.loop-signal-test.false in
-    used_all c.args.net.now.defs c.args._j c.loop-signal.signal-index c.args.def.now _ _ c.requires.here
+    used_all c.args.cells.now.net.now.defs c.args._j c.loop-signal.signal-index c.args.def.now _ _ c.requires.here
     (omega (arith, long, most, least)) c.loop-signal.invariant

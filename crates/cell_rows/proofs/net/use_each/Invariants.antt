@@ -5,5 +5,5 @@ use Rattle.cell_rows.proofs.net.use_each.Given as goal
 
 abbrev pub invariant-loop-signal : goal.invariant-loop-signal
 invariant-loop-signal l =
-    AreCounts l.used (l.net.inputs + length l.net.defs)
-    (named (take l._j l.net.defs) ++ take l.signal-index l.def.inputs)
+    AreCounts l.used (l.fn.cells.net.now.inputs + length l.fn.cells.net.now.defs)
+    (named (take l._j l.fn.cells.net.now.defs) ++ take l.signal-index l.def.inputs)

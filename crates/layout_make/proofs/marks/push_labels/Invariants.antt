@@ -4,5 +4,5 @@ use Rattle.layout_make.specs.Code.Labelling.{port_texts}
 use Rattle.layout_make.proofs.marks.push_labels.Given as goal
 
 abbrev pub invariant-loop-port : goal.invariant-loop-port
-invariant-loop-port l = l.elements.items ≡ l.fn.elements.items ++ port_texts l.library l.ports
-    (spots_of l.row.cells.now l.row.slots.now) l.column l.y l.port
+invariant-loop-port l = l.elements.items ≡ l.fn.elements.items ++ port_texts l.library l.labels.ports
+    (spots_of l.row.cells.now l.row.slots.now) l.labels.column l.labels.y l.port

@@ -9,7 +9,7 @@ use Rattle.level_balance.proofs.laying.lay_output.Goals as goal
 
 pub source_of-requires : goal.source_of-requires
 source_of-requires c =
-    let below : c.saturating_sub-below.result ≡ pred c.args.outline.now.last = c.saturating_sub-below.ensures
+    let below : c.saturating_sub.result ≡ pred c.args.outline.now.last = c.saturating_sub.ensures
     ∙ (let z : c.args.outline.now.last - 1 ≡ pred c.args.outline.now.last = omega arith in z) in
     subst (λ (k : ℕ). HasFew (sources c.args.outline.now.inputs k c.args.ends.now c.args.rows.now.items c.args.use_at
     (c.args.output ∷ [])).rows) (sym below)
@@ -18,7 +18,7 @@ source_of-requires c =
 
 pub put-requires : goal.put-requires
 put-requires c =
-    let below : c.saturating_sub-below.result ≡ pred c.args.outline.now.last = c.saturating_sub-below.ensures
+    let below : c.saturating_sub.result ≡ pred c.args.outline.now.last = c.saturating_sub.ensures
     ∙ (let z : c.args.outline.now.last - 1 ≡ pred c.args.outline.now.last = omega arith in z) in
     subst (λ (r : List (List RowCell)). next r c.args.outline.now.last < 2 ^ 32)
     (sym (c.in_ok-source.ensures.rows

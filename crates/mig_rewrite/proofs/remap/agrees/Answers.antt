@@ -5,10 +5,11 @@ use Rattle.mig_rewrite.proofs.remap.agrees.Goals as goal
 
 pub returns-in-Some : goal.returns-in-Some
 returns-in-Some c = λ yes. record {
-  idle = c.args.x ∷ c.args.y ∷ c.args.z ∷ [];
+  idle = c.args.idle.first ∷ c.args.idle.second ∷ c.args.idle.third ∷ [];
   few = omega arith;
   computes = subst
       (λ t. Computes c.args.graph.now
-      (c.args.a ∷ c.args.b ∷ c.args.c ∷ c.args.x ∷ c.args.y ∷ c.args.z ∷ []) c.args.node t)
+      (c.args.leaves.first ∷ c.args.leaves.second ∷ c.args.leaves.third
+      ∷ c.args.idle.first ∷ c.args.idle.second ∷ c.args.idle.third ∷ []) c.args.node t)
       (eqb-true c.in-Some.found c.args.table yes) c.in-Some.ensures;
 }

@@ -1,25 +1,11 @@
-use Rattle.std.proofs.Common.{length, subst}
-use Rattle.circuit.specs.CellNets.{Reads}
-use Rattle.sat_sweep.proofs.Making.{input_given, zero_given, one_given, turned_given, if_three}
+use Rattle.sat_sweep.proofs.Making.{zero_given, one_given, if_three}
 use Rattle.sat_sweep.proofs.literals.gate_literal.Goals as goal
-
-pub returns-in-Input-clause-given : goal.returns-in-Input-clause-given
-returns-in-Input-clause-given c =
-    input_given c.args.graph.now c.args.literals.now c.args.gate c.in-Input.input c.in-Input.is
-    (subst (Reads c.args.graph.now.inputs (length c.args.literals.now)) c.in-Input.is c.requires.reads)
 
 pub returns-in-Zero-clause-given : goal.returns-in-Zero-clause-given
 returns-in-Zero-clause-given c = zero_given c.args.graph.now c.args.literals.now c.args.gate c.in-Zero.is
 
 pub returns-in-One-clause-given : goal.returns-in-One-clause-given
 returns-in-One-clause-given c = one_given c.args.graph.now c.args.literals.now c.args.gate c.in-One.is
-
-pub returns-in-Inv-clause-given : goal.returns-in-Inv-clause-given
-returns-in-Inv-clause-given c =
-    turned_given c.args.graph.now c.args.literals.now (length c.args.literals.now) c.args.gate c.in-Inv.x _ _
-    c.in-Inv.is c.requires.there
-    (subst (Reads c.args.graph.now.inputs (length c.args.literals.now)) c.in-Inv.is c.requires.reads)
-    c.literal_of-in-Inv.ensures c.turned.ensures
 
 pub returns-in-Maj-clause-given : goal.returns-in-Maj-clause-given
 returns-in-Maj-clause-given c =

@@ -1,10 +1,5 @@
-use Rattle.sat_sweep.proofs.Making.{show_outputs, outputs_within}
+use Rattle.sat_sweep.proofs.Making.{show_outputs}
 use Rattle.sat_sweep.proofs.literals.output_literals.Goals as goal
-
-pub shown-requires : goal.shown-requires
-shown-requires c =
-    outputs_within c.in_ok-literals.literals.items _ c.args.gates.now c.args.outputs.now
-    c.in_ok-literals.ensures.literals.size c.deref.ensures.value c.requires.outputs
 
 pub returns-clause-shown : goal.returns-clause-shown
 returns-clause-shown c =

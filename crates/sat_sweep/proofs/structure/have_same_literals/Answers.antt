@@ -1,21 +1,15 @@
-use Rattle.std.proofs.Common.{refl, sym, ◌∙◌, subst}
+use Rattle.std.proofs.Common.{refl}
 use Rattle.circuit.specs.CellNets.{circuit}
 use Rattle.mig.proofs.Built.{grown_same}
-use Rattle.sat_sweep.specs.Code.GateLiterals.{ShowOutputs}
 use Rattle.sat_sweep.proofs.Compared.{all_alike}
 use Rattle.sat_sweep.proofs.structure.have_same_literals.Goals as goal
 
 pub returns : goal.returns
 returns c is =
     let inputs = c.args.graph.now.inputs in
-    let mid = c.output_literals.new.graph in
     let last = c.output_literals-2.new.graph in
-    let first = subst (ShowOutputs mid c.args.gates.now c.args.outputs.now) (sym c.deref.ensures.value)
-    c.in_ok-ones.ensures.shown in
-    let second = subst (ShowOutputs last c.args.other_gates.now c.args.other_outputs.now)
-    (sym c.deref-2.ensures.value) c.in_ok-others.ensures.shown in
     all_alike (circuit inputs c.args.gates.now c.args.outputs.now)
-    (circuit inputs c.args.other_gates.now c.args.other_outputs.now) mid last last c.known.ensures
-    c.in_ok-others.ensures.grown (grown_same last last refl) c.deref.result.now c.deref-2.result.now first second
-    (second.size ∙ c.requires.outputs ∙ sym first.size) (c.are_all_alike.ensures is)
-    c.requires.first c.requires.second refl c.requires.outputs
+    (circuit inputs c.args.other_gates.now c.args.other_outputs.now) c.output_literals.new.graph last last
+    c.known.ensures c.in_ok-others.ensures.grown (grown_same last last refl) c.deref.result.now c.deref-2.result.now
+    (rw c.deref.ensures.value c.in_ok-ones.ensures.shown) (rw c.deref-2.ensures.value c.in_ok-others.ensures.shown)
+    c.requires.outputs (c.are_all_alike.ensures is) c.requires.first c.requires.second refl
