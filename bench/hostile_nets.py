@@ -4,13 +4,15 @@
     hostile_nets.py [--library LIB] [--seconds N] [--doublings N] [--short] [KIND ..]
 
 For each kind a line for each of three sizes, doubled each time: bytes, the chip or the refusal, seconds of processor
-time and megabytes at most, both over those of an ordinary netlist with as many cells; then the exponents with which
-both grow with the cells. Then what HOPELESS netlists take over the chip of a netlist a third as large. --short begins
-at half the sizes and leaves these out. KIND may be `compact`, `draw` or `hopeless`. docs/measuring.md says the kinds
-and what is wanted; the status is 1 where a figure is above. AQFP names the program. Needs GNU time."""
+time over those of an ordinary netlist with as many cells, and megabytes at most: for `compact` in bytes for each cell
+of the largest net on the way, for `draw` over those of an ordinary netlist; then the exponents with which both grow.
+Then what HOPELESS netlists take over the chip of a netlist a third as large. --short begins at half the sizes and
+leaves these out. KIND may be `compact`, `draw` or `hopeless`. docs/measuring.md says the kinds and what is wanted; the
+status is 1 where a figure is above. AQFP names the program. Needs GNU time."""
 import argparse
 import pathlib
 import random
+import re
 import sys
 import tempfile
 
@@ -186,6 +188,14 @@ class Bench:
         Run([self.path, "netlist", self.chip, self.library, stored], self.folder, self.seconds)
         return stored.read_text()
 
+    def planned_cells(self):
+        """How many cells the chip has that `build` makes of the netlist at hand, which `compact` makes on its way, or
+        comes to where there are too many, as a sixth of its elements where these are; 0 where it tells neither."""
+        run = Run([self.path, "build", self.net, self.library, self.chip], self.folder, self.seconds)
+        told = re.search(r"(\d+) (cells|elements)", run.said)
+        refused = int(told[1]) // (6 if told[2] == "elements" else 1) if told else 0
+        return run.count("cells") or refused
+
     def ordinary(self, command, counts):
         """Runs of ordinary netlists: for `draw` what `netlist` stores of their chips by `build`."""
         plain = []
@@ -207,7 +217,8 @@ class Bench:
                 print(f"{command} {name} {count}: {make[0]} made no chip to begin with", flush=True)
                 break
             run = self.ran(command, shuffled(text) if not callable(make) and make[2] else text)
-            series.add(count, run.count("cells"), f"{len(text):,} bytes", run)
+            room = max(self.planned_cells(), run.count("cells") or 0) if command == "compact" else None
+            series.add(count, run.count("cells"), f"{len(text):,} bytes", run, room)
             if run.status is None:
                 break
         return series.end()

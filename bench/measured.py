@@ -9,6 +9,7 @@ import subprocess
 TOP = pathlib.Path(__file__).resolve().parent.parent
 SHORT = 0.05  # seconds below which a time says nothing
 AGAIN = 1  # seconds up to which a run is made again
+MOST_BYTES = 2_000  # bytes that are wanted at most for a cell of the largest net on the way
 
 
 def program():
@@ -72,13 +73,15 @@ def power(first, last, sizes):
 
 
 def growth(runs, own):
-    """The exponents of time and memory from the first run to the last, of pairs of a size and a run. None stands for
-    what is too short or too small to tell."""
-    (size, first), (large, last) = runs[0], runs[-1]
-    is_told = large > size
-    time = power(first.seconds, last.seconds, (size, large)) if is_told and first.seconds >= SHORT else None
-    is_told = is_told and first.megabytes > 2 * own
-    return time, power(first.megabytes - own, last.megabytes - own, (size, large)) if is_told else None
+    """The exponents of time and memory from the first run to the last, of a size, a size that the memory goes by, and a
+    run each. None stands for what is too short or too small to tell."""
+    (size, room, first), (large, more_room, last) = runs[0], runs[-1]
+    time = memory = None
+    if large > size and first.seconds >= SHORT:
+        time = power(first.seconds, last.seconds, (size, large))
+    if more_room > 1.5 * room and first.megabytes > 2 * own:
+        memory = power(first.megabytes - own, last.megabytes - own, (room, more_room))
+    return time, memory
 
 
 def marked(figure, most, form):
@@ -96,16 +99,21 @@ class Series:
         self.most_times, self.most_memory, self.most_power = most_times, most_memory, most_power
         self.runs, self.above = [], 0
 
-    def add(self, count, size, told, run):
-        """Prints a run: what it was made of, its size as the ordinary ones count theirs, or None, and a word on it."""
+    def add(self, count, size, told, run, room=None):
+        """Prints a run: what it was made of, its size as the ordinary ones count theirs, or None, and a word on it. Its
+        memory is told in bytes for each of `room` cells, those of the largest net on the way, where they are given."""
         line = f"{self.name} {count}: {told}, {run.said[:70]}, {run.seconds:.2f} s, {run.megabytes:.1f} MB"
         if size:
             seconds, megabytes = beside(size, self.plain, self.own)
             slow, is_slow = marked(run.seconds / seconds, self.most_times, ".1f")
-            large, is_large = marked(run.megabytes / megabytes, self.most_memory, ".1f")
-            line += f"; {slow} and {large} times an ordinary one's"
+            if room:
+                each, is_large = marked(max(run.megabytes - self.own, 0) * 2**20 / room, MOST_BYTES, ",.0f")
+                line += f"; {slow} times an ordinary one's time, {each} bytes for each of {room:,} cells"
+            else:
+                large, is_large = marked(run.megabytes / megabytes, self.most_memory, ".1f")
+                line += f"; {slow} and {large} times an ordinary one's"
             self.above += is_slow + is_large
-            self.runs.append((size, run))
+            self.runs.append((size, room or size, run))
         print(line, flush=True)
 
     def end(self):
