@@ -1,8 +1,8 @@
--- Words of the index alone: its grids, its entries and spots, and where it looks.
+-- Words of the index alone: its grids and spots, and where it looks.
 pub mod Grids
 pub mod Filed
+pub mod Held
 pub mod Spots
 pub mod Windows
 pub mod Bounds
 pub mod Zones
-pub mod Chains

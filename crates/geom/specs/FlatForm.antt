@@ -59,6 +59,10 @@ flat_of layout = record {
   labels = flat_labels layout.structures (elements_at layout.structures layout.top);
 }
 
--- how many shapes and labels a flat form has together
+-- how many shapes and labels a flat form may have together, to be read
+abbrev pub shape_limit : ℕ
+shape_limit = 8000000
+
+-- how many it has together
 abbrev pub flat_count : Flat → ℕ
 flat_count flat = length flat.shapes + length flat.labels

@@ -1,5 +1,5 @@
 -- Which rectangles of a list are near one: no further from it than a margin, in x and in y.
-use Rattle.std.specs.Prelude.{◌≡◌, ℕ, ◌≤◌, List, map, slice_get, Some, All, Contains}
+use Rattle.std.specs.Prelude.{◌≡◌, ℕ, ◌<◌, ◌≤◌, List, length, map, slice_get, slice_index, Some, All, Contains}
 use Rattle.std.specs.List.Sorted.{IsStrictlyIncreasing}
 use Rattle.geom.specs.Rectangle.{Rectangle, gap_x, gap_y}
 use Rattle.geom.specs.declared.shapes.Shape.{Shape}
@@ -7,6 +7,12 @@ use Rattle.geom.specs.declared.shapes.Shape.{Shape}
 -- the rectangles of shapes, in their order
 abbrev pub rects_of : List Shape → List Rectangle
 rects_of shapes = map (λ s. s.rect) shapes
+
+-- these are the rectangles of the shapes of these numbers, in the order of the numbers
+pub record AreRectsAt (shapes : List Shape) (numbers : List ℕ) (rects : List Rectangle) : Type 0 where
+  pub long : length rects ≡ length numbers
+  pub each : (k : ℕ) (s : Shape) → k < length numbers → slice_get shapes (slice_index numbers k) ≡ Some s
+      → slice_get rects k ≡ Some s.rect
 
 -- the gap between the two is at most the margin, in x and in y
 pub record IsClose (rect other : Rectangle) (margin : ℕ) : Type 0 where

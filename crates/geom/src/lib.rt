@@ -7,7 +7,7 @@ mod layout;
 mod rectangle;
 mod shapes;
 
-pub use index::{Buckets, file_shapes};
+pub use index::{Buckets, file_numbered, file_shapes};
 pub use laws::{first_chip_flat, first_chip_is_writable};
 pub use layout::{Element, Layout, Structure};
 pub use rectangle::{

@@ -145,6 +145,11 @@ pub read_through : (test : Shape → Bool) (shapes : List Shape) (ns : List ℕ)
     → passes_in test (slice_get shapes (get_or ns k 0)) ≡ b
 read_through test shapes ns k s b lt within is e = ap (passes_in test) (read_at shapes (get_or ns k 0) s within is) ∙ e
 
+-- and as it was got
+pub got_through : (test : Shape → Bool) (shapes : List Shape) (n : ℕ) (s : Shape) (b : Bool)
+    → slice_get shapes n ≡ Some s → test s ≡ b → passes_in test (slice_get shapes n) ≡ b
+got_through test shapes n s b is e = ap (passes_in test) is ∙ e
+
 -- ---- shapes of no group
 
 no_group : (l v u ol ov ou share gaps : Bool) → ((l || v) || u) ≡ false
@@ -163,6 +168,11 @@ no_group_none limits shapes a s got other b h =
     (not (share_point s.rect h.1.second.rect)) (nat_lt (gap_x s.rect h.1.second.rect) limits.space
     && nat_lt (gap_y s.rect h.1.second.rect) limits.space) other)
     (sym (ap (λ (t : Shape). are_too_close limits.space t h.1.second) first) ∙ h.1.passes_so)
+
+-- the shapes of the first n numbers
+pub record AreAtTo (n : ℕ) (shapes : List Shape) (numbers : List ℕ) (some : List Shape) : Type 0 where
+  pub long : length some ≡ n
+  pub each : (k : ℕ) → k < n → slice_get some k ≡ slice_get shapes (slice_index numbers k)
 
 -- the first n shapes are proper
 abbrev pub HaveSidesTo : ℕ → List Shape → Type 0

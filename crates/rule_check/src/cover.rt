@@ -16,7 +16,7 @@ use aq_base::Memory;
 use geom::{Rect, Shape, is_within, overlaps};
 use layout_rules::layers::M1;
 use shape_extract::{
-    FiledShapes, Part, Plane, Planes, Report, first_of, is_frame, is_pin, is_upper, is_via,
+    FiledShapes, Kinds, Part, Plane, Planes, Report, first_of, is_frame, is_pin, is_upper, is_via,
 };
 use std::alloc::Global;
 
@@ -64,12 +64,12 @@ fn is_at_pin_of(metal: &Shape, frame: &Shape, pin: &Shape) -> bool
 }
 
 /// Whether one of these shapes is a pin of the frame that holds all that the metal has in common with the frame.
-fn has_pin(shapes: &[Shape], numbers: &[u32], metal: &Shape, frame: &Shape) -> bool
-    requires { AreWithin shapes.now numbers.now }
-    ensures { result ≡ any_at (is_at_pin_of metal.now frame.now) shapes.now numbers.now }
+fn has_pin(kinds: &Kinds, numbers: &[u32], metal: &Shape, frame: &Shape) -> bool
+    requires { AreWithin kinds.now numbers.now }
+    ensures { result ≡ any_at (is_at_pin_of metal.now frame.now) kinds.now numbers.now }
 {
     for number in numbers {
-        if is_at_pin_of(metal, frame, &shapes[*number as usize]) {
+        if is_at_pin_of(metal, frame, kinds.get(*number)) {
             return true;
         }
     }
@@ -77,23 +77,23 @@ fn has_pin(shapes: &[Shape], numbers: &[u32], metal: &Shape, frame: &Shape) -> b
 }
 
 /// Whether the shape trespasses on the frame, by the pins near the shape.
-fn trespasses(shapes: &[Shape], pins: &[u32], s: &Shape, frame: &Shape) -> bool
-    requires { AreWithin shapes.now pins.now }
-    ensures { result ≡ trespasses_by shapes.now pins.now s.now frame.now }
+fn trespasses(kinds: &Kinds, pins: &[u32], s: &Shape, frame: &Shape) -> bool
+    requires { AreWithin kinds.now pins.now }
+    ensures { result ≡ trespasses_by kinds.now pins.now s.now frame.now }
 {
     is_frame(frame)
         && overlaps(&s.rect, &frame.rect)
-        && (is_via(s) || is_upper(s) || (s.layer == M1 && !has_pin(shapes, pins, s, frame)))
+        && (is_via(s) || is_upper(s) || (s.layer == M1 && !has_pin(kinds, pins, s, frame)))
 }
 
 /// The first of these frames on which the shape trespasses, by the pins near it.
-fn first_trespass(shapes: &[Shape], frames: &[u32], pins: &[u32], s: &Shape) -> Option<u32>
-    requires frames { AreWithin shapes.now frames.now }
-    requires pins { AreWithin shapes.now pins.now }
-    ensures { FindsTrespass shapes.now frames.now pins.now s.now result }
+fn first_trespass(kinds: &Kinds, frames: &[u32], pins: &[u32], s: &Shape) -> Option<u32>
+    requires frames { AreWithin kinds.now frames.now }
+    requires pins { AreWithin kinds.now pins.now }
+    ensures { FindsTrespass kinds.now frames.now pins.now s.now result }
 {
     for number in frames {
-        if trespasses(shapes, pins, s, &shapes[*number as usize]) {
+        if trespasses(kinds, pins, s, kinds.get(*number)) {
             return Some(*number);
         }
     }
@@ -113,16 +113,16 @@ fn may_trespass(s: &Shape) -> bool
 /// The first frame on which the shape of this number trespasses.
 fn find_trespass(
     alloc: Global,
-    shapes: &[Shape],
+    kinds: &Kinds,
     planes: &Planes,
     a: u32,
     found: &mut Vec<u32>,
 ) -> Result<Option<u32>, Memory>
-    requires filed { ArePlanes shapes.now planes.now }
-    requires within { a < length shapes.now }
-    ensures { IfOk result (FindsAt (CoverBroken shapes.now) a) }
+    requires filed { ArePlanes kinds.now planes.now }
+    requires within { a < length kinds.now }
+    ensures { IfOk result (FindsAt (CoverBroken kinds.now) a) }
 {
-    let s = &shapes[a as usize];
+    let s = kinds.get(a);
     if !may_trespass(s) {
         return Ok(None);
     }
@@ -134,7 +134,7 @@ fn find_trespass(
     }
     let mut pins = Vec::with_capacity(alloc, FEW)?;
     planes.list_near(Plane::Pins, &s.rect, 0, &mut pins)?;
-    let frame = first_trespass(shapes, frames, pins.as_slice(), s);
+    let frame = first_trespass(kinds, frames, pins.as_slice(), s);
     Ok(frame)
 }
 
@@ -142,23 +142,23 @@ fn find_trespass(
 #[derive(Drop)]
 struct Cover<'a> {
     alloc: Global,
-    shapes: &'a [Shape],
+    kinds: &'a Kinds<'a>,
     planes: &'a Planes,
 }
 
 impl<'a> Part for Cover<'a> {
-    ghost valid = { λ s. (length s.shapes.now < 2 ^ 32) × ArePlanes s.shapes.now s.planes.now };
+    ghost valid = { λ s. (length s.kinds.now < 2 ^ 32) × ArePlanes s.kinds.now s.planes.now };
 
-    ghost count = { λ s. length s.shapes.now };
+    ghost count = { λ s. length s.kinds.now };
 
-    ghost reported = { λ s. CoverBroken s.shapes.now };
+    ghost reported = { λ s. CoverBroken s.kinds.now };
 
     fn count(&self) -> u32 {
-        self.shapes.len() as u32
+        self.kinds.count() as u32
     }
 
     fn second(&self, a: u32, found: &mut Vec<u32>) -> Result<Option<u32>, Memory> {
-        find_trespass(self.alloc, self.shapes, self.planes, a, found)
+        find_trespass(self.alloc, self.kinds, self.planes, a, found)
     }
 }
 
@@ -171,11 +171,12 @@ pub fn find_cover(
     requires { IsSheet shapes.now sheet.now }
     ensures { IfOk result (Finds (CoverBroken shapes.now)) }
 {
+    let kinds = sheet.kinds.among(shapes);
     let found = first_of(
         alloc,
         &Cover {
             alloc,
-            shapes: sheet.kinds.shapes.as_slice(),
+            kinds: &kinds,
             planes: &sheet.planes,
         },
     )?;

@@ -16,7 +16,7 @@ use aq_base::Memory;
 use geom::{Rect, Shape};
 use layout_rules::layers::{M1, M2};
 use shape_extract::{
-    FiledShapes, PairTest, Part, Plane, Planes, Report, first_of, is_via, list_passing,
+    FiledShapes, Kinds, PairTest, Part, Plane, Planes, Report, first_of, is_via, list_passing,
 };
 use std::alloc::Global;
 
@@ -70,36 +70,36 @@ impl PairTest for Encloses {
 
 /// Whether a shape of the layer, which lies in the plane, reaches past this one by the margin.
 fn is_covered(
-    shapes: &[Shape],
+    kinds: &Kinds,
     planes: &Planes,
     plane: Plane,
     test: &Encloses,
     via: &Shape,
     found: &mut Vec<u32>,
 ) -> Result<bool, Memory>
-    requires filed { ArePlanes shapes.now planes.now }
+    requires filed { ArePlanes kinds.now planes.now }
     requires planar { (s : Shape) → (s.layer == test.now.layer) ≡ true → in_plane plane s ≡ true }
-    ensures { IfOk result (λ answer. answer ≡ is_covered shapes.now test.now.layer
+    ensures { IfOk result (λ answer. answer ≡ is_covered kinds.now test.now.layer
         (grown test.now.margin via.now.rect)) }
 {
-    list_passing(test, plane, via, shapes, planes, found)?;
+    list_passing(test, plane, via, kinds, planes, found)?;
     let covers = found.as_slice();
     Ok(!covers.is_empty())
 }
 
 /// Whether the shape of this number is a via whose margin is not within one shape of each metal.
 fn is_bare(
-    shapes: &[Shape],
+    kinds: &Kinds,
     planes: &Planes,
     enclose: u64,
     v: u32,
     found: &mut Vec<u32>,
 ) -> Result<bool, Memory>
-    requires filed { ArePlanes shapes.now planes.now }
-    requires within { v < length shapes.now }
-    ensures { IfOk result (IsAnswerAt shapes.now v (is_bare_by enclose shapes.now)) }
+    requires filed { ArePlanes kinds.now planes.now }
+    requires within { v < length kinds.now }
+    ensures { IfOk result (IsAnswerAt kinds.now v (is_bare_by enclose kinds.now)) }
 {
-    let via = &shapes[v as usize];
+    let via = kinds.get(v);
     if !is_via(via) {
         return Ok(false);
     }
@@ -111,32 +111,32 @@ fn is_bare(
         layer: M2,
         margin: enclose,
     };
-    let below = is_covered(shapes, planes, Plane::Lower, &lower, via, found)?;
-    let above = is_covered(shapes, planes, Plane::Upper, &upper, via, found)?;
+    let below = is_covered(kinds, planes, Plane::Lower, &lower, via, found)?;
+    let above = is_covered(kinds, planes, Plane::Upper, &upper, via, found)?;
     Ok(!(below && above))
 }
 
 /// Vias that metal does not enclose.
 #[derive(Drop)]
 struct Enclosure<'a> {
-    shapes: &'a [Shape],
+    kinds: &'a Kinds<'a>,
     planes: &'a Planes,
     limits: &'a Limits,
 }
 
 impl<'a> Part for Enclosure<'a> {
-    ghost valid = { λ s. (length s.shapes.now < 2 ^ 32) × ArePlanes s.shapes.now s.planes.now };
+    ghost valid = { λ s. (length s.kinds.now < 2 ^ 32) × ArePlanes s.kinds.now s.planes.now };
 
-    ghost count = { λ s. length s.shapes.now };
+    ghost count = { λ s. length s.kinds.now };
 
-    ghost reported = { λ s. EnclosureBroken (limits_seen s.limits.now) s.shapes.now };
+    ghost reported = { λ s. EnclosureBroken (limits_seen s.limits.now) s.kinds.now };
 
     fn count(&self) -> u32 {
-        self.shapes.len() as u32
+        self.kinds.count() as u32
     }
 
     fn second(&self, a: u32, found: &mut Vec<u32>) -> Result<Option<u32>, Memory> {
-        if is_bare(self.shapes, self.planes, self.limits.enclose, a, found)? {
+        if is_bare(self.kinds, self.planes, self.limits.enclose, a, found)? {
             return Ok(Some(a));
         }
         Ok(None)
@@ -153,10 +153,11 @@ pub fn find_bare(
     requires { IsSheet shapes.now sheet.now }
     ensures { IfOk result (Finds (EnclosureBroken (limits_seen limits.now) shapes.now)) }
 {
+    let kinds = sheet.kinds.among(shapes);
     let found = first_of(
         alloc,
         &Enclosure {
-            shapes: sheet.kinds.shapes.as_slice(),
+            kinds: &kinds,
             planes: &sheet.planes,
             limits,
         },

@@ -6,6 +6,7 @@ ghost use Rattle.geom.specs.Rectangle.{meet_y};
 ghost use Rattle.layout_rules.specs.GeometryRules.{collide, FramesBroken};
 ghost use Rattle.layout_rules.specs.Layers.{is_frame};
 ghost use Rattle.layout_rules.specs.Reports.{Passes};
+ghost use Rattle.shape_extract.specs.Distinct.{AreAt};
 ghost use Rattle.shape_extract.specs.Searches.{AreThose, Finds, FindsAt};
 ghost use Rattle.rule_check.specs.Code.Cover.{any_at};
 ghost use Rattle.rule_check.specs.Code.Bands.{band_of, AreBands, collide_across, CollidesWithNone};
@@ -14,7 +15,7 @@ ghost use Rattle.rule_check.specs.Code.FiledRows.{AreFiledRows};
 use crate::sheet::named;
 use aq_base::{List, Memory};
 use geom::{Buckets, Rect, Shape, file_shapes, overlaps};
-use shape_extract::{PairTest, Part, Report, first_of, is_frame, list_partners, shapes_at};
+use shape_extract::{PairTest, Part, Report, first_of, is_frame, list_partners};
 use std::alloc::Global;
 
 fn meets_in_y(a: &Rect, b: &Rect) -> bool
@@ -244,6 +245,18 @@ fn frame_numbers(alloc: Global, shapes: &[Shape]) -> Result<Vec<u32>, Memory>
         }
     }
     Ok(numbers)
+}
+
+/// The shapes of these numbers, in their order.
+fn shapes_at(alloc: Global, shapes: &[Shape], numbers: &[u32]) -> Result<Vec<Shape>, Memory>
+    requires { All (λ n. n < length shapes.now) numbers.now }
+    ensures { IfOk result (λ some. AreAt shapes.now numbers.now some.items) }
+{
+    let mut some = Vec::with_capacity(alloc, numbers.len())?;
+    for number in numbers {
+        some.push(shapes[*number as usize])?;
+    }
+    Ok(some)
 }
 
 /// The first two frames that collide.

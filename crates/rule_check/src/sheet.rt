@@ -1,17 +1,17 @@
 // The shapes of a layout by kinds: what all keep, and what is reported of the kinds.
-ghost use Rattle.std.specs.Prelude.{◌≡◌, length};
+ghost use Rattle.std.specs.Prelude.{◌≡◌, ◌<◌, ◌^◌, length};
 ghost use Rattle.rule_check.specs.Code.Named.{HasPlaces, named};
 ghost use Rattle.rule_check.specs.Code.Sheets.{HaveSides};
 
-use geom::Shape;
-use shape_extract::Report;
+use shape_extract::{Kinds, Report};
 
-/// What all shapes keep: each has a positive width and a positive height. It does nothing else.
-pub fn known(shapes: &[Shape])
-    ensures { HaveSides shapes.now }
+/// What all kinds keep: each has a positive width and a positive height. It does nothing else.
+pub fn known(kinds: &Kinds)
+    requires { length kinds.now < 2 ^ 32 }
+    ensures { HaveSides kinds.now }
 {
-    for shape in shapes {
-        shape.rect.known();
+    for place in 0..kinds.count() {
+        kinds.get(place as u32).rect.known();
     }
 }
 

@@ -14,8 +14,8 @@ use crate::sheet::{known, named};
 use aq_base::Memory;
 use geom::{Shape, gap_x, gap_y, touches};
 use shape_extract::{
-    FiledShapes, PairTest, Part, Plane, Planes, Report, first_of, is_lower, is_upper, is_via,
-    list_passing,
+    FiledShapes, Kinds, PairTest, Part, Plane, Planes, Report, first_of, is_lower, is_upper,
+    is_via, list_passing,
 };
 use std::alloc::Global;
 
@@ -78,24 +78,24 @@ pub fn first_above(numbers: &[u32], a: u32) -> Option<u32>
 /// Shapes that stand too close, each pair at its lesser number.
 #[derive(Drop)]
 struct Spacing<'a> {
-    shapes: &'a [Shape],
+    kinds: &'a Kinds<'a>,
     planes: &'a Planes,
     limits: &'a Limits,
 }
 
 impl<'a> Part for Spacing<'a> {
-    ghost valid = { λ s. IsFiledWith s.limits.now.space s.shapes.now s.planes.now };
+    ghost valid = { λ s. IsFiledWith s.limits.now.space s.kinds.now s.planes.now };
 
-    ghost count = { λ s. length s.shapes.now };
+    ghost count = { λ s. length s.kinds.now };
 
-    ghost reported = { λ s. SpacingBroken (limits_seen s.limits.now) s.shapes.now };
+    ghost reported = { λ s. SpacingBroken (limits_seen s.limits.now) s.kinds.now };
 
     fn count(&self) -> u32 {
-        self.shapes.len() as u32
+        self.kinds.count() as u32
     }
 
     fn second(&self, a: u32, found: &mut Vec<u32>) -> Result<Option<u32>, Memory> {
-        let first = &self.shapes[a as usize];
+        let first = self.kinds.get(a);
         let Some(group) = group_of(first) else {
             return Ok(None);
         };
@@ -104,7 +104,7 @@ impl<'a> Part for Spacing<'a> {
             &TooClose { space },
             group,
             first,
-            self.shapes,
+            self.kinds,
             self.planes,
             found,
         )?;
@@ -125,12 +125,12 @@ pub fn find_close(
     requires space_most { limits.now.space ≤ 1000000 }
     ensures { IfOk result (Finds (SpacingBroken (limits_seen limits.now) shapes.now)) }
 {
-    let filed = sheet.kinds.shapes.as_slice();
-    known(filed);
+    let kinds = sheet.kinds.among(shapes);
+    known(&kinds);
     let found = first_of(
         alloc,
         &Spacing {
-            shapes: filed,
+            kinds: &kinds,
             planes: &sheet.planes,
             limits,
         },

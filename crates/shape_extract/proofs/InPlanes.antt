@@ -6,10 +6,10 @@ use Rattle.std.specs.List.{filter}
 use Rattle.std.proofs.Math.ListN.{get_or-append, length-append, length-set}
 use Rattle.std.proofs.lemmas.Bool.{cases_eq, cases_lt, and_from, and_parts, eqb-true, or_cases}
 use Rattle.std.proofs.lemmas.Grind.{get_or_default_zero}
-use Rattle.std.proofs.lemmas.List.{get_or-append-add, get_or-set_same, get_or-set_other, length-map}
+use Rattle.std.proofs.lemmas.List.{get_or-append-add, get_or-set_same, get_or-set_other}
 use Rattle.std.proofs.lemmas.Option.{same_Some, slice_get_within}
 use Rattle.geom.specs.Rectangle.{Rectangle, IsProper, AreProper}
-use Rattle.geom.specs.Near.{rects_of, IsClose, IsNear, AreNear}
+use Rattle.geom.specs.Near.{IsClose, IsNear, AreNear}
 use Rattle.geom.specs.declared.shapes.Shape.{Shape}
 use Rattle.geom.specs.Rectangle.{holds_point, overlap, share_point, within}
 use Rattle.geom.specs.declared.shapes.Label.{Label}
@@ -27,10 +27,9 @@ use Rattle.shape_extract.proofs.Sharing.{sharing_close}
 use Rattle.shape_extract.specs.Code.Walk.{AreTouching, touches_in}
 use Rattle.shape_extract.specs.declared.planes.FiledPlane.{FiledPlane}
 use Rattle.shape_extract.specs.Searches.{AreThose, passes_in, passes_at}
-use Rattle.shape_extract.specs.Distinct.{AreAt}
 use Rattle.shape_extract.specs.Passing.{PassesIn}
 use Rattle.shape_extract.specs.Planes.{in_plane, IsPlane, AreNamed, IsNearIn, AreNearIn}
-use Rattle.shape_extract.proofs.Partners.{rect_at, those_near, passes_here, holding_share}
+use Rattle.shape_extract.proofs.Partners.{those_near, passes_here, holding_share}
 
 -- ---- numbers in the stead of places
 
@@ -69,14 +68,13 @@ named_same n numbers places found are past = record {
 -- ---- what a query of a plane finds
 
 module _ (plane : Plane) (shapes : List Shape) (filed : FiledPlane) (is : IsPlane plane shapes filed)
-    (rect : Rectangle) (margin : ℕ) (near found : List ℕ) (are : AreNear (rects_of is.some) rect margin near)
-    (named : AreNamed filed.numbers.items near found) (proper : AreProper (rects_of is.some)) where
+    (rect : Rectangle) (margin : ℕ) (near found : List ℕ) (are : AreNear filed.index rect margin near)
+    (named : AreNamed filed.numbers.items near found) (proper : AreProper filed.index) where
   place_within : (k : ℕ) → k < length near → slice_index near k < length filed.numbers.items
   place_within k lt = (let at = are.each k 0 lt in omega (
     arith,
-    slice_get_within (rects_of is.some) (slice_index near k) at.other at.other_is,
-    length-map is.some (λ (t : Shape). t.rect),
-    is.at.long,
+    slice_get_within filed.index (slice_index near k) at.other at.other_is,
+    is.index.long,
   ))
 
   -- a shape of the plane has a place in it
@@ -84,9 +82,9 @@ module _ (plane : Plane) (shapes : List Shape) (filed : FiledPlane) (is : IsPlan
       → (p : ℕ) × ((p < length filed.numbers.items) × (slice_index filed.numbers.items p ≡ n))
   own_place n s at in_it = is.those.complete n (record { item = s; item_is = at; passes_so = in_it })
 
-  shape_there : (n p : ℕ) (s : Shape) → slice_get shapes n ≡ Some s → p < length filed.numbers.items
-      → slice_index filed.numbers.items p ≡ n → slice_get is.some p ≡ Some s
-  shape_there n p s at lt e = is.at.each p lt ∙ (ap (slice_get shapes) e ∙ at)
+  rect_there : (n p : ℕ) (s : Shape) → slice_get shapes n ≡ Some s → p < length filed.numbers.items
+      → slice_index filed.numbers.items p ≡ n → slice_get filed.index p ≡ Some s.rect
+  rect_there n p s at lt e = is.index.each p s lt (ap (slice_get shapes) e ∙ at)
 
   found_within : (k : ℕ) → k < length found → slice_index found k < length shapes
   found_within k lt =
@@ -103,11 +101,10 @@ module _ (plane : Plane) (shapes : List Shape) (filed : FiledPlane) (is : IsPlan
       let place = slice_index near k in
       let number = slice_index filed.numbers.items place in
       let p : PassesIn (in_plane plane) shapes number = is.those.each place (place_within k lk) in
-      let there : slice_get is.some place ≡ Some p.item =
-      shape_there number place p.item p.item_is (place_within k lk) refl in
-      let at : IsNear (rects_of is.some) rect margin place = are.each k 0 lk in
-      let same : at.other ≡ p.item.rect =
-      same_Some at.other p.item.rect (sym at.other_is ∙ rect_at is.some place p.item there) in
+      let there : slice_get filed.index place ≡ Some p.item.rect =
+      rect_there number place p.item p.item_is (place_within k lk) refl in
+      let at : IsNear filed.index rect margin place = are.each k 0 lk in
+      let same : at.other ≡ p.item.rect = same_Some at.other p.item.rect (sym at.other_is ∙ there) in
       let near_so : IsNearIn plane shapes rect margin number = record {
         shape = p.item;
         shape_is = p.item_is;
@@ -130,10 +127,10 @@ module _ (plane : Plane) (shapes : List Shape) (filed : FiledPlane) (is : IsPlan
         omega (arith, is.those.rising (slice_index near k) (slice_index near (k + 1)) less (place_within (k + 1) lk));
     proper = λ n s at in_it.
         let p = own_place n s at in_it in
-        proper p.0 s.rect (rect_at is.some p.0 s (shape_there n p.0 s at p.1.0 p.1.1));
+        proper p.0 s.rect (rect_there n p.0 s at p.1.0 p.1.1);
     complete = λ n s at in_it close.
         let p = own_place n s at in_it in
-        let there = rect_at is.some p.0 s (shape_there n p.0 s at p.1.0 p.1.1) in
+        let there = rect_there n p.0 s at p.1.0 p.1.1 in
         let c : Contains near p.0 = are.complete p.0 (record { other = s.rect; other_is = there; close = close }) in
         let same : slice_index near c.0 ≡ p.0 = sym (get_or_default_zero near c.0 p.0 c.1) ∙ c.2 in
         let lf : c.0 < length found = omega (arith, named.long, c.1) in (
@@ -341,17 +338,26 @@ place_below numbers rising zero lt = omega arith
 place_below numbers rising (suc k) lt =
     omega (arith, place_below numbers rising k (omega arith), rising k (suc k) (omega arith) lt)
 
-pub few_in_plane : (test : Shape → Bool) (shapes : List Shape) (numbers : List ℕ) (some : List Shape)
-    → AreThose (PassesIn test shapes) numbers → AreAt shapes numbers some → length some ≤ length shapes
-few_in_plane test shapes numbers some those at = by_length (length numbers) refl
+pub few_in_plane : (test : Shape → Bool) (shapes : List Shape) (numbers : List ℕ)
+    → AreThose (PassesIn test shapes) numbers → length numbers ≤ length shapes
+few_in_plane test shapes numbers those = by_length (length numbers) refl
   where
-    by_length : (n : ℕ) → length numbers ≡ n → length some ≤ length shapes
-    by_length zero e = omega (arith, at.long)
+    by_length : (n : ℕ) → length numbers ≡ n → length numbers ≤ length shapes
+    by_length zero e = omega arith
     by_length (suc n) e =
         let p : PassesIn test shapes (slice_index numbers n) = those.each n (omega arith) in
         omega (
           arith,
-          at.long,
           place_below numbers those.rising n (omega arith),
           slice_get_within shapes (slice_index numbers n) p.item p.item_is,
         )
+
+pub below_all : (test : Shape → Bool) (shapes : List Shape) (numbers : List ℕ)
+    → AreThose (PassesIn test shapes) numbers → All (λ n. n < length shapes) numbers
+below_all test shapes numbers those k d lt =
+    let p : PassesIn test shapes (slice_index numbers k) = those.each k lt in
+    omega (
+      arith,
+      get_or_default_zero numbers k d lt,
+      slice_get_within shapes (slice_index numbers k) p.item p.item_is,
+    )

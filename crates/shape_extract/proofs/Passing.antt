@@ -21,6 +21,16 @@ fails_here test xs n x is e pass =
     let same : x ≡ pass.item = is ∙ get_or_from_slice_get xs n pass.item x pass.item_is in
     both_ways (test x) e (ap test same ∙ pass.passes_so)
 
+-- of an item that was got at this number
+pub passes_got : {X : Type 0} (test : X → Bool) (xs : List X) (n : ℕ) (x : X) → slice_get xs n ≡ Some x
+    → test x ≡ true → PassesIn test xs n
+passes_got test xs n x is e = record { item = x; item_is = is; passes_so = e }
+
+pub fails_got : {X : Type 0} (test : X → Bool) (xs : List X) (n : ℕ) (x : X) → slice_get xs n ≡ Some x
+    → test x ≡ false → PassesIn test xs n → ⊥
+fails_got test xs n x is e pass =
+    both_ways (test x) e (ap test (same_Some x pass.item (sym is ∙ pass.item_is)) ∙ pass.passes_so)
+
 module _ {X : Type 0} (test : X → Bool) (xs : List X) (found : List ℕ) (are : AreThose (PassesIn test xs) found) where
   -- where one number is found, one item passes
   pub counted_one : length found ≡ 1 → count_by test xs ≡ 1

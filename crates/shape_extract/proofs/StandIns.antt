@@ -1,14 +1,19 @@
 -- Of equal shapes the least number stands for all.
-use Rattle.std.proofs.Common.{◌≡◌, ℕ, suc, ◌+◌, ◌<◌, ◌≤◌, List, [], ◌∷◌, ◌++◌, length, refl, sym}
-use Rattle.std.proofs.Common.{ap, subst, ◌∙◌, arith, inl, inr}
-use Rattle.std.specs.Prelude.{slice_get, slice_index}
+use Rattle.std.proofs.Common.{◌≡◌, ℕ, zero, suc, ◌+◌, ◌<◌, ◌≤◌, List, [], ◌∷◌, ◌++◌, length, refl, sym}
+use Rattle.std.proofs.Common.{Some, ap, subst, ◌∙◌, arith, inl, inr}
+use Rattle.std.specs.Prelude.{All, Option, slice_get, slice_index}
 use Rattle.std.proofs.Math.ListN.{get_or-append, length-append}
 use Rattle.std.proofs.Math.Seq.{get_or-append_seam}
 use Rattle.std.proofs.lemmas.Bool.{cases_eq, cases_lt}
+use Rattle.std.proofs.lemmas.Grind.{get_or_default_zero}
+use Rattle.geom.specs.Near.{AreRectsAt}
+use Rattle.geom.specs.Rectangle.{Rectangle}
 use Rattle.geom.specs.declared.shapes.Shape.{Shape}
-use Rattle.shape_extract.specs.Distinct.{AreAt, StandsFor, ArePlaces}
+use Rattle.shape_extract.specs.Distinct.{AreAt, StandsFor, ArePlaces, kinds_at, with_first}
 use Rattle.shape_extract.specs.Code.DistinctShapes.{AreLeast, AreOwn}
 use Rattle.shape_extract.specs.Distinct.{IsDistinct}
+use Rattle.shape_extract.specs.Planes.{AreNamed}
+use Rattle.shape_extract.proofs.Each.{item_at}
 use Rattle.shape_extract.proofs.LeastHeads.{own_first}
 
 -- ---- the shapes of numbers
@@ -16,6 +21,61 @@ use Rattle.shape_extract.proofs.LeastHeads.{own_first}
 pub record AreAtTo (n : ℕ) (shapes : List Shape) (numbers : List ℕ) (some : List Shape) : Type 0 where
   pub long : length some ≡ n
   pub each : (k : ℕ) → k < n → slice_get some k ≡ slice_get shapes (slice_index numbers k)
+
+first_got : (shapes : List Shape) (n : ℕ) (ns : List ℕ) (s : Shape) → slice_get shapes n ≡ Some s
+    → kinds_at shapes (n ∷ ns) ≡ s ∷ kinds_at shapes ns
+unfolding kinds_at
+first_got shapes n ns s is = ap (λ (got : Option Shape). with_first got (kinds_at shapes ns)) is
+
+pub kinds_are_at : (shapes : List Shape) (numbers : List ℕ)
+    → ((k : ℕ) → k < length numbers → slice_index numbers k < length shapes)
+    → AreAt shapes numbers (kinds_at shapes numbers)
+unfolding kinds_at
+kinds_are_at shapes [] within = record { long = refl; each = λ k lt. absurd (omega arith) }
+kinds_are_at shapes (n ∷ ns) within =
+    let got : (s : Shape) × (slice_get shapes n ≡ Some s) = item_at shapes n (within 0 (omega arith)) in
+    let rest : AreAt shapes ns (kinds_at shapes ns) = kinds_are_at shapes ns (λ k lt. within (suc k) (omega arith)) in
+    rw (first_got shapes n ns got.0 got.1) (more got.0 got.1 rest)
+  where
+    more : (s : Shape) → slice_get shapes n ≡ Some s → AreAt shapes ns (kinds_at shapes ns)
+        → AreAt shapes (n ∷ ns) (s ∷ kinds_at shapes ns)
+    more s is rest = record { long = omega (arith, rest.long); each = each_so }
+      where
+        each_so : (k : ℕ) → k < length (n ∷ ns)
+            → slice_get (s ∷ kinds_at shapes ns) k ≡ slice_get shapes (slice_index (n ∷ ns) k)
+        each_so zero lt = sym is
+        each_so (suc k) lt = rest.each k (omega arith)
+
+-- the rectangles of the shapes of the numbers at some places are those of the shapes at the places
+pub rects_at_places : (shapes : List Shape) (numbers places named : List ℕ) (rects : List Rectangle)
+    → ((k : ℕ) → k < length numbers → slice_index numbers k < length shapes)
+    → All (λ p. p < length (kinds_at shapes numbers)) places → AreNamed numbers places named
+    → AreRectsAt shapes named rects → AreRectsAt (kinds_at shapes numbers) places rects
+rects_at_places shapes numbers places named rects below within are at =
+    let all : AreAt shapes numbers (kinds_at shapes numbers) = kinds_are_at shapes numbers below in
+    record {
+      long = at.long ∙ are.long;
+      each = λ k s lt is.
+          let place : slice_index places k < length numbers = omega (arith, all.long, within k 0 lt) in
+          at.each k s (omega (arith, are.long)) (ap (slice_get shapes) (are.each k lt place)
+          ∙ (sym (all.each (slice_index places k) place) ∙ is));
+    }
+
+-- and their numbers are those of shapes
+pub named_within : (shapes : List Shape) (numbers places named : List ℕ)
+    → ((k : ℕ) → k < length numbers → slice_index numbers k < length shapes)
+    → All (λ p. p < length (kinds_at shapes numbers)) places → AreNamed numbers places named
+    → All (λ n. n < length shapes) named
+named_within shapes numbers places named below within are k d lt =
+    let lk : k < length places = omega (arith, are.long) in
+    let place : slice_index places k < length numbers = omega
+    (arith, (kinds_are_at shapes numbers below).long, within k 0 lk) in
+    omega (
+      arith,
+      get_or_default_zero named k d lt,
+      are.each k lk place,
+      below (slice_index places k) place,
+    )
 
 -- ---- what stands for a shape
 
@@ -113,11 +173,11 @@ module _ (n : ℕ) (shapes : List Shape) (numbers places : List ℕ) (are : Plac
     ];
   }
 
-pub distinct_from : (shapes : List Shape) (heads numbers places : List ℕ) (some : List Shape)
-    → AreLeast shapes heads → AreOwn heads numbers → ArePlaces shapes numbers places → AreAt shapes numbers some
-    → IsDistinct shapes numbers some
-distinct_from shapes heads numbers places some least own are at = record {
-  those = at;
+pub distinct_from : (shapes : List Shape) (heads numbers places : List ℕ)
+    → AreLeast shapes heads → AreOwn heads numbers → ArePlaces shapes numbers places
+    → IsDistinct shapes numbers (kinds_at shapes numbers)
+distinct_from shapes heads numbers places least own are = record {
+  those = kinds_are_at shapes numbers are.below;
   within = are.below;
   rising = are.rising;
   first = λ k lt. own_first shapes heads (slice_index numbers k) least (are.below k lt) (own k lt);

@@ -1,5 +1,6 @@
 -- Shapes without their repetitions: of equal ones the first stands for all.
-use Rattle.std.specs.Prelude.{◌≡◌, ◌≢◌, ℕ, ◌<◌, ◌≤◌, List, length, slice_get, slice_index}
+use Rattle.std.specs.Prelude.{◌≡◌, ◌≢◌, ℕ, ◌<◌, ◌≤◌, List, [], ◌∷◌, length, Option, Some}
+use Rattle.std.specs.Prelude.{None, slice_get, slice_index}
 use Rattle.geom.specs.declared.shapes.Shape.{Shape}
 
 -- no shape that is equal to the one of number n has a lower number
@@ -10,6 +11,16 @@ IsFirst shapes n = (m : ℕ) → m < n → slice_get shapes m ≢ slice_get shap
 pub record AreAt (shapes : List Shape) (numbers : List ℕ) (some : List Shape) : Type 0 where
   pub long : length some ≡ length numbers
   pub each : (k : ℕ) → k < length numbers → slice_get some k ≡ slice_get shapes (slice_index numbers k)
+
+-- the shape where there is one, and then the others
+abbrev pub with_first : Option Shape → List Shape → List Shape
+with_first None rest = rest
+with_first (Some s) rest = s ∷ rest
+
+-- the shapes of these numbers; a number of none is passed over
+unfoldable pub kinds_at : List Shape → List ℕ → List Shape
+kinds_at shapes [] = []
+kinds_at shapes (n ∷ ns) = with_first (slice_get shapes n) (kinds_at shapes ns)
 
 -- the number at this place is of an equal shape and not above this one
 pub record StandsFor (shapes : List Shape) (numbers : List ℕ) (n place : ℕ) : Type 0 where

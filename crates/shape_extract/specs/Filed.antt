@@ -2,7 +2,7 @@
 use Rattle.std.specs.Prelude.{◌≡◌, ℕ, ◌<◌, ◌≤◌, List, length, slice_index}
 use Rattle.geom.specs.declared.shapes.Shape.{Shape}
 use Rattle.shape_extract.specs.Chains.{AreChains}
-use Rattle.shape_extract.specs.Distinct.{ArePlaces, IsDistinct}
+use Rattle.shape_extract.specs.Distinct.{ArePlaces, IsDistinct, kinds_at}
 use Rattle.shape_extract.specs.Planes.{ArePlanes}
 use Rattle.shape_extract.specs.declared.filed_shapes.FiledShapes.{FiledShapes}
 
@@ -16,8 +16,8 @@ pub record AreFirsts (numbers places : List ℕ) : Type 0 where
 
 -- the shapes are filed
 pub record IsFiled (shapes : List Shape) (filed : FiledShapes) : Type 0 where
-  pub distinct : IsDistinct shapes filed.kinds.numbers.items filed.kinds.shapes
+  pub distinct : IsDistinct shapes filed.kinds.numbers.items (kinds_at shapes filed.kinds.numbers.items)
   pub places : ArePlaces shapes filed.kinds.numbers.items filed.kinds.places.items
   pub firsts : AreFirsts filed.kinds.numbers.items filed.kinds.places.items
-  pub planes : ArePlanes filed.kinds.shapes filed.planes
+  pub planes : ArePlanes (kinds_at shapes filed.kinds.numbers.items) filed.planes
   pub next : AreChains filed.kinds.places.items filed.next.items

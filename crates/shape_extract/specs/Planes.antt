@@ -2,7 +2,7 @@
 use Rattle.std.specs.Prelude.{◌≡◌, ℕ, ◌<◌, Bool, true, List, length, slice_get, slice_index, Some, Contains}
 use Rattle.std.specs.List.Sorted.{IsStrictlyIncreasing}
 use Rattle.geom.specs.Rectangle.{Rectangle, IsProper}
-use Rattle.geom.specs.Near.{rects_of, IsClose}
+use Rattle.geom.specs.Near.{AreRectsAt, IsClose}
 use Rattle.geom.specs.declared.shapes.Shape.{Shape}
 use Rattle.layout_rules.specs.Layers.{is_frame, is_line, is_lower, is_pin, is_upper, is_via}
 use Rattle.shape_extract.specs.declared.planes.Plane.{Plane}
@@ -10,7 +10,6 @@ use Rattle.shape_extract.specs.declared.planes.Plane.TheVariants.{Lower, Vias, U
 use Rattle.shape_extract.specs.declared.planes.FiledPlane.{FiledPlane}
 use Rattle.shape_extract.specs.declared.planes.Planes.{Planes}
 use Rattle.shape_extract.specs.Searches.{AreThose}
-use Rattle.shape_extract.specs.Distinct.{AreAt}
 use Rattle.shape_extract.specs.Passing.{PassesIn}
 
 -- the shape lies in the plane
@@ -25,9 +24,7 @@ in_plane Pins s = is_pin s
 -- the numbers are those of the shapes in the plane, and the index is over their rectangles
 pub record IsPlane (plane : Plane) (shapes : List Shape) (filed : FiledPlane) : Type 0 where
   pub those : AreThose (PassesIn (in_plane plane) shapes) filed.numbers.items
-  pub some : List Shape
-  pub at : AreAt shapes filed.numbers.items some
-  pub index : filed.index ≡ rects_of some
+  pub index : AreRectsAt shapes filed.numbers.items filed.index
 
 -- the shapes are filed by planes
 pub record ArePlanes (shapes : List Shape) (planes : Planes) : Type 0 where

@@ -1,27 +1,32 @@
 // Shapes without their repetitions: of equal shapes the one with the least number stands for all.
-ghost use Rattle.std.specs.Prelude.{◌≡◌, ◌≢◌, ℕ, ◌<◌, ◌^◌, ◌↔◌, All, IfOk, IsTrue, length};
+ghost use Rattle.std.specs.Prelude.{◌≡◌, ◌≢◌, ℕ, ◌<◌, ◌^◌, ◌↔◌, IfOk, IsTrue, length, slice_index};
 ghost use Rattle.shape_extract.specs.Code.DistinctShapes.{sided_of, AreInOrder, AreHeads, IsLeastHead, GoesOn};
-ghost use Rattle.shape_extract.specs.Distinct.{AreAt, ArePlaces, IsDistinct};
+ghost use Rattle.shape_extract.specs.Distinct.{ArePlaces, IsDistinct, kinds_at};
 ghost use Rattle.shape_extract.specs.Code.DistinctShapes.{AreLeast, AreOwn};
 
-use aq_base::{List, Memory};
+use crate::kinds::Kinds;
+use aq_base::Memory;
 use geom::Shape;
 use std::alloc::Global;
 
-/// The shapes that stand for all of a list, and their numbers there, rising. Every shape of the list is equal to one of
+/// The shapes that stand for all of a list, by their numbers there, rising. Every shape of the list is equal to one of
 /// them whose number is not above its own.
 #[derive(Drop)]
 pub struct Distinct {
     pub numbers: Vec<u32>,
-    pub shapes: List<Shape>,
     /// For each shape of the list the place of the one that stands for it.
     pub places: Vec<u32>,
 }
 
-/// The numbers that stand for all of a list, and for each number of the list the place of the one that stands for it.
-struct StandIns {
-    numbers: Vec<u32>,
-    places: Vec<u32>,
+impl Distinct {
+    /// The shapes that stand for all, where these are all.
+    pub fn among<'a>(&'a self, shapes: &'a [Shape]) -> Kinds<'a>
+        requires { (k : ℕ) → k < length self.now.numbers.items
+            → slice_index self.now.numbers.items k < length shapes.now }
+        ensures { result ≡ kinds_at shapes.now self.now.numbers.items }
+    {
+        Kinds::of(shapes, self.numbers.as_slice())
+    }
 }
 
 /// A shape as equal ones are brought together: by its sides, its layer and its datatype, then by its number.
@@ -119,13 +124,13 @@ fn heads(alloc: Global, shapes: &[Shape]) -> Result<Vec<u32>, Memory>
 }
 
 /// The numbers that are their own heads stand for themselves, and each other one goes where its head went.
-fn stand_ins(alloc: Global, shapes: &[Shape], heads: &[u32]) -> Result<StandIns, Memory>
+fn stand_ins(alloc: Global, shapes: &[Shape], heads: &[u32]) -> Result<Distinct, Memory>
     requires few { length shapes.now < 2 ^ 32 }
     requires heads { AreHeads shapes.now heads.now }
-    ensures places { IfOk result (λ s. ArePlaces shapes.now s.numbers.items s.places.items) }
-    ensures own { IfOk result (λ s. AreOwn heads.now s.numbers.items) }
+    ensures places { IfOk result (λ d. ArePlaces shapes.now d.numbers.items d.places.items) }
+    ensures own { IfOk result (λ d. AreOwn heads.now d.numbers.items) }
 {
-    let mut numbers = Vec::new(alloc);
+    let mut numbers = Vec::with_capacity(alloc, shapes.len())?;
     let mut places = Vec::with_capacity(alloc, shapes.len())?;
     for n in 0..shapes.len() {
         let head = heads[n] as usize;
@@ -137,33 +142,17 @@ fn stand_ins(alloc: Global, shapes: &[Shape], heads: &[u32]) -> Result<StandIns,
             numbers.push(n as u32)?;
         }
     }
-    Ok(StandIns { numbers, places })
-}
-
-/// The shapes of these numbers, in their order.
-pub fn shapes_at(alloc: Global, shapes: &[Shape], numbers: &[u32]) -> Result<Vec<Shape>, Memory>
-    requires { All (λ n. n < length shapes.now) numbers.now }
-    ensures { IfOk result (λ some. AreAt shapes.now numbers.now some.items) }
-{
-    let mut some = Vec::with_capacity(alloc, numbers.len())?;
-    for number in numbers {
-        some.push(shapes[*number as usize])?;
-    }
-    Ok(some)
+    Ok(Distinct { numbers, places })
 }
 
 /// The shapes of a list, each kind of equal ones once. It is refused for want of memory alone.
 pub fn distinct_of(alloc: Global, shapes: &[Shape]) -> Result<Distinct, Memory>
     requires { length shapes.now < 2 ^ 32 }
-    ensures distinct { IfOk result (λ d. IsDistinct shapes.now d.numbers.items d.shapes) }
+    ensures distinct { IfOk result (λ d. IsDistinct shapes.now d.numbers.items
+        (kinds_at shapes.now d.numbers.items)) }
     ensures places { IfOk result (λ d. ArePlaces shapes.now d.numbers.items d.places.items) }
 {
     let heads = heads(alloc, shapes)?;
-    let StandIns { numbers, places } = stand_ins(alloc, shapes, heads.as_slice())?;
-    let some = shapes_at(alloc, shapes, numbers.as_slice())?;
-    Ok(Distinct {
-        numbers,
-        shapes: List::from_vec(some),
-        places,
-    })
+    let distinct = stand_ins(alloc, shapes, heads.as_slice())?;
+    Ok(distinct)
 }

@@ -29,7 +29,7 @@ pub fn file_kinds(alloc: Global, shapes: &[Shape]) -> Result<FiledShapes, Memory
     ensures { IfOk result (IsFiled shapes.now) }
 {
     let kinds = distinct_of(alloc, shapes)?;
-    let planes = file_planes(alloc, kinds.shapes.as_slice())?;
+    let planes = file_planes(alloc, &kinds.among(shapes))?;
     let next = chains(alloc, kinds.places.as_slice())?;
     Ok(FiledShapes {
         kinds,

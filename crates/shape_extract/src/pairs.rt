@@ -12,6 +12,7 @@ ghost use Rattle.shape_extract.specs.Planes.{in_plane, ArePlanes, IsPlane};
 ghost use Rattle.shape_extract.specs.declared.planes.Plane.TheVariants.{Lines};
 
 use crate::filed_shapes::{FiledShapes, list_of_kinds};
+use crate::kinds::Kinds;
 use crate::planes::{FiledPlane, Plane, Planes};
 use aq_base::Memory;
 use geom::{Buckets, Shape};
@@ -51,6 +52,22 @@ pub fn keep_passing<T: PairTest>(test: &T, first: &Shape, shapes: &[Shape], numb
     numbers.truncate(kept);
 }
 
+/// Keeps those of the places at which kinds stand that pass the test together with the shape.
+pub fn keep_kinds<T: PairTest>(test: &T, first: &Shape, kinds: &Kinds, places: &mut Vec<u32>)
+    requires { All (λ p. p < length kinds.now) places.old.items }
+    ensures { places.new.items ≡ filter (passes_with (T.passes test.now) first.now kinds.now) places.old.items }
+{
+    let mut kept = 0;
+    for at in 0..places.len() {
+        let place = places[at];
+        if test.passes(first, kinds.get(place)) {
+            places[kept] = place;
+            kept += 1;
+        }
+    }
+    places.truncate(kept);
+}
+
 /// Lists the numbers of the shapes that pass the test together with the one of this number, by a query of the index for
 /// those within reach of it.
 pub fn list_partners<T: PairTest>(
@@ -73,24 +90,24 @@ pub fn list_partners<T: PairTest>(
     Ok(())
 }
 
-/// Lists the numbers of the shapes that pass the test together with this one, by a query of a plane in which all such
-/// shapes lie for those within reach of it. It is refused for want of memory alone.
+/// Lists the places of the kinds that pass the test together with this shape, by a query of a plane in which all such
+/// kinds lie for those within reach of it. It is refused for want of memory alone.
 pub fn list_passing<T: PairTest>(
     test: &T,
     plane: Plane,
     first: &Shape,
-    shapes: &[Shape],
+    kinds: &Kinds,
     planes: &Planes,
     found: &mut Vec<u32>,
 ) -> Result<(), Memory>
-    requires planes { ArePlanes shapes.now planes.now }
+    requires planes { ArePlanes kinds.now planes.now }
     requires reach { T.reach test.now ≤ 1000000 }
     requires planar { (s : Shape) → T.passes test.now first.now s ≡ true → in_plane plane s ≡ true }
-    ensures { IfOk result (λ _. AreThose (PassesIn (T.passes test.now first.now) shapes.now) found.new.items) }
+    ensures { IfOk result (λ _. AreThose (PassesIn (T.passes test.now first.now) kinds.now) found.new.items) }
 {
     first.rect.known();
     planes.list_near(plane, &first.rect, test.reach(), found)?;
-    keep_passing(test, first, shapes, found);
+    keep_kinds(test, first, kinds, found);
     Ok(())
 }
 
@@ -116,7 +133,7 @@ pub fn list_filed_partners<T: PairTest>(
         test,
         plane,
         first,
-        filed.kinds.shapes.as_slice(),
+        &filed.kinds.among(shapes),
         &filed.planes,
         found,
     )?;

@@ -5,10 +5,10 @@ ghost use Rattle.shape_extract.specs.Searches.{AreThose};
 ghost use Rattle.shape_extract.specs.Passing.{PassesIn};
 ghost use Rattle.shape_extract.specs.Planes.{in_plane, IsPlane, ArePlanes, AreNamed, AreNearIn};
 
-use crate::distinct_shapes::shapes_at;
+use crate::kinds::Kinds;
 use crate::layers::{is_frame, is_line, is_lower, is_pin, is_upper, is_via};
-use aq_base::{List, Memory};
-use geom::{Buckets, Rect, Shape, file_shapes};
+use aq_base::Memory;
+use geom::{Buckets, Rect, Shape, file_numbered};
 use std::alloc::Global;
 
 /// A group of layers. A pin lies in two planes, and any other shape in one at most.
@@ -82,23 +82,46 @@ pub fn file_plane(alloc: Global, shapes: &[Shape], plane: Plane) -> Result<Filed
     ensures { IfOk result (IsPlane plane shapes.now) }
 {
     let numbers = numbers_in(alloc, shapes, plane)?;
-    let some = List::from_vec(shapes_at(alloc, shapes, numbers.as_slice())?);
-    let index = file_shapes(alloc, &some)?;
+    let index = file_numbered(alloc, shapes, numbers.as_slice())?;
     Ok(FiledPlane { numbers, index })
 }
 
-/// Files the shapes by planes. It is refused for want of memory alone.
-pub fn file_planes(alloc: Global, shapes: &[Shape]) -> Result<Planes, Memory>
-    requires { length shapes.now < 2 ^ 32 }
-    ensures { IfOk result (ArePlanes shapes.now) }
+/// The places of the kinds in the plane.
+fn places_in(alloc: Global, kinds: &Kinds, plane: Plane) -> Result<Vec<u32>, Memory>
+    requires { length kinds.now < 2 ^ 32 }
+    ensures { IfOk result (λ places. AreThose (PassesIn (in_plane plane) kinds.now) places.items) }
+{
+    let mut places = Vec::new(alloc);
+    for place in 0..kinds.count() {
+        if plane.holds(kinds.get(place as u32)) {
+            places.push(place as u32)?;
+        }
+    }
+    Ok(places)
+}
+
+/// Files the kinds of the plane. It is refused for want of memory alone.
+fn file_kinds_in(alloc: Global, kinds: &Kinds, plane: Plane) -> Result<FiledPlane, Memory>
+    requires { length kinds.now < 2 ^ 32 }
+    ensures { IfOk result (IsPlane plane kinds.now) }
+{
+    let numbers = places_in(alloc, kinds, plane)?;
+    let index = kinds.file(alloc, numbers.as_slice())?;
+    Ok(FiledPlane { numbers, index })
+}
+
+/// Files the kinds by planes. It is refused for want of memory alone.
+pub fn file_planes(alloc: Global, kinds: &Kinds) -> Result<Planes, Memory>
+    requires { length kinds.now < 2 ^ 32 }
+    ensures { IfOk result (ArePlanes kinds.now) }
 {
     Ok(Planes {
-        lower: file_plane(alloc, shapes, Plane::Lower)?,
-        vias: file_plane(alloc, shapes, Plane::Vias)?,
-        upper: file_plane(alloc, shapes, Plane::Upper)?,
-        frames: file_plane(alloc, shapes, Plane::Frames)?,
-        lines: file_plane(alloc, shapes, Plane::Lines)?,
-        pins: file_plane(alloc, shapes, Plane::Pins)?,
+        lower: file_kinds_in(alloc, kinds, Plane::Lower)?,
+        vias: file_kinds_in(alloc, kinds, Plane::Vias)?,
+        upper: file_kinds_in(alloc, kinds, Plane::Upper)?,
+        frames: file_kinds_in(alloc, kinds, Plane::Frames)?,
+        lines: file_kinds_in(alloc, kinds, Plane::Lines)?,
+        pins: file_kinds_in(alloc, kinds, Plane::Pins)?,
     })
 }
 

@@ -2,7 +2,7 @@
 ghost use Rattle.std.specs.Prelude.{◌≡◌, ◌+◌, ◌*◌, ◌<◌, ◌≤◌, ◌<ℤ◌, ◌≤ℤ◌, ◌^◌, length, IfOk};
 ghost use Rattle.geom.specs.Code.Bounds.{Holds, HoldsSpots, AreBlocks};
 
-use crate::index::spots::Spot;
+use crate::index::spots::Spots;
 use crate::rectangle::Rect;
 use aq_base::Memory;
 use std::alloc::Global;
@@ -50,14 +50,14 @@ fn around(a: &Rect, b: &Rect) -> Rect
 }
 
 /// The least rectangle that holds those between two places.
-fn bounds(spots: &[Spot], from: usize, past: usize) -> Rect
+fn bounds(spots: &Spots, from: usize, past: usize) -> Rect
     requires some { from < past }
     requires within { past ≤ length spots.now }
     ensures { HoldsSpots spots.now from past result }
 {
-    let mut bounds = spots[from].rect;
+    let mut bounds = spots.at(from).rect;
     for place in from + 1..past {
-        bounds = around(&bounds, &spots[place].rect);
+        bounds = around(&bounds, &spots.at(place).rect);
     }
     bounds
 }
@@ -73,7 +73,7 @@ fn past_block(from: usize, count: usize) -> usize
 }
 
 /// The block of this number. The blocks after it are read one after another: each begins where the one before it ends.
-fn block_at(spots: &[Spot], blocks: &[Block], number: usize) -> Block
+fn block_at(spots: &Spots, blocks: &[Block], number: usize) -> Block
     requires some { number * 8 < length spots.now }
     requires long { length spots.now ≤ length blocks.now * 8 }
     requires blocks { AreBlocks spots.now blocks.now }
@@ -95,7 +95,7 @@ fn block_at(spots: &[Spot], blocks: &[Block], number: usize) -> Block
 }
 
 /// As many blocks as the places have, of which each holds nothing.
-fn no_blocks(alloc: Global, spots: &[Spot]) -> Result<Vec<Block>, Memory>
+fn no_blocks(alloc: Global, spots: &Spots) -> Result<Vec<Block>, Memory>
     ensures long { IfOk result (λ blocks. length spots.now ≤ length blocks.items * 8) }
     ensures few { IfOk result (λ blocks. length blocks.items * 8 < length spots.now + 8) }
     ensures blocks { IfOk result (λ blocks. AreBlocks spots.now blocks.items) }
@@ -113,7 +113,7 @@ fn no_blocks(alloc: Global, spots: &[Spot]) -> Result<Vec<Block>, Memory>
 /// The blocks, in their order. Each ends where another ends or begins, so those in a block lie in larger and larger
 /// ones, and a walk passes over what is far away in a number of steps that grows as the logarithm. The last one is made
 /// first, so that each rectangle is looked at once.
-pub fn blocks(alloc: Global, spots: &[Spot]) -> Result<Vec<Block>, Memory>
+pub fn blocks(alloc: Global, spots: &Spots) -> Result<Vec<Block>, Memory>
     ensures { IfOk result (λ blocks. AreBlocks spots.now blocks.items) }
 {
     let mut blocks = no_blocks(alloc, spots)?;

@@ -2,17 +2,18 @@
 ghost use Rattle.std.specs.Prelude.{◌≡◌, ℕ, ◌+◌, ◌<◌, ◌≤◌, ◌^◌, ◌↔◌, All, Contains, length, IfOk, IsTrue};
 ghost use Rattle.std.specs.Prelude.{slice_index};
 ghost use Rattle.std.specs.List.Sorted.{IsStrictlyIncreasing};
-ghost use Rattle.geom.specs.Code.Grids.{AreGrids, end_of};
+ghost use Rattle.geom.specs.Code.Grids.{end_of};
 ghost use Rattle.geom.specs.Rectangle.{AreProper};
-ghost use Rattle.geom.specs.Near.{rects_of, AreNear};
+ghost use Rattle.geom.specs.Near.{rects_of, AreNear, AreRectsAt};
+ghost use Rattle.geom.specs.Code.Filed.{rects_in};
 ghost use Rattle.geom.specs.Code.Bounds.{AreBlocks, IsPassed};
-ghost use Rattle.geom.specs.Code.Spots.{unfiled, AreOrdered, IsPlaced, KeepsFilled, ListsAmong, ListsIn, ListsGrids};
+ghost use Rattle.geom.specs.Code.Spots.{AreOrdered, KeepsFilled, ListsAmong, ListsIn, ListsGrids};
 ghost use Rattle.geom.specs.Code.Spots.{IsIndex};
 
 use crate::index::blocks::{BLOCK_SIZE, Block, blocks};
-use crate::index::chains::{Arranged, file_entries};
+use crate::index::filing::file_spots;
 use crate::index::grid::Grid;
-use crate::index::spots::{Spot, spots};
+use crate::index::spots::Spots;
 use crate::index::survey::grids_for;
 use crate::index::zone::Zone;
 use crate::rectangle::Rect;
@@ -27,7 +28,7 @@ use std::marker::Model;
 pub struct Buckets {
     count: usize,
     grids: Vec<Grid>,
-    spots: Vec<Spot>,
+    spots: Spots,
     starts: Vec<u32>,
     blocks: Vec<Block>,
 }
@@ -40,39 +41,13 @@ impl Model for Buckets {
 
     ghost Value = { List Rectangle };
 
-    ghost view = { λ b. unfiled b.count b.spots.items };
+    ghost view = { λ b. unfiled b.count b.spots };
 
     ghost invariant = { λ b.
-        IsIndex (unfiled b.count b.spots.items) b.grids.items b.spots.items b.starts.items b.blocks.items };
+        IsIndex (unfiled b.count b.spots) b.grids.items b.spots b.starts.items b.blocks.items };
 }
 
-/// Spots by rising cell, and where each cell's start.
-#[derive(Drop)]
-struct Placed {
-    spots: Vec<Spot>,
-    starts: Vec<u32>,
-}
-
-/// The rectangles of the shapes, in their order.
-fn list_rects(alloc: Global, shapes: &[Shape]) -> Result<Vec<Rect>, Memory>
-    ensures { IfOk result (λ rects. rects.items ≡ rects_of shapes.now) }
-{
-    let rects = shapes.iter().map(|shape| shape.rect).collect(alloc)?;
-    Ok(rects)
-}
-
-/// The spots of the rectangles. What is needed on the way alone is let go.
-fn place_rects(alloc: Global, rects: &[Rect], grids: &[Grid]) -> Result<Placed, Memory>
-    requires few { length rects.now < 2 ^ 32 }
-    requires grids { AreGrids grids.now }
-    ensures { IfOk result (λ placed. IsPlaced rects.now grids.now placed.spots.items placed.starts.items) }
-{
-    let Arranged { entries, starts } = file_entries(alloc, rects, grids)?;
-    let spots = spots(alloc, rects, entries.as_slice())?;
-    Ok(Placed { spots, starts })
-}
-
-/// Whether the entries of the grid's first cell begin where those of all its cells end: then nothing stands in it.
+/// Whether the spots of the grid's first cell begin where those of all its cells end: then nothing stands in it.
 fn is_bare(starts: &[u32], grid: &Grid) -> bool
     requires { end_of grid.now < length starts.now }
     ensures { IsTrue result ↔ slice_index starts.now grid.now.first ≡ slice_index starts.now (end_of grid.now) }
@@ -94,17 +69,19 @@ fn filled_grids(alloc: Global, grids: &[Grid], starts: &[u32]) -> Result<Vec<Gri
     Ok(kept)
 }
 
-/// The index over these rectangles.
-fn file_rects(alloc: Global, rects: &[Rect]) -> Result<Buckets, Memory>
-    requires { length rects.now < 2 ^ 32 }
-    ensures { IfOk result (λ buckets. buckets ≡ rects.now) }
+/// The index over the rectangles of these spots, whose numbers and cells are of no matter.
+fn index_over(alloc: Global, unfiled: Spots) -> Result<Buckets, Memory>
+    requires { length unfiled < 2 ^ 32 }
+    ensures { IfOk result (λ buckets. buckets ≡ rects_in unfiled) }
 {
-    let laid_out = grids_for(alloc, rects)?;
-    let Placed { spots, starts } = place_rects(alloc, rects, laid_out.as_slice())?;
+    let mut spots = unfiled;
+    let count = spots.len();
+    let laid_out = grids_for(alloc, &spots)?;
+    let starts = file_spots(alloc, laid_out.as_slice(), &mut spots)?;
     let grids = filled_grids(alloc, laid_out.as_slice(), starts.as_slice())?;
-    let blocks = blocks(alloc, spots.as_slice())?;
+    let blocks = blocks(alloc, &spots)?;
     Ok(Buckets {
-        count: rects.len(),
+        count,
         grids,
         spots,
         starts,
@@ -118,8 +95,19 @@ pub fn file_shapes(alloc: Global, shapes: &List<Shape>) -> Result<Buckets, Memor
     requires { length shapes.now < 2 ^ 32 }
     ensures { IfOk result (λ buckets. buckets ≡ rects_of shapes.now) }
 {
-    let rects = list_rects(alloc, shapes.as_slice())?;
-    file_rects(alloc, rects.as_slice())
+    let spots = Spots::of(alloc, shapes.as_slice())?;
+    index_over(alloc, spots)
+}
+
+/// Files the rectangles of the shapes of these numbers, which are fewer than 2^32, under the places of the numbers. It
+/// is refused for want of memory alone.
+pub fn file_numbered(alloc: Global, shapes: &[Shape], numbers: &[u32]) -> Result<Buckets, Memory>
+    requires few { length numbers.now < 2 ^ 32 }
+    requires within { All (λ n. n < length shapes.now) numbers.now }
+    ensures { IfOk result (AreRectsAt shapes.now numbers.now) }
+{
+    let spots = Spots::at_numbers(alloc, shapes, numbers)?;
+    index_over(alloc, spots)
 }
 
 /// The place that a walk goes on from after this one: past a block that begins here, where its bounds are far away.
@@ -139,7 +127,7 @@ fn place_after(blocks: &[Block], place: usize, zone: &Zone) -> usize
 
 /// Lists the near ones between two places.
 fn list_among(
-    spots: &[Spot],
+    spots: &Spots,
     blocks: &[Block],
     from: usize,
     to: usize,
@@ -153,7 +141,7 @@ fn list_among(
 {
     let mut place = from;
     while place < to {
-        let spot = &spots[place];
+        let spot = spots.at(place);
         if zone.meets(&spot.rect) {
             found.push(spot.number)?;
             place += 1;
@@ -166,7 +154,7 @@ fn list_among(
 
 /// Lists the near ones in the cells of a grid where their corners can be.
 fn list_in(
-    spots: &[Spot],
+    spots: &Spots,
     blocks: &[Block],
     starts: &[u32],
     grid: &Grid,
@@ -190,7 +178,7 @@ fn list_in(
 
 /// Lists the near ones grid by grid, some twice maybe.
 fn list_all(
-    spots: &[Spot],
+    spots: &Spots,
     blocks: &[Block],
     starts: &[u32],
     grids: &[Grid],
@@ -257,7 +245,7 @@ impl Buckets {
     {
         let zone = Zone::around(rect, margin);
         list_all(
-            self.spots.as_slice(),
+            &self.spots,
             self.blocks.as_slice(),
             self.starts.as_slice(),
             self.grids.as_slice(),

@@ -36,8 +36,8 @@ pub struct Grid {
     ghost some_columns: { 0 < columns },
     ghost some_rows: { 0 < rows },
     ghost few_columns: { columns ≤ 2 ^ 16 },
-    ghost few_rows: { rows ≤ 2 ^ 16 },
-    ghost few_before: { first ≤ 2 ^ 40 },
+    ghost few_rows: { rows ≤ 2 ^ 11 },
+    ghost few_before: { first ≤ 2 ^ 31 },
     ghost short_x: { shift_x < 64 },
     ghost short_y: { shift_y < 64 },
     ghost reached_x_so: { IsReached reached_x left reach_x },
@@ -126,6 +126,7 @@ impl Grid {
     pub fn cell_of(&self, rect: &Rect) -> usize
         ensures value { result ≡ cell_of self.now rect.now }
         ensures within { result < end_of self.now }
+        ensures few { result < 2 ^ 32 }
     {
         let row = self.row_at(self.above(rect.y0));
         let column = self.column_at(self.right_of(rect.x0));
@@ -149,7 +150,8 @@ impl Grid {
 
     /// The number after that of the last cell.
     pub fn end(&self) -> usize
-        ensures { result ≡ end_of self.now }
+        ensures value { result ≡ end_of self.now }
+        ensures few { result < 2 ^ 32 }
     {
         self.first + self.rows * self.columns
     }

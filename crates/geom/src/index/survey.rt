@@ -3,6 +3,7 @@ ghost use Rattle.std.specs.Prelude.{◌≡◌, ◌+◌, ◌<◌, ◌≤◌, ◌^
 ghost use Rattle.geom.specs.Code.Grids.{AreGrids, end_of};
 
 use crate::index::grid::{Grid, MOST_COLUMNS, MOST_ROWS, reached};
+use crate::index::spots::Spots;
 use crate::rectangle::{Rect, height, width};
 use aq_base::Memory;
 use std::alloc::Global;
@@ -36,7 +37,7 @@ struct Lines {
     ghost some_columns: { 0 < columns },
     ghost some_rows: { 0 < rows },
     ghost few_columns: { columns ≤ 2 ^ 16 },
-    ghost few_rows: { rows ≤ 2 ^ 16 },
+    ghost few_rows: { rows ≤ 2 ^ 11 },
     ghost short_x: { shift_x < 64 },
     ghost short_y: { shift_y < 64 },
 }
@@ -67,7 +68,7 @@ fn line_count(spread: u64, shift: u32, most: u64) -> u64
     requires some { 3 ≤ most }
     requires few { most ≤ 2 ^ 16 }
     ensures some { 0 < result }
-    ensures few { result ≤ 2 ^ 16 }
+    ensures few { result ≤ most }
 {
     (spread >> shift).min(most - 3) + 3
 }
@@ -150,10 +151,10 @@ impl Survey {
         }
     }
 
-    /// The grid for these rectangles, of some four cells for each at most. Cells are wider than a quarter of the widest
+    /// The grid for these rectangles, of at most about one cell for each. Cells are wider than a quarter of the widest
     /// and higher than the highest: the cells of a row that a query reads are one range, so narrow ones cost nothing.
     fn grid(&self, first: usize) -> Grid
-        requires { first ≤ 2 ^ 40 }
+        requires { first ≤ 2 ^ 31 }
         ensures { result.first ≡ first }
     {
         let spread_x = self.left.abs_diff(self.right);
@@ -163,7 +164,7 @@ impl Survey {
             spread_y,
             shift_for(spread_x, self.widest / 4, MOST_COLUMNS),
             shift_for(spread_y, self.highest, MOST_ROWS),
-            self.count.saturating_mul(4).saturating_add(9),
+            self.count.saturating_add(9),
         );
         let left = edge_before(self.left, lines.shift_x);
         let bottom = edge_before(self.bottom, lines.shift_y);
@@ -185,7 +186,7 @@ impl Survey {
 
 /// The grid of a single cell, in which every rectangle may stand.
 fn grid_for_all(first: usize) -> Grid
-    requires { first ≤ 2 ^ 40 }
+    requires { first ≤ 2 ^ 31 }
     ensures first { result.first ≡ first }
     ensures wide { 2 ^ 64 ≤ result.reach_x + 1 }
     ensures high { 2 ^ 64 ≤ result.reach_y + 1 }
@@ -206,22 +207,23 @@ fn grid_for_all(first: usize) -> Grid
 }
 
 /// A survey of each kind.
-fn surveys(rects: &[Rect]) -> [Survey; KINDS] {
+fn surveys(spots: &Spots) -> [Survey; KINDS] {
     let mut surveys = [Survey::new(); KINDS];
-    for rect in rects {
-        let kind = kind_of(rect);
-        surveys[kind] = surveys[kind].with(rect);
+    for place in 0..spots.len() {
+        let rect = spots.at(place).rect;
+        let kind = kind_of(&rect);
+        surveys[kind] = surveys[kind].with(&rect);
     }
     surveys
 }
 
 /// Grids for the rectangles, one for each kind that there is. In the last, any rectangle may stand.
-pub fn grids_for(alloc: Global, rects: &[Rect]) -> Result<Vec<Grid>, Memory>
+pub fn grids_for(alloc: Global, spots: &Spots) -> Result<Vec<Grid>, Memory>
     ensures { IfOk result (λ grids. AreGrids grids.items) }
 {
     let mut grids = Vec::new(alloc);
     let mut first = 0;
-    for survey in surveys(rects) {
+    for survey in surveys(spots) {
         if survey.count > 0 {
             let grid = survey.grid(first);
             first = grid.end();
@@ -235,7 +237,8 @@ pub fn grids_for(alloc: Global, rects: &[Rect]) -> Result<Vec<Grid>, Memory>
 /// How many cells the grids have together.
 pub fn cell_count(grids: &[Grid]) -> usize
     requires { AreGrids grids.now }
-    ensures { All (λ g. end_of g ≤ result) grids.now }
+    ensures all { All (λ g. end_of g ≤ result) grids.now }
+    ensures few { result < 2 ^ 32 }
 {
     grids[grids.len() - 1].end()
 }

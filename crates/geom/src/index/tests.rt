@@ -1,22 +1,17 @@
 ghost use Rattle.std.specs.Prelude.{◌<ℤ◌};
 
-use crate::{Rect, Shape, file_shapes};
+use crate::{Rect, Shape, file_numbered, file_shapes};
 use aq_base::{List, Memory};
 use std::test::Fail;
 
-fn shape(x0: i32, y0: i32, x1: i32, y1: i32) -> Shape
+fn shape(x0: i64, y0: i64, x1: i64, y1: i64) -> Shape
     requires x { x0 <ℤ x1 }
     requires y { y0 <ℤ y1 }
 {
     Shape {
         layer: 10,
         datatype: 0,
-        rect: Rect {
-            x0: i64::from(x0),
-            y0: i64::from(y0),
-            x1: i64::from(x1),
-            y1: i64::from(y1),
-        },
+        rect: Rect { x0, y0, x1, y1 },
     }
 }
 
@@ -34,6 +29,38 @@ fn three_rectangles(rt: HostRuntime) -> Result<(), Fail> {
     assert_eq!(rt; close.as_slice(), [0, 1, 2].as_slice());
     let apart = index.near(rt.alloc(), &first.rect, 2)?;
     assert_eq!(rt; apart.as_slice(), [0, 1].as_slice());
+    Ok(())
+}
+
+/// Those that are found have the places of their numbers.
+#[test]
+fn numbered_rectangles(rt: HostRuntime) -> Result<(), Fail> {
+    let mut shapes = List::new(rt.alloc());
+    shapes.push(shape(0, 0, 2, 2))?;
+    shapes.push(shape(2, 2, 4, 4))?;
+    shapes.push(shape(5, 0, 6, 2))?;
+    let numbers: [u32; 2] = [2, 1];
+    let index = file_numbered(rt.alloc(), shapes.as_slice(), numbers.as_slice())?;
+    assert_eq!(rt; index.len(), 2);
+    let touching = index.near(rt.alloc(), &shapes.get(0).rect, 0)?;
+    assert_eq!(rt; touching.as_slice(), [1].as_slice());
+    Ok(())
+}
+
+/// One coordinate of more than 32 bits changes nothing of what is found.
+#[test]
+fn far_rectangles(rt: HostRuntime) -> Result<(), Fail> {
+    let mut shapes = List::new(rt.alloc());
+    shapes.push(shape(0, 0, 2, 2))?;
+    shapes.push(shape(2, 2, 4, 4))?;
+    shapes.push(shape(2_147_483_646, 0, 2_147_483_648, 2))?;
+    shapes.push(shape(2_147_483_648, 2, 2_147_483_650, 4))?;
+    let numbers: [u32; 4] = [0, 1, 2, 3];
+    let index = file_numbered(rt.alloc(), shapes.as_slice(), numbers.as_slice())?;
+    let near = index.near(rt.alloc(), &shapes.get(0).rect, 0)?;
+    assert_eq!(rt; near.as_slice(), [0, 1].as_slice());
+    let far = index.near(rt.alloc(), &shapes.get(2).rect, 0)?;
+    assert_eq!(rt; far.as_slice(), [2, 3].as_slice());
     Ok(())
 }
 

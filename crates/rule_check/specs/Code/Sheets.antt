@@ -2,7 +2,7 @@
 use Rattle.std.specs.Prelude.{◌≡◌, ℕ, ◌<◌, ◌^◌, List, length, slice_get, Some}
 use Rattle.geom.specs.Rectangle.{IsProper}
 use Rattle.geom.specs.declared.shapes.Shape.{Shape}
-use Rattle.shape_extract.specs.Distinct.{IsDistinct}
+use Rattle.shape_extract.specs.Distinct.{IsDistinct, kinds_at}
 use Rattle.shape_extract.specs.Planes.{ArePlanes}
 use Rattle.shape_extract.specs.declared.filed_shapes.FiledShapes.{FiledShapes}
 
@@ -12,6 +12,6 @@ HaveSides shapes = (n : ℕ) (s : Shape) → slice_get shapes n ≡ Some s → I
 
 -- the sheet has each different shape of the layout once, fewer than 2^32 in all, filed by planes
 pub record IsSheet (all : List Shape) (sheet : FiledShapes) : Type 0 where
-  pub distinct : IsDistinct all sheet.kinds.numbers.items sheet.kinds.shapes
-  pub few : length sheet.kinds.shapes < 2 ^ 32
-  pub filed : ArePlanes sheet.kinds.shapes sheet.planes
+  pub distinct : IsDistinct all sheet.kinds.numbers.items (kinds_at all sheet.kinds.numbers.items)
+  pub few : length (kinds_at all sheet.kinds.numbers.items) < 2 ^ 32
+  pub filed : ArePlanes (kinds_at all sheet.kinds.numbers.items) sheet.planes

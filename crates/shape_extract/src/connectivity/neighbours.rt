@@ -9,6 +9,7 @@ ghost use Rattle.shape_extract.specs.Planes.{in_plane, ArePlanes};
 ghost use Rattle.shape_extract.specs.Code.Walk.{AreTouching, touches_in};
 
 use crate::connectivity::touching::touch;
+use crate::kinds::Kinds;
 use crate::layers::{is_lower, is_upper, is_via};
 use crate::pairs::{PairTest, list_passing};
 use crate::planes::{Plane, Planes};
@@ -56,46 +57,46 @@ fn meets_upper(s: &Shape) -> bool
     is_upper(s) || is_via(s)
 }
 
-/// Lists the shapes of a plane that touch this one, where they are wanted, and else none.
+/// Lists the kinds of a plane that touch this shape, where they are wanted, and else none.
 fn list_touching_in(
     wanted: bool,
     plane: Plane,
-    shapes: &[Shape],
+    kinds: &Kinds,
     planes: &Planes,
     from: &Shape,
     found: &mut Vec<u32>,
 ) -> Result<(), Memory>
-    requires planes { ArePlanes shapes.now planes.now }
-    ensures { IfOk result (λ _. AreThose (PassesIn (touches_in wanted plane from.now) shapes.now) found.new.items) }
+    requires planes { ArePlanes kinds.now planes.now }
+    ensures { IfOk result (λ _. AreThose (PassesIn (touches_in wanted plane from.now) kinds.now) found.new.items) }
 {
     if wanted {
-        return list_passing(&TouchIn { plane }, plane, from, shapes, planes, found);
+        return list_passing(&TouchIn { plane }, plane, from, kinds, planes, found);
     }
     found.clear();
     Ok(())
 }
 
-/// Lists exactly the shapes that touch the one of this number, by queries of the planes in which such shapes lie. The
+/// Lists exactly the kinds that touch the one at this place, by queries of the planes in which such kinds lie. The
 /// second list is for use within.
 pub fn list_touching(
-    shapes: &[Shape],
+    kinds: &Kinds,
     planes: &Planes,
     from: u32,
     found: &mut Vec<u32>,
     more: &mut Vec<u32>,
 ) -> Result<(), Memory>
-    requires planes { ArePlanes shapes.now planes.now }
-    requires within { from < length shapes.now }
-    ensures { IfOk result (λ _. AreTouching shapes.now from found.new.items) }
+    requires planes { ArePlanes kinds.now planes.now }
+    requires within { from < length kinds.now }
+    ensures { IfOk result (λ _. AreTouching kinds.now from found.new.items) }
 {
-    let shape = &shapes[from as usize];
+    let shape = kinds.get(from);
     let lower = meets_lower(shape);
     let vias = meets_vias(shape);
     let upper = meets_upper(shape);
-    list_touching_in(lower, Plane::Lower, shapes, planes, shape, found)?;
-    list_touching_in(vias, Plane::Vias, shapes, planes, shape, more)?;
+    list_touching_in(lower, Plane::Lower, kinds, planes, shape, found)?;
+    list_touching_in(vias, Plane::Vias, kinds, planes, shape, more)?;
     found.extend_from_slice(more.as_slice())?;
-    list_touching_in(upper, Plane::Upper, shapes, planes, shape, more)?;
+    list_touching_in(upper, Plane::Upper, kinds, planes, shape, more)?;
     found.extend_from_slice(more.as_slice())?;
     Ok(())
 }

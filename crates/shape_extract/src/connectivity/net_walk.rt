@@ -4,13 +4,14 @@ ghost use Rattle.geom.specs.FlatForm.{flat_count};
 ghost use Rattle.layout_rules.specs.Nets.{AreNets};
 ghost use Rattle.shape_extract.specs.Code.Walk.{AreTouching, IsWalk, IsSpreadTo, IsLowest, IsReached, IsTold, AreTold};
 ghost use Rattle.shape_extract.specs.Code.Walk.{net_at, IsUnbegun, IsDoneTo, IsGrown};
-ghost use Rattle.shape_extract.specs.Distinct.{ArePlaces, IsDistinct};
+ghost use Rattle.shape_extract.specs.Distinct.{ArePlaces, IsDistinct, kinds_at};
 ghost use Rattle.shape_extract.specs.Filed.{IsFiled};
 ghost use Rattle.shape_extract.specs.Planes.{ArePlanes};
 
 use crate::connectivity::neighbours::list_touching;
 use crate::distinct_shapes::Distinct;
 use crate::filed_shapes::{FiledShapes, file_kinds};
+use crate::kinds::Kinds;
 use crate::planes::Planes;
 use aq_base::{List, Memory};
 use geom::{Flat, Shape};
@@ -18,23 +19,24 @@ use std::alloc::Global;
 
 /// Labels those of these shapes that have no label yet as shape `from` is labelled, and adds them to the order.
 fn spread(
-    shapes: &[Shape],
+    kinds: &Kinds,
     numbers: &[u32],
     labels: &mut [u32],
     order: &mut Vec<u32>,
     from: u32,
 ) -> Result<(), Memory>
-    requires walk { IsWalk shapes.now labels.old order.old.items }
-    requires touching { AreTouching shapes.now from numbers.now }
-    requires at { from < length shapes.now }
-    requires marked { slice_index labels.old from < length shapes.now }
-    requires lowest { IsLowest shapes.now labels.old (slice_index labels.old from) }
-    ensures { IfOk result (λ _. IsSpreadTo (length numbers.now) shapes.now numbers.now labels.old order.old.items
+    requires walk { IsWalk kinds.now labels.old order.old.items }
+    requires touching { AreTouching kinds.now from numbers.now }
+    requires at { from < length kinds.now }
+    requires marked { slice_index labels.old from < length kinds.now }
+    requires lowest { IsLowest kinds.now labels.old (slice_index labels.old from) }
+    ensures { IfOk result (λ _. IsSpreadTo (length numbers.now) kinds.now numbers.now labels.old order.old.items
         labels.new order.new.items from) }
 {
+    let count = kinds.count();
     let mark = labels[from as usize];
     for number in numbers {
-        if labels[*number as usize] as usize >= shapes.len() {
+        if labels[*number as usize] as usize >= count {
             labels[*number as usize] = mark;
             order.push(*number)?;
         }
@@ -71,7 +73,7 @@ fn unbegun(alloc: Global, count: u32) -> Result<Walk, Memory>
 {
     Ok(Walk {
         labels: vec![in alloc; count; count as usize]?,
-        order: Vec::new(alloc),
+        order: Vec::with_capacity(alloc, count as usize)?,
         touched: vec![in alloc; false; count as usize]?,
         found: Vec::new(alloc),
         more: Vec::new(alloc),
@@ -79,64 +81,65 @@ fn unbegun(alloc: Global, count: u32) -> Result<Walk, Memory>
 }
 
 /// Spreads from the shape of this number, and notes whether some shape touches it.
-fn reach(shapes: &[Shape], planes: &Planes, walk: &mut Walk, from: u32) -> Result<(), Memory>
-    requires planes { ArePlanes shapes.now planes.now }
-    requires few { length shapes.now < 2 ^ 32 }
-    requires walk { IsWalk shapes.now walk.old.labels.items walk.old.order.items }
-    requires touched { length walk.old.touched.items ≡ length shapes.now }
-    requires at { from < length shapes.now }
-    requires marked { slice_index walk.old.labels.items from < length shapes.now }
-    requires lowest { IsLowest shapes.now walk.old.labels.items (slice_index walk.old.labels.items from) }
-    ensures reached { IfOk result (λ _. IsReached shapes.now walk.old.labels.items walk.old.order.items
+fn reach(kinds: &Kinds, planes: &Planes, walk: &mut Walk, from: u32) -> Result<(), Memory>
+    requires planes { ArePlanes kinds.now planes.now }
+    requires few { length kinds.now < 2 ^ 32 }
+    requires walk { IsWalk kinds.now walk.old.labels.items walk.old.order.items }
+    requires touched { length walk.old.touched.items ≡ length kinds.now }
+    requires at { from < length kinds.now }
+    requires marked { slice_index walk.old.labels.items from < length kinds.now }
+    requires lowest { IsLowest kinds.now walk.old.labels.items (slice_index walk.old.labels.items from) }
+    ensures reached { IfOk result (λ _. IsReached kinds.now walk.old.labels.items walk.old.order.items
         walk.new.labels.items walk.new.order.items from) }
-    ensures told { IfOk result (λ _. IsTold shapes.now from walk.old.touched.items walk.new.touched.items) }
+    ensures told { IfOk result (λ _. IsTold kinds.now from walk.old.touched.items walk.new.touched.items) }
 {
-    list_touching(shapes, planes, from, &mut walk.found, &mut walk.more)?;
+    list_touching(kinds, planes, from, &mut walk.found, &mut walk.more)?;
     let numbers = walk.found.as_slice();
     note_touched(numbers, &mut walk.touched, from);
-    spread(shapes, numbers, &mut walk.labels, &mut walk.order, from)?;
+    spread(kinds, numbers, &mut walk.labels, &mut walk.order, from)?;
     Ok(())
 }
 
 /// Spreads from each shape of the order from this place on, until all have been spread from.
 fn grow(
-    shapes: &[Shape],
+    kinds: &Kinds,
     planes: &Planes,
     walk: &mut Walk,
     start: usize,
     mark: u32,
 ) -> Result<(), Memory>
-    requires planes { ArePlanes shapes.now planes.now }
-    requires few { length shapes.now < 2 ^ 32 }
-    requires begun { IsDoneTo start mark shapes.now walk.old }
-    requires mark { mark < length shapes.now }
-    requires lowest { IsLowest shapes.now walk.old.labels.items mark }
-    ensures { IfOk result (λ _. IsGrown shapes.now walk.old walk.new) }
+    requires planes { ArePlanes kinds.now planes.now }
+    requires few { length kinds.now < 2 ^ 32 }
+    requires begun { IsDoneTo start mark kinds.now walk.old }
+    requires mark { mark < length kinds.now }
+    requires lowest { IsLowest kinds.now walk.old.labels.items mark }
+    ensures { IfOk result (λ _. IsGrown kinds.now walk.old walk.new) }
 {
     let mut done = start;
     while done < walk.order.len() {
         let from = walk.order[done];
-        reach(shapes, planes, walk, from)?;
+        reach(kinds, planes, walk, from)?;
         done += 1;
     }
     Ok(())
 }
 
 /// Begins a net at each shape that is not reached.
-fn walk_all(shapes: &[Shape], planes: &Planes, walk: &mut Walk) -> Result<(), Memory>
-    requires planes { ArePlanes shapes.now planes.now }
-    requires few { length shapes.now < 2 ^ 32 }
-    requires unbegun { IsUnbegun (length shapes.now) walk.old }
-    ensures nets { IfOk result (λ _. AreNets shapes.now walk.new.labels.items) }
-    ensures told { IfOk result (λ _. AreTold shapes.now walk.new.touched.items) }
+fn walk_all(kinds: &Kinds, planes: &Planes, walk: &mut Walk) -> Result<(), Memory>
+    requires planes { ArePlanes kinds.now planes.now }
+    requires few { length kinds.now < 2 ^ 32 }
+    requires unbegun { IsUnbegun (length kinds.now) walk.old }
+    ensures nets { IfOk result (λ _. AreNets kinds.now walk.new.labels.items) }
+    ensures told { IfOk result (λ _. AreTold kinds.now walk.new.touched.items) }
 {
-    for i in 0..shapes.len() {
-        if walk.labels[i] as usize >= shapes.len() {
+    let count = kinds.count();
+    for i in 0..count {
+        if walk.labels[i] as usize >= count {
             let start = walk.order.len();
             let mark = i as u32;
             walk.labels[i] = mark;
             walk.order.push(mark)?;
-            grow(shapes, planes, walk, start, mark)?;
+            grow(kinds, planes, walk, start, mark)?;
         }
     }
     Ok(())
@@ -150,14 +153,14 @@ struct Walked {
     touched: Vec<bool>,
 }
 
-fn walk_kinds(alloc: Global, shapes: &[Shape], planes: &Planes) -> Result<Walked, Memory>
-    requires few { length shapes.now < 2 ^ 32 }
-    requires planes { ArePlanes shapes.now planes.now }
-    ensures nets { IfOk result (λ w. AreNets shapes.now w.labels.items) }
-    ensures told { IfOk result (λ w. AreTold shapes.now w.touched.items) }
+fn walk_kinds(alloc: Global, kinds: &Kinds, planes: &Planes) -> Result<Walked, Memory>
+    requires few { length kinds.now < 2 ^ 32 }
+    requires planes { ArePlanes kinds.now planes.now }
+    ensures nets { IfOk result (λ w. AreNets kinds.now w.labels.items) }
+    ensures told { IfOk result (λ w. AreTold kinds.now w.touched.items) }
 {
-    let mut walk = unbegun(alloc, shapes.len() as u32)?;
-    walk_all(shapes, planes, &mut walk)?;
+    let mut walk = unbegun(alloc, kinds.count() as u32)?;
+    walk_all(kinds, planes, &mut walk)?;
     let Walk {
         labels,
         touched,
@@ -192,10 +195,11 @@ fn own_nets(
     walked: &Walked,
 ) -> Result<Vec<u32>, Memory>
     requires few { length shapes.now < 2 ^ 32 }
-    requires distinct { IsDistinct shapes.now kinds.now.numbers.items kinds.now.shapes }
+    requires distinct { IsDistinct shapes.now kinds.now.numbers.items
+        (kinds_at shapes.now kinds.now.numbers.items) }
     requires places { ArePlaces shapes.now kinds.now.numbers.items kinds.now.places.items }
-    requires nets { AreNets kinds.now.shapes walked.now.labels.items }
-    requires told { AreTold kinds.now.shapes walked.now.touched.items }
+    requires nets { AreNets (kinds_at shapes.now kinds.now.numbers.items) walked.now.labels.items }
+    requires told { AreTold (kinds_at shapes.now kinds.now.numbers.items) walked.now.touched.items }
     ensures { IfOk result (λ nets. AreNets shapes.now nets.items) }
 {
     let mut nets = Vec::with_capacity(alloc, shapes.len())?;
@@ -211,7 +215,7 @@ pub fn nets_by(alloc: Global, shapes: &[Shape], filed: &FiledShapes) -> Result<L
     requires filed { IsFiled shapes.now filed.now }
     ensures { IfOk result (λ nets. AreNets shapes.now nets) }
 {
-    let walked = walk_kinds(alloc, filed.kinds.shapes.as_slice(), &filed.planes)?;
+    let walked = walk_kinds(alloc, &filed.kinds.among(shapes), &filed.planes)?;
     let nets = own_nets(alloc, shapes, &filed.kinds, &walked)?;
     Ok(List::from_vec(nets))
 }

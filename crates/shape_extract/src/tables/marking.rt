@@ -8,6 +8,7 @@ ghost use Rattle.shape_extract.specs.Passing.{PassesIn};
 ghost use Rattle.shape_extract.specs.Filed.{IsFiled};
 
 use crate::filed_shapes::{FiledShapes, list_of_kinds};
+use crate::kinds::Kinds;
 use crate::planes::Plane;
 use crate::tables::labels::marks;
 use aq_base::Memory;
@@ -39,20 +40,20 @@ fn rect_at(x: i64, y: i64) -> Rect
     Rect { x0, y0, x1, y1 }
 }
 
-/// Keeps those of the numbers whose shapes the label marks.
-fn keep_marked(label: &Label, shapes: &[Shape], numbers: &mut Vec<u32>)
-    requires { All (λ n. n < length shapes.now) numbers.old.items }
-    ensures { numbers.new.items ≡ filter (passes_at (marks label.now) shapes.now) numbers.old.items }
+/// Keeps those of the places at which kinds stand that the label marks.
+fn keep_marked(label: &Label, kinds: &Kinds, places: &mut Vec<u32>)
+    requires { All (λ p. p < length kinds.now) places.old.items }
+    ensures { places.new.items ≡ filter (passes_at (marks label.now) kinds.now) places.old.items }
 {
     let mut kept = 0;
-    for place in 0..numbers.len() {
-        let number = numbers[place];
-        if marks(label, &shapes[number as usize]) {
-            numbers[kept] = number;
+    for at in 0..places.len() {
+        let place = places[at];
+        if marks(label, kinds.get(place)) {
+            places[kept] = place;
             kept += 1;
         }
     }
-    numbers.truncate(kept);
+    places.truncate(kept);
 }
 
 /// Lists the numbers of the pins that the label marks, by a query of the index for the kinds of pins that hold its
@@ -69,7 +70,7 @@ pub fn list_marked(
 {
     let here = rect_at(label.x, label.y);
     filed.planes.list_near(Plane::Pins, &here, 0, found)?;
-    keep_marked(label, filed.kinds.shapes.as_slice(), found);
+    keep_marked(label, &filed.kinds.among(shapes), found);
     list_of_kinds(filed, found)?;
     Ok(())
 }

@@ -1,4 +1,5 @@
 use Rattle.std.proofs.Common.{arith}
+use Rattle.shape_extract.specs.Distinct.{kinds_at}
 use Rattle.rule_check.proofs.Represented.{no_more}
 use Rattle.rule_check.proofs.checking.check_filed.Goals as goal
 
@@ -7,7 +8,8 @@ first_broken-requires-clause-sheet c = record {
   distinct = c.requires.filed.distinct;
   few = omega (
     arith,
-    no_more c.args.flat.now.shapes c.args.filed.now.kinds.numbers.items c.args.filed.now.kinds.shapes
+    no_more c.args.flat.now.shapes c.args.filed.now.kinds.numbers.items (kinds_at c.args.flat.now.shapes
+        c.args.filed.now.kinds.numbers.items)
         c.requires.filed.distinct,
   );
   filed = c.requires.filed.planes;

@@ -1,10 +1,11 @@
+use Rattle.std.proofs.Common.{arith}
 use Rattle.rule_check.proofs.Geometry.{sides_more, sides_all}
-use Rattle.geom.proofs.Filing.{read_at}
 use Rattle.rule_check.proofs.sheet.known.Goals as goal
 
-pub loop-shape-preserved : goal.loop-shape-preserved
-loop-shape-preserved c = sides_more c.loop-shape.shape-index c.args.shapes.now c.shape-item.result
-    c.loop-shape.invariant (read_at _ _ _ c.loop-shape-test.true c.shape-item.is) c.known.ensures
+pub loop-place-preserved : goal.loop-place-preserved
+loop-place-preserved c = sides_more c.loop-place.place c.args.kinds.now c.get.result.now c.loop-place.invariant
+    c.get.ensures c.known.ensures
 
 pub returns : goal.returns
-returns c = sides_all c.loop-shape.shape-index c.args.shapes.now c.loop-shape-test.false c.loop-shape.invariant
+returns c = sides_all c.loop-place.place c.args.kinds.now (omega (arith, c.count-place-end.ensures))
+    c.loop-place.invariant

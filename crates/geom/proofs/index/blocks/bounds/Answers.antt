@@ -1,12 +1,10 @@
 use Rattle.std.proofs.Common.{arith}
-use Rattle.std.proofs.lemmas.Option.{slice_get-get_or}
 use Rattle.geom.proofs.Finding.{around_more}
 use Rattle.geom.proofs.index.blocks.bounds.Goals as goal
 
 pub loop-place-preserved : goal.loop-place-preserved
 loop-place-preserved c = around_more _ _ _ _ _ _ c.loop-place.invariant
-    (slice_get-get_or c.args.spots.now c.loop-place.place c.index-spots-place.result
-    (omega (arith, c.loop-place-test.true, c.requires.within))) c.around-bounds.ensures.first
+    c.at.ensures c.around-bounds.ensures.first
     c.around-bounds.ensures.second
 
 pub returns : goal.returns

@@ -11,9 +11,9 @@ pub loop-survey-preserved : goal.loop-survey-preserved
 loop-survey-preserved c = elim c.if-survey-gt0.branch [
   | then-survey-gt0+in_ok-push w ↦
       let first : w.grid-grid.result.first ≡ c.loop-survey.first = w.grid-grid.ensures in
-      let end : w.end-first.result ≡ end_of w.grid-grid.result = w.end-first.ensures in
-      let few : w.grid-grid.result.rows * w.grid-grid.result.columns ≤ 2 ^ 16 * 2 ^ 16 =
-      mul-le w.grid-grid.result.rows w.grid-grid.result.columns (2 ^ 16)
+      let end : w.end-first.result ≡ end_of w.grid-grid.result = w.end-first.ensures.value in
+      let few : w.grid-grid.result.rows * w.grid-grid.result.columns ≤ 2 ^ 11 * 2 ^ 16 =
+      mul-le w.grid-grid.result.rows w.grid-grid.result.columns (2 ^ 11)
       (2 ^ 16) w.grid-grid.result.few_rows w.grid-grid.result.few_columns in
       rw (w.grids-is, w.first-is, w.in_ok-push.ensures.items) (record {
         below = All-push (λ (g : Grid). end_of g ≤ w.end-first.result) c.loop-survey.grids.items w.grid-grid.result

@@ -2,4 +2,4 @@ use Rattle.std.proofs.lemmas.Option.{slice_get_within}
 use Rattle.rule_check.proofs.cover.CoverPart.count.Goals as goal
 
 pub returns-clause-within : goal.returns-clause-within
-returns-clause-within c = λ a b h. slice_get_within c.args.self.now.shapes.now a h.first h.first_is
+returns-clause-within c = λ a b h. slice_get_within c.args.self.now.kinds.now a h.first h.first_is

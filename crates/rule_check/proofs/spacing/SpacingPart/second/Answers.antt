@@ -9,15 +9,15 @@ use Rattle.rule_check.proofs.spacing.SpacingPart.second.Goals as goal
 pub list_passing-requires-clause-planar : goal.list_passing-requires-clause-planar
 list_passing-requires-clause-planar c = λ s h. c.in-Some.ensures s
     (group_too_close c.args.self.now.limits.now.space
-    (get_or c.args.self.now.shapes.now c.args.a c.index-self-a.result) s h)
+    c.get-first.result.now s h)
 
 pub returns : goal.returns
-returns c = first_above_of (are_too_close c.args.self.now.limits.now.space) c.args.self.now.shapes.now c.args.a _ _
+returns c = first_above_of (are_too_close c.args.self.now.limits.now.space) c.args.self.now.kinds.now c.args.a _ _
     (rw c.as_slice.ensures.value (together_from (are_too_close c.args.self.now.limits.now.space)
-    c.args.self.now.shapes.now c.args.a _ c.list_passing.new.found.items
-    (slice_get-get_or c.args.self.now.shapes.now c.args.a c.index-self-a.result c.requires.within)
+    c.args.self.now.kinds.now c.args.a _ c.list_passing.new.found.items
+    c.get-first.ensures
     c.in_ok-list_passing.ensures)) c.first_above-above.ensures
 
 pub returns-in_default : goal.returns-in_default
-returns-in_default c = no_group_none (limits_seen c.args.self.now.limits.now) c.args.self.now.shapes.now c.args.a _
-    (slice_get-get_or c.args.self.now.shapes.now c.args.a c.index-self-a.result c.requires.within) c.in_default.ensures
+returns-in_default c = no_group_none (limits_seen c.args.self.now.limits.now) c.args.self.now.kinds.now c.args.a _
+    c.get-first.ensures c.in_default.ensures

@@ -9,12 +9,12 @@ loop-done-preserved c =
     let is = c.index-from.ensures
     ∙ get_or_default_zero _ _ _ lt in
     record {
-      done_to = done_next c.args.shapes.now c.loop-done.walk c.reach.new.walk c.loop-done.done c.args.mark _
+      done_to = done_next c.args.kinds.now c.loop-done.walk c.reach.new.walk c.loop-done.done c.args.mark _
           c.loop-done.invariant.done_to lt is c.in_ok-reach.ensures.reached c.in_ok-reach.ensures.told;
-      still = λ k lk. still_next c.args.shapes.now c.loop-done.walk c.reach.new.walk _
+      still = λ k lk. still_next c.args.kinds.now c.loop-done.walk c.reach.new.walk _
           c.in_ok-reach.ensures.reached k (c.loop-done.invariant.still k lk);
     }
 
 pub returns : goal.returns
-returns c = done_all c.args.shapes.now c.args.walk.now c.loop-done.walk c.loop-done.done c.args.mark (omega arith)
+returns c = done_all c.args.kinds.now c.args.walk.now c.loop-done.walk c.loop-done.done c.args.mark (omega arith)
     c.loop-done.invariant.done_to c.loop-done.invariant.still

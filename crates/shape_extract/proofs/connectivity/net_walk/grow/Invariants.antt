@@ -5,9 +5,9 @@ use Rattle.shape_extract.proofs.connectivity.net_walk.grow.Given as goal
 
 abbrev pub invariant-loop-done : goal.invariant-loop-done
 invariant-loop-done l = record {
-  done_to : IsDoneTo l.done l.mark l.shapes l.walk;
-  still : (k : ℕ) → slice_index l.fn.walk.labels.items k < length l.shapes
-      → slice_index l.walk.labels.items k < length l.shapes;
+  done_to : IsDoneTo l.done l.mark l.kinds l.walk;
+  still : (k : ℕ) → slice_index l.fn.walk.labels.items k < length l.kinds
+      → slice_index l.walk.labels.items k < length l.kinds;
 }
 
 abbrev pub decreases-loop-done : goal.decreases-loop-done

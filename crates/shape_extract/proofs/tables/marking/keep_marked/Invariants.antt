@@ -3,6 +3,6 @@ use Rattle.layout_rules.specs.Labels.{marks}
 use Rattle.shape_extract.specs.Searches.{passes_at}
 use Rattle.shape_extract.proofs.tables.marking.keep_marked.Given as goal
 
-abbrev pub invariant-loop-place : goal.invariant-loop-place
-invariant-loop-place l = FiltersInPlace
-    (passes_at (marks l.label) l.shapes) l.initial.numbers.items l.numbers.items l.kept l.place
+abbrev pub invariant-loop-at : goal.invariant-loop-at
+invariant-loop-at l = FiltersInPlace
+    (passes_at (marks l.label) l.kinds) l.initial.places.items l.places.items l.kept l.at
